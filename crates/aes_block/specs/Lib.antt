@@ -1,0 +1,4 @@
+pub mod Octets
+pub mod Field
+pub mod State
+pub mod Cipher

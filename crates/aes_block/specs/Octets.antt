@@ -1,0 +1,17 @@
+-- Lists of octets.
+use Rattle.std.specs.Prelude.{◌≡◌, ℕ, ◌<◌, List, [], ◌∷◌, length, All, bit_xor}
+
+-- each number is an octet
+abbrev pub AreOctets : List ℕ → Type 0
+AreOctets octets = All (λ octet. octet < 256) octets
+
+-- sixteen octets: a block (FIPS 197, 3.1), or a key of 128 bits
+pub record IsBlock (octets : List ℕ) : Type 0 where
+  pub sixteen : length octets ≡ 16
+  pub are_octets : AreOctets octets
+
+-- the exclusive-or of two lists of one length, octet by octet
+unfoldable pub exclusive_or : List ℕ → List ℕ → List ℕ
+exclusive_or [] ys = []
+exclusive_or (x ∷ xs) [] = x ∷ xs
+exclusive_or (x ∷ xs) (y ∷ ys) = bit_xor x y ∷ exclusive_or xs ys

@@ -1,0 +1,5 @@
+pub mod Causes
+pub mod Memory
+pub mod Names
+pub mod Places
+pub mod Told
