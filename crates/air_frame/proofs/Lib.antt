@@ -1,0 +1,4 @@
+pub mod Exact
+pub mod Written
+pub mod SentFrames
+pub mod Shapes

@@ -1,0 +1,115 @@
+//! The first fault of octets that are no frame of the profile.
+
+ghost use Rattle.std.specs.Prelude.{◌≡◌, ◌≤◌, ◌+◌, length};
+ghost use Rattle.air_frame.specs.Control.{data_header_length};
+ghost use Rattle.air_frame.specs.Faults.{fixed_length, management_fault, begins_eapol, has_ext_iv, data_fault, air_fault};
+
+use crate::control::{
+    FROM_DS, HT_CONTROL, MORE_FRAGMENTS, PROTECTED, TO_DS, data_header_length, fragment,
+    frame_control, has_a_msdu, is_data, is_management, is_set, subtype, version,
+};
+use crate::frame::AirFault;
+
+/// The LLC and SNAP header before an EAPOL frame in data (RFC 1042, with the type 88-8E of IEEE Std 802.1X).
+pub const EAPOL_LLC: [u8; 8] = [0xaa, 0xaa, 0x03, 0x00, 0x00, 0x00, 0x88, 0x8e];
+
+// How many octets of fixed fields a management frame has.
+fn fixed_length(subtype: u16) -> usize
+    ensures { result ≡ fixed_length subtype }
+{
+    match subtype {
+        0 => 4,
+        2 => 10,
+        _ => 6,
+    }
+}
+
+fn management_fault(octets: &[u8]) -> Option<AirFault>
+    requires { 2 ≤ length octets.now }
+    ensures { result ≡ management_fault octets.now }
+{
+    let control = frame_control(octets);
+    if octets.len() < 24 {
+        Some(AirFault::Short(octets.len()))
+    } else if is_set(control, TO_DS) || is_set(control, FROM_DS) {
+        Some(AirFault::OutOfProfile(8))
+    } else if is_set(control, MORE_FRAGMENTS) {
+        Some(AirFault::OutOfProfile(10))
+    } else if is_set(control, PROTECTED) {
+        Some(AirFault::OutOfProfile(14))
+    } else if is_set(control, HT_CONTROL) {
+        Some(AirFault::OutOfProfile(15))
+    } else if fragment(octets) != 0 {
+        Some(AirFault::OutOfProfile(16))
+    } else if octets.len() < 24 + fixed_length(subtype(octets)) {
+        Some(AirFault::Body(24))
+    } else {
+        None
+    }
+}
+
+// The body of a data frame begins with the header before EAPOL.
+fn begins_eapol(octets: &[u8]) -> bool
+    requires control { 2 ≤ length octets.now }
+    requires header { data_header_length octets.now ≤ length octets.now }
+    ensures { result ≡ begins_eapol octets.now }
+{
+    octets[data_header_length(octets)..].starts_with(&EAPOL_LLC)
+}
+
+// The CCMP header of a protected body has the bit ExtIV.
+fn has_ext_iv(octets: &[u8]) -> bool
+    requires control { 2 ≤ length octets.now }
+    requires body { data_header_length octets.now + 16 ≤ length octets.now }
+    ensures { result ≡ has_ext_iv octets.now }
+{
+    is_set(octets[data_header_length(octets) + 3].into(), 5)
+}
+
+fn data_fault(octets: &[u8]) -> Option<AirFault>
+    requires { 2 ≤ length octets.now }
+    ensures { result ≡ data_fault octets.now }
+{
+    let header = data_header_length(octets);
+    if octets.len() < header {
+        return Some(AirFault::Short(octets.len()));
+    }
+    let control = frame_control(octets);
+    let is_protected = is_set(control, PROTECTED);
+    if is_set(control, TO_DS) == is_set(control, FROM_DS) {
+        Some(AirFault::OutOfProfile(8))
+    } else if is_set(control, MORE_FRAGMENTS) {
+        Some(AirFault::OutOfProfile(10))
+    } else if is_set(control, HT_CONTROL) {
+        Some(AirFault::OutOfProfile(15))
+    } else if fragment(octets) != 0 {
+        Some(AirFault::OutOfProfile(16))
+    } else if has_a_msdu(octets) {
+        Some(AirFault::OutOfProfile(17))
+    } else if !is_protected && !begins_eapol(octets) {
+        Some(AirFault::OutOfProfile(18))
+    } else if is_protected && octets.len() < header + 16 {
+        Some(AirFault::Body(header))
+    } else if is_protected && !has_ext_iv(octets) {
+        Some(AirFault::OutOfProfile(20))
+    } else {
+        None
+    }
+}
+
+/// The first fault in reading order, if the octets are no frame of the profile.
+pub(crate) fn fault_of(octets: &[u8]) -> Option<AirFault>
+    ensures { result ≡ air_fault octets.now }
+{
+    if octets.len() < 2 {
+        Some(AirFault::Short(octets.len()))
+    } else if version(octets) != 0 {
+        Some(AirFault::Version)
+    } else if is_management(octets) {
+        management_fault(octets)
+    } else if is_data(octets) {
+        data_fault(octets)
+    } else {
+        None
+    }
+}

@@ -1,0 +1,7 @@
+pub mod Joined
+pub mod Halves
+pub mod Iterates
+pub mod Keys
+pub mod Lists
+pub mod Parts
+pub mod Sizes

@@ -1,0 +1,16 @@
+-- How long keyed digests are.
+use Rattle.std.proofs.Common.{◌≡◌, ℕ, List, length, refl}
+use Rattle.sha1.specs.Sha1.{sha1, digest_bytes}
+use Rattle.sha2.specs.Sha256.{sha256}
+use Rattle.sha2.specs.Sha256 as S256
+use Rattle.mac_prf.specs.Hmac.{hmac}
+
+-- HMAC-SHA-1 has 20 octets
+pub length-hmac_sha1 : (key text : List ℕ) → length (hmac sha1 key text) ≡ 20
+unfolding hmac sha1 digest_bytes
+length-hmac_sha1 key text = refl
+
+-- HMAC-SHA-256 has 32 octets
+pub length-hmac_sha256 : (key text : List ℕ) → length (hmac sha256 key text) ≡ 32
+unfolding hmac sha256 S256.digest_bytes
+length-hmac_sha256 key text = refl

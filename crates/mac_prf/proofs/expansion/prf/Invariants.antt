@@ -1,0 +1,9 @@
+use Rattle.std.proofs.Common.{◌≡◌, ◌*◌, length, take}
+use Rattle.std.specs.List.{flat_map, range_with_len}
+use Rattle.mac_prf.specs.Prf.{prf_block}
+use Rattle.mac_prf.proofs.expansion.prf.Given as goal
+
+-- what is written is the front of the blocks so far
+abbrev pub invariant-loop-i : goal.invariant-loop-i
+invariant-loop-i l =
+    take (20 * l.i) l.out ≡ take (length l.fn.out) (flat_map (prf_block l.key l.label l.context) (range_with_len 0 l.i))
