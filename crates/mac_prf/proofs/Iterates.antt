@@ -3,11 +3,13 @@ use Rattle.std.proofs.Common.{◌≡◌, ℕ, ◌+◌, List, [], ◌∷◌, leng
 use Rattle.std.specs.Int.Bits.{xor_zero_l}
 use Rattle.sha1.specs.Sha1.{sha1}
 use Rattle.mac_prf.specs.Hmac.{hmac}
-use Rattle.mac_prf.specs.Pbkdf2.{exclusive_or, iterate, sum_of_iterates}
+use Rattle.aes_block.specs.Octets.{exclusive_or}
+use Rattle.mac_prf.specs.Pbkdf2.{iterate, sum_of_iterates}
 use Rattle.mac_prf.proofs.Sizes.{length-hmac_sha1}
 
 -- zeros change nothing
 exclusive_or-zeros : (xs : List ℕ) → exclusive_or (replicate (length xs) 0) xs ≡ xs
+unfolding exclusive_or
 exclusive_or-zeros [] = refl
 exclusive_or-zeros (x ∷ xs) = rw (xor_zero_l x) (ap (λ (w : List ℕ). x ∷ w) (exclusive_or-zeros xs))
 

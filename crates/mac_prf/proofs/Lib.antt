@@ -1,3 +1,4 @@
+pub mod Chains
 pub mod Joined
 pub mod Halves
 pub mod Iterates

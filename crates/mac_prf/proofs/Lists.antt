@@ -2,7 +2,7 @@
 use Rattle.std.proofs.Common.{◌≡◌, ℕ, zero, suc, ◌<◌, List, [], ◌∷◌, ◌++◌, length, take, drop, set, get_or, refl, ap, arith}
 use Rattle.std.specs.Prelude.{bit_xor}
 use Rattle.mac_prf.specs.Hmac.{masked}
-use Rattle.mac_prf.specs.Pbkdf2.{exclusive_or}
+use Rattle.aes_block.specs.Octets.{exclusive_or}
 
 -- one more octet under a mask
 pub masked-more : (mask : ℕ) (xs : List ℕ) (i d : ℕ) → i < length xs
@@ -15,6 +15,7 @@ masked-more mask (x ∷ xs) (suc i) d h = ap (λ (w : List ℕ). bit_xor x mask 
 pub exclusive_or-more : (xs ys : List ℕ) (i d : ℕ) → i < length xs → i < length ys
     → set (exclusive_or (take i xs) (take i ys) ++ drop i xs) i (bit_xor (get_or (exclusive_or (take i xs) (take i ys) ++ drop i xs) i d) (get_or ys i d))
     ≡ exclusive_or (take (suc i) xs) (take (suc i) ys) ++ drop (suc i) xs
+unfolding exclusive_or
 exclusive_or-more [] ys i d h k = absurd (omega arith)
 exclusive_or-more (x ∷ xs) [] i d h k = absurd (omega arith)
 exclusive_or-more (x ∷ xs) (y ∷ ys) zero d h k = refl

@@ -1,8 +1,9 @@
 -- The MIC of EAPOL-Key frames (IEEE Std 802.11-2020, 12.7.2, 12.7.3).
-use Rattle.std.specs.Prelude.{ℕ, List, [], ◌++◌, take, drop, replicate}
+use Rattle.std.specs.Prelude.{ℕ, List, ◌++◌, take, drop, replicate}
 use Rattle.sha1.specs.Sha1.{sha1}
 use Rattle.domain_base.specs.declared.names.Akm.{Akm}
 use Rattle.domain_base.specs.declared.names.Akm.TheVariants.{Psk, PskSha256, FtPsk}
+use Rattle.mac_prf.specs.Cmac.{cmac}
 use Rattle.mac_prf.specs.Hmac.{hmac}
 
 -- an EAPOL-Key frame with zeros in its MIC field, octets 81 to 96 (IEEE Std 802.11-2020, 12.7.2)
@@ -13,9 +14,12 @@ without_mic frame = take 81 frame ++ replicate 16 0 ++ drop 97 frame
 unfoldable pub mic_sha1 : List ℕ → List ℕ → List ℕ
 mic_sha1 kck frame = take 16 (hmac sha1 kck (without_mic frame))
 
--- the MIC by the AKM (IEEE Std 802.11-2020, 12.7.3). The suites that use AES-128-CMAC have none
--- here so far, and no function may be asked for theirs.
+-- AES-128-CMAC (IEEE Std 802.11-2020, 12.7.2, key descriptor version 3)
+unfoldable pub mic_cmac : List ℕ → List ℕ → List ℕ
+mic_cmac kck frame = cmac kck (without_mic frame)
+
+-- the MIC by the AKM (IEEE Std 802.11-2020, 12.7.3)
 abbrev pub mic : Akm → List ℕ → List ℕ → List ℕ
 mic Psk kck frame = mic_sha1 kck frame
-mic PskSha256 kck frame = []
-mic FtPsk kck frame = []
+mic PskSha256 kck frame = mic_cmac kck frame
+mic FtPsk kck frame = mic_cmac kck frame

@@ -1,13 +1,9 @@
 -- PBKDF2 (RFC 8018, 5.2) with HMAC-SHA-1, as IEEE Std 802.11-2020, J.4 uses it.
-use Rattle.std.specs.Prelude.{ℕ, zero, suc, List, ◌++◌, map, replicate, take, bit_xor}
+use Rattle.std.specs.Prelude.{ℕ, zero, suc, List, ◌++◌, replicate, take}
 use Rattle.std.specs.Int.{w32, to_be_bytes}
-use Rattle.std.specs.List.{zip}
 use Rattle.sha1.specs.Sha1.{sha1}
+use Rattle.aes_block.specs.Octets.{exclusive_or}
 use Rattle.mac_prf.specs.Hmac.{hmac}
-
--- two octet strings of one length, octet by octet
-abbrev pub exclusive_or : List ℕ → List ℕ → List ℕ
-exclusive_or xs ys = map (λ pair. bit_xor pair.0 pair.1) (zip xs ys)
 
 -- U_n: U_0 is the salt with the number of the block, and each next is the HMAC of the one before
 -- (RFC 8018, 5.2)

@@ -4,23 +4,14 @@ ghost use Rattle.std.specs.Prelude.{◌≡◌, ◌≤◌, ℕ, List, []};
 ghost use Rattle.sha1.specs.Sha1.{sha1, Holds as HoldsSha1};
 ghost use Rattle.mac_prf.specs.HoldsText.{HoldsText};
 ghost use Rattle.mac_prf.specs.Hmac.{hmac};
-ghost use Rattle.mac_prf.specs.Pbkdf2.{exclusive_or, pbkdf2, pbkdf2_block};
+ghost use Rattle.mac_prf.specs.Pbkdf2.{pbkdf2, pbkdf2_block};
 
-use crate::blocks::put_block;
+use crate::blocks::{add, put_block};
 use crate::hmac::Hmac;
 use sha1::Sha1;
 
 // How often each block is hashed anew.
 const ITERATIONS: u32 = 4096;
-
-// Adds one iterate to the sum of those before it.
-fn add(sum: &mut [u8; 20], iterate: &[u8; 20])
-    ensures { sum.new ≡ exclusive_or sum.old iterate.now }
-{
-    for i in 0..sum.len() {
-        sum[i] ^= iterate[i];
-    }
-}
 
 // The HMAC of one iterate under the key.
 fn next_iterate(keyed: &Hmac<20, Sha1>, iterate: &[u8; 20]) -> [u8; 20]

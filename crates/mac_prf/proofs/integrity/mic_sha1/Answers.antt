@@ -9,5 +9,5 @@ pub returns : goal.returns
 unfolding mic_sha1
 returns c =
     let text = c.finalize.ensures _ _ (c.update-3.ensures _ _ (c.update-2.ensures _ _ (c.update.ensures _ _ c.new-state.ensures))) in
-    let parts = without_mic-parts _ _ _ _ c.split_at.ensures.front c.split_at.ensures.back c.split_at-2.ensures.back in
+    let parts = without_mic-parts _ _ _ c.around_mic.ensures.front c.around_mic.ensures.behind in
     c.first_half.ensures ∙ ap (λ (w : List ℕ). take 16 w) (text ∙ ap (λ (w : List ℕ). hmac sha1 c.args.kck.now w) parts)

@@ -1,0 +1,11 @@
+pub mod Cuts
+pub mod Gathering
+pub mod PiecesTell
+pub mod Refusing
+pub mod Apart
+pub mod RsneLaws
+pub mod Saying
+pub mod SentSpelled
+pub mod Subelements
+pub mod Unique
+pub mod Walk

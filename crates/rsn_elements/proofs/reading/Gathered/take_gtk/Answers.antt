@@ -1,0 +1,27 @@
+use Rattle.std.proofs.Common.{refl, arith}
+use Rattle.rsn_elements.specs.declared.framing.Within.TheVariants.{KeyData}
+use Rattle.rsn_elements.specs.KeyData.{SpellsGtkKde}
+use Rattle.rsn_elements.specs.Fields.{element_of, gtk_kde_fields}
+use Rattle.rsn_elements.specs.Elements.{AGtkKde, is}
+use Rattle.rsn_elements.proofs.Gathering.{is-id, tells_gtk, gathers_other}
+use Rattle.rsn_elements.proofs.Refusing.{none_said, some_said, no_version, sized_gtk, refuses_length, refuses_second}
+use Rattle.rsn_elements.proofs.reading.Gathered.take_gtk.Goals as goal
+
+pub returns-clause-ok : goal.returns-clause-ok
+returns-clause-ok c es going g =
+    let e = element_of c.args.element in
+    let id = is-id KeyData AGtkKde e c.requires in
+    let none = none_said (is KeyData AGtkKde) SpellsGtkKde es gtk_kde_fields c.args.self.now.elements.gtk c.if-is_some.ensures g.tells.gtk in
+    gathers_other KeyData es e c.args.self.now _ (λ h. omega (arith, h, id)) refl g
+    (tells_gtk KeyData es e _ going g.tells (gtk_kde_fields c.in-Some.gtk) c.requires none c.in-Some.ensures)
+
+pub returns-then-is_some-clause-err : goal.returns-then-is_some-clause-err
+returns-then-is_some-clause-err c es g =
+    let e = element_of c.args.element in
+    let some = some_said (is KeyData AGtkKde) SpellsGtkKde es gtk_kde_fields c.args.self.now.elements.gtk c.if-is_some.ensures g.tells.gtk in
+    refuses_second KeyData es e _ AGtkKde c.fault_of-then-is_some.ensures (sized_gtk KeyData e (is-id KeyData AGtkKde e c.requires) (c.in-Some.ensures.0)) c.requires some
+
+pub returns-in_default-clause-err : goal.returns-in_default-clause-err
+returns-in_default-clause-err c es g =
+    let e = element_of c.args.element in
+    refuses_length KeyData es e _ AGtkKde c.fault_of.ensures (no_version KeyData e 0xdd (is-id KeyData AGtkKde e c.requires) (λ h. omega (arith, h))) c.requires c.in_default.ensures

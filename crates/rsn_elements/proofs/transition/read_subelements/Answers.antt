@@ -1,0 +1,21 @@
+use Rattle.std.proofs.Common.{ℕ, List, ap, ◌∙◌, ◌∷◌, [], ◌++◌}
+use Rattle.rsn_elements.specs.Framing.{joined}
+use Rattle.rsn_elements.specs.Fields.{element_of}
+use Rattle.rsn_elements.specs.Transition.{IsRight}
+use Rattle.rsn_elements.proofs.Cuts.{cut_push, cut_place, All-push}
+use Rattle.rsn_elements.proofs.transition.read_subelements.Goals as goal
+
+pub loop-rest-preserved : goal.loop-rest-preserved
+loop-rest-preserved c =
+    let es = c.loop-rest.invariant.0 in
+    let past = c.loop-rest.invariant.1 in
+    let e = element_of c.in-Some.subelement in
+    let next = cut_push c.args.octets.now es c.loop-rest.rest.now e c.in-Some.behind.now past.cut c.in-Some.ensures.0 in
+    let here = past.cut ∙ ap (λ (w : List ℕ). joined es ++ w) c.in-Some.ensures.0 in (
+      es ++ e ∷ [],
+      record {
+        cut = next;
+        right = All-push IsRight es e past.right c.in-Some.ensures.1;
+        reached = c.take.ensures c.args.octets.now es c.in-Some.behind.now here (cut_place _ _ _ past.cut) past.reached;
+      },
+    )

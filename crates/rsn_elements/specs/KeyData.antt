@@ -1,0 +1,12 @@
+-- The GTK KDE (IEEE Std 802.11-2020, 12.7.2).
+use Rattle.std.specs.Prelude.{◌≡◌, ℕ, ◌≤◌, ◌%◌, ◌/◌, Bool, ◌==◌, List, length, drop, slice_index}
+
+-- what a GTK KDE says
+pub record GtkKdeFields : Type 0 where
+  pub id : ℕ
+  pub transmit : Bool
+  pub key : List ℕ
+
+-- The body: OUI and type, then an octet with the key id in bits 0 and 1 and Tx in bit 2, a reserved octet, the key.
+abbrev pub SpellsGtkKde : List ℕ → GtkKdeFields → Type 0
+SpellsGtkKde body f = (6 ≤ length body) × (f ≡ record { id = slice_index body 4 % 4; transmit = slice_index body 4 / 4 % 2 == 1; key = drop 6 body })

@@ -1,0 +1,15 @@
+pub mod Codes
+pub mod Framing
+pub mod Rsne
+pub mod Transition
+pub mod KeyData
+pub mod Elements
+pub mod Faults
+pub mod Fields
+pub mod Steps
+pub mod RsneSteps
+pub mod TransitionSteps
+pub mod ElementSteps
+pub mod Sent
+pub mod Writer
+pub mod Pieces

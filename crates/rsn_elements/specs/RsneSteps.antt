@@ -1,0 +1,24 @@
+-- What the private readers of an RSNE answer. No public contract cites them.
+use Rattle.std.specs.Prelude.{ℕ, List, ◌∷◌, Option, Result, Ok, Err}
+use Rattle.rsn_elements.specs.declared.security.Rsne.{Rsne}
+use Rattle.rsn_elements.specs.declared.faults.FaultKind.{FaultKind}
+use Rattle.rsn_elements.specs.declared.faults.FaultKind.TheVariants.{Truncated, Length, Version, Repeated, SubelementLength}
+use Rattle.rsn_elements.specs.Rsne.{RsneFields, SpellsRsne, HasOtherVersion, Field}
+use Rattle.rsn_elements.specs.Fields.{rsne_fields}
+
+-- no field stands at the front
+abbrev pub IsBroken : {A : Type 0} → (List ℕ → A → Type 0) → List ℕ → Type 0
+IsBroken {A} Spells octets = (o : Option A) (rest : List ℕ) → Field Spells octets o rest → ⊥
+
+-- behind the version no whole number of fields stands
+abbrev pub HasNoFields : List ℕ → Type 0
+HasNoFields octets = (f : RsneFields) → SpellsRsne (1 ∷ 0 ∷ octets) f → ⊥
+
+-- the RSNE that a body spells, or the fault of a body that spells none
+abbrev pub IsRsneRead : List ℕ → Result Rsne FaultKind → Type 0
+IsRsneRead body (Ok r) = SpellsRsne body (rsne_fields r)
+IsRsneRead body (Err Version) = HasOtherVersion body
+IsRsneRead body (Err Length) = (HasOtherVersion body → ⊥) × ((f : RsneFields) → SpellsRsne body f → ⊥)
+IsRsneRead body (Err Truncated) = ⊥
+IsRsneRead body (Err Repeated) = ⊥
+IsRsneRead body (Err SubelementLength) = ⊥

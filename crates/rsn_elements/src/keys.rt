@@ -1,0 +1,31 @@
+//! The GTK KDE of key data (IEEE Std 802.11-2020, 12.7.2).
+
+ghost use Rattle.std.specs.Prelude.{◌<◌, length, MatchOption};
+ghost use Rattle.rsn_elements.specs.KeyData.{SpellsGtkKde};
+ghost use Rattle.rsn_elements.specs.Fields.{gtk_kde_fields};
+
+/// A GTK as it stands in key data.
+#[derive(Clone, Copy, Debug, PartialEq, Eq)]
+pub struct GtkKde<'a> {
+    /// The key id, from 0 to 3.
+    pub id: u8,
+    /// The Tx bit.
+    pub transmit: bool,
+    /// The key.
+    pub key: &'a [u8],
+}
+
+/// The GTK KDE that a body spells, which begins with its OUI and type.
+pub(crate) fn read_gtk_kde(body: &[u8]) -> Option<GtkKde<'_>>
+    ensures { MatchOption result (length body.now < 6) (λ g. SpellsGtkKde body.now (gtk_kde_fields g)) }
+{
+    if body.len() < 6 {
+        return None;
+    }
+    let (_, key) = body.split_at(6);
+    Some(GtkKde {
+        id: body[4] % 4,
+        transmit: body[4] / 4 % 2 == 1,
+        key,
+    })
+}

@@ -1,0 +1,23 @@
+//! Elements of management frame bodies and of key data (IEEE Std 802.11-2020, 9.4.2 and 12.7.2).
+#![tactic(auto)]
+
+mod faults;
+mod framing;
+mod keys;
+mod laws;
+mod reading;
+mod security;
+mod transition;
+mod writing;
+
+pub use faults::{ElementFault, FaultKind};
+pub use framing::Within;
+pub use keys::GtkKde;
+pub use laws::{one_reading, padding_ends, sent_is_spelled};
+pub use reading::{Elements, read_elements};
+pub use security::{Pmkids, Rsne, Suites};
+pub use transition::{Fte, Mde, WrappedGtk};
+pub use writing::ElementWriter;
+
+#[cfg(test)]
+mod tests;
