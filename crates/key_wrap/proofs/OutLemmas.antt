@@ -1,6 +1,6 @@
 -- What the two public calls leave in the slice that they write to.
-use Rattle.std.proofs.Common.{◌≡◌, ℕ, ◌<◌, ◌≤◌, ◌+◌, ◌-◌, ◌*◌, ◌/◌, ◌%◌, List, ◌++◌, get_or, length, take, drop, sym, ap, ap₂, ◌∙◌, arith, length-append, length-drop}
-use Rattle.std.proofs.lemmas.List.{get_or_append_left, append_assoc, take_at, drop_at, take_all, drop-drop, length-take-le}
+use Rattle.std.proofs.Common.{◌≡◌, ℕ, ◌<◌, ◌≤◌, ◌+◌, ◌-◌, ◌*◌, ◌/◌, ◌%◌, List, [], ◌++◌, get_or, length, take, drop, sym, ap, ap₂, ◌∙◌, arith, length-append, length-drop}
+use Rattle.std.proofs.lemmas.List.{get_or_append_left, append_assoc, append-nil, take_at, drop_at, take_all, drop-drop, drop-take, drop_all, length-take-le}
 use Rattle.std.proofs.lemmas.List.Elements.{All-from_get_or}
 use Rattle.aes_block.specs.Octets.{AreOctets}
 use Rattle.key_wrap.specs.KeyWrap.{Registers, after_steps, initial_value, last_registers, Wraps}
@@ -23,21 +23,30 @@ copied out copy k room len =
     ap (take k) (drop_at (take 8 out) (copy ++ drop k (drop 8 out)) 8 (length-take-le 8 out room))
     ∙ take_at copy (drop k (drop 8 out)) k len
 
--- the slice at the end
-pub wrapped_out : (out copy blocks check : List ℕ) (n k : ℕ) → k ≡ n → n + 8 ≤ length out → length copy ≡ n → length blocks ≡ n
-    → check ++ drop 8 (take 8 (take 8 out ++ (copy ++ drop k (drop 8 out)))
-    ++ (blocks ++ drop k (drop 8 (take 8 out ++ (copy ++ drop k (drop 8 out))))))
-    ≡ (check ++ blocks) ++ drop (n + 8) out
-wrapped_out out copy blocks check n k same room len len' =
-    let front : length (take 8 out) ≡ 8 = length-take-le 8 out (omega arith) in
+-- the octets that are wrapped in their place: it is the plain text that stands behind the first 8
+pub copied_behind : (out copy : List ℕ) (n k : ℕ) → k ≡ n → n + 8 ≤ length out → length copy ≡ n
+    → drop 8 (take (n + 8) (take 8 out ++ (copy ++ drop k (drop 8 out)))) ≡ copy
+copied_behind out copy n k same room len =
     let first : List ℕ = take 8 out ++ (copy ++ drop k (drop 8 out)) in
-    let first_len : 8 ≤ length first = omega (arith, length-append (take 8 out) (copy ++ drop k (drop 8 out)), front) in
-    let rest : drop k (drop 8 first) ≡ drop (n + 8) out =
-    ap (drop k) (drop_at (take 8 out) (copy ++ drop k (drop 8 out)) 8 front)
-    ∙ drop_at copy (drop k (drop 8 out)) k (omega arith) ∙ drop-drop k 8 out ∙ (let e : 8 + k ≡ n + 8 = omega arith in ap (λ (m : ℕ). drop m out) e) in
+    let turned : n + 8 ≡ 8 + k = omega arith in
+    ap (λ (m : ℕ). drop 8 (take m first)) turned ∙ drop-take 8 k first ∙ copied out copy k (omega arith) (omega arith)
+
+-- and what stands behind it is as it was
+pub copied_rest : (out copy : List ℕ) (n k m : ℕ) → k ≡ n → n + 8 ≤ length out → length copy ≡ n → n + 8 ≤ m
+    → drop m (take 8 out ++ (copy ++ drop k (drop 8 out))) ≡ drop m out
+copied_rest out copy n k m same room len h =
+    let front : length (take 8 out ++ copy) ≡ n + 8 = omega (arith, length-append (take 8 out) copy, length-take-le 8 out (omega arith)) in
+    let turned : 8 + k ≡ n + 8 = omega arith in
+    ap (drop m) (sym (append_assoc (take 8 out) copy (drop k (drop 8 out))) ∙ ap (λ (w : List ℕ). (take 8 out ++ copy) ++ w) (drop-drop k 8 out ∙ ap (λ (i : ℕ). drop i out) turned))
+    ∙ drop_joined (take 8 out ++ copy) out (n + 8) m front h
+
+-- the blocks are wrapped in their place, and A is put before them
+pub wrapped_in_place : (octets blocks check : List ℕ) (k : ℕ) → 8 ≤ length octets → k ≡ length octets - 8
+    → check ++ drop 8 (take 8 octets ++ (blocks ++ drop k (drop 8 octets))) ≡ check ++ blocks
+wrapped_in_place octets blocks check k room len =
+    let none : drop k (drop 8 octets) ≡ [] = drop_all k (drop 8 octets) (omega (arith, length-drop 8 octets)) in
     ap (λ (w : List ℕ). check ++ w)
-    (drop_at (take 8 first) (blocks ++ drop k (drop 8 first)) 8 (length-take-le 8 first first_len) ∙ ap (λ (w : List ℕ). blocks ++ w) rest)
-    ∙ sym (append_assoc check blocks (drop (n + 8) out))
+    (drop_at (take 8 octets) (blocks ++ drop k (drop 8 octets)) 8 (length-take-le 8 octets room) ∙ ap (λ (w : List ℕ). blocks ++ w) none ∙ append-nil blocks)
 
 pub take_wrapped : (front old : List ℕ) (end : ℕ) → length front ≡ end → take end (front ++ drop end old) ≡ front
 take_wrapped front old end len = take_at front (drop end old) end len

@@ -31,9 +31,21 @@ pub fn wrap(kek: &[u8; 16], plain: &[u8], out: &mut [u8]) -> usize
 {
     let end = plain.len() + 8;
     out[8..end].copy_from_slice(plain);
-    let check = wrap_blocks(&Aes128::new(kek), &mut out[8..end]);
-    out[..8].copy_from_slice(&check);
+    wrap_in_place(kek, &mut out[..end]);
     end
+}
+
+/// Wraps the plain text that stands behind the first 8 octets, of whole blocks of 8 octets and at
+/// least two of them, in its own place, with A in the first 8 octets (RFC 3394, 2.2.1).
+pub fn wrap_in_place(kek: &[u8; 16], octets: &mut [u8])
+    requires whole_blocks { length octets.old % 8 ≡ 0 }
+    requires two_blocks { 24 ≤ length octets.old }
+    ensures wrapped { Wraps kek.now (drop 8 octets.old) octets.new }
+    ensures len { length octets.new ≡ length octets.old }
+{
+    show_octets(octets);
+    let check = wrap_blocks(&Aes128::new(kek), &mut octets[8..]);
+    octets[..8].copy_from_slice(&check);
 }
 
 /// Writes the plain text that is wrapped to the input into the front of `out`, and gives the number of
@@ -138,6 +150,12 @@ fn with_count(mut check: [u8; 8], t: u64) -> [u8; 8]
     check
 }
 
+// Each number in a slice of octets is one. A proof knows this of a slice that is read, and not of
+// what stood in one before it was written to. The call does nothing.
+fn show_octets(octets: &[u8])
+    ensures { AreOctets octets.now }
+{}
+
 // A and a block, in a row.
 fn joined(check: &[u8; 8], block: &[u8]) -> [u8; 16]
     requires { length block.now ≡ 8 }
@@ -172,6 +190,10 @@ mod tests {
     {
         let mut out = [0; 192];
         let end = wrap(kek, plain, &mut out);
+        assert_eq!(rt; &out[..end], wrapped);
+        let mut out = [0; 192];
+        out[8..end].copy_from_slice(plain);
+        wrap_in_place(kek, &mut out[..end]);
         assert_eq!(rt; &out[..end], wrapped);
         let mut out = [0; 192];
         assert_eq!(rt; unwrap(kek, wrapped, &mut out), Ok(plain.len()));

@@ -1,10 +1,13 @@
 -- A frame in parts.
-use Rattle.std.proofs.Common.{◌≡◌, ℕ, List, ◌++◌, take, drop, replicate, ap, ap₂}
+use Rattle.std.proofs.Common.{◌≡◌, ℕ, List, ◌++◌, take, drop, replicate, length, arith, ap, ap₂}
 use Rattle.domain_base.specs.declared.names.Akm.{Akm}
 use Rattle.domain_base.specs.declared.names.Akm.TheVariants.{Psk, PskSha256, FtPsk}
+use Rattle.std.proofs.lemmas.List.{length-take-le}
+use Rattle.aes_block.proofs.CipherLemmas.{length-cipher}
 use Rattle.sha1.specs.Sha1.{sha1}
 use Rattle.mac_prf.specs.Cmac.{cmac}
 use Rattle.mac_prf.specs.Hmac.{hmac}
+use Rattle.mac_prf.proofs.Sizes.{length-hmac_sha1}
 use Rattle.mac_prf.specs.Mic.{mic, mic_sha1, mic_cmac, without_mic}
 
 -- what stands before the MIC field and what stands behind it, with zeros between them
@@ -17,3 +20,10 @@ unfolding mic_sha1 mic_cmac
 mic-same Psk kck frame other e = ap (λ (w : List ℕ). take 16 (hmac sha1 kck w)) e
 mic-same PskSha256 kck frame other e = ap (cmac kck) e
 mic-same FtPsk kck frame other e = ap (cmac kck) e
+
+-- a MIC has 16 octets
+pub length-mic : (akm : Akm) (kck frame : List ℕ) → length (mic akm kck frame) ≡ 16
+unfolding mic_sha1 mic_cmac cmac
+length-mic Psk kck frame = length-take-le 16 (hmac sha1 kck (without_mic frame)) (omega (arith, length-hmac_sha1 kck (without_mic frame)))
+length-mic PskSha256 kck frame = length-cipher kck _
+length-mic FtPsk kck frame = length-cipher kck _
