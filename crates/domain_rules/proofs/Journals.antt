@@ -1,0 +1,210 @@
+-- What acts that are put on a journal do to histories, and the one journal of some rounds.
+use Rattle.std.proofs.Common.{◌≡◌, ℕ, zero, suc, ◌<◌, ◌≤◌, Bool, true, false, cond, List, [], ◌∷◌, ◌++◌, length, refl, sym, ap, subst, ◌∙◌, arith, inl, inr}
+use Rattle.std.specs.Prelude.{codes}
+use Rattle.std.specs.Int.{w64, to_be_bytes}
+use Rattle.std.proofs.lemmas.Bool.{cases_lt}
+use Rattle.domain_base.specs.declared.names.Mac.{Mac}
+use Rattle.domain_base.specs.declared.names.Peer.TheVariants.{All}
+use Rattle.mac_prf.specs.Prf.{kdf}
+use Rattle.run_journal.specs.declared.acts.Drawn.TheVariants.{Gtk}
+use Rattle.run_journal.specs.declared.acts.Key.TheVariants.{Group}
+use Rattle.domain_rules.specs.Network.{mac, gtk}
+use Rattle.domain_base.specs.declared.names.Node.{Node}
+use Rattle.domain_base.specs.declared.names.Node.TheVariants.{Ap, Sta}
+use Rattle.run_journal.specs.declared.domain.Domain.{Domain}
+use Rattle.run_journal.specs.declared.domain.Event.{Event}
+use Rattle.run_journal.specs.declared.domain.Event.TheVariants.{Connect, Deliver}
+use Rattle.run_journal.specs.declared.acts.Act.{Act}
+use Rattle.run_journal.specs.declared.acts.Act.TheVariants.{Drew, Installed}
+use Rattle.run_journal.specs.declared.acts.Entry.{Entry}
+use Rattle.run_journal.specs.Acts.{same, is_sent}
+use Rattle.run_journal.specs.Questions.{history, add}
+use Rattle.run_journal.specs.Premises.{In}
+use Rattle.domain_rules.specs.Rows.{NodeEvent, Take, Adds, start_acts}
+use Rattle.domain_rules.specs.Explained.{frames, number_of, push, WasSent, Happens, Step, Follows, started, Explained}
+use Rattle.domain_rules.proofs.Parts.{same-refl, same-other}
+use Rattle.domain_rules.proofs.OneGroup.{one_group}
+
+-- ---- histories
+
+-- of the node itself
+pub history-push : (round : ℕ) (n : Node) (g : List Act) (past : List Entry) → history n (push round n g past) ≡ add g (history n past)
+history-push round n [] past = refl
+history-push round n (e ∷ g) past = history-push round n g (record { round = round; node = n; number = number_of e past; act = e } ∷ past) ∙ ap (add g) (rw (same-refl n) refl)
+
+-- of every other node
+pub history-other : (round : ℕ) (n m : Node) (g : List Act) (past : List Entry) → same m n ≡ false → history m (push round n g past) ≡ history m past
+history-other round n m [] past other = refl
+history-other round n m (e ∷ g) past other = history-other round n m g (record { round = round; node = n; number = number_of e past; act = e } ∷ past) other ∙ rw other refl
+
+-- ---- frames sent are numbered one after the other
+
+abbrev pub IsNumbered : List Entry → Type 0
+IsNumbered [] = Unit {0}
+IsNumbered (e ∷ past) = (e.number ≡ number_of e.act past) × IsNumbered past
+
+numbered-push : (round : ℕ) (n : Node) (g : List Act) (past : List Entry) → IsNumbered past → IsNumbered (push round n g past)
+numbered-push round n [] past is = is
+numbered-push round n (e ∷ g) past is = numbered-push round n g (record { round = round; node = n; number = number_of e past; act = e } ∷ past) (refl, is)
+
+numbered-follows : (d : Domain) (round : ℕ) (events : List Event) (old new : List Entry) → Follows d round events old new → IsNumbered old → IsNumbered new
+numbered-follows d round [] old new is numbered = subst IsNumbered (sym is) numbered
+numbered-follows d round (event ∷ events) old new (mid, (step, rest)) numbered =
+    numbered-follows d round events mid new rest (subst IsNumbered (sym step.is) (numbered-push round step.node step.acts old numbered))
+
+numbered-started : (d : Domain) (k : ℕ) → IsNumbered (started d k)
+unfolding started
+numbered-started d zero = tt
+numbered-started d (suc k) = numbered-push 0 (Ap k) (start_acts d 0 (Ap k)) (started d k) (numbered-started d k)
+
+pub numbered : (d : Domain) (rounds : List (List Event)) (j : List Entry) → Explained d rounds j → IsNumbered j
+unfolding Explained
+numbered d [] j is = subst IsNumbered (sym is) (numbered-started d (length d.aps))
+numbered d (round ∷ rounds) j (old, (before, follows)) = numbered-follows d (suc (length rounds)) round old j follows (numbered d rounds old before)
+
+frames-sent : (e : Entry) (past : List Entry) → is_sent e.act ≡ true → (number_of e.act past ≡ suc (frames past)) × (frames (e ∷ past) ≡ suc (frames past))
+frames-sent e past s = (rw s refl, rw s refl)
+
+frames_by : (b : Bool) (n : ℕ) → n ≤ cond b (suc n) n
+frames_by true n = omega arith
+frames_by false n = omega arith
+
+-- a frame in the journal has a number up to the count
+number_low : (past : List Entry) (f : Entry) → IsNumbered past → In f past → is_sent f.act ≡ true → f.number ≤ frames past
+number_low [] f is there s = absurd there
+number_low (e ∷ past) f is (inl here) s =
+    let sent : is_sent e.act ≡ true = ap (λ (x : Entry). is_sent x.act) (sym here) ∙ s in
+    let counts = frames-sent e past sent in
+    let number : f.number ≡ number_of e.act past = ap (λ (x : Entry). x.number) here ∙ is.0 in
+    omega (arith, counts.0, counts.1, number)
+number_low (e ∷ past) f is (inr later) s = omega (arith, number_low past f is.1 later s, frames_by (is_sent e.act) (frames past))
+
+newest_apart : (e : Entry) (past : List Entry) (f : Entry) → e.number ≡ number_of e.act past → IsNumbered past → is_sent e.act ≡ true → In f past → is_sent f.act ≡ true → e.number ≡ f.number → ⊥
+newest_apart e past f is numbered s there t same = omega (arith, is, (frames-sent e past s).0, number_low past f numbered there t, same)
+
+-- and no other has that number
+pub one_number : (past : List Entry) (e f : Entry) → IsNumbered past → In e past → In f past → is_sent e.act ≡ true → is_sent f.act ≡ true → e.number ≡ f.number → e ≡ f
+one_number [] e f is there also s t same = absurd there
+one_number (x ∷ past) e f is (inl here) (inl also) s t same = here ∙ sym also
+one_number (x ∷ past) e f is (inl here) (inr later) s t same =
+    absurd (newest_apart x past f is.0 is.1 (ap (λ (y : Entry). is_sent y.act) (sym here) ∙ s) later t (ap (λ (y : Entry). y.number) (sym here) ∙ same))
+one_number (x ∷ past) e f is (inr later) (inl also) s t same =
+    absurd (newest_apart x past e is.0 is.1 (ap (λ (y : Entry). is_sent y.act) (sym also) ∙ t) later s (ap (λ (y : Entry). y.number) (sym also) ∙ sym same))
+one_number (x ∷ past) e f is (inr later) (inr too) s t same = one_number past e f is.1 later too s t same
+
+pub one_frame : (past : List Entry) (round number : ℕ) (x y : List ℕ) → IsNumbered past → WasSent past round number x → WasSent past round number y → x ≡ y
+one_frame past round number x y is s t =
+    let (p, (k, (seal, act))) = s.act in
+    let (q, (m, (other, also))) = t.act in
+    let same : s.entry ≡ t.entry = one_number past s.entry t.entry is s.there t.there (ap is_sent act) (ap is_sent also) (s.is ∙ sym t.is) in
+    cc (ap (λ (e : Entry). e.act) same, act, also)
+
+-- ---- one journal
+
+-- what an event is, at which node
+same_happens : (event : Event) (past : List Entry) (round : ℕ) (n m : Node) (x y : NodeEvent) → IsNumbered past → Happens event past round n x → Happens event past round m y → (n ≡ m) × (x ≡ y)
+same_happens (Connect s a) past round n m x y is one two = (one.0 ∙ sym two.0, one.1 ∙ sym two.1)
+same_happens (Deliver number to) past round n m x y is (octets, (was, (at, event))) (others, (was_too, (at_too, event_too))) =
+    (at ∙ sym at_too, event ∙ ap Take (one_frame past round number octets others is was was_too) ∙ sym event_too)
+
+same_push : (round : ℕ) (n m : Node) (f g : List Act) (past : List Entry) → n ≡ m → f ≡ g → push round n f past ≡ push round m g past
+same_push round n m f g past node acts = ap (λ (x : Node). push round x f past) node ∙ ap (λ (x : List Act). push round m x past) acts
+
+pub one_step : (d : Domain) (round : ℕ) (event : Event) (old new other : List Entry) → IsNumbered old → Step d round event old new → Step d round event old other → new ≡ other
+one_step d round event old new other is s t =
+    let same = same_happens event old round s.node t.node s.at_node t.at_node is s.happens t.happens in
+    let group : Adds d 0 t.node (history t.node old) t.at_node s.acts =
+    subst (λ (x : NodeEvent). Adds d 0 t.node (history t.node old) x s.acts) same.1 (subst (λ (n : Node). Adds d 0 n (history n old) s.at_node s.acts) same.0 s.group) in
+    s.is ∙ same_push round s.node t.node s.acts t.acts old same.0 (one_group d 0 t.node (history t.node old) t.at_node s.acts t.acts group t.group) ∙ sym t.is
+
+step-numbered : (d : Domain) (round : ℕ) (event : Event) (old new : List Entry) → IsNumbered old → Step d round event old new → IsNumbered new
+step-numbered d round event old new is s = subst IsNumbered (sym s.is) (numbered-push round s.node s.acts old is)
+
+pub one_follows : (d : Domain) (round : ℕ) (events : List Event) (old new other : List Entry) → IsNumbered old → Follows d round events old new → Follows d round events old other → new ≡ other
+one_follows d round [] old new other is s t = s ∙ sym t
+one_follows d round (event ∷ events) old new other is (mid, (step, rest)) (mid_too, (step_too, rest_too)) =
+    let same : mid ≡ mid_too = one_step d round event old mid mid_too is step step_too in
+    one_follows d round events mid_too new other (step-numbered d round event old mid_too is step_too) (subst (λ (x : List Entry). Follows d round events x new) same rest) rest_too
+
+pub one_journal : (d : Domain) (rounds : List (List Event)) (j k : List Entry) → Explained d rounds j → Explained d rounds k → j ≡ k
+unfolding Explained
+one_journal d [] j k s t = s ∙ sym t
+one_journal d (round ∷ rounds) j k (old, (before, follows)) (old_too, (before_too, follows_too)) =
+    let same : old ≡ old_too = one_journal d rounds old old_too before before_too in
+    one_follows d (suc (length rounds)) round old_too j k (numbered d rounds old_too before_too) (subst (λ (x : List Entry). Follows d (suc (length rounds)) round x j) same follows) follows_too
+
+-- ---- a journal grows by events
+
+pub explained_start : (d : Domain) → Explained d [] (started d (length d.aps))
+unfolding Explained
+explained_start d = refl
+
+pub explained_event : (d : Domain) (rounds : List (List Event)) (event : Event) (old new : List Entry) → Explained d rounds old → Step d (suc (length rounds)) event old new → Explained d ((event ∷ []) ∷ rounds) new
+unfolding Explained
+explained_event d rounds event old new explained step = (old, (explained, (new, (step, refl))))
+
+pub explained_round : (d : Domain) (rounds : List (List Event)) (events : List Event) (old new : List Entry) → Explained d rounds old → Follows d (suc (length rounds)) events old new → Explained d (events ∷ rounds) new
+unfolding Explained
+explained_round d rounds events old new explained follows = (old, (explained, follows))
+
+pub explained_by_round : (d : Domain) (events : List Event) (rounds : List (List Event)) (j : List Entry) → Explained d (events ∷ rounds) j → (old : List Entry) × (Explained d rounds old × Follows d (suc (length rounds)) events old j)
+unfolding Explained
+explained_by_round d events rounds j explained = explained
+
+-- one more event at the end of a round
+pub follows_more : (d : Domain) (round : ℕ) (events : List Event) (event : Event) (old mid new : List Entry) → Follows d round events old mid → Step d round event mid new → Follows d round (events ++ event ∷ []) old new
+follows_more d round [] event old mid new follows step = (new, (subst (λ (x : List Entry). Step d round event x new) follows step, refl))
+follows_more d round (e ∷ events) event old mid new (first, (one, rest)) step = (first, (one, follows_more d round events event first mid new rest step))
+
+-- ---- round 0
+
+pub started_none : (d : Domain) → started d 0 ≡ []
+unfolding started
+started_none d = refl
+
+pub started_more : (d : Domain) (k : ℕ) → started d (suc k) ≡ push 0 (Ap k) (start_acts d 0 (Ap k)) (started d k)
+unfolding started
+started_more d k = refl
+
+pub history-started_sta : (d : Domain) (s n : ℕ) → history (Sta s) (started d n) ≡ []
+history-started_sta d s zero = ap (history (Sta s)) (started_none d)
+history-started_sta d s (suc n) = ap (history (Sta s)) (started_more d n) ∙ history-other 0 (Ap n) (Sta s) (start_acts d 0 (Ap n)) (started d n) refl ∙ history-started_sta d s n
+
+other_ap : (a b : ℕ) → (a ≡ b → ⊥) → same (Ap a) (Ap b) ≡ false
+other_ap a b other = same-other (Ap a) (Ap b) (λ (e : Ap a ≡ Ap b). other (cc e))
+
+-- an access point that has not started
+pub history-not_started : (d : Domain) (a n : ℕ) → n ≤ a → history (Ap a) (started d n) ≡ []
+history-not_started d a zero high = ap (history (Ap a)) (started_none d)
+history-not_started d a (suc n) high =
+    ap (history (Ap a)) (started_more d n) ∙ history-other 0 (Ap n) (Ap a) (start_acts d 0 (Ap n)) (started d n) (other_ap a n (λ e. omega arith)) ∙ history-not_started d a n (omega arith)
+
+-- and one that has
+pub history-started : (d : Domain) (a n : ℕ) → a < n → history (Ap a) (started d n) ≡ add (start_acts d 0 (Ap a)) []
+history-started d a zero low = absurd (omega arith)
+history-started d a (suc n) low =
+    elim (cases_lt a n) [
+      | inl less ↦ ap (history (Ap a)) (started_more d n) ∙ history-other 0 (Ap n) (Ap a) (start_acts d 0 (Ap n)) (started d n) (other_ap a n (λ e. omega arith)) ∙ history-started d a n less
+      | inr last ↦ (let here : n ≡ a = omega arith in
+          ap (history (Ap a)) (started_more d n) ∙ ap (λ (k : ℕ). history (Ap a) (push 0 (Ap k) (start_acts d 0 (Ap k)) (started d n))) here
+          ∙ history-push 0 (Ap a) (start_acts d 0 (Ap a)) (started d n) ∙ ap (add (start_acts d 0 (Ap a))) (history-not_started d a n last))
+    ]
+
+abbrev starts_with : List ℕ → Mac → List Act
+starts_with seed m =
+    let key = kdf seed (codes "Group key expansion") (m.0 ++ to_be_bytes w64 0) 16 in
+    Drew (Gtk key) ∷ Installed All (Group key 1 m) ∷ []
+
+start_acts-is : (d : Domain) (a : ℕ) → start_acts d 0 (Ap a) ≡ starts_with d.seed (mac d (Ap a))
+unfolding gtk
+start_acts-is d a = refl
+
+same-start : (d e : Domain) (a : ℕ) → d.seed ≡ e.seed → mac d (Ap a) ≡ mac e (Ap a) → start_acts d 0 (Ap a) ≡ start_acts e 0 (Ap a)
+same-start d e a seed m = start_acts-is d a ∙ ap (λ (x : List ℕ). starts_with x (mac d (Ap a))) seed ∙ ap (starts_with e.seed) m ∙ sym (start_acts-is e a)
+
+-- it is the same in two networks of one seed in which the access points have the same addresses
+pub same-started : (d e : Domain) (n : ℕ) → d.seed ≡ e.seed → ((k : ℕ) → k < n → mac d (Ap k) ≡ mac e (Ap k)) → started d n ≡ started e n
+same-started d e zero seed addresses = started_none d ∙ sym (started_none e)
+same-started d e (suc n) seed addresses =
+    started_more d n ∙ ap (push 0 (Ap n) (start_acts d 0 (Ap n))) (same-started d e n seed (λ k low. addresses k (omega arith)))
+    ∙ ap (λ (g : List Act). push 0 (Ap n) g (started e n)) (same-start d e n seed (addresses n (omega arith))) ∙ sym (started_more e n)

@@ -1,0 +1,11 @@
+pub mod SentReads
+pub mod OneReading
+pub mod Example
+pub mod Parts
+pub mod Effects
+pub mod Peers
+pub mod Verdicts
+pub mod OneOutcome
+pub mod OneGroup
+pub mod SomeGroup
+pub mod Journals

@@ -1,0 +1,196 @@
+-- Octets read as one thing at most, and so a frame has one outcome.
+use Rattle.std.proofs.Common.{◌≡◌, ℕ, Bool, true, false, List, length, take, Option, Some, None, refl, sym, ap, subst, ◌∙◌, inl, inr, ◌⊎◌}
+use Rattle.std.specs.Prelude.{not, nat_lt}
+use Rattle.domain_base.specs.declared.names.Akm.{Akm}
+use Rattle.domain_base.specs.declared.names.Node.{Node}
+use Rattle.air_frame.specs.declared.frame.AirFault.{AirFault}
+use Rattle.air_frame.specs.declared.frame.Direction.{Direction}
+use Rattle.air_frame.specs.Fields.{AirFields, HeaderFields, eapol, protected, ignored, air_at}
+use Rattle.air_frame.specs.Faults.{air_fault}
+use Rattle.air_frame.proofs.Exact.{spelled_none, spelled_is}
+use Rattle.rsn_elements.specs.declared.framing.Within.TheVariants.{Body, KeyData}
+use Rattle.rsn_elements.specs.declared.faults.ElementFault.{ElementFault}
+use Rattle.rsn_elements.specs.declared.faults.FaultKind.{FaultKind}
+use Rattle.rsn_elements.specs.Elements.{ElementFields, SpellsElements}
+use Rattle.rsn_elements.specs.Faults.{HasElementFault}
+use Rattle.rsn_elements.proofs.Apart.{one_value, value_or_fault, one_fault}
+use Rattle.eapol_key.specs.declared.frame.FrameFault.{FrameFault}
+use Rattle.eapol_key.specs.declared.messages.Message.{Message}
+use Rattle.eapol_key.specs.declared.messages.Message.TheVariants.{M1, M2, M3, M4, G1, G2}
+use Rattle.eapol_key.specs.KeyFrame.{KeyFields, SpellsKeyFrame, key_frame_fault}
+use Rattle.eapol_key.specs.Messages.{IsMessage, has_bit}
+use Rattle.eapol_key.proofs.Faults.{same_frame, sound_from_frame, none_from_sound}
+use Rattle.run_journal.specs.declared.acts.Act.{Act}
+use Rattle.run_journal.specs.declared.acts.Kind.TheVariants as kind
+use Rattle.run_journal.specs.Questions.{heard}
+use Rattle.domain_rules.specs.Verdict.{Facts, HasRsne, IsRequested, ReadsKeyData, KnowsM2}
+use Rattle.domain_rules.specs.Reading.{Management, management_of, KeyMessage, Reading, NoFrame, PassedOver, NoElements, Managed, NoKeyFrame, NoMessage, Keyed, Sealed, Reads}
+
+-- ---- one message
+
+-- which message a key information can be, where there is key data or none
+by_bits : Bool → Bool → Bool → Bool → Message
+by_bits true true ack some = M3
+by_bits true false true some = M1
+by_bits true false false true = M2
+by_bits true false false false = M4
+by_bits false install true some = G1
+by_bits false install false some = G2
+
+by_fields : KeyFields → Message
+by_fields f = by_bits (has_bit f.information 3) (has_bit f.information 6) (has_bit f.information 7) (nat_lt 0 (length f.key_data))
+
+is_off : (b : Bool) → not b ≡ true → b ≡ false
+is_off true h = cc
+is_off false h = refl
+
+message_is : (akm : Akm) (m : Message) (f : KeyFields) → IsMessage akm m f → m ≡ by_fields f
+unfolding by_fields by_bits
+message_is akm M1 f is = rw (is.bits.pairwise, is_off _ is.bits.install, is.bits.ack) refl
+message_is akm M2 f is = rw (is.bits.pairwise, is_off _ is.bits.install, is_off _ is.bits.ack, is.key_data) refl
+message_is akm M3 f is = rw (is.bits.pairwise, is.bits.install) refl
+message_is akm M4 f is = rw (is.bits.pairwise, is_off _ is.bits.install, is_off _ is.bits.ack, is_off _ is.key_data) refl
+message_is akm G1 f is = rw (is_off _ is.bits.pairwise, is.bits.ack) refl
+message_is akm G2 f is = rw (is_off _ is.bits.pairwise, is_off _ is.bits.ack) refl
+
+pub one_message : (akm : Akm) (f : KeyFields) (m n : Message) → IsMessage akm m f → IsMessage akm n f → m ≡ n
+one_message akm f m n s t = message_is akm m f s ∙ sym (message_is akm n f t)
+
+-- ---- one reading of the elements of a management frame
+
+data ElementsRead (b : Management) (r : Reading) : Type 0 where
+  ASaying : (e : ElementFields) → r ≡ Managed b e → SpellsElements Body b.elements e → ElementsRead b r
+  AFault : (fault : ElementFault) → r ≡ NoElements b fault → HasElementFault Body b.elements fault.place fault.kind → ElementsRead b r
+
+same_element_fault : (f g : ElementFault) → f.place ≡ g.place → f.kind ≡ g.kind → f ≡ g
+same_element_fault f g place kind = ap (λ (n : ℕ). record { place = n; kind = f.kind }) place ∙ ap (λ (k : FaultKind). record { place = g.place; kind = k }) kind
+
+same_elements : (b : Management) (r s : Reading) → ElementsRead b r → ElementsRead b s → r ≡ s
+same_elements b r s (ASaying e is spelled) (ASaying f also spelled_too) = is ∙ ap (λ (x : ElementFields). Managed b x) (one_value Body b.elements e f spelled spelled_too) ∙ sym also
+same_elements b r s (ASaying e is spelled) (AFault fault also has) = absurd (value_or_fault Body b.elements e fault.place fault.kind spelled has)
+same_elements b r s (AFault fault is has) (ASaying e also spelled) = absurd (value_or_fault Body b.elements e fault.place fault.kind spelled has)
+same_elements b r s (AFault fault is has) (AFault other also has_too) =
+    let one = one_fault Body b.elements fault.place other.place fault.kind other.kind has has_too in
+    is ∙ ap (λ (x : ElementFault). NoElements b x) (same_element_fault fault other one.0 one.1) ∙ sym also
+
+-- ---- one reading of an EAPOL body
+
+data BodyRead (akm : Akm) (h : HeaderFields) (way : Direction) (body : List ℕ) (r : Reading) : Type 0 where
+  ABodyFault : (fault : FrameFault) → r ≡ NoKeyFrame h fault → key_frame_fault body ≡ Some fault → BodyRead akm h way body r
+  AnOther : (f : KeyFields) (used : ℕ) → r ≡ NoMessage h → SpellsKeyFrame body f used → ((m : Message) → IsMessage akm m f → ⊥) → BodyRead akm h way body r
+  AMessage : (k : KeyMessage) (used : ℕ) → r ≡ Keyed k → k.header ≡ h → k.direction ≡ way → SpellsKeyFrame body k.fields used → IsMessage akm k.message k.fields → k.octets ≡ take used body → BodyRead akm h way body r
+
+frame_no_fault : (body : List ℕ) (f : KeyFields) (used : ℕ) (fault : FrameFault) → SpellsKeyFrame body f used → key_frame_fault body ≡ Some fault → ⊥
+frame_no_fault body f used fault spelled has = let none = none_from_sound body (sound_from_frame body f used spelled) in cc (none, has)
+
+other_no_message : (akm : Akm) (body : List ℕ) (f g : KeyFields) (used taken : ℕ) (m : Message) → SpellsKeyFrame body f used → ((n : Message) → IsMessage akm n f → ⊥) → SpellsKeyFrame body g taken → IsMessage akm m g → ⊥
+other_no_message akm body f g used taken m s none t is = none m (subst (λ (x : KeyFields). IsMessage akm m x) (same_frame body g f taken used t s).0 is)
+
+same_message_parts : (k l : KeyMessage) → k.header ≡ l.header → k.direction ≡ l.direction → k.message ≡ l.message → k.fields ≡ l.fields → k.octets ≡ l.octets → k ≡ l
+same_message_parts k l header way message fields octets =
+    ap (λ (x : HeaderFields). record { header = x; direction = k.direction; message = k.message; fields = k.fields; octets = k.octets }) header
+    ∙ ap (λ (x : Direction). record { header = l.header; direction = x; message = k.message; fields = k.fields; octets = k.octets }) way
+    ∙ ap (λ (x : Message). record { header = l.header; direction = l.direction; message = x; fields = k.fields; octets = k.octets }) message
+    ∙ ap (λ (x : KeyFields). record { header = l.header; direction = l.direction; message = l.message; fields = x; octets = k.octets }) fields
+    ∙ ap (λ (x : List ℕ). record { header = l.header; direction = l.direction; message = l.message; fields = l.fields; octets = x }) octets
+
+same_body : (akm : Akm) (h : HeaderFields) (way : Direction) (body : List ℕ) (r s : Reading) → BodyRead akm h way body r → BodyRead akm h way body s → r ≡ s
+same_body akm h way body r s (ABodyFault fault is has) (ABodyFault other also has_too) = let same : fault ≡ other = cc (has, has_too) in is ∙ ap (λ (x : FrameFault). NoKeyFrame h x) same ∙ sym also
+same_body akm h way body r s (ABodyFault fault is has) (AnOther f used also spelled none) = absurd (frame_no_fault body f used fault spelled has)
+same_body akm h way body r s (ABodyFault fault is has) (AMessage k used also a b spelled m c) = absurd (frame_no_fault body k.fields used fault spelled has)
+same_body akm h way body r s (AnOther f used is spelled none) (ABodyFault fault also has) = absurd (frame_no_fault body f used fault spelled has)
+same_body akm h way body r s (AnOther f used is spelled none) (AnOther g taken also spelled_too none_too) = is ∙ sym also
+same_body akm h way body r s (AnOther f used is spelled none) (AMessage k taken also a b spelled_too m c) = absurd (other_no_message akm body f k.fields used taken k.message spelled none spelled_too m)
+same_body akm h way body r s (AMessage k used is a b spelled m c) (ABodyFault fault also has) = absurd (frame_no_fault body k.fields used fault spelled has)
+same_body akm h way body r s (AMessage k used is a b spelled m c) (AnOther f taken also spelled_too none) = absurd (other_no_message akm body f k.fields taken used k.message spelled_too none spelled m)
+same_body akm h way body r s (AMessage k used is a b spelled m c) (AMessage l taken also a_too b_too spelled_too m_too c_too) =
+    let one = same_frame body k.fields l.fields used taken spelled spelled_too in
+    let message : k.message ≡ l.message = one_message akm l.fields k.message l.message (subst (λ (x : KeyFields). IsMessage akm k.message x) one.0 m) m_too in
+    let octets : k.octets ≡ l.octets = c ∙ ap (λ (n : ℕ). take n body) one.1 ∙ sym c_too in
+    is ∙ ap (λ (x : KeyMessage). Keyed x) (same_message_parts k l (a ∙ sym a_too) (b ∙ sym b_too) message one.0 octets) ∙ sym also
+
+-- ---- one reading of an air frame
+
+data FrameRead (akm : Akm) (f : AirFields) (r : Reading) : Type 0 where
+  OfNothing : f ≡ ignored → r ≡ PassedOver → FrameRead akm f r
+  OfElements : (b : Management) → management_of f ≡ Some b → ElementsRead b r → FrameRead akm f r
+  OfBody : (h : HeaderFields) (way : Direction) (tid : Option ℕ) (body : List ℕ) → f ≡ eapol h way tid body → BodyRead akm h way body r → FrameRead akm f r
+  OfCipher : (h : HeaderFields) (way : Direction) (tid : Option ℕ) (body : List ℕ) → f ≡ protected h way tid body → r ≡ Sealed h way tid body → FrameRead akm f r
+
+same_frame_read : (akm : Akm) (f : AirFields) (r s : Reading) → FrameRead akm f r → FrameRead akm f s → r ≡ s
+same_frame_read akm f r s (OfNothing e is) (OfNothing g also) = is ∙ sym also
+same_frame_read akm f r s (OfNothing e is) (OfElements b g also) = absurd (cc (ap management_of e, g))
+same_frame_read akm f r s (OfNothing e is) (OfBody h way tid body g also) = absurd (cc (e, g))
+same_frame_read akm f r s (OfNothing e is) (OfCipher h way tid body g also) = absurd (cc (e, g))
+same_frame_read akm f r s (OfElements b e is) (OfNothing g also) = absurd (cc (e, ap management_of g))
+same_frame_read akm f r s (OfElements b e is) (OfElements c g also) =
+    let same : b ≡ c = cc (e, g) in
+    same_elements c r s (subst (λ (x : Management). ElementsRead x r) same is) also
+same_frame_read akm f r s (OfElements b e is) (OfBody h way tid body g also) = absurd (cc (e, ap management_of g))
+same_frame_read akm f r s (OfElements b e is) (OfCipher h way tid body g also) = absurd (cc (e, ap management_of g))
+same_frame_read akm f r s (OfBody h way tid body e is) (OfNothing g also) = absurd (cc (e, g))
+same_frame_read akm f r s (OfBody h way tid body e is) (OfElements b g also) = absurd (cc (ap management_of e, g))
+same_frame_read akm f r s (OfBody h way tid body e is) (OfBody i other tid_too text g also) =
+    let header : h ≡ i = cc (e, g) in
+    let direction : way ≡ other = cc (e, g) in
+    let octets : body ≡ text = cc (e, g) in
+    same_body akm i other text r s (subst (λ (x : HeaderFields). BodyRead akm x other text r) header (subst (λ (x : Direction). BodyRead akm h x text r) direction (subst (λ (x : List ℕ). BodyRead akm h way x r) octets is))) also
+same_frame_read akm f r s (OfBody h way tid body e is) (OfCipher i other tid_too text g also) = absurd (cc (e, g))
+same_frame_read akm f r s (OfCipher h way tid body e is) (OfNothing g also) = absurd (cc (e, g))
+same_frame_read akm f r s (OfCipher h way tid body e is) (OfElements b g also) = absurd (cc (ap management_of e, g))
+same_frame_read akm f r s (OfCipher h way tid body e is) (OfBody i other tid_too text g also) = absurd (cc (e, g))
+same_frame_read akm f r s (OfCipher h way tid body e is) (OfCipher i other tid_too text g also) = cc (e, g, is, also)
+
+-- ---- one reading
+
+abbrev IsRead : Akm → List ℕ → Reading → Type 0
+IsRead akm octets r = ((fault : AirFault) × ((air_fault octets ≡ Some fault) × (r ≡ NoFrame fault))) ⊎ ((air_fault octets ≡ None) × FrameRead akm (air_at octets) r)
+
+is_read : (akm : Akm) (octets : List ℕ) (r : Reading) → Reads akm octets r → IsRead akm octets r
+is_read akm octets (NoFrame fault) reads = inl (fault, (reads, refl))
+is_read akm octets PassedOver reads = inr (spelled_none octets ignored reads, OfNothing (sym (spelled_is octets ignored reads)) refl)
+is_read akm octets (NoElements b fault) reads =
+    inr (spelled_none octets reads.0.frame reads.0.spelled, OfElements b (ap management_of (sym (spelled_is octets reads.0.frame reads.0.spelled)) ∙ reads.0.is) (AFault fault refl reads.1))
+is_read akm octets (Managed b e) reads =
+    inr (spelled_none octets reads.0.frame reads.0.spelled, OfElements b (ap management_of (sym (spelled_is octets reads.0.frame reads.0.spelled)) ∙ reads.0.is) (ASaying e refl reads.1))
+is_read akm octets (NoKeyFrame h fault) reads =
+    inr (spelled_none octets (eapol h reads.way reads.frame.tid reads.body) reads.frame.spelled, OfBody h reads.way reads.frame.tid reads.body (sym (spelled_is octets (eapol h reads.way reads.frame.tid reads.body) reads.frame.spelled)) (ABodyFault fault refl reads.is))
+is_read akm octets (NoMessage h) reads =
+    inr (spelled_none octets (eapol h reads.way reads.frame.tid reads.body) reads.frame.spelled, OfBody h reads.way reads.frame.tid reads.body (sym (spelled_is octets (eapol h reads.way reads.frame.tid reads.body) reads.frame.spelled)) (AnOther reads.fields reads.used refl reads.spelled reads.none))
+is_read akm octets (Keyed k) reads =
+    inr (spelled_none octets (eapol k.header k.direction reads.frame.tid reads.body) reads.frame.spelled, OfBody k.header k.direction reads.frame.tid reads.body (sym (spelled_is octets (eapol k.header k.direction reads.frame.tid reads.body) reads.frame.spelled)) (AMessage k reads.used refl refl refl reads.spelled reads.is reads.octets_are))
+is_read akm octets (Sealed h way tid body) reads =
+    inr (spelled_none octets (protected h way tid body) reads, OfCipher h way tid body (sym (spelled_is octets (protected h way tid body) reads)) refl)
+
+same_read : (akm : Akm) (octets : List ℕ) (r s : Reading) → IsRead akm octets r → IsRead akm octets s → r ≡ s
+same_read akm octets r s (inl x) (inl y) = cc (x.1.0, x.1.1, y.1.0, y.1.1)
+same_read akm octets r s (inl x) (inr y) = absurd (cc (x.1.0, y.0))
+same_read akm octets r s (inr x) (inl y) = absurd (cc (x.0, y.1.0))
+same_read akm octets r s (inr x) (inr y) = same_frame_read akm (air_at octets) r s x.1 y.1
+
+pub one_reading : (akm : Akm) (octets : List ℕ) (r s : Reading) → Reads akm octets r → Reads akm octets s → r ≡ s
+one_reading akm octets r s x y = same_read akm octets r s (is_read akm octets r x) (is_read akm octets s y)
+
+-- ---- what reading further tells
+
+-- the RSNE of a request
+same_rsne : (akm : Akm) (octets : List ℕ) (x y : Option (List ℕ)) → HasRsne akm octets x → HasRsne akm octets y → x ≡ y
+same_rsne akm octets x y (b, (e, (reads, is))) (c, (f, (reads_too, also))) =
+    let same : Managed b e ≡ Managed c f = one_reading akm octets (Managed b e) (Managed c f) reads reads_too in
+    let said : e ≡ f = cc same in
+    is ∙ ap (λ (v : ElementFields). v.rsne_octets) said ∙ sym also
+
+same_requested : (akm : Akm) (o x y : Option (List ℕ)) → IsRequested akm o x → IsRequested akm o y → x ≡ y
+same_requested akm None x y is also = is ∙ sym also
+same_requested akm (Some octets) x y has has_too = same_rsne akm octets x y has has_too
+
+same_key_data : (octets : List ℕ) (x y : Option ElementFields) → ReadsKeyData octets x → ReadsKeyData octets y → x ≡ y
+same_key_data octets (Some e) (Some f) s t = ap (λ (v : ElementFields). Some v) (one_value KeyData octets e f s t)
+same_key_data octets (Some e) None s t = absurd (value_or_fault KeyData octets e t.0.place t.0.kind s t.1)
+same_key_data octets None (Some f) s t = absurd (value_or_fault KeyData octets f s.0.place s.0.kind t s.1)
+same_key_data octets None None s t = refl
+
+pub same_facts : (akm : Akm) (h : List Act) (p : Node) (k : KeyMessage) (f g : Facts) → KnowsM2 akm h p k f → KnowsM2 akm h p k g → f ≡ g
+same_facts akm h p k f g s t =
+    ap (λ (x : Option (List ℕ)). record { requested = x; data_ = f.data_ }) (same_requested akm (heard p kind.AssocReq h) f.requested g.requested s.requested t.requested)
+    ∙ ap (λ (x : Option ElementFields). record { requested = g.requested; data_ = x }) (same_key_data k.fields.key_data f.data_ g.data_ s.data_ t.data_)

@@ -1,0 +1,125 @@
+-- Addresses and the nodes that have them.
+use Rattle.std.proofs.Common.{◌≡◌, ◌≢◌, inl, inr, ℕ, zero, suc, ◌<◌, Bool, true, false, cond, ltb, List, [], ◌∷◌, length, get_or, Option, Some, None, refl, sym, ap, subst, ◌∙◌, arith}
+use Rattle.std.specs.Prelude.{not, unwrap_or, option_map, bytes_eq}
+use Rattle.std.specs.List.{AllByRecursion, position, position_or_len}
+use Rattle.std.proofs.lemmas.Bool.{lt-ltb, ltb-true, cases_Bool}
+use Rattle.std.proofs.lemmas.List.Sums.{passes_at_first, position_or_len_is}
+use Rattle.std.proofs.lemmas.Option.{slice_get-get_or}
+use Rattle.std.proofs.lemmas.Slice.Eq.{bytes_eq-Decides}
+use Rattle.domain_base.specs.declared.names.Mac.{Mac}
+use Rattle.domain_base.specs.declared.names.Node.{Node}
+use Rattle.domain_base.specs.declared.names.Node.TheVariants.{Ap, Sta}
+use Rattle.air_frame.specs.Sent.{IsAddress}
+use Rattle.run_journal.specs.declared.domain.Domain.{Domain}
+use Rattle.run_journal.specs.declared.domain.ListedAp.{ListedAp}
+use Rattle.domain_rules.specs.Network.{address, peer_of, is_ap, AreAps, AreStas, InForm, IsListed}
+
+-- ---- the first that passes
+
+found_by : {A : Type 0} (test : A → Bool) (xs : List A) (i : ℕ) (b : Bool) → ltb (position_or_len test xs) (length xs) ≡ b → cond b (Some (position_or_len test xs)) None ≡ Some i
+    → (i < length xs) × ((d : A) → test (get_or xs i d) ≡ true)
+found_by test xs i true within s =
+    let here : position_or_len test xs ≡ i = cc s in
+    let low : position_or_len test xs < length xs = ltb-true (position_or_len test xs) (length xs) within in
+    (subst (λ (k : ℕ). k < length xs) here low, λ d. subst (λ (k : ℕ). test (get_or xs k d) ≡ true) here (passes_at_first test xs d low))
+found_by test xs i false within s = absurd (cc s)
+
+pub found : {A : Type 0} (test : A → Bool) (xs : List A) (i : ℕ) → position test xs ≡ Some i → (i < length xs) × ((d : A) → test (get_or xs i d) ≡ true)
+found test xs i s = found_by test xs i (ltb (position_or_len test xs) (length xs)) refl s
+
+finds : {A : Type 0} (test : A → Bool) (xs : List A) (i : ℕ) (d : A) → i < length xs → ((k : ℕ) → k < i → test (get_or xs k d) ≡ false) → test (get_or xs i d) ≡ true → position test xs ≡ Some i
+finds test xs i d low none here =
+    let place : position_or_len test xs ≡ i = position_or_len_is test xs i d (omega arith) none (λ h. here) in
+    rw (place, lt-ltb i (length xs) low) refl
+
+-- ---- the address of a listed node
+
+no_mac : Mac
+no_mac = record { 0 = [] }
+
+no_ap : ListedAp
+no_ap = record { address = record { 0 = [] }; r0kh_id = [] }
+
+pub ap_address : (d : Domain) (k : ℕ) → k < length d.aps → (e : ListedAp) → address d (Ap k) ≡ (get_or d.aps k e).address.0
+ap_address d k low e = ap (λ (o : Option ListedAp). (unwrap_or (option_map (λ (a : ListedAp). a.address) o) (record { 0 = [] })).0) (slice_get-get_or d.aps k e low)
+
+pub sta_address : (d : Domain) (k : ℕ) → k < length d.stas → (m : Mac) → address d (Sta k) ≡ (get_or d.stas k m).0
+sta_address d k low m = ap (λ (o : Option Mac). (unwrap_or o (record { 0 = [] })).0) (slice_get-get_or d.stas k m low)
+
+all_at : {A : Type 0} (P : A → Type 0) (xs : List A) (k : ℕ) (d : A) → AllByRecursion P xs → k < length xs → P (get_or xs k d)
+all_at P [] k d all low = absurd (omega arith)
+all_at P (x ∷ xs) zero d all low = all.0
+all_at P (x ∷ xs) (suc k) d all low = all_at P xs k d all.1 (omega arith)
+
+-- has six octets where all have
+pub listed-address : (d : Domain) (n : Node) → AllByRecursion (λ (a : ListedAp). IsAddress a.address.0) d.aps → AllByRecursion (λ (m : Mac). IsAddress m.0) d.stas → IsListed d n → IsAddress (address d n)
+listed-address d (Ap k) aps stas low = subst (λ (x : List ℕ). IsAddress x) (sym (ap_address d k low no_ap)) (all_at (λ (a : ListedAp). IsAddress a.address.0) d.aps k no_ap aps low)
+listed-address d (Sta k) aps stas low = subst (λ (x : List ℕ). IsAddress x) (sym (sta_address d k low no_mac)) (all_at (λ (m : Mac). IsAddress m.0) d.stas k no_mac stas low)
+
+-- ---- the node that has an address
+
+pub record IsPeer (d : Domain) (n p : Node) (octets : List ℕ) : Type 0 where
+  pub listed : IsListed d p
+  pub has : address d p ≡ octets
+  pub other : is_ap p ≡ not (is_ap n)
+
+sta_peer : (d : Domain) (k : ℕ) (octets : List ℕ) (p : Node) (o : Option ℕ) → position (λ (m : Mac). bytes_eq m.0 octets) d.stas ≡ o → option_map (λ i. Sta i) o ≡ Some p → IsPeer d (Ap k) p octets
+sta_peer d k octets p None is s = cc
+sta_peer d k octets p (Some i) is s =
+    let here = found (λ (m : Mac). bytes_eq m.0 octets) d.stas i is in
+    let same : Sta i ≡ p = cc s in
+    subst (λ (x : Node). IsPeer d (Ap k) x octets) same (record {
+      listed = here.0;
+      has = sta_address d i here.0 no_mac ∙ (bytes_eq-Decides (get_or d.stas i no_mac).0 octets).0 (here.1 no_mac);
+      other = refl;
+    })
+
+ap_peer : (d : Domain) (k : ℕ) (octets : List ℕ) (p : Node) (o : Option ℕ) → position (λ (a : ListedAp). bytes_eq a.address.0 octets) d.aps ≡ o → option_map (λ i. Ap i) o ≡ Some p → IsPeer d (Sta k) p octets
+ap_peer d k octets p None is s = cc
+ap_peer d k octets p (Some i) is s =
+    let here = found (λ (a : ListedAp). bytes_eq a.address.0 octets) d.aps i is in
+    let same : Ap i ≡ p = cc s in
+    subst (λ (x : Node). IsPeer d (Sta k) x octets) same (record {
+      listed = here.0;
+      has = ap_address d i here.0 no_ap ∙ (bytes_eq-Decides (get_or d.aps i no_ap).address.0 octets).0 (here.1 no_ap);
+      other = refl;
+    })
+
+pub peer_is : (d : Domain) (n p : Node) (octets : List ℕ) → peer_of d n octets ≡ Some p → IsPeer d n p octets
+peer_is d (Ap k) p octets s = sta_peer d k octets p (position (λ (m : Mac). bytes_eq m.0 octets) d.stas) refl s
+peer_is d (Sta k) p octets s = ap_peer d k octets p (position (λ (a : ListedAp). bytes_eq a.address.0 octets) d.aps) refl s
+
+-- ---- in a network in form a listed node is found by its address
+
+pub not_same : (xs ys : List ℕ) → xs ≢ ys → bytes_eq xs ys ≡ false
+not_same xs ys other = elim (cases_Bool (bytes_eq xs ys)) [ inl is ↦ absurd (other ((bytes_eq-Decides xs ys).0 is)) | inr none ↦ none ]
+
+stas_differ : (aps : List ListedAp) (stas : List Mac) → AreStas aps stas → (k i : ℕ) (d : Mac) → k < i → i < length stas → (get_or stas k d).0 ≢ (get_or stas i d).0
+stas_differ aps [] are k i d before low = absurd (omega arith)
+stas_differ aps (m ∷ stas) are zero zero d before low = absurd (omega arith)
+stas_differ aps (m ∷ stas) are zero (suc i) d before low =
+    λ same. all_at (λ (x : Mac). x ≢ m) stas i d are.1.no_sta (omega arith) (ap (λ (x : List ℕ). record { 0 = x }) (sym same))
+stas_differ aps (m ∷ stas) are (suc k) zero d before low = absurd (omega arith)
+stas_differ aps (m ∷ stas) are (suc k) (suc i) d before low = stas_differ aps stas are.2 k i d (omega arith) (omega arith)
+
+aps_differ : (aps : List ListedAp) → AreAps aps → (k i : ℕ) (d : ListedAp) → k < i → i < length aps → (get_or aps k d).address.0 ≢ (get_or aps i d).address.0
+aps_differ [] are k i d before low = absurd (omega arith)
+aps_differ (a ∷ aps) are zero zero d before low = absurd (omega arith)
+aps_differ (a ∷ aps) are zero (suc i) d before low =
+    λ same. all_at (λ (x : ListedAp). x.address ≢ a.address) aps i d are.3 (omega arith) (ap (λ (x : List ℕ). record { 0 = x }) (sym same))
+aps_differ (a ∷ aps) are (suc k) zero d before low = absurd (omega arith)
+aps_differ (a ∷ aps) are (suc k) (suc i) d before low = aps_differ aps are.5 k i d (omega arith) (omega arith)
+
+pub finds-sta : (d : Domain) (a k : ℕ) → InForm d → k < length d.stas → peer_of d (Ap a) (address d (Sta k)) ≡ Some (Sta k)
+finds-sta d a k form low =
+    ap (option_map (λ i. Sta i))
+    (finds (λ (m : Mac). bytes_eq m.0 (address d (Sta k))) d.stas k no_mac low
+    (λ i before. rw (sta_address d k low no_mac) (not_same (get_or d.stas i no_mac).0 (get_or d.stas k no_mac).0 (stas_differ d.aps d.stas form.stas i k no_mac before low)))
+    ((bytes_eq-Decides (get_or d.stas k no_mac).0 (address d (Sta k))).1 (sym (sta_address d k low no_mac))))
+
+pub finds-ap : (d : Domain) (s k : ℕ) → InForm d → k < length d.aps → peer_of d (Sta s) (address d (Ap k)) ≡ Some (Ap k)
+finds-ap d s k form low =
+    ap (option_map (λ i. Ap i))
+    (finds (λ (a : ListedAp). bytes_eq a.address.0 (address d (Ap k))) d.aps k no_ap low
+    (λ i before. rw (ap_address d k low no_ap) (not_same (get_or d.aps i no_ap).address.0 (get_or d.aps k no_ap).address.0 (aps_differ d.aps form.aps i k no_ap before low)))
+    ((bytes_eq-Decides (get_or d.aps k no_ap).address.0 (address d (Ap k))).1 (sym (ap_address d k low no_ap))))

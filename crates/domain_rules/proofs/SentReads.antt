@@ -1,0 +1,241 @@
+-- Frames as they are sent read as what they carry, in any network.
+use Rattle.std.proofs.Common.{◌≡◌, ℕ, ◌+◌, ◌^◌, ◌<◌, false, List, [], ◌∷◌, ◌++◌, length, drop, None, refl, sym, ap, subst, ◌∙◌, arith}
+use Rattle.std.specs.Prelude.{not, nat_lt}
+use Rattle.std.specs.Int.{w64}
+use Rattle.std.proofs.lemmas.Bool.{lt-ltb}
+use Rattle.std.proofs.lemmas.List.{append-nil, append_assoc, length-append, length-take-le, take_all}
+use Rattle.domain_base.specs.declared.names.Akm.{Akm}
+use Rattle.domain_base.specs.declared.names.Akm.TheVariants.{Psk, PskSha256, FtPsk}
+use Rattle.domain_base.specs.declared.names.Node.{Node}
+use Rattle.domain_base.specs.declared.names.Node.TheVariants.{Ap, Sta}
+use Rattle.domain_base.specs.Places.{big_endian_at}
+use Rattle.air_frame.specs.Control.{data_header_length}
+use Rattle.air_frame.specs.Fields.{assoc_req, assoc_resp}
+use Rattle.air_frame.specs.Sent.{IsAddress, management_header_octets, data_header_octets, assoc_req_octets, assoc_resp_octets, sent_header}
+use Rattle.air_frame.proofs.SentFrames.{assoc_req_sent, assoc_resp_sent, eapol_data_sent}
+use Rattle.rsn_elements.specs.declared.framing.Within.TheVariants.{Body, KeyData}
+use Rattle.rsn_elements.specs.Elements.{ElementFields, SpellsElements}
+use Rattle.rsn_elements.specs.Sent.{ssid_octets, rates_octets, rsne_octets}
+use Rattle.rsn_elements.specs.Pieces.{SentSsid, SentRates, SentRsne, nothing, said}
+use Rattle.rsn_elements.proofs.PiecesTell.{pieces_spelled}
+use Rattle.mac_prf.specs.Mic.{mic, mic_sha1, without_mic}
+use Rattle.mac_prf.proofs.Sizes.{length-hmac_sha1}
+use Rattle.eapol_key.specs.declared.messages.Message.{Message}
+use Rattle.eapol_key.specs.declared.messages.Message.TheVariants.{M1, M2, M3, M4, G1, G2}
+use Rattle.eapol_key.specs.KeyFrame.{KeyFields, SpellsKeyFrame}
+use Rattle.eapol_key.specs.Messages.{IsMessage}
+use Rattle.eapol_key.specs.Octets.{FitsKeyFrame, frame_octets}
+use Rattle.eapol_key.specs.Sealed.{sealed}
+use Rattle.eapol_key.specs.Sent.{IsSentWith, sent_fields}
+use Rattle.eapol_key.proofs.Joined.{sent_fits}
+use Rattle.eapol_key.proofs.Seals.{sealed_fields, sealed_mic}
+use Rattle.eapol_key.proofs.Written.{spelled_as_written}
+use Rattle.key_hierarchy.specs.Keys.{ptk}
+use Rattle.key_hierarchy.specs.declared.inputs.Inputs.{Inputs}
+use Rattle.run_journal.specs.declared.domain.Domain.{Domain}
+use Rattle.run_journal.specs.declared.acts.Kind.TheVariants as kind
+use Rattle.domain_rules.specs.Network.{address, bssid, direction}
+use Rattle.domain_rules.specs.Reading.{Management, Managed, KeyMessage, Keyed, IsManaged, Reads}
+use Rattle.domain_rules.specs.Verdict.{replay_counter}
+use Rattle.domain_rules.specs.Frames.{aid, assoc_req_elements, in_data, m2_frame}
+
+-- ---- elements
+
+abbrev pub assoc_req_said : Domain → ElementFields
+assoc_req_said d = said Body (SentSsid d.ssid ∷ SentRates ∷ SentRsne d.akm None ∷ [])
+
+pub assoc_req_spelled : (d : Domain) → SpellsElements Body (assoc_req_elements d) (assoc_req_said d)
+assoc_req_spelled d =
+    subst (λ (x : List ℕ). SpellsElements Body x (assoc_req_said d))
+    (
+    append-nil (ssid_octets d.ssid ++ (rates_octets ++ (rsne_octets d.akm None ++ []))) ∙ ap (λ (x : List ℕ). ssid_octets d.ssid ++ (rates_octets ++ x)) (append-nil (rsne_octets d.akm None))
+    ∙ sym (append_assoc (ssid_octets d.ssid) rates_octets (rsne_octets d.akm None))
+    )
+    (pieces_spelled Body (SentSsid d.ssid ∷ SentRates ∷ SentRsne d.akm None ∷ []) [] [] (tt, (tt, (tt, tt))) ((refl, (refl, tt)), ((refl, tt), (tt, tt))) tt tt)
+
+abbrev pub rates_said : ElementFields
+rates_said = nothing
+
+pub rates_spelled : SpellsElements Body rates_octets rates_said
+rates_spelled = pieces_spelled Body (SentRates ∷ []) [] [] (tt, tt) (tt, tt) tt tt
+
+pub nothing_spelled : SpellsElements Body [] nothing
+nothing_spelled = pieces_spelled Body [] [] [] tt tt tt tt
+
+-- the RSNE alone, as in the key data of M2
+abbrev pub rsne_said : Akm → ElementFields
+rsne_said akm = said KeyData (SentRsne akm None ∷ [])
+
+pub rsne_spelled : (akm : Akm) → SpellsElements KeyData (rsne_octets akm None) (rsne_said akm)
+rsne_spelled akm =
+    subst (λ (x : List ℕ). SpellsElements KeyData x (rsne_said akm)) (append-nil (rsne_octets akm None ++ []) ∙ append-nil (rsne_octets akm None))
+    (pieces_spelled KeyData (SentRsne akm None ∷ []) [] [] (tt, tt) (tt, tt) tt tt)
+
+-- ---- association
+
+abbrev pub assoc_req_body : Domain → Node → Node → Management
+assoc_req_body d n p = record {
+  kind = kind.AssocReq;
+  header = sent_header (management_header_octets 0 (address d p) (address d n) (address d p)) (address d p) (address d n) (address d p);
+  status = 0;
+  elements = assoc_req_elements d;
+}
+
+pub reads-assoc_req : (d : Domain) (n p : Node) → IsAddress (address d n) → IsAddress (address d p)
+    → Reads d.akm (assoc_req_octets (address d p) (address d n) (address d p) (assoc_req_elements d)) (Managed (assoc_req_body d n p) (assoc_req_said d))
+reads-assoc_req d n p l m = (
+  record {
+    frame = assoc_req (assoc_req_body d n p).header 0x11 10 (assoc_req_elements d);
+    spelled = assoc_req_sent (address d p) (address d n) (address d p) m l m (assoc_req_elements d);
+    is = refl;
+  },
+  assoc_req_spelled d,
+)
+
+abbrev pub assoc_resp_body : Domain → Node → Node → ℕ → List ℕ → Management
+assoc_resp_body d n p status elements = record {
+  kind = kind.AssocResp;
+  header = sent_header (management_header_octets 1 (address d p) (address d n) (address d n)) (address d p) (address d n) (address d n);
+  status = status;
+  elements = elements;
+}
+
+managed-assoc_resp : (d : Domain) (n p : Node) (status aid : ℕ) (elements : List ℕ) → IsAddress (address d n) → IsAddress (address d p) → status < 2 ^ 16 → aid < 2 ^ 16
+    → IsManaged (assoc_resp_octets (address d p) (address d n) (address d n) status aid elements) (assoc_resp_body d n p status elements)
+managed-assoc_resp d n p status aid elements l m s a = record {
+  frame = assoc_resp (assoc_resp_body d n p status elements).header 0x11 status aid elements;
+  spelled = assoc_resp_sent (address d p) (address d n) (address d n) m l l status aid elements s a;
+  is = refl;
+}
+
+pub reads-assoc_resp : (d : Domain) (n p : Node) → IsAddress (address d n) → IsAddress (address d p) → aid p < 2 ^ 16
+    → Reads d.akm (assoc_resp_octets (address d p) (address d n) (address d n) 0 (aid p) rates_octets) (Managed (assoc_resp_body d n p 0 rates_octets) rates_said)
+reads-assoc_resp d n p l m a = (managed-assoc_resp d n p 0 (aid p) rates_octets l m (omega arith) a, rates_spelled)
+
+pub reads-refusal : (d : Domain) (n p : Node) (status : ℕ) → IsAddress (address d n) → IsAddress (address d p) → status < 2 ^ 16
+    → Reads d.akm (assoc_resp_octets (address d p) (address d n) (address d n) status 0 []) (Managed (assoc_resp_body d n p status []) nothing)
+reads-refusal d n p status l m s = (managed-assoc_resp d n p status 0 [] l m s (omega arith), nothing_spelled)
+
+-- ---- EAPOL-Key messages
+
+-- the fields that are sent are those of the message
+pub message_sent : (message : Message) (akm : Akm) (counter rsc : ℕ) (nonce key_data : List ℕ) → IsSentWith message key_data → IsMessage akm message (sent_fields message akm counter nonce rsc key_data)
+message_sent M1 Psk counter rsc nonce key_data w = record { version = refl; error = refl; request = refl; bits = record { pairwise = refl; install = refl; ack = refl; mic = refl; secure = tt; encrypted = refl }; key_data = tt }
+message_sent M1 PskSha256 counter rsc nonce key_data w = record { version = refl; error = refl; request = refl; bits = record { pairwise = refl; install = refl; ack = refl; mic = refl; secure = tt; encrypted = refl }; key_data = tt }
+message_sent M1 FtPsk counter rsc nonce key_data w = record { version = refl; error = refl; request = refl; bits = record { pairwise = refl; install = refl; ack = refl; mic = refl; secure = tt; encrypted = refl }; key_data = tt }
+message_sent M2 Psk counter rsc nonce key_data w = record { version = refl; error = refl; request = refl; bits = record { pairwise = refl; install = refl; ack = refl; mic = refl; secure = tt; encrypted = refl }; key_data = lt-ltb 0 (length key_data) w }
+message_sent M2 PskSha256 counter rsc nonce key_data w = record { version = refl; error = refl; request = refl; bits = record { pairwise = refl; install = refl; ack = refl; mic = refl; secure = tt; encrypted = refl }; key_data = lt-ltb 0 (length key_data) w }
+message_sent M2 FtPsk counter rsc nonce key_data w = record { version = refl; error = refl; request = refl; bits = record { pairwise = refl; install = refl; ack = refl; mic = refl; secure = tt; encrypted = refl }; key_data = lt-ltb 0 (length key_data) w }
+message_sent M3 Psk counter rsc nonce key_data w = record { version = refl; error = refl; request = refl; bits = record { pairwise = refl; install = refl; ack = refl; mic = refl; secure = refl; encrypted = refl }; key_data = tt }
+message_sent M3 PskSha256 counter rsc nonce key_data w = record { version = refl; error = refl; request = refl; bits = record { pairwise = refl; install = refl; ack = refl; mic = refl; secure = refl; encrypted = refl }; key_data = tt }
+message_sent M3 FtPsk counter rsc nonce key_data w = record { version = refl; error = refl; request = refl; bits = record { pairwise = refl; install = refl; ack = refl; mic = refl; secure = refl; encrypted = refl }; key_data = tt }
+message_sent M4 Psk counter rsc nonce key_data w = record { version = refl; error = refl; request = refl; bits = record { pairwise = refl; install = refl; ack = refl; mic = refl; secure = refl; encrypted = refl }; key_data = ap (λ (x : List ℕ). not (nat_lt 0 (length x))) w }
+message_sent M4 PskSha256 counter rsc nonce key_data w = record { version = refl; error = refl; request = refl; bits = record { pairwise = refl; install = refl; ack = refl; mic = refl; secure = refl; encrypted = refl }; key_data = ap (λ (x : List ℕ). not (nat_lt 0 (length x))) w }
+message_sent M4 FtPsk counter rsc nonce key_data w = record { version = refl; error = refl; request = refl; bits = record { pairwise = refl; install = refl; ack = refl; mic = refl; secure = refl; encrypted = refl }; key_data = ap (λ (x : List ℕ). not (nat_lt 0 (length x))) w }
+message_sent G1 Psk counter rsc nonce key_data w = record { version = refl; error = refl; request = refl; bits = record { pairwise = refl; install = refl; ack = refl; mic = refl; secure = refl; encrypted = refl }; key_data = tt }
+message_sent G1 PskSha256 counter rsc nonce key_data w = record { version = refl; error = refl; request = refl; bits = record { pairwise = refl; install = refl; ack = refl; mic = refl; secure = refl; encrypted = refl }; key_data = tt }
+message_sent G1 FtPsk counter rsc nonce key_data w = record { version = refl; error = refl; request = refl; bits = record { pairwise = refl; install = refl; ack = refl; mic = refl; secure = refl; encrypted = refl }; key_data = tt }
+message_sent G2 Psk counter rsc nonce key_data w = record { version = refl; error = refl; request = refl; bits = record { pairwise = refl; install = refl; ack = refl; mic = refl; secure = refl; encrypted = refl }; key_data = tt }
+message_sent G2 PskSha256 counter rsc nonce key_data w = record { version = refl; error = refl; request = refl; bits = record { pairwise = refl; install = refl; ack = refl; mic = refl; secure = refl; encrypted = refl }; key_data = tt }
+message_sent G2 FtPsk counter rsc nonce key_data w = record { version = refl; error = refl; request = refl; bits = record { pairwise = refl; install = refl; ack = refl; mic = refl; secure = refl; encrypted = refl }; key_data = tt }
+
+pub length-frame : (f : KeyFields) → FitsKeyFrame f → length (frame_octets f) ≡ 99 + length f.key_data
+unfolding frame_octets
+length-frame f fits = simp length-append (omega (arith, fits.nonce, fits.iv, fits.rsc, fits.reserved, fits.mic))
+
+abbrev pub key_message : Domain → Node → Node → Message → KeyFields → List ℕ → KeyMessage
+key_message d n p m f frame = record {
+  header = sent_header (data_header_octets (direction n) false None (address d p) (address d n) (bssid d n p)) (address d p) (address d n) (bssid d n p);
+  direction = direction n;
+  message = m;
+  fields = f;
+  octets = frame;
+}
+
+address-bssid : (d : Domain) (n p : Node) → IsAddress (address d n) → IsAddress (address d p) → IsAddress (bssid d n p)
+address-bssid d (Ap k) p l m = l
+address-bssid d (Sta k) p l m = m
+
+pub reads-key : (d : Domain) (n p : Node) (m : Message) (f : KeyFields) → IsAddress (address d n) → IsAddress (address d p) → FitsKeyFrame f → IsMessage d.akm m f
+    → Reads d.akm (in_data d n p (frame_octets f)) (Keyed (key_message d n p m f (frame_octets f)))
+reads-key d n p m f l k fits is = record {
+  body = frame_octets f;
+  frame = record {
+    tid = None;
+    spelled = eapol_data_sent (direction n) (address d p) (address d n) (bssid d n p) (frame_octets f) k l (address-bssid d n p l k);
+  };
+  used = 99 + length f.key_data;
+  spelled = subst (λ (x : List ℕ). SpellsKeyFrame x f (99 + length f.key_data)) (append-nil (frame_octets f)) (spelled_as_written f fits []);
+  is = is;
+  octets_are = sym (take_all (99 + length f.key_data) (frame_octets f) (omega (arith, length-frame f fits)));
+}
+
+abbrev pub m1_message : Domain → Node → Node → ℕ → List ℕ → KeyMessage
+m1_message d n p counter anonce = key_message d n p M1 (sent_fields M1 d.akm counter anonce 0 []) (frame_octets (sent_fields M1 d.akm counter anonce 0 []))
+
+pub reads-m1 : (d : Domain) (n p : Node) (counter : ℕ) (anonce : List ℕ) → IsAddress (address d n) → IsAddress (address d p) → counter < 2 ^ 64 → length anonce ≡ 32
+    → Reads d.akm (in_data d n p (frame_octets (sent_fields M1 d.akm counter anonce 0 []))) (Keyed (m1_message d n p counter anonce))
+reads-m1 d n p counter anonce l k c h =
+    reads-key d n p M1 (sent_fields M1 d.akm counter anonce 0 []) l k (sent_fits M1 d.akm counter 0 anonce [] c h (omega arith)) (message_sent M1 d.akm counter 0 anonce [] refl)
+
+-- ---- under a MIC
+
+-- under the suite a MIC has 16 octets
+abbrev pub HasMic : Akm → Type 0
+HasMic akm = (kck frame : List ℕ) → length (mic akm kck frame) ≡ 16
+
+pub has_mic-psk : HasMic Psk
+unfolding mic_sha1
+has_mic-psk kck frame = length-take-le 16 _ (omega (arith, length-hmac_sha1 kck (without_mic frame)))
+
+abbrev pub with_mic : Akm → List ℕ → KeyFields → KeyFields
+with_mic akm kck f = record f { mic = mic akm kck (frame_octets f) }
+
+fits-with_mic : (akm : Akm) (kck : List ℕ) (f : KeyFields) → HasMic akm → FitsKeyFrame f → FitsKeyFrame (with_mic akm kck f)
+fits-with_mic akm kck f has fits = record {
+  version_low = fits.version_low;
+  version_high = fits.version_high;
+  information = fits.information;
+  key_length = fits.key_length;
+  counter = fits.counter;
+  nonce = fits.nonce;
+  iv = fits.iv;
+  rsc = fits.rsc;
+  reserved = fits.reserved;
+  mic = has kck (frame_octets f);
+  key_data = fits.key_data;
+}
+
+message-with_mic : (akm : Akm) (kck : List ℕ) (m : Message) (f : KeyFields) → IsMessage akm m f → IsMessage akm m (with_mic akm kck f)
+message-with_mic akm kck m f is = record { version = is.version; error = is.error; request = is.request; bits = is.bits; key_data = is.key_data }
+
+pub reads-sealed : (d : Domain) (n p : Node) (m : Message) (kck : List ℕ) (f : KeyFields) → HasMic d.akm → IsAddress (address d n) → IsAddress (address d p) → FitsKeyFrame f → IsMessage d.akm m f
+    → Reads d.akm (in_data d n p (sealed d.akm kck (frame_octets f))) (Keyed (key_message d n p m (with_mic d.akm kck f) (sealed d.akm kck (frame_octets f))))
+reads-sealed d n p m kck f has l k fits is =
+    subst (λ (x : List ℕ). Reads d.akm (in_data d n p x) (Keyed (key_message d n p m (with_mic d.akm kck f) x))) (sym (sealed_fields d.akm kck f fits))
+    (reads-key d n p m (with_mic d.akm kck f) l k (fits-with_mic d.akm kck f has fits) (message-with_mic d.akm kck m f is))
+
+-- M2, before its MIC is put in
+abbrev pub m2_fields : Domain → Inputs → ℕ → KeyFields
+m2_fields d i counter = sent_fields M2 d.akm counter i.snonce 0 (rsne_octets d.akm None)
+
+pub fits-m2 : (d : Domain) (i : Inputs) (counter : ℕ) → counter < 2 ^ 64 → length i.snonce ≡ 32 → FitsKeyFrame (m2_fields d i counter)
+fits-m2 d i counter c h = sent_fits M2 d.akm counter 0 i.snonce (rsne_octets d.akm None) c h (omega arith)
+
+abbrev pub m2_message : Domain → Node → Node → Inputs → ℕ → KeyMessage
+m2_message d n p i counter = key_message d n p M2 (with_mic d.akm (ptk i).kck (m2_fields d i counter)) (m2_frame d i counter)
+
+pub reads-m2 : (d : Domain) (n p : Node) (i : Inputs) (counter : ℕ) → HasMic d.akm → IsAddress (address d n) → IsAddress (address d p) → counter < 2 ^ 64 → length i.snonce ≡ 32
+    → Reads d.akm (in_data d n p (m2_frame d i counter)) (Keyed (m2_message d n p i counter))
+reads-m2 d n p i counter has l k c h =
+    reads-sealed d n p M2 (ptk i).kck (m2_fields d i counter) has l k (fits-m2 d i counter c h) (message_sent M2 d.akm counter 0 i.snonce (rsne_octets d.akm None) (omega arith))
+
+-- its MIC is that of its octets
+pub mic-sealed : (akm : Akm) (kck : List ℕ) (f : KeyFields) → HasMic akm → FitsKeyFrame f → (with_mic akm kck f).mic ≡ mic akm kck (sealed akm kck (frame_octets f))
+mic-sealed akm kck f has fits = sym (sealed_mic akm kck (frame_octets f) (omega (arith, length-frame f fits)))
+
+-- ---- the replay counter of octets is that of the message that they read as
+pub reads-counter : (akm : Akm) (octets : List ℕ) (k : KeyMessage) → Reads akm octets (Keyed k) → replay_counter octets ≡ k.fields.counter
+reads-counter akm octets k reads =
+    let body : reads.body ≡ drop (data_header_length octets + 8) octets = cc (reads.frame.spelled.0) in
+    ap (λ (x : List ℕ). big_endian_at w64 9 x) (sym body) ∙ sym (ap (λ (x : KeyFields). x.counter) reads.spelled.fields)

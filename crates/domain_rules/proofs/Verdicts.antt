@@ -1,0 +1,111 @@
+-- The outcome by the answers to what is asked of the history, and what an accepted frame tells.
+use Rattle.std.proofs.Common.{◌≡◌, ℕ, ◌<◌, ◌≤◌, length, Bool, true, false, List, ◌∷◌, Option, Some, None, refl, subst}
+use Rattle.std.specs.Prelude.{not, ◌||◌, unwrap_or, ◌==◌, if◌then◌else◌}
+use Rattle.std.specs.List.{list_any}
+use Rattle.std.proofs.lemmas.Bool.{lt-ltb, le-ltb}
+use Rattle.std.proofs.lemmas.Slice.Eq.{bytes_eq-Decides}
+use Rattle.domain_base.specs.declared.names.Akm.{Akm}
+use Rattle.domain_base.specs.declared.names.Node.{Node}
+use Rattle.rsn_elements.specs.declared.framing.Within.{Within}
+use Rattle.rsn_elements.specs.Rsne.{RsneFields, SpellsRsne}
+use Rattle.rsn_elements.specs.Elements.{ElementFields, SpellsElements, IsRaw}
+use Rattle.rsn_elements.proofs.Unique.{has_raw}
+use Rattle.domain_rules.proofs.Peers.{not_same}
+use Rattle.mac_prf.specs.Mic.{mic}
+use Rattle.eapol_key.specs.declared.messages.Message.TheVariants.{M1, M2}
+use Rattle.key_hierarchy.specs.Keys.{ptk}
+use Rattle.run_journal.specs.declared.domain.Domain.{Domain}
+use Rattle.run_journal.specs.declared.acts.Kind.TheVariants as kind
+use Rattle.run_journal.specs.declared.acts.Reason.TheVariants as reason
+use Rattle.run_journal.specs.declared.acts.Outcome.{Outcome}
+use Rattle.run_journal.specs.declared.acts.Outcome.TheVariants.{Accepted, Refused}
+use Rattle.run_journal.specs.declared.acts.Act.{Act}
+use Rattle.run_journal.specs.Questions.{attempt, own_nonce}
+use Rattle.air_frame.specs.Fields.{HeaderFields}
+use Rattle.domain_rules.specs.Network.{inputs, peer_of, bssid, direction, goes_like}
+use Rattle.domain_rules.specs.Reading.{Management, KeyMessage, Managed, Keyed}
+use Rattle.domain_rules.specs.Verdict.{by_connect, has_heard, kept_counter, offered, greatest, above, among, verified, rsne_status, assoc_resp_verdict, m1_verdict, m2_verdict, first_verdict, is_mine, management_sender, management_verdict, key_verdict}
+
+-- ---- without an attempt nothing of it is awaited
+
+pub unawaited-assoc_resp : (h : List Act) (p : Node) (b : Management) → attempt p h ≡ None → assoc_resp_verdict h p b ≡ Refused reason.Unawaited
+unawaited-assoc_resp h p b s = rw s refl
+
+pub unawaited-m1 : (h : List Act) (p : Node) (k : KeyMessage) → attempt p h ≡ None → m1_verdict h p k ≡ Refused reason.Unawaited
+unawaited-m1 h p k s = rw s refl
+
+pub unawaited-m2 : (d : Domain) (n : Node) (h : List Act) (p : Node) (k : KeyMessage) → attempt p h ≡ None → m2_verdict d n h p k ≡ Refused reason.Unawaited
+unawaited-m2 d n h p k s = rw s refl
+
+-- ---- in an attempt by connect
+
+pub assoc_resp-in : (h : List Act) (p : Node) (b : Management) (part : List Act) (associated : Bool) → attempt p h ≡ Some part → by_connect part ≡ true → has_heard p kind.AssocResp part ≡ associated
+    → assoc_resp_verdict h p b ≡ (if associated then Refused reason.Unawaited else if b.status == 0 then Accepted else Refused (reason.Status b.status))
+assoc_resp-in h p b part associated s begun heard = rw (s, begun, heard) refl
+
+pub m1-in : (h : List Act) (p : Node) (k : KeyMessage) (part : List Act) (associated : Bool) (kept : Option ℕ) → attempt p h ≡ Some part → by_connect part ≡ true → has_heard p kind.AssocResp part ≡ associated → kept_counter p part ≡ kept
+    → m1_verdict h p k ≡ (if not associated then Refused reason.Unawaited else above kept k.fields.counter Accepted)
+m1-in h p k part associated kept s begun heard counter = rw (s, begun, heard, counter) refl
+
+pub m2-in : (d : Domain) (n : Node) (h : List Act) (p : Node) (k : KeyMessage) (part : List Act) (answered : Bool) (counters : List ℕ) (nonce : List ℕ)
+    → attempt p h ≡ Some part → by_connect part ≡ true → has_heard p (kind.Key M2) part ≡ answered → offered p M1 part ≡ counters → own_nonce part ≡ Some nonce
+    → m2_verdict d n h p k ≡ (if answered then Refused reason.Unawaited else among counters k.fields.counter (verified d.akm (ptk (inputs d n p nonce k.fields.nonce)).kck k Accepted))
+m2-in d n h p k part answered counters nonce s begun heard offers drawn = rw (s, begun, heard, offers, drawn) refl
+
+-- ---- the tests
+
+pub above-low : (kept counter : ℕ) (o : Outcome) → counter ≤ kept → above (Some kept) counter o ≡ Refused (reason.Counter kept)
+above-low kept counter o low = rw (le-ltb kept counter low) refl
+
+pub above-high : (kept counter : ℕ) (o : Outcome) → kept < counter → above (Some kept) counter o ≡ o
+above-high kept counter o high = rw (lt-ltb kept counter high) refl
+
+pub among-one : (counters : List ℕ) (counter : ℕ) (o : Outcome) → list_any (λ c. c == counter) counters ≡ true → among counters counter o ≡ o
+among-one counters counter o is = rw is refl
+
+pub among-none : (counters : List ℕ) (counter : ℕ) (o : Outcome) → list_any (λ c. c == counter) counters ≡ false → among counters counter o ≡ Refused (reason.Counter (unwrap_or (greatest counters) 0))
+among-none counters counter o none = rw none refl
+
+pub verified-same : (akm : Akm) (kck : List ℕ) (k : KeyMessage) (o : Outcome) → k.fields.mic ≡ mic akm kck k.octets → verified akm kck k o ≡ o
+verified-same akm kck k o same = rw ((bytes_eq-Decides k.fields.mic (mic akm kck k.octets)).1 same) refl
+
+pub verified-other : (akm : Akm) (kck : List ℕ) (k : KeyMessage) (o : Outcome) → (k.fields.mic ≡ mic akm kck k.octets → ⊥) → verified akm kck k o ≡ Refused reason.Mic
+verified-other akm kck k o other = rw (not_same k.fields.mic (mic akm kck k.octets) other) refl
+
+-- ---- an RSNE that is not refused is there, and so are its octets
+
+status-some : (akm : Akm) (r : Option RsneFields) → rsne_status akm r ≡ None → (f : RsneFields) × (r ≡ Some f)
+status-some akm None s = cc
+status-some akm (Some f) s = (f, refl)
+
+pub accepted-rsne : (akm : Akm) (within : Within) (octets : List ℕ) (e : ElementFields) → SpellsElements within octets e → rsne_status akm e.rsne ≡ None → (rsne : List ℕ) × (e.rsne_octets ≡ Some rsne)
+accepted-rsne akm within octets e spelled s =
+    let some = status-some akm e.rsne s in
+    let raw = subst (λ (o : Option RsneFields). IsRaw 0x30 SpellsRsne o e.rsne_octets) some.1 (has_raw within octets e spelled).rsne in
+    (0x30 ∷ length raw.0 ∷ raw.0, raw.1)
+
+-- ---- who a frame is for and from
+
+pub managed-not_mine : (d : Domain) (first : ℕ) (n : Node) (h : List Act) (b : Management) (e : ElementFields) → is_mine d n b.header ≡ false → first_verdict d first n h (Managed b e) ≡ Refused reason.NotForMe
+managed-not_mine d first n h b e mine = rw mine refl
+
+pub managed-unknown : (d : Domain) (first : ℕ) (n : Node) (h : List Act) (b : Management) (e : ElementFields) → is_mine d n b.header ≡ true → management_sender d n b.header ≡ None → first_verdict d first n h (Managed b e) ≡ Refused reason.UnknownPeer
+managed-unknown d first n h b e mine from = rw (mine, from) refl
+
+pub managed-from : (d : Domain) (first : ℕ) (n : Node) (h : List Act) (b : Management) (e : ElementFields) (p : Node) → is_mine d n b.header ≡ true → management_sender d n b.header ≡ Some p
+    → first_verdict d first n h (Managed b e) ≡ management_verdict d first n h p b.kind b e
+managed-from d first n h b e p mine from = rw (mine, from) refl
+
+pub keyed-not_mine : (d : Domain) (first : ℕ) (n : Node) (h : List Act) (k : KeyMessage) → (not (is_mine d n k.header) || goes_like k.direction (direction n)) ≡ true → first_verdict d first n h (Keyed k) ≡ Refused reason.NotForMe
+keyed-not_mine d first n h k other = rw other refl
+
+pub keyed-unknown : (d : Domain) (first : ℕ) (n : Node) (h : List Act) (k : KeyMessage) → (not (is_mine d n k.header) || goes_like k.direction (direction n)) ≡ false → peer_of d n k.header.a2 ≡ None → first_verdict d first n h (Keyed k) ≡ Refused reason.UnknownPeer
+keyed-unknown d first n h k mine from = rw (mine, from) refl
+
+pub keyed-from : (d : Domain) (first : ℕ) (n : Node) (h : List Act) (k : KeyMessage) (p : Node) → (not (is_mine d n k.header) || goes_like k.direction (direction n)) ≡ false → peer_of d n k.header.a2 ≡ Some p
+    → first_verdict d first n h (Keyed k) ≡ key_verdict d n h p k.message k
+keyed-from d first n h k p mine from = rw (mine, from) refl
+
+-- the sender of a management frame
+pub management-from : (d : Domain) (n p : Node) (header : HeaderFields) → peer_of d n header.a2 ≡ Some p → header.a3 ≡ bssid d n p → management_sender d n header ≡ Some p
+management-from d n p header from same = rw (from, (bytes_eq-Decides header.a3 (bssid d n p)).1 same) refl

@@ -1,0 +1,31 @@
+-- The replay counter that an access point uses next with a station (IEEE Std 802.11-2020, 12.7.2; where it starts is this
+-- project's choice).
+use Rattle.std.specs.Prelude.{ℕ, suc, ◌+◌, cond, List, [], ◌∷◌, length, Option, Some, None, is_some, if◌then◌else◌}
+use Rattle.domain_base.specs.declared.names.Node.{Node}
+use Rattle.eapol_key.specs.declared.messages.Message.{Message}
+use Rattle.eapol_key.specs.declared.messages.Message.TheVariants.{M1, M3, G1}
+use Rattle.run_journal.specs.declared.acts.Kind.TheVariants.{Key}
+use Rattle.run_journal.specs.declared.acts.Act.{Act}
+use Rattle.run_journal.specs.Acts.{finishes, sent}
+use Rattle.run_journal.specs.Questions.{attempt, all_sent}
+use Rattle.domain_rules.specs.Verdict.{by_connect}
+
+-- how many of a message were sent to p
+abbrev pub sent_count : Node → Message → List Act → ℕ
+sent_count p m h = length (all_sent p (Key m) h)
+
+-- in an attempt by a four-way handshake, of which this is the history: one more than its M1 and M3
+abbrev pub next_in_attempt : Node → List Act → ℕ
+next_in_attempt p part = suc (sent_count p M1 part + sent_count p M3 part)
+
+-- a session goes on from its four-way handshake, and begins at 1 after a fast transition
+abbrev pub first_in_session : Node → Option (List Act) → ℕ
+first_in_session p None = 1
+first_in_session p (Some part) = if by_connect part then next_in_attempt p part else 1
+
+-- in a session: each G1 sent since it began counts
+abbrev pub next_in_session : Node → List Act → ℕ
+next_in_session p [] = 1
+next_in_session p (e ∷ h) =
+    cond (finishes p e) (first_in_session p (attempt p h))
+    (cond (is_some (sent p (Key G1) e)) (suc (next_in_session p h)) (next_in_session p h))

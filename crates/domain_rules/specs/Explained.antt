@@ -1,0 +1,68 @@
+-- Which journals a script's rounds explain. Journals, histories and rounds are NEWEST FIRST.
+use Rattle.std.specs.Prelude.{◌≡◌, ℕ, zero, suc, ◌<◌, cond, List, [], ◌∷◌, length, Option}
+use Rattle.domain_base.specs.declared.names.Node.{Node}
+use Rattle.domain_base.specs.declared.names.Node.TheVariants.{Ap, Sta}
+use Rattle.run_journal.specs.declared.domain.Domain.{Domain}
+use Rattle.run_journal.specs.declared.domain.Event.{Event}
+use Rattle.run_journal.specs.declared.domain.Event.TheVariants.{Connect, Deliver}
+use Rattle.run_journal.specs.declared.acts.Act.{Act}
+use Rattle.run_journal.specs.declared.acts.Act.TheVariants.{Sent}
+use Rattle.domain_base.specs.declared.names.Peer.{Peer}
+use Rattle.run_journal.specs.declared.acts.Kind.{Kind}
+use Rattle.run_journal.specs.declared.acts.Seal.{Seal}
+use Rattle.run_journal.specs.declared.acts.Entry.{Entry}
+use Rattle.run_journal.specs.Acts.{is_sent}
+use Rattle.run_journal.specs.Questions.{history}
+use Rattle.run_journal.specs.Premises.{In}
+use Rattle.domain_rules.specs.Rows.{NodeEvent, Take, Begin, Adds, start_acts}
+
+-- how many frames were sent
+abbrev pub frames : List Entry → ℕ
+frames [] = 0
+frames (e ∷ past) = cond (is_sent e.act) (suc (frames past)) (frames past)
+
+-- the number of an act: the next frame's number for a frame sent, else 0
+abbrev pub number_of : Act → List Entry → ℕ
+number_of act past = cond (is_sent act) (suc (frames past)) 0
+
+-- acts of one node in one round, put on the journal in order
+abbrev pub push : ℕ → Node → List Act → List Entry → List Entry
+push round n [] past = past
+push round n (act ∷ g) past = push round n g (record { round = round; node = n; number = number_of act past; act = act } ∷ past)
+
+-- the frame of that number was sent before that round, with these octets
+pub record WasSent (past : List Entry) (round number : ℕ) (octets : List ℕ) : Type 0 where
+  pub entry : Entry
+  pub there : In entry past
+  pub earlier : entry.round < round
+  pub is : entry.number ≡ number
+  pub act : (p : Peer) × ((k : Kind) × ((s : Option Seal) × (entry.act ≡ Sent p k octets s)))
+
+-- what the event is, and at which node, in that round after that journal
+abbrev pub Happens : Event → List Entry → ℕ → Node → NodeEvent → Type 0
+Happens (Connect s a) past round n event = (n ≡ Sta s) × (event ≡ Begin a)
+Happens (Deliver number to) past round n event = (octets : List ℕ) × (WasSent past round number octets × ((n ≡ to) × (event ≡ Take octets)))
+
+-- one event in that round takes the old journal to the new one
+pub record Step (d : Domain) (round : ℕ) (event : Event) (old new : List Entry) : Type 0 where
+  pub node : Node
+  pub at_node : NodeEvent
+  pub happens : Happens event old round node at_node
+  pub acts : List Act
+  pub group : Adds d 0 node (history node old) at_node acts
+  pub is : new ≡ push round node acts old
+
+-- the events of a round, one after the other
+abbrev pub Follows : Domain → ℕ → List Event → List Entry → List Entry → Type 0
+Follows d round [] old new = new ≡ old
+Follows d round (event ∷ events) old new = (mid : List Entry) × (Step d round event old mid × Follows d round events mid new)
+
+-- round 0: the first so many access points start, in order
+unfoldable pub started : Domain → ℕ → List Entry
+started d zero = []
+started d (suc k) = push 0 (Ap k) (start_acts d 0 (Ap k)) (started d k)
+
+-- the journal of these rounds, the last first; each has its events in order
+unfoldable pub Explained : Domain → List (List Event) → List Entry → Type 0
+Explained d [] j = j ≡ started d (length d.aps)
+Explained d (round ∷ rounds) j = (old : List Entry) × (Explained d rounds old × Follows d (suc (length rounds)) round old j)

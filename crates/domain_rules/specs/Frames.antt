@@ -1,0 +1,65 @@
+-- Every octet of the frames that nodes send (IEEE Std 802.11-2020, 9.3, 9.4.2 and 12.7.6; order and choice of elements
+-- are this project's).
+use Rattle.std.specs.Prelude.{ℕ, suc, ◌+◌, List, [], ◌∷◌, ◌++◌, Some, None}
+use Rattle.domain_base.specs.declared.names.Node.{Node}
+use Rattle.domain_base.specs.declared.names.Node.TheVariants.{Ap, Sta}
+use Rattle.domain_base.specs.declared.names.Peer.TheVariants.{One}
+use Rattle.air_frame.specs.Sent.{assoc_req_octets, assoc_resp_octets, eapol_data_octets}
+use Rattle.rsn_elements.specs.Sent.{ssid_octets, rates_octets, rsne_octets}
+use Rattle.mac_prf.specs.Mic.{without_mic}
+use Rattle.eapol_key.specs.declared.messages.Message.{Message}
+use Rattle.eapol_key.specs.declared.messages.Message.TheVariants.{M1, M2}
+use Rattle.eapol_key.specs.Octets.{frame_octets}
+use Rattle.eapol_key.specs.Sent.{sent_fields}
+use Rattle.eapol_key.specs.Sealed.{sealed}
+use Rattle.key_hierarchy.specs.Keys.{ptk}
+use Rattle.key_hierarchy.specs.declared.inputs.Inputs.{Inputs}
+use Rattle.run_journal.specs.declared.domain.Domain.{Domain}
+use Rattle.run_journal.specs.declared.acts.Kind.TheVariants as kind
+use Rattle.run_journal.specs.declared.acts.Seal.{Seal}
+use Rattle.run_journal.specs.declared.acts.Act.{Act}
+use Rattle.run_journal.specs.declared.acts.Act.TheVariants.{Sent}
+use Rattle.domain_rules.specs.Network.{address, bssid, direction}
+
+-- SSID, rates, RSNE
+abbrev pub assoc_req_elements : Domain → List ℕ
+assoc_req_elements d = ssid_octets d.ssid ++ rates_octets ++ rsne_octets d.akm None
+
+-- from station n to access point p
+abbrev pub sent_assoc_req : Domain → Node → Node → Act
+sent_assoc_req d n p = Sent (One p) kind.AssocReq (assoc_req_octets (address d p) (address d n) (address d p) (assoc_req_elements d)) None
+
+-- the association identifier of a station: its place from 1, with bits 14 and 15 set (9.4.1.8)
+abbrev pub aid : Node → ℕ
+aid (Ap k) = 0
+aid (Sta k) = 49152 + suc k
+
+-- from access point n to station p: with status 0 its AID and rates
+abbrev pub sent_assoc_resp : Domain → Node → Node → Act
+sent_assoc_resp d n p = Sent (One p) kind.AssocResp (assoc_resp_octets (address d p) (address d n) (address d n) 0 (aid p) rates_octets) None
+
+-- with another status neither
+abbrev pub sent_refusal : Domain → Node → Node → ℕ → Act
+sent_refusal d n p status = Sent (One p) kind.AssocResp (assoc_resp_octets (address d p) (address d n) (address d n) status 0 []) None
+
+-- an EAPOL-Key frame from n to p in a data frame
+abbrev pub in_data : Domain → Node → Node → List ℕ → List ℕ
+in_data d n p frame = eapol_data_octets (direction n) (address d p) (address d n) (bssid d n p) frame
+
+-- what the MIC of an EAPOL-Key frame covers
+abbrev pub frame_seal : List ℕ → List ℕ → Seal
+frame_seal kck frame = record { octets = 1 ∷ without_mic frame; key = kck }
+
+abbrev pub sent_sealed : Domain → Node → Node → Message → List ℕ → List ℕ → Act
+sent_sealed d n p m kck frame = Sent (One p) (kind.Key m) (in_data d n p frame) (Some (frame_seal kck frame))
+
+-- M1: no MIC, no key data
+abbrev pub sent_m1 : Domain → Node → Node → ℕ → List ℕ → Act
+sent_m1 d n p counter anonce = Sent (One p) (kind.Key M1) (in_data d n p (frame_octets (sent_fields M1 d.akm counter anonce 0 []))) None
+
+-- M2: the RSNE as in the association request
+abbrev pub m2_frame : Domain → Inputs → ℕ → List ℕ
+m2_frame d i counter = sealed d.akm (ptk i).kck (frame_octets (sent_fields M2 d.akm counter i.snonce 0 (rsne_octets d.akm None)))
+
+abbrev pub sent_m2 : Domain → Node → Node → Inputs → ℕ → Act
+sent_m2 d n p i counter = sent_sealed d n p M2 (ptk i).kck (m2_frame d i counter)

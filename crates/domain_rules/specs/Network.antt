@@ -1,0 +1,117 @@
+-- The network: addresses, what is drawn, and what keys are made of.
+use Rattle.std.specs.Prelude.{ℕ, ◌≡◌, ◌≢◌, ◌<◌, ◌≤◌, ◌%◌, Bool, true, false, List, [], ◌∷◌, ◌++◌, length, slice_index, Option, option_map, unwrap_or, slice_get, position, bytes_eq, codes}
+use Rattle.std.specs.List.{AllByRecursion}
+use Rattle.std.specs.Int.{w64, to_be_bytes}
+use Rattle.domain_base.specs.declared.names.Mac.{Mac}
+use Rattle.domain_base.specs.declared.names.Node.{Node}
+use Rattle.domain_base.specs.declared.names.Node.TheVariants.{Ap, Sta}
+use Rattle.air_frame.specs.declared.frame.Direction.{Direction}
+use Rattle.air_frame.specs.declared.frame.Direction.TheVariants.{ToDs, FromDs}
+use Rattle.mac_prf.specs.Prf.{kdf}
+use Rattle.key_hierarchy.specs.declared.inputs.Inputs.{Inputs}
+use Rattle.run_journal.specs.declared.domain.Domain.{Domain}
+use Rattle.run_journal.specs.declared.domain.ListedAp.{ListedAp}
+
+-- a node's address: an access point's is its BSSID
+abbrev pub mac : Domain → Node → Mac
+mac d (Ap k) = unwrap_or (option_map (λ (a : ListedAp). a.address) (slice_get d.aps k)) (record { 0 = [] })
+mac d (Sta k) = unwrap_or (slice_get d.stas k) (record { 0 = [] })
+
+-- its six octets
+abbrev pub address : Domain → Node → List ℕ
+address d n = (mac d n).0
+
+-- the listed node of the other kind that has this address
+abbrev pub peer_of : Domain → Node → List ℕ → Option Node
+peer_of d (Ap k) octets = option_map (λ i. Sta i) (position (λ (m : Mac). bytes_eq m.0 octets) d.stas)
+peer_of d (Sta k) octets = option_map (λ i. Ap i) (position (λ (a : ListedAp). bytes_eq a.address.0 octets) d.aps)
+
+abbrev pub is_ap : Node → Bool
+is_ap (Ap k) = true
+is_ap (Sta k) = false
+
+-- the way in which a node sends data, to or from the distribution system (IEEE Std 802.11-2020, 9.2.4.1.4)
+abbrev pub direction : Node → Direction
+direction (Ap k) = FromDs
+direction (Sta k) = ToDs
+
+abbrev pub goes_like : Direction → Direction → Bool
+goes_like ToDs ToDs = true
+goes_like FromDs FromDs = true
+goes_like ToDs FromDs = false
+goes_like FromDs ToDs = false
+
+-- of a node and its peer, the access point's BSSID
+abbrev pub bssid : Domain → Node → Node → List ℕ
+bssid d (Ap k) p = address d (Ap k)
+bssid d (Sta k) p = address d p
+
+-- the n-th value that a node draws, from 0 (this project's choice; compare 12.7.5 and J.5): a nonce
+unfoldable pub nonce : Domain → Node → ℕ → List ℕ
+nonce d n i = kdf d.seed (codes "Init Counter") (address d n ++ to_be_bytes w64 i) 32
+
+-- and a group key
+unfoldable pub gtk : Domain → Node → ℕ → List ℕ
+gtk d n i = kdf d.seed (codes "Group key expansion") (address d n ++ to_be_bytes w64 i) 16
+
+-- the number of draws at which a node draws no more (this project's choice): 2^60
+abbrev pub last_draw : ℕ
+last_draw = 1152921504606846976
+
+-- what the pairwise key of a node with its peer is made of, by its own nonce and the other's; suites 2 and 6
+abbrev pub inputs : Domain → Node → Node → List ℕ → List ℕ → Inputs
+inputs d (Ap k) p own other = record {
+  akm = d.akm;
+  psk = d.psk;
+  ssid = d.ssid;
+  mdid = 0 ∷ 0 ∷ [];
+  r0kh_id = [];
+  aa = mac d (Ap k);
+  spa = mac d p;
+  anonce = own;
+  snonce = other;
+}
+inputs d (Sta k) p own other = record {
+  akm = d.akm;
+  psk = d.psk;
+  ssid = d.ssid;
+  mdid = 0 ∷ 0 ∷ [];
+  r0kh_id = [];
+  aa = mac d p;
+  spa = mac d (Sta k);
+  anonce = other;
+  snonce = own;
+}
+
+-- six octets that are an address of one node: neither zero nor a group's
+abbrev pub IsUnicast : List ℕ → Type 0
+IsUnicast octets = (octets ≢ 0 ∷ 0 ∷ 0 ∷ 0 ∷ 0 ∷ 0 ∷ []) × (slice_index octets 0 % 2 ≡ 0)
+
+-- the address is in neither list
+pub record IsNew (aps : List ListedAp) (stas : List Mac) (address : Mac) : Type 0 where
+  pub no_ap : AllByRecursion (λ (a : ListedAp). a.address ≢ address) aps
+  pub no_sta : AllByRecursion (λ (m : Mac). m ≢ address) stas
+
+-- addresses are of one node each and differ, R0KH-IDs have 1 to 48 octets and differ
+abbrev pub AreAps : List ListedAp → Type 0
+AreAps [] = Unit {0}
+AreAps (a ∷ aps) = IsUnicast a.address.0 × (1 ≤ length a.r0kh_id) × (length a.r0kh_id ≤ 48) × AllByRecursion (λ (b : ListedAp). b.address ≢ a.address) aps
+    × AllByRecursion (λ (b : ListedAp). b.r0kh_id ≢ a.r0kh_id) aps × AreAps aps
+
+abbrev pub AreStas : List ListedAp → List Mac → Type 0
+AreStas aps [] = Unit {0}
+AreStas aps (m ∷ stas) = IsUnicast m.0 × IsNew aps stas m × AreStas aps stas
+
+-- the network is in form: at most 16 access points and 64 stations (this project's limits)
+pub record InForm (d : Domain) : Type 0 where
+  pub some : 1 ≤ length d.ssid
+  pub few : length d.ssid ≤ 32
+  pub aps : AreAps d.aps
+  pub stas : AreStas d.aps d.stas
+  pub few_aps : length d.aps ≤ 16
+  pub few_stas : length d.stas ≤ 64
+
+-- the node is listed
+abbrev pub IsListed : Domain → Node → Type 0
+IsListed d (Ap k) = k < length d.aps
+IsListed d (Sta k) = k < length d.stas

@@ -1,0 +1,6 @@
+//! What the nodes of a domain do, as definitions over their histories.
+#![tactic(auto)]
+
+mod laws;
+
+pub use laws::{first_path_is_explained, one_group, one_journal, one_reading};

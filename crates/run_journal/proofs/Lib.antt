@@ -1,0 +1,6 @@
+pub mod Links
+pub mod Walks
+pub mod Members
+pub mod Agreement
+pub mod Found
+pub mod Rooms

@@ -1,0 +1,20 @@
+-- What a journal keeps stays right.
+use Rattle.std.proofs.Common.{◌≡◌, ◌<◌, ◌+◌, ◌-◌, ℕ, List, [], ◌∷◌, ◌++◌, reverse, sym, subst, arith}
+use Rattle.std.proofs.lemmas.List.{reverse-append}
+use Rattle.run_journal.specs.declared.acts.Entry.{Entry}
+use Rattle.run_journal.specs.declared.index.Index.{Index}
+use Rattle.run_journal.specs.declared.premises.Premises.{Premises}
+use Rattle.run_journal.specs.Looking.{Indexed, IndexHasRoom, IsRight}
+use Rattle.run_journal.specs.Report.{Decides}
+
+-- one more entry
+pub IsRight-push : (entries : List Entry) (entry : Entry) (old new : Index) (spare : ℕ) (before now : Premises) → IsRight entries old spare before → 0 < spare → ((es : List Entry) → Indexed es old → Indexed (es ++ entry ∷ []) new) → ((n : ℕ) → IndexHasRoom (n + 1) old → IndexHasRoom n new) → Decides (entry ∷ reverse entries) now → IsRight (entries ++ entry ∷ []) new (spare - 1) now
+IsRight-push entries entry old new spare before now right some indexed room decides = record {
+  indexed = indexed entries right.indexed;
+  room = let e : spare ≡ spare - 1 + 1 = omega arith in room (spare - 1) (subst (λ (n : ℕ). IndexHasRoom n old) e right.room);
+  decides = subst (λ (es : List Entry). Decides es now) (sym (reverse-append entries (entry ∷ []))) decides;
+}
+
+-- another index of the same entries, with room for so many
+pub IsRight-room : (entries : List Entry) (old new : Index) (spare room : ℕ) (premises : Premises) → IsRight entries old spare premises → ((es : List Entry) → Indexed es old → Indexed es new) → IndexHasRoom room new → IsRight entries new room premises
+IsRight-room entries old new spare room premises right indexed roomy = record { indexed = indexed entries right.indexed; room = roomy; decides = right.decides }

@@ -1,0 +1,133 @@
+-- Tests on one act of a node.
+use Rattle.std.specs.Prelude.{ℕ, ◌==◌, Bool, true, false, cond, List, Option, Some, None}
+use Rattle.domain_base.specs.declared.names.Node.{Node}
+use Rattle.domain_base.specs.declared.names.Node.TheVariants.{Ap, Sta}
+use Rattle.domain_base.specs.declared.names.Peer.{Peer}
+use Rattle.domain_base.specs.declared.names.Peer.TheVariants.{One, All}
+use Rattle.eapol_key.specs.declared.messages.Message.{Message}
+use Rattle.eapol_key.specs.declared.messages.Message.TheVariants.{M1, M2, M3, M4, G1, G2}
+use Rattle.key_hierarchy.specs.declared.inputs.Inputs.{Inputs}
+use Rattle.key_hierarchy.specs.declared.inputs.Ptk.{Ptk}
+use Rattle.run_journal.specs.declared.acts.Part.TheVariants.{Attempt, Session}
+use Rattle.run_journal.specs.declared.acts.Drawn.TheVariants.{Nonce, Gtk}
+use Rattle.run_journal.specs.declared.acts.Kind.{Kind}
+use Rattle.run_journal.specs.declared.acts.Kind.TheVariants as kind
+use Rattle.run_journal.specs.declared.acts.Outcome.TheVariants.{Accepted, Answered}
+use Rattle.run_journal.specs.declared.acts.Key.{Key}
+use Rattle.run_journal.specs.declared.acts.Key.TheVariants.{Pairwise, Group}
+use Rattle.run_journal.specs.declared.acts.Act.{Act}
+use Rattle.run_journal.specs.declared.acts.Act.TheVariants.{Opened, Closed, Drew, Derived, Sent, Took, Installed, Finished}
+
+abbrev pub same : Node → Node → Bool
+same (Ap k) (Ap m) = k == m
+same (Sta k) (Sta m) = k == m
+same (Ap k) (Sta m) = false
+same (Sta k) (Ap m) = false
+
+-- the peer is this node alone
+abbrev pub is_one : Node → Peer → Bool
+is_one p (One q) = same p q
+is_one p All = false
+
+abbrev pub message_number : Message → ℕ
+message_number M1 = 1
+message_number M2 = 2
+message_number M3 = 3
+message_number M4 = 4
+message_number G1 = 5
+message_number G2 = 6
+
+-- kinds told apart by numbers
+abbrev pub kind_number : Kind → ℕ
+kind_number (kind.Key m) = message_number m
+kind_number kind.AssocReq = 7
+kind_number kind.AssocResp = 8
+kind_number kind.FtReq = 9
+kind_number kind.FtResp = 10
+kind_number kind.ReReq = 11
+kind_number kind.ReResp = 12
+kind_number kind.Data = 13
+kind_number kind.Ignored = 14
+kind_number kind.Unread = 15
+kind_number kind.Eapol = 16
+
+abbrev pub same_kind : Kind → Kind → Bool
+same_kind k m = kind_number k == kind_number m
+
+-- an attempt with p begins
+abbrev pub opens : Node → Act → Bool
+opens p (Opened q s) = same p q
+opens p _ = false
+
+-- of two attempts with p: at a station, which has one at most, whoever the peer is
+abbrev pub is_same_attempt : Node → Node → Bool
+is_same_attempt (Ap k) q = true
+is_same_attempt (Sta k) q = same (Sta k) q
+
+-- the attempt with p ends
+abbrev pub ends : Node → Act → Bool
+ends p (Closed q Attempt) = is_same_attempt p q
+ends p (Finished q i) = is_same_attempt p q
+ends p _ = false
+
+-- the session with p ends
+abbrev pub closes : Node → Act → Bool
+closes p (Closed q Session) = same p q
+closes p _ = false
+
+abbrev pub finishes : Node → Act → Bool
+finishes p (Finished q i) = same p q
+finishes p _ = false
+
+-- a nonce was drawn
+abbrev pub nonce_drawn : Act → Option (List ℕ)
+nonce_drawn (Drew (Nonce v)) = Some v
+nonce_drawn _ = None
+
+-- a group key was drawn
+abbrev pub gtk_drawn : Act → Option (List ℕ)
+gtk_drawn (Drew (Gtk v)) = Some v
+gtk_drawn _ = None
+
+-- a key by its inputs
+pub record Derivation : Type 0 where
+  pub inputs : Inputs
+  pub ptk : Ptk
+
+abbrev pub derived : Node → Act → Option Derivation
+derived p (Derived q i k) = cond (same p q) (Some (record { inputs = i; ptk = k })) None
+derived p _ = None
+
+abbrev pub is_from : Node → Option Node → Bool
+is_from p (Some q) = same p q
+is_from p None = false
+
+-- a frame of that kind from p was accepted: its octets
+abbrev pub accepted : Node → Kind → Act → Option (List ℕ)
+accepted p k (Took from octets m Accepted s) = cond (is_from p from) (cond (same_kind k m) (Some octets) None) None
+accepted p k _ = None
+
+-- a frame of that kind from p was accepted or answered: its octets
+abbrev pub replied : Node → Kind → Act → Option (List ℕ)
+replied p k (Took from octets m Accepted s) = cond (is_from p from) (cond (same_kind k m) (Some octets) None) None
+replied p k (Took from octets m Answered s) = cond (is_from p from) (cond (same_kind k m) (Some octets) None) None
+replied p k _ = None
+
+-- a frame of that kind was sent to p: its octets
+abbrev pub sent : Node → Kind → Act → Option (List ℕ)
+sent p k (Sent q m octets s) = cond (is_one p q) (cond (same_kind k m) (Some octets) None) None
+sent p k _ = None
+
+abbrev pub is_sent : Act → Bool
+is_sent (Sent q m octets s) = true
+is_sent _ = false
+
+-- the octets that are the key
+abbrev pub key_octets : Key → List ℕ
+key_octets (Pairwise tk i) = tk
+key_octets (Group gtk id b) = gtk
+
+-- a group key was installed with all: it is the access point's current one
+abbrev pub switched : Act → Option (List ℕ)
+switched (Installed All (Group gtk id b)) = Some gtk
+switched _ = None

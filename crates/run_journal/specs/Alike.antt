@@ -1,0 +1,40 @@
+-- Entries that differ in keys, derived or drawn values and sealed octets alone.
+use Rattle.std.specs.Prelude.{ℕ, ◌≡◌, List, [], ◌∷◌, Option}
+use Rattle.key_hierarchy.specs.declared.inputs.Inputs.{Inputs}
+use Rattle.key_hierarchy.specs.declared.inputs.Ptk.{Ptk}
+use Rattle.run_journal.specs.declared.acts.Drawn.{Drawn}
+use Rattle.run_journal.specs.declared.acts.Seal.{Seal}
+use Rattle.run_journal.specs.declared.acts.Key.{Key}
+use Rattle.run_journal.specs.declared.acts.Key.TheVariants.{Pairwise, Group}
+use Rattle.run_journal.specs.declared.acts.Act.{Act}
+use Rattle.run_journal.specs.declared.acts.Act.TheVariants.{Drew, Derived, Sent, Took, Installed, Resumed, Used, HandedUp, Finished}
+use Rattle.run_journal.specs.declared.acts.Entry.{Entry}
+
+-- two keys of one kind, and group keys of one id
+abbrev pub AlikeKeys : Key → Key → Type 0
+AlikeKeys (Pairwise tk i) b = (tk' : List ℕ) × ((i' : Inputs) × (b ≡ Pairwise tk' i'))
+AlikeKeys (Group gtk id bssid) b = (gtk' : List ℕ) × (b ≡ Group gtk' id bssid)
+
+-- the second act is the first with any other keys, derived or drawn values and sealed octets
+abbrev pub AlikeActs : Act → Act → Type 0
+AlikeActs (Drew v) b = (v' : Drawn) × (b ≡ Drew v')
+AlikeActs (Derived p i k) b = (i' : Inputs) × ((k' : Ptk) × (b ≡ Derived p i' k'))
+AlikeActs (Sent p k octets s) b = (s' : Option Seal) × (b ≡ Sent p k octets s')
+AlikeActs (Took from octets k o s) b = (s' : Option Seal) × (b ≡ Took from octets k o s')
+AlikeActs (Installed p key) b = (key' : Key) × (AlikeKeys key key' × (b ≡ Installed p key'))
+AlikeActs (Resumed p key) b = (key' : Key) × (AlikeKeys key key' × (b ≡ Resumed p key'))
+AlikeActs (Used p key id n octets) b = (key' : List ℕ) × (b ≡ Used p key' id n octets)
+AlikeActs (HandedUp p key id tid n octets) b = (key' : List ℕ) × (b ≡ HandedUp p key' id tid n octets)
+AlikeActs (Finished p i) b = (i' : Inputs) × (b ≡ Finished p i')
+AlikeActs a b = b ≡ a
+
+pub record AlikeEntries (a b : Entry) : Type 0 where
+  pub round : b.round ≡ a.round
+  pub node : b.node ≡ a.node
+  pub number : b.number ≡ a.number
+  pub act : AlikeActs a.act b.act
+
+-- entry by entry
+abbrev pub AlikeJournals : List Entry → List Entry → Type 0
+AlikeJournals [] k = k ≡ []
+AlikeJournals (a ∷ j) k = (b : Entry) × ((l : List Entry) × ((k ≡ b ∷ l) × (AlikeEntries a b × AlikeJournals j l)))

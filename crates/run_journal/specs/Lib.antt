@@ -1,0 +1,9 @@
+pub mod Acts
+pub mod Questions
+pub mod Premises
+pub mod Safe
+pub mod Report
+pub mod Alike
+pub mod Kept
+pub mod Chained
+pub mod Looking

@@ -1,0 +1,100 @@
+-- Questions to the history of one node: the list of its acts, NEWEST FIRST.
+use Rattle.std.specs.Prelude.{ℕ, suc, Bool, true, false, cond, List, [], ◌∷◌, Option, Some, None}
+use Rattle.domain_base.specs.declared.names.Node.{Node}
+use Rattle.run_journal.specs.declared.acts.Kind.{Kind}
+use Rattle.run_journal.specs.declared.acts.Part.TheVariants.{Attempt, Session}
+use Rattle.run_journal.specs.declared.acts.Act.{Act}
+use Rattle.run_journal.specs.declared.acts.Act.TheVariants.{Opened, Closed, Finished, Drew}
+use Rattle.run_journal.specs.declared.acts.Entry.{Entry}
+use Rattle.run_journal.specs.Acts.{same, opens, ends, closes, finishes, nonce_drawn, gtk_drawn, switched, Derivation, derived, accepted, replied, sent}
+
+-- the acts of one node in a journal
+abbrev pub history : Node → List Entry → List Act
+history n [] = []
+history n (e ∷ past) = cond (same n e.node) (e.act ∷ history n past) (history n past)
+
+abbrev pub or_else : {A : Type 0} → Option A → Option A → Option A
+or_else (Some x) o = Some x
+or_else None o = o
+
+abbrev pub also : Act → Option (List Act) → Option (List Act)
+also e None = None
+also e (Some part) = Some (e ∷ part)
+
+-- the attempt with p: the history from its Opened on, or None
+abbrev pub attempt : Node → List Act → Option (List Act)
+attempt p [] = None
+attempt p (e ∷ h) = cond (opens p e) (Some (e ∷ [])) (cond (ends p e) None (also e (attempt p h)))
+
+-- the first nonce drawn: that of the attempt, of which this is the history
+abbrev pub own_nonce : List Act → Option (List ℕ)
+own_nonce [] = None
+own_nonce (e ∷ h) = or_else (own_nonce h) (nonce_drawn e)
+
+-- the last key derived with p
+abbrev pub derivation : Node → List Act → Option Derivation
+derivation p [] = None
+derivation p (e ∷ h) = or_else (derived p e) (derivation p h)
+
+-- the session with p: the key that was derived last before its Finished, or None
+abbrev pub session : Node → List Act → Option Derivation
+session p [] = None
+session p (e ∷ h) = cond (finishes p e) (derivation p h) (cond (closes p e) None (session p h))
+
+-- whom a station has an attempt with
+abbrev pub pending : List Act → Option Node
+pending [] = None
+pending (Opened p s ∷ h) = Some p
+pending (Closed p Attempt ∷ h) = None
+pending (Finished p i ∷ h) = None
+pending (_ ∷ h) = pending h
+
+-- whom a station has a session with
+abbrev pub associated : List Act → Option Node
+associated [] = None
+associated (Finished p i ∷ h) = Some p
+associated (Closed p Session ∷ h) = None
+associated (_ ∷ h) = associated h
+
+-- the octets of the last frame of that kind accepted from p
+abbrev pub heard : Node → Kind → List Act → Option (List ℕ)
+heard p k [] = None
+heard p k (e ∷ h) = or_else (accepted p k e) (heard p k h)
+
+abbrev pub listed : {A : Type 0} → Option A → List A → List A
+listed None xs = xs
+listed (Some x) xs = x ∷ xs
+
+-- the octets of all frames of that kind accepted or answered from p, the last first
+abbrev pub all_replied : Node → Kind → List Act → List (List ℕ)
+all_replied p k [] = []
+all_replied p k (e ∷ h) = listed (replied p k e) (all_replied p k h)
+
+-- the octets of all frames of that kind sent to p, the last first
+abbrev pub all_sent : Node → Kind → List Act → List (List ℕ)
+all_sent p k [] = []
+all_sent p k (e ∷ h) = listed (sent p k e) (all_sent p k h)
+
+-- the group keys drawn, the last first: the first of them is the newest
+abbrev pub gtks : List Act → List (List ℕ)
+gtks [] = []
+gtks (e ∷ h) = listed (gtk_drawn e) (gtks h)
+
+-- the group keys that an access point made current, the last first; the k-th is the k-th drawn
+abbrev pub switches : List Act → List (List ℕ)
+switches [] = []
+switches (e ∷ h) = listed (switched e) (switches h)
+
+abbrev pub is_draw : Act → Bool
+is_draw (Drew v) = true
+is_draw _ = false
+
+-- how many values were drawn
+abbrev pub draws : List Act → ℕ
+draws [] = 0
+draws (e ∷ h) = cond (is_draw e) (suc (draws h)) (draws h)
+
+-- the history after these acts, in order
+abbrev pub add : List Act → List Act → List Act
+add [] h = h
+add (e ∷ g) h = add g (e ∷ h)

@@ -1,0 +1,87 @@
+//! Chains through a journal: each leads from an entry to the one before it that may be alike.
+//!
+//! An entry stands in the chain that a mix of some of its octets names, so entries that have those
+//! octets alike stand in one chain.
+
+ghost use Rattle.std.specs.Prelude.{◌≡◌, ◌≤◌, ◌<◌, ◌+◌, ℕ, List, [], ◌∷◌, ◌++◌, length, vec_len, Option, None, OnOk, IfSome, Some, slice_get};
+ghost use Rattle.run_journal.specs.Chained.{Chained, IsLast, HasRoom};
+
+use domain_base::NoMemory;
+use std::alloc::Global;
+
+/// How many chains there are: a prime, so that every bit of a mix tells.
+pub(crate) const CHAINS: usize = 32_749;
+
+/// The last entry of each chain, and for each entry the one before it in its chain.
+#[derive(Drop)]
+pub(crate) struct Chains {
+    lasts: Vec<Option<usize>>,
+    links: Vec<Option<usize>>,
+}
+
+impl Chains {
+    /// Chains through no entries. Takes no memory.
+    pub(crate) fn new(alloc: Global) -> Self
+        ensures chained { Chained [] result }
+    {
+        Chains {
+            lasts: Vec::new(alloc),
+            links: Vec::new(alloc),
+        }
+    }
+
+    /// Makes room for so many more entries.
+    pub(crate) fn reserve(&mut self, more: usize) -> Result<(), NoMemory>
+        ensures chained { (chains : List (Option ℕ)) → Chained chains self.old
+            → Chained chains self.new }
+        ensures room { OnOk result (HasRoom more self.new) }
+        ensures kept { (n : ℕ) → HasRoom n self.old → HasRoom n self.new }
+    {
+        self.links.reserve(more)?;
+        if self.lasts.len() < CHAINS {
+            self.lasts.resize(CHAINS, None)?;
+        }
+        Ok(())
+    }
+
+    /// One more entry, in that chain. Takes no memory.
+    pub(crate) fn add(&mut self, chain: Option<usize>)
+        requires room { HasRoom 1 self.old }
+        requires within { IfSome chain (λ c. c < CHAINS) }
+        ensures chained { (chains : List (Option ℕ)) → Chained chains self.old
+            → Chained (chains ++ chain ∷ []) self.new }
+        ensures room { (n : ℕ) → HasRoom (n + 1) self.old → HasRoom n self.new }
+    {
+        let place = self.links.len();
+        let before = match chain {
+            Some(chain) => {
+                let before = self.lasts[chain];
+                self.lasts[chain] = Some(place);
+                before
+            }
+            None => None,
+        };
+        if self.links.push(before).is_err() {
+            unreachable!()
+        }
+    }
+
+    /// The place of the last entry of the chain.
+    pub(crate) fn last(&self, chain: usize) -> Option<usize>
+        requires made { CHAINS ≤ vec_len self.now.lasts }
+        requires within { chain < CHAINS }
+        ensures { (chains : List (Option ℕ)) → Chained chains self.now
+            → IsLast chains chain (length chains) result }
+    {
+        self.lasts[chain]
+    }
+
+    /// The place of the entry before that one in its chain.
+    pub(crate) fn before(&self, place: usize) -> Option<usize>
+        requires { place < vec_len self.now.links }
+        ensures { (chains : List (Option ℕ)) (c : ℕ) → Chained chains self.now
+            → slice_get chains place ≡ Some (Some c) → IsLast chains c place result }
+    {
+        self.links[place]
+    }
+}

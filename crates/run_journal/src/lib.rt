@@ -1,0 +1,25 @@
+//! The journal of a run, and the definitions that say what a run may do.
+#![tactic(auto)]
+
+mod acts;
+mod chains;
+mod domain;
+mod index;
+mod journal;
+mod judging;
+mod laws;
+mod mixing;
+mod naming;
+mod premises;
+mod reading;
+
+pub use acts::{
+    Act, Drawn, Entry, Key, KeyDataFault, Kind, Malformed, Outcome, Part, Reason, Seal, Start, Why,
+};
+pub use domain::{Aps, Domain, Event, ListedAp, Stas};
+pub use journal::Journal;
+pub use laws::lines_read_no_key;
+pub use premises::Premises;
+
+#[cfg(test)]
+mod tests;

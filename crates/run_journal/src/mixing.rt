@@ -1,0 +1,45 @@
+//! Which chain an entry stands in: one that a mix of octets names.
+
+ghost use Rattle.std.specs.Prelude.{◌≡◌, ◌<◌};
+ghost use Rattle.run_journal.specs.Chained.{mix, mixed};
+ghost use Rattle.run_journal.specs.Looking.{chain_of, chain_of_seal};
+
+use crate::acts::Seal;
+use crate::chains::CHAINS;
+
+// What a mix begins with, and what each octet multiplies it by (32-bit FNV-1a).
+const START: u32 = 2_166_136_261;
+
+const PRIME: u32 = 16_777_619;
+
+// One more octet in a mix.
+#[tactic(auto, unfolding(crate::specs::Chained::mixed))]
+fn mixed(mix: u32, octet: u8) -> u32
+    ensures { result ≡ mixed mix octet }
+{
+    (mix ^ u32::from(octet)).wrapping_mul(PRIME)
+}
+
+// The mix of octets, after that of others.
+#[tactic(auto, unfolding(crate::specs::Chained::mix))]
+fn mix(before: u32, octets: &[u8]) -> u32
+    ensures { result ≡ mix before octets.now }
+{
+    octets.iter().fold(before, |sum, octet| mixed(sum, *octet))
+}
+
+/// The chain of what has these octets.
+pub(crate) fn chain_of(octets: &[u8]) -> usize
+    ensures chain { result ≡ chain_of octets.now }
+    ensures within { result < CHAINS }
+{
+    mix(START, octets) as usize % CHAINS
+}
+
+/// The chain of what has this seal.
+pub(crate) fn chain_of_seal(seal: &Seal) -> usize
+    ensures chain { result ≡ chain_of_seal seal.now }
+    ensures within { result < CHAINS }
+{
+    mix(mix(START, &seal.key), seal.octets.as_slice()) as usize % CHAINS
+}
