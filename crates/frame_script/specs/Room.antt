@@ -1,0 +1,28 @@
+-- Room that is enough for a line, and the parts that long lines are written in.
+use Rattle.std.specs.Prelude.{ℕ, ◌+◌, ◌*◌, List, [], ◌∷◌, ◌++◌, codes, decimal, length}
+use Rattle.domain_base.specs.Names.{node_text}
+use Rattle.domain_base.specs.declared.names.Node.{Node}
+use Rattle.run_journal.specs.declared.acts.Act.{Act}
+use Rattle.run_journal.specs.declared.acts.Act.TheVariants.{Sent, Used, HandedUp}
+use Rattle.run_journal.specs.declared.acts.Entry.{Entry}
+
+-- the octets that are handed up, where any are
+abbrev pub payload_of : Act → List ℕ
+payload_of (HandedUp p key id tid number octets) = octets
+payload_of _ = []
+
+-- two digits for each octet of a payload, and 128 for all the rest
+abbrev pub room_of : Entry → ℕ
+room_of e = 128 + 2 * length (payload_of e.act)
+
+-- a frame was sent, a packet number used or a payload handed up
+abbrev pub IsTraffic : Act → Type 0
+IsTraffic (Sent p k octets s) = Unit {0}
+IsTraffic (Used p key id number octets) = Unit {0}
+IsTraffic (HandedUp p key id tid number octets) = Unit {0}
+IsTraffic _ = ⊥
+
+-- the line of a payload handed up, as far as the space before the payload
+abbrev pub up_head : Node → Node → ℕ → ℕ → ℕ → List ℕ
+up_head n p id tid number =
+    codes "up " ++ node_text n ++ 32 ∷ node_text p ++ 32 ∷ decimal id ++ 32 ∷ decimal tid ++ 32 ∷ decimal number ++ 32 ∷ []
