@@ -10,6 +10,7 @@ mod line;
 mod outcome;
 mod pieces;
 mod report;
+mod script;
 mod summary;
 #[cfg(test)]
 mod tests;
@@ -17,4 +18,5 @@ mod words;
 
 pub use line::{LINE_ROOM, line_fits, line_of};
 pub use report::write_lines;
+pub use script::{BodyLine, HeaderReader, LineFault, body_line};
 pub use summary::{SUMMARY_ROOM, summary_of};

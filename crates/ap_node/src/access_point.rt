@@ -1,0 +1,399 @@
+//! An access point's state, and what each event does to it.
+
+ghost use Rattle.std.specs.Prelude.{◌≡◌, ◌≢◌, ◌<◌, ◌≤◌, ◌+◌, ◌^◌, ℕ, List, [], ◌∷◌, ◌++◌, length, Option, Some, None, true, false, option_map, IfOk, OnOk, OnErr};
+ghost use Rattle.domain_base.specs.declared.names.Akm.{Akm as AnyAkm};
+ghost use Rattle.domain_base.specs.declared.names.Node.TheVariants.{Ap, Sta};
+ghost use Rattle.rsn_elements.specs.Fields.{element_fields};
+ghost use Rattle.eapol_key.specs.declared.messages.Message.TheVariants.{M2 as MessageTwo};
+ghost use Rattle.run_journal.specs.declared.acts.Act.{Act as AnyAct};
+ghost use Rattle.run_journal.specs.declared.acts.Act.TheVariants.{Took, Derived, Opened, Drew};
+ghost use Rattle.run_journal.specs.declared.acts.Reason.{Reason as AnyReason};
+ghost use Rattle.run_journal.specs.declared.acts.Reason.TheVariants as reason;
+ghost use Rattle.run_journal.specs.declared.acts.Kind.TheVariants as kind;
+ghost use Rattle.run_journal.specs.declared.acts.Start.TheVariants.{Connect};
+ghost use Rattle.run_journal.specs.declared.acts.Drawn.TheVariants.{Nonce};
+ghost use Rattle.run_journal.specs.declared.acts.Outcome.TheVariants.{Accepted, Refused};
+ghost use Rattle.run_journal.specs.Questions.{add};
+ghost use Rattle.domain_rules.specs.Network.{InForm, IsListed, last_draw, nonce};
+ghost use Rattle.domain_rules.specs.Frames.{sent_assoc_resp, sent_refusal, sent_m1};
+ghost use Rattle.domain_rules.specs.Rows.{start_acts};
+ghost use Rattle.node_frames.specs.Events.{event_of, IsEventAt, Steps};
+ghost use Rattle.std.specs.Option.{option_copied};
+ghost use Rattle.ap_node.specs.State.{attempt_at, answered};
+ghost use Rattle.ap_node.specs.Takes.{Takes, IsManagedFrom, IsKeyedFrom, closed, associated_acts, derived_acts};
+
+use crate::association::{Association, close_attempt, open_attempt, prepare, refuse};
+use crate::attempts::{Attempt, attempt_with, begin, make_place, set_answered};
+use crate::m2::{M2, judge_m2};
+use crate::settling::settle;
+use domain_base::{NoMemory, Node, Peer};
+use eapol_key::Message;
+use key_hierarchy::{Inputs, Ptk};
+use node_frames::{
+    Judged, KeyMessage, Management, NodeEvent, Outbox, address, assoc_resp, gtk, judge, m1, nonce,
+    read, refusal, rsne_status, took,
+};
+use rsn_elements::Elements;
+use run_journal::{Act, Domain, Drawn, Key, Kind, Outcome, Part, Reason, Seal, Start};
+use std::alloc::Global;
+use std::marker::Model;
+
+/// The number of draws at which a node draws no more.
+const LAST_DRAW: u64 = 1 << 60;
+
+/// The key id of the first group key.
+const FIRST_KEY_ID: u8 = 1;
+
+/// An access point of the domain.
+#[derive(Drop)]
+pub struct ApNode {
+    number: u16,
+    drawn: u64,
+    attempts: Vec<Option<Attempt>>,
+}
+
+impl Model for ApNode {
+    ghost use Rattle.ap_node.specs.State.{State};
+
+    ghost Value = { State };
+
+    ghost view = { λ s. record {
+      number = s.number;
+      drawn = s.drawn;
+      attempts = s.attempts.items;
+    } };
+}
+
+impl ApNode {
+    ghost use Rattle.ap_node.specs.Stands.{Stands};
+
+    /// The access point as it starts: it draws its first group key and installs it. It begins to draw at that number.
+    pub fn start(
+        alloc: Global,
+        domain: &Domain,
+        ap: u16,
+        first_draw: u64,
+        out: &mut Outbox,
+    ) -> Result<Self, NoMemory>
+        requires draw { first_draw < last_draw }
+        requires listed { IsListed domain.now (Ap ap) }
+        ensures number { IfOk result (λ node. node.number ≡ ap) }
+        ensures stands { IfOk result (λ node. Stands domain.now.akm first_draw node (add (start_acts domain.now first_draw (Ap ap)) [])) }
+        ensures acts { IfOk result (λ node. out.new.acts ≡ out.old.acts ++ start_acts domain.now first_draw (Ap ap)) }
+        ensures kept { OnErr result (out.new.acts ≡ out.old.acts) }
+    {
+        let node = Node::Ap(ap);
+        let group_key = gtk(domain, node, first_draw);
+        out.reserve(2)?;
+        out.add(Act::Drew {
+            value: Drawn::Gtk(group_key),
+        });
+        out.add(Act::Installed {
+            peer: Peer::All,
+            key: Key::Group {
+                gtk: group_key,
+                id: FIRST_KEY_ID,
+                bssid: address(domain, node),
+            },
+        });
+        Ok(ApNode {
+            number: ap,
+            drawn: first_draw + 1,
+            attempts: Vec::new(alloc),
+        })
+    }
+
+    /// Takes one event.
+    pub fn step(
+        &mut self,
+        alloc: Global,
+        domain: &Domain,
+        event: NodeEvent<'_>,
+        out: &mut Outbox,
+    ) -> Result<Outcome, NoMemory>
+        requires form { InForm domain.now }
+        requires suite { domain.now.akm ≢ AnyAkm.FtPsk }
+        requires listed { self.old.number < length domain.now.aps }
+        requires event { IsEventAt domain.now (Ap self.old.number) (event_of event) }
+        ensures number { self.new.number ≡ self.old.number }
+        ensures steps { IfOk result (λ outcome. (first : ℕ) (h : List AnyAct) → Stands domain.now.akm first self.old h
+            → Steps domain.now first (Ap self.old.number) (event_of event.entry) (Stands domain.now.akm first self.new) h out.old.acts out.new.acts outcome) }
+        ensures refused { IfOk result (λ outcome. (why : AnyReason) → outcome ≡ Refused why → self.new ≡ self.old) }
+        ensures same { OnErr result (self.new ≡ self.old) }
+        ensures kept { OnErr result (out.new.acts ≡ out.old.acts) }
+    {
+        match event {
+            NodeEvent::Take(octets) => self.take(alloc, domain, octets, out),
+            NodeEvent::Connect(_) => unreachable!(),
+        }
+    }
+
+    // Takes the octets of a frame.
+    fn take(
+        &mut self,
+        alloc: Global,
+        domain: &Domain,
+        octets: &[u8],
+        out: &mut Outbox,
+    ) -> Result<Outcome, NoMemory>
+        requires form { InForm domain.now }
+        requires suite { domain.now.akm ≢ AnyAkm.FtPsk }
+        requires listed { self.old.number < length domain.now.aps }
+        ensures number { self.new.number ≡ self.old.number }
+        ensures takes { IfOk result (λ outcome. Takes domain.now self.old self.new octets.now out.old.acts out.new.acts outcome) }
+        ensures refused { IfOk result (λ outcome. (why : AnyReason) → outcome ≡ Refused why → self.new ≡ self.old) }
+        ensures same { OnErr result (self.new ≡ self.old) }
+        ensures kept { OnErr result (out.new.acts ≡ out.old.acts) }
+    {
+        let delivered = read(domain.akm, octets);
+        match judge(domain, Node::Ap(self.number), &delivered) {
+            Judged::Settled(from, outcome) => {
+                settle(alloc, from, octets, delivered.kind(), outcome, None, out)
+            }
+            Judged::Managed(from, frame, elements) => {
+                self.take_managed(alloc, domain, octets, from, &frame, &elements, out)
+            }
+            Judged::Keyed(from, message) => {
+                self.take_keyed(alloc, domain, octets, from, &message, out)
+            }
+        }
+    }
+
+    // Takes a management frame.
+    fn take_managed(
+        &mut self,
+        alloc: Global,
+        domain: &Domain,
+        octets: &[u8],
+        from: Node,
+        frame: &Management<'_>,
+        elements: &Elements<'_>,
+        out: &mut Outbox,
+    ) -> Result<Outcome, NoMemory>
+        requires form { InForm domain.now }
+        requires listed { self.old.number < length domain.now.aps }
+        requires frame { IsManagedFrom domain.now self.old.number octets.now from frame.now elements.now }
+        ensures number { self.new.number ≡ self.old.number }
+        ensures takes { IfOk result (λ outcome. Takes domain.now self.old self.new octets.now out.old.acts out.new.acts outcome) }
+        ensures refused { IfOk result (λ outcome. (why : AnyReason) → outcome ≡ Refused why → self.new ≡ self.old) }
+        ensures same { OnErr result (self.new ≡ self.old) }
+        ensures kept { OnErr result (out.new.acts ≡ out.old.acts) }
+    {
+        let Node::Sta(station) = from else {
+            unreachable!()
+        };
+        match frame.kind {
+            Kind::AssocReq => self.take_request(
+                alloc, domain, octets, station, frame, elements, out,
+            ),
+            kind => {
+                let outcome = Outcome::Refused(Reason::Unawaited);
+                settle(alloc, Some(from), octets, kind, outcome, None, out)
+            }
+        }
+    }
+
+    // Takes an association request of a station.
+    fn take_request(
+        &mut self,
+        alloc: Global,
+        domain: &Domain,
+        octets: &[u8],
+        station: u16,
+        frame: &Management<'_>,
+        elements: &Elements<'_>,
+        out: &mut Outbox,
+    ) -> Result<Outcome, NoMemory>
+        requires form { InForm domain.now }
+        requires listed { self.old.number < length domain.now.aps }
+        requires frame { IsManagedFrom domain.now self.old.number octets.now (Sta station) frame.now elements.now }
+        requires kind { frame.now.kind ≡ kind.AssocReq }
+        ensures number { self.new.number ≡ self.old.number }
+        ensures takes { IfOk result (λ outcome. Takes domain.now self.old self.new octets.now out.old.acts out.new.acts outcome) }
+        ensures refused { IfOk result (λ outcome. (why : AnyReason) → outcome ≡ Refused why → self.new ≡ self.old) }
+        ensures same { OnErr result (self.new ≡ self.old) }
+        ensures kept { OnErr result (out.new.acts ≡ out.old.acts) }
+    {
+        if let Some(status) = rsne_status(domain.akm, elements.rsne) {
+            return refuse(alloc, domain, self.number, station, octets, status, out);
+        }
+        if self.drawn >= LAST_DRAW {
+            let outcome = Outcome::Refused(Reason::Spent);
+            let from = Some(Node::Sta(station));
+            return settle(alloc, from, octets, Kind::AssocReq, outcome, None, out);
+        }
+        match elements.rsne_octets {
+            Some(rsne) => self.associate(alloc, domain, octets, station, rsne, out),
+            None => unreachable!(),
+        }
+    }
+
+    // Accepts an association request with that RSNE, and begins an attempt.
+    fn associate(
+        &mut self,
+        alloc: Global,
+        domain: &Domain,
+        octets: &[u8],
+        station: u16,
+        rsne: &[u8],
+        out: &mut Outbox,
+    ) -> Result<Outcome, NoMemory>
+        requires form { InForm domain.now }
+        requires listed { self.old.number < length domain.now.aps }
+        requires station { station < length domain.now.stas }
+        requires draw { self.old.drawn < last_draw }
+        ensures outcome { IfOk result (λ came. came ≡ Accepted) }
+        ensures number { self.new.number ≡ self.old.number }
+        ensures drawn { OnOk result (self.new.drawn ≡ self.old.drawn + 1) }
+        ensures begun { OnOk result (attempt_at self.new.attempts station
+            ≡ Some (record { anonce = nonce domain.now (Ap self.old.number) self.old.drawn; rsne = rsne.now; is_answered = false })) }
+        ensures others { (k : ℕ) → k ≢ station → attempt_at self.new.attempts k ≡ attempt_at self.old.attempts k }
+        ensures acts { OnOk result (out.new.acts ≡ out.old.acts ++ associated_acts domain.now (Ap self.old.number) (Sta station) octets.now (attempt_at self.old.attempts station) (nonce domain.now (Ap self.old.number) self.old.drawn)) }
+        ensures same { OnErr result (self.new ≡ self.old) }
+        ensures kept { OnErr result (out.new.acts ≡ out.old.acts) }
+    {
+        let Association {
+            taken,
+            response,
+            message,
+            attempt,
+        } = prepare(
+            alloc,
+            domain,
+            self.number,
+            station,
+            octets,
+            rsne,
+            self.drawn,
+        )?;
+        out.reserve(6)?;
+        make_place(&mut self.attempts, station)?;
+        out.add(taken);
+        close_attempt(attempt_with(&self.attempts, station), station, out);
+        open_attempt(station, attempt.anonce, response, message, out);
+        begin(&mut self.attempts, station, attempt);
+        self.drawn += 1;
+        Ok(Outcome::Accepted)
+    }
+
+    // Takes an EAPOL-Key message.
+    fn take_keyed(
+        &mut self,
+        alloc: Global,
+        domain: &Domain,
+        octets: &[u8],
+        from: Node,
+        message: &KeyMessage<'_>,
+        out: &mut Outbox,
+    ) -> Result<Outcome, NoMemory>
+        requires suite { domain.now.akm ≢ AnyAkm.FtPsk }
+        requires listed { self.old.number < length domain.now.aps }
+        requires frame { IsKeyedFrom domain.now self.old.number octets.now from message.now }
+        ensures number { self.new.number ≡ self.old.number }
+        ensures takes { IfOk result (λ outcome. Takes domain.now self.old self.new octets.now out.old.acts out.new.acts outcome) }
+        ensures refused { IfOk result (λ outcome. (why : AnyReason) → outcome ≡ Refused why → self.new ≡ self.old) }
+        ensures same { OnErr result (self.new ≡ self.old) }
+        ensures kept { OnErr result (out.new.acts ≡ out.old.acts) }
+    {
+        let Node::Sta(station) = from else {
+            unreachable!()
+        };
+        match message.message {
+            Message::M2 => self.take_m2(alloc, domain, octets, station, message, out),
+            other => {
+                let outcome = Outcome::Refused(Reason::Unawaited);
+                settle(
+                    alloc,
+                    Some(from),
+                    octets,
+                    Kind::Key(other),
+                    outcome,
+                    None,
+                    out,
+                )
+            }
+        }
+    }
+
+    // Takes message 2 of a station.
+    fn take_m2(
+        &mut self,
+        alloc: Global,
+        domain: &Domain,
+        octets: &[u8],
+        station: u16,
+        message: &KeyMessage<'_>,
+        out: &mut Outbox,
+    ) -> Result<Outcome, NoMemory>
+        requires suite { domain.now.akm ≢ AnyAkm.FtPsk }
+        requires listed { self.old.number < length domain.now.aps }
+        requires frame { IsKeyedFrom domain.now self.old.number octets.now (Sta station) message.now }
+        requires message { message.now.message ≡ MessageTwo }
+        ensures number { self.new.number ≡ self.old.number }
+        ensures takes { IfOk result (λ outcome. Takes domain.now self.old self.new octets.now out.old.acts out.new.acts outcome) }
+        ensures refused { IfOk result (λ outcome. (why : AnyReason) → outcome ≡ Refused why → self.new ≡ self.old) }
+        ensures same { OnErr result (self.new ≡ self.old) }
+        ensures kept { OnErr result (out.new.acts ≡ out.old.acts) }
+    {
+        let from = Some(Node::Sta(station));
+        let kind = Kind::Key(Message::M2);
+        let Some(attempt) = attempt_with(&self.attempts, station) else {
+            let outcome = Outcome::Refused(Reason::Unawaited);
+            return settle(alloc, from, octets, kind, outcome, None, out);
+        };
+        match judge_m2(alloc, domain, self.number, station, attempt, message)? {
+            M2::Refused(why) => {
+                settle(alloc, from, octets, kind, Outcome::Refused(why), None, out)
+            }
+            M2::Other(fault, seal) => {
+                let outcome = Outcome::Refused(Reason::KeyData(fault));
+                settle(alloc, from, octets, kind, outcome, Some(seal), out)
+            }
+            M2::Agreed(inputs, key, seal) => {
+                self.derive(alloc, octets, station, inputs, key, seal, out)
+            }
+        }
+    }
+
+    // Accepts M2 under that seal, and derives the key.
+    fn derive(
+        &mut self,
+        alloc: Global,
+        octets: &[u8],
+        station: u16,
+        inputs: Inputs,
+        key: Ptk,
+        seal: Seal,
+        out: &mut Outbox,
+    ) -> Result<Outcome, NoMemory>
+        requires { attempt_at self.old.attempts station ≢ None }
+        ensures outcome { IfOk result (λ came. came ≡ Accepted) }
+        ensures number { self.new.number ≡ self.old.number }
+        ensures drawn { self.new.drawn ≡ self.old.drawn }
+        ensures answered { OnOk result (attempt_at self.new.attempts station ≡ option_map answered (attempt_at self.old.attempts station)) }
+        ensures others { (k : ℕ) → k ≢ station → attempt_at self.new.attempts k ≡ attempt_at self.old.attempts k }
+        ensures acts { OnOk result (out.new.acts ≡ out.old.acts ++ derived_acts (Sta station) octets.now seal inputs key) }
+        ensures same { OnErr result (self.new ≡ self.old) }
+        ensures kept { OnErr result (out.new.acts ≡ out.old.acts) }
+    {
+        let peer = Node::Sta(station);
+        let outcome = Outcome::Accepted;
+        let taken = took(
+            alloc,
+            Some(peer),
+            octets,
+            Kind::Key(Message::M2),
+            outcome,
+            Some(seal),
+        )?;
+        out.reserve(2)?;
+        out.add(taken);
+        out.add(Act::Derived {
+            peer,
+            inputs,
+            ptk: key,
+        });
+        set_answered(&mut self.attempts[usize::from(station)]);
+        Ok(outcome)
+    }
+}

@@ -1,0 +1,70 @@
+-- A network in form stays so with one more node that can be listed.
+use Rattle.std.proofs.Common.{◌≡◌, ◌≢◌, ℕ, ◌+◌, ◌<◌, ◌≤◌, List, [], ◌∷◌, ◌++◌, length, refl, sym, ap, subst, arith}
+use Rattle.std.specs.List.{AllByRecursion}
+use Rattle.std.proofs.lemmas.List.{length-append}
+use Rattle.domain_base.specs.declared.names.Mac.{Mac}
+use Rattle.run_journal.specs.declared.domain.Domain.{Domain}
+use Rattle.run_journal.specs.declared.domain.ListedAp.{ListedAp}
+use Rattle.domain_rules.specs.Network.{IsUnicast, IsNew, AreAps, AreStas, InForm}
+use Rattle.domain_world.specs.State.{with_ap, with_sta}
+use Rattle.frame_script.specs.Script.{IsFreeAddress, CanListAp, CanListSta}
+
+all_push : {A : Type 0} (P : A → Type 0) (xs : List A) (x : A) → AllByRecursion P xs → P x → AllByRecursion P (xs ++ x ∷ [])
+all_push P [] x all here = (here, tt)
+all_push P (y ∷ xs) x all here = (all.0, all_push P xs x all.1 here)
+
+-- ---- one more access point
+
+AreAps-push : (aps : List ListedAp) (a : ListedAp) → AreAps aps → IsUnicast a.address.0 → 1 ≤ length a.r0kh_id → length a.r0kh_id ≤ 48
+    → AllByRecursion (λ (b : ListedAp). b.address ≢ a.address) aps → AllByRecursion (λ (b : ListedAp). b.r0kh_id ≢ a.r0kh_id) aps → AreAps (aps ++ a ∷ [])
+AreAps-push [] a are unicast some few addresses ids = (unicast, some, few, tt, tt, tt)
+AreAps-push (x ∷ aps) a are unicast some few addresses ids = (
+  are.0,
+  are.1,
+  are.2,
+  all_push (λ (b : ListedAp). b.address ≢ x.address) aps a are.3 (λ same. addresses.0 (sym same)),
+  all_push (λ (b : ListedAp). b.r0kh_id ≢ x.r0kh_id) aps a are.4 (λ same. ids.0 (sym same)),
+  AreAps-push aps a are.5 unicast some few addresses.1 ids.1,
+)
+
+-- the stations are none of them
+AreStas-ap : (aps : List ListedAp) (stas : List Mac) (a : ListedAp) → AreStas aps stas → AllByRecursion (λ (m : Mac). m ≢ a.address) stas → AreStas (aps ++ a ∷ []) stas
+AreStas-ap aps [] a are others = tt
+AreStas-ap aps (m ∷ stas) a are others = (
+  are.0,
+  record { no_ap = all_push (λ (b : ListedAp). b.address ≢ m) aps a are.1.no_ap (λ same. others.0 (sym same)); no_sta = are.1.no_sta },
+  AreStas-ap aps stas a are.2 others.1,
+)
+
+pub InForm-ap : (d : Domain) (address : Mac) (id : List ℕ) → InForm d → CanListAp d address id → InForm (with_ap d address id)
+InForm-ap d address id form can =
+    let a : ListedAp = record { address = address; r0kh_id = id } in
+    record {
+      some = form.some;
+      few = form.few;
+      aps = AreAps-push d.aps a form.aps (can.address_.some, can.address_.one) can.some can.few can.address_.no_ap can.other;
+      stas = AreStas-ap d.aps d.stas a form.stas can.address_.no_sta;
+      few_aps = omega (arith, can.room, length-append d.aps (a ∷ []));
+      few_stas = form.few_stas;
+    }
+
+-- ---- one more station
+
+AreStas-push : (aps : List ListedAp) (stas : List Mac) (m : Mac) → AreStas aps stas → IsUnicast m.0 → IsNew aps stas m → AreStas aps (stas ++ m ∷ [])
+AreStas-push aps [] m are unicast new = (unicast, new, tt)
+AreStas-push aps (x ∷ stas) m are unicast new = (
+  are.0,
+  record { no_ap = are.1.no_ap; no_sta = all_push (λ (n : Mac). n ≢ x) stas m are.1.no_sta (λ same. new.no_sta.0 (sym same)) },
+  AreStas-push aps stas m are.2 unicast (record { no_ap = new.no_ap; no_sta = new.no_sta.1 }),
+)
+
+pub InForm-sta : (d : Domain) (address : Mac) → InForm d → CanListSta d address → InForm (with_sta d address)
+InForm-sta d address form can =
+    record {
+      some = form.some;
+      few = form.few;
+      aps = form.aps;
+      stas = AreStas-push d.aps d.stas address form.stas (can.address_.some, can.address_.one) (record { no_ap = can.address_.no_ap; no_sta = can.address_.no_sta });
+      few_aps = form.few_aps;
+      few_stas = omega (arith, can.room, length-append d.stas (address ∷ []));
+    }

@@ -1,0 +1,11 @@
+use Rattle.domain_cli.proofs.Faults.{fault_or_script, one_place, one_telling}
+use Rattle.domain_cli.proofs.laws.one_fault.Goals as goal
+
+pub returns-clause-script : goal.returns-clause-script
+returns-clause-script c = fault_or_script
+
+pub returns-clause-place : goal.returns-clause-place
+returns-clause-place c = one_place
+
+pub returns-clause-told : goal.returns-clause-told
+returns-clause-told c = one_telling

@@ -1,0 +1,78 @@
+use Rattle.std.proofs.Common.{◌≡◌, ◌<◌, ◌≤◌, ◌+◌, ◌++◌, ℕ, List, [], false, true, take, length, arith, refl, subst, sym, ap}
+use Rattle.std.proofs.lemmas.Bool.{false≢true}
+use Rattle.std.proofs.lemmas.List.{length-append, length-take}
+use Rattle.domain_cli.specs.declared.status.Found.{Found}
+use Rattle.domain_cli.specs.Script.{Spells, joined, AreLines}
+use Rattle.domain_cli.specs.Story.{Tells}
+use Rattle.domain_cli.specs.Sessions.{Reached}
+use Rattle.domain_cli.proofs.Lines.{Consumes-nil, Consumes-then, Consumes-none, Consumes-kept, length-read, Stands-journal, nothing_yet}
+use Rattle.domain_cli.proofs.reading.replay.Goals as goal
+
+pub returns-in_default-clause-told : goal.returns-in_default-clause-told
+returns-in_default-clause-told g c = ([], false, Consumes-nil _, λ e. absurd (false≢true e), nothing_yet _ c.requires)
+
+pub returns-in_default-read-clause-told : goal.returns-in_default-read-clause-told
+returns-in_default-read-clause-told g c =
+    let so_far = c.reads.invariant.reached in
+    let r = so_far.2 in (
+      so_far.0,
+      false,
+      Consumes-kept _ _ _ so_far.0 so_far.1 c.in_default-read.ensures.bytes,
+      λ e. absurd (false≢true e),
+      record {
+        good = r.good;
+        rest = c.reads.session.line.items;
+        draft = r.draft;
+        rounds = r.rounds;
+        begins = r.begins;
+        open_line = r.open_line;
+        explains = record { spelled = r.spelled; journal = Stands-journal c.reads.session.stage r.draft r.rounds _ r.stands };
+      },
+    )
+
+pub returns-then-count-eq0-clause-told : goal.returns-then-count-eq0-clause-told
+returns-then-count-eq0-clause-told g c =
+    let so_far = c.reads.invariant.reached in
+    let some : 0 < length c.read.new.buf = omega (arith, c.read.auto.buf, c.reads.invariant.room) in (
+      so_far.0,
+      true,
+      Consumes-none _ _ _ so_far.0 _ c.in-Ok-read.count so_far.1 c.in-Ok-read.ensures.bytes.0 c.if-count-eq0.true,
+      λ _. c.in-Ok-read.ensures.bytes.1 c.if-count-eq0.true some,
+      c.finish.ensures.told so_far.0 so_far.2,
+    )
+
+pub overflow_add-total : goal.overflow_add-total
+overflow_add-total g c =
+    let so_far = c.reads.invariant.reached in
+    let session = c.reads.session in
+    let few = length-read so_far.0 so_far.2.good session.line.items so_far.2.begins (omega (arith, session.short, session.line.ok.0)) (omega (arith, session.few, so_far.2.count)) in
+    omega (arith, so_far.3, few, c.in-Ok-read.ensures.bound.0, c.read.auto.buf, c.reads.invariant.room)
+
+pub returns-in-Err-clause-told : goal.returns-in-Err-clause-told
+returns-in-Err-clause-told g c =
+    let so_far = c.reads.invariant.reached in
+    let piece = take c.in-Ok-read.count c.read.new.buf in (
+      so_far.0 ++ piece,
+      false,
+      Consumes-then _ _ _ so_far.0 piece so_far.1 c.in-Ok-read.ensures.bytes.0,
+      λ e. absurd (false≢true e),
+      subst (λ (f : Found). Tells f (so_far.0 ++ piece) false c.feed.new.journal.entries) (sym c.found_of.ensures.found) (c.in-Err.ensures.reached so_far.0 so_far.2),
+    )
+
+pub reads-smaller : goal.reads-smaller
+reads-smaller g c =
+    let so_far = c.reads.invariant.reached in
+    let session = c.reads.session in
+    let few = length-read so_far.0 so_far.2.good session.line.items so_far.2.begins (omega (arith, session.short, session.line.ok.0)) (omega (arith, session.few, so_far.2.count)) in
+    omega (arith, so_far.3, few, c.if-count-eq0.false)
+
+pub reads-preserved : goal.reads-preserved
+reads-preserved g c =
+    let so_far = c.reads.invariant.reached in
+    let piece = take c.in-Ok-read.count c.read.new.buf in
+    record {
+      ready = c.in_default-feed.ensures.ready;
+      later = omega (arith, c.in-Ok-read.ensures.cause.later, c.reads.invariant.later);
+      room = omega (arith, c.read.auto.buf, c.reads.invariant.room);
+      reached = (so_far.0 ++ piece, Consumes-then _ _ _ so_far.0 piece so_far.1 c.in-Ok-read.ensures.bytes.0, c.in_default-feed.ensures.reached so_far.0 so_far.2, omega (arith, so_far.3, length-append so_far.0 piece, c.in-Ok-read.ensures.bound.1));
+    }

@@ -1,0 +1,25 @@
+-- Why a reading goes no further.
+use Rattle.std.specs.Prelude.{◌≡◌, ◌≤◌, ◌⊎◌, ℕ, suc, List, false}
+use Rattle.run_journal.specs.declared.domain.Event.{Event}
+use Rattle.run_journal.specs.declared.acts.Entry.{Entry}
+use Rattle.frame_script.specs.Script.{Draft}
+use Rattle.domain_cli.specs.declared.session.Stop.{Stop}
+use Rattle.domain_cli.specs.declared.session.Stop.TheVariants.{Faulty, NoMemory}
+use Rattle.domain_cli.specs.declared.status.Found.{Found}
+use Rattle.domain_cli.specs.declared.status.Found.TheVariants as found
+use Rattle.domain_cli.specs.Script.{Refuses, most_lines}
+use Rattle.domain_cli.specs.Story.{Tells}
+
+abbrev pub found_by : Stop → Found
+found_by (Faulty number reason) = found.Faulty number reason
+found_by NoMemory = found.NoMemory
+
+-- why a reading stopped, wherever the octets go on
+abbrev pub Stopped : Stop → List ℕ → List Entry → Type 0
+Stopped stop octets j = Tells (found_by stop) octets false j
+
+-- why a line stopped it, behind so many, after what they told
+abbrev pub StopsLine : Stop → ℕ → List ℕ → Draft → List (List Event) → Type 0
+StopsLine (Faulty number reason) lines line draft rounds =
+    (number ≡ suc lines) × ((most_lines ≤ lines) ⊎ Refuses line draft rounds) × (reason ≡ 2)
+StopsLine NoMemory lines line draft rounds = Unit {0}

@@ -1,0 +1,38 @@
+//! A script read from a source to its end.
+
+ghost use Rattle.std.specs.Prelude.{◌≡◌, ◌≤◌, [], ℕ, List, Bool, true};
+ghost use Rattle.std.specs.Io.KnownBytes.{Consumes, IsAtEnd};
+ghost use Rattle.domain_base.specs.Causes.{Rose};
+ghost use Rattle.domain_cli.specs.Story.{Tells};
+
+use crate::session::{Session, found_of};
+use crate::status::Found;
+use domain_base::Source;
+use run_journal::Journal;
+use std::alloc::Global;
+
+/// Reads a script to its end, and runs its events.
+pub fn replay<S: Source>(alloc: Global, source: &mut S, journal: &mut Journal) -> Found
+    requires { journal.old.entries ≡ [] }
+    ensures told { (octets : List ℕ) × (ended : Bool) × Consumes (S.left source.old) (S.left source.new) octets
+        × (ended ≡ true → IsAtEnd (S.left source.new)) × Tells result octets ended journal.new.entries }
+    ensures fault { result ≡ Found.ReadFault → Rose (S.faults source.old) (S.faults source.new) }
+{
+    let Ok(mut session) = Session::new(alloc) else {
+        return Found::NoMemory;
+    };
+    let mut piece = [0; 512];
+    let mut total = 0usize;
+    'reads: loop {
+        let Ok(count) = source.read(&mut piece) else {
+            return Found::ReadFault;
+        };
+        if count == 0 {
+            return session.finish(alloc, journal);
+        }
+        total += count;
+        if let Err(stop) = session.feed(alloc, &piece[..count], journal) {
+            return found_of(stop);
+        }
+    }
+}

@@ -1,0 +1,158 @@
+//! A script, octet by octet.
+
+ghost use Rattle.std.specs.Prelude.{◌≡◌, ◌≢◌, ◌≤◌, ◌+◌, ◌<◌, ◌++◌, ◌∷◌, [], ℕ, List, MatchResult, OnOk, OnErr, vec_len, vec_capacity, IfOk, IfErr, true};
+ghost use Rattle.run_journal.specs.declared.acts.Entry.{Entry as AnyEntry};
+ghost use Rattle.run_journal.specs.declared.domain.Event.{Event as AnyEvent};
+ghost use Rattle.frame_script.specs.Script.{Draft};
+ghost use Rattle.domain_cli.specs.Stages.{Stands, IsReady};
+ghost use Rattle.domain_cli.specs.Stops.{Stopped, StopsLine, found_by};
+ghost use Rattle.domain_cli.specs.Story.{Tells};
+
+use crate::stage::Stage;
+use crate::status::Found;
+use domain_base::NoMemory;
+use frame_script::{HeaderReader, LineFault};
+use run_journal::Journal;
+use std::alloc::Global;
+
+// A script has at most so many lines.
+const MOST_LINES: u64 = 65_536;
+
+// A line has at most so many octets, without its line feed.
+const MOST_OCTETS: usize = 8_192;
+
+// The reason that the report of a fault gives: outside the grammar, or past a limit.
+const OUTSIDE: u8 = 2;
+
+/// Why a session goes no further.
+#[derive(Clone, Copy, Debug, PartialEq, Eq)]
+pub enum Stop {
+    /// The line of this number is the first that is wrong, for this reason.
+    Faulty(u64, u8),
+    /// Memory ran out.
+    NoMemory,
+}
+
+/// A script so far: the front of its open line, how many whole lines came, and what they told.
+#[derive(Drop)]
+pub struct Session {
+    pub line: Vec<u8>,
+    pub lines: u64,
+    pub stage: Stage,
+    ghost roomy: { 8193 ≤ vec_capacity line },
+    ghost short: { vec_len line ≤ 8192 },
+    ghost few: { lines ≤ 65536 },
+}
+
+impl Session {
+    ghost use Rattle.domain_cli.specs.Sessions.{Reached};
+
+    /// Before the first octet.
+    pub fn new(alloc: Global) -> Result<Self, NoMemory>
+        ensures ready { IfOk result (λ s. IsReady s.stage s.lines []) }
+        ensures reached { IfOk result (λ s. Reached s [] []) }
+    {
+        let line = Vec::with_capacity(alloc, MOST_OCTETS + 1)?;
+        Ok(Session {
+            line,
+            lines: 0,
+            stage: Stage::Header(HeaderReader::new()),
+        })
+    }
+
+    // Takes an octet of the open line.
+    fn add(&mut self, octet: u8) -> Result<(), Stop>
+        requires { octet ≢ 10 }
+        ensures same { (self.new.lines ≡ self.old.lines) × (self.new.stage ≡ self.old.stage) }
+        ensures reached { (octets : List ℕ) (j : List AnyEntry) → Reached self.old octets j →
+            MatchResult result (λ _. Reached self.new (octets ++ octet ∷ []) j) (λ stop. Stopped stop (octets ++ octet ∷ []) j) }
+    {
+        if self.line.len() >= MOST_OCTETS {
+            return Err(Stop::Faulty(self.lines + 1, OUTSIDE));
+        }
+        if self.line.push(octet).is_err() {
+            unreachable!()
+        }
+        Ok(())
+    }
+
+    // Ends the open line, and does what it asks for. At an error the journal is as before.
+    fn end_line(&mut self, alloc: Global, journal: &mut Journal) -> Result<(), Stop>
+        requires { IsReady self.old.stage self.old.lines journal.old.entries }
+        ensures ready { OnOk result (IsReady self.new.stage self.new.lines journal.new.entries) }
+        ensures closed { OnOk result (self.new.line.items ≡ []) }
+        ensures reached { (octets : List ℕ) → Reached self.old octets journal.old.entries →
+            MatchResult result (λ _. Reached self.new (octets ++ 10 ∷ []) journal.new.entries) (λ stop. Stopped stop (octets ++ 10 ∷ []) journal.new.entries) }
+        ensures stopped { IfErr result (λ stop. (draft : Draft) (rounds : List (List AnyEvent)) → Stands self.old.stage draft rounds journal.old.entries →
+            StopsLine stop self.old.lines self.old.line.items draft rounds) }
+        ensures kept { OnErr result (journal.new.entries ≡ journal.old.entries) }
+    {
+        let number = self.lines + 1;
+        if number > MOST_LINES {
+            return Err(Stop::Faulty(number, OUTSIDE));
+        }
+        match self.stage.take(alloc, &self.line, journal) {
+            Ok(()) => {}
+            Err(LineFault::Script(reason)) => return Err(Stop::Faulty(number, reason)),
+            Err(LineFault::NoMemory) => return Err(Stop::NoMemory),
+        }
+        self.lines = number;
+        self.line.clear();
+        Ok(())
+    }
+
+    // Takes an octet.
+    fn take(&mut self, alloc: Global, octet: u8, journal: &mut Journal) -> Result<(), Stop>
+        requires { IsReady self.old.stage self.old.lines journal.old.entries }
+        ensures ready { OnOk result (IsReady self.new.stage self.new.lines journal.new.entries) }
+        ensures reached { (before : List ℕ) → Reached self.old before journal.old.entries →
+            MatchResult result (λ _. Reached self.new (before ++ octet ∷ []) journal.new.entries) (λ stop. Stopped stop (before ++ octet ∷ []) journal.new.entries) }
+    {
+        if octet == b'\n' {
+            self.end_line(alloc, journal)
+        } else {
+            self.add(octet)
+        }
+    }
+
+    /// Takes octets as they come.
+    pub fn feed(&mut self, alloc: Global, octets: &[u8], journal: &mut Journal) -> Result<(), Stop>
+        requires { IsReady self.old.stage self.old.lines journal.old.entries }
+        ensures ready { OnOk result (IsReady self.new.stage self.new.lines journal.new.entries) }
+        ensures reached { (before : List ℕ) → Reached self.old before journal.old.entries →
+            MatchResult result (λ _. Reached self.new (before ++ octets.now) journal.new.entries) (λ stop. Stopped stop (before ++ octets.now) journal.new.entries) }
+    {
+        for octet in octets {
+            if let Err(stop) = self.take(alloc, *octet, journal) {
+                return Err(stop);
+            }
+        }
+        Ok(())
+    }
+
+    /// Ends the script. An open line counts as a line, and so does an empty source.
+    pub fn finish(&mut self, alloc: Global, journal: &mut Journal) -> Found
+        requires { IsReady self.old.stage self.old.lines journal.old.entries }
+        ensures told { (octets : List ℕ) → Reached self.old octets journal.old.entries → Tells result octets true journal.new.entries }
+        ensures not_read { result ≢ Found.ReadFault }
+    {
+        if self.line.is_empty() && self.lines > 0 {
+            return Found::Whole;
+        }
+        match self.end_line(alloc, journal) {
+            Ok(()) => Found::Whole,
+            Err(stop) => found_of(stop),
+        }
+    }
+}
+
+/// How a reading ended that stopped so.
+pub fn found_of(stop: Stop) -> Found
+    ensures found { result ≡ found_by stop }
+    ensures not_read { result ≢ Found.ReadFault }
+{
+    match stop {
+        Stop::Faulty(number, reason) => Found::Faulty(number, reason),
+        Stop::NoMemory => Found::NoMemory,
+    }
+}

@@ -1,0 +1,130 @@
+//! The top call.
+
+ghost use Rattle.std.specs.Prelude.{◌≡◌, ◌≢◌, ◌∷◌, [], ℕ, List, map, codes, IsTrue, ◌↔◌, reverse, MatchResult, OnOk, OnErr};
+ghost use Rattle.std.specs.Io.KnownBytes.{Appends};
+ghost use Rattle.domain_base.specs.Causes.{Rose, HasCause, AppendsPart};
+ghost use Rattle.run_journal.specs.Report.{summary, IsReport};
+ghost use Rattle.run_journal.specs.Premises.{Fresh, NoCollision, Unforged};
+ghost use Rattle.run_journal.specs.Safe.{Safe};
+ghost use Rattle.domain_cli.specs.Story.{Runs, Reports, IsText, status_of};
+ghost use Rattle.domain_cli.specs.Ends.{IsAnswered};
+
+use crate::reading::replay;
+use crate::status::{Found, Status};
+use domain_base::{Air, Draws, Failed, Sink, Source, write_all};
+use frame_script::{SUMMARY_ROOM, summary_of, write_lines};
+use journal_safety::safety;
+use run_journal::{Entry, Journal, Premises};
+use std::alloc::Global;
+use std::thread::Threads;
+
+fn is_replay(words: &[&str]) -> bool
+    ensures { IsTrue result ↔ (map (λ w. w.now) words.now ≡ codes "replay" ∷ []) }
+{
+    words.len() == 1 && words[0] == "replay"
+}
+
+// How a run ends whose text was all written.
+fn status(found: Found) -> Status
+    ensures { result ≡ status_of found }
+{
+    match found {
+        Found::Whole => Status::Done,
+        Found::Faulty(number, reason) => Status::Script(number, reason),
+        Found::ReadFault => Status::ReadFault,
+        Found::NoMemory => Status::NoMemory,
+    }
+}
+
+// Writes the summary of a journal. Takes no memory.
+fn write_summary<K: Sink>(sink: &mut K, entries: &[Entry], premises: Premises) -> Result<(), Failed>
+    ensures ok { OnOk result (Appends (K.out sink.old) (K.out sink.new) (summary (reverse entries.now) premises)) }
+    ensures err { OnErr result (AppendsPart (K.out sink.old) (K.out sink.new) (summary (reverse entries.now) premises)) }
+    ensures cause { HasCause (K.faults sink.old) (K.faults sink.new) result }
+{
+    let mut text = [0; SUMMARY_ROOM];
+    let count = summary_of(entries, premises, &mut text);
+    write_all(sink, &text[..count])
+}
+
+// Writes the lines of a journal, and its summary behind them. Takes no memory.
+fn write_whole<K: Sink>(sink: &mut K, journal: &Journal) -> Result<(), Failed>
+    ensures written { (text : List ℕ) × IsReport journal.now.entries text × MatchResult result
+        (λ _. Appends (K.out sink.old) (K.out sink.new) text)
+        (λ _. AppendsPart (K.out sink.old) (K.out sink.new) text) }
+    ensures cause { HasCause (K.faults sink.old) (K.faults sink.new) result }
+{
+    let entries = journal.entries();
+    let premises = journal.premises();
+    if let Err(failed) = write_lines(entries, sink) {
+        return Err(failed);
+    }
+    match write_summary(sink, entries, premises) {
+        Ok(()) => Ok(()),
+        Err(failed) => Err(failed),
+    }
+}
+
+// Writes what is to be written of a journal: with the whole script the report, else the lines alone. Takes no memory.
+fn write_text<K: Sink>(sink: &mut K, journal: &Journal, found: Found) -> Result<(), Failed>
+    ensures written { (text : List ℕ) × IsText found journal.now.entries text × MatchResult result
+        (λ _. Appends (K.out sink.old) (K.out sink.new) text)
+        (λ _. AppendsPart (K.out sink.old) (K.out sink.new) text) }
+    ensures cause { HasCause (K.faults sink.old) (K.faults sink.new) result }
+{
+    match found {
+        Found::Whole => write_whole(sink, journal),
+        Found::Faulty(..) | Found::ReadFault | Found::NoMemory => {
+            write_lines(journal.entries(), sink)
+        }
+    }
+}
+
+// Writes the report, and tells how the run ended.
+fn report<K: Sink>(sink: &mut K, journal: &Journal, found: Found) -> Status
+    ensures reports { (text : List ℕ) × IsText found journal.now.entries text × Reports found result journal.now.entries text (K.out sink.old) (K.out sink.new) }
+    ensures write_fault { result ≡ Status.WriteFault → Rose (K.faults sink.old) (K.faults sink.new) }
+    ensures read_fault { result ≡ Status.ReadFault → found ≡ Found.ReadFault }
+    ensures asked { result ≢ Status.Usage }
+{
+    match write_text(sink, journal, found) {
+        Ok(()) => status(found),
+        Err(_) => Status::WriteFault,
+    }
+}
+
+/// Runs the command of the words, and reports what happened.
+///
+/// `replay` runs the script on the source.
+pub fn run<R: Threads + Sync, S: Source, K: Sink, A: Air, D: Draws>(
+    _rt: &R,
+    alloc: Global,
+    words: &[&str],
+    source: &mut S,
+    sink: &mut K,
+    _air: &mut A,
+    _draws: &mut D,
+    journal: &mut Journal,
+) -> Status
+    requires { journal.old.entries ≡ [] }
+    // The words are not those of a command, and then nothing is read or written.
+    ensures usage { (result ≡ Status.Usage) ↔ (map (λ w. w.now) words.now ≢ codes "replay" ∷ []) }
+    ensures untouched { result ≡ Status.Usage → (S.left source.new ≡ S.left source.old) × (K.out sink.new ≡ K.out sink.old) × (journal.new.entries ≡ []) }
+    // The journal is that of the octets read, and the octets written are its report.
+    ensures ran { result ≢ Status.Usage → Runs (S.left source.old) (S.left source.new) (K.out sink.old) (K.out sink.new) result journal.new.entries }
+    // Where nonces are fresh, derived keys do not collide, and every MIC that verified was made by a holder of its key, the
+    // run was safe.
+    ensures safe { Fresh journal.new.entries → NoCollision journal.new.entries → Unforged journal.new.entries → Safe journal.new.entries }
+    ensures read_fault { result ≡ Status.ReadFault → Rose (S.faults source.old) (S.faults source.new) }
+    ensures write_fault { result ≡ Status.WriteFault → Rose (K.faults sink.old) (K.faults sink.new) }
+    // Where neither source nor sink failed, a run that was asked for is done, has a fault of its script, or lacks memory.
+    ensures complete { map (λ w. w.now) words.now ≡ codes "replay" ∷ [] → ¬ Rose (S.faults source.old) (S.faults source.new)
+        → ¬ Rose (K.faults sink.old) (K.faults sink.new) → IsAnswered result }
+{
+    if !is_replay(words) {
+        return Status::Usage;
+    }
+    let found = replay(alloc, source, journal);
+    safety();
+    report(sink, journal, found)
+}

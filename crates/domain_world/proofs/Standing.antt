@@ -1,0 +1,175 @@
+-- Nodes that stand for their parts of a journal.
+use Rattle.std.proofs.Common.{◌≡◌, ℕ, suc, ◌<◌, ◌≤◌, inl, inr, false, cond, List, [], ◌∷◌, ◌++◌, length, Some, refl, sym, ap, subst, ◌∙◌, arith, length-append}
+use Rattle.std.specs.Prelude.{slice_get, slice_set, slice_index_or}
+use Rattle.std.specs.List.{AllByRecursion}
+use Rattle.std.proofs.lemmas.List.{length-set}
+use Rattle.std.proofs.lemmas.Option.{slice_get_within, slice_get_read}
+use Rattle.domain_rules.specs.Network.{IsListed}
+use Rattle.domain_base.specs.declared.names.Node.{Node}
+use Rattle.domain_base.specs.declared.names.Node.TheVariants.{Ap, Sta}
+use Rattle.domain_base.specs.declared.names.Akm.{Akm}
+use Rattle.run_journal.specs.declared.domain.Domain.{Domain}
+use Rattle.run_journal.specs.declared.acts.Act.{Act}
+use Rattle.run_journal.specs.declared.acts.Entry.{Entry}
+use Rattle.run_journal.specs.Acts.{same}
+use Rattle.run_journal.specs.Questions.{history, add}
+use Rattle.domain_rules.specs.Explained.{push, number_of}
+use Rattle.domain_rules.proofs.Parts.{same-other}
+use Rattle.domain_rules.proofs.Journals.{history-push, history-other}
+use Rattle.station_node.specs.State.{State as StationState}
+use Rattle.station_node.specs.Stands.{Stands as StationStands}
+use Rattle.ap_node.specs.State.{State as ApState}
+use Rattle.ap_node.specs.Stands.{Stands as ApStands}
+use Rattle.domain_world.specs.State.{Nodes}
+use Rattle.domain_world.specs.Owning.{AreListed, Stand, IsPast}
+use Rattle.domain_world.proofs.Lists.{get_set, get_push}
+
+abbrev pub with_ap_node : Nodes → ℕ → ApState → Nodes
+with_ap_node n k s = record { domain = n.domain; aps = slice_set n.aps k s; stas = n.stas }
+
+abbrev pub with_station_node : Nodes → ℕ → StationState → Nodes
+with_station_node n k s = record { domain = n.domain; aps = n.aps; stas = slice_set n.stas k s }
+
+-- ---- a node takes an event
+
+other_ap : (a b : ℕ) → (a ≡ b → ⊥) → same (Ap a) (Ap b) ≡ false
+other_ap a b other = same-other (Ap a) (Ap b) (λ (e : Ap a ≡ Ap b). other (cc e))
+
+other_sta : (a b : ℕ) → (a ≡ b → ⊥) → same (Sta a) (Sta b) ≡ false
+other_sta a b other = same-other (Sta a) (Sta b) (λ (e : Sta a ≡ Sta b). other (cc e))
+
+-- the node that stands at a place
+pub at_ap : (n : Nodes) (k : ℕ) (s : ApState) → AreListed n → k < length n.domain.aps → s ≡ slice_index_or n.aps k s → slice_get n.aps k ≡ Some s
+at_ap n k s is low here = slice_get_read n.aps (length n.aps) k s refl (omega (arith, is.count_aps)) here
+
+pub at_sta : (n : Nodes) (k : ℕ) (s : StationState) → AreListed n → k < length n.domain.stas → s ≡ slice_index_or n.stas k s → slice_get n.stas k ≡ Some s
+at_sta n k s is low here = slice_get_read n.stas (length n.stas) k s refl (omega (arith, is.count_stas)) here
+
+pub listed_ap : (n : Nodes) (k : ℕ) (s : ApState) → AreListed n → s.number ≡ k → AreListed (with_ap_node n k s)
+listed_ap n k s is number = record {
+  count_aps = length-set n.aps k s ∙ is.count_aps;
+  count_stas = is.count_stas;
+  aps = λ i t at. elim (get_set n.aps k i s t at) [ inl here ↦ ap (λ (x : ApState). x.number) here.1 ∙ number ∙ sym here.0 | inr other ↦ is.aps i t other.1 ];
+  stas = is.stas;
+}
+
+pub listed_sta : (n : Nodes) (k : ℕ) (s : StationState) → AreListed n → s.number ≡ k → AreListed (with_station_node n k s)
+listed_sta n k s is number = record {
+  count_aps = is.count_aps;
+  count_stas = length-set n.stas k s ∙ is.count_stas;
+  aps = is.aps;
+  stas = λ i t at. elim (get_set n.stas k i s t at) [ inl here ↦ ap (λ (x : StationState). x.number) here.1 ∙ number ∙ sym here.0 | inr other ↦ is.stas i t other.1 ];
+}
+
+-- the access point's history is longer by its acts, and every other is the same
+ap_here : (akm : Akm) (j : List Entry) (k i : ℕ) (s t : ApState) (acts : List Act) (round : ℕ) → i ≡ k → t ≡ s → ApStands akm 0 s (add acts (history (Ap k) j))
+    → ApStands akm 0 t (history (Ap i) (push round (Ap k) acts j))
+ap_here akm j k i s t acts round at is stands =
+    subst (λ (x : ApState). ApStands akm 0 x (history (Ap i) (push round (Ap k) acts j))) (sym is)
+    (subst (λ (x : ℕ). ApStands akm 0 s (history (Ap x) (push round (Ap k) acts j))) (sym at)
+    (subst (ApStands akm 0 s) (sym (history-push round (Ap k) acts j)) stands))
+
+ap_there : (akm : Akm) (j : List Entry) (n : Node) (i : ℕ) (t : ApState) (acts : List Act) (round : ℕ) → same (Ap i) n ≡ false → ApStands akm 0 t (history (Ap i) j)
+    → ApStands akm 0 t (history (Ap i) (push round n acts j))
+ap_there akm j n i t acts round other stands = subst (ApStands akm 0 t) (sym (history-other round n (Ap i) acts j other)) stands
+
+sta_here : (j : List Entry) (k i : ℕ) (s t : StationState) (acts : List Act) (round : ℕ) → i ≡ k → t ≡ s → StationStands 0 s (add acts (history (Sta k) j))
+    → StationStands 0 t (history (Sta i) (push round (Sta k) acts j))
+sta_here j k i s t acts round at is stands =
+    subst (λ (x : StationState). StationStands 0 x (history (Sta i) (push round (Sta k) acts j))) (sym is)
+    (subst (λ (x : ℕ). StationStands 0 s (history (Sta x) (push round (Sta k) acts j))) (sym at)
+    (subst (StationStands 0 s) (sym (history-push round (Sta k) acts j)) stands))
+
+sta_there : (j : List Entry) (n : Node) (i : ℕ) (t : StationState) (acts : List Act) (round : ℕ) → same (Sta i) n ≡ false → StationStands 0 t (history (Sta i) j)
+    → StationStands 0 t (history (Sta i) (push round n acts j))
+sta_there j n i t acts round other stands = subst (StationStands 0 t) (sym (history-other round n (Sta i) acts j other)) stands
+
+pub stand_ap : (n : Nodes) (k : ℕ) (s : ApState) (acts : List Act) (j : List Entry) → Stand n j → ApStands n.domain.akm 0 s (add acts (history (Ap k) j))
+    → (round : ℕ) → Stand (with_ap_node n k s) (push round (Ap k) acts j)
+stand_ap n k s acts j is stands round = record {
+  aps = λ i t at. elim (get_set n.aps k i s t at) [
+    | inl here ↦ ap_here n.domain.akm j k i s t acts round here.0 here.1 stands
+    | inr other ↦ ap_there n.domain.akm j (Ap k) i t acts round (other_ap i k other.0) (is.aps i t other.1)
+  ];
+  stas = λ i t at. sta_there j (Ap k) i t acts round refl (is.stas i t at);
+}
+
+pub stand_sta : (n : Nodes) (k : ℕ) (s : StationState) (acts : List Act) (j : List Entry) → Stand n j → StationStands 0 s (add acts (history (Sta k) j))
+    → (round : ℕ) → Stand (with_station_node n k s) (push round (Sta k) acts j)
+stand_sta n k s acts j is stands round = record {
+  aps = λ i t at. ap_there n.domain.akm j (Sta k) i t acts round refl (is.aps i t at);
+  stas = λ i t at. elim (get_set n.stas k i s t at) [
+    | inl here ↦ sta_here j k i s t acts round here.0 here.1 stands
+    | inr other ↦ sta_there j (Sta k) i t acts round (other_sta i k other.0) (is.stas i t other.1)
+  ];
+}
+
+-- ---- a node is listed
+
+lasts : (old : List ApState) (k i : ℕ) (t : ApState) → length old ≡ k → slice_get old i ≡ Some t → i ≡ k → ⊥
+lasts old k i t count at here = omega (arith, slice_get_within old i t at)
+
+lasts_sta : (old : List StationState) (k i : ℕ) (t : StationState) → length old ≡ k → slice_get old i ≡ Some t → i ≡ k → ⊥
+lasts_sta old k i t count at here = omega (arith, slice_get_within old i t at)
+
+-- an access point, which starts
+stand_started : (old new : Nodes) (k : ℕ) (s : ApState) (acts : List Act) (j : List Entry) → new.domain.akm ≡ old.domain.akm → new.aps ≡ old.aps ++ s ∷ [] → new.stas ≡ old.stas → length old.aps ≡ k
+    → ApStands old.domain.akm 0 s (add acts []) → Stand old j → history (Ap k) j ≡ [] → Stand new (push 0 (Ap k) acts j)
+stand_started old new k s acts j akm aps stas count stands is none = record {
+  aps = λ i t at. subst (λ (x : Akm). ApStands x 0 t (history (Ap i) (push 0 (Ap k) acts j))) (sym akm)
+      (elim (get_push old.aps i s t (subst (λ (l : List ApState). slice_get l i ≡ Some t) aps at)) [
+        | inl here ↦ ap_here old.domain.akm j k i s t acts 0 (here.0 ∙ count) here.1 (subst (λ (h : List Act). ApStands old.domain.akm 0 s (add acts h)) (sym none) stands)
+        | inr earlier ↦ ap_there old.domain.akm j (Ap k) i t acts 0 (other_ap i k (lasts old.aps k i t count earlier)) (is.aps i t earlier)
+      ]);
+  stas = λ i t at. sta_there j (Ap k) i t acts 0 refl (is.stas i t (subst (λ (l : List StationState). slice_get l i ≡ Some t) stas at));
+}
+
+pub stand_more_ap : (old new : Nodes) (k : ℕ) (s : ApState) (acts waited starts : List Act) (j : List Entry) → new.domain.akm ≡ old.domain.akm → new.aps ≡ old.aps ++ s ∷ [] → new.stas ≡ old.stas → length old.aps ≡ k
+    → waited ≡ [] → acts ≡ waited ++ starts → ApStands new.domain.akm 0 s (add starts []) → Stand old j → history (Ap k) j ≡ [] → Stand new (push 0 (Ap k) acts j)
+stand_more_ap old new k s acts waited starts j akm aps stas count empty adds stands is none =
+    let same : acts ≡ starts = adds ∙ ap (λ (l : List Act). l ++ starts) empty in
+    let first : ApStands old.domain.akm 0 s (add starts []) = subst (λ (x : Akm). ApStands x 0 s (add starts [])) akm stands in
+    stand_started old new k s acts j akm aps stas count (subst (λ (g : List Act). ApStands old.domain.akm 0 s (add g [])) (sym same) first) is none
+
+-- a station, which has done nothing
+pub stand_more_sta : (old new : Nodes) (k : ℕ) (s : StationState) (j : List Entry) → new.domain.akm ≡ old.domain.akm → new.aps ≡ old.aps → new.stas ≡ old.stas ++ s ∷ [] → length old.stas ≡ k
+    → StationStands 0 s [] → Stand old j → history (Sta k) j ≡ [] → Stand new j
+stand_more_sta old new k s j akm aps stas count stands is none = record {
+  aps = λ i t at. subst (λ (x : Akm). ApStands x 0 t (history (Ap i) j)) (sym akm) (is.aps i t (subst (λ (l : List ApState). slice_get l i ≡ Some t) aps at));
+  stas = λ i t at. elim (get_push old.stas i s t (subst (λ (l : List StationState). slice_get l i ≡ Some t) stas at)) [
+    | inl here ↦ sta_here j k i s t [] 0 (here.0 ∙ count) here.1 (subst (StationStands 0 s) (sym none) stands)
+    | inr earlier ↦ is.stas i t earlier
+  ];
+}
+
+pub listed_more_ap : (old new : Nodes) (k : ℕ) (s : ApState) → length new.domain.aps ≡ suc (length old.domain.aps) → length new.domain.stas ≡ length old.domain.stas → new.aps ≡ old.aps ++ s ∷ [] → new.stas ≡ old.stas → length old.aps ≡ k
+    → s.number ≡ k → AreListed old → AreListed new
+listed_more_ap old new k s more same_stas aps stas count number is = record {
+  count_aps = omega (arith, ap length aps, length-append old.aps (s ∷ []), is.count_aps);
+  count_stas = ap length stas ∙ is.count_stas ∙ sym same_stas;
+  aps = λ i t at. elim (get_push old.aps i s t (subst (λ (l : List ApState). slice_get l i ≡ Some t) aps at)) [
+    | inl here ↦ ap (λ (x : ApState). x.number) here.1 ∙ number ∙ sym (here.0 ∙ count)
+    | inr earlier ↦ is.aps i t earlier
+  ];
+  stas = λ i t at. is.stas i t (subst (λ (l : List StationState). slice_get l i ≡ Some t) stas at);
+}
+
+-- ---- entries of listed nodes
+
+-- what a node that is not listed has done
+pub nothing_yet : (d : Domain) (rounds : ℕ) (n : Node) (j : List Entry) → AllByRecursion (IsPast d rounds) j → (IsListed d n → ⊥) → history n j ≡ []
+nothing_yet d rounds n [] all out = refl
+nothing_yet d rounds n (e ∷ past) all out =
+    let other : same n e.node ≡ false = same-other n e.node (λ (here : n ≡ e.node). out (subst (IsListed d) (sym here) all.0.listed)) in
+    ap (λ b. cond b (e.act ∷ history n past) (history n past)) other ∙ nothing_yet d rounds n past all.1 out
+
+pub past_push : (d : Domain) (rounds round : ℕ) (n : Node) (g : List Act) (j : List Entry) → round ≤ rounds → IsListed d n → AllByRecursion (IsPast d rounds) j → AllByRecursion (IsPast d rounds) (push round n g j)
+past_push d rounds round n [] j low listed all = all
+past_push d rounds round n (a ∷ g) j low listed all =
+    past_push d rounds round n g (record { round = round; node = n; number = number_of a j; act = a } ∷ j) low listed (record { round = low; listed = listed }, all)
+
+-- of more nodes, up to a later round
+pub past_more : (d e : Domain) (rounds later : ℕ) (j : List Entry) → rounds ≤ later → ((n : Node) → IsListed d n → IsListed e n) → AllByRecursion (IsPast d rounds) j → AllByRecursion (IsPast e later) j
+past_more d e rounds later [] low more all = tt
+past_more d e rounds later (x ∷ past) low more all =
+    let first : IsPast e later x = record { round = omega (arith, all.0.round, low); listed = more x.node all.0.listed } in (first, past_more d e rounds later past low more all.1)

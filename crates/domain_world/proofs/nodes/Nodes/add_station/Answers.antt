@@ -1,0 +1,14 @@
+use Rattle.std.proofs.Common.{◌≡◌, List, [], ◌∷◌, ◌++◌, length, ap, sym, ◌∙◌}
+use Rattle.station_node.specs.State.{State as StationState}
+use Rattle.domain_world.specs.State.{Nodes}
+use Rattle.domain_world.proofs.Standing.{stand_more_sta}
+use Rattle.domain_world.proofs.nodes.Nodes.add_station.Goals as goal
+
+pub returns-clause-stand : goal.returns-clause-stand
+returns-clause-stand c = λ j is none.
+    let last = c.start.result in
+    let stas : c.self.inside.stas.items ≡ c.args.self.now.stas = ap (λ (n : Nodes). n.stas) c.self.view_is in
+    let pushed = rw c.if-is_err.ensures.negation at c.push.ensures.items in
+    let count : length c.args.self.now.stas ≡ length c.args.self.now.domain.stas = ap (λ (n : Nodes). length n.stas) (sym c.self.view_is) ∙ c.self.invariant.count_stas ∙ ap (λ (n : Nodes). length n.domain.stas) c.self.view_is in
+    stand_more_sta c.args.self.now _ _ last j (ap (λ (n : Nodes). n.domain.akm) c.self.view_is) (ap (λ (n : Nodes). n.aps) c.self.view_is)
+    (pushed ∙ ap (λ (l : List StationState). l ++ last ∷ []) (c.reserve.ensures.items ∙ stas)) count c.start.ensures.stands is none

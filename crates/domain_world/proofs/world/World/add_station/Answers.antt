@@ -1,0 +1,21 @@
+use Rattle.std.proofs.Common.{◌≡◌, List, [], length, ap, subst, ◌∙◌}
+use Rattle.domain_base.specs.declared.names.Node.TheVariants.{Sta}
+use Rattle.run_journal.specs.declared.acts.Entry.{Entry}
+use Rattle.run_journal.specs.Questions.{history}
+use Rattle.domain_world.specs.State.{State, with_sta}
+use Rattle.domain_world.specs.Owning.{Stand, nodes_of}
+use Rattle.domain_world.proofs.Owned.{own_sta}
+use Rattle.domain_world.proofs.Begun.{started_sta}
+use Rattle.domain_world.proofs.world.World.add_station.Goals as goal
+
+pub returns-clause-own : goal.returns-clause-own
+returns-clause-own c = λ j own.
+    let domain = c.in_ok-add_station.ensures.domain ∙ ap (λ (w : State). with_sta w.domain c.args.address) c.self.view_is in
+    let new = c.add_station.new.self in
+    let stand = subst (λ (w : State). (i : List Entry) → Stand (nodes_of w) i → history (Sta (length w.domain.stas)) i ≡ [] → Stand new i) c.self.view_is c.in_ok-add_station.ensures.stand in
+    own_sta c.args.self.now _ c.args.address j own c.requires.form domain (ap (λ (w : State). w.rounds) c.self.view_is) (ap (λ (w : State). w.frames) c.self.view_is) c.add_station.ensures.listed stand
+
+pub returns-clause-started : goal.returns-clause-started
+returns-clause-started c = λ j before.
+    let domain = c.in_ok-add_station.ensures.domain ∙ ap (λ (w : State). with_sta w.domain c.args.address) c.self.view_is in
+    started_sta c.args.self.now.domain c.add_station.new.self.domain c.args.address j domain before

@@ -1,0 +1,15 @@
+-- What an event at a node does. For the code alone: no public contract speaks of it.
+use Rattle.std.specs.Prelude.{ℕ, List}
+use Rattle.domain_base.specs.declared.names.Node.{Node}
+use Rattle.run_journal.specs.declared.acts.Act.{Act}
+use Rattle.run_journal.specs.declared.acts.Entry.{Entry}
+use Rattle.run_journal.specs.Questions.{history}
+use Rattle.domain_rules.specs.Rows.{NodeEvent, Adds}
+use Rattle.domain_rules.specs.Explained.{push}
+use Rattle.domain_world.specs.State.{Nodes}
+use Rattle.domain_world.specs.Owning.{Stand}
+
+-- after that journal the node does these acts, and the nodes stand for the journal with them
+pub record Acted (node : Node) (event : NodeEvent) (j : List Entry) (old new : Nodes) (acts : List Act) : Type 0 where
+  pub adds : Adds old.domain 0 node (history node j) event acts
+  pub stand : (round : ℕ) → Stand new (push round node acts j)

@@ -1,0 +1,64 @@
+-- Which journals are a world's own. Journals and histories are NEWEST FIRST.
+use Rattle.std.specs.Prelude.{◌≡◌, ◌≢◌, ℕ, ◌<◌, ◌≤◌, cond, List, [], ◌∷◌, ◌++◌, length, slice_get, Some}
+use Rattle.std.specs.List.{AllByRecursion}
+use Rattle.domain_base.specs.declared.names.Akm.TheVariants.{FtPsk}
+use Rattle.domain_base.specs.declared.names.Node.TheVariants.{Ap, Sta}
+use Rattle.run_journal.specs.declared.domain.Domain.{Domain}
+use Rattle.run_journal.specs.declared.domain.Event.{Event}
+use Rattle.run_journal.specs.declared.domain.Event.TheVariants.{Connect, Deliver}
+use Rattle.run_journal.specs.declared.acts.Entry.{Entry}
+use Rattle.run_journal.specs.Acts.{is_sent}
+use Rattle.run_journal.specs.Questions.{history}
+use Rattle.domain_rules.specs.Network.{InForm, IsListed}
+use Rattle.domain_rules.specs.Explained.{frames, number_of}
+use Rattle.station_node.specs.State.{State as StationState}
+use Rattle.station_node.specs.Stands.{Stands as StationStands}
+use Rattle.ap_node.specs.State.{State as ApState}
+use Rattle.ap_node.specs.Stands.{Stands as ApStands}
+use Rattle.domain_world.specs.State.{State, Nodes}
+
+-- the event names listed nodes of the right kinds, and a frame that was sent
+abbrev pub IsEventIn : Domain → ℕ → Event → Type 0
+IsEventIn d sent (Connect s a) = (s < length d.stas) × (a < length d.aps)
+IsEventIn d sent (Deliver number to) = (1 ≤ number) × (number ≤ sent) × IsListed d to
+
+-- frames are numbered from 1 in the order of sending, and every other act has number 0
+unfoldable pub IsNumbered : List Entry → Type 0
+IsNumbered [] = Unit {0}
+IsNumbered (e ∷ past) = (e.number ≡ number_of e.act past) × IsNumbered past
+
+-- where the frames stand that were sent, counted from 0 in the order of pushing, the first frame first
+unfoldable pub places : List Entry → List ℕ
+places [] = []
+places (e ∷ past) = cond (is_sent e.act) (places past ++ length past ∷ []) (places past)
+
+-- every entry has a round up to that one, and is of a listed node
+pub record IsPast (d : Domain) (rounds : ℕ) (e : Entry) : Type 0 where
+  pub round : e.round ≤ rounds
+  pub listed : IsListed d e.node
+
+-- there are as many nodes as are listed, each with its number
+pub record AreListed (n : Nodes) : Type 0 where
+  pub count_aps : length n.aps ≡ length n.domain.aps
+  pub count_stas : length n.stas ≡ length n.domain.stas
+  pub aps : (k : ℕ) (s : ApState) → slice_get n.aps k ≡ Some s → s.number ≡ k
+  pub stas : (k : ℕ) (s : StationState) → slice_get n.stas k ≡ Some s → s.number ≡ k
+
+-- each stands for its part of the journal
+pub record Stand (n : Nodes) (j : List Entry) : Type 0 where
+  pub aps : (k : ℕ) (s : ApState) → slice_get n.aps k ≡ Some s → ApStands n.domain.akm 0 s (history (Ap k) j)
+  pub stas : (k : ℕ) (s : StationState) → slice_get n.stas k ≡ Some s → StationStands 0 s (history (Sta k) j)
+
+abbrev pub nodes_of : State → Nodes
+nodes_of w = record { domain = w.domain; aps = w.aps; stas = w.stas }
+
+-- the world stands for the journal: each node for its part of it
+pub record Owns (w : State) (j : List Entry) : Type 0 where
+  pub form : InForm w.domain
+  pub suite : w.domain.akm ≢ FtPsk
+  pub count : length w.frames ≡ frames j
+  pub listed : AreListed (nodes_of w)
+  pub stand : Stand (nodes_of w) j
+  pub numbered : IsNumbered j
+  pub places : w.frames ≡ places j
+  pub past : AllByRecursion (IsPast w.domain w.rounds) j

@@ -1,0 +1,10 @@
+//! A domain of access points and stations, one event at a time, journaled.
+#![tactic(auto)]
+
+mod journaling;
+mod nodes;
+#[cfg(test)]
+mod tests;
+mod world;
+
+pub use world::World;

@@ -1,0 +1,188 @@
+//! The network and its nodes.
+
+ghost use Rattle.std.specs.Prelude.{◌≡◌, ◌≢◌, ◌<◌, ℕ, List, [], ◌∷◌, ◌++◌, length, IfOk, OnOk, OnErr};
+ghost use Rattle.domain_base.specs.declared.names.Akm.{Akm as AnyAkm};
+ghost use Rattle.domain_base.specs.declared.names.Node.TheVariants.{Ap as ApOf, Sta as StaOf};
+ghost use Rattle.run_journal.specs.declared.domain.ListedAp.{ListedAp as Listed};
+ghost use Rattle.run_journal.specs.declared.acts.Entry.{Entry};
+ghost use Rattle.run_journal.specs.Questions.{history};
+ghost use Rattle.domain_rules.specs.Network.{InForm, IsListed};
+ghost use Rattle.domain_rules.specs.Rows.{start_acts};
+ghost use Rattle.domain_rules.specs.Explained.{push};
+ghost use Rattle.node_frames.specs.Events.{event_of, IsEventAt};
+ghost use Rattle.domain_world.specs.State.{Nodes as AllNodes, with_ap, with_sta};
+
+use ap_node::ApNode;
+use domain_base::{Mac, NoMemory, Node, Octets};
+use node_frames::{NodeEvent, Outbox};
+use run_journal::{Aps, Domain, ListedAp, Stas};
+use station_node::StationNode;
+use std::alloc::Global;
+use std::marker::Model;
+
+/// The network and its nodes.
+#[derive(Drop)]
+pub(crate) struct Nodes {
+    domain: Domain,
+    aps: Vec<ApNode>,
+    stas: Vec<StationNode>,
+}
+
+impl Model for Nodes {
+    ghost use Rattle.domain_world.specs.State.{Nodes as Kept};
+    ghost use Rattle.domain_world.specs.Owning.{AreListed};
+
+    ghost Value = { Kept };
+
+    ghost view = { λ n. record { domain = n.domain; aps = n.aps.items; stas = n.stas.items } };
+
+    ghost invariant = { λ n. AreListed (record { domain = n.domain; aps = n.aps.items; stas = n.stas.items }) };
+}
+
+// One more listed access point.
+fn list_ap(aps: &mut Aps, ap: ListedAp) -> Result<(), NoMemory>
+    ensures ok { OnOk result (aps.new ≡ aps.old ++ ap ∷ []) }
+    ensures err { OnErr result (aps.new ≡ aps.old) }
+{
+    aps.0.push(ap)?;
+    Ok(())
+}
+
+// One more listed station.
+fn list_station(stas: &mut Stas, address: Mac) -> Result<(), NoMemory>
+    ensures ok { OnOk result (stas.new ≡ stas.old ++ address ∷ []) }
+    ensures err { OnErr result (stas.new ≡ stas.old) }
+{
+    stas.0.push(address)?;
+    Ok(())
+}
+
+// The access point that was listed last is listed no more.
+fn unlist_ap(aps: &mut Aps)
+    ensures { (before : List Listed) (last : Listed) → aps.old ≡ before ++ last ∷ [] → aps.new ≡ before }
+{
+    let _last = aps.0.pop();
+}
+
+impl Nodes {
+    ghost use Rattle.domain_world.specs.Owning.{AreListed, Stand};
+    ghost use Rattle.domain_world.specs.Acting.{Acted};
+
+    /// The network with that header, and no nodes.
+    pub(crate) fn new(alloc: Global, header: &Domain) -> Result<Self, NoMemory>
+        requires no_aps { header.now.aps ≡ [] }
+        requires no_stas { header.now.stas ≡ [] }
+        ensures domain { IfOk result (λ n. n.domain ≡ header.now) }
+        ensures listed { IfOk result (λ n. AreListed n) }
+        ensures stand { IfOk result (λ n. Stand n []) }
+    {
+        let ssid = Vec::from_slice(alloc, header.ssid.0.as_slice())?;
+        Ok(Nodes {
+            domain: Domain {
+                seed: header.seed,
+                ssid: Octets(ssid),
+                psk: header.psk,
+                akm: header.akm,
+                mdid: header.mdid,
+                aps: Aps(Vec::new(alloc)),
+                stas: Stas(Vec::new(alloc)),
+            },
+            aps: Vec::new(alloc),
+            stas: Vec::new(alloc),
+        })
+    }
+
+    /// The network.
+    pub(crate) fn domain(&self) -> &Domain
+        ensures { result.now ≡ self.now.domain }
+    {
+        &self.domain
+    }
+
+    /// One more access point, which starts: its node, and what it does put in the outbox.
+    pub(crate) fn add_ap(
+        &mut self,
+        alloc: Global,
+        address: Mac,
+        r0kh_id: Octets,
+        out: &mut Outbox,
+    ) -> Result<Node, NoMemory>
+        requires form { InForm (with_ap self.old.domain address r0kh_id) }
+        requires waiting { out.old.acts ≡ [] }
+        ensures node { IfOk result (λ node. node ≡ ApOf (length self.old.domain.aps)) }
+        ensures domain { OnOk result (self.new.domain ≡ with_ap self.old.domain address r0kh_id) }
+        ensures listed { AreListed self.new }
+        ensures acts { IfOk result (λ node. out.new.acts ≡ start_acts self.new.domain 0 node) }
+        ensures stand { IfOk result (λ node. (j : List Entry) → Stand self.old j → history node j ≡ []
+            → Stand self.new (push 0 node out.new.acts j)) }
+        ensures same { OnErr result (self.new ≡ self.old) }
+        ensures kept { OnErr result (out.new.acts ≡ []) }
+    {
+        let number = self.aps.len() as u16;
+        self.aps.reserve(1)?;
+        list_ap(&mut self.domain.aps, ListedAp { address, r0kh_id })?;
+        match ApNode::start(alloc, &self.domain, number, 0, out) {
+            Ok(node) => {
+                if self.aps.push(node).is_err() {
+                    unreachable!()
+                }
+                Ok(Node::Ap(number))
+            }
+            Err(error) => {
+                unlist_ap(&mut self.domain.aps);
+                Err(error)
+            }
+        }
+    }
+
+    /// One more station.
+    pub(crate) fn add_station(&mut self, address: Mac) -> Result<(), NoMemory>
+        requires form { InForm (with_sta self.old.domain address) }
+        ensures domain { OnOk result (self.new.domain ≡ with_sta self.old.domain address) }
+        ensures listed { AreListed self.new }
+        ensures stand { OnOk result ((j : List Entry) → Stand self.old j → history (StaOf (length self.old.domain.stas)) j ≡ []
+            → Stand self.new j) }
+        ensures same { OnErr result (self.new ≡ self.old) }
+    {
+        let number = self.stas.len() as u16;
+        self.stas.reserve(1)?;
+        list_station(&mut self.domain.stas, address)?;
+        if self.stas.push(StationNode::start(number, 0)).is_err() {
+            unreachable!()
+        }
+        Ok(())
+    }
+
+    /// One event at a node, whose acts are put in the empty outbox.
+    pub(crate) fn step(
+        &mut self,
+        alloc: Global,
+        node: Node,
+        event: NodeEvent<'_>,
+        out: &mut Outbox,
+    ) -> Result<(), NoMemory>
+        requires form { InForm self.old.domain }
+        requires suite { self.old.domain.akm ≢ AnyAkm.FtPsk }
+        requires listed { IsListed self.old.domain node }
+        requires event { IsEventAt self.old.domain node (event_of event) }
+        requires waiting { out.old.acts ≡ [] }
+        ensures domain { self.new.domain ≡ self.old.domain }
+        ensures listed { AreListed self.new }
+        ensures acted { OnOk result ((j : List Entry) → Stand self.old j
+            → Acted node (event_of event.entry) j self.old self.new out.new.acts) }
+        ensures same { OnErr result (self.new ≡ self.old) }
+        ensures kept { OnErr result (out.new.acts ≡ []) }
+    {
+        match node {
+            Node::Ap(number) => {
+                let ap = &mut self.aps[usize::from(number)];
+                ap.step(alloc, &self.domain, event, out)?;
+            }
+            Node::Sta(number) => {
+                let station = &mut self.stas[usize::from(number)];
+                station.step(alloc, &self.domain, event, out)?;
+            }
+        }
+        Ok(())
+    }
+}

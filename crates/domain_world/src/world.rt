@@ -1,0 +1,189 @@
+//! The world: its nodes, the frames sent and the rounds run.
+
+ghost use Rattle.std.specs.Prelude.{◌≡◌, ◌≢◌, ◌≤◌, ◌<◌, ◌+◌, ◌^◌, suc, ℕ, List, [], length, IfOk, OnOk, OnErr};
+ghost use Rattle.domain_base.specs.declared.names.Akm.{Akm as AnyAkm};
+ghost use Rattle.run_journal.specs.declared.acts.Entry.{Entry};
+ghost use Rattle.domain_rules.specs.Network.{InForm, IsListed};
+ghost use Rattle.domain_rules.specs.Explained.{Happens, Step, WasSent, started};
+ghost use Rattle.node_frames.specs.Events.{event_of, IsEventAt};
+ghost use Rattle.domain_world.specs.State.{with_ap, with_sta};
+
+use crate::journaling::journal_acts;
+use crate::nodes::Nodes;
+use domain_base::{Mac, NoMemory, Node, Octets};
+use node_frames::{NodeEvent, Outbox};
+use run_journal::{Act, Domain, Event, Journal};
+use std::alloc::Global;
+use std::marker::Model;
+
+// No event adds more acts.
+const MOST_ACTS: usize = 8;
+
+/// A domain whose access points and stations take one event at a time.
+#[derive(Drop)]
+pub struct World {
+    alloc: Global,
+    nodes: Nodes,
+    // where in the journal each frame stands
+    frames: Vec<usize>,
+    rounds: u64,
+    // empty between events
+    out: Outbox,
+}
+
+impl Model for World {
+    ghost use Rattle.std.specs.Prelude.{◌≡◌, []};
+    ghost use Rattle.domain_world.specs.State.{State};
+
+    ghost Value = { State };
+
+    ghost view = { λ w. record {
+      domain = w.nodes.domain;
+      aps = w.nodes.aps;
+      stas = w.nodes.stas;
+      frames = w.frames.items;
+      rounds = w.rounds;
+    } };
+
+    ghost invariant = { λ w. w.out.acts ≡ [] };
+}
+
+impl World {
+    ghost use Rattle.domain_world.specs.Owning.{Owns, IsEventIn};
+
+    /// A world of that network, in which no node is listed yet, and which is in form.
+    pub fn start(alloc: Global, domain: &Domain) -> Result<Self, NoMemory>
+        requires form { InForm domain.now }
+        requires suite { domain.now.akm ≢ AnyAkm.FtPsk }
+        requires no_aps { domain.now.aps ≡ [] }
+        requires no_stas { domain.now.stas ≡ [] }
+        ensures domain { IfOk result (λ w. w.domain ≡ domain.now) }
+        ensures rounds { IfOk result (λ w. w.rounds ≡ 0) }
+        ensures own { IfOk result (λ w. Owns w []) }
+    {
+        let nodes = Nodes::new(alloc, domain)?;
+        Ok(World {
+            alloc,
+            nodes,
+            frames: Vec::new(alloc),
+            rounds: 0,
+            out: Outbox::new(alloc),
+        })
+    }
+
+    /// One more access point. It starts: what it does is journaled in round 0.
+    ///
+    /// No event came yet, and the journal is this world's own.
+    pub fn add_ap(
+        &mut self,
+        address: Mac,
+        r0kh_id: Octets,
+        journal: &mut Journal,
+    ) -> Result<(), NoMemory>
+        requires own { Owns self.old journal.old.entries }
+        requires first { self.old.rounds ≡ 0 }
+        requires form { InForm (with_ap self.old.domain address r0kh_id) }
+        ensures domain { OnOk result (self.new.domain ≡ with_ap self.old.domain address r0kh_id) }
+        ensures own { Owns self.new journal.new.entries }
+        ensures rounds { self.new.rounds ≡ self.old.rounds }
+        ensures started { OnOk result (journal.old.entries ≡ started self.old.domain (length self.old.domain.aps)
+            → journal.new.entries ≡ started self.new.domain (length self.new.domain.aps)) }
+        ensures same { OnErr result (self.new ≡ self.old) }
+        ensures kept { OnErr result (journal.new.entries ≡ journal.old.entries) }
+    {
+        journal.reserve(MOST_ACTS)?;
+        self.frames.reserve(MOST_ACTS)?;
+        let node = self
+            .nodes
+            .add_ap(self.alloc, address, r0kh_id, &mut self.out)?;
+        journal_acts(0, node, &mut self.out, &mut self.frames, journal);
+        Ok(())
+    }
+
+    /// One more station. No event came yet.
+    pub fn add_station(&mut self, address: Mac) -> Result<(), NoMemory>
+        requires first { self.old.rounds ≡ 0 }
+        requires form { InForm (with_sta self.old.domain address) }
+        ensures domain { OnOk result (self.new.domain ≡ with_sta self.old.domain address) }
+        ensures own { (j : List Entry) → Owns self.old j → Owns self.new j }
+        ensures rounds { self.new.rounds ≡ self.old.rounds }
+        ensures started { OnOk result ((j : List Entry) → j ≡ started self.old.domain (length self.old.domain.aps)
+            → j ≡ started self.new.domain (length self.new.domain.aps)) }
+        ensures same { OnErr result (self.new ≡ self.old) }
+    {
+        self.nodes.add_station(address)?;
+        Ok(())
+    }
+
+    /// One event, a round by itself. The journal is this world's own; the event names listed nodes of the right kinds and a
+    /// frame that was sent.
+    pub fn event(&mut self, event: &Event, journal: &mut Journal) -> Result<(), NoMemory>
+        requires own { Owns self.old journal.old.entries }
+        requires event { IsEventIn self.old.domain (length self.old.frames) event.now }
+        requires few { self.old.rounds + 1 < 2 ^ 64 }
+        ensures step { OnOk result (Step self.old.domain (suc self.old.rounds) event.now journal.old.entries journal.new.entries) }
+        ensures rounds { OnOk result (self.new.rounds ≡ suc self.old.rounds) }
+        ensures domain { self.new.domain ≡ self.old.domain }
+        ensures own { Owns self.new journal.new.entries }
+        ensures same { OnErr result (self.new ≡ self.old) }
+        ensures kept { OnErr result (journal.new.entries ≡ journal.old.entries) }
+    {
+        journal.reserve(MOST_ACTS)?;
+        self.frames.reserve(MOST_ACTS)?;
+        let (node, at_node) = self.at_node(event, journal);
+        self.nodes.step(self.alloc, node, at_node, &mut self.out)?;
+        let round = self.rounds + 1;
+        journal_acts(round, node, &mut self.out, &mut self.frames, journal);
+        self.rounds = round;
+        Ok(())
+    }
+
+    // What the event is in the next round, and at which node.
+    fn at_node<'a>(&self, event: &Event, journal: &'a Journal) -> (Node, NodeEvent<'a>)
+        requires own { Owns self.now journal.now.entries }
+        requires event { IsEventIn self.now.domain (length self.now.frames) event.now }
+        ensures happens { Happens event.now journal.now.entries (suc self.now.rounds) result.0 (event_of result.1) }
+        ensures listed { IsListed self.now.domain result.0 }
+        ensures event { IsEventAt self.now.domain result.0 (event_of result.1) }
+    {
+        match *event {
+            Event::Connect { sta, ap } => (Node::Sta(sta), NodeEvent::Connect(ap)),
+            Event::Deliver { number, to } => (to, NodeEvent::Take(self.frame(number, journal))),
+        }
+    }
+
+    /// The octets of the frame of that number, from 1. The journal is this world's own, and the frame was sent.
+    pub fn frame<'a>(&self, number: u64, journal: &'a Journal) -> &'a [u8]
+        requires own { Owns self.now journal.now.entries }
+        requires some { 1 ≤ number }
+        requires sent { number ≤ length self.now.frames }
+        ensures { WasSent journal.now.entries (suc self.now.rounds) number result.now }
+    {
+        let place = self.frames[(number - 1) as usize];
+        match &journal.at(place).act {
+            Act::Sent { octets, .. } => octets.as_slice(),
+            _ => unreachable!(),
+        }
+    }
+
+    /// How many frames were sent.
+    pub fn frames(&self) -> usize
+        ensures { result ≡ length self.now.frames }
+    {
+        self.frames.len()
+    }
+
+    /// How many rounds were run.
+    pub fn rounds(&self) -> u64
+        ensures { result ≡ self.now.rounds }
+    {
+        self.rounds
+    }
+
+    /// The network: the header and the nodes listed so far.
+    pub fn domain(&self) -> &Domain
+        ensures { result.now ≡ self.now.domain }
+    {
+        self.nodes.domain()
+    }
+}

@@ -1,0 +1,20 @@
+-- What the code that reads a header keeps, as what the header has said.
+use Rattle.std.specs.Prelude.{◌&&◌, Bool, true, nat_le, length}
+use Rattle.frame_script.specs.declared.script.header.Due.{Due}
+use Rattle.frame_script.specs.declared.script.header.Due.TheVariants.{Version, Seed, Ssid, Psk, Akm}
+use Rattle.frame_script.specs.Script.{Draft, AtVersion, AtSeed, AtSsid, AtPsk, AtAkm}
+
+abbrev pub draft_of : Due → Draft
+draft_of Version = AtVersion
+draft_of Seed = AtSeed
+draft_of (Ssid seed) = AtSsid seed
+draft_of (Psk seed ssid) = AtPsk seed ssid
+draft_of (Akm seed ssid psk) = AtAkm seed ssid psk
+
+-- whether the SSID, where the header has told it, has 1 to 32 octets
+abbrev pub is_fit : Due → Bool
+is_fit (Psk seed ssid) = nat_le 1 (length ssid) && nat_le (length ssid) 32
+is_fit (Akm seed ssid psk) = nat_le 1 (length ssid) && nat_le (length ssid) 32
+is_fit Version = true
+is_fit Seed = true
+is_fit (Ssid seed) = true

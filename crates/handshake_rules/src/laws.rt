@@ -1,0 +1,49 @@
+//! Laws of the definitions. The functions do nothing; their contracts are proved.
+
+ghost use Rattle.std.specs.Prelude.{◌≡◌, ℕ, ◌<◌, List, length};
+ghost use Rattle.domain_base.specs.declared.names.Akm.TheVariants.{Psk};
+ghost use Rattle.domain_base.specs.declared.names.Node.{Node};
+ghost use Rattle.run_journal.specs.declared.domain.Domain.{Domain};
+ghost use Rattle.run_journal.specs.declared.acts.Act.{Act};
+ghost use Rattle.run_journal.specs.declared.acts.Entry.{Entry};
+ghost use Rattle.domain_rules.specs.Network.{InForm};
+ghost use Rattle.domain_rules.specs.Example.{AreWhole};
+ghost use Rattle.domain_rules.specs.Reading.{Reading, Reads};
+ghost use Rattle.handshake_rules.specs.Verdict.{Facts, Knows, verdict};
+ghost use Rattle.handshake_rules.specs.Rows.{NodeEvent, Take, Begin, Retry, Adds};
+ghost use Rattle.handshake_rules.specs.Events.{Event};
+ghost use Rattle.handshake_rules.specs.Explained.{Explained};
+ghost use Rattle.handshake_rules.specs.Example.{HasHandshake};
+
+/// One outcome comes of octets, by the history of the node alone.
+pub fn one_outcome()
+    ensures { (d : Domain) (first : ℕ) (n : Node) (h : List Act) (octets : List ℕ) (r s : Reading) (f g : Facts)
+        → Reads d.akm octets r → Reads d.akm octets s → Knows d first n h r f → Knows d first n h s g
+        → verdict d first n h r f ≡ verdict d first n h s g }
+{}
+
+/// An event adds one group of acts to the history of a node at most, and whatever octets read as, and at each begin of an
+/// attempt and each repeat, there is one.
+pub fn one_group()
+    ensures one { (d : Domain) (first : ℕ) (n : Node) (h : List Act) (event : NodeEvent) (f g : List Act)
+        → Adds d first n h event f → Adds d first n h event g → f ≡ g }
+    ensures taken { (d : Domain) (first : ℕ) (n : Node) (h : List Act) (octets : List ℕ) (r : Reading) (facts : Facts)
+        → Reads d.akm octets r → Knows d first n h r facts → (g : List Act) × Adds d first n h (Take octets) g }
+    ensures begun { (d : Domain) (first : ℕ) (n : Node) (h : List Act) (a : ℕ)
+        → (g : List Act) × Adds d first n h (Begin a) g }
+    ensures again { (d : Domain) (first : ℕ) (n : Node) (h : List Act) (s : ℕ)
+        → (g : List Act) × Adds d first n h (Retry s) g }
+{}
+
+/// The network and the rounds determine the journal.
+pub fn one_journal()
+    ensures { (d : Domain) (rounds : List (List Event)) (j k : List Entry) → Explained d rounds j → Explained d rounds k → j ≡ k }
+{}
+
+/// The definitions are not about nothing: by them, in every network in form with suite 2, any station asks any access
+/// point for association, and the four messages are accepted one after the other. Both nodes then finish with one pairwise
+/// key of the same inputs installed, and the station with the access point's group key.
+pub fn handshake_is_explained()
+    ensures { (d : Domain) (a s : ℕ) → InForm d → AreWhole d → d.akm ≡ Psk → a < length d.aps → s < length d.stas
+        → HasHandshake d a s }
+{}

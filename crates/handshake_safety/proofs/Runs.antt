@@ -1,0 +1,140 @@
+-- The journal of a run: each act of each node was legal when it was added.
+use Rattle.std.proofs.Common.{ℕ, zero, suc, ◌≡◌, ◌≤◌, inl, inr, Bool, true, false, cond, List, [], ◌∷◌, length, refl, sym, ap, subst, arith}
+use Rattle.std.proofs.lemmas.Bool.{cases_lt}
+use Rattle.domain_base.specs.declared.names.Node.{Node}
+use Rattle.domain_base.specs.declared.names.Node.TheVariants.{Ap, Sta}
+use Rattle.key_hierarchy.proofs.Lengths.{length-kdf}
+use Rattle.run_journal.specs.declared.domain.Domain.{Domain}
+use Rattle.handshake_rules.specs.Events.{Event}
+use Rattle.run_journal.specs.declared.acts.Act.{Act}
+use Rattle.run_journal.specs.declared.acts.Entry.{Entry}
+use Rattle.run_journal.specs.Acts.{same}
+use Rattle.run_journal.specs.Questions.{history, add}
+use Rattle.run_journal.specs.Premises.{In}
+use Rattle.domain_rules.specs.Network.{gtk, is_ap, IsListed}
+use Rattle.domain_rules.specs.Rows.{start_acts}
+use Rattle.domain_rules.specs.Explained.{number_of, push, started}
+use Rattle.handshake_rules.specs.Explained.{Step, Follows, Explained}
+use Rattle.domain_rules.proofs.Parts.{same-true, same-refl}
+use Rattle.domain_rules.proofs.Journals.{history-started_sta, history-not_started, history-started}
+use Rattle.handshake_rules.proofs.KeyOctets.{octets-kdf}
+use Rattle.handshake_safety.proofs.Legal.{Legal, LegalHistory, Chain}
+use Rattle.handshake_safety.proofs.Settled.{Settled, Fine}
+use Rattle.handshake_safety.proofs.Retries.{adds_fine}
+
+-- no entry is of a later round
+abbrev pub Until : ℕ → List Entry → Type 0
+Until r past = (m : Entry) → In m past → m.round ≤ r
+
+abbrev pub LegalJournal : Domain → List Entry → Type 0
+LegalJournal d [] = Unit {0}
+LegalJournal d (l ∷ past) = Legal d l.node (history l.node past) l.act × Until l.round past × LegalJournal d past
+
+abbrev entry_of : ℕ → Node → Act → List Entry → Entry
+entry_of r n e past = record { round = r; node = n; number = number_of e past; act = e }
+
+history_own : (r : ℕ) (n : Node) (e : Act) (past : List Entry) → history n (entry_of r n e past ∷ past) ≡ e ∷ history n past
+history_own r n e past = rw (same-refl n) refl
+
+other_history : (r : ℕ) (n m : Node) (e : Act) (past : List Entry) → same m n ≡ false → history m (entry_of r n e past ∷ past) ≡ history m past
+other_history r n m e past is = rw is refl
+
+history_by : (d : Domain) (n : Node) (l : Entry) (past : List Entry) → Legal d l.node (history l.node past) l.act → LegalHistory d n (history n past) → (b : Bool) → same n l.node ≡ b → LegalHistory d n (cond b (l.act ∷ history n past) (history n past))
+history_by d n l past legal more true is = let e : n ≡ l.node = same-true n l.node is in (subst (λ (x : Node). Legal d x (history x past) l.act) (sym e) legal, more)
+history_by d n l past legal more false is = more
+
+pub legal_history : (d : Domain) (n : Node) (past : List Entry) → LegalJournal d past → LegalHistory d n (history n past)
+legal_history d n [] j = tt
+legal_history d n (l ∷ past) j = history_by d n l past j.0 (legal_history d n past j.2) (same n l.node) refl
+
+-- what holds after each round
+pub record Sound (d : Domain) (r : ℕ) (past : List Entry) : Type 0 where
+  pub legal : LegalJournal d past
+  pub until : Until r past
+  pub settled : (n : Node) → Settled d n (history n past)
+
+-- what holds of one group, halfway
+pub record Halfway (d : Domain) (r : ℕ) (n : Node) (g : List Act) (past : List Entry) : Type 0 where
+  pub legal : LegalJournal d past
+  pub until : Until r past
+  pub chain : Chain d n (history n past) g
+  pub own : Settled d n (add g (history n past))
+  pub others : (m : Node) → same m n ≡ false → Settled d m (history m past)
+
+push_sound_at : (d : Domain) (r : ℕ) (n m : Node) (past : List Entry) → Halfway d r n [] past → (b : Bool) → same m n ≡ b → Settled d m (history m past)
+push_sound_at d r n m past w true is = subst (λ (x : Node). Settled d x (history x past)) (sym (same-true m n is)) w.own
+push_sound_at d r n m past w false is = w.others m is
+
+until_more : (r : ℕ) (l : Entry) (past : List Entry) → l.round ≡ r → Until r past → Until r (l ∷ past)
+until_more r l past is until m (inl here) = let k : m.round ≡ l.round = ap (λ (x : Entry). x.round) here in omega (arith, k, is)
+until_more r l past is until m (inr later) = until m later
+
+push_sound : (d : Domain) (r : ℕ) (n : Node) (g : List Act) (past : List Entry) → Halfway d r n g past → Sound d r (push r n g past)
+push_sound d r n [] past w = record { legal = w.legal; until = w.until; settled = λ m. push_sound_at d r n m past w (same m n) refl }
+push_sound d r n (e ∷ g) past w =
+    let l : Entry = entry_of r n e past in
+    push_sound d r n g (l ∷ past) (record {
+      legal = (w.chain.0, w.until, w.legal);
+      until = until_more r l past refl w.until;
+      chain = subst (λ (x : List Act). Chain d n x g) (sym (history_own r n e past)) w.chain.1;
+      own = subst (λ (x : List Act). Settled d n (add g x)) (sym (history_own r n e past)) w.own;
+      others = λ m is. subst (λ (x : List Act). Settled d m x) (sym (other_history r n m e past is)) (w.others m is);
+    })
+
+step_sound : (d : Domain) (r : ℕ) (event : Event) (old new : List Entry) → Step d r event old new → Sound d r old → Sound d r new
+step_sound d r event old new step s =
+    let fine : Fine d step.node (history step.node old) step.acts = adds_fine d 0 step.node (history step.node old) step.at_node step.acts (legal_history d step.node old s.legal) (s.settled step.node) step.group in
+    subst (λ (x : List Entry). Sound d r x) (sym step.is)
+    (push_sound d r step.node step.acts old (record { legal = s.legal; until = s.until; chain = fine.chain; own = fine.settled; others = λ m is. s.settled m }))
+
+follows_sound : (d : Domain) (r : ℕ) (events : List Event) (old new : List Entry) → Follows d r events old new → Sound d r old → Sound d r new
+follows_sound d r [] old new is s = subst (λ (x : List Entry). Sound d r x) (sym is) s
+follows_sound d r (event ∷ events) old new (mid, (step, rest)) s = follows_sound d r events mid new rest (step_sound d r event old mid step s)
+
+-- ---- the start
+
+start_chain : (d : Domain) (k : ℕ) → Chain d (Ap k) [] (start_acts d 0 (Ap k))
+unfolding gtk
+start_chain d k = (record { ap = refl; octets = octets-kdf _ _ _ 16; size = length-kdf _ _ _ 16; first = refl }, (record { ap = refl; newest = refl }, tt))
+
+-- legal as far as it goes, in round 0
+pub record Begun (d : Domain) (past : List Entry) : Type 0 where
+  pub legal : LegalJournal d past
+  pub until : Until 0 past
+
+begun_push : (d : Domain) (n : Node) (g : List Act) (past : List Entry) → Chain d n (history n past) g → Begun d past → Begun d (push 0 n g past)
+begun_push d n [] past chain w = w
+begun_push d n (e ∷ g) past chain w =
+    let l : Entry = entry_of 0 n e past in
+    begun_push d n g (l ∷ past) (subst (λ (x : List Act). Chain d n x g) (sym (history_own 0 n e past)) chain.1) (record { legal = (chain.0, w.until, w.legal); until = until_more 0 l past refl w.until })
+
+started_begun : (d : Domain) (k : ℕ) → Begun d (started d k)
+unfolding started
+started_begun d zero = record { legal = tt; until = λ m there. absurd there }
+started_begun d (suc k) = begun_push d (Ap k) (start_acts d 0 (Ap k)) (started d k) (subst (λ (x : List Act). Chain d (Ap k) x (start_acts d 0 (Ap k))) (sym (history-not_started d k k (omega arith))) (start_chain d k)) (started_begun d k)
+
+settled_none : (d : Domain) (n : Node) → (is_ap n ≡ true → IsListed d n → ⊥) → Settled d n []
+settled_none d n other = record { bare = λ p part a. cc a; nonced = λ p part a. cc a; started = λ role listed. absurd (other role listed) }
+
+settled_start : (d : Domain) (k : ℕ) → Settled d (Ap k) (add (start_acts d 0 (Ap k)) [])
+settled_start d k = record { bare = λ p part a. cc a; nonced = λ p part a. cc a; started = λ role listed. (gtk d (Ap k) 0, inl refl) }
+
+settled_started : (d : Domain) (n : Node) → Settled d n (history n (started d (length d.aps)))
+settled_started d (Sta s) = subst (λ (x : List Act). Settled d (Sta s) x) (sym (history-started_sta d s (length d.aps))) (settled_none d (Sta s) (λ role listed. cc role))
+settled_started d (Ap k) = elim (cases_lt k (length d.aps)) [
+  | inl low ↦ subst (λ (x : List Act). Settled d (Ap k) x) (sym (history-started d k (length d.aps) low)) (settled_start d k)
+  | inr high ↦ subst (λ (x : List Act). Settled d (Ap k) x) (sym (history-not_started d k (length d.aps) high)) (settled_none d (Ap k) (λ role listed. omega (arith, listed, high)))
+]
+
+sound_start : (d : Domain) → Sound d 0 (started d (length d.aps))
+sound_start d = let w = started_begun d (length d.aps) in record { legal = w.legal; until = w.until; settled = settled_started d }
+
+-- ---- a run
+
+later_round : (d : Domain) (r : ℕ) (past : List Entry) → Sound d r past → Sound d (suc r) past
+later_round d r past s = record { legal = s.legal; until = λ m there. omega (arith, s.until m there); settled = s.settled }
+
+pub run_sound : (d : Domain) (rounds : List (List Event)) (j : List Entry) → Explained d rounds j → Sound d (length rounds) j
+unfolding Explained
+run_sound d [] j is = subst (λ (x : List Entry). Sound d 0 x) (sym is) (sound_start d)
+run_sound d (round ∷ rounds) j (old, (earlier, follows)) = follows_sound d (suc (length rounds)) round old j follows (later_round d (length rounds) old (run_sound d rounds old earlier))

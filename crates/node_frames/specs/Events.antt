@@ -1,0 +1,30 @@
+-- Events at nodes, and what one step of a node does.
+use Rattle.std.specs.Prelude.{◌≡◌, ℕ, ◌<◌, List, ◌++◌, length}
+use Rattle.domain_base.specs.declared.names.Node.{Node}
+use Rattle.domain_base.specs.declared.names.Node.TheVariants.{Ap, Sta}
+use Rattle.run_journal.specs.declared.domain.Domain.{Domain}
+use Rattle.run_journal.specs.declared.acts.Act.{Act}
+use Rattle.run_journal.specs.declared.acts.Outcome.{Outcome}
+use Rattle.run_journal.specs.Questions.{add}
+use Rattle.domain_rules.specs.Rows.{NodeEvent as AnyEvent, Take, Begin, Adds, outcome_of}
+use Rattle.node_frames.specs.declared.event.NodeEvent.{NodeEvent}
+use Rattle.node_frames.specs.declared.event.NodeEvent.TheVariants as event
+
+abbrev pub event_of : NodeEvent → AnyEvent
+event_of (event.Take octets) = Take octets.now
+event_of (event.Connect a) = Begin a
+
+-- the other node is listed; access points begin no attempts
+abbrev pub IsEventAt : Domain → Node → AnyEvent → Type 0
+IsEventAt d n (Take octets) = Unit {0}
+IsEventAt d (Ap k) (Begin a) = ⊥
+IsEventAt d (Sta k) (Begin a) = a < length d.aps
+
+-- A node that stands for the history h of node n is taken by the event to one that stands for the history with these acts,
+-- which are put behind those that waited.
+pub record Steps (d : Domain) (first : ℕ) (n : Node) (event : AnyEvent) (Stands : List Act → Type 0) (h : List Act) (waited waits : List Act) (outcome : Outcome) : Type 0 where
+  pub acts : List Act
+  pub adds : Adds d first n h event acts
+  pub waiting : waits ≡ waited ++ acts
+  pub came : outcome ≡ outcome_of acts
+  pub stands : Stands (add acts h)

@@ -1,0 +1,4 @@
+pub mod Views
+pub mod Events
+pub mod Judging
+pub mod Waiting

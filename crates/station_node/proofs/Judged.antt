@@ -1,0 +1,60 @@
+-- What a station knows of a frame by what it was judged as.
+use Rattle.std.proofs.Common.{◌≡◌, ℕ, true, List, [], ◌∷◌, ◌++◌, Option, Some, None, refl, ap, subst, ◌∙◌}
+use Rattle.domain_base.specs.declared.names.Node.{Node}
+use Rattle.domain_base.specs.declared.names.Node.TheVariants.{Ap, Sta}
+use Rattle.rsn_elements.specs.Fields.{element_fields}
+use Rattle.rsn_elements.specs.declared.reading.Elements.{Elements}
+use Rattle.run_journal.specs.declared.domain.Domain.{Domain}
+use Rattle.run_journal.specs.declared.acts.Kind.{Kind}
+use Rattle.run_journal.specs.declared.acts.Outcome.{Outcome}
+use Rattle.run_journal.specs.declared.acts.Act.{Act}
+use Rattle.run_journal.specs.declared.acts.Act.TheVariants.{Took}
+use Rattle.domain_rules.specs.Network.{is_ap}
+use Rattle.domain_rules.specs.Reading.{Reading, Reads, kind_of}
+use Rattle.domain_rules.specs.Verdict.{first_verdict, management_verdict, key_verdict}
+use Rattle.domain_rules.specs.Rows.{Take, sender}
+use Rattle.node_frames.specs.declared.delivered.Management.{Management}
+use Rattle.node_frames.specs.declared.delivered.KeyMessage.{KeyMessage}
+use Rattle.node_frames.specs.declared.judging.Judged.TheVariants as judged
+use Rattle.node_frames.specs.Views.{management_fields, message_fields}
+use Rattle.node_frames.specs.Judging.{IsJudged, IsPeerOf}
+use Rattle.station_node.specs.State.{State}
+use Rattle.station_node.specs.Steps.{IsTaken, IsManagedFrom, IsKeyedFrom}
+use Rattle.station_node.proofs.Taken.{taken-settled}
+
+-- the other node of a station is an access point
+pub peer-is_ap : (d : Domain) (sta : ℕ) (p : Node) → IsPeerOf d (Sta sta) p → is_ap p ≡ true
+peer-is_ap d sta (Ap k) peer = refl
+peer-is_ap d sta (Sta k) peer = absurd peer
+
+managed_is : (d : Domain) (sta p : ℕ) (octets : List ℕ) (r : Reading) (frame : Management) (elements : Elements) (from : Node) → IsJudged d (Sta sta) r (judged.Managed from frame elements) → Reads d.akm octets r → from ≡ Ap p
+    → IsManagedFrom d sta p octets (management_fields frame)
+managed_is d sta p octets r frame elements from j reads from_is = record {
+  e = element_fields elements;
+  reads = subst (λ (x : Reading). Reads d.akm octets x) j.0 reads;
+  from = subst (λ (x : Reading). sender d (Sta sta) x ≡ Some (Ap p)) j.0 (j.1 ∙ ap (λ (x : Node). Some x) from_is);
+  verdict_is = λ first h. subst (λ (x : Reading). first_verdict d first (Sta sta) h x ≡ management_verdict d first (Sta sta) h (Ap p) frame.kind (management_fields frame) (element_fields elements)) j.0
+      (j.3 first h ∙ ap (λ (x : Node). management_verdict d first (Sta sta) h x frame.kind (management_fields frame) (element_fields elements)) from_is);
+}
+
+pub judged-managed : (d : Domain) (n sta p : ℕ) (octets : List ℕ) (r : Reading) (frame : Management) (elements : Elements) (from : Node) → IsJudged d (Sta n) r (judged.Managed from frame elements) → Reads d.akm octets r → from ≡ Ap p → n ≡ sta
+    → IsManagedFrom d sta p octets (management_fields frame)
+judged-managed d n sta p octets r frame elements from j reads from_is same = subst (λ (x : ℕ). IsManagedFrom d x p octets (management_fields frame)) same (managed_is d n p octets r frame elements from j reads from_is)
+
+keyed_is : (d : Domain) (sta p : ℕ) (octets : List ℕ) (r : Reading) (message : KeyMessage) (from : Node) → IsJudged d (Sta sta) r (judged.Keyed from message) → Reads d.akm octets r → from ≡ Ap p → IsKeyedFrom d sta p octets (message_fields message)
+keyed_is d sta p octets r message from j reads from_is = record {
+  reads = subst (λ (x : Reading). Reads d.akm octets x) j.0 reads;
+  from = subst (λ (x : Reading). sender d (Sta sta) x ≡ Some (Ap p)) j.0 (j.1 ∙ ap (λ (x : Node). Some x) from_is);
+  verdict_is = λ first h. subst (λ (x : Reading). first_verdict d first (Sta sta) h x ≡ key_verdict d (Sta sta) h (Ap p) message.message (message_fields message)) j.0
+      (j.4 first h ∙ ap (λ (x : Node). key_verdict d (Sta sta) h x message.message (message_fields message)) from_is);
+}
+
+pub judged-keyed : (d : Domain) (n sta p : ℕ) (octets : List ℕ) (r : Reading) (message : KeyMessage) (from : Node) → IsJudged d (Sta n) r (judged.Keyed from message) → Reads d.akm octets r → from ≡ Ap p → n ≡ sta
+    → IsKeyedFrom d sta p octets (message_fields message)
+judged-keyed d n sta p octets r message from j reads from_is same = subst (λ (x : ℕ). IsKeyedFrom d x p octets (message_fields message)) same (keyed_is d n p octets r message from j reads from_is)
+
+pub judged-settled : (d : Domain) (n : ℕ) (s : State) (octets : List ℕ) (r : Reading) (from : Option Node) (k : Kind) (outcome : Outcome) (waited waits : List Act) → IsJudged d (Sta n) r (judged.Settled from outcome) → Reads d.akm octets r → k ≡ kind_of r → n ≡ s.number
+    → waits ≡ waited ++ Took from octets k outcome None ∷ [] → IsTaken d (Take octets) s s waited waits outcome
+judged-settled d n s octets r from k outcome waited waits j reads kind_is same is =
+    let here : IsJudged d (Sta s.number) r (judged.Settled from outcome) = subst (λ (x : ℕ). IsJudged d (Sta x) r (judged.Settled from outcome)) same j in
+    taken-settled d s octets r from outcome waited waits reads here.0 here.1 here.2 (is ∙ ap (λ (m : Kind). waited ++ Took from octets m outcome None ∷ []) kind_is)

@@ -1,0 +1,8 @@
+//! A station, one event at a time.
+#![tactic(auto)]
+
+mod station;
+#[cfg(test)]
+mod tests;
+
+pub use station::StationNode;
