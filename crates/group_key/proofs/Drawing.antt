@@ -1,0 +1,46 @@
+-- The group keys of an access point beside those that its history drew.
+use Rattle.std.proofs.Common.{◌≡◌, ℕ, suc, List, [], ◌∷◌, refl, sym, ap, ◌∙◌}
+use Rattle.std.specs.Prelude.{length}
+use Rattle.domain_base.specs.declared.names.Mac.{Mac}
+use Rattle.domain_base.specs.declared.names.Peer.TheVariants.{All}
+use Rattle.run_journal.specs.declared.acts.Drawn.TheVariants.{Gtk}
+use Rattle.run_journal.specs.declared.acts.Key.TheVariants.{Group}
+use Rattle.run_journal.specs.declared.acts.Act.{Act}
+use Rattle.run_journal.specs.declared.acts.Act.TheVariants.{Drew, Installed}
+use Rattle.run_journal.specs.Questions.{gtks, switches}
+use Rattle.handshake_rules.specs.GroupKeys.{newest, newest_of}
+use Rattle.group_key.specs.declared.keys.GroupKey.{GroupKey}
+use Rattle.group_key.specs.Keys.{Pair, placed}
+use Rattle.group_key.specs.Holds.{IsLast, Holds, carried, under}
+
+first : (key : List ℕ) (keys : List (List ℕ)) → keys ≡ key ∷ [] → IsLast (placed 0 key) keys
+first key keys is = record { older = []; are = is; is = refl }
+
+pub started : (key : List ℕ) (h : List Act) → gtks h ≡ key ∷ [] → switches h ≡ key ∷ [] → Holds (record { current = placed 0 key; newest = placed 0 key }) h
+started key h drawn made = record { newest = first key (gtks h) drawn; current = first key (switches h) made }
+
+-- the last of the keys counts those before it
+place_is : (k : GroupKey) (keys : List (List ℕ)) → IsLast k keys → suc k.place ≡ length keys
+place_is k keys last = ap (λ (x : GroupKey). suc x.place) last.is ∙ sym (ap (λ (xs : List (List ℕ)). length xs) last.are)
+
+pub drawn : (s : Pair) (key : List ℕ) (h : List Act) → Holds s h
+    → Holds (record { current = s.current; newest = placed (suc s.newest.place) key }) (Drew (Gtk key) ∷ h)
+drawn s key h holds = record {
+  newest = record { older = gtks h; are = refl; is = ap (λ (n : ℕ). placed n key) (place_is s.newest (gtks h) holds.newest) };
+  current = holds.current;
+}
+
+pub switched : (s : Pair) (b : Mac) (h : List Act) → Holds s h → s.newest.place ≡ suc s.current.place
+    → Holds (record { current = s.newest; newest = s.newest }) (Installed All (Group s.newest.key s.newest.id b) ∷ h)
+switched s b h holds pending =
+    let last = holds.newest in
+    let places : length last.older ≡ length (switches h) = sym (ap (λ (x : GroupKey). x.place) last.is) ∙ pending ∙ place_is s.current (switches h) holds.current in
+    record {
+      newest = last;
+      current = record { older = switches h; are = refl; is = last.is ∙ ap (λ (n : ℕ). placed n s.newest.key) places };
+    }
+
+pub newest_is : (s : Pair) (h : List Act) → Holds s h → newest h ≡ carried s.newest
+newest_is s h holds =
+    let last = holds.newest in
+    ap newest_of last.are ∙ ap (λ (x : GroupKey). under s.newest.key x.id) (sym last.is)

@@ -1,0 +1,48 @@
+-- What contracts see of group keys.
+use Rattle.std.specs.Prelude.{ℕ, suc, ◌%◌, ◌==◌, max, Bool, ◌||◌, false, cond, List, [], ◌∷◌, take, Option, None, Some, bytes_eq}
+use Rattle.group_key.specs.declared.keys.GroupKey.{GroupKey}
+
+-- the group key of an access point of that number in the order of drawing: the key ids are 1, 2, 1, 2, .. (here)
+abbrev pub placed : ℕ → List ℕ → GroupKey
+placed place key = record { place = place; id = suc (place % 2); key = key }
+
+-- the key that is in use, and the one drawn last
+pub record Pair : Type 0 where
+  pub current : GroupKey
+  pub newest : GroupKey
+
+-- a group key that a station keeps: its octets, the key id that it was installed with, and its receive counter
+pub record Kept : Type 0 where
+  pub key : List ℕ
+  pub id : ℕ
+  pub counter : ℕ
+
+-- a key in memory has these octets
+abbrev pub has_key : List ℕ → List Kept → Bool
+has_key key [] = false
+has_key key (k ∷ ks) = bytes_eq key k.key || has_key key ks
+
+-- the key id that the key with these octets was installed with, where it is kept
+abbrev pub kept_id : List ℕ → List Kept → Option ℕ
+kept_id key [] = None
+kept_id key (k ∷ ks) = cond (bytes_eq key k.key) (Some k.id) (kept_id key ks)
+
+-- the counter of the first key with these octets is no less than this
+abbrev pub raised : List ℕ → ℕ → List Kept → List Kept
+raised key rsc [] = []
+raised key rsc (k ∷ ks) = cond (bytes_eq key k.key) (record { key = k.key; id = k.id; counter = max rsc k.counter } ∷ ks) (k ∷ raised key rsc ks)
+
+-- the memory, the later key first, after a key was given with an RSC: a key that is kept stays in its place, under its key id,
+-- and a new one comes in front of at most one other
+abbrev pub given : List ℕ → ℕ → ℕ → List Kept → List Kept
+given key id rsc ks = cond (has_key key ks) (raised key rsc ks) (take 2 (record { key = key; id = id; counter = rsc } ∷ ks))
+
+-- the later of the keys with that id
+abbrev pub found : ℕ → List Kept → Option Kept
+found id [] = None
+found id (k ∷ ks) = cond (k.id == id) (Some k) (found id ks)
+
+-- and its counter put to a number
+abbrev pub taken : ℕ → ℕ → List Kept → List Kept
+taken id number [] = []
+taken id number (k ∷ ks) = cond (k.id == id) (record { key = k.key; id = k.id; counter = number } ∷ ks) (k ∷ taken id number ks)

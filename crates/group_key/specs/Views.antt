@@ -1,0 +1,12 @@
+-- What contracts see of a station's memory.
+use Rattle.std.specs.Prelude.{List, ◌∷◌, Option, None, Some}
+use Rattle.group_key.specs.declared.memory.Remembered.{Remembered}
+use Rattle.group_key.specs.Keys.{Kept}
+
+abbrev pub kept : Remembered → Kept
+kept r = record { key = r.key; id = r.id; counter = r.counter }
+
+-- one more key, where there is one
+abbrev pub keep : Option Remembered → List Kept → List Kept
+keep None ks = ks
+keep (Some r) ks = kept r ∷ ks

@@ -1,0 +1,154 @@
+//! The group keys that a station keeps of one access point.
+
+ghost use Rattle.std.specs.Prelude.{◌≡◌, ◌<◌, [], max, option_map, IfSome, if◌then◌else◌};
+ghost use Rattle.group_key.specs.Keys.{Kept, has_key, kept_id, given, found, taken};
+
+use std::marker::Model;
+
+/// What became of a group key that was given.
+#[derive(Clone, Copy, Debug, PartialEq, Eq)]
+pub enum Given {
+    /// It is new here.
+    Installed,
+    /// It is kept here, and goes on.
+    Resumed,
+}
+
+// A key that is kept.
+#[derive(Clone, Copy, Debug)]
+struct Remembered {
+    key: [u8; 16],
+    id: u8,
+    counter: u64,
+}
+
+/// The last two group keys that a station installed from one access point, each with its receive counter. Contracts see them
+/// as a list, the later first.
+#[derive(Debug, Drop)]
+pub struct GroupMemory {
+    later: Option<Remembered>,
+    earlier: Option<Remembered>,
+}
+
+impl Model for GroupMemory {
+    ghost use Rattle.std.specs.Prelude.{List, [], ◌≡◌, None};
+    ghost use Rattle.group_key.specs.Keys.{Kept};
+    ghost use Rattle.group_key.specs.Views.{keep};
+
+    ghost Value = { List Kept };
+
+    ghost view = { λ s. keep s.later (keep s.earlier []) };
+
+    ghost invariant = { λ s. s.later ≡ None → s.earlier ≡ None };
+}
+
+// The same key with a counter that is no less than that.
+fn raised(kept: Remembered, rsc: u64) -> Remembered
+    ensures key { result.key ≡ kept.key }
+    ensures id { result.id ≡ kept.id }
+    ensures counter { result.counter ≡ max rsc kept.counter }
+{
+    Remembered {
+        counter: kept.counter.max(rsc),
+        ..kept
+    }
+}
+
+impl GroupMemory {
+    /// No keys.
+    pub fn empty() -> Self
+        ensures { result ≡ [] }
+    {
+        GroupMemory {
+            later: None,
+            earlier: None,
+        }
+    }
+
+    /// The key id that the key was installed with, where it is kept.
+    pub fn id_of(&self, key: &[u8; 16]) -> Option<u8>
+        ensures { result ≡ kept_id key.now self.now }
+    {
+        if let Some(kept) = self.later
+            && kept.key == *key
+        {
+            return Some(kept.id);
+        }
+        if let Some(kept) = self.earlier
+            && kept.key == *key
+        {
+            return Some(kept.id);
+        }
+        None
+    }
+
+    /// A key was given, with its RSC. A key that is kept goes on under the key id that it was installed with, its counter no
+    /// less than the RSC; a new one is kept with the RSC as its counter, and the earlier of two is forgotten.
+    pub fn give(&mut self, key: &[u8; 16], id: u8, rsc: u64) -> Given
+        ensures memory { self.new ≡ given key.now id rsc self.old }
+        ensures what { result ≡ (if has_key key.now self.old then Given.Resumed else Given.Installed) }
+    {
+        if let Some(kept) = self.later
+            && kept.key == *key
+        {
+            self.later = Some(raised(kept, rsc));
+            return Given::Resumed;
+        }
+        if let Some(kept) = self.earlier
+            && kept.key == *key
+        {
+            self.earlier = Some(raised(kept, rsc));
+            return Given::Resumed;
+        }
+        self.earlier = self.later;
+        self.later = Some(Remembered {
+            key: *key,
+            id,
+            counter: rsc,
+        });
+        Given::Installed
+    }
+
+    /// The later of the keys with that id, and its counter.
+    pub fn find(&self, id: u8) -> Option<([u8; 16], u64)>
+        ensures { result ≡ option_map (λ (k : Kept). (k.key, k.counter)) (found id self.now) }
+    {
+        if let Some(kept) = self.later
+            && kept.id == id
+        {
+            let key = kept.key;
+            return Some((key, kept.counter));
+        }
+        if let Some(kept) = self.earlier
+            && kept.id == id
+        {
+            let key = kept.key;
+            return Some((key, kept.counter));
+        }
+        None
+    }
+
+    /// Puts the counter of the key that `find` gives for that id.
+    pub fn take(&mut self, id: u8, number: u64)
+        requires { IfSome (found id self.old) (λ k. k.counter < number) }
+        ensures { self.new ≡ taken id number self.old }
+    {
+        if let Some(kept) = self.later
+            && kept.id == id
+        {
+            self.later = Some(Remembered {
+                counter: number,
+                ..kept
+            });
+            return;
+        }
+        if let Some(kept) = self.earlier
+            && kept.id == id
+        {
+            self.earlier = Some(Remembered {
+                counter: number,
+                ..kept
+            });
+        }
+    }
+}
