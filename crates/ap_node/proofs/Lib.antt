@@ -1,7 +1,13 @@
 pub mod KeyData
 pub mod Returning
-pub mod Verified
+pub mod Adding
+pub mod Others
+pub mod Counting
 pub mod Standing
 pub mod Refusing
 pub mod Requesting
+pub mod Verified
+pub mod Agreeing
 pub mod Answering
+pub mod Finishing
+pub mod Retrying

@@ -6,7 +6,7 @@ use Rattle.rsn_elements.specs.declared.reading.Elements.{Elements}
 use Rattle.rsn_elements.specs.Elements.{ElementFields}
 use Rattle.rsn_elements.specs.Fields.{element_fields}
 use Rattle.eapol_key.specs.declared.messages.Message.{Message}
-use Rattle.eapol_key.specs.declared.messages.Message.TheVariants.{M2}
+use Rattle.eapol_key.specs.declared.messages.Message.TheVariants.{M2, M4}
 use Rattle.run_journal.specs.declared.domain.Domain.{Domain}
 use Rattle.run_journal.specs.declared.acts.Kind.{Kind}
 use Rattle.run_journal.specs.declared.acts.Kind.TheVariants as kind
@@ -19,9 +19,9 @@ use Rattle.run_journal.specs.declared.acts.Act.{Act}
 use Rattle.run_journal.specs.declared.acts.Act.TheVariants.{Took}
 use Rattle.run_journal.specs.Questions.{add}
 use Rattle.domain_rules.specs.Reading.{Management, KeyMessage, Reading, PassedOver, Managed, Keyed, Reads, kind_of}
-use Rattle.domain_rules.specs.Verdict.{Facts, Knows, first_verdict, further, and_then, verdict, management_verdict, key_verdict}
+use Rattle.domain_rules.specs.Verdict.{Facts, Knows, ComesSoFar, first_verdict, further, and_then, verdict, management_verdict, key_verdict}
 use Rattle.domain_rules.specs.Rows.{By_ignored, By_refusal, sender, is_after_mic, seal_in, response}
-use Rattle.domain_rules.proofs.Effects.{refused_acts, as_before-refused, as_before-ignored}
+use Rattle.domain_rules.proofs.Effects.{refused_acts}
 use Rattle.node_frames.specs.declared.delivered.Management.{Management as AnyFrame}
 use Rattle.node_frames.specs.declared.delivered.KeyMessage.{KeyMessage as AnyMessage}
 use Rattle.node_frames.specs.Views.{management_fields, message_fields}
@@ -30,6 +30,7 @@ use Rattle.node_frames.specs.Judging.{IsJudged, IsQuiet, IsSettled}
 use Rattle.ap_node.specs.State.{State}
 use Rattle.ap_node.specs.Stands.{Stands}
 use Rattle.ap_node.specs.Takes.{Takes, IsManagedFrom, IsKeyedFrom}
+use Rattle.ap_node.proofs.Others.{same-refused, same-ignored}
 use Rattle.ap_node.proofs.Standing.{stands_as_before}
 
 -- ---- refused, whatever is sealed and answered
@@ -54,19 +55,19 @@ takes_refused d s octets r from k why seal answer waited waits reads from_is kin
       adds = record { r = r; reads = reads; facts = w.facts; knows = w.knows; row = By_refusal (record { why = why; refused = w.refused; says = cc (from_is, kind_is, answer_is, w.seal_is) }) };
       waiting = waiting;
       came = refl;
-      stands = subst (λ (g : List Act). Stands d.akm first s (add (Took from octets k (Refused why) seal ∷ g) h)) (sym answer_is) (stands_as_before d.akm first s h (add (refused_acts d (Ap s.number) from octets k why seal) h) (as_before-refused d (Ap s.number) from octets k why seal h) stands);
+      stands = subst (λ (g : List Act). Stands d.akm first s (add (Took from octets k (Refused why) seal ∷ g) h)) (sym answer_is) (stands_as_before d.akm first s h (add (refused_acts d (Ap s.number) from octets k why seal) h) (same-refused d (Ap s.number) from octets k why seal h) stands);
     })
 
 -- ---- refused by the frame and the history alone
 
 pub no_facts : Facts
-no_facts = record { requested = None; data_ = None }
+no_facts = record { requested = None; unwrapped = None; data_ = None }
 
 refused_knows : (d : Domain) (first : ℕ) (n : Node) (h : List Act) (r : Reading) (facts : Facts) (why : Reason) → first_verdict d first n h r ≡ Refused why → Knows d first n h r facts
-refused_knows d first n h r facts why refused = λ accepted. absurd (cc (accepted, refused))
+refused_knows d first n h r facts why refused = λ far. absurd (subst ComesSoFar refused far)
 
 first_refused : (d : Domain) (first : ℕ) (n : Node) (h : List Act) (r : Reading) (facts : Facts) (why : Reason) → first_verdict d first n h r ≡ Refused why → verdict d first n h r facts ≡ Refused why
-first_refused d first n h r facts why refused = ap (λ (o : Outcome). and_then o (further r facts)) refused
+first_refused d first n h r facts why refused = ap (λ (o : Outcome). and_then o (further d.akm r facts)) refused
 
 pub refused_first : (d : Domain) (first : ℕ) (n : Node) (h : List Act) (r : Reading) (why : Reason) (s : Option Seal) → first_verdict d first n h r ≡ Refused why → s ≡ cond (is_after_mic why) (seal_in d n h r) None → IsRefused d first n h r why s
 refused_first d first n h r why s refused seal_is = record {
@@ -97,12 +98,12 @@ takes_ignored d s octets r from waited waits reads from_is passed ignored waitin
     r = r;
     reads = reads;
     facts = no_facts;
-    knows = λ accepted. absurd (cc (accepted, ignored first h));
-    row = By_ignored (record { ignored = ap (λ (o : Outcome). and_then o (further r no_facts)) (ignored first h); says = refl });
+    knows = λ far. absurd (subst ComesSoFar (ignored first h) far);
+    row = By_ignored (record { ignored = ap (λ (o : Outcome). and_then o (further d.akm r no_facts)) (ignored first h); says = refl });
   };
   waiting = waiting ∙ ap (λ (act : Act). waited ++ act ∷ []) (cc (from_is ∙ ap (sender d (Ap s.number)) passed, ap kind_of passed));
   came = refl;
-  stands = stands_as_before d.akm first s h (Took None octets kind.Ignored Ignored None ∷ h) (as_before-ignored octets h) stands;
+  stands = stands_as_before d.akm first s h (Took None octets kind.Ignored Ignored None ∷ h) (same-ignored octets h) stands;
 }
 
 -- ---- judged with no question to the history
@@ -136,9 +137,10 @@ pub other_kind : (d : Domain) (first a : ℕ) (h : List Act) (p : Node) (k : Kin
 other_kind d first a h p kind.AssocReq b e other = absurd (other refl)
 other_kind d first a h p k b e other = refl
 
-pub other_message : (d : Domain) (a : ℕ) (h : List Act) (p : Node) (m : Message) (k : KeyMessage) → (m ≡ M2 → ⊥) → key_verdict d (Ap a) h p m k ≡ Refused reason.Unawaited
-other_message d a h p M2 k other = absurd (other refl)
-other_message d a h p m k other = refl
+pub other_message : (d : Domain) (a : ℕ) (h : List Act) (p : Node) (m : Message) (k : KeyMessage) → (m ≡ M2 → ⊥) → (m ≡ M4 → ⊥) → key_verdict d (Ap a) h p m k ≡ Refused reason.Unawaited
+other_message d a h p M2 k other last = absurd (other refl)
+other_message d a h p M4 k other last = absurd (last refl)
+other_message d a h p m k other last = refl
 
 pub takes_other_frame : (d : Domain) (s : State) (octets : List ℕ) (from : Node) (frame : AnyFrame) (elements : Elements) (k : Kind) (waited waits : List Act) → IsManagedFrom d s.number octets from frame elements → k ≡ frame.kind → (k ≡ kind.AssocReq → ⊥)
     → waits ≡ waited ++ Took (Some from) octets k (Refused reason.Unawaited) None ∷ [] → Takes d s s octets waited waits (Refused reason.Unawaited)
@@ -146,11 +148,11 @@ takes_other_frame d s octets from frame elements k waited waits w is other waiti
     takes_quiet d s octets (Managed (management_fields frame) (element_fields elements)) (Some from) k reason.Unawaited waited waits w.reads (sym w.judged.1) is (unawaited_quiet d (Ap s.number))
     (λ first h stands. w.judged.3 first h ∙ other_kind d first s.number h from frame.kind (management_fields frame) (element_fields elements) (λ same. other (is ∙ same))) waiting
 
-pub takes_other_message : (d : Domain) (s : State) (octets : List ℕ) (from : Node) (message : AnyMessage) (m : Message) (waited waits : List Act) → IsKeyedFrom d s.number octets from message → m ≡ message.message → (m ≡ M2 → ⊥)
+pub takes_other_message : (d : Domain) (s : State) (octets : List ℕ) (from : Node) (message : AnyMessage) (m : Message) (waited waits : List Act) → IsKeyedFrom d s.number octets from message → m ≡ message.message → (m ≡ M2 → ⊥) → (m ≡ M4 → ⊥)
     → waits ≡ waited ++ Took (Some from) octets (kind.Key m) (Refused reason.Unawaited) None ∷ [] → Takes d s s octets waited waits (Refused reason.Unawaited)
-takes_other_message d s octets from message m waited waits w is other waiting =
+takes_other_message d s octets from message m waited waits w is other last waiting =
     takes_quiet d s octets (Keyed (message_fields message)) (Some from) (kind.Key m) reason.Unawaited waited waits w.reads (sym w.judged.1) (ap (λ (x : Message). kind.Key x) is) (unawaited_quiet d (Ap s.number))
-    (λ first h stands. w.judged.4 first h ∙ other_message d s.number h from message.message (message_fields message) (λ same. other (is ∙ same))) waiting
+    (λ first h stands. w.judged.4 first h ∙ other_message d s.number h from message.message (message_fields message) (λ same. other (is ∙ same)) (λ same. last (is ∙ same))) waiting
 
 -- ---- what is judged further
 

@@ -32,7 +32,7 @@ use Rattle.domain_rules.proofs.Peers.{peer_is}
 use Rattle.domain_rules.proofs.Verdicts.{accepted-rsne}
 use Rattle.node_frames.specs.declared.delivered.Management.{Management as AnyFrame}
 use Rattle.node_frames.specs.Views.{management_fields}
-use Rattle.ap_node.specs.State.{State, attempt_at}
+use Rattle.ap_node.specs.State.{State, station_at, attempt_at, trying}
 use Rattle.ap_node.specs.Takes.{Takes, IsManagedFrom, associated_acts}
 use Rattle.ap_node.proofs.Standing.{begun, associated_is, stands_associated}
 use Rattle.ap_node.proofs.Refusing.{no_facts, takes_refused, takes_quiet, refused_first}
@@ -122,22 +122,23 @@ takes_spent d s octets station frame elements waited waits w is none spent waiti
 -- accepted
 pub takes_associated : (d : Domain) (old new : State) (octets : List ℕ) (station : ℕ) (frame : AnyFrame) (elements : Elements) (rsne : List ℕ) (waited waits : List Act) → IsManagedFrom d old.number octets (Sta station) frame elements → frame.kind ≡ kind.AssocReq
     → rsne_status d.akm (element_fields elements).rsne ≡ None → old.drawn < last_draw → (element_fields elements).rsne_octets ≡ Some rsne
-    → new.drawn ≡ old.drawn + 1 → attempt_at new.attempts station ≡ Some (begun (nonce d (Ap old.number) old.drawn) rsne) → ((k : ℕ) → k ≢ station → attempt_at new.attempts k ≡ attempt_at old.attempts k)
-    → waits ≡ waited ++ associated_acts d (Ap old.number) (Sta station) octets (attempt_at old.attempts station) (nonce d (Ap old.number) old.drawn)
+    → new.drawn ≡ old.drawn + 1 → new.group ≡ old.group → station_at new.stations station ≡ trying (Some (begun (nonce d (Ap old.number) old.drawn) rsne)) (station_at old.stations station)
+    → ((k : ℕ) → k ≢ station → station_at new.stations k ≡ station_at old.stations k)
+    → waits ≡ waited ++ associated_acts d (Ap old.number) (Sta station) octets (attempt_at old.stations station) (nonce d (Ap old.number) old.drawn)
     → Takes d old new octets waited waits Accepted
-takes_associated d old new octets station frame elements rsne waited waits w is none low raw drawn now others waiting = λ first h stands.
+takes_associated d old new octets station frame elements rsne waited waits w is none low raw drawn group now others waiting = λ first h stands.
     (let m = management_fields frame in
     let e = element_fields elements in
     let n = Ap old.number in
     let accepted = verdict_is d old.number octets station frame elements w is first h ∙ by_draws d (first + draws h) e true none (lt-ltb (first + draws h) last_draw (subst (λ (x : ℕ). x < last_draw) stands.draws_are low)) in
     let whole = whole_by d first old.number station h octets m e w.reads.0 is w.judged.1 accepted in
     record {
-      acts = associated_acts d n (Sta station) octets (attempt_at old.attempts station) (nonce d n old.drawn);
+      acts = associated_acts d n (Sta station) octets (attempt_at old.stations station) (nonce d n old.drawn);
       adds = record {
         r = Managed m e;
         reads = w.reads;
         facts = no_facts;
-        knows = λ x. tt;
+        knows = λ far. tt;
         row = By_assoc_req (record {
           b = m;
           e = e;
@@ -146,12 +147,12 @@ takes_associated d old new octets station frame elements rsne waited waits w is 
           p = Sta station;
           from = w.judged.1;
           accepted = ap (λ (o : Outcome). and_then o Accepted) accepted;
-          says = associated_is d first n (Sta station) octets (attempt_at old.attempts station) old.drawn h (stands.peers station) stands.draws_are;
+          says = associated_is d first n (Sta station) octets (attempt_at old.stations station) old.drawn h (stands.peers station).attempt_is stands.draws_are;
         });
       };
       waiting = waiting;
       came = refl;
-      stands = stands_associated d first old new old.number station octets rsne h whole.ap whole.sta (m, (e, (w.reads, sym raw))) stands drawn now others;
+      stands = stands_associated d first old new old.number station octets rsne h whole.ap whole.sta (m, (e, (w.reads, sym raw))) stands drawn group now others;
     })
 
 -- with no status there are the octets of an RSNE

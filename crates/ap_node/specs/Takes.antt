@@ -7,7 +7,6 @@ use Rattle.rsn_elements.specs.declared.reading.Elements.{Elements}
 use Rattle.rsn_elements.specs.Elements.{ElementFields}
 use Rattle.rsn_elements.specs.Fields.{element_fields}
 use Rattle.key_hierarchy.specs.declared.inputs.Inputs.{Inputs}
-use Rattle.key_hierarchy.specs.declared.inputs.Ptk.{Ptk}
 use Rattle.key_hierarchy.specs.Keys.{ptk}
 use Rattle.run_journal.specs.declared.domain.Domain.{Domain}
 use Rattle.run_journal.specs.declared.acts.Start.TheVariants.{Connect}
@@ -24,9 +23,11 @@ use Rattle.run_journal.specs.declared.acts.Act.TheVariants.{Closed, Took, Opened
 use Rattle.run_journal.specs.Questions.{attempt}
 use Rattle.domain_rules.specs.Network.{inputs}
 use Rattle.domain_rules.specs.Reading.{KeyMessage as MessageFields, Managed, Keyed, Reads}
-use Rattle.domain_rules.specs.Frames.{frame_seal, sent_assoc_resp, sent_m1}
+use Rattle.domain_rules.specs.Frames.{frame_seal, sent_assoc_resp, sent_m1, sent_m3}
 use Rattle.domain_rules.specs.Verdict.{Facts, KnowsM2, ReadsKeyData, own, m2_verdict, m2_key_data}
 use Rattle.domain_rules.specs.Rows.{Take}
+use Rattle.group_key.specs.declared.keys.GroupKey.{GroupKey}
+use Rattle.node_frames.specs.Carried.{carried_key}
 use Rattle.node_frames.specs.declared.delivered.Management.{Management}
 use Rattle.node_frames.specs.declared.delivered.KeyMessage.{KeyMessage}
 use Rattle.node_frames.specs.declared.judging.Judged.TheVariants as judged
@@ -66,9 +67,10 @@ associated_acts d n p octets was v =
     Took (Some p) octets kind.AssocReq Accepted None ∷ closed p was
     ++ Opened p Connect ∷ Drew (Nonce v) ∷ sent_assoc_resp d n p ∷ sent_m1 d n p 1 v ∷ []
 
--- and as it accepts M2 of p
-abbrev pub derived_acts : Node → List ℕ → Seal → Inputs → Ptk → List Act
-derived_acts p octets s i key = Took (Some p) octets (kind.Key M2) Accepted (Some s) ∷ Derived p i key ∷ []
+-- and as it accepts M2 of p, with a counter and a group key for M3
+abbrev pub derived_acts : Domain → Node → Node → List ℕ → Seal → Inputs → ℕ → GroupKey → List Act
+derived_acts d n p octets s i counter g =
+    Took (Some p) octets (kind.Key M2) Accepted (Some s) ∷ Derived p i (ptk i) ∷ sent_m3 d n p i counter (carried_key g) 0 ∷ []
 
 -- the key data of an M2 says the RSNE of the request, or what is wrong with it
 abbrev pub key_data_outcome : Option KeyDataFault → Outcome
@@ -95,4 +97,4 @@ pub record IsVerified (d : Domain) (n : Node) (h : List Act) (p : Node) (k : Mes
 abbrev pub IsM2 : Domain → Node → List Act → Node → MessageFields → JudgedM2 → Type 0
 IsM2 d n h p k (m2.Refused why) = (m2_verdict d n h p k ≡ Refused why) × IsQuiet d n why
 IsM2 d n h p k (m2.Other fault s) = (i : Inputs) × IsVerified d n h p k i s (Some fault)
-IsM2 d n h p k (m2.Agreed i key s) = IsVerified d n h p k i s None × (key ≡ ptk i)
+IsM2 d n h p k (m2.Agreed i s) = IsVerified d n h p k i s None

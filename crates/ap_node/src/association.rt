@@ -14,11 +14,13 @@ ghost use Rattle.domain_rules.specs.Frames.{sent_assoc_resp, sent_refusal, sent_
 ghost use Rattle.ap_node.specs.Takes.{closed};
 
 use crate::attempts::Attempt;
-use crate::m2::FIRST_COUNTER;
 use domain_base::{NoMemory, Node, Octets};
 use node_frames::{Outbox, assoc_resp, m1, nonce, refusal, took};
 use run_journal::{Act, Domain, Drawn, Kind, Outcome, Part, Reason, Start};
 use std::alloc::Global;
+
+/// The replay counter of the first M1 of an attempt.
+const FIRST_COUNTER: u64 = 1;
 
 /// Refuses an association request with a status.
 pub fn refuse(
@@ -105,7 +107,7 @@ pub fn prepare(
     ensures taken { IfOk result (λ a. a.taken ≡ Took (Some (Sta station)) octets.now kind.AssocReq Accepted None) }
     ensures response { IfOk result (λ a. a.response ≡ sent_assoc_resp domain.now (Ap ap) (Sta station)) }
     ensures message { IfOk result (λ a. a.message ≡ sent_m1 domain.now (Ap ap) (Sta station) 1 (nonce domain.now (Ap ap) drawn)) }
-    ensures attempt { IfOk result (λ a. a.attempt ≡ (record { anonce = nonce domain.now (Ap ap) drawn; rsne = rsne.now; is_answered = false })) }
+    ensures attempt { IfOk result (λ a. a.attempt ≡ (record { anonce = nonce domain.now (Ap ap) drawn; rsne = rsne.now; m1s = 1; m3s = 0; agreement = None })) }
 {
     let node = Node::Ap(ap);
     let peer = Node::Sta(station);
@@ -118,7 +120,9 @@ pub fn prepare(
     let attempt = Attempt {
         anonce,
         rsne,
-        is_answered: false,
+        m1s: 1,
+        m3s: 0,
+        agreement: None,
     };
     Ok(Association {
         taken,

@@ -16,9 +16,10 @@ ghost use Rattle.ap_node.specs.Stands.{IsAttempt};
 ghost use Rattle.ap_node.specs.Takes.{IsKeyDataOf, IsM2};
 
 use crate::attempts::Attempt;
+use crate::counters::is_offered;
+use crate::derived::DerivedKey;
 use domain_base::{NoMemory, Node};
 use eapol_key::verify;
-use key_hierarchy::{Inputs, Ptk, ptk_of};
 use node_frames::{KeyMessage, covered, pairwise_inputs};
 use rsn_elements::{Within, read_elements};
 use run_journal::{Domain, KeyDataFault, Reason, Seal};
@@ -31,12 +32,9 @@ pub enum M2 {
     Refused(Reason),
     /// Its MIC verified, but the key data is not that of the attempt: what is wrong, and what was sealed.
     Other(KeyDataFault, Seal),
-    /// Accepted: what the key is derived from, the key, and what was sealed.
-    Agreed(Inputs, Ptk, Seal),
+    /// Accepted: the key, and what was sealed.
+    Agreed(DerivedKey, Seal),
 }
-
-/// The replay counter of the only M1 of an attempt.
-pub const FIRST_COUNTER: u64 = 1;
 
 // Whether an RSNE was found and is the one, octet by octet.
 fn is_same(found: Option<&[u8]>, rsne: &[u8]) -> bool
@@ -80,29 +78,23 @@ pub fn judge_m2(
     ensures { IfOk result (λ m2. (h : List Act) → IsAttempt domain.now.akm (Sta station) attempt.now h
         → IsM2 domain.now (Ap ap) h (Sta station) (message_fields message.now) m2) }
 {
-    if attempt.is_answered {
+    if attempt.agreement.is_some() {
         return Ok(M2::Refused(Reason::Unawaited));
     }
-    if message.frame.counter != FIRST_COUNTER {
-        return Ok(M2::Refused(Reason::Counter(FIRST_COUNTER)));
+    if !is_offered(message.frame.counter, 0, attempt.m1s) {
+        return Ok(M2::Refused(Reason::Counter(u64::from(attempt.m1s))));
     }
-    let inputs = pairwise_inputs(
-        alloc,
-        domain,
-        Node::Ap(ap),
-        Node::Sta(station),
-        &attempt.anonce,
-        &message.frame.nonce,
-    )?;
-    let key = ptk_of(&inputs);
-    if !verify(&message.frame, domain.akm, &key.kck) {
+    let (node, peer) = (Node::Ap(ap), Node::Sta(station));
+    let (anonce, snonce) = (&attempt.anonce, &message.frame.nonce);
+    let key = DerivedKey::of(pairwise_inputs(alloc, domain, node, peer, anonce, snonce)?);
+    let kck = key.ptk().kck;
+    if !verify(&message.frame, domain.akm, &kck) {
         return Ok(M2::Refused(Reason::Mic));
     }
-    let octets = message.frame.octets;
-    let seal = covered(alloc, &key.kck, octets)?;
+    let seal = covered(alloc, &kck, message.frame.octets)?;
     let key_data = message.frame.key_data;
     match key_data_fault(attempt.rsne.as_slice(), key_data) {
         Some(fault) => Ok(M2::Other(fault, seal)),
-        None => Ok(M2::Agreed(inputs, key, seal)),
+        None => Ok(M2::Agreed(key, seal)),
     }
 }

@@ -1,22 +1,26 @@
-//! An access point driven by hand-made frames. Nonces, keys and MICs were computed apart from this project: the pre-shared
-//! key is that of the passphrase "password" and the SSID "IEEE", the seed 00 to 1f.
+//! An access point driven by frames made octet by octet: the access point 02:00:00:00:00:01 in the network "IEEE" with the
+//! stations 02:00:00:00:00:11 and 02:00:00:00:00:12. The pre-shared key is that of the passphrase "password", the seed 00 to
+//! 1f. Nonces, keys, MICs and wrapped key data were computed apart from this project.
 
-ghost use Rattle.std.specs.Prelude.{◌≡◌, ◌<◌, IfOk, length};
-ghost use Rattle.domain_rules.specs.Network.{InForm};
+ghost use Rattle.std.specs.Prelude.{◌≡◌, ◌≢◌, ◌<◌, IfOk, length};
+ghost use Rattle.domain_base.specs.declared.names.Akm.{Akm as AnyAkm};
+ghost use Rattle.domain_rules.specs.Network.{InForm, last_draw};
 
-use super::*;
+mod frames;
+mod handshakes;
+mod requests;
+
+use crate::ApNode;
 use domain_base::{Akm, Mac, NoMemory, Node, Octets, Peer};
 use eapol_key::Message;
+use frames::{Keys, covered, m1, m2, m3, m4, request, response};
 use node_frames::{NodeEvent, Outbox};
 use run_journal::{
-    Act, Aps, Domain, Drawn, Key, KeyDataFault, Kind, ListedAp, Outcome, Part, Reason, Seal, Start,
-    Stas,
+    Act, Aps, Domain, Drawn, Key, Kind, ListedAp, Outcome, Part, Seal, Start, Stas, Why,
 };
 use std::alloc::Global;
 use std::process::Abort;
 use std::test::Fail;
-
-const STA: Node = Node::Sta(0);
 
 const SEED: [u8; 32] = [
     0, 1, 2, 3, 4, 5, 6, 7, 8, 9, 10, 11, 12, 13, 14, 15, 16, 17, 18, 19, 20, 21, 22, 23, 24, 25,
@@ -26,329 +30,179 @@ const SEED: [u8; 32] = [
 const PSK: [u8; 32] =
     *b"\xf4\x2c\x6f\xc5\x2d\xf0\xeb\xef\x9e\xbb\x4b\x90\xb3\x8a\x5f\x90\x2e\x83\xfe\x1b\x13\x5a\x70\xe2\x3a\xed\x76\x2e\x97\x10\xa1\x2e";
 
-const GTK: &[u8] = b"\xf5\x58\xbe\xb5\x00\x4e\xb0\x68\x8e\x7e\x5a\x18\x9f\xad\xaa\x91";
+// What the access point draws first.
+const GTK: [u8; 16] = *b"\xf5\x58\xbe\xb5\x00\x4e\xb0\x68\x8e\x7e\x5a\x18\x9f\xad\xaa\x91";
 
-// What the access point draws next.
-const ANONCE: &[u8] =
-    b"\xa9\x96\x4f\x39\x6e\xdf\xca\xe8\xe9\x71\xa1\x19\x9d\xac\x85\xbe\xbc\xa1\x73\x2e\xbf\xd7\x60\x8a\xd9\xec\xe7\xda\x90\x89\xf7\xb2";
+// Then it draws these nonces.
+const ANONCE: [u8; 32] =
+    *b"\xa9\x96\x4f\x39\x6e\xdf\xca\xe8\xe9\x71\xa1\x19\x9d\xac\x85\xbe\xbc\xa1\x73\x2e\xbf\xd7\x60\x8a\xd9\xec\xe7\xda\x90\x89\xf7\xb2";
 
-const SECOND_ANONCE: &[u8] =
-    b"\xde\x82\x3a\xf0\x14\x4e\x5a\x68\x18\x26\x63\x35\xef\x9e\x1b\x95\x05\x14\x6d\x80\xcf\x01\x45\xaf\x31\x1c\xc6\xd5\x47\x86\xb9\x8c";
+const NEXT_ANONCE: [u8; 32] =
+    *b"\xde\x82\x3a\xf0\x14\x4e\x5a\x68\x18\x26\x63\x35\xef\x9e\x1b\x95\x05\x14\x6d\x80\xcf\x01\x45\xaf\x31\x1c\xc6\xd5\x47\x86\xb9\x8c";
 
-const SNONCE: &[u8] =
-    b"\xeb\x48\xcc\x35\x95\x09\xe2\x89\x7b\xf2\xed\x0c\x1b\xd3\x74\x36\xcc\xd1\xbe\x22\x6c\xf9\xf0\xf0\x51\x21\x77\x4d\xda\x51\x43\xd1";
+const LAST_ANONCE: [u8; 32] =
+    *b"\x7b\xef\xbb\x11\x85\x01\xb6\x0d\x84\xfe\xb9\xf3\x14\x5e\x84\xff\x1b\x3b\x92\xc8\x70\xb1\xc6\xcb\xc6\x98\x2d\x8f\x56\x99\x14\x14";
 
-const KCK: &[u8] = b"\x8e\x6a\x0f\x25\x76\xa6\xe5\xb8\x07\x5c\x45\x24\xeb\xbe\xf8\x05";
+// The nonce of each station.
+const SNONCE: [u8; 32] =
+    *b"\xeb\x48\xcc\x35\x95\x09\xe2\x89\x7b\xf2\xed\x0c\x1b\xd3\x74\x36\xcc\xd1\xbe\x22\x6c\xf9\xf0\xf0\x51\x21\x77\x4d\xda\x51\x43\xd1";
 
-const SECOND_KCK: &[u8] = b"\xc2\x38\x5d\x2c\x8a\xa1\x62\x03\xed\x79\x8b\x80\xf0\xb9\x74\x92";
+const OTHER_SNONCE: [u8; 32] =
+    *b"\x43\xee\x62\x09\x71\x5a\xb9\x15\x5c\xce\xa8\x1a\x9e\xc4\xf9\x6f\xa8\x82\x19\x20\xe5\x11\x6d\x72\xc3\xb0\x04\x56\x79\x58\x81\x37";
 
-const REQUEST_FRONT: &[u8] =
-    b"\x00\x00\x00\x00\x02\x00\x00\x00\x00\x01\x02\x00\x00\x00\x00\x11\x02\x00\x00\x00\x00\x01\x00\x00\x11\x00\x0a\x00\x00\x04IEEE\x01\x04\x82\x84\x8b\x96";
+const RSNE: &[u8] = b"\x30\x14\x01\0\0\x0f\xac\x04\x01\0\0\x0f\xac\x04\x01\0\0\x0f\xac\x02\x0c\0";
 
-const RSNE: &[u8] =
-    b"\x30\x14\x01\x00\x00\x0f\xac\x04\x01\x00\x00\x0f\xac\x04\x01\x00\x00\x0f\xac\x02\x0c\x00";
+const SHA256_RSNE: &[u8] =
+    b"\x30\x14\x01\0\0\x0f\xac\x04\x01\0\0\x0f\xac\x04\x01\0\0\x0f\xac\x06\x0c\0";
 
-// Its capabilities are other.
-const OTHER_RSNE: &[u8] =
-    b"\x30\x14\x01\x00\x00\x0f\xac\x04\x01\x00\x00\x0f\xac\x04\x01\x00\x00\x0f\xac\x02\x00\x00";
-
-// It asks for TKIP as pairwise cipher.
-const TKIP_RSNE: &[u8] =
-    b"\x30\x14\x01\x00\x00\x0f\xac\x04\x01\x00\x00\x0f\xac\x02\x01\x00\x00\x0f\xac\x02\x0c\x00";
-
-const RESPONSE: &[u8] =
-    b"\x10\x00\x00\x00\x02\x00\x00\x00\x00\x11\x02\x00\x00\x00\x00\x01\x02\x00\x00\x00\x00\x01\x00\x00\x11\x00\x00\x00\x01\xc0\x01\x04\x82\x84\x8b\x96";
-
-const REFUSAL_42: &[u8] =
-    b"\x10\x00\x00\x00\x02\x00\x00\x00\x00\x11\x02\x00\x00\x00\x00\x01\x02\x00\x00\x00\x00\x01\x00\x00\x11\x00\x2a\x00\x00\x00";
-
-// A data frame from the access point, and M1 up to its nonce.
-const M1_FRONT: &[u8] =
-    b"\x08\x02\x00\x00\x02\x00\x00\x00\x00\x11\x02\x00\x00\x00\x00\x01\x02\x00\x00\x00\x00\x01\x00\x00\xaa\xaa\x03\x00\x00\x00\x88\x8e\x02\x03\x00\x5f\x02\x00\x8a\x00\x10\x00\x00\x00\x00\x00\x00\x00\x01";
-
-const M2_DATA: &[u8] =
-    b"\x08\x01\x00\x00\x02\x00\x00\x00\x00\x01\x02\x00\x00\x00\x00\x11\x02\x00\x00\x00\x00\x01\x00\x00\xaa\xaa\x03\x00\x00\x00\x88\x8e";
-
-// M2 up to the last octet of its replay counter.
-const M2_FRONT: &[u8] = b"\x02\x03\x00\x75\x02\x01\x0a\x00\x00\x00\x00\x00\x00\x00\x00\x00";
-
-const MIC: &[u8] = b"\xfa\x5e\x0a\x12\x17\x03\x60\xb2\xbe\xd6\x37\x1c\x4d\x93\x65\xfb";
-
-const MIC_OVER_OTHER_RSNE: &[u8] =
-    b"\x46\xd6\xff\xd2\xf1\xe3\x23\xf0\x7b\x0f\x0d\x25\x2f\xac\xe7\xe1";
-
-const MIC_OVER_COUNTER_2: &[u8] =
-    b"\xbf\xcd\x64\xe5\x8a\x60\x04\xaa\xf9\xf7\x3e\xf2\x70\xa2\xbe\x49";
-
-const SECOND_MIC: &[u8] = b"\xe5\xc7\x23\xeb\x40\xb8\x74\x94\xd4\xa9\x0b\x97\x28\x52\x68\x96";
-
-// Octets in pieces.
-type Pieces = &'static [&'static [u8]];
-
-// An act in the parts that no clause of this crate names.
+// What comes of a station.
 #[derive(Clone, Copy)]
-enum Expected {
-    // With what was sealed behind the form of the seal, and the key.
-    Took(Kind, Outcome, Option<(Pieces, &'static [u8])>),
+enum Given {
+    // An association request with this RSNE.
+    Request(&'static [u8]),
+    // M2 with this counter, this nonce, this MIC and this RSNE.
+    M2(u64, [u8; 32], [u8; 16], &'static [u8]),
+    // M4 with this counter and this MIC.
+    M4(u64, [u8; 16]),
+    // No frame: what it is to answer is sent once more.
+    Retry,
+}
+
+// What an act is to be.
+#[derive(Clone, Copy)]
+enum Want {
+    Took,
+    // Its MIC verified under the KCK.
+    Sealed(Keys),
+    Closed(Part),
     Opened,
-    Closed,
-    Drew(&'static [u8]),
-    Sent(Kind, Pieces),
-    // By the ANonce and the KCK.
-    Derived(&'static [u8], &'static [u8]),
+    Drew([u8; 32]),
+    Response,
+    // With this status.
+    Refusal(u8),
+    // With this counter and this nonce.
+    M1(u64, [u8; 32]),
+    Derived(Keys),
+    // With this counter, under this key, with this MIC.
+    M3(u64, Keys, [u8; 16]),
+    Pairwise(Keys),
+    Finished(Keys),
+    GaveUp(Message),
+    Idle(Why),
 }
 
+// An event that concerns the station of that number, what comes of it, and the acts.
 #[derive(Clone, Copy)]
-struct Round {
+struct Step {
     shows: &'static str,
-    frame: Pieces,
+    station: u16,
+    given: Given,
     outcome: Outcome,
-    acts: &'static [Expected],
+    acts: &'static [Want],
 }
 
-const M2: Kind = Kind::Key(Message::M2);
-
-const OTHER: Outcome = Outcome::Refused(Reason::KeyData(KeyDataFault::Rsne));
-
-const ROUNDS: &[Round] = &[
-    Round {
-        shows: "M2 before any request",
-        frame: &[
-            M2_DATA,
-            M2_FRONT,
-            b"\x01",
-            SNONCE,
-            &[0; 32],
-            MIC,
-            b"\x00\x16",
-            RSNE,
-        ],
-        outcome: Outcome::Refused(Reason::Unawaited),
-        acts: &[Expected::Took(M2, Outcome::Refused(Reason::Unawaited), None)],
-    },
-    Round {
-        shows: "a wrong pairwise suite",
-        frame: &[REQUEST_FRONT, TKIP_RSNE],
-        outcome: Outcome::Refused(Reason::Status(42)),
-        acts: &[
-            Expected::Took(Kind::AssocReq, Outcome::Refused(Reason::Status(42)), None),
-            Expected::Sent(Kind::AssocResp, &[REFUSAL_42]),
-        ],
-    },
-    Round {
-        shows: "a request",
-        frame: &[REQUEST_FRONT, RSNE],
-        outcome: Outcome::Accepted,
-        acts: &[
-            Expected::Took(Kind::AssocReq, Outcome::Accepted, None),
-            Expected::Opened,
-            Expected::Drew(ANONCE),
-            Expected::Sent(Kind::AssocResp, &[RESPONSE]),
-            Expected::Sent(Kind::Key(Message::M1), &[M1_FRONT, ANONCE, &[0; 50]]),
-        ],
-    },
-    Round {
-        shows: "a wrong MIC",
-        frame: &[
-            M2_DATA,
-            M2_FRONT,
-            b"\x01",
-            SNONCE,
-            &[0; 32],
-            SECOND_MIC,
-            b"\x00\x16",
-            RSNE,
-        ],
-        outcome: Outcome::Refused(Reason::Mic),
-        acts: &[Expected::Took(M2, Outcome::Refused(Reason::Mic), None)],
-    },
-    Round {
-        shows: "a counter that was not offered",
-        frame: &[
-            M2_DATA,
-            M2_FRONT,
-            b"\x02",
-            SNONCE,
-            &[0; 32],
-            MIC_OVER_COUNTER_2,
-            b"\x00\x16",
-            RSNE,
-        ],
-        outcome: Outcome::Refused(Reason::Counter(1)),
-        acts: &[Expected::Took(M2, Outcome::Refused(Reason::Counter(1)), None)],
-    },
-    Round {
-        shows: "another RSNE under a right MIC",
-        frame: &[
-            M2_DATA,
-            M2_FRONT,
-            b"\x01",
-            SNONCE,
-            &[0; 32],
-            MIC_OVER_OTHER_RSNE,
-            b"\x00\x16",
-            OTHER_RSNE,
-        ],
-        outcome: OTHER,
-        acts: &[Expected::Took(
-            M2,
-            OTHER,
-            Some((
-                &[M2_FRONT, b"\x01", SNONCE, &[0; 48], b"\x00\x16", OTHER_RSNE],
-                KCK,
-            )),
-        )],
-    },
-    Round {
-        shows: "M2",
-        frame: &[
-            M2_DATA,
-            M2_FRONT,
-            b"\x01",
-            SNONCE,
-            &[0; 32],
-            MIC,
-            b"\x00\x16",
-            RSNE,
-        ],
-        outcome: Outcome::Accepted,
-        acts: &[
-            Expected::Took(
-                M2,
-                Outcome::Accepted,
-                Some((
-                    &[M2_FRONT, b"\x01", SNONCE, &[0; 48], b"\x00\x16", RSNE],
-                    KCK,
-                )),
-            ),
-            Expected::Derived(ANONCE, KCK),
-        ],
-    },
-    Round {
-        shows: "M2 again",
-        frame: &[
-            M2_DATA,
-            M2_FRONT,
-            b"\x01",
-            SNONCE,
-            &[0; 32],
-            MIC,
-            b"\x00\x16",
-            RSNE,
-        ],
-        outcome: Outcome::Refused(Reason::Unawaited),
-        acts: &[Expected::Took(M2, Outcome::Refused(Reason::Unawaited), None)],
-    },
-    Round {
-        shows: "a second request",
-        frame: &[REQUEST_FRONT, RSNE],
-        outcome: Outcome::Accepted,
-        acts: &[
-            Expected::Took(Kind::AssocReq, Outcome::Accepted, None),
-            Expected::Closed,
-            Expected::Opened,
-            Expected::Drew(SECOND_ANONCE),
-            Expected::Sent(Kind::AssocResp, &[RESPONSE]),
-            Expected::Sent(Kind::Key(Message::M1), &[M1_FRONT, SECOND_ANONCE, &[0; 50]]),
-        ],
-    },
-    Round {
-        shows: "M2 of the attempt before",
-        frame: &[
-            M2_DATA,
-            M2_FRONT,
-            b"\x01",
-            SNONCE,
-            &[0; 32],
-            MIC,
-            b"\x00\x16",
-            RSNE,
-        ],
-        outcome: Outcome::Refused(Reason::Mic),
-        acts: &[Expected::Took(M2, Outcome::Refused(Reason::Mic), None)],
-    },
-    Round {
-        shows: "M2 of the second attempt",
-        frame: &[
-            M2_DATA,
-            M2_FRONT,
-            b"\x01",
-            SNONCE,
-            &[0; 32],
-            SECOND_MIC,
-            b"\x00\x16",
-            RSNE,
-        ],
-        outcome: Outcome::Accepted,
-        acts: &[
-            Expected::Took(
-                M2,
-                Outcome::Accepted,
-                Some((
-                    &[M2_FRONT, b"\x01", SNONCE, &[0; 48], b"\x00\x16", RSNE],
-                    SECOND_KCK,
-                )),
-            ),
-            Expected::Derived(SECOND_ANONCE, SECOND_KCK),
-        ],
-    },
-];
-
-fn joined(alloc: Global, pieces: &[&[u8]]) -> Result<Vec<u8>, NoMemory> {
-    let mut octets = Vec::new(alloc);
-    for piece in pieces {
-        octets.extend_from_slice(piece)?;
-    }
-    Ok(octets)
+fn octets(alloc: Global, of: &[u8]) -> Result<Octets, NoMemory>
+    ensures { IfOk result (λ o. o ≡ of.now) }
+{
+    Ok(Octets(Vec::from_slice(alloc, of)?))
 }
 
 // One access point and two stations.
-fn network(alloc: Global) -> Result<Domain, NoMemory>
+fn network(alloc: Global, akm: Akm) -> Result<Domain, NoMemory>
     ensures form { IfOk result (λ d. InForm d) }
-    ensures akm { IfOk result (λ d. d.akm ≡ Akm.Psk) }
+    ensures akm { IfOk result (λ d. d.akm ≡ akm) }
     ensures aps { IfOk result (λ d. length d.aps ≡ 1) }
+    ensures stas { IfOk result (λ d. length d.stas ≡ 2) }
 {
     let ap = ListedAp {
         address: Mac([2, 0, 0, 0, 0, 1]),
-        r0kh_id: Octets(Vec::from_slice(alloc, b"r0kh-1")?),
+        r0kh_id: octets(alloc, b"r0kh-1")?,
     };
     let stas = [Mac([2, 0, 0, 0, 0, 0x11]), Mac([2, 0, 0, 0, 0, 0x12])];
     Ok(Domain {
         seed: SEED,
-        ssid: Octets(Vec::from_slice(alloc, b"IEEE")?),
+        ssid: octets(alloc, b"IEEE")?,
         psk: PSK,
-        akm: Akm::Psk,
+        akm,
         mdid: [0, 0],
         aps: Aps(Vec::from_array(alloc, [ap])?),
         stas: Stas(Vec::from_array(alloc, stas)?),
     })
 }
 
-fn is_sealed(seal: &Option<Seal>, expected: Option<(&[u8], &[u8])>) -> bool {
-    match (seal, expected) {
-        (None, None) => true,
-        (Some(seal), Some((octets, key))) => {
-            seal.octets.as_slice() == octets && seal.key.as_slice() == key
+// The octets that come.
+fn octets_of(alloc: Global, akm: Akm, step: &Step) -> Result<Vec<u8>, NoMemory> {
+    let station = step.station;
+    match step.given {
+        Given::Request(rsne) => request(alloc, station, rsne),
+        Given::M2(counter, snonce, mic, rsne) => {
+            m2(alloc, akm, station, counter, &snonce, &mic, rsne)
         }
-        _ => false,
+        Given::M4(counter, mic) => m4(alloc, akm, station, counter, &mic),
+        Given::Retry => Ok(Vec::new(alloc)),
     }
 }
 
+// Their kind.
+fn kind_of(given: Given) -> Kind {
+    match given {
+        Given::Request(_) => Kind::AssocReq,
+        Given::M2(_, _, _, _) => Kind::Key(Message::M2),
+        Given::M4(_, _) => Kind::Key(Message::M4),
+        Given::Retry => Kind::Unread,
+    }
+}
+
+// The act is that of sending these octets to the station, with what its MIC covers where it has one.
+fn is_sent(
+    alloc: Global,
+    act: &Act,
+    station: u16,
+    what: Kind,
+    expected: &[u8],
+    kck: Option<[u8; 16]>,
+) -> Result<bool, NoMemory> {
+    match act {
+        Act::Sent {
+            peer,
+            kind,
+            octets,
+            seal,
+        } => {
+            let is_right = *peer == Peer::One(Node::Sta(station))
+                && *kind == what
+                && octets.as_slice() == expected;
+            Ok(is_right && is_sealed(alloc, seal, expected, kck)?)
+        }
+        _ => Ok(false),
+    }
+}
+
+// What the MIC of these octets covers is sealed under that key, or there is no seal and no key.
+fn is_sealed(
+    alloc: Global,
+    seal: &Option<Seal>,
+    data: &[u8],
+    kck: Option<[u8; 16]>,
+) -> Result<bool, NoMemory> {
+    match (seal, kck) {
+        (None, None) => Ok(true),
+        (Some(seal), Some(kck)) => {
+            let expected = covered(alloc, data)?;
+            Ok(seal.key == kck && seal.octets.as_slice() == expected.as_slice())
+        }
+        _ => Ok(false),
+    }
+}
+
+// The act is that of taking these octets from the station of the step.
 fn is_taken(
     alloc: Global,
     act: &Act,
-    frame: &[u8],
-    expected: (Kind, Outcome, Option<(Pieces, &'static [u8])>),
+    step: &Step,
+    came: &[u8],
+    kck: Option<[u8; 16]>,
 ) -> Result<bool, NoMemory> {
-    let (want_kind, want_outcome, want_seal) = expected;
-    let mut sealed = Vec::new(alloc);
-    let mut want = None;
-    if let Some((pieces, key)) = want_seal {
-        sealed.push(1)?;
-        let rest = joined(alloc, pieces)?;
-        sealed.extend_from_slice(&rest)?;
-        want = Some((sealed.as_slice(), key));
-    }
     match act {
         Act::Took {
             from,
@@ -356,107 +210,187 @@ fn is_taken(
             kind,
             outcome,
             seal,
-        } => Ok(
-            *from == Some(STA)
-                && octets.as_slice() == frame
-                && (*kind, *outcome) == (want_kind, want_outcome)
-                && is_sealed(seal, want),
-        ),
+        } => {
+            let is_right = *from == Some(Node::Sta(step.station))
+                && *kind == kind_of(step.given)
+                && *outcome == step.outcome
+                && octets.as_slice() == came;
+            Ok(is_right && is_sealed(alloc, seal, came, kck)?)
+        }
         _ => Ok(false),
     }
 }
 
-fn is_drawn(act: &Act, anonce: &[u8]) -> bool {
-    match act {
-        Act::Drew {
-            value: Drawn::Nonce(value),
-        } => value.as_slice() == anonce,
-        _ => false,
-    }
-}
-
-fn is_sent(act: &Act, want: Kind, frame: &[u8]) -> bool {
-    match act {
-        Act::Sent {
-            peer,
-            kind,
-            octets,
-            seal: None,
-        } => *peer == Peer::One(STA) && *kind == want && octets.as_slice() == frame,
-        _ => false,
-    }
-}
-
-fn is_derived(act: &Act, anonce: &[u8], kck: &[u8]) -> bool {
-    match act {
-        Act::Derived { peer, inputs, ptk } => {
-            *peer == STA
-                && inputs.anonce.as_slice() == anonce
-                && inputs.snonce.as_slice() == SNONCE
-                && ptk.kck.as_slice() == kck
+// The act derives, installs or finishes by that key with the station.
+fn is_keyed(act: &Act, station: u16, want: Want) -> bool {
+    let sta = Node::Sta(station);
+    match (want, act) {
+        (Want::Derived(keys), Act::Derived { peer, inputs, ptk }) => {
+            let Keys {
+                anonce,
+                snonce,
+                kck,
+                kek,
+                tk,
+                ..
+            } = keys;
+            *peer == sta
+                && inputs.anonce == anonce
+                && inputs.snonce == snonce
+                && ptk.kck == kck
+                && ptk.kek == kek
+                && ptk.tk == tk
+        }
+        (
+            Want::Pairwise(keys),
+            Act::Installed {
+                peer,
+                key: Key::Pairwise { tk, inputs },
+            },
+        ) => {
+            let Keys {
+                anonce,
+                snonce,
+                tk: wanted,
+                ..
+            } = keys;
+            *peer == Peer::One(sta)
+                && *tk == wanted
+                && inputs.anonce == anonce
+                && inputs.snonce == snonce
+        }
+        (Want::Finished(keys), Act::Finished { peer, inputs }) => {
+            let Keys { anonce, snonce, .. } = keys;
+            *peer == sta && inputs.anonce == anonce && inputs.snonce == snonce
         }
         _ => false,
     }
 }
 
-// The act is the one that is expected as that frame came.
-fn is(alloc: Global, act: &Act, frame: &[u8], expected: Expected) -> Result<bool, NoMemory> {
-    match expected {
-        Expected::Took(kind, outcome, seal) => is_taken(alloc, act, frame, (kind, outcome, seal)),
-        Expected::Opened => Ok(matches!(
-            act,
-            Act::Opened {
-                peer: STA,
-                start: Start::Connect
-            }
-        )),
-        Expected::Closed => Ok(matches!(
-            act,
-            Act::Closed {
-                peer: STA,
-                part: Part::Attempt
-            }
-        )),
-        Expected::Drew(anonce) => Ok(is_drawn(act, anonce)),
-        Expected::Sent(kind, pieces) => Ok(is_sent(act, kind, &joined(alloc, pieces)?)),
-        Expected::Derived(anonce, kck) => Ok(is_derived(act, anonce, kck)),
+// The act is as it is to be in the step, where these octets came.
+fn is(
+    alloc: Global,
+    akm: Akm,
+    step: &Step,
+    came: &[u8],
+    act: &Act,
+    want: Want,
+) -> Result<bool, NoMemory> {
+    let station = step.station;
+    let sta = Node::Sta(station);
+    match (want, act) {
+        (Want::Took, _) => is_taken(alloc, act, step, came, None),
+        (Want::Sealed(keys), _) => is_taken(alloc, act, step, came, Some(keys.kck)),
+        (Want::Closed(which), Act::Closed { peer, part }) => Ok(*peer == sta && *part == which),
+        (Want::Opened, Act::Opened { peer, start }) => {
+            Ok(*peer == sta && *start == Start::Connect)
+        }
+        (Want::Drew(nonce), Act::Drew { value }) => Ok(*value == Drawn::Nonce(nonce)),
+        (Want::Response, _) => {
+            let aid = if station == 0 { 1 } else { 2 };
+            let behind = [0, 0, aid, 0xc0, 1, 4, 0x82, 0x84, 0x8b, 0x96];
+            let octets = response(alloc, station, &behind)?;
+            is_sent(alloc, act, station, Kind::AssocResp, &octets, None)
+        }
+        (Want::Refusal(status), _) => {
+            let octets = response(alloc, station, &[status, 0, 0, 0])?;
+            is_sent(alloc, act, station, Kind::AssocResp, &octets, None)
+        }
+        (Want::M1(counter, anonce), _) => {
+            let octets = m1(alloc, akm, station, counter, &anonce)?;
+            is_sent(alloc, act, station, Kind::Key(Message::M1), &octets, None)
+        }
+        (Want::M3(counter, keys, mic), _) => {
+            let octets = m3(alloc, akm, station, counter, keys, &mic)?;
+            let kck = Some(keys.kck);
+            is_sent(alloc, act, station, Kind::Key(Message::M3), &octets, kck)
+        }
+        (Want::GaveUp(waited), Act::GaveUp { peer, message }) => {
+            Ok(*peer == sta && *message == waited)
+        }
+        (Want::Idle(reason), Act::Idle { why }) => Ok(*why == reason),
+        _ => Ok(is_keyed(act, station, want)),
     }
 }
 
-fn try_round(
+fn try_step(
     rt: &impl Abort,
     alloc: Global,
     domain: &Domain,
     node: &mut ApNode,
-    round: &Round,
+    out: &mut Outbox,
+    step: &Step,
 ) -> Result<(), Fail>
     requires form { InForm domain.now }
-    requires akm { domain.now.akm ≡ Akm.Psk }
-    requires aps { node.old.number < length domain.now.aps }
-    ensures { node.new.number ≡ node.old.number }
+    requires akm { domain.now.akm ≢ AnyAkm.FtPsk }
+    requires aps { length domain.now.aps ≡ 1 }
+    requires stas { length domain.now.stas ≡ 2 }
+    requires node { node.old.number ≡ 0 }
+    ensures { node.new.number ≡ 0 }
 {
-    let mut out = Outbox::new(alloc);
-    let frame = joined(alloc, round.frame)?;
-    let outcome = node.step(alloc, domain, NodeEvent::Take(&frame), &mut out)?;
-    assert_eq!(rt; outcome, round.outcome, "{}", round.shows);
-    for expected in round.acts {
-        match out.pop() {
-            Some(act) => assert!(rt; is(alloc, &act, &frame, *expected)?, "{}", round.shows),
-            None => assert!(rt; false, "{}", round.shows),
-        }
+    let came = octets_of(alloc, domain.akm, step)?;
+    let event = match step.given {
+        Given::Retry => NodeEvent::Retry(step.station % 2),
+        _ => NodeEvent::Take(&came),
+    };
+    let outcome = node.step(alloc, domain, event, out)?;
+    assert_eq!(rt; outcome, step.outcome, "{}", step.shows);
+    for want in step.acts {
+        let Some(act) = out.pop() else {
+            return Err("an act is missing".into());
+        };
+        assert!(rt;
+            is(alloc, domain.akm, step, &came, &act, *want)?,
+            "{}",
+            step.shows
+        );
     }
-    assert!(rt; out.pop().is_none(), "{}", round.shows);
+    assert!(rt; out.pop().is_none(), "{}", step.shows);
     Ok(())
 }
 
-#[test]
-fn requests_and_second_messages(rt: HostRuntime) -> Result<(), Fail> {
-    let alloc = rt.alloc();
-    let domain = network(alloc)?;
+// The first group key is drawn and installed.
+fn try_start(rt: &impl Abort, out: &mut Outbox) -> Result<(), Fail> {
+    let (Some(drawn), Some(installed)) = (out.pop(), out.pop()) else {
+        return Err("an act is missing".into());
+    };
+    assert!(rt;
+        matches!(
+            &drawn,
+            Act::Drew {
+                value: Drawn::Gtk(_)
+            }
+        )
+    );
+    assert!(rt;
+        matches!(
+            &installed,
+            Act::Installed {
+                peer: Peer::All,
+                ..
+            }
+        )
+    );
+    assert!(rt; out.pop().is_none());
+    Ok(())
+}
+
+fn try_steps(
+    rt: &impl Abort,
+    alloc: Global,
+    akm: Akm,
+    first: u64,
+    steps: &[Step],
+) -> Result<(), Fail>
+    requires akm { akm ≢ AnyAkm.FtPsk }
+    requires draw { first < last_draw }
+{
+    let domain = network(alloc, akm)?;
     let mut out = Outbox::new(alloc);
-    let mut node = ApNode::start(alloc, &domain, 0, 0, &mut out)?;
-    for round in ROUNDS {
-        try_round(&rt, alloc, &domain, &mut node, round)?;
+    let mut node = ApNode::start(alloc, &domain, 0, first, &mut out)?;
+    try_start(rt, &mut out)?;
+    for step in steps {
+        try_step(rt, alloc, &domain, &mut node, &mut out, step)?;
     }
     Ok(())
 }
@@ -464,15 +398,11 @@ fn requests_and_second_messages(rt: HostRuntime) -> Result<(), Fail> {
 #[test]
 fn first_group_key(rt: HostRuntime) -> Result<(), Fail> {
     let alloc = rt.alloc();
-    let domain = network(alloc)?;
+    let domain = network(alloc, Akm::Psk)?;
     let mut out = Outbox::new(alloc);
     ApNode::start(alloc, &domain, 0, 0, &mut out)?;
     match out.pop() {
-        Some(
-            Act::Drew {
-                value: Drawn::Gtk(value),
-            },
-        ) => assert!(rt; value.as_slice() == GTK),
+        Some(Act::Drew { value }) => assert_eq!(rt; value, Drawn::Gtk(GTK)),
         _ => assert!(rt; false),
     }
     match out.pop() {
@@ -482,7 +412,7 @@ fn first_group_key(rt: HostRuntime) -> Result<(), Fail> {
                 key: Key::Group { gtk, id, bssid },
             },
         ) => {
-            assert!(rt; gtk.as_slice() == GTK);
+            assert_eq!(rt; gtk, GTK);
             assert_eq!(rt; (id, bssid), (1, Mac([2, 0, 0, 0, 0, 1])));
         }
         _ => assert!(rt; false),

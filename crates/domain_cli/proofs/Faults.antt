@@ -1,57 +1,51 @@
 -- The octets of a script fall into lines in one way, and what the lines tell is one thing.
-use Rattle.std.proofs.Common.{◌≡◌, ◌≢◌, ℕ, zero, suc, ◌+◌, ◌<◌, ◌≤◌, Bool, true, false, List, [], ◌∷◌, ◌++◌, length, Option, Some, None, ◌⊎◌, inl, inr, refl, sym, ap, subst, ◌∙◌, append_assoc, arith}
+use Rattle.std.proofs.Common.{◌≡◌, ◌≢◌, ℕ, ◌<◌, ◌≤◌, Bool, List, [], ◌∷◌, ◌++◌, length, Ok, Err, inl, inr, refl, sym, ap, subst, ◌∙◌, append_assoc, arith}
 use Rattle.std.proofs.lemmas.List.{append-nil, length-append}
 use Rattle.std.proofs.lemmas.Bool.{cases_lt}
-use Rattle.domain_base.specs.declared.names.Mac.{Mac}
-use Rattle.run_journal.specs.declared.domain.Domain.{Domain}
 use Rattle.run_journal.specs.declared.domain.Event.{Event}
 use Rattle.run_journal.specs.declared.acts.Entry.{Entry}
-use Rattle.domain_rules.specs.Explained.{frames}
 use Rattle.domain_rules.proofs.Journals.{one_journal}
-use Rattle.domain_world.specs.State.{with_ap, with_sta}
-use Rattle.frame_script.specs.Script.{Draft, AtVersion, AtSeed, AtSsid, AtPsk, AtAkm, AtNodes, Said, ListsAp, ListsSta, Asks, body_line, header_after}
-use Rattle.domain_cli.specs.Script.{HasSent, Adds, SaysBody, RefusesBody, Says, Refuses, Spells, NoFeed, most_lines, most_octets, joined, AreLines, Begins, IsScript, EndsHere, HasFault}
+use Rattle.frame_script.specs.Script.{Fault, Draft, AtVersion, AtSeed, AtSsid, AtPsk, AtAkm, AtNodes, Said, line_says, said_after}
+use Rattle.frame_script.specs.Headers.{sizes_of}
+use Rattle.domain_cli.specs.Script.{IsJournal, HasSent, rounds_with, Says, Refuses, Spells, NoFeed, most_lines, most_octets, without_return, joined, texts, AreLines, IsClosed, IsOpen, IsScript, Ends, HasFault}
 
 -- ---- what a line tells
 
-one_count : (d : Domain) (rounds : List (List Event)) (m n : ℕ) → HasSent d rounds m → HasSent d rounds n → m ≡ n
-one_count d rounds m n s t = s.count ∙ ap frames (one_journal d rounds s.journal t.journal s.explained t.explained) ∙ sym t.count
+same_journal : (draft : Draft) (rounds : List (List Event)) (j k : List Entry) → IsJournal draft rounds j → IsJournal draft rounds k → j ≡ k
+same_journal AtVersion rounds j k p q = p.1 ∙ sym q.1
+same_journal AtSeed rounds j k p q = p.1 ∙ sym q.1
+same_journal (AtSsid seed) rounds j k p q = p.1 ∙ sym q.1
+same_journal (AtPsk seed ssid) rounds j k p q = p.1 ∙ sym q.1
+same_journal (AtAkm seed ssid psk) rounds j k p q = p.1 ∙ sym q.1
+same_journal (AtNodes d) rounds j k p q = one_journal d rounds j k p.1 q.1
+
+same_sizes : (draft : Draft) (rounds : List (List Event)) (sizes others : List ℕ) → HasSent draft rounds sizes → HasSent draft rounds others → sizes ≡ others
+same_sizes draft rounds sizes others s t = s.sizes_are ∙ ap sizes_of (same_journal draft rounds s.journal t.journal s.is t.is) ∙ sym t.sizes_are
 
 -- the same network and the same rounds
 abbrev pub AreSame : Draft → List (List Event) → Draft → List (List Event) → Type 0
 AreSame d rounds e others = (d ≡ e) × (rounds ≡ others)
 
-one_addition : (d : Domain) (earlier : List (List Event)) (said : Said) (x y : Draft) (r s : List (List Event)) → Adds d earlier said x r → Adds d earlier said y s → AreSame x r y s
-one_addition d earlier (ListsAp a id) x y r s p q = (p.0 ∙ sym q.0, p.1 ∙ sym q.1)
-one_addition d earlier (ListsSta a) x y r s p q = (p.0 ∙ sym q.0, p.1 ∙ sym q.1)
-one_addition d earlier (Asks event) x y r s p q = (p.0 ∙ sym q.0, p.1 ∙ sym q.1)
-
-one_body : (line : List ℕ) (d : Domain) (earlier : List (List Event)) (x y : Draft) (r s : List (List Event)) → SaysBody line d earlier x r → SaysBody line d earlier y s → AreSame x r y s
-one_body line d earlier x y r s p q =
-    let count = one_count d earlier p.sent q.sent p.frames_are q.frames_are in
-    let same : p.said ≡ q.said = cc (p.says, q.says, ap (λ (n : ℕ). body_line d (length earlier) n line) count) in
-    one_addition d earlier q.said x y r s (subst (λ (said : Said). Adds d earlier said x r) same p.adds) q.adds
-
-one_header : (line : List ℕ) (before x y : Draft) (earlier r s : List (List Event)) → (header_after before line ≡ Some x) × (r ≡ earlier) → (header_after before line ≡ Some y) × (s ≡ earlier) → AreSame x r y s
-one_header line before x y earlier r s p q = (cc (p.0, q.0), p.1 ∙ sym q.1)
-
 one_meaning : (line : List ℕ) (before x y : Draft) (earlier r s : List (List Event)) → Says line before earlier x r → Says line before earlier y s → AreSame x r y s
-one_meaning line AtVersion x y earlier r s p q = one_header line AtVersion x y earlier r s p q
-one_meaning line AtSeed x y earlier r s p q = one_header line AtSeed x y earlier r s p q
-one_meaning line (AtSsid seed) x y earlier r s p q = one_header line (AtSsid seed) x y earlier r s p q
-one_meaning line (AtPsk seed ssid) x y earlier r s p q = one_header line (AtPsk seed ssid) x y earlier r s p q
-one_meaning line (AtAkm seed ssid psk) x y earlier r s p q = one_header line (AtAkm seed ssid psk) x y earlier r s p q
-one_meaning line (AtNodes d) x y earlier r s p q = one_body line d earlier x y r s p q
+one_meaning line before x y earlier r s p q =
+    let sizes = same_sizes before earlier p.sizes q.sizes p.sent q.sent in
+    let says : line_says before (length earlier) p.sizes line ≡ Ok q.said = ap (λ (z : List ℕ). line_says before (length earlier) z line) sizes ∙ q.says in
+    let said : p.said ≡ q.said = cc (p.says, says) in
+    (p.draft_is ∙ ap (λ (z : Said). said_after before z) said ∙ sym q.draft_is, p.rounds_are ∙ ap (λ (z : Said). rounds_with earlier z) said ∙ sym q.rounds_are)
 
 -- a line is not both taken and refused
-taken_or_refused : (line : List ℕ) (before draft : Draft) (earlier rounds : List (List Event)) → Says line before earlier draft rounds → Refuses line before earlier → ⊥
-taken_or_refused line AtVersion draft earlier rounds p q = cc (p.0, q)
-taken_or_refused line AtSeed draft earlier rounds p q = cc (p.0, q)
-taken_or_refused line (AtSsid seed) draft earlier rounds p q = cc (p.0, q)
-taken_or_refused line (AtPsk seed ssid) draft earlier rounds p q = cc (p.0, q)
-taken_or_refused line (AtAkm seed ssid psk) draft earlier rounds p q = cc (p.0, q)
-taken_or_refused line (AtNodes d) draft earlier rounds p q =
-    cc (p.says, q.says, ap (λ (n : ℕ). body_line d (length earlier) n line) (one_count d earlier p.sent q.sent p.frames_are q.frames_are))
+taken_or_refused : (line : List ℕ) (before draft : Draft) (earlier rounds : List (List Event)) (fault : Fault) → Says line before earlier draft rounds → Refuses line before earlier fault → ⊥
+taken_or_refused line before draft earlier rounds fault p q =
+    let sizes = same_sizes before earlier p.sizes q.sizes p.sent q.sent in
+    let says : line_says before (length earlier) p.sizes line ≡ Err fault = ap (λ (z : List ℕ). line_says before (length earlier) z line) sizes ∙ q.says in
+    cc (p.says, says)
+
+-- and is refused for one fault
+one_refusal : (line : List ℕ) (draft : Draft) (rounds : List (List Event)) (fault other : Fault) → Refuses line draft rounds fault → Refuses line draft rounds other → fault ≡ other
+one_refusal line draft rounds fault other p q =
+    let sizes = same_sizes draft rounds p.sizes q.sizes p.sent q.sent in
+    let says : line_says draft (length rounds) p.sizes line ≡ Err other = ap (λ (z : List ℕ). line_says draft (length rounds) z line) sizes ∙ q.says in
+    cc (p.says, says)
 
 pub one_telling : (lines : List (List ℕ)) (x y : Draft) (r s : List (List Event)) → Spells lines x r → Spells lines y s → AreSame x r y s
 unfolding Spells
@@ -59,6 +53,18 @@ one_telling [] x y r s p q = (p.0 ∙ sym q.0, p.1 ∙ sym q.1)
 one_telling (line ∷ lines) x y r s (before, (earlier, (p, says))) (before', (earlier', (q, says'))) =
     let same = one_telling lines before before' earlier earlier' p q in
     one_meaning line before' x y earlier' r s (subst (λ (e : List (List Event)). Says line before' e x r) same.1 (subst (λ (b : Draft). Says line b earlier x r) same.0 says)) says'
+
+-- a line that is taken behind lines that told this is not refused there
+not_taken : (said : List (List ℕ)) (line : List ℕ) (before draft : Draft) (earlier rounds : List (List Event)) (fault : Fault) → Spells said before earlier → Spells (line ∷ said) draft rounds → Refuses line before earlier fault → ⊥
+unfolding Spells
+not_taken said line before draft earlier rounds fault p (b, (e, (q, says))) refuses =
+    let one = one_telling said b before e earlier q p in
+    let taken = subst (λ (x : List (List Event)). Says line before x draft rounds) one.1 (subst (λ (x : Draft). Says line x e draft rounds) one.0 says) in
+    taken_or_refused line before draft earlier rounds fault taken refuses
+
+before_last : (line : List ℕ) (said : List (List ℕ)) (draft : Draft) (rounds : List (List Event)) → Spells (line ∷ said) draft rounds → (before : Draft) × ((earlier : List (List Event)) × Spells said before earlier)
+unfolding Spells
+before_last line said draft rounds (before, (earlier, (spelled, says))) = (before, (earlier, spelled))
 
 -- ---- lines in octets
 
@@ -80,6 +86,10 @@ short_line (x ∷ a) (y ∷ b) xs ys p e =
     let rest : a ++ xs ≡ b ++ 10 ∷ ys = cc in
     omega (arith, short_line a b xs ys p.1 rest)
 
+-- and has none
+no_feed : (a b ys : List ℕ) → NoFeed a → a ≡ b ++ 10 ∷ ys → ⊥
+no_feed a b ys p e = omega (arith, short_line a b [] ys p (append-nil a ∙ e), ap (λ (w : List ℕ). length w) e, length-append b (10 ∷ ys))
+
 joined_step : (line : List ℕ) (lines : List (List ℕ)) (rest : List ℕ) → joined (line ∷ lines) ++ rest ≡ joined lines ++ (line ++ 10 ∷ rest)
 unfolding joined
 joined_step line lines rest = append_assoc (joined lines ++ line) (10 ∷ []) rest ∙ append_assoc (joined lines) line (10 ∷ rest)
@@ -95,24 +105,30 @@ same_lines (x ∷ good) (y ∷ other) rest more p q n e =
     let lines = cut_line x y rest more p.0 q.0 same.1 in
     (cc (same.0, lines.0), lines.1)
 
--- the next line behind the good ones is whole, and is taken
-record Next (good : List (List ℕ)) (rest : List ℕ) : Type 0 where
+-- the next line behind the good ones is whole, within the limits, and where the lines tell something it is taken
+record Next (good other : List (List ℕ)) (rest : List ℕ) : Type 0 where
   line : List ℕ
   behind : List ℕ
   is : rest ≡ line ++ 10 ∷ behind
   none : NoFeed line
   short : length line ≤ most_octets
   few : length good < most_lines
-  draft : Draft
-  rounds : List (List Event)
-  spelled : Spells (line ∷ good) draft rounds
+  told : (draft : Draft) (rounds : List (List Event)) → Spells (texts other) draft rounds → (d : Draft) × ((r : List (List Event)) × Spells (without_return line ∷ texts good) d r)
 
-next_line : (good other : List (List ℕ)) (rest more : List ℕ) (draft : Draft) (rounds : List (List Event)) → AreLines good → AreLines other → length good < length other → joined good ++ rest ≡ joined other ++ more → Spells other draft rounds → Next good rest
-unfolding AreLines Spells
-next_line good [] rest more draft rounds p q n e s = absurd (omega (arith, n))
-next_line good (y ∷ other) rest more draft rounds p q n e s =
+next_line : (good other : List (List ℕ)) (rest more : List ℕ) → AreLines good → AreLines other → length good < length other → joined good ++ rest ≡ joined other ++ more → Next good other rest
+unfolding AreLines
+next_line good [] rest more p q n e = absurd (omega (arith, n))
+next_line good (y ∷ other) rest more p q n e =
     elim (cases_lt (length good) (length other)) [
-      | inl longer ↦ next_line good other rest (y ++ 10 ∷ more) s.0 s.1.0 p q.3 longer (e ∙ joined_step y other more) s.1.1.0
+      | inl longer ↦ let next = next_line good other rest (y ++ 10 ∷ more) p q.3 longer (e ∙ joined_step y other more) in record {
+        line = next.line;
+        behind = next.behind;
+        is = next.is;
+        none = next.none;
+        short = next.short;
+        few = next.few;
+        told = λ draft rounds s. (let before = before_last (without_return y) (texts other) draft rounds s in next.told before.0 before.1.0 before.1.1);
+      }
       | inr last ↦ let same = same_lines good other rest (y ++ 10 ∷ more) p q.3 (omega (arith, n, last)) (e ∙ joined_step y other more) in record {
         line = y;
         behind = more;
@@ -120,38 +136,48 @@ next_line good (y ∷ other) rest more draft rounds p q n e s =
         none = q.0;
         short = q.1;
         few = omega (arith, q.2, ap (λ (l : List (List ℕ)). length l) same.0);
-        draft = draft;
-        rounds = rounds;
-        spelled = subst (λ (l : List (List ℕ)). Spells (y ∷ l) draft rounds) (sym same.0) s;
+        told = λ draft rounds s. (draft, (rounds, subst (λ (l : List (List ℕ)). Spells (without_return y ∷ texts l) draft rounds) (sym same.0) s));
       }
     ]
 
--- what is wrong with the line behind the good ones
-abbrev IsWrong : List (List ℕ) → List ℕ → Draft → List (List Event) → Type 0
-IsWrong good line before earlier = (most_octets < length line) ⊎ ((most_lines ≤ length good) ⊎ Refuses line before earlier)
+-- ---- a fault, and a line that is taken
 
-not_taken : (good : List (List ℕ)) (line next : List ℕ) (before draft : Draft) (earlier rounds : List (List Event)) → Spells good before earlier → Spells (next ∷ good) draft rounds → line ≡ next → Refuses line before earlier → ⊥
-unfolding Spells
-not_taken good line next before draft earlier rounds p (b, (e, (q, says))) same refuses =
-    let one = one_telling good b before e earlier q p in
-    let taken = subst (λ (x : List (List Event)). Says next before x draft rounds) one.1 (subst (λ (x : Draft). Says next x e draft rounds) one.0 says) in
-    taken_or_refused next before draft earlier rounds taken (subst (λ (l : List ℕ). Refuses l before earlier) same refuses)
+-- where a line is at its end and the next one is whole, it is that one
+same_next : (ended : Bool) (good other : List (List ℕ)) (line after text : List ℕ) → NoFeed line → Ends ended good line after text → (n : Next good other (line ++ after)) → text ≡ without_return n.line
+same_next ended good other line after text none (inl feed) n =
+    let same = cut_line line n.line feed.0.0 n.behind none n.none (sym (ap (λ (w : List ℕ). line ++ w) feed.0.1) ∙ n.is) in
+    feed.1 ∙ ap without_return same.0
+same_next ended good other line after text none (inr last) n =
+    absurd (no_feed line n.line n.behind none (sym (append-nil line) ∙ sym (ap (λ (w : List ℕ). line ++ w) last.1.0) ∙ n.is))
 
-wrong_taken : (good : List (List ℕ)) (line rest : List ℕ) (before : Draft) (earlier : List (List Event)) → Spells good before earlier → (n : Next good rest) → line ≡ n.line → IsWrong good line before earlier → ⊥
-wrong_taken good line rest before earlier spelled n same (inl long) = omega (arith, long, n.short, ap (λ (l : List ℕ). length l) same)
-wrong_taken good line rest before earlier spelled n same (inr (inl many)) = omega (arith, many, n.few)
-wrong_taken good line rest before earlier spelled n same (inr (inr refuses)) = not_taken good line n.line before n.draft earlier n.rounds spelled n.spelled same refuses
+fault_or_next : (octets : List ℕ) (ended : Bool) (good other : List (List ℕ)) (before draft : Draft) (earlier rounds : List (List Event)) (fault : Fault) → (f : HasFault octets ended good before earlier fault) → Spells (texts good) before earlier
+    → Next good other (f.line ++ f.after) → Spells (texts other) draft rounds → ⊥
+fault_or_next octets ended good other before draft earlier rounds fault f spelled n told =
+    elim f.wrong [
+      | inl long ↦ omega (arith, long.1, n.short, short_line f.line n.line f.after n.behind f.open_line n.is)
+      | inr w ↦ elim w.why [
+        | inl many ↦ omega (arith, many.1, n.few)
+        | inr why ↦
+            let text = same_next ended good other f.line f.after w.text f.open_line w.ends n in
+            let next = n.told draft rounds told in
+            not_taken (texts good) (without_return n.line) before next.0 earlier next.1.0 fault spelled next.1.1 (subst (λ (t : List ℕ). Refuses t before earlier fault) text why.1)
+      ]
+    ]
 
-fault_or_next : (good : List (List ℕ)) (line after : List ℕ) (ended : Bool) (before : Draft) (earlier : List (List Event)) → Spells good before earlier → NoFeed line → EndsHere ended good line after → IsWrong good line before earlier → Next good (line ++ after) → ⊥
-fault_or_next good line after ended before earlier spelled none (inl feed) wrong n =
-    let same = cut_line line n.line feed.0 n.behind none n.none (sym (ap (λ (w : List ℕ). line ++ w) feed.1) ∙ n.is) in
-    wrong_taken good line (line ++ after) before earlier spelled n same.0 wrong
-fault_or_next good line after ended before earlier spelled none (inr (inl long)) wrong n =
-    omega (arith, long, n.short, short_line line n.line after n.behind none n.is)
-fault_or_next good line after ended before earlier spelled none (inr (inr last)) wrong n =
-    let whole : length (line ++ after) ≡ length (n.line ++ 10 ∷ n.behind) = ap (λ (w : List ℕ). length w) n.is in
-    let no_more : length after ≡ 0 = ap (λ (w : List ℕ). length w) last.1 in
-    omega (arith, whole, no_more, length-append line after, length-append n.line (10 ∷ n.behind), short_line line n.line after n.behind none n.is)
+-- nothing is left for a fault behind whole lines
+nothing_left : (octets : List ℕ) (ended : Bool) (good : List (List ℕ)) (before : Draft) (earlier : List (List Event)) (fault : Fault) → (f : HasFault octets ended good before earlier fault) → good ≢ [] → f.line ++ f.after ≡ [] → ⊥
+nothing_left octets ended good before earlier fault f some none =
+    let no_octets : length (f.line ++ f.after) ≡ 0 = ap (λ (w : List ℕ). length w) none in
+    elim f.wrong [
+      | inl long ↦ omega (arith, long.1, no_octets, length-append f.line f.after)
+      | inr w ↦ elim w.ends [
+        | inl feed ↦ omega (arith, no_octets, length-append f.line f.after, ap (λ (x : List ℕ). length x) feed.0.1)
+        | inr last ↦ elim last.1.1.1 [
+          | inl octets_there ↦ octets_there (sym (append-nil f.line) ∙ sym (ap (λ (x : List ℕ). f.line ++ x) last.1.0) ∙ none)
+          | inr first ↦ some first
+        ]
+      ]
+    ]
 
 -- no octets are left behind as many lines as there are
 no_rest : (good lines : List (List ℕ)) (rest : List ℕ) → AreLines good → AreLines lines → length lines ≤ length good → joined good ++ rest ≡ joined lines ++ [] → (rest ≡ []) × (good ≡ lines)
@@ -165,54 +191,168 @@ no_rest (x ∷ good) lines rest p q n e =
           absurd (omega (arith, ap (λ (w : List ℕ). length w) none.0, length-append x (10 ∷ rest)))
     ]
 
--- a fault, and one line feed more
-ends_with_feed : (ended : Bool) (good : List (List ℕ)) (line after : List ℕ) → EndsHere ended good line after → EndsHere ended good line (after ++ 10 ∷ [])
-ends_with_feed ended good line after (inl feed) = inl (feed.0 ++ 10 ∷ [], ap (λ (w : List ℕ). w ++ 10 ∷ []) feed.1)
-ends_with_feed ended good line after (inr (inl long)) = inr (inl long)
-ends_with_feed ended good line after (inr (inr last)) = inl ([], ap (λ (w : List ℕ). w ++ 10 ∷ []) last.1)
+fault_or_closed : (octets : List ℕ) (ended : Bool) (good : List (List ℕ)) (before : Draft) (earlier : List (List Event)) (fault : Fault) (said : List (List ℕ)) (draft : Draft) (rounds : List (List Event)) → HasFault octets ended good before earlier fault
+    → Spells (texts good) before earlier → IsClosed octets said → Spells said draft rounds → ⊥
+fault_or_closed octets ended good before earlier fault said draft rounds f spelled s told =
+    let same = sym f.begins.whole ∙ s.begins.whole in
+    elim (cases_lt (length good) (length s.lines)) [
+      | inl longer ↦ fault_or_next octets ended good s.lines before draft earlier rounds fault f spelled (next_line good s.lines (f.line ++ f.after) [] f.begins.each s.begins.each longer same)
+          (subst (λ (l : List (List ℕ)). Spells l draft rounds) s.says told)
+      | inr fewer ↦
+          let none = no_rest good s.lines (f.line ++ f.after) f.begins.each s.begins.each fewer same in
+          nothing_left octets ended good before earlier fault f (λ empty. s.some (sym none.1 ∙ empty)) none.0
+    ]
 
-with_feed : (octets : List ℕ) (good : List (List ℕ)) (line after : List ℕ) → octets ≡ joined good ++ (line ++ after) → octets ++ 10 ∷ [] ≡ joined good ++ (line ++ (after ++ 10 ∷ []))
-with_feed octets good line after whole =
-    ap (λ (w : List ℕ). w ++ 10 ∷ []) whole ∙ append_assoc (joined good) (line ++ after) (10 ∷ []) ∙ ap (λ (w : List ℕ). joined good ++ w) (append_assoc line after (10 ∷ []))
-
--- nothing is left for a fault behind a whole script
-no_end : (ended : Bool) (good : List (List ℕ)) (line after : List ℕ) → good ≢ [] → line ++ after ≡ [] → EndsHere ended good line after → ⊥
-no_end ended good line after some none (inl feed) =
-    omega (arith, ap (λ (w : List ℕ). length w) none, length-append line after, ap (λ (w : List ℕ). length w) feed.1)
-no_end ended good line after some none (inr (inl long)) =
-    omega (arith, long, ap (λ (w : List ℕ). length w) none, length-append line after)
-no_end ended good line after some none (inr (inr (end, rest, inl octets))) =
-    omega (arith, octets, ap (λ (w : List ℕ). length w) none, length-append line after)
-no_end ended good line after some none (inr (inr (end, rest, inr first))) = some first
-
-pub fault_or_script : (octets : List ℕ) (ended : Bool) (good lines : List (List ℕ)) (before draft : Draft) (earlier rounds : List (List Event)) → HasFault octets ended good before earlier → Spells good before earlier
-    → IsScript octets lines → Spells lines draft rounds → ⊥
-fault_or_script octets ended good lines before draft earlier rounds f spelled s told =
-    elim (cases_lt (length good) (length lines)) [
-      | inl longer ↦ elim s.whole [
-        | inl e ↦ fault_or_next good f.line f.after ended before earlier spelled f.open_line f.ends f.wrong
-            (next_line good lines (f.line ++ f.after) [] draft rounds f.begins.each s.each longer (sym f.begins.whole ∙ sym e ∙ sym (append-nil (joined lines))) told)
-        | inr e ↦ fault_or_next good f.line (f.after ++ 10 ∷ []) ended before earlier spelled f.open_line (ends_with_feed ended good f.line f.after f.ends) f.wrong
-            (next_line good lines (f.line ++ (f.after ++ 10 ∷ [])) [] draft rounds f.begins.each s.each longer (sym (with_feed octets good f.line f.after f.begins.whole) ∙ sym e ∙ sym (append-nil (joined lines))) told)
-      ]
-      | inr fewer ↦ elim s.whole [
-        | inl e ↦ let none = no_rest good lines (f.line ++ f.after) f.begins.each s.each fewer (sym f.begins.whole ∙ sym e ∙ sym (append-nil (joined lines))) in
-            no_end ended good f.line f.after (λ empty. s.some (sym none.1 ∙ empty)) none.0 f.ends
-        | inr e ↦ let none = no_rest good lines (f.line ++ (f.after ++ 10 ∷ [])) f.begins.each s.each fewer (sym (with_feed octets good f.line f.after f.begins.whole) ∙ sym e ∙ sym (append-nil (joined lines))) in
-            omega (arith, ap (λ (w : List ℕ). length w) none.0, length-append f.line (f.after ++ 10 ∷ []), length-append f.after (10 ∷ []))
+-- a fault in the last line, which has no line feed and is taken
+fault_or_last : (octets : List ℕ) (ended : Bool) (good : List (List ℕ)) (before : Draft) (earlier : List (List Event)) (fault : Fault) (last : List ℕ) (draft : Draft) (rounds : List (List Event)) → (f : HasFault octets ended good before earlier fault)
+    → Spells (texts good) before earlier → f.line ++ f.after ≡ last → NoFeed last → length last ≤ most_octets → length good < most_lines → Spells (last ∷ texts good) draft rounds → ⊥
+fault_or_last octets ended good before earlier fault last draft rounds f spelled same none short few told =
+    elim f.wrong [
+      | inl long ↦ omega (arith, long.1, short, ap (λ (w : List ℕ). length w) same, length-append f.line f.after)
+      | inr w ↦ elim w.ends [
+        | inl feed ↦ no_feed last f.line feed.0.0 none (sym same ∙ ap (λ (x : List ℕ). f.line ++ x) feed.0.1)
+        | inr end ↦ elim w.why [
+          | inl many ↦ omega (arith, many.1, few)
+          | inr why ↦
+              let text : w.text ≡ last = end.1.1.0 ∙ sym (append-nil f.line) ∙ sym (ap (λ (x : List ℕ). f.line ++ x) end.1.0) ∙ same in
+              not_taken (texts good) last before draft earlier rounds fault spelled told (subst (λ (t : List ℕ). Refuses t before earlier fault) text why.1)
+        ]
       ]
     ]
 
-pub one_place : (octets : List ℕ) (ended over : Bool) (good lines : List (List ℕ)) (before draft : Draft) (earlier rounds : List (List Event)) → HasFault octets ended good before earlier → Spells good before earlier
-    → HasFault octets over lines draft rounds → Spells lines draft rounds → good ≡ lines
-one_place octets ended over good lines before draft earlier rounds f spelled g told =
-    let same : joined good ++ (f.line ++ f.after) ≡ joined lines ++ (g.line ++ g.after) = sym f.begins.whole ∙ g.begins.whole in
+fault_or_open : (octets : List ℕ) (ended : Bool) (good : List (List ℕ)) (before : Draft) (earlier : List (List Event)) (fault : Fault) (said : List (List ℕ)) (draft : Draft) (rounds : List (List Event)) → HasFault octets ended good before earlier fault
+    → Spells (texts good) before earlier → IsOpen octets said → Spells said draft rounds → ⊥
+fault_or_open octets ended good before earlier fault said draft rounds f spelled s told =
+    let same = sym f.begins.whole ∙ s.begins.whole in
+    let told_last = subst (λ (l : List (List ℕ)). Spells l draft rounds) s.says told in
+    elim (cases_lt (length good) (length s.lines)) [
+      | inl longer ↦
+          let front = before_last s.last (texts s.lines) draft rounds told_last in
+          fault_or_next octets ended good s.lines before front.0 earlier front.1.0 fault f spelled (next_line good s.lines (f.line ++ f.after) s.last f.begins.each s.begins.each longer same) front.1.1
+      | inr fewer ↦ elim (cases_lt (length s.lines) (length good)) [
+        | inl longer ↦
+            let next = next_line s.lines good s.last (f.line ++ f.after) s.begins.each f.begins.each longer (sym same) in
+            no_feed s.last next.line next.behind s.line next.is
+        | inr also ↦
+            let lines = same_lines good s.lines (f.line ++ f.after) s.last f.begins.each s.begins.each (omega (arith, fewer, also)) same in
+            fault_or_last octets ended good before earlier fault s.last draft rounds f spelled lines.1 s.line s.short (omega (arith, s.few, ap (λ (l : List (List ℕ)). length l) lines.0))
+            (subst (λ (l : List (List ℕ)). Spells (s.last ∷ texts l) draft rounds) (sym lines.0) told_last)
+      ]
+    ]
+
+pub fault_or_script : (octets : List ℕ) (ended : Bool) (good said : List (List ℕ)) (before draft : Draft) (earlier rounds : List (List Event)) (fault : Fault) → HasFault octets ended good before earlier fault → Spells (texts good) before earlier
+    → IsScript octets said → Spells said draft rounds → ⊥
+fault_or_script octets ended good said before draft earlier rounds fault f spelled (inl s) told = fault_or_closed octets ended good before earlier fault said draft rounds f spelled s told
+fault_or_script octets ended good said before draft earlier rounds fault f spelled (inr s) told = fault_or_open octets ended good before earlier fault said draft rounds f spelled s told
+
+-- ---- one list of lines
+
+-- whatever has no feed stands behind the same lines
+same_rest : (good other : List (List ℕ)) (rest more : List ℕ) → AreLines good → AreLines other → NoFeed rest → NoFeed more → joined good ++ rest ≡ joined other ++ more → (good ≡ other) × (rest ≡ more)
+same_rest good other rest more p q none nothing same =
+    elim (cases_lt (length good) (length other)) [
+      | inl longer ↦ let next = next_line good other rest more p q longer same in absurd (no_feed rest next.line next.behind none next.is)
+      | inr few ↦ elim (cases_lt (length other) (length good)) [
+        | inl longer ↦ let next = next_line other good more rest q p longer (sym same) in absurd (no_feed more next.line next.behind nothing next.is)
+        | inr also ↦ same_lines good other rest more p q (omega (arith, few, also)) same
+      ]
+    ]
+
+pub one_script : (octets : List ℕ) (said other : List (List ℕ)) → IsScript octets said → IsScript octets other → said ≡ other
+one_script octets said other (inl s) (inl t) =
+    let same = same_rest s.lines t.lines [] [] s.begins.each t.begins.each tt tt (sym s.begins.whole ∙ t.begins.whole) in
+    s.says ∙ ap texts same.0 ∙ sym t.says
+one_script octets said other (inl s) (inr t) =
+    let same = same_rest s.lines t.lines [] t.last s.begins.each t.begins.each tt t.line (sym s.begins.whole ∙ t.begins.whole) in
+    absurd (t.some (sym same.1))
+one_script octets said other (inr s) (inl t) =
+    let same = same_rest s.lines t.lines s.last [] s.begins.each t.begins.each s.line tt (sym s.begins.whole ∙ t.begins.whole) in
+    absurd (s.some same.1)
+one_script octets said other (inr s) (inr t) =
+    let same = same_rest s.lines t.lines s.last t.last s.begins.each t.begins.each s.line t.line (sym s.begins.whole ∙ t.begins.whole) in
+    s.says ∙ ap (λ (w : List ℕ). w ∷ texts s.lines) same.1 ∙ ap (λ (l : List (List ℕ)). t.last ∷ texts l) same.0 ∙ sym t.says
+
+-- ---- one fault
+
+-- a line that is at its end is no longer than what has no feed at the same place
+no_longer : (ended : Bool) (good : List (List ℕ)) (line after text other more : List ℕ) → NoFeed other → Ends ended good line after text → other ++ more ≡ line ++ after → length other ≤ length line
+no_longer ended good line after text other more none (inl feed) same =
+    short_line other line more feed.0.0 none (same ∙ ap (λ (w : List ℕ). line ++ w) feed.0.1)
+no_longer ended good line after text other more none (inr last) same =
+    omega (arith, ap (λ (w : List ℕ). length w) same, length-append other more, length-append line after, ap (λ (w : List ℕ). length w) last.1.0)
+
+-- both ends of one line give one text
+one_text : (ended over : Bool) (good lines : List (List ℕ)) (line after text other more words : List ℕ) → NoFeed line → NoFeed other → line ++ after ≡ other ++ more → Ends ended good line after text → Ends over lines other more words → text ≡ words
+one_text ended over good lines line after text other more words none nothing same (inl feed) (inl end) =
+    let one = cut_line line other feed.0.0 end.0.0 none nothing (sym (ap (λ (w : List ℕ). line ++ w) feed.0.1) ∙ same ∙ ap (λ (w : List ℕ). other ++ w) end.0.1) in
+    feed.1 ∙ ap without_return one.0 ∙ sym end.1
+one_text ended over good lines line after text other more words none nothing same (inl feed) (inr end) =
+    absurd (no_feed other line feed.0.0 nothing (sym (append-nil other) ∙ sym (ap (λ (w : List ℕ). other ++ w) end.1.0) ∙ sym same ∙ ap (λ (w : List ℕ). line ++ w) feed.0.1))
+one_text ended over good lines line after text other more words none nothing same (inr last) (inl end) =
+    absurd (no_feed line other end.0.0 none (sym (append-nil line) ∙ sym (ap (λ (w : List ℕ). line ++ w) last.1.0) ∙ same ∙ ap (λ (w : List ℕ). other ++ w) end.0.1))
+one_text ended over good lines line after text other more words none nothing same (inr last) (inr end) =
+    last.1.1.0 ∙ sym (append-nil line) ∙ sym (ap (λ (w : List ℕ). line ++ w) last.1.0) ∙ same ∙ ap (λ (w : List ℕ). other ++ w) end.1.0 ∙ append-nil other ∙ sym end.1.1.0
+
+-- behind the same lines
+one_fault : (octets : List ℕ) (ended over : Bool) (good : List (List ℕ)) (draft : Draft) (rounds : List (List Event)) (fault other : Fault) → (f : HasFault octets ended good draft rounds fault) → (g : HasFault octets over good draft rounds other)
+    → f.line ++ f.after ≡ g.line ++ g.after → fault ≡ other
+one_fault octets ended over good draft rounds fault other f g same =
+    elim f.wrong [
+      | inl long ↦ elim g.wrong [
+        | inl long_too ↦ long.0 ∙ sym long_too.0
+        | inr v ↦ absurd (omega (arith, long.1, v.short, no_longer over good g.line g.after v.text f.line f.after f.open_line v.ends same))
+      ]
+      | inr w ↦ elim g.wrong [
+        | inl long ↦ absurd (omega (arith, long.1, w.short, no_longer ended good f.line f.after w.text g.line g.after g.open_line w.ends (sym same)))
+        | inr v ↦ elim w.why [
+          | inl many ↦ elim v.why [
+            | inl many_too ↦ many.0 ∙ sym many_too.0
+            | inr why ↦ absurd (omega (arith, many.1, why.0))
+          ]
+          | inr why ↦ elim v.why [
+            | inl many ↦ absurd (omega (arith, many.1, why.0))
+            | inr why_too ↦
+                let text = one_text ended over good good f.line f.after w.text g.line g.after v.text f.open_line g.open_line same w.ends v.ends in
+                one_refusal v.text draft rounds fault other (subst (λ (t : List ℕ). Refuses t draft rounds fault) text why.1) why_too.1
+          ]
+        ]
+      ]
+    ]
+
+-- two faults of the same octets
+record AreFaults (octets : List ℕ) (ended over : Bool) (good lines : List (List ℕ)) (before draft : Draft) (earlier rounds : List (List Event)) (fault other : Fault) : Type 0 where
+  f : HasFault octets ended good before earlier fault
+  spelled : Spells (texts good) before earlier
+  g : HasFault octets over lines draft rounds other
+  told : Spells (texts lines) draft rounds
+
+same_place : (octets : List ℕ) (ended over : Bool) (good lines : List (List ℕ)) (before draft : Draft) (earlier rounds : List (List Event)) (fault other : Fault) → (a : AreFaults octets ended over good lines before draft earlier rounds fault other)
+    → (good ≡ lines) × (a.f.line ++ a.f.after ≡ a.g.line ++ a.g.after)
+same_place octets ended over good lines before draft earlier rounds fault other a =
+    let same : joined good ++ (a.f.line ++ a.f.after) ≡ joined lines ++ (a.g.line ++ a.g.after) = sym a.f.begins.whole ∙ a.g.begins.whole in
     elim (cases_lt (length good) (length lines)) [
-      | inl longer ↦ absurd (fault_or_next good f.line f.after ended before earlier spelled f.open_line f.ends f.wrong
-          (next_line good lines (f.line ++ f.after) (g.line ++ g.after) draft rounds f.begins.each g.begins.each longer same told))
+      | inl longer ↦ absurd (fault_or_next octets ended good lines before draft earlier rounds fault a.f a.spelled
+          (next_line good lines (a.f.line ++ a.f.after) (a.g.line ++ a.g.after) a.f.begins.each a.g.begins.each longer same) a.told)
       | inr few ↦ elim (cases_lt (length lines) (length good)) [
-        | inl longer ↦ absurd (fault_or_next lines g.line g.after over draft rounds told g.open_line g.ends g.wrong
-            (next_line lines good (g.line ++ g.after) (f.line ++ f.after) before earlier g.begins.each f.begins.each longer (sym same) spelled))
-        | inr also ↦ (same_lines good lines (f.line ++ f.after) (g.line ++ g.after) f.begins.each g.begins.each (omega (arith, few, also)) same).0
+        | inl longer ↦ absurd (fault_or_next octets over lines good draft before rounds earlier other a.g a.told
+            (next_line lines good (a.g.line ++ a.g.after) (a.f.line ++ a.f.after) a.g.begins.each a.f.begins.each longer (sym same)) a.spelled)
+        | inr also ↦ same_lines good lines (a.f.line ++ a.f.after) (a.g.line ++ a.g.after) a.f.begins.each a.g.begins.each (omega (arith, few, also)) same
       ]
     ]
+
+-- a fault behind lines that tell this, behind the same lines
+moved : (octets : List ℕ) (ended : Bool) (good lines : List (List ℕ)) (before draft : Draft) (earlier rounds : List (List Event)) (fault : Fault) → lines ≡ good → draft ≡ before → rounds ≡ earlier → (g : HasFault octets ended lines draft rounds fault)
+    → (h : HasFault octets ended good before earlier fault) × ((h.line ≡ g.line) × (h.after ≡ g.after))
+moved octets ended good lines before draft earlier rounds fault same network asked g =
+    let to_good = subst (λ (l : List (List ℕ)). (h : HasFault octets ended l draft rounds fault) × ((h.line ≡ g.line) × (h.after ≡ g.after))) same (g, (refl, refl)) in
+    let to_network = subst (λ (x : Draft). (h : HasFault octets ended good x rounds fault) × ((h.line ≡ g.line) × (h.after ≡ g.after))) network to_good in
+    subst (λ (x : List (List Event)). (h : HasFault octets ended good before x fault) × ((h.line ≡ g.line) × (h.after ≡ g.after))) asked to_network
+
+pub one_place : (octets : List ℕ) (ended over : Bool) (good lines : List (List ℕ)) (before draft : Draft) (earlier rounds : List (List Event)) (fault other : Fault) → HasFault octets ended good before earlier fault → Spells (texts good) before earlier
+    → HasFault octets over lines draft rounds other → Spells (texts lines) draft rounds → (good ≡ lines) × (fault ≡ other)
+one_place octets ended over good lines before draft earlier rounds fault other f spelled g told =
+    let place = same_place octets ended over good lines before draft earlier rounds fault other (record { f = f; spelled = spelled; g = g; told = told }) in
+    let tells = one_telling (texts good) draft before rounds earlier (subst (λ (l : List (List ℕ)). Spells (texts l) draft rounds) (sym place.0) told) spelled in
+    let here = moved octets over good lines before draft earlier rounds other (sym place.0) tells.0 tells.1 g in
+    let octets_there : g.line ++ g.after ≡ here.0.line ++ here.0.after = cc (here.1.0, here.1.1) in
+    (place.0, one_fault octets ended over good before earlier fault other f here.0 (place.1 ∙ octets_there))

@@ -1,6 +1,9 @@
+pub mod Goings
+pub mod Sizes
 pub mod Networks
+pub mod Growing
 pub mod Steps
-pub mod Headers
+pub mod Taking
 pub mod Lines
 pub mod Words
 pub mod Out

@@ -1,20 +1,16 @@
 -- Octets of a script as lines, and what stops its reading.
-use Rattle.std.proofs.Common.{◌≡◌, ◌≢◌, ℕ, zero, suc, ◌+◌, ◌*◌, ◌<◌, ◌≤◌, Bool, true, false, get_or, take, drop, List, [], ◌∷◌, ◌++◌, length, Option, Some, None, ◌⊎◌, refl, sym, ap, subst, ◌∙◌, append_assoc, inl, inr, arith}
-use Rattle.std.proofs.lemmas.List.{append-nil, length-append, take-append-drop, drop_more, nil_from_length}
+use Rattle.std.proofs.Common.{◌≡◌, ◌≢◌, ℕ, suc, ◌+◌, ◌*◌, ◌<◌, ◌≤◌, Bool, true, false, get_or, take, drop, List, [], ◌∷◌, ◌++◌, length, Option, Some, None, Ok, ◌⊎◌, refl, sym, ap, subst, ◌∙◌, append_assoc, inl, inr, arith}
+use Rattle.std.proofs.lemmas.List.{append-nil, length-append, take-append-drop, drop_more}
 use Rattle.std.proofs.lemmas.Bool.{false≢true}
 use Rattle.std.specs.Io.KnownBytes.{Consumes, Keeps}
 use Rattle.run_journal.specs.declared.domain.Event.{Event}
 use Rattle.run_journal.specs.declared.acts.Entry.{Entry}
-use Rattle.frame_script.specs.Script.{Draft, AtVersion}
+use Rattle.frame_script.specs.Script.{Fault, Outside, Past, Draft, AtVersion, line_says}
 use Rattle.domain_cli.specs.declared.session.Stop.{Stop}
 use Rattle.domain_cli.specs.declared.session.Stop.TheVariants as stops
-use Rattle.domain_cli.specs.declared.stage.Stage.{Stage}
-use Rattle.domain_cli.specs.declared.stage.Stage.TheVariants.{Header, Body}
-use Rattle.domain_cli.specs.Script.{IsJournal, Says, Refuses, Spells, NoFeed, most_lines, most_octets, joined, AreLines, Begins, IsScript, EndsHere, HasFault}
-use Rattle.domain_cli.specs.Stages.{Stands}
+use Rattle.domain_cli.specs.Script.{IsJournal, Says, Refuses, Spells, NoFeed, most_lines, most_octets, too_many, without_return, joined, texts, AreLines, Begins, Ends, IsWrong, HasFault}
 use Rattle.domain_cli.specs.Stops.{Stopped, StopsLine, found_by}
-use Rattle.domain_cli.specs.Story.{Explains, IsWhole, IsFaulty, IsCut, IsPrefix, Tells}
-use Rattle.domain_cli.proofs.Headers.{StandsHeader-journal, StandsBody-journal}
+use Rattle.domain_cli.specs.Story.{Explains, IsWhole, IsFaulty, IsPrefix, Tells}
 
 -- ---- octets and lines
 
@@ -32,6 +28,10 @@ Begins-line octets good line b none short few = record {
   each = (none, short, few, b.each);
 }
 
+pub NoFeed-more : (line : List ℕ) (octet : ℕ) → NoFeed line → octet ≢ 10 → NoFeed (line ++ octet ∷ [])
+NoFeed-more [] octet none other = (other, tt)
+NoFeed-more (o ∷ line) octet none other = (none.0, NoFeed-more line octet none.1 other)
+
 -- no more octets than the limits allow
 length-joined : (lines : List (List ℕ)) → AreLines lines → length (joined lines) ≤ 8193 * length lines
 unfolding joined AreLines
@@ -43,56 +43,49 @@ pub length-read : (octets : List ℕ) (good : List (List ℕ)) (rest : List ℕ)
 length-read octets good rest b short few =
     omega (arith, ap (λ (w : List ℕ). length w) b.whole, length-append (joined good) rest, length-joined good b.each)
 
--- ---- what the stage stands for
-
-pub Stands-journal : (s : Stage) (draft : Draft) (rounds : List (List Event)) (j : List Entry) → Stands s draft rounds j → IsJournal draft rounds j
-Stands-journal (Header reader) draft rounds j s = StandsHeader-journal reader draft rounds j s
-Stands-journal (Body w) draft rounds j s = StandsBody-journal w draft rounds j s
-
-pub Spells-line : (line : List ℕ) (good : List (List ℕ)) (before draft : Draft) (earlier rounds : List (List Event)) → Spells good before earlier → Says line before earlier draft rounds → Spells (line ∷ good) draft rounds
-unfolding Spells
-Spells-line line good before draft earlier rounds spelled says = (before, (earlier, (spelled, says)))
-
 -- ---- faults
 
--- a line that ends with the source, and is refused or one too many
-pub HasFault-last : (octets : List ℕ) (good : List (List ℕ)) (line : List ℕ) (draft : Draft) (rounds : List (List Event)) → Begins octets good line → NoFeed line → (0 < length line) ⊎ (good ≡ [])
-    → (most_lines ≤ length good) ⊎ Refuses line draft rounds → HasFault octets true good draft rounds
-HasFault-last octets good line draft rounds b none some wrong = record {
-  line = line;
-  after = [];
-  begins = subst (λ (w : List ℕ). Begins octets good w) (sym (append-nil line)) b;
-  open_line = none;
-  ends = inr (inr (refl, refl, some));
-  wrong = inr wrong;
-}
+pub Spells-line : (line : List ℕ) (said : List (List ℕ)) (before draft : Draft) (earlier rounds : List (List Event)) → Spells said before earlier → Says line before earlier draft rounds → Spells (line ∷ said) draft rounds
+unfolding Spells
+Spells-line line said before draft earlier rounds spelled says = (before, (earlier, (spelled, says)))
 
 -- whatever comes after a fault
-HasFault-more : (octets more : List ℕ) (ended : Bool) (good : List (List ℕ)) (draft : Draft) (rounds : List (List Event)) → HasFault octets false good draft rounds → HasFault (octets ++ more) ended good draft rounds
-HasFault-more octets more ended good draft rounds f = record {
+IsWrong-more : (more : List ℕ) (ended : Bool) (good : List (List ℕ)) (line after : List ℕ) (draft : Draft) (rounds : List (List Event)) (fault : Fault) → IsWrong false good line after draft rounds fault → IsWrong ended good line (after ++ more) draft rounds fault
+IsWrong-more more ended good line after draft rounds fault w = record {
+  text = w.text;
+  ends = elim w.ends [
+    | inl feed ↦ inl ((feed.0.0 ++ more, ap (λ (x : List ℕ). x ++ more) feed.0.1), feed.1)
+    | inr last ↦ absurd (false≢true last.0)
+  ];
+  short = w.short;
+  why = w.why;
+}
+
+HasFault-more : (octets more : List ℕ) (ended : Bool) (good : List (List ℕ)) (draft : Draft) (rounds : List (List Event)) (fault : Fault) → HasFault octets false good draft rounds fault → HasFault (octets ++ more) ended good draft rounds fault
+HasFault-more octets more ended good draft rounds fault f = record {
   line = f.line;
   after = f.after ++ more;
   begins = subst (λ (w : List ℕ). Begins (octets ++ more) good w) (append_assoc f.line f.after more) (Begins-more octets more good (f.line ++ f.after) f.begins);
   open_line = f.open_line;
-  ends = elim f.ends [
-    | inl feed ↦ inl (feed.0 ++ more, ap (λ (w : List ℕ). w ++ more) feed.1)
-    | inr other ↦ elim other [ inl long ↦ inr (inl long) | inr last ↦ absurd (false≢true last.0) ]
+  wrong = elim f.wrong [
+    | inl long ↦ inl long
+    | inr w ↦ inr (IsWrong-more more ended good f.line f.after draft rounds fault w)
   ];
-  wrong = f.wrong;
+}
+
+IsFaulty-more : (fault : Fault) (number : ℕ) (octets more : List ℕ) (j : List Entry) → IsFaulty fault number octets false j → IsFaulty fault number (octets ++ more) false j
+IsFaulty-more fault number octets more j f = record {
+  good = f.good;
+  draft = f.draft;
+  rounds = f.rounds;
+  number_is = f.number_is;
+  is = HasFault-more octets more false f.good f.draft f.rounds fault f.is;
+  explains = f.explains;
 }
 
 Stopped-more : (stop : Stop) (octets more : List ℕ) (j : List Entry) → Stopped stop octets j → Stopped stop (octets ++ more) j
-Stopped-more (stops.Faulty number reason) octets more j (f, two) = (
-  record {
-    good = f.good;
-    draft = f.draft;
-    rounds = f.rounds;
-    number_is = f.number_is;
-    fault = HasFault-more octets more false f.good f.draft f.rounds f.fault;
-    explains = f.explains;
-  },
-  two,
-)
+Stopped-more (stops.Faulty number reason) octets more j f = IsFaulty-more (Outside reason) number octets more j f
+Stopped-more (stops.Limit limit) octets more j (number, f) = (number, IsFaulty-more (Past limit) number octets more j f)
 Stopped-more stops.NoMemory octets more j p = record {
   good = p.good;
   rest = p.rest ++ more;
@@ -102,44 +95,146 @@ Stopped-more stops.NoMemory octets more j p = record {
   explains = p.explains;
 }
 
--- a line stopped it at the end of the source
-pub Tells-last : (stop : Stop) (octets : List ℕ) (good : List (List ℕ)) (line : List ℕ) (lines : ℕ) (s : Stage) (draft : Draft) (rounds : List (List Event)) (j k : List Entry) → Begins octets good line → NoFeed line → lines ≡ length good
-    → (0 < length line) ⊎ (good ≡ []) → Spells good draft rounds → Stands s draft rounds j → StopsLine stop lines line draft rounds → k ≡ j → Tells (found_by stop) octets true k
-Tells-last (stops.Faulty number reason) octets good line lines s draft rounds j k b none count some spelled stands stops same = (
+-- an octet too many
+pub Stopped-long : (octets : List ℕ) (octet : ℕ) (good : List (List ℕ)) (line : List ℕ) (draft : Draft) (rounds : List (List Event)) (j : List Entry) → Begins octets good line → NoFeed (line ++ octet ∷ []) → most_octets ≤ length line
+    → Spells (texts good) draft rounds → IsJournal draft rounds j → Stopped (stops.Limit 2) (octets ++ octet ∷ []) j
+Stopped-long octets octet good line draft rounds j b none long spelled journal = (
+  suc (length good),
   record {
     good = good;
     draft = draft;
     rounds = rounds;
-    number_is = stops.0 ∙ ap (λ (n : ℕ). suc n) count;
-    fault = HasFault-last octets good line draft rounds b none some (subst (λ (n : ℕ). (most_lines ≤ n) ⊎ Refuses line draft rounds) count stops.1);
-    explains = record { spelled = spelled; journal = subst (λ (x : List Entry). IsJournal draft rounds x) (sym same) (Stands-journal s draft rounds j stands) };
+    number_is = refl;
+    is = record {
+      line = line ++ octet ∷ [];
+      after = [];
+      begins = subst (λ (w : List ℕ). Begins (octets ++ octet ∷ []) good w) (sym (append-nil (line ++ octet ∷ []))) (Begins-more octets (octet ∷ []) good line b);
+      open_line = none;
+      wrong = inl (refl, omega (arith, long, length-append line (octet ∷ [])));
+    };
+    explains = record { spelled = spelled; journal = journal };
   },
-  stops.2,
 )
-Tells-last stops.NoMemory octets good line lines s draft rounds j k b none count some spelled stands stops same = record {
+
+-- a line stopped it: where it ends, and what it says
+record IsAt (whole : List ℕ) (ended : Bool) (good : List (List ℕ)) (line after text : List ℕ) : Type 0 where
+  begins : Begins whole good (line ++ after)
+  open_line : NoFeed line
+  ends : Ends ended good line after text
+  short : length line ≤ most_octets
+
+faulty : (fault : Fault) (number lines : ℕ) (whole : List ℕ) (ended : Bool) (good : List (List ℕ)) (line after text : List ℕ) (draft : Draft) (rounds : List (List Event)) (j : List Entry) → IsAt whole ended good line after text → lines ≡ length good
+    → number ≡ suc lines → ((fault ≡ too_many) × (most_lines ≤ lines)) ⊎ ((lines < most_lines) × Refuses text draft rounds fault) → Explains (texts good) draft rounds j → IsFaulty fault number whole ended j
+faulty fault number lines whole ended good line after text draft rounds j at count next why explains = record {
   good = good;
-  rest = line;
   draft = draft;
   rounds = rounds;
-  begins = b;
-  explains = record { spelled = spelled; journal = subst (λ (x : List Entry). IsJournal draft rounds x) (sym same) (Stands-journal s draft rounds j stands) };
+  number_is = next ∙ ap suc count;
+  is = record {
+    line = line;
+    after = after;
+    begins = at.begins;
+    open_line = at.open_line;
+    wrong = inr (record {
+      text = text;
+      ends = at.ends;
+      short = at.short;
+      why = subst (λ (n : ℕ). ((fault ≡ too_many) × (most_lines ≤ n)) ⊎ ((n < most_lines) × Refuses text draft rounds fault)) count why;
+    });
+  };
+  explains = explains;
 }
 
--- the octets are whole lines with the line feed that the last one lacked
-lines_there : (octets : List ℕ) (good : List (List ℕ)) → octets ++ 10 ∷ [] ≡ joined good ++ [] → good ≢ []
-unfolding joined
-lines_there octets good whole empty =
-    let none = ap (λ (g : List (List ℕ)). length (joined g ++ [])) empty in
-    omega (arith, none, ap (λ (w : List ℕ). length w) whole, length-append octets (10 ∷ []))
+stopped_at : (stop : Stop) (lines : ℕ) (whole : List ℕ) (ended : Bool) (good : List (List ℕ)) (line after text : List ℕ) (draft : Draft) (rounds : List (List Event)) (j : List Entry) → IsAt whole ended good line after text → lines ≡ length good
+    → StopsLine stop lines text draft rounds → Explains (texts good) draft rounds j → Tells (found_by stop) whole ended j
+stopped_at (stops.Faulty number reason) lines whole ended good line after text draft rounds j at count stops explains =
+    faulty (Outside reason) number lines whole ended good line after text draft rounds j at count stops.0 (inr stops.1) explains
+stopped_at (stops.Limit limit) lines whole ended good line after text draft rounds j at count stops explains =
+    (suc lines, faulty (Past limit) (suc lines) lines whole ended good line after text draft rounds j at count refl stops explains)
+stopped_at stops.NoMemory lines whole ended good line after text draft rounds j at count stops explains = record {
+  good = good;
+  rest = line ++ after;
+  draft = draft;
+  rounds = rounds;
+  begins = at.begins;
+  explains = explains;
+}
 
-pub IsScript-last : (octets : List ℕ) (good : List (List ℕ)) (line : List ℕ) → Begins (octets ++ 10 ∷ []) good line → line ≡ [] → IsScript octets good
-IsScript-last octets good line begins closed =
-    let b = subst (λ (w : List ℕ). Begins (octets ++ 10 ∷ []) good w) closed begins in
-    record {
-      each = b.each;
-      some = lines_there octets good b.whole;
-      whole = inr (sym (b.whole ∙ append-nil (joined good)));
-    }
+-- before a line feed
+pub Stopped-line : (stop : Stop) (lines : ℕ) (octets : List ℕ) (good : List (List ℕ)) (line : List ℕ) (draft : Draft) (rounds : List (List Event)) (j k : List Entry) → Begins octets good line → NoFeed line → length line ≤ most_octets → lines ≡ length good
+    → Spells (texts good) draft rounds → IsJournal draft rounds j → StopsLine stop lines (without_return line) draft rounds → k ≡ j → Stopped stop (octets ++ 10 ∷ []) k
+Stopped-line stop lines octets good line draft rounds j k b none short count spelled journal stops same =
+    let at : IsAt (octets ++ 10 ∷ []) false good line (10 ∷ []) (without_return line) = record {
+      begins = Begins-more octets (10 ∷ []) good line b;
+      open_line = none;
+      ends = inl (([], refl), refl);
+      short = short;
+    } in
+    stopped_at stop lines (octets ++ 10 ∷ []) false good line (10 ∷ []) (without_return line) draft rounds k at count stops
+    (record { spelled = spelled; journal = subst (λ (x : List Entry). IsJournal draft rounds x) (sym same) journal })
+
+-- at the end of the source
+pub Tells-last : (stop : Stop) (lines : ℕ) (octets : List ℕ) (good : List (List ℕ)) (line : List ℕ) (draft : Draft) (rounds : List (List Event)) (j k : List Entry) → Begins octets good line → NoFeed line → length line ≤ most_octets → lines ≡ length good
+    → (line ≢ []) ⊎ (good ≡ []) → Spells (texts good) draft rounds → IsJournal draft rounds j → StopsLine stop lines line draft rounds → k ≡ j → Tells (found_by stop) octets true k
+Tells-last stop lines octets good line draft rounds j k b none short count some spelled journal stops same =
+    let at : IsAt octets true good line [] line = record {
+      begins = subst (λ (w : List ℕ). Begins octets good w) (sym (append-nil line)) b;
+      open_line = none;
+      ends = inr (refl, (refl, (refl, some)));
+      short = short;
+    } in
+    stopped_at stop lines octets true good line [] line draft rounds k at count stops
+    (record { spelled = spelled; journal = subst (λ (x : List Entry). IsJournal draft rounds x) (sym same) journal })
+
+-- ---- whole scripts
+
+-- the last line has its line feed
+pub IsWhole-closed : (octets : List ℕ) (good : List (List ℕ)) (line : List ℕ) (draft : Draft) (rounds : List (List Event)) (j : List Entry) → Begins octets good line → line ≡ [] → 0 < length good → Spells (texts good) draft rounds → IsJournal draft rounds j
+    → IsWhole octets true j
+IsWhole-closed octets good line draft rounds j b closed some spelled journal = record {
+  script = texts good;
+  draft = draft;
+  rounds = rounds;
+  is = inl (record {
+    lines = good;
+    begins = subst (λ (w : List ℕ). Begins octets good w) closed b;
+    some = λ none. omega (arith, some, ap (λ (g : List (List ℕ)). length g) none);
+    says = refl;
+  });
+  end = refl;
+  explains = record { spelled = spelled; journal = journal };
+}
+
+-- an empty source says nothing that can be taken
+nothing_first : (good : List (List ℕ)) (before draft : Draft) (earlier rounds : List (List Event)) → good ≡ [] → Spells (texts good) before earlier → Says [] before earlier draft rounds → ⊥
+unfolding Spells line_says
+nothing_first [] before draft earlier rounds none spelled says =
+    let first = subst (λ (x : Draft). line_says x (length earlier) says.sizes [] ≡ Ok says.said) spelled.0 says.says in cc
+nothing_first (line ∷ good) before draft earlier rounds none spelled says = cc
+
+-- or lacks it
+pub IsWhole-open : (octets : List ℕ) (good : List (List ℕ)) (line : List ℕ) (before draft : Draft) (earlier rounds : List (List Event)) (j : List Entry) → Begins octets good line → NoFeed line → length line ≤ most_octets → length good < most_lines
+    → (line ≢ []) ⊎ (good ≡ []) → Spells (texts good) before earlier → Says line before earlier draft rounds → IsJournal draft rounds j → IsWhole octets true j
+IsWhole-open octets good line before draft earlier rounds j b none short few some spelled says journal = record {
+  script = line ∷ texts good;
+  draft = draft;
+  rounds = rounds;
+  is = inr (record {
+    lines = good;
+    last = line;
+    begins = b;
+    some = elim some [
+      | inl some_octets ↦ some_octets
+      | inr first ↦ λ empty. nothing_first good before draft earlier rounds first spelled (subst (λ (w : List ℕ). Says w before earlier draft rounds) empty says)
+    ];
+    line = none;
+    short = short;
+    few = few;
+    says = refl;
+  });
+  end = refl;
+  explains = record { spelled = Spells-line line (texts good) before draft earlier rounds spelled says; journal = journal };
+}
 
 -- the octets around the one at a place
 around : (before octets : List ℕ) (i octet : ℕ) → i < length octets → get_or octets i 0 ≡ octet → ((before ++ take i octets) ++ octet ∷ []) ++ drop (i + 1) octets ≡ before ++ octets

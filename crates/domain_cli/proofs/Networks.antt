@@ -1,17 +1,39 @@
--- A network in form stays so with one more node that can be listed.
-use Rattle.std.proofs.Common.{◌≡◌, ◌≢◌, ℕ, ◌+◌, ◌<◌, ◌≤◌, List, [], ◌∷◌, ◌++◌, length, refl, sym, ap, subst, arith}
+-- The network of a header is in form, and stays so with one more node that can be listed.
+use Rattle.std.proofs.Common.{◌≡◌, ◌≢◌, ℕ, ◌≤◌, true, false, List, [], ◌∷◌, ◌++◌, length, bytes_eq, sym, ap, subst, ◌∙◌, arith}
 use Rattle.std.specs.List.{AllByRecursion}
+use Rattle.std.proofs.lemmas.Bool.{false≢true, eqb-true, and_parts, not-true}
 use Rattle.std.proofs.lemmas.List.{length-append}
+use Rattle.std.proofs.lemmas.Slice.Eq.{bytes_eq-Decides}
 use Rattle.domain_base.specs.declared.names.Mac.{Mac}
 use Rattle.run_journal.specs.declared.domain.Domain.{Domain}
 use Rattle.run_journal.specs.declared.domain.ListedAp.{ListedAp}
 use Rattle.domain_rules.specs.Network.{IsUnicast, IsNew, AreAps, AreStas, InForm}
 use Rattle.domain_world.specs.State.{with_ap, with_sta}
-use Rattle.frame_script.specs.Script.{IsFreeAddress, CanListAp, CanListSta}
+use Rattle.frame_script.specs.Script.{is_single}
+use Rattle.frame_script.specs.Headers.{IsNetwork, CanListAp, CanListSta}
 
 all_push : {A : Type 0} (P : A → Type 0) (xs : List A) (x : A) → AllByRecursion P xs → P x → AllByRecursion P (xs ++ x ∷ [])
 all_push P [] x all here = (here, tt)
 all_push P (y ∷ xs) x all here = (all.0, all_push P xs x all.1 here)
+
+pub InForm-new : (d : Domain) → IsNetwork d → InForm d
+InForm-new d n = record {
+  some = n.some;
+  few = n.few;
+  aps = subst AreAps (sym n.no_aps) tt;
+  stas = subst (AreStas d.aps) (sym n.no_stas) tt;
+  few_aps = omega (arith, ap (λ (aps : List ListedAp). length aps) n.no_aps);
+  few_stas = omega (arith, ap (λ (stas : List Mac). length stas) n.no_stas);
+}
+
+not_equal : (xs ys : List ℕ) → bytes_eq xs ys ≡ false → xs ≢ ys
+not_equal xs ys e q = false≢true (sym e ∙ (bytes_eq-Decides xs ys).1 q)
+
+is_unicast : (octets : List ℕ) → is_single octets ≡ true → IsUnicast octets
+unfolding is_single
+is_unicast octets is =
+    let parts = and_parts _ _ is in
+    (not_equal octets _ (not-true _ parts.0), eqb-true _ _ parts.1)
 
 -- ---- one more access point
 
@@ -42,7 +64,7 @@ InForm-ap d address id form can =
     record {
       some = form.some;
       few = form.few;
-      aps = AreAps-push d.aps a form.aps (can.address_.some, can.address_.one) can.some can.few can.address_.no_ap can.other;
+      aps = AreAps-push d.aps a form.aps (is_unicast address.0 can.address_.single) can.some can.few can.address_.no_ap can.other;
       stas = AreStas-ap d.aps d.stas a form.stas can.address_.no_sta;
       few_aps = omega (arith, can.room, length-append d.aps (a ∷ []));
       few_stas = form.few_stas;
@@ -64,7 +86,7 @@ InForm-sta d address form can =
       some = form.some;
       few = form.few;
       aps = form.aps;
-      stas = AreStas-push d.aps d.stas address form.stas (can.address_.some, can.address_.one) (record { no_ap = can.address_.no_ap; no_sta = can.address_.no_sta });
+      stas = AreStas-push d.aps d.stas address form.stas (is_unicast address.0 can.address_.single) (record { no_ap = can.address_.no_ap; no_sta = can.address_.no_sta });
       few_aps = form.few_aps;
       few_stas = omega (arith, can.room, length-append d.stas (address ∷ []));
     }

@@ -1,55 +1,46 @@
 -- Which rounds the octets of a script spell. Lists of lines and of rounds are NEWEST FIRST.
-use Rattle.std.specs.Prelude.{◌≡◌, ◌≢◌, ◌⊎◌, ℕ, suc, ◌<◌, ◌≤◌, Bool, true, List, [], ◌∷◌, ◌++◌, length, None, Some}
+use Rattle.std.specs.Prelude.{◌≡◌, ◌≢◌, ◌⊎◌, ℕ, ◌<◌, ◌≤◌, ◌-◌, ◌==◌, ◌&&◌, nat_lt, if◌then◌else◌, Bool, true, List, [], ◌∷◌, ◌++◌, length, take, map, slice_index, Ok, Err}
 use Rattle.std.specs.List.{AllByRecursion}
-use Rattle.run_journal.specs.declared.domain.Domain.{Domain}
 use Rattle.run_journal.specs.declared.domain.Event.{Event}
 use Rattle.run_journal.specs.declared.acts.Entry.{Entry}
-use Rattle.domain_rules.specs.Explained.{frames, Explained}
-use Rattle.domain_world.specs.State.{with_ap, with_sta}
-use Rattle.frame_script.specs.Script.{Draft, AtVersion, AtNodes, header_after, Said, ListsAp, ListsSta, Asks, body_line}
+use Rattle.domain_rules.specs.Network.{InForm}
+use Rattle.domain_rules.specs.Explained.{Explained}
+use Rattle.frame_script.specs.Script.{Fault, Past, Draft, AtVersion, AtNodes, Said, Asks, line_says, said_after}
+use Rattle.frame_script.specs.Headers.{sizes_of}
 
--- what the lines so far have told: the header, and from its end on the network with the nodes listed so far, together with
--- the rounds run so far
+-- what the lines so far have told: what the script has said, from the end of its header on the network with the nodes listed
+-- so far, together with the rounds asked for so far
 
--- the rounds explain this journal; before the header is whole there are none
+-- the network is in form, and the rounds explain this journal; before the header is whole there are none
 abbrev pub IsJournal : Draft → List (List Event) → List Entry → Type 0
-IsJournal (AtNodes d) rounds j = Explained d rounds j
+IsJournal (AtNodes d) rounds j = InForm d × Explained d rounds j
 IsJournal draft rounds j = (rounds ≡ []) × (j ≡ [])
 
--- the rounds have sent so many frames
-pub record HasSent (d : Domain) (rounds : List (List Event)) (sent : ℕ) : Type 0 where
+-- the rounds have sent frames of these sizes
+pub record HasSent (draft : Draft) (rounds : List (List Event)) (sizes : List ℕ) : Type 0 where
   pub journal : List Entry
-  pub explained : Explained d rounds journal
-  pub count : sent ≡ frames journal
+  pub is : IsJournal draft rounds journal
+  pub sizes_are : sizes ≡ sizes_of journal
 
--- what a line behind the header adds to network and rounds: an event is a round by itself
-abbrev pub Adds : Domain → List (List Event) → Said → Draft → List (List Event) → Type 0
-Adds d earlier (ListsAp a id) draft rounds = (draft ≡ AtNodes (with_ap d a id)) × (rounds ≡ earlier)
-Adds d earlier (ListsSta a) draft rounds = (draft ≡ AtNodes (with_sta d a)) × (rounds ≡ earlier)
-Adds d earlier (Asks event) draft rounds = (draft ≡ AtNodes d) × (rounds ≡ (event ∷ []) ∷ earlier)
-
--- a line behind the header, after rounds that sent so many frames
-pub record SaysBody (line : List ℕ) (d : Domain) (earlier : List (List Event)) (draft : Draft) (rounds : List (List Event)) : Type 0 where
-  pub sent : ℕ
-  pub frames_are : HasSent d earlier sent
-  pub said : Said
-  pub says : body_line d (length earlier) sent line ≡ Some said
-  pub adds : Adds d earlier said draft rounds
+-- the rounds with what a line asks for: an event is a round by itself
+abbrev pub rounds_with : List (List Event) → Said → List (List Event)
+rounds_with rounds (Asks event) = (event ∷ []) ∷ rounds
+rounds_with rounds said = rounds
 
 -- what one more line tells after what the lines before it told
-abbrev pub Says : List ℕ → Draft → List (List Event) → Draft → List (List Event) → Type 0
-Says line (AtNodes d) earlier draft rounds = SaysBody line d earlier draft rounds
-Says line before earlier draft rounds = (header_after before line ≡ Some draft) × (rounds ≡ earlier)
+pub record Says (line : List ℕ) (before : Draft) (earlier : List (List Event)) (draft : Draft) (rounds : List (List Event)) : Type 0 where
+  pub sizes : List ℕ
+  pub sent : HasSent before earlier sizes
+  pub said : Said
+  pub says : line_says before (length earlier) sizes line ≡ Ok said
+  pub draft_is : draft ≡ said_after before said
+  pub rounds_are : rounds ≡ rounds_with earlier said
 
--- the line is refused there
-pub record RefusesBody (line : List ℕ) (d : Domain) (rounds : List (List Event)) : Type 0 where
-  pub sent : ℕ
-  pub frames_are : HasSent d rounds sent
-  pub says : body_line d (length rounds) sent line ≡ None
-
-abbrev pub Refuses : List ℕ → Draft → List (List Event) → Type 0
-Refuses line (AtNodes d) rounds = RefusesBody line d rounds
-Refuses line draft rounds = header_after draft line ≡ None
+-- the line is refused there, for that fault
+pub record Refuses (line : List ℕ) (draft : Draft) (rounds : List (List Event)) (fault : Fault) : Type 0 where
+  pub sizes : List ℕ
+  pub sent : HasSent draft rounds sizes
+  pub says : line_says draft (length rounds) sizes line ≡ Err fault
 
 -- the lines, the last first, tell this
 unfoldable pub Spells : List (List ℕ) → Draft → List (List Event) → Type 0
@@ -62,12 +53,24 @@ Spells (line ∷ lines) draft rounds =
 abbrev pub NoFeed : List ℕ → Type 0
 NoFeed line = AllByRecursion (λ octet. octet ≢ 10) line
 
--- a script has at most so many lines, and a line at most so many octets
+-- a script has at most so many lines, and a line at most so many octets without its line feed
 abbrev pub most_lines : ℕ
 most_lines = 65536
 
 abbrev pub most_octets : ℕ
 most_octets = 8192
+
+-- the faults of a line that is too long, and of one line too many
+abbrev pub too_long : Fault
+too_long = Past 2
+
+abbrev pub too_many : Fault
+too_many = Past 1
+
+-- what stood before a line feed, without a carriage return at its end
+unfoldable pub without_return : List ℕ → List ℕ
+without_return line =
+    if nat_lt 0 (length line) && slice_index line (length line - 1) == 13 then take (length line - 1) line else line
 
 -- the lines as octets, each with its line feed; the list has the last line first
 unfoldable pub joined : List (List ℕ) → List ℕ
@@ -84,23 +87,48 @@ pub record Begins (octets : List ℕ) (lines : List (List ℕ)) (rest : List ℕ
   pub whole : octets ≡ joined lines ++ rest
   pub each : AreLines lines
 
--- the octets are these lines, of which the last may lack its line feed
-pub record IsScript (octets : List ℕ) (lines : List (List ℕ)) : Type 0 where
-  pub each : AreLines lines
+-- what the lines say, each without its end
+abbrev pub texts : List (List ℕ) → List (List ℕ)
+texts lines = map without_return lines
+
+-- the octets are lines that say this: each has its line feed, or the last one lacks it
+pub record IsClosed (octets : List ℕ) (said : List (List ℕ)) : Type 0 where
+  pub lines : List (List ℕ)
+  pub begins : Begins octets lines []
   pub some : lines ≢ []
-  pub whole : (joined lines ≡ octets) ⊎ (joined lines ≡ octets ++ 10 ∷ [])
+  pub says : said ≡ texts lines
 
--- where the line that begins behind the others is at its end: before a line feed, at the end of the source, or where it is
--- too long already
-abbrev pub EndsHere : Bool → List (List ℕ) → List ℕ → List ℕ → Type 0
-EndsHere ended good line after =
-    ((more : List ℕ) × (after ≡ 10 ∷ more)) ⊎ ((most_octets < length line) ⊎ ((ended ≡ true) × (after ≡ []) × ((0 < length line) ⊎ (good ≡ []))))
+pub record IsOpen (octets : List ℕ) (said : List (List ℕ)) : Type 0 where
+  pub lines : List (List ℕ)
+  pub last : List ℕ
+  pub begins : Begins octets lines last
+  pub some : last ≢ []
+  pub line : NoFeed last
+  pub short : length last ≤ most_octets
+  pub few : length lines < most_lines
+  pub says : said ≡ last ∷ texts lines
 
--- the line behind the good ones, which told this, is the first that is wrong: too long, one too many, or refused
-pub record HasFault (octets : List ℕ) (ended : Bool) (good : List (List ℕ)) (draft : Draft) (rounds : List (List Event)) : Type 0 where
+abbrev pub IsScript : List ℕ → List (List ℕ) → Type 0
+IsScript octets said = IsClosed octets said ⊎ IsOpen octets said
+
+-- the line behind the good ones is at its end, and says this: before a line feed, or at the end of the source, where an empty
+-- one is a line only if it is the first
+abbrev pub Ends : Bool → List (List ℕ) → List ℕ → List ℕ → List ℕ → Type 0
+Ends ended good line after text =
+    (((more : List ℕ) × (after ≡ 10 ∷ more)) × (text ≡ without_return line))
+    ⊎ ((ended ≡ true) × ((after ≡ []) × ((text ≡ line) × ((line ≢ []) ⊎ (good ≡ [])))))
+
+-- a line that is at its end and not too long: one too many, or refused
+pub record IsWrong (ended : Bool) (good : List (List ℕ)) (line after : List ℕ) (draft : Draft) (rounds : List (List Event)) (fault : Fault) : Type 0 where
+  pub text : List ℕ
+  pub ends : Ends ended good line after text
+  pub short : length line ≤ most_octets
+  pub why : ((fault ≡ too_many) × (most_lines ≤ length good)) ⊎ ((length good < most_lines) × Refuses text draft rounds fault)
+
+-- the line behind the good ones, which told this, is the first that is wrong
+pub record HasFault (octets : List ℕ) (ended : Bool) (good : List (List ℕ)) (draft : Draft) (rounds : List (List Event)) (fault : Fault) : Type 0 where
   pub line : List ℕ
   pub after : List ℕ
   pub begins : Begins octets good (line ++ after)
   pub open_line : NoFeed line
-  pub ends : EndsHere ended good line after
-  pub wrong : (most_octets < length line) ⊎ ((most_lines ≤ length good) ⊎ Refuses line draft rounds)
+  pub wrong : ((fault ≡ too_long) × (most_octets < length line)) ⊎ IsWrong ended good line after draft rounds fault

@@ -4,7 +4,7 @@ use Rattle.run_journal.specs.declared.domain.Event.{Event}
 use Rattle.run_journal.specs.declared.acts.Entry.{Entry}
 use Rattle.frame_script.specs.Script.{Draft}
 use Rattle.domain_cli.specs.declared.session.Session.{Session}
-use Rattle.domain_cli.specs.Script.{Begins, NoFeed, Spells}
+use Rattle.domain_cli.specs.Script.{Begins, NoFeed, Spells, texts}
 use Rattle.domain_cli.specs.Stages.{Stands}
 
 pub record Reached (s : Session) (octets : List ℕ) (j : List Entry) : Type 0 where
@@ -14,5 +14,5 @@ pub record Reached (s : Session) (octets : List ℕ) (j : List Entry) : Type 0 w
   pub begins : Begins octets good s.line.items
   pub open_line : NoFeed s.line.items
   pub count : s.lines ≡ length good
-  pub spelled : Spells good draft rounds
+  pub spelled : Spells (texts good) draft rounds
   pub stands : Stands s.stage draft rounds j

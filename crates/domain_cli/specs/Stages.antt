@@ -1,73 +1,124 @@
 -- What the stage of a reading stands for, and what a line does to it.
-use Rattle.std.specs.Prelude.{◌≡◌, ◌≢◌, ℕ, suc, ◌≤◌, List, [], ◌∷◌, length, Option, None, Some, Result, Ok, Err}
+use Rattle.std.specs.Prelude.{◌≡◌, ◌≢◌, ℕ, suc, ◌+◌, ◌^◌, ◌<◌, ◌≤◌, List, [], length, Option, None, Some}
 use Rattle.run_journal.specs.declared.domain.Domain.{Domain}
 use Rattle.run_journal.specs.declared.domain.Event.{Event}
 use Rattle.run_journal.specs.declared.acts.Entry.{Entry}
-use Rattle.domain_rules.specs.Explained.{Explained}
-use Rattle.domain_world.specs.State.{State}
-use Rattle.domain_world.specs.Owning.{Owns}
-use Rattle.frame_script.specs.Script.{Draft, AtNodes, header_after}
+use Rattle.domain_rules.specs.Network.{InForm}
+use Rattle.domain_rules.specs.Explained.{Step, started}
+use Rattle.domain_world.specs.State.{State, with_ap, with_sta}
+use Rattle.domain_world.specs.Owning.{Owns, IsEventIn}
+use Rattle.frame_script.specs.Script.{Draft, AtNodes, Outside, Past}
+use Rattle.frame_script.specs.Headers.{Reading, HasSeen, IsNetwork}
+use Rattle.frame_script.specs.declared.script.Step.{Step as Asked}
+use Rattle.frame_script.specs.declared.script.Step.TheVariants as step
 use Rattle.frame_script.specs.declared.script.LineFault.{LineFault}
-use Rattle.frame_script.specs.declared.script.LineFault.TheVariants.{Script, NoMemory}
+use Rattle.frame_script.specs.declared.script.LineFault.TheVariants.{Script, Limit, NoMemory}
 use Rattle.domain_cli.specs.declared.stage.Stage.{Stage}
-use Rattle.domain_cli.specs.declared.stage.Stage.TheVariants.{Header, Body}
-use Rattle.domain_cli.specs.Script.{Says, Refuses, SaysBody, RefusesBody}
+use Rattle.domain_cli.specs.Script.{IsJournal, Says, Refuses}
 
--- the header so far is not whole, and no round was run
-pub record StandsHeader (reader draft : Draft) (rounds : List (List Event)) (j : List Entry) : Type 0 where
-  pub same : draft ≡ reader
-  pub due : (d : Domain) → reader ≢ AtNodes d
-  pub no_rounds : rounds ≡ []
+-- ---- a stage
+
+-- the world is that of the lines so far, and the journal is its own; before any event nodes have started
+pub record IsOwn (w : State) (r : Reading) (j : List Entry) : Type 0 where
+  pub network : r.draft ≡ AtNodes w.domain
+  pub rounds : r.rounds ≡ w.rounds
+  pub own : Owns w j
+  pub first : w.rounds ≡ 0 → j ≡ started w.domain (length w.domain.aps)
+
+-- or the header is not whole, and nothing was asked for
+pub record IsNone (r : Reading) (j : List Entry) : Type 0 where
+  pub due : (d : Domain) → r.draft ≢ AtNodes d
+  pub no_rounds : r.rounds ≡ 0
   pub no_entries : j ≡ []
 
--- the world is that of the lines so far, and the journal is its own
-pub record StandsBody (w : State) (draft : Draft) (rounds : List (List Event)) (j : List Entry) : Type 0 where
-  pub network : draft ≡ AtNodes w.domain
-  pub own : Owns w j
-  pub count : w.rounds ≡ length rounds
-  pub explained : Explained w.domain rounds j
-
--- the stage stands for what the lines so far told, and for the journal
-abbrev pub Stands : Stage → Draft → List (List Event) → List Entry → Type 0
-Stands (Header reader) draft rounds j = StandsHeader reader draft rounds j
-Stands (Body w) draft rounds j = StandsBody w draft rounds j
+abbrev pub IsWorldOf : Option State → Reading → List Entry → Type 0
+IsWorldOf None r j = IsNone r j
+IsWorldOf (Some w) r j = IsOwn w r j
 
 -- one more line can come after so many
-abbrev pub IsReady : Stage → ℕ → List Entry → Type 0
-IsReady (Header reader) lines j = ((d : Domain) → reader ≢ AtNodes d) × (j ≡ [])
-IsReady (Body w) lines j = Owns w j × (w.rounds ≤ lines)
+pub record IsReady (s : Stage) (lines : ℕ) (j : List Entry) : Type 0 where
+  pub seen : HasSeen s.reader j
+  pub few : s.reader.rounds ≤ lines
+  pub world_is : IsWorldOf s.world s.reader j
 
--- a world without nodes, before any event
-pub record IsNewWorld (w : State) : Type 0 where
-  pub no_aps : w.domain.aps ≡ []
-  pub no_rounds : w.rounds ≡ 0
+-- the stage stands for what the lines so far told, and the journal is theirs
+pub record Stands (s : Stage) (draft : Draft) (rounds : List (List Event)) (j : List Entry) : Type 0 where
+  pub draft_is : s.reader.draft ≡ draft
+  pub rounds_are : s.reader.rounds ≡ length rounds
+  pub journal : IsJournal draft rounds j
+
+-- ---- what a step does
+
+-- before the header is whole
+abbrev pub CanBegin : Draft → Asked → Type 0
+CanBegin draft step.Nothing = Unit {0}
+CanBegin draft step.Network = (d : Domain) × ((draft ≡ AtNodes d) × IsNetwork d)
+CanBegin draft asked = ⊥
+
+-- a world of the network that the header told, before any event
+pub record IsNewWorld (w : State) (draft : Draft) : Type 0 where
+  pub network : draft ≡ AtNodes w.domain
+  pub none : w.rounds ≡ 0
   pub own : Owns w []
 
--- a line of the header: it goes on, or its world begins, or the line is refused
-abbrev pub BeginsWorld : Draft → Draft → List ℕ → Result (Option State) LineFault → Type 0
-BeginsWorld old new line (Ok None) = (header_after old line ≡ Some new) × ((d : Domain) → new ≢ AtNodes d)
-BeginsWorld old new line (Ok (Some w)) = (header_after old line ≡ Some (AtNodes w.domain)) × IsNewWorld w
-BeginsWorld old new line (Err (Script reason)) = (header_after old line ≡ None) × (reason ≡ 2)
-BeginsWorld old new line (Err NoMemory) = Unit {0}
+abbrev pub IsBegun : Draft → Asked → Option State → Type 0
+IsBegun draft step.Nothing world = world ≡ None
+IsBegun draft step.Network None = ⊥
+IsBegun draft step.Network (Some w) = IsNewWorld w draft
+IsBegun draft asked world = ⊥
 
--- a line behind the header, taken in that network after those rounds
-pub record TakesBody (line : List ℕ) (d : Domain) (rounds : List (List Event)) (w : State) (j : List Entry) : Type 0 where
-  pub after : List (List Event)
-  pub says : SaysBody line d rounds (AtNodes w.domain) after
-  pub count : w.rounds ≡ length after
-  pub explained : Explained w.domain after j
+-- behind the header
+abbrev pub CanDo : State → List Entry → Asked → Type 0
+CanDo w j step.Nothing = Unit {0}
+CanDo w j step.Network = Unit {0}
+CanDo w j (step.Ap address r0kh_id) = (w.rounds ≡ 0) × InForm (with_ap w.domain address r0kh_id)
+CanDo w j (step.Sta address) = (w.rounds ≡ 0) × InForm (with_sta w.domain address)
+CanDo w j (step.Event event) = (w.rounds + 1 < 2 ^ 64) × IsEventIn w.domain (length w.frames) j event
 
-abbrev pub RefusesBodyLine : LineFault → List ℕ → Domain → List (List Event) → Type 0
-RefusesBodyLine (Script reason) line d rounds = RefusesBody line d rounds × (reason ≡ 2)
-RefusesBodyLine NoMemory line d rounds = Unit {0}
+-- the world and the journal stay
+abbrev pub Stays : State → State → List Entry → List Entry → Type 0
+Stays w v j k = (v ≡ w) × (k ≡ j)
 
--- a line, taken after what the lines before it told
-pub record TakesLine (line : List ℕ) (before : Draft) (earlier : List (List Event)) (stage : Stage) (j : List Entry) : Type 0 where
+-- one more node, which starts
+pub record Lists (w v : State) (d : Domain) (j k : List Entry) : Type 0 where
+  pub network : v.domain ≡ d
+  pub rounds : v.rounds ≡ w.rounds
+  pub begins : j ≡ started w.domain (length w.domain.aps) → k ≡ started v.domain (length v.domain.aps)
+
+-- one more round
+pub record Runs (w v : State) (event : Event) (j k : List Entry) : Type 0 where
+  pub network : v.domain ≡ w.domain
+  pub rounds : v.rounds ≡ suc w.rounds
+  pub goes : Step w.domain (suc w.rounds) event j k
+
+abbrev pub Did : State → State → List Entry → List Entry → Asked → Type 0
+Did w v j k step.Nothing = Stays w v j k
+Did w v j k step.Network = Stays w v j k
+Did w v j k (step.Ap address r0kh_id) = Lists w v (with_ap w.domain address r0kh_id) j k
+Did w v j k (step.Sta address) = Lists w v (with_sta w.domain address) j k × (k ≡ j)
+Did w v j k (step.Event event) = Runs w v event j k
+
+-- either way
+abbrev pub CanRun : Option State → Draft → List Entry → Asked → Type 0
+CanRun None draft j asked = CanBegin draft asked
+CanRun (Some w) draft j asked = Owns w j × CanDo w j asked
+
+abbrev pub DidRun : Option State → Option State → Draft → List Entry → List Entry → Asked → Type 0
+DidRun None world draft j k asked = IsBegun draft asked world × (k ≡ j)
+DidRun (Some w) None draft j k asked = ⊥
+DidRun (Some w) (Some v) draft j k asked = Owns v k × Did w v j k asked
+
+-- ---- what a line does
+
+-- it is taken after what the lines before it told
+pub record TellsLine (line : List ℕ) (before : Draft) (earlier : List (List Event)) (s : Stage) (j : List Entry) : Type 0 where
   pub draft : Draft
   pub rounds : List (List Event)
   pub says : Says line before earlier draft rounds
-  pub stands : Stands stage draft rounds j
+  pub stands : Stands s draft rounds j
 
+-- or refused there
 abbrev pub RefusesLine : LineFault → List ℕ → Draft → List (List Event) → Type 0
-RefusesLine (Script reason) line draft rounds = Refuses line draft rounds × (reason ≡ 2)
+RefusesLine (Script reason) line draft rounds = Refuses line draft rounds (Outside reason)
+RefusesLine (Limit limit) line draft rounds = Refuses line draft rounds (Past limit)
 RefusesLine NoMemory line draft rounds = Unit {0}

@@ -1,17 +1,18 @@
 -- Why a reading goes no further.
-use Rattle.std.specs.Prelude.{◌≡◌, ◌≤◌, ◌⊎◌, ℕ, suc, List, false}
+use Rattle.std.specs.Prelude.{◌≡◌, ◌<◌, ◌≤◌, ◌⊎◌, ℕ, suc, List, false}
 use Rattle.run_journal.specs.declared.domain.Event.{Event}
 use Rattle.run_journal.specs.declared.acts.Entry.{Entry}
-use Rattle.frame_script.specs.Script.{Draft}
+use Rattle.frame_script.specs.Script.{Draft, Outside, Past}
 use Rattle.domain_cli.specs.declared.session.Stop.{Stop}
-use Rattle.domain_cli.specs.declared.session.Stop.TheVariants.{Faulty, NoMemory}
+use Rattle.domain_cli.specs.declared.session.Stop.TheVariants.{Faulty, Limit, NoMemory}
 use Rattle.domain_cli.specs.declared.status.Found.{Found}
 use Rattle.domain_cli.specs.declared.status.Found.TheVariants as found
-use Rattle.domain_cli.specs.Script.{Refuses, most_lines}
+use Rattle.domain_cli.specs.Script.{Refuses, most_lines, too_many}
 use Rattle.domain_cli.specs.Story.{Tells}
 
 abbrev pub found_by : Stop → Found
 found_by (Faulty number reason) = found.Faulty number reason
+found_by (Limit limit) = found.Limit limit
 found_by NoMemory = found.NoMemory
 
 -- why a reading stopped, wherever the octets go on
@@ -21,5 +22,7 @@ Stopped stop octets j = Tells (found_by stop) octets false j
 -- why a line stopped it, behind so many, after what they told
 abbrev pub StopsLine : Stop → ℕ → List ℕ → Draft → List (List Event) → Type 0
 StopsLine (Faulty number reason) lines line draft rounds =
-    (number ≡ suc lines) × ((most_lines ≤ lines) ⊎ Refuses line draft rounds) × (reason ≡ 2)
+    (number ≡ suc lines) × ((lines < most_lines) × Refuses line draft rounds (Outside reason))
+StopsLine (Limit limit) lines line draft rounds =
+    ((Past limit ≡ too_many) × (most_lines ≤ lines)) ⊎ ((lines < most_lines) × Refuses line draft rounds (Past limit))
 StopsLine NoMemory lines line draft rounds = Unit {0}

@@ -1,16 +1,16 @@
 -- What a whole run did: the journal by the octets read, and the octets written by the journal.
-use Rattle.std.specs.Prelude.{◌≡◌, ℕ, suc, List, [], ◌++◌, ◌∷◌, Bool, true, Option, length}
+use Rattle.std.specs.Prelude.{◌≡◌, ℕ, suc, List, Bool, true, Option, length}
 use Rattle.std.specs.Io.KnownBytes.{Consumes, IsAtEnd, Appends}
 use Rattle.domain_base.specs.Causes.{AppendsPart}
 use Rattle.run_journal.specs.declared.domain.Event.{Event}
 use Rattle.run_journal.specs.declared.acts.Entry.{Entry}
 use Rattle.run_journal.specs.Report.{lines, IsReport}
-use Rattle.frame_script.specs.Script.{Draft}
+use Rattle.frame_script.specs.Script.{Draft, Fault, Outside, Past}
 use Rattle.domain_cli.specs.declared.status.Found.{Found}
 use Rattle.domain_cli.specs.declared.status.Found.TheVariants as found
 use Rattle.domain_cli.specs.declared.status.Status.{Status}
-use Rattle.domain_cli.specs.declared.status.Status.TheVariants.{Done, Usage, Script, ReadFault, WriteFault, NoMemory}
-use Rattle.domain_cli.specs.Script.{Spells, IsJournal, NoFeed, Begins, IsScript, HasFault}
+use Rattle.domain_cli.specs.declared.status.Status.TheVariants.{Done, Usage, Script, Limit, ReadFault, WriteFault, NoMemory}
+use Rattle.domain_cli.specs.Script.{Spells, IsJournal, NoFeed, Begins, IsScript, HasFault, texts}
 
 -- the lines tell these rounds, and the journal is theirs
 pub record Explains (lines : List (List ℕ)) (draft : Draft) (rounds : List (List Event)) (j : List Entry) : Type 0 where
@@ -27,13 +27,13 @@ pub record IsWhole (octets : List ℕ) (ended : Bool) (j : List Entry) : Type 0 
   pub explains : Explains script draft rounds j
 
 -- the script has its first fault in the line of that number, and the lines before it told the journal
-pub record IsFaulty (number : ℕ) (octets : List ℕ) (ended : Bool) (j : List Entry) : Type 0 where
+pub record IsFaulty (fault : Fault) (number : ℕ) (octets : List ℕ) (ended : Bool) (j : List Entry) : Type 0 where
   pub good : List (List ℕ)
   pub draft : Draft
   pub rounds : List (List Event)
   pub number_is : number ≡ suc (length good)
-  pub fault : HasFault octets ended good draft rounds
-  pub explains : Explains good draft rounds j
+  pub is : HasFault octets ended good draft rounds fault
+  pub explains : Explains (texts good) draft rounds j
 
 -- the source failed: all whole lines that were read told the journal
 pub record IsCut (octets : List ℕ) (j : List Entry) : Type 0 where
@@ -43,7 +43,7 @@ pub record IsCut (octets : List ℕ) (j : List Entry) : Type 0 where
   pub rounds : List (List Event)
   pub begins : Begins octets good rest
   pub open_line : NoFeed rest
-  pub explains : Explains good draft rounds j
+  pub explains : Explains (texts good) draft rounds j
 
 -- memory ran out: some lines at the front told the journal
 pub record IsPrefix (octets : List ℕ) (j : List Entry) : Type 0 where
@@ -52,12 +52,13 @@ pub record IsPrefix (octets : List ℕ) (j : List Entry) : Type 0 where
   pub draft : Draft
   pub rounds : List (List Event)
   pub begins : Begins octets good rest
-  pub explains : Explains good draft rounds j
+  pub explains : Explains (texts good) draft rounds j
 
 -- the journal at the end of the reading, by the octets read
 abbrev pub Tells : Found → List ℕ → Bool → List Entry → Type 0
 Tells found.Whole octets ended j = IsWhole octets ended j
-Tells (found.Faulty number reason) octets ended j = IsFaulty number octets ended j × (reason ≡ 2)
+Tells (found.Faulty number reason) octets ended j = IsFaulty (Outside reason) number octets ended j
+Tells (found.Limit which) octets ended j = (number : ℕ) × IsFaulty (Past which) number octets ended j
 Tells found.ReadFault octets ended j = IsCut octets j
 Tells found.NoMemory octets ended j = IsPrefix octets j
 
@@ -65,6 +66,7 @@ Tells found.NoMemory octets ended j = IsPrefix octets j
 abbrev pub status_of : Found → Status
 status_of found.Whole = Done
 status_of (found.Faulty number reason) = Script number reason
+status_of (found.Limit which) = Limit which
 status_of found.ReadFault = ReadFault
 status_of found.NoMemory = NoMemory
 
@@ -77,6 +79,7 @@ IsText found_ j text = text ≡ lines j
 abbrev pub Reports : Found → Status → List Entry → List ℕ → Option (List ℕ) → Option (List ℕ) → Type 0
 Reports found_ Done j text old new = (status_of found_ ≡ Done) × Appends old new text
 Reports found_ (Script number reason) j text old new = (status_of found_ ≡ Script number reason) × Appends old new text
+Reports found_ (Limit which) j text old new = (status_of found_ ≡ Limit which) × Appends old new text
 Reports found_ ReadFault j text old new = (status_of found_ ≡ ReadFault) × Appends old new text
 Reports found_ WriteFault j text old new = AppendsPart old new text
 Reports found_ NoMemory j text old new = (status_of found_ ≡ NoMemory) × AppendsPart old new text

@@ -32,6 +32,7 @@ fn exit_number(status: Status) -> u8
         Status::ReadFault => 3,
         Status::WriteFault => 4,
         Status::NoMemory => 5,
+        Status::Limit(_) => 8,
     }
 }
 

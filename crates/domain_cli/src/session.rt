@@ -1,17 +1,18 @@
 //! A script, octet by octet.
 
-ghost use Rattle.std.specs.Prelude.{◌≡◌, ◌≢◌, ◌≤◌, ◌+◌, ◌<◌, ◌++◌, ◌∷◌, [], ℕ, List, MatchResult, OnOk, OnErr, vec_len, vec_capacity, IfOk, IfErr, true};
+ghost use Rattle.std.specs.Prelude.{◌≡◌, ◌≢◌, ◌≤◌, ◌+◌, ◌<◌, ◌++◌, ◌∷◌, [], suc, ℕ, List, MatchResult, OnOk, OnErr, vec_len, vec_capacity, IfOk, true};
 ghost use Rattle.run_journal.specs.declared.acts.Entry.{Entry as AnyEntry};
 ghost use Rattle.run_journal.specs.declared.domain.Event.{Event as AnyEvent};
 ghost use Rattle.frame_script.specs.Script.{Draft};
-ghost use Rattle.domain_cli.specs.Stages.{Stands, IsReady};
+ghost use Rattle.domain_cli.specs.Script.{without_return};
+ghost use Rattle.domain_cli.specs.Stages.{Stands, IsReady, TellsLine};
 ghost use Rattle.domain_cli.specs.Stops.{Stopped, StopsLine, found_by};
 ghost use Rattle.domain_cli.specs.Story.{Tells};
 
 use crate::stage::Stage;
 use crate::status::Found;
 use domain_base::NoMemory;
-use frame_script::{HeaderReader, LineFault};
+use frame_script::LineFault;
 use run_journal::Journal;
 use std::alloc::Global;
 
@@ -21,14 +22,18 @@ const MOST_LINES: u64 = 65_536;
 // A line has at most so many octets, without its line feed.
 const MOST_OCTETS: usize = 8_192;
 
-// The reason that the report of a fault gives: outside the grammar, or past a limit.
-const OUTSIDE: u8 = 2;
+// The limits by their numbers.
+const LINES: u8 = 1;
+
+const OCTETS: u8 = 2;
 
 /// Why a session goes no further.
 #[derive(Clone, Copy, Debug, PartialEq, Eq)]
 pub enum Stop {
-    /// The line of this number is the first that is wrong, for this reason.
+    /// The line of this number is the first that is outside the grammar, for this reason.
     Faulty(u64, u8),
+    /// The first line that cannot be taken goes past this limit.
+    Limit(u8),
     /// Memory ran out.
     NoMemory,
 }
@@ -39,9 +44,49 @@ pub struct Session {
     pub line: Vec<u8>,
     pub lines: u64,
     pub stage: Stage,
-    ghost roomy: { 8193 ≤ vec_capacity line },
+    ghost roomy: { 8192 ≤ vec_capacity line },
     ghost short: { vec_len line ≤ 8192 },
     ghost few: { lines ≤ 65536 },
+}
+
+// What stood before a line feed, without a carriage return at its end.
+#[tactic(auto, unfolding(crate::specs::Script::without_return))]
+fn without_return(line: &[u8]) -> &[u8]
+    ensures { result.now ≡ without_return line.now }
+{
+    let size = line.len();
+    if size > 0 && line[size - 1] == b'\r' {
+        &line[..size - 1]
+    } else {
+        line
+    }
+}
+
+// Takes a line, without its end, behind so many others. At an error the journal is as before.
+fn take_line(
+    stage: &mut Stage,
+    alloc: Global,
+    lines: u64,
+    line: &[u8],
+    journal: &mut Journal,
+) -> Result<(), Stop>
+    requires ready { IsReady stage.old lines journal.old.entries }
+    requires count { lines ≤ 65536 }
+    ensures ready { OnOk result (IsReady stage.new (suc lines) journal.new.entries) }
+    ensures few { OnOk result (lines < 65536) }
+    ensures told { (draft : Draft) (rounds : List (List AnyEvent)) → Stands stage.old draft rounds journal.old.entries →
+        MatchResult result (λ _. TellsLine line.now draft rounds stage.new journal.new.entries) (λ stop. StopsLine stop lines line.now draft rounds) }
+    ensures kept { OnErr result (journal.new.entries ≡ journal.old.entries) }
+{
+    if lines >= MOST_LINES {
+        return Err(Stop::Limit(LINES));
+    }
+    match stage.take(alloc, line, journal) {
+        Ok(()) => Ok(()),
+        Err(LineFault::Script(reason)) => Err(Stop::Faulty(lines + 1, reason)),
+        Err(LineFault::Limit(limit)) => Err(Stop::Limit(limit)),
+        Err(LineFault::NoMemory) => Err(Stop::NoMemory),
+    }
 }
 
 impl Session {
@@ -52,11 +97,11 @@ impl Session {
         ensures ready { IfOk result (λ s. IsReady s.stage s.lines []) }
         ensures reached { IfOk result (λ s. Reached s [] []) }
     {
-        let line = Vec::with_capacity(alloc, MOST_OCTETS + 1)?;
+        let line = Vec::with_capacity(alloc, MOST_OCTETS)?;
         Ok(Session {
             line,
             lines: 0,
-            stage: Stage::Header(HeaderReader::new()),
+            stage: Stage::start(alloc),
         })
     }
 
@@ -68,7 +113,7 @@ impl Session {
             MatchResult result (λ _. Reached self.new (octets ++ octet ∷ []) j) (λ stop. Stopped stop (octets ++ octet ∷ []) j) }
     {
         if self.line.len() >= MOST_OCTETS {
-            return Err(Stop::Faulty(self.lines + 1, OUTSIDE));
+            return Err(Stop::Limit(OCTETS));
         }
         if self.line.push(octet).is_err() {
             unreachable!()
@@ -80,23 +125,14 @@ impl Session {
     fn end_line(&mut self, alloc: Global, journal: &mut Journal) -> Result<(), Stop>
         requires { IsReady self.old.stage self.old.lines journal.old.entries }
         ensures ready { OnOk result (IsReady self.new.stage self.new.lines journal.new.entries) }
-        ensures closed { OnOk result (self.new.line.items ≡ []) }
         ensures reached { (octets : List ℕ) → Reached self.old octets journal.old.entries →
             MatchResult result (λ _. Reached self.new (octets ++ 10 ∷ []) journal.new.entries) (λ stop. Stopped stop (octets ++ 10 ∷ []) journal.new.entries) }
-        ensures stopped { IfErr result (λ stop. (draft : Draft) (rounds : List (List AnyEvent)) → Stands self.old.stage draft rounds journal.old.entries →
-            StopsLine stop self.old.lines self.old.line.items draft rounds) }
-        ensures kept { OnErr result (journal.new.entries ≡ journal.old.entries) }
     {
-        let number = self.lines + 1;
-        if number > MOST_LINES {
-            return Err(Stop::Faulty(number, OUTSIDE));
+        let text = without_return(&self.line);
+        if let Err(stop) = take_line(&mut self.stage, alloc, self.lines, text, journal) {
+            return Err(stop);
         }
-        match self.stage.take(alloc, &self.line, journal) {
-            Ok(()) => {}
-            Err(LineFault::Script(reason)) => return Err(Stop::Faulty(number, reason)),
-            Err(LineFault::NoMemory) => return Err(Stop::NoMemory),
-        }
-        self.lines = number;
+        self.lines += 1;
         self.line.clear();
         Ok(())
     }
@@ -139,7 +175,7 @@ impl Session {
         if self.line.is_empty() && self.lines > 0 {
             return Found::Whole;
         }
-        match self.end_line(alloc, journal) {
+        match take_line(&mut self.stage, alloc, self.lines, &self.line, journal) {
             Ok(()) => Found::Whole,
             Err(stop) => found_of(stop),
         }
@@ -153,6 +189,7 @@ pub fn found_of(stop: Stop) -> Found
 {
     match stop {
         Stop::Faulty(number, reason) => Found::Faulty(number, reason),
+        Stop::Limit(limit) => Found::Limit(limit),
         Stop::NoMemory => Found::NoMemory,
     }
 }

@@ -1,75 +1,94 @@
 //! What a line does: to the header, or to the domain behind it.
 
-ghost use Rattle.std.specs.Prelude.{◌≡◌, ◌≢◌, ◌≤◌, suc, ℕ, List, length, MatchResult, OnOk, OnErr};
-ghost use Rattle.run_journal.specs.declared.domain.Domain.{Domain as AnyDomain};
+ghost use Rattle.std.specs.Prelude.{◌≡◌, [], suc, ℕ, List, MatchResult, IfOk, OnOk, OnErr};
 ghost use Rattle.run_journal.specs.declared.domain.Event.{Event as AnyEvent};
-ghost use Rattle.domain_rules.specs.Explained.{Explained};
 ghost use Rattle.domain_world.specs.Owning.{Owns};
-ghost use Rattle.frame_script.specs.Script.{Draft, AtNodes};
-ghost use Rattle.domain_cli.specs.Stages.{Stands, IsReady, BeginsWorld, TakesLine, RefusesLine, TakesBody, RefusesBodyLine};
+ghost use Rattle.frame_script.specs.Script.{Draft, AtVersion};
+ghost use Rattle.domain_cli.specs.Stages.{CanBegin, CanDo, CanRun, Did, DidRun, IsBegun, IsReady, RefusesLine, Stands, TellsLine};
 
+use domain_base::NoMemory;
 use domain_world::World;
-use frame_script::{BodyLine, HeaderReader, LineFault, body_line};
+use frame_script::{LineFault, ScriptReader, Step};
 use run_journal::Journal;
 use std::alloc::Global;
 
-/// Where in a script the reading is.
+/// Where in a script the reading is: what its lines have said, and from the end of the header on the world.
 #[derive(Drop)]
-pub enum Stage {
-    /// In the header.
-    Header(HeaderReader),
-    /// Behind it.
-    Body(World),
+pub struct Stage {
+    pub reader: ScriptReader,
+    pub world: Option<World>,
 }
 
-// Takes a line of the header. The world comes with the last one.
-fn take_header_line(
-    reader: &mut HeaderReader,
-    alloc: Global,
-    line: &[u8],
-) -> Result<Option<World>, LineFault>
-    requires { (d : AnyDomain) → reader.old ≢ AtNodes d }
-    ensures { BeginsWorld reader.old reader.new line.now result }
+// Before the header is whole: the world comes with its last line.
+fn begin(alloc: Global, reader: &ScriptReader, step: Step) -> Result<Option<World>, NoMemory>
+    requires { CanBegin reader.now.draft step }
+    ensures { IfOk result (IsBegun reader.now.draft step) }
 {
-    match reader.line(alloc, line) {
-        Ok(Some(domain)) => match World::start(alloc, &domain) {
-            Ok(world) => Ok(Some(world)),
-            Err(_) => Err(LineFault::NoMemory),
+    match step {
+        Step::Nothing => Ok(None),
+        Step::Network => match reader.domain() {
+            Some(domain) => match World::start(alloc, domain) {
+                Ok(world) => Ok(Some(world)),
+                Err(error) => Err(error),
+            },
+            None => unreachable!(),
         },
-        Ok(None) => Ok(None),
-        Err(fault) => Err(fault),
+        Step::Ap { .. } | Step::Sta { .. } | Step::Event(_) => unreachable!(),
     }
 }
 
-// Takes a line behind the header. At an error the journal is as before.
-fn take_body_line(
-    world: &mut World,
-    alloc: Global,
-    line: &[u8],
-    journal: &mut Journal,
-) -> Result<(), LineFault>
+// Behind the header. At an error the journal is as before.
+fn act(world: &mut World, step: Step, journal: &mut Journal) -> Result<(), NoMemory>
     requires own { Owns world.old journal.old.entries }
-    requires few { world.old.rounds ≤ 65535 }
+    requires can { CanDo world.old journal.old.entries step }
     ensures own { Owns world.new journal.new.entries }
-    ensures rounds { OnOk result (world.new.rounds ≤ suc world.old.rounds) }
-    ensures told { (rounds : List (List AnyEvent)) → world.old.rounds ≡ length rounds → Explained world.old.domain rounds journal.old.entries →
-        MatchResult result (λ _. TakesBody line.now world.old.domain rounds world.new journal.new.entries) (λ fault. RefusesBodyLine fault line.now world.old.domain rounds) }
+    ensures did { OnOk result (Did world.old world.new journal.old.entries journal.new.entries step) }
     ensures kept { OnErr result (journal.new.entries ≡ journal.old.entries) }
 {
-    let rounds = world.rounds();
-    let frames = world.frames();
-    let said = match body_line(alloc, world.domain(), rounds, frames, line) {
-        Ok(said) => said,
-        Err(fault) => return Err(fault),
-    };
-    match said {
-        BodyLine::Ap { address, r0kh_id } => Ok(world.add_ap(address, r0kh_id, journal)?),
-        BodyLine::Sta { address } => Ok(world.add_station(address)?),
-        BodyLine::Event(event) => Ok(world.event(&event, journal)?),
+    match step {
+        Step::Nothing | Step::Network => Ok(()),
+        Step::Ap { address, r0kh_id } => world.add_ap(address, r0kh_id, journal),
+        Step::Sta { address } => world.add_station(address),
+        Step::Event(event) => world.event(&event, journal),
+    }
+}
+
+// What a line asks for. At an error the journal is as before.
+fn run_step(
+    world: &mut Option<World>,
+    reader: &ScriptReader,
+    alloc: Global,
+    step: Step,
+    journal: &mut Journal,
+) -> Result<(), NoMemory>
+    requires { CanRun world.old reader.now.draft journal.old.entries step }
+    ensures did { OnOk result (DidRun world.old world.new reader.now.draft journal.old.entries journal.new.entries step) }
+    ensures kept { OnErr result (journal.new.entries ≡ journal.old.entries) }
+{
+    match world {
+        Some(world) => act(world, step, journal),
+        None => match begin(alloc, reader, step) {
+            Ok(begun) => {
+                *world = begun;
+                Ok(())
+            }
+            Err(error) => Err(error),
+        },
     }
 }
 
 impl Stage {
+    /// Before the first line.
+    pub fn start(alloc: Global) -> Self
+        ensures ready { IsReady result 0 [] }
+        ensures stands { Stands result AtVersion [] [] }
+    {
+        Stage {
+            reader: ScriptReader::start(alloc),
+            world: None,
+        }
+    }
+
     /// Takes one more line, without its end. At an error the journal is as before.
     pub fn take(
         &mut self,
@@ -77,22 +96,19 @@ impl Stage {
         line: &[u8],
         journal: &mut Journal,
     ) -> Result<(), LineFault>
-        requires { IsReady self.old 65535 journal.old.entries }
+        requires { IsReady self.old 65536 journal.old.entries }
         ensures ready { (lines : ℕ) → IsReady self.old lines journal.old.entries → OnOk result (IsReady self.new (suc lines) journal.new.entries) }
         ensures told { (draft : Draft) (rounds : List (List AnyEvent)) → Stands self.old draft rounds journal.old.entries →
-            MatchResult result (λ _. TakesLine line.now draft rounds self.new journal.new.entries) (λ fault. RefusesLine fault line.now draft rounds) }
+            MatchResult result (λ _. TellsLine line.now draft rounds self.new journal.new.entries) (λ fault. RefusesLine fault line.now draft rounds) }
         ensures kept { OnErr result (journal.new.entries ≡ journal.old.entries) }
     {
-        let begun = match self {
-            Stage::Header(reader) => match take_header_line(reader, alloc, line) {
-                Ok(begun) => begun,
-                Err(fault) => return Err(fault),
-            },
-            Stage::Body(world) => return take_body_line(world, alloc, line, journal),
+        let step = match self.reader.line(alloc, line, journal) {
+            Ok(step) => step,
+            Err(fault) => return Err(fault),
         };
-        if let Some(world) = begun {
-            *self = Stage::Body(world);
+        match run_step(&mut self.world, &self.reader, alloc, step, journal) {
+            Ok(()) => Ok(()),
+            Err(_) => Err(LineFault::NoMemory),
         }
-        Ok(())
     }
 }

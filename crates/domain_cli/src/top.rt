@@ -31,6 +31,7 @@ fn status(found: Found) -> Status
     match found {
         Found::Whole => Status::Done,
         Found::Faulty(number, reason) => Status::Script(number, reason),
+        Found::Limit(limit) => Status::Limit(limit),
         Found::ReadFault => Status::ReadFault,
         Found::NoMemory => Status::NoMemory,
     }
@@ -74,7 +75,7 @@ fn write_text<K: Sink>(sink: &mut K, journal: &Journal, found: Found) -> Result<
 {
     match found {
         Found::Whole => write_whole(sink, journal),
-        Found::Faulty(..) | Found::ReadFault | Found::NoMemory => {
+        Found::Faulty(..) | Found::Limit(_) | Found::ReadFault | Found::NoMemory => {
             write_lines(journal.entries(), sink)
         }
     }
@@ -117,7 +118,8 @@ pub fn run<R: Threads + Sync, S: Source, K: Sink, A: Air, D: Draws>(
     ensures safe { Fresh journal.new.entries → NoCollision journal.new.entries → Unforged journal.new.entries → Safe journal.new.entries }
     ensures read_fault { result ≡ Status.ReadFault → Rose (S.faults source.old) (S.faults source.new) }
     ensures write_fault { result ≡ Status.WriteFault → Rose (K.faults sink.old) (K.faults sink.new) }
-    // Where neither source nor sink failed, a run that was asked for is done, has a fault of its script, or lacks memory.
+    // Where neither source nor sink failed, a run that was asked for is done, has a fault of its script, goes past a limit, or
+    // lacks memory.
     ensures complete { map (λ w. w.now) words.now ≡ codes "replay" ∷ [] → ¬ Rose (S.faults source.old) (S.faults source.new)
         → ¬ Rose (K.faults sink.old) (K.faults sink.new) → IsAnswered result }
 {

@@ -1,6 +1,6 @@
 -- What acts that are put on a journal do to histories, and the one journal of some rounds.
 use Rattle.std.proofs.Common.{◌≡◌, ℕ, zero, suc, ◌<◌, ◌≤◌, Bool, true, false, cond, List, [], ◌∷◌, ◌++◌, length, refl, sym, ap, subst, ◌∙◌, arith, inl, inr}
-use Rattle.std.specs.Prelude.{codes}
+use Rattle.std.specs.Prelude.{codes, take}
 use Rattle.std.specs.Int.{w64, to_be_bytes}
 use Rattle.std.proofs.lemmas.Bool.{cases_lt}
 use Rattle.domain_base.specs.declared.names.Mac.{Mac}
@@ -13,7 +13,7 @@ use Rattle.domain_base.specs.declared.names.Node.{Node}
 use Rattle.domain_base.specs.declared.names.Node.TheVariants.{Ap, Sta}
 use Rattle.run_journal.specs.declared.domain.Domain.{Domain}
 use Rattle.run_journal.specs.declared.domain.Event.{Event}
-use Rattle.run_journal.specs.declared.domain.Event.TheVariants.{Connect, Deliver}
+use Rattle.run_journal.specs.declared.domain.Event.TheVariants.{Connect, Deliver, Alter, Cut, Inject, Retry}
 use Rattle.run_journal.specs.declared.acts.Act.{Act}
 use Rattle.run_journal.specs.declared.acts.Act.TheVariants.{Drew, Installed}
 use Rattle.run_journal.specs.declared.acts.Entry.{Entry}
@@ -21,7 +21,7 @@ use Rattle.run_journal.specs.Acts.{same, is_sent}
 use Rattle.run_journal.specs.Questions.{history, add}
 use Rattle.run_journal.specs.Premises.{In}
 use Rattle.domain_rules.specs.Rows.{NodeEvent, Take, Adds, start_acts}
-use Rattle.domain_rules.specs.Explained.{frames, number_of, push, WasSent, Happens, Step, Follows, started, Explained}
+use Rattle.domain_rules.specs.Explained.{frames, number_of, push, altered, WasSent, Happens, Step, Follows, started, Explained}
 use Rattle.domain_rules.proofs.Parts.{same-refl, same-other}
 use Rattle.domain_rules.proofs.OneGroup.{one_group}
 
@@ -106,6 +106,12 @@ same_happens : (event : Event) (past : List Entry) (round : ℕ) (n m : Node) (x
 same_happens (Connect s a) past round n m x y is one two = (one.0 ∙ sym two.0, one.1 ∙ sym two.1)
 same_happens (Deliver number to) past round n m x y is (octets, (was, (at, event))) (others, (was_too, (at_too, event_too))) =
     (at ∙ sym at_too, event ∙ ap Take (one_frame past round number octets others is was was_too) ∙ sym event_too)
+same_happens (Alter number place mask to) past round n m x y is (octets, (was, (at, event))) (others, (was_too, (at_too, event_too))) =
+    (at ∙ sym at_too, event ∙ ap (λ (v : List ℕ). Take (altered place mask v)) (one_frame past round number octets others is was was_too) ∙ sym event_too)
+same_happens (Cut number size to) past round n m x y is (octets, (was, (at, event))) (others, (was_too, (at_too, event_too))) =
+    (at ∙ sym at_too, event ∙ ap (λ (v : List ℕ). Take (take size v)) (one_frame past round number octets others is was was_too) ∙ sym event_too)
+same_happens (Inject to octets) past round n m x y is one two = (one.0 ∙ sym two.0, one.1 ∙ sym two.1)
+same_happens (Retry a s) past round n m x y is one two = (one.0 ∙ sym two.0, one.1 ∙ sym two.1)
 
 same_push : (round : ℕ) (n m : Node) (f g : List Act) (past : List Entry) → n ≡ m → f ≡ g → push round n f past ≡ push round m g past
 same_push round n m f g past node acts = ap (λ (x : Node). push round x f past) node ∙ ap (λ (x : List Act). push round m x past) acts

@@ -1,9 +1,16 @@
 pub mod SentReads
 pub mod OneReading
+pub mod Exchange
+pub mod HandshakeActs
+pub mod FirstRounds
+pub mod KeyRounds
+pub mod LastRounds
 pub mod Example
 pub mod Parts
 pub mod Effects
 pub mod Peers
+pub mod KeyOctets
+pub mod CarriedKey
 pub mod Verdicts
 pub mod OneOutcome
 pub mod OneGroup

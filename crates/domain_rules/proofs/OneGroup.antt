@@ -1,10 +1,10 @@
 -- An event adds one group of acts.
-use Rattle.std.proofs.Common.{◌≡◌, ℕ, cond, List, [], ◌∷◌, ◌++◌, Option, Some, None, sym, ap, ◌∙◌, arith}
+use Rattle.std.proofs.Common.{◌≡◌, ℕ, cond, List, [], ◌∷◌, ◌++◌, Option, Some, None, refl, sym, subst, ap, ◌∙◌, arith}
 use Rattle.std.specs.Prelude.{unwrap_or}
 use Rattle.domain_base.specs.declared.names.Node.{Node}
 use Rattle.domain_base.specs.declared.names.Node.TheVariants.{Ap}
 use Rattle.eapol_key.specs.declared.messages.Message.{Message}
-use Rattle.eapol_key.specs.declared.messages.Message.TheVariants.{M1, M2}
+use Rattle.eapol_key.specs.declared.messages.Message.TheVariants.{M1, M2, M3, M4}
 use Rattle.key_hierarchy.specs.Keys.{ptk}
 use Rattle.key_hierarchy.specs.declared.inputs.Inputs.{Inputs}
 use Rattle.run_journal.specs.declared.domain.Domain.{Domain}
@@ -14,17 +14,23 @@ use Rattle.run_journal.specs.declared.acts.Kind.{Kind}
 use Rattle.run_journal.specs.declared.acts.Kind.TheVariants as kind
 use Rattle.run_journal.specs.declared.acts.Reason.{Reason}
 use Rattle.run_journal.specs.declared.acts.Outcome.{Outcome}
-use Rattle.run_journal.specs.declared.acts.Outcome.TheVariants.{Accepted, Ignored, Refused}
+use Rattle.run_journal.specs.declared.acts.Outcome.TheVariants.{Accepted, Answered, Ignored, Refused}
 use Rattle.run_journal.specs.declared.acts.Act.{Act}
-use Rattle.run_journal.specs.declared.acts.Act.TheVariants.{Opened, Drew, Derived, Took}
-use Rattle.run_journal.specs.Questions.{attempt}
-use Rattle.domain_rules.specs.Network.{inputs}
-use Rattle.domain_rules.specs.Reading.{KeyMessage, Reading, Managed, Keyed, kind_of}
-use Rattle.domain_rules.specs.Frames.{sent_assoc_resp, sent_m1, sent_m2, frame_seal}
-use Rattle.domain_rules.specs.Verdict.{Facts, verdict, own}
-use Rattle.domain_rules.specs.Rows.{NodeEvent, Take, Begin, close_attempt, next_nonce, ConnectRow, Spent, Asks, sender, is_after_mic, seal_in, response, TakeRows, By_assoc_req, By_assoc_resp, By_m1, By_m2, By_ignored, By_refusal, TakeRow, Adds}
+use Rattle.run_journal.specs.declared.acts.Act.TheVariants.{Opened, Drew, Derived, Took, Installed, Finished}
+use Rattle.run_journal.specs.declared.acts.Key.TheVariants.{Pairwise}
+use Rattle.domain_base.specs.declared.names.Peer.TheVariants.{One}
+use Rattle.run_journal.specs.Acts.{Derivation, GroupKey}
+use Rattle.domain_rules.specs.Counters.{next_in_attempt}
+use Rattle.domain_rules.specs.GroupKeys.{newest, newest_uses, give}
+use Rattle.rsn_elements.specs.Elements.{ElementFields}
+use Rattle.run_journal.specs.Questions.{attempt, session}
+use Rattle.domain_rules.specs.Network.{mac, inputs}
+use Rattle.domain_rules.specs.Reading.{Management, KeyMessage, Reading, Managed, Keyed, kind_of}
+use Rattle.domain_rules.specs.Frames.{sent_assoc_resp, sent_m1, sent_m2, sent_m3, sent_m4, frame_seal}
+use Rattle.domain_rules.specs.Verdict.{Facts, Knows, Keying, m3_keying, m4_keying, verdict, own}
+use Rattle.domain_rules.specs.Rows.{NodeEvent, Take, Begin, Retry, close_attempt, close_session, carried, next_nonce, ConnectRow, Spent, Asks, sender, is_after_mic, seal_in, response, TakeRows, By_assoc_req, By_assoc_resp, By_m1, By_m2, By_m3, By_repeated_m3, By_m4, By_ignored, By_refusal, TakeRow, Adds}
 use Rattle.domain_rules.proofs.OneReading.{one_reading}
-use Rattle.domain_rules.proofs.OneOutcome.{one_verdict}
+use Rattle.domain_rules.proofs.OneOutcome.{one_verdict, same_carried}
 
 -- ---- the acts, as a function of the outcome
 
@@ -41,67 +47,117 @@ managed_acts d first n h octets p _ = []
 abbrev m1_acts : Domain → Node → List ℕ → Node → KeyMessage → Inputs → List Act
 m1_acts d n octets p k i = Took (Some p) octets (kind.Key M1) Accepted None ∷ Derived p i (ptk i) ∷ sent_m2 d n p i k.fields.counter ∷ []
 
-abbrev m2_acts : List ℕ → Node → KeyMessage → Inputs → List Act
-m2_acts octets p k i = Took (Some p) octets (kind.Key M2) Accepted (Some (frame_seal (ptk i).kck k.octets)) ∷ Derived p i (ptk i) ∷ []
+abbrev m2_acts : Domain → Node → List Act → List ℕ → Node → KeyMessage → Inputs → List Act → List Act
+m2_acts d n h octets p k i part =
+    Took (Some p) octets (kind.Key M2) Accepted (Some (frame_seal (ptk i).kck k.octets)) ∷ Derived p i (ptk i) ∷ sent_m3 d n p i (next_in_attempt p part) (newest h) (newest_uses h) ∷ []
 
-abbrev keyed_acts : Domain → Node → List Act → List ℕ → Node → KeyMessage → Message → List Act
-keyed_acts d n h octets p k M1 = m1_acts d n octets p k (inputs d n p (own (part_of p h)) k.fields.nonce)
-keyed_acts d n h octets p k M2 = m2_acts octets p k (inputs d n p (own (part_of p h)) k.fields.nonce)
-keyed_acts d n h octets p k _ = []
+abbrev m3_acts : Domain → Node → List Act → List ℕ → Node → KeyMessage → GroupKey → Option Keying → List Act
+m3_acts d n h octets p k g None = []
+m3_acts d n h octets p k g (Some y) =
+    Took (Some p) octets (kind.Key M3) Accepted (Some (frame_seal y.ptk.kck k.octets)) ∷ Installed (One p) (Pairwise y.ptk.tk y.inputs)
+    ∷ give p (mac d p) g h ∷ Finished p y.inputs ∷ sent_m4 d n p y.inputs k.fields.counter ∷ []
 
-abbrev accepted_acts : Domain → ℕ → Node → List Act → List ℕ → Option Node → Reading → List Act
-accepted_acts d first n h octets (Some p) (Managed b e) = managed_acts d first n h octets p b.kind
-accepted_acts d first n h octets (Some p) (Keyed k) = keyed_acts d n h octets p k k.message
-accepted_acts d first n h octets from r = []
+abbrev repeated_acts : Domain → Node → List ℕ → Node → KeyMessage → Option Keying → List Act
+repeated_acts d n octets p k None = []
+repeated_acts d n octets p k (Some y) = Took (Some p) octets (kind.Key M3) Answered (Some (frame_seal y.ptk.kck k.octets)) ∷ sent_m4 d n p y.inputs k.fields.counter ∷ []
+
+abbrev m4_acts : List Act → List ℕ → Node → KeyMessage → Option Derivation → List Act
+m4_acts h octets p k None = []
+m4_acts h octets p k (Some x) =
+    Took (Some p) octets (kind.Key M4) Accepted (Some (frame_seal x.ptk.kck k.octets)) ∷ close_session p (session p h)
+    ++ Installed (One p) (Pairwise x.ptk.tk x.inputs) ∷ Finished p x.inputs ∷ []
+
+abbrev keyed_acts : Domain → Node → List Act → List ℕ → Node → KeyMessage → GroupKey → Message → List Act
+keyed_acts d n h octets p k g M1 = m1_acts d n octets p k (inputs d n p (own (part_of p h)) k.fields.nonce)
+keyed_acts d n h octets p k g M2 = m2_acts d n h octets p k (inputs d n p (own (part_of p h)) k.fields.nonce) (part_of p h)
+keyed_acts d n h octets p k g M3 = m3_acts d n h octets p k g (m3_keying p h)
+keyed_acts d n h octets p k g M4 = m4_acts h octets p k (m4_keying p (part_of p h))
+keyed_acts d n h octets p k g _ = []
+
+abbrev accepted_acts : Domain → ℕ → Node → List Act → List ℕ → GroupKey → Option Node → Reading → List Act
+accepted_acts d first n h octets g (Some p) (Managed b e) = managed_acts d first n h octets p b.kind
+accepted_acts d first n h octets g (Some p) (Keyed k) = keyed_acts d n h octets p k g k.message
+accepted_acts d first n h octets g from r = []
+
+abbrev answered_acts : Domain → Node → List Act → List ℕ → Option Node → Reading → List Act
+answered_acts d n h octets (Some p) (Keyed k) = repeated_acts d n octets p k (m3_keying p h)
+answered_acts d n h octets from r = []
 
 abbrev refused_acts : Domain → Node → List Act → List ℕ → Reading → Reason → List Act
 refused_acts d n h octets r w =
     Took (sender d n r) octets (kind_of r) (Refused w) (cond (is_after_mic w) (seal_in d n h r) None) ∷ response d n (sender d n r) (kind_of r) w
 
-abbrev acts_by : Domain → ℕ → Node → List Act → List ℕ → Reading → Outcome → List Act
-acts_by d first n h octets r Accepted = accepted_acts d first n h octets (sender d n r) r
-acts_by d first n h octets r Ignored = Took None octets kind.Ignored Ignored None ∷ []
-acts_by d first n h octets r (Refused w) = refused_acts d n h octets r w
-acts_by d first n h octets r _ = []
+abbrev acts_by : Domain → ℕ → Node → List Act → List ℕ → Reading → GroupKey → Outcome → List Act
+acts_by d first n h octets r g Accepted = accepted_acts d first n h octets g (sender d n r) r
+acts_by d first n h octets r g Answered = answered_acts d n h octets (sender d n r) r
+acts_by d first n h octets r g Ignored = Took None octets kind.Ignored Ignored None ∷ []
+acts_by d first n h octets r g (Refused w) = refused_acts d n h octets r w
+acts_by d first n h octets r g _ = []
 
 inputs_in : (d : Domain) (n p : Node) (h part : List Act) (i : Inputs) (k : KeyMessage) → attempt p h ≡ Some part → i ≡ inputs d n p (own part) k.fields.nonce → i ≡ inputs d n p (own (part_of p h)) k.fields.nonce
 inputs_in d n p h part i k s is = is ∙ sym (ap (λ (o : Option (List Act)). inputs d n p (own (unwrap_or o [])) k.fields.nonce) s)
 
+part_is : (p : Node) (h part : List Act) → attempt p h ≡ Some part → part ≡ part_of p h
+part_is p h part s = sym (ap (λ (o : Option (List Act)). unwrap_or o []) s)
+
+-- the acts that follow the acceptance of a message
+keyed_is : (d : Domain) (first : ℕ) (n : Node) (h : List Act) (octets : List ℕ) (r : Reading) (o : Outcome) (k : KeyMessage) (m : Message) (p : Node) (x : GroupKey) → o ≡ Accepted → sender d n r ≡ Some p → r ≡ Keyed k → k.message ≡ m
+    → acts_by d first n h octets r x o ≡ keyed_acts d n h octets p k x m
+keyed_is d first n h octets r o k m p x accepted from is message_is =
+    ap (acts_by d first n h octets r x) accepted ∙ ap (λ (o : Option Node). accepted_acts d first n h octets x o r) from
+    ∙ ap (accepted_acts d first n h octets x (Some p)) is ∙ ap (keyed_acts d n h octets p k x) message_is
+
+managed_is : (d : Domain) (first : ℕ) (n : Node) (h : List Act) (octets : List ℕ) (r : Reading) (o : Outcome) (b : Management) (e : ElementFields) (m : Kind) (p : Node) (x : GroupKey) → o ≡ Accepted → sender d n r ≡ Some p → r ≡ Managed b e → b.kind ≡ m
+    → acts_by d first n h octets r x o ≡ managed_acts d first n h octets p m
+managed_is d first n h octets r o b e m p x accepted from is kind_is =
+    ap (acts_by d first n h octets r x) accepted ∙ ap (λ (o : Option Node). accepted_acts d first n h octets x o r) from
+    ∙ ap (accepted_acts d first n h octets x (Some p)) is ∙ ap (managed_acts d first n h octets p) kind_is
+
+answered_is : (d : Domain) (first : ℕ) (n : Node) (h : List Act) (octets : List ℕ) (r : Reading) (o : Outcome) (k : KeyMessage) (p : Node) (x : GroupKey) → o ≡ Answered → sender d n r ≡ Some p → r ≡ Keyed k
+    → acts_by d first n h octets r x o ≡ repeated_acts d n octets p k (m3_keying p h)
+answered_is d first n h octets r o k p x answered from is =
+    ap (acts_by d first n h octets r x) answered ∙ ap (λ (o : Option Node). answered_acts d n h octets o r) from ∙ ap (answered_acts d n h octets (Some p)) is
+
+-- what an accepted M3 carries is this
+abbrev Carries : Domain → ℕ → Node → List Act → Reading → Facts → GroupKey → Type 0
+Carries d first n h r facts x = (k : KeyMessage) → r ≡ Keyed k → k.message ≡ M3 → verdict d first n h r facts ≡ Accepted → carried facts.data_ ≡ x
+
 -- the acts of a row are these
-row_is : (d : Domain) (first : ℕ) (n : Node) (h : List Act) (octets : List ℕ) (r : Reading) (facts : Facts) (g : List Act) → TakeRows d first n h octets r facts g → g ≡ acts_by d first n h octets r (verdict d first n h r facts)
-row_is d first n h octets r facts g (By_assoc_req row) =
-    row.says
-    ∙ sym (
-    ap (acts_by d first n h octets r) row.accepted ∙ ap (λ (o : Option Node). accepted_acts d first n h octets o r) row.from
-    ∙ ap (accepted_acts d first n h octets (Some row.p)) row.is ∙ ap (managed_acts d first n h octets row.p) row.kind_is
-    )
-row_is d first n h octets r facts g (By_assoc_resp row) =
-    row.says
-    ∙ sym (
-    ap (acts_by d first n h octets r) row.accepted ∙ ap (λ (o : Option Node). accepted_acts d first n h octets o r) row.from
-    ∙ ap (accepted_acts d first n h octets (Some row.p)) row.is ∙ ap (managed_acts d first n h octets row.p) row.kind_is
-    )
-row_is d first n h octets r facts g (By_m1 row) =
+row_is : (d : Domain) (first : ℕ) (n : Node) (h : List Act) (octets : List ℕ) (r : Reading) (facts : Facts) (g : List Act) (x : GroupKey) → Carries d first n h r facts x → TakeRows d first n h octets r facts g
+    → g ≡ acts_by d first n h octets r x (verdict d first n h r facts)
+row_is d first n h octets r facts g x carries (By_assoc_req row) = row.says ∙ sym (managed_is d first n h octets r _ row.b row.e kind.AssocReq row.p x row.accepted row.from row.is row.kind_is)
+row_is d first n h octets r facts g x carries (By_assoc_resp row) = row.says ∙ sym (managed_is d first n h octets r _ row.b row.e kind.AssocResp row.p x row.accepted row.from row.is row.kind_is)
+row_is d first n h octets r facts g x carries (By_m1 row) =
     row.says ∙ ap (m1_acts d n octets row.p row.k) (inputs_in d n row.p h row.part row.i row.k row.awaited row.inputs_are)
-    ∙ sym (
-    ap (acts_by d first n h octets r) row.accepted ∙ ap (λ (o : Option Node). accepted_acts d first n h octets o r) row.from
-    ∙ ap (accepted_acts d first n h octets (Some row.p)) row.is ∙ ap (keyed_acts d n h octets row.p row.k) row.message_is
-    )
-row_is d first n h octets r facts g (By_m2 row) =
-    row.says ∙ ap (m2_acts octets row.p row.k) (inputs_in d n row.p h row.part row.i row.k row.awaited row.inputs_are)
-    ∙ sym (
-    ap (acts_by d first n h octets r) row.accepted ∙ ap (λ (o : Option Node). accepted_acts d first n h octets o r) row.from
-    ∙ ap (accepted_acts d first n h octets (Some row.p)) row.is ∙ ap (keyed_acts d n h octets row.p row.k) row.message_is
-    )
-row_is d first n h octets r facts g (By_ignored row) = row.says ∙ sym (ap (acts_by d first n h octets r) row.ignored)
-row_is d first n h octets r facts g (By_refusal row) = row.says ∙ sym (ap (acts_by d first n h octets r) row.refused)
+    ∙ sym (keyed_is d first n h octets r _ row.k M1 row.p x row.accepted row.from row.is row.message_is)
+row_is d first n h octets r facts g x carries (By_m2 row) =
+    row.says ∙ ap (λ (i : Inputs). m2_acts d n h octets row.p row.k i row.part) (inputs_in d n row.p h row.part row.i row.k row.awaited row.inputs_are)
+    ∙ ap (m2_acts d n h octets row.p row.k (inputs d n row.p (own (part_of row.p h)) row.k.fields.nonce)) (part_is row.p h row.part row.awaited)
+    ∙ sym (keyed_is d first n h octets r _ row.k M2 row.p x row.accepted row.from row.is row.message_is)
+row_is d first n h octets r facts g x carries (By_m3 row) =
+    row.says ∙ ap (λ (v : GroupKey). m3_acts d n h octets row.p row.k v (Some row.y)) (carries row.k row.is row.message_is row.accepted)
+    ∙ ap (m3_acts d n h octets row.p row.k x) (sym row.awaited)
+    ∙ sym (keyed_is d first n h octets r _ row.k M3 row.p x row.accepted row.from row.is row.message_is)
+row_is d first n h octets r facts g x carries (By_repeated_m3 row) =
+    row.says ∙ ap (repeated_acts d n octets row.p row.k) (sym row.awaited) ∙ sym (answered_is d first n h octets r _ row.k row.p x row.answered row.from row.is)
+row_is d first n h octets r facts g x carries (By_m4 row) =
+    row.says ∙ ap (m4_acts h octets row.p row.k) (sym row.keyed ∙ ap (m4_keying row.p) (part_is row.p h row.part row.awaited))
+    ∙ sym (keyed_is d first n h octets r _ row.k M4 row.p x row.accepted row.from row.is row.message_is)
+row_is d first n h octets r facts g x carries (By_ignored row) = row.says ∙ sym (ap (acts_by d first n h octets r x) row.ignored)
+row_is d first n h octets r facts g x carries (By_refusal row) = row.says ∙ sym (ap (acts_by d first n h octets r x) row.refused)
+
+same_carries : (d : Domain) (first : ℕ) (n : Node) (h : List Act) (r : Reading) (f g : Facts) → Knows d first n h r f → Knows d first n h r g → Carries d first n h r f (carried g.data_)
+same_carries d first n h r f g s t k is m accepted =
+    ap carried (same_carried d first n h k f g m (subst (λ (v : Reading). Knows d first n h v f) is s) (subst (λ (v : Reading). Knows d first n h v g) is t) (subst (λ (v : Reading). verdict d first n h v f ≡ Accepted) is accepted))
 
 pub one_take : (d : Domain) (first : ℕ) (n : Node) (h : List Act) (octets : List ℕ) (f g : List Act) → TakeRow d first n h octets f → TakeRow d first n h octets g → f ≡ g
 one_take d first n h octets f g s t =
-    row_is d first n h octets s.r s.facts f s.row
-    ∙ ap (acts_by d first n h octets s.r) (one_verdict d first n h octets s.r t.r s.facts t.facts s.reads t.reads s.knows t.knows)
-    ∙ ap (λ (r : Reading). acts_by d first n h octets r (verdict d first n h t.r t.facts)) (one_reading d.akm octets s.r t.r s.reads t.reads)
-    ∙ sym (row_is d first n h octets t.r t.facts g t.row)
+    let same : s.r ≡ t.r = one_reading d.akm octets s.r t.r s.reads t.reads in
+    let knows : Knows d first n h s.r t.facts = subst (λ (v : Reading). Knows d first n h v t.facts) (sym same) t.knows in
+    row_is d first n h octets s.r s.facts f (carried t.facts.data_) (same_carries d first n h s.r s.facts t.facts s.knows knows) s.row
+    ∙ ap (acts_by d first n h octets s.r (carried t.facts.data_)) (one_verdict d first n h octets s.r t.r s.facts t.facts s.reads t.reads s.knows t.knows)
+    ∙ ap (λ (r : Reading). acts_by d first n h octets r (carried t.facts.data_) (verdict d first n h t.r t.facts)) same
+    ∙ sym (row_is d first n h octets t.r t.facts g (carried t.facts.data_) (λ k is m accepted. refl) t.row)
 
 one_connect : (d : Domain) (first : ℕ) (n : Node) (h : List Act) (p : Node) (f g : List Act) → ConnectRow d first n h p f → ConnectRow d first n h p g → f ≡ g
 one_connect d first n h p f g (Spent many is) (Spent too also) = is ∙ sym also
@@ -112,3 +168,4 @@ one_connect d first n h p f g (Asks few is) (Asks too also) = is ∙ sym also
 pub one_group : (d : Domain) (first : ℕ) (n : Node) (h : List Act) (event : NodeEvent) (f g : List Act) → Adds d first n h event f → Adds d first n h event g → f ≡ g
 one_group d first n h (Take octets) f g s t = one_take d first n h octets f g s t
 one_group d first n h (Begin a) f g s t = one_connect d first n h (Ap a) f g s t
+one_group d first n h (Retry p) f g s t = s ∙ sym t

@@ -1,13 +1,17 @@
--- A frame is accepted, ignored or refused, and of these one.
+-- A frame is accepted, answered, ignored or refused, and of these one.
 use Rattle.std.proofs.Common.{◌≡◌, ◌⊎◌, ℕ, ◌+◌, Bool, true, false, List, Option, Some, None, refl, sym, ap, subst, ◌∙◌, inl, inr}
 use Rattle.std.specs.Prelude.{not, nat_lt, ◌||◌, ◌==◌, bytes_eq, if◌then◌else◌}
 use Rattle.std.specs.List.{list_any}
 use Rattle.domain_base.specs.declared.names.Node.{Node}
 use Rattle.domain_base.specs.declared.names.Node.TheVariants.{Ap, Sta}
 use Rattle.air_frame.specs.Fields.{HeaderFields}
+use Rattle.air_frame.specs.declared.frame.Direction.{Direction}
+use Rattle.mac_prf.specs.Mic.{mic}
 use Rattle.rsn_elements.specs.Elements.{ElementFields}
+use Rattle.rsn_elements.specs.Sent.{rsne_octets}
+use Rattle.domain_base.specs.declared.names.Akm.{Akm}
 use Rattle.eapol_key.specs.declared.messages.Message.{Message}
-use Rattle.eapol_key.specs.declared.messages.Message.TheVariants.{M1, M2}
+use Rattle.eapol_key.specs.declared.messages.Message.TheVariants.{M1, M2, M3, M4}
 use Rattle.run_journal.specs.declared.domain.Domain.{Domain}
 use Rattle.run_journal.specs.declared.acts.Kind.{Kind}
 use Rattle.run_journal.specs.declared.acts.Kind.TheVariants as kind
@@ -15,18 +19,20 @@ use Rattle.run_journal.specs.declared.acts.Reason.{Reason}
 use Rattle.run_journal.specs.declared.acts.Reason.TheVariants as reason
 use Rattle.run_journal.specs.declared.acts.KeyDataFault.TheVariants as key_data
 use Rattle.run_journal.specs.declared.acts.Outcome.{Outcome}
-use Rattle.run_journal.specs.declared.acts.Outcome.TheVariants.{Accepted, Ignored, Refused}
+use Rattle.run_journal.specs.declared.acts.Outcome.TheVariants.{Accepted, Answered, Ignored, Refused}
 use Rattle.run_journal.specs.declared.acts.Act.{Act}
 use Rattle.run_journal.specs.Questions.{attempt, draws}
+use Rattle.run_journal.specs.Acts.{Derivation}
 use Rattle.domain_rules.specs.Network.{bssid, direction, goes_like, peer_of, last_draw}
 use Rattle.domain_rules.specs.Reading.{Management, KeyMessage, Reading, NoFrame, PassedOver, NoElements, Managed, NoKeyFrame, NoMessage, Keyed, Sealed, Reads}
-use Rattle.domain_rules.specs.Verdict.{Facts, Knows, KnowsFrom, KnowsOf, first_verdict, further, key_further, and_then, verdict, in_attempt, above, without_status, from_peer, sender_in, management_sender, is_mine, is_mine_or_group, by_connect, has_heard, kept_counter, offered, rsne_status, m2_key_data, is_same, air_reason, management_verdict, key_verdict}
-use Rattle.domain_rules.proofs.OneReading.{one_reading, same_facts}
+use Rattle.domain_rules.specs.Verdict.{Facts, Knows, KnowsFrom, KnowsOf, KnowsM3, ComesSoFar, Keying, m3_keying, m3_verdict_by, m4_keying, m4_verdict_by, m4_verdict, taken_in, m3_key_data, m3_wrapped, is_group_key, unless_refused, first_verdict, further, key_further, and_then, verdict, in_attempt, above, without_status, from_peer, sender_in, management_sender, is_mine, is_mine_or_group, by_connect, has_heard, kept_counter, offered, rsne_status, m2_key_data, is_same, air_reason, management_verdict, key_verdict}
+use Rattle.domain_rules.proofs.OneReading.{one_reading, same_m2, same_m3, same_opened}
 
--- ---- a frame is accepted, ignored or refused
+-- ---- a frame is accepted, answered, ignored or refused
 
 pub data Decided (o : Outcome) : Type 0 where
   Took_in : o ≡ Accepted → Decided o
+  Repeated : o ≡ Answered → Decided o
   Passed : o ≡ Ignored → Decided o
   Thrown : (why : Reason) → o ≡ Refused why → Decided o
 
@@ -57,6 +63,31 @@ decided_key_data : (requested : Option (List ℕ)) (o : Option ElementFields) �
 decided_key_data requested None = refused (reason.KeyData key_data.Unreadable)
 decided_key_data requested (Some e) = decided_if (is_same e.rsne_octets requested) _ _ (Took_in refl) (refused (reason.KeyData key_data.Rsne))
 
+decided_group_key : (akm : Akm) (o : Option ElementFields) → Decided (m3_key_data akm o)
+decided_group_key akm None = refused (reason.KeyData key_data.Unreadable)
+decided_group_key akm (Some e) =
+    decided_if (not (is_same e.rsne_octets (Some (rsne_octets akm None)))) _ _ (refused (reason.KeyData key_data.Rsne))
+    (decided_if (is_group_key e.gtk) _ _ (Took_in refl) (refused (reason.KeyData key_data.Gtk)))
+
+decided_wrapped : (akm : Akm) (u : Option (List ℕ)) (o : Option ElementFields) → Decided (m3_wrapped akm u o)
+decided_wrapped akm None o = refused reason.Wrap
+decided_wrapped akm (Some plain) o = decided_group_key akm o
+
+decided_taken : (b : Bool) → Decided (taken_in b)
+decided_taken false = Took_in refl
+decided_taken true = Repeated refl
+
+decided_m3 : (d : Domain) (p : Node) (k : KeyMessage) (o : Option Keying) → Decided (m3_verdict_by d p k o)
+decided_m3 d p k None = refused reason.Unawaited
+decided_m3 d p k (Some y) =
+    decided_above (kept_counter p y.part) k.fields.counter _ (decided_if (bytes_eq k.fields.nonce y.inputs.anonce) _ _
+    (decided_if (bytes_eq k.fields.mic _) _ _ (decided_taken y.is_session) (refused reason.Mic)) (refused reason.Nonce))
+
+decided_m4 : (d : Domain) (p : Node) (k : KeyMessage) (part : List Act) (o : Option Derivation) → Decided (m4_verdict_by d p k part o)
+decided_m4 d p k part None = refused reason.Unawaited
+decided_m4 d p k part (Some x) =
+    decided_if (list_any (λ c. c == k.fields.counter) (offered p M3 part)) _ _ (decided_if (bytes_eq k.fields.mic _) _ _ (Took_in refl) (refused reason.Mic)) (refused _)
+
 decided_management : (d : Domain) (first : ℕ) (n : Node) (h : List Act) (p : Node) (k : Kind) (b : Management) (e : ElementFields) → Decided (management_verdict d first n h p k b e)
 decided_management d first (Ap a) h p kind.AssocReq b e = decided_status (rsne_status d.akm e.rsne) _ (decided_if (nat_lt (first + draws h) last_draw) _ _ (Took_in refl) (refused reason.Spent))
 decided_management d first (Sta s) h p kind.AssocResp b e =
@@ -69,6 +100,8 @@ decided_key d (Sta s) h p M1 k =
 decided_key d (Ap a) h p M2 k =
     decided_attempt (attempt p h) _ (λ part. decided_if (not (by_connect part) || has_heard p (kind.Key M2) part) _ _ (refused reason.Unawaited)
     (decided_if (list_any (λ c. c == k.fields.counter) (offered p M1 part)) _ _ (decided_if (bytes_eq k.fields.mic _) _ _ (Took_in refl) (refused reason.Mic)) (refused _)))
+decided_key d (Sta s) h p M3 k = decided_m3 d p k (m3_keying p h)
+decided_key d (Ap a) h p M4 k = decided_attempt (attempt p h) _ (λ part. decided_m4 d p k part (m4_keying p part))
 decided_key d n h p _ k = refused reason.Unawaited
 
 decided_first : (d : Domain) (first : ℕ) (n : Node) (h : List Act) (r : Reading) → Decided (first_verdict d first n h r)
@@ -84,21 +117,29 @@ decided_first d first n h (Keyed k) =
 decided_first d first n h (Sealed header way tid body) =
     decided_if (not (is_mine_or_group d n header) || goes_like way (direction n)) _ _ (refused reason.NotForMe) (decided_peer (peer_of d n header.a2) _ (λ p. refused reason.NoKey))
 
-decided_message : (m : Message) (facts : Facts) → Decided (key_further m facts)
-decided_message M2 facts = decided_key_data facts.requested facts.data_
-decided_message _ facts = Took_in refl
+decided_message : (akm : Akm) (m : Message) (facts : Facts) → Decided (key_further akm m facts)
+decided_message akm M2 facts = decided_key_data facts.requested facts.data_
+decided_message akm M3 facts = decided_wrapped akm facts.unwrapped facts.data_
+decided_message akm _ facts = Took_in refl
 
-decided_further : (r : Reading) (facts : Facts) → Decided (further r facts)
-decided_further (Keyed k) facts = decided_message k.message facts
-decided_further _ facts = Took_in refl
+decided_further : (akm : Akm) (r : Reading) (facts : Facts) → Decided (further akm r facts)
+decided_further akm (Keyed k) facts = decided_message akm k.message facts
+decided_further akm _ facts = Took_in refl
+
+decided_unless : (a b : Outcome) → Decided a → Decided b → Decided (unless_refused a b)
+decided_unless a b x (Took_in s) = rw s x
+decided_unless a b x (Repeated s) = rw s x
+decided_unless a b x (Passed s) = rw s x
+decided_unless a b x (Thrown why s) = rw s (refused why)
 
 decided_then : (a b : Outcome) → Decided a → Decided b → Decided (and_then a b)
-decided_then a b (Took_in s) y = rw s y
+decided_then a b (Took_in s) y = rw s (decided_unless Accepted b (Took_in refl) y)
+decided_then a b (Repeated s) y = rw s (decided_unless Answered b (Repeated refl) y)
 decided_then a b (Passed s) y = rw s (Passed refl)
 decided_then a b (Thrown why s) y = rw s (refused why)
 
 pub decided : (d : Domain) (first : ℕ) (n : Node) (h : List Act) (r : Reading) (facts : Facts) → Decided (verdict d first n h r facts)
-decided d first n h r facts = decided_then (first_verdict d first n h r) (further r facts) (decided_first d first n h r) (decided_further r facts)
+decided d first n h r facts = decided_then (first_verdict d first n h r) (further d.akm r facts) (decided_first d first n h r) (decided_further d.akm r facts)
 
 -- ---- what was accepted is awaited
 
@@ -131,36 +172,233 @@ management_kind d first n h p _ b e s = cc
 abbrev pub InAttempt : Node → List Act → Type 0
 InAttempt p h = (part : List Act) × (attempt p h ≡ Some part)
 
-pub key_kind : (d : Domain) (n : Node) (h : List Act) (p : Node) (m : Message) (k : KeyMessage) → key_verdict d n h p m k ≡ Accepted → ((m ≡ M1) × InAttempt p h) ⊎ ((m ≡ M2) × InAttempt p h)
-key_kind d (Sta sta) h p M1 k s = inl (refl, in_some (attempt p h) _ s)
-key_kind d (Ap a) h p M2 k s = inr (refl, in_some (attempt p h) _ s)
-key_kind d n h p _ k s = cc
+-- with a derived key
+pub record InKeyedAttempt (p : Node) (h : List Act) : Type 0 where
+  pub part : List Act
+  pub awaited : attempt p h ≡ Some part
+  pub x : Derivation
+  pub keyed : m4_keying p part ≡ Some x
 
-pub and_accepted : (a b : Outcome) → and_then a b ≡ Accepted → (a ≡ Accepted) × (b ≡ Accepted)
-and_accepted Accepted b s = (refl, s)
-and_accepted _ b s = cc
+abbrev pub HasKeying : Node → List Act → Type 0
+HasKeying p h = (y : Keying) × (m3_keying p h ≡ Some y)
+
+-- which message it is, and by what it is awaited
+pub data Awaited (p : Node) (h : List Act) (m : Message) : Type 0 where
+  Is_m1 : m ≡ M1 → InAttempt p h → Awaited p h m
+  Is_m2 : m ≡ M2 → InAttempt p h → Awaited p h m
+  Is_m3 : m ≡ M3 → HasKeying p h → Awaited p h m
+  Is_m4 : m ≡ M4 → InKeyedAttempt p h → Awaited p h m
+
+-- the frame is taken: accepted or answered
+abbrev pub IsTaken : Outcome → Type 0
+IsTaken o = (o ≡ Accepted) ⊎ (o ≡ Answered)
+
+pub taken_behind : (c : Bool) (why : Reason) (a : Outcome) → IsTaken (if c then Refused why else a) → IsTaken a
+taken_behind true why a (inl s) = absurd cc
+taken_behind true why a (inr s) = absurd cc
+taken_behind false why a s = s
+
+pub taken_from : (o : Option Node) (f : Node → Outcome) → IsTaken (from_peer o f) → (p : Node) × ((o ≡ Some p) × IsTaken (f p))
+taken_from None f (inl s) = absurd cc
+taken_from None f (inr s) = absurd cc
+taken_from (Some p) f s = (p, (refl, s))
+
+taken_attempt : (o : Option (List Act)) (f : List Act → Outcome) → IsTaken (in_attempt o f) → (part : List Act) × ((o ≡ Some part) × IsTaken (f part))
+taken_attempt None f (inl s) = absurd cc
+taken_attempt None f (inr s) = absurd cc
+taken_attempt (Some part) f s = (part, (refl, s))
+
+taken_m3 : (d : Domain) (p : Node) (k : KeyMessage) (o : Option Keying) → IsTaken (m3_verdict_by d p k o) → (y : Keying) × (o ≡ Some y)
+taken_m3 d p k None (inl s) = absurd cc
+taken_m3 d p k None (inr s) = absurd cc
+taken_m3 d p k (Some y) s = (y, refl)
+
+taken_m4 : (d : Domain) (p : Node) (k : KeyMessage) (part : List Act) (o : Option Derivation) → IsTaken (m4_verdict_by d p k part o) → (x : Derivation) × (o ≡ Some x)
+taken_m4 d p k part None (inl s) = absurd cc
+taken_m4 d p k part None (inr s) = absurd cc
+taken_m4 d p k part (Some x) s = (x, refl)
+
+in_m4 : (d : Domain) (p : Node) (h : List Act) (k : KeyMessage) → IsTaken (m4_verdict d h p k) → InKeyedAttempt p h
+in_m4 d p h k s =
+    let a = taken_attempt (attempt p h) _ s in
+    let x = taken_m4 d p k a.0 (m4_keying p a.0) a.1.1 in
+    record { part = a.0; awaited = a.1.0; x = x.0; keyed = x.1 }
+
+never : {C : Type 0} (why : Reason) → IsTaken (Refused why) → C
+never why (inl s) = absurd cc
+never why (inr s) = absurd cc
+
+pub key_kind : (d : Domain) (n : Node) (h : List Act) (p : Node) (m : Message) (k : KeyMessage) → IsTaken (key_verdict d n h p m k) → Awaited p h m
+key_kind d (Sta sta) h p M1 k s = let x = taken_attempt (attempt p h) _ s in Is_m1 refl (x.0, x.1.0)
+key_kind d (Ap a) h p M2 k s = let x = taken_attempt (attempt p h) _ s in Is_m2 refl (x.0, x.1.0)
+key_kind d (Sta sta) h p M3 k s = Is_m3 refl (taken_m3 d p k (m3_keying p h) s)
+key_kind d (Ap a) h p M4 k s = Is_m4 refl (in_m4 d p h k s)
+key_kind d n h p _ k s = never reason.Unawaited s
+
+and_taken : (a b : Outcome) → IsTaken (and_then a b) → IsTaken a
+and_taken Accepted b s = inl refl
+and_taken Answered b s = inr refl
+and_taken _ b s = s
+
+unless_accepted : (a b : Outcome) → unless_refused a b ≡ Accepted → a ≡ Accepted
+unless_accepted a (Refused why) s = cc
+unless_accepted a _ s = s
+
+pub and_accepted : (a b : Outcome) → and_then a b ≡ Accepted → a ≡ Accepted
+and_accepted Accepted b s = refl
+and_accepted Answered b s = unless_accepted Answered b s
+and_accepted _ b s = s
+
+pub unless_answered : (a b : Outcome) → unless_refused a b ≡ Answered → a ≡ Answered
+unless_answered a (Refused why) s = cc
+unless_answered a _ s = s
+
+pub and_answered : (a b : Outcome) → and_then a b ≡ Answered → a ≡ Answered
+and_answered Accepted b s = unless_answered Accepted b s
+and_answered Answered b s = refl
+and_answered _ b s = s
+
+-- ---- what was answered is a repeated M3
+
+pub answered_behind : (c : Bool) (why : Reason) (a : Outcome) → (if c then Refused why else a) ≡ Answered → a ≡ Answered
+answered_behind true why a s = cc
+answered_behind false why a s = s
+
+pub answered_from : (o : Option Node) (p : Node) (f : Node → Outcome) → o ≡ Some p → from_peer o f ≡ Answered → f p ≡ Answered
+answered_from None p f is s = cc
+answered_from (Some q) p f is s = subst (λ (x : Node). f x ≡ Answered) (cc is) s
+
+refused_unanswered : {why : Reason} → Refused why ≡ Answered → ⊥
+refused_unanswered s = cc
+
+unanswered_if : (c : Bool) (why : Reason) → (if c then Accepted else Refused why) ≡ Answered → ⊥
+unanswered_if true why s = cc
+unanswered_if false why s = cc
+
+unanswered_above : (o : Option ℕ) (counter : ℕ) → above o counter Accepted ≡ Answered → ⊥
+unanswered_above None counter s = cc
+unanswered_above (Some kept) counter s = unanswered_if (nat_lt kept counter) (reason.Counter kept) s
+
+unanswered_status : (o : Option ℕ) (c : Bool) → without_status o (if c then Accepted else Refused reason.Spent) ≡ Answered → ⊥
+unanswered_status None c s = unanswered_if c reason.Spent s
+unanswered_status (Some status) c s = cc
+
+unanswered_in : (o : Option (List Act)) (f : List Act → Outcome) → ((part : List Act) → f part ≡ Answered → ⊥) → in_attempt o f ≡ Answered → ⊥
+unanswered_in None f all s = cc
+unanswered_in (Some part) f all s = all part s
+
+unanswered_among : (b : Bool) (c : Bool) (why : Reason) (other : Reason) → (if b then (if c then Accepted else Refused why) else Refused other) ≡ Answered → ⊥
+unanswered_among true c why other s = unanswered_if c why s
+unanswered_among false c why other s = cc
+
+unanswered_m4 : (d : Domain) (p : Node) (k : KeyMessage) (part : List Act) (o : Option Derivation) → m4_verdict_by d p k part o ≡ Answered → ⊥
+unanswered_m4 d p k part None s = cc
+unanswered_m4 d p k part (Some x) s = unanswered_among (list_any (λ c. c == k.fields.counter) (offered p M3 part)) (bytes_eq k.fields.mic (mic d.akm x.ptk.kck k.octets)) reason.Mic _ s
+
+pub answered_kind : (d : Domain) (n : Node) (h : List Act) (p : Node) (m : Message) (k : KeyMessage) → key_verdict d n h p m k ≡ Answered → (m ≡ M3) × HasKeying p h
+answered_kind d (Sta sta) h p M1 k s =
+    absurd (unanswered_in (attempt p h) _ (λ part t. unanswered_above (kept_counter p part) k.fields.counter (answered_behind (not (by_connect part) || not (has_heard p kind.AssocResp part)) reason.Unawaited _ t)) s)
+answered_kind d (Ap a) h p M2 k s =
+    absurd (unanswered_in (attempt p h) _ (λ part t. unanswered_among (list_any (λ c. c == k.fields.counter) (offered p M1 part)) (bytes_eq k.fields.mic _) reason.Mic _ (answered_behind (not (by_connect part) || has_heard p (kind.Key M2) part) reason.Unawaited _ t)) s)
+answered_kind d (Sta sta) h p M3 k s = (refl, taken_m3 d p k (m3_keying p h) (inr s))
+answered_kind d (Ap a) h p M4 k s = absurd (unanswered_in (attempt p h) _ (λ part t. unanswered_m4 d p k part (m4_keying p part) t) s)
+answered_kind d n h p _ k s = cc
+
+unanswered_management : (d : Domain) (first : ℕ) (n : Node) (h : List Act) (p : Node) (k : Kind) (b : Management) (e : ElementFields) → management_verdict d first n h p k b e ≡ Answered → ⊥
+unanswered_management d first (Ap a) h p kind.AssocReq b e s = unanswered_status (rsne_status d.akm e.rsne) (nat_lt (first + draws h) last_draw) s
+unanswered_management d first (Sta sta) h p kind.AssocResp b e s =
+    unanswered_in (attempt p h) _ (λ part t. unanswered_if (b.status == 0) (reason.Status b.status) (answered_behind (not (by_connect part) || has_heard p kind.AssocResp part) reason.Unawaited _ t)) s
+unanswered_management d first n h p _ b e s = cc
+
+unanswered_peer : (o : Option Node) (f : Node → Outcome) → ((p : Node) → f p ≡ Answered → ⊥) → from_peer o f ≡ Answered → ⊥
+unanswered_peer None f all s = cc
+unanswered_peer (Some p) f all s = all p s
+
+pub managed_unanswered : (d : Domain) (first : ℕ) (n : Node) (h : List Act) (b : Management) (e : ElementFields) → first_verdict d first n h (Managed b e) ≡ Answered → ⊥
+managed_unanswered d first n h b e s =
+    unanswered_peer (management_sender d n b.header) _ (λ p. unanswered_management d first n h p b.kind b e) (answered_behind (not (is_mine d n b.header)) reason.NotForMe _ s)
+
+pub sealed_unanswered : (d : Domain) (n : Node) (header : HeaderFields) (way : Direction) → (if not (is_mine_or_group d n header) || goes_like way (direction n) then Refused reason.NotForMe else from_peer (peer_of d n header.a2) (λ p. Refused reason.NoKey)) ≡ Answered → ⊥
+sealed_unanswered d n header way s =
+    unanswered_peer (peer_of d n header.a2) _ (λ p t. refused_unanswered t) (answered_behind (not (is_mine_or_group d n header) || goes_like way (direction n)) reason.NotForMe _ s)
 
 -- ---- one outcome
 
-same_message_further : (d : Domain) (h : List Act) (p : Node) (m : Message) (k : KeyMessage) (f g : Facts) → KnowsOf d.akm h p m k f → KnowsOf d.akm h p m k g → key_further m f ≡ key_further m g
-same_message_further d h p M2 k f g s t = ap (λ (x : Facts). m2_key_data x.requested x.data_) (same_facts d.akm h p k f g s t)
-same_message_further d h p _ k f g s t = refl
+far_taken : (o : Outcome) → ComesSoFar o → IsTaken o
+far_taken Accepted far = inl refl
+far_taken Answered far = inr refl
+far_taken _ far = absurd far
 
-same_further : (d : Domain) (first : ℕ) (n : Node) (h : List Act) (r : Reading) (f g : Facts) → first_verdict d first n h r ≡ Accepted → KnowsFrom d n h r f → KnowsFrom d n h r g → further r f ≡ further r g
+same_message_further : (d : Domain) (h : List Act) (p : Node) (m : Message) (k : KeyMessage) (f g : Facts) → Awaited p h m → KnowsOf d.akm h p m k f → KnowsOf d.akm h p m k g → key_further d.akm m f ≡ key_further d.akm m g
+same_message_further d h p M2 k f g awaited s t = same_m2 d.akm h p k f g s t
+same_message_further d h p M3 k f g (Is_m3 e y) s t = same_m3 d.akm y.0.ptk.kek k f g (s y.0 y.1) (t y.0 y.1)
+same_message_further d h p M3 k f g (Is_m1 e y) s t = cc
+same_message_further d h p M3 k f g (Is_m2 e y) s t = cc
+same_message_further d h p M3 k f g (Is_m4 e y) s t = cc
+same_message_further d h p _ k f g awaited s t = refl
+
+same_further : (d : Domain) (first : ℕ) (n : Node) (h : List Act) (r : Reading) (f g : Facts) → ComesSoFar (first_verdict d first n h r) → KnowsFrom d n h r f → KnowsFrom d n h r g → further d.akm r f ≡ further d.akm r g
 same_further d first n h (Keyed k) f g a s t =
-    let behind = from_some (peer_of d n k.header.a2) (λ p. key_verdict d n h p k.message k) (not_thrown (not (is_mine d n k.header) || goes_like k.direction (direction n)) reason.NotForMe _ a) in
-    same_message_further d h behind.0 k.message k f g (s behind.0 behind.1.0) (t behind.0 behind.1.0)
+    let behind = taken_from (peer_of d n k.header.a2) (λ p. key_verdict d n h p k.message k) (taken_behind (not (is_mine d n k.header) || goes_like k.direction (direction n)) reason.NotForMe _ (far_taken _ a)) in
+    same_message_further d h behind.0 k.message k f g (key_kind d n h behind.0 k.message k behind.1.1) (s behind.0 behind.1.0) (t behind.0 behind.1.0)
 same_further d first n h _ f g a s t = refl
 
-same_then : (o x y : Outcome) → (o ≡ Accepted → x ≡ y) → and_then o x ≡ and_then o y
-same_then Accepted x y same = same refl
+same_then : (o x y : Outcome) → (ComesSoFar o → x ≡ y) → and_then o x ≡ and_then o y
+same_then Accepted x y same = ap (unless_refused Accepted) (same tt)
+same_then Answered x y same = ap (unless_refused Answered) (same tt)
 same_then _ x y same = refl
 
 pub same_verdict : (d : Domain) (first : ℕ) (n : Node) (h : List Act) (r : Reading) (f g : Facts) → Knows d first n h r f → Knows d first n h r g → verdict d first n h r f ≡ verdict d first n h r g
-same_verdict d first n h r f g s t = same_then (first_verdict d first n h r) (further r f) (further r g) (λ a. same_further d first n h r f g a (s a) (t a))
+same_verdict d first n h r f g s t = same_then (first_verdict d first n h r) (further d.akm r f) (further d.akm r g) (λ a. same_further d first n h r f g a (s a) (t a))
 
 pub one_verdict : (d : Domain) (first : ℕ) (n : Node) (h : List Act) (octets : List ℕ) (r s : Reading) (f g : Facts) → Reads d.akm octets r → Reads d.akm octets s → Knows d first n h r f → Knows d first n h s g
     → verdict d first n h r f ≡ verdict d first n h s g
 one_verdict d first n h octets r s f g x y k l =
     let same : r ≡ s = one_reading d.akm octets r s x y in
     same_verdict d first n h r f g k (subst (λ (v : Reading). Knows d first n h v g) (sym same) l) ∙ ap (λ (v : Reading). verdict d first n h v g) same
+
+-- ---- the key data of an M3 that was accepted
+
+never_by : (c : Bool) (why : Reason) (a : Outcome) → (a ≡ Accepted) ⊎ ((w : Reason) × (a ≡ Refused w)) → ((if c then Refused why else a) ≡ Accepted) ⊎ ((w : Reason) × ((if c then Refused why else a) ≡ Refused w))
+never_by true why a s = inr (why, refl)
+never_by false why a s = s
+
+group_by : (c : Bool) → ((if c then Accepted else Refused (reason.KeyData key_data.Gtk)) ≡ Accepted) ⊎ ((w : Reason) × ((if c then Accepted else Refused (reason.KeyData key_data.Gtk)) ≡ Refused w))
+group_by true = inl refl
+group_by false = inr (reason.KeyData key_data.Gtk, refl)
+
+key_data_by : (akm : Akm) (x : Option ElementFields) → (m3_key_data akm x ≡ Accepted) ⊎ ((w : Reason) × (m3_key_data akm x ≡ Refused w))
+key_data_by akm None = inr (reason.KeyData key_data.Unreadable, refl)
+key_data_by akm (Some e) = never_by (not (is_same e.rsne_octets (Some (rsne_octets akm None)))) (reason.KeyData key_data.Rsne) _ (group_by (is_group_key e.gtk))
+
+wrapped_by : (akm : Akm) (u : Option (List ℕ)) (x : Option ElementFields) → (m3_wrapped akm u x ≡ Accepted) ⊎ ((w : Reason) × (m3_wrapped akm u x ≡ Refused w))
+wrapped_by akm None x = inr (reason.Wrap, refl)
+wrapped_by akm (Some plain) x = key_data_by akm x
+
+unless_passed : (why : Reason) (b : Outcome) → unless_refused Accepted b ≡ Accepted → b ≡ Refused why → ⊥
+unless_passed why b s t = let e : unless_refused Accepted (Refused why) ≡ Accepted = subst (λ (x : Outcome). unless_refused Accepted x ≡ Accepted) t s in cc
+
+not_refused : (akm : Akm) (u : Option (List ℕ)) (x : Option ElementFields) → unless_refused Accepted (m3_wrapped akm u x) ≡ Accepted → m3_wrapped akm u x ≡ Accepted
+not_refused akm u x s = elim (wrapped_by akm u x) [
+  | inl e ↦ e
+  | inr e ↦ absurd (unless_passed e.0 (m3_wrapped akm u x) s e.1)
+]
+
+keyed_m3 : (p : Node) (h : List Act) (m : Message) → m ≡ M3 → Awaited p h m → HasKeying p h
+keyed_m3 p h m e (Is_m1 f y) = cc
+keyed_m3 p h m e (Is_m2 f y) = cc
+keyed_m3 p h m e (Is_m3 f y) = y
+keyed_m3 p h m e (Is_m4 f y) = cc
+
+knows_m3 : (d : Domain) (h : List Act) (p : Node) (m : Message) (k : KeyMessage) (f : Facts) → m ≡ M3 → KnowsOf d.akm h p m k f → (y : Keying) → m3_keying p h ≡ Some y → KnowsM3 y.ptk.kek k f
+knows_m3 d h p m k f e knows y is = let all : KnowsOf d.akm h p M3 k f = subst (λ (x : Message). KnowsOf d.akm h p x k f) e knows in all y is
+
+pub same_carried : (d : Domain) (first : ℕ) (n : Node) (h : List Act) (k : KeyMessage) (f g : Facts) → k.message ≡ M3 → Knows d first n h (Keyed k) f → Knows d first n h (Keyed k) g → verdict d first n h (Keyed k) f ≡ Accepted → f.data_ ≡ g.data_
+same_carried d first n h k f g m s t accepted =
+    let a : first_verdict d first n h (Keyed k) ≡ Accepted = and_accepted _ _ accepted in
+    let far : ComesSoFar (first_verdict d first n h (Keyed k)) = subst ComesSoFar (sym a) tt in
+    let behind = taken_from (peer_of d n k.header.a2) (λ p. key_verdict d n h p k.message k) (taken_behind (not (is_mine d n k.header) || goes_like k.direction (direction n)) reason.NotForMe _ (inl a)) in
+    let y = keyed_m3 behind.0 h k.message m (key_kind d n h behind.0 k.message k behind.1.1) in
+    let opened : and_then Accepted (key_further d.akm k.message f) ≡ Accepted = subst (λ (x : Outcome). and_then x (key_further d.akm k.message f) ≡ Accepted) a accepted in
+    let open3 : unless_refused Accepted (m3_wrapped d.akm f.unwrapped f.data_) ≡ Accepted = subst (λ (x : Message). unless_refused Accepted (key_further d.akm x f) ≡ Accepted) m opened in
+    same_opened d.akm y.0.ptk.kek k f g (knows_m3 d h behind.0 k.message k f m (s far behind.0 behind.1.0) y.0 y.1) (knows_m3 d h behind.0 k.message k g m (t far behind.0 behind.1.0) y.0 y.1) (not_refused d.akm f.unwrapped f.data_ open3)

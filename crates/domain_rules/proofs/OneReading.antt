@@ -23,7 +23,9 @@ use Rattle.eapol_key.proofs.Faults.{same_frame, sound_from_frame, none_from_soun
 use Rattle.run_journal.specs.declared.acts.Act.{Act}
 use Rattle.run_journal.specs.declared.acts.Kind.TheVariants as kind
 use Rattle.run_journal.specs.Questions.{heard}
-use Rattle.domain_rules.specs.Verdict.{Facts, HasRsne, IsRequested, ReadsKeyData, KnowsM2}
+use Rattle.key_wrap.proofs.UniqueLemmas.{Wraps-unique}
+use Rattle.run_journal.specs.declared.acts.Outcome.TheVariants.{Accepted}
+use Rattle.domain_rules.specs.Verdict.{Facts, HasRsne, IsRequested, ReadsKeyData, KnowsM2, IsUnwrapped, KnowsM3, m2_key_data, m3_key_data, m3_wrapped}
 use Rattle.domain_rules.specs.Reading.{Management, management_of, KeyMessage, Reading, NoFrame, PassedOver, NoElements, Managed, NoKeyFrame, NoMessage, Keyed, Sealed, Reads}
 
 -- ---- one message
@@ -190,7 +192,35 @@ same_key_data octets (Some e) None s t = absurd (value_or_fault KeyData octets e
 same_key_data octets None (Some f) s t = absurd (value_or_fault KeyData octets f s.0.place s.0.kind t s.1)
 same_key_data octets None None s t = refl
 
-pub same_facts : (akm : Akm) (h : List Act) (p : Node) (k : KeyMessage) (f g : Facts) → KnowsM2 akm h p k f → KnowsM2 akm h p k g → f ≡ g
-same_facts akm h p k f g s t =
-    ap (λ (x : Option (List ℕ)). record { requested = x; data_ = f.data_ }) (same_requested akm (heard p kind.AssocReq h) f.requested g.requested s.requested t.requested)
-    ∙ ap (λ (x : Option ElementFields). record { requested = g.requested; data_ = x }) (same_key_data k.fields.key_data f.data_ g.data_ s.data_ t.data_)
+pub same_m2 : (akm : Akm) (h : List Act) (p : Node) (k : KeyMessage) (f g : Facts) → KnowsM2 akm h p k f → KnowsM2 akm h p k g → m2_key_data f.requested f.data_ ≡ m2_key_data g.requested g.data_
+same_m2 akm h p k f g s t =
+    ap (λ (x : Option (List ℕ)). m2_key_data x f.data_) (same_requested akm (heard p kind.AssocReq h) f.requested g.requested s.requested t.requested)
+    ∙ ap (m2_key_data g.requested) (same_key_data k.fields.key_data f.data_ g.data_ s.data_ t.data_)
+
+-- key data has one plain text at most
+same_plain : (kek octets : List ℕ) (x y : Option (List ℕ)) → IsUnwrapped kek octets x → IsUnwrapped kek octets y → x ≡ y
+same_plain kek octets (Some a) (Some b) s t = ap (λ (v : List ℕ). Some v) (Wraps-unique kek a b octets s.0 s.1 t.1)
+same_plain kek octets (Some a) None s t = absurd (t a s.0 s.1)
+same_plain kek octets None (Some b) s t = absurd (s b t.0 t.1)
+same_plain kek octets None None s t = refl
+
+same_unwrapped : (akm : Akm) (u v : Option (List ℕ)) (x y : Option ElementFields) → u ≡ v → ((plain : List ℕ) → u ≡ Some plain → ReadsKeyData plain x) → ((plain : List ℕ) → v ≡ Some plain → ReadsKeyData plain y)
+    → m3_wrapped akm u x ≡ m3_wrapped akm v y
+same_unwrapped akm None None x y e s t = refl
+same_unwrapped akm None (Some b) x y e s t = cc
+same_unwrapped akm (Some a) None x y e s t = cc
+same_unwrapped akm (Some a) (Some b) x y e s t = ap (m3_key_data akm) (same_key_data a x y (s a refl) (t a (sym e)))
+
+pub same_m3 : (akm : Akm) (kek : List ℕ) (k : KeyMessage) (f g : Facts) → KnowsM3 kek k f → KnowsM3 kek k g → m3_wrapped akm f.unwrapped f.data_ ≡ m3_wrapped akm g.unwrapped g.data_
+same_m3 akm kek k f g s t =
+    same_unwrapped akm f.unwrapped g.unwrapped f.data_ g.data_ (same_plain kek k.fields.key_data f.unwrapped g.unwrapped s.unwrapped t.unwrapped) s.data_ t.data_
+
+opened_by : (akm : Akm) (u v : Option (List ℕ)) (x y : Option ElementFields) → u ≡ v → ((plain : List ℕ) → u ≡ Some plain → ReadsKeyData plain x) → ((plain : List ℕ) → v ≡ Some plain → ReadsKeyData plain y)
+    → m3_wrapped akm u x ≡ Accepted → x ≡ y
+opened_by akm None v x y e s t accepted = cc
+opened_by akm (Some a) v x y e s t accepted = same_key_data a x y (s a refl) (t a (sym e))
+
+-- where the key data was opened, what it says is one thing
+pub same_opened : (akm : Akm) (kek : List ℕ) (k : KeyMessage) (f g : Facts) → KnowsM3 kek k f → KnowsM3 kek k g → m3_wrapped akm f.unwrapped f.data_ ≡ Accepted → f.data_ ≡ g.data_
+same_opened akm kek k f g s t accepted =
+    opened_by akm f.unwrapped g.unwrapped f.data_ g.data_ (same_plain kek k.fields.key_data f.unwrapped g.unwrapped s.unwrapped t.unwrapped) s.data_ t.data_ accepted

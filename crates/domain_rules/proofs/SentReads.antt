@@ -1,6 +1,6 @@
 -- Frames as they are sent read as what they carry, in any network.
 use Rattle.std.proofs.Common.{◌≡◌, ℕ, ◌+◌, ◌^◌, ◌<◌, false, List, [], ◌∷◌, ◌++◌, length, drop, None, refl, sym, ap, subst, ◌∙◌, arith}
-use Rattle.std.specs.Prelude.{not, nat_lt}
+use Rattle.std.specs.Prelude.{not, nat_lt, replicate}
 use Rattle.std.specs.Int.{w64}
 use Rattle.std.proofs.lemmas.Bool.{lt-ltb}
 use Rattle.std.proofs.lemmas.List.{append-nil, append_assoc, length-append, length-take-le, take_all}
@@ -34,10 +34,12 @@ use Rattle.key_hierarchy.specs.Keys.{ptk}
 use Rattle.key_hierarchy.specs.declared.inputs.Inputs.{Inputs}
 use Rattle.run_journal.specs.declared.domain.Domain.{Domain}
 use Rattle.run_journal.specs.declared.acts.Kind.TheVariants as kind
+use Rattle.run_journal.specs.Acts.{GroupKey}
 use Rattle.domain_rules.specs.Network.{address, bssid, direction}
 use Rattle.domain_rules.specs.Reading.{Management, Managed, KeyMessage, Keyed, IsManaged, Reads}
 use Rattle.domain_rules.specs.Verdict.{replay_counter}
-use Rattle.domain_rules.specs.Frames.{aid, assoc_req_elements, in_data, m2_frame}
+use Rattle.domain_rules.specs.Frames.{aid, assoc_req_elements, in_data, m2_frame, wrapped, m3_key_data, m3_frame, m4_frame}
+use Rattle.domain_rules.proofs.CarriedKey.{IsGroupKey, few_wrapped}
 
 -- ---- elements
 
@@ -229,6 +231,36 @@ pub reads-m2 : (d : Domain) (n p : Node) (i : Inputs) (counter : ℕ) → HasMic
     → Reads d.akm (in_data d n p (m2_frame d i counter)) (Keyed (m2_message d n p i counter))
 reads-m2 d n p i counter has l k c h =
     reads-sealed d n p M2 (ptk i).kck (m2_fields d i counter) has l k (fits-m2 d i counter c h) (message_sent M2 d.akm counter 0 i.snonce (rsne_octets d.akm None) (omega arith))
+
+-- M3, before its MIC is put in
+abbrev pub m3_fields : Domain → Inputs → ℕ → GroupKey → ℕ → KeyFields
+m3_fields d i counter g rsc = sent_fields M3 d.akm counter i.anonce rsc (wrapped (ptk i).kek (m3_key_data d g))
+
+pub fits-m3 : (d : Domain) (i : Inputs) (counter : ℕ) (g : GroupKey) (rsc : ℕ) → counter < 2 ^ 64 → length i.anonce ≡ 32 → IsGroupKey g → FitsKeyFrame (m3_fields d i counter g rsc)
+fits-m3 d i counter g rsc c h is = sent_fits M3 d.akm counter rsc i.anonce (wrapped (ptk i).kek (m3_key_data d g)) c h (few_wrapped d i g is)
+
+abbrev pub m3_message : Domain → Node → Node → Inputs → ℕ → GroupKey → ℕ → KeyMessage
+m3_message d n p i counter g rsc = key_message d n p M3 (with_mic d.akm (ptk i).kck (m3_fields d i counter g rsc)) (m3_frame d i counter g rsc)
+
+pub reads-m3 : (d : Domain) (n p : Node) (i : Inputs) (counter : ℕ) (g : GroupKey) (rsc : ℕ) → HasMic d.akm → IsAddress (address d n) → IsAddress (address d p) → counter < 2 ^ 64 → length i.anonce ≡ 32 → IsGroupKey g
+    → Reads d.akm (in_data d n p (m3_frame d i counter g rsc)) (Keyed (m3_message d n p i counter g rsc))
+reads-m3 d n p i counter g rsc has l k c h is =
+    reads-sealed d n p M3 (ptk i).kck (m3_fields d i counter g rsc) has l k (fits-m3 d i counter g rsc c h is) (message_sent M3 d.akm counter rsc i.anonce (wrapped (ptk i).kek (m3_key_data d g)) tt)
+
+-- M4, before its MIC is put in: its nonce is zeros whatever is given
+abbrev pub m4_fields : Domain → ℕ → KeyFields
+m4_fields d counter = sent_fields M4 d.akm counter [] 0 []
+
+pub fits-m4 : (d : Domain) (counter : ℕ) → counter < 2 ^ 64 → FitsKeyFrame (m4_fields d counter)
+fits-m4 d counter c = sent_fits M4 d.akm counter 0 (replicate 32 0) [] c refl (omega arith)
+
+abbrev pub m4_message : Domain → Node → Node → Inputs → ℕ → KeyMessage
+m4_message d n p i counter = key_message d n p M4 (with_mic d.akm (ptk i).kck (m4_fields d counter)) (m4_frame d i counter)
+
+pub reads-m4 : (d : Domain) (n p : Node) (i : Inputs) (counter : ℕ) → HasMic d.akm → IsAddress (address d n) → IsAddress (address d p) → counter < 2 ^ 64
+    → Reads d.akm (in_data d n p (m4_frame d i counter)) (Keyed (m4_message d n p i counter))
+reads-m4 d n p i counter has l k c =
+    reads-sealed d n p M4 (ptk i).kck (m4_fields d counter) has l k (fits-m4 d counter c) (message_sent M4 d.akm counter 0 [] [] refl)
 
 -- its MIC is that of its octets
 pub mic-sealed : (akm : Akm) (kck : List ℕ) (f : KeyFields) → HasMic akm → FitsKeyFrame f → (with_mic akm kck f).mic ≡ mic akm kck (sealed akm kck (frame_octets f))

@@ -4,18 +4,18 @@ use Rattle.std.specs.Prelude.{not, ◌||◌}
 use Rattle.std.proofs.lemmas.Bool.{cases_lt}
 use Rattle.domain_base.specs.declared.names.Node.{Node}
 use Rattle.rsn_elements.specs.Elements.{ElementFields}
-use Rattle.eapol_key.specs.declared.messages.Message.TheVariants.{M1, M2}
+use Rattle.eapol_key.specs.declared.messages.Message.TheVariants.{M3}
 use Rattle.run_journal.specs.declared.domain.Domain.{Domain}
 use Rattle.run_journal.specs.declared.acts.Kind.TheVariants as kind
 use Rattle.run_journal.specs.declared.acts.Reason.TheVariants as reason
-use Rattle.run_journal.specs.declared.acts.Outcome.TheVariants.{Accepted, Refused}
+use Rattle.run_journal.specs.declared.acts.Outcome.TheVariants.{Accepted, Answered, Refused}
 use Rattle.run_journal.specs.declared.acts.Act.{Act}
 use Rattle.run_journal.specs.Questions.{draws}
 use Rattle.domain_rules.specs.Network.{direction, goes_like, peer_of, inputs, last_draw}
 use Rattle.domain_rules.specs.Reading.{Management, KeyMessage, Reading, Managed, Keyed, Sealed}
 use Rattle.domain_rules.specs.Verdict.{Facts, first_verdict, further, verdict, own, is_mine, is_mine_or_group, management_sender, management_verdict, key_verdict}
-use Rattle.domain_rules.specs.Rows.{connect_acts, ConnectRow, Spent, Asks, TakeRows, By_assoc_req, By_assoc_resp, By_m1, By_m2, By_ignored, By_refusal}
-use Rattle.domain_rules.proofs.OneOutcome.{Decided, Took_in, Passed, Thrown, decided, InAttempt, not_thrown, from_some, sender-some, management_kind, key_kind, and_accepted}
+use Rattle.domain_rules.specs.Rows.{connect_acts, ConnectRow, Spent, Asks, TakeRows, By_assoc_req, By_assoc_resp, By_m1, By_m2, By_m3, By_repeated_m3, By_m4, By_ignored, By_refusal}
+use Rattle.domain_rules.proofs.OneOutcome.{Decided, Took_in, Repeated, Passed, Thrown, decided, Awaited, Is_m1, Is_m2, Is_m3, Is_m4, HasKeying, taken_behind, taken_from, not_thrown, from_some, sender-some, management_kind, key_kind, and_accepted, and_answered, answered_behind, answered_from, answered_kind, managed_unanswered, sealed_unanswered}
 
 -- ---- a row for each
 
@@ -27,12 +27,21 @@ managed_row : (d : Domain) (first : ℕ) (n : Node) (h : List Act) (octets : Lis
 managed_row d first n h octets b e facts p from (inl k) s = (_, By_assoc_req (record { b = b; e = e; is = refl; kind_is = k; p = p; from = from; accepted = s; says = refl }))
 managed_row d first n h octets b e facts p from (inr k) s = (_, By_assoc_resp (record { b = b; e = e; is = refl; kind_is = k; p = p; from = from; accepted = s; says = refl }))
 
-keyed_row : (d : Domain) (first : ℕ) (n : Node) (h : List Act) (octets : List ℕ) (k : KeyMessage) (facts : Facts) (p : Node) → peer_of d n k.header.a2 ≡ Some p → ((k.message ≡ M1) × InAttempt p h) ⊎ ((k.message ≡ M2) × InAttempt p h)
+keyed_row : (d : Domain) (first : ℕ) (n : Node) (h : List Act) (octets : List ℕ) (k : KeyMessage) (facts : Facts) (p : Node) → peer_of d n k.header.a2 ≡ Some p → Awaited p h k.message
     → verdict d first n h (Keyed k) facts ≡ Accepted → HasRow d first n h octets (Keyed k) facts
-keyed_row d first n h octets k facts p from (inl m) s =
-    (_, By_m1 (record { k = k; is = refl; message_is = m.0; p = p; from = from; accepted = s; part = m.1.0; awaited = m.1.1; i = inputs d n p (own m.1.0) k.fields.nonce; inputs_are = refl; says = refl }))
-keyed_row d first n h octets k facts p from (inr m) s =
-    (_, By_m2 (record { k = k; is = refl; message_is = m.0; p = p; from = from; accepted = s; part = m.1.0; awaited = m.1.1; i = inputs d n p (own m.1.0) k.fields.nonce; inputs_are = refl; says = refl }))
+keyed_row d first n h octets k facts p from (Is_m1 m a) s =
+    (_, By_m1 (record { k = k; is = refl; message_is = m; p = p; from = from; accepted = s; part = a.0; awaited = a.1; i = inputs d n p (own a.0) k.fields.nonce; inputs_are = refl; says = refl }))
+keyed_row d first n h octets k facts p from (Is_m2 m a) s =
+    (_, By_m2 (record { k = k; is = refl; message_is = m; p = p; from = from; accepted = s; part = a.0; awaited = a.1; i = inputs d n p (own a.0) k.fields.nonce; inputs_are = refl; says = refl }))
+keyed_row d first n h octets k facts p from (Is_m3 m a) s = (_, By_m3 (record { k = k; is = refl; message_is = m; p = p; from = from; accepted = s; y = a.0; awaited = a.1; says = refl }))
+keyed_row d first n h octets k facts p from (Is_m4 m a) s =
+    (_, By_m4 (record { k = k; is = refl; message_is = m; p = p; from = from; accepted = s; part = a.part; awaited = a.awaited; x = a.x; keyed = a.keyed; says = refl }))
+
+-- an M3 that is answered was awaited in a session
+answered_row : (d : Domain) (first : ℕ) (n : Node) (h : List Act) (octets : List ℕ) (k : KeyMessage) (facts : Facts) (p : Node) → peer_of d n k.header.a2 ≡ Some p → (k.message ≡ M3) × HasKeying p h
+    → verdict d first n h (Keyed k) facts ≡ Answered → HasRow d first n h octets (Keyed k) facts
+answered_row d first n h octets k facts p from m s =
+    (_, By_repeated_m3 (record { k = k; is = refl; message_is = m.0; p = p; from = from; answered = s; y = m.1.0; awaited = m.1.1; says = refl }))
 
 first_row : (d : Domain) (first : ℕ) (n : Node) (h : List Act) (octets : List ℕ) (r : Reading) (facts : Facts) → first_verdict d first n h r ≡ Accepted → verdict d first n h r facts ≡ Accepted → HasRow d first n h octets r facts
 first_row d first n h octets (Managed b e) facts a s =
@@ -40,17 +49,23 @@ first_row d first n h octets (Managed b e) facts a s =
     managed_row d first n h octets b e facts behind.0 (sender-some d n behind.0 b.header (peer_of d n b.header.a2) behind.1.0) (management_kind d first n h behind.0 b.kind b e behind.1.1) s
 first_row d first n h octets (Keyed k) facts a s =
     let behind = from_some (peer_of d n k.header.a2) (λ p. key_verdict d n h p k.message k) (not_thrown (not (is_mine d n k.header) || goes_like k.direction (direction n)) reason.NotForMe _ a) in
-    keyed_row d first n h octets k facts behind.0 behind.1.0 (key_kind d n h behind.0 k.message k behind.1.1) s
+    keyed_row d first n h octets k facts behind.0 behind.1.0 (key_kind d n h behind.0 k.message k (inl behind.1.1)) s
 first_row d first n h octets (Sealed header way tid body) facts a s =
     let behind = from_some (peer_of d n header.a2) (λ p. Refused reason.NoKey) (not_thrown (not (is_mine_or_group d n header) || goes_like way (direction n)) reason.NotForMe _ a) in
     absurd (cc (behind.1.1))
 first_row d first n h octets _ facts a s = cc
 
-accepted_row : (d : Domain) (first : ℕ) (n : Node) (h : List Act) (octets : List ℕ) (r : Reading) (facts : Facts) → verdict d first n h r facts ≡ Accepted → HasRow d first n h octets r facts
-accepted_row d first n h octets r facts s = first_row d first n h octets r facts (and_accepted (first_verdict d first n h r) (further r facts) s).0 s
+repeated_row : (d : Domain) (first : ℕ) (n : Node) (h : List Act) (octets : List ℕ) (r : Reading) (facts : Facts) → first_verdict d first n h r ≡ Answered → verdict d first n h r facts ≡ Answered → HasRow d first n h octets r facts
+repeated_row d first n h octets (Managed b e) facts a s = absurd (managed_unanswered d first n h b e a)
+repeated_row d first n h octets (Keyed k) facts a s =
+    let behind = taken_from (peer_of d n k.header.a2) (λ p. key_verdict d n h p k.message k) (taken_behind (not (is_mine d n k.header) || goes_like k.direction (direction n)) reason.NotForMe _ (inr a)) in
+    answered_row d first n h octets k facts behind.0 behind.1.0 (answered_kind d n h behind.0 k.message k (answered_from (peer_of d n k.header.a2) behind.0 (λ p. key_verdict d n h p k.message k) behind.1.0 (answered_behind (not (is_mine d n k.header) || goes_like k.direction (direction n)) reason.NotForMe _ a))) s
+repeated_row d first n h octets (Sealed header way tid body) facts a s = absurd (sealed_unanswered d n header way a)
+repeated_row d first n h octets _ facts a s = cc
 
 by_outcome : (d : Domain) (first : ℕ) (n : Node) (h : List Act) (octets : List ℕ) (r : Reading) (facts : Facts) → Decided (verdict d first n h r facts) → HasRow d first n h octets r facts
-by_outcome d first n h octets r facts (Took_in s) = accepted_row d first n h octets r facts s
+by_outcome d first n h octets r facts (Took_in s) = first_row d first n h octets r facts (and_accepted (first_verdict d first n h r) (further d.akm r facts) s) s
+by_outcome d first n h octets r facts (Repeated s) = repeated_row d first n h octets r facts (and_answered (first_verdict d first n h r) (further d.akm r facts) s) s
 by_outcome d first n h octets r facts (Passed s) = (_, By_ignored (record { ignored = s; says = refl }))
 by_outcome d first n h octets r facts (Thrown why s) = (_, By_refusal (record { why = why; refused = s; says = refl }))
 

@@ -1,24 +1,30 @@
--- The first path through a network: association, M1 and M2. And a small network.
-use Rattle.std.specs.Prelude.{ℕ, List, [], ◌∷◌, Some, codes}
+-- A whole four-way handshake, with M3 repeated, and the begin of a second. And a small network.
+use Rattle.std.specs.Prelude.{◌≡◌, ℕ, List, [], ◌∷◌, Some, None, codes}
 use Rattle.std.specs.List.{AllByRecursion}
 use Rattle.domain_base.specs.declared.names.Mac.{Mac}
-use Rattle.air_frame.specs.Sent.{IsAddress}
-use Rattle.run_journal.specs.declared.domain.ListedAp.{ListedAp}
 use Rattle.domain_base.specs.declared.names.Akm.TheVariants.{Psk}
 use Rattle.domain_base.specs.declared.names.Node.TheVariants.{Ap, Sta}
-use Rattle.eapol_key.specs.declared.messages.Message.TheVariants.{M2}
+use Rattle.domain_base.specs.declared.names.Peer.TheVariants.{One, All}
+use Rattle.air_frame.specs.Sent.{IsAddress}
+use Rattle.eapol_key.specs.declared.messages.Message.TheVariants.{M3}
 use Rattle.key_hierarchy.specs.declared.inputs.Inputs.{Inputs}
 use Rattle.key_hierarchy.specs.Keys.{ptk}
+use Rattle.run_journal.specs.declared.domain.ListedAp.{ListedAp}
 use Rattle.run_journal.specs.declared.domain.Domain.{Domain}
 use Rattle.run_journal.specs.declared.domain.Event.{Event}
-use Rattle.run_journal.specs.declared.domain.Event.TheVariants.{Connect, Deliver}
-use Rattle.run_journal.specs.declared.acts.Seal.{Seal}
-use Rattle.run_journal.specs.declared.acts.Kind.TheVariants.{Key}
-use Rattle.run_journal.specs.declared.acts.Outcome.TheVariants.{Accepted}
-use Rattle.run_journal.specs.declared.acts.Act.TheVariants.{Derived, Took}
+use Rattle.run_journal.specs.declared.domain.Event.TheVariants.{Connect, Deliver, Retry}
+use Rattle.run_journal.specs.declared.acts.Act.TheVariants.{Drew, Took, Installed, Finished}
+use Rattle.run_journal.specs.declared.acts.Act.{Act}
 use Rattle.run_journal.specs.declared.acts.Entry.{Entry}
-use Rattle.run_journal.specs.Questions.{history}
+use Rattle.run_journal.specs.declared.acts.Drawn.TheVariants.{Nonce}
+use Rattle.run_journal.specs.declared.acts.Kind.TheVariants.{Key}
+use Rattle.run_journal.specs.declared.acts.Outcome.TheVariants.{Answered}
+use Rattle.run_journal.specs.declared.acts.Seal.{Seal}
+use Rattle.run_journal.specs.declared.acts.Key.TheVariants.{Pairwise, Group}
+use Rattle.run_journal.specs.Acts.{GroupKey}
+use Rattle.run_journal.specs.Questions.{history, attempt, session, own_nonce}
 use Rattle.run_journal.specs.Premises.{In}
+use Rattle.domain_rules.specs.Network.{mac, nonce, inputs}
 use Rattle.domain_rules.specs.Explained.{Explained}
 
 -- one access point and one station, of any seed, name and pre-shared key
@@ -38,18 +44,43 @@ pub record AreWhole (d : Domain) : Type 0 where
   pub aps : AllByRecursion (λ (a : ListedAp). IsAddress a.address.0) d.aps
   pub stas : AllByRecursion (λ (m : Mac). IsAddress m.0) d.stas
 
--- the last round first: a station asks an access point, and the four frames come to their receivers
-abbrev pub first_path : ℕ → ℕ → List (List Event)
-first_path a s =
-    (Deliver 4 (Ap a) ∷ []) ∷ (Deliver 3 (Sta s) ∷ []) ∷ (Deliver 2 (Sta s) ∷ []) ∷ (Deliver 1 (Ap a) ∷ []) ∷ (Connect s a ∷ []) ∷ []
+-- the last round first: a station asks an access point, the messages up to M3 are accepted, M3 is sent once more and answered
+-- once more, the last answer is accepted, and the station asks again
+abbrev pub handshake : ℕ → ℕ → List (List Event)
+handshake a s =
+    (Deliver 9 (Ap a) ∷ []) ∷ (Connect s a ∷ []) ∷ (Deliver 8 (Ap a) ∷ []) ∷ (Deliver 7 (Sta s) ∷ []) ∷ (Retry a s ∷ [])
+    ∷ (Deliver 5 (Sta s) ∷ []) ∷ (Deliver 4 (Ap a) ∷ []) ∷ (Deliver 3 (Sta s) ∷ []) ∷ (Deliver 2 (Sta s) ∷ []) ∷ (Deliver 1 (Ap a) ∷ []) ∷ (Connect s a ∷ []) ∷ []
 
--- a journal that these rounds explain, in which both nodes derive one key and the access point accepts M2
-pub record HasFirstPath (d : Domain) (a s : ℕ) : Type 0 where
+-- a journal that these rounds explain, in which both nodes finish a first attempt with one key of the same inputs installed, and
+-- the station with the access point's group key, a repeated M3 is answered, and both nodes are in a second attempt with a nonce
+-- of its own
+pub record HasHandshake (d : Domain) (a s : ℕ) : Type 0 where
   pub journal : List Entry
-  pub explained : Explained d (first_path a s) journal
+  pub explained : Explained d (handshake a s) journal
+  -- the pairwise key, of the nonces of the first attempt
   pub i : Inputs
-  pub station : In (Derived (Ap a) i (ptk i)) (history (Sta s) journal)
-  pub access_point : In (Derived (Sta s) i (ptk i)) (history (Ap a) journal)
+  pub of_first : i ≡ inputs d (Sta s) (Ap a) (nonce d (Sta s) 0) (nonce d (Ap a) 1)
+  pub station : In (Installed (One (Ap a)) (Pairwise (ptk i).tk i)) (history (Sta s) journal)
+  pub access_point : In (Installed (One (Sta s)) (Pairwise (ptk i).tk i)) (history (Ap a) journal)
+  pub station_ends : In (Finished (Ap a) i) (history (Sta s) journal)
+  pub access_point_ends : In (Finished (Sta s) i) (history (Ap a) journal)
+  -- the group key
+  pub group : GroupKey
+  pub current : In (Installed All (Group group.key group.id (mac d (Ap a)))) (history (Ap a) journal)
+  pub given : In (Installed (One (Ap a)) (Group group.key group.id (mac d (Ap a)))) (history (Sta s) journal)
+  -- M3, answered once more
   pub octets : List ℕ
   pub seal : Seal
-  pub accepted : In (Took (Some (Sta s)) octets (Key M2) Accepted (Some seal)) (history (Ap a) journal)
+  pub repeated : In (Took (Some (Ap a)) octets (Key M3) Answered (Some seal)) (history (Sta s) journal)
+  -- the station's second attempt: its session is closed
+  pub station_part : List Act
+  pub station_again : attempt (Ap a) (history (Sta s) journal) ≡ Some station_part
+  pub station_nonce : own_nonce station_part ≡ Some (nonce d (Sta s) 1)
+  pub station_drew : In (Drew (Nonce (nonce d (Sta s) 1))) (history (Sta s) journal)
+  pub station_drops : session (Ap a) (history (Sta s) journal) ≡ None
+  -- the access point's second attempt: its session stays. The first that it draws is its group key
+  pub access_point_part : List Act
+  pub access_point_again : attempt (Sta s) (history (Ap a) journal) ≡ Some access_point_part
+  pub access_point_nonce : own_nonce access_point_part ≡ Some (nonce d (Ap a) 2)
+  pub access_point_drew : In (Drew (Nonce (nonce d (Ap a) 2))) (history (Ap a) journal)
+  pub access_point_keeps : session (Sta s) (history (Ap a) journal) ≡ Some (record { inputs = i; ptk = ptk i })

@@ -1,10 +1,10 @@
 -- Which journals a script's rounds explain. Journals, histories and rounds are NEWEST FIRST.
-use Rattle.std.specs.Prelude.{◌≡◌, ℕ, zero, suc, ◌<◌, cond, List, [], ◌∷◌, length, Option}
+use Rattle.std.specs.Prelude.{◌≡◌, ℕ, zero, suc, ◌<◌, cond, List, [], ◌∷◌, ◌++◌, length, take, drop, slice_index, bit_xor, Option}
 use Rattle.domain_base.specs.declared.names.Node.{Node}
 use Rattle.domain_base.specs.declared.names.Node.TheVariants.{Ap, Sta}
 use Rattle.run_journal.specs.declared.domain.Domain.{Domain}
 use Rattle.run_journal.specs.declared.domain.Event.{Event}
-use Rattle.run_journal.specs.declared.domain.Event.TheVariants.{Connect, Deliver}
+use Rattle.run_journal.specs.declared.domain.Event.TheVariants.{Connect, Deliver, Alter, Cut, Inject, Retry}
 use Rattle.run_journal.specs.declared.acts.Act.{Act}
 use Rattle.run_journal.specs.declared.acts.Act.TheVariants.{Sent}
 use Rattle.domain_base.specs.declared.names.Peer.{Peer}
@@ -15,6 +15,7 @@ use Rattle.run_journal.specs.Acts.{is_sent}
 use Rattle.run_journal.specs.Questions.{history}
 use Rattle.run_journal.specs.Premises.{In}
 use Rattle.domain_rules.specs.Rows.{NodeEvent, Take, Begin, Adds, start_acts}
+use Rattle.domain_rules.specs.Rows as again
 
 -- how many frames were sent
 abbrev pub frames : List Entry → ℕ
@@ -38,10 +39,18 @@ pub record WasSent (past : List Entry) (round number : ℕ) (octets : List ℕ) 
   pub is : entry.number ≡ number
   pub act : (p : Peer) × ((k : Kind) × ((s : Option Seal) × (entry.act ≡ Sent p k octets s)))
 
+-- the octets with the one at that place changed by exclusive or
+abbrev pub altered : ℕ → ℕ → List ℕ → List ℕ
+altered place mask octets = take place octets ++ bit_xor (slice_index octets place) mask ∷ drop (suc place) octets
+
 -- what the event is, and at which node, in that round after that journal
 abbrev pub Happens : Event → List Entry → ℕ → Node → NodeEvent → Type 0
 Happens (Connect s a) past round n event = (n ≡ Sta s) × (event ≡ Begin a)
 Happens (Deliver number to) past round n event = (octets : List ℕ) × (WasSent past round number octets × ((n ≡ to) × (event ≡ Take octets)))
+Happens (Alter number place mask to) past round n event = (octets : List ℕ) × (WasSent past round number octets × ((n ≡ to) × (event ≡ Take (altered place mask octets))))
+Happens (Cut number size to) past round n event = (octets : List ℕ) × (WasSent past round number octets × ((n ≡ to) × (event ≡ Take (take size octets))))
+Happens (Inject to octets) past round n event = (n ≡ to) × (event ≡ Take octets)
+Happens (Retry a s) past round n event = (n ≡ Ap a) × (event ≡ again.Retry s)
 
 -- one event in that round takes the old journal to the new one
 pub record Step (d : Domain) (round : ℕ) (event : Event) (old new : List Entry) : Type 0 where

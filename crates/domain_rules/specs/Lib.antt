@@ -3,6 +3,7 @@ pub mod Reading
 pub mod Frames
 pub mod Verdict
 pub mod Counters
+pub mod GroupKeys
 pub mod Rows
 pub mod Explained
 pub mod Example

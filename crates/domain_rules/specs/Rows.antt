@@ -1,13 +1,14 @@
 -- What one event adds to the history of a node: its acts, in order. A record for each row of the tables of events and of
 -- awaited messages; the acts stand last.
-use Rattle.std.specs.Prelude.{◌≡◌, ℕ, ◌+◌, ◌<◌, ◌≤◌, Bool, true, false, cond, List, [], ◌∷◌, ◌++◌, Option, Some, None, option_map, option_and_then}
+use Rattle.std.specs.Prelude.{◌≡◌, ℕ, ◌+◌, ◌<◌, ◌≤◌, Bool, true, false, cond, List, [], ◌∷◌, ◌++◌, Option, Some, None, option_map, option_and_then, nat_lt, if◌then◌else◌}
 use Rattle.domain_base.specs.declared.names.Node.{Node}
-use Rattle.domain_base.specs.declared.names.Node.TheVariants.{Ap}
-use Rattle.domain_base.specs.declared.names.Peer.TheVariants.{All}
+use Rattle.domain_base.specs.declared.names.Node.TheVariants.{Ap, Sta}
+use Rattle.domain_base.specs.declared.names.Peer.TheVariants.{One, All}
 use Rattle.air_frame.specs.Fields.{HeaderFields}
+use Rattle.rsn_elements.specs.KeyData.{GtkKdeFields}
 use Rattle.rsn_elements.specs.Elements.{ElementFields}
 use Rattle.eapol_key.specs.declared.messages.Message.{Message}
-use Rattle.eapol_key.specs.declared.messages.Message.TheVariants.{M1, M2}
+use Rattle.eapol_key.specs.declared.messages.Message.TheVariants.{M1, M2, M3, M4}
 use Rattle.key_hierarchy.specs.Keys.{ptk}
 use Rattle.key_hierarchy.specs.declared.inputs.Inputs.{Inputs}
 use Rattle.run_journal.specs.declared.domain.Domain.{Domain}
@@ -20,17 +21,20 @@ use Rattle.run_journal.specs.declared.acts.Reason.{Reason}
 use Rattle.run_journal.specs.declared.acts.Reason.TheVariants as reason
 use Rattle.run_journal.specs.declared.acts.Why.TheVariants as why
 use Rattle.run_journal.specs.declared.acts.Outcome.{Outcome}
-use Rattle.run_journal.specs.declared.acts.Outcome.TheVariants.{Accepted, Ignored, Refused, Done}
-use Rattle.run_journal.specs.declared.acts.Outcome.TheVariants.{Idle as IdleBy}
+use Rattle.run_journal.specs.declared.acts.Outcome.TheVariants.{Accepted, Answered, Ignored, Refused, Done}
+use Rattle.run_journal.specs.declared.acts.Outcome.TheVariants.{Idle as IdleBy, GaveUp as GivenUp}
 use Rattle.run_journal.specs.declared.acts.Seal.{Seal}
-use Rattle.run_journal.specs.declared.acts.Key.TheVariants.{Group}
+use Rattle.run_journal.specs.declared.acts.Key.TheVariants.{Pairwise, Group}
 use Rattle.run_journal.specs.declared.acts.Act.{Act}
-use Rattle.run_journal.specs.declared.acts.Act.TheVariants.{Opened, Closed, Drew, Derived, Took, Installed, Idle}
-use Rattle.run_journal.specs.Questions.{attempt, pending, associated, draws}
+use Rattle.run_journal.specs.declared.acts.Act.TheVariants.{Opened, Closed, Drew, Derived, Took, Installed, Finished, GaveUp, Idle}
+use Rattle.run_journal.specs.Questions.{attempt, derivation, session, before_sent, pending, associated, draws}
+use Rattle.run_journal.specs.Acts.{Derivation, GroupKey}
 use Rattle.domain_rules.specs.Network.{mac, peer_of, nonce, gtk, inputs, last_draw}
 use Rattle.domain_rules.specs.Reading.{Management, KeyMessage, Reading, Managed, Keyed, Reads, kind_of, header_of}
-use Rattle.domain_rules.specs.Frames.{sent_assoc_req, sent_assoc_resp, sent_refusal, sent_m1, sent_m2, frame_seal}
-use Rattle.domain_rules.specs.Verdict.{Facts, Knows, verdict, own}
+use Rattle.domain_rules.specs.Frames.{sent_assoc_req, sent_assoc_resp, sent_refusal, sent_m1, sent_m2, sent_m3, sent_m4, frame_seal}
+use Rattle.domain_rules.specs.Verdict.{Facts, Knows, Keying, m3_keying, m4_keying, verdict, own, by_connect, has_heard}
+use Rattle.domain_rules.specs.Counters.{sent_count, next_in_attempt}
+use Rattle.domain_rules.specs.GroupKeys.{newest, newest_uses, give}
 
 -- what an event is to one node
 pub data NodeEvent : Type 0 where
@@ -38,10 +42,16 @@ pub data NodeEvent : Type 0 where
   Take : List ℕ → NodeEvent
   -- a station begins an attempt with that access point
   Begin : ℕ → NodeEvent
+  -- an access point sends that station once more what it waits to have answered
+  Retry : ℕ → NodeEvent
 
 abbrev pub close_attempt : Node → Option (List Act) → List Act
 close_attempt p None = []
 close_attempt p (Some part) = Closed p Attempt ∷ []
+
+abbrev pub close_session : Node → Option Derivation → List Act
+close_session p None = []
+close_session p (Some x) = Closed p Session ∷ []
 
 abbrev pub close_pending : Option Node → List Act
 close_pending None = []
@@ -106,7 +116,7 @@ pub record M1Row (d : Domain) (first : ℕ) (n : Node) (h : List Act) (octets : 
   pub inputs_are : i ≡ inputs d n p (own part) k.fields.nonce
   pub says : g ≡ Took (Some p) octets (kind.Key M1) Accepted None ∷ Derived p i (ptk i) ∷ sent_m2 d n p i k.fields.counter ∷ []
 
--- an access point derives the same key by M2
+-- an access point derives the same key by M2, and answers with M3
 pub record M2Row (d : Domain) (first : ℕ) (n : Node) (h : List Act) (octets : List ℕ) (r : Reading) (facts : Facts) (g : List Act) : Type 0 where
   pub k : KeyMessage
   pub is : r ≡ Keyed k
@@ -118,7 +128,57 @@ pub record M2Row (d : Domain) (first : ℕ) (n : Node) (h : List Act) (octets : 
   pub awaited : attempt p h ≡ Some part
   pub i : Inputs
   pub inputs_are : i ≡ inputs d n p (own part) k.fields.nonce
-  pub says : g ≡ Took (Some p) octets (kind.Key M2) Accepted (Some (frame_seal (ptk i).kck k.octets)) ∷ Derived p i (ptk i) ∷ []
+  pub says : g ≡ Took (Some p) octets (kind.Key M2) Accepted (Some (frame_seal (ptk i).kck k.octets)) ∷ Derived p i (ptk i)
+      ∷ sent_m3 d n p i (next_in_attempt p part) (newest h) (newest_uses h) ∷ []
+
+abbrev pub carried_in : Option GtkKdeFields → GroupKey
+carried_in None = record { key = []; id = 0 }
+carried_in (Some g) = record { key = g.key; id = g.id }
+
+-- the group key that key data carries
+abbrev pub carried : Option ElementFields → GroupKey
+carried None = record { key = []; id = 0 }
+carried (Some e) = carried_in e.gtk
+
+-- a station installs the pairwise key by M3, and the group key, and answers with M4
+pub record M3Row (d : Domain) (first : ℕ) (n : Node) (h : List Act) (octets : List ℕ) (r : Reading) (facts : Facts) (g : List Act) : Type 0 where
+  pub k : KeyMessage
+  pub is : r ≡ Keyed k
+  pub message_is : k.message ≡ M3
+  pub p : Node
+  pub from : sender d n r ≡ Some p
+  pub accepted : verdict d first n h r facts ≡ Accepted
+  pub y : Keying
+  pub awaited : m3_keying p h ≡ Some y
+  pub says : g ≡ Took (Some p) octets (kind.Key M3) Accepted (Some (frame_seal y.ptk.kck k.octets)) ∷ Installed (One p) (Pairwise y.ptk.tk y.inputs)
+      ∷ give p (mac d p) (carried facts.data_) h ∷ Finished p y.inputs ∷ sent_m4 d n p y.inputs k.fields.counter ∷ []
+
+-- in a session it answers again, and installs nothing
+pub record RepeatedM3Row (d : Domain) (first : ℕ) (n : Node) (h : List Act) (octets : List ℕ) (r : Reading) (facts : Facts) (g : List Act) : Type 0 where
+  pub k : KeyMessage
+  pub is : r ≡ Keyed k
+  pub message_is : k.message ≡ M3
+  pub p : Node
+  pub from : sender d n r ≡ Some p
+  pub answered : verdict d first n h r facts ≡ Answered
+  pub y : Keying
+  pub awaited : m3_keying p h ≡ Some y
+  pub says : g ≡ Took (Some p) octets (kind.Key M3) Answered (Some (frame_seal y.ptk.kck k.octets)) ∷ sent_m4 d n p y.inputs k.fields.counter ∷ []
+
+-- an access point installs the pairwise key by M4, in place of the one in use
+pub record M4Row (d : Domain) (first : ℕ) (n : Node) (h : List Act) (octets : List ℕ) (r : Reading) (facts : Facts) (g : List Act) : Type 0 where
+  pub k : KeyMessage
+  pub is : r ≡ Keyed k
+  pub message_is : k.message ≡ M4
+  pub p : Node
+  pub from : sender d n r ≡ Some p
+  pub accepted : verdict d first n h r facts ≡ Accepted
+  pub part : List Act
+  pub awaited : attempt p h ≡ Some part
+  pub x : Derivation
+  pub keyed : m4_keying p part ≡ Some x
+  pub says : g ≡ Took (Some p) octets (kind.Key M4) Accepted (Some (frame_seal x.ptk.kck k.octets)) ∷ close_session p (session p h)
+      ++ Installed (One p) (Pairwise x.ptk.tk x.inputs) ∷ Finished p x.inputs ∷ []
 
 pub record IgnoredRow (d : Domain) (first : ℕ) (n : Node) (h : List Act) (octets : List ℕ) (r : Reading) (facts : Facts) (g : List Act) : Type 0 where
   pub ignored : verdict d first n h r facts ≡ Ignored
@@ -136,8 +196,12 @@ is_after_mic _ = false
 abbrev pub m2_seal : Domain → Node → List Act → KeyMessage → Node → Option Seal
 m2_seal d n h k p = option_map (λ (part : List Act). frame_seal (ptk (inputs d n p (own part) k.fields.nonce)).kck k.octets) (attempt p h)
 
+abbrev pub m3_seal : List Act → KeyMessage → Node → Option Seal
+m3_seal h k p = option_map (λ (y : Keying). frame_seal y.ptk.kck k.octets) (m3_keying p h)
+
 abbrev pub message_seal : Domain → Node → List Act → KeyMessage → Message → Option Node → Option Seal
 message_seal d n h k M2 (Some p) = m2_seal d n h k p
+message_seal d n h k M3 (Some p) = m3_seal h k p
 message_seal d n h k _ from = None
 
 abbrev pub seal_in : Domain → Node → List Act → Reading → Option Seal
@@ -161,6 +225,9 @@ pub data TakeRows (d : Domain) (first : ℕ) (n : Node) (h : List Act) (octets :
   By_assoc_resp : AssocRespRow d first n h octets r facts g → TakeRows d first n h octets r facts g
   By_m1 : M1Row d first n h octets r facts g → TakeRows d first n h octets r facts g
   By_m2 : M2Row d first n h octets r facts g → TakeRows d first n h octets r facts g
+  By_m3 : M3Row d first n h octets r facts g → TakeRows d first n h octets r facts g
+  By_repeated_m3 : RepeatedM3Row d first n h octets r facts g → TakeRows d first n h octets r facts g
+  By_m4 : M4Row d first n h octets r facts g → TakeRows d first n h octets r facts g
   By_ignored : IgnoredRow d first n h octets r facts g → TakeRows d first n h octets r facts g
   By_refusal : RefusedRow d first n h octets r facts g → TakeRows d first n h octets r facts g
 
@@ -172,10 +239,34 @@ pub record TakeRow (d : Domain) (first : ℕ) (n : Node) (h : List Act) (octets 
   pub knows : Knows d first n h r facts
   pub row : TakeRows d first n h octets r facts g
 
+-- at most four sends of M1, and of M3, in an attempt
+abbrev pub most_sends : ℕ
+most_sends = 4
+
+-- a message of the attempt is sent once more, or the attempt is given up
+abbrev pub again_or_give_up : Node → Message → ℕ → Act → List Act
+again_or_give_up p m sends act = if nat_lt sends most_sends then act ∷ [] else GaveUp p m ∷ Closed p Attempt ∷ []
+
+-- M3 once more: with the group key and the count of numbers as when it was first sent
+abbrev pub m3_again : Domain → Node → List Act → Node → List Act → Option Derivation → Option (List Act) → Act
+m3_again d n h p part (Some x) (Some past) = sent_m3 d n p x.inputs (next_in_attempt p part) (newest past) (newest_uses past)
+m3_again d n h p part x past = Idle why.Nothing
+
+abbrev pub retry_attempt : Domain → Node → List Act → Node → List Act → List Act
+retry_attempt d n h p part =
+    if has_heard p (kind.Key M2) part then again_or_give_up p M3 (sent_count p M3 part) (m3_again d n h p part (derivation p part) (before_sent p (kind.Key M3) h))
+    else again_or_give_up p M1 (sent_count p M1 part) (sent_m1 d n p (next_in_attempt p part) (own part))
+
+-- in an attempt by a four-way handshake M1, or from M2 on M3
+abbrev pub retry_acts : Domain → Node → List Act → Node → Option (List Act) → List Act
+retry_acts d n h p None = Idle why.Nothing ∷ []
+retry_acts d n h p (Some part) = if by_connect part then retry_attempt d n h p part else Idle why.Nothing ∷ []
+
 -- The event adds these acts, in order, to that history of node n, which began to draw at number `first`.
 abbrev pub Adds : Domain → ℕ → Node → List Act → NodeEvent → List Act → Type 0
 Adds d first n h (Take octets) g = TakeRow d first n h octets g
 Adds d first n h (Begin a) g = ConnectRow d first n h (Ap a) g
+Adds d first n h (Retry s) g = g ≡ retry_acts d n h (Sta s) (attempt (Sta s) h)
 
 -- an access point starts: it draws its first group key, with key id 1, and installs it
 abbrev pub start_acts : Domain → ℕ → Node → List Act
@@ -186,4 +277,5 @@ start_acts d first n =
 abbrev pub outcome_of : List Act → Outcome
 outcome_of (Took from octets k outcome seal ∷ g) = outcome
 outcome_of (Idle why_ ∷ g) = IdleBy why_
+outcome_of (GaveUp p m ∷ g) = GivenUp m
 outcome_of _ = Done

@@ -12,9 +12,9 @@ ghost use Rattle.run_journal.specs.declared.acts.Entry.{Entry};
 ghost use Rattle.domain_rules.specs.Network.{InForm};
 ghost use Rattle.domain_rules.specs.Reading.{Reading, Reads};
 ghost use Rattle.domain_rules.specs.Verdict.{Facts, Knows, verdict};
-ghost use Rattle.domain_rules.specs.Rows.{NodeEvent, Take, Begin, Adds};
+ghost use Rattle.domain_rules.specs.Rows.{NodeEvent, Take, Begin, Retry, Adds};
 ghost use Rattle.domain_rules.specs.Explained.{Explained};
-ghost use Rattle.domain_rules.specs.Example.{small, AreWhole, HasFirstPath};
+ghost use Rattle.domain_rules.specs.Example.{small, AreWhole, HasHandshake};
 
 /// Octets are one thing to a node at most, and so one outcome comes of them, by the history of the node alone.
 pub fn one_reading()
@@ -25,7 +25,7 @@ pub fn one_reading()
 {}
 
 /// An event adds one group of acts to the history of a node at most, and whatever octets read as, and at each begin of an
-/// attempt, there is one.
+/// attempt and each repeat, there is one.
 pub fn one_group()
     ensures one { (d : Domain) (first : ℕ) (n : Node) (h : List Act) (event : NodeEvent) (f g : List Act)
         → Adds d first n h event f → Adds d first n h event g → f ≡ g }
@@ -33,6 +33,8 @@ pub fn one_group()
         → Reads d.akm octets r → Knows d first n h r facts → (g : List Act) × Adds d first n h (Take octets) g }
     ensures begun { (d : Domain) (first : ℕ) (n : Node) (h : List Act) (a : ℕ)
         → (g : List Act) × Adds d first n h (Begin a) g }
+    ensures again { (d : Domain) (first : ℕ) (n : Node) (h : List Act) (s : ℕ)
+        → (g : List Act) × Adds d first n h (Retry s) g }
 {}
 
 /// The network and the rounds determine the journal.
@@ -41,10 +43,11 @@ pub fn one_journal()
 {}
 
 /// The definitions are not about nothing: by them, in every network in form with suite 2, any station asks any access
-/// point for association, is associated, answers M1 with M2, and has it accepted, and both have then derived one key from
-/// the same inputs. And there are such networks.
-pub fn first_path_is_explained()
-    ensures path { (d : Domain) (a s : ℕ) → InForm d → AreWhole d → d.akm ≡ Psk → a < length d.aps → s < length d.stas
-        → HasFirstPath d a s }
+/// point for association, both end the four-way handshake with one pairwise key of the same inputs installed, and the
+/// station with the access point's group key, also where M3 is sent once more and answered once more; and both then begin a
+/// second attempt, each with a new nonce. And there are such networks.
+pub fn handshake_is_explained()
+    ensures whole { (d : Domain) (a s : ℕ) → InForm d → AreWhole d → d.akm ≡ Psk → a < length d.aps → s < length d.stas
+        → HasHandshake d a s }
     ensures network { (seed ssid psk : List ℕ) → IsSsid ssid → InForm (small seed ssid psk) × AreWhole (small seed ssid psk) }
 {}

@@ -5,3 +5,4 @@ pub mod Turns
 pub mod Few
 pub mod Owned
 pub mod Begun
+pub mod Frames

@@ -1,26 +1,38 @@
 -- Which journals are a world's own. Journals and histories are NEWEST FIRST.
-use Rattle.std.specs.Prelude.{◌≡◌, ◌≢◌, ℕ, ◌<◌, ◌≤◌, cond, List, [], ◌∷◌, ◌++◌, length, slice_get, Some}
+use Rattle.std.specs.Prelude.{◌≡◌, ◌≢◌, ℕ, suc, ◌<◌, ◌≤◌, cond, List, [], ◌∷◌, ◌++◌, length, slice_get, Some}
 use Rattle.std.specs.List.{AllByRecursion}
 use Rattle.domain_base.specs.declared.names.Akm.TheVariants.{FtPsk}
 use Rattle.domain_base.specs.declared.names.Node.TheVariants.{Ap, Sta}
 use Rattle.run_journal.specs.declared.domain.Domain.{Domain}
 use Rattle.run_journal.specs.declared.domain.Event.{Event}
-use Rattle.run_journal.specs.declared.domain.Event.TheVariants.{Connect, Deliver}
+use Rattle.run_journal.specs.declared.domain.Event.TheVariants.{Connect, Deliver, Alter, Cut, Inject, Retry}
 use Rattle.run_journal.specs.declared.acts.Entry.{Entry}
 use Rattle.run_journal.specs.Acts.{is_sent}
 use Rattle.run_journal.specs.Questions.{history}
 use Rattle.domain_rules.specs.Network.{InForm, IsListed}
-use Rattle.domain_rules.specs.Explained.{frames, number_of}
+use Rattle.domain_rules.specs.Explained.{frames, number_of, WasSent}
 use Rattle.station_node.specs.State.{State as StationState}
 use Rattle.station_node.specs.Stands.{Stands as StationStands}
 use Rattle.ap_node.specs.State.{State as ApState}
 use Rattle.ap_node.specs.Stands.{Stands as ApStands}
 use Rattle.domain_world.specs.State.{State, Nodes}
 
--- the event names listed nodes of the right kinds, and a frame that was sent
-abbrev pub IsEventIn : Domain → ℕ → Event → Type 0
-IsEventIn d sent (Connect s a) = (s < length d.stas) × (a < length d.aps)
-IsEventIn d sent (Deliver number to) = (1 ≤ number) × (number ≤ sent) × IsListed d to
+-- the frame of that number was sent, and has so many octets at least
+pub record HasOctets (j : List Entry) (number size : ℕ) : Type 0 where
+  pub round : ℕ
+  pub octets : List ℕ
+  pub sent : WasSent j round number octets
+  pub long : size ≤ length octets
+
+-- the event names listed nodes of the right kinds, and a frame that was sent; an octet that it changes, and octets that it
+-- keeps, are the frame's
+abbrev pub IsEventIn : Domain → ℕ → List Entry → Event → Type 0
+IsEventIn d sent j (Connect s a) = (s < length d.stas) × (a < length d.aps)
+IsEventIn d sent j (Deliver number to) = (1 ≤ number) × (number ≤ sent) × IsListed d to
+IsEventIn d sent j (Alter number place mask to) = (1 ≤ number) × (number ≤ sent) × IsListed d to × HasOctets j number (suc place)
+IsEventIn d sent j (Cut number size to) = (1 ≤ number) × (number ≤ sent) × IsListed d to × HasOctets j number size
+IsEventIn d sent j (Inject to octets) = IsListed d to
+IsEventIn d sent j (Retry a s) = (a < length d.aps) × (s < length d.stas)
 
 -- frames are numbered from 1 in the order of sending, and every other act has number 0
 unfoldable pub IsNumbered : List Entry → Type 0

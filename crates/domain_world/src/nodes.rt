@@ -136,7 +136,7 @@ impl Nodes {
     }
 
     /// One more station.
-    pub(crate) fn add_station(&mut self, address: Mac) -> Result<(), NoMemory>
+    pub(crate) fn add_station(&mut self, alloc: Global, address: Mac) -> Result<(), NoMemory>
         requires form { InForm (with_sta self.old.domain address) }
         ensures domain { OnOk result (self.new.domain ≡ with_sta self.old.domain address) }
         ensures listed { AreListed self.new }
@@ -147,7 +147,11 @@ impl Nodes {
         let number = self.stas.len() as u16;
         self.stas.reserve(1)?;
         list_station(&mut self.domain.stas, address)?;
-        if self.stas.push(StationNode::start(number, 0)).is_err() {
+        if self
+            .stas
+            .push(StationNode::start(alloc, number, 0))
+            .is_err()
+        {
             unreachable!()
         }
         Ok(())

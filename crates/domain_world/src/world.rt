@@ -1,6 +1,6 @@
 //! The world: its nodes, the frames sent and the rounds run.
 
-ghost use Rattle.std.specs.Prelude.{◌≡◌, ◌≢◌, ◌≤◌, ◌<◌, ◌+◌, ◌^◌, suc, ℕ, List, [], length, IfOk, OnOk, OnErr};
+ghost use Rattle.std.specs.Prelude.{◌≡◌, ◌≢◌, ◌≤◌, ◌<◌, ◌+◌, ◌^◌, suc, ℕ, List, [], length, take, IfOk, OnOk, OnErr};
 ghost use Rattle.domain_base.specs.declared.names.Akm.{Akm as AnyAkm};
 ghost use Rattle.run_journal.specs.declared.acts.Entry.{Entry};
 ghost use Rattle.domain_rules.specs.Network.{InForm, IsListed};
@@ -49,7 +49,8 @@ impl Model for World {
 }
 
 impl World {
-    ghost use Rattle.domain_world.specs.Owning.{Owns, IsEventIn};
+    ghost use Rattle.domain_world.specs.Owning.{Owns, HasOctets, IsEventIn};
+    ghost use Rattle.domain_world.specs.Acting.{IsAltered, IsChanged};
 
     /// A world of that network, in which no node is listed yet, and which is in form.
     pub fn start(alloc: Global, domain: &Domain) -> Result<Self, NoMemory>
@@ -111,15 +112,15 @@ impl World {
             → j ≡ started self.new.domain (length self.new.domain.aps)) }
         ensures same { OnErr result (self.new ≡ self.old) }
     {
-        self.nodes.add_station(address)?;
+        self.nodes.add_station(self.alloc, address)?;
         Ok(())
     }
 
     /// One event, a round by itself. The journal is this world's own; the event names listed nodes of the right kinds and a
-    /// frame that was sent.
+    /// frame that was sent. An octet that is changed, and octets that are kept, are the frame's.
     pub fn event(&mut self, event: &Event, journal: &mut Journal) -> Result<(), NoMemory>
         requires own { Owns self.old journal.old.entries }
-        requires event { IsEventIn self.old.domain (length self.old.frames) event.now }
+        requires event { IsEventIn self.old.domain (length self.old.frames) journal.old.entries event.now }
         requires few { self.old.rounds + 1 < 2 ^ 64 }
         ensures step { OnOk result (Step self.old.domain (suc self.old.rounds) event.now journal.old.entries journal.new.entries) }
         ensures rounds { OnOk result (self.new.rounds ≡ suc self.old.rounds) }
@@ -128,9 +129,10 @@ impl World {
         ensures same { OnErr result (self.new ≡ self.old) }
         ensures kept { OnErr result (journal.new.entries ≡ journal.old.entries) }
     {
+        let changed = self.changed(event, journal)?;
         journal.reserve(MOST_ACTS)?;
         self.frames.reserve(MOST_ACTS)?;
-        let (node, at_node) = self.at_node(event, journal);
+        let (node, at_node) = self.at_node(event, journal, changed.as_slice());
         self.nodes.step(self.alloc, node, at_node, &mut self.out)?;
         let round = self.rounds + 1;
         journal_acts(round, node, &mut self.out, &mut self.frames, journal);
@@ -138,17 +140,78 @@ impl World {
         Ok(())
     }
 
-    // What the event is in the next round, and at which node.
-    fn at_node<'a>(&self, event: &Event, journal: &'a Journal) -> (Node, NodeEvent<'a>)
+    // The octets that come by an event that changes one; none by any other.
+    fn changed(&self, event: &Event, journal: &Journal) -> Result<Vec<u8>, NoMemory>
         requires own { Owns self.now journal.now.entries }
-        requires event { IsEventIn self.now.domain (length self.now.frames) event.now }
+        requires event { IsEventIn self.now.domain (length self.now.frames) journal.now.entries event.now }
+        ensures { IfOk result (λ v. IsChanged event.now journal.now.entries (suc self.now.rounds) v.items) }
+    {
+        match *event {
+            Event::Alter {
+                number,
+                place,
+                mask,
+                ..
+            } => self.altered(number, place, mask, journal),
+            _ => Ok(Vec::new(self.alloc)),
+        }
+    }
+
+    // The octets of a frame with one changed.
+    fn altered(
+        &self,
+        number: u64,
+        place: usize,
+        mask: u8,
+        journal: &Journal,
+    ) -> Result<Vec<u8>, NoMemory>
+        requires own { Owns self.now journal.now.entries }
+        requires some { 1 ≤ number }
+        requires sent { number ≤ length self.now.frames }
+        requires long { HasOctets journal.now.entries number (suc place) }
+        ensures { IfOk result (λ v. IsAltered journal.now.entries (suc self.now.rounds) number place mask v.items) }
+    {
+        let frame = self.frame(number, journal);
+        let mut octets = Vec::from_slice(self.alloc, frame)?;
+        octets[place] ^= mask;
+        Ok(octets)
+    }
+
+    // The first octets of a frame.
+    fn front<'a>(&self, number: u64, size: usize, journal: &'a Journal) -> &'a [u8]
+        requires own { Owns self.now journal.now.entries }
+        requires some { 1 ≤ number }
+        requires sent { number ≤ length self.now.frames }
+        requires long { HasOctets journal.now.entries number size }
+        ensures { (octets : List ℕ) × (WasSent journal.now.entries (suc self.now.rounds) number octets × (result.now ≡ take size octets)) }
+    {
+        let frame = self.frame(number, journal);
+        &frame[..size]
+    }
+
+    // What the event is in the next round, and at which node.
+    fn at_node<'a>(
+        &self,
+        event: &'a Event,
+        journal: &'a Journal,
+        changed: &'a [u8],
+    ) -> (Node, NodeEvent<'a>)
+        requires own { Owns self.now journal.now.entries }
+        requires event { IsEventIn self.now.domain (length self.now.frames) journal.now.entries event.now }
+        requires changed { IsChanged event.now journal.now.entries (suc self.now.rounds) changed.now }
         ensures happens { Happens event.now journal.now.entries (suc self.now.rounds) result.0 (event_of result.1) }
         ensures listed { IsListed self.now.domain result.0 }
         ensures event { IsEventAt self.now.domain result.0 (event_of result.1) }
     {
-        match *event {
-            Event::Connect { sta, ap } => (Node::Sta(sta), NodeEvent::Connect(ap)),
-            Event::Deliver { number, to } => (to, NodeEvent::Take(self.frame(number, journal))),
+        match event {
+            Event::Connect { sta, ap } => (Node::Sta(*sta), NodeEvent::Connect(*ap)),
+            Event::Deliver { number, to } => (*to, NodeEvent::Take(self.frame(*number, journal))),
+            Event::Alter { to, .. } => (*to, NodeEvent::Take(changed)),
+            Event::Cut { number, size, to } => {
+                (*to, NodeEvent::Take(self.front(*number, *size, journal)))
+            }
+            Event::Inject { to, octets } => (*to, NodeEvent::Take(octets.as_slice())),
+            Event::Retry { ap, sta } => (Node::Ap(*ap), NodeEvent::Retry(*sta)),
         }
     }
 

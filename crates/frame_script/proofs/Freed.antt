@@ -1,12 +1,14 @@
 -- Addresses that are free.
-use Rattle.std.proofs.Common.{◌≡◌, ◌≢◌, ℕ, true, false, List, [], ◌∷◌, bytes_eq, sym, ap, ◌∙◌}
+use Rattle.std.proofs.Common.{◌≡◌, ◌≢◌, ◌<◌, ℕ, Bool, true, false, if◌then◌else◌, length, refl, List, [], ◌∷◌, bytes_eq, sym, ap, ◌∙◌}
 use Rattle.std.specs.List.{AllByRecursion, list_any}
-use Rattle.std.proofs.lemmas.Bool.{false≢true, eqb-true, and_parts, or_parts, not-true}
+use Rattle.std.proofs.lemmas.Bool.{false≢true, and_parts, or_parts, leb-true}
 use Rattle.std.proofs.lemmas.Slice.Eq.{bytes_eq-Decides}
 use Rattle.domain_base.specs.declared.names.Mac.{Mac}
 use Rattle.run_journal.specs.declared.domain.Domain.{Domain}
 use Rattle.run_journal.specs.declared.domain.ListedAp.{ListedAp}
-use Rattle.frame_script.specs.Script.{IsFreeAddress, is_free, is_same}
+use Rattle.frame_script.specs.Headers.{IsFreeAddress, CanListAp, CanListSta}
+use Rattle.frame_script.specs.Tokens.{is_text}
+use Rattle.frame_script.specs.Script.{is_same, is_single, is_used, is_used_id}
 
 not_equal : (xs ys : List ℕ) → bytes_eq xs ys ≡ false → xs ≢ ys
 not_equal xs ys e q = false≢true (sym e ∙ (bytes_eq-Decides xs ys).1 q)
@@ -26,17 +28,39 @@ none_of_stas address (m ∷ stas) e =
     let parts = or_parts (is_same m address) (list_any (λ (n : Mac). is_same n address) stas) e in
     (not_same m address parts.0, none_of_stas address stas parts.1)
 
-pub is_free-IsFreeAddress : (d : Domain) (address : Mac) → is_free d address ≡ true → IsFreeAddress d address
-unfolding is_free
-is_free-IsFreeAddress d address e =
-    let ap_sta = and_parts _ _ e in
-    let one_ap = and_parts _ _ ap_sta.0 in
-    let some_one = and_parts _ _ one_ap.0 in
+none_of : (x y : Bool) → (if x then true else y) ≡ false → (x ≡ false) × (y ≡ false)
+none_of true y e = absurd (false≢true (sym e))
+none_of false y e = (refl, e)
+
+pub single-free : (d : Domain) (address : Mac) → is_single address.0 ≡ true → is_used d address ≡ false → IsFreeAddress d address
+unfolding is_used
+single-free d address one e =
+    let parts = none_of (list_any (λ (a : ListedAp). is_same a.address address) d.aps) (list_any (λ (m : Mac). is_same m address) d.stas) e in
+    record { single = one; no_ap = none_of_aps address d.aps parts.0; no_sta = none_of_stas address d.stas parts.1 }
+
+none_of_ids : (r0kh_id : List ℕ) (aps : List ListedAp) → list_any (λ (a : ListedAp). bytes_eq a.r0kh_id r0kh_id) aps ≡ false → AllByRecursion (λ (a : ListedAp). a.r0kh_id ≢ r0kh_id) aps
+none_of_ids r0kh_id [] e = tt
+none_of_ids r0kh_id (a ∷ aps) e =
+    let parts = or_parts (bytes_eq a.r0kh_id r0kh_id) (list_any (λ (b : ListedAp). bytes_eq b.r0kh_id r0kh_id) aps) e in
+    (not_equal a.r0kh_id r0kh_id parts.0, none_of_ids r0kh_id aps parts.1)
+
+pub other-id : (d : Domain) (r0kh_id : List ℕ) → is_used_id d r0kh_id ≡ false → AllByRecursion (λ (a : ListedAp). a.r0kh_id ≢ r0kh_id) d.aps
+unfolding is_used_id
+other-id d r0kh_id e = none_of_ids r0kh_id d.aps e
+
+-- what is tested in turn
+pub can-list_ap : (d : Domain) (address : Mac) (r0kh_id : List ℕ) → is_single address.0 ≡ true → is_text 48 33 r0kh_id ≡ true → length d.aps < 16 → is_used d address ≡ false → is_used_id d r0kh_id ≡ false → CanListAp d address r0kh_id
+can-list_ap d address r0kh_id one text room free other =
+    let sized = and_parts _ _ (and_parts _ _ text).0 in
     record {
-      some = not_equal _ _ (not-true _ some_one.0);
-      one = eqb-true _ _ some_one.1;
-      no_ap = none_of_aps address d.aps (not-true _ one_ap.1);
-      no_sta = none_of_stas address d.stas (not-true _ ap_sta.1);
+      address_ = single-free d address one free;
+      some = leb-true 1 (length r0kh_id) sized.0;
+      few = leb-true (length r0kh_id) 48 sized.1;
+      other = other-id d r0kh_id other;
+      room = room;
     }
 
-pub ruleset frees = is_free-IsFreeAddress
+pub can-list_sta : (d : Domain) (address : Mac) → is_single address.0 ≡ true → length d.stas < 64 → is_used d address ≡ false → CanListSta d address
+can-list_sta d address one room free = record { address_ = single-free d address one free; room = room }
+
+pub ruleset listing = (can-list_ap, can-list_sta)

@@ -1,8 +1,8 @@
--- What the code that reads a header keeps, as what the header has said.
+-- What the code that reads a script keeps, as what the script has said.
 use Rattle.std.specs.Prelude.{◌&&◌, Bool, true, nat_le, length}
 use Rattle.frame_script.specs.declared.script.header.Due.{Due}
-use Rattle.frame_script.specs.declared.script.header.Due.TheVariants.{Version, Seed, Ssid, Psk, Akm}
-use Rattle.frame_script.specs.Script.{Draft, AtVersion, AtSeed, AtSsid, AtPsk, AtAkm}
+use Rattle.frame_script.specs.declared.script.header.Due.TheVariants.{Version, Seed, Ssid, Psk, Akm, Nodes}
+use Rattle.frame_script.specs.Script.{Draft, AtVersion, AtSeed, AtSsid, AtPsk, AtAkm, AtNodes}
 
 abbrev pub draft_of : Due → Draft
 draft_of Version = AtVersion
@@ -10,6 +10,7 @@ draft_of Seed = AtSeed
 draft_of (Ssid seed) = AtSsid seed
 draft_of (Psk seed ssid) = AtPsk seed ssid
 draft_of (Akm seed ssid psk) = AtAkm seed ssid psk
+draft_of (Nodes domain) = AtNodes domain
 
 -- whether the SSID, where the header has told it, has 1 to 32 octets
 abbrev pub is_fit : Due → Bool
@@ -18,3 +19,4 @@ is_fit (Akm seed ssid psk) = nat_le 1 (length ssid) && nat_le (length ssid) 32
 is_fit Version = true
 is_fit Seed = true
 is_fit (Ssid seed) = true
+is_fit (Nodes domain) = true

@@ -1,45 +1,127 @@
 -- What the reading of a line answers.
-use Rattle.std.specs.Prelude.{◌≡◌, ◌≢◌, ℕ, ◌<◌, ◌≤◌, List, length, Option, None, Some, Result, Ok, Err}
-use Rattle.domain_base.specs.declared.names.Akm.TheVariants.{Psk}
-use Rattle.run_journal.specs.declared.domain.Domain.{Domain}
-use Rattle.run_journal.specs.declared.domain.Event.{Event}
-use Rattle.run_journal.specs.declared.domain.Event.TheVariants.{Connect, Deliver}
+use Rattle.std.specs.Prelude.{◌≡◌, ◌≢◌, ℕ, suc, ◌<◌, ◌≤◌, true, List, [], ◌∷◌, ◌++◌, length, Option, None, Some, Result, Ok, Err}
+use Rattle.std.specs.List.{AllByRecursion}
+use Rattle.domain_base.specs.declared.names.Akm.TheVariants.{FtPsk}
+use Rattle.domain_base.specs.declared.names.Mac.{Mac}
 use Rattle.domain_base.specs.declared.names.Node.{Node}
 use Rattle.domain_base.specs.declared.names.Node.TheVariants.{Ap, Sta}
+use Rattle.run_journal.specs.declared.domain.Domain.{Domain}
+use Rattle.run_journal.specs.declared.domain.ListedAp.{ListedAp}
+use Rattle.run_journal.specs.declared.domain.Event.{Event}
+use Rattle.run_journal.specs.declared.domain.Event.TheVariants.{Connect, Deliver, Alter, Cut, Inject, Retry}
+use Rattle.run_journal.specs.declared.acts.Act.{Act}
+use Rattle.run_journal.specs.declared.acts.Act.TheVariants.{Sent}
+use Rattle.run_journal.specs.declared.acts.Entry.{Entry}
 use Rattle.frame_script.specs.declared.script.LineFault.{LineFault}
-use Rattle.frame_script.specs.declared.script.LineFault.TheVariants as fault
-use Rattle.frame_script.specs.declared.script.BodyLine.{BodyLine}
-use Rattle.frame_script.specs.declared.script.BodyLine.TheVariants as body
-use Rattle.frame_script.specs.Script.{Draft, AtNodes, header_after, ListsAp, ListsSta, Asks, body_line, CanListAp, CanListSta}
+use Rattle.frame_script.specs.declared.script.LineFault.TheVariants as answered
+use Rattle.frame_script.specs.declared.script.Step.{Step}
+use Rattle.frame_script.specs.declared.script.Step.TheVariants as step
+use Rattle.frame_script.specs.Script.{Fault, Outside, Past, Draft, AtNodes, Said, Goes, ListsAp, ListsSta, Asks, line_says, said_after, rounds_after, is_single, size_of}
 
--- a whole header without nodes: its SSID has 1 to 32 octets
-pub record IsHeader (d : Domain) : Type 0 where
+-- ---- a reader
+
+-- what contracts see of one: what the script has said, how many rounds it asked for, and of the journal so far how many
+-- entries it has seen and the sizes of the frames sent in these, in order
+pub record Reading : Type 0 where
+  pub draft : Draft
+  pub rounds : ℕ
+  pub seen : ℕ
+  pub sizes : List ℕ
+
+-- the sizes of the frames sent, in order; a journal has its last entry first
+abbrev pub size_sent : Act → List ℕ
+size_sent (Sent peer kind octets seal) = length octets ∷ []
+size_sent act = []
+
+unfoldable pub sizes_of : List Entry → List ℕ
+sizes_of [] = []
+sizes_of (e ∷ past) = sizes_of past ++ size_sent e.act
+
+-- the reader has seen the front of the journal
+pub record HasSeen (r : Reading) (j : List Entry) : Type 0 where
+  pub later : List Entry
+  pub earlier : List Entry
+  pub is : j ≡ later ++ earlier
+  pub seen : r.seen ≡ length earlier
+  pub sizes : r.sizes ≡ sizes_of earlier
+
+-- and this is all of it
+pub record HasSeenAll (r : Reading) (j : List Entry) : Type 0 where
+  pub seen : r.seen ≡ length j
+  pub sizes : r.sizes ≡ sizes_of j
+
+-- ---- what a line says, as an answer
+
+abbrev pub IsHeaderStep : Draft → Draft → Type 0
+IsHeaderStep old (AtNodes d) = old ≡ AtNodes d
+IsHeaderStep old new = Unit {0}
+
+-- the network of a header, without nodes: its SSID has 1 to 32 octets
+pub record IsNetwork (d : Domain) : Type 0 where
   pub some : 1 ≤ length d.ssid
   pub few : length d.ssid ≤ 32
-  pub suite : d.akm ≡ Psk
-  pub no_aps : length d.aps ≡ 0
-  pub no_stas : length d.stas ≡ 0
+  pub suite : d.akm ≢ FtPsk
+  pub no_aps : d.aps ≡ []
+  pub no_stas : d.stas ≡ []
 
--- the header takes a line: it goes on, or is whole, or the line is refused for reason 2
-abbrev pub TakesHeader : Draft → Draft → List ℕ → Result (Option Domain) LineFault → Type 0
-TakesHeader old new line (Ok None) = (header_after old line ≡ Some new) × ((d : Domain) → new ≢ AtNodes d)
-TakesHeader old new line (Ok (Some d)) = (header_after old line ≡ Some (AtNodes d)) × IsHeader d
-TakesHeader old new line (Err (fault.Script reason)) = (header_after old line ≡ None) × (reason ≡ 2)
-TakesHeader old new line (Err fault.NoMemory) = Unit {0}
+-- an address of one node that no listed node has
+pub record IsFreeAddress (d : Domain) (address : Mac) : Type 0 where
+  pub single : is_single address.0 ≡ true
+  pub no_ap : AllByRecursion (λ (a : ListedAp). a.address ≢ address) d.aps
+  pub no_sta : AllByRecursion (λ (m : Mac). m ≢ address) d.stas
 
--- the nodes of an event are listed, and its frame was sent
+-- an access point can be listed so
+pub record CanListAp (d : Domain) (address : Mac) (r0kh_id : List ℕ) : Type 0 where
+  pub address_ : IsFreeAddress d address
+  pub some : 1 ≤ length r0kh_id
+  pub few : length r0kh_id ≤ 48
+  pub other : AllByRecursion (λ (a : ListedAp). a.r0kh_id ≢ r0kh_id) d.aps
+  pub room : length d.aps < 16
+
+-- and a station so
+pub record CanListSta (d : Domain) (address : Mac) : Type 0 where
+  pub address_ : IsFreeAddress d address
+  pub room : length d.stas < 64
+
+-- the nodes of an event are listed, and of its frame, that was sent, so much is asked as there is
 abbrev pub IsListedIn : Domain → Node → Type 0
 IsListedIn d (Ap k) = k < length d.aps
 IsListedIn d (Sta k) = k < length d.stas
 
-abbrev pub CanHappen : Domain → ℕ → Event → Type 0
-CanHappen d frames (Connect s a) = (s < length d.stas) × (a < length d.aps)
-CanHappen d frames (Deliver number to) = (1 ≤ number) × (number ≤ frames) × IsListedIn d to
+-- the frame of that number was sent with that many octets at least
+pub record IsSized (sizes : List ℕ) (number size : ℕ) : Type 0 where
+  pub some : 1 ≤ number
+  pub sent : number ≤ length sizes
+  pub whole : ℕ
+  pub is : size_of sizes number ≡ Some whole
+  pub within : size ≤ whole
 
--- the line is read: it says this, or is refused for reason 2
-abbrev pub SaysLine : Domain → ℕ → ℕ → List ℕ → Result BodyLine LineFault → Type 0
-SaysLine d rounds frames line (Ok (body.Ap a id)) = (body_line d rounds frames line ≡ Some (ListsAp a id)) × CanListAp d a id × (rounds ≡ 0)
-SaysLine d rounds frames line (Ok (body.Sta a)) = (body_line d rounds frames line ≡ Some (ListsSta a)) × CanListSta d a × (rounds ≡ 0)
-SaysLine d rounds frames line (Ok (body.Event e)) = (body_line d rounds frames line ≡ Some (Asks e)) × CanHappen d frames e × (frames ≤ 65535)
-SaysLine d rounds frames line (Err (fault.Script reason)) = (body_line d rounds frames line ≡ None) × (reason ≡ 2)
-SaysLine d rounds frames line (Err fault.NoMemory) = Unit {0}
+abbrev pub CanHappen : Domain → List ℕ → Event → Type 0
+CanHappen d sizes (Connect s a) = (s < length d.stas) × (a < length d.aps)
+CanHappen d sizes (Deliver number to) = IsListedIn d to × IsSized sizes number 0
+CanHappen d sizes (Alter number place mask to) = IsListedIn d to × IsSized sizes number (suc place)
+CanHappen d sizes (Cut number size to) = IsListedIn d to × IsSized sizes number size
+CanHappen d sizes (Inject to octets) = IsListedIn d to
+CanHappen d sizes (Retry a s) = (a < length d.aps) × (s < length d.stas)
+
+-- what a step says, and what can be done with it
+abbrev pub TakesStep : Draft → Draft → ℕ → List ℕ → Result Said Fault → Step → Type 0
+TakesStep old new rounds sizes says step.Nothing = (says ≡ Ok (Goes new)) × IsHeaderStep old new
+TakesStep old new rounds sizes says step.Network = (d : Domain) × ((says ≡ Ok (Goes new)) × ((new ≡ AtNodes d) × IsNetwork d))
+TakesStep old new rounds sizes says (step.Ap a id) = (d : Domain) × ((says ≡ Ok (ListsAp a id)) × ((old ≡ AtNodes d) × (CanListAp d a id × ((d.stas ≡ []) × (rounds ≡ 0)))))
+TakesStep old new rounds sizes says (step.Sta a) = (d : Domain) × ((says ≡ Ok (ListsSta a)) × ((old ≡ AtNodes d) × (CanListSta d a × (rounds ≡ 0))))
+TakesStep old new rounds sizes says (step.Event e) = (d : Domain) × ((says ≡ Ok (Asks e)) × ((old ≡ AtNodes d) × (CanHappen d sizes e × (length sizes ≤ 65535))))
+
+-- the line is taken, and what it says is said now; or it is refused for its fault, and nothing is said by it
+abbrev pub TakesLine : Reading → Reading → List ℕ → List ℕ → Result Step LineFault → Type 0
+TakesLine old new sizes line (Ok s) =
+    (said : Said) × ((line_says old.draft old.rounds sizes line ≡ Ok said) × ((new.draft ≡ said_after old.draft said)
+    × ((new.rounds ≡ rounds_after old.rounds said) × TakesStep old.draft new.draft old.rounds sizes (line_says old.draft old.rounds sizes line) s)))
+TakesLine old new sizes line (Err (answered.Script reason)) = (line_says old.draft old.rounds sizes line ≡ Err (Outside reason)) × ((new.draft ≡ old.draft) × (new.rounds ≡ old.rounds))
+TakesLine old new sizes line (Err (answered.Limit limit)) = (line_says old.draft old.rounds sizes line ≡ Err (Past limit)) × ((new.draft ≡ old.draft) × (new.rounds ≡ old.rounds))
+TakesLine old new sizes line (Err answered.NoMemory) = (new.draft ≡ old.draft) × (new.rounds ≡ old.rounds)
+
+-- the network, once the header is whole
+abbrev pub IsDomain : Draft → Option Domain → Type 0
+IsDomain (AtNodes d) o = o ≡ Some d
+IsDomain draft o = o ≡ None

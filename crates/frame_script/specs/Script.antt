@@ -1,43 +1,112 @@
 -- What the lines of a script say (this project's choice).
-use Rattle.std.specs.Prelude.{◌≡◌, ◌≢◌, ℕ, ◌<◌, ◌≤◌, ◌%◌, ◌==◌, ◌&&◌, not, Bool, nat_lt, nat_le, if◌then◌else◌, List, [], ◌∷◌, length, slice_index, bytes_eq, codes, Option, None, Some, option_map}
-use Rattle.std.specs.List.{AllByRecursion, list_any}
-use Rattle.std.specs.Option.{option_or}
+use Rattle.std.specs.Prelude.{ℕ, suc, ◌%◌, ◌-◌, ◌==◌, ◌&&◌, not, Bool, true, nat_lt, nat_le, if◌then◌else◌, List, [], ◌∷◌, ◌++◌, length, slice_index, bytes_eq, codes, Option, None, Some, option_map, option_and_then, Result, Ok, Err}
+use Rattle.std.specs.List.{list_any}
 use Rattle.domain_base.specs.declared.names.Akm.{Akm}
-use Rattle.domain_base.specs.declared.names.Akm.TheVariants.{Psk}
+use Rattle.domain_base.specs.declared.names.Akm.TheVariants.{Psk, PskSha256}
 use Rattle.domain_base.specs.declared.names.Mac.{Mac}
 use Rattle.domain_base.specs.declared.names.Node.{Node}
 use Rattle.domain_base.specs.declared.names.Node.TheVariants.{Ap, Sta}
+use Rattle.mac_prf.specs.Pbkdf2.{pbkdf2}
 use Rattle.run_journal.specs.declared.domain.Domain.{Domain}
 use Rattle.run_journal.specs.declared.domain.ListedAp.{ListedAp}
 use Rattle.run_journal.specs.declared.domain.Event.{Event}
-use Rattle.run_journal.specs.declared.domain.Event.TheVariants.{Connect, Deliver}
-use Rattle.frame_script.specs.Tokens.{◌>>=◌, behind, split_word, hex_octets, number_of_digits, place_behind, is_text}
+use Rattle.run_journal.specs.declared.domain.Event.TheVariants.{Connect, Deliver, Alter, Cut, Inject, Retry}
+use Rattle.frame_script.specs.Tokens.{NodeWord, behind, split_word, first_word, hex_octets, some_octets, number_of_digits, node_word, is_text}
 
--- what the header has said so far, and which of its lines is due
+-- ---- why a line is refused
+
+-- it is outside the grammar for a reason, or goes past a limit
+pub data Fault : Type 0 where
+  Outside : (reason : ℕ) → Fault
+  Past : (limit : ℕ) → Fault
+
+-- the reasons: not `domain 1` in line 1; no such word in this place; the number or form of the arguments; a node that is not
+-- listed or of the other kind; a frame that was not sent; a place or length outside the frame; an address or R0KH-ID used
+-- before; a draw of the seed, which only a live run has
+abbrev pub version_ : Fault
+version_ = Outside 1
+
+abbrev pub word_ : Fault
+word_ = Outside 2
+
+abbrev pub arguments : Fault
+arguments = Outside 3
+
+abbrev pub node_ : Fault
+node_ = Outside 4
+
+abbrev pub frame_ : Fault
+frame_ = Outside 5
+
+abbrev pub place_ : Fault
+place_ = Outside 6
+
+abbrev pub duplicate : Fault
+duplicate = Outside 8
+
+abbrev pub mode : Fault
+mode = Outside 9
+
+-- the limits: octets of an injected frame; frames sent before the line of an event; access points; stations
+abbrev pub long_frame : Fault
+long_frame = Past 3
+
+abbrev pub many_frames : Fault
+many_frames = Past 4
+
+abbrev pub many_aps : Fault
+many_aps = Past 5
+
+abbrev pub many_stas : Fault
+many_stas = Past 6
+
+-- the second form with what the first one gave, or the fault of the first
+infixl 10 ◌>>=◌
+abbrev pub ◌>>=◌ : {A B : Type 0} → Result A Fault → (A → Result B Fault) → Result B Fault
+(Ok a) >>= f = f a
+(Err fault) >>= f = Err fault
+
+-- what is there, or the fault
+abbrev pub need : {A : Type 0} → Fault → Option A → Result A Fault
+need fault None = Err fault
+need fault (Some a) = Ok a
+
+-- ---- the header
+
+-- what a script has said so far: which line of the header is due, and from its end on the network with the nodes listed
 pub data Draft : Type 0 where
   AtVersion : Draft
   AtSeed : Draft
   AtSsid : (seed : List ℕ) → Draft
   AtPsk : (seed ssid : List ℕ) → Draft
   AtAkm : (seed ssid psk : List ℕ) → Draft
-  -- the header is whole: the network, without nodes
   AtNodes : Domain → Draft
 
--- a word, and 64 hexadecimal digits: 32 octets
-unfoldable pub octets_behind : List ℕ → List ℕ → Option (List ℕ)
-octets_behind word line = do
-  text ← behind word line
-  hex_octets 32 text
+-- 64 hexadecimal digits, or `draw`, which only a live run has
+unfoldable pub seed_of : List ℕ → Result (List ℕ) Fault
+seed_of text = if bytes_eq text (codes "draw") then Err mode else need arguments (hex_octets 32 text)
 
--- `ssid`, and the name of the network to the end of the line: 1 to 32 octets with codes from 32 to 126
-unfoldable pub ssid_of : List ℕ → Option (List ℕ)
-ssid_of line = do
-  text ← behind (codes "ssid ") line
-  if is_text 32 32 text then Some text else None
+-- the name of the network: 1 to 32 octets with codes from 32 to 126
+unfoldable pub ssid_of : List ℕ → Result (List ℕ) Fault
+ssid_of text = if is_text 32 32 text then Ok text else Err arguments
 
--- `akm`, and the suite by its name
-unfoldable pub akm_of : List ℕ → Option Akm
-akm_of line = if bytes_eq line (codes "akm psk") then Some Psk else None
+-- the pre-shared key: 64 hexadecimal digits, or from a passphrase of 8 to 63 octets with codes from 32 to 126
+unfoldable pub passphrase_of : List ℕ → List ℕ → Result (List ℕ) Fault
+passphrase_of ssid text =
+    if nat_le 8 (length text) && is_text 63 32 text then Ok (pbkdf2 text ssid) else Err arguments
+
+unfoldable pub psk_of : List ℕ → List ℕ → List ℕ → Result (List ℕ) Fault
+psk_of ssid word text =
+    if bytes_eq word (codes "psk") then need arguments (hex_octets 32 text)
+    else if bytes_eq word (codes "passphrase") then passphrase_of ssid text
+    else Err word_
+
+-- the suite by its name
+unfoldable pub akm_of : List ℕ → Result Akm Fault
+akm_of text =
+    if bytes_eq text (codes "psk") then Ok Psk
+    else if bytes_eq text (codes "psk-sha256") then Ok PskSha256
+    else Err arguments
 
 -- the network of a header, without nodes
 abbrev pub new_network : List ℕ → List ℕ → List ℕ → Akm → Domain
@@ -51,118 +120,246 @@ new_network seed ssid psk akm = record {
   stas = [];
 }
 
--- the header after one more line, where that is the line that is due
-unfoldable pub header_after : Draft → List ℕ → Option Draft
-header_after AtVersion line = if bytes_eq line (codes "domain 1") then Some AtSeed else None
-header_after AtSeed line = option_map AtSsid (octets_behind (codes "seed ") line)
-header_after (AtSsid seed) line = option_map (AtPsk seed) (ssid_of line)
-header_after (AtPsk seed ssid) line = option_map (AtAkm seed ssid) (octets_behind (codes "psk ") line)
-header_after (AtAkm seed ssid psk) line = option_map (λ akm. AtNodes (new_network seed ssid psk akm)) (akm_of line)
-header_after (AtNodes d) line = None
+-- ---- the nodes
 
--- what a line behind the header says
-pub data Said : Type 0 where
-  ListsAp : (address : Mac) (r0kh_id : List ℕ) → Said
-  ListsSta : (address : Mac) → Said
-  Asks : Event → Said
-
--- an address of one node, neither zero nor a group's, that no listed node has
-pub record IsFreeAddress (d : Domain) (address : Mac) : Type 0 where
-  pub some : address.0 ≢ 0 ∷ 0 ∷ 0 ∷ 0 ∷ 0 ∷ 0 ∷ []
-  pub one : slice_index address.0 0 % 2 ≡ 0
-  pub no_ap : AllByRecursion (λ (a : ListedAp). a.address ≢ address) d.aps
-  pub no_sta : AllByRecursion (λ (m : Mac). m ≢ address) d.stas
-
--- an access point can be listed so
-pub record CanListAp (d : Domain) (address : Mac) (r0kh_id : List ℕ) : Type 0 where
-  pub address_ : IsFreeAddress d address
-  pub some : 1 ≤ length r0kh_id
-  pub few : length r0kh_id ≤ 48
-  pub other : AllByRecursion (λ (a : ListedAp). a.r0kh_id ≢ r0kh_id) d.aps
-  pub room : length d.aps < 16
-
--- and a station so
-pub record CanListSta (d : Domain) (address : Mac) : Type 0 where
-  pub address_ : IsFreeAddress d address
-  pub room : length d.stas < 64
+-- an address of one node: neither zero nor a group's
+unfoldable pub is_single : List ℕ → Bool
+is_single octets = not (bytes_eq octets (0 ∷ 0 ∷ 0 ∷ 0 ∷ 0 ∷ 0 ∷ [])) && slice_index octets 0 % 2 == 0
 
 -- whether two addresses are the same
 abbrev pub is_same : Mac → Mac → Bool
 is_same address other = bytes_eq address.0 other.0
 
--- whether an address is free, as `IsFreeAddress` says
-unfoldable pub is_free : Domain → Mac → Bool
-is_free d address =
-    not (bytes_eq address.0 (0 ∷ 0 ∷ 0 ∷ 0 ∷ 0 ∷ 0 ∷ []))
-    && slice_index address.0 0 % 2 == 0
-    && not (list_any (λ (a : ListedAp). is_same a.address address) d.aps)
-    && not (list_any (λ (m : Mac). is_same m address) d.stas)
+-- whether a listed node has the address
+unfoldable pub is_used : Domain → Mac → Bool
+is_used d address = if list_any (λ (a : ListedAp). is_same a.address address) d.aps then true else
+    list_any (λ (m : Mac). is_same m address) d.stas
 
--- twelve hexadecimal digits: an address that is free
-unfoldable pub free_address : Domain → List ℕ → Option Mac
-free_address d word = do
-  octets ← hex_octets 6 word
-  let address : Mac = record { 0 = octets }
-  if is_free d address then Some address else None
+-- whether a listed access point has the R0KH-ID
+unfoldable pub is_used_id : Domain → List ℕ → Bool
+is_used_id d r0kh_id = list_any (λ (a : ListedAp). bytes_eq a.r0kh_id r0kh_id) d.aps
 
--- `ap`, a free address, and an R0KH-ID to the end of the line: 1 to 48 octets with codes from 33 to 126. It is the first node
--- that is listed, before any round
-unfoldable pub ap_line : Domain → ℕ → List ℕ → Option Said
-ap_line d rounds line = do
-  text ← behind (codes "ap ") line
-  words ← split_word text
-  address ← free_address d words.0
-  if is_text 48 33 words.1 && length d.aps == 0 && length d.stas == 0 && rounds == 0 then Some (ListsAp address words.1)
-      else None
+-- twelve hexadecimal digits: an address of one node
+unfoldable pub address_of : List ℕ → Result Mac Fault
+address_of word = do
+  octets ← need arguments (hex_octets 6 word)
+  if is_single octets then Ok (record { 0 = octets }) else Err arguments
 
--- `sta`, and a free address. It is the only station, and listed before any round
-unfoldable pub sta_line : Domain → ℕ → List ℕ → Option Said
-sta_line d rounds line = do
-  word ← behind (codes "sta ") line
-  address ← free_address d word
-  if length d.stas == 0 && rounds == 0 then Some (ListsSta address) else None
+-- what a line behind the header says
+pub data Said : Type 0 where
+  -- what the script has said so far is this now
+  Goes : Draft → Said
+  ListsAp : (address : Mac) (r0kh_id : List ℕ) → Said
+  ListsSta : (address : Mac) → Said
+  Asks : Event → Said
 
--- the place of a listed station by its name, `s` and its number
-unfoldable pub sta_of_word : Domain → List ℕ → Option ℕ
-sta_of_word d word = do
-  place ← place_behind (codes "s") word
-  if nat_lt place (length d.stas) then Some place else None
+-- `ap`, an address, and an R0KH-ID of 1 to 48 octets with codes from 33 to 126
+unfoldable pub new_ap : Domain → Mac → List ℕ → Result Said Fault
+new_ap d address r0kh_id =
+    if nat_le 16 (length d.aps) then Err many_aps
+    else if is_used d address then Err duplicate
+    else if is_used_id d r0kh_id then Err duplicate
+    else Ok (ListsAp address r0kh_id)
 
--- the place of a listed access point by its name, `a` and its number
-unfoldable pub ap_of_word : Domain → List ℕ → Option ℕ
-ap_of_word d word = do
-  place ← place_behind (codes "a") word
-  if nat_lt place (length d.aps) then Some place else None
+unfoldable pub ap_line : Domain → List ℕ → Result Said Fault
+ap_line d text = do
+  words ← need arguments (split_word text)
+  address ← address_of words.0
+  if is_text 48 33 words.1 then new_ap d address words.1 else Err arguments
 
--- a listed node by its name
-unfoldable pub node_of_word : Domain → List ℕ → Option Node
-node_of_word d word = option_or (option_map Ap (ap_of_word d word)) (option_map Sta (sta_of_word d word))
+-- `sta`, and an address
+unfoldable pub new_sta : Domain → Mac → Result Said Fault
+new_sta d address =
+    if nat_le 64 (length d.stas) then Err many_stas
+    else if is_used d address then Err duplicate
+    else Ok (ListsSta address)
+
+unfoldable pub sta_line : Domain → List ℕ → Result Said Fault
+sta_line d text = do
+  address ← address_of text
+  new_sta d address
+
+-- ---- the events
+
+-- the place from 0 of the number from 1, where so many are listed
+unfoldable pub place_in : ℕ → ℕ → Option ℕ
+place_in count number = if nat_le 1 number && nat_le number count then Some (number - 1) else None
+
+unfoldable pub listed_ap : Domain → NodeWord → Option ℕ
+listed_ap d w = if w.is_ap then place_in (length d.aps) w.number else None
+
+unfoldable pub listed_sta : Domain → NodeWord → Option ℕ
+listed_sta d w = if w.is_ap then None else place_in (length d.stas) w.number
+
+unfoldable pub listed : Domain → NodeWord → Option Node
+listed d w = if w.is_ap then option_map Ap (listed_ap d w) else option_map Sta (listed_sta d w)
+
+-- the size of the frame of that number, from 1, out of the sizes of the frames that were sent, in order
+unfoldable pub size_of : List ℕ → ℕ → Option ℕ
+size_of sizes number =
+    if nat_le 1 number && nat_le number (length sizes) then Some (slice_index sizes (number - 1)) else None
+
+-- `to` and a node
+unfoldable pub to_word : List ℕ → Option NodeWord
+to_word text = option_and_then node_word (behind (codes "to ") text)
 
 -- `connect`, a station and an access point
-unfoldable pub connect_line : Domain → List ℕ → Option Event
-connect_line d line = do
-  text ← behind (codes "connect ") line
-  words ← split_word text
-  sta ← sta_of_word d words.0
-  ap ← ap_of_word d words.1
-  Some (Connect sta ap)
+unfoldable pub connect_line : Domain → List ℕ → Result Event Fault
+connect_line d text = do
+  words ← need arguments (split_word text)
+  s ← need arguments (node_word words.0)
+  a ← need arguments (node_word words.1)
+  sta ← need node_ (listed_sta d s)
+  ap ← need node_ (listed_ap d a)
+  Ok (Connect sta ap)
+
+-- `retry`, an access point and a station
+unfoldable pub retry_line : Domain → List ℕ → Result Event Fault
+retry_line d text = do
+  words ← need arguments (split_word text)
+  a ← need arguments (node_word words.0)
+  s ← need arguments (node_word words.1)
+  ap ← need node_ (listed_ap d a)
+  sta ← need node_ (listed_sta d s)
+  Ok (Retry ap sta)
 
 -- `deliver`, the number of a frame that was sent, `to` and a node
-unfoldable pub deliver_line : Domain → ℕ → List ℕ → Option Event
-deliver_line d frames line = do
-  text ← behind (codes "deliver ") line
-  words ← split_word text
-  number ← number_of_digits words.0
-  word ← behind (codes "to ") words.1
-  node ← node_of_word d word
-  if nat_le 1 number && nat_le number frames then Some (Deliver number node) else None
+unfoldable pub deliver_line : Domain → List ℕ → List ℕ → Result Event Fault
+deliver_line d sizes text = do
+  words ← need arguments (split_word text)
+  number ← need arguments (number_of_digits words.0)
+  w ← need arguments (to_word words.1)
+  to ← need node_ (listed d w)
+  size ← need frame_ (size_of sizes number)
+  Ok (Deliver number to)
+
+-- `alter`, the number of a frame that was sent, the place of one of its octets, from 0, two hexadecimal digits, `to` and a node
+unfoldable pub alter_line : Domain → List ℕ → List ℕ → Result Event Fault
+alter_line d sizes text = do
+  words ← need arguments (split_word text)
+  number ← need arguments (number_of_digits words.0)
+  more ← need arguments (split_word words.1)
+  place ← need arguments (number_of_digits more.0)
+  last ← need arguments (split_word more.1)
+  mask ← need arguments (hex_octets 1 last.0)
+  w ← need arguments (to_word last.1)
+  to ← need node_ (listed d w)
+  size ← need frame_ (size_of sizes number)
+  if nat_lt place size then Ok (Alter number place (slice_index mask 0) to) else Err place_
+
+-- `cut`, the number of a frame that was sent, how many of its octets come, `to` and a node
+unfoldable pub cut_line : Domain → List ℕ → List ℕ → Result Event Fault
+cut_line d sizes text = do
+  words ← need arguments (split_word text)
+  number ← need arguments (number_of_digits words.0)
+  more ← need arguments (split_word words.1)
+  count ← need arguments (number_of_digits more.0)
+  w ← need arguments (to_word more.1)
+  to ← need node_ (listed d w)
+  size ← need frame_ (size_of sizes number)
+  if nat_le count size then Ok (Cut number count to) else Err place_
+
+-- octets that are not too many for a frame
+unfoldable pub frame_octets : List ℕ → Result (List ℕ) Fault
+frame_octets text = do
+  octets ← need arguments (some_octets text)
+  if nat_le (length octets) 2400 then Ok octets else Err long_frame
+
+-- `inject`, a node and octets, at most 2400
+unfoldable pub inject_line : Domain → List ℕ → Result Event Fault
+inject_line d text = do
+  words ← need arguments (split_word text)
+  w ← need arguments (node_word words.0)
+  octets ← frame_octets words.1
+  to ← need node_ (listed d w)
+  Ok (Inject to octets)
+
+-- an event by its first word
+unfoldable pub event_of : Domain → List ℕ → List ℕ → List ℕ → Result Event Fault
+event_of d sizes word text =
+    if bytes_eq word (codes "connect") then connect_line d text
+    else if bytes_eq word (codes "deliver") then deliver_line d sizes text
+    else if bytes_eq word (codes "alter") then alter_line d sizes text
+    else if bytes_eq word (codes "cut") then cut_line d sizes text
+    else if bytes_eq word (codes "inject") then inject_line d text
+    else if bytes_eq word (codes "retry") then retry_line d text
+    else Err word_
 
 -- an event, where no more frames were sent than a run can number
-unfoldable pub event_line : Domain → ℕ → List ℕ → Option Event
-event_line d frames line =
-    if nat_le frames 65535 then option_or (connect_line d line) (deliver_line d frames line) else None
+unfoldable pub event_line : Domain → List ℕ → List ℕ → List ℕ → Result Said Fault
+event_line d sizes word text = do
+  event ← event_of d sizes word text
+  if nat_le (length sizes) 65535 then Ok (Asks event) else Err many_frames
 
--- what the line says in that network, of which so many rounds were run and so many frames were sent
-unfoldable pub body_line : Domain → ℕ → ℕ → List ℕ → Option Said
-body_line d rounds frames line =
-    option_or (ap_line d rounds line) (option_or (sta_line d rounds line) (option_map Asks (event_line d frames line)))
+-- ---- a line
+
+-- a line without octets, and one that begins with `#`, are passed over
+abbrev pub is_passed_over : List ℕ → Bool
+is_passed_over [] = true
+is_passed_over (c ∷ line) = c == 35
+
+-- the line that is due in the header, by its first word and what stands behind it
+unfoldable pub header_line : Draft → List ℕ → List ℕ → Result Draft Fault
+header_line AtSeed word text = if bytes_eq word (codes "seed") then seed_of text >>= (λ seed. Ok (AtSsid seed)) else Err word_
+header_line (AtSsid seed) word text = if bytes_eq word (codes "ssid") then ssid_of text >>= (λ ssid. Ok (AtPsk seed ssid)) else Err word_
+header_line (AtPsk seed ssid) word text = psk_of ssid word text >>= (λ psk. Ok (AtAkm seed ssid psk))
+header_line (AtAkm seed ssid psk) word text =
+    if bytes_eq word (codes "akm") then akm_of text >>= (λ akm. Ok (AtNodes (new_network seed ssid psk akm))) else Err word_
+header_line draft word text = Err word_
+
+-- a line behind the header: access points are listed before stations, and both before any event
+unfoldable pub body_line : Domain → ℕ → List ℕ → List ℕ → List ℕ → Result Said Fault
+body_line d rounds sizes word text =
+    if bytes_eq word (codes "ap") then (if length d.stas == 0 && rounds == 0 then ap_line d text else Err word_)
+    else if bytes_eq word (codes "sta") then (if rounds == 0 then sta_line d text else Err word_)
+    else event_line d sizes word text
+
+-- what a line without its end says, after a script has said so much, when so many rounds were run and frames of these sizes
+-- sent
+unfoldable pub line_says : Draft → ℕ → List ℕ → List ℕ → Result Said Fault
+line_says AtVersion rounds sizes line = if bytes_eq line (codes "domain 1") then Ok (Goes AtSeed) else Err version_
+line_says (AtNodes d) rounds sizes line =
+    if is_passed_over line then Ok (Goes (AtNodes d)) else
+    body_line d rounds sizes (first_word line).0 (first_word line).1
+line_says draft rounds sizes line =
+    if is_passed_over line then Ok (Goes draft) else
+    header_line draft (first_word line).0 (first_word line).1 >>= (λ next. Ok (Goes next))
+
+-- ---- what the lines together have said
+
+abbrev pub with_ap : Domain → Mac → List ℕ → Domain
+with_ap d address r0kh_id = record {
+  seed = d.seed;
+  ssid = d.ssid;
+  psk = d.psk;
+  akm = d.akm;
+  mdid = d.mdid;
+  aps = d.aps ++ record { address = address; r0kh_id = r0kh_id } ∷ [];
+  stas = d.stas;
+}
+
+abbrev pub with_sta : Domain → Mac → Domain
+with_sta d address = record {
+  seed = d.seed;
+  ssid = d.ssid;
+  psk = d.psk;
+  akm = d.akm;
+  mdid = d.mdid;
+  aps = d.aps;
+  stas = d.stas ++ address ∷ [];
+}
+
+abbrev pub listing : Draft → (Domain → Domain) → Draft
+listing (AtNodes d) f = AtNodes (f d)
+listing draft f = draft
+
+abbrev pub said_after : Draft → Said → Draft
+said_after draft (Goes next) = next
+said_after draft (ListsAp address r0kh_id) = listing draft (λ d. with_ap d address r0kh_id)
+said_after draft (ListsSta address) = listing draft (λ d. with_sta d address)
+said_after draft (Asks event) = draft
+
+-- each event is a round by itself
+abbrev pub rounds_after : ℕ → Said → ℕ
+rounds_after rounds (Asks event) = suc rounds
+rounds_after rounds said = rounds

@@ -1,5 +1,6 @@
 -- The words of a script's line (this project's choice).
-use Rattle.std.specs.Prelude.{ℕ, ◌+◌, ◌-◌, ◌*◌, ◌==◌, ◌&&◌, Bool, nat_le, if◌then◌else◌, List, [], ◌∷◌, length, take, drop, position, bytes_eq, Option, None, Some, option_and_then}
+use Rattle.std.specs.Prelude.{ℕ, ◌+◌, ◌*◌, ◌==◌, ◌&&◌, Bool, true, false, nat_le, if◌then◌else◌, List, [], ◌∷◌, length, take, drop, position, bytes_eq, codes, Option, None, Some, option_and_then}
+use Rattle.std.specs.Option.{option_or}
 use Rattle.std.specs.List.{list_all}
 use Rattle.std.specs.Char.{is_ascii_digit}
 use Rattle.std.specs.Str.Parse.{digits_value}
@@ -41,18 +42,36 @@ number_of_digits text =
     if nat_le 1 (length text) && nat_le (length text) 10 && list_all is_ascii_digit text then Some (digits_value 10 text)
     else None
 
--- a place from 0, of 16 bits, by its number from 1
-unfoldable pub place_of_number : ℕ → Option ℕ
-place_of_number number = if nat_le 1 number && nat_le number 65536 then Some (number - 1) else None
-
--- a letter and digits: the place of a node
-unfoldable pub place_behind : List ℕ → List ℕ → Option ℕ
-place_behind letter word = do
-  digits ← behind letter word
-  number ← number_of_digits digits
-  place_of_number number
-
 -- a size from 1 to the greatest, and every code from the least to 126
 abbrev pub is_text : ℕ → ℕ → List ℕ → Bool
 is_text greatest least text =
     nat_le 1 (length text) && nat_le (length text) greatest && list_all (λ c. nat_le least c && nat_le c 126) text
+
+-- the first word, and what stands behind the space behind it; a text without a space is one word
+abbrev pub word_and_rest : List ℕ → Option (List ℕ × List ℕ) → List ℕ × List ℕ
+word_and_rest text None = (text, [])
+word_and_rest text (Some words) = words
+
+unfoldable pub first_word : List ℕ → List ℕ × List ℕ
+first_word text = word_and_rest text (split_word text)
+
+-- a node by its word: `a` (an access point) or `s` (a station), and its number from 1
+pub record NodeWord : Type 0 where
+  pub is_ap : Bool
+  pub number : ℕ
+
+abbrev pub named : Bool → ℕ → NodeWord
+named is_ap number = record { is_ap = is_ap; number = number }
+
+unfoldable pub numbered : Bool → List ℕ → List ℕ → Option NodeWord
+numbered is_ap letter word = do
+  digits ← behind letter word
+  number ← number_of_digits digits
+  Some (named is_ap number)
+
+unfoldable pub node_word : List ℕ → Option NodeWord
+node_word word = option_or (numbered true (codes "a") word) (numbered false (codes "s") word)
+
+-- octets, at least one, in pairs of hexadecimal digits
+unfoldable pub some_octets : List ℕ → Option (List ℕ)
+some_octets text = if nat_le 1 (length text) then hex_value text else None

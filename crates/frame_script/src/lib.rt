@@ -1,8 +1,11 @@
-//! The text of a run: the report's lines and its summary.
+//! The text of a run: the lines of its script, the report's lines and its summary.
+//!
+//! A script has a header, the nodes and the events of a run, a line for each; `ScriptReader` takes its lines
+//! one by one.
 //!
 //! A report has a line for each printed act, in the order of the journal, and three lines of summary
 //! behind them. Each line is of words with a space between them, and ends with a line feed. Nothing
-//! here takes memory.
+//! of it takes memory.
 #![tactic(auto)]
 
 mod layout;
@@ -18,5 +21,5 @@ mod words;
 
 pub use line::{LINE_ROOM, line_fits, line_of};
 pub use report::write_lines;
-pub use script::{BodyLine, HeaderReader, LineFault, body_line};
+pub use script::{LineFault, ScriptReader, Step};
 pub use summary::{SUMMARY_ROOM, summary_of};

@@ -1,87 +1,48 @@
 //! The lines of a script read.
 
-ghost use Rattle.std.specs.Prelude.{◌≡◌, ◌≢◌, OnErr};
+ghost use Rattle.std.specs.Prelude.{◌≡◌, ◌<◌, ◌^◌, [], OnErr, OnOk, option_map};
 ghost use Rattle.run_journal.specs.declared.domain.Domain.{Domain as AnyDomain};
 
 mod body;
+mod events;
 mod header;
+mod lines;
+mod nodes;
+mod refusal;
+mod seen;
 #[cfg(test)]
 mod tests;
 mod tokens;
 
-use body::{ap_line, event_line, sta_line};
-use domain_base::{Mac, NoMemory, Octets};
-use header::{Due, take_line};
-use run_journal::{Domain, Event};
+use domain_base::{Mac, Octets};
+use header::Due;
+use lines::{rounds_with, take_line};
+use run_journal::{Domain, Event, Journal};
+use seen::see;
 use std::alloc::Global;
 use std::marker::Model;
 use std::mem::replace;
 
-/// Why a line is not taken.
+/// Why a line is not taken. The reader has said nothing by it.
 #[derive(Clone, Copy, Debug, PartialEq, Eq)]
 pub enum LineFault {
-    /// The line is outside the grammar, for that reason. The reader is as before.
+    /// The line is outside the grammar, for that reason: 1 it is the first and not `domain 1`; 2 no such word in this place;
+    /// 3 the number or form of its arguments; 4 a node that is not listed or of the other kind; 5 a frame that was not sent;
+    /// 6 a place or length outside the frame; 8 an address or R0KH-ID used before; 9 a draw of the seed.
     Script(u8),
-    /// Memory ran out. The reader is as before.
+    /// It goes past that limit: 3 octets of an injected frame; 4 frames sent; 5 access points; 6 stations.
+    Limit(u8),
+    /// Memory ran out.
     NoMemory,
 }
 
-impl From<NoMemory> for LineFault {
-    ghost use Rattle.frame_script.specs.declared.script.LineFault.{LineFault};
-
-    ghost from_gives = { λ _ e. e ≡ LineFault.NoMemory };
-
-    fn from(_: NoMemory) -> Self {
-        LineFault::NoMemory
-    }
-}
-
-/// Reads the header of a script line by line. Contracts see what it has said so far.
+/// What a line says.
 #[derive(Drop)]
-pub struct HeaderReader {
-    due: Due,
-}
-
-impl Model for HeaderReader {
-    ghost use Rattle.frame_script.specs.Script.{Draft};
-    ghost use Rattle.frame_script.specs.Due.{draft_of, is_fit};
-    ghost use Rattle.std.specs.Prelude.{IsTrue};
-
-    ghost Value = { Draft };
-
-    ghost view = { λ r. draft_of r.due };
-
-    ghost invariant = { λ r. IsTrue (is_fit r.due) };
-}
-
-impl HeaderReader {
-    ghost use Rattle.frame_script.specs.Script.{AtVersion, AtNodes};
-    ghost use Rattle.frame_script.specs.Headers.{TakesHeader};
-
-    /// Before the first line.
-    pub fn new() -> Self
-        ensures { result ≡ AtVersion }
-    {
-        HeaderReader { due: Due::Version }
-    }
-
-    /// Takes the line that is due, without its end. The network comes with the last line of the header, and the reader is then
-    /// before the first line again.
-    pub fn line(&mut self, alloc: Global, line: &[u8]) -> Result<Option<Domain>, LineFault>
-        requires { (d : AnyDomain) → self.old ≢ AtNodes d }
-        ensures takes { TakesHeader self.old self.new line.now result }
-        ensures same { OnErr result (self.new ≡ self.old) }
-    {
-        let due = replace(&mut self.due, Due::Version);
-        let (due, answer) = take_line(due, alloc, line);
-        self.due = due;
-        answer
-    }
-}
-
-/// What a line behind the header says.
-#[derive(Drop)]
-pub enum BodyLine {
+pub enum Step {
+    /// Nothing to be done: a line of the header, or one that is passed over.
+    Nothing,
+    /// The header is whole with this line.
+    Network,
     /// Lists an access point.
     Ap {
         /// Its BSSID.
@@ -98,32 +59,69 @@ pub enum BodyLine {
     Event(Event),
 }
 
-ghost use Rattle.frame_script.specs.Headers.{SaysLine};
-
-/// What a line behind the header, without its end, says in that network, of which so many rounds were run and so many frames
-/// were sent.
-#[tactic(auto, unfolding(crate::specs::Script::body_line))]
-pub fn body_line(
-    alloc: Global,
-    domain: &Domain,
+/// Reads a script line by line.
+#[derive(Drop)]
+pub struct ScriptReader {
+    due: Due,
     rounds: u64,
-    frames: usize,
-    line: &[u8],
-) -> Result<BodyLine, LineFault>
-    ensures { SaysLine domain.now rounds frames line.now result }
-{
-    if let Some((address, text)) = ap_line(domain, rounds, line) {
-        let Ok(r0kh_id) = Vec::from_slice(alloc, text) else {
+    seen: usize,
+    sizes: Vec<usize>,
+}
+
+impl Model for ScriptReader {
+    ghost use Rattle.frame_script.specs.Headers.{Reading};
+    ghost use Rattle.frame_script.specs.Due.{draft_of};
+    ghost use Rattle.frame_script.specs.Sentences.{IsKept};
+
+    ghost Value = { Reading };
+
+    ghost view = { λ r. record { draft = draft_of r.due; rounds = r.rounds; seen = r.seen; sizes = r.sizes.items } };
+
+    ghost invariant = { λ r. IsKept r.due };
+}
+
+impl ScriptReader {
+    ghost use Rattle.std.specs.Prelude.{length, ℕ, List};
+    ghost use Rattle.frame_script.specs.Script.{AtVersion, AtNodes};
+    ghost use Rattle.frame_script.specs.Headers.{HasSeen, HasSeenAll, TakesLine, IsDomain, sizes_of};
+
+    /// Before the first line.
+    pub fn start(alloc: Global) -> Self
+        ensures { result ≡ record { draft = AtVersion; rounds = 0; seen = 0; sizes = [] } }
+    {
+        ScriptReader {
+            due: Due::Version,
+            rounds: 0,
+            seen: 0,
+            sizes: Vec::new(alloc),
+        }
+    }
+
+    /// Takes the next line, without its end. The journal has grown at its end alone since the line before.
+    pub fn line(&mut self, alloc: Global, line: &[u8], journal: &Journal) -> Result<Step, LineFault>
+        requires seen { HasSeen self.old journal.now.entries }
+        requires few { self.old.rounds < 2 ^ 63 }
+        ensures takes { TakesLine self.old self.new (sizes_of journal.now.entries) line.now result }
+        ensures seen { OnOk result (HasSeenAll self.new journal.now.entries) }
+        ensures kept { OnErr result (HasSeen self.new journal.now.entries) }
+    {
+        if see(&mut self.seen, &mut self.sizes, journal).is_err() {
             return Err(LineFault::NoMemory);
-        };
-        let r0kh_id = Octets(r0kh_id);
-        return Ok(BodyLine::Ap { address, r0kh_id });
+        }
+        let due = replace(&mut self.due, Due::Version);
+        let (due, answer) = take_line(due, alloc, self.rounds, &self.sizes, line);
+        self.due = due;
+        self.rounds = rounds_with(self.rounds, &answer);
+        answer
     }
-    if let Some(address) = sta_line(domain, rounds, line) {
-        return Ok(BodyLine::Sta { address });
+
+    /// The network with the nodes listed so far, once the header is whole.
+    pub fn domain(&self) -> Option<&Domain>
+        ensures { IsDomain self.now.draft (option_map (λ d. d.now) result) }
+    {
+        match &self.due {
+            Due::Nodes { domain } => Some(domain),
+            _ => None,
+        }
     }
-    if let Some(event) = event_line(domain, frames, line) {
-        return Ok(BodyLine::Event(event));
-    }
-    Err(LineFault::Script(2))
 }

@@ -8,7 +8,7 @@ use Rattle.run_journal.specs.declared.acts.Key.TheVariants.{Group}
 use Rattle.run_journal.specs.declared.acts.Act.{Act}
 use Rattle.run_journal.specs.declared.acts.Act.TheVariants.{Drew, Installed}
 use Rattle.run_journal.specs.Questions.{gtks, switches}
-use Rattle.handshake_rules.specs.GroupKeys.{newest, newest_of}
+use Rattle.domain_rules.specs.GroupKeys.{newest, newest_of}
 use Rattle.group_key.specs.declared.keys.GroupKey.{GroupKey}
 use Rattle.group_key.specs.Keys.{Pair, placed}
 use Rattle.group_key.specs.Holds.{IsLast, Holds, carried, under}

@@ -6,9 +6,9 @@ use Rattle.domain_base.specs.declared.names.Node.{Node}
 use Rattle.domain_base.specs.declared.names.Mac.{Mac}
 use Rattle.run_journal.specs.declared.acts.Act.{Act}
 use Rattle.run_journal.specs.Questions.{listed}
-use Rattle.handshake_rules.specs.Acts.{GroupKey, given_from}
-use Rattle.handshake_rules.specs.Questions.{given as all_given}
-use Rattle.handshake_rules.specs.GroupKeys.{memory, find_key, give_by, give}
+use Rattle.run_journal.specs.Acts.{GroupKey, given_from}
+use Rattle.run_journal.specs.Questions.{given as all_given}
+use Rattle.domain_rules.specs.GroupKeys.{memory, find_key, give_by, give}
 use Rattle.domain_rules.proofs.Parts.{same-refl}
 use Rattle.group_key.specs.Keys.{Kept, has_key, kept_id, raised, given, taken}
 use Rattle.group_key.specs.Holds.{Remembers, key_of, under}

@@ -2,10 +2,10 @@
 use Rattle.std.specs.Prelude.{◌≡◌, ℕ, List, ◌∷◌, length, map}
 use Rattle.domain_base.specs.declared.names.Node.{Node}
 use Rattle.run_journal.specs.declared.acts.Act.{Act}
-use Rattle.handshake_rules.specs.Acts.{GroupKey as Carried}
+use Rattle.run_journal.specs.Acts.{GroupKey as Carried}
 use Rattle.group_key.specs.declared.keys.GroupKey.{GroupKey}
 use Rattle.run_journal.specs.Questions.{gtks, switches}
-use Rattle.handshake_rules.specs.GroupKeys.{memory}
+use Rattle.domain_rules.specs.GroupKeys.{memory}
 use Rattle.group_key.specs.Keys.{Pair, Kept, placed}
 
 -- of the group keys drawn, the last first, this is the last

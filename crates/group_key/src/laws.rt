@@ -9,8 +9,8 @@ ghost use Rattle.run_journal.specs.declared.acts.Key.TheVariants.{Group};
 ghost use Rattle.run_journal.specs.declared.acts.Act.{Act};
 ghost use Rattle.run_journal.specs.declared.acts.Act.TheVariants.{Drew, Installed};
 ghost use Rattle.run_journal.specs.Questions.{gtks, switches};
-ghost use Rattle.handshake_rules.specs.Acts.{GroupKey as Carried};
-ghost use Rattle.handshake_rules.specs.GroupKeys.{newest, memory, find_key, give};
+ghost use Rattle.run_journal.specs.Acts.{GroupKey as Carried};
+ghost use Rattle.domain_rules.specs.GroupKeys.{newest, memory, find_key, give};
 ghost use Rattle.group_key.specs.Keys.{Pair, Kept, placed, kept_id, given, taken};
 ghost use Rattle.group_key.specs.Holds.{Holds, Remembers, carried, under};
 

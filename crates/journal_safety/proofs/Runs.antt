@@ -1,126 +1,139 @@
--- Each row adds plain acts, and so each run is safe.
-use Rattle.std.proofs.Common.{◌≡◌, ℕ, zero, suc, ◌<◌, List, [], ◌∷◌, ◌++◌, length, Option, Some, None, refl, sym, subst, arith, inl, inr}
+-- The journal of a run: each act of each node was legal when it was added.
+use Rattle.std.proofs.Common.{ℕ, zero, suc, ◌≡◌, ◌≤◌, inl, inr, Bool, true, false, cond, List, [], ◌∷◌, length, refl, sym, ap, subst, arith}
+use Rattle.std.proofs.lemmas.Bool.{cases_lt}
 use Rattle.domain_base.specs.declared.names.Node.{Node}
-use Rattle.domain_base.specs.declared.names.Node.TheVariants.{Ap}
-use Rattle.domain_base.specs.declared.names.Peer.TheVariants.{All}
+use Rattle.domain_base.specs.declared.names.Node.TheVariants.{Ap, Sta}
+use Rattle.key_hierarchy.proofs.Lengths.{length-kdf}
 use Rattle.run_journal.specs.declared.domain.Domain.{Domain}
 use Rattle.run_journal.specs.declared.domain.Event.{Event}
-use Rattle.run_journal.specs.declared.acts.Drawn.TheVariants.{Gtk, Nonce}
-use Rattle.run_journal.specs.declared.acts.Key.TheVariants.{Group}
-use Rattle.run_journal.specs.declared.acts.Kind.{Kind}
-use Rattle.run_journal.specs.declared.acts.Kind.TheVariants as kind
-use Rattle.run_journal.specs.declared.acts.Reason.{Reason}
-use Rattle.run_journal.specs.declared.acts.Reason.TheVariants as reason
 use Rattle.run_journal.specs.declared.acts.Act.{Act}
-use Rattle.run_journal.specs.declared.acts.Act.TheVariants.{Drew, Installed, Opened}
 use Rattle.run_journal.specs.declared.acts.Entry.{Entry}
+use Rattle.run_journal.specs.Acts.{same}
+use Rattle.run_journal.specs.Questions.{history, add}
 use Rattle.run_journal.specs.Premises.{In}
-use Rattle.run_journal.specs.Safe.{installed, Safe}
-use Rattle.run_journal.specs.Questions.{attempt, pending, associated}
-use Rattle.domain_rules.specs.Network.{gtk, mac}
-use Rattle.domain_rules.specs.Reading.{Reading}
-use Rattle.domain_rules.specs.Verdict.{Facts}
-use Rattle.domain_rules.specs.Rows.{NodeEvent, Take, Begin, close_attempt, close_pending, close_associated, ConnectRow, Spent, Asks, response, TakeRows, By_assoc_req, By_assoc_resp, By_m1, By_m2, By_ignored, By_refusal, Adds, start_acts, next_nonce}
-use Rattle.domain_rules.specs.Frames.{sent_assoc_req}
-use Rattle.run_journal.specs.declared.acts.Start.TheVariants.{Connect}
-use Rattle.domain_rules.specs.Explained.{push, Follows, started, Explained}
-use Rattle.journal_safety.proofs.Plain.{ArePlain, safe-plain, safe-push, plain-join}
+use Rattle.domain_rules.specs.Network.{gtk, is_ap, IsListed}
+use Rattle.domain_rules.specs.Rows.{start_acts}
+use Rattle.domain_rules.specs.Explained.{number_of, push, Step, Follows, started, Explained}
+use Rattle.domain_rules.proofs.Parts.{same-true, same-refl}
+use Rattle.domain_rules.proofs.Journals.{history-started_sta, history-not_started, history-started}
+use Rattle.domain_rules.proofs.KeyOctets.{octets-kdf}
+use Rattle.journal_safety.proofs.Legal.{Legal, LegalHistory, Chain}
+use Rattle.journal_safety.proofs.Settled.{Settled, Fine}
+use Rattle.journal_safety.proofs.Retries.{adds_fine}
 
-plain-attempt : (p : Node) (o : Option (List Act)) → ArePlain (close_attempt p o)
-plain-attempt p None = tt
-plain-attempt p (Some part) = (refl, tt)
+-- no entry is of a later round
+abbrev pub Until : ℕ → List Entry → Type 0
+Until r past = (m : Entry) → In m past → m.round ≤ r
 
-plain-pending : (o : Option Node) → ArePlain (close_pending o)
-plain-pending None = tt
-plain-pending (Some p) = (refl, tt)
+abbrev pub LegalJournal : Domain → List Entry → Type 0
+LegalJournal d [] = Unit {0}
+LegalJournal d (l ∷ past) = Legal d l.node (history l.node past) l.act × Until l.round past × LegalJournal d past
 
-plain-associated : (o : Option Node) → ArePlain (close_associated o)
-plain-associated None = tt
-plain-associated (Some p) = (refl, tt)
+abbrev entry_of : ℕ → Node → Act → List Entry → Entry
+entry_of r n e past = record { round = r; node = n; number = number_of e past; act = e }
 
-plain-response : (d : Domain) (n : Node) (from : Option Node) (k : Kind) (why : Reason) → ArePlain (response d n from k why)
-plain-response d (Ap a) (Some q) kind.AssocReq (reason.Status code) = (refl, tt)
-plain-response d n from k _ = tt
+history_own : (r : ℕ) (n : Node) (e : Act) (past : List Entry) → history n (entry_of r n e past ∷ past) ≡ e ∷ history n past
+history_own r n e past = rw (same-refl n) refl
 
-plain-take : (d : Domain) (first : ℕ) (n : Node) (h : List Act) (octets : List ℕ) (r : Reading) (facts : Facts) (g : List Act) → TakeRows d first n h octets r facts g → ArePlain g
-plain-take d first n h octets r facts g (By_assoc_req row) = subst ArePlain (sym row.says) (refl, plain-join (close_attempt row.p (attempt row.p h)) _ (plain-attempt row.p (attempt row.p h)) (refl, (refl, (refl, (refl, tt)))))
-plain-take d first n h octets r facts g (By_assoc_resp row) = subst ArePlain (sym row.says) (refl, tt)
-plain-take d first n h octets r facts g (By_m1 row) = subst ArePlain (sym row.says) (refl, (refl, (refl, tt)))
-plain-take d first n h octets r facts g (By_m2 row) = subst ArePlain (sym row.says) (refl, (refl, tt))
-plain-take d first n h octets r facts g (By_ignored row) = subst ArePlain (sym row.says) (refl, tt)
-plain-take d first n h octets r facts g (By_refusal row) = subst ArePlain (sym row.says) (refl, plain-response d n _ _ row.why)
+other_history : (r : ℕ) (n m : Node) (e : Act) (past : List Entry) → same m n ≡ false → history m (entry_of r n e past ∷ past) ≡ history m past
+other_history r n m e past is = rw is refl
 
-abbrev connects : Domain → ℕ → Node → List Act → Node → List Act
-connects d first n h p = Opened p Connect ∷ Drew (Nonce (next_nonce d first n h)) ∷ sent_assoc_req d n p ∷ []
+history_by : (d : Domain) (n : Node) (l : Entry) (past : List Entry) → Legal d l.node (history l.node past) l.act → LegalHistory d n (history n past) → (b : Bool) → same n l.node ≡ b → LegalHistory d n (cond b (l.act ∷ history n past) (history n past))
+history_by d n l past legal more true is = let e : n ≡ l.node = same-true n l.node is in (subst (λ (x : Node). Legal d x (history x past) l.act) (sym e) legal, more)
+history_by d n l past legal more false is = more
 
-plain-connect : (d : Domain) (first : ℕ) (n : Node) (h : List Act) (p : Node) (g : List Act) → ConnectRow d first n h p g → ArePlain g
-plain-connect d first n h p g (Spent late is) = subst ArePlain (sym is) (refl, tt)
-plain-connect d first n h p g (Asks early is) =
-    subst ArePlain (sym is) (plain-join (close_pending (pending h) ++ close_associated (associated h)) (connects d first n h p)
-    (plain-join (close_pending (pending h)) (close_associated (associated h)) (plain-pending (pending h)) (plain-associated (associated h))) (refl, (refl, (refl, tt))))
+pub legal_history : (d : Domain) (n : Node) (past : List Entry) → LegalJournal d past → LegalHistory d n (history n past)
+legal_history d n [] j = tt
+legal_history d n (l ∷ past) j = history_by d n l past j.0 (legal_history d n past j.2) (same n l.node) refl
 
-plain-adds : (d : Domain) (first : ℕ) (n : Node) (h : List Act) (event : NodeEvent) (g : List Act) → Adds d first n h event g → ArePlain g
-plain-adds d first n h (Take octets) g row = plain-take d first n h octets row.r row.facts g row.row
-plain-adds d first n h (Begin a) g row = plain-connect d first n h (Ap a) g row
+-- what holds after each round
+pub record Sound (d : Domain) (r : ℕ) (past : List Entry) : Type 0 where
+  pub legal : LegalJournal d past
+  pub until : Until r past
+  pub settled : (n : Node) → Settled d n (history n past)
 
-safe-follows : (d : Domain) (round : ℕ) (events : List Event) (old new : List Entry) → Follows d round events old new → Safe old → Safe new
-safe-follows d round [] old new is safe = subst Safe (sym is) safe
-safe-follows d round (event ∷ events) old new (mid, (step, rest)) safe =
-    safe-follows d round events mid new rest (subst Safe (sym step.is) (safe-push round step.node step.acts old (plain-adds d 0 step.node _ step.at_node step.acts step.group) safe))
+-- what holds of one group, halfway
+pub record Halfway (d : Domain) (r : ℕ) (n : Node) (g : List Act) (past : List Entry) : Type 0 where
+  pub legal : LegalJournal d past
+  pub until : Until r past
+  pub chain : Chain d n (history n past) g
+  pub own : Settled d n (add g (history n past))
+  pub others : (m : Node) → same m n ≡ false → Settled d m (history m past)
 
--- ---- at the start each access point installs one key
+push_sound_at : (d : Domain) (r : ℕ) (n m : Node) (past : List Entry) → Halfway d r n [] past → (b : Bool) → same m n ≡ b → Settled d m (history m past)
+push_sound_at d r n m past w true is = subst (λ (x : Node). Settled d x (history x past)) (sym (same-true m n is)) w.own
+push_sound_at d r n m past w false is = w.others m is
 
-abbrev Below : ℕ → List Entry → Type 0
-Below k j = (m : Entry) → In m j → (i : ℕ) × ((m.node ≡ Ap i) × (i < k))
+until_more : (r : ℕ) (l : Entry) (past : List Entry) → l.round ≡ r → Until r past → Until r (l ∷ past)
+until_more r l past is until m (inl here) = let k : m.round ≡ l.round = ap (λ (x : Entry). x.round) here in omega (arith, k, is)
+until_more r l past is until m (inr later) = until m later
 
-below-more : (k : ℕ) (e : Entry) (past : List Entry) → e.node ≡ Ap k → Below (suc k) past → Below (suc k) (e ∷ past)
-below-more k e past at below m (inl is) = (k, (subst (λ (x : Entry). x.node ≡ Ap k) (sym is) at, omega arith))
-below-more k e past at below m (inr there) = below m there
+push_sound : (d : Domain) (r : ℕ) (n : Node) (g : List Act) (past : List Entry) → Halfway d r n g past → Sound d r (push r n g past)
+push_sound d r n [] past w = record { legal = w.legal; until = w.until; settled = λ m. push_sound_at d r n m past w (same m n) refl }
+push_sound d r n (e ∷ g) past w =
+    let l : Entry = entry_of r n e past in
+    push_sound d r n g (l ∷ past) (record {
+      legal = (w.chain.0, w.until, w.legal);
+      until = until_more r l past refl w.until;
+      chain = subst (λ (x : List Act). Chain d n x g) (sym (history_own r n e past)) w.chain.1;
+      own = subst (λ (x : List Act). Settled d n (add g x)) (sym (history_own r n e past)) w.own;
+      others = λ m is. subst (λ (x : List Act). Settled d m x) (sym (other_history r n m e past is)) (w.others m is);
+    })
 
-below-later : (k : ℕ) (j : List Entry) → Below k j → Below (suc k) j
-below-later k j below m there = let b = below m there in (b.0, (b.1.0, omega (arith, b.1.1)))
+step_sound : (d : Domain) (r : ℕ) (event : Event) (old new : List Entry) → Step d r event old new → Sound d r old → Sound d r new
+step_sound d r event old new step s =
+    let fine : Fine d step.node (history step.node old) step.acts = adds_fine d 0 step.node (history step.node old) step.at_node step.acts (legal_history d step.node old s.legal) (s.settled step.node) step.group in
+    subst (λ (x : List Entry). Sound d r x) (sym step.is)
+    (push_sound d r step.node step.acts old (record { legal = s.legal; until = s.until; chain = fine.chain; own = fine.settled; others = λ m is. s.settled m }))
 
-abbrev draws_entry : Domain → ℕ → List Entry → Entry
-draws_entry d k past = record { round = 0; node = Ap k; number = 0; act = Drew (Gtk (gtk d (Ap k) 0)) }
+follows_sound : (d : Domain) (r : ℕ) (events : List Event) (old new : List Entry) → Follows d r events old new → Sound d r old → Sound d r new
+follows_sound d r [] old new is s = subst (λ (x : List Entry). Sound d r x) (sym is) s
+follows_sound d r (event ∷ events) old new (mid, (step, rest)) s = follows_sound d r events mid new rest (step_sound d r event old mid step s)
 
-abbrev installs_entry : Domain → ℕ → Entry
-installs_entry d k = record { round = 0; node = Ap k; number = 0; act = Installed All (Group (gtk d (Ap k) 0) 1 (mac d (Ap k))) }
+-- ---- the start
 
-below-install : (d : Domain) (k : ℕ) (past : List Entry) → Below k past → Below (suc k) (push 0 (Ap k) (start_acts d 0 (Ap k)) past)
-below-install d k past below =
-    below-more k (installs_entry d k) (draws_entry d k past ∷ past) refl (below-more k (draws_entry d k past) past refl (below-later k past below))
+start_chain : (d : Domain) (k : ℕ) → Chain d (Ap k) [] (start_acts d 0 (Ap k))
+unfolding gtk
+start_chain d k = (record { ap = refl; octets = octets-kdf _ _ _ 16; size = length-kdf _ _ _ 16; first = refl }, (record { ap = refl; newest = refl }, tt))
 
-below-started : (d : Domain) (k : ℕ) → Below k (started d k)
+-- legal as far as it goes, in round 0
+pub record Begun (d : Domain) (past : List Entry) : Type 0 where
+  pub legal : LegalJournal d past
+  pub until : Until 0 past
+
+begun_push : (d : Domain) (n : Node) (g : List Act) (past : List Entry) → Chain d n (history n past) g → Begun d past → Begun d (push 0 n g past)
+begun_push d n [] past chain w = w
+begun_push d n (e ∷ g) past chain w =
+    let l : Entry = entry_of 0 n e past in
+    begun_push d n g (l ∷ past) (subst (λ (x : List Act). Chain d n x g) (sym (history_own 0 n e past)) chain.1) (record { legal = (chain.0, w.until, w.legal); until = until_more 0 l past refl w.until })
+
+started_begun : (d : Domain) (k : ℕ) → Begun d (started d k)
 unfolding started
-below-started d zero = λ m there. absurd there
-below-started d (suc k) = below-install d k (started d k) (below-started d k)
+started_begun d zero = record { legal = tt; until = λ m there. absurd there }
+started_begun d (suc k) = begun_push d (Ap k) (start_acts d 0 (Ap k)) (started d k) (subst (λ (x : List Act). Chain d (Ap k) x (start_acts d 0 (Ap k))) (sym (history-not_started d k k (omega arith))) (start_chain d k)) (started_begun d k)
 
-same_ap : (i k : ℕ) (n m : Node) → n ≡ Ap i → m ≡ Ap k → n ≡ m → i ≡ k
-same_ap i k n m a b e = cc
+settled_none : (d : Domain) (n : Node) → (is_ap n ≡ true → IsListed d n → ⊥) → Settled d n []
+settled_none d n other = record { bare = λ p part a. cc a; nonced = λ p part a. cc a; started = λ role listed. absurd (other role listed) }
 
--- no earlier entry of the access point installs anything
-first_key : (k : ℕ) (past : List Entry) → Below k past → (drew : Entry) → drew.node ≡ Ap k → installed drew.act ≡ None → (m : Entry) (key : List ℕ) → In m (drew ∷ past) → m.node ≡ Ap k → installed m.act ≡ Some key → ⊥
-first_key k past below drew at none m key (inl is) node was = let e : installed drew.act ≡ Some key = subst (λ (x : Entry). installed x.act ≡ Some key) is was in cc
-first_key k past below drew at none m key (inr there) node was = let b = below m there in let e : b.0 ≡ k = same_ap b.0 k m.node (Ap k) b.1.0 refl node in omega (arith, b.1.1, e)
+settled_start : (d : Domain) (k : ℕ) → Settled d (Ap k) (add (start_acts d 0 (Ap k)) [])
+settled_start d k = record { bare = λ p part a. cc a; nonced = λ p part a. cc a; started = λ role listed. (gtk d (Ap k) 0, inl refl) }
 
-safe-install : (d : Domain) (k : ℕ) (past : List Entry) → Below k past → Safe past → Safe (push 0 (Ap k) (start_acts d 0 (Ap k)) past)
-safe-install d k past below safe =
-    let drew : Entry = record { round = 0; node = Ap k; number = 0; act = Drew (Gtk (gtk d (Ap k) 0)) } in
-    let mid : Safe (drew ∷ past) = safe-plain drew past refl safe in
-    record {
-      installed_once = ((λ m key there node is was. first_key k past below drew refl refl m key there node was), mid.installed_once);
-      used_once = ((λ m u v there node is was key number. absurd cc), mid.used_once);
-      joined = ((λ p i is. absurd cc), mid.joined);
-      handed_up_once = ((λ m u v there node is was key number. absurd cc), mid.handed_up_once);
-      sourced = ((λ p u is from. absurd cc), mid.sourced);
-    }
+settled_started : (d : Domain) (n : Node) → Settled d n (history n (started d (length d.aps)))
+settled_started d (Sta s) = subst (λ (x : List Act). Settled d (Sta s) x) (sym (history-started_sta d s (length d.aps))) (settled_none d (Sta s) (λ role listed. cc role))
+settled_started d (Ap k) = elim (cases_lt k (length d.aps)) [
+  | inl low ↦ subst (λ (x : List Act). Settled d (Ap k) x) (sym (history-started d k (length d.aps) low)) (settled_start d k)
+  | inr high ↦ subst (λ (x : List Act). Settled d (Ap k) x) (sym (history-not_started d k (length d.aps) high)) (settled_none d (Ap k) (λ role listed. omega (arith, listed, high)))
+]
 
-safe-started : (d : Domain) (k : ℕ) → Safe (started d k)
-unfolding started
-safe-started d zero = record { installed_once = tt; used_once = tt; joined = tt; handed_up_once = tt; sourced = tt }
-safe-started d (suc k) = safe-install d k (started d k) (below-started d k) (safe-started d k)
+sound_start : (d : Domain) → Sound d 0 (started d (length d.aps))
+sound_start d = let w = started_begun d (length d.aps) in record { legal = w.legal; until = w.until; settled = settled_started d }
 
-pub safe-run : (d : Domain) (rounds : List (List Event)) (j : List Entry) → Explained d rounds j → Safe j
+-- ---- a run
+
+later_round : (d : Domain) (r : ℕ) (past : List Entry) → Sound d r past → Sound d (suc r) past
+later_round d r past s = record { legal = s.legal; until = λ m there. omega (arith, s.until m there); settled = s.settled }
+
+pub run_sound : (d : Domain) (rounds : List (List Event)) (j : List Entry) → Explained d rounds j → Sound d (length rounds) j
 unfolding Explained
-safe-run d [] j is = subst Safe (sym is) (safe-started d (length d.aps))
-safe-run d (round ∷ rounds) j (old, (earlier, follows)) = safe-follows d (suc (length rounds)) round old j follows (safe-run d rounds old earlier)
+run_sound d [] j is = subst (λ (x : List Entry). Sound d 0 x) (sym is) (sound_start d)
+run_sound d (round ∷ rounds) j (old, (earlier, follows)) = follows_sound d (suc (length rounds)) round old j follows (later_round d (length rounds) old (run_sound d rounds old earlier))

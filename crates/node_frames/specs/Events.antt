@@ -6,19 +6,22 @@ use Rattle.run_journal.specs.declared.domain.Domain.{Domain}
 use Rattle.run_journal.specs.declared.acts.Act.{Act}
 use Rattle.run_journal.specs.declared.acts.Outcome.{Outcome}
 use Rattle.run_journal.specs.Questions.{add}
-use Rattle.domain_rules.specs.Rows.{NodeEvent as AnyEvent, Take, Begin, Adds, outcome_of}
+use Rattle.domain_rules.specs.Rows.{NodeEvent as AnyEvent, Take, Begin, Retry, Adds, outcome_of}
 use Rattle.node_frames.specs.declared.event.NodeEvent.{NodeEvent}
 use Rattle.node_frames.specs.declared.event.NodeEvent.TheVariants as event
 
 abbrev pub event_of : NodeEvent → AnyEvent
 event_of (event.Take octets) = Take octets.now
 event_of (event.Connect a) = Begin a
+event_of (event.Retry s) = Retry s
 
--- the other node is listed; access points begin no attempts
+-- the other node is listed; stations begin attempts, and access points send once more
 abbrev pub IsEventAt : Domain → Node → AnyEvent → Type 0
 IsEventAt d n (Take octets) = Unit {0}
 IsEventAt d (Ap k) (Begin a) = ⊥
 IsEventAt d (Sta k) (Begin a) = a < length d.aps
+IsEventAt d (Ap k) (Retry s) = s < length d.stas
+IsEventAt d (Sta k) (Retry s) = ⊥
 
 -- A node that stands for the history h of node n is taken by the event to one that stands for the history with these acts,
 -- which are put behind those that waited.

@@ -7,4 +7,6 @@ pub enum NodeEvent<'a> {
     Take(&'a [u8]),
     /// A station begins an attempt with that access point, by association.
     Connect(u16),
+    /// An access point sends that station once more what it waits to have answered.
+    Retry(u16),
 }

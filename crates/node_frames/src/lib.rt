@@ -20,7 +20,7 @@ pub use judging::{Judged, judge};
 pub use network::{address, peer_of};
 pub use outbox::Outbox;
 pub use reading::read;
-pub use sending::{assoc_req, assoc_resp, m1, m2, refusal};
+pub use sending::{assoc_req, assoc_resp, m1, m2, m3, m4, refusal};
 pub use suites::rsne_status;
 pub use taking::{covered, took};
 

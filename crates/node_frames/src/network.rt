@@ -3,19 +3,29 @@
 ghost use Rattle.std.specs.Prelude.{◌≡◌, ◌≤◌, length, position, bytes_eq};
 ghost use Rattle.run_journal.specs.declared.domain.ListedAp.{ListedAp as AnyAp};
 ghost use Rattle.domain_base.specs.declared.names.Mac.{Mac as AnyMac};
+ghost use Rattle.air_frame.specs.Sent.{IsAddress};
 ghost use Rattle.domain_rules.specs.Network.{IsListed, mac, peer_of};
 
 use domain_base::{Mac, Node};
 use run_journal::{Domain, ListedAp};
 
+// An address is six octets.
+fn whole(address: Mac) -> Mac
+    ensures same { result ≡ address }
+    ensures whole { IsAddress result.0 }
+{
+    address
+}
+
 /// A node's address: an access point's is its BSSID.
 pub fn address(domain: &Domain, node: Node) -> Mac
     requires { IsListed domain.now node }
-    ensures { result ≡ mac domain.now node }
+    ensures mac { result ≡ mac domain.now node }
+    ensures whole { IsAddress result.0 }
 {
     match node {
-        Node::Ap(number) => domain.aps.0[usize::from(number)].address,
-        Node::Sta(number) => domain.stas.0[usize::from(number)],
+        Node::Ap(number) => whole(domain.aps.0[usize::from(number)].address),
+        Node::Sta(number) => whole(domain.stas.0[usize::from(number)]),
     }
 }
 

@@ -16,7 +16,7 @@ use Rattle.run_journal.specs.declared.acts.Outcome.TheVariants.{Accepted, Answer
 use Rattle.run_journal.specs.declared.acts.Key.{Key}
 use Rattle.run_journal.specs.declared.acts.Key.TheVariants.{Pairwise, Group}
 use Rattle.run_journal.specs.declared.acts.Act.{Act}
-use Rattle.run_journal.specs.declared.acts.Act.TheVariants.{Opened, Closed, Drew, Derived, Sent, Took, Installed, Finished}
+use Rattle.run_journal.specs.declared.acts.Act.TheVariants.{Opened, Closed, Drew, Derived, Sent, Took, Installed, Used, Finished}
 
 abbrev pub same : Node → Node → Bool
 same (Ap k) (Ap m) = k == m
@@ -131,3 +131,18 @@ key_octets (Group gtk id b) = gtk
 abbrev pub switched : Act → Option (List ℕ)
 switched (Installed All (Group gtk id b)) = Some gtk
 switched _ = None
+
+-- a group key and its key id
+pub record GroupKey : Type 0 where
+  pub key : List ℕ
+  pub id : ℕ
+
+-- a station installed a group key of access point p
+abbrev pub given_from : Node → Act → Option GroupKey
+given_from p (Installed (One q) (Group gtk id b)) = cond (same p q) (Some (record { key = gtk; id = id })) None
+given_from p _ = None
+
+-- a packet number was used to all
+abbrev pub uses_all : Act → Bool
+uses_all (Used All key id number octets) = true
+uses_all _ = false

@@ -1,12 +1,12 @@
 -- Questions to the history of one node: the list of its acts, NEWEST FIRST.
-use Rattle.std.specs.Prelude.{ℕ, suc, Bool, true, false, cond, List, [], ◌∷◌, Option, Some, None}
+use Rattle.std.specs.Prelude.{ℕ, suc, Bool, true, false, cond, List, [], ◌∷◌, Option, Some, None, is_some}
 use Rattle.domain_base.specs.declared.names.Node.{Node}
 use Rattle.run_journal.specs.declared.acts.Kind.{Kind}
 use Rattle.run_journal.specs.declared.acts.Part.TheVariants.{Attempt, Session}
 use Rattle.run_journal.specs.declared.acts.Act.{Act}
 use Rattle.run_journal.specs.declared.acts.Act.TheVariants.{Opened, Closed, Finished, Drew}
 use Rattle.run_journal.specs.declared.acts.Entry.{Entry}
-use Rattle.run_journal.specs.Acts.{same, opens, ends, closes, finishes, nonce_drawn, gtk_drawn, switched, Derivation, derived, accepted, replied, sent}
+use Rattle.run_journal.specs.Acts.{same, opens, ends, closes, finishes, nonce_drawn, gtk_drawn, switched, GroupKey, given_from, uses_all, Derivation, derived, accepted, replied, sent}
 
 -- the acts of one node in a journal
 abbrev pub history : Node → List Entry → List Act
@@ -25,6 +25,11 @@ also e (Some part) = Some (e ∷ part)
 abbrev pub attempt : Node → List Act → Option (List Act)
 attempt p [] = None
 attempt p (e ∷ h) = cond (opens p e) (Some (e ∷ [])) (cond (ends p e) None (also e (attempt p h)))
+
+-- the history from the last Opened with p on
+abbrev pub since : Node → List Act → List Act
+since p [] = []
+since p (e ∷ h) = cond (opens p e) (e ∷ []) (e ∷ since p h)
 
 -- the first nonce drawn: that of the attempt, of which this is the history
 abbrev pub own_nonce : List Act → Option (List ℕ)
@@ -65,6 +70,11 @@ abbrev pub listed : {A : Type 0} → Option A → List A → List A
 listed None xs = xs
 listed (Some x) xs = x ∷ xs
 
+-- the history before the first frame of that kind that was sent to p since the last Opened with p
+abbrev pub before_sent : Node → Kind → List Act → Option (List Act)
+before_sent p k [] = None
+before_sent p k (e ∷ h) = cond (opens p e) None (or_else (before_sent p k h) (cond (is_some (sent p k e)) (Some h) None))
+
 -- the octets of all frames of that kind accepted or answered from p, the last first
 abbrev pub all_replied : Node → Kind → List Act → List (List ℕ)
 all_replied p k [] = []
@@ -84,6 +94,16 @@ gtks (e ∷ h) = listed (gtk_drawn e) (gtks h)
 abbrev pub switches : List Act → List (List ℕ)
 switches [] = []
 switches (e ∷ h) = listed (switched e) (switches h)
+
+-- the group keys that a station installed from access point p, the last first
+abbrev pub given : Node → List Act → List GroupKey
+given p [] = []
+given p (e ∷ h) = listed (given_from p e) (given p h)
+
+-- how many packet numbers an access point used under its current group key
+abbrev pub group_uses : List Act → ℕ
+group_uses [] = 0
+group_uses (e ∷ h) = cond (is_some (switched e)) 0 (cond (uses_all e) (suc (group_uses h)) (group_uses h))
 
 abbrev pub is_draw : Act → Bool
 is_draw (Drew v) = true

@@ -58,7 +58,7 @@ pub struct Domain {
 }
 
 /// What a script asks for.
-#[derive(Clone, Copy, Debug, PartialEq, Eq)]
+#[derive(Debug, Drop)]
 pub enum Event {
     /// The station begins an attempt with the access point, by association.
     Connect {
@@ -73,5 +73,39 @@ pub enum Event {
         number: u64,
         /// The node.
         to: Node,
+    },
+    /// The frame of that number comes to the node with one octet changed.
+    Alter {
+        /// The frame's number, from 1.
+        number: u64,
+        /// The place of the octet, from 0.
+        place: usize,
+        /// What it is changed with, by exclusive or.
+        mask: u8,
+        /// The node.
+        to: Node,
+    },
+    /// The first octets of the frame of that number come to the node.
+    Cut {
+        /// The frame's number, from 1.
+        number: u64,
+        /// How many octets come.
+        size: usize,
+        /// The node.
+        to: Node,
+    },
+    /// These octets come to the node.
+    Inject {
+        /// The node.
+        to: Node,
+        /// What comes.
+        octets: Octets,
+    },
+    /// The access point sends the station once more what it waits to have answered.
+    Retry {
+        /// The access point, from 0.
+        ap: u16,
+        /// The station, from 0.
+        sta: u16,
     },
 }

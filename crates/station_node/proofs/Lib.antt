@@ -1,6 +1,14 @@
+pub mod Acts
+pub mod GivenKeys
 pub mod Standing
+pub mod Finishing
 pub mod Verdicts
+pub mod Keyings
 pub mod Taking
+pub mod TakingM3
 pub mod Asking
 pub mod Taken
+pub mod TakenM3
 pub mod Judged
+pub mod Keeping
+pub mod KeyDataRead

@@ -6,7 +6,8 @@ use Rattle.domain_base.specs.declared.names.Node.{Node}
 use Rattle.domain_base.specs.declared.names.Node.TheVariants.{Ap, Sta}
 use Rattle.rsn_elements.specs.Elements.{ElementFields}
 use Rattle.eapol_key.specs.declared.messages.Message.{Message}
-use Rattle.eapol_key.specs.declared.messages.Message.TheVariants.{M1}
+use Rattle.eapol_key.specs.declared.messages.Message.TheVariants.{M1, M3}
+use Rattle.key_hierarchy.specs.declared.inputs.Inputs.{Inputs}
 use Rattle.run_journal.specs.declared.domain.Domain.{Domain}
 use Rattle.run_journal.specs.declared.acts.Kind.{Kind}
 use Rattle.run_journal.specs.declared.acts.Kind.TheVariants as kind
@@ -17,7 +18,8 @@ use Rattle.run_journal.specs.Questions.{attempt}
 use Rattle.domain_rules.specs.Reading.{Management, KeyMessage}
 use Rattle.domain_rules.specs.Verdict.{assoc_resp_verdict, m1_verdict, management_verdict, key_verdict}
 use Rattle.domain_rules.proofs.Verdicts.{unawaited-assoc_resp, unawaited-m1, assoc_resp-in, m1-in}
-use Rattle.station_node.specs.State.{State, Attempt}
+use Rattle.station_node.specs.declared.attempts.Attempt.{Attempt}
+use Rattle.station_node.specs.State.{State}
 use Rattle.station_node.specs.Stands.{Stands, IsUnderWay}
 use Rattle.station_node.specs.Steps.{HasNone}
 use Rattle.station_node.proofs.Standing.{stands-under_way}
@@ -61,16 +63,16 @@ m1-elsewhere first s h p k st none = m1_by h p k (elsewhere first s h p true st 
 
 -- ---- with it
 
-pub response-awaited : (first : ℕ) (s : State) (h : List Act) (p : ℕ) (v : List ℕ) (b : Management) → Stands first s h → s.attempt ≡ Some (record { ap = p; snonce = v; is_associated = false })
+pub response-awaited : (first : ℕ) (s : State) (h : List Act) (p : ℕ) (v : List ℕ) (key : Option Inputs) (b : Management) → Stands first s h → s.attempt ≡ Some (record { ap = p; snonce = v; is_associated = false; key = key })
     → assoc_resp_verdict h (Ap p) b ≡ (if b.status == 0 then Accepted else Refused (reason.Status b.status))
-response-awaited first s h p v b st is =
-    let u = stands-under_way first s h (record { ap = p; snonce = v; is_associated = false }) st is in
+response-awaited first s h p v key b st is =
+    let u = stands-under_way first s h (record { ap = p; snonce = v; is_associated = false; key = key }) st is in
     assoc_resp-in h (Ap p) b u.part false u.is u.begun u.hears
 
-pub m1-awaited : (first : ℕ) (s : State) (h : List Act) (p : ℕ) (v : List ℕ) (k : KeyMessage) → Stands first s h → s.attempt ≡ Some (record { ap = p; snonce = v; is_associated = true })
+pub m1-awaited : (first : ℕ) (s : State) (h : List Act) (p : ℕ) (v : List ℕ) (key : Option Inputs) (k : KeyMessage) → Stands first s h → s.attempt ≡ Some (record { ap = p; snonce = v; is_associated = true; key = key })
     → m1_verdict h (Ap p) k ≡ Accepted
-m1-awaited first s h p v k st is =
-    let u = stands-under_way first s h (record { ap = p; snonce = v; is_associated = true }) st is in
+m1-awaited first s h p v key k st is =
+    let u = stands-under_way first s h (record { ap = p; snonce = v; is_associated = true; key = key }) st is in
     m1-in h (Ap p) k u.part true None u.is u.begun u.hears u.keeps
 
 -- ---- frames of other kinds
@@ -79,6 +81,7 @@ pub management-other : (d : Domain) (first s : ℕ) (h : List Act) (p : Node) (k
 management-other d first s h p kind.AssocResp b e other = absurd (other refl)
 management-other d first s h p _ b e other = refl
 
-pub key-other : (d : Domain) (s : ℕ) (h : List Act) (p : Node) (m : Message) (k : KeyMessage) → m ≢ M1 → key_verdict d (Sta s) h p m k ≡ Refused reason.Unawaited
-key-other d s h p M1 k other = absurd (other refl)
-key-other d s h p _ k other = refl
+pub key-other : (d : Domain) (s : ℕ) (h : List Act) (p : Node) (m : Message) (k : KeyMessage) → m ≢ M1 → m ≢ M3 → key_verdict d (Sta s) h p m k ≡ Refused reason.Unawaited
+key-other d s h p M1 k other more = absurd (other refl)
+key-other d s h p M3 k other more = absurd (more refl)
+key-other d s h p _ k other more = refl

@@ -6,12 +6,14 @@ ghost use Rattle.std.specs.Prelude.{◌≡◌, ◌≢◌, ◌<◌, IfOk, length}
 ghost use Rattle.domain_base.specs.declared.names.Akm.{Akm as AnyAkm};
 ghost use Rattle.domain_rules.specs.Network.{InForm, last_draw};
 
+mod handshakes;
+
 use crate::StationNode;
 use domain_base::{Akm, Mac, NoMemory, Node, Octets, Peer};
 use eapol_key::Message;
 use node_frames::{NodeEvent, Outbox};
 use run_journal::{
-    Act, Aps, Domain, Drawn, Kind, ListedAp, Outcome, Part, Reason, Start, Stas, Why,
+    Act, Aps, Domain, Drawn, Key, Kind, ListedAp, Outcome, Part, Reason, Start, Stas, Why,
 };
 use std::alloc::Global;
 use std::process::Abort;
@@ -75,6 +77,9 @@ const TO_AP: &[u8] =
 
 const RSNE: &[u8] = b"\x30\x14\x01\0\0\x0f\xac\x04\x01\0\0\x0f\xac\x04\x01\0\0\x0f\xac\x02\x0c\0";
 
+// The group key that the first access point draws first.
+const GTK: [u8; 16] = *b"\xf5\x58\xbe\xb5\x00\x4e\xb0\x68\x8e\x7e\x5a\x18\x9f\xad\xaa\x91";
+
 // What comes to the station.
 #[derive(Clone, Copy)]
 enum Given {
@@ -82,6 +87,8 @@ enum Given {
     Frame(&'static [u8]),
     // M1 of the first access point, with this counter and this nonce.
     M1(u64, [u8; 32]),
+    // M3 of the first access point, with this counter, this nonce, this MIC and this key data.
+    M3(u64, [u8; 32], [u8; 16], &'static [u8]),
 }
 
 // What an act is to be.
@@ -96,6 +103,18 @@ enum Want {
     // M2 to the first access point, with this counter, this nonce and this MIC.
     M2(u64, [u8; 32], [u8; 16]),
     Took(Option<Node>, Kind, Outcome),
+    // The MIC of M3 verified under this KCK.
+    Sealed(Outcome, [u8; 16]),
+    // The temporal key.
+    Pairwise([u8; 16]),
+    // The group key with this key id.
+    Group(u8),
+    Resumed(u8),
+    // The session is under a key of these nonces.
+    Finished([u8; 32], [u8; 32]),
+    // M4 to the first access point, with this counter and this MIC.
+    M4(u64, [u8; 16]),
+    Left(Node),
     Idle(Why),
 }
 
@@ -173,6 +192,92 @@ fn m2(alloc: Global, counter: u64, snonce: &[u8; 32], mic: &[u8; 16]) -> Result<
     )
 }
 
+fn m3(
+    alloc: Global,
+    counter: u64,
+    anonce: &[u8; 32],
+    mic: &[u8; 16],
+    key_data: &[u8],
+) -> Result<Vec<u8>, NoMemory> {
+    let size = (key_data.len() % 65_536) as u16;
+    let whole = size.wrapping_add(95).to_be_bytes();
+    let mut octets = joined(
+        alloc,
+        &[
+            FROM_AP,
+            b"\x02\x03",
+            &whole,
+            b"\x02\x13\xca\0\x10",
+            &counter.to_be_bytes(),
+            anonce,
+            &[0; 32],
+            mic,
+            &size.to_be_bytes(),
+        ],
+    )?;
+    octets.extend_from_slice(key_data)?;
+    Ok(octets)
+}
+
+fn m4(alloc: Global, counter: u64, mic: &[u8; 16]) -> Result<Vec<u8>, NoMemory> {
+    let front = b"\x02\x03\0\x5f\x02\x03\x0a\0\0";
+    joined(
+        alloc,
+        &[TO_AP, front, &counter.to_be_bytes(), &[0; 64], mic, b"\0\0"],
+    )
+}
+
+// The act is that of giving this group key of the first access point.
+fn is_group(key: &Key, wanted: u8) -> bool {
+    match key {
+        Key::Group { gtk, id, bssid } => {
+            *gtk == GTK && *id == wanted && *bssid == Mac([2, 0, 0, 0, 0, 1])
+        }
+        Key::Pairwise { .. } => false,
+    }
+}
+
+// The act is one of those that M3 brings.
+fn is_of_m3(alloc: Global, act: &Act, came: &[u8], want: Want) -> Result<bool, NoMemory> {
+    Ok(match (want, act) {
+        (
+            Want::Sealed(told, kck),
+            Act::Took {
+                from,
+                octets,
+                kind,
+                outcome,
+                seal: Some(seal),
+            },
+        ) => {
+            *from == Some(A1)
+                && *kind == Kind::Key(Message::M3)
+                && *outcome == told
+                && octets.as_slice() == came
+                && seal.key == kck
+        }
+        (
+            Want::Pairwise(wanted),
+            Act::Installed {
+                peer,
+                key: Key::Pairwise { tk, .. },
+            },
+        ) => *peer == Peer::One(A1) && *tk == wanted,
+        (Want::Group(id), Act::Installed { peer, key }) => *peer == Peer::One(A1)
+            && is_group(key, id),
+        (Want::Resumed(id), Act::Resumed { peer, key }) => *peer == A1 && is_group(key, id),
+        (Want::Finished(anonce, snonce), Act::Finished { peer, inputs }) => {
+            *peer == A1 && inputs.anonce == anonce && inputs.snonce == snonce
+        }
+        (Want::M4(counter, mic), _) => {
+            let expected = m4(alloc, counter, &mic)?;
+            is_sent(act, A1, Kind::Key(Message::M4), &expected, true)
+        }
+        (Want::Left(node), Act::Closed { peer, part }) => *peer == node && *part == Part::Session,
+        _ => false,
+    })
+}
+
 // The act is that of sending these octets so.
 fn is_sent(act: &Act, to: Node, what: Kind, expected: &[u8], is_sealed: bool) -> bool {
     match act {
@@ -223,7 +328,7 @@ fn is(alloc: Global, act: &Act, came: &[u8], want: Want) -> Result<bool, NoMemor
                 && seal.is_none()
         }
         (Want::Idle(reason), Act::Idle { why }) => *why == reason,
-        _ => false,
+        _ => is_of_m3(alloc, act, came, want)?,
     })
 }
 
@@ -233,6 +338,7 @@ fn octets_of(alloc: Global, given: Given) -> Result<Vec<u8>, NoMemory> {
         Given::Connect(_) => Ok(Vec::new(alloc)),
         Given::Frame(octets) => Ok(Vec::from_slice(alloc, octets)?),
         Given::M1(counter, anonce) => m1(alloc, counter, &anonce),
+        Given::M3(counter, anonce, mic, key_data) => m3(alloc, counter, &anonce, &mic, key_data),
     }
 }
 
@@ -272,7 +378,7 @@ fn try_steps(rt: &impl Abort, alloc: Global, first: u64, steps: &[Step]) -> Resu
     requires { first < last_draw }
 {
     let domain = network(alloc)?;
-    let mut node = StationNode::start(0, first);
+    let mut node = StationNode::start(alloc, 0, first);
     let mut out = Outbox::new(alloc);
     for step in steps {
         try_step(rt, alloc, &domain, &mut node, &mut out, *step)?;

@@ -1,14 +1,16 @@
 //! The lines of a header.
 
-ghost use Rattle.std.specs.Prelude.{◌≡◌, ◌≤◌, length, None, Some, MatchOption, OnErr, IfSome, IsTrue};
-ghost use Rattle.domain_base.specs.declared.names.Akm.TheVariants.{Psk};
-ghost use Rattle.frame_script.specs.Due.{draft_of, is_fit};
-ghost use Rattle.frame_script.specs.Headers.{TakesHeader};
-ghost use Rattle.frame_script.specs.Script.{AtAkm, AtPsk, AtSeed, AtSsid, AtVersion, akm_of, new_network, octets_behind, ssid_of};
+ghost use Rattle.std.specs.Prelude.{◌≡◌, ◌≢◌, ◌≤◌, ℕ, List, length, IfOk};
+ghost use Rattle.domain_base.specs.declared.names.Akm.TheVariants.{FtPsk};
+ghost use Rattle.frame_script.specs.Due.{draft_of};
+ghost use Rattle.frame_script.specs.Script.{AtAkm, AtNodes, AtPsk, AtSeed, AtSsid, akm_of, header_line, new_network, passphrase_of, psk_of, seed_of, ssid_of};
+ghost use Rattle.frame_script.specs.Sentences.{IsKept, TakesHeader, Tells, TellsBy};
 
-use crate::script::LineFault;
-use crate::script::tokens::{behind, hex_octets, is_text};
+use crate::script::refusal::Refusal;
+use crate::script::tokens::{hex_octets, is_text};
+use crate::script::{LineFault, Step};
 use domain_base::{Akm, Octets};
+use mac_prf::pbkdf2;
 use run_journal::{Aps, Domain, Stas};
 use std::alloc::Global;
 
@@ -40,101 +42,164 @@ pub(crate) enum Due {
         /// The pre-shared key.
         psk: [u8; 32],
     },
+    /// None: the header is whole.
+    Nodes {
+        /// The network, with the nodes listed so far.
+        domain: Domain,
+    },
 }
 
-/// Which line is due behind this one, and what is answered: the network behind the last one.
-pub(crate) type Step = (Due, Result<Option<Domain>, LineFault>);
+/// Which line is due behind this one, and what this one says.
+pub(crate) type Taken = (Due, Result<Step, LineFault>);
 
-/// Takes the line that is due. Where it is refused the same one is due.
-pub(crate) fn take_line(due: Due, alloc: Global, line: &[u8]) -> Step
-    requires { IsTrue (is_fit due) }
-    ensures fit { IsTrue (is_fit result.0) }
-    ensures takes { TakesHeader (draft_of due) (draft_of result.0) line.now result.1 }
-    ensures same { OnErr result.1 (draft_of result.0 ≡ draft_of due) }
+// 64 hexadecimal digits; not the draw that only a live run has.
+#[tactic(auto, unfolding(crate::specs::Script::seed_of))]
+fn seed_of(text: &[u8]) -> Result<[u8; 32], Refusal>
+    ensures { Tells result (seed_of text.now) }
 {
-    match due {
-        Due::Version => version_line(line),
-        Due::Seed => seed_line(line),
-        Due::Ssid { seed } => ssid_line(seed, alloc, line),
-        Due::Psk { seed, ssid } => psk_line(seed, ssid, line),
-        Due::Akm { seed, ssid, psk } => akm_line(seed, ssid, psk, alloc, line),
+    if text == b"draw".as_slice() {
+        return Err(Refusal::Mode);
     }
+    hex_octets(text).ok_or(Refusal::Arguments)
 }
 
-// The version of the form.
-#[tactic(auto, unfolding(crate::specs::Script::header_after))]
-fn version_line(line: &[u8]) -> Step
-    ensures fit { IsTrue (is_fit result.0) }
-    ensures takes { TakesHeader AtVersion (draft_of result.0) line.now result.1 }
-    ensures same { OnErr result.1 (draft_of result.0 ≡ AtVersion) }
+// The seed, behind its word.
+#[tactic(auto, unfolding(crate::specs::Script::header_line))]
+fn seed_line(word: &[u8], text: &[u8]) -> Result<[u8; 32], Refusal>
+    ensures { TellsBy AtSsid result (header_line AtSeed word.now text.now) }
 {
-    if line == b"domain 1".as_slice() {
-        (Due::Seed, Ok(None))
+    if word == b"seed".as_slice() {
+        seed_of(text)
     } else {
-        (Due::Version, Err(LineFault::Script(2)))
+        Err(Refusal::Word)
     }
 }
 
-// The seed.
-#[tactic(auto, unfolding(crate::specs::Script::header_after))]
-fn seed_line(line: &[u8]) -> Step
-    ensures fit { IsTrue (is_fit result.0) }
-    ensures takes { TakesHeader AtSeed (draft_of result.0) line.now result.1 }
-    ensures same { OnErr result.1 (draft_of result.0 ≡ AtSeed) }
+/// Takes the seed.
+pub(crate) fn take_seed(word: &[u8], text: &[u8]) -> Taken
+    ensures kept { IsKept result.0 }
+    ensures takes { TakesHeader AtSeed (draft_of result.0) word.now text.now result.1 }
 {
-    match octets_behind(b"seed ", line) {
-        Some(seed) => (Due::Ssid { seed }, Ok(None)),
-        None => (Due::Seed, Err(LineFault::Script(2))),
+    match seed_line(word, text) {
+        Ok(seed) => (Due::Ssid { seed }, Ok(Step::Nothing)),
+        Err(refusal) => (Due::Seed, Err(refusal.into())),
     }
 }
 
-// The SSID.
-#[tactic(auto, unfolding(crate::specs::Script::header_after))]
-fn ssid_line(seed: [u8; 32], alloc: Global, line: &[u8]) -> Step
-    ensures fit { IsTrue (is_fit result.0) }
-    ensures takes { TakesHeader (AtSsid seed) (draft_of result.0) line.now result.1 }
-    ensures same { OnErr result.1 (draft_of result.0 ≡ AtSsid seed) }
+// The name of the network.
+#[tactic(auto, unfolding(crate::specs::Script::ssid_of))]
+fn ssid_of(text: &[u8]) -> Result<&[u8], Refusal>
+    ensures size { IfOk result (λ ssid. (1 ≤ length ssid.now) × (length ssid.now ≤ 32)) }
+    ensures says { TellsBy (λ ssid. ssid.now) result (ssid_of text.now) }
 {
-    let Some(text) = ssid_of(line) else {
-        return (Due::Ssid { seed }, Err(LineFault::Script(2)));
-    };
-    match Vec::from_slice(alloc, text) {
-        Ok(octets) => {
-            let ssid = Octets(octets);
-            (Due::Psk { seed, ssid }, Ok(None))
-        }
-        Err(_) => (Due::Ssid { seed }, Err(LineFault::NoMemory)),
+    if is_text(32, 32, text) {
+        Ok(text)
+    } else {
+        Err(Refusal::Arguments)
     }
 }
 
-// The pre-shared key.
-#[tactic(auto, unfolding(crate::specs::Script::header_after))]
-fn psk_line(seed: [u8; 32], ssid: Octets, line: &[u8]) -> Step
+// The name of the network, behind its word.
+#[tactic(auto, unfolding(crate::specs::Script::header_line))]
+fn ssid_line<'a>(seed: &[u8; 32], word: &[u8], text: &'a [u8]) -> Result<&'a [u8], Refusal>
+    ensures size { IfOk result (λ ssid. (1 ≤ length ssid.now) × (length ssid.now ≤ 32)) }
+    ensures says { TellsBy (λ ssid. AtPsk seed.now ssid.now) result (header_line (AtSsid seed.now) word.now text.now) }
+{
+    if word == b"ssid".as_slice() {
+        ssid_of(text)
+    } else {
+        Err(Refusal::Word)
+    }
+}
+
+/// Takes the SSID.
+pub(crate) fn take_ssid(seed: [u8; 32], alloc: Global, word: &[u8], text: &[u8]) -> Taken
+    ensures kept { IsKept result.0 }
+    ensures takes { TakesHeader (AtSsid seed) (draft_of result.0) word.now text.now result.1 }
+{
+    match ssid_line(&seed, word, text) {
+        Ok(ssid) => match Vec::from_slice(alloc, ssid) {
+            Ok(octets) => {
+                let ssid = Octets(octets);
+                (Due::Psk { seed, ssid }, Ok(Step::Nothing))
+            }
+            Err(_) => (Due::Ssid { seed }, Err(LineFault::NoMemory)),
+        },
+        Err(refusal) => (Due::Ssid { seed }, Err(refusal.into())),
+    }
+}
+
+// The key of a passphrase.
+#[tactic(auto, unfolding(crate::specs::Script::passphrase_of))]
+fn passphrase_of(ssid: &[u8], text: &[u8]) -> Result<[u8; 32], Refusal>
+    ensures { Tells result (passphrase_of ssid.now text.now) }
+{
+    if 8 <= text.len() && is_text(63, 32, text) {
+        Ok(pbkdf2(text, ssid))
+    } else {
+        Err(Refusal::Arguments)
+    }
+}
+
+// The pre-shared key, as it is or by a passphrase.
+#[tactic(auto, unfolding(crate::specs::Script::psk_of))]
+fn psk_of(ssid: &[u8], word: &[u8], text: &[u8]) -> Result<[u8; 32], Refusal>
+    ensures { Tells result (psk_of ssid.now word.now text.now) }
+{
+    if word == b"psk".as_slice() {
+        hex_octets(text).ok_or(Refusal::Arguments)
+    } else if word == b"passphrase".as_slice() {
+        passphrase_of(ssid, text)
+    } else {
+        Err(Refusal::Word)
+    }
+}
+
+// The pre-shared key, by its word.
+#[tactic(auto, unfolding(crate::specs::Script::header_line))]
+fn psk_line(ssid: &[u8], word: &[u8], text: &[u8]) -> Result<[u8; 32], Refusal>
+    ensures { (seed : List ℕ) → TellsBy (AtAkm seed ssid.now) result (header_line (AtPsk seed ssid.now) word.now text.now) }
+{
+    psk_of(ssid, word, text)
+}
+
+/// Takes the pre-shared key.
+pub(crate) fn take_psk(seed: [u8; 32], ssid: Octets, word: &[u8], text: &[u8]) -> Taken
     requires { (1 ≤ length ssid) × (length ssid ≤ 32) }
-    ensures fit { IsTrue (is_fit result.0) }
-    ensures takes { TakesHeader (AtPsk seed ssid) (draft_of result.0) line.now result.1 }
-    ensures same { OnErr result.1 (draft_of result.0 ≡ AtPsk seed ssid) }
+    ensures kept { IsKept result.0 }
+    ensures takes { TakesHeader (AtPsk seed ssid) (draft_of result.0) word.now text.now result.1 }
 {
-    match octets_behind(b"psk ", line) {
-        Some(psk) => (Due::Akm { seed, ssid, psk }, Ok(None)),
-        None => (Due::Psk { seed, ssid }, Err(LineFault::Script(2))),
+    match psk_line(ssid.as_slice(), word, text) {
+        Ok(psk) => (Due::Akm { seed, ssid, psk }, Ok(Step::Nothing)),
+        Err(refusal) => (Due::Psk { seed, ssid }, Err(refusal.into())),
     }
 }
 
-// The suite, and the network with it.
-#[tactic(auto, unfolding(crate::specs::Script::header_after))]
-fn akm_line(seed: [u8; 32], ssid: Octets, psk: [u8; 32], alloc: Global, line: &[u8]) -> Step
-    requires { (1 ≤ length ssid) × (length ssid ≤ 32) }
-    ensures fit { IsTrue (is_fit result.0) }
-    ensures takes { TakesHeader (AtAkm seed ssid psk) (draft_of result.0) line.now result.1 }
-    ensures same { OnErr result.1 (draft_of result.0 ≡ AtAkm seed ssid psk) }
+// The suite by its name.
+#[tactic(auto, unfolding(crate::specs::Script::akm_of))]
+fn akm_of(text: &[u8]) -> Result<Akm, Refusal>
+    ensures suite { IfOk result (λ akm. akm ≢ FtPsk) }
+    ensures says { Tells result (akm_of text.now) }
 {
-    match akm_of(line) {
-        Some(akm) => {
-            let network = new_network(seed, ssid, psk, akm, alloc);
-            (Due::Version, Ok(Some(network)))
-        }
-        None => (Due::Akm { seed, ssid, psk }, Err(LineFault::Script(2))),
+    if text == b"psk".as_slice() {
+        Ok(Akm::Psk)
+    } else if text == b"psk-sha256".as_slice() {
+        Ok(Akm::PskSha256)
+    } else {
+        Err(Refusal::Arguments)
+    }
+}
+
+// The suite, behind its word.
+#[tactic(auto, unfolding(crate::specs::Script::header_line))]
+fn akm_line(word: &[u8], text: &[u8]) -> Result<Akm, Refusal>
+    ensures suite { IfOk result (λ akm. akm ≢ FtPsk) }
+    ensures says { (seed ssid psk : List ℕ) → TellsBy (λ akm. AtNodes (new_network seed ssid psk akm)) result (header_line (AtAkm seed ssid psk) word.now text.now) }
+{
+    if word == b"akm".as_slice() {
+        akm_of(text)
+    } else {
+        Err(Refusal::Word)
     }
 }
 
@@ -153,37 +218,24 @@ fn new_network(seed: [u8; 32], ssid: Octets, psk: [u8; 32], akm: Akm, alloc: Glo
     }
 }
 
-// The 32 octets behind a word.
-#[tactic(auto, unfolding(crate::specs::Script::octets_behind))]
-fn octets_behind(word: &[u8], line: &[u8]) -> Option<[u8; 32]>
-    ensures { result ≡ octets_behind word.now line.now }
+/// Takes the suite, and makes the network with it.
+pub(crate) fn take_akm(
+    seed: [u8; 32],
+    ssid: Octets,
+    psk: [u8; 32],
+    alloc: Global,
+    word: &[u8],
+    text: &[u8],
+) -> Taken
+    requires { (1 ≤ length ssid) × (length ssid ≤ 32) }
+    ensures kept { IsKept result.0 }
+    ensures takes { TakesHeader (AtAkm seed ssid psk) (draft_of result.0) word.now text.now result.1 }
 {
-    hex_octets(behind(word, line)?)
-}
-
-// The name of the network.
-#[tactic(auto, unfolding(crate::specs::Script::ssid_of))]
-fn ssid_of(line: &[u8]) -> Option<&[u8]>
-    ensures size { IfSome result (λ text. (1 ≤ length text.now) × (length text.now ≤ 32)) }
-    ensures value { MatchOption result (ssid_of line.now ≡ None) (λ text. ssid_of line.now ≡ Some text.now) }
-{
-    let text = behind(b"ssid ", line)?;
-    if is_text(32, 32, text) {
-        Some(text)
-    } else {
-        None
-    }
-}
-
-// The suite by its name.
-#[tactic(auto, unfolding(crate::specs::Script::akm_of))]
-fn akm_of(line: &[u8]) -> Option<Akm>
-    ensures suite { IfSome result (λ akm. akm ≡ Psk) }
-    ensures value { result ≡ akm_of line.now }
-{
-    if line == b"akm psk".as_slice() {
-        Some(Akm::Psk)
-    } else {
-        None
+    match akm_line(word, text) {
+        Ok(akm) => {
+            let domain = new_network(seed, ssid, psk, akm, alloc);
+            (Due::Nodes { domain }, Ok(Step::Network))
+        }
+        Err(refusal) => (Due::Akm { seed, ssid, psk }, Err(refusal.into())),
     }
 }

@@ -1,393 +1,333 @@
 //! What lines of a script say.
 
-ghost use Rattle.std.specs.Prelude.{◌≤◌, length};
+ghost use Rattle.std.specs.Prelude.{◌+◌, ◌<◌, ◌≤◌, ◌^◌, length, IfOk};
+ghost use Rattle.frame_script.specs.Headers.{HasSeen};
 
-use crate::{BodyLine, HeaderReader, LineFault, body_line};
-use domain_base::{Akm, Mac, NoMemory, Node, Octets};
-use run_journal::{Aps, Domain, Event, ListedAp, Stas};
+mod rows;
+
+use crate::{LineFault, ScriptReader, Step};
+use domain_base::{Akm, Mac, NoMemory, Node, Octets, Peer};
+use rows::Says::{
+    self, Alter, Ap, Connect, Cut, Deliver, Inject, Limit, Network, Nothing, OutOfMemory, Retry,
+    Script, Sta,
+};
+use rows::{
+    A1, ADDRESS, BOTH, BSSID, EVENT_LINES, FALTERING, GROWING, HEADER, HEADER_LINES, INJECTIONS,
+    KEY_LINES, LATE_LINES, LONG_PSK, MORE_APS, MORE_STAS, NO_NODE, NODE_LINES, PSK, S1, SEED,
+    SIZES,
+};
+use run_journal::{Act, Entry, Event, Journal, Kind, Start};
 use std::alloc::Global;
+use std::process::Abort;
 use std::test::Fail;
 
-const HEADER: [&[u8]; 5] = [
-    b"domain 1",
-    b"seed 000102030405060708090a0b0c0d0e0f101112131415161718191a1b1c1d1e1f",
-    b"ssid IEEE",
-    b"psk F42C6FC52DF0EBEF9EBB4B90B38A5F902E83FE1B135A70E23AED762E9710A12E",
-    b"akm psk",
-];
+fn what_it_says(answer: Result<Step, LineFault>) -> Says {
+    match answer {
+        Ok(Step::Nothing) => Nothing,
+        Ok(Step::Network) => Network,
+        Ok(Step::Ap { address, r0kh_id }) => Ap(address, r0kh_id.as_slice().len()),
+        Ok(Step::Sta { address }) => Sta(address),
+        Ok(Step::Event(event)) => what_it_asks(&event),
+        Err(LineFault::Script(reason)) => Script(reason),
+        Err(LineFault::Limit(limit)) => Limit(limit),
+        Err(LineFault::NoMemory) => OutOfMemory,
+    }
+}
 
-const SEED: [u8; 32] = [
-    0, 1, 2, 3, 4, 5, 6, 7, 8, 9, 10, 11, 12, 13, 14, 15, 16, 17, 18, 19, 20, 21, 22, 23, 24, 25,
-    26, 27, 28, 29, 30, 31,
-];
+fn what_it_asks(event: &Event) -> Says {
+    match event {
+        Event::Connect { sta, ap } => Connect(*sta, *ap),
+        Event::Deliver { number, to } => Deliver(*number, *to),
+        Event::Alter {
+            number,
+            place,
+            mask,
+            to,
+        } => Alter(*number, *place, *mask, *to),
+        Event::Cut { number, size, to } => Cut(*number, *size, *to),
+        Event::Inject { to, octets } => Inject(*to, octets.as_slice().len()),
+        Event::Retry { ap, sta } => Retry(*ap, *sta),
+    }
+}
 
-const PSK: [u8; 32] = [
-    0xf4, 0x2c, 0x6f, 0xc5, 0x2d, 0xf0, 0xeb, 0xef, 0x9e, 0xbb, 0x4b, 0x90, 0xb3, 0x8a, 0x5f, 0x90,
-    0x2e, 0x83, 0xfe, 0x1b, 0x13, 0x5a, 0x70, 0xe2, 0x3a, 0xed, 0x76, 0x2e, 0x97, 0x10, 0xa1, 0x2e,
-];
-
-// Lines behind that many lines of `HEADER`, and whether they are taken.
-const HEADER_LINES: &[(usize, &[u8], bool)] = &[
-    (0, b"domain 1", true),
-    (0, b"domain 2", false),
-    (0, b"domain 1 ", false),
-    (0, b"domain  1", false),
-    (0, b"Domain 1", false),
-    (0, b"domain", false),
-    (0, b"", false),
-    (
-        0,
-        b"seed 000102030405060708090a0b0c0d0e0f101112131415161718191a1b1c1d1e1f",
-        false,
-    ),
-    (
-        1,
-        b"seed 000102030405060708090a0b0c0d0e0f101112131415161718191a1b1c1d1e1f",
-        true,
-    ),
-    (
-        1,
-        b"seed 000102030405060708090A0b0C0d0E0f101112131415161718191a1b1c1D1e1F",
-        true,
-    ),
-    (
-        1,
-        b"seed 000102030405060708090a0b0c0d0e0f101112131415161718191a1b1c1d1e1",
-        false,
-    ),
-    (
-        1,
-        b"seed 000102030405060708090a0b0c0d0e0f101112131415161718191a1b1c1d1e1f0",
-        false,
-    ),
-    (
-        1,
-        b"seed  000102030405060708090a0b0c0d0e0f101112131415161718191a1b1c1d1e1f",
-        false,
-    ),
-    (
-        1,
-        b"seed 000102030405060708090a0b0c0d0e0f101112131415161718191a1b1c1d1e1g",
-        false,
-    ),
-    (
-        1,
-        b"SEED 000102030405060708090a0b0c0d0e0f101112131415161718191a1b1c1d1e1f",
-        false,
-    ),
-    (
-        1,
-        b"seed000102030405060708090a0b0c0d0e0f101112131415161718191a1b1c1d1e1f",
-        false,
-    ),
-    (2, b"ssid a", true),
-    (2, b"ssid  two  spaces ", true),
-    (2, b"ssid 0123456789abcdef0123456789abcdef", true),
-    (2, b"ssid 0123456789abcdef0123456789abcdef0", false),
-    (2, b"ssid ~\x7e \x20", true),
-    (2, b"ssid a\x1f", false),
-    (2, b"ssid a\x7f", false),
-    (2, b"ssid \xc3\xa9", false),
-    (2, b"ssid ", false),
-    (2, b"ssid", false),
-    (
-        3,
-        b"psk f42c6fc52df0ebef9ebb4b90b38a5f902e83fe1b135a70e23aed762e9710a12e",
-        true,
-    ),
-    (
-        3,
-        b"psk f42c6fc52df0ebef9ebb4b90b38a5f902e83fe1b135a70e23aed762e9710a12",
-        false,
-    ),
-    (
-        3,
-        b"psk f42c6fc52df0ebef9ebb4b90b38a5f902e83fe1b135a70e23aed762e9710a12e ",
-        false,
-    ),
-    (3, b"ssid IEEE", false),
-    (4, b"akm psk", true),
-    (4, b"akm psk-sha256", false),
-    (4, b"akm PSK", false),
-    (4, b"akm psk ", false),
-    (4, b"akm", false),
-];
-
-// What the header's reader answers to the line behind the first lines of `HEADER`.
-fn answer(alloc: Global, count: usize, line: &[u8]) -> Result<Option<Domain>, LineFault>
-    requires { count ≤ 5 }
+// What the line says to the reader.
+#[tactic(auto, using(crate::proofs::Feeding::feeding))]
+fn tell(alloc: Global, reader: &mut ScriptReader, line: &[u8], journal: &Journal) -> Says
+    requires seen { HasSeen reader.old journal.now.entries }
+    requires few { reader.old.rounds < 2 ^ 63 }
+    ensures seen { HasSeen reader.new journal.now.entries }
+    ensures few { reader.new.rounds ≤ reader.old.rounds + 1 }
 {
-    let mut reader = HeaderReader::new();
-    for before in &HEADER[..count] {
-        if reader.line(alloc, before)?.is_some() {
-            return Err(LineFault::Script(0));
-        }
+    what_it_says(reader.line(alloc, line, journal))
+}
+
+// A reader that took these lines.
+#[tactic(auto, using(crate::proofs::Feeding::feeding))]
+fn reader_behind(
+    alloc: Global,
+    header: &[&[u8]],
+    nodes: &[&[u8]],
+    journal: &Journal,
+) -> Result<ScriptReader, LineFault>
+    requires { length header.now + length nodes.now < 2 ^ 32 }
+    ensures { IfOk result (λ r. HasSeen r journal.now.entries × (r.rounds < 2 ^ 32)) }
+{
+    let mut reader = ScriptReader::start(alloc);
+    for line in header {
+        let _ = reader.line(alloc, line, journal)?;
     }
-    reader.line(alloc, line)
+    for node in nodes {
+        let _ = reader.line(alloc, node, journal)?;
+    }
+    Ok(reader)
+}
+
+// What the line says behind these lines.
+fn ask(alloc: Global, header: &[&[u8]], nodes: &[&[u8]], line: &[u8]) -> Says
+    requires { length header.now + length nodes.now < 2 ^ 32 }
+{
+    let journal = Journal::new(alloc);
+    match reader_behind(alloc, header, nodes, &journal) {
+        Ok(mut reader) => tell(alloc, &mut reader, line, &journal),
+        Err(_) => Script(0),
+    }
+}
+
+// Each of the lines says what stands beside it.
+fn play(
+    rt: &impl Abort,
+    alloc: Global,
+    reader: &mut ScriptReader,
+    rows: &[(&[u8], Says)],
+    journal: &Journal,
+)
+    requires seen { HasSeen reader.old journal.now.entries }
+    requires few { reader.old.rounds < 2 ^ 62 }
+{
+    assert!(rt; rows.len() <= 1000);
+    for (line, want) in rows {
+        assert_eq!(rt; tell(alloc, reader, line, journal), *want, "{line:?}");
+    }
+}
+
+fn opened() -> Entry {
+    Entry {
+        round: 1,
+        node: S1,
+        number: 0,
+        act: Act::Opened {
+            peer: A1,
+            start: Start::Connect,
+        },
+    }
+}
+
+fn sent(alloc: Global, size: usize) -> Result<Entry, NoMemory> {
+    Ok(Entry {
+        round: 1,
+        node: S1,
+        number: 1,
+        act: Act::Sent {
+            peer: Peer::One(A1),
+            kind: Kind::AssocReq,
+            octets: Octets(vec![in alloc; 0; size]?),
+            seal: None,
+        },
+    })
+}
+
+// A journal with frames of these sizes, and with other acts.
+fn journal_of(alloc: Global, sizes: &[usize]) -> Result<Journal, NoMemory> {
+    let mut journal = Journal::new(alloc);
+    for size in sizes {
+        journal.push(opened())?;
+        journal.push(sent(alloc, *size)?)?;
+        journal.push(opened())?;
+    }
+    Ok(journal)
 }
 
 #[test]
-fn header_lines_are_taken_in_order(rt: HostRuntime) -> Result<(), Fail> {
-    for (count, line, taken) in HEADER_LINES {
+fn lines_of_a_header(rt: HostRuntime) -> Result<(), Fail> {
+    for (count, line, want) in HEADER_LINES {
         assert!(rt; *count <= 5);
-        match answer(rt.alloc(), *count, line) {
-            Ok(network) => {
-                assert!(rt; *taken, "behind {count} lines");
-                assert_eq!(rt; network.is_some(), *count == 4);
-            }
-            Err(fault) => {
-                assert!(rt; !*taken, "behind {count} lines");
-                assert_eq!(rt; fault, LineFault::Script(2));
-            }
-        }
+        assert_eq!(rt;
+            ask(rt.alloc(), &HEADER[..*count], NO_NODE, line),
+            *want,
+            "{line:?}"
+        );
+    }
+    for (count, line, want) in KEY_LINES {
+        assert!(rt; *count <= 5);
+        assert_eq!(rt;
+            ask(rt.alloc(), &HEADER[..*count], NO_NODE, line),
+            *want,
+            "{line:?}"
+        );
     }
     Ok(())
 }
 
 #[test]
+#[tactic(auto, using(crate::proofs::Feeding::feeding))]
 fn a_refused_line_leaves_the_header_as_it_was(rt: HostRuntime) -> Result<(), Fail> {
-    let mut reader = HeaderReader::new();
-    assert!(rt; reader.line(rt.alloc(), HEADER[0])?.is_none());
-    assert!(rt; reader.line(rt.alloc(), HEADER[1])?.is_none());
-    let refused = reader.line(rt.alloc(), HEADER[1]);
-    assert!(rt; matches!(refused, Err(LineFault::Script(2))));
+    let journal = Journal::new(rt.alloc());
+    let mut reader = ScriptReader::start(rt.alloc());
+    assert!(rt; reader.domain().is_none());
+    play(&rt, rt.alloc(), &mut reader, FALTERING, &journal);
+    let network = reader.domain().ok_or("no network")?;
+    assert_eq!(rt; network.akm, Akm::PskSha256);
+    assert_eq!(rt; network.ssid.as_slice(), b"a".as_slice());
     Ok(())
 }
 
 #[test]
-fn a_header_tells_the_network(rt: HostRuntime) -> Result<(), Fail> {
-    let network = answer(rt.alloc(), 4, HEADER[4])?.ok_or("no network")?;
+fn a_script_tells_the_network(rt: HostRuntime) -> Result<(), Fail> {
+    let journal = Journal::new(rt.alloc());
+    let reader = reader_behind(rt.alloc(), HEADER, BOTH, &journal)?;
+    let network = reader.domain().ok_or("no network")?;
     assert_eq!(rt; network.seed, SEED);
     assert_eq!(rt; network.ssid.as_slice(), b"IEEE".as_slice());
     assert_eq!(rt; network.psk, PSK);
     assert_eq!(rt; network.akm, Akm::Psk);
     assert_eq!(rt; network.mdid, [0, 0]);
-    assert!(rt; network.aps.0.is_empty() && network.stas.0.is_empty());
+    assert_eq!(rt; network.aps.0.len(), 1);
+    assert_eq!(rt; network.aps.0[0].address, BSSID);
+    assert_eq!(rt; network.aps.0[0].r0kh_id.as_slice(), b"r0kh-1".as_slice());
+    assert_eq!(rt; network.stas.0.as_slice(), [ADDRESS].as_slice());
     Ok(())
 }
 
-const BSSID: Mac = Mac([2, 0, 0, 0, 0, 1]);
-
-const ADDRESS: Mac = Mac([2, 0, 0, 0, 0, 0x11]);
-
-// What a line says, without the R0KH-ID.
-#[derive(Clone, Copy, Debug, PartialEq, Eq)]
-enum Says {
-    Ap(Mac),
-    Sta(Mac),
-    Asks(Event),
-    Nothing,
+// The key that the passphrase gives in the network of that name.
+fn key_of(alloc: Global, ssid: &[u8], passphrase: &[u8]) -> Result<[u8; 32], Fail> {
+    let journal = Journal::new(alloc);
+    let lines = [HEADER[0], HEADER[1], ssid, passphrase, b"akm psk"];
+    let reader = reader_behind(alloc, &lines, NO_NODE, &journal)?;
+    Ok(reader.domain().ok_or("no network")?.psk)
 }
 
-// A network with an access point, if so wanted, and with a station.
-fn network(alloc: Global, ap: bool, sta: bool) -> Result<Domain, NoMemory> {
-    let mut aps = Vec::new(alloc);
-    if ap {
-        let r0kh_id = Octets(Vec::from_slice(alloc, b"r0kh-1")?);
-        aps.push(ListedAp {
-            address: BSSID,
-            r0kh_id,
-        })?;
-    }
-    let mut stas = Vec::new(alloc);
-    if sta {
-        stas.push(ADDRESS)?;
-    }
-    Ok(Domain {
-        seed: SEED,
-        ssid: Octets(Vec::from_slice(alloc, b"IEEE")?),
-        psk: PSK,
-        akm: Akm::Psk,
-        mdid: [0, 0],
-        aps: Aps(aps),
-        stas: Stas(stas),
-    })
+#[test]
+fn a_passphrase_gives_the_key(rt: HostRuntime) -> Result<(), Fail> {
+    let short = key_of(rt.alloc(), b"ssid IEEE", b"passphrase password")?;
+    assert_eq!(rt; short, PSK);
+    let long = key_of(
+        rt.alloc(),
+        b"ssid ThisIsASSID",
+        b"passphrase ThisIsAPassword",
+    )?;
+    assert_eq!(rt; long, LONG_PSK);
+    Ok(())
 }
-
-// What the line says in the network.
-fn what_line_says(
-    alloc: Global,
-    domain: &Domain,
-    rounds: u64,
-    frames: usize,
-    line: &[u8],
-) -> Result<Says, Fail> {
-    match body_line(alloc, domain, rounds, frames, line) {
-        Ok(BodyLine::Ap { address, .. }) => Ok(Says::Ap(address)),
-        Ok(BodyLine::Sta { address }) => Ok(Says::Sta(address)),
-        Ok(BodyLine::Event(event)) => Ok(Says::Asks(event)),
-        Err(LineFault::Script(2)) => Ok(Says::Nothing),
-        Err(fault) => Err(fault.into()),
-    }
-}
-
-const ID_OF_48: &[u8] = b"ap 020000000001 0123456789abcdef0123456789abcdef0123456789abcdef";
-
-const ID_OF_49: &[u8] = b"ap 020000000001 0123456789abcdef0123456789abcdef0123456789abcdefg";
-
-const LISTED_AP: Says = Says::Ap(BSSID);
-
-const LISTED_STA: Says = Says::Sta(ADDRESS);
-
-// Lines in a network with or without an access point and a station, behind so many rounds.
-const NODE_LINES: &[(bool, bool, u64, &[u8], Says)] = &[
-    (false, false, 0, b"ap 020000000001 r0kh-1", LISTED_AP),
-    (false, false, 1, b"ap 020000000001 r0kh-1", Says::Nothing),
-    (true, false, 0, b"ap 020000000002 r0kh-2", Says::Nothing),
-    (false, true, 0, b"ap 020000000001 r0kh-1", Says::Nothing),
-    (false, false, 0, b"ap 000000000000 r0kh-1", Says::Nothing),
-    (false, false, 0, b"ap 010000000001 r0kh-1", Says::Nothing),
-    (
-        false,
-        false,
-        0,
-        b"ap FEDCBA987654 r0kh-1",
-        Says::Ap(Mac([0xfe, 0xdc, 0xba, 0x98, 0x76, 0x54])),
-    ),
-    (false, false, 0, b"ap ff0000000001 r0kh-1", Says::Nothing),
-    (false, false, 0, b"ap 02000000000 r0kh-1", Says::Nothing),
-    (false, false, 0, b"ap 0200000000010 r0kh-1", Says::Nothing),
-    (false, false, 0, b"ap 02000000000g r0kh-1", Says::Nothing),
-    (false, false, 0, b"ap  020000000001 r0kh-1", Says::Nothing),
-    (false, false, 0, b"ap 020000000001  r0kh-1", Says::Nothing),
-    (false, false, 0, b"ap 020000000001 r0kh 1", Says::Nothing),
-    (false, false, 0, b"ap 020000000001 r0kh-1 ", Says::Nothing),
-    (false, false, 0, b"ap 020000000001 ", Says::Nothing),
-    (false, false, 0, b"ap 020000000001", Says::Nothing),
-    (false, false, 0, b"AP 020000000001 r0kh-1", Says::Nothing),
-    (false, false, 0, b"ap 020000000001 !~", LISTED_AP),
-    (false, false, 0, b"ap 020000000001 a\x7f", Says::Nothing),
-    (false, false, 0, ID_OF_48, LISTED_AP),
-    (false, false, 0, ID_OF_49, Says::Nothing),
-    (true, false, 0, b"sta 020000000011", LISTED_STA),
-    (false, false, 0, b"sta 020000000011", LISTED_STA),
-    (true, false, 1, b"sta 020000000011", Says::Nothing),
-    (true, true, 0, b"sta 020000000012", Says::Nothing),
-    (true, false, 0, b"sta 020000000001", Says::Nothing),
-    (true, false, 0, b"sta 030000000011", Says::Nothing),
-    (true, false, 0, b"sta 000000000000", Says::Nothing),
-    (true, false, 0, b"sta 020000000011 ", Says::Nothing),
-];
 
 #[test]
 fn lines_that_list_nodes(rt: HostRuntime) -> Result<(), Fail> {
-    for (aps, stas, rounds, line, want) in NODE_LINES {
-        let domain = network(rt.alloc(), *aps, *stas)?;
-        assert_eq!(rt;
-            what_line_says(rt.alloc(), &domain, *rounds, 0, line)?,
-            *want
-        );
+    for (nodes, line, want) in NODE_LINES {
+        assert!(rt; nodes.len() <= 10);
+        assert_eq!(rt; ask(rt.alloc(), HEADER, nodes, line), *want, "{line:?}");
     }
     Ok(())
 }
 
 #[test]
-fn an_access_point_has_its_r0kh_id(rt: HostRuntime) -> Result<(), Fail> {
-    let domain = network(rt.alloc(), false, false)?;
-    match body_line(rt.alloc(), &domain, 0, 0, ID_OF_48)? {
-        BodyLine::Ap { address, r0kh_id } => {
-            assert_eq!(rt; address, BSSID);
-            assert_eq!(rt; r0kh_id.as_slice(), &ID_OF_48[16..]);
-        }
-        _ => return Err("no access point".into()),
+fn no_more_than_sixteen_access_points(rt: HostRuntime) -> Result<(), Fail> {
+    let journal = Journal::new(rt.alloc());
+    let journal = &journal;
+    let mut reader = reader_behind(rt.alloc(), HEADER, NO_NODE, journal)?;
+    for number in 0..16u8 {
+        let line = format!(in rt.alloc(); "ap 0200000000{number:02x} r0kh-{number:02}")?;
+        let answer = tell(rt.alloc(), &mut reader, line.as_bytes(), journal);
+        assert_eq!(rt; answer, Ap(Mac([2, 0, 0, 0, 0, number]), 7));
     }
+    play(&rt, rt.alloc(), &mut reader, MORE_APS, journal);
     Ok(())
 }
 
-const CONNECT: Says = Says::Asks(Event::Connect { sta: 0, ap: 0 });
-
-// Lines in a network with an access point and a station, behind so many frames.
-const EVENT_LINES: &[(usize, &[u8], Says)] = &[
-    (0, b"connect s1 a1", CONNECT),
-    (0, b"connect s0000000001 a01", CONNECT),
-    (65535, b"connect s1 a1", CONNECT),
-    (65536, b"connect s1 a1", Says::Nothing),
-    (0, b"connect a1 s1", Says::Nothing),
-    (0, b"connect s1 s1", Says::Nothing),
-    (0, b"connect s1 a2", Says::Nothing),
-    (0, b"connect s2 a1", Says::Nothing),
-    (0, b"connect s0 a1", Says::Nothing),
-    (0, b"connect s1 a0", Says::Nothing),
-    (0, b"connect s a1", Says::Nothing),
-    (0, b"connect s00000000001 a1", Says::Nothing),
-    (0, b"connect s65537 a1", Says::Nothing),
-    (0, b"connect s4294967297 a1", Says::Nothing),
-    (0, b"connect  s1 a1", Says::Nothing),
-    (0, b"connect s1  a1", Says::Nothing),
-    (0, b"connect s1 a1 ", Says::Nothing),
-    (0, b" connect s1 a1", Says::Nothing),
-    (0, b"connect s1", Says::Nothing),
-    (0, b"Connect s1 a1", Says::Nothing),
-    (0, b"connect S1 A1", Says::Nothing),
-    (0, b"connect s1 a1\r", Says::Nothing),
-    (
-        1,
-        b"deliver 1 to a1",
-        Says::Asks(Event::Deliver {
-            number: 1,
-            to: Node::Ap(0),
-        }),
-    ),
-    (
-        1,
-        b"deliver 1 to s1",
-        Says::Asks(Event::Deliver {
-            number: 1,
-            to: Node::Sta(0),
-        }),
-    ),
-    (
-        1,
-        b"deliver 01 to a1",
-        Says::Asks(Event::Deliver {
-            number: 1,
-            to: Node::Ap(0),
-        }),
-    ),
-    (
-        1,
-        b"deliver 0000000001 to a1",
-        Says::Asks(Event::Deliver {
-            number: 1,
-            to: Node::Ap(0),
-        }),
-    ),
-    (1, b"deliver 00000000001 to a1", Says::Nothing),
-    (1, b"deliver 0 to a1", Says::Nothing),
-    (1, b"deliver 2 to a1", Says::Nothing),
-    (
-        65535,
-        b"deliver 65535 to s1",
-        Says::Asks(Event::Deliver {
-            number: 65535,
-            to: Node::Sta(0),
-        }),
-    ),
-    (65536, b"deliver 1 to a1", Says::Nothing),
-    (1, b"deliver 1 to a2", Says::Nothing),
-    (1, b"deliver 1 to a1 ", Says::Nothing),
-    (1, b"deliver 1 to  a1", Says::Nothing),
-    (1, b"deliver 1 a1", Says::Nothing),
-    (1, b"deliver +1 to a1", Says::Nothing),
-    (1, b"deliver  to a1", Says::Nothing),
-    (1, b"deliver 1 TO a1", Says::Nothing),
-    (1, b"reassociate s1 a1", Says::Nothing),
-    (1, b"", Says::Nothing),
-];
+#[test]
+fn no_more_than_sixty_four_stations(rt: HostRuntime) -> Result<(), Fail> {
+    let journal = Journal::new(rt.alloc());
+    let journal = &journal;
+    let mut reader = reader_behind(rt.alloc(), HEADER, NO_NODE, journal)?;
+    for number in 0..64u8 {
+        let line = format!(in rt.alloc(); "sta 0200000000{number:02x}")?;
+        let answer = tell(rt.alloc(), &mut reader, line.as_bytes(), journal);
+        assert_eq!(rt; answer, Sta(Mac([2, 0, 0, 0, 0, number])));
+    }
+    play(&rt, rt.alloc(), &mut reader, MORE_STAS, journal);
+    Ok(())
+}
 
 #[test]
 fn lines_that_ask_for_events(rt: HostRuntime) -> Result<(), Fail> {
-    let domain = network(rt.alloc(), true, true)?;
-    for (frames, line, want) in EVENT_LINES {
+    let journal = journal_of(rt.alloc(), SIZES)?;
+    let mut reader = reader_behind(rt.alloc(), HEADER, BOTH, &journal)?;
+    play(&rt, rt.alloc(), &mut reader, EVENT_LINES, &journal);
+    Ok(())
+}
+
+// `inject`, a node, so many times two digits and what stands behind them.
+fn inject_line(alloc: Global, node: &[u8], count: usize, end: &[u8]) -> Result<Vec<u8>, NoMemory> {
+    let mut line = Vec::from_slice(alloc, b"inject ")?;
+    line.extend_from_slice(node)?;
+    line.push(b' ')?;
+    for _ in 0..count {
+        line.extend_from_slice(b"5A")?;
+    }
+    line.extend_from_slice(end)?;
+    Ok(line)
+}
+
+#[test]
+fn frames_that_are_injected(rt: HostRuntime) -> Result<(), Fail> {
+    for (node, count, end, want) in INJECTIONS {
+        let line = inject_line(rt.alloc(), node, *count, end)?;
+        assert_eq!(rt; ask(rt.alloc(), HEADER, BOTH, &line), *want, "{count}");
+    }
+    Ok(())
+}
+
+#[test]
+fn a_frame_is_injected_as_it_stands(rt: HostRuntime) -> Result<(), Fail> {
+    let journal = Journal::new(rt.alloc());
+    let mut reader = reader_behind(rt.alloc(), HEADER, BOTH, &journal)?;
+    match reader.line(rt.alloc(), b"inject a1 00Ff5a", &journal)? {
+        Step::Event(Event::Inject { octets, .. }) => {
+            assert_eq!(rt; octets.as_slice(), [0, 0xff, 0x5a].as_slice());
+        }
+        _ => return Err("no frame".into()),
+    }
+    Ok(())
+}
+
+#[test]
+#[tactic(auto, using(crate::proofs::Feeding::feeding))]
+fn frames_are_seen_as_they_are_sent(rt: HostRuntime) -> Result<(), Fail> {
+    let mut journal = Journal::new(rt.alloc());
+    let mut reader = reader_behind(rt.alloc(), HEADER, BOTH, &journal)?;
+    assert!(rt; GROWING.len() <= 100);
+    for (size, line, want) in GROWING {
+        journal.push(opened())?;
+        journal.push(sent(rt.alloc(), *size)?)?;
+        journal.push(opened())?;
         assert_eq!(rt;
-            what_line_says(rt.alloc(), &domain, 1, *frames, line)?,
-            *want
+            tell(rt.alloc(), &mut reader, line, &journal),
+            *want,
+            "{line:?}"
         );
     }
-    let nodes = network(rt.alloc(), false, true)?;
-    assert_eq!(rt;
-        what_line_says(rt.alloc(), &nodes, 0, 0, b"connect s1 a1")?,
-        Says::Nothing
-    );
+    Ok(())
+}
+
+#[test]
+#[tactic(auto, using(crate::proofs::Feeding::feeding))]
+fn no_event_behind_more_frames_than_have_numbers(rt: HostRuntime) -> Result<(), Fail> {
+    let mut journal = Journal::new(rt.alloc());
+    for _ in 0..65535 {
+        journal.push(sent(rt.alloc(), 0)?)?;
+    }
+    let mut reader = reader_behind(rt.alloc(), HEADER, BOTH, &journal)?;
+    let last = tell(rt.alloc(), &mut reader, b"deliver 65535 to a1", &journal);
+    assert_eq!(rt; last, Deliver(65535, A1));
+    journal.push(sent(rt.alloc(), 0)?)?;
+    play(&rt, rt.alloc(), &mut reader, LATE_LINES, &journal);
     Ok(())
 }

@@ -1,8 +1,10 @@
 //! The words of a line.
 
-ghost use Rattle.std.specs.Prelude.{◌≡◌, ◌==◌, ◌&&◌, None, Some, MatchOption, nat_le, position};
+ghost use Rattle.std.specs.Prelude.{◌≡◌, ◌==◌, ◌&&◌, None, Some, Bool, MatchOption, nat_le, position, is_some, option_map};
+ghost use Rattle.std.specs.Char.{is_ascii_hexdigit};
 ghost use Rattle.std.specs.List.{list_all};
-ghost use Rattle.frame_script.specs.Tokens.{behind, hex_octets, is_text, number_of_digits, place_behind, place_of_number, split_word};
+ghost use Rattle.frame_script.specs.Tokens.{behind, first_word, hex_octets, is_text, named, node_word, number_of_digits, numbered, some_octets, split_word};
+ghost use Rattle.frame_script.specs.Sentences.{name_of};
 
 use hex::FromHex;
 
@@ -32,12 +34,42 @@ pub(crate) fn split_word(text: &[u8]) -> Option<(&[u8], &[u8])>
     Some((word, rest))
 }
 
+/// The first word, and what stands behind the space behind it.
+#[tactic(auto, unfolding(crate::specs::Tokens::first_word))]
+pub(crate) fn first_word(text: &[u8]) -> (&[u8], &[u8])
+    ensures { first_word text.now ≡ (result.0.now, result.1.now) }
+{
+    match split_word(text) {
+        Some(words) => words,
+        None => (text, b"".as_slice()),
+    }
+}
+
 /// The octets that twice as many hexadecimal digits write.
-#[tactic(auto, unfolding(crate::specs::Tokens::hex_octets))]
 pub(crate) fn hex_octets<const N: usize>(text: &[u8]) -> Option<[u8; N]>
     ensures { result ≡ hex_octets N text.now }
 {
     <[u8; N] as FromHex>::from_hex(text).ok()
+}
+
+// Whether all of the text is hexadecimal digits.
+fn is_hex(text: &[u8]) -> bool
+    ensures { result ≡ list_all is_ascii_hexdigit text.now }
+{
+    text.iter().all(|c| c.is_ascii_hexdigit())
+}
+
+/// Whether the text is at least one octet, in pairs of hexadecimal digits.
+pub(crate) fn is_octets(text: &[u8]) -> bool
+    ensures { result ≡ is_some (some_octets text.now) }
+{
+    if text.is_empty() {
+        return false;
+    }
+    if text.len() % 2 != 0 {
+        return false;
+    }
+    is_hex(text)
 }
 
 /// The number that one to ten decimal digits write.
@@ -58,26 +90,6 @@ pub(crate) fn number_of_digits(text: &[u8]) -> Option<u64>
     Some(number)
 }
 
-// A place from 0 by its number from 1.
-#[tactic(auto, unfolding(crate::specs::Tokens::place_of_number))]
-fn place_of_number(number: u64) -> Option<u16>
-    ensures { result ≡ place_of_number number }
-{
-    if number == 0 || 65536 < number {
-        return None;
-    }
-    Some((number - 1) as u16)
-}
-
-/// A letter and digits: the place of a node, from 0.
-#[tactic(auto, unfolding(crate::specs::Tokens::place_behind))]
-pub(crate) fn place_behind(letter: &[u8], word: &[u8]) -> Option<u16>
-    ensures { result ≡ place_behind letter.now word.now }
-{
-    let digits = behind(letter, word)?;
-    place_of_number(number_of_digits(digits)?)
-}
-
 // Whether every code is from the least to 126.
 fn is_between(least: u8, text: &[u8]) -> bool
     ensures { result ≡ list_all (λ c. nat_le least c && nat_le c 126) text.now }
@@ -90,4 +102,32 @@ pub(crate) fn is_text(greatest: usize, least: u8, text: &[u8]) -> bool
     ensures { result ≡ is_text greatest least text.now }
 {
     1 <= text.len() && text.len() <= greatest && is_between(least, text)
+}
+
+/// A node by its word: its kind, and its number from 1.
+#[derive(Clone, Copy)]
+pub(crate) enum NodeName {
+    /// An access point.
+    Ap(u64),
+    /// A station.
+    Sta(u64),
+}
+
+// The number behind a letter.
+#[tactic(auto, unfolding(crate::specs::Tokens::numbered))]
+fn number_behind(letter: &[u8], word: &[u8]) -> Option<u64>
+    ensures { (is_ap : Bool) → option_map (named is_ap) result ≡ numbered is_ap letter.now word.now }
+{
+    number_of_digits(behind(letter, word)?)
+}
+
+/// A node by its word.
+#[tactic(auto, unfolding(crate::specs::Tokens::node_word))]
+pub(crate) fn node_name(word: &[u8]) -> Option<NodeName>
+    ensures { option_map name_of result ≡ node_word word.now }
+{
+    if let Some(number) = number_behind(b"a", word) {
+        return Some(NodeName::Ap(number));
+    }
+    number_behind(b"s", word).map(NodeName::Sta)
 }

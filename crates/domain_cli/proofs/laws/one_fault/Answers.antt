@@ -1,4 +1,4 @@
-use Rattle.domain_cli.proofs.Faults.{fault_or_script, one_place, one_telling}
+use Rattle.domain_cli.proofs.Faults.{fault_or_script, one_place, one_script, one_telling}
 use Rattle.domain_cli.proofs.laws.one_fault.Goals as goal
 
 pub returns-clause-script : goal.returns-clause-script
@@ -6,6 +6,9 @@ returns-clause-script c = fault_or_script
 
 pub returns-clause-place : goal.returns-clause-place
 returns-clause-place c = one_place
+
+pub returns-clause-lines : goal.returns-clause-lines
+returns-clause-lines c = one_script
 
 pub returns-clause-told : goal.returns-clause-told
 returns-clause-told c = one_telling

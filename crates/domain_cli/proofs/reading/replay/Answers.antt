@@ -1,11 +1,9 @@
-use Rattle.std.proofs.Common.{◌≡◌, ◌<◌, ◌≤◌, ◌+◌, ◌++◌, ℕ, List, [], false, true, take, length, arith, refl, subst, sym, ap}
+use Rattle.std.proofs.Common.{◌<◌, ◌++◌, [], false, true, take, length, arith, subst, sym}
 use Rattle.std.proofs.lemmas.Bool.{false≢true}
-use Rattle.std.proofs.lemmas.List.{length-append, length-take}
+use Rattle.std.proofs.lemmas.List.{length-append}
 use Rattle.domain_cli.specs.declared.status.Found.{Found}
-use Rattle.domain_cli.specs.Script.{Spells, joined, AreLines}
 use Rattle.domain_cli.specs.Story.{Tells}
-use Rattle.domain_cli.specs.Sessions.{Reached}
-use Rattle.domain_cli.proofs.Lines.{Consumes-nil, Consumes-then, Consumes-none, Consumes-kept, length-read, Stands-journal, nothing_yet}
+use Rattle.domain_cli.proofs.Lines.{Consumes-nil, Consumes-then, Consumes-none, Consumes-kept, length-read, nothing_yet}
 use Rattle.domain_cli.proofs.reading.replay.Goals as goal
 
 pub returns-in_default-clause-told : goal.returns-in_default-clause-told
@@ -26,7 +24,7 @@ returns-in_default-read-clause-told g c =
         rounds = r.rounds;
         begins = r.begins;
         open_line = r.open_line;
-        explains = record { spelled = r.spelled; journal = Stands-journal c.reads.session.stage r.draft r.rounds _ r.stands };
+        explains = record { spelled = r.spelled; journal = r.stands.journal };
       },
     )
 

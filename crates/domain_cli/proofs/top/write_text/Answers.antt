@@ -1,4 +1,3 @@
-use Rattle.std.proofs.Common.{◌≡◌}
 use Rattle.std.proofs.lemmas.List.{reverse-reverse}
 use Rattle.run_journal.specs.Report.{lines}
 use Rattle.domain_cli.proofs.Out.{lines_alone, either_way}

@@ -1,10 +1,7 @@
-use Rattle.std.proofs.Common.{◌≡◌, ◌∙◌, ◌++◌, refl, ap, List, subst, reverse, ℕ}
+use Rattle.std.proofs.Common.{◌++◌, refl}
 use Rattle.std.proofs.lemmas.List.{reverse-reverse}
-use Rattle.std.specs.Io.KnownBytes.{Appends}
-use Rattle.domain_base.specs.Causes.{AppendsPart}
 use Rattle.domain_base.proofs.Taken.{Appends-then}
 use Rattle.frame_script.proofs.Taken.{part-then, part-more}
-use Rattle.run_journal.specs.declared.acts.Entry.{Entry}
 use Rattle.run_journal.specs.Report.{lines, summary}
 use Rattle.domain_cli.proofs.top.write_whole.Goals as goal
 

@@ -24,4 +24,4 @@ returns c =
     let kck = ap (λ (k : Ptk). k.kck) c.requires.key in
     let sent = c.seal.ensures ∙ ap (λ (x : List ℕ). sealed d.akm c.args.key.now.kck x) frame in
     subst (λ (k : List ℕ). IfOk c.sent_sealed.result (λ (act : Act). act ≡ sent_sealed d c.args.node c.args.peer M2 k (sealed d.akm k (frame_octets (sent_fields M2 d.akm c.args.counter c.args.inputs.now.snonce 0 (rsne_octets d.akm None)))))) kck
-    (subst (λ (x : List ℕ). IfOk c.sent_sealed.result (λ (act : Act). act ≡ sent_sealed d c.args.node c.args.peer M2 c.args.key.now.kck x)) sent c.sent_sealed.ensures)
+    (subst (λ (x : List ℕ). IfOk c.sent_sealed.result (λ (act : Act). act ≡ sent_sealed d c.args.node c.args.peer M2 c.args.key.now.kck x)) sent c.sent_sealed.ensures.act)

@@ -1,35 +1,37 @@
-use Rattle.std.proofs.Common.{◌≡◌, ◌<◌, ◌⊎◌, [], refl, sym, ◌∙◌, arith, rules, length, List, ℕ, ap, subst, inl, inr, Bool, true, false, zero, suc}
+use Rattle.std.proofs.Common.{◌≡◌, ◌≢◌, ◌⊎◌, [], sym, arith, length, List, ℕ, ap, subst, inl, inr, true, false}
 use Rattle.std.specs.Prelude.{◌==◌}
 use Rattle.std.proofs.lemmas.Bool.Decides.{nat_tests}
 use Rattle.std.proofs.lemmas.List.{nil_from_length}
 use Rattle.domain_cli.specs.declared.status.Found.{Found}
+use Rattle.domain_cli.specs.Stages.{TellsLine}
+use Rattle.domain_cli.specs.Stops.{StopsLine}
 use Rattle.domain_cli.specs.Story.{Tells}
-use Rattle.domain_cli.proofs.Lines.{IsScript-last, Tells-last, Stands-journal}
+use Rattle.domain_cli.proofs.Lines.{IsWhole-open, Tells-last}
 use Rattle.domain_cli.proofs.session.Session.finish.Goals.{else-is_empty-via-then-is_empty+else-self-gt0, else-is_empty-via-else-is_empty}
 use Rattle.domain_cli.proofs.session.Session.finish.Goals as goal
 
-some_octets : (n : ℕ) → false ≡ (n == 0) → 0 < n
-some_octets n e = grind (arith, nat_tests)
+some_octets : (line : List ℕ) (n : ℕ) → n ≡ length line → false ≡ (n == 0) → line ≢ []
+some_octets line n count e none = let empty = ap (λ (l : List ℕ). length l) none in grind (arith, nat_tests)
 
 pub returns-in-Ok-clause-told : goal.returns-in-Ok-clause-told
 returns-in-Ok-clause-told c octets r =
-    let reached = c.in-Ok.ensures.reached octets r in
-    record {
-      script = reached.good;
-      draft = reached.draft;
-      rounds = reached.rounds;
-      is = IsScript-last octets reached.good c.end_line.new.self.line.items reached.begins c.in-Ok.ensures.closed;
-      end = refl;
-      explains = record { spelled = reached.spelled; journal = Stands-journal c.end_line.new.self.stage reached.draft reached.rounds _ reached.stands };
-    }
+    let s = c.args.self.now in
+    let some : (s.line.items ≢ []) ⊎ (r.good ≡ []) =
+    elim c.else-is_empty.branch [
+      | else-is_empty-via-then-is_empty+else-self-gt0 w ↦ inr (nil_from_length r.good (omega (arith, r.count)))
+      | else-is_empty-via-else-is_empty w ↦ inl (some_octets s.line.items _ s.line.ok.0 w.if-is_empty.ensures)
+    ] in
+    let told = subst (λ (w : List ℕ). TellsLine w r.draft r.rounds c.take_line.new.stage c.take_line.new.journal.entries) c.deref.ensures.value (c.in-Ok.ensures.told r.draft r.rounds r.stands) in
+    IsWhole-open octets r.good s.line.items r.draft told.draft r.rounds told.rounds c.take_line.new.journal.entries r.begins r.open_line (omega (arith, s.short, s.line.ok.0)) (omega (arith, r.count, c.in-Ok.ensures.few)) some r.spelled told.says told.stands.journal
 
 pub returns-in-Err-clause-told : goal.returns-in-Err-clause-told
 returns-in-Err-clause-told c octets r =
     let s = c.args.self.now in
-    let some : (0 < length s.line.items) ⊎ (r.good ≡ []) =
+    let some : (s.line.items ≢ []) ⊎ (r.good ≡ []) =
     elim c.else-is_empty.branch [
       | else-is_empty-via-then-is_empty+else-self-gt0 w ↦ inr (nil_from_length r.good (omega (arith, r.count)))
-      | else-is_empty-via-else-is_empty w ↦ inl (omega (arith, some_octets _ w.if-is_empty.ensures, s.line.ok.0))
+      | else-is_empty-via-else-is_empty w ↦ inl (some_octets s.line.items _ s.line.ok.0 w.if-is_empty.ensures)
     ] in
-    subst (λ (f : Found). Tells f octets true c.end_line.new.journal.entries) (sym c.found_of.ensures.found)
-    (Tells-last c.in-Err.stop octets r.good s.line.items s.lines s.stage r.draft r.rounds _ _ r.begins r.open_line r.count some r.spelled r.stands (c.in-Err.ensures.stopped r.draft r.rounds r.stands) c.in-Err.ensures.kept)
+    let stops = subst (λ (w : List ℕ). StopsLine c.in-Err.stop s.lines w r.draft r.rounds) c.deref.ensures.value (c.in-Err.ensures.told r.draft r.rounds r.stands) in
+    subst (λ (f : Found). Tells f octets true c.take_line.new.journal.entries) (sym c.found_of.ensures.found)
+    (Tells-last c.in-Err.stop s.lines octets r.good s.line.items r.draft r.rounds c.args.journal.now.entries c.take_line.new.journal.entries r.begins r.open_line (omega (arith, s.short, s.line.ok.0)) r.count some r.spelled r.stands.journal stops c.in-Err.ensures.kept)

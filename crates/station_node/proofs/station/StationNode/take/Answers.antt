@@ -1,4 +1,4 @@
-use Rattle.std.proofs.Common.{ap}
+use Rattle.std.proofs.Common.{None, ap}
 use Rattle.std.proofs.lemmas.Result.{IfOk-weaker}
 use Rattle.node_frames.specs.Views.{reading_of}
 use Rattle.station_node.specs.State.{State}
@@ -16,7 +16,7 @@ take_message-requires-clause-keyed c =
 
 pub returns-in-Settled-clause-taken : goal.returns-in-Settled-clause-taken
 returns-in-Settled-clause-taken c =
-    alone_then c.take_alone.result c.in-Settled.from c.args.octets.now c.kind.result c.in-Settled.outcome c.args.out.now.acts c.take_alone.new.out.acts _ c.take_alone.ensures.alone
+    alone_then c.take_alone.result c.in-Settled.from c.args.octets.now c.kind.result c.in-Settled.outcome None c.args.out.now.acts c.take_alone.new.out.acts _ c.take_alone.ensures.alone
     (λ is. judged-settled c.args.domain.now c.self.inside.number c.args.self.now c.args.octets.now (reading_of c.read-delivered.result) c.in-Settled.from c.kind.result c.in-Settled.outcome c.args.out.now.acts c.take_alone.new.out.acts c.in-Settled.ensures c.read-delivered.ensures.reads c.kind.ensures
     (ap (λ (s : State). s.number) c.self.view_is) is)
 

@@ -1,4 +1,4 @@
-use Rattle.std.proofs.Common.{Some, refl}
+use Rattle.std.proofs.Common.{Some, None, refl}
 use Rattle.domain_base.specs.declared.names.Node.TheVariants.{Ap}
 use Rattle.run_journal.specs.declared.acts.Outcome.TheVariants.{Refused}
 use Rattle.node_frames.specs.Views.{management_fields}
@@ -12,5 +12,5 @@ returns-in-AssocResp-clause-taken c = IfOk-weaker c.take_response.result _ _ (λ
 
 pub returns-in_default-clause-taken : goal.returns-in_default-clause-taken
 returns-in_default-clause-taken c =
-    alone_then c.refuse.result (Some (Ap c.args.ap)) c.args.octets.now c.args.frame.now.kind (Refused reason.Unawaited) c.args.out.now.acts c.refuse.new.out.acts _ c.refuse.ensures.alone
+    alone_then c.refuse.result (Some (Ap c.args.ap)) c.args.octets.now c.args.frame.now.kind (Refused reason.Unawaited) None c.args.out.now.acts c.refuse.new.out.acts _ c.refuse.ensures.alone
     (λ is d m. taken-other_management d c.args.self.now c.args.ap c.args.octets.now (management_fields c.args.frame.now) c.args.frame.now.kind c.args.out.now.acts c.refuse.new.out.acts m refl (c.in_default.not-AssocResp) is)

@@ -1,0 +1,55 @@
+#!/usr/bin/env bash
+# How long a replay takes, at a quarter, a half and the whole of the largest script: 64 stations are connected at 16 access
+# points over and over, each by a connect and the six deliveries of a whole handshake. Prints one figure a line, and what it
+# means. It builds the program first; run it from anywhere in the repository.
+set -eu
+cd "$(dirname "$0")/.."
+work=$(mktemp -d)
+trap 'rm -rf "$work"' EXIT
+
+# The program, proved and built as the gate builds it.
+(cd crates/domain_cli && rt run -- replay < /dev/null > /dev/null 2>&1) || true
+program=crates/domain_cli/out/domain_cli
+
+python3 - "$work" <<'PY'
+import sys
+LINES = 65536
+header = ["domain 1", "seed " + "%064x" % 7, "ssid bench", "passphrase of the bench", "akm psk"]
+header += ["ap 0200000000%02x r0kh-%d" % (1 + k, k) for k in range(16)]
+header += ["sta 0200000001%02x" % (1 + k) for k in range(64)]
+for name, lines in (("quarter", LINES // 4), ("half", LINES // 2), ("whole", LINES)):
+    out, frame, k = list(header), 0, 0
+    while len(out) + 7 <= lines:
+        s, a = k % 64 + 1, (k + k // 64) % 16 + 1
+        out.append("connect s%d a%d" % (s, a))
+        for receiver in ("a%d" % a, "s%d" % s, "s%d" % s, "a%d" % a, "s%d" % s, "a%d" % a):
+            frame += 1
+            out.append("deliver %d to %s" % (frame, receiver))
+        k += 1
+    out += ["# one more line"] * (lines - len(out))
+    open("%s/%s" % (sys.argv[1], name), "w").write("\n".join(out) + "\n")
+    open("%s/%s.count" % (sys.argv[1], name), "w").write("%d %d" % (k, frame))
+PY
+
+# The processor seconds and the greatest resident memory (KiB) of a program, its output to a file.
+measure() { # OUTPUT INPUT WORDS..
+    python3 - "$@" <<'PY'
+import resource, subprocess, sys
+out, source, words = sys.argv[1], sys.argv[2], sys.argv[3:]
+done = subprocess.run(words, stdin=open(source), stdout=open(out, "w"))
+used = resource.getrusage(resource.RUSAGE_CHILDREN)
+print("%.2f %d %d" % (used.ru_utime + used.ru_stime, used.ru_maxrss, done.returncode))
+PY
+}
+
+echo "processors: $(nproc)"
+for part in quarter half whole; do
+    read -r seconds memory status < <(measure "$work/report" "$work/$part" "$program" replay)
+    [ "$status" = 0 ] || { echo "the replay of $part ended with status $status" >&2; exit 1; }
+    read -r handshakes frames < "$work/$part.count"
+    lines=$(wc -l < "$work/$part")
+    echo "seconds, $lines lines: $seconds (whole replay of $handshakes handshakes, processor time)"
+    echo "memory, $lines lines: $((memory / 1024)) MiB (greatest resident size)"
+done
+tail -3 "$work/report"
+python3 -c "print('handshakes a second: %d (of the whole script)' % ($handshakes / $seconds))"

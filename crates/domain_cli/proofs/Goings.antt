@@ -1,0 +1,57 @@
+-- Behind the header no line says that the script goes on otherwise.
+use Rattle.std.proofs.Common.{◌≡◌, ◌==◌, ◌&&◌, ℕ, Bool, true, false, if◌then◌else◌, List, length, Result, Ok, Err, subst, bytes_eq, codes}
+use Rattle.std.specs.Prelude.{nat_le}
+use Rattle.domain_base.specs.declared.names.Mac.{Mac}
+use Rattle.run_journal.specs.declared.domain.Domain.{Domain}
+use Rattle.frame_script.specs.Tokens.{split_word, is_text, first_word}
+use Rattle.frame_script.specs.Script.{◌>>=◌, need, Fault, Draft, AtNodes, Said, Goes, arguments, is_used, is_used_id, address_of, new_ap, ap_line, new_sta, sta_line, event_of, event_line, body_line, is_passed_over, line_says}
+
+-- it is refused, or says something else
+abbrev IsOther : Result Said Fault → Type 0
+IsOther (Ok (Goes draft)) = ⊥
+IsOther said = Unit {0}
+
+either : (b : Bool) (x y : Result Said Fault) → IsOther x → IsOther y → IsOther (if b then x else y)
+either true x y p q = p
+either false x y p q = q
+
+behind : {A : Type 0} (r : Result A Fault) (f : A → Result Said Fault) → ((a : A) → IsOther (f a)) → IsOther (r >>= f)
+behind (Ok a) f p = p a
+behind (Err fault) f p = tt
+
+new_ap_other : (d : Domain) (address : Mac) (id : List ℕ) → IsOther (new_ap d address id)
+unfolding new_ap
+new_ap_other d address id =
+    either (nat_le 16 (length d.aps)) _ _ tt (either (is_used d address) _ _ tt (either (is_used_id d id) _ _ tt tt))
+
+ap_line_other : (d : Domain) (text : List ℕ) → IsOther (ap_line d text)
+unfolding ap_line
+ap_line_other d text =
+    behind (need arguments (split_word text)) _ (λ words. behind (address_of words.0) _ (λ address. either (is_text 48 33 words.1) _ _ (new_ap_other d address words.1) tt))
+
+new_sta_other : (d : Domain) (address : Mac) → IsOther (new_sta d address)
+unfolding new_sta
+new_sta_other d address = either (nat_le 64 (length d.stas)) _ _ tt (either (is_used d address) _ _ tt tt)
+
+sta_line_other : (d : Domain) (text : List ℕ) → IsOther (sta_line d text)
+unfolding sta_line
+sta_line_other d text = behind (address_of text) _ (λ address. new_sta_other d address)
+
+event_line_other : (d : Domain) (sizes word text : List ℕ) → IsOther (event_line d sizes word text)
+unfolding event_line
+event_line_other d sizes word text = behind (event_of d sizes word text) _ (λ event. either (nat_le (length sizes) 65535) _ _ tt tt)
+
+body_line_other : (d : Domain) (rounds : ℕ) (sizes word text : List ℕ) → IsOther (body_line d rounds sizes word text)
+unfolding body_line
+body_line_other d rounds sizes word text =
+    either (bytes_eq word (codes "ap")) _ _ (either (length d.stas == 0 && rounds == 0) _ _ (ap_line_other d text) tt)
+    (either (bytes_eq word (codes "sta")) _ _ (either (rounds == 0) _ _ (sta_line_other d text) tt) (event_line_other d sizes word text))
+
+passed_over : (b : Bool) (d : Domain) (r : Result Said Fault) (next : Draft) → IsOther r → (if b then Ok (Goes (AtNodes d)) else r) ≡ Ok (Goes next) → next ≡ AtNodes d
+passed_over true d r next other is = cc
+passed_over false d r next other is = absurd (subst IsOther is other)
+
+pub same_network : (d : Domain) (rounds : ℕ) (sizes line : List ℕ) (next : Draft) → line_says (AtNodes d) rounds sizes line ≡ Ok (Goes next) → next ≡ AtNodes d
+unfolding line_says
+same_network d rounds sizes line next is =
+    passed_over (is_passed_over line) d (body_line d rounds sizes (first_word line).0 (first_word line).1) next (body_line_other d rounds sizes (first_word line).0 (first_word line).1) is

@@ -1,0 +1,93 @@
+-- The group key in the wrapped key data of M3 is read back as it was sent.
+use Rattle.std.proofs.Common.{◌≡◌, ℕ, ◌<◌, ◌≤◌, ◌%◌, List, [], ◌∷◌, ◌++◌, length, Some, None, refl, sym, ap, subst, ◌∙◌, arith, Bool, true, false, cond, ltb}
+use Rattle.std.proofs.lemmas.Bool.{ltb-true}
+use Rattle.std.proofs.lemmas.List.{append-nil, length-append}
+use Rattle.std.proofs.lemmas.List.Elements.{All-nil, All-cons, All-append}
+use Rattle.aes_block.specs.Octets.{AreOctets}
+use Rattle.key_wrap.specs.KeyWrap.{Wraps}
+use Rattle.key_wrap.proofs.UniqueLemmas.{Wraps-unique, length-Wraps}
+use Rattle.domain_base.specs.declared.names.Akm.{Akm}
+use Rattle.domain_base.specs.declared.names.Akm.TheVariants.{Psk, PskSha256, FtPsk}
+use Rattle.rsn_elements.specs.declared.framing.Within.TheVariants.{KeyData}
+use Rattle.rsn_elements.specs.Elements.{ElementFields, SpellsElements}
+use Rattle.rsn_elements.specs.Sent.{rsne_octets, gtk_kde_octets}
+use Rattle.rsn_elements.specs.Pieces.{SentRsne, SentGtkKde, said}
+use Rattle.rsn_elements.proofs.Apart.{one_value}
+use Rattle.rsn_elements.proofs.PiecesTell.{pieces_spelled}
+use Rattle.eapol_key.specs.KeyData.{padding, padding_octets}
+use Rattle.key_hierarchy.specs.Keys.{ptk}
+use Rattle.key_hierarchy.specs.declared.inputs.Inputs.{Inputs}
+use Rattle.run_journal.specs.declared.domain.Domain.{Domain}
+use Rattle.run_journal.specs.Acts.{GroupKey}
+use Rattle.domain_rules.specs.Frames.{wrapped, m3_key_data}
+use Rattle.domain_rules.specs.Rows.{carried}
+use Rattle.domain_rules.proofs.KeyOctets.{octets-kek}
+
+-- a group key as access points have it
+pub record IsGroupKey (g : GroupKey) : Type 0 where
+  pub octets : AreOctets g.key
+  pub size : length g.key ≡ 16
+  pub low : g.id < 4
+
+abbrev are_few : List ℕ → Bool
+are_few [] = true
+are_few (x ∷ xs) = cond (ltb x 256) (are_few xs) false
+
+few_by : (x : ℕ) (xs : List ℕ) (b : Bool) → ltb x 256 ≡ b → (are_few xs ≡ true → AreOctets xs) → cond b (are_few xs) false ≡ true → AreOctets (x ∷ xs)
+few_by x xs true low more few = All-cons (λ y. y < 256) x xs (ltb-true x 256 low) (more few)
+few_by x xs false low more few = cc
+
+octets_few : (xs : List ℕ) → are_few xs ≡ true → AreOctets xs
+octets_few [] few = All-nil (λ y. y < 256)
+octets_few (x ∷ xs) few = few_by x xs (ltb x 256) refl (octets_few xs) few
+
+octets_rsne : (akm : Akm) → AreOctets (rsne_octets akm None)
+octets_rsne Psk = octets_few (rsne_octets Psk None) refl
+octets_rsne PskSha256 = octets_few (rsne_octets PskSha256 None) refl
+octets_rsne FtPsk = octets_few (rsne_octets FtPsk None) refl
+
+abbrev plain_octets : Domain → GroupKey → List ℕ
+plain_octets d g = rsne_octets d.akm None ++ gtk_kde_octets g.id g.key
+
+size_of : (d : Domain) (g : GroupKey) → IsGroupKey g → length (plain_octets d g) ≡ 46
+size_of d g is = omega (arith, is.size)
+
+pad_is : (n : ℕ) → n ≡ 46 → padding_octets (padding n) ≡ 0xdd ∷ 0x00 ∷ []
+pad_is n e = rw e refl
+
+data_is : (d : Domain) (g : GroupKey) → IsGroupKey g → m3_key_data d g ≡ plain_octets d g ++ 0xdd ∷ 0x00 ∷ []
+data_is d g is = ap (λ (x : List ℕ). plain_octets d g ++ x) (pad_is (length (plain_octets d g)) (size_of d g is))
+
+length-data : (d : Domain) (g : GroupKey) → IsGroupKey g → length (m3_key_data d g) ≡ 48
+length-data d g is = ap length (data_is d g is) ∙ length-append (plain_octets d g) (0xdd ∷ 0x00 ∷ []) ∙ omega (arith, size_of d g is)
+
+octets_data : (d : Domain) (g : GroupKey) → IsGroupKey g → AreOctets (m3_key_data d g)
+octets_data d g is = subst AreOctets (sym (data_is d g is))
+    (All-append (λ x. x < 256) (plain_octets d g) (0xdd ∷ 0x00 ∷ []) (All-append (λ x. x < 256) (rsne_octets d.akm None) (gtk_kde_octets g.id g.key) (octets_rsne d.akm) kde) (octets_few (0xdd ∷ 0x00 ∷ []) refl))
+  where
+    kde : AreOctets (gtk_kde_octets g.id g.key)
+    kde = All-append (λ x. x < 256) (0xdd ∷ 0x16 ∷ 0x00 ∷ 0x0f ∷ 0xac ∷ 0x01 ∷ []) (g.id ∷ 0x00 ∷ g.key) (octets_few (0xdd ∷ 0x16 ∷ 0x00 ∷ 0x0f ∷ 0xac ∷ 0x01 ∷ []) refl)
+        (All-cons (λ x. x < 256) g.id (0x00 ∷ g.key) (omega (arith, is.low)) (All-cons (λ x. x < 256) 0 g.key (omega arith) is.octets))
+
+pub wrapped_is : (d : Domain) (kek : List ℕ) (g : GroupKey) → IsGroupKey g → Wraps kek (m3_key_data d g) (wrapped kek (m3_key_data d g))
+wrapped_is d kek g is = record {
+  whole_blocks = ap (λ (n : ℕ). n % 8) (length-data d g is);
+  two_blocks = omega (arith, length-data d g is);
+  are_octets = octets_data d g is;
+  wrapped = refl;
+}
+
+pub few_wrapped : (d : Domain) (i : Inputs) (g : GroupKey) → IsGroupKey g → length (wrapped (ptk i).kek (m3_key_data d g)) ≤ 65440
+few_wrapped d i g is = omega (arith, (length-Wraps (ptk i).kek (m3_key_data d g) (wrapped (ptk i).kek (m3_key_data d g)) (octets-kek i) (wrapped_is d (ptk i).kek g is)).0, length-data d g is)
+
+pub says : (d : Domain) (g : GroupKey) → IsGroupKey g → SpellsElements KeyData (m3_key_data d g) (said KeyData (SentRsne d.akm None ∷ SentGtkKde g.id g.key ∷ []))
+says d g is = subst (λ (x : List ℕ). SpellsElements KeyData x (said KeyData (SentRsne d.akm None ∷ SentGtkKde g.id g.key ∷ [])))
+    (ap (λ (x : List ℕ). (rsne_octets d.akm None ++ x) ++ 0xdd ∷ 0x00 ∷ []) (append-nil (gtk_kde_octets g.id g.key)) ∙ sym (data_is d g is))
+    (pieces_spelled KeyData (SentRsne d.akm None ∷ SentGtkKde g.id g.key ∷ []) [] (0xdd ∷ 0x00 ∷ []) (tt, ((is.low, is.size), tt)) ((refl, tt), (tt, tt)) tt (refl, refl))
+
+-- whoever unwraps what was wrapped has the key that was put in
+pub one_carried : (d : Domain) (i : Inputs) (g : GroupKey) (plain : List ℕ) (e : ElementFields) → IsGroupKey g → Wraps (ptk i).kek plain (wrapped (ptk i).kek (m3_key_data d g)) → SpellsElements KeyData plain e → carried (Some e) ≡ g
+one_carried d i g plain e is wraps spelled =
+    let one : plain ≡ m3_key_data d g = Wraps-unique (ptk i).kek plain (m3_key_data d g) (wrapped (ptk i).kek (m3_key_data d g)) (octets-kek i) wraps (wrapped_is d (ptk i).kek g is) in
+    let value = one_value KeyData (m3_key_data d g) e (said KeyData (SentRsne d.akm None ∷ SentGtkKde g.id g.key ∷ [])) (subst (λ (x : List ℕ). SpellsElements KeyData x e) one spelled) (says d g is) in
+    ap (λ (x : ElementFields). carried (Some x)) value

@@ -1,0 +1,160 @@
+-- What the rounds of an example handshake need: reading, judging and pushing in one step.
+use Rattle.aes_block.specs.Octets.{AreOctets}
+use Rattle.air_frame.specs.Sent.{IsAddress}
+use Rattle.domain_base.specs.declared.names.Akm.TheVariants.{Psk, PskSha256, FtPsk}
+use Rattle.domain_base.specs.declared.names.Akm.{Akm}
+use Rattle.domain_base.specs.declared.names.Node.TheVariants.{Ap, Sta}
+use Rattle.domain_base.specs.declared.names.Node.{Node}
+use Rattle.domain_rules.proofs.Journals.{history-push, history-other, started_none, started_more, explained_event}
+use Rattle.domain_rules.proofs.KeyOctets.{octets-kdf}
+use Rattle.domain_rules.proofs.SentReads.{HasMic}
+use Rattle.domain_rules.specs.Counters.{next_in_attempt, sent_count}
+use Rattle.domain_rules.specs.Explained.{frames, push, started, WasSent, Step, Explained}
+use Rattle.domain_rules.specs.Frames.{sent_m3}
+use Rattle.domain_rules.specs.GroupKeys.{newest, newest_uses}
+use Rattle.domain_rules.specs.Network.{address, peer_of, nonce, gtk}
+use Rattle.domain_rules.specs.Reading.{KeyMessage}
+use Rattle.domain_rules.specs.Rows.{Take, TakeRow, retry_acts, most_sends}
+use Rattle.domain_rules.specs.Verdict as rules
+use Rattle.domain_rules.specs.Verdict.{by_connect, has_heard, is_mine, kept_counter, offered, rsne_status, verified, Keying, m3_keying, m4_keying, m3_verdict, m4_verdict, taken_in}
+use Rattle.eapol_key.specs.declared.messages.Message.TheVariants.{M1, M2, M3}
+use Rattle.key_hierarchy.proofs.Lengths.{length-kdf}
+use Rattle.rsn_elements.specs.Pieces.{SentRsne, SentGtkKde, sent_rsne, said}
+use Rattle.rsn_elements.specs.Sent.{rsne_octets}
+use Rattle.rsn_elements.specs.declared.framing.Within.TheVariants.{KeyData}
+use Rattle.run_journal.specs.Acts.{Derivation}
+use Rattle.run_journal.specs.Questions.{attempt, derivation, history, add, since, session, before_sent}
+use Rattle.run_journal.specs.declared.acts.Act.{Act}
+use Rattle.run_journal.specs.declared.acts.Entry.{Entry}
+use Rattle.run_journal.specs.declared.acts.Kind.TheVariants as kind
+use Rattle.run_journal.specs.declared.acts.Outcome.TheVariants.{Accepted}
+use Rattle.run_journal.specs.declared.domain.Domain.{Domain}
+use Rattle.run_journal.specs.declared.domain.Event.TheVariants.{Deliver}
+use Rattle.run_journal.specs.declared.domain.Event.{Event}
+use Rattle.std.proofs.Common.{◌≡◌, ℕ, zero, suc, ◌<◌, true, false, List, [], ◌∷◌, length, Some, None, refl, sym, ap, subst, ◌∙◌}
+use Rattle.std.proofs.lemmas.Slice.Eq.{bytes_eq-Decides}
+use Rattle.std.specs.List.{list_any}
+use Rattle.std.specs.Prelude.{◌==◌, nat_lt}
+
+pub length-nonce : (d : Domain) (n : Node) (i : ℕ) → length (nonce d n i) ≡ 32
+unfolding nonce
+length-nonce d n i = length-kdf _ _ _ 32
+
+pub length-gtk : (d : Domain) (n : Node) (i : ℕ) → length (gtk d n i) ≡ 16
+unfolding gtk
+length-gtk d n i = length-kdf _ _ _ 16
+
+pub octets-gtk : (d : Domain) (n : Node) (i : ℕ) → AreOctets (gtk d n i)
+unfolding gtk
+octets-gtk d n i = octets-kdf _ _ _ 16
+
+-- octets that come are one step
+pub take_step : (d : Domain) (round number : ℕ) (n : Node) (octets : List ℕ) (past : List Entry) (h g : List Act) → history n past ≡ h → WasSent past round number octets → TakeRow d 0 n h octets g
+    → Step d round (Deliver number n) past (push round n g past)
+take_step d round number n octets past h g is was row = record {
+  node = n;
+  at_node = Take octets;
+  happens = (octets, (was, (refl, refl)));
+  acts = g;
+  group = subst (λ (x : List Act). TakeRow d 0 n x octets g) (sym is) row;
+  is = refl;
+}
+
+pub some-injective : (x y : Keying) → Some x ≡ Some y → x ≡ y
+some-injective x y e = cc e
+
+-- the key of an attempt
+pub m3-keyed : (p : Node) (h part : List Act) (x : Derivation) → attempt p h ≡ Some part → by_connect part ≡ true → has_heard p (kind.Key M1) part ≡ true → derivation p part ≡ Some x
+    → m3_keying p h ≡ Some (record { inputs = x.inputs; ptk = x.ptk; part = part; is_session = false })
+m3-keyed p h part x s begun hears derives = rw (s, begun, hears, derives) refl
+
+pub m4-keyed : (p : Node) (part : List Act) (x : Derivation) → by_connect part ≡ true → has_heard p (kind.Key M2) part ≡ true → derivation p part ≡ Some x → m4_keying p part ≡ Some x
+m4-keyed p part x begun hears derives = rw (begun, hears, derives) refl
+
+-- M3 and M4 by the answers to what is asked of the history
+pub m3-in : (d : Domain) (h : List Act) (p : Node) (k : KeyMessage) (y : Keying) → m3_keying p h ≡ Some y → kept_counter p y.part ≡ None → k.fields.nonce ≡ y.inputs.anonce
+    → m3_verdict d h p k ≡ verified d.akm y.ptk.kck k (taken_in y.is_session)
+m3-in d h p k y s counter same = rw (s, counter, (bytes_eq-Decides k.fields.nonce y.inputs.anonce).1 same) refl
+
+pub m4-in : (d : Domain) (h : List Act) (p : Node) (k : KeyMessage) (part : List Act) (x : Derivation) (offers : List ℕ) → attempt p h ≡ Some part → m4_keying p part ≡ Some x → offered p M3 part ≡ offers
+    → list_any (λ c. c == k.fields.counter) offers ≡ true → m4_verdict d h p k ≡ verified d.akm x.ptk.kck k Accepted
+m4-in d h p k part x offers s keyed is same = rw (s, keyed, is, same) refl
+
+-- the key of a session
+pub m3-keyed_session : (p : Node) (h part : List Act) (x : Derivation) → attempt p h ≡ None → since p h ≡ part → by_connect part ≡ true → session p h ≡ Some x
+    → m3_keying p h ≡ Some (record { inputs = x.inputs; ptk = x.ptk; part = part; is_session = true })
+m3-keyed_session p h part x s is begun has = rw (s, is, begun, has) refl
+
+-- M3 with a counter above the last
+pub m3-again : (d : Domain) (h : List Act) (p : Node) (k : KeyMessage) (y : Keying) (kept : ℕ) → m3_keying p h ≡ Some y → kept_counter p y.part ≡ Some kept → nat_lt kept k.fields.counter ≡ true → k.fields.nonce ≡ y.inputs.anonce
+    → m3_verdict d h p k ≡ verified d.akm y.ptk.kck k (taken_in y.is_session)
+m3-again d h p k y kept s counter low same = rw (s, counter, low, (bytes_eq-Decides k.fields.nonce y.inputs.anonce).1 same) refl
+
+-- M3 is sent once more
+pub retries-m3 : (d : Domain) (n : Node) (h : List Act) (p : Node) (part past : List Act) (x : Derivation) → attempt p h ≡ Some part → by_connect part ≡ true → has_heard p (kind.Key M2) part ≡ true → nat_lt (sent_count p M3 part) most_sends ≡ true
+    → derivation p part ≡ Some x → before_sent p (kind.Key M3) h ≡ Some past → retry_acts d n h p (attempt p h) ≡ sent_m3 d n p x.inputs (next_in_attempt p part) (newest past) (newest_uses past) ∷ []
+retries-m3 d n h p part past x s begun hears few derives before = rw (s, begun, hears, few, derives, before) refl
+
+-- key data with the RSNE that is sent and a group key is accepted
+pub key_data-same : (akm : Akm) (key : List ℕ) (id : ℕ) → length key ≡ 16 → (id == 0) ≡ false
+    → rules.m3_key_data akm (Some (said KeyData (SentRsne akm None ∷ SentGtkKde id key ∷ []))) ≡ Accepted
+key_data-same akm key id size other = rw ((bytes_eq-Decides (rsne_octets akm None) (rsne_octets akm None)).1 refl, size, other) refl
+
+-- no frame is sent as access points start
+pub frames-started : (d : Domain) (n : ℕ) → frames (started d n) ≡ 0
+frames-started d zero = ap frames (started_none d)
+frames-started d (suc n) = ap frames (started_more d n) ∙ frames-started d n
+
+-- the RSNE that is sent is accepted
+pub status-sent : (akm : Akm) → rsne_status akm (Some (sent_rsne akm None)) ≡ None
+status-sent Psk = refl
+status-sent PskSha256 = refl
+status-sent FtPsk = refl
+
+pub same_octets : (d : Domain) (n : Node) → is_mine d n (record { octets = []; a1 = address d n; a2 = []; a3 = [] }) ≡ true
+same_octets d n = (bytes_eq-Decides (address d n) (address d n)).1 refl
+
+-- a listed access point and a listed station of a network
+pub record IsPair (d : Domain) (a s : ℕ) : Type 0 where
+  pub ap_whole : IsAddress (address d (Ap a))
+  pub sta_whole : IsAddress (address d (Sta s))
+  pub finds_ap : peer_of d (Sta s) (address d (Ap a)) ≡ Some (Ap a)
+  pub finds_sta : peer_of d (Ap a) (address d (Sta s)) ≡ Some (Sta s)
+  pub ap_low : a < length d.aps
+  pub sta_low : s < 64
+  pub has_mic : HasMic d.akm
+
+-- the journal of some rounds: the histories of both nodes, how many frames were sent, and the octets of the last of them
+pub record Stage (d : Domain) (k m : ℕ) (rounds : List (List Event)) (sta ap : List Act) (sent : ℕ) (octets : List ℕ) : Type 0 where
+  pub journal : List Entry
+  pub explained : Explained d rounds journal
+  pub sta_is : history (Sta m) journal ≡ sta
+  pub ap_is : history (Ap k) journal ≡ ap
+  pub count : frames journal ≡ sent
+  pub was : WasSent journal (suc (length rounds)) sent octets
+
+-- one more round, of one event at the station
+pub after_sta : (d : Domain) (k m : ℕ) (rounds : List (List Event)) (sta ap : List Act) (sent : ℕ) (octets : List ℕ) (st : Stage d k m rounds sta ap sent octets) (event : Event) (g : List Act) (now : ℕ) (last : List ℕ)
+    → Step d (suc (length rounds)) event st.journal (push (suc (length rounds)) (Sta m) g st.journal) → frames (push (suc (length rounds)) (Sta m) g st.journal) ≡ now
+    → WasSent (push (suc (length rounds)) (Sta m) g st.journal) (suc (suc (length rounds))) now last → Stage d k m ((event ∷ []) ∷ rounds) (add g sta) ap now last
+after_sta d k m rounds sta aps sent octets st event g now last step count was = record {
+  journal = push (suc (length rounds)) (Sta m) g st.journal;
+  explained = explained_event d rounds event st.journal (push (suc (length rounds)) (Sta m) g st.journal) st.explained step;
+  sta_is = history-push (suc (length rounds)) (Sta m) g st.journal ∙ ap (add g) st.sta_is;
+  ap_is = history-other (suc (length rounds)) (Sta m) (Ap k) g st.journal refl ∙ st.ap_is;
+  count = count;
+  was = was;
+}
+
+-- and at the access point
+pub after_ap : (d : Domain) (k m : ℕ) (rounds : List (List Event)) (sta ap : List Act) (sent : ℕ) (octets : List ℕ) (st : Stage d k m rounds sta ap sent octets) (event : Event) (g : List Act) (now : ℕ) (last : List ℕ)
+    → Step d (suc (length rounds)) event st.journal (push (suc (length rounds)) (Ap k) g st.journal) → frames (push (suc (length rounds)) (Ap k) g st.journal) ≡ now
+    → WasSent (push (suc (length rounds)) (Ap k) g st.journal) (suc (suc (length rounds))) now last → Stage d k m ((event ∷ []) ∷ rounds) sta (add g ap) now last
+after_ap d k m rounds sta aps sent octets st event g now last step count was = record {
+  journal = push (suc (length rounds)) (Ap k) g st.journal;
+  explained = explained_event d rounds event st.journal (push (suc (length rounds)) (Ap k) g st.journal) st.explained step;
+  sta_is = history-other (suc (length rounds)) (Ap k) (Sta m) g st.journal refl ∙ st.sta_is;
+  ap_is = history-push (suc (length rounds)) (Ap k) g st.journal ∙ ap (add g) st.ap_is;
+  count = count;
+  was = was;
+}

@@ -1,0 +1,377 @@
+-- The rounds of an example handshake from M3 to M4: the keys are installed, and M3 is sent and answered twice.
+use Rattle.domain_base.specs.declared.names.Node.{Node}
+use Rattle.domain_rules.proofs.CarriedKey.{IsGroupKey, wrapped_is, says}
+use Rattle.domain_rules.proofs.Exchange.{length-nonce, length-gtk, octets-gtk, take_step, some-injective, m3-keyed, m4-keyed, m3-in, m4-in, m3-keyed_session, m3-again, retries-m3, key_data-same, same_octets, IsPair, Stage, after_sta, after_ap}
+use Rattle.domain_rules.proofs.KeyOctets.{octets-kek}
+use Rattle.domain_rules.proofs.Parts.{same-refl, attempt_more}
+use Rattle.domain_rules.proofs.SentReads.{mic-sealed, reads-counter, m3_fields, fits-m3, m3_message, reads-m3, m4_fields, fits-m4, m4_message, reads-m4}
+use Rattle.domain_rules.proofs.Verdicts.{verified-same, keyed-from}
+use Rattle.domain_rules.specs.Counters.{next_in_attempt, sent_count}
+use Rattle.domain_rules.specs.Explained.{push, Step}
+use Rattle.domain_rules.specs.Frames.{sent_m2, m3_key_data, sent_m3}
+use Rattle.domain_rules.specs.Reading.{KeyMessage, Keyed, Reads}
+use Rattle.domain_rules.specs.Rows.{TakeRow, By_m3, By_m4, By_repeated_m3, retry_acts, most_sends}
+use Rattle.domain_rules.specs.Verdict.{ReadsKeyData, has_heard, is_mine, kept_counter, offered, verified, Facts, KnowsM3, Keying, m3_keying, m4_keying, further, and_then, first_verdict, verdict, replay_counter}
+use Rattle.eapol_key.specs.declared.messages.Message.TheVariants.{M1, M2, M3}
+use Rattle.key_hierarchy.specs.Keys.{ptk}
+use Rattle.key_hierarchy.specs.declared.inputs.Inputs.{Inputs}
+use Rattle.rsn_elements.specs.Elements.{ElementFields}
+use Rattle.rsn_elements.specs.Pieces.{SentRsne, SentGtkKde, said}
+use Rattle.rsn_elements.specs.declared.framing.Within.TheVariants.{KeyData}
+use Rattle.run_journal.specs.Acts.{Derivation, GroupKey}
+use Rattle.run_journal.specs.Questions.{attempt, derivation, since, session, before_sent}
+use Rattle.run_journal.specs.declared.acts.Act.TheVariants.{Derived, Took}
+use Rattle.run_journal.specs.declared.acts.Act.{Act}
+use Rattle.run_journal.specs.declared.acts.Entry.{Entry}
+use Rattle.run_journal.specs.declared.acts.Kind.TheVariants as kind
+use Rattle.run_journal.specs.declared.acts.Outcome.TheVariants.{Accepted, Answered}
+use Rattle.run_journal.specs.declared.acts.Outcome.{Outcome}
+use Rattle.run_journal.specs.declared.acts.Seal.{Seal}
+use Rattle.run_journal.specs.declared.domain.Domain.{Domain}
+use Rattle.run_journal.specs.declared.domain.Event.TheVariants.{Deliver, Retry}
+use Rattle.run_journal.specs.declared.domain.Event.{Event}
+use Rattle.std.proofs.Common.{◌≡◌, ℕ, suc, true, false, List, [], ◌∷◌, Some, None, refl, sym, ap, subst, ◌∙◌, arith, inl, inr}
+use Rattle.std.specs.Prelude.{not, ◌||◌, nat_lt}
+use Rattle.domain_rules.proofs.HandshakeActs as w
+use Rattle.domain_rules.proofs.FirstRounds.{stage5}
+use Rattle.domain_rules.specs.Rows as again
+
+module _ (d : Domain) (k m : ℕ) (pair : IsPair d k m) where
+  abbrev a : Node
+  a = w.a d k m
+
+  abbrev s : Node
+  s = w.s d k m
+
+  abbrev i : Inputs
+  i = w.i d k m
+
+  abbrev g : GroupKey
+  g = w.g d k m
+
+  abbrev key : Derivation
+  key = w.key d k m
+
+  abbrev octets2 : List ℕ
+  octets2 = w.octets2 d k m
+
+  abbrev octets3 : List ℕ
+  octets3 = w.octets3 d k m
+
+  abbrev octets4 : List ℕ
+  octets4 = w.octets4 d k m
+
+  abbrev octets5 : List ℕ
+  octets5 = w.octets5 d k m
+
+  abbrev octets6 : List ℕ
+  octets6 = w.octets6 d k m
+
+  abbrev octets7 : List ℕ
+  octets7 = w.octets7 d k m
+
+  abbrev octets8 : List ℕ
+  octets8 = w.octets8 d k m
+
+  abbrev seal4 : Seal
+  seal4 = w.seal4 d k m
+
+  abbrev acts6 : List Act
+  acts6 = w.acts6 d k m
+
+  abbrev acts7 : List Act
+  acts7 = w.acts7 d k m
+
+  abbrev acts8 : List Act
+  acts8 = w.acts8 d k m
+
+  abbrev acts9 : List Act
+  acts9 = w.acts9 d k m
+
+  abbrev sta1 : List Act
+  sta1 = w.sta1 d k m
+
+  abbrev sta3 : List Act
+  sta3 = w.sta3 d k m
+
+  abbrev sta4 : List Act
+  sta4 = w.sta4 d k m
+
+  abbrev sta6 : List Act
+  sta6 = w.sta6 d k m
+
+  abbrev sta8 : List Act
+  sta8 = w.sta8 d k m
+
+  abbrev ap2 : List Act
+  ap2 = w.ap2 d k m
+
+  abbrev ap5 : List Act
+  ap5 = w.ap5 d k m
+
+  abbrev ap7 : List Act
+  ap7 = w.ap7 d k m
+
+  abbrev ap9 : List Act
+  ap9 = w.ap9 d k m
+
+  abbrev part2 : List Act
+  part2 = w.part2 d k m
+
+  abbrev part5 : List Act
+  part5 = w.part5 d k m
+
+  abbrev part7 : List Act
+  part7 = w.part7 d k m
+
+  abbrev rounds5 : List (List Event)
+  rounds5 = w.rounds5 d k m
+
+  abbrev rounds6 : List (List Event)
+  rounds6 = w.rounds6 d k m
+
+  abbrev rounds7 : List (List Event)
+  rounds7 = w.rounds7 d k m
+
+  abbrev rounds8 : List (List Event)
+  rounds8 = w.rounds8 d k m
+
+  abbrev rounds9 : List (List Event)
+  rounds9 = w.rounds9 d k m
+
+  abbrev past5 : List Entry
+  past5 = (stage5 d k m pair).journal
+
+  is_key : IsGroupKey g
+  is_key = record { octets = octets-gtk d a 0; size = length-gtk d a 0; low = omega arith }
+
+  -- round 6: the station installs both keys by M3
+  abbrev m3 : KeyMessage
+  m3 = m3_message d a s i 2 g 0
+
+  abbrev keying : Keying
+  keying = record { inputs = i; ptk = ptk i; part = sta4; is_session = false }
+
+  attempt_first : attempt a sta3 ≡ Some sta3
+  attempt_first = attempt_more a (Took (Some a) octets2 kind.AssocResp Accepted None) sta1 sta1 refl refl (rw (same-refl a) refl)
+
+  attempt6 : attempt a sta4 ≡ Some sta4
+  attempt6 = attempt_more a (sent_m2 d s a i 1) (Derived a i (ptk i) ∷ Took (Some a) octets3 (kind.Key M1) Accepted None ∷ sta3) (Derived a i (ptk i) ∷ Took (Some a) octets3 (kind.Key M1) Accepted None ∷ sta3) refl refl
+      (attempt_more a (Derived a i (ptk i)) (Took (Some a) octets3 (kind.Key M1) Accepted None ∷ sta3) (Took (Some a) octets3 (kind.Key M1) Accepted None ∷ sta3) refl refl
+      (attempt_more a (Took (Some a) octets3 (kind.Key M1) Accepted None) sta3 sta3 refl refl attempt_first))
+
+  heard6 : has_heard a (kind.Key M1) sta4 ≡ true
+  heard6 = rw (same-refl a) refl
+
+  derives6 : derivation a sta4 ≡ Some key
+  derives6 = rw (same-refl a) refl
+
+  keying6 : m3_keying a sta4 ≡ Some keying
+  keying6 = m3-keyed a sta4 sta4 key attempt6 refl heard6 derives6
+
+  counter6 : kept_counter a sta4 ≡ None
+  counter6 = rw (same-refl a) refl
+
+  reads6 : Reads d.akm octets5 (Keyed m3)
+  reads6 = reads-m3 d a s i 2 g 0 pair.has_mic pair.ap_whole pair.sta_whole (omega arith) (length-nonce d a 1) is_key
+
+  verifies6 : verified d.akm (ptk i).kck m3 Accepted ≡ Accepted
+  verifies6 = verified-same d.akm (ptk i).kck m3 Accepted (mic-sealed d.akm (ptk i).kck (m3_fields d i 2 g 0) pair.has_mic (fits-m3 d i 2 g 0 (omega arith) (length-nonce d a 1) is_key))
+
+  mine6 : (not (is_mine d s m3.header) || false) ≡ false
+  mine6 = rw (same_octets d s) refl
+
+  first6 : first_verdict d 0 s sta4 (Keyed m3) ≡ Accepted
+  first6 = keyed-from d 0 s sta4 m3 a mine6 pair.finds_ap ∙ m3-in d sta4 a m3 keying keying6 counter6 refl ∙ verifies6
+
+  -- what M3 says, both times
+  abbrev said_by_m3 : ElementFields
+  said_by_m3 = said KeyData (SentRsne d.akm None ∷ SentGtkKde g.id g.key ∷ [])
+
+  abbrev facts : Facts
+  facts = record { requested = None; unwrapped = Some (m3_key_data d g); data_ = Some said_by_m3 }
+
+  further6 : further d.akm (Keyed m3) facts ≡ Accepted
+  further6 = key_data-same d.akm g.key 1 (length-gtk d a 0) refl
+
+  accepted6 : verdict d 0 s sta4 (Keyed m3) facts ≡ Accepted
+  accepted6 = ap (λ (o : Outcome). and_then o (further d.akm (Keyed m3) facts)) first6 ∙ ap (and_then Accepted) further6
+
+  knows6 : KnowsM3 (ptk i).kek m3 facts
+  knows6 = record {
+    unwrapped = (octets-kek i, wrapped_is d (ptk i).kek g is_key);
+    data_ = λ plain e. (let same : m3_key_data d g ≡ plain = cc e in subst (λ (x : List ℕ). ReadsKeyData x facts.data_) same (says d g is_key));
+  }
+
+  row6 : TakeRow d 0 s sta4 octets5 acts6
+  row6 = record {
+    r = Keyed m3;
+    reads = reads6;
+    facts = facts;
+    knows = λ came p from y awaited.
+        (let same : a ≡ p = cc (from, pair.finds_ap) in
+        let one : keying ≡ y = some-injective keying y (sym keying6 ∙ subst (λ (x : Node). m3_keying x sta4 ≡ Some y) (sym same) awaited) in
+        subst (λ (x : Keying). KnowsM3 x.ptk.kek m3 facts) one knows6);
+    row = By_m3 (record { k = m3; is = refl; message_is = refl; p = a; from = pair.finds_ap; accepted = accepted6; y = keying; awaited = keying6; says = refl });
+  }
+
+  step6 : Step d 6 (Deliver 5 s) past5 (push 6 s acts6 past5)
+  step6 = take_step d 6 5 s octets5 past5 sta4 acts6 (stage5 d k m pair).sta_is (stage5 d k m pair).was row6
+
+  stage6 : Stage d k m rounds6 sta6 ap5 6 octets6
+  stage6 = after_sta d k m rounds5 sta4 ap5 5 octets5 (stage5 d k m pair) (Deliver 5 s) acts6 6 octets6 step6 (ap suc (stage5 d k m pair).count)
+      (record { entry = _; there = inl refl; earlier = omega arith; is = ap suc (stage5 d k m pair).count; act = (_, (_, (_, refl))) })
+
+  -- round 7: the access point sends M3 once more
+  attempt2 : attempt s ap2 ≡ Some part2
+  attempt2 = rw (same-refl s) refl
+
+  attempt7 : attempt s ap5 ≡ Some part5
+  attempt7 = attempt_more s (sent_m3 d a s i 2 g 0) (Derived s i (ptk i) ∷ Took (Some s) octets4 (kind.Key M2) Accepted (Some seal4) ∷ ap2) (Derived s i (ptk i) ∷ Took (Some s) octets4 (kind.Key M2) Accepted (Some seal4) ∷ part2) refl refl
+      (attempt_more s (Derived s i (ptk i)) (Took (Some s) octets4 (kind.Key M2) Accepted (Some seal4) ∷ ap2) (Took (Some s) octets4 (kind.Key M2) Accepted (Some seal4) ∷ part2) refl refl
+      (attempt_more s (Took (Some s) octets4 (kind.Key M2) Accepted (Some seal4)) ap2 part2 refl refl attempt2))
+
+  heard7 : has_heard s (kind.Key M2) part5 ≡ true
+  heard7 = rw (same-refl s) refl
+
+  few7 : nat_lt (sent_count s M3 part5) most_sends ≡ true
+  few7 = rw (same-refl s) refl
+
+  derives7 : derivation s part5 ≡ Some key
+  derives7 = rw (same-refl s) refl
+
+  before7 : before_sent s (kind.Key M3) ap5 ≡ Some (Derived s i (ptk i) ∷ Took (Some s) octets4 (kind.Key M2) Accepted (Some seal4) ∷ ap2)
+  before7 = rw (same-refl s) refl
+
+  counter7 : next_in_attempt s part5 ≡ 3
+  counter7 = rw (same-refl s) refl
+
+  retries7 : acts7 ≡ retry_acts d a ap5 s (attempt s ap5)
+  retries7 = ap (λ (c : ℕ). sent_m3 d a s i c g 0 ∷ []) (sym counter7)
+      ∙ sym (retries-m3 d a ap5 s part5 (Derived s i (ptk i) ∷ Took (Some s) octets4 (kind.Key M2) Accepted (Some seal4) ∷ ap2) key attempt7 refl heard7 few7 derives7 before7)
+
+  step7 : Step d 7 (Retry k m) stage6.journal (push 7 a acts7 stage6.journal)
+  step7 = record {
+    node = a;
+    at_node = again.Retry m;
+    happens = (refl, refl);
+    acts = acts7;
+    group = subst (λ (h : List Act). acts7 ≡ retry_acts d a h s (attempt s h)) (sym stage6.ap_is) retries7;
+    is = refl;
+  }
+
+  stage7 : Stage d k m rounds7 sta6 ap7 7 octets7
+  stage7 = after_ap d k m rounds6 sta6 ap5 6 octets6 stage6 (Retry k m) acts7 7 octets7 step7 (ap suc stage6.count)
+      (record { entry = _; there = inl refl; earlier = omega arith; is = ap suc stage6.count; act = (_, (_, (_, refl))) })
+
+  -- round 8: the station answers it, and installs nothing
+  abbrev m3_again : KeyMessage
+  m3_again = m3_message d a s i 3 g 0
+
+  abbrev keyed : Keying
+  keyed = record { inputs = i; ptk = ptk i; part = sta6; is_session = true }
+
+  since8 : since a sta6 ≡ sta6
+  since8 = rw (same-refl a) refl
+
+  session8 : session a sta6 ≡ Some key
+  session8 = rw (same-refl a) refl
+
+  keying8 : m3_keying a sta6 ≡ Some keyed
+  keying8 = m3-keyed_session a sta6 sta6 key refl since8 refl session8
+
+  counter8 : kept_counter a sta6 ≡ Some 2
+  counter8 = rw (same-refl a) (ap (λ (c : ℕ). Some c) (reads-counter d.akm octets5 m3 reads6))
+
+  reads8 : Reads d.akm octets7 (Keyed m3_again)
+  reads8 = reads-m3 d a s i 3 g 0 pair.has_mic pair.ap_whole pair.sta_whole (omega arith) (length-nonce d a 1) is_key
+
+  verifies8 : verified d.akm (ptk i).kck m3_again Answered ≡ Answered
+  verifies8 = verified-same d.akm (ptk i).kck m3_again Answered (mic-sealed d.akm (ptk i).kck (m3_fields d i 3 g 0) pair.has_mic (fits-m3 d i 3 g 0 (omega arith) (length-nonce d a 1) is_key))
+
+  mine8 : (not (is_mine d s m3_again.header) || false) ≡ false
+  mine8 = rw (same_octets d s) refl
+
+  first8 : first_verdict d 0 s sta6 (Keyed m3_again) ≡ Answered
+  first8 = keyed-from d 0 s sta6 m3_again a mine8 pair.finds_ap ∙ m3-again d sta6 a m3_again keyed 2 keying8 counter8 refl refl ∙ verifies8
+
+  further8 : further d.akm (Keyed m3_again) facts ≡ Accepted
+  further8 = key_data-same d.akm g.key 1 (length-gtk d a 0) refl
+
+  answered8 : verdict d 0 s sta6 (Keyed m3_again) facts ≡ Answered
+  answered8 = ap (λ (o : Outcome). and_then o (further d.akm (Keyed m3_again) facts)) first8 ∙ ap (and_then Answered) further8
+
+  knows8 : KnowsM3 (ptk i).kek m3_again facts
+  knows8 = record {
+    unwrapped = (octets-kek i, wrapped_is d (ptk i).kek g is_key);
+    data_ = λ plain e. (let same : m3_key_data d g ≡ plain = cc e in subst (λ (x : List ℕ). ReadsKeyData x facts.data_) same (says d g is_key));
+  }
+
+  row8 : TakeRow d 0 s sta6 octets7 acts8
+  row8 = record {
+    r = Keyed m3_again;
+    reads = reads8;
+    facts = facts;
+    knows = λ came p from y awaited.
+        (let same : a ≡ p = cc (from, pair.finds_ap) in
+        let one : keyed ≡ y = some-injective keyed y (sym keying8 ∙ subst (λ (x : Node). m3_keying x sta6 ≡ Some y) (sym same) awaited) in
+        subst (λ (x : Keying). KnowsM3 x.ptk.kek m3_again facts) one knows8);
+    row = By_repeated_m3 (record { k = m3_again; is = refl; message_is = refl; p = a; from = pair.finds_ap; answered = answered8; y = keyed; awaited = keying8; says = refl });
+  }
+
+  step8 : Step d 8 (Deliver 7 s) stage7.journal (push 8 s acts8 stage7.journal)
+  step8 = take_step d 8 7 s octets7 stage7.journal sta6 acts8 stage7.sta_is stage7.was row8
+
+  stage8 : Stage d k m rounds8 sta8 ap7 8 octets8
+  stage8 = after_sta d k m rounds7 sta6 ap7 7 octets7 stage7 (Deliver 7 s) acts8 8 octets8 step8 (ap suc stage7.count)
+      (record { entry = _; there = inl refl; earlier = omega arith; is = ap suc stage7.count; act = (_, (_, (_, refl))) })
+
+  -- round 9: the access point installs the pairwise key by M4
+  abbrev no_facts : Facts
+  no_facts = record { requested = None; unwrapped = None; data_ = None }
+
+  abbrev m4 : KeyMessage
+  m4 = m4_message d s a i 3
+
+  attempt9 : attempt s ap7 ≡ Some part7
+  attempt9 = attempt_more s (sent_m3 d a s i 3 g 0) ap5 part5 refl refl attempt7
+
+  heard9 : has_heard s (kind.Key M2) part7 ≡ true
+  heard9 = rw (same-refl s) refl
+
+  derives9 : derivation s part7 ≡ Some key
+  derives9 = rw (same-refl s) refl
+
+  keying9 : m4_keying s part7 ≡ Some key
+  keying9 = m4-keyed s part7 key refl heard9 derives9
+
+  counters9 : replay_counter octets7 ∷ replay_counter octets5 ∷ [] ≡ 3 ∷ 2 ∷ []
+  counters9 = ap (λ (c : ℕ). c ∷ replay_counter octets5 ∷ []) (reads-counter d.akm octets7 m3_again reads8) ∙ ap (λ (c : ℕ). 3 ∷ c ∷ []) (reads-counter d.akm octets5 m3 reads6)
+
+  offers9 : offered s M3 part7 ≡ 3 ∷ 2 ∷ []
+  offers9 = rw (same-refl s) counters9
+
+  verifies9 : verified d.akm (ptk i).kck m4 Accepted ≡ Accepted
+  verifies9 = verified-same d.akm (ptk i).kck m4 Accepted (mic-sealed d.akm (ptk i).kck (m4_fields d 3) pair.has_mic (fits-m4 d 3 (omega arith)))
+
+  mine9 : (not (is_mine d a m4.header) || false) ≡ false
+  mine9 = rw (same_octets d a) refl
+
+  accepted9 : verdict d 0 a ap7 (Keyed m4) no_facts ≡ Accepted
+  accepted9 = ap (λ (o : Outcome). and_then o Accepted) (keyed-from d 0 a ap7 m4 s mine9 pair.finds_sta ∙ m4-in d ap7 s m4 part7 key (3 ∷ 2 ∷ []) attempt9 keying9 offers9 refl ∙ verifies9)
+
+  row9 : TakeRow d 0 a ap7 octets8 acts9
+  row9 = record {
+    r = Keyed m4;
+    reads = reads-m4 d s a i 3 pair.has_mic pair.sta_whole pair.ap_whole (omega arith);
+    facts = no_facts;
+    knows = λ came p from. tt;
+    row = By_m4 (record { k = m4; is = refl; message_is = refl; p = s; from = pair.finds_sta; accepted = accepted9; part = part7; awaited = attempt9; x = key; keyed = keying9; says = refl });
+  }
+
+  step9 : Step d 9 (Deliver 8 a) stage8.journal (push 9 a acts9 stage8.journal)
+  step9 = take_step d 9 8 a octets8 stage8.journal ap7 acts9 stage8.ap_is stage8.was row9
+
+  pub stage9 : Stage d k m rounds9 sta8 ap9 8 octets8
+  stage9 = after_ap d k m rounds8 sta8 ap7 8 octets8 stage8 (Deliver 8 a) acts9 8 octets8 step9 stage8.count
+      (record { entry = stage8.was.entry; there = inr (inr (inr stage8.was.there)); earlier = omega (arith, stage8.was.earlier); is = stage8.was.is; act = stage8.was.act })

@@ -1,0 +1,47 @@
+-- A reader that is given line after line, while the journal grows.
+use Rattle.std.proofs.Common.{◌≡◌, ℕ, ◌+◌, ◌≤◌, List, [], ◌∷◌, Result, Ok, Err, OnOk, OnErr, refl, sym, ap, arith}
+use Rattle.std.proofs.lemmas.List.{append-nil}
+use Rattle.run_journal.specs.declared.acts.Entry.{Entry}
+use Rattle.frame_script.specs.declared.script.LineFault.{LineFault}
+use Rattle.frame_script.specs.declared.script.LineFault.TheVariants as answered
+use Rattle.frame_script.specs.declared.script.Step.{Step}
+use Rattle.frame_script.specs.Script.{Said, Goes, ListsAp, ListsSta, Asks, rounds_after}
+use Rattle.frame_script.specs.Headers.{Reading, HasSeen, HasSeenAll, TakesLine, sizes_of}
+
+-- before its first line it has seen nothing
+pub HasSeen-start : (r : Reading) (j : List Entry) → r.seen ≡ 0 → r.sizes ≡ [] → HasSeen r j
+unfolding sizes_of
+HasSeen-start r j none empty = record { later = j; earlier = []; is = sym (append-nil j); seen = none; sizes = empty }
+
+pub HasSeen-all : (r : Reading) (j : List Entry) → HasSeenAll r j → HasSeen r j
+HasSeen-all r j all = record { later = []; earlier = j; is = refl; seen = all.seen; sizes = all.sizes }
+
+-- what it has seen stays seen as the journal grows
+pub HasSeen-push : (r : Reading) (e : Entry) (j : List Entry) → HasSeen r j → HasSeen r (e ∷ j)
+HasSeen-push r e j h = record {
+  later = e ∷ h.later;
+  earlier = h.earlier;
+  is = ap (λ (past : List Entry). e ∷ past) h.is;
+  seen = h.seen;
+  sizes = h.sizes;
+}
+
+-- after a line, taken or not
+pub HasSeen-after : (r : Reading) (j : List Entry) (answer : Result Step LineFault) → OnOk answer (HasSeenAll r j) → OnErr answer (HasSeen r j) → HasSeen r j
+HasSeen-after r j (Ok s) all kept = HasSeen-all r j all
+HasSeen-after r j (Err fault) all kept = kept
+
+one_more : (rounds : ℕ) (said : Said) → rounds_after rounds said ≤ rounds + 1
+one_more rounds (Goes next) = omega arith
+one_more rounds (ListsAp address r0kh_id) = omega arith
+one_more rounds (ListsSta address) = omega arith
+one_more rounds (Asks event) = omega arith
+
+-- a line asks for one round at most
+pub rounds-after : (old new : Reading) (sizes line : List ℕ) (answer : Result Step LineFault) → TakesLine old new sizes line answer → new.rounds ≤ old.rounds + 1
+rounds-after old new sizes line (Ok s) t = omega (arith, one_more old.rounds t.0, t.1.1.1.0)
+rounds-after old new sizes line (Err (answered.Script reason)) t = omega (arith, t.1.1)
+rounds-after old new sizes line (Err (answered.Limit limit)) t = omega (arith, t.1.1)
+rounds-after old new sizes line (Err answered.NoMemory) t = omega (arith, t.1)
+
+pub ruleset feeding = (HasSeen-start, HasSeen-push, HasSeen-after, rounds-after)

@@ -1,0 +1,60 @@
+-- The octets of a frame that is injected.
+use Rattle.std.proofs.Common.{◌≡◌, ℕ, suc, ◌+◌, ◌*◌, ◌/◌, ◌<◌, ◌≤◌, Bool, true, false, if◌then◌else◌, nat_le, is_some, unwrap_or, IsTrue, List, [], ◌∷◌, length, refl, Option, None, Some, Ok, Err, arith, ap}
+use Rattle.std.proofs.lemmas.Bool.{false≢true, le-leb, lt-leb}
+use Rattle.hex.specs.Hex.{hex_digit_value}
+use Rattle.frame_script.specs.Tokens.{◌>>=◌, hex_value, some_octets}
+use Rattle.frame_script.specs.Script.{frame_octets, long_frame}
+use Rattle.frame_script.specs.Sentences.{octets_of}
+
+size_step : (h l : Option ℕ) (o : Option (List ℕ)) (octets : List ℕ) (n : ℕ) → ((os : List ℕ) → o ≡ Some os → n ≡ 2 * length os) → (h >>= (λ x. l >>= (λ y. o >>= (λ os. Some ((x * 16 + y) ∷ os))))) ≡ Some octets
+    → suc (suc n) ≡ 2 * length octets
+size_step None l o octets n f e = absurd cc
+size_step (Some x) None o octets n f e = absurd cc
+size_step (Some x) (Some y) None octets n f e = absurd cc
+size_step (Some x) (Some y) (Some os) octets n f e =
+    let same : (x * 16 + y) ∷ os ≡ octets = cc in
+    omega (arith, f os refl, ap length same)
+
+-- octets are half as many as digits
+hex_value-size : (text octets : List ℕ) → hex_value text ≡ Some octets → length text ≡ 2 * length octets
+unfolding hex_value
+hex_value-size [] octets e =
+    let same : [] ≡ octets = cc in
+    omega (arith, ap length same)
+hex_value-size (digit ∷ []) octets e = absurd cc
+hex_value-size (high ∷ low ∷ rest) octets e = size_step (hex_digit_value high) (hex_digit_value low) (hex_value rest) octets (length rest) (hex_value-size rest) e
+
+-- where there are octets, they are these
+record IsWhole (text : List ℕ) : Type 0 where
+  some : some_octets text ≡ Some (octets_of text)
+  digits : IsTrue (is_some (hex_value text))
+  size : length text ≡ 2 * length (octets_of text)
+
+chosen : (text : List ℕ) (some : Bool) (o : Option (List ℕ)) → hex_value text ≡ o → is_some (if some then o else None) ≡ true → ((if some then o else None) ≡ Some (unwrap_or o [])) × (IsTrue (is_some o) × (length text ≡ 2 * length (unwrap_or o [])))
+chosen text false o is e = absurd (false≢true e)
+chosen text true None is e = absurd (false≢true e)
+chosen text true (Some octets) is e = (refl, (refl, hex_value-size text octets is))
+
+whole : (text : List ℕ) → is_some (some_octets text) ≡ true → IsWhole text
+unfolding some_octets
+whole text e = let parts = chosen text (nat_le 1 (length text)) (hex_value text) refl e in record { some = parts.0; digits = parts.1.0; size = parts.1.1 }
+
+-- what is tested in turn
+pub fits-frame : (text : List ℕ) → is_some (some_octets text) ≡ true → length text / 2 ≤ 2400 → frame_octets text ≡ Ok (octets_of text)
+unfolding frame_octets
+fits-frame text e small =
+    let w = whole text e in
+    let few : length (octets_of text) ≤ 2400 = omega (arith, w.size) in
+    rw (w.some, le-leb (length (octets_of text)) 2400 few) refl
+
+pub past-frame : (text : List ℕ) → is_some (some_octets text) ≡ true → 2400 < length text / 2 → frame_octets text ≡ Err long_frame
+unfolding frame_octets
+past-frame text e large =
+    let w = whole text e in
+    let many : 2400 < length (octets_of text) = omega (arith, w.size) in
+    rw (w.some, lt-leb (length (octets_of text)) 2400 many) refl
+
+pub digits-frame : (text : List ℕ) → is_some (some_octets text) ≡ true → IsTrue (is_some (hex_value text))
+digits-frame text e = (whole text e).digits
+
+pub ruleset framing = (fits-frame, past-frame, digits-frame)

@@ -1,0 +1,125 @@
+-- What the code keeps of a line between its words and its step.
+use Rattle.std.specs.Prelude.{◌≡◌, ℕ, suc, ◌≤◌, ◌&&◌, Bool, true, false, nat_le, IsTrue, List, [], length, unwrap_or, is_some, Result, Ok, Err, MatchResult}
+use Rattle.run_journal.specs.declared.domain.Domain.{Domain}
+use Rattle.run_journal.specs.declared.domain.Event.{Event}
+use Rattle.run_journal.specs.declared.domain.Event.TheVariants.{Inject}
+use Rattle.frame_script.specs.declared.script.LineFault.{LineFault}
+use Rattle.frame_script.specs.declared.script.LineFault.TheVariants as answered
+use Rattle.frame_script.specs.declared.script.Step.{Step}
+use Rattle.frame_script.specs.declared.script.Step.TheVariants as step
+use Rattle.frame_script.specs.declared.script.refusal.Refusal.{Refusal}
+use Rattle.frame_script.specs.declared.script.refusal.Refusal.TheVariants.{Version, Word, Arguments, Node, Frame, Place, Duplicate, Mode, LongFrame, ManyFrames, ManyAps, ManyStas}
+use Rattle.frame_script.specs.declared.script.header.Due.{Due}
+use Rattle.frame_script.specs.declared.script.header.Due.TheVariants.{Nodes}
+use Rattle.frame_script.specs.declared.script.tokens.NodeName.{NodeName}
+use Rattle.frame_script.specs.declared.script.tokens.NodeName.TheVariants.{Ap, Sta}
+use Rattle.frame_script.specs.declared.script.events.Asked.{Asked}
+use Rattle.frame_script.specs.declared.script.events.Asked.TheVariants as asked
+use Rattle.frame_script.specs.declared.script.body.Sentence.{Sentence}
+use Rattle.frame_script.specs.declared.script.body.Sentence.TheVariants as says
+use Rattle.frame_script.specs.Due.{is_fit}
+use Rattle.frame_script.specs.Tokens.{NodeWord, named, hex_value}
+use Rattle.frame_script.specs.Script.{Fault, Outside, Past, version_, word_, arguments, node_, frame_, place_, duplicate, mode, long_frame, many_frames, many_aps, many_stas, ◌>>=◌, Draft, AtVersion, AtNodes, Said, Goes, ListsAp, ListsSta, Asks, header_line, body_line, said_after}
+use Rattle.frame_script.specs.Headers.{Reading, CanListAp, CanListSta, CanHappen, IsHeaderStep, IsListedIn, IsNetwork, TakesStep}
+
+-- ---- why a line is refused
+
+abbrev pub fault_of : Refusal → Fault
+fault_of Version = version_
+fault_of Word = word_
+fault_of Arguments = arguments
+fault_of Node = node_
+fault_of Frame = frame_
+fault_of Place = place_
+fault_of Duplicate = duplicate
+fault_of Mode = mode
+fault_of LongFrame = long_frame
+fault_of ManyFrames = many_frames
+fault_of ManyAps = many_aps
+fault_of ManyStas = many_stas
+
+abbrev pub answer_of : Fault → LineFault
+answer_of (Outside reason) = answered.Script reason
+answer_of (Past limit) = answered.Limit limit
+
+-- what is found is what is meant
+abbrev pub TellsBy : {A B : Type 0} → (A → B) → Result A Refusal → Result B Fault → Type 0
+TellsBy view found meant = MatchResult found (λ a. meant ≡ Ok (view a)) (λ r. meant ≡ Err (fault_of r))
+
+abbrev pub Tells : {A : Type 0} → Result A Refusal → Result A Fault → Type 0
+Tells found meant = MatchResult found (λ a. meant ≡ Ok a) (λ r. meant ≡ Err (fault_of r))
+
+-- ---- what is found in a line
+
+abbrev pub name_of : NodeName → NodeWord
+name_of (Ap number) = named true number
+name_of (Sta number) = named false number
+
+-- the octets that the digits write, if they write any
+abbrev pub octets_of : List ℕ → List ℕ
+octets_of digits = unwrap_or (hex_value digits) []
+
+abbrev pub event_of : Asked → Event
+event_of (asked.Event event) = event
+event_of (asked.Inject to digits) = Inject to (octets_of digits.now)
+
+abbrev pub said_of : Sentence → Said
+said_of (says.Ap address r0kh_id) = ListsAp address r0kh_id.now
+said_of (says.Sta address) = ListsSta address
+said_of (says.Asks a) = Asks (event_of a)
+
+-- it can be asked in the network, and digits are digits
+abbrev pub CanAsk : Domain → List ℕ → Asked → Type 0
+CanAsk d sizes (asked.Event event) = CanHappen d sizes event
+CanAsk d sizes (asked.Inject to digits) = IsListedIn d to × IsTrue (is_some (hex_value digits.now))
+
+-- and can be said of it, behind so many rounds and frames of these sizes
+abbrev pub CanSay : Domain → ℕ → List ℕ → Sentence → Type 0
+CanSay d rounds sizes (says.Ap address r0kh_id) = CanListAp d address r0kh_id.now × ((d.stas ≡ []) × (rounds ≡ 0))
+CanSay d rounds sizes (says.Sta address) = CanListSta d address × (rounds ≡ 0)
+CanSay d rounds sizes (says.Asks a) = CanAsk d sizes a × (length sizes ≤ 65535)
+
+-- ---- what is kept
+
+-- so few nodes are listed that a number of 16 bits counts them
+abbrev pub is_few : Domain → Bool
+is_few d = nat_le (length d.aps) 16 && nat_le (length d.stas) 64
+
+abbrev pub is_counted : Due → Bool
+is_counted (Nodes domain) = is_few domain
+is_counted due = true
+
+abbrev pub IsKept : Due → Type 0
+IsKept due = IsTrue (is_fit due) × IsTrue (is_counted due)
+
+-- ---- a line that is taken
+
+-- what was said is taken, or refused for its fault
+abbrev pub Takes : Draft → Draft → ℕ → List ℕ → Result Said Fault → Result Step LineFault → Type 0
+Takes old new rounds sizes meant (Ok s) = (said : Said) × ((meant ≡ Ok said) × ((new ≡ said_after old said) × TakesStep old new rounds sizes meant s))
+Takes old new rounds sizes meant (Err (answered.Script reason)) = (meant ≡ Err (Outside reason)) × (new ≡ old)
+Takes old new rounds sizes meant (Err (answered.Limit limit)) = (meant ≡ Err (Past limit)) × (new ≡ old)
+Takes old new rounds sizes meant (Err answered.NoMemory) = new ≡ old
+
+-- what a line says that is not passed over, by its first word and what stands behind it
+abbrev pub words_say : Draft → ℕ → List ℕ → List ℕ → List ℕ → Result Said Fault
+words_say (AtNodes d) rounds sizes word text = body_line d rounds sizes word text
+words_say draft rounds sizes word text = header_line draft word text >>= (λ next. Ok (Goes next))
+
+-- a line of the header is
+abbrev pub TakesHeader : Draft → Draft → List ℕ → List ℕ → Result Step LineFault → Type 0
+TakesHeader old new word text (Ok step.Nothing) = (header_line old word text ≡ Ok new) × IsHeaderStep old new
+TakesHeader old new word text (Ok step.Network) = (d : Domain) × ((header_line old word text ≡ Ok new) × ((new ≡ AtNodes d) × IsNetwork d))
+TakesHeader old new word text (Ok _) = ⊥
+TakesHeader old new word text (Err (answered.Script reason)) = (header_line old word text ≡ Err (Outside reason)) × (new ≡ old)
+TakesHeader old new word text (Err (answered.Limit limit)) = (header_line old word text ≡ Err (Past limit)) × (new ≡ old)
+TakesHeader old new word text (Err answered.NoMemory) = new ≡ old
+
+-- rounds after a line
+abbrev pub rounds_with : ℕ → Result Step LineFault → ℕ
+rounds_with rounds (Ok (step.Event event)) = suc rounds
+rounds_with rounds answer = rounds
+
+-- what is kept of the journal, as a reading
+abbrev pub seeing : ℕ → List ℕ → Reading
+seeing seen sizes = record { draft = AtVersion; rounds = 0; seen = seen; sizes = sizes }

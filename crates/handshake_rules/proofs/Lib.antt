@@ -1,9 +1,0 @@
-pub mod OneReading
-pub mod OneOutcome
-pub mod OneGroup
-pub mod SomeGroup
-pub mod Journals
-pub mod KeyOctets
-pub mod CarriedKey
-pub mod SentReads
-pub mod Example

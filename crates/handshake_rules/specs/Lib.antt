@@ -1,9 +1,0 @@
-pub mod Acts
-pub mod Questions
-pub mod GroupKeys
-pub mod Frames
-pub mod Verdict
-pub mod Rows
-pub mod Events
-pub mod Explained
-pub mod Example

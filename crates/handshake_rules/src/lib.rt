@@ -1,6 +1,0 @@
-//! What the nodes of a domain do in the whole four-way handshake, as definitions over their histories.
-#![tactic(auto)]
-
-mod laws;
-
-pub use laws::{handshake_is_explained, one_group, one_journal, one_outcome};

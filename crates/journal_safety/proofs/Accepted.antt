@@ -1,0 +1,242 @@
+-- What an accepted or answered EAPOL-Key message tells of the node, its peer and the history.
+use Rattle.std.proofs.Common.{ℕ, ◌≡◌, ◌+◌, ◌≤◌, Bool, true, false, cond, List, length, take, drop, Option, Some, None, refl, sym, ap, subst, arith}
+use Rattle.std.specs.Prelude.{not, ◌||◌}
+use Rattle.std.proofs.lemmas.List.{length-take, length-drop}
+use Rattle.std.proofs.lemmas.Slice.Eq.{bytes_eq-Decides}
+use Rattle.key_wrap.specs.KeyWrap.{Wraps}
+use Rattle.domain_base.specs.declared.names.Akm.{Akm}
+use Rattle.domain_base.specs.declared.names.Node.{Node}
+use Rattle.domain_base.specs.declared.names.Node.TheVariants.{Ap, Sta}
+use Rattle.air_frame.specs.Fields.{HeaderFields, header_in, header_at}
+use Rattle.air_frame.specs.Control.{data_header_length}
+use Rattle.rsn_elements.specs.declared.framing.Within.TheVariants.{KeyData}
+use Rattle.rsn_elements.specs.Elements.{ElementFields, SpellsElements}
+use Rattle.eapol_key.specs.declared.messages.Message.{Message}
+use Rattle.eapol_key.specs.declared.messages.Message.TheVariants.{M1, M2, M3, M4, G1, G2}
+use Rattle.run_journal.specs.declared.domain.Domain.{Domain}
+use Rattle.run_journal.specs.declared.acts.Kind.TheVariants as kind
+use Rattle.run_journal.specs.declared.acts.KeyDataFault.TheVariants as key_data
+use Rattle.run_journal.specs.declared.acts.Reason.{Reason}
+use Rattle.run_journal.specs.declared.acts.Reason.TheVariants as reason
+use Rattle.run_journal.specs.declared.acts.Outcome.{Outcome}
+use Rattle.run_journal.specs.declared.acts.Outcome.TheVariants.{Accepted, Answered, Refused}
+use Rattle.run_journal.specs.declared.acts.Act.{Act}
+use Rattle.run_journal.specs.declared.acts.Act.TheVariants.{Derived}
+use Rattle.run_journal.specs.Acts.{Derivation}
+use Rattle.run_journal.specs.Questions.{attempt, since, derivation, session}
+use Rattle.run_journal.specs.Premises.{In}
+use Rattle.domain_rules.specs.Network.{address, peer_of, is_ap, direction, goes_like, IsListed}
+use Rattle.domain_rules.specs.Reading.{KeyMessage, Keyed, HasMessage}
+use Rattle.domain_rules.specs.Verdict.{Facts, Keying, above, verified, by_connect, has_heard, kept_counter, keying_by, session_keying, attempt_keying, m3_keying, m4_keying, taken_in, m3_verdict_by, is_mine, from_peer, key_verdict, first_verdict, m3_wrapped, further, and_then, unless_refused, verdict, ComesSoFar, IsUnwrapped, ReadsKeyData, KnowsOf, KnowsFrom, Knows, KnowsM3}
+use Rattle.domain_rules.proofs.Parts.{in_part}
+use Rattle.domain_rules.proofs.Peers.{IsPeer, peer_is}
+use Rattle.journal_safety.proofs.Legal.{ack}
+use Rattle.journal_safety.proofs.Names.{listed_by}
+use Rattle.journal_safety.proofs.Histories.{derivation_in, session_in}
+
+-- ---- the two parts of a verdict
+
+first_accepted : (x y : Outcome) → and_then x y ≡ Accepted → x ≡ Accepted
+first_accepted Accepted y e = refl
+first_accepted Answered (Refused why) e = cc
+first_accepted Answered _ e = cc
+first_accepted _ y e = e
+
+first_answered : (x y : Outcome) → and_then x y ≡ Answered → x ≡ Answered
+first_answered Answered y e = refl
+first_answered Accepted (Refused why) e = cc
+first_answered Accepted _ e = cc
+first_answered _ y e = e
+
+-- nothing is refused further on
+further_unrefused : (x y : Outcome) → and_then x y ≡ Accepted → (why : Reason) → y ≡ Refused why → ⊥
+further_unrefused Accepted y e why is = let w : unless_refused Accepted (Refused why) ≡ Accepted = subst (λ (z : Outcome). unless_refused Accepted z ≡ Accepted) is e in cc w
+further_unrefused Answered y e why is = let w : unless_refused Answered (Refused why) ≡ Accepted = subst (λ (z : Outcome). unless_refused Answered z ≡ Accepted) is e in cc w
+further_unrefused _ y e why is = cc
+
+-- ---- whom a message is for and from
+
+comes_as : (x y : Outcome) → x ≡ y → ComesSoFar y → ComesSoFar x
+comes_as x y e c = subst ComesSoFar (sym e) c
+
+pub record Sender (d : Domain) (n : Node) (h : List Act) (k : KeyMessage) (o : Outcome) : Type 0 where
+  pub p : Node
+  pub mine : is_mine d n k.header ≡ true
+  pub from : peer_of d n k.header.a2 ≡ Some p
+  pub is : key_verdict d n h p k.message k ≡ o
+
+mine_by : (a b : Bool) → (not a || b) ≡ false → a ≡ true
+mine_by true b e = refl
+mine_by false b e = cc
+
+sender_peer : (d : Domain) (n : Node) (h : List Act) (k : KeyMessage) (o : Outcome) → ComesSoFar o → is_mine d n k.header ≡ true → (q : Option Node) → peer_of d n k.header.a2 ≡ q → from_peer q (λ p. key_verdict d n h p k.message k) ≡ o → Sender d n h k o
+sender_peer d n h k o c mine None is e = absurd (comes_as (Refused reason.UnknownPeer) o e c)
+sender_peer d n h k o c mine (Some p) is e = record { p = p; mine = mine; from = is; is = e }
+
+sender_by : (d : Domain) (n : Node) (h : List Act) (k : KeyMessage) (o : Outcome) → ComesSoFar o → (b : Bool) → (not (is_mine d n k.header) || goes_like k.direction (direction n)) ≡ b
+    → cond b (Refused reason.NotForMe) (from_peer (peer_of d n k.header.a2) (λ p. key_verdict d n h p k.message k)) ≡ o → Sender d n h k o
+sender_by d n h k o c true is e = absurd (comes_as (Refused reason.NotForMe) o e c)
+sender_by d n h k o c false is e = sender_peer d n h k o c (mine_by (is_mine d n k.header) (goes_like k.direction (direction n)) is) (peer_of d n k.header.a2) refl e
+
+sender_of : (d : Domain) (first : ℕ) (n : Node) (h : List Act) (k : KeyMessage) (o : Outcome) → ComesSoFar o → first_verdict d first n h (Keyed k) ≡ o → Sender d n h k o
+sender_of d first n h k o c e = sender_by d n h k o c (not (is_mine d n k.header) || goes_like k.direction (direction n)) refl e
+
+-- the direction is that of the other side
+key_role : (d : Domain) (n : Node) (h : List Act) (p : Node) (m : Message) (k : KeyMessage) (o : Outcome) → ComesSoFar o → key_verdict d n h p m k ≡ o → ack m ≡ not (is_ap n)
+key_role d (Sta s) h p M1 k o c e = refl
+key_role d (Ap a) h p M2 k o c e = refl
+key_role d (Sta s) h p M3 k o c e = refl
+key_role d (Ap a) h p M4 k o c e = refl
+key_role d (Ap a) h p M1 k o c e = absurd (comes_as _ o e c)
+key_role d (Sta s) h p M2 k o c e = absurd (comes_as _ o e c)
+key_role d (Ap a) h p M3 k o c e = absurd (comes_as _ o e c)
+key_role d (Sta s) h p M4 k o c e = absurd (comes_as _ o e c)
+key_role d (Ap a) h p G1 k o c e = absurd (comes_as _ o e c)
+key_role d (Sta s) h p G1 k o c e = absurd (comes_as _ o e c)
+key_role d (Ap a) h p G2 k o c e = absurd (comes_as _ o e c)
+key_role d (Sta s) h p G2 k o c e = absurd (comes_as _ o e c)
+
+-- an address in a frame is there
+pub some_address : (akm : Akm) (octets : List ℕ) (k : KeyMessage) → HasMessage akm octets k → 1 ≤ length k.header.a1
+some_address akm octets k has =
+    let long : data_header_length octets + 8 ≤ length octets = has.frame.spelled.1.frame.long in
+    let header : Some k.header ≡ Some (header_at (data_header_length octets) octets) = ap header_in has.frame.spelled.0 in
+    let is : k.header ≡ header_at (data_header_length octets) octets = cc header in
+    let a1 : k.header.a1 ≡ take 6 (drop 4 octets) = ap (λ (x : HeaderFields). x.a1) is in
+    omega (arith, long, ap length a1, length-take 6 (drop 4 octets), length-drop 4 octets)
+
+-- of a message that was accepted or answered at n from p
+pub record Taken (d : Domain) (n p : Node) (h : List Act) (k : KeyMessage) (o : Outcome) : Type 0 where
+  pub direction : ack k.message ≡ not (is_ap n)
+  pub roles : is_ap p ≡ not (is_ap n)
+  pub listed : IsListed d n
+  pub peer_listed : IsListed d p
+  pub from : peer_of d n k.header.a2 ≡ Some p
+  pub is : key_verdict d n h p k.message k ≡ o
+
+taken_by : (d : Domain) (first : ℕ) (n p : Node) (h : List Act) (octets : List ℕ) (k : KeyMessage) (o : Outcome) → ComesSoFar o → HasMessage d.akm octets k → peer_of d n k.header.a2 ≡ Some p → first_verdict d first n h (Keyed k) ≡ o → Taken d n p h k o
+taken_by d first n p h octets k o c has from e =
+    let s = sender_of d first n h k o c e in
+    let one : s.p ≡ p = cc (s.from, from) in
+    let peer : IsPeer d n p k.header.a2 = peer_is d n p k.header.a2 from in
+    let mine : k.header.a1 ≡ address d n = (bytes_eq-Decides k.header.a1 (address d n)).0 s.mine in
+    let is : key_verdict d n h p k.message k ≡ o = subst (λ (x : Node). key_verdict d n h x k.message k ≡ o) one s.is in
+    record {
+      direction = key_role d n h p k.message k o c is;
+      roles = peer.other;
+      listed = listed_by d n (subst (λ (x : List ℕ). 1 ≤ length x) mine (some_address d.akm octets k has));
+      peer_listed = peer.listed;
+      from = from;
+      is = is;
+    }
+
+pub taken_accepted : (d : Domain) (first : ℕ) (n p : Node) (h : List Act) (octets : List ℕ) (k : KeyMessage) (facts : Facts) → HasMessage d.akm octets k → peer_of d n k.header.a2 ≡ Some p → verdict d first n h (Keyed k) facts ≡ Accepted → Taken d n p h k Accepted
+taken_accepted d first n p h octets k facts has from e = taken_by d first n p h octets k Accepted tt has from (first_accepted (first_verdict d first n h (Keyed k)) (further d.akm (Keyed k) facts) e)
+
+pub taken_answered : (d : Domain) (first : ℕ) (n p : Node) (h : List Act) (octets : List ℕ) (k : KeyMessage) (facts : Facts) → HasMessage d.akm octets k → peer_of d n k.header.a2 ≡ Some p → verdict d first n h (Keyed k) facts ≡ Answered → Taken d n p h k Answered
+taken_answered d first n p h octets k facts has from e = taken_by d first n p h octets k Answered tt has from (first_answered (first_verdict d first n h (Keyed k)) (further d.akm (Keyed k) facts) e)
+
+-- ---- M3
+
+verified_as : (b : Bool) (x : Outcome) → cond b x (Refused reason.Mic) ≡ Accepted → x ≡ Accepted
+verified_as true x e = e
+verified_as false x e = cc
+
+nonce_as : (b : Bool) (x : Outcome) → cond b x (Refused reason.Nonce) ≡ Accepted → x ≡ Accepted
+nonce_as true x e = e
+nonce_as false x e = cc
+
+above_by : (kept : ℕ) (b : Bool) (x : Outcome) → cond b x (Refused (reason.Counter kept)) ≡ Accepted → x ≡ Accepted
+above_by kept true x e = e
+above_by kept false x e = cc
+
+above_as : (o : Option ℕ) (counter : ℕ) (x : Outcome) → above o counter x ≡ Accepted → x ≡ Accepted
+above_as None counter x e = e
+above_as (Some kept) counter x e = above_by kept _ x e
+
+taken_as : (b : Bool) → taken_in b ≡ Accepted → b ≡ false
+taken_as false e = refl
+taken_as true e = cc
+
+m3_first : (d : Domain) (p : Node) (k : KeyMessage) (y : Keying) → m3_verdict_by d p k (Some y) ≡ Accepted → y.is_session ≡ false
+m3_first d p k y e = taken_as y.is_session (verified_as _ (taken_in y.is_session) (nonce_as _ (verified d.akm y.ptk.kck k (taken_in y.is_session)) (above_as (kept_counter p y.part) k.fields.counter _ e)))
+
+m3_attempt : (d : Domain) (n : Node) (h : List Act) (p : Node) (k : KeyMessage) (y : Keying) → key_verdict d n h p M3 k ≡ Accepted → m3_keying p h ≡ Some y → y.is_session ≡ false
+m3_attempt d (Sta s) h p k y e is = m3_first d p k y (subst (λ (x : Option Keying). m3_verdict_by d p k x ≡ Accepted) is e)
+m3_attempt d (Ap a) h p k y e is = cc
+
+-- the key by which an M3 is judged was derived, and in an attempt it is the last one of it
+by_derivation : (part : List Act) (b : Bool) (o : Option Derivation) (y : Keying) → keying_by part b o ≡ Some y → (o ≡ Some (record { inputs = y.inputs; ptk = y.ptk })) × (y.is_session ≡ b)
+by_derivation part b None y e = cc
+by_derivation part b (Some x) y e =
+    let one : record { inputs = x.inputs; ptk = x.ptk; part = part; is_session = b } ≡ y = cc e in
+    (ap (λ (z : Keying). Some (record { inputs = z.inputs; ptk = z.ptk })) one, ap (λ (z : Keying). z.is_session) (sym one))
+
+pub record KeyingIn (p : Node) (h : List Act) (y : Keying) : Type 0 where
+  pub there : In (Derived p y.inputs y.ptk) h
+  pub awaited : y.is_session ≡ false → (part : List Act) × ((attempt p h ≡ Some part) × (derivation p part ≡ Some (record { inputs = y.inputs; ptk = y.ptk })))
+
+in_session : (p : Node) (h : List Act) (y : Keying) (b : Bool) → cond b (keying_by (since p h) true (session p h)) None ≡ Some y → KeyingIn p h y
+in_session p h y false e = cc
+in_session p h y true e =
+    let w = by_derivation (since p h) true (session p h) y e in
+    record { there = session_in p h (record { inputs = y.inputs; ptk = y.ptk }) w.0; awaited = λ no. (let z : y.is_session ≡ true = w.1 in cc (no, z)) }
+
+in_attempt_by : (p : Node) (h part : List Act) (y : Keying) → attempt p h ≡ Some part → (b c : Bool) → cond b (cond c (keying_by part false (derivation p part)) None) (session_keying p h) ≡ Some y → KeyingIn p h y
+in_attempt_by p h part y a false c e = in_session p h y (by_connect (since p h)) e
+in_attempt_by p h part y a true false e = cc
+in_attempt_by p h part y a true true e =
+    let w = by_derivation part false (derivation p part) y e in
+    record { there = in_part p h part (Derived p y.inputs y.ptk) a (derivation_in p part (record { inputs = y.inputs; ptk = y.ptk }) w.0); awaited = λ no. (part, (a, w.0)) }
+
+keying_in_by : (p : Node) (h : List Act) (y : Keying) (o : Option (List Act)) → attempt p h ≡ o → attempt_keying p h o ≡ Some y → KeyingIn p h y
+keying_in_by p h y None a e = in_session p h y (by_connect (since p h)) e
+keying_in_by p h y (Some part) a e = in_attempt_by p h part y a (by_connect part) (has_heard p (kind.Key M1) part) e
+
+pub keying_in : (p : Node) (h : List Act) (y : Keying) → m3_keying p h ≡ Some y → KeyingIn p h y
+keying_in p h y e = keying_in_by p h y (attempt p h) refl e
+
+-- what an accepted M3 carries
+pub record Unwrapped (y : Keying) (k : KeyMessage) (facts : Facts) : Type 0 where
+  pub plain : List ℕ
+  pub e : ElementFields
+  pub wraps : Wraps y.ptk.kek plain k.fields.key_data
+  pub spelled : SpellsElements KeyData plain e
+  pub is : facts.data_ ≡ Some e
+
+unwrapped_by : (d : Domain) (y : Keying) (k : KeyMessage) (facts : Facts) → KnowsM3 y.ptk.kek k facts → ((why : Reason) → m3_wrapped d.akm facts.unwrapped facts.data_ ≡ Refused why → ⊥) → (u : Option (List ℕ)) → facts.unwrapped ≡ u → (o : Option ElementFields) → facts.data_ ≡ o → Unwrapped y k facts
+unwrapped_by d y k facts knows unrefused None is o none = absurd (unrefused reason.Wrap (rw is refl))
+unwrapped_by d y k facts knows unrefused (Some plain) is None none = absurd (unrefused (reason.KeyData key_data.Unreadable) (rw (is, none) refl))
+unwrapped_by d y k facts knows unrefused (Some plain) is (Some e) said = record {
+  plain = plain;
+  e = e;
+  wraps = (subst (λ (x : Option (List ℕ)). IsUnwrapped y.ptk.kek k.fields.key_data x) is knows.unwrapped).1;
+  spelled = subst (λ (x : Option ElementFields). ReadsKeyData plain x) said (knows.data_ plain is);
+  is = said;
+}
+
+-- the facts are known of a message that came so far
+knows_m3 : (d : Domain) (first : ℕ) (n p : Node) (h : List Act) (k : KeyMessage) (facts : Facts) (y : Keying) → k.message ≡ M3 → peer_of d n k.header.a2 ≡ Some p → first_verdict d first n h (Keyed k) ≡ Accepted → Knows d first n h (Keyed k) facts → m3_keying p h ≡ Some y → KnowsM3 y.ptk.kek k facts
+knows_m3 d first n p h k facts y m3 from e knows awaited =
+    let all : KnowsFrom d n h (Keyed k) facts = knows (comes_as (first_verdict d first n h (Keyed k)) Accepted e tt) in
+    subst (λ (m : Message). KnowsOf d.akm h p m k facts) m3 (all p from) y awaited
+
+pub unwrapped_m3 : (d : Domain) (first : ℕ) (n p : Node) (h : List Act) (k : KeyMessage) (facts : Facts) (y : Keying) → k.message ≡ M3 → peer_of d n k.header.a2 ≡ Some p → verdict d first n h (Keyed k) facts ≡ Accepted → Knows d first n h (Keyed k) facts → m3_keying p h ≡ Some y → Unwrapped y k facts
+unwrapped_m3 d first n p h k facts y m3 from e knows awaited =
+    let so_far = first_accepted (first_verdict d first n h (Keyed k)) (further d.akm (Keyed k) facts) e in
+    unwrapped_by d y k facts (knows_m3 d first n p h k facts y m3 from so_far knows awaited)
+    (λ why is. further_unrefused (first_verdict d first n h (Keyed k)) (further d.akm (Keyed k) facts) e why (rw m3 is))
+    facts.unwrapped refl facts.data_ refl
+
+pub awaited_m3 : (d : Domain) (n p : Node) (h : List Act) (k : KeyMessage) (y : Keying) → k.message ≡ M3 → Taken d n p h k Accepted → m3_keying p h ≡ Some y → y.is_session ≡ false
+awaited_m3 d n p h k y m3 t awaited = m3_attempt d n h p k y (subst (λ (m : Message). key_verdict d n h p m k ≡ Accepted) m3 t.is) awaited
+
+-- ---- M4
+
+m4_by : (b c : Bool) (o : Option Derivation) (x : Derivation) → cond b (cond c o None) None ≡ Some x → o ≡ Some x
+m4_by true true o x e = e
+m4_by true false o x e = cc
+m4_by false c o x e = cc
+
+pub m4_derivation : (p : Node) (part : List Act) (x : Derivation) → m4_keying p part ≡ Some x → derivation p part ≡ Some x
+m4_derivation p part x e = m4_by (by_connect part) (has_heard p (kind.Key M2) part) (derivation p part) x e

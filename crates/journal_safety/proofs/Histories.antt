@@ -1,0 +1,197 @@
+-- What the questions to a history say of its acts, where each of them was legal.
+use Rattle.std.proofs.Common.{ℕ, suc, ◌≡◌, ◌⊎◌, ◌<◌, ◌%◌, inl, inr, Bool, true, false, cond, List, [], ◌∷◌, length, Option, Some, None, refl, sym, ap, ◌∙◌, subst, arith, mod-lt}
+use Rattle.domain_base.specs.declared.names.Node.{Node}
+use Rattle.key_hierarchy.specs.Keys.{ptk}
+use Rattle.key_hierarchy.specs.declared.inputs.Inputs.{Inputs}
+use Rattle.key_hierarchy.specs.declared.inputs.Ptk.{Ptk}
+use Rattle.run_journal.specs.declared.domain.Domain.{Domain}
+use Rattle.run_journal.specs.declared.acts.Start.{Start}
+use Rattle.run_journal.specs.declared.acts.Drawn.TheVariants.{Nonce, Gtk}
+use Rattle.run_journal.specs.declared.acts.Act.{Act}
+use Rattle.run_journal.specs.declared.acts.Act.TheVariants.{Opened, Drew, Derived}
+use Rattle.run_journal.specs.Acts.{same, opens, finishes, closes, nonce_drawn, gtk_drawn, Derivation, derived, GroupKey}
+use Rattle.run_journal.specs.Questions.{or_else, attempt, own_nonce, derivation, session, listed, gtks}
+use Rattle.run_journal.specs.Premises.{In}
+use Rattle.domain_rules.specs.GroupKeys.{newest_of, newest}
+use Rattle.domain_rules.proofs.Parts.{same-true, Grows, Begins, Goes_on, grows, in_part, own_nonce_more}
+use Rattle.journal_safety.proofs.Ends.{Tail}
+use Rattle.domain_rules.proofs.CarriedKey.{IsGroupKey}
+use Rattle.journal_safety.proofs.Legal.{nonce_of, Alive, LegalDerived, LegalGtk, HasDrawn, Legal, LegalHistory}
+
+-- an act of the history was legal when it was added
+pub record LegalIn (d : Domain) (n : Node) (e : Act) (h : List Act) : Type 0 where
+  pub before : List Act
+  pub tail : Tail (e ∷ before) h
+  pub legal : Legal d n before e
+
+pub legal_in : (d : Domain) (n : Node) (e : Act) (h : List Act) → LegalHistory d n h → In e h → LegalIn d n e h
+legal_in d n e [] legal there = absurd there
+legal_in d n e (x ∷ h) legal (inl here) = record { before = h; tail = inl (ap (λ (y : Act). y ∷ h) here); legal = subst (λ (y : Act). Legal d n h y) (sym here) legal.0 }
+legal_in d n e (x ∷ h) legal (inr later) = let w = legal_in d n e h legal.1 later in record { before = w.before; tail = inr w.tail; legal = w.legal }
+
+-- ---- what an act is by the tests on it
+
+pub opens-is : (p : Node) (e : Act) → opens p e ≡ true → (s : Start) × (e ≡ Opened p s)
+opens-is p (Opened q s) o = (s, ap (λ (x : Node). Opened x s) (sym (same-true p q o)))
+opens-is p _ o = cc
+
+pub opens-undrawn : (p : Node) (e : Act) → opens p e ≡ true → nonce_drawn e ≡ None
+opens-undrawn p e o = let w = opens-is p e o in subst (λ (x : Act). nonce_drawn x ≡ None) (sym w.1) refl
+
+derived_same : (p q : Node) (i : Inputs) (k : Ptk) (x : Derivation) (b : Bool) → same p q ≡ b → cond b (Some (record { inputs = i; ptk = k })) None ≡ Some x → Derived q i k ≡ Derived p x.inputs x.ptk
+derived_same p q i k x true s e =
+    let w : q ≡ p = sym (same-true p q s) in
+    let one : record { inputs = i; ptk = k } ≡ x = cc e in
+    ap (λ (y : Node). Derived y i k) w ∙ ap (λ (y : Derivation). Derived p y.inputs y.ptk) one
+derived_same p q i k x false s e = cc
+
+pub derived-is : (p : Node) (e : Act) (x : Derivation) → derived p e ≡ Some x → e ≡ Derived p x.inputs x.ptk
+derived-is p (Derived q i k) x o = derived_same p q i k x (same p q) refl o
+derived-is p _ x o = cc
+
+pub nonce_drawn-is : (e : Act) (v : List ℕ) → nonce_drawn e ≡ Some v → e ≡ Drew (Nonce v)
+nonce_drawn-is (Drew (Nonce w)) v o = cc
+nonce_drawn-is _ v o = cc
+
+gtk_drawn-is : (e : Act) (v : List ℕ) → gtk_drawn e ≡ Some v → e ≡ Drew (Gtk v)
+gtk_drawn-is (Drew (Gtk w)) v o = cc
+gtk_drawn-is _ v o = cc
+
+-- ---- nonces
+
+nonce_by : (e : Act) (part : List Act) (v : List ℕ) (o : Option (List ℕ)) → own_nonce part ≡ o → (own_nonce part ≡ Some v → In (Drew (Nonce v)) part) → or_else o (nonce_drawn e) ≡ Some v → In (Drew (Nonce v)) (e ∷ part)
+nonce_by e part v None is more s = inl (sym (nonce_drawn-is e v s))
+nonce_by e part v (Some w) is more s = inr (more (is ∙ s))
+
+pub nonce_in : (part : List Act) (v : List ℕ) → own_nonce part ≡ Some v → In (Drew (Nonce v)) part
+nonce_in [] v s = cc
+nonce_in (e ∷ part) v s = nonce_by e part v (own_nonce part) refl (nonce_in part v) s
+
+pub alive_drew : (n p : Node) (i : Inputs) (h : List Act) → Alive n h p i → In (Drew (Nonce (nonce_of n i))) h
+alive_drew n p i h a = in_part p h a.part (Drew (Nonce (nonce_of n i))) a.awaited (nonce_in a.part (nonce_of n i) a.own)
+
+pub nonce_size : (d : Domain) (n : Node) (v : List ℕ) (h : List Act) → LegalHistory d n h → In (Drew (Nonce v)) h → length v ≡ 32
+nonce_size d n v h legal there = (legal_in d n (Drew (Nonce v)) h legal there).legal
+
+-- ---- derivations
+
+derivation_by : (p : Node) (e : Act) (h : List Act) (x : Derivation) (o : Option Derivation) → derived p e ≡ o → (derivation p h ≡ Some x → In (Derived p x.inputs x.ptk) h) → or_else o (derivation p h) ≡ Some x → In (Derived p x.inputs x.ptk) (e ∷ h)
+derivation_by p e h x None is more s = inr (more s)
+derivation_by p e h x (Some y) is more s = inl (sym (derived-is p e x (is ∙ s)))
+
+pub derivation_in : (p : Node) (h : List Act) (x : Derivation) → derivation p h ≡ Some x → In (Derived p x.inputs x.ptk) h
+derivation_in p [] x s = cc
+derivation_in p (e ∷ h) x s = derivation_by p e h x (derived p e) refl (derivation_in p h x) s
+
+session_by : (p : Node) (e : Act) (h : List Act) (x : Derivation) → (session p h ≡ Some x → In (Derived p x.inputs x.ptk) h) → (b c : Bool) → cond b (derivation p h) (cond c None (session p h)) ≡ Some x → In (Derived p x.inputs x.ptk) (e ∷ h)
+session_by p e h x more true c s = inr (derivation_in p h x s)
+session_by p e h x more false true s = cc
+session_by p e h x more false false s = inr (more s)
+
+-- the key of a session was derived
+pub session_in : (p : Node) (h : List Act) (x : Derivation) → session p h ≡ Some x → In (Derived p x.inputs x.ptk) h
+session_in p [] x s = cc
+session_in p (e ∷ h) x s = session_by p e h x (session_in p h x) (finishes p e) (closes p e) s
+
+-- and is the key of its inputs
+pub derived_key : (d : Domain) (n p : Node) (i : Inputs) (k : Ptk) (h : List Act) → LegalHistory d n h → In (Derived p i k) h → k ≡ ptk i
+derived_key d n p i k h legal there = let l : LegalDerived d n (legal_in d n (Derived p i k) h legal there).before p i k = (legal_in d n (Derived p i k) h legal there).legal in l.key
+
+-- the own nonce of what was derived in an attempt is that of the attempt
+own_new : (d : Domain) (n p : Node) (x : Derivation) (e : Act) (h old : List Act) → Legal d n h e → e ≡ Derived p x.inputs x.ptk → attempt p h ≡ Some old → own_nonce (e ∷ old) ≡ Some (nonce_of n x.inputs)
+own_new d n p x e h old legal is a =
+    let l : LegalDerived d n h p x.inputs x.ptk = subst (λ (y : Act). Legal d n h y) is legal in
+    let same_part : l.alive.part ≡ old = cc (l.alive.awaited, a) in
+    own_nonce_more e old (nonce_of n x.inputs) (subst (λ (y : List Act). own_nonce y ≡ Some (nonce_of n x.inputs)) same_part l.alive.own)
+
+own_later : (d : Domain) (n p : Node) (x : Derivation) (e : Act) (h old : List Act) → Legal d n h e → attempt p h ≡ Some old → (derivation p old ≡ Some x → own_nonce old ≡ Some (nonce_of n x.inputs)) → (o : Option Derivation) → derived p e ≡ o → or_else o (derivation p old) ≡ Some x → own_nonce (e ∷ old) ≡ Some (nonce_of n x.inputs)
+own_later d n p x e h old legal a more None is s = own_nonce_more e old (nonce_of n x.inputs) (more s)
+own_later d n p x e h old legal a more (Some k) is s = own_new d n p x e h old legal (derived-is p e x (is ∙ s)) a
+
+opens-derives : (p q : Node) (e : Act) → opens p e ≡ true → derived q e ≡ None
+opens-derives p q e o = let w = opens-is p e o in subst (λ (x : Act). derived q x ≡ None) (sym w.1) refl
+
+own_by : (d : Domain) (n p : Node) (x : Derivation) (e : Act) (h part : List Act) → Legal d n h e → ((old : List Act) → attempt p h ≡ Some old → derivation p old ≡ Some x → own_nonce old ≡ Some (nonce_of n x.inputs)) → Grows p e h part → derivation p part ≡ Some x → own_nonce part ≡ Some (nonce_of n x.inputs)
+own_by d n p x e h part legal more (Begins o is) s =
+    let alone : derivation p (e ∷ []) ≡ Some x = subst (λ (y : List Act). derivation p y ≡ Some x) is s in
+    let none : derived p e ≡ None = opens-derives p p e o in
+    let w : None ≡ Some x = rw none at alone in cc
+own_by d n p x e h part legal more (Goes_on old o no_end a is) s =
+    subst (λ (y : List Act). own_nonce y ≡ Some (nonce_of n x.inputs)) (sym is)
+    (own_later d n p x e h old legal a (more old a) (derived p e) refl (subst (λ (y : List Act). derivation p y ≡ Some x) is s))
+
+pub own_of_part : (d : Domain) (n p : Node) (x : Derivation) (h part : List Act) → LegalHistory d n h → attempt p h ≡ Some part → derivation p part ≡ Some x → own_nonce part ≡ Some (nonce_of n x.inputs)
+own_of_part d n p x [] part legal a s = cc
+own_of_part d n p x (e ∷ h) part legal a s = own_by d n p x e h part legal.0 (λ old was. own_of_part d n p x h old legal.1 was) (grows p e h part a) s
+
+-- ---- group keys that were drawn
+
+drew_by : (v : List ℕ) (e : Act) (h : List Act) → (In v (gtks h) → In (Drew (Gtk v)) h) → (o : Option (List ℕ)) → gtk_drawn e ≡ o → In v (listed o (gtks h)) → In (Drew (Gtk v)) (e ∷ h)
+drew_by v e h more None is there = inr (more there)
+drew_by v e h more (Some x) is (inl here) = inl (sym (gtk_drawn-is e v (is ∙ ap Some (sym here))))
+drew_by v e h more (Some x) is (inr later) = inr (more later)
+
+pub gtk_drew : (v : List ℕ) (h : List Act) → In v (gtks h) → In (Drew (Gtk v)) h
+gtk_drew v [] there = absurd there
+gtk_drew v (e ∷ h) there = drew_by v e h (gtk_drew v h) (gtk_drawn e) refl there
+
+listed_more : (v : List ℕ) (xs : List (List ℕ)) (o : Option (List ℕ)) → In v xs → In v (listed o xs)
+listed_more v xs None there = there
+listed_more v xs (Some x) there = inr there
+
+pub gtks_more : (v : List ℕ) (e : Act) (h : List Act) → In v (gtks h) → In v (gtks (e ∷ h))
+gtks_more v e h there = listed_more v (gtks h) (gtk_drawn e) there
+
+pub has_drawn_more : (e : Act) (h : List Act) → HasDrawn h → HasDrawn (e ∷ h)
+has_drawn_more e h w = (w.0, gtks_more w.0 e h w.1)
+
+pub gtks_tail : (v : List ℕ) (a h : List Act) → Tail a h → In v (gtks a) → In v (gtks h)
+gtks_tail v a [] t there = subst (λ (x : List Act). In v (gtks x)) t there
+gtks_tail v a (e ∷ h) (inl is) there = subst (λ (x : List Act). In v (gtks x)) is there
+gtks_tail v a (e ∷ h) (inr t) there = gtks_more v e h (gtks_tail v a h t there)
+
+-- one at most
+abbrev pub AtMostOne : List (List ℕ) → Type 0
+AtMostOne xs = (xs ≡ []) ⊎ ((x : List ℕ) × (xs ≡ x ∷ []))
+
+few_by : (d : Domain) (n : Node) (e : Act) (h : List Act) → Legal d n h e → AtMostOne (gtks h) → (o : Option (List ℕ)) → gtk_drawn e ≡ o → AtMostOne (listed o (gtks h))
+few_by d n e h legal more None is = more
+few_by d n e h legal more (Some v) is =
+    let l : LegalGtk n h v = subst (λ (x : Act). Legal d n h x) (gtk_drawn-is e v is) legal in
+    inr (v, ap (λ (x : List (List ℕ)). v ∷ x) l.first)
+
+pub few_gtks : (d : Domain) (n : Node) (h : List Act) → LegalHistory d n h → AtMostOne (gtks h)
+few_gtks d n [] legal = inl refl
+few_gtks d n (e ∷ h) legal = few_by d n e h legal.0 (few_gtks d n h legal.1) (gtk_drawn e) refl
+
+one_of : (a b : List ℕ) (xs : List (List ℕ)) → AtMostOne xs → In a xs → In b xs → a ≡ b
+one_of a b xs (inl none) l r = absurd (subst (λ (x : List (List ℕ)). In a x) none l)
+one_of a b xs (inr (x, is)) l r = go (subst (λ (y : List (List ℕ)). In a y) is l) (subst (λ (y : List (List ℕ)). In b y) is r)
+  where
+    go : In a (x ∷ []) → In b (x ∷ []) → a ≡ b
+    go (inl s) (inl t) = s ∙ sym t
+    go (inl s) (inr t) = absurd t
+    go (inr s) t = absurd s
+
+pub one_gtk : (d : Domain) (n : Node) (a b : List ℕ) (h : List Act) → LegalHistory d n h → In a (gtks h) → In b (gtks h) → a ≡ b
+one_gtk d n a b h legal l r = one_of a b (gtks h) (few_gtks d n h legal) l r
+
+-- the newest
+pub record Newest (h : List Act) : Type 0 where
+  pub is : IsGroupKey (newest h)
+  pub drawn : In (newest h).key (gtks h)
+
+newest_by : (d : Domain) (n : Node) (h : List Act) → LegalHistory d n h → (xs : List (List ℕ)) → gtks h ≡ xs → HasDrawn h → Newest h
+newest_by d n h legal [] is w = absurd (subst (λ (x : List (List ℕ)). In w.0 x) is w.1)
+newest_by d n h legal (x ∷ older) is w =
+    let there : In x (gtks h) = subst (λ (y : List (List ℕ)). In x y) (sym is) (inl refl) in
+    let at = legal_in d n (Drew (Gtk x)) h legal (gtk_drew x h there) in
+    let l : LegalGtk n at.before x = at.legal in
+    let one : newest h ≡ record { key = x; id = suc (length older % 2) } = ap newest_of is in
+    record {
+      is = subst (λ (g : GroupKey). IsGroupKey g) (sym one) (record { octets = l.octets; size = l.size; low = (let b : length older % 2 < 2 = mod-lt (length older) (omega arith) in omega (arith, b)) });
+      drawn = subst (λ (g : GroupKey). In g.key (gtks h)) (sym one) there;
+    }
+
+pub newest_is : (d : Domain) (n : Node) (h : List Act) → LegalHistory d n h → HasDrawn h → Newest h
+newest_is d n h legal w = newest_by d n h legal (gtks h) refl w

@@ -1,0 +1,212 @@
+-- Which act may come next in the history of a node, whatever event adds it: what all of the proof of safety rests on.
+use Rattle.std.proofs.Common.{ℕ, ◌≡◌, inr, Bool, true, false, not, List, [], ◌∷◌, length, Option, Some, None}
+use Rattle.aes_block.specs.Octets.{AreOctets}
+use Rattle.key_wrap.specs.KeyWrap.{Wraps}
+use Rattle.domain_base.specs.declared.names.Mac.{Mac}
+use Rattle.domain_base.specs.declared.names.Node.{Node}
+use Rattle.domain_base.specs.declared.names.Node.TheVariants.{Ap, Sta}
+use Rattle.domain_base.specs.declared.names.Peer.{Peer}
+use Rattle.domain_base.specs.declared.names.Peer.TheVariants.{One, All}
+use Rattle.rsn_elements.specs.declared.framing.Within.TheVariants.{KeyData}
+use Rattle.rsn_elements.specs.Elements.{ElementFields, SpellsElements}
+use Rattle.eapol_key.specs.declared.messages.Message.{Message}
+use Rattle.eapol_key.specs.declared.messages.Message.TheVariants.{M1, M2, M3, M4, G1, G2}
+use Rattle.key_hierarchy.specs.Keys.{ptk}
+use Rattle.key_hierarchy.specs.declared.inputs.Inputs.{Inputs}
+use Rattle.key_hierarchy.specs.declared.inputs.Ptk.{Ptk}
+use Rattle.run_journal.specs.declared.domain.Domain.{Domain}
+use Rattle.run_journal.specs.declared.acts.Drawn.{Drawn}
+use Rattle.run_journal.specs.declared.acts.Drawn.TheVariants.{Nonce, Gtk}
+use Rattle.run_journal.specs.declared.acts.Kind.{Kind}
+use Rattle.run_journal.specs.declared.acts.Kind.TheVariants as kind
+use Rattle.run_journal.specs.declared.acts.Outcome.{Outcome}
+use Rattle.run_journal.specs.declared.acts.Seal.{Seal}
+use Rattle.run_journal.specs.declared.acts.Key.{Key}
+use Rattle.run_journal.specs.declared.acts.Key.TheVariants.{Pairwise, Group}
+use Rattle.run_journal.specs.declared.acts.Act.{Act}
+use Rattle.run_journal.specs.declared.acts.Act.TheVariants.{Drew, Derived, Sent, Took, Installed, Used, HandedUp, Finished}
+use Rattle.run_journal.specs.Acts.{same, same_kind, GroupKey}
+use Rattle.run_journal.specs.Questions.{attempt, own_nonce, gtks, switches}
+use Rattle.run_journal.specs.Premises.{In}
+use Rattle.domain_rules.specs.Network.{mac, is_ap, IsListed}
+use Rattle.domain_rules.specs.Frames.{wrapped, m3_key_data}
+use Rattle.domain_rules.specs.GroupKeys.{memory, find_key}
+use Rattle.domain_rules.specs.Rows.{carried}
+use Rattle.journal_safety.proofs.Covers.{covered_message, covered_key_data}
+use Rattle.domain_rules.proofs.CarriedKey.{IsGroupKey}
+
+-- the Ack bit: set by access points alone
+abbrev pub ack : Message → Bool
+ack M1 = true
+ack M2 = false
+ack M3 = true
+ack M4 = false
+ack G1 = true
+ack G2 = false
+
+-- of a node that derived from these inputs: its own nonce, its own address, its peer's
+abbrev pub nonce_of : Node → Inputs → List ℕ
+nonce_of (Ap k) i = i.anonce
+nonce_of (Sta k) i = i.snonce
+
+abbrev pub own_address : Node → Inputs → Mac
+own_address (Ap k) i = i.aa
+own_address (Sta k) i = i.spa
+
+abbrev pub peer_address : Node → Inputs → Mac
+peer_address (Ap k) i = i.spa
+peer_address (Sta k) i = i.aa
+
+-- the derivation with p
+abbrev pub derives : Node → Inputs → Act
+derives p i = Derived p i (ptk i)
+
+-- the attempt goes on, from the node's own nonce in the inputs
+pub record Alive (n : Node) (h : List Act) (p : Node) (i : Inputs) : Type 0 where
+  pub part : List Act
+  pub awaited : attempt p h ≡ Some part
+  pub own : own_nonce part ≡ Some (nonce_of n i)
+
+-- what all inputs of a network have in common
+pub record AreCommon (d : Domain) (i : Inputs) : Type 0 where
+  pub akm : i.akm ≡ d.akm
+  pub psk : i.psk ≡ d.psk
+  pub ssid : i.ssid ≡ d.ssid
+  pub mdid : i.mdid ≡ 0 ∷ 0 ∷ []
+  pub r0kh_id : i.r0kh_id ≡ []
+
+-- the node derived with a listed node of the other kind, from its own nonce of the attempt
+pub record LegalDerived (d : Domain) (n : Node) (h : List Act) (p : Node) (i : Inputs) (k : Ptk) : Type 0 where
+  pub roles : is_ap p ≡ not (is_ap n)
+  pub listed : IsListed d n
+  pub peer_listed : IsListed d p
+  pub alive : Alive n h p i
+  pub address : own_address n i ≡ mac d n
+  pub peer : peer_address n i ≡ mac d p
+  pub common : AreCommon d i
+  pub key : k ≡ ptk i
+
+-- the node took a frame of the other direction, sealed with the KCK of inputs that it derived from
+pub record Verified (n : Node) (h : List Act) (p : Node) (i : Inputs) : Type 0 where
+  pub derived : In (derives p i) h
+  pub from : Option Node
+  pub octets : List ℕ
+  pub kind : Kind
+  pub outcome : Outcome
+  pub covered : List ℕ
+  pub took : In (Took from octets kind outcome (Some (record { octets = covered; key = (ptk i).kck }))) h
+  pub direction : ack (covered_message covered) ≡ not (is_ap n)
+
+-- M3 carries a group key that its sender drew
+pub record CarriesM3 (d : Domain) (h : List Act) (i : Inputs) (covered : List ℕ) : Type 0 where
+  pub key : GroupKey
+  pub is : IsGroupKey key
+  pub drawn : In key.key (gtks h)
+  pub load : covered_key_data covered ≡ wrapped (ptk i).kek (m3_key_data d key)
+
+abbrev pub Carries : Domain → List Act → Inputs → List ℕ → Message → Type 0
+Carries d h i covered M3 = CarriesM3 d h i covered
+Carries d h i covered _ = Unit {0}
+
+-- what a node seals with a KCK is of its own direction, and it derived that KCK
+pub record LegalSeal (d : Domain) (n : Node) (h : List Act) (p : Node) (s : Seal) : Type 0 where
+  pub i : Inputs
+  pub there : In (derives p i) h
+  pub is : (ptk i).kck ≡ s.key
+  pub direction : ack (covered_message s.octets) ≡ is_ap n
+  pub carries : Carries d h i s.octets (covered_message s.octets)
+
+-- nothing is sealed for all
+abbrev pub LegalSealed : Domain → Node → List Act → Peer → Option Seal → Type 0
+LegalSealed d n h q None = Unit {0}
+LegalSealed d n h All (Some s) = ⊥
+LegalSealed d n h (One p) (Some s) = LegalSeal d n h p s
+
+-- a group key was drawn
+abbrev pub HasDrawn : List Act → Type 0
+HasDrawn h = (g : List ℕ) × In g (gtks h)
+
+-- the act installs a pairwise key of p
+abbrev pub gives : Node → Act → Bool
+gives p (Installed (One q) (Pairwise tk i)) = same p q
+gives p _ = false
+
+abbrev pub Uninstalled : Node → List Act → Type 0
+Uninstalled p part = (e : Act) → In e part → gives p e ≡ false
+
+-- a pairwise key is installed after a message of the peer verified under it, once in an attempt
+pub record LegalPairwise (n : Node) (h : List Act) (p : Node) (tk : List ℕ) (i : Inputs) : Type 0 where
+  pub verified : Verified n h p i
+  pub alive : Alive n h p i
+  pub first : Uninstalled p alive.part
+  pub is : tk ≡ (ptk i).tk
+
+-- a station installs a group key that came in an M3, and that it does not remember
+pub record LegalGroup (n : Node) (h : List Act) (p : Node) (g : List ℕ) : Type 0 where
+  pub station : is_ap n ≡ false
+  pub i : Inputs
+  pub derived : In (derives p i) h
+  pub from : Option Node
+  pub octets : List ℕ
+  pub kind : Kind
+  pub outcome : Outcome
+  pub covered : List ℕ
+  pub took : In (Took from octets kind outcome (Some (record { octets = covered; key = (ptk i).kck }))) h
+  pub message : covered_message covered ≡ M3
+  pub plain : List ℕ
+  pub wraps : Wraps (ptk i).kek plain (covered_key_data covered)
+  pub e : ElementFields
+  pub spelled : SpellsElements KeyData plain e
+  pub key : (carried (Some e)).key ≡ g
+  pub new : find_key g (memory p h) ≡ None
+
+-- an access point makes a key current that it drew and did not make current yet
+pub record LegalCurrent (n : Node) (h : List Act) (g : List ℕ) : Type 0 where
+  pub ap : is_ap n ≡ true
+  pub newest : gtks h ≡ g ∷ switches h
+
+abbrev pub LegalInstalled : Node → List Act → Peer → Key → Type 0
+LegalInstalled n h (One p) (Pairwise tk i) = LegalPairwise n h p tk i
+LegalInstalled n h (One p) (Group g id b) = LegalGroup n h p g
+LegalInstalled n h All (Pairwise tk i) = ⊥
+LegalInstalled n h All (Group g id b) = LegalCurrent n h g
+
+-- an access point draws one group key in all
+pub record LegalGtk (n : Node) (h : List Act) (v : List ℕ) : Type 0 where
+  pub ap : is_ap n ≡ true
+  pub octets : AreOctets v
+  pub size : length v ≡ 16
+  pub first : gtks h ≡ []
+
+abbrev pub LegalDrew : Node → List Act → Drawn → Type 0
+LegalDrew n h (Nonce v) = length v ≡ 32
+LegalDrew n h (Gtk v) = LegalGtk n h v
+
+-- a final message is accepted where a message of the peer verified
+pub record LegalFinished (n : Node) (h : List Act) (p : Node) (i : Inputs) : Type 0 where
+  pub verified : Verified n h p i
+  pub alive : Alive n h p i
+
+-- no packet number is used yet, and nothing handed up
+abbrev pub Legal : Domain → Node → List Act → Act → Type 0
+Legal d n h (Drew v) = LegalDrew n h v
+Legal d n h (Derived p i k) = LegalDerived d n h p i k
+Legal d n h (Sent q k octets s) = LegalSealed d n h q s × (same_kind (kind.Key M3) k ≡ true → HasDrawn h)
+Legal d n h (Installed q key) = LegalInstalled n h q key
+Legal d n h (Finished p i) = LegalFinished n h p i
+Legal d n h (Used p key id number octets) = ⊥
+Legal d n h (HandedUp p key id tid number octets) = ⊥
+Legal d n h _ = Unit {0}
+
+-- each act was legal after those before it
+abbrev pub LegalHistory : Domain → Node → List Act → Type 0
+LegalHistory d n [] = Unit {0}
+LegalHistory d n (e ∷ h) = Legal d n h e × LegalHistory d n h
+
+-- these acts may follow, in order
+abbrev pub Chain : Domain → Node → List Act → List Act → Type 0
+Chain d n h [] = Unit {0}
+Chain d n h (e ∷ g) = Legal d n h e × Chain d n (e ∷ h) g
+
+pub verified_more : (n p : Node) (h : List Act) (e : Act) (i : Inputs) → Verified n h p i → Verified n (e ∷ h) p i
+verified_more n p h e i v = record { derived = inr v.derived; from = v.from; octets = v.octets; kind = v.kind; outcome = v.outcome; covered = v.covered; took = inr v.took; direction = v.direction }

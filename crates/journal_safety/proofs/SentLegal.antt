@@ -1,0 +1,56 @@
+-- The frames that nodes send may be sent.
+use Rattle.std.proofs.Common.{ℕ, ◌≡◌, true, false, List, [], ◌∷◌, length, replicate, None, refl, sym, ap, ◌∙◌, subst, arith}
+use Rattle.domain_base.specs.declared.names.Node.{Node}
+use Rattle.domain_base.specs.declared.names.Node.TheVariants.{Ap, Sta}
+use Rattle.rsn_elements.specs.Sent.{rsne_octets}
+use Rattle.mac_prf.specs.Mic.{without_mic}
+use Rattle.eapol_key.specs.declared.messages.Message.{Message}
+use Rattle.eapol_key.specs.declared.messages.Message.TheVariants.{M2, M3, M4}
+use Rattle.eapol_key.specs.KeyFrame.{KeyFields}
+use Rattle.key_hierarchy.specs.Keys.{ptk}
+use Rattle.key_hierarchy.specs.declared.inputs.Inputs.{Inputs}
+use Rattle.run_journal.specs.declared.domain.Domain.{Domain}
+use Rattle.run_journal.specs.declared.acts.Act.{Act}
+use Rattle.run_journal.specs.Acts.{GroupKey}
+use Rattle.run_journal.specs.Questions.{gtks}
+use Rattle.run_journal.specs.Premises.{In}
+use Rattle.domain_rules.specs.Network.{is_ap}
+use Rattle.domain_rules.specs.Frames.{frame_seal, m2_frame, m3_frame, m4_frame, sent_m2, sent_m3, sent_m4, wrapped, m3_key_data}
+use Rattle.domain_rules.proofs.CarriedKey.{IsGroupKey, few_wrapped}
+use Rattle.journal_safety.proofs.Covers.{Covers, sealed_covers}
+use Rattle.journal_safety.proofs.Legal.{ack, nonce_of, derives, Carries, LegalSeal, Legal}
+
+seal_of : (d : Domain) (n p : Node) (h : List Act) (i : Inputs) (m : Message) (frame : List ℕ) (f : KeyFields) → In (derives p i) h → Covers (1 ∷ without_mic frame) m f → ack m ≡ is_ap n → Carries d h i (1 ∷ without_mic frame) m
+    → LegalSeal d n h p (frame_seal (ptk i).kck frame)
+seal_of d n p h i m frame f there covers direction carries = record {
+  i = i;
+  there = there;
+  is = refl;
+  direction = ap ack covers.message ∙ direction;
+  carries = subst (λ (x : Message). Carries d h i (1 ∷ without_mic frame) x) (sym covers.message) carries;
+}
+
+pub legal_m2 : (d : Domain) (n p : Node) (h : List Act) (i : Inputs) (counter : ℕ) → is_ap n ≡ false → In (derives p i) h → length i.snonce ≡ 32 → Legal d n h (sent_m2 d n p i counter)
+legal_m2 d n p h i counter role there size =
+    (seal_of d n p h i M2 (m2_frame d i counter) _ there (sealed_covers M2 d.akm (ptk i).kck counter 0 i.snonce (rsne_octets d.akm None) (omega arith) size (omega arith)) (sym role) tt, λ is. cc is)
+
+pub legal_m4 : (d : Domain) (n p : Node) (h : List Act) (i : Inputs) (counter : ℕ) → is_ap n ≡ false → In (derives p i) h → Legal d n h (sent_m4 d n p i counter)
+legal_m4 d n p h i counter role there =
+    (seal_of d n p h i M4 (m4_frame d i counter) _ there (sealed_covers M4 d.akm (ptk i).kck counter 0 (replicate 32 0) [] refl refl (omega arith)) (sym role) tt, λ is. cc is)
+
+pub legal_m3 : (d : Domain) (n p : Node) (h : List Act) (i : Inputs) (counter : ℕ) (g : GroupKey) (rsc : ℕ) → is_ap n ≡ true → In (derives p i) h → length i.anonce ≡ 32 → IsGroupKey g → In g.key (gtks h) → Legal d n h (sent_m3 d n p i counter g rsc)
+legal_m3 d n p h i counter g rsc role there size is drawn =
+    let covers = sealed_covers M3 d.akm (ptk i).kck counter rsc i.anonce (wrapped (ptk i).kek (m3_key_data d g)) tt size (few_wrapped d i g is) in (
+      seal_of d n p h i M3 (m3_frame d i counter g rsc) _ there covers (sym role) (record { key = g; is = is; drawn = drawn; load = covers.key_data }),
+      λ e. (g.key, drawn),
+    )
+
+-- ---- the own nonce in inputs
+
+pub sta_nonce : (n : Node) (i : Inputs) → is_ap n ≡ false → i.snonce ≡ nonce_of n i
+sta_nonce (Ap k) i role = cc
+sta_nonce (Sta k) i role = refl
+
+pub ap_nonce : (n : Node) (i : Inputs) → is_ap n ≡ true → i.anonce ≡ nonce_of n i
+ap_nonce (Ap k) i role = refl
+ap_nonce (Sta k) i role = cc

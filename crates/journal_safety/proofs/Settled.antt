@@ -1,0 +1,174 @@
+-- What holds of a history between events: in each attempt that goes on a nonce was drawn and no pairwise key installed, and an
+-- access point of the network has drawn a group key. And what a group of acts has to show.
+use Rattle.std.proofs.Common.{ℕ, ◌≡◌, inl, inr, Bool, true, false, List, [], ◌∷◌, ◌++◌, length, Some, None, refl, sym, subst}
+use Rattle.std.specs.List.{AllByRecursion}
+use Rattle.domain_base.specs.declared.names.Node.{Node}
+use Rattle.domain_base.specs.declared.names.Node.TheVariants.{Ap, Sta}
+use Rattle.domain_base.specs.declared.names.Peer.TheVariants.{One}
+use Rattle.key_hierarchy.specs.declared.inputs.Inputs.{Inputs}
+use Rattle.run_journal.specs.declared.domain.Domain.{Domain}
+use Rattle.run_journal.specs.declared.acts.Start.{Start}
+use Rattle.run_journal.specs.declared.acts.Drawn.TheVariants.{Nonce}
+use Rattle.run_journal.specs.declared.acts.Key.TheVariants.{Pairwise}
+use Rattle.run_journal.specs.declared.acts.Act.{Act}
+use Rattle.run_journal.specs.declared.acts.Act.TheVariants.{Opened, Drew, Installed, Finished}
+use Rattle.run_journal.specs.Acts.{same, is_same_attempt, opens, ends}
+use Rattle.run_journal.specs.Questions.{attempt, own_nonce, add}
+use Rattle.domain_rules.specs.Network.{is_ap, IsListed}
+use Rattle.domain_rules.proofs.Parts.{same-true, same-refl, Grows, Begins, Goes_on, grows, attempt_ends, own_nonce_more, add_append}
+use Rattle.journal_safety.proofs.Legal.{gives, Uninstalled, HasDrawn, Legal, Chain}
+use Rattle.journal_safety.proofs.Histories.{opens-is, has_drawn_more}
+
+abbrev pub Bare : List Act → Type 0
+Bare h = (p : Node) (part : List Act) → attempt p h ≡ Some part → Uninstalled p part
+
+abbrev pub Nonced : List Act → Type 0
+Nonced h = (p : Node) (part : List Act) → attempt p h ≡ Some part → (v : List ℕ) × (own_nonce part ≡ Some v)
+
+abbrev pub Started : Domain → Node → List Act → Type 0
+Started d n h = is_ap n ≡ true → IsListed d n → HasDrawn h
+
+pub record Settled (d : Domain) (n : Node) (h : List Act) : Type 0 where
+  pub bare : Bare h
+  pub nonced : Nonced h
+  pub started : Started d n h
+
+-- ---- one act more
+
+unlike_none : (p : Node) (e : Act) (part : List Act) → gives p e ≡ false → Uninstalled p part → Uninstalled p (e ∷ part)
+unlike_none p e part no_gift s x (inl here) = subst (λ (y : Act). gives p y ≡ false) (sym here) no_gift
+unlike_none p e part no_gift s x (inr later) = s x later
+
+opened_gives : (p : Node) (e : Act) → opens p e ≡ true → gives p e ≡ false
+opened_gives p e o = let w = opens-is p e o in subst (λ (x : Act). gives p x ≡ false) (sym w.1) refl
+
+bare_by : (e : Act) (h : List Act) (p : Node) (part : List Act) → gives p e ≡ false → ((old : List Act) → attempt p h ≡ Some old → Uninstalled p old) → Grows p e h part → Uninstalled p part
+bare_by e h p part free s (Begins o is) = subst (λ (x : List Act). Uninstalled p x) (sym is) (unlike_none p e [] (opened_gives p e o) (λ x none. absurd none))
+bare_by e h p part free s (Goes_on old o goes a is) = subst (λ (x : List Act). Uninstalled p x) (sym is) (unlike_none p e old free (s old a))
+
+nonced_by : (e : Act) (h : List Act) (p : Node) (part : List Act) → opens p e ≡ false → ((old : List Act) → attempt p h ≡ Some old → (v : List ℕ) × (own_nonce old ≡ Some v)) → Grows p e h part → (v : List ℕ) × (own_nonce part ≡ Some v)
+nonced_by e h p part apart s (Begins o is) = cc
+nonced_by e h p part apart s (Goes_on old o goes a is) = let w = s old a in (w.0, subst (λ (x : List Act). own_nonce x ≡ Some w.0) (sym is) (own_nonce_more e old w.0 w.1))
+
+started_more : (d : Domain) (n : Node) (e : Act) (h : List Act) → Started d n h → Started d n (e ∷ h)
+started_more d n e h s = λ role listed. has_drawn_more e h (s role listed)
+
+-- it neither opens an attempt nor installs a pairwise key
+abbrev pub is_quiet : Act → Bool
+is_quiet (Opened p s) = false
+is_quiet (Installed (One p) (Pairwise tk i)) = false
+is_quiet _ = true
+
+quiet-gives : (p : Node) (e : Act) → is_quiet e ≡ true → gives p e ≡ false
+quiet-gives p (Installed (One q) (Pairwise tk i)) is = cc
+quiet-gives p (Opened q s) is = cc
+quiet-gives p _ is = refl
+
+quiet-opens : (p : Node) (e : Act) → is_quiet e ≡ true → opens p e ≡ false
+quiet-opens p (Opened q s) is = cc
+quiet-opens p (Installed (One q) (Pairwise tk i)) is = cc
+quiet-opens p _ is = refl
+
+pub settled_quiet : (d : Domain) (n : Node) (e : Act) (h : List Act) → is_quiet e ≡ true → Settled d n h → Settled d n (e ∷ h)
+settled_quiet d n e h is s = record {
+  bare = λ p part a. bare_by e h p part (quiet-gives p e is) (s.bare p) (grows p e h part a);
+  nonced = λ p part a. nonced_by e h p part (quiet-opens p e is) (s.nonced p) (grows p e h part a);
+  started = started_more d n e h s.started;
+}
+
+abbrev pub Quiet : List Act → Type 0
+Quiet g = AllByRecursion (λ e. is_quiet e ≡ true) g
+
+pub settled_add : (d : Domain) (n : Node) (g h : List Act) → Quiet g → Settled d n h → Settled d n (add g h)
+settled_add d n [] h q s = s
+settled_add d n (e ∷ g) h q s = settled_add d n g (e ∷ h) q.1 (settled_quiet d n e h q.0 s)
+
+-- ---- an attempt opens, and its nonce is drawn
+
+opened_by : (v : List ℕ) (q : Node) (s : Start) (h : List Act) (p : Node) (old : List Act) → ((x : List Act) → attempt p h ≡ Some x → (w : List ℕ) × (own_nonce x ≡ Some w)) → Grows p (Opened q s) h old → (w : List ℕ) × (own_nonce (Drew (Nonce v) ∷ old) ≡ Some w)
+opened_by v q s h p old more (Begins o is) = (v, subst (λ (x : List Act). own_nonce (Drew (Nonce v) ∷ x) ≡ Some v) (sym is) refl)
+opened_by v q s h p old more (Goes_on x o goes a is) =
+    let w = more x a in
+    let first : own_nonce old ≡ Some w.0 = subst (λ (y : List Act). own_nonce y ≡ Some w.0) (sym is) (own_nonce_more (Opened q s) x w.0 w.1) in
+    (w.0, own_nonce_more (Drew (Nonce v)) old w.0 first)
+
+drew_by : (v : List ℕ) (q : Node) (s : Start) (h : List Act) (p : Node) (part : List Act) → ((x : List Act) → attempt p h ≡ Some x → (w : List ℕ) × (own_nonce x ≡ Some w)) → Grows p (Drew (Nonce v)) (Opened q s ∷ h) part → (w : List ℕ) × (own_nonce part ≡ Some w)
+drew_by v q s h p part more (Begins o is) = cc
+drew_by v q s h p part more (Goes_on old o goes a is) =
+    let w = opened_by v q s h p old more (grows p (Opened q s) h old a) in
+    (w.0, subst (λ (x : List Act). own_nonce x ≡ Some w.0) (sym is) w.1)
+
+pub settled_opened : (d : Domain) (n q : Node) (s : Start) (v : List ℕ) (h : List Act) → Settled d n h → Settled d n (Drew (Nonce v) ∷ Opened q s ∷ h)
+settled_opened d n q s v h w =
+    let opened : Bare (Opened q s ∷ h) = λ p part a. bare_by (Opened q s) h p part refl (w.bare p) (grows p (Opened q s) h part a) in
+    record {
+      bare = λ p part a. bare_by (Drew (Nonce v)) (Opened q s ∷ h) p part refl (opened p) (grows p (Drew (Nonce v)) (Opened q s ∷ h) part a);
+      nonced = λ p part a. drew_by v q s h p part (w.nonced p) (grows p (Drew (Nonce v)) (Opened q s ∷ h) part a);
+      started = started_more d n (Drew (Nonce v)) (Opened q s ∷ h) (started_more d n (Opened q s) h w.started);
+    }
+
+-- ---- a pairwise key is installed, and the attempt is finished
+
+-- settled but for the attempt with p
+pub record SettledBut (d : Domain) (n p : Node) (h : List Act) : Type 0 where
+  pub but : (q : Node) (part : List Act) → same q p ≡ false → attempt q h ≡ Some part → Uninstalled q part
+  pub nonced : Nonced h
+  pub started : Started d n h
+
+pub but_of : (d : Domain) (n p : Node) (h : List Act) → Settled d n h → SettledBut d n p h
+but_of d n p h s = record { but = λ q part apart a. s.bare q part a; nonced = s.nonced; started = s.started }
+
+pub but_more : (d : Domain) (n p : Node) (e : Act) (h : List Act) → ((q : Node) → same q p ≡ false → gives q e ≡ false) → ((q : Node) → opens q e ≡ false) → SettledBut d n p h → SettledBut d n p (e ∷ h)
+but_more d n p e h free apart_all s = record {
+  but = λ q part apart a. bare_by e h q part (free q apart) (λ old was. s.but q old apart was) (grows q e h part a);
+  nonced = λ q part a. nonced_by e h q part (apart_all q) (s.nonced q) (grows q e h part a);
+  started = started_more d n e h s.started;
+}
+
+pub same_attempt : (p : Node) → is_same_attempt p p ≡ true
+same_attempt (Ap k) = refl
+same_attempt (Sta k) = same-refl (Sta k)
+
+finished_by : (d : Domain) (n p q : Node) (i : Inputs) (h part : List Act) → SettledBut d n p h → (b : Bool) → same q p ≡ b → attempt q (Finished p i ∷ h) ≡ Some part → Uninstalled q part
+finished_by d n p q i h part s true is a =
+    let w : q ≡ p = same-true q p is in
+    let over : ends q (Finished p i) ≡ true = subst (λ (x : Node). ends x (Finished p i) ≡ true) (sym w) (same_attempt p) in
+    let none : attempt q (Finished p i ∷ h) ≡ None = attempt_ends q (Finished p i) h refl over in cc (none, a)
+finished_by d n p q i h part s false is a = bare_by (Finished p i) h q part refl (λ old was. s.but q old is was) (grows q (Finished p i) h part a)
+
+pub settled_finished : (d : Domain) (n p : Node) (i : Inputs) (h : List Act) → SettledBut d n p h → Settled d n (Finished p i ∷ h)
+settled_finished d n p i h s = record {
+  bare = λ q part a. finished_by d n p q i h part s (same q p) refl a;
+  nonced = λ q part a. nonced_by (Finished p i) h q part refl (s.nonced q) (grows q (Finished p i) h part a);
+  started = started_more d n (Finished p i) h s.started;
+}
+
+-- ---- what each group of acts has to show
+
+pub record Fine (d : Domain) (n : Node) (h g : List Act) : Type 0 where
+  pub chain : Chain d n h g
+  pub settled : Settled d n (add g h)
+
+pub fine_none : (d : Domain) (n : Node) (h : List Act) → Settled d n h → Fine d n h []
+fine_none d n h s = record { chain = tt; settled = s }
+
+pub fine_cons : (d : Domain) (n : Node) (h : List Act) (e : Act) (g : List Act) → Legal d n h e → Fine d n (e ∷ h) g → Fine d n h (e ∷ g)
+fine_cons d n h e g l w = record { chain = (l, w.chain); settled = w.settled }
+
+-- one more quiet act
+pub fine_quiet : (d : Domain) (n : Node) (h : List Act) (e : Act) (g : List Act) → Legal d n h e → is_quiet e ≡ true → Settled d n h → (Settled d n (e ∷ h) → Fine d n (e ∷ h) g) → Fine d n h (e ∷ g)
+fine_quiet d n h e g l q s more = fine_cons d n h e g l (more (settled_quiet d n e h q s))
+
+chain_append : (d : Domain) (n : Node) (h a b : List Act) → Chain d n h a → Chain d n (add a h) b → Chain d n h (a ++ b)
+chain_append d n h [] b q r = r
+chain_append d n h (e ∷ a) b q r = (q.0, chain_append d n (e ∷ h) a b q.1 r)
+
+pub fine_append : (d : Domain) (n : Node) (h a b : List Act) → Fine d n h a → Fine d n (add a h) b → Fine d n h (a ++ b)
+fine_append d n h a b v w = record {
+  chain = chain_append d n h a b v.chain w.chain;
+  settled = subst (λ (x : List Act). Settled d n x) (sym (add_append a b h)) w.settled;
+}
+
+pub fine_opened : (d : Domain) (n : Node) (h : List Act) (q : Node) (s : Start) (v : List ℕ) (g : List Act) → length v ≡ 32 → Settled d n h → (Settled d n (Drew (Nonce v) ∷ Opened q s ∷ h) → Fine d n (Drew (Nonce v) ∷ Opened q s ∷ h) g)
+    → Fine d n h (Opened q s ∷ Drew (Nonce v) ∷ g)
+fine_opened d n h q s v g size w more = fine_cons d n h (Opened q s) (Drew (Nonce v) ∷ g) tt (fine_cons d n (Opened q s ∷ h) (Drew (Nonce v)) g size (more (settled_opened d n q s v h w)))
