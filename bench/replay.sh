@@ -28,7 +28,7 @@ for name, lines in (("quarter", LINES // 4), ("half", LINES // 2), ("whole", LIN
         k += 1
     out += ["# one more line"] * (lines - len(out))
     open("%s/%s" % (sys.argv[1], name), "w").write("\n".join(out) + "\n")
-    open("%s/%s.count" % (sys.argv[1], name), "w").write("%d %d" % (k, frame))
+    open("%s/%s.count" % (sys.argv[1], name), "w").write("%d %d\n" % (k, frame))
 PY
 
 # The processor seconds and the greatest resident memory (KiB) of a program, its output to a file.
@@ -53,3 +53,30 @@ for part in quarter half whole; do
 done
 tail -3 "$work/report"
 python3 -c "print('handshakes a second: %d (of the whole script)' % ($handshakes / $seconds))"
+
+# The premises are answered from what the journal keeps as entries are added; this is the share of the whole replay that goes into it.
+if command -v perf > /dev/null; then
+    perf record -q -o "$work/perf" "$program" replay < "$work/whole" > /dev/null 2>&1
+    perf report -i "$work/perf" --stdio --sort symbol 2> /dev/null \
+        | awk -v all="$seconds" '/run_journal::(index|judging|chains|mixing|premises|naming|journal)/ { share += $1 }
+            END { printf "premises alone: %.3f seconds (%.1f %% of the samples of the whole replay, by perf)\n", all * share / 100, share }'
+fi
+
+# PBKDF2: the program on a header with a passphrase, less the program on one with the key itself; and Python's, beside it.
+python3 - "$program" <<'PY'
+import hashlib, resource, subprocess, sys, time
+RUNS = 50
+def seconds(key):
+    text = ("domain 1\nseed %064x\nssid bench\n%s\nakm psk\n" % (7, key)).encode()
+    before = resource.getrusage(resource.RUSAGE_CHILDREN)
+    for _ in range(RUNS):
+        subprocess.run([sys.argv[1], "replay"], input=text, stdout=subprocess.DEVNULL, check=True)
+    after = resource.getrusage(resource.RUSAGE_CHILDREN)
+    return after.ru_utime + after.ru_stime - before.ru_utime - before.ru_stime
+ours = seconds("passphrase of the bench") - seconds("psk %064x" % 7)
+begun = time.process_time()
+for _ in range(RUNS):
+    hashlib.pbkdf2_hmac("sha1", b"of the bench", b"bench", 4096, 32)
+theirs = time.process_time() - begun
+print("PBKDF2 a second: %d (keys of 4096 iterations by the program); %d (by hashlib of Python)" % (RUNS / ours, RUNS / theirs))
+PY
