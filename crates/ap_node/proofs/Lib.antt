@@ -1,13 +1,9 @@
-pub mod KeyData
 pub mod Returning
-pub mod Adding
 pub mod Others
-pub mod Counting
 pub mod Standing
 pub mod Refusing
 pub mod Requesting
-pub mod Verified
-pub mod Agreeing
-pub mod Answering
-pub mod Finishing
-pub mod Retrying
+pub mod Placing
+pub mod Messaging
+pub mod Repeating
+pub mod Growing

@@ -1,4 +1,4 @@
--- What is asked of a history beside attempts and sessions: the first M3, and the group keys.
+-- What is asked of a history beside attempts and sessions: the first M3, the replay counter, and the group keys.
 use Rattle.std.proofs.Common.{◌≡◌, ℕ, true, false, cond, List, [], ◌∷◌, Option, Some, None, refl, sym, subst, ◌∙◌}
 use Rattle.std.specs.List.{AllByRecursion}
 use Rattle.domain_base.specs.declared.names.Node.{Node}
@@ -16,8 +16,9 @@ use Rattle.run_journal.specs.declared.acts.Outcome.TheVariants.{Ignored, Refused
 use Rattle.run_journal.specs.declared.acts.Seal.{Seal}
 use Rattle.run_journal.specs.declared.acts.Act.{Act}
 use Rattle.run_journal.specs.declared.acts.Act.TheVariants.{Took, Idle}
-use Rattle.run_journal.specs.Acts.{same_kind}
+use Rattle.run_journal.specs.Acts.{same_kind, finishes, sent}
 use Rattle.run_journal.specs.Questions.{or_else, before_sent, gtks, switches, group_uses, draws, add}
+use Rattle.domain_rules.specs.Counters.{next_in_session}
 use Rattle.domain_rules.specs.GroupKeys.{newest, newest_uses}
 use Rattle.domain_rules.specs.Rows.{response}
 use Rattle.domain_rules.proofs.Parts.{IsApart, apart-sent_kind, apart-refused, apart-ignored, apart-idle, GoesOn, goes_on}
@@ -25,10 +26,11 @@ use Rattle.domain_rules.proofs.Effects.{refused_acts, as_before-refused}
 use Rattle.group_key.specs.Keys.{Pair}
 use Rattle.group_key.specs.Holds.{IsLast, Holds}
 use Rattle.node_frames.specs.Carried.{carried_key}
+use Rattle.node_frames.proofs.RepliedActs.{IsAbout, about_gtks, about_switches, about_uses}
 
 -- ---- the first M3
 
-pub or_none : {A : Type 0} (o : Option A) → or_else o None ≡ o
+or_none : {A : Type 0} (o : Option A) → or_else o None ≡ o
 or_none None = refl
 or_none (Some x) = refl
 
@@ -39,13 +41,23 @@ first_on : (p : Node) (g h : List Act) → AllByRecursion (IsApart p) g → befo
 first_on p [] h all = refl
 first_on p (e ∷ g) h all = first_on p g (e ∷ h) all.1 ∙ first_more p e h all.0
 
+-- ---- the replay counter in a session
+
+pub counts_more : (p : Node) (e : Act) (h : List Act) → finishes p e ≡ false → sent p (kind.Key G1) e ≡ None → next_in_session p (e ∷ h) ≡ next_in_session p h
+counts_more p e h ends sends = rw (ends, sends) refl
+
+counts_on : (p : Node) (g h : List Act) → AllByRecursion (IsApart p) g → next_in_session p (add g h) ≡ next_in_session p h
+counts_on p [] h all = refl
+counts_on p (e ∷ g) h all = counts_on p g (e ∷ h) all.1 ∙ counts_more p e h all.0.finishes_none (all.0.sends_none G1)
+
 -- acts that are not about p
 pub record IsOther (p : Node) (old new : List Act) : Type 0 where
   pub goes : GoesOn p old new
   pub first : before_sent p (kind.Key M3) new ≡ before_sent p (kind.Key M3) old
+  pub counts : next_in_session p new ≡ next_in_session p old
 
 pub other_on : (p : Node) (g h : List Act) → AllByRecursion (IsApart p) g → IsOther p h (add g h)
-other_on p g h all = record { goes = goes_on p g h all; first = first_on p g h all }
+other_on p g h all = record { goes = goes_on p g h all; first = first_on p g h all; counts = counts_on p g h all }
 
 -- ---- the group keys
 
@@ -74,6 +86,10 @@ uses_by false n is = refl
 
 pub uses_none : (h : List Act) → group_uses h ≡ 0 → newest_uses h ≡ 0
 uses_none h is = uses_by _ (group_uses h) is
+
+-- acts about one node leave them
+pub about_group : (p : Node) (g h : List Act) → AllByRecursion (IsAbout p) g → IsSameGroup h (add g h)
+about_group p g h all = record { gtks_are = about_gtks p g h all; switches_are = about_switches p g h all; uses_are = about_uses p g h all }
 
 -- ---- a frame that was refused or ignored, or an event that did nothing
 

@@ -1,7 +1,8 @@
 -- Frames that change nothing.
-use Rattle.std.proofs.Common.{◌≡◌, ℕ, cond, false, List, [], ◌∷◌, ◌++◌, Option, Some, None, refl, sym, ap, subst, ◌∙◌, inl, inr}
+use Rattle.std.proofs.Common.{◌≡◌, ℕ, Bool, cond, false, List, [], ◌∷◌, ◌++◌, Option, Some, None, refl, sym, ap, subst, ◌∙◌, inl, inr}
+use Rattle.std.specs.Prelude.{is_some}
 use Rattle.domain_base.specs.declared.names.Node.{Node}
-use Rattle.domain_base.specs.declared.names.Node.TheVariants.{Ap}
+use Rattle.domain_base.specs.declared.names.Node.TheVariants.{Ap, Sta}
 use Rattle.rsn_elements.specs.declared.reading.Elements.{Elements}
 use Rattle.rsn_elements.specs.Elements.{ElementFields}
 use Rattle.rsn_elements.specs.Fields.{element_fields}
@@ -17,21 +18,22 @@ use Rattle.run_journal.specs.declared.acts.Outcome.TheVariants.{Ignored, Refused
 use Rattle.run_journal.specs.declared.acts.Seal.{Seal}
 use Rattle.run_journal.specs.declared.acts.Act.{Act}
 use Rattle.run_journal.specs.declared.acts.Act.TheVariants.{Took}
-use Rattle.run_journal.specs.Questions.{add}
+use Rattle.run_journal.specs.Questions.{add, attempt}
 use Rattle.domain_rules.specs.Reading.{Management, KeyMessage, Reading, PassedOver, Managed, Keyed, Reads, kind_of}
 use Rattle.domain_rules.specs.Verdict.{Facts, Knows, ComesSoFar, first_verdict, further, and_then, verdict, management_verdict, key_verdict}
 use Rattle.domain_rules.specs.Rows.{By_ignored, By_refusal, sender, is_after_mic, seal_in, response}
 use Rattle.domain_rules.proofs.Effects.{refused_acts}
+use Rattle.domain_rules.proofs.Verdicts.{unawaited-m2}
 use Rattle.node_frames.specs.declared.delivered.Management.{Management as AnyFrame}
 use Rattle.node_frames.specs.declared.delivered.KeyMessage.{KeyMessage as AnyMessage}
 use Rattle.node_frames.specs.Views.{management_fields, message_fields}
 use Rattle.node_frames.specs.declared.judging.Judged.TheVariants as judged
 use Rattle.node_frames.specs.Judging.{IsJudged, IsQuiet, IsSettled}
-use Rattle.ap_node.specs.State.{State}
+use Rattle.ap_node.specs.State.{State, station_at}
 use Rattle.ap_node.specs.Stands.{Stands}
 use Rattle.ap_node.specs.Takes.{Takes, IsManagedFrom, IsKeyedFrom}
 use Rattle.ap_node.proofs.Others.{same-refused, same-ignored}
-use Rattle.ap_node.proofs.Standing.{stands_as_before}
+use Rattle.ap_node.proofs.Standing.{no_attempt, stands_as_before}
 
 -- ---- refused, whatever is sealed and answered
 
@@ -43,7 +45,7 @@ pub record IsRefused (d : Domain) (first : ℕ) (n : Node) (h : List Act) (r : R
   pub seal_is : s ≡ cond (is_after_mic why) (seal_in d n h r) None
 
 abbrev pub RefusedAfter : Domain → State → Reading → Reason → Option Seal → Type 0
-RefusedAfter d s r why seal = (first : ℕ) (h : List Act) → Stands d.akm first s h → IsRefused d first (Ap s.number) h r why seal
+RefusedAfter d s r why seal = (first : ℕ) (h : List Act) → Stands d first s h → IsRefused d first (Ap s.number) h r why seal
 
 pub takes_refused : (d : Domain) (s : State) (octets : List ℕ) (r : Reading) (from : Option Node) (k : Kind) (why : Reason) (seal : Option Seal) (answer waited waits : List Act) → Reads d.akm octets r
     → from ≡ sender d (Ap s.number) r → k ≡ kind_of r → answer ≡ response d (Ap s.number) from k why → RefusedAfter d s r why seal → waits ≡ waited ++ Took from octets k (Refused why) seal ∷ answer
@@ -55,7 +57,7 @@ takes_refused d s octets r from k why seal answer waited waits reads from_is kin
       adds = record { r = r; reads = reads; facts = w.facts; knows = w.knows; row = By_refusal (record { why = why; refused = w.refused; says = cc (from_is, kind_is, answer_is, w.seal_is) }) };
       waiting = waiting;
       came = refl;
-      stands = subst (λ (g : List Act). Stands d.akm first s (add (Took from octets k (Refused why) seal ∷ g) h)) (sym answer_is) (stands_as_before d.akm first s h (add (refused_acts d (Ap s.number) from octets k why seal) h) (same-refused d (Ap s.number) from octets k why seal h) stands);
+      stands = subst (λ (g : List Act). Stands d first s (add (Took from octets k (Refused why) seal ∷ g) h)) (sym answer_is) (stands_as_before d first s h (add (refused_acts d (Ap s.number) from octets k why seal) h) (same-refused d (Ap s.number) from octets k why seal h) stands);
     })
 
 -- ---- refused by the frame and the history alone
@@ -81,7 +83,7 @@ quiet_seal : (why : Reason) (s : Option Seal) → is_after_mic why ≡ false →
 quiet_seal why s before = rw before refl
 
 pub takes_quiet : (d : Domain) (s : State) (octets : List ℕ) (r : Reading) (from : Option Node) (k : Kind) (why : Reason) (waited waits : List Act) → Reads d.akm octets r → from ≡ sender d (Ap s.number) r → k ≡ kind_of r
-    → IsQuiet d (Ap s.number) why → ((first : ℕ) (h : List Act) → Stands d.akm first s h → first_verdict d first (Ap s.number) h r ≡ Refused why) → waits ≡ waited ++ Took from octets k (Refused why) None ∷ []
+    → IsQuiet d (Ap s.number) why → ((first : ℕ) (h : List Act) → Stands d first s h → first_verdict d first (Ap s.number) h r ≡ Refused why) → waits ≡ waited ++ Took from octets k (Refused why) None ∷ []
     → Takes d s s octets waited waits (Refused why)
 takes_quiet d s octets r from k why waited waits reads from_is kind_is quiet refused waiting =
     takes_refused d s octets r from k why None [] waited waits reads from_is kind_is (sym (quiet.silent from k))
@@ -103,7 +105,7 @@ takes_ignored d s octets r from waited waits reads from_is passed ignored waitin
   };
   waiting = waiting ∙ ap (λ (act : Act). waited ++ act ∷ []) (cc (from_is ∙ ap (sender d (Ap s.number)) passed, ap kind_of passed));
   came = refl;
-  stands = stands_as_before d.akm first s h (Took None octets kind.Ignored Ignored None ∷ h) (same-ignored octets h) stands;
+  stands = stands_as_before d first s h (Took None octets kind.Ignored Ignored None ∷ h) (same-ignored octets h) stands;
 }
 
 -- ---- judged with no question to the history
@@ -137,22 +139,25 @@ pub other_kind : (d : Domain) (first a : ℕ) (h : List Act) (p : Node) (k : Kin
 other_kind d first a h p kind.AssocReq b e other = absurd (other refl)
 other_kind d first a h p k b e other = refl
 
-pub other_message : (d : Domain) (a : ℕ) (h : List Act) (p : Node) (m : Message) (k : KeyMessage) → (m ≡ M2 → ⊥) → (m ≡ M4 → ⊥) → key_verdict d (Ap a) h p m k ≡ Refused reason.Unawaited
-other_message d a h p M2 k other last = absurd (other refl)
-other_message d a h p M4 k other last = absurd (last refl)
-other_message d a h p m k other last = refl
-
 pub takes_other_frame : (d : Domain) (s : State) (octets : List ℕ) (from : Node) (frame : AnyFrame) (elements : Elements) (k : Kind) (waited waits : List Act) → IsManagedFrom d s.number octets from frame elements → k ≡ frame.kind → (k ≡ kind.AssocReq → ⊥)
     → waits ≡ waited ++ Took (Some from) octets k (Refused reason.Unawaited) None ∷ [] → Takes d s s octets waited waits (Refused reason.Unawaited)
 takes_other_frame d s octets from frame elements k waited waits w is other waiting =
     takes_quiet d s octets (Managed (management_fields frame) (element_fields elements)) (Some from) k reason.Unawaited waited waits w.reads (sym w.judged.1) is (unawaited_quiet d (Ap s.number))
     (λ first h stands. w.judged.3 first h ∙ other_kind d first s.number h from frame.kind (management_fields frame) (element_fields elements) (λ same. other (is ∙ same))) waiting
 
-pub takes_other_message : (d : Domain) (s : State) (octets : List ℕ) (from : Node) (message : AnyMessage) (m : Message) (waited waits : List Act) → IsKeyedFrom d s.number octets from message → m ≡ message.message → (m ≡ M2 → ⊥) → (m ≡ M4 → ⊥)
-    → waits ≡ waited ++ Took (Some from) octets (kind.Key m) (Refused reason.Unawaited) None ∷ [] → Takes d s s octets waited waits (Refused reason.Unawaited)
-takes_other_message d s octets from message m waited waits w is other last waiting =
-    takes_quiet d s octets (Keyed (message_fields message)) (Some from) (kind.Key m) reason.Unawaited waited waits w.reads (sym w.judged.1) (ap (λ (x : Message). kind.Key x) is) (unawaited_quiet d (Ap s.number))
-    (λ first h stands. w.judged.4 first h ∙ other_message d s.number h from message.message (message_fields message) (λ same. other (is ∙ same)) (λ same. last (is ∙ same))) waiting
+-- an EAPOL-Key message is unawaited where there is no attempt
+unawaited_message : (d : Domain) (a : ℕ) (h : List Act) (p : Node) (m : Message) (k : KeyMessage) → attempt p h ≡ None → key_verdict d (Ap a) h p m k ≡ Refused reason.Unawaited
+unawaited_message d a h p M2 k none = unawaited-m2 d (Ap a) h p k none
+unawaited_message d a h p M4 k none = rw none refl
+unawaited_message d a h p m k none = refl
+
+pub takes_unawaited : (d : Domain) (s : State) (octets : List ℕ) (sta : ℕ) (message : AnyMessage) (had : Bool) (waited waits : List Act) → IsKeyedFrom d s.number octets (Sta sta) message
+    → had ≡ is_some (station_at s.stations sta).attempt → had ≡ false
+    → waits ≡ waited ++ Took (Some (Sta sta)) octets (kind.Key message.message) (Refused reason.Unawaited) None ∷ [] → Takes d s s octets waited waits (Refused reason.Unawaited)
+takes_unawaited d s octets sta message had waited waits w had_is none waiting =
+    takes_quiet d s octets (Keyed (message_fields message)) (Some (Sta sta)) (kind.Key message.message) reason.Unawaited waited waits w.reads (sym w.judged.1) refl (unawaited_quiet d (Ap s.number))
+    (λ first h stands. w.judged.4 first h
+    ∙ unawaited_message d s.number h (Sta sta) message.message (message_fields message) (no_attempt d (Ap s.number) sta (station_at s.stations sta).attempt h (sym had_is ∙ none) (stands.peers sta).attempt_is)) waiting
 
 -- ---- what is judged further
 

@@ -1,89 +1,49 @@
 -- Association requests.
-use Rattle.std.proofs.Common.{◌≡◌, ◌≢◌, ℕ, ◌+◌, ◌<◌, ◌≤◌, true, false, Bool, List, [], ◌∷◌, ◌++◌, length, Option, Some, None, refl, sym, ap, subst, ◌∙◌, arith}
-use Rattle.std.specs.Prelude.{not, nat_lt, if◌then◌else◌}
+use Rattle.std.proofs.Common.{◌≡◌, ◌≢◌, ℕ, ◌+◌, ◌<◌, ◌≤◌, Bool, true, false, List, [], ◌∷◌, ◌++◌, length, Option, Some, None, refl, sym, ap, subst, ◌∙◌, arith}
+use Rattle.std.specs.Prelude.{nat_lt, if◌then◌else◌, is_some}
+use Rattle.std.specs.List.{AllByRecursion}
 use Rattle.std.proofs.lemmas.Bool.{lt-ltb, le-ltb}
-use Rattle.std.proofs.lemmas.Slice.Eq.{bytes_eq-Decides}
-use Rattle.std.proofs.lemmas.List.{length-take, length-drop}
-use Rattle.domain_base.specs.Places.{part}
 use Rattle.domain_base.specs.declared.names.Node.{Node}
 use Rattle.domain_base.specs.declared.names.Node.TheVariants.{Ap, Sta}
-use Rattle.air_frame.specs.Sent.{IsAddress}
-use Rattle.air_frame.specs.Fields.{AirFields, HeaderFields, header_at, assoc_req, assoc_resp, ft_req, ft_resp, re_req, re_resp, eapol, protected, ignored}
-use Rattle.air_frame.specs.Spelled.{SpellsAir}
 use Rattle.rsn_elements.specs.declared.framing.Within.TheVariants.{Body}
 use Rattle.rsn_elements.specs.declared.reading.Elements.{Elements}
 use Rattle.rsn_elements.specs.Elements.{ElementFields}
 use Rattle.rsn_elements.specs.Fields.{element_fields}
+use Rattle.eapol_key.specs.declared.messages.Message.TheVariants.{M1}
 use Rattle.run_journal.specs.declared.domain.Domain.{Domain}
+use Rattle.run_journal.specs.declared.acts.Start.TheVariants.{Connect}
+use Rattle.run_journal.specs.declared.acts.Drawn.TheVariants.{Nonce}
 use Rattle.run_journal.specs.declared.acts.Kind.{Kind}
 use Rattle.run_journal.specs.declared.acts.Kind.TheVariants as kind
 use Rattle.run_journal.specs.declared.acts.Reason.TheVariants as reason
 use Rattle.run_journal.specs.declared.acts.Outcome.{Outcome}
 use Rattle.run_journal.specs.declared.acts.Outcome.TheVariants.{Accepted, Refused}
 use Rattle.run_journal.specs.declared.acts.Act.{Act}
-use Rattle.run_journal.specs.declared.acts.Act.TheVariants.{Took}
-use Rattle.run_journal.specs.Questions.{draws}
-use Rattle.domain_rules.specs.Network.{address, nonce, last_draw}
-use Rattle.domain_rules.specs.Reading.{Management, management_of, Managed, IsManaged}
-use Rattle.domain_rules.specs.Frames.{sent_refusal}
-use Rattle.domain_rules.specs.Verdict.{rsne_status, without_status, first_verdict, and_then, management_verdict, assoc_req_verdict, is_mine}
-use Rattle.domain_rules.specs.Rows.{By_assoc_req, sender, response}
-use Rattle.domain_rules.proofs.Peers.{peer_is}
+use Rattle.run_journal.specs.declared.acts.Act.TheVariants.{Opened, Drew, Took}
+use Rattle.run_journal.specs.Acts.{same}
+use Rattle.run_journal.specs.Questions.{attempt, session, heard, draws, add}
+use Rattle.domain_rules.specs.Counters.{next_in_session}
+use Rattle.domain_rules.specs.Network.{nonce, last_draw}
+use Rattle.domain_rules.specs.Reading.{Managed}
+use Rattle.domain_rules.specs.Frames.{sent_assoc_resp, sent_m1, sent_refusal}
+use Rattle.domain_rules.specs.Verdict.{HasRsne, rsne_status, without_status, first_verdict, and_then, management_verdict, assoc_req_verdict}
+use Rattle.domain_rules.specs.Rows.{By_assoc_req, close_attempt, next_nonce, response}
+use Rattle.domain_rules.proofs.Parts.{IsApart, same-refl, apart-opened, apart-closed, apart-drew, apart-sent, apart-took}
+use Rattle.domain_rules.proofs.Effects.{answer_acts, answer-draws}
 use Rattle.domain_rules.proofs.Verdicts.{accepted-rsne}
 use Rattle.node_frames.specs.declared.delivered.Management.{Management as AnyFrame}
 use Rattle.node_frames.specs.Views.{management_fields}
-use Rattle.ap_node.specs.State.{State, station_at, attempt_at, trying}
-use Rattle.ap_node.specs.Takes.{Takes, IsManagedFrom, associated_acts}
-use Rattle.ap_node.proofs.Standing.{begun, associated_is, stands_associated}
+use Rattle.authenticator.specs.State.{State as Part, Stage, Attempt, Session, GivenUp}
+use Rattle.authenticator.specs.Stands.{StandsIn}
+use Rattle.authenticator.specs.Steps.{IsBegun, IsAttempt}
+use Rattle.ap_node.specs.declared.stations.Station.{Station}
+use Rattle.ap_node.specs.State.{State, station_at}
+use Rattle.ap_node.specs.Stands.{HasAttempt, StandsAt, Stands}
+use Rattle.ap_node.specs.Places.{Begins}
+use Rattle.ap_node.specs.Takes.{Takes, IsManagedFrom, closed, associated_acts}
+use Rattle.ap_node.proofs.Others.{IsSameGroup, other_on}
+use Rattle.ap_node.proofs.Standing.{session_on, stands_with_one}
 use Rattle.ap_node.proofs.Refusing.{no_facts, takes_refused, takes_quiet, refused_first}
-
--- ---- the addresses in the frame are those of the nodes
-
-length-part : (at n : ℕ) (octets : List ℕ) → at + n ≤ length octets → length (part at n octets) ≡ n
-length-part at n octets long = omega (arith, length-take {A = ℕ}, length-drop {A = ℕ})
-
-pub record HasAddresses (h : HeaderFields) : Type 0 where
-  pub a1 : length h.a1 ≡ 6
-  pub a2 : length h.a2 ≡ 6
-
-at_front : (octets : List ℕ) → 24 ≤ length octets → HasAddresses (header_at 24 octets)
-at_front octets long = record { a1 = length-part 4 6 octets (omega arith); a2 = length-part 10 6 octets (omega arith) }
-
-other_frame : (m b : Management) → Some m ≡ Some b → (m.kind ≡ kind.AssocReq → ⊥) → b.kind ≡ kind.AssocReq → HasAddresses b.header
-other_frame m b same other is =
-    let here : m ≡ b = cc same in
-    absurd (other (ap (λ (x : Management). x.kind) here ∙ is))
-
-by_frame : (octets : List ℕ) (f : AirFields) (b : Management) → SpellsAir octets f → management_of f ≡ Some b → b.kind ≡ kind.AssocReq → HasAddresses b.header
-by_frame octets (assoc_req h c i e) b spelled same is =
-    let front : h ≡ header_at 24 octets = cc (spelled.0) in
-    let here : record { kind = kind.AssocReq; header = h; status = 0; elements = e } ≡ b = cc same in
-    subst HasAddresses (sym front ∙ ap (λ (x : Management). x.header) here) (at_front octets (omega (arith, spelled.1.long)))
-by_frame octets (assoc_resp h c s a e) b spelled same is = other_frame _ b same (λ other. cc other) is
-by_frame octets (ft_req h s e) b spelled same is = other_frame _ b same (λ other. cc other) is
-by_frame octets (ft_resp h s e) b spelled same is = other_frame _ b same (λ other. cc other) is
-by_frame octets (re_req h c i a e) b spelled same is = other_frame _ b same (λ other. cc other) is
-by_frame octets (re_resp h c s a e) b spelled same is = other_frame _ b same (λ other. cc other) is
-by_frame octets (eapol h way tid body) b spelled same is = absurd (cc same)
-by_frame octets (protected h way tid body) b spelled same is = absurd (cc same)
-by_frame octets ignored b spelled same is = absurd (cc same)
-
-mine_by : (c : Bool) (o : Outcome) → (if not c then Refused reason.NotForMe else o) ≡ Accepted → c ≡ true
-mine_by true o s = refl
-mine_by false o s = absurd (cc s)
-
-pub record AreWhole (d : Domain) (a station : ℕ) : Type 0 where
-  pub ap : IsAddress (address d (Ap a))
-  pub sta : IsAddress (address d (Sta station))
-
-whole_by : (d : Domain) (first a station : ℕ) (h : List Act) (octets : List ℕ) (b : Management) (e : ElementFields) → IsManaged octets b → b.kind ≡ kind.AssocReq → sender d (Ap a) (Managed b e) ≡ Some (Sta station)
-    → first_verdict d first (Ap a) h (Managed b e) ≡ Accepted → AreWhole d a station
-whole_by d first a station h octets b e m is from accepted =
-    let has = by_frame octets m.frame b m.spelled m.is is in
-    let mine = mine_by (is_mine d (Ap a) b.header) _ accepted in
-    let here : b.header.a1 ≡ address d (Ap a) = (bytes_eq-Decides b.header.a1 (address d (Ap a))).0 mine in
-    let there = (peer_is d (Ap a) (Sta station) b.header.a2 from).has in
-    record { ap = subst (λ (x : List ℕ). length x ≡ 6) here has.a1; sta = subst (λ (x : List ℕ). length x ≡ 6) (sym there) has.a2 }
 
 -- ---- what comes of it
 
@@ -119,21 +79,133 @@ takes_spent d s octets station frame elements waited waits w is none spent waiti
     (λ first h stands. verdict_is d s.number octets station frame elements w is first h ∙ by_draws d (first + draws h) (element_fields elements) false none (le-ltb (first + draws h) last_draw (subst (λ (x : ℕ). last_draw ≤ x) stands.draws_are spent)))
     waiting
 
--- accepted
-pub takes_associated : (d : Domain) (old new : State) (octets : List ℕ) (station : ℕ) (frame : AnyFrame) (elements : Elements) (rsne : List ℕ) (waited waits : List Act) → IsManagedFrom d old.number octets (Sta station) frame elements → frame.kind ≡ kind.AssocReq
-    → rsne_status d.akm (element_fields elements).rsne ≡ None → old.drawn < last_draw → (element_fields elements).rsne_octets ≡ Some rsne
-    → new.drawn ≡ old.drawn + 1 → new.group ≡ old.group → station_at new.stations station ≡ trying (Some (begun (nonce d (Ap old.number) old.drawn) rsne)) (station_at old.stations station)
-    → ((k : ℕ) → k ≢ station → station_at new.stations k ≡ station_at old.stations k)
-    → waits ≡ waited ++ associated_acts d (Ap old.number) (Sta station) octets (attempt_at old.stations station) (nonce d (Ap old.number) old.drawn)
+-- ---- accepted
+
+-- the acts are those of the history
+closed_stage : (d : Domain) (n p : Node) (s : Stage) (h : List Act) → IsAttempt s → StandsIn d n p s h → closed p true ≡ close_attempt p (attempt p h)
+closed_stage d n p (Attempt a) h is at = sym (ap (close_attempt p) at.is)
+closed_stage d n p (Session key next) h is at = absurd is
+closed_stage d n p GivenUp h is at = absurd is
+
+closed_is : (d : Domain) (n : Node) (sta : ℕ) (o : Option Part) (h : List Act) → HasAttempt d n sta o h → closed (Sta sta) (is_some o) ≡ close_attempt (Sta sta) (attempt (Sta sta) h)
+closed_is d n sta None h at = sym (ap (close_attempt (Sta sta)) at)
+closed_is d n sta (Some a) h at = closed_stage d n (Sta sta) a.stage h at.2 at.1.stage_is
+
+associated_is : (d : Domain) (first : ℕ) (n : Node) (sta : ℕ) (octets : List ℕ) (o : Option Part) (drawn : ℕ) (h : List Act) → HasAttempt d n sta o h → drawn ≡ first + draws h
+    → associated_acts d n (Sta sta) octets (is_some o) (nonce d n drawn) ≡ answer_acts d n (Sta sta) octets (attempt (Sta sta) h) (next_nonce d first n h)
+associated_is d first n sta octets o drawn h at drawn_is = rw (closed_is d n sta o h at, drawn_is) refl
+
+-- the history before the Opened of the attempt that it begins
+abbrev before_opened : Node → List ℕ → Option (List Act) → List Act → List Act
+before_opened p octets o h = add (close_attempt p o) (Took (Some p) octets kind.AssocReq Accepted None ∷ h)
+
+-- and before its M1
+abbrev before_m1 : Domain → Node → Node → List ℕ → Option (List Act) → List ℕ → List Act → List Act
+before_m1 d n p octets o v h = sent_assoc_resp d n p ∷ Drew (Nonce v) ∷ Opened p Connect ∷ before_opened p octets o h
+
+answer-add : (d : Domain) (n p : Node) (octets : List ℕ) (o : Option (List Act)) (v : List ℕ) (h : List Act) → add (answer_acts d n p octets o v) h ≡ sent_m1 d n p 1 v ∷ before_m1 d n p octets o v h
+answer-add d n p octets None v h = refl
+answer-add d n p octets (Some part) v h = refl
+
+heard-request : (p : Node) (octets : List ℕ) (o : Option (List Act)) (h : List Act) → heard p kind.AssocReq (before_opened p octets o h) ≡ Some octets
+heard-request p octets None h = rw (same-refl p) refl
+heard-request p octets (Some part) h = rw (same-refl p) refl
+
+is_begun : (d : Domain) (n p : Node) (octets v rsne : List ℕ) (o : Option (List Act)) (h : List Act) → HasRsne d.akm octets (Some rsne) → IsBegun d p v rsne (before_m1 d n p octets o v h)
+is_begun d n p octets v rsne o h said = record {
+  part = sent_assoc_resp d n p ∷ Drew (Nonce v) ∷ Opened p Connect ∷ [];
+  is = rw (same-refl p) refl;
+  begun = refl;
+  nonce = refl;
+  no_m1 = rw (same-refl p) refl;
+  no_m3 = rw (same-refl p) refl;
+  no_first = rw (same-refl p) refl;
+  no_m2 = refl;
+  request = octets;
+  heard_last = heard-request p octets o h;
+  has_rsne = said;
+}
+
+session-answer : (d : Domain) (n p : Node) (octets : List ℕ) (o : Option (List Act)) (v : List ℕ) (h : List Act) → session p (add (answer_acts d n p octets o v) h) ≡ session p h
+session-answer d n p octets None v h = refl
+session-answer d n p octets (Some part) v h = refl
+
+counts-answer : (d : Domain) (n p : Node) (octets : List ℕ) (o : Option (List Act)) (v : List ℕ) (h : List Act) → next_in_session p (add (answer_acts d n p octets o v) h) ≡ next_in_session p h
+counts-answer d n p octets None v h = rw (same-refl p) refl
+counts-answer d n p octets (Some part) v h = rw (same-refl p) refl
+
+answer-group : (d : Domain) (n p : Node) (octets : List ℕ) (o : Option (List Act)) (v : List ℕ) (h : List Act) → IsSameGroup h (add (answer_acts d n p octets o v) h)
+answer-group d n p octets None v h = record { gtks_are = refl; switches_are = refl; uses_are = refl }
+answer-group d n p octets (Some part) v h = record { gtks_are = refl; switches_are = refl; uses_are = refl }
+
+answer-apart : (d : Domain) (n p : Node) (octets : List ℕ) (o : Option (List Act)) (v : List ℕ) (sta : ℕ) → same (Sta sta) p ≡ false → AllByRecursion (IsApart (Sta sta)) (answer_acts d n p octets o v)
+answer-apart d n p octets None v sta other = (
+  apart-took (Sta sta) (Some p) octets kind.AssocReq Accepted None other,
+  (apart-opened (Sta sta) p Connect other, (apart-drew (Sta sta) (Nonce v), (apart-sent (Sta sta) p kind.AssocResp _ None other, (apart-sent (Sta sta) p (kind.Key M1) _ None other, tt)))),
+)
+answer-apart d n p octets (Some part) v sta other = (
+  apart-took (Sta sta) (Some p) octets kind.AssocReq Accepted None other,
+  (
+    apart-closed sta p other,
+    (apart-opened (Sta sta) p Connect other, (apart-drew (Sta sta) (Nonce v), (apart-sent (Sta sta) p kind.AssocResp _ None other, (apart-sent (Sta sta) p (kind.Key M1) _ None other, tt)))),
+  ),
+)
+
+-- what there is with the station then
+abbrev pub begun_with : Part → Station → Station
+begun_with a x = record { attempt = Some a; session = x.session }
+
+begun_at : (d : Domain) (ap_ sta : ℕ) (octets v rsne : List ℕ) (o : Option (List Act)) (h : List Act) (x : Station) (a : Part) → sta < length d.stas → HasRsne d.akm octets (Some rsne) → Begins d ap_ sta v rsne a → StandsAt d (Ap ap_) sta x h
+    → StandsAt d (Ap ap_) sta (begun_with a x) (add (answer_acts d (Ap ap_) (Sta sta) octets o v) h)
+begun_at d ap_ sta octets v rsne o h x a low said begins at = record {
+  attempt_is = subst (λ (g : List Act). HasAttempt d (Ap ap_) sta (Some a) g) (sym (answer-add d (Ap ap_) (Sta sta) octets o v h))
+      (low, begins.stands (before_m1 d (Ap ap_) (Sta sta) octets o v h) (is_begun d (Ap ap_) (Sta sta) octets v rsne o h said), begins.attempt_is);
+  session_is = session_on d (Ap ap_) sta x.session h (add (answer_acts d (Ap ap_) (Sta sta) octets o v) h) (session-answer d (Ap ap_) (Sta sta) octets o v h) (counts-answer d (Ap ap_) (Sta sta) octets o v h) at.session_is;
+}
+
+-- an attempt by that nonce and RSNE is what there is with the station from now on
+pub record BeginsWith (d : Domain) (old new : State) (sta : ℕ) (v rsne : List ℕ) : Type 0 where
+  pub a : Part
+  pub is : station_at new.stations sta ≡ begun_with a (station_at old.stations sta)
+  pub begins : Begins d old.number sta v rsne a
+
+stands_associated : (d : Domain) (first : ℕ) (old new : State) (sta : ℕ) (octets rsne : List ℕ) (h : List Act) → sta < length d.stas → HasRsne d.akm octets (Some rsne) → Stands d first old h
+    → new.number ≡ old.number → new.drawn ≡ old.drawn + 1 → new.group ≡ old.group → BeginsWith d old new sta (nonce d (Ap old.number) old.drawn) rsne → ((k : ℕ) → k ≢ sta → station_at new.stations k ≡ station_at old.stations k)
+    → Stands d first new (add (associated_acts d (Ap old.number) (Sta sta) octets (is_some (station_at old.stations sta).attempt) (nonce d (Ap old.number) old.drawn)) h)
+stands_associated d first old new sta octets rsne h low said stands number drawn group now others =
+    let n = Ap old.number in
+    let p = Sta sta in
+    let v = next_nonce d first n h in
+    let v_is : nonce d n old.drawn ≡ v = ap (nonce d n) stands.draws_are in
+    let o = attempt p h in
+    let x = station_at old.stations sta in
+    let after = add (answer_acts d n p octets o v) h in
+    let begins = subst (λ (w : List ℕ). Begins d old.number sta w rsne now.a) v_is now.begins in
+    let says = associated_is d first n sta octets x.attempt old.drawn h (stands.peers sta).attempt_is stands.draws_are in
+    subst (λ (g : List Act). Stands d first new (add g h)) (sym says)
+    (stands_with_one d first old new h after sta stands (record {
+      number = number;
+      drawn = omega (arith, drawn, stands.draws_are, answer-draws d n p octets o v h);
+      group = group;
+      same_group = answer-group d n p octets o v h;
+      here = subst (λ (y : Station). StandsAt d n sta y after) (sym now.is) (begun_at d old.number sta octets v rsne o h x now.a low said begins (stands.peers sta));
+      others = others;
+      goes = λ k other. other_on (Sta k) (answer_acts d n p octets o v) h (answer-apart d n p octets o v k other);
+    }))
+
+pub takes_associated : (d : Domain) (old new : State) (octets : List ℕ) (sta : ℕ) (frame : AnyFrame) (elements : Elements) (rsne raw : List ℕ) (waited waits : List Act) → IsManagedFrom d old.number octets (Sta sta) frame elements → frame.kind ≡ kind.AssocReq
+    → rsne_status d.akm (element_fields elements).rsne ≡ None → old.drawn < last_draw → (element_fields elements).rsne_octets ≡ Some raw → rsne ≡ raw
+    → new.number ≡ old.number → new.drawn ≡ old.drawn + 1 → new.group ≡ old.group → BeginsWith d old new sta (nonce d (Ap old.number) old.drawn) rsne
+    → ((k : ℕ) → k ≢ sta → station_at new.stations k ≡ station_at old.stations k)
+    → waits ≡ waited ++ associated_acts d (Ap old.number) (Sta sta) octets (is_some (station_at old.stations sta).attempt) (nonce d (Ap old.number) old.drawn)
     → Takes d old new octets waited waits Accepted
-takes_associated d old new octets station frame elements rsne waited waits w is none low raw drawn group now others waiting = λ first h stands.
+takes_associated d old new octets sta frame elements rsne raw waited waits w is none low raw_is rsne_is number drawn group now others waiting = λ first h stands.
     (let m = management_fields frame in
     let e = element_fields elements in
     let n = Ap old.number in
-    let accepted = verdict_is d old.number octets station frame elements w is first h ∙ by_draws d (first + draws h) e true none (lt-ltb (first + draws h) last_draw (subst (λ (x : ℕ). x < last_draw) stands.draws_are low)) in
-    let whole = whole_by d first old.number station h octets m e w.reads.0 is w.judged.1 accepted in
+    let accepted = verdict_is d old.number octets sta frame elements w is first h ∙ by_draws d (first + draws h) e true none (lt-ltb (first + draws h) last_draw (subst (λ (x : ℕ). x < last_draw) stands.draws_are low)) in
     record {
-      acts = associated_acts d n (Sta station) octets (attempt_at old.stations station) (nonce d n old.drawn);
+      acts = associated_acts d n (Sta sta) octets (is_some (station_at old.stations sta).attempt) (nonce d n old.drawn);
       adds = record {
         r = Managed m e;
         reads = w.reads;
@@ -144,17 +216,46 @@ takes_associated d old new octets station frame elements rsne waited waits w is 
           e = e;
           is = refl;
           kind_is = is;
-          p = Sta station;
+          p = Sta sta;
           from = w.judged.1;
           accepted = ap (λ (o : Outcome). and_then o Accepted) accepted;
-          says = associated_is d first n (Sta station) octets (attempt_at old.stations station) old.drawn h (stands.peers station).attempt_is stands.draws_are;
+          says = associated_is d first n sta octets (station_at old.stations sta).attempt old.drawn h (stands.peers sta).attempt_is stands.draws_are;
         });
       };
       waiting = waiting;
       came = refl;
-      stands = stands_associated d first old new old.number station octets rsne h whole.ap whole.sta (m, (e, (w.reads, sym raw))) stands drawn group now others;
+      stands = stands_associated d first old new sta octets rsne h w.judged.2 (m, (e, (w.reads, ap (λ (x : List ℕ). Some x) rsne_is ∙ sym raw_is))) stands number drawn group now others;
     })
 
 -- with no status there are the octets of an RSNE
 pub some_rsne : (d : Domain) (a : ℕ) (octets : List ℕ) (station : ℕ) (frame : AnyFrame) (elements : Elements) → IsManagedFrom d a octets (Sta station) frame elements → rsne_status d.akm (element_fields elements).rsne ≡ None → (element_fields elements).rsne_octets ≡ None → ⊥
 some_rsne d a octets station frame elements w none raw = cc ((accepted-rsne d.akm Body (management_fields frame).elements (element_fields elements) w.reads.1 none).1, raw)
+
+-- ---- as the code comes by them
+
+pub begins_as : (d : Domain) (n m sta : ℕ) (v w rsne : List ℕ) (a : Part) → n ≡ m → v ≡ w → Begins d n sta v rsne a → Begins d m sta w rsne a
+begins_as d n m sta v w rsne a number nonce_is begins = subst (λ (x : ℕ). Begins d x sta w rsne a) number (subst (λ (x : List ℕ). Begins d n sta x rsne a) nonce_is begins)
+
+pub begun_place : (a : Part) (x y z : Station) → x ≡ begun_with a y → y ≡ z → x ≡ begun_with a z
+begun_place a x y z here same = here ∙ ap (begun_with a) same
+
+joined : (old : List Act) (p : Node) (had : Bool) (t x y z m : Act) → (((old ++ t ∷ []) ++ closed p had) ++ x ∷ y ∷ z ∷ []) ++ m ∷ [] ≡ old ++ (t ∷ closed p had ++ x ∷ y ∷ z ∷ m ∷ [])
+joined [] p false t x y z m = refl
+joined [] p true t x y z m = refl
+joined (o ∷ os) p had t x y z m = ap (λ (l : List Act). o ∷ l) (joined os p had t x y z m)
+
+-- the acts are added one by one
+pub associated_added : (d : Domain) (n p : Node) (octets : List ℕ) (had : Bool) (v : List ℕ) (t u : Act) (old spare first second third : List Act) (sends last : List Act) → spare ≡ old → first ≡ spare ++ t ∷ [] → second ≡ first ++ closed p had
+    → third ≡ second ++ Opened p Connect ∷ Drew (Nonce v) ∷ u ∷ [] → last ≡ third ++ sends → t ≡ Took (Some p) octets kind.AssocReq Accepted None → u ≡ sent_assoc_resp d n p → sends ≡ sent_m1 d n p 1 v ∷ []
+    → last ≡ old ++ associated_acts d n p octets had v
+associated_added d n p octets had v t u old spare first second third sends last kept one two three four t_is u_is sends_are =
+    four ∙ ap (λ (l : List Act). third ++ l) sends_are
+    ∙ ap (λ (l : List Act). l ++ sent_m1 d n p 1 v ∷ []) (three ∙ ap (λ (l : List Act). l ++ Opened p Connect ∷ Drew (Nonce v) ∷ u ∷ []) (two ∙ ap (λ (l : List Act). l ++ closed p had) (one ∙ ap (λ (l : List Act). l ++ t ∷ []) kept)))
+    ∙ joined old p had t (Opened p Connect) (Drew (Nonce v)) u (sent_m1 d n p 1 v)
+    ∙ same_acts t_is u_is
+  where
+    same_acts : {a b c e : Act} → a ≡ b → c ≡ e → old ++ (a ∷ closed p had ++ Opened p Connect ∷ Drew (Nonce v) ∷ c ∷ sent_m1 d n p 1 v ∷ []) ≡ old ++ (b ∷ closed p had ++ Opened p Connect ∷ Drew (Nonce v) ∷ e ∷ sent_m1 d n p 1 v ∷ [])
+    same_acts i j = rw (i, j) refl
+
+pub associated_same : (d : Domain) (n m p : Node) (octets : List ℕ) (had has : Bool) (v w : List ℕ) → n ≡ m → had ≡ has → v ≡ w → associated_acts d n p octets had v ≡ associated_acts d m p octets has w
+associated_same d n m p octets had has v w node had_is nonce_is = rw (node, had_is, nonce_is) refl

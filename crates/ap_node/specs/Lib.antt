@@ -1,6 +1,4 @@
-pub mod Derived
-pub mod Agreed
 pub mod State
 pub mod Stands
+pub mod Places
 pub mod Takes
-pub mod Answers

@@ -1,7 +1,6 @@
 //! Association requests at an access point.
 
-ghost use Rattle.std.specs.Prelude.{◌≡◌, ◌<◌, ◌≤◌, ◌+◌, [], ◌∷◌, ◌++◌, length, Some, None, false, IfOk, OnOk, OnErr};
-ghost use Rattle.std.specs.Option.{option_copied};
+ghost use Rattle.std.specs.Prelude.{◌≡◌, ◌<◌, ◌≤◌, ◌+◌, [], ◌∷◌, ◌++◌, length, slice_index, Some, None, IfOk, OnOk, OnErr};
 ghost use Rattle.domain_base.specs.declared.names.Node.TheVariants.{Ap, Sta};
 ghost use Rattle.run_journal.specs.declared.acts.Act.TheVariants.{Took, Opened, Drew};
 ghost use Rattle.run_journal.specs.declared.acts.Reason.TheVariants as reason;
@@ -9,18 +8,14 @@ ghost use Rattle.run_journal.specs.declared.acts.Kind.TheVariants as kind;
 ghost use Rattle.run_journal.specs.declared.acts.Start.TheVariants.{Connect};
 ghost use Rattle.run_journal.specs.declared.acts.Drawn.TheVariants.{Nonce};
 ghost use Rattle.run_journal.specs.declared.acts.Outcome.TheVariants.{Accepted, Refused};
-ghost use Rattle.domain_rules.specs.Network.{InForm, nonce};
-ghost use Rattle.domain_rules.specs.Frames.{sent_assoc_resp, sent_refusal, sent_m1};
+ghost use Rattle.domain_rules.specs.Network.{InForm};
+ghost use Rattle.domain_rules.specs.Frames.{sent_assoc_resp, sent_refusal};
 ghost use Rattle.ap_node.specs.Takes.{closed};
 
-use crate::attempts::Attempt;
-use domain_base::{NoMemory, Node, Octets};
-use node_frames::{Outbox, assoc_resp, m1, nonce, refusal, took};
+use domain_base::{NoMemory, Node};
+use node_frames::{Outbox, SendRoom, assoc_resp, refusal, took};
 use run_journal::{Act, Domain, Drawn, Kind, Outcome, Part, Reason, Start};
 use std::alloc::Global;
-
-/// The replay counter of the first M1 of an attempt.
-const FIRST_COUNTER: u64 = 1;
 
 /// Refuses an association request with a status.
 pub fn refuse(
@@ -48,13 +43,26 @@ pub fn refuse(
     Ok(outcome)
 }
 
+/// An element whose second octet is the length of its body, as it is: so it has at most 257 octets
+/// (IEEE Std 802.11-2020, 9.4.2.1).
+pub fn whole_element(element: &[u8]) -> &[u8]
+    requires some { 2 ≤ length element.now }
+    requires framed { length element.now ≡ slice_index element.now 1 + 2 }
+    ensures same { result.now ≡ element.now }
+    ensures few { length result.now ≤ 257 }
+{
+    let body = usize::from(element[1]);
+    let (whole, _) = element.split_at(body + 2);
+    whole
+}
+
 /// Closes the attempt with a station, where there is one.
-pub fn close_attempt(attempt: Option<&Attempt>, station: u16, out: &mut Outbox)
+pub fn close_attempt(has_attempt: bool, station: u16, out: &mut Outbox)
     requires { 1 ≤ out.old.spare }
-    ensures acts { out.new.acts ≡ out.old.acts ++ closed (Sta station) (option_copied attempt.entry) }
+    ensures acts { out.new.acts ≡ out.old.acts ++ closed (Sta station) has_attempt }
     ensures spare { out.old.spare ≤ out.new.spare + 1 }
 {
-    if attempt.is_some() {
+    if has_attempt {
         out.add(Act::Closed {
             peer: Node::Sta(station),
             part: Part::Attempt,
@@ -62,10 +70,11 @@ pub fn close_attempt(attempt: Option<&Attempt>, station: u16, out: &mut Outbox)
     }
 }
 
-/// Opens an attempt with a station, by the nonce that was drawn for it, the response and M1.
-pub fn open_attempt(station: u16, anonce: [u8; 32], response: Act, message: Act, out: &mut Outbox)
-    requires { 4 ≤ out.old.spare }
-    ensures { out.new.acts ≡ out.old.acts ++ Opened (Sta station) Connect ∷ Drew (Nonce anonce) ∷ response ∷ message ∷ [] }
+/// Opens an attempt with a station, by the nonce that was drawn for it and the response.
+pub fn open_attempt(station: u16, anonce: [u8; 32], response: Act, out: &mut Outbox)
+    requires { 3 ≤ out.old.spare }
+    ensures acts { out.new.acts ≡ out.old.acts ++ Opened (Sta station) Connect ∷ Drew (Nonce anonce) ∷ response ∷ [] }
+    ensures spare { out.old.spare ≤ out.new.spare + 3 }
 {
     out.add(Act::Opened {
         peer: Node::Sta(station),
@@ -75,7 +84,6 @@ pub fn open_attempt(station: u16, anonce: [u8; 32], response: Act, message: Act,
         value: Drawn::Nonce(anonce),
     });
     out.add(response);
-    out.add(message);
 }
 
 /// What the acceptance of an association request needs, made before anything is changed.
@@ -85,49 +93,32 @@ pub struct Association {
     pub taken: Act,
     /// The act of sending the response.
     pub response: Act,
-    /// The act of sending M1.
-    pub message: Act,
-    /// The attempt that begins.
-    pub attempt: Attempt,
+    /// The memory for the act of sending M1.
+    pub room: SendRoom,
 }
 
-/// Prepares the acceptance of an association request with that RSNE, where the access point draws the nonce of that number.
+/// Prepares the acceptance of an association request.
 pub fn prepare(
     alloc: Global,
     domain: &Domain,
     ap: u16,
     station: u16,
     octets: &[u8],
-    rsne: &[u8],
-    drawn: u64,
 ) -> Result<Association, NoMemory>
     requires form { InForm domain.now }
     requires ap { ap < length domain.now.aps }
     requires station { station < length domain.now.stas }
     ensures taken { IfOk result (λ a. a.taken ≡ Took (Some (Sta station)) octets.now kind.AssocReq Accepted None) }
     ensures response { IfOk result (λ a. a.response ≡ sent_assoc_resp domain.now (Ap ap) (Sta station)) }
-    ensures message { IfOk result (λ a. a.message ≡ sent_m1 domain.now (Ap ap) (Sta station) 1 (nonce domain.now (Ap ap) drawn)) }
-    ensures attempt { IfOk result (λ a. a.attempt ≡ (record { anonce = nonce domain.now (Ap ap) drawn; rsne = rsne.now; m1s = 1; m3s = 0; agreement = None })) }
 {
-    let node = Node::Ap(ap);
-    let peer = Node::Sta(station);
-    let anonce = nonce(domain, node, drawn);
+    let from = Some(Node::Sta(station));
     let outcome = Outcome::Accepted;
-    let taken = took(alloc, Some(peer), octets, Kind::AssocReq, outcome, None)?;
+    let taken = took(alloc, from, octets, Kind::AssocReq, outcome, None)?;
     let response = assoc_resp(alloc, domain, ap, station)?;
-    let message = m1(alloc, domain, node, peer, FIRST_COUNTER, &anonce)?;
-    let rsne = Octets(Vec::from_slice(alloc, rsne)?);
-    let attempt = Attempt {
-        anonce,
-        rsne,
-        m1s: 1,
-        m3s: 0,
-        agreement: None,
-    };
+    let room = SendRoom::take(alloc)?;
     Ok(Association {
         taken,
         response,
-        message,
-        attempt,
+        room,
     })
 }

@@ -2,15 +2,10 @@
 #![tactic(auto)]
 
 mod access_point;
-mod agreement;
 mod association;
-mod attempts;
-mod counters;
-mod derived;
-mod m2;
-mod m4;
-mod retry;
+mod retrying;
 mod settling;
+mod stations;
 #[cfg(test)]
 mod tests;
 

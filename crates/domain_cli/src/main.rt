@@ -18,8 +18,11 @@ use adapters::{StdinSource, StdoutSink};
 use domain_base::{SteadyAir, SteadyDraws};
 use run_journal::Journal;
 use status::Status;
-use std::env;
+use std::alloc::AllocGlobal;
+use std::env::{self, Env};
+use std::io::{self, ErrorKind, Read, Write};
 use std::process::ExitCode;
+use std::thread::Threads;
 
 // The number that the program exits with.
 fn exit_number(status: Status) -> u8
@@ -36,30 +39,50 @@ fn exit_number(status: Status) -> u8
     }
 }
 
-fn main(rt: HostRuntime) -> ExitCode {
+// How the program ends where its words could not be read: a word that is not UTF-8 is none of a command.
+fn unread(error: &io::Error) -> Status {
+    match error.kind() {
+        ErrorKind::InvalidData => Status::Usage,
+        _ => Status::NoMemory,
+    }
+}
+
+// The words behind the program's name.
+fn words_of<R: Env + AllocGlobal>(rt: &R) -> Result<Vec<String>, Status> {
+    let args = match env::args(rt) {
+        Ok(args) => args,
+        Err(error) => return Err(unread(&error)),
+    };
+    match args.skip(1).collect::<Vec<String>>(rt.alloc()) {
+        Ok(words) => Ok(words),
+        Err(_) => Err(Status::NoMemory),
+    }
+}
+
+// Runs the command between two streams.
+fn command<R: Threads + Sync + Env + AllocGlobal, I: Read + Drop, O: Write + Drop>(
+    rt: &R,
+    input: I,
+    output: O,
+) -> Result<Status, Status> {
     let alloc = rt.alloc();
-    let Ok(args) = env::args(&rt) else {
-        return ExitCode::from(exit_number(Status::NoMemory));
-    };
-    let Ok(args) = args.skip(1).collect::<Vec<String>>(alloc) else {
-        return ExitCode::from(exit_number(Status::NoMemory));
-    };
-    let Ok(words) = args
+    let owned = words_of(rt)?;
+    let Ok(words) = owned
         .iter()
         .map(|word| word.as_str())
         .collect::<Vec<&str>>(alloc)
     else {
-        return ExitCode::from(exit_number(Status::NoMemory));
+        return Err(Status::NoMemory);
     };
-    let mut source = StdinSource::new(rt.stdin());
-    let mut sink = StdoutSink::new(rt.stdout());
     let Ok(mut air) = SteadyAir::new(alloc, Vec::new(alloc)) else {
-        return ExitCode::from(exit_number(Status::NoMemory));
+        return Err(Status::NoMemory);
     };
+    let mut source = StdinSource::new(input);
+    let mut sink = StdoutSink::new(output);
     let mut draws = SteadyDraws::new([0; 32]);
     let mut journal = Journal::new(alloc);
-    let status = top::run(
-        &rt,
+    Ok(top::run(
+        rt,
         alloc,
         &words,
         &mut source,
@@ -67,7 +90,14 @@ fn main(rt: HostRuntime) -> ExitCode {
         &mut air,
         &mut draws,
         &mut journal,
-    );
+    ))
+}
+
+fn main(rt: HostRuntime) -> ExitCode {
+    let status = match command(&rt, rt.stdin(), rt.stdout()) {
+        Ok(status) => status,
+        Err(status) => status,
+    };
     if status != Status::Done {
         let _ = eprintln!(rt; "{status}");
     }

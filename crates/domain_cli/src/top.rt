@@ -13,7 +13,7 @@ use crate::reading::replay;
 use crate::status::{Found, Status};
 use domain_base::{Air, Draws, Failed, Sink, Source, write_all};
 use frame_script::{SUMMARY_ROOM, summary_of, write_lines};
-use journal_safety::safety;
+use journal_safety::{hands_up_once, installs_once, joins, uses_once};
 use run_journal::{Entry, Journal, Premises};
 use std::alloc::Global;
 use std::thread::Threads;
@@ -103,14 +103,18 @@ pub fn run<R: Threads + Sync, S: Source, K: Sink, A: Air, D: Draws>(
     words: &[&str],
     source: &mut S,
     sink: &mut K,
-    _air: &mut A,
-    _draws: &mut D,
+    air: &mut A,
+    draws: &mut D,
     journal: &mut Journal,
 ) -> Status
     requires { journal.old.entries ≡ [] }
-    // The words are not those of a command, and then nothing is read or written.
+    // The words are not those of a command, and then nothing is read or written, and no call fails.
     ensures usage { (result ≡ Status.Usage) ↔ (map (λ w. w.now) words.now ≢ codes "replay" ∷ []) }
     ensures untouched { result ≡ Status.Usage → (S.left source.new ≡ S.left source.old) × (K.out sink.new ≡ K.out sink.old) × (journal.new.entries ≡ []) }
+    ensures unfailed { result ≡ Status.Usage → (S.faults source.new ≡ S.faults source.old) × (K.faults sink.new ≡ K.faults sink.old) }
+    // A replay draws nothing, and attaches no link.
+    ensures air { (A.told air.new ≡ A.told air.old) × (A.faults air.new ≡ A.faults air.old) }
+    ensures draws { (D.last draws.new ≡ D.last draws.old) × (D.faults draws.new ≡ D.faults draws.old) }
     // The journal is that of the octets read, and the octets written are its report.
     ensures ran { result ≢ Status.Usage → Runs (S.left source.old) (S.left source.new) (K.out sink.old) (K.out sink.new) result journal.new.entries }
     // Where nonces are fresh, derived keys do not collide, and every MIC that verified was made by a holder of its key, the
@@ -127,6 +131,9 @@ pub fn run<R: Threads + Sync, S: Source, K: Sink, A: Air, D: Draws>(
         return Status::Usage;
     }
     let found = replay(alloc, source, journal);
-    safety();
+    joins();
+    installs_once();
+    uses_once();
+    hands_up_once();
     report(sink, journal, found)
 }

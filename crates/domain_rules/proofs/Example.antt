@@ -2,7 +2,7 @@
 use Rattle.domain_base.specs.declared.names.Akm.TheVariants.{Psk}
 use Rattle.domain_base.specs.declared.names.Mac.{Mac}
 use Rattle.domain_base.specs.declared.names.Node.TheVariants.{Ap, Sta}
-use Rattle.domain_rules.proofs.Peers.{listed-address, finds-sta, finds-ap}
+use Rattle.domain_rules.proofs.Peers.{listed-address, named, finds-sta, finds-ap}
 use Rattle.domain_rules.proofs.SentReads.{HasMic, has_mic-psk}
 use Rattle.domain_rules.specs.Example.{small, AreWhole, HasHandshake}
 use Rattle.domain_rules.specs.Network.{InForm}
@@ -15,8 +15,8 @@ pub handshake_explained : (d : Domain) (a s : ℕ) → InForm d → AreWhole d �
 handshake_explained d a s form are akm ap_low sta_low = whole d a s (record {
   ap_whole = listed-address d (Ap a) are.aps are.stas ap_low;
   sta_whole = listed-address d (Sta s) are.aps are.stas sta_low;
-  finds_ap = finds-ap d s a form ap_low;
-  finds_sta = finds-sta d a s form sta_low;
+  finds_ap = finds-ap d s a (named d form) ap_low;
+  finds_sta = finds-sta d a s (named d form) sta_low;
   ap_low = ap_low;
   sta_low = omega (arith, form.few_stas);
   has_mic = subst HasMic (sym akm) has_mic-psk;

@@ -16,3 +16,4 @@ pub mod OneOutcome
 pub mod OneGroup
 pub mod SomeGroup
 pub mod Journals
+pub mod Noted

@@ -12,7 +12,7 @@ use Rattle.domain_base.specs.declared.names.Node.TheVariants.{Ap, Sta}
 use Rattle.air_frame.specs.Sent.{IsAddress}
 use Rattle.run_journal.specs.declared.domain.Domain.{Domain}
 use Rattle.run_journal.specs.declared.domain.ListedAp.{ListedAp}
-use Rattle.domain_rules.specs.Network.{address, peer_of, is_ap, AreAps, AreStas, InForm, IsListed}
+use Rattle.domain_rules.specs.Network.{address, peer_of, is_ap, AreAps, AreStas, IsNamed, InForm, IsListed}
 
 -- ---- the first that passes
 
@@ -89,7 +89,10 @@ pub peer_is : (d : Domain) (n p : Node) (octets : List ℕ) → peer_of d n octe
 peer_is d (Ap k) p octets s = sta_peer d k octets p (position (λ (m : Mac). bytes_eq m.0 octets) d.stas) refl s
 peer_is d (Sta k) p octets s = ap_peer d k octets p (position (λ (a : ListedAp). bytes_eq a.address.0 octets) d.aps) refl s
 
--- ---- in a network in form a listed node is found by its address
+-- ---- a listed node is found by its address
+
+pub named : (d : Domain) → InForm d → IsNamed d
+named d form = record { aps = form.aps; stas = form.stas }
 
 pub not_same : (xs ys : List ℕ) → xs ≢ ys → bytes_eq xs ys ≡ false
 not_same xs ys other = elim (cases_Bool (bytes_eq xs ys)) [ inl is ↦ absurd (other ((bytes_eq-Decides xs ys).0 is)) | inr none ↦ none ]
@@ -110,16 +113,16 @@ aps_differ (a ∷ aps) are zero (suc i) d before low =
 aps_differ (a ∷ aps) are (suc k) zero d before low = absurd (omega arith)
 aps_differ (a ∷ aps) are (suc k) (suc i) d before low = aps_differ aps are.5 k i d (omega arith) (omega arith)
 
-pub finds-sta : (d : Domain) (a k : ℕ) → InForm d → k < length d.stas → peer_of d (Ap a) (address d (Sta k)) ≡ Some (Sta k)
-finds-sta d a k form low =
+pub finds-sta : (d : Domain) (a k : ℕ) → IsNamed d → k < length d.stas → peer_of d (Ap a) (address d (Sta k)) ≡ Some (Sta k)
+finds-sta d a k names low =
     ap (option_map (λ i. Sta i))
     (finds (λ (m : Mac). bytes_eq m.0 (address d (Sta k))) d.stas k no_mac low
-    (λ i before. rw (sta_address d k low no_mac) (not_same (get_or d.stas i no_mac).0 (get_or d.stas k no_mac).0 (stas_differ d.aps d.stas form.stas i k no_mac before low)))
+    (λ i before. rw (sta_address d k low no_mac) (not_same (get_or d.stas i no_mac).0 (get_or d.stas k no_mac).0 (stas_differ d.aps d.stas names.stas i k no_mac before low)))
     ((bytes_eq-Decides (get_or d.stas k no_mac).0 (address d (Sta k))).1 (sym (sta_address d k low no_mac))))
 
-pub finds-ap : (d : Domain) (s k : ℕ) → InForm d → k < length d.aps → peer_of d (Sta s) (address d (Ap k)) ≡ Some (Ap k)
-finds-ap d s k form low =
+pub finds-ap : (d : Domain) (s k : ℕ) → IsNamed d → k < length d.aps → peer_of d (Sta s) (address d (Ap k)) ≡ Some (Ap k)
+finds-ap d s k names low =
     ap (option_map (λ i. Ap i))
     (finds (λ (a : ListedAp). bytes_eq a.address.0 (address d (Ap k))) d.aps k no_ap low
-    (λ i before. rw (ap_address d k low no_ap) (not_same (get_or d.aps i no_ap).address.0 (get_or d.aps k no_ap).address.0 (aps_differ d.aps form.aps i k no_ap before low)))
+    (λ i before. rw (ap_address d k low no_ap) (not_same (get_or d.aps i no_ap).address.0 (get_or d.aps k no_ap).address.0 (aps_differ d.aps names.aps i k no_ap before low)))
     ((bytes_eq-Decides (get_or d.aps k no_ap).address.0 (address d (Ap k))).1 (sym (ap_address d k low no_ap))))

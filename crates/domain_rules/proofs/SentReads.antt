@@ -1,9 +1,9 @@
 -- Frames as they are sent read as what they carry, in any network.
-use Rattle.std.proofs.Common.{◌≡◌, ℕ, ◌+◌, ◌^◌, ◌<◌, false, List, [], ◌∷◌, ◌++◌, length, drop, None, refl, sym, ap, subst, ◌∙◌, arith}
+use Rattle.std.proofs.Common.{◌≡◌, ℕ, ◌+◌, ◌^◌, ◌<◌, false, List, [], ◌∷◌, ◌++◌, length, take, drop, None, refl, sym, ap, subst, ◌∙◌, arith}
 use Rattle.std.specs.Prelude.{not, nat_lt, replicate}
-use Rattle.std.specs.Int.{w64}
+use Rattle.std.specs.Int.{w64, from_le_bytes}
 use Rattle.std.proofs.lemmas.Bool.{lt-ltb}
-use Rattle.std.proofs.lemmas.List.{append-nil, append_assoc, length-append, length-take-le, take_all}
+use Rattle.std.proofs.lemmas.List.{append-nil, append_assoc, length-append, length-take-le, take_all, take-take, drop-drop}
 use Rattle.domain_base.specs.declared.names.Akm.{Akm}
 use Rattle.domain_base.specs.declared.names.Akm.TheVariants.{Psk, PskSha256, FtPsk}
 use Rattle.domain_base.specs.declared.names.Node.{Node}
@@ -38,6 +38,7 @@ use Rattle.run_journal.specs.Acts.{GroupKey}
 use Rattle.domain_rules.specs.Network.{address, bssid, direction}
 use Rattle.domain_rules.specs.Reading.{Management, Managed, KeyMessage, Keyed, IsManaged, Reads}
 use Rattle.domain_rules.specs.Verdict.{replay_counter}
+use Rattle.domain_rules.specs.GroupKeys.{rsc_in}
 use Rattle.domain_rules.specs.Frames.{aid, assoc_req_elements, in_data, m2_frame, wrapped, m3_key_data, m3_frame, m4_frame}
 use Rattle.domain_rules.proofs.CarriedKey.{IsGroupKey, few_wrapped}
 
@@ -271,3 +272,14 @@ pub reads-counter : (akm : Akm) (octets : List ℕ) (k : KeyMessage) → Reads a
 reads-counter akm octets k reads =
     let body : reads.body ≡ drop (data_header_length octets + 8) octets = cc (reads.frame.spelled.0) in
     ap (λ (x : List ℕ). big_endian_at w64 9 x) (sym body) ∙ sym (ap (λ (x : KeyFields). x.counter) reads.spelled.fields)
+
+-- ---- and what is told of the group key is its RSC, six octets of the eight
+pub reads-rsc : (akm : Akm) (octets : List ℕ) (k : KeyMessage) → Reads akm octets (Keyed k) → rsc_in octets ≡ from_le_bytes w64 (take 6 k.fields.rsc ++ 0 ∷ 0 ∷ [])
+reads-rsc akm octets k reads =
+    let body : reads.body ≡ drop (data_header_length octets + 8) octets = cc (reads.frame.spelled.0) in
+    let place : data_header_length octets + 8 + 65 ≡ data_header_length octets + 73 = omega arith in
+    let six : take 6 k.fields.rsc ≡ take 6 (drop (data_header_length octets + 73) octets) =
+    ap (λ (x : KeyFields). take 6 x.rsc) reads.spelled.fields ∙ take-take 6 8 (drop 65 reads.body) (omega arith)
+    ∙ ap (λ (x : List ℕ). take 6 (drop 65 x)) body ∙ ap (λ (x : List ℕ). take 6 x) (drop-drop 65 (data_header_length octets + 8) octets)
+    ∙ ap (λ (x : ℕ). take 6 (drop x octets)) place in
+    ap (λ (x : List ℕ). from_le_bytes w64 (x ++ 0 ∷ 0 ∷ [])) (sym six)

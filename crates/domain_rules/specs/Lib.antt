@@ -1,9 +1,11 @@
 pub mod Network
 pub mod Reading
+pub mod Verified
 pub mod Frames
 pub mod Verdict
 pub mod Counters
 pub mod GroupKeys
 pub mod Rows
+pub mod Replies
 pub mod Explained
 pub mod Example

@@ -102,6 +102,12 @@ abbrev pub AreStas : List ListedAp → List Mac → Type 0
 AreStas aps [] = Unit {0}
 AreStas aps (m ∷ stas) = IsUnicast m.0 × IsNew aps stas m × AreStas aps stas
 
+-- listed nodes are told apart: addresses are of one node each and all differ, and so do R0KH-IDs. There may be any number of
+-- nodes
+pub record IsNamed (d : Domain) : Type 0 where
+  pub aps : AreAps d.aps
+  pub stas : AreStas d.aps d.stas
+
 -- the network is in form: at most 16 access points and 64 stations (this project's limits)
 pub record InForm (d : Domain) : Type 0 where
   pub some : 1 ≤ length d.ssid

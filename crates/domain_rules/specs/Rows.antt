@@ -8,7 +8,7 @@ use Rattle.air_frame.specs.Fields.{HeaderFields}
 use Rattle.rsn_elements.specs.KeyData.{GtkKdeFields}
 use Rattle.rsn_elements.specs.Elements.{ElementFields}
 use Rattle.eapol_key.specs.declared.messages.Message.{Message}
-use Rattle.eapol_key.specs.declared.messages.Message.TheVariants.{M1, M2, M3, M4}
+use Rattle.eapol_key.specs.declared.messages.Message.TheVariants.{M1, M2, M3, M4, G1, G2}
 use Rattle.key_hierarchy.specs.Keys.{ptk}
 use Rattle.key_hierarchy.specs.declared.inputs.Inputs.{Inputs}
 use Rattle.run_journal.specs.declared.domain.Domain.{Domain}
@@ -184,15 +184,14 @@ pub record IgnoredRow (d : Domain) (first : ℕ) (n : Node) (h : List Act) (octe
   pub ignored : verdict d first n h r facts ≡ Ignored
   pub says : g ≡ Took None octets kind.Ignored Ignored None ∷ []
 
--- the MIC of a message is tried before these reasons
+-- the MIC of an EAPOL-Key message is tried before these reasons
 abbrev pub is_after_mic : Reason → Bool
 is_after_mic reason.Wrap = true
 is_after_mic (reason.KeyData fault) = true
-is_after_mic (reason.Status code) = true
-is_after_mic reason.Name = true
 is_after_mic _ = false
 
--- what a refused message had sealed: something where its MIC had verified
+-- What a refused message had sealed: something where its MIC had verified. M1 has no MIC, nothing is refused of M4 behind its
+-- MIC, and no message of the group key handshake is awaited.
 abbrev pub m2_seal : Domain → Node → List Act → KeyMessage → Node → Option Seal
 m2_seal d n h k p = option_map (λ (part : List Act). frame_seal (ptk (inputs d n p (own part) k.fields.nonce)).kck k.octets) (attempt p h)
 
@@ -200,9 +199,14 @@ abbrev pub m3_seal : List Act → KeyMessage → Node → Option Seal
 m3_seal h k p = option_map (λ (y : Keying). frame_seal y.ptk.kck k.octets) (m3_keying p h)
 
 abbrev pub message_seal : Domain → Node → List Act → KeyMessage → Message → Option Node → Option Seal
+message_seal d n h k M1 from = None
+message_seal d n h k M2 None = None
 message_seal d n h k M2 (Some p) = m2_seal d n h k p
+message_seal d n h k M3 None = None
 message_seal d n h k M3 (Some p) = m3_seal h k p
-message_seal d n h k _ from = None
+message_seal d n h k M4 from = None
+message_seal d n h k G1 from = None
+message_seal d n h k G2 from = None
 
 abbrev pub seal_in : Domain → Node → List Act → Reading → Option Seal
 seal_in d n h (Keyed k) = message_seal d n h k k.message (peer_of d n k.header.a2)

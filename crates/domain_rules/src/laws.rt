@@ -1,6 +1,6 @@
 //! Laws of the definitions. The functions do nothing; their contracts are proved.
 
-ghost use Rattle.std.specs.Prelude.{◌≡◌, ℕ, ◌<◌, List, length};
+ghost use Rattle.std.specs.Prelude.{◌≡◌, ℕ, ◌<◌, true, List, length, Option, Some};
 ghost use Rattle.domain_base.specs.declared.names.Akm.{Akm};
 ghost use Rattle.domain_base.specs.declared.names.Akm.TheVariants.{Psk};
 ghost use Rattle.domain_base.specs.declared.names.Node.{Node};
@@ -8,11 +8,17 @@ ghost use Rattle.key_hierarchy.specs.Sizes.{IsSsid};
 ghost use Rattle.run_journal.specs.declared.domain.Domain.{Domain};
 ghost use Rattle.run_journal.specs.declared.domain.Event.{Event};
 ghost use Rattle.run_journal.specs.declared.acts.Act.{Act};
+ghost use Rattle.run_journal.specs.declared.acts.Act.TheVariants.{Took};
+ghost use Rattle.run_journal.specs.declared.acts.Kind.{Kind};
+ghost use Rattle.run_journal.specs.declared.acts.Outcome.{Outcome};
+ghost use Rattle.run_journal.specs.declared.acts.Seal.{Seal};
 ghost use Rattle.run_journal.specs.declared.acts.Entry.{Entry};
+ghost use Rattle.run_journal.specs.Premises.{In};
 ghost use Rattle.domain_rules.specs.Network.{InForm};
-ghost use Rattle.domain_rules.specs.Reading.{Reading, Reads};
+ghost use Rattle.domain_rules.specs.Reading.{Reading, Reads, kind_of};
+ghost use Rattle.domain_rules.specs.Verified.{IsVerified, is_past_mic};
 ghost use Rattle.domain_rules.specs.Verdict.{Facts, Knows, verdict};
-ghost use Rattle.domain_rules.specs.Rows.{NodeEvent, Take, Begin, Retry, Adds};
+ghost use Rattle.domain_rules.specs.Rows.{NodeEvent, Take, Begin, Retry, Adds, sender};
 ghost use Rattle.domain_rules.specs.Explained.{Explained};
 ghost use Rattle.domain_rules.specs.Example.{small, AreWhole, HasHandshake};
 
@@ -35,6 +41,20 @@ pub fn one_group()
         → (g : List Act) × Adds d first n h (Begin a) g }
     ensures again { (d : Domain) (first : ℕ) (n : Node) (h : List Act) (s : ℕ)
         → (g : List Act) × Adds d first n h (Retry s) g }
+{}
+
+/// A node notes what a frame had sealed where the MIC of the frame verified, and there alone. Whatever its history, a seal is noted
+/// of octets that came and read as an EAPOL-Key message with the MIC of its octets under the key of the seal. And it is noted
+/// wherever a message with a MIC (all but M1) is accepted or answered, or is refused for what its key data hold.
+pub fn seals_are_verified()
+    ensures verified { (d : Domain) (first : ℕ) (n : Node) (h : List Act) (event : NodeEvent) (g : List Act)
+        (from : Option Node) (octets : List ℕ) (k : Kind) (o : Outcome) (s : Seal)
+        → Adds d first n h event g → In (Took from octets k o (Some s)) g
+        → (event ≡ Take octets) × IsVerified d.akm octets s }
+    ensures noted { (d : Domain) (first : ℕ) (n : Node) (h : List Act) (octets : List ℕ) (r : Reading) (facts : Facts) (g : List Act)
+        → Reads d.akm octets r → Knows d first n h r facts → Adds d first n h (Take octets) g
+        → is_past_mic (verdict d first n h r facts) (kind_of r) ≡ true
+        → (s : Seal) × In (Took (sender d n r) octets (kind_of r) (verdict d first n h r facts) (Some s)) g }
 {}
 
 /// The network and the rounds determine the journal.

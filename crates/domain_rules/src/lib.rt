@@ -3,4 +3,4 @@
 
 mod laws;
 
-pub use laws::{handshake_is_explained, one_group, one_journal, one_reading};
+pub use laws::{handshake_is_explained, one_group, one_journal, one_reading, seals_are_verified};

@@ -2,12 +2,11 @@
 use Rattle.std.proofs.Common.{◌≡◌, ℕ, suc, ◌<◌, ◌≤◌, inl, inr, false, cond, List, [], ◌∷◌, ◌++◌, length, Some, refl, sym, ap, subst, ◌∙◌, arith, length-append}
 use Rattle.std.specs.Prelude.{slice_get, slice_set, slice_index_or}
 use Rattle.std.specs.List.{AllByRecursion}
-use Rattle.std.proofs.lemmas.List.{length-set}
+use Rattle.std.proofs.lemmas.List.{length-set, append-nil}
 use Rattle.std.proofs.lemmas.Option.{slice_get_within, slice_get_read}
 use Rattle.domain_rules.specs.Network.{IsListed}
 use Rattle.domain_base.specs.declared.names.Node.{Node}
 use Rattle.domain_base.specs.declared.names.Node.TheVariants.{Ap, Sta}
-use Rattle.domain_base.specs.declared.names.Akm.{Akm}
 use Rattle.run_journal.specs.declared.domain.Domain.{Domain}
 use Rattle.run_journal.specs.declared.acts.Act.{Act}
 use Rattle.run_journal.specs.declared.acts.Entry.{Entry}
@@ -20,7 +19,11 @@ use Rattle.station_node.specs.State.{State as StationState}
 use Rattle.station_node.specs.Stands.{Stands as StationStands}
 use Rattle.ap_node.specs.State.{State as ApState}
 use Rattle.ap_node.specs.Stands.{Stands as ApStands}
-use Rattle.domain_world.specs.State.{Nodes}
+use Rattle.node_frames.specs.Growing.{Grows}
+use Rattle.station_node.proofs.Growing.{grown as station_grown}
+use Rattle.ap_node.proofs.Growing.{grown as ap_grown}
+use Rattle.domain_base.specs.declared.names.Mac.{Mac}
+use Rattle.domain_world.specs.State.{Nodes, with_ap, with_sta}
 use Rattle.domain_world.specs.Owning.{AreListed, Stand, IsPast}
 use Rattle.domain_world.proofs.Lists.{get_set, get_push}
 
@@ -62,45 +65,45 @@ listed_sta n k s is number = record {
 }
 
 -- the access point's history is longer by its acts, and every other is the same
-ap_here : (akm : Akm) (j : List Entry) (k i : ℕ) (s t : ApState) (acts : List Act) (round : ℕ) → i ≡ k → t ≡ s → ApStands akm 0 s (add acts (history (Ap k) j))
-    → ApStands akm 0 t (history (Ap i) (push round (Ap k) acts j))
-ap_here akm j k i s t acts round at is stands =
-    subst (λ (x : ApState). ApStands akm 0 x (history (Ap i) (push round (Ap k) acts j))) (sym is)
-    (subst (λ (x : ℕ). ApStands akm 0 s (history (Ap x) (push round (Ap k) acts j))) (sym at)
-    (subst (ApStands akm 0 s) (sym (history-push round (Ap k) acts j)) stands))
+ap_here : (d : Domain) (j : List Entry) (k i : ℕ) (s t : ApState) (acts : List Act) (round : ℕ) → i ≡ k → t ≡ s → ApStands d 0 s (add acts (history (Ap k) j))
+    → ApStands d 0 t (history (Ap i) (push round (Ap k) acts j))
+ap_here d j k i s t acts round at is stands =
+    subst (λ (x : ApState). ApStands d 0 x (history (Ap i) (push round (Ap k) acts j))) (sym is)
+    (subst (λ (x : ℕ). ApStands d 0 s (history (Ap x) (push round (Ap k) acts j))) (sym at)
+    (subst (ApStands d 0 s) (sym (history-push round (Ap k) acts j)) stands))
 
-ap_there : (akm : Akm) (j : List Entry) (n : Node) (i : ℕ) (t : ApState) (acts : List Act) (round : ℕ) → same (Ap i) n ≡ false → ApStands akm 0 t (history (Ap i) j)
-    → ApStands akm 0 t (history (Ap i) (push round n acts j))
-ap_there akm j n i t acts round other stands = subst (ApStands akm 0 t) (sym (history-other round n (Ap i) acts j other)) stands
+ap_there : (d : Domain) (j : List Entry) (n : Node) (i : ℕ) (t : ApState) (acts : List Act) (round : ℕ) → same (Ap i) n ≡ false → ApStands d 0 t (history (Ap i) j)
+    → ApStands d 0 t (history (Ap i) (push round n acts j))
+ap_there d j n i t acts round other stands = subst (ApStands d 0 t) (sym (history-other round n (Ap i) acts j other)) stands
 
-sta_here : (j : List Entry) (k i : ℕ) (s t : StationState) (acts : List Act) (round : ℕ) → i ≡ k → t ≡ s → StationStands 0 s (add acts (history (Sta k) j))
-    → StationStands 0 t (history (Sta i) (push round (Sta k) acts j))
-sta_here j k i s t acts round at is stands =
-    subst (λ (x : StationState). StationStands 0 x (history (Sta i) (push round (Sta k) acts j))) (sym is)
-    (subst (λ (x : ℕ). StationStands 0 s (history (Sta x) (push round (Sta k) acts j))) (sym at)
-    (subst (StationStands 0 s) (sym (history-push round (Sta k) acts j)) stands))
+sta_here : (d : Domain) (j : List Entry) (k i : ℕ) (s t : StationState) (acts : List Act) (round : ℕ) → i ≡ k → t ≡ s → StationStands d 0 s (add acts (history (Sta k) j))
+    → StationStands d 0 t (history (Sta i) (push round (Sta k) acts j))
+sta_here d j k i s t acts round at is stands =
+    subst (λ (x : StationState). StationStands d 0 x (history (Sta i) (push round (Sta k) acts j))) (sym is)
+    (subst (λ (x : ℕ). StationStands d 0 s (history (Sta x) (push round (Sta k) acts j))) (sym at)
+    (subst (StationStands d 0 s) (sym (history-push round (Sta k) acts j)) stands))
 
-sta_there : (j : List Entry) (n : Node) (i : ℕ) (t : StationState) (acts : List Act) (round : ℕ) → same (Sta i) n ≡ false → StationStands 0 t (history (Sta i) j)
-    → StationStands 0 t (history (Sta i) (push round n acts j))
-sta_there j n i t acts round other stands = subst (StationStands 0 t) (sym (history-other round n (Sta i) acts j other)) stands
+sta_there : (d : Domain) (j : List Entry) (n : Node) (i : ℕ) (t : StationState) (acts : List Act) (round : ℕ) → same (Sta i) n ≡ false → StationStands d 0 t (history (Sta i) j)
+    → StationStands d 0 t (history (Sta i) (push round n acts j))
+sta_there d j n i t acts round other stands = subst (StationStands d 0 t) (sym (history-other round n (Sta i) acts j other)) stands
 
-pub stand_ap : (n : Nodes) (k : ℕ) (s : ApState) (acts : List Act) (j : List Entry) → Stand n j → ApStands n.domain.akm 0 s (add acts (history (Ap k) j))
+pub stand_ap : (n : Nodes) (k : ℕ) (s : ApState) (acts : List Act) (j : List Entry) → Stand n j → ApStands n.domain 0 s (add acts (history (Ap k) j))
     → (round : ℕ) → Stand (with_ap_node n k s) (push round (Ap k) acts j)
 stand_ap n k s acts j is stands round = record {
   aps = λ i t at. elim (get_set n.aps k i s t at) [
-    | inl here ↦ ap_here n.domain.akm j k i s t acts round here.0 here.1 stands
-    | inr other ↦ ap_there n.domain.akm j (Ap k) i t acts round (other_ap i k other.0) (is.aps i t other.1)
+    | inl here ↦ ap_here n.domain j k i s t acts round here.0 here.1 stands
+    | inr other ↦ ap_there n.domain j (Ap k) i t acts round (other_ap i k other.0) (is.aps i t other.1)
   ];
-  stas = λ i t at. sta_there j (Ap k) i t acts round refl (is.stas i t at);
+  stas = λ i t at. sta_there n.domain j (Ap k) i t acts round refl (is.stas i t at);
 }
 
-pub stand_sta : (n : Nodes) (k : ℕ) (s : StationState) (acts : List Act) (j : List Entry) → Stand n j → StationStands 0 s (add acts (history (Sta k) j))
+pub stand_sta : (n : Nodes) (k : ℕ) (s : StationState) (acts : List Act) (j : List Entry) → Stand n j → StationStands n.domain 0 s (add acts (history (Sta k) j))
     → (round : ℕ) → Stand (with_station_node n k s) (push round (Sta k) acts j)
 stand_sta n k s acts j is stands round = record {
-  aps = λ i t at. ap_there n.domain.akm j (Sta k) i t acts round refl (is.aps i t at);
+  aps = λ i t at. ap_there n.domain j (Sta k) i t acts round refl (is.aps i t at);
   stas = λ i t at. elim (get_set n.stas k i s t at) [
-    | inl here ↦ sta_here j k i s t acts round here.0 here.1 stands
-    | inr other ↦ sta_there j (Sta k) i t acts round (other_sta i k other.0) (is.stas i t other.1)
+    | inl here ↦ sta_here n.domain j k i s t acts round here.0 here.1 stands
+    | inr other ↦ sta_there n.domain j (Sta k) i t acts round (other_sta i k other.0) (is.stas i t other.1)
   ];
 }
 
@@ -112,33 +115,68 @@ lasts old k i t count at here = omega (arith, slice_get_within old i t at)
 lasts_sta : (old : List StationState) (k i : ℕ) (t : StationState) → length old ≡ k → slice_get old i ≡ Some t → i ≡ k → ⊥
 lasts_sta old k i t count at here = omega (arith, slice_get_within old i t at)
 
--- an access point, which starts
-stand_started : (old new : Nodes) (k : ℕ) (s : ApState) (acts : List Act) (j : List Entry) → new.domain.akm ≡ old.domain.akm → new.aps ≡ old.aps ++ s ∷ [] → new.stas ≡ old.stas → length old.aps ≡ k
-    → ApStands old.domain.akm 0 s (add acts []) → Stand old j → history (Ap k) j ≡ [] → Stand new (push 0 (Ap k) acts j)
-stand_started old new k s acts j akm aps stas count stands is none = record {
-  aps = λ i t at. subst (λ (x : Akm). ApStands x 0 t (history (Ap i) (push 0 (Ap k) acts j))) (sym akm)
-      (elim (get_push old.aps i s t (subst (λ (l : List ApState). slice_get l i ≡ Some t) aps at)) [
-        | inl here ↦ ap_here old.domain.akm j k i s t acts 0 (here.0 ∙ count) here.1 (subst (λ (h : List Act). ApStands old.domain.akm 0 s (add acts h)) (sym none) stands)
-        | inr earlier ↦ ap_there old.domain.akm j (Ap k) i t acts 0 (other_ap i k (lasts old.aps k i t count earlier)) (is.aps i t earlier)
-      ]);
-  stas = λ i t at. sta_there j (Ap k) i t acts 0 refl (is.stas i t (subst (λ (l : List StationState). slice_get l i ≡ Some t) stas at));
+-- the nodes that were there stand in the larger network as they did
+ap_stays : (old new : Nodes) (j : List Entry) → Grows old.domain new.domain → AreListed old → Stand old j → (i : ℕ) (t : ApState) → slice_get old.aps i ≡ Some t → ApStands new.domain 0 t (history (Ap i) j)
+ap_stays old new j more listed is i t at =
+    let low : t.number < length old.domain.aps = omega (arith, slice_get_within old.aps i t at, listed.count_aps, listed.aps i t at) in
+    ap_grown old.domain new.domain 0 t (history (Ap i) j) more low (is.aps i t at)
+
+sta_stays : (old new : Nodes) (j : List Entry) → Grows old.domain new.domain → AreListed old → Stand old j → (i : ℕ) (t : StationState) → slice_get old.stas i ≡ Some t → StationStands new.domain 0 t (history (Sta i) j)
+sta_stays old new j more listed is i t at =
+    let low : t.number < length old.domain.stas = omega (arith, slice_get_within old.stas i t at, listed.count_stas, listed.stas i t at) in
+    station_grown old.domain new.domain 0 t (history (Sta i) j) more low (is.stas i t at)
+
+pub grows_ap : (d e : Domain) (address : Mac) (r0kh_id : List ℕ) → e ≡ with_ap d address r0kh_id → Grows d e
+grows_ap d e address r0kh_id is = record {
+  seed = ap (λ (x : Domain). x.seed) is;
+  ssid = ap (λ (x : Domain). x.ssid) is;
+  psk = ap (λ (x : Domain). x.psk) is;
+  akm = ap (λ (x : Domain). x.akm) is;
+  mdid = ap (λ (x : Domain). x.mdid) is;
+  more_aps = record { address = address; r0kh_id = r0kh_id } ∷ [];
+  aps = ap (λ (x : Domain). x.aps) is;
+  more_stas = [];
+  stas = ap (λ (x : Domain). x.stas) is ∙ sym (append-nil d.stas);
 }
 
-pub stand_more_ap : (old new : Nodes) (k : ℕ) (s : ApState) (acts waited starts : List Act) (j : List Entry) → new.domain.akm ≡ old.domain.akm → new.aps ≡ old.aps ++ s ∷ [] → new.stas ≡ old.stas → length old.aps ≡ k
-    → waited ≡ [] → acts ≡ waited ++ starts → ApStands new.domain.akm 0 s (add starts []) → Stand old j → history (Ap k) j ≡ [] → Stand new (push 0 (Ap k) acts j)
-stand_more_ap old new k s acts waited starts j akm aps stas count empty adds stands is none =
+pub grows_sta : (d e : Domain) (address : Mac) → e ≡ with_sta d address → Grows d e
+grows_sta d e address is = record {
+  seed = ap (λ (x : Domain). x.seed) is;
+  ssid = ap (λ (x : Domain). x.ssid) is;
+  psk = ap (λ (x : Domain). x.psk) is;
+  akm = ap (λ (x : Domain). x.akm) is;
+  mdid = ap (λ (x : Domain). x.mdid) is;
+  more_aps = [];
+  aps = ap (λ (x : Domain). x.aps) is ∙ sym (append-nil d.aps);
+  more_stas = address ∷ [];
+  stas = ap (λ (x : Domain). x.stas) is;
+}
+
+-- an access point, which starts
+stand_started : (old new : Nodes) (k : ℕ) (s : ApState) (acts : List Act) (j : List Entry) → Grows old.domain new.domain → AreListed old → new.aps ≡ old.aps ++ s ∷ [] → new.stas ≡ old.stas → length old.aps ≡ k
+    → ApStands new.domain 0 s (add acts []) → Stand old j → history (Ap k) j ≡ [] → Stand new (push 0 (Ap k) acts j)
+stand_started old new k s acts j more listed aps stas count stands is none = record {
+  aps = λ i t at. elim (get_push old.aps i s t (subst (λ (l : List ApState). slice_get l i ≡ Some t) aps at)) [
+    | inl here ↦ ap_here new.domain j k i s t acts 0 (here.0 ∙ count) here.1 (subst (λ (h : List Act). ApStands new.domain 0 s (add acts h)) (sym none) stands)
+    | inr earlier ↦ ap_there new.domain j (Ap k) i t acts 0 (other_ap i k (lasts old.aps k i t count earlier)) (ap_stays old new j more listed is i t earlier)
+  ];
+  stas = λ i t at. sta_there new.domain j (Ap k) i t acts 0 refl (sta_stays old new j more listed is i t (subst (λ (l : List StationState). slice_get l i ≡ Some t) stas at));
+}
+
+pub stand_more_ap : (old new : Nodes) (k : ℕ) (s : ApState) (acts waited starts : List Act) (j : List Entry) → Grows old.domain new.domain → AreListed old → new.aps ≡ old.aps ++ s ∷ [] → new.stas ≡ old.stas → length old.aps ≡ k
+    → waited ≡ [] → acts ≡ waited ++ starts → ApStands new.domain 0 s (add starts []) → Stand old j → history (Ap k) j ≡ [] → Stand new (push 0 (Ap k) acts j)
+stand_more_ap old new k s acts waited starts j more listed aps stas count empty adds stands is none =
     let same : acts ≡ starts = adds ∙ ap (λ (l : List Act). l ++ starts) empty in
-    let first : ApStands old.domain.akm 0 s (add starts []) = subst (λ (x : Akm). ApStands x 0 s (add starts [])) akm stands in
-    stand_started old new k s acts j akm aps stas count (subst (λ (g : List Act). ApStands old.domain.akm 0 s (add g [])) (sym same) first) is none
+    stand_started old new k s acts j more listed aps stas count (subst (λ (g : List Act). ApStands new.domain 0 s (add g [])) (sym same) stands) is none
 
 -- a station, which has done nothing
-pub stand_more_sta : (old new : Nodes) (k : ℕ) (s : StationState) (j : List Entry) → new.domain.akm ≡ old.domain.akm → new.aps ≡ old.aps → new.stas ≡ old.stas ++ s ∷ [] → length old.stas ≡ k
-    → StationStands 0 s [] → Stand old j → history (Sta k) j ≡ [] → Stand new j
-stand_more_sta old new k s j akm aps stas count stands is none = record {
-  aps = λ i t at. subst (λ (x : Akm). ApStands x 0 t (history (Ap i) j)) (sym akm) (is.aps i t (subst (λ (l : List ApState). slice_get l i ≡ Some t) aps at));
+pub stand_more_sta : (old new : Nodes) (k : ℕ) (s : StationState) (j : List Entry) → Grows old.domain new.domain → AreListed old → new.aps ≡ old.aps → new.stas ≡ old.stas ++ s ∷ [] → length old.stas ≡ k
+    → StationStands new.domain 0 s [] → Stand old j → history (Sta k) j ≡ [] → Stand new j
+stand_more_sta old new k s j more listed aps stas count stands is none = record {
+  aps = λ i t at. ap_stays old new j more listed is i t (subst (λ (l : List ApState). slice_get l i ≡ Some t) aps at);
   stas = λ i t at. elim (get_push old.stas i s t (subst (λ (l : List StationState). slice_get l i ≡ Some t) stas at)) [
-    | inl here ↦ sta_here j k i s t [] 0 (here.0 ∙ count) here.1 (subst (StationStands 0 s) (sym none) stands)
-    | inr earlier ↦ is.stas i t earlier
+    | inl here ↦ sta_here new.domain j k i s t [] 0 (here.0 ∙ count) here.1 (subst (StationStands new.domain 0 s) (sym none) stands)
+    | inr earlier ↦ sta_stays old new j more listed is i t earlier
   ];
 }
 

@@ -19,7 +19,7 @@ use Rattle.domain_world.specs.Acting.{Acted}
 use Rattle.domain_world.proofs.Standing.{with_ap_node, with_station_node, at_ap, at_sta, stand_ap, stand_sta}
 
 pub acted_ap : (old : Nodes) (k : ℕ) (s t : ApState) (event : NodeEvent) (waited waits : List Act) (outcome : Outcome) (j : List Entry) → AreListed old → k < length old.domain.aps → s ≡ slice_index_or old.aps k s → waited ≡ []
-    → ((first : ℕ) (h : List Act) → ApStands old.domain.akm first s h → Steps old.domain first (Ap s.number) event (ApStands old.domain.akm first t) h waited waits outcome)
+    → ((first : ℕ) (h : List Act) → ApStands old.domain first s h → Steps old.domain first (Ap s.number) event (ApStands old.domain first t) h waited waits outcome)
     → Stand old j → Acted (Ap k) event j old (with_ap_node old k t) waits
 acted_ap old k s t event waited waits outcome j listed low here empty steps is =
     let at = at_ap old k s listed low here in
@@ -34,7 +34,7 @@ acted_ap old k s t event waited waits outcome j listed low here empty steps is =
     }
 
 pub acted_sta : (old : Nodes) (k : ℕ) (s t : StationState) (event : NodeEvent) (waited waits : List Act) (outcome : Outcome) (j : List Entry) → AreListed old → k < length old.domain.stas → s ≡ slice_index_or old.stas k s → waited ≡ []
-    → ((first : ℕ) (h : List Act) → StationStands first s h → Steps old.domain first (Sta s.number) event (StationStands first t) h waited waits outcome)
+    → ((first : ℕ) (h : List Act) → StationStands old.domain first s h → Steps old.domain first (Sta s.number) event (StationStands old.domain first t) h waited waits outcome)
     → Stand old j → Acted (Sta k) event j old (with_station_node old k t) waits
 acted_sta old k s t event waited waits outcome j listed low here empty steps is =
     let at = at_sta old k s listed low here in

@@ -58,8 +58,8 @@ pub record AreListed (n : Nodes) : Type 0 where
 
 -- each stands for its part of the journal
 pub record Stand (n : Nodes) (j : List Entry) : Type 0 where
-  pub aps : (k : ℕ) (s : ApState) → slice_get n.aps k ≡ Some s → ApStands n.domain.akm 0 s (history (Ap k) j)
-  pub stas : (k : ℕ) (s : StationState) → slice_get n.stas k ≡ Some s → StationStands 0 s (history (Sta k) j)
+  pub aps : (k : ℕ) (s : ApState) → slice_get n.aps k ≡ Some s → ApStands n.domain 0 s (history (Ap k) j)
+  pub stas : (k : ℕ) (s : StationState) → slice_get n.stas k ≡ Some s → StationStands n.domain 0 s (history (Sta k) j)
 
 abbrev pub nodes_of : State → Nodes
 nodes_of w = record { domain = w.domain; aps = w.aps; stas = w.stas }

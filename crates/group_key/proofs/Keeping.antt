@@ -11,7 +11,7 @@ use Rattle.run_journal.specs.Questions.{given as all_given}
 use Rattle.domain_rules.specs.GroupKeys.{memory, find_key, give_by, give}
 use Rattle.domain_rules.proofs.Parts.{same-refl}
 use Rattle.group_key.specs.Keys.{Kept, has_key, kept_id, raised, given, taken}
-use Rattle.group_key.specs.Holds.{Remembers, key_of, under}
+use Rattle.group_key.specs.Holds.{key_of, under}
 
 -- ---- which key is found
 
@@ -27,8 +27,8 @@ found_kept : (key : List ℕ) (ks : List Kept) → find_key key (map key_of ks) 
 found_kept key [] = refl
 found_kept key (k ∷ ks) = found_by key k ks (bytes_eq key k.key) refl (found_kept key ks)
 
-pub found : (p : Node) (key : List ℕ) (ks : List Kept) (h : List Act) → Remembers p ks h → find_key key (memory p h) ≡ found_as key (kept_id key ks)
-found p key ks h is = ap (find_key key) (sym is) ∙ found_kept key ks
+pub found_in : (p : Node) (key : List ℕ) (ks : List Kept) (h : List Act) → map key_of ks ≡ memory p h → find_key key (memory p h) ≡ found_as key (kept_id key ks)
+found_in p key ks h is = ap (find_key key) (sym is) ∙ found_kept key ks
 
 -- ---- what was given
 
@@ -46,7 +46,7 @@ has_by : (b : Bool) (id : ℕ) (more : Bool) (o : Option ℕ) → more ≡ is_so
 has_by true id more o is = refl
 has_by false id more o is = is
 
-has_some : (key : List ℕ) (ks : List Kept) → has_key key ks ≡ is_some (kept_id key ks)
+pub has_some : (key : List ℕ) (ks : List Kept) → has_key key ks ≡ is_some (kept_id key ks)
 has_some key [] = refl
 has_some key (k ∷ ks) = has_by (bytes_eq key k.key) k.id (has_key key ks) (kept_id key ks) (has_some key ks)
 
@@ -55,16 +55,13 @@ changed : (b : Bool) (k l : Kept) (ks ls : List Kept) → key_of k ≡ key_of l 
 changed true k l ks ls same more = ap (λ (x : GroupKey). x ∷ map key_of ks) (sym same)
 changed false k l ks ls same more = ap (λ (x : List GroupKey). key_of k ∷ x) more
 
-keys_raised : (key : List ℕ) (rsc : ℕ) (ks : List Kept) → map key_of (raised key rsc ks) ≡ map key_of ks
+pub keys_raised : (key : List ℕ) (rsc : ℕ) (ks : List Kept) → map key_of (raised key rsc ks) ≡ map key_of ks
 keys_raised key rsc [] = refl
 keys_raised key rsc (k ∷ ks) = changed (bytes_eq key k.key) k _ ks (raised key rsc ks) refl (keys_raised key rsc ks)
 
-keys_taken : (id number : ℕ) (ks : List Kept) → map key_of (taken id number ks) ≡ map key_of ks
+pub keys_taken : (id number : ℕ) (ks : List Kept) → map key_of (taken id number ks) ≡ map key_of ks
 keys_taken id number [] = refl
 keys_taken id number (k ∷ ks) = changed (k.id == id) k _ ks (taken id number ks) refl (keys_taken id number ks)
-
-pub takes : (p : Node) (id number : ℕ) (ks : List Kept) (h : List Act) → Remembers p ks h → Remembers p (taken id number ks) h
-takes p id number ks h is = keys_taken id number ks ∙ is
 
 pushed : (x : Kept) (ks : List Kept) (gs : List GroupKey) → map key_of ks ≡ take 2 gs → map key_of (take 2 (x ∷ ks)) ≡ take 2 (key_of x ∷ gs)
 pushed x [] [] is = refl
@@ -77,10 +74,10 @@ kept_by : (key : List ℕ) (id rsc : ℕ) (ks : List Kept) (gs : List GroupKey) 
 kept_by key id rsc ks gs None is = pushed (record { key = key; id = id; counter = rsc }) ks gs is
 kept_by key id rsc ks gs (Some was) is = keys_raised key rsc ks ∙ is
 
-pub gives : (p : Node) (b : Mac) (g : GroupKey) (rsc : ℕ) (ks : List Kept) (h : List Act) → Remembers p ks h
-    → Remembers p (given g.key g.id rsc ks) (give p b g h ∷ h)
-gives p b g rsc ks h is =
+pub keys_given : (p : Node) (b : Mac) (g : GroupKey) (rsc : ℕ) (ks : List Kept) (h : List Act) → map key_of ks ≡ memory p h
+    → map key_of (given g.key g.id rsc ks) ≡ memory p (give p b g h ∷ h)
+keys_given p b g rsc ks h is =
     ap (λ (x : Bool). map key_of (cond x (raised g.key rsc ks) (take 2 (record { key = g.key; id = g.id; counter = rsc } ∷ ks)))) (has_some g.key ks)
     ∙ kept_by g.key g.id rsc ks (all_given p h) (kept_id g.key ks) is
-    ∙ ap (λ (o : Option GroupKey). take 2 (gave g o (all_given p h))) (sym (found p g.key ks h is))
+    ∙ ap (λ (o : Option GroupKey). take 2 (gave g o (all_given p h))) (sym (found_in p g.key ks h is))
     ∙ ap (take 2) (sym (give_there p b g (find_key g.key (memory p h)) (all_given p h)))

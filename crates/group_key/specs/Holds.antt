@@ -1,12 +1,13 @@
 -- Which histories group keys stand for.
-use Rattle.std.specs.Prelude.{◌≡◌, ℕ, List, ◌∷◌, length, map}
+use Rattle.std.specs.Prelude.{◌≡◌, ℕ, false, List, [], ◌∷◌, length, map}
+use Rattle.std.specs.List.{AllByRecursion}
 use Rattle.domain_base.specs.declared.names.Node.{Node}
 use Rattle.run_journal.specs.declared.acts.Act.{Act}
 use Rattle.run_journal.specs.Acts.{GroupKey as Carried}
 use Rattle.group_key.specs.declared.keys.GroupKey.{GroupKey}
 use Rattle.run_journal.specs.Questions.{gtks, switches}
-use Rattle.domain_rules.specs.GroupKeys.{memory}
-use Rattle.group_key.specs.Keys.{Pair, Kept, placed}
+use Rattle.domain_rules.specs.GroupKeys.{memory, got}
+use Rattle.group_key.specs.Keys.{Pair, Kept, has_key, placed}
 
 -- of the group keys drawn, the last first, this is the last
 pub record IsLast (k : GroupKey) (keys : List (List ℕ)) : Type 0 where
@@ -31,6 +32,14 @@ under key id = record { key = key; id = id }
 abbrev pub key_of : Kept → Carried
 key_of k = record { key = k.key; id = k.id }
 
--- at a station: the last two group keys installed from access point p, each with the key id that it was installed with
-abbrev pub Remembers : Node → List Kept → List Act → Type 0
-Remembers p ks h = map key_of ks ≡ memory p h
+-- no two of the keys have the same octets
+abbrev pub AreApart : List Kept → Type 0
+AreApart [] = Unit {0}
+AreApart (k ∷ ks) = (has_key k.key ks ≡ false) × AreApart ks
+
+-- at a station: the last two group keys installed from access point p, each with the key id that it was installed with and the
+-- receive counter that the history puts it to
+pub record Remembers (p : Node) (ks : List Kept) (h : List Act) : Type 0 where
+  pub keys : map key_of ks ≡ memory p h
+  pub counters : AllByRecursion (λ (k : Kept). k.counter ≡ got p k.key k.id h) ks
+  pub apart : AreApart ks

@@ -1,18 +1,18 @@
 //! What the calls do stands for what a history gains. The functions do nothing; their contracts are proved.
 
-ghost use Rattle.std.specs.Prelude.{◌≡◌, ℕ, suc, List, [], ◌∷◌, take, option_map};
+ghost use Rattle.std.specs.Prelude.{◌≡◌, ℕ, ◌<◌, suc, List, [], ◌∷◌, map, Option, None, Some, option_map};
 ghost use Rattle.domain_base.specs.declared.names.Mac.{Mac};
 ghost use Rattle.domain_base.specs.declared.names.Node.{Node};
 ghost use Rattle.domain_base.specs.declared.names.Peer.TheVariants.{All};
 ghost use Rattle.run_journal.specs.declared.acts.Drawn.TheVariants.{Gtk};
 ghost use Rattle.run_journal.specs.declared.acts.Key.TheVariants.{Group};
 ghost use Rattle.run_journal.specs.declared.acts.Act.{Act};
-ghost use Rattle.run_journal.specs.declared.acts.Act.TheVariants.{Drew, Installed};
+ghost use Rattle.run_journal.specs.declared.acts.Act.TheVariants.{Drew, Installed, HandedUp};
 ghost use Rattle.run_journal.specs.Questions.{gtks, switches};
-ghost use Rattle.run_journal.specs.Acts.{GroupKey as Carried};
-ghost use Rattle.domain_rules.specs.GroupKeys.{newest, memory, find_key, give};
-ghost use Rattle.group_key.specs.Keys.{Pair, Kept, placed, kept_id, given, taken};
-ghost use Rattle.group_key.specs.Holds.{Holds, Remembers, carried, under};
+ghost use Rattle.run_journal.specs.Acts.{GroupKey as Carried, given_from};
+ghost use Rattle.domain_rules.specs.GroupKeys.{newest, memory, find_key, give, told, got};
+ghost use Rattle.group_key.specs.Keys.{Pair, Kept, placed, kept_id, given, found, taken};
+ghost use Rattle.group_key.specs.Holds.{Holds, Remembers, carried, key_of, under};
 
 /// The keys of an access point stand for its history: after the first key was drawn and made current (`GroupKeys::new`),
 /// after one more was drawn (`rekey`), and after the one drawn last was made current (`switch`). The key drawn last is then
@@ -26,13 +26,26 @@ pub fn keys_stand()
     ensures newest { (s : Pair) (h : List Act) → Holds s h → newest h ≡ carried s.newest }
 {}
 
-/// The memory of a station stands for its history: at first, after a group key was given (`give`), and whatever packet
-/// number was taken (`take`). A key is found in it as the definitions find it (`id_of`).
+/// The memory of a station stands for its history: at first, after a group key was given (`give`) with what was told of it as
+/// its RSC, after the payload of a packet number above the counter of the key found (`find`) was handed up and that number was
+/// taken (`take`), and after any act that installs no group key of that access point and changes no receive counter.
+///
+/// A key is found in it as the definitions find it (`id_of`), and the counter that `find` gives is that of the history. Which
+/// keys it holds depends on what was given alone, whatever numbers come with it.
 pub fn memory_stands()
     ensures started { (p : Node) → Remembers p [] [] }
-    ensures given { (p : Node) (b : Mac) (g : Carried) (rsc : ℕ) (ks : List Kept) (h : List Act) → Remembers p ks h
+    ensures given { (p : Node) (b : Mac) (g : Carried) (rsc : ℕ) (ks : List Kept) (h : List Act) → Remembers p ks h → told p h ≡ rsc
         → Remembers p (given g.key g.id rsc ks) (give p b g h ∷ h) }
-    ensures taken { (p : Node) (id number : ℕ) (ks : List Kept) (h : List Act) → Remembers p ks h → Remembers p (taken id number ks) h }
-    ensures found { (p : Node) (key : List ℕ) (ks : List Kept) (h : List Act) → Remembers p ks h
+    ensures taken { (p : Node) (id tid number : ℕ) (octets : List ℕ) (k : Kept) (ks : List Kept) (h : List Act)
+        → Remembers p ks h → found id ks ≡ Some k → k.counter < number
+        → Remembers p (taken id number ks) (HandedUp p k.key id tid number octets ∷ h) }
+    ensures other { (p : Node) (e : Act) (ks : List Kept) (h : List Act) → Remembers p ks h → given_from p e ≡ None
+        → ((key : List ℕ) (id : ℕ) → got p key id (e ∷ h) ≡ got p key id h) → Remembers p ks (e ∷ h) }
+    ensures found { (p : Node) (key : List ℕ) (ks : List Kept) (h : List Act) → map key_of ks ≡ memory p h
         → find_key key (memory p h) ≡ option_map (under key) (kept_id key ks) }
+    ensures counted { (p : Node) (id : ℕ) (k : Kept) (ks : List Kept) (h : List Act) → Remembers p ks h → found id ks ≡ Some k
+        → (k.id ≡ id) × (k.counter ≡ got p k.key id h) }
+    ensures keys_given { (p : Node) (b : Mac) (g : Carried) (rsc : ℕ) (ks : List Kept) (h : List Act) → map key_of ks ≡ memory p h
+        → map key_of (given g.key g.id rsc ks) ≡ memory p (give p b g h ∷ h) }
+    ensures keys_taken { (id number : ℕ) (ks : List Kept) → map key_of (taken id number ks) ≡ map key_of ks }
 {}

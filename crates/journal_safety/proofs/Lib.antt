@@ -11,7 +11,7 @@ pub mod Retries
 pub mod Runs
 pub mod Places
 pub mod Seals
-pub mod Joins
+pub mod Joining
 pub mod Pairwise
 pub mod GroupKeys
 pub mod Once

@@ -18,7 +18,7 @@ use Rattle.key_hierarchy.specs.Keys.{choose, lesser, greater}
 use Rattle.run_journal.specs.declared.domain.Domain.{Domain}
 use Rattle.run_journal.specs.declared.domain.ListedAp.{ListedAp}
 use Rattle.run_journal.specs.Premises.{Name, name_by, name}
-use Rattle.domain_rules.specs.Network.{address, peer_of, AreStas, InForm, IsListed}
+use Rattle.domain_rules.specs.Network.{address, peer_of, AreStas, IsNamed, IsListed}
 use Rattle.domain_rules.proofs.Peers.{ap_address, sta_address, finds-sta, finds-ap}
 
 -- ---- addresses
@@ -39,23 +39,23 @@ kinds_differ aps [] are k i low few = absurd (omega arith)
 kinds_differ aps (m ∷ stas) are k zero low few = λ same. all_at (λ (a : ListedAp). a.address ≢ m) aps k no_ap are.1.no_ap low (ap (λ (x : List ℕ). record { 0 = x }) same)
 kinds_differ aps (m ∷ stas) are k (suc i) low few = kinds_differ aps stas are.2 k i low (omega arith)
 
-apart_kinds : (d : Domain) (k i : ℕ) → InForm d → k < length d.aps → i < length d.stas → address d (Ap k) ≡ address d (Sta i) → ⊥
-apart_kinds d k i form low few same = kinds_differ d.aps d.stas form.stas k i low few (sym (ap_address d k low no_ap) ∙ same ∙ sta_address d i few no_mac)
+apart_kinds : (d : Domain) (k i : ℕ) → IsNamed d → k < length d.aps → i < length d.stas → address d (Ap k) ≡ address d (Sta i) → ⊥
+apart_kinds d k i names low few same = kinds_differ d.aps d.stas names.stas k i low few (sym (ap_address d k low no_ap) ∙ same ∙ sta_address d i few no_mac)
 
--- of listed nodes in a network in form
-pub one_address : (d : Domain) (n m : Node) → InForm d → IsListed d n → IsListed d m → address d n ≡ address d m → n ≡ m
-one_address d (Ap k) (Ap i) form l r same =
-    let a = finds-ap d 0 k form l in
-    let b = finds-ap d 0 i form r in
+-- listed nodes that are named
+pub one_address : (d : Domain) (n m : Node) → IsNamed d → IsListed d n → IsListed d m → address d n ≡ address d m → n ≡ m
+one_address d (Ap k) (Ap i) names l r same =
+    let a = finds-ap d 0 k names l in
+    let b = finds-ap d 0 i names r in
     let c : peer_of d (Sta 0) (address d (Ap i)) ≡ Some (Ap k) = subst (λ (x : List ℕ). peer_of d (Sta 0) x ≡ Some (Ap k)) same a in
     cc (b, c)
-one_address d (Sta k) (Sta i) form l r same =
-    let a = finds-sta d 0 k form l in
-    let b = finds-sta d 0 i form r in
+one_address d (Sta k) (Sta i) names l r same =
+    let a = finds-sta d 0 k names l in
+    let b = finds-sta d 0 i names r in
     let c : peer_of d (Ap 0) (address d (Sta i)) ≡ Some (Sta k) = subst (λ (x : List ℕ). peer_of d (Ap 0) x ≡ Some (Sta k)) same a in
     cc (b, c)
-one_address d (Ap k) (Sta i) form l r same = absurd (apart_kinds d k i form l r same)
-one_address d (Sta i) (Ap k) form l r same = absurd (apart_kinds d k i form r l (sym same))
+one_address d (Ap k) (Sta i) names l r same = absurd (apart_kinds d k i names l r same)
+one_address d (Sta i) (Ap k) names l r same = absurd (apart_kinds d k i names r l (sym same))
 
 -- ---- a node with an address is listed
 

@@ -115,13 +115,13 @@ verified_wider n p i a b t v = record {
 pub one_kck : (d : Domain) (n p q : Node) (i k : Inputs) (past : List Entry) → Good d past → DerivedAt d n p i past → Verified n (history n past) q k → (ptk i).kck ≡ (ptk k).kck → SameInputs p q i k
 one_kck d n p q i k past g ours v e =
     let theirs = derived_at d n q k past g.legal v.derived in
-    same_inputs d n p q n i k past g.form g.fresh ours theirs (peer_facts d n q k v.covered past (verified_by d n q k past g v))
+    same_inputs d n p q n i k past g.names g.fresh ours theirs (peer_facts d n q k v.covered past (verified_by d n q k past g v))
     (named d i k ours.common theirs.common (g.apart.by_kck i k (ptk i) (ptk k) (has_derived d n p i past ours) (has_derived d n q k past theirs) e))
 
 pub one_tk : (d : Domain) (n p q : Node) (i k : Inputs) (past : List Entry) → Good d past → DerivedAt d n p i past → Verified n (history n past) q k → (ptk i).tk ≡ (ptk k).tk → SameInputs p q i k
 one_tk d n p q i k past g ours v e =
     let theirs = derived_at d n q k past g.legal v.derived in
-    same_inputs d n p q n i k past g.form g.fresh ours theirs (peer_facts d n q k v.covered past (verified_by d n q k past g v))
+    same_inputs d n p q n i k past g.names g.fresh ours theirs (peer_facts d n q k v.covered past (verified_by d n q k past g v))
     (named d i k ours.common theirs.common (g.apart.by_tk i k (ptk i) (ptk k) (has_derived d n p i past ours) (has_derived d n q k past theirs) e))
 
 -- a pairwise key that may be installed was not installed

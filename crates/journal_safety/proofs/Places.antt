@@ -12,16 +12,16 @@ use Rattle.run_journal.specs.declared.acts.Entry.{Entry}
 use Rattle.run_journal.specs.Acts.{same}
 use Rattle.run_journal.specs.Questions.{history}
 use Rattle.run_journal.specs.Premises.{In, drawn, Fresh, HasDerived, NoCollision, Unforged}
-use Rattle.domain_rules.specs.Network.{mac, is_ap, InForm, IsListed}
+use Rattle.domain_rules.specs.Network.{mac, is_ap, IsNamed, IsListed}
 use Rattle.domain_rules.proofs.Parts.{same-true, same-refl}
 use Rattle.journal_safety.proofs.Ends.{Tail, tail_rest, tail_trans, tail_in, tail_head}
 use Rattle.journal_safety.proofs.Legal.{nonce_of, own_address, peer_address, derives, AreCommon, LegalDerived, Legal}
 use Rattle.journal_safety.proofs.Histories.{alive_drew}
 use Rattle.journal_safety.proofs.Runs.{LegalJournal}
 
--- a journal of legal acts that meets the premises, in a network in form
+-- a journal of legal acts that meets the premises, of named nodes
 pub record Good (d : Domain) (past : List Entry) : Type 0 where
-  pub form : InForm d
+  pub names : IsNamed d
   pub legal : LegalJournal d past
   pub fresh : Fresh past
   pub apart : NoCollision past
@@ -47,7 +47,7 @@ has_wider a b i k t (e, (there, is)) = (e, (tail_in a b e t there, is))
 
 pub good_tail : (d : Domain) (a b : List Entry) → Tail a b → Good d b → Good d a
 good_tail d a b t g = record {
-  form = g.form;
+  names = g.names;
   legal = legal_tail d a b t g.legal;
   fresh = fresh_tail a b t g.fresh;
   apart = record {

@@ -15,7 +15,7 @@ use Rattle.run_journal.specs.declared.acts.Act.TheVariants.{Sent, Took}
 use Rattle.run_journal.specs.declared.acts.Entry.{Entry}
 use Rattle.run_journal.specs.Questions.{history}
 use Rattle.run_journal.specs.Premises.{In, IsBefore, Fresh, name, seal_taken, seal_sent, SentBefore}
-use Rattle.domain_rules.specs.Network.{is_ap, InForm}
+use Rattle.domain_rules.specs.Network.{is_ap, IsNamed}
 use Rattle.journal_safety.proofs.Covers.{covered_message}
 use Rattle.journal_safety.proofs.Ends.{Tail, tail_rest, tail_trans, place}
 use Rattle.journal_safety.proofs.Names.{one_address, Crossed, IsSameName, same_name}
@@ -51,35 +51,35 @@ pub record Match (n p m q : Node) (i k : Inputs) : Type 0 where
   pub back : q ≡ n
   pub inputs : i ≡ k
 
-match_ap : (d : Domain) (x y : ℕ) (p q : Node) (i k : Inputs) (past : List Entry) → InForm d → Fresh past → DerivedAt d (Ap x) p i past → DerivedAt d (Sta y) q k past → IsSameName i k → Match (Ap x) p (Sta y) q i k
-match_ap d x y p q i k past form f a b s = go s.addresses s.nonces
+match_ap : (d : Domain) (x y : ℕ) (p q : Node) (i k : Inputs) (past : List Entry) → IsNamed d → Fresh past → DerivedAt d (Ap x) p i past → DerivedAt d (Sta y) q k past → IsSameName i k → Match (Ap x) p (Sta y) q i k
+match_ap d x y p q i k past names f a b s = go s.addresses s.nonces
   where
     go : Crossed i.aa.0 i.spa.0 k.aa.0 k.spa.0 → Crossed i.anonce i.snonce k.anonce k.snonce → Match (Ap x) p (Sta y) q i k
-    go (inr crossed) ns = let e : Ap x ≡ Sta y = one_address d (Ap x) (Sta y) form a.listed b.listed (sym (octets_of _ _ a.address) ∙ crossed.0 ∙ octets_of _ _ b.address) in cc e
+    go (inr crossed) ns = let e : Ap x ≡ Sta y = one_address d (Ap x) (Sta y) names a.listed b.listed (sym (octets_of _ _ a.address) ∙ crossed.0 ∙ octets_of _ _ b.address) in cc e
     go (inl addresses) (inr crossed) = absurd (apart_draws (Ap x) (Sta y) i.anonce k.snonce past f refl a.draw b.draw crossed.0)
     go (inl addresses) (inl nonces) = record {
-      peer = one_address d p (Sta y) form a.peer_listed b.listed (sym (octets_of _ _ a.peer) ∙ addresses.1 ∙ octets_of _ _ b.address);
-      back = one_address d q (Ap x) form b.peer_listed a.listed (sym (octets_of _ _ b.peer) ∙ sym addresses.0 ∙ octets_of _ _ a.address);
+      peer = one_address d p (Sta y) names a.peer_listed b.listed (sym (octets_of _ _ a.peer) ∙ addresses.1 ∙ octets_of _ _ b.address);
+      back = one_address d q (Ap x) names b.peer_listed a.listed (sym (octets_of _ _ b.peer) ∙ sym addresses.0 ∙ octets_of _ _ a.address);
       inputs = common_path d i k a.common b.common addresses.0 addresses.1 nonces.0 nonces.1;
     }
 
-match_sta : (d : Domain) (x y : ℕ) (p q : Node) (i k : Inputs) (past : List Entry) → InForm d → Fresh past → DerivedAt d (Sta x) p i past → DerivedAt d (Ap y) q k past → IsSameName i k → Match (Sta x) p (Ap y) q i k
-match_sta d x y p q i k past form f a b s = go s.addresses s.nonces
+match_sta : (d : Domain) (x y : ℕ) (p q : Node) (i k : Inputs) (past : List Entry) → IsNamed d → Fresh past → DerivedAt d (Sta x) p i past → DerivedAt d (Ap y) q k past → IsSameName i k → Match (Sta x) p (Ap y) q i k
+match_sta d x y p q i k past names f a b s = go s.addresses s.nonces
   where
     go : Crossed i.aa.0 i.spa.0 k.aa.0 k.spa.0 → Crossed i.anonce i.snonce k.anonce k.snonce → Match (Sta x) p (Ap y) q i k
-    go (inr crossed) ns = let e : Sta x ≡ Ap y = one_address d (Sta x) (Ap y) form a.listed b.listed (sym (octets_of _ _ a.address) ∙ crossed.1 ∙ octets_of _ _ b.address) in cc e
+    go (inr crossed) ns = let e : Sta x ≡ Ap y = one_address d (Sta x) (Ap y) names a.listed b.listed (sym (octets_of _ _ a.address) ∙ crossed.1 ∙ octets_of _ _ b.address) in cc e
     go (inl addresses) (inr crossed) = absurd (apart_draws (Sta x) (Ap y) i.snonce k.anonce past f refl a.draw b.draw crossed.1)
     go (inl addresses) (inl nonces) = record {
-      peer = one_address d p (Ap y) form a.peer_listed b.listed (sym (octets_of _ _ a.peer) ∙ addresses.0 ∙ octets_of _ _ b.address);
-      back = one_address d q (Sta x) form b.peer_listed a.listed (sym (octets_of _ _ b.peer) ∙ sym addresses.1 ∙ octets_of _ _ a.address);
+      peer = one_address d p (Ap y) names a.peer_listed b.listed (sym (octets_of _ _ a.peer) ∙ addresses.0 ∙ octets_of _ _ b.address);
+      back = one_address d q (Sta x) names b.peer_listed a.listed (sym (octets_of _ _ b.peer) ∙ sym addresses.1 ∙ octets_of _ _ a.address);
       inputs = common_path d i k a.common b.common addresses.0 addresses.1 nonces.0 nonces.1;
     }
 
-match_names : (d : Domain) (n m p q : Node) (i k : Inputs) (past : List Entry) → InForm d → Fresh past → is_ap m ≡ not (is_ap n) → DerivedAt d n p i past → DerivedAt d m q k past → IsSameName i k → Match n p m q i k
-match_names d (Ap x) (Sta y) p q i k past form f roles a b s = match_ap d x y p q i k past form f a b s
-match_names d (Sta x) (Ap y) p q i k past form f roles a b s = match_sta d x y p q i k past form f a b s
-match_names d (Ap x) (Ap y) p q i k past form f roles a b s = cc
-match_names d (Sta x) (Sta y) p q i k past form f roles a b s = cc
+match_names : (d : Domain) (n m p q : Node) (i k : Inputs) (past : List Entry) → IsNamed d → Fresh past → is_ap m ≡ not (is_ap n) → DerivedAt d n p i past → DerivedAt d m q k past → IsSameName i k → Match n p m q i k
+match_names d (Ap x) (Sta y) p q i k past names f roles a b s = match_ap d x y p q i k past names f a b s
+match_names d (Sta x) (Ap y) p q i k past names f roles a b s = match_sta d x y p q i k past names f a b s
+match_names d (Ap x) (Ap y) p q i k past names f roles a b s = cc
+match_names d (Sta x) (Sta y) p q i k past names f roles a b s = cc
 
 -- ---- at one node, with both sides of the second derivation known: one peer and the same inputs
 
@@ -87,8 +87,8 @@ pub record SameInputs (p q : Node) (i k : Inputs) : Type 0 where
   pub peer : p ≡ q
   pub inputs : i ≡ k
 
-same_ap : (d : Domain) (x : ℕ) (p q r : Node) (i k : Inputs) (past : List Entry) → InForm d → Fresh past → DerivedAt d (Ap x) p i past → DerivedAt d (Ap x) q k past → DerivedAt d q r k past → IsSameName i k → SameInputs p q i k
-same_ap d x p q r i k past form f a b c s = go s.addresses s.nonces
+same_ap : (d : Domain) (x : ℕ) (p q r : Node) (i k : Inputs) (past : List Entry) → IsNamed d → Fresh past → DerivedAt d (Ap x) p i past → DerivedAt d (Ap x) q k past → DerivedAt d q r k past → IsSameName i k → SameInputs p q i k
+same_ap d x p q r i k past names f a b c s = go s.addresses s.nonces
   where
     theirs : (q : Node) → is_ap q ≡ false → DerivedAt d q r k past → Draws q k.snonce past
     theirs (Ap y) is w = cc
@@ -96,16 +96,16 @@ same_ap d x p q r i k past form f a b c s = go s.addresses s.nonces
 
     go : Crossed i.aa.0 i.spa.0 k.aa.0 k.spa.0 → Crossed i.anonce i.snonce k.anonce k.snonce → SameInputs p q i k
     go (inr crossed) ns =
-        let e : Ap x ≡ q = one_address d (Ap x) q form a.listed b.peer_listed (sym (octets_of _ _ a.address) ∙ crossed.0 ∙ octets_of _ _ b.peer) in
+        let e : Ap x ≡ q = one_address d (Ap x) q names a.listed b.peer_listed (sym (octets_of _ _ a.address) ∙ crossed.0 ∙ octets_of _ _ b.peer) in
         absurd (not_itself (is_ap q) (b.roles ∙ ap (λ (z : Node). not (is_ap z)) e))
     go (inl addresses) (inr crossed) = absurd (apart_draws (Ap x) q i.anonce k.snonce past f b.roles a.draw (theirs q b.roles c) crossed.0)
     go (inl addresses) (inl nonces) = record {
-      peer = one_address d p q form a.peer_listed b.peer_listed (sym (octets_of _ _ a.peer) ∙ addresses.1 ∙ octets_of _ _ b.peer);
+      peer = one_address d p q names a.peer_listed b.peer_listed (sym (octets_of _ _ a.peer) ∙ addresses.1 ∙ octets_of _ _ b.peer);
       inputs = common_path d i k a.common b.common addresses.0 addresses.1 nonces.0 nonces.1;
     }
 
-same_sta : (d : Domain) (x : ℕ) (p q r : Node) (i k : Inputs) (past : List Entry) → InForm d → Fresh past → DerivedAt d (Sta x) p i past → DerivedAt d (Sta x) q k past → DerivedAt d q r k past → IsSameName i k → SameInputs p q i k
-same_sta d x p q r i k past form f a b c s = go s.addresses s.nonces
+same_sta : (d : Domain) (x : ℕ) (p q r : Node) (i k : Inputs) (past : List Entry) → IsNamed d → Fresh past → DerivedAt d (Sta x) p i past → DerivedAt d (Sta x) q k past → DerivedAt d q r k past → IsSameName i k → SameInputs p q i k
+same_sta d x p q r i k past names f a b c s = go s.addresses s.nonces
   where
     theirs : (q : Node) → is_ap q ≡ true → DerivedAt d q r k past → Draws q k.anonce past
     theirs (Ap y) is w = w.draw
@@ -113,17 +113,17 @@ same_sta d x p q r i k past form f a b c s = go s.addresses s.nonces
 
     go : Crossed i.aa.0 i.spa.0 k.aa.0 k.spa.0 → Crossed i.anonce i.snonce k.anonce k.snonce → SameInputs p q i k
     go (inr crossed) ns =
-        let e : Sta x ≡ q = one_address d (Sta x) q form a.listed b.peer_listed (sym (octets_of _ _ a.address) ∙ crossed.1 ∙ octets_of _ _ b.peer) in
+        let e : Sta x ≡ q = one_address d (Sta x) q names a.listed b.peer_listed (sym (octets_of _ _ a.address) ∙ crossed.1 ∙ octets_of _ _ b.peer) in
         absurd (not_itself (is_ap q) (b.roles ∙ ap (λ (z : Node). not (is_ap z)) e))
     go (inl addresses) (inr crossed) = absurd (apart_draws (Sta x) q i.snonce k.anonce past f b.roles a.draw (theirs q b.roles c) crossed.1)
     go (inl addresses) (inl nonces) = record {
-      peer = one_address d p q form a.peer_listed b.peer_listed (sym (octets_of _ _ a.peer) ∙ addresses.0 ∙ octets_of _ _ b.peer);
+      peer = one_address d p q names a.peer_listed b.peer_listed (sym (octets_of _ _ a.peer) ∙ addresses.0 ∙ octets_of _ _ b.peer);
       inputs = common_path d i k a.common b.common addresses.0 addresses.1 nonces.0 nonces.1;
     }
 
-pub same_inputs : (d : Domain) (n p q r : Node) (i k : Inputs) (past : List Entry) → InForm d → Fresh past → DerivedAt d n p i past → DerivedAt d n q k past → DerivedAt d q r k past → IsSameName i k → SameInputs p q i k
-same_inputs d (Ap x) p q r i k past form f a b c s = same_ap d x p q r i k past form f a b c s
-same_inputs d (Sta x) p q r i k past form f a b c s = same_sta d x p q r i k past form f a b c s
+pub same_inputs : (d : Domain) (n p q r : Node) (i k : Inputs) (past : List Entry) → IsNamed d → Fresh past → DerivedAt d n p i past → DerivedAt d n q k past → DerivedAt d q r k past → IsSameName i k → SameInputs p q i k
+same_inputs d (Ap x) p q r i k past names f a b c s = same_ap d x p q r i k past names f a b c s
+same_inputs d (Sta x) p q r i k past names f a b c s = same_sta d x p q r i k past names f a b c s
 
 -- ---- a Sent with its seal
 
@@ -224,7 +224,7 @@ sealed_by d n p i from octets kd o covered past g derived took direction =
         (g.apart.by_kck i ks.seal.i (ptk i) (ptk ks.seal.i) (has_derived d n p i past own) (has_derived d sent.entry.node ks.peer ks.seal.i past theirs_wide) (sym ks.seal.is))
 
     one : Match n p sent.entry.node ks.peer i ks.seal.i
-    one = match_names d n sent.entry.node p ks.peer i ks.seal.i past g.form g.fresh roles own theirs_wide same
+    one = match_names d n sent.entry.node p ks.peer i ks.seal.i past g.names g.fresh roles own theirs_wide same
 
 pub verified_by : (d : Domain) (n p : Node) (i : Inputs) (past : List Entry) → Good d past → (v : Verified n (history n past) p i) → SealedBy d n p i v.covered past
 verified_by d n p i past g v = sealed_by d n p i v.from v.octets v.kind v.outcome v.covered past g v.derived v.took v.direction

@@ -1,5 +1,12 @@
-//! The safety theorem: what the definitions of nodes and the premises of a run give. The functions do nothing; their
-//! contracts are proved.
+//! The safety theorem: what the definitions of nodes and the premises of a run give, one function for each part of it. The
+//! functions do nothing; their contracts are proved.
+//!
+//! The premises of each are the same. Listed nodes have addresses of one node each, which differ; the definitions explain the
+//! journal; the values drawn are fresh; derived keys do not collide; and whatever verified was sealed by a holder of its key.
+//! Each part holds for any number of stations and access points, and whatever frames come in whatever order.
+//!
+//! That addresses differ is needed: where two stations have one address, an access point that ends a handshake with the second
+//! of them takes it for the first.
 #![tactic(auto)]
 
 ghost use Rattle.std.specs.Prelude.{◌≡◌, List};
@@ -7,18 +14,32 @@ ghost use Rattle.run_journal.specs.declared.domain.Domain.{Domain};
 ghost use Rattle.run_journal.specs.declared.domain.Event.{Event};
 ghost use Rattle.run_journal.specs.declared.acts.Entry.{Entry};
 ghost use Rattle.run_journal.specs.Premises.{Fresh, NoCollision, Unforged};
-ghost use Rattle.run_journal.specs.Safe.{Safe};
-ghost use Rattle.domain_rules.specs.Network.{InForm};
+ghost use Rattle.run_journal.specs.Safe.{InstalledOnce, Joined, Once, Sourced, use_of, up_of};
+ghost use Rattle.domain_rules.specs.Network.{IsNamed};
 ghost use Rattle.domain_rules.specs.Explained.{Explained};
 
-/// In a network in form, where the values drawn are fresh, derived keys do not collide, and whatever verified was sealed by a
-/// holder of its key, a journal that the definitions explain is safe: no node installs a key twice, no node uses or hands up a
-/// packet number twice under a key, whoever accepts a final message has the inputs of a derivation of its peer, and what is
-/// handed up was sent. This holds for any number of stations and access points, and whatever frames come in whatever order.
-///
-/// That the network is in form is needed: where two stations have one address, an access point that ends a handshake with the
-/// second of them takes it for the first.
-pub fn safety()
+/// An accepted final message joins equal derivations: whoever accepts one has the inputs of a derivation that its peer made before.
+pub fn joins()
     ensures { (d : Domain) (rounds : List (List Event)) (j : List Entry)
-        → InForm d → Explained d rounds j → Fresh j → NoCollision j → Unforged j → Safe j }
+        → IsNamed d → Explained d rounds j → Fresh j → NoCollision j → Unforged j → Joined j }
+{}
+
+/// No node installs a key twice.
+pub fn installs_once()
+    ensures { (d : Domain) (rounds : List (List Event)) (j : List Entry)
+        → IsNamed d → Explained d rounds j → Fresh j → NoCollision j → Unforged j → InstalledOnce j }
+{}
+
+/// No node uses a packet number twice under a key.
+pub fn uses_once()
+    ensures { (d : Domain) (rounds : List (List Event)) (j : List Entry)
+        → IsNamed d → Explained d rounds j → Fresh j → NoCollision j → Unforged j → Once use_of j }
+{}
+
+/// What a node hands up its peer used before, with that key, packet number and octets, and it hands it up once.
+pub fn hands_up_once()
+    ensures sourced { (d : Domain) (rounds : List (List Event)) (j : List Entry)
+        → IsNamed d → Explained d rounds j → Fresh j → NoCollision j → Unforged j → Sourced j }
+    ensures once { (d : Domain) (rounds : List (List Event)) (j : List Entry)
+        → IsNamed d → Explained d rounds j → Fresh j → NoCollision j → Unforged j → Once up_of j }
 {}

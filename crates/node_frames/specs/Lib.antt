@@ -1,5 +1,10 @@
 pub mod Views
 pub mod Events
+pub mod Growing
 pub mod Judging
 pub mod Waiting
 pub mod Carried
+pub mod Links
+pub mod Linked
+pub mod Templates
+pub mod Rooms

@@ -1,6 +1,6 @@
 //! Acts that wait to be journaled.
 
-ghost use Rattle.std.specs.Prelude.{◌≡◌, ◌≤◌, ◌<◌, ◌+◌, ◌++◌, [], ◌∷◌, max, OnOk, OnErr, MatchOption};
+ghost use Rattle.std.specs.Prelude.{◌≡◌, ◌≤◌, ◌<◌, ◌+◌, ◌++◌, [], ◌∷◌, max, IsOk, OnOk, OnErr, MatchOption};
 
 use domain_base::NoMemory;
 use run_journal::Act;
@@ -45,6 +45,7 @@ impl Outbox {
         ensures acts { self.new.acts ≡ self.old.acts }
         ensures spare { OnOk result (self.new.spare ≡ max self.old.spare more) }
         ensures err { OnErr result (self.new ≡ self.old) }
+        ensures room { more ≤ self.old.spare → IsOk result }
     {
         if more <= self.spare {
             return Ok(());
@@ -69,7 +70,8 @@ impl Outbox {
     /// Takes the first act. The room for further ones stays.
     pub fn pop(&mut self) -> Option<Act>
         ensures acts { MatchOption result (self.old.acts ≡ []) (λ act. self.old.acts ≡ act ∷ self.new.acts) }
-        ensures none { self.old.acts ≡ [] → self.new ≡ self.old }
+        ensures none { self.old.acts ≡ [] → self.new.acts ≡ [] }
+        ensures spare { self.new.spare ≡ self.old.spare }
     {
         self.acts.pop_front()
     }

@@ -7,3 +7,4 @@ pub mod Alike
 pub mod Kept
 pub mod Chained
 pub mod Looking
+pub mod Replies

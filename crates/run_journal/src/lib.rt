@@ -12,6 +12,7 @@ mod mixing;
 mod naming;
 mod premises;
 mod reading;
+mod reply;
 
 pub use acts::{
     Act, Drawn, Entry, Key, KeyDataFault, Kind, Malformed, Outcome, Part, Reason, Seal, Start, Why,
@@ -20,6 +21,7 @@ pub use domain::{Aps, Domain, Event, ListedAp, Stas};
 pub use journal::Journal;
 pub use laws::lines_read_no_key;
 pub use premises::Premises;
+pub use reply::{GtkNews, Keyed, REPLY_LEN, Reply};
 
 #[cfg(test)]
 mod tests;

@@ -1,5 +1,5 @@
 -- A station begins an attempt, or has drawn as often as it may.
-use Rattle.std.proofs.Common.{◌≡◌, ℕ, ◌+◌, ◌<◌, ◌≤◌, false, List, [], ◌∷◌, ◌++◌, Option, Some, None, refl, ap, subst, ◌∙◌, append_assoc}
+use Rattle.std.proofs.Common.{◌≡◌, ℕ, ◌<◌, ◌≤◌, List, [], ◌∷◌, ◌++◌, length, Option, Some, None, refl, ap, subst, ◌∙◌, append_assoc}
 use Rattle.domain_base.specs.declared.names.Node.{Node}
 use Rattle.domain_base.specs.declared.names.Node.TheVariants.{Ap, Sta}
 use Rattle.run_journal.specs.declared.domain.Domain.{Domain}
@@ -19,16 +19,17 @@ use Rattle.node_frames.specs.Events.{Steps}
 use Rattle.station_node.specs.State.{State}
 use Rattle.station_node.specs.Stands.{Stands, peer_in, peer_of_session}
 use Rattle.station_node.proofs.Acts.{plain-idle}
-use Rattle.station_node.proofs.Standing.{stands-plain, stands-asked}
+use Rattle.station_node.proofs.Standing.{stands-plain}
+use Rattle.station_node.proofs.Beginning.{asked_state, stands-asked}
 
-pub steps-spent : (d : Domain) (first sta : ℕ) (s : State) (h : List Act) (p : ℕ) (waited : List Act) → Stands first s h → last_draw ≤ s.drawn
-    → Steps d first (Sta sta) (Begin p) (Stands first s) h waited (waited ++ Idle why.Spent ∷ []) (IdleBy why.Spent)
+pub steps-spent : (d : Domain) (first sta : ℕ) (s : State) (h : List Act) (p : ℕ) (waited : List Act) → Stands d first s h → last_draw ≤ s.drawn
+    → Steps d first (Sta sta) (Begin p) (Stands d first s) h waited (waited ++ Idle why.Spent ∷ []) (IdleBy why.Spent)
 steps-spent d first sta s h p waited st spent = record {
   acts = Idle why.Spent ∷ [];
   adds = Spent (subst (λ (m : ℕ). last_draw ≤ m) st.draws_are spent) refl;
   waiting = refl;
   came = refl;
-  stands = stands-plain first s h (Idle why.Spent) (plain-idle why.Spent) (λ q. refl) st;
+  stands = stands-plain d first s h (Idle why.Spent) (plain-idle why.Spent) st;
 }
 
 asking-waits : (d : Domain) (sta : ℕ) (was had : Option Node) (p : ℕ) (v : List ℕ) (waited : List Act)
@@ -44,16 +45,13 @@ asking-done d sta (Some q) None p v = refl
 asking-done d sta None (Some r) p v = refl
 asking-done d sta (Some q) (Some r) p v = refl
 
-abbrev pub asked_state : State → ℕ → List ℕ → State
-asked_state s p v = record { number = s.number; drawn = s.drawn + 1; attempt = Some (record { ap = p; snonce = v; is_associated = false; key = None }); session = None; memories = s.memories }
-
-pub steps-asked : (d : Domain) (first sta : ℕ) (s : State) (h : List Act) (p : ℕ) (v : List ℕ) (waited : List Act) → Stands first s h → s.drawn < last_draw → v ≡ nonce d (Sta sta) s.drawn
-    → Steps d first (Sta sta) (Begin p) (Stands first (asked_state s p v)) h waited
-    (((((waited ++ close_pending (peer_in s.attempt)) ++ close_associated (peer_of_session s.session)) ++ (Opened (Ap p) Connect ∷ [])) ++ (Drew (Nonce v) ∷ [])) ++ sent_assoc_req d (Sta sta) (Ap p) ∷ []) Done
-steps-asked d first sta s h p v waited st low v_is = record {
+pub steps-asked : (d : Domain) (first sta : ℕ) (s : State) (h : List Act) (p : ℕ) (v : List ℕ) (waited : List Act) → Stands d first s h → p < length d.aps → s.drawn < last_draw → v ≡ nonce d (Sta sta) s.drawn
+    → Steps d first (Sta sta) (Begin p) (Stands d first (asked_state s p v)) h waited
+    (((((waited ++ close_pending (peer_in s.association)) ++ close_associated (peer_of_session s.association)) ++ (Opened (Ap p) Connect ∷ [])) ++ (Drew (Nonce v) ∷ [])) ++ sent_assoc_req d (Sta sta) (Ap p) ∷ []) Done
+steps-asked d first sta s h p v waited st listed low v_is = record {
   acts = asking_acts d (Sta sta) (pending h) (associated h) p v;
   adds = Asks (subst (λ (m : ℕ). m < last_draw) st.draws_are low) (ap (asking_acts d (Sta sta) (pending h) (associated h) p) (v_is ∙ ap (nonce d (Sta sta)) st.draws_are));
-  waiting = rw (st.pending_is, st.associated_is) (asking-waits d sta (peer_in s.attempt) (peer_of_session s.session) p v waited);
-  came = rw (st.pending_is, st.associated_is) (asking-done d sta (peer_in s.attempt) (peer_of_session s.session) p v);
-  stands = stands-asked d first s h (Sta sta) p v st;
+  waiting = rw (st.pending_is, st.associated_is) (asking-waits d sta (peer_in s.association) (peer_of_session s.association) p v waited);
+  came = rw (st.pending_is, st.associated_is) (asking-done d sta (peer_in s.association) (peer_of_session s.association) p v);
+  stands = stands-asked d first s h (Sta sta) p v st listed;
 }

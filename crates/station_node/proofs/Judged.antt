@@ -12,6 +12,7 @@ use Rattle.run_journal.specs.declared.acts.Act.TheVariants.{Took}
 use Rattle.domain_rules.specs.Network.{is_ap}
 use Rattle.domain_rules.specs.Reading.{Reading, Reads, kind_of}
 use Rattle.domain_rules.specs.Verdict.{first_verdict, management_verdict, key_verdict}
+use Rattle.domain_rules.specs.Replies.{IsMessageFrom}
 use Rattle.domain_rules.specs.Rows.{Take, sender}
 use Rattle.node_frames.specs.declared.delivered.Management.{Management}
 use Rattle.node_frames.specs.declared.delivered.KeyMessage.{KeyMessage}
@@ -19,7 +20,7 @@ use Rattle.node_frames.specs.declared.judging.Judged.TheVariants as judged
 use Rattle.node_frames.specs.Views.{management_fields, message_fields}
 use Rattle.node_frames.specs.Judging.{IsJudged, IsPeerOf}
 use Rattle.station_node.specs.State.{State}
-use Rattle.station_node.specs.Steps.{IsTaken, IsManagedFrom, IsKeyedFrom}
+use Rattle.station_node.specs.Steps.{IsTaken, IsManagedFrom}
 use Rattle.station_node.proofs.Taken.{taken-settled}
 
 -- the other node of a station is an access point
@@ -41,7 +42,7 @@ pub judged-managed : (d : Domain) (n sta p : ℕ) (octets : List ℕ) (r : Readi
     → IsManagedFrom d sta p octets (management_fields frame)
 judged-managed d n sta p octets r frame elements from j reads from_is same = subst (λ (x : ℕ). IsManagedFrom d x p octets (management_fields frame)) same (managed_is d n p octets r frame elements from j reads from_is)
 
-keyed_is : (d : Domain) (sta p : ℕ) (octets : List ℕ) (r : Reading) (message : KeyMessage) (from : Node) → IsJudged d (Sta sta) r (judged.Keyed from message) → Reads d.akm octets r → from ≡ Ap p → IsKeyedFrom d sta p octets (message_fields message)
+keyed_is : (d : Domain) (sta p : ℕ) (octets : List ℕ) (r : Reading) (message : KeyMessage) (from : Node) → IsJudged d (Sta sta) r (judged.Keyed from message) → Reads d.akm octets r → from ≡ Ap p → IsMessageFrom d (Sta sta) (Ap p) octets (message_fields message)
 keyed_is d sta p octets r message from j reads from_is = record {
   reads = subst (λ (x : Reading). Reads d.akm octets x) j.0 reads;
   from = subst (λ (x : Reading). sender d (Sta sta) x ≡ Some (Ap p)) j.0 (j.1 ∙ ap (λ (x : Node). Some x) from_is);
@@ -50,8 +51,8 @@ keyed_is d sta p octets r message from j reads from_is = record {
 }
 
 pub judged-keyed : (d : Domain) (n sta p : ℕ) (octets : List ℕ) (r : Reading) (message : KeyMessage) (from : Node) → IsJudged d (Sta n) r (judged.Keyed from message) → Reads d.akm octets r → from ≡ Ap p → n ≡ sta
-    → IsKeyedFrom d sta p octets (message_fields message)
-judged-keyed d n sta p octets r message from j reads from_is same = subst (λ (x : ℕ). IsKeyedFrom d x p octets (message_fields message)) same (keyed_is d n p octets r message from j reads from_is)
+    → IsMessageFrom d (Sta sta) (Ap p) octets (message_fields message)
+judged-keyed d n sta p octets r message from j reads from_is same = subst (λ (x : ℕ). IsMessageFrom d (Sta x) (Ap p) octets (message_fields message)) same (keyed_is d n p octets r message from j reads from_is)
 
 pub judged-settled : (d : Domain) (n : ℕ) (s : State) (octets : List ℕ) (r : Reading) (from : Option Node) (k : Kind) (outcome : Outcome) (waited waits : List Act) → IsJudged d (Sta n) r (judged.Settled from outcome) → Reads d.akm octets r → k ≡ kind_of r → n ≡ s.number
     → waits ≡ waited ++ Took from octets k outcome None ∷ [] → IsTaken d (Take octets) s s waited waits outcome

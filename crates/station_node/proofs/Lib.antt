@@ -1,14 +1,10 @@
 pub mod Acts
-pub mod GivenKeys
 pub mod Standing
-pub mod Finishing
+pub mod Beginning
+pub mod Handed
 pub mod Verdicts
-pub mod Keyings
 pub mod Taking
-pub mod TakingM3
 pub mod Asking
 pub mod Taken
-pub mod TakenM3
 pub mod Judged
-pub mod Keeping
-pub mod KeyDataRead
+pub mod Growing

@@ -1,87 +1,95 @@
--- What comes of frames at a station, by the attempt that it has.
-use Rattle.std.proofs.Common.{◌≡◌, ◌≢◌, inl, inr, ℕ, Bool, true, false, List, Option, Some, None, refl, subst, ◌∙◌}
-use Rattle.std.specs.Prelude.{not, if◌then◌else◌, ◌==◌, IfSome}
+-- What comes of frames at a station, by the association that it has.
+use Rattle.std.proofs.Common.{◌≡◌, ◌≢◌, inl, inr, ℕ, true, false, List, Option, Some, None, refl, ap, subst}
+use Rattle.std.specs.Prelude.{if◌then◌else◌, ◌==◌}
 use Rattle.std.proofs.lemmas.Bool.Decides.{eqb_tells}
 use Rattle.domain_base.specs.declared.names.Node.{Node}
 use Rattle.domain_base.specs.declared.names.Node.TheVariants.{Ap, Sta}
 use Rattle.rsn_elements.specs.Elements.{ElementFields}
 use Rattle.eapol_key.specs.declared.messages.Message.{Message}
 use Rattle.eapol_key.specs.declared.messages.Message.TheVariants.{M1, M3}
-use Rattle.key_hierarchy.specs.declared.inputs.Inputs.{Inputs}
 use Rattle.run_journal.specs.declared.domain.Domain.{Domain}
 use Rattle.run_journal.specs.declared.acts.Kind.{Kind}
 use Rattle.run_journal.specs.declared.acts.Kind.TheVariants as kind
 use Rattle.run_journal.specs.declared.acts.Reason.TheVariants as reason
-use Rattle.run_journal.specs.declared.acts.Outcome.TheVariants.{Accepted, Refused}
+use Rattle.run_journal.specs.declared.acts.Outcome.TheVariants as outcome
 use Rattle.run_journal.specs.declared.acts.Act.{Act}
-use Rattle.run_journal.specs.Questions.{attempt}
+use Rattle.run_journal.specs.Questions.{attempt, session}
 use Rattle.domain_rules.specs.Reading.{Management, KeyMessage}
-use Rattle.domain_rules.specs.Verdict.{assoc_resp_verdict, m1_verdict, management_verdict, key_verdict}
+use Rattle.domain_rules.specs.Verdict.{assoc_resp_verdict, management_verdict, key_verdict, m3_keying}
 use Rattle.domain_rules.proofs.Verdicts.{unawaited-assoc_resp, unawaited-m1, assoc_resp-in, m1-in}
-use Rattle.station_node.specs.declared.attempts.Attempt.{Attempt}
+use Rattle.supplicant.specs.declared.stage.Stage.{Stage}
+use Rattle.supplicant.specs.declared.stage.Stage.TheVariants.{Retired, Attempt, Session}
+use Rattle.supplicant.specs.Stands.{StandsIn}
+use Rattle.supplicant.proofs.Keyings.{m3_none}
+use Rattle.station_node.specs.declared.association.Association.{Association}
+use Rattle.station_node.specs.declared.association.Association.TheVariants.{Requested, Accepted}
 use Rattle.station_node.specs.State.{State}
-use Rattle.station_node.specs.Stands.{Stands, IsUnderWay}
-use Rattle.station_node.specs.Steps.{HasNone}
-use Rattle.station_node.proofs.Standing.{stands-under_way}
+use Rattle.station_node.specs.Stands.{Stands, IsRequested, HasAssociation, IsElsewhere}
+use Rattle.station_node.specs.Steps.{IsNotRequested, IsNotAccepted}
+use Rattle.station_node.proofs.Standing.{requested_is}
 
--- ---- without an attempt at that stage
+-- ---- an association response that is not waited for
 
-data IsElsewhere (p : ℕ) (associated : Bool) (h : List Act) : Type 0 where
-  Nowhere : attempt (Ap p) h ≡ None → IsElsewhere p associated h
-  At_other_stage : (a : Attempt) → IsUnderWay a h → a.ap ≡ p → a.is_associated ≡ not associated → IsElsewhere p associated h
+response_at : (d : Domain) (n : Node) (a : ℕ) (x : Stage) (h : List Act) (b : Management) → StandsIn d n (Ap a) x h → assoc_resp_verdict h (Ap a) b ≡ outcome.Refused reason.Unawaited
+response_at d n a Retired h b st = unawaited-assoc_resp h (Ap a) b st.no_attempt
+response_at d n a (Attempt v key) h b st = assoc_resp-in h (Ap a) b st.part true st.is st.begun st.hears
+response_at d n a (Session key counter) h b st = unawaited-assoc_resp h (Ap a) b st.no_attempt
 
-other_than : (b c : Bool) → b ≢ c → b ≡ not c
-other_than true true other = absurd (other refl)
-other_than true false other = refl
-other_than false true other = refl
-other_than false false other = absurd (other refl)
+response_by : (d : Domain) (n : Node) (o : Option Association) (h : List Act) (p : ℕ) (b : Management) → HasAssociation d n o h → (IsElsewhere o p → attempt (Ap p) h ≡ None) → IsNotRequested o p
+    → assoc_resp_verdict h (Ap p) b ≡ outcome.Refused reason.Unawaited
+response_by d n None h p b has alone none = unawaited-assoc_resp h (Ap p) b (alone tt)
+response_by d n (Some (Requested a v)) h p b has alone none = elim (eqb_tells a p) [
+  | inl here ↦ absurd (none v (ap (λ (x : ℕ). Some (Requested x v)) here.1))
+  | inr other ↦ unawaited-assoc_resp h (Ap p) b (alone other.1)
+]
+response_by d n (Some (Accepted a s)) h p b has alone none = elim (eqb_tells a p) [
+  | inl here ↦ subst (λ (x : ℕ). assoc_resp_verdict h (Ap x) b ≡ outcome.Refused reason.Unawaited) here.1 (response_at d n a s.stage h b has.1.stage_is)
+  | inr other ↦ unawaited-assoc_resp h (Ap p) b (alone other.1)
+]
 
-elsewhere_by : (o : Option Attempt) (p : ℕ) (associated : Bool) (h : List Act) → IfSome o (λ a. IsUnderWay a h) → (IfSome o (λ a. a.ap ≢ p) → attempt (Ap p) h ≡ None) → IfSome o (λ a. a.ap ≡ p → a.is_associated ≡ associated → ⊥)
-    → IsElsewhere p associated h
-elsewhere_by None p associated h u alone none = Nowhere (alone tt)
-elsewhere_by (Some a) p associated h u alone none =
-    elim (eqb_tells a.ap p) [ inl here ↦ At_other_stage a u here.1 (other_than a.is_associated associated (none here.1)) | inr other ↦ Nowhere (alone other.1) ]
+pub response-unawaited : (d : Domain) (first : ℕ) (s : State) (h : List Act) (p : ℕ) (b : Management) → Stands d first s h → IsNotRequested s.association p → assoc_resp_verdict h (Ap p) b ≡ outcome.Refused reason.Unawaited
+response-unawaited d first s h p b st none = response_by d (Sta s.number) s.association h p b st.association_is (st.no_attempt p) none
 
-elsewhere : (first : ℕ) (s : State) (h : List Act) (p : ℕ) (associated : Bool) → Stands first s h → HasNone s p associated → IsElsewhere p associated h
-elsewhere first s h p associated st none = elsewhere_by s.attempt p associated h st.under_way (st.alone p) none
+-- and one that is
 
-response_by : (h : List Act) (p : ℕ) (b : Management) → IsElsewhere p false h → assoc_resp_verdict h (Ap p) b ≡ Refused reason.Unawaited
-response_by h p b (Nowhere none) = unawaited-assoc_resp h (Ap p) b none
-response_by h p b (At_other_stage a u here stage) =
-    subst (λ (x : ℕ). assoc_resp_verdict h (Ap x) b ≡ Refused reason.Unawaited) here (assoc_resp-in h (Ap a.ap) b u.part true u.is u.begun (u.hears ∙ stage))
+pub response-awaited : (d : Domain) (first : ℕ) (s : State) (h : List Act) (p : ℕ) (v : List ℕ) (b : Management) → Stands d first s h → s.association ≡ Some (Requested p v)
+    → assoc_resp_verdict h (Ap p) b ≡ (if b.status == 0 then outcome.Accepted else outcome.Refused (reason.Status b.status))
+response-awaited d first s h p v b st is =
+    let r = requested_is d first s h p v st is in
+    assoc_resp-in h (Ap p) b r.1.part false r.1.is r.1.begun r.1.hears
 
-pub response-elsewhere : (first : ℕ) (s : State) (h : List Act) (p : ℕ) (b : Management) → Stands first s h → HasNone s p false → assoc_resp_verdict h (Ap p) b ≡ Refused reason.Unawaited
-response-elsewhere first s h p b st none = response_by h p b (elsewhere first s h p false st none)
+-- ---- an EAPOL-Key message where no association of that access point was accepted
 
-m1_by : (h : List Act) (p : ℕ) (k : KeyMessage) → IsElsewhere p true h → m1_verdict h (Ap p) k ≡ Refused reason.Unawaited
-m1_by h p k (Nowhere none) = unawaited-m1 h (Ap p) k none
-m1_by h p k (At_other_stage a u here stage) =
-    subst (λ (x : ℕ). m1_verdict h (Ap x) k ≡ Refused reason.Unawaited) here (m1-in h (Ap a.ap) k u.part false None u.is u.begun (u.hears ∙ stage) u.keeps)
+message_nowhere : (d : Domain) (s : ℕ) (h : List Act) (p : Node) (m : Message) (k : KeyMessage) → attempt p h ≡ None → session p h ≡ None → key_verdict d (Sta s) h p m k ≡ outcome.Refused reason.Unawaited
+message_nowhere d s h p M1 k none silent = unawaited-m1 h p k none
+message_nowhere d s h p M3 k none silent = m3_none d (Sta s) p Retired h k (record { no_attempt = none; no_session = silent }) tt
+message_nowhere d s h p _ k none silent = refl
 
-pub m1-elsewhere : (first : ℕ) (s : State) (h : List Act) (p : ℕ) (k : KeyMessage) → Stands first s h → HasNone s p true → m1_verdict h (Ap p) k ≡ Refused reason.Unawaited
-m1-elsewhere first s h p k st none = m1_by h p k (elsewhere first s h p true st none)
+no_m3 : (p : Node) (v : List ℕ) (h : List Act) → IsRequested p v h → m3_keying p h ≡ None
+no_m3 p v h r = rw (r.is, r.begun, r.asked) refl
 
--- ---- with it
+message_requested : (d : Domain) (s : ℕ) (h : List Act) (p : Node) (v : List ℕ) (m : Message) (k : KeyMessage) → IsRequested p v h → key_verdict d (Sta s) h p m k ≡ outcome.Refused reason.Unawaited
+message_requested d s h p v M1 k r = m1-in h p k r.part false None r.is r.begun r.hears r.keeps
+message_requested d s h p v M3 k r = rw (no_m3 p v h r) refl
+message_requested d s h p v _ k r = refl
 
-pub response-awaited : (first : ℕ) (s : State) (h : List Act) (p : ℕ) (v : List ℕ) (key : Option Inputs) (b : Management) → Stands first s h → s.attempt ≡ Some (record { ap = p; snonce = v; is_associated = false; key = key })
-    → assoc_resp_verdict h (Ap p) b ≡ (if b.status == 0 then Accepted else Refused (reason.Status b.status))
-response-awaited first s h p v key b st is =
-    let u = stands-under_way first s h (record { ap = p; snonce = v; is_associated = false; key = key }) st is in
-    assoc_resp-in h (Ap p) b u.part false u.is u.begun u.hears
+message_by : (d : Domain) (s : ℕ) (o : Option Association) (h : List Act) (p : ℕ) (m : Message) (k : KeyMessage) → HasAssociation d (Sta s) o h → (IsElsewhere o p → attempt (Ap p) h ≡ None) → (IsElsewhere o p → session (Ap p) h ≡ None)
+    → IsNotAccepted o p → key_verdict d (Sta s) h (Ap p) m k ≡ outcome.Refused reason.Unawaited
+message_by d s None h p m k has alone silent none = message_nowhere d s h (Ap p) m k (alone tt) (silent tt)
+message_by d s (Some (Requested a v)) h p m k has alone silent none = elim (eqb_tells a p) [
+  | inl here ↦ subst (λ (x : ℕ). key_verdict d (Sta s) h (Ap x) m k ≡ outcome.Refused reason.Unawaited) here.1 (message_requested d s h (Ap a) v m k has.1)
+  | inr other ↦ message_nowhere d s h (Ap p) m k (alone other.1) (silent other.1)
+]
+message_by d s (Some (Accepted a x)) h p m k has alone silent none = elim (eqb_tells a p) [
+  | inl here ↦ absurd (none x (ap (λ (y : ℕ). Some (Accepted y x)) here.1))
+  | inr other ↦ message_nowhere d s h (Ap p) m k (alone other.1) (silent other.1)
+]
 
-pub m1-awaited : (first : ℕ) (s : State) (h : List Act) (p : ℕ) (v : List ℕ) (key : Option Inputs) (k : KeyMessage) → Stands first s h → s.attempt ≡ Some (record { ap = p; snonce = v; is_associated = true; key = key })
-    → m1_verdict h (Ap p) k ≡ Accepted
-m1-awaited first s h p v key k st is =
-    let u = stands-under_way first s h (record { ap = p; snonce = v; is_associated = true; key = key }) st is in
-    m1-in h (Ap p) k u.part true None u.is u.begun u.hears u.keeps
+pub message-unawaited : (d : Domain) (first : ℕ) (s : State) (h : List Act) (p : ℕ) (m : Message) (k : KeyMessage) → Stands d first s h → IsNotAccepted s.association p → key_verdict d (Sta s.number) h (Ap p) m k ≡ outcome.Refused reason.Unawaited
+message-unawaited d first s h p m k st none = message_by d s.number s.association h p m k st.association_is (st.no_attempt p) (st.no_session p) none
 
--- ---- frames of other kinds
+-- ---- management frames of other kinds
 
-pub management-other : (d : Domain) (first s : ℕ) (h : List Act) (p : Node) (k : Kind) (b : Management) (e : ElementFields) → k ≢ kind.AssocResp → management_verdict d first (Sta s) h p k b e ≡ Refused reason.Unawaited
+pub management-other : (d : Domain) (first s : ℕ) (h : List Act) (p : Node) (k : Kind) (b : Management) (e : ElementFields) → k ≢ kind.AssocResp → management_verdict d first (Sta s) h p k b e ≡ outcome.Refused reason.Unawaited
 management-other d first s h p kind.AssocResp b e other = absurd (other refl)
 management-other d first s h p _ b e other = refl
-
-pub key-other : (d : Domain) (s : ℕ) (h : List Act) (p : Node) (m : Message) (k : KeyMessage) → m ≢ M1 → m ≢ M3 → key_verdict d (Sta s) h p m k ≡ Refused reason.Unawaited
-key-other d s h p M1 k other more = absurd (other refl)
-key-other d s h p M3 k other more = absurd (more refl)
-key-other d s h p _ k other more = refl

@@ -1,11 +1,9 @@
 //! A station, one event at a time.
 #![tactic(auto)]
 
-mod answers;
-mod attempts;
-mod derived;
-mod m3;
+mod association;
 mod memories;
+mod refusing;
 mod station;
 #[cfg(test)]
 mod tests;

@@ -20,7 +20,7 @@ const M2_MIC: [u8; 16] = *b"\xfa\x5e\x0a\x12\x17\x03\x60\xb2\xbe\xd6\x37\x1c\x4d
 
 const NEXT_M2_MIC: [u8; 16] = *b"\xe5\xc7\x23\xeb\x40\xb8\x74\x94\xd4\xa9\x0b\x97\x28\x52\x68\x96";
 
-const REQUESTS: [Step; 12] = [
+const REQUESTS: [Step; 9] = [
     Step {
         shows: "M2 before any request",
         station: 0,
@@ -56,25 +56,6 @@ const REQUESTS: [Step; 12] = [
         ],
     },
     Step {
-        shows: "a wrong MIC",
-        station: 0,
-        given: Given::M2(1, SNONCE, NEXT_M2_MIC, RSNE),
-        outcome: Outcome::Refused(Reason::Mic),
-        acts: &[Want::Took],
-    },
-    Step {
-        shows: "a counter that was not offered",
-        station: 0,
-        given: Given::M2(
-            2,
-            SNONCE,
-            *b"\xbf\xcd\x64\xe5\x8a\x60\x04\xaa\xf9\xf7\x3e\xf2\x70\xa2\xbe\x49",
-            RSNE,
-        ),
-        outcome: Outcome::Refused(Reason::Counter(1)),
-        acts: &[Want::Took],
-    },
-    Step {
         shows: "another RSNE under a right MIC",
         station: 0,
         given: Given::M2(
@@ -100,13 +81,6 @@ const REQUESTS: [Step; 12] = [
                 *b"\x1a\x40\x21\xf6\x23\x0a\xf3\xfc\xe0\x0b\x1a\x3f\xbd\x78\x73\xce",
             ),
         ],
-    },
-    Step {
-        shows: "M2 again",
-        station: 0,
-        given: Given::M2(1, SNONCE, M2_MIC, RSNE),
-        outcome: Outcome::Refused(Reason::Unawaited),
-        acts: &[Want::Took],
     },
     Step {
         shows: "a second request",
@@ -152,7 +126,7 @@ fn requests_and_second_messages(rt: HostRuntime) -> Result<(), Fail> {
 }
 
 // M1 is sent four times in all.
-const FIRST_MESSAGES: [Step; 9] = [
+const FIRST_MESSAGES: [Step; 8] = [
     Step {
         shows: "nothing to send again",
         station: 0,
@@ -193,18 +167,6 @@ const FIRST_MESSAGES: [Step; 9] = [
         given: Given::Retry,
         outcome: Outcome::Done,
         acts: &[Want::M1(4, ANONCE)],
-    },
-    Step {
-        shows: "a counter above the last",
-        station: 0,
-        given: Given::M2(
-            5,
-            SNONCE,
-            *b"\x72\xe4\x77\xad\x2a\xfb\xb3\x8b\x79\x6c\xaf\xd5\x5b\xff\xd9\xdc",
-            RSNE,
-        ),
-        outcome: Outcome::Refused(Reason::Counter(4)),
-        acts: &[Want::Took],
     },
     Step {
         shows: "no fifth time",

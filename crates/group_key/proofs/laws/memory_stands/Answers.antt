@@ -1,6 +1,15 @@
-use Rattle.std.proofs.Common.{refl}
 use Rattle.group_key.proofs.Keeping as keeping
+use Rattle.group_key.proofs.Counting as counting
 use Rattle.group_key.proofs.laws.memory_stands.Goals as goal
 
 pub returns : goal.returns
-returns c = record { started = λ p. refl; given = keeping.gives; taken = keeping.takes; found = keeping.found }
+returns c = record {
+  started = counting.started;
+  given = counting.gives;
+  taken = counting.takes;
+  other = counting.stands;
+  found = keeping.found_in;
+  counted = counting.counted;
+  keys_given = keeping.keys_given;
+  keys_taken = keeping.keys_taken;
+}

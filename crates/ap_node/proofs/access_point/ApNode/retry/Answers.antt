@@ -1,29 +1,32 @@
-use Rattle.std.proofs.Common.{Some, None, ap}
-use Rattle.run_journal.specs.declared.acts.Outcome.TheVariants.{Done, Idle, GaveUp}
+use Rattle.std.proofs.Common.{List, ◌++◌, ap, subst, ◌∙◌}
+use Rattle.std.specs.Prelude.{is_some}
+use Rattle.domain_base.specs.declared.names.Node.TheVariants.{Sta}
+use Rattle.run_journal.specs.declared.acts.Act.{Act}
 use Rattle.run_journal.specs.declared.acts.Why.TheVariants as why
-use Rattle.ap_node.specs.declared.retry.Again.TheVariants as again
-use Rattle.ap_node.specs.State.{State}
-use Rattle.ap_node.specs.Answers.{Retries}
-use Rattle.ap_node.proofs.Returning.{if_settled, if_done}
-use Rattle.ap_node.proofs.Answering.{found_is}
-use Rattle.ap_node.proofs.Retrying.{judged_again, retries_idle, retries_sent, retries_given_up}
+use Rattle.run_journal.specs.declared.acts.Outcome.TheVariants.{Idle}
+use Rattle.authenticator.specs.Steps.{retried_acts}
+use Rattle.ap_node.specs.declared.stations.Station.{Station}
+use Rattle.ap_node.specs.State.{State, station_at}
+use Rattle.ap_node.specs.Places.{PlaceRetries}
+use Rattle.ap_node.specs.Takes.{Retries}
+use Rattle.ap_node.proofs.Returning.{if_settled}
+use Rattle.ap_node.proofs.Repeating.{retries_idle, retries_done}
 use Rattle.ap_node.proofs.access_point.ApNode.retry.Goals as goal
 
-pub returns-in_default-clause-retries : goal.returns-in_default-clause-retries
-returns-in_default-clause-retries c =
-    if_settled c.idle.result (Idle why.Nothing) (λ came. Retries c.args.domain.now c.args.self.now c.args.self.now c.args.station c.args.out.now.acts c.idle.new.out.acts came) _ c.idle.ensures.outcome c.idle.ensures.acts
-    (λ waiting. retries_idle c.args.domain.now c.args.self.now c.args.station c.args.out.now.acts c.idle.new.out.acts (found_is c.args.self.now c.self.inside.stations.items c.deref.result.now (None) c.args.station (ap (λ (s : State). s.stations) c.self.view_is) c.deref.ensures.value c.in_default.ensures) waiting)
+pub returns-then-not-has_attempt_with-clause-retries : goal.returns-then-not-has_attempt_with-clause-retries
+returns-then-not-has_attempt_with-clause-retries c d =
+    let had = c.has_attempt_with.ensures ∙ ap (λ (l : List Station). is_some (station_at l c.args.station).attempt) c.deref.ensures.value ∙ ap (λ (s : State). is_some (station_at s.stations c.args.station).attempt) c.self.view_is in
+    if_settled c.idle.result (Idle why.Nothing) (λ outcome. Retries d c.args.self.now c.args.self.now c.args.station c.args.out.now.acts c.idle.new.out.acts outcome) _ c.idle.ensures.outcome c.idle.ensures.acts
+    (λ waiting. retries_idle d c.args.self.now c.args.station c.has_attempt_with.result c.args.out.now.acts c.idle.new.out.acts had c.if-not-has_attempt_with.true waiting)
 
-pub returns-in-Sent-clause-retries : goal.returns-in-Sent-clause-retries
-returns-in-Sent-clause-retries c =
-    let here = found_is c.args.self.now c.self.inside.stations.items c.deref.result.now (Some c.in-Some.attempt.now) c.args.station (ap (λ (s : State). s.stations) c.self.view_is) c.deref.ensures.value c.in-Some.ensures in
-    let judged = judged_again c.args.domain.now c.self.inside.number c.args.self.now.number c.args.station c.in-Some.attempt.now c.in_ok-act.field-0 (again.Sent c.in-Sent.act c.in-Sent.m1s c.in-Sent.m3s) (ap (λ (s : State). s.number) c.self.view_is) c.in-Sent.is c.in_ok-act.ensures in
-    if_done c.send_again.result Done (λ came. Retries c.args.domain.now c.args.self.now c.send_again.new.self c.args.station c.args.out.now.acts c.send_again.new.out.acts came) _ _ c.send_again.ensures.outcome c.send_again.ensures.counted c.send_again.ensures.acts
-    (λ now waiting. retries_sent c.args.domain.now c.args.self.now c.send_again.new.self c.args.station c.in-Some.attempt.now c.in-Sent.act c.in-Sent.m1s c.in-Sent.m3s c.args.out.now.acts c.send_again.new.out.acts here judged c.send_again.ensures.drawn c.send_again.ensures.group now c.send_again.ensures.others waiting)
-
-pub returns-in-GivenUp-clause-retries : goal.returns-in-GivenUp-clause-retries
-returns-in-GivenUp-clause-retries c =
-    let here = found_is c.args.self.now c.self.inside.stations.items c.deref.result.now (Some c.in-Some.attempt.now) c.args.station (ap (λ (s : State). s.stations) c.self.view_is) c.deref.ensures.value c.in-Some.ensures in
-    let judged = judged_again c.args.domain.now c.self.inside.number c.args.self.now.number c.args.station c.in-Some.attempt.now c.in_ok-act.field-0 (again.GivenUp c.in-GivenUp.message) (ap (λ (s : State). s.number) c.self.view_is) c.in-GivenUp.is c.in_ok-act.ensures in
-    if_done c.give_up.result (GaveUp c.in-GivenUp.message) (λ came. Retries c.args.domain.now c.args.self.now c.give_up.new.self c.args.station c.args.out.now.acts c.give_up.new.out.acts came) _ _ c.give_up.ensures.outcome c.give_up.ensures.given c.give_up.ensures.acts
-    (λ now waiting. retries_given_up c.args.domain.now c.args.self.now c.give_up.new.self c.args.station c.in-Some.attempt.now c.in-GivenUp.message c.args.out.now.acts c.give_up.new.out.acts here judged c.give_up.ensures.drawn c.give_up.ensures.group now c.give_up.ensures.others waiting)
+pub returns-clause-retries : goal.returns-clause-retries
+returns-clause-retries c d =
+    let sta = c.args.station in
+    let new = c.retry_with-came.new.stations.items in
+    let r = c.retry_with-came.new.reply in
+    let came = c.retry_with-came.result in
+    let placed = subst (λ (s : State). PlaceRetries (station_at s.stations sta) (station_at new sta) came r) c.self.view_is c.retry_with-came.ensures.retries in
+    retries_done d c.args.self.now _ sta came r c.add_retried.result c.args.out.now.acts c.add_retried.new.out.acts
+    (ap (λ (s : State). s.number) c.self.view_is) (ap (λ (s : State). s.drawn) c.self.view_is) (ap (λ (s : State). s.group) c.self.view_is) placed
+    (λ i other. c.retry_with-came.ensures.others i other ∙ ap (λ (s : State). station_at s.stations i) c.self.view_is)
+    c.add_retried.ensures.outcome (c.add_retried.ensures.acts ∙ ap (λ (l : List Act). l ++ retried_acts (Sta sta) came r) c.reserve.ensures.acts)

@@ -24,5 +24,6 @@ returns-then-self-ge-LAST_DRAW-clause-takes c =
 pub returns-clause-takes : goal.returns-clause-takes
 returns-clause-takes c =
     if_begun c.associate.result Accepted (λ outcome. Takes c.args.domain.now c.args.self.now c.associate.new.self c.args.octets.now c.args.out.now.acts c.associate.new.out.acts outcome) _ _ _ c.associate.ensures.outcome c.associate.ensures.drawn c.associate.ensures.begun c.associate.ensures.acts
-    (λ drawn now waiting. takes_associated c.args.domain.now c.args.self.now c.associate.new.self c.args.octets.now c.args.station c.args.frame.now c.args.elements.now c.in-Some-rsne_octets.rsne.now c.args.out.now.acts c.associate.new.out.acts c.requires.frame c.requires.kind
-    (sym c.in_default.ensures) (subst (λ (n : ℕ). n < last_draw) (ap (λ (s : State). s.drawn) c.self.view_is) c.if-self-ge-LAST_DRAW.false) (ap option_copied c.in-Some-rsne_octets.is) drawn c.associate.ensures.group now c.associate.ensures.others waiting)
+    (λ drawn now waiting. takes_associated c.args.domain.now c.args.self.now c.associate.new.self c.args.octets.now c.args.station c.args.frame.now c.args.elements.now c.whole_element-rsne.result.now c.in-Some-rsne_octets.rsne.now c.args.out.now.acts c.associate.new.out.acts c.requires.frame c.requires.kind
+    (sym c.in_default.ensures) (subst (λ (n : ℕ). n < last_draw) (ap (λ (s : State). s.drawn) c.self.view_is) c.if-self-ge-LAST_DRAW.false) (ap option_copied c.in-Some-rsne_octets.is) c.whole_element-rsne.ensures.same c.associate.ensures.number drawn c.associate.ensures.group
+    (record { a = now.0; is = now.1; begins = now.2 }) c.associate.ensures.others waiting)

@@ -1,7 +1,8 @@
-use Rattle.std.proofs.Common.{◌≡◌, List, [], ◌∷◌, ◌++◌, length, ap, sym, ◌∙◌}
+use Rattle.std.proofs.Common.{◌≡◌, List, [], ◌∷◌, ◌++◌, length, ap, subst, sym, ◌∙◌, rules}
 use Rattle.station_node.specs.State.{State as StationState}
-use Rattle.domain_world.specs.State.{Nodes}
-use Rattle.domain_world.proofs.Standing.{stand_more_sta}
+use Rattle.domain_world.specs.State.{Nodes, with_sta}
+use Rattle.domain_world.specs.Owning.{AreListed}
+use Rattle.domain_world.proofs.Standing.{stand_more_sta, grows_sta}
 use Rattle.domain_world.proofs.nodes.Nodes.add_station.Goals as goal
 
 pub returns-clause-stand : goal.returns-clause-stand
@@ -10,5 +11,7 @@ returns-clause-stand c = λ j is none.
     let stas : c.self.inside.stas.items ≡ c.args.self.now.stas = ap (λ (n : Nodes). n.stas) c.self.view_is in
     let pushed = rw c.if-is_err.ensures.negation at c.push.ensures.items in
     let count : length c.args.self.now.stas ≡ length c.args.self.now.domain.stas = ap (λ (n : Nodes). length n.stas) (sym c.self.view_is) ∙ c.self.invariant.count_stas ∙ ap (λ (n : Nodes). length n.domain.stas) c.self.view_is in
-    stand_more_sta c.args.self.now _ _ last j (ap (λ (n : Nodes). n.domain.akm) c.self.view_is) (ap (λ (n : Nodes). n.aps) c.self.view_is)
-    (pushed ∙ ap (λ (l : List StationState). l ++ last ∷ []) (c.reserve.ensures.items ∙ stas)) count c.start.ensures.stands is none
+    let listed : AreListed c.args.self.now = subst AreListed c.self.view_is c.self.invariant in
+    let domain : _ ≡ with_sta c.args.self.now.domain c.args.address = search rules in
+    stand_more_sta c.args.self.now _ _ last j (grows_sta c.args.self.now.domain _ c.args.address domain) listed (ap (λ (n : Nodes). n.aps) c.self.view_is)
+    (pushed ∙ ap (λ (l : List StationState). l ++ last ∷ []) (c.reserve.ensures.items ∙ stas)) count (c.start.ensures.stands _) is none

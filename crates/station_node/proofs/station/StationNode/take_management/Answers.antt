@@ -1,16 +1,16 @@
-use Rattle.std.proofs.Common.{Some, None, refl}
+use Rattle.std.proofs.Common.{Some, refl}
+use Rattle.std.proofs.lemmas.Result.{IfOk-weaker}
 use Rattle.domain_base.specs.declared.names.Node.TheVariants.{Ap}
 use Rattle.run_journal.specs.declared.acts.Outcome.TheVariants.{Refused}
-use Rattle.node_frames.specs.Views.{management_fields}
 use Rattle.run_journal.specs.declared.acts.Reason.TheVariants as reason
+use Rattle.node_frames.specs.Views.{management_fields}
 use Rattle.station_node.proofs.Taken.{alone_then, taken-other_management}
-use Rattle.std.proofs.lemmas.Result.{IfOk-weaker}
 use Rattle.station_node.proofs.station.StationNode.take_management.Goals as goal
 
 pub returns-in-AssocResp-clause-taken : goal.returns-in-AssocResp-clause-taken
-returns-in-AssocResp-clause-taken c = IfOk-weaker c.take_response.result _ _ (λ outcome taken d m. taken d (management_fields c.args.frame.now) m c.in-AssocResp.is refl) c.take_response.ensures.taken
+returns-in-AssocResp-clause-taken c = IfOk-weaker c.take_response.result _ _ (λ outcome taken. taken (management_fields c.args.frame.now) c.requires.managed c.in-AssocResp.is refl) c.take_response.ensures.taken
 
 pub returns-in_default-clause-taken : goal.returns-in_default-clause-taken
 returns-in_default-clause-taken c =
-    alone_then c.refuse.result (Some (Ap c.args.ap)) c.args.octets.now c.args.frame.now.kind (Refused reason.Unawaited) None c.args.out.now.acts c.refuse.new.out.acts _ c.refuse.ensures.alone
-    (λ is d m. taken-other_management d c.args.self.now c.args.ap c.args.octets.now (management_fields c.args.frame.now) c.args.frame.now.kind c.args.out.now.acts c.refuse.new.out.acts m refl (c.in_default.not-AssocResp) is)
+    alone_then c.refuse.result (Some (Ap c.args.ap)) c.args.octets.now c.args.frame.now.kind (Refused reason.Unawaited) c.args.out.now.acts c.refuse.new.out.acts _ c.refuse.ensures.alone
+    (λ is. taken-other_management c.args.domain.now c.args.self.now c.args.ap c.args.octets.now (management_fields c.args.frame.now) c.args.frame.now.kind c.args.out.now.acts c.refuse.new.out.acts c.requires.managed refl (c.in_default.not-AssocResp) is)

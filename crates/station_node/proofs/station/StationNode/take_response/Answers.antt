@@ -1,27 +1,33 @@
-use Rattle.std.proofs.Common.{None, ap, ◌∙◌}
-use Rattle.std.specs.Prelude.{Some, option_map}
-use Rattle.domain_base.specs.declared.names.Node.TheVariants.{Ap}
+use Rattle.std.proofs.Common.{Some, List, [], ◌∷◌, ◌++◌, sym, ap, subst, ◌∙◌}
+use Rattle.domain_base.specs.declared.names.Node.TheVariants.{Ap, Sta}
 use Rattle.run_journal.specs.declared.acts.Kind.TheVariants.{AssocResp}
 use Rattle.run_journal.specs.declared.acts.Outcome.TheVariants.{Refused}
-use Rattle.station_node.specs.contracts.station.StationNode.{the_view}
-use Rattle.station_node.proofs.Standing.{with_attempts}
-use Rattle.station_node.proofs.Taken.{alone_then, taken-response, taken-response_unawaited, taken-response_status}
 use Rattle.run_journal.specs.declared.acts.Reason.TheVariants as reason
-use Rattle.station_node.specs.State.{State, associated}
+use Rattle.run_journal.specs.declared.acts.Act.{Act}
+use Rattle.node_frames.specs.Links.{IsLink}
+use Rattle.station_node.specs.State.{State, memory_at}
+use Rattle.station_node.specs.Steps.{IsNotRequested}
+use Rattle.station_node.proofs.Beginning.{associated_state}
+use Rattle.station_node.proofs.Taken.{alone_then, taken-response, taken-response_unawaited, taken-response_status}
 use Rattle.station_node.proofs.station.StationNode.take_response.Goals as goal
 
 pub returns-in_default-clause-taken : goal.returns-in_default-clause-taken
 returns-in_default-clause-taken c =
-    alone_then c.refuse.result (Some (Ap c.args.ap)) c.args.octets.now AssocResp (Refused reason.Unawaited) None c.args.out.now.acts c.refuse.new.out.acts _ c.refuse.ensures.alone
-    (λ is d b m kind_is status_is. taken-response_unawaited d c.args.self.now c.args.ap c.args.octets.now b c.args.out.now.acts c.refuse.new.out.acts m kind_is c.in_default.ensures is)
+    alone_then c.refuse.result (Some (Ap c.args.ap)) c.args.octets.now AssocResp (Refused reason.Unawaited) c.args.out.now.acts c.refuse.new.out.acts _ c.refuse.ensures.alone
+    (λ is b m kind_is status_is. taken-response_unawaited c.args.domain.now c.args.self.now c.args.ap c.args.octets.now b c.args.out.now.acts c.refuse.new.out.acts m kind_is
+    (subst (λ (t : State). IsNotRequested t.association c.args.ap) c.self.view_is c.in_default.ensures) is)
 
 pub returns-then-status-ne0-clause-taken : goal.returns-then-status-ne0-clause-taken
 returns-then-status-ne0-clause-taken c =
-    alone_then c.refuse-then-status-ne0.result (Some (Ap c.args.ap)) c.args.octets.now AssocResp (Refused (reason.Status c.args.status)) None c.args.out.now.acts c.refuse-then-status-ne0.new.out.acts _ c.refuse-then-status-ne0.ensures.alone
-    (λ is d b m kind_is status_is. taken-response_status d c.args.self.now c.args.ap _ c.args.octets.now b c.args.status c.args.out.now.acts c.refuse-then-status-ne0.new.out.acts m kind_is c.in-Some.ensures status_is c.if-status-ne0.true is)
+    alone_then c.refuse-then-status-ne0.result (Some (Ap c.args.ap)) c.args.octets.now AssocResp (Refused (reason.Status c.args.status)) c.args.out.now.acts c.refuse-then-status-ne0.new.out.acts _ c.refuse-then-status-ne0.ensures.alone
+    (λ is b m kind_is status_is. taken-response_status c.args.domain.now c.args.self.now c.args.ap _ c.args.octets.now b c.args.status c.args.out.now.acts c.refuse-then-status-ne0.new.out.acts m kind_is
+    (ap (λ (t : State). t.association) (sym c.self.view_is) ∙ c.in-Some.ensures) status_is c.if-status-ne0.true is)
 
 pub returns-clause-taken : goal.returns-clause-taken
-returns-clause-taken c = λ d b m kind_is status_is.
-    taken-response d c.args.self.now _ c.args.ap _ c.args.octets.now b c.args.out.now.acts c.take_alone.new.out.acts m kind_is c.in-Some.ensures (status_is ∙ c.if-status-ne0.false)
-    (ap (with_attempts (the_view c.self.inside)) c.set_associated.ensures ∙ ap (λ (s : State). with_attempts s (option_map associated s.attempt)) c.self.view_is)
-    c.in_ok-take_alone.ensures.alone.acts
+returns-clause-taken c = λ b m kind_is status_is.
+    taken-response c.args.domain.now c.args.self.now _ c.args.ap c.in-Some.snonce c.args.octets.now b c.begin-supplicant.result c.make_place.new.memories.items c.in_ok-act.act c.args.out.now.acts c.add.new.self.acts m kind_is
+    (ap (λ (t : State). t.association) (sym c.self.view_is) ∙ c.in-Some.ensures) (status_is ∙ c.if-status-ne0.false)
+    (subst (λ (t : State). IsLink c.args.domain.now (Sta t.number) (Ap c.args.ap) c.begin-supplicant.result.link) c.self.view_is c.begin-supplicant.ensures.link) c.begin-supplicant.ensures.psk c.begin-supplicant.ensures.stage
+    (λ k. c.make_place.ensures.same k ∙ ap (λ (t : State). memory_at t.memories k) c.self.view_is)
+    (ap (λ (t : State). associated_state t c.args.ap c.begin-supplicant.result c.make_place.new.memories.items) c.self.view_is)
+    c.in_ok-act.ensures (c.add.ensures.acts ∙ ap (λ (l : List Act). l ++ c.in_ok-act.act ∷ []) c.in_ok-reserve.ensures.acts)

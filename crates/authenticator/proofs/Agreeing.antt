@@ -1,0 +1,83 @@
+-- How the attempt goes on as M2 is accepted and M3 is sent.
+use Rattle.std.proofs.Common.{◌≡◌, ℕ, suc, ◌+◌, ◌<◌, ◌^◌, List, [], ◌∷◌, Option, Some, None, refl, ap, subst, ◌∙◌, arith}
+use Rattle.domain_base.specs.declared.names.Node.{Node}
+use Rattle.air_frame.specs.Sent.{IsAddress}
+use Rattle.eapol_key.specs.declared.messages.Message.TheVariants.{M1, M2, M3}
+use Rattle.eapol_key.specs.Sent.{sent_fields}
+use Rattle.key_hierarchy.specs.declared.inputs.Inputs.{Inputs}
+use Rattle.key_hierarchy.specs.Keys.{ptk}
+use Rattle.run_journal.specs.declared.domain.Domain.{Domain}
+use Rattle.run_journal.specs.declared.acts.Kind.TheVariants as kind
+use Rattle.run_journal.specs.declared.acts.Outcome.TheVariants.{Accepted}
+use Rattle.run_journal.specs.declared.acts.Seal.{Seal}
+use Rattle.run_journal.specs.declared.acts.Act.{Act}
+use Rattle.run_journal.specs.declared.acts.Act.TheVariants.{Took, Derived}
+use Rattle.run_journal.specs.declared.reply.Keyed.{Keyed}
+use Rattle.run_journal.specs.Questions.{before_sent}
+use Rattle.domain_rules.specs.Network.{address}
+use Rattle.domain_rules.specs.Frames.{in_data, m3_frame, m3_key_data, wrapped, sent_m3}
+use Rattle.domain_rules.specs.Verdict.{replay_counter}
+use Rattle.domain_rules.specs.Counters.{next_in_attempt}
+use Rattle.domain_rules.specs.GroupKeys.{newest, newest_uses}
+use Rattle.domain_rules.specs.Replies.{inputs_by}
+use Rattle.domain_rules.proofs.Parts.{same-refl, attempt_more, attempt_some, by_connect_more, own_nonce_more}
+use Rattle.group_key.specs.declared.keys.GroupKey.{GroupKey}
+use Rattle.node_frames.specs.Carried.{carried_key}
+use Rattle.authenticator.specs.State.{Trial, Agreed}
+use Rattle.authenticator.specs.Stands.{counters, IsAgreed, IsUnderWay}
+use Rattle.authenticator.specs.Views.{answered_by}
+use Rattle.authenticator.proofs.Counting.{count_is, replay_sealed}
+
+-- the counter of M3
+pub m3_counter : (d : Domain) (n p : Node) (i : Inputs) (counter : ℕ) (g : GroupKey) (rsc : ℕ) → IsAddress (address d n) → IsAddress (address d p) → counter < 2 ^ 64
+    → replay_counter (in_data d n p (m3_frame d i counter (carried_key g) rsc)) ≡ counter
+m3_counter d n p i counter g rsc l m low = replay_sealed d n p d.akm (ptk i).kck (sent_fields M3 d.akm counter i.anonce rsc (wrapped (ptk i).kek (m3_key_data d (carried_key g)))) l m low
+
+-- the next counter of the attempt
+pub next_is : (d : Domain) (n p : Node) (a : Trial) (h : List Act) (at : IsUnderWay d n p a h) → next_in_attempt p at.part ≡ suc (a.m1s + a.m3s)
+next_is d n p a h at = rw (count_is p M1 at.part 0 a.m1s at.m1_offers, count_is p M3 at.part a.m1s a.m3s at.m3_offers) refl
+
+-- before M2 no M3 was sent
+pub none_sent : (d : Domain) (n p : Node) (o : Option Agreed) (m3s : ℕ) (part h : List Act) → o ≡ None → IsAgreed d n p o m3s part h → (m3s ≡ 0) × (before_sent p (kind.Key M3) h ≡ None)
+none_sent d n p o m3s part h none at = subst (λ (x : Option Agreed). IsAgreed d n p x m3s part h) none at
+
+-- and from M2 on one was
+pub some_sent : (d : Domain) (n p : Node) (o : Option Agreed) (y : Agreed) (m3s : ℕ) (part h : List Act) → o ≡ Some y → IsAgreed d n p o m3s part h → IsAgreed d n p (Some y) m3s part h
+some_sent d n p o y m3s part h is at = subst (λ (x : Option Agreed). IsAgreed d n p x m3s part h) is at
+
+no_offers : (m1s m3s : ℕ) (offers : List ℕ) → m3s ≡ 0 → offers ≡ counters m1s m3s → offers ≡ []
+no_offers m1s m3s offers none is = is ∙ ap (counters m1s) none
+
+pub cons_is : {x y : ℕ} {xs ys : List ℕ} → x ≡ y → xs ≡ ys → x ∷ xs ≡ y ∷ ys
+cons_is e f = rw (e, f) refl
+
+pub has_agreed : (d : Domain) (n p : Node) (octets : List ℕ) (s : Option Seal) (y : Keyed) (counter : ℕ) (g : GroupKey) (rsc : ℕ) (a : Trial) (h : List Act) → IsAddress (address d n) → IsAddress (address d p) → counter < 2 ^ 64
+    → IsUnderWay d n p a h → a.agreed ≡ None → counter ≡ suc (a.m1s + a.m3s) → newest h ≡ carried_key g → newest_uses h ≡ rsc
+    → IsUnderWay d n p (answered_by (record { key = y; group = g; rsc = rsc }) a)
+    (sent_m3 d n p (inputs_by d n p y) counter (carried_key g) rsc ∷ Derived p (inputs_by d n p y) y.ptk ∷ Took (Some p) octets (kind.Key M2) Accepted s ∷ h)
+has_agreed d n p octets s y counter g rsc a h l m low at none counter_is key uses =
+    let took = Took (Some p) octets (kind.Key M2) Accepted s in
+    let i = inputs_by d n p y in
+    let derived = Derived p i y.ptk in
+    let m3 = sent_m3 d n p i counter (carried_key g) rsc in
+    let w = none_sent d n p a.agreed a.m3s at.part h none at.agreed in
+    let first = attempt_more p took h at.part refl refl at.is in
+    let second = attempt_more p derived (took ∷ h) (took ∷ at.part) refl refl first in
+    let here : replay_counter (in_data d n p (m3_frame d i counter (carried_key g) rsc)) ≡ suc (a.m1s + 0) = m3_counter d n p i counter g rsc l m low ∙ counter_is ∙ ap (λ (x : ℕ). suc (a.m1s + x)) w.0 in
+    record {
+      part = m3 ∷ derived ∷ took ∷ at.part;
+      is = attempt_more p m3 (derived ∷ took ∷ h) (derived ∷ took ∷ at.part) refl refl second;
+      begun = by_connect_more took at.part (attempt_some p h at.part at.is) ∙ at.begun;
+      nonce = own_nonce_more m3 (derived ∷ took ∷ at.part) a.anonce (own_nonce_more derived (took ∷ at.part) a.anonce (own_nonce_more took at.part a.anonce at.nonce));
+      m1_offers = rw (same-refl p) at.m1_offers;
+      m3_offers = rw (same-refl p) (cons_is here (no_offers a.m1s a.m3s _ w.0 at.m3_offers));
+      answered = rw (same-refl p) refl;
+      agreed = (
+        omega arith,
+        rw (same-refl p) refl,
+        record { past = derived ∷ took ∷ h; is = rw (same-refl p, w.1) refl; key = key; uses = uses },
+      );
+      request = at.request;
+      heard_last = rw (same-refl p) at.heard_last;
+      rsne = at.rsne;
+    }

@@ -1,0 +1,61 @@
+-- What the tests of the code say.
+use Rattle.std.proofs.Common.{◌≡◌, ℕ, Bool, true, false, List, Option, Some, None, refl, sym, ap, subst, ◌∙◌}
+use Rattle.std.specs.Prelude.{◌↔◌, IsTrue, is_some, ◌==◌}
+use Rattle.std.specs.List.{list_any}
+use Rattle.domain_base.specs.declared.names.Akm.{Akm}
+use Rattle.mac_prf.specs.Mic.{mic}
+use Rattle.eapol_key.specs.KeyFrame.{KeyFields}
+use Rattle.run_journal.specs.declared.acts.KeyDataFault.{KeyDataFault}
+use Rattle.run_journal.specs.declared.reply.Keyed.{Keyed}
+use Rattle.node_frames.specs.declared.link.Link.{Link}
+use Rattle.authenticator.specs.State.{Trial, Agreed}
+use Rattle.authenticator.specs.Stands.{counters}
+use Rattle.authenticator.specs.Views.{key_with}
+use Rattle.authenticator.specs.Judged.{IsKeyDataOf, IsAwaited, IsForged, IsVerified, IsAnswered, IsForgedM4}
+
+-- as the code verified a MIC
+is_same : (akm : Akm) (kck other m octets : List ℕ) (b : Bool) → kck ≡ other → (IsTrue b ↔ (m ≡ mic akm kck octets)) → b ≡ true → m ≡ mic akm other octets
+is_same akm kck other m octets b key by is = by.0 is ∙ ap (λ (x : List ℕ). mic akm x octets) key
+
+not_same : (akm : Akm) (kck other m octets : List ℕ) (b : Bool) → kck ≡ other → (IsTrue b ↔ (m ≡ mic akm kck octets)) → b ≡ false → m ≡ mic akm other octets → ⊥
+not_same akm kck other m octets b key by is same = absurd (cc (is, by.1 (same ∙ ap (λ (x : List ℕ). mic akm x octets) (sym key))))
+
+pub none_by : (o : Option Agreed) → is_some o ≡ false → o ≡ None
+none_by None is = refl
+none_by (Some y) is = absurd (cc is)
+
+key_data_as : (rsne octets : List ℕ) (o fault : Option KeyDataFault) → o ≡ fault → IsKeyDataOf rsne octets o → IsKeyDataOf rsne octets fault
+key_data_as rsne octets o fault is by = subst (λ (x : Option KeyDataFault). IsKeyDataOf rsne octets x) is by
+
+-- an M2
+pub awaits : (a : Trial) (f : KeyFields) (some offer : Bool) → some ≡ is_some a.agreed → some ≡ false → offer ≡ list_any (λ c. c == f.counter) (counters 0 a.m1s) → offer ≡ true → IsAwaited a f
+awaits a f some offer some_is none offer_is one = record { none = none_by a.agreed (sym some_is ∙ none); offer = sym offer_is ∙ one }
+
+pub forged : (l : Link) (psk : List ℕ) (a : Trial) (f : KeyFields) (octets : List ℕ) (y : Keyed) (b : Bool) → IsAwaited a f → y ≡ key_with l psk a.anonce f.nonce → (IsTrue b ↔ (f.mic ≡ mic l.akm y.ptk.kck octets)) → b ≡ false → IsForged l psk a f octets
+forged l psk a f octets y b awaited key by is = record {
+  awaited = awaited;
+  other = not_same l.akm y.ptk.kck (key_with l psk a.anonce f.nonce).ptk.kck f.mic octets b (ap (λ (x : Keyed). x.ptk.kck) key) by is;
+}
+
+pub verifies : (l : Link) (psk : List ℕ) (a : Trial) (f : KeyFields) (octets : List ℕ) (y : Keyed) (b : Bool) (rsne : List ℕ) (o fault : Option KeyDataFault) → IsAwaited a f → y ≡ key_with l psk a.anonce f.nonce
+    → (IsTrue b ↔ (f.mic ≡ mic l.akm y.ptk.kck octets)) → b ≡ true → rsne ≡ a.rsne → o ≡ fault → IsKeyDataOf rsne f.key_data o → IsVerified l psk a f octets y fault
+verifies l psk a f octets y b rsne o fault awaited key by is raw fault_is key_data = record {
+  awaited = awaited;
+  mic_is = is_same l.akm y.ptk.kck (key_with l psk a.anonce f.nonce).ptk.kck f.mic octets b (ap (λ (x : Keyed). x.ptk.kck) key) by is;
+  key = key;
+  key_data = subst (λ (x : List ℕ). IsKeyDataOf x f.key_data fault) raw (key_data_as rsne f.key_data o fault fault_is key_data);
+}
+
+-- an M4
+pub answers : (a : Trial) (f : KeyFields) (y : Agreed) (offer : Bool) → a.agreed ≡ Some y → offer ≡ list_any (λ c. c == f.counter) (counters a.m1s a.m3s) → offer ≡ true → IsAnswered a f y
+answers a f y offer some offer_is one = record { some = some; offer = sym offer_is ∙ one }
+
+pub forged_m4 : (akm : Akm) (a : Trial) (f : KeyFields) (octets : List ℕ) (y : Agreed) (key : Keyed) (b : Bool) → IsAnswered a f y → key ≡ y.key → (IsTrue b ↔ (f.mic ≡ mic akm key.ptk.kck octets)) → b ≡ false → IsForgedM4 akm a f octets
+forged_m4 akm a f octets y key b answered is by other = record {
+  y = y;
+  answered = answered;
+  other = not_same akm key.ptk.kck y.key.ptk.kck f.mic octets b (ap (λ (x : Keyed). x.ptk.kck) is) by other;
+}
+
+pub verified_m4 : (akm : Akm) (y : Agreed) (key : Keyed) (m octets : List ℕ) (b : Bool) → key ≡ y.key → (IsTrue b ↔ (m ≡ mic akm key.ptk.kck octets)) → b ≡ true → m ≡ mic akm y.key.ptk.kck octets
+verified_m4 akm y key m octets b is by same = is_same akm key.ptk.kck y.key.ptk.kck m octets b (ap (λ (x : Keyed). x.ptk.kck) is) by same

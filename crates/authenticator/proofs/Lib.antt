@@ -1,0 +1,13 @@
+pub mod KeyData
+pub mod Counting
+pub mod Deciding
+pub mod Keys
+pub mod Standing
+pub mod Replying
+pub mod Refusing
+pub mod Verified
+pub mod Agreeing
+pub mod Answering
+pub mod Finishing
+pub mod Retrying
+pub mod Beginning

@@ -1,0 +1,61 @@
+-- The acts of replies.
+use Rattle.std.proofs.Common.{◌≡◌, ℕ, Bool, true, false, List, [], ◌∷◌, ◌++◌, Option, Some, None, refl, ◌∙◌, arith}
+use Rattle.std.specs.Prelude.{option_map}
+use Rattle.domain_base.specs.declared.names.Node.{Node}
+use Rattle.domain_base.specs.declared.names.Peer.TheVariants.{One}
+use Rattle.eapol_key.specs.declared.messages.Message.{Message}
+use Rattle.run_journal.specs.declared.domain.Domain.{Domain}
+use Rattle.run_journal.specs.declared.acts.Kind.TheVariants as kind
+use Rattle.run_journal.specs.declared.acts.Key.TheVariants.{Pairwise}
+use Rattle.run_journal.specs.declared.acts.Outcome.{Outcome}
+use Rattle.run_journal.specs.declared.acts.Seal.{Seal}
+use Rattle.run_journal.specs.declared.acts.Act.{Act}
+use Rattle.run_journal.specs.declared.acts.Act.TheVariants.{Took, Derived, Installed, Finished}
+use Rattle.run_journal.specs.declared.reply.Reply.{Reply}
+use Rattle.run_journal.specs.declared.reply.Keyed.{Keyed}
+use Rattle.run_journal.specs.Replies.{IsEmpty, IsWhole}
+use Rattle.domain_rules.specs.Frames.{frame_seal}
+use Rattle.domain_rules.specs.Reading.{KeyMessage}
+use Rattle.domain_rules.specs.Replies.{inputs_by, replaced_acts, reply_acts}
+use Rattle.authenticator.specs.Judged.{IsAnswer}
+
+-- the message by its name
+took_as : (p : Node) (octets : List ℕ) (m n : Message) (o : Outcome) (s : Option Seal) (rest : List Act) → m ≡ n → Took (Some p) octets (kind.Key m) o s ∷ rest ≡ Took (Some p) octets (kind.Key n) o s ∷ rest
+took_as p octets m n o s rest is = rw is refl
+
+-- nothing beside the taking
+pub only_took : (d : Domain) (n p : Node) (had : Bool) (octets : List ℕ) (k : KeyMessage) (o : Outcome) (r : Reply) (v : Option (List ℕ)) → r.len ≡ 0 → r.verified ≡ v → r.derived ≡ None → r.installed ≡ None → r.gtk ≡ None
+    → reply_acts d n p had octets k o r ≡ Took (Some p) octets (kind.Key k.message) o (option_map (λ kck. frame_seal kck k.octets) v) ∷ []
+only_took d n p true octets k o r v len verified derived installed gtk = rw (len, verified, derived, installed, gtk) refl
+only_took d n p false octets k o r v len verified derived installed gtk = rw (len, verified, derived, installed, gtk) refl
+
+answer_acts : (d : Domain) (n p : Node) (had : Bool) (octets : List ℕ) (k : KeyMessage) (o : Outcome) (r : Reply) (y : Keyed) (act : Act) → IsAnswer p y act r
+    → reply_acts d n p had octets k o r ≡ Took (Some p) octets (kind.Key k.message) o (Some (frame_seal y.ptk.kck k.octets)) ∷ Derived p (inputs_by d n p y) y.ptk ∷ act ∷ []
+answer_acts d n p true octets k o r y act w = rw (w.verified, w.derived, w.installed, w.gtk, w.sends) refl
+answer_acts d n p false octets k o r y act w = rw (w.verified, w.derived, w.installed, w.gtk, w.sends) refl
+
+-- the key was derived, and something is sent
+pub answer_took : (d : Domain) (n p : Node) (had : Bool) (octets : List ℕ) (k : KeyMessage) (m : Message) (o : Outcome) (r : Reply) (y : Keyed) (act : Act) → k.message ≡ m → IsAnswer p y act r
+    → reply_acts d n p had octets k o r ≡ Took (Some p) octets (kind.Key m) o (Some (frame_seal y.ptk.kck k.octets)) ∷ Derived p (inputs_by d n p y) y.ptk ∷ act ∷ []
+answer_took d n p had octets k m o r y act is w =
+    answer_acts d n p had octets k o r y act w ∙ took_as p octets k.message m o (Some (frame_seal y.ptk.kck k.octets)) (Derived p (inputs_by d n p y) y.ptk ∷ act ∷ []) is
+
+-- what an installed key adds to the taking
+abbrev pub finish_acts : Domain → Node → Node → Bool → Keyed → List Act
+finish_acts d n p had y = replaced_acts p had (Some y) ++ Installed (One p) (Pairwise y.ptk.tk (inputs_by d n p y)) ∷ Finished p (inputs_by d n p y) ∷ []
+
+installed_took : (d : Domain) (n p : Node) (had : Bool) (octets : List ℕ) (k : KeyMessage) (o : Outcome) (r : Reply) (y : Keyed) → r.len ≡ 0 → r.verified ≡ Some y.ptk.kck → r.derived ≡ None → r.installed ≡ Some y → r.gtk ≡ None
+    → reply_acts d n p had octets k o r ≡ Took (Some p) octets (kind.Key k.message) o (Some (frame_seal y.ptk.kck k.octets)) ∷ finish_acts d n p had y
+installed_took d n p true octets k o r y len verified derived installed gtk = rw (len, verified, derived, installed, gtk) refl
+installed_took d n p false octets k o r y len verified derived installed gtk = rw (len, verified, derived, installed, gtk) refl
+
+-- the key was installed
+pub finish_took : (d : Domain) (n p : Node) (had : Bool) (octets : List ℕ) (k : KeyMessage) (m : Message) (o : Outcome) (r : Reply) (y : Keyed) → k.message ≡ m → IsEmpty r
+    → reply_acts d n p had octets k o (record r { verified = Some y.ptk.kck; installed = Some y }) ≡ Took (Some p) octets (kind.Key m) o (Some (frame_seal y.ptk.kck k.octets)) ∷ finish_acts d n p had y
+finish_took d n p had octets k m o r y is e =
+    installed_took d n p had octets k o (record r { verified = Some y.ptk.kck; installed = Some y }) y e.len refl e.derived refl e.gtk
+    ∙ took_as p octets k.message m o (Some (frame_seal y.ptk.kck k.octets)) (finish_acts d n p had y) is
+
+-- an empty reply is whole
+pub empty_whole : (r : Reply) → IsEmpty r → IsWhole r
+empty_whole r e = record { few = omega (arith, e.len); sealed = λ kck is. absurd (cc (is, e.sealed)) }

@@ -1,0 +1,75 @@
+-- Which histories an authenticator stands for.
+use Rattle.std.specs.Prelude.{◌≡◌, ◌≤◌, ℕ, zero, suc, ◌+◌, true, List, [], ◌∷◌, Option, Some, None, is_some}
+use Rattle.domain_base.specs.declared.names.Node.{Node}
+use Rattle.eapol_key.specs.declared.messages.Message.TheVariants.{M1, M2, M3}
+use Rattle.run_journal.specs.declared.domain.Domain.{Domain}
+use Rattle.run_journal.specs.declared.acts.Kind.TheVariants.{AssocReq, Key}
+use Rattle.run_journal.specs.declared.acts.Act.{Act}
+use Rattle.run_journal.specs.declared.reply.Keyed.{Keyed}
+use Rattle.run_journal.specs.Acts.{Derivation}
+use Rattle.run_journal.specs.Questions.{attempt, own_nonce, derivation, session, heard, before_sent}
+use Rattle.domain_rules.specs.Counters.{next_in_session}
+use Rattle.domain_rules.specs.Verdict.{by_connect, offered, has_heard, HasRsne}
+use Rattle.domain_rules.specs.GroupKeys.{newest, newest_uses}
+use Rattle.domain_rules.specs.Replies.{inputs_by}
+use Rattle.node_frames.specs.Carried.{carried_key}
+use Rattle.node_frames.specs.Links.{IsLink}
+use Rattle.authenticator.specs.State.{State, Stage, Attempt, Session, GivenUp, Trial, Agreed}
+
+-- so many replay counters from the next one on, the last first
+abbrev pub counters : ℕ → ℕ → List ℕ
+counters before zero = []
+counters before (suc n) = suc (before + n) ∷ counters before n
+
+-- the key of node n with its peer p
+abbrev pub key_by : Domain → Node → Node → Keyed → Derivation
+key_by d n p y = record { inputs = inputs_by d n p y; ptk = y.ptk }
+
+-- the first M3 to p since its Opened carried this group key, with that count of packet numbers
+pub record IsFirstM3 (p : Node) (y : Agreed) (h : List Act) : Type 0 where
+  pub past : List Act
+  pub is : before_sent p (Key M3) h ≡ Some past
+  pub key : newest past ≡ carried_key y.group
+  pub uses : newest_uses past ≡ y.rsc
+
+-- from M2 on the key was derived and M3 was sent, before it neither
+abbrev pub IsAgreed : Domain → Node → Node → Option Agreed → ℕ → List Act → List Act → Type 0
+IsAgreed d n p None m3s part h = (m3s ≡ 0) × (before_sent p (Key M3) h ≡ None)
+IsAgreed d n p (Some y) m3s part h = (1 ≤ m3s) × (derivation p part ≡ Some (key_by d n p y.key)) × IsFirstM3 p y h
+
+-- the attempt is under way: it began by association
+pub record IsUnderWay (d : Domain) (n p : Node) (a : Trial) (h : List Act) : Type 0 where
+  pub part : List Act
+  pub is : attempt p h ≡ Some part
+  pub begun : by_connect part ≡ true
+  pub nonce : own_nonce part ≡ Some a.anonce
+  -- the replay counters of M1 and behind them those of M3
+  pub m1_offers : offered p M1 part ≡ counters 0 a.m1s
+  pub m3_offers : offered p M3 part ≡ counters a.m1s a.m3s
+  pub answered : has_heard p (Key M2) part ≡ is_some a.agreed
+  pub agreed : IsAgreed d n p a.agreed a.m3s part h
+  -- the last association request that was accepted, and its RSNE
+  pub request : List ℕ
+  pub heard_last : heard p AssocReq h ≡ Some request
+  pub rsne : HasRsne d.akm request (Some a.rsne)
+
+-- the session is held, beside an attempt or without one
+pub record IsHeld (d : Domain) (n p : Node) (key : Keyed) (next : ℕ) (h : List Act) : Type 0 where
+  pub is : session p h ≡ Some (key_by d n p key)
+  pub counts : next_in_session p h ≡ next
+
+abbrev pub StandsIn : Domain → Node → Node → Stage → List Act → Type 0
+StandsIn d n p (Attempt a) h = IsUnderWay d n p a h
+StandsIn d n p (Session key next) h = IsHeld d n p key next h
+StandsIn d n p GivenUp h = attempt p h ≡ None
+
+-- the authenticator of node n with its peer p stands for the history of n
+pub record Stands (d : Domain) (n p : Node) (s : State) (h : List Act) : Type 0 where
+  pub link : IsLink d n p s.link
+  pub psk : s.psk ≡ d.psk
+  pub stage_is : StandsIn d n p s.stage h
+
+-- it is asked: that of an attempt, or that of a session where there is no attempt
+abbrev pub IsAsked : Node → Stage → List Act → Type 0
+IsAsked p (Attempt a) h = Unit {0}
+IsAsked p stage h = attempt p h ≡ None

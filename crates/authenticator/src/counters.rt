@@ -1,0 +1,19 @@
+//! The replay counters of an attempt: those of M1 from 1 on, behind them those of M3 (IEEE Std 802.11-2020, 12.7.2).
+
+ghost use Rattle.std.specs.Prelude.{◌≡◌, ◌+◌, ◌==◌};
+ghost use Rattle.std.specs.List.{list_any};
+ghost use Rattle.authenticator.specs.Stands.{counters};
+
+/// The last counter of so many and so many more.
+pub fn last_counter(before: u8, sends: u8) -> u64
+    ensures { result ≡ before + sends }
+{
+    u64::from(before) + u64::from(sends)
+}
+
+/// Whether a counter is one of so many behind so many.
+pub fn is_offered(counter: u64, before: u8, sends: u8) -> bool
+    ensures { result ≡ list_any (λ c. c == counter) (counters before sends) }
+{
+    u64::from(before) < counter && counter <= last_counter(before, sends)
+}

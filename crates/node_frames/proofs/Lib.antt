@@ -1,0 +1,3 @@
+pub mod LinkedFrames
+pub mod RepliedActs
+pub mod Grown

@@ -1,0 +1,20 @@
+-- What a pairwise key is made of, before its nonces are known.
+use Rattle.std.specs.Prelude.{◌≡◌, ℕ, List}
+use Rattle.domain_base.specs.declared.names.Node.{Node}
+use Rattle.key_hierarchy.specs.declared.inputs.Inputs.{Inputs}
+use Rattle.run_journal.specs.declared.domain.Domain.{Domain}
+use Rattle.run_journal.specs.declared.acts.Seal.{Seal}
+use Rattle.run_journal.specs.declared.reply.Keyed.{Keyed}
+use Rattle.domain_rules.specs.Replies.{inputs_by}
+
+-- the inputs with the nonces of that key
+abbrev pub with_nonces : Inputs → Keyed → Inputs
+with_nonces i y = record i { anonce = y.anonce; snonce = y.snonce }
+
+-- but for their nonces they are what the pairwise key of n with p is made of
+pub record IsTemplate (d : Domain) (n p : Node) (i : Inputs) : Type 0 where
+  pub is : (y : Keyed) → with_nonces i y ≡ inputs_by d n p y
+
+-- octets under a key
+abbrev pub seal_over : List ℕ → List ℕ → Seal
+seal_over covered kck = record { octets = covered; key = kck }

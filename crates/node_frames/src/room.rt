@@ -1,0 +1,243 @@
+//! The memory that the acts of one EAPOL-Key message take, taken before anything is done.
+
+ghost use Rattle.std.specs.Prelude.{◌≡◌, ◌≤◌, ◌<◌, ◌+◌, ◌++◌, ℕ, List, [], ◌∷◌, Some, IfOk, option_map};
+ghost use Rattle.domain_base.specs.declared.names.Node.{Node as AnyNode};
+ghost use Rattle.mac_prf.specs.Mic.{without_mic};
+ghost use Rattle.run_journal.specs.declared.domain.Domain.{Domain as AnyDomain};
+ghost use Rattle.run_journal.specs.declared.acts.Kind.TheVariants as kind;
+ghost use Rattle.run_journal.specs.declared.acts.Act.TheVariants.{Took};
+ghost use Rattle.run_journal.specs.Replies.{IsWhole};
+ghost use Rattle.domain_rules.specs.Network.{IsListed, mac};
+ghost use Rattle.domain_rules.specs.Replies.{derived_acts, replaced_acts, installed_acts, gtk_acts, finished_acts};
+ghost use Rattle.node_frames.specs.Judging.{IsPeerOf};
+ghost use Rattle.node_frames.specs.Templates.{IsTemplate, with_nonces, seal_over};
+
+use crate::drawing::pairwise_inputs;
+use crate::network::address;
+use crate::outbox::Outbox;
+use crate::send_room::{FRAME_FORM, MIC_AT, MIC_LEN, SendRoom};
+use domain_base::{Mac, NoMemory, Node, Octets, Peer};
+use eapol_key::Message;
+use key_hierarchy::Inputs;
+use run_journal::{Act, Domain, GtkNews, Key, Keyed, Kind, Outcome, Part, Reply, Seal};
+use std::alloc::Global;
+
+// Where the MIC field of an EAPOL-Key frame ends.
+const MIC_END: usize = MIC_AT + MIC_LEN;
+
+// What the MIC of an EAPOL-Key frame covers, behind the form.
+fn cover(alloc: Global, frame: &[u8]) -> Result<Vec<u8>, NoMemory>
+    ensures { IfOk result (λ covered. covered.items ≡ 1 ∷ without_mic frame.now) }
+{
+    let (front, _) = frame.split_at(MIC_AT.min(frame.len()));
+    let (_, behind) = frame.split_at(MIC_END.min(frame.len()));
+    let mut octets = Vec::from_slice(alloc, &[FRAME_FORM])?;
+    octets.extend_from_slice(front)?;
+    octets.extend_from_slice(&[0; MIC_LEN])?;
+    octets.extend_from_slice(behind)?;
+    Ok(octets)
+}
+
+// What the pairwise key of a node with its peer is made of, without nonces.
+fn template(alloc: Global, domain: &Domain, node: Node, peer: Node) -> Result<Inputs, NoMemory>
+    requires listed { IsListed domain.now node }
+    requires peer { IsPeerOf domain.now node peer }
+    ensures { IfOk result (λ i. IsTemplate domain.now node peer i) }
+{
+    pairwise_inputs(alloc, domain, node, peer, &[0; 32], &[0; 32])
+}
+
+// The inputs with the nonces of that key.
+fn with_nonces(mut inputs: Inputs, key: &Keyed) -> Inputs
+    ensures { result ≡ with_nonces inputs key.now }
+{
+    let anonce = key.anonce;
+    let snonce = key.snonce;
+    inputs.anonce = anonce;
+    inputs.snonce = snonce;
+    inputs
+}
+
+// The octets under that key, where there is one.
+fn seal_over(covered: Vec<u8>, key: Option<[u8; 16]>) -> Option<Seal>
+    ensures { result ≡ option_map (seal_over covered.items) key }
+{
+    let key = key?;
+    Some(Seal {
+        octets: Octets(covered),
+        key,
+    })
+}
+
+// The key was derived.
+fn add_derived(peer: Node, template: Inputs, derived: Option<Keyed>, out: &mut Outbox)
+    requires { 0 < out.old.spare }
+    ensures acts { (d : AnyDomain) (n : AnyNode) → IsTemplate d n peer template → out.new.acts ≡ out.old.acts ++ derived_acts d n peer derived }
+    ensures spare { out.old.spare ≤ out.new.spare + 1 }
+{
+    let Some(key) = derived else { return };
+    out.add(Act::Derived {
+        peer,
+        inputs: with_nonces(template, &key),
+        ptk: key.ptk,
+    });
+}
+
+// The session that was there is closed, where a key was installed.
+fn add_replaced(peer: Node, had_session: bool, installed: Option<Keyed>, out: &mut Outbox)
+    requires { 0 < out.old.spare }
+    ensures acts { out.new.acts ≡ out.old.acts ++ replaced_acts peer had_session installed }
+    ensures spare { out.old.spare ≤ out.new.spare + 1 }
+{
+    if !had_session {
+        return;
+    }
+    let Some(_) = installed else { return };
+    out.add(Act::Closed {
+        peer,
+        part: Part::Session,
+    });
+}
+
+// The key was installed.
+fn add_installed(peer: Node, template: Inputs, installed: Option<Keyed>, out: &mut Outbox)
+    requires { 0 < out.old.spare }
+    ensures acts { (d : AnyDomain) (n : AnyNode) → IsTemplate d n peer template → out.new.acts ≡ out.old.acts ++ installed_acts d n peer installed }
+    ensures spare { out.old.spare ≤ out.new.spare + 1 }
+{
+    let Some(key) = installed else { return };
+    let tk = key.ptk.tk;
+    let inputs = with_nonces(template, &key);
+    out.add(Act::Installed {
+        peer: Peer::One(peer),
+        key: Key::Pairwise { tk, inputs },
+    });
+}
+
+// The group key of that access point was installed, or taken into use again.
+fn add_group_key(peer: Node, bssid: Mac, gtk: Option<GtkNews>, out: &mut Outbox)
+    requires { 0 < out.old.spare }
+    ensures acts { (d : AnyDomain) → bssid ≡ mac d peer → out.new.acts ≡ out.old.acts ++ gtk_acts d peer gtk }
+    ensures spare { out.old.spare ≤ out.new.spare + 1 }
+{
+    let Some(news) = gtk else { return };
+    let gtk = news.key;
+    let id = news.id;
+    let key = Key::Group { gtk, id, bssid };
+    if news.resumed {
+        out.add(Act::Resumed { peer, key });
+    } else {
+        let peer = Peer::One(peer);
+        out.add(Act::Installed { peer, key });
+    }
+}
+
+// The session under the key that was installed stands.
+fn add_finished(peer: Node, template: Inputs, installed: Option<Keyed>, out: &mut Outbox)
+    requires { 0 < out.old.spare }
+    ensures acts { (d : AnyDomain) (n : AnyNode) → IsTemplate d n peer template → out.new.acts ≡ out.old.acts ++ finished_acts d n peer installed }
+    ensures spare { out.old.spare ≤ out.new.spare + 1 }
+{
+    let Some(key) = installed else { return };
+    out.add(Act::Finished {
+        peer,
+        inputs: with_nonces(template, &key),
+    });
+}
+
+/// The memory that the acts of one EAPOL-Key message take.
+#[derive(Drop)]
+pub struct Room {
+    peer: Node,
+    address: Mac,
+    // The octets that came, and what the MIC of their EAPOL frame covers.
+    taken: Vec<u8>,
+    covered: Vec<u8>,
+    // What a pairwise key is made of, without nonces, for three acts.
+    derived: Inputs,
+    installed: Inputs,
+    finished: Inputs,
+    sent: SendRoom,
+}
+
+impl Room {
+    ghost use Rattle.domain_rules.specs.Reading.{KeyMessage};
+    ghost use Rattle.domain_rules.specs.Replies.{reply_acts};
+    ghost use Rattle.node_frames.specs.Rooms.{IsRoom};
+
+    /// Takes it, for a node that takes that air frame of its peer, with that EAPOL frame in it.
+    pub fn take(
+        alloc: Global,
+        domain: &Domain,
+        node: Node,
+        peer: Node,
+        octets: &[u8],
+        frame: &[u8],
+    ) -> Result<Self, NoMemory>
+        requires listed { IsListed domain.now node }
+        requires peer { IsPeerOf domain.now node peer }
+        ensures { IfOk result (λ room. IsRoom domain.now node peer octets.now frame.now room) }
+    {
+        let address = address(domain, peer);
+        let taken = Vec::from_slice(alloc, octets)?;
+        let covered = cover(alloc, frame)?;
+        let derived = template(alloc, domain, node, peer)?;
+        let installed = template(alloc, domain, node, peer)?;
+        let finished = template(alloc, domain, node, peer)?;
+        let sent = SendRoom::take(alloc)?;
+        Ok(Room {
+            peer,
+            address,
+            taken,
+            covered,
+            derived,
+            installed,
+            finished,
+            sent,
+        })
+    }
+
+    /// Adds the acts of taking the message with that outcome and reply, where there was a session with the peer or not.
+    /// Takes no memory.
+    pub fn add_reply(
+        self,
+        message: Message,
+        outcome: Outcome,
+        had_session: bool,
+        reply: &Reply,
+        out: &mut Outbox,
+    )
+        requires room { 7 ≤ out.old.spare }
+        requires whole { IsWhole reply.now }
+        ensures acts { (d : AnyDomain) (n p : AnyNode) (octets : List ℕ) (k : KeyMessage) → IsRoom d n p octets k.octets self → k.message ≡ message
+            → out.new.acts ≡ out.old.acts ++ reply_acts d n p had_session octets k outcome reply.now }
+        ensures spare { out.old.spare ≤ out.new.spare + 7 }
+    {
+        let Room {
+            peer,
+            address,
+            taken,
+            covered,
+            derived,
+            installed,
+            finished,
+            sent,
+        } = self;
+        out.add(Act::Took {
+            from: Some(peer),
+            octets: Octets(taken),
+            kind: Kind::Key(message),
+            outcome,
+            seal: seal_over(covered, reply.verified),
+        });
+        add_derived(peer, derived, reply.derived, out);
+        add_replaced(peer, had_session, reply.installed, out);
+        add_installed(peer, installed, reply.installed, out);
+        add_group_key(peer, address, reply.gtk, out);
+        add_finished(peer, finished, reply.installed, out);
+        sent.add_sent(peer, reply, out);
+    }
+}
+
+#[cfg(test)]
+mod tests;

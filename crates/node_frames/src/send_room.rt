@@ -1,0 +1,123 @@
+//! The memory that the act of sending a frame takes, taken before anything is done.
+
+ghost use Rattle.std.specs.Prelude.{◌≡◌, ◌≤◌, ◌<◌, ◌+◌, ◌++◌, [], ◌∷◌, length, vec_len};
+ghost use Rattle.std.specs.Vec.{vec_capacity};
+ghost use Rattle.mac_prf.specs.Mic.{without_mic};
+ghost use Rattle.run_journal.specs.Replies.{IsWhole};
+ghost use Rattle.domain_rules.specs.Replies.{sent_acts};
+
+use crate::outbox::Outbox;
+use domain_base::{NoMemory, Node, Octets, Peer};
+use run_journal::{Act, REPLY_LEN, Reply, Seal};
+use std::alloc::Global;
+
+// The octets before an EAPOL frame in a data frame.
+const EAPOL_FRONT: usize = 32;
+
+/// The octet with which the seal of an EAPOL-Key frame begins.
+pub(crate) const FRAME_FORM: u8 = 1;
+
+/// Where the MIC field of an EAPOL-Key frame begins.
+pub(crate) const MIC_AT: usize = 81;
+
+/// The octets of the MIC field.
+pub(crate) const MIC_LEN: usize = 16;
+
+// Room for octets, without any.
+#[derive(Drop)]
+struct Buffer {
+    octets: Vec<u8>,
+    ghost empty: { octets.items ≡ [] },
+    ghost none: { vec_len octets ≡ 0 },
+    ghost room: { 512 ≤ vec_capacity octets },
+}
+
+// Puts the piece behind the octets, within the room that there is.
+fn append(octets: &mut Vec<u8>, piece: &[u8])
+    requires { vec_len octets.old + length piece.now ≤ vec_capacity octets.old }
+    ensures items { octets.new.items ≡ octets.old.items ++ piece.now }
+    ensures len { vec_len octets.new ≡ vec_len octets.old + length piece.now }
+    ensures capacity { vec_capacity octets.old ≤ vec_capacity octets.new }
+{
+    if octets.extend_from_slice(piece).is_err() {
+        unreachable!()
+    }
+}
+
+impl Buffer {
+    fn take(alloc: Global) -> Result<Self, NoMemory> {
+        let octets = Vec::with_capacity(alloc, REPLY_LEN)?;
+        Ok(Buffer { octets })
+    }
+
+    // These octets.
+    fn filled(self, piece: &[u8]) -> Vec<u8>
+        requires { length piece.now ≤ 512 }
+        ensures { result.items ≡ piece.now }
+    {
+        let Buffer { mut octets } = self;
+        append(&mut octets, piece);
+        octets
+    }
+
+    // What the MIC of an EAPOL-Key frame covers, behind the form.
+    fn covering(self, frame: &[u8]) -> Vec<u8>
+        requires least { 99 ≤ length frame.now }
+        requires most { length frame.now ≤ 480 }
+        ensures { result.items ≡ 1 ∷ without_mic frame.now }
+    {
+        let Buffer { mut octets } = self;
+        let (front, rest) = frame.split_at(MIC_AT);
+        let (_, behind) = rest.split_at(MIC_LEN);
+        append(&mut octets, &[FRAME_FORM]);
+        append(&mut octets, front);
+        append(&mut octets, &[0; MIC_LEN]);
+        append(&mut octets, behind);
+        octets
+    }
+}
+
+/// The memory that the act of sending the frame of a reply takes.
+#[derive(Drop)]
+pub struct SendRoom {
+    octets: Buffer,
+    covered: Buffer,
+}
+
+impl SendRoom {
+    /// Takes it.
+    pub fn take(alloc: Global) -> Result<Self, NoMemory> {
+        let octets = Buffer::take(alloc)?;
+        let covered = Buffer::take(alloc)?;
+        Ok(SendRoom { octets, covered })
+    }
+
+    /// Adds the act of sending the frame of the reply to the peer, if it has one. Takes no memory.
+    pub fn add_sent(self, peer: Node, reply: &Reply, out: &mut Outbox)
+        requires room { 1 ≤ out.old.spare }
+        requires whole { IsWhole reply.now }
+        ensures acts { out.new.acts ≡ out.old.acts ++ sent_acts peer reply.now }
+        ensures spare { out.old.spare ≤ out.new.spare + 1 }
+    {
+        if reply.len == 0 {
+            return;
+        }
+        let SendRoom { octets, covered } = self;
+        let (frame, _) = reply.octets.split_at(reply.len);
+        let seal = match reply.sealed {
+            Some(key) => {
+                let (_, eapol) = frame.split_at(EAPOL_FRONT);
+                let octets = Octets(covered.covering(eapol));
+                Some(Seal { octets, key })
+            }
+            None => None,
+        };
+        let octets = Octets(octets.filled(frame));
+        out.add(Act::Sent {
+            peer: Peer::One(peer),
+            kind: reply.kind,
+            octets,
+            seal,
+        });
+    }
+}

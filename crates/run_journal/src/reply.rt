@@ -1,0 +1,70 @@
+//! What a part of a node gives back beside an outcome.
+
+use crate::acts::Kind;
+use key_hierarchy::Ptk;
+
+/// The octets that a reply has room for.
+pub const REPLY_LEN: usize = 512;
+
+/// A pairwise key with the nonces that it was derived from.
+#[derive(Clone, Copy, Debug, PartialEq, Eq)]
+pub struct Keyed {
+    /// The key.
+    pub ptk: Ptk,
+    /// The access point's nonce.
+    pub anonce: [u8; 32],
+    /// The station's nonce.
+    pub snonce: [u8; 32],
+}
+
+/// A group key that came.
+#[derive(Clone, Copy, Debug, PartialEq, Eq)]
+pub struct GtkNews {
+    /// Whether the station had it, and it is taken into use again.
+    pub resumed: bool,
+    /// The key id under which it is used, from 1 to 3.
+    pub id: u8,
+    /// The key.
+    pub key: [u8; 16],
+}
+
+/// What a message, or the sending of one, comes to beside its outcome. It takes no memory.
+#[derive(Clone, Copy, Debug, PartialEq, Eq)]
+pub struct Reply {
+    /// The air frame to send, at the front.
+    pub octets: [u8; REPLY_LEN],
+    /// How many octets it has: 0 where nothing is sent.
+    pub len: usize,
+    /// Its kind; of an attempt that was given up, that of the message that was sent in vain.
+    pub kind: Kind,
+    /// The KCK under which it is sealed, where it is.
+    pub sealed: Option<[u8; 16]>,
+    /// The KCK under which the frame that was taken verified, where it did.
+    pub verified: Option<[u8; 16]>,
+    /// The pairwise key that was derived.
+    pub derived: Option<Keyed>,
+    /// The pairwise key that was installed.
+    pub installed: Option<Keyed>,
+    /// The group key that was installed or resumed.
+    pub gtk: Option<GtkNews>,
+}
+
+impl Reply {
+    ghost use Rattle.run_journal.specs.Replies.{IsEmpty};
+
+    /// Nothing: no frame and no key.
+    pub fn empty() -> Self
+        ensures { IsEmpty result }
+    {
+        Reply {
+            octets: [0; REPLY_LEN],
+            len: 0,
+            kind: Kind::Ignored,
+            sealed: None,
+            verified: None,
+            derived: None,
+            installed: None,
+            gtk: None,
+        }
+    }
+}

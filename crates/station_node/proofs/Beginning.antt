@@ -1,0 +1,136 @@
+-- What a station stands for as it has asked for association, and as that was accepted.
+use Rattle.std.proofs.Common.{◌≡◌, ◌≢◌, inl, inr, ℕ, ◌<◌, ◌+◌, true, false, List, ◌∷◌, length, Option, Some, None, refl, sym, ap, subst, ◌∙◌, arith}
+use Rattle.std.proofs.lemmas.Bool.{ne_eqb, cases_Bool}
+use Rattle.domain_base.specs.declared.names.Node.{Node}
+use Rattle.domain_base.specs.declared.names.Node.TheVariants.{Ap, Sta}
+use Rattle.eapol_key.specs.declared.messages.Message.TheVariants.{M1}
+use Rattle.run_journal.specs.declared.domain.Domain.{Domain}
+use Rattle.run_journal.specs.declared.acts.Part.TheVariants.{Session as OfSession}
+use Rattle.run_journal.specs.declared.acts.Kind.TheVariants as kind
+use Rattle.run_journal.specs.declared.acts.Outcome.TheVariants as outcome
+use Rattle.run_journal.specs.declared.acts.Act.{Act}
+use Rattle.run_journal.specs.declared.acts.Act.TheVariants.{Closed, Took}
+use Rattle.run_journal.specs.Acts.{same}
+use Rattle.run_journal.specs.Questions.{session, pending, associated, given, add}
+use Rattle.domain_rules.specs.GroupKeys.{got}
+use Rattle.domain_rules.specs.Rows.{close_associated}
+use Rattle.domain_rules.proofs.Parts.{attempt_none, attempt_more, attempt_some, by_connect_more, own_nonce_more, same-refl}
+use Rattle.domain_rules.proofs.Effects.{IsBegun, begun-counter, begun-silent, asking_acts, has_asked, asked-pending, asked-associated, asked-others, asked-draws, associated_acts}
+use Rattle.group_key.specs.Keys.{Kept}
+use Rattle.group_key.specs.Holds.{Remembers}
+use Rattle.node_frames.specs.Links.{IsLink}
+use Rattle.node_frames.proofs.RepliedActs.{remembers_on}
+use Rattle.supplicant.specs.declared.stage.Stage.{Stage}
+use Rattle.supplicant.specs.declared.stage.Stage.TheVariants.{Attempt}
+use Rattle.supplicant.specs.State.{State as Supplicant}
+use Rattle.supplicant.specs.Stands.{StandsIn, IsUnderWay}
+use Rattle.station_node.specs.declared.association.Association.{Association}
+use Rattle.station_node.specs.declared.association.Association.TheVariants.{Requested, Accepted}
+use Rattle.station_node.specs.State.{State, memory_at}
+use Rattle.station_node.specs.Stands.{Stands, IsRequested, IsElsewhere, attempt_at, session_at, peer_in, peer_of_session}
+use Rattle.station_node.proofs.Standing.{no_attempt, no_session, no_other_session, requested_is}
+
+-- ---- it asks an access point for association
+
+asked-given : (d : Domain) (n : Node) (was had : Option Node) (a : ℕ) (v : List ℕ) (h : List Act) (p : Node) → given p (add (asking_acts d n was had a v) h) ≡ given p h
+asked-given d n None None a v h p = refl
+asked-given d n None (Some q) a v h p = refl
+asked-given d n (Some r) None a v h p = refl
+asked-given d n (Some r) (Some q) a v h p = refl
+
+asked-got : (d : Domain) (n : Node) (was had : Option Node) (a : ℕ) (v : List ℕ) (h : List Act) (p : Node) (key : List ℕ) (id : ℕ) → got p key id (add (asking_acts d n was had a v) h) ≡ got p key id h
+asked-got d n None None a v h p key id = refl
+asked-got d n None (Some q) a v h p key id = refl
+asked-got d n (Some r) None a v h p key id = refl
+asked-got d n (Some r) (Some q) a v h p key id = refl
+
+asked-session : (d : Domain) (n : Node) (was had : Option Node) (a : ℕ) (v : List ℕ) (h : List Act) (p : Node) → session p (add (asking_acts d n was had a v) h) ≡ session p (add (close_associated had) h)
+asked-session d n None None a v h p = refl
+asked-session d n None (Some q) a v h p = refl
+asked-session d n (Some r) None a v h p = refl
+asked-session d n (Some r) (Some q) a v h p = refl
+
+left_by : (q : Node) (p : ℕ) (h : List Act) → (q ≢ Ap p → session (Ap p) h ≡ None) → session (Ap p) (Closed q OfSession ∷ h) ≡ None
+left_by q p h alone = elim (cases_Bool (same (Ap p) q)) [ inl is ↦ rw is refl | inr none ↦ rw none (alone (λ e. other p q none e)) ]
+  where
+    other : (p : ℕ) (q : Node) → same (Ap p) q ≡ false → q ≡ Ap p → ⊥
+    other p q none e = let here : same (Ap p) q ≡ true = subst (λ (x : Node). same (Ap p) x ≡ true) (sym e) (same-refl (Ap p)) in cc (none, here)
+
+left_session : (d : Domain) (first : ℕ) (s : State) (h : List Act) (p : ℕ) (o : Option Node) → Stands d first s h → peer_of_session s.association ≡ o → session (Ap p) (add (close_associated o) h) ≡ None
+left_session d first s h p None st is = no_session d first s h p st is
+left_session d first s h p (Some q) st is = left_by q p h (λ other. no_other_session d first s h p q st is other)
+
+no_session_left : (d : Domain) (first : ℕ) (s : State) (h : List Act) (n : Node) (a : ℕ) (v : List ℕ) (p : ℕ) → Stands d first s h → session (Ap p) (add (asking_acts d n (pending h) (associated h) a v) h) ≡ None
+no_session_left d first s h n a v p st =
+    asked-session d n (pending h) (associated h) a v h (Ap p) ∙ left_session d first s h p (associated h) st (sym st.associated_is)
+
+abbrev pub asked_state : State → ℕ → List ℕ → State
+asked_state s a v = record { number = s.number; drawn = s.drawn + 1; association = Some (Requested a v); memories = s.memories }
+
+pub stands-asked : (d : Domain) (first : ℕ) (s : State) (h : List Act) (n : Node) (a : ℕ) (v : List ℕ) → Stands d first s h → a < length d.aps
+    → Stands d first (asked_state s a v) (add (asking_acts d n (pending h) (associated h) a v) h)
+stands-asked d first s h n a v st low =
+    let b : IsBegun (Ap a) v (add (asking_acts d n (pending h) (associated h) a v) h) = has_asked d n (pending h) (associated h) a v h in
+    record {
+      draws_are = omega (arith, st.draws_are, asked-draws d n (pending h) (associated h) a v h);
+      pending_is = asked-pending d n (pending h) (associated h) a v h;
+      associated_is = asked-associated d n (pending h) a v h;
+      association_is = (
+        low,
+        record {
+          part = b.part;
+          is = b.is;
+          begun = b.begun;
+          nonce = b.nonce;
+          hears = begun-silent (Ap a) v _ b kind.AssocResp;
+          keeps = begun-counter (Ap a) v _ b;
+          asked = begun-silent (Ap a) v _ b (kind.Key M1);
+          keyed = b.derives;
+          no_session = no_session_left d first s h n a v a st;
+        },
+      );
+      no_attempt = λ p other. asked-others d n (associated h) a v h p (ne_eqb p a (λ e. other (sym e))) (λ none. no_attempt d first s h p st (sym st.pending_is ∙ none));
+      no_session = λ p other. no_session_left d first s h n a v p st;
+      remembers = λ p. remembers_on (Ap p) (memory_at s.memories p) h _ (asked-given d n (pending h) (associated h) a v h (Ap p)) (λ key id. asked-got d n (pending h) (associated h) a v h (Ap p) key id) (st.remembers p);
+    }
+
+-- ---- the access point accepts it
+
+under_way-associated : (d : Domain) (n : Node) (p : ℕ) (v octets : List ℕ) (h : List Act) → IsRequested (Ap p) v h → IsUnderWay d n (Ap p) v None (add (associated_acts (Ap p) octets) h)
+under_way-associated d n p v octets h u = record {
+  part = Took (Some (Ap p)) octets kind.AssocResp outcome.Accepted None ∷ u.part;
+  is = attempt_more (Ap p) (Took (Some (Ap p)) octets kind.AssocResp outcome.Accepted None) h u.part refl refl u.is;
+  begun = by_connect_more (Took (Some (Ap p)) octets kind.AssocResp outcome.Accepted None) u.part (attempt_some (Ap p) h u.part u.is) ∙ u.begun;
+  nonce = own_nonce_more (Took (Some (Ap p)) octets kind.AssocResp outcome.Accepted None) u.part v u.nonce;
+  hears = rw (same-refl (Ap p)) refl;
+  keeps = rw (same-refl (Ap p)) u.keeps;
+  asked = rw (same-refl (Ap p)) u.asked;
+  keyed = u.keyed;
+  no_session = u.no_session;
+}
+
+-- with a supplicant that has begun, and one place more in memory
+abbrev pub associated_state : State → ℕ → Supplicant → List (List Kept) → State
+associated_state s p x memories = record { number = s.number; drawn = s.drawn; association = Some (Accepted p x); memories = memories }
+
+pub stands-associated : (d : Domain) (first : ℕ) (s : State) (h : List Act) (p : ℕ) (v octets : List ℕ) (x : Supplicant) (memories : List (List Kept)) → Stands d first s h → s.association ≡ Some (Requested p v)
+    → IsLink d (Sta s.number) (Ap p) x.link → x.psk ≡ d.psk → x.stage ≡ Attempt v None → ((k : ℕ) → memory_at memories k ≡ memory_at s.memories k)
+    → Stands d first (associated_state s p x memories) (add (associated_acts (Ap p) octets) h)
+stands-associated d first s h p v octets x memories st is link psk stage same_memory =
+    let r = requested_is d first s h p v st is in
+    record {
+      draws_are = st.draws_are;
+      pending_is = st.pending_is ∙ ap peer_in is ∙ ap (attempt_at p) (sym stage);
+      associated_is = st.associated_is ∙ ap peer_of_session is ∙ ap (session_at p) (sym stage);
+      association_is = (
+        r.0,
+        record {
+          link = link;
+          psk = psk;
+          stage_is = subst (λ (y : Stage). StandsIn d (Sta s.number) (Ap p) y (add (associated_acts (Ap p) octets) h)) (sym stage) (under_way-associated d (Sta s.number) p v octets h r.1);
+        },
+      );
+      no_attempt = λ q other. attempt_none (Ap q) (Took (Some (Ap p)) octets kind.AssocResp outcome.Accepted None) h refl (st.no_attempt q (subst (λ (o : Option Association). IsElsewhere o q) (sym is) other));
+      no_session = λ q other. st.no_session q (subst (λ (o : Option Association). IsElsewhere o q) (sym is) other);
+      remembers = λ q. remembers_on (Ap q) (memory_at memories q) h _ refl (λ key id. refl) (subst (λ (ks : List Kept). Remembers (Ap q) ks h) (sym (same_memory q)) (st.remembers q));
+    }

@@ -1,0 +1,10 @@
+pub mod KeysOf
+pub mod Telling
+pub mod Standing
+pub mod TakenM1
+pub mod Keyings
+pub mod KeyDataRead
+pub mod Sessions
+pub mod Remembering
+pub mod TakenM3
+pub mod Staged

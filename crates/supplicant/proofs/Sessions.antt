@@ -1,0 +1,79 @@
+-- What a supplicant stands for behind an M3 that was accepted, or answered once more.
+use Rattle.std.proofs.Common.{◌≡◌, ℕ, ◌<◌, List, [], ◌∷◌, Option, Some, None, refl, ap, ◌∙◌}
+use Rattle.domain_base.specs.declared.names.Node.{Node}
+use Rattle.domain_base.specs.declared.names.Node.TheVariants.{Ap, Sta}
+use Rattle.domain_base.specs.declared.names.Mac.{Mac}
+use Rattle.domain_base.specs.declared.names.Peer.TheVariants.{One}
+use Rattle.eapol_key.specs.declared.messages.Message.TheVariants.{M3, G1}
+use Rattle.key_hierarchy.specs.declared.inputs.Inputs.{Inputs}
+use Rattle.run_journal.specs.declared.domain.Domain.{Domain}
+use Rattle.run_journal.specs.declared.acts.Kind.TheVariants as kind
+use Rattle.run_journal.specs.declared.acts.Key.TheVariants.{Pairwise}
+use Rattle.run_journal.specs.declared.acts.Outcome.TheVariants.{Accepted, Answered}
+use Rattle.run_journal.specs.declared.acts.Seal.{Seal}
+use Rattle.run_journal.specs.declared.acts.Act.{Act}
+use Rattle.run_journal.specs.declared.acts.Act.TheVariants.{Took, Installed, Finished}
+use Rattle.run_journal.specs.declared.reply.Keyed.{Keyed}
+use Rattle.run_journal.specs.Acts.{GroupKey}
+use Rattle.run_journal.specs.Questions.{since, derivation, session, add}
+use Rattle.domain_rules.specs.Frames.{sent_m4}
+use Rattle.domain_rules.specs.Replies.{inputs_by}
+use Rattle.domain_rules.specs.Verdict.{by_connect, kept_counter, replay_counter, at_least}
+use Rattle.domain_rules.specs.GroupKeys.{give_by}
+use Rattle.domain_rules.proofs.Parts.{IsApart, same-refl, attempt_none, attempt_some, by_connect_more}
+use Rattle.supplicant.specs.Stands.{IsUnderWay, IsHeld, key_by}
+use Rattle.supplicant.proofs.Standing.{some_part, since_part, derivation_part, at_least-greater}
+
+-- ---- M3 accepted
+
+abbrev pub finishing_acts : Domain → Node → Node → List ℕ → Seal → List ℕ → Inputs → Act → ℕ → List Act
+finishing_acts d n p octets s tk i g counter =
+    Took (Some p) octets (kind.Key M3) Accepted (Some s) ∷ Installed (One p) (Pairwise tk i) ∷ g ∷ Finished p i ∷ sent_m4 d n p i counter ∷ []
+
+-- that of a group key is not about a pairwise one
+pub apart_give : (p q : Node) (b : Mac) (g : GroupKey) (o : Option GroupKey) → IsApart q (give_by p b g o)
+apart_give p q b g None = record { opens_none = refl; ends_none = refl; accepts_none = λ k. refl; replies_none = λ k. refl; sends_none = λ m. refl; derives_none = refl; finishes_none = refl; closes_none = refl }
+apart_give p q b g (Some kept) = record { opens_none = refl; ends_none = refl; accepts_none = λ k. refl; replies_none = λ k. refl; sends_none = λ m. refl; derives_none = refl; finishes_none = refl; closes_none = refl }
+
+session_there : (d : Domain) (n p : Node) (octets : List ℕ) (s : Seal) (tk : List ℕ) (i : Inputs) (g : Act) (counter : ℕ) (h : List Act) → IsApart p g → session p (add (finishing_acts d n p octets s tk i g counter) h) ≡ derivation p h
+session_there d n p octets s tk i g counter h apart = rw (same-refl p, apart.derives_none) refl
+
+since_there : (d : Domain) (n p : Node) (octets : List ℕ) (s : Seal) (tk : List ℕ) (i : Inputs) (g : Act) (counter : ℕ) (h part : List Act) → IsApart p g → since p h ≡ part
+    → since p (add (finishing_acts d n p octets s tk i g counter) h) ≡ sent_m4 d n p i counter ∷ Finished p i ∷ g ∷ Installed (One p) (Pairwise tk i) ∷ Took (Some p) octets (kind.Key M3) Accepted (Some s) ∷ part
+since_there d n p octets s tk i g counter h part apart is = rw (apart.opens_none, is) refl
+
+counter_there : (d : Domain) (n p : Node) (octets : List ℕ) (s : Seal) (tk : List ℕ) (i : Inputs) (g : Act) (counter : ℕ) (part : List Act) → IsApart p g
+    → kept_counter p (sent_m4 d n p i counter ∷ Finished p i ∷ g ∷ Installed (One p) (Pairwise tk i) ∷ Took (Some p) octets (kind.Key M3) Accepted (Some s) ∷ part) ≡ at_least (replay_counter octets) (kept_counter p part)
+counter_there d n p octets s tk i g counter part apart = rw (apart.replies_none (kind.Key M3), apart.replies_none (kind.Key G1), same-refl p) refl
+
+pub held_finished : (d : Domain) (sta a : ℕ) (v octets : List ℕ) (s : Seal) (y : Keyed) (g : Act) (counter : ℕ) (h : List Act) → IsUnderWay d (Sta sta) (Ap a) v (Some y) h → IsApart (Ap a) g → replay_counter octets ≡ counter
+    → IsHeld d (Sta sta) (Ap a) y counter (add (finishing_acts d (Sta sta) (Ap a) octets s y.ptk.tk (inputs_by d (Sta sta) (Ap a) y) g counter) h)
+held_finished d sta a v octets s y g counter h u apart is =
+    let i : Inputs = inputs_by d (Sta sta) (Ap a) y in
+    let since_is = since_there d (Sta sta) (Ap a) octets s y.ptk.tk i g counter h u.part apart (since_part (Ap a) h u.part u.is) in
+    record {
+      is = session_there d (Sta sta) (Ap a) octets s y.ptk.tk i g counter h apart ∙ derivation_part (Ap a) h u.part (key_by d (Sta sta) (Ap a) y) u.is u.keyed;
+      begun = ap by_connect since_is ∙ by_connect_more (Took (Some (Ap a)) octets (kind.Key M3) Accepted (Some s)) u.part (attempt_some (Ap a) h u.part u.is) ∙ u.begun;
+      keeps = ap (kept_counter (Ap a)) since_is ∙ counter_there d (Sta sta) (Ap a) octets s y.ptk.tk i g counter u.part apart ∙ rw (u.keeps, is) refl;
+      no_attempt = refl;
+    }
+
+-- ---- M3 once more
+
+abbrev pub answering_acts : Domain → Node → Node → List ℕ → Seal → Inputs → ℕ → List Act
+answering_acts d n p octets s i counter = Took (Some p) octets (kind.Key M3) Answered (Some s) ∷ sent_m4 d n p i counter ∷ []
+
+counter_again : (d : Domain) (n p : Node) (octets : List ℕ) (s : Seal) (i : Inputs) (counter : ℕ) (h : List Act)
+    → kept_counter p (since p (add (answering_acts d n p octets s i counter) h)) ≡ at_least (replay_counter octets) (kept_counter p (since p h))
+counter_again d n p octets s i counter h = rw (same-refl p) refl
+
+pub held_again : (d : Domain) (n p : Node) (octets : List ℕ) (s : Seal) (i : Inputs) (y : Keyed) (kept counter : ℕ) (h : List Act) → IsHeld d n p y kept h → replay_counter octets ≡ counter → kept < counter
+    → IsHeld d n p y counter (add (answering_acts d n p octets s i counter) h)
+held_again d n p octets s i y kept counter h l is high =
+    let took : Act = Took (Some p) octets (kind.Key M3) Answered (Some s) in
+    record {
+      is = l.is;
+      begun = by_connect_more took (since p h) (some_part (since p h) l.begun) ∙ l.begun;
+      keeps = counter_again d n p octets s i counter h ∙ rw (l.keeps, is) (at_least-greater kept counter high);
+      no_attempt = attempt_none p (sent_m4 d n p i counter) (took ∷ h) refl (attempt_none p took h refl l.no_attempt);
+    }

@@ -1,0 +1,108 @@
+-- What acts that change nothing do to the histories that a supplicant stands for; and the parts of a history.
+use Rattle.std.proofs.Common.{◌≡◌, ℕ, ◌<◌, true, List, [], ◌∷◌, Option, Some, None, sym, ap, subst, ◌∙◌, arith}
+use Rattle.std.specs.Prelude.{is_some}
+use Rattle.domain_base.specs.declared.names.Node.{Node}
+use Rattle.eapol_key.specs.declared.messages.Message.TheVariants.{M1, M3, G1}
+use Rattle.run_journal.specs.declared.domain.Domain.{Domain}
+use Rattle.run_journal.specs.declared.acts.Kind.{Kind}
+use Rattle.run_journal.specs.declared.acts.Kind.TheVariants as kind
+use Rattle.run_journal.specs.declared.acts.Reason.{Reason}
+use Rattle.run_journal.specs.declared.acts.Outcome.TheVariants.{Refused}
+use Rattle.run_journal.specs.declared.acts.Seal.{Seal}
+use Rattle.run_journal.specs.declared.acts.Act.{Act}
+use Rattle.run_journal.specs.declared.acts.Act.TheVariants.{Took}
+use Rattle.run_journal.specs.declared.reply.Keyed.{Keyed}
+use Rattle.run_journal.specs.Acts.{Derivation}
+use Rattle.run_journal.specs.Questions.{attempt, since, derivation, or_else}
+use Rattle.domain_rules.specs.Verdict.{by_connect, at_least}
+use Rattle.domain_rules.proofs.Parts.{Grows, Begins, Goes_on, grows, IsApart, apart-refused, IsCarried, GoesOn, goes_on, by_connect_more}
+use Rattle.supplicant.specs.declared.stage.Stage.{Stage}
+use Rattle.supplicant.specs.declared.stage.Stage.TheVariants.{Retired, Attempt, Session}
+use Rattle.supplicant.specs.State.{State}
+use Rattle.supplicant.specs.Stands.{Stands, StandsIn, IsUnderWay, IsHeld, IsRetired}
+
+-- ---- an act that is not about the peer
+
+plainly : (p : Node) (e : Act) (h : List Act) → IsApart p e → GoesOn p h (e ∷ h)
+plainly p e h apart = goes_on p (e ∷ []) h (apart, tt)
+
+under_way_more : (d : Domain) (n p : Node) (v : List ℕ) (key : Option Keyed) (h : List Act) (e : Act) → IsApart p e → IsUnderWay d n p v key h → IsUnderWay d n p v key (e ∷ h)
+under_way_more d n p v key h e apart u =
+    let g : GoesOn p h (e ∷ h) = plainly p e h apart in
+    let c : IsCarried p u.part (e ∷ h) = g.carries u.part u.is in
+    record {
+      part = c.more;
+      is = c.is;
+      begun = c.begun ∙ u.begun;
+      nonce = c.nonce v u.nonce;
+      hears = ap is_some (c.hears kind.AssocResp) ∙ u.hears;
+      keeps = rw (c.replies (kind.Key M3), c.replies (kind.Key G1)) u.keeps;
+      asked = ap is_some (c.hears (kind.Key M1)) ∙ u.asked;
+      keyed = c.derives ∙ u.keyed;
+      no_session = g.has ∙ u.no_session;
+    }
+
+-- a history that began by connect is not empty
+pub some_part : (part : List Act) → by_connect part ≡ true → part ≡ [] → ⊥
+some_part part begun none = cc (begun, ap by_connect none)
+
+held_more : (d : Domain) (n p : Node) (y : Keyed) (counter : ℕ) (h : List Act) (e : Act) → IsApart p e → IsHeld d n p y counter h → IsHeld d n p y counter (e ∷ h)
+held_more d n p y counter h e apart l =
+    let g : GoesOn p h (e ∷ h) = plainly p e h apart in
+    record {
+      is = g.has ∙ l.is;
+      begun = rw (apart.opens_none) (by_connect_more e (since p h) (some_part (since p h) l.begun) ∙ l.begun);
+      keeps = rw (apart.opens_none, apart.replies_none (kind.Key M3), apart.replies_none (kind.Key G1)) l.keeps;
+      no_attempt = g.none l.no_attempt;
+    }
+
+retired_more : (p : Node) (h : List Act) (e : Act) → IsApart p e → IsRetired p h → IsRetired p (e ∷ h)
+retired_more p h e apart r =
+    let g : GoesOn p h (e ∷ h) = plainly p e h apart in
+    record { no_attempt = g.none r.no_attempt; no_session = g.has ∙ r.no_session }
+
+pub stage_more : (d : Domain) (n p : Node) (x : Stage) (h : List Act) (e : Act) → IsApart p e → StandsIn d n p x h → StandsIn d n p x (e ∷ h)
+stage_more d n p Retired h e apart st = retired_more p h e apart st
+stage_more d n p (Attempt v key) h e apart st = under_way_more d n p v key h e apart st
+stage_more d n p (Session y counter) h e apart st = held_more d n p y counter h e apart st
+
+-- a message of the peer was refused
+pub stands_refused : (d : Domain) (n p : Node) (s : State) (octets : List ℕ) (k : Kind) (why : Reason) (seal : Option Seal) (h : List Act) → Stands d n p s h
+    → Stands d n p s (Took (Some p) octets k (Refused why) seal ∷ h)
+stands_refused d n p s octets k why seal h st = record {
+  link = st.link;
+  psk = st.psk;
+  stage_is = stage_more d n p s.stage h (Took (Some p) octets k (Refused why) seal) (apart-refused p (Some p) octets k why seal) st.stage_is;
+}
+
+-- ---- the part of an attempt, and the history since it began
+
+since_grows : (p : Node) (e : Act) (h part : List Act) → ((old : List Act) → attempt p h ≡ Some old → since p h ≡ old) → Grows p e h part → since p (e ∷ h) ≡ part
+since_grows p e h part more (Begins o is) = rw o (sym is)
+since_grows p e h part more (Goes_on old o n was is) = rw o (ap (λ (l : List Act). e ∷ l) (more old was) ∙ sym is)
+
+pub since_part : (p : Node) (h part : List Act) → attempt p h ≡ Some part → since p h ≡ part
+since_part p [] part s = cc
+since_part p (e ∷ h) part s = since_grows p e h part (λ old was. since_part p h old was) (grows p e h part s)
+
+derived_later : (o a b : Option Derivation) (x : Derivation) → (a ≡ Some x → b ≡ Some x) → or_else o a ≡ Some x → or_else o b ≡ Some x
+derived_later None a b x more s = more s
+derived_later (Some y) a b x more s = s
+
+first_of : (o : Option Derivation) (b : Option Derivation) (x : Derivation) → or_else o None ≡ Some x → or_else o b ≡ Some x
+first_of None b x s = cc
+first_of (Some y) b x s = s
+
+derivation_grows : (p : Node) (e : Act) (h part : List Act) (x : Derivation) → ((old : List Act) → attempt p h ≡ Some old → derivation p old ≡ Some x → derivation p h ≡ Some x) → Grows p e h part → derivation p part ≡ Some x → derivation p (e ∷ h) ≡ Some x
+derivation_grows p e h part x more (Begins o is) s = first_of _ (derivation p h) x (subst (λ (l : List Act). derivation p l ≡ Some x) is s)
+derivation_grows p e h part x more (Goes_on old o n was is) s = derived_later _ (derivation p old) (derivation p h) x (more old was) (subst (λ (l : List Act). derivation p l ≡ Some x) is s)
+
+-- the key derived last in the attempt was derived last
+pub derivation_part : (p : Node) (h part : List Act) (x : Derivation) → attempt p h ≡ Some part → derivation p part ≡ Some x → derivation p h ≡ Some x
+derivation_part p [] part x s is = cc
+derivation_part p (e ∷ h) part x s is = derivation_grows p e h part x (λ old was there. derivation_part p h old x was there) (grows p e h part s) is
+
+-- ---- counters
+
+pub at_least-greater : (kept counter : ℕ) → kept < counter → at_least counter (Some kept) ≡ Some counter
+at_least-greater kept counter high = ap (λ (x : ℕ). Some x) (omega (arith, high))

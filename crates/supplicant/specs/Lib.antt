@@ -1,0 +1,9 @@
+pub mod State
+pub mod Stands
+pub mod Steps
+pub mod Keys
+pub mod Starts
+pub mod Stages
+pub mod M3
+pub mod Told
+pub mod Taken

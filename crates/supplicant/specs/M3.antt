@@ -1,0 +1,74 @@
+-- What M3 is judged as.
+use Rattle.std.specs.Prelude.{◌≡◌, ℕ, ◌<◌, ◌≤◌, true, false, List, Option, Some, None, bytes_eq, if◌then◌else◌, Result, Ok, Err}
+use Rattle.domain_base.specs.declared.names.Akm.{Akm}
+use Rattle.rsn_elements.specs.Elements.{ElementFields}
+use Rattle.mac_prf.specs.Mic.{mic}
+use Rattle.eapol_key.specs.KeyFrame.{KeyFields}
+use Rattle.run_journal.specs.declared.acts.KeyDataFault.{KeyDataFault}
+use Rattle.run_journal.specs.declared.acts.Reason.{Reason}
+use Rattle.run_journal.specs.declared.acts.Reason.TheVariants as reason
+use Rattle.run_journal.specs.declared.acts.Outcome.{Outcome}
+use Rattle.run_journal.specs.declared.acts.Outcome.TheVariants.{Accepted, Refused}
+use Rattle.run_journal.specs.declared.reply.Keyed.{Keyed}
+use Rattle.run_journal.specs.declared.reply.GtkNews.{GtkNews}
+use Rattle.run_journal.specs.Acts.{GroupKey}
+use Rattle.domain_rules.specs.Verdict.{IsUnwrapped, ReadsKeyData, above, m3_key_data, m3_wrapped}
+use Rattle.domain_rules.specs.Rows.{carried, is_after_mic}
+use Rattle.supplicant.specs.declared.m3.CarriedKey.{CarriedKey}
+use Rattle.supplicant.specs.declared.m3.M3.{M3}
+use Rattle.supplicant.specs.declared.m3.M3.TheVariants as m3
+
+abbrev pub group_key : CarriedKey → GroupKey
+group_key c = record { key = c.key; id = c.id }
+
+-- what becomes of a group key by the key id under which it is kept
+abbrev pub news_of : CarriedKey → Option ℕ → GtkNews
+news_of c None = record { resumed = false; id = c.id; key = c.key }
+news_of c (Some id) = record { resumed = true; id = id; key = c.key }
+
+-- plain key data carries that group key, or what is wrong with it
+abbrev pub IsKeyDataSaid : Akm → Option ElementFields → Result CarriedKey KeyDataFault → Type 0
+IsKeyDataSaid akm says (Ok c) = (m3_key_data akm says ≡ Accepted) × (carried says ≡ group_key c)
+IsKeyDataSaid akm says (Err fault) = m3_key_data akm says ≡ Refused (reason.KeyData fault)
+
+pub record IsPlain (akm : Akm) (plain : List ℕ) (r : Result CarriedKey KeyDataFault) : Type 0 where
+  pub says : Option ElementFields
+  pub reads : ReadsKeyData plain says
+  pub is : IsKeyDataSaid akm says r
+
+-- wrapped key data carries that group key, or why it is refused
+abbrev pub IsWrappedSaid : Akm → Option (List ℕ) → Option ElementFields → Result CarriedKey Reason → Type 0
+IsWrappedSaid akm plain says (Ok c) = (m3_wrapped akm plain says ≡ Accepted) × (carried says ≡ group_key c)
+IsWrappedSaid akm plain says (Err why) = (m3_wrapped akm plain says ≡ Refused why) × (is_after_mic why ≡ true)
+
+pub record IsOpened (akm : Akm) (kek octets : List ℕ) (r : Result CarriedKey Reason) : Type 0 where
+  pub plain : Option (List ℕ)
+  pub says : Option ElementFields
+  pub unwrapped : IsUnwrapped kek octets plain
+  pub reads : (p : List ℕ) → plain ≡ Some p → ReadsKeyData p says
+  pub is : IsWrappedSaid akm plain says r
+
+-- the counter is above the kept one, where there is one
+abbrev pub IsAbove : Option ℕ → ℕ → Type 0
+IsAbove None counter = Unit {0}
+IsAbove (Some kept) counter = kept < counter
+
+-- or it is not above that one
+abbrev pub IsNotAbove : Option ℕ → ℕ → ℕ → Type 0
+IsNotAbove None counter was = ⊥
+IsNotAbove (Some kept) counter was = (was ≡ kept) × (counter ≤ kept)
+
+-- what comes of M3 with these fields and octets before its key data, under that key
+abbrev pub before_key_data : Akm → Keyed → Option ℕ → KeyFields → List ℕ → Outcome → Outcome
+before_key_data akm y kept f octets then_ =
+    above kept f.counter (if bytes_eq f.nonce y.anonce then (if bytes_eq f.mic (mic akm y.ptk.kck octets) then then_ else Refused reason.Mic) else Refused reason.Nonce)
+
+-- its MIC verified, and its key data is that
+pub record IsVerified (akm : Akm) (y : Keyed) (kept : Option ℕ) (f : KeyFields) (octets : List ℕ) (r : Result CarriedKey Reason) : Type 0 where
+  pub comes : (o : Outcome) → before_key_data akm y kept f octets o ≡ o
+  pub opened : IsOpened akm y.ptk.kek f.key_data r
+
+abbrev pub IsM3 : Akm → Keyed → Option ℕ → KeyFields → List ℕ → M3 → Type 0
+IsM3 akm y kept f octets (m3.Refused why) = ((o : Outcome) → before_key_data akm y kept f octets o ≡ Refused why) × (is_after_mic why ≡ false)
+IsM3 akm y kept f octets (m3.Other why) = IsVerified akm y kept f octets (Err why)
+IsM3 akm y kept f octets (m3.Agreed c) = IsVerified akm y kept f octets (Ok c)

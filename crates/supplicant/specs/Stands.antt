@@ -1,0 +1,55 @@
+-- Which histories a supplicant stands for.
+use Rattle.std.specs.Prelude.{◌≡◌, ℕ, true, List, Option, Some, None, option_map, is_some}
+use Rattle.domain_base.specs.declared.names.Node.{Node}
+use Rattle.eapol_key.specs.declared.messages.Message.TheVariants.{M1}
+use Rattle.run_journal.specs.declared.domain.Domain.{Domain}
+use Rattle.run_journal.specs.declared.acts.Kind.TheVariants.{AssocResp, Key}
+use Rattle.run_journal.specs.declared.acts.Act.{Act}
+use Rattle.run_journal.specs.declared.reply.Keyed.{Keyed}
+use Rattle.run_journal.specs.Acts.{Derivation}
+use Rattle.run_journal.specs.Questions.{attempt, since, own_nonce, derivation, session}
+use Rattle.domain_rules.specs.Verdict.{by_connect, has_heard, kept_counter}
+use Rattle.domain_rules.specs.Replies.{inputs_by}
+use Rattle.node_frames.specs.Links.{IsLink}
+use Rattle.supplicant.specs.declared.stage.Stage.{Stage}
+use Rattle.supplicant.specs.declared.stage.Stage.TheVariants as stage
+use Rattle.supplicant.specs.State.{State}
+
+-- the key of node n with its peer p
+abbrev pub key_by : Domain → Node → Node → Keyed → Derivation
+key_by d n p y = record { inputs = inputs_by d n p y; ptk = y.ptk }
+
+-- the attempt is under way: it began by association, whose response was accepted, and in it no M3 and no G1 was accepted
+pub record IsUnderWay (d : Domain) (n p : Node) (snonce : List ℕ) (key : Option Keyed) (h : List Act) : Type 0 where
+  pub part : List Act
+  pub is : attempt p h ≡ Some part
+  pub begun : by_connect part ≡ true
+  pub nonce : own_nonce part ≡ Some snonce
+  pub hears : has_heard p AssocResp part ≡ true
+  pub keeps : kept_counter p part ≡ None
+  pub asked : has_heard p (Key M1) part ≡ is_some key
+  pub keyed : derivation p part ≡ option_map (key_by d n p) key
+  pub no_session : session p h ≡ None
+
+-- the session is held: it began by association
+pub record IsHeld (d : Domain) (n p : Node) (key : Keyed) (counter : ℕ) (h : List Act) : Type 0 where
+  pub is : session p h ≡ Some (key_by d n p key)
+  pub begun : by_connect (since p h) ≡ true
+  pub keeps : kept_counter p (since p h) ≡ Some counter
+  pub no_attempt : attempt p h ≡ None
+
+-- there is neither
+pub record IsRetired (p : Node) (h : List Act) : Type 0 where
+  pub no_attempt : attempt p h ≡ None
+  pub no_session : session p h ≡ None
+
+abbrev pub StandsIn : Domain → Node → Node → Stage → List Act → Type 0
+StandsIn d n p stage.Retired h = IsRetired p h
+StandsIn d n p (stage.Attempt snonce key) h = IsUnderWay d n p snonce key h
+StandsIn d n p (stage.Session key counter) h = IsHeld d n p key counter h
+
+-- the supplicant of node n with its peer p stands for the history of n
+pub record Stands (d : Domain) (n p : Node) (s : State) (h : List Act) : Type 0 where
+  pub link : IsLink d n p s.link
+  pub psk : s.psk ≡ d.psk
+  pub stage_is : StandsIn d n p s.stage h

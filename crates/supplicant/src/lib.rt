@@ -1,0 +1,13 @@
+//! A station's side of the four-way handshake with one access point (IEEE Std 802.11-2020, 12.7.6).
+#![tactic(auto)]
+
+mod answers;
+mod keys;
+mod m3;
+mod stage;
+mod supplicant;
+#[cfg(test)]
+mod tests;
+
+pub use stage::Stage;
+pub use supplicant::{StaStart, Supplicant};
