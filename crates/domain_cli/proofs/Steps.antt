@@ -11,8 +11,8 @@ use Rattle.domain_world.specs.State.{State, with_ap, with_sta}
 use Rattle.domain_world.specs.Owning.{Owns}
 use Rattle.frame_script.specs.Script.{Fault, Draft, AtVersion, AtSeed, AtSsid, AtPsk, AtAkm, AtNodes, Said, Goes, ListsAp, ListsSta, Asks, line_says, said_after, rounds_after}
 use Rattle.frame_script.specs.Headers.{Reading, IsNetwork, IsDomain, IsHeaderStep, CanHappen, TakesStep, TakesLine, sizes_of}
-use Rattle.frame_script.specs.declared.script.Step.{Step as Asked}
-use Rattle.frame_script.specs.declared.script.Step.TheVariants as step
+use Rattle.frame_script.specs.declared.reader.Step.{Step as Asked}
+use Rattle.frame_script.specs.declared.reader.Step.TheVariants as step
 use Rattle.domain_cli.specs.Script.{IsJournal, rounds_with}
 use Rattle.domain_cli.specs.Stages.{IsOwn, IsNone, IsWorldOf, CanBegin, CanDo, CanRun, Lists, Runs, Did, DidRun}
 use Rattle.domain_cli.proofs.Goings.{same_network}
@@ -46,7 +46,7 @@ not_hidden draft asked is can shows =
 
 begins : (old new : Draft) (rounds : ℕ) (sizes : List ℕ) (says : Result Said Fault) (asked : Asked) → ((d : Domain) → old ≢ AtNodes d) → TakesStep old new rounds sizes says asked → CanBegin new asked
 begins old new rounds sizes says step.Nothing due takes = tt
-begins old new rounds sizes says step.Network due takes = (takes.0, takes.1.1)
+begins old new rounds sizes says step.Network due takes = (takes.0, (takes.1.1.0, takes.1.1.1.0))
 begins old new rounds sizes says (step.Ap address id) due takes = due takes.0 takes.1.1.0
 begins old new rounds sizes says (step.Sta address) due takes = due takes.0 takes.1.1.0
 begins old new rounds sizes says (step.Event event) due takes = due takes.0 takes.1.1.0
@@ -107,7 +107,7 @@ begun r s v said line j k step.Nothing is t takes did =
       no_entries = did.1 ∙ is.no_entries;
     })
 begun r s None said line j k step.Network is t takes did = absurd did.0
-begun r s (Some w) said line j k step.Network is t (d, (says, (new, network))) did =
+begun r s (Some w) said line j k step.Network is t (d, (says, (new, (network, due)))) did =
     let same = one_network s.draft d w.domain new did.0.network in
     let none : w.domain.aps ≡ [] = ap (λ (x : Domain). x.aps) (sym same) ∙ network.no_aps in
     record {

@@ -4,7 +4,7 @@ use Rattle.run_journal.specs.declared.domain.Event.{Event}
 use Rattle.run_journal.specs.declared.acts.Entry.{Entry}
 use Rattle.frame_script.specs.Script.{Draft, AtVersion, Said, Fault, line_says, said_after}
 use Rattle.frame_script.specs.Headers.{Reading, HasSeenAll, TakesLine, sizes_of}
-use Rattle.frame_script.specs.declared.script.Step.{Step as Asked}
+use Rattle.frame_script.specs.declared.reader.Step.{Step as Asked}
 use Rattle.domain_cli.specs.declared.stage.Stage.{Stage}
 use Rattle.domain_cli.specs.Script.{IsJournal, HasSent, rounds_with}
 use Rattle.domain_cli.specs.Stages.{IsWorldOf, IsReady, Stands, DidRun, TellsLine}

@@ -9,10 +9,10 @@ use Rattle.domain_world.specs.State.{State, with_ap, with_sta}
 use Rattle.domain_world.specs.Owning.{Owns, IsEventIn}
 use Rattle.frame_script.specs.Script.{Draft, AtNodes, Outside, Past}
 use Rattle.frame_script.specs.Headers.{Reading, HasSeen, IsNetwork}
-use Rattle.frame_script.specs.declared.script.Step.{Step as Asked}
-use Rattle.frame_script.specs.declared.script.Step.TheVariants as step
-use Rattle.frame_script.specs.declared.script.LineFault.{LineFault}
-use Rattle.frame_script.specs.declared.script.LineFault.TheVariants.{Script, Limit, NoMemory}
+use Rattle.frame_script.specs.declared.reader.Step.{Step as Asked}
+use Rattle.frame_script.specs.declared.reader.Step.TheVariants as step
+use Rattle.frame_script.specs.declared.reader.LineFault.{LineFault}
+use Rattle.frame_script.specs.declared.reader.LineFault.TheVariants.{Script, Limit, NoMemory}
 use Rattle.domain_cli.specs.declared.stage.Stage.{Stage}
 use Rattle.domain_cli.specs.Script.{IsJournal, Says, Refuses}
 

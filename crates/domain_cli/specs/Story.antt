@@ -1,5 +1,5 @@
 -- What a whole run did: the journal by the octets read, and the octets written by the journal.
-use Rattle.std.specs.Prelude.{◌≡◌, ℕ, suc, List, Bool, true, Option, length}
+use Rattle.std.specs.Prelude.{◌≡◌, ◌≤◌, ℕ, suc, List, Bool, true, Option, length}
 use Rattle.std.specs.Io.KnownBytes.{Consumes, IsAtEnd, Appends}
 use Rattle.domain_base.specs.Causes.{AppendsPart}
 use Rattle.run_journal.specs.declared.domain.Event.{Event}
@@ -10,7 +10,7 @@ use Rattle.domain_cli.specs.declared.status.Found.{Found}
 use Rattle.domain_cli.specs.declared.status.Found.TheVariants as found
 use Rattle.domain_cli.specs.declared.status.Status.{Status}
 use Rattle.domain_cli.specs.declared.status.Status.TheVariants.{Done, Usage, Script, Limit, ReadFault, WriteFault, NoMemory}
-use Rattle.domain_cli.specs.Script.{Spells, IsJournal, NoFeed, Begins, IsScript, HasFault, texts}
+use Rattle.domain_cli.specs.Script.{Spells, IsJournal, NoFeed, Begins, IsScript, HasFault, most_octets, texts}
 
 -- the lines tell these rounds, and the journal is theirs
 pub record Explains (lines : List (List ℕ)) (draft : Draft) (rounds : List (List Event)) (j : List Entry) : Type 0 where
@@ -35,7 +35,7 @@ pub record IsFaulty (fault : Fault) (number : ℕ) (octets : List ℕ) (ended : 
   pub is : HasFault octets ended good draft rounds fault
   pub explains : Explains (texts good) draft rounds j
 
--- the source failed: all whole lines that were read told the journal
+-- the source failed: all whole lines that were read told the journal, and the line behind them is not too long so far
 pub record IsCut (octets : List ℕ) (j : List Entry) : Type 0 where
   pub good : List (List ℕ)
   pub rest : List ℕ
@@ -43,6 +43,7 @@ pub record IsCut (octets : List ℕ) (j : List Entry) : Type 0 where
   pub rounds : List (List Event)
   pub begins : Begins octets good rest
   pub open_line : NoFeed rest
+  pub short : length rest ≤ most_octets
   pub explains : Explains (texts good) draft rounds j
 
 -- memory ran out: some lines at the front told the journal

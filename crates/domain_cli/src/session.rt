@@ -41,8 +41,11 @@ pub enum Stop {
 /// A script so far: the front of its open line, how many whole lines came, and what they told.
 #[derive(Drop)]
 pub struct Session {
+    /// The octets of the open line so far: at most 8,192, and none is a line feed.
     pub line: Vec<u8>,
+    /// How many whole lines came before it: at most 65,536.
     pub lines: u64,
+    /// What the whole lines told.
     pub stage: Stage,
     ghost roomy: { 8192 ≤ vec_capacity line },
     ghost short: { vec_len line ≤ 8192 },

@@ -15,7 +15,9 @@ use std::alloc::Global;
 /// Where in a script the reading is: what its lines have said, and from the end of the header on the world.
 #[derive(Drop)]
 pub struct Stage {
+    /// What the lines so far have said.
     pub reader: ScriptReader,
+    /// The world of the network that they told. None before the header is whole.
     pub world: Option<World>,
 }
 

@@ -66,16 +66,19 @@ const STARTED: &str = "install a1 all gtk 1\n";
 
 const BEGUN: &str = "install a1 all gtk 1\nopen s1 a1 connect\nsent 1 s1 a1 assoc-req 62\n";
 
+// Octets that grow by those of a text.
+fn add(octets: &mut Vec<u8>, text: &str) -> Result<(), Fail> {
+    octets
+        .extend_from_slice(text.as_bytes())
+        .ok()
+        .ok_or("memory")?;
+    Ok(())
+}
+
 fn octets_of(alloc: Global, front: &str, behind: &str) -> Result<Vec<u8>, Fail> {
     let mut octets = Vec::new(alloc);
-    octets
-        .extend_from_slice(front.as_bytes())
-        .ok()
-        .ok_or("memory")?;
-    octets
-        .extend_from_slice(behind.as_bytes())
-        .ok()
-        .ok_or("memory")?;
+    add(&mut octets, front)?;
+    add(&mut octets, behind)?;
     Ok(octets)
 }
 
@@ -142,68 +145,80 @@ fn compare<R: Threads + Sync + Abort>(
     octets: Vec<u8>,
     shows: &str,
     status: Status,
-    report: &str,
+    report: &[u8],
 ) -> Result<(), Fail> {
     let mut source = source_of(alloc, octets, 9999)?;
     let mut sink = sink_of(alloc, 4000, 99)?;
     let how = ended(rt, alloc, &["replay"], &mut source, &mut sink)?;
     assert_eq!(rt; how, status, "{shows}");
-    assert_eq!(rt; sink.written(), report.as_bytes(), "{shows}");
+    assert_eq!(rt; sink.written(), report, "{shows}");
     Ok(())
 }
+
+// The fronts of scripts, what stands behind them, with a bar between two, how they end and what they write.
+const SCRIPTS: &[(&str, &str, Status, &str)] = &[
+    (NETWORK, HANDSHAKE, Status::Done, REPORT),
+    (
+        "",
+        "|\n|\r\n|domain 2\n|domain 1\r|domain 1\r\r\n",
+        Status::Script(1, 1),
+        "",
+    ),
+    (
+        "domain 1",
+        "|\n|\r\n|\n\n# a comment\n\r\n#",
+        Status::Done,
+        NOTHING,
+    ),
+    ("domain 1\n", "seed draw\n", Status::Script(2, 9), ""),
+    ("domain 1\n", "ssid IEEE\n", Status::Script(2, 2), ""),
+    (NETWORK, "frob\n", Status::Script(8, 2), STARTED),
+    (NETWORK, "connect s1\n", Status::Script(8, 3), STARTED),
+    (
+        NETWORK,
+        "connect s2 a1\n|connect a1 s1\n",
+        Status::Script(8, 4),
+        STARTED,
+    ),
+    (NETWORK, "deliver 1 to a1\n", Status::Script(8, 5), STARTED),
+    (
+        NETWORK,
+        "sta 020000000011\nconnect s1 a1\n",
+        Status::Script(8, 8),
+        STARTED,
+    ),
+    (
+        NETWORK,
+        "connect s1 a1\ndeliver 2 to a1\n",
+        Status::Script(9, 5),
+        BEGUN,
+    ),
+    (
+        NETWORK,
+        "connect s1 a1\n\n# one octet too many\ncut 1 63 to a1\n",
+        Status::Script(11, 6),
+        BEGUN,
+    ),
+];
 
 #[test]
 fn scripts_and_their_reports(rt: HostRuntime) -> Result<(), Fail> {
     let alloc = rt.alloc();
-    for (front, behind, status, report) in [
-        (NETWORK, HANDSHAKE, Status::Done, REPORT),
-        (NETWORK, HANDSHAKE.trim_end(), Status::Done, REPORT),
-        ("", "", Status::Script(1, 1), ""),
-        ("", "\n", Status::Script(1, 1), ""),
-        ("", "\r\n", Status::Script(1, 1), ""),
-        ("", "domain 2\n", Status::Script(1, 1), ""),
-        ("", "domain 1", Status::Done, NOTHING),
-        ("domain 1\n", "", Status::Done, NOTHING),
-        ("domain 1\r\n", "", Status::Done, NOTHING),
-        ("domain 1\r", "", Status::Script(1, 1), ""),
-        ("domain 1\r\r\n", "", Status::Script(1, 1), ""),
-        ("domain 1\n", "\n# a comment\n\r\n#", Status::Done, NOTHING),
-        ("domain 1\n", "seed draw\n", Status::Script(2, 9), ""),
-        ("domain 1\n", "ssid IEEE\n", Status::Script(2, 2), ""),
-        (NETWORK, "frob\n", Status::Script(8, 2), STARTED),
-        (NETWORK, "connect s1\n", Status::Script(8, 3), STARTED),
-        (NETWORK, "connect s2 a1\n", Status::Script(8, 4), STARTED),
-        (NETWORK, "connect a1 s1\n", Status::Script(8, 4), STARTED),
-        (NETWORK, "deliver 1 to a1\n", Status::Script(8, 5), STARTED),
-        (
-            NETWORK,
-            "sta 020000000011\nconnect s1 a1\n",
-            Status::Script(8, 8),
-            STARTED,
-        ),
-        (
-            NETWORK,
-            "connect s1 a1\ndeliver 2 to a1\n",
-            Status::Script(9, 5),
-            BEGUN,
-        ),
-        (
-            NETWORK,
-            "connect s1 a1\n\n# one octet too many\ncut 1 63 to a1\n",
-            Status::Script(11, 6),
-            BEGUN,
-        ),
-    ] {
-        compare(
-            &rt,
-            alloc,
-            octets_of(alloc, front, behind)?,
-            behind,
-            status,
-            report,
-        )?;
+    for (front, scripts, status, report) in SCRIPTS {
+        for behind in scripts.split('|') {
+            let script = octets_of(alloc, front, behind)?;
+            compare(&rt, alloc, script, behind, *status, report.as_bytes())?;
+        }
     }
-    Ok(())
+    let script = octets_of(alloc, NETWORK, HANDSHAKE.trim_end())?;
+    compare(
+        &rt,
+        alloc,
+        script,
+        "no last line feed",
+        Status::Done,
+        REPORT.as_bytes(),
+    )
 }
 
 // The front of a script, as far as its passphrase.
@@ -234,7 +249,7 @@ fn passphrases_that_are_none(rt: HostRuntime) -> Result<(), Fail> {
             octets_of(alloc, PASSPHRASE, passphrase)?,
             passphrase,
             status,
-            report,
+            report.as_bytes(),
         )?;
     }
     Ok(())
@@ -443,7 +458,14 @@ fn frames_out_of_order(rt: HostRuntime) -> Result<(), Fail> {
     let alloc = rt.alloc();
     for row in &ROWS {
         let script = octets_of(alloc, NETWORK, row.events)?;
-        compare(&rt, alloc, script, row.shows, Status::Done, row.report)?;
+        compare(
+            &rt,
+            alloc,
+            script,
+            row.shows,
+            Status::Done,
+            row.report.as_bytes(),
+        )?;
     }
     Ok(())
 }
@@ -470,7 +492,14 @@ deliver 6 to a1\r
 fn carriage_returns(rt: HostRuntime) -> Result<(), Fail> {
     let alloc = rt.alloc();
     let script = octets_of(alloc, RETURNS, "")?;
-    compare(&rt, alloc, script, "carriage returns", Status::Done, REPORT)
+    compare(
+        &rt,
+        alloc,
+        script,
+        "carriage returns",
+        Status::Done,
+        REPORT.as_bytes(),
+    )
 }
 
 #[test]
@@ -536,10 +565,7 @@ fn long_line(alloc: Global, length: usize, behind: &str) -> Result<Vec<u8>, Fail
     let mut script = octets_of(alloc, "domain 1\n", "")?;
     let comment = vec![in alloc; b'#'; length].ok().ok_or("memory")?;
     script.extend_from_slice(&comment).ok().ok_or("memory")?;
-    script
-        .extend_from_slice(behind.as_bytes())
-        .ok()
-        .ok_or("memory")?;
+    add(&mut script, behind)?;
     Ok(script)
 }
 
@@ -564,7 +590,7 @@ fn long_lines(rt: HostRuntime) -> Result<(), Fail> {
             long_line(alloc, length, behind)?,
             behind,
             status,
-            report,
+            report.as_bytes(),
         )?;
     }
     // The line of 8,193 octets is refused before the source fails; one of 8,192 waits for its end.
@@ -608,108 +634,128 @@ fn many_lines_in_a_script(rt: HostRuntime) -> Result<(), Fail> {
             many_lines(alloc, lines, behind)?,
             "",
             status,
-            report,
+            report.as_bytes(),
         )?;
     }
     Ok(())
 }
 
+// A header, and behind it so many access points and stations.
+fn network_of(alloc: Global, aps: u8, stas: u8) -> Result<Vec<u8>, Fail> {
+    let mut script = octets_of(alloc, PASSPHRASE, "password\nakm psk\n")?;
+    for number in 0..aps {
+        let line = format!(in alloc; "ap 0200000001{number:02x} {number}\n")?;
+        add(&mut script, &line)?;
+    }
+    for number in 0..stas {
+        let line = format!(in alloc; "sta 0200000002{number:02x}\n")?;
+        add(&mut script, &line)?;
+    }
+    Ok(script)
+}
+
+// What is reported once so many access points have started, and this behind it.
+fn starts(alloc: Global, aps: u8, end: &str) -> Result<Vec<u8>, Fail> {
+    let mut report = Vec::new(alloc);
+    for number in 0..aps {
+        let line = format!(in alloc; "install a{} all gtk 1\n", number + 1)?;
+        add(&mut report, &line)?;
+    }
+    add(&mut report, end)?;
+    Ok(report)
+}
+
+// The summary of a run in which sixteen access points have started.
+const SIXTEEN: &str = "end frames 0 accepted 0 answered 0 refused 0 ignored 0
+keys installed 16 resumed 0 used 0 handed-up 0
+premises fresh yes no-collision yes unforged yes
+";
+
 #[test]
 fn many_nodes(rt: HostRuntime) -> Result<(), Fail> {
     let alloc = rt.alloc();
-    for (aps, stas, status) in [
-        (16, 64, Status::Done),
-        (17, 0, Status::Limit(5)),
-        (1, 65, Status::Limit(6)),
+    for (shows, aps, stas, status, started, end) in [
+        ("as many as there may be", 16, 64, Status::Done, 16, SIXTEEN),
+        ("an access point more", 17, 0, Status::Limit(5), 16, ""),
+        ("a station more", 1, 65, Status::Limit(6), 1, ""),
     ] {
-        let mut script = octets_of(alloc, PASSPHRASE, "password\nakm psk\n")?;
-        for number in 0..aps {
-            let line = format!(in alloc; "ap 0200000001{number:02x} {number}\n")?;
-            script
-                .extend_from_slice(line.as_bytes())
-                .ok()
-                .ok_or("memory")?;
-        }
-        for number in 0..stas {
-            let line = format!(in alloc; "sta 0200000002{number:02x}\n")?;
-            script
-                .extend_from_slice(line.as_bytes())
-                .ok()
-                .ok_or("memory")?;
-        }
-        let mut source = source_of(alloc, script, 99)?;
-        let mut sink = sink_of(alloc, 4000, 99)?;
-        let how = ended(&rt, alloc, &["replay"], &mut source, &mut sink)?;
-        assert_eq!(rt; how, status, "{aps} access points and {stas} stations");
+        let script = network_of(alloc, aps, stas)?;
+        let report = starts(alloc, started, end)?;
+        compare(&rt, alloc, script, shows, status, &report)?;
     }
     Ok(())
 }
+
+// What is reported of a frame of zeros at the access point.
+const ZEROS: &str = "install a1 all gtk 1
+took a1 assoc-req refused not-for-me
+end frames 0 accepted 0 answered 0 refused 1 ignored 0
+keys installed 1 resumed 0 used 0 handed-up 0
+premises fresh yes no-collision yes unforged yes
+";
 
 #[test]
 fn long_frames(rt: HostRuntime) -> Result<(), Fail> {
     let alloc = rt.alloc();
-    for (digits, status) in [
-        (4800, Status::Done),
-        (4802, Status::Limit(3)),
-        (4801, Status::Script(8, 3)),
+    for (digits, status, report) in [
+        (4800, Status::Done, ZEROS),
+        (4802, Status::Limit(3), STARTED),
+        (4801, Status::Script(8, 3), STARTED),
     ] {
         let mut script = octets_of(alloc, NETWORK, "inject a1 ")?;
         let frame = vec![in alloc; b'0'; digits].ok().ok_or("memory")?;
         script.extend_from_slice(&frame).ok().ok_or("memory")?;
-        let mut source = source_of(alloc, script, 99)?;
-        let mut sink = sink_of(alloc, 4000, 99)?;
-        let how = ended(&rt, alloc, &["replay"], &mut source, &mut sink)?;
-        assert_eq!(rt; how, status, "{digits} digits");
+        compare(&rt, alloc, script, report, status, report.as_bytes())?;
     }
     Ok(())
 }
 
+// The text of each status, one below the other.
+const TEXTS: &str = "done
+usage: replay < SCRIPT
+the script could not be read
+the report could not be written
+out of memory
+line 65536: outside the grammar
+line 65537: the first line is not \"domain 1\"
+line 65538: no such word here
+line 65539: wrong number or form of arguments
+line 65540: no such node, or a node of the other kind
+line 65541: no such frame was sent
+line 65542: place or length outside the frame
+line 65543: outside the grammar
+line 65544: address or R0KH-ID used before
+line 65545: the seed is drawn in a live run only
+past a limit
+more than 65536 lines
+a line of more than 8192 octets
+an injected frame of more than 2400 octets
+more than 65535 frames sent
+more than 16 access points
+more than 64 stations
+";
+
+fn add_text(alloc: Global, texts: &mut Vec<u8>, status: Status) -> Result<(), Fail> {
+    let text = format!(in alloc; "{status}\n")?;
+    add(texts, &text)
+}
+
 #[test]
 fn texts_of_statuses(rt: HostRuntime) -> Result<(), Fail> {
-    for (status, text) in [
-        (Status::Done, "done"),
-        (Status::Usage, "usage: replay < SCRIPT"),
-        (
-            Status::Script(1, 1),
-            "line 1: the first line is not \"domain 1\"",
-        ),
-        (Status::Script(8, 2), "line 8: no such word here"),
-        (
-            Status::Script(9, 3),
-            "line 9: wrong number or form of arguments",
-        ),
-        (
-            Status::Script(10, 4),
-            "line 10: no such node, or a node of the other kind",
-        ),
-        (Status::Script(11, 5), "line 11: no such frame was sent"),
-        (
-            Status::Script(12, 6),
-            "line 12: place or length outside the frame",
-        ),
-        (
-            Status::Script(13, 8),
-            "line 13: address or R0KH-ID used before",
-        ),
-        (
-            Status::Script(65536, 9),
-            "line 65536: the seed is drawn in a live run only",
-        ),
-        (Status::Limit(1), "more than 65536 lines"),
-        (Status::Limit(2), "a line of more than 8192 octets"),
-        (
-            Status::Limit(3),
-            "an injected frame of more than 2400 octets",
-        ),
-        (Status::Limit(4), "more than 65535 frames sent"),
-        (Status::Limit(5), "more than 16 access points"),
-        (Status::Limit(6), "more than 64 stations"),
-        (Status::ReadFault, "the script could not be read"),
-        (Status::WriteFault, "the report could not be written"),
-        (Status::NoMemory, "out of memory"),
-    ] {
-        let shown = format!(in rt.alloc(); "{status}")?;
-        assert_eq!(rt; shown.as_str(), text);
+    let alloc = rt.alloc();
+    let mut texts = Vec::new(alloc);
+    add_text(alloc, &mut texts, Status::Done)?;
+    add_text(alloc, &mut texts, Status::Usage)?;
+    add_text(alloc, &mut texts, Status::ReadFault)?;
+    add_text(alloc, &mut texts, Status::WriteFault)?;
+    add_text(alloc, &mut texts, Status::NoMemory)?;
+    for reason in 0..10u8 {
+        let number = 65536 + u64::from(reason);
+        add_text(alloc, &mut texts, Status::Script(number, reason))?;
     }
+    for limit in 0..7u8 {
+        add_text(alloc, &mut texts, Status::Limit(limit))?;
+    }
+    assert_eq!(rt; texts.as_slice(), TEXTS.as_bytes());
     Ok(())
 }

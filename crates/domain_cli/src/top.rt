@@ -12,7 +12,7 @@ ghost use Rattle.domain_cli.specs.Ends.{IsAnswered};
 use crate::reading::replay;
 use crate::status::{Found, Status};
 use domain_base::{Air, Draws, Failed, Sink, Source, write_all};
-use frame_script::{SUMMARY_ROOM, summary_of, write_lines};
+use journal_report::{SUMMARY_ROOM, summary_of, write_lines};
 use journal_safety::{hands_up_once, installs_once, joins, uses_once};
 use run_journal::{Entry, Journal, Premises};
 use std::alloc::Global;

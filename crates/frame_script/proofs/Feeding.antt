@@ -2,9 +2,9 @@
 use Rattle.std.proofs.Common.{◌≡◌, ℕ, ◌+◌, ◌≤◌, List, [], ◌∷◌, Result, Ok, Err, OnOk, OnErr, refl, sym, ap, arith}
 use Rattle.std.proofs.lemmas.List.{append-nil}
 use Rattle.run_journal.specs.declared.acts.Entry.{Entry}
-use Rattle.frame_script.specs.declared.script.LineFault.{LineFault}
-use Rattle.frame_script.specs.declared.script.LineFault.TheVariants as answered
-use Rattle.frame_script.specs.declared.script.Step.{Step}
+use Rattle.frame_script.specs.declared.reader.LineFault.{LineFault}
+use Rattle.frame_script.specs.declared.reader.LineFault.TheVariants as answered
+use Rattle.frame_script.specs.declared.reader.Step.{Step}
 use Rattle.frame_script.specs.Script.{Said, Goes, ListsAp, ListsSta, Asks, rounds_after}
 use Rattle.frame_script.specs.Headers.{Reading, HasSeen, HasSeenAll, TakesLine, sizes_of}
 

@@ -1,7 +1,3 @@
-pub mod Texts
-pub mod Digits
-pub mod Journals
-pub mod Taken
 pub mod Hexed
 pub mod Numbered
 pub mod Freed

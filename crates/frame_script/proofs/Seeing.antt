@@ -1,11 +1,10 @@
 -- The sizes of the frames in the first entries of a journal.
-use Rattle.std.proofs.Common.{◌≡◌, ℕ, ◌+◌, ◌<◌, ◌≤◌, List, ◌++◌, length, take, drop, get_or, reverse, refl, ap, sym, ◌∙◌, arith, length-append, length-take}
-use Rattle.std.proofs.Math.Seq.{take-append_seam}
+use Rattle.std.proofs.Common.{◌≡◌, ℕ, ◌+◌, ◌<◌, ◌≤◌, List, ◌∷◌, ◌++◌, length, take, drop, get_or, reverse, refl, ap, sym, ◌∙◌, add-one, arith, length-append, length-take}
+use Rattle.std.proofs.Math.Seq.{take-suc, take-append_seam}
 use Rattle.std.proofs.lemmas.List.{reverse-append, reverse-reverse, length-reverse, take-append-drop, take_all}
 use Rattle.run_journal.specs.declared.acts.Entry.{Entry}
 use Rattle.frame_script.specs.Headers.{HasSeen, HasSeenAll, size_sent, sizes_of}
 use Rattle.frame_script.specs.Sentences.{seeing}
-use Rattle.frame_script.proofs.Journals.{reverse-take}
 
 -- of the entries in their order, the first i were seen
 pub record Fronts (entries : List Entry) (i seen : ℕ) (sizes : List ℕ) : Type 0 where
@@ -25,13 +24,19 @@ Fronts-start j entries seen sizes is h =
       front = h.sizes ∙ ap sizes_of (sym (reverse-reverse h.earlier) ∙ ap (λ (xs : List Entry). reverse xs) (sym front));
     }
 
+-- the sizes with one entry more
+sizes-step : (es : List Entry) (i : ℕ) (e : Entry) → i < length es → e ≡ get_or es i e → sizes_of (reverse (take (i + 1) es)) ≡ sizes_of (reverse (take i es)) ++ size_sent e.act
+unfolding sizes_of
+sizes-step es i e h is =
+    let newest : reverse (take (i + 1) es) ≡ e ∷ reverse (take i es) = rw (add-one, take-suc es i e h, reverse-append) (rw (← is) refl) in
+    ap sizes_of newest
+
 -- one entry more
 pub Fronts-step : (entries : List Entry) (i seen : ℕ) (e : Entry) (sizes more : List ℕ) → i < length entries → e ≡ get_or entries i e → Fronts entries i seen sizes → more ≡ sizes ++ size_sent e.act → Fronts entries (i + 1) (i + 1) more
-unfolding sizes_of
 Fronts-step entries i seen e sizes more inside is f grown = record {
   place = refl;
   within = omega (arith, inside);
-  front = grown ∙ ap (λ (xs : List ℕ). xs ++ size_sent e.act) f.front ∙ ap sizes_of (sym (reverse-take entries i e inside is));
+  front = grown ∙ ap (λ (xs : List ℕ). xs ++ size_sent e.act) f.front ∙ sym (sizes-step entries i e inside is);
 }
 
 -- so much was seen

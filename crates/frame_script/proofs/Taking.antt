@@ -1,10 +1,11 @@
 -- A line that is taken, by its exits.
 use Rattle.std.proofs.Common.{◌≡◌, ◌≢◌, ℕ, true, false, List, Result, Ok, Err, refl, sym, subst}
-use Rattle.frame_script.specs.declared.script.LineFault.{LineFault}
-use Rattle.frame_script.specs.declared.script.LineFault.TheVariants as answered
-use Rattle.frame_script.specs.declared.script.Step.{Step}
-use Rattle.frame_script.specs.declared.script.Step.TheVariants as step
-use Rattle.frame_script.specs.Script.{◌>>=◌, Fault, Draft, AtVersion, AtSeed, AtSsid, AtPsk, AtAkm, AtNodes, Said, Goes, header_line, is_passed_over, line_says}
+use Rattle.run_journal.specs.declared.domain.Domain.{Domain}
+use Rattle.frame_script.specs.declared.reader.LineFault.{LineFault}
+use Rattle.frame_script.specs.declared.reader.LineFault.TheVariants as answered
+use Rattle.frame_script.specs.declared.reader.Step.{Step}
+use Rattle.frame_script.specs.declared.reader.Step.TheVariants as step
+use Rattle.frame_script.specs.Script.{◌>>=◌, Fault, word_, Draft, AtVersion, AtSeed, AtSsid, AtPsk, AtAkm, AtNodes, Said, Goes, header_line, is_passed_over, line_says}
 use Rattle.frame_script.specs.Headers.{IsHeaderStep}
 use Rattle.frame_script.specs.Sentences.{Takes, TakesHeader, words_say}
 use Rattle.frame_script.specs.Tokens.{first_word}
@@ -12,12 +13,18 @@ use Rattle.frame_script.specs.Tokens.{first_word}
 pub went : (old new : Draft) (rounds : ℕ) (sizes : List ℕ) (meant : Result Said Fault) → meant ≡ Ok (Goes new) → IsHeaderStep old new → Takes old new rounds sizes meant (Ok step.Nothing)
 went old new rounds sizes meant e h = (Goes new, (e, (refl, (e, h))))
 
+-- a line of the header is one of a header that was not whole
+was_due : (old new : Draft) (word text : List ℕ) → header_line old word text ≡ Ok new → (e : Domain) → old ≢ AtNodes e
+unfolding header_line
+was_due old new word text says e is =
+    let none : Err word_ ≡ Ok new = subst (λ (x : Draft). header_line x word text ≡ Ok new) is says in cc
+
 -- a line of the header
 pub header : (old new : Draft) (rounds : ℕ) (sizes word text : List ℕ) (answer : Result Step LineFault) → TakesHeader old new word text answer → Takes old new rounds sizes (header_line old word text >>= (λ next. Ok (Goes next))) answer
 header old new rounds sizes word text (Ok step.Nothing) t = went old new rounds sizes _ (rw t.0 refl) t.1
 header old new rounds sizes word text (Ok step.Network) t =
     let goes : (header_line old word text >>= (λ next. Ok (Goes next))) ≡ Ok (Goes new) = rw t.1.0 refl in
-    (Goes new, (goes, (refl, (t.0, (goes, t.1.1)))))
+    (Goes new, (goes, (refl, (t.0, (goes, (t.1.1.0, (t.1.1.1, was_due old new word text t.1.0)))))))
 header old new rounds sizes word text (Ok (step.Ap address r0kh_id)) t = absurd t
 header old new rounds sizes word text (Ok (step.Sta address)) t = absurd t
 header old new rounds sizes word text (Ok (step.Event event)) t = absurd t

@@ -1,7 +1,7 @@
 -- What the code that reads a script keeps, as what the script has said.
 use Rattle.std.specs.Prelude.{◌&&◌, Bool, true, nat_le, length}
-use Rattle.frame_script.specs.declared.script.header.Due.{Due}
-use Rattle.frame_script.specs.declared.script.header.Due.TheVariants.{Version, Seed, Ssid, Psk, Akm, Nodes}
+use Rattle.frame_script.specs.declared.header.Due.{Due}
+use Rattle.frame_script.specs.declared.header.Due.TheVariants.{Version, Seed, Ssid, Psk, Akm, Nodes}
 use Rattle.frame_script.specs.Script.{Draft, AtVersion, AtSeed, AtSsid, AtPsk, AtAkm, AtNodes}
 
 abbrev pub draft_of : Due → Draft

@@ -12,10 +12,10 @@ use Rattle.run_journal.specs.declared.domain.Event.TheVariants.{Connect, Deliver
 use Rattle.run_journal.specs.declared.acts.Act.{Act}
 use Rattle.run_journal.specs.declared.acts.Act.TheVariants.{Sent}
 use Rattle.run_journal.specs.declared.acts.Entry.{Entry}
-use Rattle.frame_script.specs.declared.script.LineFault.{LineFault}
-use Rattle.frame_script.specs.declared.script.LineFault.TheVariants as answered
-use Rattle.frame_script.specs.declared.script.Step.{Step}
-use Rattle.frame_script.specs.declared.script.Step.TheVariants as step
+use Rattle.frame_script.specs.declared.reader.LineFault.{LineFault}
+use Rattle.frame_script.specs.declared.reader.LineFault.TheVariants as answered
+use Rattle.frame_script.specs.declared.reader.Step.{Step}
+use Rattle.frame_script.specs.declared.reader.Step.TheVariants as step
 use Rattle.frame_script.specs.Script.{Fault, Outside, Past, Draft, AtNodes, Said, Goes, ListsAp, ListsSta, Asks, line_says, said_after, rounds_after, is_single, size_of}
 
 -- ---- a reader
@@ -104,10 +104,10 @@ CanHappen d sizes (Cut number size to) = IsListedIn d to × IsSized sizes number
 CanHappen d sizes (Inject to octets) = IsListedIn d to
 CanHappen d sizes (Retry a s) = (a < length d.aps) × (s < length d.stas)
 
--- what a step says, and what can be done with it
+-- what a step says, and what can be done with it; the header is whole with one line only, so with `Network` it was not before
 abbrev pub TakesStep : Draft → Draft → ℕ → List ℕ → Result Said Fault → Step → Type 0
 TakesStep old new rounds sizes says step.Nothing = (says ≡ Ok (Goes new)) × IsHeaderStep old new
-TakesStep old new rounds sizes says step.Network = (d : Domain) × ((says ≡ Ok (Goes new)) × ((new ≡ AtNodes d) × IsNetwork d))
+TakesStep old new rounds sizes says step.Network = (d : Domain) × ((says ≡ Ok (Goes new)) × ((new ≡ AtNodes d) × (IsNetwork d × ((e : Domain) → old ≢ AtNodes e))))
 TakesStep old new rounds sizes says (step.Ap a id) = (d : Domain) × ((says ≡ Ok (ListsAp a id)) × ((old ≡ AtNodes d) × (CanListAp d a id × ((d.stas ≡ []) × (rounds ≡ 0)))))
 TakesStep old new rounds sizes says (step.Sta a) = (d : Domain) × ((says ≡ Ok (ListsSta a)) × ((old ≡ AtNodes d) × (CanListSta d a × (rounds ≡ 0))))
 TakesStep old new rounds sizes says (step.Event e) = (d : Domain) × ((says ≡ Ok (Asks e)) × ((old ≡ AtNodes d) × (CanHappen d sizes e × (length sizes ≤ 65535))))

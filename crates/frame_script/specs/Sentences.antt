@@ -3,20 +3,20 @@ use Rattle.std.specs.Prelude.{◌≡◌, ℕ, suc, ◌≤◌, ◌&&◌, Bool, tr
 use Rattle.run_journal.specs.declared.domain.Domain.{Domain}
 use Rattle.run_journal.specs.declared.domain.Event.{Event}
 use Rattle.run_journal.specs.declared.domain.Event.TheVariants.{Inject}
-use Rattle.frame_script.specs.declared.script.LineFault.{LineFault}
-use Rattle.frame_script.specs.declared.script.LineFault.TheVariants as answered
-use Rattle.frame_script.specs.declared.script.Step.{Step}
-use Rattle.frame_script.specs.declared.script.Step.TheVariants as step
-use Rattle.frame_script.specs.declared.script.refusal.Refusal.{Refusal}
-use Rattle.frame_script.specs.declared.script.refusal.Refusal.TheVariants.{Version, Word, Arguments, Node, Frame, Place, Duplicate, Mode, LongFrame, ManyFrames, ManyAps, ManyStas}
-use Rattle.frame_script.specs.declared.script.header.Due.{Due}
-use Rattle.frame_script.specs.declared.script.header.Due.TheVariants.{Nodes}
-use Rattle.frame_script.specs.declared.script.tokens.NodeName.{NodeName}
-use Rattle.frame_script.specs.declared.script.tokens.NodeName.TheVariants.{Ap, Sta}
-use Rattle.frame_script.specs.declared.script.events.Asked.{Asked}
-use Rattle.frame_script.specs.declared.script.events.Asked.TheVariants as asked
-use Rattle.frame_script.specs.declared.script.body.Sentence.{Sentence}
-use Rattle.frame_script.specs.declared.script.body.Sentence.TheVariants as says
+use Rattle.frame_script.specs.declared.reader.LineFault.{LineFault}
+use Rattle.frame_script.specs.declared.reader.LineFault.TheVariants as answered
+use Rattle.frame_script.specs.declared.reader.Step.{Step}
+use Rattle.frame_script.specs.declared.reader.Step.TheVariants as step
+use Rattle.frame_script.specs.declared.refusal.Refusal.{Refusal}
+use Rattle.frame_script.specs.declared.refusal.Refusal.TheVariants.{Version, Word, Arguments, Node, Frame, Place, Duplicate, Mode, LongFrame, ManyFrames, ManyAps, ManyStas}
+use Rattle.frame_script.specs.declared.header.Due.{Due}
+use Rattle.frame_script.specs.declared.header.Due.TheVariants.{Nodes}
+use Rattle.frame_script.specs.declared.tokens.NodeName.{NodeName}
+use Rattle.frame_script.specs.declared.tokens.NodeName.TheVariants.{Ap, Sta}
+use Rattle.frame_script.specs.declared.events.Asked.{Asked}
+use Rattle.frame_script.specs.declared.events.Asked.TheVariants as asked
+use Rattle.frame_script.specs.declared.body.Sentence.{Sentence}
+use Rattle.frame_script.specs.declared.body.Sentence.TheVariants as says
 use Rattle.frame_script.specs.Due.{is_fit}
 use Rattle.frame_script.specs.Tokens.{NodeWord, named, hex_value}
 use Rattle.frame_script.specs.Script.{Fault, Outside, Past, version_, word_, arguments, node_, frame_, place_, duplicate, mode, long_frame, many_frames, many_aps, many_stas, ◌>>=◌, Draft, AtVersion, AtNodes, Said, Goes, ListsAp, ListsSta, Asks, header_line, body_line, said_after}

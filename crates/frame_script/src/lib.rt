@@ -1,25 +1,19 @@
-//! The text of a run: the lines of its script, the report's lines and its summary.
+//! The lines of a script, read one by one.
 //!
-//! A script has a header, the nodes and the events of a run, a line for each; `ScriptReader` takes its lines
-//! one by one.
-//!
-//! A report has a line for each printed act, in the order of the journal, and three lines of summary
-//! behind them. Each line is of words with a space between them, and ends with a line feed. Nothing
-//! of it takes memory.
+//! A script has a header, the nodes and the events of a run, a line for each; `ScriptReader` says of each line what it
+//! means after the lines before it, or why it is refused.
 #![tactic(auto)]
 
-mod layout;
-mod line;
-mod outcome;
-mod pieces;
-mod report;
-mod script;
-mod summary;
+mod body;
+mod events;
+mod header;
+mod lines;
+mod nodes;
+mod reader;
+mod refusal;
+mod seen;
 #[cfg(test)]
 mod tests;
-mod words;
+mod tokens;
 
-pub use line::{LINE_ROOM, line_fits, line_of};
-pub use report::write_lines;
-pub use script::{LineFault, ScriptReader, Step};
-pub use summary::{SUMMARY_ROOM, summary_of};
+pub use reader::{LineFault, ScriptReader, Step};

@@ -1,438 +1,348 @@
-//! Worked lines of a report, and a sink that fails.
+//! What lines of a script say.
 
-use crate::{SUMMARY_ROOM, line_fits, line_of, summary_of, write_lines};
-use air_frame::AirFault;
-use domain_base::{Akm, Failed, Mac, MemSink, NoMemory, Node, Octets, Peer, Tid};
-use eapol_key::{FaultKind, FrameFault, Message};
-use key_hierarchy::Inputs;
-use rsn_elements::{ElementFault, FaultKind as ElementFaultKind};
-use run_journal::{
-    Act, Drawn, Entry, Key, KeyDataFault, Kind, Malformed, Outcome, Part, Premises, Reason, Start,
-    Why,
+ghost use Rattle.std.specs.Prelude.{◌+◌, ◌<◌, ◌≤◌, ◌^◌, length, IfOk};
+ghost use Rattle.frame_script.specs.Headers.{HasSeen};
+
+mod rows;
+
+use crate::{LineFault, ScriptReader, Step};
+use domain_base::{Akm, Mac, NoMemory, Node, Octets, Peer};
+use rows::Says::{
+    self, Alter, Ap, Connect, Cut, Deliver, Inject, Limit, Network, Nothing, OutOfMemory, Retry,
+    Script, Sta,
 };
+use rows::{
+    A1, ADDRESS, BOTH, BSSID, EVENT_LINES, FALTERING, GROWING, HEADER, HEADER_LINES, INJECTIONS,
+    LATE_LINES, LONG_PSK, MORE_APS, MORE_STAS, NO_NODE, NODE_LINES, PSK, S1, SEED, SIZES,
+};
+use run_journal::{Act, Entry, Event, Journal, Kind, Start};
 use std::alloc::Global;
 use std::process::Abort;
 use std::test::Fail;
 
-const AP: Node = Node::Ap(0);
-
-const STA: Node = Node::Sta(0);
-
-const BSSID: Mac = Mac([2, 0, 0, 0, 0, 1]);
-
-const GTK: [u8; 16] = [5; 16];
-
-const ALL_HOLD: Premises = Premises {
-    fresh: true,
-    no_collision: true,
-    unforged: true,
-};
-
-// A line for each kind of act that is printed, in each of its forms.
-const LINES: &[u8] = b"install a1 all gtk 1\n\
-install s1 a1 ptk\n\
-resume s1 a1 gtk 1\n\
-finish s1 a1\n\
-sent 1 s1 a1 assoc-req 62\n\
-took a1 assoc-req accepted\n\
-sent 7 a1 all data 45\n\
-used a1 all 1 1\n\
-up s1 a1 1 0 1 68656c6c6f\n\
-up a1 s1 0 5 1 -\n\
-open s1 a1 connect\n\
-gave-up a1 s1 m1\n\
-close a1 s1 attempt\n\
-close s1 a2 session\n\
-open s1 a2 roam\n\
-idle a1 nothing\n\
-idle s65536 no-session\n\
-idle s1 same-peer\n\
-idle a1 rekey-pending\n\
-idle a1 no-key\n\
-idle a1 spent\n";
-
-fn octets(alloc: Global, slice: &[u8]) -> Result<Octets, NoMemory> {
-    Ok(Octets(Vec::from_slice(alloc, slice)?))
-}
-
-fn inputs(alloc: Global) -> Result<Inputs, NoMemory> {
-    Ok(Inputs {
-        akm: Akm::Psk,
-        psk: [1; 32],
-        ssid: octets(alloc, b"IEEE")?,
-        mdid: [0, 0],
-        r0kh_id: octets(alloc, b"")?,
-        aa: BSSID,
-        spa: Mac([2, 0, 0, 0, 0, 0x11]),
-        anonce: [3; 32],
-        snonce: [4; 32],
-    })
-}
-
-fn pairwise(alloc: Global) -> Result<Key, NoMemory> {
-    Ok(Key::Pairwise {
-        tk: [6; 16],
-        inputs: inputs(alloc)?,
-    })
-}
-
-fn group() -> Key {
-    Key::Group {
-        gtk: GTK,
-        id: 1,
-        bssid: BSSID,
+fn what_it_says(answer: Result<Step, LineFault>) -> Says {
+    match answer {
+        Ok(Step::Nothing) => Nothing,
+        Ok(Step::Network) => Network,
+        Ok(Step::Ap { address, r0kh_id }) => Ap(address, r0kh_id.as_slice().len()),
+        Ok(Step::Sta { address }) => Sta(address),
+        Ok(Step::Event(event)) => what_it_asks(&event),
+        Err(LineFault::Script(reason)) => Script(reason),
+        Err(LineFault::Limit(limit)) => Limit(limit),
+        Err(LineFault::NoMemory) => OutOfMemory,
     }
 }
 
-fn opened(peer: Node, start: Start) -> Act {
-    Act::Opened { peer, start }
-}
-
-fn closed(peer: Node, part: Part) -> Act {
-    Act::Closed { peer, part }
-}
-
-fn installed(peer: Peer, key: Key) -> Act {
-    Act::Installed { peer, key }
-}
-
-fn sent(alloc: Global, peer: Peer, kind: Kind, frame: &[u8]) -> Result<Act, NoMemory> {
-    Ok(Act::Sent {
-        peer,
-        kind,
-        octets: octets(alloc, frame)?,
-        seal: None,
-    })
-}
-
-fn took(alloc: Global, kind: Kind, outcome: Outcome) -> Result<Act, NoMemory> {
-    Ok(Act::Took {
-        from: None,
-        octets: octets(alloc, b"")?,
-        kind,
-        outcome,
-        seal: None,
-    })
-}
-
-fn used(alloc: Global, peer: Peer, payload: &[u8]) -> Result<Act, NoMemory> {
-    Ok(Act::Used {
-        peer,
-        key: GTK,
-        id: 1,
-        number: 1,
-        octets: octets(alloc, payload)?,
-    })
-}
-
-fn up(alloc: Global, peer: Node, id: u8, tid: Tid, payload: &[u8]) -> Result<Act, NoMemory> {
-    Ok(Act::HandedUp {
-        peer,
-        key: GTK,
-        id,
-        tid,
-        number: 1,
-        octets: octets(alloc, payload)?,
-    })
-}
-
-fn add(entries: &mut Vec<Entry>, node: Node, number: u64, act: Act) -> Result<(), NoMemory> {
-    entries.push(Entry {
-        round: 1,
-        node,
-        number,
-        act,
-    })?;
-    Ok(())
-}
-
-// What the first lines of `LINES` report, and a value drawn, which is not printed.
-fn add_keys(alloc: Global, entries: &mut Vec<Entry>) -> Result<(), NoMemory> {
-    let value = Drawn::Gtk(GTK);
-    add(entries, AP, 0, Act::Drew { value })?;
-    add(entries, AP, 0, installed(Peer::All, group()))?;
-    add(entries, STA, 0, installed(Peer::One(AP), pairwise(alloc)?))?;
-    let (peer, key) = (AP, group());
-    add(entries, STA, 0, Act::Resumed { peer, key })?;
-    let inputs = inputs(alloc)?;
-    add(entries, STA, 0, Act::Finished { peer, inputs })
-}
-
-// What the next lines of `LINES` report.
-fn add_frames(alloc: Global, entries: &mut Vec<Entry>) -> Result<(), NoMemory> {
-    let request = sent(alloc, Peer::One(AP), Kind::AssocReq, &[0; 62])?;
-    add(entries, STA, 1, request)?;
-    let request = took(alloc, Kind::AssocReq, Outcome::Accepted)?;
-    add(entries, AP, 0, request)?;
-    let data = sent(alloc, Peer::All, Kind::Data, &[0; 45])?;
-    add(entries, AP, 7, data)?;
-    add(entries, AP, 0, used(alloc, Peer::All, b"hello")?)
-}
-
-// What the lines of `LINES` behind the payloads report.
-fn add_attempts(entries: &mut Vec<Entry>) -> Result<(), NoMemory> {
-    let (peer, message) = (STA, Message::M1);
-    add(entries, STA, 0, opened(AP, Start::Connect))?;
-    add(entries, AP, 0, Act::GaveUp { peer, message })?;
-    add(entries, AP, 0, closed(STA, Part::Attempt))?;
-    add(entries, STA, 0, closed(Node::Ap(1), Part::Session))?;
-    add(entries, STA, 0, opened(Node::Ap(1), Start::Roam))
-}
-
-// What the last lines of `LINES` report.
-fn add_idle(entries: &mut Vec<Entry>) -> Result<(), NoMemory> {
-    let idle = [
-        (AP, Why::Nothing),
-        (Node::Sta(65535), Why::NoSession),
-        (STA, Why::SamePeer),
-        (AP, Why::RekeyPending),
-        (AP, Why::NoKey),
-        (AP, Why::Spent),
-    ];
-    for (node, why) in idle {
-        add(entries, node, 0, Act::Idle { why })?;
+fn what_it_asks(event: &Event) -> Says {
+    match event {
+        Event::Connect { sta, ap } => Connect(*sta, *ap),
+        Event::Deliver { number, to } => Deliver(*number, *to),
+        Event::Alter {
+            number,
+            place,
+            mask,
+            to,
+        } => Alter(*number, *place, *mask, *to),
+        Event::Cut { number, size, to } => Cut(*number, *size, *to),
+        Event::Inject { to, octets } => Inject(*to, octets.as_slice().len()),
+        Event::Retry { ap, sta } => Retry(*ap, *sta),
     }
-    Ok(())
 }
 
-#[test]
-fn each_kind_of_act_has_its_line(rt: HostRuntime) -> Result<(), Fail> {
-    let alloc = rt.alloc();
-    let (zero, five) = (Tid::new(0).ok_or("no TID")?, Tid::new(5).ok_or("no TID")?);
-    let mut entries = Vec::new(alloc);
-    add_keys(alloc, &mut entries)?;
-    add_frames(alloc, &mut entries)?;
-    add(&mut entries, STA, 0, up(alloc, AP, 1, zero, b"hello")?)?;
-    add(&mut entries, AP, 0, up(alloc, STA, 0, five, b"")?)?;
-    add_attempts(&mut entries)?;
-    add_idle(&mut entries)?;
-    let mut sink = MemSink::with_room(alloc, 1000, Vec::new(alloc))?;
-    assert!(rt; write_lines(&entries, &mut sink).is_ok());
-    assert_eq!(rt; sink.written(), LINES);
-    let mut short = MemSink::with_room(alloc, 100, Vec::new(alloc))?;
-    assert_eq!(rt; write_lines(&entries, &mut short), Err(Failed));
-    assert_eq!(rt; short.written(), &LINES[..100]);
-    let mut out = [0; SUMMARY_ROOM];
-    let count = summary_of(&entries, ALL_HOLD, &mut out);
-    let summary = b"end frames 2 accepted 1 answered 0 refused 0 ignored 0\n\
-keys installed 2 resumed 1 used 1 handed-up 2\n\
-premises fresh yes no-collision yes unforged yes\n";
-    assert_eq!(rt; &out[..count], summary.as_slice());
-    Ok(())
+// What the line says to the reader.
+#[tactic(auto, using(crate::proofs::Feeding::feeding))]
+fn tell(alloc: Global, reader: &mut ScriptReader, line: &[u8], journal: &Journal) -> Says
+    requires seen { HasSeen reader.old journal.now.entries }
+    requires few { reader.old.rounds < 2 ^ 63 }
+    ensures seen { HasSeen reader.new journal.now.entries }
+    ensures few { reader.new.rounds ≤ reader.old.rounds + 1 }
+{
+    what_it_says(reader.line(alloc, line, journal))
 }
 
-#[test]
-fn a_long_payload_goes_out_in_pieces(rt: HostRuntime) -> Result<(), Fail> {
-    let alloc = rt.alloc();
-    let zero = Tid::new(0).ok_or("no TID")?;
-    let mut entries = Vec::new(alloc);
-    add(&mut entries, STA, 0, up(alloc, AP, 1, zero, &[0xa7; 1000])?)?;
-    let mut sink = MemSink::with_room(alloc, 3000, Vec::new(alloc))?;
-    assert!(rt; write_lines(&entries, &mut sink).is_ok());
-    let mut line = Vec::from_slice(alloc, b"up s1 a1 1 0 1 ")?;
-    for _ in 0..1000 {
-        line.extend_from_slice(b"a7")?;
+// A reader that took these lines.
+#[tactic(auto, using(crate::proofs::Feeding::feeding))]
+fn reader_behind(
+    alloc: Global,
+    header: &[&[u8]],
+    nodes: &[&[u8]],
+    journal: &Journal,
+) -> Result<ScriptReader, LineFault>
+    requires { length header.now + length nodes.now < 2 ^ 32 }
+    ensures { IfOk result (λ r. HasSeen r journal.now.entries × (r.rounds < 2 ^ 32)) }
+{
+    let mut reader = ScriptReader::start(alloc);
+    for line in header {
+        let _ = reader.line(alloc, line, journal)?;
     }
-    line.extend_from_slice(b"\n")?;
-    assert_eq!(rt; sink.written(), line.as_slice());
-    Ok(())
+    for node in nodes {
+        let _ = reader.line(alloc, node, journal)?;
+    }
+    Ok(reader)
 }
 
-// Asserts that the access point's line on each frame taken is the text.
-fn check_took(
+// What the line says behind these lines, and behind the frames that a journal has sent.
+fn ask(alloc: Global, header: &[&[u8]], nodes: &[&[u8]], journal: &Journal, line: &[u8]) -> Says
+    requires { length header.now + length nodes.now < 2 ^ 32 }
+{
+    match reader_behind(alloc, header, nodes, journal) {
+        Ok(mut reader) => tell(alloc, &mut reader, line, journal),
+        Err(_) => Script(0),
+    }
+}
+
+// Each of the lines of that text says the same there.
+fn ask_each(
     rt: &impl Abort,
     alloc: Global,
-    cases: &[(Kind, Outcome, &str)],
-) -> Result<(), NoMemory> {
-    for (kind, outcome, text) in cases {
-        let entry = Entry {
-            round: 1,
-            node: AP,
-            number: 0,
-            act: took(alloc, *kind, *outcome)?,
-        };
-        let mut out = [0; 128];
-        assert!(rt; line_fits(&entry, 128));
-        let count = line_of(&entry, &mut out);
-        assert_eq!(rt; &out[..count], text.as_bytes());
+    header: &[&[u8]],
+    nodes: &[&[u8]],
+    journal: &Journal,
+    lines: &str,
+    want: Says,
+)
+    requires { length header.now + length nodes.now < 2 ^ 32 }
+{
+    for line in lines.split('\n') {
+        let says = ask(alloc, header, nodes, journal, line.as_bytes());
+        assert_eq!(rt; says, want, "{line}");
+    }
+}
+
+// Each of the lines says what stands beside it.
+fn play(
+    rt: &impl Abort,
+    alloc: Global,
+    reader: &mut ScriptReader,
+    rows: &[(&[u8], Says)],
+    journal: &Journal,
+)
+    requires seen { HasSeen reader.old journal.now.entries }
+    requires few { reader.old.rounds < 2 ^ 62 }
+{
+    assert!(rt; rows.len() <= 1000);
+    for (line, want) in rows {
+        assert_eq!(rt; tell(alloc, reader, line, journal), *want, "{line:?}");
+    }
+}
+
+fn opened() -> Entry {
+    Entry {
+        round: 1,
+        node: S1,
+        number: 0,
+        act: Act::Opened {
+            peer: A1,
+            start: Start::Connect,
+        },
+    }
+}
+
+fn sent(alloc: Global, size: usize) -> Result<Entry, NoMemory> {
+    Ok(Entry {
+        round: 1,
+        node: S1,
+        number: 1,
+        act: Act::Sent {
+            peer: Peer::One(A1),
+            kind: Kind::AssocReq,
+            octets: Octets(vec![in alloc; 0; size]?),
+            seal: None,
+        },
+    })
+}
+
+// A journal with frames of these sizes, and with other acts.
+fn journal_of(alloc: Global, sizes: &[usize]) -> Result<Journal, NoMemory> {
+    let mut journal = Journal::new(alloc);
+    for size in sizes {
+        journal.push(opened())?;
+        journal.push(sent(alloc, *size)?)?;
+        journal.push(opened())?;
+    }
+    Ok(journal)
+}
+
+#[test]
+fn lines_of_a_header(rt: HostRuntime) -> Result<(), Fail> {
+    let alloc = rt.alloc();
+    let journal = Journal::new(alloc);
+    for (count, want, lines) in HEADER_LINES {
+        assert!(rt; *count <= 5);
+        let header = &HEADER[..*count];
+        ask_each(&rt, alloc, header, NO_NODE, &journal, lines, *want);
     }
     Ok(())
 }
 
 #[test]
-fn what_came_of_a_frame_stands_behind_its_kind(rt: HostRuntime) -> Result<(), Fail> {
-    let cases = [
-        (
-            Kind::AssocReq,
-            Outcome::Accepted,
-            "took a1 assoc-req accepted\n",
-        ),
-        (
-            Kind::AssocResp,
-            Outcome::Accepted,
-            "took a1 assoc-resp accepted\n",
-        ),
-        (Kind::FtReq, Outcome::Accepted, "took a1 ft-req accepted\n"),
-        (
-            Kind::FtResp,
-            Outcome::Accepted,
-            "took a1 ft-resp accepted\n",
-        ),
-        (Kind::ReReq, Outcome::Answered, "took a1 re-req answered\n"),
-        (
-            Kind::ReResp,
-            Outcome::Accepted,
-            "took a1 re-resp accepted\n",
-        ),
-        (
-            Kind::Key(Message::M1),
-            Outcome::Accepted,
-            "took a1 m1 accepted\n",
-        ),
-        (
-            Kind::Key(Message::M2),
-            Outcome::Accepted,
-            "took a1 m2 accepted\n",
-        ),
-        (
-            Kind::Key(Message::M3),
-            Outcome::Answered,
-            "took a1 m3 answered\n",
-        ),
-        (
-            Kind::Key(Message::M4),
-            Outcome::Accepted,
-            "took a1 m4 accepted\n",
-        ),
-        (
-            Kind::Key(Message::G1),
-            Outcome::Answered,
-            "took a1 g1 answered\n",
-        ),
-        (
-            Kind::Key(Message::G2),
-            Outcome::Accepted,
-            "took a1 g2 accepted\n",
-        ),
-        (Kind::Data, Outcome::Accepted, "took a1 data accepted\n"),
-        (Kind::Ignored, Outcome::Ignored, "took a1 ignored ignored\n"),
-    ];
-    check_took(&rt, rt.alloc(), &cases)?;
+#[tactic(auto, using(crate::proofs::Feeding::feeding))]
+fn a_refused_line_leaves_the_header_as_it_was(rt: HostRuntime) -> Result<(), Fail> {
+    let journal = Journal::new(rt.alloc());
+    let mut reader = ScriptReader::start(rt.alloc());
+    assert!(rt; reader.domain().is_none());
+    play(&rt, rt.alloc(), &mut reader, FALTERING, &journal);
+    let network = reader.domain().ok_or("no network")?;
+    assert_eq!(rt; network.akm, Akm::PskSha256);
+    assert_eq!(rt; network.ssid.as_slice(), b"a".as_slice());
     Ok(())
 }
 
 #[test]
-fn a_refusal_tells_its_reason(rt: HostRuntime) -> Result<(), Fail> {
-    let m3 = Kind::Key(Message::M3);
-    let cases = [
-        (
-            Kind::Unread,
-            Reason::OutOfProfile(20),
-            "took a1 unread refused out-of-profile 20\n",
-        ),
-        (m3, Reason::NotForMe, "took a1 m3 refused not-for-me\n"),
-        (m3, Reason::UnknownPeer, "took a1 m3 refused unknown-peer\n"),
-        (m3, Reason::Unawaited, "took a1 m3 refused unawaited\n"),
-        (m3, Reason::Counter(3), "took a1 m3 refused counter 3\n"),
-        (m3, Reason::Nonce, "took a1 m3 refused nonce\n"),
-        (m3, Reason::Mic, "took a1 m3 refused mic\n"),
-        (m3, Reason::Wrap, "took a1 m3 refused wrap\n"),
-        (
-            m3,
-            Reason::KeyData(KeyDataFault::Unreadable),
-            "took a1 m3 refused key-data 1\n",
-        ),
-        (
-            m3,
-            Reason::KeyData(KeyDataFault::Gtk),
-            "took a1 m3 refused key-data 5\n",
-        ),
-        (
-            Kind::FtResp,
-            Reason::Status(53),
-            "took a1 ft-resp refused status 53\n",
-        ),
-        (
-            Kind::FtReq,
-            Reason::NoHolder,
-            "took a1 ft-req refused no-holder\n",
-        ),
-        (Kind::FtReq, Reason::Name, "took a1 ft-req refused name\n"),
-        (Kind::Data, Reason::NoKey, "took a1 data refused no-key\n"),
-        (
-            Kind::Data,
-            Reason::Replayed(1),
-            "took a1 data refused replayed 1\n",
-        ),
-        (Kind::Data, Reason::Seal, "took a1 data refused seal\n"),
-        (Kind::FtReq, Reason::Spent, "took a1 ft-req refused spent\n"),
-    ];
-    check_took(
-        &rt,
+fn a_script_tells_the_network(rt: HostRuntime) -> Result<(), Fail> {
+    let journal = Journal::new(rt.alloc());
+    let reader = reader_behind(rt.alloc(), HEADER, BOTH, &journal)?;
+    let network = reader.domain().ok_or("no network")?;
+    assert_eq!(rt; network.seed, SEED);
+    assert_eq!(rt; network.ssid.as_slice(), b"IEEE".as_slice());
+    assert_eq!(rt; network.psk, PSK);
+    assert_eq!(rt; network.akm, Akm::Psk);
+    assert_eq!(rt; network.mdid, [0, 0]);
+    assert_eq!(rt; network.aps.0.len(), 1);
+    assert_eq!(rt; network.aps.0[0].address, BSSID);
+    assert_eq!(rt; network.aps.0[0].r0kh_id.as_slice(), b"r0kh-1".as_slice());
+    assert_eq!(rt; network.stas.0.as_slice(), [ADDRESS].as_slice());
+    Ok(())
+}
+
+// The key that the passphrase gives in the network of that name.
+fn key_of(alloc: Global, ssid: &[u8], passphrase: &[u8]) -> Result<[u8; 32], Fail> {
+    let journal = Journal::new(alloc);
+    let lines = [HEADER[0], HEADER[1], ssid, passphrase, b"akm psk"];
+    let reader = reader_behind(alloc, &lines, NO_NODE, &journal)?;
+    Ok(reader.domain().ok_or("no network")?.psk)
+}
+
+#[test]
+fn a_passphrase_gives_the_key(rt: HostRuntime) -> Result<(), Fail> {
+    let short = key_of(rt.alloc(), b"ssid IEEE", b"passphrase password")?;
+    assert_eq!(rt; short, PSK);
+    let long = key_of(
         rt.alloc(),
-        &cases.map(|(kind, reason, text)| (kind, Outcome::Refused(reason), text)),
+        b"ssid ThisIsASSID",
+        b"passphrase ThisIsAPassword",
     )?;
+    assert_eq!(rt; long, LONG_PSK);
     Ok(())
 }
 
 #[test]
-fn a_reader_s_refusal_tells_layer_place_and_fault(rt: HostRuntime) -> Result<(), Fail> {
-    let air = |fault| Outcome::Refused(Reason::Malformed(Malformed::Air(fault)));
-    let key = |place, kind| {
-        Outcome::Refused(Reason::Malformed(Malformed::Key(FrameFault { place, kind })))
-    };
-    let elements = |place, kind| {
-        Outcome::Refused(Reason::Malformed(Malformed::Elements(ElementFault { place, kind })))
-    };
-    let cut = ElementFaultKind::Truncated;
-    let inner = ElementFaultKind::SubelementLength;
-    let cases = [
-        (
-            Kind::Unread,
-            air(AirFault::Short(20)),
-            "took a1 unread refused malformed 1 20 1\n",
-        ),
-        (
-            Kind::Unread,
-            air(AirFault::Version),
-            "took a1 unread refused malformed 1 0 2\n",
-        ),
-        (
-            Kind::Unread,
-            air(AirFault::Body(24)),
-            "took a1 unread refused malformed 1 24 4\n",
-        ),
-        (
-            Kind::Eapol,
-            key(0, FaultKind::Short),
-            "took a1 eapol refused malformed 2 0 1\n",
-        ),
-        (
-            Kind::Eapol,
-            key(2, FaultKind::BodyLength),
-            "took a1 eapol refused malformed 2 2 4\n",
-        ),
-        (
-            Kind::FtReq,
-            elements(45, cut),
-            "took a1 ft-req refused malformed 3 45 1\n",
-        ),
-        (
-            Kind::FtReq,
-            elements(129, inner),
-            "took a1 ft-req refused malformed 3 129 5\n",
-        ),
-    ];
-    check_took(&rt, rt.alloc(), &cases)?;
+fn lines_that_list_nodes(rt: HostRuntime) -> Result<(), Fail> {
+    let alloc = rt.alloc();
+    let journal = Journal::new(alloc);
+    for (nodes, want, lines) in NODE_LINES {
+        assert!(rt; nodes.len() <= 10);
+        ask_each(&rt, alloc, HEADER, nodes, &journal, lines, *want);
+    }
     Ok(())
 }
 
 #[test]
-fn the_summary_of_no_entries(rt: HostRuntime) {
-    let mut out = [0; SUMMARY_ROOM];
-    let count = summary_of(&[], ALL_HOLD, &mut out);
-    let summary = b"end frames 0 accepted 0 answered 0 refused 0 ignored 0\n\
-keys installed 0 resumed 0 used 0 handed-up 0\n\
-premises fresh yes no-collision yes unforged yes\n";
-    assert_eq!(rt; &out[..count], summary.as_slice());
+fn no_more_than_sixteen_access_points(rt: HostRuntime) -> Result<(), Fail> {
+    let journal = Journal::new(rt.alloc());
+    let journal = &journal;
+    let mut reader = reader_behind(rt.alloc(), HEADER, NO_NODE, journal)?;
+    for number in 0..16u8 {
+        let line = format!(in rt.alloc(); "ap 0200000000{number:02x} r0kh-{number:02}")?;
+        let answer = tell(rt.alloc(), &mut reader, line.as_bytes(), journal);
+        assert_eq!(rt; answer, Ap(Mac([2, 0, 0, 0, 0, number]), 7));
+    }
+    play(&rt, rt.alloc(), &mut reader, MORE_APS, journal);
+    Ok(())
+}
+
+#[test]
+fn no_more_than_sixty_four_stations(rt: HostRuntime) -> Result<(), Fail> {
+    let journal = Journal::new(rt.alloc());
+    let journal = &journal;
+    let mut reader = reader_behind(rt.alloc(), HEADER, NO_NODE, journal)?;
+    for number in 0..64u8 {
+        let line = format!(in rt.alloc(); "sta 0200000000{number:02x}")?;
+        let answer = tell(rt.alloc(), &mut reader, line.as_bytes(), journal);
+        assert_eq!(rt; answer, Sta(Mac([2, 0, 0, 0, 0, number])));
+    }
+    play(&rt, rt.alloc(), &mut reader, MORE_STAS, journal);
+    Ok(())
+}
+
+#[test]
+fn lines_that_ask_for_events(rt: HostRuntime) -> Result<(), Fail> {
+    let alloc = rt.alloc();
+    let journal = journal_of(alloc, SIZES)?;
+    for (want, lines) in EVENT_LINES {
+        ask_each(&rt, alloc, HEADER, BOTH, &journal, lines, *want);
+    }
+    assert_eq!(rt; ask(alloc, HEADER, BOTH, &journal, b"\xff"), Script(2));
+    Ok(())
+}
+
+// `inject`, a node, so many times two digits and what stands behind them.
+fn inject_line(alloc: Global, node: &[u8], count: usize, end: &[u8]) -> Result<Vec<u8>, NoMemory> {
+    let mut line = Vec::from_slice(alloc, b"inject ")?;
+    line.extend_from_slice(node)?;
+    line.push(b' ')?;
+    for _ in 0..count {
+        line.extend_from_slice(b"5A")?;
+    }
+    line.extend_from_slice(end)?;
+    Ok(line)
+}
+
+#[test]
+fn frames_that_are_injected(rt: HostRuntime) -> Result<(), Fail> {
+    let alloc = rt.alloc();
+    let journal = Journal::new(alloc);
+    for (node, count, end, want) in INJECTIONS {
+        let line = inject_line(alloc, node, *count, end)?;
+        let says = ask(alloc, HEADER, BOTH, &journal, &line);
+        assert_eq!(rt; says, *want, "{count}");
+    }
+    Ok(())
+}
+
+#[test]
+fn a_frame_is_injected_as_it_stands(rt: HostRuntime) -> Result<(), Fail> {
+    let journal = Journal::new(rt.alloc());
+    let mut reader = reader_behind(rt.alloc(), HEADER, BOTH, &journal)?;
+    match reader.line(rt.alloc(), b"inject a1 00Ff5a", &journal)? {
+        Step::Event(Event::Inject { octets, .. }) => {
+            assert_eq!(rt; octets.as_slice(), [0, 0xff, 0x5a].as_slice());
+        }
+        _ => return Err("no frame".into()),
+    }
+    Ok(())
+}
+
+#[test]
+#[tactic(auto, using(crate::proofs::Feeding::feeding))]
+fn frames_are_seen_as_they_are_sent(rt: HostRuntime) -> Result<(), Fail> {
+    let mut journal = Journal::new(rt.alloc());
+    let mut reader = reader_behind(rt.alloc(), HEADER, BOTH, &journal)?;
+    assert!(rt; GROWING.len() <= 100);
+    for (size, line, want) in GROWING {
+        journal.push(opened())?;
+        journal.push(sent(rt.alloc(), *size)?)?;
+        journal.push(opened())?;
+        assert_eq!(rt;
+            tell(rt.alloc(), &mut reader, line, &journal),
+            *want,
+            "{line:?}"
+        );
+    }
+    Ok(())
+}
+
+#[test]
+#[tactic(auto, using(crate::proofs::Feeding::feeding))]
+fn no_event_behind_more_frames_than_have_numbers(rt: HostRuntime) -> Result<(), Fail> {
+    let mut journal = Journal::new(rt.alloc());
+    for _ in 0..65535 {
+        journal.push(sent(rt.alloc(), 0)?)?;
+    }
+    let mut reader = reader_behind(rt.alloc(), HEADER, BOTH, &journal)?;
+    let last = tell(rt.alloc(), &mut reader, b"deliver 65535 to a1", &journal);
+    assert_eq!(rt; last, Deliver(65535, A1));
+    journal.push(sent(rt.alloc(), 0)?)?;
+    play(&rt, rt.alloc(), &mut reader, LATE_LINES, &journal);
+    Ok(())
 }

@@ -24,6 +24,7 @@ returns-in_default-read-clause-told g c =
         rounds = r.rounds;
         begins = r.begins;
         open_line = r.open_line;
+        short = omega (arith, c.reads.session.short, c.reads.session.line.ok.0);
         explains = record { spelled = r.spelled; journal = r.stands.journal };
       },
     )

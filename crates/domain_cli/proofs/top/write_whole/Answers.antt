@@ -1,7 +1,7 @@
 use Rattle.std.proofs.Common.{◌++◌, refl}
 use Rattle.std.proofs.lemmas.List.{reverse-reverse}
 use Rattle.domain_base.proofs.Taken.{Appends-then}
-use Rattle.frame_script.proofs.Taken.{part-then, part-more}
+use Rattle.journal_report.proofs.Taken.{part-then, part-more}
 use Rattle.run_journal.specs.Report.{lines, summary}
 use Rattle.domain_cli.proofs.top.write_whole.Goals as goal
 

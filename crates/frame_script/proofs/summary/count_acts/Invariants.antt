@@ -1,7 +1,0 @@
-use Rattle.std.proofs.Common.{◌≡◌, reverse, take}
-use Rattle.frame_script.specs.Counts.{counts_of}
-use Rattle.frame_script.proofs.summary.count_acts.Given as goal
-
--- the acts so far are counted
-abbrev pub invariant-loop-entry : goal.invariant-loop-entry
-invariant-loop-entry l = l.counts ≡ counts_of (reverse (take l.entry-index l.entries))

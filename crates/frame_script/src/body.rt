@@ -1,0 +1,146 @@
+//! The lines behind a header.
+
+ghost use Rattle.std.specs.Prelude.{◌≡◌, ◌<◌, length, IfOk, IsTrue, MatchResult};
+ghost use Rattle.frame_script.specs.declared.reader.LineFault.TheVariants as answered;
+ghost use Rattle.frame_script.specs.declared.reader.Step.TheVariants as steps;
+ghost use Rattle.frame_script.specs.Due.{draft_of};
+ghost use Rattle.frame_script.specs.Script.{AtNodes, body_line, with_ap, with_sta};
+ghost use Rattle.frame_script.specs.Sentences.{CanAsk, CanSay, IsKept, Takes, TellsBy, event_of, is_few, octets_of, said_of};
+
+use crate::events::{Asked, event_line};
+use crate::header::{Due, Taken};
+use crate::nodes::{ap_line, sta_line};
+use crate::reader::{LineFault, Step};
+use crate::refusal::Refusal;
+use domain_base::{Mac, Octets};
+use run_journal::{Domain, Event, ListedAp};
+use std::alloc::Global;
+
+/// What a line behind the header says, before memory is taken for it.
+#[derive(Drop)]
+pub(crate) enum Sentence<'a> {
+    /// Lists an access point, by its address and its R0KH-ID.
+    Ap(Mac, &'a [u8]),
+    /// Lists a station.
+    Sta(Mac),
+    /// Asks for an event.
+    Asks(Asked<'a>),
+}
+
+// What the line says, by its first word and what stands behind it.
+#[tactic(auto, unfolding(crate::specs::Script::body_line))]
+fn body_line<'a>(
+    domain: &Domain,
+    rounds: u64,
+    sizes: &[usize],
+    word: &[u8],
+    text: &'a [u8],
+) -> Result<Sentence<'a>, Refusal>
+    requires { IsTrue (is_few domain.now) }
+    ensures can { IfOk result (CanSay domain.now rounds sizes.now) }
+    ensures says { TellsBy said_of result (body_line domain.now rounds sizes.now word.now text.now) }
+{
+    if word == b"ap".as_slice() {
+        if domain.stas.0.is_empty() && rounds == 0 {
+            let (address, r0kh_id) = ap_line(domain, text)?;
+            Ok(Sentence::Ap(address, r0kh_id))
+        } else {
+            Err(Refusal::Word)
+        }
+    } else if word == b"sta".as_slice() {
+        if rounds == 0 {
+            Ok(Sentence::Sta(sta_line(domain, text)?))
+        } else {
+            Err(Refusal::Word)
+        }
+    } else {
+        Ok(Sentence::Asks(event_line(domain, sizes, word, text)?))
+    }
+}
+
+// Lists an access point.
+fn list_ap(domain: Domain, alloc: Global, address: Mac, r0kh_id: &[u8]) -> Taken
+    requires few { IsTrue (is_few domain) }
+    requires room { length domain.aps < 16 }
+    ensures kept { IsKept result.0 }
+    ensures listed { MatchResult result.1 (λ s. (s ≡ steps.Ap address r0kh_id.now) × (draft_of result.0 ≡ AtNodes (with_ap domain address r0kh_id.now))) (λ e. (e ≡ answered.NoMemory) × (draft_of result.0 ≡ AtNodes domain)) }
+{
+    let mut domain = domain;
+    let Ok(listed) = Vec::from_slice(alloc, r0kh_id) else {
+        return (Due::Nodes { domain }, Err(LineFault::NoMemory));
+    };
+    let Ok(said) = Vec::from_slice(alloc, r0kh_id) else {
+        return (Due::Nodes { domain }, Err(LineFault::NoMemory));
+    };
+    let ap = ListedAp {
+        address,
+        r0kh_id: Octets(listed),
+    };
+    if domain.aps.0.push(ap).is_err() {
+        return (Due::Nodes { domain }, Err(LineFault::NoMemory));
+    }
+    let r0kh_id = Octets(said);
+    (Due::Nodes { domain }, Ok(Step::Ap { address, r0kh_id }))
+}
+
+// Lists a station.
+fn list_sta(domain: Domain, address: Mac) -> Taken
+    requires few { IsTrue (is_few domain) }
+    requires room { length domain.stas < 64 }
+    ensures kept { IsKept result.0 }
+    ensures listed { MatchResult result.1 (λ s. (s ≡ steps.Sta address) × (draft_of result.0 ≡ AtNodes (with_sta domain address))) (λ e. (e ≡ answered.NoMemory) × (draft_of result.0 ≡ AtNodes domain)) }
+{
+    let mut domain = domain;
+    if domain.stas.0.push(address).is_err() {
+        return (Due::Nodes { domain }, Err(LineFault::NoMemory));
+    }
+    (Due::Nodes { domain }, Ok(Step::Sta { address }))
+}
+
+// The octets that the digits write.
+#[tactic(auto, using(crate::proofs::Hexed::decoded))]
+fn decode(alloc: Global, digits: &[u8]) -> Result<Octets, LineFault>
+    ensures { MatchResult result (λ octets. octets ≡ octets_of digits.now) (λ e. e ≡ answered.NoMemory) }
+{
+    match hex::decode(alloc, digits) {
+        Ok(octets) => Ok(Octets(octets)),
+        Err(_) => Err(LineFault::NoMemory),
+    }
+}
+
+// The event that is asked for.
+fn make_event(alloc: Global, asked: Asked) -> Result<Event, LineFault>
+    ensures { MatchResult result (λ e. e ≡ event_of asked.entry) (λ e. e ≡ answered.NoMemory) }
+{
+    match asked {
+        Asked::Event(event) => Ok(event),
+        Asked::Inject(to, digits) => {
+            let octets = decode(alloc, digits)?;
+            Ok(Event::Inject { to, octets })
+        }
+    }
+}
+
+/// Takes a line behind the header, by its first word and what stands behind it.
+pub(crate) fn take_body(
+    domain: Domain,
+    alloc: Global,
+    rounds: u64,
+    sizes: &[usize],
+    word: &[u8],
+    text: &[u8],
+) -> Taken
+    requires { IsTrue (is_few domain) }
+    ensures kept { IsKept result.0 }
+    ensures takes { Takes (AtNodes domain) (draft_of result.0) rounds sizes.now (body_line domain rounds sizes.now word.now text.now) result.1 }
+{
+    match body_line(&domain, rounds, sizes, word, text) {
+        Ok(Sentence::Ap(address, r0kh_id)) => list_ap(domain, alloc, address, r0kh_id),
+        Ok(Sentence::Sta(address)) => list_sta(domain, address),
+        Ok(Sentence::Asks(asked)) => {
+            let event = make_event(alloc, asked);
+            (Due::Nodes { domain }, event.map(Step::Event))
+        }
+        Err(refusal) => (Due::Nodes { domain }, Err(refusal.into())),
+    }
+}

@@ -1,0 +1,281 @@
+//! The lines that ask for events.
+
+ghost use Rattle.std.specs.Prelude.{◌≡◌, ◌<◌, ◌≤◌, ℕ, List, length, is_some, IfOk, IfSome, IsTrue, option_map};
+ghost use Rattle.run_journal.specs.declared.domain.Event.TheVariants as asks;
+ghost use Rattle.frame_script.specs.Tokens.{hex_value};
+ghost use Rattle.frame_script.specs.Headers.{CanHappen, IsListedIn, IsSized};
+ghost use Rattle.frame_script.specs.Script.{Asks, alter_line, connect_line, cut_line, deliver_line, event_line, event_of, frame_octets, inject_line, listed, listed_ap, listed_sta, place_in, retry_line, size_of, to_word};
+ghost use Rattle.frame_script.specs.Sentences.{CanAsk, Tells, TellsBy, event_of as event_asked, is_few, name_of, octets_of};
+
+use crate::refusal::Refusal;
+use crate::tokens::{
+    NodeName, behind, hex_octets, is_octets, node_name, number_of_digits, split_word,
+};
+use domain_base::Node;
+use run_journal::{Domain, Event};
+
+/// What is asked for, before memory is taken for it.
+#[derive(Drop)]
+pub(crate) enum Asked<'a> {
+    /// An event.
+    Event(Event),
+    /// That octets come to a node, in digits.
+    Inject(Node, &'a [u8]),
+}
+
+// The most octets of a frame.
+const MOST_OCTETS: usize = 2400;
+
+// The most frames that are sent before an event.
+const MOST_FRAMES: usize = 65535;
+
+// The place from 0 of the number from 1, where so many are listed.
+#[tactic(auto, unfolding(crate::specs::Script::place_in))]
+fn place_in(count: usize, number: u64) -> Option<u16>
+    requires { count ≤ 65536 }
+    ensures inside { IfSome result (λ place. place < count) }
+    ensures value { result ≡ place_in count number }
+{
+    if 1 <= number && number <= count as u64 {
+        Some((number - 1) as u16)
+    } else {
+        None
+    }
+}
+
+// The place of a listed access point.
+#[tactic(auto, unfolding(crate::specs::Script::listed_ap))]
+fn listed_ap(domain: &Domain, name: NodeName) -> Option<u16>
+    requires { IsTrue (is_few domain.now) }
+    ensures inside { IfSome result (λ place. place < length domain.now.aps) }
+    ensures value { result ≡ listed_ap domain.now (name_of name) }
+{
+    match name {
+        NodeName::Ap(number) => place_in(domain.aps.0.len(), number),
+        NodeName::Sta(_) => None,
+    }
+}
+
+// The place of a listed station.
+#[tactic(auto, unfolding(crate::specs::Script::listed_sta))]
+fn listed_sta(domain: &Domain, name: NodeName) -> Option<u16>
+    requires { IsTrue (is_few domain.now) }
+    ensures inside { IfSome result (λ place. place < length domain.now.stas) }
+    ensures value { result ≡ listed_sta domain.now (name_of name) }
+{
+    match name {
+        NodeName::Ap(_) => None,
+        NodeName::Sta(number) => place_in(domain.stas.0.len(), number),
+    }
+}
+
+// A listed node.
+#[tactic(auto, unfolding(crate::specs::Script::listed))]
+fn listed(domain: &Domain, name: NodeName) -> Option<Node>
+    requires { IsTrue (is_few domain.now) }
+    ensures inside { IfSome result (IsListedIn domain.now) }
+    ensures value { result ≡ listed domain.now (name_of name) }
+{
+    match name {
+        NodeName::Ap(_) => listed_ap(domain, name).map(Node::Ap),
+        NodeName::Sta(_) => listed_sta(domain, name).map(Node::Sta),
+    }
+}
+
+// The size of the frame of that number, from 1.
+#[tactic(auto, unfolding(crate::specs::Script::size_of))]
+fn size_of(sizes: &[usize], number: u64) -> Option<usize>
+    ensures sized { IfSome result (λ whole. (size : ℕ) → size ≤ whole → IsSized sizes.now number size) }
+    ensures value { result ≡ size_of sizes.now number }
+{
+    if 1 <= number && number <= sizes.len() as u64 {
+        Some(sizes[(number - 1) as usize])
+    } else {
+        None
+    }
+}
+
+// `to` and a node.
+#[tactic(auto, unfolding(crate::specs::Script::to_word))]
+fn to_name(text: &[u8]) -> Option<NodeName>
+    ensures { option_map name_of result ≡ to_word text.now }
+{
+    node_name(behind(b"to ", text)?)
+}
+
+// A station begins an attempt with an access point.
+#[tactic(auto, unfolding(crate::specs::Script::connect_line))]
+fn connect_line(domain: &Domain, text: &[u8]) -> Result<Event, Refusal>
+    requires { IsTrue (is_few domain.now) }
+    ensures can { (sizes : List ℕ) → IfOk result (CanHappen domain.now sizes) }
+    ensures says { Tells result (connect_line domain.now text.now) }
+{
+    let (first, second) = split_word(text).ok_or(Refusal::Arguments)?;
+    let sta = node_name(first).ok_or(Refusal::Arguments)?;
+    let ap = node_name(second).ok_or(Refusal::Arguments)?;
+    let sta = listed_sta(domain, sta).ok_or(Refusal::Node)?;
+    let ap = listed_ap(domain, ap).ok_or(Refusal::Node)?;
+    Ok(Event::Connect { sta, ap })
+}
+
+// An access point sends a station once more what it waits to have answered.
+#[tactic(auto, unfolding(crate::specs::Script::retry_line))]
+fn retry_line(domain: &Domain, text: &[u8]) -> Result<Event, Refusal>
+    requires { IsTrue (is_few domain.now) }
+    ensures can { (sizes : List ℕ) → IfOk result (CanHappen domain.now sizes) }
+    ensures says { Tells result (retry_line domain.now text.now) }
+{
+    let (first, second) = split_word(text).ok_or(Refusal::Arguments)?;
+    let ap = node_name(first).ok_or(Refusal::Arguments)?;
+    let sta = node_name(second).ok_or(Refusal::Arguments)?;
+    let ap = listed_ap(domain, ap).ok_or(Refusal::Node)?;
+    let sta = listed_sta(domain, sta).ok_or(Refusal::Node)?;
+    Ok(Event::Retry { ap, sta })
+}
+
+// A frame that was sent comes to a node.
+#[tactic(auto, unfolding(crate::specs::Script::deliver_line))]
+fn deliver_line(domain: &Domain, sizes: &[usize], text: &[u8]) -> Result<Event, Refusal>
+    requires { IsTrue (is_few domain.now) }
+    ensures can { IfOk result (CanHappen domain.now sizes.now) }
+    ensures says { Tells result (deliver_line domain.now sizes.now text.now) }
+{
+    let (number, rest) = split_word(text).ok_or(Refusal::Arguments)?;
+    let number = number_of_digits(number).ok_or(Refusal::Arguments)?;
+    let name = to_name(rest).ok_or(Refusal::Arguments)?;
+    let to = listed(domain, name).ok_or(Refusal::Node)?;
+    size_of(sizes, number).ok_or(Refusal::Frame)?;
+    Ok(Event::Deliver { number, to })
+}
+
+// A frame that was sent comes to a node with one octet changed.
+#[tactic(auto, unfolding(crate::specs::Script::alter_line))]
+fn alter_line(domain: &Domain, sizes: &[usize], text: &[u8]) -> Result<Event, Refusal>
+    requires { IsTrue (is_few domain.now) }
+    ensures can { IfOk result (CanHappen domain.now sizes.now) }
+    ensures says { Tells result (alter_line domain.now sizes.now text.now) }
+{
+    let (number, rest) = split_word(text).ok_or(Refusal::Arguments)?;
+    let number = number_of_digits(number).ok_or(Refusal::Arguments)?;
+    let (place, rest) = split_word(rest).ok_or(Refusal::Arguments)?;
+    let place = number_of_digits(place).ok_or(Refusal::Arguments)?;
+    let (mask, rest) = split_word(rest).ok_or(Refusal::Arguments)?;
+    let mask: [u8; 1] = hex_octets(mask).ok_or(Refusal::Arguments)?;
+    let name = to_name(rest).ok_or(Refusal::Arguments)?;
+    let to = listed(domain, name).ok_or(Refusal::Node)?;
+    let size = size_of(sizes, number).ok_or(Refusal::Frame)?;
+    let place = place as usize;
+    if place < size {
+        let mask = mask[0];
+        Ok(Event::Alter {
+            number,
+            place,
+            mask,
+            to,
+        })
+    } else {
+        Err(Refusal::Place)
+    }
+}
+
+// The first octets of a frame that was sent come to a node.
+#[tactic(auto, unfolding(crate::specs::Script::cut_line))]
+fn cut_line(domain: &Domain, sizes: &[usize], text: &[u8]) -> Result<Event, Refusal>
+    requires { IsTrue (is_few domain.now) }
+    ensures can { IfOk result (CanHappen domain.now sizes.now) }
+    ensures says { Tells result (cut_line domain.now sizes.now text.now) }
+{
+    let (number, rest) = split_word(text).ok_or(Refusal::Arguments)?;
+    let number = number_of_digits(number).ok_or(Refusal::Arguments)?;
+    let (count, rest) = split_word(rest).ok_or(Refusal::Arguments)?;
+    let count = number_of_digits(count).ok_or(Refusal::Arguments)?;
+    let name = to_name(rest).ok_or(Refusal::Arguments)?;
+    let to = listed(domain, name).ok_or(Refusal::Node)?;
+    let whole = size_of(sizes, number).ok_or(Refusal::Frame)?;
+    let size = count as usize;
+    if size <= whole {
+        Ok(Event::Cut { number, size, to })
+    } else {
+        Err(Refusal::Place)
+    }
+}
+
+// Octets that are not too many for a frame.
+#[tactic(auto, using(crate::proofs::Injected::framing), unfolding(crate::specs::Script::frame_octets))]
+fn frame_octets(text: &[u8]) -> Result<(), Refusal>
+    ensures digits { IfOk result (λ _. IsTrue (is_some (hex_value text.now))) }
+    ensures says { TellsBy (λ _. octets_of text.now) result (frame_octets text.now) }
+{
+    if !is_octets(text) {
+        Err(Refusal::Arguments)
+    } else if MOST_OCTETS < text.len() / 2 {
+        Err(Refusal::LongFrame)
+    } else {
+        Ok(())
+    }
+}
+
+// Octets come to a node.
+#[tactic(auto, unfolding(crate::specs::Script::inject_line))]
+fn inject_line<'a>(domain: &Domain, text: &'a [u8]) -> Result<(Node, &'a [u8]), Refusal>
+    requires { IsTrue (is_few domain.now) }
+    ensures digits { IfOk result (λ i. IsTrue (is_some (hex_value i.1.now))) }
+    ensures inside { IfOk result (λ i. IsListedIn domain.now i.0) }
+    ensures says { TellsBy (λ i. asks.Inject i.0 (octets_of i.1.now)) result (inject_line domain.now text.now) }
+{
+    let (word, digits) = split_word(text).ok_or(Refusal::Arguments)?;
+    let name = node_name(word).ok_or(Refusal::Arguments)?;
+    frame_octets(digits)?;
+    let to = listed(domain, name).ok_or(Refusal::Node)?;
+    Ok((to, digits))
+}
+
+// An event by its first word.
+#[tactic(auto, unfolding(crate::specs::Script::event_of))]
+fn event_of<'a>(
+    domain: &Domain,
+    sizes: &[usize],
+    word: &[u8],
+    text: &'a [u8],
+) -> Result<Asked<'a>, Refusal>
+    requires { IsTrue (is_few domain.now) }
+    ensures can { IfOk result (λ a. CanAsk domain.now sizes.now a) }
+    ensures says { TellsBy event_asked result (event_of domain.now sizes.now word.now text.now) }
+{
+    if word == b"connect".as_slice() {
+        Ok(Asked::Event(connect_line(domain, text)?))
+    } else if word == b"deliver".as_slice() {
+        Ok(Asked::Event(deliver_line(domain, sizes, text)?))
+    } else if word == b"alter".as_slice() {
+        Ok(Asked::Event(alter_line(domain, sizes, text)?))
+    } else if word == b"cut".as_slice() {
+        Ok(Asked::Event(cut_line(domain, sizes, text)?))
+    } else if word == b"inject".as_slice() {
+        let (to, digits) = inject_line(domain, text)?;
+        Ok(Asked::Inject(to, digits))
+    } else if word == b"retry".as_slice() {
+        Ok(Asked::Event(retry_line(domain, text)?))
+    } else {
+        Err(Refusal::Word)
+    }
+}
+
+/// An event, where no more frames were sent than a run can number.
+#[tactic(auto, unfolding(crate::specs::Script::event_line))]
+pub(crate) fn event_line<'a>(
+    domain: &Domain,
+    sizes: &[usize],
+    word: &[u8],
+    text: &'a [u8],
+) -> Result<Asked<'a>, Refusal>
+    requires { IsTrue (is_few domain.now) }
+    ensures can { IfOk result (λ a. CanAsk domain.now sizes.now a × (length sizes.now ≤ 65535)) }
+    ensures says { TellsBy (λ a. Asks (event_asked a)) result (event_line domain.now sizes.now word.now text.now) }
+{
+    let asked = event_of(domain, sizes, word, text)?;
+    if sizes.len() <= MOST_FRAMES {
+        Ok(asked)
+    } else {
+        Err(Refusal::ManyFrames)
+    }
+}

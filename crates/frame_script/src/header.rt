@@ -1,0 +1,241 @@
+//! The lines of a header.
+
+ghost use Rattle.std.specs.Prelude.{◌≡◌, ◌≢◌, ◌≤◌, ℕ, List, length, IfOk};
+ghost use Rattle.domain_base.specs.declared.names.Akm.TheVariants.{FtPsk};
+ghost use Rattle.frame_script.specs.Due.{draft_of};
+ghost use Rattle.frame_script.specs.Script.{AtAkm, AtNodes, AtPsk, AtSeed, AtSsid, akm_of, header_line, new_network, passphrase_of, psk_of, seed_of, ssid_of};
+ghost use Rattle.frame_script.specs.Sentences.{IsKept, TakesHeader, Tells, TellsBy};
+
+use crate::reader::{LineFault, Step};
+use crate::refusal::Refusal;
+use crate::tokens::{hex_octets, is_text};
+use domain_base::{Akm, Octets};
+use mac_prf::pbkdf2;
+use run_journal::{Aps, Domain, Stas};
+use std::alloc::Global;
+
+/// Which line of a header is due, and what the lines before it said.
+#[derive(Drop)]
+pub(crate) enum Due {
+    /// The version of the form.
+    Version,
+    /// The seed.
+    Seed,
+    /// The SSID.
+    Ssid {
+        /// The seed.
+        seed: [u8; 32],
+    },
+    /// The pre-shared key.
+    Psk {
+        /// The seed.
+        seed: [u8; 32],
+        /// The SSID.
+        ssid: Octets,
+    },
+    /// The suite.
+    Akm {
+        /// The seed.
+        seed: [u8; 32],
+        /// The SSID.
+        ssid: Octets,
+        /// The pre-shared key.
+        psk: [u8; 32],
+    },
+    /// None: the header is whole.
+    Nodes {
+        /// The network, with the nodes listed so far.
+        domain: Domain,
+    },
+}
+
+/// Which line is due behind this one, and what this one says.
+pub(crate) type Taken = (Due, Result<Step, LineFault>);
+
+// 64 hexadecimal digits; not the draw that only a live run has.
+#[tactic(auto, unfolding(crate::specs::Script::seed_of))]
+fn seed_of(text: &[u8]) -> Result<[u8; 32], Refusal>
+    ensures { Tells result (seed_of text.now) }
+{
+    if text == b"draw".as_slice() {
+        return Err(Refusal::Mode);
+    }
+    hex_octets(text).ok_or(Refusal::Arguments)
+}
+
+// The seed, behind its word.
+#[tactic(auto, unfolding(crate::specs::Script::header_line))]
+fn seed_line(word: &[u8], text: &[u8]) -> Result<[u8; 32], Refusal>
+    ensures { TellsBy AtSsid result (header_line AtSeed word.now text.now) }
+{
+    if word == b"seed".as_slice() {
+        seed_of(text)
+    } else {
+        Err(Refusal::Word)
+    }
+}
+
+/// Takes the seed.
+pub(crate) fn take_seed(word: &[u8], text: &[u8]) -> Taken
+    ensures kept { IsKept result.0 }
+    ensures takes { TakesHeader AtSeed (draft_of result.0) word.now text.now result.1 }
+{
+    match seed_line(word, text) {
+        Ok(seed) => (Due::Ssid { seed }, Ok(Step::Nothing)),
+        Err(refusal) => (Due::Seed, Err(refusal.into())),
+    }
+}
+
+// The name of the network.
+#[tactic(auto, unfolding(crate::specs::Script::ssid_of))]
+fn ssid_of(text: &[u8]) -> Result<&[u8], Refusal>
+    ensures size { IfOk result (λ ssid. (1 ≤ length ssid.now) × (length ssid.now ≤ 32)) }
+    ensures says { TellsBy (λ ssid. ssid.now) result (ssid_of text.now) }
+{
+    if is_text(32, 32, text) {
+        Ok(text)
+    } else {
+        Err(Refusal::Arguments)
+    }
+}
+
+// The name of the network, behind its word.
+#[tactic(auto, unfolding(crate::specs::Script::header_line))]
+fn ssid_line<'a>(seed: &[u8; 32], word: &[u8], text: &'a [u8]) -> Result<&'a [u8], Refusal>
+    ensures size { IfOk result (λ ssid. (1 ≤ length ssid.now) × (length ssid.now ≤ 32)) }
+    ensures says { TellsBy (λ ssid. AtPsk seed.now ssid.now) result (header_line (AtSsid seed.now) word.now text.now) }
+{
+    if word == b"ssid".as_slice() {
+        ssid_of(text)
+    } else {
+        Err(Refusal::Word)
+    }
+}
+
+/// Takes the SSID.
+pub(crate) fn take_ssid(seed: [u8; 32], alloc: Global, word: &[u8], text: &[u8]) -> Taken
+    ensures kept { IsKept result.0 }
+    ensures takes { TakesHeader (AtSsid seed) (draft_of result.0) word.now text.now result.1 }
+{
+    match ssid_line(&seed, word, text) {
+        Ok(ssid) => match Vec::from_slice(alloc, ssid) {
+            Ok(octets) => {
+                let ssid = Octets(octets);
+                (Due::Psk { seed, ssid }, Ok(Step::Nothing))
+            }
+            Err(_) => (Due::Ssid { seed }, Err(LineFault::NoMemory)),
+        },
+        Err(refusal) => (Due::Ssid { seed }, Err(refusal.into())),
+    }
+}
+
+// The key of a passphrase.
+#[tactic(auto, unfolding(crate::specs::Script::passphrase_of))]
+fn passphrase_of(ssid: &[u8], text: &[u8]) -> Result<[u8; 32], Refusal>
+    ensures { Tells result (passphrase_of ssid.now text.now) }
+{
+    if 8 <= text.len() && is_text(63, 32, text) {
+        Ok(pbkdf2(text, ssid))
+    } else {
+        Err(Refusal::Arguments)
+    }
+}
+
+// The pre-shared key, as it is or by a passphrase.
+#[tactic(auto, unfolding(crate::specs::Script::psk_of))]
+fn psk_of(ssid: &[u8], word: &[u8], text: &[u8]) -> Result<[u8; 32], Refusal>
+    ensures { Tells result (psk_of ssid.now word.now text.now) }
+{
+    if word == b"psk".as_slice() {
+        hex_octets(text).ok_or(Refusal::Arguments)
+    } else if word == b"passphrase".as_slice() {
+        passphrase_of(ssid, text)
+    } else {
+        Err(Refusal::Word)
+    }
+}
+
+// The pre-shared key, by its word.
+#[tactic(auto, unfolding(crate::specs::Script::header_line))]
+fn psk_line(ssid: &[u8], word: &[u8], text: &[u8]) -> Result<[u8; 32], Refusal>
+    ensures { (seed : List ℕ) → TellsBy (AtAkm seed ssid.now) result (header_line (AtPsk seed ssid.now) word.now text.now) }
+{
+    psk_of(ssid, word, text)
+}
+
+/// Takes the pre-shared key.
+pub(crate) fn take_psk(seed: [u8; 32], ssid: Octets, word: &[u8], text: &[u8]) -> Taken
+    requires { (1 ≤ length ssid) × (length ssid ≤ 32) }
+    ensures kept { IsKept result.0 }
+    ensures takes { TakesHeader (AtPsk seed ssid) (draft_of result.0) word.now text.now result.1 }
+{
+    match psk_line(ssid.as_slice(), word, text) {
+        Ok(psk) => (Due::Akm { seed, ssid, psk }, Ok(Step::Nothing)),
+        Err(refusal) => (Due::Psk { seed, ssid }, Err(refusal.into())),
+    }
+}
+
+// The suite by its name.
+#[tactic(auto, unfolding(crate::specs::Script::akm_of))]
+fn akm_of(text: &[u8]) -> Result<Akm, Refusal>
+    ensures suite { IfOk result (λ akm. akm ≢ FtPsk) }
+    ensures says { Tells result (akm_of text.now) }
+{
+    if text == b"psk".as_slice() {
+        Ok(Akm::Psk)
+    } else if text == b"psk-sha256".as_slice() {
+        Ok(Akm::PskSha256)
+    } else {
+        Err(Refusal::Arguments)
+    }
+}
+
+// The suite, behind its word.
+#[tactic(auto, unfolding(crate::specs::Script::header_line))]
+fn akm_line(word: &[u8], text: &[u8]) -> Result<Akm, Refusal>
+    ensures suite { IfOk result (λ akm. akm ≢ FtPsk) }
+    ensures says { (seed ssid psk : List ℕ) → TellsBy (λ akm. AtNodes (new_network seed ssid psk akm)) result (header_line (AtAkm seed ssid psk) word.now text.now) }
+{
+    if word == b"akm".as_slice() {
+        akm_of(text)
+    } else {
+        Err(Refusal::Word)
+    }
+}
+
+// The network of a header, without nodes.
+fn new_network(seed: [u8; 32], ssid: Octets, psk: [u8; 32], akm: Akm, alloc: Global) -> Domain
+    ensures { result ≡ new_network seed ssid psk akm }
+{
+    Domain {
+        seed,
+        ssid,
+        psk,
+        akm,
+        mdid: [0, 0],
+        aps: Aps(Vec::new(alloc)),
+        stas: Stas(Vec::new(alloc)),
+    }
+}
+
+/// Takes the suite, and makes the network with it.
+pub(crate) fn take_akm(
+    seed: [u8; 32],
+    ssid: Octets,
+    psk: [u8; 32],
+    alloc: Global,
+    word: &[u8],
+    text: &[u8],
+) -> Taken
+    requires { (1 ≤ length ssid) × (length ssid ≤ 32) }
+    ensures kept { IsKept result.0 }
+    ensures takes { TakesHeader (AtAkm seed ssid psk) (draft_of result.0) word.now text.now result.1 }
+{
+    match akm_line(word, text) {
+        Ok(akm) => {
+            let domain = new_network(seed, ssid, psk, akm, alloc);
+            (Due::Nodes { domain }, Ok(Step::Network))
+        }
+        Err(refusal) => (Due::Akm { seed, ssid, psk }, Err(refusal.into())),
+    }
+}

@@ -1,0 +1,99 @@
+//! A line by what is due.
+
+ghost use Rattle.std.specs.Prelude.{◌≡◌, ◌≢◌, ◌<◌, ◌^◌, ℕ, List};
+ghost use Rattle.frame_script.specs.Due.{draft_of};
+ghost use Rattle.frame_script.specs.Script.{AtVersion, is_passed_over, line_says};
+ghost use Rattle.frame_script.specs.Sentences.{IsKept, Takes, rounds_with, words_say};
+
+use crate::body::take_body;
+use crate::header::{Due, Taken, take_akm, take_psk, take_seed, take_ssid};
+use crate::reader::{LineFault, Step};
+use crate::refusal::Refusal;
+use crate::tokens::first_word;
+use std::alloc::Global;
+
+// Takes the version of the form.
+#[tactic(auto, unfolding(crate::specs::Script::line_says))]
+fn take_version(line: &[u8]) -> Taken
+    ensures kept { IsKept result.0 }
+    ensures takes { (rounds : ℕ) (sizes : List ℕ) → Takes AtVersion (draft_of result.0) rounds sizes (line_says AtVersion rounds sizes line.now) result.1 }
+{
+    if line == b"domain 1".as_slice() {
+        (Due::Seed, Ok(Step::Nothing))
+    } else {
+        (Due::Version, Err(Refusal::Version.into()))
+    }
+}
+
+// Whether the line has no octets, or begins with `#`.
+fn is_passed_over(line: &[u8]) -> bool
+    ensures { result ≡ is_passed_over line.now }
+{
+    match line.first() {
+        None => true,
+        Some(c) => *c == b'#',
+    }
+}
+
+// Takes a line by its first word and what stands behind it.
+#[tactic(auto, using(crate::proofs::Taking::header), unfolding(crate::specs::Script::header_line))]
+fn take_words(
+    due: Due,
+    alloc: Global,
+    rounds: u64,
+    sizes: &[usize],
+    word: &[u8],
+    text: &[u8],
+) -> Taken
+    requires { IsKept due }
+    ensures kept { IsKept result.0 }
+    ensures takes { Takes (draft_of due) (draft_of result.0) rounds sizes.now (words_say (draft_of due) rounds sizes.now word.now text.now) result.1 }
+{
+    match due {
+        Due::Version => (Due::Version, Err(Refusal::Word.into())),
+        Due::Seed => take_seed(word, text),
+        Due::Ssid { seed } => take_ssid(seed, alloc, word, text),
+        Due::Psk { seed, ssid } => take_psk(seed, ssid, word, text),
+        Due::Akm { seed, ssid, psk } => take_akm(seed, ssid, psk, alloc, word, text),
+        Due::Nodes { domain } => take_body(domain, alloc, rounds, sizes, word, text),
+    }
+}
+
+// Takes a line behind the first one.
+#[tactic(auto, using(crate::proofs::Taking::passed, crate::proofs::Taking::worded))]
+fn take_later(due: Due, alloc: Global, rounds: u64, sizes: &[usize], line: &[u8]) -> Taken
+    requires kept { IsKept due }
+    requires later { draft_of due ≢ AtVersion }
+    ensures kept { IsKept result.0 }
+    ensures takes { Takes (draft_of due) (draft_of result.0) rounds sizes.now (line_says (draft_of due) rounds sizes.now line.now) result.1 }
+{
+    if is_passed_over(line) {
+        return (due, Ok(Step::Nothing));
+    }
+    let (word, text) = first_word(line);
+    take_words(due, alloc, rounds, sizes, word, text)
+}
+
+/// Takes the next line, where so many rounds were asked for and frames of these sizes sent. Where it is refused the same one
+/// is due.
+pub(crate) fn take_line(due: Due, alloc: Global, rounds: u64, sizes: &[usize], line: &[u8]) -> Taken
+    requires { IsKept due }
+    ensures kept { IsKept result.0 }
+    ensures takes { Takes (draft_of due) (draft_of result.0) rounds sizes.now (line_says (draft_of due) rounds sizes.now line.now) result.1 }
+{
+    match due {
+        Due::Version => take_version(line),
+        due => take_later(due, alloc, rounds, sizes, line),
+    }
+}
+
+/// How many rounds were asked for with this answer.
+pub(crate) fn rounds_with(rounds: u64, answer: &Result<Step, LineFault>) -> u64
+    requires { rounds < 2 ^ 63 }
+    ensures { result ≡ rounds_with rounds answer.now }
+{
+    match answer {
+        Ok(Step::Event(_)) => rounds + 1,
+        _ => rounds,
+    }
+}

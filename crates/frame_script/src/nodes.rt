@@ -1,0 +1,135 @@
+//! The lines that list nodes.
+
+ghost use Rattle.std.specs.Prelude.{◌≡◌, ◌<◌, true, false, length, IfOk, OnOk};
+ghost use Rattle.std.specs.List.{list_any};
+ghost use Rattle.domain_base.specs.declared.names.Mac.{Mac as AnyMac};
+ghost use Rattle.run_journal.specs.declared.domain.ListedAp.{ListedAp};
+ghost use Rattle.frame_script.specs.Headers.{CanListAp, CanListSta};
+ghost use Rattle.frame_script.specs.Script.{ListsAp, ListsSta, address_of, ap_line, is_same, is_single, is_used, is_used_id, new_ap, new_sta, sta_line};
+ghost use Rattle.frame_script.specs.Sentences.{Tells, TellsBy};
+
+use crate::refusal::Refusal;
+use crate::tokens::{hex_octets, is_text, split_word};
+use domain_base::Mac;
+use run_journal::Domain;
+
+// The most access points of a network.
+const MOST_APS: usize = 16;
+
+// The most stations of a network.
+const MOST_STAS: usize = 64;
+
+// Whether an address is that of one node: neither zero nor a group's.
+#[tactic(auto, unfolding(crate::specs::Script::is_single))]
+fn is_single(octets: &[u8; 6]) -> bool
+    ensures { result ≡ is_single octets.now }
+{
+    *octets != [0; 6] && octets[0] % 2 == 0
+}
+
+// The address of one node, in twelve digits.
+#[tactic(auto, unfolding(crate::specs::Script::address_of))]
+fn address_of(word: &[u8]) -> Result<Mac, Refusal>
+    ensures single { IfOk result (λ address. is_single address.0 ≡ true) }
+    ensures says { Tells result (address_of word.now) }
+{
+    let octets = hex_octets(word).ok_or(Refusal::Arguments)?;
+    if is_single(&octets) {
+        Ok(Mac(octets))
+    } else {
+        Err(Refusal::Arguments)
+    }
+}
+
+// Whether a listed access point has the address.
+fn is_of_ap(domain: &Domain, address: Mac) -> bool
+    ensures { result ≡ list_any (λ (a : ListedAp). is_same a.address address) domain.now.aps }
+{
+    domain.aps.0.iter().any(|ap| ap.address == address)
+}
+
+// Whether a listed station has the address.
+fn is_of_sta(domain: &Domain, address: Mac) -> bool
+    ensures { result ≡ list_any (λ (m : AnyMac). is_same m address) domain.now.stas }
+{
+    domain.stas.0.contains(&address)
+}
+
+// Whether a listed node has the address.
+#[tactic(auto, unfolding(crate::specs::Script::is_used))]
+fn is_used(domain: &Domain, address: Mac) -> bool
+    ensures { result ≡ is_used domain.now address }
+{
+    is_of_ap(domain, address) || is_of_sta(domain, address)
+}
+
+// Whether a listed access point has the R0KH-ID.
+#[tactic(auto, unfolding(crate::specs::Script::is_used_id))]
+fn is_used_id(domain: &Domain, r0kh_id: &[u8]) -> bool
+    ensures { result ≡ is_used_id domain.now r0kh_id.now }
+{
+    domain
+        .aps
+        .0
+        .iter()
+        .any(|ap| ap.r0kh_id.as_slice() == r0kh_id)
+}
+
+// Whether an access point can be listed so.
+#[tactic(auto, unfolding(crate::specs::Script::new_ap))]
+fn new_ap(domain: &Domain, address: Mac, r0kh_id: &[u8]) -> Result<(), Refusal>
+    ensures room { OnOk result (length domain.now.aps < 16) }
+    ensures free { OnOk result (is_used domain.now address ≡ false) }
+    ensures other { OnOk result (is_used_id domain.now r0kh_id.now ≡ false) }
+    ensures says { TellsBy (λ _. ListsAp address r0kh_id.now) result (new_ap domain.now address r0kh_id.now) }
+{
+    if MOST_APS <= domain.aps.0.len() {
+        Err(Refusal::ManyAps)
+    } else if is_used(domain, address) || is_used_id(domain, r0kh_id) {
+        Err(Refusal::Duplicate)
+    } else {
+        Ok(())
+    }
+}
+
+/// An access point, by its address and its R0KH-ID.
+#[tactic(auto, using(crate::proofs::Freed::listing), unfolding(crate::specs::Script::ap_line))]
+pub(crate) fn ap_line<'a>(domain: &Domain, text: &'a [u8]) -> Result<(Mac, &'a [u8]), Refusal>
+    ensures can { IfOk result (λ ap. CanListAp domain.now ap.0 ap.1.now) }
+    ensures says { TellsBy (λ ap. ListsAp ap.0 ap.1.now) result (ap_line domain.now text.now) }
+{
+    let (word, r0kh_id) = split_word(text).ok_or(Refusal::Arguments)?;
+    let address = address_of(word)?;
+    if !is_text(48, 33, r0kh_id) {
+        return Err(Refusal::Arguments);
+    }
+    new_ap(domain, address, r0kh_id)?;
+    Ok((address, r0kh_id))
+}
+
+// Whether a station can be listed so.
+#[tactic(auto, unfolding(crate::specs::Script::new_sta))]
+fn new_sta(domain: &Domain, address: Mac) -> Result<(), Refusal>
+    ensures room { OnOk result (length domain.now.stas < 64) }
+    ensures free { OnOk result (is_used domain.now address ≡ false) }
+    ensures says { TellsBy (λ _. ListsSta address) result (new_sta domain.now address) }
+{
+    if MOST_STAS <= domain.stas.0.len() {
+        Err(Refusal::ManyStas)
+    } else if is_used(domain, address) {
+        Err(Refusal::Duplicate)
+    } else {
+        Ok(())
+    }
+}
+
+/// A station, by its address.
+#[tactic(auto, using(crate::proofs::Freed::listing), unfolding(crate::specs::Script::sta_line))]
+pub(crate) fn sta_line(domain: &Domain, text: &[u8]) -> Result<Mac, Refusal>
+    ensures can { IfOk result (CanListSta domain.now) }
+    ensures says { TellsBy ListsSta result (sta_line domain.now text.now) }
+{
+    let address = address_of(text)?;
+    new_sta(domain, address)?;
+    Ok(address)
+}

@@ -1,0 +1,116 @@
+//! The reader, and what it answers.
+
+ghost use Rattle.std.specs.Prelude.{◌≡◌, ◌<◌, ◌^◌, [], OnErr, OnOk, option_map};
+ghost use Rattle.run_journal.specs.declared.domain.Domain.{Domain as AnyDomain};
+
+use crate::header::Due;
+use crate::lines::{rounds_with, take_line};
+use crate::seen::see;
+use domain_base::{Mac, Octets};
+use run_journal::{Domain, Event, Journal};
+use std::alloc::Global;
+use std::marker::Model;
+use std::mem::replace;
+
+/// Why a line is not taken. The reader has said nothing by it.
+#[derive(Clone, Copy, Debug, PartialEq, Eq)]
+pub enum LineFault {
+    /// The line is outside the grammar, for that reason: 1 it is the first and not `domain 1`; 2 no such word in this place;
+    /// 3 the number or form of its arguments; 4 a node that is not listed or of the other kind; 5 a frame that was not sent;
+    /// 6 a place or length outside the frame; 8 an address or R0KH-ID used before; 9 a draw of the seed.
+    Script(u8),
+    /// It goes past that limit: 3 octets of an injected frame; 4 frames sent; 5 access points; 6 stations.
+    Limit(u8),
+    /// Memory ran out.
+    NoMemory,
+}
+
+/// What a line says.
+#[derive(Drop)]
+pub enum Step {
+    /// Nothing to be done: a line of the header, or one that is passed over.
+    Nothing,
+    /// The header is whole with this line.
+    Network,
+    /// Lists an access point.
+    Ap {
+        /// Its BSSID.
+        address: Mac,
+        /// Its R0KH-ID: 1 to 48 octets.
+        r0kh_id: Octets,
+    },
+    /// Lists a station.
+    Sta {
+        /// Its address.
+        address: Mac,
+    },
+    /// Asks for an event.
+    Event(Event),
+}
+
+/// Reads a script line by line.
+#[derive(Drop)]
+pub struct ScriptReader {
+    due: Due,
+    rounds: u64,
+    seen: usize,
+    sizes: Vec<usize>,
+}
+
+impl Model for ScriptReader {
+    ghost use Rattle.frame_script.specs.Headers.{Reading};
+    ghost use Rattle.frame_script.specs.Due.{draft_of};
+    ghost use Rattle.frame_script.specs.Sentences.{IsKept};
+
+    ghost Value = { Reading };
+
+    ghost view = { λ r. record { draft = draft_of r.due; rounds = r.rounds; seen = r.seen; sizes = r.sizes.items } };
+
+    ghost invariant = { λ r. IsKept r.due };
+}
+
+impl ScriptReader {
+    ghost use Rattle.std.specs.Prelude.{length, ℕ, List};
+    ghost use Rattle.frame_script.specs.Script.{AtVersion, AtNodes};
+    ghost use Rattle.frame_script.specs.Headers.{HasSeen, HasSeenAll, TakesLine, IsDomain, sizes_of};
+
+    /// Before the first line.
+    pub fn start(alloc: Global) -> Self
+        ensures { result ≡ record { draft = AtVersion; rounds = 0; seen = 0; sizes = [] } }
+    {
+        ScriptReader {
+            due: Due::Version,
+            rounds: 0,
+            seen: 0,
+            sizes: Vec::new(alloc),
+        }
+    }
+
+    /// Takes the next line, without its end. The journal has grown at its end alone since the line before.
+    pub fn line(&mut self, alloc: Global, line: &[u8], journal: &Journal) -> Result<Step, LineFault>
+        requires seen { HasSeen self.old journal.now.entries }
+        requires few { self.old.rounds < 2 ^ 63 }
+        ensures takes { TakesLine self.old self.new (sizes_of journal.now.entries) line.now result }
+        ensures seen { OnOk result (HasSeenAll self.new journal.now.entries) }
+        ensures kept { OnErr result (HasSeen self.new journal.now.entries) }
+    {
+        if see(&mut self.seen, &mut self.sizes, journal).is_err() {
+            return Err(LineFault::NoMemory);
+        }
+        let due = replace(&mut self.due, Due::Version);
+        let (due, answer) = take_line(due, alloc, self.rounds, &self.sizes, line);
+        self.due = due;
+        self.rounds = rounds_with(self.rounds, &answer);
+        answer
+    }
+
+    /// The network with the nodes listed so far, once the header is whole.
+    pub fn domain(&self) -> Option<&Domain>
+        ensures { IsDomain self.now.draft (option_map (λ d. d.now) result) }
+    {
+        match &self.due {
+            Due::Nodes { domain } => Some(domain),
+            _ => None,
+        }
+    }
+}

@@ -1,0 +1,4 @@
+pub mod Texts
+pub mod Digits
+pub mod Journals
+pub mod Taken

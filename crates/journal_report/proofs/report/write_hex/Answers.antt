@@ -1,0 +1,23 @@
+use Rattle.std.proofs.Common.{List, ℕ, sym, subst, arith}
+use Rattle.std.specs.Io.KnownBytes.{Appends}
+use Rattle.domain_base.specs.Causes.{AppendsPart}
+use Rattle.domain_base.proofs.Taken.{OnErr-always}
+use Rattle.journal_report.proofs.Taken.{digits-part, digits-step}
+use Rattle.journal_report.proofs.report.write_hex.Goals as goal
+
+pub loop-rest-preserved : goal.loop-rest-preserved
+loop-rest-preserved g c =
+    let gone = c.loop-rest.invariant.gone in
+    record {
+      gone = digits-step _ _ _ c.args.octets.now gone.0 c.loop-rest.rest.now c.split_at.result.0.now c.split_at.result.1.now
+          gone.1.0 (sym c.split_at.ensures.by_index.0) gone.1.1
+          (subst (λ (w : List ℕ). Appends (g.K.Sink.out c.loop-rest.sink) (g.K.Sink.out c.write_all.new.sink) w) c.put_hex-count.ensures.written.front c.in_ok-write_all.ensures.ok);
+      later = omega (arith, c.in_ok-write_all.ensures.cause.later, c.loop-rest.invariant.later);
+    }
+
+pub returns-in_err-write_all-clause-err : goal.returns-in_err-write_all-clause-err
+returns-in_err-write_all-clause-err g c =
+    let gone = c.loop-rest.invariant.gone in
+    OnErr-always _ _ (digits-part _ _ _ c.args.octets.now gone.0 c.loop-rest.rest.now c.split_at.result.0.now c.split_at.result.1.now
+    gone.1.0 (sym c.split_at.ensures.by_index.0) gone.1.1
+    (subst (λ (w : List ℕ). AppendsPart (g.K.Sink.out c.loop-rest.sink) (g.K.Sink.out c.write_all.new.sink) w) c.put_hex-count.ensures.written.front c.in_err-write_all.ensures.err))

@@ -1,0 +1,32 @@
+use Rattle.std.proofs.Common.{List, ℕ, refl, subst, arith}
+use Rattle.std.proofs.lemmas.Result.{on_ok_weaker, on_err_weaker}
+use Rattle.std.specs.Io.KnownBytes.{Appends}
+use Rattle.domain_base.specs.Causes.{AppendsPart}
+use Rattle.domain_base.proofs.Taken.{OnErr-always}
+use Rattle.journal_report.proofs.Taken.{part-of_first, part-of_second, part-of_third, three-gone}
+use Rattle.journal_report.proofs.Texts.{long-line}
+use Rattle.journal_report.proofs.report.write_line.Goals as goal
+
+pub returns-in_err-write_all-clause-err : goal.returns-in_err-write_all-clause-err
+returns-in_err-write_all-clause-err g c =
+    let is = long-line c.args.entry.now _ _ _ _ _ _ _ _ c.line_fits.result c.in-HandedUp.is refl (omega arith) c.if-line_fits.false c.line_fits.ensures in
+    let head = subst (λ (w : List ℕ). AppendsPart (g.K.Sink.out c.args.sink.now) (g.K.Sink.out c.write_all-2.new.sink) w) c.put_up_head-count.ensures.written.front c.in_err-write_all.ensures.err in
+    OnErr-always _ _ (part-of_first _ _ _ _ _ _ is head)
+
+pub returns-in_err-write_hex-clause-err : goal.returns-in_err-write_hex-clause-err
+returns-in_err-write_hex-clause-err g c =
+    let is = long-line c.args.entry.now _ _ _ _ _ _ _ _ c.line_fits.result c.in-HandedUp.is c.as_slice.ensures (omega arith) c.if-line_fits.false c.line_fits.ensures in
+    let head = subst (λ (w : List ℕ). Appends (g.K.Sink.out c.args.sink.now) (g.K.Sink.out c.write_all-2.new.sink) w) c.put_up_head-count.ensures.written.front c.in_ok-write_all.ensures.ok in
+    OnErr-always _ _ (part-of_second _ _ _ _ _ _ _ is head c.in_err-write_hex.ensures.err)
+
+pub returns-clause-ok : goal.returns-clause-ok
+returns-clause-ok g c =
+    let is = long-line c.args.entry.now _ _ _ _ _ _ _ _ c.line_fits.result c.in-HandedUp.is c.as_slice.ensures (omega arith) c.if-line_fits.false c.line_fits.ensures in
+    let head = subst (λ (w : List ℕ). Appends (g.K.Sink.out c.args.sink.now) (g.K.Sink.out c.write_all-2.new.sink) w) c.put_up_head-count.ensures.written.front c.in_ok-write_all.ensures.ok in
+    on_ok_weaker c.write_all-3.result (three-gone _ _ _ _ _ _ _ _ is head c.in_ok-write_hex.ensures.ok) c.write_all-3.ensures.ok
+
+pub returns-clause-err : goal.returns-clause-err
+returns-clause-err g c =
+    let is = long-line c.args.entry.now _ _ _ _ _ _ _ _ c.line_fits.result c.in-HandedUp.is c.as_slice.ensures (omega arith) c.if-line_fits.false c.line_fits.ensures in
+    let head = subst (λ (w : List ℕ). Appends (g.K.Sink.out c.args.sink.now) (g.K.Sink.out c.write_all-2.new.sink) w) c.put_up_head-count.ensures.written.front c.in_ok-write_all.ensures.ok in
+    on_err_weaker c.write_all-3.result (part-of_third _ _ _ _ _ _ _ _ is head c.in_ok-write_hex.ensures.ok) c.write_all-3.ensures.err

@@ -1,0 +1,4 @@
+pub mod Writing
+pub mod Words
+pub mod Room
+pub mod Counts

@@ -1,0 +1,121 @@
+//! The words of the report.
+
+ghost use Rattle.std.specs.Prelude.{◌≡◌, ◌≤◌};
+ghost use Rattle.run_journal.specs.Report.{key_text, kind_text, message_text, part_text, start_text, why_text, yes_no};
+ghost use Rattle.journal_report.specs.Words.{word_room, word_text};
+
+use domain_base::{Node, Peer};
+use eapol_key::Message;
+use run_journal::{Key, Kind, Outcome, Part, Start, Why};
+
+/// A word of a line.
+#[derive(Clone, Copy)]
+pub(crate) enum Word {
+    /// As it stands.
+    Text(&'static [u8]),
+    /// In decimal digits.
+    Number(u64),
+    /// A text, a space and a number.
+    Numbered(&'static [u8], u64),
+    /// By its name.
+    Node(Node),
+    /// By its name, or `all`.
+    Peer(Peer),
+    /// With the reason of a refusal.
+    Outcome(Outcome),
+}
+
+/// How an attempt began.
+pub(crate) fn start_word(start: Start) -> Word
+    ensures text { word_text result ≡ start_text start }
+    ensures short { word_room result ≤ 24 }
+{
+    match start {
+        Start::Connect => Word::Text(b"connect"),
+        Start::Roam => Word::Text(b"roam"),
+    }
+}
+
+/// What was closed.
+pub(crate) fn part_word(part: Part) -> Word
+    ensures text { word_text result ≡ part_text part }
+    ensures short { word_room result ≤ 24 }
+{
+    match part {
+        Part::Attempt => Word::Text(b"attempt"),
+        Part::Session => Word::Text(b"session"),
+    }
+}
+
+/// An EAPOL-Key message.
+pub(crate) fn message_word(message: Message) -> Word
+    ensures text { word_text result ≡ message_text message }
+    ensures short { word_room result ≤ 24 }
+{
+    match message {
+        Message::M1 => Word::Text(b"m1"),
+        Message::M2 => Word::Text(b"m2"),
+        Message::M3 => Word::Text(b"m3"),
+        Message::M4 => Word::Text(b"m4"),
+        Message::G1 => Word::Text(b"g1"),
+        Message::G2 => Word::Text(b"g2"),
+    }
+}
+
+/// The kind of a frame.
+pub(crate) fn kind_word(kind: Kind) -> Word
+    ensures text { word_text result ≡ kind_text kind }
+    ensures short { word_room result ≤ 24 }
+{
+    match kind {
+        Kind::AssocReq => Word::Text(b"assoc-req"),
+        Kind::AssocResp => Word::Text(b"assoc-resp"),
+        Kind::FtReq => Word::Text(b"ft-req"),
+        Kind::FtResp => Word::Text(b"ft-resp"),
+        Kind::ReReq => Word::Text(b"re-req"),
+        Kind::ReResp => Word::Text(b"re-resp"),
+        Kind::Key(message) => message_word(message),
+        Kind::Data => Word::Text(b"data"),
+        Kind::Ignored => Word::Text(b"ignored"),
+        Kind::Unread => Word::Text(b"unread"),
+        Kind::Eapol => Word::Text(b"eapol"),
+    }
+}
+
+/// A key by its kind, and a group key by its key id too.
+pub(crate) fn key_word(key: &Key) -> Word
+    ensures text { word_text result ≡ key_text key.now }
+    ensures short { word_room result ≤ 24 }
+{
+    match key {
+        Key::Pairwise { .. } => Word::Text(b"ptk"),
+        Key::Group { id, .. } => Word::Numbered(b"gtk", u64::from(*id)),
+    }
+}
+
+/// Why an event did nothing.
+pub(crate) fn why_word(why: Why) -> Word
+    ensures text { word_text result ≡ why_text why }
+    ensures short { word_room result ≤ 24 }
+{
+    match why {
+        Why::NoSession => Word::Text(b"no-session"),
+        Why::SamePeer => Word::Text(b"same-peer"),
+        Why::Nothing => Word::Text(b"nothing"),
+        Why::RekeyPending => Word::Text(b"rekey-pending"),
+        Why::NoKey => Word::Text(b"no-key"),
+        Why::Spent => Word::Text(b"spent"),
+    }
+}
+
+/// Whether a premise holds.
+pub(crate) fn answer_word(holds: bool) -> Word
+    ensures text { word_text result ≡ yes_no holds }
+    ensures short { word_room result ≤ 24 }
+{
+    if holds {
+        Word::Text(b"yes")
+    } else {
+        Word::Text(b"no")
+    }
+}
