@@ -1,6 +1,7 @@
 -- The cipher: it gives a block, no two blocks give one, and each block is given.
 use Rattle.std.proofs.Common.{◌≡◌, ℕ, zero, suc, ◌+◌, List, length, refl, sym, ap, ap₂, ◌∙◌, add-one}
-use Rattle.aes_block.specs.Octets.{AreOctets, IsBlock, exclusive_or}
+use Rattle.domain_base.specs.Octets.{AreOctets}
+use Rattle.aes_block.specs.Octets.{IsBlock, exclusive_or}
 use Rattle.aes_block.specs.State.{sub_octets, shift_rows, mix_columns}
 use Rattle.aes_block.specs.Cipher.{round_key, after_rounds, cipher, Decrypts}
 use Rattle.aes_block.proofs.OctetLemmas.{length-exclusive_or, exclusive_or_twice, exclusive_or-cancel, AreOctets-exclusive_or}

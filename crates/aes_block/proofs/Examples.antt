@@ -1,4 +1,4 @@
--- FIPS 197, C.1: the vector, by computation from the definitions.
+-- FIPS 197, C.1 of the text of 2001: the vector, by computation from the definitions.
 use Rattle.std.proofs.Common.{◌≡◌, [], ◌∷◌, refl}
 use Rattle.std.specs.List.{range_with_len}
 use Rattle.aes_block.specs.Octets.{exclusive_or}

@@ -3,7 +3,7 @@ use Rattle.std.proofs.Common.{◌≡◌, ℕ, zero, suc, ◌<◌, ◌≤◌, ◌
 use Rattle.std.proofs.lemmas.Bool.{agree_below_at, eqb-true, cases_eq}
 use Rattle.std.proofs.lemmas.List.{get_or-set_same, get_or-set_other}
 use Rattle.std.proofs.lemmas.List.Elements.{All-append, All-take, All-drop, All-cons, All-nil}
-use Rattle.aes_block.specs.Octets.{AreOctets}
+use Rattle.domain_base.specs.Octets.{AreOctets}
 use Rattle.aes_block.specs.Cipher.{word_at, rotated_word, power_of_x, next_round_key, round_key}
 use Rattle.aes_block.specs.declared.TheConstants.{ROUND_CONSTANTS}
 use Rattle.aes_block.proofs.OctetLemmas.{AreOctets-exclusive_or}

@@ -1,18 +1,11 @@
 -- Lists of octets and their exclusive-or.
-use Rattle.std.proofs.Common.{◌≡◌, ℕ, zero, suc, ◌<◌, List, [], ◌∷◌, length, get_or, refl, sym, ap, ap₂, ◌∙◌, arith, inl, inr}
-use Rattle.std.proofs.lemmas.Bool.{cases_lt}
+use Rattle.std.proofs.Common.{◌≡◌, ℕ, zero, suc, ◌<◌, List, [], ◌∷◌, length, get_or, refl, sym, ap, ap₂, ◌∙◌, arith}
 use Rattle.std.proofs.lemmas.Nat.{xor_lt}
-use Rattle.std.proofs.lemmas.List.{get_or_past}
 use Rattle.std.proofs.lemmas.List.Elements.{All-from_get_or}
 use Rattle.std.specs.Int.Bits.{bit_xor, xor_assoc, xor_comm, xor_self, xor_zero_r}
-use Rattle.aes_block.specs.Octets.{AreOctets, exclusive_or}
-
--- an entry of a list of octets is an octet; past the end it is 0
-pub get_or_below : (octets : List ℕ) (k : ℕ) → AreOctets octets → get_or octets k 0 < 256
-get_or_below octets k are = elim (cases_lt k (length octets)) [
-  | inl h ↦ are k 0 h
-  | inr h ↦ let e = get_or_past octets k 0 h in omega arith
-]
+use Rattle.domain_base.specs.Octets.{AreOctets}
+use Rattle.domain_base.proofs.OctetLemmas.{get_or_below}
+use Rattle.aes_block.specs.Octets.{exclusive_or}
 
 pub bit_xor_below : (a b : ℕ) → a < 256 → b < 256 → bit_xor a b < 256
 bit_xor_below a b h k = xor_lt 8 a b h k

@@ -5,10 +5,11 @@ use Rattle.std.proofs.lemmas.List.Elements.{All-from_get_or}
 use Rattle.std.proofs.lemmas.List.FromFn.{get_or-map-range_with_len}
 use Rattle.std.proofs.lemmas.Grind.{same_number_lists}
 use Rattle.std.specs.Int.Bits.{bit_xor, xor_comm, xor_self, xor_zero_r}
-use Rattle.aes_block.specs.Octets.{AreOctets}
+use Rattle.domain_base.specs.Octets.{AreOctets}
+use Rattle.domain_base.proofs.OctetLemmas.{get_or_below}
 use Rattle.aes_block.specs.Field.{times_x, sub_octet}
 use Rattle.aes_block.specs.State.{entry, state_of, sub_octets, shift_rows, mixed, mix_columns}
-use Rattle.aes_block.proofs.OctetLemmas.{get_or_below, bit_xor_below, bit_xor_twice, bit_xor_swap}
+use Rattle.aes_block.proofs.OctetLemmas.{bit_xor_below, bit_xor_twice, bit_xor_swap}
 use Rattle.aes_block.proofs.FieldLemmas.{spread, mixed_twice, product_below, times_x_below}
 
 -- ---- states by their entries

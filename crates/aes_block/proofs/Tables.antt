@@ -5,7 +5,7 @@ use Rattle.std.proofs.lemmas.List.{length-map}
 use Rattle.std.proofs.lemmas.List.Elements.{All-map, All-head, All-tail}
 use Rattle.std.proofs.lemmas.List.FromFn.{get_or-map-range_with_len}
 use Rattle.std.specs.List.{range_with_len}
-use Rattle.aes_block.specs.Octets.{AreOctets}
+use Rattle.domain_base.specs.Octets.{AreOctets}
 use Rattle.aes_block.specs.Field.{product_of_bits, product, inverse, affine, sub_octet}
 use Rattle.aes_block.specs.State.{sub_octets}
 use Rattle.aes_block.specs.declared.TheConstants.{SUBSTITUTION, INVERSE_SUBSTITUTION}

@@ -1,4 +1,5 @@
--- AES-128 (FIPS 197): the cipher with a key of 16 octets, on blocks of 16 octets.
+-- AES-128 (FIPS 197, here and in this whole crate in its text of 2023): the cipher with a key of 16
+-- octets, on blocks of 16 octets.
 use Rattle.std.specs.Prelude.{◌≡◌, ℕ, zero, suc, ◌*◌, List, [], ◌∷◌, ◌++◌, take, drop}
 use Rattle.aes_block.specs.Octets.{IsBlock, exclusive_or}
 use Rattle.aes_block.specs.Field.{times_x}
@@ -17,9 +18,9 @@ unfoldable pub power_of_x : ℕ → ℕ
 power_of_x zero = 1
 power_of_x (suc n) = times_x (power_of_x n)
 
--- the four words after those of a round key: each is the word four places before it, with the word
--- just before it added, which at the first of them is turned, substituted and given the round
--- constant (FIPS 197, 5.2)
+-- the four words after those of a round key: each is the word four places before it exclusive or the
+-- word just before it, which at the first of them is turned, substituted and given the round constant
+-- (FIPS 197, 5.2)
 unfoldable pub next_round_key : ℕ → List ℕ → List ℕ
 next_round_key constant key = first ++ second ++ third ++ fourth where
   first : List ℕ

@@ -1,9 +1,6 @@
--- Lists of octets.
-use Rattle.std.specs.Prelude.{◌≡◌, ℕ, ◌<◌, List, [], ◌∷◌, length, All, bit_xor}
-
--- each number is an octet
-abbrev pub AreOctets : List ℕ → Type 0
-AreOctets octets = All (λ octet. octet < 256) octets
+-- Blocks, and the exclusive-or of lists of octets.
+use Rattle.std.specs.Prelude.{◌≡◌, ℕ, List, [], ◌∷◌, length, bit_xor}
+use Rattle.domain_base.specs.Octets.{AreOctets}
 
 -- sixteen octets: a block (FIPS 197, 3.1), or a key of 128 bits
 pub record IsBlock (octets : List ℕ) : Type 0 where

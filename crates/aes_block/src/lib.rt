@@ -2,7 +2,8 @@
 #![tactic(auto)]
 
 ghost use Rattle.std.specs.Prelude.{◌≡◌, ◌<◌, ℕ, List, [], slice_index_or};
-ghost use Rattle.aes_block.specs.Octets.{AreOctets, IsBlock, exclusive_or};
+ghost use Rattle.domain_base.specs.Octets.{AreOctets};
+ghost use Rattle.aes_block.specs.Octets.{IsBlock, exclusive_or};
 ghost use Rattle.aes_block.specs.Field.{times_x, sub_octet};
 ghost use Rattle.aes_block.specs.State.{sub_octets, shift_rows, mixed, mix_columns};
 ghost use Rattle.aes_block.specs.Cipher.{next_round_key, round_key, cipher, Decrypts};
@@ -281,7 +282,7 @@ mod tests {
             *b"\x32\x43\xf6\xa8\x88\x5a\x30\x8d\x31\x31\x98\xa2\xe0\x37\x07\x34",
             *b"\x39\x25\x84\x1d\x02\xdc\x09\xfb\xdc\x11\x85\x97\x19\x6a\x0b\x32",
         );
-        // Appendix C.1.
+        // Appendix C.1 of the text of 2001.
         both_ways(
             &rt,
             b"\x00\x01\x02\x03\x04\x05\x06\x07\x08\x09\x0a\x0b\x0c\x0d\x0e\x0f",

@@ -1,13 +1,15 @@
 -- The octets of a frame are those that spell it.
-use Rattle.std.proofs.Common.{◌≡◌, ◌≢◌, ℕ, ◌+◌, ◌<◌, ◌≤◌, List, ◌++◌, length, take, drop, refl, sym, ap, subst, ◌∙◌, arith, inl, inr}
+use Rattle.std.proofs.Common.{◌≡◌, ◌≢◌, ℕ, ◌+◌, ◌<◌, ◌≤◌, List, ◌++◌, length, take, drop, refl, sym, ap, subst, ◌∙◌, arith}
 use Rattle.std.specs.Int.{w16, to_le_bytes}
 use Rattle.std.proofs.lemmas.Nat.{le_bytes_2}
-use Rattle.std.proofs.lemmas.Bool.{cases_lt}
-use Rattle.std.proofs.lemmas.List.{length-take, length-drop, get_or-take, get_or-drop, get_or_past, drop-drop, take-append-drop}
+use Rattle.std.proofs.lemmas.List.{length-take, length-drop, drop-drop, take-append-drop}
+use Rattle.std.proofs.lemmas.List.Elements.{All-take, All-drop}
+use Rattle.domain_base.specs.Octets.{AreOctets}
 use Rattle.domain_base.specs.Places.{part, little_endian_at}
+use Rattle.domain_base.proofs.OctetLemmas.{get_or_below}
 use Rattle.air_frame.specs.Control.{data_header_length}
 use Rattle.air_frame.specs.Fields.{AirFields, assoc_req, assoc_resp, ft_req, ft_resp, re_req, re_resp, eapol, protected, ignored}
-use Rattle.air_frame.specs.Spelled.{IsFtAuthentication, SpellsAir, AreOctets, IsSpelled}
+use Rattle.air_frame.specs.Spelled.{IsFtAuthentication, SpellsAir, IsSpelled}
 use Rattle.air_frame.specs.Sent.{air_octets}
 use Rattle.air_frame.specs.Views.{fields_of}
 use Rattle.air_frame.specs.declared.frame.AirFrame.{AirFrame}
@@ -17,15 +19,11 @@ part-length : (octets : List ℕ) (at n : ℕ) → at + n ≤ length octets → 
 part-length octets at n h = omega (arith, length-take n (drop at octets), length-drop at octets)
 
 part-octets : (octets : List ℕ) (at n : ℕ) → AreOctets octets → AreOctets (part at n octets)
-part-octets octets at n bound i =
-    elim (cases_lt i n) [
-      | inl h ↦ subst (λ x. x < 256) (sym (get_or-take n (drop at octets) i 0 h ∙ get_or-drop at octets i 0)) (bound (at + i))
-      | inr h ↦ subst (λ x. x < 256) (sym (get_or_past (part at n octets) i 0 (omega (arith, length-take n (drop at octets))))) (omega arith)
-    ]
+part-octets octets at n bound = All-take (λ x. x < 256) n (drop at octets) (All-drop (λ x. x < 256) at octets bound)
 
 module _ (octets : List ℕ) (bound : AreOctets octets) where
   number : (at : ℕ) → at + 2 ≤ length octets → to_le_bytes w16 (little_endian_at w16 at octets) ≡ part at 2 octets
-  number at h = le_bytes_2 (part at 2 octets) _ (part-length octets at 2 h) (part-octets octets at 2 bound) refl
+  number at h = le_bytes_2 (part at 2 octets) _ (part-length octets at 2 h) (λ i. get_or_below (part at 2 octets) i (part-octets octets at 2 bound)) refl
 
   cut : (at n : ℕ) → part at n octets ++ drop (at + n) octets ≡ drop at octets
   cut at n = ap (λ (w : List ℕ). part at n octets ++ w) (sym (drop-drop n at octets)) ∙ take-append-drop n (drop at octets)

@@ -1,6 +1,7 @@
 -- Which octets are which air frame (this project's profile of IEEE Std 802.11-2020, 9.3.2 and 9.3.3).
-use Rattle.std.specs.Prelude.{◌≡◌, ◌≢◌, ◌⊎◌, ℕ, ◌+◌, ◌<◌, ◌≤◌, List, length, true, false, not, slice_index}
+use Rattle.std.specs.Prelude.{◌≡◌, ◌≢◌, ◌⊎◌, ℕ, ◌+◌, ◌≤◌, List, length, true, false, not, slice_index}
 use Rattle.std.specs.Int.{bit_at}
+use Rattle.domain_base.specs.Octets.{AreOctets}
 use Rattle.domain_base.specs.Places.{part}
 use Rattle.air_frame.specs.Control.{protocol_version, frame_type, frame_subtype, is_to_ds, is_from_ds, has_more_fragments, is_protected, has_ht_control, fragment_number, is_management, is_data, has_a_msdu, data_header_length, eapol_llc}
 use Rattle.air_frame.specs.Fields.{AirFields, assoc_req, assoc_resp, ft_req, ft_resp, re_req, re_resp, eapol, protected, ignored, assoc_req_at, assoc_resp_at, ft_req_at, ft_resp_at, re_req_at, re_resp_at, eapol_at, protected_at, algorithm, transaction}
@@ -80,10 +81,6 @@ SpellsAir octets (eapol header direction tid body) =
 SpellsAir octets (protected header direction tid body) =
     (protected header direction tid body ≡ protected_at octets) × IsProtectedData octets
 SpellsAir octets ignored = IsOther octets ⊎ IsOtherAuthentication octets
-
--- octets, and not larger numbers
-abbrev pub AreOctets : List ℕ → Type 0
-AreOctets octets = (i : ℕ) → slice_index octets i < 256
 
 -- some octets are this frame
 pub record IsSpelled (frame : AirFields) : Type 0 where

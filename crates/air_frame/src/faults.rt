@@ -24,6 +24,7 @@ fn fixed_length(subtype: u16) -> usize
     }
 }
 
+// What of a management frame is not of the profile, or its body too short for its fixed fields.
 fn management_fault(octets: &[u8]) -> Option<AirFault>
     requires { 2 ≤ length octets.now }
     ensures { result ≡ management_fault octets.now }
@@ -66,6 +67,7 @@ fn has_ext_iv(octets: &[u8]) -> bool
     is_set(octets[data_header_length(octets) + 3].into(), 5)
 }
 
+// What of a data frame is not of the profile, or its protected body too short.
 fn data_fault(octets: &[u8]) -> Option<AirFault>
     requires { 2 ≤ length octets.now }
     ensures { result ≡ data_fault octets.now }

@@ -27,6 +27,7 @@ pub struct Header<'a> {
 /// An association request (IEEE Std 802.11-2020, 9.3.3.5).
 #[derive(Clone, Copy, Debug)]
 pub struct AssocReq<'a> {
+    /// The MAC header.
     pub header: Header<'a>,
     /// Capability Information, low octet first.
     pub capability: u16,
@@ -39,6 +40,7 @@ pub struct AssocReq<'a> {
 /// A response to an association or reassociation request (IEEE Std 802.11-2020, 9.3.3.6 and 9.3.3.8).
 #[derive(Clone, Copy, Debug)]
 pub struct AssocResp<'a> {
+    /// The MAC header.
     pub header: Header<'a>,
     /// Capability Information, low octet first.
     pub capability: u16,
@@ -53,6 +55,7 @@ pub struct AssocResp<'a> {
 /// A reassociation request (IEEE Std 802.11-2020, 9.3.3.7).
 #[derive(Clone, Copy, Debug)]
 pub struct ReassocReq<'a> {
+    /// The MAC header.
     pub header: Header<'a>,
     /// Capability Information, low octet first.
     pub capability: u16,
@@ -67,6 +70,7 @@ pub struct ReassocReq<'a> {
 /// An authentication frame of the fast transition algorithm (IEEE Std 802.11-2020, 9.3.3.11).
 #[derive(Clone, Copy, Debug)]
 pub struct FtAuthentication<'a> {
+    /// The MAC header.
     pub header: Header<'a>,
     /// 0 is success. A request says nothing by it.
     pub status: u16,
@@ -77,7 +81,9 @@ pub struct FtAuthentication<'a> {
 /// Data or QoS data (IEEE Std 802.11-2020, 9.3.2.1).
 #[derive(Clone, Copy, Debug)]
 pub struct Data<'a> {
+    /// The MAC header.
     pub header: Header<'a>,
+    /// To a distribution system or from one.
     pub direction: Direction,
     /// The traffic identifier, in QoS data alone.
     pub tid: Option<Tid>,
@@ -89,12 +95,15 @@ pub struct Data<'a> {
 /// A frame of the profile, over the octets that it was read from.
 #[derive(Clone, Copy, Debug)]
 pub enum AirFrame<'a> {
+    /// An association request.
     AssocReq(AssocReq<'a>),
+    /// A response to one.
     AssocResp(AssocResp<'a>),
     /// The first message of a fast transition: transaction sequence number 1.
     FtReq(FtAuthentication<'a>),
     /// The second: transaction sequence number 2.
     FtResp(FtAuthentication<'a>),
+    /// A reassociation request.
     ReReq(ReassocReq<'a>),
     /// A response to a reassociation request.
     ReResp(AssocResp<'a>),

@@ -11,9 +11,10 @@ use Rattle.domain_rules.specs.Network.{IsListed}
 use Rattle.domain_rules.specs.Verdict.{HasRsne}
 use Rattle.key_hierarchy.specs.declared.inputs.Inputs.{Inputs}
 use Rattle.node_frames.specs.Growing.{Grows}
-use Rattle.node_frames.proofs.Grown.{link_grown, inputs_grown, listed_grown}
+use Rattle.node_frames.proofs.Grown.{ends_grown, inputs_grown, listed_grown}
 use Rattle.authenticator.specs.State.{State as Part, Stage, Attempt, Session, GivenUp, Agreed}
-use Rattle.authenticator.specs.Stands.{Stands as PartStands, StandsIn, IsAgreed, key_by}
+use Rattle.domain_rules.specs.Replies.{key_by}
+use Rattle.authenticator.specs.Stands.{Stands as PartStands, StandsIn, IsAgreed}
 use Rattle.ap_node.specs.State.{State, station_at}
 use Rattle.ap_node.specs.Stands.{HasAttempt, HasSession, Stands}
 
@@ -43,7 +44,7 @@ stage_grown d e n p GivenUp h g here there at = at
 
 part_grown : (d e : Domain) (n p : Node) (s : Part) (h : List Act) → Grows d e → IsListed d n → IsListed d p → PartStands d n p s h → PartStands e n p s h
 part_grown d e n p s h g here there at = record {
-  link = link_grown d e n p s.link g here there at.link;
+  ends = ends_grown d e n p s.ends g here there at.ends;
   psk = at.psk ∙ sym g.psk;
   stage_is = stage_grown d e n p s.stage h g here there at.stage_is;
 }

@@ -1,4 +1,3 @@
-pub mod Returning
 pub mod Others
 pub mod Standing
 pub mod Refusing

@@ -7,25 +7,24 @@ use Rattle.run_journal.specs.declared.domain.Domain.{Domain}
 use Rattle.run_journal.specs.declared.acts.Outcome.{Outcome}
 use Rattle.run_journal.specs.declared.acts.Act.{Act}
 use Rattle.run_journal.specs.declared.reply.Reply.{Reply}
-use Rattle.run_journal.specs.Questions.{add}
-use Rattle.domain_rules.specs.GroupKeys.{newest as newest_key}
+use Rattle.run_journal.specs.Questions.{gtks, add}
 use Rattle.domain_rules.specs.Replies.{IsMessageFrom, reply_acts}
-use Rattle.group_key.specs.Holds.{Holds}
-use Rattle.node_frames.specs.Carried.{carried_key}
+use Rattle.group_key.specs.Holds.{IsLast, Holds}
 use Rattle.group_key.specs.declared.keys.GroupKey.{GroupKey}
 use Rattle.node_frames.specs.declared.delivered.KeyMessage.{KeyMessage}
 use Rattle.node_frames.specs.Views.{message_fields}
 use Rattle.node_frames.proofs.RepliedActs.{replied_about, about_draws, about_others}
 use Rattle.ap_node.specs.State.{State, station_at}
 use Rattle.ap_node.specs.Places.{PlaceSteps}
-use Rattle.ap_node.specs.Takes.{Takes, IsKeyedFrom}
-use Rattle.ap_node.proofs.Others.{newest_is, uses_none, other_on, about_group}
+use Rattle.ap_node.specs.Takes.{Takes, IsKeyedAtAp}
+use Rattle.authenticator.proofs.Standing.{other_on}
+use Rattle.ap_node.proofs.Others.{uses_none, about_group}
 use Rattle.ap_node.proofs.Standing.{stands_with_one}
 
-message_from : (d : Domain) (a sta : ℕ) (octets : List ℕ) (message : KeyMessage) → IsKeyedFrom d a octets (Sta sta) message → IsMessageFrom d (Ap a) (Sta sta) octets (message_fields message)
+message_from : (d : Domain) (a sta : ℕ) (octets : List ℕ) (message : KeyMessage) → IsKeyedAtAp d a octets (Sta sta) message → IsMessageFrom d (Ap a) (Sta sta) octets (message_fields message)
 message_from d a sta octets message w = record { reads = w.reads; from = w.judged.1; verdict_is = w.judged.4 }
 
-pub takes_message : (d : Domain) (old new : State) (octets : List ℕ) (sta : ℕ) (message : KeyMessage) (g : GroupKey) (had : Bool) (outcome : Outcome) (r : Reply) (waited waits : List Act) → IsKeyedFrom d old.number octets (Sta sta) message
+pub takes_message : (d : Domain) (old new : State) (octets : List ℕ) (sta : ℕ) (message : KeyMessage) (g : GroupKey) (had : Bool) (outcome : Outcome) (r : Reply) (waited waits : List Act) → IsKeyedAtAp d old.number octets (Sta sta) message
     → new.number ≡ old.number → new.drawn ≡ old.drawn → new.group ≡ old.group → g ≡ old.group.newest → had ≡ is_some (station_at old.stations sta).session
     → PlaceSteps (station_at old.stations sta) (station_at new.stations sta) message.message (fields_of message.frame) message.frame.octets.now g outcome r
     → ((k : ℕ) → k ≢ sta → station_at new.stations k ≡ station_at old.stations k)
@@ -54,5 +53,5 @@ takes_message d old new octets sta message g had outcome r waited waits w number
       });
     })
   where
-    key_is : (h : List Act) → Holds old.group h → newest_key h ≡ carried_key g
-    key_is h holds = newest_is old.group h holds ∙ ap carried_key (sym newest)
+    key_is : (h : List Act) → Holds old.group h → IsLast g (gtks h)
+    key_is h holds = subst (λ (k : GroupKey). IsLast k (gtks h)) (sym newest) holds.newest

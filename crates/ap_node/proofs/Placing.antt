@@ -37,15 +37,15 @@ use Rattle.group_key.specs.declared.keys.GroupKey.{GroupKey}
 use Rattle.node_frames.proofs.RepliedActs.{EndsNone, sent_ends, replied_ends, ends_session, IsEnd, replied_end, all_joined}
 use Rattle.authenticator.specs.State.{State as Part, Stage, Attempt, Session, GivenUp}
 use Rattle.authenticator.specs.Stands.{Stands as PartStands, StandsIn, IsAsked}
-use Rattle.authenticator.specs.Steps.{Steps, IsAttempt, IsSession, IsStaged, retried_acts, given_up}
+use Rattle.authenticator.specs.Steps.{Steps, IsAttempt, IsSession, IsSessionUnder, IsStaged, retried_acts, given_up}
 use Rattle.authenticator.specs.Taken.{StepsFrom, RetriesFrom, IsStagedBy}
+use Rattle.authenticator.proofs.Standing.{counts_more}
 use Rattle.authenticator.specs.declared.authenticator.Retried.{Retried}
 use Rattle.authenticator.specs.declared.authenticator.Retried.TheVariants as retried
 use Rattle.ap_node.specs.declared.stations.Station.{Station}
 use Rattle.ap_node.specs.State.{nothing, station_at}
 use Rattle.ap_node.specs.Stands.{HasSession}
 use Rattle.ap_node.specs.Places.{PlaceSteps, PlaceRetries}
-use Rattle.ap_node.proofs.Others.{counts_more}
 use Rattle.ap_node.proofs.Standing.{session_on, has_session}
 
 -- ---- no message of the group key handshake goes out
@@ -171,6 +171,11 @@ step_kept a b s message f whole g outcome r steps staged none d first a_ sta oct
       };
     }
 
+is_session : (y : Keyed) (s : Stage) → IsSessionUnder y s → IsSession s
+is_session y (Attempt a) under = absurd under
+is_session y (Session key next) under = tt
+is_session y GivenUp under = absurd under
+
 pub step_installed : (a b : Part) (s : Option Part) (message : Message) (f : KeyFields) (whole : List ℕ) (g : GroupKey) (outcome : Outcome) (r : Reply) (y : Keyed) → StepsFrom a b message f whole g 0 outcome r → IsStaged r.installed a b → r.installed ≡ Some y
     → PlaceSteps (placed (Some a) s) (placed None (Some b)) message f whole g outcome r
 step_installed a b s message f whole g outcome r y steps staged some d first a_ sta octets k h at key uses from m fields_are octets_are =
@@ -182,7 +187,7 @@ step_installed a b s message f whole g outcome r y steps staged some d first a_ 
       adds = x.adds;
       stands = record {
         attempt_is = end_attempt sta h (add acts h) (replied_end d (Ap a_) (Sta sta) (is_some s) octets k outcome r y h some);
-        session_is = (a_at.0, x.stands, here.1);
+        session_is = (a_at.0, x.stands, is_session y b.stage here.1);
       };
     }
 
@@ -194,7 +199,7 @@ no_attempt_there GivenUp is held = is
 -- nothing is installed by a message that is refused
 pub refused_none : (a b : Part) (o : Option Keyed) → IsStaged o a b → b ≡ a → o ≡ None
 refused_none a b None staged same = refl
-refused_none a b (Some y) staged same = absurd (no_attempt_there a.stage staged.0 (subst (λ (x : Part). IsSession x.stage) same staged.1))
+refused_none a b (Some y) staged same = absurd (no_attempt_there a.stage staged.0 (subst (λ (x : Part). IsSession x.stage) same (is_session y b.stage staged.1)))
 
 -- ---- a retry
 

@@ -1,5 +1,5 @@
 -- Frames that change nothing.
-use Rattle.std.proofs.Common.{◌≡◌, ℕ, Bool, cond, false, List, [], ◌∷◌, ◌++◌, Option, Some, None, refl, sym, ap, subst, ◌∙◌, inl, inr}
+use Rattle.std.proofs.Common.{◌≡◌, ℕ, Bool, false, List, [], ◌∷◌, ◌++◌, Option, Some, None, refl, sym, ap, subst, ◌∙◌, inl, inr}
 use Rattle.std.specs.Prelude.{is_some}
 use Rattle.domain_base.specs.declared.names.Node.{Node}
 use Rattle.domain_base.specs.declared.names.Node.TheVariants.{Ap, Sta}
@@ -20,9 +20,10 @@ use Rattle.run_journal.specs.declared.acts.Act.{Act}
 use Rattle.run_journal.specs.declared.acts.Act.TheVariants.{Took}
 use Rattle.run_journal.specs.Questions.{add, attempt}
 use Rattle.domain_rules.specs.Reading.{Management, KeyMessage, Reading, PassedOver, Managed, Keyed, Reads, kind_of}
-use Rattle.domain_rules.specs.Verdict.{Facts, Knows, ComesSoFar, first_verdict, further, and_then, verdict, management_verdict, key_verdict}
-use Rattle.domain_rules.specs.Rows.{By_ignored, By_refusal, sender, is_after_mic, seal_in, response}
+use Rattle.domain_rules.specs.Verdict.{ComesSoFar, first_verdict, further, and_then, management_verdict, key_verdict}
+use Rattle.domain_rules.specs.Rows.{By_ignored, By_refusal, sender, seal_in, response}
 use Rattle.domain_rules.proofs.Effects.{refused_acts}
+use Rattle.domain_rules.proofs.Refused.{IsRefused, no_facts, refused_first, quiet_seal}
 use Rattle.domain_rules.proofs.Verdicts.{unawaited-m2}
 use Rattle.node_frames.specs.declared.delivered.Management.{Management as AnyFrame}
 use Rattle.node_frames.specs.declared.delivered.KeyMessage.{KeyMessage as AnyMessage}
@@ -31,18 +32,11 @@ use Rattle.node_frames.specs.declared.judging.Judged.TheVariants as judged
 use Rattle.node_frames.specs.Judging.{IsJudged, IsQuiet, IsSettled}
 use Rattle.ap_node.specs.State.{State, station_at}
 use Rattle.ap_node.specs.Stands.{Stands}
-use Rattle.ap_node.specs.Takes.{Takes, IsManagedFrom, IsKeyedFrom}
+use Rattle.ap_node.specs.Takes.{Takes, IsManagedAtAp, IsKeyedAtAp}
 use Rattle.ap_node.proofs.Others.{same-refused, same-ignored}
 use Rattle.ap_node.proofs.Standing.{no_attempt, stands_as_before}
 
 -- ---- refused, whatever is sealed and answered
-
--- after that history the frame is refused so, and this was sealed
-pub record IsRefused (d : Domain) (first : ℕ) (n : Node) (h : List Act) (r : Reading) (why : Reason) (s : Option Seal) : Type 0 where
-  pub facts : Facts
-  pub knows : Knows d first n h r facts
-  pub refused : verdict d first n h r facts ≡ Refused why
-  pub seal_is : s ≡ cond (is_after_mic why) (seal_in d n h r) None
 
 abbrev pub RefusedAfter : Domain → State → Reading → Reason → Option Seal → Type 0
 RefusedAfter d s r why seal = (first : ℕ) (h : List Act) → Stands d first s h → IsRefused d first (Ap s.number) h r why seal
@@ -61,26 +55,6 @@ takes_refused d s octets r from k why seal answer waited waits reads from_is kin
     })
 
 -- ---- refused by the frame and the history alone
-
-pub no_facts : Facts
-no_facts = record { requested = None; unwrapped = None; data_ = None }
-
-refused_knows : (d : Domain) (first : ℕ) (n : Node) (h : List Act) (r : Reading) (facts : Facts) (why : Reason) → first_verdict d first n h r ≡ Refused why → Knows d first n h r facts
-refused_knows d first n h r facts why refused = λ far. absurd (subst ComesSoFar refused far)
-
-first_refused : (d : Domain) (first : ℕ) (n : Node) (h : List Act) (r : Reading) (facts : Facts) (why : Reason) → first_verdict d first n h r ≡ Refused why → verdict d first n h r facts ≡ Refused why
-first_refused d first n h r facts why refused = ap (λ (o : Outcome). and_then o (further d.akm r facts)) refused
-
-pub refused_first : (d : Domain) (first : ℕ) (n : Node) (h : List Act) (r : Reading) (why : Reason) (s : Option Seal) → first_verdict d first n h r ≡ Refused why → s ≡ cond (is_after_mic why) (seal_in d n h r) None → IsRefused d first n h r why s
-refused_first d first n h r why s refused seal_is = record {
-  facts = no_facts;
-  knows = refused_knows d first n h r no_facts why refused;
-  refused = first_refused d first n h r no_facts why refused;
-  seal_is = seal_is;
-}
-
-quiet_seal : (why : Reason) (s : Option Seal) → is_after_mic why ≡ false → None ≡ cond (is_after_mic why) s None
-quiet_seal why s before = rw before refl
 
 pub takes_quiet : (d : Domain) (s : State) (octets : List ℕ) (r : Reading) (from : Option Node) (k : Kind) (why : Reason) (waited waits : List Act) → Reads d.akm octets r → from ≡ sender d (Ap s.number) r → k ≡ kind_of r
     → IsQuiet d (Ap s.number) why → ((first : ℕ) (h : List Act) → Stands d first s h → first_verdict d first (Ap s.number) h r ≡ Refused why) → waits ≡ waited ++ Took from octets k (Refused why) None ∷ []
@@ -139,7 +113,7 @@ pub other_kind : (d : Domain) (first a : ℕ) (h : List Act) (p : Node) (k : Kin
 other_kind d first a h p kind.AssocReq b e other = absurd (other refl)
 other_kind d first a h p k b e other = refl
 
-pub takes_other_frame : (d : Domain) (s : State) (octets : List ℕ) (from : Node) (frame : AnyFrame) (elements : Elements) (k : Kind) (waited waits : List Act) → IsManagedFrom d s.number octets from frame elements → k ≡ frame.kind → (k ≡ kind.AssocReq → ⊥)
+pub takes_other_frame : (d : Domain) (s : State) (octets : List ℕ) (from : Node) (frame : AnyFrame) (elements : Elements) (k : Kind) (waited waits : List Act) → IsManagedAtAp d s.number octets from frame elements → k ≡ frame.kind → (k ≡ kind.AssocReq → ⊥)
     → waits ≡ waited ++ Took (Some from) octets k (Refused reason.Unawaited) None ∷ [] → Takes d s s octets waited waits (Refused reason.Unawaited)
 takes_other_frame d s octets from frame elements k waited waits w is other waiting =
     takes_quiet d s octets (Managed (management_fields frame) (element_fields elements)) (Some from) k reason.Unawaited waited waits w.reads (sym w.judged.1) is (unawaited_quiet d (Ap s.number))
@@ -151,7 +125,7 @@ unawaited_message d a h p M2 k none = unawaited-m2 d (Ap a) h p k none
 unawaited_message d a h p M4 k none = rw none refl
 unawaited_message d a h p m k none = refl
 
-pub takes_unawaited : (d : Domain) (s : State) (octets : List ℕ) (sta : ℕ) (message : AnyMessage) (had : Bool) (waited waits : List Act) → IsKeyedFrom d s.number octets (Sta sta) message
+pub takes_unawaited : (d : Domain) (s : State) (octets : List ℕ) (sta : ℕ) (message : AnyMessage) (had : Bool) (waited waits : List Act) → IsKeyedAtAp d s.number octets (Sta sta) message
     → had ≡ is_some (station_at s.stations sta).attempt → had ≡ false
     → waits ≡ waited ++ Took (Some (Sta sta)) octets (kind.Key message.message) (Refused reason.Unawaited) None ∷ [] → Takes d s s octets waited waits (Refused reason.Unawaited)
 takes_unawaited d s octets sta message had waited waits w had_is none waiting =
@@ -161,13 +135,13 @@ takes_unawaited d s octets sta message had waited waits w had_is none waiting =
 
 -- ---- what is judged further
 
-pub managed_from : (d : Domain) (a n : ℕ) (octets : List ℕ) (r : Reading) (from : Node) (frame : AnyFrame) (elements : Elements) → Reads d.akm octets r → IsJudged d (Ap n) r (judged.Managed from frame elements) → n ≡ a → IsManagedFrom d a octets from frame elements
+pub managed_from : (d : Domain) (a n : ℕ) (octets : List ℕ) (r : Reading) (from : Node) (frame : AnyFrame) (elements : Elements) → Reads d.akm octets r → IsJudged d (Ap n) r (judged.Managed from frame elements) → n ≡ a → IsManagedAtAp d a octets from frame elements
 managed_from d a n octets r from frame elements reads was number = record {
   reads = subst (λ (x : Reading). Reads d.akm octets x) was.0 reads;
   judged = subst (λ (x : Reading). IsJudged d (Ap a) x (judged.Managed from frame elements)) was.0 (subst (λ (x : ℕ). IsJudged d (Ap x) r (judged.Managed from frame elements)) number was);
 }
 
-pub keyed_from : (d : Domain) (a n : ℕ) (octets : List ℕ) (r : Reading) (from : Node) (message : AnyMessage) → Reads d.akm octets r → IsJudged d (Ap n) r (judged.Keyed from message) → n ≡ a → IsKeyedFrom d a octets from message
+pub keyed_from : (d : Domain) (a n : ℕ) (octets : List ℕ) (r : Reading) (from : Node) (message : AnyMessage) → Reads d.akm octets r → IsJudged d (Ap n) r (judged.Keyed from message) → n ≡ a → IsKeyedAtAp d a octets from message
 keyed_from d a n octets r from message reads was number = record {
   reads = subst (λ (x : Reading). Reads d.akm octets x) was.0 reads;
   judged = subst (λ (x : Reading). IsJudged d (Ap a) x (judged.Keyed from message)) was.0 (subst (λ (x : ℕ). IsJudged d (Ap x) r (judged.Keyed from message)) number was);

@@ -27,7 +27,8 @@ use Rattle.authenticator.specs.declared.authenticator.Retried.TheVariants as ret
 use Rattle.ap_node.specs.State.{State, station_at}
 use Rattle.ap_node.specs.Places.{PlaceRetries}
 use Rattle.ap_node.specs.Takes.{Retries}
-use Rattle.ap_node.proofs.Others.{IsSameGroup, same_group, other_on, about_group, same-idle}
+use Rattle.authenticator.proofs.Standing.{other_on}
+use Rattle.ap_node.proofs.Others.{IsSameGroup, same_group, about_group, same-idle}
 use Rattle.ap_node.proofs.Standing.{no_attempt, stands_as_before, stands_with_one}
 
 -- ---- nothing to send

@@ -1,7 +1,6 @@
 -- Association requests.
 use Rattle.std.proofs.Common.{◌≡◌, ◌≢◌, ℕ, ◌+◌, ◌<◌, ◌≤◌, Bool, true, false, List, [], ◌∷◌, ◌++◌, length, Option, Some, None, refl, sym, ap, subst, ◌∙◌, arith}
 use Rattle.std.specs.Prelude.{nat_lt, if◌then◌else◌, is_some}
-use Rattle.std.specs.List.{AllByRecursion}
 use Rattle.std.proofs.lemmas.Bool.{lt-ltb, le-ltb}
 use Rattle.domain_base.specs.declared.names.Node.{Node}
 use Rattle.domain_base.specs.declared.names.Node.TheVariants.{Ap, Sta}
@@ -9,7 +8,6 @@ use Rattle.rsn_elements.specs.declared.framing.Within.TheVariants.{Body}
 use Rattle.rsn_elements.specs.declared.reading.Elements.{Elements}
 use Rattle.rsn_elements.specs.Elements.{ElementFields}
 use Rattle.rsn_elements.specs.Fields.{element_fields}
-use Rattle.eapol_key.specs.declared.messages.Message.TheVariants.{M1}
 use Rattle.run_journal.specs.declared.domain.Domain.{Domain}
 use Rattle.run_journal.specs.declared.acts.Start.TheVariants.{Connect}
 use Rattle.run_journal.specs.declared.acts.Drawn.TheVariants.{Nonce}
@@ -21,15 +19,16 @@ use Rattle.run_journal.specs.declared.acts.Outcome.TheVariants.{Accepted, Refuse
 use Rattle.run_journal.specs.declared.acts.Act.{Act}
 use Rattle.run_journal.specs.declared.acts.Act.TheVariants.{Opened, Drew, Took}
 use Rattle.run_journal.specs.Acts.{same}
-use Rattle.run_journal.specs.Questions.{attempt, session, heard, draws, add}
+use Rattle.run_journal.specs.Questions.{attempt, session, draws, add}
 use Rattle.domain_rules.specs.Counters.{next_in_session}
 use Rattle.domain_rules.specs.Network.{nonce, last_draw}
 use Rattle.domain_rules.specs.Reading.{Managed}
 use Rattle.domain_rules.specs.Frames.{sent_assoc_resp, sent_m1, sent_refusal}
 use Rattle.domain_rules.specs.Verdict.{HasRsne, rsne_status, without_status, first_verdict, and_then, management_verdict, assoc_req_verdict}
 use Rattle.domain_rules.specs.Rows.{By_assoc_req, close_attempt, next_nonce, response}
-use Rattle.domain_rules.proofs.Parts.{IsApart, same-refl, apart-opened, apart-closed, apart-drew, apart-sent, apart-took}
-use Rattle.domain_rules.proofs.Effects.{answer_acts, answer-draws}
+use Rattle.domain_rules.proofs.Parts.{same-refl}
+use Rattle.domain_rules.proofs.Effects.{answer_acts, answer-add, heard-request, answer-apart, answer-draws}
+use Rattle.domain_rules.proofs.Refused.{no_facts, refused_first}
 use Rattle.domain_rules.proofs.Verdicts.{accepted-rsne}
 use Rattle.node_frames.specs.declared.delivered.Management.{Management as AnyFrame}
 use Rattle.node_frames.specs.Views.{management_fields}
@@ -40,19 +39,20 @@ use Rattle.ap_node.specs.declared.stations.Station.{Station}
 use Rattle.ap_node.specs.State.{State, station_at}
 use Rattle.ap_node.specs.Stands.{HasAttempt, StandsAt, Stands}
 use Rattle.ap_node.specs.Places.{Begins}
-use Rattle.ap_node.specs.Takes.{Takes, IsManagedFrom, closed, associated_acts}
-use Rattle.ap_node.proofs.Others.{IsSameGroup, other_on}
+use Rattle.ap_node.specs.Takes.{Takes, IsManagedAtAp, closed, associated_acts}
+use Rattle.authenticator.proofs.Standing.{other_on}
+use Rattle.ap_node.proofs.Others.{IsSameGroup}
 use Rattle.ap_node.proofs.Standing.{session_on, stands_with_one}
-use Rattle.ap_node.proofs.Refusing.{no_facts, takes_refused, takes_quiet, refused_first}
+use Rattle.ap_node.proofs.Refusing.{takes_refused, takes_quiet}
 
 -- ---- what comes of it
 
-verdict_is : (d : Domain) (a : ℕ) (octets : List ℕ) (station : ℕ) (frame : AnyFrame) (elements : Elements) → IsManagedFrom d a octets (Sta station) frame elements → frame.kind ≡ kind.AssocReq → (first : ℕ) (h : List Act)
+verdict_is : (d : Domain) (a : ℕ) (octets : List ℕ) (station : ℕ) (frame : AnyFrame) (elements : Elements) → IsManagedAtAp d a octets (Sta station) frame elements → frame.kind ≡ kind.AssocReq → (first : ℕ) (h : List Act)
     → first_verdict d first (Ap a) h (Managed (management_fields frame) (element_fields elements)) ≡ assoc_req_verdict d (first + draws h) (element_fields elements)
 verdict_is d a octets station frame elements w is first h = w.judged.3 first h ∙ ap (λ (k : Kind). management_verdict d first (Ap a) h (Sta station) k (management_fields frame) (element_fields elements)) is
 
 -- refused with a status
-pub takes_status : (d : Domain) (s : State) (octets : List ℕ) (station : ℕ) (frame : AnyFrame) (elements : Elements) (status n : ℕ) (waited waits : List Act) → IsManagedFrom d s.number octets (Sta station) frame elements → frame.kind ≡ kind.AssocReq
+pub takes_status : (d : Domain) (s : State) (octets : List ℕ) (station : ℕ) (frame : AnyFrame) (elements : Elements) (status n : ℕ) (waited waits : List Act) → IsManagedAtAp d s.number octets (Sta station) frame elements → frame.kind ≡ kind.AssocReq
     → rsne_status d.akm (element_fields elements).rsne ≡ Some status → n ≡ s.number → waits ≡ waited ++ Took (Some (Sta station)) octets kind.AssocReq (Refused (reason.Status status)) None ∷ sent_refusal d (Ap n) (Sta station) status ∷ []
     → Takes d s s octets waited waits (Refused (reason.Status status))
 takes_status d s octets station frame elements status n waited waits w is status_is number waiting =
@@ -70,7 +70,7 @@ by_draws : (d : Domain) (drawn : ℕ) (e : ElementFields) (b : Bool) → rsne_st
 by_draws d drawn e b none low = rw (none, low) refl
 
 -- refused as the draws are at their end
-pub takes_spent : (d : Domain) (s : State) (octets : List ℕ) (station : ℕ) (frame : AnyFrame) (elements : Elements) (waited waits : List Act) → IsManagedFrom d s.number octets (Sta station) frame elements → frame.kind ≡ kind.AssocReq
+pub takes_spent : (d : Domain) (s : State) (octets : List ℕ) (station : ℕ) (frame : AnyFrame) (elements : Elements) (waited waits : List Act) → IsManagedAtAp d s.number octets (Sta station) frame elements → frame.kind ≡ kind.AssocReq
     → rsne_status d.akm (element_fields elements).rsne ≡ None → last_draw ≤ s.drawn → waits ≡ waited ++ Took (Some (Sta station)) octets kind.AssocReq (Refused reason.Spent) None ∷ []
     → Takes d s s octets waited waits (Refused reason.Spent)
 takes_spent d s octets station frame elements waited waits w is none spent waiting =
@@ -103,14 +103,6 @@ before_opened p octets o h = add (close_attempt p o) (Took (Some p) octets kind.
 abbrev before_m1 : Domain → Node → Node → List ℕ → Option (List Act) → List ℕ → List Act → List Act
 before_m1 d n p octets o v h = sent_assoc_resp d n p ∷ Drew (Nonce v) ∷ Opened p Connect ∷ before_opened p octets o h
 
-answer-add : (d : Domain) (n p : Node) (octets : List ℕ) (o : Option (List Act)) (v : List ℕ) (h : List Act) → add (answer_acts d n p octets o v) h ≡ sent_m1 d n p 1 v ∷ before_m1 d n p octets o v h
-answer-add d n p octets None v h = refl
-answer-add d n p octets (Some part) v h = refl
-
-heard-request : (p : Node) (octets : List ℕ) (o : Option (List Act)) (h : List Act) → heard p kind.AssocReq (before_opened p octets o h) ≡ Some octets
-heard-request p octets None h = rw (same-refl p) refl
-heard-request p octets (Some part) h = rw (same-refl p) refl
-
 is_begun : (d : Domain) (n p : Node) (octets v rsne : List ℕ) (o : Option (List Act)) (h : List Act) → HasRsne d.akm octets (Some rsne) → IsBegun d p v rsne (before_m1 d n p octets o v h)
 is_begun d n p octets v rsne o h said = record {
   part = sent_assoc_resp d n p ∷ Drew (Nonce v) ∷ Opened p Connect ∷ [];
@@ -137,19 +129,6 @@ counts-answer d n p octets (Some part) v h = rw (same-refl p) refl
 answer-group : (d : Domain) (n p : Node) (octets : List ℕ) (o : Option (List Act)) (v : List ℕ) (h : List Act) → IsSameGroup h (add (answer_acts d n p octets o v) h)
 answer-group d n p octets None v h = record { gtks_are = refl; switches_are = refl; uses_are = refl }
 answer-group d n p octets (Some part) v h = record { gtks_are = refl; switches_are = refl; uses_are = refl }
-
-answer-apart : (d : Domain) (n p : Node) (octets : List ℕ) (o : Option (List Act)) (v : List ℕ) (sta : ℕ) → same (Sta sta) p ≡ false → AllByRecursion (IsApart (Sta sta)) (answer_acts d n p octets o v)
-answer-apart d n p octets None v sta other = (
-  apart-took (Sta sta) (Some p) octets kind.AssocReq Accepted None other,
-  (apart-opened (Sta sta) p Connect other, (apart-drew (Sta sta) (Nonce v), (apart-sent (Sta sta) p kind.AssocResp _ None other, (apart-sent (Sta sta) p (kind.Key M1) _ None other, tt)))),
-)
-answer-apart d n p octets (Some part) v sta other = (
-  apart-took (Sta sta) (Some p) octets kind.AssocReq Accepted None other,
-  (
-    apart-closed sta p other,
-    (apart-opened (Sta sta) p Connect other, (apart-drew (Sta sta) (Nonce v), (apart-sent (Sta sta) p kind.AssocResp _ None other, (apart-sent (Sta sta) p (kind.Key M1) _ None other, tt)))),
-  ),
-)
 
 -- what there is with the station then
 abbrev pub begun_with : Part → Station → Station
@@ -193,7 +172,7 @@ stands_associated d first old new sta octets rsne h low said stands number drawn
       goes = λ k other. other_on (Sta k) (answer_acts d n p octets o v) h (answer-apart d n p octets o v k other);
     }))
 
-pub takes_associated : (d : Domain) (old new : State) (octets : List ℕ) (sta : ℕ) (frame : AnyFrame) (elements : Elements) (rsne raw : List ℕ) (waited waits : List Act) → IsManagedFrom d old.number octets (Sta sta) frame elements → frame.kind ≡ kind.AssocReq
+pub takes_associated : (d : Domain) (old new : State) (octets : List ℕ) (sta : ℕ) (frame : AnyFrame) (elements : Elements) (rsne raw : List ℕ) (waited waits : List Act) → IsManagedAtAp d old.number octets (Sta sta) frame elements → frame.kind ≡ kind.AssocReq
     → rsne_status d.akm (element_fields elements).rsne ≡ None → old.drawn < last_draw → (element_fields elements).rsne_octets ≡ Some raw → rsne ≡ raw
     → new.number ≡ old.number → new.drawn ≡ old.drawn + 1 → new.group ≡ old.group → BeginsWith d old new sta (nonce d (Ap old.number) old.drawn) rsne
     → ((k : ℕ) → k ≢ sta → station_at new.stations k ≡ station_at old.stations k)
@@ -228,7 +207,7 @@ takes_associated d old new octets sta frame elements rsne raw waited waits w is 
     })
 
 -- with no status there are the octets of an RSNE
-pub some_rsne : (d : Domain) (a : ℕ) (octets : List ℕ) (station : ℕ) (frame : AnyFrame) (elements : Elements) → IsManagedFrom d a octets (Sta station) frame elements → rsne_status d.akm (element_fields elements).rsne ≡ None → (element_fields elements).rsne_octets ≡ None → ⊥
+pub some_rsne : (d : Domain) (a : ℕ) (octets : List ℕ) (station : ℕ) (frame : AnyFrame) (elements : Elements) → IsManagedAtAp d a octets (Sta station) frame elements → rsne_status d.akm (element_fields elements).rsne ≡ None → (element_fields elements).rsne_octets ≡ None → ⊥
 some_rsne d a octets station frame elements w none raw = cc ((accepted-rsne d.akm Body (management_fields frame).elements (element_fields elements) w.reads.1 none).1, raw)
 
 -- ---- as the code comes by them

@@ -1,4 +1,4 @@
--- What messages and retries do to what there is with a station.
+-- What messages and retries do to what there is with a station (this project's choice).
 use Rattle.std.specs.Prelude.{◌≡◌, ℕ, List, ◌∷◌, is_some}
 use Rattle.domain_base.specs.declared.names.Node.TheVariants.{Ap, Sta}
 use Rattle.eapol_key.specs.KeyFrame.{KeyFields}
@@ -7,13 +7,13 @@ use Rattle.run_journal.specs.declared.domain.Domain.{Domain}
 use Rattle.run_journal.specs.declared.acts.Outcome.{Outcome}
 use Rattle.run_journal.specs.declared.acts.Act.{Act}
 use Rattle.run_journal.specs.declared.reply.Reply.{Reply}
-use Rattle.run_journal.specs.Questions.{add, attempt}
-use Rattle.domain_rules.specs.GroupKeys.{newest, newest_uses}
+use Rattle.run_journal.specs.Questions.{add, attempt, gtks}
+use Rattle.domain_rules.specs.GroupKeys.{newest_uses}
 use Rattle.domain_rules.specs.Reading.{KeyMessage}
 use Rattle.domain_rules.specs.Replies.{IsMessageFrom, reply_acts}
 use Rattle.domain_rules.specs.Rows.{Take, Adds, retry_acts}
 use Rattle.group_key.specs.declared.keys.GroupKey.{GroupKey}
-use Rattle.node_frames.specs.Carried.{carried_key}
+use Rattle.group_key.specs.Holds.{IsLast}
 use Rattle.authenticator.specs.State.{State as Part}
 use Rattle.authenticator.specs.Stands.{Stands as AuthenticatorStands}
 use Rattle.authenticator.specs.Steps.{IsBegun, IsAttempt, retried_acts}
@@ -30,7 +30,7 @@ pub record IsPlaceStep (d : Domain) (first ap sta : ℕ) (octets : List ℕ) (k 
 -- for every history that it stood for, the message of these fields and octets does so
 abbrev pub PlaceSteps : Station → Station → Message → KeyFields → List ℕ → GroupKey → Outcome → Reply → Type 0
 PlaceSteps old new message f whole g outcome r =
-    (d : Domain) (first ap sta : ℕ) (octets : List ℕ) (k : KeyMessage) (h : List Act) → StandsAt d (Ap ap) sta old h → newest h ≡ carried_key g → newest_uses h ≡ 0
+    (d : Domain) (first ap sta : ℕ) (octets : List ℕ) (k : KeyMessage) (h : List Act) → StandsAt d (Ap ap) sta old h → IsLast g (gtks h) → newest_uses h ≡ 0
     → IsMessageFrom d (Ap ap) (Sta sta) octets k → k.message ≡ message → k.fields ≡ f → k.octets ≡ whole
     → IsPlaceStep d first ap sta octets k old new outcome r h
 

@@ -1,4 +1,4 @@
--- What contracts see of an access point.
+-- What contracts see of an access point (this project's choice).
 use Rattle.std.specs.Prelude.{ℕ, List, None, slice_index_or}
 use Rattle.group_key.specs.Keys.{Pair}
 use Rattle.ap_node.specs.declared.stations.Station.{Station}

@@ -1,4 +1,4 @@
--- What the taking of a frame and a retry do, and what is known of a frame that is for the access point.
+-- What the taking of a frame and a retry do, and what is known of a frame that is for the access point (this project's choice).
 use Rattle.std.specs.Prelude.{ℕ, Bool, true, false, List, [], ◌∷◌, ◌++◌, Some, None}
 use Rattle.domain_base.specs.declared.names.Node.{Node}
 use Rattle.domain_base.specs.declared.names.Node.TheVariants.{Ap}
@@ -38,16 +38,17 @@ Retries d old new station waited waits outcome =
     → Steps d first (Ap old.number) (Retry station) (Stands d first new) h waited waits outcome
 
 -- the octets are a management frame for access point a from a node
-pub record IsManagedFrom (d : Domain) (a : ℕ) (octets : List ℕ) (from : Node) (frame : Management) (elements : Elements) : Type 0 where
+pub record IsManagedAtAp (d : Domain) (a : ℕ) (octets : List ℕ) (from : Node) (frame : Management) (elements : Elements) : Type 0 where
   pub reads : Reads d.akm octets (Managed (management_fields frame) (element_fields elements))
   pub judged : IsJudged d (Ap a) (Managed (management_fields frame) (element_fields elements)) (judged.Managed from frame elements)
 
 -- the octets are an EAPOL-Key message for access point a from a node
-pub record IsKeyedFrom (d : Domain) (a : ℕ) (octets : List ℕ) (from : Node) (message : KeyMessage) : Type 0 where
+pub record IsKeyedAtAp (d : Domain) (a : ℕ) (octets : List ℕ) (from : Node) (message : KeyMessage) : Type 0 where
   pub reads : Reads d.akm octets (Keyed (message_fields message))
   pub judged : IsJudged d (Ap a) (Keyed (message_fields message)) (judged.Keyed from message)
 
--- the attempt that was there is closed
+-- The attempt that was there is closed: by whether the code has one, where `close_attempt` of the rows goes by what the history
+-- answers. The two are the same for a history that the access point stands for.
 abbrev pub closed : Node → Bool → List Act
 closed p false = []
 closed p true = Closed p OfAttempt ∷ []

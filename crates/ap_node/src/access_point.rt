@@ -1,6 +1,6 @@
 //! An access point's state, and what each event does to it.
 
-ghost use Rattle.std.specs.Prelude.{◌≡◌, ◌≢◌, ◌<◌, ◌≤◌, ◌+◌, ℕ, List, [], ◌∷◌, ◌++◌, length, Some, None, IfOk, OnOk, OnErr, is_some};
+ghost use Rattle.std.specs.Prelude.{◌≡◌, ◌≢◌, ◌<◌, ◌≤◌, ◌+◌, ℕ, List, [], ◌++◌, length, Some, None, IfOk, OnOk, OnErr, is_some};
 ghost use Rattle.domain_base.specs.declared.names.Akm.{Akm as AnyAkm};
 ghost use Rattle.domain_base.specs.declared.names.Node.TheVariants.{Ap, Sta};
 ghost use Rattle.authenticator.specs.State.{State as Part};
@@ -15,13 +15,10 @@ ghost use Rattle.domain_rules.specs.Rows.{start_acts};
 ghost use Rattle.node_frames.specs.Events.{event_of, IsEventAt, Steps};
 ghost use Rattle.ap_node.specs.State.{station_at};
 ghost use Rattle.ap_node.specs.Places.{Begins};
-ghost use Rattle.ap_node.specs.Takes.{Takes, Retries, IsManagedFrom, IsKeyedFrom, associated_acts};
+ghost use Rattle.ap_node.specs.Takes.{Takes, Retries, IsManagedAtAp, IsKeyedAtAp, associated_acts};
 
-use crate::association::{
-    Association, close_attempt, open_attempt, prepare, refuse, whole_element,
-};
+use crate::association::{Acceptance, close_attempt, open_attempt, prepare, refuse, whole_element};
 use crate::retrying::{add_retried, idle};
-use crate::settling::settle;
 use crate::stations::{
     Station, begin, has_attempt_with, has_session_with, make_place, retry_with, step_with,
 };
@@ -29,19 +26,13 @@ use authenticator::{ApStart, Authenticator};
 use domain_base::{NoMemory, Node, Peer};
 use group_key::GroupKeys;
 use node_frames::{
-    Judged, KeyMessage, Management, NodeEvent, Outbox, Room, SendRoom, address, gtk, judge, nonce,
-    read, rsne_status,
+    Judged, KeyMessage, LAST_DRAW, Management, NodeEvent, Outbox, Room, SendRoom, address, gtk,
+    judge, nonce, read, rsne_status, settle,
 };
 use rsn_elements::Elements;
 use run_journal::{Act, Domain, Drawn, Key, Kind, Outcome, Reason, Reply};
 use std::alloc::Global;
 use std::marker::Model;
-
-/// The number of draws at which a node draws no more.
-const LAST_DRAW: u64 = 1 << 60;
-
-/// The key id of the first group key.
-const FIRST_KEY_ID: u8 = 1;
 
 /// An access point of the domain.
 #[derive(Drop)]
@@ -88,6 +79,7 @@ impl ApNode {
     {
         let node = Node::Ap(ap);
         let group_key = gtk(domain, node, first_draw);
+        let group = GroupKeys::new(group_key);
         out.reserve(2)?;
         out.add(Act::Drew {
             value: Drawn::Gtk(group_key),
@@ -96,14 +88,14 @@ impl ApNode {
             peer: Peer::All,
             key: Key::Group {
                 gtk: group_key,
-                id: FIRST_KEY_ID,
+                id: group.current().id,
                 bssid: address(domain, node),
             },
         });
         Ok(ApNode {
             number: ap,
             drawn: first_draw + 1,
-            group: GroupKeys::new(group_key),
+            group,
             stations: Vec::new(alloc),
         })
     }
@@ -154,7 +146,7 @@ impl ApNode {
         let delivered = read(domain.akm, octets);
         match judge(domain, Node::Ap(self.number), &delivered) {
             Judged::Settled(from, outcome) => {
-                settle(alloc, from, octets, delivered.kind(), outcome, None, out)
+                settle(alloc, from, octets, delivered.kind(), outcome, out)
             }
             Judged::Managed(from, frame, elements) => {
                 self.take_managed(alloc, domain, octets, from, &frame, &elements, out)
@@ -179,7 +171,7 @@ impl ApNode {
         requires form { InForm domain.now }
         requires suite { domain.now.akm ≢ AnyAkm.FtPsk }
         requires listed { self.old.number < length domain.now.aps }
-        requires frame { IsManagedFrom domain.now self.old.number octets.now from frame.now elements.now }
+        requires frame { IsManagedAtAp domain.now self.old.number octets.now from frame.now elements.now }
         ensures number { self.new.number ≡ self.old.number }
         ensures takes { IfOk result (λ outcome. Takes domain.now self.old self.new octets.now out.old.acts out.new.acts outcome) }
         ensures refused { IfOk result (λ outcome. (why : AnyReason) → outcome ≡ Refused why → self.new ≡ self.old) }
@@ -195,7 +187,7 @@ impl ApNode {
             ),
             kind => {
                 let outcome = Outcome::Refused(Reason::Unawaited);
-                settle(alloc, Some(from), octets, kind, outcome, None, out)
+                settle(alloc, Some(from), octets, kind, outcome, out)
             }
         }
     }
@@ -214,7 +206,7 @@ impl ApNode {
         requires form { InForm domain.now }
         requires suite { domain.now.akm ≢ AnyAkm.FtPsk }
         requires listed { self.old.number < length domain.now.aps }
-        requires frame { IsManagedFrom domain.now self.old.number octets.now (Sta station) frame.now elements.now }
+        requires frame { IsManagedAtAp domain.now self.old.number octets.now (Sta station) frame.now elements.now }
         requires kind { frame.now.kind ≡ kind.AssocReq }
         ensures number { self.new.number ≡ self.old.number }
         ensures takes { IfOk result (λ outcome. Takes domain.now self.old self.new octets.now out.old.acts out.new.acts outcome) }
@@ -228,7 +220,7 @@ impl ApNode {
         if self.drawn >= LAST_DRAW {
             let outcome = Outcome::Refused(Reason::Spent);
             let from = Some(Node::Sta(station));
-            return settle(alloc, from, octets, Kind::AssocReq, outcome, None, out);
+            return settle(alloc, from, octets, Kind::AssocReq, outcome, out);
         }
         match elements.rsne_octets {
             Some(rsne) => {
@@ -266,7 +258,7 @@ impl ApNode {
         ensures same { OnErr result (self.new ≡ self.old) }
         ensures kept { OnErr result (out.new.acts ≡ out.old.acts) }
     {
-        let Association {
+        let Acceptance {
             taken,
             response,
             room,
@@ -300,7 +292,7 @@ impl ApNode {
         out: &mut Outbox,
     ) -> Result<Outcome, NoMemory>
         requires listed { self.old.number < length domain.now.aps }
-        requires frame { IsKeyedFrom domain.now self.old.number octets.now from message.now }
+        requires frame { IsKeyedAtAp domain.now self.old.number octets.now from message.now }
         ensures number { self.new.number ≡ self.old.number }
         ensures takes { IfOk result (λ outcome. Takes domain.now self.old self.new octets.now out.old.acts out.new.acts outcome) }
         ensures refused { IfOk result (λ outcome. (why : AnyReason) → outcome ≡ Refused why → self.new ≡ self.old) }
@@ -315,7 +307,7 @@ impl ApNode {
         }
         let kind = Kind::Key(message.message);
         let outcome = Outcome::Refused(Reason::Unawaited);
-        settle(alloc, Some(from), octets, kind, outcome, None, out)
+        settle(alloc, Some(from), octets, kind, outcome, out)
     }
 
     // Hands an EAPOL-Key message to the attempt with its station.
@@ -329,7 +321,7 @@ impl ApNode {
         out: &mut Outbox,
     ) -> Result<Outcome, NoMemory>
         requires listed { self.old.number < length domain.now.aps }
-        requires frame { IsKeyedFrom domain.now self.old.number octets.now (Sta station) message.now }
+        requires frame { IsKeyedAtAp domain.now self.old.number octets.now (Sta station) message.now }
         requires attempt { (station_at self.old.stations station).attempt ≢ None }
         ensures number { self.new.number ≡ self.old.number }
         ensures takes { IfOk result (λ outcome. Takes domain.now self.old self.new octets.now out.old.acts out.new.acts outcome) }

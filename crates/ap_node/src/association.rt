@@ -88,7 +88,7 @@ pub fn open_attempt(station: u16, anonce: [u8; 32], response: Act, out: &mut Out
 
 /// What the acceptance of an association request needs, made before anything is changed.
 #[derive(Drop)]
-pub struct Association {
+pub struct Acceptance {
     /// The act of taking the request.
     pub taken: Act,
     /// The act of sending the response.
@@ -104,7 +104,7 @@ pub fn prepare(
     ap: u16,
     station: u16,
     octets: &[u8],
-) -> Result<Association, NoMemory>
+) -> Result<Acceptance, NoMemory>
     requires form { InForm domain.now }
     requires ap { ap < length domain.now.aps }
     requires station { station < length domain.now.stas }
@@ -116,7 +116,7 @@ pub fn prepare(
     let taken = took(alloc, from, octets, Kind::AssocReq, outcome, None)?;
     let response = assoc_resp(alloc, domain, ap, station)?;
     let room = SendRoom::take(alloc)?;
-    Ok(Association {
+    Ok(Acceptance {
         taken,
         response,
         room,

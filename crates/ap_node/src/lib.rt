@@ -3,10 +3,11 @@
 
 mod access_point;
 mod association;
+mod laws;
 mod retrying;
-mod settling;
 mod stations;
 #[cfg(test)]
 mod tests;
 
 pub use access_point::ApNode;
+pub use laws::stands_as_the_network_grows;

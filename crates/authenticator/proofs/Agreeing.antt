@@ -13,16 +13,16 @@ use Rattle.run_journal.specs.declared.acts.Seal.{Seal}
 use Rattle.run_journal.specs.declared.acts.Act.{Act}
 use Rattle.run_journal.specs.declared.acts.Act.TheVariants.{Took, Derived}
 use Rattle.run_journal.specs.declared.reply.Keyed.{Keyed}
-use Rattle.run_journal.specs.Questions.{before_sent}
+use Rattle.run_journal.specs.Questions.{before_sent, gtks}
 use Rattle.domain_rules.specs.Network.{address}
 use Rattle.domain_rules.specs.Frames.{in_data, m3_frame, m3_key_data, wrapped, sent_m3}
 use Rattle.domain_rules.specs.Verdict.{replay_counter}
 use Rattle.domain_rules.specs.Counters.{next_in_attempt}
-use Rattle.domain_rules.specs.GroupKeys.{newest, newest_uses}
+use Rattle.domain_rules.specs.GroupKeys.{newest_uses}
 use Rattle.domain_rules.specs.Replies.{inputs_by}
 use Rattle.domain_rules.proofs.Parts.{same-refl, attempt_more, attempt_some, by_connect_more, own_nonce_more}
 use Rattle.group_key.specs.declared.keys.GroupKey.{GroupKey}
-use Rattle.node_frames.specs.Carried.{carried_key}
+use Rattle.group_key.specs.Holds.{IsLast, carried}
 use Rattle.authenticator.specs.State.{Trial, Agreed}
 use Rattle.authenticator.specs.Stands.{counters, IsAgreed, IsUnderWay}
 use Rattle.authenticator.specs.Views.{answered_by}
@@ -30,8 +30,8 @@ use Rattle.authenticator.proofs.Counting.{count_is, replay_sealed}
 
 -- the counter of M3
 pub m3_counter : (d : Domain) (n p : Node) (i : Inputs) (counter : ℕ) (g : GroupKey) (rsc : ℕ) → IsAddress (address d n) → IsAddress (address d p) → counter < 2 ^ 64
-    → replay_counter (in_data d n p (m3_frame d i counter (carried_key g) rsc)) ≡ counter
-m3_counter d n p i counter g rsc l m low = replay_sealed d n p d.akm (ptk i).kck (sent_fields M3 d.akm counter i.anonce rsc (wrapped (ptk i).kek (m3_key_data d (carried_key g)))) l m low
+    → replay_counter (in_data d n p (m3_frame d i counter (carried g) rsc)) ≡ counter
+m3_counter d n p i counter g rsc l m low = replay_sealed d n p d.akm (ptk i).kck (sent_fields M3 d.akm counter i.anonce rsc (wrapped (ptk i).kek (m3_key_data d (carried g)))) l m low
 
 -- the next counter of the attempt
 pub next_is : (d : Domain) (n p : Node) (a : Trial) (h : List Act) (at : IsUnderWay d n p a h) → next_in_attempt p at.part ≡ suc (a.m1s + a.m3s)
@@ -52,18 +52,18 @@ pub cons_is : {x y : ℕ} {xs ys : List ℕ} → x ≡ y → xs ≡ ys → x ∷
 cons_is e f = rw (e, f) refl
 
 pub has_agreed : (d : Domain) (n p : Node) (octets : List ℕ) (s : Option Seal) (y : Keyed) (counter : ℕ) (g : GroupKey) (rsc : ℕ) (a : Trial) (h : List Act) → IsAddress (address d n) → IsAddress (address d p) → counter < 2 ^ 64
-    → IsUnderWay d n p a h → a.agreed ≡ None → counter ≡ suc (a.m1s + a.m3s) → newest h ≡ carried_key g → newest_uses h ≡ rsc
+    → IsUnderWay d n p a h → a.agreed ≡ None → counter ≡ suc (a.m1s + a.m3s) → IsLast g (gtks h) → newest_uses h ≡ rsc
     → IsUnderWay d n p (answered_by (record { key = y; group = g; rsc = rsc }) a)
-    (sent_m3 d n p (inputs_by d n p y) counter (carried_key g) rsc ∷ Derived p (inputs_by d n p y) y.ptk ∷ Took (Some p) octets (kind.Key M2) Accepted s ∷ h)
+    (sent_m3 d n p (inputs_by d n p y) counter (carried g) rsc ∷ Derived p (inputs_by d n p y) y.ptk ∷ Took (Some p) octets (kind.Key M2) Accepted s ∷ h)
 has_agreed d n p octets s y counter g rsc a h l m low at none counter_is key uses =
     let took = Took (Some p) octets (kind.Key M2) Accepted s in
     let i = inputs_by d n p y in
     let derived = Derived p i y.ptk in
-    let m3 = sent_m3 d n p i counter (carried_key g) rsc in
+    let m3 = sent_m3 d n p i counter (carried g) rsc in
     let w = none_sent d n p a.agreed a.m3s at.part h none at.agreed in
     let first = attempt_more p took h at.part refl refl at.is in
     let second = attempt_more p derived (took ∷ h) (took ∷ at.part) refl refl first in
-    let here : replay_counter (in_data d n p (m3_frame d i counter (carried_key g) rsc)) ≡ suc (a.m1s + 0) = m3_counter d n p i counter g rsc l m low ∙ counter_is ∙ ap (λ (x : ℕ). suc (a.m1s + x)) w.0 in
+    let here : replay_counter (in_data d n p (m3_frame d i counter (carried g) rsc)) ≡ suc (a.m1s + 0) = m3_counter d n p i counter g rsc l m low ∙ counter_is ∙ ap (λ (x : ℕ). suc (a.m1s + x)) w.0 in
     record {
       part = m3 ∷ derived ∷ took ∷ at.part;
       is = attempt_more p m3 (derived ∷ took ∷ h) (derived ∷ took ∷ at.part) refl refl second;

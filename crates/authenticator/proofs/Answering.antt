@@ -21,10 +21,11 @@ use Rattle.run_journal.specs.declared.reply.Reply.{Reply}
 use Rattle.run_journal.specs.declared.reply.Keyed.{Keyed}
 use Rattle.run_journal.specs.Replies.{IsEmpty}
 use Rattle.run_journal.specs.Acts.{GroupKey as Carried}
-use Rattle.run_journal.specs.Questions.{session, add}
+use Rattle.run_journal.specs.Questions.{session, gtks, add}
 use Rattle.group_key.specs.declared.keys.GroupKey.{GroupKey}
-use Rattle.node_frames.specs.declared.link.Link.{Link}
-use Rattle.node_frames.specs.Carried.{carried_key}
+use Rattle.group_key.specs.Holds.{IsLast, carried}
+use Rattle.group_key.proofs.Drawing.{last_newest}
+use Rattle.node_frames.specs.declared.ends.Ends.{Ends}
 use Rattle.domain_rules.specs.Counters.{next_in_attempt}
 use Rattle.domain_rules.specs.Frames.{frame_seal, sent_m3}
 use Rattle.domain_rules.specs.GroupKeys.{newest, newest_uses}
@@ -40,9 +41,10 @@ use Rattle.authenticator.specs.State.{State, Attempt, Trial, Agreed}
 use Rattle.authenticator.specs.Stands.{IsUnderWay, Stands}
 use Rattle.authenticator.specs.Steps.{Steps, IsStaged}
 use Rattle.authenticator.specs.Views.{trial_of, stage_of, state_of, attempt_in, answered_by, with_agreed, IsSound, AreKeysOf}
-use Rattle.authenticator.specs.Judged.{IsVerified, IsM2, Answers}
+use Rattle.authenticator.specs.Judged.{IsVerified, IsM2, SendsM3, TellsDerived}
 use Rattle.authenticator.specs.Taken.{StepsFrom}
-use Rattle.authenticator.proofs.Keys.{is_key_of, own_address, peer_address}
+use Rattle.node_frames.proofs.EndsKeys.{is_key_of}
+use Rattle.authenticator.proofs.Keys.{own_address, peer_address}
 use Rattle.authenticator.proofs.Standing.{stage_by, under_way_by}
 use Rattle.authenticator.proofs.Replying.{only_took, answer_took}
 use Rattle.authenticator.proofs.Refusing.{steps_refused, steps_quiet}
@@ -50,11 +52,11 @@ use Rattle.authenticator.proofs.Verified.{IsOn, refused_m2, accepted_m2, key_by_
 use Rattle.authenticator.proofs.Agreeing.{next_is, has_agreed}
 
 -- as the code has the attempt
-pub on_by : (d : Domain) (a : ℕ) (p : Node) (l : Link) (psk : List ℕ) (s : AStage) (x : AnAttempt) (h : List Act) → attempt_in s ≡ Some x → IsSound (state_of l psk s) → Stands d (Ap a) p (state_of l psk s) h → IsOn d a p l psk (trial_of x) h
-on_by d a p l psk s x h is sound stands = record { link = stands.link; psk_is = stands.psk; suite = sound.suite; trial = under_way_by d (Ap a) p s x h is stands.stage_is }
+pub on_by : (d : Domain) (a : ℕ) (p : Node) (l : Ends) (psk : List ℕ) (s : AStage) (x : AnAttempt) (h : List Act) → attempt_in s ≡ Some x → IsSound (state_of l psk s) → Stands d (Ap a) p (state_of l psk s) h → IsOn d a p l psk (trial_of x) h
+on_by d a p l psk s x h is sound stands = record { ends = stands.ends; psk_is = stands.psk; suite = sound.suite; trial = under_way_by d (Ap a) p s x h is stands.stage_is }
 
 -- as its message is judged
-judged_by : (l : Link) (psk : List ℕ) (t : Trial) (f g : KeyFields) (octets whole : List ℕ) (j judged : m2.the_data) → j ≡ judged → g ≡ f → octets ≡ whole → IsM2 l psk t f whole j → IsM2 l psk t g octets judged
+judged_by : (l : Ends) (psk : List ℕ) (t : Trial) (f g : KeyFields) (octets whole : List ℕ) (j judged : m2.the_data) → j ≡ judged → g ≡ f → octets ≡ whole → IsM2 l psk t f whole j → IsM2 l psk t g octets judged
 judged_by l psk t f g octets whole j judged is fields octets_are by =
     subst (λ (x : List ℕ). IsM2 l psk t g x judged) (sym octets_are) (subst (λ (x : KeyFields). IsM2 l psk t x whole judged) (sym fields) (subst (λ (x : m2.the_data). IsM2 l psk t f whole x) is by))
 
@@ -63,7 +65,7 @@ first_is d first a p octets k h from is = from.verdict_is first h ∙ ap (λ (m 
 
 -- ---- refused before its MIC verified
 
-pub takes_refused_m2 : (l : Link) (psk : List ℕ) (s : AStage) (x : AnAttempt) (f : KeyFields) (whole : List ℕ) (g : GroupKey) (rsc : ℕ) (j : m2.the_data) (why : Reason) (r : Reply) → attempt_in s ≡ Some x → IsSound (state_of l psk s)
+pub takes_refused_m2 : (l : Ends) (psk : List ℕ) (s : AStage) (x : AnAttempt) (f : KeyFields) (whole : List ℕ) (g : GroupKey) (rsc : ℕ) (j : m2.the_data) (why : Reason) (r : Reply) → attempt_in s ≡ Some x → IsSound (state_of l psk s)
     → IsM2 l psk (trial_of x) f whole j → j ≡ m2.Refused why → IsEmpty r → StepsFrom (state_of l psk s) (state_of l psk s) M2 f whole g rsc (Refused why) r
 takes_refused_m2 l psk s x f whole g rsc j why r here sound by judged e = λ d first a sta octets k h stands asked key uses from is fields octets_are.
     (let p = Sta sta in
@@ -73,7 +75,7 @@ takes_refused_m2 l psk s x f whole g rsc j why r here sound by judged e = λ d f
 
 -- ---- refused by its key data
 
-other_m2 : (d : Domain) (first a : ℕ) (p : Node) (octets : List ℕ) (k : KeyMessage) (l : Link) (psk : List ℕ) (s : State) (t : Trial) (y : Keyed) (fault : KeyDataFault) (r : Reply) (h : List Act) → IsMessageFrom d (Ap a) p octets k → k.message ≡ M2
+other_m2 : (d : Domain) (first a : ℕ) (p : Node) (octets : List ℕ) (k : KeyMessage) (l : Ends) (psk : List ℕ) (s : State) (t : Trial) (y : Keyed) (fault : KeyDataFault) (r : Reply) (h : List Act) → IsMessageFrom d (Ap a) p octets k → k.message ≡ M2
     → Stands d (Ap a) p s h → IsOn d a p l psk t h → IsVerified l psk t k.fields k.octets y (Some fault) → IsEmpty r
     → Steps d first (Ap a) p octets k s (Refused (reason.KeyData fault)) (record r { verified = Some y.ptk.kck }) h
 other_m2 d first a p octets k l psk s t y fault r h from is stands on w e =
@@ -88,7 +90,7 @@ other_m2 d first a p octets k l psk s t y fault r h from is stands on w e =
       seal_is = seal_by d a p l psk t h k y (Some fault) on w is from.from;
     })
 
-pub takes_other_m2 : (l : Link) (psk : List ℕ) (s : AStage) (x : AnAttempt) (f : KeyFields) (whole : List ℕ) (g : GroupKey) (rsc : ℕ) (j : m2.the_data) (fault : KeyDataFault) (y : Keyed) (r : Reply) → attempt_in s ≡ Some x → IsSound (state_of l psk s)
+pub takes_other_m2 : (l : Ends) (psk : List ℕ) (s : AStage) (x : AnAttempt) (f : KeyFields) (whole : List ℕ) (g : GroupKey) (rsc : ℕ) (j : m2.the_data) (fault : KeyDataFault) (y : Keyed) (r : Reply) → attempt_in s ≡ Some x → IsSound (state_of l psk s)
     → IsM2 l psk (trial_of x) f whole j → j ≡ m2.Other fault y → IsEmpty r → StepsFrom (state_of l psk s) (state_of l psk s) M2 f whole g rsc (Refused (reason.KeyData fault)) (record r { verified = Some y.ptk.kck })
 takes_other_m2 l psk s x f whole g rsc j fault y r here sound by judged e = λ d first a sta octets k h stands asked key uses from is fields octets_are.
     other_m2 d first a (Sta sta) octets k l psk (state_of l psk s) (trial_of x) y fault r h from is stands (on_by d a (Sta sta) l psk s x h here sound stands)
@@ -101,17 +103,17 @@ says_m2 : (d : Domain) (n p : Node) (octets : List ℕ) (y : Keyed) (i : Inputs)
     ≡ Took (Some p) octets (kind.Key M2) Accepted (Some (frame_seal (ptk i).kck k.octets)) ∷ Derived p i (ptk i) ∷ sent_m3 d n p i next key uses ∷ []
 says_m2 d n p octets y i k counter next g key rsc uses ptk_is next_is key_is uses_is = rw (ptk_is, next_is, key_is, uses_is) refl
 
-agreed_m2 : (d : Domain) (first a : ℕ) (p : Node) (octets : List ℕ) (k : KeyMessage) (l : Link) (psk : List ℕ) (t : Trial) (y : Keyed) (g : GroupKey) (rsc counter : ℕ) (r : Reply) (h : List Act) → IsMessageFrom d (Ap a) p octets k → k.message ≡ M2
-    → IsOn d a p l psk t h → newest h ≡ carried_key g → newest_uses h ≡ rsc → IsVerified l psk t k.fields k.octets y None → counter ≡ suc (t.m1s + t.m3s) → counter < 2 ^ 64 → IsAddress l.own.0 → IsAddress l.peer.0
-    → Answers l (record { key = y; group = g; rsc = rsc }) counter r
-    → Steps d first (Ap a) p octets k (record { link = l; psk = psk; stage = Attempt (answered_by (record { key = y; group = g; rsc = rsc }) t) }) Accepted r h
-agreed_m2 d first a p octets k l psk t y g rsc counter r h from is on key uses w counter_is low own peer answers =
+agreed_m2 : (d : Domain) (first a : ℕ) (p : Node) (octets : List ℕ) (k : KeyMessage) (l : Ends) (psk : List ℕ) (t : Trial) (y : Keyed) (g : GroupKey) (rsc counter : ℕ) (r : Reply) (h : List Act) → IsMessageFrom d (Ap a) p octets k → k.message ≡ M2
+    → IsOn d a p l psk t h → IsLast g (gtks h) → newest_uses h ≡ rsc → IsVerified l psk t k.fields k.octets y None → counter ≡ suc (t.m1s + t.m3s) → counter < 2 ^ 64 → IsAddress l.own.0 → IsAddress l.peer.0
+    → SendsM3 l (record { key = y; group = g; rsc = rsc }) counter r → TellsDerived y r
+    → Steps d first (Ap a) p octets k (record { ends = l; psk = psk; stage = Attempt (answered_by (record { key = y; group = g; rsc = rsc }) t) }) Accepted r h
+agreed_m2 d first a p octets k l psk t y g rsc counter r h from is on key uses w counter_is low own peer sends told_keys =
     let n = Ap a in
     let i = inputs_by d n p y in
     let ptk_is = key_by_m2 d a p l psk t h k y None on w in
     let facts = told d n p t h k None on.trial w.key_data in
     let accepted = first_is d first a p octets k h from is ∙ accepted_m2 d a p l psk t h k y None on w in
-    let acts = answer_took d n p (is_some (session p h)) octets k M2 Accepted r y (sent_m3 d n p i counter (carried_key g) rsc) is (answers d n p i on.link ptk_is refl) in
+    let acts = answer_took d n p (is_some (session p h)) octets k M2 Accepted r y (sent_m3 d n p i counter (carried g) rsc) is told_keys (sends d n p i on.ends ptk_is refl) in
     record {
       adds = record {
         r = KeyedReading k;
@@ -129,44 +131,44 @@ agreed_m2 d first a p octets k l psk t y g rsc counter r h from is on key uses w
           awaited = on.trial.is;
           i = i;
           inputs_are = inputs_of_m2 d a p l psk t h k y None on w;
-          says = acts ∙ says_m2 d n p octets y i k counter (next_in_attempt p on.trial.part) (carried_key g) (newest h) rsc (newest_uses h) ptk_is (next_is d n p t h on.trial ∙ sym counter_is) key uses;
+          says = acts ∙ says_m2 d n p octets y i k counter (next_in_attempt p on.trial.part) (carried g) (newest h) rsc (newest_uses h) ptk_is (next_is d n p t h on.trial ∙ sym counter_is) (last_newest g h key) uses;
         });
       };
       stands = record {
-        link = on.link;
+        ends = on.ends;
         psk = on.psk_is;
         stage_is = subst (λ (x : List Act). IsUnderWay d n p (answered_by (record { key = y; group = g; rsc = rsc }) t) (add x h)) (sym acts)
-            (has_agreed d n p octets (Some (frame_seal y.ptk.kck k.octets)) y counter g rsc t h (own_address d n p l on.link own) (peer_address d n p l on.link peer) low on.trial w.awaited.none counter_is key uses);
+            (has_agreed d n p octets (Some (frame_seal y.ptk.kck k.octets)) y counter g rsc t h (own_address d n p l on.ends own) (peer_address d n p l on.ends peer) low on.trial w.awaited.none counter_is key uses);
       };
     }
 
 -- the stage that is left
-agreed_stage : (l : Link) (psk : List ℕ) (s new : AStage) (x : AnAttempt) (y : Agreed) → attempt_in s ≡ Some x → new ≡ with_agreed y s → record { link = l; psk = psk; stage = Attempt (answered_by y (trial_of x)) } ≡ state_of l psk new
+agreed_stage : (l : Ends) (psk : List ℕ) (s new : AStage) (x : AnAttempt) (y : Agreed) → attempt_in s ≡ Some x → new ≡ with_agreed y s → record { ends = l; psk = psk; stage = Attempt (answered_by y (trial_of x)) } ≡ state_of l psk new
 agreed_stage l psk s new x y here now = sym (ap (state_of l psk) (now ∙ ap (with_agreed y) (stage_by s x here)))
 
-pub takes_agreed : (l : Link) (psk : List ℕ) (s new : AStage) (x : AnAttempt) (f : KeyFields) (whole : List ℕ) (g : GroupKey) (rsc : ℕ) (j : m2.the_data) (y : Keyed) (counter : ℕ) (r : Reply) → attempt_in s ≡ Some x → IsSound (state_of l psk s)
-    → IsM2 l psk (trial_of x) f whole j → j ≡ m2.Agreed y → counter ≡ suc (x.m1s + x.m3s) → counter < 2 ^ 64 → IsAddress l.own.0 × IsAddress l.peer.0 → Answers l (record { key = y; group = g; rsc = rsc }) counter r
+pub takes_agreed : (l : Ends) (psk : List ℕ) (s new : AStage) (x : AnAttempt) (f : KeyFields) (whole : List ℕ) (g : GroupKey) (rsc : ℕ) (j : m2.the_data) (y : Keyed) (counter : ℕ) (r : Reply) → attempt_in s ≡ Some x → IsSound (state_of l psk s)
+    → IsM2 l psk (trial_of x) f whole j → j ≡ m2.Agreed y → counter ≡ suc (x.m1s + x.m3s) → counter < 2 ^ 64 → IsAddress l.own.0 × IsAddress l.peer.0 → SendsM3 l (record { key = y; group = g; rsc = rsc }) counter r → TellsDerived y r
     → new ≡ with_agreed (record { key = y; group = g; rsc = rsc }) s → StepsFrom (state_of l psk s) (state_of l psk new) M2 f whole g rsc Accepted r
-takes_agreed l psk s new x f whole g rsc j y counter r here sound by judged counter_is low ends answers now = λ d first a sta octets k h stands asked key uses from is fields octets_are.
+takes_agreed l psk s new x f whole g rsc j y counter r here sound by judged counter_is low ends sends told_keys now = λ d first a sta octets k h stands asked key uses from is fields octets_are.
     subst (λ (z : State). Steps d first (Ap a) (Sta sta) octets k z Accepted r h) (agreed_stage l psk s new x (record { key = y; group = g; rsc = rsc }) here now)
     (agreed_m2 d first a (Sta sta) octets k l psk (trial_of x) y g rsc counter r h from is (on_by d a (Sta sta) l psk s x h here sound stands) key uses
-    (judged_by l psk (trial_of x) f k.fields k.octets whole j (m2.Agreed y) judged fields octets_are by) counter_is low ends.0 ends.1 answers)
+    (judged_by l psk (trial_of x) f k.fields k.octets whole j (m2.Agreed y) judged fields octets_are by) counter_is low ends.0 ends.1 sends told_keys)
 
 -- an attempt stays one, and its key is that of its nonces
-staged_by : (l : Link) (psk : List ℕ) (s : AStage) (y : Agreed) → IsStaged None (state_of l psk s) (state_of l psk (with_agreed y s))
+staged_by : (l : Ends) (psk : List ℕ) (s : AStage) (y : Agreed) → IsStaged None (state_of l psk s) (state_of l psk (with_agreed y s))
 staged_by l psk (stage.Attempt x) y = (λ is. tt, λ no. no)
 staged_by l psk (stage.Session key next) y = (λ no. no, λ is. tt)
 staged_by l psk stage.GivenUp y = (λ no. no, λ no. no)
 
-pub agreed_staged : (l : Link) (psk : List ℕ) (s new : AStage) (y : Agreed) (o : Option Keyed) → o ≡ None → new ≡ with_agreed y s → IsStaged o (state_of l psk s) (state_of l psk new)
+pub agreed_staged : (l : Ends) (psk : List ℕ) (s new : AStage) (y : Agreed) (o : Option Keyed) → o ≡ None → new ≡ with_agreed y s → IsStaged o (state_of l psk s) (state_of l psk new)
 agreed_staged l psk s new y o none now =
     subst (λ (z : Option Keyed). IsStaged z (state_of l psk s) (state_of l psk new)) (sym none) (subst (λ (z : AStage). IsStaged None (state_of l psk s) (state_of l psk z)) (sym now) (staged_by l psk s y))
 
-agreed_keys : (l : Link) (psk : List ℕ) (t : Trial) (f : KeyFields) (whole : List ℕ) (g : GroupKey) (rsc : ℕ) (y : Keyed) (x : AnAttempt) → IsVerified l psk t f whole y None
+agreed_keys : (l : Ends) (psk : List ℕ) (t : Trial) (f : KeyFields) (whole : List ℕ) (g : GroupKey) (rsc : ℕ) (y : Keyed) (x : AnAttempt) → IsVerified l psk t f whole y None
     → AreKeysOf l psk (stage_of (stage.Attempt (record x { m3s = 1; agreed = Some (record { key = y; group = g; rsc = rsc }) })))
 agreed_keys l psk t f whole g rsc y x w = is_key_of l psk t.anonce f.nonce y w.key
 
-pub keys_agreed : (l : Link) (psk : List ℕ) (s new : AStage) (x : AnAttempt) (f : KeyFields) (whole : List ℕ) (g : GroupKey) (rsc : ℕ) (j : m2.the_data) (y : Keyed) → attempt_in s ≡ Some x → IsM2 l psk (trial_of x) f whole j → j ≡ m2.Agreed y
+pub keys_agreed : (l : Ends) (psk : List ℕ) (s new : AStage) (x : AnAttempt) (f : KeyFields) (whole : List ℕ) (g : GroupKey) (rsc : ℕ) (j : m2.the_data) (y : Keyed) → attempt_in s ≡ Some x → IsM2 l psk (trial_of x) f whole j → j ≡ m2.Agreed y
     → new ≡ with_agreed (record { key = y; group = g; rsc = rsc }) s → AreKeysOf l psk (stage_of new)
 keys_agreed l psk s new x f whole g rsc j y here by judged now =
     subst (λ (z : AStage). AreKeysOf l psk (stage_of z)) (sym (now ∙ ap (with_agreed (record { key = y; group = g; rsc = rsc })) (stage_by s x here)))

@@ -6,8 +6,8 @@ use Rattle.eapol_key.specs.declared.messages.Message.TheVariants.{M1}
 use Rattle.eapol_key.specs.Sent.{sent_fields}
 use Rattle.run_journal.specs.declared.domain.Domain.{Domain}
 use Rattle.run_journal.specs.declared.acts.Act.{Act}
-use Rattle.node_frames.specs.declared.link.Link.{Link}
-use Rattle.node_frames.specs.Links.{IsLink}
+use Rattle.node_frames.specs.declared.ends.Ends.{Ends}
+use Rattle.node_frames.specs.Ends.{AreEnds}
 use Rattle.domain_rules.specs.Network.{address}
 use Rattle.domain_rules.specs.Frames.{sent_m1}
 use Rattle.domain_rules.proofs.Parts.{same-refl, attempt_more, attempt_some, by_connect_more, own_nonce_more}
@@ -40,12 +40,12 @@ is_begun d n p anonce rsne h l m b =
     }
 
 -- as the code kept the RSNE
-pub begins : (d : Domain) (n p : Node) (l : Link) (anonce kept rsne : List ℕ) → IsLink d n p l → IsAddress l.own.0 × IsAddress l.peer.0 → kept ≡ rsne → (h : List Act) → IsBegun d p anonce rsne h
-    → Stands d n p (record { link = l; psk = d.psk; stage = Attempt (begun anonce kept) }) (sent_m1 d n p 1 anonce ∷ h)
-begins d n p l anonce kept rsne link ends is h b = record {
-  link = link;
+pub begins : (d : Domain) (n p : Node) (l : Ends) (anonce kept rsne : List ℕ) → AreEnds d n p l → IsAddress l.own.0 × IsAddress l.peer.0 → kept ≡ rsne → (h : List Act) → IsBegun d p anonce rsne h
+    → Stands d n p (record { ends = l; psk = d.psk; stage = Attempt (begun anonce kept) }) (sent_m1 d n p 1 anonce ∷ h)
+begins d n p l anonce kept rsne ends addresses is h b = record {
+  ends = ends;
   psk = refl;
-  stage_is = is_begun d n p anonce kept h (own_address d n p l link ends.0) (peer_address d n p l link ends.1) (subst (λ (x : List ℕ). IsBegun d p anonce x h) (sym is) b);
+  stage_is = is_begun d n p anonce kept h (own_address d n p l ends addresses.0) (peer_address d n p l ends addresses.1) (subst (λ (x : List ℕ). IsBegun d p anonce x h) (sym is) b);
 }
 
 -- by other names of the nonce and the RSNE

@@ -7,10 +7,10 @@ use Rattle.mac_prf.specs.Mic.{mic}
 use Rattle.eapol_key.specs.KeyFrame.{KeyFields}
 use Rattle.run_journal.specs.declared.acts.KeyDataFault.{KeyDataFault}
 use Rattle.run_journal.specs.declared.reply.Keyed.{Keyed}
-use Rattle.node_frames.specs.declared.link.Link.{Link}
+use Rattle.node_frames.specs.declared.ends.Ends.{Ends}
 use Rattle.authenticator.specs.State.{Trial, Agreed}
 use Rattle.authenticator.specs.Stands.{counters}
-use Rattle.authenticator.specs.Views.{key_with}
+use Rattle.node_frames.specs.PairwiseKeys.{key_with}
 use Rattle.authenticator.specs.Judged.{IsKeyDataOf, IsAwaited, IsForged, IsVerified, IsAnswered, IsForgedM4}
 
 -- as the code verified a MIC
@@ -31,13 +31,13 @@ key_data_as rsne octets o fault is by = subst (λ (x : Option KeyDataFault). IsK
 pub awaits : (a : Trial) (f : KeyFields) (some offer : Bool) → some ≡ is_some a.agreed → some ≡ false → offer ≡ list_any (λ c. c == f.counter) (counters 0 a.m1s) → offer ≡ true → IsAwaited a f
 awaits a f some offer some_is none offer_is one = record { none = none_by a.agreed (sym some_is ∙ none); offer = sym offer_is ∙ one }
 
-pub forged : (l : Link) (psk : List ℕ) (a : Trial) (f : KeyFields) (octets : List ℕ) (y : Keyed) (b : Bool) → IsAwaited a f → y ≡ key_with l psk a.anonce f.nonce → (IsTrue b ↔ (f.mic ≡ mic l.akm y.ptk.kck octets)) → b ≡ false → IsForged l psk a f octets
+pub forged : (l : Ends) (psk : List ℕ) (a : Trial) (f : KeyFields) (octets : List ℕ) (y : Keyed) (b : Bool) → IsAwaited a f → y ≡ key_with l psk a.anonce f.nonce → (IsTrue b ↔ (f.mic ≡ mic l.akm y.ptk.kck octets)) → b ≡ false → IsForged l psk a f octets
 forged l psk a f octets y b awaited key by is = record {
   awaited = awaited;
   other = not_same l.akm y.ptk.kck (key_with l psk a.anonce f.nonce).ptk.kck f.mic octets b (ap (λ (x : Keyed). x.ptk.kck) key) by is;
 }
 
-pub verifies : (l : Link) (psk : List ℕ) (a : Trial) (f : KeyFields) (octets : List ℕ) (y : Keyed) (b : Bool) (rsne : List ℕ) (o fault : Option KeyDataFault) → IsAwaited a f → y ≡ key_with l psk a.anonce f.nonce
+pub verifies : (l : Ends) (psk : List ℕ) (a : Trial) (f : KeyFields) (octets : List ℕ) (y : Keyed) (b : Bool) (rsne : List ℕ) (o fault : Option KeyDataFault) → IsAwaited a f → y ≡ key_with l psk a.anonce f.nonce
     → (IsTrue b ↔ (f.mic ≡ mic l.akm y.ptk.kck octets)) → b ≡ true → rsne ≡ a.rsne → o ≡ fault → IsKeyDataOf rsne f.key_data o → IsVerified l psk a f octets y fault
 verifies l psk a f octets y b rsne o fault awaited key by is raw fault_is key_data = record {
   awaited = awaited;

@@ -25,14 +25,15 @@ use Rattle.run_journal.specs.declared.reply.Keyed.{Keyed}
 use Rattle.run_journal.specs.Replies.{IsEmpty}
 use Rattle.run_journal.specs.Acts.{derived, Derivation}
 use Rattle.run_journal.specs.Questions.{or_else, attempt, derivation, session, add}
-use Rattle.node_frames.specs.declared.link.Link.{Link}
+use Rattle.node_frames.specs.declared.ends.Ends.{Ends}
 use Rattle.group_key.specs.declared.keys.GroupKey.{GroupKey}
 use Rattle.domain_rules.specs.Counters.{next_in_attempt, next_in_session}
 use Rattle.domain_rules.specs.Frames.{frame_seal}
 use Rattle.domain_rules.specs.Reading.{KeyMessage, Keyed as KeyedReading}
-use Rattle.domain_rules.specs.Replies.{IsMessageFrom, inputs_by, replaced_acts}
+use Rattle.domain_rules.specs.Replies.{IsMessageFrom, inputs_by, replaced_acts, key_by}
 use Rattle.domain_rules.specs.Verdict.{KnowsOf, by_connect, among, verified, key_further, and_then, m4_keying, m4_verdict_by, m4_verdict, key_verdict}
 use Rattle.domain_rules.specs.Rows.{By_m4, is_after_mic, close_session}
+use Rattle.domain_rules.proofs.Refused.{no_facts}
 use Rattle.domain_rules.proofs.Parts.{same-refl, Grows, Begins, Goes_on, grows, attempt_more, attempt_some, by_connect_more}
 use Rattle.domain_rules.proofs.Verdicts.{among-one, among-none, verified-same, verified-other}
 use Rattle.authenticator.specs.declared.stage.Attempt.{Attempt as AnAttempt}
@@ -40,16 +41,17 @@ use Rattle.authenticator.specs.declared.stage.Stage.{Stage as AStage}
 use Rattle.authenticator.specs.declared.stage.Stage.TheVariants as stage
 use Rattle.authenticator.specs.declared.m4.M4.TheVariants as m4
 use Rattle.authenticator.specs.State.{State, Session, Trial, Agreed}
-use Rattle.authenticator.specs.Stands.{counters, key_by, IsAgreed, IsUnderWay, IsHeld, Stands}
+use Rattle.authenticator.specs.Stands.{counters, IsAgreed, IsUnderWay, IsHeld, Stands}
 use Rattle.authenticator.specs.Steps.{Steps, IsStaged}
-use Rattle.authenticator.specs.Views.{trial_of, stage_of, state_of, attempt_in, IsKeyOf, AreKeysOf}
+use Rattle.node_frames.specs.PairwiseKeys.{IsKeyOf}
+use Rattle.authenticator.specs.Views.{trial_of, stage_of, state_of, attempt_in, AreKeysOf}
 use Rattle.authenticator.specs.Judged.{IsUncounted, IsForgedM4, IsFinish, IsRefusedM4, IsM4}
 use Rattle.authenticator.specs.Taken.{StepsFrom}
 use Rattle.authenticator.proofs.Keys.{agreed_key}
 use Rattle.authenticator.proofs.Counting.{last_is}
 use Rattle.authenticator.proofs.Standing.{or_none, stage_by, under_way_by}
 use Rattle.authenticator.proofs.Replying.{finish_acts, finish_took}
-use Rattle.authenticator.proofs.Refusing.{no_facts, steps_quiet}
+use Rattle.authenticator.proofs.Refusing.{steps_quiet}
 use Rattle.authenticator.proofs.Verified.{same_mic}
 use Rattle.authenticator.proofs.Agreeing.{next_is, some_sent}
 
@@ -104,12 +106,12 @@ judged_by : (akm : Akm) (t : Trial) (f g : KeyFields) (octets whole : List ℕ) 
 judged_by akm t f g octets whole j judged is fields octets_are by =
     subst (λ (x : List ℕ). IsM4 akm t g x judged) (sym octets_are) (subst (λ (x : KeyFields). IsM4 akm t x whole judged) (sym fields) (subst (λ (x : m4.the_data). IsM4 akm t f whole x) is by))
 
-pub takes_refused_m4 : (l : Link) (psk : List ℕ) (s : AStage) (x : AnAttempt) (f : KeyFields) (whole : List ℕ) (g : GroupKey) (rsc : ℕ) (j : m4.the_data) (why : Reason) (r : Reply) → attempt_in s ≡ Some x → IsM4 l.akm (trial_of x) f whole j → j ≡ m4.Refused why
+pub takes_refused_m4 : (l : Ends) (psk : List ℕ) (s : AStage) (x : AnAttempt) (f : KeyFields) (whole : List ℕ) (g : GroupKey) (rsc : ℕ) (j : m4.the_data) (why : Reason) (r : Reply) → attempt_in s ≡ Some x → IsM4 l.akm (trial_of x) f whole j → j ≡ m4.Refused why
     → IsEmpty r → StepsFrom (state_of l psk s) (state_of l psk s) M4 f whole g rsc (Refused why) r
 takes_refused_m4 l psk s x f whole g rsc j why r here by judged e = λ d first a sta octets k h stands asked key uses from is fields octets_are.
     (let p = Sta sta in
     let at = under_way_by d (Ap a) p s x h here stands.stage_is in
-    let v = refused_m4 d (Ap a) p h k (trial_of x) l.akm why stands.link.akm at (judged_by l.akm (trial_of x) f k.fields k.octets whole j (m4.Refused why) judged fields octets_are by) in
+    let v = refused_m4 d (Ap a) p h k (trial_of x) l.akm why stands.ends.akm at (judged_by l.akm (trial_of x) f k.fields k.octets whole j (m4.Refused why) judged fields octets_are by) in
     steps_quiet d first a p octets k (state_of l psk s) why r h from stands e v.1 (ap (λ (m : Message). key_verdict d (Ap a) h p m k) is ∙ v.0))
 
 -- ---- accepted: the session
@@ -167,15 +169,15 @@ replaced_is p None y = refl
 replaced_is p (Some x) y = refl
 
 finished_m4 : (d : Domain) (first a : ℕ) (p : Node) (octets : List ℕ) (k : KeyMessage) (s : State) (t : Trial) (y : Keyed) (next : ℕ) (r : Reply) (h : List Act) → IsMessageFrom d (Ap a) p octets k → k.message ≡ M4 → Stands d (Ap a) p s h
-    → IsUnderWay d (Ap a) p t h → IsFinish s.link.akm t k.fields k.octets y next → IsEmpty r
-    → Steps d first (Ap a) p octets k (record { link = s.link; psk = s.psk; stage = Session y next }) Accepted (record r { verified = Some y.ptk.kck; installed = Some y }) h
+    → IsUnderWay d (Ap a) p t h → IsFinish s.ends.akm t k.fields k.octets y next → IsEmpty r
+    → Steps d first (Ap a) p octets k (record { ends = s.ends; psk = s.psk; stage = Session y next }) Accepted (record r { verified = Some y.ptk.kck; installed = Some y }) h
 finished_m4 d first a p octets k s t y next r h from is stands at w e =
     let n = Ap a in
     let had = is_some (session p h) in
     let i = inputs_by d n p y in
     let key = some_sent d n p t.agreed w.y t.m3s at.part h w.answered.some at.agreed in
     let same : Some (key_by d n p w.y.key) ≡ Some (key_by d n p y) = ap (λ (x : Keyed). Some (key_by d n p x)) (sym w.key_is) in
-    let accepted = from.verdict_is first h ∙ ap (λ (m : Message). key_verdict d n h p m k) is ∙ accepted_m4 d n p h k t s.link.akm y next stands.link.akm at w in
+    let accepted = from.verdict_is first h ∙ ap (λ (m : Message). key_verdict d n h p m k) is ∙ accepted_m4 d n p h k t s.ends.akm y next stands.ends.akm at w in
     let acts = finish_took d n p had octets k M4 Accepted r y is e in
     record {
       adds = record {
@@ -199,27 +201,27 @@ finished_m4 d first a p octets k s t y next r h from is stands at w e =
         });
       };
       stands = record {
-        link = stands.link;
+        ends = stands.ends;
         psk = stands.psk;
         stage_is = subst (λ (g : List Act). IsHeld d n p y next (add g h)) (sym acts)
             (held d n p octets (Some (frame_seal y.ptk.kck k.octets)) had y next h at.part at.is at.begun (derived_in p h at.part (key_by d n p y) at.is (key.1 ∙ same)) (next_is d n p t h at ∙ sym w.next_is));
       };
     }
 
-pub takes_finished : (l : Link) (psk : List ℕ) (s : AStage) (x : AnAttempt) (f : KeyFields) (whole : List ℕ) (g : GroupKey) (rsc : ℕ) (j : m4.the_data) (y : Keyed) (next : ℕ) (r : Reply) → attempt_in s ≡ Some x → IsM4 l.akm (trial_of x) f whole j
+pub takes_finished : (l : Ends) (psk : List ℕ) (s : AStage) (x : AnAttempt) (f : KeyFields) (whole : List ℕ) (g : GroupKey) (rsc : ℕ) (j : m4.the_data) (y : Keyed) (next : ℕ) (r : Reply) → attempt_in s ≡ Some x → IsM4 l.akm (trial_of x) f whole j
     → j ≡ m4.Accepted y next → IsEmpty r → StepsFrom (state_of l psk s) (state_of l psk (stage.Session y next)) M4 f whole g rsc Accepted (record r { verified = Some y.ptk.kck; installed = Some y })
 takes_finished l psk s x f whole g rsc j y next r here by judged e = λ d first a sta octets k h stands asked key uses from is fields octets_are.
     finished_m4 d first a (Sta sta) octets k (state_of l psk s) (trial_of x) y next r h from is stands (under_way_by d (Ap a) (Sta sta) s x h here stands.stage_is)
     (judged_by l.akm (trial_of x) f k.fields k.octets whole j (m4.Accepted y next) judged fields octets_are by) e
 
 -- an attempt became a session, whose key is that of its nonces
-pub finished_staged : (l : Link) (psk : List ℕ) (s : AStage) (x : AnAttempt) (y : Keyed) (next : ℕ) → attempt_in s ≡ Some x → IsStaged (Some y) (state_of l psk s) (state_of l psk (stage.Session y next))
-finished_staged l psk s x y next here = subst (λ (z : AStage). IsStaged (Some y) (state_of l psk z) (state_of l psk (stage.Session y next))) (sym (stage_by s x here)) (tt, tt)
+pub finished_staged : (l : Ends) (psk : List ℕ) (s : AStage) (x : AnAttempt) (y : Keyed) (next : ℕ) → attempt_in s ≡ Some x → IsStaged (Some y) (state_of l psk s) (state_of l psk (stage.Session y next))
+finished_staged l psk s x y next here = subst (λ (z : AStage). IsStaged (Some y) (state_of l psk z) (state_of l psk (stage.Session y next))) (sym (stage_by s x here)) (tt, refl)
 
-finished_key_of : (l : Link) (psk : List ℕ) (akm : Akm) (t : Trial) (f : KeyFields) (whole : List ℕ) (y : Keyed) (next : ℕ) (w : IsFinish akm t f whole y next) → IsKeyOf l psk w.y.key → IsKeyOf l psk y
+finished_key_of : (l : Ends) (psk : List ℕ) (akm : Akm) (t : Trial) (f : KeyFields) (whole : List ℕ) (y : Keyed) (next : ℕ) (w : IsFinish akm t f whole y next) → IsKeyOf l psk w.y.key → IsKeyOf l psk y
 finished_key_of l psk akm t f whole y next w is = subst (λ (z : Keyed). IsKeyOf l psk z) (sym w.key_is) is
 
-pub finished_keys : (l : Link) (psk : List ℕ) (s : AStage) (x : AnAttempt) (f : KeyFields) (whole : List ℕ) (akm : Akm) (j : m4.the_data) (y : Keyed) (next : ℕ) → attempt_in s ≡ Some x → IsM4 akm (trial_of x) f whole j → j ≡ m4.Accepted y next
+pub finished_keys : (l : Ends) (psk : List ℕ) (s : AStage) (x : AnAttempt) (f : KeyFields) (whole : List ℕ) (akm : Akm) (j : m4.the_data) (y : Keyed) (next : ℕ) → attempt_in s ≡ Some x → IsM4 akm (trial_of x) f whole j → j ≡ m4.Accepted y next
     → AreKeysOf l psk (stage_of s) → AreKeysOf l psk (stage_of (stage.Session y next))
 finished_keys l psk s x f whole akm j y next here by judged keys =
     let w : IsFinish akm (trial_of x) f whole y next = subst (λ (z : m4.the_data). IsM4 akm (trial_of x) f whole z) judged by in

@@ -21,12 +21,13 @@ use Rattle.run_journal.specs.declared.reply.Keyed.{Keyed}
 use Rattle.run_journal.specs.Replies.{IsEmpty}
 use Rattle.run_journal.specs.Questions.{attempt, session, add}
 use Rattle.group_key.specs.declared.keys.GroupKey.{GroupKey}
-use Rattle.node_frames.specs.declared.link.Link.{Link}
-use Rattle.domain_rules.specs.Reading.{KeyMessage, Reading, Keyed as KeyedReading}
+use Rattle.node_frames.specs.declared.ends.Ends.{Ends}
+use Rattle.domain_rules.specs.Reading.{KeyMessage, Keyed as KeyedReading}
 use Rattle.domain_rules.specs.Replies.{IsMessageFrom, reply_acts}
-use Rattle.domain_rules.specs.Verdict.{Facts, Knows, ComesSoFar, first_verdict, further, and_then, verdict, m4_verdict, key_verdict}
+use Rattle.domain_rules.specs.Verdict.{m4_verdict, key_verdict}
 use Rattle.domain_rules.specs.Rows.{By_refusal, sender, is_after_mic, seal_in, response}
 use Rattle.domain_rules.proofs.Parts.{apart-refused}
+use Rattle.domain_rules.proofs.Refused.{IsRefused, refused_first, quiet_seal}
 use Rattle.domain_rules.proofs.Verdicts.{unawaited-m2}
 use Rattle.authenticator.specs.declared.stage.Stage.{Stage}
 use Rattle.authenticator.specs.State.{State}
@@ -34,17 +35,10 @@ use Rattle.authenticator.specs.Stands.{Stands}
 use Rattle.authenticator.specs.Steps.{Steps, IsStaged}
 use Rattle.authenticator.specs.Views.{state_of, attempt_in}
 use Rattle.authenticator.specs.Taken.{StepsFrom}
-use Rattle.authenticator.proofs.Standing.{stands_on, none_by}
+use Rattle.authenticator.proofs.Standing.{stands_more, none_by}
 use Rattle.authenticator.proofs.Replying.{only_took}
 
 -- ---- refused, whatever was sealed
-
--- after that history the frame is refused so, and this was sealed
-pub record IsRefused (d : Domain) (first : ℕ) (n : Node) (h : List Act) (r : Reading) (why : Reason) (s : Option Seal) : Type 0 where
-  pub facts : Facts
-  pub knows : Knows d first n h r facts
-  pub refused : verdict d first n h r facts ≡ Refused why
-  pub seal_is : s ≡ cond (is_after_mic why) (seal_in d n h r) None
 
 -- no message is answered with a response
 no_response : (d : Domain) (a : ℕ) (p : Node) (m : Message) (why : Reason) → response d (Ap a) (Some p) (kind.Key m) why ≡ []
@@ -74,38 +68,21 @@ steps_refused d first a p octets k s why seal r h w stands acts refused = record
           (silent d a p (sender d (Ap a) (KeyedReading k)) k.message why w.from);
     });
   };
-  stands = subst (λ (g : List Act). Stands d (Ap a) p s (add g h)) (sym acts) (stands_on d (Ap a) p s (Took (Some p) octets (kind.Key k.message) (Refused why) seal) h (apart-refused p (Some p) octets (kind.Key k.message) why seal) stands);
+  stands = subst (λ (g : List Act). Stands d (Ap a) p s (add g h)) (sym acts) (stands_more d (Ap a) p s (Took (Some p) octets (kind.Key k.message) (Refused why) seal) h (apart-refused p (Some p) octets (kind.Key k.message) why seal) stands);
 }
 
 -- ---- refused by the frame and the history alone
-
-pub no_facts : Facts
-no_facts = record { requested = None; unwrapped = None; data_ = None }
-
-refused_knows : (d : Domain) (first : ℕ) (n : Node) (h : List Act) (r : Reading) (facts : Facts) (why : Reason) → first_verdict d first n h r ≡ Refused why → Knows d first n h r facts
-refused_knows d first n h r facts why refused = λ far. absurd (subst ComesSoFar refused far)
-
-first_refused : (d : Domain) (first : ℕ) (n : Node) (h : List Act) (r : Reading) (facts : Facts) (why : Reason) → first_verdict d first n h r ≡ Refused why → verdict d first n h r facts ≡ Refused why
-first_refused d first n h r facts why refused = ap (λ (o : Outcome). and_then o (further d.akm r facts)) refused
-
-quiet_seal : (why : Reason) (s : Option Seal) → is_after_mic why ≡ false → None ≡ cond (is_after_mic why) s None
-quiet_seal why s before = rw before refl
 
 pub steps_quiet : (d : Domain) (first a : ℕ) (p : Node) (octets : List ℕ) (k : KeyMessage) (s : State) (why : Reason) (r : Reply) (h : List Act) → IsMessageFrom d (Ap a) p octets k → Stands d (Ap a) p s h → IsEmpty r → is_after_mic why ≡ false
     → key_verdict d (Ap a) h p k.message k ≡ Refused why → Steps d first (Ap a) p octets k s (Refused why) r h
 steps_quiet d first a p octets k s why r h w stands e before refused =
     let first_is = w.verdict_is first h ∙ refused in
     steps_refused d first a p octets k s why None r h w stands (only_took d (Ap a) p (is_some (session p h)) octets k (Refused why) r None e.len e.verified e.derived e.installed e.gtk)
-    (record {
-      facts = no_facts;
-      knows = refused_knows d first (Ap a) h (KeyedReading k) no_facts why first_is;
-      refused = first_refused d first (Ap a) h (KeyedReading k) no_facts why first_is;
-      seal_is = quiet_seal why (seal_in d (Ap a) h (KeyedReading k)) before;
-    })
+    (refused_first d first (Ap a) h (KeyedReading k) why None first_is (quiet_seal why (seal_in d (Ap a) h (KeyedReading k)) before))
 
 -- ---- without an attempt nothing is awaited
 
-pub no_m2 : (l : Link) (psk : List ℕ) (s : Stage) (f : KeyFields) (whole : List ℕ) (g : GroupKey) (rsc : ℕ) (r : Reply) → attempt_in s ≡ None → IsEmpty r
+pub no_m2 : (l : Ends) (psk : List ℕ) (s : Stage) (f : KeyFields) (whole : List ℕ) (g : GroupKey) (rsc : ℕ) (r : Reply) → attempt_in s ≡ None → IsEmpty r
     → StepsFrom (state_of l psk s) (state_of l psk s) M2 f whole g rsc (Refused reason.Unawaited) r
 no_m2 l psk s f whole g rsc r none e = λ d first a sta octets k h stands asked key uses from is fields octets_are.
     steps_quiet d first a (Sta sta) octets k (state_of l psk s) reason.Unawaited r h from stands e refl
@@ -114,7 +91,7 @@ no_m2 l psk s f whole g rsc r none e = λ d first a sta octets k h stands asked 
 unawaited-m4 : (d : Domain) (h : List Act) (p : Node) (k : KeyMessage) → attempt p h ≡ None → m4_verdict d h p k ≡ Refused reason.Unawaited
 unawaited-m4 d h p k none = rw none refl
 
-pub no_m4 : (l : Link) (psk : List ℕ) (s : Stage) (f : KeyFields) (whole : List ℕ) (g : GroupKey) (rsc : ℕ) (r : Reply) → attempt_in s ≡ None → IsEmpty r
+pub no_m4 : (l : Ends) (psk : List ℕ) (s : Stage) (f : KeyFields) (whole : List ℕ) (g : GroupKey) (rsc : ℕ) (r : Reply) → attempt_in s ≡ None → IsEmpty r
     → StepsFrom (state_of l psk s) (state_of l psk s) M4 f whole g rsc (Refused reason.Unawaited) r
 no_m4 l psk s f whole g rsc r none e = λ d first a sta octets k h stands asked key uses from is fields octets_are.
     steps_quiet d first a (Sta sta) octets k (state_of l psk s) reason.Unawaited r h from stands e refl
@@ -127,7 +104,7 @@ other_message d a h p M2 k other last = absurd (other refl)
 other_message d a h p M4 k other last = absurd (last refl)
 other_message d a h p m k other last = refl
 
-pub no_other : (l : Link) (psk : List ℕ) (s : Stage) (m : Message) (f : KeyFields) (whole : List ℕ) (g : GroupKey) (rsc : ℕ) (r : Reply) → (m ≡ M2 → ⊥) → (m ≡ M4 → ⊥) → IsEmpty r
+pub no_other : (l : Ends) (psk : List ℕ) (s : Stage) (m : Message) (f : KeyFields) (whole : List ℕ) (g : GroupKey) (rsc : ℕ) (r : Reply) → (m ≡ M2 → ⊥) → (m ≡ M4 → ⊥) → IsEmpty r
     → StepsFrom (state_of l psk s) (state_of l psk s) m f whole g rsc (Refused reason.Unawaited) r
 no_other l psk s m f whole g rsc r other last e = λ d first a sta octets k h stands asked key uses from is fields octets_are.
     steps_quiet d first a (Sta sta) octets k (state_of l psk s) reason.Unawaited r h from stands e refl

@@ -16,8 +16,8 @@ use Rattle.run_journal.specs.declared.reply.Keyed.{Keyed}
 use Rattle.run_journal.specs.Replies.{IsEmpty, IsWhole}
 use Rattle.domain_rules.specs.Frames.{frame_seal}
 use Rattle.domain_rules.specs.Reading.{KeyMessage}
-use Rattle.domain_rules.specs.Replies.{inputs_by, replaced_acts, reply_acts}
-use Rattle.authenticator.specs.Judged.{IsAnswer}
+use Rattle.domain_rules.specs.Replies.{inputs_by, replaced_acts, sent_acts, reply_acts}
+use Rattle.authenticator.specs.Judged.{TellsDerived}
 
 -- the message by its name
 took_as : (p : Node) (octets : List ℕ) (m n : Message) (o : Outcome) (s : Option Seal) (rest : List Act) → m ≡ n → Took (Some p) octets (kind.Key m) o s ∷ rest ≡ Took (Some p) octets (kind.Key n) o s ∷ rest
@@ -29,16 +29,16 @@ pub only_took : (d : Domain) (n p : Node) (had : Bool) (octets : List ℕ) (k : 
 only_took d n p true octets k o r v len verified derived installed gtk = rw (len, verified, derived, installed, gtk) refl
 only_took d n p false octets k o r v len verified derived installed gtk = rw (len, verified, derived, installed, gtk) refl
 
-answer_acts : (d : Domain) (n p : Node) (had : Bool) (octets : List ℕ) (k : KeyMessage) (o : Outcome) (r : Reply) (y : Keyed) (act : Act) → IsAnswer p y act r
+answer_acts : (d : Domain) (n p : Node) (had : Bool) (octets : List ℕ) (k : KeyMessage) (o : Outcome) (r : Reply) (y : Keyed) (act : Act) → TellsDerived y r → sent_acts p r ≡ act ∷ []
     → reply_acts d n p had octets k o r ≡ Took (Some p) octets (kind.Key k.message) o (Some (frame_seal y.ptk.kck k.octets)) ∷ Derived p (inputs_by d n p y) y.ptk ∷ act ∷ []
-answer_acts d n p true octets k o r y act w = rw (w.verified, w.derived, w.installed, w.gtk, w.sends) refl
-answer_acts d n p false octets k o r y act w = rw (w.verified, w.derived, w.installed, w.gtk, w.sends) refl
+answer_acts d n p true octets k o r y act told sends = rw (told.verified, told.derived, told.installed, told.gtk, sends) refl
+answer_acts d n p false octets k o r y act told sends = rw (told.verified, told.derived, told.installed, told.gtk, sends) refl
 
 -- the key was derived, and something is sent
-pub answer_took : (d : Domain) (n p : Node) (had : Bool) (octets : List ℕ) (k : KeyMessage) (m : Message) (o : Outcome) (r : Reply) (y : Keyed) (act : Act) → k.message ≡ m → IsAnswer p y act r
+pub answer_took : (d : Domain) (n p : Node) (had : Bool) (octets : List ℕ) (k : KeyMessage) (m : Message) (o : Outcome) (r : Reply) (y : Keyed) (act : Act) → k.message ≡ m → TellsDerived y r → sent_acts p r ≡ act ∷ []
     → reply_acts d n p had octets k o r ≡ Took (Some p) octets (kind.Key m) o (Some (frame_seal y.ptk.kck k.octets)) ∷ Derived p (inputs_by d n p y) y.ptk ∷ act ∷ []
-answer_took d n p had octets k m o r y act is w =
-    answer_acts d n p had octets k o r y act w ∙ took_as p octets k.message m o (Some (frame_seal y.ptk.kck k.octets)) (Derived p (inputs_by d n p y) y.ptk ∷ act ∷ []) is
+answer_took d n p had octets k m o r y act is told sends =
+    answer_acts d n p had octets k o r y act told sends ∙ took_as p octets k.message m o (Some (frame_seal y.ptk.kck k.octets)) (Derived p (inputs_by d n p y) y.ptk ∷ act ∷ []) is
 
 -- what an installed key adds to the taking
 abbrev pub finish_acts : Domain → Node → Node → Bool → Keyed → List Act

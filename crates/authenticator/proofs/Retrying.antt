@@ -20,10 +20,11 @@ use Rattle.run_journal.specs.declared.acts.Act.TheVariants.{Closed, Sent, GaveUp
 use Rattle.run_journal.specs.declared.reply.Reply.{Reply}
 use Rattle.run_journal.specs.Acts.{Derivation}
 use Rattle.run_journal.specs.Questions.{attempt, derivation, before_sent, add}
-use Rattle.node_frames.specs.declared.link.Link.{Link}
-use Rattle.node_frames.specs.Carried.{carried_key}
+use Rattle.node_frames.specs.declared.ends.Ends.{Ends}
+use Rattle.group_key.specs.Holds.{carried}
+use Rattle.group_key.proofs.Drawing.{last_newest}
 use Rattle.domain_rules.specs.Frames.{frame_seal, in_data, m3_frame, sent_m1, sent_m3}
-use Rattle.domain_rules.specs.Replies.{inputs_by}
+use Rattle.domain_rules.specs.Replies.{inputs_by, key_by}
 use Rattle.domain_rules.specs.Verdict.{own, by_connect, has_heard, replay_counter}
 use Rattle.domain_rules.specs.Counters.{sent_count, next_in_attempt}
 use Rattle.domain_rules.specs.GroupKeys.{newest, newest_uses}
@@ -35,14 +36,15 @@ use Rattle.authenticator.specs.declared.stage.Stage.{Stage as AStage}
 use Rattle.authenticator.specs.declared.stage.Stage.TheVariants as stage
 use Rattle.authenticator.specs.declared.retry.Again.TheVariants as again
 use Rattle.authenticator.specs.State.{State, Attempt, Trial, Agreed}
-use Rattle.authenticator.specs.Stands.{counters, key_by, IsAgreed, IsUnderWay}
+use Rattle.authenticator.specs.Stands.{counters, IsAgreed, IsUnderWay}
 use Rattle.authenticator.specs.Steps.{Retries}
 use Rattle.authenticator.specs.Views.{trial_of, stage_of, state_of, attempt_in, counted, with_counts, IsSound, AreKeysOf}
 use Rattle.authenticator.specs.Judged.{IsM1Again, IsM3Again, IsAgain}
 use Rattle.authenticator.specs.Taken.{RetriesFrom, IsStagedBy}
-use Rattle.authenticator.proofs.Keys.{key_is, agreed_key, own_address, peer_address}
+use Rattle.node_frames.proofs.EndsKeys.{key_is}
+use Rattle.authenticator.proofs.Keys.{agreed_key, own_address, peer_address}
 use Rattle.authenticator.proofs.Counting.{count_is, replay_plain}
-use Rattle.authenticator.proofs.Standing.{agreed_on, stands_on, none_by, stage_by}
+use Rattle.authenticator.proofs.Standing.{agreed_on, stands_more, none_by, stage_by}
 use Rattle.authenticator.proofs.Agreeing.{m3_counter, next_is, none_sent, some_sent, cons_is}
 use Rattle.authenticator.proofs.Verified.{IsOn}
 use Rattle.authenticator.proofs.Answering.{on_by}
@@ -71,13 +73,13 @@ retry_m1 d n p h a at none =
     says e f = rw (e, f) refl
 
 retry_m3 : (d : Domain) (n p : Node) (h : List Act) (a : Trial) (y : Agreed) (at : IsUnderWay d n p a h) → a.agreed ≡ Some y → IsAgreed d n p (Some y) a.m3s at.part h
-    → retry_acts d n h p (attempt p h) ≡ again_or_give_up p M3 (sent_count p M3 at.part) (sent_m3 d n p (inputs_by d n p y.key) (suc (a.m1s + a.m3s)) (carried_key y.group) y.rsc)
+    → retry_acts d n h p (attempt p h) ≡ again_or_give_up p M3 (sent_count p M3 at.part) (sent_m3 d n p (inputs_by d n p y.key) (suc (a.m1s + a.m3s)) (carried y.group) y.rsc)
 retry_m3 d n p h a y at is has =
     retry_in d n p h at.part true at.is at.begun (at.answered ∙ ap (λ (o : Option Agreed). is_some o) is)
-    ∙ says at.part (sent_count p M3 at.part) (derivation p at.part) (before_sent p (kind.Key M3) h) has.2.past has.1 has.2.is (next_is d n p a h at) has.2.key has.2.uses
+    ∙ says at.part (sent_count p M3 at.part) (derivation p at.part) (before_sent p (kind.Key M3) h) has.2.past has.1 has.2.is (next_is d n p a h at) (last_newest y.group has.2.past has.2.key) has.2.uses
   where
-    says : (part : List Act) (sends : ℕ) (o : Option Derivation) (b : Option (List Act)) (past : List Act) → o ≡ Some (key_by d n p y.key) → b ≡ Some past → next_in_attempt p part ≡ suc (a.m1s + a.m3s) → newest past ≡ carried_key y.group → newest_uses past ≡ y.rsc
-        → again_or_give_up p M3 sends (m3_again d n h p part o b) ≡ again_or_give_up p M3 sends (sent_m3 d n p (inputs_by d n p y.key) (suc (a.m1s + a.m3s)) (carried_key y.group) y.rsc)
+    says : (part : List Act) (sends : ℕ) (o : Option Derivation) (b : Option (List Act)) (past : List Act) → o ≡ Some (key_by d n p y.key) → b ≡ Some past → next_in_attempt p part ≡ suc (a.m1s + a.m3s) → newest past ≡ carried y.group → newest_uses past ≡ y.rsc
+        → again_or_give_up p M3 sends (m3_again d n h p part o b) ≡ again_or_give_up p M3 sends (sent_m3 d n p (inputs_by d n p y.key) (suc (a.m1s + a.m3s)) (carried y.group) y.rsc)
     says part sends o b past derives first next key uses = rw (derives, first, next, key, uses) refl
 
 -- ---- how the attempt goes on
@@ -135,65 +137,65 @@ same_counts a e f = rw (e, f) refl
 -- ---- sent once more
 
 -- after these acts the attempt goes on
-abbrev Retried : Domain → ℕ → Node → Link → List ℕ → Trial → ℕ → ℕ → Reply → List Act → Type 0
-Retried d a p l psk t m1s m3s r h = Retries d (Ap a) p (record { link = l; psk = psk; stage = Attempt (counted m1s m3s t) }) retried.Sent r h
+abbrev Retried : Domain → ℕ → Node → Ends → List ℕ → Trial → ℕ → ℕ → Reply → List Act → Type 0
+Retried d a p l psk t m1s m3s r h = Retries d (Ap a) p (record { ends = l; psk = psk; stage = Attempt (counted m1s m3s t) }) retried.Sent r h
 
-retries_m1 : (d : Domain) (a : ℕ) (p : Node) (l : Link) (psk : List ℕ) (t : Trial) (r : Reply) (m1s m3s : ℕ) (h : List Act) → IsOn d a p l psk t h → IsM1Again l t r m1s m3s → Retried d a p l psk t m1s m3s r h
+retries_m1 : (d : Domain) (a : ℕ) (p : Node) (l : Ends) (psk : List ℕ) (t : Trial) (r : Reply) (m1s m3s : ℕ) (h : List Act) → IsOn d a p l psk t h → IsM1Again l t r m1s m3s → Retried d a p l psk t m1s m3s r h
 retries_m1 d a p l psk t r m1s m3s h on w =
     let n = Ap a in
     let counter = suc (t.m1s + t.m3s) in
-    let sends = w.sends d n p on.link in
+    let sends = w.sends d n p on.ends in
     let octets = in_data d n p (frame_octets (sent_fields M1 d.akm counter t.anonce 0 [])) in
-    let goes = sent_one d n p h t octets on.trial w.none (replay_plain d n p (sent_fields M1 d.akm counter t.anonce 0 []) (own_address d n p l on.link w.next.own) (peer_address d n p l on.link w.next.peer) w.next.low) in
+    let goes = sent_one d n p h t octets on.trial w.none (replay_plain d n p (sent_fields M1 d.akm counter t.anonce 0 []) (own_address d n p l on.ends w.next.own) (peer_address d n p l on.ends w.next.peer) w.next.low) in
     record {
       adds = retry_m1 d n p h t on.trial w.none ∙ again_few p M1 (sent_count p M1 on.trial.part) t.m1s (sent_m1 d n p counter t.anonce) (count_is p M1 on.trial.part 0 t.m1s on.trial.m1_offers) w.few ∙ sym sends;
       stands = record {
-        link = on.link;
+        ends = on.ends;
         psk = on.psk_is;
         stage_is = subst (λ (g : List Act). IsUnderWay d n p (counted m1s m3s t) (add g h)) (sym sends)
             (subst (λ (x : Trial). IsUnderWay d n p x (sent_m1 d n p counter t.anonce ∷ h)) (same_counts t (sym w.m1s_are) (sym w.m3s_are)) goes);
       };
     }
 
-retries_m3 : (d : Domain) (a : ℕ) (p : Node) (l : Link) (psk : List ℕ) (t : Trial) (r : Reply) (m1s m3s : ℕ) (h : List Act) (on : IsOn d a p l psk t h) (w : IsM3Again l t r m1s m3s) → w.y.key.ptk ≡ ptk (inputs_by d (Ap a) p w.y.key)
+retries_m3 : (d : Domain) (a : ℕ) (p : Node) (l : Ends) (psk : List ℕ) (t : Trial) (r : Reply) (m1s m3s : ℕ) (h : List Act) (on : IsOn d a p l psk t h) (w : IsM3Again l t r m1s m3s) → w.y.key.ptk ≡ ptk (inputs_by d (Ap a) p w.y.key)
     → Retried d a p l psk t m1s m3s r h
 retries_m3 d a p l psk t r m1s m3s h on w key =
     let n = Ap a in
     let y = w.y in
     let i = inputs_by d n p y.key in
     let counter = suc (t.m1s + t.m3s) in
-    let sends = w.sends d n p i on.link key refl in
-    let frame = m3_frame d i counter (carried_key y.group) y.rsc in
+    let sends = w.sends d n p i on.ends key refl in
+    let frame = m3_frame d i counter (carried y.group) y.rsc in
     let has = some_sent d n p t.agreed y t.m3s on.trial.part h w.some on.trial.agreed in
     let goes = sent_three d n p h t y (in_data d n p frame) (Some (frame_seal (ptk i).kck frame)) on.trial w.some has
-    (m3_counter d n p i counter y.group y.rsc (own_address d n p l on.link w.next.own) (peer_address d n p l on.link w.next.peer) w.next.low) in
+    (m3_counter d n p i counter y.group y.rsc (own_address d n p l on.ends w.next.own) (peer_address d n p l on.ends w.next.peer) w.next.low) in
     record {
       adds = retry_m3 d n p h t y on.trial w.some has
-          ∙ again_few p M3 (sent_count p M3 on.trial.part) t.m3s (sent_m3 d n p i counter (carried_key y.group) y.rsc) (count_is p M3 on.trial.part t.m1s t.m3s on.trial.m3_offers) w.few ∙ sym sends;
+          ∙ again_few p M3 (sent_count p M3 on.trial.part) t.m3s (sent_m3 d n p i counter (carried y.group) y.rsc) (count_is p M3 on.trial.part t.m1s t.m3s on.trial.m3_offers) w.few ∙ sym sends;
       stands = record {
-        link = on.link;
+        ends = on.ends;
         psk = on.psk_is;
         stage_is = subst (λ (g : List Act). IsUnderWay d n p (counted m1s m3s t) (add g h)) (sym sends)
-            (subst (λ (x : Trial). IsUnderWay d n p x (sent_m3 d n p i counter (carried_key y.group) y.rsc ∷ h)) (same_counts t (sym w.m1s_are) (sym w.m3s_are)) goes);
+            (subst (λ (x : Trial). IsUnderWay d n p x (sent_m3 d n p i counter (carried y.group) y.rsc ∷ h)) (same_counts t (sym w.m1s_are) (sym w.m3s_are)) goes);
       };
     }
 
-retries_by : (d : Domain) (a : ℕ) (p : Node) (l : Link) (psk : List ℕ) (t : Trial) (r : Reply) (m1s m3s : ℕ) (h : List Act) → IsOn d a p l psk t h → ((y : Agreed) → t.agreed ≡ Some y → y.key.ptk ≡ ptk (inputs_by d (Ap a) p y.key))
+retries_by : (d : Domain) (a : ℕ) (p : Node) (l : Ends) (psk : List ℕ) (t : Trial) (r : Reply) (m1s m3s : ℕ) (h : List Act) → IsOn d a p l psk t h → ((y : Agreed) → t.agreed ≡ Some y → y.key.ptk ≡ ptk (inputs_by d (Ap a) p y.key))
     → IsM1Again l t r m1s m3s ⊎ IsM3Again l t r m1s m3s → Retried d a p l psk t m1s m3s r h
 retries_by d a p l psk t r m1s m3s h on key (inl w) = retries_m1 d a p l psk t r m1s m3s h on w
 retries_by d a p l psk t r m1s m3s h on key (inr w) = retries_m3 d a p l psk t r m1s m3s h on w (key w.y w.some)
 
 -- the keys of a sound attempt
-sound_key : (d : Domain) (a : ℕ) (p : Node) (l : Link) (psk : List ℕ) (s : AStage) (x : AnAttempt) (h : List Act) → attempt_in s ≡ Some x → IsSound (state_of l psk s) → IsOn d a p l psk (trial_of x) h
+sound_key : (d : Domain) (a : ℕ) (p : Node) (l : Ends) (psk : List ℕ) (s : AStage) (x : AnAttempt) (h : List Act) → attempt_in s ≡ Some x → IsSound (state_of l psk s) → IsOn d a p l psk (trial_of x) h
     → (y : Agreed) → x.agreed ≡ Some y → y.key.ptk ≡ ptk (inputs_by d (Ap a) p y.key)
 sound_key d a p l psk s x h here sound on y is =
     let has : AreKeysOf l psk (stage_of (stage.Attempt x)) = subst (λ (z : AStage). AreKeysOf l psk (stage_of z)) (stage_by s x here) sound.keys in
-    key_is d a p l psk y.key on.link on.psk_is on.suite (agreed_key l psk x.agreed y is has)
+    key_is d (Ap a) p l psk y.key on.ends on.psk_is on.suite (agreed_key l psk x.agreed y is has)
 
-sent_stage : (l : Link) (psk : List ℕ) (s new : AStage) (x : AnAttempt) (m1s m3s : ℕ) → attempt_in s ≡ Some x → new ≡ with_counts m1s m3s s → record { link = l; psk = psk; stage = Attempt (counted m1s m3s (trial_of x)) } ≡ state_of l psk new
+sent_stage : (l : Ends) (psk : List ℕ) (s new : AStage) (x : AnAttempt) (m1s m3s : ℕ) → attempt_in s ≡ Some x → new ≡ with_counts m1s m3s s → record { ends = l; psk = psk; stage = Attempt (counted m1s m3s (trial_of x)) } ≡ state_of l psk new
 sent_stage l psk s new x m1s m3s here now = sym (ap (state_of l psk) (now ∙ ap (with_counts m1s m3s) (stage_by s x here)))
 
-pub retries_sent : (l : Link) (psk : List ℕ) (s new : AStage) (x : AnAttempt) (j : again.the_data) (m1s m3s : ℕ) (r : Reply) → attempt_in s ≡ Some x → IsSound (state_of l psk s) → IsAgain l (trial_of x) r j → j ≡ again.Sent m1s m3s → new ≡ with_counts m1s m3s s
+pub retries_sent : (l : Ends) (psk : List ℕ) (s new : AStage) (x : AnAttempt) (j : again.the_data) (m1s m3s : ℕ) (r : Reply) → attempt_in s ≡ Some x → IsSound (state_of l psk s) → IsAgain l (trial_of x) r j → j ≡ again.Sent m1s m3s → new ≡ with_counts m1s m3s s
     → RetriesFrom (state_of l psk s) (state_of l psk new) retried.Sent r
 retries_sent l psk s new x j m1s m3s r here sound by judged now = λ d a sta h stands asked.
     (let p = Sta sta in
@@ -202,20 +204,20 @@ retries_sent l psk s new x j m1s m3s r here sound by judged now = λ d a sta h s
     (retries_by d a p l psk (trial_of x) r m1s m3s h on (sound_key d a p l psk s x h here sound on) (subst (λ (z : again.the_data). IsAgain l (trial_of x) r z) judged by)))
 
 -- an attempt stays one
-counts_staged : (l : Link) (psk : List ℕ) (s : AStage) (x : AnAttempt) (m1s m3s : ℕ) → s ≡ stage.Attempt x → IsStagedBy retried.Sent (state_of l psk s) (state_of l psk (with_counts m1s m3s s))
+counts_staged : (l : Ends) (psk : List ℕ) (s : AStage) (x : AnAttempt) (m1s m3s : ℕ) → s ≡ stage.Attempt x → IsStagedBy retried.Sent (state_of l psk s) (state_of l psk (with_counts m1s m3s s))
 counts_staged l psk s x m1s m3s is = subst (λ (z : AStage). IsStagedBy retried.Sent (state_of l psk z) (state_of l psk (with_counts m1s m3s z))) (sym is) (tt, tt)
 
-pub sent_staged : (l : Link) (psk : List ℕ) (s new : AStage) (x : AnAttempt) (m1s m3s : ℕ) → attempt_in s ≡ Some x → new ≡ with_counts m1s m3s s → IsStagedBy retried.Sent (state_of l psk s) (state_of l psk new)
+pub sent_staged : (l : Ends) (psk : List ℕ) (s new : AStage) (x : AnAttempt) (m1s m3s : ℕ) → attempt_in s ≡ Some x → new ≡ with_counts m1s m3s s → IsStagedBy retried.Sent (state_of l psk s) (state_of l psk new)
 sent_staged l psk s new x m1s m3s here now =
     subst (λ (z : AStage). IsStagedBy retried.Sent (state_of l psk s) (state_of l psk z)) (sym now) (counts_staged l psk s x m1s m3s (stage_by s x here))
 
 -- with its keys
-counts_keys : (l : Link) (psk : List ℕ) (s : AStage) (m1s m3s : ℕ) → AreKeysOf l psk (stage_of s) → AreKeysOf l psk (stage_of (with_counts m1s m3s s))
+counts_keys : (l : Ends) (psk : List ℕ) (s : AStage) (m1s m3s : ℕ) → AreKeysOf l psk (stage_of s) → AreKeysOf l psk (stage_of (with_counts m1s m3s s))
 counts_keys l psk (stage.Attempt x) m1s m3s keys = keys
 counts_keys l psk (stage.Session key next) m1s m3s keys = keys
 counts_keys l psk stage.GivenUp m1s m3s keys = keys
 
-pub sent_keys : (l : Link) (psk : List ℕ) (s new : AStage) (m1s m3s : ℕ) → new ≡ with_counts m1s m3s s → AreKeysOf l psk (stage_of s) → AreKeysOf l psk (stage_of new)
+pub sent_keys : (l : Ends) (psk : List ℕ) (s new : AStage) (m1s m3s : ℕ) → new ≡ with_counts m1s m3s s → AreKeysOf l psk (stage_of s) → AreKeysOf l psk (stage_of new)
 sent_keys l psk s new m1s m3s now keys = subst (λ (z : AStage). AreKeysOf l psk (stage_of z)) (sym now) (counts_keys l psk s m1s m3s keys)
 
 -- ---- given up
@@ -224,33 +226,33 @@ agreed_some : (o : Option Agreed) → is_some o ≡ true → (y : Agreed) × (o 
 agreed_some None is = absurd (cc is)
 agreed_some (Some y) is = (y, refl)
 
-given_acts : (d : Domain) (n p : Node) (h : List Act) (l : Link) (t : Trial) (r : Reply) (m : Message) → IsUnderWay d n p t h → IsAgain l t r (again.GivenUp m) → retry_acts d n h p (attempt p h) ≡ GaveUp p m ∷ Closed p OfAttempt ∷ []
+given_acts : (d : Domain) (n p : Node) (h : List Act) (l : Ends) (t : Trial) (r : Reply) (m : Message) → IsUnderWay d n p t h → IsAgain l t r (again.GivenUp m) → retry_acts d n h p (attempt p h) ≡ GaveUp p m ∷ Closed p OfAttempt ∷ []
 given_acts d n p h l t r M1 at w = retry_m1 d n p h t at w.0 ∙ again_many p M1 (sent_count p M1 at.part) t.m1s (sent_m1 d n p (suc (t.m1s + t.m3s)) t.anonce) (count_is p M1 at.part 0 t.m1s at.m1_offers) w.1
 given_acts d n p h l t r M3 at w =
     let y = agreed_some t.agreed w.0 in
     retry_m3 d n p h t y.0 at y.1 (some_sent d n p t.agreed y.0 t.m3s at.part h y.1 at.agreed)
-    ∙ again_many p M3 (sent_count p M3 at.part) t.m3s (sent_m3 d n p (inputs_by d n p y.0.key) (suc (t.m1s + t.m3s)) (carried_key y.0.group) y.0.rsc) (count_is p M3 at.part t.m1s t.m3s at.m3_offers) w.1
+    ∙ again_many p M3 (sent_count p M3 at.part) t.m3s (sent_m3 d n p (inputs_by d n p y.0.key) (suc (t.m1s + t.m3s)) (carried y.0.group) y.0.rsc) (count_is p M3 at.part t.m1s t.m3s at.m3_offers) w.1
 given_acts d n p h l t r m at w = absurd w
 
 given_none : (sta : ℕ) (m : Message) (h : List Act) → attempt (Sta sta) (Closed (Sta sta) OfAttempt ∷ GaveUp (Sta sta) m ∷ h) ≡ None
 given_none sta m h = attempt_ends (Sta sta) (Closed (Sta sta) OfAttempt) (GaveUp (Sta sta) m ∷ h) refl (same-refl (Sta sta))
 
-pub retries_given_up : (l : Link) (psk : List ℕ) (s : AStage) (x : AnAttempt) (j : again.the_data) (m : Message) (r : Reply) → attempt_in s ≡ Some x → IsSound (state_of l psk s) → IsAgain l (trial_of x) r j → j ≡ again.GivenUp m
+pub retries_given_up : (l : Ends) (psk : List ℕ) (s : AStage) (x : AnAttempt) (j : again.the_data) (m : Message) (r : Reply) → attempt_in s ≡ Some x → IsSound (state_of l psk s) → IsAgain l (trial_of x) r j → j ≡ again.GivenUp m
     → RetriesFrom (state_of l psk s) (state_of l psk stage.GivenUp) retried.GaveUp (record r { kind = kind.Key m })
 retries_given_up l psk s x j m r here sound by judged = λ d a sta h stands asked.
     (let on = on_by d a (Sta sta) l psk s x h here sound stands in
     record {
       adds = given_acts d (Ap a) (Sta sta) h l (trial_of x) r m on.trial (subst (λ (z : again.the_data). IsAgain l (trial_of x) r z) judged by);
-      stands = record { link = on.link; psk = on.psk_is; stage_is = given_none sta m h };
+      stands = record { ends = on.ends; psk = on.psk_is; stage_is = given_none sta m h };
     })
 
-pub given_staged : (l : Link) (psk : List ℕ) (s : AStage) (x : AnAttempt) → attempt_in s ≡ Some x → IsStagedBy retried.GaveUp (state_of l psk s) (state_of l psk stage.GivenUp)
+pub given_staged : (l : Ends) (psk : List ℕ) (s : AStage) (x : AnAttempt) → attempt_in s ≡ Some x → IsStagedBy retried.GaveUp (state_of l psk s) (state_of l psk stage.GivenUp)
 given_staged l psk s x here = subst (λ (z : AStage). IsStagedBy retried.GaveUp (state_of l psk z) (state_of l psk stage.GivenUp)) (sym (stage_by s x here)) (tt, refl)
 
 -- ---- nothing to send
 
-pub retries_nothing : (l : Link) (psk : List ℕ) (s : AStage) (r : Reply) → attempt_in s ≡ None → RetriesFrom (state_of l psk s) (state_of l psk s) retried.Nothing r
+pub retries_nothing : (l : Ends) (psk : List ℕ) (s : AStage) (r : Reply) → attempt_in s ≡ None → RetriesFrom (state_of l psk s) (state_of l psk s) retried.Nothing r
 retries_nothing l psk s r none = λ d a sta h stands asked. record {
   adds = ap (retry_acts d (Ap a) h (Sta sta)) (none_by (Sta sta) s h none asked);
-  stands = stands_on d (Ap a) (Sta sta) (state_of l psk s) (Idle why.Nothing) h (apart-idle (Sta sta) why.Nothing) stands;
+  stands = stands_more d (Ap a) (Sta sta) (state_of l psk s) (Idle why.Nothing) h (apart-idle (Sta sta) why.Nothing) stands;
 }

@@ -19,8 +19,8 @@ use Rattle.run_journal.specs.declared.acts.Reason.{Reason}
 use Rattle.run_journal.specs.declared.acts.Reason.TheVariants as reason
 use Rattle.run_journal.specs.declared.acts.Act.{Act}
 use Rattle.run_journal.specs.declared.reply.Keyed.{Keyed}
-use Rattle.node_frames.specs.declared.link.Link.{Link}
-use Rattle.node_frames.specs.Links.{IsLink}
+use Rattle.node_frames.specs.declared.ends.Ends.{Ends}
+use Rattle.node_frames.specs.Ends.{AreEnds}
 use Rattle.domain_rules.specs.Network.{inputs, peer_of}
 use Rattle.domain_rules.specs.Reading.{KeyMessage, Keyed as KeyedReading}
 use Rattle.domain_rules.specs.Replies.{inputs_by}
@@ -30,47 +30,47 @@ use Rattle.domain_rules.specs.Rows.{sender, is_after_mic, seal_in, message_seal}
 use Rattle.domain_rules.proofs.Verdicts.{m2-in, among-one, among-none, verified-same, verified-other}
 use Rattle.authenticator.specs.State.{Trial, Agreed}
 use Rattle.authenticator.specs.Stands.{counters, IsUnderWay}
-use Rattle.authenticator.specs.Views.{key_with}
+use Rattle.node_frames.specs.PairwiseKeys.{key_with}
 use Rattle.authenticator.specs.Judged.{key_data_outcome, IsKeyDataOf, IsCounted, IsForged, IsVerified, IsRefusedM2}
-use Rattle.authenticator.proofs.Keys.{key_is, is_key_of}
+use Rattle.node_frames.proofs.EndsKeys.{key_is, is_key_of}
 use Rattle.authenticator.proofs.Counting.{last_first}
 
 -- an attempt of the access point, as an authenticator has it, is under way
-pub record IsOn (d : Domain) (a : ℕ) (p : Node) (l : Link) (psk : List ℕ) (t : Trial) (h : List Act) : Type 0 where
-  pub link : IsLink d (Ap a) p l
+pub record IsOn (d : Domain) (a : ℕ) (p : Node) (l : Ends) (psk : List ℕ) (t : Trial) (h : List Act) : Type 0 where
+  pub ends : AreEnds d (Ap a) p l
   pub psk_is : psk ≡ d.psk
   pub suite : l.akm ≢ FtPsk
   pub trial : IsUnderWay d (Ap a) p t h
 
 -- the key that both sides derive
-kck_is : (d : Domain) (a : ℕ) (p : Node) (l : Link) (psk : List ℕ) (t : Trial) (snonce : List ℕ) (h : List Act) → IsOn d a p l psk t h → (key_with l psk t.anonce snonce).ptk.kck ≡ (ptk (inputs d (Ap a) p t.anonce snonce)).kck
-kck_is d a p l psk t snonce h on = ap (λ (x : Ptk). x.kck) (key_is d a p l psk (key_with l psk t.anonce snonce) on.link on.psk_is on.suite refl)
+kck_is : (d : Domain) (a : ℕ) (p : Node) (l : Ends) (psk : List ℕ) (t : Trial) (snonce : List ℕ) (h : List Act) → IsOn d a p l psk t h → (key_with l psk t.anonce snonce).ptk.kck ≡ (ptk (inputs d (Ap a) p t.anonce snonce)).kck
+kck_is d a p l psk t snonce h on = ap (λ (x : Ptk). x.kck) (key_is d (Ap a) p l psk (key_with l psk t.anonce snonce) on.ends on.psk_is on.suite refl)
 
 pub same_mic : {x y : Akm} {u v : List ℕ} (octets : List ℕ) → x ≡ y → u ≡ v → mic x u octets ≡ mic y v octets
 same_mic octets e f = rw (e, f) refl
 
 -- ---- refusals before its MIC verified
 
-m2_by : (d : Domain) (a : ℕ) (p : Node) (l : Link) (psk : List ℕ) (t : Trial) (h : List Act) (k : KeyMessage) → IsOn d a p l psk t h → t.agreed ≡ None
+m2_by : (d : Domain) (a : ℕ) (p : Node) (l : Ends) (psk : List ℕ) (t : Trial) (h : List Act) (k : KeyMessage) → IsOn d a p l psk t h → t.agreed ≡ None
     → m2_verdict d (Ap a) h p k ≡ among (counters 0 t.m1s) k.fields.counter (verified d.akm (ptk (inputs d (Ap a) p t.anonce k.fields.nonce)).kck k Accepted)
 m2_by d a p l psk t h k on none =
     m2-in d (Ap a) h p k on.trial.part false (counters 0 t.m1s) t.anonce on.trial.is on.trial.begun (on.trial.answered ∙ ap (λ (o : Option Agreed). is_some o) none) on.trial.m1_offers on.trial.nonce
 
-answered_m2 : (d : Domain) (a : ℕ) (p : Node) (l : Link) (psk : List ℕ) (t : Trial) (h : List Act) (k : KeyMessage) → IsOn d a p l psk t h → is_some t.agreed ≡ true → m2_verdict d (Ap a) h p k ≡ Refused reason.Unawaited
+answered_m2 : (d : Domain) (a : ℕ) (p : Node) (l : Ends) (psk : List ℕ) (t : Trial) (h : List Act) (k : KeyMessage) → IsOn d a p l psk t h → is_some t.agreed ≡ true → m2_verdict d (Ap a) h p k ≡ Refused reason.Unawaited
 answered_m2 d a p l psk t h k on some = m2-in d (Ap a) h p k on.trial.part true (counters 0 t.m1s) t.anonce on.trial.is on.trial.begun (on.trial.answered ∙ some) on.trial.m1_offers on.trial.nonce
 
-counted_m2 : (d : Domain) (a : ℕ) (p : Node) (l : Link) (psk : List ℕ) (t : Trial) (h : List Act) (k : KeyMessage) (last : ℕ) → IsOn d a p l psk t h → IsCounted t k.fields last → m2_verdict d (Ap a) h p k ≡ Refused (reason.Counter last)
+counted_m2 : (d : Domain) (a : ℕ) (p : Node) (l : Ends) (psk : List ℕ) (t : Trial) (h : List Act) (k : KeyMessage) (last : ℕ) → IsOn d a p l psk t h → IsCounted t k.fields last → m2_verdict d (Ap a) h p k ≡ Refused (reason.Counter last)
 counted_m2 d a p l psk t h k last on w =
     m2_by d a p l psk t h k on w.none ∙ among-none (counters 0 t.m1s) k.fields.counter (verified d.akm (ptk (inputs d (Ap a) p t.anonce k.fields.nonce)).kck k Accepted) w.offer
     ∙ ap (λ (x : ℕ). Refused (reason.Counter x)) (last_first t.m1s ∙ sym w.is)
 
-forged_m2 : (d : Domain) (a : ℕ) (p : Node) (l : Link) (psk : List ℕ) (t : Trial) (h : List Act) (k : KeyMessage) → IsOn d a p l psk t h → IsForged l psk t k.fields k.octets → m2_verdict d (Ap a) h p k ≡ Refused reason.Mic
+forged_m2 : (d : Domain) (a : ℕ) (p : Node) (l : Ends) (psk : List ℕ) (t : Trial) (h : List Act) (k : KeyMessage) → IsOn d a p l psk t h → IsForged l psk t k.fields k.octets → m2_verdict d (Ap a) h p k ≡ Refused reason.Mic
 forged_m2 d a p l psk t h k on w =
     m2_by d a p l psk t h k on w.awaited.none
     ∙ among-one (counters 0 t.m1s) k.fields.counter (verified d.akm (ptk (inputs d (Ap a) p t.anonce k.fields.nonce)).kck k Accepted) w.awaited.offer
-    ∙ verified-other d.akm (ptk (inputs d (Ap a) p t.anonce k.fields.nonce)).kck k Accepted (λ same. w.other (same ∙ sym (same_mic k.octets on.link.akm (kck_is d a p l psk t k.fields.nonce h on))))
+    ∙ verified-other d.akm (ptk (inputs d (Ap a) p t.anonce k.fields.nonce)).kck k Accepted (λ same. w.other (same ∙ sym (same_mic k.octets on.ends.akm (kck_is d a p l psk t k.fields.nonce h on))))
 
-pub refused_m2 : (d : Domain) (a : ℕ) (p : Node) (l : Link) (psk : List ℕ) (t : Trial) (h : List Act) (k : KeyMessage) (why : Reason) → IsOn d a p l psk t h → IsRefusedM2 l psk t k.fields k.octets why
+pub refused_m2 : (d : Domain) (a : ℕ) (p : Node) (l : Ends) (psk : List ℕ) (t : Trial) (h : List Act) (k : KeyMessage) (why : Reason) → IsOn d a p l psk t h → IsRefusedM2 l psk t k.fields k.octets why
     → (m2_verdict d (Ap a) h p k ≡ Refused why) × (is_after_mic why ≡ false)
 refused_m2 d a p l psk t h k reason.Unawaited on w = (answered_m2 d a p l psk t h k on w, refl)
 refused_m2 d a p l psk t h k (reason.Counter last) on w = (counted_m2 d a p l psk t h k last on w, refl)
@@ -79,19 +79,19 @@ refused_m2 d a p l psk t h k why on w = absurd w
 
 -- ---- its MIC verified
 
-pub accepted_m2 : (d : Domain) (a : ℕ) (p : Node) (l : Link) (psk : List ℕ) (t : Trial) (h : List Act) (k : KeyMessage) (y : Keyed) (fault : Option KeyDataFault) → IsOn d a p l psk t h → IsVerified l psk t k.fields k.octets y fault
+pub accepted_m2 : (d : Domain) (a : ℕ) (p : Node) (l : Ends) (psk : List ℕ) (t : Trial) (h : List Act) (k : KeyMessage) (y : Keyed) (fault : Option KeyDataFault) → IsOn d a p l psk t h → IsVerified l psk t k.fields k.octets y fault
     → m2_verdict d (Ap a) h p k ≡ Accepted
 accepted_m2 d a p l psk t h k y fault on w =
     m2_by d a p l psk t h k on w.awaited.none
     ∙ among-one (counters 0 t.m1s) k.fields.counter (verified d.akm (ptk (inputs d (Ap a) p t.anonce k.fields.nonce)).kck k Accepted) w.awaited.offer
-    ∙ verified-same d.akm (ptk (inputs d (Ap a) p t.anonce k.fields.nonce)).kck k Accepted (w.mic_is ∙ same_mic k.octets on.link.akm (kck_is d a p l psk t k.fields.nonce h on))
+    ∙ verified-same d.akm (ptk (inputs d (Ap a) p t.anonce k.fields.nonce)).kck k Accepted (w.mic_is ∙ same_mic k.octets on.ends.akm (kck_is d a p l psk t k.fields.nonce h on))
 
 -- the key of the reply
-pub key_by_m2 : (d : Domain) (a : ℕ) (p : Node) (l : Link) (psk : List ℕ) (t : Trial) (h : List Act) (k : KeyMessage) (y : Keyed) (fault : Option KeyDataFault) → IsOn d a p l psk t h → IsVerified l psk t k.fields k.octets y fault
+pub key_by_m2 : (d : Domain) (a : ℕ) (p : Node) (l : Ends) (psk : List ℕ) (t : Trial) (h : List Act) (k : KeyMessage) (y : Keyed) (fault : Option KeyDataFault) → IsOn d a p l psk t h → IsVerified l psk t k.fields k.octets y fault
     → y.ptk ≡ ptk (inputs_by d (Ap a) p y)
-key_by_m2 d a p l psk t h k y fault on w = key_is d a p l psk y on.link on.psk_is on.suite (is_key_of l psk t.anonce k.fields.nonce y w.key)
+key_by_m2 d a p l psk t h k y fault on w = key_is d (Ap a) p l psk y on.ends on.psk_is on.suite (is_key_of l psk t.anonce k.fields.nonce y w.key)
 
-pub inputs_of_m2 : (d : Domain) (a : ℕ) (p : Node) (l : Link) (psk : List ℕ) (t : Trial) (h : List Act) (k : KeyMessage) (y : Keyed) (fault : Option KeyDataFault) (on : IsOn d a p l psk t h) → IsVerified l psk t k.fields k.octets y fault
+pub inputs_of_m2 : (d : Domain) (a : ℕ) (p : Node) (l : Ends) (psk : List ℕ) (t : Trial) (h : List Act) (k : KeyMessage) (y : Keyed) (fault : Option KeyDataFault) (on : IsOn d a p l psk t h) → IsVerified l psk t k.fields k.octets y fault
     → inputs_by d (Ap a) p y ≡ inputs d (Ap a) p (own on.trial.part) k.fields.nonce
 inputs_of_m2 d a p l psk t h k y fault on w =
     ap (inputs_by d (Ap a) p) w.key ∙ sym (ap (λ (o : Option (List ℕ)). inputs d (Ap a) p (unwrap_or o []) k.fields.nonce) on.trial.nonce)
@@ -126,7 +126,7 @@ verdict_by d first n p h k fault w is first_is =
     ∙ ap (λ (o : Outcome). and_then Accepted o) w.outcome ∙ judged_then fault
 
 -- what was sealed
-pub seal_by : (d : Domain) (a : ℕ) (p : Node) (l : Link) (psk : List ℕ) (t : Trial) (h : List Act) (k : KeyMessage) (y : Keyed) (fault : Option KeyDataFault) (on : IsOn d a p l psk t h) → IsVerified l psk t k.fields k.octets y fault
+pub seal_by : (d : Domain) (a : ℕ) (p : Node) (l : Ends) (psk : List ℕ) (t : Trial) (h : List Act) (k : KeyMessage) (y : Keyed) (fault : Option KeyDataFault) (on : IsOn d a p l psk t h) → IsVerified l psk t k.fields k.octets y fault
     → k.message ≡ M2 → sender d (Ap a) (KeyedReading k) ≡ Some p → Some (frame_seal y.ptk.kck k.octets) ≡ seal_in d (Ap a) h (KeyedReading k)
 seal_by d a p l psk t h k y fault on w is from =
     ap (λ (x : Ptk). Some (frame_seal x.kck k.octets)) (key_by_m2 d a p l psk t h k y fault on w) ∙ ap (λ (x : Inputs). Some (frame_seal (ptk x).kck k.octets)) (inputs_of_m2 d a p l psk t h k y fault on w)

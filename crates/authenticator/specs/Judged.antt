@@ -1,4 +1,5 @@
--- How the messages of an attempt are judged, and what an attempt sends once more.
+-- How the messages of an attempt are judged, and what an attempt sends once more (IEEE Std 802.11-2020, 12.7.6.3, 12.7.6.5 and
+-- 12.7.6.6; the order of the checks, and how often a message is sent, are this project's choice).
 use Rattle.std.specs.Prelude.{◌≡◌, ◌<◌, ◌≤◌, ◌+◌, ◌^◌, ◌==◌, ℕ, suc, true, false, List, [], ◌∷◌, Option, Some, None, is_some, ◌⊎◌}
 use Rattle.std.specs.List.{list_any}
 use Rattle.domain_base.specs.declared.names.Akm.{Akm}
@@ -11,7 +12,6 @@ use Rattle.eapol_key.specs.declared.messages.Message.TheVariants.{M1, M3}
 use Rattle.key_hierarchy.specs.Keys.{ptk}
 use Rattle.key_hierarchy.specs.declared.inputs.Inputs.{Inputs}
 use Rattle.run_journal.specs.declared.domain.Domain.{Domain}
-use Rattle.run_journal.specs.declared.acts.Act.{Act}
 use Rattle.run_journal.specs.declared.acts.KeyDataFault.{KeyDataFault}
 use Rattle.run_journal.specs.declared.acts.Reason.{Reason}
 use Rattle.run_journal.specs.declared.acts.Reason.TheVariants as reason
@@ -22,9 +22,10 @@ use Rattle.run_journal.specs.declared.reply.Reply.{Reply}
 use Rattle.domain_rules.specs.Frames.{sent_m1, sent_m3}
 use Rattle.domain_rules.specs.Verdict.{ReadsKeyData, m2_key_data}
 use Rattle.domain_rules.specs.Replies.{sent_acts}
-use Rattle.node_frames.specs.declared.link.Link.{Link}
-use Rattle.node_frames.specs.Carried.{carried_key}
-use Rattle.node_frames.specs.Links.{IsLink}
+use Rattle.node_frames.specs.declared.ends.Ends.{Ends}
+use Rattle.group_key.specs.Holds.{carried}
+use Rattle.node_frames.specs.Ends.{AreEnds}
+use Rattle.node_frames.specs.PairwiseKeys.{key_with}
 use Rattle.authenticator.specs.declared.m2.M2.{M2}
 use Rattle.authenticator.specs.declared.m2.M2.TheVariants as m2
 use Rattle.authenticator.specs.declared.m4.M4.{M4}
@@ -33,7 +34,6 @@ use Rattle.authenticator.specs.declared.retry.Again.{Again}
 use Rattle.authenticator.specs.declared.retry.Again.TheVariants as again
 use Rattle.authenticator.specs.State.{Trial, Agreed}
 use Rattle.authenticator.specs.Stands.{counters}
-use Rattle.authenticator.specs.Views.{key_with}
 
 -- ---- M2
 
@@ -58,42 +58,41 @@ pub record IsCounted (a : Trial) (f : KeyFields) (last : ℕ) : Type 0 where
   pub is : last ≡ a.m1s
 
 -- the MIC of an M2 of these fields and octets verifies under the key of both nonces
-abbrev pub Verifies : Link → List ℕ → Trial → KeyFields → List ℕ → Type 0
+abbrev pub Verifies : Ends → List ℕ → Trial → KeyFields → List ℕ → Type 0
 Verifies l psk a f octets = f.mic ≡ mic l.akm (key_with l psk a.anonce f.nonce).ptk.kck octets
 
-pub record IsForged (l : Link) (psk : List ℕ) (a : Trial) (f : KeyFields) (octets : List ℕ) : Type 0 where
+pub record IsForged (l : Ends) (psk : List ℕ) (a : Trial) (f : KeyFields) (octets : List ℕ) : Type 0 where
   pub awaited : IsAwaited a f
   pub other : Verifies l psk a f octets → ⊥
 
-pub record IsVerified (l : Link) (psk : List ℕ) (a : Trial) (f : KeyFields) (octets : List ℕ) (y : Keyed) (fault : Option KeyDataFault) : Type 0 where
+pub record IsVerified (l : Ends) (psk : List ℕ) (a : Trial) (f : KeyFields) (octets : List ℕ) (y : Keyed) (fault : Option KeyDataFault) : Type 0 where
   pub awaited : IsAwaited a f
   pub mic_is : Verifies l psk a f octets
   pub key : y ≡ key_with l psk a.anonce f.nonce
   pub key_data : IsKeyDataOf a.rsne f.key_data fault
 
-abbrev pub IsRefusedM2 : Link → List ℕ → Trial → KeyFields → List ℕ → Reason → Type 0
+abbrev pub IsRefusedM2 : Ends → List ℕ → Trial → KeyFields → List ℕ → Reason → Type 0
 IsRefusedM2 l psk a f octets reason.Unawaited = is_some a.agreed ≡ true
 IsRefusedM2 l psk a f octets (reason.Counter last) = IsCounted a f last
 IsRefusedM2 l psk a f octets reason.Mic = IsForged l psk a f octets
 IsRefusedM2 l psk a f octets _ = ⊥
 
-abbrev pub IsM2 : Link → List ℕ → Trial → KeyFields → List ℕ → M2 → Type 0
+abbrev pub IsM2 : Ends → List ℕ → Trial → KeyFields → List ℕ → M2 → Type 0
 IsM2 l psk a f octets (m2.Refused why) = IsRefusedM2 l psk a f octets why
 IsM2 l psk a f octets (m2.Other fault y) = IsVerified l psk a f octets y (Some fault)
 IsM2 l psk a f octets (m2.Agreed y) = IsVerified l psk a f octets y None
 
--- the reply says that the key was derived under which the frame verified, and sends that
-pub record IsAnswer (p : Node) (y : Keyed) (act : Act) (r : Reply) : Type 0 where
-  pub sends : sent_acts p r ≡ act ∷ []
+-- the reply says that the key was derived, under which the frame verified, and nothing else of keys
+pub record TellsDerived (y : Keyed) (r : Reply) : Type 0 where
   pub verified : r.verified ≡ Some y.ptk.kck
   pub derived : r.derived ≡ Some y
   pub installed : r.installed ≡ None
   pub gtk : r.gtk ≡ None
 
--- it answers with M3 between the ends
-abbrev pub Answers : Link → Agreed → ℕ → Reply → Type 0
-Answers l y counter r = (d : Domain) (n p : Node) (i : Inputs) → IsLink d n p l → y.key.ptk ≡ ptk i → i.anonce ≡ y.key.anonce
-    → IsAnswer p y.key (sent_m3 d n p i counter (carried_key y.group) y.rsc) r
+-- it sends M3 between the ends
+abbrev pub SendsM3 : Ends → Agreed → ℕ → Reply → Type 0
+SendsM3 l y counter r = (d : Domain) (n p : Node) (i : Inputs) → AreEnds d n p l → y.key.ptk ≡ ptk i → i.anonce ≡ y.key.anonce
+    → sent_acts p r ≡ sent_m3 d n p i counter (carried y.group) y.rsc ∷ []
 
 -- ---- M4
 
@@ -133,21 +132,16 @@ IsM4 akm a f octets (m4.Accepted key next) = IsFinish akm a f octets key next
 -- ---- once more
 
 -- the reply sends M1 between the ends
-abbrev pub SendsM1 : Link → ℕ → List ℕ → Reply → Type 0
-SendsM1 l counter anonce r = (d : Domain) (n p : Node) → IsLink d n p l → sent_acts p r ≡ sent_m1 d n p counter anonce ∷ []
-
--- or M3
-abbrev pub SendsM3 : Link → Agreed → ℕ → Reply → Type 0
-SendsM3 l y counter r = (d : Domain) (n p : Node) (i : Inputs) → IsLink d n p l → y.key.ptk ≡ ptk i → i.anonce ≡ y.key.anonce
-    → sent_acts p r ≡ sent_m3 d n p i counter (carried_key y.group) y.rsc ∷ []
+abbrev pub SendsM1 : Ends → ℕ → List ℕ → Reply → Type 0
+SendsM1 l counter anonce r = (d : Domain) (n p : Node) → AreEnds d n p l → sent_acts p r ≡ sent_m1 d n p counter anonce ∷ []
 
 -- the next counter is one, and the ends have addresses
-pub record IsNext (l : Link) (a : Trial) : Type 0 where
+pub record IsNext (l : Ends) (a : Trial) : Type 0 where
   pub low : suc (a.m1s + a.m3s) < 2 ^ 64
   pub own : IsAddress l.own.0
   pub peer : IsAddress l.peer.0
 
-pub record IsM1Again (l : Link) (a : Trial) (r : Reply) (m1s m3s : ℕ) : Type 0 where
+pub record IsM1Again (l : Ends) (a : Trial) (r : Reply) (m1s m3s : ℕ) : Type 0 where
   pub none : a.agreed ≡ None
   pub few : a.m1s < 4
   pub sends : SendsM1 l (suc (a.m1s + a.m3s)) a.anonce r
@@ -155,7 +149,7 @@ pub record IsM1Again (l : Link) (a : Trial) (r : Reply) (m1s m3s : ℕ) : Type 0
   pub m1s_are : m1s ≡ suc a.m1s
   pub m3s_are : m3s ≡ a.m3s
 
-pub record IsM3Again (l : Link) (a : Trial) (r : Reply) (m1s m3s : ℕ) : Type 0 where
+pub record IsM3Again (l : Ends) (a : Trial) (r : Reply) (m1s m3s : ℕ) : Type 0 where
   pub y : Agreed
   pub some : a.agreed ≡ Some y
   pub few : a.m3s < 4
@@ -164,7 +158,7 @@ pub record IsM3Again (l : Link) (a : Trial) (r : Reply) (m1s m3s : ℕ) : Type 0
   pub m1s_are : m1s ≡ a.m1s
   pub m3s_are : m3s ≡ suc a.m3s
 
-abbrev pub IsAgain : Link → Trial → Reply → Again → Type 0
+abbrev pub IsAgain : Ends → Trial → Reply → Again → Type 0
 IsAgain l a r (again.Sent m1s m3s) = IsM1Again l a r m1s m3s ⊎ IsM3Again l a r m1s m3s
 IsAgain l a r (again.GivenUp M1) = (a.agreed ≡ None) × (4 ≤ a.m1s)
 IsAgain l a r (again.GivenUp M3) = (is_some a.agreed ≡ true) × (4 ≤ a.m3s)

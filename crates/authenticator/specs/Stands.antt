@@ -1,4 +1,5 @@
--- Which histories an authenticator stands for.
+-- Which histories an authenticator stands for (this project's choice; the exchange is that of IEEE Std 802.11-2020, 12.7.6, its
+-- replay counters those of 12.7.2).
 use Rattle.std.specs.Prelude.{◌≡◌, ◌≤◌, ℕ, zero, suc, ◌+◌, true, List, [], ◌∷◌, Option, Some, None, is_some}
 use Rattle.domain_base.specs.declared.names.Node.{Node}
 use Rattle.eapol_key.specs.declared.messages.Message.TheVariants.{M1, M2, M3}
@@ -6,14 +7,13 @@ use Rattle.run_journal.specs.declared.domain.Domain.{Domain}
 use Rattle.run_journal.specs.declared.acts.Kind.TheVariants.{AssocReq, Key}
 use Rattle.run_journal.specs.declared.acts.Act.{Act}
 use Rattle.run_journal.specs.declared.reply.Keyed.{Keyed}
-use Rattle.run_journal.specs.Acts.{Derivation}
-use Rattle.run_journal.specs.Questions.{attempt, own_nonce, derivation, session, heard, before_sent}
+use Rattle.run_journal.specs.Questions.{attempt, own_nonce, derivation, session, heard, before_sent, gtks}
 use Rattle.domain_rules.specs.Counters.{next_in_session}
 use Rattle.domain_rules.specs.Verdict.{by_connect, offered, has_heard, HasRsne}
-use Rattle.domain_rules.specs.GroupKeys.{newest, newest_uses}
-use Rattle.domain_rules.specs.Replies.{inputs_by}
-use Rattle.node_frames.specs.Carried.{carried_key}
-use Rattle.node_frames.specs.Links.{IsLink}
+use Rattle.domain_rules.specs.GroupKeys.{newest_uses}
+use Rattle.domain_rules.specs.Replies.{key_by}
+use Rattle.group_key.specs.Holds.{IsLast}
+use Rattle.node_frames.specs.Ends.{AreEnds}
 use Rattle.authenticator.specs.State.{State, Stage, Attempt, Session, GivenUp, Trial, Agreed}
 
 -- so many replay counters from the next one on, the last first
@@ -21,15 +21,12 @@ abbrev pub counters : ℕ → ℕ → List ℕ
 counters before zero = []
 counters before (suc n) = suc (before + n) ∷ counters before n
 
--- the key of node n with its peer p
-abbrev pub key_by : Domain → Node → Node → Keyed → Derivation
-key_by d n p y = record { inputs = inputs_by d n p y; ptk = y.ptk }
-
--- the first M3 to p since its Opened carried this group key, with that count of packet numbers
+-- as the first M3 to p since its Opened was sent, this group key was the one drawn last, with its place, and so many packet numbers
+-- were used under it
 pub record IsFirstM3 (p : Node) (y : Agreed) (h : List Act) : Type 0 where
   pub past : List Act
   pub is : before_sent p (Key M3) h ≡ Some past
-  pub key : newest past ≡ carried_key y.group
+  pub key : IsLast y.group (gtks past)
   pub uses : newest_uses past ≡ y.rsc
 
 -- from M2 on the key was derived and M3 was sent, before it neither
@@ -65,7 +62,7 @@ StandsIn d n p GivenUp h = attempt p h ≡ None
 
 -- the authenticator of node n with its peer p stands for the history of n
 pub record Stands (d : Domain) (n p : Node) (s : State) (h : List Act) : Type 0 where
-  pub link : IsLink d n p s.link
+  pub ends : AreEnds d n p s.ends
   pub psk : s.psk ≡ d.psk
   pub stage_is : StandsIn d n p s.stage h
 

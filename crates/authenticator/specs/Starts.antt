@@ -1,4 +1,4 @@
--- What an authenticator begins with.
+-- What an authenticator begins with (this project's choice).
 use Rattle.std.specs.Prelude.{ℕ, List}
 use Rattle.authenticator.specs.declared.authenticator.ApStart.{ApStart}
 use Rattle.authenticator.specs.declared.authenticator.ApStart.TheVariants.{Connect}

@@ -1,6 +1,6 @@
--- What contracts see of an authenticator.
+-- What contracts see of an authenticator (this project's choice).
 use Rattle.std.specs.Prelude.{ℕ, List, Option}
-use Rattle.node_frames.specs.declared.link.Link.{Link}
+use Rattle.node_frames.specs.declared.ends.Ends.{Ends}
 use Rattle.group_key.specs.declared.keys.GroupKey.{GroupKey}
 use Rattle.run_journal.specs.declared.reply.Keyed.{Keyed}
 
@@ -26,6 +26,6 @@ pub data Stage : Type 0 where
 
 -- the ends, the pre-shared key, and how far it is
 pub record State : Type 0 where
-  pub link : Link
+  pub ends : Ends
   pub psk : List ℕ
   pub stage : Stage

@@ -1,4 +1,5 @@
--- What begins an attempt, and what messages and retries do.
+-- What begins an attempt, and what messages and retries do (this project's choice; that an attempt is given up is IEEE Std
+-- 802.11-2020, 12.7.6.6).
 use Rattle.std.specs.Prelude.{◌≡◌, ℕ, true, false, List, [], ◌∷◌, Option, Some, None, is_some}
 use Rattle.domain_base.specs.declared.names.Node.{Node}
 use Rattle.eapol_key.specs.declared.messages.Message.TheVariants.{M1, M2, M3}
@@ -22,7 +23,7 @@ use Rattle.authenticator.specs.Stands.{Stands}
 use Rattle.authenticator.specs.declared.authenticator.Retried.{Retried}
 use Rattle.authenticator.specs.declared.authenticator.Retried.TheVariants as retried
 
--- an attempt with p, by association with that RSNE, in which that nonce was drawn and no message was sent or accepted
+-- an attempt with p, by association with that RSNE, in which that nonce was drawn, no M1 and no M3 was sent, and no M2 accepted
 pub record IsBegun (d : Domain) (p : Node) (anonce rsne : List ℕ) (h : List Act) : Type 0 where
   pub part : List Act
   pub is : attempt p h ≡ Some part
@@ -64,7 +65,12 @@ abbrev pub IsSession : Stage → Type 0
 IsSession (Session key next) = Unit {0}
 IsSession _ = ⊥
 
--- Where a key was installed, an attempt became a session; else an attempt is one still, and a session stays so.
+-- and it is under that very key
+abbrev pub IsSessionUnder : Keyed → Stage → Type 0
+IsSessionUnder y (Session key next) = key ≡ y
+IsSessionUnder y _ = ⊥
+
+-- Where a key was installed, an attempt became a session under that very key; else an attempt is one still, and a session stays so.
 abbrev pub IsStaged : Option Keyed → State → State → Type 0
-IsStaged (Some y) old new = IsAttempt old.stage × IsSession new.stage
+IsStaged (Some y) old new = IsAttempt old.stage × IsSessionUnder y new.stage
 IsStaged None old new = (IsAttempt old.stage → IsAttempt new.stage) × (IsSession old.stage → IsSession new.stage)

@@ -1,4 +1,5 @@
--- What taking a message does, and sending once more, after every history that the authenticator stands for.
+-- What taking a message does, and sending once more, after every history that the authenticator stands for (this project's
+-- choice).
 use Rattle.std.specs.Prelude.{◌≡◌, ℕ, List}
 use Rattle.domain_base.specs.declared.names.Node.TheVariants.{Ap, Sta}
 use Rattle.eapol_key.specs.KeyFrame.{KeyFields}
@@ -7,11 +8,12 @@ use Rattle.run_journal.specs.declared.domain.Domain.{Domain}
 use Rattle.run_journal.specs.declared.acts.Outcome.{Outcome}
 use Rattle.run_journal.specs.declared.acts.Act.{Act}
 use Rattle.run_journal.specs.declared.reply.Reply.{Reply}
-use Rattle.domain_rules.specs.GroupKeys.{newest, newest_uses}
+use Rattle.run_journal.specs.Questions.{gtks}
+use Rattle.domain_rules.specs.GroupKeys.{newest_uses}
 use Rattle.domain_rules.specs.Reading.{KeyMessage}
 use Rattle.domain_rules.specs.Replies.{IsMessageFrom}
 use Rattle.group_key.specs.declared.keys.GroupKey.{GroupKey}
-use Rattle.node_frames.specs.Carried.{carried_key}
+use Rattle.group_key.specs.Holds.{IsLast}
 use Rattle.authenticator.specs.declared.authenticator.Retried.{Retried}
 use Rattle.authenticator.specs.declared.authenticator.Retried.TheVariants as retried
 use Rattle.authenticator.specs.State.{State, GivenUp}
@@ -22,7 +24,7 @@ use Rattle.authenticator.specs.Steps.{Steps, Retries, IsAttempt}
 abbrev pub StepsFrom : State → State → Message → KeyFields → List ℕ → GroupKey → ℕ → Outcome → Reply → Type 0
 StepsFrom old new message f whole g rsc outcome r =
     (d : Domain) (first ap sta : ℕ) (octets : List ℕ) (k : KeyMessage) (h : List Act) → Stands d (Ap ap) (Sta sta) old h → IsAsked (Sta sta) old.stage h
-    → newest h ≡ carried_key g → newest_uses h ≡ rsc → IsMessageFrom d (Ap ap) (Sta sta) octets k → k.message ≡ message → k.fields ≡ f → k.octets ≡ whole
+    → IsLast g (gtks h) → newest_uses h ≡ rsc → IsMessageFrom d (Ap ap) (Sta sta) octets k → k.message ≡ message → k.fields ≡ f → k.octets ≡ whole
     → Steps d first (Ap ap) (Sta sta) octets k new outcome r h
 
 -- and so does sending once more

@@ -43,7 +43,7 @@ impl Agreement {
         &self.key
     }
 
-    /// The group key. Its key id is one of 1 to 3.
+    /// The group key. Its key id is at most 3.
     pub fn group(&self) -> &GroupKey
         ensures value { result.now ≡ self.now.group }
         ensures id { result.now.id < 4 }

@@ -10,10 +10,12 @@ ghost use Rattle.run_journal.specs.declared.acts.Outcome.TheVariants.{Refused};
 ghost use Rattle.run_journal.specs.declared.acts.Reason.{Reason as AnyReason};
 ghost use Rattle.run_journal.specs.Replies.{IsWhole};
 ghost use Rattle.domain_rules.specs.Frames.{sent_m1};
-ghost use Rattle.domain_rules.specs.GroupKeys.{newest as newest_key, newest_uses};
+ghost use Rattle.run_journal.specs.Questions.{gtks};
+ghost use Rattle.domain_rules.specs.GroupKeys.{newest_uses};
 ghost use Rattle.domain_rules.specs.Reading.{KeyMessage as AnyMessage};
 ghost use Rattle.domain_rules.specs.Replies.{IsMessageFrom, sent_acts};
-ghost use Rattle.node_frames.specs.Carried.{carried_key};
+ghost use Rattle.group_key.specs.Holds.{IsLast};
+ghost use Rattle.node_frames.specs.Replied.{TellsNothing};
 ghost use Rattle.authenticator.specs.Starts.{nonce_in, rsne_in};
 
 use crate::request::RequestedRsne;
@@ -23,7 +25,7 @@ use crate::taking::take;
 use domain_base::Node;
 use eapol_key::{KeyFrame, Message};
 use group_key::GroupKey;
-use node_frames::{Link, write_m1};
+use node_frames::{Ends, write_m1};
 use run_journal::{Domain, Outcome, Reply};
 use std::marker::Model;
 
@@ -67,7 +69,7 @@ pub enum Retried {
 /// session behind it, or after the attempt was given up. AKM suites 2 and 6. It takes no memory.
 #[derive(Drop)]
 pub struct Authenticator {
-    link: Link,
+    ends: Ends,
     psk: [u8; 32],
     stage: Stage,
 }
@@ -79,9 +81,9 @@ impl Model for Authenticator {
 
     ghost use Rattle.authenticator.specs.Views.{state_of, IsSound};
 
-    ghost view = { λ s. state_of s.link s.psk s.stage };
+    ghost view = { λ s. state_of s.ends s.psk s.stage };
 
-    ghost invariant = { λ s. IsSound (state_of s.link s.psk s.stage) };
+    ghost invariant = { λ s. IsSound (state_of s.ends s.psk s.stage) };
 }
 
 impl Authenticator {
@@ -89,7 +91,8 @@ impl Authenticator {
     ghost use Rattle.authenticator.specs.Steps.{IsBegun, Steps, Retries, IsAttempt, IsStaged};
     ghost use Rattle.authenticator.specs.Taken.{IsStagedBy};
 
-    /// Begins an attempt, and sends M1 with replay counter 1 (IEEE Std 802.11-2020, 12.7.6.2).
+    /// Begins an attempt, and sends M1 with replay counter 1 (IEEE Std 802.11-2020, 12.7.6.2). The reply has M1 and nothing else,
+    /// whatever was in it.
     pub fn begin(
         domain: &Domain,
         ap: u16,
@@ -105,6 +108,7 @@ impl Authenticator {
         ensures stands { (h : List AnyAct) → IsBegun domain.now (Sta sta) (nonce_in start.entry) (rsne_in start.entry) h
             → Stands domain.now (Ap ap) (Sta sta) result (sent_m1 domain.now (Ap ap) (Sta sta) 1 (nonce_in start.entry) ∷ h) }
         ensures attempt { IsAttempt result.stage }
+        ensures told { TellsNothing reply.new }
         ensures whole { IsWhole reply.new }
     {
         let (anonce, rsne) = parts_of(start);
@@ -128,11 +132,12 @@ impl Authenticator {
         ensures stands { (h : List AnyAct) → IsBegun domain.now (Sta sta) anonce.now rsne.now h
             → Stands domain.now (Ap ap) (Sta sta) result (sent_m1 domain.now (Ap ap) (Sta sta) 1 anonce.now ∷ h) }
         ensures attempt { IsAttempt result.stage }
+        ensures told { TellsNothing reply.new }
         ensures whole { IsWhole reply.new }
     {
         *reply = Reply::empty();
-        let link = Link::between(domain, Node::Ap(ap), Node::Sta(sta));
-        write_m1(&link, FIRST_COUNTER, anonce, reply);
+        let ends = Ends::between(domain, Node::Ap(ap), Node::Sta(sta));
+        write_m1(&ends, FIRST_COUNTER, anonce, reply);
         let attempt = Attempt {
             anonce: *anonce,
             rsne: RequestedRsne::of(rsne),
@@ -141,13 +146,15 @@ impl Authenticator {
             agreed: None,
         };
         Authenticator {
-            link,
+            ends,
             psk: domain.psk,
             stage: Stage::Attempt(attempt),
         }
     }
 
     /// Takes a message of the station. The newest group key and the count of packet numbers that were used under it go into M3.
+    ///
+    /// What is sent, derived and installed comes into the reply, whatever was in it. A refusal does not change the authenticator.
     pub fn step(
         &mut self,
         message: Message,
@@ -160,7 +167,7 @@ impl Authenticator {
         requires id { newest.now.id < 4 }
         requires packet_number { rsc < 2 ^ 48 }
         ensures steps { (d : AnyDomain) (first ap sta : ℕ) (octets : List ℕ) (k : AnyMessage) (h : List AnyAct)
-            → Stands d (Ap ap) (Sta sta) self.old h → IsAsked (Sta sta) self.old.stage h → newest_key h ≡ carried_key newest.now
+            → Stands d (Ap ap) (Sta sta) self.old h → IsAsked (Sta sta) self.old.stage h → IsLast newest.now (gtks h)
             → newest_uses h ≡ rsc → IsMessageFrom d (Ap ap) (Sta sta) octets k → k.message ≡ message → k.fields ≡ fields_of frame.now
             → k.octets ≡ frame.now.octets.now → Steps d first (Ap ap) (Sta sta) octets k self.new result reply.new h }
         ensures staged { IsStaged reply.new.installed self.old self.new }
@@ -168,7 +175,7 @@ impl Authenticator {
         ensures whole { IsWhole reply.new }
     {
         take(
-            &self.link,
+            &self.ends,
             &self.psk,
             &mut self.stage,
             message,
@@ -180,13 +187,16 @@ impl Authenticator {
     }
 
     /// Sends M1, or from M2 on M3, once more: at most four times each. Then the attempt is given up
-    /// (IEEE Std 802.11-2020, 12.7.6.6).
+    /// (IEEE Std 802.11-2020, 12.7.6.6). The reply has the message and nothing else, whatever was in it; nothing is sent where the
+    /// attempt is given up, or where nothing waits.
     pub fn retry(&mut self, reply: &mut Reply) -> Retried
         ensures retries { (d : AnyDomain) (ap sta : ℕ) (h : List AnyAct) → Stands d (Ap ap) (Sta sta) self.old h
             → IsAsked (Sta sta) self.old.stage h → Retries d (Ap ap) (Sta sta) self.new result reply.new h }
         ensures staged { IsStagedBy result self.old self.new }
+        ensures told { TellsNothing reply.new }
+        ensures silent { result ≢ Retried.Sent → reply.new.len ≡ 0 }
         ensures whole { IsWhole reply.new }
     {
-        send_again(&self.link, &mut self.stage, reply)
+        send_again(&self.ends, &mut self.stage, reply)
     }
 }

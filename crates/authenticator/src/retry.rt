@@ -1,8 +1,9 @@
 //! What an access point sends once more, or that it gives up (IEEE Std 802.11-2020, 12.7.6.6).
 
 ghost use Rattle.std.specs.Prelude.{◌≡◌, ◌≢◌, ℕ, List, Some, None};
-ghost use Rattle.domain_base.specs.declared.names.Akm.{Akm as AnyAkm};
+ghost use Rattle.eapol_key.specs.declared.messages.Message.{Message as AnyMessage};
 ghost use Rattle.run_journal.specs.Replies.{IsEmpty, IsWhole};
+ghost use Rattle.node_frames.specs.Replied.{TellsNothing};
 ghost use Rattle.authenticator.specs.Views.{trial_of, stage_of, state_of, AreKeysOf, IsSound};
 ghost use Rattle.authenticator.specs.Judged.{IsAgain};
 ghost use Rattle.authenticator.specs.Taken.{RetriesFrom, IsStagedBy};
@@ -12,7 +13,7 @@ use crate::authenticator::Retried;
 use crate::counters::last_counter;
 use crate::stage::{Attempt, Stage, attempt_in, set_counts};
 use eapol_key::Message;
-use node_frames::{Link, write_m1, write_m3};
+use node_frames::{Ends, write_m1, write_m3};
 use run_journal::{Kind, Reply};
 
 // How often M1, and M3, is sent in an attempt at most.
@@ -28,10 +29,12 @@ pub enum Again {
 }
 
 // M1 once more, before an M2 was accepted.
-fn again_m1(link: &Link, attempt: &Attempt, reply: &mut Reply) -> Again
+fn again_m1(ends: &Ends, attempt: &Attempt, reply: &mut Reply) -> Again
     requires empty { IsEmpty reply.old }
     requires none { attempt.now.agreed ≡ None }
-    ensures again { IsAgain link.now (trial_of attempt.now) reply.new result }
+    ensures again { IsAgain ends.now (trial_of attempt.now) reply.new result }
+    ensures told { TellsNothing reply.new }
+    ensures silent { (m : AnyMessage) → result ≡ Again.GivenUp m → reply.new.len ≡ 0 }
     ensures fits { IsWhole reply.new }
 {
     let (m1s, m3s) = (attempt.m1s, attempt.m3s);
@@ -39,15 +42,17 @@ fn again_m1(link: &Link, attempt: &Attempt, reply: &mut Reply) -> Again
         return Again::GivenUp(Message::M1);
     }
     let counter = last_counter(m1s, m3s) + 1;
-    write_m1(link, counter, &attempt.anonce, reply);
+    write_m1(ends, counter, &attempt.anonce, reply);
     Again::Sent(m1s + 1, m3s)
 }
 
 // M3 once more, with the key data and the count of packet numbers of the first.
-fn again_m3(link: &Link, attempt: &Attempt, agreement: &Agreement, reply: &mut Reply) -> Again
+fn again_m3(ends: &Ends, attempt: &Attempt, agreement: &Agreement, reply: &mut Reply) -> Again
     requires empty { IsEmpty reply.old }
     requires agreed { attempt.now.agreed ≡ Some agreement.now }
-    ensures again { IsAgain link.now (trial_of attempt.now) reply.new result }
+    ensures again { IsAgain ends.now (trial_of attempt.now) reply.new result }
+    ensures told { TellsNothing reply.new }
+    ensures silent { (m : AnyMessage) → result ≡ Again.GivenUp m → reply.new.len ≡ 0 }
     ensures fits { IsWhole reply.new }
 {
     let (m1s, m3s) = (attempt.m1s, attempt.m3s);
@@ -56,34 +61,38 @@ fn again_m3(link: &Link, attempt: &Attempt, agreement: &Agreement, reply: &mut R
     }
     let counter = last_counter(m1s, m3s) + 1;
     let (key, group, rsc) = (agreement.key(), agreement.group(), agreement.rsc());
-    write_m3(link, &key.ptk, counter, &key.anonce, group, rsc, reply);
+    write_m3(ends, &key.ptk, counter, &key.anonce, group, rsc, reply);
     Again::Sent(m1s, m3s + 1)
 }
 
 // What the attempt sends once more, or that it is given up.
-fn once_more(link: &Link, attempt: &Attempt, reply: &mut Reply) -> Again
+fn once_more(ends: &Ends, attempt: &Attempt, reply: &mut Reply) -> Again
     requires { IsEmpty reply.old }
-    ensures again { IsAgain link.now (trial_of attempt.now) reply.new result }
+    ensures again { IsAgain ends.now (trial_of attempt.now) reply.new result }
+    ensures told { TellsNothing reply.new }
+    ensures silent { (m : AnyMessage) → result ≡ Again.GivenUp m → reply.new.len ≡ 0 }
     ensures fits { IsWhole reply.new }
 {
     match &attempt.agreed {
-        None => again_m1(link, attempt, reply),
-        Some(agreement) => again_m3(link, attempt, agreement, reply),
+        None => again_m1(ends, attempt, reply),
+        Some(agreement) => again_m3(ends, attempt, agreement, reply),
     }
 }
 
 /// Sends the message of the attempt once more, or gives the attempt up.
-pub fn send_again(link: &Link, stage: &mut Stage, reply: &mut Reply) -> Retried
-    ensures retries { (psk : List ℕ) → IsSound (state_of link.now psk stage.old) → RetriesFrom (state_of link.now psk stage.old) (state_of link.now psk stage.new) result reply.new }
-    ensures staged { (psk : List ℕ) → IsStagedBy result (state_of link.now psk stage.old) (state_of link.now psk stage.new) }
+pub fn send_again(ends: &Ends, stage: &mut Stage, reply: &mut Reply) -> Retried
+    ensures retries { (psk : List ℕ) → IsSound (state_of ends.now psk stage.old) → RetriesFrom (state_of ends.now psk stage.old) (state_of ends.now psk stage.new) result reply.new }
+    ensures staged { (psk : List ℕ) → IsStagedBy result (state_of ends.now psk stage.old) (state_of ends.now psk stage.new) }
+    ensures told { TellsNothing reply.new }
+    ensures silent { result ≢ Retried.Sent → reply.new.len ≡ 0 }
     ensures fits { IsWhole reply.new }
-    ensures keys { (psk : List ℕ) → AreKeysOf link.now psk (stage_of stage.old) → AreKeysOf link.now psk (stage_of stage.new) }
+    ensures keys { (psk : List ℕ) → AreKeysOf ends.now psk (stage_of stage.old) → AreKeysOf ends.now psk (stage_of stage.new) }
 {
     *reply = Reply::empty();
     let Some(attempt) = attempt_in(stage) else {
         return Retried::Nothing;
     };
-    match once_more(link, attempt, reply) {
+    match once_more(ends, attempt, reply) {
         Again::Sent(m1s, m3s) => {
             set_counts(stage, m1s, m3s);
             Retried::Sent

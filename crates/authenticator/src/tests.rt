@@ -14,7 +14,7 @@ use eapol_key::{Message, read};
 use frames::{Keys, Rsne, m1, m2, m3, m4, rsne_of};
 use group_key::GroupKey;
 use key_hierarchy::Ptk;
-use run_journal::{Aps, Domain, Keyed, Kind, ListedAp, Outcome, REPLY_LEN, Reply, Stas};
+use run_journal::{Aps, Domain, GtkNews, Keyed, Kind, ListedAp, Outcome, REPLY_LEN, Reply, Stas};
 use std::alloc::Global;
 use std::process::Abort;
 use std::test::Fail;
@@ -180,30 +180,53 @@ fn try_step(
     authenticator: &mut Authenticator,
     group: &GroupKey,
     rsc: u64,
+    reply: &mut Reply,
     step: &Step,
 ) -> Result<(), Fail>
     requires id { group.now.id < 4 }
     requires packet_number { rsc < 2 ^ 48 }
 {
-    let mut reply = Reply::empty();
     let (message, octets) = frame_of(alloc, akm, step.given)?;
     match step.came {
         Came::Retried(retried) => {
-            assert_eq!(rt; authenticator.retry(&mut reply), retried, "{}", step.shows);
+            assert_eq!(rt; authenticator.retry(reply), retried, "{}", step.shows);
         }
         Came::Took(wanted) => {
             let Ok((frame, _)) = read(&octets) else {
                 return Err("no EAPOL-Key frame".into());
             };
-            let outcome = authenticator.step(message, &frame, group, rsc, &mut reply);
+            let outcome = authenticator.step(message, &frame, group, rsc, reply);
             assert_eq!(rt; outcome, wanted, "{}", step.shows);
         }
     }
-    assert!(rt; is(alloc, akm, &reply, step.wants)?, "{}", step.shows);
+    assert!(rt; is(alloc, akm, reply, step.wants)?, "{}", step.shows);
     Ok(())
 }
 
-// From the first M1 on.
+// A reply that was used before: it tells of keys of all kinds.
+fn used() -> Reply {
+    let key = Keyed {
+        ptk: Ptk {
+            kck: [1; 16],
+            kek: [2; 16],
+            tk: [3; 16],
+        },
+        anonce: ANONCE,
+        snonce: SNONCE,
+    };
+    let mut reply = Reply::empty();
+    reply.verified = Some([1; 16]);
+    reply.derived = Some(key);
+    reply.installed = Some(key);
+    reply.gtk = Some(GtkNews {
+        resumed: false,
+        id: 1,
+        key: GTK,
+    });
+    reply
+}
+
+// From the first M1 on. One reply is used for all, so what was in it must not matter.
 fn try_steps(
     rt: &impl Abort,
     alloc: Global,
@@ -217,7 +240,7 @@ fn try_steps(
     requires packet_number { rsc < 2 ^ 48 }
 {
     let domain = network(alloc, akm)?;
-    let mut reply = Reply::empty();
+    let mut reply = used();
     let rsne = rsne_of(akm, Rsne::Same);
     let start = ApStart::Connect {
         anonce: &ANONCE,
@@ -227,7 +250,16 @@ fn try_steps(
     assert_eq!(rt; reply.len, 131);
     assert!(rt; is(alloc, akm, &reply, Want::M1(1))?);
     for step in steps {
-        try_step(rt, alloc, akm, &mut authenticator, group, rsc, step)?;
+        try_step(
+            rt,
+            alloc,
+            akm,
+            &mut authenticator,
+            group,
+            rsc,
+            &mut reply,
+            step,
+        )?;
     }
     Ok(())
 }

@@ -9,7 +9,7 @@ use Rattle.run_journal.specs.declared.acts.Act.{Act}
 use Rattle.run_journal.specs.declared.acts.Entry.{Entry}
 use Rattle.domain_rules.specs.Rows.{start_acts}
 use Rattle.domain_rules.specs.Explained.{number_of, push, Step, started}
-use Rattle.domain_world.specs.State.{with_ap}
+use Rattle.run_journal.specs.Listing.{with_ap}
 use Rattle.domain_world.proofs.Begun.{started_ap}
 use Rattle.frame_script.specs.Headers.{Reading, HasSeen, HasSeenAll}
 

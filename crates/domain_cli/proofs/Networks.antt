@@ -8,7 +8,7 @@ use Rattle.domain_base.specs.declared.names.Mac.{Mac}
 use Rattle.run_journal.specs.declared.domain.Domain.{Domain}
 use Rattle.run_journal.specs.declared.domain.ListedAp.{ListedAp}
 use Rattle.domain_rules.specs.Network.{IsUnicast, IsNew, AreAps, AreStas, InForm}
-use Rattle.domain_world.specs.State.{with_ap, with_sta}
+use Rattle.run_journal.specs.Listing.{with_ap, with_sta}
 use Rattle.frame_script.specs.Script.{is_single}
 use Rattle.frame_script.specs.Headers.{IsNetwork, CanListAp, CanListSta}
 

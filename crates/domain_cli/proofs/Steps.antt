@@ -7,7 +7,8 @@ use Rattle.run_journal.specs.declared.acts.Entry.{Entry}
 use Rattle.domain_rules.specs.Network.{InForm}
 use Rattle.domain_rules.specs.Explained.{Explained, Step, started}
 use Rattle.domain_rules.proofs.Journals.{explained_start, explained_event, started_none}
-use Rattle.domain_world.specs.State.{State, with_ap, with_sta}
+use Rattle.run_journal.specs.Listing.{with_ap, with_sta}
+use Rattle.domain_world.specs.State.{State}
 use Rattle.domain_world.specs.Owning.{Owns}
 use Rattle.frame_script.specs.Script.{Fault, Draft, AtVersion, AtSeed, AtSsid, AtPsk, AtAkm, AtNodes, Said, Goes, ListsAp, ListsSta, Asks, line_says, said_after, rounds_after}
 use Rattle.frame_script.specs.Headers.{Reading, IsNetwork, IsDomain, IsHeaderStep, CanHappen, TakesStep, TakesLine, sizes_of}
@@ -53,7 +54,7 @@ begins old new rounds sizes says (step.Event event) due takes = due takes.0 take
 
 goes_on : (w : State) (r : Reading) (new : Draft) (j : List Entry) (says : Result Said Fault) (asked : Asked) → IsOwn w r j → r.rounds + 1 < 2 ^ 64 → TakesStep r.draft new r.rounds (sizes_of j) says asked → CanDo w j asked
 goes_on w r new j says step.Nothing own few takes = tt
-goes_on w r new j says step.Network own few takes = tt
+goes_on w r new j says step.Network own few takes = takes.1.1.1.1 w.domain own.network
 goes_on w r new j says (step.Ap address id) own few (d, (said, (old, (can, (no_stas, first))))) =
     let same = one_network r.draft d w.domain old own.network in
     (sym own.rounds ∙ first, subst (λ (x : Domain). InForm (with_ap x address id)) same (InForm-ap d address id (subst InForm (sym same) own.own.form) can))
@@ -72,7 +73,7 @@ can_run r s (Some w) j says asked is few takes = (is.own, goes_on w r s.draft j 
 
 grows_own : (w v : State) (r : Reading) (new : Draft) (j k : List Entry) (says : Result Said Fault) (asked : Asked) → IsOwn w r j → TakesStep r.draft new r.rounds (sizes_of j) says asked → Did w v j k asked → Grows j k
 grows_own w v r new j k says step.Nothing own takes did = Grows-same j k did.1
-grows_own w v r new j k says step.Network own takes did = Grows-same j k did.1
+grows_own w v r new j k says step.Network own takes did = absurd did
 grows_own w v r new j k says (step.Ap address id) own takes did =
     let before = own.first (sym own.rounds ∙ takes.1.1.1.1.1) in
     Grows-started w.domain v.domain address id j k did.network before (did.begins before)
@@ -154,7 +155,7 @@ asked_for w v r s said event line j k own t same new runs = record {
 owned : (w v : State) (r s : Reading) (said : Said) (line : List ℕ) (j k : List Entry) (asked : Asked) → IsOwn w r j → IsTaken r s (sizes_of j) line said
     → TakesStep r.draft s.draft r.rounds (sizes_of j) (line_says r.draft r.rounds (sizes_of j) line) asked → Owns v k → Did w v j k asked → IsOwn v s k
 owned w v r s said line j k step.Nothing own t takes new did = stays w v r s said line j k own t takes.0 new did.0 did.1
-owned w v r s said line j k step.Network own t takes new did = stays w v r s said line j k own t takes.1.0 new did.0 did.1
+owned w v r s said line j k step.Network own t takes new did = absurd did
 owned w v r s said line j k (step.Ap address id) own t takes new did =
     listed w v r s said (ListsAp address id) (with_ap w.domain address id) line j k own t (one_saying _ said (ListsAp address id) t.says takes.1.0) refl refl new did
 owned w v r s said line j k (step.Sta address) own t takes new did =
@@ -221,10 +222,7 @@ told_own w v r s rounds said j k sizes line step.Nothing own count told says tak
     let same = one_saying _ said (Goes s.draft) says takes.0 in
     subst (λ (x : Said). Explained v.domain (rounds_with rounds x) k) (sym same)
     (subst (λ (x : State). Explained x.domain rounds k) (sym did.0) (subst (λ (x : List Entry). Explained w.domain rounds x) (sym did.1) (own_explained w r rounds j own told)))
-told_own w v r s rounds said j k sizes line step.Network own count told says takes did new =
-    let same = one_saying _ said (Goes s.draft) says takes.1.0 in
-    subst (λ (x : Said). Explained v.domain (rounds_with rounds x) k) (sym same)
-    (subst (λ (x : State). Explained x.domain rounds k) (sym did.0) (subst (λ (x : List Entry). Explained w.domain rounds x) (sym did.1) (own_explained w r rounds j own told)))
+told_own w v r s rounds said j k sizes line step.Network own count told says takes did new = absurd did
 told_own w v r s rounds said j k sizes line (step.Ap address id) own count told says takes did new =
     let same = one_saying _ said (ListsAp address id) says takes.1.0 in
     let first = takes.1.1.1.1.1 in

@@ -5,7 +5,8 @@ use Rattle.run_journal.specs.declared.domain.Event.{Event}
 use Rattle.run_journal.specs.declared.acts.Entry.{Entry}
 use Rattle.domain_rules.specs.Network.{InForm}
 use Rattle.domain_rules.specs.Explained.{Step, started}
-use Rattle.domain_world.specs.State.{State, with_ap, with_sta}
+use Rattle.run_journal.specs.Listing.{with_ap, with_sta}
+use Rattle.domain_world.specs.State.{State}
 use Rattle.domain_world.specs.Owning.{Owns, IsEventIn}
 use Rattle.frame_script.specs.Script.{Draft, AtNodes, Outside, Past}
 use Rattle.frame_script.specs.Headers.{Reading, HasSeen, IsNetwork}
@@ -67,13 +68,13 @@ IsBegun draft step.Network None = ⊥
 IsBegun draft step.Network (Some w) = IsNewWorld w draft
 IsBegun draft asked world = ⊥
 
--- behind the header
+-- behind the header, where no line tells of a network
 abbrev pub CanDo : State → List Entry → Asked → Type 0
 CanDo w j step.Nothing = Unit {0}
-CanDo w j step.Network = Unit {0}
 CanDo w j (step.Ap address r0kh_id) = (w.rounds ≡ 0) × InForm (with_ap w.domain address r0kh_id)
 CanDo w j (step.Sta address) = (w.rounds ≡ 0) × InForm (with_sta w.domain address)
 CanDo w j (step.Event event) = (w.rounds + 1 < 2 ^ 64) × IsEventIn w.domain (length w.frames) j event
+CanDo w j step.Network = ⊥
 
 -- the world and the journal stay
 abbrev pub Stays : State → State → List Entry → List Entry → Type 0
@@ -93,10 +94,10 @@ pub record Runs (w v : State) (event : Event) (j k : List Entry) : Type 0 where
 
 abbrev pub Did : State → State → List Entry → List Entry → Asked → Type 0
 Did w v j k step.Nothing = Stays w v j k
-Did w v j k step.Network = Stays w v j k
 Did w v j k (step.Ap address r0kh_id) = Lists w v (with_ap w.domain address r0kh_id) j k
 Did w v j k (step.Sta address) = Lists w v (with_sta w.domain address) j k × (k ≡ j)
 Did w v j k (step.Event event) = Runs w v event j k
+Did w v j k step.Network = ⊥
 
 -- either way
 abbrev pub CanRun : Option State → Draft → List Entry → Asked → Type 0

@@ -22,6 +22,7 @@ pub fn replay<S: Source>(alloc: Global, source: &mut S, journal: &mut Journal) -
         return Found::NoMemory;
     };
     let mut piece = [0; 512];
+    // How many octets came. The limits of a script bound it, so the loop ends.
     let mut total = 0usize;
     'reads: loop {
         let Ok(count) = source.read(&mut piece) else {

@@ -48,10 +48,11 @@ fn act(world: &mut World, step: Step, journal: &mut Journal) -> Result<(), NoMem
     ensures kept { OnErr result (journal.new.entries ≡ journal.old.entries) }
 {
     match step {
-        Step::Nothing | Step::Network => Ok(()),
+        Step::Nothing => Ok(()),
         Step::Ap { address, r0kh_id } => world.add_ap(address, r0kh_id, journal),
         Step::Sta { address } => world.add_station(address),
         Step::Event(event) => world.event(&event, journal),
+        Step::Network => unreachable!(),
     }
 }
 

@@ -1,3 +1,5 @@
+//! Whole scripts with their reports, and how a run ends.
+
 ghost use Rattle.std.specs.Prelude.{Some};
 
 use crate::status::Status;

@@ -117,7 +117,7 @@ pub fn run<R: Threads + Sync, S: Source, K: Sink, A: Air, D: Draws>(
     ensures draws { (D.last draws.new ≡ D.last draws.old) × (D.faults draws.new ≡ D.faults draws.old) }
     // The journal is that of the octets read, and the octets written are its report.
     ensures ran { result ≢ Status.Usage → Runs (S.left source.old) (S.left source.new) (K.out sink.old) (K.out sink.new) result journal.new.entries }
-    // Where nonces are fresh, derived keys do not collide, and every MIC that verified was made by a holder of its key, the
+    // Where what is drawn is fresh, derived keys do not collide, and every MIC that verified was made by a holder of its key, the
     // run was safe.
     ensures safe { Fresh journal.new.entries → NoCollision journal.new.entries → Unforged journal.new.entries → Safe journal.new.entries }
     ensures read_fault { result ≡ Status.ReadFault → Rose (S.faults source.old) (S.faults source.new) }

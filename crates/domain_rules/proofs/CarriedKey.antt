@@ -3,7 +3,7 @@ use Rattle.std.proofs.Common.{◌≡◌, ℕ, ◌<◌, ◌≤◌, ◌%◌, List,
 use Rattle.std.proofs.lemmas.Bool.{ltb-true}
 use Rattle.std.proofs.lemmas.List.{append-nil, length-append}
 use Rattle.std.proofs.lemmas.List.Elements.{All-nil, All-cons, All-append}
-use Rattle.aes_block.specs.Octets.{AreOctets}
+use Rattle.domain_base.specs.Octets.{AreOctets}
 use Rattle.key_wrap.specs.KeyWrap.{Wraps}
 use Rattle.key_wrap.proofs.UniqueLemmas.{Wraps-unique, length-Wraps}
 use Rattle.domain_base.specs.declared.names.Akm.{Akm}
@@ -14,7 +14,7 @@ use Rattle.rsn_elements.specs.Sent.{rsne_octets, gtk_kde_octets}
 use Rattle.rsn_elements.specs.Pieces.{SentRsne, SentGtkKde, said}
 use Rattle.rsn_elements.proofs.Apart.{one_value}
 use Rattle.rsn_elements.proofs.PiecesTell.{pieces_spelled}
-use Rattle.eapol_key.specs.KeyData.{padding, padding_octets}
+use Rattle.domain_base.specs.Padding.{padding, padding_octets}
 use Rattle.key_hierarchy.specs.Keys.{ptk}
 use Rattle.key_hierarchy.specs.declared.inputs.Inputs.{Inputs}
 use Rattle.run_journal.specs.declared.domain.Domain.{Domain}

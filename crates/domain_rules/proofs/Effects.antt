@@ -43,7 +43,7 @@ no_response M4 = refl
 no_response G1 = refl
 no_response G2 = refl
 
-response-apart : (d : Domain) (n : Node) (from : Option Node) (k : Kind) (why : Reason) (p : Node) → AllByRecursion (IsApart p) (response d n from k why)
+pub response-apart : (d : Domain) (n : Node) (from : Option Node) (k : Kind) (why : Reason) (p : Node) → AllByRecursion (IsApart p) (response d n from k why)
 response-apart d (Ap a) (Some q) kind.AssocReq (reason.Status code) p = (apart-sent_kind p (One q) kind.AssocResp _ None no_response, tt)
 response-apart d n from k _ p = tt
 
@@ -121,11 +121,11 @@ pub record HasAnswered (p : Node) (octets v : List ℕ) (h : List Act) : Type 0 
 abbrev opened_part : Domain → Node → Node → List ℕ → List Act
 opened_part d n p v = sent_m1 d n p 1 v ∷ sent_assoc_resp d n p ∷ Drew (Nonce v) ∷ Opened p Connect ∷ []
 
-heard-request : (p : Node) (octets : List ℕ) (o : Option (List Act)) (h : List Act) → heard p kind.AssocReq (add (close_attempt p o) (Took (Some p) octets kind.AssocReq Accepted None ∷ h)) ≡ Some octets
+pub heard-request : (p : Node) (octets : List ℕ) (o : Option (List Act)) (h : List Act) → heard p kind.AssocReq (add (close_attempt p o) (Took (Some p) octets kind.AssocReq Accepted None ∷ h)) ≡ Some octets
 heard-request p octets None h = rw (same-refl p) refl
 heard-request p octets (Some part) h = rw (same-refl p) refl
 
-answer-add : (d : Domain) (n p : Node) (octets : List ℕ) (o : Option (List Act)) (v : List ℕ) (h : List Act)
+pub answer-add : (d : Domain) (n p : Node) (octets : List ℕ) (o : Option (List Act)) (v : List ℕ) (h : List Act)
     → add (answer_acts d n p octets o v) h ≡ sent_m1 d n p 1 v ∷ sent_assoc_resp d n p ∷ Drew (Nonce v) ∷ Opened p Connect ∷ add (close_attempt p o) (Took (Some p) octets kind.AssocReq Accepted None ∷ h)
 answer-add d n p octets None v h = refl
 answer-add d n p octets (Some part) v h = refl
@@ -155,7 +155,7 @@ close-apart : (sta : ℕ) (p : Node) (o : Option (List Act)) → same (Sta sta) 
 close-apart sta p None other = tt
 close-apart sta p (Some part) other = (apart-closed sta p other, tt)
 
-answer-apart : (d : Domain) (n p : Node) (octets : List ℕ) (o : Option (List Act)) (v : List ℕ) (sta : ℕ) → same (Sta sta) p ≡ false → AllByRecursion (IsApart (Sta sta)) (answer_acts d n p octets o v)
+pub answer-apart : (d : Domain) (n p : Node) (octets : List ℕ) (o : Option (List Act)) (v : List ℕ) (sta : ℕ) → same (Sta sta) p ≡ false → AllByRecursion (IsApart (Sta sta)) (answer_acts d n p octets o v)
 answer-apart d n p octets None v sta other = (
   apart-took (Sta sta) (Some p) octets kind.AssocReq Accepted None other,
   (apart-opened (Sta sta) p Connect other, (apart-drew (Sta sta) (Nonce v), (apart-sent (Sta sta) p kind.AssocResp _ None other, (apart-sent (Sta sta) p (kind.Key M1) _ None other, tt)))),

@@ -1,5 +1,5 @@
 -- What the rounds of an example handshake need: reading, judging and pushing in one step.
-use Rattle.aes_block.specs.Octets.{AreOctets}
+use Rattle.domain_base.specs.Octets.{AreOctets}
 use Rattle.air_frame.specs.Sent.{IsAddress}
 use Rattle.domain_base.specs.declared.names.Akm.TheVariants.{Psk, PskSha256, FtPsk}
 use Rattle.domain_base.specs.declared.names.Akm.{Akm}

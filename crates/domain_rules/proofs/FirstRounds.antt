@@ -1,5 +1,6 @@
 -- The rounds of an example handshake from the start to M2.
 use Rattle.domain_base.specs.declared.names.Node.{Node}
+use Rattle.domain_rules.proofs.Refused.{no_facts}
 use Rattle.domain_rules.proofs.Exchange.{length-nonce, take_step, frames-started, status-sent, same_octets, IsPair, Stage}
 use Rattle.domain_rules.proofs.Journals.{history-push, history-other, history-started, history-started_sta, explained_start, explained_event}
 use Rattle.domain_rules.proofs.Parts.{same-refl, attempt_more}
@@ -132,9 +133,6 @@ module _ (d : Domain) (k m : ℕ) (pair : IsPair d k m) where
   -- round 2: the access point answers with its response and M1
   abbrev past2 : List Entry
   past2 = push 2 a acts2 past1
-
-  abbrev no_facts : Facts
-  no_facts = record { requested = None; unwrapped = None; data_ = None }
 
   none_sent : frames past0 ≡ 0
   none_sent = frames-started d (length d.aps)

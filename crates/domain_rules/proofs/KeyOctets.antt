@@ -7,7 +7,7 @@ use Rattle.sha1.specs.Sha1 as S1
 use Rattle.sha1.specs.Sha1.{sha1}
 use Rattle.sha2.specs.Sha256 as S256
 use Rattle.sha2.specs.Sha256.{sha256}
-use Rattle.aes_block.specs.Octets.{AreOctets}
+use Rattle.domain_base.specs.Octets.{AreOctets}
 use Rattle.domain_base.specs.declared.names.Akm.{Akm}
 use Rattle.domain_base.specs.declared.names.Akm.TheVariants.{Psk, PskSha256, FtPsk}
 use Rattle.mac_prf.specs.Hmac.{hmac}

@@ -1,5 +1,6 @@
 -- The rounds of an example handshake from M3 to M4: the keys are installed, and M3 is sent and answered twice.
 use Rattle.domain_base.specs.declared.names.Node.{Node}
+use Rattle.domain_rules.proofs.Refused.{no_facts}
 use Rattle.domain_rules.proofs.CarriedKey.{IsGroupKey, wrapped_is, says}
 use Rattle.domain_rules.proofs.Exchange.{length-nonce, length-gtk, octets-gtk, take_step, some-injective, m3-keyed, m4-keyed, m3-in, m4-in, m3-keyed_session, m3-again, retries-m3, key_data-same, same_octets, IsPair, Stage, after_sta, after_ap}
 use Rattle.domain_rules.proofs.KeyOctets.{octets-kek}
@@ -327,9 +328,6 @@ module _ (d : Domain) (k m : ℕ) (pair : IsPair d k m) where
       (record { entry = _; there = inl refl; earlier = omega arith; is = ap suc stage7.count; act = (_, (_, (_, refl))) })
 
   -- round 9: the access point installs the pairwise key by M4
-  abbrev no_facts : Facts
-  no_facts = record { requested = None; unwrapped = None; data_ = None }
-
   abbrev m4 : KeyMessage
   m4 = m4_message d s a i 3
 

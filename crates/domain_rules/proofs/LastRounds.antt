@@ -1,6 +1,7 @@
 -- The last rounds of an example handshake: a second attempt begins at both nodes.
 use Rattle.domain_base.specs.declared.names.Node.{Node}
 use Rattle.domain_base.specs.declared.names.Peer.TheVariants.{One}
+use Rattle.domain_rules.proofs.Refused.{no_facts}
 use Rattle.domain_rules.proofs.Exchange.{take_step, status-sent, same_octets, IsPair, Stage, after_sta, after_ap}
 use Rattle.domain_rules.proofs.Parts.{same-refl, attempt_ends}
 use Rattle.domain_rules.proofs.SentReads.{assoc_req_body, assoc_req_said, reads-assoc_req}
@@ -10,7 +11,7 @@ use Rattle.domain_rules.specs.Explained.{push, Step}
 use Rattle.domain_rules.specs.Frames.{sent_assoc_req, sent_assoc_resp, sent_m1}
 use Rattle.domain_rules.specs.Reading.{Managed}
 use Rattle.domain_rules.specs.Rows.{ConnectRow, Asks, Begin, TakeRow, By_assoc_req, close_attempt}
-use Rattle.domain_rules.specs.Verdict.{management_verdict, Facts, and_then, verdict}
+use Rattle.domain_rules.specs.Verdict.{management_verdict, and_then, verdict}
 use Rattle.eapol_key.specs.declared.messages.Message.TheVariants.{M4}
 use Rattle.key_hierarchy.specs.Keys.{ptk}
 use Rattle.key_hierarchy.specs.declared.inputs.Inputs.{Inputs}
@@ -123,9 +124,6 @@ module _ (d : Domain) (k m : ℕ) (pair : IsPair d k m) where
       (record { entry = _; there = inl refl; earlier = omega arith; is = ap suc st.count; act = (_, (_, (_, refl))) })
 
   -- round 11: the access point begins a second attempt, and keeps its session
-  abbrev no_facts : Facts
-  no_facts = record { requested = None; unwrapped = None; data_ = None }
-
   awaited11 : management_verdict d 0 a ap9 s kind.AssocReq (assoc_req_body d s a) (assoc_req_said d) ≡ Accepted
   awaited11 = rw (status-sent d.akm) refl
 

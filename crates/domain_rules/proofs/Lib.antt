@@ -8,6 +8,7 @@ pub mod LastRounds
 pub mod Example
 pub mod Parts
 pub mod Effects
+pub mod Refused
 pub mod Peers
 pub mod KeyOctets
 pub mod CarriedKey

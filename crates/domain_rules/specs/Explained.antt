@@ -61,7 +61,8 @@ pub record Step (d : Domain) (round : ℕ) (event : Event) (old new : List Entry
   pub group : Adds d 0 node (history node old) at_node acts
   pub is : new ≡ push round node acts old
 
--- the events of a round, one after the other
+-- the events of a round, one after the other, in the order of the list, at whichever nodes they are. Today every round of a
+-- script has one event
 abbrev pub Follows : Domain → ℕ → List Event → List Entry → List Entry → Type 0
 Follows d round [] old new = new ≡ old
 Follows d round (event ∷ events) old new = (mid : List Entry) × (Step d round event old mid × Follows d round events mid new)
@@ -71,7 +72,8 @@ unfoldable pub started : Domain → ℕ → List Entry
 started d zero = []
 started d (suc k) = push 0 (Ap k) (start_acts d 0 (Ap k)) (started d k)
 
--- the journal of these rounds, the last first; each has its events in order
+-- the journal of these rounds, the last first; each has its events in order. The rows are those of suites 2 and 6. Those of
+-- suite 4 come later: a network with it is not excluded, and what this says of one is not yet what its nodes are to do
 unfoldable pub Explained : Domain → List (List Event) → List Entry → Type 0
 Explained d [] j = j ≡ started d (length d.aps)
 Explained d (round ∷ rounds) j = (old : List Entry) × (Explained d rounds old × Follows d (suc (length rounds)) round old j)

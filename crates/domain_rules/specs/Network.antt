@@ -21,7 +21,7 @@ mac d (Sta k) = unwrap_or (slice_get d.stas k) (record { 0 = [] })
 abbrev pub address : Domain → Node → List ℕ
 address d n = (mac d n).0
 
--- the listed node of the other kind that has this address
+-- the first listed node of the other kind that has this address
 abbrev pub peer_of : Domain → Node → List ℕ → Option Node
 peer_of d (Ap k) octets = option_map (λ i. Sta i) (position (λ (m : Mac). bytes_eq m.0 octets) d.stas)
 peer_of d (Sta k) octets = option_map (λ i. Ap i) (position (λ (a : ListedAp). bytes_eq a.address.0 octets) d.aps)
@@ -58,7 +58,8 @@ gtk d n i = kdf d.seed (codes "Group key expansion") (address d n ++ to_be_bytes
 abbrev pub last_draw : ℕ
 last_draw = 1152921504606846976
 
--- what the pairwise key of a node with its peer is made of, by its own nonce and the other's; suites 2 and 6
+-- what the pairwise key of a node with its peer is made of, by its own nonce and the other's, with suites 2 and 6. The rows
+-- of suite 4 come later, and with them its mobility domain and R0KH-ID: of a network with suite 4 this does not speak yet
 abbrev pub inputs : Domain → Node → Node → List ℕ → List ℕ → Inputs
 inputs d (Ap k) p own other = record {
   akm = d.akm;

@@ -14,6 +14,7 @@ use Rattle.run_journal.specs.declared.acts.Key.TheVariants.{Pairwise, Group}
 use Rattle.run_journal.specs.declared.acts.Outcome.{Outcome}
 use Rattle.run_journal.specs.declared.acts.Act.{Act}
 use Rattle.run_journal.specs.declared.acts.Act.TheVariants.{Closed, Derived, Sent, Took, Installed, Resumed, Finished}
+use Rattle.run_journal.specs.Acts.{Derivation}
 use Rattle.domain_rules.specs.Network.{mac, inputs}
 use Rattle.domain_rules.specs.Frames.{frame_seal}
 use Rattle.domain_rules.specs.Reading.{KeyMessage, Keyed as KeyedReading, Reads}
@@ -30,6 +31,10 @@ pub record IsMessageFrom (d : Domain) (n p : Node) (octets : List ℕ) (k : KeyM
 abbrev pub inputs_by : Domain → Node → Node → Keyed → Inputs
 inputs_by d (Ap k) p y = inputs d (Ap k) p y.anonce y.snonce
 inputs_by d (Sta k) p y = inputs d (Sta k) p y.snonce y.anonce
+
+-- the key of node n with its peer p
+abbrev pub key_by : Domain → Node → Node → Keyed → Derivation
+key_by d n p y = record { inputs = inputs_by d n p y; ptk = y.ptk }
 
 abbrev pub derived_acts : Domain → Node → Node → Option Keyed → List Act
 derived_acts d n p None = []

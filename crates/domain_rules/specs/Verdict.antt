@@ -17,7 +17,8 @@ use Rattle.rsn_elements.specs.Elements.{ElementFields, SpellsElements}
 use Rattle.rsn_elements.specs.Faults.{HasElementFault}
 use Rattle.rsn_elements.specs.KeyData.{GtkKdeFields}
 use Rattle.rsn_elements.specs.Sent.{akm_type, rsne_octets}
-use Rattle.aes_block.specs.Octets.{AreOctets}
+use Rattle.rsn_elements.specs.Pieces.{suite}
+use Rattle.domain_base.specs.Octets.{AreOctets}
 use Rattle.key_wrap.specs.KeyWrap.{Wraps}
 use Rattle.mac_prf.specs.Mic.{mic}
 use Rattle.eapol_key.specs.declared.messages.Message.{Message}
@@ -55,12 +56,13 @@ abbrev pub greatest : List ℕ → Option ℕ
 greatest [] = None
 greatest (x ∷ xs) = at_least x (greatest xs)
 
--- at a station: the greatest replay counter of an M3 or G1 accepted or answered from p
+-- at a station: the greatest replay counter of an M3 or G1 accepted or answered from p, in the part of the history that is
+-- given
 abbrev pub kept_counter : Node → List Act → Option ℕ
 kept_counter p part =
     greatest (map replay_counter (all_replied p (kind.Key M3) part ++ all_replied p (kind.Key G1) part))
 
--- at an access point: the replay counters of the messages of that kind sent to p
+-- at an access point: the replay counters of the messages of that kind sent to p, in that part
 abbrev pub offered : Node → Message → List Act → List ℕ
 offered p m part = map replay_counter (all_sent p (kind.Key m) part)
 
@@ -100,10 +102,7 @@ among counters counter then_ =
 abbrev pub verified : Akm → List ℕ → KeyMessage → Outcome → Outcome
 verified akm kck k then_ = if bytes_eq k.fields.mic (mic akm kck k.octets) then then_ else Refused reason.Mic
 
--- 00-0F-AC and the number of the suite (9.4.2.24.2 and 9.4.2.24.3)
-abbrev pub suite : ℕ → List ℕ
-suite number = 0x00 ∷ 0x0f ∷ 0xac ∷ number ∷ []
-
+-- it is there, and is the suite 00-0F-AC of this number (9.4.2.24.2 and 9.4.2.24.3)
 abbrev pub is_suite : ℕ → Option (List ℕ) → Bool
 is_suite number None = false
 is_suite number (Some octets) = bytes_eq octets (suite number)

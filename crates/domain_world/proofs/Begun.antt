@@ -12,7 +12,7 @@ use Rattle.domain_rules.specs.Network.{mac}
 use Rattle.domain_rules.specs.Rows.{start_acts}
 use Rattle.domain_rules.specs.Explained.{push, started}
 use Rattle.domain_rules.proofs.Journals.{started_more, same-started}
-use Rattle.domain_world.specs.State.{with_ap, with_sta}
+use Rattle.run_journal.specs.Listing.{with_ap, with_sta}
 use Rattle.domain_world.proofs.Lists.{get_before}
 
 same_mac : (d : Domain) (address : Mac) (r0kh_id : List ℕ) (k : ℕ) → k < length d.aps → mac d (Ap k) ≡ mac (with_ap d address r0kh_id) (Ap k)

@@ -22,7 +22,8 @@ use Rattle.run_journal.specs.Questions.{history}
 use Rattle.domain_rules.specs.Network.{InForm, IsListed}
 use Rattle.domain_rules.specs.Rows.{NodeEvent}
 use Rattle.domain_rules.specs.Explained.{push, Happens, Step, WasSent}
-use Rattle.domain_world.specs.State.{State, Nodes, with_ap, with_sta}
+use Rattle.run_journal.specs.Listing.{with_ap, with_sta}
+use Rattle.domain_world.specs.State.{State, Nodes}
 use Rattle.domain_world.specs.Owning.{AreListed, Stand, IsPast, IsNumbered, places, nodes_of, Owns}
 use Rattle.domain_world.specs.Acting.{Acted}
 use Rattle.domain_world.proofs.Placed.{places_count, numbered_push, Placed, placed, all_in}

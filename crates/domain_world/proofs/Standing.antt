@@ -23,7 +23,8 @@ use Rattle.node_frames.specs.Growing.{Grows}
 use Rattle.station_node.proofs.Growing.{grown as station_grown}
 use Rattle.ap_node.proofs.Growing.{grown as ap_grown}
 use Rattle.domain_base.specs.declared.names.Mac.{Mac}
-use Rattle.domain_world.specs.State.{Nodes, with_ap, with_sta}
+use Rattle.run_journal.specs.Listing.{with_ap, with_sta}
+use Rattle.domain_world.specs.State.{Nodes}
 use Rattle.domain_world.specs.Owning.{AreListed, Stand, IsPast}
 use Rattle.domain_world.proofs.Lists.{get_set, get_push}
 

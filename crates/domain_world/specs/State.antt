@@ -1,6 +1,5 @@
 -- What contracts see of a world.
-use Rattle.std.specs.Prelude.{ℕ, List, [], ◌∷◌, ◌++◌}
-use Rattle.domain_base.specs.declared.names.Mac.{Mac}
+use Rattle.std.specs.Prelude.{ℕ, List}
 use Rattle.run_journal.specs.declared.domain.Domain.{Domain}
 use Rattle.station_node.specs.State.{State as StationState}
 use Rattle.ap_node.specs.State.{State as ApState}
@@ -19,27 +18,3 @@ pub record Nodes : Type 0 where
   pub domain : Domain
   pub aps : List ApState
   pub stas : List StationState
-
--- the network with one more access point
-abbrev pub with_ap : Domain → Mac → List ℕ → Domain
-with_ap d address r0kh_id = record {
-  seed = d.seed;
-  ssid = d.ssid;
-  psk = d.psk;
-  akm = d.akm;
-  mdid = d.mdid;
-  aps = d.aps ++ record { address = address; r0kh_id = r0kh_id } ∷ [];
-  stas = d.stas;
-}
-
--- and with one more station
-abbrev pub with_sta : Domain → Mac → Domain
-with_sta d address = record {
-  seed = d.seed;
-  ssid = d.ssid;
-  psk = d.psk;
-  akm = d.akm;
-  mdid = d.mdid;
-  aps = d.aps;
-  stas = d.stas ++ address ∷ [];
-}

@@ -10,7 +10,8 @@ ghost use Rattle.domain_rules.specs.Network.{InForm, IsListed};
 ghost use Rattle.domain_rules.specs.Rows.{start_acts};
 ghost use Rattle.domain_rules.specs.Explained.{push};
 ghost use Rattle.node_frames.specs.Events.{event_of, IsEventAt};
-ghost use Rattle.domain_world.specs.State.{Nodes as AllNodes, with_ap, with_sta};
+ghost use Rattle.run_journal.specs.Listing.{with_ap, with_sta};
+ghost use Rattle.domain_world.specs.State.{Nodes as AllNodes};
 
 use ap_node::ApNode;
 use domain_base::{Mac, NoMemory, Node, Octets};

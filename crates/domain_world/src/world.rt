@@ -6,7 +6,7 @@ ghost use Rattle.run_journal.specs.declared.acts.Entry.{Entry};
 ghost use Rattle.domain_rules.specs.Network.{InForm, IsListed};
 ghost use Rattle.domain_rules.specs.Explained.{Happens, Step, WasSent, started};
 ghost use Rattle.node_frames.specs.Events.{event_of, IsEventAt};
-ghost use Rattle.domain_world.specs.State.{with_ap, with_sta};
+ghost use Rattle.run_journal.specs.Listing.{with_ap, with_sta};
 
 use crate::journaling::journal_acts;
 use crate::nodes::Nodes;

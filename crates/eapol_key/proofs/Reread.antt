@@ -1,11 +1,13 @@
 -- A frame is the fields that it spells, one after the other.
-use Rattle.std.proofs.Common.{◌≡◌, ℕ, zero, suc, All, lit<, ◌+◌, ◌-◌, ◌≤◌, ◌<◌, List, [], ◌∷◌, ◌++◌, take, drop, length, get_or, refl, sym, ap, ◌∙◌, arith, append_assoc}
+use Rattle.std.proofs.Common.{◌≡◌, ℕ, ◌+◌, ◌-◌, ◌≤◌, ◌<◌, List, [], ◌∷◌, ◌++◌, take, drop, length, get_or, refl, sym, ap, ◌∙◌, arith, append_assoc}
 use Rattle.std.proofs.lemmas.List.{drop-drop, drop_more, length-take, length-drop}
 use Rattle.std.proofs.lemmas.List.Elements.{All-take, All-drop}
 use Rattle.std.proofs.lemmas.Nat.{be_bytes_2, be_bytes_8}
 use Rattle.std.proofs.Math.Seq.{take-add}
 use Rattle.std.specs.Int.{w16, w64, to_be_bytes}
+use Rattle.domain_base.specs.Octets.{AreOctets}
 use Rattle.domain_base.specs.Places.{part, big_endian_at}
+use Rattle.domain_base.proofs.OctetLemmas.{get_or_below}
 use Rattle.eapol_key.specs.KeyFrame.{KeyFields, SpellsKeyFrame}
 use Rattle.eapol_key.specs.Octets.{frame_octets}
 
@@ -22,15 +24,9 @@ part-one at octets h = ap (take 1) (drop_more octets at 0 h)
 length-part : (at n : ℕ) (octets : List ℕ) → at + n ≤ length octets → length (part at n octets) ≡ n
 length-part at n octets h = omega (arith, length-take n (drop at octets), length-drop at octets)
 
--- octets, and past their end the default
-few_octets : (xs : List ℕ) → All (λ x. x < 256) xs → (i : ℕ) → get_or xs i 0 < 256
-few_octets [] all i = lit< tt
-few_octets (x ∷ xs) all zero = all 0 0 (omega arith)
-few_octets (x ∷ xs) all (suc i) = few_octets xs (λ k d h. all (suc k) d (omega arith)) i
-
-module _ (octets : List ℕ) (few : All (λ x. x < 256) octets) where
+module _ (octets : List ℕ) (few : AreOctets octets) where
   few_in : (at n i : ℕ) → get_or (part at n octets) i 0 < 256
-  few_in at n i = few_octets (part at n octets) (All-take (λ x. x < 256) n (drop at octets) (All-drop (λ x. x < 256) at octets few)) i
+  few_in at n i = get_or_below (part at n octets) i (All-take (λ x. x < 256) n (drop at octets) (All-drop (λ x. x < 256) at octets few))
 
   two_octets : (at n : ℕ) → at + 2 ≤ length octets → big_endian_at w16 at octets ≡ n → part at 2 octets ≡ to_be_bytes w16 n
   two_octets at n h e = sym (be_bytes_2 (part at 2 octets) n (length-part at 2 octets h) (few_in at 2) (sym e))

@@ -2,7 +2,8 @@
 use Rattle.std.proofs.Common.{◌≡◌, ℕ, zero, suc, ◌<◌, ◌+◌, ◌-◌, List, ◌++◌, length, drop, replicate, set, refl, ap, ◌∙◌, arith}
 use Rattle.std.proofs.Math.Seq.{set-append_seam}
 use Rattle.std.proofs.lemmas.List.{drop-replicate, length-append, length-replicate}
-use Rattle.eapol_key.specs.KeyData.{padding, padding_octets, padded, padded_length}
+use Rattle.domain_base.specs.Padding.{padding, padding_octets}
+use Rattle.eapol_key.specs.KeyData.{padded, padded_length}
 
 length-padding_octets : (n : ℕ) → length (padding_octets n) ≡ n
 length-padding_octets zero = refl

@@ -31,8 +31,9 @@ row pairwise install ack mic secure encrypted key_data = record {
 }
 
 -- what a message asks of the bits of its key information, and whether it has key data
--- (IEEE Std 802.11-2020, 12.7.6.2 to 12.7.6.5, 12.7.7.2, 12.7.7.3; where it is Any, this project's
--- choice)
+-- (IEEE Std 802.11-2020, 12.7.6.2 to 12.7.6.5, 12.7.7.2, 12.7.7.3). This project's choice is where it
+-- is Any, and that a message is M2 only with key data and M4 only without: the standard tells these two
+-- apart by Secure
 abbrev pub row_of : Message → Row
 -- the columns: Pairwise, Install, Ack, MIC, Secure, Encrypted, key data
 row_of M1 = row Set Off Set Off Any Off Any

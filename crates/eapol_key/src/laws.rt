@@ -1,7 +1,8 @@
 //! Laws over the definitions, each as the contract of a function that does nothing.
 
-ghost use Rattle.std.specs.Prelude.{◌≡◌, ℕ, All, ◌+◌, ◌^◌, ◌<◌, ◌≤◌, ◌++◌, List, None, length, take, drop};
+ghost use Rattle.std.specs.Prelude.{◌≡◌, ℕ, ◌+◌, ◌^◌, ◌<◌, ◌≤◌, ◌++◌, List, None, length, take, drop};
 ghost use Rattle.std.specs.Int.{w16};
+ghost use Rattle.domain_base.specs.Octets.{AreOctets};
 ghost use Rattle.domain_base.specs.Places.{big_endian_at};
 ghost use Rattle.domain_base.specs.declared.names.Akm.{Akm};
 ghost use Rattle.mac_prf.specs.Mic.{mic};
@@ -70,7 +71,7 @@ pub fn mic_alone_changes()
 /// The octets of a frame are the fields that they spell, one after the other.
 pub fn read_as_written()
     ensures { (octets : List ℕ) (f : KeyFields) (used : ℕ)
-        → All (λ octet. octet < 256) octets → SpellsKeyFrame octets f used
+        → AreOctets octets → SpellsKeyFrame octets f used
         → take used octets ≡ frame_octets f }
 {}
 

@@ -66,12 +66,19 @@ pub enum Asked {
 /// What a message asks of its key information and key data.
 #[derive(Clone, Copy)]
 pub struct Row {
+    /// Key Type: set for a pairwise key.
     pub pairwise: Asked,
+    /// Install.
     pub install: Asked,
+    /// Key Ack.
     pub ack: Asked,
+    /// Key MIC.
     pub mic: Asked,
+    /// Secure.
     pub secure: Asked,
+    /// Encrypted Key Data.
     pub encrypted: Asked,
+    /// Whether there is key data.
     pub key_data: Asked,
 }
 

@@ -1,3 +1,5 @@
+//! Frames of the six messages, faults, MICs and wrapped key data.
+
 ghost use Rattle.std.specs.Prelude.{◌≡◌, ◌≤◌, ◌+◌, length};
 ghost use Rattle.eapol_key.specs.KeyData.{padded_length};
 ghost use Rattle.eapol_key.specs.Sent.{IsSentWith};

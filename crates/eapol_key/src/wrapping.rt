@@ -2,7 +2,8 @@
 
 ghost use Rattle.std.specs.Prelude.{◌≡◌, ◌≤◌, ◌+◌, ◌-◌, ℕ, List, length, take, drop, IfOk, OnErr, IsOkAnd};
 ghost use Rattle.key_wrap.specs.KeyWrap.{Wraps};
-ghost use Rattle.eapol_key.specs.KeyData.{padding, padded, padded_length};
+ghost use Rattle.domain_base.specs.Padding.{padding};
+ghost use Rattle.eapol_key.specs.KeyData.{padded, padded_length};
 
 use key_wrap::{BadWrap, unwrap, wrap_in_place};
 

@@ -8,6 +8,7 @@ use Rattle.domain_base.specs.declared.names.Node.{Node}
 use Rattle.domain_base.specs.declared.names.Node.TheVariants.{Ap, Sta}
 use Rattle.mac_prf.specs.Pbkdf2.{pbkdf2}
 use Rattle.run_journal.specs.declared.domain.Domain.{Domain}
+use Rattle.run_journal.specs.Listing.{with_ap, with_sta}
 use Rattle.run_journal.specs.declared.domain.ListedAp.{ListedAp}
 use Rattle.run_journal.specs.declared.domain.Event.{Event}
 use Rattle.run_journal.specs.declared.domain.Event.TheVariants.{Connect, Deliver, Alter, Cut, Inject, Retry}
@@ -326,28 +327,6 @@ line_says draft rounds sizes line =
     header_line draft (first_word line).0 (first_word line).1 >>= (λ next. Ok (Goes next))
 
 -- ---- what the lines together have said
-
-abbrev pub with_ap : Domain → Mac → List ℕ → Domain
-with_ap d address r0kh_id = record {
-  seed = d.seed;
-  ssid = d.ssid;
-  psk = d.psk;
-  akm = d.akm;
-  mdid = d.mdid;
-  aps = d.aps ++ record { address = address; r0kh_id = r0kh_id } ∷ [];
-  stas = d.stas;
-}
-
-abbrev pub with_sta : Domain → Mac → Domain
-with_sta d address = record {
-  seed = d.seed;
-  ssid = d.ssid;
-  psk = d.psk;
-  akm = d.akm;
-  mdid = d.mdid;
-  aps = d.aps;
-  stas = d.stas ++ address ∷ [];
-}
 
 abbrev pub listing : Draft → (Domain → Domain) → Draft
 listing (AtNodes d) f = AtNodes (f d)

@@ -4,7 +4,8 @@ ghost use Rattle.std.specs.Prelude.{◌≡◌, ◌<◌, length, IfOk, IsTrue, Ma
 ghost use Rattle.frame_script.specs.declared.reader.LineFault.TheVariants as answered;
 ghost use Rattle.frame_script.specs.declared.reader.Step.TheVariants as steps;
 ghost use Rattle.frame_script.specs.Due.{draft_of};
-ghost use Rattle.frame_script.specs.Script.{AtNodes, body_line, with_ap, with_sta};
+ghost use Rattle.run_journal.specs.Listing.{with_ap, with_sta};
+ghost use Rattle.frame_script.specs.Script.{AtNodes, body_line};
 ghost use Rattle.frame_script.specs.Sentences.{CanAsk, CanSay, IsKept, Takes, TellsBy, event_of, is_few, octets_of, said_of};
 
 use crate::events::{Asked, event_line};

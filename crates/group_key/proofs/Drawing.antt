@@ -1,6 +1,7 @@
 -- The group keys of an access point beside those that its history drew.
 use Rattle.std.proofs.Common.{◌≡◌, ℕ, suc, List, [], ◌∷◌, refl, sym, ap, ◌∙◌}
-use Rattle.std.specs.Prelude.{length}
+use Rattle.std.specs.Prelude.{◌↔◌, length}
+use native.Mathlib.Nat.{suc_inj}
 use Rattle.domain_base.specs.declared.names.Mac.{Mac}
 use Rattle.domain_base.specs.declared.names.Peer.TheVariants.{All}
 use Rattle.run_journal.specs.declared.acts.Drawn.TheVariants.{Gtk}
@@ -40,7 +41,16 @@ switched s b h holds pending =
       current = record { older = switches h; are = refl; is = last.is ∙ ap (λ (n : ℕ). placed n s.newest.key) places };
     }
 
+-- the group key drawn last is the newest
+pub last_newest : (k : GroupKey) (h : List Act) → IsLast k (gtks h) → newest h ≡ carried k
+last_newest k h last = ap newest_of last.are ∙ ap (λ (x : GroupKey). under k.key x.id) (sym last.is)
+
 pub newest_is : (s : Pair) (h : List Act) → Holds s h → newest h ≡ carried s.newest
-newest_is s h holds =
-    let last = holds.newest in
-    ap newest_of last.are ∙ ap (λ (x : GroupKey). under s.newest.key x.id) (sym last.is)
+newest_is s h holds = last_newest s.newest h holds.newest
+
+-- the newest is in use where as many were made current as were drawn
+pub in_use : (s : Pair) (h : List Act) → Holds s h → (s.newest.place ≡ s.current.place) ↔ (length (gtks h) ≡ length (switches h))
+in_use s h holds =
+    let drawn : suc s.newest.place ≡ length (gtks h) = place_is s.newest (gtks h) holds.newest in
+    let made : suc s.current.place ≡ length (switches h) = place_is s.current (switches h) holds.current in
+    (λ same. sym drawn ∙ ap suc same ∙ made, λ same. suc_inj (drawn ∙ same ∙ sym made))

@@ -2,7 +2,7 @@
 use Rattle.std.specs.Prelude.{ℕ, suc, ◌%◌, ◌==◌, max, Bool, ◌||◌, false, cond, List, [], ◌∷◌, take, Option, None, Some, bytes_eq}
 use Rattle.group_key.specs.declared.keys.GroupKey.{GroupKey}
 
--- the group key of an access point of that number in the order of drawing: the key ids are 1, 2, 1, 2, .. (here)
+-- the group key of an access point of that number in the order of drawing: the key ids are 1, 2, 1, 2, .. (this project's choice)
 abbrev pub placed : ℕ → List ℕ → GroupKey
 placed place key = record { place = place; id = suc (place % 2); key = key }
 

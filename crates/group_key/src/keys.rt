@@ -1,6 +1,6 @@
 //! The group keys of an access point (IEEE Std 802.11-2020, 12.7.7).
 
-ghost use Rattle.std.specs.Prelude.{◌≡◌, ◌≢◌, ◌<◌, ◌^◌, suc, MatchResult, IsOk};
+ghost use Rattle.std.specs.Prelude.{◌≡◌, ◌≢◌, ◌<◌, ◌^◌, suc, MatchResult};
 ghost use Rattle.group_key.specs.Keys.{placed};
 
 use std::marker::Model;

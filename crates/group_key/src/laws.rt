@@ -1,6 +1,6 @@
 //! What the calls do stands for what a history gains. The functions do nothing; their contracts are proved.
 
-ghost use Rattle.std.specs.Prelude.{◌≡◌, ℕ, ◌<◌, suc, List, [], ◌∷◌, map, Option, None, Some, option_map};
+ghost use Rattle.std.specs.Prelude.{◌≡◌, ◌↔◌, ℕ, ◌<◌, suc, List, [], ◌∷◌, length, map, None, Some, option_map};
 ghost use Rattle.domain_base.specs.declared.names.Mac.{Mac};
 ghost use Rattle.domain_base.specs.declared.names.Node.{Node};
 ghost use Rattle.domain_base.specs.declared.names.Peer.TheVariants.{All};
@@ -16,7 +16,8 @@ ghost use Rattle.group_key.specs.Holds.{Holds, Remembers, carried, key_of, under
 
 /// The keys of an access point stand for its history: after the first key was drawn and made current (`GroupKeys::new`),
 /// after one more was drawn (`rekey`), and after the one drawn last was made current (`switch`). The key drawn last is then
-/// the newest of the definitions.
+/// the newest of the definitions, and it is in use (`rekey` is not refused) exactly where as many keys were made current as were
+/// drawn.
 pub fn keys_stand()
     ensures started { (key : List ℕ) (h : List Act) → gtks h ≡ key ∷ [] → switches h ≡ key ∷ [] → Holds (record { current = placed 0 key; newest = placed 0 key }) h }
     ensures drawn { (s : Pair) (key : List ℕ) (h : List Act) → Holds s h
@@ -24,6 +25,7 @@ pub fn keys_stand()
     ensures switched { (s : Pair) (b : Mac) (h : List Act) → Holds s h → s.newest.place ≡ suc s.current.place
         → Holds (record { current = s.newest; newest = s.newest }) (Installed All (Group s.newest.key s.newest.id b) ∷ h) }
     ensures newest { (s : Pair) (h : List Act) → Holds s h → newest h ≡ carried s.newest }
+    ensures in_use { (s : Pair) (h : List Act) → Holds s h → (s.newest.place ≡ s.current.place) ↔ (length (gtks h) ≡ length (switches h)) }
 {}
 
 /// The memory of a station stands for its history: at first, after a group key was given (`give`) with what was told of it as

@@ -128,7 +128,7 @@ impl GroupMemory {
         None
     }
 
-    /// Puts the counter of the key that `find` gives for that id.
+    /// Puts the counter of the key that `find` gives for that id to a greater number. Nothing is done where it gives none.
     pub fn take(&mut self, id: u8, number: u64)
         requires { IfSome (found id self.old) (λ k. k.counter < number) }
         ensures { self.new ≡ taken id number self.old }

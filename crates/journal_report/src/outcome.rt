@@ -122,6 +122,7 @@ fn put_fault(out: &mut [u8], at: usize, place: usize, number: u64) -> usize
     put_decimal(out, at, number)
 }
 
+// The number that a report prints for a fault of key data.
 fn key_data_number(fault: KeyDataFault) -> u64
     ensures { result ≡ key_data_code fault }
 {

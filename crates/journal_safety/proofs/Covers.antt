@@ -22,7 +22,7 @@ use Rattle.eapol_key.proofs.Joined.{sent_fits}
 use Rattle.eapol_key.proofs.Written.{spelled_as_written}
 use Rattle.domain_rules.specs.Reading.{KeyMessage, HasMessage}
 use Rattle.domain_rules.proofs.SentReads.{message_sent, length-frame}
-use Rattle.aes_block.proofs.OctetLemmas.{get_or_below}
+use Rattle.domain_base.proofs.OctetLemmas.{get_or_below}
 use Rattle.domain_rules.proofs.KeyOctets.{byte_below, octets-bytes}
 
 -- ---- by the offsets of the fields, one more for the form in front

@@ -1,6 +1,6 @@
 -- Which act may come next in the history of a node, whatever event adds it: what all of the proof of safety rests on.
 use Rattle.std.proofs.Common.{ℕ, ◌≡◌, inr, Bool, true, false, not, List, [], ◌∷◌, length, Option, Some, None}
-use Rattle.aes_block.specs.Octets.{AreOctets}
+use Rattle.domain_base.specs.Octets.{AreOctets}
 use Rattle.key_wrap.specs.KeyWrap.{Wraps}
 use Rattle.domain_base.specs.declared.names.Mac.{Mac}
 use Rattle.domain_base.specs.declared.names.Node.{Node}

@@ -1,3 +1,5 @@
+//! Keys of captured handshakes and of the standard, and the hierarchy of fast transition.
+
 use super::*;
 use domain_base::{Akm, Mac, Octets, put};
 use std::test::*;

@@ -3,7 +3,8 @@ use Rattle.std.proofs.Common.{◌≡◌, ℕ, zero, suc, ◌<◌, ◌≤◌, ◌
 use Rattle.std.proofs.lemmas.Nat.{mod_below}
 use Rattle.std.proofs.lemmas.List.{take_at, drop_at, take-append-drop, length-take-le}
 use Rattle.std.proofs.lemmas.List.Elements.{All-append, All-take, All-drop, All-cons, All-nil, All-replicate}
-use Rattle.aes_block.specs.Octets.{AreOctets, IsBlock}
+use Rattle.domain_base.specs.Octets.{AreOctets}
+use Rattle.aes_block.specs.Octets.{IsBlock}
 use Rattle.aes_block.specs.Cipher.{cipher}
 use Rattle.aes_block.proofs.OctetLemmas.{length-exclusive_or, exclusive_or-cancel, AreOctets-exclusive_or}
 use Rattle.aes_block.proofs.CipherLemmas.{length-cipher, AreOctets-cipher, cipher-injective}

@@ -2,7 +2,8 @@
 -- registers are shifted (2.2.1). A block of key wrap has 8 octets, and blocks stand in a row.
 use Rattle.std.specs.Prelude.{◌≡◌, ℕ, zero, suc, ◌*◌, ◌/◌, ◌%◌, ◌≤◌, List, ◌++◌, length, take, drop, replicate}
 use Rattle.std.specs.Int.{w64, to_be_bytes}
-use Rattle.aes_block.specs.Octets.{AreOctets, exclusive_or}
+use Rattle.domain_base.specs.Octets.{AreOctets}
+use Rattle.aes_block.specs.Octets.{exclusive_or}
 use Rattle.aes_block.specs.Cipher.{cipher}
 
 -- the registers: A, of 8 octets, and R[1] to R[n] (2.2)
@@ -14,8 +15,8 @@ pub record Registers : Type 0 where
 unfoldable pub counter : ℕ → List ℕ
 counter t = to_be_bytes w64 t
 
--- step t: A and the first block are encrypted together; the upper half with t added is the new A, the
--- other blocks move up, and the lower half is the new last block (2.2.1, step 2)
+-- step t: A and the first block are encrypted together; the upper half exclusive or t is the new A,
+-- the other blocks move up, and the lower half is the new last block (2.2.1, step 2)
 unfoldable pub step : List ℕ → ℕ → Registers → Registers
 step kek t s = record {
   check = exclusive_or (take 8 encrypted) (counter t);
@@ -38,7 +39,7 @@ abbrev pub last_registers : List ℕ → List ℕ → Registers
 last_registers kek plain =
     after_steps kek (record { check = initial_value; blocks = plain }) (6 * (length plain / 8))
 
--- the plain text, of at least two whole blocks, is wrapped to `out` (2.2 and 2.2.1, step 3)
+-- the plain text, of at least two whole blocks (2), is wrapped to `out` (2.2.1, step 3)
 pub record Wraps (kek plain out : List ℕ) : Type 0 where
   pub whole_blocks : length plain % 8 ≡ 0
   pub two_blocks : 16 ≤ length plain

@@ -2,7 +2,8 @@
 #![tactic(auto)]
 
 ghost use Rattle.std.specs.Prelude.{◌≡◌, ◌≤◌, ◌+◌, ◌-◌, ◌*◌, ◌/◌, ◌%◌, ℕ, List, ◌++◌, length, take, drop, IfOk, OnErr, IsOkAnd};
-ghost use Rattle.aes_block.specs.Octets.{AreOctets, exclusive_or};
+ghost use Rattle.domain_base.specs.Octets.{AreOctets};
+ghost use Rattle.aes_block.specs.Octets.{exclusive_or};
 ghost use Rattle.aes_block.specs.Cipher.{cipher};
 ghost use Rattle.key_wrap.specs.KeyWrap.{after_steps, counter, initial_value, Wraps};
 
@@ -139,7 +140,7 @@ fn unwrap_step(key: &Aes128, t: u64, check: &mut [u8; 8], block: &mut [u8])
     *check = upper;
 }
 
-// A with the number of a step added (RFC 3394, 2.2.1: `^ t`).
+// A exclusive or the number of a step (RFC 3394, 2.2.1: `^ t`).
 fn with_count(mut check: [u8; 8], t: u64) -> [u8; 8]
     ensures { result ≡ exclusive_or check (counter t) }
 {

@@ -4,8 +4,8 @@ use Rattle.std.specs.Int.{w128, to_be_bytes, from_be_bytes, div_ceil}
 use Rattle.aes_block.specs.Octets.{exclusive_or}
 use Rattle.aes_block.specs.Cipher.{cipher}
 
--- a block as a number of 128 bits, shifted to the left by one bit; where its highest bit is 1, the
--- constant 87 is added (RFC 4493, 2.3)
+-- a block as a number of 128 bits, shifted to the left by one bit; where its highest bit is 1,
+-- exclusive or the constant 0x87 (RFC 4493, 2.3)
 unfoldable pub doubled : List ℕ → List ℕ
 doubled block = to_be_bytes w128 (if nat_lt bits (2 ^ 127) then shifted else bit_xor shifted 0x87) where
   bits : ℕ
@@ -30,7 +30,7 @@ blocks_before_last text = div_ceil (length text) 16 - 1
 abbrev pub last_octets : List ℕ → List ℕ
 last_octets text = drop (16 * blocks_before_last text) text
 
--- fewer octets than a block, filled up by 80 and zeros (RFC 4493, 2.4, padding(x))
+-- fewer octets than a block, filled up by 0x80 and zeros (RFC 4493, 2.4, padding(x))
 abbrev pub padded : List ℕ → List ℕ
 padded octets = octets ++ 0x80 ∷ replicate (15 - length octets) 0
 
@@ -47,7 +47,7 @@ unfoldable pub chained : List ℕ → List ℕ → ℕ → List ℕ
 chained key text zero = replicate 16 0
 chained key text (suc n) = cipher key (exclusive_or (chained key text n) (take 16 (drop (16 * n) text)))
 
--- T: the last block is added to X and encrypted (RFC 4493, 2.4, steps 6 and 7)
+-- T: X exclusive or the last block, encrypted (RFC 4493, 2.4, steps 6 and 7)
 unfoldable pub cmac : List ℕ → List ℕ → List ℕ
 cmac key text =
     cipher key (exclusive_or (chained key text (blocks_before_last text)) (last_block key (last_octets text)))

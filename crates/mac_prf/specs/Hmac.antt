@@ -12,7 +12,7 @@ block_key hash key =
 abbrev pub masked : ℕ → List ℕ → List ℕ
 masked pad block = map (λ octet. bit_xor octet pad) block
 
--- H(K xor opad, H(K xor ipad, text)), with ipad octets 36 and opad octets 5c (RFC 2104, 2)
+-- H(K xor opad, H(K xor ipad, text)), with ipad octets 0x36 and opad octets 0x5c (RFC 2104, 2)
 unfoldable pub hmac : (List ℕ → List ℕ) → List ℕ → List ℕ → List ℕ
 hmac hash key text =
     hash (masked 0x5c (block_key hash key) ++ hash (masked 0x36 (block_key hash key) ++ text))

@@ -9,7 +9,7 @@ use aes_block::Aes128;
 
 const BLOCK_LEN: usize = 16;
 
-// The constant that is added where a doubled block has lost a bit (RFC 4493, 2.3).
+// The constant for the exclusive or where a doubled block has lost a bit (RFC 4493, 2.3).
 const REDUCTION: u128 = 0x87;
 
 // What stands behind the octets of a block that is not whole (RFC 4493, 2.4).

@@ -1,3 +1,5 @@
+//! Vectors of the standards.
+
 ghost use Rattle.std.specs.Prelude.{◌≤◌};
 
 use super::*;

@@ -9,9 +9,9 @@ use Rattle.run_journal.specs.declared.domain.ListedAp.{ListedAp}
 use Rattle.run_journal.specs.declared.reply.Keyed.{Keyed}
 use Rattle.domain_rules.specs.Network.{IsListed, mac}
 use Rattle.domain_rules.specs.Replies.{inputs_by}
-use Rattle.node_frames.specs.declared.link.Link.{Link}
+use Rattle.node_frames.specs.declared.ends.Ends.{Ends}
 use Rattle.node_frames.specs.Growing.{Grows}
-use Rattle.node_frames.specs.Links.{IsLink}
+use Rattle.node_frames.specs.Ends.{AreEnds}
 
 -- what stands in front of more stays
 get_front : {X : Type 0} (xs ys : List X) (i : ℕ) → i < length xs → slice_get (xs ++ ys) i ≡ slice_get xs i
@@ -28,12 +28,12 @@ mac_grown d e (Sta k) g listed =
     ap (λ (l : List Mac). unwrap_or (slice_get l k) (record { 0 = [] })) g.stas
     ∙ ap (λ (o : Option Mac). unwrap_or o (record { 0 = [] })) (get_front d.stas g.more_stas k listed)
 
-pub link_grown : (d e : Domain) (n p : Node) (l : Link) → Grows d e → IsListed d n → IsListed d p → IsLink d n p l → IsLink e n p l
-link_grown d e n p l g listed peer link = record {
-  akm = link.akm ∙ sym g.akm;
-  direction_is = link.direction_is;
-  own = link.own ∙ sym (mac_grown d e n g listed);
-  peer = link.peer ∙ sym (mac_grown d e p g peer);
+pub ends_grown : (d e : Domain) (n p : Node) (l : Ends) → Grows d e → IsListed d n → IsListed d p → AreEnds d n p l → AreEnds e n p l
+ends_grown d e n p l g listed peer ends = record {
+  akm = ends.akm ∙ sym g.akm;
+  direction_is = ends.direction_is;
+  own = ends.own ∙ sym (mac_grown d e n g listed);
+  peer = ends.peer ∙ sym (mac_grown d e p g peer);
 }
 
 -- and their keys are made of the same

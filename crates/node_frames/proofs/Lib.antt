@@ -1,3 +1,5 @@
-pub mod LinkedFrames
+pub mod FramesBetween
+pub mod EndsKeys
 pub mod RepliedActs
 pub mod Grown
+pub mod Returning

@@ -1,4 +1,4 @@
--- A network with more nodes.
+-- A network with more nodes (this project's choice).
 use Rattle.std.specs.Prelude.{◌≡◌, ◌++◌, List}
 use Rattle.domain_base.specs.declared.names.Mac.{Mac}
 use Rattle.run_journal.specs.declared.domain.Domain.{Domain}

@@ -1,4 +1,4 @@
--- What a delivered frame is judged as before any question to the history.
+-- What a delivered frame is judged as before any question to the history (this project's choice).
 use Rattle.std.specs.Prelude.{◌≡◌, ℕ, ◌<◌, false, List, [], length, Option, Some, ◌⊎◌}
 use Rattle.domain_base.specs.declared.names.Node.{Node}
 use Rattle.domain_base.specs.declared.names.Node.TheVariants.{Ap, Sta}

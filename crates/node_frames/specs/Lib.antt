@@ -3,8 +3,9 @@ pub mod Events
 pub mod Growing
 pub mod Judging
 pub mod Waiting
-pub mod Carried
-pub mod Links
-pub mod Linked
+pub mod Ends
+pub mod Replied
+pub mod PairwiseKeys
+pub mod Between
 pub mod Templates
 pub mod Rooms

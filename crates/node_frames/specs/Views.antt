@@ -1,4 +1,4 @@
--- What delivered frames are, without where they lie in memory.
+-- What delivered frames are, without where they lie in memory (this project's choice).
 use Rattle.air_frame.specs.Views.{header_of}
 use Rattle.rsn_elements.specs.Elements.{HasRaw}
 use Rattle.rsn_elements.specs.Fields.{element_fields}

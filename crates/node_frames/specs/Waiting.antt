@@ -1,4 +1,4 @@
--- What contracts see of an outbox.
+-- What contracts see of an outbox (this project's choice).
 use Rattle.std.specs.Prelude.{ℕ, List}
 use Rattle.run_journal.specs.declared.acts.Act.{Act}
 

@@ -13,6 +13,9 @@ use mac_prf::kdf;
 use run_journal::Domain;
 use std::alloc::Global;
 
+/// The number of the draw from which on a node draws no more: 2^60.
+pub const LAST_DRAW: u64 = 1 << 60;
+
 // The octets that a node draws by that number under a label.
 fn draw(domain: &Domain, node: Node, number: u64, label: &[u8], out: &mut [u8])
     requires listed { IsListed domain.now node }

@@ -11,6 +11,7 @@ ghost use Rattle.node_frames.specs.Views.{management_fields, message_fields, rea
 ghost use Rattle.node_frames.specs.Judging.{IsJudged};
 
 use crate::delivered::{Delivered, KeyMessage, Management};
+use crate::ends::direction;
 use crate::network::{address, peer_of};
 use air_frame::{AirFault, Direction, Header};
 use domain_base::{Mac, Node};
@@ -73,10 +74,7 @@ fn is_mine_or_group(domain: &Domain, node: Node, header: &Header<'_>) -> bool
 fn is_own_way(node: Node, way: Direction) -> bool
     ensures { result ≡ goes_like way (direction node) }
 {
-    match (node, way) {
-        (Node::Ap(_), Direction::FromDs) | (Node::Sta(_), Direction::ToDs) => true,
-        (Node::Ap(_), Direction::ToDs) | (Node::Sta(_), Direction::FromDs) => false,
-    }
+    way == direction(node)
 }
 
 // What the air reader's fault is refused as.
@@ -89,6 +87,7 @@ fn air_reason(fault: AirFault) -> Reason
     }
 }
 
+// A management frame, by its addresses.
 fn judge_managed<'a>(
     domain: &Domain,
     node: Node,
@@ -112,6 +111,7 @@ fn judge_managed<'a>(
     Judged::Managed(peer, frame, elements)
 }
 
+// An EAPOL-Key message, by its addresses and the way that it goes.
 fn judge_keyed<'a>(domain: &Domain, node: Node, message: KeyMessage<'a>) -> Judged<'a>
     requires listed { IsListed domain.now node }
     requires form { InForm domain.now }

@@ -25,8 +25,8 @@ const GROUP_KEY_DATA_LEN: usize = RSNE_LEN + 24;
 
 const WRAPPED_LEN: usize = 56;
 
-// The RSNE of the suite, without a PMKID list.
-fn rsne(akm: Akm) -> [u8; RSNE_LEN]
+/// The RSNE of the suite, as this network sends it: without a PMKID list (IEEE Std 802.11-2020, 9.4.2.24).
+pub fn rsne(akm: Akm) -> [u8; RSNE_LEN]
     ensures { result ≡ rsne_octets akm None }
 {
     let mut out = [0; RSNE_LEN];

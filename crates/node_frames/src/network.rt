@@ -9,8 +9,8 @@ ghost use Rattle.domain_rules.specs.Network.{IsListed, mac, peer_of};
 use domain_base::{Mac, Node};
 use run_journal::{Domain, ListedAp};
 
-// An address is six octets.
-fn whole(address: Mac) -> Mac
+/// The address, which has six octets.
+pub(crate) fn whole(address: Mac) -> Mac
     ensures same { result ≡ address }
     ensures whole { IsAddress result.0 }
 {

@@ -80,7 +80,7 @@ impl Outbox {
 #[cfg(test)]
 mod tests {
     use super::*;
-    use crate::taking::took;
+    use crate::taking::settle;
     use domain_base::Node;
     use run_journal::{Kind, Outcome, Why};
     use std::test::Fail;
@@ -98,10 +98,17 @@ mod tests {
         let alloc = rt.alloc();
         let mut outbox = Outbox::new(alloc);
         assert!(rt; outbox.pop().is_none());
-        outbox.reserve(2)?;
         let node = Some(Node::Ap(0));
-        let act = took(alloc, node, b"frame", Kind::Data, Outcome::Ignored, None)?;
-        outbox.add(act);
+        let outcome = settle(
+            alloc,
+            node,
+            b"frame",
+            Kind::Data,
+            Outcome::Ignored,
+            &mut outbox,
+        )?;
+        assert_eq!(rt; outcome, Outcome::Ignored);
+        outbox.reserve(1)?;
         outbox.add(Act::Idle { why: Why::Nothing });
         let first = outbox.pop();
         assert!(rt; takes(&first, b"frame"));

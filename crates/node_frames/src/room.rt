@@ -1,6 +1,6 @@
 //! The memory that the acts of one EAPOL-Key message take, taken before anything is done.
 
-ghost use Rattle.std.specs.Prelude.{◌≡◌, ◌≤◌, ◌<◌, ◌+◌, ◌++◌, ℕ, List, [], ◌∷◌, Some, IfOk, option_map};
+ghost use Rattle.std.specs.Prelude.{◌≡◌, ◌≤◌, ◌<◌, ◌+◌, ◌++◌, ℕ, List, ◌∷◌, Some, IfOk, option_map};
 ghost use Rattle.domain_base.specs.declared.names.Node.{Node as AnyNode};
 ghost use Rattle.mac_prf.specs.Mic.{without_mic};
 ghost use Rattle.run_journal.specs.declared.domain.Domain.{Domain as AnyDomain};
@@ -12,29 +12,23 @@ ghost use Rattle.domain_rules.specs.Replies.{derived_acts, replaced_acts, instal
 ghost use Rattle.node_frames.specs.Judging.{IsPeerOf};
 ghost use Rattle.node_frames.specs.Templates.{IsTemplate, with_nonces, seal_over};
 
+use crate::covered::{MOST_MORE, append_covered};
 use crate::drawing::pairwise_inputs;
 use crate::network::address;
 use crate::outbox::Outbox;
-use crate::send_room::{FRAME_FORM, MIC_AT, MIC_LEN, SendRoom};
+use crate::send_room::SendRoom;
 use domain_base::{Mac, NoMemory, Node, Octets, Peer};
 use eapol_key::Message;
 use key_hierarchy::Inputs;
 use run_journal::{Act, Domain, GtkNews, Key, Keyed, Kind, Outcome, Part, Reply, Seal};
 use std::alloc::Global;
 
-// Where the MIC field of an EAPOL-Key frame ends.
-const MIC_END: usize = MIC_AT + MIC_LEN;
-
 // What the MIC of an EAPOL-Key frame covers, behind the form.
 fn cover(alloc: Global, frame: &[u8]) -> Result<Vec<u8>, NoMemory>
     ensures { IfOk result (λ covered. covered.items ≡ 1 ∷ without_mic frame.now) }
 {
-    let (front, _) = frame.split_at(MIC_AT.min(frame.len()));
-    let (_, behind) = frame.split_at(MIC_END.min(frame.len()));
-    let mut octets = Vec::from_slice(alloc, &[FRAME_FORM])?;
-    octets.extend_from_slice(front)?;
-    octets.extend_from_slice(&[0; MIC_LEN])?;
-    octets.extend_from_slice(behind)?;
+    let mut octets = Vec::with_capacity(alloc, frame.len() + MOST_MORE)?;
+    append_covered(&mut octets, frame);
     Ok(octets)
 }
 
@@ -132,7 +126,7 @@ fn add_group_key(peer: Node, bssid: Mac, gtk: Option<GtkNews>, out: &mut Outbox)
     }
 }
 
-// The session under the key that was installed stands.
+// The attempt became a session under the key that was installed.
 fn add_finished(peer: Node, template: Inputs, installed: Option<Keyed>, out: &mut Outbox)
     requires { 0 < out.old.spare }
     ensures acts { (d : AnyDomain) (n : AnyNode) → IsTemplate d n peer template → out.new.acts ≡ out.old.acts ++ finished_acts d n peer installed }

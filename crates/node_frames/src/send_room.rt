@@ -6,6 +6,7 @@ ghost use Rattle.mac_prf.specs.Mic.{without_mic};
 ghost use Rattle.run_journal.specs.Replies.{IsWhole};
 ghost use Rattle.domain_rules.specs.Replies.{sent_acts};
 
+use crate::covered::{append, append_covered};
 use crate::outbox::Outbox;
 use domain_base::{NoMemory, Node, Octets, Peer};
 use run_journal::{Act, REPLY_LEN, Reply, Seal};
@@ -14,15 +15,6 @@ use std::alloc::Global;
 // The octets before an EAPOL frame in a data frame.
 const EAPOL_FRONT: usize = 32;
 
-/// The octet with which the seal of an EAPOL-Key frame begins.
-pub(crate) const FRAME_FORM: u8 = 1;
-
-/// Where the MIC field of an EAPOL-Key frame begins.
-pub(crate) const MIC_AT: usize = 81;
-
-/// The octets of the MIC field.
-pub(crate) const MIC_LEN: usize = 16;
-
 // Room for octets, without any.
 #[derive(Drop)]
 struct Buffer {
@@ -30,18 +22,6 @@ struct Buffer {
     ghost empty: { octets.items ≡ [] },
     ghost none: { vec_len octets ≡ 0 },
     ghost room: { 512 ≤ vec_capacity octets },
-}
-
-// Puts the piece behind the octets, within the room that there is.
-fn append(octets: &mut Vec<u8>, piece: &[u8])
-    requires { vec_len octets.old + length piece.now ≤ vec_capacity octets.old }
-    ensures items { octets.new.items ≡ octets.old.items ++ piece.now }
-    ensures len { vec_len octets.new ≡ vec_len octets.old + length piece.now }
-    ensures capacity { vec_capacity octets.old ≤ vec_capacity octets.new }
-{
-    if octets.extend_from_slice(piece).is_err() {
-        unreachable!()
-    }
 }
 
 impl Buffer {
@@ -62,17 +42,11 @@ impl Buffer {
 
     // What the MIC of an EAPOL-Key frame covers, behind the form.
     fn covering(self, frame: &[u8]) -> Vec<u8>
-        requires least { 99 ≤ length frame.now }
-        requires most { length frame.now ≤ 480 }
+        requires { length frame.now ≤ 480 }
         ensures { result.items ≡ 1 ∷ without_mic frame.now }
     {
         let Buffer { mut octets } = self;
-        let (front, rest) = frame.split_at(MIC_AT);
-        let (_, behind) = rest.split_at(MIC_LEN);
-        append(&mut octets, &[FRAME_FORM]);
-        append(&mut octets, front);
-        append(&mut octets, &[0; MIC_LEN]);
-        append(&mut octets, behind);
+        append_covered(&mut octets, frame);
         octets
     }
 }

@@ -1,9 +1,11 @@
-//! Whether the suites that a station asks for are those of the network.
+//! Whether the suites that a station asks for are those of the network, and whether an RSNE is another one.
 
-ghost use Rattle.std.specs.Prelude.{◌≡◌, option_map, bytes_eq};
+ghost use Rattle.std.specs.Prelude.{◌≡◌, ◌↔◌, IsTrue, Some, option_map, bytes_eq};
+ghost use Rattle.std.specs.Option.{option_copied};
 ghost use Rattle.rsn_elements.specs.Fields.{rsne_fields};
 ghost use Rattle.rsn_elements.specs.Sent.{akm_type};
-ghost use Rattle.domain_rules.specs.Verdict.{suite, is_suite, is_ccmp, requires_protection, rsne_status};
+ghost use Rattle.rsn_elements.specs.Pieces.{suite};
+ghost use Rattle.domain_rules.specs.Verdict.{is_suite, is_ccmp, requires_protection, rsne_status};
 
 use domain_base::Akm;
 use rsn_elements::{Rsne, Suites};
@@ -86,5 +88,15 @@ pub fn rsne_status(akm: Akm, rsne: Option<Rsne<'_>>) -> Option<u16>
         Some(43)
     } else {
         None
+    }
+}
+
+/// Whether an RSNE was found and is that one, octet by octet.
+pub fn is_same_rsne(found: Option<&[u8]>, rsne: &[u8]) -> bool
+    ensures { IsTrue result ↔ (option_copied found.entry ≡ Some rsne.now) }
+{
+    match found {
+        Some(octets) => octets == rsne,
+        None => false,
     }
 }

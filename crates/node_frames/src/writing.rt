@@ -12,12 +12,14 @@ ghost use Rattle.run_journal.specs.declared.acts.Act.TheVariants.{Sent};
 ghost use Rattle.run_journal.specs.Replies.{IsWhole};
 ghost use Rattle.domain_rules.specs.Frames.{in_data, frame_seal, sent_m1, sent_m2, sent_m3, sent_m4};
 ghost use Rattle.domain_rules.specs.Replies.{sent_acts};
-ghost use Rattle.node_frames.specs.Carried.{carried_key};
-ghost use Rattle.node_frames.specs.Linked.{linked_bssid, linked_octets};
-ghost use Rattle.node_frames.specs.Links.{IsLink, Keeps};
+ghost use Rattle.group_key.specs.Holds.{carried};
+ghost use Rattle.node_frames.specs.Between.{bssid_between, octets_between};
+ghost use Rattle.node_frames.specs.Ends.{AreEnds};
+ghost use Rattle.node_frames.specs.Replied.{Keeps};
 
+use crate::ends::Ends;
 use crate::keying::{m1_frame, m2_frame, m3_frame, m4_frame};
-use crate::link::Link;
+use crate::network::whole;
 use air_frame::{Direction, write_eapol_data};
 use domain_base::Mac;
 use eapol_key::Message;
@@ -26,42 +28,34 @@ use key_hierarchy::Ptk;
 use run_journal::{Kind, REPLY_LEN, Reply};
 
 // Of the two ends, the access point's address.
-fn bssid(link: &Link) -> Mac
-    ensures { result.0 ≡ linked_bssid link.now }
+fn bssid(ends: &Ends) -> Mac
+    ensures { result.0 ≡ bssid_between ends.now }
 {
-    match link.direction {
-        Direction::FromDs => link.own,
-        Direction::ToDs => link.peer,
+    match ends.direction {
+        Direction::FromDs => ends.own,
+        Direction::ToDs => ends.peer,
     }
 }
 
 // Writes an EAPOL-Key frame between the two ends, in a data frame, and answers how many octets it takes.
-fn put_data(link: &Link, frame: &[u8], octets: &mut [u8; REPLY_LEN]) -> usize
+fn put_data(ends: &Ends, frame: &[u8], octets: &mut [u8; REPLY_LEN]) -> usize
     requires { length frame.now ≤ 480 }
     ensures size { result ≡ 32 + length frame.now }
-    ensures octets { take result octets.new ≡ linked_octets link.now frame.now }
+    ensures octets { take result octets.new ≡ octets_between ends.now frame.now }
 {
     write_eapol_data(
-        link.direction,
-        link.peer,
-        link.own,
-        bssid(link),
+        ends.direction,
+        ends.peer,
+        ends.own,
+        bssid(ends),
         frame,
         octets,
     )
 }
 
-// The address, which has six octets.
-fn whole(address: Mac) -> Mac
-    ensures same { result ≡ address }
-    ensures whole { IsAddress result.0 }
-{
-    address
-}
-
 // Writes the frame of the message, and under which key it is sealed.
 fn write_frame(
-    link: &Link,
+    ends: &Ends,
     message: Message,
     sealed: Option<[u8; 16]>,
     frame: &[u8],
@@ -69,48 +63,48 @@ fn write_frame(
 )
     requires least { 99 ≤ length frame.now }
     requires most { length frame.now ≤ 480 }
-    ensures writes { (d : AnyDomain) (n p : AnyNode) → IsLink d n p link.now
+    ensures writes { (d : AnyDomain) (n p : AnyNode) → AreEnds d n p ends.now
         → sent_acts p reply.new ≡ Sent (One p) (Key message) (in_data d n p frame.now) (option_map (λ kck. frame_seal kck frame.now) sealed) ∷ [] }
     ensures keeps { Keeps reply.old reply.new }
     ensures fits { IsWhole reply.new }
-    ensures whole { IsAddress link.now.own.0 × IsAddress link.now.peer.0 }
+    ensures whole { IsAddress ends.now.own.0 × IsAddress ends.now.peer.0 }
 {
-    whole(link.own);
-    whole(link.peer);
-    let len = put_data(link, frame, &mut reply.octets);
+    whole(ends.own);
+    whole(ends.peer);
+    let len = put_data(ends, frame, &mut reply.octets);
     reply.len = len;
     reply.kind = Kind::Key(message);
     reply.sealed = sealed;
 }
 
 /// Message 1 of the four-way handshake with the ANonce (IEEE Std 802.11-2020, 12.7.6.2).
-pub fn write_m1(link: &Link, counter: u64, anonce: &[u8; 32], reply: &mut Reply)
-    ensures writes { (d : AnyDomain) (n p : AnyNode) → IsLink d n p link.now
+pub fn write_m1(ends: &Ends, counter: u64, anonce: &[u8; 32], reply: &mut Reply)
+    ensures writes { (d : AnyDomain) (n p : AnyNode) → AreEnds d n p ends.now
         → sent_acts p reply.new ≡ sent_m1 d n p counter anonce.now ∷ [] }
     ensures keeps { Keeps reply.old reply.new }
     ensures fits { IsWhole reply.new }
-    ensures whole { IsAddress link.now.own.0 × IsAddress link.now.peer.0 }
+    ensures whole { IsAddress ends.now.own.0 × IsAddress ends.now.peer.0 }
 {
-    let frame = m1_frame(link.akm, counter, anonce);
-    write_frame(link, Message::M1, None, &frame, reply);
+    let frame = m1_frame(ends.akm, counter, anonce);
+    write_frame(ends, Message::M1, None, &frame, reply);
 }
 
 /// Message 2 of the four-way handshake under that key, with the SNonce (IEEE Std 802.11-2020, 12.7.6.3).
-pub fn write_m2(link: &Link, key: &Ptk, counter: u64, snonce: &[u8; 32], reply: &mut Reply)
-    ensures writes { (d : AnyDomain) (n p : AnyNode) (i : AnyInputs) → IsLink d n p link.now → key.now ≡ ptk i
+pub fn write_m2(ends: &Ends, key: &Ptk, counter: u64, snonce: &[u8; 32], reply: &mut Reply)
+    ensures writes { (d : AnyDomain) (n p : AnyNode) (i : AnyInputs) → AreEnds d n p ends.now → key.now ≡ ptk i
         → i.snonce ≡ snonce.now → sent_acts p reply.new ≡ sent_m2 d n p i counter ∷ [] }
     ensures keeps { Keeps reply.old reply.new }
     ensures fits { IsWhole reply.new }
-    ensures whole { IsAddress link.now.own.0 × IsAddress link.now.peer.0 }
+    ensures whole { IsAddress ends.now.own.0 × IsAddress ends.now.peer.0 }
 {
-    let frame = m2_frame(link.akm, &key.kck, counter, snonce);
-    write_frame(link, Message::M2, Some(key.kck), &frame, reply);
+    let frame = m2_frame(ends.akm, &key.kck, counter, snonce);
+    write_frame(ends, Message::M2, Some(key.kck), &frame, reply);
 }
 
 /// Message 3 of the four-way handshake under that key, with the ANonce, a group key and the count of packet numbers that
 /// were used under it (IEEE Std 802.11-2020, 12.7.6.4).
 pub fn write_m3(
-    link: &Link,
+    ends: &Ends,
     key: &Ptk,
     counter: u64,
     anonce: &[u8; 32],
@@ -120,26 +114,26 @@ pub fn write_m3(
 )
     requires id { group.now.id < 4 }
     requires packet_number { rsc < 2 ^ 48 }
-    ensures writes { (d : AnyDomain) (n p : AnyNode) (i : AnyInputs) → IsLink d n p link.now → key.now ≡ ptk i
-        → i.anonce ≡ anonce.now → sent_acts p reply.new ≡ sent_m3 d n p i counter (carried_key group.now) rsc ∷ [] }
+    ensures writes { (d : AnyDomain) (n p : AnyNode) (i : AnyInputs) → AreEnds d n p ends.now → key.now ≡ ptk i
+        → i.anonce ≡ anonce.now → sent_acts p reply.new ≡ sent_m3 d n p i counter (carried group.now) rsc ∷ [] }
     ensures keeps { Keeps reply.old reply.new }
     ensures fits { IsWhole reply.new }
-    ensures whole { IsAddress link.now.own.0 × IsAddress link.now.peer.0 }
+    ensures whole { IsAddress ends.now.own.0 × IsAddress ends.now.peer.0 }
 {
-    let frame = m3_frame(link.akm, key, counter, anonce, group, rsc);
-    write_frame(link, Message::M3, Some(key.kck), &frame, reply);
+    let frame = m3_frame(ends.akm, key, counter, anonce, group, rsc);
+    write_frame(ends, Message::M3, Some(key.kck), &frame, reply);
 }
 
 /// Message 4 of the four-way handshake under that key (IEEE Std 802.11-2020, 12.7.6.5).
-pub fn write_m4(link: &Link, key: &Ptk, counter: u64, reply: &mut Reply)
-    ensures writes { (d : AnyDomain) (n p : AnyNode) (i : AnyInputs) → IsLink d n p link.now → key.now ≡ ptk i
+pub fn write_m4(ends: &Ends, key: &Ptk, counter: u64, reply: &mut Reply)
+    ensures writes { (d : AnyDomain) (n p : AnyNode) (i : AnyInputs) → AreEnds d n p ends.now → key.now ≡ ptk i
         → sent_acts p reply.new ≡ sent_m4 d n p i counter ∷ [] }
     ensures keeps { Keeps reply.old reply.new }
     ensures fits { IsWhole reply.new }
-    ensures whole { IsAddress link.now.own.0 × IsAddress link.now.peer.0 }
+    ensures whole { IsAddress ends.now.own.0 × IsAddress ends.now.peer.0 }
 {
-    let frame = m4_frame(link.akm, &key.kck, counter);
-    write_frame(link, Message::M4, Some(key.kck), &frame, reply);
+    let frame = m4_frame(ends.akm, &key.kck, counter);
+    write_frame(ends, Message::M4, Some(key.kck), &frame, reply);
 }
 
 #[cfg(test)]

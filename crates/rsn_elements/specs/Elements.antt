@@ -28,7 +28,8 @@ pub data ElementKind : Type 0 where
   ATimeout : ℕ → ElementKind
   AGtkKde : ElementKind
 
--- which elements are of a kind: by the id, and by the first octets of the body; KDEs stand in key data alone
+-- which elements are of a kind: by the id, and by the first octets of the body; KDEs stand in key data alone. A timeout interval
+-- with an empty body counts as one of type 0, and its length is wrong
 abbrev pub is : Within → ElementKind → Element → Bool
 is within AnRsne e = e.id == 0x30
 is within AnMde e = e.id == 0x36

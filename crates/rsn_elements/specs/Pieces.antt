@@ -78,7 +78,7 @@ AreApart (p ∷ ps) = AllByRecursion (λ q. (label p == label q) ≡ false) ps �
 
 -- ---- what they say
 
--- the suite 00-0F-AC of this type
+-- the suite 00-0F-AC of this type (9.4.2.24.2 and 9.4.2.24.3)
 abbrev pub suite : ℕ → List ℕ
 suite kind = 0x00 ∷ 0x0f ∷ 0xac ∷ kind ∷ []
 

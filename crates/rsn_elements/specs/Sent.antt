@@ -1,9 +1,10 @@
 -- Elements as they are sent: which fields and values is this project's choice (the forms are those of IEEE Std 802.11-2020,
 -- 9.4.2.2, 9.4.2.3, 9.4.2.24, 9.4.2.46 to 9.4.2.48 and 12.7.2).
-use Rattle.std.specs.Prelude.{ℕ, zero, suc, ◌-◌, ◌%◌, nat_lt, if◌then◌else◌, List, [], ◌∷◌, ◌++◌, length, replicate, Option, None, Some}
+use Rattle.std.specs.Prelude.{ℕ, List, [], ◌∷◌, ◌++◌, length, Option, None, Some}
 use Rattle.std.specs.Int.{w16, w32, to_le_bytes}
 use Rattle.domain_base.specs.declared.names.Akm.{Akm}
 use Rattle.domain_base.specs.declared.names.Akm.TheVariants.{Psk, PskSha256, FtPsk}
+use Rattle.domain_base.specs.Padding.{padding, padding_octets}
 use Rattle.rsn_elements.specs.Transition.{WrappedGtkFields, FteFields}
 
 -- the network's name
@@ -64,15 +65,6 @@ fte_body f = f.mic_control ++ (f.mic ++ (f.anonce ++ (f.snonce ++ (subelement_oc
 abbrev pub fte_octets : FteFields → List ℕ
 fte_octets f = 0x37 ∷ length (fte_body f) ∷ fte_body f
 
--- how many octets key data lacks that is to be wrapped: of 16, and of a multiple of 8
-abbrev pub padding : ℕ → ℕ
-padding size = if nat_lt size 16 then 16 - size else (8 - size % 8) % 8
-
--- dd, and then zeros (12.7.2)
-abbrev pub padding_octets : ℕ → List ℕ
-padding_octets zero = []
-padding_octets (suc more) = 0xdd ∷ replicate more 0x00
-
--- what is put behind key data of this size
+-- what is put behind key data of this size (12.7.2)
 abbrev pub pad_octets : ℕ → List ℕ
 pad_octets size = padding_octets (padding size)

@@ -1,3 +1,5 @@
+//! Elements and key data, read and written, and their faults.
+
 ghost use Rattle.std.specs.Prelude.{◌≡◌, ℕ, ◌<◌, ◌≤◌, ◌++◌, length, take, drop};
 ghost use Rattle.rsn_elements.specs.Sent.{gtk_kde_octets, pad_octets};
 

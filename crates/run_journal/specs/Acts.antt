@@ -59,7 +59,8 @@ abbrev pub opens : Node → Act → Bool
 opens p (Opened q s) = same p q
 opens p _ = false
 
--- of two attempts with p: at a station, which has one at most, whoever the peer is
+-- the attempt with q is the one with p. An access point as p says that the history is a station's, which has one attempt at
+-- most, whoever q is
 abbrev pub is_same_attempt : Node → Node → Bool
 is_same_attempt (Ap k) q = true
 is_same_attempt (Sta k) q = same (Sta k) q

@@ -5,6 +5,7 @@ pub mod Safe
 pub mod Report
 pub mod Alike
 pub mod Kept
+pub mod Listing
 pub mod Chained
 pub mod Looking
 pub mod Replies

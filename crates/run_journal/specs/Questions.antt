@@ -26,7 +26,7 @@ abbrev pub attempt : Node → List Act → Option (List Act)
 attempt p [] = None
 attempt p (e ∷ h) = cond (opens p e) (Some (e ∷ [])) (cond (ends p e) None (also e (attempt p h)))
 
--- the history from the last Opened with p on
+-- the history from the last Opened with p on, and all of it where there is none
 abbrev pub since : Node → List Act → List Act
 since p [] = []
 since p (e ∷ h) = cond (opens p e) (e ∷ []) (e ∷ since p h)

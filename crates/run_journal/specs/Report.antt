@@ -68,7 +68,8 @@ kind_text kind.Eapol = codes "eapol"
 abbrev pub numbered : List ℕ → ℕ → List ℕ
 numbered word n = word ++ 32 ∷ decimal n
 
--- the place and the number of the fault
+-- the place and the number of the fault. A frame out of profile is refused with a code of its own, so that its text is never
+-- made here
 abbrev pub air_fault_text : AirFault → List ℕ
 air_fault_text (air.Short place) = decimal place ++ codes " 1"
 air_fault_text air.Version = codes "0 2"
@@ -129,10 +130,11 @@ key_text (Group gtk id b) = numbered (codes "gtk") id
 abbrev pub hex_digit : ℕ → ℕ
 hex_digit n = cond (nat_lt n 10) (48 + n) (87 + n)
 
--- octets in lower case, or - for none
+-- octets in lower case
 abbrev pub hex : List ℕ → List ℕ
 hex octets = flat_map (λ octet. hex_digit (octet / 16) ∷ hex_digit (octet % 16) ∷ []) octets
 
+-- or - where there are none
 abbrev pub payload_text : List ℕ → List ℕ
 payload_text [] = codes "-"
 payload_text (octet ∷ octets) = hex (octet ∷ octets)

@@ -13,7 +13,7 @@ abbrev pub installed : Act → Option (List ℕ)
 installed (Installed p key) = Some (key_octets key)
 installed _ = None
 
--- (i) a node installs a key at most once
+-- a node installs a key at most once
 abbrev pub InstalledOnce : List Entry → Type 0
 InstalledOnce [] = Unit {0}
 InstalledOnce (e ∷ past) = ((m : Entry) (key : List ℕ) → In m past → m.node ≡ e.node → installed e.act ≡ Some key → installed m.act ≡ Some key → ⊥) × InstalledOnce past
@@ -49,7 +49,7 @@ pub record DerivedBefore (p : Node) (i : Inputs) (e : Entry) (past : List Entry)
   pub at : entry.node ≡ p
   pub is : (peer : Node) × ((k : Ptk) × (entry.act ≡ Derived peer i k))
 
--- (iii) whoever accepts a final message has inputs from which its peer derived before
+-- whoever accepts a final message has inputs from which its peer derived before
 abbrev pub Joined : List Entry → Type 0
 Joined [] = Unit {0}
 Joined (e ∷ past) = ((p : Node) (i : Inputs) → e.act ≡ Finished p i → DerivedBefore p i e past) × Joined past
@@ -67,7 +67,7 @@ abbrev pub Sourced : List Entry → Type 0
 Sourced [] = Unit {0}
 Sourced (e ∷ past) = ((p : Node) (u : Use) → up_of e.act ≡ Some u → up_from e.act ≡ Some p → UsedBefore p u e past) × Sourced past
 
--- the four parts of safety
+-- the parts of safety
 pub record Safe (j : List Entry) : Type 0 where
   pub installed_once : InstalledOnce j
   pub used_once : Once use_of j

@@ -1,4 +1,5 @@
-//! The journal of a run, and the definitions that say what a run may do.
+//! The acts of nodes and the journal of a run, which decides its premises; with them the definitions of the premises, of safety, and
+//! of the report's text.
 #![tactic(auto)]
 
 mod acts;

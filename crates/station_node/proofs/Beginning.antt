@@ -18,7 +18,7 @@ use Rattle.domain_rules.proofs.Parts.{attempt_none, attempt_more, attempt_some, 
 use Rattle.domain_rules.proofs.Effects.{IsBegun, begun-counter, begun-silent, asking_acts, has_asked, asked-pending, asked-associated, asked-others, asked-draws, associated_acts}
 use Rattle.group_key.specs.Keys.{Kept}
 use Rattle.group_key.specs.Holds.{Remembers}
-use Rattle.node_frames.specs.Links.{IsLink}
+use Rattle.node_frames.specs.Ends.{AreEnds}
 use Rattle.node_frames.proofs.RepliedActs.{remembers_on}
 use Rattle.supplicant.specs.declared.stage.Stage.{Stage}
 use Rattle.supplicant.specs.declared.stage.Stage.TheVariants.{Attempt}
@@ -114,9 +114,9 @@ abbrev pub associated_state : State → ℕ → Supplicant → List (List Kept) 
 associated_state s p x memories = record { number = s.number; drawn = s.drawn; association = Some (Accepted p x); memories = memories }
 
 pub stands-associated : (d : Domain) (first : ℕ) (s : State) (h : List Act) (p : ℕ) (v octets : List ℕ) (x : Supplicant) (memories : List (List Kept)) → Stands d first s h → s.association ≡ Some (Requested p v)
-    → IsLink d (Sta s.number) (Ap p) x.link → x.psk ≡ d.psk → x.stage ≡ Attempt v None → ((k : ℕ) → memory_at memories k ≡ memory_at s.memories k)
+    → AreEnds d (Sta s.number) (Ap p) x.ends → x.psk ≡ d.psk → x.stage ≡ Attempt v None → ((k : ℕ) → memory_at memories k ≡ memory_at s.memories k)
     → Stands d first (associated_state s p x memories) (add (associated_acts (Ap p) octets) h)
-stands-associated d first s h p v octets x memories st is link psk stage same_memory =
+stands-associated d first s h p v octets x memories st is ends psk stage same_memory =
     let r = requested_is d first s h p v st is in
     record {
       draws_are = st.draws_are;
@@ -125,7 +125,7 @@ stands-associated d first s h p v octets x memories st is link psk stage same_me
       association_is = (
         r.0,
         record {
-          link = link;
+          ends = ends;
           psk = psk;
           stage_is = subst (λ (y : Stage). StandsIn d (Sta s.number) (Ap p) y (add (associated_acts (Ap p) octets) h)) (sym stage) (under_way-associated d (Sta s.number) p v octets h r.1);
         },

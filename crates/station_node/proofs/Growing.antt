@@ -8,11 +8,12 @@ use Rattle.run_journal.specs.declared.acts.Act.{Act}
 use Rattle.run_journal.specs.declared.reply.Keyed.{Keyed}
 use Rattle.run_journal.specs.Acts.{Derivation}
 use Rattle.node_frames.specs.Growing.{Grows}
-use Rattle.node_frames.proofs.Grown.{link_grown, inputs_grown, listed_grown}
+use Rattle.node_frames.proofs.Grown.{ends_grown, inputs_grown, listed_grown}
 use Rattle.supplicant.specs.declared.stage.Stage.{Stage}
 use Rattle.supplicant.specs.declared.stage.Stage.TheVariants.{Retired, Attempt, Session}
 use Rattle.supplicant.specs.State.{State as Supplicant}
-use Rattle.supplicant.specs.Stands.{Stands as SupplicantStands, StandsIn, key_by}
+use Rattle.domain_rules.specs.Replies.{key_by}
+use Rattle.supplicant.specs.Stands.{Stands as SupplicantStands, StandsIn}
 use Rattle.station_node.specs.declared.association.Association.{Association}
 use Rattle.station_node.specs.declared.association.Association.TheVariants.{Requested, Accepted}
 use Rattle.station_node.specs.State.{State}
@@ -47,7 +48,7 @@ stage_grown d e sta a (Session key counter) h g listed peer st = record {
 
 supplicant_grown : (d e : Domain) (sta a : ℕ) (s : Supplicant) (h : List Act) → Grows d e → sta < length d.stas → a < length d.aps → SupplicantStands d (Sta sta) (Ap a) s h → SupplicantStands e (Sta sta) (Ap a) s h
 supplicant_grown d e sta a s h g listed peer st = record {
-  link = link_grown d e (Sta sta) (Ap a) s.link g listed peer st.link;
+  ends = ends_grown d e (Sta sta) (Ap a) s.ends g listed peer st.ends;
   psk = st.psk ∙ sym g.psk;
   stage_is = stage_grown d e sta a s.stage h g listed peer st.stage_is;
 }

@@ -18,7 +18,7 @@ use Rattle.group_key.specs.Holds.{Remembers}
 use Rattle.node_frames.proofs.RepliedActs.{IsAbout, replied_about, about_draws, about_no_attempt, about_session, about_remembers, EndsNone, replied_ends, ends_pending, ends_associated, ends_session, IsEnd, replied_end, end_pending, end_associated}
 use Rattle.supplicant.specs.declared.stage.Stage.{Stage}
 use Rattle.supplicant.specs.declared.stage.Stage.TheVariants.{Retired, Attempt, Session}
-use Rattle.supplicant.specs.State.{State as Supplicant, IsAttempt, IsSession}
+use Rattle.supplicant.specs.State.{State as Supplicant, IsAttempt, IsSession, IsSessionUnder}
 use Rattle.supplicant.specs.Stands.{StandsIn}
 use Rattle.supplicant.specs.Steps.{Steps as SupplicantSteps, IsStaged}
 use Rattle.station_node.specs.declared.association.Association.{Association}
@@ -62,10 +62,10 @@ kept_by d n a Retired new g h about ends was is tried held =
 kept_by d n a (Attempt v key) new g h about ends was is tried held = attempt_kept a v key new (tried tt)
 kept_by d n a (Session key counter) new g h about ends was is tried held = session_kept a key counter new (held tt)
 
-in_session : (a : ℕ) (new : Stage) → IsSession new → (None ≡ attempt_at a new) × (Some (Ap a) ≡ session_at a new)
-in_session a Retired is = absurd is
-in_session a (Attempt v y) is = absurd is
-in_session a (Session y counter) is = (refl, refl)
+in_session : (a : ℕ) (y : Keyed) (new : Stage) → IsSessionUnder y new → (None ≡ attempt_at a new) × (Some (Ap a) ≡ session_at a new)
+in_session a y Retired is = absurd is
+in_session a y (Attempt v key) is = absurd is
+in_session a y (Session key counter) is = (refl, refl)
 
 -- whom there is an attempt and a session with behind the acts of a reply
 pub record IsWith (a : ℕ) (new : Stage) (l : List Act) : Type 0 where
@@ -84,7 +84,7 @@ with_by d n a octets k o r old new h None is staged was stands pending_was assoc
     }
 with_by d n a octets k o r old new h (Some y) is staged was stands pending_was associated_was =
     let e : IsEnd (Ap a) h (add (reply_acts d n (Ap a) false octets k o r) h) = replied_end d n (Ap a) false octets k o r y h is in
-    let s = in_session a new.stage staged.1 in
+    let s = in_session a y new.stage staged.1 in
     record {
       pending_is = end_pending (Ap a) h (add (reply_acts d n (Ap a) false octets k o r) h) e ∙ s.0;
       associated_is = end_associated (Ap a) h (add (reply_acts d n (Ap a) false octets k o r) h) e ∙ s.1;

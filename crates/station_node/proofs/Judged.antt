@@ -20,7 +20,7 @@ use Rattle.node_frames.specs.declared.judging.Judged.TheVariants as judged
 use Rattle.node_frames.specs.Views.{management_fields, message_fields}
 use Rattle.node_frames.specs.Judging.{IsJudged, IsPeerOf}
 use Rattle.station_node.specs.State.{State}
-use Rattle.station_node.specs.Steps.{IsTaken, IsManagedFrom}
+use Rattle.station_node.specs.Steps.{IsTaken, IsManagementFrom}
 use Rattle.station_node.proofs.Taken.{taken-settled}
 
 -- the other node of a station is an access point
@@ -29,7 +29,7 @@ peer-is_ap d sta (Ap k) peer = refl
 peer-is_ap d sta (Sta k) peer = absurd peer
 
 managed_is : (d : Domain) (sta p : ℕ) (octets : List ℕ) (r : Reading) (frame : Management) (elements : Elements) (from : Node) → IsJudged d (Sta sta) r (judged.Managed from frame elements) → Reads d.akm octets r → from ≡ Ap p
-    → IsManagedFrom d sta p octets (management_fields frame)
+    → IsManagementFrom d sta p octets (management_fields frame)
 managed_is d sta p octets r frame elements from j reads from_is = record {
   e = element_fields elements;
   reads = subst (λ (x : Reading). Reads d.akm octets x) j.0 reads;
@@ -39,8 +39,8 @@ managed_is d sta p octets r frame elements from j reads from_is = record {
 }
 
 pub judged-managed : (d : Domain) (n sta p : ℕ) (octets : List ℕ) (r : Reading) (frame : Management) (elements : Elements) (from : Node) → IsJudged d (Sta n) r (judged.Managed from frame elements) → Reads d.akm octets r → from ≡ Ap p → n ≡ sta
-    → IsManagedFrom d sta p octets (management_fields frame)
-judged-managed d n sta p octets r frame elements from j reads from_is same = subst (λ (x : ℕ). IsManagedFrom d x p octets (management_fields frame)) same (managed_is d n p octets r frame elements from j reads from_is)
+    → IsManagementFrom d sta p octets (management_fields frame)
+judged-managed d n sta p octets r frame elements from j reads from_is same = subst (λ (x : ℕ). IsManagementFrom d x p octets (management_fields frame)) same (managed_is d n p octets r frame elements from j reads from_is)
 
 keyed_is : (d : Domain) (sta p : ℕ) (octets : List ℕ) (r : Reading) (message : KeyMessage) (from : Node) → IsJudged d (Sta sta) r (judged.Keyed from message) → Reads d.akm octets r → from ≡ Ap p → IsMessageFrom d (Sta sta) (Ap p) octets (message_fields message)
 keyed_is d sta p octets r message from j reads from_is = record {

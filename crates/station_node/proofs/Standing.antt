@@ -48,7 +48,7 @@ requested_more p v h e plain u =
     }
 
 supplicant_more : (d : Domain) (n p : Node) (s : Supplicant) (h : List Act) (e : Act) → IsPlainAct e → SupplicantStands d n p s h → SupplicantStands d n p s (e ∷ h)
-supplicant_more d n p s h e plain st = record { link = st.link; psk = st.psk; stage_is = stage_more d n p s.stage h e (plain.apart p) st.stage_is }
+supplicant_more d n p s h e plain st = record { ends = st.ends; psk = st.psk; stage_is = stage_more d n p s.stage h e (plain.apart p) st.stage_is }
 
 association_more : (d : Domain) (n : Node) (a : Option Association) (h : List Act) (e : Act) → IsPlainAct e → HasAssociation d n a h → HasAssociation d n a (e ∷ h)
 association_more d n None h e plain st = tt

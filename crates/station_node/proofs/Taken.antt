@@ -1,6 +1,6 @@
 -- Each way in which a station takes an event, by what its code did.
 use Rattle.std.proofs.Common.{◌≡◌, ◌≢◌, inl, inr, ℕ, ◌<◌, ◌≤◌, false, cond, List, [], ◌∷◌, ◌++◌, length, Option, Some, None, refl, sym, ap, subst, ◌∙◌}
-use Rattle.std.specs.Prelude.{Result, Ok, Err, IfOk, OnErr, slice_index_or, slice_set}
+use Rattle.std.specs.Prelude.{Result, Ok, Err, OnErr, slice_index_or, slice_set}
 use Rattle.std.proofs.lemmas.List.{get_or-set_same, get_or-set_other, set-get_or, get_or_default}
 use Rattle.std.proofs.lemmas.Bool.{ne_eqb}
 use Rattle.domain_base.specs.declared.names.Node.{Node}
@@ -28,7 +28,7 @@ use Rattle.group_key.specs.Keys.{Kept}
 use Rattle.group_key.specs.Holds.{Remembers}
 use Rattle.node_frames.specs.Judging.{IsSettled}
 use Rattle.node_frames.specs.Events.{Steps}
-use Rattle.node_frames.specs.Links.{IsLink}
+use Rattle.node_frames.specs.Ends.{AreEnds}
 use Rattle.supplicant.specs.declared.stage.Stage.TheVariants.{Attempt}
 use Rattle.supplicant.specs.State.{State as Supplicant}
 use Rattle.supplicant.specs.Steps.{Steps as SupplicantSteps}
@@ -36,7 +36,7 @@ use Rattle.station_node.specs.declared.association.Association.{Association}
 use Rattle.station_node.specs.declared.association.Association.TheVariants as association
 use Rattle.station_node.specs.State.{State, HasPlace, memory_at}
 use Rattle.station_node.specs.Stands.{Stands, peer_in, peer_of_session}
-use Rattle.station_node.specs.Steps.{IsTaken, IsTakenAlone, IsNotRequested, IsNotAccepted, IsManagedFrom, IsHanded, state_with}
+use Rattle.station_node.specs.Steps.{IsTaken, IsNotRequested, IsNotAccepted, IsManagementFrom, IsHanded, state_with}
 use Rattle.station_node.proofs.Beginning.{asked_state, associated_state}
 use Rattle.station_node.proofs.Handed.{IsOnly, handed_state, stands-handed}
 use Rattle.station_node.proofs.Verdicts.{response-unawaited, response-awaited, message-unawaited, management-other}
@@ -116,24 +116,24 @@ taken-settled d s octets r from outcome waited waits reads from_is verdict_is (i
 
 -- ---- it takes a management frame of an access point
 
-pub taken-other_management : (d : Domain) (s : State) (p : ℕ) (octets : List ℕ) (b : Management) (k : Kind) (waited waits : List Act) → IsManagedFrom d s.number p octets b → b.kind ≡ k → b.kind ≢ kind.AssocResp
+pub taken-other_management : (d : Domain) (s : State) (p : ℕ) (octets : List ℕ) (b : Management) (k : Kind) (waited waits : List Act) → IsManagementFrom d s.number p octets b → b.kind ≡ k → b.kind ≢ kind.AssocResp
     → waits ≡ waited ++ Took (Some (Ap p)) octets k (Refused reason.Unawaited) None ∷ [] → IsTaken d (Take octets) s s waited waits (Refused reason.Unawaited)
 taken-other_management d s p octets b k waited waits m kind_is other is =
     taken-refused d s octets (Managed b m.e) (Some (Ap p)) k reason.Unawaited waited waits m.reads
     (λ first h st. m.verdict_is first h ∙ management-other d first s.number h (Ap p) b.kind b m.e other) (λ h. refl) m.from kind_is is
 
 -- what comes of a response
-response_is : (d : Domain) (first sta : ℕ) (h : List Act) (p : ℕ) (octets : List ℕ) (b : Management) (m : IsManagedFrom d sta p octets b) → b.kind ≡ kind.AssocResp
+response_is : (d : Domain) (first sta : ℕ) (h : List Act) (p : ℕ) (octets : List ℕ) (b : Management) (m : IsManagementFrom d sta p octets b) → b.kind ≡ kind.AssocResp
     → first_verdict d first (Sta sta) h (Managed b m.e) ≡ assoc_resp_verdict h (Ap p) b
 response_is d first sta h p octets b m kind_is = m.verdict_is first h ∙ rw kind_is refl
 
-pub taken-response_unawaited : (d : Domain) (s : State) (p : ℕ) (octets : List ℕ) (b : Management) (waited waits : List Act) → IsManagedFrom d s.number p octets b → b.kind ≡ kind.AssocResp → IsNotRequested s.association p
+pub taken-response_unawaited : (d : Domain) (s : State) (p : ℕ) (octets : List ℕ) (b : Management) (waited waits : List Act) → IsManagementFrom d s.number p octets b → b.kind ≡ kind.AssocResp → IsNotRequested s.association p
     → waits ≡ waited ++ Took (Some (Ap p)) octets kind.AssocResp (Refused reason.Unawaited) None ∷ [] → IsTaken d (Take octets) s s waited waits (Refused reason.Unawaited)
 taken-response_unawaited d s p octets b waited waits m kind_is none is =
     taken-refused d s octets (Managed b m.e) (Some (Ap p)) kind.AssocResp reason.Unawaited waited waits m.reads
     (λ first h st. response_is d first s.number h p octets b m kind_is ∙ response-unawaited d first s h p b st none) (λ h. refl) m.from kind_is is
 
-pub taken-response_status : (d : Domain) (s : State) (p : ℕ) (v octets : List ℕ) (b : Management) (status : ℕ) (waited waits : List Act) → IsManagedFrom d s.number p octets b → b.kind ≡ kind.AssocResp
+pub taken-response_status : (d : Domain) (s : State) (p : ℕ) (v octets : List ℕ) (b : Management) (status : ℕ) (waited waits : List Act) → IsManagementFrom d s.number p octets b → b.kind ≡ kind.AssocResp
     → s.association ≡ Some (association.Requested p v) → b.status ≡ status → status ≢ 0
     → waits ≡ waited ++ Took (Some (Ap p)) octets kind.AssocResp (Refused (reason.Status status)) None ∷ [] → IsTaken d (Take octets) s s waited waits (Refused (reason.Status status))
 taken-response_status d s p v octets b status waited waits m kind_is has status_is other is =
@@ -141,13 +141,13 @@ taken-response_status d s p v octets b status waited waits m kind_is has status_
     taken-refused d s octets (Managed b m.e) (Some (Ap p)) kind.AssocResp (reason.Status status) waited waits m.reads
     (λ first h st. response_is d first s.number h p octets b m kind_is ∙ response-awaited d first s h p v b st has ∙ rw (status_is, unlike) refl) (λ h. refl) m.from kind_is is
 
-pub taken-response : (d : Domain) (s new : State) (p : ℕ) (v octets : List ℕ) (b : Management) (x : Supplicant) (memories : List (List Kept)) (act : Act) (waited waits : List Act) → IsManagedFrom d s.number p octets b → b.kind ≡ kind.AssocResp
-    → s.association ≡ Some (association.Requested p v) → b.status ≡ 0 → IsLink d (Sta s.number) (Ap p) x.link → x.psk ≡ d.psk → x.stage ≡ Attempt v None → ((k : ℕ) → memory_at memories k ≡ memory_at s.memories k)
+pub taken-response : (d : Domain) (s new : State) (p : ℕ) (v octets : List ℕ) (b : Management) (x : Supplicant) (memories : List (List Kept)) (act : Act) (waited waits : List Act) → IsManagementFrom d s.number p octets b → b.kind ≡ kind.AssocResp
+    → s.association ≡ Some (association.Requested p v) → b.status ≡ 0 → AreEnds d (Sta s.number) (Ap p) x.ends → x.psk ≡ d.psk → x.stage ≡ Attempt v None → ((k : ℕ) → memory_at memories k ≡ memory_at s.memories k)
     → new ≡ associated_state s p x memories → act ≡ Took (Some (Ap p)) octets kind.AssocResp Accepted None → waits ≡ waited ++ act ∷ [] → IsTaken d (Take octets) s new waited waits Accepted
-taken-response d s new p v octets b x memories act waited waits m kind_is has status link psk stage same_memory new_is act_is is = subst (λ (t : State). IsTaken d (Take octets) s t waited waits Accepted) (sym new_is) (record {
+taken-response d s new p v octets b x memories act waited waits m kind_is has status ends psk stage same_memory new_is act_is is = subst (λ (t : State). IsTaken d (Take octets) s t waited waits Accepted) (sym new_is) (record {
   number = refl;
   steps = λ first h st. subst (λ (w : List Act). Steps d first (Sta s.number) (Take octets) (Stands d first (associated_state s p x memories)) h waited w Accepted) (sym (is ∙ ap (λ (y : Act). waited ++ y ∷ []) act_is))
-      (steps-associated d first s h octets b m.e p v x memories waited st has link psk stage same_memory m.reads m.from kind_is status (response_is d first s.number h p octets b m kind_is));
+      (steps-associated d first s h octets b m.e p v x memories waited st has ends psk stage same_memory m.reads m.from kind_is status (response_is d first s.number h p octets b m kind_is));
   refused = λ y e. cc;
 })
 
@@ -241,12 +241,7 @@ not_accepted_none o p none y here = apart p y (sym none ∙ here)
 pub state_is : (sta drawn : ℕ) (o : Option Association) (a : Association) (memories : List (List Kept)) → o ≡ Some a → state_with sta drawn a memories ≡ record { number = sta; drawn = drawn; association = o; memories = memories }
 state_is sta drawn o a memories is = ap (λ (x : Option Association). record { number = sta; drawn = drawn; association = x; memories = memories }) (sym is)
 
--- ---- what follows where a frame was taken alone
-
-pub alone_then : {E : Type 0} (r : Result Outcome E) (from : Option Node) (octets : List ℕ) (k : Kind) (outcome : Outcome) (waited waits : List Act) (Q : Outcome → Type 0) → IfOk r (IsTakenAlone from octets k outcome waited waits)
-    → (waits ≡ waited ++ Took from octets k outcome None ∷ [] → Q outcome) → IfOk r Q
-alone_then (Ok came) from octets k outcome waited waits Q alone then_ = subst Q (sym alone.came_is) (then_ alone.acts)
-alone_then (Err e) from octets k outcome waited waits Q alone then_ = tt
+-- ---- what follows of a failure
 
 pub err_then : {O E : Type 0} (r : Result O E) (A B : Type 0) → OnErr r A → (A → B) → OnErr r B
 err_then (Ok came) A B err then_ = tt

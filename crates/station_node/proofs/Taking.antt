@@ -9,12 +9,13 @@ use Rattle.run_journal.specs.declared.acts.Outcome.TheVariants.{Accepted, Ignore
 use Rattle.run_journal.specs.declared.acts.Act.{Act}
 use Rattle.run_journal.specs.declared.acts.Act.TheVariants.{Took}
 use Rattle.domain_rules.specs.Reading.{Management, Reading, PassedOver, Managed, Reads, kind_of}
-use Rattle.domain_rules.specs.Verdict.{Facts, ComesSoFar, first_verdict, assoc_resp_verdict}
+use Rattle.domain_rules.specs.Verdict.{ComesSoFar, first_verdict, assoc_resp_verdict}
 use Rattle.domain_rules.specs.Rows.{Take, sender, seal_in, is_after_mic, By_assoc_resp, By_ignored, By_refusal}
 use Rattle.domain_rules.proofs.Effects.{associated_acts}
+use Rattle.domain_rules.proofs.Refused.{no_facts}
 use Rattle.group_key.specs.Keys.{Kept}
 use Rattle.node_frames.specs.Events.{Steps}
-use Rattle.node_frames.specs.Links.{IsLink}
+use Rattle.node_frames.specs.Ends.{AreEnds}
 use Rattle.supplicant.specs.declared.stage.Stage.TheVariants.{Attempt}
 use Rattle.supplicant.specs.State.{State as Supplicant}
 use Rattle.station_node.specs.declared.association.Association.TheVariants.{Requested}
@@ -24,10 +25,6 @@ use Rattle.station_node.proofs.Acts.{plain-refused, plain-ignored}
 use Rattle.station_node.proofs.Standing.{stands-plain}
 use Rattle.station_node.proofs.Beginning.{associated_state, stands-associated}
 use Rattle.station_node.proofs.Verdicts.{response-awaited}
-
--- what a station has to know of a message beside its fields: nothing
-abbrev no_facts : Facts
-no_facts = record { requested = None; unwrapped = None; data_ = None }
 
 pub steps-refused : (d : Domain) (first sta : ℕ) (s : State) (h : List Act) (octets : List ℕ) (r : Reading) (why : Reason) (waited : List Act)
     → Stands d first s h → Reads d.akm octets r → first_verdict d first (Sta sta) h r ≡ Refused why → cond (is_after_mic why) (seal_in d (Sta sta) h r) None ≡ None
@@ -58,11 +55,11 @@ steps-ignored d first sta s h octets waited st reads = record {
 
 pub steps-associated : (d : Domain) (first : ℕ) (s : State) (h : List Act) (octets : List ℕ) (b : Management) (e : ElementFields) (p : ℕ) (v : List ℕ) (x : Supplicant) (memories : List (List Kept)) (waited : List Act)
     → Stands d first s h → s.association ≡ Some (Requested p v)
-    → IsLink d (Sta s.number) (Ap p) x.link → x.psk ≡ d.psk → x.stage ≡ Attempt v None → ((k : ℕ) → memory_at memories k ≡ memory_at s.memories k)
+    → AreEnds d (Sta s.number) (Ap p) x.ends → x.psk ≡ d.psk → x.stage ≡ Attempt v None → ((k : ℕ) → memory_at memories k ≡ memory_at s.memories k)
     → Reads d.akm octets (Managed b e) → sender d (Sta s.number) (Managed b e) ≡ Some (Ap p) → b.kind ≡ kind.AssocResp → b.status ≡ 0
     → first_verdict d first (Sta s.number) h (Managed b e) ≡ assoc_resp_verdict h (Ap p) b
     → Steps d first (Sta s.number) (Take octets) (Stands d first (associated_state s p x memories)) h waited (waited ++ associated_acts (Ap p) octets) Accepted
-steps-associated d first s h octets b e p v x memories waited st is link psk stage same_memory reads from kind_is status verdict_is =
+steps-associated d first s h octets b e p v x memories waited st is ends psk stage same_memory reads from kind_is status verdict_is =
     let accepted : first_verdict d first (Sta s.number) h (Managed b e) ≡ Accepted = verdict_is ∙ response-awaited d first s h p v b st is ∙ rw status refl in
     record {
       acts = associated_acts (Ap p) octets;
@@ -75,5 +72,5 @@ steps-associated d first s h octets b e p v x memories waited st is link psk sta
       };
       waiting = refl;
       came = refl;
-      stands = stands-associated d first s h p v octets x memories st is link psk stage same_memory;
+      stands = stands-associated d first s h p v octets x memories st is ends psk stage same_memory;
     }

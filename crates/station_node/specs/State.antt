@@ -1,4 +1,4 @@
--- What contracts see of a station.
+-- What contracts see of a station (this project's choice).
 use Rattle.std.specs.Prelude.{ℕ, ◌<◌, List, [], length, Option, Some, None, slice_index_or}
 use Rattle.group_key.specs.Keys.{Kept}
 use Rattle.station_node.specs.declared.association.Association.{Association}

@@ -1,15 +1,12 @@
--- What a station does on one event, and what its functions are given.
-use Rattle.std.specs.Prelude.{◌≡◌, ℕ, false, List, [], ◌∷◌, ◌++◌, Option, Some, None}
-use Rattle.domain_base.specs.declared.names.Node.{Node}
+-- What a station does on one event, and what its functions are given (this project's choice).
+use Rattle.std.specs.Prelude.{◌≡◌, ℕ, false, List, ◌++◌, Option, Some}
 use Rattle.domain_base.specs.declared.names.Node.TheVariants.{Ap, Sta}
 use Rattle.rsn_elements.specs.Elements.{ElementFields}
 use Rattle.run_journal.specs.declared.domain.Domain.{Domain}
-use Rattle.run_journal.specs.declared.acts.Kind.{Kind}
 use Rattle.run_journal.specs.declared.acts.Reason.{Reason}
 use Rattle.run_journal.specs.declared.acts.Outcome.{Outcome}
 use Rattle.run_journal.specs.declared.acts.Outcome.TheVariants.{Refused}
 use Rattle.run_journal.specs.declared.acts.Act.{Act}
-use Rattle.run_journal.specs.declared.acts.Act.TheVariants.{Took}
 use Rattle.run_journal.specs.declared.reply.Reply.{Reply}
 use Rattle.domain_rules.specs.Reading.{Management, KeyMessage, Managed, Reads}
 use Rattle.domain_rules.specs.Replies.{IsMessageFrom, reply_acts}
@@ -36,13 +33,8 @@ pub record IsTaken (d : Domain) (event : NodeEvent) (old new : State) (waited wa
 abbrev pub state_with : ℕ → ℕ → Association → List (List Kept) → State
 state_with sta drawn a memories = record { number = sta; drawn = drawn; association = Some a; memories = memories }
 
--- a frame is taken so, with nothing sealed in it, and nothing else is done
-pub record IsTakenAlone (from : Option Node) (octets : List ℕ) (k : Kind) (outcome : Outcome) (waited waits : List Act) (came : Outcome) : Type 0 where
-  pub came_is : came ≡ outcome
-  pub acts : waits ≡ waited ++ Took from octets k outcome None ∷ []
-
 -- the octets are a management frame for the station from that access point
-pub record IsManagedFrom (d : Domain) (sta ap : ℕ) (octets : List ℕ) (b : Management) : Type 0 where
+pub record IsManagementFrom (d : Domain) (sta ap : ℕ) (octets : List ℕ) (b : Management) : Type 0 where
   pub e : ElementFields
   pub reads : Reads d.akm octets (Managed b e)
   pub from : sender d (Sta sta) (Managed b e) ≡ Some (Ap ap)

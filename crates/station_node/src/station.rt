@@ -1,6 +1,6 @@
 //! A station's state, and what each event does to it.
 
-ghost use Rattle.std.specs.Prelude.{true, ◌≡◌, ◌≢◌, ◌<◌, ◌≤◌, ◌++◌, ℕ, List, [], length, IfOk, OnErr};
+ghost use Rattle.std.specs.Prelude.{true, ◌≡◌, ◌≢◌, ◌<◌, ℕ, List, [], length, IfOk, OnErr};
 ghost use Rattle.domain_base.specs.declared.names.Akm.{Akm as AnyAkm};
 ghost use Rattle.domain_base.specs.declared.names.Node.TheVariants.{Ap, Sta};
 ghost use Rattle.eapol_key.specs.Fields.{IsKeyFrame};
@@ -16,23 +16,21 @@ ghost use Rattle.domain_rules.specs.Rows.{Begin, Take};
 ghost use Rattle.node_frames.specs.Views.{management_fields, message_fields};
 ghost use Rattle.node_frames.specs.Events.{event_of, IsEventAt, Steps};
 ghost use Rattle.station_node.specs.Stands.{Stands};
-ghost use Rattle.station_node.specs.Steps.{IsTaken, IsManagedFrom};
+ghost use Rattle.station_node.specs.Steps.{IsTaken, IsManagementFrom};
 
 use crate::association::Association;
 use crate::memories::make_place;
-use crate::refusing::{refuse, take_alone};
+use crate::refusing::refuse;
 use domain_base::{NoMemory, Node};
 use group_key::GroupMemory;
 use node_frames::{
-    Judged, KeyMessage, Management, NodeEvent, Outbox, assoc_req, judge, nonce, read, took,
+    Judged, KeyMessage, LAST_DRAW, Management, NodeEvent, Outbox, assoc_req, judge, nonce, read,
+    settle, took,
 };
 use run_journal::{Act, Domain, Drawn, Kind, Outcome, Reason, Start, Why};
 use std::alloc::Global;
 use std::marker::Model;
 use supplicant::{StaStart, Supplicant};
-
-// The number of draws at which a node draws no more: 2^60.
-const LAST_DRAW: u64 = 1_152_921_504_606_846_976;
 
 /// A station of the domain.
 #[derive(Drop)]
@@ -116,14 +114,9 @@ impl StationNode {
     {
         let delivered = read(domain.akm, octets);
         match judge(domain, Node::Sta(self.number), &delivered) {
-            Judged::Settled(from, outcome) => take_alone(
-                alloc,
-                from,
-                octets,
-                delivered.kind(),
-                outcome,
-                out,
-            ),
+            Judged::Settled(from, outcome) => {
+                settle(alloc, from, octets, delivered.kind(), outcome, out)
+            }
             Judged::Managed(from, frame, _) => self.take_management(
                 alloc,
                 domain,
@@ -193,7 +186,7 @@ impl StationNode {
         requires suite { domain.now.akm ≢ AnyAkm.FtPsk }
         requires listed { self.old.number < length domain.now.stas }
         requires ap { ap < length domain.now.aps }
-        requires managed { IsManagedFrom domain.now self.old.number ap octets.now (management_fields frame.now) }
+        requires managed { IsManagementFrom domain.now self.old.number ap octets.now (management_fields frame.now) }
         ensures taken { IfOk result (IsTaken domain.now (Take octets.now) self.old self.new out.old.acts out.new.acts) }
         ensures same { OnErr result (self.new ≡ self.old) }
         ensures kept { OnErr result (out.new.acts ≡ out.old.acts) }
@@ -217,7 +210,7 @@ impl StationNode {
         requires suite { domain.now.akm ≢ AnyAkm.FtPsk }
         requires listed { self.old.number < length domain.now.stas }
         requires ap { ap < length domain.now.aps }
-        ensures taken { IfOk result (λ outcome. (b : ManagementFields) → IsManagedFrom domain.now self.old.number ap octets.now b
+        ensures taken { IfOk result (λ outcome. (b : ManagementFields) → IsManagementFrom domain.now self.old.number ap octets.now b
             → b.kind ≡ AssocResp → b.status ≡ status → IsTaken domain.now (Take octets.now) self.old self.new out.old.acts out.new.acts outcome) }
         ensures same { OnErr result (self.new ≡ self.old) }
         ensures kept { OnErr result (out.new.acts ≡ out.old.acts) }

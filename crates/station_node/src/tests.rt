@@ -2,7 +2,7 @@
 //! 02:00:00:00:00:01 and 02:00:00:00:00:02. The pre-shared key is that of the passphrase "password", the seed 00 to 1f. Nonces,
 //! keys and MICs were computed apart from this project.
 
-ghost use Rattle.std.specs.Prelude.{◌≡◌, ◌≢◌, ◌<◌, IfOk, length};
+ghost use Rattle.std.specs.Prelude.{◌≡◌, ◌<◌, IfOk, length};
 ghost use Rattle.domain_base.specs.declared.names.Akm.{Akm as AnyAkm};
 ghost use Rattle.domain_rules.specs.Network.{InForm, last_draw};
 

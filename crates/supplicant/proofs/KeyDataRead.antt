@@ -9,7 +9,7 @@ use Rattle.domain_base.specs.Places.{part, big_endian_at}
 use Rattle.rsn_elements.specs.declared.framing.Within.TheVariants.{KeyData}
 use Rattle.rsn_elements.specs.Elements.{ElementFields, SpellsElements}
 use Rattle.rsn_elements.specs.Sent.{rsne_octets}
-use Rattle.aes_block.specs.Octets.{AreOctets}
+use Rattle.domain_base.specs.Octets.{AreOctets}
 use Rattle.key_wrap.specs.KeyWrap.{Wraps}
 use Rattle.key_wrap.proofs.OutLemmas.{octets_unwrapped}
 use Rattle.mac_prf.specs.Mic.{mic}

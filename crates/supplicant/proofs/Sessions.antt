@@ -17,11 +17,11 @@ use Rattle.run_journal.specs.declared.reply.Keyed.{Keyed}
 use Rattle.run_journal.specs.Acts.{GroupKey}
 use Rattle.run_journal.specs.Questions.{since, derivation, session, add}
 use Rattle.domain_rules.specs.Frames.{sent_m4}
-use Rattle.domain_rules.specs.Replies.{inputs_by}
+use Rattle.domain_rules.specs.Replies.{inputs_by, key_by}
 use Rattle.domain_rules.specs.Verdict.{by_connect, kept_counter, replay_counter, at_least}
 use Rattle.domain_rules.specs.GroupKeys.{give_by}
 use Rattle.domain_rules.proofs.Parts.{IsApart, same-refl, attempt_none, attempt_some, by_connect_more}
-use Rattle.supplicant.specs.Stands.{IsUnderWay, IsHeld, key_by}
+use Rattle.supplicant.specs.Stands.{IsUnderWay, IsHeld}
 use Rattle.supplicant.proofs.Standing.{some_part, since_part, derivation_part, at_least-greater}
 
 -- ---- M3 accepted

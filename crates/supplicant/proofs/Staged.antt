@@ -1,7 +1,7 @@
 -- How far a supplicant is behind a message, and that its keys are its own.
-use Rattle.std.proofs.Common.{◌≡◌, ℕ, List, Option, Some, None, sym, subst}
+use Rattle.std.proofs.Common.{◌≡◌, ℕ, List, Option, Some, None, refl, sym, subst}
 use Rattle.run_journal.specs.declared.reply.Keyed.{Keyed}
-use Rattle.node_frames.specs.declared.link.Link.{Link}
+use Rattle.node_frames.specs.declared.ends.Ends.{Ends}
 use Rattle.supplicant.specs.declared.stage.Stage.{Stage}
 use Rattle.supplicant.specs.declared.stage.Stage.TheVariants.{Retired, Attempt, Session}
 use Rattle.supplicant.specs.declared.supplicant.StaStart.{StaStart}
@@ -9,16 +9,17 @@ use Rattle.supplicant.specs.declared.supplicant.StaStart.TheVariants.{Connect}
 use Rattle.supplicant.specs.State.{State, IsAttempt, IsSession}
 use Rattle.supplicant.specs.Steps.{IsStaged}
 use Rattle.supplicant.specs.Starts.{begun}
-use Rattle.supplicant.specs.Keys.{IsKeyOf, AreKeysOf}
+use Rattle.node_frames.specs.PairwiseKeys.{IsKeyOf}
+use Rattle.supplicant.specs.Keys.{AreKeysOf}
 use Rattle.supplicant.specs.Stages.{at_stage, HasNonce, HasKey}
 use Rattle.supplicant.proofs.Keyings.{trying_with, holding_with}
 
 -- ---- keys
 
-pub begun_keys : (l : Link) (psk : List ℕ) (s : StaStart) → AreKeysOf l psk (begun s)
+pub begun_keys : (l : Ends) (psk : List ℕ) (s : StaStart) → AreKeysOf l psk (begun s)
 begun_keys l psk (Connect snonce) = tt
 
-pub keys_with : (l : Link) (psk : List ℕ) (x : Stage) (y : Keyed) (kept : Option ℕ) → AreKeysOf l psk x → HasKey x y kept → IsKeyOf l psk y
+pub keys_with : (l : Ends) (psk : List ℕ) (x : Stage) (y : Keyed) (kept : Option ℕ) → AreKeysOf l psk x → HasKey x y kept → IsKeyOf l psk y
 keys_with l psk Retired y kept keys has = absurd has
 keys_with l psk (Attempt v None) y kept keys has = absurd has
 keys_with l psk (Attempt v (Some x)) y kept keys has = subst (λ (z : Keyed). IsKeyOf l psk z) has.0 keys
@@ -37,7 +38,7 @@ staged_replied s v key o none has = subst (λ (x : Option Keyed). IsStaged x s (
 pub staged_finished : (s : State) (y : Keyed) (counter : ℕ) (o : Option Keyed) → o ≡ Some y → HasKey s.stage y None → IsStaged o s (at_stage (Session y counter) s)
 staged_finished s y counter o some has =
     let t = trying_with s.stage y has in
-    subst (λ (x : Option Keyed). IsStaged x s (at_stage (Session y counter) s)) (sym some) (subst IsAttempt (sym t.is) tt, tt)
+    subst (λ (x : Option Keyed). IsStaged x s (at_stage (Session y counter) s)) (sym some) (subst IsAttempt (sym t.is) tt, refl)
 
 no_attempt : (x : Stage) (y : Keyed) (was : ℕ) → x ≡ Session y was → IsAttempt x → ⊥
 no_attempt x y was is a = subst IsAttempt is a

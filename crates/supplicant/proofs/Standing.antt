@@ -70,7 +70,7 @@ stage_more d n p (Session y counter) h e apart st = held_more d n p y counter h 
 pub stands_refused : (d : Domain) (n p : Node) (s : State) (octets : List ℕ) (k : Kind) (why : Reason) (seal : Option Seal) (h : List Act) → Stands d n p s h
     → Stands d n p s (Took (Some p) octets k (Refused why) seal ∷ h)
 stands_refused d n p s octets k why seal h st = record {
-  link = st.link;
+  ends = st.ends;
   psk = st.psk;
   stage_is = stage_more d n p s.stage h (Took (Some p) octets k (Refused why) seal) (apart-refused p (Some p) octets k why seal) st.stage_is;
 }

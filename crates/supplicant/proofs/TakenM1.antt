@@ -29,30 +29,27 @@ use Rattle.domain_rules.specs.Network.{inputs}
 use Rattle.domain_rules.specs.Frames.{sent_m2}
 use Rattle.domain_rules.specs.Reading.{KeyMessage, Keyed as KeyedReading}
 use Rattle.domain_rules.specs.Replies.{IsMessageFrom, inputs_by}
-use Rattle.domain_rules.specs.Verdict.{Facts, ComesSoFar, KnowsOf, own, and_then, further, first_verdict, key_verdict, m1_verdict}
+use Rattle.domain_rules.specs.Verdict.{ComesSoFar, KnowsOf, own, and_then, further, first_verdict, key_verdict, m1_verdict}
 use Rattle.domain_rules.specs.Rows.{Take, Adds, sender, seal_in, is_after_mic, By_m1, By_refusal}
+use Rattle.domain_rules.proofs.Refused.{no_facts}
 use Rattle.domain_rules.proofs.Effects.{IsTaken as GoesOnBy, replying_acts, has_replied}
 use Rattle.domain_rules.proofs.Verdicts.{unawaited-m1, m1-in}
 use Rattle.group_key.specs.Keys.{Kept}
-use Rattle.node_frames.specs.Links.{IsLink}
+use Rattle.node_frames.specs.Ends.{AreEnds}
 use Rattle.supplicant.specs.declared.stage.Stage.{Stage}
 use Rattle.supplicant.specs.declared.stage.Stage.TheVariants.{Retired, Attempt, Session}
 use Rattle.supplicant.specs.State.{State, IsAttempt}
 use Rattle.supplicant.specs.Stands.{Stands, StandsIn, IsUnderWay}
-use Rattle.supplicant.specs.Keys.{IsKeyOf}
+use Rattle.node_frames.specs.PairwiseKeys.{IsKeyOf}
 use Rattle.supplicant.specs.Stages.{at_stage, HasNonce}
 use Rattle.supplicant.specs.Told.{Tells}
 use Rattle.supplicant.specs.Taken.{IsTaken}
-use Rattle.supplicant.proofs.KeysOf.{key_is}
+use Rattle.node_frames.proofs.EndsKeys.{key_is}
 use Rattle.supplicant.proofs.Telling.{acts_told, steps_by, tells_nothing}
 use Rattle.supplicant.proofs.Standing.{stands_refused}
 use Rattle.supplicant.proofs.Remembering.{remembers_took, remembers_replied}
 
 -- ---- a refusal before the MIC
-
--- what has to be known of a message beside its fields: nothing
-abbrev pub no_facts : Facts
-no_facts = record { requested = None; unwrapped = None; data_ = None }
 
 unsealed : (d : Domain) (sta : ℕ) (h : List Act) (k : KeyMessage) (why : Reason) → is_after_mic why ≡ false → cond (is_after_mic why) (seal_in d (Sta sta) h (KeyedReading k)) None ≡ None
 unsealed d sta h k why quiet = ap (λ (b : Bool). cond b (seal_in d (Sta sta) h (KeyedReading k)) None) quiet
@@ -184,18 +181,18 @@ adds_replied d first sta p octets k h v key y from is u drawn theirs keyed =
       });
     }
 
-pub m1_accepted : (f : KeyFrame) (s : State) (ks : List Kept) (v : List ℕ) (y : Keyed) (r : Reply) → s.link.akm ≢ FtPsk → IsKeyOf s.link s.psk y → y.anonce ≡ f.nonce → y.snonce ≡ v → HasNonce s.stage v
-    → ((d : Domain) (n p : Node) (i : Inputs) → IsLink d n p s.link → y.ptk ≡ ptk i → i.snonce ≡ y.snonce → Tells p r None (Some y) None None (sent_m2 d n p i f.counter ∷ []))
+pub m1_accepted : (f : KeyFrame) (s : State) (ks : List Kept) (v : List ℕ) (y : Keyed) (r : Reply) → s.ends.akm ≢ FtPsk → IsKeyOf s.ends s.psk y → y.anonce ≡ f.nonce → y.snonce ≡ v → HasNonce s.stage v
+    → ((d : Domain) (n p : Node) (i : Inputs) → AreEnds d n p s.ends → y.ptk ≡ ptk i → i.snonce ≡ y.snonce → Tells p r None (Some y) None None (sent_m2 d n p i f.counter ∷ []))
     → IsTaken M1 f s ks (at_stage (Attempt v (Some y)) s) ks Accepted r
 m1_accepted f s ks v y r suite of theirs drawn has tells = λ d first sta a octets k h st remembers from is fields are.
     (let t = trying s.stage v has in
-    let keyed : y.ptk ≡ ptk (inputs_by d (Sta sta) (Ap a) y) = key_is d sta (Ap a) s.link s.psk y st.link st.psk suite of in
+    let keyed : y.ptk ≡ ptk (inputs_by d (Sta sta) (Ap a) y) = key_is d (Sta sta) (Ap a) s.ends s.psk y st.ends st.psk suite of in
     let u : IsUnderWay d (Sta sta) (Ap a) v t.key h = subst (λ (x : Stage). StandsIn d (Sta sta) (Ap a) x h) t.is st.stage_is in
     let nonce_is : y.anonce ≡ k.fields.nonce = theirs ∙ ap (λ (g : KeyFields). g.nonce) (sym fields) in
     let counter_is : f.counter ≡ k.fields.counter = ap (λ (g : KeyFields). g.counter) (sym fields) in
     steps_by d first (Sta sta) (Ap a) octets k (at_stage (Attempt v (Some y)) s) ks Accepted r h (replying_acts d (Sta sta) (Ap a) octets (inputs_by d (Sta sta) (Ap a) y) y.ptk k.fields.counter)
-    (acts_told d (Sta sta) (Ap a) octets k Accepted r None (Some y) None None (sent_m2 d (Sta sta) (Ap a) (inputs_by d (Sta sta) (Ap a) y) f.counter ∷ []) (tells d (Sta sta) (Ap a) (inputs_by d (Sta sta) (Ap a) y) st.link keyed refl)
+    (acts_told d (Sta sta) (Ap a) octets k Accepted r None (Some y) None None (sent_m2 d (Sta sta) (Ap a) (inputs_by d (Sta sta) (Ap a) y) f.counter ∷ []) (tells d (Sta sta) (Ap a) (inputs_by d (Sta sta) (Ap a) y) st.ends keyed refl)
     ∙ replied d (Sta sta) (Ap a) octets k (inputs_by d (Sta sta) (Ap a) y) y.ptk f.counter is counter_is)
     (adds_replied d first sta (Ap a) octets k h v t.key y from is u drawn nonce_is keyed)
-    (record { link = st.link; psk = st.psk; stage_is = under_way_replied d (Sta sta) (Ap a) v octets t.key y k.fields.counter h u })
+    (record { ends = st.ends; psk = st.psk; stage_is = under_way_replied d (Sta sta) (Ap a) v octets t.key y k.fields.counter h u })
     (remembers_replied d (Sta sta) (Ap a) octets (inputs_by d (Sta sta) (Ap a) y) y.ptk k.fields.counter ks h remembers))

@@ -40,19 +40,19 @@ use Rattle.domain_rules.proofs.SentReads.{reads-counter, reads-rsc}
 use Rattle.group_key.specs.Keys.{Kept, kept_id, given}
 use Rattle.group_key.specs.Holds.{Remembers}
 use Rattle.group_key.proofs.Keeping.{found_in, found_as}
-use Rattle.node_frames.specs.Links.{IsLink}
+use Rattle.node_frames.specs.Ends.{AreEnds}
 use Rattle.supplicant.specs.declared.stage.Stage.{Stage}
 use Rattle.supplicant.specs.declared.stage.Stage.TheVariants.{Session}
 use Rattle.supplicant.specs.declared.m3.CarriedKey.{CarriedKey}
 use Rattle.supplicant.specs.declared.m3.M3.TheVariants as m3
 use Rattle.supplicant.specs.State.{State}
 use Rattle.supplicant.specs.Stands.{Stands, StandsIn, IsUnderWay, IsHeld}
-use Rattle.supplicant.specs.Keys.{IsKeyOf}
+use Rattle.node_frames.specs.PairwiseKeys.{IsKeyOf}
 use Rattle.supplicant.specs.Stages.{at_stage, HasNoKey, HasKey}
 use Rattle.supplicant.specs.M3.{group_key, news_of, before_key_data, IsOpened, IsVerified, IsM3}
 use Rattle.supplicant.specs.Told.{Tells}
 use Rattle.supplicant.specs.Taken.{IsTaken}
-use Rattle.supplicant.proofs.KeysOf.{key_is}
+use Rattle.node_frames.proofs.EndsKeys.{key_is}
 use Rattle.supplicant.proofs.Telling.{acts_told, steps_by}
 use Rattle.supplicant.proofs.Standing.{stands_refused}
 use Rattle.supplicant.proofs.Remembering.{packet_number_of, remembers_took, remembers_answered, remembers_finished}
@@ -66,11 +66,11 @@ pub m3_unawaited : (f : KeyFrame) (s : State) (ks : List Kept) (r : Reply) → I
 m3_unawaited f s ks r empty none = taken_refused M3 f s ks reason.Unawaited r empty refl
     (λ d first sta a octets k h st from is fields are. m3_is d first sta (Ap a) octets k h from is ∙ m3_none d (Sta sta) (Ap a) s.stage h k st.stage_is none)
 
-pub m3_refused : (f : KeyFrame) (s : State) (ks : List Kept) (y : Keyed) (kept : Option ℕ) (why : Reason) (r : Reply) → IsEmpty r → HasKey s.stage y kept → IsM3 s.link.akm y kept (fields_of f) f.octets.now (m3.Refused why)
+pub m3_refused : (f : KeyFrame) (s : State) (ks : List Kept) (y : Keyed) (kept : Option ℕ) (why : Reason) (r : Reply) → IsEmpty r → HasKey s.stage y kept → IsM3 s.ends.akm y kept (fields_of f) f.octets.now (m3.Refused why)
     → IsTaken M3 f s ks s ks (Refused why) r
 m3_refused f s ks y kept why r empty has judged = taken_refused M3 f s ks why r empty judged.1
     (λ d first sta a octets k h st from is fields are.
-    (let j : ((o : Outcome) → before_key_data d.akm y kept k.fields k.octets o ≡ Refused why) × (is_after_mic why ≡ false) = judged_as s.link.akm d.akm y kept (fields_of f) f.octets.now k (m3.Refused why) st.link.akm fields are judged in
+    (let j : ((o : Outcome) → before_key_data d.akm y kept k.fields k.octets o ≡ Refused why) × (is_after_mic why ≡ false) = judged_as s.ends.akm d.akm y kept (fields_of f) f.octets.now k (m3.Refused why) st.ends.akm fields are judged in
     m3_is d first sta (Ap a) octets k h from is ∙ m3_under d sta (Ap a) h k y kept (keying_of d (Sta sta) (Ap a) s.stage h y kept st.stage_is has) ∙ j.0 (taken_by kept)))
 
 -- ---- what is known where its MIC verified
@@ -134,10 +134,10 @@ adds_sealed d first sta p octets k h y kept why from is x v =
       });
     }
 
-pub m3_sealed : (f : KeyFrame) (s : State) (ks : List Kept) (y : Keyed) (kept : Option ℕ) (why : Reason) (r : Reply) → HasKey s.stage y kept → IsVerified s.link.akm y kept (fields_of f) f.octets.now (Err why)
+pub m3_sealed : (f : KeyFrame) (s : State) (ks : List Kept) (y : Keyed) (kept : Option ℕ) (why : Reason) (r : Reply) → HasKey s.stage y kept → IsVerified s.ends.akm y kept (fields_of f) f.octets.now (Err why)
     → ((p : Node) → Tells p r (Some y.ptk.kck) None None None []) → IsTaken M3 f s ks s ks (Refused why) r
 m3_sealed f s ks y kept why r has verified tells = λ d first sta a octets k h st remembers from is fields are.
-    (let v : IsVerified d.akm y kept k.fields k.octets (Err why) = judged_as s.link.akm d.akm y kept (fields_of f) f.octets.now k (m3.Other why) st.link.akm fields are verified in
+    (let v : IsVerified d.akm y kept k.fields k.octets (Err why) = judged_as s.ends.akm d.akm y kept (fields_of f) f.octets.now k (m3.Other why) st.ends.akm fields are verified in
     let x = keying_of d (Sta sta) (Ap a) s.stage h y kept st.stage_is has in
     steps_by d first (Sta sta) (Ap a) octets k s ks (Refused why) r h (Took (Some (Ap a)) octets (kind.Key k.message) (Refused why) (Some (frame_seal y.ptk.kck k.octets)) ∷ [])
     (acts_told d (Sta sta) (Ap a) octets k (Refused why) r (Some y.ptk.kck) None None None [] (tells (Ap a)))
@@ -194,27 +194,27 @@ stands_finished d sta a s octets k y c counter h st has from number =
     let u : IsUnderWay d (Sta sta) (Ap a) t.v (Some y) h = subst (λ (x : Stage). StandsIn d (Sta sta) (Ap a) x h) t.is st.stage_is in
     let g : Act = give (Ap a) (mac d (Ap a)) (group_key c) h in
     record {
-      link = st.link;
+      ends = st.ends;
       psk = st.psk;
       stage_is = subst (λ (x : ℕ). IsHeld d (Sta sta) (Ap a) y x (add (finishing_acts d (Sta sta) (Ap a) octets (frame_seal y.ptk.kck k.octets) y.ptk.tk (inputs_by d (Sta sta) (Ap a) y) g k.fields.counter) h)) (sym number)
           (held_finished d sta a t.v octets (frame_seal y.ptk.kck k.octets) y g k.fields.counter h u
           (apart_give (Ap a) (Ap a) (mac d (Ap a)) (group_key c) (find_key c.key (memory (Ap a) h))) (reads-counter d.akm octets k from.reads));
     }
 
-pub m3_finished : (f : KeyFrame) (s : State) (ks : List Kept) (y : Keyed) (c : CarriedKey) (rsc : ℕ) (g : GtkNews) (r : Reply) → s.link.akm ≢ FtPsk → IsKeyOf s.link s.psk y → HasKey s.stage y None
-    → IsVerified s.link.akm y None (fields_of f) f.octets.now (Ok c) → rsc ≡ packet_number_of f.rsc → g ≡ news_of c (kept_id c.key ks)
-    → ((d : Domain) (n p : Node) (i : Inputs) → IsLink d n p s.link → y.ptk ≡ ptk i → Tells p r (Some y.ptk.kck) None (Some y) (Some g) (sent_m4 d n p i f.counter ∷ []))
+pub m3_finished : (f : KeyFrame) (s : State) (ks : List Kept) (y : Keyed) (c : CarriedKey) (rsc : ℕ) (g : GtkNews) (r : Reply) → s.ends.akm ≢ FtPsk → IsKeyOf s.ends s.psk y → HasKey s.stage y None
+    → IsVerified s.ends.akm y None (fields_of f) f.octets.now (Ok c) → rsc ≡ packet_number_of f.rsc → g ≡ news_of c (kept_id c.key ks)
+    → ((d : Domain) (n p : Node) (i : Inputs) → AreEnds d n p s.ends → y.ptk ≡ ptk i → Tells p r (Some y.ptk.kck) None (Some y) (Some g) (sent_m4 d n p i f.counter ∷ []))
     → IsTaken M3 f s ks (at_stage (Session y f.counter) s) (given c.key c.id rsc ks) Accepted r
 m3_finished f s ks y c rsc g r suite of has verified numbered news tells = λ d first sta a octets k h st remembers from is fields are.
     (let i : Inputs = inputs_by d (Sta sta) (Ap a) y in
     let seal : Seal = frame_seal y.ptk.kck k.octets in
-    let keyed : y.ptk ≡ ptk i = key_is d sta (Ap a) s.link s.psk y st.link st.psk suite of in
+    let keyed : y.ptk ≡ ptk i = key_is d (Sta sta) (Ap a) s.ends s.psk y st.ends st.psk suite of in
     let counter_is : f.counter ≡ k.fields.counter = ap (λ (x : KeyFields). x.counter) (sym fields) in
-    let v : IsVerified d.akm y None k.fields k.octets (Ok c) = judged_as s.link.akm d.akm y None (fields_of f) f.octets.now k (m3.Agreed c) st.link.akm fields are verified in
+    let v : IsVerified d.akm y None k.fields k.octets (Ok c) = judged_as s.ends.akm d.akm y None (fields_of f) f.octets.now k (m3.Agreed c) st.ends.akm fields are verified in
     let x = keying_of d (Sta sta) (Ap a) s.stage h y None st.stage_is has in
     steps_by d first (Sta sta) (Ap a) octets k (at_stage (Session y f.counter) s) (given c.key c.id rsc ks) Accepted r h
     (finishing_acts d (Sta sta) (Ap a) octets seal y.ptk.tk i (give (Ap a) (mac d (Ap a)) (group_key c) h) k.fields.counter)
-    (acts_told d (Sta sta) (Ap a) octets k Accepted r (Some y.ptk.kck) None (Some y) (Some g) (sent_m4 d (Sta sta) (Ap a) i f.counter ∷ []) (tells d (Sta sta) (Ap a) i st.link keyed)
+    (acts_told d (Sta sta) (Ap a) octets k Accepted r (Some y.ptk.kck) None (Some y) (Some g) (sent_m4 d (Sta sta) (Ap a) i f.counter ∷ []) (tells d (Sta sta) (Ap a) i st.ends keyed)
     ∙ finishing d (Sta sta) (Ap a) octets k seal y.ptk.tk i (news_act d (Ap a) g) (give (Ap a) (mac d (Ap a)) (group_key c) h) f.counter is (group_act d (Ap a) c ks g h remembers news) counter_is)
     (adds_finished d first sta (Ap a) octets k h y c from is x v)
     (stands_finished d sta a s octets k y c f.counter h st has from counter_is)
@@ -254,25 +254,25 @@ stands_answered : (d : Domain) (sta : ℕ) (p : Node) (s : State) (octets : List
 stands_answered d sta p s octets k y was counter h st has from number comes =
     let l : IsHeld d (Sta sta) p y was h = subst (λ (x : Stage). StandsIn d (Sta sta) p x h) (holding_with s.stage y was has) st.stage_is in
     record {
-      link = st.link;
+      ends = st.ends;
       psk = st.psk;
       stage_is = subst (λ (x : ℕ). IsHeld d (Sta sta) p y x (add (answering_acts d (Sta sta) p octets (frame_seal y.ptk.kck k.octets) (inputs_by d (Sta sta) p y) k.fields.counter) h)) (sym number)
           (held_again d (Sta sta) p octets (frame_seal y.ptk.kck k.octets) (inputs_by d (Sta sta) p y) y was k.fields.counter h l (reads-counter d.akm octets k from.reads) (counter_high d.akm y was k.fields k.octets comes));
     }
 
-pub m3_answered : (f : KeyFrame) (s : State) (ks : List Kept) (y : Keyed) (was : ℕ) (c : CarriedKey) (r : Reply) → s.link.akm ≢ FtPsk → IsKeyOf s.link s.psk y → HasKey s.stage y (Some was)
-    → IsVerified s.link.akm y (Some was) (fields_of f) f.octets.now (Ok c)
-    → ((d : Domain) (n p : Node) (i : Inputs) → IsLink d n p s.link → y.ptk ≡ ptk i → Tells p r (Some y.ptk.kck) None None None (sent_m4 d n p i f.counter ∷ []))
+pub m3_answered : (f : KeyFrame) (s : State) (ks : List Kept) (y : Keyed) (was : ℕ) (c : CarriedKey) (r : Reply) → s.ends.akm ≢ FtPsk → IsKeyOf s.ends s.psk y → HasKey s.stage y (Some was)
+    → IsVerified s.ends.akm y (Some was) (fields_of f) f.octets.now (Ok c)
+    → ((d : Domain) (n p : Node) (i : Inputs) → AreEnds d n p s.ends → y.ptk ≡ ptk i → Tells p r (Some y.ptk.kck) None None None (sent_m4 d n p i f.counter ∷ []))
     → IsTaken M3 f s ks (at_stage (Session y f.counter) s) ks Answered r
 m3_answered f s ks y was c r suite of has verified tells = λ d first sta a octets k h st remembers from is fields are.
     (let i : Inputs = inputs_by d (Sta sta) (Ap a) y in
     let seal : Seal = frame_seal y.ptk.kck k.octets in
-    let keyed : y.ptk ≡ ptk i = key_is d sta (Ap a) s.link s.psk y st.link st.psk suite of in
+    let keyed : y.ptk ≡ ptk i = key_is d (Sta sta) (Ap a) s.ends s.psk y st.ends st.psk suite of in
     let counter_is : f.counter ≡ k.fields.counter = ap (λ (x : KeyFields). x.counter) (sym fields) in
-    let v : IsVerified d.akm y (Some was) k.fields k.octets (Ok c) = judged_as s.link.akm d.akm y (Some was) (fields_of f) f.octets.now k (m3.Agreed c) st.link.akm fields are verified in
+    let v : IsVerified d.akm y (Some was) k.fields k.octets (Ok c) = judged_as s.ends.akm d.akm y (Some was) (fields_of f) f.octets.now k (m3.Agreed c) st.ends.akm fields are verified in
     let x = keying_of d (Sta sta) (Ap a) s.stage h y (Some was) st.stage_is has in
     steps_by d first (Sta sta) (Ap a) octets k (at_stage (Session y f.counter) s) ks Answered r h (answering_acts d (Sta sta) (Ap a) octets seal i k.fields.counter)
-    (acts_told d (Sta sta) (Ap a) octets k Answered r (Some y.ptk.kck) None None None (sent_m4 d (Sta sta) (Ap a) i f.counter ∷ []) (tells d (Sta sta) (Ap a) i st.link keyed)
+    (acts_told d (Sta sta) (Ap a) octets k Answered r (Some y.ptk.kck) None None None (sent_m4 d (Sta sta) (Ap a) i f.counter ∷ []) (tells d (Sta sta) (Ap a) i st.ends keyed)
     ∙ answering d (Sta sta) (Ap a) octets k seal i f.counter is counter_is)
     (adds_answered d first sta (Ap a) octets k h y was c from is x v)
     (stands_answered d sta (Ap a) s octets k y was f.counter h st has from counter_is v.comes)

@@ -1,4 +1,4 @@
--- What M3 is judged as.
+-- What M3 is judged as (IEEE Std 802.11-2020, 12.7.6.4; the order of the checks is this project's choice).
 use Rattle.std.specs.Prelude.{◌≡◌, ℕ, ◌<◌, ◌≤◌, true, false, List, Option, Some, None, bytes_eq, if◌then◌else◌, Result, Ok, Err}
 use Rattle.domain_base.specs.declared.names.Akm.{Akm}
 use Rattle.rsn_elements.specs.Elements.{ElementFields}

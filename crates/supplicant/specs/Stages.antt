@@ -1,4 +1,4 @@
--- What a stage has to take a message by.
+-- What a stage has to take a message by (this project's choice).
 use Rattle.std.specs.Prelude.{◌≡◌, ℕ, List, Option, Some, None}
 use Rattle.run_journal.specs.declared.reply.Keyed.{Keyed}
 use Rattle.supplicant.specs.declared.stage.Stage.{Stage}
@@ -7,7 +7,7 @@ use Rattle.supplicant.specs.State.{State}
 
 -- the same supplicant at another stage
 abbrev pub at_stage : Stage → State → State
-at_stage x s = record { link = s.link; psk = s.psk; stage = x }
+at_stage x s = record { ends = s.ends; psk = s.psk; stage = x }
 
 -- an attempt under that nonce
 abbrev pub HasNonce : Stage → List ℕ → Type 0

@@ -1,4 +1,4 @@
--- Which histories a supplicant stands for.
+-- Which histories a supplicant stands for (this project's choice; the exchange is that of IEEE Std 802.11-2020, 12.7.6).
 use Rattle.std.specs.Prelude.{◌≡◌, ℕ, true, List, Option, Some, None, option_map, is_some}
 use Rattle.domain_base.specs.declared.names.Node.{Node}
 use Rattle.eapol_key.specs.declared.messages.Message.TheVariants.{M1}
@@ -6,20 +6,16 @@ use Rattle.run_journal.specs.declared.domain.Domain.{Domain}
 use Rattle.run_journal.specs.declared.acts.Kind.TheVariants.{AssocResp, Key}
 use Rattle.run_journal.specs.declared.acts.Act.{Act}
 use Rattle.run_journal.specs.declared.reply.Keyed.{Keyed}
-use Rattle.run_journal.specs.Acts.{Derivation}
 use Rattle.run_journal.specs.Questions.{attempt, since, own_nonce, derivation, session}
 use Rattle.domain_rules.specs.Verdict.{by_connect, has_heard, kept_counter}
-use Rattle.domain_rules.specs.Replies.{inputs_by}
-use Rattle.node_frames.specs.Links.{IsLink}
+use Rattle.domain_rules.specs.Replies.{key_by}
+use Rattle.node_frames.specs.Ends.{AreEnds}
 use Rattle.supplicant.specs.declared.stage.Stage.{Stage}
 use Rattle.supplicant.specs.declared.stage.Stage.TheVariants as stage
 use Rattle.supplicant.specs.State.{State}
 
--- the key of node n with its peer p
-abbrev pub key_by : Domain → Node → Node → Keyed → Derivation
-key_by d n p y = record { inputs = inputs_by d n p y; ptk = y.ptk }
-
--- the attempt is under way: it began by association, whose response was accepted, and in it no M3 and no G1 was accepted
+-- the attempt is under way: it began by association, whose response was accepted, and in it no M3 and no G1 was accepted or
+-- answered
 pub record IsUnderWay (d : Domain) (n p : Node) (snonce : List ℕ) (key : Option Keyed) (h : List Act) : Type 0 where
   pub part : List Act
   pub is : attempt p h ≡ Some part
@@ -50,6 +46,6 @@ StandsIn d n p (stage.Session key counter) h = IsHeld d n p key counter h
 
 -- the supplicant of node n with its peer p stands for the history of n
 pub record Stands (d : Domain) (n p : Node) (s : State) (h : List Act) : Type 0 where
-  pub link : IsLink d n p s.link
+  pub ends : AreEnds d n p s.ends
   pub psk : s.psk ≡ d.psk
   pub stage_is : StandsIn d n p s.stage h

@@ -1,4 +1,4 @@
--- How a supplicant begins.
+-- How a supplicant begins (this project's choice).
 use Rattle.std.specs.Prelude.{None}
 use Rattle.supplicant.specs.declared.supplicant.StaStart.{StaStart}
 use Rattle.supplicant.specs.declared.supplicant.StaStart.TheVariants.{Connect}

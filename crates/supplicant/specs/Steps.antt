@@ -1,4 +1,4 @@
--- What a message does.
+-- What a message does (this project's choice).
 use Rattle.std.specs.Prelude.{ℕ, false, List, Option, Some, None}
 use Rattle.domain_base.specs.declared.names.Node.{Node}
 use Rattle.run_journal.specs.declared.domain.Domain.{Domain}
@@ -12,17 +12,17 @@ use Rattle.domain_rules.specs.Replies.{reply_acts}
 use Rattle.domain_rules.specs.Rows.{Take, Adds}
 use Rattle.group_key.specs.Keys.{Kept}
 use Rattle.group_key.specs.Holds.{Remembers}
-use Rattle.supplicant.specs.State.{State, IsAttempt, IsSession}
+use Rattle.supplicant.specs.State.{State, IsAttempt, IsSession, IsSessionUnder}
 use Rattle.supplicant.specs.Stands.{Stands}
 
--- For every history that supplicant and memory stand for, the message adds to it what outcome and reply say, and they then stand
--- for the longer one.
+-- For a history that supplicant and memory stand for, the message adds to it what outcome and reply say, and they then stand for
+-- the longer one.
 pub record Steps (d : Domain) (first : ℕ) (n p : Node) (octets : List ℕ) (k : KeyMessage) (new : State) (remembered : List Kept) (outcome : Outcome) (r : Reply) (h : List Act) : Type 0 where
   pub adds : Adds d first n h (Take octets) (reply_acts d n p false octets k outcome r)
   pub stands : Stands d n p new (add (reply_acts d n p false octets k outcome r) h)
   pub remembers : Remembers p remembered (add (reply_acts d n p false octets k outcome r) h)
 
--- Where a key was installed, an attempt became a session; else an attempt is one still, and a session stays so.
+-- Where a key was installed, an attempt became a session under that very key; else an attempt is one still, and a session stays so.
 abbrev pub IsStaged : Option Keyed → State → State → Type 0
-IsStaged (Some y) old new = IsAttempt old.stage × IsSession new.stage
+IsStaged (Some y) old new = IsAttempt old.stage × IsSessionUnder y new.stage
 IsStaged None old new = (IsAttempt old.stage → IsAttempt new.stage) × (IsSession old.stage → IsSession new.stage)

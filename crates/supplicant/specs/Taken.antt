@@ -1,4 +1,4 @@
--- What a message does, whichever history the supplicant stands for.
+-- What a message does, whichever history the supplicant stands for (this project's choice).
 use Rattle.std.specs.Prelude.{◌≡◌, ℕ, List}
 use Rattle.domain_base.specs.declared.names.Node.TheVariants.{Ap, Sta}
 use Rattle.eapol_key.specs.declared.frame.KeyFrame.{KeyFrame}

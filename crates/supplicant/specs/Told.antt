@@ -1,4 +1,4 @@
--- What a reply tells.
+-- What a reply tells (this project's choice).
 use Rattle.std.specs.Prelude.{◌≡◌, ℕ, List, Option}
 use Rattle.domain_base.specs.declared.names.Node.{Node}
 use Rattle.run_journal.specs.declared.acts.Act.{Act}

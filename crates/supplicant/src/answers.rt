@@ -8,24 +8,24 @@ ghost use Rattle.run_journal.specs.declared.domain.Domain.{Domain as AnyDomain};
 ghost use Rattle.run_journal.specs.Replies.{IsEmpty, IsWhole};
 ghost use Rattle.domain_rules.specs.Frames.{sent_m2, sent_m4};
 ghost use Rattle.group_key.specs.Keys.{kept_id, given};
-ghost use Rattle.node_frames.specs.Links.{IsLink};
+ghost use Rattle.node_frames.specs.Ends.{AreEnds};
 ghost use Rattle.supplicant.specs.M3.{news_of};
 ghost use Rattle.supplicant.specs.Told.{Tells};
 
 use crate::m3::CarriedKey;
 use group_key::GroupMemory;
-use node_frames::{Link, write_m2, write_m4};
+use node_frames::{Ends, write_m2, write_m4};
 use run_journal::{GtkNews, Keyed, Reply};
 
 /// The key was derived by M1: M2 is sent, with that counter.
-pub fn answer_m1(link: &Link, key: &Keyed, counter: u64, reply: &mut Reply)
+pub fn answer_m1(ends: &Ends, key: &Keyed, counter: u64, reply: &mut Reply)
     requires empty { IsEmpty reply.old }
-    ensures tells { (d : AnyDomain) (n p : AnyNode) (i : AnyInputs) → IsLink d n p link.now → key.now.ptk ≡ ptk i
+    ensures tells { (d : AnyDomain) (n p : AnyNode) (i : AnyInputs) → AreEnds d n p ends.now → key.now.ptk ≡ ptk i
         → i.snonce ≡ key.now.snonce → Tells p reply.new None (Some key.now) None None (sent_m2 d n p i counter ∷ []) }
     ensures whole { IsWhole reply.new }
 {
     let (ptk, snonce) = (key.ptk, key.snonce);
-    write_m2(link, &ptk, counter, &snonce, reply);
+    write_m2(ends, &ptk, counter, &snonce, reply);
     reply.derived = Some(*key);
 }
 
@@ -39,25 +39,25 @@ pub fn refuse_sealed(kck: [u8; 16], reply: &mut Reply)
 }
 
 /// M3 verified under the KCK: M4 is sent, with that counter, and nothing is installed.
-pub fn answer_m3(link: &Link, key: &Keyed, counter: u64, reply: &mut Reply)
+pub fn answer_m3(ends: &Ends, key: &Keyed, counter: u64, reply: &mut Reply)
     requires empty { IsEmpty reply.old }
-    ensures tells { (d : AnyDomain) (n p : AnyNode) (i : AnyInputs) → IsLink d n p link.now → key.now.ptk ≡ ptk i
+    ensures tells { (d : AnyDomain) (n p : AnyNode) (i : AnyInputs) → AreEnds d n p ends.now → key.now.ptk ≡ ptk i
         → Tells p reply.new (Some key.now.ptk.kck) None None None (sent_m4 d n p i counter ∷ []) }
     ensures whole { IsWhole reply.new }
 {
     let ptk = key.ptk;
-    write_m4(link, &ptk, counter, reply);
+    write_m4(ends, &ptk, counter, reply);
     reply.verified = Some(ptk.kck);
 }
 
 /// M3 was accepted: M4 is sent, with that counter, and the keys are installed.
-pub fn accept_m3(link: &Link, key: &Keyed, gtk: GtkNews, counter: u64, reply: &mut Reply)
+pub fn accept_m3(ends: &Ends, key: &Keyed, gtk: GtkNews, counter: u64, reply: &mut Reply)
     requires empty { IsEmpty reply.old }
-    ensures tells { (d : AnyDomain) (n p : AnyNode) (i : AnyInputs) → IsLink d n p link.now → key.now.ptk ≡ ptk i
+    ensures tells { (d : AnyDomain) (n p : AnyNode) (i : AnyInputs) → AreEnds d n p ends.now → key.now.ptk ≡ ptk i
         → Tells p reply.new (Some key.now.ptk.kck) None (Some key.now) (Some gtk) (sent_m4 d n p i counter ∷ []) }
     ensures whole { IsWhole reply.new }
 {
-    answer_m3(link, key, counter, reply);
+    answer_m3(ends, key, counter, reply);
     reply.installed = Some(*key);
     reply.gtk = Some(gtk);
 }

@@ -1,8 +1,7 @@
-//! A station's side of the four-way handshake with one access point (IEEE Std 802.11-2020, 12.7.6).
+//! A station's part of the four-way handshake with one access point (IEEE Std 802.11-2020, 12.7.6).
 #![tactic(auto)]
 
 mod answers;
-mod keys;
 mod m3;
 mod stage;
 mod supplicant;

@@ -1,8 +1,6 @@
 //! Message 3 of the four-way handshake judged (IEEE Std 802.11-2020, 12.7.6.4). No memory is taken.
 
-ghost use Rattle.std.specs.Prelude.{◌≡◌, ◌≤◌, ◌↔◌, IsTrue, false, true, ℕ, List, Some, None, length, MatchOption, option_map};
-ghost use Rattle.std.specs.Option.{option_copied};
-ghost use Rattle.rsn_elements.specs.Sent.{rsne_octets};
+ghost use Rattle.std.specs.Prelude.{◌≡◌, ◌≤◌, ◌↔◌, IsTrue, false, true, length, MatchOption, option_map};
 ghost use Rattle.rsn_elements.specs.Fields.{gtk_kde_fields};
 ghost use Rattle.eapol_key.specs.Fields.{fields_of, IsKeyFrame};
 ghost use Rattle.eapol_key.specs.KeyFrame.{SpellsKeyFrame, KeyFields};
@@ -12,12 +10,11 @@ ghost use Rattle.supplicant.specs.M3.{group_key, IsPlain, IsOpened, IsAbove, IsN
 
 use domain_base::{Akm, array_at, big_u16_at};
 use eapol_key::{KeyFrame, open_key_data, verify};
-use rsn_elements::{ElementWriter, GtkKde, Within, read_elements};
+use node_frames::{is_same_rsne, rsne};
+use rsn_elements::{GtkKde, Within, read_elements};
 use run_journal::{KeyDataFault, Keyed, Reason};
 
-// The octets of an RSNE without a PMKID list, and of a group key.
-const RSNE_LEN: usize = 22;
-
+// The octets of a group key.
 const KEY_LEN: usize = 16;
 
 // Where the length of the key data stands in a frame, and the most that its two octets can say.
@@ -45,25 +42,6 @@ pub enum M3 {
     Agreed(CarriedKey),
 }
 
-// The RSNE that this network sends.
-fn rsne(akm: Akm) -> [u8; RSNE_LEN]
-    ensures { result ≡ rsne_octets akm None }
-{
-    let mut out = [0; RSNE_LEN];
-    ElementWriter::over(&mut out).rsne(akm, None);
-    out
-}
-
-// Whether an RSNE was found and is the one, octet by octet.
-fn is_same(found: Option<&[u8]>, rsne: &[u8]) -> bool
-    ensures { IsTrue result ↔ (option_copied found.entry ≡ Some rsne.now) }
-{
-    match found {
-        Some(octets) => octets == rsne,
-        None => false,
-    }
-}
-
 // The group key of a GTK KDE, where it is one.
 fn key_of(found: Option<GtkKde<'_>>) -> Option<CarriedKey>
     ensures { MatchOption result (is_group_key (option_map gtk_kde_fields found.entry) ≡ false)
@@ -87,7 +65,7 @@ fn carried(akm: Akm, plain: &[u8]) -> Result<CarriedKey, KeyDataFault>
         Ok(elements) => elements,
         Err(_) => return Err(KeyDataFault::Unreadable),
     };
-    if !is_same(elements.rsne_octets, &rsne(akm)) {
+    if !is_same_rsne(elements.rsne_octets, &rsne(akm)) {
         return Err(KeyDataFault::Rsne);
     }
     match key_of(elements.gtk) {

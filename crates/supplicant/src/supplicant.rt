@@ -15,7 +15,7 @@ ghost use Rattle.domain_rules.specs.Reading.{KeyMessage as MessageFields};
 ghost use Rattle.domain_rules.specs.Replies.{IsMessageFrom};
 ghost use Rattle.group_key.specs.Keys.{Kept};
 ghost use Rattle.group_key.specs.Holds.{Remembers};
-ghost use Rattle.node_frames.specs.Links.{IsLink};
+ghost use Rattle.node_frames.specs.Ends.{AreEnds};
 ghost use Rattle.supplicant.specs.State.{IsAttempt, part_in};
 ghost use Rattle.supplicant.specs.Stands.{Stands};
 ghost use Rattle.supplicant.specs.Steps.{Steps, IsStaged};
@@ -24,13 +24,12 @@ ghost use Rattle.supplicant.specs.Stages.{HasNonce, HasNoKey, HasKey};
 ghost use Rattle.supplicant.specs.Taken.{IsTaken};
 
 use crate::answers::{accept_m3, answer_m1, answer_m3, give, refuse_sealed};
-use crate::keys::pairwise_key;
 use crate::m3::{M3, judge_m3};
 use crate::stage::Stage;
 use domain_base::Node;
 use eapol_key::{KeyFrame, Message};
 use group_key::GroupMemory;
-use node_frames::Link;
+use node_frames::{Ends, pairwise_key};
 use run_journal::{Domain, Keyed, Outcome, Part, Reason, Reply};
 use std::marker::Model;
 
@@ -47,7 +46,7 @@ pub enum StaStart<'a> {
 /// A station's part with one access point: an attempt, a session, or neither. No call takes memory.
 #[derive(Debug, Drop)]
 pub struct Supplicant {
-    link: Link,
+    ends: Ends,
     psk: [u8; 32],
     stage: Stage,
 }
@@ -65,9 +64,9 @@ impl Model for Supplicant {
 
     ghost Value = { State };
 
-    ghost view = { λ s. record { link = s.link; psk = s.psk; stage = s.stage } };
+    ghost view = { λ s. record { ends = s.ends; psk = s.psk; stage = s.stage } };
 
-    ghost invariant = { λ s. IsOwn s.link s.psk s.stage };
+    ghost invariant = { λ s. IsOwn s.ends s.psk s.stage };
 }
 
 impl Supplicant {
@@ -76,13 +75,13 @@ impl Supplicant {
         requires suite { domain.now.akm ≢ AnyAkm.FtPsk }
         requires sta { sta < length domain.now.stas }
         requires ap { ap < length domain.now.aps }
-        ensures link { IsLink domain.now (Sta sta) (Ap ap) result.link }
+        ensures ends { AreEnds domain.now (Sta sta) (Ap ap) result.ends }
         ensures psk { result.psk ≡ domain.now.psk }
         ensures stage { result.stage ≡ begun start.entry }
     {
-        let link = Link::between(domain, Node::Sta(sta), Node::Ap(ap));
+        let ends = Ends::between(domain, Node::Sta(sta), Node::Ap(ap));
         Supplicant {
-            link,
+            ends,
             psk: domain.psk,
             stage: first_stage(start),
         }
@@ -108,7 +107,7 @@ impl Supplicant {
         ensures staged { IsStaged reply.new.installed self.old self.new }
         ensures refused { (why : AnyReason) → result ≡ Refused why → (self.new ≡ self.old) × (memory.new ≡ memory.old) }
         ensures whole { IsWhole reply.new }
-        ensures ends { (self.new.link ≡ self.old.link) × (self.new.psk ≡ self.old.psk) }
+        ensures ends { (self.new.ends ≡ self.old.ends) × (self.new.psk ≡ self.old.psk) }
     {
         *reply = Reply::empty();
         match message {
@@ -143,14 +142,15 @@ impl Supplicant {
         ensures staged { IsStaged reply.new.installed self.old self.new }
         ensures refused { (why : AnyReason) → result ≡ Refused why → self.new ≡ self.old }
         ensures whole { IsWhole reply.new }
-        ensures ends { (self.new.link ≡ self.old.link) × (self.new.psk ≡ self.old.psk) }
+        ensures ends { (self.new.ends ≡ self.old.ends) × (self.new.psk ≡ self.old.psk) }
     {
         let Some(snonce) = nonce_in(&self.stage) else {
             return Outcome::Refused(Reason::Unawaited);
         };
+        // No counter is kept in an attempt before M3, so none is compared.
         let anonce = frame.nonce;
-        let key = pairwise_key(&self.link, &self.psk, &anonce, &snonce);
-        answer_m1(&self.link, &key, frame.counter, reply);
+        let key = pairwise_key(&self.ends, &self.psk, &anonce, &snonce);
+        answer_m1(&self.ends, &key, frame.counter, reply);
         self.stage = Stage::Attempt {
             snonce,
             key: Some(key),
@@ -171,13 +171,13 @@ impl Supplicant {
         ensures staged { IsStaged reply.new.installed self.old self.new }
         ensures refused { (why : AnyReason) → result ≡ Refused why → (self.new ≡ self.old) × (memory.new ≡ memory.old) }
         ensures whole { IsWhole reply.new }
-        ensures ends { (self.new.link ≡ self.old.link) × (self.new.psk ≡ self.old.psk) }
+        ensures ends { (self.new.ends ≡ self.old.ends) × (self.new.psk ≡ self.old.psk) }
     {
         let Some(keying) = keying_in(&self.stage) else {
             return Outcome::Refused(Reason::Unawaited);
         };
         let (key, counter) = (keying.key, frame.counter);
-        let group = match judge_m3(self.link.akm, &key, keying.kept, frame) {
+        let group = match judge_m3(self.ends.akm, &key, keying.kept, frame) {
             M3::Refused(why) => return Outcome::Refused(why),
             M3::Other(why) => {
                 refuse_sealed(key.ptk.kck, reply);
@@ -188,12 +188,12 @@ impl Supplicant {
         match keying.kept {
             None => {
                 let gtk = give(memory, group, packet_number(frame.rsc));
-                accept_m3(&self.link, &key, gtk, counter, reply);
+                accept_m3(&self.ends, &key, gtk, counter, reply);
                 self.stage = Stage::Session { key, counter };
                 Outcome::Accepted
             }
             Some(_) => {
-                answer_m3(&self.link, &key, counter, reply);
+                answer_m3(&self.ends, &key, counter, reply);
                 self.stage = Stage::Session { key, counter };
                 Outcome::Answered
             }

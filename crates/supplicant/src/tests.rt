@@ -9,6 +9,7 @@ use crate::{StaStart, Supplicant};
 use domain_base::{Akm, Mac, NoMemory, Octets};
 use eapol_key::Message;
 use group_key::GroupMemory;
+use key_hierarchy::Ptk;
 use node_frames::{Delivered, read};
 use run_journal::{
     Aps, Domain, GtkNews, KeyDataFault, Keyed, Kind, ListedAp, Outcome, REPLY_LEN, Reason, Reply,
@@ -54,11 +55,9 @@ const RSNE_FRONT: &[u8] =
 struct Suite {
     information: [&'static [u8]; 4],
     akm_type: &'static [u8],
-    kck: [u8; 16],
-    tk: [u8; 16],
-    forged_kck: [u8; 16],
-    next_kck: [u8; 16],
-    next_tk: [u8; 16],
+    keys: Ptk,
+    forged_keys: Ptk,
+    next_keys: Ptk,
     m2: [u8; 16],
     forged_m2: [u8; 16],
     next_m2: [u8; 16],
@@ -80,11 +79,21 @@ struct Suite {
 const SUITE_2: Suite = Suite {
     information: [b"\x00\x8a", b"\x01\x0a", b"\x13\xca", b"\x03\x0a"],
     akm_type: b"\x02",
-    kck: *b"\x8e\x6a\x0f\x25\x76\xa6\xe5\xb8\x07\x5c\x45\x24\xeb\xbe\xf8\x05",
-    tk: *b"\xbc\x28\x53\x36\xd8\x09\x6e\xec\x70\xcb\x1e\x6c\x2b\x05\xf3\x0a",
-    forged_kck: *b"\xc2\x38\x5d\x2c\x8a\xa1\x62\x03\xed\x79\x8b\x80\xf0\xb9\x74\x92",
-    next_kck: *b"\xbb\x6f\xd1\xa0\x34\x6d\xdd\xb0\x3b\x07\x6f\x66\x37\x28\xa9\x59",
-    next_tk: *b"\xc4\xd7\xa6\xa3\x7b\xb1\x6f\x41\x24\x5f\x9d\x8f\x1c\xde\xeb\xae",
+    keys: Ptk {
+        kck: *b"\x8e\x6a\x0f\x25\x76\xa6\xe5\xb8\x07\x5c\x45\x24\xeb\xbe\xf8\x05",
+        kek: *b"\xf2\xd8\x8c\xd9\xd0\xf8\x46\x4d\xc0\xc5\x42\x0f\xc0\xff\x3e\xfc",
+        tk: *b"\xbc\x28\x53\x36\xd8\x09\x6e\xec\x70\xcb\x1e\x6c\x2b\x05\xf3\x0a",
+    },
+    forged_keys: Ptk {
+        kck: *b"\xc2\x38\x5d\x2c\x8a\xa1\x62\x03\xed\x79\x8b\x80\xf0\xb9\x74\x92",
+        kek: *b"\xef\x19\xb3\xc8\x2e\xe8\x23\xd5\x8a\x98\xed\xbc\x28\x1d\xb8\x19",
+        tk: *b"\xfe\xd5\xd4\x6d\xea\x0b\x65\xd5\xa4\x83\xf6\x18\xed\x6a\xaf\x8a",
+    },
+    next_keys: Ptk {
+        kck: *b"\xbb\x6f\xd1\xa0\x34\x6d\xdd\xb0\x3b\x07\x6f\x66\x37\x28\xa9\x59",
+        kek: *b"\x45\x75\xe7\x6a\xf5\x4a\xf2\x59\xa1\x3d\x94\x58\xab\xa7\x6c\x05",
+        tk: *b"\xc4\xd7\xa6\xa3\x7b\xb1\x6f\x41\x24\x5f\x9d\x8f\x1c\xde\xeb\xae",
+    },
     m2: *b"\xfa\x5e\x0a\x12\x17\x03\x60\xb2\xbe\xd6\x37\x1c\x4d\x93\x65\xfb",
     forged_m2: *b"\x25\x11\xc5\x21\x69\x44\x04\xe8\x17\x00\xb7\xe7\x31\xe3\x0d\x94",
     next_m2: *b"\x12\xbd\x6f\x9f\xd2\xaf\x55\x77\xc3\x6c\xf1\x3d\xba\xd7\x58\x2c",
@@ -106,11 +115,21 @@ const SUITE_2: Suite = Suite {
 const SUITE_6: Suite = Suite {
     information: [b"\x00\x8b", b"\x01\x0b", b"\x13\xcb", b"\x03\x0b"],
     akm_type: b"\x06",
-    kck: *b"\x13\x85\xf2\x1d\x25\x22\x90\xfc\x6e\x55\x9d\x22\x20\xba\xc8\xd6",
-    tk: *b"\x2e\x0c\x56\x35\x0c\x07\x9d\x1f\x29\xae\x6d\xb2\x1e\xa6\x13\x84",
-    forged_kck: *b"\xd4\x63\xac\x9d\x37\xc7\xee\x8f\xcf\x58\xca\x3d\x58\xa1\x35\x8d",
-    next_kck: *b"\xb8\x09\x35\x0c\xe9\x02\x7c\x3c\x6d\x95\xbd\x78\x19\x89\x80\x90",
-    next_tk: *b"\x09\xdc\xbd\x41\x02\x3f\x90\x56\xa2\x5c\x77\x22\x18\xfa\xe7\x74",
+    keys: Ptk {
+        kck: *b"\x13\x85\xf2\x1d\x25\x22\x90\xfc\x6e\x55\x9d\x22\x20\xba\xc8\xd6",
+        kek: *b"\x97\x4b\x9b\x25\x54\x4b\x55\x76\xf8\xcd\x7f\x4d\x5c\x26\x98\x02",
+        tk: *b"\x2e\x0c\x56\x35\x0c\x07\x9d\x1f\x29\xae\x6d\xb2\x1e\xa6\x13\x84",
+    },
+    forged_keys: Ptk {
+        kck: *b"\xd4\x63\xac\x9d\x37\xc7\xee\x8f\xcf\x58\xca\x3d\x58\xa1\x35\x8d",
+        kek: *b"\x25\xf9\x74\xe8\x8a\xb3\x76\xbf\x6c\xf4\x48\x1b\x9f\x7b\xe8\x62",
+        tk: *b"\x0a\xd1\x16\xaa\x32\x57\x01\xb5\x8f\x40\x32\xde\xce\xf6\xbe\x64",
+    },
+    next_keys: Ptk {
+        kck: *b"\xb8\x09\x35\x0c\xe9\x02\x7c\x3c\x6d\x95\xbd\x78\x19\x89\x80\x90",
+        kek: *b"\x3c\x7b\x21\xa9\xbc\x67\x43\x11\xe5\xbe\x49\x69\x36\x8d\x60\x1e",
+        tk: *b"\x09\xdc\xbd\x41\x02\x3f\x90\x56\xa2\x5c\x77\x22\x18\xfa\xe7\x74",
+    },
     m2: *b"\x04\x69\xba\x45\xec\x46\xe6\x2e\x58\xd9\xa4\xa6\xe3\x3e\x7a\x07",
     forged_m2: *b"\x28\x01\x3b\x54\xdf\xe0\xcb\x08\xaa\xe7\x5c\xaf\x61\xe4\x60\x46",
     next_m2: *b"\xe2\xa1\x3c\x29\x7d\x46\x3a\xaf\xf6\x5c\x8d\x5b\xde\xec\x64\xea",
@@ -146,11 +165,10 @@ enum Told {
     Nothing,
     // The MIC verified under this KCK.
     Verified([u8; 16]),
-    // A key under these nonces with this KCK; and M2 with this counter and this MIC.
-    Derived([u8; 32], [u8; 32], [u8; 16], u64, [u8; 16]),
-    // A key under these nonces with this KCK and this temporal key; the group key, resumed or not, with this key id; and M4
-    // with this MIC.
-    Installed([u8; 32], [u8; 32], [u8; 16], [u8; 16], bool, u8, [u8; 16]),
+    // This key under these nonces; and M2 with this counter and this MIC.
+    Derived([u8; 32], [u8; 32], Ptk, u64, [u8; 16]),
+    // This key under these nonces; the group key, resumed or not, with this key id; and M4 with this MIC.
+    Installed([u8; 32], [u8; 32], Ptk, bool, u8, [u8; 16]),
     // The MIC verified under this KCK; and M4 with this counter and this MIC.
     Again([u8; 16], u64, [u8; 16]),
 }
@@ -289,20 +307,13 @@ fn octets_of(alloc: Global, suite: &Suite, given: Given) -> Result<Vec<u8>, NoMe
     }
 }
 
-// The key is one of these nonces, with that KCK.
-fn is_key(found: Option<Keyed>, anonce: [u8; 32], snonce: [u8; 32], kck: [u8; 16]) -> bool {
-    match found {
-        Some(key) => key.anonce == anonce && key.snonce == snonce && key.ptk.kck == kck,
-        None => false,
-    }
-}
-
-// The temporal key of a key that was installed is that.
-fn has_tk(found: Option<Keyed>, tk: [u8; 16]) -> bool {
-    match found {
-        Some(key) => key.ptk.tk == tk,
-        None => false,
-    }
+// That key, of these nonces.
+fn under(anonce: [u8; 32], snonce: [u8; 32], ptk: Ptk) -> Option<Keyed> {
+    Some(Keyed {
+        ptk,
+        anonce,
+        snonce,
+    })
 }
 
 // The group key came so.
@@ -341,23 +352,24 @@ fn tells(alloc: Global, suite: &Suite, reply: &Reply, told: Told) -> Result<bool
                 && reply.sealed.is_none()
                 && reply.len == 0
         }
-        Told::Derived(anonce, snonce, kck, counter, mic) => {
+        Told::Derived(anonce, snonce, ptk, counter, mic) => {
             let expected = m2(alloc, suite, counter, &snonce, &mic)?;
+            let key = under(anonce, snonce, ptk);
             installs_nothing(reply)
                 && reply.verified.is_none()
-                && is_key(reply.derived, anonce, snonce, kck)
-                && expected.len() == 153
-                && sends(reply, Message::M2, kck, &expected)
+                && reply.derived == key
+                && reply.len == 153
+                && sends(reply, Message::M2, ptk.kck, &expected)
         }
-        Told::Installed(anonce, snonce, kck, tk, resumed, id, mic) => {
+        Told::Installed(anonce, snonce, ptk, resumed, id, mic) => {
             let expected = m4(alloc, suite, 2, &mic)?;
-            is_key(reply.installed, anonce, snonce, kck)
-                && has_tk(reply.installed, tk)
+            let key = under(anonce, snonce, ptk);
+            reply.installed == key
                 && is_gtk(reply.gtk, resumed, id)
                 && reply.derived.is_none()
-                && reply.verified == Some(kck)
-                && expected.len() == 131
-                && sends(reply, Message::M4, kck, &expected)
+                && reply.verified == Some(ptk.kck)
+                && reply.len == 131
+                && sends(reply, Message::M4, ptk.kck, &expected)
         }
         Told::Again(kck, counter, mic) => {
             let expected = m4(alloc, suite, counter, &mic)?;
@@ -429,7 +441,7 @@ fn refused(shows: &'static str, given: Given, why: Reason) -> Step {
 
 // M3 refused after its MIC.
 fn sealed(shows: &'static str, suite: &Suite, given: Given, why: Reason) -> Step {
-    let (outcome, told) = (Outcome::Refused(why), Told::Verified(suite.kck));
+    let (outcome, told) = (Outcome::Refused(why), Told::Verified(suite.keys.kck));
     Step {
         shows,
         given,
@@ -451,13 +463,13 @@ fn before_m3(suite: &Suite) -> [Step; 5] {
             shows: "a forged M1",
             given: Given::M1(2, NEXT_ANONCE),
             outcome: Outcome::Accepted,
-            told: Told::Derived(NEXT_ANONCE, SNONCE, suite.forged_kck, 2, suite.forged_m2),
+            told: Told::Derived(NEXT_ANONCE, SNONCE, suite.forged_keys, 2, suite.forged_m2),
         },
         Step {
             shows: "the right M1",
             given: Given::M1(1, ANONCE),
             outcome: Outcome::Accepted,
-            told: Told::Derived(ANONCE, SNONCE, suite.kck, 1, suite.m2),
+            told: Told::Derived(ANONCE, SNONCE, suite.keys, 1, suite.m2),
         },
     ]
 }
@@ -491,7 +503,7 @@ fn by_m3(suite: &Suite) -> [Step; 5] {
             shows: "M3",
             given: Given::M3(2, ANONCE, suite.m3, suite.key_data),
             outcome: Outcome::Accepted,
-            told: Told::Installed(ANONCE, SNONCE, suite.kck, suite.tk, false, 1, suite.m4),
+            told: Told::Installed(ANONCE, SNONCE, suite.keys, false, 1, suite.m4),
         },
     ]
 }
@@ -519,7 +531,7 @@ fn in_a_session(suite: &Suite) -> [Step; 8] {
             shows: "M3 again",
             given: Given::M3(3, ANONCE, suite.m3_again, suite.key_data),
             outcome: Outcome::Answered,
-            told: Told::Again(suite.kck, 3, suite.m4_again),
+            told: Told::Again(suite.keys.kck, 3, suite.m4_again),
         },
         refused(
             "M3 again with the same counter",
@@ -551,7 +563,7 @@ fn next_attempt(suite: &Suite) -> [Step; 2] {
             shows: "the next M1",
             given: Given::M1(1, NEXT_ANONCE),
             outcome: Outcome::Accepted,
-            told: Told::Derived(NEXT_ANONCE, NEXT_SNONCE, suite.next_kck, 1, suite.next_m2),
+            told: Told::Derived(NEXT_ANONCE, NEXT_SNONCE, suite.next_keys, 1, suite.next_m2),
         },
         Step {
             shows: "the next M3",
@@ -560,8 +572,7 @@ fn next_attempt(suite: &Suite) -> [Step; 2] {
             told: Told::Installed(
                 NEXT_ANONCE,
                 NEXT_SNONCE,
-                suite.next_kck,
-                suite.next_tk,
+                suite.next_keys,
                 true,
                 1,
                 suite.next_m4,

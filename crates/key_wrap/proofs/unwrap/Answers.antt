@@ -3,7 +3,7 @@ use Rattle.std.proofs.lemmas.List.Elements.{All-from_get_or}
 use Rattle.std.proofs.lemmas.Slice.Eq.{slice_eq-Decides}
 use Rattle.std.proofs.lemmas.Bool.{both_ways}
 use Rattle.std.proofs.lemmas.Bool.Decides.{Decides-eqb}
-use Rattle.aes_block.specs.Octets.{AreOctets}
+use Rattle.domain_base.specs.Octets.{AreOctets}
 use Rattle.key_wrap.specs.KeyWrap.{after_steps, initial_value, Wraps}
 use Rattle.key_wrap.proofs.UniqueLemmas.{start_of, Wraps-start, Wraps-from, length-Wraps}
 use Rattle.key_wrap.proofs.OutLemmas.{unwrapped_at, take_unwrapped, drop_unwrapped, octets_unwrapped}

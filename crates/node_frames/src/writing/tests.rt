@@ -79,9 +79,9 @@ fn first_message(rt: HostRuntime) -> Result<(), Fail> {
     let alloc = rt.alloc();
     for suite in &SUITES {
         let domain = domain(alloc, suite.akm)?;
-        let link = Link::between(&domain, AP, STA);
+        let ends = Ends::between(&domain, AP, STA);
         let mut reply = verified();
-        write_m1(&link, 1, &ANONCE, &mut reply);
+        write_m1(&ends, 1, &ANONCE, &mut reply);
         let pieces = [
             FROM_AP,
             b"\x02\x03\x00\x5f\x02",
@@ -92,7 +92,7 @@ fn first_message(rt: HostRuntime) -> Result<(), Fail> {
             &[0; 50],
         ];
         let expected = joined(alloc, &pieces)?;
-        assert_eq!(rt; expected.len(), 131);
+        assert_eq!(rt; reply.len, 131);
         assert!(rt; sends(&reply, Message::M1, None, &expected));
     }
     Ok(())
@@ -103,9 +103,9 @@ fn second_message(rt: HostRuntime) -> Result<(), Fail> {
     let alloc = rt.alloc();
     for suite in &SUITES {
         let domain = domain(alloc, suite.akm)?;
-        let link = Link::between(&domain, STA, AP);
+        let ends = Ends::between(&domain, STA, AP);
         let mut reply = verified();
-        write_m2(&link, &key_of(suite), 1, &SNONCE, &mut reply);
+        write_m2(&ends, &key_of(suite), 1, &SNONCE, &mut reply);
         let pieces = [
             FROM_STA,
             b"\x02\x03\x00\x75\x02",
@@ -121,7 +121,7 @@ fn second_message(rt: HostRuntime) -> Result<(), Fail> {
             b"\x0c\x00",
         ];
         let expected = joined(alloc, &pieces)?;
-        assert_eq!(rt; expected.len(), 153);
+        assert_eq!(rt; reply.len, 153);
         assert!(rt; sends(&reply, Message::M2, Some(suite.kck), &expected));
     }
     Ok(())
@@ -142,12 +142,12 @@ fn third_message(
     requires packet_number { rsc < 2 ^ 48 }
 {
     let domain = domain(alloc, suite.akm)?;
-    let link = Link::between(&domain, AP, STA);
+    let ends = Ends::between(&domain, AP, STA);
     let place = 0;
     let key = GTK;
     let group = GroupKey { place, id, key };
     let mut reply = verified();
-    write_m3(&link, &key_of(suite), 2, &ANONCE, &group, rsc, &mut reply);
+    write_m3(&ends, &key_of(suite), 2, &ANONCE, &group, rsc, &mut reply);
     let pieces = [
         FROM_AP,
         b"\x02\x03\x00\x97\x02",
@@ -163,7 +163,7 @@ fn third_message(
         key_data,
     ];
     let expected = joined(alloc, &pieces)?;
-    assert_eq!(rt; expected.len(), 187);
+    assert_eq!(rt; reply.len, 187);
     assert!(rt; sends(&reply, Message::M3, Some(suite.kck), &expected));
     Ok(())
 }
@@ -212,9 +212,9 @@ fn fourth_message(rt: HostRuntime) -> Result<(), Fail> {
     let alloc = rt.alloc();
     for suite in &SUITES {
         let domain = domain(alloc, suite.akm)?;
-        let link = Link::between(&domain, STA, AP);
+        let ends = Ends::between(&domain, STA, AP);
         let mut reply = verified();
-        write_m4(&link, &key_of(suite), 2, &mut reply);
+        write_m4(&ends, &key_of(suite), 2, &mut reply);
         let pieces = [
             FROM_STA,
             b"\x02\x03\x00\x5f\x02",
@@ -226,7 +226,7 @@ fn fourth_message(rt: HostRuntime) -> Result<(), Fail> {
             b"\x00\x00",
         ];
         let expected = joined(alloc, &pieces)?;
-        assert_eq!(rt; expected.len(), 131);
+        assert_eq!(rt; reply.len, 131);
         assert!(rt; sends(&reply, Message::M4, Some(suite.kck), &expected));
     }
     Ok(())

@@ -1,4 +1,5 @@
 use Rattle.std.proofs.Common.{◌≡◌, None, Some, sym, ◌∙◌, arith}
+use Rattle.domain_base.proofs.OctetLemmas.{octets_by_entries}
 use Rattle.air_frame.specs.Faults.{air_fault}
 use Rattle.air_frame.proofs.Exact.{spelled_none, spelled_is, as_read}
 use Rattle.air_frame.proofs.Written.{written, kept}
@@ -16,13 +17,13 @@ returns-in-None-clause-found c = as_read c.args.bytes.now _ (sym c.fault_of.ensu
 pub returns-in-None-clause-spelled : goal.returns-in-None-clause-spelled
 returns-in-None-clause-spelled c = record {
   octets = c.args.bytes.now;
-  bound = λ i. omega (arith, c.type_inv.bytes i);
+  bound = octets_by_entries c.args.bytes.now (λ i. omega (arith, c.type_inv.bytes i));
   spelled = returns-in-None-clause-found c;
 }
 
 pub returns-in-None-clause-again : goal.returns-in-None-clause-again
 returns-in-None-clause-again c k =
-    written c.args.bytes.now (λ i. omega (arith, c.type_inv.bytes i)) _ (returns-in-None-clause-found c) (kept c.frame_of.result k)
+    written c.args.bytes.now (octets_by_entries c.args.bytes.now (λ i. omega (arith, c.type_inv.bytes i))) _ (returns-in-None-clause-found c) (kept c.frame_of.result k)
 
 pub returns-in-None-clause-only : goal.returns-in-None-clause-only
 returns-in-None-clause-only c f s = c.frame_of.ensures ∙ sym (spelled_is c.args.bytes.now f s)

@@ -12,7 +12,7 @@ returns-clause-again c =
     inl (record {
       none = c.requires.none;
       few = c.if-m1s-ge-MOST_SENDS.false;
-      sends = λ d n p link. c.write_m1.ensures.writes d n p link ∙ ap (λ (x : ℕ). sent_m1 d n p x a.anonce ∷ []) counter;
+      sends = λ d n p ends. c.write_m1.ensures.writes d n p ends ∙ ap (λ (x : ℕ). sent_m1 d n p x a.anonce ∷ []) counter;
       next = record { low = omega (arith, c.last_counter-counter.ensures); own = c.write_m1.ensures.whole.0; peer = c.write_m1.ensures.whole.1 };
       m1s_are = omega arith;
       m3s_are = refl;

@@ -16,8 +16,8 @@ returns-in-M4-clause-keys c = c.take_m4.ensures.keys c.args.psk.now c.requires.s
 
 pub returns-in_default : goal.returns-in_default
 returns-in_default c = record {
-  steps = no_other c.args.link.now c.args.psk.now c.args.stage.now c.args.message (fields_of c.args.frame.now) c.args.frame.now.octets.now c.args.newest.now c.args.rsc c.empty.result c.in_default.not-M2 c.in_default.not-M4 c.empty.ensures;
-  staged = same_staged c.empty.result.installed (state_of c.args.link.now c.args.psk.now c.args.stage.now) c.empty.ensures.installed;
+  steps = no_other c.args.ends.now c.args.psk.now c.args.stage.now c.args.message (fields_of c.args.frame.now) c.args.frame.now.octets.now c.args.newest.now c.args.rsc c.empty.result c.in_default.not-M2 c.in_default.not-M4 c.empty.ensures;
+  staged = same_staged c.empty.result.installed (state_of c.args.ends.now c.args.psk.now c.args.stage.now) c.empty.ensures.installed;
   refused = λ why is. refl;
   fits = empty_whole c.empty.result c.empty.ensures;
   keys = c.requires.sound.keys;

@@ -23,5 +23,5 @@ is_m2 : (d : Domain) (n p : Node) (i : Inputs) (counter : ℕ) (akm : Akm) (key 
 is_m2 d n p i counter akm key nonce frame same derived drawn is = rw (is, same, derived, ← drawn) refl
 
 pub returns-clause-writes : goal.returns-clause-writes
-returns-clause-writes c d n p i link derived drawn =
-    c.write_frame.ensures.writes d n p link ∙ ap (λ (a : Act). a ∷ []) (is_m2 d n p i c.args.counter c.args.link.now.akm c.args.key.now c.args.snonce.now _ link.akm derived drawn c.m2_frame-frame.ensures.frame)
+returns-clause-writes c d n p i ends derived drawn =
+    c.write_frame.ensures.writes d n p ends ∙ ap (λ (a : Act). a ∷ []) (is_m2 d n p i c.args.counter c.args.ends.now.akm c.args.key.now c.args.snonce.now _ ends.akm derived drawn c.m2_frame-frame.ensures.frame)

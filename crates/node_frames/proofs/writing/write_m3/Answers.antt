@@ -17,14 +17,14 @@ use Rattle.run_journal.specs.declared.acts.Act.{Act}
 use Rattle.run_journal.specs.declared.acts.Act.TheVariants.{Sent}
 use Rattle.domain_rules.specs.Frames.{in_data, frame_seal, wrapped, sent_m3}
 use Rattle.group_key.specs.declared.keys.GroupKey.{GroupKey}
-use Rattle.node_frames.specs.Carried.{carried_key}
+use Rattle.group_key.specs.Holds.{carried}
 use Rattle.node_frames.proofs.writing.write_m3.Goals as goal
 
 is_m3 : (d : Domain) (n p : Node) (i : Inputs) (counter rsc : ℕ) (akm : Akm) (key : Ptk) (g : GroupKey) (nonce frame : List ℕ) → akm ≡ d.akm → key ≡ ptk i → i.anonce ≡ nonce
     → frame ≡ sealed akm key.kck (frame_octets (sent_fields M3 akm counter nonce rsc (wrapped key.kek (padded (rsne_octets akm None ++ gtk_kde_octets g.id g.key)))))
-    → Sent (One p) (Key M3) (in_data d n p frame) (Some (frame_seal key.kck frame)) ≡ sent_m3 d n p i counter (carried_key g) rsc
+    → Sent (One p) (Key M3) (in_data d n p frame) (Some (frame_seal key.kck frame)) ≡ sent_m3 d n p i counter (carried g) rsc
 is_m3 d n p i counter rsc akm key g nonce frame same derived drawn is = rw (is, same, derived, ← drawn) refl
 
 pub returns-clause-writes : goal.returns-clause-writes
-returns-clause-writes c d n p i link derived drawn =
-    c.write_frame.ensures.writes d n p link ∙ ap (λ (a : Act). a ∷ []) (is_m3 d n p i c.args.counter c.args.rsc c.args.link.now.akm c.args.key.now c.args.group.now c.args.anonce.now _ link.akm derived drawn c.m3_frame-frame.ensures.frame)
+returns-clause-writes c d n p i ends derived drawn =
+    c.write_frame.ensures.writes d n p ends ∙ ap (λ (a : Act). a ∷ []) (is_m3 d n p i c.args.counter c.args.rsc c.args.ends.now.akm c.args.key.now c.args.group.now c.args.anonce.now _ ends.akm derived drawn c.m3_frame-frame.ensures.frame)

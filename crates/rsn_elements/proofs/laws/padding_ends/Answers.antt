@@ -3,7 +3,8 @@ use Rattle.std.proofs.lemmas.Bool.{cases_lt, lt-ltb, le-ltb}
 use Rattle.std.proofs.lemmas.List.{length-replicate}
 use Rattle.rsn_elements.specs.declared.framing.Within.TheVariants.{KeyData}
 use Rattle.rsn_elements.specs.Framing.{EndsReading}
-use Rattle.rsn_elements.specs.Sent.{padding, padding_octets, pad_octets}
+use Rattle.domain_base.specs.Padding.{padding, padding_octets}
+use Rattle.rsn_elements.specs.Sent.{pad_octets}
 use Rattle.rsn_elements.proofs.laws.padding_ends.Goals as goal
 
 ends : (n : ℕ) → EndsReading KeyData (padding_octets n)

@@ -9,7 +9,7 @@ use Rattle.ap_node.specs.declared.stations.Station.{Station}
 use Rattle.ap_node.specs.State.{State, station_at}
 use Rattle.ap_node.specs.Places.{PlaceRetries}
 use Rattle.ap_node.specs.Takes.{Retries}
-use Rattle.ap_node.proofs.Returning.{if_settled}
+use Rattle.node_frames.proofs.Returning.{if_settled}
 use Rattle.ap_node.proofs.Repeating.{retries_idle, retries_done}
 use Rattle.ap_node.proofs.access_point.ApNode.retry.Goals as goal
 

@@ -2,7 +2,7 @@ use Rattle.std.proofs.Common.{ap}
 use Rattle.node_frames.specs.Views.{reading_of}
 use Rattle.ap_node.specs.State.{State}
 use Rattle.ap_node.specs.Takes.{Takes}
-use Rattle.ap_node.proofs.Returning.{if_settled}
+use Rattle.node_frames.proofs.Returning.{if_settled}
 use Rattle.ap_node.proofs.Refusing.{takes_settled, keyed_from}
 use Rattle.ap_node.proofs.access_point.ApNode.take.Goals as goal
 

@@ -5,7 +5,7 @@ use Rattle.run_journal.specs.declared.acts.Reason.TheVariants as reason
 use Rattle.domain_rules.specs.Network.{last_draw}
 use Rattle.ap_node.specs.State.{State}
 use Rattle.ap_node.specs.Takes.{Takes}
-use Rattle.ap_node.proofs.Returning.{if_settled, if_begun}
+use Rattle.node_frames.proofs.Returning.{if_settled, if_begun}
 use Rattle.ap_node.proofs.Requesting.{takes_status, takes_spent, takes_associated}
 use Rattle.ap_node.proofs.access_point.ApNode.take_request.Goals as goal
 

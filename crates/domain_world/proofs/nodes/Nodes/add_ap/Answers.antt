@@ -1,6 +1,7 @@
 use Rattle.std.proofs.Common.{◌≡◌, List, [], ◌∷◌, ◌++◌, length, ap, subst, ◌∙◌, rules}
 use Rattle.ap_node.specs.State.{State as ApState}
-use Rattle.domain_world.specs.State.{Nodes, with_ap}
+use Rattle.run_journal.specs.Listing.{with_ap}
+use Rattle.domain_world.specs.State.{Nodes}
 use Rattle.domain_world.specs.Owning.{AreListed}
 use Rattle.domain_world.proofs.Standing.{stand_more_ap, grows_ap}
 use Rattle.domain_world.proofs.nodes.Nodes.add_ap.Goals as goal

@@ -1,6 +1,7 @@
 use Rattle.std.proofs.Common.{◌≡◌, List, [], ◌∷◌, ◌++◌, length, ap, subst, sym, ◌∙◌, rules}
 use Rattle.station_node.specs.State.{State as StationState}
-use Rattle.domain_world.specs.State.{Nodes, with_sta}
+use Rattle.run_journal.specs.Listing.{with_sta}
+use Rattle.domain_world.specs.State.{Nodes}
 use Rattle.domain_world.specs.Owning.{AreListed}
 use Rattle.domain_world.proofs.Standing.{stand_more_sta, grows_sta}
 use Rattle.domain_world.proofs.nodes.Nodes.add_station.Goals as goal

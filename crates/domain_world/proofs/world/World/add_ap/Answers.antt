@@ -3,7 +3,8 @@ use Rattle.domain_base.specs.declared.names.Node.TheVariants.{Ap}
 use Rattle.run_journal.specs.declared.acts.Entry.{Entry}
 use Rattle.run_journal.specs.Questions.{history}
 use Rattle.domain_rules.specs.Explained.{push}
-use Rattle.domain_world.specs.State.{State, with_ap}
+use Rattle.run_journal.specs.Listing.{with_ap}
+use Rattle.domain_world.specs.State.{State}
 use Rattle.domain_world.specs.Owning.{Stand, nodes_of}
 use Rattle.domain_world.proofs.Owned.{own_ap}
 use Rattle.domain_world.proofs.Begun.{started_ap}

@@ -2,7 +2,8 @@ use Rattle.std.proofs.Common.{◌≡◌, List, [], length, ap, subst, ◌∙◌}
 use Rattle.domain_base.specs.declared.names.Node.TheVariants.{Sta}
 use Rattle.run_journal.specs.declared.acts.Entry.{Entry}
 use Rattle.run_journal.specs.Questions.{history}
-use Rattle.domain_world.specs.State.{State, with_sta}
+use Rattle.run_journal.specs.Listing.{with_sta}
+use Rattle.domain_world.specs.State.{State}
 use Rattle.domain_world.specs.Owning.{Stand, nodes_of}
 use Rattle.domain_world.proofs.Owned.{own_sta}
 use Rattle.domain_world.proofs.Begun.{started_sta}

@@ -1,6 +1,6 @@
 use Rattle.std.proofs.Common.{◌≡◌, ℕ, zero, suc, ◌≤◌, List, ◌∷◌, take, replicate, refl, ap, subst, ◌∙◌, arith}
 use Rattle.std.proofs.lemmas.List.{take-replicate}
-use Rattle.rsn_elements.specs.Sent.{padding_octets}
+use Rattle.domain_base.specs.Padding.{padding_octets}
 use Rattle.rsn_elements.specs.Writer.{Appends}
 use Rattle.rsn_elements.proofs.writing.ElementWriter.pad.Goals as goal
 

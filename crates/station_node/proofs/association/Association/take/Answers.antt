@@ -1,15 +1,14 @@
-use Rattle.std.proofs.Common.{Some, ap, sym, ◌∙◌}
+use Rattle.std.proofs.Common.{ap, sym, ◌∙◌}
 use Rattle.std.specs.Prelude.{slice_set}
 use Rattle.std.proofs.lemmas.List.{set-get_or}
 use Rattle.std.proofs.lemmas.Result.{IfOk-weaker}
-use Rattle.domain_base.specs.declared.names.Node.TheVariants.{Ap}
-use Rattle.run_journal.specs.declared.acts.Kind.TheVariants.{Key}
 use Rattle.run_journal.specs.declared.acts.Outcome.TheVariants.{Refused}
 use Rattle.run_journal.specs.declared.acts.Reason.TheVariants as reason
 use Rattle.node_frames.specs.Views.{message_fields}
 use Rattle.supplicant.specs.State.{State as Supplicant}
 use Rattle.station_node.specs.declared.association.Association.TheVariants.{Accepted}
-use Rattle.station_node.proofs.Taken.{taken-accepted, taken-elsewhere, not_accepted_other, not_accepted_requested, alone_then, err_then}
+use Rattle.node_frames.proofs.Returning.{if_settled}
+use Rattle.station_node.proofs.Taken.{taken-accepted, taken-elsewhere, not_accepted_other, not_accepted_requested, err_then}
 use Rattle.station_node.proofs.association.Association.take.Goals.{in_default-via-in-Accepted+else-with-ap, in_default-via-in_default}
 use Rattle.station_node.proofs.association.Association.take.Goals as goal
 
@@ -29,7 +28,7 @@ returns-in-Accepted-clause-same c =
 
 pub returns-in_default-clause-taken : goal.returns-in_default-clause-taken
 returns-in_default-clause-taken c =
-    alone_then c.refuse.result (Some (Ap c.args.ap)) c.args.octets.now (Key c.args.message.now.message) (Refused reason.Unawaited) c.args.out.now.acts c.refuse.new.out.acts _ c.refuse.ensures.alone
+    if_settled c.refuse.result (Refused reason.Unawaited) _ _ c.refuse.ensures.outcome c.refuse.ensures.acts
     (λ is drawn. elim c.in_default.branch [
       | in_default-via-in-Accepted+else-with-ap w ↦ taken-elsewhere c.args.domain.now c.args.sta c.args.ap drawn c.args.octets.now (message_fields c.args.message.now) c.args.self.now c.in_default.self c.args.memories.now.items c.args.out.now.acts c.refuse.new.out.acts c.requires.message
           (w.self-is ∙ sym w.in-Accepted.is) (not_accepted_other c.args.self.now w.in-Accepted.with c.args.ap w.in-Accepted.supplicant w.in-Accepted.is w.if-with-ap.false) is

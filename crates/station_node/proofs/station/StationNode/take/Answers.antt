@@ -1,7 +1,7 @@
 use Rattle.std.proofs.Common.{ap}
 use Rattle.node_frames.specs.Views.{reading_of}
 use Rattle.station_node.specs.State.{State}
-use Rattle.station_node.proofs.Taken.{alone_then}
+use Rattle.node_frames.proofs.Returning.{if_settled}
 use Rattle.station_node.proofs.Judged.{judged-managed, judged-keyed, judged-settled}
 use Rattle.station_node.proofs.station.StationNode.take.Goals as goal
 
@@ -17,6 +17,6 @@ take_message-requires-clause-message c =
 
 pub returns-in-Settled-clause-taken : goal.returns-in-Settled-clause-taken
 returns-in-Settled-clause-taken c =
-    alone_then c.take_alone.result c.in-Settled.from c.args.octets.now c.kind.result c.in-Settled.outcome c.args.out.now.acts c.take_alone.new.out.acts _ c.take_alone.ensures.alone
-    (λ is. judged-settled c.args.domain.now c.self.inside.number c.args.self.now c.args.octets.now (reading_of c.read-delivered.result) c.in-Settled.from c.kind.result c.in-Settled.outcome c.args.out.now.acts c.take_alone.new.out.acts c.in-Settled.ensures c.read-delivered.ensures.reads c.kind.ensures
+    if_settled c.settle.result c.in-Settled.outcome _ _ c.settle.ensures.outcome c.settle.ensures.acts
+    (λ is. judged-settled c.args.domain.now c.self.inside.number c.args.self.now c.args.octets.now (reading_of c.read-delivered.result) c.in-Settled.from c.kind.result c.in-Settled.outcome c.args.out.now.acts c.settle.new.out.acts c.in-Settled.ensures c.read-delivered.ensures.reads c.kind.ensures
     (ap (λ (s : State). s.number) c.self.view_is) is)

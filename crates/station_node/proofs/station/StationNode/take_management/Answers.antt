@@ -1,10 +1,10 @@
-use Rattle.std.proofs.Common.{Some, refl}
+use Rattle.std.proofs.Common.{refl}
 use Rattle.std.proofs.lemmas.Result.{IfOk-weaker}
-use Rattle.domain_base.specs.declared.names.Node.TheVariants.{Ap}
 use Rattle.run_journal.specs.declared.acts.Outcome.TheVariants.{Refused}
 use Rattle.run_journal.specs.declared.acts.Reason.TheVariants as reason
 use Rattle.node_frames.specs.Views.{management_fields}
-use Rattle.station_node.proofs.Taken.{alone_then, taken-other_management}
+use Rattle.node_frames.proofs.Returning.{if_settled}
+use Rattle.station_node.proofs.Taken.{taken-other_management}
 use Rattle.station_node.proofs.station.StationNode.take_management.Goals as goal
 
 pub returns-in-AssocResp-clause-taken : goal.returns-in-AssocResp-clause-taken
@@ -12,5 +12,5 @@ returns-in-AssocResp-clause-taken c = IfOk-weaker c.take_response.result _ _ (λ
 
 pub returns-in_default-clause-taken : goal.returns-in_default-clause-taken
 returns-in_default-clause-taken c =
-    alone_then c.refuse.result (Some (Ap c.args.ap)) c.args.octets.now c.args.frame.now.kind (Refused reason.Unawaited) c.args.out.now.acts c.refuse.new.out.acts _ c.refuse.ensures.alone
+    if_settled c.refuse.result (Refused reason.Unawaited) _ _ c.refuse.ensures.outcome c.refuse.ensures.acts
     (λ is. taken-other_management c.args.domain.now c.args.self.now c.args.ap c.args.octets.now (management_fields c.args.frame.now) c.args.frame.now.kind c.args.out.now.acts c.refuse.new.out.acts c.requires.managed refl (c.in_default.not-AssocResp) is)

@@ -1,14 +1,13 @@
-use Rattle.std.proofs.Common.{Some, sym, ap, subst, ◌∙◌}
+use Rattle.std.proofs.Common.{sym, ap, subst, ◌∙◌}
 use Rattle.std.proofs.lemmas.Result.{IfOk-weaker}
-use Rattle.domain_base.specs.declared.names.Node.TheVariants.{Ap}
-use Rattle.run_journal.specs.declared.acts.Kind.TheVariants.{Key}
 use Rattle.run_journal.specs.declared.acts.Outcome.TheVariants.{Refused}
 use Rattle.run_journal.specs.declared.acts.Reason.TheVariants as reason
 use Rattle.domain_rules.specs.Rows.{Take}
 use Rattle.node_frames.specs.Views.{message_fields}
 use Rattle.station_node.specs.State.{State}
 use Rattle.station_node.specs.Steps.{IsTaken, state_with}
-use Rattle.station_node.proofs.Taken.{alone_then, taken-unawaited, not_accepted_none, state_is}
+use Rattle.node_frames.proofs.Returning.{if_settled}
+use Rattle.station_node.proofs.Taken.{taken-unawaited, not_accepted_none, state_is}
 use Rattle.station_node.proofs.station.StationNode.take_message.Goals as goal
 
 pub returns-in-Some-clause-taken : goal.returns-in-Some-clause-taken
@@ -21,7 +20,7 @@ returns-in-Some-clause-taken c =
 
 pub returns-in-None-clause-taken : goal.returns-in-None-clause-taken
 returns-in-None-clause-taken c =
-    alone_then c.refuse.result (Some (Ap c.args.ap)) c.args.octets.now (Key c.args.message.now.message) (Refused reason.Unawaited) c.args.out.now.acts c.refuse.new.out.acts _ c.refuse.ensures.alone
+    if_settled c.refuse.result (Refused reason.Unawaited) _ _ c.refuse.ensures.outcome c.refuse.ensures.acts
     (λ is. subst (λ (t : State). IsTaken c.args.domain.now (Take c.args.octets.now) c.args.self.now t c.args.out.now.acts c.refuse.new.out.acts (Refused reason.Unawaited)) (sym c.self.view_is)
     (taken-unawaited c.args.domain.now c.args.self.now c.args.ap c.args.octets.now (message_fields c.args.message.now) c.args.out.now.acts c.refuse.new.out.acts c.requires.message
     (not_accepted_none c.args.self.now.association c.args.ap (ap (λ (t : State). t.association) (sym c.self.view_is) ∙ c.in-None.is)) is))

@@ -1,6 +1,8 @@
-use Rattle.std.proofs.Common.{Some, refl, subst}
+use Rattle.std.proofs.Common.{Some, refl, ap, subst}
 use Rattle.eapol_key.specs.declared.messages.Message.TheVariants.{M1}
 use Rattle.run_journal.specs.declared.acts.Outcome.TheVariants.{Accepted}
+use Rattle.run_journal.specs.declared.reply.Keyed.{Keyed}
+use Rattle.node_frames.proofs.EndsKeys.{is_key_of}
 use Rattle.supplicant.specs.declared.stage.Stage.TheVariants.{Attempt}
 use Rattle.supplicant.specs.contracts.supplicant.Supplicant.{the_view}
 use Rattle.supplicant.specs.State.{State}
@@ -14,7 +16,7 @@ use Rattle.supplicant.proofs.Staged.{staged_replied}
 use Rattle.supplicant.proofs.supplicant.Supplicant.take_m1.Goals as goal
 
 pub invariant_of-self : goal.invariant_of-self
-invariant_of-self c = record { suite = c.self.invariant.suite; keys = c.pairwise_key-key.ensures.key }
+invariant_of-self c = record { suite = c.self.invariant.suite; keys = is_key_of c.self.inside.ends c.self.inside.psk _ _ c.pairwise_key-key.result c.pairwise_key-key.ensures }
 
 pub returns-in_default-clause-steps : goal.returns-in_default-clause-steps
 returns-in_default-clause-steps c = λ had.
@@ -29,14 +31,16 @@ returns-in_default-clause-whole c = whole_silent c.args.reply.now c.requires.emp
 
 pub returns-clause-steps : goal.returns-clause-steps
 returns-clause-steps c = λ had.
-    subst (λ (t : State). IsTaken M1 c.args.frame.now t had (at_stage (Attempt c.in-Some.snonce (Some c.pairwise_key-key.result)) (the_view c.self.inside)) had Accepted c.answer_m1.new.reply) c.self.view_is
-    (m1_accepted c.args.frame.now (the_view c.self.inside) had c.in-Some.snonce c.pairwise_key-key.result c.answer_m1.new.reply c.self.invariant.suite c.pairwise_key-key.ensures.key c.pairwise_key-key.ensures.anonce c.pairwise_key-key.ensures.snonce c.in-Some.ensures c.answer_m1.ensures.tells)
+    let y = c.pairwise_key-key.result in
+    let is = c.pairwise_key-key.ensures in
+    subst (λ (t : State). IsTaken M1 c.args.frame.now t had (at_stage (Attempt c.in-Some.snonce (Some y)) (the_view c.self.inside)) had Accepted c.answer_m1.new.reply) c.self.view_is
+    (m1_accepted c.args.frame.now (the_view c.self.inside) had c.in-Some.snonce y c.answer_m1.new.reply c.self.invariant.suite (is_key_of c.self.inside.ends c.self.inside.psk _ _ y is) (ap (λ (z : Keyed). z.anonce) is) (ap (λ (z : Keyed). z.snonce) is) c.in-Some.ensures c.answer_m1.ensures.tells)
 
 pub returns-clause-staged : goal.returns-clause-staged
 returns-clause-staged c =
-    let l = c.self.inside.link in
+    let l = c.self.inside.ends in
     let y = c.pairwise_key-key.result in
     let b = between l in
-    let told = c.answer_m1.ensures.tells b.d b.n b.p (inputs_between l c.self.inside.psk y) b.link (key_between l c.self.inside.psk y c.self.invariant.suite c.pairwise_key-key.ensures.key) refl in
+    let told = c.answer_m1.ensures.tells b.d b.n b.p (inputs_between l c.self.inside.psk y) b.ends (key_between l c.self.inside.psk y c.self.invariant.suite (is_key_of l c.self.inside.psk _ _ y c.pairwise_key-key.ensures)) refl in
     subst (λ (t : State). IsStaged c.answer_m1.new.reply.installed t (at_stage (Attempt c.in-Some.snonce (Some y)) (the_view c.self.inside))) c.self.view_is
     (staged_replied (the_view c.self.inside) c.in-Some.snonce (Some y) c.answer_m1.new.reply.installed told.installed_is c.in-Some.ensures)

@@ -38,7 +38,7 @@ pub returns-in-Refused-clause-steps : goal.returns-in-Refused-clause-steps
 returns-in-Refused-clause-steps c =
     subst (λ (t : State). IsTaken M3 c.args.frame.now t c.args.memory.now t c.args.memory.now (Refused c.in-Refused.why) c.args.reply.now) c.self.view_is
     (m3_refused c.args.frame.now (the_view c.self.inside) c.args.memory.now c.in-Some.keying.key c.in-Some.keying.kept c.in-Refused.why c.args.reply.now c.requires.empty c.in-Some.ensures
-    (subst (λ (m : Judged). IsM3 c.self.inside.link.akm c.in-Some.keying.key c.in-Some.keying.kept (fields_of c.args.frame.now) c.args.frame.now.octets.now m) c.in-Refused.is c.judge_m3.ensures))
+    (subst (λ (m : Judged). IsM3 c.self.inside.ends.akm c.in-Some.keying.key c.in-Some.keying.kept (fields_of c.args.frame.now) c.args.frame.now.octets.now m) c.in-Refused.is c.judge_m3.ensures))
 
 pub returns-in-Refused-clause-staged : goal.returns-in-Refused-clause-staged
 returns-in-Refused-clause-staged c = staged_same c.args.self.now c.args.reply.now.installed c.requires.empty.installed
@@ -52,7 +52,7 @@ pub returns-in-Other-clause-steps : goal.returns-in-Other-clause-steps
 returns-in-Other-clause-steps c =
     subst (λ (t : State). IsTaken M3 c.args.frame.now t c.args.memory.now t c.args.memory.now (Refused c.in-Other.why) c.refuse_sealed.new.reply) c.self.view_is
     (m3_sealed c.args.frame.now (the_view c.self.inside) c.args.memory.now c.in-Some.keying.key c.in-Some.keying.kept c.in-Other.why c.refuse_sealed.new.reply c.in-Some.ensures
-    (subst (λ (m : Judged). IsM3 c.self.inside.link.akm c.in-Some.keying.key c.in-Some.keying.kept (fields_of c.args.frame.now) c.args.frame.now.octets.now m) c.in-Other.is c.judge_m3.ensures)
+    (subst (λ (m : Judged). IsM3 c.self.inside.ends.akm c.in-Some.keying.key c.in-Some.keying.kept (fields_of c.args.frame.now) c.args.frame.now.octets.now m) c.in-Other.is c.judge_m3.ensures)
     c.refuse_sealed.ensures.tells)
 
 pub returns-in-Other-clause-staged : goal.returns-in-Other-clause-staged
@@ -64,7 +64,7 @@ returns-in-Other-clause-staged c =
 
 pub returns-in-None-clause-steps : goal.returns-in-None-clause-steps
 returns-in-None-clause-steps c =
-    let l = c.self.inside.link in
+    let l = c.self.inside.ends in
     let y = c.in-Some.keying.key in
     subst (λ (t : State). IsTaken M3 c.args.frame.now t c.args.memory.now (at_stage (Session y c.args.frame.now.counter) (the_view c.self.inside)) c.give-gtk.new.memory Accepted c.accept_m3.new.reply) c.self.view_is
     (subst (λ (ks : _). IsTaken M3 c.args.frame.now (the_view c.self.inside) c.args.memory.now (at_stage (Session y c.args.frame.now.counter) (the_view c.self.inside)) ks Accepted c.accept_m3.new.reply) (sym c.give-gtk.ensures.memory)
@@ -77,11 +77,11 @@ returns-in-None-clause-steps c =
 
 pub returns-in-None-clause-staged : goal.returns-in-None-clause-staged
 returns-in-None-clause-staged c =
-    let l = c.self.inside.link in
+    let l = c.self.inside.ends in
     let y = c.in-Some.keying.key in
     let b = between l in
     let keys = keys_with l c.self.inside.psk c.self.inside.stage y c.in-Some.keying.kept c.self.invariant.keys c.in-Some.ensures in
-    let told = c.accept_m3.ensures.tells b.d b.n b.p (inputs_between l c.self.inside.psk y) b.link (key_between l c.self.inside.psk y c.self.invariant.suite keys) in
+    let told = c.accept_m3.ensures.tells b.d b.n b.p (inputs_between l c.self.inside.psk y) b.ends (key_between l c.self.inside.psk y c.self.invariant.suite keys) in
     subst (λ (t : State). IsStaged c.accept_m3.new.reply.installed t (at_stage (Session y c.args.frame.now.counter) (the_view c.self.inside))) c.self.view_is
     (staged_finished (the_view c.self.inside) y c.args.frame.now.counter c.accept_m3.new.reply.installed told.installed_is
     (subst (λ (o : Option ℕ). HasKey c.self.inside.stage y o) c.in-None.is c.in-Some.ensures))
@@ -90,7 +90,7 @@ returns-in-None-clause-staged c =
 
 pub returns-in-Some-kept-clause-steps : goal.returns-in-Some-kept-clause-steps
 returns-in-Some-kept-clause-steps c =
-    let l = c.self.inside.link in
+    let l = c.self.inside.ends in
     let y = c.in-Some.keying.key in
     subst (λ (t : State). IsTaken M3 c.args.frame.now t c.args.memory.now (at_stage (Session y c.args.frame.now.counter) (the_view c.self.inside)) c.args.memory.now Answered c.answer_m3.new.reply) c.self.view_is
     (m3_answered c.args.frame.now (the_view c.self.inside) c.args.memory.now y c.in-Some-kept.field-0 c.in-Agreed.group c.answer_m3.new.reply c.self.invariant.suite
@@ -102,11 +102,11 @@ returns-in-Some-kept-clause-steps c =
 
 pub returns-in-Some-kept-clause-staged : goal.returns-in-Some-kept-clause-staged
 returns-in-Some-kept-clause-staged c =
-    let l = c.self.inside.link in
+    let l = c.self.inside.ends in
     let y = c.in-Some.keying.key in
     let b = between l in
     let keys = keys_with l c.self.inside.psk c.self.inside.stage y c.in-Some.keying.kept c.self.invariant.keys c.in-Some.ensures in
-    let told = c.answer_m3.ensures.tells b.d b.n b.p (inputs_between l c.self.inside.psk y) b.link (key_between l c.self.inside.psk y c.self.invariant.suite keys) in
+    let told = c.answer_m3.ensures.tells b.d b.n b.p (inputs_between l c.self.inside.psk y) b.ends (key_between l c.self.inside.psk y c.self.invariant.suite keys) in
     subst (λ (t : State). IsStaged c.answer_m3.new.reply.installed t (at_stage (Session y c.args.frame.now.counter) (the_view c.self.inside))) c.self.view_is
     (staged_answered (the_view c.self.inside) y c.in-Some-kept.field-0 c.args.frame.now.counter c.answer_m3.new.reply.installed told.installed_is
     (subst (λ (o : Option ℕ). HasKey c.self.inside.stage y o) c.in-Some-kept.is c.in-Some.ensures))

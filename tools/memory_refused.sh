@@ -1,0 +1,107 @@
+#!/usr/bin/env bash
+# What the program does where memory is refused. Each script of `examples/` is replayed once for each request for memory that its
+# replay makes, and that request is refused; and once more for each, refused together with all that come after it. Each run has to
+# end with status 5 (out of memory) and a front of the report that ample memory gives, or with the status and the whole report of
+# ample memory. Octets are compared. It prints what is wrong, and a line for each script; its status is 0 where nothing is wrong.
+#
+# It runs the program that `rt ci` or `rt run` proved and built, with a small library in front of the C library that counts and
+# refuses (malloc and realloc), so it wants a C compiler; where either is missing it does nothing. Run it from anywhere in the
+# repository. It takes seconds.
+set -eu
+cd "$(dirname "$0")/.."
+program=$PWD/crates/domain_cli/out/domain_cli
+if [ ! -x "$program" ]; then
+    echo "skipped: no program was built"
+    exit 0
+fi
+if ! command -v cc > /dev/null; then
+    echo "skipped: no C compiler"
+    exit 0
+fi
+work=$(mktemp -d)
+trap 'rm -rf "$work"' EXIT
+
+cat > "$work/refuse.c" <<'C'
+#include <errno.h>
+#include <fcntl.h>
+#include <stdio.h>
+#include <stdlib.h>
+#include <unistd.h>
+
+extern void *__libc_malloc(size_t size);
+extern void *__libc_realloc(void *old, size_t size);
+
+static unsigned long first, last, count;
+
+__attribute__((constructor)) static void begin(void) {
+    const char *from = getenv("REFUSED_FROM"), *to = getenv("REFUSED_TO");
+    first = from ? strtoul(from, 0, 10) : 0;
+    last = to ? strtoul(to, 0, 10) : 0;
+    count = 0;
+}
+
+__attribute__((destructor)) static void end(void) {
+    const char *name = getenv("REQUESTS");
+    char text[32];
+    int file = name ? open(name, O_WRONLY | O_CREAT | O_TRUNC, 0600) : -1;
+    if (file >= 0) {
+        int size = snprintf(text, sizeof text, "%lu\n", count);
+        if (write(file, text, (size_t)size) != size) _exit(99);
+        close(file);
+    }
+}
+
+static int refused(void) {
+    count++;
+    if (first && first <= count && count <= last) {
+        errno = ENOMEM;
+        return 1;
+    }
+    return 0;
+}
+
+void *malloc(size_t size) { return refused() ? 0 : __libc_malloc(size); }
+
+void *realloc(void *old, size_t size) { return refused() ? 0 : __libc_realloc(old, size); }
+C
+cc -shared -fPIC -O1 -o "$work/refuse.so" "$work/refuse.c"
+
+wrong=0
+# Replays the script with the requests of these numbers refused.
+refusing() { # FIRST LAST SCRIPT
+    status=0
+    LD_PRELOAD="$work/refuse.so" REFUSED_FROM=$1 REFUSED_TO=$2 "$program" replay < "$3" > "$work/written" 2> "$work/said" || status=$?
+    says=
+    size=$(wc -c < "$work/written")
+    head -c "$size" "$work/ample" | cmp -s - "$work/written" || says="the report is no front of that with ample memory"
+    case "$status" in
+        5) refusals=$((refusals + 1)) ;;
+        "$ample") [ "$size" = "$whole" ] || says="${says:-the report is cut}" ;;
+        *) says="${says:+$says, and }it ends with $status" ;;
+    esac
+    if [ -n "$says" ]; then
+        wrong=$((wrong + 1))
+        echo "$3, requests $1 to $2 refused: $says"
+    fi
+}
+
+for script in examples/*.txt; do
+    ample=0
+    LD_PRELOAD="$work/refuse.so" REQUESTS="$work/count" "$program" replay < "$script" > "$work/ample" 2> "$work/said" || ample=$?
+    whole=$(wc -c < "$work/ample")
+    requests=$(cat "$work/count")
+    runs=0 refusals=0 number=1
+    while [ "$number" -le "$requests" ]; do
+        refusing "$number" "$number" "$script"
+        refusing "$number" 1000000000 "$script"
+        runs=$((runs + 2))
+        number=$((number + 1))
+    done
+    echo "$script: status $ample and $whole octets with ample memory, requests $requests, runs $runs, out of memory $refusals"
+    if [ "$requests" = 0 ] || [ "$refusals" = 0 ]; then
+        echo "$script: no request was refused, so nothing was shown"
+        wrong=$((wrong + 1))
+    fi
+done
+echo "wrong $wrong"
+[ "$wrong" = 0 ]
