@@ -1,15 +1,18 @@
 #!/usr/bin/env bash
 # How long a replay takes, at a quarter, a half and the whole of the largest script: 64 stations are connected at 16 access
 # points over and over, each by a connect and the six deliveries of a whole handshake. Prints one figure a line, and what it
-# means. It builds the program first; run it from anywhere in the repository.
+# means. It runs the program that `rt ci` or `rt run` proved and built, and ends where there is none; run it from anywhere in the
+# repository.
 set -eu
 cd "$(dirname "$0")/.."
 work=$(mktemp -d)
 trap 'rm -rf "$work"' EXIT
 
-# The program, proved and built as the gate builds it.
-(cd crates/domain_cli && rt run -- replay < /dev/null > /dev/null 2>&1) || true
-program=crates/domain_cli/out/domain_cli
+program=crates/kehtrop/out/kehtrop
+if [ ! -x "$program" ]; then
+    echo "no program was built: rt ci does it" >&2
+    exit 1
+fi
 
 python3 - "$work" <<'PY'
 import sys

@@ -8,7 +8,7 @@ cd "$(dirname "$0")/.."
 work=$(mktemp -d)
 trap 'rm -rf "$work"' EXIT
 
-program=crates/domain_cli/out/domain_cli
+program=crates/kehtrop/out/kehtrop
 if [ ! -x "$program" ]; then
     echo "skipped: no program was built"
     exit 0
@@ -35,7 +35,7 @@ judge() { # NUMBER SAYS WRITES ENDED NAME
     diff "$3" "$work/written" || true
 }
 
-stored=crates/domain_cli
+stored=crates/kehtrop
 usage="usage: replay < SCRIPT"
 none=/dev/null
 ends 0 "" "$stored/stdout" "$stored/stdin" replay

@@ -9,7 +9,7 @@
 # repository. It takes seconds.
 set -eu
 cd "$(dirname "$0")/.."
-program=$PWD/crates/domain_cli/out/domain_cli
+program=$PWD/crates/kehtrop/out/kehtrop
 if [ ! -x "$program" ]; then
     echo "skipped: no program was built"
     exit 0

@@ -1,11 +1,14 @@
 -- The cipher: it gives a block, no two blocks give one, and each block is given.
-use Rattle.std.proofs.Common.{◌≡◌, ℕ, zero, suc, ◌+◌, List, length, refl, sym, ap, ap₂, ◌∙◌, add-one}
+use Rattle.std.proofs.Common.{◌≡◌, ℕ, zero, suc, ◌<◌, ◌+◌, List, [], length, get_or, refl, sym, ap, subst, ◌∙◌, add-one, arith}
 use Rattle.domain_base.specs.Octets.{AreOctets}
 use Rattle.aes_block.specs.Octets.{IsBlock, exclusive_or}
 use Rattle.aes_block.specs.State.{sub_octets, shift_rows, mix_columns}
 use Rattle.aes_block.specs.Cipher.{round_key, after_rounds, cipher, Decrypts}
+use Rattle.aes_block.specs.Words.{columns, octets_of, unmix_columns, IsExpanded}
+use Rattle.aes_block.proofs.WordLemmas.{octets_of-columns}
+use Rattle.aes_block.proofs.RoundLemmas.{IsBlock-turned, IsBlock-mixed}
 use Rattle.aes_block.proofs.OctetLemmas.{length-exclusive_or, exclusive_or_twice, exclusive_or-cancel, AreOctets-exclusive_or}
-use Rattle.aes_block.proofs.StateLemmas.{length-sub_octets, length-shift_rows, length-mix_columns, length-unshifted_rows, AreOctets-shift_rows, AreOctets-mix_columns, AreOctets-unshifted_rows, AreOctets-spread_columns, shift_rows-injective, mix_columns-injective, unshifted_rows, spread_columns, shift_rows-unshifted_rows, mix_columns-spread_columns}
+use Rattle.aes_block.proofs.StateLemmas.{length-sub_octets, length-shift_rows, length-mix_columns, length-unshifted_rows, AreOctets-shift_rows, AreOctets-mix_columns, AreOctets-unshifted_rows, AreOctets-spread_columns, shift_rows-injective, mix_columns-injective, unshifted_rows, spread_columns, shift_rows-unshifted_rows, mix_columns-spread_columns, unmix_columns-exclusive_or, unmix_columns-mix_columns}
 use Rattle.aes_block.proofs.Tables.{AreOctets-sub_octets, sub_octets-injective, unsub_octets, sub_octets-unsub_octets, length-unsub_octets, AreOctets-unsub_octets}
 use Rattle.aes_block.proofs.KeyLemmas.{AreOctets-round_key, round_key-zero}
 
@@ -103,8 +106,8 @@ IsBlock-added key s n of_key b = record {
   are_octets = AreOctets-exclusive_or s (round_key key n) b.are_octets (AreOctets-round_key key n of_key);
 }
 
-IsBlock-unmixed : (s : List ℕ) → IsBlock s → IsBlock (mix_columns (spread_columns s))
-IsBlock-unmixed s b = record {
+IsBlock-spread : (s : List ℕ) → IsBlock s → IsBlock (mix_columns (spread_columns s))
+IsBlock-spread s b = record {
   sixteen = length-mix_columns (spread_columns s);
   are_octets = AreOctets-mix_columns (spread_columns s) (AreOctets-spread_columns s b.are_octets);
 }
@@ -118,7 +121,7 @@ before_rounds key s (suc n) of_key b =
     let added : List ℕ = exclusive_or s (round_key key (suc n)) in
     let is_added : IsBlock added = IsBlock-added key s (suc n) of_key b in
     let unmixed : List ℕ = mix_columns (spread_columns added) in
-    let is_unmixed : IsBlock unmixed = IsBlock-unmixed added is_added in
+    let is_unmixed : IsBlock unmixed = IsBlock-spread added is_added in
     let found = before_rounds key (unturned unmixed) n of_key (IsBlock-unturned unmixed is_unmixed) in (
       found.0,
       found.1,
@@ -143,47 +146,68 @@ Decrypts-some key block of_key b =
       },
     )
 
+-- ---- the keys of the source
+
+-- the key, from the words of the first round key
+pub view_of : (round_keys : List (List ℕ)) (key : List ℕ) → IsBlock key
+    → ((n : ℕ) → n < 11 → get_or round_keys n [] ≡ columns (round_key key n)) → octets_of (get_or round_keys 0 []) ≡ key
+view_of round_keys key b keys =
+    ap octets_of (keys 0 (omega arith) ∙ ap columns (round_key-zero key)) ∙ octets_of-columns key b
+
+pub expanded_from : (round_keys unmixed_keys : List (List ℕ)) (key : List ℕ) → IsBlock key
+    → ((n : ℕ) → n < 11 → get_or round_keys n [] ≡ columns (round_key key n))
+    → ((n : ℕ) → n < 9 → get_or unmixed_keys n [] ≡ columns (unmix_columns (round_key key (n + 1))))
+    → IsExpanded round_keys unmixed_keys (octets_of (get_or round_keys 0 []))
+expanded_from round_keys unmixed_keys key b keys between =
+    subst (IsExpanded round_keys unmixed_keys) (sym (view_of round_keys key b keys)) (record { is_block = b; rounds = keys; between = between })
+
+pub expanded_for : {round_keys unmixed_keys : List (List ℕ)} {view key : List ℕ} → view ≡ key
+    → IsExpanded round_keys unmixed_keys view → IsExpanded round_keys unmixed_keys key
+expanded_for {round_keys} {unmixed_keys} e x = subst (IsExpanded round_keys unmixed_keys) e x
+
 -- ---- the rounds of the source
 
--- the first key added
-pub after_rounds-first : (key block first r : List ℕ) → first ≡ key → r ≡ exclusive_or block first → r ≡ after_rounds key block 0
-unfolding after_rounds
-after_rounds-first key block first r is e =
-    e ∙ ap (exclusive_or block) (is ∙ sym (round_key-zero key))
+pub IsBlock-after_rounds : (key block : List ℕ) (n : ℕ) → IsBlock key → IsBlock block → IsBlock (after_rounds key block n)
+IsBlock-after_rounds key block n of_key b = record {
+  sixteen = length-after_rounds key block n b.sixteen;
+  are_octets = AreOctets-after_rounds key block n of_key.are_octets b.are_octets;
+}
 
--- a round
-pub after_rounds-more : (key block : List ℕ) (n : ℕ) {s a b d k r : List ℕ} → s ≡ after_rounds key block n → a ≡ sub_octets s → b ≡ shift_rows a
-    → d ≡ mix_columns b → k ≡ round_key key (n + 1) → r ≡ exclusive_or d k → r ≡ after_rounds key block (n + 1)
+pub after_rounds-first : (key block : List ℕ) → exclusive_or block (round_key key 0) ≡ after_rounds key block 0
 unfolding after_rounds
-after_rounds-more key block n es ea eb ed ek er =
-    er ∙ ap₂ exclusive_or (ed ∙ ap mix_columns (eb ∙ ap shift_rows (ea ∙ ap sub_octets es))) ek ∙ rw add-one refl
+after_rounds-first key block = refl
 
--- the last round
-pub after_rounds-last : (key block : List ℕ) {n : ℕ} {s a b k r : List ℕ} → n ≡ 9 → s ≡ after_rounds key block n → a ≡ sub_octets s → b ≡ shift_rows a
-    → k ≡ round_key key 10 → r ≡ exclusive_or b k → r ≡ cipher key block
+pub after_rounds-more : (key block : List ℕ) (n : ℕ)
+    → exclusive_or (mix_columns (shift_rows (sub_octets (after_rounds key block n)))) (round_key key (n + 1)) ≡ after_rounds key block (n + 1)
+unfolding after_rounds
+after_rounds-more key block n = rw add-one refl
+
+pub after_rounds-last : (key block : List ℕ)
+    → exclusive_or (shift_rows (sub_octets (after_rounds key block 9))) (round_key key 10) ≡ cipher key block
 unfolding cipher
-after_rounds-last key block last es ea eb ek er =
-    er ∙ ap₂ exclusive_or (eb ∙ ap shift_rows (ea ∙ ap sub_octets (es ∙ ap (after_rounds key block) last))) ek
+after_rounds-last key block = refl
 
--- the last round undone
-pub unround-last : (key block p : List ℕ) {k u v t : List ℕ} → k ≡ round_key key 10 → u ≡ exclusive_or block k → shift_rows v ≡ u → sub_octets t ≡ v
-    → after_rounds key p 9 ≡ t → cipher key p ≡ block
+-- ---- and back
+
+pub back-last : (key block p : List ℕ) → Decrypts key block p
+    → exclusive_or block (round_key key 10) ≡ shift_rows (sub_octets (after_rounds key p 9))
 unfolding cipher
-unround-last key block p {k} ek eu ev et ep =
-    ap₂ exclusive_or (ap shift_rows (ap sub_octets ep ∙ et) ∙ ev ∙ eu) (sym ek) ∙ exclusive_or_twice block k
+back-last key block p d =
+    ap (λ (w : List ℕ). exclusive_or w (round_key key 10)) (sym d.encrypted) ∙ exclusive_or_twice (shift_rows (sub_octets (after_rounds key p 9))) (round_key key 10)
 
--- a round undone
-pub unround-more : (key p : List ℕ) (j : ℕ) {s k d u v t : List ℕ} {n m : ℕ} → m ≡ j + 1 → k ≡ round_key key m → d ≡ exclusive_or s k → mix_columns u ≡ d
-    → shift_rows v ≡ u → sub_octets t ≡ v → n ≡ j + 1 → after_rounds key p j ≡ t → after_rounds key p n ≡ s
-unfolding after_rounds
-unround-more key p j {s} {k} em ek ed eu ev et en ep =
-    ap (after_rounds key p) (en ∙ add-one j)
-    ∙ ap₂ exclusive_or (ap mix_columns (ap shift_rows (ap sub_octets ep ∙ et) ∙ ev) ∙ eu ∙ ed)
-    (ap (round_key key) (sym (em ∙ add-one j)) ∙ sym ek)
-    ∙ exclusive_or_twice s k
+-- the columns of a state and of its key unmixed, and the one added to the other
+pub back-more : (key p : List ℕ) (n : ℕ) → IsBlock key → IsBlock p
+    → exclusive_or (unmix_columns (after_rounds key p (n + 1))) (unmix_columns (round_key key (n + 1))) ≡ shift_rows (sub_octets (after_rounds key p n))
+back-more key p n of_key b =
+    let k : List ℕ = round_key key (n + 1) in
+    let t : List ℕ = shift_rows (sub_octets (after_rounds key p n)) in
+    let is_t : IsBlock t = IsBlock-turned (after_rounds key p n) (IsBlock-after_rounds key p n of_key b) in
+    let is_mixed = IsBlock-mixed t is_t in
+    ap (λ (w : List ℕ). exclusive_or (unmix_columns w) (unmix_columns k)) (sym (after_rounds-more key p n))
+    ∙ ap (λ (w : List ℕ). exclusive_or w (unmix_columns k)) (unmix_columns-exclusive_or (mix_columns t) k is_mixed.sixteen is_mixed.are_octets (AreOctets-round_key key (n + 1) of_key.are_octets))
+    ∙ exclusive_or_twice (unmix_columns (mix_columns t)) (unmix_columns k)
+    ∙ unmix_columns-mix_columns t is_t.sixteen is_t.are_octets
 
--- the first key added again
-pub unround-first : (key p : List ℕ) {s k : List ℕ} {n : ℕ} → n ≡ 0 → k ≡ key → p ≡ exclusive_or s k → after_rounds key p n ≡ s
+pub back-first : (key p : List ℕ) → exclusive_or (after_rounds key p 0) (round_key key 0) ≡ p
 unfolding after_rounds
-unround-first key p {s} {k} en ek ep =
-    ap (after_rounds key p) en ∙ ap₂ exclusive_or ep (round_key-zero key ∙ sym ek) ∙ exclusive_or_twice s k
+back-first key p = exclusive_or_twice p (round_key key 0)

@@ -5,6 +5,7 @@ use Rattle.std.proofs.lemmas.Bool.{agree_below, agree_below_at, ltb-true, eqb-tr
 use Rattle.std.specs.Int.Bits.{bit_xor, xor_assoc, xor_comm, xor_zero_r}
 use Rattle.aes_block.specs.Field.{times_x, product_of_bits, product}
 use Rattle.aes_block.specs.State.{mixed}
+use Rattle.aes_block.specs.Words.{unmixed}
 use Rattle.aes_block.proofs.OctetLemmas.{bit_xor_below, bit_xor_swap}
 
 -- two functions that computing finds equal at each octet
@@ -70,10 +71,10 @@ product_three x = ap (bit_xor x) (xor_zero_r (times_x x))
 
 -- ---- a column that is mixed twice
 
-abbrev sum4 : ℕ → ℕ → ℕ → ℕ → ℕ
+abbrev pub sum4 : ℕ → ℕ → ℕ → ℕ → ℕ
 sum4 a b c d = bit_xor (bit_xor a b) (bit_xor c d)
 
-sum4_turned : (a b c d : ℕ) → sum4 a b c d ≡ sum4 d a b c
+pub sum4_turned : (a b c d : ℕ) → sum4 a b c d ≡ sum4 d a b c
 sum4_turned a b c d =
     ap (bit_xor (bit_xor a b)) (xor_comm c d) ∙ xor_comm (bit_xor a b) (bit_xor d c) ∙ bit_xor_swap d c a b
     ∙ ap (bit_xor (bit_xor d a)) (xor_comm c b)
@@ -146,3 +147,61 @@ mixed_twice a b c d ha hb hc hd =
     ∙ ap₂ bit_xor (ap₂ bit_xor (part_a a ha) (part_b b hb)) (ap₂ bit_xor (part_c c hc) (part_d d hd))
     ∙ ap₂ bit_xor (xor_zero_r (bit_xor a (times_x (times_x a)))) (xor_zero_r (times_x (times_x c)))
     ∙ xor_assoc a (times_x (times_x a)) (times_x (times_x c)) ∙ ap (bit_xor a) (sym linear)
+
+-- ---- a column that is unmixed
+
+-- the octet times 4, and times 5
+abbrev times_4 : ℕ → ℕ
+times_4 x = times_x (times_x x)
+
+abbrev times_5 : ℕ → ℕ
+times_5 x = bit_xor x (times_4 x)
+
+times_4_below : (x : ℕ) → x < 256 → times_4 x < 256
+times_4_below x h = times_x_below (times_x x) (times_x_below x h)
+
+times_5_below : (x : ℕ) → x < 256 → times_5 x < 256
+times_5_below x h = bit_xor_below x (times_4 x) h (times_4_below x h)
+
+spread_parts : (a c : ℕ) → a < 256 → c < 256 → spread a c ≡ bit_xor (times_5 a) (times_4 c)
+unfolding spread
+spread_parts a c ha hc =
+    ap (bit_xor a) (ap times_x (times_x-bit_xor a c ha hc) ∙ times_x-bit_xor (times_x a) (times_x c) (times_x_below a ha) (times_x_below c hc))
+    ∙ sym (xor_assoc a (times_4 a) (times_4 c))
+
+times_14 : (x : ℕ) → x < 256 → bit_xor (product 2 (times_5 x)) (times_4 x) ≡ product 14 x
+unfolding product product_of_bits
+times_14 x h = same_at (λ (y : ℕ). bit_xor (product 2 (times_5 y)) (times_4 y)) (product 14) x refl h
+
+times_11 : (x : ℕ) → x < 256 → bit_xor (product 3 (times_5 x)) (times_4 x) ≡ product 11 x
+unfolding product product_of_bits
+times_11 x h = same_at (λ (y : ℕ). bit_xor (product 3 (times_5 y)) (times_4 y)) (product 11) x refl h
+
+times_13 : (x : ℕ) → x < 256 → bit_xor (times_5 x) (product 2 (times_4 x)) ≡ product 13 x
+unfolding product product_of_bits
+times_13 x h = same_at (λ (y : ℕ). bit_xor (times_5 y) (product 2 (times_4 y))) (product 13) x refl h
+
+times_9 : (x : ℕ) → x < 256 → bit_xor (times_5 x) (product 3 (times_4 x)) ≡ product 9 x
+unfolding product product_of_bits
+times_9 x h = same_at (λ (y : ℕ). bit_xor (times_5 y) (product 3 (times_4 y))) (product 9) x refl h
+
+-- a column that is spread and then mixed is unmixed
+pub mixed-spread : (a b c d : ℕ) → a < 256 → b < 256 → c < 256 → d < 256
+    → mixed (spread a c) (spread b d) (spread c a) (spread d b) ≡ unmixed a b c d
+mixed-spread a b c d ha hb hc hd =
+    let first : product 2 (spread a c) ≡ bit_xor (product 2 (times_5 a)) (product 2 (times_4 c)) =
+    ap (product 2) (spread_parts a c ha hc) ∙ product-bit_xor 2 (times_5 a) (times_4 c) (times_5_below a ha) (times_4_below c hc) in
+    let second : product 3 (spread b d) ≡ bit_xor (product 3 (times_5 b)) (product 3 (times_4 d)) =
+    ap (product 3) (spread_parts b d hb hd) ∙ product-bit_xor 3 (times_5 b) (times_4 d) (times_5_below b hb) (times_4_below d hd) in
+    ap₂ bit_xor (ap₂ bit_xor first second) (ap₂ bit_xor (spread_parts c a hc ha) (spread_parts d b hd hb))
+    ∙ sym (sum4_pairs (product 2 (times_5 a)) (product 3 (times_5 b)) (times_5 c) (times_5 d) (product 2 (times_4 c)) (product 3 (times_4 d)) (times_4 a) (times_4 b))
+    ∙ ap (bit_xor (sum4 (product 2 (times_5 a)) (product 3 (times_5 b)) (times_5 c) (times_5 d)))
+    (sum4_turned (product 2 (times_4 c)) (product 3 (times_4 d)) (times_4 a) (times_4 b) ∙ sum4_turned (times_4 b) (product 2 (times_4 c)) (product 3 (times_4 d)) (times_4 a))
+    ∙ sum4_pairs (product 2 (times_5 a)) (product 3 (times_5 b)) (times_5 c) (times_5 d) (times_4 a) (times_4 b) (product 2 (times_4 c)) (product 3 (times_4 d))
+    ∙ ap₂ bit_xor (ap₂ bit_xor (times_14 a ha) (times_11 b hb)) (ap₂ bit_xor (times_13 c hc) (times_9 d hd))
+
+pub unmixed-bit_xor : (a b c d e f g h : ℕ) → a < 256 → b < 256 → c < 256 → d < 256 → e < 256 → f < 256 → g < 256 → h < 256
+    → unmixed (bit_xor a e) (bit_xor b f) (bit_xor c g) (bit_xor d h) ≡ bit_xor (unmixed a b c d) (unmixed e f g h)
+unmixed-bit_xor a b c d e f g h ha hb hc hd he hf hg hh =
+    ap₂ bit_xor (ap₂ bit_xor (product-bit_xor 14 a e ha he) (product-bit_xor 11 b f hb hf)) (ap₂ bit_xor (product-bit_xor 13 c g hc hg) (product-bit_xor 9 d h hd hh))
+    ∙ sym (sum4_pairs (product 14 a) (product 11 b) (product 13 c) (product 9 d) (product 14 e) (product 11 f) (product 13 g) (product 9 h))

@@ -1,20 +1,22 @@
 -- The keys of the rounds.
-use Rattle.std.proofs.Common.{◌≡◌, ℕ, zero, suc, ◌<◌, ◌≤◌, ◌+◌, ◌*◌, true, eqb, List, [], ◌∷◌, length, take, drop, get_or, set, replicate, refl, sym, ap, ap₂, ◌∙◌, arith, add-one, inl, inr}
+use Rattle.std.proofs.Common.{◌≡◌, ℕ, zero, suc, ◌<◌, ◌+◌, ◌*◌, true, eqb, List, [], ◌∷◌, length, take, drop, get_or, set, replicate, refl, sym, ap, ◌∙◌, arith, add-one, inl, inr}
 use Rattle.std.proofs.lemmas.Bool.{agree_below_at, eqb-true, cases_eq}
 use Rattle.std.proofs.lemmas.List.{get_or-set_same, get_or-set_other}
 use Rattle.std.proofs.lemmas.List.Elements.{All-append, All-take, All-drop, All-cons, All-nil}
 use Rattle.domain_base.specs.Octets.{AreOctets}
+use Rattle.aes_block.specs.Octets.{IsBlock}
+use Rattle.aes_block.specs.Words.{word, columns}
 use Rattle.aes_block.specs.Cipher.{word_at, rotated_word, power_of_x, next_round_key, round_key}
-use Rattle.aes_block.specs.declared.TheConstants.{ROUND_CONSTANTS}
+use Rattle.aes_block.specs.declared.constants.TheConstants.{ROUND_CONSTANTS}
 use Rattle.aes_block.proofs.OctetLemmas.{AreOctets-exclusive_or}
 use Rattle.aes_block.proofs.FieldLemmas.{times_x_below}
 use Rattle.aes_block.proofs.Tables.{AreOctets-sub_octets}
 use Rattle.aes_block.proofs.CodeLemmas.{length-next_round_key}
 
 -- the table of the source
-pub round_constant_at : (n : ℕ) → n < 10 → get_or ROUND_CONSTANTS n 0 ≡ power_of_x n
-unfolding power_of_x
-round_constant_at n h = eqb-true _ _ (agree_below_at (λ (k : ℕ). eqb (get_or ROUND_CONSTANTS k 0) (power_of_x k)) (λ _. true) 10 n refl h)
+pub round_constant_at : (n : ℕ) → n < 10 → get_or ROUND_CONSTANTS n 0 ≡ word (power_of_x n) 0 0 0
+unfolding power_of_x word
+round_constant_at n h = eqb-true _ _ (agree_below_at (λ (k : ℕ). eqb (get_or ROUND_CONSTANTS k 0) (word (power_of_x k) 0 0 0)) (λ _. true) 10 n refl h)
 
 pub power_of_x_below : (n : ℕ) → power_of_x n < 256
 unfolding power_of_x
@@ -58,28 +60,25 @@ unfolding round_key
 AreOctets-round_key key zero are = are
 AreOctets-round_key key (suc n) are = AreOctets-next_round_key (power_of_x n) (round_key key n) (power_of_x_below n) (AreOctets-round_key key n are)
 
--- ---- the loop of the source
+pub IsBlock-round_key : (key : List ℕ) (n : ℕ) → IsBlock key → IsBlock (round_key key n)
+IsBlock-round_key key n b = record {
+  sixteen = length-round_key key n b.sixteen;
+  are_octets = AreOctets-round_key key n b.are_octets;
+}
 
--- the keys up to n are there
-pub keys_more : (keys : List (List ℕ)) (key next used : List ℕ) (n constant : ℕ) → n < 10 → length keys ≡ 11
-    → ((k : ℕ) → k ≤ n → get_or keys k [] ≡ round_key key k) → constant ≡ get_or ROUND_CONSTANTS n 0 → used ≡ get_or keys n []
-    → next ≡ next_round_key constant used
-    → (k : ℕ) → k ≤ n + 1 → get_or (set keys (n + 1) next) k [] ≡ round_key key k
-keys_more keys key next used n constant lt len done is from e k h = elim (cases_eq k (n + 1)) [
+-- ---- the loops of the source
+
+-- the lists up to n are there
+pub filled_more : (lists : List (List ℕ)) (f : ℕ → List ℕ) (n : ℕ) {next : List ℕ} → n < length lists
+    → ((k : ℕ) → k < n → get_or lists k [] ≡ f k) → next ≡ f n
+    → (k : ℕ) → k < n + 1 → get_or (set lists n next) k [] ≡ f k
+filled_more lists f n {next} lt done e k h = elim (cases_eq k n) [
   | inl same ↦
-      ap (λ (w : ℕ). get_or (set keys (n + 1) next) w []) same ∙ get_or-set_same keys (n + 1) next [] (omega arith)
-      ∙ e ∙ ap₂ next_round_key (is ∙ round_constant_at n lt) (from ∙ done n (omega arith))
-      ∙ sym (round_key-more key n) ∙ ap (round_key key) (sym same)
-  | inr other ↦ get_or-set_other keys (n + 1) k next [] other ∙ done k (omega arith)
+      ap (λ (w : ℕ). get_or (set lists n next) w []) same ∙ get_or-set_same lists n next [] lt ∙ e ∙ ap f (sym same)
+  | inr other ↦ get_or-set_other lists n k next [] other ∙ done k (omega arith)
 ]
 
-pub keys_first : (key : List ℕ) (k : ℕ) → k ≤ 0 → get_or (replicate 11 key) k [] ≡ round_key key k
-keys_first key k h =
+pub keys_first : (state key : List ℕ) → state ≡ columns key → (k : ℕ) → k < 1 → get_or (replicate 11 state) k [] ≡ columns (round_key key k)
+keys_first state key e k h =
     let is : k ≡ 0 = omega arith in
-    ap (λ (w : ℕ). get_or (replicate 11 key) w []) is ∙ sym (round_key-zero key) ∙ ap (round_key key) (sym is)
-
--- the first of the keys is the key itself
-pub keys_are : (keys : List (List ℕ)) (key : List ℕ) → ((n : ℕ) → n < 11 → get_or keys n [] ≡ round_key key n)
-    → (n : ℕ) → n < 11 → get_or keys n [] ≡ round_key (get_or keys 0 []) n
-keys_are keys key are n h =
-    are n h ∙ ap (λ (w : List ℕ). round_key w n) (sym (are 0 (omega arith) ∙ round_key-zero key))
+    ap (λ (w : ℕ). get_or (replicate 11 state) w []) is ∙ e ∙ ap columns (sym (round_key-zero key)) ∙ ap (λ (w : ℕ). columns (round_key key w)) (sym is)

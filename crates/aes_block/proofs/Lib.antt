@@ -4,5 +4,7 @@ pub mod OctetLemmas
 pub mod FieldLemmas
 pub mod StateLemmas
 pub mod CodeLemmas
+pub mod WordLemmas
+pub mod RoundLemmas
 pub mod KeyLemmas
 pub mod CipherLemmas

@@ -9,8 +9,10 @@ use Rattle.domain_base.specs.Octets.{AreOctets}
 use Rattle.domain_base.proofs.OctetLemmas.{get_or_below}
 use Rattle.aes_block.specs.Field.{times_x, sub_octet}
 use Rattle.aes_block.specs.State.{entry, state_of, sub_octets, shift_rows, mixed, mix_columns}
-use Rattle.aes_block.proofs.OctetLemmas.{bit_xor_below, bit_xor_twice, bit_xor_swap}
-use Rattle.aes_block.proofs.FieldLemmas.{spread, mixed_twice, product_below, times_x_below}
+use Rattle.aes_block.specs.Octets.{exclusive_or}
+use Rattle.aes_block.specs.Words.{unmixed, unmix_columns}
+use Rattle.aes_block.proofs.OctetLemmas.{bit_xor_below, bit_xor_twice, bit_xor_swap, length-exclusive_or, get_or-exclusive_or}
+use Rattle.aes_block.proofs.FieldLemmas.{spread, mixed_twice, product_below, times_x_below, mixed-spread, unmixed-bit_xor}
 
 -- ---- states by their entries
 
@@ -179,3 +181,89 @@ length-unshifted_rows s = length-state_of _
 pub length-spread_columns : (s : List ℕ) → length (spread_columns s) ≡ 16
 unfolding spread_columns
 length-spread_columns s = length-state_of _
+
+-- ---- the columns unmixed
+
+pub length-unmix_columns : (s : List ℕ) → length (unmix_columns s) ≡ 16
+unfolding unmix_columns
+length-unmix_columns s = length-state_of _
+
+pub AreOctets-unmix_columns : (s : List ℕ) → AreOctets s → AreOctets (unmix_columns s)
+unfolding unmix_columns
+AreOctets-unmix_columns s are = AreOctets-state_of _ (λ r c h k.
+    let at = λ (row : ℕ). get_or_below s (row + 4 * c) are in
+    bit_xor_below _ _ (bit_xor_below _ _ (product_below 14 _ (at r)) (product_below 11 _ (at ((r + 1) % 4))))
+    (bit_xor_below _ _ (product_below 13 _ (at ((r + 2) % 4))) (product_below 9 _ (at ((r + 3) % 4)))))
+
+unmixed_of : List ℕ → ℕ → ℕ → ℕ
+unmixed_of s r c =
+    unmixed (entry s r c) (entry s ((r + 1) % 4) c) (entry s ((r + 2) % 4) c) (entry s ((r + 3) % 4) c)
+
+entry-unmix_columns : (s : List ℕ) (r c : ℕ) → r < 4 → c < 4 → entry (unmix_columns s) r c ≡ unmixed_of s r c
+unfolding unmix_columns unmixed_of
+entry-unmix_columns s r c h k = entry-state_of (unmixed_of s) r c h k
+
+entry-exclusive_or : (s t : List ℕ) (r c : ℕ) → length s ≡ 16 → r < 4 → c < 4
+    → entry (exclusive_or s t) r c ≡ bit_xor (entry s r c) (entry t r c)
+entry-exclusive_or s t r c len h k = get_or-exclusive_or s t (r + 4 * c) (omega arith)
+
+mixed_same : {a b c d e f g h : ℕ} → a ≡ e → b ≡ f → c ≡ g → d ≡ h → mixed a b c d ≡ mixed e f g h
+mixed_same {a} {b} {c} {d} {e} {f} ea eb ec ed = ap₂ (λ (v w : ℕ). mixed v w c d) ea eb ∙ ap₂ (mixed e f) ec ed
+
+unmixed_same : {a b c d e f g h : ℕ} → a ≡ e → b ≡ f → c ≡ g → d ≡ h → unmixed a b c d ≡ unmixed e f g h
+unmixed_same {a} {b} {c} {d} {e} {f} ea eb ec ed = ap₂ (λ (v w : ℕ). unmixed v w c d) ea eb ∙ ap₂ (unmixed e f) ec ed
+
+spread_at : (s : List ℕ) (r r2 c : ℕ) → r < 4 → c < 4 → (r + 2) % 4 ≡ r2 → entry (spread_columns s) r c ≡ spread (entry s r c) (entry s r2 c)
+unfolding spread_columns
+spread_at s r r2 c h k e =
+    entry-state_of (λ (r c : ℕ). spread (entry s r c) (entry s ((r + 2) % 4) c)) r c h k
+    ∙ ap (λ (w : ℕ). spread (entry s r c) (entry s w c)) e
+
+-- unmixing is linear
+pub unmix_columns-exclusive_or : (s t : List ℕ) → length s ≡ 16 → AreOctets s → AreOctets t
+    → unmix_columns (exclusive_or s t) ≡ exclusive_or (unmix_columns s) (unmix_columns t)
+unfolding unmixed_of
+unmix_columns-exclusive_or s t len are are' =
+    let sum : List ℕ = exclusive_or (unmix_columns s) (unmix_columns t) in
+    let len' : length sum ≡ 16 = length-exclusive_or (unmix_columns s) (unmix_columns t) ∙ length-unmix_columns s in
+    let at = λ (row c : ℕ). get_or_below s (row + 4 * c) are in
+    let at' = λ (row c : ℕ). get_or_below t (row + 4 * c) are' in
+    let split = λ (row c : ℕ) (h : row < 4) (k : c < 4). entry-exclusive_or s t row c len h k in
+    sym (state_of-same (entry (unmix_columns (exclusive_or s t))) (unmix_columns (exclusive_or s t)) (length-unmix_columns (exclusive_or s t)) (λ r c h k. refl))
+    ∙ state_of-same (entry (unmix_columns (exclusive_or s t))) sum len' (λ r c h k.
+    let r1 : ℕ = (r + 1) % 4 in
+    let r2 : ℕ = (r + 2) % 4 in
+    let r3 : ℕ = (r + 3) % 4 in
+    entry-unmix_columns (exclusive_or s t) r c h k
+    ∙ unmixed_same (split r c h k) (split r1 c (omega arith) k) (split r2 c (omega arith) k) (split r3 c (omega arith) k)
+    ∙ unmixed-bit_xor (entry s r c) (entry s r1 c) (entry s r2 c) (entry s r3 c) (entry t r c) (entry t r1 c) (entry t r2 c) (entry t r3 c)
+    (at r c) (at r1 c) (at r2 c) (at r3 c) (at' r c) (at' r1 c) (at' r2 c) (at' r3 c)
+    ∙ sym (entry-exclusive_or (unmix_columns s) (unmix_columns t) r c (length-unmix_columns s) h k
+    ∙ ap₂ bit_xor (entry-unmix_columns s r c h k) (entry-unmix_columns t r c h k)))
+
+-- the columns that are spread and mixed are unmixed
+mix_columns-spread_is : (s : List ℕ) → length s ≡ 16 → AreOctets s → mix_columns (spread_columns s) ≡ unmix_columns s
+unfolding unmixed_of
+mix_columns-spread_is s len are =
+    let t : List ℕ = spread_columns s in
+    let at = λ (row c : ℕ). get_or_below s (row + 4 * c) are in
+    sym (state_of-same (entry (mix_columns t)) (mix_columns t) (length-mix_columns t) (λ r c h k. refl))
+    ∙ state_of-same (entry (mix_columns t)) (unmix_columns s) (length-unmix_columns s) (λ r c h k.
+    let r1 : ℕ = (r + 1) % 4 in
+    let r2 : ℕ = (r + 2) % 4 in
+    let r3 : ℕ = (r + 3) % 4 in
+    mixed_from t r r1 r2 r3 c h k refl refl refl
+    ∙ mixed_same (spread_at s r r2 c h k refl) (spread_at s r1 r3 c (omega arith) k (omega arith)) (spread_at s r2 r c (omega arith) k (omega arith)) (spread_at s r3 r1 c (omega arith) k (omega arith))
+    ∙ mixed-spread (entry s r c) (entry s r1 c) (entry s r2 c) (entry s r3 c) (at r c) (at r1 c) (at r2 c) (at r3 c)
+    ∙ sym (entry-unmix_columns s r c h k))
+
+-- columns that are mixed and unmixed are what they were
+pub unmix_columns-mix_columns : (s : List ℕ) → length s ≡ 16 → AreOctets s → unmix_columns (mix_columns s) ≡ s
+unmix_columns-mix_columns s len are =
+    let once : List ℕ = mix_columns s in
+    let is_once : AreOctets once = AreOctets-mix_columns s are in
+    sym (mix_columns-spread_is once (length-mix_columns s) is_once)
+    ∙ ap mix_columns (sym (mix_columns_twice once is_once))
+    ∙ mix_columns_twice (mix_columns once) (AreOctets-mix_columns once is_once)
+    ∙ ap spread_columns (mix_columns_twice s are)
+    ∙ spread_columns_twice s len

@@ -1,4 +1,5 @@
--- The tables of the source are the substitution and its inverse: computed over all 256 octets.
+-- The tables of the source are the substitution and its inverse, and what each octet adds to a column:
+-- computed over all 256 octets.
 use Rattle.std.proofs.Common.{◌≡◌, ℕ, ◌<◌, true, ltb, List, [], ◌∷◌, length, map, get_or, refl, sym, ap, ap₂, ◌∙◌, arith}
 use Rattle.std.proofs.lemmas.Bool.{agree_below_at, ltb-true}
 use Rattle.std.proofs.lemmas.List.{length-map}
@@ -8,7 +9,8 @@ use Rattle.std.specs.List.{range_with_len}
 use Rattle.domain_base.specs.Octets.{AreOctets}
 use Rattle.aes_block.specs.Field.{product_of_bits, product, inverse, affine, sub_octet}
 use Rattle.aes_block.specs.State.{sub_octets}
-use Rattle.aes_block.specs.declared.TheConstants.{SUBSTITUTION, INVERSE_SUBSTITUTION}
+use Rattle.aes_block.specs.Words.{word}
+use Rattle.aes_block.specs.declared.constants.TheConstants.{SUBSTITUTION, INVERSE_SUBSTITUTION, MIXED_FIRST, MIXED_SECOND, MIXED_THIRD, MIXED_FOURTH, UNMIXED_FIRST, UNMIXED_SECOND, UNMIXED_THIRD, UNMIXED_FOURTH}
 use Rattle.aes_block.proofs.FieldLemmas.{same_at}
 
 table_is : SUBSTITUTION ≡ map sub_octet (range_with_len 0 256)
@@ -32,10 +34,60 @@ sub_octet-inverse x h =
     sym (substitution_at (get_or INVERSE_SUBSTITUTION x 0) (inverse_below x h))
     ∙ same_at (λ (y : ℕ). get_or SUBSTITUTION (get_or INVERSE_SUBSTITUTION y 0) 0) (λ (y : ℕ). y) x refl h
 
-inverse-sub_octet : (x : ℕ) → x < 256 → get_or INVERSE_SUBSTITUTION (sub_octet x) 0 ≡ x
+pub inverse-sub_octet : (x : ℕ) → x < 256 → get_or INVERSE_SUBSTITUTION (sub_octet x) 0 ≡ x
 inverse-sub_octet x h =
     ap (λ (w : ℕ). get_or INVERSE_SUBSTITUTION w 0) (sym (substitution_at x h))
     ∙ same_at (λ (y : ℕ). get_or INVERSE_SUBSTITUTION (get_or SUBSTITUTION y 0) 0) (λ (y : ℕ). y) x refl h
+
+-- ---- words
+
+pub mixed_first_at : (x : ℕ) → x < 256 → get_or MIXED_FIRST x 0 ≡ word (product 2 (sub_octet x)) (sub_octet x) (sub_octet x) (product 3 (sub_octet x))
+unfolding word product product_of_bits
+mixed_first_at x h =
+    same_at (λ (y : ℕ). get_or MIXED_FIRST y 0) (λ (y : ℕ). let s : ℕ = get_or SUBSTITUTION y 0 in word (product 2 s) s s (product 3 s)) x refl h
+    ∙ ap (λ (s : ℕ). word (product 2 s) s s (product 3 s)) (substitution_at x h)
+
+pub mixed_second_at : (x : ℕ) → x < 256 → get_or MIXED_SECOND x 0 ≡ word (product 3 (sub_octet x)) (product 2 (sub_octet x)) (sub_octet x) (sub_octet x)
+unfolding word product product_of_bits
+mixed_second_at x h =
+    same_at (λ (y : ℕ). get_or MIXED_SECOND y 0) (λ (y : ℕ). let s : ℕ = get_or SUBSTITUTION y 0 in word (product 3 s) (product 2 s) s s) x refl h
+    ∙ ap (λ (s : ℕ). word (product 3 s) (product 2 s) s s) (substitution_at x h)
+
+pub mixed_third_at : (x : ℕ) → x < 256 → get_or MIXED_THIRD x 0 ≡ word (sub_octet x) (product 3 (sub_octet x)) (product 2 (sub_octet x)) (sub_octet x)
+unfolding word product product_of_bits
+mixed_third_at x h =
+    same_at (λ (y : ℕ). get_or MIXED_THIRD y 0) (λ (y : ℕ). let s : ℕ = get_or SUBSTITUTION y 0 in word s (product 3 s) (product 2 s) s) x refl h
+    ∙ ap (λ (s : ℕ). word s (product 3 s) (product 2 s) s) (substitution_at x h)
+
+pub mixed_fourth_at : (x : ℕ) → x < 256 → get_or MIXED_FOURTH x 0 ≡ word (sub_octet x) (sub_octet x) (product 3 (sub_octet x)) (product 2 (sub_octet x))
+unfolding word product product_of_bits
+mixed_fourth_at x h =
+    same_at (λ (y : ℕ). get_or MIXED_FOURTH y 0) (λ (y : ℕ). let s : ℕ = get_or SUBSTITUTION y 0 in word s s (product 3 s) (product 2 s)) x refl h
+    ∙ ap (λ (s : ℕ). word s s (product 3 s) (product 2 s)) (substitution_at x h)
+
+pub unmixed_first_at : (x : ℕ) → x < 256 → get_or UNMIXED_FIRST (sub_octet x) 0 ≡ word (product 14 x) (product 9 x) (product 13 x) (product 11 x)
+unfolding word product product_of_bits
+unmixed_first_at x h =
+    ap (λ (s : ℕ). get_or UNMIXED_FIRST s 0) (sym (substitution_at x h))
+    ∙ same_at (λ (y : ℕ). get_or UNMIXED_FIRST (get_or SUBSTITUTION y 0) 0) (λ (y : ℕ). word (product 14 y) (product 9 y) (product 13 y) (product 11 y)) x refl h
+
+pub unmixed_second_at : (x : ℕ) → x < 256 → get_or UNMIXED_SECOND (sub_octet x) 0 ≡ word (product 11 x) (product 14 x) (product 9 x) (product 13 x)
+unfolding word product product_of_bits
+unmixed_second_at x h =
+    ap (λ (s : ℕ). get_or UNMIXED_SECOND s 0) (sym (substitution_at x h))
+    ∙ same_at (λ (y : ℕ). get_or UNMIXED_SECOND (get_or SUBSTITUTION y 0) 0) (λ (y : ℕ). word (product 11 y) (product 14 y) (product 9 y) (product 13 y)) x refl h
+
+pub unmixed_third_at : (x : ℕ) → x < 256 → get_or UNMIXED_THIRD (sub_octet x) 0 ≡ word (product 13 x) (product 11 x) (product 14 x) (product 9 x)
+unfolding word product product_of_bits
+unmixed_third_at x h =
+    ap (λ (s : ℕ). get_or UNMIXED_THIRD s 0) (sym (substitution_at x h))
+    ∙ same_at (λ (y : ℕ). get_or UNMIXED_THIRD (get_or SUBSTITUTION y 0) 0) (λ (y : ℕ). word (product 13 y) (product 11 y) (product 14 y) (product 9 y)) x refl h
+
+pub unmixed_fourth_at : (x : ℕ) → x < 256 → get_or UNMIXED_FOURTH (sub_octet x) 0 ≡ word (product 9 x) (product 13 x) (product 11 x) (product 14 x)
+unfolding word product product_of_bits
+unmixed_fourth_at x h =
+    ap (λ (s : ℕ). get_or UNMIXED_FOURTH s 0) (sym (substitution_at x h))
+    ∙ same_at (λ (y : ℕ). get_or UNMIXED_FOURTH (get_or SUBSTITUTION y 0) 0) (λ (y : ℕ). word (product 9 y) (product 13 y) (product 11 y) (product 14 y)) x refl h
 
 -- ---- lists
 

@@ -1,6 +1,6 @@
 //! What the first octets of a header say.
 
-ghost use Rattle.std.specs.Prelude.{◌≡◌, ◌<◌, ◌≤◌, ◌==◌, length};
+ghost use Rattle.std.specs.Prelude.{◌≡◌, ◌<◌, ◌≤◌, ◌==◌, ◌||◌, nat_le, length};
 ghost use Rattle.std.specs.Int.{bit_at};
 ghost use Rattle.air_frame.specs.Control.{frame_control, protocol_version, frame_type, frame_subtype, fragment_number, is_management, is_data, is_qos, has_a_msdu, data_header_length};
 
@@ -55,13 +55,19 @@ fn kind(octets: &[u8]) -> u16
     frame_control(octets) >> 2 & 3
 }
 
+// Whether management frames of that subtype are read.
+fn is_read(subtype: u16) -> bool
+    ensures { result ≡ (nat_le subtype 3 || subtype == 11) }
+{
+    subtype <= 3 || subtype == 11
+}
+
 /// Association, reassociation or authentication.
 pub(crate) fn is_management(octets: &[u8]) -> bool
     requires { 2 ≤ length octets.now }
     ensures { result ≡ is_management octets.now }
 {
-    let subtype = subtype(octets);
-    kind(octets) == 0 && (subtype <= 3 || subtype == 11)
+    kind(octets) == 0 && is_read(subtype(octets))
 }
 
 /// Data or QoS data.

@@ -1,7 +1,7 @@
 //! The first fault of octets that are no frame of the profile.
 
-ghost use Rattle.std.specs.Prelude.{◌≡◌, ◌≤◌, ◌+◌, length};
-ghost use Rattle.air_frame.specs.Control.{data_header_length};
+ghost use Rattle.std.specs.Prelude.{◌≡◌, ◌≤◌, ◌+◌, ◌&&◌, ◌||◌, not, nat_lt, length};
+ghost use Rattle.air_frame.specs.Control.{is_to_ds, is_from_ds, data_header_length};
 ghost use Rattle.air_frame.specs.Faults.{fixed_length, management_fault, begins_eapol, has_ext_iv, data_fault, air_fault};
 
 use crate::control::{
@@ -67,6 +67,23 @@ fn has_ext_iv(octets: &[u8]) -> bool
     is_set(octets[data_header_length(octets) + 3].into(), 5)
 }
 
+// The bits To DS and From DS are both set, or none is.
+fn goes_no_way(octets: &[u8]) -> bool
+    requires { 2 ≤ length octets.now }
+    ensures { result ≡ ((is_to_ds octets.now && is_from_ds octets.now) || (not (is_to_ds octets.now) && not (is_from_ds octets.now))) }
+{
+    let control = frame_control(octets);
+    is_set(control, TO_DS) == is_set(control, FROM_DS)
+}
+
+// The body has no room for the CCMP header and the MIC.
+fn is_short_sealed(octets: &[u8]) -> bool
+    requires { 2 ≤ length octets.now }
+    ensures { result ≡ nat_lt (length octets.now) (data_header_length octets.now + 16) }
+{
+    octets.len() < data_header_length(octets) + 16
+}
+
 // What of a data frame is not of the profile, or its protected body too short.
 fn data_fault(octets: &[u8]) -> Option<AirFault>
     requires { 2 ≤ length octets.now }
@@ -78,7 +95,7 @@ fn data_fault(octets: &[u8]) -> Option<AirFault>
     }
     let control = frame_control(octets);
     let is_protected = is_set(control, PROTECTED);
-    if is_set(control, TO_DS) == is_set(control, FROM_DS) {
+    if goes_no_way(octets) {
         Some(AirFault::OutOfProfile(8))
     } else if is_set(control, MORE_FRAGMENTS) {
         Some(AirFault::OutOfProfile(10))
@@ -90,7 +107,7 @@ fn data_fault(octets: &[u8]) -> Option<AirFault>
         Some(AirFault::OutOfProfile(17))
     } else if !is_protected && !begins_eapol(octets) {
         Some(AirFault::OutOfProfile(18))
-    } else if is_protected && octets.len() < header + 16 {
+    } else if is_protected && is_short_sealed(octets) {
         Some(AirFault::Body(header))
     } else if is_protected && !has_ext_iv(octets) {
         Some(AirFault::OutOfProfile(20))

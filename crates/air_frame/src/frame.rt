@@ -3,7 +3,7 @@
 use domain_base::{Mac, Tid};
 
 /// Which way a data frame goes (IEEE Std 802.11-2020, 9.2.4.1.4).
-#[derive(Clone, Copy, Debug, PartialEq, Eq)]
+#[derive(Clone, Copy, PartialEq, Eq)]
 pub enum Direction {
     /// From a station to its access point: only the bit To DS is set.
     ToDs,
@@ -12,7 +12,7 @@ pub enum Direction {
 }
 
 /// A MAC header (IEEE Std 802.11-2020, 9.2.3).
-#[derive(Clone, Copy, Debug)]
+#[derive(Clone, Copy)]
 pub struct Header<'a> {
     /// The whole header: 24 octets, and 26 in QoS data.
     pub octets: &'a [u8],
@@ -25,7 +25,7 @@ pub struct Header<'a> {
 }
 
 /// An association request (IEEE Std 802.11-2020, 9.3.3.5).
-#[derive(Clone, Copy, Debug)]
+#[derive(Clone, Copy)]
 pub struct AssocReq<'a> {
     /// The MAC header.
     pub header: Header<'a>,
@@ -38,7 +38,7 @@ pub struct AssocReq<'a> {
 }
 
 /// A response to an association or reassociation request (IEEE Std 802.11-2020, 9.3.3.6 and 9.3.3.8).
-#[derive(Clone, Copy, Debug)]
+#[derive(Clone, Copy)]
 pub struct AssocResp<'a> {
     /// The MAC header.
     pub header: Header<'a>,
@@ -53,7 +53,7 @@ pub struct AssocResp<'a> {
 }
 
 /// A reassociation request (IEEE Std 802.11-2020, 9.3.3.7).
-#[derive(Clone, Copy, Debug)]
+#[derive(Clone, Copy)]
 pub struct ReassocReq<'a> {
     /// The MAC header.
     pub header: Header<'a>,
@@ -68,7 +68,7 @@ pub struct ReassocReq<'a> {
 }
 
 /// An authentication frame of the fast transition algorithm (IEEE Std 802.11-2020, 9.3.3.11).
-#[derive(Clone, Copy, Debug)]
+#[derive(Clone, Copy)]
 pub struct FtAuthentication<'a> {
     /// The MAC header.
     pub header: Header<'a>,
@@ -79,7 +79,7 @@ pub struct FtAuthentication<'a> {
 }
 
 /// Data or QoS data (IEEE Std 802.11-2020, 9.3.2.1).
-#[derive(Clone, Copy, Debug)]
+#[derive(Clone, Copy)]
 pub struct Data<'a> {
     /// The MAC header.
     pub header: Header<'a>,
@@ -93,7 +93,7 @@ pub struct Data<'a> {
 }
 
 /// A frame of the profile, over the octets that it was read from.
-#[derive(Clone, Copy, Debug)]
+#[derive(Clone, Copy)]
 pub enum AirFrame<'a> {
     /// An association request.
     AssocReq(AssocReq<'a>),
@@ -138,7 +138,7 @@ impl<'a> AirFrame<'a> {
 }
 
 /// Why octets are no frame of the profile.
-#[derive(Clone, Copy, Debug, PartialEq, Eq)]
+#[derive(Clone, Copy, PartialEq, Eq)]
 pub enum AirFault {
     /// Fewer octets than the Frame Control field or the header has. The place is the number of octets.
     Short(usize),

@@ -7,8 +7,6 @@ mod frame;
 mod laws;
 mod reading;
 mod sending;
-#[cfg(test)]
-mod tests;
 mod writing;
 
 pub use faults::EAPOL_LLC;

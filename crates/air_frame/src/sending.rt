@@ -1,7 +1,7 @@
 //! Headers and frames as they are sent.
 
 ghost use Rattle.std.specs.Prelude.{◌≡◌, ◌≤◌, ◌+◌, ℕ, is_some, if◌then◌else◌, [], length, take, drop};
-ghost use Rattle.air_frame.specs.Sent.{header_octets, management_header_octets, data_header_octets, assoc_req_octets, assoc_resp_octets, re_req_octets, re_resp_octets, ft_req_octets, ft_resp_octets, eapol_data_octets};
+ghost use Rattle.air_frame.specs.Sent.{data_flags, header_octets, management_header_octets, data_header_octets, assoc_req_octets, assoc_resp_octets, re_req_octets, re_resp_octets, ft_req_octets, ft_resp_octets, eapol_data_octets};
 ghost use Rattle.air_frame.specs.Subtypes.{subtype_number};
 
 use crate::faults::EAPOL_LLC;
@@ -18,7 +18,7 @@ pub const CAPABILITY: u16 = 0x0011;
 pub const LISTEN_INTERVAL: u16 = 10;
 
 /// The management frames of the profile (IEEE Std 802.11-2020, 9.2.4.1.3).
-#[derive(Clone, Copy, Debug, PartialEq, Eq)]
+#[derive(Clone, Copy)]
 pub enum Subtype {
     AssocReq,
     AssocResp,
@@ -64,7 +64,7 @@ pub fn management_header(subtype: Subtype, a1: Mac, a2: Mac, a3: Mac) -> [u8; 24
 }
 
 /// The header of a data frame as it is sent: 24 octets, or 26 with a TID. Contracts see its octets.
-#[derive(Debug, Drop)]
+#[derive(Drop)]
 pub struct DataHeader {
     octets: [u8; 26],
     len: usize,
@@ -89,6 +89,18 @@ impl DataHeader {
     }
 }
 
+// The second octet of the Frame Control field of a data frame.
+fn data_flags(direction: Direction, is_protected: bool) -> u8
+    ensures { result ≡ data_flags direction is_protected }
+{
+    match (direction, is_protected) {
+        (Direction::ToDs, false) => 0x01,
+        (Direction::FromDs, false) => 0x02,
+        (Direction::ToDs, true) => 0x41,
+        (Direction::FromDs, true) => 0x42,
+    }
+}
+
 /// The header of a data frame as it is sent: the bit of its direction is set, that of protection if it is protected,
 /// and with a TID it is QoS data. Duration, sequence control and all else are zero. No memory is taken.
 pub fn data_header(
@@ -102,11 +114,7 @@ pub fn data_header(
     ensures octets { result ≡ data_header_octets direction is_protected tid a1.0 a2.0 a3.0 }
     ensures size { length result ≡ (if is_some tid then 26 else 24) }
 {
-    let flags = match direction {
-        Direction::ToDs => 1,
-        Direction::FromDs => 2,
-    };
-    let flags = if is_protected { flags + 0x40 } else { flags };
+    let flags = data_flags(direction, is_protected);
     let mut octets = [0; 26];
     match tid {
         None => {

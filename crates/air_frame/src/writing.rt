@@ -7,7 +7,7 @@ ghost use Rattle.air_frame.specs.Sent.{air_octets};
 ghost use Rattle.air_frame.specs.Views.{fields_of};
 
 use crate::faults::EAPOL_LLC;
-use crate::frame::AirFrame;
+use crate::frame::{AirFrame, AssocReq, AssocResp, FtAuthentication, ReassocReq};
 use crate::reading::FT_ALGORITHM;
 use domain_base::put;
 
@@ -43,6 +43,67 @@ pub(crate) fn put_frame(out: &mut [u8], header: &[u8], fixed: &[u8], rest: &[u8]
     put(out, at, rest)
 }
 
+// Writes the octets of an association request.
+fn put_assoc_req(f: &AssocReq<'_>, out: &mut [u8]) -> usize
+    requires { length (air_octets (fields_of (AirFrame.AssocReq f.now))) ≤ length out.old }
+    ensures size { result ≡ length (air_octets (fields_of (AirFrame.AssocReq f.now))) }
+    ensures octets { take result out.new ≡ air_octets (fields_of (AirFrame.AssocReq f.now)) }
+    ensures rest { (n : ℕ) → result ≤ n → drop n out.new ≡ drop n out.old }
+    ensures len { length out.new ≡ length out.old }
+{
+    let fixed = two_numbers(f.capability, f.listen_interval);
+    put_frame(out, f.header.octets, &fixed, f.elements)
+}
+
+// Writes the octets of a response to an association or a reassociation request.
+fn put_response(f: &AssocResp<'_>, out: &mut [u8]) -> usize
+    requires { length (air_octets (fields_of (AirFrame.AssocResp f.now))) ≤ length out.old }
+    ensures size { result ≡ length (air_octets (fields_of (AirFrame.AssocResp f.now))) }
+    ensures octets { take result out.new ≡ air_octets (fields_of (AirFrame.AssocResp f.now)) }
+    ensures rest { (n : ℕ) → result ≤ n → drop n out.new ≡ drop n out.old }
+    ensures len { length out.new ≡ length out.old }
+{
+    let fixed = three_numbers(f.capability, f.status, f.aid);
+    put_frame(out, f.header.octets, &fixed, f.elements)
+}
+
+// Writes the octets of a reassociation request.
+fn put_re_req(f: &ReassocReq<'_>, out: &mut [u8]) -> usize
+    requires { length (air_octets (fields_of (AirFrame.ReReq f.now))) ≤ length out.old }
+    ensures size { result ≡ length (air_octets (fields_of (AirFrame.ReReq f.now))) }
+    ensures octets { take result out.new ≡ air_octets (fields_of (AirFrame.ReReq f.now)) }
+    ensures rest { (n : ℕ) → result ≤ n → drop n out.new ≡ drop n out.old }
+    ensures len { length out.new ≡ length out.old }
+{
+    let fixed = two_numbers(f.capability, f.listen_interval);
+    let at = put_frame(out, f.header.octets, &fixed, &f.current_ap.0);
+    put(out, at, f.elements)
+}
+
+// Writes the octets of the first message of a fast transition.
+fn put_ft_req(f: &FtAuthentication<'_>, out: &mut [u8]) -> usize
+    requires { length (air_octets (fields_of (AirFrame.FtReq f.now))) ≤ length out.old }
+    ensures size { result ≡ length (air_octets (fields_of (AirFrame.FtReq f.now))) }
+    ensures octets { take result out.new ≡ air_octets (fields_of (AirFrame.FtReq f.now)) }
+    ensures rest { (n : ℕ) → result ≤ n → drop n out.new ≡ drop n out.old }
+    ensures len { length out.new ≡ length out.old }
+{
+    let fixed = three_numbers(FT_ALGORITHM, 1, f.status);
+    put_frame(out, f.header.octets, &fixed, f.elements)
+}
+
+// Writes the octets of the second message of a fast transition.
+fn put_ft_resp(f: &FtAuthentication<'_>, out: &mut [u8]) -> usize
+    requires { length (air_octets (fields_of (AirFrame.FtResp f.now))) ≤ length out.old }
+    ensures size { result ≡ length (air_octets (fields_of (AirFrame.FtResp f.now))) }
+    ensures octets { take result out.new ≡ air_octets (fields_of (AirFrame.FtResp f.now)) }
+    ensures rest { (n : ℕ) → result ≤ n → drop n out.new ≡ drop n out.old }
+    ensures len { length out.new ≡ length out.old }
+{
+    let fixed = three_numbers(FT_ALGORITHM, 2, f.status);
+    put_frame(out, f.header.octets, &fixed, f.elements)
+}
+
 // Writes the octets of the frame, none for `Ignored`.
 fn put_octets(frame: &AirFrame<'_>, out: &mut [u8]) -> usize
     requires { length (air_octets (fields_of frame.now)) ≤ length out.old }
@@ -52,27 +113,11 @@ fn put_octets(frame: &AirFrame<'_>, out: &mut [u8]) -> usize
     ensures len { length out.new ≡ length out.old }
 {
     match frame {
-        AirFrame::AssocReq(f) => {
-            let fixed = two_numbers(f.capability, f.listen_interval);
-            put_frame(out, f.header.octets, &fixed, f.elements)
-        }
-        AirFrame::AssocResp(f) | AirFrame::ReResp(f) => {
-            let fixed = three_numbers(f.capability, f.status, f.aid);
-            put_frame(out, f.header.octets, &fixed, f.elements)
-        }
-        AirFrame::ReReq(f) => {
-            let fixed = two_numbers(f.capability, f.listen_interval);
-            let at = put_frame(out, f.header.octets, &fixed, &f.current_ap.0);
-            put(out, at, f.elements)
-        }
-        AirFrame::FtReq(f) => {
-            let fixed = three_numbers(FT_ALGORITHM, 1, f.status);
-            put_frame(out, f.header.octets, &fixed, f.elements)
-        }
-        AirFrame::FtResp(f) => {
-            let fixed = three_numbers(FT_ALGORITHM, 2, f.status);
-            put_frame(out, f.header.octets, &fixed, f.elements)
-        }
+        AirFrame::AssocReq(f) => put_assoc_req(f, out),
+        AirFrame::AssocResp(f) | AirFrame::ReResp(f) => put_response(f, out),
+        AirFrame::ReReq(f) => put_re_req(f, out),
+        AirFrame::FtReq(f) => put_ft_req(f, out),
+        AirFrame::FtResp(f) => put_ft_resp(f, out),
         AirFrame::Eapol(f) => put_frame(out, f.header.octets, &EAPOL_LLC, f.body),
         AirFrame::Protected(f) => put_frame(out, f.header.octets, &[], f.body),
         AirFrame::Ignored => 0,

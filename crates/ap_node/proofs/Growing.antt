@@ -7,8 +7,8 @@ use Rattle.run_journal.specs.declared.domain.Domain.{Domain}
 use Rattle.run_journal.specs.declared.acts.Act.{Act}
 use Rattle.run_journal.specs.declared.reply.Keyed.{Keyed}
 use Rattle.run_journal.specs.Acts.{Derivation}
-use Rattle.domain_rules.specs.Network.{IsListed}
-use Rattle.domain_rules.specs.Verdict.{HasRsne}
+use Rattle.domain_rules.specs.Network.{IsListed, root}
+use Rattle.domain_rules.specs.AccessPointKeys.{HasRsne}
 use Rattle.key_hierarchy.specs.declared.inputs.Inputs.{Inputs}
 use Rattle.node_frames.specs.Growing.{Grows}
 use Rattle.node_frames.proofs.Grown.{ends_grown, inputs_grown, listed_grown}
@@ -18,7 +18,7 @@ use Rattle.authenticator.specs.Stands.{Stands as PartStands, StandsIn, IsAgreed}
 use Rattle.ap_node.specs.State.{State, station_at}
 use Rattle.ap_node.specs.Stands.{HasAttempt, HasSession, Stands}
 
-key_grown : (d e : Domain) (n p : Node) (y : Keyed) → Grows d e → IsListed d n → IsListed d p → key_by d n p y ≡ key_by e n p y
+key_grown : (d e : Domain) (n p : Node) (y : Keyed) → Grows d e → IsListed d n → IsListed d p → key_by d (root d) n p y ≡ key_by e (root e) n p y
 key_grown d e n p y g here there = ap (λ (i : Inputs). record { inputs = i; ptk = y.ptk }) (sym (inputs_grown d e n p y g here there))
 
 agreed_grown : (d e : Domain) (n p : Node) (o : Option Agreed) (m3s : ℕ) (part h : List Act) → Grows d e → IsListed d n → IsListed d p → IsAgreed d n p o m3s part h → IsAgreed e n p o m3s part h

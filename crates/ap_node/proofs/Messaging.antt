@@ -7,8 +7,9 @@ use Rattle.run_journal.specs.declared.domain.Domain.{Domain}
 use Rattle.run_journal.specs.declared.acts.Outcome.{Outcome}
 use Rattle.run_journal.specs.declared.acts.Act.{Act}
 use Rattle.run_journal.specs.declared.reply.Reply.{Reply}
-use Rattle.run_journal.specs.Questions.{gtks, add}
+use Rattle.run_journal.specs.Questions.{group_keys, add}
 use Rattle.domain_rules.specs.Replies.{IsMessageFrom, reply_acts}
+use Rattle.run_journal.specs.GroupKinds as groups
 use Rattle.group_key.specs.Holds.{IsLast, Holds}
 use Rattle.group_key.specs.declared.keys.GroupKey.{GroupKey}
 use Rattle.node_frames.specs.declared.delivered.KeyMessage.{KeyMessage}
@@ -53,5 +54,5 @@ takes_message d old new octets sta message g had outcome r waited waits w number
       });
     })
   where
-    key_is : (h : List Act) → Holds old.group h → IsLast g (gtks h)
-    key_is h holds = subst (λ (k : GroupKey). IsLast k (gtks h)) (sym newest) holds.newest
+    key_is : (h : List Act) → Holds old.group h → IsLast g (group_keys groups.Gtk h)
+    key_is h holds = subst (λ (k : GroupKey). IsLast k (group_keys groups.Gtk h)) (sym newest) holds.newest

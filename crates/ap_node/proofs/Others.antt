@@ -13,11 +13,12 @@ use Rattle.run_journal.specs.declared.acts.Outcome.TheVariants.{Ignored, Refused
 use Rattle.run_journal.specs.declared.acts.Seal.{Seal}
 use Rattle.run_journal.specs.declared.acts.Act.{Act}
 use Rattle.run_journal.specs.declared.acts.Act.TheVariants.{Took, Idle}
-use Rattle.run_journal.specs.Questions.{gtks, switches, group_uses, draws, add}
+use Rattle.run_journal.specs.Questions.{group_keys, switches, group_uses, draws, add}
 use Rattle.domain_rules.specs.GroupKeys.{newest_uses}
 use Rattle.domain_rules.specs.Rows.{response}
 use Rattle.domain_rules.proofs.Parts.{apart-refused, apart-ignored, apart-idle}
 use Rattle.domain_rules.proofs.Effects.{response-apart, refused_acts, as_before-refused}
+use Rattle.run_journal.specs.GroupKinds as groups
 use Rattle.group_key.specs.Keys.{Pair}
 use Rattle.group_key.specs.Holds.{IsLast, Holds}
 use Rattle.node_frames.proofs.RepliedActs.{IsAbout, about_gtks, about_switches, about_uses}
@@ -27,9 +28,9 @@ use Rattle.authenticator.proofs.Standing.{IsOther, other_on}
 
 -- no group key was drawn or made current, and no packet number was used
 pub record IsSameGroup (old new : List Act) : Type 0 where
-  pub gtks_are : gtks new ≡ gtks old
-  pub switches_are : switches new ≡ switches old
-  pub uses_are : group_uses new ≡ group_uses old
+  pub gtks_are : group_keys groups.Gtk new ≡ group_keys groups.Gtk old
+  pub switches_are : switches groups.Gtk new ≡ switches groups.Gtk old
+  pub uses_are : group_uses groups.Gtk new ≡ group_uses groups.Gtk old
 
 pub same_group : (h : List Act) → IsSameGroup h h
 same_group h = record { gtks_are = refl; switches_are = refl; uses_are = refl }
@@ -45,8 +46,8 @@ uses_by : (b : _) (n : ℕ) → n ≡ 0 → cond b n 0 ≡ 0
 uses_by true n is = is
 uses_by false n is = refl
 
-pub uses_none : (h : List Act) → group_uses h ≡ 0 → newest_uses h ≡ 0
-uses_none h is = uses_by _ (group_uses h) is
+pub uses_none : (h : List Act) → group_uses groups.Gtk h ≡ 0 → newest_uses groups.Gtk h ≡ 0
+uses_none h is = uses_by _ (group_uses groups.Gtk h) is
 
 -- acts about one node leave them
 pub about_group : (p : Node) (g h : List Act) → AllByRecursion (IsAbout p) g → IsSameGroup h (add g h)

@@ -10,7 +10,7 @@ use Rattle.domain_base.specs.declared.names.Node.TheVariants.{Ap, Sta}
 use Rattle.domain_base.specs.declared.names.Mac.{Mac}
 use Rattle.eapol_key.specs.KeyFrame.{KeyFields}
 use Rattle.eapol_key.specs.declared.messages.Message.{Message}
-use Rattle.eapol_key.specs.declared.messages.Message.TheVariants.{M1, M2, M3, G1}
+use Rattle.eapol_key.specs.declared.messages.Message.TheVariants.{M1, M2, M3, M4, G1, G2}
 use Rattle.run_journal.specs.declared.domain.Domain.{Domain}
 use Rattle.run_journal.specs.declared.acts.Kind.{Kind}
 use Rattle.run_journal.specs.declared.acts.Kind.TheVariants as kind
@@ -29,14 +29,18 @@ use Rattle.domain_rules.specs.Counters.{next_in_session, sent_count}
 use Rattle.domain_rules.specs.GroupKeys.{give_by, find_key, memory}
 use Rattle.domain_rules.specs.Reading.{KeyMessage}
 use Rattle.domain_rules.specs.Replies.{reply_acts, sent_acts}
-use Rattle.domain_rules.specs.Rows.{TakeRow, By_assoc_req, By_assoc_resp, By_m1, By_m2, By_m3, By_repeated_m3, By_m4, By_ignored, By_refusal, TakeRows, Take, Adds, close_attempt, close_session, response, most_sends, again_or_give_up, m3_again, retry_attempt, retry_acts}
-use Rattle.domain_rules.specs.Verdict.{Facts, by_connect, has_heard}
+use Rattle.domain_rules.specs.Rows.{TakeRow, By_assoc_req, By_assoc_resp, By_m1, By_m2, By_m3, By_repeated_m3, By_m4, By_ignored, By_refusal, TakeRows, Take, Adds, response}
+use Rattle.domain_rules.specs.Closing.{close_attempt, close_session}
+use Rattle.domain_rules.specs.AccessPointRows.{most_sends, again_or_give_up, m3_again, retry_attempt, retry_acts}
+use Rattle.domain_rules.specs.Facts.{Facts}
+use Rattle.domain_rules.specs.Asking.{by_connect, has_heard}
 use Rattle.domain_rules.specs.Reading.{Reading}
 use Rattle.domain_rules.proofs.Parts.{same-refl, attempt_none, attempt_ends, leaves_pending}
+use Rattle.run_journal.specs.GroupKinds as groups
 use Rattle.group_key.specs.declared.keys.GroupKey.{GroupKey}
 use Rattle.node_frames.proofs.RepliedActs.{EndsNone, sent_ends, replied_ends, ends_session, IsEnd, replied_end, all_joined}
 use Rattle.authenticator.specs.State.{State as Part, Stage, Attempt, Session, GivenUp}
-use Rattle.authenticator.specs.Stands.{Stands as PartStands, StandsIn, IsAsked}
+use Rattle.authenticator.specs.Stands.{Stands as PartStands, StandsIn, IsAsked, IsAskedOf}
 use Rattle.authenticator.specs.Steps.{Steps, IsAttempt, IsSession, IsSessionUnder, IsStaged, retried_acts, given_up}
 use Rattle.authenticator.specs.Taken.{StepsFrom, RetriesFrom, IsStagedBy}
 use Rattle.authenticator.proofs.Standing.{counts_more}
@@ -65,7 +69,7 @@ end_no_g1 : (p q : Node) (o : Option Derivation) → AllByRecursion (IsNoG1 p) (
 end_no_g1 p q None = tt
 end_no_g1 p q (Some x) = (refl, tt)
 
-give_no_g1 : (p q : Node) (b : Mac) (g : Carried) (o : Option Carried) → IsNoG1 p (give_by q b g o)
+give_no_g1 : (p q : Node) (b : Mac) (g : Carried) (o : Option Carried) → IsNoG1 p (give_by groups.Gtk q b g o)
 give_no_g1 p q b g None = refl
 give_no_g1 p q b g (Some kept) = refl
 
@@ -80,7 +84,7 @@ rows_no_g1 d first n h octets r facts g p (By_assoc_resp w) = subst (AllByRecurs
 rows_no_g1 d first n h octets r facts g p (By_m1 w) = subst (AllByRecursion (IsNoG1 p)) (sym w.says) (refl, (refl, (nothing_by (same p w.p) _ refl, tt)))
 rows_no_g1 d first n h octets r facts g p (By_m2 w) = subst (AllByRecursion (IsNoG1 p)) (sym w.says) (refl, (refl, (nothing_by (same p w.p) _ refl, tt)))
 rows_no_g1 d first n h octets r facts g p (By_m3 w) =
-    subst (AllByRecursion (IsNoG1 p)) (sym w.says) (refl, (refl, (give_no_g1 p w.p _ _ (find_key _ (memory w.p h)), (refl, (nothing_by (same p w.p) _ refl, tt)))))
+    subst (AllByRecursion (IsNoG1 p)) (sym w.says) (refl, (refl, (give_no_g1 p w.p _ _ (find_key _ (memory groups.Gtk w.p h)), (refl, (nothing_by (same p w.p) _ refl, tt)))))
 rows_no_g1 d first n h octets r facts g p (By_repeated_m3 w) = subst (AllByRecursion (IsNoG1 p)) (sym w.says) (refl, (nothing_by (same p w.p) _ refl, tt))
 rows_no_g1 d first n h octets r facts g p (By_m4 w) =
     subst (AllByRecursion (IsNoG1 p)) (sym w.says) (refl, all_joined (IsNoG1 p) (close_session w.p (session w.p h)) _ (end_no_g1 p w.p (session w.p h)) (refl, (refl, tt)))
@@ -139,12 +143,20 @@ asked p (Attempt a) h is = tt
 asked p (Session key next) h is = absurd is
 asked p GivenUp h is = absurd is
 
+asked_of : (m : Message) (p : Node) (s : Stage) (h : List Act) → IsAttempt s → IsAskedOf m p s h
+asked_of M1 p s h is = asked p s h is
+asked_of M2 p s h is = asked p s h is
+asked_of M3 p s h is = asked p s h is
+asked_of M4 p s h is = asked p s h is
+asked_of G1 p s h is = asked p s h is
+asked_of G2 p s h is = tt
+
 abbrev pub placed : Option Part → Option Part → Station
 placed a s = record { attempt = a; session = s }
 
 -- the steps of the part, where there is a session by what the access point has
 record IsPartStep (d : Domain) (first a_ sta : ℕ) (octets : List ℕ) (k : KeyMessage) (s : Option Part) (b : Part) (outcome : Outcome) (r : Reply) (h : List Act) : Type 0 where
-  adds : Adds d first (Ap a_) h (Take octets) (reply_acts d (Ap a_) (Sta sta) (is_some s) octets k outcome r)
+  adds : TakeRow d first (Ap a_) h octets (reply_acts d (Ap a_) (Sta sta) (is_some s) octets k outcome r)
   stands : PartStands d (Ap a_) (Sta sta) b (add (reply_acts d (Ap a_) (Sta sta) (is_some s) octets k outcome r) h)
 
 part_step : (d : Domain) (first a_ sta : ℕ) (octets : List ℕ) (k : KeyMessage) (s : Option Part) (b : Part) (outcome : Outcome) (r : Reply) (h : List Act) → HasSession d (Ap a_) sta s h
@@ -152,7 +164,7 @@ part_step : (d : Domain) (first a_ sta : ℕ) (octets : List ℕ) (k : KeyMessag
 part_step d first a_ sta octets k s b outcome r h held x =
     let had = has_session d (Ap a_) sta s h held in
     record {
-      adds = subst (λ (y : Bool). Adds d first (Ap a_) h (Take octets) (reply_acts d (Ap a_) (Sta sta) y octets k outcome r)) had x.adds;
+      adds = subst (λ (y : Bool). TakeRow d first (Ap a_) h octets (reply_acts d (Ap a_) (Sta sta) y octets k outcome r)) had x.adds;
       stands = subst (λ (y : Bool). PartStands d (Ap a_) (Sta sta) b (add (reply_acts d (Ap a_) (Sta sta) y octets k outcome r) h)) had x.stands;
     }
 
@@ -160,7 +172,7 @@ pub step_kept : (a b : Part) (s : Option Part) (message : Message) (f : KeyField
     → PlaceSteps (placed (Some a) s) (placed (Some b) s) message f whole g outcome r
 step_kept a b s message f whole g outcome r steps staged none d first a_ sta octets k h at key uses from m fields_are octets_are =
     let a_at = at.attempt_is in
-    let x = part_step d first a_ sta octets k s b outcome r h at.session_is (steps d first a_ sta octets k h a_at.1 (asked (Sta sta) a.stage h a_at.2) key uses from m fields_are octets_are) in
+    let x = part_step d first a_ sta octets k s b outcome r h at.session_is (steps d first a_ sta octets k h a_at.1 (asked_of _ (Sta sta) a.stage h a_at.2) key uses from m fields_are octets_are) in
     let acts = reply_acts d (Ap a_) (Sta sta) (is_some s) octets k outcome r in
     let here = subst (λ (o : Option Keyed). IsStaged o a b) none staged in
     record {
@@ -180,7 +192,7 @@ pub step_installed : (a b : Part) (s : Option Part) (message : Message) (f : Key
     → PlaceSteps (placed (Some a) s) (placed None (Some b)) message f whole g outcome r
 step_installed a b s message f whole g outcome r y steps staged some d first a_ sta octets k h at key uses from m fields_are octets_are =
     let a_at = at.attempt_is in
-    let x = part_step d first a_ sta octets k s b outcome r h at.session_is (steps d first a_ sta octets k h a_at.1 (asked (Sta sta) a.stage h a_at.2) key uses from m fields_are octets_are) in
+    let x = part_step d first a_ sta octets k s b outcome r h at.session_is (steps d first a_ sta octets k h a_at.1 (asked_of _ (Sta sta) a.stage h a_at.2) key uses from m fields_are octets_are) in
     let acts = reply_acts d (Ap a_) (Sta sta) (is_some s) octets k outcome r in
     let here = subst (λ (o : Option Keyed). IsStaged o a b) some staged in
     record {

@@ -1,5 +1,5 @@
 -- Frames that change nothing.
-use Rattle.std.proofs.Common.{◌≡◌, ℕ, Bool, false, List, [], ◌∷◌, ◌++◌, Option, Some, None, refl, sym, ap, subst, ◌∙◌, inl, inr}
+use Rattle.std.proofs.Common.{◌+◌, ◌≡◌, ℕ, Bool, false, List, [], ◌∷◌, ◌++◌, Option, Some, None, refl, sym, ap, subst, ◌∙◌, inl, inr}
 use Rattle.std.specs.Prelude.{is_some}
 use Rattle.domain_base.specs.declared.names.Node.{Node}
 use Rattle.domain_base.specs.declared.names.Node.TheVariants.{Ap, Sta}
@@ -18,18 +18,20 @@ use Rattle.run_journal.specs.declared.acts.Outcome.TheVariants.{Ignored, Refused
 use Rattle.run_journal.specs.declared.acts.Seal.{Seal}
 use Rattle.run_journal.specs.declared.acts.Act.{Act}
 use Rattle.run_journal.specs.declared.acts.Act.TheVariants.{Took}
-use Rattle.run_journal.specs.Questions.{add, attempt}
+use Rattle.run_journal.specs.Questions.{add, attempt, draws}
 use Rattle.domain_rules.specs.Reading.{Management, KeyMessage, Reading, PassedOver, Managed, Keyed, Reads, kind_of}
-use Rattle.domain_rules.specs.Verdict.{ComesSoFar, first_verdict, further, and_then, management_verdict, key_verdict}
-use Rattle.domain_rules.specs.Rows.{By_ignored, By_refusal, sender, seal_in, response}
+use Rattle.domain_rules.specs.Verdict.{ComesSoFar, first_verdict, further, and_then, key_verdict}
+use Rattle.domain_rules.specs.Associating.{management_verdict}
+use Rattle.domain_rules.specs.Rows.{By_ignored, By_refusal, seal_in, response}
+use Rattle.domain_rules.specs.Closing.{sender}
 use Rattle.domain_rules.proofs.Effects.{refused_acts}
-use Rattle.domain_rules.proofs.Refused.{IsRefused, no_facts, refused_first, quiet_seal}
+use Rattle.domain_rules.proofs.Refused.{IsRefused, no_facts, refused_first}
 use Rattle.domain_rules.proofs.Verdicts.{unawaited-m2}
 use Rattle.node_frames.specs.declared.delivered.Management.{Management as AnyFrame}
 use Rattle.node_frames.specs.declared.delivered.KeyMessage.{KeyMessage as AnyMessage}
 use Rattle.node_frames.specs.Views.{management_fields, message_fields}
 use Rattle.node_frames.specs.declared.judging.Judged.TheVariants as judged
-use Rattle.node_frames.specs.Judging.{IsJudged, IsQuiet, IsSettled}
+use Rattle.node_frames.specs.Judging.{IsJudged, IsSilent, IsSettled}
 use Rattle.ap_node.specs.State.{State, station_at}
 use Rattle.ap_node.specs.Stands.{Stands}
 use Rattle.ap_node.specs.Takes.{Takes, IsManagedAtAp, IsKeyedAtAp}
@@ -57,11 +59,11 @@ takes_refused d s octets r from k why seal answer waited waits reads from_is kin
 -- ---- refused by the frame and the history alone
 
 pub takes_quiet : (d : Domain) (s : State) (octets : List ℕ) (r : Reading) (from : Option Node) (k : Kind) (why : Reason) (waited waits : List Act) → Reads d.akm octets r → from ≡ sender d (Ap s.number) r → k ≡ kind_of r
-    → IsQuiet d (Ap s.number) why → ((first : ℕ) (h : List Act) → Stands d first s h → first_verdict d first (Ap s.number) h r ≡ Refused why) → waits ≡ waited ++ Took from octets k (Refused why) None ∷ []
+    → IsSilent d (Ap s.number) why → ((first : ℕ) (h : List Act) → Stands d first s h → first_verdict d first (Ap s.number) h r ≡ Refused why) → waits ≡ waited ++ Took from octets k (Refused why) None ∷ []
     → Takes d s s octets waited waits (Refused why)
 takes_quiet d s octets r from k why waited waits reads from_is kind_is quiet refused waiting =
-    takes_refused d s octets r from k why None [] waited waits reads from_is kind_is (sym (quiet.silent from k))
-    (λ first h stands. refused_first d first (Ap s.number) h r why None (refused first h stands) (quiet_seal why (seal_in d (Ap s.number) h r) quiet.before_mic)) waiting
+    takes_refused d s octets r from k why None [] waited waits reads from_is kind_is (sym (quiet from k))
+    (λ first h stands. refused_first d first (Ap s.number) h r why (refused first h stands)) waiting
 
 -- ---- ignored
 
@@ -106,10 +108,10 @@ unawaited_silent : (d : Domain) (n : Node) (from : Option Node) (k : Kind) → r
 unawaited_silent d (Ap a) (Some p) kind.AssocReq = refl
 unawaited_silent d n from k = refl
 
-pub unawaited_quiet : (d : Domain) (n : Node) → IsQuiet d n reason.Unawaited
-unawaited_quiet d n = record { before_mic = refl; silent = unawaited_silent d n }
+pub unawaited_quiet : (d : Domain) (n : Node) → IsSilent d n reason.Unawaited
+unawaited_quiet d n = unawaited_silent d n
 
-pub other_kind : (d : Domain) (first a : ℕ) (h : List Act) (p : Node) (k : Kind) (b : Management) (e : ElementFields) → (k ≡ kind.AssocReq → ⊥) → management_verdict d first (Ap a) h p k b e ≡ Refused reason.Unawaited
+pub other_kind : (d : Domain) (drawn a : ℕ) (h : List Act) (p : Node) (k : Kind) (b : Management) (e : ElementFields) → (k ≡ kind.AssocReq → ⊥) → management_verdict d drawn (Ap a) h p k b e ≡ Refused reason.Unawaited
 other_kind d first a h p kind.AssocReq b e other = absurd (other refl)
 other_kind d first a h p k b e other = refl
 
@@ -117,13 +119,13 @@ pub takes_other_frame : (d : Domain) (s : State) (octets : List ℕ) (from : Nod
     → waits ≡ waited ++ Took (Some from) octets k (Refused reason.Unawaited) None ∷ [] → Takes d s s octets waited waits (Refused reason.Unawaited)
 takes_other_frame d s octets from frame elements k waited waits w is other waiting =
     takes_quiet d s octets (Managed (management_fields frame) (element_fields elements)) (Some from) k reason.Unawaited waited waits w.reads (sym w.judged.1) is (unawaited_quiet d (Ap s.number))
-    (λ first h stands. w.judged.3 first h ∙ other_kind d first s.number h from frame.kind (management_fields frame) (element_fields elements) (λ same. other (is ∙ same))) waiting
+    (λ first h stands. w.judged.3 first h ∙ other_kind d (first + draws h) s.number h from frame.kind (management_fields frame) (element_fields elements) (λ same. other (is ∙ same))) waiting
 
 -- an EAPOL-Key message is unawaited where there is no attempt
-unawaited_message : (d : Domain) (a : ℕ) (h : List Act) (p : Node) (m : Message) (k : KeyMessage) → attempt p h ≡ None → key_verdict d (Ap a) h p m k ≡ Refused reason.Unawaited
-unawaited_message d a h p M2 k none = unawaited-m2 d (Ap a) h p k none
-unawaited_message d a h p M4 k none = rw none refl
-unawaited_message d a h p m k none = refl
+unawaited_message : (d : Domain) (drawn a : ℕ) (h : List Act) (p : Node) (k : KeyMessage) (m : Message) → attempt p h ≡ None → key_verdict d drawn (Ap a) h p k m ≡ Refused reason.Unawaited
+unawaited_message d drawn a h p k M2 none = unawaited-m2 d (Ap a) h p k none
+unawaited_message d drawn a h p k M4 none = rw none refl
+unawaited_message d drawn a h p k m none = refl
 
 pub takes_unawaited : (d : Domain) (s : State) (octets : List ℕ) (sta : ℕ) (message : AnyMessage) (had : Bool) (waited waits : List Act) → IsKeyedAtAp d s.number octets (Sta sta) message
     → had ≡ is_some (station_at s.stations sta).attempt → had ≡ false
@@ -131,7 +133,7 @@ pub takes_unawaited : (d : Domain) (s : State) (octets : List ℕ) (sta : ℕ) (
 takes_unawaited d s octets sta message had waited waits w had_is none waiting =
     takes_quiet d s octets (Keyed (message_fields message)) (Some (Sta sta)) (kind.Key message.message) reason.Unawaited waited waits w.reads (sym w.judged.1) refl (unawaited_quiet d (Ap s.number))
     (λ first h stands. w.judged.4 first h
-    ∙ unawaited_message d s.number h (Sta sta) message.message (message_fields message) (no_attempt d (Ap s.number) sta (station_at s.stations sta).attempt h (sym had_is ∙ none) (stands.peers sta).attempt_is)) waiting
+    ∙ unawaited_message d (first + draws h) s.number h (Sta sta) (message_fields message) message.message (no_attempt d (Ap s.number) sta (station_at s.stations sta).attempt h (sym had_is ∙ none) (stands.peers sta).attempt_is)) waiting
 
 -- ---- what is judged further
 

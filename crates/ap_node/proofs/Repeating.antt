@@ -18,7 +18,8 @@ use Rattle.run_journal.specs.declared.reply.Reply.{Reply}
 use Rattle.run_journal.specs.Acts.{same}
 use Rattle.run_journal.specs.Questions.{draws, add}
 use Rattle.domain_rules.specs.Replies.{frame_acts, sent_acts}
-use Rattle.domain_rules.specs.Rows.{retry_acts, outcome_of}
+use Rattle.domain_rules.specs.AccessPointRows.{retry_acts}
+use Rattle.domain_rules.specs.Rows.{outcome_of}
 use Rattle.domain_rules.proofs.Parts.{IsApart, apart-closed, apart-idle}
 use Rattle.node_frames.proofs.RepliedActs.{sent_about, about_draws, about_others}
 use Rattle.authenticator.specs.Steps.{retried_acts, given_up}

@@ -24,8 +24,11 @@ use Rattle.domain_rules.specs.Counters.{next_in_session}
 use Rattle.domain_rules.specs.Network.{nonce, last_draw}
 use Rattle.domain_rules.specs.Reading.{Managed}
 use Rattle.domain_rules.specs.Frames.{sent_assoc_resp, sent_m1, sent_refusal}
-use Rattle.domain_rules.specs.Verdict.{HasRsne, rsne_status, without_status, first_verdict, and_then, management_verdict, assoc_req_verdict}
-use Rattle.domain_rules.specs.Rows.{By_assoc_req, close_attempt, next_nonce, response}
+use Rattle.domain_rules.specs.AccessPointKeys.{HasRsne}
+use Rattle.domain_rules.specs.Associating.{rsne_status, without_status, management_verdict, assoc_req_verdict}
+use Rattle.domain_rules.specs.Verdict.{first_verdict, and_then}
+use Rattle.domain_rules.specs.Rows.{By_assoc_req, response}
+use Rattle.domain_rules.specs.Closing.{close_attempt, next_nonce}
 use Rattle.domain_rules.proofs.Parts.{same-refl}
 use Rattle.domain_rules.proofs.Effects.{answer_acts, answer-add, heard-request, answer-apart, answer-draws}
 use Rattle.domain_rules.proofs.Refused.{no_facts, refused_first}
@@ -49,7 +52,7 @@ use Rattle.ap_node.proofs.Refusing.{takes_refused, takes_quiet}
 
 verdict_is : (d : Domain) (a : ℕ) (octets : List ℕ) (station : ℕ) (frame : AnyFrame) (elements : Elements) → IsManagedAtAp d a octets (Sta station) frame elements → frame.kind ≡ kind.AssocReq → (first : ℕ) (h : List Act)
     → first_verdict d first (Ap a) h (Managed (management_fields frame) (element_fields elements)) ≡ assoc_req_verdict d (first + draws h) (element_fields elements)
-verdict_is d a octets station frame elements w is first h = w.judged.3 first h ∙ ap (λ (k : Kind). management_verdict d first (Ap a) h (Sta station) k (management_fields frame) (element_fields elements)) is
+verdict_is d a octets station frame elements w is first h = w.judged.3 first h ∙ ap (λ (k : Kind). management_verdict d (first + draws h) (Ap a) h (Sta station) k (management_fields frame) (element_fields elements)) is
 
 -- refused with a status
 pub takes_status : (d : Domain) (s : State) (octets : List ℕ) (station : ℕ) (frame : AnyFrame) (elements : Elements) (status n : ℕ) (waited waits : List Act) → IsManagedAtAp d s.number octets (Sta station) frame elements → frame.kind ≡ kind.AssocReq
@@ -58,8 +61,8 @@ pub takes_status : (d : Domain) (s : State) (octets : List ℕ) (station : ℕ) 
 takes_status d s octets station frame elements status n waited waits w is status_is number waiting =
     let r = Managed (management_fields frame) (element_fields elements) in
     takes_refused d s octets r (Some (Sta station)) kind.AssocReq (reason.Status status) None (sent_refusal d (Ap s.number) (Sta station) status ∷ []) waited waits w.reads (sym w.judged.1) (sym is) refl
-    (λ first h stands. refused_first d first (Ap s.number) h r (reason.Status status) None
-    (verdict_is d s.number octets station frame elements w is first h ∙ ap (λ (o : Option ℕ). without_status o (if nat_lt (first + draws h) last_draw then Accepted else Refused reason.Spent)) status_is) refl)
+    (λ first h stands. refused_first d first (Ap s.number) h r (reason.Status status)
+    (verdict_is d s.number octets station frame elements w is first h ∙ ap (λ (o : Option ℕ). without_status o (if nat_lt (first + draws h) last_draw then Accepted else Refused reason.Spent)) status_is))
     (waiting ∙ ap (λ (x : ℕ). waited ++ Took (Some (Sta station)) octets kind.AssocReq (Refused (reason.Status status)) None ∷ sent_refusal d (Ap x) (Sta station) status ∷ []) number)
 
 spent_silent : (d : Domain) (n : Node) (from : Option Node) (k : Kind) → response d n from k reason.Spent ≡ []
@@ -75,7 +78,7 @@ pub takes_spent : (d : Domain) (s : State) (octets : List ℕ) (station : ℕ) (
     → Takes d s s octets waited waits (Refused reason.Spent)
 takes_spent d s octets station frame elements waited waits w is none spent waiting =
     takes_quiet d s octets (Managed (management_fields frame) (element_fields elements)) (Some (Sta station)) kind.AssocReq reason.Spent waited waits w.reads (sym w.judged.1) (sym is)
-    (record { before_mic = refl; silent = spent_silent d (Ap s.number) })
+    (spent_silent d (Ap s.number))
     (λ first h stands. verdict_is d s.number octets station frame elements w is first h ∙ by_draws d (first + draws h) (element_fields elements) false none (le-ltb (first + draws h) last_draw (subst (λ (x : ℕ). last_draw ≤ x) stands.draws_are spent)))
     waiting
 
@@ -203,7 +206,7 @@ takes_associated d old new octets sta frame elements rsne raw waited waits w is 
       };
       waiting = waiting;
       came = refl;
-      stands = stands_associated d first old new sta octets rsne h w.judged.2 (m, (e, (w.reads, ap (λ (x : List ℕ). Some x) rsne_is ∙ sym raw_is))) stands number drawn group now others;
+      stands = stands_associated d first old new sta octets rsne h w.judged.2 (e, ((m, w.reads), ap (λ (x : List ℕ). Some x) rsne_is ∙ sym raw_is)) stands number drawn group now others;
     })
 
 -- with no status there are the octets of an RSNE

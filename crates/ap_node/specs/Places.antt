@@ -7,11 +7,12 @@ use Rattle.run_journal.specs.declared.domain.Domain.{Domain}
 use Rattle.run_journal.specs.declared.acts.Outcome.{Outcome}
 use Rattle.run_journal.specs.declared.acts.Act.{Act}
 use Rattle.run_journal.specs.declared.reply.Reply.{Reply}
-use Rattle.run_journal.specs.Questions.{add, attempt, gtks}
+use Rattle.run_journal.specs.Questions.{add, attempt, group_keys}
 use Rattle.domain_rules.specs.GroupKeys.{newest_uses}
 use Rattle.domain_rules.specs.Reading.{KeyMessage}
 use Rattle.domain_rules.specs.Replies.{IsMessageFrom, reply_acts}
-use Rattle.domain_rules.specs.Rows.{Take, Adds, retry_acts}
+use Rattle.domain_rules.specs.Rows.{TakeRow}
+use Rattle.domain_rules.specs.AccessPointRows.{retry_acts}
 use Rattle.group_key.specs.declared.keys.GroupKey.{GroupKey}
 use Rattle.group_key.specs.Holds.{IsLast}
 use Rattle.authenticator.specs.State.{State as Part}
@@ -19,18 +20,19 @@ use Rattle.authenticator.specs.Stands.{Stands as AuthenticatorStands}
 use Rattle.authenticator.specs.Steps.{IsBegun, IsAttempt, retried_acts}
 use Rattle.authenticator.specs.declared.authenticator.Retried.{Retried}
 use Rattle.domain_rules.specs.Frames.{sent_m1}
+use Rattle.run_journal.specs.GroupKinds as groups
 use Rattle.ap_node.specs.declared.stations.Station.{Station}
 use Rattle.ap_node.specs.Stands.{StandsAt}
 
 -- The message adds to the history what outcome and reply say, and what there is with the station then stands for the longer one.
 pub record IsPlaceStep (d : Domain) (first ap sta : ℕ) (octets : List ℕ) (k : KeyMessage) (old new : Station) (outcome : Outcome) (r : Reply) (h : List Act) : Type 0 where
-  pub adds : Adds d first (Ap ap) h (Take octets) (reply_acts d (Ap ap) (Sta sta) (is_some old.session) octets k outcome r)
+  pub adds : TakeRow d first (Ap ap) h octets (reply_acts d (Ap ap) (Sta sta) (is_some old.session) octets k outcome r)
   pub stands : StandsAt d (Ap ap) sta new (add (reply_acts d (Ap ap) (Sta sta) (is_some old.session) octets k outcome r) h)
 
 -- for every history that it stood for, the message of these fields and octets does so
 abbrev pub PlaceSteps : Station → Station → Message → KeyFields → List ℕ → GroupKey → Outcome → Reply → Type 0
 PlaceSteps old new message f whole g outcome r =
-    (d : Domain) (first ap sta : ℕ) (octets : List ℕ) (k : KeyMessage) (h : List Act) → StandsAt d (Ap ap) sta old h → IsLast g (gtks h) → newest_uses h ≡ 0
+    (d : Domain) (first ap sta : ℕ) (octets : List ℕ) (k : KeyMessage) (h : List Act) → StandsAt d (Ap ap) sta old h → IsLast g (group_keys groups.Gtk h) → newest_uses groups.Gtk h ≡ 0
     → IsMessageFrom d (Ap ap) (Sta sta) octets k → k.message ≡ message → k.fields ≡ f → k.octets ≡ whole
     → IsPlaceStep d first ap sta octets k old new outcome r h
 

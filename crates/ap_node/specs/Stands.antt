@@ -5,6 +5,7 @@ use Rattle.domain_base.specs.declared.names.Node.TheVariants.{Ap, Sta}
 use Rattle.run_journal.specs.declared.domain.Domain.{Domain}
 use Rattle.run_journal.specs.declared.acts.Act.{Act}
 use Rattle.run_journal.specs.Questions.{attempt, session, group_uses, draws}
+use Rattle.run_journal.specs.GroupKinds as groups
 use Rattle.group_key.specs.Holds.{Holds}
 use Rattle.authenticator.specs.State.{State as Part}
 use Rattle.authenticator.specs.Stands.{Stands as AuthenticatorStands}
@@ -30,5 +31,5 @@ pub record StandsAt (d : Domain) (n : Node) (station : ℕ) (x : Station) (h : L
 pub record Stands (d : Domain) (first : ℕ) (s : State) (h : List Act) : Type 0 where
   pub draws_are : s.drawn ≡ first + draws h
   pub group_is : Holds s.group h
-  pub unused : group_uses h ≡ 0
+  pub unused : group_uses groups.Gtk h ≡ 0
   pub peers : (station : ℕ) → StandsAt d (Ap s.number) station (station_at s.stations station) h

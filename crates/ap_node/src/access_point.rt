@@ -11,7 +11,7 @@ ghost use Rattle.run_journal.specs.declared.acts.Kind.TheVariants as kind;
 ghost use Rattle.run_journal.specs.declared.acts.Outcome.TheVariants.{Accepted, Refused};
 ghost use Rattle.run_journal.specs.Questions.{add};
 ghost use Rattle.domain_rules.specs.Network.{InForm, IsListed, last_draw, nonce};
-ghost use Rattle.domain_rules.specs.Rows.{start_acts};
+ghost use Rattle.domain_rules.specs.AccessPointRows.{start_acts};
 ghost use Rattle.node_frames.specs.Events.{event_of, IsEventAt, Steps};
 ghost use Rattle.ap_node.specs.State.{station_at};
 ghost use Rattle.ap_node.specs.Places.{Begins};
@@ -26,8 +26,8 @@ use authenticator::{ApStart, Authenticator};
 use domain_base::{NoMemory, Node, Peer};
 use group_key::GroupKeys;
 use node_frames::{
-    Judged, KeyMessage, LAST_DRAW, Management, NodeEvent, Outbox, Room, SendRoom, address, gtk,
-    judge, nonce, read, rsne_status, settle,
+    Between, Judged, KeyMessage, LAST_DRAW, Management, NodeEvent, Outbox, Room, SendRoom, address,
+    gtk, judge, nonce, read, rsne_status, settle,
 };
 use rsn_elements::Elements;
 use run_journal::{Act, Domain, Drawn, Key, Kind, Outcome, Reason, Reply};
@@ -344,7 +344,8 @@ impl ApNode {
             &newest,
             &mut reply,
         );
-        room.add_reply(what, outcome, had_session, &reply, out);
+        let between = Between::nothing(alloc);
+        room.add_reply(what, outcome, had_session, &reply, between, out);
         Ok(outcome)
     }
 

@@ -6,8 +6,6 @@ mod association;
 mod laws;
 mod retrying;
 mod stations;
-#[cfg(test)]
-mod tests;
 
 pub use access_point::ApNode;
 pub use laws::stands_as_the_network_grows;

@@ -21,18 +21,22 @@ use Rattle.run_journal.specs.declared.reply.Reply.{Reply}
 use Rattle.run_journal.specs.declared.reply.Keyed.{Keyed}
 use Rattle.run_journal.specs.Replies.{IsEmpty}
 use Rattle.run_journal.specs.Acts.{GroupKey as Carried}
-use Rattle.run_journal.specs.Questions.{session, gtks, add}
+use Rattle.run_journal.specs.Questions.{session, group_keys, add, chain, draws}
 use Rattle.group_key.specs.declared.keys.GroupKey.{GroupKey}
 use Rattle.group_key.specs.Holds.{IsLast, carried}
 use Rattle.group_key.proofs.Drawing.{last_newest}
 use Rattle.node_frames.specs.declared.ends.Ends.{Ends}
 use Rattle.domain_rules.specs.Counters.{next_in_attempt}
-use Rattle.domain_rules.specs.Frames.{frame_seal, sent_m3}
+use Rattle.domain_rules.specs.Frames.{frame_seal, sent_m3, keyed_by}
 use Rattle.domain_rules.specs.GroupKeys.{newest, newest_uses}
 use Rattle.domain_rules.specs.Reading.{KeyMessage, Keyed as KeyedReading}
-use Rattle.domain_rules.specs.Replies.{IsMessageFrom, inputs_by}
-use Rattle.domain_rules.specs.Verdict.{first_verdict, key_verdict, m2_verdict}
+use Rattle.domain_rules.specs.Replies.{IsMessageFrom, inputs_by, key_by}
+use Rattle.domain_rules.specs.Verdict.{first_verdict, key_verdict}
+use Rattle.domain_rules.specs.AccessPointKeys.{m2_verdict}
 use Rattle.domain_rules.specs.Rows.{By_m2}
+use Rattle.run_journal.specs.GroupKinds as groups
+use Rattle.domain_rules.specs.Network.{root}
+use Rattle.domain_rules.proofs.Refused.{far_seal}
 use Rattle.authenticator.specs.declared.stage.Attempt.{Attempt as AnAttempt}
 use Rattle.authenticator.specs.declared.stage.Stage.{Stage as AStage}
 use Rattle.authenticator.specs.declared.stage.Stage.TheVariants as stage
@@ -49,7 +53,7 @@ use Rattle.authenticator.proofs.Standing.{stage_by, under_way_by}
 use Rattle.authenticator.proofs.Replying.{only_took, answer_took}
 use Rattle.authenticator.proofs.Refusing.{steps_refused, steps_quiet}
 use Rattle.authenticator.proofs.Verified.{IsOn, refused_m2, accepted_m2, key_by_m2, inputs_of_m2, told, knows_from, verdict_by, seal_by}
-use Rattle.authenticator.proofs.Agreeing.{next_is, has_agreed}
+use Rattle.authenticator.proofs.Agreeing.{next_is, has_agreed, next_of}
 
 -- as the code has the attempt
 pub on_by : (d : Domain) (a : ℕ) (p : Node) (l : Ends) (psk : List ℕ) (s : AStage) (x : AnAttempt) (h : List Act) → attempt_in s ≡ Some x → IsSound (state_of l psk s) → Stands d (Ap a) p (state_of l psk s) h → IsOn d a p l psk (trial_of x) h
@@ -61,7 +65,7 @@ judged_by l psk t f g octets whole j judged is fields octets_are by =
     subst (λ (x : List ℕ). IsM2 l psk t g x judged) (sym octets_are) (subst (λ (x : KeyFields). IsM2 l psk t x whole judged) (sym fields) (subst (λ (x : m2.the_data). IsM2 l psk t f whole x) is by))
 
 first_is : (d : Domain) (first a : ℕ) (p : Node) (octets : List ℕ) (k : KeyMessage) (h : List Act) → IsMessageFrom d (Ap a) p octets k → k.message ≡ M2 → first_verdict d first (Ap a) h (KeyedReading k) ≡ m2_verdict d (Ap a) h p k
-first_is d first a p octets k h from is = from.verdict_is first h ∙ ap (λ (m : Message). key_verdict d (Ap a) h p m k) is
+first_is d first a p octets k h from is = from.verdict_is first h ∙ ap (λ (m : Message). key_verdict d (first + draws h) (Ap a) h p k m) is
 
 -- ---- refused before its MIC verified
 
@@ -71,7 +75,7 @@ takes_refused_m2 l psk s x f whole g rsc j why r here sound by judged e = λ d f
     (let p = Sta sta in
     let on = on_by d a p l psk s x h here sound stands in
     let v = refused_m2 d a p l psk (trial_of x) h k why on (judged_by l psk (trial_of x) f k.fields k.octets whole j (m2.Refused why) judged fields octets_are by) in
-    steps_quiet d first a p octets k (state_of l psk s) why r h from stands e v.1 (ap (λ (m : Message). key_verdict d (Ap a) h p m k) is ∙ v.0))
+    steps_quiet d first a p octets k (state_of l psk s) why r h from stands e (ap (λ (m : Message). key_verdict d (first + draws h) (Ap a) h p k m) is ∙ v))
 
 -- ---- refused by its key data
 
@@ -87,7 +91,7 @@ other_m2 d first a p octets k l psk s t y fault r h from is stands on w e =
       facts = facts.facts;
       knows = λ far. knows_from d (Ap a) p h k facts.facts is from.from facts.knows;
       refused = verdict_by d first (Ap a) p h k (Some fault) facts is accepted;
-      seal_is = seal_by d a p l psk t h k y (Some fault) on w is from.from;
+      seal_is = seal_by d a p l psk t h k y (Some fault) on w is from.from ∙ far_seal d first (Ap a) h (KeyedReading k) Accepted accepted refl;
     })
 
 pub takes_other_m2 : (l : Ends) (psk : List ℕ) (s : AStage) (x : AnAttempt) (f : KeyFields) (whole : List ℕ) (g : GroupKey) (rsc : ℕ) (j : m2.the_data) (fault : KeyDataFault) (y : Keyed) (r : Reply) → attempt_in s ≡ Some x → IsSound (state_of l psk s)
@@ -99,21 +103,21 @@ takes_other_m2 l psk s x f whole g rsc j fault y r here sound by judged e = λ d
 -- ---- accepted
 
 says_m2 : (d : Domain) (n p : Node) (octets : List ℕ) (y : Keyed) (i : Inputs) (k : KeyMessage) (counter next : ℕ) (g key : Carried) (rsc uses : ℕ) → y.ptk ≡ ptk i → next ≡ counter → key ≡ g → uses ≡ rsc
-    → Took (Some p) octets (kind.Key M2) Accepted (Some (frame_seal y.ptk.kck k.octets)) ∷ Derived p i y.ptk ∷ sent_m3 d n p i counter g rsc ∷ []
-    ≡ Took (Some p) octets (kind.Key M2) Accepted (Some (frame_seal (ptk i).kck k.octets)) ∷ Derived p i (ptk i) ∷ sent_m3 d n p i next key uses ∷ []
+    → Took (Some p) octets (kind.Key M2) Accepted (Some (frame_seal y.ptk.kck k.octets)) ∷ Derived p i y.ptk ∷ sent_m3 d n p (record { inputs = i; ptk = y.ptk }) counter g rsc ∷ []
+    ≡ Took (Some p) octets (kind.Key M2) Accepted (Some (frame_seal (ptk i).kck k.octets)) ∷ Derived p i (ptk i) ∷ sent_m3 d n p (keyed_by i) next key uses ∷ []
 says_m2 d n p octets y i k counter next g key rsc uses ptk_is next_is key_is uses_is = rw (ptk_is, next_is, key_is, uses_is) refl
 
 agreed_m2 : (d : Domain) (first a : ℕ) (p : Node) (octets : List ℕ) (k : KeyMessage) (l : Ends) (psk : List ℕ) (t : Trial) (y : Keyed) (g : GroupKey) (rsc counter : ℕ) (r : Reply) (h : List Act) → IsMessageFrom d (Ap a) p octets k → k.message ≡ M2
-    → IsOn d a p l psk t h → IsLast g (gtks h) → newest_uses h ≡ rsc → IsVerified l psk t k.fields k.octets y None → counter ≡ suc (t.m1s + t.m3s) → counter < 2 ^ 64 → IsAddress l.own.0 → IsAddress l.peer.0
+    → IsOn d a p l psk t h → IsLast g (group_keys groups.Gtk h) → newest_uses groups.Gtk h ≡ rsc → IsVerified l psk t k.fields k.octets y None → counter ≡ suc (t.m1s + t.m3s) → counter < 2 ^ 64 → IsAddress l.own.0 → IsAddress l.peer.0
     → SendsM3 l (record { key = y; group = g; rsc = rsc }) counter r → TellsDerived y r
     → Steps d first (Ap a) p octets k (record { ends = l; psk = psk; stage = Attempt (answered_by (record { key = y; group = g; rsc = rsc }) t) }) Accepted r h
 agreed_m2 d first a p octets k l psk t y g rsc counter r h from is on key uses w counter_is low own peer sends told_keys =
     let n = Ap a in
-    let i = inputs_by d n p y in
+    let i = inputs_by d (root d) n p y in
     let ptk_is = key_by_m2 d a p l psk t h k y None on w in
     let facts = told d n p t h k None on.trial w.key_data in
     let accepted = first_is d first a p octets k h from is ∙ accepted_m2 d a p l psk t h k y None on w in
-    let acts = answer_took d n p (is_some (session p h)) octets k M2 Accepted r y (sent_m3 d n p i counter (carried g) rsc) is told_keys (sends d n p i on.ends ptk_is refl) in
+    let acts = answer_took d n p (is_some (session p h)) octets k M2 Accepted r y (sent_m3 d n p (key_by d (root d) n p y) counter (carried g) rsc) is told_keys (sends d n p (key_by d (root d) n p y) on.ends refl refl) in
     record {
       adds = record {
         r = KeyedReading k;
@@ -131,7 +135,7 @@ agreed_m2 d first a p octets k l psk t y g rsc counter r h from is on key uses w
           awaited = on.trial.is;
           i = i;
           inputs_are = inputs_of_m2 d a p l psk t h k y None on w;
-          says = acts ∙ says_m2 d n p octets y i k counter (next_in_attempt p on.trial.part) (carried g) (newest h) rsc (newest_uses h) ptk_is (next_is d n p t h on.trial ∙ sym counter_is) (last_newest g h key) uses;
+          says = acts ∙ says_m2 d n p octets y i k counter (next_in_attempt p (chain p h)) (carried g) (newest groups.Gtk h) rsc (newest_uses groups.Gtk h) ptk_is (next_of d n p t h on.trial ∙ sym counter_is) (last_newest g h key) uses;
         });
       };
       stands = record {

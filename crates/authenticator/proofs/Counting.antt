@@ -23,7 +23,7 @@ use Rattle.run_journal.specs.declared.acts.Act.{Act}
 use Rattle.run_journal.specs.Questions.{all_sent}
 use Rattle.domain_rules.specs.Network.{address, bssid, direction}
 use Rattle.domain_rules.specs.Frames.{in_data}
-use Rattle.domain_rules.specs.Verdict.{replay_counter, offered, at_least, greatest}
+use Rattle.domain_rules.specs.Asking.{replay_counter, offered, at_least, greatest}
 use Rattle.domain_rules.specs.Counters.{sent_count}
 use Rattle.authenticator.specs.Stands.{counters}
 

@@ -1,5 +1,5 @@
 -- Message 4 of the four-way handshake.
-use Rattle.std.proofs.Common.{◌≡◌, ℕ, Bool, true, false, List, [], ◌∷◌, ◌++◌, Option, Some, None, refl, sym, ap, subst, ◌∙◌}
+use Rattle.std.proofs.Common.{◌+◌, ◌≡◌, ℕ, Bool, true, false, List, [], ◌∷◌, ◌++◌, Option, Some, None, refl, sym, ap, subst, ◌∙◌}
 use Rattle.std.specs.Prelude.{is_some, cond}
 use Rattle.domain_base.specs.declared.names.Akm.{Akm}
 use Rattle.domain_base.specs.declared.names.Node.{Node}
@@ -24,18 +24,22 @@ use Rattle.run_journal.specs.declared.reply.Reply.{Reply}
 use Rattle.run_journal.specs.declared.reply.Keyed.{Keyed}
 use Rattle.run_journal.specs.Replies.{IsEmpty}
 use Rattle.run_journal.specs.Acts.{derived, Derivation}
-use Rattle.run_journal.specs.Questions.{or_else, attempt, derivation, session, add}
+use Rattle.run_journal.specs.Questions.{or_else, attempt, derivation, session, add, draws}
 use Rattle.node_frames.specs.declared.ends.Ends.{Ends}
 use Rattle.group_key.specs.declared.keys.GroupKey.{GroupKey}
 use Rattle.domain_rules.specs.Counters.{next_in_attempt, next_in_session}
 use Rattle.domain_rules.specs.Frames.{frame_seal}
 use Rattle.domain_rules.specs.Reading.{KeyMessage, Keyed as KeyedReading}
 use Rattle.domain_rules.specs.Replies.{IsMessageFrom, inputs_by, replaced_acts, key_by}
-use Rattle.domain_rules.specs.Verdict.{KnowsOf, by_connect, among, verified, key_further, and_then, m4_keying, m4_verdict_by, m4_verdict, key_verdict}
-use Rattle.domain_rules.specs.Rows.{By_m4, is_after_mic, close_session}
+use Rattle.domain_rules.specs.Verdict.{KnowsOf, key_further, and_then, key_verdict}
+use Rattle.domain_rules.specs.Asking.{by_connect, among, verified}
+use Rattle.domain_rules.specs.AccessPointKeys.{m4_keying, m4_verdict_by, m4_verdict}
+use Rattle.domain_rules.specs.Rows.{By_m4}
+use Rattle.domain_rules.specs.Closing.{close_session}
 use Rattle.domain_rules.proofs.Refused.{no_facts}
 use Rattle.domain_rules.proofs.Parts.{same-refl, Grows, Begins, Goes_on, grows, attempt_more, attempt_some, by_connect_more}
 use Rattle.domain_rules.proofs.Verdicts.{among-one, among-none, verified-same, verified-other}
+use Rattle.domain_rules.specs.Network.{root}
 use Rattle.authenticator.specs.declared.stage.Attempt.{Attempt as AnAttempt}
 use Rattle.authenticator.specs.declared.stage.Stage.{Stage as AStage}
 use Rattle.authenticator.specs.declared.stage.Stage.TheVariants as stage
@@ -62,7 +66,7 @@ m4-in d h p k part is = rw is refl
 
 abbrev keying_of : Domain → Node → Node → Option Agreed → Option Derivation
 keying_of d n p None = None
-keying_of d n p (Some y) = Some (key_by d n p y.key)
+keying_of d n p (Some y) = Some (key_by d (root d) n p y.key)
 
 keying_by : (d : Domain) (n p : Node) (o : Option Agreed) (m3s : ℕ) (part h : List Act) → IsAgreed d n p o m3s part h → cond (is_some o) (derivation p part) None ≡ keying_of d n p o
 keying_by d n p None m3s part h at = refl
@@ -89,10 +93,10 @@ forged_m4 d n p h k a akm suite at w =
     verdict_keyed d n p h k a w.y at w.answered.some ∙ among-one (counters a.m1s a.m3s) k.fields.counter (verified d.akm w.y.key.ptk.kck k Accepted) w.answered.offer
     ∙ verified-other d.akm w.y.key.ptk.kck k Accepted (λ same. w.other (same ∙ sym (same_mic k.octets suite refl)))
 
-pub refused_m4 : (d : Domain) (n p : Node) (h : List Act) (k : KeyMessage) (a : Trial) (akm : Akm) (why : Reason) → akm ≡ d.akm → IsUnderWay d n p a h → IsRefusedM4 akm a k.fields k.octets why → (m4_verdict d h p k ≡ Refused why) × (is_after_mic why ≡ false)
-refused_m4 d n p h k a akm reason.Unawaited suite at w = (verdict_in d n p h k a at None w, refl)
-refused_m4 d n p h k a akm (reason.Counter last) suite at w = (counted_m4 d n p h k a last at w, refl)
-refused_m4 d n p h k a akm reason.Mic suite at w = (forged_m4 d n p h k a akm suite at w, refl)
+pub refused_m4 : (d : Domain) (n p : Node) (h : List Act) (k : KeyMessage) (a : Trial) (akm : Akm) (why : Reason) → akm ≡ d.akm → IsUnderWay d n p a h → IsRefusedM4 akm a k.fields k.octets why → m4_verdict d h p k ≡ Refused why
+refused_m4 d n p h k a akm reason.Unawaited suite at w = verdict_in d n p h k a at None w
+refused_m4 d n p h k a akm (reason.Counter last) suite at w = counted_m4 d n p h k a last at w
+refused_m4 d n p h k a akm reason.Mic suite at w = forged_m4 d n p h k a akm suite at w
 refused_m4 d n p h k a akm why suite at w = absurd w
 
 accepted_m4 : (d : Domain) (n p : Node) (h : List Act) (k : KeyMessage) (a : Trial) (akm : Akm) (key : Keyed) (next : ℕ) → akm ≡ d.akm → IsUnderWay d n p a h → IsFinish akm a k.fields k.octets key next → m4_verdict d h p k ≡ Accepted
@@ -112,7 +116,7 @@ takes_refused_m4 l psk s x f whole g rsc j why r here by judged e = λ d first a
     (let p = Sta sta in
     let at = under_way_by d (Ap a) p s x h here stands.stage_is in
     let v = refused_m4 d (Ap a) p h k (trial_of x) l.akm why stands.ends.akm at (judged_by l.akm (trial_of x) f k.fields k.octets whole j (m4.Refused why) judged fields octets_are by) in
-    steps_quiet d first a p octets k (state_of l psk s) why r h from stands e v.1 (ap (λ (m : Message). key_verdict d (Ap a) h p m k) is ∙ v.0))
+    steps_quiet d first a p octets k (state_of l psk s) why r h from stands e (ap (λ (m : Message). key_verdict d (first + draws h) (Ap a) h p k m) is ∙ v))
 
 -- ---- accepted: the session
 
@@ -138,10 +142,10 @@ finished_key p i h x is = rw (same-refl p) is
 finished_next : (p : Node) (i : Inputs) (h part : List Act) → attempt p h ≡ Some part → by_connect part ≡ true → next_in_session p (Finished p i ∷ h) ≡ next_in_attempt p part
 finished_next p i h part is begun = rw (same-refl p, is, begun) refl
 
-held : (d : Domain) (n p : Node) (octets : List ℕ) (s : Option Seal) (had : Bool) (y : Keyed) (next : ℕ) (h part : List Act) → attempt p h ≡ Some part → by_connect part ≡ true → derivation p h ≡ Some (key_by d n p y) → next_in_attempt p part ≡ next
+held : (d : Domain) (n p : Node) (octets : List ℕ) (s : Option Seal) (had : Bool) (y : Keyed) (next : ℕ) (h part : List Act) → attempt p h ≡ Some part → by_connect part ≡ true → derivation p h ≡ Some (key_by d (root d) n p y) → next_in_attempt p part ≡ next
     → IsHeld d n p y next (add (Took (Some p) octets (kind.Key M4) Accepted s ∷ finish_acts d n p had y) h)
 held d n p octets s true y next h part is begun key counts =
-    let i = inputs_by d n p y in
+    let i = inputs_by d (root d) n p y in
     let took = Took (Some p) octets (kind.Key M4) Accepted s in
     let closed = Closed p OfSession in
     let installed = Installed (One p) (Pairwise y.ptk.tk i) in
@@ -149,17 +153,17 @@ held d n p octets s true y next h part is begun key counts =
     let second = attempt_more p closed (took ∷ h) (took ∷ part) refl refl first in
     let third = attempt_more p installed (closed ∷ took ∷ h) (closed ∷ took ∷ part) refl refl second in
     record {
-      is = finished_key p i (installed ∷ closed ∷ took ∷ h) (key_by d n p y) key;
+      is = finished_key p i (installed ∷ closed ∷ took ∷ h) (key_by d (root d) n p y) key;
       counts = finished_next p i (installed ∷ closed ∷ took ∷ h) (installed ∷ closed ∷ took ∷ part) third (by_connect_more took part (attempt_some p h part is) ∙ begun) ∙ counts;
     }
 held d n p octets s false y next h part is begun key counts =
-    let i = inputs_by d n p y in
+    let i = inputs_by d (root d) n p y in
     let took = Took (Some p) octets (kind.Key M4) Accepted s in
     let installed = Installed (One p) (Pairwise y.ptk.tk i) in
     let first = attempt_more p took h part refl refl is in
     let second = attempt_more p installed (took ∷ h) (took ∷ part) refl refl first in
     record {
-      is = finished_key p i (installed ∷ took ∷ h) (key_by d n p y) key;
+      is = finished_key p i (installed ∷ took ∷ h) (key_by d (root d) n p y) key;
       counts = finished_next p i (installed ∷ took ∷ h) (installed ∷ took ∷ part) second (by_connect_more took part (attempt_some p h part is) ∙ begun) ∙ counts;
     }
 
@@ -174,10 +178,10 @@ finished_m4 : (d : Domain) (first a : ℕ) (p : Node) (octets : List ℕ) (k : K
 finished_m4 d first a p octets k s t y next r h from is stands at w e =
     let n = Ap a in
     let had = is_some (session p h) in
-    let i = inputs_by d n p y in
+    let i = inputs_by d (root d) n p y in
     let key = some_sent d n p t.agreed w.y t.m3s at.part h w.answered.some at.agreed in
-    let same : Some (key_by d n p w.y.key) ≡ Some (key_by d n p y) = ap (λ (x : Keyed). Some (key_by d n p x)) (sym w.key_is) in
-    let accepted = from.verdict_is first h ∙ ap (λ (m : Message). key_verdict d n h p m k) is ∙ accepted_m4 d n p h k t s.ends.akm y next stands.ends.akm at w in
+    let same : Some (key_by d (root d) n p w.y.key) ≡ Some (key_by d (root d) n p y) = ap (λ (x : Keyed). Some (key_by d (root d) n p x)) (sym w.key_is) in
+    let accepted = from.verdict_is first h ∙ ap (λ (m : Message). key_verdict d (first + draws h) n h p k m) is ∙ accepted_m4 d n p h k t s.ends.akm y next stands.ends.akm at w in
     let acts = finish_took d n p had octets k M4 Accepted r y is e in
     record {
       adds = record {
@@ -194,7 +198,7 @@ finished_m4 d first a p octets k s t y next r h from is stands at w e =
           accepted = ap (λ (o : Outcome). and_then o (key_further d.akm k.message no_facts)) accepted ∙ ap (λ (m : Message). and_then Accepted (key_further d.akm m no_facts)) is;
           part = at.part;
           awaited = at.is;
-          x = key_by d n p y;
+          x = key_by d (root d) n p y;
           keyed = keying_is d n p t h at ∙ ap (keying_of d n p) w.answered.some ∙ same;
           says = acts
               ∙ ap (λ (closed : List Act). Took (Some p) octets (kind.Key M4) Accepted (Some (frame_seal y.ptk.kck k.octets)) ∷ closed ++ Installed (One p) (Pairwise y.ptk.tk i) ∷ Finished p i ∷ []) (replaced_is p (session p h) y);
@@ -204,7 +208,7 @@ finished_m4 d first a p octets k s t y next r h from is stands at w e =
         ends = stands.ends;
         psk = stands.psk;
         stage_is = subst (λ (g : List Act). IsHeld d n p y next (add g h)) (sym acts)
-            (held d n p octets (Some (frame_seal y.ptk.kck k.octets)) had y next h at.part at.is at.begun (derived_in p h at.part (key_by d n p y) at.is (key.1 ∙ same)) (next_is d n p t h at ∙ sym w.next_is));
+            (held d n p octets (Some (frame_seal y.ptk.kck k.octets)) had y next h at.part at.is at.begun (derived_in p h at.part (key_by d (root d) n p y) at.is (key.1 ∙ same)) (next_is d n p t h at ∙ sym w.next_is));
       };
     }
 

@@ -9,7 +9,7 @@ use Rattle.run_journal.specs.declared.acts.KeyDataFault.TheVariants.{Unreadable,
 use Rattle.run_journal.specs.declared.acts.Reason.TheVariants as reason
 use Rattle.run_journal.specs.declared.acts.Outcome.{Outcome}
 use Rattle.run_journal.specs.declared.acts.Outcome.TheVariants.{Accepted, Refused}
-use Rattle.domain_rules.specs.Verdict.{is_same}
+use Rattle.domain_rules.specs.Facts.{is_same}
 use Rattle.domain_rules.proofs.Peers.{not_same}
 use Rattle.authenticator.specs.Judged.{IsKeyDataOf}
 

@@ -1,5 +1,5 @@
 -- Messages that change nothing.
-use Rattle.std.proofs.Common.{◌≡◌, ℕ, cond, false, List, [], ◌∷◌, Option, Some, None, refl, sym, ap, subst, ◌∙◌}
+use Rattle.std.proofs.Common.{◌+◌, ◌≡◌, ℕ, cond, false, List, [], ◌∷◌, Option, Some, None, refl, sym, ap, subst, ◌∙◌}
 use Rattle.std.specs.Prelude.{is_some}
 use Rattle.domain_base.specs.declared.names.Node.{Node}
 use Rattle.domain_base.specs.declared.names.Node.TheVariants.{Ap, Sta}
@@ -19,15 +19,17 @@ use Rattle.run_journal.specs.declared.acts.Act.TheVariants.{Took}
 use Rattle.run_journal.specs.declared.reply.Reply.{Reply}
 use Rattle.run_journal.specs.declared.reply.Keyed.{Keyed}
 use Rattle.run_journal.specs.Replies.{IsEmpty}
-use Rattle.run_journal.specs.Questions.{attempt, session, add}
+use Rattle.run_journal.specs.Questions.{attempt, session, add, draws}
 use Rattle.group_key.specs.declared.keys.GroupKey.{GroupKey}
 use Rattle.node_frames.specs.declared.ends.Ends.{Ends}
 use Rattle.domain_rules.specs.Reading.{KeyMessage, Keyed as KeyedReading}
 use Rattle.domain_rules.specs.Replies.{IsMessageFrom, reply_acts}
-use Rattle.domain_rules.specs.Verdict.{m4_verdict, key_verdict}
-use Rattle.domain_rules.specs.Rows.{By_refusal, sender, is_after_mic, seal_in, response}
+use Rattle.domain_rules.specs.AccessPointKeys.{m4_verdict}
+use Rattle.domain_rules.specs.Verdict.{key_verdict}
+use Rattle.domain_rules.specs.Rows.{By_refusal, refused_seal, seal_in, response}
+use Rattle.domain_rules.specs.Closing.{sender}
 use Rattle.domain_rules.proofs.Parts.{apart-refused}
-use Rattle.domain_rules.proofs.Refused.{IsRefused, refused_first, quiet_seal}
+use Rattle.domain_rules.proofs.Refused.{IsRefused, refused_first}
 use Rattle.domain_rules.proofs.Verdicts.{unawaited-m2}
 use Rattle.authenticator.specs.declared.stage.Stage.{Stage}
 use Rattle.authenticator.specs.State.{State}
@@ -64,7 +66,7 @@ steps_refused d first a p octets k s why seal r h w stands acts refused = record
       why = why;
       refused = refused.refused;
       says = acts
-          ∙ says_refused p octets (kind.Key k.message) why seal (cond (is_after_mic why) (seal_in d (Ap a) h (KeyedReading k)) None) (sender d (Ap a) (KeyedReading k)) (response d (Ap a) (sender d (Ap a) (KeyedReading k)) (kind.Key k.message) why) w.from refused.seal_is
+          ∙ says_refused p octets (kind.Key k.message) why seal (refused_seal d first (Ap a) h (KeyedReading k)) (sender d (Ap a) (KeyedReading k)) (response d (Ap a) (sender d (Ap a) (KeyedReading k)) (kind.Key k.message) why) w.from refused.seal_is
           (silent d a p (sender d (Ap a) (KeyedReading k)) k.message why w.from);
     });
   };
@@ -73,20 +75,20 @@ steps_refused d first a p octets k s why seal r h w stands acts refused = record
 
 -- ---- refused by the frame and the history alone
 
-pub steps_quiet : (d : Domain) (first a : ℕ) (p : Node) (octets : List ℕ) (k : KeyMessage) (s : State) (why : Reason) (r : Reply) (h : List Act) → IsMessageFrom d (Ap a) p octets k → Stands d (Ap a) p s h → IsEmpty r → is_after_mic why ≡ false
-    → key_verdict d (Ap a) h p k.message k ≡ Refused why → Steps d first (Ap a) p octets k s (Refused why) r h
-steps_quiet d first a p octets k s why r h w stands e before refused =
+pub steps_quiet : (d : Domain) (first a : ℕ) (p : Node) (octets : List ℕ) (k : KeyMessage) (s : State) (why : Reason) (r : Reply) (h : List Act) → IsMessageFrom d (Ap a) p octets k → Stands d (Ap a) p s h → IsEmpty r
+    → key_verdict d (first + draws h) (Ap a) h p k k.message ≡ Refused why → Steps d first (Ap a) p octets k s (Refused why) r h
+steps_quiet d first a p octets k s why r h w stands e refused =
     let first_is = w.verdict_is first h ∙ refused in
     steps_refused d first a p octets k s why None r h w stands (only_took d (Ap a) p (is_some (session p h)) octets k (Refused why) r None e.len e.verified e.derived e.installed e.gtk)
-    (refused_first d first (Ap a) h (KeyedReading k) why None first_is (quiet_seal why (seal_in d (Ap a) h (KeyedReading k)) before))
+    (refused_first d first (Ap a) h (KeyedReading k) why first_is)
 
 -- ---- without an attempt nothing is awaited
 
 pub no_m2 : (l : Ends) (psk : List ℕ) (s : Stage) (f : KeyFields) (whole : List ℕ) (g : GroupKey) (rsc : ℕ) (r : Reply) → attempt_in s ≡ None → IsEmpty r
     → StepsFrom (state_of l psk s) (state_of l psk s) M2 f whole g rsc (Refused reason.Unawaited) r
 no_m2 l psk s f whole g rsc r none e = λ d first a sta octets k h stands asked key uses from is fields octets_are.
-    steps_quiet d first a (Sta sta) octets k (state_of l psk s) reason.Unawaited r h from stands e refl
-    (ap (λ (m : Message). key_verdict d (Ap a) h (Sta sta) m k) is ∙ unawaited-m2 d (Ap a) h (Sta sta) k (none_by (Sta sta) s h none asked))
+    steps_quiet d first a (Sta sta) octets k (state_of l psk s) reason.Unawaited r h from stands e
+    (ap (λ (m : Message). key_verdict d (first + draws h) (Ap a) h (Sta sta) k m) is ∙ unawaited-m2 d (Ap a) h (Sta sta) k (none_by (Sta sta) s h none asked))
 
 unawaited-m4 : (d : Domain) (h : List Act) (p : Node) (k : KeyMessage) → attempt p h ≡ None → m4_verdict d h p k ≡ Refused reason.Unawaited
 unawaited-m4 d h p k none = rw none refl
@@ -94,21 +96,21 @@ unawaited-m4 d h p k none = rw none refl
 pub no_m4 : (l : Ends) (psk : List ℕ) (s : Stage) (f : KeyFields) (whole : List ℕ) (g : GroupKey) (rsc : ℕ) (r : Reply) → attempt_in s ≡ None → IsEmpty r
     → StepsFrom (state_of l psk s) (state_of l psk s) M4 f whole g rsc (Refused reason.Unawaited) r
 no_m4 l psk s f whole g rsc r none e = λ d first a sta octets k h stands asked key uses from is fields octets_are.
-    steps_quiet d first a (Sta sta) octets k (state_of l psk s) reason.Unawaited r h from stands e refl
-    (ap (λ (m : Message). key_verdict d (Ap a) h (Sta sta) m k) is ∙ unawaited-m4 d h (Sta sta) k (none_by (Sta sta) s h none asked))
+    steps_quiet d first a (Sta sta) octets k (state_of l psk s) reason.Unawaited r h from stands e
+    (ap (λ (m : Message). key_verdict d (first + draws h) (Ap a) h (Sta sta) k m) is ∙ unawaited-m4 d h (Sta sta) k (none_by (Sta sta) s h none asked))
 
 -- ---- other messages are unawaited
 
-other_message : (d : Domain) (a : ℕ) (h : List Act) (p : Node) (m : Message) (k : KeyMessage) → (m ≡ M2 → ⊥) → (m ≡ M4 → ⊥) → key_verdict d (Ap a) h p m k ≡ Refused reason.Unawaited
-other_message d a h p M2 k other last = absurd (other refl)
-other_message d a h p M4 k other last = absurd (last refl)
-other_message d a h p m k other last = refl
+other_message : (d : Domain) (drawn a : ℕ) (h : List Act) (p : Node) (k : KeyMessage) (m : Message) → (m ≡ M2 → ⊥) → (m ≡ M4 → ⊥) → key_verdict d drawn (Ap a) h p k m ≡ Refused reason.Unawaited
+other_message d drawn a h p k M2 other last = absurd (other refl)
+other_message d drawn a h p k M4 other last = absurd (last refl)
+other_message d drawn a h p k m other last = refl
 
 pub no_other : (l : Ends) (psk : List ℕ) (s : Stage) (m : Message) (f : KeyFields) (whole : List ℕ) (g : GroupKey) (rsc : ℕ) (r : Reply) → (m ≡ M2 → ⊥) → (m ≡ M4 → ⊥) → IsEmpty r
     → StepsFrom (state_of l psk s) (state_of l psk s) m f whole g rsc (Refused reason.Unawaited) r
 no_other l psk s m f whole g rsc r other last e = λ d first a sta octets k h stands asked key uses from is fields octets_are.
-    steps_quiet d first a (Sta sta) octets k (state_of l psk s) reason.Unawaited r h from stands e refl
-    (ap (λ (x : Message). key_verdict d (Ap a) h (Sta sta) x k) is ∙ other_message d a h (Sta sta) m k other last)
+    steps_quiet d first a (Sta sta) octets k (state_of l psk s) reason.Unawaited r h from stands e
+    (ap (λ (x : Message). key_verdict d (first + draws h) (Ap a) h (Sta sta) k x) is ∙ other_message d (first + draws h) a h (Sta sta) k m other last)
 
 -- ---- by another name of the message, and with nothing installed
 

@@ -17,6 +17,7 @@ use Rattle.run_journal.specs.Replies.{IsEmpty, IsWhole}
 use Rattle.domain_rules.specs.Frames.{frame_seal}
 use Rattle.domain_rules.specs.Reading.{KeyMessage}
 use Rattle.domain_rules.specs.Replies.{inputs_by, replaced_acts, sent_acts, reply_acts}
+use Rattle.domain_rules.specs.Network.{root}
 use Rattle.authenticator.specs.Judged.{TellsDerived}
 
 -- the message by its name
@@ -30,19 +31,19 @@ only_took d n p true octets k o r v len verified derived installed gtk = rw (len
 only_took d n p false octets k o r v len verified derived installed gtk = rw (len, verified, derived, installed, gtk) refl
 
 answer_acts : (d : Domain) (n p : Node) (had : Bool) (octets : List ℕ) (k : KeyMessage) (o : Outcome) (r : Reply) (y : Keyed) (act : Act) → TellsDerived y r → sent_acts p r ≡ act ∷ []
-    → reply_acts d n p had octets k o r ≡ Took (Some p) octets (kind.Key k.message) o (Some (frame_seal y.ptk.kck k.octets)) ∷ Derived p (inputs_by d n p y) y.ptk ∷ act ∷ []
+    → reply_acts d n p had octets k o r ≡ Took (Some p) octets (kind.Key k.message) o (Some (frame_seal y.ptk.kck k.octets)) ∷ Derived p (inputs_by d (root d) n p y) y.ptk ∷ act ∷ []
 answer_acts d n p true octets k o r y act told sends = rw (told.verified, told.derived, told.installed, told.gtk, sends) refl
 answer_acts d n p false octets k o r y act told sends = rw (told.verified, told.derived, told.installed, told.gtk, sends) refl
 
 -- the key was derived, and something is sent
 pub answer_took : (d : Domain) (n p : Node) (had : Bool) (octets : List ℕ) (k : KeyMessage) (m : Message) (o : Outcome) (r : Reply) (y : Keyed) (act : Act) → k.message ≡ m → TellsDerived y r → sent_acts p r ≡ act ∷ []
-    → reply_acts d n p had octets k o r ≡ Took (Some p) octets (kind.Key m) o (Some (frame_seal y.ptk.kck k.octets)) ∷ Derived p (inputs_by d n p y) y.ptk ∷ act ∷ []
+    → reply_acts d n p had octets k o r ≡ Took (Some p) octets (kind.Key m) o (Some (frame_seal y.ptk.kck k.octets)) ∷ Derived p (inputs_by d (root d) n p y) y.ptk ∷ act ∷ []
 answer_took d n p had octets k m o r y act is told sends =
-    answer_acts d n p had octets k o r y act told sends ∙ took_as p octets k.message m o (Some (frame_seal y.ptk.kck k.octets)) (Derived p (inputs_by d n p y) y.ptk ∷ act ∷ []) is
+    answer_acts d n p had octets k o r y act told sends ∙ took_as p octets k.message m o (Some (frame_seal y.ptk.kck k.octets)) (Derived p (inputs_by d (root d) n p y) y.ptk ∷ act ∷ []) is
 
 -- what an installed key adds to the taking
 abbrev pub finish_acts : Domain → Node → Node → Bool → Keyed → List Act
-finish_acts d n p had y = replaced_acts p had (Some y) ++ Installed (One p) (Pairwise y.ptk.tk (inputs_by d n p y)) ∷ Finished p (inputs_by d n p y) ∷ []
+finish_acts d n p had y = replaced_acts p had (Some y) ++ Installed (One p) (Pairwise y.ptk.tk (inputs_by d (root d) n p y)) ∷ Finished p (inputs_by d (root d) n p y) ∷ []
 
 installed_took : (d : Domain) (n p : Node) (had : Bool) (octets : List ℕ) (k : KeyMessage) (o : Outcome) (r : Reply) (y : Keyed) → r.len ≡ 0 → r.verified ≡ Some y.ptk.kck → r.derived ≡ None → r.installed ≡ Some y → r.gtk ≡ None
     → reply_acts d n p had octets k o r ≡ Took (Some p) octets (kind.Key k.message) o (Some (frame_seal y.ptk.kck k.octets)) ∷ finish_acts d n p had y

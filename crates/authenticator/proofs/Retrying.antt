@@ -19,17 +19,19 @@ use Rattle.run_journal.specs.declared.acts.Act.{Act}
 use Rattle.run_journal.specs.declared.acts.Act.TheVariants.{Closed, Sent, GaveUp, Idle}
 use Rattle.run_journal.specs.declared.reply.Reply.{Reply}
 use Rattle.run_journal.specs.Acts.{Derivation}
-use Rattle.run_journal.specs.Questions.{attempt, derivation, before_sent, add}
+use Rattle.run_journal.specs.Questions.{attempt, derivation, before_sent, add, chain}
 use Rattle.node_frames.specs.declared.ends.Ends.{Ends}
 use Rattle.group_key.specs.Holds.{carried}
 use Rattle.group_key.proofs.Drawing.{last_newest}
 use Rattle.domain_rules.specs.Frames.{frame_seal, in_data, m3_frame, sent_m1, sent_m3}
 use Rattle.domain_rules.specs.Replies.{inputs_by, key_by}
-use Rattle.domain_rules.specs.Verdict.{own, by_connect, has_heard, replay_counter}
+use Rattle.domain_rules.specs.Asking.{own, by_connect, has_heard, replay_counter}
 use Rattle.domain_rules.specs.Counters.{sent_count, next_in_attempt}
 use Rattle.domain_rules.specs.GroupKeys.{newest, newest_uses}
-use Rattle.domain_rules.specs.Rows.{again_or_give_up, m3_again, retry_acts}
+use Rattle.domain_rules.specs.AccessPointRows.{again_or_give_up, m3_again, retry_acts}
 use Rattle.domain_rules.proofs.Parts.{same-refl, attempt_more, attempt_ends, attempt_some, by_connect_more, own_nonce_more, apart-idle}
+use Rattle.run_journal.specs.GroupKinds as groups
+use Rattle.domain_rules.specs.Network.{root}
 use Rattle.authenticator.specs.declared.authenticator.Retried.TheVariants as retried
 use Rattle.authenticator.specs.declared.stage.Attempt.{Attempt as AnAttempt}
 use Rattle.authenticator.specs.declared.stage.Stage.{Stage as AStage}
@@ -45,7 +47,7 @@ use Rattle.node_frames.proofs.EndsKeys.{key_is}
 use Rattle.authenticator.proofs.Keys.{agreed_key, own_address, peer_address}
 use Rattle.authenticator.proofs.Counting.{count_is, replay_plain}
 use Rattle.authenticator.proofs.Standing.{agreed_on, stands_more, none_by, stage_by}
-use Rattle.authenticator.proofs.Agreeing.{m3_counter, next_is, none_sent, some_sent, cons_is}
+use Rattle.authenticator.proofs.Agreeing.{m3_counter, next_is, none_sent, some_sent, cons_is, next_of}
 use Rattle.authenticator.proofs.Verified.{IsOn}
 use Rattle.authenticator.proofs.Answering.{on_by}
 
@@ -54,7 +56,7 @@ use Rattle.authenticator.proofs.Answering.{on_by}
 retry_in : (d : Domain) (n p : Node) (h part : List Act) (heard : Bool) → attempt p h ≡ Some part → by_connect part ≡ true → has_heard p (kind.Key M2) part ≡ heard
     → retry_acts d n h p (attempt p h)
     ≡ (if heard then again_or_give_up p M3 (sent_count p M3 part) (m3_again d n h p part (derivation p part) (before_sent p (kind.Key M3) h))
-    else again_or_give_up p M1 (sent_count p M1 part) (sent_m1 d n p (next_in_attempt p part) (own part)))
+    else again_or_give_up p M1 (sent_count p M1 part) (sent_m1 d n p (next_in_attempt p (chain p h)) (own part)))
 retry_in d n p h part heard is begun has = rw (is, begun, has) refl
 
 again_few : (p : Node) (m : Message) (sends n : ℕ) (act : Act) → sends ≡ n → n < 4 → again_or_give_up p m sends act ≡ act ∷ []
@@ -67,19 +69,19 @@ retry_m1 : (d : Domain) (n p : Node) (h : List Act) (a : Trial) (at : IsUnderWay
     → retry_acts d n h p (attempt p h) ≡ again_or_give_up p M1 (sent_count p M1 at.part) (sent_m1 d n p (suc (a.m1s + a.m3s)) a.anonce)
 retry_m1 d n p h a at none =
     retry_in d n p h at.part false at.is at.begun (at.answered ∙ ap (λ (o : Option Agreed). is_some o) none)
-    ∙ says (next_is d n p a h at) (ap (λ (o : Option (List ℕ)). unwrap_or o []) at.nonce)
+    ∙ says (next_of d n p a h at) (ap (λ (o : Option (List ℕ)). unwrap_or o []) at.nonce)
   where
     says : {next counter : ℕ} {v w : List ℕ} → next ≡ counter → v ≡ w → again_or_give_up p M1 (sent_count p M1 at.part) (sent_m1 d n p next v) ≡ again_or_give_up p M1 (sent_count p M1 at.part) (sent_m1 d n p counter w)
     says e f = rw (e, f) refl
 
 retry_m3 : (d : Domain) (n p : Node) (h : List Act) (a : Trial) (y : Agreed) (at : IsUnderWay d n p a h) → a.agreed ≡ Some y → IsAgreed d n p (Some y) a.m3s at.part h
-    → retry_acts d n h p (attempt p h) ≡ again_or_give_up p M3 (sent_count p M3 at.part) (sent_m3 d n p (inputs_by d n p y.key) (suc (a.m1s + a.m3s)) (carried y.group) y.rsc)
+    → retry_acts d n h p (attempt p h) ≡ again_or_give_up p M3 (sent_count p M3 at.part) (sent_m3 d n p (key_by d (root d) n p y.key) (suc (a.m1s + a.m3s)) (carried y.group) y.rsc)
 retry_m3 d n p h a y at is has =
     retry_in d n p h at.part true at.is at.begun (at.answered ∙ ap (λ (o : Option Agreed). is_some o) is)
-    ∙ says at.part (sent_count p M3 at.part) (derivation p at.part) (before_sent p (kind.Key M3) h) has.2.past has.1 has.2.is (next_is d n p a h at) (last_newest y.group has.2.past has.2.key) has.2.uses
+    ∙ says at.part (sent_count p M3 at.part) (derivation p at.part) (before_sent p (kind.Key M3) h) has.2.past has.1 has.2.is (next_of d n p a h at) (last_newest y.group has.2.past has.2.key) has.2.uses
   where
-    says : (part : List Act) (sends : ℕ) (o : Option Derivation) (b : Option (List Act)) (past : List Act) → o ≡ Some (key_by d n p y.key) → b ≡ Some past → next_in_attempt p part ≡ suc (a.m1s + a.m3s) → newest past ≡ carried y.group → newest_uses past ≡ y.rsc
-        → again_or_give_up p M3 sends (m3_again d n h p part o b) ≡ again_or_give_up p M3 sends (sent_m3 d n p (inputs_by d n p y.key) (suc (a.m1s + a.m3s)) (carried y.group) y.rsc)
+    says : (part : List Act) (sends : ℕ) (o : Option Derivation) (b : Option (List Act)) (past : List Act) → o ≡ Some (key_by d (root d) n p y.key) → b ≡ Some past → next_in_attempt p (chain p h) ≡ suc (a.m1s + a.m3s) → newest groups.Gtk past ≡ carried y.group → newest_uses groups.Gtk past ≡ y.rsc
+        → again_or_give_up p M3 sends (m3_again d n h p part o b) ≡ again_or_give_up p M3 sends (sent_m3 d n p (key_by d (root d) n p y.key) (suc (a.m1s + a.m3s)) (carried y.group) y.rsc)
     says part sends o b past derives first next key uses = rw (derives, first, next, key, uses) refl
 
 -- ---- how the attempt goes on
@@ -157,40 +159,33 @@ retries_m1 d a p l psk t r m1s m3s h on w =
       };
     }
 
-retries_m3 : (d : Domain) (a : ℕ) (p : Node) (l : Ends) (psk : List ℕ) (t : Trial) (r : Reply) (m1s m3s : ℕ) (h : List Act) (on : IsOn d a p l psk t h) (w : IsM3Again l t r m1s m3s) → w.y.key.ptk ≡ ptk (inputs_by d (Ap a) p w.y.key)
+retries_m3 : (d : Domain) (a : ℕ) (p : Node) (l : Ends) (psk : List ℕ) (t : Trial) (r : Reply) (m1s m3s : ℕ) (h : List Act) → IsOn d a p l psk t h → IsM3Again l t r m1s m3s
     → Retried d a p l psk t m1s m3s r h
-retries_m3 d a p l psk t r m1s m3s h on w key =
+retries_m3 d a p l psk t r m1s m3s h on w =
     let n = Ap a in
     let y = w.y in
-    let i = inputs_by d n p y.key in
+    let x = key_by d (root d) n p y.key in
     let counter = suc (t.m1s + t.m3s) in
-    let sends = w.sends d n p i on.ends key refl in
-    let frame = m3_frame d i counter (carried y.group) y.rsc in
+    let sends = w.sends d n p x on.ends refl refl in
+    let frame = m3_frame d x counter (carried y.group) y.rsc in
     let has = some_sent d n p t.agreed y t.m3s on.trial.part h w.some on.trial.agreed in
-    let goes = sent_three d n p h t y (in_data d n p frame) (Some (frame_seal (ptk i).kck frame)) on.trial w.some has
-    (m3_counter d n p i counter y.group y.rsc (own_address d n p l on.ends w.next.own) (peer_address d n p l on.ends w.next.peer) w.next.low) in
+    let goes = sent_three d n p h t y (in_data d n p frame) (Some (frame_seal x.ptk.kck frame)) on.trial w.some has
+    (m3_counter d n p x counter y.group y.rsc (own_address d n p l on.ends w.next.own) (peer_address d n p l on.ends w.next.peer) w.next.low) in
     record {
       adds = retry_m3 d n p h t y on.trial w.some has
-          ∙ again_few p M3 (sent_count p M3 on.trial.part) t.m3s (sent_m3 d n p i counter (carried y.group) y.rsc) (count_is p M3 on.trial.part t.m1s t.m3s on.trial.m3_offers) w.few ∙ sym sends;
+          ∙ again_few p M3 (sent_count p M3 on.trial.part) t.m3s (sent_m3 d n p x counter (carried y.group) y.rsc) (count_is p M3 on.trial.part t.m1s t.m3s on.trial.m3_offers) w.few ∙ sym sends;
       stands = record {
         ends = on.ends;
         psk = on.psk_is;
         stage_is = subst (λ (g : List Act). IsUnderWay d n p (counted m1s m3s t) (add g h)) (sym sends)
-            (subst (λ (x : Trial). IsUnderWay d n p x (sent_m3 d n p i counter (carried y.group) y.rsc ∷ h)) (same_counts t (sym w.m1s_are) (sym w.m3s_are)) goes);
+            (subst (λ (z : Trial). IsUnderWay d n p z (sent_m3 d n p x counter (carried y.group) y.rsc ∷ h)) (same_counts t (sym w.m1s_are) (sym w.m3s_are)) goes);
       };
     }
 
-retries_by : (d : Domain) (a : ℕ) (p : Node) (l : Ends) (psk : List ℕ) (t : Trial) (r : Reply) (m1s m3s : ℕ) (h : List Act) → IsOn d a p l psk t h → ((y : Agreed) → t.agreed ≡ Some y → y.key.ptk ≡ ptk (inputs_by d (Ap a) p y.key))
+retries_by : (d : Domain) (a : ℕ) (p : Node) (l : Ends) (psk : List ℕ) (t : Trial) (r : Reply) (m1s m3s : ℕ) (h : List Act) → IsOn d a p l psk t h
     → IsM1Again l t r m1s m3s ⊎ IsM3Again l t r m1s m3s → Retried d a p l psk t m1s m3s r h
-retries_by d a p l psk t r m1s m3s h on key (inl w) = retries_m1 d a p l psk t r m1s m3s h on w
-retries_by d a p l psk t r m1s m3s h on key (inr w) = retries_m3 d a p l psk t r m1s m3s h on w (key w.y w.some)
-
--- the keys of a sound attempt
-sound_key : (d : Domain) (a : ℕ) (p : Node) (l : Ends) (psk : List ℕ) (s : AStage) (x : AnAttempt) (h : List Act) → attempt_in s ≡ Some x → IsSound (state_of l psk s) → IsOn d a p l psk (trial_of x) h
-    → (y : Agreed) → x.agreed ≡ Some y → y.key.ptk ≡ ptk (inputs_by d (Ap a) p y.key)
-sound_key d a p l psk s x h here sound on y is =
-    let has : AreKeysOf l psk (stage_of (stage.Attempt x)) = subst (λ (z : AStage). AreKeysOf l psk (stage_of z)) (stage_by s x here) sound.keys in
-    key_is d (Ap a) p l psk y.key on.ends on.psk_is on.suite (agreed_key l psk x.agreed y is has)
+retries_by d a p l psk t r m1s m3s h on (inl w) = retries_m1 d a p l psk t r m1s m3s h on w
+retries_by d a p l psk t r m1s m3s h on (inr w) = retries_m3 d a p l psk t r m1s m3s h on w
 
 sent_stage : (l : Ends) (psk : List ℕ) (s new : AStage) (x : AnAttempt) (m1s m3s : ℕ) → attempt_in s ≡ Some x → new ≡ with_counts m1s m3s s → record { ends = l; psk = psk; stage = Attempt (counted m1s m3s (trial_of x)) } ≡ state_of l psk new
 sent_stage l psk s new x m1s m3s here now = sym (ap (state_of l psk) (now ∙ ap (with_counts m1s m3s) (stage_by s x here)))
@@ -201,7 +196,7 @@ retries_sent l psk s new x j m1s m3s r here sound by judged now = λ d a sta h s
     (let p = Sta sta in
     let on = on_by d a p l psk s x h here sound stands in
     subst (λ (z : State). Retries d (Ap a) p z retried.Sent r h) (sent_stage l psk s new x m1s m3s here now)
-    (retries_by d a p l psk (trial_of x) r m1s m3s h on (sound_key d a p l psk s x h here sound on) (subst (λ (z : again.the_data). IsAgain l (trial_of x) r z) judged by)))
+    (retries_by d a p l psk (trial_of x) r m1s m3s h on (subst (λ (z : again.the_data). IsAgain l (trial_of x) r z) judged by)))
 
 -- an attempt stays one
 counts_staged : (l : Ends) (psk : List ℕ) (s : AStage) (x : AnAttempt) (m1s m3s : ℕ) → s ≡ stage.Attempt x → IsStagedBy retried.Sent (state_of l psk s) (state_of l psk (with_counts m1s m3s s))
@@ -231,7 +226,7 @@ given_acts d n p h l t r M1 at w = retry_m1 d n p h t at w.0 ∙ again_many p M1
 given_acts d n p h l t r M3 at w =
     let y = agreed_some t.agreed w.0 in
     retry_m3 d n p h t y.0 at y.1 (some_sent d n p t.agreed y.0 t.m3s at.part h y.1 at.agreed)
-    ∙ again_many p M3 (sent_count p M3 at.part) t.m3s (sent_m3 d n p (inputs_by d n p y.0.key) (suc (t.m1s + t.m3s)) (carried y.0.group) y.0.rsc) (count_is p M3 at.part t.m1s t.m3s at.m3_offers) w.1
+    ∙ again_many p M3 (sent_count p M3 at.part) t.m3s (sent_m3 d n p (key_by d (root d) n p y.0.key) (suc (t.m1s + t.m3s)) (carried y.0.group) y.0.rsc) (count_is p M3 at.part t.m1s t.m3s at.m3_offers) w.1
 given_acts d n p h l t r m at w = absurd w
 
 given_none : (sta : ℕ) (m : Message) (h : List Act) → attempt (Sta sta) (Closed (Sta sta) OfAttempt ∷ GaveUp (Sta sta) m ∷ h) ≡ None

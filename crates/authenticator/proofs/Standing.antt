@@ -11,7 +11,7 @@ use Rattle.run_journal.specs.declared.reply.Keyed.{Keyed}
 use Rattle.run_journal.specs.Acts.{finishes, sent}
 use Rattle.run_journal.specs.Questions.{or_else, attempt, derivation, session, before_sent, add}
 use Rattle.domain_rules.specs.Counters.{next_in_session}
-use Rattle.domain_rules.specs.Verdict.{replay_counter}
+use Rattle.domain_rules.specs.Asking.{replay_counter}
 use Rattle.domain_rules.proofs.Parts.{IsApart, GoesOn, goes_on}
 use Rattle.authenticator.specs.declared.stage.Attempt.{Attempt as AnAttempt}
 use Rattle.authenticator.specs.declared.stage.Stage.{Stage as AStage}

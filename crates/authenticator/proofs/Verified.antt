@@ -21,12 +21,16 @@ use Rattle.run_journal.specs.declared.acts.Act.{Act}
 use Rattle.run_journal.specs.declared.reply.Keyed.{Keyed}
 use Rattle.node_frames.specs.declared.ends.Ends.{Ends}
 use Rattle.node_frames.specs.Ends.{AreEnds}
-use Rattle.domain_rules.specs.Network.{inputs, peer_of}
+use Rattle.domain_rules.specs.Network.{inputs, peer_of, root}
 use Rattle.domain_rules.specs.Reading.{KeyMessage, Keyed as KeyedReading}
 use Rattle.domain_rules.specs.Replies.{inputs_by}
 use Rattle.domain_rules.specs.Frames.{frame_seal}
-use Rattle.domain_rules.specs.Verdict.{Facts, KnowsM2, KnowsOf, IsRequested, own, among, verified, first_verdict, key_further, and_then, verdict, m2_verdict, m2_key_data}
-use Rattle.domain_rules.specs.Rows.{sender, is_after_mic, seal_in, message_seal}
+use Rattle.domain_rules.specs.Facts.{Facts}
+use Rattle.domain_rules.specs.AccessPointKeys.{KnowsM2, IsRequested, m2_verdict, m2_key_data, requested_rsne}
+use Rattle.domain_rules.specs.Verdict.{KnowsOf, first_verdict, key_further, and_then, verdict}
+use Rattle.domain_rules.specs.Asking.{own, among, verified}
+use Rattle.domain_rules.specs.Closing.{sender}
+use Rattle.domain_rules.specs.Rows.{seal_in, message_seal}
 use Rattle.domain_rules.proofs.Verdicts.{m2-in, among-one, among-none, verified-same, verified-other}
 use Rattle.authenticator.specs.State.{Trial, Agreed}
 use Rattle.authenticator.specs.Stands.{counters, IsUnderWay}
@@ -43,7 +47,7 @@ pub record IsOn (d : Domain) (a : ℕ) (p : Node) (l : Ends) (psk : List ℕ) (t
   pub trial : IsUnderWay d (Ap a) p t h
 
 -- the key that both sides derive
-kck_is : (d : Domain) (a : ℕ) (p : Node) (l : Ends) (psk : List ℕ) (t : Trial) (snonce : List ℕ) (h : List Act) → IsOn d a p l psk t h → (key_with l psk t.anonce snonce).ptk.kck ≡ (ptk (inputs d (Ap a) p t.anonce snonce)).kck
+kck_is : (d : Domain) (a : ℕ) (p : Node) (l : Ends) (psk : List ℕ) (t : Trial) (snonce : List ℕ) (h : List Act) → IsOn d a p l psk t h → (key_with l psk t.anonce snonce).ptk.kck ≡ (ptk (inputs d (root d) (Ap a) p t.anonce snonce)).kck
 kck_is d a p l psk t snonce h on = ap (λ (x : Ptk). x.kck) (key_is d (Ap a) p l psk (key_with l psk t.anonce snonce) on.ends on.psk_is on.suite refl)
 
 pub same_mic : {x y : Akm} {u v : List ℕ} (octets : List ℕ) → x ≡ y → u ≡ v → mic x u octets ≡ mic y v octets
@@ -52,7 +56,7 @@ same_mic octets e f = rw (e, f) refl
 -- ---- refusals before its MIC verified
 
 m2_by : (d : Domain) (a : ℕ) (p : Node) (l : Ends) (psk : List ℕ) (t : Trial) (h : List Act) (k : KeyMessage) → IsOn d a p l psk t h → t.agreed ≡ None
-    → m2_verdict d (Ap a) h p k ≡ among (counters 0 t.m1s) k.fields.counter (verified d.akm (ptk (inputs d (Ap a) p t.anonce k.fields.nonce)).kck k Accepted)
+    → m2_verdict d (Ap a) h p k ≡ among (counters 0 t.m1s) k.fields.counter (verified d.akm (ptk (inputs d (root d) (Ap a) p t.anonce k.fields.nonce)).kck k Accepted)
 m2_by d a p l psk t h k on none =
     m2-in d (Ap a) h p k on.trial.part false (counters 0 t.m1s) t.anonce on.trial.is on.trial.begun (on.trial.answered ∙ ap (λ (o : Option Agreed). is_some o) none) on.trial.m1_offers on.trial.nonce
 
@@ -61,20 +65,20 @@ answered_m2 d a p l psk t h k on some = m2-in d (Ap a) h p k on.trial.part true 
 
 counted_m2 : (d : Domain) (a : ℕ) (p : Node) (l : Ends) (psk : List ℕ) (t : Trial) (h : List Act) (k : KeyMessage) (last : ℕ) → IsOn d a p l psk t h → IsCounted t k.fields last → m2_verdict d (Ap a) h p k ≡ Refused (reason.Counter last)
 counted_m2 d a p l psk t h k last on w =
-    m2_by d a p l psk t h k on w.none ∙ among-none (counters 0 t.m1s) k.fields.counter (verified d.akm (ptk (inputs d (Ap a) p t.anonce k.fields.nonce)).kck k Accepted) w.offer
+    m2_by d a p l psk t h k on w.none ∙ among-none (counters 0 t.m1s) k.fields.counter (verified d.akm (ptk (inputs d (root d) (Ap a) p t.anonce k.fields.nonce)).kck k Accepted) w.offer
     ∙ ap (λ (x : ℕ). Refused (reason.Counter x)) (last_first t.m1s ∙ sym w.is)
 
 forged_m2 : (d : Domain) (a : ℕ) (p : Node) (l : Ends) (psk : List ℕ) (t : Trial) (h : List Act) (k : KeyMessage) → IsOn d a p l psk t h → IsForged l psk t k.fields k.octets → m2_verdict d (Ap a) h p k ≡ Refused reason.Mic
 forged_m2 d a p l psk t h k on w =
     m2_by d a p l psk t h k on w.awaited.none
-    ∙ among-one (counters 0 t.m1s) k.fields.counter (verified d.akm (ptk (inputs d (Ap a) p t.anonce k.fields.nonce)).kck k Accepted) w.awaited.offer
-    ∙ verified-other d.akm (ptk (inputs d (Ap a) p t.anonce k.fields.nonce)).kck k Accepted (λ same. w.other (same ∙ sym (same_mic k.octets on.ends.akm (kck_is d a p l psk t k.fields.nonce h on))))
+    ∙ among-one (counters 0 t.m1s) k.fields.counter (verified d.akm (ptk (inputs d (root d) (Ap a) p t.anonce k.fields.nonce)).kck k Accepted) w.awaited.offer
+    ∙ verified-other d.akm (ptk (inputs d (root d) (Ap a) p t.anonce k.fields.nonce)).kck k Accepted (λ same. w.other (same ∙ sym (same_mic k.octets on.ends.akm (kck_is d a p l psk t k.fields.nonce h on))))
 
 pub refused_m2 : (d : Domain) (a : ℕ) (p : Node) (l : Ends) (psk : List ℕ) (t : Trial) (h : List Act) (k : KeyMessage) (why : Reason) → IsOn d a p l psk t h → IsRefusedM2 l psk t k.fields k.octets why
-    → (m2_verdict d (Ap a) h p k ≡ Refused why) × (is_after_mic why ≡ false)
-refused_m2 d a p l psk t h k reason.Unawaited on w = (answered_m2 d a p l psk t h k on w, refl)
-refused_m2 d a p l psk t h k (reason.Counter last) on w = (counted_m2 d a p l psk t h k last on w, refl)
-refused_m2 d a p l psk t h k reason.Mic on w = (forged_m2 d a p l psk t h k on w, refl)
+    → m2_verdict d (Ap a) h p k ≡ Refused why
+refused_m2 d a p l psk t h k reason.Unawaited on w = answered_m2 d a p l psk t h k on w
+refused_m2 d a p l psk t h k (reason.Counter last) on w = counted_m2 d a p l psk t h k last on w
+refused_m2 d a p l psk t h k reason.Mic on w = forged_m2 d a p l psk t h k on w
 refused_m2 d a p l psk t h k why on w = absurd w
 
 -- ---- its MIC verified
@@ -83,30 +87,30 @@ pub accepted_m2 : (d : Domain) (a : ℕ) (p : Node) (l : Ends) (psk : List ℕ) 
     → m2_verdict d (Ap a) h p k ≡ Accepted
 accepted_m2 d a p l psk t h k y fault on w =
     m2_by d a p l psk t h k on w.awaited.none
-    ∙ among-one (counters 0 t.m1s) k.fields.counter (verified d.akm (ptk (inputs d (Ap a) p t.anonce k.fields.nonce)).kck k Accepted) w.awaited.offer
-    ∙ verified-same d.akm (ptk (inputs d (Ap a) p t.anonce k.fields.nonce)).kck k Accepted (w.mic_is ∙ same_mic k.octets on.ends.akm (kck_is d a p l psk t k.fields.nonce h on))
+    ∙ among-one (counters 0 t.m1s) k.fields.counter (verified d.akm (ptk (inputs d (root d) (Ap a) p t.anonce k.fields.nonce)).kck k Accepted) w.awaited.offer
+    ∙ verified-same d.akm (ptk (inputs d (root d) (Ap a) p t.anonce k.fields.nonce)).kck k Accepted (w.mic_is ∙ same_mic k.octets on.ends.akm (kck_is d a p l psk t k.fields.nonce h on))
 
 -- the key of the reply
 pub key_by_m2 : (d : Domain) (a : ℕ) (p : Node) (l : Ends) (psk : List ℕ) (t : Trial) (h : List Act) (k : KeyMessage) (y : Keyed) (fault : Option KeyDataFault) → IsOn d a p l psk t h → IsVerified l psk t k.fields k.octets y fault
-    → y.ptk ≡ ptk (inputs_by d (Ap a) p y)
+    → y.ptk ≡ ptk (inputs_by d (root d) (Ap a) p y)
 key_by_m2 d a p l psk t h k y fault on w = key_is d (Ap a) p l psk y on.ends on.psk_is on.suite (is_key_of l psk t.anonce k.fields.nonce y w.key)
 
 pub inputs_of_m2 : (d : Domain) (a : ℕ) (p : Node) (l : Ends) (psk : List ℕ) (t : Trial) (h : List Act) (k : KeyMessage) (y : Keyed) (fault : Option KeyDataFault) (on : IsOn d a p l psk t h) → IsVerified l psk t k.fields k.octets y fault
-    → inputs_by d (Ap a) p y ≡ inputs d (Ap a) p (own on.trial.part) k.fields.nonce
+    → inputs_by d (root d) (Ap a) p y ≡ inputs d (root d) (Ap a) p (own on.trial.part) k.fields.nonce
 inputs_of_m2 d a p l psk t h k y fault on w =
-    ap (inputs_by d (Ap a) p) w.key ∙ sym (ap (λ (o : Option (List ℕ)). inputs d (Ap a) p (unwrap_or o []) k.fields.nonce) on.trial.nonce)
+    ap (inputs_by d (root d) (Ap a) p) w.key ∙ sym (ap (λ (o : Option (List ℕ)). inputs d (root d) (Ap a) p (unwrap_or o []) k.fields.nonce) on.trial.nonce)
 
 -- what reading further tells of it
 pub record IsTold (d : Domain) (p : Node) (h : List Act) (k : KeyMessage) (fault : Option KeyDataFault) : Type 0 where
   pub facts : Facts
   pub knows : KnowsM2 d.akm h p k facts
-  pub outcome : m2_key_data facts.requested facts.data_ ≡ key_data_outcome fault
+  pub outcome : m2_key_data (requested_rsne facts.requested) facts.data_ ≡ key_data_outcome fault
 
 pub told : (d : Domain) (n p : Node) (t : Trial) (h : List Act) (k : KeyMessage) (fault : Option KeyDataFault) → IsUnderWay d n p t h → IsKeyDataOf t.rsne k.fields.key_data fault → IsTold d p h k fault
 told d n p t h k fault at says = record {
-  facts = record { requested = Some t.rsne; unwrapped = None; data_ = says.says };
-  knows = record { requested = subst (λ (x : Option (List ℕ)). IsRequested d.akm x (Some t.rsne)) (sym at.heard_last) at.rsne; data_ = says.reads };
-  outcome = says.is;
+  facts = record { requested = Some at.rsne.0; unwrapped = None; data_ = says.says };
+  knows = record { requested = subst (λ (x : Option (List ℕ)). IsRequested d.akm x (Some at.rsne.0)) (sym at.heard_last) at.rsne.1.0; data_ = says.reads };
+  outcome = ap (λ (x : Option (List ℕ)). m2_key_data x says.says) (sym at.rsne.1.1) ∙ says.is;
 }
 
 pub knows_from : (d : Domain) (n p : Node) (h : List Act) (k : KeyMessage) (facts : Facts) → k.message ≡ M2 → sender d n (KeyedReading k) ≡ Some p → KnowsM2 d.akm h p k facts
@@ -132,5 +136,5 @@ seal_by d a p l psk t h k y fault on w is from =
     ap (λ (x : Ptk). Some (frame_seal x.kck k.octets)) (key_by_m2 d a p l psk t h k y fault on w) ∙ ap (λ (x : Inputs). Some (frame_seal (ptk x).kck k.octets)) (inputs_of_m2 d a p l psk t h k y fault on w)
     ∙ sym (
     ap (λ (o : Option Node). message_seal d (Ap a) h k k.message o) from ∙ ap (λ (m : Message). message_seal d (Ap a) h k m (Some p)) is
-    ∙ ap (option_map (λ (part : List Act). frame_seal (ptk (inputs d (Ap a) p (own part) k.fields.nonce)).kck k.octets)) on.trial.is
+    ∙ ap (option_map (λ (part : List Act). frame_seal (ptk (inputs d (root d) (Ap a) p (own part) k.fields.nonce)).kck k.octets)) on.trial.is
     )

@@ -9,8 +9,6 @@ use Rattle.rsn_elements.specs.Elements.{ElementFields}
 use Rattle.mac_prf.specs.Mic.{mic}
 use Rattle.eapol_key.specs.KeyFrame.{KeyFields}
 use Rattle.eapol_key.specs.declared.messages.Message.TheVariants.{M1, M3}
-use Rattle.key_hierarchy.specs.Keys.{ptk}
-use Rattle.key_hierarchy.specs.declared.inputs.Inputs.{Inputs}
 use Rattle.run_journal.specs.declared.domain.Domain.{Domain}
 use Rattle.run_journal.specs.declared.acts.KeyDataFault.{KeyDataFault}
 use Rattle.run_journal.specs.declared.acts.Reason.{Reason}
@@ -19,8 +17,10 @@ use Rattle.run_journal.specs.declared.acts.Outcome.{Outcome}
 use Rattle.run_journal.specs.declared.acts.Outcome.TheVariants.{Accepted, Refused}
 use Rattle.run_journal.specs.declared.reply.Keyed.{Keyed}
 use Rattle.run_journal.specs.declared.reply.Reply.{Reply}
+use Rattle.run_journal.specs.Acts.{Derivation}
 use Rattle.domain_rules.specs.Frames.{sent_m1, sent_m3}
-use Rattle.domain_rules.specs.Verdict.{ReadsKeyData, m2_key_data}
+use Rattle.domain_rules.specs.Facts.{ReadsKeyData}
+use Rattle.domain_rules.specs.AccessPointKeys.{m2_key_data}
 use Rattle.domain_rules.specs.Replies.{sent_acts}
 use Rattle.node_frames.specs.declared.ends.Ends.{Ends}
 use Rattle.group_key.specs.Holds.{carried}
@@ -91,8 +91,8 @@ pub record TellsDerived (y : Keyed) (r : Reply) : Type 0 where
 
 -- it sends M3 between the ends
 abbrev pub SendsM3 : Ends → Agreed → ℕ → Reply → Type 0
-SendsM3 l y counter r = (d : Domain) (n p : Node) (i : Inputs) → AreEnds d n p l → y.key.ptk ≡ ptk i → i.anonce ≡ y.key.anonce
-    → sent_acts p r ≡ sent_m3 d n p i counter (carried y.group) y.rsc ∷ []
+SendsM3 l y counter r = (d : Domain) (n p : Node) (x : Derivation) → AreEnds d n p l → y.key.ptk ≡ x.ptk → x.inputs.anonce ≡ y.key.anonce
+    → sent_acts p r ≡ sent_m3 d n p x counter (carried y.group) y.rsc ∷ []
 
 -- ---- M4
 

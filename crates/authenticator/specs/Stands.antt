@@ -2,16 +2,20 @@
 -- replay counters those of 12.7.2).
 use Rattle.std.specs.Prelude.{◌≡◌, ◌≤◌, ℕ, zero, suc, ◌+◌, true, List, [], ◌∷◌, Option, Some, None, is_some}
 use Rattle.domain_base.specs.declared.names.Node.{Node}
-use Rattle.eapol_key.specs.declared.messages.Message.TheVariants.{M1, M2, M3}
+use Rattle.eapol_key.specs.declared.messages.Message.{Message}
+use Rattle.eapol_key.specs.declared.messages.Message.TheVariants.{M1, M2, M3, G2}
 use Rattle.run_journal.specs.declared.domain.Domain.{Domain}
 use Rattle.run_journal.specs.declared.acts.Kind.TheVariants.{AssocReq, Key}
 use Rattle.run_journal.specs.declared.acts.Act.{Act}
 use Rattle.run_journal.specs.declared.reply.Keyed.{Keyed}
-use Rattle.run_journal.specs.Questions.{attempt, own_nonce, derivation, session, heard, before_sent, gtks}
+use Rattle.run_journal.specs.Questions.{attempt, own_nonce, derivation, session, heard, before_sent, group_keys}
 use Rattle.domain_rules.specs.Counters.{next_in_session}
-use Rattle.domain_rules.specs.Verdict.{by_connect, offered, has_heard, HasRsne}
+use Rattle.domain_rules.specs.Asking.{by_connect, offered, has_heard}
+use Rattle.domain_rules.specs.AccessPointKeys.{HasRsne, request as last_request}
 use Rattle.domain_rules.specs.GroupKeys.{newest_uses}
 use Rattle.domain_rules.specs.Replies.{key_by}
+use Rattle.run_journal.specs.GroupKinds as groups
+use Rattle.domain_rules.specs.Network.{root}
 use Rattle.group_key.specs.Holds.{IsLast}
 use Rattle.node_frames.specs.Ends.{AreEnds}
 use Rattle.authenticator.specs.State.{State, Stage, Attempt, Session, GivenUp, Trial, Agreed}
@@ -26,13 +30,13 @@ counters before (suc n) = suc (before + n) ∷ counters before n
 pub record IsFirstM3 (p : Node) (y : Agreed) (h : List Act) : Type 0 where
   pub past : List Act
   pub is : before_sent p (Key M3) h ≡ Some past
-  pub key : IsLast y.group (gtks past)
-  pub uses : newest_uses past ≡ y.rsc
+  pub key : IsLast y.group (group_keys groups.Gtk past)
+  pub uses : newest_uses groups.Gtk past ≡ y.rsc
 
 -- from M2 on the key was derived and M3 was sent, before it neither
 abbrev pub IsAgreed : Domain → Node → Node → Option Agreed → ℕ → List Act → List Act → Type 0
 IsAgreed d n p None m3s part h = (m3s ≡ 0) × (before_sent p (Key M3) h ≡ None)
-IsAgreed d n p (Some y) m3s part h = (1 ≤ m3s) × (derivation p part ≡ Some (key_by d n p y.key)) × IsFirstM3 p y h
+IsAgreed d n p (Some y) m3s part h = (1 ≤ m3s) × (derivation p part ≡ Some (key_by d (root d) n p y.key)) × IsFirstM3 p y h
 
 -- the attempt is under way: it began by association
 pub record IsUnderWay (d : Domain) (n p : Node) (a : Trial) (h : List Act) : Type 0 where
@@ -47,12 +51,12 @@ pub record IsUnderWay (d : Domain) (n p : Node) (a : Trial) (h : List Act) : Typ
   pub agreed : IsAgreed d n p a.agreed a.m3s part h
   -- the last association request that was accepted, and its RSNE
   pub request : List ℕ
-  pub heard_last : heard p AssocReq h ≡ Some request
+  pub heard_last : last_request p h ≡ Some request
   pub rsne : HasRsne d.akm request (Some a.rsne)
 
 -- the session is held, beside an attempt or without one
 pub record IsHeld (d : Domain) (n p : Node) (key : Keyed) (next : ℕ) (h : List Act) : Type 0 where
-  pub is : session p h ≡ Some (key_by d n p key)
+  pub is : session p h ≡ Some (key_by d (root d) n p key)
   pub counts : next_in_session p h ≡ next
 
 abbrev pub StandsIn : Domain → Node → Node → Stage → List Act → Type 0
@@ -70,3 +74,8 @@ pub record Stands (d : Domain) (n p : Node) (s : State) (h : List Act) : Type 0 
 abbrev pub IsAsked : Node → Stage → List Act → Type 0
 IsAsked p (Attempt a) h = Unit {0}
 IsAsked p stage h = attempt p h ≡ None
+
+-- it is asked of a message: G2 is for the session, also beside an attempt
+abbrev pub IsAskedOf : Message → Node → Stage → List Act → Type 0
+IsAskedOf G2 p stage h = Unit {0}
+IsAskedOf m p stage h = IsAsked p stage h

@@ -16,8 +16,10 @@ use Rattle.run_journal.specs.declared.reply.Keyed.{Keyed}
 use Rattle.run_journal.specs.Questions.{add, attempt, own_nonce, heard, before_sent, session}
 use Rattle.domain_rules.specs.Reading.{KeyMessage}
 use Rattle.domain_rules.specs.Replies.{reply_acts, sent_acts}
-use Rattle.domain_rules.specs.Rows.{Take, Adds, retry_acts}
-use Rattle.domain_rules.specs.Verdict.{by_connect, offered, has_heard, HasRsne}
+use Rattle.domain_rules.specs.Rows.{TakeRow}
+use Rattle.domain_rules.specs.AccessPointRows.{retry_acts}
+use Rattle.domain_rules.specs.Asking.{by_connect, offered, has_heard}
+use Rattle.domain_rules.specs.AccessPointKeys.{HasRsne, request as last_request}
 use Rattle.authenticator.specs.State.{State, Stage, Attempt, Session}
 use Rattle.authenticator.specs.Stands.{Stands}
 use Rattle.authenticator.specs.declared.authenticator.Retried.{Retried}
@@ -34,13 +36,13 @@ pub record IsBegun (d : Domain) (p : Node) (anonce rsne : List ℕ) (h : List Ac
   pub no_first : before_sent p (Key M3) h ≡ None
   pub no_m2 : has_heard p (Key M2) part ≡ false
   pub request : List ℕ
-  pub heard_last : heard p AssocReq h ≡ Some request
+  pub heard_last : last_request p h ≡ Some request
   pub has_rsne : HasRsne d.akm request (Some rsne)
 
 -- For a history that the authenticator stands for, the message adds to it what outcome and reply say, and it then stands for the
 -- longer one.
 pub record Steps (d : Domain) (first : ℕ) (n p : Node) (octets : List ℕ) (k : KeyMessage) (new : State) (outcome : Outcome) (r : Reply) (h : List Act) : Type 0 where
-  pub adds : Adds d first n h (Take octets) (reply_acts d n p (is_some (session p h)) octets k outcome r)
+  pub adds : TakeRow d first n h octets (reply_acts d n p (is_some (session p h)) octets k outcome r)
   pub stands : Stands d n p new (add (reply_acts d n p (is_some (session p h)) octets k outcome r) h)
 
 -- the acts of a retry by what came of it

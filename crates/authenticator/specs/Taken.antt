@@ -8,23 +8,24 @@ use Rattle.run_journal.specs.declared.domain.Domain.{Domain}
 use Rattle.run_journal.specs.declared.acts.Outcome.{Outcome}
 use Rattle.run_journal.specs.declared.acts.Act.{Act}
 use Rattle.run_journal.specs.declared.reply.Reply.{Reply}
-use Rattle.run_journal.specs.Questions.{gtks}
+use Rattle.run_journal.specs.Questions.{group_keys}
 use Rattle.domain_rules.specs.GroupKeys.{newest_uses}
 use Rattle.domain_rules.specs.Reading.{KeyMessage}
 use Rattle.domain_rules.specs.Replies.{IsMessageFrom}
+use Rattle.run_journal.specs.GroupKinds as groups
 use Rattle.group_key.specs.declared.keys.GroupKey.{GroupKey}
 use Rattle.group_key.specs.Holds.{IsLast}
 use Rattle.authenticator.specs.declared.authenticator.Retried.{Retried}
 use Rattle.authenticator.specs.declared.authenticator.Retried.TheVariants as retried
 use Rattle.authenticator.specs.State.{State, GivenUp}
-use Rattle.authenticator.specs.Stands.{Stands, IsAsked}
+use Rattle.authenticator.specs.Stands.{Stands, IsAsked, IsAskedOf}
 use Rattle.authenticator.specs.Steps.{Steps, Retries, IsAttempt}
 
 -- the message of these fields and octets takes the authenticator from old to new
 abbrev pub StepsFrom : State → State → Message → KeyFields → List ℕ → GroupKey → ℕ → Outcome → Reply → Type 0
 StepsFrom old new message f whole g rsc outcome r =
-    (d : Domain) (first ap sta : ℕ) (octets : List ℕ) (k : KeyMessage) (h : List Act) → Stands d (Ap ap) (Sta sta) old h → IsAsked (Sta sta) old.stage h
-    → IsLast g (gtks h) → newest_uses h ≡ rsc → IsMessageFrom d (Ap ap) (Sta sta) octets k → k.message ≡ message → k.fields ≡ f → k.octets ≡ whole
+    (d : Domain) (first ap sta : ℕ) (octets : List ℕ) (k : KeyMessage) (h : List Act) → Stands d (Ap ap) (Sta sta) old h → IsAskedOf message (Sta sta) old.stage h
+    → IsLast g (group_keys groups.Gtk h) → newest_uses groups.Gtk h ≡ rsc → IsMessageFrom d (Ap ap) (Sta sta) octets k → k.message ≡ message → k.fields ≡ f → k.octets ≡ whole
     → Steps d first (Ap ap) (Sta sta) octets k new outcome r h
 
 -- and so does sending once more

@@ -10,10 +10,11 @@ ghost use Rattle.run_journal.specs.declared.acts.Outcome.TheVariants.{Refused};
 ghost use Rattle.run_journal.specs.declared.acts.Reason.{Reason as AnyReason};
 ghost use Rattle.run_journal.specs.Replies.{IsWhole};
 ghost use Rattle.domain_rules.specs.Frames.{sent_m1};
-ghost use Rattle.run_journal.specs.Questions.{gtks};
+ghost use Rattle.run_journal.specs.Questions.{group_keys};
 ghost use Rattle.domain_rules.specs.GroupKeys.{newest_uses};
 ghost use Rattle.domain_rules.specs.Reading.{KeyMessage as AnyMessage};
 ghost use Rattle.domain_rules.specs.Replies.{IsMessageFrom, sent_acts};
+ghost use Rattle.run_journal.specs.GroupKinds as groups;
 ghost use Rattle.group_key.specs.Holds.{IsLast};
 ghost use Rattle.node_frames.specs.Replied.{TellsNothing};
 ghost use Rattle.authenticator.specs.Starts.{nonce_in, rsne_in};
@@ -33,7 +34,7 @@ use std::marker::Model;
 const FIRST_COUNTER: u64 = 1;
 
 /// How an authenticator begins.
-#[derive(Clone, Copy, Debug)]
+#[derive(Clone, Copy)]
 pub enum ApStart<'a> {
     /// An association request was accepted.
     Connect {
@@ -55,7 +56,7 @@ fn parts_of<'a>(start: ApStart<'a>) -> (&'a [u8; 32], &'a [u8])
 }
 
 /// What came of sending once more.
-#[derive(Clone, Copy, Debug, PartialEq, Eq)]
+#[derive(Clone, Copy)]
 pub enum Retried {
     /// M1 was sent once more, or from M2 on M3.
     Sent,
@@ -87,7 +88,7 @@ impl Model for Authenticator {
 }
 
 impl Authenticator {
-    ghost use Rattle.authenticator.specs.Stands.{Stands, IsAsked};
+    ghost use Rattle.authenticator.specs.Stands.{Stands, IsAsked, IsAskedOf};
     ghost use Rattle.authenticator.specs.Steps.{IsBegun, Steps, Retries, IsAttempt, IsStaged};
     ghost use Rattle.authenticator.specs.Taken.{IsStagedBy};
 
@@ -167,8 +168,8 @@ impl Authenticator {
         requires id { newest.now.id < 4 }
         requires packet_number { rsc < 2 ^ 48 }
         ensures steps { (d : AnyDomain) (first ap sta : ℕ) (octets : List ℕ) (k : AnyMessage) (h : List AnyAct)
-            → Stands d (Ap ap) (Sta sta) self.old h → IsAsked (Sta sta) self.old.stage h → IsLast newest.now (gtks h)
-            → newest_uses h ≡ rsc → IsMessageFrom d (Ap ap) (Sta sta) octets k → k.message ≡ message → k.fields ≡ fields_of frame.now
+            → Stands d (Ap ap) (Sta sta) self.old h → IsAskedOf message (Sta sta) self.old.stage h → IsLast newest.now (group_keys groups.Gtk h)
+            → newest_uses groups.Gtk h ≡ rsc → IsMessageFrom d (Ap ap) (Sta sta) octets k → k.message ≡ message → k.fields ≡ fields_of frame.now
             → k.octets ≡ frame.now.octets.now → Steps d first (Ap ap) (Sta sta) octets k self.new result reply.new h }
         ensures staged { IsStaged reply.new.installed self.old self.new }
         ensures refused { (why : AnyReason) → result ≡ Refused why → self.new ≡ self.old }

@@ -10,7 +10,5 @@ mod request;
 mod retry;
 mod stage;
 mod taking;
-#[cfg(test)]
-mod tests;
 
 pub use authenticator::{ApStart, Authenticator, Retried};

@@ -17,7 +17,7 @@ use rsn_elements::{Within, read_elements};
 use run_journal::{KeyDataFault, Keyed, Reason, Reply};
 
 /// What an M2 is judged as.
-#[derive(Clone, Copy, Debug)]
+#[derive(Clone, Copy)]
 pub enum M2 {
     /// Refused before its MIC verified.
     Refused(Reason),

@@ -11,7 +11,7 @@ use eapol_key::{KeyFrame, verify};
 use run_journal::{Keyed, Reason};
 
 /// What an M4 is judged as.
-#[derive(Clone, Copy, Debug)]
+#[derive(Clone, Copy)]
 pub enum M4 {
     /// Refused.
     Refused(Reason),

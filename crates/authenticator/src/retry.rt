@@ -20,7 +20,7 @@ use run_journal::{Kind, Reply};
 const MOST_SENDS: u8 = 4;
 
 /// What becomes of an attempt that goes on waiting.
-#[derive(Clone, Copy, Debug)]
+#[derive(Clone, Copy)]
 pub enum Again {
     /// Its message is sent once more: how many M1 and M3 were sent then.
     Sent(u8, u8),

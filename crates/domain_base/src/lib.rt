@@ -8,8 +8,6 @@ mod names;
 mod octets;
 mod outside;
 mod radio;
-#[cfg(test)]
-mod tests;
 
 pub use memory::{MemSink, MemSource, SteadySink, SteadySource};
 pub use memory_air::{Incoming, SteadyAir, SteadyDraws, SteadyLink};

@@ -7,8 +7,9 @@ use Rattle.run_journal.specs.declared.domain.Domain.{Domain}
 use Rattle.run_journal.specs.declared.domain.Event.{Event}
 use Rattle.run_journal.specs.declared.acts.Act.{Act}
 use Rattle.run_journal.specs.declared.acts.Entry.{Entry}
-use Rattle.domain_rules.specs.Rows.{start_acts}
+use Rattle.domain_rules.specs.AccessPointRows.{start_acts}
 use Rattle.domain_rules.specs.Explained.{number_of, push, Step, started}
+use Rattle.domain_rules.proofs.Journals.{at_one}
 use Rattle.run_journal.specs.Listing.{with_ap}
 use Rattle.domain_world.proofs.Begun.{started_ap}
 use Rattle.frame_script.specs.Headers.{Reading, HasSeen, HasSeenAll}
@@ -28,7 +29,8 @@ Grows-push round n (act ∷ g) past =
     (more.0 ++ e ∷ [], more.1 ∙ sym (append_assoc more.0 (e ∷ []) past))
 
 pub Grows-step : (d : Domain) (round : ℕ) (event : Event) (j k : List Entry) → Step d round event j k → Grows j k
-Grows-step d round event j k s =
+Grows-step d round event j k step =
+    let s = at_one d round event j k step in
     let more = Grows-push round s.node s.acts j in
     (more.0, s.is ∙ more.1)
 

@@ -28,7 +28,7 @@ const LINES: u8 = 1;
 const OCTETS: u8 = 2;
 
 /// Why a session goes no further.
-#[derive(Clone, Copy, Debug, PartialEq, Eq)]
+#[derive(Clone, Copy)]
 pub enum Stop {
     /// The line of this number is the first that is outside the grammar, for this reason.
     Faulty(u64, u8),

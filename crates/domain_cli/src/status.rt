@@ -3,7 +3,7 @@
 use thiserror::Error;
 
 /// How the reading of a script ended.
-#[derive(Clone, Copy, Debug, PartialEq, Eq)]
+#[derive(Clone, Copy)]
 pub enum Found {
     /// The source was read to its end, and every line was taken.
     Whole,
@@ -18,7 +18,7 @@ pub enum Found {
 }
 
 /// How a run ended.
-#[derive(Clone, Copy, Debug, PartialEq, Eq, Error)]
+#[derive(Clone, Copy, Debug, PartialEq, Error)]
 pub enum Status {
     /// The source was read to its end, and the whole report was written.
     #[error("done")]

@@ -20,7 +20,7 @@ use Rattle.key_hierarchy.specs.declared.inputs.Inputs.{Inputs}
 use Rattle.run_journal.specs.declared.domain.Domain.{Domain}
 use Rattle.run_journal.specs.Acts.{GroupKey}
 use Rattle.domain_rules.specs.Frames.{wrapped, m3_key_data}
-use Rattle.domain_rules.specs.Rows.{carried}
+use Rattle.domain_rules.specs.StationRows.{carried}
 use Rattle.domain_rules.proofs.KeyOctets.{octets-kek}
 
 -- a group key as access points have it
@@ -77,8 +77,8 @@ wrapped_is d kek g is = record {
   wrapped = refl;
 }
 
-pub few_wrapped : (d : Domain) (i : Inputs) (g : GroupKey) → IsGroupKey g → length (wrapped (ptk i).kek (m3_key_data d g)) ≤ 65440
-few_wrapped d i g is = omega (arith, (length-Wraps (ptk i).kek (m3_key_data d g) (wrapped (ptk i).kek (m3_key_data d g)) (octets-kek i) (wrapped_is d (ptk i).kek g is)).0, length-data d g is)
+pub few_wrapped : (d : Domain) (kek : List ℕ) (g : GroupKey) → AreOctets kek → IsGroupKey g → length (wrapped kek (m3_key_data d g)) ≤ 65440
+few_wrapped d kek g octets is = omega (arith, (length-Wraps kek (m3_key_data d g) (wrapped kek (m3_key_data d g)) octets (wrapped_is d kek g is)).0, length-data d g is)
 
 pub says : (d : Domain) (g : GroupKey) → IsGroupKey g → SpellsElements KeyData (m3_key_data d g) (said KeyData (SentRsne d.akm None ∷ SentGtkKde g.id g.key ∷ []))
 says d g is = subst (λ (x : List ℕ). SpellsElements KeyData x (said KeyData (SentRsne d.akm None ∷ SentGtkKde g.id g.key ∷ [])))

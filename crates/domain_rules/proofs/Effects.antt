@@ -28,8 +28,9 @@ use Rattle.run_journal.specs.Acts.{same, same_kind}
 use Rattle.run_journal.specs.Questions.{attempt, own_nonce, derivation, pending, associated, heard, all_replied, draws, add}
 use Rattle.domain_rules.specs.Network.{address}
 use Rattle.domain_rules.specs.Frames.{in_data, sent_assoc_req, sent_assoc_resp, sent_m1, sent_m2}
-use Rattle.domain_rules.specs.Verdict.{by_connect, kept_counter, offered, has_heard}
-use Rattle.domain_rules.specs.Rows.{close_attempt, close_pending, close_associated, response}
+use Rattle.domain_rules.specs.Asking.{by_connect, kept_counter, offered, has_heard}
+use Rattle.domain_rules.specs.Closing.{close_attempt, close_pending, close_associated}
+use Rattle.domain_rules.specs.Rows.{response}
 use Rattle.domain_rules.proofs.Parts.{same-refl, attempt_none, attempt_more, by_connect_more, attempt_some, own_nonce_more, IsApart, apart-opened, apart-closed, apart-drew, apart-derived, apart-sent, apart-sent_kind, apart-took, apart-refused, apart-ignored, apart-idle, GoesOn, goes_on, draws_add, pending_add, associated_add, leaves_pending, leaves_associated}
 use Rattle.domain_rules.proofs.SentReads.{m1_message, reads-m1, reads-counter}
 
@@ -313,13 +314,13 @@ has_associated p octets h part is = (
 -- ---- a station derives the key by M1 of access point p
 
 abbrev pub replying_acts : Domain → Node → Node → List ℕ → Inputs → Ptk → ℕ → List Act
-replying_acts d n p octets i k counter = Took (Some p) octets (kind.Key M1) Accepted None ∷ Derived p i k ∷ sent_m2 d n p i counter ∷ []
+replying_acts d n p octets i k counter = Took (Some p) octets (kind.Key M1) Accepted None ∷ Derived p i k ∷ sent_m2 d n p (record { inputs = i; ptk = k }) counter ∷ []
 
 pub has_replied : (d : Domain) (n p : Node) (octets : List ℕ) (i : Inputs) (k : Ptk) (counter : ℕ) (h part : List Act) → attempt p h ≡ Some part
     → (t : IsTaken p part h (add (replying_acts d n p octets i k counter) h)) × (heard p kind.AssocResp t.more ≡ heard p kind.AssocResp part) × (heard p (kind.Key M1) t.more ≡ Some octets) × (derivation p t.more ≡ Some (record { inputs = i; ptk = k }))
 has_replied d n p octets i k counter h part is =
     let took = Took (Some p) octets (kind.Key M1) Accepted None in
-    let m2 = sent_m2 d n p i counter in
+    let m2 = sent_m2 d n p (record { inputs = i; ptk = k }) counter in
     let first = attempt_more p took h part refl refl is in
     let second = attempt_more p (Derived p i k) (took ∷ h) (took ∷ part) refl refl first in (
       record {

@@ -1,17 +1,18 @@
 -- A whole handshake in every network in form, and a small network.
-use Rattle.domain_base.specs.declared.names.Akm.TheVariants.{Psk}
+use Rattle.domain_base.specs.declared.names.Akm.TheVariants.{FtPsk}
 use Rattle.domain_base.specs.declared.names.Mac.{Mac}
 use Rattle.domain_base.specs.declared.names.Node.TheVariants.{Ap, Sta}
 use Rattle.domain_rules.proofs.Peers.{listed-address, named, finds-sta, finds-ap}
-use Rattle.domain_rules.proofs.SentReads.{HasMic, has_mic-psk}
 use Rattle.domain_rules.specs.Example.{small, AreWhole, HasHandshake}
 use Rattle.domain_rules.specs.Network.{InForm}
 use Rattle.key_hierarchy.specs.Sizes.{IsSsid}
 use Rattle.run_journal.specs.declared.domain.Domain.{Domain}
-use Rattle.std.proofs.Common.{◌≡◌, ℕ, ◌<◌, List, length, refl, sym, ap, subst, arith}
+use Rattle.domain_base.specs.declared.names.Akm.{Akm}
+use Rattle.mac_prf.proofs.Parts.{length-mic}
+use Rattle.std.proofs.Common.{◌≢◌, ℕ, ◌<◌, List, length, refl, ap, arith}
 use Rattle.domain_rules.proofs.LastRounds.{whole}
 
-pub handshake_explained : (d : Domain) (a s : ℕ) → InForm d → AreWhole d → d.akm ≡ Psk → a < length d.aps → s < length d.stas → HasHandshake d a s
+pub handshake_explained : (d : Domain) (a s : ℕ) → InForm d → AreWhole d → d.akm ≢ FtPsk → a < length d.aps → s < length d.stas → HasHandshake d a s
 handshake_explained d a s form are akm ap_low sta_low = whole d a s (record {
   ap_whole = listed-address d (Ap a) are.aps are.stas ap_low;
   sta_whole = listed-address d (Sta s) are.aps are.stas sta_low;
@@ -19,12 +20,12 @@ handshake_explained d a s form are akm ap_low sta_low = whole d a s (record {
   finds_sta = finds-sta d a s (named d form) sta_low;
   ap_low = ap_low;
   sta_low = omega (arith, form.few_stas);
-  has_mic = subst HasMic (sym akm) has_mic-psk;
+  has_mic = length-mic d.akm;
 })
 
 -- the small network is in form
-pub small-in_form : (seed ssid psk : List ℕ) → IsSsid ssid → InForm (small seed ssid psk)
-small-in_form seed ssid psk is = record {
+pub small-in_form : (akm : Akm) (seed ssid psk : List ℕ) → IsSsid ssid → InForm (small akm seed ssid psk)
+small-in_form akm seed ssid psk is = record {
   some = is.least;
   few = is.most;
   aps = ((λ e. cc, refl), omega arith, omega arith, tt, tt, tt);
@@ -33,5 +34,5 @@ small-in_form seed ssid psk is = record {
   few_stas = omega arith;
 }
 
-pub small-whole : (seed ssid psk : List ℕ) → AreWhole (small seed ssid psk)
-small-whole seed ssid psk = record { aps = (refl, tt); stas = (refl, tt) }
+pub small-whole : (akm : Akm) (seed ssid psk : List ℕ) → AreWhole (small akm seed ssid psk)
+small-whole akm seed ssid psk = record { aps = (refl, tt); stas = (refl, tt) }

@@ -5,7 +5,7 @@ use Rattle.domain_base.specs.declared.names.Akm.TheVariants.{Psk, PskSha256, FtP
 use Rattle.domain_base.specs.declared.names.Akm.{Akm}
 use Rattle.domain_base.specs.declared.names.Node.TheVariants.{Ap, Sta}
 use Rattle.domain_base.specs.declared.names.Node.{Node}
-use Rattle.domain_rules.proofs.Journals.{history-push, history-other, started_none, started_more, explained_event}
+use Rattle.domain_rules.proofs.Journals.{step_at, history-push, history-other, started_none, started_more, explained_event}
 use Rattle.domain_rules.proofs.KeyOctets.{octets-kdf}
 use Rattle.domain_rules.proofs.SentReads.{HasMic}
 use Rattle.domain_rules.specs.Counters.{next_in_attempt, sent_count}
@@ -14,16 +14,21 @@ use Rattle.domain_rules.specs.Frames.{sent_m3}
 use Rattle.domain_rules.specs.GroupKeys.{newest, newest_uses}
 use Rattle.domain_rules.specs.Network.{address, peer_of, nonce, gtk}
 use Rattle.domain_rules.specs.Reading.{KeyMessage}
-use Rattle.domain_rules.specs.Rows.{Take, TakeRow, retry_acts, most_sends}
-use Rattle.domain_rules.specs.Verdict as rules
-use Rattle.domain_rules.specs.Verdict.{by_connect, has_heard, is_mine, kept_counter, offered, rsne_status, verified, Keying, m3_keying, m4_keying, m3_verdict, m4_verdict, taken_in}
+use Rattle.domain_rules.specs.Rows.{Take, TakeRow}
+use Rattle.domain_rules.specs.AccessPointRows.{retry_acts, most_sends}
+use Rattle.domain_rules.specs.StationKeys as keys
+use Rattle.domain_rules.specs.Asking.{by_connect, has_heard, kept_counter, offered, verified}
+use Rattle.domain_rules.specs.Verdict.{is_mine}
+use Rattle.domain_rules.specs.Associating.{rsne_status}
+use Rattle.domain_rules.specs.StationKeys.{Keying, m3_keying, m3_verdict, taken_in}
+use Rattle.domain_rules.specs.AccessPointKeys.{m4_keying, m4_verdict}
 use Rattle.eapol_key.specs.declared.messages.Message.TheVariants.{M1, M2, M3}
 use Rattle.key_hierarchy.proofs.Lengths.{length-kdf}
 use Rattle.rsn_elements.specs.Pieces.{SentRsne, SentGtkKde, sent_rsne, said}
 use Rattle.rsn_elements.specs.Sent.{rsne_octets}
 use Rattle.rsn_elements.specs.declared.framing.Within.TheVariants.{KeyData}
 use Rattle.run_journal.specs.Acts.{Derivation}
-use Rattle.run_journal.specs.Questions.{attempt, derivation, history, add, since, session, before_sent}
+use Rattle.run_journal.specs.Questions.{attempt, derivation, history, add, since, session, before_sent, chain}
 use Rattle.run_journal.specs.declared.acts.Act.{Act}
 use Rattle.run_journal.specs.declared.acts.Entry.{Entry}
 use Rattle.run_journal.specs.declared.acts.Kind.TheVariants as kind
@@ -31,6 +36,7 @@ use Rattle.run_journal.specs.declared.acts.Outcome.TheVariants.{Accepted}
 use Rattle.run_journal.specs.declared.domain.Domain.{Domain}
 use Rattle.run_journal.specs.declared.domain.Event.TheVariants.{Deliver}
 use Rattle.run_journal.specs.declared.domain.Event.{Event}
+use Rattle.run_journal.specs.GroupKinds as groups
 use Rattle.std.proofs.Common.{◌≡◌, ℕ, zero, suc, ◌<◌, true, false, List, [], ◌∷◌, length, Some, None, refl, sym, ap, subst, ◌∙◌}
 use Rattle.std.proofs.lemmas.Slice.Eq.{bytes_eq-Decides}
 use Rattle.std.specs.List.{list_any}
@@ -51,30 +57,30 @@ octets-gtk d n i = octets-kdf _ _ _ 16
 -- octets that come are one step
 pub take_step : (d : Domain) (round number : ℕ) (n : Node) (octets : List ℕ) (past : List Entry) (h g : List Act) → history n past ≡ h → WasSent past round number octets → TakeRow d 0 n h octets g
     → Step d round (Deliver number n) past (push round n g past)
-take_step d round number n octets past h g is was row = record {
+take_step d round number n octets past h g is was row = step_at d round (Deliver number n) past (push round n g past) (record {
   node = n;
   at_node = Take octets;
   happens = (octets, (was, (refl, refl)));
   acts = g;
   group = subst (λ (x : List Act). TakeRow d 0 n x octets g) (sym is) row;
   is = refl;
-}
+})
 
 pub some-injective : (x y : Keying) → Some x ≡ Some y → x ≡ y
 some-injective x y e = cc e
 
 -- the key of an attempt
 pub m3-keyed : (p : Node) (h part : List Act) (x : Derivation) → attempt p h ≡ Some part → by_connect part ≡ true → has_heard p (kind.Key M1) part ≡ true → derivation p part ≡ Some x
-    → m3_keying p h ≡ Some (record { inputs = x.inputs; ptk = x.ptk; part = part; is_session = false })
+    → m3_keying p h ≡ Some (record { key = x; is_session = false })
 m3-keyed p h part x s begun hears derives = rw (s, begun, hears, derives) refl
 
 pub m4-keyed : (p : Node) (part : List Act) (x : Derivation) → by_connect part ≡ true → has_heard p (kind.Key M2) part ≡ true → derivation p part ≡ Some x → m4_keying p part ≡ Some x
 m4-keyed p part x begun hears derives = rw (begun, hears, derives) refl
 
 -- M3 and M4 by the answers to what is asked of the history
-pub m3-in : (d : Domain) (h : List Act) (p : Node) (k : KeyMessage) (y : Keying) → m3_keying p h ≡ Some y → kept_counter p y.part ≡ None → k.fields.nonce ≡ y.inputs.anonce
-    → m3_verdict d h p k ≡ verified d.akm y.ptk.kck k (taken_in y.is_session)
-m3-in d h p k y s counter same = rw (s, counter, (bytes_eq-Decides k.fields.nonce y.inputs.anonce).1 same) refl
+pub m3-in : (d : Domain) (h : List Act) (p : Node) (k : KeyMessage) (y : Keying) → m3_keying p h ≡ Some y → kept_counter p (chain p h) ≡ None → k.fields.nonce ≡ y.key.inputs.anonce
+    → m3_verdict d h p k ≡ verified d.akm y.key.ptk.kck k (taken_in y.is_session)
+m3-in d h p k y s counter same = rw (s, counter, (bytes_eq-Decides k.fields.nonce y.key.inputs.anonce).1 same) refl
 
 pub m4-in : (d : Domain) (h : List Act) (p : Node) (k : KeyMessage) (part : List Act) (x : Derivation) (offers : List ℕ) → attempt p h ≡ Some part → m4_keying p part ≡ Some x → offered p M3 part ≡ offers
     → list_any (λ c. c == k.fields.counter) offers ≡ true → m4_verdict d h p k ≡ verified d.akm x.ptk.kck k Accepted
@@ -82,22 +88,22 @@ m4-in d h p k part x offers s keyed is same = rw (s, keyed, is, same) refl
 
 -- the key of a session
 pub m3-keyed_session : (p : Node) (h part : List Act) (x : Derivation) → attempt p h ≡ None → since p h ≡ part → by_connect part ≡ true → session p h ≡ Some x
-    → m3_keying p h ≡ Some (record { inputs = x.inputs; ptk = x.ptk; part = part; is_session = true })
+    → m3_keying p h ≡ Some (record { key = x; is_session = true })
 m3-keyed_session p h part x s is begun has = rw (s, is, begun, has) refl
 
 -- M3 with a counter above the last
-pub m3-again : (d : Domain) (h : List Act) (p : Node) (k : KeyMessage) (y : Keying) (kept : ℕ) → m3_keying p h ≡ Some y → kept_counter p y.part ≡ Some kept → nat_lt kept k.fields.counter ≡ true → k.fields.nonce ≡ y.inputs.anonce
-    → m3_verdict d h p k ≡ verified d.akm y.ptk.kck k (taken_in y.is_session)
-m3-again d h p k y kept s counter low same = rw (s, counter, low, (bytes_eq-Decides k.fields.nonce y.inputs.anonce).1 same) refl
+pub m3-again : (d : Domain) (h : List Act) (p : Node) (k : KeyMessage) (y : Keying) (kept : ℕ) → m3_keying p h ≡ Some y → kept_counter p (chain p h) ≡ Some kept → nat_lt kept k.fields.counter ≡ true → k.fields.nonce ≡ y.key.inputs.anonce
+    → m3_verdict d h p k ≡ verified d.akm y.key.ptk.kck k (taken_in y.is_session)
+m3-again d h p k y kept s counter low same = rw (s, counter, low, (bytes_eq-Decides k.fields.nonce y.key.inputs.anonce).1 same) refl
 
 -- M3 is sent once more
 pub retries-m3 : (d : Domain) (n : Node) (h : List Act) (p : Node) (part past : List Act) (x : Derivation) → attempt p h ≡ Some part → by_connect part ≡ true → has_heard p (kind.Key M2) part ≡ true → nat_lt (sent_count p M3 part) most_sends ≡ true
-    → derivation p part ≡ Some x → before_sent p (kind.Key M3) h ≡ Some past → retry_acts d n h p (attempt p h) ≡ sent_m3 d n p x.inputs (next_in_attempt p part) (newest past) (newest_uses past) ∷ []
+    → derivation p part ≡ Some x → before_sent p (kind.Key M3) h ≡ Some past → retry_acts d n h p (attempt p h) ≡ sent_m3 d n p x (next_in_attempt p (chain p h)) (newest groups.Gtk past) (newest_uses groups.Gtk past) ∷ []
 retries-m3 d n h p part past x s begun hears few derives before = rw (s, begun, hears, few, derives, before) refl
 
 -- key data with the RSNE that is sent and a group key is accepted
 pub key_data-same : (akm : Akm) (key : List ℕ) (id : ℕ) → length key ≡ 16 → (id == 0) ≡ false
-    → rules.m3_key_data akm (Some (said KeyData (SentRsne akm None ∷ SentGtkKde id key ∷ []))) ≡ Accepted
+    → keys.m3_key_data akm (Some (said KeyData (SentRsne akm None ∷ SentGtkKde id key ∷ []))) ≡ Accepted
 key_data-same akm key id size other = rw ((bytes_eq-Decides (rsne_octets akm None) (rsne_octets akm None)).1 refl, size, other) refl
 
 -- no frame is sent as access points start

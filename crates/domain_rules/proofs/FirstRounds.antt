@@ -2,23 +2,28 @@
 use Rattle.domain_base.specs.declared.names.Node.{Node}
 use Rattle.domain_rules.proofs.Refused.{no_facts}
 use Rattle.domain_rules.proofs.Exchange.{length-nonce, take_step, frames-started, status-sent, same_octets, IsPair, Stage}
-use Rattle.domain_rules.proofs.Journals.{history-push, history-other, history-started, history-started_sta, explained_start, explained_event}
-use Rattle.domain_rules.proofs.Parts.{same-refl, attempt_more}
+use Rattle.domain_rules.proofs.Journals.{step_at, history-push, history-other, history-started, history-started_sta, explained_start, explained_event}
+use Rattle.domain_rules.proofs.Parts.{same-refl, attempt_more, since_part}
 use Rattle.domain_rules.proofs.SentReads.{assoc_req_body, assoc_req_said, reads-assoc_req, assoc_resp_body, rates_said, reads-assoc_resp, m1_message, reads-m1, m2_message, m2_fields, reads-m2, fits-m2, rsne_said, rsne_spelled, mic-sealed, reads-counter}
 use Rattle.domain_rules.proofs.Verdicts.{assoc_resp-in, m1-in, m2-in, verified-same, management-from, managed-from, keyed-from}
 use Rattle.domain_rules.specs.Counters.{next_in_attempt}
 use Rattle.domain_rules.specs.Explained.{frames, push, started, WasSent, Step, Explained}
-use Rattle.domain_rules.specs.Frames.{sent_m3}
+use Rattle.domain_rules.specs.Frames.{sent_m3, keyed_by}
 use Rattle.domain_rules.specs.GroupKeys.{newest, newest_uses}
 use Rattle.domain_rules.specs.Reading.{KeyMessage, Managed, Keyed, Reads}
-use Rattle.domain_rules.specs.Rows.{ConnectRow, Asks, Begin, TakeRow, By_assoc_req, By_assoc_resp, By_m1, By_m2}
-use Rattle.domain_rules.specs.Verdict.{IsRequested, has_heard, is_mine, kept_counter, management_verdict, offered, verified, Facts, KnowsM2, further, and_then, first_verdict, verdict}
+use Rattle.domain_rules.specs.StationRows.{ConnectRow, Asks}
+use Rattle.domain_rules.specs.Rows.{Begin, TakeRow, By_assoc_req, By_assoc_resp, By_m1, By_m2}
+use Rattle.domain_rules.specs.AccessPointKeys.{IsRequested, KnowsM2, request}
+use Rattle.domain_rules.specs.Asking.{has_heard, kept_counter, offered, verified}
+use Rattle.domain_rules.specs.Verdict.{is_mine, further, and_then, first_verdict, verdict}
+use Rattle.domain_rules.specs.Associating.{management_verdict}
+use Rattle.domain_rules.specs.Facts.{Facts}
 use Rattle.eapol_key.specs.declared.messages.Message.TheVariants.{M1, M2}
 use Rattle.key_hierarchy.specs.Keys.{ptk}
 use Rattle.key_hierarchy.specs.declared.inputs.Inputs.{Inputs}
 use Rattle.rsn_elements.specs.Sent.{rates_octets, rsne_octets}
 use Rattle.run_journal.specs.Acts.{GroupKey}
-use Rattle.run_journal.specs.Questions.{attempt, heard, history, add}
+use Rattle.run_journal.specs.Questions.{attempt, history, add, chain}
 use Rattle.run_journal.specs.declared.acts.Act.TheVariants.{Derived, Took}
 use Rattle.run_journal.specs.declared.acts.Act.{Act}
 use Rattle.run_journal.specs.declared.acts.Entry.{Entry}
@@ -33,6 +38,7 @@ use Rattle.std.proofs.Common.{◌≡◌, ℕ, suc, true, false, List, [], ◌∷
 use Rattle.std.proofs.lemmas.Slice.Eq.{bytes_eq-Decides}
 use Rattle.std.specs.Prelude.{not, ◌||◌}
 use Rattle.domain_rules.proofs.HandshakeActs as w
+use Rattle.run_journal.specs.GroupKinds as groups
 
 module _ (d : Domain) (k m : ℕ) (pair : IsPair d k m) where
   abbrev a : Node
@@ -115,14 +121,14 @@ module _ (d : Domain) (k m : ℕ) (pair : IsPair d k m) where
   past1 = push 1 s acts1 past0
 
   step1 : Step d 1 (Connect m k) past0 past1
-  step1 = record {
+  step1 = step_at d 1 (Connect m k) past0 past1 (record {
     node = s;
     at_node = Begin k;
     happens = (refl, refl);
     acts = acts1;
     group = subst (λ (h : List Act). ConnectRow d 0 s h a acts1) (sym (history-started_sta d m (length d.aps))) (Asks (omega arith) refl);
     is = refl;
-  }
+  })
 
   sta1-is : history s past1 ≡ sta1
   sta1-is = history-push 1 s acts1 past0 ∙ ap (add acts1) (history-started_sta d m (length d.aps))
@@ -224,7 +230,7 @@ module _ (d : Domain) (k m : ℕ) (pair : IsPair d k m) where
   mine3 = rw (same_octets d s) refl
 
   accepted3 : verdict d 0 s sta3 (Keyed m1) no_facts ≡ Accepted
-  accepted3 = ap (λ (o : Outcome). and_then o Accepted) (keyed-from d 0 s sta3 m1 a mine3 pair.finds_ap ∙ m1-in sta3 a m1 sta3 true None attempt3 refl heard3 counter3)
+  accepted3 = ap (λ (o : Outcome). and_then o Accepted) (keyed-from d 0 s sta3 m1 a mine3 pair.finds_ap ∙ m1-in sta3 a m1 sta3 true None attempt3 refl heard3 (ap (kept_counter a) (since_part a sta3 sta3 attempt3) ∙ counter3))
 
   reads3 : Reads d.akm octets3 (Keyed m1)
   reads3 = reads-m1 d a s 1 anonce pair.ap_whole pair.sta_whole (omega arith) (length-nonce d a 1)
@@ -246,7 +252,7 @@ module _ (d : Domain) (k m : ℕ) (pair : IsPair d k m) where
 
   -- round 5: the access point derives it by M2
   abbrev m2 : KeyMessage
-  m2 = m2_message d s a i 1
+  m2 = m2_message d s a (keyed_by i) 1
 
   abbrev past5 : List Entry
   past5 = push 5 a acts5 past4
@@ -261,7 +267,7 @@ module _ (d : Domain) (k m : ℕ) (pair : IsPair d k m) where
   offers4 = rw (same-refl s) (ap (λ (c : ℕ). c ∷ []) (reads-counter d.akm octets3 m1 reads3))
 
   verifies4 : verified d.akm (ptk i).kck m2 Accepted ≡ Accepted
-  verifies4 = verified-same d.akm (ptk i).kck m2 Accepted (mic-sealed d.akm (ptk i).kck (m2_fields d i 1) pair.has_mic (fits-m2 d i 1 (omega arith) (length-nonce d s 0)))
+  verifies4 = verified-same d.akm (ptk i).kck m2 Accepted (mic-sealed d.akm (ptk i).kck (m2_fields d (keyed_by i) 1) pair.has_mic (fits-m2 d (keyed_by i) 1 (omega arith) (length-nonce d s 0)))
 
   mine4 : (not (is_mine d a m2.header) || false) ≡ false
   mine4 = rw (same_octets d a) refl
@@ -270,7 +276,7 @@ module _ (d : Domain) (k m : ℕ) (pair : IsPair d k m) where
   first4 = keyed-from d 0 a ap2 m2 s mine4 pair.finds_sta ∙ m2-in d a ap2 s m2 part2 false (1 ∷ []) anonce attempt4 refl refl offers4 refl ∙ verifies4
 
   abbrev facts : Facts
-  facts = record { requested = Some (rsne_octets d.akm None); unwrapped = None; data_ = Some (rsne_said d.akm) }
+  facts = record { requested = Some (assoc_req_said d); unwrapped = None; data_ = Some (rsne_said d.akm) }
 
   same_rsne : further d.akm (Keyed m2) facts ≡ Accepted
   same_rsne = rw ((bytes_eq-Decides (rsne_octets d.akm None) (rsne_octets d.akm None)).1 refl) refl
@@ -278,25 +284,25 @@ module _ (d : Domain) (k m : ℕ) (pair : IsPair d k m) where
   accepted4 : verdict d 0 a ap2 (Keyed m2) facts ≡ Accepted
   accepted4 = ap (λ (o : Outcome). and_then o (further d.akm (Keyed m2) facts)) first4 ∙ ap (and_then Accepted) same_rsne
 
-  request4 : heard s kind.AssocReq ap2 ≡ Some octets1
+  request4 : request s ap2 ≡ Some octets1
   request4 = rw (same-refl s) refl
 
   knows4 : KnowsM2 d.akm ap2 s m2 facts
   knows4 = record {
-    requested = subst (λ (o : Option (List ℕ)). IsRequested d.akm o facts.requested) (sym request4) (assoc_req_body d s a, (assoc_req_said d, (reads-assoc_req d s a pair.sta_whole pair.ap_whole, refl)));
+    requested = subst (λ (o : Option (List ℕ)). IsRequested d.akm o facts.requested) (sym request4) (assoc_req_body d s a, reads-assoc_req d s a pair.sta_whole pair.ap_whole);
     data_ = rsne_spelled d.akm;
   }
 
-  counter4 : next_in_attempt s part2 ≡ 2
-  counter4 = rw (same-refl s) refl
+  counter4 : next_in_attempt s (chain s ap2) ≡ 2
+  counter4 = ap (next_in_attempt s) (since_part s ap2 part2 attempt4) ∙ rw (same-refl s) refl
 
-  says4 : acts5 ≡ Took (Some s) octets4 (kind.Key M2) Accepted (Some seal4) ∷ Derived s i (ptk i) ∷ sent_m3 d a s i (next_in_attempt s part2) (newest ap2) (newest_uses ap2) ∷ []
-  says4 = ap (λ (c : ℕ). Took (Some s) octets4 (kind.Key M2) Accepted (Some seal4) ∷ Derived s i (ptk i) ∷ sent_m3 d a s i c g 0 ∷ []) (sym counter4)
+  says4 : acts5 ≡ Took (Some s) octets4 (kind.Key M2) Accepted (Some seal4) ∷ Derived s i (ptk i) ∷ sent_m3 d a s (keyed_by i) (next_in_attempt s (chain s ap2)) (newest groups.Gtk ap2) (newest_uses groups.Gtk ap2) ∷ []
+  says4 = ap (λ (c : ℕ). Took (Some s) octets4 (kind.Key M2) Accepted (Some seal4) ∷ Derived s i (ptk i) ∷ sent_m3 d a s (keyed_by i) c g 0 ∷ []) (sym counter4)
 
   row4 : TakeRow d 0 a ap2 octets4 acts5
   row4 = record {
     r = Keyed m2;
-    reads = reads-m2 d s a i 1 pair.has_mic pair.sta_whole pair.ap_whole (omega arith) (length-nonce d s 0);
+    reads = reads-m2 d s a (keyed_by i) 1 pair.has_mic pair.sta_whole pair.ap_whole (omega arith) (length-nonce d s 0);
     facts = facts;
     knows = λ came p from. (let same : s ≡ p = cc (from, pair.finds_sta) in subst (λ (x : Node). KnowsM2 d.akm ap2 x m2 facts) same knows4);
     row = By_m2 (record { k = m2; is = refl; message_is = refl; p = s; from = pair.finds_sta; accepted = accepted4; part = part2; awaited = attempt4; i = i; inputs_are = refl; says = says4 });

@@ -3,9 +3,9 @@ use Rattle.air_frame.specs.Sent.{assoc_req_octets, assoc_resp_octets}
 use Rattle.domain_base.specs.declared.names.Node.TheVariants.{Ap, Sta}
 use Rattle.domain_base.specs.declared.names.Node.{Node}
 use Rattle.domain_base.specs.declared.names.Peer.TheVariants.{One}
-use Rattle.domain_rules.specs.Frames.{assoc_req_elements, aid, in_data, m2_frame, sent_assoc_req, sent_assoc_resp, sent_m1, sent_m2, frame_seal, m3_frame, m4_frame, sent_m3, sent_m4}
-use Rattle.domain_rules.specs.Network.{address, mac, nonce, gtk, inputs}
-use Rattle.domain_rules.specs.Rows.{start_acts}
+use Rattle.domain_rules.specs.Frames.{assoc_req_elements, aid, in_data, m2_frame, sent_assoc_req, sent_assoc_resp, sent_m1, sent_m2, frame_seal, m3_frame, m4_frame, sent_m3, sent_m4, keyed_by}
+use Rattle.domain_rules.specs.Network.{address, mac, nonce, gtk, inputs, root}
+use Rattle.domain_rules.specs.AccessPointRows.{start_acts}
 use Rattle.eapol_key.specs.Octets.{frame_octets}
 use Rattle.eapol_key.specs.Sent.{sent_fields}
 use Rattle.eapol_key.specs.declared.messages.Message.TheVariants.{M1, M2, M3, M4}
@@ -50,7 +50,7 @@ module _ (d : Domain) (k m : ℕ) where
 
   -- the pairwise key, and the group key that goes with M3
   abbrev pub i : Inputs
-  i = inputs d s a snonce anonce
+  i = inputs d (root d) s a snonce anonce
 
   abbrev pub g : GroupKey
   g = record { key = gtk d a 0; id = 1 }
@@ -69,34 +69,34 @@ module _ (d : Domain) (k m : ℕ) where
   octets3 = in_data d a s (frame_octets (sent_fields M1 d.akm 1 anonce 0 []))
 
   abbrev pub octets4 : List ℕ
-  octets4 = in_data d s a (m2_frame d i 1)
+  octets4 = in_data d s a (m2_frame d (keyed_by i) 1)
 
   abbrev pub octets5 : List ℕ
-  octets5 = in_data d a s (m3_frame d i 2 g 0)
+  octets5 = in_data d a s (m3_frame d (keyed_by i) 2 g 0)
 
   abbrev pub octets6 : List ℕ
-  octets6 = in_data d s a (m4_frame d i 2)
+  octets6 = in_data d s a (m4_frame d (keyed_by i) 2)
 
   abbrev pub octets7 : List ℕ
-  octets7 = in_data d a s (m3_frame d i 3 g 0)
+  octets7 = in_data d a s (m3_frame d (keyed_by i) 3 g 0)
 
   abbrev pub octets8 : List ℕ
-  octets8 = in_data d s a (m4_frame d i 3)
+  octets8 = in_data d s a (m4_frame d (keyed_by i) 3)
 
   abbrev pub octets11 : List ℕ
   octets11 = in_data d a s (frame_octets (sent_fields M1 d.akm 1 anonce2 0 []))
 
   abbrev pub seal4 : Seal
-  seal4 = frame_seal (ptk i).kck (m2_frame d i 1)
+  seal4 = frame_seal (ptk i).kck (m2_frame d (keyed_by i) 1)
 
   abbrev pub seal5 : Seal
-  seal5 = frame_seal (ptk i).kck (m3_frame d i 2 g 0)
+  seal5 = frame_seal (ptk i).kck (m3_frame d (keyed_by i) 2 g 0)
 
   abbrev pub seal7 : Seal
-  seal7 = frame_seal (ptk i).kck (m3_frame d i 3 g 0)
+  seal7 = frame_seal (ptk i).kck (m3_frame d (keyed_by i) 3 g 0)
 
   abbrev pub seal8 : Seal
-  seal8 = frame_seal (ptk i).kck (m4_frame d i 3)
+  seal8 = frame_seal (ptk i).kck (m4_frame d (keyed_by i) 3)
 
   -- the acts of each round
   abbrev pub acts1 : List Act
@@ -109,19 +109,19 @@ module _ (d : Domain) (k m : ℕ) where
   acts3 = Took (Some a) octets2 kind.AssocResp Accepted None ∷ []
 
   abbrev pub acts4 : List Act
-  acts4 = Took (Some a) octets3 (kind.Key M1) Accepted None ∷ Derived a i (ptk i) ∷ sent_m2 d s a i 1 ∷ []
+  acts4 = Took (Some a) octets3 (kind.Key M1) Accepted None ∷ Derived a i (ptk i) ∷ sent_m2 d s a (keyed_by i) 1 ∷ []
 
   abbrev pub acts5 : List Act
-  acts5 = Took (Some s) octets4 (kind.Key M2) Accepted (Some seal4) ∷ Derived s i (ptk i) ∷ sent_m3 d a s i 2 g 0 ∷ []
+  acts5 = Took (Some s) octets4 (kind.Key M2) Accepted (Some seal4) ∷ Derived s i (ptk i) ∷ sent_m3 d a s (keyed_by i) 2 g 0 ∷ []
 
   abbrev pub acts6 : List Act
-  acts6 = Took (Some a) octets5 (kind.Key M3) Accepted (Some seal5) ∷ Installed (One a) (Pairwise (ptk i).tk i) ∷ Installed (One a) (Group g.key g.id (mac d a)) ∷ Finished a i ∷ sent_m4 d s a i 2 ∷ []
+  acts6 = Took (Some a) octets5 (kind.Key M3) Accepted (Some seal5) ∷ Installed (One a) (Pairwise (ptk i).tk i) ∷ Installed (One a) (Group g.key g.id (mac d a)) ∷ Finished a i ∷ sent_m4 d s a (keyed_by i) 2 ∷ []
 
   abbrev pub acts7 : List Act
-  acts7 = sent_m3 d a s i 3 g 0 ∷ []
+  acts7 = sent_m3 d a s (keyed_by i) 3 g 0 ∷ []
 
   abbrev pub acts8 : List Act
-  acts8 = Took (Some a) octets7 (kind.Key M3) Answered (Some seal7) ∷ sent_m4 d s a i 3 ∷ []
+  acts8 = Took (Some a) octets7 (kind.Key M3) Answered (Some seal7) ∷ sent_m4 d s a (keyed_by i) 3 ∷ []
 
   abbrev pub acts9 : List Act
   acts9 = Took (Some s) octets8 (kind.Key M4) Accepted (Some seal8) ∷ Installed (One s) (Pairwise (ptk i).tk i) ∷ Finished s i ∷ []

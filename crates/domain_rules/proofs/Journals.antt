@@ -20,8 +20,9 @@ use Rattle.run_journal.specs.declared.acts.Entry.{Entry}
 use Rattle.run_journal.specs.Acts.{same, is_sent}
 use Rattle.run_journal.specs.Questions.{history, add}
 use Rattle.run_journal.specs.Premises.{In}
-use Rattle.domain_rules.specs.Rows.{NodeEvent, Take, Adds, start_acts}
-use Rattle.domain_rules.specs.Explained.{frames, number_of, push, altered, WasSent, Happens, Step, Follows, started, Explained}
+use Rattle.domain_rules.specs.Rows.{NodeEvent, Take, Adds}
+use Rattle.domain_rules.specs.AccessPointRows.{start_acts}
+use Rattle.domain_rules.specs.Explained.{HappensAt, Place, AddsAll, frames, number_of, push, altered, WasSent, Step, Follows, started, Explained}
 use Rattle.domain_rules.proofs.Parts.{same-refl, same-other}
 use Rattle.domain_rules.proofs.OneGroup.{one_group}
 
@@ -47,10 +48,14 @@ numbered-push : (round : ℕ) (n : Node) (g : List Act) (past : List Entry) → 
 numbered-push round n [] past is = is
 numbered-push round n (e ∷ g) past is = numbered-push round n g (record { round = round; node = n; number = number_of e past; act = e } ∷ past) (refl, is)
 
+numbered-all : (d : Domain) (round : ℕ) (places : List Place) (old new : List Entry) → AddsAll d round places old new → IsNumbered old → IsNumbered new
+numbered-all d round [] old new is numbered = subst IsNumbered (sym is) numbered
+numbered-all d round (p ∷ places) old new (acts, (adds, rest)) numbered = numbered-all d round places (push round p.node acts old) new rest (numbered-push round p.node acts old numbered)
+
 numbered-follows : (d : Domain) (round : ℕ) (events : List Event) (old new : List Entry) → Follows d round events old new → IsNumbered old → IsNumbered new
 numbered-follows d round [] old new is numbered = subst IsNumbered (sym is) numbered
 numbered-follows d round (event ∷ events) old new (mid, (step, rest)) numbered =
-    numbered-follows d round events mid new rest (subst IsNumbered (sym step.is) (numbered-push round step.node step.acts old numbered))
+    numbered-follows d round events mid new rest (numbered-all d round step.places old mid step.adds numbered)
 
 numbered-started : (d : Domain) (k : ℕ) → IsNumbered (started d k)
 unfolding started
@@ -101,8 +106,30 @@ one_frame past round number x y is s t =
 
 -- ---- one journal
 
+-- a step at one node
+pub record AtOne (d : Domain) (round : ℕ) (event : Event) (old new : List Entry) : Type 0 where
+  pub node : Node
+  pub at_node : NodeEvent
+  pub happens : HappensAt event old round node at_node
+  pub acts : List Act
+  pub group : Adds d 0 node (history node old) at_node acts
+  pub is : new ≡ push round node acts old
+
+pub step_at : (d : Domain) (round : ℕ) (event : Event) (old new : List Entry) → AtOne d round event old new → Step d round event old new
+step_at d round event old new s = record {
+  places = record { node = s.node; event = s.at_node } ∷ [];
+  happens = (record { node = s.node; event = s.at_node }, (s.happens, refl));
+  adds = (s.acts, (s.group, s.is));
+}
+
+pub at_one : (d : Domain) (round : ℕ) (event : Event) (old new : List Entry) → Step d round event old new → AtOne d round event old new
+at_one d round event old new s =
+    let (p, (happens, is)) = s.happens in
+    let adds : AddsAll d round (p ∷ []) old new = subst (λ (l : List Place). AddsAll d round l old new) is s.adds in
+    record { node = p.node; at_node = p.event; happens = happens; acts = adds.0; group = adds.1.0; is = adds.1.1 }
+
 -- what an event is, at which node
-same_happens : (event : Event) (past : List Entry) (round : ℕ) (n m : Node) (x y : NodeEvent) → IsNumbered past → Happens event past round n x → Happens event past round m y → (n ≡ m) × (x ≡ y)
+same_happens : (event : Event) (past : List Entry) (round : ℕ) (n m : Node) (x y : NodeEvent) → IsNumbered past → HappensAt event past round n x → HappensAt event past round m y → (n ≡ m) × (x ≡ y)
 same_happens (Connect s a) past round n m x y is one two = (one.0 ∙ sym two.0, one.1 ∙ sym two.1)
 same_happens (Deliver number to) past round n m x y is (octets, (was, (at, event))) (others, (was_too, (at_too, event_too))) =
     (at ∙ sym at_too, event ∙ ap Take (one_frame past round number octets others is was was_too) ∙ sym event_too)
@@ -117,14 +144,16 @@ same_push : (round : ℕ) (n m : Node) (f g : List Act) (past : List Entry) → 
 same_push round n m f g past node acts = ap (λ (x : Node). push round x f past) node ∙ ap (λ (x : List Act). push round m x past) acts
 
 pub one_step : (d : Domain) (round : ℕ) (event : Event) (old new other : List Entry) → IsNumbered old → Step d round event old new → Step d round event old other → new ≡ other
-one_step d round event old new other is s t =
+one_step d round event old new other is one two =
+    let s = at_one d round event old new one in
+    let t = at_one d round event old other two in
     let same = same_happens event old round s.node t.node s.at_node t.at_node is s.happens t.happens in
     let group : Adds d 0 t.node (history t.node old) t.at_node s.acts =
     subst (λ (x : NodeEvent). Adds d 0 t.node (history t.node old) x s.acts) same.1 (subst (λ (n : Node). Adds d 0 n (history n old) s.at_node s.acts) same.0 s.group) in
     s.is ∙ same_push round s.node t.node s.acts t.acts old same.0 (one_group d 0 t.node (history t.node old) t.at_node s.acts t.acts group t.group) ∙ sym t.is
 
 step-numbered : (d : Domain) (round : ℕ) (event : Event) (old new : List Entry) → IsNumbered old → Step d round event old new → IsNumbered new
-step-numbered d round event old new is s = subst IsNumbered (sym s.is) (numbered-push round s.node s.acts old is)
+step-numbered d round event old new is step = numbered-all d round step.places old new step.adds is
 
 pub one_follows : (d : Domain) (round : ℕ) (events : List Event) (old new other : List Entry) → IsNumbered old → Follows d round events old new → Follows d round events old other → new ≡ other
 one_follows d round [] old new other is s t = s ∙ sym t

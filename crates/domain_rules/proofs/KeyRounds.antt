@@ -4,15 +4,20 @@ use Rattle.domain_rules.proofs.Refused.{no_facts}
 use Rattle.domain_rules.proofs.CarriedKey.{IsGroupKey, wrapped_is, says}
 use Rattle.domain_rules.proofs.Exchange.{length-nonce, length-gtk, octets-gtk, take_step, some-injective, m3-keyed, m4-keyed, m3-in, m4-in, m3-keyed_session, m3-again, retries-m3, key_data-same, same_octets, IsPair, Stage, after_sta, after_ap}
 use Rattle.domain_rules.proofs.KeyOctets.{octets-kek}
-use Rattle.domain_rules.proofs.Parts.{same-refl, attempt_more}
+use Rattle.domain_rules.proofs.Parts.{same-refl, attempt_more, since_part}
 use Rattle.domain_rules.proofs.SentReads.{mic-sealed, reads-counter, m3_fields, fits-m3, m3_message, reads-m3, m4_fields, fits-m4, m4_message, reads-m4}
 use Rattle.domain_rules.proofs.Verdicts.{verified-same, keyed-from}
 use Rattle.domain_rules.specs.Counters.{next_in_attempt, sent_count}
 use Rattle.domain_rules.specs.Explained.{push, Step}
-use Rattle.domain_rules.specs.Frames.{sent_m2, m3_key_data, sent_m3}
+use Rattle.domain_rules.specs.Frames.{sent_m2, m3_key_data, sent_m3, keyed_by}
 use Rattle.domain_rules.specs.Reading.{KeyMessage, Keyed, Reads}
-use Rattle.domain_rules.specs.Rows.{TakeRow, By_m3, By_m4, By_repeated_m3, retry_acts, most_sends}
-use Rattle.domain_rules.specs.Verdict.{ReadsKeyData, has_heard, is_mine, kept_counter, offered, verified, Facts, KnowsM3, Keying, m3_keying, m4_keying, further, and_then, first_verdict, verdict, replay_counter}
+use Rattle.domain_rules.specs.Rows.{TakeRow, By_m3, By_m4, By_repeated_m3}
+use Rattle.domain_rules.specs.AccessPointRows.{retry_acts, most_sends}
+use Rattle.domain_rules.specs.Facts.{ReadsKeyData, Facts}
+use Rattle.domain_rules.specs.Asking.{has_heard, kept_counter, offered, verified, replay_counter}
+use Rattle.domain_rules.specs.Verdict.{is_mine, further, and_then, first_verdict, verdict}
+use Rattle.domain_rules.specs.StationKeys.{KnowsM3, Keying, m3_keying}
+use Rattle.domain_rules.specs.AccessPointKeys.{m4_keying}
 use Rattle.eapol_key.specs.declared.messages.Message.TheVariants.{M1, M2, M3}
 use Rattle.key_hierarchy.specs.Keys.{ptk}
 use Rattle.key_hierarchy.specs.declared.inputs.Inputs.{Inputs}
@@ -20,7 +25,7 @@ use Rattle.rsn_elements.specs.Elements.{ElementFields}
 use Rattle.rsn_elements.specs.Pieces.{SentRsne, SentGtkKde, said}
 use Rattle.rsn_elements.specs.declared.framing.Within.TheVariants.{KeyData}
 use Rattle.run_journal.specs.Acts.{Derivation, GroupKey}
-use Rattle.run_journal.specs.Questions.{attempt, derivation, since, session, before_sent}
+use Rattle.run_journal.specs.Questions.{attempt, derivation, since, session, before_sent, chain}
 use Rattle.run_journal.specs.declared.acts.Act.TheVariants.{Derived, Took}
 use Rattle.run_journal.specs.declared.acts.Act.{Act}
 use Rattle.run_journal.specs.declared.acts.Entry.{Entry}
@@ -33,6 +38,7 @@ use Rattle.run_journal.specs.declared.domain.Event.TheVariants.{Deliver, Retry}
 use Rattle.run_journal.specs.declared.domain.Event.{Event}
 use Rattle.std.proofs.Common.{◌≡◌, ℕ, suc, true, false, List, [], ◌∷◌, Some, None, refl, sym, ap, subst, ◌∙◌, arith, inl, inr}
 use Rattle.std.specs.Prelude.{not, ◌||◌, nat_lt}
+use Rattle.domain_rules.proofs.Journals.{step_at}
 use Rattle.domain_rules.proofs.HandshakeActs as w
 use Rattle.domain_rules.proofs.FirstRounds.{stage5}
 use Rattle.domain_rules.specs.Rows as again
@@ -148,16 +154,16 @@ module _ (d : Domain) (k m : ℕ) (pair : IsPair d k m) where
 
   -- round 6: the station installs both keys by M3
   abbrev m3 : KeyMessage
-  m3 = m3_message d a s i 2 g 0
+  m3 = m3_message d a s (keyed_by i) 2 g 0
 
   abbrev keying : Keying
-  keying = record { inputs = i; ptk = ptk i; part = sta4; is_session = false }
+  keying = record { key = key; is_session = false }
 
   attempt_first : attempt a sta3 ≡ Some sta3
   attempt_first = attempt_more a (Took (Some a) octets2 kind.AssocResp Accepted None) sta1 sta1 refl refl (rw (same-refl a) refl)
 
   attempt6 : attempt a sta4 ≡ Some sta4
-  attempt6 = attempt_more a (sent_m2 d s a i 1) (Derived a i (ptk i) ∷ Took (Some a) octets3 (kind.Key M1) Accepted None ∷ sta3) (Derived a i (ptk i) ∷ Took (Some a) octets3 (kind.Key M1) Accepted None ∷ sta3) refl refl
+  attempt6 = attempt_more a (sent_m2 d s a (keyed_by i) 1) (Derived a i (ptk i) ∷ Took (Some a) octets3 (kind.Key M1) Accepted None ∷ sta3) (Derived a i (ptk i) ∷ Took (Some a) octets3 (kind.Key M1) Accepted None ∷ sta3) refl refl
       (attempt_more a (Derived a i (ptk i)) (Took (Some a) octets3 (kind.Key M1) Accepted None ∷ sta3) (Took (Some a) octets3 (kind.Key M1) Accepted None ∷ sta3) refl refl
       (attempt_more a (Took (Some a) octets3 (kind.Key M1) Accepted None) sta3 sta3 refl refl attempt_first))
 
@@ -170,14 +176,14 @@ module _ (d : Domain) (k m : ℕ) (pair : IsPair d k m) where
   keying6 : m3_keying a sta4 ≡ Some keying
   keying6 = m3-keyed a sta4 sta4 key attempt6 refl heard6 derives6
 
-  counter6 : kept_counter a sta4 ≡ None
-  counter6 = rw (same-refl a) refl
+  counter6 : kept_counter a (chain a sta4) ≡ None
+  counter6 = ap (kept_counter a) (since_part a sta4 sta4 attempt6) ∙ rw (same-refl a) refl
 
   reads6 : Reads d.akm octets5 (Keyed m3)
-  reads6 = reads-m3 d a s i 2 g 0 pair.has_mic pair.ap_whole pair.sta_whole (omega arith) (length-nonce d a 1) is_key
+  reads6 = reads-m3 d a s (keyed_by i) 2 g 0 pair.has_mic pair.ap_whole pair.sta_whole (omega arith) (length-nonce d a 1) (octets-kek i) is_key
 
   verifies6 : verified d.akm (ptk i).kck m3 Accepted ≡ Accepted
-  verifies6 = verified-same d.akm (ptk i).kck m3 Accepted (mic-sealed d.akm (ptk i).kck (m3_fields d i 2 g 0) pair.has_mic (fits-m3 d i 2 g 0 (omega arith) (length-nonce d a 1) is_key))
+  verifies6 = verified-same d.akm (ptk i).kck m3 Accepted (mic-sealed d.akm (ptk i).kck (m3_fields d (keyed_by i) 2 g 0) pair.has_mic (fits-m3 d (keyed_by i) 2 g 0 (omega arith) (length-nonce d a 1) (octets-kek i) is_key))
 
   mine6 : (not (is_mine d s m3.header) || false) ≡ false
   mine6 = rw (same_octets d s) refl
@@ -212,7 +218,7 @@ module _ (d : Domain) (k m : ℕ) (pair : IsPair d k m) where
     knows = λ came p from y awaited.
         (let same : a ≡ p = cc (from, pair.finds_ap) in
         let one : keying ≡ y = some-injective keying y (sym keying6 ∙ subst (λ (x : Node). m3_keying x sta4 ≡ Some y) (sym same) awaited) in
-        subst (λ (x : Keying). KnowsM3 x.ptk.kek m3 facts) one knows6);
+        subst (λ (x : Keying). KnowsM3 x.key.ptk.kek m3 facts) one knows6);
     row = By_m3 (record { k = m3; is = refl; message_is = refl; p = a; from = pair.finds_ap; accepted = accepted6; y = keying; awaited = keying6; says = refl });
   }
 
@@ -228,7 +234,7 @@ module _ (d : Domain) (k m : ℕ) (pair : IsPair d k m) where
   attempt2 = rw (same-refl s) refl
 
   attempt7 : attempt s ap5 ≡ Some part5
-  attempt7 = attempt_more s (sent_m3 d a s i 2 g 0) (Derived s i (ptk i) ∷ Took (Some s) octets4 (kind.Key M2) Accepted (Some seal4) ∷ ap2) (Derived s i (ptk i) ∷ Took (Some s) octets4 (kind.Key M2) Accepted (Some seal4) ∷ part2) refl refl
+  attempt7 = attempt_more s (sent_m3 d a s (keyed_by i) 2 g 0) (Derived s i (ptk i) ∷ Took (Some s) octets4 (kind.Key M2) Accepted (Some seal4) ∷ ap2) (Derived s i (ptk i) ∷ Took (Some s) octets4 (kind.Key M2) Accepted (Some seal4) ∷ part2) refl refl
       (attempt_more s (Derived s i (ptk i)) (Took (Some s) octets4 (kind.Key M2) Accepted (Some seal4) ∷ ap2) (Took (Some s) octets4 (kind.Key M2) Accepted (Some seal4) ∷ part2) refl refl
       (attempt_more s (Took (Some s) octets4 (kind.Key M2) Accepted (Some seal4)) ap2 part2 refl refl attempt2))
 
@@ -244,22 +250,22 @@ module _ (d : Domain) (k m : ℕ) (pair : IsPair d k m) where
   before7 : before_sent s (kind.Key M3) ap5 ≡ Some (Derived s i (ptk i) ∷ Took (Some s) octets4 (kind.Key M2) Accepted (Some seal4) ∷ ap2)
   before7 = rw (same-refl s) refl
 
-  counter7 : next_in_attempt s part5 ≡ 3
-  counter7 = rw (same-refl s) refl
+  counter7 : next_in_attempt s (chain s ap5) ≡ 3
+  counter7 = ap (next_in_attempt s) (since_part s ap5 part5 attempt7) ∙ rw (same-refl s) refl
 
   retries7 : acts7 ≡ retry_acts d a ap5 s (attempt s ap5)
-  retries7 = ap (λ (c : ℕ). sent_m3 d a s i c g 0 ∷ []) (sym counter7)
+  retries7 = ap (λ (c : ℕ). sent_m3 d a s (keyed_by i) c g 0 ∷ []) (sym counter7)
       ∙ sym (retries-m3 d a ap5 s part5 (Derived s i (ptk i) ∷ Took (Some s) octets4 (kind.Key M2) Accepted (Some seal4) ∷ ap2) key attempt7 refl heard7 few7 derives7 before7)
 
   step7 : Step d 7 (Retry k m) stage6.journal (push 7 a acts7 stage6.journal)
-  step7 = record {
+  step7 = step_at d 7 (Retry k m) stage6.journal (push 7 a acts7 stage6.journal) (record {
     node = a;
     at_node = again.Retry m;
     happens = (refl, refl);
     acts = acts7;
     group = subst (λ (h : List Act). acts7 ≡ retry_acts d a h s (attempt s h)) (sym stage6.ap_is) retries7;
     is = refl;
-  }
+  })
 
   stage7 : Stage d k m rounds7 sta6 ap7 7 octets7
   stage7 = after_ap d k m rounds6 sta6 ap5 6 octets6 stage6 (Retry k m) acts7 7 octets7 step7 (ap suc stage6.count)
@@ -267,10 +273,10 @@ module _ (d : Domain) (k m : ℕ) (pair : IsPair d k m) where
 
   -- round 8: the station answers it, and installs nothing
   abbrev m3_again : KeyMessage
-  m3_again = m3_message d a s i 3 g 0
+  m3_again = m3_message d a s (keyed_by i) 3 g 0
 
   abbrev keyed : Keying
-  keyed = record { inputs = i; ptk = ptk i; part = sta6; is_session = true }
+  keyed = record { key = key; is_session = true }
 
   since8 : since a sta6 ≡ sta6
   since8 = rw (same-refl a) refl
@@ -281,14 +287,14 @@ module _ (d : Domain) (k m : ℕ) (pair : IsPair d k m) where
   keying8 : m3_keying a sta6 ≡ Some keyed
   keying8 = m3-keyed_session a sta6 sta6 key refl since8 refl session8
 
-  counter8 : kept_counter a sta6 ≡ Some 2
-  counter8 = rw (same-refl a) (ap (λ (c : ℕ). Some c) (reads-counter d.akm octets5 m3 reads6))
+  counter8 : kept_counter a (chain a sta6) ≡ Some 2
+  counter8 = ap (kept_counter a) since8 ∙ rw (same-refl a) (ap (λ (c : ℕ). Some c) (reads-counter d.akm octets5 m3 reads6))
 
   reads8 : Reads d.akm octets7 (Keyed m3_again)
-  reads8 = reads-m3 d a s i 3 g 0 pair.has_mic pair.ap_whole pair.sta_whole (omega arith) (length-nonce d a 1) is_key
+  reads8 = reads-m3 d a s (keyed_by i) 3 g 0 pair.has_mic pair.ap_whole pair.sta_whole (omega arith) (length-nonce d a 1) (octets-kek i) is_key
 
   verifies8 : verified d.akm (ptk i).kck m3_again Answered ≡ Answered
-  verifies8 = verified-same d.akm (ptk i).kck m3_again Answered (mic-sealed d.akm (ptk i).kck (m3_fields d i 3 g 0) pair.has_mic (fits-m3 d i 3 g 0 (omega arith) (length-nonce d a 1) is_key))
+  verifies8 = verified-same d.akm (ptk i).kck m3_again Answered (mic-sealed d.akm (ptk i).kck (m3_fields d (keyed_by i) 3 g 0) pair.has_mic (fits-m3 d (keyed_by i) 3 g 0 (omega arith) (length-nonce d a 1) (octets-kek i) is_key))
 
   mine8 : (not (is_mine d s m3_again.header) || false) ≡ false
   mine8 = rw (same_octets d s) refl
@@ -316,7 +322,7 @@ module _ (d : Domain) (k m : ℕ) (pair : IsPair d k m) where
     knows = λ came p from y awaited.
         (let same : a ≡ p = cc (from, pair.finds_ap) in
         let one : keyed ≡ y = some-injective keyed y (sym keying8 ∙ subst (λ (x : Node). m3_keying x sta6 ≡ Some y) (sym same) awaited) in
-        subst (λ (x : Keying). KnowsM3 x.ptk.kek m3_again facts) one knows8);
+        subst (λ (x : Keying). KnowsM3 x.key.ptk.kek m3_again facts) one knows8);
     row = By_repeated_m3 (record { k = m3_again; is = refl; message_is = refl; p = a; from = pair.finds_ap; answered = answered8; y = keyed; awaited = keying8; says = refl });
   }
 
@@ -329,10 +335,10 @@ module _ (d : Domain) (k m : ℕ) (pair : IsPair d k m) where
 
   -- round 9: the access point installs the pairwise key by M4
   abbrev m4 : KeyMessage
-  m4 = m4_message d s a i 3
+  m4 = m4_message d s a (keyed_by i) 3
 
   attempt9 : attempt s ap7 ≡ Some part7
-  attempt9 = attempt_more s (sent_m3 d a s i 3 g 0) ap5 part5 refl refl attempt7
+  attempt9 = attempt_more s (sent_m3 d a s (keyed_by i) 3 g 0) ap5 part5 refl refl attempt7
 
   heard9 : has_heard s (kind.Key M2) part7 ≡ true
   heard9 = rw (same-refl s) refl
@@ -361,7 +367,7 @@ module _ (d : Domain) (k m : ℕ) (pair : IsPair d k m) where
   row9 : TakeRow d 0 a ap7 octets8 acts9
   row9 = record {
     r = Keyed m4;
-    reads = reads-m4 d s a i 3 pair.has_mic pair.sta_whole pair.ap_whole (omega arith);
+    reads = reads-m4 d s a (keyed_by i) 3 pair.has_mic pair.sta_whole pair.ap_whole (omega arith);
     facts = no_facts;
     knows = λ came p from. tt;
     row = By_m4 (record { k = m4; is = refl; message_is = refl; p = s; from = pair.finds_sta; accepted = accepted9; part = part7; awaited = attempt9; x = key; keyed = keying9; says = refl });

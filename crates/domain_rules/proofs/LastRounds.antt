@@ -10,8 +10,11 @@ use Rattle.domain_rules.specs.Example.{HasHandshake}
 use Rattle.domain_rules.specs.Explained.{push, Step}
 use Rattle.domain_rules.specs.Frames.{sent_assoc_req, sent_assoc_resp, sent_m1}
 use Rattle.domain_rules.specs.Reading.{Managed}
-use Rattle.domain_rules.specs.Rows.{ConnectRow, Asks, Begin, TakeRow, By_assoc_req, close_attempt}
-use Rattle.domain_rules.specs.Verdict.{management_verdict, and_then, verdict}
+use Rattle.domain_rules.specs.StationRows.{ConnectRow, Asks}
+use Rattle.domain_rules.specs.Rows.{Begin, TakeRow, By_assoc_req}
+use Rattle.domain_rules.specs.Closing.{close_attempt}
+use Rattle.domain_rules.specs.Associating.{management_verdict}
+use Rattle.domain_rules.specs.Verdict.{and_then, verdict}
 use Rattle.eapol_key.specs.declared.messages.Message.TheVariants.{M4}
 use Rattle.key_hierarchy.specs.Keys.{ptk}
 use Rattle.key_hierarchy.specs.declared.inputs.Inputs.{Inputs}
@@ -32,6 +35,7 @@ use Rattle.run_journal.specs.declared.domain.Event.TheVariants.{Connect, Deliver
 use Rattle.run_journal.specs.declared.domain.Event.{Event}
 use Rattle.std.proofs.Common.{◌≡◌, ℕ, suc, List, [], ◌∷◌, Option, Some, None, refl, sym, ap, subst, ◌∙◌, arith, inl, inr}
 use Rattle.std.specs.Prelude.{◌++◌}
+use Rattle.domain_rules.proofs.Journals.{step_at}
 use Rattle.domain_rules.proofs.HandshakeActs as w
 use Rattle.domain_rules.proofs.KeyRounds.{stage9}
 
@@ -110,14 +114,14 @@ module _ (d : Domain) (k m : ℕ) (pair : IsPair d k m) where
 
   -- round 10: the station asks once more, and drops its session
   step10 : Step d 10 (Connect m k) st.journal (push 10 s acts10 st.journal)
-  step10 = record {
+  step10 = step_at d 10 (Connect m k) st.journal (push 10 s acts10 st.journal) (record {
     node = s;
     at_node = Begin k;
     happens = (refl, refl);
     acts = acts10;
     group = subst (λ (h : List Act). ConnectRow d 0 s h a acts10) (sym st.sta_is) (Asks (omega arith) refl);
     is = refl;
-  }
+  })
 
   stage10 : Stage d k m rounds10 sta10 ap9 9 octets1
   stage10 = after_sta d k m rounds9 sta8 ap9 8 octets8 st (Connect m k) acts10 9 octets1 step10 (ap suc st.count)

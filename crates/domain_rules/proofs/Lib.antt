@@ -18,3 +18,4 @@ pub mod OneGroup
 pub mod SomeGroup
 pub mod Journals
 pub mod Noted
+mod Ended

@@ -1,14 +1,12 @@
 -- A seal is noted where the MIC of a frame verified, and only there.
 use Rattle.std.proofs.Common.{◌≡◌, ℕ, ◌+◌, Bool, true, false, cond, List, [], ◌∷◌, ◌++◌, Option, Some, None, refl, sym, ap, subst, ◌∙◌, inl, inr}
-use Rattle.std.specs.Prelude.{not, nat_lt, ◌||◌, ◌&&◌, ◌==◌, bytes_eq, option_map, if◌then◌else◌}
+use Rattle.std.specs.Prelude.{option_and_then, not, nat_lt, ◌||◌, ◌&&◌, ◌==◌, bytes_eq, option_map, if◌then◌else◌}
 use Rattle.std.specs.List.{list_any}
 use Rattle.std.proofs.lemmas.Slice.Eq.{bytes_eq-Decides}
 use Rattle.domain_base.specs.declared.names.Akm.{Akm}
 use Rattle.domain_base.specs.declared.names.Mac.{Mac}
 use Rattle.domain_base.specs.declared.names.Node.{Node}
 use Rattle.domain_base.specs.declared.names.Node.TheVariants.{Ap, Sta}
-use Rattle.air_frame.specs.declared.frame.AirFault.{AirFault}
-use Rattle.air_frame.specs.declared.frame.AirFault.TheVariants as air
 use Rattle.mac_prf.specs.Mic.{mic}
 use Rattle.rsn_elements.specs.Elements.{ElementFields}
 use Rattle.eapol_key.specs.declared.messages.Message.{Message}
@@ -30,103 +28,32 @@ use Rattle.run_journal.specs.declared.acts.Seal.{Seal}
 use Rattle.run_journal.specs.declared.acts.Act.{Act}
 use Rattle.run_journal.specs.declared.acts.Act.TheVariants.{Opened, Closed, Drew, Took, Finished, GaveUp, Idle}
 use Rattle.run_journal.specs.Acts.{Derivation, GroupKey}
-use Rattle.run_journal.specs.Questions.{attempt, session, pending, associated, before_sent, derivation, draws}
+use Rattle.run_journal.specs.Questions.{attempt, session, pending, associated, before_sent, derivation, draws, chain}
 use Rattle.run_journal.specs.Premises.{In}
-use Rattle.domain_rules.specs.Network.{mac, direction, goes_like, peer_of, inputs, last_draw}
+use Rattle.domain_rules.specs.Network.{mac, direction, goes_like, peer_of, inputs, root}
 use Rattle.domain_rules.specs.Frames.{sent_assoc_req, sent_m1, sent_m4, frame_seal}
 use Rattle.domain_rules.specs.Reading.{Management, KeyMessage, Reading, NoFrame, PassedOver, NoElements, Managed, NoKeyFrame, NoMessage, Keyed, Sealed, Reads, kind_of}
-use Rattle.domain_rules.specs.Verdict.{Facts, Knows, Keying, m3_keying, m3_verdict_by, m4_keying, m4_verdict_by, taken_in, first_verdict, further, key_further, and_then, verdict, in_attempt, above, verified, without_status, from_peer, management_sender, is_mine, is_mine_or_group, by_connect, has_heard, kept_counter, offered, own, rsne_status, air_reason, management_verdict, key_verdict}
+use Rattle.domain_rules.specs.Facts.{Facts}
+use Rattle.domain_rules.specs.Verdict.{Knows, first_verdict, further, key_further, and_then, verdict, from_peer, is_mine, air_reason, key_verdict, comes_so_far}
+use Rattle.domain_rules.specs.StationKeys.{Keying, m3_keying, m3_verdict_by}
+use Rattle.domain_rules.specs.AccessPointKeys.{m4_keying, m4_verdict_by}
+use Rattle.domain_rules.specs.Asking.{in_attempt, above, verified, by_connect, has_heard, kept_counter, offered, own}
 use Rattle.domain_rules.specs.Counters.{sent_count, next_in_attempt}
 use Rattle.domain_rules.specs.GroupKeys.{memory, find_key, give_by}
-use Rattle.domain_rules.specs.Rows.{NodeEvent, Take, Begin, Retry, close_attempt, close_session, close_pending, close_associated, next_nonce, connect_acts, ConnectRow, Spent, Asks, sender, carried, is_after_mic, message_seal, seal_in, response, TakeRows, By_assoc_req, By_assoc_resp, By_m1, By_m2, By_m3, By_repeated_m3, By_m4, By_ignored, By_refusal, most_sends, again_or_give_up, m3_again, retry_attempt, retry_acts, Adds}
-use Rattle.domain_rules.specs.Verified.{IsVerified, is_past_mic}
+use Rattle.domain_rules.specs.Rows.{NodeEvent, Take, Begin, Retry, refused_seal, message_seal, seal_in, response, TakeRows, By_assoc_req, By_assoc_resp, By_m1, By_m2, By_m3, By_repeated_m3, By_m4, By_ignored, By_refusal, Adds}
+use Rattle.domain_rules.specs.Closing.{close_attempt, close_session, close_pending, close_associated, next_nonce, sender}
+use Rattle.domain_rules.specs.StationRows.{connect_acts, ConnectRow, Spent, Asks, carried}
+use Rattle.domain_rules.specs.AccessPointRows.{most_sends, again_or_give_up, m3_again, retry_attempt, retry_acts}
+use Rattle.domain_rules.specs.Verified.{IsVerified, is_with_mic, is_past_mic}
 use Rattle.domain_rules.proofs.OneOutcome.{IsTaken, taken_behind, taken_from, Awaited, Is_m1, Is_m2, Is_m3, Is_m4, key_kind, and_accepted, and_answered}
 use Rattle.domain_rules.proofs.OneGroup.{one_take}
 use Rattle.domain_rules.proofs.SomeGroup.{some_rows}
+use Rattle.run_journal.specs.GroupKinds as groups
 
--- ---- by its header, its fields and the history alone no frame is refused for a reason behind the MIC
-
-abbrev is_late : Outcome → Bool
-is_late (Refused why) = is_after_mic why
-is_late _ = false
-
-abbrev IsEarly : Outcome → Type 0
-IsEarly o = is_late o ≡ false
-
-early_if : (c : Bool) (a b : Outcome) → IsEarly a → IsEarly b → IsEarly (if c then a else b)
-early_if true a b x y = x
-early_if false a b x y = y
-
-early_peer : (o : Option Node) (f : Node → Outcome) → ((p : Node) → IsEarly (f p)) → IsEarly (from_peer o f)
-early_peer None f all = refl
-early_peer (Some p) f all = all p
-
-early_attempt : (o : Option (List Act)) (f : List Act → Outcome) → ((part : List Act) → IsEarly (f part)) → IsEarly (in_attempt o f)
-early_attempt None f all = refl
-early_attempt (Some part) f all = all part
-
-early_above : (o : Option ℕ) (counter : ℕ) (a : Outcome) → IsEarly a → IsEarly (above o counter a)
-early_above None counter a x = x
-early_above (Some kept) counter a x = early_if (nat_lt kept counter) a _ x refl
-
-early_status : (o : Option ℕ) (a : Outcome) → IsEarly a → IsEarly (without_status o a)
-early_status None a x = x
-early_status (Some status) a x = refl
-
-early_taken : (b : Bool) → IsEarly (taken_in b)
-early_taken false = refl
-early_taken true = refl
-
-early_m3 : (d : Domain) (p : Node) (k : KeyMessage) (o : Option Keying) → IsEarly (m3_verdict_by d p k o)
-early_m3 d p k None = refl
-early_m3 d p k (Some y) =
-    early_above (kept_counter p y.part) k.fields.counter _ (early_if (bytes_eq k.fields.nonce y.inputs.anonce) _ _
-    (early_if (bytes_eq k.fields.mic _) _ _ (early_taken y.is_session) refl) refl)
-
-early_m4 : (d : Domain) (p : Node) (k : KeyMessage) (part : List Act) (o : Option Derivation) → IsEarly (m4_verdict_by d p k part o)
-early_m4 d p k part None = refl
-early_m4 d p k part (Some x) = early_if (list_any (λ c. c == k.fields.counter) (offered p M3 part)) _ _ (early_if (bytes_eq k.fields.mic _) _ _ refl refl) refl
-
-early_management : (d : Domain) (first : ℕ) (n : Node) (h : List Act) (p : Node) (k : Kind) (b : Management) (e : ElementFields) → IsEarly (management_verdict d first n h p k b e)
-early_management d first (Ap a) h p kind.AssocReq b e = early_status (rsne_status d.akm e.rsne) _ (early_if (nat_lt (first + draws h) last_draw) _ _ refl refl)
-early_management d first (Sta s) h p kind.AssocResp b e =
-    early_attempt (attempt p h) _ (λ part. early_if (not (by_connect part) || has_heard p kind.AssocResp part) _ _ refl (early_if (b.status == 0) _ _ refl refl))
-early_management d first n h p _ b e = refl
-
-early_key : (d : Domain) (n : Node) (h : List Act) (p : Node) (m : Message) (k : KeyMessage) → IsEarly (key_verdict d n h p m k)
-early_key d (Sta s) h p M1 k =
-    early_attempt (attempt p h) _ (λ part. early_if (not (by_connect part) || not (has_heard p kind.AssocResp part)) _ _ refl (early_above (kept_counter p part) k.fields.counter Accepted refl))
-early_key d (Ap a) h p M2 k =
-    early_attempt (attempt p h) _ (λ part. early_if (not (by_connect part) || has_heard p (kind.Key M2) part) _ _ refl
-    (early_if (list_any (λ c. c == k.fields.counter) (offered p M1 part)) _ _ (early_if (bytes_eq k.fields.mic _) _ _ refl refl) refl))
-early_key d (Sta s) h p M3 k = early_m3 d p k (m3_keying p h)
-early_key d (Ap a) h p M4 k = early_attempt (attempt p h) _ (λ part. early_m4 d p k part (m4_keying p part))
-early_key d n h p _ k = refl
-
-early_air : (fault : AirFault) → IsEarly (Refused (air_reason fault))
-early_air (air.OutOfProfile code) = refl
-early_air (air.Short place) = refl
-early_air air.Version = refl
-early_air (air.Body place) = refl
-
-early_first : (d : Domain) (first : ℕ) (n : Node) (h : List Act) (r : Reading) → IsEarly (first_verdict d first n h r)
-early_first d first n h (NoFrame fault) = early_air fault
-early_first d first n h PassedOver = refl
-early_first d first n h (NoElements b fault) = refl
-early_first d first n h (NoKeyFrame header fault) = refl
-early_first d first n h (NoMessage header) = refl
-early_first d first n h (Managed b e) =
-    early_if (not (is_mine d n b.header)) _ _ refl (early_peer (management_sender d n b.header) _ (λ p. early_management d first n h p b.kind b e))
-early_first d first n h (Keyed k) =
-    early_if (not (is_mine d n k.header) || goes_like k.direction (direction n)) _ _ refl (early_peer (peer_of d n k.header.a2) _ (λ p. early_key d n h p k.message k))
-early_first d first n h (Sealed header way tid body) =
-    early_if (not (is_mine_or_group d n header) || goes_like way (direction n)) _ _ refl (early_peer (peer_of d n header.a2) _ (λ p. refl))
-
-taken_by : (a b : Outcome) (why : Reason) → IsEarly a → is_after_mic why ≡ true → and_then a b ≡ Refused why → IsTaken a
-taken_by Accepted b why early after s = inl refl
-taken_by Answered b why early after s = inr refl
-taken_by (Refused w) b why early after s = absurd (let same : w ≡ why = cc s in cc (same, early, after))
-taken_by _ b why early after s = absurd (cc s)
+far_taken : (o : Outcome) → comes_so_far o ≡ true → IsTaken o
+far_taken Accepted s = inl refl
+far_taken Answered s = inr refl
+far_taken _ s = absurd (cc s)
 
 -- ---- a message that is taken has a MIC that verified
 
@@ -147,18 +74,18 @@ HasMicOf akm kck k = k.fields.mic ≡ mic akm kck k.octets
 
 -- under the key that it is judged by
 abbrev VerifiedBy : Domain → Node → List Act → Node → KeyMessage → Message → Type 0
-VerifiedBy d n h p k M2 = (part : List Act) → attempt p h ≡ Some part → HasMicOf d.akm (ptk (inputs d n p (own part) k.fields.nonce)).kck k
-VerifiedBy d n h p k M3 = (y : Keying) → m3_keying p h ≡ Some y → HasMicOf d.akm y.ptk.kck k
+VerifiedBy d n h p k M2 = (part : List Act) → attempt p h ≡ Some part → HasMicOf d.akm (ptk (inputs d (root d) n p (own part) k.fields.nonce)).kck k
+VerifiedBy d n h p k M3 = (y : Keying) → m3_keying p h ≡ Some y → HasMicOf d.akm y.key.ptk.kck k
 VerifiedBy d n h p k M4 = (part : List Act) (x : Derivation) → attempt p h ≡ Some part → m4_keying p part ≡ Some x → HasMicOf d.akm x.ptk.kck k
 VerifiedBy d n h p k _ = Unit {0}
 
 at_part : (o : Option (List Act)) (part : List Act) (f : List Act → Outcome) → o ≡ Some part → IsTaken (in_attempt o f) → IsTaken (f part)
 at_part o part f is s = subst (λ (x : Option (List Act)). IsTaken (in_attempt x f)) is s
 
-verified_m3 : (d : Domain) (p : Node) (k : KeyMessage) (y : Keying) (o : Option Keying) → o ≡ Some y → IsTaken (m3_verdict_by d p k o) → HasMicOf d.akm y.ptk.kck k
-verified_m3 d p k y o is s =
-    let t : IsTaken (m3_verdict_by d p k (Some y)) = subst (λ (x : Option Keying). IsTaken (m3_verdict_by d p k x)) is s in
-    passed_mic d.akm y.ptk.kck k _ (passed (bytes_eq k.fields.nonce y.inputs.anonce) reason.Nonce _ (passed_above (kept_counter p y.part) k.fields.counter _ t)).1
+verified_m3 : (d : Domain) (kept : Option ℕ) (k : KeyMessage) (y : Keying) (o : Option Keying) → o ≡ Some y → IsTaken (m3_verdict_by d kept k o) → HasMicOf d.akm y.key.ptk.kck k
+verified_m3 d kept k y o is s =
+    let t : IsTaken (m3_verdict_by d kept k (Some y)) = subst (λ (x : Option Keying). IsTaken (m3_verdict_by d kept k x)) is s in
+    passed_mic d.akm y.key.ptk.kck k _ (passed (bytes_eq k.fields.nonce y.key.inputs.anonce) reason.Nonce _ (passed_above kept k.fields.counter _ t)).1
 
 verified_m4 : (d : Domain) (p : Node) (k : KeyMessage) (part : List Act) (x : Derivation) (o : Option Derivation) → o ≡ Some x → IsTaken (m4_verdict_by d p k part o) → HasMicOf d.akm x.ptk.kck k
 verified_m4 d p k part x o is s =
@@ -169,34 +96,31 @@ never : {C : Type 0} (why : Reason) → IsTaken (Refused why) → C
 never why (inl s) = absurd (cc s)
 never why (inr s) = absurd (cc s)
 
-verified_by : (d : Domain) (n : Node) (h : List Act) (p : Node) (m : Message) (k : KeyMessage) → IsTaken (key_verdict d n h p m k) → VerifiedBy d n h p k m
-verified_by d (Sta s) h p M1 k t = tt
-verified_by d (Ap a) h p M2 k t =
-    λ part is. passed_mic d.akm (ptk (inputs d (Ap a) p (own part) k.fields.nonce)).kck k Accepted
+verified_by : (d : Domain) (drawn : ℕ) (n : Node) (h : List Act) (p : Node) (k : KeyMessage) (m : Message) → IsTaken (key_verdict d drawn n h p k m) → VerifiedBy d n h p k m
+verified_by d drawn (Sta s) h p k M1 t = tt
+verified_by d drawn (Ap a) h p k M2 t =
+    λ part is. passed_mic d.akm (ptk (inputs d (root d) (Ap a) p (own part) k.fields.nonce)).kck k Accepted
     (passed (list_any (λ c. c == k.fields.counter) (offered p M1 part)) _ _ (taken_behind (not (by_connect part) || has_heard p (kind.Key M2) part) reason.Unawaited _ (at_part (attempt p h) part _ is t))).1
-verified_by d (Sta s) h p M3 k t = λ y is. verified_m3 d p k y (m3_keying p h) is t
-verified_by d (Ap a) h p M4 k t = λ part x awaited is. verified_m4 d p k part x (m4_keying p part) is (at_part (attempt p h) part _ awaited t)
-verified_by d n h p _ k t = never reason.Unawaited t
+verified_by d drawn (Sta s) h p k M3 t = λ y is. verified_m3 d (kept_counter p (chain p h)) k y (m3_keying p h) is t
+verified_by d drawn (Ap a) h p k M4 t = λ part x awaited is. verified_m4 d p k part x (m4_keying p part) is (at_part (attempt p h) part _ awaited t)
+verified_by d drawn n h p k _ t = never reason.Unawaited t
 
 -- from the peer that its header names
-from_named : (d : Domain) (first : ℕ) (n : Node) (h : List Act) (k : KeyMessage) (p : Node) → peer_of d n k.header.a2 ≡ Some p → IsTaken (first_verdict d first n h (Keyed k)) → IsTaken (key_verdict d n h p k.message k)
+from_named : (d : Domain) (first : ℕ) (n : Node) (h : List Act) (k : KeyMessage) (p : Node) → peer_of d n k.header.a2 ≡ Some p → IsTaken (first_verdict d first n h (Keyed k)) → IsTaken (key_verdict d (first + draws h) n h p k k.message)
 from_named d first n h k p from s =
-    subst (λ (o : Option Node). IsTaken (from_peer o (λ q. key_verdict d n h q k.message k))) from
+    subst (λ (o : Option Node). IsTaken (from_peer o (λ q. key_verdict d (first + draws h) n h q k k.message))) from
     (taken_behind (not (is_mine d n k.header) || goes_like k.direction (direction n)) reason.NotForMe _ s)
 
 verified_row : (d : Domain) (first : ℕ) (n : Node) (h : List Act) (r : Reading) (k : KeyMessage) (m : Message) (p : Node) → r ≡ Keyed k → k.message ≡ m → sender d n r ≡ Some p → IsTaken (first_verdict d first n h r) → VerifiedBy d n h p k m
 verified_row d first n h r k m p is message_is from s =
     subst (λ (x : Message). VerifiedBy d n h p k x) message_is
-    (verified_by d n h p k.message k (from_named d first n h k p (subst (λ (v : Reading). sender d n v ≡ Some p) is from) (subst (λ (v : Reading). IsTaken (first_verdict d first n h v)) is s)))
+    (verified_by d (first + draws h) n h p k k.message (from_named d first n h k p (subst (λ (v : Reading). sender d n v ≡ Some p) is from) (subst (λ (v : Reading). IsTaken (first_verdict d first n h v)) is s)))
 
 accepted_first : (d : Domain) (first : ℕ) (n : Node) (h : List Act) (r : Reading) (facts : Facts) → verdict d first n h r facts ≡ Accepted → IsTaken (first_verdict d first n h r)
 accepted_first d first n h r facts s = inl (and_accepted (first_verdict d first n h r) (further d.akm r facts) s)
 
 answered_first : (d : Domain) (first : ℕ) (n : Node) (h : List Act) (r : Reading) (facts : Facts) → verdict d first n h r facts ≡ Answered → IsTaken (first_verdict d first n h r)
 answered_first d first n h r facts s = inr (and_answered (first_verdict d first n h r) (further d.akm r facts) s)
-
-refused_first : (d : Domain) (first : ℕ) (n : Node) (h : List Act) (r : Reading) (facts : Facts) (why : Reason) → is_after_mic why ≡ true → verdict d first n h r facts ≡ Refused why → IsTaken (first_verdict d first n h r)
-refused_first d first n h r facts why after s = taken_by (first_verdict d first n h r) (further d.akm r facts) why (early_first d first n h r) after s
 
 -- ---- the seal of a message whose MIC verified
 
@@ -208,21 +132,28 @@ mapped : {A B : Type 0} (f : A → B) (o : Option A) (y : B) → option_map f o 
 mapped f None y s = absurd (cc s)
 mapped f (Some x) y s = (x, (refl, cc s))
 
+in_some : {A B : Type 0} (f : A → Option B) (o : Option A) (y : B) → option_and_then f o ≡ Some y → (x : A) × ((o ≡ Some x) × (f x ≡ Some y))
+in_some f None y s = absurd (cc s)
+in_some f (Some x) y s = (x, (refl, s))
+
 message_verified : (d : Domain) (n : Node) (h : List Act) (octets : List ℕ) (k : KeyMessage) (p : Node) (m : Message) (s : Seal) → Reads d.akm octets (Keyed k) → VerifiedBy d n h p k m → message_seal d n h k m (Some p) ≡ Some s → IsVerified d.akm octets s
 message_verified d n h octets k p M2 s reads v is =
-    let x = mapped (λ (part : List Act). frame_seal (ptk (inputs d n p (own part) k.fields.nonce)).kck k.octets) (attempt p h) s is in
-    is_verified d.akm octets (Keyed k) k (ptk (inputs d n p (own x.0) k.fields.nonce)).kck s reads refl x.1.1 (v x.0 x.1.0)
+    let x = mapped (λ (part : List Act). frame_seal (ptk (inputs d (root d) n p (own part) k.fields.nonce)).kck k.octets) (attempt p h) s is in
+    is_verified d.akm octets (Keyed k) k (ptk (inputs d (root d) n p (own x.0) k.fields.nonce)).kck s reads refl x.1.1 (v x.0 x.1.0)
 message_verified d n h octets k p M3 s reads v is =
-    let x = mapped (λ (y : Keying). frame_seal y.ptk.kck k.octets) (m3_keying p h) s is in
-    is_verified d.akm octets (Keyed k) k x.0.ptk.kck s reads refl x.1.1 (v x.0 x.1.0)
+    let x = mapped (λ (y : Keying). frame_seal y.key.ptk.kck k.octets) (m3_keying p h) s is in
+    is_verified d.akm octets (Keyed k) k x.0.key.ptk.kck s reads refl x.1.1 (v x.0 x.1.0)
 message_verified d n h octets k p M1 s reads v is = absurd (cc is)
-message_verified d n h octets k p M4 s reads v is = absurd (cc is)
+message_verified d n h octets k p M4 s reads v is =
+    let x = mapped (λ (x : Derivation). frame_seal x.ptk.kck k.octets) (option_and_then (λ (part : List Act). m4_keying p part) (attempt p h)) s is in
+    let at = in_some (m4_keying p) (attempt p h) x.0 x.1.0 in
+    is_verified d.akm octets (Keyed k) k x.0.ptk.kck s reads refl x.1.1 (v at.0 x.0 at.1.0 at.1.1)
 message_verified d n h octets k p G1 s reads v is = absurd (cc is)
 message_verified d n h octets k p G2 s reads v is = absurd (cc is)
 
 seal_from : (d : Domain) (first : ℕ) (n : Node) (h : List Act) (octets : List ℕ) (k : KeyMessage) (s : Seal) (o : Option Node) → peer_of d n k.header.a2 ≡ o → Reads d.akm octets (Keyed k) → IsTaken (first_verdict d first n h (Keyed k))
     → message_seal d n h k k.message o ≡ Some s → IsVerified d.akm octets s
-seal_from d first n h octets k s (Some p) from reads t is = message_verified d n h octets k p k.message s reads (verified_by d n h p k.message k (from_named d first n h k p from t)) is
+seal_from d first n h octets k s (Some p) from reads t is = message_verified d n h octets k p k.message s reads (verified_by d (first + draws h) n h p k k.message (from_named d first n h k p from t)) is
 seal_from d first n h octets k s None from reads t is = absurd (no_peer k.message is)
   where
     no_peer : (m : Message) → message_seal d n h k m None ≡ Some s → ⊥
@@ -288,7 +219,7 @@ quiet_dropped None (Some p) g quiet = quiet
 quiet_dropped (Some o) None g quiet = quiet
 quiet_dropped (Some o) (Some p) g quiet = quiet
 
-quiet_give : (p : Node) (b : Mac) (x : GroupKey) (o : Option GroupKey) (g : List Act) → are_quiet g ≡ true → are_quiet (give_by p b x o ∷ g) ≡ true
+quiet_give : (p : Node) (b : Mac) (x : GroupKey) (o : Option GroupKey) (g : List Act) → are_quiet g ≡ true → are_quiet (give_by groups.Gtk p b x o ∷ g) ≡ true
 quiet_give p b x None g quiet = quiet
 quiet_give p b x (Some kept) g quiet = quiet
 
@@ -310,9 +241,9 @@ quiet_retry d n h p (Some part) =
     (
     quiet_if (has_heard p (kind.Key M2) part)
     (again_or_give_up p M3 (sent_count p M3 part) (m3_again d n h p part (derivation p part) (before_sent p (kind.Key M3) h)))
-    (again_or_give_up p M1 (sent_count p M1 part) (sent_m1 d n p (next_in_attempt p part) (own part)))
+    (again_or_give_up p M1 (sent_count p M1 part) (sent_m1 d n p (next_in_attempt p (chain p h)) (own part)))
     (quiet_again p M3 (sent_count p M3 part) (m3_again d n h p part (derivation p part) (before_sent p (kind.Key M3) h)) (quiet_m3 d n h p part (derivation p part) (before_sent p (kind.Key M3) h)))
-    (quiet_again p M1 (sent_count p M1 part) (sent_m1 d n p (next_in_attempt p part) (own part)) refl)
+    (quiet_again p M1 (sent_count p M1 part) (sent_m1 d n p (next_in_attempt p (chain p h)) (own part)) refl)
     )
     refl
 
@@ -339,12 +270,12 @@ row_noted d first n h octets r facts g from taken k o s reads (By_m2 row) there 
     notes d octets taken s (cc head) (is_verified d.akm octets r row.k (ptk row.i).kck s reads row.is (cc head)
     (subst (λ (x : Inputs). HasMicOf d.akm (ptk x).kck row.k) (sym row.inputs_are) (verified_row d first n h r row.k M2 row.p row.is row.message_is row.from (accepted_first d first n h r facts row.accepted) row.part row.awaited)))
 row_noted d first n h octets r facts g from taken k o s reads (By_m3 row) there =
-    let head = head_noted from taken k o s _ _ g row.says (quiet_give row.p (mac d row.p) (carried facts.data_) (find_key (carried facts.data_).key (memory row.p h)) (Finished row.p row.y.inputs ∷ sent_m4 d n row.p row.y.inputs row.k.fields.counter ∷ []) refl) there in
-    notes d octets taken s (cc head) (is_verified d.akm octets r row.k row.y.ptk.kck s reads row.is (cc head)
+    let head = head_noted from taken k o s _ _ g row.says (quiet_give row.p (mac d row.p) (carried facts.data_) (find_key (carried facts.data_).key (memory groups.Gtk row.p h)) (Finished row.p row.y.key.inputs ∷ sent_m4 d n row.p row.y.key row.k.fields.counter ∷ []) refl) there in
+    notes d octets taken s (cc head) (is_verified d.akm octets r row.k row.y.key.ptk.kck s reads row.is (cc head)
     (verified_row d first n h r row.k M3 row.p row.is row.message_is row.from (accepted_first d first n h r facts row.accepted) row.y row.awaited))
 row_noted d first n h octets r facts g from taken k o s reads (By_repeated_m3 row) there =
     let head = head_noted from taken k o s _ _ g row.says refl there in
-    notes d octets taken s (cc head) (is_verified d.akm octets r row.k row.y.ptk.kck s reads row.is (cc head)
+    notes d octets taken s (cc head) (is_verified d.akm octets r row.k row.y.key.ptk.kck s reads row.is (cc head)
     (verified_row d first n h r row.k M3 row.p row.is row.message_is row.from (answered_first d first n h r facts row.answered) row.y row.awaited))
 row_noted d first n h octets r facts g from taken k o s reads (By_m4 row) there =
     let head = head_noted from taken k o s _ _ g row.says (quiet_session row.p (session row.p h) _ refl) there in
@@ -353,9 +284,9 @@ row_noted d first n h octets r facts g from taken k o s reads (By_m4 row) there 
 row_noted d first n h octets r facts g from taken k o s reads (By_ignored row) there = absurd (none_noted from taken k o s g (ap are_quiet row.says) there)
 row_noted d first n h octets r facts g from taken k o s reads (By_refusal row) there =
     let head = head_noted from taken k o s _ _ g row.says (quiet_response d n (sender d n r) (kind_of r) row.why) there in
-    let seal : cond (is_after_mic row.why) (seal_in d n h r) None ≡ Some s = cc head in
-    let by = noted_by (is_after_mic row.why) (seal_in d n h r) s seal in
-    notes d octets taken s (cc head) (seal_verified d first n h octets r s reads (refused_first d first n h r facts row.why by.0 row.refused) by.1)
+    let seal : refused_seal d first n h r ≡ Some s = cc head in
+    let by = noted_by (comes_so_far (first_verdict d first n h r)) (seal_in d n h r) s seal in
+    notes d octets taken s (cc head) (seal_verified d first n h octets r s reads (far_taken (first_verdict d first n h r) by.0) by.1)
 
 connect_quiet : (d : Domain) (first : ℕ) (n : Node) (h : List Act) (p : Node) (g : List Act) → ConnectRow d first n h p g → are_quiet g ≡ true
 connect_quiet d first n h p g (Spent many is) = ap are_quiet is
@@ -378,11 +309,11 @@ unrefused a why (inr s) t = let e : and_then Answered Accepted ≡ Refused why =
 
 message_has : (d : Domain) (n : Node) (h : List Act) (k : KeyMessage) (p : Node) (m : Message) (facts : Facts) (a : Outcome) (why : Reason) → Awaited p h m → IsTaken a → and_then a (key_further d.akm m facts) ≡ Refused why
     → (s : Seal) × (message_seal d n h k m (Some p) ≡ Some s)
-message_has d n h k p M2 facts a why (Is_m2 e w) t s = (frame_seal (ptk (inputs d n p (own w.0) k.fields.nonce)).kck k.octets, ap (option_map (λ (part : List Act). frame_seal (ptk (inputs d n p (own part) k.fields.nonce)).kck k.octets)) w.1)
+message_has d n h k p M2 facts a why (Is_m2 e w) t s = (frame_seal (ptk (inputs d (root d) n p (own w.0) k.fields.nonce)).kck k.octets, ap (option_map (λ (part : List Act). frame_seal (ptk (inputs d (root d) n p (own part) k.fields.nonce)).kck k.octets)) w.1)
 message_has d n h k p M2 facts a why (Is_m1 e w) t s = absurd (cc e)
 message_has d n h k p M2 facts a why (Is_m3 e w) t s = absurd (cc e)
 message_has d n h k p M2 facts a why (Is_m4 e w) t s = absurd (cc e)
-message_has d n h k p M3 facts a why (Is_m3 e w) t s = (frame_seal w.0.ptk.kck k.octets, ap (option_map (λ (y : Keying). frame_seal y.ptk.kck k.octets)) w.1)
+message_has d n h k p M3 facts a why (Is_m3 e w) t s = (frame_seal w.0.key.ptk.kck k.octets, ap (option_map (λ (y : Keying). frame_seal y.key.ptk.kck k.octets)) w.1)
 message_has d n h k p M3 facts a why (Is_m1 e w) t s = absurd (cc e)
 message_has d n h k p M3 facts a why (Is_m2 e w) t s = absurd (cc e)
 message_has d n h k p M3 facts a why (Is_m4 e w) t s = absurd (cc e)
@@ -393,8 +324,8 @@ message_has d n h k p G2 facts a why w t s = absurd (unrefused a why t s)
 
 seal_there : (d : Domain) (first : ℕ) (n : Node) (h : List Act) (r : Reading) (facts : Facts) (why : Reason) → IsTaken (first_verdict d first n h r) → verdict d first n h r facts ≡ Refused why → (s : Seal) × (seal_in d n h r ≡ Some s)
 seal_there d first n h (Keyed k) facts why t s =
-    let behind = taken_from (peer_of d n k.header.a2) (λ p. key_verdict d n h p k.message k) (taken_behind (not (is_mine d n k.header) || goes_like k.direction (direction n)) reason.NotForMe _ t) in
-    let has = message_has d n h k behind.0 k.message facts (first_verdict d first n h (Keyed k)) why (key_kind d n h behind.0 k.message k behind.1.1) t s in
+    let behind = taken_from (peer_of d n k.header.a2) (λ p. key_verdict d (first + draws h) n h p k k.message) (taken_behind (not (is_mine d n k.header) || goes_like k.direction (direction n)) reason.NotForMe _ t) in
+    let has = message_has d n h k behind.0 k.message facts (first_verdict d first n h (Keyed k)) why (key_kind d (first + draws h) n h behind.0 k k.message behind.1.1) t s in
     (has.0, ap (message_seal d n h k k.message) behind.1.0 ∙ has.1)
 seal_there d first n h (Managed b e) facts why t s = absurd (unrefused (first_verdict d first n h (Managed b e)) why t s)
 seal_there d first n h (Sealed header way tid body) facts why t s = absurd (unrefused (first_verdict d first n h (Sealed header way tid body)) why t s)
@@ -405,13 +336,25 @@ seal_there d first n h (NoElements b fault) facts why t s = never _ t
 seal_there d first n h (NoKeyFrame header fault) facts why t s = never _ t
 seal_there d first n h (NoMessage header) facts why t s = never _ t
 
-past_after : (why : Reason) (k : Kind) → is_past_mic (Refused why) k ≡ true → is_after_mic why ≡ true
-past_after reason.Wrap k s = refl
-past_after (reason.KeyData fault) k s = refl
-past_after _ k s = absurd (cc s)
+-- the frame has a MIC, and it verified
+past_far : (o : Outcome) (k : Kind) → is_past_mic o k ≡ true → comes_so_far o ≡ true
+past_far Accepted k s = refl
+past_far Answered k s = refl
+past_far _ k s = absurd (cc s)
 
-not_past : (o u : Outcome) (k m : Kind) → o ≡ u → k ≡ m → is_past_mic u m ≡ false → is_past_mic o k ≡ true → ⊥
-not_past o u k m same kinds none s = let e : is_past_mic u m ≡ true = sym (ap (λ (x : Outcome). is_past_mic x m) same) ∙ sym (ap (λ (x : Kind). is_past_mic o x) kinds) ∙ s in cc (none, e)
+no_and : (b c : Bool) → c ≡ false → (b && c) ≡ true → ⊥
+no_and true c f t = cc (f, t)
+no_and false c f t = cc t
+
+no_mic : (o : Outcome) (k m : Kind) → k ≡ m → is_with_mic m ≡ false → is_past_mic o k ≡ true → ⊥
+no_mic o k m same none s = no_and (comes_so_far o) (is_with_mic m) none (subst (λ (x : Kind). is_past_mic o x ≡ true) same s)
+
+not_ignored : (o b : Outcome) → comes_so_far o ≡ true → and_then o b ≡ Ignored → ⊥
+not_ignored Accepted (Refused why) s t = cc t
+not_ignored Accepted _ s t = cc t
+not_ignored Answered (Refused why) s t = cc t
+not_ignored Answered _ s t = cc t
+not_ignored _ b s t = cc s
 
 -- an act at the head of a group
 at_head : (from who : Option Node) (octets : List ℕ) (k m : Kind) (o u : Outcome) (s : Seal) (rest g : List Act) → from ≡ who → k ≡ m → o ≡ u → g ≡ Took who octets m u (Some s) ∷ rest → In (Took from octets k o (Some s)) g
@@ -428,26 +371,26 @@ managed_kind : (r : Reading) (b : Management) (e : ElementFields) (m : Kind) →
 managed_kind r b e m is same = ap kind_of is ∙ same
 
 has_noted : (d : Domain) (first : ℕ) (n : Node) (h : List Act) (octets : List ℕ) (r : Reading) (facts : Facts) (g : List Act) → TakeRows d first n h octets r facts g
-    → is_past_mic (verdict d first n h r facts) (kind_of r) ≡ true → HasNoted d first n h octets r facts g
-has_noted d first n h octets r facts g (By_assoc_req row) s = absurd (not_past _ Accepted (kind_of r) kind.AssocReq row.accepted (managed_kind r row.b row.e kind.AssocReq row.is row.kind_is) refl s)
-has_noted d first n h octets r facts g (By_assoc_resp row) s = absurd (not_past _ Accepted (kind_of r) kind.AssocResp row.accepted (managed_kind r row.b row.e kind.AssocResp row.is row.kind_is) refl s)
-has_noted d first n h octets r facts g (By_m1 row) s = absurd (not_past _ Accepted (kind_of r) (kind.Key M1) row.accepted (kind_is r row.k M1 row.is row.message_is) refl s)
+    → is_past_mic (first_verdict d first n h r) (kind_of r) ≡ true → HasNoted d first n h octets r facts g
+has_noted d first n h octets r facts g (By_assoc_req row) s = absurd (no_mic (first_verdict d first n h r) (kind_of r) kind.AssocReq (managed_kind r row.b row.e kind.AssocReq row.is row.kind_is) refl s)
+has_noted d first n h octets r facts g (By_assoc_resp row) s = absurd (no_mic (first_verdict d first n h r) (kind_of r) kind.AssocResp (managed_kind r row.b row.e kind.AssocResp row.is row.kind_is) refl s)
+has_noted d first n h octets r facts g (By_m1 row) s = absurd (no_mic (first_verdict d first n h r) (kind_of r) (kind.Key M1) (kind_is r row.k M1 row.is row.message_is) refl s)
 has_noted d first n h octets r facts g (By_m2 row) s = (_, at_head (sender d n r) (Some row.p) octets (kind_of r) (kind.Key M2) _ Accepted _ _ g row.from (kind_is r row.k M2 row.is row.message_is) row.accepted row.says)
 has_noted d first n h octets r facts g (By_m3 row) s = (_, at_head (sender d n r) (Some row.p) octets (kind_of r) (kind.Key M3) _ Accepted _ _ g row.from (kind_is r row.k M3 row.is row.message_is) row.accepted row.says)
 has_noted d first n h octets r facts g (By_repeated_m3 row) s = (_, at_head (sender d n r) (Some row.p) octets (kind_of r) (kind.Key M3) _ Answered _ _ g row.from (kind_is r row.k M3 row.is row.message_is) row.answered row.says)
 has_noted d first n h octets r facts g (By_m4 row) s = (_, at_head (sender d n r) (Some row.p) octets (kind_of r) (kind.Key M4) _ Accepted _ _ g row.from (kind_is r row.k M4 row.is row.message_is) row.accepted row.says)
-has_noted d first n h octets r facts g (By_ignored row) s = absurd (not_past _ Ignored (kind_of r) (kind_of r) row.ignored refl refl s)
+has_noted d first n h octets r facts g (By_ignored row) s = absurd (not_ignored (first_verdict d first n h r) (further d.akm r facts) (past_far (first_verdict d first n h r) (kind_of r) s) row.ignored)
 has_noted d first n h octets r facts g (By_refusal row) s =
-    let after : is_after_mic row.why ≡ true = past_after row.why (kind_of r) (sym (ap (λ (x : Outcome). is_past_mic x (kind_of r)) row.refused) ∙ s) in
-    let seal = seal_there d first n h r facts row.why (refused_first d first n h r facts row.why after row.refused) row.refused in
-    let is : cond (is_after_mic row.why) (seal_in d n h r) None ≡ Some seal.0 = ap (λ (b : Bool). cond b (seal_in d n h r) None) after ∙ seal.1 in (
+    let far : comes_so_far (first_verdict d first n h r) ≡ true = past_far (first_verdict d first n h r) (kind_of r) s in
+    let seal = seal_there d first n h r facts row.why (far_taken (first_verdict d first n h r) far) row.refused in
+    let is : refused_seal d first n h r ≡ Some seal.0 = ap (λ (b : Bool). cond b (seal_in d n h r) None) far ∙ seal.1 in (
       seal.0,
       at_head (sender d n r) (sender d n r) octets (kind_of r) (kind_of r) _ (Refused row.why) seal.0 _ g refl refl row.refused
           (row.says ∙ ap (λ (x : Option Seal). Took (sender d n r) octets (kind_of r) (Refused row.why) x ∷ response d n (sender d n r) (kind_of r) row.why) is),
     )
 
 pub verified_noted : (d : Domain) (first : ℕ) (n : Node) (h : List Act) (octets : List ℕ) (r : Reading) (facts : Facts) (g : List Act) → Reads d.akm octets r → Knows d first n h r facts → Adds d first n h (Take octets) g
-    → is_past_mic (verdict d first n h r facts) (kind_of r) ≡ true → HasNoted d first n h octets r facts g
+    → is_past_mic (first_verdict d first n h r) (kind_of r) ≡ true → HasNoted d first n h octets r facts g
 verified_noted d first n h octets r facts g reads knows row s =
     let rows = some_rows d first n h octets r facts in
     let same : g ≡ rows.0 = one_take d first n h octets g rows.0 row (record { r = r; reads = reads; facts = facts; knows = knows; row = rows.1 }) in

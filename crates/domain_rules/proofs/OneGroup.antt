@@ -1,5 +1,5 @@
 -- An event adds one group of acts.
-use Rattle.std.proofs.Common.{◌≡◌, ℕ, cond, List, [], ◌∷◌, ◌++◌, Option, Some, None, refl, sym, subst, ap, ◌∙◌, arith}
+use Rattle.std.proofs.Common.{◌≡◌, ℕ, List, [], ◌∷◌, ◌++◌, Option, Some, None, refl, sym, subst, ap, ◌∙◌, arith}
 use Rattle.std.specs.Prelude.{unwrap_or}
 use Rattle.domain_base.specs.declared.names.Node.{Node}
 use Rattle.domain_base.specs.declared.names.Node.TheVariants.{Ap}
@@ -23,14 +23,21 @@ use Rattle.run_journal.specs.Acts.{Derivation, GroupKey}
 use Rattle.domain_rules.specs.Counters.{next_in_attempt}
 use Rattle.domain_rules.specs.GroupKeys.{newest, newest_uses, give}
 use Rattle.rsn_elements.specs.Elements.{ElementFields}
-use Rattle.run_journal.specs.Questions.{attempt, session}
-use Rattle.domain_rules.specs.Network.{mac, inputs}
+use Rattle.run_journal.specs.Questions.{attempt, chain, session}
+use Rattle.domain_rules.specs.Network.{mac, inputs, root}
 use Rattle.domain_rules.specs.Reading.{Management, KeyMessage, Reading, Managed, Keyed, kind_of}
-use Rattle.domain_rules.specs.Frames.{sent_assoc_resp, sent_m1, sent_m2, sent_m3, sent_m4, frame_seal}
-use Rattle.domain_rules.specs.Verdict.{Facts, Knows, Keying, m3_keying, m4_keying, verdict, own}
-use Rattle.domain_rules.specs.Rows.{NodeEvent, Take, Begin, Retry, close_attempt, close_session, carried, next_nonce, ConnectRow, Spent, Asks, sender, is_after_mic, seal_in, response, TakeRows, By_assoc_req, By_assoc_resp, By_m1, By_m2, By_m3, By_repeated_m3, By_m4, By_ignored, By_refusal, TakeRow, Adds}
+use Rattle.domain_rules.specs.Frames.{sent_assoc_resp, sent_m1, sent_m2, sent_m3, sent_m4, frame_seal, keyed_by}
+use Rattle.domain_rules.specs.Facts.{Facts}
+use Rattle.domain_rules.specs.Verdict.{Knows, verdict}
+use Rattle.domain_rules.specs.StationKeys.{Keying, m3_keying}
+use Rattle.domain_rules.specs.AccessPointKeys.{m4_keying}
+use Rattle.domain_rules.specs.Asking.{own}
+use Rattle.domain_rules.specs.Rows.{NodeEvent, Take, Begin, Retry, refused_seal, response, TakeRows, By_assoc_req, By_assoc_resp, By_m1, By_m2, By_m3, By_repeated_m3, By_m4, By_ignored, By_refusal, TakeRow, Adds}
+use Rattle.domain_rules.specs.Closing.{close_attempt, close_session, next_nonce, sender}
+use Rattle.domain_rules.specs.StationRows.{carried, ConnectRow, Spent, Asks}
 use Rattle.domain_rules.proofs.OneReading.{one_reading}
 use Rattle.domain_rules.proofs.OneOutcome.{one_verdict, same_carried}
+use Rattle.run_journal.specs.GroupKinds as groups
 
 -- ---- the acts, as a function of the outcome
 
@@ -45,21 +52,21 @@ managed_acts d first n h octets p kind.AssocResp = Took (Some p) octets kind.Ass
 managed_acts d first n h octets p _ = []
 
 abbrev m1_acts : Domain → Node → List ℕ → Node → KeyMessage → Inputs → List Act
-m1_acts d n octets p k i = Took (Some p) octets (kind.Key M1) Accepted None ∷ Derived p i (ptk i) ∷ sent_m2 d n p i k.fields.counter ∷ []
+m1_acts d n octets p k i = Took (Some p) octets (kind.Key M1) Accepted None ∷ Derived p i (ptk i) ∷ sent_m2 d n p (keyed_by i) k.fields.counter ∷ []
 
-abbrev m2_acts : Domain → Node → List Act → List ℕ → Node → KeyMessage → Inputs → List Act → List Act
-m2_acts d n h octets p k i part =
-    Took (Some p) octets (kind.Key M2) Accepted (Some (frame_seal (ptk i).kck k.octets)) ∷ Derived p i (ptk i) ∷ sent_m3 d n p i (next_in_attempt p part) (newest h) (newest_uses h) ∷ []
+abbrev m2_acts : Domain → Node → List Act → List ℕ → Node → KeyMessage → Inputs → List Act
+m2_acts d n h octets p k i =
+    Took (Some p) octets (kind.Key M2) Accepted (Some (frame_seal (ptk i).kck k.octets)) ∷ Derived p i (ptk i) ∷ sent_m3 d n p (keyed_by i) (next_in_attempt p (chain p h)) (newest groups.Gtk h) (newest_uses groups.Gtk h) ∷ []
 
 abbrev m3_acts : Domain → Node → List Act → List ℕ → Node → KeyMessage → GroupKey → Option Keying → List Act
 m3_acts d n h octets p k g None = []
 m3_acts d n h octets p k g (Some y) =
-    Took (Some p) octets (kind.Key M3) Accepted (Some (frame_seal y.ptk.kck k.octets)) ∷ Installed (One p) (Pairwise y.ptk.tk y.inputs)
-    ∷ give p (mac d p) g h ∷ Finished p y.inputs ∷ sent_m4 d n p y.inputs k.fields.counter ∷ []
+    Took (Some p) octets (kind.Key M3) Accepted (Some (frame_seal y.key.ptk.kck k.octets)) ∷ Installed (One p) (Pairwise y.key.ptk.tk y.key.inputs)
+    ∷ give groups.Gtk p (mac d p) g h ∷ Finished p y.key.inputs ∷ sent_m4 d n p y.key k.fields.counter ∷ []
 
 abbrev repeated_acts : Domain → Node → List ℕ → Node → KeyMessage → Option Keying → List Act
 repeated_acts d n octets p k None = []
-repeated_acts d n octets p k (Some y) = Took (Some p) octets (kind.Key M3) Answered (Some (frame_seal y.ptk.kck k.octets)) ∷ sent_m4 d n p y.inputs k.fields.counter ∷ []
+repeated_acts d n octets p k (Some y) = Took (Some p) octets (kind.Key M3) Answered (Some (frame_seal y.key.ptk.kck k.octets)) ∷ sent_m4 d n p y.key k.fields.counter ∷ []
 
 abbrev m4_acts : List Act → List ℕ → Node → KeyMessage → Option Derivation → List Act
 m4_acts h octets p k None = []
@@ -68,8 +75,8 @@ m4_acts h octets p k (Some x) =
     ++ Installed (One p) (Pairwise x.ptk.tk x.inputs) ∷ Finished p x.inputs ∷ []
 
 abbrev keyed_acts : Domain → Node → List Act → List ℕ → Node → KeyMessage → GroupKey → Message → List Act
-keyed_acts d n h octets p k g M1 = m1_acts d n octets p k (inputs d n p (own (part_of p h)) k.fields.nonce)
-keyed_acts d n h octets p k g M2 = m2_acts d n h octets p k (inputs d n p (own (part_of p h)) k.fields.nonce) (part_of p h)
+keyed_acts d n h octets p k g M1 = m1_acts d n octets p k (inputs d (root d) n p (own (part_of p h)) k.fields.nonce)
+keyed_acts d n h octets p k g M2 = m2_acts d n h octets p k (inputs d (root d) n p (own (part_of p h)) k.fields.nonce)
 keyed_acts d n h octets p k g M3 = m3_acts d n h octets p k g (m3_keying p h)
 keyed_acts d n h octets p k g M4 = m4_acts h octets p k (m4_keying p (part_of p h))
 keyed_acts d n h octets p k g _ = []
@@ -83,19 +90,19 @@ abbrev answered_acts : Domain → Node → List Act → List ℕ → Option Node
 answered_acts d n h octets (Some p) (Keyed k) = repeated_acts d n octets p k (m3_keying p h)
 answered_acts d n h octets from r = []
 
-abbrev refused_acts : Domain → Node → List Act → List ℕ → Reading → Reason → List Act
-refused_acts d n h octets r w =
-    Took (sender d n r) octets (kind_of r) (Refused w) (cond (is_after_mic w) (seal_in d n h r) None) ∷ response d n (sender d n r) (kind_of r) w
+abbrev refused_acts : Domain → ℕ → Node → List Act → List ℕ → Reading → Reason → List Act
+refused_acts d first n h octets r w =
+    Took (sender d n r) octets (kind_of r) (Refused w) (refused_seal d first n h r) ∷ response d n (sender d n r) (kind_of r) w
 
 abbrev acts_by : Domain → ℕ → Node → List Act → List ℕ → Reading → GroupKey → Outcome → List Act
 acts_by d first n h octets r g Accepted = accepted_acts d first n h octets g (sender d n r) r
 acts_by d first n h octets r g Answered = answered_acts d n h octets (sender d n r) r
 acts_by d first n h octets r g Ignored = Took None octets kind.Ignored Ignored None ∷ []
-acts_by d first n h octets r g (Refused w) = refused_acts d n h octets r w
+acts_by d first n h octets r g (Refused w) = refused_acts d first n h octets r w
 acts_by d first n h octets r g _ = []
 
-inputs_in : (d : Domain) (n p : Node) (h part : List Act) (i : Inputs) (k : KeyMessage) → attempt p h ≡ Some part → i ≡ inputs d n p (own part) k.fields.nonce → i ≡ inputs d n p (own (part_of p h)) k.fields.nonce
-inputs_in d n p h part i k s is = is ∙ sym (ap (λ (o : Option (List Act)). inputs d n p (own (unwrap_or o [])) k.fields.nonce) s)
+inputs_in : (d : Domain) (n p : Node) (h part : List Act) (i : Inputs) (k : KeyMessage) → attempt p h ≡ Some part → i ≡ inputs d (root d) n p (own part) k.fields.nonce → i ≡ inputs d (root d) n p (own (part_of p h)) k.fields.nonce
+inputs_in d n p h part i k s is = is ∙ sym (ap (λ (o : Option (List Act)). inputs d (root d) n p (own (unwrap_or o [])) k.fields.nonce) s)
 
 part_is : (p : Node) (h part : List Act) → attempt p h ≡ Some part → part ≡ part_of p h
 part_is p h part s = sym (ap (λ (o : Option (List Act)). unwrap_or o []) s)
@@ -131,8 +138,7 @@ row_is d first n h octets r facts g x carries (By_m1 row) =
     row.says ∙ ap (m1_acts d n octets row.p row.k) (inputs_in d n row.p h row.part row.i row.k row.awaited row.inputs_are)
     ∙ sym (keyed_is d first n h octets r _ row.k M1 row.p x row.accepted row.from row.is row.message_is)
 row_is d first n h octets r facts g x carries (By_m2 row) =
-    row.says ∙ ap (λ (i : Inputs). m2_acts d n h octets row.p row.k i row.part) (inputs_in d n row.p h row.part row.i row.k row.awaited row.inputs_are)
-    ∙ ap (m2_acts d n h octets row.p row.k (inputs d n row.p (own (part_of row.p h)) row.k.fields.nonce)) (part_is row.p h row.part row.awaited)
+    row.says ∙ ap (m2_acts d n h octets row.p row.k) (inputs_in d n row.p h row.part row.i row.k row.awaited row.inputs_are)
     ∙ sym (keyed_is d first n h octets r _ row.k M2 row.p x row.accepted row.from row.is row.message_is)
 row_is d first n h octets r facts g x carries (By_m3 row) =
     row.says ∙ ap (λ (v : GroupKey). m3_acts d n h octets row.p row.k v (Some row.y)) (carries row.k row.is row.message_is row.accepted)

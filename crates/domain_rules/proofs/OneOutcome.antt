@@ -21,11 +21,16 @@ use Rattle.run_journal.specs.declared.acts.KeyDataFault.TheVariants as key_data
 use Rattle.run_journal.specs.declared.acts.Outcome.{Outcome}
 use Rattle.run_journal.specs.declared.acts.Outcome.TheVariants.{Accepted, Answered, Ignored, Refused}
 use Rattle.run_journal.specs.declared.acts.Act.{Act}
-use Rattle.run_journal.specs.Questions.{attempt, draws}
+use Rattle.run_journal.specs.Questions.{attempt, draws, chain}
 use Rattle.run_journal.specs.Acts.{Derivation}
 use Rattle.domain_rules.specs.Network.{bssid, direction, goes_like, peer_of, last_draw}
 use Rattle.domain_rules.specs.Reading.{Management, KeyMessage, Reading, NoFrame, PassedOver, NoElements, Managed, NoKeyFrame, NoMessage, Keyed, Sealed, Reads}
-use Rattle.domain_rules.specs.Verdict.{Facts, Knows, KnowsFrom, KnowsOf, KnowsM3, ComesSoFar, Keying, m3_keying, m3_verdict_by, m4_keying, m4_verdict_by, m4_verdict, taken_in, m3_key_data, m3_wrapped, is_group_key, unless_refused, first_verdict, further, key_further, and_then, verdict, in_attempt, above, without_status, from_peer, sender_in, management_sender, is_mine, is_mine_or_group, by_connect, has_heard, kept_counter, offered, rsne_status, m2_key_data, is_same, air_reason, management_verdict, key_verdict}
+use Rattle.domain_rules.specs.Facts.{Facts, is_same}
+use Rattle.domain_rules.specs.Verdict.{Knows, KnowsFrom, KnowsOf, ComesSoFar, unless_refused, first_verdict, further, key_further, and_then, verdict, from_peer, sender_in, management_sender, is_mine, is_mine_or_group, air_reason, key_verdict}
+use Rattle.domain_rules.specs.StationKeys.{KnowsM3, Keying, m3_keying, m3_verdict_by, taken_in, m3_key_data, m3_wrapped, is_group_key}
+use Rattle.domain_rules.specs.AccessPointKeys.{m4_keying, m4_verdict_by, m4_verdict, m2_key_data, requested_rsne}
+use Rattle.domain_rules.specs.Asking.{in_attempt, above, by_connect, has_heard, kept_counter, offered}
+use Rattle.domain_rules.specs.Associating.{without_status, rsne_status, management_verdict}
 use Rattle.domain_rules.proofs.OneReading.{one_reading, same_m2, same_m3, same_opened}
 
 -- ---- a frame is accepted, answered, ignored or refused
@@ -77,10 +82,10 @@ decided_taken : (b : Bool) → Decided (taken_in b)
 decided_taken false = Took_in refl
 decided_taken true = Repeated refl
 
-decided_m3 : (d : Domain) (p : Node) (k : KeyMessage) (o : Option Keying) → Decided (m3_verdict_by d p k o)
-decided_m3 d p k None = refused reason.Unawaited
-decided_m3 d p k (Some y) =
-    decided_above (kept_counter p y.part) k.fields.counter _ (decided_if (bytes_eq k.fields.nonce y.inputs.anonce) _ _
+decided_m3 : (d : Domain) (kept : Option ℕ) (k : KeyMessage) (o : Option Keying) → Decided (m3_verdict_by d kept k o)
+decided_m3 d kept k None = refused reason.Unawaited
+decided_m3 d kept k (Some y) =
+    decided_above kept k.fields.counter _ (decided_if (bytes_eq k.fields.nonce y.key.inputs.anonce) _ _
     (decided_if (bytes_eq k.fields.mic _) _ _ (decided_taken y.is_session) (refused reason.Mic)) (refused reason.Nonce))
 
 decided_m4 : (d : Domain) (p : Node) (k : KeyMessage) (part : List Act) (o : Option Derivation) → Decided (m4_verdict_by d p k part o)
@@ -88,21 +93,21 @@ decided_m4 d p k part None = refused reason.Unawaited
 decided_m4 d p k part (Some x) =
     decided_if (list_any (λ c. c == k.fields.counter) (offered p M3 part)) _ _ (decided_if (bytes_eq k.fields.mic _) _ _ (Took_in refl) (refused reason.Mic)) (refused _)
 
-decided_management : (d : Domain) (first : ℕ) (n : Node) (h : List Act) (p : Node) (k : Kind) (b : Management) (e : ElementFields) → Decided (management_verdict d first n h p k b e)
-decided_management d first (Ap a) h p kind.AssocReq b e = decided_status (rsne_status d.akm e.rsne) _ (decided_if (nat_lt (first + draws h) last_draw) _ _ (Took_in refl) (refused reason.Spent))
-decided_management d first (Sta s) h p kind.AssocResp b e =
+decided_management : (d : Domain) (drawn : ℕ) (n : Node) (h : List Act) (p : Node) (k : Kind) (b : Management) (e : ElementFields) → Decided (management_verdict d drawn n h p k b e)
+decided_management d drawn (Ap a) h p kind.AssocReq b e = decided_status (rsne_status d.akm e.rsne) _ (decided_if (nat_lt drawn last_draw) _ _ (Took_in refl) (refused reason.Spent))
+decided_management d drawn (Sta s) h p kind.AssocResp b e =
     decided_attempt (attempt p h) _ (λ part. decided_if (not (by_connect part) || has_heard p kind.AssocResp part) _ _ (refused reason.Unawaited) (decided_if (b.status == 0) _ _ (Took_in refl) (refused (reason.Status b.status))))
-decided_management d first n h p _ b e = refused reason.Unawaited
+decided_management d drawn n h p _ b e = refused reason.Unawaited
 
-decided_key : (d : Domain) (n : Node) (h : List Act) (p : Node) (m : Message) (k : KeyMessage) → Decided (key_verdict d n h p m k)
-decided_key d (Sta s) h p M1 k =
-    decided_attempt (attempt p h) _ (λ part. decided_if (not (by_connect part) || not (has_heard p kind.AssocResp part)) _ _ (refused reason.Unawaited) (decided_above (kept_counter p part) k.fields.counter Accepted (Took_in refl)))
-decided_key d (Ap a) h p M2 k =
+decided_key : (d : Domain) (drawn : ℕ) (n : Node) (h : List Act) (p : Node) (k : KeyMessage) (m : Message) → Decided (key_verdict d drawn n h p k m)
+decided_key d drawn (Sta s) h p k M1 =
+    decided_attempt (attempt p h) _ (λ part. decided_if (not (by_connect part) || not (has_heard p kind.AssocResp part)) _ _ (refused reason.Unawaited) (decided_above (kept_counter p (chain p h)) k.fields.counter Accepted (Took_in refl)))
+decided_key d drawn (Ap a) h p k M2 =
     decided_attempt (attempt p h) _ (λ part. decided_if (not (by_connect part) || has_heard p (kind.Key M2) part) _ _ (refused reason.Unawaited)
     (decided_if (list_any (λ c. c == k.fields.counter) (offered p M1 part)) _ _ (decided_if (bytes_eq k.fields.mic _) _ _ (Took_in refl) (refused reason.Mic)) (refused _)))
-decided_key d (Sta s) h p M3 k = decided_m3 d p k (m3_keying p h)
-decided_key d (Ap a) h p M4 k = decided_attempt (attempt p h) _ (λ part. decided_m4 d p k part (m4_keying p part))
-decided_key d n h p _ k = refused reason.Unawaited
+decided_key d drawn (Sta s) h p k M3 = decided_m3 d (kept_counter p (chain p h)) k (m3_keying p h)
+decided_key d drawn (Ap a) h p k M4 = decided_attempt (attempt p h) _ (λ part. decided_m4 d p k part (m4_keying p part))
+decided_key d drawn n h p k _ = refused reason.Unawaited
 
 decided_first : (d : Domain) (first : ℕ) (n : Node) (h : List Act) (r : Reading) → Decided (first_verdict d first n h r)
 decided_first d first n h (NoFrame fault) = refused (air_reason fault)
@@ -111,14 +116,14 @@ decided_first d first n h (NoElements b fault) = refused _
 decided_first d first n h (NoKeyFrame header fault) = refused _
 decided_first d first n h (NoMessage header) = refused _
 decided_first d first n h (Managed b e) =
-    decided_if (not (is_mine d n b.header)) _ _ (refused reason.NotForMe) (decided_peer (management_sender d n b.header) _ (λ p. decided_management d first n h p b.kind b e))
+    decided_if (not (is_mine d n b.header)) _ _ (refused reason.NotForMe) (decided_peer (management_sender d n b.header) _ (λ p. decided_management d (first + draws h) n h p b.kind b e))
 decided_first d first n h (Keyed k) =
-    decided_if (not (is_mine d n k.header) || goes_like k.direction (direction n)) _ _ (refused reason.NotForMe) (decided_peer (peer_of d n k.header.a2) _ (λ p. decided_key d n h p k.message k))
+    decided_if (not (is_mine d n k.header) || goes_like k.direction (direction n)) _ _ (refused reason.NotForMe) (decided_peer (peer_of d n k.header.a2) _ (λ p. decided_key d (first + draws h) n h p k k.message))
 decided_first d first n h (Sealed header way tid body) =
     decided_if (not (is_mine_or_group d n header) || goes_like way (direction n)) _ _ (refused reason.NotForMe) (decided_peer (peer_of d n header.a2) _ (λ p. refused reason.NoKey))
 
 decided_message : (akm : Akm) (m : Message) (facts : Facts) → Decided (key_further akm m facts)
-decided_message akm M2 facts = decided_key_data facts.requested facts.data_
+decided_message akm M2 facts = decided_key_data (requested_rsne facts.requested) facts.data_
 decided_message akm M3 facts = decided_wrapped akm facts.unwrapped facts.data_
 decided_message akm _ facts = Took_in refl
 
@@ -208,10 +213,10 @@ taken_attempt None f (inl s) = absurd cc
 taken_attempt None f (inr s) = absurd cc
 taken_attempt (Some part) f s = (part, (refl, s))
 
-taken_m3 : (d : Domain) (p : Node) (k : KeyMessage) (o : Option Keying) → IsTaken (m3_verdict_by d p k o) → (y : Keying) × (o ≡ Some y)
-taken_m3 d p k None (inl s) = absurd cc
-taken_m3 d p k None (inr s) = absurd cc
-taken_m3 d p k (Some y) s = (y, refl)
+taken_m3 : (d : Domain) (kept : Option ℕ) (k : KeyMessage) (o : Option Keying) → IsTaken (m3_verdict_by d kept k o) → (y : Keying) × (o ≡ Some y)
+taken_m3 d kept k None (inl s) = absurd cc
+taken_m3 d kept k None (inr s) = absurd cc
+taken_m3 d kept k (Some y) s = (y, refl)
 
 taken_m4 : (d : Domain) (p : Node) (k : KeyMessage) (part : List Act) (o : Option Derivation) → IsTaken (m4_verdict_by d p k part o) → (x : Derivation) × (o ≡ Some x)
 taken_m4 d p k part None (inl s) = absurd cc
@@ -228,12 +233,12 @@ never : {C : Type 0} (why : Reason) → IsTaken (Refused why) → C
 never why (inl s) = absurd cc
 never why (inr s) = absurd cc
 
-pub key_kind : (d : Domain) (n : Node) (h : List Act) (p : Node) (m : Message) (k : KeyMessage) → IsTaken (key_verdict d n h p m k) → Awaited p h m
-key_kind d (Sta sta) h p M1 k s = let x = taken_attempt (attempt p h) _ s in Is_m1 refl (x.0, x.1.0)
-key_kind d (Ap a) h p M2 k s = let x = taken_attempt (attempt p h) _ s in Is_m2 refl (x.0, x.1.0)
-key_kind d (Sta sta) h p M3 k s = Is_m3 refl (taken_m3 d p k (m3_keying p h) s)
-key_kind d (Ap a) h p M4 k s = Is_m4 refl (in_m4 d p h k s)
-key_kind d n h p _ k s = never reason.Unawaited s
+pub key_kind : (d : Domain) (drawn : ℕ) (n : Node) (h : List Act) (p : Node) (k : KeyMessage) (m : Message) → IsTaken (key_verdict d drawn n h p k m) → Awaited p h m
+key_kind d drawn (Sta sta) h p k M1 s = let x = taken_attempt (attempt p h) _ s in Is_m1 refl (x.0, x.1.0)
+key_kind d drawn (Ap a) h p k M2 s = let x = taken_attempt (attempt p h) _ s in Is_m2 refl (x.0, x.1.0)
+key_kind d drawn (Sta sta) h p k M3 s = Is_m3 refl (taken_m3 d (kept_counter p (chain p h)) k (m3_keying p h) s)
+key_kind d drawn (Ap a) h p k M4 s = Is_m4 refl (in_m4 d p h k s)
+key_kind d drawn n h p k _ s = never reason.Unawaited s
 
 and_taken : (a b : Outcome) → IsTaken (and_then a b) → IsTaken a
 and_taken Accepted b s = inl refl
@@ -295,20 +300,20 @@ unanswered_m4 : (d : Domain) (p : Node) (k : KeyMessage) (part : List Act) (o : 
 unanswered_m4 d p k part None s = cc
 unanswered_m4 d p k part (Some x) s = unanswered_among (list_any (λ c. c == k.fields.counter) (offered p M3 part)) (bytes_eq k.fields.mic (mic d.akm x.ptk.kck k.octets)) reason.Mic _ s
 
-pub answered_kind : (d : Domain) (n : Node) (h : List Act) (p : Node) (m : Message) (k : KeyMessage) → key_verdict d n h p m k ≡ Answered → (m ≡ M3) × HasKeying p h
-answered_kind d (Sta sta) h p M1 k s =
-    absurd (unanswered_in (attempt p h) _ (λ part t. unanswered_above (kept_counter p part) k.fields.counter (answered_behind (not (by_connect part) || not (has_heard p kind.AssocResp part)) reason.Unawaited _ t)) s)
-answered_kind d (Ap a) h p M2 k s =
+pub answered_kind : (d : Domain) (drawn : ℕ) (n : Node) (h : List Act) (p : Node) (k : KeyMessage) (m : Message) → key_verdict d drawn n h p k m ≡ Answered → (m ≡ M3) × HasKeying p h
+answered_kind d drawn (Sta sta) h p k M1 s =
+    absurd (unanswered_in (attempt p h) _ (λ part t. unanswered_above (kept_counter p (chain p h)) k.fields.counter (answered_behind (not (by_connect part) || not (has_heard p kind.AssocResp part)) reason.Unawaited _ t)) s)
+answered_kind d drawn (Ap a) h p k M2 s =
     absurd (unanswered_in (attempt p h) _ (λ part t. unanswered_among (list_any (λ c. c == k.fields.counter) (offered p M1 part)) (bytes_eq k.fields.mic _) reason.Mic _ (answered_behind (not (by_connect part) || has_heard p (kind.Key M2) part) reason.Unawaited _ t)) s)
-answered_kind d (Sta sta) h p M3 k s = (refl, taken_m3 d p k (m3_keying p h) (inr s))
-answered_kind d (Ap a) h p M4 k s = absurd (unanswered_in (attempt p h) _ (λ part t. unanswered_m4 d p k part (m4_keying p part) t) s)
-answered_kind d n h p _ k s = cc
+answered_kind d drawn (Sta sta) h p k M3 s = (refl, taken_m3 d (kept_counter p (chain p h)) k (m3_keying p h) (inr s))
+answered_kind d drawn (Ap a) h p k M4 s = absurd (unanswered_in (attempt p h) _ (λ part t. unanswered_m4 d p k part (m4_keying p part) t) s)
+answered_kind d drawn n h p k _ s = cc
 
-unanswered_management : (d : Domain) (first : ℕ) (n : Node) (h : List Act) (p : Node) (k : Kind) (b : Management) (e : ElementFields) → management_verdict d first n h p k b e ≡ Answered → ⊥
-unanswered_management d first (Ap a) h p kind.AssocReq b e s = unanswered_status (rsne_status d.akm e.rsne) (nat_lt (first + draws h) last_draw) s
-unanswered_management d first (Sta sta) h p kind.AssocResp b e s =
+unanswered_management : (d : Domain) (drawn : ℕ) (n : Node) (h : List Act) (p : Node) (k : Kind) (b : Management) (e : ElementFields) → management_verdict d drawn n h p k b e ≡ Answered → ⊥
+unanswered_management d drawn (Ap a) h p kind.AssocReq b e s = unanswered_status (rsne_status d.akm e.rsne) (nat_lt drawn last_draw) s
+unanswered_management d drawn (Sta sta) h p kind.AssocResp b e s =
     unanswered_in (attempt p h) _ (λ part t. unanswered_if (b.status == 0) (reason.Status b.status) (answered_behind (not (by_connect part) || has_heard p kind.AssocResp part) reason.Unawaited _ t)) s
-unanswered_management d first n h p _ b e s = cc
+unanswered_management d drawn n h p _ b e s = cc
 
 unanswered_peer : (o : Option Node) (f : Node → Outcome) → ((p : Node) → f p ≡ Answered → ⊥) → from_peer o f ≡ Answered → ⊥
 unanswered_peer None f all s = cc
@@ -316,7 +321,7 @@ unanswered_peer (Some p) f all s = all p s
 
 pub managed_unanswered : (d : Domain) (first : ℕ) (n : Node) (h : List Act) (b : Management) (e : ElementFields) → first_verdict d first n h (Managed b e) ≡ Answered → ⊥
 managed_unanswered d first n h b e s =
-    unanswered_peer (management_sender d n b.header) _ (λ p. unanswered_management d first n h p b.kind b e) (answered_behind (not (is_mine d n b.header)) reason.NotForMe _ s)
+    unanswered_peer (management_sender d n b.header) _ (λ p. unanswered_management d (first + draws h) n h p b.kind b e) (answered_behind (not (is_mine d n b.header)) reason.NotForMe _ s)
 
 pub sealed_unanswered : (d : Domain) (n : Node) (header : HeaderFields) (way : Direction) → (if not (is_mine_or_group d n header) || goes_like way (direction n) then Refused reason.NotForMe else from_peer (peer_of d n header.a2) (λ p. Refused reason.NoKey)) ≡ Answered → ⊥
 sealed_unanswered d n header way s =
@@ -331,7 +336,7 @@ far_taken _ far = absurd far
 
 same_message_further : (d : Domain) (h : List Act) (p : Node) (m : Message) (k : KeyMessage) (f g : Facts) → Awaited p h m → KnowsOf d.akm h p m k f → KnowsOf d.akm h p m k g → key_further d.akm m f ≡ key_further d.akm m g
 same_message_further d h p M2 k f g awaited s t = same_m2 d.akm h p k f g s t
-same_message_further d h p M3 k f g (Is_m3 e y) s t = same_m3 d.akm y.0.ptk.kek k f g (s y.0 y.1) (t y.0 y.1)
+same_message_further d h p M3 k f g (Is_m3 e y) s t = same_m3 d.akm y.0.key.ptk.kek k f g (s y.0 y.1) (t y.0 y.1)
 same_message_further d h p M3 k f g (Is_m1 e y) s t = cc
 same_message_further d h p M3 k f g (Is_m2 e y) s t = cc
 same_message_further d h p M3 k f g (Is_m4 e y) s t = cc
@@ -339,8 +344,8 @@ same_message_further d h p _ k f g awaited s t = refl
 
 same_further : (d : Domain) (first : ℕ) (n : Node) (h : List Act) (r : Reading) (f g : Facts) → ComesSoFar (first_verdict d first n h r) → KnowsFrom d n h r f → KnowsFrom d n h r g → further d.akm r f ≡ further d.akm r g
 same_further d first n h (Keyed k) f g a s t =
-    let behind = taken_from (peer_of d n k.header.a2) (λ p. key_verdict d n h p k.message k) (taken_behind (not (is_mine d n k.header) || goes_like k.direction (direction n)) reason.NotForMe _ (far_taken _ a)) in
-    same_message_further d h behind.0 k.message k f g (key_kind d n h behind.0 k.message k behind.1.1) (s behind.0 behind.1.0) (t behind.0 behind.1.0)
+    let behind = taken_from (peer_of d n k.header.a2) (λ p. key_verdict d (first + draws h) n h p k k.message) (taken_behind (not (is_mine d n k.header) || goes_like k.direction (direction n)) reason.NotForMe _ (far_taken _ a)) in
+    same_message_further d h behind.0 k.message k f g (key_kind d (first + draws h) n h behind.0 k k.message behind.1.1) (s behind.0 behind.1.0) (t behind.0 behind.1.0)
 same_further d first n h _ f g a s t = refl
 
 same_then : (o x y : Outcome) → (ComesSoFar o → x ≡ y) → and_then o x ≡ and_then o y
@@ -390,15 +395,15 @@ keyed_m3 p h m e (Is_m2 f y) = cc
 keyed_m3 p h m e (Is_m3 f y) = y
 keyed_m3 p h m e (Is_m4 f y) = cc
 
-knows_m3 : (d : Domain) (h : List Act) (p : Node) (m : Message) (k : KeyMessage) (f : Facts) → m ≡ M3 → KnowsOf d.akm h p m k f → (y : Keying) → m3_keying p h ≡ Some y → KnowsM3 y.ptk.kek k f
+knows_m3 : (d : Domain) (h : List Act) (p : Node) (m : Message) (k : KeyMessage) (f : Facts) → m ≡ M3 → KnowsOf d.akm h p m k f → (y : Keying) → m3_keying p h ≡ Some y → KnowsM3 y.key.ptk.kek k f
 knows_m3 d h p m k f e knows y is = let all : KnowsOf d.akm h p M3 k f = subst (λ (x : Message). KnowsOf d.akm h p x k f) e knows in all y is
 
 pub same_carried : (d : Domain) (first : ℕ) (n : Node) (h : List Act) (k : KeyMessage) (f g : Facts) → k.message ≡ M3 → Knows d first n h (Keyed k) f → Knows d first n h (Keyed k) g → verdict d first n h (Keyed k) f ≡ Accepted → f.data_ ≡ g.data_
 same_carried d first n h k f g m s t accepted =
     let a : first_verdict d first n h (Keyed k) ≡ Accepted = and_accepted _ _ accepted in
     let far : ComesSoFar (first_verdict d first n h (Keyed k)) = subst ComesSoFar (sym a) tt in
-    let behind = taken_from (peer_of d n k.header.a2) (λ p. key_verdict d n h p k.message k) (taken_behind (not (is_mine d n k.header) || goes_like k.direction (direction n)) reason.NotForMe _ (inl a)) in
-    let y = keyed_m3 behind.0 h k.message m (key_kind d n h behind.0 k.message k behind.1.1) in
+    let behind = taken_from (peer_of d n k.header.a2) (λ p. key_verdict d (first + draws h) n h p k k.message) (taken_behind (not (is_mine d n k.header) || goes_like k.direction (direction n)) reason.NotForMe _ (inl a)) in
+    let y = keyed_m3 behind.0 h k.message m (key_kind d (first + draws h) n h behind.0 k k.message behind.1.1) in
     let opened : and_then Accepted (key_further d.akm k.message f) ≡ Accepted = subst (λ (x : Outcome). and_then x (key_further d.akm k.message f) ≡ Accepted) a accepted in
     let open3 : unless_refused Accepted (m3_wrapped d.akm f.unwrapped f.data_) ≡ Accepted = subst (λ (x : Message). unless_refused Accepted (key_further d.akm x f) ≡ Accepted) m opened in
-    same_opened d.akm y.0.ptk.kek k f g (knows_m3 d h behind.0 k.message k f m (s far behind.0 behind.1.0) y.0 y.1) (knows_m3 d h behind.0 k.message k g m (t far behind.0 behind.1.0) y.0 y.1) (not_refused d.akm f.unwrapped f.data_ open3)
+    same_opened d.akm y.0.key.ptk.kek k f g (knows_m3 d h behind.0 k.message k f m (s far behind.0 behind.1.0) y.0 y.1) (knows_m3 d h behind.0 k.message k g m (t far behind.0 behind.1.0) y.0 y.1) (not_refused d.akm f.unwrapped f.data_ open3)

@@ -21,11 +21,11 @@ use Rattle.eapol_key.specs.KeyFrame.{KeyFields, SpellsKeyFrame, key_frame_fault}
 use Rattle.eapol_key.specs.Messages.{IsMessage, has_bit}
 use Rattle.eapol_key.proofs.Faults.{same_frame, sound_from_frame, none_from_sound}
 use Rattle.run_journal.specs.declared.acts.Act.{Act}
-use Rattle.run_journal.specs.declared.acts.Kind.TheVariants as kind
-use Rattle.run_journal.specs.Questions.{heard}
 use Rattle.key_wrap.proofs.UniqueLemmas.{Wraps-unique}
 use Rattle.run_journal.specs.declared.acts.Outcome.TheVariants.{Accepted}
-use Rattle.domain_rules.specs.Verdict.{Facts, HasRsne, IsRequested, ReadsKeyData, KnowsM2, IsUnwrapped, KnowsM3, m2_key_data, m3_key_data, m3_wrapped}
+use Rattle.domain_rules.specs.Facts.{Facts, ReadsKeyData, IsUnwrapped}
+use Rattle.domain_rules.specs.AccessPointKeys.{HasElements, IsRequested, KnowsM2, m2_key_data, request, requested_rsne}
+use Rattle.domain_rules.specs.StationKeys.{KnowsM3, m3_key_data, m3_wrapped}
 use Rattle.domain_rules.specs.Reading.{Management, management_of, KeyMessage, Reading, NoFrame, PassedOver, NoElements, Managed, NoKeyFrame, NoMessage, Keyed, Sealed, Reads}
 
 -- ---- one message
@@ -175,16 +175,16 @@ one_reading akm octets r s x y = same_read akm octets r s (is_read akm octets r 
 
 -- ---- what reading further tells
 
--- the RSNE of a request
-same_rsne : (akm : Akm) (octets : List ℕ) (x y : Option (List ℕ)) → HasRsne akm octets x → HasRsne akm octets y → x ≡ y
-same_rsne akm octets x y (b, (e, (reads, is))) (c, (f, (reads_too, also))) =
-    let same : Managed b e ≡ Managed c f = one_reading akm octets (Managed b e) (Managed c f) reads reads_too in
-    let said : e ≡ f = cc same in
-    is ∙ ap (λ (v : ElementFields). v.rsne_octets) said ∙ sym also
+-- the elements of a request
+pub same_request : (akm : Akm) (octets : List ℕ) (e f : ElementFields) → HasElements akm octets e → HasElements akm octets f → e ≡ f
+same_request akm octets e f (b, reads) (c, reads_too) =
+    let same : Managed b e ≡ Managed c f = one_reading akm octets (Managed b e) (Managed c f) reads reads_too in cc same
 
-same_requested : (akm : Akm) (o x y : Option (List ℕ)) → IsRequested akm o x → IsRequested akm o y → x ≡ y
+same_requested : (akm : Akm) (o : Option (List ℕ)) (x y : Option ElementFields) → IsRequested akm o x → IsRequested akm o y → x ≡ y
 same_requested akm None x y is also = is ∙ sym also
-same_requested akm (Some octets) x y has has_too = same_rsne akm octets x y has has_too
+same_requested akm (Some octets) None y has has_too = absurd has
+same_requested akm (Some octets) (Some e) None has has_too = absurd has_too
+same_requested akm (Some octets) (Some e) (Some f) has has_too = ap (λ (v : ElementFields). Some v) (same_request akm octets e f has has_too)
 
 same_key_data : (octets : List ℕ) (x y : Option ElementFields) → ReadsKeyData octets x → ReadsKeyData octets y → x ≡ y
 same_key_data octets (Some e) (Some f) s t = ap (λ (v : ElementFields). Some v) (one_value KeyData octets e f s t)
@@ -192,10 +192,10 @@ same_key_data octets (Some e) None s t = absurd (value_or_fault KeyData octets e
 same_key_data octets None (Some f) s t = absurd (value_or_fault KeyData octets f s.0.place s.0.kind t s.1)
 same_key_data octets None None s t = refl
 
-pub same_m2 : (akm : Akm) (h : List Act) (p : Node) (k : KeyMessage) (f g : Facts) → KnowsM2 akm h p k f → KnowsM2 akm h p k g → m2_key_data f.requested f.data_ ≡ m2_key_data g.requested g.data_
+pub same_m2 : (akm : Akm) (h : List Act) (p : Node) (k : KeyMessage) (f g : Facts) → KnowsM2 akm h p k f → KnowsM2 akm h p k g → m2_key_data (requested_rsne f.requested) f.data_ ≡ m2_key_data (requested_rsne g.requested) g.data_
 same_m2 akm h p k f g s t =
-    ap (λ (x : Option (List ℕ)). m2_key_data x f.data_) (same_requested akm (heard p kind.AssocReq h) f.requested g.requested s.requested t.requested)
-    ∙ ap (m2_key_data g.requested) (same_key_data k.fields.key_data f.data_ g.data_ s.data_ t.data_)
+    ap (λ (x : Option ElementFields). m2_key_data (requested_rsne x) f.data_) (same_requested akm (request p h) f.requested g.requested s.requested t.requested)
+    ∙ ap (m2_key_data (requested_rsne g.requested)) (same_key_data k.fields.key_data f.data_ g.data_ s.data_ t.data_)
 
 -- key data has one plain text at most
 same_plain : (kek octets : List ℕ) (x y : Option (List ℕ)) → IsUnwrapped kek octets x → IsUnwrapped kek octets y → x ≡ y

@@ -1,5 +1,5 @@
 -- What one more act does to the questions that are asked of a history, and what a group of acts does.
-use Rattle.std.proofs.Common.{◌≡◌, ◌⊎◌, ℕ, suc, ◌+◌, Bool, true, false, cond, List, [], ◌∷◌, ◌++◌, Option, Some, None, refl, ap, subst, ◌∙◌, arith, inl, inr}
+use Rattle.std.proofs.Common.{◌≡◌, ◌⊎◌, ℕ, suc, ◌+◌, Bool, true, false, cond, List, [], ◌∷◌, ◌++◌, Option, Some, None, refl, sym, ap, subst, ◌∙◌, arith, inl, inr}
 use Rattle.std.specs.List.{AllByRecursion}
 use Rattle.std.proofs.lemmas.Bool.{eqb-true, eq-eqb, cases_Bool}
 use Rattle.domain_base.specs.declared.names.Node.{Node}
@@ -22,9 +22,9 @@ use Rattle.run_journal.specs.declared.acts.Seal.{Seal}
 use Rattle.run_journal.specs.declared.acts.Act.{Act}
 use Rattle.run_journal.specs.declared.acts.Act.TheVariants.{Opened, Closed, Drew, Derived, Sent, Took, Finished, Idle}
 use Rattle.run_journal.specs.Acts.{same, is_one, is_from, same_kind, kind_number, opens, ends, closes, finishes, nonce_drawn, Derivation, derived, accepted, replied, sent}
-use Rattle.run_journal.specs.Questions.{also, attempt, own_nonce, derivation, session, pending, associated, heard, all_replied, all_sent, is_draw, draws, add}
+use Rattle.run_journal.specs.Questions.{also, attempt, since, own_nonce, derivation, session, pending, associated, heard, all_replied, all_sent, is_draw, draws, add}
 use Rattle.run_journal.specs.Premises.{In}
-use Rattle.domain_rules.specs.Verdict.{by_connect}
+use Rattle.domain_rules.specs.Asking.{by_connect}
 
 -- ---- nodes and kinds
 
@@ -68,6 +68,16 @@ grows_by p e h part false false o n s = grows_also p e h part o n (attempt p h) 
 
 pub grows : (p : Node) (e : Act) (h part : List Act) → attempt p (e ∷ h) ≡ Some part → Grows p e h part
 grows p e h part s = grows_by p e h part (opens p e) (ends p e) refl refl s
+
+-- ---- the part of an attempt is the history since it began
+
+since_grows : (p : Node) (e : Act) (h part : List Act) → ((old : List Act) → attempt p h ≡ Some old → since p h ≡ old) → Grows p e h part → since p (e ∷ h) ≡ part
+since_grows p e h part more (Begins o is) = rw o (sym is)
+since_grows p e h part more (Goes_on old o n was is) = rw o (ap (λ (l : List Act). e ∷ l) (more old was) ∙ sym is)
+
+pub since_part : (p : Node) (h part : List Act) → attempt p h ≡ Some part → since p h ≡ part
+since_part p [] part s = cc
+since_part p (e ∷ h) part s = since_grows p e h part (λ old was. since_part p h old was) (grows p e h part s)
 
 -- the other way round
 pub attempt_begins : (p : Node) (e : Act) (h : List Act) → opens p e ≡ true → attempt p (e ∷ h) ≡ Some (e ∷ [])

@@ -3,7 +3,7 @@ use Rattle.std.proofs.Common.{◌≡◌, ℕ, ◌+◌, ◌^◌, ◌<◌, false, 
 use Rattle.std.specs.Prelude.{not, nat_lt, replicate}
 use Rattle.std.specs.Int.{w64, from_le_bytes}
 use Rattle.std.proofs.lemmas.Bool.{lt-ltb}
-use Rattle.std.proofs.lemmas.List.{append-nil, append_assoc, length-append, length-take-le, take_all, take-take, drop-drop}
+use Rattle.std.proofs.lemmas.List.{append-nil, append_assoc, length-append, take_all, take-take, drop-drop}
 use Rattle.domain_base.specs.declared.names.Akm.{Akm}
 use Rattle.domain_base.specs.declared.names.Akm.TheVariants.{Psk, PskSha256, FtPsk}
 use Rattle.domain_base.specs.declared.names.Node.{Node}
@@ -18,8 +18,7 @@ use Rattle.rsn_elements.specs.Elements.{ElementFields, SpellsElements}
 use Rattle.rsn_elements.specs.Sent.{ssid_octets, rates_octets, rsne_octets}
 use Rattle.rsn_elements.specs.Pieces.{SentSsid, SentRates, SentRsne, nothing, said}
 use Rattle.rsn_elements.proofs.PiecesTell.{pieces_spelled}
-use Rattle.mac_prf.specs.Mic.{mic, mic_sha1, without_mic}
-use Rattle.mac_prf.proofs.Sizes.{length-hmac_sha1}
+use Rattle.mac_prf.specs.Mic.{mic}
 use Rattle.eapol_key.specs.declared.messages.Message.{Message}
 use Rattle.eapol_key.specs.declared.messages.Message.TheVariants.{M1, M2, M3, M4, G1, G2}
 use Rattle.eapol_key.specs.KeyFrame.{KeyFields, SpellsKeyFrame}
@@ -30,16 +29,15 @@ use Rattle.eapol_key.specs.Sent.{IsSentWith, sent_fields}
 use Rattle.eapol_key.proofs.Joined.{sent_fits}
 use Rattle.eapol_key.proofs.Seals.{sealed_fields, sealed_mic}
 use Rattle.eapol_key.proofs.Written.{spelled_as_written}
-use Rattle.key_hierarchy.specs.Keys.{ptk}
-use Rattle.key_hierarchy.specs.declared.inputs.Inputs.{Inputs}
 use Rattle.run_journal.specs.declared.domain.Domain.{Domain}
 use Rattle.run_journal.specs.declared.acts.Kind.TheVariants as kind
-use Rattle.run_journal.specs.Acts.{GroupKey}
+use Rattle.run_journal.specs.Acts.{GroupKey, Derivation}
 use Rattle.domain_rules.specs.Network.{address, bssid, direction}
 use Rattle.domain_rules.specs.Reading.{Management, Managed, KeyMessage, Keyed, IsManaged, Reads}
-use Rattle.domain_rules.specs.Verdict.{replay_counter}
+use Rattle.domain_rules.specs.Asking.{replay_counter}
 use Rattle.domain_rules.specs.GroupKeys.{rsc_in}
 use Rattle.domain_rules.specs.Frames.{aid, assoc_req_elements, in_data, m2_frame, wrapped, m3_key_data, m3_frame, m4_frame}
+use Rattle.domain_base.specs.Octets.{AreOctets}
 use Rattle.domain_rules.proofs.CarriedKey.{IsGroupKey, few_wrapped}
 
 -- ---- elements
@@ -187,10 +185,6 @@ reads-m1 d n p counter anonce l k c h =
 abbrev pub HasMic : Akm → Type 0
 HasMic akm = (kck frame : List ℕ) → length (mic akm kck frame) ≡ 16
 
-pub has_mic-psk : HasMic Psk
-unfolding mic_sha1
-has_mic-psk kck frame = length-take-le 16 _ (omega (arith, length-hmac_sha1 kck (without_mic frame)))
-
 abbrev pub with_mic : Akm → List ℕ → KeyFields → KeyFields
 with_mic akm kck f = record f { mic = mic akm kck (frame_octets f) }
 
@@ -219,34 +213,34 @@ reads-sealed d n p m kck f has l k fits is =
     (reads-key d n p m (with_mic d.akm kck f) l k (fits-with_mic d.akm kck f has fits) (message-with_mic d.akm kck m f is))
 
 -- M2, before its MIC is put in
-abbrev pub m2_fields : Domain → Inputs → ℕ → KeyFields
-m2_fields d i counter = sent_fields M2 d.akm counter i.snonce 0 (rsne_octets d.akm None)
+abbrev pub m2_fields : Domain → Derivation → ℕ → KeyFields
+m2_fields d x counter = sent_fields M2 d.akm counter x.inputs.snonce 0 (rsne_octets d.akm None)
 
-pub fits-m2 : (d : Domain) (i : Inputs) (counter : ℕ) → counter < 2 ^ 64 → length i.snonce ≡ 32 → FitsKeyFrame (m2_fields d i counter)
-fits-m2 d i counter c h = sent_fits M2 d.akm counter 0 i.snonce (rsne_octets d.akm None) c h (omega arith)
+pub fits-m2 : (d : Domain) (x : Derivation) (counter : ℕ) → counter < 2 ^ 64 → length x.inputs.snonce ≡ 32 → FitsKeyFrame (m2_fields d x counter)
+fits-m2 d x counter c h = sent_fits M2 d.akm counter 0 x.inputs.snonce (rsne_octets d.akm None) c h (omega arith)
 
-abbrev pub m2_message : Domain → Node → Node → Inputs → ℕ → KeyMessage
-m2_message d n p i counter = key_message d n p M2 (with_mic d.akm (ptk i).kck (m2_fields d i counter)) (m2_frame d i counter)
+abbrev pub m2_message : Domain → Node → Node → Derivation → ℕ → KeyMessage
+m2_message d n p x counter = key_message d n p M2 (with_mic d.akm x.ptk.kck (m2_fields d x counter)) (m2_frame d x counter)
 
-pub reads-m2 : (d : Domain) (n p : Node) (i : Inputs) (counter : ℕ) → HasMic d.akm → IsAddress (address d n) → IsAddress (address d p) → counter < 2 ^ 64 → length i.snonce ≡ 32
-    → Reads d.akm (in_data d n p (m2_frame d i counter)) (Keyed (m2_message d n p i counter))
-reads-m2 d n p i counter has l k c h =
-    reads-sealed d n p M2 (ptk i).kck (m2_fields d i counter) has l k (fits-m2 d i counter c h) (message_sent M2 d.akm counter 0 i.snonce (rsne_octets d.akm None) (omega arith))
+pub reads-m2 : (d : Domain) (n p : Node) (x : Derivation) (counter : ℕ) → HasMic d.akm → IsAddress (address d n) → IsAddress (address d p) → counter < 2 ^ 64 → length x.inputs.snonce ≡ 32
+    → Reads d.akm (in_data d n p (m2_frame d x counter)) (Keyed (m2_message d n p x counter))
+reads-m2 d n p x counter has l k c h =
+    reads-sealed d n p M2 x.ptk.kck (m2_fields d x counter) has l k (fits-m2 d x counter c h) (message_sent M2 d.akm counter 0 x.inputs.snonce (rsne_octets d.akm None) (omega arith))
 
 -- M3, before its MIC is put in
-abbrev pub m3_fields : Domain → Inputs → ℕ → GroupKey → ℕ → KeyFields
-m3_fields d i counter g rsc = sent_fields M3 d.akm counter i.anonce rsc (wrapped (ptk i).kek (m3_key_data d g))
+abbrev pub m3_fields : Domain → Derivation → ℕ → GroupKey → ℕ → KeyFields
+m3_fields d x counter g rsc = sent_fields M3 d.akm counter x.inputs.anonce rsc (wrapped x.ptk.kek (m3_key_data d g))
 
-pub fits-m3 : (d : Domain) (i : Inputs) (counter : ℕ) (g : GroupKey) (rsc : ℕ) → counter < 2 ^ 64 → length i.anonce ≡ 32 → IsGroupKey g → FitsKeyFrame (m3_fields d i counter g rsc)
-fits-m3 d i counter g rsc c h is = sent_fits M3 d.akm counter rsc i.anonce (wrapped (ptk i).kek (m3_key_data d g)) c h (few_wrapped d i g is)
+pub fits-m3 : (d : Domain) (x : Derivation) (counter : ℕ) (g : GroupKey) (rsc : ℕ) → counter < 2 ^ 64 → length x.inputs.anonce ≡ 32 → AreOctets x.ptk.kek → IsGroupKey g → FitsKeyFrame (m3_fields d x counter g rsc)
+fits-m3 d x counter g rsc c h octets is = sent_fits M3 d.akm counter rsc x.inputs.anonce (wrapped x.ptk.kek (m3_key_data d g)) c h (few_wrapped d x.ptk.kek g octets is)
 
-abbrev pub m3_message : Domain → Node → Node → Inputs → ℕ → GroupKey → ℕ → KeyMessage
-m3_message d n p i counter g rsc = key_message d n p M3 (with_mic d.akm (ptk i).kck (m3_fields d i counter g rsc)) (m3_frame d i counter g rsc)
+abbrev pub m3_message : Domain → Node → Node → Derivation → ℕ → GroupKey → ℕ → KeyMessage
+m3_message d n p x counter g rsc = key_message d n p M3 (with_mic d.akm x.ptk.kck (m3_fields d x counter g rsc)) (m3_frame d x counter g rsc)
 
-pub reads-m3 : (d : Domain) (n p : Node) (i : Inputs) (counter : ℕ) (g : GroupKey) (rsc : ℕ) → HasMic d.akm → IsAddress (address d n) → IsAddress (address d p) → counter < 2 ^ 64 → length i.anonce ≡ 32 → IsGroupKey g
-    → Reads d.akm (in_data d n p (m3_frame d i counter g rsc)) (Keyed (m3_message d n p i counter g rsc))
-reads-m3 d n p i counter g rsc has l k c h is =
-    reads-sealed d n p M3 (ptk i).kck (m3_fields d i counter g rsc) has l k (fits-m3 d i counter g rsc c h is) (message_sent M3 d.akm counter rsc i.anonce (wrapped (ptk i).kek (m3_key_data d g)) tt)
+pub reads-m3 : (d : Domain) (n p : Node) (x : Derivation) (counter : ℕ) (g : GroupKey) (rsc : ℕ) → HasMic d.akm → IsAddress (address d n) → IsAddress (address d p) → counter < 2 ^ 64 → length x.inputs.anonce ≡ 32 → AreOctets x.ptk.kek → IsGroupKey g
+    → Reads d.akm (in_data d n p (m3_frame d x counter g rsc)) (Keyed (m3_message d n p x counter g rsc))
+reads-m3 d n p x counter g rsc has l k c h octets is =
+    reads-sealed d n p M3 x.ptk.kck (m3_fields d x counter g rsc) has l k (fits-m3 d x counter g rsc c h octets is) (message_sent M3 d.akm counter rsc x.inputs.anonce (wrapped x.ptk.kek (m3_key_data d g)) tt)
 
 -- M4, before its MIC is put in: its nonce is zeros whatever is given
 abbrev pub m4_fields : Domain → ℕ → KeyFields
@@ -255,13 +249,13 @@ m4_fields d counter = sent_fields M4 d.akm counter [] 0 []
 pub fits-m4 : (d : Domain) (counter : ℕ) → counter < 2 ^ 64 → FitsKeyFrame (m4_fields d counter)
 fits-m4 d counter c = sent_fits M4 d.akm counter 0 (replicate 32 0) [] c refl (omega arith)
 
-abbrev pub m4_message : Domain → Node → Node → Inputs → ℕ → KeyMessage
-m4_message d n p i counter = key_message d n p M4 (with_mic d.akm (ptk i).kck (m4_fields d counter)) (m4_frame d i counter)
+abbrev pub m4_message : Domain → Node → Node → Derivation → ℕ → KeyMessage
+m4_message d n p x counter = key_message d n p M4 (with_mic d.akm x.ptk.kck (m4_fields d counter)) (m4_frame d x counter)
 
-pub reads-m4 : (d : Domain) (n p : Node) (i : Inputs) (counter : ℕ) → HasMic d.akm → IsAddress (address d n) → IsAddress (address d p) → counter < 2 ^ 64
-    → Reads d.akm (in_data d n p (m4_frame d i counter)) (Keyed (m4_message d n p i counter))
-reads-m4 d n p i counter has l k c =
-    reads-sealed d n p M4 (ptk i).kck (m4_fields d counter) has l k (fits-m4 d counter c) (message_sent M4 d.akm counter 0 [] [] refl)
+pub reads-m4 : (d : Domain) (n p : Node) (x : Derivation) (counter : ℕ) → HasMic d.akm → IsAddress (address d n) → IsAddress (address d p) → counter < 2 ^ 64
+    → Reads d.akm (in_data d n p (m4_frame d x counter)) (Keyed (m4_message d n p x counter))
+reads-m4 d n p x counter has l k c =
+    reads-sealed d n p M4 x.ptk.kck (m4_fields d counter) has l k (fits-m4 d counter c) (message_sent M4 d.akm counter 0 [] [] refl)
 
 -- its MIC is that of its octets
 pub mic-sealed : (akm : Akm) (kck : List ℕ) (f : KeyFields) → HasMic akm → FitsKeyFrame f → (with_mic akm kck f).mic ≡ mic akm kck (sealed akm kck (frame_octets f))

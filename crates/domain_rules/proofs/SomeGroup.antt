@@ -11,10 +11,14 @@ use Rattle.run_journal.specs.declared.acts.Reason.TheVariants as reason
 use Rattle.run_journal.specs.declared.acts.Outcome.TheVariants.{Accepted, Answered, Refused}
 use Rattle.run_journal.specs.declared.acts.Act.{Act}
 use Rattle.run_journal.specs.Questions.{draws}
-use Rattle.domain_rules.specs.Network.{direction, goes_like, peer_of, inputs, last_draw}
+use Rattle.domain_rules.specs.Network.{direction, goes_like, peer_of, inputs, last_draw, root}
 use Rattle.domain_rules.specs.Reading.{Management, KeyMessage, Reading, Managed, Keyed, Sealed}
-use Rattle.domain_rules.specs.Verdict.{Facts, first_verdict, further, verdict, own, is_mine, is_mine_or_group, management_sender, management_verdict, key_verdict}
-use Rattle.domain_rules.specs.Rows.{connect_acts, ConnectRow, Spent, Asks, TakeRows, By_assoc_req, By_assoc_resp, By_m1, By_m2, By_m3, By_repeated_m3, By_m4, By_ignored, By_refusal}
+use Rattle.domain_rules.specs.Facts.{Facts}
+use Rattle.domain_rules.specs.Verdict.{first_verdict, further, verdict, is_mine, is_mine_or_group, management_sender, key_verdict}
+use Rattle.domain_rules.specs.Asking.{own}
+use Rattle.domain_rules.specs.Associating.{management_verdict}
+use Rattle.domain_rules.specs.StationRows.{connect_acts, ConnectRow, Spent, Asks}
+use Rattle.domain_rules.specs.Rows.{TakeRows, By_assoc_req, By_assoc_resp, By_m1, By_m2, By_m3, By_repeated_m3, By_m4, By_ignored, By_refusal}
 use Rattle.domain_rules.proofs.OneOutcome.{Decided, Took_in, Repeated, Passed, Thrown, decided, Awaited, Is_m1, Is_m2, Is_m3, Is_m4, HasKeying, taken_behind, taken_from, not_thrown, from_some, sender-some, management_kind, key_kind, and_accepted, and_answered, answered_behind, answered_from, answered_kind, managed_unanswered, sealed_unanswered}
 
 -- ---- a row for each
@@ -30,9 +34,9 @@ managed_row d first n h octets b e facts p from (inr k) s = (_, By_assoc_resp (r
 keyed_row : (d : Domain) (first : ℕ) (n : Node) (h : List Act) (octets : List ℕ) (k : KeyMessage) (facts : Facts) (p : Node) → peer_of d n k.header.a2 ≡ Some p → Awaited p h k.message
     → verdict d first n h (Keyed k) facts ≡ Accepted → HasRow d first n h octets (Keyed k) facts
 keyed_row d first n h octets k facts p from (Is_m1 m a) s =
-    (_, By_m1 (record { k = k; is = refl; message_is = m; p = p; from = from; accepted = s; part = a.0; awaited = a.1; i = inputs d n p (own a.0) k.fields.nonce; inputs_are = refl; says = refl }))
+    (_, By_m1 (record { k = k; is = refl; message_is = m; p = p; from = from; accepted = s; part = a.0; awaited = a.1; i = inputs d (root d) n p (own a.0) k.fields.nonce; inputs_are = refl; says = refl }))
 keyed_row d first n h octets k facts p from (Is_m2 m a) s =
-    (_, By_m2 (record { k = k; is = refl; message_is = m; p = p; from = from; accepted = s; part = a.0; awaited = a.1; i = inputs d n p (own a.0) k.fields.nonce; inputs_are = refl; says = refl }))
+    (_, By_m2 (record { k = k; is = refl; message_is = m; p = p; from = from; accepted = s; part = a.0; awaited = a.1; i = inputs d (root d) n p (own a.0) k.fields.nonce; inputs_are = refl; says = refl }))
 keyed_row d first n h octets k facts p from (Is_m3 m a) s = (_, By_m3 (record { k = k; is = refl; message_is = m; p = p; from = from; accepted = s; y = a.0; awaited = a.1; says = refl }))
 keyed_row d first n h octets k facts p from (Is_m4 m a) s =
     (_, By_m4 (record { k = k; is = refl; message_is = m; p = p; from = from; accepted = s; part = a.part; awaited = a.awaited; x = a.x; keyed = a.keyed; says = refl }))
@@ -45,11 +49,11 @@ answered_row d first n h octets k facts p from m s =
 
 first_row : (d : Domain) (first : ℕ) (n : Node) (h : List Act) (octets : List ℕ) (r : Reading) (facts : Facts) → first_verdict d first n h r ≡ Accepted → verdict d first n h r facts ≡ Accepted → HasRow d first n h octets r facts
 first_row d first n h octets (Managed b e) facts a s =
-    let behind = from_some (management_sender d n b.header) (λ p. management_verdict d first n h p b.kind b e) (not_thrown (not (is_mine d n b.header)) reason.NotForMe _ a) in
-    managed_row d first n h octets b e facts behind.0 (sender-some d n behind.0 b.header (peer_of d n b.header.a2) behind.1.0) (management_kind d first n h behind.0 b.kind b e behind.1.1) s
+    let behind = from_some (management_sender d n b.header) (λ p. management_verdict d (first + draws h) n h p b.kind b e) (not_thrown (not (is_mine d n b.header)) reason.NotForMe _ a) in
+    managed_row d first n h octets b e facts behind.0 (sender-some d n behind.0 b.header (peer_of d n b.header.a2) behind.1.0) (management_kind d (first + draws h) n h behind.0 b.kind b e behind.1.1) s
 first_row d first n h octets (Keyed k) facts a s =
-    let behind = from_some (peer_of d n k.header.a2) (λ p. key_verdict d n h p k.message k) (not_thrown (not (is_mine d n k.header) || goes_like k.direction (direction n)) reason.NotForMe _ a) in
-    keyed_row d first n h octets k facts behind.0 behind.1.0 (key_kind d n h behind.0 k.message k (inl behind.1.1)) s
+    let behind = from_some (peer_of d n k.header.a2) (λ p. key_verdict d (first + draws h) n h p k k.message) (not_thrown (not (is_mine d n k.header) || goes_like k.direction (direction n)) reason.NotForMe _ a) in
+    keyed_row d first n h octets k facts behind.0 behind.1.0 (key_kind d (first + draws h) n h behind.0 k k.message (inl behind.1.1)) s
 first_row d first n h octets (Sealed header way tid body) facts a s =
     let behind = from_some (peer_of d n header.a2) (λ p. Refused reason.NoKey) (not_thrown (not (is_mine_or_group d n header) || goes_like way (direction n)) reason.NotForMe _ a) in
     absurd (cc (behind.1.1))
@@ -58,8 +62,8 @@ first_row d first n h octets _ facts a s = cc
 repeated_row : (d : Domain) (first : ℕ) (n : Node) (h : List Act) (octets : List ℕ) (r : Reading) (facts : Facts) → first_verdict d first n h r ≡ Answered → verdict d first n h r facts ≡ Answered → HasRow d first n h octets r facts
 repeated_row d first n h octets (Managed b e) facts a s = absurd (managed_unanswered d first n h b e a)
 repeated_row d first n h octets (Keyed k) facts a s =
-    let behind = taken_from (peer_of d n k.header.a2) (λ p. key_verdict d n h p k.message k) (taken_behind (not (is_mine d n k.header) || goes_like k.direction (direction n)) reason.NotForMe _ (inr a)) in
-    answered_row d first n h octets k facts behind.0 behind.1.0 (answered_kind d n h behind.0 k.message k (answered_from (peer_of d n k.header.a2) behind.0 (λ p. key_verdict d n h p k.message k) behind.1.0 (answered_behind (not (is_mine d n k.header) || goes_like k.direction (direction n)) reason.NotForMe _ a))) s
+    let behind = taken_from (peer_of d n k.header.a2) (λ p. key_verdict d (first + draws h) n h p k k.message) (taken_behind (not (is_mine d n k.header) || goes_like k.direction (direction n)) reason.NotForMe _ (inr a)) in
+    answered_row d first n h octets k facts behind.0 behind.1.0 (answered_kind d (first + draws h) n h behind.0 k k.message (answered_from (peer_of d n k.header.a2) behind.0 (λ p. key_verdict d (first + draws h) n h p k k.message) behind.1.0 (answered_behind (not (is_mine d n k.header) || goes_like k.direction (direction n)) reason.NotForMe _ a))) s
 repeated_row d first n h octets (Sealed header way tid body) facts a s = absurd (sealed_unanswered d n header way a)
 repeated_row d first n h octets _ facts a s = cc
 

@@ -1,5 +1,5 @@
 -- The outcome by the answers to what is asked of the history, and what an accepted frame tells.
-use Rattle.std.proofs.Common.{◌≡◌, ℕ, ◌<◌, ◌≤◌, length, Bool, true, false, List, ◌∷◌, Option, Some, None, refl, subst}
+use Rattle.std.proofs.Common.{◌≡◌, ℕ, ◌+◌, ◌<◌, ◌≤◌, length, Bool, true, false, List, ◌∷◌, Option, Some, None, refl, subst}
 use Rattle.std.specs.Prelude.{not, ◌||◌, unwrap_or, ◌==◌, if◌then◌else◌}
 use Rattle.std.specs.List.{list_any}
 use Rattle.std.proofs.lemmas.Bool.{lt-ltb, le-ltb}
@@ -20,11 +20,15 @@ use Rattle.run_journal.specs.declared.acts.Reason.TheVariants as reason
 use Rattle.run_journal.specs.declared.acts.Outcome.{Outcome}
 use Rattle.run_journal.specs.declared.acts.Outcome.TheVariants.{Accepted, Refused}
 use Rattle.run_journal.specs.declared.acts.Act.{Act}
-use Rattle.run_journal.specs.Questions.{attempt, own_nonce}
+use Rattle.run_journal.specs.Questions.{attempt, chain, own_nonce, draws}
 use Rattle.air_frame.specs.Fields.{HeaderFields}
-use Rattle.domain_rules.specs.Network.{inputs, peer_of, bssid, direction, goes_like}
+use Rattle.domain_rules.specs.Network.{inputs, peer_of, bssid, direction, goes_like, root}
 use Rattle.domain_rules.specs.Reading.{Management, KeyMessage, Managed, Keyed}
-use Rattle.domain_rules.specs.Verdict.{by_connect, has_heard, kept_counter, offered, greatest, above, among, verified, rsne_status, assoc_resp_verdict, m1_verdict, m2_verdict, first_verdict, is_mine, management_sender, management_verdict, key_verdict}
+use Rattle.domain_rules.specs.Asking.{by_connect, has_heard, kept_counter, offered, greatest, above, among, verified}
+use Rattle.domain_rules.specs.Associating.{rsne_status, assoc_resp_verdict, management_verdict}
+use Rattle.domain_rules.specs.StationKeys.{m1_verdict}
+use Rattle.domain_rules.specs.AccessPointKeys.{m2_verdict}
+use Rattle.domain_rules.specs.Verdict.{first_verdict, is_mine, management_sender, key_verdict}
 
 -- ---- without an attempt nothing of it is awaited
 
@@ -43,13 +47,13 @@ pub assoc_resp-in : (h : List Act) (p : Node) (b : Management) (part : List Act)
     → assoc_resp_verdict h p b ≡ (if associated then Refused reason.Unawaited else if b.status == 0 then Accepted else Refused (reason.Status b.status))
 assoc_resp-in h p b part associated s begun heard = rw (s, begun, heard) refl
 
-pub m1-in : (h : List Act) (p : Node) (k : KeyMessage) (part : List Act) (associated : Bool) (kept : Option ℕ) → attempt p h ≡ Some part → by_connect part ≡ true → has_heard p kind.AssocResp part ≡ associated → kept_counter p part ≡ kept
+pub m1-in : (h : List Act) (p : Node) (k : KeyMessage) (part : List Act) (associated : Bool) (kept : Option ℕ) → attempt p h ≡ Some part → by_connect part ≡ true → has_heard p kind.AssocResp part ≡ associated → kept_counter p (chain p h) ≡ kept
     → m1_verdict h p k ≡ (if not associated then Refused reason.Unawaited else above kept k.fields.counter Accepted)
 m1-in h p k part associated kept s begun heard counter = rw (s, begun, heard, counter) refl
 
 pub m2-in : (d : Domain) (n : Node) (h : List Act) (p : Node) (k : KeyMessage) (part : List Act) (answered : Bool) (counters : List ℕ) (nonce : List ℕ)
     → attempt p h ≡ Some part → by_connect part ≡ true → has_heard p (kind.Key M2) part ≡ answered → offered p M1 part ≡ counters → own_nonce part ≡ Some nonce
-    → m2_verdict d n h p k ≡ (if answered then Refused reason.Unawaited else among counters k.fields.counter (verified d.akm (ptk (inputs d n p nonce k.fields.nonce)).kck k Accepted))
+    → m2_verdict d n h p k ≡ (if answered then Refused reason.Unawaited else among counters k.fields.counter (verified d.akm (ptk (inputs d (root d) n p nonce k.fields.nonce)).kck k Accepted))
 m2-in d n h p k part answered counters nonce s begun heard offers drawn = rw (s, begun, heard, offers, drawn) refl
 
 -- ---- the tests
@@ -93,7 +97,7 @@ pub managed-unknown : (d : Domain) (first : ℕ) (n : Node) (h : List Act) (b : 
 managed-unknown d first n h b e mine from = rw (mine, from) refl
 
 pub managed-from : (d : Domain) (first : ℕ) (n : Node) (h : List Act) (b : Management) (e : ElementFields) (p : Node) → is_mine d n b.header ≡ true → management_sender d n b.header ≡ Some p
-    → first_verdict d first n h (Managed b e) ≡ management_verdict d first n h p b.kind b e
+    → first_verdict d first n h (Managed b e) ≡ management_verdict d (first + draws h) n h p b.kind b e
 managed-from d first n h b e p mine from = rw (mine, from) refl
 
 pub keyed-not_mine : (d : Domain) (first : ℕ) (n : Node) (h : List Act) (k : KeyMessage) → (not (is_mine d n k.header) || goes_like k.direction (direction n)) ≡ true → first_verdict d first n h (Keyed k) ≡ Refused reason.NotForMe
@@ -103,7 +107,7 @@ pub keyed-unknown : (d : Domain) (first : ℕ) (n : Node) (h : List Act) (k : Ke
 keyed-unknown d first n h k mine from = rw (mine, from) refl
 
 pub keyed-from : (d : Domain) (first : ℕ) (n : Node) (h : List Act) (k : KeyMessage) (p : Node) → (not (is_mine d n k.header) || goes_like k.direction (direction n)) ≡ false → peer_of d n k.header.a2 ≡ Some p
-    → first_verdict d first n h (Keyed k) ≡ key_verdict d n h p k.message k
+    → first_verdict d first n h (Keyed k) ≡ key_verdict d (first + draws h) n h p k k.message
 keyed-from d first n h k p mine from = rw (mine, from) refl
 
 -- the sender of a management frame

@@ -8,7 +8,7 @@ use Rattle.run_journal.specs.declared.acts.Kind.TheVariants.{Key}
 use Rattle.run_journal.specs.declared.acts.Act.{Act}
 use Rattle.run_journal.specs.Acts.{finishes, sent}
 use Rattle.run_journal.specs.Questions.{attempt, all_sent}
-use Rattle.domain_rules.specs.Verdict.{by_connect}
+use Rattle.domain_rules.specs.Asking.{by_connect}
 
 -- how many of a message were sent to p
 abbrev pub sent_count : Node → Message → List Act → ℕ

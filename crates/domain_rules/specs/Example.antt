@@ -2,7 +2,7 @@
 use Rattle.std.specs.Prelude.{◌≡◌, ℕ, List, [], ◌∷◌, Some, None, codes}
 use Rattle.std.specs.List.{AllByRecursion}
 use Rattle.domain_base.specs.declared.names.Mac.{Mac}
-use Rattle.domain_base.specs.declared.names.Akm.TheVariants.{Psk}
+use Rattle.domain_base.specs.declared.names.Akm.{Akm}
 use Rattle.domain_base.specs.declared.names.Node.TheVariants.{Ap, Sta}
 use Rattle.domain_base.specs.declared.names.Peer.TheVariants.{One, All}
 use Rattle.air_frame.specs.Sent.{IsAddress}
@@ -24,16 +24,16 @@ use Rattle.run_journal.specs.declared.acts.Key.TheVariants.{Pairwise, Group}
 use Rattle.run_journal.specs.Acts.{GroupKey}
 use Rattle.run_journal.specs.Questions.{history, attempt, session, own_nonce}
 use Rattle.run_journal.specs.Premises.{In}
-use Rattle.domain_rules.specs.Network.{mac, nonce, inputs}
+use Rattle.domain_rules.specs.Network.{mac, nonce, root, inputs}
 use Rattle.domain_rules.specs.Explained.{Explained}
 
--- one access point and one station, of any seed, name and pre-shared key
-abbrev pub small : List ℕ → List ℕ → List ℕ → Domain
-small seed ssid psk = record {
+-- one access point and one station, of any suite, seed, name and pre-shared key
+abbrev pub small : Akm → List ℕ → List ℕ → List ℕ → Domain
+small akm seed ssid psk = record {
   seed = seed;
   ssid = ssid;
   psk = psk;
-  akm = Psk;
+  akm = akm;
   mdid = 0 ∷ 0 ∷ [];
   aps = record { address = record { 0 = 0x02 ∷ 0 ∷ 0 ∷ 0 ∷ 0 ∷ 0x01 ∷ [] }; r0kh_id = codes "r0kh-1" } ∷ [];
   stas = record { 0 = 0x02 ∷ 0 ∷ 0 ∷ 0 ∷ 0 ∷ 0x11 ∷ [] } ∷ [];
@@ -59,7 +59,7 @@ pub record HasHandshake (d : Domain) (a s : ℕ) : Type 0 where
   pub explained : Explained d (handshake a s) journal
   -- the pairwise key, of the nonces of the first attempt
   pub i : Inputs
-  pub of_first : i ≡ inputs d (Sta s) (Ap a) (nonce d (Sta s) 0) (nonce d (Ap a) 1)
+  pub of_first : i ≡ inputs d (root d) (Sta s) (Ap a) (nonce d (Sta s) 0) (nonce d (Ap a) 1)
   pub station : In (Installed (One (Ap a)) (Pairwise (ptk i).tk i)) (history (Sta s) journal)
   pub access_point : In (Installed (One (Sta s)) (Pairwise (ptk i).tk i)) (history (Ap a) journal)
   pub station_ends : In (Finished (Ap a) i) (history (Sta s) journal)

@@ -14,7 +14,8 @@ use Rattle.run_journal.specs.declared.acts.Entry.{Entry}
 use Rattle.run_journal.specs.Acts.{is_sent}
 use Rattle.run_journal.specs.Questions.{history}
 use Rattle.run_journal.specs.Premises.{In}
-use Rattle.domain_rules.specs.Rows.{NodeEvent, Take, Begin, Adds, start_acts}
+use Rattle.domain_rules.specs.Rows.{NodeEvent, Take, Begin, Adds}
+use Rattle.domain_rules.specs.AccessPointRows.{start_acts}
 use Rattle.domain_rules.specs.Rows as again
 
 -- how many frames were sent
@@ -43,23 +44,35 @@ pub record WasSent (past : List Entry) (round number : ℕ) (octets : List ℕ) 
 abbrev pub altered : ℕ → ℕ → List ℕ → List ℕ
 altered place mask octets = take place octets ++ bit_xor (slice_index octets place) mask ∷ drop (suc place) octets
 
--- what the event is, and at which node, in that round after that journal
-abbrev pub Happens : Event → List Entry → ℕ → Node → NodeEvent → Type 0
-Happens (Connect s a) past round n event = (n ≡ Sta s) × (event ≡ Begin a)
-Happens (Deliver number to) past round n event = (octets : List ℕ) × (WasSent past round number octets × ((n ≡ to) × (event ≡ Take octets)))
-Happens (Alter number place mask to) past round n event = (octets : List ℕ) × (WasSent past round number octets × ((n ≡ to) × (event ≡ Take (altered place mask octets))))
-Happens (Cut number size to) past round n event = (octets : List ℕ) × (WasSent past round number octets × ((n ≡ to) × (event ≡ Take (take size octets))))
-Happens (Inject to octets) past round n event = (n ≡ to) × (event ≡ Take octets)
-Happens (Retry a s) past round n event = (n ≡ Ap a) × (event ≡ again.Retry s)
+-- what an event is at one node, in that round after that journal
+abbrev pub HappensAt : Event → List Entry → ℕ → Node → NodeEvent → Type 0
+HappensAt (Connect s a) past round n event = (n ≡ Sta s) × (event ≡ Begin a)
+HappensAt (Deliver number to) past round n event = (octets : List ℕ) × (WasSent past round number octets × ((n ≡ to) × (event ≡ Take octets)))
+HappensAt (Alter number place mask to) past round n event = (octets : List ℕ) × (WasSent past round number octets × ((n ≡ to) × (event ≡ Take (altered place mask octets))))
+HappensAt (Cut number size to) past round n event = (octets : List ℕ) × (WasSent past round number octets × ((n ≡ to) × (event ≡ Take (take size octets))))
+HappensAt (Inject to octets) past round n event = (n ≡ to) × (event ≡ Take octets)
+HappensAt (Retry a s) past round n event = (n ≡ Ap a) × (event ≡ again.Retry s)
+
+-- a node, and what an event is to it
+pub record Place : Type 0 where
+  pub node : Node
+  pub event : NodeEvent
+
+-- what an event is, at which nodes, in order: each of today's events is at one
+abbrev pub Happens : Event → List Entry → ℕ → List Place → Type 0
+Happens event past round places = (p : Place) × (HappensAt event past round p.node p.event × (places ≡ p ∷ []))
+
+-- each node adds the acts of its part of the event to its own history, one node after the other
+abbrev pub AddsAll : Domain → ℕ → List Place → List Entry → List Entry → Type 0
+AddsAll d round [] old new = new ≡ old
+AddsAll d round (p ∷ places) old new =
+    (acts : List Act) × (Adds d 0 p.node (history p.node old) p.event acts × AddsAll d round places (push round p.node acts old) new)
 
 -- one event in that round takes the old journal to the new one
 pub record Step (d : Domain) (round : ℕ) (event : Event) (old new : List Entry) : Type 0 where
-  pub node : Node
-  pub at_node : NodeEvent
-  pub happens : Happens event old round node at_node
-  pub acts : List Act
-  pub group : Adds d 0 node (history node old) at_node acts
-  pub is : new ≡ push round node acts old
+  pub places : List Place
+  pub happens : Happens event old round places
+  pub adds : AddsAll d round places old new
 
 -- the events of a round, one after the other, in the order of the list, at whichever nodes they are. Today every round of a
 -- script has one event

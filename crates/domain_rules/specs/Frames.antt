@@ -21,7 +21,7 @@ use Rattle.run_journal.specs.declared.acts.Kind.TheVariants as kind
 use Rattle.run_journal.specs.declared.acts.Seal.{Seal}
 use Rattle.run_journal.specs.declared.acts.Act.{Act}
 use Rattle.run_journal.specs.declared.acts.Act.TheVariants.{Sent}
-use Rattle.run_journal.specs.Acts.{GroupKey}
+use Rattle.run_journal.specs.Acts.{GroupKey, Derivation}
 use Rattle.domain_rules.specs.Network.{address, bssid, direction}
 
 -- SSID, rates, RSNE
@@ -60,12 +60,16 @@ sent_sealed d n p m kck frame = Sent (One p) (kind.Key m) (in_data d n p frame) 
 abbrev pub sent_m1 : Domain → Node → Node → ℕ → List ℕ → Act
 sent_m1 d n p counter anonce = Sent (One p) (kind.Key M1) (in_data d n p (frame_octets (sent_fields M1 d.akm counter anonce 0 []))) None
 
--- M2: the RSNE as in the association request
-abbrev pub m2_frame : Domain → Inputs → ℕ → List ℕ
-m2_frame d i counter = sealed d.akm (ptk i).kck (frame_octets (sent_fields M2 d.akm counter i.snonce 0 (rsne_octets d.akm None)))
+-- the key of these inputs
+abbrev pub keyed_by : Inputs → Derivation
+keyed_by i = record { inputs = i; ptk = ptk i }
 
-abbrev pub sent_m2 : Domain → Node → Node → Inputs → ℕ → Act
-sent_m2 d n p i counter = sent_sealed d n p M2 (ptk i).kck (m2_frame d i counter)
+-- M2, under a derived key: the RSNE as in the association request
+abbrev pub m2_frame : Domain → Derivation → ℕ → List ℕ
+m2_frame d x counter = sealed d.akm x.ptk.kck (frame_octets (sent_fields M2 d.akm counter x.inputs.snonce 0 (rsne_octets d.akm None)))
+
+abbrev pub sent_m2 : Domain → Node → Node → Derivation → ℕ → Act
+sent_m2 d n p x counter = sent_sealed d n p M2 x.ptk.kck (m2_frame d x counter)
 
 -- key data under key wrap (RFC 3394)
 abbrev pub wrapped : List ℕ → List ℕ → List ℕ
@@ -76,16 +80,16 @@ abbrev pub m3_key_data : Domain → GroupKey → List ℕ
 m3_key_data d g = padded (rsne_octets d.akm None ++ gtk_kde_octets g.id g.key)
 
 -- M3, with a group key and the count of packet numbers that were used under it
-abbrev pub m3_frame : Domain → Inputs → ℕ → GroupKey → ℕ → List ℕ
-m3_frame d i counter g rsc =
-    sealed d.akm (ptk i).kck (frame_octets (sent_fields M3 d.akm counter i.anonce rsc (wrapped (ptk i).kek (m3_key_data d g))))
+abbrev pub m3_frame : Domain → Derivation → ℕ → GroupKey → ℕ → List ℕ
+m3_frame d x counter g rsc =
+    sealed d.akm x.ptk.kck (frame_octets (sent_fields M3 d.akm counter x.inputs.anonce rsc (wrapped x.ptk.kek (m3_key_data d g))))
 
-abbrev pub sent_m3 : Domain → Node → Node → Inputs → ℕ → GroupKey → ℕ → Act
-sent_m3 d n p i counter g rsc = sent_sealed d n p M3 (ptk i).kck (m3_frame d i counter g rsc)
+abbrev pub sent_m3 : Domain → Node → Node → Derivation → ℕ → GroupKey → ℕ → Act
+sent_m3 d n p x counter g rsc = sent_sealed d n p M3 x.ptk.kck (m3_frame d x counter g rsc)
 
 -- M4
-abbrev pub m4_frame : Domain → Inputs → ℕ → List ℕ
-m4_frame d i counter = sealed d.akm (ptk i).kck (frame_octets (sent_fields M4 d.akm counter [] 0 []))
+abbrev pub m4_frame : Domain → Derivation → ℕ → List ℕ
+m4_frame d x counter = sealed d.akm x.ptk.kck (frame_octets (sent_fields M4 d.akm counter [] 0 []))
 
-abbrev pub sent_m4 : Domain → Node → Node → Inputs → ℕ → Act
-sent_m4 d n p i counter = sent_sealed d n p M4 (ptk i).kck (m4_frame d i counter)
+abbrev pub sent_m4 : Domain → Node → Node → Derivation → ℕ → Act
+sent_m4 d n p x counter = sent_sealed d n p M4 x.ptk.kck (m4_frame d x counter)

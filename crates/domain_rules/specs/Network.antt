@@ -58,26 +58,35 @@ gtk d n i = kdf d.seed (codes "Group key expansion") (address d n ++ to_be_bytes
 abbrev pub last_draw : ℕ
 last_draw = 1152921504606846976
 
--- what the pairwise key of a node with its peer is made of, by its own nonce and the other's, with suites 2 and 6. The rows
--- of suite 4 come later, and with them its mobility domain and R0KH-ID: of a network with suite 4 this does not speak yet
-abbrev pub inputs : Domain → Node → Node → List ℕ → List ℕ → Inputs
-inputs d (Ap k) p own other = record {
+-- what the pairwise keys of a station go back to: its pre-shared key, and the R0KH-ID of its first association
+pub record Root : Type 0 where
+  pub psk : List ℕ
+  pub r0kh_id : List ℕ
+
+-- with suites 2 and 6: the network's pre-shared key, and no R0KH-ID
+abbrev pub root : Domain → Root
+root d = record { psk = d.psk; r0kh_id = [] }
+
+-- what the pairwise key of a node with its peer is made of, by its root, its own nonce and the other's, with suites 2 and 6. The
+-- rows of suite 4 come later, and with them its mobility domain: of a network with suite 4 this does not speak yet
+abbrev pub inputs : Domain → Root → Node → Node → List ℕ → List ℕ → Inputs
+inputs d r (Ap k) p own other = record {
   akm = d.akm;
-  psk = d.psk;
+  psk = r.psk;
   ssid = d.ssid;
   mdid = 0 ∷ 0 ∷ [];
-  r0kh_id = [];
+  r0kh_id = r.r0kh_id;
   aa = mac d (Ap k);
   spa = mac d p;
   anonce = own;
   snonce = other;
 }
-inputs d (Sta k) p own other = record {
+inputs d r (Sta k) p own other = record {
   akm = d.akm;
-  psk = d.psk;
+  psk = r.psk;
   ssid = d.ssid;
   mdid = 0 ∷ 0 ∷ [];
-  r0kh_id = [];
+  r0kh_id = r.r0kh_id;
   aa = mac d p;
   spa = mac d (Sta k);
   anonce = other;

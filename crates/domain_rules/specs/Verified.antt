@@ -1,17 +1,16 @@
 -- Whose MIC verified, by what a node notes of the frames that it takes.
-use Rattle.std.specs.Prelude.{◌≡◌, ℕ, Bool, true, false, List}
+use Rattle.std.specs.Prelude.{◌≡◌, ℕ, Bool, true, false, ◌&&◌, List}
 use Rattle.domain_base.specs.declared.names.Akm.{Akm}
 use Rattle.mac_prf.specs.Mic.{mic}
 use Rattle.eapol_key.specs.declared.messages.Message.{Message}
 use Rattle.eapol_key.specs.declared.messages.Message.TheVariants.{M1, M2, M3, M4, G1, G2}
 use Rattle.run_journal.specs.declared.acts.Kind.{Kind}
 use Rattle.run_journal.specs.declared.acts.Kind.TheVariants as kind
-use Rattle.run_journal.specs.declared.acts.Reason.TheVariants as reason
 use Rattle.run_journal.specs.declared.acts.Outcome.{Outcome}
-use Rattle.run_journal.specs.declared.acts.Outcome.TheVariants.{Accepted, Answered, Refused}
 use Rattle.run_journal.specs.declared.acts.Seal.{Seal}
 use Rattle.domain_rules.specs.Frames.{frame_seal}
 use Rattle.domain_rules.specs.Reading.{KeyMessage, Keyed, Reads}
+use Rattle.domain_rules.specs.Verdict.{comes_so_far}
 
 -- the octets read as an EAPOL-Key message whose MIC is that of its octets under the key of the seal, and the seal is theirs
 pub record IsVerified (akm : Akm) (octets : List ℕ) (s : Seal) : Type 0 where
@@ -33,10 +32,6 @@ abbrev pub is_with_mic : Kind → Bool
 is_with_mic (kind.Key m) = has_mic m
 is_with_mic _ = false
 
--- what came of a frame of that kind stands behind the test of its MIC: it was taken, or refused for its key data
+-- by what is tried up to the MIC, a frame of that kind has one and it verified
 abbrev pub is_past_mic : Outcome → Kind → Bool
-is_past_mic Accepted k = is_with_mic k
-is_past_mic Answered k = is_with_mic k
-is_past_mic (Refused reason.Wrap) k = true
-is_past_mic (Refused (reason.KeyData fault)) k = true
-is_past_mic _ k = false
+is_past_mic first k = comes_so_far first && is_with_mic k

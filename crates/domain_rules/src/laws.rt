@@ -1,14 +1,15 @@
 //! Laws of the definitions. The functions do nothing; their contracts are proved.
 
-ghost use Rattle.std.specs.Prelude.{◌≡◌, ℕ, ◌<◌, true, List, length, Option, Some};
+ghost use Rattle.std.specs.Prelude.{◌≡◌, ◌≢◌, ℕ, ◌<◌, true, List, length, Option, Some};
 ghost use Rattle.domain_base.specs.declared.names.Akm.{Akm};
-ghost use Rattle.domain_base.specs.declared.names.Akm.TheVariants.{Psk};
+ghost use Rattle.domain_base.specs.declared.names.Akm.TheVariants.{FtPsk};
 ghost use Rattle.domain_base.specs.declared.names.Node.{Node};
 ghost use Rattle.key_hierarchy.specs.Sizes.{IsSsid};
 ghost use Rattle.run_journal.specs.declared.domain.Domain.{Domain};
 ghost use Rattle.run_journal.specs.declared.domain.Event.{Event};
 ghost use Rattle.run_journal.specs.declared.acts.Act.{Act};
-ghost use Rattle.run_journal.specs.declared.acts.Act.TheVariants.{Took};
+ghost use Rattle.run_journal.specs.declared.acts.Act.TheVariants.{Closed, Took};
+ghost use Rattle.run_journal.specs.declared.acts.Part.TheVariants.{Session};
 ghost use Rattle.run_journal.specs.declared.acts.Kind.{Kind};
 ghost use Rattle.run_journal.specs.declared.acts.Outcome.{Outcome};
 ghost use Rattle.run_journal.specs.declared.acts.Seal.{Seal};
@@ -17,8 +18,11 @@ ghost use Rattle.run_journal.specs.Premises.{In};
 ghost use Rattle.domain_rules.specs.Network.{InForm};
 ghost use Rattle.domain_rules.specs.Reading.{Reading, Reads, kind_of};
 ghost use Rattle.domain_rules.specs.Verified.{IsVerified, is_past_mic};
-ghost use Rattle.domain_rules.specs.Verdict.{Facts, Knows, verdict};
-ghost use Rattle.domain_rules.specs.Rows.{NodeEvent, Take, Begin, Retry, Adds, sender};
+ghost use Rattle.domain_rules.specs.Facts.{Facts};
+ghost use Rattle.domain_rules.specs.Verdict.{Knows, first_verdict, verdict};
+ghost use Rattle.domain_rules.specs.Rows.{NodeEvent, Take, Begin, Retry, Adds};
+ghost use Rattle.domain_rules.specs.Closing.{sender};
+ghost use Rattle.domain_rules.specs.Ended.{EndsRightly};
 ghost use Rattle.domain_rules.specs.Explained.{Explained};
 ghost use Rattle.domain_rules.specs.Example.{small, AreWhole, HasHandshake};
 
@@ -53,7 +57,7 @@ pub fn seals_are_verified()
         → (event ≡ Take octets) × IsVerified d.akm octets s }
     ensures noted { (d : Domain) (first : ℕ) (n : Node) (h : List Act) (octets : List ℕ) (r : Reading) (facts : Facts) (g : List Act)
         → Reads d.akm octets r → Knows d first n h r facts → Adds d first n h (Take octets) g
-        → is_past_mic (verdict d first n h r facts) (kind_of r) ≡ true
+        → is_past_mic (first_verdict d first n h r) (kind_of r) ≡ true
         → (s : Seal) × In (Took (sender d n r) octets (kind_of r) (verdict d first n h r facts) (Some s)) g }
 {}
 
@@ -62,12 +66,19 @@ pub fn one_journal()
     ensures { (d : Domain) (rounds : List (List Event)) (j k : List Entry) → Explained d rounds j → Explained d rounds k → j ≡ k }
 {}
 
-/// The definitions are not about nothing: by them, in every network in form with suite 2, any station asks any access
+/// A session ends only as its station connects anew, or as its access point accepts an M4 of a new attempt, whose MIC verified: so
+/// no frame that was made without the key ends one.
+pub fn sessions_end_by_a_key()
+    ensures { (d : Domain) (first : ℕ) (n : Node) (h : List Act) (event : NodeEvent) (g : List Act) (p : Node)
+        → Adds d first n h event g → In (Closed p Session) g → EndsRightly d event g p }
+{}
+
+/// The definitions are not about nothing: by them, in every network in form with suite 2 or 6, any station asks any access
 /// point for association, both end the four-way handshake with one pairwise key of the same inputs installed, and the
 /// station with the access point's group key, also where M3 is sent once more and answered once more; and both then begin a
 /// second attempt, each with a new nonce. And there are such networks.
 pub fn handshake_is_explained()
-    ensures whole { (d : Domain) (a s : ℕ) → InForm d → AreWhole d → d.akm ≡ Psk → a < length d.aps → s < length d.stas
+    ensures whole { (d : Domain) (a s : ℕ) → InForm d → AreWhole d → d.akm ≢ FtPsk → a < length d.aps → s < length d.stas
         → HasHandshake d a s }
-    ensures network { (seed ssid psk : List ℕ) → IsSsid ssid → InForm (small seed ssid psk) × AreWhole (small seed ssid psk) }
+    ensures network { (akm : Akm) (seed ssid psk : List ℕ) → IsSsid ssid → InForm (small akm seed ssid psk) × AreWhole (small akm seed ssid psk) }
 {}

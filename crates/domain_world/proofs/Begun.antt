@@ -9,7 +9,7 @@ use Rattle.run_journal.specs.declared.domain.Domain.{Domain}
 use Rattle.run_journal.specs.declared.domain.ListedAp.{ListedAp}
 use Rattle.run_journal.specs.declared.acts.Entry.{Entry}
 use Rattle.domain_rules.specs.Network.{mac}
-use Rattle.domain_rules.specs.Rows.{start_acts}
+use Rattle.domain_rules.specs.AccessPointRows.{start_acts}
 use Rattle.domain_rules.specs.Explained.{push, started}
 use Rattle.domain_rules.proofs.Journals.{started_more, same-started}
 use Rattle.run_journal.specs.Listing.{with_ap, with_sta}

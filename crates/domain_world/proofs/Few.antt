@@ -12,16 +12,20 @@ use Rattle.run_journal.specs.declared.acts.Act.{Act}
 use Rattle.run_journal.specs.declared.acts.Act.TheVariants.{GaveUp, Closed, Idle}
 use Rattle.run_journal.specs.declared.acts.Part.TheVariants.{Attempt}
 use Rattle.run_journal.specs.declared.acts.Why.TheVariants as why
-use Rattle.run_journal.specs.Questions.{attempt, derivation, before_sent, session, pending, associated}
+use Rattle.run_journal.specs.Questions.{chain, attempt, derivation, before_sent, session, pending, associated}
 use Rattle.run_journal.specs.Acts.{Derivation}
 use Rattle.eapol_key.specs.declared.messages.Message.{Message}
 use Rattle.eapol_key.specs.declared.messages.Message.TheVariants.{M1, M2, M3}
 use Rattle.domain_base.specs.declared.names.Node.TheVariants.{Sta}
 use Rattle.domain_rules.specs.Reading.{Reading, kind_of}
-use Rattle.domain_rules.specs.Verdict.{Facts, by_connect, has_heard, own}
+use Rattle.domain_rules.specs.Facts.{Facts}
+use Rattle.domain_rules.specs.Asking.{by_connect, has_heard, own}
 use Rattle.domain_rules.specs.Counters.{sent_count, next_in_attempt}
 use Rattle.domain_rules.specs.Frames.{sent_m1}
-use Rattle.domain_rules.specs.Rows.{NodeEvent, Take, Begin, Retry, Adds, again_or_give_up, most_sends, m3_again, retry_attempt, retry_acts, close_session, close_attempt, close_pending, close_associated, ConnectRow, Spent, Asks, sender, response, TakeRows, By_assoc_req, By_assoc_resp, By_m1, By_m2, By_m3, By_repeated_m3, By_m4, By_ignored, By_refusal}
+use Rattle.domain_rules.specs.Rows.{NodeEvent, Take, Begin, Retry, Adds, response, TakeRows, By_assoc_req, By_assoc_resp, By_m1, By_m2, By_m3, By_repeated_m3, By_m4, By_ignored, By_refusal}
+use Rattle.domain_rules.specs.AccessPointRows.{again_or_give_up, most_sends, m3_again, retry_attempt, retry_acts}
+use Rattle.domain_rules.specs.Closing.{close_session, close_attempt, close_pending, close_associated, sender}
+use Rattle.domain_rules.specs.StationRows.{ConnectRow, Spent, Asks}
 
 short_attempt : (p : Node) (part : Option (List Act)) → length (close_attempt p part) ≤ 1
 short_attempt p None = omega arith
@@ -49,7 +53,7 @@ short_again p m sends act = short_again_by (nat_lt sends most_sends) p m act
 short_retry_attempt : (d : Domain) (n : Node) (h : List Act) (p : Node) (part : List Act) → length (retry_attempt d n h p part) ≤ 2
 short_retry_attempt d n h p part =
     let m3 = m3_again d n h p part (derivation p part) (before_sent p (kind.Key M3) h) in
-    let m1 = sent_m1 d n p (next_in_attempt p part) (own part) in
+    let m1 = sent_m1 d n p (next_in_attempt p (chain p h)) (own part) in
     short_if (has_heard p (kind.Key M2) part) (again_or_give_up p M3 (sent_count p M3 part) m3) (again_or_give_up p M1 (sent_count p M1 part) m1)
     (short_again p M3 (sent_count p M3 part) m3) (short_again p M1 (sent_count p M1 part) m1)
 

@@ -21,7 +21,8 @@ use Rattle.run_journal.specs.Acts.{is_sent}
 use Rattle.run_journal.specs.Questions.{history}
 use Rattle.domain_rules.specs.Network.{InForm, IsListed}
 use Rattle.domain_rules.specs.Rows.{NodeEvent}
-use Rattle.domain_rules.specs.Explained.{push, Happens, Step, WasSent}
+use Rattle.domain_rules.specs.Explained.{push, HappensAt, Step, WasSent}
+use Rattle.domain_rules.proofs.Journals.{step_at}
 use Rattle.run_journal.specs.Listing.{with_ap, with_sta}
 use Rattle.domain_world.specs.State.{State, Nodes}
 use Rattle.domain_world.specs.Owning.{AreListed, Stand, IsPast, IsNumbered, places, nodes_of, Owns}
@@ -54,9 +55,10 @@ own_event old new node at acts j k own listed acted all domain rounds noted is =
     own_push old new (suc old.rounds) node acts j k own is (subst InForm (sym domain) own.form) (ap (λ (d : Domain). d.akm) domain) (λ n l. subst (λ (d : Domain). IsListed d n) (sym domain) l)
     (subst (λ (d : Domain). IsListed d node) (sym domain) listed) (omega arith) (omega arith) noted all (acted.stand (suc old.rounds))
 
-pub step_event : (old : State) (new : Nodes) (event : Event) (node : Node) (at : NodeEvent) (acts : List Act) (j k : List Entry) → Happens event j (suc old.rounds) node at → Acted node at j (nodes_of old) new acts
+pub step_event : (old : State) (new : Nodes) (event : Event) (node : Node) (at : NodeEvent) (acts : List Act) (j k : List Entry) → HappensAt event j (suc old.rounds) node at → Acted node at j (nodes_of old) new acts
     → k ≡ push (suc old.rounds) node acts j → Step old.domain (suc old.rounds) event j k
-step_event old new event node at acts j k happens acted is = record { node = node; at_node = at; happens = happens; acts = acts; group = acted.adds; is = is }
+step_event old new event node at acts j k happens acted is =
+    step_at old.domain (suc old.rounds) event j k (record { node = node; at_node = at; happens = happens; acts = acts; group = acted.adds; is = is })
 
 -- ---- a node is listed
 

@@ -3,8 +3,6 @@
 
 mod journaling;
 mod nodes;
-#[cfg(test)]
-mod tests;
 mod world;
 
 pub use world::World;

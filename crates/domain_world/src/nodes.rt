@@ -1,13 +1,13 @@
 //! The network and its nodes.
 
-ghost use Rattle.std.specs.Prelude.{◌≡◌, ◌≢◌, ◌<◌, ℕ, List, [], ◌∷◌, ◌++◌, length, IfOk, OnOk, OnErr};
+ghost use Rattle.std.specs.Prelude.{◌≡◌, ◌≢◌, ◌<◌, ◌≤◌, ◌+◌, ℕ, List, [], ◌∷◌, ◌++◌, length, IfOk, OnOk, OnErr};
 ghost use Rattle.domain_base.specs.declared.names.Akm.{Akm as AnyAkm};
 ghost use Rattle.domain_base.specs.declared.names.Node.TheVariants.{Ap as ApOf, Sta as StaOf};
 ghost use Rattle.run_journal.specs.declared.domain.ListedAp.{ListedAp as Listed};
 ghost use Rattle.run_journal.specs.declared.acts.Entry.{Entry};
 ghost use Rattle.run_journal.specs.Questions.{history};
 ghost use Rattle.domain_rules.specs.Network.{InForm, IsListed};
-ghost use Rattle.domain_rules.specs.Rows.{start_acts};
+ghost use Rattle.domain_rules.specs.AccessPointRows.{start_acts};
 ghost use Rattle.domain_rules.specs.Explained.{push};
 ghost use Rattle.node_frames.specs.Events.{event_of, IsEventAt};
 ghost use Rattle.run_journal.specs.Listing.{with_ap, with_sta};
@@ -156,6 +156,14 @@ impl Nodes {
             unreachable!()
         }
         Ok(())
+    }
+
+    /// How many acts an event adds at most: for each station it may be one more.
+    pub(crate) fn most_acts(&self) -> usize
+        requires { length self.now.stas ≤ 64 }
+        ensures { result ≡ 8 + length self.now.stas }
+    {
+        8 + self.stas.len()
     }
 
     /// One event at a node, whose acts are put in the empty outbox.

@@ -4,7 +4,7 @@ ghost use Rattle.std.specs.Prelude.{◌≡◌, ◌≢◌, ◌≤◌, ◌<◌, �
 ghost use Rattle.domain_base.specs.declared.names.Akm.{Akm as AnyAkm};
 ghost use Rattle.run_journal.specs.declared.acts.Entry.{Entry};
 ghost use Rattle.domain_rules.specs.Network.{InForm, IsListed};
-ghost use Rattle.domain_rules.specs.Explained.{Happens, Step, WasSent, started};
+ghost use Rattle.domain_rules.specs.Explained.{HappensAt, Step, WasSent, started};
 ghost use Rattle.node_frames.specs.Events.{event_of, IsEventAt};
 ghost use Rattle.run_journal.specs.Listing.{with_ap, with_sta};
 
@@ -15,9 +15,6 @@ use node_frames::{NodeEvent, Outbox};
 use run_journal::{Act, Domain, Event, Journal};
 use std::alloc::Global;
 use std::marker::Model;
-
-// No event adds more acts.
-const MOST_ACTS: usize = 8;
 
 /// A domain whose access points and stations take one event at a time.
 #[derive(Drop)]
@@ -92,8 +89,9 @@ impl World {
         ensures same { OnErr result (self.new ≡ self.old) }
         ensures kept { OnErr result (journal.new.entries ≡ journal.old.entries) }
     {
-        journal.reserve(MOST_ACTS)?;
-        self.frames.reserve(MOST_ACTS)?;
+        let most = self.nodes.most_acts();
+        journal.reserve(most)?;
+        self.frames.reserve(most)?;
         let node = self
             .nodes
             .add_ap(self.alloc, address, r0kh_id, &mut self.out)?;
@@ -130,8 +128,9 @@ impl World {
         ensures kept { OnErr result (journal.new.entries ≡ journal.old.entries) }
     {
         let changed = self.changed(event, journal)?;
-        journal.reserve(MOST_ACTS)?;
-        self.frames.reserve(MOST_ACTS)?;
+        let most = self.nodes.most_acts();
+        journal.reserve(most)?;
+        self.frames.reserve(most)?;
         let (node, at_node) = self.at_node(event, journal, changed.as_slice());
         self.nodes.step(self.alloc, node, at_node, &mut self.out)?;
         let round = self.rounds + 1;
@@ -199,7 +198,7 @@ impl World {
         requires own { Owns self.now journal.now.entries }
         requires event { IsEventIn self.now.domain (length self.now.frames) journal.now.entries event.now }
         requires changed { IsChanged event.now journal.now.entries (suc self.now.rounds) changed.now }
-        ensures happens { Happens event.now journal.now.entries (suc self.now.rounds) result.0 (event_of result.1) }
+        ensures happens { HappensAt event.now journal.now.entries (suc self.now.rounds) result.0 (event_of result.1) }
         ensures listed { IsListed self.now.domain result.0 }
         ensures event { IsEventAt self.now.domain result.0 (event_of result.1) }
     {

@@ -5,7 +5,7 @@ ghost use Rattle.eapol_key.specs.KeyFrame.{fault_code};
 
 /// The fields of an EAPOL-Key frame, over the octets that it was read from
 /// (IEEE Std 802.11-2020, 12.7.2).
-#[derive(Clone, Copy, Debug)]
+#[derive(Clone, Copy)]
 pub struct KeyFrame<'a> {
     /// The EAPOL version, 1 to 3.
     pub version: u8,
@@ -32,7 +32,7 @@ pub struct KeyFrame<'a> {
 }
 
 /// Why octets begin with no EAPOL-Key frame.
-#[derive(Clone, Copy, Debug, PartialEq, Eq)]
+#[derive(Clone, Copy, PartialEq, Eq)]
 pub enum FaultKind {
     /// There are fewer than the four octets of an EAPOL header.
     Short,
@@ -62,7 +62,7 @@ impl FaultKind {
 }
 
 /// The first fault of octets that begin with no EAPOL-Key frame.
-#[derive(Clone, Copy, Debug, PartialEq, Eq)]
+#[derive(Clone, Copy, PartialEq, Eq)]
 pub struct FrameFault {
     /// Where the field at fault begins; of a short frame, the number of its octets.
     pub place: usize,

@@ -21,6 +21,3 @@ pub use reading::read;
 pub use sealing::{seal, verify};
 pub use wrapping::{close_key_data, open_key_data};
 pub use writing::write;
-
-#[cfg(test)]
-mod tests;

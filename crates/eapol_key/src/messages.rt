@@ -10,7 +10,7 @@ use domain_base::Akm;
 
 /// The messages of the four-way handshake and of the group key handshake
 /// (IEEE Std 802.11-2020, 12.7.6 and 12.7.7).
-#[derive(Clone, Copy, Debug, PartialEq, Eq)]
+#[derive(Clone, Copy, PartialEq, Eq)]
 pub enum Message {
     /// First message of the four-way handshake, with the ANonce.
     M1,

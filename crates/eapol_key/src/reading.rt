@@ -1,6 +1,7 @@
 //! Reading a frame from the front of octets.
 
 ghost use Rattle.std.specs.Prelude.{◌≡◌, ◌≤◌, ℕ, length, take, None, Some, MatchResult, IfOk, IsOkAnd};
+ghost use Rattle.eapol_key.specs.Bodies.{body_fault};
 ghost use Rattle.eapol_key.specs.Fields.{fields_of, IsKeyFrame};
 ghost use Rattle.eapol_key.specs.KeyFrame.{KeyFields, SpellsKeyFrame, key_frame_fault};
 
@@ -21,19 +22,13 @@ fn fault_at(place: usize, kind: FaultKind) -> Option<FrameFault>
     Some(FrameFault { place, kind })
 }
 
-// The first fault of octets that begin with no frame.
-fn fault_of(octets: &[u8]) -> Option<FrameFault>
-    ensures { result ≡ key_frame_fault octets.now }
+// The first fault from the length of the body on.
+fn body_fault(octets: &[u8]) -> Option<FrameFault>
+    requires { 4 ≤ length octets.now }
+    ensures { result ≡ body_fault octets.now }
 {
-    if octets.len() < HEADER_LEN {
-        return fault_at(octets.len(), FaultKind::Short);
-    }
     let body = usize::from(big_u16_at(octets, 2));
-    if octets[0] < 1 || octets[0] > 3 {
-        fault_at(0, FaultKind::PacketType)
-    } else if octets[1] != 3 {
-        fault_at(1, FaultKind::PacketType)
-    } else if body < LEAST_BODY || octets.len() < body + HEADER_LEN {
+    if body < LEAST_BODY || octets.len() < body + HEADER_LEN {
         fault_at(2, FaultKind::BodyLength)
     } else if octets[4] != 2 {
         fault_at(4, FaultKind::Descriptor)
@@ -41,6 +36,22 @@ fn fault_of(octets: &[u8]) -> Option<FrameFault>
         fault_at(97, FaultKind::KeyDataLength)
     } else {
         None
+    }
+}
+
+// The first fault of octets that begin with no frame.
+fn fault_of(octets: &[u8]) -> Option<FrameFault>
+    ensures { result ≡ key_frame_fault octets.now }
+{
+    if octets.len() < HEADER_LEN {
+        return fault_at(octets.len(), FaultKind::Short);
+    }
+    if octets[0] < 1 || octets[0] > 3 {
+        fault_at(0, FaultKind::PacketType)
+    } else if octets[1] != 3 {
+        fault_at(1, FaultKind::PacketType)
+    } else {
+        body_fault(octets)
     }
 }
 

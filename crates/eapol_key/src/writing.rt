@@ -1,6 +1,7 @@
 //! Writing a message, with zeros for its MIC.
 
-ghost use Rattle.std.specs.Prelude.{◌≡◌, ℕ, ◌≤◌, ◌<◌, ◌+◌, ◌^◌, ◌++◌, List, length, take, drop};
+ghost use Rattle.std.specs.Prelude.{◌≡◌, ℕ, ◌≤◌, ◌<◌, ◌+◌, ◌^◌, ◌++◌, ◌∷◌, [], List, length, take, drop};
+ghost use Rattle.std.specs.Int.{w16, to_be_bytes};
 ghost use Rattle.eapol_key.specs.KeyFrame.{SpellsKeyFrame};
 ghost use Rattle.eapol_key.specs.Messages.{IsMessage, descriptor_version};
 ghost use Rattle.eapol_key.specs.Octets.{frame_octets};
@@ -65,6 +66,21 @@ fn sent_rsc(message: Message, rsc: u64) -> [u8; 8]
     }
 }
 
+// The fields before the key information. The body is the fixed fields and the key data.
+fn put_start(size: u16, out: &mut [u8]) -> usize
+    requires fits { size ≤ 65440 }
+    requires room { 5 ≤ length out.old }
+    ensures end { result ≡ 5 }
+    ensures front { take 5 out.new ≡ 2 ∷ 3 ∷ to_be_bytes w16 (95 + size) ++ 2 ∷ [] }
+    ensures rest { (n : ℕ) → 5 ≤ n → drop n out.new ≡ drop n out.old }
+    ensures len { length out.new ≡ length out.old }
+{
+    let body = FIXED_BODY + size;
+    let at = put(out, 0, &[2, 3]);
+    let at = put(out, at, &body.to_be_bytes());
+    put(out, at, &[2])
+}
+
 // The fields before the IV.
 fn put_front(
     information: u16,
@@ -82,10 +98,7 @@ fn put_front(
     ensures rest { (n : ℕ) → 49 ≤ n → drop n out.new ≡ drop n out.old }
     ensures len { length out.new ≡ length out.old }
 {
-    let body = FIXED_BODY + size;
-    let at = put(out, 0, &[2, 3]);
-    let at = put(out, at, &body.to_be_bytes());
-    let at = put(out, at, &[2]);
+    let at = put_start(size, out);
     let at = put(out, at, &information.to_be_bytes());
     let at = put(out, at, &key_length.to_be_bytes());
     let at = put(out, at, &counter.to_be_bytes());

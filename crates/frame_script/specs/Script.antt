@@ -1,5 +1,5 @@
 -- What the lines of a script say (this project's choice).
-use Rattle.std.specs.Prelude.{ℕ, suc, ◌%◌, ◌-◌, ◌==◌, ◌&&◌, not, Bool, true, nat_lt, nat_le, if◌then◌else◌, List, [], ◌∷◌, ◌++◌, length, slice_index, bytes_eq, codes, Option, None, Some, option_map, option_and_then, Result, Ok, Err}
+use Rattle.std.specs.Prelude.{ℕ, suc, ◌%◌, ◌-◌, ◌==◌, ◌&&◌, not, Bool, true, nat_lt, nat_le, if◌then◌else◌, List, [], ◌∷◌, length, slice_index, bytes_eq, codes, Option, None, Some, option_map, option_and_then, Result, Ok, Err}
 use Rattle.std.specs.List.{list_any}
 use Rattle.domain_base.specs.declared.names.Akm.{Akm}
 use Rattle.domain_base.specs.declared.names.Akm.TheVariants.{Psk, PskSha256}

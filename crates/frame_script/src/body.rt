@@ -1,11 +1,12 @@
 //! The lines behind a header.
 
-ghost use Rattle.std.specs.Prelude.{◌≡◌, ◌<◌, length, IfOk, IsTrue, MatchResult};
+ghost use Rattle.std.specs.Prelude.{◌≡◌, ◌==◌, ◌&&◌, ◌<◌, ℕ, List, length, Err, if◌then◌else◌, IfOk, IsTrue, MatchResult};
 ghost use Rattle.frame_script.specs.declared.reader.LineFault.TheVariants as answered;
 ghost use Rattle.frame_script.specs.declared.reader.Step.TheVariants as steps;
 ghost use Rattle.frame_script.specs.Due.{draft_of};
+ghost use Rattle.frame_script.specs.Headers.{CanListSta};
 ghost use Rattle.run_journal.specs.Listing.{with_ap, with_sta};
-ghost use Rattle.frame_script.specs.Script.{AtNodes, body_line};
+ghost use Rattle.frame_script.specs.Script.{AtNodes, ListsSta, ap_line, body_line, sta_line, word_};
 ghost use Rattle.frame_script.specs.Sentences.{CanAsk, CanSay, IsKept, Takes, TellsBy, event_of, is_few, octets_of, said_of};
 
 use crate::events::{Asked, event_line};
@@ -28,6 +29,31 @@ pub(crate) enum Sentence<'a> {
     Asks(Asked<'a>),
 }
 
+// An access point is listed before stations and events.
+fn early_ap<'a>(domain: &Domain, rounds: u64, text: &'a [u8]) -> Result<Sentence<'a>, Refusal>
+    ensures can { (sizes : List ℕ) → IfOk result (CanSay domain.now rounds sizes) }
+    ensures says { TellsBy said_of result (if length domain.now.stas == 0 && rounds == 0 then ap_line domain.now text.now else Err word_) }
+{
+    if domain.stas.0.is_empty() && rounds == 0 {
+        let (address, r0kh_id) = ap_line(domain, text)?;
+        Ok(Sentence::Ap(address, r0kh_id))
+    } else {
+        Err(Refusal::Word)
+    }
+}
+
+// A station is listed before events.
+fn early_sta(domain: &Domain, rounds: u64, text: &[u8]) -> Result<Mac, Refusal>
+    ensures can { IfOk result (λ m. CanListSta domain.now m × (rounds ≡ 0)) }
+    ensures says { TellsBy ListsSta result (if rounds == 0 then sta_line domain.now text.now else Err word_) }
+{
+    if rounds == 0 {
+        sta_line(domain, text)
+    } else {
+        Err(Refusal::Word)
+    }
+}
+
 // What the line says, by its first word and what stands behind it.
 #[tactic(auto, unfolding(crate::specs::Script::body_line))]
 fn body_line<'a>(
@@ -42,18 +68,9 @@ fn body_line<'a>(
     ensures says { TellsBy said_of result (body_line domain.now rounds sizes.now word.now text.now) }
 {
     if word == b"ap".as_slice() {
-        if domain.stas.0.is_empty() && rounds == 0 {
-            let (address, r0kh_id) = ap_line(domain, text)?;
-            Ok(Sentence::Ap(address, r0kh_id))
-        } else {
-            Err(Refusal::Word)
-        }
+        early_ap(domain, rounds, text)
     } else if word == b"sta".as_slice() {
-        if rounds == 0 {
-            Ok(Sentence::Sta(sta_line(domain, text)?))
-        } else {
-            Err(Refusal::Word)
-        }
+        Ok(Sentence::Sta(early_sta(domain, rounds, text)?))
     } else {
         Ok(Sentence::Asks(event_line(domain, sizes, word, text)?))
     }

@@ -1,10 +1,10 @@
 //! The lines that ask for events.
 
-ghost use Rattle.std.specs.Prelude.{◌≡◌, ◌<◌, ◌≤◌, ℕ, List, length, is_some, IfOk, IfSome, IsTrue, option_map};
+ghost use Rattle.std.specs.Prelude.{◌≡◌, false, bytes_eq, ◌<◌, ◌≤◌, ℕ, List, codes, length, is_some, nat_le, nat_lt, if◌then◌else◌, Some, Ok, Err, IfOk, IfSome, IsTrue, option_map};
 ghost use Rattle.run_journal.specs.declared.domain.Event.TheVariants as asks;
-ghost use Rattle.frame_script.specs.Tokens.{hex_value};
+ghost use Rattle.frame_script.specs.Tokens.{hex_value, number_of_digits, split_word};
 ghost use Rattle.frame_script.specs.Headers.{CanHappen, IsListedIn, IsSized};
-ghost use Rattle.frame_script.specs.Script.{Asks, alter_line, connect_line, cut_line, deliver_line, event_line, event_of, frame_octets, inject_line, listed, listed_ap, listed_sta, place_in, retry_line, size_of, to_word};
+ghost use Rattle.frame_script.specs.Script.{Asks, alter_line, connect_line, cut_line, deliver_line, event_line, event_of, frame_octets, inject_line, listed, listed_ap, listed_sta, need, node_, frame_, place_, ◌>>=◌ as ◌>>=ᴿ◌, place_in, retry_line, size_of, to_word};
 ghost use Rattle.frame_script.specs.Sentences.{CanAsk, Tells, TellsBy, event_of as event_asked, is_few, name_of, octets_of};
 
 use crate::refusal::Refusal;
@@ -103,6 +103,17 @@ fn to_name(text: &[u8]) -> Option<NodeName>
     node_name(behind(b"to ", text)?)
 }
 
+// A station begins an attempt with an access point, by their names.
+fn connect(domain: &Domain, sta: NodeName, ap: NodeName) -> Result<Event, Refusal>
+    requires { IsTrue (is_few domain.now) }
+    ensures can { (sizes : List ℕ) → IfOk result (CanHappen domain.now sizes) }
+    ensures says { Tells result (need node_ (listed_sta domain.now (name_of sta)) >>=ᴿ (λ s. need node_ (listed_ap domain.now (name_of ap)) >>=ᴿ (λ a. Ok (asks.Connect s a)))) }
+{
+    let sta = listed_sta(domain, sta).ok_or(Refusal::Node)?;
+    let ap = listed_ap(domain, ap).ok_or(Refusal::Node)?;
+    Ok(Event::Connect { sta, ap })
+}
+
 // A station begins an attempt with an access point.
 #[tactic(auto, unfolding(crate::specs::Script::connect_line))]
 fn connect_line(domain: &Domain, text: &[u8]) -> Result<Event, Refusal>
@@ -113,9 +124,18 @@ fn connect_line(domain: &Domain, text: &[u8]) -> Result<Event, Refusal>
     let (first, second) = split_word(text).ok_or(Refusal::Arguments)?;
     let sta = node_name(first).ok_or(Refusal::Arguments)?;
     let ap = node_name(second).ok_or(Refusal::Arguments)?;
-    let sta = listed_sta(domain, sta).ok_or(Refusal::Node)?;
+    connect(domain, sta, ap)
+}
+
+// An access point sends a station once more what it waits to have answered, by their names.
+fn retry(domain: &Domain, ap: NodeName, sta: NodeName) -> Result<Event, Refusal>
+    requires { IsTrue (is_few domain.now) }
+    ensures can { (sizes : List ℕ) → IfOk result (CanHappen domain.now sizes) }
+    ensures says { Tells result (need node_ (listed_ap domain.now (name_of ap)) >>=ᴿ (λ a. need node_ (listed_sta domain.now (name_of sta)) >>=ᴿ (λ s. Ok (asks.Retry a s)))) }
+{
     let ap = listed_ap(domain, ap).ok_or(Refusal::Node)?;
-    Ok(Event::Connect { sta, ap })
+    let sta = listed_sta(domain, sta).ok_or(Refusal::Node)?;
+    Ok(Event::Retry { ap, sta })
 }
 
 // An access point sends a station once more what it waits to have answered.
@@ -128,9 +148,18 @@ fn retry_line(domain: &Domain, text: &[u8]) -> Result<Event, Refusal>
     let (first, second) = split_word(text).ok_or(Refusal::Arguments)?;
     let ap = node_name(first).ok_or(Refusal::Arguments)?;
     let sta = node_name(second).ok_or(Refusal::Arguments)?;
-    let ap = listed_ap(domain, ap).ok_or(Refusal::Node)?;
-    let sta = listed_sta(domain, sta).ok_or(Refusal::Node)?;
-    Ok(Event::Retry { ap, sta })
+    retry(domain, ap, sta)
+}
+
+// A frame that was sent comes to a node, by its number and the node's name.
+fn deliver(domain: &Domain, sizes: &[usize], number: u64, name: NodeName) -> Result<Event, Refusal>
+    requires { IsTrue (is_few domain.now) }
+    ensures can { IfOk result (CanHappen domain.now sizes.now) }
+    ensures says { Tells result (need node_ (listed domain.now (name_of name)) >>=ᴿ (λ to. need frame_ (size_of sizes.now number) >>=ᴿ (λ _. Ok (asks.Deliver number to)))) }
+{
+    let to = listed(domain, name).ok_or(Refusal::Node)?;
+    size_of(sizes, number).ok_or(Refusal::Frame)?;
+    Ok(Event::Deliver { number, to })
 }
 
 // A frame that was sent comes to a node.
@@ -143,9 +172,57 @@ fn deliver_line(domain: &Domain, sizes: &[usize], text: &[u8]) -> Result<Event, 
     let (number, rest) = split_word(text).ok_or(Refusal::Arguments)?;
     let number = number_of_digits(number).ok_or(Refusal::Arguments)?;
     let name = to_name(rest).ok_or(Refusal::Arguments)?;
+    deliver(domain, sizes, number, name)
+}
+
+// Whether a frame of that size has an octet at that place.
+fn has_place(place: u64, size: usize) -> bool
+    ensures { result ≡ nat_lt place size }
+{
+    place < size as u64
+}
+
+// A frame that was sent comes to a node with one octet changed, by numbers and the node's name.
+fn alter(
+    domain: &Domain,
+    sizes: &[usize],
+    number: u64,
+    place: u64,
+    mask: u8,
+    name: NodeName,
+) -> Result<Event, Refusal>
+    requires { IsTrue (is_few domain.now) }
+    ensures can { IfOk result (CanHappen domain.now sizes.now) }
+    ensures says { Tells result (need node_ (listed domain.now (name_of name)) >>=ᴿ (λ to. need frame_ (size_of sizes.now number) >>=ᴿ (λ size. if nat_lt place size then Ok (asks.Alter number place mask to) else Err place_))) }
+{
     let to = listed(domain, name).ok_or(Refusal::Node)?;
-    size_of(sizes, number).ok_or(Refusal::Frame)?;
-    Ok(Event::Deliver { number, to })
+    let size = size_of(sizes, number).ok_or(Refusal::Frame)?;
+    if !has_place(place, size) {
+        return Err(Refusal::Place);
+    }
+    let place = place as usize;
+    Ok(Event::Alter {
+        number,
+        place,
+        mask,
+        to,
+    })
+}
+
+// A frame that was sent comes to a node with one octet changed, by its number and what stands behind that in the line.
+#[tactic(auto, unfolding(crate::specs::Script::alter_line))]
+fn alter_frame(domain: &Domain, sizes: &[usize], number: u64, text: &[u8]) -> Result<Event, Refusal>
+    requires { IsTrue (is_few domain.now) }
+    ensures can { IfOk result (CanHappen domain.now sizes.now) }
+    ensures says { (line word : List ℕ) → split_word line ≡ Some (word, text.now) → number_of_digits word ≡ Some number
+        → Tells result (alter_line domain.now sizes.now line) }
+{
+    let (place, rest) = split_word(text).ok_or(Refusal::Arguments)?;
+    let place = number_of_digits(place).ok_or(Refusal::Arguments)?;
+    let (mask, rest) = split_word(rest).ok_or(Refusal::Arguments)?;
+    let mask: [u8; 1] = hex_octets(mask).ok_or(Refusal::Arguments)?;
+    let name = to_name(rest).ok_or(Refusal::Arguments)?;
+    alter(domain, sizes, number, place, mask[0], name)
 }
 
 // A frame that was sent comes to a node with one octet changed.
@@ -157,22 +234,26 @@ fn alter_line(domain: &Domain, sizes: &[usize], text: &[u8]) -> Result<Event, Re
 {
     let (number, rest) = split_word(text).ok_or(Refusal::Arguments)?;
     let number = number_of_digits(number).ok_or(Refusal::Arguments)?;
-    let (place, rest) = split_word(rest).ok_or(Refusal::Arguments)?;
-    let place = number_of_digits(place).ok_or(Refusal::Arguments)?;
-    let (mask, rest) = split_word(rest).ok_or(Refusal::Arguments)?;
-    let mask: [u8; 1] = hex_octets(mask).ok_or(Refusal::Arguments)?;
-    let name = to_name(rest).ok_or(Refusal::Arguments)?;
+    alter_frame(domain, sizes, number, rest)
+}
+
+// The first octets of a frame that was sent come to a node, by numbers and the node's name.
+fn cut(
+    domain: &Domain,
+    sizes: &[usize],
+    number: u64,
+    count: u64,
+    name: NodeName,
+) -> Result<Event, Refusal>
+    requires { IsTrue (is_few domain.now) }
+    ensures can { IfOk result (CanHappen domain.now sizes.now) }
+    ensures says { Tells result (need node_ (listed domain.now (name_of name)) >>=ᴿ (λ to. need frame_ (size_of sizes.now number) >>=ᴿ (λ size. if nat_le count size then Ok (asks.Cut number count to) else Err place_))) }
+{
     let to = listed(domain, name).ok_or(Refusal::Node)?;
-    let size = size_of(sizes, number).ok_or(Refusal::Frame)?;
-    let place = place as usize;
-    if place < size {
-        let mask = mask[0];
-        Ok(Event::Alter {
-            number,
-            place,
-            mask,
-            to,
-        })
+    let whole = size_of(sizes, number).ok_or(Refusal::Frame)?;
+    let size = count as usize;
+    if size <= whole {
+        Ok(Event::Cut { number, size, to })
     } else {
         Err(Refusal::Place)
     }
@@ -190,14 +271,7 @@ fn cut_line(domain: &Domain, sizes: &[usize], text: &[u8]) -> Result<Event, Refu
     let (count, rest) = split_word(rest).ok_or(Refusal::Arguments)?;
     let count = number_of_digits(count).ok_or(Refusal::Arguments)?;
     let name = to_name(rest).ok_or(Refusal::Arguments)?;
-    let to = listed(domain, name).ok_or(Refusal::Node)?;
-    let whole = size_of(sizes, number).ok_or(Refusal::Frame)?;
-    let size = count as usize;
-    if size <= whole {
-        Ok(Event::Cut { number, size, to })
-    } else {
-        Err(Refusal::Place)
-    }
+    cut(domain, sizes, number, count, name)
 }
 
 // Octets that are not too many for a frame.
@@ -217,17 +291,44 @@ fn frame_octets(text: &[u8]) -> Result<(), Refusal>
 
 // Octets come to a node.
 #[tactic(auto, unfolding(crate::specs::Script::inject_line))]
-fn inject_line<'a>(domain: &Domain, text: &'a [u8]) -> Result<(Node, &'a [u8]), Refusal>
+fn inject_line<'a>(domain: &Domain, text: &'a [u8]) -> Result<Asked<'a>, Refusal>
     requires { IsTrue (is_few domain.now) }
-    ensures digits { IfOk result (λ i. IsTrue (is_some (hex_value i.1.now))) }
-    ensures inside { IfOk result (λ i. IsListedIn domain.now i.0) }
-    ensures says { TellsBy (λ i. asks.Inject i.0 (octets_of i.1.now)) result (inject_line domain.now text.now) }
+    ensures can { (sizes : List ℕ) → IfOk result (CanAsk domain.now sizes) }
+    ensures says { TellsBy event_asked result (inject_line domain.now text.now) }
 {
     let (word, digits) = split_word(text).ok_or(Refusal::Arguments)?;
     let name = node_name(word).ok_or(Refusal::Arguments)?;
     frame_octets(digits)?;
     let to = listed(domain, name).ok_or(Refusal::Node)?;
-    Ok((to, digits))
+    Ok(Asked::Inject(to, digits))
+}
+
+// An event that takes no memory, by its first word.
+#[tactic(auto, unfolding(crate::specs::Script::event_of))]
+fn small_event_of(
+    domain: &Domain,
+    sizes: &[usize],
+    word: &[u8],
+    text: &[u8],
+) -> Result<Event, Refusal>
+    requires few { IsTrue (is_few domain.now) }
+    requires other { bytes_eq word.now (codes "inject") ≡ false }
+    ensures can { IfOk result (CanHappen domain.now sizes.now) }
+    ensures says { Tells result (event_of domain.now sizes.now word.now text.now) }
+{
+    if word == b"connect".as_slice() {
+        connect_line(domain, text)
+    } else if word == b"deliver".as_slice() {
+        deliver_line(domain, sizes, text)
+    } else if word == b"alter".as_slice() {
+        alter_line(domain, sizes, text)
+    } else if word == b"cut".as_slice() {
+        cut_line(domain, sizes, text)
+    } else if word == b"retry".as_slice() {
+        retry_line(domain, text)
+    } else {
+        Err(Refusal::Word)
+    }
 }
 
 // An event by its first word.
@@ -242,21 +343,11 @@ fn event_of<'a>(
     ensures can { IfOk result (λ a. CanAsk domain.now sizes.now a) }
     ensures says { TellsBy event_asked result (event_of domain.now sizes.now word.now text.now) }
 {
-    if word == b"connect".as_slice() {
-        Ok(Asked::Event(connect_line(domain, text)?))
-    } else if word == b"deliver".as_slice() {
-        Ok(Asked::Event(deliver_line(domain, sizes, text)?))
-    } else if word == b"alter".as_slice() {
-        Ok(Asked::Event(alter_line(domain, sizes, text)?))
-    } else if word == b"cut".as_slice() {
-        Ok(Asked::Event(cut_line(domain, sizes, text)?))
-    } else if word == b"inject".as_slice() {
-        let (to, digits) = inject_line(domain, text)?;
-        Ok(Asked::Inject(to, digits))
-    } else if word == b"retry".as_slice() {
-        Ok(Asked::Event(retry_line(domain, text)?))
+    if word == b"inject".as_slice() {
+        inject_line(domain, text)
     } else {
-        Err(Refusal::Word)
+        let event = small_event_of(domain, sizes, word, text)?;
+        Ok(Asked::Event(event))
     }
 }
 

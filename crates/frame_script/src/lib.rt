@@ -12,8 +12,6 @@ mod nodes;
 mod reader;
 mod refusal;
 mod seen;
-#[cfg(test)]
-mod tests;
 mod tokens;
 
 pub use reader::{LineFault, ScriptReader, Step};

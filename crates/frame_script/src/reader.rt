@@ -13,7 +13,7 @@ use std::marker::Model;
 use std::mem::replace;
 
 /// Why a line is not taken. The reader has said nothing by it.
-#[derive(Clone, Copy, Debug, PartialEq, Eq)]
+#[derive(Clone, Copy)]
 pub enum LineFault {
     /// The line is outside the grammar, for that reason: 1 it is the first and not `domain 1`; 2 no such word in this place;
     /// 3 the number or form of its arguments; 4 a node that is not listed or of the other kind; 5 a frame that was not sent;

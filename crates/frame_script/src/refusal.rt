@@ -3,7 +3,7 @@
 use crate::reader::LineFault;
 
 /// Why a line is refused, whatever memory there is.
-#[derive(Clone, Copy, Debug, PartialEq, Eq)]
+#[derive(Clone, Copy)]
 pub(crate) enum Refusal {
     /// The first line is not `domain 1`.
     Version,

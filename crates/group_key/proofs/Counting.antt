@@ -16,13 +16,14 @@ use Rattle.run_journal.specs.Questions.{given as all_given}
 use Rattle.domain_rules.specs.GroupKeys.{give_by, give, told, is_key, got}
 use Rattle.domain_rules.proofs.Parts.{same-refl}
 use Rattle.domain_rules.proofs.Peers.{not_same}
+use Rattle.run_journal.specs.GroupKinds as groups
 use Rattle.group_key.specs.Keys.{Kept, has_key, kept_id, raised, given, found, taken}
 use Rattle.group_key.specs.Holds.{AreApart, Remembers, key_of}
 use Rattle.group_key.proofs.Keeping.{found_as, found_in, has_some, keys_raised, keys_taken, keys_given}
 
 -- the counter of a key is that of the history
 abbrev IsCounted : Node → List Act → Kept → Type 0
-IsCounted p h k = k.counter ≡ got p k.key k.id h
+IsCounted p h k = k.counter ≡ got groups.Gtk p k.key k.id h
 
 abbrev AreCounted : Node → List Act → List Kept → Type 0
 AreCounted p h ks = AllByRecursion (λ (k : Kept). IsCounted p h k) ks
@@ -57,7 +58,7 @@ goes false x before is = cc is
 
 -- an act that leaves the counters of all keys with other octets
 abbrev LeavesOthers : Node → List ℕ → Act → List Act → Type 0
-LeavesOthers p key e h = (k : Kept) → bytes_eq key k.key ≡ false → got p k.key k.id (e ∷ h) ≡ got p k.key k.id h
+LeavesOthers p key e h = (k : Kept) → bytes_eq key k.key ≡ false → got groups.Gtk p k.key k.id (e ∷ h) ≡ got groups.Gtk p k.key k.id h
 
 either : (a b : Bool) → (a || b) ≡ false → (a ≡ false) × (b ≡ false)
 either true b s = absurd (cc s)
@@ -92,7 +93,7 @@ first_apart : (ks : List Kept) → AreApart (take 1 ks)
 first_apart [] = tt
 first_apart (k ∷ ks) = (refl, tt)
 
-installed_counted : (p : Node) (b : Mac) (key : List ℕ) (id rsc : ℕ) (ks : List Kept) (h : List Act) → told p h ≡ rsc → has_key key ks ≡ false → AreCounted p h ks
+installed_counted : (p : Node) (b : Mac) (key : List ℕ) (id rsc : ℕ) (ks : List Kept) (h : List Act) → told groups.Gtk p h ≡ rsc → has_key key ks ≡ false → AreCounted p h ks
     → AreCounted p (Installed (One p) (Group key id b) ∷ h) (record { key = key; id = id; counter = rsc } ∷ take 1 ks)
 installed_counted p b key id rsc ks h tells none counted =
     let new : Kept = record { key = key; id = id; counter = rsc } in
@@ -100,19 +101,19 @@ installed_counted p b key id rsc ks h tells none counted =
 
 -- ---- a key that goes on
 
-raised_by : (p : Node) (b : Mac) (key : List ℕ) (id rsc : ℕ) (k : Kept) (ks : List Kept) (h : List Act) (c : Bool) → bytes_eq key k.key ≡ c → told p h ≡ rsc → cond c (Some k.id) (kept_id key ks) ≡ Some id → has_key k.key ks ≡ false
+raised_by : (p : Node) (b : Mac) (key : List ℕ) (id rsc : ℕ) (k : Kept) (ks : List Kept) (h : List Act) (c : Bool) → bytes_eq key k.key ≡ c → told groups.Gtk p h ≡ rsc → cond c (Some k.id) (kept_id key ks) ≡ Some id → has_key k.key ks ≡ false
     → IsCounted p h k → AreCounted p h ks → (kept_id key ks ≡ Some id → AreCounted p (Resumed p (Group key id b) ∷ h) (raised key rsc ks))
     → AreCounted p (Resumed p (Group key id b) ∷ h) (cond c (record { key = k.key; id = k.id; counter = max rsc k.counter } ∷ ks) (k ∷ raised key rsc ks))
 raised_by p b key id rsc k ks h true here tells is none counter counted more =
     let equal : key ≡ k.key = (bytes_eq-Decides key k.key).0 here in
     let ids : k.id ≡ id = cc is in (
-      ap (λ (x : ℕ). max x k.counter) (sym tells) ∙ ap (λ (x : ℕ). max (told p h) x) counter ∙ sym (goes _ _ _ (is_key-same p k key id equal ids)),
+      ap (λ (x : ℕ). max x k.counter) (sym tells) ∙ ap (λ (x : ℕ). max (told groups.Gtk p h) x) counter ∙ sym (goes _ _ _ (is_key-same p k key id equal ids)),
       others_counted p key (Resumed p (Group key id b)) h ks (resumed_others p b key id h) (subst (λ (x : List ℕ). has_key x ks ≡ false) (sym equal) none) counted,
     )
 raised_by p b key id rsc k ks h false other tells is none counter counted more =
     (counter ∙ sym (resumed_others p b key id h k other), more is)
 
-raised_counted : (p : Node) (b : Mac) (key : List ℕ) (id rsc : ℕ) (ks : List Kept) (h : List Act) → told p h ≡ rsc → kept_id key ks ≡ Some id → AreApart ks → AreCounted p h ks
+raised_counted : (p : Node) (b : Mac) (key : List ℕ) (id rsc : ℕ) (ks : List Kept) (h : List Act) → told groups.Gtk p h ≡ rsc → kept_id key ks ≡ Some id → AreApart ks → AreCounted p h ks
     → AreCounted p (Resumed p (Group key id b) ∷ h) (raised key rsc ks)
 raised_counted p b key id rsc [] h tells is apart counted = tt
 raised_counted p b key id rsc (k ∷ ks) h tells is apart counted = raised_by p b key id rsc k ks h (bytes_eq key k.key) refl tells is apart.0 counted.0 counted.1 (λ there. raised_counted p b key id rsc ks h tells there apart.1 counted.1)
@@ -165,25 +166,25 @@ started p = record { keys = refl; counters = tt; apart = tt }
 
 abbrev Gives : Node → Mac → GroupKey → ℕ → List Kept → List Act → Option ℕ → Type 0
 Gives p b g rsc ks h o =
-    AreCounted p (give_by p b g (found_as g.key o) ∷ h) (cond (is_some o) (raised g.key rsc ks) (take 2 (record { key = g.key; id = g.id; counter = rsc } ∷ ks)))
+    AreCounted p (give_by groups.Gtk p b g (found_as g.key o) ∷ h) (cond (is_some o) (raised g.key rsc ks) (take 2 (record { key = g.key; id = g.id; counter = rsc } ∷ ks)))
     × AreApart (cond (is_some o) (raised g.key rsc ks) (take 2 (record { key = g.key; id = g.id; counter = rsc } ∷ ks)))
 
-gives_by : (p : Node) (b : Mac) (g : GroupKey) (rsc : ℕ) (ks : List Kept) (h : List Act) (o : Option ℕ) → Remembers p ks h → told p h ≡ rsc → kept_id g.key ks ≡ o → has_key g.key ks ≡ is_some o → Gives p b g rsc ks h o
+gives_by : (p : Node) (b : Mac) (g : GroupKey) (rsc : ℕ) (ks : List Kept) (h : List Act) (o : Option ℕ) → Remembers p ks h → told groups.Gtk p h ≡ rsc → kept_id g.key ks ≡ o → has_key g.key ks ≡ is_some o → Gives p b g rsc ks h o
 gives_by p b g rsc ks h None r tells is has = (installed_counted p b g.key g.id rsc ks h tells has r.counters, (first_none g.key ks has, first_apart ks))
 gives_by p b g rsc ks h (Some id) r tells is has =
     (raised_counted p b g.key id rsc ks h tells is r.apart r.counters, apart_same ks (raised g.key rsc ks) (sym (keys_raised g.key rsc ks)) r.apart)
 
-pub gives : (p : Node) (b : Mac) (g : GroupKey) (rsc : ℕ) (ks : List Kept) (h : List Act) → Remembers p ks h → told p h ≡ rsc → Remembers p (given g.key g.id rsc ks) (give p b g h ∷ h)
+pub gives : (p : Node) (b : Mac) (g : GroupKey) (rsc : ℕ) (ks : List Kept) (h : List Act) → Remembers p ks h → told groups.Gtk p h ≡ rsc → Remembers p (given g.key g.id rsc ks) (give groups.Gtk p b g h ∷ h)
 gives p b g rsc ks h r tells =
     let o = kept_id g.key ks in
     let has : has_key g.key ks ≡ is_some o = has_some g.key ks in
     let all = gives_by p b g rsc ks h o r tells refl has in
-    let act : give_by p b g (found_as g.key o) ≡ give p b g h = ap (give_by p b g) (sym (found_in p g.key ks h r.keys)) in
+    let act : give_by groups.Gtk p b g (found_as g.key o) ≡ give groups.Gtk p b g h = ap (give_by groups.Gtk p b g) (sym (found_in p g.key ks h r.keys)) in
     let new : Kept = record { key = g.key; id = g.id; counter = rsc } in
     let list : cond (is_some o) (raised g.key rsc ks) (take 2 (new ∷ ks)) ≡ given g.key g.id rsc ks = ap (λ (x : Bool). cond x (raised g.key rsc ks) (take 2 (new ∷ ks))) (sym has) in
     record {
       keys = keys_given p b g rsc ks h r.keys;
-      counters = subst (λ (e : Act). AreCounted p (e ∷ h) (given g.key g.id rsc ks)) act (subst (λ (x : List Kept). AreCounted p (give_by p b g (found_as g.key o) ∷ h) x) list all.0);
+      counters = subst (λ (e : Act). AreCounted p (e ∷ h) (given g.key g.id rsc ks)) act (subst (λ (x : List Kept). AreCounted p (give_by groups.Gtk p b g (found_as g.key o) ∷ h) x) list all.0);
       apart = subst AreApart list all.1;
     }
 
@@ -195,30 +196,30 @@ takes p id tid number octets k ks h r is low = record {
   apart = apart_same ks (taken id number ks) (sym (keys_taken id number ks)) r.apart;
 }
 
-all_stay : (p : Node) (e : Act) (ks : List Kept) (h : List Act) → ((key : List ℕ) (id : ℕ) → got p key id (e ∷ h) ≡ got p key id h) → AreCounted p h ks → AreCounted p (e ∷ h) ks
+all_stay : (p : Node) (e : Act) (ks : List Kept) (h : List Act) → ((key : List ℕ) (id : ℕ) → got groups.Gtk p key id (e ∷ h) ≡ got groups.Gtk p key id h) → AreCounted p h ks → AreCounted p (e ∷ h) ks
 all_stay p e [] h same counted = tt
 all_stay p e (k ∷ ks) h same counted = (counted.0 ∙ sym (same k.key k.id), all_stay p e ks h same counted.1)
 
-pub stands : (p : Node) (e : Act) (ks : List Kept) (h : List Act) → Remembers p ks h → given_from p e ≡ None → ((key : List ℕ) (id : ℕ) → got p key id (e ∷ h) ≡ got p key id h) → Remembers p ks (e ∷ h)
+pub stands : (p : Node) (e : Act) (ks : List Kept) (h : List Act) → Remembers p ks h → given_from groups.Gtk p e ≡ None → ((key : List ℕ) (id : ℕ) → got groups.Gtk p key id (e ∷ h) ≡ got groups.Gtk p key id h) → Remembers p ks (e ∷ h)
 stands p e ks h r none same = record {
-  keys = r.keys ∙ ap (λ (o : Option GroupKey). take 2 (listed o (all_given p h))) (sym none);
+  keys = r.keys ∙ ap (λ (o : Option GroupKey). take 2 (listed o (all_given groups.Gtk p h))) (sym none);
   counters = all_stay p e ks h same r.counters;
   apart = r.apart;
 }
 
 abbrev Counts : Node → ℕ → List Act → Kept → Type 0
-Counts p id h k = (k.id ≡ id) × (k.counter ≡ got p k.key id h)
+Counts p id h k = (k.id ≡ id) × (k.counter ≡ got groups.Gtk p k.key id h)
 
 counted_by : (p : Node) (id : ℕ) (k x : Kept) (ks : List Kept) (h : List Act) (c : Bool) → (x.id == id) ≡ c → IsCounted p h x → cond c (Some x) (found id ks) ≡ Some k → (found id ks ≡ Some k → Counts p id h k) → Counts p id h k
 counted_by p id k x ks h true here counter is more =
     let this : x ≡ k = cc is in
     let ids : x.id ≡ id = eqb-true x.id id here in
-    subst (λ (y : Kept). Counts p id h y) this (ids, counter ∙ ap (λ (n : ℕ). got p x.key n h) ids)
+    subst (λ (y : Kept). Counts p id h y) this (ids, counter ∙ ap (λ (n : ℕ). got groups.Gtk p x.key n h) ids)
 counted_by p id k x ks h false other counter is more = more is
 
 counted_in : (p : Node) (id : ℕ) (k : Kept) (ks : List Kept) (h : List Act) → AreCounted p h ks → found id ks ≡ Some k → Counts p id h k
 counted_in p id k [] h counted is = absurd (cc is)
 counted_in p id k (x ∷ ks) h counted is = counted_by p id k x ks h (x.id == id) refl counted.0 is (counted_in p id k ks h counted.1)
 
-pub counted : (p : Node) (id : ℕ) (k : Kept) (ks : List Kept) (h : List Act) → Remembers p ks h → found id ks ≡ Some k → (k.id ≡ id) × (k.counter ≡ got p k.key id h)
+pub counted : (p : Node) (id : ℕ) (k : Kept) (ks : List Kept) (h : List Act) → Remembers p ks h → found id ks ≡ Some k → (k.id ≡ id) × (k.counter ≡ got groups.Gtk p k.key id h)
 counted p id k ks h r is = counted_in p id k ks h r.counters is

@@ -10,6 +10,7 @@ use Rattle.run_journal.specs.Acts.{GroupKey, given_from}
 use Rattle.run_journal.specs.Questions.{given as all_given}
 use Rattle.domain_rules.specs.GroupKeys.{memory, find_key, give_by, give}
 use Rattle.domain_rules.proofs.Parts.{same-refl}
+use Rattle.run_journal.specs.GroupKinds as groups
 use Rattle.group_key.specs.Keys.{Kept, has_key, kept_id, raised, given, taken}
 use Rattle.group_key.specs.Holds.{key_of, under}
 
@@ -27,7 +28,7 @@ found_kept : (key : List ℕ) (ks : List Kept) → find_key key (map key_of ks) 
 found_kept key [] = refl
 found_kept key (k ∷ ks) = found_by key k ks (bytes_eq key k.key) refl (found_kept key ks)
 
-pub found_in : (p : Node) (key : List ℕ) (ks : List Kept) (h : List Act) → map key_of ks ≡ memory p h → find_key key (memory p h) ≡ found_as key (kept_id key ks)
+pub found_in : (p : Node) (key : List ℕ) (ks : List Kept) (h : List Act) → map key_of ks ≡ memory groups.Gtk p h → find_key key (memory groups.Gtk p h) ≡ found_as key (kept_id key ks)
 found_in p key ks h is = ap (find_key key) (sym is) ∙ found_kept key ks
 
 -- ---- what was given
@@ -36,7 +37,7 @@ abbrev pub gave : GroupKey → Option GroupKey → List GroupKey → List GroupK
 gave g None gs = g ∷ gs
 gave g (Some kept) gs = gs
 
-give_there : (p : Node) (b : Mac) (g : GroupKey) (o : Option GroupKey) (gs : List GroupKey) → listed (given_from p (give_by p b g o)) gs ≡ gave g o gs
+give_there : (p : Node) (b : Mac) (g : GroupKey) (o : Option GroupKey) (gs : List GroupKey) → listed (given_from groups.Gtk p (give_by groups.Gtk p b g o)) gs ≡ gave g o gs
 give_there p b g None gs = rw (same-refl p) refl
 give_there p b g (Some kept) gs = refl
 
@@ -74,10 +75,10 @@ kept_by : (key : List ℕ) (id rsc : ℕ) (ks : List Kept) (gs : List GroupKey) 
 kept_by key id rsc ks gs None is = pushed (record { key = key; id = id; counter = rsc }) ks gs is
 kept_by key id rsc ks gs (Some was) is = keys_raised key rsc ks ∙ is
 
-pub keys_given : (p : Node) (b : Mac) (g : GroupKey) (rsc : ℕ) (ks : List Kept) (h : List Act) → map key_of ks ≡ memory p h
-    → map key_of (given g.key g.id rsc ks) ≡ memory p (give p b g h ∷ h)
+pub keys_given : (p : Node) (b : Mac) (g : GroupKey) (rsc : ℕ) (ks : List Kept) (h : List Act) → map key_of ks ≡ memory groups.Gtk p h
+    → map key_of (given g.key g.id rsc ks) ≡ memory groups.Gtk p (give groups.Gtk p b g h ∷ h)
 keys_given p b g rsc ks h is =
     ap (λ (x : Bool). map key_of (cond x (raised g.key rsc ks) (take 2 (record { key = g.key; id = g.id; counter = rsc } ∷ ks)))) (has_some g.key ks)
-    ∙ kept_by g.key g.id rsc ks (all_given p h) (kept_id g.key ks) is
-    ∙ ap (λ (o : Option GroupKey). take 2 (gave g o (all_given p h))) (sym (found_in p g.key ks h is))
-    ∙ ap (take 2) (sym (give_there p b g (find_key g.key (memory p h)) (all_given p h)))
+    ∙ kept_by g.key g.id rsc ks (all_given groups.Gtk p h) (kept_id g.key ks) is
+    ∙ ap (λ (o : Option GroupKey). take 2 (gave g o (all_given groups.Gtk p h))) (sym (found_in p g.key ks h is))
+    ∙ ap (take 2) (sym (give_there p b g (find_key g.key (memory groups.Gtk p h)) (all_given groups.Gtk p h)))

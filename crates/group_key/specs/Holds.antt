@@ -5,8 +5,9 @@ use Rattle.domain_base.specs.declared.names.Node.{Node}
 use Rattle.run_journal.specs.declared.acts.Act.{Act}
 use Rattle.run_journal.specs.Acts.{GroupKey as Carried}
 use Rattle.group_key.specs.declared.keys.GroupKey.{GroupKey}
-use Rattle.run_journal.specs.Questions.{gtks, switches}
+use Rattle.run_journal.specs.Questions.{group_keys, switches}
 use Rattle.domain_rules.specs.GroupKeys.{memory, got}
+use Rattle.run_journal.specs.GroupKinds as groups
 use Rattle.group_key.specs.Keys.{Pair, Kept, has_key, placed}
 
 -- of the group keys drawn, the last first, this is the last
@@ -17,8 +18,8 @@ pub record IsLast (k : GroupKey) (keys : List (List ℕ)) : Type 0 where
 
 -- at an access point: the newest is the one drawn last, the current the one made current last
 pub record Holds (s : Pair) (h : List Act) : Type 0 where
-  pub newest : IsLast s.newest (gtks h)
-  pub current : IsLast s.current (switches h)
+  pub newest : IsLast s.newest (group_keys groups.Gtk h)
+  pub current : IsLast s.current (switches groups.Gtk h)
 
 -- a group key of an access point as frames carry it
 abbrev pub carried : GroupKey → Carried
@@ -40,6 +41,6 @@ AreApart (k ∷ ks) = (has_key k.key ks ≡ false) × AreApart ks
 -- at a station: the last two group keys installed from access point p, each with the key id that it was installed with and the
 -- receive counter that the history puts it to
 pub record Remembers (p : Node) (ks : List Kept) (h : List Act) : Type 0 where
-  pub keys : map key_of ks ≡ memory p h
-  pub counters : AllByRecursion (λ (k : Kept). k.counter ≡ got p k.key k.id h) ks
+  pub keys : map key_of ks ≡ memory groups.Gtk p h
+  pub counters : AllByRecursion (λ (k : Kept). k.counter ≡ got groups.Gtk p k.key k.id h) ks
   pub apart : AreApart ks

@@ -6,7 +6,7 @@ ghost use Rattle.group_key.specs.Keys.{placed};
 use std::marker::Model;
 
 /// A group temporal key of an access point.
-#[derive(Clone, Copy, Debug, PartialEq, Eq)]
+#[derive(Clone, Copy)]
 pub struct GroupKey {
     /// Its number in the order of drawing, from 0.
     pub place: u64,
@@ -27,11 +27,11 @@ impl GroupKey {
 }
 
 /// The newest group key is not current yet.
-#[derive(Clone, Copy, Debug, PartialEq, Eq)]
+#[derive(Clone, Copy)]
 pub struct RekeyPending;
 
 /// The group key that an access point uses, and the one that it drew last.
-#[derive(Debug, Drop)]
+#[derive(Drop)]
 pub struct GroupKeys {
     current: GroupKey,
     newest: GroupKey,

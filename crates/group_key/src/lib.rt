@@ -4,8 +4,6 @@
 mod keys;
 mod laws;
 mod memory;
-#[cfg(test)]
-mod tests;
 
 pub use keys::{GroupKey, GroupKeys, RekeyPending};
 pub use laws::{keys_stand, memory_stands};

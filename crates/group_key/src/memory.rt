@@ -6,7 +6,7 @@ ghost use Rattle.group_key.specs.Keys.{Kept, has_key, kept_id, given, found, tak
 use std::marker::Model;
 
 /// What became of a group key that was given.
-#[derive(Clone, Copy, Debug, PartialEq, Eq)]
+#[derive(Clone, Copy)]
 pub enum Given {
     /// It is new here.
     Installed,
@@ -15,7 +15,7 @@ pub enum Given {
 }
 
 // A key that is kept.
-#[derive(Clone, Copy, Debug)]
+#[derive(Clone, Copy)]
 struct Remembered {
     key: [u8; 16],
     id: u8,
@@ -24,7 +24,7 @@ struct Remembered {
 
 /// The last two group keys that a station installed from one access point, each with its receive counter. Contracts see them
 /// as a list, the later first.
-#[derive(Debug, Drop)]
+#[derive(Drop)]
 pub struct GroupMemory {
     later: Option<Remembered>,
     earlier: Option<Remembered>,

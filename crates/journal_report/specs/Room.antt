@@ -3,7 +3,7 @@ use Rattle.std.specs.Prelude.{ℕ, ◌+◌, ◌*◌, List, [], ◌∷◌, ◌++�
 use Rattle.domain_base.specs.Names.{node_text}
 use Rattle.domain_base.specs.declared.names.Node.{Node}
 use Rattle.run_journal.specs.declared.acts.Act.{Act}
-use Rattle.run_journal.specs.declared.acts.Act.TheVariants.{Sent, Used, HandedUp}
+use Rattle.run_journal.specs.declared.acts.Act.TheVariants.{Opened, Closed, Sent, Used, HandedUp, Finished, GaveUp}
 use Rattle.run_journal.specs.declared.acts.Entry.{Entry}
 
 -- the octets that are handed up, where any are
@@ -14,6 +14,14 @@ payload_of _ = []
 -- two digits for each octet of a payload, and 128 for all the rest
 abbrev pub room_of : Entry → ℕ
 room_of e = 128 + 2 * length (payload_of e.act)
+
+-- an attempt or a session began, was finished or ended
+abbrev pub IsAttempt : Act → Type 0
+IsAttempt (Opened p s) = Unit {0}
+IsAttempt (Closed p t) = Unit {0}
+IsAttempt (Finished p i) = Unit {0}
+IsAttempt (GaveUp p m) = Unit {0}
+IsAttempt _ = ⊥
 
 -- a frame was sent, a packet number used or a payload handed up
 abbrev pub IsTraffic : Act → Type 0

@@ -11,8 +11,6 @@ mod outcome;
 mod pieces;
 mod report;
 mod summary;
-#[cfg(test)]
-mod tests;
 mod words;
 
 pub use line::{LINE_ROOM, line_fits, line_of};

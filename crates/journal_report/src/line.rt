@@ -2,7 +2,7 @@
 
 ghost use Rattle.std.specs.Prelude.{◌≡◌, ◌≤◌, ◌↔◌, ℕ, drop, length, take, IsTrue};
 ghost use Rattle.run_journal.specs.Report.{line};
-ghost use Rattle.journal_report.specs.Room.{IsTraffic, room_of, up_head};
+ghost use Rattle.journal_report.specs.Room.{IsAttempt, IsTraffic, room_of, up_head};
 ghost use Rattle.journal_report.specs.Writing.{Writes};
 
 use crate::layout::{put_line, put_pair, put_words};
@@ -42,17 +42,38 @@ pub fn line_of(entry: &Entry, out: &mut [u8]) -> usize
     let node = entry.node;
     match &entry.act {
         Act::Drew { .. } | Act::Derived { .. } => 0,
-        Act::Opened { peer, start } => {
-            put_pair(out, b"open", node, Word::Node(*peer), start_word(*start))
-        }
-        Act::Closed { peer, part } => {
-            put_pair(out, b"close", node, Word::Node(*peer), part_word(*part))
+        Act::Opened { .. } | Act::Closed { .. } | Act::Finished { .. } | Act::GaveUp { .. } => {
+            attempt_line(entry, out)
         }
         Act::Installed { peer, key } => {
             put_pair(out, b"install", node, Word::Peer(*peer), key_word(key))
         }
         Act::Resumed { peer, key } => {
             put_pair(out, b"resume", node, Word::Node(*peer), key_word(key))
+        }
+        Act::Took { kind, outcome, .. } => {
+            let words = [Word::Node(node), kind_word(*kind), Word::Outcome(*outcome)];
+            put_line(out, 0, b"took", &words)
+        }
+        Act::Idle { why } => put_line(out, 0, b"idle", &[Word::Node(node), why_word(*why)]),
+        Act::Sent { .. } | Act::Used { .. } | Act::HandedUp { .. } => traffic_line(entry, out),
+    }
+}
+
+// The line of an attempt or session that began, was finished or ended.
+fn attempt_line(entry: &Entry, out: &mut [u8]) -> usize
+    requires attempt { IsAttempt entry.now.act }
+    requires room { room_of entry.now ≤ length out.old }
+    ensures written { Writes (line entry.now) 0 out.old result out.new }
+    ensures short { result ≤ room_of entry.now }
+{
+    let node = entry.node;
+    match &entry.act {
+        Act::Opened { peer, start } => {
+            put_pair(out, b"open", node, Word::Node(*peer), start_word(*start))
+        }
+        Act::Closed { peer, part } => {
+            put_pair(out, b"close", node, Word::Node(*peer), part_word(*part))
         }
         Act::Finished { peer, .. } => {
             put_line(out, 0, b"finish", &[Word::Node(node), Word::Node(*peer)])
@@ -61,12 +82,7 @@ pub fn line_of(entry: &Entry, out: &mut [u8]) -> usize
             let message = message_word(*message);
             put_pair(out, b"gave-up", node, Word::Node(*peer), message)
         }
-        Act::Took { kind, outcome, .. } => {
-            let words = [Word::Node(node), kind_word(*kind), Word::Outcome(*outcome)];
-            put_line(out, 0, b"took", &words)
-        }
-        Act::Idle { why } => put_line(out, 0, b"idle", &[Word::Node(node), why_word(*why)]),
-        Act::Sent { .. } | Act::Used { .. } | Act::HandedUp { .. } => traffic_line(entry, out),
+        _ => unreachable!(),
     }
 }
 

@@ -1,6 +1,8 @@
 //! What came of a frame, in words.
 
-ghost use Rattle.std.specs.Prelude.{◌≡◌, ◌≤◌, ◌+◌, decimal, length};
+ghost use Rattle.std.specs.Prelude.{◌≡◌, ◌≢◌, ◌≤◌, ◌+◌, decimal, length, MatchOption};
+ghost use Rattle.run_journal.specs.declared.acts.Malformed.{Malformed as AnyMalformed};
+ghost use Rattle.run_journal.specs.declared.acts.Reason.TheVariants as reasons;
 ghost use Rattle.run_journal.specs.Report.{air_fault_text, key_data_code, malformed_text, numbered, outcome_text, reason_text};
 ghost use Rattle.journal_report.specs.Writing.{Writes};
 
@@ -39,33 +41,46 @@ pub(crate) fn put_outcome(out: &mut [u8], at: usize, outcome: Outcome) -> usize
     }
 }
 
+// What the reason is called, and the number that it tells, where it tells one.
+fn reason_words(reason: Reason) -> (&'static [u8], Option<u64>)
+    requires { (malformed : AnyMalformed) → reason ≢ reasons.Malformed malformed }
+    ensures text { MatchOption result.1 (reason_text reason ≡ result.0.now) (λ n. reason_text reason ≡ numbered result.0.now n) }
+    ensures short { length result.0.now ≤ 14 }
+{
+    match reason {
+        Reason::Malformed(_) => unreachable!(),
+        Reason::OutOfProfile(code) => (b"out-of-profile", Some(u64::from(code))),
+        Reason::NotForMe => (b"not-for-me", None),
+        Reason::UnknownPeer => (b"unknown-peer", None),
+        Reason::Unawaited => (b"unawaited", None),
+        Reason::Counter(kept) => (b"counter", Some(kept)),
+        Reason::Nonce => (b"nonce", None),
+        Reason::Mic => (b"mic", None),
+        Reason::Wrap => (b"wrap", None),
+        Reason::KeyData(fault) => (b"key-data", Some(key_data_number(fault))),
+        Reason::Status(code) => (b"status", Some(u64::from(code))),
+        Reason::NoHolder => (b"no-holder", None),
+        Reason::Name => (b"name", None),
+        Reason::NoKey => (b"no-key", None),
+        Reason::Replayed(kept) => (b"replayed", Some(kept)),
+        Reason::Seal => (b"seal", None),
+        Reason::Spent => (b"spent", None),
+    }
+}
+
 // The reason, and what it tells.
 fn put_reason(out: &mut [u8], at: usize, reason: Reason) -> usize
     requires { at + REASON_ROOM ≤ length out.old }
     ensures written { Writes (reason_text reason) at out.old result out.new }
     ensures short { result ≤ at + REASON_ROOM }
 {
-    match reason {
-        Reason::Malformed(malformed) => {
-            let at = put(out, at, b"malformed ");
-            put_malformed(out, at, malformed)
-        }
-        Reason::OutOfProfile(code) => put_numbered(out, at, b"out-of-profile", u64::from(code)),
-        Reason::NotForMe => put(out, at, b"not-for-me"),
-        Reason::UnknownPeer => put(out, at, b"unknown-peer"),
-        Reason::Unawaited => put(out, at, b"unawaited"),
-        Reason::Counter(kept) => put_numbered(out, at, b"counter", kept),
-        Reason::Nonce => put(out, at, b"nonce"),
-        Reason::Mic => put(out, at, b"mic"),
-        Reason::Wrap => put(out, at, b"wrap"),
-        Reason::KeyData(fault) => put_numbered(out, at, b"key-data", key_data_number(fault)),
-        Reason::Status(code) => put_numbered(out, at, b"status", u64::from(code)),
-        Reason::NoHolder => put(out, at, b"no-holder"),
-        Reason::Name => put(out, at, b"name"),
-        Reason::NoKey => put(out, at, b"no-key"),
-        Reason::Replayed(kept) => put_numbered(out, at, b"replayed", kept),
-        Reason::Seal => put(out, at, b"seal"),
-        Reason::Spent => put(out, at, b"spent"),
+    if let Reason::Malformed(malformed) = reason {
+        let at = put(out, at, b"malformed ");
+        return put_malformed(out, at, malformed);
+    }
+    match reason_words(reason) {
+        (word, Some(number)) => put_numbered(out, at, word, number),
+        (word, None) => put(out, at, word),
     }
 }
 

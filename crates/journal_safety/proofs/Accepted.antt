@@ -23,11 +23,15 @@ use Rattle.run_journal.specs.declared.acts.Outcome.TheVariants.{Accepted, Answer
 use Rattle.run_journal.specs.declared.acts.Act.{Act}
 use Rattle.run_journal.specs.declared.acts.Act.TheVariants.{Derived}
 use Rattle.run_journal.specs.Acts.{Derivation}
-use Rattle.run_journal.specs.Questions.{attempt, since, derivation, session}
+use Rattle.run_journal.specs.Questions.{attempt, since, derivation, session, chain, draws}
 use Rattle.run_journal.specs.Premises.{In}
 use Rattle.domain_rules.specs.Network.{address, peer_of, is_ap, direction, goes_like, IsListed}
 use Rattle.domain_rules.specs.Reading.{KeyMessage, Keyed, HasMessage}
-use Rattle.domain_rules.specs.Verdict.{Facts, Keying, above, verified, by_connect, has_heard, kept_counter, keying_by, session_keying, attempt_keying, m3_keying, m4_keying, taken_in, m3_verdict_by, is_mine, from_peer, key_verdict, first_verdict, m3_wrapped, further, and_then, unless_refused, verdict, ComesSoFar, IsUnwrapped, ReadsKeyData, KnowsOf, KnowsFrom, Knows, KnowsM3}
+use Rattle.domain_rules.specs.Facts.{Facts, IsUnwrapped, ReadsKeyData}
+use Rattle.domain_rules.specs.StationKeys.{Keying, keying_by, session_keying, attempt_keying, m3_keying, taken_in, m3_verdict_by, m3_wrapped, KnowsM3}
+use Rattle.domain_rules.specs.Asking.{above, verified, by_connect, has_heard, kept_counter}
+use Rattle.domain_rules.specs.AccessPointKeys.{m4_keying}
+use Rattle.domain_rules.specs.Verdict.{is_mine, from_peer, key_verdict, first_verdict, further, and_then, unless_refused, verdict, ComesSoFar, KnowsOf, KnowsFrom, Knows}
 use Rattle.domain_rules.proofs.Parts.{in_part}
 use Rattle.domain_rules.proofs.Peers.{IsPeer, peer_is}
 use Rattle.journal_safety.proofs.Legal.{ack}
@@ -63,38 +67,39 @@ pub record Sender (d : Domain) (n : Node) (h : List Act) (k : KeyMessage) (o : O
   pub p : Node
   pub mine : is_mine d n k.header ≡ true
   pub from : peer_of d n k.header.a2 ≡ Some p
-  pub is : key_verdict d n h p k.message k ≡ o
+  pub drawn : ℕ
+  pub is : key_verdict d drawn n h p k k.message ≡ o
 
 mine_by : (a b : Bool) → (not a || b) ≡ false → a ≡ true
 mine_by true b e = refl
 mine_by false b e = cc
 
-sender_peer : (d : Domain) (n : Node) (h : List Act) (k : KeyMessage) (o : Outcome) → ComesSoFar o → is_mine d n k.header ≡ true → (q : Option Node) → peer_of d n k.header.a2 ≡ q → from_peer q (λ p. key_verdict d n h p k.message k) ≡ o → Sender d n h k o
-sender_peer d n h k o c mine None is e = absurd (comes_as (Refused reason.UnknownPeer) o e c)
-sender_peer d n h k o c mine (Some p) is e = record { p = p; mine = mine; from = is; is = e }
+sender_peer : (d : Domain) (drawn : ℕ) (n : Node) (h : List Act) (k : KeyMessage) (o : Outcome) → ComesSoFar o → is_mine d n k.header ≡ true → (q : Option Node) → peer_of d n k.header.a2 ≡ q → from_peer q (λ p. key_verdict d drawn n h p k k.message) ≡ o → Sender d n h k o
+sender_peer d drawn n h k o c mine None is e = absurd (comes_as (Refused reason.UnknownPeer) o e c)
+sender_peer d drawn n h k o c mine (Some p) is e = record { p = p; mine = mine; from = is; drawn = drawn; is = e }
 
-sender_by : (d : Domain) (n : Node) (h : List Act) (k : KeyMessage) (o : Outcome) → ComesSoFar o → (b : Bool) → (not (is_mine d n k.header) || goes_like k.direction (direction n)) ≡ b
-    → cond b (Refused reason.NotForMe) (from_peer (peer_of d n k.header.a2) (λ p. key_verdict d n h p k.message k)) ≡ o → Sender d n h k o
-sender_by d n h k o c true is e = absurd (comes_as (Refused reason.NotForMe) o e c)
-sender_by d n h k o c false is e = sender_peer d n h k o c (mine_by (is_mine d n k.header) (goes_like k.direction (direction n)) is) (peer_of d n k.header.a2) refl e
+sender_by : (d : Domain) (drawn : ℕ) (n : Node) (h : List Act) (k : KeyMessage) (o : Outcome) → ComesSoFar o → (b : Bool) → (not (is_mine d n k.header) || goes_like k.direction (direction n)) ≡ b
+    → cond b (Refused reason.NotForMe) (from_peer (peer_of d n k.header.a2) (λ p. key_verdict d drawn n h p k k.message)) ≡ o → Sender d n h k o
+sender_by d drawn n h k o c true is e = absurd (comes_as (Refused reason.NotForMe) o e c)
+sender_by d drawn n h k o c false is e = sender_peer d drawn n h k o c (mine_by (is_mine d n k.header) (goes_like k.direction (direction n)) is) (peer_of d n k.header.a2) refl e
 
 sender_of : (d : Domain) (first : ℕ) (n : Node) (h : List Act) (k : KeyMessage) (o : Outcome) → ComesSoFar o → first_verdict d first n h (Keyed k) ≡ o → Sender d n h k o
-sender_of d first n h k o c e = sender_by d n h k o c (not (is_mine d n k.header) || goes_like k.direction (direction n)) refl e
+sender_of d first n h k o c e = sender_by d (first + draws h) n h k o c (not (is_mine d n k.header) || goes_like k.direction (direction n)) refl e
 
 -- the direction is that of the other side
-key_role : (d : Domain) (n : Node) (h : List Act) (p : Node) (m : Message) (k : KeyMessage) (o : Outcome) → ComesSoFar o → key_verdict d n h p m k ≡ o → ack m ≡ not (is_ap n)
-key_role d (Sta s) h p M1 k o c e = refl
-key_role d (Ap a) h p M2 k o c e = refl
-key_role d (Sta s) h p M3 k o c e = refl
-key_role d (Ap a) h p M4 k o c e = refl
-key_role d (Ap a) h p M1 k o c e = absurd (comes_as _ o e c)
-key_role d (Sta s) h p M2 k o c e = absurd (comes_as _ o e c)
-key_role d (Ap a) h p M3 k o c e = absurd (comes_as _ o e c)
-key_role d (Sta s) h p M4 k o c e = absurd (comes_as _ o e c)
-key_role d (Ap a) h p G1 k o c e = absurd (comes_as _ o e c)
-key_role d (Sta s) h p G1 k o c e = absurd (comes_as _ o e c)
-key_role d (Ap a) h p G2 k o c e = absurd (comes_as _ o e c)
-key_role d (Sta s) h p G2 k o c e = absurd (comes_as _ o e c)
+key_role : (d : Domain) (drawn : ℕ) (n : Node) (h : List Act) (p : Node) (k : KeyMessage) (m : Message) (o : Outcome) → ComesSoFar o → key_verdict d drawn n h p k m ≡ o → ack m ≡ not (is_ap n)
+key_role d drawn (Sta s) h p k M1 o c e = refl
+key_role d drawn (Ap a) h p k M2 o c e = refl
+key_role d drawn (Sta s) h p k M3 o c e = refl
+key_role d drawn (Ap a) h p k M4 o c e = refl
+key_role d drawn (Ap a) h p k M1 o c e = absurd (comes_as _ o e c)
+key_role d drawn (Sta s) h p k M2 o c e = absurd (comes_as _ o e c)
+key_role d drawn (Ap a) h p k M3 o c e = absurd (comes_as _ o e c)
+key_role d drawn (Sta s) h p k M4 o c e = absurd (comes_as _ o e c)
+key_role d drawn (Ap a) h p k G1 o c e = absurd (comes_as _ o e c)
+key_role d drawn (Sta s) h p k G1 o c e = absurd (comes_as _ o e c)
+key_role d drawn (Ap a) h p k G2 o c e = absurd (comes_as _ o e c)
+key_role d drawn (Sta s) h p k G2 o c e = absurd (comes_as _ o e c)
 
 -- an address in a frame is there
 pub some_address : (akm : Akm) (octets : List ℕ) (k : KeyMessage) → HasMessage akm octets k → 1 ≤ length k.header.a1
@@ -112,7 +117,8 @@ pub record Taken (d : Domain) (n p : Node) (h : List Act) (k : KeyMessage) (o : 
   pub listed : IsListed d n
   pub peer_listed : IsListed d p
   pub from : peer_of d n k.header.a2 ≡ Some p
-  pub is : key_verdict d n h p k.message k ≡ o
+  pub drawn : ℕ
+  pub is : key_verdict d drawn n h p k k.message ≡ o
 
 taken_by : (d : Domain) (first : ℕ) (n p : Node) (h : List Act) (octets : List ℕ) (k : KeyMessage) (o : Outcome) → ComesSoFar o → HasMessage d.akm octets k → peer_of d n k.header.a2 ≡ Some p → first_verdict d first n h (Keyed k) ≡ o → Taken d n p h k o
 taken_by d first n p h octets k o c has from e =
@@ -120,13 +126,14 @@ taken_by d first n p h octets k o c has from e =
     let one : s.p ≡ p = cc (s.from, from) in
     let peer : IsPeer d n p k.header.a2 = peer_is d n p k.header.a2 from in
     let mine : k.header.a1 ≡ address d n = (bytes_eq-Decides k.header.a1 (address d n)).0 s.mine in
-    let is : key_verdict d n h p k.message k ≡ o = subst (λ (x : Node). key_verdict d n h x k.message k ≡ o) one s.is in
+    let is : key_verdict d s.drawn n h p k k.message ≡ o = subst (λ (x : Node). key_verdict d s.drawn n h x k k.message ≡ o) one s.is in
     record {
-      direction = key_role d n h p k.message k o c is;
+      direction = key_role d s.drawn n h p k k.message o c is;
       roles = peer.other;
       listed = listed_by d n (subst (λ (x : List ℕ). 1 ≤ length x) mine (some_address d.akm octets k has));
       peer_listed = peer.listed;
       from = from;
+      drawn = s.drawn;
       is = is;
     }
 
@@ -158,36 +165,36 @@ taken_as : (b : Bool) → taken_in b ≡ Accepted → b ≡ false
 taken_as false e = refl
 taken_as true e = cc
 
-m3_first : (d : Domain) (p : Node) (k : KeyMessage) (y : Keying) → m3_verdict_by d p k (Some y) ≡ Accepted → y.is_session ≡ false
-m3_first d p k y e = taken_as y.is_session (verified_as _ (taken_in y.is_session) (nonce_as _ (verified d.akm y.ptk.kck k (taken_in y.is_session)) (above_as (kept_counter p y.part) k.fields.counter _ e)))
+m3_first : (d : Domain) (kept : Option ℕ) (k : KeyMessage) (y : Keying) → m3_verdict_by d kept k (Some y) ≡ Accepted → y.is_session ≡ false
+m3_first d kept k y e = taken_as y.is_session (verified_as _ (taken_in y.is_session) (nonce_as _ (verified d.akm y.key.ptk.kck k (taken_in y.is_session)) (above_as kept k.fields.counter _ e)))
 
-m3_attempt : (d : Domain) (n : Node) (h : List Act) (p : Node) (k : KeyMessage) (y : Keying) → key_verdict d n h p M3 k ≡ Accepted → m3_keying p h ≡ Some y → y.is_session ≡ false
-m3_attempt d (Sta s) h p k y e is = m3_first d p k y (subst (λ (x : Option Keying). m3_verdict_by d p k x ≡ Accepted) is e)
-m3_attempt d (Ap a) h p k y e is = cc
+m3_attempt : (d : Domain) (drawn : ℕ) (n : Node) (h : List Act) (p : Node) (k : KeyMessage) (y : Keying) → key_verdict d drawn n h p k M3 ≡ Accepted → m3_keying p h ≡ Some y → y.is_session ≡ false
+m3_attempt d drawn (Sta s) h p k y e is = m3_first d (kept_counter p (chain p h)) k y (subst (λ (x : Option Keying). m3_verdict_by d (kept_counter p (chain p h)) k x ≡ Accepted) is e)
+m3_attempt d drawn (Ap a) h p k y e is = cc
 
 -- the key by which an M3 is judged was derived, and in an attempt it is the last one of it
-by_derivation : (part : List Act) (b : Bool) (o : Option Derivation) (y : Keying) → keying_by part b o ≡ Some y → (o ≡ Some (record { inputs = y.inputs; ptk = y.ptk })) × (y.is_session ≡ b)
-by_derivation part b None y e = cc
-by_derivation part b (Some x) y e =
-    let one : record { inputs = x.inputs; ptk = x.ptk; part = part; is_session = b } ≡ y = cc e in
-    (ap (λ (z : Keying). Some (record { inputs = z.inputs; ptk = z.ptk })) one, ap (λ (z : Keying). z.is_session) (sym one))
+by_derivation : (b : Bool) (o : Option Derivation) (y : Keying) → keying_by b o ≡ Some y → (o ≡ Some y.key) × (y.is_session ≡ b)
+by_derivation b None y e = cc
+by_derivation b (Some x) y e =
+    let one : record { key = x; is_session = b } ≡ y = cc e in
+    (ap (λ (z : Keying). Some z.key) one, ap (λ (z : Keying). z.is_session) (sym one))
 
 pub record KeyingIn (p : Node) (h : List Act) (y : Keying) : Type 0 where
-  pub there : In (Derived p y.inputs y.ptk) h
-  pub awaited : y.is_session ≡ false → (part : List Act) × ((attempt p h ≡ Some part) × (derivation p part ≡ Some (record { inputs = y.inputs; ptk = y.ptk })))
+  pub there : In (Derived p y.key.inputs y.key.ptk) h
+  pub awaited : y.is_session ≡ false → (part : List Act) × ((attempt p h ≡ Some part) × (derivation p part ≡ Some y.key))
 
-in_session : (p : Node) (h : List Act) (y : Keying) (b : Bool) → cond b (keying_by (since p h) true (session p h)) None ≡ Some y → KeyingIn p h y
+in_session : (p : Node) (h : List Act) (y : Keying) (b : Bool) → cond b (keying_by true (session p h)) None ≡ Some y → KeyingIn p h y
 in_session p h y false e = cc
 in_session p h y true e =
-    let w = by_derivation (since p h) true (session p h) y e in
-    record { there = session_in p h (record { inputs = y.inputs; ptk = y.ptk }) w.0; awaited = λ no. (let z : y.is_session ≡ true = w.1 in cc (no, z)) }
+    let w = by_derivation true (session p h) y e in
+    record { there = session_in p h y.key w.0; awaited = λ no. (let z : y.is_session ≡ true = w.1 in cc (no, z)) }
 
-in_attempt_by : (p : Node) (h part : List Act) (y : Keying) → attempt p h ≡ Some part → (b c : Bool) → cond b (cond c (keying_by part false (derivation p part)) None) (session_keying p h) ≡ Some y → KeyingIn p h y
+in_attempt_by : (p : Node) (h part : List Act) (y : Keying) → attempt p h ≡ Some part → (b c : Bool) → cond b (cond c (keying_by false (derivation p part)) None) (session_keying p h) ≡ Some y → KeyingIn p h y
 in_attempt_by p h part y a false c e = in_session p h y (by_connect (since p h)) e
 in_attempt_by p h part y a true false e = cc
 in_attempt_by p h part y a true true e =
-    let w = by_derivation part false (derivation p part) y e in
-    record { there = in_part p h part (Derived p y.inputs y.ptk) a (derivation_in p part (record { inputs = y.inputs; ptk = y.ptk }) w.0); awaited = λ no. (part, (a, w.0)) }
+    let w = by_derivation false (derivation p part) y e in
+    record { there = in_part p h part (Derived p y.key.inputs y.key.ptk) a (derivation_in p part y.key w.0); awaited = λ no. (part, (a, w.0)) }
 
 keying_in_by : (p : Node) (h : List Act) (y : Keying) (o : Option (List Act)) → attempt p h ≡ o → attempt_keying p h o ≡ Some y → KeyingIn p h y
 keying_in_by p h y None a e = in_session p h y (by_connect (since p h)) e
@@ -200,23 +207,23 @@ keying_in p h y e = keying_in_by p h y (attempt p h) refl e
 pub record Unwrapped (y : Keying) (k : KeyMessage) (facts : Facts) : Type 0 where
   pub plain : List ℕ
   pub e : ElementFields
-  pub wraps : Wraps y.ptk.kek plain k.fields.key_data
+  pub wraps : Wraps y.key.ptk.kek plain k.fields.key_data
   pub spelled : SpellsElements KeyData plain e
   pub is : facts.data_ ≡ Some e
 
-unwrapped_by : (d : Domain) (y : Keying) (k : KeyMessage) (facts : Facts) → KnowsM3 y.ptk.kek k facts → ((why : Reason) → m3_wrapped d.akm facts.unwrapped facts.data_ ≡ Refused why → ⊥) → (u : Option (List ℕ)) → facts.unwrapped ≡ u → (o : Option ElementFields) → facts.data_ ≡ o → Unwrapped y k facts
+unwrapped_by : (d : Domain) (y : Keying) (k : KeyMessage) (facts : Facts) → KnowsM3 y.key.ptk.kek k facts → ((why : Reason) → m3_wrapped d.akm facts.unwrapped facts.data_ ≡ Refused why → ⊥) → (u : Option (List ℕ)) → facts.unwrapped ≡ u → (o : Option ElementFields) → facts.data_ ≡ o → Unwrapped y k facts
 unwrapped_by d y k facts knows unrefused None is o none = absurd (unrefused reason.Wrap (rw is refl))
 unwrapped_by d y k facts knows unrefused (Some plain) is None none = absurd (unrefused (reason.KeyData key_data.Unreadable) (rw (is, none) refl))
 unwrapped_by d y k facts knows unrefused (Some plain) is (Some e) said = record {
   plain = plain;
   e = e;
-  wraps = (subst (λ (x : Option (List ℕ)). IsUnwrapped y.ptk.kek k.fields.key_data x) is knows.unwrapped).1;
+  wraps = (subst (λ (x : Option (List ℕ)). IsUnwrapped y.key.ptk.kek k.fields.key_data x) is knows.unwrapped).1;
   spelled = subst (λ (x : Option ElementFields). ReadsKeyData plain x) said (knows.data_ plain is);
   is = said;
 }
 
 -- the facts are known of a message that came so far
-knows_m3 : (d : Domain) (first : ℕ) (n p : Node) (h : List Act) (k : KeyMessage) (facts : Facts) (y : Keying) → k.message ≡ M3 → peer_of d n k.header.a2 ≡ Some p → first_verdict d first n h (Keyed k) ≡ Accepted → Knows d first n h (Keyed k) facts → m3_keying p h ≡ Some y → KnowsM3 y.ptk.kek k facts
+knows_m3 : (d : Domain) (first : ℕ) (n p : Node) (h : List Act) (k : KeyMessage) (facts : Facts) (y : Keying) → k.message ≡ M3 → peer_of d n k.header.a2 ≡ Some p → first_verdict d first n h (Keyed k) ≡ Accepted → Knows d first n h (Keyed k) facts → m3_keying p h ≡ Some y → KnowsM3 y.key.ptk.kek k facts
 knows_m3 d first n p h k facts y m3 from e knows awaited =
     let all : KnowsFrom d n h (Keyed k) facts = knows (comes_as (first_verdict d first n h (Keyed k)) Accepted e tt) in
     subst (λ (m : Message). KnowsOf d.akm h p m k facts) m3 (all p from) y awaited
@@ -229,7 +236,7 @@ unwrapped_m3 d first n p h k facts y m3 from e knows awaited =
     facts.unwrapped refl facts.data_ refl
 
 pub awaited_m3 : (d : Domain) (n p : Node) (h : List Act) (k : KeyMessage) (y : Keying) → k.message ≡ M3 → Taken d n p h k Accepted → m3_keying p h ≡ Some y → y.is_session ≡ false
-awaited_m3 d n p h k y m3 t awaited = m3_attempt d n h p k y (subst (λ (m : Message). key_verdict d n h p m k ≡ Accepted) m3 t.is) awaited
+awaited_m3 d n p h k y m3 t awaited = m3_attempt d t.drawn n h p k y (subst (λ (m : Message). key_verdict d t.drawn n h p k m ≡ Accepted) m3 t.is) awaited
 
 -- ---- M4
 

@@ -15,16 +15,16 @@ use Rattle.run_journal.specs.declared.acts.Act.{Act}
 use Rattle.run_journal.specs.declared.acts.Act.TheVariants.{Drew, Installed}
 use Rattle.run_journal.specs.declared.acts.Entry.{Entry}
 use Rattle.run_journal.specs.Acts.{same, GroupKey, given_from, switched}
-use Rattle.run_journal.specs.Questions.{history, listed, given, gtks, switches}
+use Rattle.run_journal.specs.Questions.{history, listed, given, group_keys, switches}
 use Rattle.run_journal.specs.Premises.{In}
 use Rattle.domain_rules.specs.Network.{is_ap}
 use Rattle.domain_rules.specs.GroupKeys.{find_key}
-use Rattle.domain_rules.specs.Rows.{carried}
+use Rattle.domain_rules.specs.StationRows.{carried}
 use Rattle.domain_rules.proofs.Parts.{same-true, same-refl}
 use Rattle.domain_rules.proofs.CarriedKey.{one_carried}
-use Rattle.journal_safety.proofs.Covers.{covered_message}
+use Rattle.run_journal.specs.GroupKinds as groups
 use Rattle.journal_safety.proofs.Ends.{history_tail}
-use Rattle.journal_safety.proofs.Legal.{ack, Carries, CarriesM3, LegalGroup, LegalCurrent}
+use Rattle.journal_safety.proofs.Legal.{goes_down, ack, Carries, CarriesM3, LegalGroup, LegalCurrent}
 use Rattle.journal_safety.proofs.Histories.{gtk_drew, gtks_tail, few_gtks, one_gtk}
 use Rattle.journal_safety.proofs.Runs.{legal_history}
 use Rattle.journal_safety.proofs.Places.{Good, good_tail, at_of, legal_at, earlier_tail, draws_of, one_drawer}
@@ -32,14 +32,14 @@ use Rattle.journal_safety.proofs.Seals.{sealed_by, sealed_tail}
 
 -- ---- the key of a station's installation was drawn by the access point
 
-pub group_drawn : (d : Domain) (s p : Node) (g : List ℕ) (past : List Entry) → Good d past → LegalGroup s (history s past) p g → In g (gtks (history p past))
+pub group_drawn : (d : Domain) (s p : Node) (g : List ℕ) (past : List Entry) → Good d past → LegalGroup s (history s past) p g → In g (group_keys groups.Gtk (history p past))
 group_drawn d s p g past good v =
-    let direction : ack (covered_message v.covered) ≡ not (is_ap s) = ap ack v.message ∙ ap not (sym v.station) in
+    let direction : goes_down v.covered ≡ not (is_ap s) = ap ack v.message ∙ ap not (sym v.station) in
     let w = sealed_by d s p v.i v.from v.octets v.kind v.outcome v.covered past good v.derived v.took direction in
     let c : CarriesM3 d (history p w.earlier) v.i v.covered = subst (λ (m : Message). Carries d (history p w.earlier) v.i v.covered m) v.message w.carries in
     let one : carried (Some v.e) ≡ c.key = one_carried d v.i c.key v.plain v.e c.is (subst (λ (x : List ℕ). Wraps (ptk v.i).kek v.plain x) c.load v.wraps) v.spelled in
     let key : c.key.key ≡ g = ap (λ (x : GroupKey). x.key) (sym one) ∙ v.key in
-    gtks_tail g (history p w.earlier) (history p past) (history_tail p w.earlier past (sealed_tail d s p v.i v.covered past w)) (subst (λ (x : List ℕ). In x (gtks (history p w.earlier))) key c.drawn)
+    gtks_tail g (history p w.earlier) (history p past) (history_tail p w.earlier past (sealed_tail d s p v.i v.covered past w)) (subst (λ (x : List ℕ). In x (group_keys groups.Gtk (history p w.earlier))) key c.drawn)
 
 -- ---- the keys that a station was given
 
@@ -50,12 +50,12 @@ given_same p q g id b x true s e =
     ap (λ (y : Node). Installed (One y) (Group g id b)) to ∙ ap (λ (y : GroupKey). Installed (One p) (Group y.key y.id b)) one
 given_same p q g id b x false s e = cc
 
-given-is : (p : Node) (e : Act) (x : GroupKey) → given_from p e ≡ Some x → (b : Mac) × (e ≡ Installed (One p) (Group x.key x.id b))
+given-is : (p : Node) (e : Act) (x : GroupKey) → given_from groups.Gtk p e ≡ Some x → (b : Mac) × (e ≡ Installed (One p) (Group x.key x.id b))
 given-is p (Installed (One q) (Group g id b)) x is = (b, given_same p q g id b x (same p q) refl is)
 given-is p _ x is = cc
 
 -- the last of them is an installation of the history
-given_by : (p : Node) (e : Act) (h : List Act) (x : GroupKey) (xs : List GroupKey) → ((given p h ≡ x ∷ xs) → (b : Mac) × In (Installed (One p) (Group x.key x.id b)) h) → (o : Option GroupKey) → given_from p e ≡ o → listed o (given p h) ≡ x ∷ xs
+given_by : (p : Node) (e : Act) (h : List Act) (x : GroupKey) (xs : List GroupKey) → ((given groups.Gtk p h ≡ x ∷ xs) → (b : Mac) × In (Installed (One p) (Group x.key x.id b)) h) → (o : Option GroupKey) → given_from groups.Gtk p e ≡ o → listed o (given groups.Gtk p h) ≡ x ∷ xs
     → (b : Mac) × In (Installed (One p) (Group x.key x.id b)) (e ∷ h)
 given_by p e h x xs more None is s = let w = more s in (w.0, inr w.1)
 given_by p e h x xs more (Some y) is s =
@@ -63,21 +63,21 @@ given_by p e h x xs more (Some y) is s =
     let w = given-is p e x (is ∙ ap Some one) in
     (w.0, inl (sym w.1))
 
-given_in : (p : Node) (h : List Act) (x : GroupKey) (xs : List GroupKey) → given p h ≡ x ∷ xs → (b : Mac) × In (Installed (One p) (Group x.key x.id b)) h
+given_in : (p : Node) (h : List Act) (x : GroupKey) (xs : List GroupKey) → given groups.Gtk p h ≡ x ∷ xs → (b : Mac) × In (Installed (One p) (Group x.key x.id b)) h
 given_in p [] x xs s = cc
-given_in p (e ∷ h) x xs s = given_by p e h x xs (given_in p h x xs) (given_from p e) refl s
+given_in p (e ∷ h) x xs s = given_by p e h x xs (given_in p h x xs) (given_from groups.Gtk p e) refl s
 
 listed_some : (e : Act) (xs : List GroupKey) (o : Option GroupKey) → (xs ≡ [] → ⊥) → listed o xs ≡ [] → ⊥
 listed_some e xs None some is = some is
 listed_some e xs (Some x) some is = cc is
 
 -- where something was installed something was given
-given_some : (p : Node) (g : List ℕ) (id : ℕ) (b : Mac) (h : List Act) → In (Installed (One p) (Group g id b)) h → given p h ≡ [] → ⊥
+given_some : (p : Node) (g : List ℕ) (id : ℕ) (b : Mac) (h : List Act) → In (Installed (One p) (Group g id b)) h → given groups.Gtk p h ≡ [] → ⊥
 given_some p g id b [] there is = there
 given_some p g id b (e ∷ h) (inl here) is =
-    let w : given_from p e ≡ Some (record { key = g; id = id }) = subst (λ (x : Act). given_from p x ≡ Some (record { key = g; id = id })) here (rw same-refl refl) in
-    let z : listed (Some (record { key = g; id = id })) (given p h) ≡ [] = subst (λ (o : Option GroupKey). listed o (given p h) ≡ []) w is in cc z
-given_some p g id b (e ∷ h) (inr later) is = listed_some e (given p h) (given_from p e) (given_some p g id b h later) is
+    let w : given_from groups.Gtk p e ≡ Some (record { key = g; id = id }) = subst (λ (x : Act). given_from groups.Gtk p x ≡ Some (record { key = g; id = id })) here (rw same-refl refl) in
+    let z : listed (Some (record { key = g; id = id })) (given groups.Gtk p h) ≡ [] = subst (λ (o : Option GroupKey). listed o (given groups.Gtk p h) ≡ []) w is in cc z
+given_some p g id b (e ∷ h) (inr later) is = listed_some e (given groups.Gtk p h) (given_from groups.Gtk p e) (given_some p g id b h later) is
 
 -- ---- each key that came from one access point is the one that it drew
 
@@ -85,7 +85,7 @@ found_by : (g : List ℕ) (x : GroupKey) (xs : List GroupKey) (c : Bool) → byt
 found_by g x xs true is e none = cc none
 found_by g x xs false is e none = let w = (bytes_eq-Decides g x.key).1 e in cc (is, w)
 
-known : (d : Domain) (s p : Node) (g : List ℕ) (past : List Entry) → Good d past → LegalGroup s (history s past) p g → (x : GroupKey) (xs : List GroupKey) → given p (history s past) ≡ x ∷ xs → g ≡ x.key
+known : (d : Domain) (s p : Node) (g : List ℕ) (past : List Entry) → Good d past → LegalGroup s (history s past) p g → (x : GroupKey) (xs : List GroupKey) → given groups.Gtk p (history s past) ≡ x ∷ xs → g ≡ x.key
 known d s p g past good v x xs is =
     let last = given_in p (history s past) x xs is in
     let act : Act = Installed (One p) (Group x.key x.id last.0) in
@@ -95,7 +95,7 @@ known d s p g past good v x xs is =
     let theirs = group_drawn d s p x.key w.earlier (good_tail d w.earlier past t good) old in
     one_gtk d p g x.key (history p past) (legal_history d p past good.legal) (group_drawn d s p g past good v) (gtks_tail x.key (history p w.earlier) (history p past) (history_tail p w.earlier past t) theirs)
 
-not_again : (d : Domain) (s p : Node) (g : List ℕ) (id : ℕ) (b : Mac) (past : List Entry) → Good d past → LegalGroup s (history s past) p g → In (Installed (One p) (Group g id b)) (history s past) → (xs : List GroupKey) → given p (history s past) ≡ xs → ⊥
+not_again : (d : Domain) (s p : Node) (g : List ℕ) (id : ℕ) (b : Mac) (past : List Entry) → Good d past → LegalGroup s (history s past) p g → In (Installed (One p) (Group g id b)) (history s past) → (xs : List GroupKey) → given groups.Gtk p (history s past) ≡ xs → ⊥
 not_again d s p g id b past good v there [] is = given_some p g id b (history s past) there is
 not_again d s p g id b past good v there (x ∷ xs) is =
     let none : find_key g (take 2 (x ∷ xs)) ≡ None = subst (λ (y : List GroupKey). find_key g (take 2 y) ≡ None) is v.new in
@@ -111,16 +111,16 @@ group_once d s p q g id b past good v there =
     let theirs = gtks_tail g (history q w.earlier) (history q past) (history_tail q w.earlier past t) (group_drawn d s q g w.earlier (good_tail d w.earlier past t good) old) in
     let ours = group_drawn d s p g past good v in
     let one : q ≡ p = one_drawer q p g past good.fresh (draws_of q (Drew (Gtk g)) g past refl (gtk_drew g (history q past) theirs)) (draws_of p (Drew (Gtk g)) g past refl (gtk_drew g (history p past) ours)) in
-    not_again d s p g id b past good v (subst (λ (x : Node). In (Installed (One x) (Group g id b)) (history s past)) one there) (given p (history s past)) refl
+    not_again d s p g id b past good v (subst (λ (x : Node). In (Installed (One x) (Group g id b)) (history s past)) one there) (given groups.Gtk p (history s past)) refl
 
 -- ---- a group key that becomes current had not been so
 
-switched_listed : (g : List ℕ) (id : ℕ) (b : Mac) (h : List Act) → In (Installed All (Group g id b)) h → In g (switches h)
+switched_listed : (g : List ℕ) (id : ℕ) (b : Mac) (h : List Act) → In (Installed All (Group g id b)) h → In g (switches groups.Gtk h)
 switched_listed g id b [] there = absurd there
-switched_listed g id b (e ∷ h) (inl here) = subst (λ (x : Act). In g (listed (switched x) (switches h))) here (inl refl)
-switched_listed g id b (e ∷ h) (inr later) = more (switched e) (switched_listed g id b h later)
+switched_listed g id b (e ∷ h) (inl here) = subst (λ (x : Act). In g (listed (switched groups.Gtk x) (switches groups.Gtk h))) here (inl refl)
+switched_listed g id b (e ∷ h) (inr later) = more (switched groups.Gtk e) (switched_listed g id b h later)
   where
-    more : (o : Option (List ℕ)) → In g (switches h) → In g (listed o (switches h))
+    more : (o : Option (List ℕ)) → In g (switches groups.Gtk h) → In g (listed o (switches groups.Gtk h))
     more None there = there
     more (Some x) there = inr there
 
@@ -130,4 +130,4 @@ one_switch g xs ys (inr (x, one)) is there = let empty : ys ≡ [] = cc (one, is
 
 pub current_once : (d : Domain) (n : Node) (g : List ℕ) (id : ℕ) (b : Mac) (past : List Entry) → Good d past → LegalCurrent n (history n past) g → In (Installed All (Group g id b)) (history n past) → ⊥
 current_once d n g id b past good l there =
-    one_switch g (gtks (history n past)) (switches (history n past)) (few_gtks d n (history n past) (legal_history d n past good.legal)) l.newest (switched_listed g id b (history n past) there)
+    one_switch g (group_keys groups.Gtk (history n past)) (switches groups.Gtk (history n past)) (few_gtks d n (history n past) (legal_history d n past good.legal)) l.newest (switched_listed g id b (history n past) there)

@@ -9,13 +9,14 @@ use Rattle.run_journal.specs.declared.acts.Start.{Start}
 use Rattle.run_journal.specs.declared.acts.Drawn.TheVariants.{Nonce, Gtk}
 use Rattle.run_journal.specs.declared.acts.Act.{Act}
 use Rattle.run_journal.specs.declared.acts.Act.TheVariants.{Opened, Drew, Derived}
-use Rattle.run_journal.specs.Acts.{same, opens, finishes, closes, nonce_drawn, gtk_drawn, Derivation, derived, GroupKey}
-use Rattle.run_journal.specs.Questions.{or_else, attempt, own_nonce, derivation, session, listed, gtks}
+use Rattle.run_journal.specs.Acts.{same, opens, finishes, closes, nonce_drawn, key_drawn, Derivation, derived, GroupKey}
+use Rattle.run_journal.specs.Questions.{or_else, attempt, own_nonce, derivation, session, listed, group_keys}
 use Rattle.run_journal.specs.Premises.{In}
 use Rattle.domain_rules.specs.GroupKeys.{newest_of, newest}
 use Rattle.domain_rules.proofs.Parts.{same-true, Grows, Begins, Goes_on, grows, in_part, own_nonce_more}
 use Rattle.journal_safety.proofs.Ends.{Tail}
 use Rattle.domain_rules.proofs.CarriedKey.{IsGroupKey}
+use Rattle.run_journal.specs.GroupKinds as groups
 use Rattle.journal_safety.proofs.Legal.{nonce_of, Alive, LegalDerived, LegalGtk, HasDrawn, Legal, LegalHistory}
 
 -- an act of the history was legal when it was added
@@ -53,7 +54,7 @@ pub nonce_drawn-is : (e : Act) (v : List ℕ) → nonce_drawn e ≡ Some v → e
 nonce_drawn-is (Drew (Nonce w)) v o = cc
 nonce_drawn-is _ v o = cc
 
-gtk_drawn-is : (e : Act) (v : List ℕ) → gtk_drawn e ≡ Some v → e ≡ Drew (Gtk v)
+gtk_drawn-is : (e : Act) (v : List ℕ) → key_drawn groups.Gtk e ≡ Some v → e ≡ Drew (Gtk v)
 gtk_drawn-is (Drew (Gtk w)) v o = cc
 gtk_drawn-is _ v o = cc
 
@@ -126,43 +127,43 @@ own_of_part d n p x (e ∷ h) part legal a s = own_by d n p x e h part legal.0 (
 
 -- ---- group keys that were drawn
 
-drew_by : (v : List ℕ) (e : Act) (h : List Act) → (In v (gtks h) → In (Drew (Gtk v)) h) → (o : Option (List ℕ)) → gtk_drawn e ≡ o → In v (listed o (gtks h)) → In (Drew (Gtk v)) (e ∷ h)
+drew_by : (v : List ℕ) (e : Act) (h : List Act) → (In v (group_keys groups.Gtk h) → In (Drew (Gtk v)) h) → (o : Option (List ℕ)) → key_drawn groups.Gtk e ≡ o → In v (listed o (group_keys groups.Gtk h)) → In (Drew (Gtk v)) (e ∷ h)
 drew_by v e h more None is there = inr (more there)
 drew_by v e h more (Some x) is (inl here) = inl (sym (gtk_drawn-is e v (is ∙ ap Some (sym here))))
 drew_by v e h more (Some x) is (inr later) = inr (more later)
 
-pub gtk_drew : (v : List ℕ) (h : List Act) → In v (gtks h) → In (Drew (Gtk v)) h
+pub gtk_drew : (v : List ℕ) (h : List Act) → In v (group_keys groups.Gtk h) → In (Drew (Gtk v)) h
 gtk_drew v [] there = absurd there
-gtk_drew v (e ∷ h) there = drew_by v e h (gtk_drew v h) (gtk_drawn e) refl there
+gtk_drew v (e ∷ h) there = drew_by v e h (gtk_drew v h) (key_drawn groups.Gtk e) refl there
 
 listed_more : (v : List ℕ) (xs : List (List ℕ)) (o : Option (List ℕ)) → In v xs → In v (listed o xs)
 listed_more v xs None there = there
 listed_more v xs (Some x) there = inr there
 
-pub gtks_more : (v : List ℕ) (e : Act) (h : List Act) → In v (gtks h) → In v (gtks (e ∷ h))
-gtks_more v e h there = listed_more v (gtks h) (gtk_drawn e) there
+pub gtks_more : (v : List ℕ) (e : Act) (h : List Act) → In v (group_keys groups.Gtk h) → In v (group_keys groups.Gtk (e ∷ h))
+gtks_more v e h there = listed_more v (group_keys groups.Gtk h) (key_drawn groups.Gtk e) there
 
 pub has_drawn_more : (e : Act) (h : List Act) → HasDrawn h → HasDrawn (e ∷ h)
 has_drawn_more e h w = (w.0, gtks_more w.0 e h w.1)
 
-pub gtks_tail : (v : List ℕ) (a h : List Act) → Tail a h → In v (gtks a) → In v (gtks h)
-gtks_tail v a [] t there = subst (λ (x : List Act). In v (gtks x)) t there
-gtks_tail v a (e ∷ h) (inl is) there = subst (λ (x : List Act). In v (gtks x)) is there
+pub gtks_tail : (v : List ℕ) (a h : List Act) → Tail a h → In v (group_keys groups.Gtk a) → In v (group_keys groups.Gtk h)
+gtks_tail v a [] t there = subst (λ (x : List Act). In v (group_keys groups.Gtk x)) t there
+gtks_tail v a (e ∷ h) (inl is) there = subst (λ (x : List Act). In v (group_keys groups.Gtk x)) is there
 gtks_tail v a (e ∷ h) (inr t) there = gtks_more v e h (gtks_tail v a h t there)
 
 -- one at most
 abbrev pub AtMostOne : List (List ℕ) → Type 0
 AtMostOne xs = (xs ≡ []) ⊎ ((x : List ℕ) × (xs ≡ x ∷ []))
 
-few_by : (d : Domain) (n : Node) (e : Act) (h : List Act) → Legal d n h e → AtMostOne (gtks h) → (o : Option (List ℕ)) → gtk_drawn e ≡ o → AtMostOne (listed o (gtks h))
+few_by : (d : Domain) (n : Node) (e : Act) (h : List Act) → Legal d n h e → AtMostOne (group_keys groups.Gtk h) → (o : Option (List ℕ)) → key_drawn groups.Gtk e ≡ o → AtMostOne (listed o (group_keys groups.Gtk h))
 few_by d n e h legal more None is = more
 few_by d n e h legal more (Some v) is =
     let l : LegalGtk n h v = subst (λ (x : Act). Legal d n h x) (gtk_drawn-is e v is) legal in
     inr (v, ap (λ (x : List (List ℕ)). v ∷ x) l.first)
 
-pub few_gtks : (d : Domain) (n : Node) (h : List Act) → LegalHistory d n h → AtMostOne (gtks h)
+pub few_gtks : (d : Domain) (n : Node) (h : List Act) → LegalHistory d n h → AtMostOne (group_keys groups.Gtk h)
 few_gtks d n [] legal = inl refl
-few_gtks d n (e ∷ h) legal = few_by d n e h legal.0 (few_gtks d n h legal.1) (gtk_drawn e) refl
+few_gtks d n (e ∷ h) legal = few_by d n e h legal.0 (few_gtks d n h legal.1) (key_drawn groups.Gtk e) refl
 
 one_of : (a b : List ℕ) (xs : List (List ℕ)) → AtMostOne xs → In a xs → In b xs → a ≡ b
 one_of a b xs (inl none) l r = absurd (subst (λ (x : List (List ℕ)). In a x) none l)
@@ -173,25 +174,25 @@ one_of a b xs (inr (x, is)) l r = go (subst (λ (y : List (List ℕ)). In a y) i
     go (inl s) (inr t) = absurd t
     go (inr s) t = absurd s
 
-pub one_gtk : (d : Domain) (n : Node) (a b : List ℕ) (h : List Act) → LegalHistory d n h → In a (gtks h) → In b (gtks h) → a ≡ b
-one_gtk d n a b h legal l r = one_of a b (gtks h) (few_gtks d n h legal) l r
+pub one_gtk : (d : Domain) (n : Node) (a b : List ℕ) (h : List Act) → LegalHistory d n h → In a (group_keys groups.Gtk h) → In b (group_keys groups.Gtk h) → a ≡ b
+one_gtk d n a b h legal l r = one_of a b (group_keys groups.Gtk h) (few_gtks d n h legal) l r
 
 -- the newest
 pub record Newest (h : List Act) : Type 0 where
-  pub is : IsGroupKey (newest h)
-  pub drawn : In (newest h).key (gtks h)
+  pub is : IsGroupKey (newest groups.Gtk h)
+  pub drawn : In (newest groups.Gtk h).key (group_keys groups.Gtk h)
 
-newest_by : (d : Domain) (n : Node) (h : List Act) → LegalHistory d n h → (xs : List (List ℕ)) → gtks h ≡ xs → HasDrawn h → Newest h
+newest_by : (d : Domain) (n : Node) (h : List Act) → LegalHistory d n h → (xs : List (List ℕ)) → group_keys groups.Gtk h ≡ xs → HasDrawn h → Newest h
 newest_by d n h legal [] is w = absurd (subst (λ (x : List (List ℕ)). In w.0 x) is w.1)
 newest_by d n h legal (x ∷ older) is w =
-    let there : In x (gtks h) = subst (λ (y : List (List ℕ)). In x y) (sym is) (inl refl) in
+    let there : In x (group_keys groups.Gtk h) = subst (λ (y : List (List ℕ)). In x y) (sym is) (inl refl) in
     let at = legal_in d n (Drew (Gtk x)) h legal (gtk_drew x h there) in
     let l : LegalGtk n at.before x = at.legal in
-    let one : newest h ≡ record { key = x; id = suc (length older % 2) } = ap newest_of is in
+    let one : newest groups.Gtk h ≡ record { key = x; id = suc (length older % 2) } = ap (newest_of groups.Gtk) is in
     record {
       is = subst (λ (g : GroupKey). IsGroupKey g) (sym one) (record { octets = l.octets; size = l.size; low = (let b : length older % 2 < 2 = mod-lt (length older) (omega arith) in omega (arith, b)) });
-      drawn = subst (λ (g : GroupKey). In g.key (gtks h)) (sym one) there;
+      drawn = subst (λ (g : GroupKey). In g.key (group_keys groups.Gtk h)) (sym one) there;
     }
 
 pub newest_is : (d : Domain) (n : Node) (h : List Act) → LegalHistory d n h → HasDrawn h → Newest h
-newest_is d n h legal w = newest_by d n h legal (gtks h) refl w
+newest_is d n h legal w = newest_by d n h legal (group_keys groups.Gtk h) refl w

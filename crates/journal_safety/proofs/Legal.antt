@@ -26,14 +26,15 @@ use Rattle.run_journal.specs.declared.acts.Key.TheVariants.{Pairwise, Group}
 use Rattle.run_journal.specs.declared.acts.Act.{Act}
 use Rattle.run_journal.specs.declared.acts.Act.TheVariants.{Drew, Derived, Sent, Took, Installed, Used, HandedUp, Finished}
 use Rattle.run_journal.specs.Acts.{same, same_kind, GroupKey}
-use Rattle.run_journal.specs.Questions.{attempt, own_nonce, gtks, switches}
+use Rattle.run_journal.specs.Questions.{attempt, own_nonce, group_keys, switches}
 use Rattle.run_journal.specs.Premises.{In}
 use Rattle.domain_rules.specs.Network.{mac, is_ap, IsListed}
 use Rattle.domain_rules.specs.Frames.{wrapped, m3_key_data}
 use Rattle.domain_rules.specs.GroupKeys.{memory, find_key}
-use Rattle.domain_rules.specs.Rows.{carried}
+use Rattle.domain_rules.specs.StationRows.{carried}
 use Rattle.journal_safety.proofs.Covers.{covered_message, covered_key_data}
 use Rattle.domain_rules.proofs.CarriedKey.{IsGroupKey}
+use Rattle.run_journal.specs.GroupKinds as groups
 
 -- the Ack bit: set by access points alone
 abbrev pub ack : Message → Bool
@@ -43,6 +44,11 @@ ack M3 = true
 ack M4 = false
 ack G1 = true
 ack G2 = false
+
+-- sealed octets are those of a frame from an access point to a station, by the Ack bit. The other forms of sealed octets, which
+-- the first octet tells apart, come with the frames that have them
+abbrev pub goes_down : List ℕ → Bool
+goes_down covered = ack (covered_message covered)
 
 -- of a node that derived from these inputs: its own nonce, its own address, its peer's
 abbrev pub nonce_of : Node → Inputs → List ℕ
@@ -95,13 +101,13 @@ pub record Verified (n : Node) (h : List Act) (p : Node) (i : Inputs) : Type 0 w
   pub outcome : Outcome
   pub covered : List ℕ
   pub took : In (Took from octets kind outcome (Some (record { octets = covered; key = (ptk i).kck }))) h
-  pub direction : ack (covered_message covered) ≡ not (is_ap n)
+  pub direction : goes_down covered ≡ not (is_ap n)
 
 -- M3 carries a group key that its sender drew
 pub record CarriesM3 (d : Domain) (h : List Act) (i : Inputs) (covered : List ℕ) : Type 0 where
   pub key : GroupKey
   pub is : IsGroupKey key
-  pub drawn : In key.key (gtks h)
+  pub drawn : In key.key (group_keys groups.Gtk h)
   pub load : covered_key_data covered ≡ wrapped (ptk i).kek (m3_key_data d key)
 
 abbrev pub Carries : Domain → List Act → Inputs → List ℕ → Message → Type 0
@@ -113,7 +119,7 @@ pub record LegalSeal (d : Domain) (n : Node) (h : List Act) (p : Node) (s : Seal
   pub i : Inputs
   pub there : In (derives p i) h
   pub is : (ptk i).kck ≡ s.key
-  pub direction : ack (covered_message s.octets) ≡ is_ap n
+  pub direction : goes_down s.octets ≡ is_ap n
   pub carries : Carries d h i s.octets (covered_message s.octets)
 
 -- nothing is sealed for all
@@ -124,7 +130,7 @@ LegalSealed d n h (One p) (Some s) = LegalSeal d n h p s
 
 -- a group key was drawn
 abbrev pub HasDrawn : List Act → Type 0
-HasDrawn h = (g : List ℕ) × In g (gtks h)
+HasDrawn h = (g : List ℕ) × In g (group_keys groups.Gtk h)
 
 -- the act installs a pairwise key of p
 abbrev pub gives : Node → Act → Bool
@@ -158,12 +164,12 @@ pub record LegalGroup (n : Node) (h : List Act) (p : Node) (g : List ℕ) : Type
   pub e : ElementFields
   pub spelled : SpellsElements KeyData plain e
   pub key : (carried (Some e)).key ≡ g
-  pub new : find_key g (memory p h) ≡ None
+  pub new : find_key g (memory groups.Gtk p h) ≡ None
 
 -- an access point makes a key current that it drew and did not make current yet
 pub record LegalCurrent (n : Node) (h : List Act) (g : List ℕ) : Type 0 where
   pub ap : is_ap n ≡ true
-  pub newest : gtks h ≡ g ∷ switches h
+  pub newest : group_keys groups.Gtk h ≡ g ∷ switches groups.Gtk h
 
 abbrev pub LegalInstalled : Node → List Act → Peer → Key → Type 0
 LegalInstalled n h (One p) (Pairwise tk i) = LegalPairwise n h p tk i
@@ -176,7 +182,7 @@ pub record LegalGtk (n : Node) (h : List Act) (v : List ℕ) : Type 0 where
   pub ap : is_ap n ≡ true
   pub octets : AreOctets v
   pub size : length v ≡ 16
-  pub first : gtks h ≡ []
+  pub first : group_keys groups.Gtk h ≡ []
 
 abbrev pub LegalDrew : Node → List Act → Drawn → Type 0
 LegalDrew n h (Nonce v) = length v ≡ 32

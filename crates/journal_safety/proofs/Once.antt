@@ -11,10 +11,11 @@ use Rattle.run_journal.specs.declared.acts.Key.TheVariants.{Pairwise, Group}
 use Rattle.run_journal.specs.declared.acts.Act.{Act}
 use Rattle.run_journal.specs.declared.acts.Act.TheVariants.{Drew, Installed}
 use Rattle.run_journal.specs.declared.acts.Entry.{Entry}
-use Rattle.run_journal.specs.Questions.{history, gtks}
+use Rattle.run_journal.specs.Questions.{history, group_keys}
 use Rattle.run_journal.specs.Premises.{In}
 use Rattle.run_journal.specs.Safe.{installed, InstalledOnce}
 use Rattle.domain_rules.specs.Network.{is_ap}
+use Rattle.run_journal.specs.GroupKinds as groups
 use Rattle.journal_safety.proofs.Ends.{tail_refl, history_tail}
 use Rattle.journal_safety.proofs.Legal.{LegalPairwise, LegalGroup, LegalCurrent, Legal}
 use Rattle.journal_safety.proofs.Histories.{gtk_drew, gtks_tail}
@@ -36,7 +37,7 @@ installs_by d n h (Installed All (Group g id b)) key legal is = let one : g ≡ 
 installs_by d n h _ key legal is = cc
 
 -- a temporal key is no group key
-clash : (d : Domain) (n p m : Node) (i : Inputs) (key : List ℕ) (past : List Entry) → Good d past → DerivedAt d n p i past → key ≡ (ptk i).tk → In key (gtks (history m past)) → ⊥
+clash : (d : Domain) (n p m : Node) (i : Inputs) (key : List ℕ) (past : List Entry) → Good d past → DerivedAt d n p i past → key ≡ (ptk i).tk → In key (group_keys groups.Gtk (history m past)) → ⊥
 clash d n p m i key past g a is there =
     let w = at_of m (Drew (Gtk key)) past (gtk_drew key (history m past) there) in
     g.apart.no_gtk i (ptk i) w.entry (has_derived d n p i past a) (entry_in m (Drew (Gtk key)) past w) (w.is ∙ ap (λ (x : List ℕ). Drew (Gtk x)) is)
@@ -58,7 +59,7 @@ pairwise_earlier d n p key i past g there =
     let v = verified_wider n p i w.earlier past (earlier_tail n (installs p key i) past w) old.verified in
     record { p = p; i = i; derived = derived_at d n p i past g.legal v.derived; is = old.is }
 
-group_earlier : (d : Domain) (n p : Node) (key : List ℕ) (id : ℕ) (b : Mac) (past : List Entry) → Good d past → In (Installed (One p) (Group key id b)) (history n past) → In key (gtks (history p past)) × (is_ap n ≡ false)
+group_earlier : (d : Domain) (n p : Node) (key : List ℕ) (id : ℕ) (b : Mac) (past : List Entry) → Good d past → In (Installed (One p) (Group key id b)) (history n past) → In key (group_keys groups.Gtk (history p past)) × (is_ap n ≡ false)
 group_earlier d n p key id b past g there =
     let act : Act = Installed (One p) (Group key id b) in
     let w = at_of n act past there in
@@ -66,10 +67,10 @@ group_earlier d n p key id b past g there =
     let old : LegalGroup n (history n w.earlier) p key = legal_at d n act past g.legal w in
     (gtks_tail key (history p w.earlier) (history p past) (history_tail p w.earlier past t) (group_drawn d n p key w.earlier (good_tail d w.earlier past t g) old), old.station)
 
-current_drawn : (n : Node) (h : List Act) (key : List ℕ) → LegalCurrent n h key → In key (gtks h)
+current_drawn : (n : Node) (h : List Act) (key : List ℕ) → LegalCurrent n h key → In key (group_keys groups.Gtk h)
 current_drawn n h key l = subst (λ (x : List (List ℕ)). In key x) (sym l.newest) (inl refl)
 
-current_earlier : (d : Domain) (n : Node) (key : List ℕ) (id : ℕ) (b : Mac) (past : List Entry) → Good d past → In (Installed All (Group key id b)) (history n past) → In key (gtks (history n past)) × (is_ap n ≡ true)
+current_earlier : (d : Domain) (n : Node) (key : List ℕ) (id : ℕ) (b : Mac) (past : List Entry) → Good d past → In (Installed All (Group key id b)) (history n past) → In key (group_keys groups.Gtk (history n past)) × (is_ap n ≡ true)
 current_earlier d n key id b past g there =
     let act : Act = Installed All (Group key id b) in
     let w = at_of n act past there in

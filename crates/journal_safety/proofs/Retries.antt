@@ -6,6 +6,7 @@ use Rattle.domain_base.specs.declared.names.Node.TheVariants.{Ap, Sta}
 use Rattle.eapol_key.specs.declared.messages.Message.{Message}
 use Rattle.eapol_key.specs.declared.messages.Message.TheVariants.{M1, M2, M3}
 use Rattle.key_hierarchy.specs.Keys.{ptk}
+use Rattle.key_hierarchy.specs.declared.inputs.Ptk.{Ptk}
 use Rattle.run_journal.specs.declared.domain.Domain.{Domain}
 use Rattle.run_journal.specs.declared.acts.Part.TheVariants.{Attempt}
 use Rattle.run_journal.specs.declared.acts.Kind.TheVariants as kind
@@ -13,13 +14,15 @@ use Rattle.run_journal.specs.declared.acts.Why.TheVariants as why
 use Rattle.run_journal.specs.declared.acts.Act.{Act}
 use Rattle.run_journal.specs.declared.acts.Act.TheVariants.{Closed, Sent, GaveUp, Idle}
 use Rattle.run_journal.specs.Acts.{same_kind, is_one, opens, sent, Derivation}
-use Rattle.run_journal.specs.Questions.{or_else, attempt, derivation, before_sent}
+use Rattle.run_journal.specs.Questions.{or_else, attempt, derivation, before_sent, chain}
 use Rattle.domain_rules.specs.Network.{is_ap}
-use Rattle.domain_rules.specs.Frames.{sent_m1}
-use Rattle.domain_rules.specs.Verdict.{own, by_connect, has_heard}
+use Rattle.domain_rules.specs.Frames.{sent_m3, sent_m1}
+use Rattle.domain_rules.specs.Asking.{own, by_connect, has_heard}
 use Rattle.domain_rules.specs.Counters.{sent_count, next_in_attempt}
 use Rattle.domain_rules.specs.GroupKeys.{newest, newest_uses}
-use Rattle.domain_rules.specs.Rows.{NodeEvent, Take, Begin, Retry, most_sends, again_or_give_up, m3_again, retry_attempt, retry_acts, Adds}
+use Rattle.domain_rules.specs.Rows.{NodeEvent, Take, Begin, Retry, Adds}
+use Rattle.domain_rules.specs.AccessPointRows.{most_sends, again_or_give_up, m3_again, retry_attempt, retry_acts}
+use Rattle.run_journal.specs.GroupKinds as groups
 use Rattle.journal_safety.proofs.Ends.{Tail, tail_refl}
 use Rattle.journal_safety.proofs.Legal.{nonce_of, derives, LegalDerived, HasDrawn, Legal, LegalHistory}
 use Rattle.journal_safety.proofs.Histories.{legal_in, nonce_size, alive_drew, gtks_tail, newest_is}
@@ -81,14 +84,17 @@ legal_again : (d : Domain) (n : Node) (s : ℕ) (h part : List Act) (o : Option 
 legal_again d n s h part None b legal a e f = (tt, refl)
 legal_again d n s h part (Some x) None legal a e f = (tt, refl)
 legal_again d n s h part (Some x) (Some past) legal a e f =
-    let r = (ready_of d n (Sta s) h part x legal a e).1 in
+    let ready = ready_of d n (Sta s) h part x legal a e in
+    let r = ready.1 in
     let at = legal_in d n (derives (Sta s) x.inputs) h legal r.there in
     let l : LegalDerived d n at.before (Sta s) x.inputs (ptk x.inputs) = at.legal in
     let role : is_ap n ≡ true = opposite false (is_ap n) l.roles refl in
     let size : length x.inputs.anonce ≡ 32 = ap length (ap_nonce n x.inputs role) ∙ nonce_size d n (nonce_of n x.inputs) h legal (alive_drew n (Sta s) x.inputs h (record { part = part; awaited = a; own = r.own })) in
     let w = before_m3 d n (Sta s) h past legal f in
     let new = newest_is d n past w.legal w.drawn in
-    (legal_m3 d n (Sta s) h x.inputs (next_in_attempt (Sta s) part) (newest past) (newest_uses past) role r.there size new.is (gtks_tail (newest past).key past h w.tail new.drawn), refl)
+    let sent = λ (k : Ptk). sent_m3 d n (Sta s) (record { inputs = x.inputs; ptk = k }) (next_in_attempt (Sta s) (chain (Sta s) h)) (newest groups.Gtk past) (newest_uses groups.Gtk past) in
+    let made = legal_m3 d n (Sta s) h x.inputs (next_in_attempt (Sta s) (chain (Sta s) h)) (newest groups.Gtk past) (newest_uses groups.Gtk past) role r.there size new.is (gtks_tail (newest groups.Gtk past).key past h w.tail new.drawn) in
+    (subst (λ (k : Ptk). Legal d n h (sent k)) (sym ready.0) made, refl)
 
 retry_by : (d : Domain) (n : Node) (s : ℕ) (h part : List Act) → LegalHistory d n h → Settled d n h → attempt (Sta s) h ≡ Some part → Fine d n h (retry_attempt d n h (Sta s) part)
 retry_by d n s h part legal settled a = go (has_heard (Sta s) (kind.Key M2) part)
@@ -97,9 +103,9 @@ retry_by d n s h part legal settled a = go (has_heard (Sta s) (kind.Key M2) part
     again = legal_again d n s h part (derivation (Sta s) part) (before_sent (Sta s) (kind.Key M3) h) legal a refl refl
 
     go : (b : Bool) → Fine d n h (cond b (again_or_give_up (Sta s) M3 (sent_count (Sta s) M3 part) (m3_again d n h (Sta s) part (derivation (Sta s) part) (before_sent (Sta s) (kind.Key M3) h)))
-        (again_or_give_up (Sta s) M1 (sent_count (Sta s) M1 part) (sent_m1 d n (Sta s) (next_in_attempt (Sta s) part) (own part))))
+        (again_or_give_up (Sta s) M1 (sent_count (Sta s) M1 part) (sent_m1 d n (Sta s) (next_in_attempt (Sta s) (chain (Sta s) h)) (own part))))
     go true = fine_again d n h (Sta s) M3 (sent_count (Sta s) M3 part) (m3_again d n h (Sta s) part (derivation (Sta s) part) (before_sent (Sta s) (kind.Key M3) h)) settled again.0 again.1
-    go false = fine_again d n h (Sta s) M1 (sent_count (Sta s) M1 part) (sent_m1 d n (Sta s) (next_in_attempt (Sta s) part) (own part)) settled (tt, λ is. cc is) refl
+    go false = fine_again d n h (Sta s) M1 (sent_count (Sta s) M1 part) (sent_m1 d n (Sta s) (next_in_attempt (Sta s) (chain (Sta s) h)) (own part)) settled (tt, λ is. cc is) refl
 
 retry_if : (d : Domain) (n : Node) (s : ℕ) (h part : List Act) → LegalHistory d n h → Settled d n h → attempt (Sta s) h ≡ Some part → (b : Bool) → Fine d n h (cond b (retry_attempt d n h (Sta s) part) (Idle why.Nothing ∷ []))
 retry_if d n s h part legal settled a true = retry_by d n s h part legal settled a

@@ -31,16 +31,22 @@ use Rattle.run_journal.specs.declared.acts.Key.TheVariants.{Pairwise}
 use Rattle.run_journal.specs.declared.acts.Act.{Act}
 use Rattle.run_journal.specs.declared.acts.Act.TheVariants.{Opened, Closed, Drew, Derived, Took, Installed, Finished, Idle}
 use Rattle.run_journal.specs.Acts.{Derivation, GroupKey, opens, ends}
-use Rattle.run_journal.specs.Questions.{attempt, own_nonce, derivation, session, pending, associated, add}
+use Rattle.run_journal.specs.Questions.{attempt, own_nonce, derivation, session, pending, associated, add, chain}
 use Rattle.run_journal.specs.Premises.{In}
-use Rattle.domain_rules.specs.Network.{mac, peer_of, is_ap, nonce, inputs}
+use Rattle.domain_rules.specs.Network.{mac, peer_of, is_ap, nonce, inputs, root}
 use Rattle.domain_rules.specs.Reading.{KeyMessage, Reading, Keyed, HasMessage, Reads, kind_of}
-use Rattle.domain_rules.specs.Frames.{sent_assoc_req, sent_assoc_resp, sent_refusal, sent_m1, sent_m2, sent_m3, sent_m4, frame_seal}
-use Rattle.domain_rules.specs.Verdict.{Facts, Knows, own, verdict}
+use Rattle.domain_rules.specs.Frames.{sent_assoc_req, sent_assoc_resp, sent_refusal, sent_m1, sent_m2, sent_m3, sent_m4, frame_seal, keyed_by}
+use Rattle.domain_rules.specs.Facts.{Facts}
+use Rattle.domain_rules.specs.Verdict.{Knows, verdict}
+use Rattle.domain_rules.specs.Asking.{own}
 use Rattle.domain_rules.specs.Counters.{next_in_attempt}
 use Rattle.domain_rules.specs.GroupKeys.{newest, newest_uses, memory, find_key, give_by, give}
-use Rattle.domain_rules.specs.Rows.{close_attempt, close_session, close_pending, close_associated, next_nonce, ConnectRow, Spent, Asks, sender, carried, response, AssocReqRow, AssocRespRow, M1Row, M2Row, M3Row, RepeatedM3Row, M4Row, IgnoredRow, RefusedRow, TakeRows, By_assoc_req, By_assoc_resp, By_m1, By_m2, By_m3, By_repeated_m3, By_m4, By_ignored, By_refusal}
+use Rattle.domain_rules.specs.Closing.{close_attempt, close_session, close_pending, close_associated, next_nonce, sender}
+use Rattle.domain_rules.specs.StationRows.{ConnectRow, Spent, Asks, carried, AssocRespRow, M1Row, M3Row, RepeatedM3Row}
+use Rattle.domain_rules.specs.Rows.{response, IgnoredRow, RefusedRow, TakeRows, By_assoc_req, By_assoc_resp, By_m1, By_m2, By_m3, By_repeated_m3, By_m4, By_ignored, By_refusal}
+use Rattle.domain_rules.specs.AccessPointRows.{AssocReqRow, M2Row, M4Row}
 use Rattle.domain_rules.proofs.Parts.{attempt_more, in_part, own_nonce_more}
+use Rattle.run_journal.specs.GroupKinds as groups
 use Rattle.journal_safety.proofs.Covers.{Covers, took_covers}
 use Rattle.journal_safety.proofs.Legal.{ack, nonce_of, own_address, peer_address, derives, Alive, AreCommon, LegalDerived, Verified, gives, LegalPairwise, LegalGroup, Legal, LegalHistory, verified_more}
 use Rattle.journal_safety.proofs.Histories.{nonce_in, nonce_size, derivation_in, derived_key, own_of_part, Newest, newest_is}
@@ -165,19 +171,19 @@ verified_now d n p h octets kd o i k there a = record {
 
 -- ---- M1 and M2: a key is derived
 
-inputs_own : (d : Domain) (n p : Node) (v other : List ℕ) → nonce_of n (inputs d n p v other) ≡ v
+inputs_own : (d : Domain) (n p : Node) (v other : List ℕ) → nonce_of n (inputs d (root d) n p v other) ≡ v
 inputs_own d (Ap k) p v other = refl
 inputs_own d (Sta k) p v other = refl
 
-inputs_address : (d : Domain) (n p : Node) (v other : List ℕ) → own_address n (inputs d n p v other) ≡ mac d n
+inputs_address : (d : Domain) (n p : Node) (v other : List ℕ) → own_address n (inputs d (root d) n p v other) ≡ mac d n
 inputs_address d (Ap k) p v other = refl
 inputs_address d (Sta k) p v other = refl
 
-inputs_peer : (d : Domain) (n p : Node) (v other : List ℕ) → peer_address n (inputs d n p v other) ≡ mac d p
+inputs_peer : (d : Domain) (n p : Node) (v other : List ℕ) → peer_address n (inputs d (root d) n p v other) ≡ mac d p
 inputs_peer d (Ap k) p v other = refl
 inputs_peer d (Sta k) p v other = refl
 
-inputs_common : (d : Domain) (n p : Node) (v other : List ℕ) → AreCommon d (inputs d n p v other)
+inputs_common : (d : Domain) (n p : Node) (v other : List ℕ) → AreCommon d (inputs d (root d) n p v other)
 inputs_common d (Ap k) p v other = record { akm = refl; psk = refl; ssid = refl; mdid = refl; r0kh_id = refl }
 inputs_common d (Sta k) p v other = record { akm = refl; psk = refl; ssid = refl; mdid = refl; r0kh_id = refl }
 
@@ -185,12 +191,12 @@ alive_took : (n p : Node) (h part : List Act) (i : Inputs) (from : Option Node) 
 alive_took n p h part i from octets kd o seal a is = record { part = Took from octets kd o seal ∷ part; awaited = attempt_more p (Took from octets kd o seal) h part refl refl a; own = own_nonce_more (Took from octets kd o seal) part (nonce_of n i) is }
 
 legal_derived : (d : Domain) (n p : Node) (h part : List Act) (k : KeyMessage) (from : Option Node) (octets : List ℕ) (kd : Kind) (out o : Outcome) (seal : Option Seal) (v other : List ℕ) → Taken d n p h k out → attempt p h ≡ Some part → own_nonce part ≡ Some v
-    → LegalDerived d n (Took from octets kd o seal ∷ h) p (inputs d n p v other) (ptk (inputs d n p v other))
+    → LegalDerived d n (Took from octets kd o seal ∷ h) p (inputs d (root d) n p v other) (ptk (inputs d (root d) n p v other))
 legal_derived d n p h part k from octets kd out o seal v other t a is = record {
   roles = t.roles;
   listed = t.listed;
   peer_listed = t.peer_listed;
-  alive = alive_took n p h part (inputs d n p v other) from octets kd o seal a (is ∙ ap Some (sym (inputs_own d n p v other)));
+  alive = alive_took n p h part (inputs d (root d) n p v other) from octets kd o seal a (is ∙ ap Some (sym (inputs_own d n p v other)));
   address = inputs_address d n p v other;
   peer = inputs_peer d n p v other;
   common = inputs_common d n p v other;
@@ -201,14 +207,14 @@ legal_derived d n p h part k from octets kd out o seal v other t a is = record {
 pub record Own (d : Domain) (n p : Node) (h part : List Act) (i : Inputs) (other : List ℕ) : Type 0 where
   pub v : List ℕ
   pub drawn : own_nonce part ≡ Some v
-  pub is : i ≡ inputs d n p v other
+  pub is : i ≡ inputs d (root d) n p v other
   pub size : length (nonce_of n i) ≡ 32
 
-own_inputs : (d : Domain) (n p : Node) (h part : List Act) (i : Inputs) (other : List ℕ) → LegalHistory d n h → Settled d n h → attempt p h ≡ Some part → i ≡ inputs d n p (own part) other → Own d n p h part i other
+own_inputs : (d : Domain) (n p : Node) (h part : List Act) (i : Inputs) (other : List ℕ) → LegalHistory d n h → Settled d n h → attempt p h ≡ Some part → i ≡ inputs d (root d) n p (own part) other → Own d n p h part i other
 own_inputs d n p h part i other legal s a e =
     let w = s.nonced p part a in
     let v_is : own part ≡ w.0 = ap (λ (o : Option (List ℕ)). unwrap_or o []) w.1 in
-    let is : i ≡ inputs d n p w.0 other = e ∙ ap (λ (x : List ℕ). inputs d n p x other) v_is in
+    let is : i ≡ inputs d (root d) n p w.0 other = e ∙ ap (λ (x : List ℕ). inputs d (root d) n p x other) v_is in
     let size : length w.0 ≡ 32 = nonce_size d n w.0 h legal (in_part p h part (Drew (Nonce w.0)) a (nonce_in part w.0 w.1)) in
     record { v = w.0; drawn = w.1; is = is; size = ap (λ (x : Inputs). length (nonce_of n x)) is ∙ ap length (inputs_own d n p w.0 other) ∙ size }
 
@@ -226,7 +232,7 @@ m1_fine d first n h octets r facts g reads legal s row =
     subst (λ (x : List Act). Fine d n h x) (sym row.says)
     (fine_quiet d n h (Took (Some row.p) octets (kind.Key M1) Accepted None) _ tt refl s (λ t.
     fine_quiet d n _ (derives row.p row.i) _ (derived_by d n row.p h row.part row.k (Some row.p) octets (kind.Key M1) Accepted Accepted None row.i row.k.fields.nonce a.taken row.awaited w) refl t (λ u.
-    fine_quiet d n _ (sent_m2 d n row.p row.i row.k.fields.counter) [] (legal_m2 d n row.p _ row.i row.k.fields.counter role (inl refl) size) refl u (fine_none d n _))))
+    fine_quiet d n _ (sent_m2 d n row.p (keyed_by row.i) row.k.fields.counter) [] (legal_m2 d n row.p _ row.i row.k.fields.counter role (inl refl) size) refl u (fine_none d n _))))
 
 m2_fine : (d : Domain) (first : ℕ) (n : Node) (h : List Act) (octets : List ℕ) (r : Reading) (facts : Facts) (g : List Act) → Reads d.akm octets r → LegalHistory d n h → Settled d n h → M2Row d first n h octets r facts g → Fine d n h g
 m2_fine d first n h octets r facts g reads legal s row =
@@ -239,8 +245,8 @@ m2_fine d first n h octets r facts g reads legal s row =
     subst (λ (x : List Act). Fine d n h x) (sym row.says)
     (fine_quiet d n h (Took (Some row.p) octets (kind.Key M2) Accepted seal) _ tt refl s (λ t.
     fine_quiet d n _ (derives row.p row.i) _ (derived_by d n row.p h row.part row.k (Some row.p) octets (kind.Key M2) Accepted Accepted seal row.i row.k.fields.nonce a.taken row.awaited w) refl t (λ u.
-    fine_quiet d n _ (sent_m3 d n row.p row.i (next_in_attempt row.p row.part) (newest h) (newest_uses h)) []
-    (legal_m3 d n row.p _ row.i (next_in_attempt row.p row.part) (newest h) (newest_uses h) role (inl refl) size new.is new.drawn) refl u (fine_none d n _))))
+    fine_quiet d n _ (sent_m3 d n row.p (keyed_by row.i) (next_in_attempt row.p (chain row.p h)) (newest groups.Gtk h) (newest_uses groups.Gtk h)) []
+    (legal_m3 d n row.p _ row.i (next_in_attempt row.p (chain row.p h)) (newest groups.Gtk h) (newest_uses groups.Gtk h) role (inl refl) size new.is new.drawn) refl u (fine_none d n _))))
 
 -- ---- a pairwise key is installed
 
@@ -276,7 +282,7 @@ pub record Gift (d : Domain) (n p : Node) (h : List Act) (k : KeyMessage) (i : I
   pub wraps : Wraps (ptk i).kek plain k.fields.key_data
   pub spelled : SpellsElements KeyData plain e
 
-group_now : (d : Domain) (n p : Node) (h : List Act) (octets : List ℕ) (k : KeyMessage) (i : Inputs) (plain : List ℕ) (e : ElementFields) → Gift d n p h k i plain e → Arrived d n p h octets k Accepted → In (derives p i) h → find_key (carried (Some e)).key (memory p h) ≡ None
+group_now : (d : Domain) (n p : Node) (h : List Act) (octets : List ℕ) (k : KeyMessage) (i : Inputs) (plain : List ℕ) (e : ElementFields) → Gift d n p h k i plain e → Arrived d n p h octets k Accepted → In (derives p i) h → find_key (carried (Some e)).key (memory groups.Gtk p h) ≡ None
     → LegalGroup n (installs p i ∷ takes p octets M3 Accepted i k ∷ h) p (carried (Some e)).key
 group_now d n p h octets k i plain e w a there new = record {
   station = w.role;
@@ -297,20 +303,20 @@ group_now d n p h octets k i plain e w a there new = record {
   new = new;
 }
 
-legal_give : (d : Domain) (n p : Node) (h : List Act) (octets : List ℕ) (k : KeyMessage) (i : Inputs) (plain : List ℕ) (e : ElementFields) → Gift d n p h k i plain e → Arrived d n p h octets k Accepted → In (derives p i) h → (o : Option GroupKey) → find_key (carried (Some e)).key (memory p h) ≡ o
-    → Legal d n (installs p i ∷ takes p octets M3 Accepted i k ∷ h) (give_by p (mac d p) (carried (Some e)) o)
+legal_give : (d : Domain) (n p : Node) (h : List Act) (octets : List ℕ) (k : KeyMessage) (i : Inputs) (plain : List ℕ) (e : ElementFields) → Gift d n p h k i plain e → Arrived d n p h octets k Accepted → In (derives p i) h → (o : Option GroupKey) → find_key (carried (Some e)).key (memory groups.Gtk p h) ≡ o
+    → Legal d n (installs p i ∷ takes p octets M3 Accepted i k ∷ h) (give_by groups.Gtk p (mac d p) (carried (Some e)) o)
 legal_give d n p h octets k i plain e w a there None is = group_now d n p h octets k i plain e w a there is
 legal_give d n p h octets k i plain e w a there (Some kept) is = tt
 
-give_goes : (p q : Node) (b : Mac) (g : GroupKey) (o : Option GroupKey) → (gives q (give_by p b g o) ≡ false) × (opens q (give_by p b g o) ≡ false) × (ends q (give_by p b g o) ≡ false)
+give_goes : (p q : Node) (b : Mac) (g : GroupKey) (o : Option GroupKey) → (gives q (give_by groups.Gtk p b g o) ≡ false) × (opens q (give_by groups.Gtk p b g o) ≡ false) × (ends q (give_by groups.Gtk p b g o) ≡ false)
 give_goes p q b g None = (refl, refl, refl)
 give_goes p q b g (Some kept) = (refl, refl, refl)
 
-m3_core : (d : Domain) (n p : Node) (h part : List Act) (octets : List ℕ) (k : KeyMessage) (i : Inputs) (plain : List ℕ) (e : ElementFields) → Gift d n p h k i plain e → Arrived d n p h octets k Accepted → Ready d n p h part i → (o : Option GroupKey) → find_key (carried (Some e)).key (memory p h) ≡ o
-    → Fine d n h (takes p octets M3 Accepted i k ∷ installs p i ∷ give_by p (mac d p) (carried (Some e)) o ∷ Finished p i ∷ sent_m4 d n p i k.fields.counter ∷ [])
+m3_core : (d : Domain) (n p : Node) (h part : List Act) (octets : List ℕ) (k : KeyMessage) (i : Inputs) (plain : List ℕ) (e : ElementFields) → Gift d n p h k i plain e → Arrived d n p h octets k Accepted → Ready d n p h part i → (o : Option GroupKey) → find_key (carried (Some e)).key (memory groups.Gtk p h) ≡ o
+    → Fine d n h (takes p octets M3 Accepted i k ∷ installs p i ∷ give_by groups.Gtk p (mac d p) (carried (Some e)) o ∷ Finished p i ∷ sent_m4 d n p (keyed_by i) k.fields.counter ∷ [])
 m3_core d n p h part octets k i plain e w a r o is =
     let took : Act = takes p octets M3 Accepted i k in
-    let gift : Act = give_by p (mac d p) (carried (Some e)) o in
+    let gift : Act = give_by groups.Gtk p (mac d p) (carried (Some e)) o in
     let s : Settled d n (took ∷ h) = settled_quiet d n took h refl w.settled in
     let v = verified_now d n p h octets (kind.Key M3) Accepted i k r.there a in
     let alive = alive_took n p h part i (Some p) octets (kind.Key M3) Accepted (Some (frame_seal (ptk i).kck k.octets)) r.awaited r.own in
@@ -323,19 +329,19 @@ m3_core d n p h part octets k i plain e w a r o is =
     fine_cons d n (installs p i ∷ took ∷ h) gift _ (legal_give d n p h octets k i plain e w a r.there o is) (
     fine_cons d n (gift ∷ installs p i ∷ took ∷ h) (Finished p i) _
     (record { verified = verified_more n p (installs p i ∷ took ∷ h) gift i (verified_more n p (took ∷ h) (installs p i) i v); alive = alive_end }) (
-    fine_quiet d n (Finished p i ∷ gift ∷ installs p i ∷ took ∷ h) (sent_m4 d n p i k.fields.counter) []
+    fine_quiet d n (Finished p i ∷ gift ∷ installs p i ∷ took ∷ h) (sent_m4 d n p (keyed_by i) k.fields.counter) []
     (legal_m4 d n p (Finished p i ∷ gift ∷ installs p i ∷ took ∷ h) i k.fields.counter w.role (inr (inr (inr (inr r.there))))) refl
     (settled_finished d n p i (gift ∷ installs p i ∷ took ∷ h) but) (fine_none d n _)))))
 
 abbrev m3_acts : Domain → Node → Node → List Act → List ℕ → KeyMessage → Inputs → Ptk → Option ElementFields → List Act
-m3_acts d n p h octets k i x c = Took (Some p) octets (kind.Key M3) Accepted (Some (frame_seal x.kck k.octets)) ∷ Installed (One p) (Pairwise x.tk i) ∷ give p (mac d p) (carried c) h ∷ Finished p i ∷ sent_m4 d n p i k.fields.counter ∷ []
+m3_acts d n p h octets k i x c = Took (Some p) octets (kind.Key M3) Accepted (Some (frame_seal x.kck k.octets)) ∷ Installed (One p) (Pairwise x.tk i) ∷ give groups.Gtk p (mac d p) (carried c) h ∷ Finished p i ∷ sent_m4 d n p (record { inputs = i; ptk = x }) k.fields.counter ∷ []
 
 m3_fine : (d : Domain) (first : ℕ) (n : Node) (h : List Act) (octets : List ℕ) (r : Reading) (facts : Facts) (g : List Act) → Reads d.akm octets r → Knows d first n h r facts → LegalHistory d n h → Settled d n h → M3Row d first n h octets r facts g → Fine d n h g
 m3_fine d first n h octets r facts g reads knows legal s row =
     let a = arrived d first n row.p h octets r row.k facts row.is reads row.from row.accepted in
-    let i : Inputs = row.y.inputs in
+    let i : Inputs = row.y.key.inputs in
     let w = (keying_in row.p h row.y row.awaited).awaited (awaited_m3 d n row.p h row.k row.y row.message_is a.taken row.awaited) in
-    let ready = ready_of d n row.p h w.0 (record { inputs = row.y.inputs; ptk = row.y.ptk }) legal w.1.0 w.1.1 in
+    let ready = ready_of d n row.p h w.0 row.y.key legal w.1.0 w.1.1 in
     let u = unwrapped_m3 d first n row.p h row.k facts row.y row.message_is a.from (subst (λ (x : Reading). verdict d first n h x facts ≡ Accepted) row.is row.accepted) (subst (λ (x : Reading). Knows d first n h x facts) row.is knows) row.awaited in
     let gift : Gift d n row.p h row.k i u.plain u.e = record {
       role = station_of d n row.p h row.k Accepted a.taken (ap ack row.message_is);
@@ -344,21 +350,25 @@ m3_fine d first n h octets r facts g reads knows legal s row =
       wraps = subst (λ (x : Ptk). Wraps x.kek u.plain row.k.fields.key_data) ready.0 u.wraps;
       spelled = u.spelled;
     } in
-    let core = m3_core d n row.p h w.0 octets row.k i u.plain u.e gift a ready.1 (find_key (carried (Some u.e)).key (memory row.p h)) refl in
+    let core = m3_core d n row.p h w.0 octets row.k i u.plain u.e gift a ready.1 (find_key (carried (Some u.e)).key (memory groups.Gtk row.p h)) refl in
     subst (λ (x : List Act). Fine d n h x) (sym row.says)
     (subst (λ (x : Ptk). Fine d n h (m3_acts d n row.p h octets row.k i x facts.data_)) (sym ready.0)
     (subst (λ (c : Option ElementFields). Fine d n h (m3_acts d n row.p h octets row.k i (ptk i) c)) (sym u.is) core))
+
+abbrev again_acts : Domain → Node → Node → List ℕ → KeyMessage → Inputs → Ptk → List Act
+again_acts d n p octets k i x = Took (Some p) octets (kind.Key M3) Answered (Some (frame_seal x.kck k.octets)) ∷ sent_m4 d n p (record { inputs = i; ptk = x }) k.fields.counter ∷ []
 
 repeated_m3_fine : (d : Domain) (first : ℕ) (n : Node) (h : List Act) (octets : List ℕ) (r : Reading) (facts : Facts) (g : List Act) → Reads d.akm octets r → LegalHistory d n h → Settled d n h → RepeatedM3Row d first n h octets r facts g → Fine d n h g
 repeated_m3_fine d first n h octets r facts g reads legal s row =
     let a = arrived_again d first n row.p h octets r row.k facts row.is reads row.from row.answered in
     let role : is_ap n ≡ false = station_of d n row.p h row.k Answered a.taken (ap ack row.message_is) in
     let there = (keying_in row.p h row.y row.awaited).there in
-    let key : row.y.ptk ≡ ptk row.y.inputs = derived_key d n row.p row.y.inputs row.y.ptk h legal there in
-    let derived : In (derives row.p row.y.inputs) h = subst (λ (k : Ptk). In (Derived row.p row.y.inputs k) h) key there in
+    let key : row.y.key.ptk ≡ ptk row.y.key.inputs = derived_key d n row.p row.y.key.inputs row.y.key.ptk h legal there in
+    let derived : In (derives row.p row.y.key.inputs) h = subst (λ (k : Ptk). In (Derived row.p row.y.key.inputs k) h) key there in
     subst (λ (x : List Act). Fine d n h x) (sym row.says)
-    (fine_quiet d n h (Took (Some row.p) octets (kind.Key M3) Answered (Some (frame_seal row.y.ptk.kck row.k.octets))) _ tt refl s (λ t.
-    fine_quiet d n _ (sent_m4 d n row.p row.y.inputs row.k.fields.counter) [] (legal_m4 d n row.p _ row.y.inputs row.k.fields.counter role (inr derived)) refl t (fine_none d n _)))
+    (subst (λ (x : Ptk). Fine d n h (again_acts d n row.p octets row.k row.y.key.inputs x)) (sym key)
+    (fine_quiet d n h (takes row.p octets M3 Answered row.y.key.inputs row.k) _ tt refl s (λ t.
+    fine_quiet d n _ (sent_m4 d n row.p (keyed_by row.y.key.inputs) row.k.fields.counter) [] (legal_m4 d n row.p _ row.y.key.inputs row.k.fields.counter role (inr derived)) refl t (fine_none d n _))))
 
 -- from the Installed on
 install_end : (d : Domain) (n p : Node) (h : List Act) (i : Inputs) → Settled d n h → Verified n h p i → Alive n h p i → Fine d n h (installs p i ∷ Finished p i ∷ [])

@@ -12,8 +12,8 @@ use Rattle.run_journal.specs.Acts.{same}
 use Rattle.run_journal.specs.Questions.{history, add}
 use Rattle.run_journal.specs.Premises.{In}
 use Rattle.domain_rules.specs.Network.{gtk, is_ap, IsListed}
-use Rattle.domain_rules.specs.Rows.{start_acts}
-use Rattle.domain_rules.specs.Explained.{number_of, push, Step, Follows, started, Explained}
+use Rattle.domain_rules.specs.AccessPointRows.{start_acts}
+use Rattle.domain_rules.specs.Explained.{Place, AddsAll, number_of, push, Step, Follows, started, Explained}
 use Rattle.domain_rules.proofs.Parts.{same-true, same-refl}
 use Rattle.domain_rules.proofs.Journals.{history-started_sta, history-not_started, history-started}
 use Rattle.domain_rules.proofs.KeyOctets.{octets-kdf}
@@ -80,11 +80,16 @@ push_sound d r n (e ∷ g) past w =
       others = λ m is. subst (λ (x : List Act). Settled d m x) (sym (other_history r n m e past is)) (w.others m is);
     })
 
+-- each node in turn
+all_sound : (d : Domain) (r : ℕ) (places : List Place) (old new : List Entry) → AddsAll d r places old new → Sound d r old → Sound d r new
+all_sound d r [] old new is s = subst (λ (x : List Entry). Sound d r x) (sym is) s
+all_sound d r (p ∷ places) old new (acts, (adds, rest)) s =
+    let fine : Fine d p.node (history p.node old) acts = adds_fine d 0 p.node (history p.node old) p.event acts (legal_history d p.node old s.legal) (s.settled p.node) adds in
+    let next : Sound d r (push r p.node acts old) = push_sound d r p.node acts old (record { legal = s.legal; until = s.until; chain = fine.chain; own = fine.settled; others = λ m is. s.settled m }) in
+    all_sound d r places (push r p.node acts old) new rest next
+
 step_sound : (d : Domain) (r : ℕ) (event : Event) (old new : List Entry) → Step d r event old new → Sound d r old → Sound d r new
-step_sound d r event old new step s =
-    let fine : Fine d step.node (history step.node old) step.acts = adds_fine d 0 step.node (history step.node old) step.at_node step.acts (legal_history d step.node old s.legal) (s.settled step.node) step.group in
-    subst (λ (x : List Entry). Sound d r x) (sym step.is)
-    (push_sound d r step.node step.acts old (record { legal = s.legal; until = s.until; chain = fine.chain; own = fine.settled; others = λ m is. s.settled m }))
+step_sound d r event old new step s = all_sound d r step.places old new step.adds s
 
 follows_sound : (d : Domain) (r : ℕ) (events : List Event) (old new : List Entry) → Follows d r events old new → Sound d r old → Sound d r new
 follows_sound d r [] old new is s = subst (λ (x : List Entry). Sound d r x) (sym is) s

@@ -19,7 +19,7 @@ use Rattle.domain_rules.specs.Network.{is_ap, IsNamed}
 use Rattle.journal_safety.proofs.Covers.{covered_message}
 use Rattle.journal_safety.proofs.Ends.{Tail, tail_rest, tail_trans, place}
 use Rattle.journal_safety.proofs.Names.{one_address, Crossed, IsSameName, same_name}
-use Rattle.journal_safety.proofs.Legal.{ack, derives, Carries, AreCommon, LegalSeal, LegalSealed, Verified, Legal}
+use Rattle.journal_safety.proofs.Legal.{goes_down, derives, Carries, AreCommon, LegalSeal, LegalSealed, Verified, Legal}
 use Rattle.journal_safety.proofs.Runs.{Until, LegalJournal}
 use Rattle.journal_safety.proofs.Places.{Good, good_tail, At, at_of, not_itself, apart_draws, Draws, DerivedAt, derived_at, derived_wider, has_derived}
 
@@ -166,7 +166,7 @@ pub record SealedBy (d : Domain) (n p : Node) (i : Inputs) (covered : List ℕ) 
   pub carries : Carries d (history p earlier) i covered (covered_message covered)
 
 pub sealed_by : (d : Domain) (n p : Node) (i : Inputs) (from : Option Node) (octets : List ℕ) (kd : Kind) (o : Outcome) (covered : List ℕ) (past : List Entry) → Good d past → In (derives p i) (history n past)
-    → In (Took from octets kd o (Some (seal_under i covered))) (history n past) → ack (covered_message covered) ≡ not (is_ap n) → SealedBy d n p i covered past
+    → In (Took from octets kd o (Some (seal_under i covered))) (history n past) → goes_down covered ≡ not (is_ap n) → SealedBy d n p i covered past
 sealed_by d n p i from octets kd o covered past g derived took direction =
     record {
       taken = w.entry;

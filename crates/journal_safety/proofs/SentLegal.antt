@@ -12,11 +12,13 @@ use Rattle.key_hierarchy.specs.declared.inputs.Inputs.{Inputs}
 use Rattle.run_journal.specs.declared.domain.Domain.{Domain}
 use Rattle.run_journal.specs.declared.acts.Act.{Act}
 use Rattle.run_journal.specs.Acts.{GroupKey}
-use Rattle.run_journal.specs.Questions.{gtks}
+use Rattle.run_journal.specs.Questions.{group_keys}
 use Rattle.run_journal.specs.Premises.{In}
 use Rattle.domain_rules.specs.Network.{is_ap}
-use Rattle.domain_rules.specs.Frames.{frame_seal, m2_frame, m3_frame, m4_frame, sent_m2, sent_m3, sent_m4, wrapped, m3_key_data}
+use Rattle.domain_rules.specs.Frames.{frame_seal, m2_frame, m3_frame, m4_frame, sent_m2, sent_m3, sent_m4, wrapped, m3_key_data, keyed_by}
 use Rattle.domain_rules.proofs.CarriedKey.{IsGroupKey, few_wrapped}
+use Rattle.domain_rules.proofs.KeyOctets.{octets-kek}
+use Rattle.run_journal.specs.GroupKinds as groups
 use Rattle.journal_safety.proofs.Covers.{Covers, sealed_covers}
 use Rattle.journal_safety.proofs.Legal.{ack, nonce_of, derives, Carries, LegalSeal, Legal}
 
@@ -30,18 +32,18 @@ seal_of d n p h i m frame f there covers direction carries = record {
   carries = subst (λ (x : Message). Carries d h i (1 ∷ without_mic frame) x) (sym covers.message) carries;
 }
 
-pub legal_m2 : (d : Domain) (n p : Node) (h : List Act) (i : Inputs) (counter : ℕ) → is_ap n ≡ false → In (derives p i) h → length i.snonce ≡ 32 → Legal d n h (sent_m2 d n p i counter)
+pub legal_m2 : (d : Domain) (n p : Node) (h : List Act) (i : Inputs) (counter : ℕ) → is_ap n ≡ false → In (derives p i) h → length i.snonce ≡ 32 → Legal d n h (sent_m2 d n p (keyed_by i) counter)
 legal_m2 d n p h i counter role there size =
-    (seal_of d n p h i M2 (m2_frame d i counter) _ there (sealed_covers M2 d.akm (ptk i).kck counter 0 i.snonce (rsne_octets d.akm None) (omega arith) size (omega arith)) (sym role) tt, λ is. cc is)
+    (seal_of d n p h i M2 (m2_frame d (keyed_by i) counter) _ there (sealed_covers M2 d.akm (ptk i).kck counter 0 i.snonce (rsne_octets d.akm None) (omega arith) size (omega arith)) (sym role) tt, λ is. cc is)
 
-pub legal_m4 : (d : Domain) (n p : Node) (h : List Act) (i : Inputs) (counter : ℕ) → is_ap n ≡ false → In (derives p i) h → Legal d n h (sent_m4 d n p i counter)
+pub legal_m4 : (d : Domain) (n p : Node) (h : List Act) (i : Inputs) (counter : ℕ) → is_ap n ≡ false → In (derives p i) h → Legal d n h (sent_m4 d n p (keyed_by i) counter)
 legal_m4 d n p h i counter role there =
-    (seal_of d n p h i M4 (m4_frame d i counter) _ there (sealed_covers M4 d.akm (ptk i).kck counter 0 (replicate 32 0) [] refl refl (omega arith)) (sym role) tt, λ is. cc is)
+    (seal_of d n p h i M4 (m4_frame d (keyed_by i) counter) _ there (sealed_covers M4 d.akm (ptk i).kck counter 0 (replicate 32 0) [] refl refl (omega arith)) (sym role) tt, λ is. cc is)
 
-pub legal_m3 : (d : Domain) (n p : Node) (h : List Act) (i : Inputs) (counter : ℕ) (g : GroupKey) (rsc : ℕ) → is_ap n ≡ true → In (derives p i) h → length i.anonce ≡ 32 → IsGroupKey g → In g.key (gtks h) → Legal d n h (sent_m3 d n p i counter g rsc)
+pub legal_m3 : (d : Domain) (n p : Node) (h : List Act) (i : Inputs) (counter : ℕ) (g : GroupKey) (rsc : ℕ) → is_ap n ≡ true → In (derives p i) h → length i.anonce ≡ 32 → IsGroupKey g → In g.key (group_keys groups.Gtk h) → Legal d n h (sent_m3 d n p (keyed_by i) counter g rsc)
 legal_m3 d n p h i counter g rsc role there size is drawn =
-    let covers = sealed_covers M3 d.akm (ptk i).kck counter rsc i.anonce (wrapped (ptk i).kek (m3_key_data d g)) tt size (few_wrapped d i g is) in (
-      seal_of d n p h i M3 (m3_frame d i counter g rsc) _ there covers (sym role) (record { key = g; is = is; drawn = drawn; load = covers.key_data }),
+    let covers = sealed_covers M3 d.akm (ptk i).kck counter rsc i.anonce (wrapped (ptk i).kek (m3_key_data d g)) tt size (few_wrapped d (ptk i).kek g (octets-kek i) is) in (
+      seal_of d n p h i M3 (m3_frame d (keyed_by i) counter g rsc) _ there covers (sym role) (record { key = g; is = is; drawn = drawn; load = covers.key_data }),
       λ e. (g.key, drawn),
     )
 

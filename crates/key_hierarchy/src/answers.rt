@@ -3,7 +3,7 @@
 use crate::fast_transition::PmkR1;
 
 /// How a key holder answers where a PMK-R0 is put into it.
-#[derive(Clone, Copy, Debug, PartialEq, Eq)]
+#[derive(Clone, Copy)]
 pub enum PutAnswer {
     /// It is held from now on.
     Held,
@@ -16,7 +16,7 @@ pub enum PutAnswer {
 }
 
 /// How the key holders answer where a PMK-R1 is asked for.
-#[derive(Clone, Copy, Debug, PartialEq, Eq)]
+#[derive(Clone, Copy)]
 pub enum PullAnswer {
     /// The key.
     Found(PmkR1),
@@ -27,7 +27,7 @@ pub enum PullAnswer {
 }
 
 /// How a key holder answers where a PMK-R0 is to be held no longer.
-#[derive(Clone, Copy, Debug, PartialEq, Eq)]
+#[derive(Clone, Copy)]
 pub enum RevokeAnswer {
     /// It was held until now.
     Revoked,

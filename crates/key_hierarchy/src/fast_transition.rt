@@ -21,7 +21,7 @@ use sha2::{Digest, Sha256};
 
 /// The first level of the hierarchy, of one network, mobility domain, R0 key holder and station
 /// (IEEE Std 802.11-2020, 12.7.1.6.3).
-#[derive(Clone, Copy, Debug, PartialEq, Eq)]
+#[derive(Clone, Copy)]
 pub struct PmkR0 {
     /// PMK-R0.
     pub key: [u8; 32],
@@ -30,7 +30,7 @@ pub struct PmkR0 {
 }
 
 /// The second level of the hierarchy, of one access point (IEEE Std 802.11-2020, 12.7.1.6.4).
-#[derive(Clone, Copy, Debug, PartialEq, Eq)]
+#[derive(Clone, Copy)]
 pub struct PmkR1 {
     /// PMK-R1.
     pub key: [u8; 32],

@@ -30,7 +30,7 @@ pub struct Inputs {
 }
 
 /// A pairwise transient key by its three parts (IEEE Std 802.11-2020, 12.7.1.3).
-#[derive(Clone, Copy, Debug, PartialEq, Eq)]
+#[derive(Clone, Copy, PartialEq, Eq)]
 pub struct Ptk {
     /// The key confirmation key, for MICs.
     pub kck: [u8; 16],

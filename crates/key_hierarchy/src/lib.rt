@@ -13,6 +13,3 @@ pub use derivation::{psk_of, ptk_of};
 pub use fast_transition::{PmkR0, PmkR1, ptk_from_r1, ptk_name};
 pub use inputs::{Inputs, Ptk};
 pub use pairwise::pairwise_ptk;
-
-#[cfg(test)]
-mod tests;

@@ -15,6 +15,3 @@ pub use expansion::{kdf, prf};
 pub use hmac::{hmac_sha1, hmac_sha256};
 pub use integrity::mic;
 pub use passphrase::pbkdf2;
-
-#[cfg(test)]
-mod tests;

@@ -7,7 +7,7 @@ use Rattle.domain_base.specs.declared.names.Mac.{Mac}
 use Rattle.run_journal.specs.declared.domain.Domain.{Domain}
 use Rattle.run_journal.specs.declared.domain.ListedAp.{ListedAp}
 use Rattle.run_journal.specs.declared.reply.Keyed.{Keyed}
-use Rattle.domain_rules.specs.Network.{IsListed, mac}
+use Rattle.domain_rules.specs.Network.{IsListed, mac, root}
 use Rattle.domain_rules.specs.Replies.{inputs_by}
 use Rattle.node_frames.specs.declared.ends.Ends.{Ends}
 use Rattle.node_frames.specs.Growing.{Grows}
@@ -37,7 +37,7 @@ ends_grown d e n p l g listed peer ends = record {
 }
 
 -- and their keys are made of the same
-pub inputs_grown : (d e : Domain) (n p : Node) (y : Keyed) → Grows d e → IsListed d n → IsListed d p → inputs_by e n p y ≡ inputs_by d n p y
+pub inputs_grown : (d e : Domain) (n p : Node) (y : Keyed) → Grows d e → IsListed d n → IsListed d p → inputs_by e (root e) n p y ≡ inputs_by d (root d) n p y
 inputs_grown d e (Ap k) p y g listed peer = rw (g.akm, g.psk, g.ssid, mac_grown d e (Ap k) g listed, mac_grown d e p g peer) refl
 inputs_grown d e (Sta k) p y g listed peer = rw (g.akm, g.psk, g.ssid, mac_grown d e (Sta k) g listed, mac_grown d e p g peer) refl
 

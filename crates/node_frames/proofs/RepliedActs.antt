@@ -21,13 +21,17 @@ use Rattle.run_journal.specs.declared.acts.Act.TheVariants.{Closed, Derived, Sen
 use Rattle.run_journal.specs.declared.reply.Reply.{Reply}
 use Rattle.run_journal.specs.declared.reply.Keyed.{Keyed}
 use Rattle.run_journal.specs.declared.reply.GtkNews.{GtkNews}
-use Rattle.run_journal.specs.Acts.{same, opens, ends, closes, finishes, is_same_attempt, derived, accepted, replied, sent, gtk_drawn, switched, given_from, uses_all, GroupKey}
-use Rattle.run_journal.specs.Questions.{attempt, session, pending, associated, given, gtks, switches, group_uses, is_draw, draws, add}
+use Rattle.run_journal.specs.Acts.{same, opens, ends, closes, finishes, is_same_attempt, derived, accepted, replied, sent, key_drawn, switched, given_from, uses_all, GroupKey}
+use Rattle.run_journal.specs.Questions.{attempt, session, pending, associated, given, group_keys, switches, group_uses, is_draw, draws, add}
 use Rattle.domain_rules.specs.Frames.{frame_seal}
 use Rattle.domain_rules.specs.GroupKeys.{got, got_by, told}
 use Rattle.domain_rules.specs.Reading.{KeyMessage}
-use Rattle.domain_rules.specs.Replies.{derived_acts, replaced_acts, installed_acts, gtk_acts, finished_acts, frame_acts, sent_acts, reply_acts, inputs_by}
+use Rattle.node_frames.specs.declared.room.Between.{Between}
+use Rattle.node_frames.specs.Rooms.{pair, taken, between_of}
+use Rattle.domain_rules.specs.Replies.{replied_acts, derived_acts, replaced_acts, installed_acts, gtk_acts, finished_acts, frame_acts, sent_acts, reply_acts, inputs_by}
 use Rattle.domain_rules.proofs.Parts.{IsApart, apart-took, attempt_none, session_more, draws_more, pending_more, associated_more, leaves_pending, leaves_associated, add_append, GoesOn, goes_on}
+use Rattle.run_journal.specs.GroupKinds as groups
+use Rattle.domain_rules.specs.Network.{root}
 use Rattle.group_key.specs.Keys.{Kept}
 use Rattle.group_key.specs.Holds.{Remembers}
 
@@ -41,15 +45,15 @@ pub record IsSilent (q : Node) (e : Act) : Type 0 where
   pub derives_none : derived q e ≡ None
   pub finishes_none : finishes q e ≡ false
   pub closes_none : closes q e ≡ false
-  pub gives_none : given_from q e ≡ None
-  pub gets_none : (key : List ℕ) (id heard before : ℕ) → got_by q key id e heard before ≡ before
+  pub gives_none : given_from groups.Gtk q e ≡ None
+  pub gets_none : (key : List ℕ) (id heard before : ℕ) → got_by groups.Gtk q key id e heard before ≡ before
 
 -- the act is about p: it draws nothing, makes no group key current, uses no packet number and begins no attempt
 pub record IsAbout (p : Node) (e : Act) : Type 0 where
   pub draws_none : is_draw e ≡ false
-  pub draws_no_key : gtk_drawn e ≡ None
-  pub switches_none : switched e ≡ None
-  pub uses_none : uses_all e ≡ false
+  pub draws_no_key : key_drawn groups.Gtk e ≡ None
+  pub switches_none : switched groups.Gtk e ≡ None
+  pub uses_none : uses_all groups.Gtk e ≡ false
   pub opens_none : (q : Node) → opens q e ≡ false
   pub ends_none : (q : Node) → is_same_attempt q p ≡ false → ends q e ≡ false
   pub others : (q : Node) → same q p ≡ false → IsSilent q e
@@ -220,18 +224,18 @@ pub all_joined : {X : Type 0} (P : X → Type 0) (xs ys : List X) → AllByRecur
 all_joined P [] ys all more = more
 all_joined P (x ∷ xs) ys all more = (all.0, all_joined P xs ys all.1 more)
 
-derived_about : (d : Domain) (n p : Node) (y : Option Keyed) → AllByRecursion (IsAbout p) (derived_acts d n p y)
+derived_about : (d : Domain) (n p : Node) (y : Option Keyed) → AllByRecursion (IsAbout p) (derived_acts d (root d) n p y)
 derived_about d n p None = tt
-derived_about d n p (Some y) = (about_derived p (inputs_by d n p y) y.ptk, tt)
+derived_about d n p (Some y) = (about_derived p (inputs_by d (root d) n p y) y.ptk, tt)
 
 replaced_about : (p : Node) (had : Bool) (x : Option Keyed) → AllByRecursion (IsAbout p) (replaced_acts p had x)
 replaced_about p true None = tt
 replaced_about p true (Some y) = (about_closed p, tt)
 replaced_about p false x = tt
 
-installed_about : (d : Domain) (n p : Node) (x : Option Keyed) → AllByRecursion (IsAbout p) (installed_acts d n p x)
+installed_about : (d : Domain) (n p : Node) (x : Option Keyed) → AllByRecursion (IsAbout p) (installed_acts d (root d) n p x)
 installed_about d n p None = tt
-installed_about d n p (Some y) = (about_pairwise p y.ptk.tk (inputs_by d n p y), tt)
+installed_about d n p (Some y) = (about_pairwise p y.ptk.tk (inputs_by d (root d) n p y), tt)
 
 gtk_by : (b : Bool) (p : Node) (key : List ℕ) (id : ℕ) (m : Mac) → IsAbout p (cond b (Resumed p (Group key id m)) (Installed (One p) (Group key id m)))
 gtk_by true p key id m = about_resumed p key id m
@@ -241,9 +245,9 @@ gtk_about : (d : Domain) (p : Node) (g : Option GtkNews) → AllByRecursion (IsA
 gtk_about d p None = tt
 gtk_about d p (Some g) = (gtk_by g.resumed p g.key g.id _, tt)
 
-finished_about : (d : Domain) (n p : Node) (x : Option Keyed) → AllByRecursion (IsAbout p) (finished_acts d n p x)
+finished_about : (d : Domain) (n p : Node) (x : Option Keyed) → AllByRecursion (IsAbout p) (finished_acts d (root d) n p x)
 finished_about d n p None = tt
-finished_about d n p (Some y) = (about_finished p (inputs_by d n p y), tt)
+finished_about d n p (Some y) = (about_finished p (inputs_by d (root d) n p y), tt)
 
 frame_by : (b : Bool) (p : Node) (r : Reply) (octets : List ℕ) → AllByRecursion (IsAbout p) (cond b [] (frame_acts p r octets))
 frame_by true p r octets = tt
@@ -256,10 +260,10 @@ pub replied_about : (d : Domain) (n p : Node) (had : Bool) (octets : List ℕ) (
 replied_about d n p had octets k o r = (
   about_took p octets (kind.Key k.message) o _,
   all_joined (IsAbout p) _ (sent_acts p r)
-      (all_joined (IsAbout p) _ (finished_acts d n p r.installed)
+      (all_joined (IsAbout p) _ (finished_acts d (root d) n p r.installed)
       (all_joined (IsAbout p) _ (gtk_acts d p r.gtk)
-      (all_joined (IsAbout p) _ (installed_acts d n p r.installed)
-      (all_joined (IsAbout p) (derived_acts d n p r.derived) (replaced_acts p had r.installed) (derived_about d n p r.derived) (replaced_about p had r.installed))
+      (all_joined (IsAbout p) _ (installed_acts d (root d) n p r.installed)
+      (all_joined (IsAbout p) (derived_acts d (root d) n p r.derived) (replaced_acts p had r.installed) (derived_about d n p r.derived) (replaced_about p had r.installed))
       (installed_about d n p r.installed))
       (gtk_about d p r.gtk))
       (finished_about d n p r.installed))
@@ -272,24 +276,24 @@ pub about_draws : (p : Node) (g h : List Act) → AllByRecursion (IsAbout p) g �
 about_draws p [] h all = refl
 about_draws p (e ∷ g) h all = about_draws p g (e ∷ h) all.1 ∙ draws_more e h all.0.draws_none
 
-gtks_more : (e : Act) (h : List Act) → gtk_drawn e ≡ None → gtks (e ∷ h) ≡ gtks h
+gtks_more : (e : Act) (h : List Act) → key_drawn groups.Gtk e ≡ None → group_keys groups.Gtk (e ∷ h) ≡ group_keys groups.Gtk h
 gtks_more e h none = rw none refl
 
-pub about_gtks : (p : Node) (g h : List Act) → AllByRecursion (IsAbout p) g → gtks (add g h) ≡ gtks h
+pub about_gtks : (p : Node) (g h : List Act) → AllByRecursion (IsAbout p) g → group_keys groups.Gtk (add g h) ≡ group_keys groups.Gtk h
 about_gtks p [] h all = refl
 about_gtks p (e ∷ g) h all = about_gtks p g (e ∷ h) all.1 ∙ gtks_more e h all.0.draws_no_key
 
-switches_more : (e : Act) (h : List Act) → switched e ≡ None → switches (e ∷ h) ≡ switches h
+switches_more : (e : Act) (h : List Act) → switched groups.Gtk e ≡ None → switches groups.Gtk (e ∷ h) ≡ switches groups.Gtk h
 switches_more e h none = rw none refl
 
-pub about_switches : (p : Node) (g h : List Act) → AllByRecursion (IsAbout p) g → switches (add g h) ≡ switches h
+pub about_switches : (p : Node) (g h : List Act) → AllByRecursion (IsAbout p) g → switches groups.Gtk (add g h) ≡ switches groups.Gtk h
 about_switches p [] h all = refl
 about_switches p (e ∷ g) h all = about_switches p g (e ∷ h) all.1 ∙ switches_more e h all.0.switches_none
 
-uses_more : (e : Act) (h : List Act) → switched e ≡ None → uses_all e ≡ false → group_uses (e ∷ h) ≡ group_uses h
+uses_more : (e : Act) (h : List Act) → switched groups.Gtk e ≡ None → uses_all groups.Gtk e ≡ false → group_uses groups.Gtk (e ∷ h) ≡ group_uses groups.Gtk h
 uses_more e h none unused = rw (none, unused) refl
 
-pub about_uses : (p : Node) (g h : List Act) → AllByRecursion (IsAbout p) g → group_uses (add g h) ≡ group_uses h
+pub about_uses : (p : Node) (g h : List Act) → AllByRecursion (IsAbout p) g → group_uses groups.Gtk (add g h) ≡ group_uses groups.Gtk h
 about_uses p [] h all = refl
 about_uses p (e ∷ g) h all = about_uses p g (e ∷ h) all.1 ∙ uses_more e h all.0.switches_none all.0.uses_none
 
@@ -305,24 +309,24 @@ about_session p q (e ∷ g) h other all =
     about_session p q g (e ∷ h) other all.1 ∙ session_more q e h (all.0.others q other).finishes_none (all.0.others q other).closes_none
 
 -- and the group keys that came of it
-given_more : (q : Node) (e : Act) (h : List Act) → given_from q e ≡ None → given q (e ∷ h) ≡ given q h
+given_more : (q : Node) (e : Act) (h : List Act) → given_from groups.Gtk q e ≡ None → given groups.Gtk q (e ∷ h) ≡ given groups.Gtk q h
 given_more q e h none = rw none refl
 
-about_given : (p q : Node) (g h : List Act) → same q p ≡ false → AllByRecursion (IsAbout p) g → given q (add g h) ≡ given q h
+about_given : (p q : Node) (g h : List Act) → same q p ≡ false → AllByRecursion (IsAbout p) g → given groups.Gtk q (add g h) ≡ given groups.Gtk q h
 about_given p q [] h other all = refl
 about_given p q (e ∷ g) h other all = about_given p q g (e ∷ h) other all.1 ∙ given_more q e h (all.0.others q other).gives_none
 
-about_got : (p q : Node) (key : List ℕ) (id : ℕ) (g h : List Act) → same q p ≡ false → AllByRecursion (IsAbout p) g → got q key id (add g h) ≡ got q key id h
+about_got : (p q : Node) (key : List ℕ) (id : ℕ) (g h : List Act) → same q p ≡ false → AllByRecursion (IsAbout p) g → got groups.Gtk q key id (add g h) ≡ got groups.Gtk q key id h
 about_got p q key id [] h other all = refl
-about_got p q key id (e ∷ g) h other all = about_got p q key id g (e ∷ h) other all.1 ∙ (all.0.others q other).gets_none key id (told q h) (got q key id h)
+about_got p q key id (e ∷ g) h other all = about_got p q key id g (e ∷ h) other all.1 ∙ (all.0.others q other).gets_none key id (told groups.Gtk q h) (got groups.Gtk q key id h)
 
-counters_on : (q : Node) (ks : List Kept) (h l : List Act) → ((key : List ℕ) (id : ℕ) → got q key id l ≡ got q key id h) → AllByRecursion (λ (k : Kept). k.counter ≡ got q k.key k.id h) ks
-    → AllByRecursion (λ (k : Kept). k.counter ≡ got q k.key k.id l) ks
+counters_on : (q : Node) (ks : List Kept) (h l : List Act) → ((key : List ℕ) (id : ℕ) → got groups.Gtk q key id l ≡ got groups.Gtk q key id h) → AllByRecursion (λ (k : Kept). k.counter ≡ got groups.Gtk q k.key k.id h) ks
+    → AllByRecursion (λ (k : Kept). k.counter ≡ got groups.Gtk q k.key k.id l) ks
 counters_on q [] h l same_got all = tt
 counters_on q (k ∷ ks) h l same_got all = (all.0 ∙ sym (same_got k.key k.id), counters_on q ks h l same_got all.1)
 
 -- the same keys came, with the same counters
-pub remembers_on : (q : Node) (ks : List Kept) (h l : List Act) → given q l ≡ given q h → ((key : List ℕ) (id : ℕ) → got q key id l ≡ got q key id h) → Remembers q ks h → Remembers q ks l
+pub remembers_on : (q : Node) (ks : List Kept) (h l : List Act) → given groups.Gtk q l ≡ given groups.Gtk q h → ((key : List ℕ) (id : ℕ) → got groups.Gtk q key id l ≡ got groups.Gtk q key id h) → Remembers q ks h → Remembers q ks l
 remembers_on q ks h l same_given same_got m = record {
   keys = m.keys ∙ ap (λ (l : List GroupKey). take 2 l) (sym same_given);
   counters = counters_on q ks h l same_got m.counters;
@@ -370,7 +374,7 @@ pub record EndsNone (e : Act) : Type 0 where
 took_ends : (p : Node) (octets : List ℕ) (k : Kind) (o : Outcome) (s : Option Seal) → EndsNone (Took (Some p) octets k o s)
 took_ends p octets k o s = record { leaves_attempt = refl; leaves_session = refl; ends_none = λ q. refl; finishes_none = λ q. refl; closes_none = λ q. refl }
 
-derived_ends : (d : Domain) (n p : Node) (y : Option Keyed) → AllByRecursion EndsNone (derived_acts d n p y)
+derived_ends : (d : Domain) (n p : Node) (y : Option Keyed) → AllByRecursion EndsNone (derived_acts d (root d) n p y)
 derived_ends d n p None = tt
 derived_ends d n p (Some y) = (record { leaves_attempt = refl; leaves_session = refl; ends_none = λ q. refl; finishes_none = λ q. refl; closes_none = λ q. refl }, tt)
 
@@ -393,7 +397,7 @@ sent_ends p r = frame_ends (r.len == 0) p r (take r.len r.octets)
 abbrev acts_by : Domain → Node → Node → Bool → List ℕ → KeyMessage → Outcome → Option (List ℕ) → Option Keyed → Option Keyed → Option GtkNews → List Act → List Act
 acts_by d n p had octets k o v y x g sends =
     Took (Some p) octets (kind.Key k.message) o (option_map (λ kck. frame_seal kck k.octets) v)
-    ∷ derived_acts d n p y ++ replaced_acts p had x ++ installed_acts d n p x ++ gtk_acts d p g ++ finished_acts d n p x ++ sends
+    ∷ derived_acts d (root d) n p y ++ replaced_acts p had x ++ installed_acts d (root d) n p x ++ gtk_acts d p g ++ finished_acts d (root d) n p x ++ sends
 
 replaced_none : (p : Node) (had : Bool) → AllByRecursion EndsNone (replaced_acts p had None)
 replaced_none p true = tt
@@ -407,7 +411,7 @@ ends_by d n p had octets k o v y g sends rest = (
       (all_joined EndsNone _ []
       (all_joined EndsNone _ (gtk_acts d p g)
       (all_joined EndsNone _ []
-      (all_joined EndsNone (derived_acts d n p y) (replaced_acts p had None) (derived_ends d n p y) (replaced_none p had))
+      (all_joined EndsNone (derived_acts d (root d) n p y) (replaced_acts p had None) (derived_ends d n p y) (replaced_none p had))
       tt)
       (gtk_ends d p g))
       tt)
@@ -436,12 +440,12 @@ ends_session q (e ∷ g) h all = ends_session q g (e ∷ h) all.1 ∙ session_mo
 abbrev before_end : Domain → Node → Node → Bool → List ℕ → KeyMessage → Outcome → Reply → Keyed → List Act
 before_end d n p had octets k o r y =
     Took (Some p) octets (kind.Key k.message) o (option_map (λ kck. frame_seal kck k.octets) r.verified)
-    ∷ derived_acts d n p r.derived ++ replaced_acts p had (Some y) ++ installed_acts d n p (Some y) ++ gtk_acts d p r.gtk
+    ∷ derived_acts d (root d) n p r.derived ++ replaced_acts p had (Some y) ++ installed_acts d (root d) n p (Some y) ++ gtk_acts d p r.gtk
 
 split_end : (d : Domain) (n p : Node) (had : Bool) (octets : List ℕ) (k : KeyMessage) (o : Outcome) (r : Reply) (y : Keyed)
-    → acts_by d n p had octets k o r.verified r.derived (Some y) r.gtk (sent_acts p r) ≡ before_end d n p had octets k o r y ++ (Finished p (inputs_by d n p y) ∷ sent_acts p r)
+    → acts_by d n p had octets k o r.verified r.derived (Some y) r.gtk (sent_acts p r) ≡ before_end d n p had octets k o r y ++ (Finished p (inputs_by d (root d) n p y) ∷ sent_acts p r)
 split_end d n p had octets k o r y =
-    append_assoc (before_end d n p had octets k o r y) (Finished p (inputs_by d n p y) ∷ []) (sent_acts p r)
+    append_assoc (before_end d n p had octets k o r y) (Finished p (inputs_by d (root d) n p y) ∷ []) (sent_acts p r)
 
 -- the attempt became a session, behind some acts
 pub record IsEnd (p : Node) (h new : List Act) : Type 0 where
@@ -454,12 +458,12 @@ pub record IsEnd (p : Node) (h new : List Act) : Type 0 where
 pub replied_end : (d : Domain) (n p : Node) (had : Bool) (octets : List ℕ) (k : KeyMessage) (o : Outcome) (r : Reply) (y : Keyed) (h : List Act) → r.installed ≡ Some y → IsEnd p h (add (reply_acts d n p had octets k o r) h)
 replied_end d n p had octets k o r y h some = record {
   past = add (before_end d n p had octets k o r y) h;
-  i = inputs_by d n p y;
+  i = inputs_by d (root d) n p y;
   more = sent_acts p r;
   ends_more = sent_ends p r;
   is = ap (λ (x : Option Keyed). add (acts_by d n p had octets k o r.verified r.derived x r.gtk (sent_acts p r)) h) some
       ∙ ap (λ (l : List Act). add l h) (split_end d n p had octets k o r y)
-      ∙ add_append (before_end d n p had octets k o r y) (Finished p (inputs_by d n p y) ∷ sent_acts p r) h;
+      ∙ add_append (before_end d n p had octets k o r y) (Finished p (inputs_by d (root d) n p y) ∷ sent_acts p r) h;
 }
 
 -- the attempt has become a session
@@ -468,3 +472,9 @@ end_pending p h new e = ap pending e.is ∙ ends_pending e.more (Finished p e.i 
 
 pub end_associated : (p : Node) (h new : List Act) → IsEnd p h new → associated new ≡ Some p
 end_associated p h new e = ap associated e.is ∙ ends_associated e.more (Finished p e.i ∷ e.past) e.ends_more
+
+-- ---- where nothing stands between
+
+pub nothing_between : (d : Domain) (n p : Node) (had : Bool) (octets : List ℕ) (k : KeyMessage) (o : Outcome) (r : Reply) (b : Between) → b.opened.items ≡ [] → b.put.items ≡ []
+    → replied_acts (pair d n p) had (taken octets k o) r (between_of b) ≡ reply_acts d n p had octets k o r
+nothing_between d n p had octets k o r b opened put = rw (opened, put) refl

@@ -1,5 +1,5 @@
 -- What a delivered frame is judged as before any question to the history (this project's choice).
-use Rattle.std.specs.Prelude.{◌≡◌, ℕ, ◌<◌, false, List, [], length, Option, Some, ◌⊎◌}
+use Rattle.std.specs.Prelude.{◌≡◌, ℕ, ◌+◌, ◌<◌, List, [], length, Option, Some, ◌⊎◌}
 use Rattle.domain_base.specs.declared.names.Node.{Node}
 use Rattle.domain_base.specs.declared.names.Node.TheVariants.{Ap, Sta}
 use Rattle.eapol_key.specs.Fields.{IsKeyFrame}
@@ -10,9 +10,12 @@ use Rattle.run_journal.specs.declared.acts.Kind.{Kind}
 use Rattle.run_journal.specs.declared.acts.Outcome.{Outcome}
 use Rattle.run_journal.specs.declared.acts.Outcome.TheVariants.{Ignored, Refused}
 use Rattle.run_journal.specs.declared.acts.Act.{Act}
+use Rattle.run_journal.specs.Questions.{draws}
 use Rattle.domain_rules.specs.Reading.{Reading, PassedOver, Managed, Keyed}
-use Rattle.domain_rules.specs.Verdict.{first_verdict, management_verdict, key_verdict}
-use Rattle.domain_rules.specs.Rows.{sender, is_after_mic, response}
+use Rattle.domain_rules.specs.Verdict.{first_verdict, key_verdict}
+use Rattle.domain_rules.specs.Associating.{management_verdict}
+use Rattle.domain_rules.specs.Closing.{sender}
+use Rattle.domain_rules.specs.Rows.{response}
 use Rattle.node_frames.specs.declared.judging.Judged.{Judged}
 use Rattle.node_frames.specs.declared.judging.Judged.TheVariants as judged
 use Rattle.node_frames.specs.Views.{management_fields, message_fields}
@@ -23,21 +26,20 @@ IsPeerOf d (Ap k) (Sta i) = i < length d.stas
 IsPeerOf d (Sta k) (Ap i) = i < length d.aps
 IsPeerOf d n p = ⊥
 
--- a refusal that no MIC comes before and that nothing answers
-pub record IsQuiet (d : Domain) (n : Node) (why : Reason) : Type 0 where
-  pub before_mic : is_after_mic why ≡ false
-  pub silent : (from : Option Node) (k : Kind) → response d n from k why ≡ []
+-- a refusal that nothing answers
+abbrev pub IsSilent : Domain → Node → Reason → Type 0
+IsSilent d n why = (from : Option Node) (k : Kind) → response d n from k why ≡ []
 
 -- the frame is passed over, or refused so
 abbrev pub IsSettled : Domain → Node → Reading → Outcome → Type 0
-IsSettled d n r o = ((o ≡ Ignored) × (r ≡ PassedOver)) ⊎ ((why : Reason) × (o ≡ Refused why) × IsQuiet d n why)
+IsSettled d n r o = ((o ≡ Ignored) × (r ≡ PassedOver)) ⊎ ((why : Reason) × (o ≡ Refused why) × IsSilent d n why)
 
 abbrev pub IsJudged : Domain → Node → Reading → Judged → Type 0
 IsJudged d n r (judged.Settled from outcome) =
     (from ≡ sender d n r) × ((first : ℕ) (h : List Act) → first_verdict d first n h r ≡ outcome) × IsSettled d n r outcome
 IsJudged d n r (judged.Managed from frame elements) =
     (r ≡ Managed (management_fields frame) (element_fields elements)) × (sender d n r ≡ Some from) × IsPeerOf d n from
-    × ((first : ℕ) (h : List Act) → first_verdict d first n h r ≡ management_verdict d first n h from frame.kind (management_fields frame) (element_fields elements))
+    × ((first : ℕ) (h : List Act) → first_verdict d first n h r ≡ management_verdict d (first + draws h) n h from frame.kind (management_fields frame) (element_fields elements))
 IsJudged d n r (judged.Keyed from message) =
     (r ≡ Keyed (message_fields message)) × (sender d n r ≡ Some from) × IsPeerOf d n from × IsKeyFrame message.frame
-    × ((first : ℕ) (h : List Act) → first_verdict d first n h r ≡ key_verdict d n h from message.message (message_fields message))
+    × ((first : ℕ) (h : List Act) → first_verdict d first n h r ≡ key_verdict d (first + draws h) n h from (message_fields message) message.message)

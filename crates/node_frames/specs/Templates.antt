@@ -6,14 +6,15 @@ use Rattle.run_journal.specs.declared.domain.Domain.{Domain}
 use Rattle.run_journal.specs.declared.acts.Seal.{Seal}
 use Rattle.run_journal.specs.declared.reply.Keyed.{Keyed}
 use Rattle.domain_rules.specs.Replies.{inputs_by}
+use Rattle.domain_rules.specs.Network.{Root}
 
 -- the inputs with the nonces of that key
 abbrev pub with_nonces : Inputs → Keyed → Inputs
 with_nonces i y = record i { anonce = y.anonce; snonce = y.snonce }
 
--- but for their nonces they are what the pairwise key of n with p is made of
-pub record IsTemplate (d : Domain) (n p : Node) (i : Inputs) : Type 0 where
-  pub is : (y : Keyed) → with_nonces i y ≡ inputs_by d n p y
+-- but for their nonces they are what the pairwise key of n with p is made of, by that root
+pub record IsTemplate (d : Domain) (r : Root) (n p : Node) (i : Inputs) : Type 0 where
+  pub is : (y : Keyed) → with_nonces i y ≡ inputs_by d r n p y
 
 -- octets under a key
 abbrev pub seal_over : List ℕ → List ℕ → Seal

@@ -10,7 +10,7 @@ use rsn_elements::{ElementFault, Elements};
 use run_journal::Kind;
 
 /// A management frame: its kind, its header, its status (0 in a request) and the octets of its elements.
-#[derive(Clone, Copy, Debug)]
+#[derive(Clone, Copy)]
 pub struct Management<'a> {
     /// Which of the management frames it is.
     pub kind: Kind,
@@ -23,7 +23,7 @@ pub struct Management<'a> {
 }
 
 /// An EAPOL-Key message in a data frame.
-#[derive(Clone, Copy, Debug)]
+#[derive(Clone, Copy)]
 pub struct KeyMessage<'a> {
     /// The header of the data frame.
     pub header: Header<'a>,
@@ -36,7 +36,7 @@ pub struct KeyMessage<'a> {
 }
 
 /// What the octets of a delivered frame are to a node.
-#[derive(Clone, Copy, Debug)]
+#[derive(Clone, Copy)]
 pub enum Delivered<'a> {
     /// The octets are no air frame of the profile.
     NoFrame(AirFault),

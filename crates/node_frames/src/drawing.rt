@@ -3,7 +3,7 @@
 ghost use Rattle.std.specs.Prelude.{◌≡◌, ◌≤◌, ◌++◌, IfOk, length};
 ghost use Rattle.std.specs.Int.{w64, to_be_bytes};
 ghost use Rattle.mac_prf.specs.Prf.{kdf};
-ghost use Rattle.domain_rules.specs.Network.{IsListed, address, nonce, gtk, inputs};
+ghost use Rattle.domain_rules.specs.Network.{IsListed, address, nonce, gtk, inputs, root};
 ghost use Rattle.node_frames.specs.Judging.{IsPeerOf};
 
 use crate::network::address;
@@ -62,7 +62,7 @@ pub fn pairwise_inputs(
 ) -> Result<Inputs, NoMemory>
     requires listed { IsListed domain.now node }
     requires peer { IsPeerOf domain.now node peer }
-    ensures { IfOk result (λ i. i ≡ inputs domain.now node peer own.now other.now) }
+    ensures { IfOk result (λ i. i ≡ inputs domain.now (root domain.now) node peer own.now other.now) }
 {
     let ssid = Vec::from_slice(alloc, domain.ssid.as_slice())?;
     let own_address = address(domain, node);

@@ -11,7 +11,7 @@ use domain_base::{Akm, Mac, Node};
 use run_journal::Domain;
 
 /// The two ends of a pairwise key as the frames between them name them, and the suite.
-#[derive(Clone, Copy, Debug)]
+#[derive(Clone, Copy)]
 pub struct Ends {
     /// The suite.
     pub akm: Akm,

@@ -1,7 +1,7 @@
 //! What an event is to one node.
 
 /// An event at a node. Numbers are those of the other node, from 0.
-#[derive(Clone, Copy, Debug)]
+#[derive(Clone, Copy)]
 pub enum NodeEvent<'a> {
     /// These octets come.
     Take(&'a [u8]),

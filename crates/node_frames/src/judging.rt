@@ -22,7 +22,7 @@ use run_journal::{Domain, Malformed, Outcome, Reason};
 const NO_MESSAGE: u8 = 19;
 
 /// What a delivered frame is judged as before any question to the history.
-#[derive(Clone, Copy, Debug)]
+#[derive(Clone, Copy)]
 pub enum Judged<'a> {
     /// Ignored or refused: the sender, where it is a listed node of the other kind, and what came of the frame.
     Settled(Option<Node>, Outcome),

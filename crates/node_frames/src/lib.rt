@@ -30,12 +30,9 @@ pub use network::{address, peer_of};
 pub use outbox::Outbox;
 pub use pairwise::pairwise_key;
 pub use reading::read;
-pub use room::Room;
+pub use room::{Between, Room};
 pub use send_room::SendRoom;
 pub use sending::{assoc_req, assoc_resp, refusal};
 pub use suites::{is_same_rsne, rsne_status};
 pub use taking::{settle, took};
 pub use writing::{write_m1, write_m2, write_m3, write_m4};
-
-#[cfg(test)]
-mod delivery_tests;

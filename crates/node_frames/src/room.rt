@@ -1,13 +1,13 @@
 //! The memory that the acts of one EAPOL-Key message take, taken before anything is done.
 
-ghost use Rattle.std.specs.Prelude.{◌≡◌, ◌≤◌, ◌<◌, ◌+◌, ◌++◌, ℕ, List, ◌∷◌, Some, IfOk, option_map};
+ghost use Rattle.std.specs.Prelude.{◌≡◌, ◌≤◌, ◌<◌, ◌+◌, ◌++◌, ℕ, List, [], ◌∷◌, length, Some, IfOk, option_map};
 ghost use Rattle.domain_base.specs.declared.names.Node.{Node as AnyNode};
 ghost use Rattle.mac_prf.specs.Mic.{without_mic};
 ghost use Rattle.run_journal.specs.declared.domain.Domain.{Domain as AnyDomain};
 ghost use Rattle.run_journal.specs.declared.acts.Kind.TheVariants as kind;
 ghost use Rattle.run_journal.specs.declared.acts.Act.TheVariants.{Took};
 ghost use Rattle.run_journal.specs.Replies.{IsWhole};
-ghost use Rattle.domain_rules.specs.Network.{IsListed, mac};
+ghost use Rattle.domain_rules.specs.Network.{IsListed, mac, root};
 ghost use Rattle.domain_rules.specs.Replies.{derived_acts, replaced_acts, installed_acts, gtk_acts, finished_acts};
 ghost use Rattle.node_frames.specs.Judging.{IsPeerOf};
 ghost use Rattle.node_frames.specs.Templates.{IsTemplate, with_nonces, seal_over};
@@ -36,7 +36,7 @@ fn cover(alloc: Global, frame: &[u8]) -> Result<Vec<u8>, NoMemory>
 fn template(alloc: Global, domain: &Domain, node: Node, peer: Node) -> Result<Inputs, NoMemory>
     requires listed { IsListed domain.now node }
     requires peer { IsPeerOf domain.now node peer }
-    ensures { IfOk result (λ i. IsTemplate domain.now node peer i) }
+    ensures { IfOk result (λ i. IsTemplate domain.now (root domain.now) node peer i) }
 {
     pairwise_inputs(alloc, domain, node, peer, &[0; 32], &[0; 32])
 }
@@ -66,7 +66,7 @@ fn seal_over(covered: Vec<u8>, key: Option<[u8; 16]>) -> Option<Seal>
 // The key was derived.
 fn add_derived(peer: Node, template: Inputs, derived: Option<Keyed>, out: &mut Outbox)
     requires { 0 < out.old.spare }
-    ensures acts { (d : AnyDomain) (n : AnyNode) → IsTemplate d n peer template → out.new.acts ≡ out.old.acts ++ derived_acts d n peer derived }
+    ensures acts { (d : AnyDomain) (n : AnyNode) → IsTemplate d (root d) n peer template → out.new.acts ≡ out.old.acts ++ derived_acts d (root d) n peer derived }
     ensures spare { out.old.spare ≤ out.new.spare + 1 }
 {
     let Some(key) = derived else { return };
@@ -96,7 +96,7 @@ fn add_replaced(peer: Node, had_session: bool, installed: Option<Keyed>, out: &m
 // The key was installed.
 fn add_installed(peer: Node, template: Inputs, installed: Option<Keyed>, out: &mut Outbox)
     requires { 0 < out.old.spare }
-    ensures acts { (d : AnyDomain) (n : AnyNode) → IsTemplate d n peer template → out.new.acts ≡ out.old.acts ++ installed_acts d n peer installed }
+    ensures acts { (d : AnyDomain) (n : AnyNode) → IsTemplate d (root d) n peer template → out.new.acts ≡ out.old.acts ++ installed_acts d (root d) n peer installed }
     ensures spare { out.old.spare ≤ out.new.spare + 1 }
 {
     let Some(key) = installed else { return };
@@ -129,7 +129,7 @@ fn add_group_key(peer: Node, bssid: Mac, gtk: Option<GtkNews>, out: &mut Outbox)
 // The attempt became a session under the key that was installed.
 fn add_finished(peer: Node, template: Inputs, installed: Option<Keyed>, out: &mut Outbox)
     requires { 0 < out.old.spare }
-    ensures acts { (d : AnyDomain) (n : AnyNode) → IsTemplate d n peer template → out.new.acts ≡ out.old.acts ++ finished_acts d n peer installed }
+    ensures acts { (d : AnyDomain) (n : AnyNode) → IsTemplate d (root d) n peer template → out.new.acts ≡ out.old.acts ++ finished_acts d (root d) n peer installed }
     ensures spare { out.old.spare ≤ out.new.spare + 1 }
 {
     let Some(key) = installed else { return };
@@ -137,6 +137,39 @@ fn add_finished(peer: Node, template: Inputs, installed: Option<Keyed>, out: &mu
         peer,
         inputs: with_nonces(template, &key),
     });
+}
+
+/// Acts of a node that take their place among those of a reply, which does not tell of them.
+#[derive(Drop)]
+pub struct Between {
+    /// Right after the frame was taken: a look at key holders, or what the frame opens.
+    pub opened: Vec<Act>,
+    /// Right before a frame is sent: what is put with key holders.
+    pub put: Vec<Act>,
+}
+
+impl Between {
+    /// No acts. Takes no memory.
+    pub fn nothing(alloc: Global) -> Self
+        ensures opened { result.opened.items ≡ [] }
+        ensures put { result.put.items ≡ [] }
+    {
+        Between {
+            opened: Vec::new(alloc),
+            put: Vec::new(alloc),
+        }
+    }
+}
+
+// These acts, in order.
+fn add_all(acts: Vec<Act>, out: &mut Outbox)
+    requires { length acts.items ≤ out.old.spare }
+    ensures acts { out.new.acts ≡ out.old.acts ++ acts.items }
+    ensures spare { out.old.spare ≤ out.new.spare + length acts.items }
+{
+    for act in acts {
+        out.add(act);
+    }
 }
 
 /// The memory that the acts of one EAPOL-Key message take.
@@ -156,8 +189,8 @@ pub struct Room {
 
 impl Room {
     ghost use Rattle.domain_rules.specs.Reading.{KeyMessage};
-    ghost use Rattle.domain_rules.specs.Replies.{reply_acts};
-    ghost use Rattle.node_frames.specs.Rooms.{IsRoom};
+    ghost use Rattle.domain_rules.specs.Replies.{replied_acts};
+    ghost use Rattle.node_frames.specs.Rooms.{IsRoom, pair, taken, between_of};
 
     /// Takes it, for a node that takes that air frame of its peer, with that EAPOL frame in it.
     pub fn take(
@@ -191,21 +224,22 @@ impl Room {
         })
     }
 
-    /// Adds the acts of taking the message with that outcome and reply, where there was a session with the peer or not.
-    /// Takes no memory.
+    /// Adds the acts of taking the message with that outcome and reply, where there was a session with the peer or not, and the acts
+    /// between them that the reply does not tell of. Takes no memory.
     pub fn add_reply(
         self,
         message: Message,
         outcome: Outcome,
         had_session: bool,
         reply: &Reply,
+        between: Between,
         out: &mut Outbox,
     )
-        requires room { 7 ≤ out.old.spare }
+        requires room { 7 + length between.opened.items + length between.put.items ≤ out.old.spare }
         requires whole { IsWhole reply.now }
         ensures acts { (d : AnyDomain) (n p : AnyNode) (octets : List ℕ) (k : KeyMessage) → IsRoom d n p octets k.octets self → k.message ≡ message
-            → out.new.acts ≡ out.old.acts ++ reply_acts d n p had_session octets k outcome reply.now }
-        ensures spare { out.old.spare ≤ out.new.spare + 7 }
+            → out.new.acts ≡ out.old.acts ++ replied_acts (pair d n p) had_session (taken octets k outcome) reply.now (between_of between) }
+        ensures spare { out.old.spare ≤ out.new.spare + (7 + length between.opened.items + length between.put.items) }
     {
         let Room {
             peer,
@@ -224,14 +258,13 @@ impl Room {
             outcome,
             seal: seal_over(covered, reply.verified),
         });
+        add_all(between.opened, out);
         add_derived(peer, derived, reply.derived, out);
         add_replaced(peer, had_session, reply.installed, out);
         add_installed(peer, installed, reply.installed, out);
         add_group_key(peer, address, reply.gtk, out);
         add_finished(peer, finished, reply.installed, out);
+        add_all(between.put, out);
         sent.add_sent(peer, reply, out);
     }
 }
-
-#[cfg(test)]
-mod tests;

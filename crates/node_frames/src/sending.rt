@@ -128,6 +128,3 @@ pub fn refusal(
 {
     response(alloc, domain, ap, station, status, 0, &[])
 }
-
-#[cfg(test)]
-pub(crate) mod tests;

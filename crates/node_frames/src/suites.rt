@@ -5,7 +5,7 @@ ghost use Rattle.std.specs.Option.{option_copied};
 ghost use Rattle.rsn_elements.specs.Fields.{rsne_fields};
 ghost use Rattle.rsn_elements.specs.Sent.{akm_type};
 ghost use Rattle.rsn_elements.specs.Pieces.{suite};
-ghost use Rattle.domain_rules.specs.Verdict.{is_suite, is_ccmp, requires_protection, rsne_status};
+ghost use Rattle.domain_rules.specs.Associating.{is_suite, is_ccmp, requires_protection, rsne_status};
 
 use domain_base::Akm;
 use rsn_elements::{Rsne, Suites};

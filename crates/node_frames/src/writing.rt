@@ -4,12 +4,11 @@ ghost use Rattle.std.specs.Prelude.{◌≡◌, ◌≤◌, ◌<◌, ◌+◌, ◌^
 ghost use Rattle.domain_base.specs.declared.names.Node.{Node as AnyNode};
 ghost use Rattle.domain_base.specs.declared.names.Peer.TheVariants.{One};
 ghost use Rattle.air_frame.specs.Sent.{IsAddress};
-ghost use Rattle.key_hierarchy.specs.declared.inputs.Inputs.{Inputs as AnyInputs};
-ghost use Rattle.key_hierarchy.specs.Keys.{ptk};
 ghost use Rattle.run_journal.specs.declared.domain.Domain.{Domain as AnyDomain};
 ghost use Rattle.run_journal.specs.declared.acts.Kind.TheVariants.{Key};
 ghost use Rattle.run_journal.specs.declared.acts.Act.TheVariants.{Sent};
 ghost use Rattle.run_journal.specs.Replies.{IsWhole};
+ghost use Rattle.run_journal.specs.Acts.{Derivation};
 ghost use Rattle.domain_rules.specs.Frames.{in_data, frame_seal, sent_m1, sent_m2, sent_m3, sent_m4};
 ghost use Rattle.domain_rules.specs.Replies.{sent_acts};
 ghost use Rattle.group_key.specs.Holds.{carried};
@@ -91,8 +90,8 @@ pub fn write_m1(ends: &Ends, counter: u64, anonce: &[u8; 32], reply: &mut Reply)
 
 /// Message 2 of the four-way handshake under that key, with the SNonce (IEEE Std 802.11-2020, 12.7.6.3).
 pub fn write_m2(ends: &Ends, key: &Ptk, counter: u64, snonce: &[u8; 32], reply: &mut Reply)
-    ensures writes { (d : AnyDomain) (n p : AnyNode) (i : AnyInputs) → AreEnds d n p ends.now → key.now ≡ ptk i
-        → i.snonce ≡ snonce.now → sent_acts p reply.new ≡ sent_m2 d n p i counter ∷ [] }
+    ensures writes { (d : AnyDomain) (n p : AnyNode) (x : Derivation) → AreEnds d n p ends.now → key.now ≡ x.ptk
+        → x.inputs.snonce ≡ snonce.now → sent_acts p reply.new ≡ sent_m2 d n p x counter ∷ [] }
     ensures keeps { Keeps reply.old reply.new }
     ensures fits { IsWhole reply.new }
     ensures whole { IsAddress ends.now.own.0 × IsAddress ends.now.peer.0 }
@@ -114,8 +113,8 @@ pub fn write_m3(
 )
     requires id { group.now.id < 4 }
     requires packet_number { rsc < 2 ^ 48 }
-    ensures writes { (d : AnyDomain) (n p : AnyNode) (i : AnyInputs) → AreEnds d n p ends.now → key.now ≡ ptk i
-        → i.anonce ≡ anonce.now → sent_acts p reply.new ≡ sent_m3 d n p i counter (carried group.now) rsc ∷ [] }
+    ensures writes { (d : AnyDomain) (n p : AnyNode) (x : Derivation) → AreEnds d n p ends.now → key.now ≡ x.ptk
+        → x.inputs.anonce ≡ anonce.now → sent_acts p reply.new ≡ sent_m3 d n p x counter (carried group.now) rsc ∷ [] }
     ensures keeps { Keeps reply.old reply.new }
     ensures fits { IsWhole reply.new }
     ensures whole { IsAddress ends.now.own.0 × IsAddress ends.now.peer.0 }
@@ -126,8 +125,8 @@ pub fn write_m3(
 
 /// Message 4 of the four-way handshake under that key (IEEE Std 802.11-2020, 12.7.6.5).
 pub fn write_m4(ends: &Ends, key: &Ptk, counter: u64, reply: &mut Reply)
-    ensures writes { (d : AnyDomain) (n p : AnyNode) (i : AnyInputs) → AreEnds d n p ends.now → key.now ≡ ptk i
-        → sent_acts p reply.new ≡ sent_m4 d n p i counter ∷ [] }
+    ensures writes { (d : AnyDomain) (n p : AnyNode) (x : Derivation) → AreEnds d n p ends.now → key.now ≡ x.ptk
+        → sent_acts p reply.new ≡ sent_m4 d n p x counter ∷ [] }
     ensures keeps { Keeps reply.old reply.new }
     ensures fits { IsWhole reply.new }
     ensures whole { IsAddress ends.now.own.0 × IsAddress ends.now.peer.0 }
@@ -135,6 +134,3 @@ pub fn write_m4(ends: &Ends, key: &Ptk, counter: u64, reply: &mut Reply)
     let frame = m4_frame(ends.akm, &key.kck, counter);
     write_frame(ends, Message::M4, Some(key.kck), &frame, reply);
 }
-
-#[cfg(test)]
-mod tests;

@@ -4,7 +4,7 @@ ghost use Rattle.std.specs.Prelude.{◌≡◌};
 ghost use Rattle.rsn_elements.specs.Codes.{code_of};
 
 /// What is wrong with an element.
-#[derive(Clone, Copy, Debug, PartialEq, Eq)]
+#[derive(Clone, Copy, PartialEq, Eq)]
 pub enum FaultKind {
     /// An id without a length, or a body past the end.
     Truncated,
@@ -34,7 +34,7 @@ impl FaultKind {
 }
 
 /// The first fault in reading order.
-#[derive(Clone, Copy, Debug, PartialEq, Eq)]
+#[derive(Clone, Copy, PartialEq, Eq)]
 pub struct ElementFault {
     /// Where the id of the element or subelement at fault stands, counted in octets from 0.
     pub place: usize,

@@ -5,7 +5,7 @@ ghost use Rattle.rsn_elements.specs.KeyData.{SpellsGtkKde};
 ghost use Rattle.rsn_elements.specs.Fields.{gtk_kde_fields};
 
 /// A GTK as it stands in key data.
-#[derive(Clone, Copy, Debug, PartialEq, Eq)]
+#[derive(Clone, Copy)]
 pub struct GtkKde<'a> {
     /// The key id, from 0 to 3.
     pub id: u8,

@@ -18,6 +18,3 @@ pub use reading::{Elements, read_elements};
 pub use security::{Pmkids, Rsne, Suites};
 pub use transition::{Fte, Mde, WrappedGtk};
 pub use writing::ElementWriter;
-
-#[cfg(test)]
-mod tests;

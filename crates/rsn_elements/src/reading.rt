@@ -1,6 +1,6 @@
 //! Reading the elements of a frame body or of key data.
 
-ghost use Rattle.std.specs.Prelude.{◌≡◌, ◌++◌, ◌∷◌, [], ℕ, List, IfOk, IsOkAnd, IfErr, OnOk, Err, IsTrue};
+ghost use Rattle.std.specs.Prelude.{◌≡◌, ◌++◌, ◌∷◌, [], ℕ, List, IfOk, IsOkAnd, IfErr, OnOk, Err, IsTrue, false, slice_index_or};
 ghost use Rattle.rsn_elements.specs.declared.faults.FaultKind.{FaultKind as AnyKind};
 ghost use Rattle.rsn_elements.specs.Framing.{Element, element_octets, EndsReading};
 ghost use Rattle.rsn_elements.specs.declared.framing.Within.TheVariants.{KeyData};
@@ -28,7 +28,7 @@ const TIMEOUT: u8 = 0x38;
 const GTK: [u8; 4] = [0x00, 0x0f, 0xac, 0x01];
 
 /// What elements say.
-#[derive(Clone, Copy, Debug, PartialEq, Eq)]
+#[derive(Clone, Copy)]
 pub struct Elements<'a> {
     /// The RSN element.
     pub rsne: Option<Rsne<'a>>,
@@ -160,6 +160,14 @@ impl<'a> Gathered<'a> {
         Ok(())
     }
 
+    // A timeout interval of that type stands among the elements.
+    fn has_type(&self, kind: u8) -> bool
+        ensures { result ≡ slice_index_or self.now.types kind false }
+    {
+        let place = usize::from(kind);
+        self.types[place]
+    }
+
     // A timeout interval, of any type.
     fn take_timeout(&mut self, element: Found<'a>) -> Result<(), ElementFault>
         requires { element.id ≡ 0x38 }
@@ -171,7 +179,7 @@ impl<'a> Gathered<'a> {
             return Err(fault_of(FaultKind::Length));
         };
         let kind = body[0];
-        if self.types[usize::from(kind)] {
+        if self.has_type(kind) {
             return Err(fault_of(FaultKind::Repeated));
         }
         self.types[usize::from(kind)] = true;

@@ -1,7 +1,8 @@
 //! The RSN element (IEEE Std 802.11-2020, 9.4.2.24).
 
-ghost use Rattle.std.specs.Prelude.{◌≡◌, ◌<◌, ◌≤◌, ◌+◌, ◌*◌, ◌/◌, ◌∷◌, length, take, option_map, MatchOption, SomeIff};
-ghost use Rattle.domain_base.specs.Places.{part};
+ghost use Rattle.std.specs.Prelude.{◌≡◌, ◌<◌, ◌≤◌, ◌+◌, ◌*◌, ◌/◌, ◌∷◌, ℕ, List, length, take, option_map, MatchOption, SomeIff};
+ghost use Rattle.std.specs.Int.{w16};
+ghost use Rattle.domain_base.specs.Places.{part, little_endian_at};
 ghost use Rattle.rsn_elements.specs.Rsne.{Field, IsSuite, IsNumber, IsList, SpellsRsne};
 ghost use Rattle.rsn_elements.specs.Fields.{rsne_fields};
 ghost use Rattle.rsn_elements.specs.RsneSteps.{IsBroken, HasNoFields, IsRsneRead};
@@ -10,7 +11,7 @@ use crate::faults::FaultKind;
 use domain_base::{array_at, little_u16_at};
 
 /// Suites, four octets each (9.4.2.24.2).
-#[derive(Clone, Copy, Debug, PartialEq, Eq)]
+#[derive(Clone, Copy)]
 pub struct Suites<'a>(pub &'a [u8]);
 
 impl Suites<'_> {
@@ -35,7 +36,7 @@ impl Suites<'_> {
 }
 
 /// Names of keys, sixteen octets each.
-#[derive(Clone, Copy, Debug, PartialEq, Eq)]
+#[derive(Clone, Copy)]
 pub struct Pmkids<'a>(pub &'a [u8]);
 
 impl Pmkids<'_> {
@@ -60,7 +61,7 @@ impl Pmkids<'_> {
 }
 
 /// An RSNE. It may end after any field; the fields behind are then absent.
-#[derive(Clone, Copy, Debug, PartialEq, Eq)]
+#[derive(Clone, Copy)]
 pub struct Rsne<'a> {
     /// Always 1.
     pub version: u16,
@@ -106,6 +107,15 @@ fn number_at(octets: &[u8]) -> Option<(Option<u16>, &[u8])>
     Some((Some(little_u16_at(octets, 0)), rest))
 }
 
+// How many octets a count and its members of n octets take.
+fn list_size(octets: &[u8], n: usize) -> usize
+    requires count { 2 ≤ length octets.now }
+    requires few { n ≤ 16 }
+    ensures { result ≡ 2 + n * little_endian_at w16 0 octets.now }
+{
+    2 + n * usize::from(little_u16_at(octets, 0))
+}
+
 // A count and its members of n octets at the front, and the octets behind them.
 fn list_at(octets: &[u8], n: usize) -> Option<(Option<&[u8]>, &[u8])>
     requires { n ≤ 16 }
@@ -117,7 +127,7 @@ fn list_at(octets: &[u8], n: usize) -> Option<(Option<&[u8]>, &[u8])>
     if octets.len() < 2 {
         return None;
     }
-    let size = 2 + n * usize::from(little_u16_at(octets, 0));
+    let size = list_size(octets, n);
     if octets.len() < size {
         return None;
     }
@@ -142,6 +152,14 @@ fn pmkids_at(octets: &[u8]) -> Option<(Option<Pmkids<'_>>, &[u8])>
     Some((members.map(Pmkids), rest))
 }
 
+// The suite of group management frames at the front. What stands behind it is not looked at.
+fn management_at(octets: &[u8]) -> Option<Option<[u8; 4]>>
+    ensures { MatchOption result (IsBroken IsSuite octets.now) (λ m. (rest : List ℕ) × Field IsSuite octets.now m rest) }
+{
+    let (management, _) = suite_at(octets)?;
+    Some(management)
+}
+
 // The fields behind the version, if the octets are a whole number of them.
 fn fields_at(octets: &[u8]) -> Option<Rsne<'_>>
     ensures { MatchOption result (HasNoFields octets.now) (λ r. SpellsRsne (1 ∷ 0 ∷ octets.now) (rsne_fields r)) }
@@ -151,7 +169,7 @@ fn fields_at(octets: &[u8]) -> Option<Rsne<'_>>
     let (akms, rest) = suites_at(rest)?;
     let (capabilities, rest) = number_at(rest)?;
     let (pmkids, rest) = pmkids_at(rest)?;
-    let (management, _) = suite_at(rest)?;
+    let management = management_at(rest)?;
     Some(Rsne {
         version: 1,
         group,

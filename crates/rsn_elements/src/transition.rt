@@ -11,7 +11,7 @@ use crate::framing::{Found, Next, Within, next_element};
 use domain_base::{array_at, little_u16_at};
 
 /// A mobility domain element (9.4.2.46).
-#[derive(Clone, Copy, Debug, PartialEq, Eq)]
+#[derive(Clone, Copy)]
 pub struct Mde {
     /// The mobility domain identifier.
     pub mdid: [u8; 2],
@@ -43,7 +43,7 @@ pub(crate) fn read_timeout(body: &[u8]) -> Option<u32>
 }
 
 /// A GTK under key wrap, as a subelement of an FTE (9.4.2.47).
-#[derive(Clone, Copy, Debug, PartialEq, Eq)]
+#[derive(Clone, Copy)]
 pub struct WrappedGtk<'a> {
     /// Key information: the key id in bits 0 and 1.
     pub information: u16,
@@ -56,7 +56,7 @@ pub struct WrappedGtk<'a> {
 }
 
 /// A fast BSS transition element (9.4.2.47).
-#[derive(Clone, Copy, Debug, PartialEq, Eq)]
+#[derive(Clone, Copy)]
 pub struct Fte<'a> {
     /// MIC control: the second octet is the number of elements under the MIC.
     pub mic_control: [u8; 2],

@@ -8,7 +8,10 @@ use Rattle.eapol_key.specs.declared.messages.Message.{Message}
 use Rattle.eapol_key.specs.declared.messages.Message.TheVariants.{M1, M2, M3, M4, G1, G2}
 use Rattle.key_hierarchy.specs.declared.inputs.Inputs.{Inputs}
 use Rattle.key_hierarchy.specs.declared.inputs.Ptk.{Ptk}
+use Rattle.run_journal.specs.GroupKinds.{GroupKind}
+use Rattle.run_journal.specs.GroupKinds as groups
 use Rattle.run_journal.specs.declared.acts.Part.TheVariants.{Attempt, Session}
+use Rattle.run_journal.specs.declared.acts.Drawn.{Drawn}
 use Rattle.run_journal.specs.declared.acts.Drawn.TheVariants.{Nonce, Gtk}
 use Rattle.run_journal.specs.declared.acts.Kind.{Kind}
 use Rattle.run_journal.specs.declared.acts.Kind.TheVariants as kind
@@ -85,10 +88,15 @@ abbrev pub nonce_drawn : Act → Option (List ℕ)
 nonce_drawn (Drew (Nonce v)) = Some v
 nonce_drawn _ = None
 
--- a group key was drawn
-abbrev pub gtk_drawn : Act → Option (List ℕ)
-gtk_drawn (Drew (Gtk v)) = Some v
-gtk_drawn _ = None
+-- the value drawn, where it is a group key of that kind
+abbrev pub key_of_draw : GroupKind → Drawn → Option (List ℕ)
+key_of_draw kind (Nonce v) = None
+key_of_draw groups.Gtk (Gtk v) = Some v
+
+-- a group key of that kind was drawn
+abbrev pub key_drawn : GroupKind → Act → Option (List ℕ)
+key_drawn kind (Drew v) = key_of_draw kind v
+key_drawn kind _ = None
 
 -- a key by its inputs
 pub record Derivation : Type 0 where
@@ -128,22 +136,22 @@ abbrev pub key_octets : Key → List ℕ
 key_octets (Pairwise tk i) = tk
 key_octets (Group gtk id b) = gtk
 
--- a group key was installed with all: it is the access point's current one
-abbrev pub switched : Act → Option (List ℕ)
-switched (Installed All (Group gtk id b)) = Some gtk
-switched _ = None
-
 -- a group key and its key id
 pub record GroupKey : Type 0 where
   pub key : List ℕ
   pub id : ℕ
 
--- a station installed a group key of access point p
-abbrev pub given_from : Node → Act → Option GroupKey
-given_from p (Installed (One q) (Group gtk id b)) = cond (same p q) (Some (record { key = gtk; id = id })) None
-given_from p _ = None
+-- a group key of that kind was installed with all: it is the access point's current one
+abbrev pub switched : GroupKind → Act → Option (List ℕ)
+switched groups.Gtk (Installed All (Group gtk id b)) = Some gtk
+switched kind _ = None
 
--- a packet number was used to all
-abbrev pub uses_all : Act → Bool
-uses_all (Used All key id number octets) = true
-uses_all _ = false
+-- a station installed a group key of that kind of access point p
+abbrev pub given_from : GroupKind → Node → Act → Option GroupKey
+given_from groups.Gtk p (Installed (One q) (Group gtk id b)) = cond (same p q) (Some (record { key = gtk; id = id })) None
+given_from kind p _ = None
+
+-- a packet number was used to all, under a group key of that kind
+abbrev pub uses_all : GroupKind → Act → Bool
+uses_all groups.Gtk (Used All key id number octets) = true
+uses_all kind _ = false

@@ -1,3 +1,4 @@
+pub mod GroupKinds
 pub mod Acts
 pub mod Questions
 pub mod Premises

@@ -1,12 +1,13 @@
 -- Questions to the history of one node: the list of its acts, NEWEST FIRST.
 use Rattle.std.specs.Prelude.{ℕ, suc, Bool, true, false, cond, List, [], ◌∷◌, Option, Some, None, is_some}
 use Rattle.domain_base.specs.declared.names.Node.{Node}
+use Rattle.run_journal.specs.GroupKinds.{GroupKind}
 use Rattle.run_journal.specs.declared.acts.Kind.{Kind}
 use Rattle.run_journal.specs.declared.acts.Part.TheVariants.{Attempt, Session}
 use Rattle.run_journal.specs.declared.acts.Act.{Act}
 use Rattle.run_journal.specs.declared.acts.Act.TheVariants.{Opened, Closed, Finished, Drew}
 use Rattle.run_journal.specs.declared.acts.Entry.{Entry}
-use Rattle.run_journal.specs.Acts.{same, opens, ends, closes, finishes, nonce_drawn, gtk_drawn, switched, GroupKey, given_from, uses_all, Derivation, derived, accepted, replied, sent}
+use Rattle.run_journal.specs.Acts.{same, opens, ends, closes, finishes, nonce_drawn, key_drawn, switched, GroupKey, given_from, uses_all, Derivation, derived, accepted, replied, sent}
 
 -- the acts of one node in a journal
 abbrev pub history : Node → List Entry → List Act
@@ -30,6 +31,11 @@ attempt p (e ∷ h) = cond (opens p e) (Some (e ∷ [])) (cond (ends p e) None (
 abbrev pub since : Node → List Act → List Act
 since p [] = []
 since p (e ∷ h) = cond (opens p e) (e ∷ []) (e ∷ since p h)
+
+-- what replay counters are asked of, and what a station's session goes on from: the history from the Opened on that begins the
+-- chain of attempts and sessions with p, of which each attempt begins a new one. At an access point it speaks of an attempt
+abbrev pub chain : Node → List Act → List Act
+chain p h = since p h
 
 -- the first nonce drawn: that of the attempt, of which this is the history
 abbrev pub own_nonce : List Act → Option (List ℕ)
@@ -85,25 +91,25 @@ abbrev pub all_sent : Node → Kind → List Act → List (List ℕ)
 all_sent p k [] = []
 all_sent p k (e ∷ h) = listed (sent p k e) (all_sent p k h)
 
--- the group keys drawn, the last first: the first of them is the newest
-abbrev pub gtks : List Act → List (List ℕ)
-gtks [] = []
-gtks (e ∷ h) = listed (gtk_drawn e) (gtks h)
+-- the group keys of that kind drawn, the last first: the first of them is the newest
+abbrev pub group_keys : GroupKind → List Act → List (List ℕ)
+group_keys kind [] = []
+group_keys kind (e ∷ h) = listed (key_drawn kind e) (group_keys kind h)
 
--- the group keys that an access point made current, the last first; the k-th is the k-th drawn
-abbrev pub switches : List Act → List (List ℕ)
-switches [] = []
-switches (e ∷ h) = listed (switched e) (switches h)
+-- the group keys of that kind that an access point made current, the last first; the k-th is the k-th drawn
+abbrev pub switches : GroupKind → List Act → List (List ℕ)
+switches kind [] = []
+switches kind (e ∷ h) = listed (switched kind e) (switches kind h)
 
--- the group keys that a station installed from access point p, the last first
-abbrev pub given : Node → List Act → List GroupKey
-given p [] = []
-given p (e ∷ h) = listed (given_from p e) (given p h)
+-- the group keys of that kind that a station installed from access point p, the last first
+abbrev pub given : GroupKind → Node → List Act → List GroupKey
+given kind p [] = []
+given kind p (e ∷ h) = listed (given_from kind p e) (given kind p h)
 
--- how many packet numbers an access point used under its current group key
-abbrev pub group_uses : List Act → ℕ
-group_uses [] = 0
-group_uses (e ∷ h) = cond (is_some (switched e)) 0 (cond (uses_all e) (suc (group_uses h)) (group_uses h))
+-- how many packet numbers an access point used under its current group key of that kind
+abbrev pub group_uses : GroupKind → List Act → ℕ
+group_uses kind [] = 0
+group_uses kind (e ∷ h) = cond (is_some (switched kind e)) 0 (cond (uses_all kind e) (suc (group_uses kind h)) (group_uses kind h))
 
 abbrev pub is_draw : Act → Bool
 is_draw (Drew v) = true

@@ -7,7 +7,7 @@ use key_hierarchy::{Inputs, Ptk};
 use rsn_elements::ElementFault;
 
 /// How an attempt began.
-#[derive(Clone, Copy, Debug, PartialEq, Eq)]
+#[derive(Clone, Copy, PartialEq, Eq)]
 pub enum Start {
     /// By association and a four-way handshake.
     Connect,
@@ -16,7 +16,7 @@ pub enum Start {
 }
 
 /// What of a peer was closed.
-#[derive(Clone, Copy, Debug, PartialEq, Eq)]
+#[derive(Clone, Copy, PartialEq, Eq)]
 pub enum Part {
     /// The attempt: no pairwise key was installed in it yet.
     Attempt,
@@ -25,7 +25,7 @@ pub enum Part {
 }
 
 /// A value drawn at random, as the standard wants it: never the same one twice.
-#[derive(Clone, Copy, Debug, PartialEq, Eq)]
+#[derive(Clone, Copy, PartialEq, Eq)]
 pub enum Drawn {
     /// An ANonce or an SNonce.
     Nonce([u8; 32]),
@@ -34,7 +34,7 @@ pub enum Drawn {
 }
 
 /// The kind of a frame, sent or taken.
-#[derive(Clone, Copy, Debug, PartialEq, Eq)]
+#[derive(Clone, Copy, PartialEq, Eq)]
 pub enum Kind {
     /// Association request.
     AssocReq,
@@ -61,7 +61,7 @@ pub enum Kind {
 }
 
 /// Which reader refused a frame, and where: the place is an offset in what that reader was given.
-#[derive(Clone, Copy, Debug, PartialEq, Eq)]
+#[derive(Clone, Copy, PartialEq, Eq)]
 pub enum Malformed {
     /// The octets are no air frame. The fault is not `OutOfProfile`.
     Air(AirFault),
@@ -72,7 +72,7 @@ pub enum Malformed {
 }
 
 /// What is wrong with opened or plain key data, the least that applies.
-#[derive(Clone, Copy, Debug, PartialEq, Eq)]
+#[derive(Clone, Copy, PartialEq, Eq)]
 pub enum KeyDataFault {
     /// 1: its elements cannot be read.
     Unreadable,
@@ -87,7 +87,7 @@ pub enum KeyDataFault {
 }
 
 /// Why a frame is refused, in the one order in which the reasons are tried.
-#[derive(Clone, Copy, Debug, PartialEq, Eq)]
+#[derive(Clone, Copy, PartialEq, Eq)]
 pub enum Reason {
     /// A reader refuses.
     Malformed(Malformed),
@@ -126,7 +126,7 @@ pub enum Reason {
 }
 
 /// Why an event did nothing.
-#[derive(Clone, Copy, Debug, PartialEq, Eq)]
+#[derive(Clone, Copy, PartialEq, Eq)]
 pub enum Why {
     /// There is no session to roam from.
     NoSession,
@@ -143,7 +143,7 @@ pub enum Why {
 }
 
 /// What came of a frame or of an event.
-#[derive(Clone, Copy, Debug, PartialEq, Eq)]
+#[derive(Clone, Copy, PartialEq, Eq)]
 pub enum Outcome {
     /// The frame was accepted.
     Accepted,

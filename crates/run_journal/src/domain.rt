@@ -58,7 +58,7 @@ pub struct Domain {
 }
 
 /// What a script asks for.
-#[derive(Debug, Drop)]
+#[derive(Drop)]
 pub enum Event {
     /// The station begins an attempt with the access point, by association.
     Connect {

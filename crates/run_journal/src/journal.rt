@@ -1,6 +1,6 @@
 //! The journal of a run: its entries in order, with the premises of safety decided as they come.
 
-ghost use Rattle.std.specs.Prelude.{◌≡◌, ◌≤◌, ◌<◌, ◌+◌, ◌-◌, [], ◌∷◌, length, max, reverse, slice_get, Some, OnOk, OnErr, IsOk};
+ghost use Rattle.std.specs.Prelude.{◌≡◌, ◌≤◌, ◌<◌, ◌+◌, ◌-◌, [], ◌∷◌, ◌++◌, length, max, reverse, slice_get, Some, OnOk, OnErr, IsOk, vec_len, vec_capacity};
 ghost use Rattle.run_journal.specs.Report.{Decides};
 
 use crate::acts::Entry;
@@ -21,6 +21,19 @@ pub struct Journal {
     index: Index,
     spare: usize,
     premises: Premises,
+}
+
+// One more entry, where there is room.
+fn append(entries: &mut Vec<Entry>, entry: Entry)
+    requires { vec_len entries.old < vec_capacity entries.old }
+    ensures items { entries.new.items ≡ entries.old.items ++ entry ∷ [] }
+    ensures len { vec_len entries.new ≡ vec_len entries.old + 1 }
+    ensures room { vec_capacity entries.old ≤ vec_capacity entries.new }
+{
+    match entries.push(entry) {
+        Ok(()) => {}
+        Err(_) => unreachable!(),
+    }
 }
 
 impl Model for Journal {
@@ -61,11 +74,12 @@ impl Journal {
         ensures err { OnErr result (self.new ≡ self.old) }
         ensures room { 0 < self.old.spare → IsOk result }
     {
-        if self.spare == 0 {
-            self.reserve(1)?;
+        let room = self.reserve(1);
+        match room {
+            Ok(()) => self.add(entry),
+            Err(_) => drop(entry),
         }
-        self.add(entry);
-        Ok(())
+        room
     }
 
     /// Makes room for at least so many more entries.
@@ -92,9 +106,7 @@ impl Journal {
     {
         self.premises = judge(self.premises, &self.entries, &self.index, &entry);
         self.index.add(&entry);
-        if self.entries.push(entry).is_err() {
-            unreachable!()
-        }
+        append(&mut self.entries, entry);
         self.spare -= 1;
     }
 

@@ -23,6 +23,3 @@ pub use journal::Journal;
 pub use laws::lines_read_no_key;
 pub use premises::Premises;
 pub use reply::{GtkNews, Keyed, REPLY_LEN, Reply};
-
-#[cfg(test)]
-mod tests;

@@ -1,7 +1,7 @@
 //! Which of the premises of safety hold of a journal.
 
 /// The three answers.
-#[derive(Clone, Copy, Debug, PartialEq, Eq)]
+#[derive(Clone, Copy)]
 pub struct Premises {
     /// The values drawn are pairwise different.
     pub fresh: bool,

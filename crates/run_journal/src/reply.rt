@@ -7,7 +7,7 @@ use key_hierarchy::Ptk;
 pub const REPLY_LEN: usize = 512;
 
 /// A pairwise key with the nonces that it was derived from.
-#[derive(Clone, Copy, Debug, PartialEq, Eq)]
+#[derive(Clone, Copy, PartialEq, Eq)]
 pub struct Keyed {
     /// The key.
     pub ptk: Ptk,
@@ -18,7 +18,7 @@ pub struct Keyed {
 }
 
 /// A group key that came.
-#[derive(Clone, Copy, Debug, PartialEq, Eq)]
+#[derive(Clone, Copy)]
 pub struct GtkNews {
     /// Whether the station had it, and it is taken into use again.
     pub resumed: bool,
@@ -29,7 +29,7 @@ pub struct GtkNews {
 }
 
 /// What a message, or the sending of one, comes to beside its outcome. It takes no memory.
-#[derive(Clone, Copy, Debug, PartialEq, Eq)]
+#[derive(Clone, Copy)]
 pub struct Reply {
     /// The air frame to send, at the front. What stands behind its last octet is no part of it, and nothing is said of it.
     pub octets: [u8; REPLY_LEN],

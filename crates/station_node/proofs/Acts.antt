@@ -12,6 +12,7 @@ use Rattle.run_journal.specs.Acts.{given_from}
 use Rattle.run_journal.specs.Questions.{is_draw}
 use Rattle.domain_rules.specs.GroupKeys.{got_by}
 use Rattle.domain_rules.proofs.Parts.{IsApart, apart-refused, apart-ignored, apart-idle, leaves_pending, leaves_associated}
+use Rattle.run_journal.specs.GroupKinds as groups
 
 -- an act that begins, ends, derives and gives nothing
 pub record IsPlainAct (e : Act) : Type 0 where
@@ -19,8 +20,8 @@ pub record IsPlainAct (e : Act) : Type 0 where
   pub no_draw : is_draw e ≡ false
   pub pending : leaves_pending e ≡ true
   pub associated : leaves_associated e ≡ true
-  pub gives : (p : Node) → given_from p e ≡ None
-  pub gets : (p : Node) (key : List ℕ) (id heard before : ℕ) → got_by p key id e heard before ≡ before
+  pub gives : (p : Node) → given_from groups.Gtk p e ≡ None
+  pub gets : (p : Node) (key : List ℕ) (id heard before : ℕ) → got_by groups.Gtk p key id e heard before ≡ before
 
 pub plain-refused : (from : Option Node) (octets : List ℕ) (k : Kind) (why : Reason) (s : Option Seal) → IsPlainAct (Took from octets k (Refused why) s)
 plain-refused from octets k why s = record {

@@ -13,7 +13,9 @@ use Rattle.run_journal.specs.declared.acts.Act.TheVariants.{Opened, Drew, Idle}
 use Rattle.run_journal.specs.Questions.{pending, associated}
 use Rattle.domain_rules.specs.Network.{nonce, last_draw}
 use Rattle.domain_rules.specs.Frames.{sent_assoc_req}
-use Rattle.domain_rules.specs.Rows.{Begin, close_pending, close_associated, outcome_of, Spent, Asks}
+use Rattle.domain_rules.specs.Rows.{Begin, outcome_of}
+use Rattle.domain_rules.specs.Closing.{close_pending, close_associated}
+use Rattle.domain_rules.specs.StationRows.{Spent, Asks}
 use Rattle.domain_rules.proofs.Effects.{asking_acts}
 use Rattle.node_frames.specs.Events.{Steps}
 use Rattle.station_node.specs.State.{State}

@@ -13,9 +13,10 @@ use Rattle.run_journal.specs.declared.acts.Act.TheVariants.{Closed, Took}
 use Rattle.run_journal.specs.Acts.{same}
 use Rattle.run_journal.specs.Questions.{session, pending, associated, given, add}
 use Rattle.domain_rules.specs.GroupKeys.{got}
-use Rattle.domain_rules.specs.Rows.{close_associated}
+use Rattle.domain_rules.specs.Closing.{close_associated}
 use Rattle.domain_rules.proofs.Parts.{attempt_none, attempt_more, attempt_some, by_connect_more, own_nonce_more, same-refl}
 use Rattle.domain_rules.proofs.Effects.{IsBegun, begun-counter, begun-silent, asking_acts, has_asked, asked-pending, asked-associated, asked-others, asked-draws, associated_acts}
+use Rattle.run_journal.specs.GroupKinds as groups
 use Rattle.group_key.specs.Keys.{Kept}
 use Rattle.group_key.specs.Holds.{Remembers}
 use Rattle.node_frames.specs.Ends.{AreEnds}
@@ -32,13 +33,13 @@ use Rattle.station_node.proofs.Standing.{no_attempt, no_session, no_other_sessio
 
 -- ---- it asks an access point for association
 
-asked-given : (d : Domain) (n : Node) (was had : Option Node) (a : ℕ) (v : List ℕ) (h : List Act) (p : Node) → given p (add (asking_acts d n was had a v) h) ≡ given p h
+asked-given : (d : Domain) (n : Node) (was had : Option Node) (a : ℕ) (v : List ℕ) (h : List Act) (p : Node) → given groups.Gtk p (add (asking_acts d n was had a v) h) ≡ given groups.Gtk p h
 asked-given d n None None a v h p = refl
 asked-given d n None (Some q) a v h p = refl
 asked-given d n (Some r) None a v h p = refl
 asked-given d n (Some r) (Some q) a v h p = refl
 
-asked-got : (d : Domain) (n : Node) (was had : Option Node) (a : ℕ) (v : List ℕ) (h : List Act) (p : Node) (key : List ℕ) (id : ℕ) → got p key id (add (asking_acts d n was had a v) h) ≡ got p key id h
+asked-got : (d : Domain) (n : Node) (was had : Option Node) (a : ℕ) (v : List ℕ) (h : List Act) (p : Node) (key : List ℕ) (id : ℕ) → got groups.Gtk p key id (add (asking_acts d n was had a v) h) ≡ got groups.Gtk p key id h
 asked-got d n None None a v h p key id = refl
 asked-got d n None (Some q) a v h p key id = refl
 asked-got d n (Some r) None a v h p key id = refl

@@ -13,16 +13,17 @@ use Rattle.supplicant.specs.declared.stage.Stage.{Stage}
 use Rattle.supplicant.specs.declared.stage.Stage.TheVariants.{Retired, Attempt, Session}
 use Rattle.supplicant.specs.State.{State as Supplicant}
 use Rattle.domain_rules.specs.Replies.{key_by}
+use Rattle.domain_rules.specs.Network.{root}
 use Rattle.supplicant.specs.Stands.{Stands as SupplicantStands, StandsIn}
 use Rattle.station_node.specs.declared.association.Association.{Association}
 use Rattle.station_node.specs.declared.association.Association.TheVariants.{Requested, Accepted}
 use Rattle.station_node.specs.State.{State}
 use Rattle.station_node.specs.Stands.{Stands, HasAssociation}
 
-key_grown : (d e : Domain) (sta a : ℕ) (y : Keyed) → Grows d e → sta < length d.stas → a < length d.aps → key_by d (Sta sta) (Ap a) y ≡ key_by e (Sta sta) (Ap a) y
+key_grown : (d e : Domain) (sta a : ℕ) (y : Keyed) → Grows d e → sta < length d.stas → a < length d.aps → key_by d (root d) (Sta sta) (Ap a) y ≡ key_by e (root e) (Sta sta) (Ap a) y
 key_grown d e sta a y g listed peer = ap (λ (i : Inputs). record { inputs = i; ptk = y.ptk }) (sym (inputs_grown d e (Sta sta) (Ap a) y g listed peer))
 
-keys_grown : (d e : Domain) (sta a : ℕ) (o : Option Keyed) → Grows d e → sta < length d.stas → a < length d.aps → option_map (key_by d (Sta sta) (Ap a)) o ≡ option_map (key_by e (Sta sta) (Ap a)) o
+keys_grown : (d e : Domain) (sta a : ℕ) (o : Option Keyed) → Grows d e → sta < length d.stas → a < length d.aps → option_map (key_by d (root d) (Sta sta) (Ap a)) o ≡ option_map (key_by e (root e) (Sta sta) (Ap a)) o
 keys_grown d e sta a None g listed peer = refl
 keys_grown d e sta a (Some y) g listed peer = ap (λ (x : Derivation). Some x) (key_grown d e sta a y g listed peer)
 

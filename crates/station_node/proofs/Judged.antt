@@ -1,5 +1,5 @@
 -- What a station knows of a frame by what it was judged as.
-use Rattle.std.proofs.Common.{◌≡◌, ℕ, true, List, [], ◌∷◌, ◌++◌, Option, Some, None, refl, ap, subst, ◌∙◌}
+use Rattle.std.proofs.Common.{◌+◌, ◌≡◌, ℕ, true, List, [], ◌∷◌, ◌++◌, Option, Some, None, refl, ap, subst, ◌∙◌}
 use Rattle.domain_base.specs.declared.names.Node.{Node}
 use Rattle.domain_base.specs.declared.names.Node.TheVariants.{Ap, Sta}
 use Rattle.rsn_elements.specs.Fields.{element_fields}
@@ -11,9 +11,12 @@ use Rattle.run_journal.specs.declared.acts.Act.{Act}
 use Rattle.run_journal.specs.declared.acts.Act.TheVariants.{Took}
 use Rattle.domain_rules.specs.Network.{is_ap}
 use Rattle.domain_rules.specs.Reading.{Reading, Reads, kind_of}
-use Rattle.domain_rules.specs.Verdict.{first_verdict, management_verdict, key_verdict}
+use Rattle.domain_rules.specs.Verdict.{first_verdict, key_verdict}
+use Rattle.domain_rules.specs.Associating.{management_verdict}
 use Rattle.domain_rules.specs.Replies.{IsMessageFrom}
-use Rattle.domain_rules.specs.Rows.{Take, sender}
+use Rattle.domain_rules.specs.Rows.{Take}
+use Rattle.domain_rules.specs.Closing.{sender}
+use Rattle.run_journal.specs.Questions.{draws}
 use Rattle.node_frames.specs.declared.delivered.Management.{Management}
 use Rattle.node_frames.specs.declared.delivered.KeyMessage.{KeyMessage}
 use Rattle.node_frames.specs.declared.judging.Judged.TheVariants as judged
@@ -34,8 +37,8 @@ managed_is d sta p octets r frame elements from j reads from_is = record {
   e = element_fields elements;
   reads = subst (λ (x : Reading). Reads d.akm octets x) j.0 reads;
   from = subst (λ (x : Reading). sender d (Sta sta) x ≡ Some (Ap p)) j.0 (j.1 ∙ ap (λ (x : Node). Some x) from_is);
-  verdict_is = λ first h. subst (λ (x : Reading). first_verdict d first (Sta sta) h x ≡ management_verdict d first (Sta sta) h (Ap p) frame.kind (management_fields frame) (element_fields elements)) j.0
-      (j.3 first h ∙ ap (λ (x : Node). management_verdict d first (Sta sta) h x frame.kind (management_fields frame) (element_fields elements)) from_is);
+  verdict_is = λ first h. subst (λ (x : Reading). first_verdict d first (Sta sta) h x ≡ management_verdict d (first + draws h) (Sta sta) h (Ap p) frame.kind (management_fields frame) (element_fields elements)) j.0
+      (j.3 first h ∙ ap (λ (x : Node). management_verdict d (first + draws h) (Sta sta) h x frame.kind (management_fields frame) (element_fields elements)) from_is);
 }
 
 pub judged-managed : (d : Domain) (n sta p : ℕ) (octets : List ℕ) (r : Reading) (frame : Management) (elements : Elements) (from : Node) → IsJudged d (Sta n) r (judged.Managed from frame elements) → Reads d.akm octets r → from ≡ Ap p → n ≡ sta
@@ -46,8 +49,8 @@ keyed_is : (d : Domain) (sta p : ℕ) (octets : List ℕ) (r : Reading) (message
 keyed_is d sta p octets r message from j reads from_is = record {
   reads = subst (λ (x : Reading). Reads d.akm octets x) j.0 reads;
   from = subst (λ (x : Reading). sender d (Sta sta) x ≡ Some (Ap p)) j.0 (j.1 ∙ ap (λ (x : Node). Some x) from_is);
-  verdict_is = λ first h. subst (λ (x : Reading). first_verdict d first (Sta sta) h x ≡ key_verdict d (Sta sta) h (Ap p) message.message (message_fields message)) j.0
-      (j.4 first h ∙ ap (λ (x : Node). key_verdict d (Sta sta) h x message.message (message_fields message)) from_is);
+  verdict_is = λ first h. subst (λ (x : Reading). first_verdict d first (Sta sta) h x ≡ key_verdict d (first + draws h) (Sta sta) h (Ap p) (message_fields message) message.message) j.0
+      (j.4 first h ∙ ap (λ (x : Node). key_verdict d (first + draws h) (Sta sta) h x (message_fields message) message.message) from_is);
 }
 
 pub judged-keyed : (d : Domain) (n sta p : ℕ) (octets : List ℕ) (r : Reading) (message : KeyMessage) (from : Node) → IsJudged d (Sta n) r (judged.Keyed from message) → Reads d.akm octets r → from ≡ Ap p → n ≡ sta

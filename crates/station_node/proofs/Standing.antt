@@ -12,6 +12,7 @@ use Rattle.run_journal.specs.Acts.{GroupKey}
 use Rattle.run_journal.specs.Questions.{attempt, session, given, listed}
 use Rattle.domain_rules.specs.GroupKeys.{told, got}
 use Rattle.domain_rules.proofs.Parts.{IsCarried, GoesOn, goes_on, draws_more, pending_more, associated_more}
+use Rattle.run_journal.specs.GroupKinds as groups
 use Rattle.group_key.specs.Keys.{Kept}
 use Rattle.group_key.specs.Holds.{Remembers}
 use Rattle.node_frames.proofs.RepliedActs.{remembers_on}
@@ -56,7 +57,7 @@ association_more d n (Some (Requested p v)) h e plain st = (st.0, requested_more
 association_more d n (Some (Accepted p s)) h e plain st = (st.0, supplicant_more d n (Ap p) s h e plain st.1)
 
 remembers_more : (p : Node) (ks : List Kept) (h : List Act) (e : Act) → IsPlainAct e → Remembers p ks h → Remembers p ks (e ∷ h)
-remembers_more p ks h e plain = remembers_on p ks h (e ∷ h) (ap (λ (o : Option GroupKey). listed o (given p h)) (plain.gives p)) (λ key id. plain.gets p key id (told p h) (got p key id h))
+remembers_more p ks h e plain = remembers_on p ks h (e ∷ h) (ap (λ (o : Option GroupKey). listed o (given groups.Gtk p h)) (plain.gives p)) (λ key id. plain.gets p key id (told groups.Gtk p h) (got groups.Gtk p key id h))
 
 pub stands-plain : (d : Domain) (first : ℕ) (s : State) (h : List Act) (e : Act) → IsPlainAct e → Stands d first s h → Stands d first s (e ∷ h)
 stands-plain d first s h e plain st = record {

@@ -1,5 +1,5 @@
 -- Each way in which a station takes an event, by what its code did.
-use Rattle.std.proofs.Common.{◌≡◌, ◌≢◌, inl, inr, ℕ, ◌<◌, ◌≤◌, false, cond, List, [], ◌∷◌, ◌++◌, length, Option, Some, None, refl, sym, ap, subst, ◌∙◌}
+use Rattle.std.proofs.Common.{◌+◌, ◌≡◌, ◌≢◌, inl, inr, ℕ, ◌<◌, ◌≤◌, false, cond, List, [], ◌∷◌, ◌++◌, length, Option, Some, None, refl, sym, ap, subst, ◌∙◌}
 use Rattle.std.specs.Prelude.{Result, Ok, Err, OnErr, slice_index_or, slice_set}
 use Rattle.std.proofs.lemmas.List.{get_or-set_same, get_or-set_other, set-get_or, get_or_default}
 use Rattle.std.proofs.lemmas.Bool.{ne_eqb}
@@ -22,8 +22,11 @@ use Rattle.domain_rules.specs.Network.{nonce, last_draw}
 use Rattle.domain_rules.specs.Frames.{sent_assoc_req}
 use Rattle.domain_rules.specs.Reading.{Management, KeyMessage, Reading, PassedOver, Managed, Keyed, Reads, kind_of}
 use Rattle.domain_rules.specs.Replies.{IsMessageFrom, reply_acts}
-use Rattle.domain_rules.specs.Verdict.{first_verdict, assoc_resp_verdict}
-use Rattle.domain_rules.specs.Rows.{Take, Begin, close_pending, close_associated, sender, seal_in, is_after_mic}
+use Rattle.domain_rules.specs.Verdict.{first_verdict}
+use Rattle.domain_rules.specs.Associating.{assoc_resp_verdict}
+use Rattle.run_journal.specs.Questions.{draws}
+use Rattle.domain_rules.specs.Rows.{Take, Begin, seal_in}
+use Rattle.domain_rules.specs.Closing.{close_pending, close_associated, sender}
 use Rattle.group_key.specs.Keys.{Kept}
 use Rattle.group_key.specs.Holds.{Remembers}
 use Rattle.node_frames.specs.Judging.{IsSettled}
@@ -73,21 +76,21 @@ taken-asked d s new p v request waited closed opened drew waits listed low v_is 
 -- ---- it refuses a frame, or passes over it
 
 pub taken-refused : (d : Domain) (s : State) (octets : List ℕ) (r : Reading) (from : Option Node) (k : Kind) (w : Reason) (waited waits : List Act) → Reads d.akm octets r
-    → ((first : ℕ) (h : List Act) → Stands d first s h → first_verdict d first (Sta s.number) h r ≡ Refused w) → ((h : List Act) → cond (is_after_mic w) (seal_in d (Sta s.number) h r) None ≡ None)
+    → ((first : ℕ) (h : List Act) → Stands d first s h → first_verdict d first (Sta s.number) h r ≡ Refused w)
     → sender d (Sta s.number) r ≡ from → kind_of r ≡ k → waits ≡ waited ++ Took from octets k (Refused w) None ∷ []
     → IsTaken d (Take octets) s s waited waits (Refused w)
-taken-refused d s octets r from k w waited waits reads verdict_is seal from_is kind_is is = record {
+taken-refused d s octets r from k w waited waits reads verdict_is from_is kind_is is = record {
   number = refl;
   steps = λ first h st. subst (λ (x : List Act). Steps d first (Sta s.number) (Take octets) (Stands d first s) h waited x (Refused w))
       (ap (λ (f : Option Node). waited ++ Took f octets (kind_of r) (Refused w) None ∷ []) from_is ∙ ap (λ (m : Kind). waited ++ Took from octets m (Refused w) None ∷ []) kind_is ∙ sym is)
-      (steps-refused d first s.number s h octets r w waited st reads (verdict_is first h st) (seal h));
+      (steps-refused d first s.number s h octets r w waited st reads (verdict_is first h st));
   refused = λ y e. refl;
 }
 
-taken-quiet : (d : Domain) (s : State) (octets : List ℕ) (r : Reading) (w : Reason) (waited waits : List Act) → Reads d.akm octets r → ((first : ℕ) (h : List Act) → first_verdict d first (Sta s.number) h r ≡ Refused w) → is_after_mic w ≡ false
+taken-quiet : (d : Domain) (s : State) (octets : List ℕ) (r : Reading) (w : Reason) (waited waits : List Act) → Reads d.akm octets r → ((first : ℕ) (h : List Act) → first_verdict d first (Sta s.number) h r ≡ Refused w)
     → waits ≡ waited ++ Took (sender d (Sta s.number) r) octets (kind_of r) (Refused w) None ∷ [] → IsTaken d (Take octets) s s waited waits (Refused w)
-taken-quiet d s octets r w waited waits reads verdict_is quiet is =
-    taken-refused d s octets r (sender d (Sta s.number) r) (kind_of r) w waited waits reads (λ first h st. verdict_is first h) (λ h. rw quiet refl) refl refl is
+taken-quiet d s octets r w waited waits reads verdict_is is =
+    taken-refused d s octets r (sender d (Sta s.number) r) (kind_of r) w waited waits reads (λ first h st. verdict_is first h) refl refl is
 
 taken-passed_over : (d : Domain) (s : State) (octets : List ℕ) (waited waits : List Act) → Reads d.akm octets PassedOver → waits ≡ waited ++ Took None octets kind.Ignored Ignored None ∷ [] → IsTaken d (Take octets) s s waited waits Ignored
 taken-passed_over d s octets waited waits reads is = record {
@@ -112,7 +115,7 @@ taken-settled d s octets r from outcome waited waits reads from_is verdict_is (i
     is ∙ ap (λ (f : Option Node). waited ++ Took f octets (kind_of r) outcome None ∷ []) from_is
     ∙ ap (λ (o : Outcome). waited ++ Took (sender d (Sta s.number) r) octets (kind_of r) o None ∷ []) refused.1 in
     subst (λ (o : Outcome). IsTaken d (Take octets) s s waited waits o) (sym refused.1)
-    (taken-quiet d s octets r refused.0 waited waits reads (λ first h. verdict_is first h ∙ refused.1) refused.2.before_mic took_is)
+    (taken-quiet d s octets r refused.0 waited waits reads (λ first h. verdict_is first h ∙ refused.1) took_is)
 
 -- ---- it takes a management frame of an access point
 
@@ -120,7 +123,7 @@ pub taken-other_management : (d : Domain) (s : State) (p : ℕ) (octets : List �
     → waits ≡ waited ++ Took (Some (Ap p)) octets k (Refused reason.Unawaited) None ∷ [] → IsTaken d (Take octets) s s waited waits (Refused reason.Unawaited)
 taken-other_management d s p octets b k waited waits m kind_is other is =
     taken-refused d s octets (Managed b m.e) (Some (Ap p)) k reason.Unawaited waited waits m.reads
-    (λ first h st. m.verdict_is first h ∙ management-other d first s.number h (Ap p) b.kind b m.e other) (λ h. refl) m.from kind_is is
+    (λ first h st. m.verdict_is first h ∙ management-other d (first + draws h) s.number h (Ap p) b.kind b m.e other) m.from kind_is is
 
 -- what comes of a response
 response_is : (d : Domain) (first sta : ℕ) (h : List Act) (p : ℕ) (octets : List ℕ) (b : Management) (m : IsManagementFrom d sta p octets b) → b.kind ≡ kind.AssocResp
@@ -131,7 +134,7 @@ pub taken-response_unawaited : (d : Domain) (s : State) (p : ℕ) (octets : List
     → waits ≡ waited ++ Took (Some (Ap p)) octets kind.AssocResp (Refused reason.Unawaited) None ∷ [] → IsTaken d (Take octets) s s waited waits (Refused reason.Unawaited)
 taken-response_unawaited d s p octets b waited waits m kind_is none is =
     taken-refused d s octets (Managed b m.e) (Some (Ap p)) kind.AssocResp reason.Unawaited waited waits m.reads
-    (λ first h st. response_is d first s.number h p octets b m kind_is ∙ response-unawaited d first s h p b st none) (λ h. refl) m.from kind_is is
+    (λ first h st. response_is d first s.number h p octets b m kind_is ∙ response-unawaited d first s h p b st none) m.from kind_is is
 
 pub taken-response_status : (d : Domain) (s : State) (p : ℕ) (v octets : List ℕ) (b : Management) (status : ℕ) (waited waits : List Act) → IsManagementFrom d s.number p octets b → b.kind ≡ kind.AssocResp
     → s.association ≡ Some (association.Requested p v) → b.status ≡ status → status ≢ 0
@@ -139,7 +142,7 @@ pub taken-response_status : (d : Domain) (s : State) (p : ℕ) (v octets : List 
 taken-response_status d s p v octets b status waited waits m kind_is has status_is other is =
     let unlike = ne_eqb status 0 other in
     taken-refused d s octets (Managed b m.e) (Some (Ap p)) kind.AssocResp (reason.Status status) waited waits m.reads
-    (λ first h st. response_is d first s.number h p octets b m kind_is ∙ response-awaited d first s h p v b st has ∙ rw (status_is, unlike) refl) (λ h. refl) m.from kind_is is
+    (λ first h st. response_is d first s.number h p octets b m kind_is ∙ response-awaited d first s h p v b st has ∙ rw (status_is, unlike) refl) m.from kind_is is
 
 pub taken-response : (d : Domain) (s new : State) (p : ℕ) (v octets : List ℕ) (b : Management) (x : Supplicant) (memories : List (List Kept)) (act : Act) (waited waits : List Act) → IsManagementFrom d s.number p octets b → b.kind ≡ kind.AssocResp
     → s.association ≡ Some (association.Requested p v) → b.status ≡ 0 → AreEnds d (Sta s.number) (Ap p) x.ends → x.psk ≡ d.psk → x.stage ≡ Attempt v None → ((k : ℕ) → memory_at memories k ≡ memory_at s.memories k)
@@ -157,7 +160,7 @@ pub taken-unawaited : (d : Domain) (s : State) (p : ℕ) (octets : List ℕ) (k 
     → waits ≡ waited ++ Took (Some (Ap p)) octets (kind.Key k.message) (Refused reason.Unawaited) None ∷ [] → IsTaken d (Take octets) s s waited waits (Refused reason.Unawaited)
 taken-unawaited d s p octets k waited waits f none is =
     taken-refused d s octets (Keyed k) (Some (Ap p)) (kind.Key k.message) reason.Unawaited waited waits f.reads
-    (λ first h st. f.verdict_is first h ∙ message-unawaited d first s h p k.message k st none) (λ h. refl) f.from refl is
+    (λ first h st. f.verdict_is first h ∙ message-unawaited d first s h p k k.message st none) f.from refl is
 
 -- a refusal leaves supplicant and memories
 pub record Leaves (old new : Supplicant) (had has : List (List Kept)) (o : Outcome) : Type 0 where

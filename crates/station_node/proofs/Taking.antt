@@ -9,8 +9,10 @@ use Rattle.run_journal.specs.declared.acts.Outcome.TheVariants.{Accepted, Ignore
 use Rattle.run_journal.specs.declared.acts.Act.{Act}
 use Rattle.run_journal.specs.declared.acts.Act.TheVariants.{Took}
 use Rattle.domain_rules.specs.Reading.{Management, Reading, PassedOver, Managed, Reads, kind_of}
-use Rattle.domain_rules.specs.Verdict.{ComesSoFar, first_verdict, assoc_resp_verdict}
-use Rattle.domain_rules.specs.Rows.{Take, sender, seal_in, is_after_mic, By_assoc_resp, By_ignored, By_refusal}
+use Rattle.domain_rules.specs.Verdict.{ComesSoFar, first_verdict}
+use Rattle.domain_rules.specs.Associating.{assoc_resp_verdict}
+use Rattle.domain_rules.specs.Rows.{Take, seal_in, refused_seal, By_assoc_resp, By_ignored, By_refusal}
+use Rattle.domain_rules.specs.Closing.{sender}
 use Rattle.domain_rules.proofs.Effects.{associated_acts}
 use Rattle.domain_rules.proofs.Refused.{no_facts}
 use Rattle.group_key.specs.Keys.{Kept}
@@ -26,17 +28,21 @@ use Rattle.station_node.proofs.Standing.{stands-plain}
 use Rattle.station_node.proofs.Beginning.{associated_state, stands-associated}
 use Rattle.station_node.proofs.Verdicts.{response-awaited}
 
+-- nothing was sealed in a frame that the history refuses
+unsealed : (d : Domain) (first sta : ℕ) (h : List Act) (r : Reading) (why : Reason) → first_verdict d first (Sta sta) h r ≡ Refused why → refused_seal d first (Sta sta) h r ≡ None
+unsealed d first sta h r why is = rw is refl
+
 pub steps-refused : (d : Domain) (first sta : ℕ) (s : State) (h : List Act) (octets : List ℕ) (r : Reading) (why : Reason) (waited : List Act)
-    → Stands d first s h → Reads d.akm octets r → first_verdict d first (Sta sta) h r ≡ Refused why → cond (is_after_mic why) (seal_in d (Sta sta) h r) None ≡ None
+    → Stands d first s h → Reads d.akm octets r → first_verdict d first (Sta sta) h r ≡ Refused why
     → Steps d first (Sta sta) (Take octets) (Stands d first s) h waited (waited ++ Took (sender d (Sta sta) r) octets (kind_of r) (Refused why) None ∷ []) (Refused why)
-steps-refused d first sta s h octets r why waited st reads is seal = record {
+steps-refused d first sta s h octets r why waited st reads is = record {
   acts = Took (sender d (Sta sta) r) octets (kind_of r) (Refused why) None ∷ [];
   adds = record {
     r = r;
     reads = reads;
     facts = no_facts;
     knows = λ so. absurd (subst ComesSoFar is so);
-    row = By_refusal (record { why = why; refused = rw is refl; says = rw seal refl });
+    row = By_refusal (record { why = why; refused = rw is refl; says = rw (unsealed d first sta h r why is) refl });
   };
   waiting = refl;
   came = refl;

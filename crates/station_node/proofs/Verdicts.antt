@@ -1,5 +1,5 @@
 -- What comes of frames at a station, by the association that it has.
-use Rattle.std.proofs.Common.{◌≡◌, ◌≢◌, inl, inr, ℕ, true, false, List, Option, Some, None, refl, ap, subst}
+use Rattle.std.proofs.Common.{◌∙◌, ◌+◌, ◌≡◌, ◌≢◌, inl, inr, ℕ, true, false, List, Option, Some, None, refl, ap, subst}
 use Rattle.std.specs.Prelude.{if◌then◌else◌, ◌==◌}
 use Rattle.std.proofs.lemmas.Bool.Decides.{eqb_tells}
 use Rattle.domain_base.specs.declared.names.Node.{Node}
@@ -13,10 +13,14 @@ use Rattle.run_journal.specs.declared.acts.Kind.TheVariants as kind
 use Rattle.run_journal.specs.declared.acts.Reason.TheVariants as reason
 use Rattle.run_journal.specs.declared.acts.Outcome.TheVariants as outcome
 use Rattle.run_journal.specs.declared.acts.Act.{Act}
-use Rattle.run_journal.specs.Questions.{attempt, session}
+use Rattle.run_journal.specs.Questions.{attempt, session, draws}
 use Rattle.domain_rules.specs.Reading.{Management, KeyMessage}
-use Rattle.domain_rules.specs.Verdict.{assoc_resp_verdict, management_verdict, key_verdict, m3_keying}
+use Rattle.domain_rules.specs.Associating.{assoc_resp_verdict, management_verdict}
+use Rattle.domain_rules.specs.Verdict.{key_verdict}
+use Rattle.domain_rules.specs.StationKeys.{m3_keying}
 use Rattle.domain_rules.proofs.Verdicts.{unawaited-assoc_resp, unawaited-m1, assoc_resp-in, m1-in}
+use Rattle.domain_rules.proofs.Parts.{since_part}
+use Rattle.domain_rules.specs.Asking.{kept_counter}
 use Rattle.supplicant.specs.declared.stage.Stage.{Stage}
 use Rattle.supplicant.specs.declared.stage.Stage.TheVariants.{Retired, Attempt, Session}
 use Rattle.supplicant.specs.Stands.{StandsIn}
@@ -60,36 +64,36 @@ response-awaited d first s h p v b st is =
 
 -- ---- an EAPOL-Key message where no association of that access point was accepted
 
-message_nowhere : (d : Domain) (s : ℕ) (h : List Act) (p : Node) (m : Message) (k : KeyMessage) → attempt p h ≡ None → session p h ≡ None → key_verdict d (Sta s) h p m k ≡ outcome.Refused reason.Unawaited
-message_nowhere d s h p M1 k none silent = unawaited-m1 h p k none
-message_nowhere d s h p M3 k none silent = m3_none d (Sta s) p Retired h k (record { no_attempt = none; no_session = silent }) tt
-message_nowhere d s h p _ k none silent = refl
+message_nowhere : (d : Domain) (drawn s : ℕ) (h : List Act) (p : Node) (k : KeyMessage) (m : Message) → attempt p h ≡ None → session p h ≡ None → key_verdict d drawn (Sta s) h p k m ≡ outcome.Refused reason.Unawaited
+message_nowhere d drawn s h p k M1 none silent = unawaited-m1 h p k none
+message_nowhere d drawn s h p k M3 none silent = m3_none d (Sta s) p Retired h k (record { no_attempt = none; no_session = silent }) tt
+message_nowhere d drawn s h p k _ none silent = refl
 
 no_m3 : (p : Node) (v : List ℕ) (h : List Act) → IsRequested p v h → m3_keying p h ≡ None
 no_m3 p v h r = rw (r.is, r.begun, r.asked) refl
 
-message_requested : (d : Domain) (s : ℕ) (h : List Act) (p : Node) (v : List ℕ) (m : Message) (k : KeyMessage) → IsRequested p v h → key_verdict d (Sta s) h p m k ≡ outcome.Refused reason.Unawaited
-message_requested d s h p v M1 k r = m1-in h p k r.part false None r.is r.begun r.hears r.keeps
-message_requested d s h p v M3 k r = rw (no_m3 p v h r) refl
-message_requested d s h p v _ k r = refl
+message_requested : (d : Domain) (drawn s : ℕ) (h : List Act) (p : Node) (v : List ℕ) (k : KeyMessage) (m : Message) → IsRequested p v h → key_verdict d drawn (Sta s) h p k m ≡ outcome.Refused reason.Unawaited
+message_requested d drawn s h p v k M1 r = m1-in h p k r.part false None r.is r.begun r.hears (ap (kept_counter p) (since_part p h r.part r.is) ∙ r.keeps)
+message_requested d drawn s h p v k M3 r = rw (no_m3 p v h r) refl
+message_requested d drawn s h p v k _ r = refl
 
-message_by : (d : Domain) (s : ℕ) (o : Option Association) (h : List Act) (p : ℕ) (m : Message) (k : KeyMessage) → HasAssociation d (Sta s) o h → (IsElsewhere o p → attempt (Ap p) h ≡ None) → (IsElsewhere o p → session (Ap p) h ≡ None)
-    → IsNotAccepted o p → key_verdict d (Sta s) h (Ap p) m k ≡ outcome.Refused reason.Unawaited
-message_by d s None h p m k has alone silent none = message_nowhere d s h (Ap p) m k (alone tt) (silent tt)
-message_by d s (Some (Requested a v)) h p m k has alone silent none = elim (eqb_tells a p) [
-  | inl here ↦ subst (λ (x : ℕ). key_verdict d (Sta s) h (Ap x) m k ≡ outcome.Refused reason.Unawaited) here.1 (message_requested d s h (Ap a) v m k has.1)
-  | inr other ↦ message_nowhere d s h (Ap p) m k (alone other.1) (silent other.1)
+message_by : (d : Domain) (drawn s : ℕ) (o : Option Association) (h : List Act) (p : ℕ) (k : KeyMessage) (m : Message) → HasAssociation d (Sta s) o h → (IsElsewhere o p → attempt (Ap p) h ≡ None) → (IsElsewhere o p → session (Ap p) h ≡ None)
+    → IsNotAccepted o p → key_verdict d drawn (Sta s) h (Ap p) k m ≡ outcome.Refused reason.Unawaited
+message_by d drawn s None h p k m has alone silent none = message_nowhere d drawn s h (Ap p) k m (alone tt) (silent tt)
+message_by d drawn s (Some (Requested a v)) h p k m has alone silent none = elim (eqb_tells a p) [
+  | inl here ↦ subst (λ (x : ℕ). key_verdict d drawn (Sta s) h (Ap x) k m ≡ outcome.Refused reason.Unawaited) here.1 (message_requested d drawn s h (Ap a) v k m has.1)
+  | inr other ↦ message_nowhere d drawn s h (Ap p) k m (alone other.1) (silent other.1)
 ]
-message_by d s (Some (Accepted a x)) h p m k has alone silent none = elim (eqb_tells a p) [
+message_by d drawn s (Some (Accepted a x)) h p k m has alone silent none = elim (eqb_tells a p) [
   | inl here ↦ absurd (none x (ap (λ (y : ℕ). Some (Accepted y x)) here.1))
-  | inr other ↦ message_nowhere d s h (Ap p) m k (alone other.1) (silent other.1)
+  | inr other ↦ message_nowhere d drawn s h (Ap p) k m (alone other.1) (silent other.1)
 ]
 
-pub message-unawaited : (d : Domain) (first : ℕ) (s : State) (h : List Act) (p : ℕ) (m : Message) (k : KeyMessage) → Stands d first s h → IsNotAccepted s.association p → key_verdict d (Sta s.number) h (Ap p) m k ≡ outcome.Refused reason.Unawaited
-message-unawaited d first s h p m k st none = message_by d s.number s.association h p m k st.association_is (st.no_attempt p) (st.no_session p) none
+pub message-unawaited : (d : Domain) (first : ℕ) (s : State) (h : List Act) (p : ℕ) (k : KeyMessage) (m : Message) → Stands d first s h → IsNotAccepted s.association p → key_verdict d (first + draws h) (Sta s.number) h (Ap p) k m ≡ outcome.Refused reason.Unawaited
+message-unawaited d first s h p k m st none = message_by d (first + draws h) s.number s.association h p k m st.association_is (st.no_attempt p) (st.no_session p) none
 
 -- ---- management frames of other kinds
 
-pub management-other : (d : Domain) (first s : ℕ) (h : List Act) (p : Node) (k : Kind) (b : Management) (e : ElementFields) → k ≢ kind.AssocResp → management_verdict d first (Sta s) h p k b e ≡ outcome.Refused reason.Unawaited
+pub management-other : (d : Domain) (drawn s : ℕ) (h : List Act) (p : Node) (k : Kind) (b : Management) (e : ElementFields) → k ≢ kind.AssocResp → management_verdict d drawn (Sta s) h p k b e ≡ outcome.Refused reason.Unawaited
 management-other d first s h p kind.AssocResp b e other = absurd (other refl)
 management-other d first s h p _ b e other = refl

@@ -7,7 +7,7 @@ use Rattle.run_journal.specs.declared.domain.Domain.{Domain}
 use Rattle.run_journal.specs.declared.acts.Kind.TheVariants.{AssocResp, Key}
 use Rattle.run_journal.specs.declared.acts.Act.{Act}
 use Rattle.run_journal.specs.Questions.{attempt, own_nonce, derivation, session, pending, associated, draws}
-use Rattle.domain_rules.specs.Verdict.{by_connect, has_heard, kept_counter}
+use Rattle.domain_rules.specs.Asking.{by_connect, has_heard, kept_counter}
 use Rattle.group_key.specs.Holds.{Remembers}
 use Rattle.supplicant.specs.declared.stage.Stage.{Stage}
 use Rattle.supplicant.specs.declared.stage.Stage.TheVariants as stage

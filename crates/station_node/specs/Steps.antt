@@ -1,5 +1,5 @@
 -- What a station does on one event, and what its functions are given (this project's choice).
-use Rattle.std.specs.Prelude.{◌≡◌, ℕ, false, List, ◌++◌, Option, Some}
+use Rattle.std.specs.Prelude.{◌+◌, ◌≡◌, ℕ, false, List, ◌++◌, Option, Some}
 use Rattle.domain_base.specs.declared.names.Node.TheVariants.{Ap, Sta}
 use Rattle.rsn_elements.specs.Elements.{ElementFields}
 use Rattle.run_journal.specs.declared.domain.Domain.{Domain}
@@ -10,8 +10,11 @@ use Rattle.run_journal.specs.declared.acts.Act.{Act}
 use Rattle.run_journal.specs.declared.reply.Reply.{Reply}
 use Rattle.domain_rules.specs.Reading.{Management, KeyMessage, Managed, Reads}
 use Rattle.domain_rules.specs.Replies.{IsMessageFrom, reply_acts}
-use Rattle.domain_rules.specs.Rows.{NodeEvent, sender}
-use Rattle.domain_rules.specs.Verdict.{first_verdict, management_verdict}
+use Rattle.domain_rules.specs.Rows.{NodeEvent}
+use Rattle.domain_rules.specs.Closing.{sender}
+use Rattle.domain_rules.specs.Verdict.{first_verdict}
+use Rattle.domain_rules.specs.Associating.{management_verdict}
+use Rattle.run_journal.specs.Questions.{draws}
 use Rattle.group_key.specs.Keys.{Kept}
 use Rattle.group_key.specs.Holds.{Remembers}
 use Rattle.node_frames.specs.Events.{Steps}
@@ -38,7 +41,7 @@ pub record IsManagementFrom (d : Domain) (sta ap : ℕ) (octets : List ℕ) (b :
   pub e : ElementFields
   pub reads : Reads d.akm octets (Managed b e)
   pub from : sender d (Sta sta) (Managed b e) ≡ Some (Ap ap)
-  pub verdict_is : (first : ℕ) (h : List Act) → first_verdict d first (Sta sta) h (Managed b e) ≡ management_verdict d first (Sta sta) h (Ap ap) b.kind b e
+  pub verdict_is : (first : ℕ) (h : List Act) → first_verdict d first (Sta sta) h (Managed b e) ≡ management_verdict d (first + draws h) (Sta sta) h (Ap ap) b.kind b e
 
 -- no association of that access point is waited for
 abbrev pub IsNotRequested : Option Association → ℕ → Type 0

@@ -3,14 +3,14 @@
 ghost use Rattle.std.specs.Prelude.{◌≡◌, ◌<◌, ◌≤◌, ◌++◌, ℕ, length, Some, None, IfOk, OnErr, MatchOption};
 ghost use Rattle.domain_base.specs.declared.names.Node.TheVariants.{Ap, Sta};
 ghost use Rattle.eapol_key.specs.Fields.{IsKeyFrame};
-ghost use Rattle.domain_rules.specs.Rows.{close_pending, close_associated};
+ghost use Rattle.domain_rules.specs.Closing.{close_pending, close_associated};
 ghost use Rattle.node_frames.specs.Views.{message_fields};
 ghost use Rattle.station_node.specs.Steps.{IsHanded};
 
 use crate::refusing::refuse;
 use domain_base::{NoMemory, Node};
 use group_key::GroupMemory;
-use node_frames::{KeyMessage, Outbox, Room};
+use node_frames::{Between, KeyMessage, Outbox, Room};
 use run_journal::{Act, Domain, Kind, Outcome, Part, Reason, Reply};
 use std::alloc::Global;
 use supplicant::Supplicant;
@@ -139,6 +139,7 @@ fn hand(
     out.reserve(7)?;
     let mut reply = Reply::empty();
     let outcome = supplicant.step(message.message, &message.frame, memory, &mut reply);
-    room.add_reply(message.message, outcome, false, &reply, out);
+    let between = Between::nothing(alloc);
+    room.add_reply(message.message, outcome, false, &reply, between, out);
     Ok(outcome)
 }

@@ -6,8 +6,6 @@ mod laws;
 mod memories;
 mod refusing;
 mod station;
-#[cfg(test)]
-mod tests;
 
 pub use laws::stands_as_the_network_grows;
 pub use station::StationNode;

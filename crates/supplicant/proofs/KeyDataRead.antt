@@ -21,8 +21,10 @@ use Rattle.run_journal.specs.declared.acts.Reason.TheVariants as reason
 use Rattle.run_journal.specs.declared.acts.Outcome.{Outcome}
 use Rattle.run_journal.specs.declared.acts.Outcome.TheVariants.{Refused}
 use Rattle.run_journal.specs.declared.reply.Keyed.{Keyed}
-use Rattle.domain_rules.specs.Verdict.{is_same, is_group_key, above, ReadsKeyData}
-use Rattle.domain_rules.specs.Rows.{carried_in}
+use Rattle.domain_rules.specs.Facts.{is_same, ReadsKeyData}
+use Rattle.domain_rules.specs.StationKeys.{is_group_key}
+use Rattle.domain_rules.specs.Asking.{above}
+use Rattle.domain_rules.specs.StationRows.{carried_in}
 use Rattle.domain_rules.proofs.Peers.{not_same}
 use Rattle.domain_rules.proofs.Verdicts.{above-low, above-high}
 use Rattle.supplicant.specs.declared.m3.CarriedKey.{CarriedKey}
@@ -75,7 +77,7 @@ pub opened_key : (akm : Akm) (kek octets plain front : List ℕ) (c : CarriedKey
 opened_key akm kek octets plain front c are wraps same read = record { plain = Some plain; says = read.says; unwrapped = (are_octets kek are, subst (λ (x : List ℕ). Wraps kek x octets) (sym same) wraps); reads = reads_plain plain read.says read.reads; is = (read.is.0, read.is.1) }
 
 pub opened_fault : (akm : Akm) (kek octets plain front : List ℕ) (f : KeyDataFault) → ((k : ℕ) → get_or kek k 0 < 256) → Wraps kek front octets → plain ≡ front → IsPlain akm plain (Err f) → IsOpened akm kek octets (Err (reason.KeyData f))
-opened_fault akm kek octets plain front f are wraps same read = record { plain = Some plain; says = read.says; unwrapped = (are_octets kek are, subst (λ (x : List ℕ). Wraps kek x octets) (sym same) wraps); reads = reads_plain plain read.says read.reads; is = (read.is, refl) }
+opened_fault akm kek octets plain front f are wraps same read = record { plain = Some plain; says = read.says; unwrapped = (are_octets kek are, subst (λ (x : List ℕ). Wraps kek x octets) (sym same) wraps); reads = reads_plain plain read.says read.reads; is = read.is }
 
 -- ---- before it
 

@@ -1,5 +1,5 @@
 -- What M3 is judged by at a supplicant, and what comes of M3.
-use Rattle.std.proofs.Common.{◌≡◌, ℕ, ◌<◌, Bool, true, false, cond, List, Option, Some, None, refl, sym, ap, subst, ◌∙◌}
+use Rattle.std.proofs.Common.{◌≡◌, ℕ, ◌+◌, ◌<◌, Bool, true, false, cond, List, Option, Some, None, refl, sym, ap, subst, ◌∙◌}
 use Rattle.std.specs.Prelude.{is_some, nat_lt}
 use Rattle.std.proofs.lemmas.Bool.{ltb-true}
 use Rattle.domain_base.specs.declared.names.Akm.{Akm}
@@ -14,10 +14,14 @@ use Rattle.run_journal.specs.declared.acts.Outcome.{Outcome}
 use Rattle.run_journal.specs.declared.acts.Outcome.TheVariants.{Accepted, Refused}
 use Rattle.run_journal.specs.declared.acts.Act.{Act}
 use Rattle.run_journal.specs.declared.reply.Keyed.{Keyed}
-use Rattle.run_journal.specs.Questions.{since, session}
+use Rattle.run_journal.specs.Questions.{since, chain, session, draws}
 use Rattle.domain_rules.specs.Reading.{KeyMessage, Keyed as KeyedReading}
-use Rattle.domain_rules.specs.Replies.{IsMessageFrom, inputs_by}
-use Rattle.domain_rules.specs.Verdict.{by_connect, kept_counter, session_keying, m3_keying, m3_verdict, taken_in, first_verdict, key_verdict}
+use Rattle.domain_rules.specs.Replies.{IsMessageFrom, key_by}
+use Rattle.domain_rules.specs.Asking.{by_connect, kept_counter}
+use Rattle.domain_rules.specs.StationKeys.{session_keying, m3_keying, m3_verdict, taken_in}
+use Rattle.domain_rules.specs.Verdict.{first_verdict, key_verdict}
+use Rattle.domain_rules.specs.Network.{root}
+use Rattle.domain_rules.proofs.Parts.{since_part}
 use Rattle.supplicant.specs.declared.stage.Stage.{Stage}
 use Rattle.supplicant.specs.declared.stage.Stage.TheVariants.{Retired, Attempt, Session}
 use Rattle.supplicant.specs.declared.m3.M3.{M3 as Judged}
@@ -27,17 +31,16 @@ use Rattle.supplicant.specs.M3.{before_key_data, IsM3}
 
 -- ---- the key that there is
 
--- it is that key, and the counter of its part is the kept one
+-- it is that key, and the counter of its chain is the kept one
 pub record IsKeying (d : Domain) (n p : Node) (h : List Act) (y : Keyed) (kept : Option ℕ) : Type 0 where
-  pub part : List Act
-  pub is : m3_keying p h ≡ Some (record { inputs = inputs_by d n p y; ptk = y.ptk; part = part; is_session = is_some kept })
-  pub keeps : kept_counter p part ≡ kept
+  pub is : m3_keying p h ≡ Some (record { key = key_by d (root d) n p y; is_session = is_some kept })
+  pub keeps : kept_counter p (chain p h) ≡ kept
 
 in_attempt : (d : Domain) (n p : Node) (v : List ℕ) (y : Keyed) (h : List Act) → IsUnderWay d n p v (Some y) h → IsKeying d n p h y None
-in_attempt d n p v y h u = record { part = u.part; is = rw (u.is, u.begun, u.asked, u.keyed) refl; keeps = u.keeps }
+in_attempt d n p v y h u = record { is = rw (u.is, u.begun, u.asked, u.keyed) refl; keeps = ap (kept_counter p) (since_part p h u.part u.is) ∙ u.keeps }
 
 in_session : (d : Domain) (n p : Node) (y : Keyed) (counter : ℕ) (h : List Act) → IsHeld d n p y counter h → IsKeying d n p h y (Some counter)
-in_session d n p y counter h l = record { part = since p h; is = rw (l.no_attempt, l.begun, l.is) refl; keeps = l.keeps }
+in_session d n p y counter h l = record { is = rw (l.no_attempt, l.begun, l.is) refl; keeps = l.keeps }
 
 that_key : (d : Domain) (n p : Node) (h : List Act) (x y : Keyed) (was kept : Option ℕ) → x ≡ y → kept ≡ was → IsKeying d n p h x was → IsKeying d n p h y kept
 that_key d n p h x y was kept same is k = subst (λ (z : Keyed). IsKeying d n p h z kept) same (subst (λ (o : Option ℕ). IsKeying d n p h x o) (sym is) k)
@@ -92,7 +95,7 @@ keying_none d n p (Session y counter) h st none = absurd none
 -- ---- what comes of M3
 
 pub m3_is : (d : Domain) (first sta : ℕ) (p : Node) (octets : List ℕ) (k : KeyMessage) (h : List Act) → IsMessageFrom d (Sta sta) p octets k → k.message ≡ M3 → first_verdict d first (Sta sta) h (KeyedReading k) ≡ m3_verdict d h p k
-m3_is d first sta p octets k h from is = from.verdict_is first h ∙ ap (λ (m : Message). key_verdict d (Sta sta) h p m k) is
+m3_is d first sta p octets k h from is = from.verdict_is first h ∙ ap (λ (m : Message). key_verdict d (first + draws h) (Sta sta) h p k m) is
 
 pub m3_none : (d : Domain) (n p : Node) (s : Stage) (h : List Act) (k : KeyMessage) → StandsIn d n p s h → HasNoKey s → m3_verdict d h p k ≡ Refused reason.Unawaited
 m3_none d n p s h k st none = rw (keying_none d n p s h st none) refl

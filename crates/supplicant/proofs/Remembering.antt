@@ -16,13 +16,14 @@ use Rattle.run_journal.specs.declared.acts.Outcome.TheVariants.{Accepted, Answer
 use Rattle.run_journal.specs.declared.acts.Seal.{Seal}
 use Rattle.run_journal.specs.declared.acts.Act.{Act}
 use Rattle.run_journal.specs.declared.acts.Act.TheVariants.{Took, Installed, Derived, Finished}
-use Rattle.run_journal.specs.Acts.{GroupKey}
+use Rattle.run_journal.specs.Acts.{GroupKey, Derivation}
 use Rattle.run_journal.specs.Questions.{add}
 use Rattle.domain_rules.specs.Network.{mac}
 use Rattle.domain_rules.specs.Frames.{sent_m2, sent_m4}
 use Rattle.domain_rules.specs.GroupKeys.{give, told, rsc_in}
 use Rattle.domain_rules.proofs.Effects.{replying_acts}
 use Rattle.domain_rules.proofs.Parts.{same-refl}
+use Rattle.run_journal.specs.GroupKinds as groups
 use Rattle.group_key.specs.Keys.{Kept, given}
 use Rattle.group_key.specs.Holds.{Remembers}
 use Rattle.group_key.proofs.Counting.{gives, stands}
@@ -38,12 +39,12 @@ remembers_took p q octets k o s ks h r = stands p (Took (Some q) octets k o s) k
 pub remembers_replied : (d : Domain) (n p : Node) (octets : List ℕ) (i : Inputs) (q : Ptk) (counter : ℕ) (ks : List Kept) (h : List Act) → Remembers p ks h → Remembers p ks (add (replying_acts d n p octets i q counter) h)
 remembers_replied d n p octets i q counter ks h r =
     let took : Act = Took (Some p) octets (kind.Key M1) Accepted None in
-    stands p (sent_m2 d n p i counter) ks (Derived p i q ∷ took ∷ h) (stands p (Derived p i q) ks (took ∷ h) (remembers_took p p octets (kind.Key M1) Accepted None ks h r) refl (λ key id. refl)) refl (λ key id. refl)
+    stands p (sent_m2 d n p (record { inputs = i; ptk = q }) counter) ks (Derived p i q ∷ took ∷ h) (stands p (Derived p i q) ks (took ∷ h) (remembers_took p p octets (kind.Key M1) Accepted None ks h r) refl (λ key id. refl)) refl (λ key id. refl)
 
 -- M3 was answered once more
-pub remembers_answered : (d : Domain) (n p : Node) (octets : List ℕ) (s : Seal) (i : Inputs) (counter : ℕ) (ks : List Kept) (h : List Act) → Remembers p ks h → Remembers p ks (add (answering_acts d n p octets s i counter) h)
-remembers_answered d n p octets s i counter ks h r =
-    stands p (sent_m4 d n p i counter) ks (Took (Some p) octets (kind.Key M3) Answered (Some s) ∷ h) (remembers_took p p octets (kind.Key M3) Answered (Some s) ks h r) refl (λ key id. refl)
+pub remembers_answered : (d : Domain) (n p : Node) (octets : List ℕ) (s : Seal) (x : Derivation) (counter : ℕ) (ks : List Kept) (h : List Act) → Remembers p ks h → Remembers p ks (add (answering_acts d n p octets s x counter) h)
+remembers_answered d n p octets s x counter ks h r =
+    stands p (sent_m4 d n p x counter) ks (Took (Some p) octets (kind.Key M3) Answered (Some s) ∷ h) (remembers_took p p octets (kind.Key M3) Answered (Some s) ks h r) refl (λ key id. refl)
 
 -- ---- a group key is given
 
@@ -52,16 +53,16 @@ abbrev pub packet_number_of : List ℕ → ℕ
 packet_number_of rsc = from_le_bytes w64 (take 6 rsc ++ 0 ∷ 0 ∷ [])
 
 -- that of the M3 just accepted is told
-told_there : (p : Node) (octets : List ℕ) (s : Seal) (tk : List ℕ) (i : Inputs) (h : List Act) → told p (Installed (One p) (Pairwise tk i) ∷ Took (Some p) octets (kind.Key M3) Accepted (Some s) ∷ h) ≡ rsc_in octets
-told_there p octets s tk i h = rw (same-refl p) refl
+told_there : (p : Node) (octets : List ℕ) (s : Seal) (x : Derivation) (h : List Act) → told groups.Gtk p (Installed (One p) (Pairwise x.ptk.tk x.inputs) ∷ Took (Some p) octets (kind.Key M3) Accepted (Some s) ∷ h) ≡ rsc_in octets
+told_there p octets s x h = rw (same-refl p) refl
 
 -- M3 was accepted, and its RSC is that number
-pub remembers_finished : (d : Domain) (n p : Node) (octets : List ℕ) (s : Seal) (tk : List ℕ) (i : Inputs) (g : GroupKey) (counter rsc : ℕ) (ks : List Kept) (h : List Act) → Remembers p ks h → rsc_in octets ≡ rsc
-    → Remembers p (given g.key g.id rsc ks) (add (finishing_acts d n p octets s tk i (give p (mac d p) g h) counter) h)
-remembers_finished d n p octets s tk i g counter rsc ks h r numbered =
+pub remembers_finished : (d : Domain) (n p : Node) (octets : List ℕ) (s : Seal) (x : Derivation) (g : GroupKey) (counter rsc : ℕ) (ks : List Kept) (h : List Act) → Remembers p ks h → rsc_in octets ≡ rsc
+    → Remembers p (given g.key g.id rsc ks) (add (finishing_acts d n p octets s x (give groups.Gtk p (mac d p) g h) counter) h)
+remembers_finished d n p octets s x g counter rsc ks h r numbered =
     let took : Act = Took (Some p) octets (kind.Key M3) Accepted (Some s) in
-    let there : List Act = Installed (One p) (Pairwise tk i) ∷ took ∷ h in
-    let before : Remembers p ks there = stands p (Installed (One p) (Pairwise tk i)) ks (took ∷ h) (remembers_took p p octets (kind.Key M3) Accepted (Some s) ks h r) refl (λ key id. refl) in
-    let has : Remembers p (given g.key g.id rsc ks) (give p (mac d p) g h ∷ there) = gives p (mac d p) g rsc ks there before (told_there p octets s tk i h ∙ numbered) in
-    let done : Remembers p (given g.key g.id rsc ks) (Finished p i ∷ give p (mac d p) g h ∷ there) = stands p (Finished p i) (given g.key g.id rsc ks) (give p (mac d p) g h ∷ there) has refl (λ key id. refl) in
-    stands p (sent_m4 d n p i counter) (given g.key g.id rsc ks) (Finished p i ∷ give p (mac d p) g h ∷ there) done refl (λ key id. refl)
+    let there : List Act = Installed (One p) (Pairwise x.ptk.tk x.inputs) ∷ took ∷ h in
+    let before : Remembers p ks there = stands p (Installed (One p) (Pairwise x.ptk.tk x.inputs)) ks (took ∷ h) (remembers_took p p octets (kind.Key M3) Accepted (Some s) ks h r) refl (λ key id. refl) in
+    let has : Remembers p (given g.key g.id rsc ks) (give groups.Gtk p (mac d p) g h ∷ there) = gives p (mac d p) g rsc ks there before (told_there p octets s x h ∙ numbered) in
+    let done : Remembers p (given g.key g.id rsc ks) (Finished p x.inputs ∷ give groups.Gtk p (mac d p) g h ∷ there) = stands p (Finished p x.inputs) (given g.key g.id rsc ks) (give groups.Gtk p (mac d p) g h ∷ there) has refl (λ key id. refl) in
+    stands p (sent_m4 d n p x counter) (given g.key g.id rsc ks) (Finished p x.inputs ∷ give groups.Gtk p (mac d p) g h ∷ there) done refl (λ key id. refl)

@@ -14,66 +14,68 @@ use Rattle.run_journal.specs.declared.acts.Seal.{Seal}
 use Rattle.run_journal.specs.declared.acts.Act.{Act}
 use Rattle.run_journal.specs.declared.acts.Act.TheVariants.{Took, Installed, Finished}
 use Rattle.run_journal.specs.declared.reply.Keyed.{Keyed}
-use Rattle.run_journal.specs.Acts.{GroupKey}
+use Rattle.run_journal.specs.Acts.{Derivation, GroupKey}
 use Rattle.run_journal.specs.Questions.{since, derivation, session, add}
 use Rattle.domain_rules.specs.Frames.{sent_m4}
 use Rattle.domain_rules.specs.Replies.{inputs_by, key_by}
-use Rattle.domain_rules.specs.Verdict.{by_connect, kept_counter, replay_counter, at_least}
+use Rattle.domain_rules.specs.Asking.{by_connect, kept_counter, replay_counter, at_least}
 use Rattle.domain_rules.specs.GroupKeys.{give_by}
-use Rattle.domain_rules.proofs.Parts.{IsApart, same-refl, attempt_none, attempt_some, by_connect_more}
+use Rattle.domain_rules.proofs.Parts.{since_part, IsApart, same-refl, attempt_none, attempt_some, by_connect_more}
+use Rattle.run_journal.specs.GroupKinds as groups
+use Rattle.domain_rules.specs.Network.{root}
 use Rattle.supplicant.specs.Stands.{IsUnderWay, IsHeld}
-use Rattle.supplicant.proofs.Standing.{some_part, since_part, derivation_part, at_least-greater}
+use Rattle.supplicant.proofs.Standing.{some_part, derivation_part, at_least-greater}
 
 -- ---- M3 accepted
 
-abbrev pub finishing_acts : Domain → Node → Node → List ℕ → Seal → List ℕ → Inputs → Act → ℕ → List Act
-finishing_acts d n p octets s tk i g counter =
-    Took (Some p) octets (kind.Key M3) Accepted (Some s) ∷ Installed (One p) (Pairwise tk i) ∷ g ∷ Finished p i ∷ sent_m4 d n p i counter ∷ []
+abbrev pub finishing_acts : Domain → Node → Node → List ℕ → Seal → Derivation → Act → ℕ → List Act
+finishing_acts d n p octets s x g counter =
+    Took (Some p) octets (kind.Key M3) Accepted (Some s) ∷ Installed (One p) (Pairwise x.ptk.tk x.inputs) ∷ g ∷ Finished p x.inputs ∷ sent_m4 d n p x counter ∷ []
 
 -- that of a group key is not about a pairwise one
-pub apart_give : (p q : Node) (b : Mac) (g : GroupKey) (o : Option GroupKey) → IsApart q (give_by p b g o)
+pub apart_give : (p q : Node) (b : Mac) (g : GroupKey) (o : Option GroupKey) → IsApart q (give_by groups.Gtk p b g o)
 apart_give p q b g None = record { opens_none = refl; ends_none = refl; accepts_none = λ k. refl; replies_none = λ k. refl; sends_none = λ m. refl; derives_none = refl; finishes_none = refl; closes_none = refl }
 apart_give p q b g (Some kept) = record { opens_none = refl; ends_none = refl; accepts_none = λ k. refl; replies_none = λ k. refl; sends_none = λ m. refl; derives_none = refl; finishes_none = refl; closes_none = refl }
 
-session_there : (d : Domain) (n p : Node) (octets : List ℕ) (s : Seal) (tk : List ℕ) (i : Inputs) (g : Act) (counter : ℕ) (h : List Act) → IsApart p g → session p (add (finishing_acts d n p octets s tk i g counter) h) ≡ derivation p h
-session_there d n p octets s tk i g counter h apart = rw (same-refl p, apart.derives_none) refl
+session_there : (d : Domain) (n p : Node) (octets : List ℕ) (s : Seal) (x : Derivation) (g : Act) (counter : ℕ) (h : List Act) → IsApart p g → session p (add (finishing_acts d n p octets s x g counter) h) ≡ derivation p h
+session_there d n p octets s x g counter h apart = rw (same-refl p, apart.derives_none) refl
 
-since_there : (d : Domain) (n p : Node) (octets : List ℕ) (s : Seal) (tk : List ℕ) (i : Inputs) (g : Act) (counter : ℕ) (h part : List Act) → IsApart p g → since p h ≡ part
-    → since p (add (finishing_acts d n p octets s tk i g counter) h) ≡ sent_m4 d n p i counter ∷ Finished p i ∷ g ∷ Installed (One p) (Pairwise tk i) ∷ Took (Some p) octets (kind.Key M3) Accepted (Some s) ∷ part
-since_there d n p octets s tk i g counter h part apart is = rw (apart.opens_none, is) refl
+since_there : (d : Domain) (n p : Node) (octets : List ℕ) (s : Seal) (x : Derivation) (g : Act) (counter : ℕ) (h part : List Act) → IsApart p g → since p h ≡ part
+    → since p (add (finishing_acts d n p octets s x g counter) h) ≡ sent_m4 d n p x counter ∷ Finished p x.inputs ∷ g ∷ Installed (One p) (Pairwise x.ptk.tk x.inputs) ∷ Took (Some p) octets (kind.Key M3) Accepted (Some s) ∷ part
+since_there d n p octets s x g counter h part apart is = rw (apart.opens_none, is) refl
 
-counter_there : (d : Domain) (n p : Node) (octets : List ℕ) (s : Seal) (tk : List ℕ) (i : Inputs) (g : Act) (counter : ℕ) (part : List Act) → IsApart p g
-    → kept_counter p (sent_m4 d n p i counter ∷ Finished p i ∷ g ∷ Installed (One p) (Pairwise tk i) ∷ Took (Some p) octets (kind.Key M3) Accepted (Some s) ∷ part) ≡ at_least (replay_counter octets) (kept_counter p part)
-counter_there d n p octets s tk i g counter part apart = rw (apart.replies_none (kind.Key M3), apart.replies_none (kind.Key G1), same-refl p) refl
+counter_there : (d : Domain) (n p : Node) (octets : List ℕ) (s : Seal) (x : Derivation) (g : Act) (counter : ℕ) (part : List Act) → IsApart p g
+    → kept_counter p (sent_m4 d n p x counter ∷ Finished p x.inputs ∷ g ∷ Installed (One p) (Pairwise x.ptk.tk x.inputs) ∷ Took (Some p) octets (kind.Key M3) Accepted (Some s) ∷ part) ≡ at_least (replay_counter octets) (kept_counter p part)
+counter_there d n p octets s x g counter part apart = rw (apart.replies_none (kind.Key M3), apart.replies_none (kind.Key G1), same-refl p) refl
 
 pub held_finished : (d : Domain) (sta a : ℕ) (v octets : List ℕ) (s : Seal) (y : Keyed) (g : Act) (counter : ℕ) (h : List Act) → IsUnderWay d (Sta sta) (Ap a) v (Some y) h → IsApart (Ap a) g → replay_counter octets ≡ counter
-    → IsHeld d (Sta sta) (Ap a) y counter (add (finishing_acts d (Sta sta) (Ap a) octets s y.ptk.tk (inputs_by d (Sta sta) (Ap a) y) g counter) h)
+    → IsHeld d (Sta sta) (Ap a) y counter (add (finishing_acts d (Sta sta) (Ap a) octets s (key_by d (root d) (Sta sta) (Ap a) y) g counter) h)
 held_finished d sta a v octets s y g counter h u apart is =
-    let i : Inputs = inputs_by d (Sta sta) (Ap a) y in
-    let since_is = since_there d (Sta sta) (Ap a) octets s y.ptk.tk i g counter h u.part apart (since_part (Ap a) h u.part u.is) in
+    let x : Derivation = key_by d (root d) (Sta sta) (Ap a) y in
+    let since_is = since_there d (Sta sta) (Ap a) octets s x g counter h u.part apart (since_part (Ap a) h u.part u.is) in
     record {
-      is = session_there d (Sta sta) (Ap a) octets s y.ptk.tk i g counter h apart ∙ derivation_part (Ap a) h u.part (key_by d (Sta sta) (Ap a) y) u.is u.keyed;
+      is = session_there d (Sta sta) (Ap a) octets s x g counter h apart ∙ derivation_part (Ap a) h u.part (key_by d (root d) (Sta sta) (Ap a) y) u.is u.keyed;
       begun = ap by_connect since_is ∙ by_connect_more (Took (Some (Ap a)) octets (kind.Key M3) Accepted (Some s)) u.part (attempt_some (Ap a) h u.part u.is) ∙ u.begun;
-      keeps = ap (kept_counter (Ap a)) since_is ∙ counter_there d (Sta sta) (Ap a) octets s y.ptk.tk i g counter u.part apart ∙ rw (u.keeps, is) refl;
+      keeps = ap (kept_counter (Ap a)) since_is ∙ counter_there d (Sta sta) (Ap a) octets s x g counter u.part apart ∙ rw (u.keeps, is) refl;
       no_attempt = refl;
     }
 
 -- ---- M3 once more
 
-abbrev pub answering_acts : Domain → Node → Node → List ℕ → Seal → Inputs → ℕ → List Act
-answering_acts d n p octets s i counter = Took (Some p) octets (kind.Key M3) Answered (Some s) ∷ sent_m4 d n p i counter ∷ []
+abbrev pub answering_acts : Domain → Node → Node → List ℕ → Seal → Derivation → ℕ → List Act
+answering_acts d n p octets s x counter = Took (Some p) octets (kind.Key M3) Answered (Some s) ∷ sent_m4 d n p x counter ∷ []
 
-counter_again : (d : Domain) (n p : Node) (octets : List ℕ) (s : Seal) (i : Inputs) (counter : ℕ) (h : List Act)
-    → kept_counter p (since p (add (answering_acts d n p octets s i counter) h)) ≡ at_least (replay_counter octets) (kept_counter p (since p h))
-counter_again d n p octets s i counter h = rw (same-refl p) refl
+counter_again : (d : Domain) (n p : Node) (octets : List ℕ) (s : Seal) (x : Derivation) (counter : ℕ) (h : List Act)
+    → kept_counter p (since p (add (answering_acts d n p octets s x counter) h)) ≡ at_least (replay_counter octets) (kept_counter p (since p h))
+counter_again d n p octets s x counter h = rw (same-refl p) refl
 
-pub held_again : (d : Domain) (n p : Node) (octets : List ℕ) (s : Seal) (i : Inputs) (y : Keyed) (kept counter : ℕ) (h : List Act) → IsHeld d n p y kept h → replay_counter octets ≡ counter → kept < counter
-    → IsHeld d n p y counter (add (answering_acts d n p octets s i counter) h)
-held_again d n p octets s i y kept counter h l is high =
+pub held_again : (d : Domain) (n p : Node) (octets : List ℕ) (s : Seal) (x : Derivation) (y : Keyed) (kept counter : ℕ) (h : List Act) → IsHeld d n p y kept h → replay_counter octets ≡ counter → kept < counter
+    → IsHeld d n p y counter (add (answering_acts d n p octets s x counter) h)
+held_again d n p octets s x y kept counter h l is high =
     let took : Act = Took (Some p) octets (kind.Key M3) Answered (Some s) in
     record {
       is = l.is;
       begun = by_connect_more took (since p h) (some_part (since p h) l.begun) ∙ l.begun;
-      keeps = counter_again d n p octets s i counter h ∙ rw (l.keeps, is) (at_least-greater kept counter high);
-      no_attempt = attempt_none p (sent_m4 d n p i counter) (took ∷ h) refl (attempt_none p took h refl l.no_attempt);
+      keeps = counter_again d n p octets s x counter h ∙ rw (l.keeps, is) (at_least-greater kept counter high);
+      no_attempt = attempt_none p (sent_m4 d n p x counter) (took ∷ h) refl (attempt_none p took h refl l.no_attempt);
     }

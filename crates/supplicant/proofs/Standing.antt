@@ -14,7 +14,7 @@ use Rattle.run_journal.specs.declared.acts.Act.TheVariants.{Took}
 use Rattle.run_journal.specs.declared.reply.Keyed.{Keyed}
 use Rattle.run_journal.specs.Acts.{Derivation}
 use Rattle.run_journal.specs.Questions.{attempt, since, derivation, or_else}
-use Rattle.domain_rules.specs.Verdict.{by_connect, at_least}
+use Rattle.domain_rules.specs.Asking.{by_connect, at_least}
 use Rattle.domain_rules.proofs.Parts.{Grows, Begins, Goes_on, grows, IsApart, apart-refused, IsCarried, GoesOn, goes_on, by_connect_more}
 use Rattle.supplicant.specs.declared.stage.Stage.{Stage}
 use Rattle.supplicant.specs.declared.stage.Stage.TheVariants.{Retired, Attempt, Session}
@@ -75,15 +75,7 @@ stands_refused d n p s octets k why seal h st = record {
   stage_is = stage_more d n p s.stage h (Took (Some p) octets k (Refused why) seal) (apart-refused p (Some p) octets k why seal) st.stage_is;
 }
 
--- ---- the part of an attempt, and the history since it began
-
-since_grows : (p : Node) (e : Act) (h part : List Act) → ((old : List Act) → attempt p h ≡ Some old → since p h ≡ old) → Grows p e h part → since p (e ∷ h) ≡ part
-since_grows p e h part more (Begins o is) = rw o (sym is)
-since_grows p e h part more (Goes_on old o n was is) = rw o (ap (λ (l : List Act). e ∷ l) (more old was) ∙ sym is)
-
-pub since_part : (p : Node) (h part : List Act) → attempt p h ≡ Some part → since p h ≡ part
-since_part p [] part s = cc
-since_part p (e ∷ h) part s = since_grows p e h part (λ old was. since_part p h old was) (grows p e h part s)
+-- ---- the last derivation
 
 derived_later : (o a b : Option Derivation) (x : Derivation) → (a ≡ Some x → b ≡ Some x) → or_else o a ≡ Some x → or_else o b ≡ Some x
 derived_later None a b x more s = more s

@@ -1,5 +1,5 @@
 -- Each way in which a supplicant takes M1, and messages that nothing awaits.
-use Rattle.std.proofs.Common.{◌≡◌, ◌≢◌, ℕ, Bool, true, false, cond, List, [], ◌∷◌, Option, Some, None, refl, sym, ap, subst, ◌∙◌}
+use Rattle.std.proofs.Common.{◌+◌, ◌≡◌, ◌≢◌, ℕ, Bool, true, false, cond, List, [], ◌∷◌, Option, Some, None, refl, sym, ap, subst, ◌∙◌}
 use Rattle.std.specs.Prelude.{is_some, unwrap_or}
 use Rattle.domain_base.specs.declared.names.Akm.TheVariants.{FtPsk}
 use Rattle.domain_base.specs.declared.names.Node.{Node}
@@ -24,13 +24,16 @@ use Rattle.run_journal.specs.declared.acts.Act.TheVariants.{Took, Derived}
 use Rattle.run_journal.specs.declared.reply.Reply.{Reply}
 use Rattle.run_journal.specs.declared.reply.Keyed.{Keyed}
 use Rattle.run_journal.specs.Replies.{IsEmpty}
-use Rattle.run_journal.specs.Questions.{attempt, add}
-use Rattle.domain_rules.specs.Network.{inputs}
+use Rattle.run_journal.specs.Questions.{draws, attempt, add}
+use Rattle.domain_rules.specs.Network.{inputs, root}
 use Rattle.domain_rules.specs.Frames.{sent_m2}
 use Rattle.domain_rules.specs.Reading.{KeyMessage, Keyed as KeyedReading}
-use Rattle.domain_rules.specs.Replies.{IsMessageFrom, inputs_by}
-use Rattle.domain_rules.specs.Verdict.{ComesSoFar, KnowsOf, own, and_then, further, first_verdict, key_verdict, m1_verdict}
-use Rattle.domain_rules.specs.Rows.{Take, Adds, sender, seal_in, is_after_mic, By_m1, By_refusal}
+use Rattle.domain_rules.specs.Replies.{key_by, IsMessageFrom, inputs_by}
+use Rattle.domain_rules.specs.Verdict.{comes_so_far, ComesSoFar, KnowsOf, and_then, further, first_verdict, key_verdict}
+use Rattle.domain_rules.specs.Asking.{kept_counter, own}
+use Rattle.domain_rules.specs.StationKeys.{m1_verdict}
+use Rattle.domain_rules.specs.Rows.{Take, Adds, seal_in, refused_seal, By_m1, By_refusal}
+use Rattle.domain_rules.specs.Closing.{sender}
 use Rattle.domain_rules.proofs.Refused.{no_facts}
 use Rattle.domain_rules.proofs.Effects.{IsTaken as GoesOnBy, replying_acts, has_replied}
 use Rattle.domain_rules.proofs.Verdicts.{unawaited-m1, m1-in}
@@ -45,18 +48,20 @@ use Rattle.supplicant.specs.Stages.{at_stage, HasNonce}
 use Rattle.supplicant.specs.Told.{Tells}
 use Rattle.supplicant.specs.Taken.{IsTaken}
 use Rattle.node_frames.proofs.EndsKeys.{key_is}
+use Rattle.domain_rules.proofs.Parts.{since_part}
+use Rattle.run_journal.specs.Acts.{Derivation}
 use Rattle.supplicant.proofs.Telling.{acts_told, steps_by, tells_nothing}
 use Rattle.supplicant.proofs.Standing.{stands_refused}
 use Rattle.supplicant.proofs.Remembering.{remembers_took, remembers_replied}
 
 -- ---- a refusal before the MIC
 
-unsealed : (d : Domain) (sta : ℕ) (h : List Act) (k : KeyMessage) (why : Reason) → is_after_mic why ≡ false → cond (is_after_mic why) (seal_in d (Sta sta) h (KeyedReading k)) None ≡ None
-unsealed d sta h k why quiet = ap (λ (b : Bool). cond b (seal_in d (Sta sta) h (KeyedReading k)) None) quiet
+unsealed : (d : Domain) (first sta : ℕ) (h : List Act) (k : KeyMessage) (why : Reason) → first_verdict d first (Sta sta) h (KeyedReading k) ≡ Refused why → refused_seal d first (Sta sta) h (KeyedReading k) ≡ None
+unsealed d first sta h k why is = ap (λ (o : Outcome). cond (comes_so_far o) (seal_in d (Sta sta) h (KeyedReading k)) None) is
 
-pub adds_refused : (d : Domain) (first sta : ℕ) (p : Node) (octets : List ℕ) (k : KeyMessage) (h : List Act) (why : Reason) → IsMessageFrom d (Sta sta) p octets k → first_verdict d first (Sta sta) h (KeyedReading k) ≡ Refused why → is_after_mic why ≡ false
+pub adds_refused : (d : Domain) (first sta : ℕ) (p : Node) (octets : List ℕ) (k : KeyMessage) (h : List Act) (why : Reason) → IsMessageFrom d (Sta sta) p octets k → first_verdict d first (Sta sta) h (KeyedReading k) ≡ Refused why
     → Adds d first (Sta sta) h (Take octets) (Took (Some p) octets (kind.Key k.message) (Refused why) None ∷ [])
-adds_refused d first sta p octets k h why from is quiet = record {
+adds_refused d first sta p octets k h why from is = record {
   r = KeyedReading k;
   reads = from.reads;
   facts = no_facts;
@@ -65,37 +70,37 @@ adds_refused d first sta p octets k h why from is quiet = record {
     why = why;
     refused = ap (λ (o : Outcome). and_then o (further d.akm (KeyedReading k) no_facts)) is;
     says = ap (λ (f : Option Node). Took f octets (kind.Key k.message) (Refused why) None ∷ []) (sym from.from)
-        ∙ ap (λ (s : Option Seal). Took (sender d (Sta sta) (KeyedReading k)) octets (kind.Key k.message) (Refused why) s ∷ []) (sym (unsealed d sta h k why quiet));
+        ∙ ap (λ (s : Option Seal). Took (sender d (Sta sta) (KeyedReading k)) octets (kind.Key k.message) (Refused why) s ∷ []) (sym (unsealed d first sta h k why is));
   });
 }
 
 -- where nothing is told
-pub taken_refused : (m : Message) (f : KeyFrame) (s : State) (ks : List Kept) (why : Reason) (r : Reply) → IsEmpty r → is_after_mic why ≡ false
+pub taken_refused : (m : Message) (f : KeyFrame) (s : State) (ks : List Kept) (why : Reason) (r : Reply) → IsEmpty r
     → ((d : Domain) (first sta a : ℕ) (octets : List ℕ) (k : KeyMessage) (h : List Act) → Stands d (Sta sta) (Ap a) s h → IsMessageFrom d (Sta sta) (Ap a) octets k → k.message ≡ m → k.fields ≡ fields_of f → k.octets ≡ f.octets.now
     → first_verdict d first (Sta sta) h (KeyedReading k) ≡ Refused why)
     → IsTaken m f s ks s ks (Refused why) r
-taken_refused m f s ks why r empty quiet verdict_is = λ d first sta a octets k h st remembers from is fields are.
+taken_refused m f s ks why r empty verdict_is = λ d first sta a octets k h st remembers from is fields are.
     steps_by d first (Sta sta) (Ap a) octets k s ks (Refused why) r h (Took (Some (Ap a)) octets (kind.Key k.message) (Refused why) None ∷ [])
     (acts_told d (Sta sta) (Ap a) octets k (Refused why) r None None None None [] (tells_nothing (Ap a) r empty))
-    (adds_refused d first sta (Ap a) octets k h why from (verdict_is d first sta a octets k h st from is fields are) quiet)
+    (adds_refused d first sta (Ap a) octets k h why from (verdict_is d first sta a octets k h st from is fields are))
     (stands_refused d (Sta sta) (Ap a) s octets (kind.Key k.message) why None h st)
     (remembers_took (Ap a) (Ap a) octets (kind.Key k.message) (Refused why) None ks h remembers)
 
 -- ---- other messages
 
-key_other : (d : Domain) (sta : ℕ) (h : List Act) (p : Node) (m : Message) (k : KeyMessage) → m ≢ M1 → m ≢ M3 → key_verdict d (Sta sta) h p m k ≡ Refused reason.Unawaited
-key_other d sta h p M1 k other more = absurd (other refl)
-key_other d sta h p M3 k other more = absurd (more refl)
-key_other d sta h p _ k other more = refl
+key_other : (d : Domain) (drawn sta : ℕ) (h : List Act) (p : Node) (k : KeyMessage) (m : Message) → m ≢ M1 → m ≢ M3 → key_verdict d drawn (Sta sta) h p k m ≡ Refused reason.Unawaited
+key_other d drawn sta h p k M1 other more = absurd (other refl)
+key_other d drawn sta h p k M3 other more = absurd (more refl)
+key_other d drawn sta h p k _ other more = refl
 
 pub taken_other : (m : Message) (f : KeyFrame) (s : State) (ks : List Kept) (r : Reply) → IsEmpty r → m ≢ M1 → m ≢ M3 → IsTaken m f s ks s ks (Refused reason.Unawaited) r
-taken_other m f s ks r empty other more = taken_refused m f s ks reason.Unawaited r empty refl
-    (λ d first sta a octets k h st from is fields are. from.verdict_is first h ∙ ap (λ (x : Message). key_verdict d (Sta sta) h (Ap a) x k) is ∙ key_other d sta h (Ap a) m k other more)
+taken_other m f s ks r empty other more = taken_refused m f s ks reason.Unawaited r empty
+    (λ d first sta a octets k h st from is fields are. from.verdict_is first h ∙ ap (λ (x : Message). key_verdict d (first + draws h) (Sta sta) h (Ap a) k x) is ∙ key_other d (first + draws h) sta h (Ap a) k m other more)
 
 -- ---- M1 where no attempt is under way
 
 m1_is : (d : Domain) (first sta : ℕ) (p : Node) (octets : List ℕ) (k : KeyMessage) (h : List Act) → IsMessageFrom d (Sta sta) p octets k → k.message ≡ M1 → first_verdict d first (Sta sta) h (KeyedReading k) ≡ m1_verdict h p k
-m1_is d first sta p octets k h from is = from.verdict_is first h ∙ ap (λ (x : Message). key_verdict d (Sta sta) h p x k) is
+m1_is d first sta p octets k h from is = from.verdict_is first h ∙ ap (λ (x : Message). key_verdict d (first + draws h) (Sta sta) h p k x) is
 
 no_attempt : (d : Domain) (n p : Node) (x : Stage) (h : List Act) → (IsAttempt x → ⊥) → StandsIn d n p x h → attempt p h ≡ None
 no_attempt d n p Retired h none st = st.no_attempt
@@ -103,7 +108,7 @@ no_attempt d n p (Attempt v key) h none st = absurd (none tt)
 no_attempt d n p (Session y counter) h none st = st.no_attempt
 
 pub m1_unawaited : (f : KeyFrame) (s : State) (ks : List Kept) (r : Reply) → IsEmpty r → (IsAttempt s.stage → ⊥) → IsTaken M1 f s ks s ks (Refused reason.Unawaited) r
-m1_unawaited f s ks r empty none = taken_refused M1 f s ks reason.Unawaited r empty refl
+m1_unawaited f s ks r empty none = taken_refused M1 f s ks reason.Unawaited r empty
     (λ d first sta a octets k h st from is fields are. m1_is d first sta (Ap a) octets k h from is ∙ unawaited-m1 h (Ap a) k (no_attempt d (Sta sta) (Ap a) s.stage h none st.stage_is))
 
 -- ---- M1 accepted
@@ -119,10 +124,10 @@ trying (Session y counter) v has = absurd has
 
 -- the attempt goes on with that key
 under_way_replied : (d : Domain) (n p : Node) (v octets : List ℕ) (key : Option Keyed) (y : Keyed) (counter : ℕ) (h : List Act) → IsUnderWay d n p v key h
-    → IsUnderWay d n p v (Some y) (add (replying_acts d n p octets (inputs_by d n p y) y.ptk counter) h)
+    → IsUnderWay d n p v (Some y) (add (replying_acts d n p octets (inputs_by d (root d) n p y) y.ptk counter) h)
 under_way_replied d n p v octets key y counter h u =
-    let t = has_replied d n p octets (inputs_by d n p y) y.ptk counter h u.part u.is in
-    let g : GoesOnBy p u.part h (add (replying_acts d n p octets (inputs_by d n p y) y.ptk counter) h) = t.0 in
+    let t = has_replied d n p octets (inputs_by d (root d) n p y) y.ptk counter h u.part u.is in
+    let g : GoesOnBy p u.part h (add (replying_acts d n p octets (inputs_by d (root d) n p y) y.ptk counter) h) = t.0 in
     record {
       part = g.more;
       is = g.is;
@@ -144,22 +149,22 @@ accepted_m1 d first n h k is accepted = rw (accepted, is) refl
 
 -- the acts of the reply are those of the row
 replied : (d : Domain) (n p : Node) (octets : List ℕ) (k : KeyMessage) (i : Inputs) (q : Ptk) (counter : ℕ) → k.message ≡ M1 → counter ≡ k.fields.counter
-    → Took (Some p) octets (kind.Key k.message) Accepted None ∷ Derived p i q ∷ sent_m2 d n p i counter ∷ [] ≡ replying_acts d n p octets i q k.fields.counter
+    → Took (Some p) octets (kind.Key k.message) Accepted None ∷ Derived p i q ∷ sent_m2 d n p (record { inputs = i; ptk = q }) counter ∷ [] ≡ replying_acts d n p octets i q k.fields.counter
 replied d n p octets k i q counter is same =
-    ap (λ (m : Message). Took (Some p) octets (kind.Key m) Accepted None ∷ Derived p i q ∷ sent_m2 d n p i counter ∷ []) is
-    ∙ ap (λ (x : ℕ). Took (Some p) octets (kind.Key M1) Accepted None ∷ Derived p i q ∷ sent_m2 d n p i x ∷ []) same
+    ap (λ (m : Message). Took (Some p) octets (kind.Key m) Accepted None ∷ Derived p i q ∷ sent_m2 d n p (record { inputs = i; ptk = q }) counter ∷ []) is
+    ∙ ap (λ (x : ℕ). Took (Some p) octets (kind.Key M1) Accepted None ∷ Derived p i q ∷ sent_m2 d n p (record { inputs = i; ptk = q }) x ∷ []) same
 
 -- what the key is made of is what the attempt and M1 say
 made_of : (d : Domain) (sta : ℕ) (p : Node) (y : Keyed) (part : List Act) (v : List ℕ) (k : KeyMessage) → y.snonce ≡ v → own part ≡ v → y.anonce ≡ k.fields.nonce
-    → inputs_by d (Sta sta) p y ≡ inputs d (Sta sta) p (own part) k.fields.nonce
+    → inputs_by d (root d) (Sta sta) p y ≡ inputs d (root d) (Sta sta) p (own part) k.fields.nonce
 made_of d sta p y part v k drawn mine theirs =
-    ap (λ (w : List ℕ). inputs d (Sta sta) p w y.anonce) (drawn ∙ sym mine) ∙ ap (λ (w : List ℕ). inputs d (Sta sta) p (own part) w) theirs
+    ap (λ (w : List ℕ). inputs d (root d) (Sta sta) p w y.anonce) (drawn ∙ sym mine) ∙ ap (λ (w : List ℕ). inputs d (root d) (Sta sta) p (own part) w) theirs
 
 adds_replied : (d : Domain) (first sta : ℕ) (p : Node) (octets : List ℕ) (k : KeyMessage) (h : List Act) (v : List ℕ) (key : Option Keyed) (y : Keyed) → IsMessageFrom d (Sta sta) p octets k → k.message ≡ M1 → IsUnderWay d (Sta sta) p v key h
-    → y.snonce ≡ v → y.anonce ≡ k.fields.nonce → y.ptk ≡ ptk (inputs_by d (Sta sta) p y)
-    → Adds d first (Sta sta) h (Take octets) (replying_acts d (Sta sta) p octets (inputs_by d (Sta sta) p y) y.ptk k.fields.counter)
+    → y.snonce ≡ v → y.anonce ≡ k.fields.nonce → y.ptk ≡ ptk (inputs_by d (root d) (Sta sta) p y)
+    → Adds d first (Sta sta) h (Take octets) (replying_acts d (Sta sta) p octets (inputs_by d (root d) (Sta sta) p y) y.ptk k.fields.counter)
 adds_replied d first sta p octets k h v key y from is u drawn theirs keyed =
-    let accepted : first_verdict d first (Sta sta) h (KeyedReading k) ≡ Accepted = m1_is d first sta p octets k h from is ∙ m1-in h p k u.part true None u.is u.begun u.hears u.keeps in
+    let accepted : first_verdict d first (Sta sta) h (KeyedReading k) ≡ Accepted = m1_is d first sta p octets k h from is ∙ m1-in h p k u.part true None u.is u.begun u.hears (ap (kept_counter p) (since_part p h u.part u.is) ∙ u.keeps) in
     let mine : own u.part ≡ v = ap (λ (o : Option (List ℕ)). unwrap_or o []) u.nonce in
     record {
       r = KeyedReading k;
@@ -175,24 +180,24 @@ adds_replied d first sta p octets k h v key y from is u drawn theirs keyed =
         accepted = accepted_m1 d first (Sta sta) h k is accepted;
         part = u.part;
         awaited = u.is;
-        i = inputs_by d (Sta sta) p y;
+        i = inputs_by d (root d) (Sta sta) p y;
         inputs_are = made_of d sta p y u.part v k drawn mine theirs;
-        says = ap (λ (q : Ptk). replying_acts d (Sta sta) p octets (inputs_by d (Sta sta) p y) q k.fields.counter) keyed;
+        says = ap (λ (q : Ptk). replying_acts d (Sta sta) p octets (inputs_by d (root d) (Sta sta) p y) q k.fields.counter) keyed;
       });
     }
 
 pub m1_accepted : (f : KeyFrame) (s : State) (ks : List Kept) (v : List ℕ) (y : Keyed) (r : Reply) → s.ends.akm ≢ FtPsk → IsKeyOf s.ends s.psk y → y.anonce ≡ f.nonce → y.snonce ≡ v → HasNonce s.stage v
-    → ((d : Domain) (n p : Node) (i : Inputs) → AreEnds d n p s.ends → y.ptk ≡ ptk i → i.snonce ≡ y.snonce → Tells p r None (Some y) None None (sent_m2 d n p i f.counter ∷ []))
+    → ((d : Domain) (n p : Node) (x : Derivation) → AreEnds d n p s.ends → y.ptk ≡ x.ptk → x.inputs.snonce ≡ y.snonce → Tells p r None (Some y) None None (sent_m2 d n p x f.counter ∷ []))
     → IsTaken M1 f s ks (at_stage (Attempt v (Some y)) s) ks Accepted r
 m1_accepted f s ks v y r suite of theirs drawn has tells = λ d first sta a octets k h st remembers from is fields are.
     (let t = trying s.stage v has in
-    let keyed : y.ptk ≡ ptk (inputs_by d (Sta sta) (Ap a) y) = key_is d (Sta sta) (Ap a) s.ends s.psk y st.ends st.psk suite of in
+    let keyed : y.ptk ≡ ptk (inputs_by d (root d) (Sta sta) (Ap a) y) = key_is d (Sta sta) (Ap a) s.ends s.psk y st.ends st.psk suite of in
     let u : IsUnderWay d (Sta sta) (Ap a) v t.key h = subst (λ (x : Stage). StandsIn d (Sta sta) (Ap a) x h) t.is st.stage_is in
     let nonce_is : y.anonce ≡ k.fields.nonce = theirs ∙ ap (λ (g : KeyFields). g.nonce) (sym fields) in
     let counter_is : f.counter ≡ k.fields.counter = ap (λ (g : KeyFields). g.counter) (sym fields) in
-    steps_by d first (Sta sta) (Ap a) octets k (at_stage (Attempt v (Some y)) s) ks Accepted r h (replying_acts d (Sta sta) (Ap a) octets (inputs_by d (Sta sta) (Ap a) y) y.ptk k.fields.counter)
-    (acts_told d (Sta sta) (Ap a) octets k Accepted r None (Some y) None None (sent_m2 d (Sta sta) (Ap a) (inputs_by d (Sta sta) (Ap a) y) f.counter ∷ []) (tells d (Sta sta) (Ap a) (inputs_by d (Sta sta) (Ap a) y) st.ends keyed refl)
-    ∙ replied d (Sta sta) (Ap a) octets k (inputs_by d (Sta sta) (Ap a) y) y.ptk f.counter is counter_is)
+    steps_by d first (Sta sta) (Ap a) octets k (at_stage (Attempt v (Some y)) s) ks Accepted r h (replying_acts d (Sta sta) (Ap a) octets (inputs_by d (root d) (Sta sta) (Ap a) y) y.ptk k.fields.counter)
+    (acts_told d (Sta sta) (Ap a) octets k Accepted r None (Some y) None None (sent_m2 d (Sta sta) (Ap a) (key_by d (root d) (Sta sta) (Ap a) y) f.counter ∷ []) (tells d (Sta sta) (Ap a) (key_by d (root d) (Sta sta) (Ap a) y) st.ends refl refl)
+    ∙ replied d (Sta sta) (Ap a) octets k (inputs_by d (root d) (Sta sta) (Ap a) y) y.ptk f.counter is counter_is)
     (adds_replied d first sta (Ap a) octets k h v t.key y from is u drawn nonce_is keyed)
     (record { ends = st.ends; psk = st.psk; stage_is = under_way_replied d (Sta sta) (Ap a) v octets t.key y k.fields.counter h u })
-    (remembers_replied d (Sta sta) (Ap a) octets (inputs_by d (Sta sta) (Ap a) y) y.ptk k.fields.counter ks h remembers))
+    (remembers_replied d (Sta sta) (Ap a) octets (inputs_by d (root d) (Sta sta) (Ap a) y) y.ptk k.fields.counter ks h remembers))

@@ -29,14 +29,18 @@ use Rattle.run_journal.specs.declared.reply.GtkNews.{GtkNews}
 use Rattle.run_journal.specs.Replies.{IsEmpty}
 use Rattle.run_journal.specs.Acts.{GroupKey}
 use Rattle.run_journal.specs.Questions.{add}
-use Rattle.domain_rules.specs.Network.{mac, peer_of}
+use Rattle.domain_rules.specs.Network.{mac, peer_of, root}
 use Rattle.domain_rules.specs.Frames.{sent_m4, frame_seal}
 use Rattle.domain_rules.specs.GroupKeys.{memory, give, give_by, find_key}
 use Rattle.domain_rules.specs.Reading.{KeyMessage, Keyed as KeyedReading}
-use Rattle.domain_rules.specs.Replies.{IsMessageFrom, inputs_by}
-use Rattle.domain_rules.specs.Verdict.{Facts, Keying, Knows, KnowsOf, KnowsM3, and_then, first_verdict, verdict, m3_keying, m3_wrapped}
-use Rattle.domain_rules.specs.Rows.{Take, Adds, sender, seal_in, message_seal, is_after_mic, By_m3, By_repeated_m3, By_refusal}
+use Rattle.domain_rules.specs.Replies.{key_by, IsMessageFrom, inputs_by}
+use Rattle.domain_rules.specs.Facts.{Facts}
+use Rattle.domain_rules.specs.StationKeys.{Keying, KnowsM3, m3_keying, m3_wrapped}
+use Rattle.domain_rules.specs.Verdict.{comes_so_far, Knows, KnowsOf, and_then, first_verdict, verdict}
+use Rattle.domain_rules.specs.Rows.{Take, Adds, seal_in, message_seal, refused_seal, By_m3, By_repeated_m3, By_refusal}
+use Rattle.domain_rules.specs.Closing.{sender}
 use Rattle.domain_rules.proofs.SentReads.{reads-counter, reads-rsc}
+use Rattle.run_journal.specs.GroupKinds as groups
 use Rattle.group_key.specs.Keys.{Kept, kept_id, given}
 use Rattle.group_key.specs.Holds.{Remembers}
 use Rattle.group_key.proofs.Keeping.{found_in, found_as}
@@ -53,6 +57,8 @@ use Rattle.supplicant.specs.M3.{group_key, news_of, before_key_data, IsOpened, I
 use Rattle.supplicant.specs.Told.{Tells}
 use Rattle.supplicant.specs.Taken.{IsTaken}
 use Rattle.node_frames.proofs.EndsKeys.{key_is}
+use Rattle.domain_rules.proofs.Refused.{far_seal}
+use Rattle.run_journal.specs.Acts.{Derivation}
 use Rattle.supplicant.proofs.Telling.{acts_told, steps_by}
 use Rattle.supplicant.proofs.Standing.{stands_refused}
 use Rattle.supplicant.proofs.Remembering.{packet_number_of, remembers_took, remembers_answered, remembers_finished}
@@ -63,32 +69,32 @@ use Rattle.supplicant.proofs.TakenM1.{taken_refused}
 -- ---- refused before its MIC
 
 pub m3_unawaited : (f : KeyFrame) (s : State) (ks : List Kept) (r : Reply) → IsEmpty r → HasNoKey s.stage → IsTaken M3 f s ks s ks (Refused reason.Unawaited) r
-m3_unawaited f s ks r empty none = taken_refused M3 f s ks reason.Unawaited r empty refl
+m3_unawaited f s ks r empty none = taken_refused M3 f s ks reason.Unawaited r empty
     (λ d first sta a octets k h st from is fields are. m3_is d first sta (Ap a) octets k h from is ∙ m3_none d (Sta sta) (Ap a) s.stage h k st.stage_is none)
 
 pub m3_refused : (f : KeyFrame) (s : State) (ks : List Kept) (y : Keyed) (kept : Option ℕ) (why : Reason) (r : Reply) → IsEmpty r → HasKey s.stage y kept → IsM3 s.ends.akm y kept (fields_of f) f.octets.now (m3.Refused why)
     → IsTaken M3 f s ks s ks (Refused why) r
-m3_refused f s ks y kept why r empty has judged = taken_refused M3 f s ks why r empty judged.1
+m3_refused f s ks y kept why r empty has judged = taken_refused M3 f s ks why r empty
     (λ d first sta a octets k h st from is fields are.
-    (let j : ((o : Outcome) → before_key_data d.akm y kept k.fields k.octets o ≡ Refused why) × (is_after_mic why ≡ false) = judged_as s.ends.akm d.akm y kept (fields_of f) f.octets.now k (m3.Refused why) st.ends.akm fields are judged in
-    m3_is d first sta (Ap a) octets k h from is ∙ m3_under d sta (Ap a) h k y kept (keying_of d (Sta sta) (Ap a) s.stage h y kept st.stage_is has) ∙ j.0 (taken_by kept)))
+    (let j : (o : Outcome) → before_key_data d.akm y kept k.fields k.octets o ≡ Refused why = judged_as s.ends.akm d.akm y kept (fields_of f) f.octets.now k (m3.Refused why) st.ends.akm fields are judged in
+    m3_is d first sta (Ap a) octets k h from is ∙ m3_under d sta (Ap a) h k y kept (keying_of d (Sta sta) (Ap a) s.stage h y kept st.stage_is has) ∙ j (taken_by kept)))
 
 -- ---- what is known where its MIC verified
 
 abbrev facts_of : {akm : Akm} {kek octets : List ℕ} {r : Result CarriedKey Reason} → IsOpened akm kek octets r → Facts
 facts_of o = record { requested = None; unwrapped = o.plain; data_ = o.says }
 
-knows_y : (d : Domain) (n p : Node) (h : List Act) (k : KeyMessage) (y : Keyed) (kept : Option ℕ) (facts : Facts) → IsKeying d n p h y kept → KnowsM3 y.ptk.kek k facts → (z : Keying) → m3_keying p h ≡ Some z → KnowsM3 z.ptk.kek k facts
+knows_y : (d : Domain) (n p : Node) (h : List Act) (k : KeyMessage) (y : Keyed) (kept : Option ℕ) (facts : Facts) → IsKeying d n p h y kept → KnowsM3 y.ptk.kek k facts → (z : Keying) → m3_keying p h ≡ Some z → KnowsM3 z.key.ptk.kek k facts
 knows_y d n p h k y kept facts x knows z is =
-    let same : record { inputs = inputs_by d n p y; ptk = y.ptk; part = x.part; is_session = is_some kept } ≡ z = (let both = sym x.is ∙ is in cc) in
-    subst (λ (w : Keying). KnowsM3 w.ptk.kek k facts) same knows
+    let same : record { key = key_by d (root d) n p y; is_session = is_some kept } ≡ z = (let both = sym x.is ∙ is in cc) in
+    subst (λ (w : Keying). KnowsM3 w.key.ptk.kek k facts) same knows
 
 knows_m3 : (d : Domain) (first sta : ℕ) (h : List Act) (p : Node) (octets : List ℕ) (k : KeyMessage) (y : Keyed) (kept : Option ℕ) (facts : Facts) → IsMessageFrom d (Sta sta) p octets k → k.message ≡ M3 → IsKeying d (Sta sta) p h y kept → KnowsM3 y.ptk.kek k facts
     → Knows d first (Sta sta) h (KeyedReading k) facts
 knows_m3 d first sta h p octets k y kept facts from is x knows = λ so q peer.
     (let mine : peer_of d (Sta sta) k.header.a2 ≡ Some p = from.from in
     let same : p ≡ q = (let both = sym mine ∙ peer in cc) in
-    subst (λ (m : Message). KnowsOf d.akm h q m k facts) (sym is) (subst (λ (z : Node). (w : Keying) → m3_keying z h ≡ Some w → KnowsM3 w.ptk.kek k facts) same (knows_y d (Sta sta) p h k y kept facts x knows)))
+    subst (λ (m : Message). KnowsOf d.akm h q m k facts) (sym is) (subst (λ (z : Node). (w : Keying) → m3_keying z h ≡ Some w → KnowsM3 w.key.ptk.kek k facts) same (knows_y d (Sta sta) p h k y kept facts x knows)))
 
 knows_opened : (akm : Akm) (kek : List ℕ) (k : KeyMessage) (r : Result CarriedKey Reason) (o : IsOpened akm kek k.fields.key_data r) → KnowsM3 kek k (facts_of o)
 knows_opened akm kek k r o = record { unwrapped = o.unwrapped; data_ = o.reads }
@@ -106,6 +112,10 @@ refused_by : (kept : Option ℕ) (why : Reason) → and_then (taken_by kept) (Re
 refused_by None why = refl
 refused_by (Some counter) why = refl
 
+taken_far : (kept : Option ℕ) → comes_so_far (taken_by kept) ≡ true
+taken_far None = refl
+taken_far (Some counter) = refl
+
 seal_m3 : (d : Domain) (sta : ℕ) (h : List Act) (p : Node) (octets : List ℕ) (k : KeyMessage) (y : Keyed) (kept : Option ℕ) → IsMessageFrom d (Sta sta) p octets k → k.message ≡ M3 → IsKeying d (Sta sta) p h y kept
     → seal_in d (Sta sta) h (KeyedReading k) ≡ Some (frame_seal y.ptk.kck k.octets)
 seal_m3 d sta h p octets k y kept from is x =
@@ -119,8 +129,8 @@ seal_m3 d sta h p octets k y kept from is x =
 adds_sealed : (d : Domain) (first sta : ℕ) (p : Node) (octets : List ℕ) (k : KeyMessage) (h : List Act) (y : Keyed) (kept : Option ℕ) (why : Reason) → IsMessageFrom d (Sta sta) p octets k → k.message ≡ M3 → IsKeying d (Sta sta) p h y kept → IsVerified d.akm y kept k.fields k.octets (Err why)
     → Adds d first (Sta sta) h (Take octets) (Took (Some p) octets (kind.Key k.message) (Refused why) (Some (frame_seal y.ptk.kck k.octets)) ∷ [])
 adds_sealed d first sta p octets k h y kept why from is x v =
-    let sealed : cond (is_after_mic why) (seal_in d (Sta sta) h (KeyedReading k)) None ≡ Some (frame_seal y.ptk.kck k.octets) =
-    ap (λ (b : Bool). cond b (seal_in d (Sta sta) h (KeyedReading k)) None) v.opened.is.1 ∙ seal_m3 d sta h p octets k y kept from is x in
+    let sealed : refused_seal d first (Sta sta) h (KeyedReading k) ≡ Some (frame_seal y.ptk.kck k.octets) =
+    sym (far_seal d first (Sta sta) h (KeyedReading k) (taken_by kept) (comes_m3 d first sta p octets k h y kept (Err why) from is x v) (taken_far kept)) ∙ seal_m3 d sta h p octets k y kept from is x in
     record {
       r = KeyedReading k;
       reads = from.reads;
@@ -128,7 +138,7 @@ adds_sealed d first sta p octets k h y kept why from is x v =
       knows = knows_m3 d first sta h p octets k y kept (facts_of v.opened) from is x (knows_opened d.akm y.ptk.kek k (Err why) v.opened);
       row = By_refusal (record {
         why = why;
-        refused = verdict_m3 d first (Sta sta) h k (facts_of v.opened) (taken_by kept) (Refused why) is (comes_m3 d first sta p octets k h y kept (Err why) from is x v) v.opened.is.0 ∙ refused_by kept why;
+        refused = verdict_m3 d first (Sta sta) h k (facts_of v.opened) (taken_by kept) (Refused why) is (comes_m3 d first sta p octets k h y kept (Err why) from is x v) v.opened.is ∙ refused_by kept why;
         says = ap (λ (o : Option Node). Took o octets (kind.Key k.message) (Refused why) (Some (frame_seal y.ptk.kck k.octets)) ∷ []) (sym from.from)
             ∙ ap (λ (o : Option Seal). Took (sender d (Sta sta) (KeyedReading k)) octets (kind.Key k.message) (Refused why) o ∷ []) (sym sealed);
       });
@@ -151,23 +161,23 @@ m3_sealed f s ks y kept why r has verified tells = λ d first sta a octets k h s
 abbrev news_act : Domain → Node → GtkNews → Act
 news_act d p g = cond g.resumed (Resumed p (Group g.key g.id (mac d p))) (Installed (One p) (Group g.key g.id (mac d p)))
 
-given_act : (d : Domain) (p : Node) (c : CarriedKey) (o : Option ℕ) → news_act d p (news_of c o) ≡ give_by p (mac d p) (group_key c) (found_as c.key o)
+given_act : (d : Domain) (p : Node) (c : CarriedKey) (o : Option ℕ) → news_act d p (news_of c o) ≡ give_by groups.Gtk p (mac d p) (group_key c) (found_as c.key o)
 given_act d p c None = refl
 given_act d p c (Some id) = refl
 
-group_act : (d : Domain) (p : Node) (c : CarriedKey) (ks : List Kept) (g : GtkNews) (h : List Act) → Remembers p ks h → g ≡ news_of c (kept_id c.key ks) → news_act d p g ≡ give p (mac d p) (group_key c) h
+group_act : (d : Domain) (p : Node) (c : CarriedKey) (ks : List Kept) (g : GtkNews) (h : List Act) → Remembers p ks h → g ≡ news_of c (kept_id c.key ks) → news_act d p g ≡ give groups.Gtk p (mac d p) (group_key c) h
 group_act d p c ks g h remembers is =
-    ap (news_act d p) is ∙ given_act d p c (kept_id c.key ks) ∙ ap (give_by p (mac d p) (group_key c)) (sym (found_in p c.key ks h remembers.keys))
+    ap (news_act d p) is ∙ given_act d p c (kept_id c.key ks) ∙ ap (give_by groups.Gtk p (mac d p) (group_key c)) (sym (found_in p c.key ks h remembers.keys))
 
-finishing : (d : Domain) (n p : Node) (octets : List ℕ) (k : KeyMessage) (s : Seal) (tk : List ℕ) (i : Inputs) (g act : Act) (counter : ℕ) → k.message ≡ M3 → g ≡ act → counter ≡ k.fields.counter
-    → Took (Some p) octets (kind.Key k.message) Accepted (Some s) ∷ Installed (One p) (Pairwise tk i) ∷ g ∷ Finished p i ∷ sent_m4 d n p i counter ∷ [] ≡ finishing_acts d n p octets s tk i act k.fields.counter
-finishing d n p octets k s tk i g act counter is same number =
-    ap (λ (m : Message). Took (Some p) octets (kind.Key m) Accepted (Some s) ∷ Installed (One p) (Pairwise tk i) ∷ g ∷ Finished p i ∷ sent_m4 d n p i counter ∷ []) is
-    ∙ ap (λ (e : Act). finishing_acts d n p octets s tk i e counter) same
-    ∙ ap (finishing_acts d n p octets s tk i act) number
+finishing : (d : Domain) (n p : Node) (octets : List ℕ) (k : KeyMessage) (s : Seal) (x : Derivation) (g act : Act) (counter : ℕ) → k.message ≡ M3 → g ≡ act → counter ≡ k.fields.counter
+    → Took (Some p) octets (kind.Key k.message) Accepted (Some s) ∷ Installed (One p) (Pairwise x.ptk.tk x.inputs) ∷ g ∷ Finished p x.inputs ∷ sent_m4 d n p x counter ∷ [] ≡ finishing_acts d n p octets s x act k.fields.counter
+finishing d n p octets k s x g act counter is same number =
+    ap (λ (m : Message). Took (Some p) octets (kind.Key m) Accepted (Some s) ∷ Installed (One p) (Pairwise x.ptk.tk x.inputs) ∷ g ∷ Finished p x.inputs ∷ sent_m4 d n p x counter ∷ []) is
+    ∙ ap (λ (e : Act). finishing_acts d n p octets s x e counter) same
+    ∙ ap (finishing_acts d n p octets s x act) number
 
 adds_finished : (d : Domain) (first sta : ℕ) (p : Node) (octets : List ℕ) (k : KeyMessage) (h : List Act) (y : Keyed) (c : CarriedKey) → IsMessageFrom d (Sta sta) p octets k → k.message ≡ M3 → IsKeying d (Sta sta) p h y None → IsVerified d.akm y None k.fields k.octets (Ok c)
-    → Adds d first (Sta sta) h (Take octets) (finishing_acts d (Sta sta) p octets (frame_seal y.ptk.kck k.octets) y.ptk.tk (inputs_by d (Sta sta) p y) (give p (mac d p) (group_key c) h) k.fields.counter)
+    → Adds d first (Sta sta) h (Take octets) (finishing_acts d (Sta sta) p octets (frame_seal y.ptk.kck k.octets) (key_by d (root d) (Sta sta) p y) (give groups.Gtk p (mac d p) (group_key c) h) k.fields.counter)
 adds_finished d first sta p octets k h y c from is x v = record {
   r = KeyedReading k;
   reads = from.reads;
@@ -180,56 +190,55 @@ adds_finished d first sta p octets k h y c from is x v = record {
     p = p;
     from = from.from;
     accepted = verdict_m3 d first (Sta sta) h k (facts_of v.opened) Accepted Accepted is (comes_m3 d first sta p octets k h y None (Ok c) from is x v) v.opened.is.0;
-    y = record { inputs = inputs_by d (Sta sta) p y; ptk = y.ptk; part = x.part; is_session = false };
+    y = record { key = key_by d (root d) (Sta sta) p y; is_session = false };
     awaited = x.is;
-    says = ap (λ (z : GroupKey). finishing_acts d (Sta sta) p octets (frame_seal y.ptk.kck k.octets) y.ptk.tk (inputs_by d (Sta sta) p y) (give p (mac d p) z h) k.fields.counter) (sym v.opened.is.1);
+    says = ap (λ (z : GroupKey). finishing_acts d (Sta sta) p octets (frame_seal y.ptk.kck k.octets) (key_by d (root d) (Sta sta) p y) (give groups.Gtk p (mac d p) z h) k.fields.counter) (sym v.opened.is.1);
   });
 }
 
 stands_finished : (d : Domain) (sta a : ℕ) (s : State) (octets : List ℕ) (k : KeyMessage) (y : Keyed) (c : CarriedKey) (counter : ℕ) (h : List Act) → Stands d (Sta sta) (Ap a) s h → HasKey s.stage y None → IsMessageFrom d (Sta sta) (Ap a) octets k → counter ≡ k.fields.counter
     → Stands d (Sta sta) (Ap a) (at_stage (Session y counter) s)
-    (add (finishing_acts d (Sta sta) (Ap a) octets (frame_seal y.ptk.kck k.octets) y.ptk.tk (inputs_by d (Sta sta) (Ap a) y) (give (Ap a) (mac d (Ap a)) (group_key c) h) k.fields.counter) h)
+    (add (finishing_acts d (Sta sta) (Ap a) octets (frame_seal y.ptk.kck k.octets) (key_by d (root d) (Sta sta) (Ap a) y) (give groups.Gtk (Ap a) (mac d (Ap a)) (group_key c) h) k.fields.counter) h)
 stands_finished d sta a s octets k y c counter h st has from number =
     let t = trying_with s.stage y has in
     let u : IsUnderWay d (Sta sta) (Ap a) t.v (Some y) h = subst (λ (x : Stage). StandsIn d (Sta sta) (Ap a) x h) t.is st.stage_is in
-    let g : Act = give (Ap a) (mac d (Ap a)) (group_key c) h in
+    let g : Act = give groups.Gtk (Ap a) (mac d (Ap a)) (group_key c) h in
     record {
       ends = st.ends;
       psk = st.psk;
-      stage_is = subst (λ (x : ℕ). IsHeld d (Sta sta) (Ap a) y x (add (finishing_acts d (Sta sta) (Ap a) octets (frame_seal y.ptk.kck k.octets) y.ptk.tk (inputs_by d (Sta sta) (Ap a) y) g k.fields.counter) h)) (sym number)
+      stage_is = subst (λ (x : ℕ). IsHeld d (Sta sta) (Ap a) y x (add (finishing_acts d (Sta sta) (Ap a) octets (frame_seal y.ptk.kck k.octets) (key_by d (root d) (Sta sta) (Ap a) y) g k.fields.counter) h)) (sym number)
           (held_finished d sta a t.v octets (frame_seal y.ptk.kck k.octets) y g k.fields.counter h u
-          (apart_give (Ap a) (Ap a) (mac d (Ap a)) (group_key c) (find_key c.key (memory (Ap a) h))) (reads-counter d.akm octets k from.reads));
+          (apart_give (Ap a) (Ap a) (mac d (Ap a)) (group_key c) (find_key c.key (memory groups.Gtk (Ap a) h))) (reads-counter d.akm octets k from.reads));
     }
 
 pub m3_finished : (f : KeyFrame) (s : State) (ks : List Kept) (y : Keyed) (c : CarriedKey) (rsc : ℕ) (g : GtkNews) (r : Reply) → s.ends.akm ≢ FtPsk → IsKeyOf s.ends s.psk y → HasKey s.stage y None
     → IsVerified s.ends.akm y None (fields_of f) f.octets.now (Ok c) → rsc ≡ packet_number_of f.rsc → g ≡ news_of c (kept_id c.key ks)
-    → ((d : Domain) (n p : Node) (i : Inputs) → AreEnds d n p s.ends → y.ptk ≡ ptk i → Tells p r (Some y.ptk.kck) None (Some y) (Some g) (sent_m4 d n p i f.counter ∷ []))
+    → ((d : Domain) (n p : Node) (x : Derivation) → AreEnds d n p s.ends → y.ptk ≡ x.ptk → Tells p r (Some y.ptk.kck) None (Some y) (Some g) (sent_m4 d n p x f.counter ∷ []))
     → IsTaken M3 f s ks (at_stage (Session y f.counter) s) (given c.key c.id rsc ks) Accepted r
 m3_finished f s ks y c rsc g r suite of has verified numbered news tells = λ d first sta a octets k h st remembers from is fields are.
-    (let i : Inputs = inputs_by d (Sta sta) (Ap a) y in
+    (let der : Derivation = key_by d (root d) (Sta sta) (Ap a) y in
     let seal : Seal = frame_seal y.ptk.kck k.octets in
-    let keyed : y.ptk ≡ ptk i = key_is d (Sta sta) (Ap a) s.ends s.psk y st.ends st.psk suite of in
     let counter_is : f.counter ≡ k.fields.counter = ap (λ (x : KeyFields). x.counter) (sym fields) in
     let v : IsVerified d.akm y None k.fields k.octets (Ok c) = judged_as s.ends.akm d.akm y None (fields_of f) f.octets.now k (m3.Agreed c) st.ends.akm fields are verified in
     let x = keying_of d (Sta sta) (Ap a) s.stage h y None st.stage_is has in
     steps_by d first (Sta sta) (Ap a) octets k (at_stage (Session y f.counter) s) (given c.key c.id rsc ks) Accepted r h
-    (finishing_acts d (Sta sta) (Ap a) octets seal y.ptk.tk i (give (Ap a) (mac d (Ap a)) (group_key c) h) k.fields.counter)
-    (acts_told d (Sta sta) (Ap a) octets k Accepted r (Some y.ptk.kck) None (Some y) (Some g) (sent_m4 d (Sta sta) (Ap a) i f.counter ∷ []) (tells d (Sta sta) (Ap a) i st.ends keyed)
-    ∙ finishing d (Sta sta) (Ap a) octets k seal y.ptk.tk i (news_act d (Ap a) g) (give (Ap a) (mac d (Ap a)) (group_key c) h) f.counter is (group_act d (Ap a) c ks g h remembers news) counter_is)
+    (finishing_acts d (Sta sta) (Ap a) octets seal der (give groups.Gtk (Ap a) (mac d (Ap a)) (group_key c) h) k.fields.counter)
+    (acts_told d (Sta sta) (Ap a) octets k Accepted r (Some y.ptk.kck) None (Some y) (Some g) (sent_m4 d (Sta sta) (Ap a) der f.counter ∷ []) (tells d (Sta sta) (Ap a) der st.ends refl)
+    ∙ finishing d (Sta sta) (Ap a) octets k seal der (news_act d (Ap a) g) (give groups.Gtk (Ap a) (mac d (Ap a)) (group_key c) h) f.counter is (group_act d (Ap a) c ks g h remembers news) counter_is)
     (adds_finished d first sta (Ap a) octets k h y c from is x v)
     (stands_finished d sta a s octets k y c f.counter h st has from counter_is)
-    (remembers_finished d (Sta sta) (Ap a) octets seal y.ptk.tk i (group_key c) k.fields.counter rsc ks h remembers
+    (remembers_finished d (Sta sta) (Ap a) octets seal der (group_key c) k.fields.counter rsc ks h remembers
     (reads-rsc d.akm octets k from.reads ∙ ap (λ (x : KeyFields). packet_number_of x.rsc) fields ∙ sym numbered)))
 
 -- ---- answered once more
 
-answering : (d : Domain) (n p : Node) (octets : List ℕ) (k : KeyMessage) (s : Seal) (i : Inputs) (counter : ℕ) → k.message ≡ M3 → counter ≡ k.fields.counter
-    → Took (Some p) octets (kind.Key k.message) Answered (Some s) ∷ sent_m4 d n p i counter ∷ [] ≡ answering_acts d n p octets s i k.fields.counter
-answering d n p octets k s i counter is number =
-    ap (λ (m : Message). Took (Some p) octets (kind.Key m) Answered (Some s) ∷ sent_m4 d n p i counter ∷ []) is ∙ ap (answering_acts d n p octets s i) number
+answering : (d : Domain) (n p : Node) (octets : List ℕ) (k : KeyMessage) (s : Seal) (x : Derivation) (counter : ℕ) → k.message ≡ M3 → counter ≡ k.fields.counter
+    → Took (Some p) octets (kind.Key k.message) Answered (Some s) ∷ sent_m4 d n p x counter ∷ [] ≡ answering_acts d n p octets s x k.fields.counter
+answering d n p octets k s x counter is number =
+    ap (λ (m : Message). Took (Some p) octets (kind.Key m) Answered (Some s) ∷ sent_m4 d n p x counter ∷ []) is ∙ ap (answering_acts d n p octets s x) number
 
 adds_answered : (d : Domain) (first sta : ℕ) (p : Node) (octets : List ℕ) (k : KeyMessage) (h : List Act) (y : Keyed) (was : ℕ) (c : CarriedKey) → IsMessageFrom d (Sta sta) p octets k → k.message ≡ M3 → IsKeying d (Sta sta) p h y (Some was) → IsVerified d.akm y (Some was) k.fields k.octets (Ok c)
-    → Adds d first (Sta sta) h (Take octets) (answering_acts d (Sta sta) p octets (frame_seal y.ptk.kck k.octets) (inputs_by d (Sta sta) p y) k.fields.counter)
+    → Adds d first (Sta sta) h (Take octets) (answering_acts d (Sta sta) p octets (frame_seal y.ptk.kck k.octets) (key_by d (root d) (Sta sta) p y) k.fields.counter)
 adds_answered d first sta p octets k h y was c from is x v = record {
   r = KeyedReading k;
   reads = from.reads;
@@ -242,7 +251,7 @@ adds_answered d first sta p octets k h y was c from is x v = record {
     p = p;
     from = from.from;
     answered = verdict_m3 d first (Sta sta) h k (facts_of v.opened) Answered Accepted is (comes_m3 d first sta p octets k h y (Some was) (Ok c) from is x v) v.opened.is.0;
-    y = record { inputs = inputs_by d (Sta sta) p y; ptk = y.ptk; part = x.part; is_session = true };
+    y = record { key = key_by d (root d) (Sta sta) p y; is_session = true };
     awaited = x.is;
     says = refl;
   });
@@ -250,30 +259,29 @@ adds_answered d first sta p octets k h y was c from is x v = record {
 
 stands_answered : (d : Domain) (sta : ℕ) (p : Node) (s : State) (octets : List ℕ) (k : KeyMessage) (y : Keyed) (was counter : ℕ) (h : List Act) → Stands d (Sta sta) p s h → HasKey s.stage y (Some was) → IsMessageFrom d (Sta sta) p octets k → counter ≡ k.fields.counter
     → ((o : Outcome) → before_key_data d.akm y (Some was) k.fields k.octets o ≡ o)
-    → Stands d (Sta sta) p (at_stage (Session y counter) s) (add (answering_acts d (Sta sta) p octets (frame_seal y.ptk.kck k.octets) (inputs_by d (Sta sta) p y) k.fields.counter) h)
+    → Stands d (Sta sta) p (at_stage (Session y counter) s) (add (answering_acts d (Sta sta) p octets (frame_seal y.ptk.kck k.octets) (key_by d (root d) (Sta sta) p y) k.fields.counter) h)
 stands_answered d sta p s octets k y was counter h st has from number comes =
     let l : IsHeld d (Sta sta) p y was h = subst (λ (x : Stage). StandsIn d (Sta sta) p x h) (holding_with s.stage y was has) st.stage_is in
     record {
       ends = st.ends;
       psk = st.psk;
-      stage_is = subst (λ (x : ℕ). IsHeld d (Sta sta) p y x (add (answering_acts d (Sta sta) p octets (frame_seal y.ptk.kck k.octets) (inputs_by d (Sta sta) p y) k.fields.counter) h)) (sym number)
-          (held_again d (Sta sta) p octets (frame_seal y.ptk.kck k.octets) (inputs_by d (Sta sta) p y) y was k.fields.counter h l (reads-counter d.akm octets k from.reads) (counter_high d.akm y was k.fields k.octets comes));
+      stage_is = subst (λ (x : ℕ). IsHeld d (Sta sta) p y x (add (answering_acts d (Sta sta) p octets (frame_seal y.ptk.kck k.octets) (key_by d (root d) (Sta sta) p y) k.fields.counter) h)) (sym number)
+          (held_again d (Sta sta) p octets (frame_seal y.ptk.kck k.octets) (key_by d (root d) (Sta sta) p y) y was k.fields.counter h l (reads-counter d.akm octets k from.reads) (counter_high d.akm y was k.fields k.octets comes));
     }
 
 pub m3_answered : (f : KeyFrame) (s : State) (ks : List Kept) (y : Keyed) (was : ℕ) (c : CarriedKey) (r : Reply) → s.ends.akm ≢ FtPsk → IsKeyOf s.ends s.psk y → HasKey s.stage y (Some was)
     → IsVerified s.ends.akm y (Some was) (fields_of f) f.octets.now (Ok c)
-    → ((d : Domain) (n p : Node) (i : Inputs) → AreEnds d n p s.ends → y.ptk ≡ ptk i → Tells p r (Some y.ptk.kck) None None None (sent_m4 d n p i f.counter ∷ []))
+    → ((d : Domain) (n p : Node) (x : Derivation) → AreEnds d n p s.ends → y.ptk ≡ x.ptk → Tells p r (Some y.ptk.kck) None None None (sent_m4 d n p x f.counter ∷ []))
     → IsTaken M3 f s ks (at_stage (Session y f.counter) s) ks Answered r
 m3_answered f s ks y was c r suite of has verified tells = λ d first sta a octets k h st remembers from is fields are.
-    (let i : Inputs = inputs_by d (Sta sta) (Ap a) y in
+    (let der : Derivation = key_by d (root d) (Sta sta) (Ap a) y in
     let seal : Seal = frame_seal y.ptk.kck k.octets in
-    let keyed : y.ptk ≡ ptk i = key_is d (Sta sta) (Ap a) s.ends s.psk y st.ends st.psk suite of in
     let counter_is : f.counter ≡ k.fields.counter = ap (λ (x : KeyFields). x.counter) (sym fields) in
     let v : IsVerified d.akm y (Some was) k.fields k.octets (Ok c) = judged_as s.ends.akm d.akm y (Some was) (fields_of f) f.octets.now k (m3.Agreed c) st.ends.akm fields are verified in
     let x = keying_of d (Sta sta) (Ap a) s.stage h y (Some was) st.stage_is has in
-    steps_by d first (Sta sta) (Ap a) octets k (at_stage (Session y f.counter) s) ks Answered r h (answering_acts d (Sta sta) (Ap a) octets seal i k.fields.counter)
-    (acts_told d (Sta sta) (Ap a) octets k Answered r (Some y.ptk.kck) None None None (sent_m4 d (Sta sta) (Ap a) i f.counter ∷ []) (tells d (Sta sta) (Ap a) i st.ends keyed)
-    ∙ answering d (Sta sta) (Ap a) octets k seal i f.counter is counter_is)
+    steps_by d first (Sta sta) (Ap a) octets k (at_stage (Session y f.counter) s) ks Answered r h (answering_acts d (Sta sta) (Ap a) octets seal der k.fields.counter)
+    (acts_told d (Sta sta) (Ap a) octets k Answered r (Some y.ptk.kck) None None None (sent_m4 d (Sta sta) (Ap a) der f.counter ∷ []) (tells d (Sta sta) (Ap a) der st.ends refl)
+    ∙ answering d (Sta sta) (Ap a) octets k seal der f.counter is counter_is)
     (adds_answered d first sta (Ap a) octets k h y was c from is x v)
     (stands_answered d sta (Ap a) s octets k y was f.counter h st has from counter_is v.comes)
-    (remembers_answered d (Sta sta) (Ap a) octets seal i k.fields.counter ks h remembers))
+    (remembers_answered d (Sta sta) (Ap a) octets seal der k.fields.counter ks h remembers))

@@ -16,6 +16,7 @@ use Rattle.domain_rules.specs.Frames.{frame_seal}
 use Rattle.domain_rules.specs.Reading.{KeyMessage}
 use Rattle.domain_rules.specs.Replies.{derived_acts, replaced_acts, installed_acts, gtk_acts, finished_acts, frame_acts, sent_acts, reply_acts}
 use Rattle.domain_rules.specs.Rows.{Take, Adds}
+use Rattle.domain_rules.specs.Network.{root}
 use Rattle.group_key.specs.Keys.{Kept}
 use Rattle.group_key.specs.Holds.{Remembers}
 use Rattle.supplicant.specs.State.{State}
@@ -26,8 +27,8 @@ use Rattle.supplicant.specs.Told.{Tells}
 abbrev pub told_acts : Domain → Node → Node → List ℕ → KeyMessage → Outcome → Option (List ℕ) → Option Keyed → Option Keyed → Option GtkNews → List Act → List Act
 told_acts d n p octets k outcome v y x g sends =
     Took (Some p) octets (kind.Key k.message) outcome (option_map (λ kck. frame_seal kck k.octets) v)
-    ∷ derived_acts d n p y ++ replaced_acts p false x ++ installed_acts d n p x
-    ++ gtk_acts d p g ++ finished_acts d n p x ++ sends
+    ∷ derived_acts d (root d) n p y ++ replaced_acts p false x ++ installed_acts d (root d) n p x
+    ++ gtk_acts d p g ++ finished_acts d (root d) n p x ++ sends
 
 pub acts_told : (d : Domain) (n p : Node) (octets : List ℕ) (k : KeyMessage) (o : Outcome) (r : Reply) (v : Option (List ℕ)) (y x : Option Keyed) (g : Option GtkNews) (sends : List Act) → Tells p r v y x g sends
     → reply_acts d n p false octets k o r ≡ told_acts d n p octets k o v y x g sends

@@ -12,8 +12,10 @@ use Rattle.run_journal.specs.declared.acts.Outcome.TheVariants.{Accepted, Refuse
 use Rattle.run_journal.specs.declared.reply.Keyed.{Keyed}
 use Rattle.run_journal.specs.declared.reply.GtkNews.{GtkNews}
 use Rattle.run_journal.specs.Acts.{GroupKey}
-use Rattle.domain_rules.specs.Verdict.{IsUnwrapped, ReadsKeyData, above, m3_key_data, m3_wrapped}
-use Rattle.domain_rules.specs.Rows.{carried, is_after_mic}
+use Rattle.domain_rules.specs.Facts.{IsUnwrapped, ReadsKeyData}
+use Rattle.domain_rules.specs.Asking.{above}
+use Rattle.domain_rules.specs.StationKeys.{m3_key_data, m3_wrapped}
+use Rattle.domain_rules.specs.StationRows.{carried}
 use Rattle.supplicant.specs.declared.m3.CarriedKey.{CarriedKey}
 use Rattle.supplicant.specs.declared.m3.M3.{M3}
 use Rattle.supplicant.specs.declared.m3.M3.TheVariants as m3
@@ -39,7 +41,7 @@ pub record IsPlain (akm : Akm) (plain : List ℕ) (r : Result CarriedKey KeyData
 -- wrapped key data carries that group key, or why it is refused
 abbrev pub IsWrappedSaid : Akm → Option (List ℕ) → Option ElementFields → Result CarriedKey Reason → Type 0
 IsWrappedSaid akm plain says (Ok c) = (m3_wrapped akm plain says ≡ Accepted) × (carried says ≡ group_key c)
-IsWrappedSaid akm plain says (Err why) = (m3_wrapped akm plain says ≡ Refused why) × (is_after_mic why ≡ true)
+IsWrappedSaid akm plain says (Err why) = m3_wrapped akm plain says ≡ Refused why
 
 pub record IsOpened (akm : Akm) (kek octets : List ℕ) (r : Result CarriedKey Reason) : Type 0 where
   pub plain : Option (List ℕ)
@@ -69,6 +71,6 @@ pub record IsVerified (akm : Akm) (y : Keyed) (kept : Option ℕ) (f : KeyFields
   pub opened : IsOpened akm y.ptk.kek f.key_data r
 
 abbrev pub IsM3 : Akm → Keyed → Option ℕ → KeyFields → List ℕ → M3 → Type 0
-IsM3 akm y kept f octets (m3.Refused why) = ((o : Outcome) → before_key_data akm y kept f octets o ≡ Refused why) × (is_after_mic why ≡ false)
+IsM3 akm y kept f octets (m3.Refused why) = (o : Outcome) → before_key_data akm y kept f octets o ≡ Refused why
 IsM3 akm y kept f octets (m3.Other why) = IsVerified akm y kept f octets (Err why)
 IsM3 akm y kept f octets (m3.Agreed c) = IsVerified akm y kept f octets (Ok c)

@@ -7,8 +7,9 @@ use Rattle.run_journal.specs.declared.acts.Kind.TheVariants.{AssocResp, Key}
 use Rattle.run_journal.specs.declared.acts.Act.{Act}
 use Rattle.run_journal.specs.declared.reply.Keyed.{Keyed}
 use Rattle.run_journal.specs.Questions.{attempt, since, own_nonce, derivation, session}
-use Rattle.domain_rules.specs.Verdict.{by_connect, has_heard, kept_counter}
+use Rattle.domain_rules.specs.Asking.{by_connect, has_heard, kept_counter}
 use Rattle.domain_rules.specs.Replies.{key_by}
+use Rattle.domain_rules.specs.Network.{root}
 use Rattle.node_frames.specs.Ends.{AreEnds}
 use Rattle.supplicant.specs.declared.stage.Stage.{Stage}
 use Rattle.supplicant.specs.declared.stage.Stage.TheVariants as stage
@@ -24,12 +25,12 @@ pub record IsUnderWay (d : Domain) (n p : Node) (snonce : List ℕ) (key : Optio
   pub hears : has_heard p AssocResp part ≡ true
   pub keeps : kept_counter p part ≡ None
   pub asked : has_heard p (Key M1) part ≡ is_some key
-  pub keyed : derivation p part ≡ option_map (key_by d n p) key
+  pub keyed : derivation p part ≡ option_map (key_by d (root d) n p) key
   pub no_session : session p h ≡ None
 
 -- the session is held: it began by association
 pub record IsHeld (d : Domain) (n p : Node) (key : Keyed) (counter : ℕ) (h : List Act) : Type 0 where
-  pub is : session p h ≡ Some (key_by d n p key)
+  pub is : session p h ≡ Some (key_by d (root d) n p key)
   pub begun : by_connect (since p h) ≡ true
   pub keeps : kept_counter p (since p h) ≡ Some counter
   pub no_attempt : attempt p h ≡ None

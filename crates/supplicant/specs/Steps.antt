@@ -9,7 +9,7 @@ use Rattle.run_journal.specs.declared.reply.Keyed.{Keyed}
 use Rattle.run_journal.specs.Questions.{add}
 use Rattle.domain_rules.specs.Reading.{KeyMessage}
 use Rattle.domain_rules.specs.Replies.{reply_acts}
-use Rattle.domain_rules.specs.Rows.{Take, Adds}
+use Rattle.domain_rules.specs.Rows.{TakeRow}
 use Rattle.group_key.specs.Keys.{Kept}
 use Rattle.group_key.specs.Holds.{Remembers}
 use Rattle.supplicant.specs.State.{State, IsAttempt, IsSession, IsSessionUnder}
@@ -18,7 +18,7 @@ use Rattle.supplicant.specs.Stands.{Stands}
 -- For a history that supplicant and memory stand for, the message adds to it what outcome and reply say, and they then stand for
 -- the longer one.
 pub record Steps (d : Domain) (first : ℕ) (n p : Node) (octets : List ℕ) (k : KeyMessage) (new : State) (remembered : List Kept) (outcome : Outcome) (r : Reply) (h : List Act) : Type 0 where
-  pub adds : Adds d first n h (Take octets) (reply_acts d n p false octets k outcome r)
+  pub adds : TakeRow d first n h octets (reply_acts d n p false octets k outcome r)
   pub stands : Stands d n p new (add (reply_acts d n p false octets k outcome r) h)
   pub remembers : Remembers p remembered (add (reply_acts d n p false octets k outcome r) h)
 

@@ -2,10 +2,9 @@
 
 ghost use Rattle.std.specs.Prelude.{◌≡◌, Some, None, [], ◌∷◌};
 ghost use Rattle.domain_base.specs.declared.names.Node.{Node as AnyNode};
-ghost use Rattle.key_hierarchy.specs.declared.inputs.Inputs.{Inputs as AnyInputs};
-ghost use Rattle.key_hierarchy.specs.Keys.{ptk};
 ghost use Rattle.run_journal.specs.declared.domain.Domain.{Domain as AnyDomain};
 ghost use Rattle.run_journal.specs.Replies.{IsEmpty, IsWhole};
+ghost use Rattle.run_journal.specs.Acts.{Derivation};
 ghost use Rattle.domain_rules.specs.Frames.{sent_m2, sent_m4};
 ghost use Rattle.group_key.specs.Keys.{kept_id, given};
 ghost use Rattle.node_frames.specs.Ends.{AreEnds};
@@ -20,8 +19,8 @@ use run_journal::{GtkNews, Keyed, Reply};
 /// The key was derived by M1: M2 is sent, with that counter.
 pub fn answer_m1(ends: &Ends, key: &Keyed, counter: u64, reply: &mut Reply)
     requires empty { IsEmpty reply.old }
-    ensures tells { (d : AnyDomain) (n p : AnyNode) (i : AnyInputs) → AreEnds d n p ends.now → key.now.ptk ≡ ptk i
-        → i.snonce ≡ key.now.snonce → Tells p reply.new None (Some key.now) None None (sent_m2 d n p i counter ∷ []) }
+    ensures tells { (d : AnyDomain) (n p : AnyNode) (x : Derivation) → AreEnds d n p ends.now → key.now.ptk ≡ x.ptk
+        → x.inputs.snonce ≡ key.now.snonce → Tells p reply.new None (Some key.now) None None (sent_m2 d n p x counter ∷ []) }
     ensures whole { IsWhole reply.new }
 {
     let (ptk, snonce) = (key.ptk, key.snonce);
@@ -41,8 +40,8 @@ pub fn refuse_sealed(kck: [u8; 16], reply: &mut Reply)
 /// M3 verified under the KCK: M4 is sent, with that counter, and nothing is installed.
 pub fn answer_m3(ends: &Ends, key: &Keyed, counter: u64, reply: &mut Reply)
     requires empty { IsEmpty reply.old }
-    ensures tells { (d : AnyDomain) (n p : AnyNode) (i : AnyInputs) → AreEnds d n p ends.now → key.now.ptk ≡ ptk i
-        → Tells p reply.new (Some key.now.ptk.kck) None None None (sent_m4 d n p i counter ∷ []) }
+    ensures tells { (d : AnyDomain) (n p : AnyNode) (x : Derivation) → AreEnds d n p ends.now → key.now.ptk ≡ x.ptk
+        → Tells p reply.new (Some key.now.ptk.kck) None None None (sent_m4 d n p x counter ∷ []) }
     ensures whole { IsWhole reply.new }
 {
     let ptk = key.ptk;
@@ -53,8 +52,8 @@ pub fn answer_m3(ends: &Ends, key: &Keyed, counter: u64, reply: &mut Reply)
 /// M3 was accepted: M4 is sent, with that counter, and the keys are installed.
 pub fn accept_m3(ends: &Ends, key: &Keyed, gtk: GtkNews, counter: u64, reply: &mut Reply)
     requires empty { IsEmpty reply.old }
-    ensures tells { (d : AnyDomain) (n p : AnyNode) (i : AnyInputs) → AreEnds d n p ends.now → key.now.ptk ≡ ptk i
-        → Tells p reply.new (Some key.now.ptk.kck) None (Some key.now) (Some gtk) (sent_m4 d n p i counter ∷ []) }
+    ensures tells { (d : AnyDomain) (n p : AnyNode) (x : Derivation) → AreEnds d n p ends.now → key.now.ptk ≡ x.ptk
+        → Tells p reply.new (Some key.now.ptk.kck) None (Some key.now) (Some gtk) (sent_m4 d n p x counter ∷ []) }
     ensures whole { IsWhole reply.new }
 {
     answer_m3(ends, key, counter, reply);

@@ -5,8 +5,6 @@ mod answers;
 mod m3;
 mod stage;
 mod supplicant;
-#[cfg(test)]
-mod tests;
 
 pub use stage::Stage;
 pub use supplicant::{StaStart, Supplicant};

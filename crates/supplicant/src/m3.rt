@@ -4,8 +4,8 @@ ghost use Rattle.std.specs.Prelude.{◌≡◌, ◌≤◌, ◌↔◌, IsTrue, fal
 ghost use Rattle.rsn_elements.specs.Fields.{gtk_kde_fields};
 ghost use Rattle.eapol_key.specs.Fields.{fields_of, IsKeyFrame};
 ghost use Rattle.eapol_key.specs.KeyFrame.{SpellsKeyFrame, KeyFields};
-ghost use Rattle.domain_rules.specs.Verdict.{is_group_key};
-ghost use Rattle.domain_rules.specs.Rows.{carried_in};
+ghost use Rattle.domain_rules.specs.StationKeys.{is_group_key};
+ghost use Rattle.domain_rules.specs.StationRows.{carried_in};
 ghost use Rattle.supplicant.specs.M3.{group_key, IsPlain, IsOpened, IsAbove, IsNotAbove, IsM3};
 
 use domain_base::{Akm, array_at, big_u16_at};
@@ -23,7 +23,7 @@ const KEY_DATA_LEN_AT: usize = 97;
 const MOST_KEY_DATA: usize = 65_535;
 
 /// A group key as key data carries it.
-#[derive(Clone, Copy, Debug)]
+#[derive(Clone, Copy)]
 pub struct CarriedKey {
     /// The key.
     pub key: [u8; 16],
@@ -32,7 +32,7 @@ pub struct CarriedKey {
 }
 
 /// What an M3 is judged as.
-#[derive(Clone, Copy, Debug)]
+#[derive(Clone, Copy)]
 pub enum M3 {
     /// Refused before its MIC verified.
     Refused(Reason),

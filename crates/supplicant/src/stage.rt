@@ -3,7 +3,7 @@
 use run_journal::Keyed;
 
 /// How far a supplicant is.
-#[derive(Clone, Copy, Debug)]
+#[derive(Clone, Copy)]
 pub enum Stage {
     /// There is neither an attempt nor a session.
     Retired,

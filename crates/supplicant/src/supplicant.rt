@@ -34,7 +34,7 @@ use run_journal::{Domain, Keyed, Outcome, Part, Reason, Reply};
 use std::marker::Model;
 
 /// How a supplicant begins.
-#[derive(Clone, Copy, Debug)]
+#[derive(Clone, Copy)]
 pub enum StaStart<'a> {
     /// An association response was accepted, in an attempt with that SNonce.
     Connect {
@@ -44,7 +44,7 @@ pub enum StaStart<'a> {
 }
 
 /// A station's part with one access point: an attempt, a session, or neither. No call takes memory.
-#[derive(Debug, Drop)]
+#[derive(Drop)]
 pub struct Supplicant {
     ends: Ends,
     psk: [u8; 32],
@@ -52,7 +52,7 @@ pub struct Supplicant {
 }
 
 // A key that M3 may be taken under; in a session with the counter that is kept.
-#[derive(Clone, Copy, Debug)]
+#[derive(Clone, Copy)]
 struct Keying {
     key: Keyed,
     kept: Option<u64>,

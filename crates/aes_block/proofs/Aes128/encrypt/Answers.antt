@@ -1,22 +1,42 @@
-use Rattle.std.proofs.Common.{◌≡◌, ℕ, List, ◌+◌, get_or, [], ◌∙◌, ap, arith}
-use Rattle.aes_block.specs.Cipher.{round_key}
-use Rattle.aes_block.proofs.CipherLemmas.{after_rounds-first, after_rounds-more, after_rounds-last}
+use Rattle.std.proofs.Common.{◌≡◌, ◌<◌, ◌+◌, ℕ, get_or, ap, ◌∙◌, arith, rules}
+use Rattle.domain_base.proofs.OctetLemmas.{octets_by_entries}
+use Rattle.aes_block.specs.Octets.{IsBlock}
+use Rattle.aes_block.specs.Cipher.{round_key, after_rounds, cipher}
+use Rattle.aes_block.specs.Words.{columns, octets_of}
+use Rattle.aes_block.proofs.KeyLemmas.{IsBlock-round_key}
+use Rattle.aes_block.proofs.WordLemmas.{octets_of-columns}
+use Rattle.aes_block.proofs.CipherLemmas.{expanded_for, IsBlock-after_rounds, IsBlock-cipher, after_rounds-first, after_rounds-more, after_rounds-last}
 use Rattle.aes_block.proofs.Aes128.encrypt.Goals as goal
 
 pub loop-n-init : goal.loop-n-init
-loop-n-init c = after_rounds-first c.args.self.now c.args.block _ _ c.self.view_is c.add_round_key-state.ensures
+loop-n-init c =
+    let key = c.args.self.now in
+    let x = expanded_for c.self.view_is c.self.invariant in
+    let below : (k : ℕ) → get_or c.args.block k 0 < 256 = search rules in
+    let b : IsBlock c.args.block = record { sixteen = omega arith; are_octets = octets_by_entries c.args.block below } in
+    c.added-state.ensures c.args.block (round_key key 0) b (IsBlock-round_key key 0 x.is_block) c.columns.ensures (x.rounds 0 (omega arith))
+    ∙ ap columns (after_rounds-first key c.args.block)
 
 pub loop-n-preserved : goal.loop-n-preserved
 loop-n-preserved c =
+    let key = c.args.self.now in
     let n = c.loop-n.n in
-    let key : get_or c.self.inside.round_keys (n + 1) [] ≡ round_key c.args.self.now (n + 1) =
-    c.self.invariant (n + 1) (omega arith) ∙ ap (λ (w : List ℕ). round_key w (n + 1)) c.self.view_is in
-    after_rounds-more c.args.self.now c.args.block n c.loop-n.invariant c.substitute.ensures c.shift_rows.ensures c.mix_columns-mixed.ensures key
-    c.add_round_key-state-in-loop-n.ensures
+    let x = expanded_for c.self.view_is c.self.invariant in
+    let below : (k : ℕ) → get_or c.args.block k 0 < 256 = search rules in
+    let b : IsBlock c.args.block = record { sixteen = omega arith; are_octets = octets_by_entries c.args.block below } in
+    c.full_round-next.ensures (after_rounds key c.args.block n) (round_key key (n + 1)) (IsBlock-after_rounds key c.args.block n x.is_block b)
+    (IsBlock-round_key key (n + 1) x.is_block) c.loop-n.invariant (x.rounds (n + 1) (omega arith))
+    ∙ ap columns (after_rounds-more key c.args.block n)
 
 pub returns : goal.returns
 returns c =
-    let key : get_or c.self.inside.round_keys 10 [] ≡ round_key c.args.self.now 10 =
-    c.self.invariant 10 (omega arith) ∙ ap (λ (w : List ℕ). round_key w 10) c.self.view_is in
+    let key = c.args.self.now in
+    let x = expanded_for c.self.view_is c.self.invariant in
+    let below : (k : ℕ) → get_or c.args.block k 0 < 256 = search rules in
+    let b : IsBlock c.args.block = record { sixteen = omega arith; are_octets = octets_by_entries c.args.block below } in
     let all : c.loop-n.n ≡ 9 = omega arith in
-    after_rounds-last c.args.self.now c.args.block all c.loop-n.invariant c.substitute-2.ensures c.shift_rows-2.ensures key c.add_round_key.ensures
+    c.octets.ensures
+    ∙ ap octets_of (c.last_round.ensures (after_rounds key c.args.block 9) (round_key key 10) (IsBlock-after_rounds key c.args.block 9 x.is_block b)
+    (IsBlock-round_key key 10 x.is_block) (c.loop-n.invariant ∙ ap (λ (n : ℕ). columns (after_rounds key c.args.block n)) all) (x.rounds 10 (omega arith))
+    ∙ ap columns (after_rounds-last key c.args.block))
+    ∙ octets_of-columns (cipher key c.args.block) (IsBlock-cipher key c.args.block x.is_block.are_octets b.are_octets)

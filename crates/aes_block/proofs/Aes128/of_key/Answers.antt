@@ -1,15 +1,23 @@
-use Rattle.std.proofs.Common.{◌<◌, ℕ, get_or, ◌∙◌, arith, rules}
-use Rattle.std.proofs.lemmas.List.Elements.{All-from_get_or}
-use Rattle.aes_block.proofs.KeyLemmas.{round_key-zero, keys_are}
+use Rattle.std.proofs.Common.{◌<◌, ℕ, get_or, arith, rules}
+use Rattle.domain_base.proofs.OctetLemmas.{octets_by_entries}
+use Rattle.aes_block.specs.Octets.{IsBlock}
+use Rattle.aes_block.proofs.CipherLemmas.{view_of, expanded_from}
 use Rattle.aes_block.proofs.Aes128.of_key.Goals as goal
 
 pub invariant_of-result : goal.invariant_of-result
-invariant_of-result c = keys_are c.expand_key.result c.args.key c.expand_key.ensures
+invariant_of-result c =
+    let below : (k : ℕ) → get_or c.args.key k 0 < 256 = search rules in
+    let b : IsBlock c.args.key = record { sixteen = omega arith; are_octets = octets_by_entries c.args.key below } in
+    let keys = c.expand_key-round_keys.ensures c.args.key b c.columns.ensures in
+    expanded_from c.expand_key-round_keys.result c.unmix_keys.result c.args.key b keys (c.unmix_keys.ensures c.args.key b keys)
 
 pub returns-clause-value : goal.returns-clause-value
-returns-clause-value c = c.expand_key.ensures 0 (omega arith) ∙ round_key-zero c.args.key
+returns-clause-value c =
+    let below : (k : ℕ) → get_or c.args.key k 0 < 256 = search rules in
+    let b : IsBlock c.args.key = record { sixteen = omega arith; are_octets = octets_by_entries c.args.key below } in
+    view_of c.expand_key-round_keys.result c.args.key b (c.expand_key-round_keys.ensures c.args.key b c.columns.ensures)
 
 pub returns-clause-octets : goal.returns-clause-octets
 returns-clause-octets c =
     let below : (k : ℕ) → get_or c.args.key k 0 < 256 = search rules in
-    record { sixteen = omega arith; are_octets = All-from_get_or (λ (x : ℕ). x < 256) c.args.key 0 (λ k h. below k) }
+    record { sixteen = omega arith; are_octets = octets_by_entries c.args.key below }

@@ -27,3 +27,6 @@ returns-in-None-clause-again c k =
 
 pub returns-in-None-clause-only : goal.returns-in-None-clause-only
 returns-in-None-clause-only c f s = c.frame_of.ensures ∙ sym (spelled_is c.args.bytes.now f s)
+
+pub returns-in-None-clause-fault : goal.returns-in-None-clause-fault
+returns-in-None-clause-fault c = sym c.fault_of.ensures ∙ c.in-None.is

@@ -1,7 +1,6 @@
 use Rattle.std.proofs.Common.{◌≡◌, ℕ, suc, ◌+◌, [], ◌∷◌, refl, sym, ap, inr, arith, ◌∙◌}
 use Rattle.domain_base.specs.declared.names.Node.{Node}
-use Rattle.key_hierarchy.specs.declared.inputs.Inputs.{Inputs}
-use Rattle.key_hierarchy.specs.Keys.{ptk}
+use Rattle.run_journal.specs.Acts.{Derivation}
 use Rattle.run_journal.specs.declared.domain.Domain.{Domain}
 use Rattle.run_journal.specs.declared.reply.Keyed.{Keyed}
 use Rattle.run_journal.specs.declared.reply.Reply.{Reply}
@@ -15,14 +14,14 @@ use Rattle.authenticator.specs.State.{Agreed}
 use Rattle.authenticator.specs.Judged.{SendsM3}
 use Rattle.authenticator.proofs.retry.again_m3.Goals as goal
 
-same_m3 : (d : Domain) (n p : Node) (i : Inputs) {c k u v : ℕ} {g w : GroupKey} → c ≡ k → g ≡ w → u ≡ v → sent_m3 d n p i c (carried g) u ∷ [] ≡ sent_m3 d n p i k (carried w) v ∷ []
-same_m3 d n p i e f h = rw (e, f, h) refl
+same_m3 : (d : Domain) (n p : Node) (x : Derivation) {c k u v : ℕ} {g w : GroupKey} → c ≡ k → g ≡ w → u ≡ v → sent_m3 d n p x c (carried g) u ∷ [] ≡ sent_m3 d n p x k (carried w) v ∷ []
+same_m3 d n p x e f h = rw (e, f, h) refl
 
 sends_m3 : (l : Ends) (y : Agreed) (key : Keyed) (group : GroupKey) (rsc counter next : ℕ) (r : Reply) → key ≡ y.key → group ≡ y.group → rsc ≡ y.rsc → counter ≡ next
-    → ((d : Domain) (n p : Node) (i : Inputs) → AreEnds d n p l → key.ptk ≡ ptk i → i.anonce ≡ key.anonce → sent_acts p r ≡ sent_m3 d n p i counter (carried group) rsc ∷ [])
+    → ((d : Domain) (n p : Node) (x : Derivation) → AreEnds d n p l → key.ptk ≡ x.ptk → x.inputs.anonce ≡ key.anonce → sent_acts p r ≡ sent_m3 d n p x counter (carried group) rsc ∷ [])
     → SendsM3 l y next r
-sends_m3 l y key group rsc counter next r key_is group_is rsc_is counter_is writes = λ d n p i ends of nonce.
-    writes d n p i ends (ap (λ (x : Keyed). x.ptk) key_is ∙ of) (nonce ∙ sym (ap (λ (x : Keyed). x.anonce) key_is)) ∙ same_m3 d n p i counter_is group_is rsc_is
+sends_m3 l y key group rsc counter next r key_is group_is rsc_is counter_is writes = λ d n p x ends of nonce.
+    writes d n p x ends (ap (λ (z : Keyed). z.ptk) key_is ∙ of) (nonce ∙ sym (ap (λ (z : Keyed). z.anonce) key_is)) ∙ same_m3 d n p x counter_is group_is rsc_is
 
 pub returns-clause-again : goal.returns-clause-again
 returns-clause-again c =

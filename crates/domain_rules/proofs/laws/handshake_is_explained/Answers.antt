@@ -2,4 +2,4 @@ use Rattle.domain_rules.proofs.Example.{handshake_explained, small-in_form, smal
 use Rattle.domain_rules.proofs.laws.handshake_is_explained.Goals as goal
 
 pub returns : goal.returns
-returns c = record { whole = handshake_explained; network = λ seed ssid psk is. (small-in_form seed ssid psk is, small-whole seed ssid psk) }
+returns c = record { whole = handshake_explained; network = λ akm seed ssid psk is. (small-in_form akm seed ssid psk is, small-whole akm seed ssid psk) }

@@ -1,6 +1,6 @@
 use Rattle.std.proofs.Common.{refl}
 use Rattle.run_journal.specs.Questions.{attempt}
-use Rattle.domain_rules.specs.Rows.{retry_acts}
+use Rattle.domain_rules.specs.AccessPointRows.{retry_acts}
 use Rattle.domain_rules.proofs.OneGroup.{one_group}
 use Rattle.domain_rules.proofs.SomeGroup.{some_rows, some_connect}
 use Rattle.domain_base.specs.declared.names.Node.TheVariants.{Ap, Sta}

@@ -1,4 +1,4 @@
-use Rattle.std.proofs.Common.{◌≡◌, ℕ, List, Result, Ok, Err, ap, ◌∙◌}
+use Rattle.std.proofs.Common.{◌≡◌, ℕ, List, Result, Ok, Err, ap, ◌∙◌, rules}
 use Rattle.std.specs.Prelude.{IfOk, IfErr, IsOkAnd}
 use Rattle.rsn_elements.specs.declared.framing.Within.{Within}
 use Rattle.rsn_elements.specs.declared.faults.FaultKind.{FaultKind}
@@ -36,3 +36,6 @@ returns-clause-only c = only_value c.args.within c.args.bytes.now c.gathered_fro
 
 pub returns-clause-first : goal.returns-clause-first
 returns-clause-first c = only_fault c.args.within c.args.bytes.now c.gathered_from.result c.gathered_from.ensures.found c.gathered_from.ensures.fault
+
+pub returns-clause-fault : goal.returns-clause-fault
+returns-clause-fault c = search rules

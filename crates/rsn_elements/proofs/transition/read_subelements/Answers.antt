@@ -1,4 +1,5 @@
-use Rattle.std.proofs.Common.{ℕ, List, ap, ◌∙◌, ◌∷◌, [], ◌++◌}
+use Rattle.std.proofs.Common.{ℕ, List, ap, ◌∙◌, ◌∷◌, [], ◌++◌, arith}
+use Rattle.std.proofs.lemmas.Grind.{common_steps}
 use Rattle.rsn_elements.specs.Framing.{joined}
 use Rattle.rsn_elements.specs.Fields.{element_of}
 use Rattle.rsn_elements.specs.Transition.{IsRight}
@@ -19,3 +20,6 @@ loop-rest-preserved c =
         reached = c.take.ensures c.args.octets.now es c.in-Some.behind.now here (cut_place _ _ _ past.cut) past.reached;
       },
     )
+
+pub returns : goal.returns
+returns c = grind (arith, common_steps)

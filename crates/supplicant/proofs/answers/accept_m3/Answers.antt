@@ -2,8 +2,8 @@ use Rattle.std.proofs.Common.{refl}
 use Rattle.supplicant.proofs.answers.accept_m3.Goals as goal
 
 pub returns-clause-tells : goal.returns-clause-tells
-returns-clause-tells c d n p i ends keyed =
-    let t = c.answer_m3.ensures.tells d n p i ends keyed in
+returns-clause-tells c d n p x ends keyed =
+    let t = c.answer_m3.ensures.tells d n p x ends keyed in
     record { verified_is = t.verified_is; derived_is = t.derived_is; installed_is = refl; gtk_is = refl; sends_are = t.sends_are }
 
 pub returns-clause-whole : goal.returns-clause-whole

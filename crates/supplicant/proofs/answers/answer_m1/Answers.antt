@@ -2,10 +2,10 @@ use Rattle.std.proofs.Common.{refl, ◌∙◌}
 use Rattle.supplicant.proofs.answers.answer_m1.Goals as goal
 
 pub returns-clause-tells : goal.returns-clause-tells
-returns-clause-tells c d n p i ends keyed drawn =
+returns-clause-tells c d n p x ends keyed drawn =
     let w = c.write_m2.ensures.keeps in
     let e = c.requires.empty in
-    record { verified_is = w.verified ∙ e.verified; derived_is = refl; installed_is = w.installed ∙ e.installed; gtk_is = w.gtk ∙ e.gtk; sends_are = c.write_m2.ensures.writes d n p i ends keyed drawn }
+    record { verified_is = w.verified ∙ e.verified; derived_is = refl; installed_is = w.installed ∙ e.installed; gtk_is = w.gtk ∙ e.gtk; sends_are = c.write_m2.ensures.writes d n p x ends keyed drawn }
 
 pub returns-clause-whole : goal.returns-clause-whole
 returns-clause-whole c = record { few = c.write_m2.ensures.fits.few; sealed = c.write_m2.ensures.fits.sealed }

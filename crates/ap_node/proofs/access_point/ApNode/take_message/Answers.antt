@@ -5,6 +5,7 @@ use Rattle.eapol_key.specs.Fields.{fields_of}
 use Rattle.run_journal.specs.declared.acts.Act.{Act}
 use Rattle.domain_rules.specs.Replies.{reply_acts}
 use Rattle.node_frames.specs.Views.{message_fields}
+use Rattle.node_frames.proofs.RepliedActs.{nothing_between}
 use Rattle.ap_node.specs.declared.stations.Station.{Station}
 use Rattle.ap_node.specs.State.{State, station_at}
 use Rattle.ap_node.specs.Places.{PlaceSteps}
@@ -25,7 +26,12 @@ returns-clause-takes c =
     let placed = subst (λ (s : State). PlaceSteps (station_at s.stations sta) (station_at new sta) k.message (fields_of c.args.message.now.frame) c.args.message.now.frame.octets.now c.newest-newest.result outcome r) c.self.view_is c.step_with-outcome.ensures.steps in
     let waiting = subst (λ (n : ℕ). c.add_reply.new.out.acts ≡ c.args.out.now.acts ++ reply_acts d (Ap n) (Sta sta) had c.args.octets.now k outcome r) number
     (c.add_reply.ensures.acts d (Ap c.self.inside.number) (Sta sta) c.args.octets.now k c.in_ok-room.ensures refl
+    ∙ ap (λ (l : List Act). c.reserve.new.self.acts ++ l) (nothing_between d (Ap c.self.inside.number) (Sta sta) had c.args.octets.now k outcome r c.nothing-between.result c.nothing-between.ensures.opened c.nothing-between.ensures.put)
     ∙ ap (λ (l : List Act). l ++ reply_acts d (Ap c.self.inside.number) (Sta sta) had c.args.octets.now k outcome r) c.reserve.ensures.acts) in
     takes_message d c.args.self.now _ c.args.octets.now sta c.args.message.now c.newest-newest.result had outcome r c.args.out.now.acts c.add_reply.new.out.acts c.requires.frame
     number (ap (λ (s : State). s.drawn) c.self.view_is) (ap (λ (s : State). s.group) c.self.view_is) (c.newest-newest.ensures ∙ ap (λ (s : State). s.group.newest) c.self.view_is) had_is placed
     (λ i other. c.step_with-outcome.ensures.others i other ∙ ap (λ (s : State). station_at s.stations i) c.self.view_is) waiting
+
+pub returns-clause-refused : goal.returns-clause-refused
+returns-clause-refused c why is =
+    ap (λ (l : List Station). record { number = c.self.inside.number; drawn = c.self.inside.drawn; group = c.self.inside.group; stations = l }) (c.step_with-outcome.ensures.refused why is) ∙ c.self.view_is

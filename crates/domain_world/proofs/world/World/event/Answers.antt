@@ -3,7 +3,7 @@ use Rattle.run_journal.specs.declared.acts.Entry.{Entry}
 use Rattle.run_journal.specs.Questions.{history}
 use Rattle.node_frames.specs.Events.{event_of}
 use Rattle.domain_rules.specs.Network.{IsListed}
-use Rattle.domain_rules.specs.Explained.{push, Happens}
+use Rattle.domain_rules.specs.Explained.{push, HappensAt}
 use Rattle.domain_world.specs.State.{State}
 use Rattle.domain_world.specs.Owning.{Stand, nodes_of}
 use Rattle.domain_world.specs.Acting.{Acted}
@@ -35,9 +35,9 @@ returns-clause-step c =
     let acts = c.step.new.out.acts in
     let new = c.step.new.self in
     let rounds : c.self.inside.rounds ≡ c.args.self.now.rounds = ap (λ (w : State). w.rounds) c.self.view_is in
-    let happens : Happens c.args.event.now c.reserve.new.self.entries (suc c.self.inside.rounds) node at = c.at_node-node.ensures.happens in
-    let here = subst (λ (i : List Entry). Happens c.args.event.now i (suc c.self.inside.rounds) node at) c.in_ok-reserve.ensures.entries happens in
-    let now = subst (λ (r : ℕ). Happens c.args.event.now j (suc r) node at) rounds here in
+    let happens : HappensAt c.args.event.now c.reserve.new.self.entries (suc c.self.inside.rounds) node at = c.at_node-node.ensures.happens in
+    let here = subst (λ (i : List Entry). HappensAt c.args.event.now i (suc c.self.inside.rounds) node at) c.in_ok-reserve.ensures.entries happens in
+    let now = subst (λ (r : ℕ). HappensAt c.args.event.now j (suc r) node at) rounds here in
     let acted = subst (λ (w : State). (i : List Entry) → Stand (nodes_of w) i → Acted node at i (nodes_of w) new acts) c.self.view_is c.in_ok-step.ensures.acted in
     let round : c.self.inside.rounds + 1 ≡ suc c.args.self.now.rounds = omega arith in
     let is = c.journal_acts.ensures.entries ∙ ap (push (c.self.inside.rounds + 1) node acts) c.in_ok-reserve.ensures.entries ∙ ap (λ (r : ℕ). push r node acts j) round in

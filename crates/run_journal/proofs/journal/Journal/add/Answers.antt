@@ -1,4 +1,4 @@
-use Rattle.std.proofs.Common.{◌≡◌, ◌<◌, ◌-◌, List, [], ◌∷◌, ◌++◌, sym, subst, arith}
+use Rattle.std.proofs.Common.{◌<◌, ◌-◌, List, sym, subst, arith}
 use Rattle.run_journal.specs.declared.acts.Entry.{Entry}
 use Rattle.run_journal.specs.Kept.{Kept}
 use Rattle.run_journal.specs.Looking.{IsRight}
@@ -8,7 +8,7 @@ use Rattle.run_journal.proofs.journal.Journal.add.Goals as goal
 pub invariant_of-self : goal.invariant_of-self
 invariant_of-self c =
     let old = c.self.inside in
-    let items : c.push.new.self.items ≡ old.entries.items ++ c.args.entry ∷ [] = rw c.if-is_err.ensures.negation at c.push.ensures.items in
+    let items = c.append.ensures.items in
     let some : 0 < old.spare = subst (λ (v : Kept). 0 < v.spare) (sym c.self.view_is) c.requires in
     let decides = rw c.deref.ensures.value at c.judge-self-inside.ensures in (
       omega arith,

@@ -3,7 +3,8 @@ use Rattle.run_journal.specs.declared.acts.Act.{Act as AnyAct}
 use Rattle.run_journal.specs.declared.acts.Act.TheVariants.{Idle}
 use Rattle.run_journal.specs.declared.acts.Outcome.TheVariants.{Done, Idle as IdleBy}
 use Rattle.run_journal.specs.declared.acts.Why.TheVariants.{Spent}
-use Rattle.domain_rules.specs.Rows.{Begin, close_pending, close_associated}
+use Rattle.domain_rules.specs.Rows.{Begin}
+use Rattle.domain_rules.specs.Closing.{close_pending, close_associated}
 use Rattle.station_node.specs.State.{State}
 use Rattle.station_node.specs.Stands.{peer_in, peer_of_session}
 use Rattle.station_node.specs.Steps.{IsTaken}

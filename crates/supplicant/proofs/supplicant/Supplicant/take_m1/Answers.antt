@@ -41,6 +41,6 @@ returns-clause-staged c =
     let l = c.self.inside.ends in
     let y = c.pairwise_key-key.result in
     let b = between l in
-    let told = c.answer_m1.ensures.tells b.d b.n b.p (inputs_between l c.self.inside.psk y) b.ends (key_between l c.self.inside.psk y c.self.invariant.suite (is_key_of l c.self.inside.psk _ _ y c.pairwise_key-key.ensures)) refl in
+    let told = c.answer_m1.ensures.tells b.d b.n b.p (record { inputs = inputs_between l c.self.inside.psk y; ptk = y.ptk }) b.ends refl refl in
     subst (λ (t : State). IsStaged c.answer_m1.new.reply.installed t (at_stage (Attempt c.in-Some.snonce (Some y)) (the_view c.self.inside))) c.self.view_is
     (staged_replied (the_view c.self.inside) c.in-Some.snonce (Some y) c.answer_m1.new.reply.installed told.installed_is c.in-Some.ensures)

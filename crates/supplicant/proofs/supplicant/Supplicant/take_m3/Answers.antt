@@ -1,4 +1,4 @@
-use Rattle.std.proofs.Common.{ℕ, Option, sym, subst}
+use Rattle.std.proofs.Common.{refl, ℕ, Option, sym, subst}
 use Rattle.std.specs.Prelude.{Ok}
 use Rattle.domain_base.specs.declared.names.Node.TheVariants.{Ap}
 use Rattle.eapol_key.specs.Fields.{fields_of}
@@ -80,8 +80,7 @@ returns-in-None-clause-staged c =
     let l = c.self.inside.ends in
     let y = c.in-Some.keying.key in
     let b = between l in
-    let keys = keys_with l c.self.inside.psk c.self.inside.stage y c.in-Some.keying.kept c.self.invariant.keys c.in-Some.ensures in
-    let told = c.accept_m3.ensures.tells b.d b.n b.p (inputs_between l c.self.inside.psk y) b.ends (key_between l c.self.inside.psk y c.self.invariant.suite keys) in
+    let told = c.accept_m3.ensures.tells b.d b.n b.p (record { inputs = inputs_between l c.self.inside.psk y; ptk = y.ptk }) b.ends refl in
     subst (λ (t : State). IsStaged c.accept_m3.new.reply.installed t (at_stage (Session y c.args.frame.now.counter) (the_view c.self.inside))) c.self.view_is
     (staged_finished (the_view c.self.inside) y c.args.frame.now.counter c.accept_m3.new.reply.installed told.installed_is
     (subst (λ (o : Option ℕ). HasKey c.self.inside.stage y o) c.in-None.is c.in-Some.ensures))
@@ -105,8 +104,7 @@ returns-in-Some-kept-clause-staged c =
     let l = c.self.inside.ends in
     let y = c.in-Some.keying.key in
     let b = between l in
-    let keys = keys_with l c.self.inside.psk c.self.inside.stage y c.in-Some.keying.kept c.self.invariant.keys c.in-Some.ensures in
-    let told = c.answer_m3.ensures.tells b.d b.n b.p (inputs_between l c.self.inside.psk y) b.ends (key_between l c.self.inside.psk y c.self.invariant.suite keys) in
+    let told = c.answer_m3.ensures.tells b.d b.n b.p (record { inputs = inputs_between l c.self.inside.psk y; ptk = y.ptk }) b.ends refl in
     subst (λ (t : State). IsStaged c.answer_m3.new.reply.installed t (at_stage (Session y c.args.frame.now.counter) (the_view c.self.inside))) c.self.view_is
     (staged_answered (the_view c.self.inside) y c.in-Some-kept.field-0 c.args.frame.now.counter c.answer_m3.new.reply.installed told.installed_is
     (subst (λ (o : Option ℕ). HasKey c.self.inside.stage y o) c.in-Some-kept.is c.in-Some.ensures))

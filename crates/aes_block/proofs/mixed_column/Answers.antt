@@ -1,0 +1,11 @@
+use Rattle.std.proofs.Common.{ℕ, ◌/◌, ◌%◌, ◌^◌, get_or, refl, ap, arith}
+use Rattle.aes_block.specs.declared.constants.TheConstants.{MIXED_SECOND, MIXED_THIRD, MIXED_FOURTH}
+use Rattle.aes_block.proofs.WordLemmas.{mixed_column_is, and_octet}
+use Rattle.aes_block.proofs.mixed_column.Goals as goal
+
+pub returns : goal.returns
+returns c =
+    mixed_column_is (c.args.a / 2 ^ 24) (c.args.b / 2 ^ 16 % 256) (c.args.c / 2 ^ 8 % 256) (c.args.d % 256)
+    (omega arith) (omega arith) (omega arith) (omega arith)
+    refl (ap (λ (w : ℕ). get_or MIXED_SECOND w 0) (and_octet (c.args.b / 2 ^ 16))) (ap (λ (w : ℕ). get_or MIXED_THIRD w 0) (and_octet (c.args.c / 2 ^ 8)))
+    (ap (λ (w : ℕ). get_or MIXED_FOURTH w 0) (and_octet c.args.d))

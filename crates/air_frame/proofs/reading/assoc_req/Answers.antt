@@ -1,0 +1,5 @@
+use Rattle.std.proofs.Common.{rules}
+use Rattle.air_frame.proofs.reading.assoc_req.Goals as goal
+
+pub returns : goal.returns
+returns c = search rules

@@ -1,0 +1,16 @@
+//! Runs a script of a domain of access points and stations, and reports what happened.
+#![tactic(auto)]
+
+mod adapters;
+mod laws;
+mod program;
+mod reading;
+mod session;
+mod stage;
+mod status;
+mod top;
+
+pub use adapters::{StdinSource, StdoutSink};
+pub use program::{command, exit_number};
+pub use status::Status;
+pub use top::run;

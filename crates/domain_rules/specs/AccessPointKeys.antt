@@ -1,0 +1,72 @@
+-- What comes of the messages of the four-way handshake at an access point: M2 and M4 (IEEE Std 802.11-2020, 12.7.6.3 and 12.7.6.5).
+use Rattle.std.specs.Prelude.{◌≡◌, ℕ, cond, not, ◌||◌, List, Option, Some, None, if◌then◌else◌}
+use Rattle.domain_base.specs.declared.names.Akm.{Akm}
+use Rattle.domain_base.specs.declared.names.Node.{Node}
+use Rattle.rsn_elements.specs.Elements.{ElementFields}
+use Rattle.eapol_key.specs.declared.messages.Message.TheVariants.{M1, M2, M3}
+use Rattle.key_hierarchy.specs.Keys.{ptk}
+use Rattle.run_journal.specs.declared.domain.Domain.{Domain}
+use Rattle.run_journal.specs.declared.acts.Kind.TheVariants as kind
+use Rattle.run_journal.specs.declared.acts.KeyDataFault.TheVariants as key_data
+use Rattle.run_journal.specs.declared.acts.Reason.TheVariants as reason
+use Rattle.run_journal.specs.declared.acts.Outcome.{Outcome}
+use Rattle.run_journal.specs.declared.acts.Outcome.TheVariants.{Accepted, Refused}
+use Rattle.run_journal.specs.declared.acts.Act.{Act}
+use Rattle.run_journal.specs.Acts.{Derivation}
+use Rattle.run_journal.specs.Questions.{attempt, derivation, heard}
+use Rattle.domain_rules.specs.Network.{root, inputs}
+use Rattle.domain_rules.specs.Reading.{Management, KeyMessage, Managed, Reads}
+use Rattle.domain_rules.specs.Facts.{Facts, is_same, ReadsKeyData}
+use Rattle.domain_rules.specs.Asking.{offered, by_connect, has_heard, own, in_attempt, among, verified}
+
+-- M2 at an access point, as far as its fields and the history decide
+abbrev pub m2_verdict : Domain → Node → List Act → Node → KeyMessage → Outcome
+m2_verdict d n h p k =
+    in_attempt (attempt p h) (λ part. (
+    if not (by_connect part) || has_heard p (kind.Key M2) part then Refused reason.Unawaited
+    else among (offered p M1 part) k.fields.counter
+    (verified d.akm (ptk (inputs d (root d) n p (own part) k.fields.nonce)).kck k Accepted)))
+
+-- the key derived last in an attempt by connect in which M2 was accepted
+abbrev pub m4_keying : Node → List Act → Option Derivation
+m4_keying p part = cond (by_connect part) (cond (has_heard p (kind.Key M2) part) (derivation p part) None) None
+
+-- M4 at an access point
+abbrev pub m4_verdict_by : Domain → Node → KeyMessage → List Act → Option Derivation → Outcome
+m4_verdict_by d p k part None = Refused reason.Unawaited
+m4_verdict_by d p k part (Some x) = among (offered p M3 part) k.fields.counter (verified d.akm x.ptk.kck k Accepted)
+
+abbrev pub m4_verdict : Domain → List Act → Node → KeyMessage → Outcome
+m4_verdict d h p k = in_attempt (attempt p h) (λ part. m4_verdict_by d p k part (m4_keying p part))
+
+-- the whole RSNE of an association request, where it has one
+abbrev pub requested_rsne : Option ElementFields → Option (List ℕ)
+requested_rsne None = None
+requested_rsne (Some e) = e.rsne_octets
+
+-- the key data of M2: the RSNE, octet by octet as in the association request
+abbrev pub m2_key_data : Option (List ℕ) → Option ElementFields → Outcome
+m2_key_data rsne None = Refused (reason.KeyData key_data.Unreadable)
+m2_key_data rsne (Some e) = if is_same e.rsne_octets rsne then Accepted else Refused (reason.KeyData key_data.Rsne)
+
+-- the octets read as a management frame whose elements say this
+abbrev pub HasElements : Akm → List ℕ → ElementFields → Type 0
+HasElements akm octets e = (b : Management) × Reads akm octets (Managed b e)
+
+-- and this is its whole RSNE, or that it has none
+abbrev pub HasRsne : Akm → List ℕ → Option (List ℕ) → Type 0
+HasRsne akm octets rsne = (e : ElementFields) × (HasElements akm octets e × (rsne ≡ e.rsne_octets))
+
+-- the association request that an attempt of an access point answers: the last that it accepted from p
+abbrev pub request : Node → List Act → Option (List ℕ)
+request p h = heard p kind.AssocReq h
+
+-- what a request says that was accepted, or that there is none
+abbrev pub IsRequested : Akm → Option (List ℕ) → Option ElementFields → Type 0
+IsRequested akm None says = says ≡ None
+IsRequested akm (Some octets) None = ⊥
+IsRequested akm (Some octets) (Some e) = HasElements akm octets e
+
+pub record KnowsM2 (akm : Akm) (h : List Act) (p : Node) (k : KeyMessage) (facts : Facts) : Type 0 where
+  pub requested : IsRequested akm (request p h) facts.requested
+  pub data_ : ReadsKeyData k.fields.key_data facts.data_

@@ -1,0 +1,111 @@
+-- What one event adds to the history of an access point: its acts, in order. A record for each row of the tables of events and of
+-- awaited messages; the acts stand last.
+use Rattle.std.specs.Prelude.{◌≡◌, ℕ, List, [], ◌∷◌, ◌++◌, Option, Some, None, option_map, option_and_then, nat_lt, if◌then◌else◌}
+use Rattle.domain_base.specs.declared.names.Node.{Node}
+use Rattle.domain_base.specs.declared.names.Peer.TheVariants.{One, All}
+use Rattle.rsn_elements.specs.Elements.{ElementFields}
+use Rattle.eapol_key.specs.declared.messages.Message.{Message}
+use Rattle.eapol_key.specs.declared.messages.Message.TheVariants.{M1, M2, M3, M4}
+use Rattle.key_hierarchy.specs.Keys.{ptk}
+use Rattle.key_hierarchy.specs.declared.inputs.Inputs.{Inputs}
+use Rattle.run_journal.specs.declared.domain.Domain.{Domain}
+use Rattle.run_journal.specs.declared.acts.Start.TheVariants.{Connect}
+use Rattle.run_journal.specs.declared.acts.Part.TheVariants.{Attempt}
+use Rattle.run_journal.specs.declared.acts.Drawn.TheVariants.{Nonce, Gtk}
+use Rattle.run_journal.specs.declared.acts.Kind.TheVariants as kind
+use Rattle.run_journal.specs.declared.acts.Why.TheVariants as why
+use Rattle.run_journal.specs.declared.acts.Outcome.TheVariants.{Accepted}
+use Rattle.run_journal.specs.declared.acts.Seal.{Seal}
+use Rattle.run_journal.specs.declared.acts.Key.TheVariants.{Pairwise, Group}
+use Rattle.run_journal.specs.declared.acts.Act.{Act}
+use Rattle.run_journal.specs.declared.acts.Act.TheVariants.{Opened, Closed, Drew, Derived, Took, Installed, Finished, GaveUp, Idle}
+use Rattle.run_journal.specs.Questions.{attempt, chain, derivation, session, before_sent}
+use Rattle.run_journal.specs.Acts.{Derivation}
+use Rattle.domain_rules.specs.Network.{mac, gtk, root, inputs}
+use Rattle.domain_rules.specs.Reading.{Management, KeyMessage, Reading, Managed, Keyed}
+use Rattle.domain_rules.specs.Frames.{sent_assoc_resp, sent_m1, sent_m3, frame_seal, keyed_by}
+use Rattle.domain_rules.specs.Facts.{Facts}
+use Rattle.domain_rules.specs.Verdict.{verdict}
+use Rattle.domain_rules.specs.AccessPointKeys.{m4_keying}
+use Rattle.domain_rules.specs.Asking.{own, by_connect, has_heard}
+use Rattle.domain_rules.specs.Counters.{sent_count, next_in_attempt}
+use Rattle.domain_rules.specs.GroupKeys.{newest, newest_uses}
+use Rattle.run_journal.specs.GroupKinds as groups
+use Rattle.domain_rules.specs.Closing.{close_attempt, close_session, next_nonce, sender}
+
+-- an access point answers an association request with its response and M1
+pub record AssocReqRow (d : Domain) (first : ℕ) (n : Node) (h : List Act) (octets : List ℕ) (r : Reading) (facts : Facts) (g : List Act) : Type 0 where
+  pub b : Management
+  pub e : ElementFields
+  pub is : r ≡ Managed b e
+  pub kind_is : b.kind ≡ kind.AssocReq
+  pub p : Node
+  pub from : sender d n r ≡ Some p
+  pub accepted : verdict d first n h r facts ≡ Accepted
+  pub says : g ≡ Took (Some p) octets kind.AssocReq Accepted None ∷ close_attempt p (attempt p h)
+      ++ Opened p Connect ∷ Drew (Nonce (next_nonce d first n h)) ∷ sent_assoc_resp d n p ∷ sent_m1 d n p 1 (next_nonce d first n h) ∷ []
+
+-- an access point derives the same key by M2, and answers with M3
+pub record M2Row (d : Domain) (first : ℕ) (n : Node) (h : List Act) (octets : List ℕ) (r : Reading) (facts : Facts) (g : List Act) : Type 0 where
+  pub k : KeyMessage
+  pub is : r ≡ Keyed k
+  pub message_is : k.message ≡ M2
+  pub p : Node
+  pub from : sender d n r ≡ Some p
+  pub accepted : verdict d first n h r facts ≡ Accepted
+  pub part : List Act
+  pub awaited : attempt p h ≡ Some part
+  pub i : Inputs
+  pub inputs_are : i ≡ inputs d (root d) n p (own part) k.fields.nonce
+  pub says : g ≡ Took (Some p) octets (kind.Key M2) Accepted (Some (frame_seal (ptk i).kck k.octets)) ∷ Derived p i (ptk i)
+      ∷ sent_m3 d n p (keyed_by i) (next_in_attempt p (chain p h)) (newest groups.Gtk h) (newest_uses groups.Gtk h) ∷ []
+
+-- an access point installs the pairwise key by M4, in place of the one in use
+pub record M4Row (d : Domain) (first : ℕ) (n : Node) (h : List Act) (octets : List ℕ) (r : Reading) (facts : Facts) (g : List Act) : Type 0 where
+  pub k : KeyMessage
+  pub is : r ≡ Keyed k
+  pub message_is : k.message ≡ M4
+  pub p : Node
+  pub from : sender d n r ≡ Some p
+  pub accepted : verdict d first n h r facts ≡ Accepted
+  pub part : List Act
+  pub awaited : attempt p h ≡ Some part
+  pub x : Derivation
+  pub keyed : m4_keying p part ≡ Some x
+  pub says : g ≡ Took (Some p) octets (kind.Key M4) Accepted (Some (frame_seal x.ptk.kck k.octets)) ∷ close_session p (session p h)
+      ++ Installed (One p) (Pairwise x.ptk.tk x.inputs) ∷ Finished p x.inputs ∷ []
+
+-- what the MIC of M2, M3 and M4 covers, under the key by which the message is judged
+abbrev pub m2_seal : Domain → Node → List Act → KeyMessage → Node → Option Seal
+m2_seal d n h k p = option_map (λ (part : List Act). frame_seal (ptk (inputs d (root d) n p (own part) k.fields.nonce)).kck k.octets) (attempt p h)
+
+abbrev pub m4_seal : List Act → KeyMessage → Node → Option Seal
+m4_seal h k p = option_map (λ (x : Derivation). frame_seal x.ptk.kck k.octets) (option_and_then (λ (part : List Act). m4_keying p part) (attempt p h))
+
+-- at most four sends of M1, and of M3, in an attempt
+abbrev pub most_sends : ℕ
+most_sends = 4
+
+-- a message of the attempt is sent once more, or the attempt is given up
+abbrev pub again_or_give_up : Node → Message → ℕ → Act → List Act
+again_or_give_up p m sends act = if nat_lt sends most_sends then act ∷ [] else GaveUp p m ∷ Closed p Attempt ∷ []
+
+-- M3 once more: with the group key and the count of numbers as when it was first sent
+abbrev pub m3_again : Domain → Node → List Act → Node → List Act → Option Derivation → Option (List Act) → Act
+m3_again d n h p part (Some x) (Some past) = sent_m3 d n p x (next_in_attempt p (chain p h)) (newest groups.Gtk past) (newest_uses groups.Gtk past)
+m3_again d n h p part x past = Idle why.Nothing
+
+abbrev pub retry_attempt : Domain → Node → List Act → Node → List Act → List Act
+retry_attempt d n h p part =
+    if has_heard p (kind.Key M2) part then again_or_give_up p M3 (sent_count p M3 part) (m3_again d n h p part (derivation p part) (before_sent p (kind.Key M3) h))
+    else again_or_give_up p M1 (sent_count p M1 part) (sent_m1 d n p (next_in_attempt p (chain p h)) (own part))
+
+-- in an attempt by a four-way handshake M1, or from M2 on M3
+abbrev pub retry_acts : Domain → Node → List Act → Node → Option (List Act) → List Act
+retry_acts d n h p None = Idle why.Nothing ∷ []
+retry_acts d n h p (Some part) = if by_connect part then retry_attempt d n h p part else Idle why.Nothing ∷ []
+
+-- an access point starts: it draws its first group key, with key id 1, and installs it
+abbrev pub start_acts : Domain → ℕ → Node → List Act
+start_acts d first n =
+    Drew (Gtk (gtk d n first)) ∷ Installed All (Group (gtk d n first) 1 (mac d n)) ∷ []

@@ -1,0 +1,25 @@
+-- What ends a session.
+use Rattle.std.specs.Prelude.{◌≡◌, ◌⊎◌, ℕ, List, Some}
+use Rattle.domain_base.specs.declared.names.Node.{Node}
+use Rattle.eapol_key.specs.declared.messages.Message.TheVariants.{M4}
+use Rattle.run_journal.specs.declared.domain.Domain.{Domain}
+use Rattle.run_journal.specs.declared.acts.Kind.TheVariants.{Key}
+use Rattle.run_journal.specs.declared.acts.Outcome.TheVariants.{Accepted}
+use Rattle.run_journal.specs.declared.acts.Seal.{Seal}
+use Rattle.run_journal.specs.declared.acts.Act.{Act}
+use Rattle.run_journal.specs.declared.acts.Act.TheVariants.{Took}
+use Rattle.run_journal.specs.Premises.{In}
+use Rattle.domain_rules.specs.Rows.{NodeEvent, Take, Begin}
+use Rattle.domain_rules.specs.Verified.{IsVerified}
+
+-- the event is octets that come and are accepted as the M4 of p, and their MIC verified
+pub record TakesM4 (d : Domain) (event : NodeEvent) (g : List Act) (p : Node) : Type 0 where
+  pub octets : List ℕ
+  pub is : event ≡ Take octets
+  pub seal : Seal
+  pub accepted : In (Took (Some p) octets (Key M4) Accepted (Some seal)) g
+  pub verified : IsVerified d.akm octets seal
+
+-- the event may end the session with p: the node begins an attempt, or takes an M4 of p
+abbrev pub EndsRightly : Domain → NodeEvent → List Act → Node → Type 0
+EndsRightly d event g p = ((a : ℕ) × (event ≡ Begin a)) ⊎ TakesM4 d event g p

@@ -1,0 +1,87 @@
+-- What comes of the messages of the four-way handshake at a station: M1 and M3 (IEEE Std 802.11-2020, 12.7.6.2 and 12.7.6.4).
+use Rattle.std.specs.Prelude.{◌≡◌, ℕ, Bool, true, false, cond, not, ◌||◌, ◌&&◌, ◌==◌, List, length, Option, Some, None, bytes_eq, if◌then◌else◌}
+use Rattle.domain_base.specs.declared.names.Akm.{Akm}
+use Rattle.domain_base.specs.declared.names.Node.{Node}
+use Rattle.rsn_elements.specs.Elements.{ElementFields}
+use Rattle.rsn_elements.specs.KeyData.{GtkKdeFields}
+use Rattle.rsn_elements.specs.Sent.{rsne_octets}
+use Rattle.eapol_key.specs.declared.messages.Message.TheVariants.{M1}
+use Rattle.run_journal.specs.declared.domain.Domain.{Domain}
+use Rattle.run_journal.specs.declared.acts.Kind.TheVariants as kind
+use Rattle.run_journal.specs.declared.acts.KeyDataFault.TheVariants as key_data
+use Rattle.run_journal.specs.declared.acts.Reason.TheVariants as reason
+use Rattle.run_journal.specs.declared.acts.Outcome.{Outcome}
+use Rattle.run_journal.specs.declared.acts.Outcome.TheVariants.{Accepted, Answered, Refused}
+use Rattle.run_journal.specs.declared.acts.Act.{Act}
+use Rattle.run_journal.specs.Acts.{Derivation}
+use Rattle.run_journal.specs.Questions.{attempt, since, chain, derivation, session}
+use Rattle.domain_rules.specs.Reading.{KeyMessage}
+use Rattle.domain_rules.specs.Facts.{Facts, is_same, ReadsKeyData, IsUnwrapped}
+use Rattle.domain_rules.specs.Asking.{kept_counter, by_connect, has_heard, in_attempt, above, verified}
+
+-- M1 at a station
+abbrev pub m1_verdict : List Act → Node → KeyMessage → Outcome
+m1_verdict h p k =
+    in_attempt (attempt p h) (λ part. (
+    if not (by_connect part) || not (has_heard p kind.AssocResp part) then Refused reason.Unawaited
+    else above (kept_counter p (chain p h)) k.fields.counter Accepted))
+
+-- what M3 is judged by: the key derived last, and whether M3 was accepted under it already
+pub record Keying : Type 0 where
+  pub key : Derivation
+  pub is_session : Bool
+
+-- the key that was derived last, where there is one
+abbrev pub keying_by : Bool → Option Derivation → Option Keying
+keying_by is_session None = None
+keying_by is_session (Some x) = Some (record { key = x; is_session = is_session })
+
+-- in a session that began by a four-way handshake
+abbrev pub session_keying : Node → List Act → Option Keying
+session_keying p h = cond (by_connect (since p h)) (keying_by true (session p h)) None
+
+-- in an attempt by connect in which M1 was accepted, else in a session
+abbrev pub attempt_keying : Node → List Act → Option (List Act) → Option Keying
+attempt_keying p h None = session_keying p h
+attempt_keying p h (Some part) =
+    cond (by_connect part) (cond (has_heard p (kind.Key M1) part) (keying_by false (derivation p part)) None) (session_keying p h)
+
+abbrev pub m3_keying : Node → List Act → Option Keying
+m3_keying p h = attempt_keying p h (attempt p h)
+
+-- acceptance, or in a session an answer
+abbrev pub taken_in : Bool → Outcome
+taken_in false = Accepted
+taken_in true = Answered
+
+-- M3 at a station, as far as its fields and the history decide. The ANonce of the last M1 accepted is the one that the key was
+-- derived from.
+abbrev pub m3_verdict_by : Domain → Option ℕ → KeyMessage → Option Keying → Outcome
+m3_verdict_by d kept k None = Refused reason.Unawaited
+m3_verdict_by d kept k (Some y) =
+    above kept k.fields.counter
+    (if bytes_eq k.fields.nonce y.key.inputs.anonce then verified d.akm y.key.ptk.kck k (taken_in y.is_session) else Refused reason.Nonce)
+
+abbrev pub m3_verdict : Domain → List Act → Node → KeyMessage → Outcome
+m3_verdict d h p k = m3_verdict_by d (kept_counter p (chain p h)) k (m3_keying p h)
+
+-- a GTK KDE with a key of 16 octets and a key id other than 0
+abbrev pub is_group_key : Option GtkKdeFields → Bool
+is_group_key None = false
+is_group_key (Some g) = (length g.key == 16) && not (g.id == 0)
+
+-- the key data of M3: the RSNE as this network sends it, and a group key
+abbrev pub m3_key_data : Akm → Option ElementFields → Outcome
+m3_key_data akm None = Refused (reason.KeyData key_data.Unreadable)
+m3_key_data akm (Some e) =
+    if not (is_same e.rsne_octets (Some (rsne_octets akm None))) then Refused (reason.KeyData key_data.Rsne)
+    else if is_group_key e.gtk then Accepted
+    else Refused (reason.KeyData key_data.Gtk)
+
+abbrev pub m3_wrapped : Akm → Option (List ℕ) → Option ElementFields → Outcome
+m3_wrapped akm None data_ = Refused reason.Wrap
+m3_wrapped akm (Some plain) data_ = m3_key_data akm data_
+
+pub record KnowsM3 (kek : List ℕ) (k : KeyMessage) (facts : Facts) : Type 0 where
+  pub unwrapped : IsUnwrapped kek k.fields.key_data facts.unwrapped
+  pub data_ : (plain : List ℕ) → facts.unwrapped ≡ Some plain → ReadsKeyData plain facts.data_

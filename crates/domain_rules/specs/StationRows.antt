@@ -1,0 +1,104 @@
+-- What one event adds to the history of a station: its acts, in order. A record for each row of the tables of events and of
+-- awaited messages; the acts stand last.
+use Rattle.std.specs.Prelude.{◌≡◌, ℕ, ◌+◌, ◌<◌, ◌≤◌, List, [], ◌∷◌, ◌++◌, Option, Some, None, option_map}
+use Rattle.domain_base.specs.declared.names.Node.{Node}
+use Rattle.domain_base.specs.declared.names.Peer.TheVariants.{One}
+use Rattle.rsn_elements.specs.KeyData.{GtkKdeFields}
+use Rattle.rsn_elements.specs.Elements.{ElementFields}
+use Rattle.eapol_key.specs.declared.messages.Message.TheVariants.{M1, M3}
+use Rattle.key_hierarchy.specs.Keys.{ptk}
+use Rattle.key_hierarchy.specs.declared.inputs.Inputs.{Inputs}
+use Rattle.run_journal.specs.declared.domain.Domain.{Domain}
+use Rattle.run_journal.specs.declared.acts.Start.TheVariants.{Connect}
+use Rattle.run_journal.specs.declared.acts.Drawn.TheVariants.{Nonce}
+use Rattle.run_journal.specs.declared.acts.Kind.TheVariants as kind
+use Rattle.run_journal.specs.declared.acts.Why.TheVariants as why
+use Rattle.run_journal.specs.declared.acts.Outcome.TheVariants.{Accepted, Answered}
+use Rattle.run_journal.specs.declared.acts.Seal.{Seal}
+use Rattle.run_journal.specs.declared.acts.Key.TheVariants.{Pairwise}
+use Rattle.run_journal.specs.declared.acts.Act.{Act}
+use Rattle.run_journal.specs.declared.acts.Act.TheVariants.{Opened, Drew, Derived, Took, Installed, Finished, Idle}
+use Rattle.run_journal.specs.Questions.{attempt, pending, associated, draws}
+use Rattle.run_journal.specs.Acts.{GroupKey}
+use Rattle.domain_rules.specs.Network.{mac, root, inputs, last_draw}
+use Rattle.domain_rules.specs.Reading.{Management, KeyMessage, Reading, Managed, Keyed}
+use Rattle.domain_rules.specs.Frames.{sent_assoc_req, sent_m2, sent_m4, frame_seal, keyed_by}
+use Rattle.domain_rules.specs.Facts.{Facts}
+use Rattle.domain_rules.specs.Verdict.{verdict}
+use Rattle.domain_rules.specs.StationKeys.{Keying, m3_keying}
+use Rattle.domain_rules.specs.Asking.{own}
+use Rattle.domain_rules.specs.GroupKeys.{give}
+use Rattle.run_journal.specs.GroupKinds as groups
+use Rattle.domain_rules.specs.Closing.{close_pending, close_associated, next_nonce, sender}
+
+-- a station drops what it has and asks the access point for association
+abbrev pub connect_acts : Domain → ℕ → Node → List Act → Node → List Act
+connect_acts d first n h p =
+    close_pending (pending h) ++ close_associated (associated h)
+    ++ Opened p Connect ∷ Drew (Nonce (next_nonce d first n h)) ∷ sent_assoc_req d n p ∷ []
+
+pub data ConnectRow (d : Domain) (first : ℕ) (n : Node) (h : List Act) (p : Node) (g : List Act) : Type 0 where
+  Spent : last_draw ≤ first + draws h → g ≡ Idle why.Spent ∷ [] → ConnectRow d first n h p g
+  Asks : first + draws h < last_draw → g ≡ connect_acts d first n h p → ConnectRow d first n h p g
+
+-- a station accepts an association response
+pub record AssocRespRow (d : Domain) (first : ℕ) (n : Node) (h : List Act) (octets : List ℕ) (r : Reading) (facts : Facts) (g : List Act) : Type 0 where
+  pub b : Management
+  pub e : ElementFields
+  pub is : r ≡ Managed b e
+  pub kind_is : b.kind ≡ kind.AssocResp
+  pub p : Node
+  pub from : sender d n r ≡ Some p
+  pub accepted : verdict d first n h r facts ≡ Accepted
+  pub says : g ≡ Took (Some p) octets kind.AssocResp Accepted None ∷ []
+
+-- a station derives a key by M1 and answers with M2
+pub record M1Row (d : Domain) (first : ℕ) (n : Node) (h : List Act) (octets : List ℕ) (r : Reading) (facts : Facts) (g : List Act) : Type 0 where
+  pub k : KeyMessage
+  pub is : r ≡ Keyed k
+  pub message_is : k.message ≡ M1
+  pub p : Node
+  pub from : sender d n r ≡ Some p
+  pub accepted : verdict d first n h r facts ≡ Accepted
+  pub part : List Act
+  pub awaited : attempt p h ≡ Some part
+  pub i : Inputs
+  pub inputs_are : i ≡ inputs d (root d) n p (own part) k.fields.nonce
+  pub says : g ≡ Took (Some p) octets (kind.Key M1) Accepted None ∷ Derived p i (ptk i) ∷ sent_m2 d n p (keyed_by i) k.fields.counter ∷ []
+
+abbrev pub carried_in : Option GtkKdeFields → GroupKey
+carried_in None = record { key = []; id = 0 }
+carried_in (Some g) = record { key = g.key; id = g.id }
+
+-- the group key that key data carries
+abbrev pub carried : Option ElementFields → GroupKey
+carried None = record { key = []; id = 0 }
+carried (Some e) = carried_in e.gtk
+
+-- a station installs the pairwise key by M3, and the group key, and answers with M4
+pub record M3Row (d : Domain) (first : ℕ) (n : Node) (h : List Act) (octets : List ℕ) (r : Reading) (facts : Facts) (g : List Act) : Type 0 where
+  pub k : KeyMessage
+  pub is : r ≡ Keyed k
+  pub message_is : k.message ≡ M3
+  pub p : Node
+  pub from : sender d n r ≡ Some p
+  pub accepted : verdict d first n h r facts ≡ Accepted
+  pub y : Keying
+  pub awaited : m3_keying p h ≡ Some y
+  pub says : g ≡ Took (Some p) octets (kind.Key M3) Accepted (Some (frame_seal y.key.ptk.kck k.octets)) ∷ Installed (One p) (Pairwise y.key.ptk.tk y.key.inputs)
+      ∷ give groups.Gtk p (mac d p) (carried facts.data_) h ∷ Finished p y.key.inputs ∷ sent_m4 d n p y.key k.fields.counter ∷ []
+
+-- in a session it answers again, and installs nothing
+pub record RepeatedM3Row (d : Domain) (first : ℕ) (n : Node) (h : List Act) (octets : List ℕ) (r : Reading) (facts : Facts) (g : List Act) : Type 0 where
+  pub k : KeyMessage
+  pub is : r ≡ Keyed k
+  pub message_is : k.message ≡ M3
+  pub p : Node
+  pub from : sender d n r ≡ Some p
+  pub answered : verdict d first n h r facts ≡ Answered
+  pub y : Keying
+  pub awaited : m3_keying p h ≡ Some y
+  pub says : g ≡ Took (Some p) octets (kind.Key M3) Answered (Some (frame_seal y.key.ptk.kck k.octets)) ∷ sent_m4 d n p y.key k.fields.counter ∷ []
+
+abbrev pub m3_seal : List Act → KeyMessage → Node → Option Seal
+m3_seal h k p = option_map (λ (y : Keying). frame_seal y.key.ptk.kck k.octets) (m3_keying p h)

@@ -1,0 +1,5 @@
+use Rattle.std.proofs.Common.{rules}
+use Rattle.eapol_key.proofs.sealing.verify.Goals as goal
+
+pub returns : goal.returns
+returns c = search rules

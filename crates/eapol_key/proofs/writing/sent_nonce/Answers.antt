@@ -1,0 +1,5 @@
+use Rattle.std.proofs.Common.{rules}
+use Rattle.eapol_key.proofs.writing.sent_nonce.Goals as goal
+
+pub returns-in-M4 : goal.returns-in-M4
+returns-in-M4 c = search rules

@@ -1,0 +1,145 @@
+//! The access point A1, event by event.
+
+ghost use Rattle.std.specs.Prelude.{◌≡◌, ◌≢◌, ◌<◌, length};
+ghost use Rattle.domain_base.specs.declared.names.Akm.{Akm as AnyAkm};
+ghost use Rattle.domain_rules.specs.Network.{InForm, last_draw};
+
+mod handshakes;
+mod requests;
+
+use crate::acts::Expected::{Drew, Group};
+use crate::acts::{Event, Expected, Step, come, come_of, is_outcome};
+use crate::network::network;
+use crate::vectors::GTK;
+use ap_node::ApNode;
+use domain_base::{Akm, Peer};
+use node_frames::{NodeEvent, Outbox};
+use run_journal::{Domain, Drawn, Outcome};
+use std::alloc::Global;
+use std::process::Abort;
+
+// What the access point draws by its last number as a group key.
+const LAST_GTK: [u8; 16] = *b"\xaa\xaa\x7f\x7e\x1d\x11\x1a\x3f\x3d\x96\xd9\x00\x9a\xb8\xdf\xae";
+
+// What the access point does as it starts: the first group key is drawn and installed.
+const START: &[Expected] = &[Drew(Drawn::Gtk(GTK)), Group(Peer::All, GTK, 1)];
+
+// The same, where it starts with the last draw.
+const LAST_START: &[Expected] = &[Drew(Drawn::Gtk(LAST_GTK)), Group(Peer::All, LAST_GTK, 1)];
+
+// The outcome and the acts of the event are those of the step. No event of a station comes to an access point.
+fn steps(alloc: Global, domain: &Domain, node: &mut ApNode, out: &mut Outbox, step: &Step) -> bool
+    requires form { InForm domain.now }
+    requires akm { domain.now.akm ≢ AnyAkm.FtPsk }
+    requires aps { length domain.now.aps ≡ 2 }
+    requires stas { length domain.now.stas ≡ 2 }
+    requires node { node.old.number ≡ 0 }
+    ensures { node.new.number ≡ 0 }
+{
+    let event = match step.event {
+        Event::Take(octets) => NodeEvent::Take(octets),
+        Event::Retry(station) => NodeEvent::Retry(station % 2),
+        Event::Connect(_) => return false,
+    };
+    is_outcome(node.step(alloc, domain, event, out), step.outcome) && come_of(out, step)
+}
+
+// The access point takes these steps.
+fn follow(
+    rt: &impl Abort,
+    alloc: Global,
+    domain: &Domain,
+    node: &mut ApNode,
+    out: &mut Outbox,
+    scenario: &[Step],
+)
+    requires form { InForm domain.now }
+    requires akm { domain.now.akm ≢ AnyAkm.FtPsk }
+    requires aps { length domain.now.aps ≡ 2 }
+    requires stas { length domain.now.stas ≡ 2 }
+    requires node { node.old.number ≡ 0 }
+{
+    for step in scenario {
+        assert!(rt; steps(alloc, domain, node, out, step), "{}", step.shows);
+    }
+}
+
+// An access point starts with these acts, drawing from that number.
+fn start(
+    rt: &impl Abort,
+    alloc: Global,
+    domain: &Domain,
+    first: u64,
+    out: &mut Outbox,
+    acts: &[Expected],
+) -> ApNode
+    requires draw { first < last_draw }
+    requires aps { length domain.now.aps ≡ 2 }
+    ensures { result.number ≡ 0 }
+{
+    let node = ApNode::start(alloc, domain, 0, first, out).expect(rt, "memory");
+    assert!(rt; come(out, acts, b"", Outcome::Done));
+    node
+}
+
+// An access point starts with these acts, drawing from that number, and takes these steps.
+fn try_steps(
+    rt: &impl Abort,
+    alloc: Global,
+    akm: Akm,
+    first: u64,
+    acts: &[Expected],
+    scenario: &[Step],
+)
+    requires akm { akm ≢ AnyAkm.FtPsk }
+    requires draw { first < last_draw }
+{
+    let domain = network(rt, alloc, akm);
+    let mut out = Outbox::new(alloc);
+    let mut node = start(rt, alloc, &domain, first, &mut out, acts);
+    follow(rt, alloc, &domain, &mut node, &mut out, scenario);
+}
+
+#[test]
+fn first_group_key(rt: HostRuntime) {
+    try_steps(&rt, rt.alloc(), Akm::Psk, 0, START, &[]);
+}
+
+#[test]
+fn requests_and_second_messages(rt: HostRuntime) {
+    try_steps(&rt, rt.alloc(), Akm::Psk, 0, START, requests::REQUESTS);
+}
+
+#[test]
+fn first_message_is_sent_four_times(rt: HostRuntime) {
+    try_steps(
+        &rt,
+        rt.alloc(),
+        Akm::Psk,
+        0,
+        START,
+        requests::FIRST_MESSAGES,
+    );
+}
+
+#[test]
+fn draws_of_an_access_point_end(rt: HostRuntime) {
+    let last = 1_152_921_504_606_846_975;
+    try_steps(&rt, rt.alloc(), Akm::Psk, last, LAST_START, requests::SPENT);
+}
+
+#[test]
+fn m4_finishes_a_handshake(rt: HostRuntime) {
+    try_steps(&rt, rt.alloc(), Akm::Psk, 0, START, handshakes::HANDSHAKES);
+}
+
+#[test]
+fn m4_finishes_a_handshake_of_suite_6(rt: HostRuntime) {
+    let steps = handshakes::HANDSHAKE_OF_SUITE_6;
+    try_steps(&rt, rt.alloc(), Akm::PskSha256, 0, START, steps);
+}
+
+#[test]
+fn stations_are_kept_apart(rt: HostRuntime) {
+    try_steps(&rt, rt.alloc(), Akm::Psk, 0, START, handshakes::STATIONS);
+}

@@ -1,0 +1,273 @@
+//! The steps of a scenario, and whether the acts of a node are those of its step.
+
+use crate::air_frames::Keys;
+use crate::vectors::A1_ADDRESS;
+use domain_base::{NoMemory, Node, Peer};
+use eapol_key::Message;
+use key_hierarchy::{Inputs, Ptk};
+use node_frames::Outbox;
+use run_journal::{Act, Drawn, Key, Kind, Outcome, Part, Seal, Start, Why};
+
+/// An event at a node, by the number of the other node.
+#[derive(Clone, Copy)]
+pub enum Event {
+    Connect(u16),
+    Take(&'static [u8]),
+    Retry(u16),
+}
+
+/// An act as it is to be. What is taken has the octets that came and the outcome of the step.
+#[derive(Clone, Copy)]
+pub enum Expected {
+    Opened(Node),
+    Closed(Node, Part),
+    Drew(Drawn),
+    Derived(Node, &'static Keys),
+    /// Without a MIC.
+    Sent(Node, Kind, &'static [u8]),
+    /// With a MIC under the KCK.
+    SentSealed(Node, Kind, &'static [u8], &'static Keys),
+    /// Its MIC was not verified.
+    Took(Option<Node>, Kind),
+    /// Its MIC verified under the KCK.
+    TookSealed(Node, Kind, &'static Keys),
+    Pairwise(Node, &'static Keys),
+    /// A group key of A1, with its key id.
+    Group(Peer, [u8; 16], u8),
+    /// The same.
+    Resumed(Node, [u8; 16], u8),
+    Finished(Node, &'static Keys),
+    GaveUp(Node, Message),
+    Idle(Why),
+}
+
+/// An event at a node, what comes of it, and the acts.
+#[derive(Clone, Copy)]
+pub struct Step {
+    pub shows: &'static str,
+    pub event: Event,
+    pub outcome: Outcome,
+    pub acts: &'static [Expected],
+}
+
+// What the MIC of the EAPOL-Key frame in a data frame covers: the form, and the frame with zeros in its MIC field. It stands
+// behind 32 octets, and its MIC field in its octets 81 to 96.
+fn is_covered(covered: &[u8], frame: &[u8]) -> bool {
+    frame.len() >= 129
+        && covered.len() == frame.len() - 31
+        && covered[0] == 1
+        && &covered[1..82] == &frame[32..113]
+        && &covered[82..98] == [0; 16].as_slice()
+        && &covered[98..] == &frame[129..]
+}
+
+fn is_sealed(seal: &Option<Seal>, frame: &[u8], keys: &Keys) -> bool {
+    match seal {
+        Some(seal) => seal.key == keys.ptk.kck && is_covered(seal.octets.as_slice(), frame),
+        None => false,
+    }
+}
+
+fn is_opened(act: &Act, node: Node) -> bool {
+    match act {
+        Act::Opened { peer, start } => *peer == node && *start == Start::Connect,
+        _ => false,
+    }
+}
+
+fn is_closed(act: &Act, node: Node, what: Part) -> bool {
+    match act {
+        Act::Closed { peer, part } => *peer == node && *part == what,
+        _ => false,
+    }
+}
+
+fn is_drawn(act: &Act, wanted: Drawn) -> bool {
+    match act {
+        Act::Drew { value } => *value == wanted,
+        _ => false,
+    }
+}
+
+fn are_inputs(inputs: &Inputs, keys: &Keys) -> bool {
+    inputs.anonce == keys.anonce && inputs.snonce == keys.snonce
+}
+
+fn is_ptk(ptk: &Ptk, keys: &Keys) -> bool {
+    ptk.kck == keys.ptk.kck && ptk.kek == keys.ptk.kek && ptk.tk == keys.ptk.tk
+}
+
+fn is_derived(act: &Act, node: Node, keys: &Keys) -> bool {
+    match act {
+        Act::Derived { peer, inputs, ptk } => {
+            *peer == node && are_inputs(inputs, keys) && is_ptk(ptk, keys)
+        }
+        _ => false,
+    }
+}
+
+fn is_sent(act: &Act, node: Node, what: Kind, frame: &[u8], keys: Option<&Keys>) -> bool {
+    match act {
+        Act::Sent {
+            peer,
+            kind,
+            octets,
+            seal,
+        } => {
+            *peer == Peer::One(node)
+                && *kind == what
+                && octets.as_slice() == frame
+                && is_sealed_or_not(seal, frame, keys)
+        }
+        _ => false,
+    }
+}
+
+fn is_sealed_or_not(seal: &Option<Seal>, frame: &[u8], keys: Option<&Keys>) -> bool {
+    match keys {
+        Some(keys) => is_sealed(seal, frame, keys),
+        None => seal.is_none(),
+    }
+}
+
+fn is_taken(
+    act: &Act,
+    node: Option<Node>,
+    what: Kind,
+    came: &[u8],
+    told: Outcome,
+    keys: Option<&Keys>,
+) -> bool {
+    match act {
+        Act::Took {
+            from,
+            octets,
+            kind,
+            outcome,
+            seal,
+        } => {
+            *from == node
+                && *kind == what
+                && *outcome == told
+                && octets.as_slice() == came
+                && is_sealed_or_not(seal, came, keys)
+        }
+        _ => false,
+    }
+}
+
+fn is_pairwise(act: &Act, node: Node, keys: &Keys) -> bool {
+    match act {
+        Act::Installed {
+            peer,
+            key: Key::Pairwise { tk, inputs },
+        } => *peer == Peer::One(node) && *tk == keys.ptk.tk && are_inputs(inputs, keys),
+        _ => false,
+    }
+}
+
+fn is_group_key(key: &Key, wanted: [u8; 16], number: u8) -> bool {
+    match key {
+        Key::Group { gtk, id, bssid } => *gtk == wanted && *id == number && *bssid == A1_ADDRESS,
+        Key::Pairwise { .. } => false,
+    }
+}
+
+fn is_group(act: &Act, with: Peer, gtk: [u8; 16], id: u8) -> bool {
+    match act {
+        Act::Installed { peer, key } => *peer == with && is_group_key(key, gtk, id),
+        _ => false,
+    }
+}
+
+fn is_resumed(act: &Act, node: Node, gtk: [u8; 16], id: u8) -> bool {
+    match act {
+        Act::Resumed { peer, key } => *peer == node && is_group_key(key, gtk, id),
+        _ => false,
+    }
+}
+
+fn is_finished(act: &Act, node: Node, keys: &Keys) -> bool {
+    match act {
+        Act::Finished { peer, inputs } => *peer == node && are_inputs(inputs, keys),
+        _ => false,
+    }
+}
+
+fn is_given_up(act: &Act, node: Node, waited: Message) -> bool {
+    match act {
+        Act::GaveUp { peer, message } => *peer == node && *message == waited,
+        _ => false,
+    }
+}
+
+fn is_idle(act: &Act, reason: Why) -> bool {
+    match act {
+        Act::Idle { why } => *why == reason,
+        _ => false,
+    }
+}
+
+// The act is as it is to be, where these octets came and that came of them.
+fn is(act: &Act, expected: Expected, came: &[u8], told: Outcome) -> bool {
+    match expected {
+        Expected::Opened(node) => is_opened(act, node),
+        Expected::Closed(node, part) => is_closed(act, node, part),
+        Expected::Drew(value) => is_drawn(act, value),
+        Expected::Derived(node, keys) => is_derived(act, node, keys),
+        Expected::Sent(node, kind, frame) => is_sent(act, node, kind, frame, None),
+        Expected::SentSealed(node, kind, frame, keys) => {
+            is_sent(act, node, kind, frame, Some(keys))
+        }
+        Expected::Took(node, kind) => is_taken(act, node, kind, came, told, None),
+        Expected::TookSealed(node, kind, keys) => {
+            is_taken(act, Some(node), kind, came, told, Some(keys))
+        }
+        Expected::Pairwise(node, keys) => is_pairwise(act, node, keys),
+        Expected::Group(peer, gtk, id) => is_group(act, peer, gtk, id),
+        Expected::Resumed(node, gtk, id) => is_resumed(act, node, gtk, id),
+        Expected::Finished(node, keys) => is_finished(act, node, keys),
+        Expected::GaveUp(node, message) => is_given_up(act, node, message),
+        Expected::Idle(why) => is_idle(act, why),
+    }
+}
+
+fn is_next(act: &Option<Act>, expected: Option<Expected>, came: &[u8], told: Outcome) -> bool {
+    match (act, expected) {
+        (Some(act), Some(expected)) => is(act, expected, came, told),
+        (None, None) => true,
+        _ => false,
+    }
+}
+
+// The next act, which is dropped, is as it is to be, or there is none and none is to be.
+fn comes(act: Option<Act>, expected: Option<Expected>, came: &[u8], told: Outcome) -> bool {
+    is_next(&act, expected, came, told)
+}
+
+/// These acts come, and no more, where these octets came and that came of them.
+pub fn come(out: &mut Outbox, acts: &[Expected], came: &[u8], told: Outcome) -> bool {
+    for expected in acts {
+        if !comes(out.pop(), Some(*expected), came, told) {
+            return false;
+        }
+    }
+    comes(out.pop(), None, came, told)
+}
+
+/// The acts of the step come, and no more.
+pub fn come_of(out: &mut Outbox, step: &Step) -> bool {
+    let came = match step.event {
+        Event::Take(octets) => octets,
+        Event::Connect(_) | Event::Retry(_) => b"",
+    };
+    come(out, step.acts, came, step.outcome)
+}
+
+/// That came of an event.
+pub fn is_outcome(came: Result<Outcome, NoMemory>, wanted: Outcome) -> bool {
+    match came {
+        Ok(outcome) => outcome == wanted,
+        Err(_) => false,
+    }
+}

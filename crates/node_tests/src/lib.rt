@@ -1,0 +1,29 @@
+//! Tests of the public calls of nodes and their parts.
+#![tactic(auto)]
+
+#[cfg(test)]
+mod access_point;
+#[cfg(test)]
+mod acts;
+#[cfg(test)]
+mod air_frames;
+#[cfg(test)]
+mod authenticator_part;
+#[cfg(test)]
+mod frames;
+#[cfg(test)]
+mod frames_judged;
+#[cfg(test)]
+mod frames_sent;
+#[cfg(test)]
+mod group_keys;
+#[cfg(test)]
+mod network;
+#[cfg(test)]
+mod outbox;
+#[cfg(test)]
+mod station;
+#[cfg(test)]
+mod supplicant_part;
+#[cfg(test)]
+mod vectors;

@@ -1,0 +1,52 @@
+//! The test network.
+
+ghost use Rattle.std.specs.Prelude.{◌≡◌, IfOk, length};
+ghost use Rattle.domain_rules.specs.Network.{InForm};
+
+use crate::vectors::{PSK, SEED};
+use domain_base::{Akm, Mac, NoMemory, Octets};
+use run_journal::{Aps, Domain, ListedAp, Stas};
+use std::alloc::Global;
+use std::process::Abort;
+
+fn octets(alloc: Global, of: &[u8]) -> Result<Octets, NoMemory>
+    ensures { IfOk result (λ o. o ≡ of.now) }
+{
+    Ok(Octets(Vec::from_slice(alloc, of)?))
+}
+
+fn made(alloc: Global, akm: Akm) -> Result<Domain, NoMemory>
+    ensures form { IfOk result (λ d. InForm d) }
+    ensures akm { IfOk result (λ d. d.akm ≡ akm) }
+    ensures aps { IfOk result (λ d. length d.aps ≡ 2) }
+    ensures stas { IfOk result (λ d. length d.stas ≡ 2) }
+{
+    let first = ListedAp {
+        address: Mac([2, 0, 0, 0, 0, 1]),
+        r0kh_id: octets(alloc, b"r0kh-1")?,
+    };
+    let second = ListedAp {
+        address: Mac([2, 0, 0, 0, 0, 2]),
+        r0kh_id: octets(alloc, b"r0kh-2")?,
+    };
+    let stas = [Mac([2, 0, 0, 0, 0, 0x11]), Mac([2, 0, 0, 0, 0, 0x12])];
+    Ok(Domain {
+        seed: SEED,
+        ssid: octets(alloc, b"IEEE")?,
+        psk: PSK,
+        akm,
+        mdid: [0, 0],
+        aps: Aps(Vec::from_array(alloc, [first, second])?),
+        stas: Stas(Vec::from_array(alloc, stas)?),
+    })
+}
+
+/// The test network with that suite: two access points and two stations.
+pub fn network(rt: &impl Abort, alloc: Global, akm: Akm) -> Domain
+    ensures form { InForm result }
+    ensures akm { result.akm ≡ akm }
+    ensures aps { length result.aps ≡ 2 }
+    ensures stas { length result.stas ≡ 2 }
+{
+    made(alloc, akm).expect(rt, "memory")
+}

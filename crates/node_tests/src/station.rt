@@ -1,0 +1,95 @@
+//! The station S1, event by event.
+
+ghost use Rattle.std.specs.Prelude.{◌≡◌, ◌≢◌, ◌<◌, length};
+ghost use Rattle.domain_base.specs.declared.names.Akm.{Akm as AnyAkm};
+ghost use Rattle.domain_rules.specs.Network.{InForm, last_draw};
+
+mod association;
+mod handshakes;
+
+use crate::acts::{Event, Step, come_of, is_outcome};
+use crate::network::network;
+use domain_base::Akm;
+use node_frames::{NodeEvent, Outbox};
+use run_journal::Domain;
+use station_node::StationNode;
+use std::alloc::Global;
+use std::process::Abort;
+
+// The outcome and the acts of the event are those of the step. No event of an access point comes to a station.
+fn steps(
+    alloc: Global,
+    domain: &Domain,
+    node: &mut StationNode,
+    out: &mut Outbox,
+    step: &Step,
+) -> bool
+    requires form { InForm domain.now }
+    requires akm { domain.now.akm ≢ AnyAkm.FtPsk }
+    requires aps { length domain.now.aps ≡ 2 }
+    requires stas { length domain.now.stas ≡ 2 }
+    requires node { node.old.number ≡ 0 }
+    ensures { node.new.number ≡ 0 }
+{
+    let event = match step.event {
+        Event::Connect(ap) => NodeEvent::Connect(ap % 2),
+        Event::Take(octets) => NodeEvent::Take(octets),
+        Event::Retry(_) => return false,
+    };
+    is_outcome(node.step(alloc, domain, event, out), step.outcome) && come_of(out, step)
+}
+
+// The station takes these steps.
+fn follow(
+    rt: &impl Abort,
+    alloc: Global,
+    domain: &Domain,
+    node: &mut StationNode,
+    out: &mut Outbox,
+    scenario: &[Step],
+)
+    requires form { InForm domain.now }
+    requires akm { domain.now.akm ≢ AnyAkm.FtPsk }
+    requires aps { length domain.now.aps ≡ 2 }
+    requires stas { length domain.now.stas ≡ 2 }
+    requires node { node.old.number ≡ 0 }
+{
+    for step in scenario {
+        assert!(rt; steps(alloc, domain, node, out, step), "{}", step.shows);
+    }
+}
+
+// A station, which begins to draw at that number, takes these steps.
+fn try_steps(rt: &impl Abort, alloc: Global, first: u64, scenario: &[Step])
+    requires { first < last_draw }
+{
+    let domain = network(rt, alloc, Akm::Psk);
+    let mut node = StationNode::start(alloc, 0, first);
+    let mut out = Outbox::new(alloc);
+    follow(rt, alloc, &domain, &mut node, &mut out, scenario);
+}
+
+#[test]
+fn a_station_answers_m1(rt: HostRuntime) {
+    try_steps(&rt, rt.alloc(), 0, association::FIRST_ASSOCIATION);
+}
+
+#[test]
+fn connect_leaves_the_old_attempt(rt: HostRuntime) {
+    try_steps(&rt, rt.alloc(), 0, association::TWO_ATTEMPTS);
+}
+
+#[test]
+fn draws_of_a_station_end(rt: HostRuntime) {
+    try_steps(
+        &rt,
+        rt.alloc(),
+        1_152_921_504_606_846_975,
+        association::SPENT,
+    );
+}
+
+#[test]
+fn a_station_answers_m3(rt: HostRuntime) {
+    try_steps(&rt, rt.alloc(), 0, handshakes::HANDSHAKES);
+}

@@ -1,0 +1,147 @@
+//! Whole handshakes at a station.
+
+use crate::acts::Expected::{
+    Closed, Derived, Drew, Finished, Group, Opened, Pairwise, Resumed, Sent, SentSealed, Took,
+    TookSealed,
+};
+use crate::acts::{Event, Step};
+use crate::air_frames::{
+    KEYS, M1_1, M1_4, M2_1, M3_2, M3_2_WITH_NEXT_ANONCE, M3_2_WITH_WRONG_MIC, M3_2_WITHOUT_A_WRAP,
+    M3_3, M4_2, M4_3, NEXT_KEYS, NEXT_M1_1, NEXT_M2_1, NEXT_M3_2, NEXT_M4_2,
+};
+use crate::vectors::{A1, GTK, NEXT_SNONCE, REQUEST, RESPONSE, SNONCE};
+use domain_base::Peer;
+use eapol_key::Message;
+use run_journal::{Drawn, Kind, Outcome, Part, Reason};
+
+/// A whole handshake, M3 over again, and another handshake.
+pub const HANDSHAKES: &[Step] = &[
+    Step {
+        shows: "connect",
+        event: Event::Connect(0),
+        outcome: Outcome::Done,
+        acts: &[
+            Opened(A1),
+            Drew(Drawn::Nonce(SNONCE)),
+            Sent(A1, Kind::AssocReq, REQUEST),
+        ],
+    },
+    Step {
+        shows: "the response",
+        event: Event::Take(RESPONSE),
+        outcome: Outcome::Accepted,
+        acts: &[Took(Some(A1), Kind::AssocResp)],
+    },
+    Step {
+        shows: "M3 before M1",
+        event: Event::Take(M3_2),
+        outcome: Outcome::Refused(Reason::Unawaited),
+        acts: &[Took(Some(A1), Kind::Key(Message::M3))],
+    },
+    Step {
+        shows: "M1",
+        event: Event::Take(M1_1),
+        outcome: Outcome::Accepted,
+        acts: &[
+            Took(Some(A1), Kind::Key(Message::M1)),
+            Derived(A1, &KEYS),
+            SentSealed(A1, Kind::Key(Message::M2), M2_1, &KEYS),
+        ],
+    },
+    Step {
+        shows: "M3 under another ANonce",
+        event: Event::Take(M3_2_WITH_NEXT_ANONCE),
+        outcome: Outcome::Refused(Reason::Nonce),
+        acts: &[Took(Some(A1), Kind::Key(Message::M3))],
+    },
+    Step {
+        shows: "M3 with a wrong MIC",
+        event: Event::Take(M3_2_WITH_WRONG_MIC),
+        outcome: Outcome::Refused(Reason::Mic),
+        acts: &[Took(Some(A1), Kind::Key(Message::M3))],
+    },
+    Step {
+        shows: "M3 with key data that is no wrap",
+        event: Event::Take(M3_2_WITHOUT_A_WRAP),
+        outcome: Outcome::Refused(Reason::Wrap),
+        acts: &[TookSealed(A1, Kind::Key(Message::M3), &KEYS)],
+    },
+    Step {
+        shows: "M3",
+        event: Event::Take(M3_2),
+        outcome: Outcome::Accepted,
+        acts: &[
+            TookSealed(A1, Kind::Key(Message::M3), &KEYS),
+            Pairwise(A1, &KEYS),
+            Group(Peer::One(A1), GTK, 1),
+            Finished(A1, &KEYS),
+            SentSealed(A1, Kind::Key(Message::M4), M4_2, &KEYS),
+        ],
+    },
+    Step {
+        shows: "M3 with the same counter",
+        event: Event::Take(M3_2),
+        outcome: Outcome::Refused(Reason::Counter(2)),
+        acts: &[Took(Some(A1), Kind::Key(Message::M3))],
+    },
+    Step {
+        shows: "M3 again",
+        event: Event::Take(M3_3),
+        outcome: Outcome::Answered,
+        acts: &[
+            TookSealed(A1, Kind::Key(Message::M3), &KEYS),
+            SentSealed(A1, Kind::Key(Message::M4), M4_3, &KEYS),
+        ],
+    },
+    Step {
+        shows: "M1 in a session",
+        event: Event::Take(M1_4),
+        outcome: Outcome::Refused(Reason::Unawaited),
+        acts: &[Took(Some(A1), Kind::Key(Message::M1))],
+    },
+    Step {
+        shows: "connect again",
+        event: Event::Connect(0),
+        outcome: Outcome::Done,
+        acts: &[
+            Closed(A1, Part::Session),
+            Opened(A1),
+            Drew(Drawn::Nonce(NEXT_SNONCE)),
+            Sent(A1, Kind::AssocReq, REQUEST),
+        ],
+    },
+    Step {
+        shows: "M3 of the session that was left",
+        event: Event::Take(M3_3),
+        outcome: Outcome::Refused(Reason::Unawaited),
+        acts: &[Took(Some(A1), Kind::Key(Message::M3))],
+    },
+    Step {
+        shows: "the response again",
+        event: Event::Take(RESPONSE),
+        outcome: Outcome::Accepted,
+        acts: &[Took(Some(A1), Kind::AssocResp)],
+    },
+    Step {
+        shows: "the next M1",
+        event: Event::Take(NEXT_M1_1),
+        outcome: Outcome::Accepted,
+        acts: &[
+            Took(Some(A1), Kind::Key(Message::M1)),
+            Derived(A1, &NEXT_KEYS),
+            SentSealed(A1, Kind::Key(Message::M2), NEXT_M2_1, &NEXT_KEYS),
+        ],
+    },
+    Step {
+        shows: "M3 with the same group key under another key id",
+        event: Event::Take(NEXT_M3_2),
+        outcome: Outcome::Accepted,
+        acts: &[
+            TookSealed(A1, Kind::Key(Message::M3), &NEXT_KEYS),
+            Pairwise(A1, &NEXT_KEYS),
+            Resumed(A1, GTK, 1),
+            Finished(A1, &NEXT_KEYS),
+            SentSealed(A1, Kind::Key(Message::M4), NEXT_M4_2, &NEXT_KEYS),
+        ],
+    },
+];

@@ -1,0 +1,19 @@
+//! Tests of the public calls of the crates below the journal: cryptography, frames, elements, keys.
+#![tactic(auto)]
+
+#[cfg(test)]
+mod blocks;
+#[cfg(test)]
+mod elements;
+#[cfg(test)]
+mod frames;
+#[cfg(test)]
+mod key_frames;
+#[cfg(test)]
+mod keys;
+#[cfg(test)]
+mod macs;
+#[cfg(test)]
+mod outside;
+#[cfg(test)]
+mod vectors;

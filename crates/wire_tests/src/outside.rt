@@ -1,0 +1,183 @@
+//! The outside in memory, octet fields and names, with what no clause of them says: that calls succeed, and what is
+//! printed.
+
+use domain_base::{
+    Air, Draws, Failed, Incoming, Link, MemSink, MemSource, NoMemory, Node, Octets, Peer, Sink,
+    Source, SteadyAir, SteadyDraws, SteadyLink, SteadySink, SteadySource, Tid, array_at,
+    big_u16_at, little_u16_at, put, write_all,
+};
+use std::alloc::Global;
+use std::process::Abort;
+
+const PRINTED: [(Peer, &str); 4] = [
+    (Peer::One(Node::Ap(0)), "a1"),
+    (Peer::One(Node::Sta(63)), "s64"),
+    (Peer::One(Node::Ap(65535)), "a65536"),
+    (Peer::All, "all"),
+];
+
+fn check_printed(rt: &impl Abort, alloc: Global, peer: Peer, text: &str) {
+    let printed = format!(in alloc; "{peer}").expect(rt, "memory");
+    assert!(rt; printed.as_str() == text);
+}
+
+#[test]
+fn nodes_print_from_one(rt: HostRuntime) {
+    for (peer, text) in PRINTED {
+        check_printed(&rt, rt.alloc(), peer, text);
+    }
+}
+
+fn are_read_and_written() -> bool {
+    let mut octets = [0, 0, 0, 0, 0, 9];
+    put(&mut octets, 1, &[1, 2, 3]) == 4
+        && octets == [0, 1, 2, 3, 0, 9]
+        && array_at(&octets, 0) == octets
+        && big_u16_at(&octets, 1) == 0x0102
+        && little_u16_at(&octets, 1) == 0x0201
+}
+
+#[test]
+fn fields_are_read_and_written(rt: HostRuntime) {
+    assert!(rt; are_read_and_written());
+}
+
+#[test]
+fn traffic_identifiers_are_below_16(rt: HostRuntime) {
+    assert!(rt; Tid::new(15).map(|tid| tid.number()) == Some(15));
+    assert!(rt; Tid::new(16).is_none());
+}
+
+// What a source gives next, by a buffer of four octets that is filled up with zeros.
+fn next_octets<S: Source>(source: &mut S) -> Result<[u8; 4], Failed> {
+    let mut buf = [0; 4];
+    source.read(&mut buf)?;
+    Ok(buf)
+}
+
+// The source gives these octets, or faults, one after the other.
+fn gives<S: Source>(source: &mut S, expected: &[Result<[u8; 4], Failed>]) -> bool {
+    for octets in expected {
+        if next_octets(source) != *octets {
+            return false;
+        }
+    }
+    true
+}
+
+#[test]
+fn a_source_goes_on_after_a_fault(rt: HostRuntime) {
+    let failing = [1].to_vec(rt.alloc()).expect(&rt, "memory");
+    let bytes = b"octets".to_vec(rt.alloc()).expect(&rt, "memory");
+    let mut source = MemSource::new(bytes, failing);
+    let expected = [Ok(*b"octe"), Err(Failed), Ok(*b"ts\0\0"), Ok([0; 4])];
+    assert!(rt; gives(&mut source, &expected));
+}
+
+#[test]
+fn a_steady_source_gives_its_octets(rt: HostRuntime) {
+    let whole = Octets(b"octets".to_vec(rt.alloc()).expect(&rt, "memory"));
+    let mut source = SteadySource::new(whole.into_vec());
+    let expected = [Ok(*b"octe"), Ok(*b"ts\0\0"), Ok([0; 4])];
+    assert!(rt; gives(&mut source, &expected));
+}
+
+// The sink answers so to pieces of 60 octets, one after the other.
+fn takes<K: Sink>(sink: &mut K, expected: &[Result<(), Failed>]) -> bool {
+    for result in expected {
+        if write_all(sink, &[5; 60]) != *result {
+            return false;
+        }
+    }
+    true
+}
+
+// The second call fails, and the last one finds room for 40 octets of 60.
+#[test]
+fn a_sink_takes_100_octets(rt: HostRuntime) {
+    let failing = [1].to_vec(rt.alloc()).expect(&rt, "memory");
+    let mut sink = MemSink::with_room(rt.alloc(), 100, failing).expect(&rt, "memory");
+    let expected = [Ok(()), Err(Failed), Err(Failed)];
+    assert!(rt; takes(&mut sink, &expected) && sink.written().len() == 100);
+}
+
+#[test]
+fn a_steady_sink_keeps_the_first_octets(rt: HostRuntime) {
+    let mut sink = SteadySink::with_room(rt.alloc(), 100).expect(&rt, "memory");
+    assert!(rt; takes(&mut sink, &[Ok(()), Ok(())]) && sink.kept().len() == 100);
+}
+
+fn two_frames(alloc: Global) -> Result<Vec<Octets>, NoMemory> {
+    let mut frames = Vec::new(alloc);
+    frames.push(Octets(b"one".to_vec(alloc)?))?;
+    frames.push(Octets(b"another".to_vec(alloc)?))?;
+    Ok(frames)
+}
+
+// An air with two frames for the first access point.
+fn air_of_two(alloc: Global) -> Result<SteadyAir, NoMemory> {
+    let mut incoming = Vec::new(alloc);
+    incoming.push(Incoming::new(Node::Ap(0), two_frames(alloc)?))?;
+    SteadyAir::new(alloc, incoming)
+}
+
+// What a link gives next, by a buffer of four octets that is filled up with zeros.
+fn next_frame<L: Link>(link: &mut L) -> Result<Option<[u8; 4]>, Failed> {
+    let mut buf = [0; 4];
+    Ok(link.poll(&mut buf)?.map(|_| buf))
+}
+
+// The link gives the front of both frames and then none, and sends a reply to the third station.
+fn gives_two_and_sends<L: Link>(link: &mut L) -> bool {
+    for frame in [Some(*b"one\0"), Some(*b"anot"), None] {
+        if next_frame(link) != Ok(frame) {
+            return false;
+        }
+    }
+    link.send(Node::Sta(2), b"reply").is_ok()
+}
+
+// One link was taken back, of the first access point, which sent a reply to the third station.
+fn sent_one_reply(links: &[SteadyLink]) -> bool {
+    links.len() == 1
+        && links[0].node() == Node::Ap(0)
+        && links[0].sent().len() == 1
+        && links[0].sent()[0].to == Node::Sta(2)
+        && links[0].sent()[0].octets.as_slice() == b"reply".as_slice()
+}
+
+#[test]
+fn a_link_gives_and_keeps_frames(rt: HostRuntime) {
+    let mut air = air_of_two(rt.alloc()).expect(&rt, "memory");
+    let mut link = air.attach(Node::Ap(0)).expect(&rt, "a link");
+    let is_right = gives_two_and_sends(&mut link);
+    air.take_back(link);
+    assert!(rt; is_right && sent_one_reply(air.returned()));
+}
+
+// The link of the first access point will give so many frames; it is then taken back.
+fn is_taken_back(air: &mut SteadyAir, left: usize) -> bool {
+    match air.attach(Node::Ap(0)) {
+        Ok(link) => {
+            let is_right = link.left().len() == left;
+            air.take_back(link);
+            is_right
+        }
+        Err(_) => false,
+    }
+}
+
+#[test]
+fn an_air_without_room_ceases_to_tell(rt: HostRuntime) {
+    let mut air = air_of_two(rt.alloc()).expect(&rt, "memory");
+    let first = is_taken_back(&mut air, 2) && air.tells();
+    let second = is_taken_back(&mut air, 0) && !air.tells();
+    assert!(rt; first && second);
+}
+
+#[test]
+fn draws_give_their_seed(rt: HostRuntime) {
+    let mut draws = SteadyDraws::new([7; 32]);
+    assert!(rt; draws.seed() == Ok([7; 32]));
+    assert!(rt; draws.seed() == Ok([7; 32]));
+}

@@ -1,0 +1,437 @@
+//! Hand-made journals, and which premises of safety hold of them.
+
+use domain_base::{Akm, Mac, Node, Octets, Peer};
+use key_hierarchy::{Inputs, Ptk};
+use run_journal::{Act, Drawn, Entry, Journal, Kind, Outcome, Premises, Seal};
+use std::alloc::Global;
+use std::process::Abort;
+
+const A1: Node = Node::Ap(0);
+
+const A2: Node = Node::Ap(1);
+
+const S1: Node = Node::Sta(0);
+
+// What an entry does. An octet stands for a whole value made of it.
+#[derive(Clone, Copy)]
+enum Does {
+    Nonce(u8),
+    Gtk(u8),
+    // The last octets of both addresses and both nonces, KCK and TK.
+    Derives(Akm, [u8; 4], u8, u8),
+    // What is sealed, and the key.
+    Sends(u8, u8),
+    Takes(u8, u8),
+    TakesUnverified,
+}
+
+use Does::{Derives, Gtk, Nonce, Sends, Takes, TakesUnverified};
+
+struct Case {
+    shows: &'static str,
+    entries: &'static [(u64, Node, Does)],
+    holds: Premises,
+}
+
+const ALL: Premises = Premises {
+    fresh: true,
+    no_collision: true,
+    unforged: true,
+};
+
+const NOT_FRESH: Premises = Premises {
+    fresh: false,
+    no_collision: true,
+    unforged: true,
+};
+
+const COLLISION: Premises = Premises {
+    fresh: true,
+    no_collision: false,
+    unforged: true,
+};
+
+const NOT_FRESH_AND_COLLISION: Premises = Premises {
+    fresh: false,
+    no_collision: false,
+    unforged: true,
+};
+
+const FORGED: Premises = Premises {
+    fresh: true,
+    no_collision: true,
+    unforged: false,
+};
+
+fn octets(rt: &impl Abort, alloc: Global, of: &[u8]) -> Octets {
+    Octets(Vec::from_slice(alloc, of).expect(rt, "memory"))
+}
+
+fn inputs(rt: &impl Abort, alloc: Global, akm: Akm, of: [u8; 4]) -> Inputs {
+    let [aa, spa, anonce, snonce] = of;
+    Inputs {
+        akm,
+        psk: [7; 32],
+        ssid: octets(rt, alloc, b"net"),
+        mdid: [0, 0],
+        r0kh_id: octets(rt, alloc, b""),
+        aa: Mac([2, 0, 0, 0, 0, aa]),
+        spa: Mac([2, 0, 0, 0, 0, spa]),
+        anonce: [anonce; 32],
+        snonce: [snonce; 32],
+    }
+}
+
+fn drew(value: Drawn) -> Act {
+    Act::Drew { value }
+}
+
+fn derived(rt: &impl Abort, alloc: Global, akm: Akm, of: [u8; 4], kck: u8, tk: u8) -> Act {
+    Act::Derived {
+        peer: A1,
+        inputs: inputs(rt, alloc, akm, of),
+        ptk: Ptk {
+            kck: [kck; 16],
+            kek: [0; 16],
+            tk: [tk; 16],
+        },
+    }
+}
+
+fn seal(rt: &impl Abort, alloc: Global, sealed: u8, key: u8) -> Seal {
+    Seal {
+        octets: octets(rt, alloc, &[3, sealed]),
+        key: [key; 16],
+    }
+}
+
+fn sent(rt: &impl Abort, alloc: Global, sealed: u8, key: u8) -> Act {
+    Act::Sent {
+        peer: Peer::All,
+        kind: Kind::Data,
+        octets: octets(rt, alloc, b"frame"),
+        seal: Some(seal(rt, alloc, sealed, key)),
+    }
+}
+
+fn took(rt: &impl Abort, alloc: Global, seal: Option<Seal>) -> Act {
+    Act::Took {
+        from: None,
+        octets: octets(rt, alloc, b"frame"),
+        kind: Kind::Data,
+        outcome: Outcome::Accepted,
+        seal,
+    }
+}
+
+fn act(rt: &impl Abort, alloc: Global, does: Does) -> Act {
+    match does {
+        Nonce(octet) => drew(Drawn::Nonce([octet; 32])),
+        Gtk(octet) => drew(Drawn::Gtk([octet; 16])),
+        Derives(akm, of, kck, tk) => derived(rt, alloc, akm, of, kck, tk),
+        Sends(sealed, key) => sent(rt, alloc, sealed, key),
+        Takes(sealed, key) => took(rt, alloc, Some(seal(rt, alloc, sealed, key))),
+        TakesUnverified => took(rt, alloc, None),
+    }
+}
+
+fn entry(rt: &impl Abort, alloc: Global, (round, node, does): (u64, Node, Does)) -> Entry {
+    Entry {
+        round,
+        node,
+        number: 0,
+        act: act(rt, alloc, does),
+    }
+}
+
+fn push(rt: &impl Abort, alloc: Global, journal: &mut Journal, of: (u64, Node, Does)) {
+    journal.push(entry(rt, alloc, of)).expect(rt, "memory");
+}
+
+fn journal_of(rt: &impl Abort, alloc: Global, entries: &[(u64, Node, Does)]) -> Journal {
+    let mut journal = Journal::new(alloc);
+    for of in entries {
+        push(rt, alloc, &mut journal, *of);
+    }
+    journal
+}
+
+// The three answers are these.
+fn are(found: Premises, wanted: Premises) -> bool {
+    found.fresh == wanted.fresh
+        && found.no_collision == wanted.no_collision
+        && found.unforged == wanted.unforged
+}
+
+const CASES: &[Case] = &[
+    Case {
+        shows: "no entries",
+        entries: &[],
+        holds: ALL,
+    },
+    Case {
+        shows: "a first handshake",
+        entries: &[
+            (0, A1, Gtk(9)),
+            (0, A2, Gtk(8)),
+            (1, A1, Nonce(1)),
+            (2, S1, Nonce(2)),
+            (2, S1, Derives(Akm::Psk, [1, 2, 1, 2], 3, 4)),
+            (2, S1, Sends(1, 3)),
+            (3, A1, Derives(Akm::Psk, [1, 2, 1, 2], 3, 4)),
+            (3, A1, Takes(1, 3)),
+            (3, A1, Sends(2, 3)),
+            (4, S1, Takes(2, 3)),
+        ],
+        holds: ALL,
+    },
+    Case {
+        shows: "a nonce drawn twice",
+        entries: &[(1, A1, Nonce(1)), (1, S1, Nonce(2)), (2, S1, Nonce(1))],
+        holds: NOT_FRESH,
+    },
+    Case {
+        shows: "a group key drawn twice",
+        entries: &[(0, A1, Gtk(1)), (0, A2, Gtk(1))],
+        holds: NOT_FRESH,
+    },
+    Case {
+        shows: "a frame that verified and was not sent",
+        entries: &[(1, A1, Takes(1, 1))],
+        holds: FORGED,
+    },
+    Case {
+        shows: "a frame that did not verify",
+        entries: &[(1, A1, TakesUnverified)],
+        holds: ALL,
+    },
+    Case {
+        shows: "sealed under another key",
+        entries: &[(1, S1, Sends(1, 1)), (2, A1, Takes(1, 2))],
+        holds: FORGED,
+    },
+    Case {
+        shows: "other octets sealed",
+        entries: &[(1, S1, Sends(1, 1)), (2, A1, Takes(2, 1))],
+        holds: FORGED,
+    },
+    Case {
+        shows: "sent after it was taken",
+        entries: &[(1, A1, Takes(1, 1)), (1, A1, Sends(1, 1))],
+        holds: FORGED,
+    },
+    Case {
+        shows: "sent in the same round by another node",
+        entries: &[(2, S1, Sends(1, 1)), (2, A1, Takes(1, 1))],
+        holds: FORGED,
+    },
+    Case {
+        shows: "sent in the same round by the same node",
+        entries: &[(2, A1, Sends(1, 1)), (2, A1, Takes(1, 1))],
+        holds: ALL,
+    },
+    Case {
+        shows: "sent in a later round by another node",
+        entries: &[(3, S1, Sends(1, 1)), (2, A1, Takes(1, 1))],
+        holds: FORGED,
+    },
+    Case {
+        shows: "sent twice, once in an earlier round",
+        entries: &[
+            (1, S1, Sends(1, 1)),
+            (2, A2, Sends(1, 1)),
+            (2, A1, Takes(1, 1)),
+        ],
+        holds: ALL,
+    },
+    Case {
+        shows: "one KCK of two names",
+        entries: &[
+            (1, S1, Derives(Akm::Psk, [1, 2, 1, 2], 3, 4)),
+            (2, S1, Derives(Akm::Psk, [1, 2, 1, 3], 3, 5)),
+        ],
+        holds: COLLISION,
+    },
+    Case {
+        shows: "one TK of two names",
+        entries: &[
+            (1, S1, Derives(Akm::Psk, [1, 2, 1, 2], 3, 4)),
+            (2, S1, Derives(Akm::Psk, [1, 3, 1, 2], 5, 4)),
+        ],
+        holds: COLLISION,
+    },
+    Case {
+        shows: "one key of two suites",
+        entries: &[
+            (1, S1, Derives(Akm::Psk, [1, 2, 1, 2], 3, 4)),
+            (2, S1, Derives(Akm::PskSha256, [1, 2, 1, 2], 3, 4)),
+        ],
+        holds: COLLISION,
+    },
+    Case {
+        shows: "exchanged roles, SHA-1",
+        entries: &[
+            (1, S1, Derives(Akm::Psk, [1, 2, 3, 4], 3, 4)),
+            (2, S1, Derives(Akm::Psk, [2, 1, 4, 3], 3, 4)),
+        ],
+        holds: ALL,
+    },
+    Case {
+        shows: "exchanged roles, SHA-256",
+        entries: &[
+            (1, S1, Derives(Akm::PskSha256, [1, 2, 3, 4], 3, 4)),
+            (2, S1, Derives(Akm::PskSha256, [2, 1, 3, 4], 3, 4)),
+        ],
+        holds: ALL,
+    },
+    Case {
+        shows: "exchanged roles, fast transition",
+        entries: &[
+            (1, S1, Derives(Akm::FtPsk, [1, 2, 3, 4], 3, 4)),
+            (2, S1, Derives(Akm::FtPsk, [2, 1, 4, 3], 3, 4)),
+        ],
+        holds: COLLISION,
+    },
+    Case {
+        shows: "the same roles, fast transition",
+        entries: &[
+            (1, S1, Derives(Akm::FtPsk, [1, 2, 3, 4], 3, 4)),
+            (2, S1, Derives(Akm::FtPsk, [1, 2, 3, 4], 3, 4)),
+        ],
+        holds: ALL,
+    },
+    Case {
+        shows: "a group key that is an earlier TK",
+        entries: &[
+            (1, S1, Derives(Akm::Psk, [1, 2, 1, 2], 3, 4)),
+            (2, A1, Gtk(4)),
+        ],
+        holds: COLLISION,
+    },
+    Case {
+        shows: "a TK that is an earlier group key",
+        entries: &[
+            (0, A1, Gtk(4)),
+            (1, S1, Derives(Akm::Psk, [1, 2, 1, 2], 3, 4)),
+        ],
+        holds: COLLISION,
+    },
+    Case {
+        shows: "a group key that is a KCK",
+        entries: &[
+            (0, A1, Gtk(3)),
+            (1, S1, Derives(Akm::Psk, [1, 2, 1, 2], 3, 4)),
+        ],
+        holds: ALL,
+    },
+    Case {
+        shows: "a key repeated, then from another name",
+        entries: &[
+            (1, S1, Derives(Akm::Psk, [1, 2, 1, 2], 3, 4)),
+            (1, A1, Derives(Akm::Psk, [1, 2, 1, 2], 3, 4)),
+            (2, S1, Derives(Akm::Psk, [1, 2, 2, 1], 3, 4)),
+            (3, S1, Derives(Akm::Psk, [1, 2, 2, 2], 3, 4)),
+        ],
+        holds: COLLISION,
+    },
+];
+
+// The journal of the case has the premises of the case.
+fn is_judged(rt: &impl Abort, alloc: Global, case: &Case) -> bool {
+    are(journal_of(rt, alloc, case.entries).premises(), case.holds)
+}
+
+#[test]
+fn premises_of_hand_made_journals(rt: HostRuntime) {
+    for case in CASES {
+        assert!(rt; is_judged(&rt, rt.alloc(), case), "at {}", case.shows);
+    }
+}
+
+fn are_of_rounds(entries: &[Entry]) -> bool {
+    match entries {
+        [first, second, third] => first.round == 5 && second.round == 6 && third.round == 7,
+        _ => false,
+    }
+}
+
+// Entries of the rounds 5, 6 and 7, the last one at `A2`, with all premises.
+fn is_in_order(journal: &Journal) -> bool {
+    journal.len() == 3
+        && journal.at(0).round == 5
+        && journal.at(2).node == A2
+        && are_of_rounds(journal.entries())
+        && are(journal.premises(), ALL)
+}
+
+// The first one where there is room, the others where there may be none.
+fn push_three(rt: &impl Abort, alloc: Global, journal: &mut Journal) {
+    journal.reserve(1).expect(rt, "memory");
+    journal.add(entry(rt, alloc, (5, A1, Nonce(1))));
+    push(rt, alloc, journal, (6, S1, Nonce(2)));
+    push(rt, alloc, journal, (7, A2, Nonce(3)));
+}
+
+#[test]
+fn entries_stand_in_the_order_of_pushing(rt: HostRuntime) {
+    let mut journal = Journal::new(rt.alloc());
+    assert!(rt; journal.len() == 0);
+    push_three(&rt, rt.alloc(), &mut journal);
+    assert!(rt; is_in_order(&journal));
+}
+
+fn drew_number(number: u16) -> Entry {
+    let mut nonce = [0; 32];
+    let [high, low] = number.to_be_bytes();
+    nonce[0] = high;
+    nonce[31] = low;
+    Entry {
+        round: 1,
+        node: A1,
+        number: 0,
+        act: drew(Drawn::Nonce(nonce)),
+    }
+}
+
+// A nonce of that number, and the derivation of one key.
+fn push_both(rt: &impl Abort, alloc: Global, journal: &mut Journal, number: u16) {
+    journal.push(drew_number(number)).expect(rt, "memory");
+    push(
+        rt,
+        alloc,
+        journal,
+        (1, S1, Derives(Akm::Psk, [1, 2, 1, 2], 3, 4)),
+    );
+}
+
+// Many nonces, each different, and as many derivations of one key.
+fn long_journal(rt: &impl Abort, alloc: Global, length: u16) -> Journal {
+    let mut journal = Journal::new(alloc);
+    for number in 0..length {
+        push_both(rt, alloc, &mut journal, number);
+    }
+    journal
+}
+
+// Of the journal with that entry more these premises hold.
+fn is_with(
+    rt: &impl Abort,
+    alloc: Global,
+    journal: &mut Journal,
+    of: (u64, Node, Does),
+    wanted: Premises,
+) -> bool {
+    push(rt, alloc, journal, of);
+    are(journal.premises(), wanted)
+}
+
+#[test]
+fn premises_of_a_long_journal(rt: HostRuntime) {
+    let mut journal = long_journal(&rt, rt.alloc(), 2_000);
+    assert!(rt; are(journal.premises(), ALL));
+    let repeated = (2, S1, Nonce(0));
+    assert!(rt; is_with(&rt, rt.alloc(), &mut journal, repeated, NOT_FRESH));
+    let other = (2, S1, Derives(Akm::Psk, [1, 2, 1, 3], 3, 4));
+    let both = NOT_FRESH_AND_COLLISION;
+    assert!(rt; is_with(&rt, rt.alloc(), &mut journal, other, both));
+}

@@ -1,0 +1,460 @@
+//! What lines of a script say.
+
+ghost use Rattle.std.specs.Prelude.{◌+◌, ◌<◌, ◌≤◌, ◌^◌, length};
+ghost use Rattle.frame_script.specs.Headers.{HasSeen, Reading};
+
+mod rows;
+
+use domain_base::{Akm, Mac, NoMemory, Node, Octets, Peer};
+use frame_script::{LineFault, ScriptReader, Step};
+use rows::Says::{
+    self, Alter, Ap, Connect, Cut, Deliver, Inject, Limit, Network, Nothing, OutOfMemory, Retry,
+    Script, Sta,
+};
+use rows::{
+    A1, ADDRESS, BOTH, BSSID, EVENT_LINES, FALTERING, GROWING, HEADER, HEADER_LINES, INJECTIONS,
+    LATE_LINES, LONG_PSK, MORE_APS, MORE_STAS, NO_NODE, NODE_LINES, PSK, S1, SEED, SIZES,
+};
+use run_journal::{Act, Domain, Entry, Event, Journal, Kind, Start};
+use std::alloc::Global;
+use std::process::Abort;
+
+fn what_it_says(answer: Result<Step, LineFault>) -> Says {
+    match answer {
+        Ok(Step::Nothing) => Nothing,
+        Ok(Step::Network) => Network,
+        Ok(Step::Ap { address, r0kh_id }) => Ap(address, r0kh_id.as_slice().len()),
+        Ok(Step::Sta { address }) => Sta(address),
+        Ok(Step::Event(event)) => what_it_asks(&event),
+        Err(LineFault::Script(reason)) => Script(reason),
+        Err(LineFault::Limit(limit)) => Limit(limit),
+        Err(LineFault::NoMemory) => OutOfMemory,
+    }
+}
+
+fn what_it_asks(event: &Event) -> Says {
+    match event {
+        Event::Connect { sta, ap } => Connect(*sta, *ap),
+        Event::Deliver { number, to } => Deliver(*number, *to),
+        Event::Alter {
+            number,
+            place,
+            mask,
+            to,
+        } => Alter(*number, *place, *mask, *to),
+        Event::Cut { number, size, to } => Cut(*number, *size, *to),
+        Event::Inject { to, octets } => Inject(*to, octets.as_slice().len()),
+        Event::Retry { ap, sta } => Retry(*ap, *sta),
+    }
+}
+
+// What the line says to the reader.
+#[tactic(auto, using(frame_script::proofs::Feeding::feeding))]
+fn tell(alloc: Global, reader: &mut ScriptReader, line: &[u8], journal: &Journal) -> Says
+    requires seen { HasSeen reader.old journal.now.entries }
+    requires few { reader.old.rounds < 2 ^ 63 }
+    ensures seen { HasSeen reader.new journal.now.entries }
+    ensures few { reader.new.rounds ≤ reader.old.rounds + 1 }
+{
+    what_it_says(reader.line(alloc, line, journal))
+}
+
+fn is_taken(says: Says) -> bool {
+    !matches!(says, Script(_) | Limit(_) | OutOfMemory)
+}
+
+// The reader takes each of these lines.
+fn take(
+    rt: &impl Abort,
+    alloc: Global,
+    reader: &mut ScriptReader,
+    lines: &[&[u8]],
+    journal: &Journal,
+)
+    requires seen { HasSeen reader.old journal.now.entries }
+    requires few { reader.old.rounds + length lines.now < 2 ^ 62 }
+    ensures seen { HasSeen reader.new journal.now.entries }
+    ensures few { reader.new.rounds ≤ reader.old.rounds + length lines.now }
+{
+    for line in lines {
+        assert!(rt; is_taken(tell(alloc, reader, line, journal)));
+    }
+}
+
+// A reader that took these lines.
+#[tactic(auto, using(frame_script::proofs::Feeding::feeding))]
+fn reader_behind(
+    rt: &impl Abort,
+    alloc: Global,
+    header: &[&[u8]],
+    nodes: &[&[u8]],
+    journal: &Journal,
+) -> ScriptReader
+    requires { length header.now + length nodes.now < 2 ^ 32 }
+    ensures seen { HasSeen result journal.now.entries }
+    ensures few { result.rounds < 2 ^ 32 }
+{
+    let mut reader = ScriptReader::start(alloc);
+    take(rt, alloc, &mut reader, header, journal);
+    take(rt, alloc, &mut reader, nodes, journal);
+    reader
+}
+
+// What the line says behind these lines, and behind the frames that a journal has sent.
+fn ask(
+    rt: &impl Abort,
+    alloc: Global,
+    header: &[&[u8]],
+    nodes: &[&[u8]],
+    journal: &Journal,
+    line: &[u8],
+) -> Says
+    requires { length header.now + length nodes.now < 2 ^ 32 }
+{
+    let mut reader = reader_behind(rt, alloc, header, nodes, journal);
+    let says = tell(alloc, &mut reader, line, journal);
+    drop(reader);
+    says
+}
+
+// Each of the lines of that text says the same there.
+fn ask_each(
+    rt: &impl Abort,
+    alloc: Global,
+    header: &[&[u8]],
+    nodes: &[&[u8]],
+    journal: &Journal,
+    lines: &str,
+    want: Says,
+)
+    requires { length header.now + length nodes.now < 2 ^ 32 }
+{
+    for line in lines.split('\n') {
+        assert!(rt;
+            ask(rt, alloc, header, nodes, journal, line.as_bytes()) == want,
+            "{line}"
+        );
+    }
+}
+
+// Each of the lines says what stands beside it.
+fn play(
+    rt: &impl Abort,
+    alloc: Global,
+    reader: &mut ScriptReader,
+    rows: &[(&[u8], Says)],
+    journal: &Journal,
+)
+    requires seen { HasSeen reader.old journal.now.entries }
+    requires few { reader.old.rounds < 2 ^ 62 }
+{
+    assert!(rt; rows.len() <= 1000);
+    for (line, want) in rows {
+        assert!(rt; tell(alloc, reader, line, journal) == *want, "{line:?}");
+    }
+}
+
+fn opened() -> Entry {
+    Entry {
+        round: 1,
+        node: S1,
+        number: 0,
+        act: Act::Opened {
+            peer: A1,
+            start: Start::Connect,
+        },
+    }
+}
+
+fn sent(alloc: Global, size: usize) -> Result<Entry, NoMemory> {
+    Ok(Entry {
+        round: 1,
+        node: S1,
+        number: 1,
+        act: Act::Sent {
+            peer: Peer::One(A1),
+            kind: Kind::AssocReq,
+            octets: Octets(vec![in alloc; 0; size]?),
+            seal: None,
+        },
+    })
+}
+
+// The journal takes a frame of that size, with an act on either side.
+#[tactic(auto, using(frame_script::proofs::Feeding::feeding))]
+fn send(rt: &impl Abort, alloc: Global, journal: &mut Journal, size: usize)
+    ensures { (r : Reading) → HasSeen r journal.old.entries → HasSeen r journal.new.entries }
+{
+    journal.push(opened()).expect(rt, "memory");
+    let frame = sent(alloc, size).expect(rt, "memory");
+    journal.push(frame).expect(rt, "memory");
+    journal.push(opened()).expect(rt, "memory");
+}
+
+// The journal takes a frame without octets.
+#[tactic(auto, using(frame_script::proofs::Feeding::feeding))]
+fn send_empty(rt: &impl Abort, alloc: Global, journal: &mut Journal)
+    ensures { (r : Reading) → HasSeen r journal.old.entries → HasSeen r journal.new.entries }
+{
+    let frame = sent(alloc, 0).expect(rt, "memory");
+    journal.push(frame).expect(rt, "memory");
+}
+
+// A journal with frames of these sizes, and with other acts.
+fn journal_of(rt: &impl Abort, alloc: Global, sizes: &[usize]) -> Journal {
+    let mut journal = Journal::new(alloc);
+    for size in sizes {
+        send(rt, alloc, &mut journal, *size);
+    }
+    journal
+}
+
+#[test]
+fn lines_of_a_header(rt: HostRuntime) {
+    let journal = Journal::new(rt.alloc());
+    for (count, want, lines) in HEADER_LINES {
+        assert!(rt; *count <= 5);
+        ask_each(
+            &rt,
+            rt.alloc(),
+            &HEADER[..*count],
+            NO_NODE,
+            &journal,
+            lines,
+            *want,
+        );
+    }
+}
+
+fn is_as_before(network: Option<&Domain>) -> bool {
+    match network {
+        Some(network) => {
+            network.akm == Akm::PskSha256 && network.ssid.as_slice() == b"a".as_slice()
+        }
+        None => false,
+    }
+}
+
+#[test]
+#[tactic(auto, using(frame_script::proofs::Feeding::feeding))]
+fn a_refused_line_leaves_the_header_as_it_was(rt: HostRuntime) {
+    let journal = Journal::new(rt.alloc());
+    let mut reader = ScriptReader::start(rt.alloc());
+    assert!(rt; reader.domain().is_none());
+    play(&rt, rt.alloc(), &mut reader, FALTERING, &journal);
+    assert!(rt; is_as_before(reader.domain()));
+    drop(reader);
+    drop(journal);
+}
+
+fn has_the_nodes(network: &Domain) -> bool {
+    match network.aps.0.as_slice() {
+        [ap] => {
+            ap.address == BSSID
+                && ap.r0kh_id.as_slice() == b"r0kh-1".as_slice()
+                && network.stas.0.as_slice() == [ADDRESS].as_slice()
+        }
+        _ => false,
+    }
+}
+
+fn is_told(network: Option<&Domain>) -> bool {
+    match network {
+        Some(network) => {
+            network.seed == SEED
+                && network.ssid.as_slice() == b"IEEE".as_slice()
+                && network.psk == PSK
+                && network.akm == Akm::Psk
+                && network.mdid == [0, 0]
+                && has_the_nodes(network)
+        }
+        None => false,
+    }
+}
+
+#[test]
+fn a_script_tells_the_network(rt: HostRuntime) {
+    let journal = Journal::new(rt.alloc());
+    let reader = reader_behind(&rt, rt.alloc(), HEADER, BOTH, &journal);
+    assert!(rt; is_told(reader.domain()));
+    drop(reader);
+    drop(journal);
+}
+
+fn psk_of(network: Option<&Domain>) -> [u8; 32] {
+    match network {
+        Some(network) => network.psk,
+        None => [0; 32],
+    }
+}
+
+// The key that the passphrase gives in the network of that name.
+fn key_of(rt: &impl Abort, alloc: Global, ssid: &[u8], passphrase: &[u8]) -> [u8; 32] {
+    let journal = Journal::new(alloc);
+    let lines = [HEADER[0], HEADER[1], ssid, passphrase, b"akm psk"];
+    let reader = reader_behind(rt, alloc, &lines, NO_NODE, &journal);
+    let psk = psk_of(reader.domain());
+    drop(reader);
+    drop(journal);
+    psk
+}
+
+#[test]
+fn a_passphrase_gives_the_key(rt: HostRuntime) {
+    assert!(rt; key_of(&rt, rt.alloc(), b"ssid IEEE", b"passphrase password") == PSK);
+    let long = key_of(
+        &rt,
+        rt.alloc(),
+        b"ssid ThisIsASSID",
+        b"passphrase ThisIsAPassword",
+    );
+    assert!(rt; long == LONG_PSK);
+}
+
+#[test]
+fn lines_that_list_nodes(rt: HostRuntime) {
+    let journal = Journal::new(rt.alloc());
+    for (nodes, want, lines) in NODE_LINES {
+        assert!(rt; nodes.len() <= 10);
+        ask_each(&rt, rt.alloc(), HEADER, nodes, &journal, lines, *want);
+    }
+}
+
+fn list_ap(rt: &impl Abort, alloc: Global, reader: &mut ScriptReader, number: u8, journal: &Journal)
+    requires seen { HasSeen reader.old journal.now.entries }
+    requires few { reader.old.rounds < 2 ^ 62 }
+    ensures seen { HasSeen reader.new journal.now.entries }
+    ensures few { reader.new.rounds ≤ reader.old.rounds + 1 }
+{
+    let line = format!(in alloc; "ap 0200000000{number:02x} r0kh-{number:02}").expect(rt, "memory");
+    let says = tell(alloc, reader, line.as_bytes(), journal);
+    assert!(rt; says == Ap(Mac([2, 0, 0, 0, 0, number]), 7));
+}
+
+#[test]
+fn no_more_than_sixteen_access_points(rt: HostRuntime) {
+    let journal = Journal::new(rt.alloc());
+    let mut reader = reader_behind(&rt, rt.alloc(), HEADER, NO_NODE, &journal);
+    for number in 0..16u8 {
+        list_ap(&rt, rt.alloc(), &mut reader, number, &journal);
+    }
+    play(&rt, rt.alloc(), &mut reader, MORE_APS, &journal);
+    drop(reader);
+    drop(journal);
+}
+
+fn list_sta(
+    rt: &impl Abort,
+    alloc: Global,
+    reader: &mut ScriptReader,
+    number: u8,
+    journal: &Journal,
+)
+    requires seen { HasSeen reader.old journal.now.entries }
+    requires few { reader.old.rounds < 2 ^ 62 }
+    ensures seen { HasSeen reader.new journal.now.entries }
+    ensures few { reader.new.rounds ≤ reader.old.rounds + 1 }
+{
+    let line = format!(in alloc; "sta 0200000000{number:02x}").expect(rt, "memory");
+    let says = tell(alloc, reader, line.as_bytes(), journal);
+    assert!(rt; says == Sta(Mac([2, 0, 0, 0, 0, number])));
+}
+
+#[test]
+fn no_more_than_sixty_four_stations(rt: HostRuntime) {
+    let journal = Journal::new(rt.alloc());
+    let mut reader = reader_behind(&rt, rt.alloc(), HEADER, NO_NODE, &journal);
+    for number in 0..64u8 {
+        list_sta(&rt, rt.alloc(), &mut reader, number, &journal);
+    }
+    play(&rt, rt.alloc(), &mut reader, MORE_STAS, &journal);
+    drop(reader);
+    drop(journal);
+}
+
+#[test]
+fn lines_that_ask_for_events(rt: HostRuntime) {
+    let journal = journal_of(&rt, rt.alloc(), SIZES);
+    for (want, lines) in EVENT_LINES {
+        ask_each(&rt, rt.alloc(), HEADER, BOTH, &journal, lines, *want);
+    }
+    assert!(rt; ask(&rt, rt.alloc(), HEADER, BOTH, &journal, b"\xff") == Script(2));
+    drop(journal);
+}
+
+// `inject`, a node, so many times two digits and what stands behind them.
+fn inject_line(alloc: Global, node: &[u8], count: usize, end: &[u8]) -> Result<Vec<u8>, NoMemory> {
+    let mut line = Vec::from_slice(alloc, b"inject ")?;
+    line.extend_from_slice(node)?;
+    line.push(b' ')?;
+    for _ in 0..count {
+        line.extend_from_slice(b"5A")?;
+    }
+    line.extend_from_slice(end)?;
+    Ok(line)
+}
+
+#[test]
+fn frames_that_are_injected(rt: HostRuntime) {
+    let journal = Journal::new(rt.alloc());
+    for (node, count, end, want) in INJECTIONS {
+        let line = inject_line(rt.alloc(), node, *count, end).expect(&rt, "memory");
+        assert!(rt;
+            ask(&rt, rt.alloc(), HEADER, BOTH, &journal, &line) == *want,
+            "{count}"
+        );
+    }
+}
+
+fn is_injected(answer: Result<Step, LineFault>, frame: &[u8]) -> bool {
+    match &answer {
+        Ok(Step::Event(Event::Inject { octets, .. })) => octets.as_slice() == frame,
+        _ => false,
+    }
+}
+
+#[test]
+fn a_frame_is_injected_as_it_stands(rt: HostRuntime) {
+    let journal = Journal::new(rt.alloc());
+    let mut reader = reader_behind(&rt, rt.alloc(), HEADER, BOTH, &journal);
+    let answer = reader.line(rt.alloc(), b"inject a1 00Ff5a", &journal);
+    assert!(rt; is_injected(answer, &[0, 0xff, 0x5a]));
+    drop(reader);
+    drop(journal);
+}
+
+#[test]
+fn frames_are_seen_as_they_are_sent(rt: HostRuntime) {
+    let mut journal = Journal::new(rt.alloc());
+    let mut reader = reader_behind(&rt, rt.alloc(), HEADER, BOTH, &journal);
+    assert!(rt; GROWING.len() <= 100);
+    for (size, line, want) in GROWING {
+        send(&rt, rt.alloc(), &mut journal, *size);
+        assert!(rt;
+            tell(rt.alloc(), &mut reader, line, &journal) == *want,
+            "{line:?}"
+        );
+    }
+    drop(reader);
+    drop(journal);
+}
+
+fn long_journal(rt: &impl Abort, alloc: Global) -> Journal {
+    let mut journal = Journal::new(alloc);
+    for _ in 0..65535 {
+        send_empty(rt, alloc, &mut journal);
+    }
+    journal
+}
+
+#[test]
+fn no_event_behind_more_frames_than_have_numbers(rt: HostRuntime) {
+    let mut journal = long_journal(&rt, rt.alloc());
+    let mut reader = reader_behind(&rt, rt.alloc(), HEADER, BOTH, &journal);
+    let last = tell(rt.alloc(), &mut reader, b"deliver 65535 to a1", &journal);
+    assert!(rt; last == Deliver(65535, A1));
+    send_empty(&rt, rt.alloc(), &mut journal);
+    play(&rt, rt.alloc(), &mut reader, LATE_LINES, &journal);
+    drop(reader);
+    drop(journal);
+}

@@ -1,0 +1,356 @@
+//! Worlds of access points and stations, event by event: what they journal, and the octets that come.
+
+ghost use Rattle.std.specs.Prelude.{◌≡◌, ◌≢◌, ◌≤◌, ◌<◌, suc, [], length, IsTrue};
+ghost use Rattle.domain_base.specs.declared.names.Akm.{Akm as AnyAkm};
+ghost use Rattle.domain_rules.specs.Network.{InForm, IsListed};
+ghost use Rattle.domain_world.specs.Owning.{HasOctets, IsEventIn, Owns};
+
+mod cases;
+mod outcomes;
+
+use cases::{CASES, CHANGED, COMING, Line, STARTED, THREE_FRAMES, Turn};
+use domain_base::{Akm, Mac, Node, Octets};
+use domain_world::World;
+use outcomes::come_to;
+use run_journal::{Act, Aps, Domain, Entry, Event, Journal, Outcome, Stas};
+use std::alloc::Global;
+use std::process::Abort;
+
+fn octets(rt: &impl Abort, alloc: Global, of: &[u8]) -> Octets
+    ensures { result ≡ of.now }
+{
+    Octets(Vec::from_slice(alloc, of).expect(rt, "memory"))
+}
+
+fn event(rt: &impl Abort, alloc: Global, turn: Turn) -> Event {
+    match turn {
+        Turn::Connect => Event::Connect { sta: 0, ap: 0 },
+        Turn::ConnectTo(sta, ap) => Event::Connect { sta, ap },
+        Turn::Deliver(number, to) => Event::Deliver { number, to },
+        Turn::Alter(number, place, mask, to) => Event::Alter {
+            number,
+            place,
+            mask,
+            to,
+        },
+        Turn::Cut(number, size, to) => Event::Cut { number, size, to },
+        Turn::Inject(to, comes) => Event::Inject {
+            to,
+            octets: octets(rt, alloc, comes),
+        },
+        Turn::Retry => Event::Retry { ap: 0, sta: 0 },
+    }
+}
+
+fn header(rt: &impl Abort, alloc: Global) -> Domain
+    ensures form { InForm result }
+    ensures suite { result.akm ≢ AnyAkm.FtPsk }
+    ensures no_aps { result.aps ≡ [] }
+    ensures no_stas { result.stas ≡ [] }
+{
+    Domain {
+        seed: [1; 32],
+        ssid: octets(rt, alloc, b"net"),
+        psk: [2; 32],
+        akm: Akm::Psk,
+        mdid: [0, 0],
+        aps: Aps(Vec::new(alloc)),
+        stas: Stas(Vec::new(alloc)),
+    }
+}
+
+// One access point and one station.
+fn two_nodes(rt: &impl Abort, alloc: Global, journal: &mut Journal) -> World
+    requires { journal.old.entries ≡ [] }
+    ensures { Owns result journal.new.entries }
+{
+    let header = header(rt, alloc);
+    let mut nodes = World::start(alloc, &header).expect(rt, "memory");
+    let r0kh_id = octets(rt, alloc, b"r0");
+    nodes
+        .add_ap(Mac([2, 0, 0, 0, 0, 1]), r0kh_id, journal)
+        .expect(rt, "memory");
+    nodes
+        .add_station(Mac([2, 0, 0, 0, 0, 2]))
+        .expect(rt, "memory");
+    nodes
+}
+
+fn is_listed(domain: &Domain, node: Node) -> bool
+    ensures { IsTrue result → IsListed domain.now node }
+{
+    match node {
+        Node::Ap(number) => usize::from(number) < domain.aps.0.len(),
+        Node::Sta(number) => usize::from(number) < domain.stas.0.len(),
+    }
+}
+
+fn is_sent(world: &World, number: u64) -> bool
+    ensures some { IsTrue result → 1 ≤ number }
+    ensures sent { IsTrue result → number ≤ length world.now.frames }
+{
+    1 <= number && number <= world.frames() as u64
+}
+
+fn is_up_to(size: usize, octets: &[u8]) -> bool
+    ensures { IsTrue result → size ≤ length octets.now }
+{
+    size <= octets.len()
+}
+
+fn is_below(place: usize, octets: &[u8]) -> bool
+    ensures { IsTrue result → place < length octets.now }
+{
+    place < octets.len()
+}
+
+// The frame of that number has so many octets at least.
+fn has_octets(world: &World, number: u64, size: usize, journal: &Journal) -> bool
+    requires own { Owns world.now journal.now.entries }
+    requires some { 1 ≤ number }
+    requires sent { number ≤ length world.now.frames }
+    ensures { IsTrue result → HasOctets journal.now.entries number size }
+{
+    let frame = world.frame(number, journal);
+    is_up_to(size, frame)
+}
+
+// The frame of that number has an octet at that place.
+fn has_octet(world: &World, number: u64, place: usize, journal: &Journal) -> bool
+    requires own { Owns world.now journal.now.entries }
+    requires some { 1 ≤ number }
+    requires sent { number ≤ length world.now.frames }
+    ensures { IsTrue result → HasOctets journal.now.entries number (suc place) }
+{
+    let frame = world.frame(number, journal);
+    is_below(place, frame)
+}
+
+fn is_event_in(world: &World, event: &Event, journal: &Journal) -> bool
+    requires { Owns world.now journal.now.entries }
+    ensures { IsTrue result → IsEventIn world.now.domain (length world.now.frames) journal.now.entries event.now }
+{
+    let domain = world.domain();
+    match event {
+        Event::Connect { sta, ap } => {
+            is_listed(domain, Node::Sta(*sta)) && is_listed(domain, Node::Ap(*ap))
+        }
+        Event::Retry { ap, sta } => {
+            is_listed(domain, Node::Ap(*ap)) && is_listed(domain, Node::Sta(*sta))
+        }
+        Event::Deliver { number, to } => is_sent(world, *number) && is_listed(domain, *to),
+        Event::Alter {
+            number,
+            place,
+            to,
+            ..
+        } => {
+            is_sent(world, *number)
+                && is_listed(domain, *to)
+                && has_octet(world, *number, *place, journal)
+        }
+        Event::Cut { number, size, to } => {
+            is_sent(world, *number)
+                && is_listed(domain, *to)
+                && has_octets(world, *number, *size, journal)
+        }
+        Event::Inject { to, .. } => is_listed(domain, *to),
+    }
+}
+
+// The event happens, which is one that can.
+fn take(rt: &impl Abort, nodes: &mut World, event: &Event, journal: &mut Journal)
+    requires { Owns nodes.old journal.old.entries }
+    ensures { Owns nodes.new journal.new.entries }
+{
+    let is_in = is_event_in(nodes, event, journal);
+    assert!(rt; is_in);
+    assert!(rt; nodes.rounds() < 1000);
+    nodes.event(event, journal).expect(rt, "memory");
+}
+
+// The event of a turn happens.
+fn happen(rt: &impl Abort, alloc: Global, nodes: &mut World, turn: Turn, journal: &mut Journal)
+    requires { Owns nodes.old journal.old.entries }
+    ensures { Owns nodes.new journal.new.entries }
+{
+    let event = event(rt, alloc, turn);
+    take(rt, nodes, &event, journal);
+}
+
+fn play(rt: &impl Abort, alloc: Global, nodes: &mut World, turns: &[Turn], journal: &mut Journal)
+    requires { Owns nodes.old journal.old.entries }
+    ensures { Owns nodes.new journal.new.entries }
+{
+    for turn in turns {
+        happen(rt, alloc, nodes, *turn, journal);
+    }
+}
+
+fn verb(act: &Act) -> &'static str {
+    match act {
+        Act::Opened { .. } => "opened",
+        Act::Closed { .. } => "closed",
+        Act::Drew { .. } => "drew",
+        Act::Derived { .. } => "derived",
+        Act::Sent { .. } => "sent",
+        Act::Took {
+            outcome: Outcome::Refused(_),
+            ..
+        } => "refused",
+        Act::Took { .. } => "took",
+        Act::Installed { .. } => "installed",
+        Act::Finished { .. } => "finished",
+        Act::GaveUp { .. } => "gave up",
+        Act::Idle { .. } => "idle",
+        _ => "other",
+    }
+}
+
+fn is_line(entry: &Entry, line: &Line) -> bool {
+    entry.round == line.0
+        && entry.node == line.1
+        && entry.number == line.2
+        && verb(&entry.act) == line.3
+}
+
+// The journal has the entries of round 0 and these behind them, and no others.
+fn has_lines(journal: &Journal, lines: &[Line]) -> bool {
+    if journal.len() != STARTED.len() + lines.len() {
+        return false;
+    }
+    for (entry, line) in journal.entries().iter().zip(STARTED.iter().chain(lines)) {
+        if !is_line(entry, line) {
+            return false;
+        }
+    }
+    true
+}
+
+// The frame of that number was sent, and is these octets.
+fn is_frame(nodes: &World, number: u64, octets: &[u8], journal: &Journal) -> bool
+    requires { Owns nodes.now journal.now.entries }
+{
+    is_sent(nodes, number) && nodes.frame(number, journal) == octets
+}
+
+// What the journal says was sent are the frames 1, 2, 3, and no others.
+fn has_three_frames(nodes: &World, journal: &Journal) -> bool
+    requires { Owns nodes.now journal.now.entries }
+{
+    let mut number = 1;
+    for entry in journal.entries() {
+        if let Act::Sent { octets, .. } = &entry.act {
+            if !is_frame(nodes, number, octets.as_slice(), journal) {
+                return false;
+            }
+            number = number.saturating_add(1);
+        }
+    }
+    number == 4 && 3 <= nodes.frames()
+}
+
+// What the last entry took, where it took a frame.
+fn taken(journal: &Journal) -> Option<&[u8]> {
+    match &journal.entries().last()?.act {
+        Act::Took { octets, .. } => Some(octets.as_slice()),
+        _ => None,
+    }
+}
+
+fn has_taken(journal: &Journal, octets: &[u8]) -> bool {
+    match taken(journal) {
+        Some(came) => came == octets,
+        None => false,
+    }
+}
+
+// The octets are those that were sent, but for the one at that place.
+fn differ_at(place: usize, mask: u8, came: &[u8], sent: &[u8]) -> bool {
+    if came.len() != sent.len() {
+        return false;
+    }
+    for (at, (octet, old)) in came.iter().zip(sent).enumerate() {
+        let want = if at == place { *old ^ mask } else { *old };
+        if *octet != want {
+            return false;
+        }
+    }
+    true
+}
+
+// The first frame came last, with its octet 24 changed.
+fn has_taken_changed(nodes: &World, journal: &Journal) -> bool
+    requires { Owns nodes.now journal.now.entries }
+{
+    match taken(journal) {
+        Some(came) => { is_sent(nodes, 1) && differ_at(24, 0xff, came, nodes.frame(1, journal)) }
+        None => false,
+    }
+}
+
+// What is to be found behind turns.
+#[derive(Clone, Copy)]
+enum Want {
+    // The journal has these lines behind those of round 0.
+    Lines(&'static [Line]),
+    // Three frames were sent, as the journal says.
+    ThreeFrames,
+    // These octets came last.
+    Octets(&'static [u8]),
+    // The first frame came last, with its octet 24 changed.
+    Changed,
+    // The frames that were taken came to these outcomes, and so many keys were installed.
+    Outcomes(&'static [Outcome], usize),
+}
+
+fn is_found(nodes: &World, journal: &Journal, want: Want) -> bool
+    requires { Owns nodes.now journal.now.entries }
+{
+    match want {
+        Want::Lines(lines) => has_lines(journal, lines),
+        Want::ThreeFrames => has_three_frames(nodes, journal),
+        Want::Octets(octets) => has_taken(journal, octets),
+        Want::Changed => has_taken_changed(nodes, journal),
+        Want::Outcomes(outcomes, installed) => come_to(journal, outcomes, installed),
+    }
+}
+
+// Behind the turns, of an access point and a station, there were as many rounds, and that is found.
+fn come(rt: &impl Abort, alloc: Global, turns: &[Turn], want: Want) -> bool {
+    let mut journal = Journal::new(alloc);
+    let mut nodes = two_nodes(rt, alloc, &mut journal);
+    play(rt, alloc, &mut nodes, turns, &mut journal);
+    nodes.rounds() == turns.len() as u64 && is_found(&nodes, &journal, want)
+}
+
+#[test]
+fn events_and_what_they_add(rt: HostRuntime) {
+    for case in CASES {
+        assert!(rt;
+            come(&rt, rt.alloc(), case.turns, Want::Lines(case.lines)),
+            "{}",
+            case.shows
+        );
+    }
+}
+
+#[test]
+fn frames_are_those_that_were_sent(rt: HostRuntime) {
+    assert!(rt; come(&rt, rt.alloc(), THREE_FRAMES, Want::ThreeFrames));
+}
+
+#[test]
+fn octets_that_come(rt: HostRuntime) {
+    for (turns, octets) in COMING {
+        assert!(rt;
+            come(&rt, rt.alloc(), turns, Want::Octets(octets)),
+            "{octets:?}"
+        );
+    }
+}
+
+#[test]
+fn one_octet_is_changed(rt: HostRuntime) {
+    assert!(rt; come(&rt, rt.alloc(), CHANGED, Want::Changed));
+}

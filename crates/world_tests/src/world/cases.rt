@@ -1,0 +1,232 @@
+//! Events at a world, and what they add to its journal.
+
+use domain_base::Node;
+
+pub(crate) const A1: Node = Node::Ap(0);
+
+pub(crate) const S1: Node = Node::Sta(0);
+
+// An event with the first access point and the first station, where it says no others.
+#[derive(Clone, Copy)]
+pub(crate) enum Turn {
+    Connect,
+    // That station asks that access point, both by their numbers.
+    ConnectTo(u16, u16),
+    // The frame's number, and where it comes.
+    Deliver(u64, Node),
+    // The frame's number, the place and what it is changed with, and where it comes.
+    Alter(u64, usize, u8, Node),
+    // The frame's number, how many octets come, and where.
+    Cut(u64, usize, Node),
+    Inject(Node, &'static [u8]),
+    Retry,
+}
+
+// What an entry of the journal is: its round, its node, its number and what it does.
+pub(crate) type Line = (u64, Node, u64, &'static str);
+
+// What round 0 journals.
+pub(crate) const STARTED: [Line; 2] = [(0, A1, 0, "drew"), (0, A1, 0, "installed")];
+
+// What turns add to the journal.
+pub(crate) struct Case {
+    pub(crate) shows: &'static str,
+    pub(crate) turns: &'static [Turn],
+    // The lines behind those of round 0.
+    pub(crate) lines: &'static [Line],
+}
+
+pub(crate) const CASES: &[Case] = &[
+    Case {
+        shows: "no events",
+        turns: &[],
+        lines: &[],
+    },
+    Case {
+        shows: "a whole handshake",
+        turns: &[
+            Turn::Connect,
+            Turn::Deliver(1, A1),
+            Turn::Deliver(2, S1),
+            Turn::Deliver(3, S1),
+            Turn::Deliver(4, A1),
+            Turn::Deliver(5, S1),
+            Turn::Deliver(6, A1),
+        ],
+        lines: &[
+            (1, S1, 0, "opened"),
+            (1, S1, 0, "drew"),
+            (1, S1, 1, "sent"),
+            (2, A1, 0, "took"),
+            (2, A1, 0, "opened"),
+            (2, A1, 0, "drew"),
+            (2, A1, 2, "sent"),
+            (2, A1, 3, "sent"),
+            (3, S1, 0, "took"),
+            (4, S1, 0, "took"),
+            (4, S1, 0, "derived"),
+            (4, S1, 4, "sent"),
+            (5, A1, 0, "took"),
+            (5, A1, 0, "derived"),
+            (5, A1, 5, "sent"),
+            (6, S1, 0, "took"),
+            (6, S1, 0, "installed"),
+            (6, S1, 0, "installed"),
+            (6, S1, 0, "finished"),
+            (6, S1, 6, "sent"),
+            (7, A1, 0, "took"),
+            (7, A1, 0, "installed"),
+            (7, A1, 0, "finished"),
+        ],
+    },
+    Case {
+        shows: "a frame that was sent long ago",
+        turns: &[
+            Turn::Connect,
+            Turn::Deliver(1, A1),
+            Turn::Deliver(2, S1),
+            Turn::Deliver(2, S1),
+            Turn::Connect,
+            Turn::Deliver(1, A1),
+        ],
+        lines: &[
+            (1, S1, 0, "opened"),
+            (1, S1, 0, "drew"),
+            (1, S1, 1, "sent"),
+            (2, A1, 0, "took"),
+            (2, A1, 0, "opened"),
+            (2, A1, 0, "drew"),
+            (2, A1, 2, "sent"),
+            (2, A1, 3, "sent"),
+            (3, S1, 0, "took"),
+            (4, S1, 0, "refused"),
+            (5, S1, 0, "closed"),
+            (5, S1, 0, "opened"),
+            (5, S1, 0, "drew"),
+            (5, S1, 4, "sent"),
+            (6, A1, 0, "took"),
+            (6, A1, 0, "closed"),
+            (6, A1, 0, "opened"),
+            (6, A1, 0, "drew"),
+            (6, A1, 5, "sent"),
+            (6, A1, 6, "sent"),
+        ],
+    },
+    Case {
+        shows: "a frame at the node that sent it",
+        turns: &[Turn::Connect, Turn::Deliver(1, S1)],
+        lines: &[
+            (1, S1, 0, "opened"),
+            (1, S1, 0, "drew"),
+            (1, S1, 1, "sent"),
+            (2, S1, 0, "refused"),
+        ],
+    },
+    Case {
+        shows: "M1 with the first octet of its nonce changed: the MIC of M2 does not verify",
+        turns: &[
+            Turn::Connect,
+            Turn::Deliver(1, A1),
+            Turn::Deliver(2, S1),
+            Turn::Alter(3, 49, 1, S1),
+            Turn::Deliver(4, A1),
+        ],
+        lines: &[
+            (1, S1, 0, "opened"),
+            (1, S1, 0, "drew"),
+            (1, S1, 1, "sent"),
+            (2, A1, 0, "took"),
+            (2, A1, 0, "opened"),
+            (2, A1, 0, "drew"),
+            (2, A1, 2, "sent"),
+            (2, A1, 3, "sent"),
+            (3, S1, 0, "took"),
+            (4, S1, 0, "took"),
+            (4, S1, 0, "derived"),
+            (4, S1, 4, "sent"),
+            (5, A1, 0, "refused"),
+        ],
+    },
+    Case {
+        shows: "a request changed with 0 is as it was, and changed in its version it is refused",
+        turns: &[
+            Turn::Connect,
+            Turn::Alter(1, 0, 1, A1),
+            Turn::Alter(1, 0, 0, A1),
+        ],
+        lines: &[
+            (1, S1, 0, "opened"),
+            (1, S1, 0, "drew"),
+            (1, S1, 1, "sent"),
+            (2, A1, 0, "refused"),
+            (3, A1, 0, "took"),
+            (3, A1, 0, "opened"),
+            (3, A1, 0, "drew"),
+            (3, A1, 2, "sent"),
+            (3, A1, 3, "sent"),
+        ],
+    },
+    Case {
+        shows: "a request of which no octets come, and of which 20 come",
+        turns: &[Turn::Connect, Turn::Cut(1, 0, A1), Turn::Cut(1, 20, A1)],
+        lines: &[
+            (1, S1, 0, "opened"),
+            (1, S1, 0, "drew"),
+            (1, S1, 1, "sent"),
+            (2, A1, 0, "refused"),
+            (3, A1, 0, "refused"),
+        ],
+    },
+    Case {
+        shows: "nothing to send once more",
+        turns: &[Turn::Retry],
+        lines: &[(1, A1, 0, "idle")],
+    },
+    Case {
+        shows: "M1 once more, until it was sent four times",
+        turns: &[
+            Turn::Connect,
+            Turn::Deliver(1, A1),
+            Turn::Retry,
+            Turn::Retry,
+            Turn::Retry,
+            Turn::Retry,
+            Turn::Retry,
+        ],
+        lines: &[
+            (1, S1, 0, "opened"),
+            (1, S1, 0, "drew"),
+            (1, S1, 1, "sent"),
+            (2, A1, 0, "took"),
+            (2, A1, 0, "opened"),
+            (2, A1, 0, "drew"),
+            (2, A1, 2, "sent"),
+            (2, A1, 3, "sent"),
+            (3, A1, 4, "sent"),
+            (4, A1, 5, "sent"),
+            (5, A1, 6, "sent"),
+            (6, A1, 0, "gave up"),
+            (6, A1, 0, "closed"),
+            (7, A1, 0, "idle"),
+        ],
+    },
+];
+
+// Turns behind which a frame was taken, and the octets that came.
+pub(crate) const COMING: &[(&[Turn], &[u8])] = &[
+    (&[Turn::Connect, Turn::Cut(1, 2, A1)], &[0, 0]),
+    (
+        &[
+            Turn::Connect,
+            Turn::Cut(1, 2, A1),
+            Turn::Inject(S1, &[0x80, 0]),
+        ],
+        &[0x80, 0],
+    ),
+];
+
+// Three frames are sent.
+pub(crate) const THREE_FRAMES: &[Turn] = &[Turn::Connect, Turn::Deliver(1, A1)];
+
+// The octet at place 24 of the first frame is changed.
+pub(crate) const CHANGED: &[Turn] = &[Turn::Connect, Turn::Alter(1, 24, 0xff, S1)];
