@@ -1,8 +1,11 @@
-//! Does one piece of cryptographic work a number of times, so that its cost can be counted: two words,
-//! the name of the work and the number.
+//! Does one piece of cryptographic work a number of times, so that its cost can be counted: the name of
+//! the work, the number, and for work on payloads their size, from 0 to 2,304 octets.
 #![tactic(auto)]
 
+ghost use Rattle.std.specs.Prelude.{◌≤◌};
+
 use aes_block::Aes128;
+use ccmp_guard::{Guard, Role};
 use key_wrap::{unwrap, wrap};
 use mac_prf::{cmac, pbkdf2};
 use std::alloc::AllocGlobal;
@@ -86,7 +89,44 @@ fn stretched(times: u32) -> u8 {
     key[0]
 }
 
-fn worked(work: &str, times: u32) -> u8 {
+// The header of a frame from an access point to a station.
+const HEADER: &[u8] =
+    b"\x08\x42\x00\x00\x02\x00\x00\x00\x00\xbb\x02\x00\x00\x00\x00\xaa\x02\x00\x00\x00\x00\xcc\x00\x00";
+
+// A payload of that size, protected under one packet number after the other.
+fn protected(size: usize, times: u32) -> u8
+    requires { size ≤ 2304 }
+{
+    let plain = [7; 2304];
+    let mut body = [0; 2320];
+    let mut guard = Guard::empty();
+    guard.install(&KEY, Role::Pairwise, 0, 0);
+    for _ in 0..times {
+        let _end = guard.protect(HEADER, &plain[..size], &mut body);
+    }
+    body[0]
+}
+
+// The same, and each body opened.
+fn opened(size: usize, times: u32) -> u8
+    requires { size ≤ 2304 }
+{
+    let mut plain = [7; 2304];
+    let mut body = [0; 2320];
+    let mut sender = Guard::empty();
+    sender.install(&KEY, Role::Pairwise, 0, 0);
+    let mut receiver = Guard::empty();
+    receiver.install(&KEY, Role::Pairwise, 0, 0);
+    for _ in 0..times {
+        let _sealed = sender.protect(HEADER, &plain[..size], &mut body);
+        let _opened = receiver.unprotect(HEADER, &body[..size + 16], &mut plain);
+    }
+    plain[0]
+}
+
+fn worked(work: &str, times: u32, size: usize) -> u8
+    requires { size ≤ 2304 }
+{
     match work {
         "encrypt" => encrypted(times),
         "decrypt" => decrypted(times),
@@ -95,7 +135,22 @@ fn worked(work: &str, times: u32) -> u8 {
         "wrap" => wrapped(times),
         "unwrap" => unwrapped(times),
         "pbkdf2" => stretched(times),
+        "protect" => protected(size, times),
+        "open" => opened(size, times),
         _ => 0,
+    }
+}
+
+// The size that a third word names, or else 1,500.
+fn size_of(words: &[String]) -> usize
+    ensures { result ≤ 2304 }
+{
+    if words.len() < 3 {
+        return 1500;
+    }
+    match words[2].parse::<usize>() {
+        Ok(size) => size.min(2304),
+        Err(_) => 1500,
     }
 }
 
@@ -108,11 +163,12 @@ fn run<R: Env + AllocGlobal>(rt: &R) -> u8 {
     let Ok(words) = args.skip(1).collect::<Vec<String>>(rt.alloc()) else {
         return 0;
     };
-    if words.len() != 2 {
+    if words.len() < 2 {
         return 0;
     }
+    let size = size_of(&words);
     match words[1].parse::<u32>() {
-        Ok(times) => worked(words[0].as_str(), times),
+        Ok(times) => worked(words[0].as_str(), times, size),
         Err(_) => 0,
     }
 }

@@ -16,4 +16,8 @@ mod macs;
 #[cfg(test)]
 mod outside;
 #[cfg(test)]
+mod packet_numbers;
+#[cfg(test)]
+mod protected_bodies;
+#[cfg(test)]
 mod vectors;

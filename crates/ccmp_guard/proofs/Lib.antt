@@ -1,0 +1,4 @@
+mod Octets
+mod Blocks
+pub mod Sealing
+pub mod Bodies
