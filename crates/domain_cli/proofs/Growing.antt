@@ -1,5 +1,8 @@
 -- A journal grows at its newer end.
-use Rattle.std.proofs.Common.{◌≡◌, ℕ, List, [], ◌∷◌, ◌++◌, length, append_assoc, refl, sym, ◌∙◌}
+use Rattle.std.proofs.Common.{◌≡◌, ℕ, ◌<◌, List, [], ◌∷◌, ◌++◌, length, append_assoc, refl, sym, ap, ◌∙◌, arith}
+use Rattle.domain_cli.proofs.Sent.{same-journal, same-push, same-quiet}
+use Rattle.domain_cli.specs.Script.{sizes_before}
+use Rattle.domain_cli.specs.Stages.{HasSame}
 use Rattle.domain_base.specs.declared.names.Mac.{Mac}
 use Rattle.domain_base.specs.declared.names.Node.{Node}
 use Rattle.domain_base.specs.declared.names.Node.TheVariants.{Ap}
@@ -14,34 +17,46 @@ use Rattle.run_journal.specs.Listing.{with_ap}
 use Rattle.domain_world.proofs.Begun.{started_ap}
 use Rattle.frame_script.specs.Headers.{Reading, HasSeen, HasSeenAll}
 
--- the new journal has the old one behind what is later
-abbrev pub Grows : List Entry → List Entry → Type 0
-Grows old new = (later : List Entry) × (new ≡ later ++ old)
+-- the new journal has the old one behind what is later, and has sent no frame more in the rounds up to that number
+pub record Grows (rounds : ℕ) (old new : List Entry) : Type 0 where
+  pub later : List Entry
+  pub is : new ≡ later ++ old
+  pub same : HasSame rounds old new
 
-pub Grows-same : (j k : List Entry) → k ≡ j → Grows j k
-Grows-same j k same = ([], same)
+pub Grows-same : (rounds : ℕ) (j k : List Entry) → k ≡ j → Grows rounds j k
+Grows-same rounds j k same = record { later = []; is = same; same = same-journal rounds j k same }
 
-pub Grows-push : (round : ℕ) (n : Node) (acts : List Act) (past : List Entry) → Grows past (push round n acts past)
-Grows-push round n [] past = ([], refl)
-Grows-push round n (act ∷ g) past =
+-- what is later
+behind : (round : ℕ) (n : Node) (acts : List Act) (past : List Entry) → (later : List Entry) × (push round n acts past ≡ later ++ past)
+behind round n [] past = ([], refl)
+behind round n (act ∷ g) past =
     let e : Entry = record { round = round; node = n; number = number_of act past; act = act } in
-    let more = Grows-push round n g (e ∷ past) in
+    let more = behind round n g (e ∷ past) in
     (more.0 ++ e ∷ [], more.1 ∙ sym (append_assoc more.0 (e ∷ []) past))
 
-pub Grows-step : (d : Domain) (round : ℕ) (event : Event) (j k : List Entry) → Step d round event j k → Grows j k
-Grows-step d round event j k step =
+-- an event, in a later round
+pub Grows-step : (d : Domain) (rounds round : ℕ) (event : Event) (j k : List Entry) → Step d round event j k → rounds < round → Grows rounds j k
+Grows-step d rounds round event j k step later =
     let s = at_one d round event j k step in
-    let more = Grows-push round s.node s.acts j in
-    (more.0, s.is ∙ more.1)
+    let more = behind round s.node s.acts j in
+    record {
+      later = more.0;
+      is = s.is ∙ more.1;
+      same = λ m few. ap (sizes_before m) s.is ∙ same-push m round s.node s.acts j (omega (arith, few, later));
+    }
 
--- an access point starts
-pub Grows-started : (d e : Domain) (address : Mac) (id : List ℕ) (j k : List Entry) → e ≡ with_ap d address id → j ≡ started d (length d.aps) → k ≡ started e (length e.aps) → Grows j k
-Grows-started d e address id j k network before after =
+-- an access point starts, which sends nothing
+pub Grows-started : (d e : Domain) (rounds : ℕ) (address : Mac) (id : List ℕ) (j k : List Entry) → e ≡ with_ap d address id → j ≡ started d (length d.aps) → k ≡ started e (length e.aps) → Grows rounds j k
+Grows-started d e rounds address id j k network before after =
     let acts = start_acts e 0 (Ap (length d.aps)) in
     let is = started_ap d e address id (Ap (length d.aps)) acts j (push 0 (Ap (length d.aps)) acts j) network refl refl refl before in
-    let more = Grows-push 0 (Ap (length d.aps)) acts j in
-    (more.0, after ∙ sym is ∙ more.1)
+    let more = behind 0 (Ap (length d.aps)) acts j in
+    record {
+      later = more.0;
+      is = after ∙ sym is ∙ more.1;
+      same = λ m few. ap (sizes_before m) (after ∙ sym is) ∙ same-quiet m 0 (Ap (length d.aps)) acts j (refl, (refl, tt));
+    }
 
 -- a reader that has seen all of it has seen the front of what it grows to
-pub HasSeen-more : (r : Reading) (j k : List Entry) → HasSeenAll r j → Grows j k → HasSeen r k
-HasSeen-more r j k all more = record { later = more.0; earlier = j; is = more.1; seen = all.seen; sizes = all.sizes }
+pub HasSeen-more : (r : Reading) (rounds : ℕ) (j k : List Entry) → HasSeenAll r j → Grows rounds j k → HasSeen r k
+HasSeen-more r rounds j k all more = record { later = more.later; earlier = j; is = more.is; seen = all.seen; sizes = all.sizes }

@@ -1,6 +1,7 @@
 pub mod Goings
 pub mod Sizes
 pub mod Networks
+pub mod Sent
 pub mod Growing
 pub mod Steps
 pub mod Taking

@@ -8,7 +8,7 @@ use Rattle.run_journal.specs.declared.acts.Entry.{Entry}
 use Rattle.frame_script.specs.Script.{Fault, Outside, Past, Draft, AtVersion, line_says}
 use Rattle.domain_cli.specs.declared.session.Stop.{Stop}
 use Rattle.domain_cli.specs.declared.session.Stop.TheVariants as stops
-use Rattle.domain_cli.specs.Script.{IsJournal, Says, Refuses, Spells, NoFeed, most_lines, most_octets, too_many, without_return, joined, texts, AreLines, Begins, Ends, IsWrong, HasFault}
+use Rattle.domain_cli.specs.Script.{IsJournal, sizes_before, Says, Refuses, Spells, NoFeed, most_lines, most_octets, too_many, without_return, joined, texts, AreLines, Begins, Ends, IsWrong, HasFault}
 use Rattle.domain_cli.specs.Stops.{Stopped, StopsLine, found_by}
 use Rattle.domain_cli.specs.Story.{Explains, IsWhole, IsFaulty, IsPrefix, Tells}
 
@@ -45,13 +45,13 @@ length-read octets good rest b short few =
 
 -- ---- faults
 
-pub Spells-line : (line : List ℕ) (said : List (List ℕ)) (before draft : Draft) (earlier rounds : List (List Event)) → Spells said before earlier → Says line before earlier draft rounds → Spells (line ∷ said) draft rounds
+pub Spells-line : (j : List Entry) (line : List ℕ) (said : List (List ℕ)) (before draft : Draft) (earlier rounds : List (List Event)) → Spells j said before earlier → Says j line before earlier draft rounds → Spells j (line ∷ said) draft rounds
 unfolding Spells
-Spells-line line said before draft earlier rounds spelled says = (before, (earlier, (spelled, says)))
+Spells-line j line said before draft earlier rounds spelled says = (before, (earlier, (spelled, says)))
 
 -- whatever comes after a fault
-IsWrong-more : (more : List ℕ) (ended : Bool) (good : List (List ℕ)) (line after : List ℕ) (draft : Draft) (rounds : List (List Event)) (fault : Fault) → IsWrong false good line after draft rounds fault → IsWrong ended good line (after ++ more) draft rounds fault
-IsWrong-more more ended good line after draft rounds fault w = record {
+IsWrong-more : (j : List Entry) (more : List ℕ) (ended : Bool) (good : List (List ℕ)) (line after : List ℕ) (draft : Draft) (rounds : List (List Event)) (fault : Fault) → IsWrong j false good line after draft rounds fault → IsWrong j ended good line (after ++ more) draft rounds fault
+IsWrong-more j more ended good line after draft rounds fault w = record {
   text = w.text;
   ends = elim w.ends [
     | inl feed ↦ inl ((feed.0.0 ++ more, ap (λ (x : List ℕ). x ++ more) feed.0.1), feed.1)
@@ -61,15 +61,15 @@ IsWrong-more more ended good line after draft rounds fault w = record {
   why = w.why;
 }
 
-HasFault-more : (octets more : List ℕ) (ended : Bool) (good : List (List ℕ)) (draft : Draft) (rounds : List (List Event)) (fault : Fault) → HasFault octets false good draft rounds fault → HasFault (octets ++ more) ended good draft rounds fault
-HasFault-more octets more ended good draft rounds fault f = record {
+HasFault-more : (j : List Entry) (octets more : List ℕ) (ended : Bool) (good : List (List ℕ)) (draft : Draft) (rounds : List (List Event)) (fault : Fault) → HasFault j octets false good draft rounds fault → HasFault j (octets ++ more) ended good draft rounds fault
+HasFault-more j octets more ended good draft rounds fault f = record {
   line = f.line;
   after = f.after ++ more;
   begins = subst (λ (w : List ℕ). Begins (octets ++ more) good w) (append_assoc f.line f.after more) (Begins-more octets more good (f.line ++ f.after) f.begins);
   open_line = f.open_line;
   wrong = elim f.wrong [
     | inl long ↦ inl long
-    | inr w ↦ inr (IsWrong-more more ended good f.line f.after draft rounds fault w)
+    | inr w ↦ inr (IsWrong-more j more ended good f.line f.after draft rounds fault w)
   ];
 }
 
@@ -79,7 +79,7 @@ IsFaulty-more fault number octets more j f = record {
   draft = f.draft;
   rounds = f.rounds;
   number_is = f.number_is;
-  is = HasFault-more octets more false f.good f.draft f.rounds fault f.is;
+  is = HasFault-more j octets more false f.good f.draft f.rounds fault f.is;
   explains = f.explains;
 }
 
@@ -97,7 +97,7 @@ Stopped-more stops.NoMemory octets more j p = record {
 
 -- an octet too many
 pub Stopped-long : (octets : List ℕ) (octet : ℕ) (good : List (List ℕ)) (line : List ℕ) (draft : Draft) (rounds : List (List Event)) (j : List Entry) → Begins octets good line → NoFeed (line ++ octet ∷ []) → most_octets ≤ length line
-    → Spells (texts good) draft rounds → IsJournal draft rounds j → Stopped (stops.Limit 2) (octets ++ octet ∷ []) j
+    → Spells j (texts good) draft rounds → IsJournal draft rounds j → Stopped (stops.Limit 2) (octets ++ octet ∷ []) j
 Stopped-long octets octet good line draft rounds j b none long spelled journal = (
   suc (length good),
   record {
@@ -124,7 +124,7 @@ record IsAt (whole : List ℕ) (ended : Bool) (good : List (List ℕ)) (line aft
   short : length line ≤ most_octets
 
 faulty : (fault : Fault) (number lines : ℕ) (whole : List ℕ) (ended : Bool) (good : List (List ℕ)) (line after text : List ℕ) (draft : Draft) (rounds : List (List Event)) (j : List Entry) → IsAt whole ended good line after text → lines ≡ length good
-    → number ≡ suc lines → ((fault ≡ too_many) × (most_lines ≤ lines)) ⊎ ((lines < most_lines) × Refuses text draft rounds fault) → Explains (texts good) draft rounds j → IsFaulty fault number whole ended j
+    → number ≡ suc lines → ((fault ≡ too_many) × (most_lines ≤ lines)) ⊎ ((lines < most_lines) × Refuses j text draft rounds fault) → Explains (texts good) draft rounds j → IsFaulty fault number whole ended j
 faulty fault number lines whole ended good line after text draft rounds j at count next why explains = record {
   good = good;
   draft = draft;
@@ -139,14 +139,14 @@ faulty fault number lines whole ended good line after text draft rounds j at cou
       text = text;
       ends = at.ends;
       short = at.short;
-      why = subst (λ (n : ℕ). ((fault ≡ too_many) × (most_lines ≤ n)) ⊎ ((n < most_lines) × Refuses text draft rounds fault)) count why;
+      why = subst (λ (n : ℕ). ((fault ≡ too_many) × (most_lines ≤ n)) ⊎ ((n < most_lines) × Refuses j text draft rounds fault)) count why;
     });
   };
   explains = explains;
 }
 
 stopped_at : (stop : Stop) (lines : ℕ) (whole : List ℕ) (ended : Bool) (good : List (List ℕ)) (line after text : List ℕ) (draft : Draft) (rounds : List (List Event)) (j : List Entry) → IsAt whole ended good line after text → lines ≡ length good
-    → StopsLine stop lines text draft rounds → Explains (texts good) draft rounds j → Tells (found_by stop) whole ended j
+    → StopsLine stop j lines text draft rounds → Explains (texts good) draft rounds j → Tells (found_by stop) whole ended j
 stopped_at (stops.Faulty number reason) lines whole ended good line after text draft rounds j at count stops explains =
     faulty (Outside reason) number lines whole ended good line after text draft rounds j at count stops.0 (inr stops.1) explains
 stopped_at (stops.Limit limit) lines whole ended good line after text draft rounds j at count stops explains =
@@ -162,7 +162,7 @@ stopped_at stops.NoMemory lines whole ended good line after text draft rounds j 
 
 -- before a line feed
 pub Stopped-line : (stop : Stop) (lines : ℕ) (octets : List ℕ) (good : List (List ℕ)) (line : List ℕ) (draft : Draft) (rounds : List (List Event)) (j k : List Entry) → Begins octets good line → NoFeed line → length line ≤ most_octets → lines ≡ length good
-    → Spells (texts good) draft rounds → IsJournal draft rounds j → StopsLine stop lines (without_return line) draft rounds → k ≡ j → Stopped stop (octets ++ 10 ∷ []) k
+    → Spells j (texts good) draft rounds → IsJournal draft rounds j → StopsLine stop j lines (without_return line) draft rounds → k ≡ j → Stopped stop (octets ++ 10 ∷ []) k
 Stopped-line stop lines octets good line draft rounds j k b none short count spelled journal stops same =
     let at : IsAt (octets ++ 10 ∷ []) false good line (10 ∷ []) (without_return line) = record {
       begins = Begins-more octets (10 ∷ []) good line b;
@@ -170,12 +170,12 @@ Stopped-line stop lines octets good line draft rounds j k b none short count spe
       ends = inl (([], refl), refl);
       short = short;
     } in
-    stopped_at stop lines (octets ++ 10 ∷ []) false good line (10 ∷ []) (without_return line) draft rounds k at count stops
-    (record { spelled = spelled; journal = subst (λ (x : List Entry). IsJournal draft rounds x) (sym same) journal })
+    subst (λ (x : List Entry). Stopped stop (octets ++ 10 ∷ []) x) (sym same)
+    (stopped_at stop lines (octets ++ 10 ∷ []) false good line (10 ∷ []) (without_return line) draft rounds j at count stops (record { spelled = spelled; journal = journal }))
 
 -- at the end of the source
 pub Tells-last : (stop : Stop) (lines : ℕ) (octets : List ℕ) (good : List (List ℕ)) (line : List ℕ) (draft : Draft) (rounds : List (List Event)) (j k : List Entry) → Begins octets good line → NoFeed line → length line ≤ most_octets → lines ≡ length good
-    → (line ≢ []) ⊎ (good ≡ []) → Spells (texts good) draft rounds → IsJournal draft rounds j → StopsLine stop lines line draft rounds → k ≡ j → Tells (found_by stop) octets true k
+    → (line ≢ []) ⊎ (good ≡ []) → Spells j (texts good) draft rounds → IsJournal draft rounds j → StopsLine stop j lines line draft rounds → k ≡ j → Tells (found_by stop) octets true k
 Tells-last stop lines octets good line draft rounds j k b none short count some spelled journal stops same =
     let at : IsAt octets true good line [] line = record {
       begins = subst (λ (w : List ℕ). Begins octets good w) (sym (append-nil line)) b;
@@ -183,13 +183,13 @@ Tells-last stop lines octets good line draft rounds j k b none short count some 
       ends = inr (refl, (refl, (refl, some)));
       short = short;
     } in
-    stopped_at stop lines octets true good line [] line draft rounds k at count stops
-    (record { spelled = spelled; journal = subst (λ (x : List Entry). IsJournal draft rounds x) (sym same) journal })
+    subst (λ (x : List Entry). Tells (found_by stop) octets true x) (sym same)
+    (stopped_at stop lines octets true good line [] line draft rounds j at count stops (record { spelled = spelled; journal = journal }))
 
 -- ---- whole scripts
 
 -- the last line has its line feed
-pub IsWhole-closed : (octets : List ℕ) (good : List (List ℕ)) (line : List ℕ) (draft : Draft) (rounds : List (List Event)) (j : List Entry) → Begins octets good line → line ≡ [] → 0 < length good → Spells (texts good) draft rounds → IsJournal draft rounds j
+pub IsWhole-closed : (octets : List ℕ) (good : List (List ℕ)) (line : List ℕ) (draft : Draft) (rounds : List (List Event)) (j : List Entry) → Begins octets good line → line ≡ [] → 0 < length good → Spells j (texts good) draft rounds → IsJournal draft rounds j
     → IsWhole octets true j
 IsWhole-closed octets good line draft rounds j b closed some spelled journal = record {
   script = texts good;
@@ -206,15 +206,15 @@ IsWhole-closed octets good line draft rounds j b closed some spelled journal = r
 }
 
 -- an empty source says nothing that can be taken
-nothing_first : (good : List (List ℕ)) (before draft : Draft) (earlier rounds : List (List Event)) → good ≡ [] → Spells (texts good) before earlier → Says [] before earlier draft rounds → ⊥
+nothing_first : (j : List Entry) (good : List (List ℕ)) (before draft : Draft) (earlier rounds : List (List Event)) → good ≡ [] → Spells j (texts good) before earlier → Says j [] before earlier draft rounds → ⊥
 unfolding Spells line_says
-nothing_first [] before draft earlier rounds none spelled says =
-    let first = subst (λ (x : Draft). line_says x (length earlier) says.sizes [] ≡ Ok says.said) spelled.0 says.says in cc
-nothing_first (line ∷ good) before draft earlier rounds none spelled says = cc
+nothing_first j [] before draft earlier rounds none spelled says =
+    let first = subst (λ (x : Draft). line_says x (length earlier) (sizes_before (length earlier) j) [] ≡ Ok says.said) spelled.0 says.says in cc
+nothing_first j (line ∷ good) before draft earlier rounds none spelled says = cc
 
 -- or lacks it
 pub IsWhole-open : (octets : List ℕ) (good : List (List ℕ)) (line : List ℕ) (before draft : Draft) (earlier rounds : List (List Event)) (j : List Entry) → Begins octets good line → NoFeed line → length line ≤ most_octets → length good < most_lines
-    → (line ≢ []) ⊎ (good ≡ []) → Spells (texts good) before earlier → Says line before earlier draft rounds → IsJournal draft rounds j → IsWhole octets true j
+    → (line ≢ []) ⊎ (good ≡ []) → Spells j (texts good) before earlier → Says j line before earlier draft rounds → IsJournal draft rounds j → IsWhole octets true j
 IsWhole-open octets good line before draft earlier rounds j b none short few some spelled says journal = record {
   script = line ∷ texts good;
   draft = draft;
@@ -225,7 +225,7 @@ IsWhole-open octets good line before draft earlier rounds j b none short few som
     begins = b;
     some = elim some [
       | inl some_octets ↦ some_octets
-      | inr first ↦ λ empty. nothing_first good before draft earlier rounds first spelled (subst (λ (w : List ℕ). Says w before earlier draft rounds) empty says)
+      | inr first ↦ λ empty. nothing_first j good before draft earlier rounds first spelled (subst (λ (w : List ℕ). Says j w before earlier draft rounds) empty says)
     ];
     line = none;
     short = short;
@@ -233,7 +233,7 @@ IsWhole-open octets good line before draft earlier rounds j b none short few som
     says = refl;
   });
   end = refl;
-  explains = record { spelled = Spells-line line (texts good) before draft earlier rounds spelled says; journal = journal };
+  explains = record { spelled = Spells-line j line (texts good) before draft earlier rounds spelled says; journal = journal };
 }
 
 -- the octets around the one at a place

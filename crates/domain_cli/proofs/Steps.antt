@@ -71,17 +71,17 @@ can_run r s (Some w) j says asked is few takes = (is.own, goes_on w r s.draft j 
 
 -- ---- the journal grows
 
-grows_own : (w v : State) (r : Reading) (new : Draft) (j k : List Entry) (says : Result Said Fault) (asked : Asked) → IsOwn w r j → TakesStep r.draft new r.rounds (sizes_of j) says asked → Did w v j k asked → Grows j k
-grows_own w v r new j k says step.Nothing own takes did = Grows-same j k did.1
+grows_own : (w v : State) (r : Reading) (new : Draft) (j k : List Entry) (says : Result Said Fault) (asked : Asked) → IsOwn w r j → TakesStep r.draft new r.rounds (sizes_of j) says asked → Did w v j k asked → Grows r.rounds j k
+grows_own w v r new j k says step.Nothing own takes did = Grows-same r.rounds j k did.1
 grows_own w v r new j k says step.Network own takes did = absurd did
 grows_own w v r new j k says (step.Ap address id) own takes did =
     let before = own.first (sym own.rounds ∙ takes.1.1.1.1.1) in
-    Grows-started w.domain v.domain address id j k did.network before (did.begins before)
-grows_own w v r new j k says (step.Sta address) own takes did = Grows-same j k did.1
-grows_own w v r new j k says (step.Event event) own takes did = Grows-step w.domain (suc w.rounds) event j k did.goes
+    Grows-started w.domain v.domain r.rounds address id j k did.network before (did.begins before)
+grows_own w v r new j k says (step.Sta address) own takes did = Grows-same r.rounds j k did.1
+grows_own w v r new j k says (step.Event event) own takes did = Grows-step w.domain r.rounds (suc w.rounds) event j k did.goes (omega (arith, own.rounds))
 
-pub grows : (r s : Reading) (world v : Option State) (j k : List Entry) (says : Result Said Fault) (asked : Asked) → IsWorldOf world r j → TakesStep r.draft s.draft r.rounds (sizes_of j) says asked → DidRun world v s.draft j k asked → Grows j k
-grows r s None v j k says asked is takes did = Grows-same j k did.1
+pub grows : (r s : Reading) (world v : Option State) (j k : List Entry) (says : Result Said Fault) (asked : Asked) → IsWorldOf world r j → TakesStep r.draft s.draft r.rounds (sizes_of j) says asked → DidRun world v s.draft j k asked → Grows r.rounds j k
+grows r s None v j k says asked is takes did = Grows-same r.rounds j k did.1
 grows r s (Some w) None j k says asked is takes did = absurd did
 grows r s (Some w) (Some v) j k says asked is takes did = grows_own w v r s.draft j k says asked is takes did.1
 

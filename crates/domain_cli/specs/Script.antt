@@ -1,12 +1,12 @@
 -- Which rounds the octets of a script spell. Lists of lines and of rounds are NEWEST FIRST.
-use Rattle.std.specs.Prelude.{◌≡◌, ◌≢◌, ◌⊎◌, ℕ, ◌<◌, ◌≤◌, ◌-◌, ◌==◌, ◌&&◌, nat_lt, if◌then◌else◌, Bool, true, List, [], ◌∷◌, ◌++◌, length, take, map, slice_index, Ok, Err}
+use Rattle.std.specs.Prelude.{◌≡◌, ◌≢◌, ◌⊎◌, ℕ, ◌<◌, ◌≤◌, ◌-◌, ◌==◌, ◌&&◌, nat_lt, nat_le, cond, if◌then◌else◌, Bool, true, List, [], ◌∷◌, ◌++◌, length, take, map, slice_index, Ok, Err}
 use Rattle.std.specs.List.{AllByRecursion}
 use Rattle.run_journal.specs.declared.domain.Event.{Event}
 use Rattle.run_journal.specs.declared.acts.Entry.{Entry}
 use Rattle.domain_rules.specs.Network.{InForm}
 use Rattle.domain_rules.specs.Explained.{Explained}
 use Rattle.frame_script.specs.Script.{Fault, Past, Draft, AtVersion, AtNodes, Said, Asks, line_says, said_after}
-use Rattle.frame_script.specs.Headers.{sizes_of}
+use Rattle.frame_script.specs.Headers.{size_sent}
 
 -- what the lines so far have told: what the script has said, from the end of its header on the network with the nodes listed
 -- so far, together with the rounds asked for so far
@@ -16,37 +16,33 @@ abbrev pub IsJournal : Draft → List (List Event) → List Entry → Type 0
 IsJournal (AtNodes d) rounds j = InForm d × Explained d rounds j
 IsJournal draft rounds j = (rounds ≡ []) × (j ≡ [])
 
--- the rounds have sent frames of these sizes
-pub record HasSent (draft : Draft) (rounds : List (List Event)) (sizes : List ℕ) : Type 0 where
-  pub journal : List Entry
-  pub is : IsJournal draft rounds journal
-  pub sizes_are : sizes ≡ sizes_of journal
+-- the sizes of the frames that the journal j of the run has sent in the rounds up to that number, in order
+unfoldable pub sizes_before : ℕ → List Entry → List ℕ
+sizes_before rounds [] = []
+sizes_before rounds (e ∷ past) = cond (nat_le e.round rounds) (sizes_before rounds past ++ size_sent e.act) (sizes_before rounds past)
 
 -- the rounds with what a line asks for: an event is a round by itself
 abbrev pub rounds_with : List (List Event) → Said → List (List Event)
 rounds_with rounds (Asks event) = (event ∷ []) ∷ rounds
 rounds_with rounds said = rounds
 
--- what one more line tells after what the lines before it told
-pub record Says (line : List ℕ) (before : Draft) (earlier : List (List Event)) (draft : Draft) (rounds : List (List Event)) : Type 0 where
-  pub sizes : List ℕ
-  pub sent : HasSent before earlier sizes
+-- what one more line tells after what the lines before it told: the frames that it may name are those that j has sent in the
+-- rounds before it, whatever j says of later ones
+pub record Says (j : List Entry) (line : List ℕ) (before : Draft) (earlier : List (List Event)) (draft : Draft) (rounds : List (List Event)) : Type 0 where
   pub said : Said
-  pub says : line_says before (length earlier) sizes line ≡ Ok said
+  pub says : line_says before (length earlier) (sizes_before (length earlier) j) line ≡ Ok said
   pub draft_is : draft ≡ said_after before said
   pub rounds_are : rounds ≡ rounds_with earlier said
 
 -- the line is refused there, for that fault
-pub record Refuses (line : List ℕ) (draft : Draft) (rounds : List (List Event)) (fault : Fault) : Type 0 where
-  pub sizes : List ℕ
-  pub sent : HasSent draft rounds sizes
-  pub says : line_says draft (length rounds) sizes line ≡ Err fault
+pub record Refuses (j : List Entry) (line : List ℕ) (draft : Draft) (rounds : List (List Event)) (fault : Fault) : Type 0 where
+  pub says : line_says draft (length rounds) (sizes_before (length rounds) j) line ≡ Err fault
 
--- the lines, the last first, tell this
-unfoldable pub Spells : List (List ℕ) → Draft → List (List Event) → Type 0
-Spells [] draft rounds = (draft ≡ AtVersion) × (rounds ≡ [])
-Spells (line ∷ lines) draft rounds =
-    (before : Draft) × ((earlier : List (List Event)) × (Spells lines before earlier × Says line before earlier draft rounds))
+-- the lines, the last first, tell this: one journal judges them all
+unfoldable pub Spells : List Entry → List (List ℕ) → Draft → List (List Event) → Type 0
+Spells j [] draft rounds = (draft ≡ AtVersion) × (rounds ≡ [])
+Spells j (line ∷ lines) draft rounds =
+    (before : Draft) × ((earlier : List (List Event)) × (Spells j lines before earlier × Says j line before earlier draft rounds))
 
 -- ---- lines in octets
 
@@ -119,16 +115,16 @@ Ends ended good line after text =
     ⊎ ((ended ≡ true) × ((after ≡ []) × ((text ≡ line) × ((line ≢ []) ⊎ (good ≡ [])))))
 
 -- a line that is at its end and not too long: one too many, or refused
-pub record IsWrong (ended : Bool) (good : List (List ℕ)) (line after : List ℕ) (draft : Draft) (rounds : List (List Event)) (fault : Fault) : Type 0 where
+pub record IsWrong (j : List Entry) (ended : Bool) (good : List (List ℕ)) (line after : List ℕ) (draft : Draft) (rounds : List (List Event)) (fault : Fault) : Type 0 where
   pub text : List ℕ
   pub ends : Ends ended good line after text
   pub short : length line ≤ most_octets
-  pub why : ((fault ≡ too_many) × (most_lines ≤ length good)) ⊎ ((length good < most_lines) × Refuses text draft rounds fault)
+  pub why : ((fault ≡ too_many) × (most_lines ≤ length good)) ⊎ ((length good < most_lines) × Refuses j text draft rounds fault)
 
 -- the line behind the good ones, which told this, is the first that is wrong
-pub record HasFault (octets : List ℕ) (ended : Bool) (good : List (List ℕ)) (draft : Draft) (rounds : List (List Event)) (fault : Fault) : Type 0 where
+pub record HasFault (j : List Entry) (octets : List ℕ) (ended : Bool) (good : List (List ℕ)) (draft : Draft) (rounds : List (List Event)) (fault : Fault) : Type 0 where
   pub line : List ℕ
   pub after : List ℕ
   pub begins : Begins octets good (line ++ after)
   pub open_line : NoFeed line
-  pub wrong : ((fault ≡ too_long) × (most_octets < length line)) ⊎ IsWrong ended good line after draft rounds fault
+  pub wrong : ((fault ≡ too_long) × (most_octets < length line)) ⊎ IsWrong j ended good line after draft rounds fault

@@ -14,5 +14,5 @@ pub record Reached (s : Session) (octets : List ℕ) (j : List Entry) : Type 0 w
   pub begins : Begins octets good s.line.items
   pub open_line : NoFeed s.line.items
   pub count : s.lines ≡ length good
-  pub spelled : Spells (texts good) draft rounds
+  pub spelled : Spells j (texts good) draft rounds
   pub stands : Stands s.stage draft rounds j

@@ -15,7 +15,7 @@ use Rattle.frame_script.specs.declared.reader.Step.TheVariants as step
 use Rattle.frame_script.specs.declared.reader.LineFault.{LineFault}
 use Rattle.frame_script.specs.declared.reader.LineFault.TheVariants.{Script, Limit, NoMemory}
 use Rattle.domain_cli.specs.declared.stage.Stage.{Stage}
-use Rattle.domain_cli.specs.Script.{IsJournal, Says, Refuses}
+use Rattle.domain_cli.specs.Script.{IsJournal, sizes_before, Says, Refuses}
 
 -- ---- a stage
 
@@ -111,15 +111,20 @@ DidRun (Some w) (Some v) draft j k asked = Owns v k × Did w v j k asked
 
 -- ---- what a line does
 
+-- in the rounds up to that number the new journal has sent the frames of the old one
+abbrev pub HasSame : ℕ → List Entry → List Entry → Type 0
+HasSame rounds j k = (m : ℕ) → m ≤ rounds → sizes_before m k ≡ sizes_before m j
+
 -- it is taken after what the lines before it told
-pub record TellsLine (line : List ℕ) (before : Draft) (earlier : List (List Event)) (s : Stage) (j : List Entry) : Type 0 where
+pub record TellsLine (line : List ℕ) (before : Draft) (earlier : List (List Event)) (s : Stage) (j k : List Entry) : Type 0 where
   pub draft : Draft
   pub rounds : List (List Event)
-  pub says : Says line before earlier draft rounds
-  pub stands : Stands s draft rounds j
+  pub same : HasSame (length earlier) j k
+  pub says : Says k line before earlier draft rounds
+  pub stands : Stands s draft rounds k
 
 -- or refused there
-abbrev pub RefusesLine : LineFault → List ℕ → Draft → List (List Event) → Type 0
-RefusesLine (Script reason) line draft rounds = Refuses line draft rounds (Outside reason)
-RefusesLine (Limit limit) line draft rounds = Refuses line draft rounds (Past limit)
-RefusesLine NoMemory line draft rounds = Unit {0}
+abbrev pub RefusesLine : LineFault → List Entry → List ℕ → Draft → List (List Event) → Type 0
+RefusesLine (Script reason) j line draft rounds = Refuses j line draft rounds (Outside reason)
+RefusesLine (Limit limit) j line draft rounds = Refuses j line draft rounds (Past limit)
+RefusesLine NoMemory j line draft rounds = Unit {0}

@@ -20,9 +20,9 @@ abbrev pub Stopped : Stop → List ℕ → List Entry → Type 0
 Stopped stop octets j = Tells (found_by stop) octets false j
 
 -- why a line stopped it, behind so many, after what they told
-abbrev pub StopsLine : Stop → ℕ → List ℕ → Draft → List (List Event) → Type 0
-StopsLine (Faulty number reason) lines line draft rounds =
-    (number ≡ suc lines) × ((lines < most_lines) × Refuses line draft rounds (Outside reason))
-StopsLine (Limit limit) lines line draft rounds =
-    ((Past limit ≡ too_many) × (most_lines ≤ lines)) ⊎ ((lines < most_lines) × Refuses line draft rounds (Past limit))
-StopsLine NoMemory lines line draft rounds = Unit {0}
+abbrev pub StopsLine : Stop → List Entry → ℕ → List ℕ → Draft → List (List Event) → Type 0
+StopsLine (Faulty number reason) j lines line draft rounds =
+    (number ≡ suc lines) × ((lines < most_lines) × Refuses j line draft rounds (Outside reason))
+StopsLine (Limit limit) j lines line draft rounds =
+    ((Past limit ≡ too_many) × (most_lines ≤ lines)) ⊎ ((lines < most_lines) × Refuses j line draft rounds (Past limit))
+StopsLine NoMemory j lines line draft rounds = Unit {0}

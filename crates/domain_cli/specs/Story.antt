@@ -12,9 +12,9 @@ use Rattle.domain_cli.specs.declared.status.Status.{Status}
 use Rattle.domain_cli.specs.declared.status.Status.TheVariants.{Done, Usage, Script, Limit, ReadFault, WriteFault, NoMemory}
 use Rattle.domain_cli.specs.Script.{Spells, IsJournal, NoFeed, Begins, IsScript, HasFault, most_octets, texts}
 
--- the lines tell these rounds, and the journal is theirs
+-- the lines tell these rounds, by the journal, and the journal is theirs
 pub record Explains (lines : List (List ℕ)) (draft : Draft) (rounds : List (List Event)) (j : List Entry) : Type 0 where
-  pub spelled : Spells lines draft rounds
+  pub spelled : Spells j lines draft rounds
   pub journal : IsJournal draft rounds j
 
 -- the whole script was read, and told the journal
@@ -32,7 +32,7 @@ pub record IsFaulty (fault : Fault) (number : ℕ) (octets : List ℕ) (ended : 
   pub draft : Draft
   pub rounds : List (List Event)
   pub number_is : number ≡ suc (length good)
-  pub is : HasFault octets ended good draft rounds fault
+  pub is : HasFault j octets ended good draft rounds fault
   pub explains : Explains (texts good) draft rounds j
 
 -- the source failed: all whole lines that were read told the journal, and the line behind them is not too long so far

@@ -78,7 +78,7 @@ fn take_line(
     ensures ready { OnOk result (IsReady stage.new (suc lines) journal.new.entries) }
     ensures few { OnOk result (lines < 65536) }
     ensures told { (draft : Draft) (rounds : List (List AnyEvent)) → Stands stage.old draft rounds journal.old.entries →
-        MatchResult result (λ _. TellsLine line.now draft rounds stage.new journal.new.entries) (λ stop. StopsLine stop lines line.now draft rounds) }
+        MatchResult result (λ _. TellsLine line.now draft rounds stage.new journal.old.entries journal.new.entries) (λ stop. StopsLine stop journal.old.entries lines line.now draft rounds) }
     ensures kept { OnErr result (journal.new.entries ≡ journal.old.entries) }
 {
     if lines >= MOST_LINES {

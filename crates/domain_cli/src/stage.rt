@@ -102,7 +102,7 @@ impl Stage {
         requires { IsReady self.old 65536 journal.old.entries }
         ensures ready { (lines : ℕ) → IsReady self.old lines journal.old.entries → OnOk result (IsReady self.new (suc lines) journal.new.entries) }
         ensures told { (draft : Draft) (rounds : List (List AnyEvent)) → Stands self.old draft rounds journal.old.entries →
-            MatchResult result (λ _. TellsLine line.now draft rounds self.new journal.new.entries) (λ fault. RefusesLine fault line.now draft rounds) }
+            MatchResult result (λ _. TellsLine line.now draft rounds self.new journal.old.entries journal.new.entries) (λ fault. RefusesLine fault journal.old.entries line.now draft rounds) }
         ensures kept { OnErr result (journal.new.entries ≡ journal.old.entries) }
     {
         let step = match self.reader.line(alloc, line, journal) {

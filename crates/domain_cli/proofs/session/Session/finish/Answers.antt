@@ -3,9 +3,11 @@ use Rattle.std.specs.Prelude.{◌==◌}
 use Rattle.std.proofs.lemmas.Bool.Decides.{nat_tests}
 use Rattle.std.proofs.lemmas.List.{nil_from_length}
 use Rattle.domain_cli.specs.declared.status.Found.{Found}
+use Rattle.domain_cli.specs.Script.{texts}
 use Rattle.domain_cli.specs.Stages.{TellsLine}
 use Rattle.domain_cli.specs.Stops.{StopsLine}
 use Rattle.domain_cli.specs.Story.{Tells}
+use Rattle.domain_cli.proofs.Sent.{Spells-more}
 use Rattle.domain_cli.proofs.Lines.{IsWhole-open, Tells-last}
 use Rattle.domain_cli.proofs.session.Session.finish.Goals.{else-is_empty-via-then-is_empty+else-self-gt0, else-is_empty-via-else-is_empty}
 use Rattle.domain_cli.proofs.session.Session.finish.Goals as goal
@@ -21,8 +23,9 @@ returns-in-Ok-clause-told c octets r =
       | else-is_empty-via-then-is_empty+else-self-gt0 w ↦ inr (nil_from_length r.good (omega (arith, r.count)))
       | else-is_empty-via-else-is_empty w ↦ inl (some_octets s.line.items _ s.line.ok.0 w.if-is_empty.ensures)
     ] in
-    let told = subst (λ (w : List ℕ). TellsLine w r.draft r.rounds c.take_line.new.stage c.take_line.new.journal.entries) c.deref.ensures.value (c.in-Ok.ensures.told r.draft r.rounds r.stands) in
-    IsWhole-open octets r.good s.line.items r.draft told.draft r.rounds told.rounds c.take_line.new.journal.entries r.begins r.open_line (omega (arith, s.short, s.line.ok.0)) (omega (arith, r.count, c.in-Ok.ensures.few)) some r.spelled told.says told.stands.journal
+    let told = subst (λ (w : List ℕ). TellsLine w r.draft r.rounds c.take_line.new.stage c.args.journal.now.entries c.take_line.new.journal.entries) c.deref.ensures.value (c.in-Ok.ensures.told r.draft r.rounds r.stands) in
+    IsWhole-open octets r.good s.line.items r.draft told.draft r.rounds told.rounds c.take_line.new.journal.entries r.begins r.open_line (omega (arith, s.short, s.line.ok.0)) (omega (arith, r.count, c.in-Ok.ensures.few)) some
+    (Spells-more c.args.journal.now.entries c.take_line.new.journal.entries (texts r.good) r.draft r.rounds told.same r.spelled) told.says told.stands.journal
 
 pub returns-in-Err-clause-told : goal.returns-in-Err-clause-told
 returns-in-Err-clause-told c octets r =
@@ -32,6 +35,6 @@ returns-in-Err-clause-told c octets r =
       | else-is_empty-via-then-is_empty+else-self-gt0 w ↦ inr (nil_from_length r.good (omega (arith, r.count)))
       | else-is_empty-via-else-is_empty w ↦ inl (some_octets s.line.items _ s.line.ok.0 w.if-is_empty.ensures)
     ] in
-    let stops = subst (λ (w : List ℕ). StopsLine c.in-Err.stop s.lines w r.draft r.rounds) c.deref.ensures.value (c.in-Err.ensures.told r.draft r.rounds r.stands) in
+    let stops = subst (λ (w : List ℕ). StopsLine c.in-Err.stop c.args.journal.now.entries s.lines w r.draft r.rounds) c.deref.ensures.value (c.in-Err.ensures.told r.draft r.rounds r.stands) in
     subst (λ (f : Found). Tells f octets true c.take_line.new.journal.entries) (sym c.found_of.ensures.found)
     (Tells-last c.in-Err.stop s.lines octets r.good s.line.items r.draft r.rounds c.args.journal.now.entries c.take_line.new.journal.entries r.begins r.open_line (omega (arith, s.short, s.line.ok.0)) r.count some r.spelled r.stands.journal stops c.in-Err.ensures.kept)
