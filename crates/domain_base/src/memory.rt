@@ -1,6 +1,6 @@
 //! Sources and sinks in memory: with a list of the calls that are to fail, and without.
 
-ghost use Rattle.std.specs.Prelude.{◌≡◌, ◌↔◌, ◌≤◌, ◌<◌, ◌-◌, ◌++◌, ◌⊎◌, min, length, take, [], Ok, Some, IsTrue, IfOk, IsErr, vec_len, vec_capacity};
+ghost use Rattle.std.specs.Prelude.{◌≡◌, ◌↔◌, ◌≤◌, ◌<◌, ◌-◌, ◌++◌, ◌⊎◌, min, length, take, [], Ok, Some, IsTrue, OnOk, IfOk, IsErr, vec_len, vec_capacity};
 ghost use Rattle.std.specs.Io.{ReadsAtMost, WritesAtMost};
 ghost use Rattle.std.specs.Io.KnownBytes.{ReadConsumes, WriteAppends};
 ghost use Rattle.domain_base.specs.Causes.{HasCause};
@@ -150,6 +150,7 @@ impl Source for MemSource {
         ensures bound { ReadsAtMost result buf.new }
         ensures bytes { ReadConsumes (Some self.old.left) (Some self.new.left) result buf.new }
         ensures cause { HasCause self.old.calls.faults self.new.calls.faults result }
+        ensures unfailed { OnOk result (self.new.calls.faults ≡ self.old.calls.faults) }
 
         ensures fails { IsErr result ↔ FailsNext self.old.calls }
         ensures calls { CountsCall self.old.calls self.new.calls result }
@@ -219,6 +220,7 @@ impl Sink for MemSink {
         ensures bound { WritesAtMost result piece.now }
         ensures bytes { WriteAppends (Some self.old.out) (Some self.new.out) result piece.now }
         ensures cause { HasCause self.old.calls.faults self.new.calls.faults result }
+        ensures unfailed { OnOk result (self.new.calls.faults ≡ self.old.calls.faults) }
 
         ensures fails { IsErr result ↔ (FailsNext self.old.calls ⊎ NoRoom self.old piece.now) }
         ensures calls { CountsCall self.old.calls self.new.calls result }

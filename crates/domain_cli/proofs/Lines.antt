@@ -1,6 +1,6 @@
 -- Octets of a script as lines, and what stops its reading.
 use Rattle.std.proofs.Common.{◌≡◌, ◌≢◌, ℕ, suc, ◌+◌, ◌*◌, ◌<◌, ◌≤◌, Bool, true, false, get_or, take, drop, List, [], ◌∷◌, ◌++◌, length, Option, Some, None, Ok, ◌⊎◌, refl, sym, ap, subst, ◌∙◌, append_assoc, inl, inr, arith}
-use Rattle.std.proofs.lemmas.List.{append-nil, length-append, take-append-drop, drop_more}
+use Rattle.std.proofs.lemmas.List.{append-nil, length-append, length-drop, take-append-drop, drop_more}
 use Rattle.std.proofs.lemmas.Bool.{false≢true}
 use Rattle.std.specs.Io.KnownBytes.{Consumes, Keeps}
 use Rattle.run_journal.specs.declared.domain.Event.{Event}
@@ -9,8 +9,8 @@ use Rattle.frame_script.specs.Script.{Fault, Outside, Past, Draft, AtVersion, li
 use Rattle.domain_cli.specs.declared.session.Stop.{Stop}
 use Rattle.domain_cli.specs.declared.session.Stop.TheVariants as stops
 use Rattle.domain_cli.specs.Script.{IsJournal, sizes_before, Says, Refuses, Spells, NoFeed, most_lines, most_octets, too_many, without_return, joined, texts, AreLines, Begins, Ends, IsWrong, HasFault}
-use Rattle.domain_cli.specs.Stops.{Stopped, StopsLine, found_by}
-use Rattle.domain_cli.specs.Story.{Explains, IsWhole, IsFaulty, IsPrefix, Tells}
+use Rattle.domain_cli.specs.Stops.{Stopped, StoppedBy, StopsLine, found_by}
+use Rattle.domain_cli.specs.Story.{Explains, IsWhole, IsFaulty, IsPrefix, Tells, most_read}
 
 -- ---- octets and lines
 
@@ -83,21 +83,31 @@ IsFaulty-more fault number octets more j f = record {
   explains = f.explains;
 }
 
-Stopped-more : (stop : Stop) (octets more : List ℕ) (j : List Entry) → Stopped stop octets j → Stopped stop (octets ++ more) j
-Stopped-more (stops.Faulty number reason) octets more j f = IsFaulty-more (Outside reason) number octets more j f
-Stopped-more (stops.Limit limit) octets more j (number, f) = (number, IsFaulty-more (Past limit) number octets more j f)
-Stopped-more stops.NoMemory octets more j p = record {
+Stopped-more : (most bound : ℕ) (stop : Stop) (octets more : List ℕ) (j : List Entry) → most + length more ≤ bound → Stopped most stop octets j → Stopped bound stop (octets ++ more) j
+Stopped-more most bound (stops.Faulty number reason) octets more j few f = IsFaulty-more (Outside reason) number octets more j f
+Stopped-more most bound (stops.Limit limit) octets more j few (number, f) = (number, IsFaulty-more (Past limit) number octets more j f)
+Stopped-more most bound stops.NoMemory octets more j few p = record {
   good = p.good;
-  rest = p.rest ++ more;
+  line = p.line;
+  after = p.after ++ more;
   draft = p.draft;
   rounds = p.rounds;
-  begins = Begins-more octets more p.good p.rest p.begins;
+  begins = subst (λ (w : List ℕ). Begins (octets ++ more) p.good w) (append_assoc p.line p.after more) (Begins-more octets more p.good (p.line ++ p.after) p.begins);
+  open_line = p.open_line;
+  short = p.short;
+  near = omega (arith, few, p.near, length-append p.after more);
   explains = p.explains;
 }
 
+-- what the reading then tells
+pub Tells-stopped : (stop : Stop) (octets : List ℕ) (ended : Bool) (j : List Entry) → StoppedBy most_read stop octets ended j → Tells (found_by stop) octets ended j
+Tells-stopped (stops.Faulty number reason) octets ended j s = s
+Tells-stopped (stops.Limit limit) octets ended j s = s
+Tells-stopped stops.NoMemory octets ended j s = s
+
 -- an octet too many
 pub Stopped-long : (octets : List ℕ) (octet : ℕ) (good : List (List ℕ)) (line : List ℕ) (draft : Draft) (rounds : List (List Event)) (j : List Entry) → Begins octets good line → NoFeed (line ++ octet ∷ []) → most_octets ≤ length line
-    → Spells j (texts good) draft rounds → IsJournal draft rounds j → Stopped (stops.Limit 2) (octets ++ octet ∷ []) j
+    → Spells j (texts good) draft rounds → IsJournal draft rounds j → Stopped 1 (stops.Limit 2) (octets ++ octet ∷ []) j
 Stopped-long octets octet good line draft rounds j b none long spelled journal = (
   suc (length good),
   record {
@@ -145,24 +155,28 @@ faulty fault number lines whole ended good line after text draft rounds j at cou
   explains = explains;
 }
 
-stopped_at : (stop : Stop) (lines : ℕ) (whole : List ℕ) (ended : Bool) (good : List (List ℕ)) (line after text : List ℕ) (draft : Draft) (rounds : List (List Event)) (j : List Entry) → IsAt whole ended good line after text → lines ≡ length good
-    → StopsLine stop j lines text draft rounds → Explains (texts good) draft rounds j → Tells (found_by stop) whole ended j
-stopped_at (stops.Faulty number reason) lines whole ended good line after text draft rounds j at count stops explains =
+stopped_at : (most : ℕ) (stop : Stop) (lines : ℕ) (whole : List ℕ) (ended : Bool) (good : List (List ℕ)) (line after text : List ℕ) (draft : Draft) (rounds : List (List Event)) (j : List Entry) → IsAt whole ended good line after text → lines ≡ length good
+    → length after ≤ most → StopsLine stop j lines text draft rounds → Explains (texts good) draft rounds j → StoppedBy most stop whole ended j
+stopped_at most (stops.Faulty number reason) lines whole ended good line after text draft rounds j at count near stops explains =
     faulty (Outside reason) number lines whole ended good line after text draft rounds j at count stops.0 (inr stops.1) explains
-stopped_at (stops.Limit limit) lines whole ended good line after text draft rounds j at count stops explains =
+stopped_at most (stops.Limit limit) lines whole ended good line after text draft rounds j at count near stops explains =
     (suc lines, faulty (Past limit) (suc lines) lines whole ended good line after text draft rounds j at count refl stops explains)
-stopped_at stops.NoMemory lines whole ended good line after text draft rounds j at count stops explains = record {
+stopped_at most stops.NoMemory lines whole ended good line after text draft rounds j at count near stops explains = record {
   good = good;
-  rest = line ++ after;
+  line = line;
+  after = after;
   draft = draft;
   rounds = rounds;
   begins = at.begins;
+  open_line = at.open_line;
+  short = at.short;
+  near = near;
   explains = explains;
 }
 
 -- before a line feed
 pub Stopped-line : (stop : Stop) (lines : ℕ) (octets : List ℕ) (good : List (List ℕ)) (line : List ℕ) (draft : Draft) (rounds : List (List Event)) (j k : List Entry) → Begins octets good line → NoFeed line → length line ≤ most_octets → lines ≡ length good
-    → Spells j (texts good) draft rounds → IsJournal draft rounds j → StopsLine stop j lines (without_return line) draft rounds → k ≡ j → Stopped stop (octets ++ 10 ∷ []) k
+    → Spells j (texts good) draft rounds → IsJournal draft rounds j → StopsLine stop j lines (without_return line) draft rounds → k ≡ j → Stopped 1 stop (octets ++ 10 ∷ []) k
 Stopped-line stop lines octets good line draft rounds j k b none short count spelled journal stops same =
     let at : IsAt (octets ++ 10 ∷ []) false good line (10 ∷ []) (without_return line) = record {
       begins = Begins-more octets (10 ∷ []) good line b;
@@ -170,8 +184,8 @@ Stopped-line stop lines octets good line draft rounds j k b none short count spe
       ends = inl (([], refl), refl);
       short = short;
     } in
-    subst (λ (x : List Entry). Stopped stop (octets ++ 10 ∷ []) x) (sym same)
-    (stopped_at stop lines (octets ++ 10 ∷ []) false good line (10 ∷ []) (without_return line) draft rounds j at count stops (record { spelled = spelled; journal = journal }))
+    subst (λ (x : List Entry). Stopped 1 stop (octets ++ 10 ∷ []) x) (sym same)
+    (stopped_at 1 stop lines (octets ++ 10 ∷ []) false good line (10 ∷ []) (without_return line) draft rounds j at count (omega arith) stops (record { spelled = spelled; journal = journal }))
 
 -- at the end of the source
 pub Tells-last : (stop : Stop) (lines : ℕ) (octets : List ℕ) (good : List (List ℕ)) (line : List ℕ) (draft : Draft) (rounds : List (List Event)) (j k : List Entry) → Begins octets good line → NoFeed line → length line ≤ most_octets → lines ≡ length good
@@ -183,8 +197,9 @@ Tells-last stop lines octets good line draft rounds j k b none short count some 
       ends = inr (refl, (refl, (refl, some)));
       short = short;
     } in
-    subst (λ (x : List Entry). Tells (found_by stop) octets true x) (sym same)
-    (stopped_at stop lines octets true good line [] line draft rounds j at count stops (record { spelled = spelled; journal = journal }))
+    Tells-stopped stop octets true k
+    (subst (λ (x : List Entry). StoppedBy most_read stop octets true x) (sym same)
+    (stopped_at most_read stop lines octets true good line [] line draft rounds j at count (omega arith) stops (record { spelled = spelled; journal = journal })))
 
 -- ---- whole scripts
 
@@ -243,19 +258,25 @@ around before octets i octet within is =
     ∙ ap (λ (w : List ℕ). before ++ (take i octets ++ w)) (ap (λ (o : ℕ). o ∷ drop (i + 1) octets) (sym is) ∙ sym (drop_more octets i 0 within))
     ∙ ap (λ (w : List ℕ). before ++ w) (take-append-drop i octets)
 
-pub Stopped-around : (stop : Stop) (before octets : List ℕ) (i octet : ℕ) (j : List Entry) → i < length octets → get_or octets i 0 ≡ octet → Stopped stop ((before ++ take i octets) ++ octet ∷ []) j → Stopped stop (before ++ octets) j
-Stopped-around stop before octets i octet j within is s =
-    subst (λ (w : List ℕ). Stopped stop w j) (around before octets i octet within is) (Stopped-more stop ((before ++ take i octets) ++ octet ∷ []) (drop (i + 1) octets) j s)
+pub Stopped-around : (most : ℕ) (stop : Stop) (before octets : List ℕ) (i octet : ℕ) (j : List Entry) → i < length octets → length octets ≤ most → get_or octets i 0 ≡ octet → Stopped 1 stop ((before ++ take i octets) ++ octet ∷ []) j
+    → Stopped most stop (before ++ octets) j
+Stopped-around most stop before octets i octet j within few is s =
+    subst (λ (w : List ℕ). Stopped most stop w j) (around before octets i octet within is)
+    (Stopped-more 1 most stop ((before ++ take i octets) ++ octet ∷ []) (drop (i + 1) octets) j (omega (arith, length-drop {A = ℕ}, within, few)) s)
 
 -- before any octet
-pub nothing_yet : (j : List Entry) → j ≡ [] → IsPrefix [] j
+pub nothing_yet : (j : List Entry) → j ≡ [] → IsPrefix most_read [] j
 unfolding Spells joined AreLines
 nothing_yet j empty = record {
   good = [];
-  rest = [];
+  line = [];
+  after = [];
   draft = AtVersion;
   rounds = [];
   begins = record { whole = refl; each = tt };
+  open_line = tt;
+  short = omega arith;
+  near = omega arith;
   explains = record { spelled = (refl, refl); journal = (refl, empty) };
 }
 

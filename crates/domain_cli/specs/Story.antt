@@ -1,5 +1,5 @@
 -- What a whole run did: the journal by the octets read, and the octets written by the journal.
-use Rattle.std.specs.Prelude.{◌≡◌, ◌≤◌, ℕ, suc, List, Bool, true, Option, length}
+use Rattle.std.specs.Prelude.{◌≡◌, ◌≤◌, ℕ, suc, List, Bool, true, Option, length, ◌++◌}
 use Rattle.std.specs.Io.KnownBytes.{Consumes, IsAtEnd, Appends}
 use Rattle.domain_base.specs.Causes.{AppendsPart}
 use Rattle.run_journal.specs.declared.domain.Event.{Event}
@@ -46,13 +46,22 @@ pub record IsCut (octets : List ℕ) (j : List Entry) : Type 0 where
   pub short : length rest ≤ most_octets
   pub explains : Explains (texts good) draft rounds j
 
--- memory ran out: some lines at the front told the journal
-pub record IsPrefix (octets : List ℕ) (j : List Entry) : Type 0 where
+-- a read asks for so many octets
+abbrev pub most_read : ℕ
+most_read = 512
+
+-- memory ran out over a line, or before the first: all lines before it told the journal, and behind it at most so many octets
+-- were read, its line feed among them
+pub record IsPrefix (most : ℕ) (octets : List ℕ) (j : List Entry) : Type 0 where
   pub good : List (List ℕ)
-  pub rest : List ℕ
+  pub line : List ℕ
+  pub after : List ℕ
   pub draft : Draft
   pub rounds : List (List Event)
-  pub begins : Begins octets good rest
+  pub begins : Begins octets good (line ++ after)
+  pub open_line : NoFeed line
+  pub short : length line ≤ most_octets
+  pub near : length after ≤ most
   pub explains : Explains (texts good) draft rounds j
 
 -- the journal at the end of the reading, by the octets read
@@ -61,7 +70,7 @@ Tells found.Whole octets ended j = IsWhole octets ended j
 Tells (found.Faulty number reason) octets ended j = IsFaulty (Outside reason) number octets ended j
 Tells (found.Limit which) octets ended j = (number : ℕ) × IsFaulty (Past which) number octets ended j
 Tells found.ReadFault octets ended j = IsCut octets j
-Tells found.NoMemory octets ended j = IsPrefix octets j
+Tells found.NoMemory octets ended j = IsPrefix most_read octets j
 
 -- the status when all went out that was to be written
 abbrev pub status_of : Found → Status
@@ -83,7 +92,7 @@ Reports found_ (Script number reason) j text old new = (status_of found_ ≡ Scr
 Reports found_ (Limit which) j text old new = (status_of found_ ≡ Limit which) × Appends old new text
 Reports found_ ReadFault j text old new = (status_of found_ ≡ ReadFault) × Appends old new text
 Reports found_ WriteFault j text old new = AppendsPart old new text
-Reports found_ NoMemory j text old new = (status_of found_ ≡ NoMemory) × AppendsPart old new text
+Reports found_ NoMemory j text old new = (status_of found_ ≡ NoMemory) × Appends old new text
 Reports found_ Usage j text old new = ⊥
 
 -- a run that was asked for

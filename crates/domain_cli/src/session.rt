@@ -1,13 +1,13 @@
 //! A script, octet by octet.
 
-ghost use Rattle.std.specs.Prelude.{◌≡◌, ◌≢◌, ◌≤◌, ◌+◌, ◌<◌, ◌++◌, ◌∷◌, [], suc, ℕ, List, MatchResult, OnOk, OnErr, vec_len, vec_capacity, IfOk, true};
+ghost use Rattle.std.specs.Prelude.{◌≡◌, ◌≢◌, ◌≤◌, ◌+◌, ◌<◌, ◌++◌, ◌∷◌, [], suc, ℕ, List, MatchResult, OnOk, OnErr, vec_len, vec_capacity, length, IfOk, true};
 ghost use Rattle.run_journal.specs.declared.acts.Entry.{Entry as AnyEntry};
 ghost use Rattle.run_journal.specs.declared.domain.Event.{Event as AnyEvent};
 ghost use Rattle.frame_script.specs.Script.{Draft};
 ghost use Rattle.domain_cli.specs.Script.{without_return};
 ghost use Rattle.domain_cli.specs.Stages.{Stands, IsReady, TellsLine};
 ghost use Rattle.domain_cli.specs.Stops.{Stopped, StopsLine, found_by};
-ghost use Rattle.domain_cli.specs.Story.{Tells};
+ghost use Rattle.domain_cli.specs.Story.{Tells, most_read};
 
 use crate::stage::Stage;
 use crate::status::Found;
@@ -113,7 +113,7 @@ impl Session {
         requires { octet ≢ 10 }
         ensures same { (self.new.lines ≡ self.old.lines) × (self.new.stage ≡ self.old.stage) }
         ensures reached { (octets : List ℕ) (j : List AnyEntry) → Reached self.old octets j →
-            MatchResult result (λ _. Reached self.new (octets ++ octet ∷ []) j) (λ stop. Stopped stop (octets ++ octet ∷ []) j) }
+            MatchResult result (λ _. Reached self.new (octets ++ octet ∷ []) j) (λ stop. Stopped 1 stop (octets ++ octet ∷ []) j) }
     {
         if self.line.len() >= MOST_OCTETS {
             return Err(Stop::Limit(OCTETS));
@@ -129,7 +129,7 @@ impl Session {
         requires { IsReady self.old.stage self.old.lines journal.old.entries }
         ensures ready { OnOk result (IsReady self.new.stage self.new.lines journal.new.entries) }
         ensures reached { (octets : List ℕ) → Reached self.old octets journal.old.entries →
-            MatchResult result (λ _. Reached self.new (octets ++ 10 ∷ []) journal.new.entries) (λ stop. Stopped stop (octets ++ 10 ∷ []) journal.new.entries) }
+            MatchResult result (λ _. Reached self.new (octets ++ 10 ∷ []) journal.new.entries) (λ stop. Stopped 1 stop (octets ++ 10 ∷ []) journal.new.entries) }
     {
         let text = without_return(&self.line);
         if let Err(stop) = take_line(&mut self.stage, alloc, self.lines, text, journal) {
@@ -145,7 +145,7 @@ impl Session {
         requires { IsReady self.old.stage self.old.lines journal.old.entries }
         ensures ready { OnOk result (IsReady self.new.stage self.new.lines journal.new.entries) }
         ensures reached { (before : List ℕ) → Reached self.old before journal.old.entries →
-            MatchResult result (λ _. Reached self.new (before ++ octet ∷ []) journal.new.entries) (λ stop. Stopped stop (before ++ octet ∷ []) journal.new.entries) }
+            MatchResult result (λ _. Reached self.new (before ++ octet ∷ []) journal.new.entries) (λ stop. Stopped 1 stop (before ++ octet ∷ []) journal.new.entries) }
     {
         if octet == b'\n' {
             self.end_line(alloc, journal)
@@ -154,12 +154,13 @@ impl Session {
         }
     }
 
-    /// Takes octets as they come.
+    /// Takes the octets of one read.
     pub fn feed(&mut self, alloc: Global, octets: &[u8], journal: &mut Journal) -> Result<(), Stop>
-        requires { IsReady self.old.stage self.old.lines journal.old.entries }
+        requires ready { IsReady self.old.stage self.old.lines journal.old.entries }
+        requires few { length octets.now ≤ most_read }
         ensures ready { OnOk result (IsReady self.new.stage self.new.lines journal.new.entries) }
         ensures reached { (before : List ℕ) → Reached self.old before journal.old.entries →
-            MatchResult result (λ _. Reached self.new (before ++ octets.now) journal.new.entries) (λ stop. Stopped stop (before ++ octets.now) journal.new.entries) }
+            MatchResult result (λ _. Reached self.new (before ++ octets.now) journal.new.entries) (λ stop. Stopped most_read stop (before ++ octets.now) journal.new.entries) }
     {
         for octet in octets {
             if let Err(stop) = self.take(alloc, *octet, journal) {

@@ -42,6 +42,7 @@ fn write_summary<K: Sink>(sink: &mut K, entries: &[Entry], premises: Premises) -
     ensures ok { OnOk result (Appends (K.out sink.old) (K.out sink.new) (summary (reverse entries.now) premises)) }
     ensures err { OnErr result (AppendsPart (K.out sink.old) (K.out sink.new) (summary (reverse entries.now) premises)) }
     ensures cause { HasCause (K.faults sink.old) (K.faults sink.new) result }
+    ensures unfailed { OnOk result (K.faults sink.new ≡ K.faults sink.old) }
 {
     let mut text = [0; SUMMARY_ROOM];
     let count = summary_of(entries, premises, &mut text);
@@ -54,6 +55,7 @@ fn write_whole<K: Sink>(sink: &mut K, journal: &Journal) -> Result<(), Failed>
         (λ _. Appends (K.out sink.old) (K.out sink.new) text)
         (λ _. AppendsPart (K.out sink.old) (K.out sink.new) text) }
     ensures cause { HasCause (K.faults sink.old) (K.faults sink.new) result }
+    ensures unfailed { OnOk result (K.faults sink.new ≡ K.faults sink.old) }
 {
     let entries = journal.entries();
     let premises = journal.premises();
@@ -72,6 +74,7 @@ fn write_text<K: Sink>(sink: &mut K, journal: &Journal, found: Found) -> Result<
         (λ _. Appends (K.out sink.old) (K.out sink.new) text)
         (λ _. AppendsPart (K.out sink.old) (K.out sink.new) text) }
     ensures cause { HasCause (K.faults sink.old) (K.faults sink.new) result }
+    ensures unfailed { OnOk result (K.faults sink.new ≡ K.faults sink.old) }
 {
     match found {
         Found::Whole => write_whole(sink, journal),
@@ -86,6 +89,8 @@ fn report<K: Sink>(sink: &mut K, journal: &Journal, found: Found) -> Status
     ensures reports { (text : List ℕ) × IsText found journal.now.entries text × Reports found result journal.now.entries text (K.out sink.old) (K.out sink.new) }
     ensures write_fault { result ≡ Status.WriteFault → Rose (K.faults sink.old) (K.faults sink.new) }
     ensures read_fault { result ≡ Status.ReadFault → found ≡ Found.ReadFault }
+    ensures write_told { K.faults sink.new ≢ K.faults sink.old → result ≡ Status.WriteFault }
+    ensures read_told { found ≡ Found.ReadFault → ¬ Rose (K.faults sink.old) (K.faults sink.new) → result ≡ Status.ReadFault }
     ensures asked { result ≢ Status.Usage }
 {
     match write_text(sink, journal, found) {
@@ -122,6 +127,10 @@ pub fn run<R: Threads + Sync, S: Source, K: Sink, A: Air, D: Draws>(
     ensures safe { Fresh journal.new.entries → NoCollision journal.new.entries → Unforged journal.new.entries → Safe journal.new.entries }
     ensures read_fault { result ≡ Status.ReadFault → Rose (S.faults source.old) (S.faults source.new) }
     ensures write_fault { result ≡ Status.WriteFault → Rose (K.faults sink.old) (K.faults sink.new) }
+    // A fault that happened is told: where the sink's count is not what it was, whatever else was found, and where the source's is
+    // not and the sink did not fail.
+    ensures write_told { K.faults sink.new ≢ K.faults sink.old → result ≡ Status.WriteFault }
+    ensures read_told { S.faults source.new ≢ S.faults source.old → ¬ Rose (K.faults sink.old) (K.faults sink.new) → result ≡ Status.ReadFault }
     // Where neither source nor sink failed, a run that was asked for is done, has a fault of its script, goes past a limit, or
     // lacks memory.
     ensures complete { map (λ w. w.now) words.now ≡ codes "replay" ∷ [] → ¬ Rose (S.faults source.old) (S.faults source.new)

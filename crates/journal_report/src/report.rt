@@ -1,6 +1,6 @@
 //! The lines of a run, given to a sink.
 
-ghost use Rattle.std.specs.Prelude.{◌≤◌, length, reverse, OnErr, OnOk};
+ghost use Rattle.std.specs.Prelude.{◌≡◌, ◌≤◌, length, reverse, OnErr, OnOk};
 ghost use Rattle.std.specs.Io.KnownBytes.{Appends};
 ghost use Rattle.domain_base.specs.Causes.{AppendsPart, HasCause};
 ghost use Rattle.run_journal.specs.Report.{hex, line, lines};
@@ -24,6 +24,7 @@ pub fn write_lines<K: Sink>(entries: &[Entry], sink: &mut K) -> Result<(), Faile
     ensures ok { OnOk result (Appends (K.out sink.old) (K.out sink.new) (lines (reverse entries.now))) }
     ensures err { OnErr result (AppendsPart (K.out sink.old) (K.out sink.new) (lines (reverse entries.now))) }
     ensures cause { HasCause (K.faults sink.old) (K.faults sink.new) result }
+    ensures unfailed { OnOk result (K.faults sink.new ≡ K.faults sink.old) }
 {
     let mut buffer = [0; BUFFER];
     for entry in entries {
@@ -38,6 +39,7 @@ fn write_line<K: Sink>(entry: &Entry, buffer: &mut [u8], sink: &mut K) -> Result
     ensures ok { OnOk result (Appends (K.out sink.old) (K.out sink.new) (line entry.now)) }
     ensures err { OnErr result (AppendsPart (K.out sink.old) (K.out sink.new) (line entry.now)) }
     ensures cause { HasCause (K.faults sink.old) (K.faults sink.new) result }
+    ensures unfailed { OnOk result (K.faults sink.new ≡ K.faults sink.old) }
 {
     if line_fits(entry, buffer.len()) {
         let count = line_of(entry, buffer);
@@ -66,6 +68,7 @@ fn write_hex<K: Sink>(octets: &[u8], buffer: &mut [u8], sink: &mut K) -> Result<
     ensures ok { OnOk result (Appends (K.out sink.old) (K.out sink.new) (hex octets.now)) }
     ensures err { OnErr result (AppendsPart (K.out sink.old) (K.out sink.new) (hex octets.now)) }
     ensures cause { HasCause (K.faults sink.old) (K.faults sink.new) result }
+    ensures unfailed { OnOk result (K.faults sink.new ≡ K.faults sink.old) }
 {
     let mut rest = octets;
     while !rest.is_empty() {

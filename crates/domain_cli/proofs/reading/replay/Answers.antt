@@ -1,9 +1,9 @@
-use Rattle.std.proofs.Common.{◌<◌, ◌++◌, [], false, true, take, length, arith, subst, sym}
+use Rattle.std.proofs.Common.{◌<◌, ◌++◌, ◌∙◌, [], false, true, take, length, arith, subst, sym}
 use Rattle.std.proofs.lemmas.Bool.{false≢true}
 use Rattle.std.proofs.lemmas.List.{length-append}
 use Rattle.domain_cli.specs.declared.status.Found.{Found}
 use Rattle.domain_cli.specs.Story.{Tells}
-use Rattle.domain_cli.proofs.Lines.{Consumes-nil, Consumes-then, Consumes-none, Consumes-kept, length-read, nothing_yet}
+use Rattle.domain_cli.proofs.Lines.{Consumes-nil, Consumes-then, Consumes-none, Consumes-kept, Tells-stopped, length-read, nothing_yet}
 use Rattle.domain_cli.proofs.reading.replay.Goals as goal
 
 pub returns-in_default-clause-told : goal.returns-in_default-clause-told
@@ -55,7 +55,8 @@ returns-in-Err-clause-told g c =
       false,
       Consumes-then _ _ _ so_far.0 piece so_far.1 c.in-Ok-read.ensures.bytes.0,
       λ e. absurd (false≢true e),
-      subst (λ (f : Found). Tells f (so_far.0 ++ piece) false c.feed.new.journal.entries) (sym c.found_of.ensures.found) (c.in-Err.ensures.reached so_far.0 so_far.2),
+      subst (λ (f : Found). Tells f (so_far.0 ++ piece) false c.feed.new.journal.entries) (sym c.found_of.ensures.found)
+          (Tells-stopped c.in-Err.stop (so_far.0 ++ piece) false c.feed.new.journal.entries (c.in-Err.ensures.reached so_far.0 so_far.2)),
     )
 
 pub reads-smaller : goal.reads-smaller
@@ -71,7 +72,7 @@ reads-preserved g c =
     let piece = take c.in-Ok-read.count c.read.new.buf in
     record {
       ready = c.in_default-feed.ensures.ready;
-      later = omega (arith, c.in-Ok-read.ensures.cause.later, c.reads.invariant.later);
+      same = c.in-Ok-read.ensures.unfailed ∙ c.reads.invariant.same;
       room = omega (arith, c.read.auto.buf, c.reads.invariant.room);
       reached = (so_far.0 ++ piece, Consumes-then _ _ _ so_far.0 piece so_far.1 c.in-Ok-read.ensures.bytes.0, c.in_default-feed.ensures.reached so_far.0 so_far.2, omega (arith, so_far.3, length-append so_far.0 piece, c.in-Ok-read.ensures.bound.1));
     }

@@ -1,4 +1,4 @@
-use Rattle.std.proofs.Common.{◌≡◌, ◌-◌, ◌≤◌, List, ℕ, length}
+use Rattle.std.proofs.Common.{◌≡◌, ◌-◌, List, ℕ, length}
 use Rattle.std.specs.Io.KnownBytes.{Consumes}
 use Rattle.domain_cli.specs.Stages.{IsReady}
 use Rattle.domain_cli.specs.Sessions.{Reached}
@@ -8,7 +8,7 @@ use Rattle.domain_cli.proofs.reading.replay.Given as goal
 abbrev pub invariant-reads : goal.invariant-reads
 invariant-reads g l = record {
   ready : IsReady l.session.stage l.session.lines l.journal.entries;
-  later : g.S.Source.faults l.fn.source ≤ g.S.Source.faults l.source;
+  same : g.S.Source.faults l.source ≡ g.S.Source.faults l.fn.source;
   room : length l.piece ≡ 512;
   reached : (octets : List ℕ) × Consumes (g.S.Source.left l.fn.source) (g.S.Source.left l.source) octets × Reached l.session octets l.journal.entries × (l.total ≡ length octets);
 }

@@ -8,4 +8,4 @@ returns-in-Faulty g c =
     let j = c.args.journal.now.entries in
     let all = simp (c.entries.ensures, reverse-reverse) at c.write_lines.ensures.ok in
     let part = simp (c.entries.ensures, reverse-reverse) at c.write_lines.ensures.err in
-    record { written = (lines j, lines_alone c.args.found j c.in-Faulty.is, either_way c.write_lines.result _ _ all part); cause = c.write_lines.ensures.cause }
+    record { written = (lines j, lines_alone c.args.found j c.in-Faulty.is, either_way c.write_lines.result _ _ all part); cause = c.write_lines.ensures.cause; unfailed = c.write_lines.ensures.unfailed }

@@ -1,4 +1,4 @@
-use Rattle.std.proofs.Common.{List, ℕ, sym, subst, arith}
+use Rattle.std.proofs.Common.{List, ℕ, sym, subst, ◌∙◌}
 use Rattle.std.specs.Io.KnownBytes.{Appends}
 use Rattle.domain_base.specs.Causes.{AppendsPart}
 use Rattle.domain_base.proofs.Taken.{OnErr-always}
@@ -12,7 +12,7 @@ loop-rest-preserved g c =
       gone = digits-step _ _ _ c.args.octets.now gone.0 c.loop-rest.rest.now c.split_at.result.0.now c.split_at.result.1.now
           gone.1.0 (sym c.split_at.ensures.by_index.0) gone.1.1
           (subst (λ (w : List ℕ). Appends (g.K.Sink.out c.loop-rest.sink) (g.K.Sink.out c.write_all.new.sink) w) c.put_hex-count.ensures.written.front c.in_ok-write_all.ensures.ok);
-      later = omega (arith, c.in_ok-write_all.ensures.cause.later, c.loop-rest.invariant.later);
+      same = c.in_ok-write_all.ensures.unfailed ∙ c.loop-rest.invariant.same;
     }
 
 pub returns-in_err-write_all-clause-err : goal.returns-in_err-write_all-clause-err
