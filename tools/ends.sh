@@ -36,31 +36,84 @@ judge() { # NUMBER SAYS WRITES ENDED NAME
 }
 
 stored=crates/kehtrop
-usage="usage: replay < SCRIPT"
 none=/dev/null
+usage="usage: kehtrop replay < SCRIPT
+
+  replay    runs the script on standard input, and writes its report to standard output
+
+The program ends with
+  0  done
+  1  these words are no command
+  2  a line of the script is refused
+  3  the script could not be read
+  4  the report could not be written
+  5  out of memory
+  8  a line of the script goes past a limit
+
+Example:
+  printf 'domain 1\\n' | kehtrop replay"
 ends 0 "" "$stored/stdout" "$stored/stdin" replay
+
+# The example of the usage.
+printf 'domain 1\n' > "$work/least"
+printf 'end frames 0 accepted 0 answered 0 refused 0 ignored 0\nkeys installed 0 resumed 0 used 0 handed-up 0\npremises fresh yes no-collision yes unforged yes\n' > "$work/nothing"
+ends 0 "" "$work/nothing" "$work/least" replay
 
 ends 1 "$usage" $none $none
 ends 1 "$usage" $none $none frob
 ends 1 "$usage" $none $none replay replay
 ends 1 "$usage" $none $none $'\xff'
 
-printf 'domain 2\n' > "$work/version"
-ends 2 'line 1: the first line is not "domain 1"' $none "$work/version" replay
+# The lines before the one at fault, and what they write.
 printf 'domain 1\nseed %064x\nssid net\npassphrase password\nakm psk\nap 0200000000aa r0kh-1\nsta 0200000000bb\n' 7 > "$work/header"
 printf 'install a1 all gtk 1\n' > "$work/started"
-(cat "$work/header"; printf 'deliver 1 to a1\n') > "$work/unsent"
-ends 2 'line 8: no such frame was sent' "$work/started" "$work/unsent" replay
-(cat "$work/header"; printf 'connect s2 a1\n') > "$work/unlisted"
-ends 2 'line 8: no such node, or a node of the other kind' "$work/started" "$work/unlisted" replay
-(cat "$work/header"; printf 'conect s1 a1') > "$work/misspelled"
-ends 2 'line 8: no such word here' "$work/started" "$work/misspelled" replay
+printf 'install a1 all gtk 1\nopen s1 a1 connect\nsent 1 s1 a1 assoc-req 61\n' > "$work/begun"
+# One case: the first lines of the script, the line behind them, the text without the number of the line, and what is written.
+refuses() { # LINES LINE TEXT WRITES
+    (head -n "$1" "$work/header"; printf '%s\n' "$2") > "$work/script"
+    ends 2 "line $(($1 + 1)): $3" "$4" "$work/script" replay
+}
+any="that of ap, sta, connect, deliver, alter, cut, inject or retry"
+later="that of sta, connect, deliver, alter, cut, inject or retry"
+events="that of connect, deliver, alter, cut, inject or retry"
+key="passphrase <8 to 63 octets> or psk <64 digits>"
+refuses 0 "domain 2" "not the first line of a script; the form is domain 1" $none
+refuses 1 "seed draw" "the seed is drawn in a live run only; the form is seed <64 digits>" $none
+refuses 1 "seed 00" "wrong arguments; the form is seed <64 digits>" $none
+refuses 2 "sid net" "no such word here; the form is ssid <1 to 32 octets>" $none
+refuses 3 "key 00" "no such word here; the form is $key" $none
+refuses 3 "psk 00" "wrong arguments; the form is psk <64 digits>" $none
+refuses 3 "passphrase 1234567" "wrong arguments; the form is passphrase <8 to 63 octets>" $none
+refuses 4 "akm ft-psk" "wrong arguments; the form is akm <psk or psk-sha256>" $none
+refuses 5 "ap 0200000000aa" "wrong arguments; the form is ap <12 digits> <R0KH-ID of 1 to 48 octets>" $none
+refuses 5 "turn" "no such word here; the form is $any" $none
+refuses 6 "sta 0200000000aa" "address or R0KH-ID used before; the form is sta <12 digits>" "$work/started"
+refuses 7 "ap 0200000000cc r0kh-2" "no such word here; the form is $later" "$work/started"
+refuses 7 "conect s1 a1" "no such word here; the form is $later" "$work/started"
+refuses 7 "connect s2 a1" "no such node, or a node of the other kind; the form is connect <sta> <ap>" "$work/started"
+refuses 7 "retry s1 a1" "no such node, or a node of the other kind; the form is retry <ap> <sta>" "$work/started"
+refuses 7 "deliver 1 to a1" "no such frame was sent; the form is deliver <n> to <node>" "$work/started"
+refuses 7 "inject a1 0" "wrong arguments; the form is inject <node> <digits>" "$work/started"
+printf 'connect s1 a1\n' >> "$work/header"
+refuses 8 "deliver 1 too a1" "wrong arguments; the form is deliver <n> to <node>" "$work/begun"
+refuses 8 "alter 1 61 01 to a1" "place or length outside the frame; the form is alter <n> <place> <2 digits> to <node>" "$work/begun"
+refuses 8 "cut 1 62 to a1" "place or length outside the frame; the form is cut <n> <length> to <node>" "$work/begun"
+refuses 8 "sta 0200000000cc" "no such word here; the form is $events" "$work/begun"
 
 # A folder can be opened as standard input, and not read.
 ends 3 "the script could not be read" $none / replay
 
-(cat "$work/header"; printf '#%8192s\n' "") > "$work/long"
+(head -n 7 "$work/header"; printf '#%8192s\n' "") > "$work/long"
 ends 8 "a line of more than 8192 octets" "$work/started" "$work/long" replay
+(head -n 7 "$work/header"; printf 'inject a1 %04802d\n' 0) > "$work/long"
+ends 8 "an injected frame of more than 2400 octets" "$work/started" "$work/long" replay
+(head -n 5 "$work/header"; printf 'ap 0200000001%02x %d\n' $(for n in {1..17}; do echo $n $n; done)) > "$work/many"
+printf 'install a%d all gtk 1\n' {1..16} > "$work/sixteen"
+ends 8 "more than 16 access points" "$work/sixteen" "$work/many" replay
+(head -n 6 "$work/header"; printf 'sta 0200000002%02x\n' {1..65}) > "$work/many"
+ends 8 "more than 64 stations" "$work/started" "$work/many" replay
+(echo domain 1; printf '#\n%.0s' {1..65536}) > "$work/many"
+ends 8 "more than 65536 lines" $none "$work/many" replay
 
 # A device that takes no octet; what it got is not looked at.
 if [ -c /dev/full ]; then

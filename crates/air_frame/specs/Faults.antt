@@ -29,6 +29,13 @@ begins_eapol octets = starts_with nat_eq (drop (data_header_length octets) octet
 abbrev pub has_ext_iv : List ℕ → Bool
 has_ext_iv octets = bit_at (slice_index octets (data_header_length octets + 3)) 5 == 1
 
+abbrev pub body_fault : List ℕ → Option AirFault
+body_fault octets =
+    if not (is_protected octets) && not (begins_eapol octets) then Some (OutOfProfile 18)
+    else if is_protected octets && nat_lt (length octets) (data_header_length octets + 16) then Some (Body (data_header_length octets))
+    else if is_protected octets && not (has_ext_iv octets) then Some (OutOfProfile 20)
+    else None
+
 abbrev pub data_fault : List ℕ → Option AirFault
 data_fault octets =
     if nat_lt (length octets) (data_header_length octets) then Some (Short (length octets))
@@ -37,10 +44,7 @@ data_fault octets =
     else if has_ht_control octets then Some (OutOfProfile 15)
     else if not (fragment_number octets == 0) then Some (OutOfProfile 16)
     else if has_a_msdu octets then Some (OutOfProfile 17)
-    else if not (is_protected octets) && not (begins_eapol octets) then Some (OutOfProfile 18)
-    else if is_protected octets && nat_lt (length octets) (data_header_length octets + 16) then Some (Body (data_header_length octets))
-    else if is_protected octets && not (has_ext_iv octets) then Some (OutOfProfile 20)
-    else None
+    else body_fault octets
 
 abbrev pub air_fault : List ℕ → Option AirFault
 air_fault octets =

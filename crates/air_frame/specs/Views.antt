@@ -19,3 +19,10 @@ fields_of (ReResp f) = re_resp (header_of f.header) f.capability f.status f.aid 
 fields_of (Eapol f) = eapol (header_of f.header) f.direction f.tid f.body.now
 fields_of (Protected f) = protected (header_of f.header) f.direction f.tid f.body.now
 fields_of Ignored = ignored
+
+-- a management frame
+abbrev pub IsManagement : AirFrame → Type 0
+IsManagement (Eapol f) = ⊥
+IsManagement (Protected f) = ⊥
+IsManagement Ignored = ⊥
+IsManagement _ = Unit {0}

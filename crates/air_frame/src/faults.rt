@@ -2,7 +2,7 @@
 
 ghost use Rattle.std.specs.Prelude.{◌≡◌, ◌≤◌, ◌+◌, ◌&&◌, ◌||◌, not, nat_lt, length};
 ghost use Rattle.air_frame.specs.Control.{is_to_ds, is_from_ds, data_header_length};
-ghost use Rattle.air_frame.specs.Faults.{fixed_length, management_fault, begins_eapol, has_ext_iv, data_fault, air_fault};
+ghost use Rattle.air_frame.specs.Faults.{fixed_length, management_fault, begins_eapol, has_ext_iv, body_fault, data_fault, air_fault};
 
 use crate::control::{
     FROM_DS, HT_CONTROL, MORE_FRAGMENTS, PROTECTED, TO_DS, data_header_length, fragment,
@@ -84,18 +84,33 @@ fn is_short_sealed(octets: &[u8]) -> bool
     octets.len() < data_header_length(octets) + 16
 }
 
+// What of the body of a data frame is not of the profile, or too short where it is protected.
+fn body_fault(octets: &[u8]) -> Option<AirFault>
+    requires control { 2 ≤ length octets.now }
+    requires header { data_header_length octets.now ≤ length octets.now }
+    ensures { result ≡ body_fault octets.now }
+{
+    let is_protected = is_set(frame_control(octets), PROTECTED);
+    if !is_protected && !begins_eapol(octets) {
+        Some(AirFault::OutOfProfile(18))
+    } else if is_protected && is_short_sealed(octets) {
+        Some(AirFault::Body(data_header_length(octets)))
+    } else if is_protected && !has_ext_iv(octets) {
+        Some(AirFault::OutOfProfile(20))
+    } else {
+        None
+    }
+}
+
 // What of a data frame is not of the profile, or its protected body too short.
 fn data_fault(octets: &[u8]) -> Option<AirFault>
     requires { 2 ≤ length octets.now }
     ensures { result ≡ data_fault octets.now }
 {
-    let header = data_header_length(octets);
-    if octets.len() < header {
-        return Some(AirFault::Short(octets.len()));
-    }
     let control = frame_control(octets);
-    let is_protected = is_set(control, PROTECTED);
-    if goes_no_way(octets) {
+    if octets.len() < data_header_length(octets) {
+        Some(AirFault::Short(octets.len()))
+    } else if goes_no_way(octets) {
         Some(AirFault::OutOfProfile(8))
     } else if is_set(control, MORE_FRAGMENTS) {
         Some(AirFault::OutOfProfile(10))
@@ -105,14 +120,8 @@ fn data_fault(octets: &[u8]) -> Option<AirFault>
         Some(AirFault::OutOfProfile(16))
     } else if has_a_msdu(octets) {
         Some(AirFault::OutOfProfile(17))
-    } else if !is_protected && !begins_eapol(octets) {
-        Some(AirFault::OutOfProfile(18))
-    } else if is_protected && is_short_sealed(octets) {
-        Some(AirFault::Body(header))
-    } else if is_protected && !has_ext_iv(octets) {
-        Some(AirFault::OutOfProfile(20))
     } else {
-        None
+        body_fault(octets)
     }
 }
 

@@ -19,8 +19,7 @@ pub use laws::{
 };
 pub use reading::{FT_ALGORITHM, read};
 pub use sending::{
-    CAPABILITY, DataHeader, LISTEN_INTERVAL, Subtype, data_header, management_header,
-    write_assoc_req, write_assoc_resp, write_eapol_data, write_ft_req, write_ft_resp, write_re_req,
-    write_re_resp,
+    CAPABILITY, LISTEN_INTERVAL, Subtype, data_header, management_header, write_assoc_req,
+    write_assoc_resp, write_eapol_data, write_ft_req, write_ft_resp, write_re_req, write_re_resp,
 };
 pub use writing::write;

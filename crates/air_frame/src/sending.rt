@@ -8,8 +8,7 @@ use crate::faults::EAPOL_LLC;
 use crate::frame::Direction;
 use crate::reading::FT_ALGORITHM;
 use crate::writing::{put_frame, three_numbers, two_numbers};
-use domain_base::{Mac, Tid, put};
-use std::marker::Model;
+use domain_base::{Mac, ShortOctets, Tid, put};
 
 /// Capability Information as it is sent.
 pub const CAPABILITY: u16 = 0x0011;
@@ -63,31 +62,8 @@ pub fn management_header(subtype: Subtype, a1: Mac, a2: Mac, a3: Mac) -> [u8; 24
     plain_header(subtype.number() << 4, 0, a1, a2, a3)
 }
 
-/// The header of a data frame as it is sent: 24 octets, or 26 with a TID. Contracts see its octets.
-#[derive(Drop)]
-pub struct DataHeader {
-    octets: [u8; 26],
-    len: usize,
-}
-
-impl Model for DataHeader {
-    ghost use Rattle.std.specs.Prelude.{ℕ, List, take, ◌≤◌};
-
-    ghost Value = { List ℕ };
-
-    ghost view = { λ h. take h.len h.octets };
-
-    ghost invariant = { λ h. h.len ≤ 26 };
-}
-
-impl DataHeader {
-    /// Its octets.
-    pub fn as_slice(&self) -> &[u8]
-        ensures { result.now ≡ self.now }
-    {
-        &self.octets[..self.len]
-    }
-}
+/// The octets of the header of a data frame at most: those of QoS data.
+const MOST_HEADER: usize = 26;
 
 // The second octet of the Frame Control field of a data frame.
 fn data_flags(direction: Direction, is_protected: bool) -> u8
@@ -102,7 +78,8 @@ fn data_flags(direction: Direction, is_protected: bool) -> u8
 }
 
 /// The header of a data frame as it is sent: the bit of its direction is set, that of protection if it is protected,
-/// and with a TID it is QoS data. Duration, sequence control and all else are zero. No memory is taken.
+/// and with a TID it is QoS data, of 26 octets in place of 24. Duration, sequence control and all
+/// else are zero. No memory is taken.
 pub fn data_header(
     direction: Direction,
     is_protected: bool,
@@ -110,21 +87,18 @@ pub fn data_header(
     a1: Mac,
     a2: Mac,
     a3: Mac,
-) -> DataHeader
+) -> ShortOctets<MOST_HEADER>
     ensures octets { result ≡ data_header_octets direction is_protected tid a1.0 a2.0 a3.0 }
     ensures size { length result ≡ (if is_some tid then 26 else 24) }
 {
     let flags = data_flags(direction, is_protected);
-    let mut octets = [0; 26];
     match tid {
-        None => {
-            put(&mut octets, 0, &plain_header(0x08, flags, a1, a2, a3));
-            DataHeader { octets, len: 24 }
-        }
+        None => ShortOctets::of(&plain_header(0x08, flags, a1, a2, a3)),
         Some(tid) => {
+            let mut octets = [0; MOST_HEADER];
             let at = put(&mut octets, 0, &plain_header(0x88, flags, a1, a2, a3));
             put(&mut octets, at, &[tid.number(), 0]);
-            DataHeader { octets, len: 26 }
+            ShortOctets::of(&octets)
         }
     }
 }

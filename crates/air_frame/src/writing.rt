@@ -4,7 +4,7 @@ ghost use Rattle.std.specs.Prelude.{◌≡◌, ◌≢◌, ◌≤◌, ◌+◌, �
 ghost use Rattle.std.specs.Int.{w16, to_le_bytes};
 ghost use Rattle.air_frame.specs.Spelled.{SpellsAir, IsSpelled};
 ghost use Rattle.air_frame.specs.Sent.{air_octets};
-ghost use Rattle.air_frame.specs.Views.{fields_of};
+ghost use Rattle.air_frame.specs.Views.{fields_of, IsManagement};
 
 use crate::faults::EAPOL_LLC;
 use crate::frame::{AirFrame, AssocReq, AssocResp, FtAuthentication, ReassocReq};
@@ -104,9 +104,10 @@ fn put_ft_resp(f: &FtAuthentication<'_>, out: &mut [u8]) -> usize
     put_frame(out, f.header.octets, &fixed, f.elements)
 }
 
-// Writes the octets of the frame, none for `Ignored`.
-fn put_octets(frame: &AirFrame<'_>, out: &mut [u8]) -> usize
-    requires { length (air_octets (fields_of frame.now)) ≤ length out.old }
+// Writes the octets of a management frame.
+fn put_management(frame: &AirFrame<'_>, out: &mut [u8]) -> usize
+    requires management { IsManagement frame.now }
+    requires room { length (air_octets (fields_of frame.now)) ≤ length out.old }
     ensures size { result ≡ length (air_octets (fields_of frame.now)) }
     ensures octets { take result out.new ≡ air_octets (fields_of frame.now) }
     ensures rest { (n : ℕ) → result ≤ n → drop n out.new ≡ drop n out.old }
@@ -118,9 +119,23 @@ fn put_octets(frame: &AirFrame<'_>, out: &mut [u8]) -> usize
         AirFrame::ReReq(f) => put_re_req(f, out),
         AirFrame::FtReq(f) => put_ft_req(f, out),
         AirFrame::FtResp(f) => put_ft_resp(f, out),
+        _ => unreachable!(),
+    }
+}
+
+// Writes the octets of the frame, none for `Ignored`.
+fn put_octets(frame: &AirFrame<'_>, out: &mut [u8]) -> usize
+    requires { length (air_octets (fields_of frame.now)) ≤ length out.old }
+    ensures size { result ≡ length (air_octets (fields_of frame.now)) }
+    ensures octets { take result out.new ≡ air_octets (fields_of frame.now) }
+    ensures rest { (n : ℕ) → result ≤ n → drop n out.new ≡ drop n out.old }
+    ensures len { length out.new ≡ length out.old }
+{
+    match frame {
         AirFrame::Eapol(f) => put_frame(out, f.header.octets, &EAPOL_LLC, f.body),
         AirFrame::Protected(f) => put_frame(out, f.header.octets, &[], f.body),
         AirFrame::Ignored => 0,
+        _ => put_management(frame, out),
     }
 }
 

@@ -1,8 +1,8 @@
+pub mod Places
 pub mod Others
 pub mod Standing
 pub mod Refusing
 pub mod Requesting
-pub mod Placing
 pub mod Messaging
 pub mod Repeating
 pub mod Growing

@@ -1,58 +1,117 @@
--- EAPOL-Key messages that the attempt with their station takes.
-use Rattle.std.proofs.Common.{◌≡◌, ◌≢◌, ℕ, ◌+◌, Bool, List, ◌++◌, refl, sym, ap, subst, ◌∙◌}
-use Rattle.std.specs.Prelude.{is_some}
+-- EAPOL-Key messages that the part with their station takes.
+use Rattle.std.proofs.Common.{◌≡◌, ◌≢◌, ℕ, ◌+◌, List, [], ◌∷◌, ◌++◌, Option, Some, None, Result, Ok, Err, refl, sym, ap, subst, ◌∙◌}
+use Rattle.std.specs.Prelude.{is_some, IfOk, OnErr}
+use Rattle.domain_base.specs.declared.names.Node.{Node}
 use Rattle.domain_base.specs.declared.names.Node.TheVariants.{Ap, Sta}
-use Rattle.eapol_key.specs.Fields.{fields_of}
 use Rattle.run_journal.specs.declared.domain.Domain.{Domain}
+use Rattle.run_journal.specs.declared.acts.Kind.TheVariants as kind
 use Rattle.run_journal.specs.declared.acts.Outcome.{Outcome}
+use Rattle.run_journal.specs.declared.acts.Outcome.TheVariants.{Refused}
+use Rattle.run_journal.specs.declared.acts.Reason.{Reason}
+use Rattle.run_journal.specs.declared.acts.Reason.TheVariants as reason
 use Rattle.run_journal.specs.declared.acts.Act.{Act}
-use Rattle.run_journal.specs.declared.reply.Reply.{Reply}
-use Rattle.run_journal.specs.Questions.{group_keys, add}
-use Rattle.domain_rules.specs.Replies.{IsMessageFrom, reply_acts}
+use Rattle.run_journal.specs.declared.acts.Act.TheVariants.{Took}
+use Rattle.run_journal.specs.Questions.{group_keys, add, draws}
 use Rattle.run_journal.specs.GroupKinds as groups
+use Rattle.domain_rules.specs.Here.{here}
+use Rattle.domain_rules.specs.Reading.{Keyed}
+use Rattle.domain_rules.specs.Replies.{IsMessageFrom, pair, Taken, taken_as, reply_acts}
+use Rattle.domain_rules.specs.Rows.{Take}
 use Rattle.group_key.specs.Holds.{IsLast, Holds}
 use Rattle.group_key.specs.declared.keys.GroupKey.{GroupKey}
-use Rattle.node_frames.specs.declared.delivered.KeyMessage.{KeyMessage}
-use Rattle.node_frames.specs.Views.{message_fields}
-use Rattle.node_frames.proofs.RepliedActs.{replied_about, about_draws, about_others}
-use Rattle.ap_node.specs.State.{State, station_at}
-use Rattle.ap_node.specs.Places.{PlaceSteps}
-use Rattle.ap_node.specs.Takes.{Takes, IsKeyedAtAp}
+use Rattle.frame_intake.specs.declared.delivered.KeyMessage.{KeyMessage}
+use Rattle.frame_intake.specs.Views.{message_fields}
+use Rattle.node_base.specs.Events.{Steps, seen}
+use Rattle.act_memory.proofs.RepliedActs.{replied_about, about_draws, about_others}
+use Rattle.authenticator.specs.State.{State as Part}
+use Rattle.authenticator.specs.Judged.{frame_of}
+use Rattle.authenticator.specs.Taken.{given, Comes}
 use Rattle.authenticator.proofs.Standing.{other_on}
+use Rattle.ap_node.specs.State.{State, station_at}
+use Rattle.ap_node.specs.Stands.{HasPart, Stands}
+use Rattle.ap_node.specs.Parts.{IsHanded, IsHandedAt}
+use Rattle.ap_node.specs.Takes.{IsTaken, IsKeyedAtAp}
 use Rattle.ap_node.proofs.Others.{uses_none, about_group}
-use Rattle.ap_node.proofs.Standing.{stands_with_one}
+use Rattle.ap_node.proofs.Standing.{some_part, no_part, stands_with_one}
+use Rattle.ap_node.proofs.Refusing.{Stays, takes_quiet, unawaited_quiet, unawaited_message}
 
 message_from : (d : Domain) (a sta : ℕ) (octets : List ℕ) (message : KeyMessage) → IsKeyedAtAp d a octets (Sta sta) message → IsMessageFrom d (Ap a) (Sta sta) octets (message_fields message)
 message_from d a sta octets message w = record { reads = w.reads; from = w.judged.1; verdict_is = w.judged.4 }
 
-pub takes_message : (d : Domain) (old new : State) (octets : List ℕ) (sta : ℕ) (message : KeyMessage) (g : GroupKey) (had : Bool) (outcome : Outcome) (r : Reply) (waited waits : List Act) → IsKeyedAtAp d old.number octets (Sta sta) message
-    → new.number ≡ old.number → new.drawn ≡ old.drawn → new.group ≡ old.group → g ≡ old.group.newest → had ≡ is_some (station_at old.stations sta).session
-    → PlaceSteps (station_at old.stations sta) (station_at new.stations sta) message.message (fields_of message.frame) message.frame.octets.now g outcome r
-    → ((k : ℕ) → k ≢ sta → station_at new.stations k ≡ station_at old.stations k)
-    → waits ≡ waited ++ reply_acts d (Ap old.number) (Sta sta) had octets (message_fields message) outcome r
-    → Takes d old new octets waited waits outcome
-takes_message d old new octets sta message g had outcome r waited waits w number drawn group newest had_is placed others waiting = λ first h stands.
-    (let p = Sta sta in
+-- what the access point was and is, beside its part with a station
+pub record IsBeside (old new : State) (sta : ℕ) : Type 0 where
+  pub number : new.number ≡ old.number
+  pub drawn : new.drawn ≡ old.drawn
+  pub group : new.group ≡ old.group
+  pub others : (k : ℕ) → k ≢ sta → station_at new.stations k ≡ station_at old.stations k
+
+-- the part took it
+handed : (d : Domain) (old new : State) (octets : List ℕ) (sta : ℕ) (message : KeyMessage) (outcome : Outcome) (a b : Part) (acts waited : List Act) → IsKeyedAtAp d old.number octets (Sta sta) message → IsBeside old new sta
+    → station_at old.stations sta ≡ Some a → station_at new.stations sta ≡ Some b
+    → IsHanded (pair d (Ap old.number) (Sta sta)) (given message.message (frame_of message.frame) old.group.newest 0) (taken_as octets (message_fields message) outcome) a b acts
+    → (first : ℕ) (h : List Act) → Stands d first old h → Steps (here d first (Ap old.number)) (Take octets) (Stands d first new) h (seen waited (waited ++ acts) outcome)
+handed d old new octets sta message outcome a b acts waited w beside was now x first h stands =
+    let n = Ap old.number in
+    let p = Sta sta in
     let k = message_fields message in
-    let there = is_some (station_at old.stations sta).session in
-    let x = placed d first old.number sta octets k h (stands.peers sta) (key_is h stands.group_is) (uses_none h stands.unused) (message_from d old.number sta octets message w) refl refl refl in
-    let acts = reply_acts d (Ap old.number) p there octets k outcome r in
-    let about = replied_about d (Ap old.number) p there octets k outcome r in
+    let there = is_some a.session in
+    let at = some_part d n sta (station_at old.stations sta) a h was (stands.parts sta) in
+    let come : Comes (here d first n) p (given message.message (frame_of message.frame) old.group.newest 0) octets k h =
+    record { from = message_from d old.number sta octets message w; message = refl; frame = refl; newest = stands.group_is.newest; uses = uses_none h stands.unused } in
+    let steps = x.steps d first old.number sta octets k h at.1 come in
+    let said = reply_acts (pair d n p) there (taken_as octets k outcome) x.reply in
+    let about = replied_about d n p there octets k outcome x.reply in
     record {
-      acts = acts;
-      adds = x.adds;
-      waiting = subst (λ (b : Bool). waits ≡ waited ++ reply_acts d (Ap old.number) p b octets k outcome r) had_is waiting;
+      acts = said;
+      adds = steps.adds;
+      waiting = ap (λ (l : List Act). waited ++ l) x.says;
       came = refl;
-      stands = stands_with_one d first old new h (add acts h) sta stands (record {
-        number = number;
-        drawn = drawn ∙ stands.draws_are ∙ ap (λ (n : ℕ). first + n) (sym (about_draws p acts h about));
-        group = group;
-        same_group = about_group p acts h about;
-        here = x.stands;
-        others = others;
-        goes = λ i other. other_on (Sta i) acts h (about_others p i acts other about);
+      stands = stands_with_one d first old new h (add said h) sta stands (record {
+        number = beside.number;
+        drawn = beside.drawn ∙ stands.draws_are ∙ ap (λ (m : ℕ). first + m) (sym (about_draws p said h about));
+        group = beside.group;
+        same_group = about_group p said h about;
+        here = subst (λ (o : Option Part). HasPart d n sta o (add said h)) (sym now) (at.0, steps.stands);
+        others = beside.others;
+        goes = λ i other. other_on (Sta i) said h (about_others p i said other about);
       });
-    })
-  where
-    key_is : (h : List Act) → Holds old.group h → IsLast g (group_keys groups.Gtk h)
-    key_is h holds = subst (λ (k : GroupKey). IsLast k (group_keys groups.Gtk h)) (sym newest) holds.newest
+    }
+
+-- without a part it is unawaited
+unhanded : (d : Domain) (s : State) (octets : List ℕ) (sta : ℕ) (message : KeyMessage) (waited waits : List Act) → IsKeyedAtAp d s.number octets (Sta sta) message → station_at s.stations sta ≡ None
+    → waits ≡ waited ++ Took (Some (Sta sta)) octets (kind.Key message.message) (Refused reason.Unawaited) None ∷ [] → Stays d s octets waited waits (Refused reason.Unawaited)
+unhanded d s octets sta message waited waits w none waiting =
+    takes_quiet d s octets (Keyed (message_fields message)) (Some (Sta sta)) (kind.Key message.message) reason.Unawaited waited waits w.reads (sym w.judged.1) refl (unawaited_quiet d (Ap s.number))
+    (λ first h stands. w.judged.4 first h ∙ unawaited_message d (first + draws h) s.number h (Sta sta) (message_fields message) message.message (no_part d (Ap s.number) sta (station_at s.stations sta) h none (stands.parts sta))) waiting
+
+pub takes_message : (d : Domain) (old new : State) (octets : List ℕ) (sta : ℕ) (message : KeyMessage) (outcome : Outcome) (o q : Option Part) (acts waited : List Act) → IsKeyedAtAp d old.number octets (Sta sta) message → IsBeside old new sta
+    → ((why : Reason) → outcome ≡ Refused why → new ≡ old) → station_at old.stations sta ≡ o → station_at new.stations sta ≡ q
+    → IsHandedAt (pair d (Ap old.number) (Sta sta)) (given message.message (frame_of message.frame) old.group.newest 0) (taken_as octets (message_fields message) outcome) o q acts
+    → IsTaken d (Take octets) old new (seen waited (waited ++ acts) outcome)
+takes_message d old new octets sta message outcome None q acts waited w beside refused was now x =
+    subst (λ (s : State). IsTaken d (Take octets) old s (seen waited (waited ++ acts) outcome)) (sym (refused reason.Unawaited x.1))
+    (subst (λ (z : Outcome). Stays d old octets waited (waited ++ acts) z) (sym x.1)
+    (unhanded d old octets sta message waited (waited ++ acts) w was (ap (λ (l : List Act). waited ++ l) x.2)))
+takes_message d old new octets sta message outcome (Some a) q acts waited w beside refused was now x = record {
+  number = beside.number;
+  steps = handed d old new octets sta message outcome a x.0 acts waited w beside was (now ∙ x.1) x.2;
+  refused = refused;
+}
+
+-- ---- as the code comes by them
+
+pub handed_as : (d : Domain) (n m : Node) (sta : ℕ) (k : KeyMessage) (g newest : GroupKey) (t : Taken) (o q new : Option Part) (acts : List Act) → n ≡ m → g ≡ newest → o ≡ q
+    → IsHandedAt (pair d n (Sta sta)) (given k.message (frame_of k.frame) g 0) t o new acts → IsHandedAt (pair d m (Sta sta)) (given k.message (frame_of k.frame) newest 0) t q new acts
+handed_as d n m sta k g newest t o q new acts node group here x =
+    subst (λ (z : Node). IsHandedAt (pair d z (Sta sta)) (given k.message (frame_of k.frame) newest 0) t q new acts) node
+    (subst (λ (z : GroupKey). IsHandedAt (pair d n (Sta sta)) (given k.message (frame_of k.frame) z 0) t q new acts) group
+    (subst (λ (z : Option Part). IsHandedAt (pair d n (Sta sta)) (given k.message (frame_of k.frame) g 0) t z new acts) here x))
+
+-- two facts of what came make a third
+pub if_both : {E : Type 0} (r : Result Outcome E) (P Q R : Outcome → Type 0) → IfOk r P → IfOk r Q → ((o : Outcome) → P o → Q o → R o) → IfOk r R
+if_both (Ok o) P Q R p q then_ = then_ o p q
+if_both (Err e) P Q R p q then_ = tt
+
+pub on_err : {E : Type 0} (r : Result Outcome E) (A B : Type 0) → OnErr r A → (A → B) → OnErr r B
+on_err (Ok o) A B a then_ = tt
+on_err (Err e) A B a then_ = then_ a

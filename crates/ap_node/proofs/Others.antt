@@ -21,7 +21,7 @@ use Rattle.domain_rules.proofs.Effects.{response-apart, refused_acts, as_before-
 use Rattle.run_journal.specs.GroupKinds as groups
 use Rattle.group_key.specs.Keys.{Pair}
 use Rattle.group_key.specs.Holds.{IsLast, Holds}
-use Rattle.node_frames.proofs.RepliedActs.{IsAbout, about_gtks, about_switches, about_uses}
+use Rattle.act_memory.proofs.RepliedActs.{IsAbout, about_gtks, about_switches, about_uses}
 use Rattle.authenticator.proofs.Standing.{IsOther, other_on}
 
 -- ---- the group keys

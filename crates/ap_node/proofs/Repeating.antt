@@ -1,13 +1,11 @@
 -- What is sent once more.
-use Rattle.std.proofs.Common.{◌≡◌, ◌≢◌, ℕ, ◌+◌, Bool, true, false, cond, List, [], ◌∷◌, ◌++◌, refl, sym, ap, ◌∙◌}
-use Rattle.std.specs.Prelude.{is_some, take, ◌==◌}
+use Rattle.std.proofs.Common.{◌≡◌, ℕ, ◌+◌, Bool, true, false, cond, List, [], ◌∷◌, ◌++◌, Option, Some, None, refl, sym, ap, subst, ◌∙◌}
+use Rattle.std.specs.Prelude.{take, ◌==◌}
 use Rattle.std.specs.List.{AllByRecursion}
 use Rattle.domain_base.specs.declared.names.Node.{Node}
 use Rattle.domain_base.specs.declared.names.Node.TheVariants.{Ap, Sta}
 use Rattle.eapol_key.specs.declared.messages.Message.{Message}
 use Rattle.run_journal.specs.declared.domain.Domain.{Domain}
-use Rattle.run_journal.specs.declared.acts.Kind.{Kind}
-use Rattle.run_journal.specs.declared.acts.Kind.TheVariants as kind
 use Rattle.run_journal.specs.declared.acts.Reason.{Reason}
 use Rattle.run_journal.specs.declared.acts.Why.TheVariants as why
 use Rattle.run_journal.specs.declared.acts.Outcome.{Outcome}
@@ -16,91 +14,48 @@ use Rattle.run_journal.specs.declared.acts.Act.{Act}
 use Rattle.run_journal.specs.declared.acts.Act.TheVariants.{GaveUp, Idle}
 use Rattle.run_journal.specs.declared.reply.Reply.{Reply}
 use Rattle.run_journal.specs.Acts.{same}
-use Rattle.run_journal.specs.Questions.{draws, add}
+use Rattle.run_journal.specs.Questions.{attempt, draws, add}
+use Rattle.domain_rules.specs.Here.{here}
 use Rattle.domain_rules.specs.Replies.{frame_acts, sent_acts}
 use Rattle.domain_rules.specs.AccessPointRows.{retry_acts}
-use Rattle.domain_rules.specs.Rows.{outcome_of}
+use Rattle.domain_rules.specs.Rows.{Retry, outcome_of}
 use Rattle.domain_rules.proofs.Parts.{IsApart, apart-closed, apart-idle}
-use Rattle.node_frames.proofs.RepliedActs.{sent_about, about_draws, about_others}
-use Rattle.authenticator.specs.Steps.{retried_acts, given_up}
-use Rattle.authenticator.specs.declared.authenticator.Retried.{Retried}
-use Rattle.authenticator.specs.declared.authenticator.Retried.TheVariants as retried
-use Rattle.ap_node.specs.State.{State, station_at}
-use Rattle.ap_node.specs.Places.{PlaceRetries}
-use Rattle.ap_node.specs.Takes.{Retries}
+use Rattle.node_base.specs.Events.{Steps, seen}
+use Rattle.act_memory.proofs.RepliedActs.{sent_about, about_draws, about_others}
+use Rattle.authenticator.specs.State.{State as Part}
+use Rattle.authenticator.specs.Steps.{again_acts}
+use Rattle.authenticator.specs.declared.authenticator.Again.{Again}
+use Rattle.authenticator.specs.declared.authenticator.Again.TheVariants as again
 use Rattle.authenticator.proofs.Standing.{other_on}
-use Rattle.ap_node.proofs.Others.{IsSameGroup, same_group, about_group, same-idle}
-use Rattle.ap_node.proofs.Standing.{no_attempt, stands_as_before, stands_with_one}
-
--- ---- nothing to send
-
-pub retries_idle : (d : Domain) (s : State) (sta : ℕ) (had : Bool) (waited waits : List Act) → had ≡ is_some (station_at s.stations sta).attempt → had ≡ false → waits ≡ waited ++ Idle why.Nothing ∷ []
-    → Retries d s s sta waited waits (IdleBy why.Nothing)
-retries_idle d s sta had waited waits had_is none waiting = λ first h stands. record {
-  acts = Idle why.Nothing ∷ [];
-  adds = sym (ap (retry_acts d (Ap s.number) h (Sta sta)) (no_attempt d (Ap s.number) sta (station_at s.stations sta).attempt h (sym had_is ∙ none) (stands.peers sta).attempt_is));
-  waiting = waiting;
-  came = refl;
-  stands = stands_as_before d first s h (Idle why.Nothing ∷ h) (same-idle why.Nothing h) stands;
-}
+use Rattle.ap_node.specs.State.{State, station_at}
+use Rattle.ap_node.specs.Stands.{HasPart, Stands}
+use Rattle.ap_node.specs.Parts.{IsResent, IsResentAt}
+use Rattle.ap_node.specs.Takes.{IsTaken}
+use Rattle.ap_node.proofs.Others.{IsSameGroup, about_group, same-idle}
+use Rattle.ap_node.proofs.Standing.{no_part, some_part, part_on, stands_with_one}
+use Rattle.ap_node.proofs.Messaging.{IsBeside}
 
 -- ---- what the acts of a retry leave
 
 apart-gave_up : (p q : Node) (m : Message) → IsApart p (GaveUp q m)
 apart-gave_up p q m = record { opens_none = refl; ends_none = refl; accepts_none = λ k. refl; replies_none = λ k. refl; sends_none = λ x. refl; derives_none = refl; finishes_none = refl; closes_none = refl }
 
-given-group : (p : Node) (k : Kind) (h : List Act) → IsSameGroup h (add (given_up p k) h)
-given-group p (kind.Key m) h = record { gtks_are = refl; switches_are = refl; uses_are = refl }
-given-group p _ h = same_group h
+again-group : (p : Node) (came : Again) (r : Reply) (h : List Act) → IsSameGroup h (add (again_acts p came r) h)
+again-group p again.Sent r h = about_group p (sent_acts p r) h (sent_about p r)
+again-group p (again.GaveUp m) r h = record { gtks_are = refl; switches_are = refl; uses_are = refl }
+again-group p again.Nothing r h = (same-idle why.Nothing h).group
 
-given-draws : (p : Node) (k : Kind) (h : List Act) → draws (add (given_up p k) h) ≡ draws h
-given-draws p (kind.Key m) h = refl
-given-draws p _ h = refl
+again-draws : (p : Node) (came : Again) (r : Reply) (h : List Act) → draws (add (again_acts p came r) h) ≡ draws h
+again-draws p again.Sent r h = about_draws p (sent_acts p r) h (sent_about p r)
+again-draws p (again.GaveUp m) r h = refl
+again-draws p again.Nothing r h = refl
 
-given-apart : (q : ℕ) (p : Node) (k : Kind) → same (Sta q) p ≡ false → AllByRecursion (IsApart (Sta q)) (given_up p k)
-given-apart q p (kind.Key m) other = (apart-gave_up (Sta q) p m, (apart-closed q p other, tt))
-given-apart q p _ other = tt
+again-apart : (q : ℕ) (p : Node) (came : Again) (r : Reply) → same (Sta q) p ≡ false → AllByRecursion (IsApart (Sta q)) (again_acts p came r)
+again-apart q p again.Sent r other = about_others p q (sent_acts p r) other (sent_about p r)
+again-apart q p (again.GaveUp m) r other = (apart-gave_up (Sta q) p m, (apart-closed q p other, tt))
+again-apart q p again.Nothing r other = (apart-idle (Sta q) why.Nothing, tt)
 
-retried-group : (p : Node) (came : Retried) (r : Reply) (h : List Act) → IsSameGroup h (add (retried_acts p came r) h)
-retried-group p retried.Sent r h = about_group p (sent_acts p r) h (sent_about p r)
-retried-group p retried.GaveUp r h = given-group p r.kind h
-retried-group p retried.Nothing r h = (same-idle why.Nothing h).group
-
-retried-draws : (p : Node) (came : Retried) (r : Reply) (h : List Act) → draws (add (retried_acts p came r) h) ≡ draws h
-retried-draws p retried.Sent r h = about_draws p (sent_acts p r) h (sent_about p r)
-retried-draws p retried.GaveUp r h = given-draws p r.kind h
-retried-draws p retried.Nothing r h = refl
-
-retried-apart : (q : ℕ) (p : Node) (came : Retried) (r : Reply) → same (Sta q) p ≡ false → AllByRecursion (IsApart (Sta q)) (retried_acts p came r)
-retried-apart q p retried.Sent r other = about_others p q (sent_acts p r) other (sent_about p r)
-retried-apart q p retried.GaveUp r other = given-apart q p r.kind other
-retried-apart q p retried.Nothing r other = (apart-idle (Sta q) why.Nothing, tt)
-
--- ---- something was sent, or the attempt is given up
-
-pub retries_done : (d : Domain) (old new : State) (sta : ℕ) (came : Retried) (r : Reply) (outcome : Outcome) (waited waits : List Act) → new.number ≡ old.number → new.drawn ≡ old.drawn → new.group ≡ old.group
-    → PlaceRetries (station_at old.stations sta) (station_at new.stations sta) came r → ((k : ℕ) → k ≢ sta → station_at new.stations k ≡ station_at old.stations k)
-    → outcome ≡ outcome_of (retried_acts (Sta sta) came r) → waits ≡ waited ++ retried_acts (Sta sta) came r → Retries d old new sta waited waits outcome
-retries_done d old new sta came r outcome waited waits number drawn group placed others came_is waiting = λ first h stands.
-    (let x = placed d old.number sta h (stands.peers sta) in
-    let acts = retried_acts (Sta sta) came r in
-    record {
-      acts = acts;
-      adds = sym x.adds;
-      waiting = waiting;
-      came = came_is;
-      stands = stands_with_one d first old new h (add acts h) sta stands (record {
-        number = number;
-        drawn = drawn ∙ stands.draws_are ∙ ap (λ (n : ℕ). first + n) (sym (retried-draws (Sta sta) came r h));
-        group = group;
-        same_group = retried-group (Sta sta) came r h;
-        here = x.stands;
-        others = others;
-        goes = λ k other. other_on (Sta k) acts h (retried-apart k (Sta sta) came r other);
-      });
-    })
-
--- ---- a retry is refused never
+-- ---- a retry is never refused
 
 frame_done : (p : Node) (r : Reply) (b : Bool) → outcome_of (cond b [] (frame_acts p r (take r.len r.octets))) ≡ Done
 frame_done p r true = refl
@@ -109,11 +64,69 @@ frame_done p r false = refl
 pub sent_done : (p : Node) (r : Reply) → Done ≡ outcome_of (sent_acts p r)
 sent_done p r = sym (frame_done p r (r.len == 0))
 
-given_not : (p : Node) (k : Kind) (why_ : Reason) → outcome_of (given_up p k) ≡ Refused why_ → ⊥
-given_not p (kind.Key m) why_ is = cc
-given_not p _ why_ is = cc
+never_refused : (p : Node) (came : Again) (r : Reply) (o : Outcome) (why_ : Reason) → o ≡ outcome_of (again_acts p came r) → o ≡ Refused why_ → ⊥
+never_refused p again.Sent r o why_ is refused = cc (is, refused, sent_done p r)
+never_refused p (again.GaveUp m) r o why_ is refused = cc (is, refused)
+never_refused p again.Nothing r o why_ is refused = cc (is, refused)
 
-pub never_refused : (p : Node) (came : Retried) (r : Reply) (o : Outcome) (why_ : Reason) → o ≡ outcome_of (retried_acts p came r) → o ≡ Refused why_ → ⊥
-never_refused p retried.Sent r o why_ is refused = cc (is, refused, sent_done p r)
-never_refused p retried.GaveUp r o why_ is refused = given_not p r.kind why_ (sym is ∙ refused)
-never_refused p retried.Nothing r o why_ is refused = cc (is, refused)
+-- ---- the part sends once more, or there is none
+
+resent : (d : Domain) (old new : State) (sta : ℕ) (a b : Part) (acts waited : List Act) (outcome : Outcome) → IsBeside old new sta → station_at old.stations sta ≡ Some a → station_at new.stations sta ≡ Some b → outcome ≡ outcome_of acts → IsResent sta a b acts
+    → IsTaken d (Retry sta) old new (seen waited (waited ++ acts) outcome)
+resent d old new sta a b acts waited outcome beside was now came_is x = record {
+  number = beside.number;
+  steps = λ first h stands.
+      (let n = Ap old.number in
+      let p = Sta sta in
+      let at = some_part d n sta (station_at old.stations sta) a h was (stands.parts sta) in
+      let y = x.retries d old.number sta h at.1 in
+      let said = again_acts p x.came x.reply in
+      record {
+        acts = said;
+        adds = sym y.adds;
+        waiting = ap (λ (l : List Act). waited ++ l) x.says;
+        came = came_is ∙ ap outcome_of x.says;
+        stands = stands_with_one d first old new h (add said h) sta stands (record {
+          number = beside.number;
+          drawn = beside.drawn ∙ stands.draws_are ∙ ap (λ (m : ℕ). first + m) (sym (again-draws p x.came x.reply h));
+          group = beside.group;
+          same_group = again-group p x.came x.reply h;
+          here = subst (λ (o : Option Part). HasPart d n sta o (add said h)) (sym now) (at.0, y.stands);
+          others = beside.others;
+          goes = λ k other. other_on (Sta k) said h (again-apart k p x.came x.reply other);
+        });
+      });
+  refused = λ why_ is. absurd (never_refused (Sta sta) x.came x.reply outcome why_ (came_is ∙ ap outcome_of x.says) is);
+}
+
+idle : (d : Domain) (old new : State) (sta : ℕ) (waited : List Act) → IsBeside old new sta → station_at old.stations sta ≡ None → station_at new.stations sta ≡ None → IsTaken d (Retry sta) old new (seen waited (waited ++ Idle why.Nothing ∷ []) (IdleBy why.Nothing))
+idle d old new sta waited beside was now = record {
+  number = beside.number;
+  steps = λ first h stands.
+      (let n = Ap old.number in
+      let none = no_part d n sta (station_at old.stations sta) h was (stands.parts sta) in
+      let same = same-idle why.Nothing h in
+      record {
+        acts = Idle why.Nothing ∷ [];
+        adds = sym (ap (retry_acts d n h (Sta sta)) none);
+        waiting = refl;
+        came = refl;
+        stands = stands_with_one d first old new h (Idle why.Nothing ∷ h) sta stands (record {
+          number = beside.number;
+          drawn = beside.drawn ∙ stands.draws_are;
+          group = beside.group;
+          same_group = same.group;
+          here = subst (λ (o : Option Part). HasPart d n sta o (Idle why.Nothing ∷ h)) (sym now) (part_on d n sta None h (Idle why.Nothing ∷ h) (same.each (Sta sta)) (subst (λ (o : Option Part). HasPart d n sta o h) was (stands.parts sta)));
+          others = beside.others;
+          goes = λ k other. same.each (Sta k);
+        });
+      });
+  refused = λ why_ is. absurd (cc is);
+}
+
+pub retries : (d : Domain) (old new : State) (sta : ℕ) (o q : Option Part) (acts waited : List Act) (outcome : Outcome) → IsBeside old new sta → station_at old.stations sta ≡ o → station_at new.stations sta ≡ q → outcome ≡ outcome_of acts → IsResentAt sta o q acts
+    → IsTaken d (Retry sta) old new (seen waited (waited ++ acts) outcome)
+retries d old new sta None q acts waited outcome beside was now came_is x =
+    subst (λ (g : List Act). IsTaken d (Retry sta) old new (seen waited (waited ++ g) outcome)) (sym x.1)
+    (subst (λ (z : Outcome). IsTaken d (Retry sta) old new (seen waited (waited ++ Idle why.Nothing ∷ []) z)) (sym (came_is ∙ ap outcome_of x.1)) (idle d old new sta waited beside was (now ∙ x.0)))
+retries d old new sta (Some a) q acts waited outcome beside was now came_is x = resent d old new sta a x.0 acts waited outcome beside was (now ∙ x.1) came_is x.2

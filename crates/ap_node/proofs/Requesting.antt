@@ -1,6 +1,6 @@
 -- Association requests.
-use Rattle.std.proofs.Common.{◌≡◌, ◌≢◌, ℕ, ◌+◌, ◌<◌, ◌≤◌, Bool, true, false, List, [], ◌∷◌, ◌++◌, length, Option, Some, None, refl, sym, ap, subst, ◌∙◌, arith}
-use Rattle.std.specs.Prelude.{nat_lt, if◌then◌else◌, is_some}
+use Rattle.std.proofs.Common.{◌≡◌, ◌≢◌, ℕ, ◌+◌, ◌<◌, ◌≤◌, Bool, true, false, List, [], ◌∷◌, ◌++◌, length, Option, Some, None, Result, Ok, Err, refl, sym, ap, subst, ◌∙◌, arith}
+use Rattle.std.specs.Prelude.{nat_lt, if◌then◌else◌, is_some, IfOk, OnOk}
 use Rattle.std.proofs.lemmas.Bool.{lt-ltb, le-ltb}
 use Rattle.domain_base.specs.declared.names.Node.{Node}
 use Rattle.domain_base.specs.declared.names.Node.TheVariants.{Ap, Sta}
@@ -21,32 +21,32 @@ use Rattle.run_journal.specs.declared.acts.Act.TheVariants.{Opened, Drew, Took}
 use Rattle.run_journal.specs.Acts.{same}
 use Rattle.run_journal.specs.Questions.{attempt, session, draws, add}
 use Rattle.domain_rules.specs.Counters.{next_in_session}
-use Rattle.domain_rules.specs.Network.{nonce, last_draw}
+use Rattle.domain_rules.specs.Network.{nonce, draw_end}
 use Rattle.domain_rules.specs.Reading.{Managed}
 use Rattle.domain_rules.specs.Frames.{sent_assoc_resp, sent_m1, sent_refusal}
 use Rattle.domain_rules.specs.AccessPointKeys.{HasRsne}
 use Rattle.domain_rules.specs.Associating.{rsne_status, without_status, management_verdict, assoc_req_verdict}
 use Rattle.domain_rules.specs.Verdict.{first_verdict, and_then}
-use Rattle.domain_rules.specs.Rows.{By_assoc_req, response}
+use Rattle.domain_rules.specs.Rows.{Take, By_assoc_req, response}
 use Rattle.domain_rules.specs.Closing.{close_attempt, next_nonce}
 use Rattle.domain_rules.proofs.Parts.{same-refl}
 use Rattle.domain_rules.proofs.Effects.{answer_acts, answer-add, heard-request, answer-apart, answer-draws}
 use Rattle.domain_rules.proofs.Refused.{no_facts, refused_first}
 use Rattle.domain_rules.proofs.Verdicts.{accepted-rsne}
-use Rattle.node_frames.specs.declared.delivered.Management.{Management as AnyFrame}
-use Rattle.node_frames.specs.Views.{management_fields}
-use Rattle.authenticator.specs.State.{State as Part, Stage, Attempt, Session, GivenUp}
-use Rattle.authenticator.specs.Stands.{StandsIn}
-use Rattle.authenticator.specs.Steps.{IsBegun, IsAttempt}
-use Rattle.ap_node.specs.declared.stations.Station.{Station}
-use Rattle.ap_node.specs.State.{State, station_at}
-use Rattle.ap_node.specs.Stands.{HasAttempt, StandsAt, Stands}
-use Rattle.ap_node.specs.Places.{Begins}
-use Rattle.ap_node.specs.Takes.{Takes, IsManagedAtAp, closed, associated_acts}
-use Rattle.authenticator.proofs.Standing.{other_on}
+use Rattle.frame_intake.specs.declared.delivered.Management.{Management as AnyFrame}
+use Rattle.frame_intake.specs.Views.{management_fields}
+use Rattle.node_base.specs.Events.{seen}
+use Rattle.authenticator.specs.State.{State as Part, with_session}
+use Rattle.authenticator.specs.Stands.{HasAttempt}
+use Rattle.authenticator.specs.Steps.{IsBegun}
+use Rattle.authenticator.specs.declared.attempt.Attempt.{Attempt}
+use Rattle.authenticator.proofs.Standing.{other_on, session_on}
+use Rattle.ap_node.specs.State.{State, station_at, attempt_in, session_in}
+use Rattle.ap_node.specs.Stands.{HasPart, Stands}
+use Rattle.ap_node.specs.Takes.{IsTaken, IsManagedAtAp, IsRequest, Begins, BeginsWith, closed, associated_acts}
 use Rattle.ap_node.proofs.Others.{IsSameGroup}
-use Rattle.ap_node.proofs.Standing.{session_on, stands_with_one}
-use Rattle.ap_node.proofs.Refusing.{takes_refused, takes_quiet}
+use Rattle.ap_node.proofs.Standing.{has_attempt_in, has_session_in, stands_with_one}
+use Rattle.ap_node.proofs.Refusing.{Stays, takes_refused, takes_quiet}
 
 -- ---- what comes of it
 
@@ -55,48 +55,45 @@ verdict_is : (d : Domain) (a : ℕ) (octets : List ℕ) (station : ℕ) (frame :
 verdict_is d a octets station frame elements w is first h = w.judged.3 first h ∙ ap (λ (k : Kind). management_verdict d (first + draws h) (Ap a) h (Sta station) k (management_fields frame) (element_fields elements)) is
 
 -- refused with a status
-pub takes_status : (d : Domain) (s : State) (octets : List ℕ) (station : ℕ) (frame : AnyFrame) (elements : Elements) (status n : ℕ) (waited waits : List Act) → IsManagedAtAp d s.number octets (Sta station) frame elements → frame.kind ≡ kind.AssocReq
-    → rsne_status d.akm (element_fields elements).rsne ≡ Some status → n ≡ s.number → waits ≡ waited ++ Took (Some (Sta station)) octets kind.AssocReq (Refused (reason.Status status)) None ∷ sent_refusal d (Ap n) (Sta station) status ∷ []
-    → Takes d s s octets waited waits (Refused (reason.Status status))
-takes_status d s octets station frame elements status n waited waits w is status_is number waiting =
-    let r = Managed (management_fields frame) (element_fields elements) in
-    takes_refused d s octets r (Some (Sta station)) kind.AssocReq (reason.Status status) None (sent_refusal d (Ap s.number) (Sta station) status ∷ []) waited waits w.reads (sym w.judged.1) (sym is) refl
+pub takes_status : (d : Domain) (s : State) (octets : List ℕ) (station : ℕ) (elements : Elements) (status : ℕ) (n : Node) (waited waits : List Act) → IsRequest d s.number octets station elements
+    → rsne_status d.akm (element_fields elements).rsne ≡ Some status → n ≡ Ap s.number → waits ≡ waited ++ Took (Some (Sta station)) octets kind.AssocReq (Refused (reason.Status status)) None ∷ sent_refusal d n (Sta station) status ∷ []
+    → Stays d s octets waited waits (Refused (reason.Status status))
+takes_status d s octets station elements status n waited waits q status_is node waiting =
+    let w = q.managed in
+    let r = Managed (management_fields q.frame) (element_fields elements) in
+    takes_refused d s octets r (Some (Sta station)) kind.AssocReq (reason.Status status) None (sent_refusal d (Ap s.number) (Sta station) status ∷ []) waited waits w.reads (sym w.judged.1) (sym q.is) refl
     (λ first h stands. refused_first d first (Ap s.number) h r (reason.Status status)
-    (verdict_is d s.number octets station frame elements w is first h ∙ ap (λ (o : Option ℕ). without_status o (if nat_lt (first + draws h) last_draw then Accepted else Refused reason.Spent)) status_is))
-    (waiting ∙ ap (λ (x : ℕ). waited ++ Took (Some (Sta station)) octets kind.AssocReq (Refused (reason.Status status)) None ∷ sent_refusal d (Ap x) (Sta station) status ∷ []) number)
+    (verdict_is d s.number octets station q.frame elements w q.is first h ∙ ap (λ (o : Option ℕ). without_status o (if nat_lt (first + draws h) draw_end then Accepted else Refused reason.Spent)) status_is))
+    (waiting ∙ ap (λ (x : Node). waited ++ Took (Some (Sta station)) octets kind.AssocReq (Refused (reason.Status status)) None ∷ sent_refusal d x (Sta station) status ∷ []) node)
 
 spent_silent : (d : Domain) (n : Node) (from : Option Node) (k : Kind) → response d n from k reason.Spent ≡ []
 spent_silent d (Ap a) (Some p) kind.AssocReq = refl
 spent_silent d n from k = refl
 
-by_draws : (d : Domain) (drawn : ℕ) (e : ElementFields) (b : Bool) → rsne_status d.akm e.rsne ≡ None → nat_lt drawn last_draw ≡ b → assoc_req_verdict d drawn e ≡ (if b then Accepted else Refused reason.Spent)
+by_draws : (d : Domain) (drawn : ℕ) (e : ElementFields) (b : Bool) → rsne_status d.akm e.rsne ≡ None → nat_lt drawn draw_end ≡ b → assoc_req_verdict d drawn e ≡ (if b then Accepted else Refused reason.Spent)
 by_draws d drawn e b none low = rw (none, low) refl
 
 -- refused as the draws are at their end
-pub takes_spent : (d : Domain) (s : State) (octets : List ℕ) (station : ℕ) (frame : AnyFrame) (elements : Elements) (waited waits : List Act) → IsManagedAtAp d s.number octets (Sta station) frame elements → frame.kind ≡ kind.AssocReq
-    → rsne_status d.akm (element_fields elements).rsne ≡ None → last_draw ≤ s.drawn → waits ≡ waited ++ Took (Some (Sta station)) octets kind.AssocReq (Refused reason.Spent) None ∷ []
-    → Takes d s s octets waited waits (Refused reason.Spent)
-takes_spent d s octets station frame elements waited waits w is none spent waiting =
-    takes_quiet d s octets (Managed (management_fields frame) (element_fields elements)) (Some (Sta station)) kind.AssocReq reason.Spent waited waits w.reads (sym w.judged.1) (sym is)
+pub takes_spent : (d : Domain) (s : State) (octets : List ℕ) (station : ℕ) (elements : Elements) (waited waits : List Act) → IsRequest d s.number octets station elements
+    → rsne_status d.akm (element_fields elements).rsne ≡ None → draw_end ≤ s.drawn → waits ≡ waited ++ Took (Some (Sta station)) octets kind.AssocReq (Refused reason.Spent) None ∷ []
+    → Stays d s octets waited waits (Refused reason.Spent)
+takes_spent d s octets station elements waited waits q none spent waiting =
+    let w = q.managed in
+    takes_quiet d s octets (Managed (management_fields q.frame) (element_fields elements)) (Some (Sta station)) kind.AssocReq reason.Spent waited waits w.reads (sym w.judged.1) (sym q.is)
     (spent_silent d (Ap s.number))
-    (λ first h stands. verdict_is d s.number octets station frame elements w is first h ∙ by_draws d (first + draws h) (element_fields elements) false none (le-ltb (first + draws h) last_draw (subst (λ (x : ℕ). last_draw ≤ x) stands.draws_are spent)))
+    (λ first h stands. verdict_is d s.number octets station q.frame elements w q.is first h ∙ by_draws d (first + draws h) (element_fields elements) false none (le-ltb (first + draws h) draw_end (subst (λ (x : ℕ). draw_end ≤ x) stands.draws_are spent)))
     waiting
 
 -- ---- accepted
 
 -- the acts are those of the history
-closed_stage : (d : Domain) (n p : Node) (s : Stage) (h : List Act) → IsAttempt s → StandsIn d n p s h → closed p true ≡ close_attempt p (attempt p h)
-closed_stage d n p (Attempt a) h is at = sym (ap (close_attempt p) at.is)
-closed_stage d n p (Session key next) h is at = absurd is
-closed_stage d n p GivenUp h is at = absurd is
+closed_is : (d : Domain) (n p : Node) (o : Option Attempt) (h : List Act) → HasAttempt d n p o h → closed p (is_some o) ≡ close_attempt p (attempt p h)
+closed_is d n p None h at = sym (ap (close_attempt p) at)
+closed_is d n p (Some a) h at = sym (ap (close_attempt p) at.is)
 
-closed_is : (d : Domain) (n : Node) (sta : ℕ) (o : Option Part) (h : List Act) → HasAttempt d n sta o h → closed (Sta sta) (is_some o) ≡ close_attempt (Sta sta) (attempt (Sta sta) h)
-closed_is d n sta None h at = sym (ap (close_attempt (Sta sta)) at)
-closed_is d n sta (Some a) h at = closed_stage d n (Sta sta) a.stage h at.2 at.1.stage_is
-
-associated_is : (d : Domain) (first : ℕ) (n : Node) (sta : ℕ) (octets : List ℕ) (o : Option Part) (drawn : ℕ) (h : List Act) → HasAttempt d n sta o h → drawn ≡ first + draws h
-    → associated_acts d n (Sta sta) octets (is_some o) (nonce d n drawn) ≡ answer_acts d n (Sta sta) octets (attempt (Sta sta) h) (next_nonce d first n h)
-associated_is d first n sta octets o drawn h at drawn_is = rw (closed_is d n sta o h at, drawn_is) refl
+associated_is : (d : Domain) (first : ℕ) (n : Node) (sta : ℕ) (octets : List ℕ) (o : Option Part) (drawn : ℕ) (h : List Act) → HasPart d n sta o h → drawn ≡ first + draws h
+    → associated_acts d n (Sta sta) octets (is_some (attempt_in o)) (nonce d n drawn) ≡ answer_acts d n (Sta sta) octets (attempt (Sta sta) h) (next_nonce d first n h)
+associated_is d first n sta octets o drawn h at drawn_is = rw (closed_is d n (Sta sta) (attempt_in o) h (has_attempt_in d n sta o h at), drawn_is) refl
 
 -- the history before the Opened of the attempt that it begins
 abbrev before_opened : Node → List ℕ → Option (List Act) → List Act → List Act
@@ -121,105 +118,95 @@ is_begun d n p octets v rsne o h said = record {
   has_rsne = said;
 }
 
-session-answer : (d : Domain) (n p : Node) (octets : List ℕ) (o : Option (List Act)) (v : List ℕ) (h : List Act) → session p (add (answer_acts d n p octets o v) h) ≡ session p h
-session-answer d n p octets None v h = refl
-session-answer d n p octets (Some part) v h = refl
+session-before : (d : Domain) (n p : Node) (octets : List ℕ) (o : Option (List Act)) (v : List ℕ) (h : List Act) → session p (before_m1 d n p octets o v h) ≡ session p h
+session-before d n p octets None v h = refl
+session-before d n p octets (Some part) v h = refl
 
-counts-answer : (d : Domain) (n p : Node) (octets : List ℕ) (o : Option (List Act)) (v : List ℕ) (h : List Act) → next_in_session p (add (answer_acts d n p octets o v) h) ≡ next_in_session p h
-counts-answer d n p octets None v h = rw (same-refl p) refl
-counts-answer d n p octets (Some part) v h = rw (same-refl p) refl
+counts-before : (d : Domain) (n p : Node) (octets : List ℕ) (o : Option (List Act)) (v : List ℕ) (h : List Act) → next_in_session p (before_m1 d n p octets o v h) ≡ next_in_session p h
+counts-before d n p octets None v h = rw (same-refl p) refl
+counts-before d n p octets (Some part) v h = rw (same-refl p) refl
 
 answer-group : (d : Domain) (n p : Node) (octets : List ℕ) (o : Option (List Act)) (v : List ℕ) (h : List Act) → IsSameGroup h (add (answer_acts d n p octets o v) h)
 answer-group d n p octets None v h = record { gtks_are = refl; switches_are = refl; uses_are = refl }
 answer-group d n p octets (Some part) v h = record { gtks_are = refl; switches_are = refl; uses_are = refl }
 
--- what there is with the station then
-abbrev pub begun_with : Part → Station → Station
-begun_with a x = record { attempt = Some a; session = x.session }
+-- what there is with the station then: the old session goes on beside the new attempt
+begun_at : (d : Domain) (old new : State) (sta : ℕ) (octets rsne : List ℕ) (h : List Act) (w : BeginsWith d old new sta rsne) (o : Option (List Act)) → sta < length d.stas → HasRsne d.akm octets (Some rsne) → HasPart d (Ap old.number) sta (station_at old.stations sta) h
+    → HasPart d (Ap old.number) sta (station_at new.stations sta) (add (answer_acts d (Ap old.number) (Sta sta) octets o (nonce d (Ap old.number) old.drawn)) h)
+begun_at d old new sta octets rsne h w o low said at =
+    let n = Ap old.number in
+    let p = Sta sta in
+    let v = nonce d n old.drawn in
+    let x = session_in (station_at old.stations sta) in
+    let past = before_m1 d n p octets o v h in
+    let before = session_on d n p x h past (session-before d n p octets o v h) (counts-before d n p octets o v h) (has_session_in d n sta (station_at old.stations sta) h at) in
+    let stands = w.begins past x (is_begun d n p octets v rsne o h said) before in
+    subst (λ (y : Option Part). HasPart d n sta y (add (answer_acts d n p octets o v) h)) (sym w.is)
+    (subst (λ (g : List Act). HasPart d n sta (Some (with_session x w.part)) g) (sym (answer-add d n p octets o v h)) (low, stands))
 
-begun_at : (d : Domain) (ap_ sta : ℕ) (octets v rsne : List ℕ) (o : Option (List Act)) (h : List Act) (x : Station) (a : Part) → sta < length d.stas → HasRsne d.akm octets (Some rsne) → Begins d ap_ sta v rsne a → StandsAt d (Ap ap_) sta x h
-    → StandsAt d (Ap ap_) sta (begun_with a x) (add (answer_acts d (Ap ap_) (Sta sta) octets o v) h)
-begun_at d ap_ sta octets v rsne o h x a low said begins at = record {
-  attempt_is = subst (λ (g : List Act). HasAttempt d (Ap ap_) sta (Some a) g) (sym (answer-add d (Ap ap_) (Sta sta) octets o v h))
-      (low, begins.stands (before_m1 d (Ap ap_) (Sta sta) octets o v h) (is_begun d (Ap ap_) (Sta sta) octets v rsne o h said), begins.attempt_is);
-  session_is = session_on d (Ap ap_) sta x.session h (add (answer_acts d (Ap ap_) (Sta sta) octets o v) h) (session-answer d (Ap ap_) (Sta sta) octets o v h) (counts-answer d (Ap ap_) (Sta sta) octets o v h) at.session_is;
-}
-
--- an attempt by that nonce and RSNE is what there is with the station from now on
-pub record BeginsWith (d : Domain) (old new : State) (sta : ℕ) (v rsne : List ℕ) : Type 0 where
-  pub a : Part
-  pub is : station_at new.stations sta ≡ begun_with a (station_at old.stations sta)
-  pub begins : Begins d old.number sta v rsne a
-
-stands_associated : (d : Domain) (first : ℕ) (old new : State) (sta : ℕ) (octets rsne : List ℕ) (h : List Act) → sta < length d.stas → HasRsne d.akm octets (Some rsne) → Stands d first old h
-    → new.number ≡ old.number → new.drawn ≡ old.drawn + 1 → new.group ≡ old.group → BeginsWith d old new sta (nonce d (Ap old.number) old.drawn) rsne → ((k : ℕ) → k ≢ sta → station_at new.stations k ≡ station_at old.stations k)
-    → Stands d first new (add (associated_acts d (Ap old.number) (Sta sta) octets (is_some (station_at old.stations sta).attempt) (nonce d (Ap old.number) old.drawn)) h)
-stands_associated d first old new sta octets rsne h low said stands number drawn group now others =
+stands_associated : (d : Domain) (first : ℕ) (old new : State) (sta : ℕ) (octets rsne : List ℕ) (h : List Act) → sta < length d.stas → HasRsne d.akm octets (Some rsne) → BeginsWith d old new sta rsne → Stands d first old h
+    → Stands d first new (add (associated_acts d (Ap old.number) (Sta sta) octets (is_some (attempt_in (station_at old.stations sta))) (nonce d (Ap old.number) old.drawn)) h)
+stands_associated d first old new sta octets rsne h low said w stands =
     let n = Ap old.number in
     let p = Sta sta in
     let v = next_nonce d first n h in
     let v_is : nonce d n old.drawn ≡ v = ap (nonce d n) stands.draws_are in
     let o = attempt p h in
     let x = station_at old.stations sta in
-    let after = add (answer_acts d n p octets o v) h in
-    let begins = subst (λ (w : List ℕ). Begins d old.number sta w rsne now.a) v_is now.begins in
-    let says = associated_is d first n sta octets x.attempt old.drawn h (stands.peers sta).attempt_is stands.draws_are in
+    let says = associated_is d first n sta octets x old.drawn h (stands.parts sta) stands.draws_are in
     subst (λ (g : List Act). Stands d first new (add g h)) (sym says)
-    (stands_with_one d first old new h after sta stands (record {
-      number = number;
-      drawn = omega (arith, drawn, stands.draws_are, answer-draws d n p octets o v h);
-      group = group;
+    (stands_with_one d first old new h (add (answer_acts d n p octets o v) h) sta stands (record {
+      number = w.number;
+      drawn = omega (arith, w.drawn, stands.draws_are, answer-draws d n p octets o v h);
+      group = w.group;
       same_group = answer-group d n p octets o v h;
-      here = subst (λ (y : Station). StandsAt d n sta y after) (sym now.is) (begun_at d old.number sta octets v rsne o h x now.a low said begins (stands.peers sta));
-      others = others;
+      here = subst (λ (u : List ℕ). HasPart d n sta (station_at new.stations sta) (add (answer_acts d n p octets o u) h)) v_is (begun_at d old new sta octets rsne h w o low said (stands.parts sta));
+      others = w.others;
       goes = λ k other. other_on (Sta k) (answer_acts d n p octets o v) h (answer-apart d n p octets o v k other);
     }))
 
-pub takes_associated : (d : Domain) (old new : State) (octets : List ℕ) (sta : ℕ) (frame : AnyFrame) (elements : Elements) (rsne raw : List ℕ) (waited waits : List Act) → IsManagedAtAp d old.number octets (Sta sta) frame elements → frame.kind ≡ kind.AssocReq
-    → rsne_status d.akm (element_fields elements).rsne ≡ None → old.drawn < last_draw → (element_fields elements).rsne_octets ≡ Some raw → rsne ≡ raw
-    → new.number ≡ old.number → new.drawn ≡ old.drawn + 1 → new.group ≡ old.group → BeginsWith d old new sta (nonce d (Ap old.number) old.drawn) rsne
-    → ((k : ℕ) → k ≢ sta → station_at new.stations k ≡ station_at old.stations k)
-    → waits ≡ waited ++ associated_acts d (Ap old.number) (Sta sta) octets (is_some (station_at old.stations sta).attempt) (nonce d (Ap old.number) old.drawn)
-    → Takes d old new octets waited waits Accepted
-takes_associated d old new octets sta frame elements rsne raw waited waits w is none low raw_is rsne_is number drawn group now others waiting = λ first h stands.
-    (let m = management_fields frame in
-    let e = element_fields elements in
-    let n = Ap old.number in
-    let accepted = verdict_is d old.number octets sta frame elements w is first h ∙ by_draws d (first + draws h) e true none (lt-ltb (first + draws h) last_draw (subst (λ (x : ℕ). x < last_draw) stands.draws_are low)) in
-    record {
-      acts = associated_acts d n (Sta sta) octets (is_some (station_at old.stations sta).attempt) (nonce d n old.drawn);
-      adds = record {
-        r = Managed m e;
-        reads = w.reads;
-        facts = no_facts;
-        knows = λ far. tt;
-        row = By_assoc_req (record {
-          b = m;
-          e = e;
-          is = refl;
-          kind_is = is;
-          p = Sta sta;
-          from = w.judged.1;
-          accepted = ap (λ (o : Outcome). and_then o Accepted) accepted;
-          says = associated_is d first n sta octets (station_at old.stations sta).attempt old.drawn h (stands.peers sta).attempt_is stands.draws_are;
-        });
-      };
-      waiting = waiting;
-      came = refl;
-      stands = stands_associated d first old new sta octets rsne h w.judged.2 (e, ((m, w.reads), ap (λ (x : List ℕ). Some x) rsne_is ∙ sym raw_is)) stands number drawn group now others;
-    })
+pub takes_associated : (d : Domain) (old new : State) (octets : List ℕ) (sta : ℕ) (elements : Elements) (rsne raw : List ℕ) (waited waits : List Act) → IsRequest d old.number octets sta elements
+    → rsne_status d.akm (element_fields elements).rsne ≡ None → old.drawn < draw_end → (element_fields elements).rsne_octets ≡ Some raw → rsne ≡ raw → BeginsWith d old new sta rsne
+    → waits ≡ waited ++ associated_acts d (Ap old.number) (Sta sta) octets (is_some (attempt_in (station_at old.stations sta))) (nonce d (Ap old.number) old.drawn)
+    → IsTaken d (Take octets) old new (seen waited waits Accepted)
+takes_associated d old new octets sta elements rsne raw waited waits q none low raw_is rsne_is begun waiting = record {
+  number = begun.number;
+  steps = λ first h stands.
+      (let w = q.managed in
+      let m = management_fields q.frame in
+      let e = element_fields elements in
+      let n = Ap old.number in
+      let accepted = verdict_is d old.number octets sta q.frame elements w q.is first h ∙ by_draws d (first + draws h) e true none (lt-ltb (first + draws h) draw_end (subst (λ (x : ℕ). x < draw_end) stands.draws_are low)) in
+      record {
+        acts = associated_acts d n (Sta sta) octets (is_some (attempt_in (station_at old.stations sta))) (nonce d n old.drawn);
+        adds = record {
+          r = Managed m e;
+          reads = w.reads;
+          facts = no_facts;
+          knows = λ far. tt;
+          row = By_assoc_req (record {
+            b = m;
+            e = e;
+            is = refl;
+            kind_is = q.is;
+            p = Sta sta;
+            from = w.judged.1;
+            accepted = ap (λ (o : Outcome). and_then o Accepted) accepted;
+            says = associated_is d first n sta octets (station_at old.stations sta) old.drawn h (stands.parts sta) stands.draws_are;
+          });
+        };
+        waiting = waiting;
+        came = refl;
+        stands = stands_associated d first old new sta octets rsne h w.judged.2 (e, ((m, w.reads), ap (λ (x : List ℕ). Some x) rsne_is ∙ sym raw_is)) begun stands;
+      });
+  refused = λ why is. absurd (cc is);
+}
 
 -- with no status there are the octets of an RSNE
-pub some_rsne : (d : Domain) (a : ℕ) (octets : List ℕ) (station : ℕ) (frame : AnyFrame) (elements : Elements) → IsManagedAtAp d a octets (Sta station) frame elements → rsne_status d.akm (element_fields elements).rsne ≡ None → (element_fields elements).rsne_octets ≡ None → ⊥
-some_rsne d a octets station frame elements w none raw = cc ((accepted-rsne d.akm Body (management_fields frame).elements (element_fields elements) w.reads.1 none).1, raw)
+pub some_rsne : (d : Domain) (a : ℕ) (octets : List ℕ) (station : ℕ) (elements : Elements) → IsRequest d a octets station elements → rsne_status d.akm (element_fields elements).rsne ≡ None → (element_fields elements).rsne_octets ≡ None → ⊥
+some_rsne d a octets station elements q none raw = cc ((accepted-rsne d.akm Body (management_fields q.frame).elements (element_fields elements) q.managed.reads.1 none).1, raw)
 
 -- ---- as the code comes by them
-
-pub begins_as : (d : Domain) (n m sta : ℕ) (v w rsne : List ℕ) (a : Part) → n ≡ m → v ≡ w → Begins d n sta v rsne a → Begins d m sta w rsne a
-begins_as d n m sta v w rsne a number nonce_is begins = subst (λ (x : ℕ). Begins d x sta w rsne a) number (subst (λ (x : List ℕ). Begins d n sta x rsne a) nonce_is begins)
-
-pub begun_place : (a : Part) (x y z : Station) → x ≡ begun_with a y → y ≡ z → x ≡ begun_with a z
-begun_place a x y z here same = here ∙ ap (begun_with a) same
 
 joined : (old : List Act) (p : Node) (had : Bool) (t x y z m : Act) → (((old ++ t ∷ []) ++ closed p had) ++ x ∷ y ∷ z ∷ []) ++ m ∷ [] ≡ old ++ (t ∷ closed p had ++ x ∷ y ∷ z ∷ m ∷ [])
 joined [] p false t x y z m = refl
@@ -241,3 +228,12 @@ associated_added d n p octets had v t u old spare first second third sends last 
 
 pub associated_same : (d : Domain) (n m p : Node) (octets : List ℕ) (had has : Bool) (v w : List ℕ) → n ≡ m → had ≡ has → v ≡ w → associated_acts d n p octets had v ≡ associated_acts d m p octets has w
 associated_same d n m p octets had has v w node had_is nonce_is = rw (node, had_is, nonce_is) refl
+
+-- by other names of the number and the nonce
+pub begins_as : (d : Domain) (n m sta : ℕ) (v w rsne : List ℕ) (x : Part) → n ≡ m → v ≡ w → Begins d n sta v rsne x → Begins d m sta w rsne x
+begins_as d n m sta v w rsne x number nonce_is begins = subst (λ (a : ℕ). Begins d a sta w rsne x) number (subst (λ (u : List ℕ). Begins d n sta u rsne x) nonce_is begins)
+
+-- the outcome and two facts together make what is to hold of the outcome
+pub if_begun : {E : Type 0} (r : Result Outcome E) (o : Outcome) (P : Outcome → Type 0) (A B : Type 0) → IfOk r (λ came. came ≡ o) → OnOk r A → OnOk r B → (A → B → P o) → IfOk r P
+if_begun (Ok came) o P A B is a b then_ = subst P (sym is) (then_ a b)
+if_begun (Err e) o P A B is a b then_ = tt

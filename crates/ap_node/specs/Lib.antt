@@ -1,4 +1,4 @@
 pub mod State
 pub mod Stands
-pub mod Places
+pub mod Parts
 pub mod Takes

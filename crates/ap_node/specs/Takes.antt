@@ -1,7 +1,7 @@
--- What the taking of a frame and a retry do, and what is known of a frame that is for the access point (this project's choice).
-use Rattle.std.specs.Prelude.{ℕ, Bool, true, false, List, [], ◌∷◌, ◌++◌, Some, None}
+-- What an event does to an access point, and what is known of a frame that is for it (this project's choice).
+use Rattle.std.specs.Prelude.{◌≡◌, ◌≢◌, ◌+◌, ℕ, Bool, true, false, List, [], ◌∷◌, ◌++◌, Option, Some, None}
 use Rattle.domain_base.specs.declared.names.Node.{Node}
-use Rattle.domain_base.specs.declared.names.Node.TheVariants.{Ap}
+use Rattle.domain_base.specs.declared.names.Node.TheVariants.{Ap, Sta}
 use Rattle.rsn_elements.specs.declared.reading.Elements.{Elements}
 use Rattle.rsn_elements.specs.Fields.{element_fields}
 use Rattle.run_journal.specs.declared.domain.Domain.{Domain}
@@ -9,43 +9,70 @@ use Rattle.run_journal.specs.declared.acts.Start.TheVariants.{Connect}
 use Rattle.run_journal.specs.declared.acts.Drawn.TheVariants.{Nonce}
 use Rattle.run_journal.specs.declared.acts.Kind.TheVariants as kind
 use Rattle.run_journal.specs.declared.acts.Part.TheVariants.{Attempt as OfAttempt}
-use Rattle.run_journal.specs.declared.acts.Outcome.{Outcome}
-use Rattle.run_journal.specs.declared.acts.Outcome.TheVariants.{Accepted}
+use Rattle.run_journal.specs.declared.acts.Reason.{Reason}
+use Rattle.run_journal.specs.declared.acts.Outcome.TheVariants.{Accepted, Refused}
 use Rattle.run_journal.specs.declared.acts.Act.{Act}
 use Rattle.run_journal.specs.declared.acts.Act.TheVariants.{Closed, Took, Opened, Drew}
+use Rattle.domain_rules.specs.Here.{here}
+use Rattle.domain_rules.specs.Network.{nonce}
 use Rattle.domain_rules.specs.Reading.{Managed, Keyed, Reads}
 use Rattle.domain_rules.specs.Frames.{sent_assoc_resp, sent_m1}
-use Rattle.domain_rules.specs.Rows.{Take, Retry}
-use Rattle.node_frames.specs.declared.delivered.Management.{Management}
-use Rattle.node_frames.specs.declared.delivered.KeyMessage.{KeyMessage}
-use Rattle.node_frames.specs.declared.judging.Judged.TheVariants as judged
-use Rattle.node_frames.specs.Views.{management_fields, message_fields}
-use Rattle.node_frames.specs.Judging.{IsJudged}
-use Rattle.node_frames.specs.Events.{Steps}
-use Rattle.ap_node.specs.State.{State}
+use Rattle.domain_rules.specs.Rows.{NodeEvent}
+use Rattle.frame_intake.specs.declared.delivered.Management.{Management}
+use Rattle.frame_intake.specs.declared.delivered.KeyMessage.{KeyMessage}
+use Rattle.frame_intake.specs.declared.judging.Judged.TheVariants as judged
+use Rattle.frame_intake.specs.Views.{management_fields, message_fields}
+use Rattle.frame_intake.specs.Judging.{IsJudged}
+use Rattle.node_base.specs.Events.{Steps, Seen}
+use Rattle.authenticator.specs.State.{State as Part, with_session}
+use Rattle.authenticator.specs.Steps.{IsBegun}
+use Rattle.authenticator.specs.Stands.{HasSession, AuthenticatorStands}
+use Rattle.authenticator.specs.declared.session.Session.{Session}
+use Rattle.ap_node.specs.State.{State, station_at, session_in}
 use Rattle.ap_node.specs.Stands.{Stands}
 
--- for every history that the access point stands for, the frame adds those acts
-abbrev pub Takes : Domain → State → State → List ℕ → List Act → List Act → Outcome → Type 0
-Takes d old new octets waited waits outcome =
-    (first : ℕ) (h : List Act) → Stands d first old h
-    → Steps d first (Ap old.number) (Take octets) (Stands d first new) h waited waits outcome
-
--- and the retry
-abbrev pub Retries : Domain → State → State → ℕ → List Act → List Act → Outcome → Type 0
-Retries d old new station waited waits outcome =
-    (first : ℕ) (h : List Act) → Stands d first old h
-    → Steps d first (Ap old.number) (Retry station) (Stands d first new) h waited waits outcome
+-- it takes the event, whichever history it stands for, and a refusal leaves it
+pub record IsTaken (d : Domain) (event : NodeEvent) (old new : State) (s : Seen) : Type 0 where
+  pub number : new.number ≡ old.number
+  pub steps : (first : ℕ) (h : List Act) → Stands d first old h
+      → Steps (here d first (Ap old.number)) event (Stands d first new) h s
+  pub refused : (why : Reason) → s.outcome ≡ Refused why → new ≡ old
 
 -- the octets are a management frame for access point a from a node
-pub record IsManagedAtAp (d : Domain) (a : ℕ) (octets : List ℕ) (from : Node) (frame : Management) (elements : Elements) : Type 0 where
+pub record IsManagedAtAp (d : Domain) (a : ℕ) (octets : List ℕ) (from : Node) (frame : Management)
+    (elements : Elements) : Type 0 where
   pub reads : Reads d.akm octets (Managed (management_fields frame) (element_fields elements))
-  pub judged : IsJudged d (Ap a) (Managed (management_fields frame) (element_fields elements)) (judged.Managed from frame elements)
+  pub judged : IsJudged d (Ap a) (Managed (management_fields frame) (element_fields elements))
+      (judged.Managed from frame elements)
+
+-- an association request of that station
+pub record IsRequest (d : Domain) (a : ℕ) (octets : List ℕ) (station : ℕ) (elements : Elements) : Type 0 where
+  pub frame : Management
+  pub is : frame.kind ≡ kind.AssocReq
+  pub managed : IsManagedAtAp d a octets (Sta station) frame elements
 
 -- the octets are an EAPOL-Key message for access point a from a node
 pub record IsKeyedAtAp (d : Domain) (a : ℕ) (octets : List ℕ) (from : Node) (message : KeyMessage) : Type 0 where
   pub reads : Reads d.akm octets (Keyed (message_fields message))
   pub judged : IsJudged d (Ap a) (Keyed (message_fields message)) (judged.Keyed from message)
+
+-- a part of access point a with a station has begun an attempt, by that nonce and RSNE: it stands for the history with M1, beside
+-- whatever session there is
+abbrev pub Begins : Domain → ℕ → ℕ → List ℕ → List ℕ → Part → Type 0
+Begins d a station v rsne x =
+    (h : List Act) (session : Option Session) → IsBegun d (Sta station) v rsne h → HasSession d (Ap a) (Sta station) session h
+    → AuthenticatorStands d (Ap a) (Sta station) (with_session session x) (sent_m1 d (Ap a) (Sta station) 1 v ∷ h)
+
+-- an attempt with a station has begun, by the next nonce and that RSNE: its part is that of the station now, and the session goes
+-- on in it
+pub record BeginsWith (d : Domain) (old new : State) (station : ℕ) (rsne : List ℕ) : Type 0 where
+  pub number : new.number ≡ old.number
+  pub drawn : new.drawn ≡ old.drawn + 1
+  pub group : new.group ≡ old.group
+  pub part : Part
+  pub is : station_at new.stations station ≡ Some (with_session (session_in (station_at old.stations station)) part)
+  pub begins : Begins d old.number station (nonce d (Ap old.number) old.drawn) rsne part
+  pub others : (k : ℕ) → k ≢ station → station_at new.stations k ≡ station_at old.stations k
 
 -- The attempt that was there is closed: by whether the code has one, where `close_attempt` of the rows goes by what the history
 -- answers. The two are the same for a history that the access point stands for.

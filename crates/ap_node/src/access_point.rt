@@ -1,34 +1,29 @@
 //! An access point's state, and what each event does to it.
 
-ghost use Rattle.std.specs.Prelude.{◌≡◌, ◌≢◌, ◌<◌, ◌≤◌, ◌+◌, ℕ, List, [], ◌++◌, length, Some, None, IfOk, OnOk, OnErr, is_some};
+ghost use Rattle.std.specs.Prelude.{◌≡◌, ◌≢◌, ◌<◌, ◌≤◌, ◌++◌, ℕ, List, [], length};
+ghost use Rattle.std.specs.Prelude.{false, IfOk, OnOk, OnErr, is_some};
 ghost use Rattle.domain_base.specs.declared.names.Akm.{Akm as AnyAkm};
 ghost use Rattle.domain_base.specs.declared.names.Node.TheVariants.{Ap, Sta};
-ghost use Rattle.authenticator.specs.State.{State as Part};
-ghost use Rattle.run_journal.specs.declared.domain.Domain.{Domain as AnyDomain};
 ghost use Rattle.run_journal.specs.declared.acts.Act.{Act as AnyAct};
 ghost use Rattle.run_journal.specs.declared.acts.Reason.{Reason as AnyReason};
-ghost use Rattle.run_journal.specs.declared.acts.Kind.TheVariants as kind;
 ghost use Rattle.run_journal.specs.declared.acts.Outcome.TheVariants.{Accepted, Refused};
 ghost use Rattle.run_journal.specs.Questions.{add};
-ghost use Rattle.domain_rules.specs.Network.{InForm, IsListed, last_draw, nonce};
+ghost use Rattle.domain_rules.specs.Here.{here};
+ghost use Rattle.domain_rules.specs.Network.{InForm, IsListed, is_ap, draw_end, nonce};
 ghost use Rattle.domain_rules.specs.AccessPointRows.{start_acts};
-ghost use Rattle.node_frames.specs.Events.{event_of, IsEventAt, Steps};
-ghost use Rattle.ap_node.specs.State.{station_at};
-ghost use Rattle.ap_node.specs.Places.{Begins};
-ghost use Rattle.ap_node.specs.Takes.{Takes, Retries, IsManagedAtAp, IsKeyedAtAp, associated_acts};
+ghost use Rattle.domain_rules.specs.Rows.{Take, Retry};
+ghost use Rattle.node_base.specs.Events.{event_of, IsEventAt, Steps, seen};
+ghost use Rattle.ap_node.specs.State.{station_at, attempt_in};
+ghost use Rattle.ap_node.specs.Takes.{IsTaken, IsRequest, IsKeyedAtAp, BeginsWith, associated_acts};
 
 use crate::association::{Acceptance, close_attempt, open_attempt, prepare, refuse, whole_element};
-use crate::retrying::{add_retried, idle};
-use crate::stations::{
-    Station, begin, has_attempt_with, has_session_with, make_place, retry_with, step_with,
-};
+use crate::stations::{begin, make_place, retry, take_message};
+use act_memory::{Outbox, settle};
 use authenticator::{ApStart, Authenticator};
 use domain_base::{NoMemory, Node, Peer};
+use frame_intake::{Heard, Judged, judge, read};
 use group_key::GroupKeys;
-use node_frames::{
-    Between, Judged, KeyMessage, LAST_DRAW, Management, NodeEvent, Outbox, Room, SendRoom, address,
-    gtk, judge, nonce, read, rsne_status, settle,
-};
+use node_base::{DRAW_END, Here, NodeEvent, address, gtk, nonce, rsne_status};
 use rsn_elements::Elements;
 use run_journal::{Act, Domain, Drawn, Key, Kind, Outcome, Reason, Reply};
 use std::alloc::Global;
@@ -40,7 +35,7 @@ pub struct ApNode {
     number: u16,
     drawn: u64,
     group: GroupKeys,
-    stations: Vec<Station>,
+    stations: Vec<Option<Authenticator>>,
 }
 
 impl Model for ApNode {
@@ -62,7 +57,8 @@ impl Model for ApNode {
 impl ApNode {
     ghost use Rattle.ap_node.specs.Stands.{Stands};
 
-    /// The access point as it starts: it draws its first group key and installs it. It begins to draw at that number.
+    /// The access point as it starts: it draws its first group key and installs it. It begins to
+    /// draw at that number.
     pub fn start(
         alloc: Global,
         domain: &Domain,
@@ -70,11 +66,13 @@ impl ApNode {
         first_draw: u64,
         out: &mut Outbox,
     ) -> Result<Self, NoMemory>
-        requires draw { first_draw < last_draw }
+        requires draw { first_draw < draw_end }
         requires listed { IsListed domain.now (Ap ap) }
         ensures number { IfOk result (λ node. node.number ≡ ap) }
-        ensures stands { IfOk result (λ node. Stands domain.now first_draw node (add (start_acts domain.now first_draw (Ap ap)) [])) }
-        ensures acts { IfOk result (λ node. out.new.acts ≡ out.old.acts ++ start_acts domain.now first_draw (Ap ap)) }
+        ensures stands { IfOk result (λ node. Stands domain.now first_draw node
+            (add (start_acts domain.now first_draw (Ap ap)) [])) }
+        ensures acts { IfOk result (λ node. out.new.acts
+            ≡ out.old.acts ++ start_acts domain.now first_draw (Ap ap)) }
         ensures kept { OnErr result (out.new.acts ≡ out.old.acts) }
     {
         let node = Node::Ap(ap);
@@ -113,81 +111,56 @@ impl ApNode {
         requires listed { self.old.number < length domain.now.aps }
         requires event { IsEventAt domain.now (Ap self.old.number) (event_of event) }
         ensures number { self.new.number ≡ self.old.number }
-        ensures steps { IfOk result (λ outcome. (first : ℕ) (h : List AnyAct) → Stands domain.now first self.old h
-            → Steps domain.now first (Ap self.old.number) (event_of event.entry) (Stands domain.now first self.new) h out.old.acts out.new.acts outcome) }
-        ensures refused { IfOk result (λ outcome. (why : AnyReason) → outcome ≡ Refused why → self.new ≡ self.old) }
+        ensures steps { IfOk result (λ outcome. (first : ℕ) (h : List AnyAct)
+            → Stands domain.now first self.old h
+            → Steps (here domain.now first (Ap self.old.number)) (event_of event.entry)
+            (Stands domain.now first self.new) h (seen out.old.acts out.new.acts outcome)) }
+        ensures refused { IfOk result (λ outcome. (why : AnyReason) → outcome ≡ Refused why
+            → self.new ≡ self.old) }
         ensures same { OnErr result (self.new ≡ self.old) }
         ensures kept { OnErr result (out.new.acts ≡ out.old.acts) }
     {
+        let node = Node::Ap(self.number);
+        let here = Here {
+            alloc,
+            domain,
+            node,
+        };
         match event {
-            NodeEvent::Take(octets) => self.take(alloc, domain, octets, out),
+            NodeEvent::Take(octets) => self.take(here, octets, out),
             NodeEvent::Connect(_) => unreachable!(),
-            NodeEvent::Retry(station) => self.retry(alloc, station, out),
+            NodeEvent::Retry(station) => self.retry(here, station, out),
         }
     }
 
     // Takes the octets of a frame.
-    fn take(
-        &mut self,
-        alloc: Global,
-        domain: &Domain,
-        octets: &[u8],
-        out: &mut Outbox,
-    ) -> Result<Outcome, NoMemory>
-        requires form { InForm domain.now }
-        requires suite { domain.now.akm ≢ AnyAkm.FtPsk }
-        requires listed { self.old.number < length domain.now.aps }
-        ensures number { self.new.number ≡ self.old.number }
-        ensures takes { IfOk result (λ outcome. Takes domain.now self.old self.new octets.now out.old.acts out.new.acts outcome) }
-        ensures refused { IfOk result (λ outcome. (why : AnyReason) → outcome ≡ Refused why → self.new ≡ self.old) }
+    fn take(&mut self, here: Here<'_>, octets: &[u8], out: &mut Outbox) -> Result<Outcome, NoMemory>
+        requires node { here.node ≡ Ap self.old.number }
+        requires form { InForm here.domain.now }
+        requires suite { here.domain.now.akm ≢ AnyAkm.FtPsk }
+        requires listed { self.old.number < length here.domain.now.aps }
+        ensures taken { IfOk result (λ outcome. IsTaken here.entry.domain.now (Take octets.now)
+            self.old self.new (seen out.old.acts out.new.acts outcome)) }
         ensures same { OnErr result (self.new ≡ self.old) }
         ensures kept { OnErr result (out.new.acts ≡ out.old.acts) }
     {
-        let delivered = read(domain.akm, octets);
-        match judge(domain, Node::Ap(self.number), &delivered) {
+        let delivered = read(here.domain.akm, octets);
+        match judge(here.domain, here.node, &delivered) {
             Judged::Settled(from, outcome) => {
-                settle(alloc, from, octets, delivered.kind(), outcome, out)
+                settle(here.alloc, from, octets, delivered.kind(), outcome, out)
             }
-            Judged::Managed(from, frame, elements) => {
-                self.take_managed(alloc, domain, octets, from, &frame, &elements, out)
-            }
+            Judged::Managed(from, frame, elements) => match frame.kind {
+                Kind::AssocReq => {
+                    self.take_request(here, number_of(from), octets, &elements, out)
+                }
+                kind => {
+                    let outcome = Outcome::Refused(Reason::Unawaited);
+                    settle(here.alloc, Some(from), octets, kind, outcome, out)
+                }
+            },
             Judged::Keyed(from, message) => {
-                self.take_keyed(alloc, domain, octets, from, &message, out)
-            }
-        }
-    }
-
-    // Takes a management frame.
-    fn take_managed(
-        &mut self,
-        alloc: Global,
-        domain: &Domain,
-        octets: &[u8],
-        from: Node,
-        frame: &Management<'_>,
-        elements: &Elements<'_>,
-        out: &mut Outbox,
-    ) -> Result<Outcome, NoMemory>
-        requires form { InForm domain.now }
-        requires suite { domain.now.akm ≢ AnyAkm.FtPsk }
-        requires listed { self.old.number < length domain.now.aps }
-        requires frame { IsManagedAtAp domain.now self.old.number octets.now from frame.now elements.now }
-        ensures number { self.new.number ≡ self.old.number }
-        ensures takes { IfOk result (λ outcome. Takes domain.now self.old self.new octets.now out.old.acts out.new.acts outcome) }
-        ensures refused { IfOk result (λ outcome. (why : AnyReason) → outcome ≡ Refused why → self.new ≡ self.old) }
-        ensures same { OnErr result (self.new ≡ self.old) }
-        ensures kept { OnErr result (out.new.acts ≡ out.old.acts) }
-    {
-        let Node::Sta(station) = from else {
-            unreachable!()
-        };
-        match frame.kind {
-            Kind::AssocReq => self.take_request(
-                alloc, domain, octets, station, frame, elements, out,
-            ),
-            kind => {
-                let outcome = Outcome::Refused(Reason::Unawaited);
-                settle(alloc, Some(from), octets, kind, outcome, out)
+                let heard = Heard { octets, message };
+                self.take_keyed(here, number_of(from), &heard, out)
             }
         }
     }
@@ -195,38 +168,32 @@ impl ApNode {
     // Takes an association request of a station.
     fn take_request(
         &mut self,
-        alloc: Global,
-        domain: &Domain,
-        octets: &[u8],
+        here: Here<'_>,
         station: u16,
-        frame: &Management<'_>,
+        octets: &[u8],
         elements: &Elements<'_>,
         out: &mut Outbox,
     ) -> Result<Outcome, NoMemory>
-        requires form { InForm domain.now }
-        requires suite { domain.now.akm ≢ AnyAkm.FtPsk }
-        requires listed { self.old.number < length domain.now.aps }
-        requires frame { IsManagedAtAp domain.now self.old.number octets.now (Sta station) frame.now elements.now }
-        requires kind { frame.now.kind ≡ kind.AssocReq }
-        ensures number { self.new.number ≡ self.old.number }
-        ensures takes { IfOk result (λ outcome. Takes domain.now self.old self.new octets.now out.old.acts out.new.acts outcome) }
-        ensures refused { IfOk result (λ outcome. (why : AnyReason) → outcome ≡ Refused why → self.new ≡ self.old) }
+        requires node { here.node ≡ Ap self.old.number }
+        requires form { InForm here.domain.now }
+        requires suite { here.domain.now.akm ≢ AnyAkm.FtPsk }
+        requires listed { self.old.number < length here.domain.now.aps }
+        requires frame { IsRequest here.domain.now self.old.number octets.now station elements.now }
+        ensures taken { IfOk result (λ outcome. IsTaken here.entry.domain.now (Take octets.now)
+            self.old self.new (seen out.old.acts out.new.acts outcome)) }
         ensures same { OnErr result (self.new ≡ self.old) }
         ensures kept { OnErr result (out.new.acts ≡ out.old.acts) }
     {
-        if let Some(status) = rsne_status(domain.akm, elements.rsne) {
-            return refuse(alloc, domain, self.number, station, octets, status, out);
+        if let Some(status) = rsne_status(here.domain.akm, elements.rsne) {
+            return refuse(here, station, octets, status, out);
         }
-        if self.drawn >= LAST_DRAW {
+        if self.drawn >= DRAW_END {
             let outcome = Outcome::Refused(Reason::Spent);
             let from = Some(Node::Sta(station));
-            return settle(alloc, from, octets, Kind::AssocReq, outcome, out);
+            return settle(here.alloc, from, octets, Kind::AssocReq, outcome, out);
         }
         match elements.rsne_octets {
-            Some(rsne) => {
-                let rsne = whole_element(rsne);
-                self.associate(alloc, domain, octets, station, rsne, out)
-            }
+            Some(rsne) => self.associate(here, station, octets, whole_element(rsne), out),
             None => unreachable!(),
         }
     }
@@ -234,27 +201,26 @@ impl ApNode {
     // Accepts an association request with that RSNE, and begins an attempt.
     fn associate(
         &mut self,
-        alloc: Global,
-        domain: &Domain,
-        octets: &[u8],
+        here: Here<'_>,
         station: u16,
+        octets: &[u8],
         rsne: &[u8],
         out: &mut Outbox,
     ) -> Result<Outcome, NoMemory>
-        requires form { InForm domain.now }
-        requires suite { domain.now.akm ≢ AnyAkm.FtPsk }
-        requires listed { self.old.number < length domain.now.aps }
-        requires station { station < length domain.now.stas }
-        requires draw { self.old.drawn < last_draw }
+        requires node { here.node ≡ Ap self.old.number }
+        requires form { InForm here.domain.now }
+        requires suite { here.domain.now.akm ≢ AnyAkm.FtPsk }
+        requires listed { self.old.number < length here.domain.now.aps }
+        requires station { station < length here.domain.now.stas }
+        requires draw { self.old.drawn < draw_end }
         requires rsne { length rsne.now ≤ 257 }
         ensures outcome { IfOk result (λ came. came ≡ Accepted) }
-        ensures number { self.new.number ≡ self.old.number }
-        ensures drawn { OnOk result (self.new.drawn ≡ self.old.drawn + 1) }
-        ensures group { self.new.group ≡ self.old.group }
-        ensures begun { OnOk result ((a : Part) × (station_at self.new.stations station ≡ record { attempt = Some a; session = (station_at self.old.stations station).session })
-            × Begins domain.now self.old.number station (nonce domain.now (Ap self.old.number) self.old.drawn) rsne.now a) }
-        ensures others { (k : ℕ) → k ≢ station → station_at self.new.stations k ≡ station_at self.old.stations k }
-        ensures acts { OnOk result (out.new.acts ≡ out.old.acts ++ associated_acts domain.now (Ap self.old.number) (Sta station) octets.now (is_some (station_at self.old.stations station).attempt) (nonce domain.now (Ap self.old.number) self.old.drawn)) }
+        ensures begun { OnOk result
+            (BeginsWith here.entry.domain.now self.old self.new station rsne.now) }
+        ensures acts { OnOk result (out.new.acts ≡ out.old.acts
+            ++ associated_acts here.entry.domain.now (Ap self.old.number) (Sta station) octets.now
+            (is_some (attempt_in (station_at self.old.stations station)))
+            (nonce here.entry.domain.now (Ap self.old.number) self.old.drawn)) }
         ensures same { OnErr result (self.new ≡ self.old) }
         ensures kept { OnErr result (out.new.acts ≡ out.old.acts) }
     {
@@ -262,108 +228,65 @@ impl ApNode {
             taken,
             response,
             room,
-        } = prepare(alloc, domain, self.number, station, octets)?;
+        } = prepare(here, station, octets)?;
         out.reserve(6)?;
         make_place(&mut self.stations, station)?;
-        let anonce = nonce(domain, Node::Ap(self.number), self.drawn);
+        let anonce = nonce(here.domain, here.node, self.drawn);
         let start = ApStart::Connect {
             anonce: &anonce,
             rsne,
         };
         let mut reply = Reply::empty();
-        let attempt = Authenticator::begin(domain, self.number, station, start, &mut reply);
+        let part = Authenticator::begin(here.domain, self.number, station, start, &mut reply);
+        let had_attempt = begin(&mut self.stations, station, part);
         out.add(taken);
-        close_attempt(has_attempt_with(&self.stations, station), station, out);
+        close_attempt(had_attempt, station, out);
         open_attempt(station, anonce, response, out);
         room.add_sent(Node::Sta(station), &reply, out);
-        begin(&mut self.stations, station, attempt);
         self.drawn += 1;
         Ok(Outcome::Accepted)
     }
 
-    // Takes an EAPOL-Key message: it is awaited in attempts alone.
+    // Takes an EAPOL-Key message of a station: it is for the part with it.
     fn take_keyed(
         &mut self,
-        alloc: Global,
-        domain: &Domain,
-        octets: &[u8],
-        from: Node,
-        message: &KeyMessage<'_>,
-        out: &mut Outbox,
-    ) -> Result<Outcome, NoMemory>
-        requires listed { self.old.number < length domain.now.aps }
-        requires frame { IsKeyedAtAp domain.now self.old.number octets.now from message.now }
-        ensures number { self.new.number ≡ self.old.number }
-        ensures takes { IfOk result (λ outcome. Takes domain.now self.old self.new octets.now out.old.acts out.new.acts outcome) }
-        ensures refused { IfOk result (λ outcome. (why : AnyReason) → outcome ≡ Refused why → self.new ≡ self.old) }
-        ensures same { OnErr result (self.new ≡ self.old) }
-        ensures kept { OnErr result (out.new.acts ≡ out.old.acts) }
-    {
-        let Node::Sta(station) = from else {
-            unreachable!()
-        };
-        if has_attempt_with(&self.stations, station) {
-            return self.take_message(alloc, domain, octets, station, message, out);
-        }
-        let kind = Kind::Key(message.message);
-        let outcome = Outcome::Refused(Reason::Unawaited);
-        settle(alloc, Some(from), octets, kind, outcome, out)
-    }
-
-    // Hands an EAPOL-Key message to the attempt with its station.
-    fn take_message(
-        &mut self,
-        alloc: Global,
-        domain: &Domain,
-        octets: &[u8],
+        here: Here<'_>,
         station: u16,
-        message: &KeyMessage<'_>,
+        heard: &Heard<'_>,
         out: &mut Outbox,
     ) -> Result<Outcome, NoMemory>
-        requires listed { self.old.number < length domain.now.aps }
-        requires frame { IsKeyedAtAp domain.now self.old.number octets.now (Sta station) message.now }
-        requires attempt { (station_at self.old.stations station).attempt ≢ None }
-        ensures number { self.new.number ≡ self.old.number }
-        ensures takes { IfOk result (λ outcome. Takes domain.now self.old self.new octets.now out.old.acts out.new.acts outcome) }
-        ensures refused { IfOk result (λ outcome. (why : AnyReason) → outcome ≡ Refused why → self.new ≡ self.old) }
+        requires node { here.node ≡ Ap self.old.number }
+        requires listed { self.old.number < length here.domain.now.aps }
+        requires frame { IsKeyedAtAp here.domain.now self.old.number heard.now.octets.now
+            (Sta station) heard.now.message }
+        ensures taken { IfOk result (λ outcome. IsTaken here.entry.domain.now
+            (Take heard.now.octets.now) self.old self.new
+            (seen out.old.acts out.new.acts outcome)) }
         ensures same { OnErr result (self.new ≡ self.old) }
         ensures kept { OnErr result (out.new.acts ≡ out.old.acts) }
     {
-        let (node, peer) = (Node::Ap(self.number), Node::Sta(station));
-        let (frame, what) = (&message.frame, message.message);
-        let room = Room::take(alloc, domain, node, peer, octets, frame.octets)?;
-        out.reserve(7)?;
         let newest = self.group.newest();
-        let had_session = has_session_with(&self.stations, station);
-        let mut reply = Reply::empty();
-        let outcome = step_with(
-            &mut self.stations,
-            station,
-            what,
-            frame,
-            &newest,
-            &mut reply,
-        );
-        let between = Between::nothing(alloc);
-        room.add_reply(what, outcome, had_session, &reply, between, out);
-        Ok(outcome)
+        take_message(&mut self.stations, here, station, heard, &newest, out)
     }
 
     // Sends once more what waits for an answer of the station.
-    fn retry(&mut self, alloc: Global, station: u16, out: &mut Outbox) -> Result<Outcome, NoMemory>
-        ensures number { self.new.number ≡ self.old.number }
-        ensures retries { (d : AnyDomain) → IfOk result (λ outcome. Retries d self.old self.new station out.old.acts out.new.acts outcome) }
-        ensures refused { IfOk result (λ outcome. (why : AnyReason) → outcome ≡ Refused why → self.new ≡ self.old) }
+    fn retry(&mut self, here: Here<'_>, station: u16, out: &mut Outbox) -> Result<Outcome, NoMemory>
+        ensures taken { IfOk result (λ outcome. IsTaken here.entry.domain.now (Retry station)
+            self.old self.new (seen out.old.acts out.new.acts outcome)) }
         ensures same { OnErr result (self.new ≡ self.old) }
         ensures kept { OnErr result (out.new.acts ≡ out.old.acts) }
     {
-        if !has_attempt_with(&self.stations, station) {
-            return idle(out);
-        }
-        let room = SendRoom::take(alloc)?;
-        out.reserve(2)?;
-        let mut reply = Reply::empty();
-        let came = retry_with(&mut self.stations, station, &mut reply);
-        Ok(add_retried(station, came, room, &reply, out))
+        retry(&mut self.stations, here.alloc, station, out)
+    }
+}
+
+// The number of a station.
+fn number_of(peer: Node) -> u16
+    requires { is_ap peer ≡ false }
+    ensures { peer ≡ Sta result }
+{
+    match peer {
+        Node::Sta(number) => number,
+        Node::Ap(_) => unreachable!(),
     }
 }

@@ -1,42 +1,44 @@
 //! Association requests at an access point.
 
-ghost use Rattle.std.specs.Prelude.{◌≡◌, ◌<◌, ◌≤◌, ◌+◌, [], ◌∷◌, ◌++◌, length, slice_index, Some, None, IfOk, OnOk, OnErr};
-ghost use Rattle.domain_base.specs.declared.names.Node.TheVariants.{Ap, Sta};
+ghost use Rattle.std.specs.Prelude.{◌≡◌, ◌≤◌, ◌+◌, [], ◌∷◌, ◌++◌, length, slice_index, Some, None};
+ghost use Rattle.std.specs.Prelude.{IfOk, OnOk, OnErr};
+ghost use Rattle.domain_base.specs.declared.names.Node.TheVariants.{Sta};
 ghost use Rattle.run_journal.specs.declared.acts.Act.TheVariants.{Took, Opened, Drew};
 ghost use Rattle.run_journal.specs.declared.acts.Reason.TheVariants as reason;
 ghost use Rattle.run_journal.specs.declared.acts.Kind.TheVariants as kind;
 ghost use Rattle.run_journal.specs.declared.acts.Start.TheVariants.{Connect};
 ghost use Rattle.run_journal.specs.declared.acts.Drawn.TheVariants.{Nonce};
 ghost use Rattle.run_journal.specs.declared.acts.Outcome.TheVariants.{Accepted, Refused};
-ghost use Rattle.domain_rules.specs.Network.{InForm};
+ghost use Rattle.domain_rules.specs.Network.{InForm, IsListed};
 ghost use Rattle.domain_rules.specs.Frames.{sent_assoc_resp, sent_refusal};
 ghost use Rattle.ap_node.specs.Takes.{closed};
 
+use act_memory::{Outbox, SendRoom, took};
 use domain_base::{NoMemory, Node};
-use node_frames::{Outbox, SendRoom, assoc_resp, refusal, took};
-use run_journal::{Act, Domain, Drawn, Kind, Outcome, Part, Reason, Start};
-use std::alloc::Global;
+use frame_making::{assoc_resp, refusal};
+use node_base::Here;
+use run_journal::{Act, Drawn, Kind, Outcome, Part, Reason, Start};
 
-/// Refuses an association request with a status.
+/// Refuses an association request of a station with a status.
 pub fn refuse(
-    alloc: Global,
-    domain: &Domain,
-    ap: u16,
+    here: Here<'_>,
     station: u16,
     octets: &[u8],
     status: u16,
     out: &mut Outbox,
 ) -> Result<Outcome, NoMemory>
-    requires ap { ap < length domain.now.aps }
-    requires station { station < length domain.now.stas }
+    requires ap { IsListed here.domain.now here.node }
+    requires station { IsListed here.domain.now (Sta station) }
     ensures outcome { IfOk result (λ came. came ≡ Refused (reason.Status status)) }
-    ensures acts { OnOk result (out.new.acts ≡ out.old.acts ++ Took (Some (Sta station)) octets.now kind.AssocReq (Refused (reason.Status status)) None ∷ sent_refusal domain.now (Ap ap) (Sta station) status ∷ []) }
+    ensures acts { OnOk result (out.new.acts ≡ out.old.acts
+        ++ Took (Some (Sta station)) octets.now kind.AssocReq (Refused (reason.Status status)) None
+        ∷ sent_refusal here.entry.domain.now here.entry.node (Sta station) status ∷ []) }
     ensures kept { OnErr result (out.new.acts ≡ out.old.acts) }
 {
     let outcome = Outcome::Refused(Reason::Status(status));
     let from = Some(Node::Sta(station));
-    let taken = took(alloc, from, octets, Kind::AssocReq, outcome, None)?;
-    let response = refusal(alloc, domain, ap, station, status)?;
+    let taken = took(here.alloc, from, octets, Kind::AssocReq, outcome, None)?;
+    let response = refusal(here, station, status)?;
     out.reserve(2)?;
     out.add(taken);
     out.add(response);
@@ -73,7 +75,8 @@ pub fn close_attempt(has_attempt: bool, station: u16, out: &mut Outbox)
 /// Opens an attempt with a station, by the nonce that was drawn for it and the response.
 pub fn open_attempt(station: u16, anonce: [u8; 32], response: Act, out: &mut Outbox)
     requires { 3 ≤ out.old.spare }
-    ensures acts { out.new.acts ≡ out.old.acts ++ Opened (Sta station) Connect ∷ Drew (Nonce anonce) ∷ response ∷ [] }
+    ensures acts { out.new.acts ≡ out.old.acts
+        ++ Opened (Sta station) Connect ∷ Drew (Nonce anonce) ∷ response ∷ [] }
     ensures spare { out.old.spare ≤ out.new.spare + 3 }
 {
     out.add(Act::Opened {
@@ -97,25 +100,21 @@ pub struct Acceptance {
     pub room: SendRoom,
 }
 
-/// Prepares the acceptance of an association request.
-pub fn prepare(
-    alloc: Global,
-    domain: &Domain,
-    ap: u16,
-    station: u16,
-    octets: &[u8],
-) -> Result<Acceptance, NoMemory>
-    requires form { InForm domain.now }
-    requires ap { ap < length domain.now.aps }
-    requires station { station < length domain.now.stas }
-    ensures taken { IfOk result (λ a. a.taken ≡ Took (Some (Sta station)) octets.now kind.AssocReq Accepted None) }
-    ensures response { IfOk result (λ a. a.response ≡ sent_assoc_resp domain.now (Ap ap) (Sta station)) }
+/// Prepares the acceptance of an association request of a station.
+pub fn prepare(here: Here<'_>, station: u16, octets: &[u8]) -> Result<Acceptance, NoMemory>
+    requires form { InForm here.domain.now }
+    requires ap { IsListed here.domain.now here.node }
+    requires station { IsListed here.domain.now (Sta station) }
+    ensures taken { IfOk result (λ a. a.taken
+        ≡ Took (Some (Sta station)) octets.now kind.AssocReq Accepted None) }
+    ensures response { IfOk result (λ a. a.response
+        ≡ sent_assoc_resp here.entry.domain.now here.entry.node (Sta station)) }
 {
     let from = Some(Node::Sta(station));
     let outcome = Outcome::Accepted;
-    let taken = took(alloc, from, octets, Kind::AssocReq, outcome, None)?;
-    let response = assoc_resp(alloc, domain, ap, station)?;
-    let room = SendRoom::take(alloc)?;
+    let taken = took(here.alloc, from, octets, Kind::AssocReq, outcome, None)?;
+    let response = assoc_resp(here, station)?;
+    let room = SendRoom::take(here.alloc)?;
     Ok(Acceptance {
         taken,
         response,

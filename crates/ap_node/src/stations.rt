@@ -1,53 +1,42 @@
-//! What an access point has with stations.
+//! What an access point has with stations: a part by the number of each, as far as they came.
 
-ghost use Rattle.std.specs.Prelude.{◌≡◌, ◌≢◌, ◌<◌, ℕ, Some, None, OnOk, OnErr, vec_len, is_some};
-ghost use Rattle.eapol_key.specs.Fields.{fields_of, IsKeyFrame};
+ghost use Rattle.std.specs.Prelude.{◌≡◌, ◌≢◌, ◌<◌, ◌++◌, [], ◌∷◌, ℕ, List, Some, None};
+ghost use Rattle.std.specs.Prelude.{IfOk, OnOk, OnErr, vec_len, is_some};
+ghost use Rattle.domain_base.specs.declared.names.Node.TheVariants.{Sta};
+ghost use Rattle.eapol_key.specs.Fields.{IsKeyFrame};
+ghost use Rattle.run_journal.specs.declared.acts.Act.{Act as AnyAct};
+ghost use Rattle.run_journal.specs.declared.acts.Act.TheVariants.{Took};
+ghost use Rattle.run_journal.specs.declared.acts.Kind.TheVariants as kind;
 ghost use Rattle.run_journal.specs.declared.acts.Outcome.TheVariants.{Refused};
+ghost use Rattle.run_journal.specs.declared.acts.Reason.TheVariants as reason;
 ghost use Rattle.run_journal.specs.declared.acts.Reason.{Reason as AnyReason};
-ghost use Rattle.run_journal.specs.Replies.{IsWhole};
-ghost use Rattle.ap_node.specs.State.{station_at};
-ghost use Rattle.ap_node.specs.Places.{PlaceSteps, PlaceRetries};
+ghost use Rattle.domain_rules.specs.Network.{IsListed};
+ghost use Rattle.domain_rules.specs.Replies.{pair, taken_as};
+ghost use Rattle.domain_rules.specs.Rows.{outcome_of};
+ghost use Rattle.frame_intake.specs.Views.{message_fields};
+ghost use Rattle.node_base.specs.Peers.{IsPeerOf};
+ghost use Rattle.authenticator.specs.State.{with_session};
+ghost use Rattle.authenticator.specs.Judged.{frame_of};
+ghost use Rattle.authenticator.specs.Taken.{given};
+ghost use Rattle.ap_node.specs.State.{station_at, attempt_in, session_in};
+ghost use Rattle.ap_node.specs.Parts.{IsHanded, IsHandedAt, IsResent, IsResentAt};
 
-use authenticator::{Authenticator, Retried};
-use domain_base::NoMemory;
-use eapol_key::{KeyFrame, Message};
+use crate::retrying::{add_again, idle};
+use act_memory::{Between, Outbox, Room, SendRoom, settle};
+use authenticator::Authenticator;
+use domain_base::{NoMemory, Node};
+use frame_intake::Heard;
 use group_key::GroupKey;
-use run_journal::{Outcome, Reply};
+use node_base::Here;
+use run_journal::{Kind, Outcome, Reason, Reply};
+use std::alloc::Global;
 
-/// The count of packet numbers that were used under the newest group key: nothing is sent under it yet.
+/// The count of packet numbers that were used under the newest group key: nothing is sent under it
+/// yet.
 const NO_USES: u64 = 0;
 
-/// What an access point has with a station.
-#[derive(Drop)]
-pub struct Station {
-    /// The attempt with it, where there is one.
-    pub attempt: Option<Authenticator>,
-    /// The session with it, where there is one: beside an attempt it stays until the attempt becomes a session.
-    pub session: Option<Authenticator>,
-}
-
-/// Whether there is an attempt with the station of that number.
-pub fn has_attempt_with(stations: &[Station], station: u16) -> bool
-    ensures { result ≡ is_some (station_at stations.now station).attempt }
-{
-    match stations.get(usize::from(station)) {
-        Some(found) => found.attempt.is_some(),
-        None => false,
-    }
-}
-
-/// Whether there is a session with the station of that number.
-pub fn has_session_with(stations: &[Station], station: u16) -> bool
-    ensures { result ≡ is_some (station_at stations.now station).session }
-{
-    match stations.get(usize::from(station)) {
-        Some(found) => found.session.is_some(),
-        None => false,
-    }
-}
-
 /// Makes a place for the station of that number.
-pub fn make_place(stations: &mut Vec<Station>, station: u16) -> Result<(), NoMemory>
+pub fn make_place(stations: &mut Vec<Option<Authenticator>>, station: u16) -> Result<(), NoMemory>
     ensures place { OnOk result (station < vec_len stations.new) }
     ensures same { (k : ℕ) → station_at stations.new.items k ≡ station_at stations.old.items k }
     ensures err { OnErr result (stations.new.items ≡ stations.old.items) }
@@ -58,102 +47,175 @@ pub fn make_place(stations: &mut Vec<Station>, station: u16) -> Result<(), NoMem
     }
     stations.reserve(places - stations.len())?;
     while stations.len() < places {
-        let place = Station {
-            attempt: None,
-            session: None,
-        };
-        if stations.push(place).is_err() {
-            unreachable!()
-        }
+        stations.push_reserved(None);
     }
     Ok(())
 }
 
-/// From now on this is the attempt with the station of that number, which has a place. A session stays.
-pub fn begin(stations: &mut Vec<Station>, station: u16, attempt: Authenticator)
-    requires { station < vec_len stations.old }
-    ensures begun { station_at stations.new.items station ≡ record { attempt = Some attempt; session = (station_at stations.old.items station).session } }
-    ensures others { (k : ℕ) → k ≢ station → station_at stations.new.items k ≡ station_at stations.old.items k }
+// The part with a new attempt takes the place of the one there was.
+fn replace(place: &mut Option<Authenticator>, mut part: Authenticator) -> bool
+    requires { part.session ≡ None }
+    ensures had { result ≡ is_some (attempt_in place.old) }
+    ensures begun { place.new ≡ Some (with_session (session_in place.old) part) }
 {
-    stations[usize::from(station)].attempt = Some(attempt);
-}
-
-// The attempt takes a message, with the newest group key for M3. Where it becomes a session, that takes the place of the one
-// there was.
-fn step(
-    place: &mut Station,
-    message: Message,
-    frame: &KeyFrame<'_>,
-    newest: &GroupKey,
-    reply: &mut Reply,
-) -> Outcome
-    requires attempt { place.old.attempt ≢ None }
-    requires frame { IsKeyFrame frame.now }
-    requires id { newest.now.id < 4 }
-    ensures steps { PlaceSteps place.old place.new message (fields_of frame.now) frame.now.octets.now newest.now result reply.new }
-    ensures refused { (why : AnyReason) → result ≡ Refused why → place.new ≡ place.old }
-    ensures whole { IsWhole reply.new }
-{
-    let Some(attempt) = &mut place.attempt else {
-        unreachable!()
-    };
-    let outcome = attempt.step(message, frame, newest, NO_USES, reply);
-    if reply.installed.is_some() {
-        place.session = place.attempt.take();
+    match place.take() {
+        Some(older) => {
+            let had_attempt = older.has_attempt();
+            part.keep_session(older);
+            *place = Some(part);
+            had_attempt
+        }
+        None => {
+            *place = Some(part);
+            false
+        }
     }
-    outcome
 }
 
-/// The attempt with the station of that number takes a message, with the newest group key for M3. Where it becomes a session,
-/// that takes the place of the one there was.
-pub fn step_with(
-    stations: &mut Vec<Station>,
+/// From now on this is the part with the station of that number, which has a place. The session of
+/// the part that was there goes on in it; the attempt is at its end, and whether there was one is
+/// answered.
+pub fn begin(stations: &mut Vec<Option<Authenticator>>, station: u16, part: Authenticator) -> bool
+    requires place { station < vec_len stations.old }
+    requires alone { part.session ≡ None }
+    ensures had { result ≡ is_some (attempt_in (station_at stations.old.items station)) }
+    ensures begun { station_at stations.new.items station
+        ≡ Some (with_session (session_in (station_at stations.old.items station)) part) }
+    ensures others { (k : ℕ) → k ≢ station
+        → station_at stations.new.items k ≡ station_at stations.old.items k }
+{
+    replace(&mut stations[usize::from(station)], part)
+}
+
+// The part with a station takes an EAPOL-Key message of it, with the newest group key for M3.
+fn hand(
+    here: Here<'_>,
     station: u16,
-    message: Message,
-    frame: &KeyFrame<'_>,
+    heard: &Heard<'_>,
+    part: &mut Authenticator,
     newest: &GroupKey,
-    reply: &mut Reply,
-) -> Outcome
-    requires attempt { (station_at stations.old.items station).attempt ≢ None }
-    requires frame { IsKeyFrame frame.now }
+    out: &mut Outbox,
+) -> Result<Outcome, NoMemory>
+    requires listed { IsListed here.domain.now here.node }
+    requires peer { IsPeerOf here.domain.now here.node (Sta station) }
+    requires frame { IsKeyFrame heard.now.message.frame }
     requires id { newest.now.id < 4 }
-    ensures steps { PlaceSteps (station_at stations.old.items station) (station_at stations.new.items station) message (fields_of frame.now) frame.now.octets.now newest.now result reply.new }
-    ensures others { (k : ℕ) → k ≢ station → station_at stations.new.items k ≡ station_at stations.old.items k }
-    ensures refused { (why : AnyReason) → result ≡ Refused why → stations.new.items ≡ stations.old.items }
-    ensures whole { IsWhole reply.new }
+    ensures handed { IfOk result (λ outcome. (acts : List AnyAct)
+        × (out.new.acts ≡ out.old.acts ++ acts)
+        × IsHanded (pair here.entry.domain.now here.entry.node (Sta station))
+        (given heard.now.message.message (frame_of heard.now.message.frame) newest.now 0)
+        (taken_as heard.now.octets.now (message_fields heard.now.message) outcome)
+        part.old part.new acts) }
+    ensures same { OnErr result (part.new ≡ part.old) }
+    ensures kept { OnErr result (out.new.acts ≡ out.old.acts) }
 {
-    step(
-        &mut stations[usize::from(station)],
-        message,
-        frame,
-        newest,
-        reply,
-    )
+    let message = &heard.message;
+    let room = Room::take(here, Node::Sta(station), heard)?;
+    out.reserve(7)?;
+    let had_session = part.has_session();
+    let mut reply = Reply::empty();
+    let outcome = part.step(message.message, &message.frame, newest, NO_USES, &mut reply);
+    let between = Between::nothing(here.alloc);
+    room.add_reply(outcome, had_session, &reply, between, out);
+    Ok(outcome)
 }
 
-// The attempt sends once more, or is given up.
-fn retry(place: &mut Station, reply: &mut Reply) -> Retried
-    requires { place.old.attempt ≢ None }
-    ensures retries { PlaceRetries place.old place.new result reply.new }
-    ensures whole { IsWhole reply.new }
+// An EAPOL-Key message of a station that the access point has no part with.
+fn unawaited(
+    here: Here<'_>,
+    station: u16,
+    heard: &Heard<'_>,
+    out: &mut Outbox,
+) -> Result<Outcome, NoMemory>
+    ensures outcome { IfOk result (λ came. came ≡ Refused reason.Unawaited) }
+    ensures acts { OnOk result (out.new.acts ≡ out.old.acts
+        ++ Took (Some (Sta station)) heard.now.octets.now
+        (kind.Key heard.now.message.message) (Refused reason.Unawaited) None ∷ []) }
+    ensures kept { OnErr result (out.new.acts ≡ out.old.acts) }
 {
-    let Some(waiting) = &mut place.attempt else {
-        unreachable!()
+    let from = Some(Node::Sta(station));
+    let kind = Kind::Key(heard.message.message);
+    let outcome = Outcome::Refused(Reason::Unawaited);
+    settle(here.alloc, from, heard.octets, kind, outcome, out)
+}
+
+/// The part with a station takes an EAPOL-Key message of it, with the newest group key for M3.
+/// Without a part the message is unawaited.
+pub fn take_message(
+    stations: &mut Vec<Option<Authenticator>>,
+    here: Here<'_>,
+    station: u16,
+    heard: &Heard<'_>,
+    newest: &GroupKey,
+    out: &mut Outbox,
+) -> Result<Outcome, NoMemory>
+    requires listed { IsListed here.domain.now here.node }
+    requires peer { IsPeerOf here.domain.now here.node (Sta station) }
+    requires frame { IsKeyFrame heard.now.message.frame }
+    requires id { newest.now.id < 4 }
+    ensures handed { IfOk result (λ outcome. (acts : List AnyAct)
+        × (out.new.acts ≡ out.old.acts ++ acts)
+        × IsHandedAt (pair here.entry.domain.now here.entry.node (Sta station))
+        (given heard.now.message.message (frame_of heard.now.message.frame) newest.now 0)
+        (taken_as heard.now.octets.now (message_fields heard.now.message) outcome)
+        (station_at stations.old.items station) (station_at stations.new.items station) acts) }
+    ensures others { (k : ℕ) → k ≢ station
+        → station_at stations.new.items k ≡ station_at stations.old.items k }
+    ensures refused { IfOk result (λ outcome. (why : AnyReason) → outcome ≡ Refused why
+        → stations.new.items ≡ stations.old.items) }
+    ensures same { OnErr result (stations.new.items ≡ stations.old.items) }
+    ensures kept { OnErr result (out.new.acts ≡ out.old.acts) }
+{
+    let Some(place) = stations.get_mut(usize::from(station)) else {
+        return unawaited(here, station, heard, out);
     };
-    let came = waiting.retry(reply);
-    match came {
-        Retried::GaveUp => place.attempt = None,
-        Retried::Sent | Retried::Nothing => {}
+    match place {
+        Some(part) => hand(here, station, heard, part, newest, out),
+        None => unawaited(here, station, heard, out),
     }
-    came
 }
 
-/// The attempt with the station of that number sends once more, or is given up.
-pub fn retry_with(stations: &mut Vec<Station>, station: u16, reply: &mut Reply) -> Retried
-    requires { (station_at stations.old.items station).attempt ≢ None }
-    ensures retries { PlaceRetries (station_at stations.old.items station) (station_at stations.new.items station) result reply.new }
-    ensures others { (k : ℕ) → k ≢ station → station_at stations.new.items k ≡ station_at stations.old.items k }
-    ensures whole { IsWhole reply.new }
+// The part with a station sends once more what waits for an answer of it.
+fn send_again(
+    alloc: Global,
+    station: u16,
+    part: &mut Authenticator,
+    out: &mut Outbox,
+) -> Result<Outcome, NoMemory>
+    ensures resent { IfOk result (λ outcome. (acts : List AnyAct)
+        × (out.new.acts ≡ out.old.acts ++ acts)
+        × (outcome ≡ outcome_of acts) × IsResent station part.old part.new acts) }
+    ensures same { OnErr result (part.new ≡ part.old) }
+    ensures kept { OnErr result (out.new.acts ≡ out.old.acts) }
 {
-    retry(&mut stations[usize::from(station)], reply)
+    let room = SendRoom::take(alloc)?;
+    out.reserve(2)?;
+    let mut reply = Reply::empty();
+    let came = part.send_again(&mut reply);
+    Ok(add_again(station, came, room, &reply, out))
+}
+
+/// The part with a station sends once more what waits for an answer of it, where there is one.
+pub fn retry(
+    stations: &mut Vec<Option<Authenticator>>,
+    alloc: Global,
+    station: u16,
+    out: &mut Outbox,
+) -> Result<Outcome, NoMemory>
+    ensures resent { IfOk result (λ outcome. (acts : List AnyAct)
+        × (out.new.acts ≡ out.old.acts ++ acts)
+        × (outcome ≡ outcome_of acts) × IsResentAt station
+        (station_at stations.old.items station) (station_at stations.new.items station) acts) }
+    ensures others { (k : ℕ) → k ≢ station
+        → station_at stations.new.items k ≡ station_at stations.old.items k }
+    ensures same { OnErr result (stations.new.items ≡ stations.old.items) }
+    ensures kept { OnErr result (out.new.acts ≡ out.old.acts) }
+{
+    let Some(place) = stations.get_mut(usize::from(station)) else {
+        return idle(out);
+    };
+    match place {
+        Some(part) => send_again(alloc, station, part, out),
+        None => idle(out),
+    }
 }

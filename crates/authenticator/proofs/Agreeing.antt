@@ -12,22 +12,23 @@ use Rattle.run_journal.specs.declared.acts.Outcome.TheVariants.{Accepted}
 use Rattle.run_journal.specs.declared.acts.Seal.{Seal}
 use Rattle.run_journal.specs.declared.acts.Act.{Act}
 use Rattle.run_journal.specs.declared.acts.Act.TheVariants.{Took, Derived}
-use Rattle.run_journal.specs.declared.reply.Keyed.{Keyed}
 use Rattle.run_journal.specs.Questions.{before_sent, group_keys, chain}
 use Rattle.domain_rules.specs.Network.{address, root}
 use Rattle.domain_rules.specs.Frames.{in_data, m3_frame, m3_key_data, wrapped, sent_m3}
 use Rattle.domain_rules.specs.Asking.{replay_counter}
 use Rattle.domain_rules.specs.Counters.{next_in_attempt}
 use Rattle.domain_rules.specs.GroupKeys.{newest_uses}
-use Rattle.domain_rules.specs.Replies.{inputs_by, key_by}
+use Rattle.domain_rules.specs.Replies.{Pair, pair, inputs_by, key_by}
 use Rattle.domain_rules.proofs.Parts.{same-refl, attempt_more, attempt_some, by_connect_more, own_nonce_more, since_part}
 use Rattle.run_journal.specs.GroupKinds as groups
 use Rattle.run_journal.specs.Acts.{Derivation}
 use Rattle.group_key.specs.declared.keys.GroupKey.{GroupKey}
 use Rattle.group_key.specs.Holds.{IsLast, carried}
-use Rattle.authenticator.specs.State.{Trial, Agreed}
-use Rattle.authenticator.specs.Stands.{counters, IsAgreed, IsUnderWay}
-use Rattle.authenticator.specs.Views.{answered_by}
+use Rattle.authenticator.specs.Agreed.{Agreed}
+use Rattle.authenticator.specs.Counters.{counters}
+use Rattle.authenticator.specs.Stands.{IsAgreed, IsUnderWay}
+use Rattle.authenticator.specs.Judged.{answered}
+use Rattle.authenticator.specs.declared.attempt.Attempt.{Attempt}
 use Rattle.authenticator.proofs.Counting.{count_is, replay_sealed}
 
 -- the counter of M3
@@ -36,20 +37,20 @@ pub m3_counter : (d : Domain) (n p : Node) (x : Derivation) (counter : ℕ) (g :
 m3_counter d n p x counter g rsc l m low = replay_sealed d n p d.akm x.ptk.kck (sent_fields M3 d.akm counter x.inputs.anonce rsc (wrapped x.ptk.kek (m3_key_data d (carried g)))) l m low
 
 -- the next counter of the attempt
-pub next_is : (d : Domain) (n p : Node) (a : Trial) (h : List Act) (at : IsUnderWay d n p a h) → next_in_attempt p at.part ≡ suc (a.m1s + a.m3s)
+pub next_is : (d : Domain) (n p : Node) (a : Attempt) (h : List Act) (at : IsUnderWay d n p a h) → next_in_attempt p at.part ≡ suc (a.m1s + a.m3s)
 next_is d n p a h at = rw (count_is p M1 at.part 0 a.m1s at.m1_offers, count_is p M3 at.part a.m1s a.m3s at.m3_offers) refl
 
 -- the next counter of the chain
-pub next_of : (d : Domain) (n p : Node) (a : Trial) (h : List Act) → IsUnderWay d n p a h → next_in_attempt p (chain p h) ≡ suc (a.m1s + a.m3s)
+pub next_of : (d : Domain) (n p : Node) (a : Attempt) (h : List Act) → IsUnderWay d n p a h → next_in_attempt p (chain p h) ≡ suc (a.m1s + a.m3s)
 next_of d n p a h at = ap (next_in_attempt p) (since_part p h at.part at.is) ∙ next_is d n p a h at
 
 -- before M2 no M3 was sent
-pub none_sent : (d : Domain) (n p : Node) (o : Option Agreed) (m3s : ℕ) (part h : List Act) → o ≡ None → IsAgreed d n p o m3s part h → (m3s ≡ 0) × (before_sent p (kind.Key M3) h ≡ None)
-none_sent d n p o m3s part h none at = subst (λ (x : Option Agreed). IsAgreed d n p x m3s part h) none at
+pub none_sent : (w : Pair) (o : Option Agreed) (m3s : ℕ) (part h : List Act) → o ≡ None → IsAgreed w o m3s part h → (m3s ≡ 0) × (before_sent w.peer (kind.Key M3) h ≡ None)
+none_sent w o m3s part h none at = subst (λ (x : Option Agreed). IsAgreed w x m3s part h) none at
 
 -- and from M2 on one was
-pub some_sent : (d : Domain) (n p : Node) (o : Option Agreed) (y : Agreed) (m3s : ℕ) (part h : List Act) → o ≡ Some y → IsAgreed d n p o m3s part h → IsAgreed d n p (Some y) m3s part h
-some_sent d n p o y m3s part h is at = subst (λ (x : Option Agreed). IsAgreed d n p x m3s part h) is at
+pub some_sent : (w : Pair) (o : Option Agreed) (y : Agreed) (m3s : ℕ) (part h : List Act) → o ≡ Some y → IsAgreed w o m3s part h → IsAgreed w (Some y) m3s part h
+some_sent w o y m3s part h is at = subst (λ (x : Option Agreed). IsAgreed w x m3s part h) is at
 
 no_offers : (m1s m3s : ℕ) (offers : List ℕ) → m3s ≡ 0 → offers ≡ counters m1s m3s → offers ≡ []
 no_offers m1s m3s offers none is = is ∙ ap (counters m1s) none
@@ -57,20 +58,23 @@ no_offers m1s m3s offers none is = is ∙ ap (counters m1s) none
 pub cons_is : {x y : ℕ} {xs ys : List ℕ} → x ≡ y → xs ≡ ys → x ∷ xs ≡ y ∷ ys
 cons_is e f = rw (e, f) refl
 
-pub has_agreed : (d : Domain) (n p : Node) (octets : List ℕ) (s : Option Seal) (y : Keyed) (counter : ℕ) (g : GroupKey) (rsc : ℕ) (a : Trial) (h : List Act) → IsAddress (address d n) → IsAddress (address d p) → counter < 2 ^ 64
-    → IsUnderWay d n p a h → a.agreed ≡ None → counter ≡ suc (a.m1s + a.m3s) → IsLast g (group_keys groups.Gtk h) → newest_uses groups.Gtk h ≡ rsc
-    → IsUnderWay d n p (answered_by (record { key = y; group = g; rsc = rsc }) a)
-    (sent_m3 d n p (key_by d (root d) n p y) counter (carried g) rsc ∷ Derived p (inputs_by d (root d) n p y) y.ptk ∷ Took (Some p) octets (kind.Key M2) Accepted s ∷ h)
-has_agreed d n p octets s y counter g rsc a h l m low at none counter_is key uses =
+-- the acts of accepting M2, the last first
+abbrev pub agreed_after : Domain → Node → Node → List ℕ → Option Seal → Agreed → ℕ → List Act → List Act
+agreed_after d n p octets s y counter h =
+    sent_m3 d n p (key_by d (root d) n p y.key) counter (carried y.group) y.rsc ∷ Derived p (inputs_by d (root d) n p y.key) y.key.ptk ∷ Took (Some p) octets (kind.Key M2) Accepted s ∷ h
+
+pub has_agreed : (d : Domain) (n p : Node) (octets : List ℕ) (s : Option Seal) (y : Agreed) (a : Attempt) (h : List Act) → IsAddress (address d n) → IsAddress (address d p) → suc (a.m1s + a.m3s) < 2 ^ 64
+    → IsUnderWay d n p a h → a.agreed ≡ None → IsLast y.group (group_keys groups.Gtk h) → newest_uses groups.Gtk h ≡ y.rsc → IsUnderWay d n p (answered y a) (agreed_after d n p octets s y (suc (a.m1s + a.m3s)) h)
+has_agreed d n p octets s y a h l m low at none key uses =
     let took = Took (Some p) octets (kind.Key M2) Accepted s in
-    let i = inputs_by d (root d) n p y in
-    let derived = Derived p i y.ptk in
-    let x = key_by d (root d) n p y in
-    let m3 = sent_m3 d n p x counter (carried g) rsc in
-    let w = none_sent d n p a.agreed a.m3s at.part h none at.agreed in
+    let derived = Derived p (inputs_by d (root d) n p y.key) y.key.ptk in
+    let x = key_by d (root d) n p y.key in
+    let counter = suc (a.m1s + a.m3s) in
+    let m3 = sent_m3 d n p x counter (carried y.group) y.rsc in
+    let w = none_sent (pair d n p) a.agreed a.m3s at.part h none at.agreed in
     let first = attempt_more p took h at.part refl refl at.is in
     let second = attempt_more p derived (took ∷ h) (took ∷ at.part) refl refl first in
-    let here : replay_counter (in_data d n p (m3_frame d x counter (carried g) rsc)) ≡ suc (a.m1s + 0) = m3_counter d n p x counter g rsc l m low ∙ counter_is ∙ ap (λ (x : ℕ). suc (a.m1s + x)) w.0 in
+    let here : replay_counter (in_data d n p (m3_frame d x counter (carried y.group) y.rsc)) ≡ suc (a.m1s + 0) = m3_counter d n p x counter y.group y.rsc l m low ∙ ap (λ (z : ℕ). suc (a.m1s + z)) w.0 in
     record {
       part = m3 ∷ derived ∷ took ∷ at.part;
       is = attempt_more p m3 (derived ∷ took ∷ h) (derived ∷ took ∷ at.part) refl refl second;

@@ -25,7 +25,7 @@ use Rattle.domain_rules.specs.Network.{address, bssid, direction}
 use Rattle.domain_rules.specs.Frames.{in_data}
 use Rattle.domain_rules.specs.Asking.{replay_counter, offered, at_least, greatest}
 use Rattle.domain_rules.specs.Counters.{sent_count}
-use Rattle.authenticator.specs.Stands.{counters}
+use Rattle.authenticator.specs.Counters.{counters}
 
 -- ---- the counters of an attempt
 

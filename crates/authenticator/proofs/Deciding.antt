@@ -7,11 +7,13 @@ use Rattle.mac_prf.specs.Mic.{mic}
 use Rattle.eapol_key.specs.KeyFrame.{KeyFields}
 use Rattle.run_journal.specs.declared.acts.KeyDataFault.{KeyDataFault}
 use Rattle.run_journal.specs.declared.reply.Keyed.{Keyed}
-use Rattle.node_frames.specs.declared.ends.Ends.{Ends}
-use Rattle.authenticator.specs.State.{Trial, Agreed}
-use Rattle.authenticator.specs.Stands.{counters}
-use Rattle.node_frames.specs.PairwiseKeys.{key_with}
-use Rattle.authenticator.specs.Judged.{IsKeyDataOf, IsAwaited, IsForged, IsVerified, IsAnswered, IsForgedM4}
+use Rattle.node_base.specs.declared.ends.Ends.{Ends}
+use Rattle.authenticator.specs.Agreed.{Agreed}
+use Rattle.authenticator.specs.Counters.{counters}
+use Rattle.authenticator.specs.KeyData.{IsKeyDataOf}
+use Rattle.authenticator.specs.declared.attempt.Attempt.{Attempt}
+use Rattle.node_base.specs.PairwiseKeys.{key_with}
+use Rattle.authenticator.specs.Judged.{Frame, IsAwaited, IsForged, IsVerified, IsAnswered, IsForgedM4}
 
 -- as the code verified a MIC
 is_same : (akm : Akm) (kck other m octets : List ℕ) (b : Bool) → kck ≡ other → (IsTrue b ↔ (m ≡ mic akm kck octets)) → b ≡ true → m ≡ mic akm other octets
@@ -28,33 +30,33 @@ key_data_as : (rsne octets : List ℕ) (o fault : Option KeyDataFault) → o ≡
 key_data_as rsne octets o fault is by = subst (λ (x : Option KeyDataFault). IsKeyDataOf rsne octets x) is by
 
 -- an M2
-pub awaits : (a : Trial) (f : KeyFields) (some offer : Bool) → some ≡ is_some a.agreed → some ≡ false → offer ≡ list_any (λ c. c == f.counter) (counters 0 a.m1s) → offer ≡ true → IsAwaited a f
+pub awaits : (a : Attempt) (f : KeyFields) (some offer : Bool) → some ≡ is_some a.agreed → some ≡ false → offer ≡ list_any (λ c. c == f.counter) (counters 0 a.m1s) → offer ≡ true → IsAwaited a f
 awaits a f some offer some_is none offer_is one = record { none = none_by a.agreed (sym some_is ∙ none); offer = sym offer_is ∙ one }
 
-pub forged : (l : Ends) (psk : List ℕ) (a : Trial) (f : KeyFields) (octets : List ℕ) (y : Keyed) (b : Bool) → IsAwaited a f → y ≡ key_with l psk a.anonce f.nonce → (IsTrue b ↔ (f.mic ≡ mic l.akm y.ptk.kck octets)) → b ≡ false → IsForged l psk a f octets
-forged l psk a f octets y b awaited key by is = record {
+pub forged : (l : Ends) (psk : List ℕ) (a : Attempt) (f : Frame) (y : Keyed) (b : Bool) → IsAwaited a f.fields → y ≡ key_with l psk a.anonce f.fields.nonce → (IsTrue b ↔ (f.fields.mic ≡ mic l.akm y.ptk.kck f.octets)) → b ≡ false → IsForged l psk a f
+forged l psk a f y b awaited key by is = record {
   awaited = awaited;
-  other = not_same l.akm y.ptk.kck (key_with l psk a.anonce f.nonce).ptk.kck f.mic octets b (ap (λ (x : Keyed). x.ptk.kck) key) by is;
+  other = not_same l.akm y.ptk.kck (key_with l psk a.anonce f.fields.nonce).ptk.kck f.fields.mic f.octets b (ap (λ (x : Keyed). x.ptk.kck) key) by is;
 }
 
-pub verifies : (l : Ends) (psk : List ℕ) (a : Trial) (f : KeyFields) (octets : List ℕ) (y : Keyed) (b : Bool) (rsne : List ℕ) (o fault : Option KeyDataFault) → IsAwaited a f → y ≡ key_with l psk a.anonce f.nonce
-    → (IsTrue b ↔ (f.mic ≡ mic l.akm y.ptk.kck octets)) → b ≡ true → rsne ≡ a.rsne → o ≡ fault → IsKeyDataOf rsne f.key_data o → IsVerified l psk a f octets y fault
-verifies l psk a f octets y b rsne o fault awaited key by is raw fault_is key_data = record {
+pub verifies : (l : Ends) (psk : List ℕ) (a : Attempt) (f : Frame) (y : Keyed) (b : Bool) (rsne : List ℕ) (o fault : Option KeyDataFault) → IsAwaited a f.fields → y ≡ key_with l psk a.anonce f.fields.nonce
+    → (IsTrue b ↔ (f.fields.mic ≡ mic l.akm y.ptk.kck f.octets)) → b ≡ true → rsne ≡ a.rsne → o ≡ fault → IsKeyDataOf rsne f.fields.key_data o → IsVerified l psk a f y fault
+verifies l psk a f y b rsne o fault awaited key by is raw fault_is key_data = record {
   awaited = awaited;
-  mic_is = is_same l.akm y.ptk.kck (key_with l psk a.anonce f.nonce).ptk.kck f.mic octets b (ap (λ (x : Keyed). x.ptk.kck) key) by is;
+  mic_is = is_same l.akm y.ptk.kck (key_with l psk a.anonce f.fields.nonce).ptk.kck f.fields.mic f.octets b (ap (λ (x : Keyed). x.ptk.kck) key) by is;
   key = key;
-  key_data = subst (λ (x : List ℕ). IsKeyDataOf x f.key_data fault) raw (key_data_as rsne f.key_data o fault fault_is key_data);
+  key_data = subst (λ (x : List ℕ). IsKeyDataOf x f.fields.key_data fault) raw (key_data_as rsne f.fields.key_data o fault fault_is key_data);
 }
 
 -- an M4
-pub answers : (a : Trial) (f : KeyFields) (y : Agreed) (offer : Bool) → a.agreed ≡ Some y → offer ≡ list_any (λ c. c == f.counter) (counters a.m1s a.m3s) → offer ≡ true → IsAnswered a f y
+pub answers : (a : Attempt) (f : KeyFields) (y : Agreed) (offer : Bool) → a.agreed ≡ Some y → offer ≡ list_any (λ c. c == f.counter) (counters a.m1s a.m3s) → offer ≡ true → IsAnswered a f y
 answers a f y offer some offer_is one = record { some = some; offer = sym offer_is ∙ one }
 
-pub forged_m4 : (akm : Akm) (a : Trial) (f : KeyFields) (octets : List ℕ) (y : Agreed) (key : Keyed) (b : Bool) → IsAnswered a f y → key ≡ y.key → (IsTrue b ↔ (f.mic ≡ mic akm key.ptk.kck octets)) → b ≡ false → IsForgedM4 akm a f octets
-forged_m4 akm a f octets y key b answered is by other = record {
+pub forged_m4 : (akm : Akm) (a : Attempt) (f : Frame) (y : Agreed) (key : Keyed) (b : Bool) → IsAnswered a f.fields y → key ≡ y.key → (IsTrue b ↔ (f.fields.mic ≡ mic akm key.ptk.kck f.octets)) → b ≡ false → IsForgedM4 akm a f
+forged_m4 akm a f y key b answered is by other = record {
   y = y;
   answered = answered;
-  other = not_same akm key.ptk.kck y.key.ptk.kck f.mic octets b (ap (λ (x : Keyed). x.ptk.kck) is) by other;
+  other = not_same akm key.ptk.kck y.key.ptk.kck f.fields.mic f.octets b (ap (λ (x : Keyed). x.ptk.kck) is) by other;
 }
 
 pub verified_m4 : (akm : Akm) (y : Agreed) (key : Keyed) (m octets : List ℕ) (b : Bool) → key ≡ y.key → (IsTrue b ↔ (m ≡ mic akm key.ptk.kck octets)) → b ≡ true → m ≡ mic akm y.key.ptk.kck octets

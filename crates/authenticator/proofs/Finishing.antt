@@ -5,7 +5,6 @@ use Rattle.domain_base.specs.declared.names.Akm.{Akm}
 use Rattle.domain_base.specs.declared.names.Node.{Node}
 use Rattle.domain_base.specs.declared.names.Node.TheVariants.{Ap, Sta}
 use Rattle.domain_base.specs.declared.names.Peer.TheVariants.{One}
-use Rattle.eapol_key.specs.KeyFrame.{KeyFields}
 use Rattle.eapol_key.specs.declared.messages.Message.{Message}
 use Rattle.eapol_key.specs.declared.messages.Message.TheVariants.{M4}
 use Rattle.key_hierarchy.specs.declared.inputs.Inputs.{Inputs}
@@ -25,37 +24,34 @@ use Rattle.run_journal.specs.declared.reply.Keyed.{Keyed}
 use Rattle.run_journal.specs.Replies.{IsEmpty}
 use Rattle.run_journal.specs.Acts.{derived, Derivation}
 use Rattle.run_journal.specs.Questions.{or_else, attempt, derivation, session, add, draws}
-use Rattle.node_frames.specs.declared.ends.Ends.{Ends}
 use Rattle.group_key.specs.declared.keys.GroupKey.{GroupKey}
 use Rattle.domain_rules.specs.Counters.{next_in_attempt, next_in_session}
 use Rattle.domain_rules.specs.Frames.{frame_seal}
+use Rattle.domain_rules.specs.Here.{here}
+use Rattle.domain_rules.specs.Network.{root}
 use Rattle.domain_rules.specs.Reading.{KeyMessage, Keyed as KeyedReading}
-use Rattle.domain_rules.specs.Replies.{IsMessageFrom, inputs_by, replaced_acts, key_by}
+use Rattle.domain_rules.specs.Replies.{Pair, pair, IsMessageFrom, inputs_by, replaced_acts, key_by, reply_acts, taken_as}
 use Rattle.domain_rules.specs.Verdict.{KnowsOf, key_further, and_then, key_verdict}
 use Rattle.domain_rules.specs.Asking.{by_connect, among, verified}
 use Rattle.domain_rules.specs.AccessPointKeys.{m4_keying, m4_verdict_by, m4_verdict}
 use Rattle.domain_rules.specs.Rows.{By_m4}
 use Rattle.domain_rules.specs.Closing.{close_session}
 use Rattle.domain_rules.proofs.Refused.{no_facts}
-use Rattle.domain_rules.proofs.Parts.{same-refl, Grows, Begins, Goes_on, grows, attempt_more, attempt_some, by_connect_more}
+use Rattle.domain_rules.proofs.Parts.{same-refl, Grows, Begins, Goes_on, grows, attempt_more, attempt_ends, attempt_some, by_connect_more}
 use Rattle.domain_rules.proofs.Verdicts.{among-one, among-none, verified-same, verified-other}
-use Rattle.domain_rules.specs.Network.{root}
-use Rattle.authenticator.specs.declared.stage.Attempt.{Attempt as AnAttempt}
-use Rattle.authenticator.specs.declared.stage.Stage.{Stage as AStage}
-use Rattle.authenticator.specs.declared.stage.Stage.TheVariants as stage
-use Rattle.authenticator.specs.declared.m4.M4.TheVariants as m4
-use Rattle.authenticator.specs.State.{State, Session, Trial, Agreed}
-use Rattle.authenticator.specs.Stands.{counters, IsAgreed, IsUnderWay, IsHeld, Stands}
-use Rattle.authenticator.specs.Steps.{Steps, IsStaged}
-use Rattle.node_frames.specs.PairwiseKeys.{IsKeyOf}
-use Rattle.authenticator.specs.Views.{trial_of, stage_of, state_of, attempt_in, AreKeysOf}
-use Rattle.authenticator.specs.Judged.{IsUncounted, IsForgedM4, IsFinish, IsRefusedM4, IsM4}
-use Rattle.authenticator.specs.Taken.{StepsFrom}
-use Rattle.authenticator.proofs.Keys.{agreed_key}
+use Rattle.authenticator.specs.Agreed.{Agreed}
+use Rattle.authenticator.specs.Counters.{counters}
+use Rattle.authenticator.specs.State.{State}
+use Rattle.authenticator.specs.Stands.{IsAgreed, IsUnderWay, IsHeld, AuthenticatorStands}
+use Rattle.authenticator.specs.Steps.{Steps}
+use Rattle.authenticator.specs.Judged.{Frame, IsUncounted, IsForgedM4, IsFinish, IsRefusedM4}
+use Rattle.authenticator.specs.Taken.{given, frame_in, StepsFrom}
+use Rattle.authenticator.specs.declared.attempt.Attempt.{Attempt}
+use Rattle.authenticator.specs.declared.session.Session.{Session}
 use Rattle.authenticator.proofs.Counting.{last_is}
-use Rattle.authenticator.proofs.Standing.{or_none, stage_by, under_way_by}
+use Rattle.authenticator.proofs.Standing.{or_none, under_way, has_session}
 use Rattle.authenticator.proofs.Replying.{finish_acts, finish_took}
-use Rattle.authenticator.proofs.Refusing.{steps_quiet}
+use Rattle.authenticator.proofs.Refusing.{refused_as}
 use Rattle.authenticator.proofs.Verified.{same_mic}
 use Rattle.authenticator.proofs.Agreeing.{next_is, some_sent}
 
@@ -68,55 +64,49 @@ abbrev keying_of : Domain → Node → Node → Option Agreed → Option Derivat
 keying_of d n p None = None
 keying_of d n p (Some y) = Some (key_by d (root d) n p y.key)
 
-keying_by : (d : Domain) (n p : Node) (o : Option Agreed) (m3s : ℕ) (part h : List Act) → IsAgreed d n p o m3s part h → cond (is_some o) (derivation p part) None ≡ keying_of d n p o
+keying_by : (d : Domain) (n p : Node) (o : Option Agreed) (m3s : ℕ) (part h : List Act) → IsAgreed (pair d n p) o m3s part h → cond (is_some o) (derivation p part) None ≡ keying_of d n p o
 keying_by d n p None m3s part h at = refl
 keying_by d n p (Some y) m3s part h at = at.1
 
-keying_is : (d : Domain) (n p : Node) (a : Trial) (h : List Act) (at : IsUnderWay d n p a h) → m4_keying p at.part ≡ keying_of d n p a.agreed
+keying_is : (d : Domain) (n p : Node) (a : Attempt) (h : List Act) (at : IsUnderWay d n p a h) → m4_keying p at.part ≡ keying_of d n p a.agreed
 keying_is d n p a h at = rw (at.begun, at.answered) (keying_by d n p a.agreed a.m3s at.part h at.agreed)
 
-verdict_in : (d : Domain) (n p : Node) (h : List Act) (k : KeyMessage) (a : Trial) (at : IsUnderWay d n p a h) (o : Option Agreed) → a.agreed ≡ o → m4_verdict d h p k ≡ m4_verdict_by d p k at.part (keying_of d n p o)
+verdict_in : (d : Domain) (n p : Node) (h : List Act) (k : KeyMessage) (a : Attempt) (at : IsUnderWay d n p a h) (o : Option Agreed) → a.agreed ≡ o → m4_verdict d h p k ≡ m4_verdict_by d p k at.part (keying_of d n p o)
 verdict_in d n p h k a at o is = m4-in d h p k at.part at.is ∙ ap (m4_verdict_by d p k at.part) (keying_is d n p a h at ∙ ap (keying_of d n p) is)
 
-verdict_keyed : (d : Domain) (n p : Node) (h : List Act) (k : KeyMessage) (a : Trial) (y : Agreed) → IsUnderWay d n p a h → a.agreed ≡ Some y
+verdict_keyed : (d : Domain) (n p : Node) (h : List Act) (k : KeyMessage) (a : Attempt) (y : Agreed) → IsUnderWay d n p a h → a.agreed ≡ Some y
     → m4_verdict d h p k ≡ among (counters a.m1s a.m3s) k.fields.counter (verified d.akm y.key.ptk.kck k Accepted)
 verdict_keyed d n p h k a y at is =
     verdict_in d n p h k a at (Some y) is ∙ ap (λ (l : List ℕ). among l k.fields.counter (verified d.akm y.key.ptk.kck k Accepted)) at.m3_offers
 
-counted_m4 : (d : Domain) (n p : Node) (h : List Act) (k : KeyMessage) (a : Trial) (last : ℕ) → IsUnderWay d n p a h → IsUncounted a k.fields last → m4_verdict d h p k ≡ Refused (reason.Counter last)
+counted_m4 : (d : Domain) (n p : Node) (h : List Act) (k : KeyMessage) (a : Attempt) (last : ℕ) → IsUnderWay d n p a h → IsUncounted a k.fields last → m4_verdict d h p k ≡ Refused (reason.Counter last)
 counted_m4 d n p h k a last at w =
     verdict_keyed d n p h k a w.y at w.some ∙ among-none (counters a.m1s a.m3s) k.fields.counter (verified d.akm w.y.key.ptk.kck k Accepted) w.offer
-    ∙ ap (λ (x : ℕ). Refused (reason.Counter x)) (last_is a.m1s a.m3s (some_sent d n p a.agreed w.y a.m3s at.part h w.some at.agreed).0 ∙ sym w.is)
+    ∙ ap (λ (x : ℕ). Refused (reason.Counter x)) (last_is a.m1s a.m3s (some_sent (pair d n p) a.agreed w.y a.m3s at.part h w.some at.agreed).0 ∙ sym w.is)
 
-forged_m4 : (d : Domain) (n p : Node) (h : List Act) (k : KeyMessage) (a : Trial) (akm : Akm) → akm ≡ d.akm → IsUnderWay d n p a h → IsForgedM4 akm a k.fields k.octets → m4_verdict d h p k ≡ Refused reason.Mic
+forged_m4 : (d : Domain) (n p : Node) (h : List Act) (k : KeyMessage) (a : Attempt) (akm : Akm) → akm ≡ d.akm → IsUnderWay d n p a h → IsForgedM4 akm a (frame_in k) → m4_verdict d h p k ≡ Refused reason.Mic
 forged_m4 d n p h k a akm suite at w =
     verdict_keyed d n p h k a w.y at w.answered.some ∙ among-one (counters a.m1s a.m3s) k.fields.counter (verified d.akm w.y.key.ptk.kck k Accepted) w.answered.offer
     ∙ verified-other d.akm w.y.key.ptk.kck k Accepted (λ same. w.other (same ∙ sym (same_mic k.octets suite refl)))
 
-pub refused_m4 : (d : Domain) (n p : Node) (h : List Act) (k : KeyMessage) (a : Trial) (akm : Akm) (why : Reason) → akm ≡ d.akm → IsUnderWay d n p a h → IsRefusedM4 akm a k.fields k.octets why → m4_verdict d h p k ≡ Refused why
+pub refused_m4 : (d : Domain) (n p : Node) (h : List Act) (k : KeyMessage) (a : Attempt) (akm : Akm) (why : Reason) → akm ≡ d.akm → IsUnderWay d n p a h → IsRefusedM4 akm a (frame_in k) why → m4_verdict d h p k ≡ Refused why
 refused_m4 d n p h k a akm reason.Unawaited suite at w = verdict_in d n p h k a at None w
 refused_m4 d n p h k a akm (reason.Counter last) suite at w = counted_m4 d n p h k a last at w
 refused_m4 d n p h k a akm reason.Mic suite at w = forged_m4 d n p h k a akm suite at w
 refused_m4 d n p h k a akm why suite at w = absurd w
 
-accepted_m4 : (d : Domain) (n p : Node) (h : List Act) (k : KeyMessage) (a : Trial) (akm : Akm) (key : Keyed) (next : ℕ) → akm ≡ d.akm → IsUnderWay d n p a h → IsFinish akm a k.fields k.octets key next → m4_verdict d h p k ≡ Accepted
-accepted_m4 d n p h k a akm key next suite at w =
+accepted_m4 : (d : Domain) (n p : Node) (h : List Act) (k : KeyMessage) (a : Attempt) (akm : Akm) (s : Session) → akm ≡ d.akm → IsUnderWay d n p a h → IsFinish akm a (frame_in k) s → m4_verdict d h p k ≡ Accepted
+accepted_m4 d n p h k a akm s suite at w =
     verdict_keyed d n p h k a w.y at w.answered.some ∙ among-one (counters a.m1s a.m3s) k.fields.counter (verified d.akm w.y.key.ptk.kck k Accepted) w.answered.offer
     ∙ verified-same d.akm w.y.key.ptk.kck k Accepted (w.mic_is ∙ same_mic k.octets suite refl)
 
 -- ---- refused
 
-judged_by : (akm : Akm) (t : Trial) (f g : KeyFields) (octets whole : List ℕ) (j judged : m4.the_data) → j ≡ judged → g ≡ f → octets ≡ whole → IsM4 akm t f whole j → IsM4 akm t g octets judged
-judged_by akm t f g octets whole j judged is fields octets_are by =
-    subst (λ (x : List ℕ). IsM4 akm t g x judged) (sym octets_are) (subst (λ (x : KeyFields). IsM4 akm t x whole judged) (sym fields) (subst (λ (x : m4.the_data). IsM4 akm t f whole x) is by))
-
-pub takes_refused_m4 : (l : Ends) (psk : List ℕ) (s : AStage) (x : AnAttempt) (f : KeyFields) (whole : List ℕ) (g : GroupKey) (rsc : ℕ) (j : m4.the_data) (why : Reason) (r : Reply) → attempt_in s ≡ Some x → IsM4 l.akm (trial_of x) f whole j → j ≡ m4.Refused why
-    → IsEmpty r → StepsFrom (state_of l psk s) (state_of l psk s) M4 f whole g rsc (Refused why) r
-takes_refused_m4 l psk s x f whole g rsc j why r here by judged e = λ d first a sta octets k h stands asked key uses from is fields octets_are.
-    (let p = Sta sta in
-    let at = under_way_by d (Ap a) p s x h here stands.stage_is in
-    let v = refused_m4 d (Ap a) p h k (trial_of x) l.akm why stands.ends.akm at (judged_by l.akm (trial_of x) f k.fields k.octets whole j (m4.Refused why) judged fields octets_are by) in
-    steps_quiet d first a p octets k (state_of l psk s) why r h from stands e (ap (λ (m : Message). key_verdict d (first + draws h) (Ap a) h p k m) is ∙ v))
+pub takes_refused_m4 : (s : State) (t : Attempt) (f : Frame) (newest : GroupKey) (rsc : ℕ) (why : Reason) (r : Reply) → s.attempt ≡ Some t → IsRefusedM4 s.ends.akm t f why → IsEmpty r → StepsFrom s s (given M4 f newest rsc) (Refused why) r
+takes_refused_m4 s t f newest rsc why r is by e =
+    refused_as s (given M4 f newest rsc) M4 why r refl e
+    (λ d drawn a sta k h stands same.
+    refused_m4 d (Ap a) (Sta sta) h k t s.ends.akm why stands.ends.akm (under_way d (Ap a) (Sta sta) s.attempt t h is stands.attempt_is) (subst (λ (x : Frame). IsRefusedM4 s.ends.akm t x why) (sym same) by))
 
 -- ---- accepted: the session
 
@@ -142,46 +132,64 @@ finished_key p i h x is = rw (same-refl p) is
 finished_next : (p : Node) (i : Inputs) (h part : List Act) → attempt p h ≡ Some part → by_connect part ≡ true → next_in_session p (Finished p i ∷ h) ≡ next_in_attempt p part
 finished_next p i h part is begun = rw (same-refl p, is, begun) refl
 
-held : (d : Domain) (n p : Node) (octets : List ℕ) (s : Option Seal) (had : Bool) (y : Keyed) (next : ℕ) (h part : List Act) → attempt p h ≡ Some part → by_connect part ≡ true → derivation p h ≡ Some (key_by d (root d) n p y) → next_in_attempt p part ≡ next
-    → IsHeld d n p y next (add (Took (Some p) octets (kind.Key M4) Accepted s ∷ finish_acts d n p had y) h)
-held d n p octets s true y next h part is begun key counts =
-    let i = inputs_by d (root d) n p y in
+-- the acts after the taking, the first first
+held : (d : Domain) (n p : Node) (octets : List ℕ) (s : Option Seal) (had : Bool) (x : Session) (h part : List Act) → attempt p h ≡ Some part → by_connect part ≡ true → derivation p h ≡ Some (key_by d (root d) n p x.key) → next_in_attempt p part ≡ x.next
+    → IsHeld d n p x (add (Took (Some p) octets (kind.Key M4) Accepted s ∷ finish_acts d n p had x.key) h)
+held d n p octets s true x h part is begun key counts =
+    let i = inputs_by d (root d) n p x.key in
     let took = Took (Some p) octets (kind.Key M4) Accepted s in
     let closed = Closed p OfSession in
-    let installed = Installed (One p) (Pairwise y.ptk.tk i) in
+    let installed = Installed (One p) (Pairwise x.key.ptk.tk i) in
     let first = attempt_more p took h part refl refl is in
     let second = attempt_more p closed (took ∷ h) (took ∷ part) refl refl first in
     let third = attempt_more p installed (closed ∷ took ∷ h) (closed ∷ took ∷ part) refl refl second in
     record {
-      is = finished_key p i (installed ∷ closed ∷ took ∷ h) (key_by d (root d) n p y) key;
+      is = finished_key p i (installed ∷ closed ∷ took ∷ h) (key_by d (root d) n p x.key) key;
       counts = finished_next p i (installed ∷ closed ∷ took ∷ h) (installed ∷ closed ∷ took ∷ part) third (by_connect_more took part (attempt_some p h part is) ∙ begun) ∙ counts;
     }
-held d n p octets s false y next h part is begun key counts =
-    let i = inputs_by d (root d) n p y in
+held d n p octets s false x h part is begun key counts =
+    let i = inputs_by d (root d) n p x.key in
     let took = Took (Some p) octets (kind.Key M4) Accepted s in
-    let installed = Installed (One p) (Pairwise y.ptk.tk i) in
+    let installed = Installed (One p) (Pairwise x.key.ptk.tk i) in
     let first = attempt_more p took h part refl refl is in
     let second = attempt_more p installed (took ∷ h) (took ∷ part) refl refl first in
     record {
-      is = finished_key p i (installed ∷ took ∷ h) (key_by d (root d) n p y) key;
+      is = finished_key p i (installed ∷ took ∷ h) (key_by d (root d) n p x.key) key;
       counts = finished_next p i (installed ∷ took ∷ h) (installed ∷ took ∷ part) second (by_connect_more took part (attempt_some p h part is) ∙ begun) ∙ counts;
     }
 
--- the session that was there
-replaced_is : (p : Node) (o : Option Derivation) (y : Keyed) → replaced_acts p (is_some o) (Some y) ≡ close_session p o
-replaced_is p None y = refl
-replaced_is p (Some x) y = refl
-
-finished_m4 : (d : Domain) (first a : ℕ) (p : Node) (octets : List ℕ) (k : KeyMessage) (s : State) (t : Trial) (y : Keyed) (next : ℕ) (r : Reply) (h : List Act) → IsMessageFrom d (Ap a) p octets k → k.message ≡ M4 → Stands d (Ap a) p s h
-    → IsUnderWay d (Ap a) p t h → IsFinish s.ends.akm t k.fields k.octets y next → IsEmpty r
-    → Steps d first (Ap a) p octets k (record { ends = s.ends; psk = s.psk; stage = Session y next }) Accepted (record r { verified = Some y.ptk.kck; installed = Some y }) h
-finished_m4 d first a p octets k s t y next r h from is stands at w e =
-    let n = Ap a in
-    let had = is_some (session p h) in
+-- and the attempt is none any more
+left : (d : Domain) (n : Node) (sta : ℕ) (octets : List ℕ) (s : Option Seal) (had : Bool) (y : Keyed) (h : List Act) → attempt (Sta sta) (add (Took (Some (Sta sta)) octets (kind.Key M4) Accepted s ∷ finish_acts d n (Sta sta) had y) h) ≡ None
+left d n sta octets s true y h =
+    let p = Sta sta in
     let i = inputs_by d (root d) n p y in
-    let key = some_sent d n p t.agreed w.y t.m3s at.part h w.answered.some at.agreed in
-    let same : Some (key_by d (root d) n p w.y.key) ≡ Some (key_by d (root d) n p y) = ap (λ (x : Keyed). Some (key_by d (root d) n p x)) (sym w.key_is) in
-    let accepted = from.verdict_is first h ∙ ap (λ (m : Message). key_verdict d (first + draws h) n h p k m) is ∙ accepted_m4 d n p h k t s.ends.akm y next stands.ends.akm at w in
+    attempt_ends p (Finished p i) (Installed (One p) (Pairwise y.ptk.tk i) ∷ Closed p OfSession ∷ Took (Some p) octets (kind.Key M4) Accepted s ∷ h) refl (same-refl p)
+left d n sta octets s false y h =
+    let p = Sta sta in
+    let i = inputs_by d (root d) n p y in
+    attempt_ends p (Finished p i) (Installed (One p) (Pairwise y.ptk.tk i) ∷ Took (Some p) octets (kind.Key M4) Accepted s ∷ h) refl (same-refl p)
+
+-- the session that was there
+replaced_is : (p : Node) (o : Option Derivation) (had : Bool) (y : Keyed) → is_some o ≡ had → replaced_acts p had (Some y) ≡ close_session p o
+replaced_is p None true y is = absurd (cc is)
+replaced_is p None false y is = refl
+replaced_is p (Some x) true y is = refl
+replaced_is p (Some x) false y is = absurd (cc is)
+
+finished_m4 : (d : Domain) (first a sta : ℕ) (octets : List ℕ) (k : KeyMessage) (s : State) (t : Attempt) (x : Session) (r : Reply) (h : List Act) → IsMessageFrom d (Ap a) (Sta sta) octets k → k.message ≡ M4 → AuthenticatorStands d (Ap a) (Sta sta) s h
+    → IsUnderWay d (Ap a) (Sta sta) t h → IsFinish s.ends.akm t (frame_in k) x → IsEmpty r
+    → Steps (here d first (Ap a)) (Sta sta) octets (reply_acts (pair d (Ap a) (Sta sta)) (is_some s.session) (taken_as octets k Accepted) (record r { verified = Some x.key.ptk.kck; installed = Some x.key }))
+    (record s { attempt = None; session = Some x }) h
+finished_m4 d first a sta octets k s t x r h from is stands at w e =
+    let n = Ap a in
+    let p = Sta sta in
+    let had = is_some s.session in
+    let y = x.key in
+    let i = inputs_by d (root d) n p y in
+    let seal = Some (frame_seal y.ptk.kck k.octets) in
+    let key = some_sent (pair d n p) t.agreed w.y t.m3s at.part h w.answered.some at.agreed in
+    let same : Some (key_by d (root d) n p w.y.key) ≡ Some (key_by d (root d) n p y) = ap (λ (z : Keyed). Some (key_by d (root d) n p z)) (sym w.key_is) in
+    let accepted = from.verdict_is first h ∙ ap (λ (m : Message). key_verdict d (first + draws h) n h p k m) is ∙ accepted_m4 d n p h k t s.ends.akm x stands.ends.akm at w in
     let acts = finish_took d n p had octets k M4 Accepted r y is e in
     record {
       adds = record {
@@ -201,33 +209,20 @@ finished_m4 d first a p octets k s t y next r h from is stands at w e =
           x = key_by d (root d) n p y;
           keyed = keying_is d n p t h at ∙ ap (keying_of d n p) w.answered.some ∙ same;
           says = acts
-              ∙ ap (λ (closed : List Act). Took (Some p) octets (kind.Key M4) Accepted (Some (frame_seal y.ptk.kck k.octets)) ∷ closed ++ Installed (One p) (Pairwise y.ptk.tk i) ∷ Finished p i ∷ []) (replaced_is p (session p h) y);
+              ∙ ap (λ (closed : List Act). Took (Some p) octets (kind.Key M4) Accepted seal ∷ closed ++ Installed (One p) (Pairwise y.ptk.tk i) ∷ Finished p i ∷ [])
+              (replaced_is p (session p h) had y (has_session d n p s.session h stands.session_is));
         });
       };
       stands = record {
         ends = stands.ends;
         psk = stands.psk;
-        stage_is = subst (λ (g : List Act). IsHeld d n p y next (add g h)) (sym acts)
-            (held d n p octets (Some (frame_seal y.ptk.kck k.octets)) had y next h at.part at.is at.begun (derived_in p h at.part (key_by d (root d) n p y) at.is (key.1 ∙ same)) (next_is d n p t h at ∙ sym w.next_is));
+        attempt_is = subst (λ (g : List Act). attempt p (add g h) ≡ None) (sym acts) (left d n sta octets seal had y h);
+        session_is = subst (λ (g : List Act). IsHeld d n p x (add g h)) (sym acts)
+            (held d n p octets seal had x h at.part at.is at.begun (derived_in p h at.part (key_by d (root d) n p y) at.is (key.1 ∙ same)) (next_is d n p t h at ∙ sym w.next_is));
       };
     }
 
-pub takes_finished : (l : Ends) (psk : List ℕ) (s : AStage) (x : AnAttempt) (f : KeyFields) (whole : List ℕ) (g : GroupKey) (rsc : ℕ) (j : m4.the_data) (y : Keyed) (next : ℕ) (r : Reply) → attempt_in s ≡ Some x → IsM4 l.akm (trial_of x) f whole j
-    → j ≡ m4.Accepted y next → IsEmpty r → StepsFrom (state_of l psk s) (state_of l psk (stage.Session y next)) M4 f whole g rsc Accepted (record r { verified = Some y.ptk.kck; installed = Some y })
-takes_finished l psk s x f whole g rsc j y next r here by judged e = λ d first a sta octets k h stands asked key uses from is fields octets_are.
-    finished_m4 d first a (Sta sta) octets k (state_of l psk s) (trial_of x) y next r h from is stands (under_way_by d (Ap a) (Sta sta) s x h here stands.stage_is)
-    (judged_by l.akm (trial_of x) f k.fields k.octets whole j (m4.Accepted y next) judged fields octets_are by) e
-
--- an attempt became a session, whose key is that of its nonces
-pub finished_staged : (l : Ends) (psk : List ℕ) (s : AStage) (x : AnAttempt) (y : Keyed) (next : ℕ) → attempt_in s ≡ Some x → IsStaged (Some y) (state_of l psk s) (state_of l psk (stage.Session y next))
-finished_staged l psk s x y next here = subst (λ (z : AStage). IsStaged (Some y) (state_of l psk z) (state_of l psk (stage.Session y next))) (sym (stage_by s x here)) (tt, refl)
-
-finished_key_of : (l : Ends) (psk : List ℕ) (akm : Akm) (t : Trial) (f : KeyFields) (whole : List ℕ) (y : Keyed) (next : ℕ) (w : IsFinish akm t f whole y next) → IsKeyOf l psk w.y.key → IsKeyOf l psk y
-finished_key_of l psk akm t f whole y next w is = subst (λ (z : Keyed). IsKeyOf l psk z) (sym w.key_is) is
-
-pub finished_keys : (l : Ends) (psk : List ℕ) (s : AStage) (x : AnAttempt) (f : KeyFields) (whole : List ℕ) (akm : Akm) (j : m4.the_data) (y : Keyed) (next : ℕ) → attempt_in s ≡ Some x → IsM4 akm (trial_of x) f whole j → j ≡ m4.Accepted y next
-    → AreKeysOf l psk (stage_of s) → AreKeysOf l psk (stage_of (stage.Session y next))
-finished_keys l psk s x f whole akm j y next here by judged keys =
-    let w : IsFinish akm (trial_of x) f whole y next = subst (λ (z : m4.the_data). IsM4 akm (trial_of x) f whole z) judged by in
-    let has : AreKeysOf l psk (stage_of (stage.Attempt x)) = subst (λ (z : AStage). AreKeysOf l psk (stage_of z)) (stage_by s x here) keys in
-    finished_key_of l psk akm (trial_of x) f whole y next w (agreed_key l psk x.agreed w.y w.answered.some has)
+pub takes_finished : (s : State) (t : Attempt) (f : Frame) (newest : GroupKey) (rsc : ℕ) (x : Session) (r : Reply) → s.attempt ≡ Some t → IsFinish s.ends.akm t f x → IsEmpty r
+    → StepsFrom s (record s { attempt = None; session = Some x }) (given M4 f newest rsc) Accepted (record r { verified = Some x.key.ptk.kck; installed = Some x.key })
+takes_finished s t f newest rsc x r is by e = λ d first a sta octets k h stands w.
+    finished_m4 d first a sta octets k s t x r h w.from w.message stands (under_way d (Ap a) (Sta sta) s.attempt t h is stands.attempt_is) (subst (λ (z : Frame). IsFinish s.ends.akm t z x) (sym w.frame) by) e

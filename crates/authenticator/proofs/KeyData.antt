@@ -11,7 +11,7 @@ use Rattle.run_journal.specs.declared.acts.Outcome.{Outcome}
 use Rattle.run_journal.specs.declared.acts.Outcome.TheVariants.{Accepted, Refused}
 use Rattle.domain_rules.specs.Facts.{is_same}
 use Rattle.domain_rules.proofs.Peers.{not_same}
-use Rattle.authenticator.specs.Judged.{IsKeyDataOf}
+use Rattle.authenticator.specs.KeyData.{IsKeyDataOf}
 
 by_same : Bool → Outcome
 by_same b = cond b Accepted (Refused (reason.KeyData Rsne))

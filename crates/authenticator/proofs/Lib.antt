@@ -1,7 +1,7 @@
 pub mod KeyData
 pub mod Counting
 pub mod Deciding
-pub mod Keys
+pub mod Addresses
 pub mod Standing
 pub mod Replying
 pub mod Refusing
@@ -11,3 +11,4 @@ pub mod Answering
 pub mod Finishing
 pub mod Retrying
 pub mod Beginning
+pub mod Growing

@@ -16,7 +16,7 @@ use Rattle.run_journal.specs.declared.reply.Keyed.{Keyed}
 use Rattle.run_journal.specs.Replies.{IsEmpty, IsWhole}
 use Rattle.domain_rules.specs.Frames.{frame_seal}
 use Rattle.domain_rules.specs.Reading.{KeyMessage}
-use Rattle.domain_rules.specs.Replies.{inputs_by, replaced_acts, sent_acts, reply_acts}
+use Rattle.domain_rules.specs.Replies.{inputs_by, replaced_acts, sent_acts, reply_acts, pair, taken_as}
 use Rattle.domain_rules.specs.Network.{root}
 use Rattle.authenticator.specs.Judged.{TellsDerived}
 
@@ -26,18 +26,18 @@ took_as p octets m n o s rest is = rw is refl
 
 -- nothing beside the taking
 pub only_took : (d : Domain) (n p : Node) (had : Bool) (octets : List ℕ) (k : KeyMessage) (o : Outcome) (r : Reply) (v : Option (List ℕ)) → r.len ≡ 0 → r.verified ≡ v → r.derived ≡ None → r.installed ≡ None → r.gtk ≡ None
-    → reply_acts d n p had octets k o r ≡ Took (Some p) octets (kind.Key k.message) o (option_map (λ kck. frame_seal kck k.octets) v) ∷ []
+    → reply_acts (pair d n p) had (taken_as octets k o) r ≡ Took (Some p) octets (kind.Key k.message) o (option_map (λ kck. frame_seal kck k.octets) v) ∷ []
 only_took d n p true octets k o r v len verified derived installed gtk = rw (len, verified, derived, installed, gtk) refl
 only_took d n p false octets k o r v len verified derived installed gtk = rw (len, verified, derived, installed, gtk) refl
 
 answer_acts : (d : Domain) (n p : Node) (had : Bool) (octets : List ℕ) (k : KeyMessage) (o : Outcome) (r : Reply) (y : Keyed) (act : Act) → TellsDerived y r → sent_acts p r ≡ act ∷ []
-    → reply_acts d n p had octets k o r ≡ Took (Some p) octets (kind.Key k.message) o (Some (frame_seal y.ptk.kck k.octets)) ∷ Derived p (inputs_by d (root d) n p y) y.ptk ∷ act ∷ []
+    → reply_acts (pair d n p) had (taken_as octets k o) r ≡ Took (Some p) octets (kind.Key k.message) o (Some (frame_seal y.ptk.kck k.octets)) ∷ Derived p (inputs_by d (root d) n p y) y.ptk ∷ act ∷ []
 answer_acts d n p true octets k o r y act told sends = rw (told.verified, told.derived, told.installed, told.gtk, sends) refl
 answer_acts d n p false octets k o r y act told sends = rw (told.verified, told.derived, told.installed, told.gtk, sends) refl
 
 -- the key was derived, and something is sent
 pub answer_took : (d : Domain) (n p : Node) (had : Bool) (octets : List ℕ) (k : KeyMessage) (m : Message) (o : Outcome) (r : Reply) (y : Keyed) (act : Act) → k.message ≡ m → TellsDerived y r → sent_acts p r ≡ act ∷ []
-    → reply_acts d n p had octets k o r ≡ Took (Some p) octets (kind.Key m) o (Some (frame_seal y.ptk.kck k.octets)) ∷ Derived p (inputs_by d (root d) n p y) y.ptk ∷ act ∷ []
+    → reply_acts (pair d n p) had (taken_as octets k o) r ≡ Took (Some p) octets (kind.Key m) o (Some (frame_seal y.ptk.kck k.octets)) ∷ Derived p (inputs_by d (root d) n p y) y.ptk ∷ act ∷ []
 answer_took d n p had octets k m o r y act is told sends =
     answer_acts d n p had octets k o r y act told sends ∙ took_as p octets k.message m o (Some (frame_seal y.ptk.kck k.octets)) (Derived p (inputs_by d (root d) n p y) y.ptk ∷ act ∷ []) is
 
@@ -46,13 +46,13 @@ abbrev pub finish_acts : Domain → Node → Node → Bool → Keyed → List Ac
 finish_acts d n p had y = replaced_acts p had (Some y) ++ Installed (One p) (Pairwise y.ptk.tk (inputs_by d (root d) n p y)) ∷ Finished p (inputs_by d (root d) n p y) ∷ []
 
 installed_took : (d : Domain) (n p : Node) (had : Bool) (octets : List ℕ) (k : KeyMessage) (o : Outcome) (r : Reply) (y : Keyed) → r.len ≡ 0 → r.verified ≡ Some y.ptk.kck → r.derived ≡ None → r.installed ≡ Some y → r.gtk ≡ None
-    → reply_acts d n p had octets k o r ≡ Took (Some p) octets (kind.Key k.message) o (Some (frame_seal y.ptk.kck k.octets)) ∷ finish_acts d n p had y
+    → reply_acts (pair d n p) had (taken_as octets k o) r ≡ Took (Some p) octets (kind.Key k.message) o (Some (frame_seal y.ptk.kck k.octets)) ∷ finish_acts d n p had y
 installed_took d n p true octets k o r y len verified derived installed gtk = rw (len, verified, derived, installed, gtk) refl
 installed_took d n p false octets k o r y len verified derived installed gtk = rw (len, verified, derived, installed, gtk) refl
 
 -- the key was installed
 pub finish_took : (d : Domain) (n p : Node) (had : Bool) (octets : List ℕ) (k : KeyMessage) (m : Message) (o : Outcome) (r : Reply) (y : Keyed) → k.message ≡ m → IsEmpty r
-    → reply_acts d n p had octets k o (record r { verified = Some y.ptk.kck; installed = Some y }) ≡ Took (Some p) octets (kind.Key m) o (Some (frame_seal y.ptk.kck k.octets)) ∷ finish_acts d n p had y
+    → reply_acts (pair d n p) had (taken_as octets k o) (record r { verified = Some y.ptk.kck; installed = Some y }) ≡ Took (Some p) octets (kind.Key m) o (Some (frame_seal y.ptk.kck k.octets)) ∷ finish_acts d n p had y
 finish_took d n p had octets k m o r y is e =
     installed_took d n p had octets k o (record r { verified = Some y.ptk.kck; installed = Some y }) y e.len refl e.derived refl e.gtk
     ∙ took_as p octets k.message m o (Some (frame_seal y.ptk.kck k.octets)) (finish_acts d n p had y) is

@@ -1,86 +1,97 @@
--- How the messages of an attempt are judged, and what an attempt sends once more (IEEE Std 802.11-2020, 12.7.6.3, 12.7.6.5 and
--- 12.7.6.6; the order of the checks, and how often a message is sent, are this project's choice).
-use Rattle.std.specs.Prelude.{◌≡◌, ◌<◌, ◌≤◌, ◌+◌, ◌^◌, ◌==◌, ℕ, suc, true, false, List, [], ◌∷◌, Option, Some, None, is_some, ◌⊎◌}
+-- How the messages of an attempt are judged, and how it goes on (IEEE Std 802.11-2020, 12.7.6.3, 12.7.6.5 and 12.7.6.6; the order
+-- of the checks, and how often a message is sent, are this project's choice).
+use Rattle.std.specs.Prelude.{◌≡◌, ◌<◌, ◌≤◌, ◌+◌, ◌^◌, ◌==◌, ℕ, suc, true, false, List, Option, Some, None, is_some, ◌⊎◌}
 use Rattle.std.specs.List.{list_any}
 use Rattle.domain_base.specs.declared.names.Akm.{Akm}
-use Rattle.domain_base.specs.declared.names.Node.{Node}
 use Rattle.air_frame.specs.Sent.{IsAddress}
-use Rattle.rsn_elements.specs.Elements.{ElementFields}
 use Rattle.mac_prf.specs.Mic.{mic}
 use Rattle.eapol_key.specs.KeyFrame.{KeyFields}
+use Rattle.eapol_key.specs.Fields.{fields_of}
+use Rattle.eapol_key.specs.declared.frame.KeyFrame.{KeyFrame}
+use Rattle.eapol_key.specs.declared.messages.Message.{Message}
 use Rattle.eapol_key.specs.declared.messages.Message.TheVariants.{M1, M3}
-use Rattle.run_journal.specs.declared.domain.Domain.{Domain}
 use Rattle.run_journal.specs.declared.acts.KeyDataFault.{KeyDataFault}
 use Rattle.run_journal.specs.declared.acts.Reason.{Reason}
 use Rattle.run_journal.specs.declared.acts.Reason.TheVariants as reason
-use Rattle.run_journal.specs.declared.acts.Outcome.{Outcome}
-use Rattle.run_journal.specs.declared.acts.Outcome.TheVariants.{Accepted, Refused}
 use Rattle.run_journal.specs.declared.reply.Keyed.{Keyed}
 use Rattle.run_journal.specs.declared.reply.Reply.{Reply}
-use Rattle.run_journal.specs.Acts.{Derivation}
-use Rattle.domain_rules.specs.Frames.{sent_m1, sent_m3}
-use Rattle.domain_rules.specs.Facts.{ReadsKeyData}
-use Rattle.domain_rules.specs.AccessPointKeys.{m2_key_data}
-use Rattle.domain_rules.specs.Replies.{sent_acts}
-use Rattle.node_frames.specs.declared.ends.Ends.{Ends}
-use Rattle.group_key.specs.Holds.{carried}
-use Rattle.node_frames.specs.Ends.{AreEnds}
-use Rattle.node_frames.specs.PairwiseKeys.{key_with}
+use Rattle.node_base.specs.declared.ends.Ends.{Ends}
+use Rattle.node_base.specs.PairwiseKeys.{key_with}
+use Rattle.authenticator.specs.Agreed.{Agreed}
+use Rattle.authenticator.specs.Counters.{counters}
+use Rattle.authenticator.specs.KeyData.{IsKeyDataOf}
+use Rattle.authenticator.specs.Sends.{SendsM1, SendsM3}
+use Rattle.authenticator.specs.declared.attempt.Attempt.{Attempt}
+use Rattle.authenticator.specs.declared.attempt.M4.{M4}
+use Rattle.authenticator.specs.declared.attempt.M4.TheVariants as m4
+use Rattle.authenticator.specs.declared.session.Session.{Session}
 use Rattle.authenticator.specs.declared.m2.M2.{M2}
 use Rattle.authenticator.specs.declared.m2.M2.TheVariants as m2
-use Rattle.authenticator.specs.declared.m4.M4.{M4}
-use Rattle.authenticator.specs.declared.m4.M4.TheVariants as m4
-use Rattle.authenticator.specs.declared.retry.Again.{Again}
-use Rattle.authenticator.specs.declared.retry.Again.TheVariants as again
-use Rattle.authenticator.specs.State.{Trial, Agreed}
-use Rattle.authenticator.specs.Stands.{counters}
+
+-- a frame: its fields, and its octets
+pub record Frame : Type 0 where
+  pub fields : KeyFields
+  pub octets : List ℕ
+
+abbrev pub frame_of : KeyFrame → Frame
+frame_of f = record { fields = fields_of f; octets = f.octets.now }
+
+-- ---- how an attempt begins and goes on
+
+-- its first M1 was sent
+abbrev pub begun : List ℕ → List ℕ → Attempt
+begun anonce rsne = record { anonce = anonce; rsne = rsne; m1s = 1; m3s = 0; agreed = None }
+
+-- M2 was accepted, and the first M3 was sent
+abbrev pub answered : Agreed → Attempt → Attempt
+answered y a = record a { m3s = 1; agreed = Some y }
+
+-- so many M1 and M3 were sent
+abbrev pub counted : ℕ → ℕ → Attempt → Attempt
+counted m1s m3s a = record a { m1s = m1s; m3s = m3s }
+
+-- the next counter is one, and the ends have addresses
+pub record IsNext (l : Ends) (a : Attempt) : Type 0 where
+  pub low : suc (a.m1s + a.m3s) < 2 ^ 64
+  pub own : IsAddress l.own.0
+  pub peer : IsAddress l.peer.0
 
 -- ---- M2
 
--- the key data of an M2 says the RSNE of the request, or what is wrong with it
-abbrev pub key_data_outcome : Option KeyDataFault → Outcome
-key_data_outcome None = Accepted
-key_data_outcome (Some fault) = Refused (reason.KeyData fault)
-
-pub record IsKeyDataOf (rsne octets : List ℕ) (fault : Option KeyDataFault) : Type 0 where
-  pub says : Option ElementFields
-  pub reads : ReadsKeyData octets says
-  pub is : m2_key_data (Some rsne) says ≡ key_data_outcome fault
-
 -- no M2 was accepted, and its counter is one of those of the M1
-pub record IsAwaited (a : Trial) (f : KeyFields) : Type 0 where
+pub record IsAwaited (a : Attempt) (f : KeyFields) : Type 0 where
   pub none : a.agreed ≡ None
   pub offer : list_any (λ c. c == f.counter) (counters 0 a.m1s) ≡ true
 
-pub record IsCounted (a : Trial) (f : KeyFields) (last : ℕ) : Type 0 where
+pub record IsCounted (a : Attempt) (f : KeyFields) (last : ℕ) : Type 0 where
   pub none : a.agreed ≡ None
   pub offer : list_any (λ c. c == f.counter) (counters 0 a.m1s) ≡ false
   pub is : last ≡ a.m1s
 
--- the MIC of an M2 of these fields and octets verifies under the key of both nonces
-abbrev pub Verifies : Ends → List ℕ → Trial → KeyFields → List ℕ → Type 0
-Verifies l psk a f octets = f.mic ≡ mic l.akm (key_with l psk a.anonce f.nonce).ptk.kck octets
+-- the MIC of an M2 verifies under the key of both nonces
+abbrev pub Verifies : Ends → List ℕ → Attempt → Frame → Type 0
+Verifies l psk a f = f.fields.mic ≡ mic l.akm (key_with l psk a.anonce f.fields.nonce).ptk.kck f.octets
 
-pub record IsForged (l : Ends) (psk : List ℕ) (a : Trial) (f : KeyFields) (octets : List ℕ) : Type 0 where
-  pub awaited : IsAwaited a f
-  pub other : Verifies l psk a f octets → ⊥
+pub record IsForged (l : Ends) (psk : List ℕ) (a : Attempt) (f : Frame) : Type 0 where
+  pub awaited : IsAwaited a f.fields
+  pub other : Verifies l psk a f → ⊥
 
-pub record IsVerified (l : Ends) (psk : List ℕ) (a : Trial) (f : KeyFields) (octets : List ℕ) (y : Keyed) (fault : Option KeyDataFault) : Type 0 where
-  pub awaited : IsAwaited a f
-  pub mic_is : Verifies l psk a f octets
-  pub key : y ≡ key_with l psk a.anonce f.nonce
-  pub key_data : IsKeyDataOf a.rsne f.key_data fault
+pub record IsVerified (l : Ends) (psk : List ℕ) (a : Attempt) (f : Frame) (y : Keyed) (fault : Option KeyDataFault) : Type 0 where
+  pub awaited : IsAwaited a f.fields
+  pub mic_is : Verifies l psk a f
+  pub key : y ≡ key_with l psk a.anonce f.fields.nonce
+  pub key_data : IsKeyDataOf a.rsne f.fields.key_data fault
 
-abbrev pub IsRefusedM2 : Ends → List ℕ → Trial → KeyFields → List ℕ → Reason → Type 0
-IsRefusedM2 l psk a f octets reason.Unawaited = is_some a.agreed ≡ true
-IsRefusedM2 l psk a f octets (reason.Counter last) = IsCounted a f last
-IsRefusedM2 l psk a f octets reason.Mic = IsForged l psk a f octets
-IsRefusedM2 l psk a f octets _ = ⊥
+abbrev pub IsRefusedM2 : Ends → List ℕ → Attempt → Frame → Reason → Type 0
+IsRefusedM2 l psk a f reason.Unawaited = is_some a.agreed ≡ true
+IsRefusedM2 l psk a f (reason.Counter last) = IsCounted a f.fields last
+IsRefusedM2 l psk a f reason.Mic = IsForged l psk a f
+IsRefusedM2 l psk a f _ = ⊥
 
-abbrev pub IsM2 : Ends → List ℕ → Trial → KeyFields → List ℕ → M2 → Type 0
-IsM2 l psk a f octets (m2.Refused why) = IsRefusedM2 l psk a f octets why
-IsM2 l psk a f octets (m2.Other fault y) = IsVerified l psk a f octets y (Some fault)
-IsM2 l psk a f octets (m2.Agreed y) = IsVerified l psk a f octets y None
+abbrev pub IsM2 : Ends → List ℕ → Attempt → Frame → M2 → Type 0
+IsM2 l psk a f (m2.Refused why) = IsRefusedM2 l psk a f why
+IsM2 l psk a f (m2.Other fault y) = IsVerified l psk a f y (Some fault)
+IsM2 l psk a f (m2.Agreed y) = IsVerified l psk a f y None
 
 -- the reply says that the key was derived, under which the frame verified, and nothing else of keys
 pub record TellsDerived (y : Keyed) (r : Reply) : Type 0 where
@@ -89,77 +100,70 @@ pub record TellsDerived (y : Keyed) (r : Reply) : Type 0 where
   pub installed : r.installed ≡ None
   pub gtk : r.gtk ≡ None
 
--- it sends M3 between the ends
-abbrev pub SendsM3 : Ends → Agreed → ℕ → Reply → Type 0
-SendsM3 l y counter r = (d : Domain) (n p : Node) (x : Derivation) → AreEnds d n p l → y.key.ptk ≡ x.ptk → x.inputs.anonce ≡ y.key.anonce
-    → sent_acts p r ≡ sent_m3 d n p x counter (carried y.group) y.rsc ∷ []
+-- it sends the first M3 of the attempt
+pub record Answers (l : Ends) (a : Attempt) (y : Agreed) (r : Reply) : Type 0 where
+  pub sends : SendsM3 l y (suc (a.m1s + a.m3s)) r
+  pub next : IsNext l a
 
 -- ---- M4
 
 -- what was agreed on, and its counter is one of those of the M3
-pub record IsAnswered (a : Trial) (f : KeyFields) (y : Agreed) : Type 0 where
+pub record IsAnswered (a : Attempt) (f : KeyFields) (y : Agreed) : Type 0 where
   pub some : a.agreed ≡ Some y
   pub offer : list_any (λ c. c == f.counter) (counters a.m1s a.m3s) ≡ true
 
-pub record IsUncounted (a : Trial) (f : KeyFields) (last : ℕ) : Type 0 where
+pub record IsUncounted (a : Attempt) (f : KeyFields) (last : ℕ) : Type 0 where
   pub y : Agreed
   pub some : a.agreed ≡ Some y
   pub offer : list_any (λ c. c == f.counter) (counters a.m1s a.m3s) ≡ false
   pub is : last ≡ a.m1s + a.m3s
 
-pub record IsForgedM4 (akm : Akm) (a : Trial) (f : KeyFields) (octets : List ℕ) : Type 0 where
+pub record IsForgedM4 (akm : Akm) (a : Attempt) (f : Frame) : Type 0 where
   pub y : Agreed
-  pub answered : IsAnswered a f y
-  pub other : f.mic ≡ mic akm y.key.ptk.kck octets → ⊥
+  pub answered : IsAnswered a f.fields y
+  pub other : f.fields.mic ≡ mic akm y.key.ptk.kck f.octets → ⊥
 
-pub record IsFinish (akm : Akm) (a : Trial) (f : KeyFields) (octets : List ℕ) (key : Keyed) (next : ℕ) : Type 0 where
+pub record IsFinish (akm : Akm) (a : Attempt) (f : Frame) (s : Session) : Type 0 where
   pub y : Agreed
-  pub answered : IsAnswered a f y
-  pub mic_is : f.mic ≡ mic akm y.key.ptk.kck octets
-  pub key_is : key ≡ y.key
-  pub next_is : next ≡ suc (a.m1s + a.m3s)
+  pub answered : IsAnswered a f.fields y
+  pub mic_is : f.fields.mic ≡ mic akm y.key.ptk.kck f.octets
+  pub key_is : s.key ≡ y.key
+  pub next_is : s.next ≡ suc (a.m1s + a.m3s)
 
-abbrev pub IsRefusedM4 : Akm → Trial → KeyFields → List ℕ → Reason → Type 0
-IsRefusedM4 akm a f octets reason.Unawaited = a.agreed ≡ None
-IsRefusedM4 akm a f octets (reason.Counter last) = IsUncounted a f last
-IsRefusedM4 akm a f octets reason.Mic = IsForgedM4 akm a f octets
-IsRefusedM4 akm a f octets _ = ⊥
+abbrev pub IsRefusedM4 : Akm → Attempt → Frame → Reason → Type 0
+IsRefusedM4 akm a f reason.Unawaited = a.agreed ≡ None
+IsRefusedM4 akm a f (reason.Counter last) = IsUncounted a f.fields last
+IsRefusedM4 akm a f reason.Mic = IsForgedM4 akm a f
+IsRefusedM4 akm a f _ = ⊥
 
-abbrev pub IsM4 : Akm → Trial → KeyFields → List ℕ → M4 → Type 0
-IsM4 akm a f octets (m4.Refused why) = IsRefusedM4 akm a f octets why
-IsM4 akm a f octets (m4.Accepted key next) = IsFinish akm a f octets key next
+-- a refusal gives the attempt back as it was
+abbrev pub IsM4 : Akm → Attempt → Frame → M4 → Type 0
+IsM4 akm a f (m4.Refused why back) = (back ≡ a) × IsRefusedM4 akm a f why
+IsM4 akm a f (m4.Finished s) = IsFinish akm a f s
 
 -- ---- once more
 
--- the reply sends M1 between the ends
-abbrev pub SendsM1 : Ends → ℕ → List ℕ → Reply → Type 0
-SendsM1 l counter anonce r = (d : Domain) (n p : Node) → AreEnds d n p l → sent_acts p r ≡ sent_m1 d n p counter anonce ∷ []
-
--- the next counter is one, and the ends have addresses
-pub record IsNext (l : Ends) (a : Trial) : Type 0 where
-  pub low : suc (a.m1s + a.m3s) < 2 ^ 64
-  pub own : IsAddress l.own.0
-  pub peer : IsAddress l.peer.0
-
-pub record IsM1Again (l : Ends) (a : Trial) (r : Reply) (m1s m3s : ℕ) : Type 0 where
+pub record IsM1Again (l : Ends) (a b : Attempt) (r : Reply) : Type 0 where
   pub none : a.agreed ≡ None
   pub few : a.m1s < 4
   pub sends : SendsM1 l (suc (a.m1s + a.m3s)) a.anonce r
   pub next : IsNext l a
-  pub m1s_are : m1s ≡ suc a.m1s
-  pub m3s_are : m3s ≡ a.m3s
+  pub now : b ≡ counted (suc a.m1s) a.m3s a
 
-pub record IsM3Again (l : Ends) (a : Trial) (r : Reply) (m1s m3s : ℕ) : Type 0 where
+pub record IsM3Again (l : Ends) (a b : Attempt) (r : Reply) : Type 0 where
   pub y : Agreed
   pub some : a.agreed ≡ Some y
   pub few : a.m3s < 4
   pub sends : SendsM3 l y (suc (a.m1s + a.m3s)) r
   pub next : IsNext l a
-  pub m1s_are : m1s ≡ a.m1s
-  pub m3s_are : m3s ≡ suc a.m3s
+  pub now : b ≡ counted a.m1s (suc a.m3s) a
 
-abbrev pub IsAgain : Ends → Trial → Reply → Again → Type 0
-IsAgain l a r (again.Sent m1s m3s) = IsM1Again l a r m1s m3s ⊎ IsM3Again l a r m1s m3s
-IsAgain l a r (again.GivenUp M1) = (a.agreed ≡ None) × (4 ≤ a.m1s)
-IsAgain l a r (again.GivenUp M3) = (is_some a.agreed ≡ true) × (4 ≤ a.m3s)
-IsAgain l a r (again.GivenUp _) = ⊥
+-- the reply sends the message of the attempt a once more, which is b then
+abbrev pub IsAgain : Ends → Attempt → Attempt → Reply → Type 0
+IsAgain l a b r = IsM1Again l a b r ⊎ IsM3Again l a b r
+
+-- that message was sent as often as it may be
+abbrev pub IsInVain : Attempt → Message → Type 0
+IsInVain a M1 = (a.agreed ≡ None) × (4 ≤ a.m1s)
+IsInVain a M3 = (is_some a.agreed ≡ true) × (4 ≤ a.m3s)
+IsInVain a _ = ⊥

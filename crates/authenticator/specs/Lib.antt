@@ -1,7 +1,10 @@
+pub mod Agreed
+pub mod Counters
+pub mod KeyData
+pub mod Sends
 pub mod State
 pub mod Stands
 pub mod Steps
-pub mod Views
 pub mod Judged
 pub mod Taken
 pub mod Starts

@@ -1,40 +1,57 @@
--- What taking a message does, and sending once more, after every history that the authenticator stands for (this project's
--- choice).
-use Rattle.std.specs.Prelude.{◌≡◌, ℕ, List}
+-- What a message and sending once more do, after every history that the authenticator stands for (this project's choice).
+use Rattle.std.specs.Prelude.{◌≡◌, ℕ, List, is_some}
+use Rattle.domain_base.specs.declared.names.Node.{Node}
 use Rattle.domain_base.specs.declared.names.Node.TheVariants.{Ap, Sta}
-use Rattle.eapol_key.specs.KeyFrame.{KeyFields}
 use Rattle.eapol_key.specs.declared.messages.Message.{Message}
 use Rattle.run_journal.specs.declared.domain.Domain.{Domain}
 use Rattle.run_journal.specs.declared.acts.Outcome.{Outcome}
 use Rattle.run_journal.specs.declared.acts.Act.{Act}
 use Rattle.run_journal.specs.declared.reply.Reply.{Reply}
 use Rattle.run_journal.specs.Questions.{group_keys}
-use Rattle.domain_rules.specs.GroupKeys.{newest_uses}
-use Rattle.domain_rules.specs.Reading.{KeyMessage}
-use Rattle.domain_rules.specs.Replies.{IsMessageFrom}
 use Rattle.run_journal.specs.GroupKinds as groups
+use Rattle.domain_rules.specs.GroupKeys.{newest_uses}
+use Rattle.domain_rules.specs.Here.{Here, here}
+use Rattle.domain_rules.specs.Reading.{KeyMessage}
+use Rattle.domain_rules.specs.Replies.{IsMessageFrom, reply_acts, pair, taken_as}
 use Rattle.group_key.specs.declared.keys.GroupKey.{GroupKey}
 use Rattle.group_key.specs.Holds.{IsLast}
-use Rattle.authenticator.specs.declared.authenticator.Retried.{Retried}
-use Rattle.authenticator.specs.declared.authenticator.Retried.TheVariants as retried
-use Rattle.authenticator.specs.State.{State, GivenUp}
-use Rattle.authenticator.specs.Stands.{Stands, IsAsked, IsAskedOf}
-use Rattle.authenticator.specs.Steps.{Steps, Retries, IsAttempt}
+use Rattle.authenticator.specs.State.{State}
+use Rattle.authenticator.specs.Stands.{AuthenticatorStands}
+use Rattle.authenticator.specs.Judged.{Frame}
+use Rattle.authenticator.specs.Steps.{Steps, Retries, again_acts}
+use Rattle.authenticator.specs.declared.authenticator.Again.{Again}
 
--- the message of these fields and octets takes the authenticator from old to new
-abbrev pub StepsFrom : State → State → Message → KeyFields → List ℕ → GroupKey → ℕ → Outcome → Reply → Type 0
-StepsFrom old new message f whole g rsc outcome r =
-    (d : Domain) (first ap sta : ℕ) (octets : List ℕ) (k : KeyMessage) (h : List Act) → Stands d (Ap ap) (Sta sta) old h → IsAskedOf message (Sta sta) old.stage h
-    → IsLast g (group_keys groups.Gtk h) → newest_uses groups.Gtk h ≡ rsc → IsMessageFrom d (Ap ap) (Sta sta) octets k → k.message ≡ message → k.fields ≡ f → k.octets ≡ whole
-    → Steps d first (Ap ap) (Sta sta) octets k new outcome r h
+-- what an authenticator is given: a message and its frame, the newest group key, and how many packet numbers were used under it
+pub record Given : Type 0 where
+  pub message : Message
+  pub frame : Frame
+  pub newest : GroupKey
+  pub rsc : ℕ
+
+abbrev pub given : Message → Frame → GroupKey → ℕ → Given
+given message frame newest rsc = record { message = message; frame = frame; newest = newest; rsc = rsc }
+
+abbrev pub frame_in : KeyMessage → Frame
+frame_in k = record { fields = k.fields; octets = k.octets }
+
+-- behind the history h it comes as the octet string that is the EAPOL-Key message k of p
+pub record Comes (w : Here) (p : Node) (x : Given) (octets : List ℕ) (k : KeyMessage) (h : List Act) : Type 0 where
+  pub from : IsMessageFrom w.domain w.node p octets k
+  pub message : k.message ≡ x.message
+  pub frame : frame_in k ≡ x.frame
+  pub newest : IsLast x.newest (group_keys groups.Gtk h)
+  pub uses : newest_uses groups.Gtk h ≡ x.rsc
+
+-- what it is given takes the authenticator from old to new
+abbrev pub StepsFrom : State → State → Given → Outcome → Reply → Type 0
+StepsFrom old new x outcome r =
+    (d : Domain) (first ap sta : ℕ) (octets : List ℕ) (k : KeyMessage) (h : List Act)
+    → AuthenticatorStands d (Ap ap) (Sta sta) old h → Comes (here d first (Ap ap)) (Sta sta) x octets k h
+    → Steps (here d first (Ap ap)) (Sta sta) octets
+    (reply_acts (pair d (Ap ap) (Sta sta)) (is_some old.session) (taken_as octets k outcome) r) new h
 
 -- and so does sending once more
-abbrev pub RetriesFrom : State → State → Retried → Reply → Type 0
+abbrev pub RetriesFrom : State → State → Again → Reply → Type 0
 RetriesFrom old new came r =
-    (d : Domain) (ap sta : ℕ) (h : List Act) → Stands d (Ap ap) (Sta sta) old h → IsAsked (Sta sta) old.stage h → Retries d (Ap ap) (Sta sta) new came r h
-
--- Where something was sent, an attempt is one still; where it was given up, it is at its end; and else nothing is changed.
-abbrev pub IsStagedBy : Retried → State → State → Type 0
-IsStagedBy retried.Sent old new = IsAttempt old.stage × IsAttempt new.stage
-IsStagedBy retried.GaveUp old new = IsAttempt old.stage × (new.stage ≡ GivenUp)
-IsStagedBy retried.Nothing old new = new ≡ old
+    (d : Domain) (ap sta : ℕ) (h : List Act) → AuthenticatorStands d (Ap ap) (Sta sta) old h
+    → Retries (pair d (Ap ap) (Sta sta)) (again_acts (Sta sta) came r) new h

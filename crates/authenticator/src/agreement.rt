@@ -1,9 +1,14 @@
 //! What an attempt has from M2 on.
 
 ghost use Rattle.std.specs.Prelude.{◌≡◌, ◌<◌, ◌^◌};
+ghost use Rattle.air_frame.specs.Sent.{IsAddress};
+ghost use Rattle.run_journal.specs.Replies.{IsWhole};
+ghost use Rattle.frame_making.specs.Replied.{Keeps};
 
+use frame_making::write_m3;
 use group_key::GroupKey;
-use run_journal::Keyed;
+use node_base::Ends;
+use run_journal::{Keyed, Reply};
 use std::marker::Model;
 
 /// The pairwise key, and the group key and the count of packet numbers that its M3 carry.
@@ -16,7 +21,7 @@ pub struct Agreement {
 
 impl Model for Agreement {
     ghost use Rattle.std.specs.Prelude.{◌<◌, ◌^◌};
-    ghost use Rattle.authenticator.specs.State.{Agreed};
+    ghost use Rattle.authenticator.specs.Agreed.{Agreed};
 
     ghost Value = { Agreed };
 
@@ -26,6 +31,8 @@ impl Model for Agreement {
 }
 
 impl Agreement {
+    ghost use Rattle.authenticator.specs.Sends.{SendsM3};
+
     /// Of these keys and that count.
     pub fn of(key: &Keyed, group: &GroupKey, rsc: u64) -> Self
         requires id { group.now.id < 4 }
@@ -43,19 +50,13 @@ impl Agreement {
         &self.key
     }
 
-    /// The group key. Its key id is at most 3.
-    pub fn group(&self) -> &GroupKey
-        ensures value { result.now ≡ self.now.group }
-        ensures id { result.now.id < 4 }
+    /// Writes M3, the first or once more (IEEE Std 802.11-2020, 12.7.6.4).
+    pub fn send_m3(&self, ends: &Ends, counter: u64, reply: &mut Reply)
+        ensures sends { SendsM3 ends.now self.now counter reply.new }
+        ensures keeps { Keeps reply.old reply.new }
+        ensures fits { IsWhole reply.new }
+        ensures addresses { IsAddress ends.now.own.0 × IsAddress ends.now.peer.0 }
     {
-        &self.group
-    }
-
-    /// The count of packet numbers that were used under the group key as M3 was sent first.
-    pub fn rsc(&self) -> u64
-        ensures value { result ≡ self.now.rsc }
-        ensures packet_number { result < 2 ^ 48 }
-    {
-        self.rsc
+        write_m3(ends, &self.key, counter, &self.group, self.rsc, reply);
     }
 }

@@ -1,37 +1,31 @@
 //! An access point's part with one station.
 
 ghost use Rattle.std.specs.Prelude.{◌≡◌, ◌≢◌, ◌<◌, ◌≤◌, ◌^◌, ℕ, List, [], ◌∷◌, length};
+ghost use Rattle.std.specs.Prelude.{None, Option, is_some};
 ghost use Rattle.domain_base.specs.declared.names.Akm.{Akm as AnyAkm};
 ghost use Rattle.domain_base.specs.declared.names.Node.TheVariants.{Ap, Sta};
-ghost use Rattle.eapol_key.specs.Fields.{fields_of, IsKeyFrame};
-ghost use Rattle.run_journal.specs.declared.domain.Domain.{Domain as AnyDomain};
+ghost use Rattle.eapol_key.specs.Fields.{IsKeyFrame};
+ghost use Rattle.eapol_key.specs.declared.messages.Message.TheVariants as messages;
+ghost use Rattle.group_key.specs.declared.keys.GroupKey.{GroupKey as AnyKey};
 ghost use Rattle.run_journal.specs.declared.acts.Act.{Act as AnyAct};
 ghost use Rattle.run_journal.specs.declared.acts.Outcome.TheVariants.{Refused};
 ghost use Rattle.run_journal.specs.declared.acts.Reason.{Reason as AnyReason};
-ghost use Rattle.run_journal.specs.Replies.{IsWhole};
+ghost use Rattle.run_journal.specs.Replies.{IsEmpty, IsWhole};
 ghost use Rattle.domain_rules.specs.Frames.{sent_m1};
-ghost use Rattle.run_journal.specs.Questions.{group_keys};
-ghost use Rattle.domain_rules.specs.GroupKeys.{newest_uses};
-ghost use Rattle.domain_rules.specs.Reading.{KeyMessage as AnyMessage};
-ghost use Rattle.domain_rules.specs.Replies.{IsMessageFrom, sent_acts};
-ghost use Rattle.run_journal.specs.GroupKinds as groups;
-ghost use Rattle.group_key.specs.Holds.{IsLast};
-ghost use Rattle.node_frames.specs.Replied.{TellsNothing};
+ghost use Rattle.domain_rules.specs.Replies.{sent_acts};
+ghost use Rattle.frame_making.specs.Replied.{TellsNothing};
 ghost use Rattle.authenticator.specs.Starts.{nonce_in, rsne_in};
 
-use crate::request::RequestedRsne;
-use crate::retry::send_again;
-use crate::stage::{Attempt, Stage};
-use crate::taking::take;
+use crate::agreement::Agreement;
+use crate::attempt::{Attempt, M4};
+use crate::m2::M2;
+use crate::session::Session;
 use domain_base::Node;
 use eapol_key::{KeyFrame, Message};
 use group_key::GroupKey;
-use node_frames::{Ends, write_m1};
-use run_journal::{Domain, Outcome, Reply};
+use node_base::Ends;
+use run_journal::{Domain, Kind, Outcome, Reason, Reply};
 use std::marker::Model;
-
-/// The replay counter of the first M1 of an attempt.
-const FIRST_COUNTER: u64 = 1;
 
 /// How an authenticator begins.
 #[derive(Clone, Copy)]
@@ -55,45 +49,67 @@ fn parts_of<'a>(start: ApStart<'a>) -> (&'a [u8; 32], &'a [u8])
     }
 }
 
+/// What came of sending once more, with the message that was sent in vain.
+#[derive(Clone, Copy)]
+pub enum Again {
+    /// M1 was sent once more, or from M2 on M3.
+    Sent,
+    /// The attempt is given up: that message was sent as often as it may be.
+    GaveUp(Message),
+    /// Nothing waits for an answer.
+    Nothing,
+}
+
 /// What came of sending once more.
 #[derive(Clone, Copy)]
 pub enum Retried {
     /// M1 was sent once more, or from M2 on M3.
     Sent,
-    /// The attempt is given up: the message was sent as often as it may be. The reply names its kind.
+    /// The attempt is given up: the message was sent as often as it may be. The reply names its
+    /// kind.
     GaveUp,
     /// Nothing waits for an answer.
     Nothing,
 }
 
-/// An access point's part of the four-way handshake with one station (IEEE Std 802.11-2020, 12.7.6), in an attempt, in the
-/// session behind it, or after the attempt was given up. AKM suites 2 and 6. It takes no memory.
+/// An access point's part with one station: an attempt, which is a four-way handshake
+/// (IEEE Std 802.11-2020, 12.7.6), and a session, where there is one. A new attempt may stand beside
+/// a session; it takes the session's place as it becomes one. AKM suites 2 and 6. It takes no memory.
 #[derive(Drop)]
 pub struct Authenticator {
     ends: Ends,
     psk: [u8; 32],
-    stage: Stage,
+    attempt: Option<Attempt>,
+    session: Option<Session>,
 }
 
 impl Model for Authenticator {
+    ghost use Rattle.std.specs.Prelude.{◌≢◌};
+    ghost use Rattle.domain_base.specs.declared.names.Akm.TheVariants.{FtPsk};
     ghost use Rattle.authenticator.specs.State.{State};
 
     ghost Value = { State };
 
-    ghost use Rattle.authenticator.specs.Views.{state_of, IsSound};
+    ghost view = { λ s. record {
+      ends = s.ends;
+      psk = s.psk;
+      attempt = s.attempt;
+      session = s.session;
+    } };
 
-    ghost view = { λ s. state_of s.ends s.psk s.stage };
-
-    ghost invariant = { λ s. IsSound (state_of s.ends s.psk s.stage) };
+    ghost invariant = { λ s. s.ends.akm ≢ FtPsk };
 }
 
 impl Authenticator {
-    ghost use Rattle.authenticator.specs.Stands.{Stands, IsAsked, IsAskedOf};
-    ghost use Rattle.authenticator.specs.Steps.{IsBegun, Steps, Retries, IsAttempt, IsStaged};
-    ghost use Rattle.authenticator.specs.Taken.{IsStagedBy};
+    ghost use Rattle.authenticator.specs.State.{with_session};
+    ghost use Rattle.authenticator.specs.declared.session.Session.{Session as AnySession};
+    ghost use Rattle.authenticator.specs.Stands.{AuthenticatorStands, HasSession};
+    ghost use Rattle.authenticator.specs.Steps.{IsBegun, IsNamed};
+    ghost use Rattle.authenticator.specs.Judged.{frame_of};
+    ghost use Rattle.authenticator.specs.Taken.{given, StepsFrom, RetriesFrom};
 
-    /// Begins an attempt, and sends M1 with replay counter 1 (IEEE Std 802.11-2020, 12.7.6.2). The reply has M1 and nothing else,
-    /// whatever was in it.
+    /// Begins an attempt, and sends M1 with replay counter 1 (IEEE Std 802.11-2020, 12.7.6.2). There
+    /// is no session. The reply has M1 and nothing else, whatever was in it.
     pub fn begin(
         domain: &Domain,
         ap: u16,
@@ -105,57 +121,117 @@ impl Authenticator {
         requires ap { ap < length domain.now.aps }
         requires sta { sta < length domain.now.stas }
         requires rsne { length (rsne_in start) ≤ 257 }
-        ensures sends { sent_acts (Sta sta) reply.new ≡ sent_m1 domain.now (Ap ap) (Sta sta) 1 (nonce_in start.entry) ∷ [] }
-        ensures stands { (h : List AnyAct) → IsBegun domain.now (Sta sta) (nonce_in start.entry) (rsne_in start.entry) h
-            → Stands domain.now (Ap ap) (Sta sta) result (sent_m1 domain.now (Ap ap) (Sta sta) 1 (nonce_in start.entry) ∷ h) }
-        ensures attempt { IsAttempt result.stage }
+        ensures sends { sent_acts (Sta sta) reply.new
+            ≡ sent_m1 domain.now (Ap ap) (Sta sta) 1 (nonce_in start.entry) ∷ [] }
+        // it stands for the history with M1, also beside the session of another part
+        ensures stands { (h : List AnyAct) (session : Option AnySession)
+            → IsBegun domain.now (Sta sta) (nonce_in start.entry) (rsne_in start.entry) h
+            → HasSession domain.now (Ap ap) (Sta sta) session h
+            → AuthenticatorStands domain.now (Ap ap) (Sta sta) (with_session session result)
+            (sent_m1 domain.now (Ap ap) (Sta sta) 1 (nonce_in start.entry) ∷ h) }
+        ensures alone { result.session ≡ None }
         ensures told { TellsNothing reply.new }
         ensures whole { IsWhole reply.new }
     {
-        let (anonce, rsne) = parts_of(start);
-        Authenticator::connect(domain, ap, sta, anonce, rsne, reply)
-    }
-
-    // Begins an attempt by association.
-    fn connect(
-        domain: &Domain,
-        ap: u16,
-        sta: u16,
-        anonce: &[u8; 32],
-        rsne: &[u8],
-        reply: &mut Reply,
-    ) -> Authenticator
-        requires suite { domain.now.akm ≢ AnyAkm.FtPsk }
-        requires ap { ap < length domain.now.aps }
-        requires sta { sta < length domain.now.stas }
-        requires rsne { length rsne.now ≤ 257 }
-        ensures sends { sent_acts (Sta sta) reply.new ≡ sent_m1 domain.now (Ap ap) (Sta sta) 1 anonce.now ∷ [] }
-        ensures stands { (h : List AnyAct) → IsBegun domain.now (Sta sta) anonce.now rsne.now h
-            → Stands domain.now (Ap ap) (Sta sta) result (sent_m1 domain.now (Ap ap) (Sta sta) 1 anonce.now ∷ h) }
-        ensures attempt { IsAttempt result.stage }
-        ensures told { TellsNothing reply.new }
-        ensures whole { IsWhole reply.new }
-    {
-        *reply = Reply::empty();
         let ends = Ends::between(domain, Node::Ap(ap), Node::Sta(sta));
-        write_m1(&ends, FIRST_COUNTER, anonce, reply);
-        let attempt = Attempt {
-            anonce: *anonce,
-            rsne: RequestedRsne::of(rsne),
-            m1s: 1,
-            m3s: 0,
-            agreed: None,
-        };
+        let (anonce, rsne) = parts_of(start);
+        let attempt = Attempt::begin(&ends, anonce, rsne, reply);
         Authenticator {
             ends,
             psk: domain.psk,
-            stage: Stage::Attempt(attempt),
+            attempt: Some(attempt),
+            session: None,
         }
     }
 
-    /// Takes a message of the station. The newest group key and the count of packet numbers that were used under it go into M3.
+    /// Keeps the session of an older part with the same station.
+    pub fn keep_session(&mut self, older: Authenticator)
+        ensures { self.new ≡ with_session older.session self.old }
+    {
+        self.session = older.session;
+    }
+
+    /// Whether there is an attempt.
+    pub fn has_attempt(&self) -> bool
+        ensures { result ≡ is_some self.now.attempt }
+    {
+        self.attempt.is_some()
+    }
+
+    /// Whether there is a session.
+    pub fn has_session(&self) -> bool
+        ensures { result ≡ is_some self.now.session }
+    {
+        self.session.is_some()
+    }
+
+    // Takes message 2. The newest group key is given, and the count of packet numbers that were
+    // used under it.
+    fn take_m2(
+        &mut self,
+        frame: &KeyFrame<'_>,
+        newest: &GroupKey,
+        rsc: u64,
+        reply: &mut Reply,
+    ) -> Outcome
+        requires frame { IsKeyFrame frame.now }
+        requires id { newest.now.id < 4 }
+        requires packet_number { rsc < 2 ^ 48 }
+        requires empty { IsEmpty reply.old }
+        ensures steps { StepsFrom self.old self.new
+            (given messages.M2 (frame_of frame.now) newest.now rsc) result reply.new }
+        ensures refused { (why : AnyReason) → result ≡ Refused why → self.new ≡ self.old }
+        ensures fits { IsWhole reply.new }
+    {
+        let Some(attempt) = &mut self.attempt else {
+            return Outcome::Refused(Reason::Unawaited);
+        };
+        let key = match attempt.judge_m2(&self.ends, &self.psk, frame) {
+            M2::Refused(why) => return Outcome::Refused(why),
+            M2::Other(fault, key) => {
+                reply.verified = Some(key.ptk.kck);
+                return Outcome::Refused(Reason::KeyData(fault));
+            }
+            M2::Agreed(key) => key,
+        };
+        let agreement = Agreement::of(&key, newest, rsc);
+        attempt.answer_m2(&self.ends, agreement, reply);
+        Outcome::Accepted
+    }
+
+    // Takes message 4: where it is accepted, the session that the attempt becomes takes the place of
+    // the one there was.
+    fn take_m4(&mut self, frame: &KeyFrame<'_>, reply: &mut Reply) -> Outcome
+        requires frame { IsKeyFrame frame.now }
+        requires empty { IsEmpty reply.old }
+        ensures steps { (newest : AnyKey) (rsc : ℕ) → StepsFrom self.old self.new
+            (given messages.M4 (frame_of frame.now) newest rsc) result reply.new }
+        ensures refused { (why : AnyReason) → result ≡ Refused why → self.new ≡ self.old }
+        ensures fits { IsWhole reply.new }
+    {
+        let Some(attempt) = self.attempt.take() else {
+            return Outcome::Refused(Reason::Unawaited);
+        };
+        match attempt.finish(self.ends.akm, frame) {
+            M4::Refused(why, attempt) => {
+                self.attempt = Some(attempt);
+                Outcome::Refused(why)
+            }
+            M4::Finished(session) => {
+                let key = session.key;
+                reply.verified = Some(key.ptk.kck);
+                reply.installed = Some(key);
+                self.session = Some(session);
+                Outcome::Accepted
+            }
+        }
+    }
+
+    /// Takes a message of the station. The newest group key and the count of packet numbers that
+    /// were used under it go into M3.
     ///
-    /// What is sent, derived and installed comes into the reply, whatever was in it. A refusal does not change the authenticator.
+    /// What is sent, derived and installed comes into the reply, whatever was in it. A refusal does
+    /// not change the authenticator.
     pub fn step(
         &mut self,
         message: Message,
@@ -167,37 +243,57 @@ impl Authenticator {
         requires frame { IsKeyFrame frame.now }
         requires id { newest.now.id < 4 }
         requires packet_number { rsc < 2 ^ 48 }
-        ensures steps { (d : AnyDomain) (first ap sta : ℕ) (octets : List ℕ) (k : AnyMessage) (h : List AnyAct)
-            → Stands d (Ap ap) (Sta sta) self.old h → IsAskedOf message (Sta sta) self.old.stage h → IsLast newest.now (group_keys groups.Gtk h)
-            → newest_uses groups.Gtk h ≡ rsc → IsMessageFrom d (Ap ap) (Sta sta) octets k → k.message ≡ message → k.fields ≡ fields_of frame.now
-            → k.octets ≡ frame.now.octets.now → Steps d first (Ap ap) (Sta sta) octets k self.new result reply.new h }
-        ensures staged { IsStaged reply.new.installed self.old self.new }
+        ensures steps { StepsFrom self.old self.new
+            (given message (frame_of frame.now) newest.now rsc) result reply.new }
         ensures refused { (why : AnyReason) → result ≡ Refused why → self.new ≡ self.old }
         ensures whole { IsWhole reply.new }
     {
-        take(
-            &self.ends,
-            &self.psk,
-            &mut self.stage,
-            message,
-            frame,
-            newest,
-            rsc,
-            reply,
-        )
+        *reply = Reply::empty();
+        match message {
+            Message::M2 => self.take_m2(frame, newest, rsc, reply),
+            Message::M4 => self.take_m4(frame, reply),
+            _ => Outcome::Refused(Reason::Unawaited),
+        }
     }
 
     /// Sends M1, or from M2 on M3, once more: at most four times each. Then the attempt is given up
-    /// (IEEE Std 802.11-2020, 12.7.6.6). The reply has the message and nothing else, whatever was in it; nothing is sent where the
-    /// attempt is given up, or where nothing waits.
+    /// (IEEE Std 802.11-2020, 12.7.6.6). The reply has the message and nothing else, whatever was in
+    /// it; nothing is sent where the attempt is given up, or where nothing waits.
+    pub fn send_again(&mut self, reply: &mut Reply) -> Again
+        ensures retries { RetriesFrom self.old self.new result reply.new }
+        ensures told { TellsNothing reply.new }
+        ensures silent { result ≢ Again.Sent → reply.new.len ≡ 0 }
+        ensures whole { IsWhole reply.new }
+    {
+        *reply = Reply::empty();
+        let Some(attempt) = &mut self.attempt else {
+            return Again::Nothing;
+        };
+        match attempt.send_again(&self.ends, reply) {
+            Ok(()) => Again::Sent,
+            Err(message) => {
+                self.attempt = None;
+                Again::GaveUp(message)
+            }
+        }
+    }
+
+    /// As [`Authenticator::send_again`], but where the attempt is given up it is the reply that
+    /// names the kind of the message that was sent in vain.
     pub fn retry(&mut self, reply: &mut Reply) -> Retried
-        ensures retries { (d : AnyDomain) (ap sta : ℕ) (h : List AnyAct) → Stands d (Ap ap) (Sta sta) self.old h
-            → IsAsked (Sta sta) self.old.stage h → Retries d (Ap ap) (Sta sta) self.new result reply.new h }
-        ensures staged { IsStagedBy result self.old self.new }
+        ensures retries { (came : Again) × IsNamed came result reply.new.kind
+            × RetriesFrom self.old self.new came reply.new }
         ensures told { TellsNothing reply.new }
         ensures silent { result ≢ Retried.Sent → reply.new.len ≡ 0 }
         ensures whole { IsWhole reply.new }
     {
-        send_again(&self.ends, &mut self.stage, reply)
+        match self.send_again(reply) {
+            Again::Sent => Retried::Sent,
+            Again::GaveUp(message) => {
+                reply.kind = Kind::Key(message);
+                Retried::GaveUp
+            }
+            Again::Nothing => Retried::Nothing,
+        }
     }
 }

@@ -1,8 +1,9 @@
-//! The replay counters of an attempt: those of M1 from 1 on, behind them those of M3 (IEEE Std 802.11-2020, 12.7.2).
+//! The replay counters of an attempt: those of M1 from 1 on, behind them those of M3
+//! (IEEE Std 802.11-2020, 12.7.2).
 
 ghost use Rattle.std.specs.Prelude.{◌≡◌, ◌+◌, ◌==◌};
 ghost use Rattle.std.specs.List.{list_any};
-ghost use Rattle.authenticator.specs.Stands.{counters};
+ghost use Rattle.authenticator.specs.Counters.{counters};
 
 /// The last counter of so many and so many more.
 pub fn last_counter(before: u8, sends: u8) -> u64

@@ -2,13 +2,11 @@
 #![tactic(auto)]
 
 mod agreement;
+mod attempt;
 mod authenticator;
 mod counters;
 mod m2;
-mod m4;
 mod request;
-mod retry;
-mod stage;
-mod taking;
+mod session;
 
-pub use authenticator::{ApStart, Authenticator, Retried};
+pub use authenticator::{Again, ApStart, Authenticator, Retried};

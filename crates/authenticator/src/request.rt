@@ -5,7 +5,8 @@ ghost use Rattle.std.specs.Prelude.{◌≡◌, ◌≤◌, length};
 use domain_base::put;
 use std::marker::Model;
 
-/// The octets of an element at most: its id, its length, and 255 more (IEEE Std 802.11-2020, 9.4.2.1).
+/// The octets of an element at most: its id, its length, and 255 more
+/// (IEEE Std 802.11-2020, 9.4.2.1).
 const MOST_OCTETS: usize = 257;
 
 /// A whole RSNE, from its id on. Contracts see its octets.

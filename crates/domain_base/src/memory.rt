@@ -1,6 +1,6 @@
 //! Sources and sinks in memory: with a list of the calls that are to fail, and without.
 
-ghost use Rattle.std.specs.Prelude.{◌≡◌, ◌↔◌, ◌≤◌, ◌<◌, ◌-◌, ◌++◌, ◌⊎◌, min, length, take, [], Ok, Some, IsTrue, OnOk, IfOk, IsErr, vec_len, vec_capacity};
+ghost use Rattle.std.specs.Prelude.{◌≡◌, ◌↔◌, ◌≤◌, ◌<◌, ◌+◌, ◌-◌, ◌++◌, ◌⊎◌, min, length, take, [], Ok, Some, IsTrue, OnOk, IfOk, IsErr, vec_len, vec_capacity};
 ghost use Rattle.std.specs.Io.{ReadsAtMost, WritesAtMost};
 ghost use Rattle.std.specs.Io.KnownBytes.{ReadConsumes, WriteAppends};
 ghost use Rattle.domain_base.specs.Causes.{HasCause};
@@ -164,6 +164,18 @@ impl Source for MemSource {
     }
 }
 
+// Puts a piece behind the octets, which have room for it. Takes no memory.
+fn keep(bytes: &mut Vec<u8>, piece: &[u8])
+    requires { vec_len bytes.old + length piece.now ≤ vec_capacity bytes.old }
+    ensures items { bytes.new.items ≡ bytes.old.items ++ piece.now }
+    ensures capacity { vec_capacity bytes.old ≤ vec_capacity bytes.new }
+{
+    match bytes.extend_from_slice(piece) {
+        Ok(()) => {}
+        Err(_) => unreachable!(),
+    }
+}
+
 /// A sink in memory that keeps what is written, up to its room. A write past it fails, and so do
 /// the calls of the numbers that it was made with, from 0.
 #[derive(Drop)]
@@ -235,9 +247,7 @@ impl Sink for MemSink {
             return Err(Failed);
         }
         let taken = &piece[..count];
-        if self.bytes.extend_from_slice(taken).is_err() {
-            unreachable!()
-        }
+        keep(&mut self.bytes, taken);
         Ok(count)
     }
 }
@@ -289,9 +299,7 @@ fn fill(bytes: &mut Vec<u8>, room: usize, piece: &[u8])
     ensures roomy { room ≤ vec_capacity bytes.new }
 {
     let count = piece.len().min(room - bytes.len());
-    if bytes.extend_from_slice(&piece[..count]).is_err() {
-        unreachable!()
-    }
+    keep(bytes, &piece[..count]);
 }
 
 impl Sink for SteadySink {

@@ -5,7 +5,7 @@ use Rattle.std.proofs.lemmas.Bool.{cases_lt}
 use Rattle.run_journal.specs.declared.domain.Event.{Event}
 use Rattle.run_journal.specs.declared.acts.Entry.{Entry}
 use Rattle.frame_script.specs.Script.{Fault, Draft, Said, said_after}
-use Rattle.domain_cli.specs.Script.{rounds_with, Says, Refuses, Spells, NoFeed, most_lines, most_octets, without_return, joined, texts, AreLines, IsClosed, IsOpen, IsScript, Ends, HasFault}
+use Rattle.domain_cli.specs.Script.{rounds_with, Says, Refuses, Spells, NoFeed, most_lines, most_octets, without_return, joined, texts, AreLines, IsClosed, IsOpen, IsScript, Ends, HasFault, point_of}
 
 -- ---- what a line tells
 
@@ -129,7 +129,7 @@ same_next j ended good other line after text none (inl feed) n =
 same_next j ended good other line after text none (inr last) n =
     absurd (no_feed line n.line n.behind none (sym (append-nil line) ∙ sym (ap (λ (w : List ℕ). line ++ w) last.1.0) ∙ n.is))
 
-fault_or_next : (j : List Entry) (octets : List ℕ) (ended : Bool) (good other : List (List ℕ)) (before draft : Draft) (earlier rounds : List (List Event)) (fault : Fault) → (f : HasFault j octets ended good before earlier fault) → Spells j (texts good) before earlier
+fault_or_next : (j : List Entry) (octets : List ℕ) (ended : Bool) (good other : List (List ℕ)) (before draft : Draft) (earlier rounds : List (List Event)) (fault : Fault) → (f : HasFault octets ended good (point_of j before earlier) fault) → Spells j (texts good) before earlier
     → Next j good other (f.line ++ f.after) → Spells j (texts other) draft rounds → ⊥
 fault_or_next j octets ended good other before draft earlier rounds fault f spelled n told =
     elim f.wrong [
@@ -144,7 +144,7 @@ fault_or_next j octets ended good other before draft earlier rounds fault f spel
     ]
 
 -- nothing is left for a fault behind whole lines
-nothing_left : (j : List Entry) (octets : List ℕ) (ended : Bool) (good : List (List ℕ)) (before : Draft) (earlier : List (List Event)) (fault : Fault) → (f : HasFault j octets ended good before earlier fault) → good ≢ [] → f.line ++ f.after ≡ [] → ⊥
+nothing_left : (j : List Entry) (octets : List ℕ) (ended : Bool) (good : List (List ℕ)) (before : Draft) (earlier : List (List Event)) (fault : Fault) → (f : HasFault octets ended good (point_of j before earlier) fault) → good ≢ [] → f.line ++ f.after ≡ [] → ⊥
 nothing_left j octets ended good before earlier fault f some none =
     let no_octets : length (f.line ++ f.after) ≡ 0 = ap (λ (w : List ℕ). length w) none in
     elim f.wrong [
@@ -170,7 +170,7 @@ no_rest (x ∷ good) lines rest p q n e =
           absurd (omega (arith, ap (λ (w : List ℕ). length w) none.0, length-append x (10 ∷ rest)))
     ]
 
-fault_or_closed : (j : List Entry) (octets : List ℕ) (ended : Bool) (good : List (List ℕ)) (before : Draft) (earlier : List (List Event)) (fault : Fault) (said : List (List ℕ)) (draft : Draft) (rounds : List (List Event)) → HasFault j octets ended good before earlier fault
+fault_or_closed : (j : List Entry) (octets : List ℕ) (ended : Bool) (good : List (List ℕ)) (before : Draft) (earlier : List (List Event)) (fault : Fault) (said : List (List ℕ)) (draft : Draft) (rounds : List (List Event)) → HasFault octets ended good (point_of j before earlier) fault
     → Spells j (texts good) before earlier → IsClosed octets said → Spells j said draft rounds → ⊥
 fault_or_closed j octets ended good before earlier fault said draft rounds f spelled s told =
     let same = sym f.begins.whole ∙ s.begins.whole in
@@ -183,7 +183,7 @@ fault_or_closed j octets ended good before earlier fault said draft rounds f spe
     ]
 
 -- a fault in the last line, which has no line feed and is taken
-fault_or_last : (j : List Entry) (octets : List ℕ) (ended : Bool) (good : List (List ℕ)) (before : Draft) (earlier : List (List Event)) (fault : Fault) (last : List ℕ) (draft : Draft) (rounds : List (List Event)) → (f : HasFault j octets ended good before earlier fault)
+fault_or_last : (j : List Entry) (octets : List ℕ) (ended : Bool) (good : List (List ℕ)) (before : Draft) (earlier : List (List Event)) (fault : Fault) (last : List ℕ) (draft : Draft) (rounds : List (List Event)) → (f : HasFault octets ended good (point_of j before earlier) fault)
     → Spells j (texts good) before earlier → f.line ++ f.after ≡ last → NoFeed last → length last ≤ most_octets → length good < most_lines → Spells j (last ∷ texts good) draft rounds → ⊥
 fault_or_last j octets ended good before earlier fault last draft rounds f spelled same none short few told =
     elim f.wrong [
@@ -199,7 +199,7 @@ fault_or_last j octets ended good before earlier fault last draft rounds f spell
       ]
     ]
 
-fault_or_open : (j : List Entry) (octets : List ℕ) (ended : Bool) (good : List (List ℕ)) (before : Draft) (earlier : List (List Event)) (fault : Fault) (said : List (List ℕ)) (draft : Draft) (rounds : List (List Event)) → HasFault j octets ended good before earlier fault
+fault_or_open : (j : List Entry) (octets : List ℕ) (ended : Bool) (good : List (List ℕ)) (before : Draft) (earlier : List (List Event)) (fault : Fault) (said : List (List ℕ)) (draft : Draft) (rounds : List (List Event)) → HasFault octets ended good (point_of j before earlier) fault
     → Spells j (texts good) before earlier → IsOpen octets said → Spells j said draft rounds → ⊥
 fault_or_open j octets ended good before earlier fault said draft rounds f spelled s told =
     let same = sym f.begins.whole ∙ s.begins.whole in
@@ -219,7 +219,7 @@ fault_or_open j octets ended good before earlier fault said draft rounds f spell
       ]
     ]
 
-pub fault_or_script : (j : List Entry) (octets : List ℕ) (ended : Bool) (good said : List (List ℕ)) (before draft : Draft) (earlier rounds : List (List Event)) (fault : Fault) → HasFault j octets ended good before earlier fault → Spells j (texts good) before earlier
+pub fault_or_script : (j : List Entry) (octets : List ℕ) (ended : Bool) (good said : List (List ℕ)) (before draft : Draft) (earlier rounds : List (List Event)) (fault : Fault) → HasFault octets ended good (point_of j before earlier) fault → Spells j (texts good) before earlier
     → IsScript octets said → Spells j said draft rounds → ⊥
 fault_or_script j octets ended good said before draft earlier rounds fault f spelled (inl s) told = fault_or_closed j octets ended good before earlier fault said draft rounds f spelled s told
 fault_or_script j octets ended good said before draft earlier rounds fault f spelled (inr s) told = fault_or_open j octets ended good before earlier fault said draft rounds f spelled s told
@@ -273,7 +273,7 @@ one_text ended over good lines line after text other more words none nothing sam
     last.1.1.0 ∙ sym (append-nil line) ∙ sym (ap (λ (w : List ℕ). line ++ w) last.1.0) ∙ same ∙ ap (λ (w : List ℕ). other ++ w) end.1.0 ∙ append-nil other ∙ sym end.1.1.0
 
 -- behind the same lines
-one_fault : (j : List Entry) (octets : List ℕ) (ended over : Bool) (good : List (List ℕ)) (draft : Draft) (rounds : List (List Event)) (fault other : Fault) → (f : HasFault j octets ended good draft rounds fault) → (g : HasFault j octets over good draft rounds other)
+one_fault : (j : List Entry) (octets : List ℕ) (ended over : Bool) (good : List (List ℕ)) (draft : Draft) (rounds : List (List Event)) (fault other : Fault) → (f : HasFault octets ended good (point_of j draft rounds) fault) → (g : HasFault octets over good (point_of j draft rounds) other)
     → f.line ++ f.after ≡ g.line ++ g.after → fault ≡ other
 one_fault j octets ended over good draft rounds fault other f g same =
     elim f.wrong [
@@ -300,9 +300,9 @@ one_fault j octets ended over good draft rounds fault other f g same =
 
 -- two faults of the same octets
 record AreFaults (j : List Entry) (octets : List ℕ) (ended over : Bool) (good lines : List (List ℕ)) (before draft : Draft) (earlier rounds : List (List Event)) (fault other : Fault) : Type 0 where
-  f : HasFault j octets ended good before earlier fault
+  f : HasFault octets ended good (point_of j before earlier) fault
   spelled : Spells j (texts good) before earlier
-  g : HasFault j octets over lines draft rounds other
+  g : HasFault octets over lines (point_of j draft rounds) other
   told : Spells j (texts lines) draft rounds
 
 same_place : (j : List Entry) (octets : List ℕ) (ended over : Bool) (good lines : List (List ℕ)) (before draft : Draft) (earlier rounds : List (List Event)) (fault other : Fault) → (a : AreFaults j octets ended over good lines before draft earlier rounds fault other)
@@ -320,15 +320,15 @@ same_place j octets ended over good lines before draft earlier rounds fault othe
     ]
 
 -- a fault behind lines that tell this, behind the same lines
-moved : (j : List Entry) (octets : List ℕ) (ended : Bool) (good lines : List (List ℕ)) (before draft : Draft) (earlier rounds : List (List Event)) (fault : Fault) → lines ≡ good → draft ≡ before → rounds ≡ earlier → (g : HasFault j octets ended lines draft rounds fault)
-    → (h : HasFault j octets ended good before earlier fault) × ((h.line ≡ g.line) × (h.after ≡ g.after))
+moved : (j : List Entry) (octets : List ℕ) (ended : Bool) (good lines : List (List ℕ)) (before draft : Draft) (earlier rounds : List (List Event)) (fault : Fault) → lines ≡ good → draft ≡ before → rounds ≡ earlier → (g : HasFault octets ended lines (point_of j draft rounds) fault)
+    → (h : HasFault octets ended good (point_of j before earlier) fault) × ((h.line ≡ g.line) × (h.after ≡ g.after))
 moved j octets ended good lines before draft earlier rounds fault same network asked g =
-    let to_good = subst (λ (l : List (List ℕ)). (h : HasFault j octets ended l draft rounds fault) × ((h.line ≡ g.line) × (h.after ≡ g.after))) same (g, (refl, refl)) in
-    let to_network = subst (λ (x : Draft). (h : HasFault j octets ended good x rounds fault) × ((h.line ≡ g.line) × (h.after ≡ g.after))) network to_good in
-    subst (λ (x : List (List Event)). (h : HasFault j octets ended good before x fault) × ((h.line ≡ g.line) × (h.after ≡ g.after))) asked to_network
+    let to_good = subst (λ (l : List (List ℕ)). (h : HasFault octets ended l (point_of j draft rounds) fault) × ((h.line ≡ g.line) × (h.after ≡ g.after))) same (g, (refl, refl)) in
+    let to_network = subst (λ (x : Draft). (h : HasFault octets ended good (point_of j x rounds) fault) × ((h.line ≡ g.line) × (h.after ≡ g.after))) network to_good in
+    subst (λ (x : List (List Event)). (h : HasFault octets ended good (point_of j before x) fault) × ((h.line ≡ g.line) × (h.after ≡ g.after))) asked to_network
 
-pub one_place : (j : List Entry) (octets : List ℕ) (ended over : Bool) (good lines : List (List ℕ)) (before draft : Draft) (earlier rounds : List (List Event)) (fault other : Fault) → HasFault j octets ended good before earlier fault → Spells j (texts good) before earlier
-    → HasFault j octets over lines draft rounds other → Spells j (texts lines) draft rounds → (good ≡ lines) × (fault ≡ other)
+pub one_place : (j : List Entry) (octets : List ℕ) (ended over : Bool) (good lines : List (List ℕ)) (before draft : Draft) (earlier rounds : List (List Event)) (fault other : Fault) → HasFault octets ended good (point_of j before earlier) fault → Spells j (texts good) before earlier
+    → HasFault octets over lines (point_of j draft rounds) other → Spells j (texts lines) draft rounds → (good ≡ lines) × (fault ≡ other)
 one_place j octets ended over good lines before draft earlier rounds fault other f spelled g told =
     let place = same_place j octets ended over good lines before draft earlier rounds fault other (record { f = f; spelled = spelled; g = g; told = told }) in
     let tells = one_telling j (texts good) draft before rounds earlier (subst (λ (l : List (List ℕ)). Spells j (texts l) draft rounds) (sym place.0) told) spelled in

@@ -2,7 +2,7 @@
 use Rattle.std.proofs.Common.{◌≡◌, ℕ, ◌<◌, List, [], ◌∷◌, ◌++◌, length, append_assoc, refl, sym, ap, ◌∙◌, arith}
 use Rattle.domain_cli.proofs.Sent.{same-journal, same-push, same-quiet}
 use Rattle.domain_cli.specs.Script.{sizes_before}
-use Rattle.domain_cli.specs.Stages.{HasSame}
+use Rattle.domain_cli.specs.States.{HasSame}
 use Rattle.domain_base.specs.declared.names.Mac.{Mac}
 use Rattle.domain_base.specs.declared.names.Node.{Node}
 use Rattle.domain_base.specs.declared.names.Node.TheVariants.{Ap}

@@ -5,12 +5,21 @@ use Rattle.std.proofs.lemmas.Bool.{false≢true}
 use Rattle.std.specs.Io.KnownBytes.{Consumes, Keeps}
 use Rattle.run_journal.specs.declared.domain.Event.{Event}
 use Rattle.run_journal.specs.declared.acts.Entry.{Entry}
-use Rattle.frame_script.specs.Script.{Fault, Outside, Past, Draft, AtVersion, line_says}
-use Rattle.domain_cli.specs.declared.session.Stop.{Stop}
-use Rattle.domain_cli.specs.declared.session.Stop.TheVariants as stops
-use Rattle.domain_cli.specs.Script.{IsJournal, sizes_before, Says, Refuses, Spells, NoFeed, most_lines, most_octets, too_many, without_return, joined, texts, AreLines, Begins, Ends, IsWrong, HasFault}
-use Rattle.domain_cli.specs.Stops.{Stopped, StoppedBy, StopsLine, found_by}
-use Rattle.domain_cli.specs.Story.{Explains, IsWhole, IsFaulty, IsPrefix, Tells, most_read}
+use Rattle.frame_script.specs.declared.forms.Form.{Form}
+use Rattle.frame_script.specs.declared.refusal.Refusal.TheVariants.{LongLine, ManyLines}
+use Rattle.frame_script.specs.declared.refusal.Refusal.{Refusal}
+use Rattle.frame_script.specs.Forms.{form_of}
+use Rattle.frame_script.specs.Refusals.{fault_of}
+use Rattle.frame_script.specs.Script.{Fault, Draft, AtVersion, line_says}
+use Rattle.domain_cli.specs.declared.state.ScriptState.{ScriptState}
+use Rattle.domain_cli.specs.declared.status.Stop.{Stop}
+use Rattle.domain_cli.specs.declared.status.Stop.TheVariants as stops
+use Rattle.domain_cli.specs.Script.{IsJournal, sizes_before, Says, Refuses, Spells, NoFeed, most_lines, most_octets, too_many, without_return, joined, texts, AreLines, Begins, Ends, IsWrong, HasFault, HasForm, Point, point_of}
+use Rattle.frame_script.specs.declared.refusal.Untaken.TheVariants as untaken
+use Rattle.domain_cli.specs.States.{RefusesLine, Stands}
+use Rattle.domain_cli.specs.Stops.{Stopped, IsRefused, StopsLine}
+use Rattle.domain_cli.specs.Story.{Explains, IsWhole, IsFaulty, IsPrefix, StoppedBy, Tells, most_read}
+use Rattle.domain_cli.specs.declared.status.Found.TheVariants as founds
 
 -- ---- octets and lines
 
@@ -50,8 +59,8 @@ unfolding Spells
 Spells-line j line said before draft earlier rounds spelled says = (before, (earlier, (spelled, says)))
 
 -- whatever comes after a fault
-IsWrong-more : (j : List Entry) (more : List ℕ) (ended : Bool) (good : List (List ℕ)) (line after : List ℕ) (draft : Draft) (rounds : List (List Event)) (fault : Fault) → IsWrong j false good line after draft rounds fault → IsWrong j ended good line (after ++ more) draft rounds fault
-IsWrong-more j more ended good line after draft rounds fault w = record {
+IsWrong-more : (more : List ℕ) (ended : Bool) (good : List (List ℕ)) (line after : List ℕ) (p : Point) (fault : Fault) → IsWrong false good line after p fault → IsWrong ended good line (after ++ more) p fault
+IsWrong-more more ended good line after p fault w = record {
   text = w.text;
   ends = elim w.ends [
     | inl feed ↦ inl ((feed.0.0 ++ more, ap (λ (x : List ℕ). x ++ more) feed.0.1), feed.1)
@@ -61,31 +70,38 @@ IsWrong-more j more ended good line after draft rounds fault w = record {
   why = w.why;
 }
 
-HasFault-more : (j : List Entry) (octets more : List ℕ) (ended : Bool) (good : List (List ℕ)) (draft : Draft) (rounds : List (List Event)) (fault : Fault) → HasFault j octets false good draft rounds fault → HasFault j (octets ++ more) ended good draft rounds fault
-HasFault-more j octets more ended good draft rounds fault f = record {
+abbrev wrong_more : (more : List ℕ) (ended : Bool) (good : List (List ℕ)) (line after : List ℕ) (p : Point) (fault : Fault) {A : Type 0} → A ⊎ IsWrong false good line after p fault → A ⊎ IsWrong ended good line (after ++ more) p fault
+wrong_more more ended good line after p fault (inl long) = inl long
+wrong_more more ended good line after p fault (inr w) = inr (IsWrong-more more ended good line after p fault w)
+
+form_more : (more : List ℕ) (ended : Bool) (good : List (List ℕ)) (line after : List ℕ) (p : Point) (fault : Fault) (form : Form) (draft : Draft) (rounds : List (List Event)) {A : Type 0} (wrong : A ⊎ IsWrong false good line after p fault) → HasForm form draft rounds wrong
+    → HasForm form draft rounds (wrong_more more ended good line after p fault wrong)
+unfolding IsWrong-more
+form_more more ended good line after p fault form draft rounds (inl long) has = tt
+form_more more ended good line after p fault form draft rounds (inr w) has = has
+
+abbrev HasFault-more : (octets more : List ℕ) (ended : Bool) (good : List (List ℕ)) (p : Point) (fault : Fault) → HasFault octets false good p fault → HasFault (octets ++ more) ended good p fault
+HasFault-more octets more ended good p fault f = record {
   line = f.line;
   after = f.after ++ more;
   begins = subst (λ (w : List ℕ). Begins (octets ++ more) good w) (append_assoc f.line f.after more) (Begins-more octets more good (f.line ++ f.after) f.begins);
   open_line = f.open_line;
-  wrong = elim f.wrong [
-    | inl long ↦ inl long
-    | inr w ↦ inr (IsWrong-more j more ended good f.line f.after draft rounds fault w)
-  ];
+  wrong = wrong_more more ended good f.line f.after p fault f.wrong;
 }
 
-IsFaulty-more : (fault : Fault) (number : ℕ) (octets more : List ℕ) (j : List Entry) → IsFaulty fault number octets false j → IsFaulty fault number (octets ++ more) false j
-IsFaulty-more fault number octets more j f = record {
+IsFaulty-more : (fault : Fault) (form : Form) (number : ℕ) (octets more : List ℕ) (j : List Entry) → IsFaulty fault form number octets false j → IsFaulty fault form number (octets ++ more) false j
+IsFaulty-more fault form number octets more j f = record {
   good = f.good;
   draft = f.draft;
   rounds = f.rounds;
   number_is = f.number_is;
-  is = HasFault-more j octets more false f.good f.draft f.rounds fault f.is;
+  is = HasFault-more octets more false f.good (point_of j f.draft f.rounds) fault f.is;
+  expected = form_more more false f.good f.is.line f.is.after (point_of j f.draft f.rounds) fault form f.draft f.rounds f.is.wrong f.expected;
   explains = f.explains;
 }
 
 Stopped-more : (most bound : ℕ) (stop : Stop) (octets more : List ℕ) (j : List Entry) → most + length more ≤ bound → Stopped most stop octets j → Stopped bound stop (octets ++ more) j
-Stopped-more most bound (stops.Faulty number reason) octets more j few f = IsFaulty-more (Outside reason) number octets more j f
-Stopped-more most bound (stops.Limit limit) octets more j few (number, f) = (number, IsFaulty-more (Past limit) number octets more j f)
+Stopped-more most bound (stops.Refused number refusal form) octets more j few f = IsFaulty-more (fault_of refusal) form number octets more j f
 Stopped-more most bound stops.NoMemory octets more j few p = record {
   good = p.good;
   line = p.line;
@@ -99,32 +115,24 @@ Stopped-more most bound stops.NoMemory octets more j few p = record {
   explains = p.explains;
 }
 
--- what the reading then tells
-pub Tells-stopped : (stop : Stop) (octets : List ℕ) (ended : Bool) (j : List Entry) → StoppedBy most_read stop octets ended j → Tells (found_by stop) octets ended j
-Tells-stopped (stops.Faulty number reason) octets ended j s = s
-Tells-stopped (stops.Limit limit) octets ended j s = s
-Tells-stopped stops.NoMemory octets ended j s = s
-
 -- an octet too many
-pub Stopped-long : (octets : List ℕ) (octet : ℕ) (good : List (List ℕ)) (line : List ℕ) (draft : Draft) (rounds : List (List Event)) (j : List Entry) → Begins octets good line → NoFeed (line ++ octet ∷ []) → most_octets ≤ length line
-    → Spells j (texts good) draft rounds → IsJournal draft rounds j → Stopped 1 (stops.Limit 2) (octets ++ octet ∷ []) j
-Stopped-long octets octet good line draft rounds j b none long spelled journal = (
-  suc (length good),
-  record {
-    good = good;
-    draft = draft;
-    rounds = rounds;
-    number_is = refl;
-    is = record {
-      line = line ++ octet ∷ [];
-      after = [];
-      begins = subst (λ (w : List ℕ). Begins (octets ++ octet ∷ []) good w) (sym (append-nil (line ++ octet ∷ []))) (Begins-more octets (octet ∷ []) good line b);
-      open_line = none;
-      wrong = inl (refl, omega (arith, long, length-append line (octet ∷ [])));
-    };
-    explains = record { spelled = spelled; journal = journal };
-  },
-)
+pub Stopped-long : (octets : List ℕ) (octet lines : ℕ) (form : Form) (good : List (List ℕ)) (line : List ℕ) (draft : Draft) (rounds : List (List Event)) (j : List Entry) → Begins octets good line → NoFeed (line ++ octet ∷ []) → most_octets ≤ length line → lines ≡ length good
+    → Spells j (texts good) draft rounds → IsJournal draft rounds j → Stopped 1 (stops.Refused (suc lines) LongLine form) (octets ++ octet ∷ []) j
+Stopped-long octets octet lines form good line draft rounds j b none long count spelled journal = record {
+  good = good;
+  draft = draft;
+  rounds = rounds;
+  number_is = ap suc count;
+  is = record {
+    line = line ++ octet ∷ [];
+    after = [];
+    begins = subst (λ (w : List ℕ). Begins (octets ++ octet ∷ []) good w) (sym (append-nil (line ++ octet ∷ []))) (Begins-more octets (octet ∷ []) good line b);
+    open_line = none;
+    wrong = inl (refl, omega (arith, long, length-append line (octet ∷ [])));
+  };
+  expected = tt;
+  explains = record { spelled = spelled; journal = journal };
+}
 
 -- a line stopped it: where it ends, and what it says
 record IsAt (whole : List ℕ) (ended : Bool) (good : List (List ℕ)) (line after text : List ℕ) : Type 0 where
@@ -133,9 +141,9 @@ record IsAt (whole : List ℕ) (ended : Bool) (good : List (List ℕ)) (line aft
   ends : Ends ended good line after text
   short : length line ≤ most_octets
 
-faulty : (fault : Fault) (number lines : ℕ) (whole : List ℕ) (ended : Bool) (good : List (List ℕ)) (line after text : List ℕ) (draft : Draft) (rounds : List (List Event)) (j : List Entry) → IsAt whole ended good line after text → lines ≡ length good
-    → number ≡ suc lines → ((fault ≡ too_many) × (most_lines ≤ lines)) ⊎ ((lines < most_lines) × Refuses j text draft rounds fault) → Explains (texts good) draft rounds j → IsFaulty fault number whole ended j
-faulty fault number lines whole ended good line after text draft rounds j at count next why explains = record {
+faulty : (fault : Fault) (form : Form) (number lines : ℕ) (whole : List ℕ) (ended : Bool) (good : List (List ℕ)) (line after text : List ℕ) (draft : Draft) (rounds : List (List Event)) (j : List Entry) → IsAt whole ended good line after text → lines ≡ length good
+    → number ≡ suc lines → form ≡ form_of draft (length rounds) text → ((fault ≡ too_many) × (most_lines ≤ lines)) ⊎ ((lines < most_lines) × Refuses j text draft rounds fault) → Explains (texts good) draft rounds j → IsFaulty fault form number whole ended j
+faulty fault form number lines whole ended good line after text draft rounds j at count next asked why explains = record {
   good = good;
   draft = draft;
   rounds = rounds;
@@ -152,15 +160,14 @@ faulty fault number lines whole ended good line after text draft rounds j at cou
       why = subst (λ (n : ℕ). ((fault ≡ too_many) × (most_lines ≤ n)) ⊎ ((n < most_lines) × Refuses j text draft rounds fault)) count why;
     });
   };
+  expected = asked;
   explains = explains;
 }
 
 stopped_at : (most : ℕ) (stop : Stop) (lines : ℕ) (whole : List ℕ) (ended : Bool) (good : List (List ℕ)) (line after text : List ℕ) (draft : Draft) (rounds : List (List Event)) (j : List Entry) → IsAt whole ended good line after text → lines ≡ length good
     → length after ≤ most → StopsLine stop j lines text draft rounds → Explains (texts good) draft rounds j → StoppedBy most stop whole ended j
-stopped_at most (stops.Faulty number reason) lines whole ended good line after text draft rounds j at count near stops explains =
-    faulty (Outside reason) number lines whole ended good line after text draft rounds j at count stops.0 (inr stops.1) explains
-stopped_at most (stops.Limit limit) lines whole ended good line after text draft rounds j at count near stops explains =
-    (suc lines, faulty (Past limit) (suc lines) lines whole ended good line after text draft rounds j at count refl stops explains)
+stopped_at most (stops.Refused number refusal form) lines whole ended good line after text draft rounds j at count near why explains =
+    faulty (fault_of refusal) form number lines whole ended good line after text draft rounds j at count why.0 why.1.0 why.1.1 explains
 stopped_at most stops.NoMemory lines whole ended good line after text draft rounds j at count near stops explains = record {
   good = good;
   line = line;
@@ -173,6 +180,17 @@ stopped_at most stops.NoMemory lines whole ended good line after text draft roun
   near = near;
   explains = explains;
 }
+
+-- a line that is refused, and one too many
+pub refused-line : (s : ScriptState) (j : List Entry) (lines : ℕ) (line : List ℕ) (draft : Draft) (rounds : List (List Event)) (refusal : Refusal) → RefusesLine (untaken.Refused refusal) s j line draft rounds → lines < most_lines
+    → StopsLine (stops.Refused (suc lines) refusal (form_of s.reader.draft s.reader.rounds line)) j lines line draft rounds
+refused-line s j lines line draft rounds refusal (why, (same, count)) few = (refl, (rw (same, count) refl, inr (few, why)))
+
+pub many-lines : (s : ScriptState) (j : List Entry) (lines : ℕ) (line : List ℕ) (draft : Draft) (rounds : List (List Event)) → Stands s draft rounds j → most_lines ≤ lines
+    → StopsLine (stops.Refused (suc lines) ManyLines (form_of s.reader.draft s.reader.rounds line)) j lines line draft rounds
+many-lines s j lines line draft rounds stands many = (refl, (rw (stands.draft_is, stands.rounds_are) refl, inl (refl, many)))
+
+pub ruleset stopping = (refused-line, many-lines)
 
 -- before a line feed
 pub Stopped-line : (stop : Stop) (lines : ℕ) (octets : List ℕ) (good : List (List ℕ)) (line : List ℕ) (draft : Draft) (rounds : List (List Event)) (j k : List Entry) → Begins octets good line → NoFeed line → length line ≤ most_octets → lines ≡ length good
@@ -189,7 +207,7 @@ Stopped-line stop lines octets good line draft rounds j k b none short count spe
 
 -- at the end of the source
 pub Tells-last : (stop : Stop) (lines : ℕ) (octets : List ℕ) (good : List (List ℕ)) (line : List ℕ) (draft : Draft) (rounds : List (List Event)) (j k : List Entry) → Begins octets good line → NoFeed line → length line ≤ most_octets → lines ≡ length good
-    → (line ≢ []) ⊎ (good ≡ []) → Spells j (texts good) draft rounds → IsJournal draft rounds j → StopsLine stop j lines line draft rounds → k ≡ j → Tells (found_by stop) octets true k
+    → (line ≢ []) ⊎ (good ≡ []) → Spells j (texts good) draft rounds → IsJournal draft rounds j → StopsLine stop j lines line draft rounds → k ≡ j → Tells (founds.Stopped stop) octets true k
 Tells-last stop lines octets good line draft rounds j k b none short count some spelled journal stops same =
     let at : IsAt octets true good line [] line = record {
       begins = subst (λ (w : List ℕ). Begins octets good w) (sym (append-nil line)) b;
@@ -197,9 +215,8 @@ Tells-last stop lines octets good line draft rounds j k b none short count some 
       ends = inr (refl, (refl, (refl, some)));
       short = short;
     } in
-    Tells-stopped stop octets true k
-    (subst (λ (x : List Entry). StoppedBy most_read stop octets true x) (sym same)
-    (stopped_at most_read stop lines octets true good line [] line draft rounds j at count (omega arith) stops (record { spelled = spelled; journal = journal })))
+    subst (λ (x : List Entry). StoppedBy most_read stop octets true x) (sym same)
+    (stopped_at most_read stop lines octets true good line [] line draft rounds j at count (omega arith) stops (record { spelled = spelled; journal = journal }))
 
 -- ---- whole scripts
 

@@ -14,7 +14,7 @@ use Rattle.domain_world.specs.Owning.{IsPast}
 use Rattle.frame_script.specs.Script.{Draft, line_says, Said, Goes, ListsAp, ListsSta, Asks}
 use Rattle.frame_script.specs.Headers.{Reading, size_sent, sizes_of}
 use Rattle.domain_cli.specs.Script.{sizes_before, rounds_with, Says, Spells}
-use Rattle.domain_cli.specs.Stages.{IsWorldOf, HasSame}
+use Rattle.domain_cli.specs.States.{IsWorldOf, HasSame}
 
 -- ---- all frames
 

@@ -11,11 +11,11 @@ use Rattle.run_journal.specs.Listing.{with_ap, with_sta}
 use Rattle.domain_world.specs.State.{State}
 use Rattle.domain_world.specs.Owning.{Owns}
 use Rattle.frame_script.specs.Script.{Fault, Draft, AtVersion, AtSeed, AtSsid, AtPsk, AtAkm, AtNodes, Said, Goes, ListsAp, ListsSta, Asks, line_says, said_after, rounds_after}
-use Rattle.frame_script.specs.Headers.{Reading, IsNetwork, IsDomain, IsHeaderStep, CanHappen, TakesStep, TakesLine, sizes_of}
+use Rattle.frame_script.specs.Headers.{Reading, IsNetwork, IsDomain, IsHeaderStep, CanHappen, TakesStep, HasRead, sizes_of}
 use Rattle.frame_script.specs.declared.reader.Step.{Step as Asked}
 use Rattle.frame_script.specs.declared.reader.Step.TheVariants as step
 use Rattle.domain_cli.specs.Script.{IsJournal, rounds_with}
-use Rattle.domain_cli.specs.Stages.{IsOwn, IsNone, IsWorldOf, CanBegin, CanDo, CanRun, Lists, Runs, Did, DidRun}
+use Rattle.domain_cli.specs.States.{IsOwn, IsNone, IsWorldOf, CanBegin, CanDo, CanRun, Lists, Runs, Did, DidRun}
 use Rattle.domain_cli.proofs.Goings.{same_network}
 use Rattle.domain_cli.proofs.Growing.{Grows, Grows-same, Grows-step, Grows-started}
 use Rattle.domain_cli.proofs.Networks.{InForm-ap, InForm-sta}
@@ -169,10 +169,10 @@ world_after r s None v said line j k asked is t takes did = begun r s v said lin
 world_after r s (Some w) None said line j k asked is t takes did = absurd did
 world_after r s (Some w) (Some v) said line j k asked is t takes did = owned w v r s said line j k asked is t takes did.0 did.1
 
-taken : (r s : Reading) (sizes line : List ℕ) (asked : Asked) → (t : TakesLine r s sizes line (Ok asked)) → IsTaken r s sizes line t.0
+taken : (r s : Reading) (sizes line : List ℕ) (asked : Asked) → (t : HasRead r s sizes line asked) → IsTaken r s sizes line t.0
 taken r s sizes line asked t = record { says = t.1.0; draft_is = t.1.1.0; rounds_are = t.1.1.1.0 }
 
-pub world_then : (r s : Reading) (world v : Option State) (line : List ℕ) (j k : List Entry) (asked : Asked) → IsWorldOf world r j → TakesLine r s (sizes_of j) line (Ok asked) → DidRun world v s.draft j k asked → IsWorldOf v s k
+pub world_then : (r s : Reading) (world v : Option State) (line : List ℕ) (j k : List Entry) (asked : Asked) → IsWorldOf world r j → HasRead r s (sizes_of j) line asked → DidRun world v s.draft j k asked → IsWorldOf v s k
 world_then r s world v line j k asked is t did = world_after r s world v t.0 line j k asked is (taken r s (sizes_of j) line asked t) t.1.1.1.1 did
 
 -- one round more at most
@@ -182,7 +182,7 @@ one_more rounds (ListsAp address id) = omega arith
 one_more rounds (ListsSta address) = omega arith
 one_more rounds (Asks event) = omega arith
 
-pub rounds_then : (r s : Reading) (sizes line : List ℕ) (asked : Asked) → TakesLine r s sizes line (Ok asked) → s.rounds ≤ suc r.rounds
+pub rounds_then : (r s : Reading) (sizes line : List ℕ) (asked : Asked) → HasRead r s sizes line asked → s.rounds ≤ suc r.rounds
 rounds_then r s sizes line asked t = omega (arith, t.1.1.1.0, one_more r.rounds t.0)
 
 -- ---- what the lines have told with it
@@ -256,7 +256,7 @@ no_round r s says said rounds sizes (step.Sta address) due is takes = absurd (du
 no_round r s says said rounds sizes (step.Event event) due is takes = absurd (due takes.0 takes.1.1.0)
 
 pub journal_then : (r s : Reading) (world v : Option State) (rounds : List (List Event)) (line : List ℕ) (j k : List Entry) (asked : Asked) → IsWorldOf world r j → r.rounds ≡ length rounds → IsJournal r.draft rounds j
-    → (t : TakesLine r s (sizes_of j) line (Ok asked)) → DidRun world v s.draft j k asked → IsWorldOf v s k → IsJournal s.draft (rounds_with rounds t.0) k
+    → (t : HasRead r s (sizes_of j) line asked) → DidRun world v s.draft j k asked → IsWorldOf v s k → IsJournal s.draft (rounds_with rounds t.0) k
 journal_then r s None v rounds line j k asked is count told t did new =
     let none = no_round r s _ t.0 rounds (sizes_of j) asked is.due t.1.0 t.1.1.1.1 in
     let counted : s.rounds ≡ length (rounds_with rounds t.0) = t.1.1.1.0 ∙ rounds_count r.rounds rounds t.0 count in

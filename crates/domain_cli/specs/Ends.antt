@@ -1,12 +1,15 @@
--- How a run may end in which nothing outside failed.
-use Rattle.std.specs.Prelude.{ℕ}
+-- How a run may end in which nothing outside failed, and how the program tells of it.
+use Rattle.std.specs.Prelude.{ℕ, List, codes, Option, None, Some, Result, Ok, Err}
+use Rattle.domain_base.specs.declared.outside.NoMemory.{NoMemory as WantOfMemory}
+use Rattle.frame_script.specs.declared.refusal.Refusal.{Refusal}
+use Rattle.frame_script.specs.Refusals.{limit_of, reason_of, refusal_text}
 use Rattle.domain_cli.specs.declared.status.Status.{Status}
 use Rattle.domain_cli.specs.declared.status.Status.TheVariants.{Done, Usage, Script, Limit, ReadFault, WriteFault, NoMemory}
 
 -- done, a fault of the script, a limit that it passes, or want of memory
 abbrev pub IsAnswered : Status → Type 0
 IsAnswered Done = Unit {0}
-IsAnswered (Script number reason) = Unit {0}
+IsAnswered (Script number reason form) = Unit {0}
 IsAnswered (Limit which) = Unit {0}
 IsAnswered NoMemory = Unit {0}
 IsAnswered _ = ⊥
@@ -15,8 +18,24 @@ IsAnswered _ = ⊥
 abbrev pub exit_number : Status → ℕ
 exit_number Done = 0
 exit_number Usage = 1
-exit_number (Script number reason) = 2
+exit_number (Script number reason form) = 2
 exit_number ReadFault = 3
 exit_number WriteFault = 4
 exit_number NoMemory = 5
 exit_number (Limit which) = 8
+
+-- where memory may run out before anything is run
+abbrev pub or_no_memory : Result Status WantOfMemory → Status
+or_no_memory (Ok status) = status
+or_no_memory (Err error) = NoMemory
+
+-- a reason and a limit in words, by number
+abbrev pub text_or : List ℕ → Option Refusal → List ℕ
+text_or other None = other
+text_or other (Some refusal) = refusal_text refusal
+
+abbrev pub reason_text : ℕ → List ℕ
+reason_text reason = text_or (codes "outside the grammar") (reason_of reason)
+
+abbrev pub limit_text : ℕ → List ℕ
+limit_text limit = text_or (codes "past a limit") (limit_of limit)

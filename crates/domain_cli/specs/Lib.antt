@@ -1,6 +1,6 @@
 pub mod Script
 pub mod Story
-pub mod Stages
+pub mod States
 pub mod Stops
-pub mod Sessions
+pub mod Feeders
 pub mod Ends

@@ -1,5 +1,6 @@
 -- Which rounds the octets of a script spell. Lists of lines and of rounds are NEWEST FIRST.
 use Rattle.std.specs.Prelude.{◌≡◌, ◌≢◌, ◌⊎◌, ℕ, ◌<◌, ◌≤◌, ◌-◌, ◌==◌, ◌&&◌, nat_lt, nat_le, cond, if◌then◌else◌, Bool, true, List, [], ◌∷◌, ◌++◌, length, take, map, slice_index, Ok, Err}
+use Rattle.std.proofs.Common.{inl, inr}
 use Rattle.std.specs.List.{AllByRecursion}
 use Rattle.run_journal.specs.declared.domain.Event.{Event}
 use Rattle.run_journal.specs.declared.acts.Entry.{Entry}
@@ -7,6 +8,8 @@ use Rattle.domain_rules.specs.Network.{InForm}
 use Rattle.domain_rules.specs.Explained.{Explained}
 use Rattle.frame_script.specs.Script.{Fault, Past, Draft, AtVersion, AtNodes, Said, Asks, line_says, said_after}
 use Rattle.frame_script.specs.Headers.{size_sent}
+use Rattle.frame_script.specs.declared.forms.Form.{Form}
+use Rattle.frame_script.specs.Forms.{form_of}
 
 -- what the lines so far have told: what the script has said, from the end of its header on the network with the nodes listed
 -- so far, together with the rounds asked for so far
@@ -107,6 +110,15 @@ pub record IsOpen (octets : List ℕ) (said : List (List ℕ)) : Type 0 where
 abbrev pub IsScript : List ℕ → List (List ℕ) → Type 0
 IsScript octets said = IsClosed octets said ⊎ IsOpen octets said
 
+-- where a line stands: the journal that judges it, and what the lines before it told
+pub record Point : Type 0 where
+  pub journal : List Entry
+  pub draft : Draft
+  pub rounds : List (List Event)
+
+abbrev pub point_of : List Entry → Draft → List (List Event) → Point
+point_of j draft rounds = record { journal = j; draft = draft; rounds = rounds }
+
 -- the line behind the good ones is at its end, and says this: before a line feed, or at the end of the source, where an empty
 -- one is a line only if it is the first
 abbrev pub Ends : Bool → List (List ℕ) → List ℕ → List ℕ → List ℕ → Type 0
@@ -115,16 +127,22 @@ Ends ended good line after text =
     ⊎ ((ended ≡ true) × ((after ≡ []) × ((text ≡ line) × ((line ≢ []) ⊎ (good ≡ [])))))
 
 -- a line that is at its end and not too long: one too many, or refused
-pub record IsWrong (j : List Entry) (ended : Bool) (good : List (List ℕ)) (line after : List ℕ) (draft : Draft) (rounds : List (List Event)) (fault : Fault) : Type 0 where
+pub record IsWrong (ended : Bool) (good : List (List ℕ)) (line after : List ℕ) (p : Point) (fault : Fault) : Type 0 where
   pub text : List ℕ
   pub ends : Ends ended good line after text
   pub short : length line ≤ most_octets
-  pub why : ((fault ≡ too_many) × (most_lines ≤ length good)) ⊎ ((length good < most_lines) × Refuses j text draft rounds fault)
+  pub why : ((fault ≡ too_many) × (most_lines ≤ length good)) ⊎ ((length good < most_lines) × Refuses p.journal text p.draft p.rounds fault)
 
--- the line behind the good ones, which told this, is the first that is wrong
-pub record HasFault (j : List Entry) (octets : List ℕ) (ended : Bool) (good : List (List ℕ)) (draft : Draft) (rounds : List (List Event)) (fault : Fault) : Type 0 where
+-- the form that it should have had, by its words; with octets behind the limit it is not at its end
+abbrev pub HasForm : {A : Type 0} {ended : Bool} {good : List (List ℕ)} {line after : List ℕ} {p : Point} {fault : Fault}
+    → Form → Draft → List (List Event) → A ⊎ IsWrong ended good line after p fault → Type 0
+HasForm form draft rounds (inl long) = Unit {0}
+HasForm form draft rounds (inr w) = form ≡ form_of draft (length rounds) w.text
+
+-- the line behind the good ones, which stands there, is the first that is wrong
+pub record HasFault (octets : List ℕ) (ended : Bool) (good : List (List ℕ)) (p : Point) (fault : Fault) : Type 0 where
   pub line : List ℕ
   pub after : List ℕ
   pub begins : Begins octets good (line ++ after)
   pub open_line : NoFeed line
-  pub wrong : ((fault ≡ too_long) × (most_octets < length line)) ⊎ IsWrong j ended good line after draft rounds fault
+  pub wrong : ((fault ≡ too_long) × (most_octets < length line)) ⊎ IsWrong ended good line after p fault

@@ -5,12 +5,18 @@ use Rattle.domain_base.specs.Causes.{AppendsPart}
 use Rattle.run_journal.specs.declared.domain.Event.{Event}
 use Rattle.run_journal.specs.declared.acts.Entry.{Entry}
 use Rattle.run_journal.specs.Report.{lines, IsReport}
-use Rattle.frame_script.specs.Script.{Draft, Fault, Outside, Past}
+use Rattle.frame_script.specs.Script.{Draft, Fault}
+use Rattle.frame_script.specs.declared.forms.Form.{Form}
+use Rattle.frame_script.specs.declared.reader.LineFault.{LineFault}
+use Rattle.frame_script.specs.declared.reader.LineFault.TheVariants as numbered
+use Rattle.frame_script.specs.Refusals.{answer_of, fault_of}
 use Rattle.domain_cli.specs.declared.status.Found.{Found}
 use Rattle.domain_cli.specs.declared.status.Found.TheVariants as found
+use Rattle.domain_cli.specs.declared.status.Stop.{Stop}
+use Rattle.domain_cli.specs.declared.status.Stop.TheVariants as stop
 use Rattle.domain_cli.specs.declared.status.Status.{Status}
 use Rattle.domain_cli.specs.declared.status.Status.TheVariants.{Done, Usage, Script, Limit, ReadFault, WriteFault, NoMemory}
-use Rattle.domain_cli.specs.Script.{Spells, IsJournal, NoFeed, Begins, IsScript, HasFault, most_octets, texts}
+use Rattle.domain_cli.specs.Script.{Spells, IsJournal, NoFeed, Begins, IsScript, HasFault, HasForm, point_of, most_octets, texts}
 
 -- the lines tell these rounds, by the journal, and the journal is theirs
 pub record Explains (lines : List (List ℕ)) (draft : Draft) (rounds : List (List Event)) (j : List Entry) : Type 0 where
@@ -26,13 +32,15 @@ pub record IsWhole (octets : List ℕ) (ended : Bool) (j : List Entry) : Type 0 
   pub end : ended ≡ true
   pub explains : Explains script draft rounds j
 
--- the script has its first fault in the line of that number, and the lines before it told the journal
-pub record IsFaulty (fault : Fault) (number : ℕ) (octets : List ℕ) (ended : Bool) (j : List Entry) : Type 0 where
+-- the script has its first fault in the line of that number, which should have had that form, and the lines before it told the
+-- journal
+pub record IsFaulty (fault : Fault) (form : Form) (number : ℕ) (octets : List ℕ) (ended : Bool) (j : List Entry) : Type 0 where
   pub good : List (List ℕ)
   pub draft : Draft
   pub rounds : List (List Event)
   pub number_is : number ≡ suc (length good)
-  pub is : HasFault j octets ended good draft rounds fault
+  pub is : HasFault octets ended good (point_of j draft rounds) fault
+  pub expected : HasForm form draft rounds is.wrong
   pub explains : Explains (texts good) draft rounds j
 
 -- the source failed: all whole lines that were read told the journal, and the line behind them is not too long so far
@@ -64,21 +72,28 @@ pub record IsPrefix (most : ℕ) (octets : List ℕ) (j : List Entry) : Type 0 w
   pub near : length after ≤ most
   pub explains : Explains (texts good) draft rounds j
 
+-- why the reading stopped; behind a line over which memory ran out at most so many octets came
+abbrev pub StoppedBy : ℕ → Stop → List ℕ → Bool → List Entry → Type 0
+StoppedBy most (stop.Refused number refusal form) octets ended j = IsFaulty (fault_of refusal) form number octets ended j
+StoppedBy most stop.NoMemory octets ended j = IsPrefix most octets j
+
 -- the journal at the end of the reading, by the octets read
 abbrev pub Tells : Found → List ℕ → Bool → List Entry → Type 0
 Tells found.Whole octets ended j = IsWhole octets ended j
-Tells (found.Faulty number reason) octets ended j = IsFaulty (Outside reason) number octets ended j
-Tells (found.Limit which) octets ended j = (number : ℕ) × IsFaulty (Past which) number octets ended j
+Tells (found.Stopped stop) octets ended j = StoppedBy most_read stop octets ended j
 Tells found.ReadFault octets ended j = IsCut octets j
-Tells found.NoMemory octets ended j = IsPrefix most_read octets j
 
--- the status when all went out that was to be written
+-- the status when all went out that was to be written: which line goes past a limit is not told
+abbrev pub status_by : ℕ → Form → LineFault → Status
+status_by number form (numbered.Script reason) = Script number reason form
+status_by number form (numbered.Limit which) = Limit which
+status_by number form numbered.NoMemory = NoMemory
+
 abbrev pub status_of : Found → Status
 status_of found.Whole = Done
-status_of (found.Faulty number reason) = Script number reason
-status_of (found.Limit which) = Limit which
+status_of (found.Stopped (stop.Refused number refusal form)) = status_by number form (answer_of (fault_of refusal))
+status_of (found.Stopped stop.NoMemory) = NoMemory
 status_of found.ReadFault = ReadFault
-status_of found.NoMemory = NoMemory
 
 -- the text that is to be written: with the whole script the report, else the lines alone
 abbrev pub IsText : Found → List Entry → List ℕ → Type 0
@@ -88,7 +103,7 @@ IsText found_ j text = text ≡ lines j
 -- what went out, by the status and by how the reading ended
 abbrev pub Reports : Found → Status → List Entry → List ℕ → Option (List ℕ) → Option (List ℕ) → Type 0
 Reports found_ Done j text old new = (status_of found_ ≡ Done) × Appends old new text
-Reports found_ (Script number reason) j text old new = (status_of found_ ≡ Script number reason) × Appends old new text
+Reports found_ (Script number reason form) j text old new = (status_of found_ ≡ Script number reason form) × Appends old new text
 Reports found_ (Limit which) j text old new = (status_of found_ ≡ Limit which) × Appends old new text
 Reports found_ ReadFault j text old new = (status_of found_ ≡ ReadFault) × Appends old new text
 Reports found_ WriteFault j text old new = AppendsPart old new text

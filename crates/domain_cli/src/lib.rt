@@ -2,11 +2,11 @@
 #![tactic(auto)]
 
 mod adapters;
+mod feeder;
 mod laws;
 mod program;
 mod reading;
-mod session;
-mod stage;
+mod state;
 mod status;
 mod top;
 

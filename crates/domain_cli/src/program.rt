@@ -1,12 +1,12 @@
 //! What the program does between its streams.
 
-ghost use Rattle.std.specs.Prelude.{◌≡◌};
-ghost use Rattle.domain_cli.specs.Ends.{exit_number};
+ghost use Rattle.std.specs.Prelude.{◌≡◌, ◌≢◌};
+ghost use Rattle.domain_cli.specs.Ends.{exit_number, or_no_memory};
 
 use crate::adapters::{StdinSource, StdoutSink};
 use crate::status::Status;
 use crate::top::run;
-use domain_base::{SteadyAir, SteadyDraws};
+use domain_base::{NoMemory, SteadyAir, SteadyDraws};
 use run_journal::Journal;
 use std::alloc::AllocGlobal;
 use std::env::{self, Env};
@@ -28,44 +28,52 @@ pub fn exit_number(status: Status) -> u8
     }
 }
 
-// How the program ends where its words could not be read: a word that is not UTF-8 is none of a command.
-fn unread(error: &io::Error) -> Status {
-    match error.kind() {
+// How the program ends where its words could not be read, by the kind of the error: a word that is
+// not UTF-8 is none of a command, and else memory ran out.
+fn unread(kind: ErrorKind) -> Status
+    ensures usage { kind ≡ ErrorKind.InvalidData → result ≡ Status.Usage }
+    ensures memory { kind ≢ ErrorKind.InvalidData → result ≡ Status.NoMemory }
+{
+    match kind {
         ErrorKind::InvalidData => Status::Usage,
         _ => Status::NoMemory,
     }
 }
 
-// The words behind the program's name.
-fn words_of<R: Env + AllocGlobal>(rt: &R) -> Result<Vec<String>, Status> {
-    let args = match env::args(rt) {
-        Ok(args) => args,
-        Err(error) => return Err(unread(&error)),
-    };
-    match args.skip(1).collect::<Vec<String>>(rt.alloc()) {
-        Ok(words) => Ok(words),
-        Err(_) => Err(Status::NoMemory),
+// How the program ends where memory may run out before anything is run.
+fn or_no_memory(answer: Result<Status, NoMemory>) -> Status
+    ensures { result ≡ or_no_memory answer }
+{
+    match answer {
+        Ok(status) => status,
+        Err(_) => Status::NoMemory,
     }
 }
 
-/// Runs the command that the program's words say between two streams, as `run` does. An error is the status where `run` was not
-/// come to: the words could not be read, or memory ran out before.
-pub fn command<R: Threads + Sync + Env + AllocGlobal, I: Read + Drop, O: Write + Drop>(
+// The words behind the program's name.
+fn words_of<R: Env + AllocGlobal>(rt: &R) -> io::Result<Vec<String>> {
+    let args = env::args(rt)?;
+    let words = args.skip(1).collect::<Vec<String>>(rt.alloc())?;
+    Ok(words)
+}
+
+// Runs the command of the words between two streams.
+fn run_between<R: Threads + Sync + AllocGlobal, I: Read + Drop, O: Write + Drop>(
     rt: &R,
+    owned: &[String],
     input: I,
     output: O,
-) -> Result<Status, Status> {
+) -> Result<Status, NoMemory> {
     let alloc = rt.alloc();
-    let owned = words_of(rt)?;
     let Ok(words) = owned
         .iter()
         .map(|word| word.as_str())
         .collect::<Vec<&str>>(alloc)
     else {
-        return Err(Status::NoMemory);
+        return Err(NoMemory);
     };
     let Ok(mut air) = SteadyAir::new(alloc, Vec::new(alloc)) else {
-        return Err(Status::NoMemory);
+        return Err(NoMemory);
     };
     let mut source = StdinSource::new(input);
     let mut sink = StdoutSink::new(output);
@@ -81,4 +89,17 @@ pub fn command<R: Threads + Sync + Env + AllocGlobal, I: Read + Drop, O: Write +
         &mut draws,
         &mut journal,
     ))
+}
+
+/// Runs the command that the program's words say between two streams, as `run` does. Where the
+/// words cannot be read or memory runs out before, nothing is run.
+pub fn command<R: Threads + Sync + Env + AllocGlobal, I: Read + Drop, O: Write + Drop>(
+    rt: &R,
+    input: I,
+    output: O,
+) -> Status {
+    match words_of(rt) {
+        Ok(words) => or_no_memory(run_between(rt, &words, input, output)),
+        Err(error) => unread(error.kind()),
+    }
 }

@@ -33,6 +33,7 @@ use Rattle.domain_rules.specs.Closing.{close_attempt, close_session, sender}
 use Rattle.domain_rules.specs.StationRows.{carried}
 use Rattle.domain_rules.specs.AccessPointRows.{most_sends, again_or_give_up, m3_again, retry_attempt, retry_acts}
 use Rattle.domain_rules.specs.Ended.{EndsRightly}
+use Rattle.domain_rules.specs.Here.{here}
 use Rattle.domain_rules.proofs.Noted.{noted_verified}
 
 -- ---- acts that end no session
@@ -106,7 +107,7 @@ later_than x e g (inl here) other = absurd (other here)
 later_than x e g (inr later) other = later
 
 row_ends : (d : Domain) (first : ℕ) (n : Node) (h : List Act) (octets : List ℕ) (r : Reading) (facts : Facts) (g : List Act) (p : Node)
-    → TakeRows d first n h octets r facts g → In (Closed p Session) g → IsM4 p octets g
+    → TakeRows (here d first n) h octets r facts g → In (Closed p Session) g → IsM4 p octets g
 row_ends d first n h octets r facts g p (By_assoc_req row) there = absurd (none_ended p g (ap are_kept row.says ∙ kept_attempt row.p (attempt row.p h) _ refl) there)
 row_ends d first n h octets r facts g p (By_assoc_resp row) there = absurd (none_ended p g (ap are_kept row.says) there)
 row_ends d first n h octets r facts g p (By_m1 row) there = absurd (none_ended p g (ap are_kept row.says) there)
@@ -123,7 +124,7 @@ row_ends d first n h octets r facts g p (By_m4 row) there =
 row_ends d first n h octets r facts g p (By_ignored row) there = absurd (none_ended p g (ap are_kept row.says) there)
 row_ends d first n h octets r facts g p (By_refusal row) there = absurd (none_ended p g (ap are_kept row.says ∙ kept_response d n (sender d n r) (kind_of r) row.why) there)
 
-pub ends_rightly : (d : Domain) (first : ℕ) (n : Node) (h : List Act) (event : NodeEvent) (g : List Act) (p : Node) → Adds d first n h event g → In (Closed p Session) g → EndsRightly d event g p
+pub ends_rightly : (d : Domain) (first : ℕ) (n : Node) (h : List Act) (event : NodeEvent) (g : List Act) (p : Node) → Adds (here d first n) h event g → In (Closed p Session) g → EndsRightly d event g p
 ends_rightly d first n h (Take octets) g p row there =
     let (kck, (whole, m4)) = row_ends d first n h octets row.r row.facts g p row.row there in
     let v = noted_verified d first n h (Take octets) g (Some p) octets (kind.Key M4) Accepted (frame_seal kck whole) row m4 in

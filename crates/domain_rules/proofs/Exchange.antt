@@ -22,6 +22,7 @@ use Rattle.domain_rules.specs.Verdict.{is_mine}
 use Rattle.domain_rules.specs.Associating.{rsne_status}
 use Rattle.domain_rules.specs.StationKeys.{Keying, m3_keying, m3_verdict, taken_in}
 use Rattle.domain_rules.specs.AccessPointKeys.{m4_keying, m4_verdict}
+use Rattle.domain_rules.specs.Here.{here}
 use Rattle.eapol_key.specs.declared.messages.Message.TheVariants.{M1, M2, M3}
 use Rattle.key_hierarchy.proofs.Lengths.{length-kdf}
 use Rattle.rsn_elements.specs.Pieces.{SentRsne, SentGtkKde, sent_rsne, said}
@@ -55,14 +56,14 @@ unfolding gtk
 octets-gtk d n i = octets-kdf _ _ _ 16
 
 -- octets that come are one step
-pub take_step : (d : Domain) (round number : ℕ) (n : Node) (octets : List ℕ) (past : List Entry) (h g : List Act) → history n past ≡ h → WasSent past round number octets → TakeRow d 0 n h octets g
+pub take_step : (d : Domain) (round number : ℕ) (n : Node) (octets : List ℕ) (past : List Entry) (h g : List Act) → history n past ≡ h → WasSent past round number octets → TakeRow (here d 0 n) h octets g
     → Step d round (Deliver number n) past (push round n g past)
 take_step d round number n octets past h g is was row = step_at d round (Deliver number n) past (push round n g past) (record {
   node = n;
   at_node = Take octets;
   happens = (octets, (was, (refl, refl)));
   acts = g;
-  group = subst (λ (x : List Act). TakeRow d 0 n x octets g) (sym is) row;
+  group = subst (λ (x : List Act). TakeRow (here d 0 n) x octets g) (sym is) row;
   is = refl;
 })
 

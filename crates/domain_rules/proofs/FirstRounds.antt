@@ -18,6 +18,7 @@ use Rattle.domain_rules.specs.Asking.{has_heard, kept_counter, offered, verified
 use Rattle.domain_rules.specs.Verdict.{is_mine, further, and_then, first_verdict, verdict}
 use Rattle.domain_rules.specs.Associating.{management_verdict}
 use Rattle.domain_rules.specs.Facts.{Facts}
+use Rattle.domain_rules.specs.Here.{here}
 use Rattle.eapol_key.specs.declared.messages.Message.TheVariants.{M1, M2}
 use Rattle.key_hierarchy.specs.Keys.{ptk}
 use Rattle.key_hierarchy.specs.declared.inputs.Inputs.{Inputs}
@@ -126,7 +127,7 @@ module _ (d : Domain) (k m : ℕ) (pair : IsPair d k m) where
     at_node = Begin k;
     happens = (refl, refl);
     acts = acts1;
-    group = subst (λ (h : List Act). ConnectRow d 0 s h a acts1) (sym (history-started_sta d m (length d.aps))) (Asks (omega arith) refl);
+    group = subst (λ (h : List Act). ConnectRow (here d 0 s) h a acts1) (sym (history-started_sta d m (length d.aps))) (Asks (omega arith) refl);
     is = refl;
   })
 
@@ -154,7 +155,7 @@ module _ (d : Domain) (k m : ℕ) (pair : IsPair d k m) where
       ap (λ (o : Outcome). and_then o Accepted)
       (managed-from d 0 a ap0 (assoc_req_body d s a) (assoc_req_said d) s (same_octets d a) (management-from d a s (assoc_req_body d s a).header pair.finds_sta refl) ∙ awaited1)
 
-  row1 : TakeRow d 0 a ap0 octets1 acts2
+  row1 : TakeRow (here d 0 a) ap0 octets1 acts2
   row1 = record {
     r = Managed (assoc_req_body d s a) (assoc_req_said d);
     reads = reads-assoc_req d s a pair.sta_whole pair.ap_whole;
@@ -189,7 +190,7 @@ module _ (d : Domain) (k m : ℕ) (pair : IsPair d k m) where
       ∙ assoc_resp-in sta1 a (assoc_resp_body d a s 0 rates_octets) sta1 false attempt1 refl refl
       )
 
-  row2 : TakeRow d 0 s sta1 octets2 acts3
+  row2 : TakeRow (here d 0 s) sta1 octets2 acts3
   row2 = record {
     r = Managed (assoc_resp_body d a s 0 rates_octets) rates_said;
     reads = reads-assoc_resp d a s pair.ap_whole pair.sta_whole (omega (arith, pair.sta_low));
@@ -235,7 +236,7 @@ module _ (d : Domain) (k m : ℕ) (pair : IsPair d k m) where
   reads3 : Reads d.akm octets3 (Keyed m1)
   reads3 = reads-m1 d a s 1 anonce pair.ap_whole pair.sta_whole (omega arith) (length-nonce d a 1)
 
-  row3 : TakeRow d 0 s sta3 octets3 acts4
+  row3 : TakeRow (here d 0 s) sta3 octets3 acts4
   row3 = record {
     r = Keyed m1;
     reads = reads3;
@@ -299,7 +300,7 @@ module _ (d : Domain) (k m : ℕ) (pair : IsPair d k m) where
   says4 : acts5 ≡ Took (Some s) octets4 (kind.Key M2) Accepted (Some seal4) ∷ Derived s i (ptk i) ∷ sent_m3 d a s (keyed_by i) (next_in_attempt s (chain s ap2)) (newest groups.Gtk ap2) (newest_uses groups.Gtk ap2) ∷ []
   says4 = ap (λ (c : ℕ). Took (Some s) octets4 (kind.Key M2) Accepted (Some seal4) ∷ Derived s i (ptk i) ∷ sent_m3 d a s (keyed_by i) c g 0 ∷ []) (sym counter4)
 
-  row4 : TakeRow d 0 a ap2 octets4 acts5
+  row4 : TakeRow (here d 0 a) ap2 octets4 acts5
   row4 = record {
     r = Keyed m2;
     reads = reads-m2 d s a (keyed_by i) 1 pair.has_mic pair.sta_whole pair.ap_whole (omega arith) (length-nonce d s 0);

@@ -23,6 +23,7 @@ use Rattle.run_journal.specs.Premises.{In}
 use Rattle.domain_rules.specs.Rows.{NodeEvent, Take, Adds}
 use Rattle.domain_rules.specs.AccessPointRows.{start_acts}
 use Rattle.domain_rules.specs.Explained.{HappensAt, Place, AddsAll, frames, number_of, push, altered, WasSent, Step, Follows, started, Explained}
+use Rattle.domain_rules.specs.Here.{here}
 use Rattle.domain_rules.proofs.Parts.{same-refl, same-other}
 use Rattle.domain_rules.proofs.OneGroup.{one_group}
 
@@ -112,7 +113,7 @@ pub record AtOne (d : Domain) (round : ℕ) (event : Event) (old new : List Entr
   pub at_node : NodeEvent
   pub happens : HappensAt event old round node at_node
   pub acts : List Act
-  pub group : Adds d 0 node (history node old) at_node acts
+  pub group : Adds (here d 0 node) (history node old) at_node acts
   pub is : new ≡ push round node acts old
 
 pub step_at : (d : Domain) (round : ℕ) (event : Event) (old new : List Entry) → AtOne d round event old new → Step d round event old new
@@ -148,8 +149,8 @@ one_step d round event old new other is one two =
     let s = at_one d round event old new one in
     let t = at_one d round event old other two in
     let same = same_happens event old round s.node t.node s.at_node t.at_node is s.happens t.happens in
-    let group : Adds d 0 t.node (history t.node old) t.at_node s.acts =
-    subst (λ (x : NodeEvent). Adds d 0 t.node (history t.node old) x s.acts) same.1 (subst (λ (n : Node). Adds d 0 n (history n old) s.at_node s.acts) same.0 s.group) in
+    let group : Adds (here d 0 t.node) (history t.node old) t.at_node s.acts =
+    subst (λ (x : NodeEvent). Adds (here d 0 t.node) (history t.node old) x s.acts) same.1 (subst (λ (n : Node). Adds (here d 0 n) (history n old) s.at_node s.acts) same.0 s.group) in
     s.is ∙ same_push round s.node t.node s.acts t.acts old same.0 (one_group d 0 t.node (history t.node old) t.at_node s.acts t.acts group t.group) ∙ sym t.is
 
 step-numbered : (d : Domain) (round : ℕ) (event : Event) (old new : List Entry) → IsNumbered old → Step d round event old new → IsNumbered new

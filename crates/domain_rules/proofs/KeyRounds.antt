@@ -42,6 +42,7 @@ use Rattle.domain_rules.proofs.Journals.{step_at}
 use Rattle.domain_rules.proofs.HandshakeActs as w
 use Rattle.domain_rules.proofs.FirstRounds.{stage5}
 use Rattle.domain_rules.specs.Rows as again
+use Rattle.domain_rules.specs.Here.{here}
 
 module _ (d : Domain) (k m : ℕ) (pair : IsPair d k m) where
   abbrev a : Node
@@ -210,7 +211,7 @@ module _ (d : Domain) (k m : ℕ) (pair : IsPair d k m) where
     data_ = λ plain e. (let same : m3_key_data d g ≡ plain = cc e in subst (λ (x : List ℕ). ReadsKeyData x facts.data_) same (says d g is_key));
   }
 
-  row6 : TakeRow d 0 s sta4 octets5 acts6
+  row6 : TakeRow (here d 0 s) sta4 octets5 acts6
   row6 = record {
     r = Keyed m3;
     reads = reads6;
@@ -314,7 +315,7 @@ module _ (d : Domain) (k m : ℕ) (pair : IsPair d k m) where
     data_ = λ plain e. (let same : m3_key_data d g ≡ plain = cc e in subst (λ (x : List ℕ). ReadsKeyData x facts.data_) same (says d g is_key));
   }
 
-  row8 : TakeRow d 0 s sta6 octets7 acts8
+  row8 : TakeRow (here d 0 s) sta6 octets7 acts8
   row8 = record {
     r = Keyed m3_again;
     reads = reads8;
@@ -364,7 +365,7 @@ module _ (d : Domain) (k m : ℕ) (pair : IsPair d k m) where
   accepted9 : verdict d 0 a ap7 (Keyed m4) no_facts ≡ Accepted
   accepted9 = ap (λ (o : Outcome). and_then o Accepted) (keyed-from d 0 a ap7 m4 s mine9 pair.finds_sta ∙ m4-in d ap7 s m4 part7 key (3 ∷ 2 ∷ []) attempt9 keying9 offers9 refl ∙ verifies9)
 
-  row9 : TakeRow d 0 a ap7 octets8 acts9
+  row9 : TakeRow (here d 0 a) ap7 octets8 acts9
   row9 = record {
     r = Keyed m4;
     reads = reads-m4 d s a (keyed_by i) 3 pair.has_mic pair.sta_whole pair.ap_whole (omega arith);

@@ -15,6 +15,7 @@ use Rattle.domain_rules.specs.Rows.{Begin, TakeRow, By_assoc_req}
 use Rattle.domain_rules.specs.Closing.{close_attempt}
 use Rattle.domain_rules.specs.Associating.{management_verdict}
 use Rattle.domain_rules.specs.Verdict.{and_then, verdict}
+use Rattle.domain_rules.specs.Here.{here}
 use Rattle.eapol_key.specs.declared.messages.Message.TheVariants.{M4}
 use Rattle.key_hierarchy.specs.Keys.{ptk}
 use Rattle.key_hierarchy.specs.declared.inputs.Inputs.{Inputs}
@@ -119,7 +120,7 @@ module _ (d : Domain) (k m : ℕ) (pair : IsPair d k m) where
     at_node = Begin k;
     happens = (refl, refl);
     acts = acts10;
-    group = subst (λ (h : List Act). ConnectRow d 0 s h a acts10) (sym st.sta_is) (Asks (omega arith) refl);
+    group = subst (λ (h : List Act). ConnectRow (here d 0 s) h a acts10) (sym st.sta_is) (Asks (omega arith) refl);
     is = refl;
   })
 
@@ -142,7 +143,7 @@ module _ (d : Domain) (k m : ℕ) (pair : IsPair d k m) where
   says11 : acts11 ≡ Took (Some s) octets1 kind.AssocReq Accepted None ∷ close_attempt s (attempt s ap9) ++ Opened s start.Connect ∷ Drew (Nonce anonce2) ∷ sent_assoc_resp d a s ∷ sent_m1 d a s 1 anonce2 ∷ []
   says11 = ap (λ (o : Option (List Act)). Took (Some s) octets1 kind.AssocReq Accepted None ∷ close_attempt s o ++ Opened s start.Connect ∷ Drew (Nonce anonce2) ∷ sent_assoc_resp d a s ∷ sent_m1 d a s 1 anonce2 ∷ []) (sym attempt11)
 
-  row11 : TakeRow d 0 a ap9 octets1 acts11
+  row11 : TakeRow (here d 0 a) ap9 octets1 acts11
   row11 = record {
     r = Managed (assoc_req_body d s a) (assoc_req_said d);
     reads = reads-assoc_req d s a pair.sta_whole pair.ap_whole;

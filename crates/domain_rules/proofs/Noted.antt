@@ -45,6 +45,7 @@ use Rattle.domain_rules.specs.Closing.{close_attempt, close_session, close_pendi
 use Rattle.domain_rules.specs.StationRows.{connect_acts, ConnectRow, Spent, Asks, carried}
 use Rattle.domain_rules.specs.AccessPointRows.{most_sends, again_or_give_up, m3_again, retry_attempt, retry_acts}
 use Rattle.domain_rules.specs.Verified.{IsVerified, is_with_mic, is_past_mic}
+use Rattle.domain_rules.specs.Here.{here}
 use Rattle.domain_rules.proofs.OneOutcome.{IsTaken, taken_behind, taken_from, Awaited, Is_m1, Is_m2, Is_m3, Is_m4, key_kind, and_accepted, and_answered}
 use Rattle.domain_rules.proofs.OneGroup.{one_take}
 use Rattle.domain_rules.proofs.SomeGroup.{some_rows}
@@ -260,7 +261,7 @@ notes : (d : Domain) (octets taken : List ℕ) (s : Seal) → taken ≡ octets �
 notes d octets taken s same v = (sym same, v)
 
 row_noted : (d : Domain) (first : ℕ) (n : Node) (h : List Act) (octets : List ℕ) (r : Reading) (facts : Facts) (g : List Act) (from : Option Node) (taken : List ℕ) (k : Kind) (o : Outcome) (s : Seal)
-    → Reads d.akm octets r → TakeRows d first n h octets r facts g → In (noting from taken k o s) g → Notes d octets taken s
+    → Reads d.akm octets r → TakeRows (here d first n) h octets r facts g → In (noting from taken k o s) g → Notes d octets taken s
 row_noted d first n h octets r facts g from taken k o s reads (By_assoc_req row) there =
     absurd (none_noted from taken k o s g (ap are_quiet row.says ∙ quiet_attempt row.p (attempt row.p h) _ refl) there)
 row_noted d first n h octets r facts g from taken k o s reads (By_assoc_resp row) there = absurd (none_noted from taken k o s g (ap are_quiet row.says) there)
@@ -288,13 +289,13 @@ row_noted d first n h octets r facts g from taken k o s reads (By_refusal row) t
     let by = noted_by (comes_so_far (first_verdict d first n h r)) (seal_in d n h r) s seal in
     notes d octets taken s (cc head) (seal_verified d first n h octets r s reads (far_taken (first_verdict d first n h r) by.0) by.1)
 
-connect_quiet : (d : Domain) (first : ℕ) (n : Node) (h : List Act) (p : Node) (g : List Act) → ConnectRow d first n h p g → are_quiet g ≡ true
+connect_quiet : (d : Domain) (first : ℕ) (n : Node) (h : List Act) (p : Node) (g : List Act) → ConnectRow (here d first n) h p g → are_quiet g ≡ true
 connect_quiet d first n h p g (Spent many is) = ap are_quiet is
 connect_quiet d first n h p g (Asks few is) = ap are_quiet is ∙ quiet_connect d first n h p
 
 -- the event is that these octets came, and they verified
 pub noted_verified : (d : Domain) (first : ℕ) (n : Node) (h : List Act) (event : NodeEvent) (g : List Act) (from : Option Node) (octets : List ℕ) (k : Kind) (o : Outcome) (s : Seal)
-    → Adds d first n h event g → In (Took from octets k o (Some s)) g → (event ≡ Take octets) × IsVerified d.akm octets s
+    → Adds (here d first n) h event g → In (Took from octets k o (Some s)) g → (event ≡ Take octets) × IsVerified d.akm octets s
 noted_verified d first n h (Take octets) g from taken k o s row there =
     let n : Notes d octets taken s = row_noted d first n h octets row.r row.facts g from taken k o s row.reads row.row there in
     (ap (λ (x : List ℕ). Take x) n.0, subst (λ (x : List ℕ). IsVerified d.akm x s) n.0 n.1)
@@ -370,7 +371,7 @@ kind_is r k m is message_is = ap kind_of is ∙ ap (λ (x : Message). kind.Key x
 managed_kind : (r : Reading) (b : Management) (e : ElementFields) (m : Kind) → r ≡ Managed b e → b.kind ≡ m → kind_of r ≡ m
 managed_kind r b e m is same = ap kind_of is ∙ same
 
-has_noted : (d : Domain) (first : ℕ) (n : Node) (h : List Act) (octets : List ℕ) (r : Reading) (facts : Facts) (g : List Act) → TakeRows d first n h octets r facts g
+has_noted : (d : Domain) (first : ℕ) (n : Node) (h : List Act) (octets : List ℕ) (r : Reading) (facts : Facts) (g : List Act) → TakeRows (here d first n) h octets r facts g
     → is_past_mic (first_verdict d first n h r) (kind_of r) ≡ true → HasNoted d first n h octets r facts g
 has_noted d first n h octets r facts g (By_assoc_req row) s = absurd (no_mic (first_verdict d first n h r) (kind_of r) kind.AssocReq (managed_kind r row.b row.e kind.AssocReq row.is row.kind_is) refl s)
 has_noted d first n h octets r facts g (By_assoc_resp row) s = absurd (no_mic (first_verdict d first n h r) (kind_of r) kind.AssocResp (managed_kind r row.b row.e kind.AssocResp row.is row.kind_is) refl s)
@@ -389,7 +390,7 @@ has_noted d first n h octets r facts g (By_refusal row) s =
           (row.says ∙ ap (λ (x : Option Seal). Took (sender d n r) octets (kind_of r) (Refused row.why) x ∷ response d n (sender d n r) (kind_of r) row.why) is),
     )
 
-pub verified_noted : (d : Domain) (first : ℕ) (n : Node) (h : List Act) (octets : List ℕ) (r : Reading) (facts : Facts) (g : List Act) → Reads d.akm octets r → Knows d first n h r facts → Adds d first n h (Take octets) g
+pub verified_noted : (d : Domain) (first : ℕ) (n : Node) (h : List Act) (octets : List ℕ) (r : Reading) (facts : Facts) (g : List Act) → Reads d.akm octets r → Knows d first n h r facts → Adds (here d first n) h (Take octets) g
     → is_past_mic (first_verdict d first n h r) (kind_of r) ≡ true → HasNoted d first n h octets r facts g
 verified_noted d first n h octets r facts g reads knows row s =
     let rows = some_rows d first n h octets r facts in

@@ -35,6 +35,7 @@ use Rattle.domain_rules.specs.Asking.{own}
 use Rattle.domain_rules.specs.Rows.{NodeEvent, Take, Begin, Retry, refused_seal, response, TakeRows, By_assoc_req, By_assoc_resp, By_m1, By_m2, By_m3, By_repeated_m3, By_m4, By_ignored, By_refusal, TakeRow, Adds}
 use Rattle.domain_rules.specs.Closing.{close_attempt, close_session, next_nonce, sender}
 use Rattle.domain_rules.specs.StationRows.{carried, ConnectRow, Spent, Asks}
+use Rattle.domain_rules.specs.Here.{here}
 use Rattle.domain_rules.proofs.OneReading.{one_reading}
 use Rattle.domain_rules.proofs.OneOutcome.{one_verdict, same_carried}
 use Rattle.run_journal.specs.GroupKinds as groups
@@ -130,7 +131,7 @@ abbrev Carries : Domain → ℕ → Node → List Act → Reading → Facts → 
 Carries d first n h r facts x = (k : KeyMessage) → r ≡ Keyed k → k.message ≡ M3 → verdict d first n h r facts ≡ Accepted → carried facts.data_ ≡ x
 
 -- the acts of a row are these
-row_is : (d : Domain) (first : ℕ) (n : Node) (h : List Act) (octets : List ℕ) (r : Reading) (facts : Facts) (g : List Act) (x : GroupKey) → Carries d first n h r facts x → TakeRows d first n h octets r facts g
+row_is : (d : Domain) (first : ℕ) (n : Node) (h : List Act) (octets : List ℕ) (r : Reading) (facts : Facts) (g : List Act) (x : GroupKey) → Carries d first n h r facts x → TakeRows (here d first n) h octets r facts g
     → g ≡ acts_by d first n h octets r x (verdict d first n h r facts)
 row_is d first n h octets r facts g x carries (By_assoc_req row) = row.says ∙ sym (managed_is d first n h octets r _ row.b row.e kind.AssocReq row.p x row.accepted row.from row.is row.kind_is)
 row_is d first n h octets r facts g x carries (By_assoc_resp row) = row.says ∙ sym (managed_is d first n h octets r _ row.b row.e kind.AssocResp row.p x row.accepted row.from row.is row.kind_is)
@@ -156,7 +157,7 @@ same_carries : (d : Domain) (first : ℕ) (n : Node) (h : List Act) (r : Reading
 same_carries d first n h r f g s t k is m accepted =
     ap carried (same_carried d first n h k f g m (subst (λ (v : Reading). Knows d first n h v f) is s) (subst (λ (v : Reading). Knows d first n h v g) is t) (subst (λ (v : Reading). verdict d first n h v f ≡ Accepted) is accepted))
 
-pub one_take : (d : Domain) (first : ℕ) (n : Node) (h : List Act) (octets : List ℕ) (f g : List Act) → TakeRow d first n h octets f → TakeRow d first n h octets g → f ≡ g
+pub one_take : (d : Domain) (first : ℕ) (n : Node) (h : List Act) (octets : List ℕ) (f g : List Act) → TakeRow (here d first n) h octets f → TakeRow (here d first n) h octets g → f ≡ g
 one_take d first n h octets f g s t =
     let same : s.r ≡ t.r = one_reading d.akm octets s.r t.r s.reads t.reads in
     let knows : Knows d first n h s.r t.facts = subst (λ (v : Reading). Knows d first n h v t.facts) (sym same) t.knows in
@@ -165,13 +166,13 @@ one_take d first n h octets f g s t =
     ∙ ap (λ (r : Reading). acts_by d first n h octets r (carried t.facts.data_) (verdict d first n h t.r t.facts)) same
     ∙ sym (row_is d first n h octets t.r t.facts g (carried t.facts.data_) (λ k is m accepted. refl) t.row)
 
-one_connect : (d : Domain) (first : ℕ) (n : Node) (h : List Act) (p : Node) (f g : List Act) → ConnectRow d first n h p f → ConnectRow d first n h p g → f ≡ g
+one_connect : (d : Domain) (first : ℕ) (n : Node) (h : List Act) (p : Node) (f g : List Act) → ConnectRow (here d first n) h p f → ConnectRow (here d first n) h p g → f ≡ g
 one_connect d first n h p f g (Spent many is) (Spent too also) = is ∙ sym also
 one_connect d first n h p f g (Spent many is) (Asks few also) = absurd (omega arith)
 one_connect d first n h p f g (Asks few is) (Spent many also) = absurd (omega arith)
 one_connect d first n h p f g (Asks few is) (Asks too also) = is ∙ sym also
 
-pub one_group : (d : Domain) (first : ℕ) (n : Node) (h : List Act) (event : NodeEvent) (f g : List Act) → Adds d first n h event f → Adds d first n h event g → f ≡ g
+pub one_group : (d : Domain) (first : ℕ) (n : Node) (h : List Act) (event : NodeEvent) (f g : List Act) → Adds (here d first n) h event f → Adds (here d first n) h event g → f ≡ g
 one_group d first n h (Take octets) f g s t = one_take d first n h octets f g s t
 one_group d first n h (Begin a) f g s t = one_connect d first n h (Ap a) f g s t
 one_group d first n h (Retry p) f g s t = s ∙ sym t

@@ -23,7 +23,7 @@ use Rattle.run_journal.specs.declared.acts.Outcome.TheVariants.{Accepted, Answer
 use Rattle.run_journal.specs.declared.acts.Act.{Act}
 use Rattle.run_journal.specs.Questions.{attempt, draws, chain}
 use Rattle.run_journal.specs.Acts.{Derivation}
-use Rattle.domain_rules.specs.Network.{bssid, direction, goes_like, peer_of, last_draw}
+use Rattle.domain_rules.specs.Network.{bssid, direction, goes_like, peer_of, draw_end}
 use Rattle.domain_rules.specs.Reading.{Management, KeyMessage, Reading, NoFrame, PassedOver, NoElements, Managed, NoKeyFrame, NoMessage, Keyed, Sealed, Reads}
 use Rattle.domain_rules.specs.Facts.{Facts, is_same}
 use Rattle.domain_rules.specs.Verdict.{Knows, KnowsFrom, KnowsOf, ComesSoFar, unless_refused, first_verdict, further, key_further, and_then, verdict, from_peer, sender_in, management_sender, is_mine, is_mine_or_group, air_reason, key_verdict}
@@ -94,7 +94,7 @@ decided_m4 d p k part (Some x) =
     decided_if (list_any (λ c. c == k.fields.counter) (offered p M3 part)) _ _ (decided_if (bytes_eq k.fields.mic _) _ _ (Took_in refl) (refused reason.Mic)) (refused _)
 
 decided_management : (d : Domain) (drawn : ℕ) (n : Node) (h : List Act) (p : Node) (k : Kind) (b : Management) (e : ElementFields) → Decided (management_verdict d drawn n h p k b e)
-decided_management d drawn (Ap a) h p kind.AssocReq b e = decided_status (rsne_status d.akm e.rsne) _ (decided_if (nat_lt drawn last_draw) _ _ (Took_in refl) (refused reason.Spent))
+decided_management d drawn (Ap a) h p kind.AssocReq b e = decided_status (rsne_status d.akm e.rsne) _ (decided_if (nat_lt drawn draw_end) _ _ (Took_in refl) (refused reason.Spent))
 decided_management d drawn (Sta s) h p kind.AssocResp b e =
     decided_attempt (attempt p h) _ (λ part. decided_if (not (by_connect part) || has_heard p kind.AssocResp part) _ _ (refused reason.Unawaited) (decided_if (b.status == 0) _ _ (Took_in refl) (refused (reason.Status b.status))))
 decided_management d drawn n h p _ b e = refused reason.Unawaited
@@ -310,7 +310,7 @@ answered_kind d drawn (Ap a) h p k M4 s = absurd (unanswered_in (attempt p h) _ 
 answered_kind d drawn n h p k _ s = cc
 
 unanswered_management : (d : Domain) (drawn : ℕ) (n : Node) (h : List Act) (p : Node) (k : Kind) (b : Management) (e : ElementFields) → management_verdict d drawn n h p k b e ≡ Answered → ⊥
-unanswered_management d drawn (Ap a) h p kind.AssocReq b e s = unanswered_status (rsne_status d.akm e.rsne) (nat_lt drawn last_draw) s
+unanswered_management d drawn (Ap a) h p kind.AssocReq b e s = unanswered_status (rsne_status d.akm e.rsne) (nat_lt drawn draw_end) s
 unanswered_management d drawn (Sta sta) h p kind.AssocResp b e s =
     unanswered_in (attempt p h) _ (λ part t. unanswered_if (b.status == 0) (reason.Status b.status) (answered_behind (not (by_connect part) || has_heard p kind.AssocResp part) reason.Unawaited _ t)) s
 unanswered_management d drawn n h p _ b e s = cc

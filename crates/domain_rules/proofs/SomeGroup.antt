@@ -11,7 +11,7 @@ use Rattle.run_journal.specs.declared.acts.Reason.TheVariants as reason
 use Rattle.run_journal.specs.declared.acts.Outcome.TheVariants.{Accepted, Answered, Refused}
 use Rattle.run_journal.specs.declared.acts.Act.{Act}
 use Rattle.run_journal.specs.Questions.{draws}
-use Rattle.domain_rules.specs.Network.{direction, goes_like, peer_of, inputs, last_draw, root}
+use Rattle.domain_rules.specs.Network.{direction, goes_like, peer_of, inputs, draw_end, root}
 use Rattle.domain_rules.specs.Reading.{Management, KeyMessage, Reading, Managed, Keyed, Sealed}
 use Rattle.domain_rules.specs.Facts.{Facts}
 use Rattle.domain_rules.specs.Verdict.{first_verdict, further, verdict, is_mine, is_mine_or_group, management_sender, key_verdict}
@@ -19,12 +19,13 @@ use Rattle.domain_rules.specs.Asking.{own}
 use Rattle.domain_rules.specs.Associating.{management_verdict}
 use Rattle.domain_rules.specs.StationRows.{connect_acts, ConnectRow, Spent, Asks}
 use Rattle.domain_rules.specs.Rows.{TakeRows, By_assoc_req, By_assoc_resp, By_m1, By_m2, By_m3, By_repeated_m3, By_m4, By_ignored, By_refusal}
+use Rattle.domain_rules.specs.Here.{here}
 use Rattle.domain_rules.proofs.OneOutcome.{Decided, Took_in, Repeated, Passed, Thrown, decided, Awaited, Is_m1, Is_m2, Is_m3, Is_m4, HasKeying, taken_behind, taken_from, not_thrown, from_some, sender-some, management_kind, key_kind, and_accepted, and_answered, answered_behind, answered_from, answered_kind, managed_unanswered, sealed_unanswered}
 
 -- ---- a row for each
 
 abbrev pub HasRow : Domain → ℕ → Node → List Act → List ℕ → Reading → Facts → Type 0
-HasRow d first n h octets r facts = (g : List Act) × TakeRows d first n h octets r facts g
+HasRow d first n h octets r facts = (g : List Act) × TakeRows (here d first n) h octets r facts g
 
 managed_row : (d : Domain) (first : ℕ) (n : Node) (h : List Act) (octets : List ℕ) (b : Management) (e : ElementFields) (facts : Facts) (p : Node) → peer_of d n b.header.a2 ≡ Some p → (b.kind ≡ kind.AssocReq) ⊎ (b.kind ≡ kind.AssocResp)
     → verdict d first n h (Managed b e) facts ≡ Accepted → HasRow d first n h octets (Managed b e) facts
@@ -76,5 +77,5 @@ by_outcome d first n h octets r facts (Thrown why s) = (_, By_refusal (record { 
 pub some_rows : (d : Domain) (first : ℕ) (n : Node) (h : List Act) (octets : List ℕ) (r : Reading) (facts : Facts) → HasRow d first n h octets r facts
 some_rows d first n h octets r facts = by_outcome d first n h octets r facts (decided d first n h r facts)
 
-pub some_connect : (d : Domain) (first : ℕ) (n : Node) (h : List Act) (p : Node) → (g : List Act) × ConnectRow d first n h p g
-some_connect d first n h p = elim (cases_lt (first + draws h) last_draw) [ inl few ↦ (connect_acts d first n h p, Asks few refl) | inr many ↦ (_, Spent many refl) ]
+pub some_connect : (d : Domain) (first : ℕ) (n : Node) (h : List Act) (p : Node) → (g : List Act) × ConnectRow (here d first n) h p g
+some_connect d first n h p = elim (cases_lt (first + draws h) draw_end) [ inl few ↦ (connect_acts d first n h p, Asks few refl) | inr many ↦ (_, Spent many refl) ]

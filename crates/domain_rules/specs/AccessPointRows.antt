@@ -32,42 +32,43 @@ use Rattle.domain_rules.specs.Counters.{sent_count, next_in_attempt}
 use Rattle.domain_rules.specs.GroupKeys.{newest, newest_uses}
 use Rattle.run_journal.specs.GroupKinds as groups
 use Rattle.domain_rules.specs.Closing.{close_attempt, close_session, next_nonce, sender}
+use Rattle.domain_rules.specs.Here.{Here}
 
 -- an access point answers an association request with its response and M1
-pub record AssocReqRow (d : Domain) (first : ℕ) (n : Node) (h : List Act) (octets : List ℕ) (r : Reading) (facts : Facts) (g : List Act) : Type 0 where
+pub record AssocReqRow (w : Here) (h : List Act) (octets : List ℕ) (r : Reading) (facts : Facts) (g : List Act) : Type 0 where
   pub b : Management
   pub e : ElementFields
   pub is : r ≡ Managed b e
   pub kind_is : b.kind ≡ kind.AssocReq
   pub p : Node
-  pub from : sender d n r ≡ Some p
-  pub accepted : verdict d first n h r facts ≡ Accepted
+  pub from : sender w.domain w.node r ≡ Some p
+  pub accepted : verdict w.domain w.first w.node h r facts ≡ Accepted
   pub says : g ≡ Took (Some p) octets kind.AssocReq Accepted None ∷ close_attempt p (attempt p h)
-      ++ Opened p Connect ∷ Drew (Nonce (next_nonce d first n h)) ∷ sent_assoc_resp d n p ∷ sent_m1 d n p 1 (next_nonce d first n h) ∷ []
+      ++ Opened p Connect ∷ Drew (Nonce (next_nonce w.domain w.first w.node h)) ∷ sent_assoc_resp w.domain w.node p ∷ sent_m1 w.domain w.node p 1 (next_nonce w.domain w.first w.node h) ∷ []
 
 -- an access point derives the same key by M2, and answers with M3
-pub record M2Row (d : Domain) (first : ℕ) (n : Node) (h : List Act) (octets : List ℕ) (r : Reading) (facts : Facts) (g : List Act) : Type 0 where
+pub record M2Row (w : Here) (h : List Act) (octets : List ℕ) (r : Reading) (facts : Facts) (g : List Act) : Type 0 where
   pub k : KeyMessage
   pub is : r ≡ Keyed k
   pub message_is : k.message ≡ M2
   pub p : Node
-  pub from : sender d n r ≡ Some p
-  pub accepted : verdict d first n h r facts ≡ Accepted
+  pub from : sender w.domain w.node r ≡ Some p
+  pub accepted : verdict w.domain w.first w.node h r facts ≡ Accepted
   pub part : List Act
   pub awaited : attempt p h ≡ Some part
   pub i : Inputs
-  pub inputs_are : i ≡ inputs d (root d) n p (own part) k.fields.nonce
+  pub inputs_are : i ≡ inputs w.domain (root w.domain) w.node p (own part) k.fields.nonce
   pub says : g ≡ Took (Some p) octets (kind.Key M2) Accepted (Some (frame_seal (ptk i).kck k.octets)) ∷ Derived p i (ptk i)
-      ∷ sent_m3 d n p (keyed_by i) (next_in_attempt p (chain p h)) (newest groups.Gtk h) (newest_uses groups.Gtk h) ∷ []
+      ∷ sent_m3 w.domain w.node p (keyed_by i) (next_in_attempt p (chain p h)) (newest groups.Gtk h) (newest_uses groups.Gtk h) ∷ []
 
 -- an access point installs the pairwise key by M4, in place of the one in use
-pub record M4Row (d : Domain) (first : ℕ) (n : Node) (h : List Act) (octets : List ℕ) (r : Reading) (facts : Facts) (g : List Act) : Type 0 where
+pub record M4Row (w : Here) (h : List Act) (octets : List ℕ) (r : Reading) (facts : Facts) (g : List Act) : Type 0 where
   pub k : KeyMessage
   pub is : r ≡ Keyed k
   pub message_is : k.message ≡ M4
   pub p : Node
-  pub from : sender d n r ≡ Some p
-  pub accepted : verdict d first n h r facts ≡ Accepted
+  pub from : sender w.domain w.node r ≡ Some p
+  pub accepted : verdict w.domain w.first w.node h r facts ≡ Accepted
   pub part : List Act
   pub awaited : attempt p h ≡ Some part
   pub x : Derivation

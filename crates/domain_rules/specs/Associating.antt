@@ -16,7 +16,7 @@ use Rattle.run_journal.specs.declared.acts.Outcome.{Outcome}
 use Rattle.run_journal.specs.declared.acts.Outcome.TheVariants.{Accepted, Refused}
 use Rattle.run_journal.specs.declared.acts.Act.{Act}
 use Rattle.run_journal.specs.Questions.{attempt}
-use Rattle.domain_rules.specs.Network.{last_draw}
+use Rattle.domain_rules.specs.Network.{draw_end}
 use Rattle.domain_rules.specs.Reading.{Management}
 use Rattle.domain_rules.specs.Asking.{by_connect, has_heard, in_attempt}
 
@@ -53,7 +53,7 @@ without_status (Some status) then_ = Refused (reason.Status status)
 -- an association request at an access point that has drawn so often
 abbrev pub assoc_req_verdict : Domain → ℕ → ElementFields → Outcome
 assoc_req_verdict d drawn e =
-    without_status (rsne_status d.akm e.rsne) (if nat_lt drawn last_draw then Accepted else Refused reason.Spent)
+    without_status (rsne_status d.akm e.rsne) (if nat_lt drawn draw_end then Accepted else Refused reason.Spent)
 
 -- an association response at a station
 abbrev pub assoc_resp_verdict : List Act → Node → Management → Outcome

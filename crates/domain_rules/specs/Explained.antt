@@ -17,6 +17,7 @@ use Rattle.run_journal.specs.Premises.{In}
 use Rattle.domain_rules.specs.Rows.{NodeEvent, Take, Begin, Adds}
 use Rattle.domain_rules.specs.AccessPointRows.{start_acts}
 use Rattle.domain_rules.specs.Rows as again
+use Rattle.domain_rules.specs.Here.{here}
 
 -- how many frames were sent
 abbrev pub frames : List Entry → ℕ
@@ -66,7 +67,7 @@ Happens event past round places = (p : Place) × (HappensAt event past round p.n
 abbrev pub AddsAll : Domain → ℕ → List Place → List Entry → List Entry → Type 0
 AddsAll d round [] old new = new ≡ old
 AddsAll d round (p ∷ places) old new =
-    (acts : List Act) × (Adds d 0 p.node (history p.node old) p.event acts × AddsAll d round places (push round p.node acts old) new)
+    (acts : List Act) × (Adds (here d 0 p.node) (history p.node old) p.event acts × AddsAll d round places (push round p.node acts old) new)
 
 -- one event in that round takes the old journal to the new one
 pub record Step (d : Domain) (round : ℕ) (event : Event) (old new : List Entry) : Type 0 where

@@ -55,8 +55,8 @@ unfoldable pub gtk : Domain → Node → ℕ → List ℕ
 gtk d n i = kdf d.seed (codes "Group key expansion") (address d n ++ to_be_bytes w64 i) 16
 
 -- the number of draws at which a node draws no more (this project's choice): 2^60
-abbrev pub last_draw : ℕ
-last_draw = 1152921504606846976
+abbrev pub draw_end : ℕ
+draw_end = 1152921504606846976
 
 -- what the pairwise keys of a station go back to: its pre-shared key, and the R0KH-ID of its first association
 pub record Root : Type 0 where

@@ -93,8 +93,13 @@ replied_acts w had t r b =
     ++ installed_acts w.domain w.root w.node w.peer r.installed ++ gtk_acts w.domain w.peer r.gtk
     ++ finished_acts w.domain w.root w.node w.peer r.installed ++ (b.put ++ sent_acts w.peer r))
 
--- with suites 2 and 6 nothing stands between
-abbrev pub reply_acts : Domain → Node → Node → Bool → List ℕ → KeyMessage → Outcome → Reply → List Act
-reply_acts d n p had octets k outcome r =
-    replied_acts (record { domain = d; root = root d; node = n; peer = p }) had (record { octets = octets; message = k; outcome = outcome }) r
-    (record { opened = []; put = [] })
+-- with suites 2 and 6 the root is that of the domain
+abbrev pub pair : Domain → Node → Node → Pair
+pair d n p = record { domain = d; root = root d; node = n; peer = p }
+
+abbrev pub taken_as : List ℕ → KeyMessage → Outcome → Taken
+taken_as octets k outcome = record { octets = octets; message = k; outcome = outcome }
+
+-- and nothing stands between
+abbrev pub reply_acts : Pair → Bool → Taken → Reply → List Act
+reply_acts w had t r = replied_acts w had t r (record { opened = []; put = [] })

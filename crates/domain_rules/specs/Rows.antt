@@ -25,6 +25,7 @@ use Rattle.domain_rules.specs.Verdict.{Knows, first_verdict, comes_so_far, verdi
 use Rattle.domain_rules.specs.AccessPointRows.{AssocReqRow, M2Row, M4Row, m2_seal, m4_seal, retry_acts}
 use Rattle.domain_rules.specs.Closing.{sender}
 use Rattle.domain_rules.specs.StationRows.{ConnectRow, AssocRespRow, M1Row, M3Row, RepeatedM3Row, m3_seal}
+use Rattle.domain_rules.specs.Here.{Here}
 
 -- what an event is to one node
 pub data NodeEvent : Type 0 where
@@ -35,8 +36,8 @@ pub data NodeEvent : Type 0 where
   -- an access point sends that station once more what it waits to have answered
   Retry : ℕ → NodeEvent
 
-pub record IgnoredRow (d : Domain) (first : ℕ) (n : Node) (h : List Act) (octets : List ℕ) (r : Reading) (facts : Facts) (g : List Act) : Type 0 where
-  pub ignored : verdict d first n h r facts ≡ Ignored
+pub record IgnoredRow (w : Here) (h : List Act) (octets : List ℕ) (r : Reading) (facts : Facts) (g : List Act) : Type 0 where
+  pub ignored : verdict w.domain w.first w.node h r facts ≡ Ignored
   pub says : g ≡ Took None octets kind.Ignored Ignored None ∷ []
 
 -- M1 has no MIC, and no message of the group key handshake is awaited
@@ -60,37 +61,37 @@ abbrev pub response : Domain → Node → Option Node → Kind → Reason → Li
 response d (Ap a) (Some p) kind.AssocReq (reason.Status code) = sent_refusal d (Ap a) p code ∷ []
 response d n from k _ = []
 
-pub record RefusedRow (d : Domain) (first : ℕ) (n : Node) (h : List Act) (octets : List ℕ) (r : Reading) (facts : Facts) (g : List Act) : Type 0 where
+pub record RefusedRow (w : Here) (h : List Act) (octets : List ℕ) (r : Reading) (facts : Facts) (g : List Act) : Type 0 where
   pub why : Reason
-  pub refused : verdict d first n h r facts ≡ Refused why
-  pub says : g ≡ Took (sender d n r) octets (kind_of r) (Refused why) (refused_seal d first n h r)
-      ∷ response d n (sender d n r) (kind_of r) why
+  pub refused : verdict w.domain w.first w.node h r facts ≡ Refused why
+  pub says : g ≡ Took (sender w.domain w.node r) octets (kind_of r) (Refused why) (refused_seal w.domain w.first w.node h r)
+      ∷ response w.domain w.node (sender w.domain w.node r) (kind_of r) why
 
 -- which of the rows it is
-pub data TakeRows (d : Domain) (first : ℕ) (n : Node) (h : List Act) (octets : List ℕ) (r : Reading) (facts : Facts) (g : List Act) : Type 0 where
-  By_assoc_req : AssocReqRow d first n h octets r facts g → TakeRows d first n h octets r facts g
-  By_assoc_resp : AssocRespRow d first n h octets r facts g → TakeRows d first n h octets r facts g
-  By_m1 : M1Row d first n h octets r facts g → TakeRows d first n h octets r facts g
-  By_m2 : M2Row d first n h octets r facts g → TakeRows d first n h octets r facts g
-  By_m3 : M3Row d first n h octets r facts g → TakeRows d first n h octets r facts g
-  By_repeated_m3 : RepeatedM3Row d first n h octets r facts g → TakeRows d first n h octets r facts g
-  By_m4 : M4Row d first n h octets r facts g → TakeRows d first n h octets r facts g
-  By_ignored : IgnoredRow d first n h octets r facts g → TakeRows d first n h octets r facts g
-  By_refusal : RefusedRow d first n h octets r facts g → TakeRows d first n h octets r facts g
+pub data TakeRows (w : Here) (h : List Act) (octets : List ℕ) (r : Reading) (facts : Facts) (g : List Act) : Type 0 where
+  By_assoc_req : AssocReqRow w h octets r facts g → TakeRows w h octets r facts g
+  By_assoc_resp : AssocRespRow w h octets r facts g → TakeRows w h octets r facts g
+  By_m1 : M1Row w h octets r facts g → TakeRows w h octets r facts g
+  By_m2 : M2Row w h octets r facts g → TakeRows w h octets r facts g
+  By_m3 : M3Row w h octets r facts g → TakeRows w h octets r facts g
+  By_repeated_m3 : RepeatedM3Row w h octets r facts g → TakeRows w h octets r facts g
+  By_m4 : M4Row w h octets r facts g → TakeRows w h octets r facts g
+  By_ignored : IgnoredRow w h octets r facts g → TakeRows w h octets r facts g
+  By_refusal : RefusedRow w h octets r facts g → TakeRows w h octets r facts g
 
 -- octets come, as they read
-pub record TakeRow (d : Domain) (first : ℕ) (n : Node) (h : List Act) (octets : List ℕ) (g : List Act) : Type 0 where
+pub record TakeRow (w : Here) (h : List Act) (octets : List ℕ) (g : List Act) : Type 0 where
   pub r : Reading
-  pub reads : Reads d.akm octets r
+  pub reads : Reads w.domain.akm octets r
   pub facts : Facts
-  pub knows : Knows d first n h r facts
-  pub row : TakeRows d first n h octets r facts g
+  pub knows : Knows w.domain w.first w.node h r facts
+  pub row : TakeRows w h octets r facts g
 
 -- The event adds these acts, in order, to that history of node n, which began to draw at number `first`.
-abbrev pub Adds : Domain → ℕ → Node → List Act → NodeEvent → List Act → Type 0
-Adds d first n h (Take octets) g = TakeRow d first n h octets g
-Adds d first n h (Begin a) g = ConnectRow d first n h (Ap a) g
-Adds d first n h (Retry s) g = g ≡ retry_acts d n h (Sta s) (attempt (Sta s) h)
+abbrev pub Adds : Here → List Act → NodeEvent → List Act → Type 0
+Adds w h (Take octets) g = TakeRow w h octets g
+Adds w h (Begin a) g = ConnectRow w h (Ap a) g
+Adds w h (Retry s) g = g ≡ retry_acts w.domain w.node h (Sta s) (attempt (Sta s) h)
 
 -- what came of the event, by the acts that it added
 abbrev pub outcome_of : List Act → Outcome

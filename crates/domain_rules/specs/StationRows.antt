@@ -20,7 +20,7 @@ use Rattle.run_journal.specs.declared.acts.Act.{Act}
 use Rattle.run_journal.specs.declared.acts.Act.TheVariants.{Opened, Drew, Derived, Took, Installed, Finished, Idle}
 use Rattle.run_journal.specs.Questions.{attempt, pending, associated, draws}
 use Rattle.run_journal.specs.Acts.{GroupKey}
-use Rattle.domain_rules.specs.Network.{mac, root, inputs, last_draw}
+use Rattle.domain_rules.specs.Network.{mac, root, inputs, draw_end}
 use Rattle.domain_rules.specs.Reading.{Management, KeyMessage, Reading, Managed, Keyed}
 use Rattle.domain_rules.specs.Frames.{sent_assoc_req, sent_m2, sent_m4, frame_seal, keyed_by}
 use Rattle.domain_rules.specs.Facts.{Facts}
@@ -30,6 +30,7 @@ use Rattle.domain_rules.specs.Asking.{own}
 use Rattle.domain_rules.specs.GroupKeys.{give}
 use Rattle.run_journal.specs.GroupKinds as groups
 use Rattle.domain_rules.specs.Closing.{close_pending, close_associated, next_nonce, sender}
+use Rattle.domain_rules.specs.Here.{Here}
 
 -- a station drops what it has and asks the access point for association
 abbrev pub connect_acts : Domain → ℕ → Node → List Act → Node → List Act
@@ -37,34 +38,34 @@ connect_acts d first n h p =
     close_pending (pending h) ++ close_associated (associated h)
     ++ Opened p Connect ∷ Drew (Nonce (next_nonce d first n h)) ∷ sent_assoc_req d n p ∷ []
 
-pub data ConnectRow (d : Domain) (first : ℕ) (n : Node) (h : List Act) (p : Node) (g : List Act) : Type 0 where
-  Spent : last_draw ≤ first + draws h → g ≡ Idle why.Spent ∷ [] → ConnectRow d first n h p g
-  Asks : first + draws h < last_draw → g ≡ connect_acts d first n h p → ConnectRow d first n h p g
+pub data ConnectRow (w : Here) (h : List Act) (p : Node) (g : List Act) : Type 0 where
+  Spent : draw_end ≤ w.first + draws h → g ≡ Idle why.Spent ∷ [] → ConnectRow w h p g
+  Asks : w.first + draws h < draw_end → g ≡ connect_acts w.domain w.first w.node h p → ConnectRow w h p g
 
 -- a station accepts an association response
-pub record AssocRespRow (d : Domain) (first : ℕ) (n : Node) (h : List Act) (octets : List ℕ) (r : Reading) (facts : Facts) (g : List Act) : Type 0 where
+pub record AssocRespRow (w : Here) (h : List Act) (octets : List ℕ) (r : Reading) (facts : Facts) (g : List Act) : Type 0 where
   pub b : Management
   pub e : ElementFields
   pub is : r ≡ Managed b e
   pub kind_is : b.kind ≡ kind.AssocResp
   pub p : Node
-  pub from : sender d n r ≡ Some p
-  pub accepted : verdict d first n h r facts ≡ Accepted
+  pub from : sender w.domain w.node r ≡ Some p
+  pub accepted : verdict w.domain w.first w.node h r facts ≡ Accepted
   pub says : g ≡ Took (Some p) octets kind.AssocResp Accepted None ∷ []
 
 -- a station derives a key by M1 and answers with M2
-pub record M1Row (d : Domain) (first : ℕ) (n : Node) (h : List Act) (octets : List ℕ) (r : Reading) (facts : Facts) (g : List Act) : Type 0 where
+pub record M1Row (w : Here) (h : List Act) (octets : List ℕ) (r : Reading) (facts : Facts) (g : List Act) : Type 0 where
   pub k : KeyMessage
   pub is : r ≡ Keyed k
   pub message_is : k.message ≡ M1
   pub p : Node
-  pub from : sender d n r ≡ Some p
-  pub accepted : verdict d first n h r facts ≡ Accepted
+  pub from : sender w.domain w.node r ≡ Some p
+  pub accepted : verdict w.domain w.first w.node h r facts ≡ Accepted
   pub part : List Act
   pub awaited : attempt p h ≡ Some part
   pub i : Inputs
-  pub inputs_are : i ≡ inputs d (root d) n p (own part) k.fields.nonce
-  pub says : g ≡ Took (Some p) octets (kind.Key M1) Accepted None ∷ Derived p i (ptk i) ∷ sent_m2 d n p (keyed_by i) k.fields.counter ∷ []
+  pub inputs_are : i ≡ inputs w.domain (root w.domain) w.node p (own part) k.fields.nonce
+  pub says : g ≡ Took (Some p) octets (kind.Key M1) Accepted None ∷ Derived p i (ptk i) ∷ sent_m2 w.domain w.node p (keyed_by i) k.fields.counter ∷ []
 
 abbrev pub carried_in : Option GtkKdeFields → GroupKey
 carried_in None = record { key = []; id = 0 }
@@ -76,29 +77,29 @@ carried None = record { key = []; id = 0 }
 carried (Some e) = carried_in e.gtk
 
 -- a station installs the pairwise key by M3, and the group key, and answers with M4
-pub record M3Row (d : Domain) (first : ℕ) (n : Node) (h : List Act) (octets : List ℕ) (r : Reading) (facts : Facts) (g : List Act) : Type 0 where
+pub record M3Row (w : Here) (h : List Act) (octets : List ℕ) (r : Reading) (facts : Facts) (g : List Act) : Type 0 where
   pub k : KeyMessage
   pub is : r ≡ Keyed k
   pub message_is : k.message ≡ M3
   pub p : Node
-  pub from : sender d n r ≡ Some p
-  pub accepted : verdict d first n h r facts ≡ Accepted
+  pub from : sender w.domain w.node r ≡ Some p
+  pub accepted : verdict w.domain w.first w.node h r facts ≡ Accepted
   pub y : Keying
   pub awaited : m3_keying p h ≡ Some y
   pub says : g ≡ Took (Some p) octets (kind.Key M3) Accepted (Some (frame_seal y.key.ptk.kck k.octets)) ∷ Installed (One p) (Pairwise y.key.ptk.tk y.key.inputs)
-      ∷ give groups.Gtk p (mac d p) (carried facts.data_) h ∷ Finished p y.key.inputs ∷ sent_m4 d n p y.key k.fields.counter ∷ []
+      ∷ give groups.Gtk p (mac w.domain p) (carried facts.data_) h ∷ Finished p y.key.inputs ∷ sent_m4 w.domain w.node p y.key k.fields.counter ∷ []
 
 -- in a session it answers again, and installs nothing
-pub record RepeatedM3Row (d : Domain) (first : ℕ) (n : Node) (h : List Act) (octets : List ℕ) (r : Reading) (facts : Facts) (g : List Act) : Type 0 where
+pub record RepeatedM3Row (w : Here) (h : List Act) (octets : List ℕ) (r : Reading) (facts : Facts) (g : List Act) : Type 0 where
   pub k : KeyMessage
   pub is : r ≡ Keyed k
   pub message_is : k.message ≡ M3
   pub p : Node
-  pub from : sender d n r ≡ Some p
-  pub answered : verdict d first n h r facts ≡ Answered
+  pub from : sender w.domain w.node r ≡ Some p
+  pub answered : verdict w.domain w.first w.node h r facts ≡ Answered
   pub y : Keying
   pub awaited : m3_keying p h ≡ Some y
-  pub says : g ≡ Took (Some p) octets (kind.Key M3) Answered (Some (frame_seal y.key.ptk.kck k.octets)) ∷ sent_m4 d n p y.key k.fields.counter ∷ []
+  pub says : g ≡ Took (Some p) octets (kind.Key M3) Answered (Some (frame_seal y.key.ptk.kck k.octets)) ∷ sent_m4 w.domain w.node p y.key k.fields.counter ∷ []
 
 abbrev pub m3_seal : List Act → KeyMessage → Node → Option Seal
 m3_seal h k p = option_map (λ (y : Keying). frame_seal y.key.ptk.kck k.octets) (m3_keying p h)

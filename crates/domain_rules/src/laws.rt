@@ -25,6 +25,7 @@ ghost use Rattle.domain_rules.specs.Closing.{sender};
 ghost use Rattle.domain_rules.specs.Ended.{EndsRightly};
 ghost use Rattle.domain_rules.specs.Explained.{Explained};
 ghost use Rattle.domain_rules.specs.Example.{small, AreWhole, HasHandshake};
+ghost use Rattle.domain_rules.specs.Here.{here};
 
 /// Octets are one thing to a node at most, and so one outcome comes of them, by the history of the node alone.
 pub fn one_reading()
@@ -38,13 +39,13 @@ pub fn one_reading()
 /// attempt and each repeat, there is one.
 pub fn one_group()
     ensures one { (d : Domain) (first : ℕ) (n : Node) (h : List Act) (event : NodeEvent) (f g : List Act)
-        → Adds d first n h event f → Adds d first n h event g → f ≡ g }
+        → Adds (here d first n) h event f → Adds (here d first n) h event g → f ≡ g }
     ensures taken { (d : Domain) (first : ℕ) (n : Node) (h : List Act) (octets : List ℕ) (r : Reading) (facts : Facts)
-        → Reads d.akm octets r → Knows d first n h r facts → (g : List Act) × Adds d first n h (Take octets) g }
+        → Reads d.akm octets r → Knows d first n h r facts → (g : List Act) × Adds (here d first n) h (Take octets) g }
     ensures begun { (d : Domain) (first : ℕ) (n : Node) (h : List Act) (a : ℕ)
-        → (g : List Act) × Adds d first n h (Begin a) g }
+        → (g : List Act) × Adds (here d first n) h (Begin a) g }
     ensures again { (d : Domain) (first : ℕ) (n : Node) (h : List Act) (s : ℕ)
-        → (g : List Act) × Adds d first n h (Retry s) g }
+        → (g : List Act) × Adds (here d first n) h (Retry s) g }
 {}
 
 /// A node notes what a frame had sealed where the MIC of the frame verified, and there alone. Whatever its history, a seal is noted
@@ -53,10 +54,10 @@ pub fn one_group()
 pub fn seals_are_verified()
     ensures verified { (d : Domain) (first : ℕ) (n : Node) (h : List Act) (event : NodeEvent) (g : List Act)
         (from : Option Node) (octets : List ℕ) (k : Kind) (o : Outcome) (s : Seal)
-        → Adds d first n h event g → In (Took from octets k o (Some s)) g
+        → Adds (here d first n) h event g → In (Took from octets k o (Some s)) g
         → (event ≡ Take octets) × IsVerified d.akm octets s }
     ensures noted { (d : Domain) (first : ℕ) (n : Node) (h : List Act) (octets : List ℕ) (r : Reading) (facts : Facts) (g : List Act)
-        → Reads d.akm octets r → Knows d first n h r facts → Adds d first n h (Take octets) g
+        → Reads d.akm octets r → Knows d first n h r facts → Adds (here d first n) h (Take octets) g
         → is_past_mic (first_verdict d first n h r) (kind_of r) ≡ true
         → (s : Seal) × In (Took (sender d n r) octets (kind_of r) (verdict d first n h r facts) (Some s)) g }
 {}
@@ -70,7 +71,7 @@ pub fn one_journal()
 /// no frame that was made without the key ends one.
 pub fn sessions_end_by_a_key()
     ensures { (d : Domain) (first : ℕ) (n : Node) (h : List Act) (event : NodeEvent) (g : List Act) (p : Node)
-        → Adds d first n h event g → In (Closed p Session) g → EndsRightly d event g p }
+        → Adds (here d first n) h event g → In (Closed p Session) g → EndsRightly d event g p }
 {}
 
 /// The definitions are not about nothing: by them, in every network in form with suite 2 or 6, any station asks any access

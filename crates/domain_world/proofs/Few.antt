@@ -26,6 +26,7 @@ use Rattle.domain_rules.specs.Rows.{NodeEvent, Take, Begin, Retry, Adds, respons
 use Rattle.domain_rules.specs.AccessPointRows.{again_or_give_up, most_sends, m3_again, retry_attempt, retry_acts}
 use Rattle.domain_rules.specs.Closing.{close_session, close_attempt, close_pending, close_associated, sender}
 use Rattle.domain_rules.specs.StationRows.{ConnectRow, Spent, Asks}
+use Rattle.domain_rules.specs.Here.{here}
 
 short_attempt : (p : Node) (part : Option (List Act)) → length (close_attempt p part) ≤ 1
 short_attempt p None = omega arith
@@ -72,7 +73,7 @@ short_response : (d : Domain) (n : Node) (from : Option Node) (k : Kind) (why : 
 short_response d (Ap a) (Some p) kind.AssocReq (reason.Status code) = omega arith
 short_response d n from k _ = omega arith
 
-few_rows : (d : Domain) (first : ℕ) (n : Node) (h : List Act) (octets : List ℕ) (r : Reading) (facts : Facts) (g : List Act) → TakeRows d first n h octets r facts g → length g ≤ 8
+few_rows : (d : Domain) (first : ℕ) (n : Node) (h : List Act) (octets : List ℕ) (r : Reading) (facts : Facts) (g : List Act) → TakeRows (here d first n) h octets r facts g → length g ≤ 8
 few_rows d first n h octets r facts g (By_assoc_req row) = let long = simp length-append at (ap length row.says) in omega (arith, long, short_attempt row.p (attempt row.p h))
 few_rows d first n h octets r facts g (By_assoc_resp row) = omega (arith, ap length row.says)
 few_rows d first n h octets r facts g (By_m1 row) = omega (arith, ap length row.says)
@@ -83,12 +84,12 @@ few_rows d first n h octets r facts g (By_m4 row) = let long = simp length-appen
 few_rows d first n h octets r facts g (By_ignored row) = omega (arith, ap length row.says)
 few_rows d first n h octets r facts g (By_refusal row) = omega (arith, ap length row.says, short_response d n (sender d n r) (kind_of r) row.why)
 
-few_connect : (d : Domain) (first : ℕ) (n : Node) (h : List Act) (p : Node) (g : List Act) → ConnectRow d first n h p g → length g ≤ 8
+few_connect : (d : Domain) (first : ℕ) (n : Node) (h : List Act) (p : Node) (g : List Act) → ConnectRow (here d first n) h p g → length g ≤ 8
 few_connect d first n h p g (Spent spent says) = omega (arith, ap length says)
 few_connect d first n h p g (Asks asks says) = let long = simp length-append at (ap length says) in omega (arith, long, short_pending (pending h), short_associated (associated h))
 
 -- at most 8
-pub few : (d : Domain) (first : ℕ) (n : Node) (h : List Act) (event : NodeEvent) (g : List Act) → Adds d first n h event g → length g ≤ 8
+pub few : (d : Domain) (first : ℕ) (n : Node) (h : List Act) (event : NodeEvent) (g : List Act) → Adds (here d first n) h event g → length g ≤ 8
 few d first n h (Take octets) g adds = few_rows d first n h octets adds.r adds.facts g adds.row
 few d first n h (Begin a) g adds = few_connect d first n h (Ap a) g adds
 few d first n h (Retry s) g adds = omega (arith, ap length adds, short_retry d n h (Sta s) (attempt (Sta s) h))

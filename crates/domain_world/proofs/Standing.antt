@@ -19,7 +19,7 @@ use Rattle.station_node.specs.State.{State as StationState}
 use Rattle.station_node.specs.Stands.{Stands as StationStands}
 use Rattle.ap_node.specs.State.{State as ApState}
 use Rattle.ap_node.specs.Stands.{Stands as ApStands}
-use Rattle.node_frames.specs.Growing.{Grows}
+use Rattle.node_base.specs.Growing.{Grows}
 use Rattle.station_node.proofs.Growing.{grown as station_grown}
 use Rattle.ap_node.proofs.Growing.{grown as ap_grown}
 use Rattle.domain_base.specs.declared.names.Mac.{Mac}

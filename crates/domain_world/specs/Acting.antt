@@ -8,12 +8,13 @@ use Rattle.run_journal.specs.declared.acts.Entry.{Entry}
 use Rattle.run_journal.specs.Questions.{history}
 use Rattle.domain_rules.specs.Rows.{NodeEvent, Adds}
 use Rattle.domain_rules.specs.Explained.{push, altered, WasSent}
+use Rattle.domain_rules.specs.Here.{here}
 use Rattle.domain_world.specs.State.{Nodes}
 use Rattle.domain_world.specs.Owning.{Stand}
 
 -- after that journal the node does these acts, and the nodes stand for the journal with them
 pub record Acted (node : Node) (event : NodeEvent) (j : List Entry) (old new : Nodes) (acts : List Act) : Type 0 where
-  pub adds : Adds old.domain 0 node (history node j) event acts
+  pub adds : Adds (here old.domain 0 node) (history node j) event acts
   pub stand : (round : ℕ) → Stand new (push round node acts j)
 
 -- these are the octets of the frame of that number with one changed

@@ -5,8 +5,8 @@ ghost use Rattle.run_journal.specs.Acts.{is_sent};
 ghost use Rattle.domain_rules.specs.Explained.{number_of, push};
 ghost use Rattle.domain_world.specs.Owning.{places};
 
+use act_memory::Outbox;
 use domain_base::Node;
-use node_frames::Outbox;
 use run_journal::{Act, Entry, Journal};
 
 // The number of an act that is journaled at that place. The place of a frame is noted.
@@ -19,9 +19,7 @@ fn number(act: &Act, place: usize, frames: &mut Vec<usize>) -> u64
 {
     match act {
         Act::Sent { .. } => {
-            if frames.push(place).is_err() {
-                unreachable!()
-            }
+            frames.push_reserved(place);
             frames.len() as u64
         }
         _ => 0,

@@ -9,13 +9,14 @@ ghost use Rattle.run_journal.specs.Questions.{history};
 ghost use Rattle.domain_rules.specs.Network.{InForm, IsListed};
 ghost use Rattle.domain_rules.specs.AccessPointRows.{start_acts};
 ghost use Rattle.domain_rules.specs.Explained.{push};
-ghost use Rattle.node_frames.specs.Events.{event_of, IsEventAt};
+ghost use Rattle.node_base.specs.Events.{event_of, IsEventAt};
 ghost use Rattle.run_journal.specs.Listing.{with_ap, with_sta};
 ghost use Rattle.domain_world.specs.State.{Nodes as AllNodes};
 
+use act_memory::Outbox;
 use ap_node::ApNode;
 use domain_base::{Mac, NoMemory, Node, Octets};
-use node_frames::{NodeEvent, Outbox};
+use node_base::NodeEvent;
 use run_journal::{Aps, Domain, ListedAp, Stas};
 use station_node::StationNode;
 use std::alloc::Global;
@@ -124,9 +125,7 @@ impl Nodes {
         list_ap(&mut self.domain.aps, ListedAp { address, r0kh_id })?;
         match ApNode::start(alloc, &self.domain, number, 0, out) {
             Ok(node) => {
-                if self.aps.push(node).is_err() {
-                    unreachable!()
-                }
+                self.aps.push_reserved(node);
                 Ok(Node::Ap(number))
             }
             Err(error) => {
@@ -148,13 +147,8 @@ impl Nodes {
         let number = self.stas.len() as u16;
         self.stas.reserve(1)?;
         list_station(&mut self.domain.stas, address)?;
-        if self
-            .stas
-            .push(StationNode::start(alloc, number, 0))
-            .is_err()
-        {
-            unreachable!()
-        }
+        let station = StationNode::start(alloc, number, 0);
+        self.stas.push_reserved(station);
         Ok(())
     }
 

@@ -5,13 +5,14 @@ ghost use Rattle.domain_base.specs.declared.names.Akm.{Akm as AnyAkm};
 ghost use Rattle.run_journal.specs.declared.acts.Entry.{Entry};
 ghost use Rattle.domain_rules.specs.Network.{InForm, IsListed};
 ghost use Rattle.domain_rules.specs.Explained.{HappensAt, Step, WasSent, started};
-ghost use Rattle.node_frames.specs.Events.{event_of, IsEventAt};
+ghost use Rattle.node_base.specs.Events.{event_of, IsEventAt};
 ghost use Rattle.run_journal.specs.Listing.{with_ap, with_sta};
 
 use crate::journaling::journal_acts;
 use crate::nodes::Nodes;
+use act_memory::Outbox;
 use domain_base::{Mac, NoMemory, Node, Octets};
-use node_frames::{NodeEvent, Outbox};
+use node_base::NodeEvent;
 use run_journal::{Act, Domain, Event, Journal};
 use std::alloc::Global;
 use std::marker::Model;

@@ -4,6 +4,7 @@
 
 mod frame;
 mod laws;
+mod layout;
 mod messages;
 mod reading;
 mod sealing;
@@ -16,6 +17,7 @@ pub use laws::{
     frame_or_fault, front_decides, mic_alone_changes, one_frame, one_message, read_as_written,
     sealed_octets, sealed_verifies, sent_is_message, spelled_as_written,
 };
+pub use layout::{KEY_DATA_AT, KEY_DATA_LEN_AT, MIC_AT, MIC_LEN};
 pub use messages::{Message, classify};
 pub use reading::read;
 pub use sealing::{seal, verify};

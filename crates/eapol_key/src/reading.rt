@@ -6,15 +6,14 @@ ghost use Rattle.eapol_key.specs.Fields.{fields_of, IsKeyFrame};
 ghost use Rattle.eapol_key.specs.KeyFrame.{KeyFields, SpellsKeyFrame, key_frame_fault};
 
 use crate::frame::{FaultKind, FrameFault, KeyFrame};
+use crate::layout::{KEY_DATA_AT, KEY_DATA_LEN_AT, MIC_AT};
 use domain_base::{array_at, big_u16_at};
 
 // The octets of the EAPOL header, whose last two are the length of the body.
 const HEADER_LEN: usize = 4;
 
-// The least length of a body, and where its key data begins in the frame.
-const LEAST_BODY: usize = 95;
-
-const KEY_DATA_AT: usize = 99;
+// The least length of a body: that of its fixed fields.
+const LEAST_BODY: usize = KEY_DATA_AT - HEADER_LEN;
 
 fn fault_at(place: usize, kind: FaultKind) -> Option<FrameFault>
     ensures { result ≡ Some (record { place = place; kind = kind }) }
@@ -32,8 +31,8 @@ fn body_fault(octets: &[u8]) -> Option<FrameFault>
         fault_at(2, FaultKind::BodyLength)
     } else if octets[4] != 2 {
         fault_at(4, FaultKind::Descriptor)
-    } else if usize::from(big_u16_at(octets, 97)) + LEAST_BODY != body {
-        fault_at(97, FaultKind::KeyDataLength)
+    } else if usize::from(big_u16_at(octets, KEY_DATA_LEN_AT)) + LEAST_BODY != body {
+        fault_at(KEY_DATA_LEN_AT, FaultKind::KeyDataLength)
     } else {
         None
     }
@@ -82,7 +81,7 @@ pub fn read(octets: &[u8]) -> Result<(KeyFrame<'_>, usize), FrameFault>
         iv: array_at::<16>(octets, 49),
         rsc: array_at::<8>(octets, 65),
         reserved: array_at::<8>(octets, 73),
-        mic: array_at::<16>(octets, 81),
+        mic: array_at::<16>(octets, MIC_AT),
         key_data,
         octets: whole,
     };

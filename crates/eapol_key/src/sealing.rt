@@ -6,6 +6,7 @@ ghost use Rattle.eapol_key.specs.Fields.{IsKeyFrame};
 ghost use Rattle.eapol_key.specs.Sealed.{sealed};
 
 use crate::frame::KeyFrame;
+use crate::layout::{MIC_AT, MIC_LEN};
 use domain_base::Akm;
 use mac_prf::mic;
 
@@ -16,7 +17,7 @@ pub fn seal(akm: Akm, kck: &[u8; 16], frame: &mut [u8])
     ensures { frame.new ≡ sealed akm kck.now frame.old }
 {
     let code = mic(akm, kck, frame);
-    frame[81..97].copy_from_slice(&code);
+    frame[MIC_AT..MIC_AT + MIC_LEN].copy_from_slice(&code);
 }
 
 /// Whether a frame that octets spell carries the MIC that the AKM and KCK give it

@@ -5,3 +5,4 @@ pub mod Taking
 pub mod Injected
 pub mod Seeing
 pub mod Feeding
+pub mod Numbering

@@ -1,8 +1,8 @@
 -- A line that is taken, by its exits.
 use Rattle.std.proofs.Common.{◌≡◌, ◌≢◌, ℕ, true, false, List, Result, Ok, Err, refl, sym, subst}
 use Rattle.run_journal.specs.declared.domain.Domain.{Domain}
-use Rattle.frame_script.specs.declared.reader.LineFault.{LineFault}
-use Rattle.frame_script.specs.declared.reader.LineFault.TheVariants as answered
+use Rattle.frame_script.specs.declared.refusal.Untaken.{Untaken}
+use Rattle.frame_script.specs.declared.refusal.Untaken.TheVariants as untaken
 use Rattle.frame_script.specs.declared.reader.Step.{Step}
 use Rattle.frame_script.specs.declared.reader.Step.TheVariants as step
 use Rattle.frame_script.specs.Script.{◌>>=◌, Fault, word_, Draft, AtVersion, AtSeed, AtSsid, AtPsk, AtAkm, AtNodes, Said, Goes, header_line, is_passed_over, line_says}
@@ -20,7 +20,7 @@ was_due old new word text says e is =
     let none : Err word_ ≡ Ok new = subst (λ (x : Draft). header_line x word text ≡ Ok new) is says in cc
 
 -- a line of the header
-pub header : (old new : Draft) (rounds : ℕ) (sizes word text : List ℕ) (answer : Result Step LineFault) → TakesHeader old new word text answer → Takes old new rounds sizes (header_line old word text >>= (λ next. Ok (Goes next))) answer
+pub header : (old new : Draft) (rounds : ℕ) (sizes word text : List ℕ) (answer : Result Step Untaken) → TakesHeader old new word text answer → Takes old new rounds sizes (header_line old word text >>= (λ next. Ok (Goes next))) answer
 header old new rounds sizes word text (Ok step.Nothing) t = went old new rounds sizes _ (rw t.0 refl) t.1
 header old new rounds sizes word text (Ok step.Network) t =
     let goes : (header_line old word text >>= (λ next. Ok (Goes next))) ≡ Ok (Goes new) = rw t.1.0 refl in
@@ -28,9 +28,8 @@ header old new rounds sizes word text (Ok step.Network) t =
 header old new rounds sizes word text (Ok (step.Ap address r0kh_id)) t = absurd t
 header old new rounds sizes word text (Ok (step.Sta address)) t = absurd t
 header old new rounds sizes word text (Ok (step.Event event)) t = absurd t
-header old new rounds sizes word text (Err (answered.Script reason)) t = (rw t.0 refl, t.1)
-header old new rounds sizes word text (Err (answered.Limit limit)) t = (rw t.0 refl, t.1)
-header old new rounds sizes word text (Err answered.NoMemory) t = t
+header old new rounds sizes word text (Err (untaken.Refused refusal)) t = (rw t.0 refl, t.1)
+header old new rounds sizes word text (Err untaken.NoMemory) t = t
 
 -- a line that is passed over
 pub passed : (draft : Draft) (rounds : ℕ) (sizes line : List ℕ) → draft ≢ AtVersion → is_passed_over line ≡ true → Takes draft draft rounds sizes (line_says draft rounds sizes line) (Ok step.Nothing)
@@ -52,7 +51,7 @@ by_words (AtPsk seed ssid) rounds sizes line word text later e is = rw (e, is) r
 by_words (AtAkm seed ssid psk) rounds sizes line word text later e is = rw (e, is) refl
 by_words (AtNodes d) rounds sizes line word text later e is = rw (e, is) refl
 
-pub worded : (draft new : Draft) (rounds : ℕ) (sizes line word text : List ℕ) (answer : Result Step LineFault) → draft ≢ AtVersion → is_passed_over line ≡ false → first_word line ≡ (word, text)
+pub worded : (draft new : Draft) (rounds : ℕ) (sizes line word text : List ℕ) (answer : Result Step Untaken) → draft ≢ AtVersion → is_passed_over line ≡ false → first_word line ≡ (word, text)
     → Takes draft new rounds sizes (words_say draft rounds sizes word text) answer → Takes draft new rounds sizes (line_says draft rounds sizes line) answer
 worded draft new rounds sizes line word text answer later e is t =
     let same = by_words draft rounds sizes line word text later e is in

@@ -14,8 +14,11 @@ use Rattle.run_journal.specs.declared.acts.Act.TheVariants.{Sent}
 use Rattle.run_journal.specs.declared.acts.Entry.{Entry}
 use Rattle.frame_script.specs.declared.reader.LineFault.{LineFault}
 use Rattle.frame_script.specs.declared.reader.LineFault.TheVariants as answered
+use Rattle.frame_script.specs.declared.refusal.Untaken.{Untaken}
+use Rattle.frame_script.specs.declared.refusal.Untaken.TheVariants.{Refused, NoMemory}
 use Rattle.frame_script.specs.declared.reader.Step.{Step}
 use Rattle.frame_script.specs.declared.reader.Step.TheVariants as step
+use Rattle.frame_script.specs.Refusals.{fault_of}
 use Rattle.frame_script.specs.Script.{Fault, Outside, Past, Draft, AtNodes, Said, Goes, ListsAp, ListsSta, Asks, line_says, said_after, rounds_after, is_single, size_of}
 
 -- ---- a reader
@@ -112,11 +115,22 @@ TakesStep old new rounds sizes says (step.Ap a id) = (d : Domain) × ((says ≡ 
 TakesStep old new rounds sizes says (step.Sta a) = (d : Domain) × ((says ≡ Ok (ListsSta a)) × ((old ≡ AtNodes d) × (CanListSta d a × (rounds ≡ 0))))
 TakesStep old new rounds sizes says (step.Event e) = (d : Domain) × ((says ≡ Ok (Asks e)) × ((old ≡ AtNodes d) × (CanHappen d sizes e × (length sizes ≤ 65535))))
 
--- the line is taken, and what it says is said now; or it is refused for its fault, and nothing is said by it
-abbrev pub TakesLine : Reading → Reading → List ℕ → List ℕ → Result Step LineFault → Type 0
-TakesLine old new sizes line (Ok s) =
+-- the line is taken, and what it says is said now
+abbrev pub HasRead : Reading → Reading → List ℕ → List ℕ → Step → Type 0
+HasRead old new sizes line s =
     (said : Said) × ((line_says old.draft old.rounds sizes line ≡ Ok said) × ((new.draft ≡ said_after old.draft said)
     × ((new.rounds ≡ rounds_after old.rounds said) × TakesStep old.draft new.draft old.rounds sizes (line_says old.draft old.rounds sizes line) s)))
+
+-- or it is refused for its fault, and nothing is said by it
+abbrev pub ReadsLine : Reading → Reading → List ℕ → List ℕ → Result Step Untaken → Type 0
+ReadsLine old new sizes line (Ok s) = HasRead old new sizes line s
+ReadsLine old new sizes line (Err (Refused refusal)) =
+    (line_says old.draft old.rounds sizes line ≡ Err (fault_of refusal)) × ((new.draft ≡ old.draft) × (new.rounds ≡ old.rounds))
+ReadsLine old new sizes line (Err NoMemory) = (new.draft ≡ old.draft) × (new.rounds ≡ old.rounds)
+
+-- the same by numbers
+abbrev pub TakesLine : Reading → Reading → List ℕ → List ℕ → Result Step LineFault → Type 0
+TakesLine old new sizes line (Ok s) = HasRead old new sizes line s
 TakesLine old new sizes line (Err (answered.Script reason)) = (line_says old.draft old.rounds sizes line ≡ Err (Outside reason)) × ((new.draft ≡ old.draft) × (new.rounds ≡ old.rounds))
 TakesLine old new sizes line (Err (answered.Limit limit)) = (line_says old.draft old.rounds sizes line ≡ Err (Past limit)) × ((new.draft ≡ old.draft) × (new.rounds ≡ old.rounds))
 TakesLine old new sizes line (Err answered.NoMemory) = (new.draft ≡ old.draft) × (new.rounds ≡ old.rounds)

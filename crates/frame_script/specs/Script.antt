@@ -48,7 +48,14 @@ duplicate = Outside 8
 abbrev pub mode : Fault
 mode = Outside 9
 
--- the limits: octets of an injected frame; frames sent before the line of an event; access points; stations
+-- the limits: lines of a script; octets of a line; octets of an injected frame; frames sent before the line of an event; access
+-- points; stations
+abbrev pub many_lines : Fault
+many_lines = Past 1
+
+abbrev pub long_line : Fault
+long_line = Past 2
+
 abbrev pub long_frame : Fault
 long_frame = Past 3
 

@@ -3,12 +3,11 @@ use Rattle.std.specs.Prelude.{◌≡◌, ℕ, suc, ◌≤◌, ◌&&◌, Bool, tr
 use Rattle.run_journal.specs.declared.domain.Domain.{Domain}
 use Rattle.run_journal.specs.declared.domain.Event.{Event}
 use Rattle.run_journal.specs.declared.domain.Event.TheVariants.{Inject}
-use Rattle.frame_script.specs.declared.reader.LineFault.{LineFault}
-use Rattle.frame_script.specs.declared.reader.LineFault.TheVariants as answered
 use Rattle.frame_script.specs.declared.reader.Step.{Step}
 use Rattle.frame_script.specs.declared.reader.Step.TheVariants as step
 use Rattle.frame_script.specs.declared.refusal.Refusal.{Refusal}
-use Rattle.frame_script.specs.declared.refusal.Refusal.TheVariants.{Version, Word, Arguments, Node, Frame, Place, Duplicate, Mode, LongFrame, ManyFrames, ManyAps, ManyStas}
+use Rattle.frame_script.specs.declared.refusal.Untaken.{Untaken}
+use Rattle.frame_script.specs.declared.refusal.Untaken.TheVariants as untaken
 use Rattle.frame_script.specs.declared.header.Due.{Due}
 use Rattle.frame_script.specs.declared.header.Due.TheVariants.{Nodes}
 use Rattle.frame_script.specs.declared.tokens.NodeName.{NodeName}
@@ -18,29 +17,10 @@ use Rattle.frame_script.specs.declared.events.Asked.TheVariants as asked
 use Rattle.frame_script.specs.declared.body.Sentence.{Sentence}
 use Rattle.frame_script.specs.declared.body.Sentence.TheVariants as says
 use Rattle.frame_script.specs.Due.{is_fit}
+use Rattle.frame_script.specs.Refusals.{fault_of}
 use Rattle.frame_script.specs.Tokens.{NodeWord, named, hex_value}
-use Rattle.frame_script.specs.Script.{Fault, Outside, Past, version_, word_, arguments, node_, frame_, place_, duplicate, mode, long_frame, many_frames, many_aps, many_stas, ◌>>=◌, Draft, AtVersion, AtNodes, Said, Goes, ListsAp, ListsSta, Asks, header_line, body_line, said_after}
+use Rattle.frame_script.specs.Script.{Fault, ◌>>=◌, Draft, AtVersion, AtNodes, Said, Goes, ListsAp, ListsSta, Asks, header_line, body_line, said_after}
 use Rattle.frame_script.specs.Headers.{Reading, CanListAp, CanListSta, CanHappen, IsHeaderStep, IsListedIn, IsNetwork, TakesStep}
-
--- ---- why a line is refused
-
-abbrev pub fault_of : Refusal → Fault
-fault_of Version = version_
-fault_of Word = word_
-fault_of Arguments = arguments
-fault_of Node = node_
-fault_of Frame = frame_
-fault_of Place = place_
-fault_of Duplicate = duplicate
-fault_of Mode = mode
-fault_of LongFrame = long_frame
-fault_of ManyFrames = many_frames
-fault_of ManyAps = many_aps
-fault_of ManyStas = many_stas
-
-abbrev pub answer_of : Fault → LineFault
-answer_of (Outside reason) = answered.Script reason
-answer_of (Past limit) = answered.Limit limit
 
 -- what is found is what is meant
 abbrev pub TellsBy : {A B : Type 0} → (A → B) → Result A Refusal → Result B Fault → Type 0
@@ -95,11 +75,10 @@ IsKept due = IsTrue (is_fit due) × IsTrue (is_counted due)
 -- ---- a line that is taken
 
 -- what was said is taken, or refused for its fault
-abbrev pub Takes : Draft → Draft → ℕ → List ℕ → Result Said Fault → Result Step LineFault → Type 0
+abbrev pub Takes : Draft → Draft → ℕ → List ℕ → Result Said Fault → Result Step Untaken → Type 0
 Takes old new rounds sizes meant (Ok s) = (said : Said) × ((meant ≡ Ok said) × ((new ≡ said_after old said) × TakesStep old new rounds sizes meant s))
-Takes old new rounds sizes meant (Err (answered.Script reason)) = (meant ≡ Err (Outside reason)) × (new ≡ old)
-Takes old new rounds sizes meant (Err (answered.Limit limit)) = (meant ≡ Err (Past limit)) × (new ≡ old)
-Takes old new rounds sizes meant (Err answered.NoMemory) = new ≡ old
+Takes old new rounds sizes meant (Err (untaken.Refused refusal)) = (meant ≡ Err (fault_of refusal)) × (new ≡ old)
+Takes old new rounds sizes meant (Err untaken.NoMemory) = new ≡ old
 
 -- what a line says that is not passed over, by its first word and what stands behind it
 abbrev pub words_say : Draft → ℕ → List ℕ → List ℕ → List ℕ → Result Said Fault
@@ -107,16 +86,15 @@ words_say (AtNodes d) rounds sizes word text = body_line d rounds sizes word tex
 words_say draft rounds sizes word text = header_line draft word text >>= (λ next. Ok (Goes next))
 
 -- a line of the header is
-abbrev pub TakesHeader : Draft → Draft → List ℕ → List ℕ → Result Step LineFault → Type 0
+abbrev pub TakesHeader : Draft → Draft → List ℕ → List ℕ → Result Step Untaken → Type 0
 TakesHeader old new word text (Ok step.Nothing) = (header_line old word text ≡ Ok new) × IsHeaderStep old new
 TakesHeader old new word text (Ok step.Network) = (d : Domain) × ((header_line old word text ≡ Ok new) × ((new ≡ AtNodes d) × IsNetwork d))
 TakesHeader old new word text (Ok _) = ⊥
-TakesHeader old new word text (Err (answered.Script reason)) = (header_line old word text ≡ Err (Outside reason)) × (new ≡ old)
-TakesHeader old new word text (Err (answered.Limit limit)) = (header_line old word text ≡ Err (Past limit)) × (new ≡ old)
-TakesHeader old new word text (Err answered.NoMemory) = new ≡ old
+TakesHeader old new word text (Err (untaken.Refused refusal)) = (header_line old word text ≡ Err (fault_of refusal)) × (new ≡ old)
+TakesHeader old new word text (Err untaken.NoMemory) = new ≡ old
 
 -- rounds after a line
-abbrev pub rounds_with : ℕ → Result Step LineFault → ℕ
+abbrev pub rounds_with : ℕ → Result Step Untaken → ℕ
 rounds_with rounds (Ok (step.Event event)) = suc rounds
 rounds_with rounds answer = rounds
 

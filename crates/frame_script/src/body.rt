@@ -1,7 +1,7 @@
 //! The lines behind a header.
 
 ghost use Rattle.std.specs.Prelude.{◌≡◌, ◌==◌, ◌&&◌, ◌<◌, ℕ, List, length, Err, if◌then◌else◌, IfOk, IsTrue, MatchResult};
-ghost use Rattle.frame_script.specs.declared.reader.LineFault.TheVariants as answered;
+ghost use Rattle.frame_script.specs.declared.refusal.Untaken.TheVariants as untaken;
 ghost use Rattle.frame_script.specs.declared.reader.Step.TheVariants as steps;
 ghost use Rattle.frame_script.specs.Due.{draft_of};
 ghost use Rattle.frame_script.specs.Headers.{CanListSta};
@@ -12,8 +12,8 @@ ghost use Rattle.frame_script.specs.Sentences.{CanAsk, CanSay, IsKept, Takes, Te
 use crate::events::{Asked, event_line};
 use crate::header::{Due, Taken};
 use crate::nodes::{ap_line, sta_line};
-use crate::reader::{LineFault, Step};
-use crate::refusal::Refusal;
+use crate::reader::Step;
+use crate::refusal::{Refusal, Untaken};
 use domain_base::{Mac, Octets};
 use run_journal::{Domain, Event, ListedAp};
 use std::alloc::Global;
@@ -32,7 +32,9 @@ pub(crate) enum Sentence<'a> {
 // An access point is listed before stations and events.
 fn early_ap<'a>(domain: &Domain, rounds: u64, text: &'a [u8]) -> Result<Sentence<'a>, Refusal>
     ensures can { (sizes : List ℕ) → IfOk result (CanSay domain.now rounds sizes) }
-    ensures says { TellsBy said_of result (if length domain.now.stas == 0 && rounds == 0 then ap_line domain.now text.now else Err word_) }
+    ensures says { TellsBy said_of result
+        (if length domain.now.stas == 0 && rounds == 0
+        then ap_line domain.now text.now else Err word_) }
 {
     if domain.stas.0.is_empty() && rounds == 0 {
         let (address, r0kh_id) = ap_line(domain, text)?;
@@ -45,7 +47,8 @@ fn early_ap<'a>(domain: &Domain, rounds: u64, text: &'a [u8]) -> Result<Sentence
 // A station is listed before events.
 fn early_sta(domain: &Domain, rounds: u64, text: &[u8]) -> Result<Mac, Refusal>
     ensures can { IfOk result (λ m. CanListSta domain.now m × (rounds ≡ 0)) }
-    ensures says { TellsBy ListsSta result (if rounds == 0 then sta_line domain.now text.now else Err word_) }
+    ensures says { TellsBy ListsSta result
+        (if rounds == 0 then sta_line domain.now text.now else Err word_) }
 {
     if rounds == 0 {
         sta_line(domain, text)
@@ -65,7 +68,8 @@ fn body_line<'a>(
 ) -> Result<Sentence<'a>, Refusal>
     requires { IsTrue (is_few domain.now) }
     ensures can { IfOk result (CanSay domain.now rounds sizes.now) }
-    ensures says { TellsBy said_of result (body_line domain.now rounds sizes.now word.now text.now) }
+    ensures says { TellsBy said_of result
+        (body_line domain.now rounds sizes.now word.now text.now) }
 {
     if word == b"ap".as_slice() {
         early_ap(domain, rounds, text)
@@ -81,21 +85,24 @@ fn list_ap(domain: Domain, alloc: Global, address: Mac, r0kh_id: &[u8]) -> Taken
     requires few { IsTrue (is_few domain) }
     requires room { length domain.aps < 16 }
     ensures kept { IsKept result.0 }
-    ensures listed { MatchResult result.1 (λ s. (s ≡ steps.Ap address r0kh_id.now) × (draft_of result.0 ≡ AtNodes (with_ap domain address r0kh_id.now))) (λ e. (e ≡ answered.NoMemory) × (draft_of result.0 ≡ AtNodes domain)) }
+    ensures listed { MatchResult result.1
+        (λ s. (s ≡ steps.Ap address r0kh_id.now)
+        × (draft_of result.0 ≡ AtNodes (with_ap domain address r0kh_id.now)))
+        (λ e. (e ≡ untaken.NoMemory) × (draft_of result.0 ≡ AtNodes domain)) }
 {
     let mut domain = domain;
     let Ok(listed) = Vec::from_slice(alloc, r0kh_id) else {
-        return (Due::Nodes { domain }, Err(LineFault::NoMemory));
+        return (Due::Nodes { domain }, Err(Untaken::NoMemory));
     };
     let Ok(said) = Vec::from_slice(alloc, r0kh_id) else {
-        return (Due::Nodes { domain }, Err(LineFault::NoMemory));
+        return (Due::Nodes { domain }, Err(Untaken::NoMemory));
     };
     let ap = ListedAp {
         address,
         r0kh_id: Octets(listed),
     };
     if domain.aps.0.push(ap).is_err() {
-        return (Due::Nodes { domain }, Err(LineFault::NoMemory));
+        return (Due::Nodes { domain }, Err(Untaken::NoMemory));
     }
     let r0kh_id = Octets(said);
     (Due::Nodes { domain }, Ok(Step::Ap { address, r0kh_id }))
@@ -106,29 +113,32 @@ fn list_sta(domain: Domain, address: Mac) -> Taken
     requires few { IsTrue (is_few domain) }
     requires room { length domain.stas < 64 }
     ensures kept { IsKept result.0 }
-    ensures listed { MatchResult result.1 (λ s. (s ≡ steps.Sta address) × (draft_of result.0 ≡ AtNodes (with_sta domain address))) (λ e. (e ≡ answered.NoMemory) × (draft_of result.0 ≡ AtNodes domain)) }
+    ensures listed { MatchResult result.1
+        (λ s. (s ≡ steps.Sta address) × (draft_of result.0 ≡ AtNodes (with_sta domain address)))
+        (λ e. (e ≡ untaken.NoMemory) × (draft_of result.0 ≡ AtNodes domain)) }
 {
     let mut domain = domain;
     if domain.stas.0.push(address).is_err() {
-        return (Due::Nodes { domain }, Err(LineFault::NoMemory));
+        return (Due::Nodes { domain }, Err(Untaken::NoMemory));
     }
     (Due::Nodes { domain }, Ok(Step::Sta { address }))
 }
 
 // The octets that the digits write.
 #[tactic(auto, using(crate::proofs::Hexed::decoded))]
-fn decode(alloc: Global, digits: &[u8]) -> Result<Octets, LineFault>
-    ensures { MatchResult result (λ octets. octets ≡ octets_of digits.now) (λ e. e ≡ answered.NoMemory) }
+fn decode(alloc: Global, digits: &[u8]) -> Result<Octets, Untaken>
+    ensures { MatchResult result (λ octets. octets ≡ octets_of digits.now)
+        (λ e. e ≡ untaken.NoMemory) }
 {
     match hex::decode(alloc, digits) {
         Ok(octets) => Ok(Octets(octets)),
-        Err(_) => Err(LineFault::NoMemory),
+        Err(_) => Err(Untaken::NoMemory),
     }
 }
 
 // The event that is asked for.
-fn make_event(alloc: Global, asked: Asked) -> Result<Event, LineFault>
-    ensures { MatchResult result (λ e. e ≡ event_of asked.entry) (λ e. e ≡ answered.NoMemory) }
+fn make_event(alloc: Global, asked: Asked) -> Result<Event, Untaken>
+    ensures { MatchResult result (λ e. e ≡ event_of asked.entry) (λ e. e ≡ untaken.NoMemory) }
 {
     match asked {
         Asked::Event(event) => Ok(event),
@@ -150,7 +160,8 @@ pub(crate) fn take_body(
 ) -> Taken
     requires { IsTrue (is_few domain) }
     ensures kept { IsKept result.0 }
-    ensures takes { Takes (AtNodes domain) (draft_of result.0) rounds sizes.now (body_line domain rounds sizes.now word.now text.now) result.1 }
+    ensures takes { Takes (AtNodes domain) (draft_of result.0) rounds sizes.now
+        (body_line domain rounds sizes.now word.now text.now) result.1 }
 {
     match body_line(&domain, rounds, sizes, word, text) {
         Ok(Sentence::Ap(address, r0kh_id)) => list_ap(domain, alloc, address, r0kh_id),
@@ -159,6 +170,6 @@ pub(crate) fn take_body(
             let event = make_event(alloc, asked);
             (Due::Nodes { domain }, event.map(Step::Event))
         }
-        Err(refusal) => (Due::Nodes { domain }, Err(refusal.into())),
+        Err(refusal) => (Due::Nodes { domain }, Err(Untaken::Refused(refusal))),
     }
 }

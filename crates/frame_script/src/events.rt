@@ -85,7 +85,8 @@ fn listed(domain: &Domain, name: NodeName) -> Option<Node>
 // The size of the frame of that number, from 1.
 #[tactic(auto, unfolding(crate::specs::Script::size_of))]
 fn size_of(sizes: &[usize], number: u64) -> Option<usize>
-    ensures sized { IfSome result (λ whole. (size : ℕ) → size ≤ whole → IsSized sizes.now number size) }
+    ensures sized { IfSome result (λ whole. (size : ℕ)
+        → size ≤ whole → IsSized sizes.now number size) }
     ensures value { result ≡ size_of sizes.now number }
 {
     if 1 <= number && number <= sizes.len() as u64 {
@@ -107,7 +108,9 @@ fn to_name(text: &[u8]) -> Option<NodeName>
 fn connect(domain: &Domain, sta: NodeName, ap: NodeName) -> Result<Event, Refusal>
     requires { IsTrue (is_few domain.now) }
     ensures can { (sizes : List ℕ) → IfOk result (CanHappen domain.now sizes) }
-    ensures says { Tells result (need node_ (listed_sta domain.now (name_of sta)) >>=ᴿ (λ s. need node_ (listed_ap domain.now (name_of ap)) >>=ᴿ (λ a. Ok (asks.Connect s a)))) }
+    ensures says { Tells result
+        (need node_ (listed_sta domain.now (name_of sta)) >>=ᴿ (λ s.
+        need node_ (listed_ap domain.now (name_of ap)) >>=ᴿ (λ a. Ok (asks.Connect s a)))) }
 {
     let sta = listed_sta(domain, sta).ok_or(Refusal::Node)?;
     let ap = listed_ap(domain, ap).ok_or(Refusal::Node)?;
@@ -131,7 +134,9 @@ fn connect_line(domain: &Domain, text: &[u8]) -> Result<Event, Refusal>
 fn retry(domain: &Domain, ap: NodeName, sta: NodeName) -> Result<Event, Refusal>
     requires { IsTrue (is_few domain.now) }
     ensures can { (sizes : List ℕ) → IfOk result (CanHappen domain.now sizes) }
-    ensures says { Tells result (need node_ (listed_ap domain.now (name_of ap)) >>=ᴿ (λ a. need node_ (listed_sta domain.now (name_of sta)) >>=ᴿ (λ s. Ok (asks.Retry a s)))) }
+    ensures says { Tells result
+        (need node_ (listed_ap domain.now (name_of ap)) >>=ᴿ (λ a.
+        need node_ (listed_sta domain.now (name_of sta)) >>=ᴿ (λ s. Ok (asks.Retry a s)))) }
 {
     let ap = listed_ap(domain, ap).ok_or(Refusal::Node)?;
     let sta = listed_sta(domain, sta).ok_or(Refusal::Node)?;
@@ -155,7 +160,9 @@ fn retry_line(domain: &Domain, text: &[u8]) -> Result<Event, Refusal>
 fn deliver(domain: &Domain, sizes: &[usize], number: u64, name: NodeName) -> Result<Event, Refusal>
     requires { IsTrue (is_few domain.now) }
     ensures can { IfOk result (CanHappen domain.now sizes.now) }
-    ensures says { Tells result (need node_ (listed domain.now (name_of name)) >>=ᴿ (λ to. need frame_ (size_of sizes.now number) >>=ᴿ (λ _. Ok (asks.Deliver number to)))) }
+    ensures says { Tells result
+        (need node_ (listed domain.now (name_of name)) >>=ᴿ (λ to.
+        need frame_ (size_of sizes.now number) >>=ᴿ (λ _. Ok (asks.Deliver number to)))) }
 {
     let to = listed(domain, name).ok_or(Refusal::Node)?;
     size_of(sizes, number).ok_or(Refusal::Frame)?;
@@ -193,7 +200,10 @@ fn alter(
 ) -> Result<Event, Refusal>
     requires { IsTrue (is_few domain.now) }
     ensures can { IfOk result (CanHappen domain.now sizes.now) }
-    ensures says { Tells result (need node_ (listed domain.now (name_of name)) >>=ᴿ (λ to. need frame_ (size_of sizes.now number) >>=ᴿ (λ size. if nat_lt place size then Ok (asks.Alter number place mask to) else Err place_))) }
+    ensures says { Tells result
+        (need node_ (listed domain.now (name_of name)) >>=ᴿ (λ to.
+        need frame_ (size_of sizes.now number) >>=ᴿ (λ size.
+        if nat_lt place size then Ok (asks.Alter number place mask to) else Err place_))) }
 {
     let to = listed(domain, name).ok_or(Refusal::Node)?;
     let size = size_of(sizes, number).ok_or(Refusal::Frame)?;
@@ -209,20 +219,42 @@ fn alter(
     })
 }
 
-// A frame that was sent comes to a node with one octet changed, by its number and what stands behind that in the line.
+// A frame that was sent comes to a node with one octet changed, by its number, the place and what
+// stands behind that in the line.
+#[tactic(auto, unfolding(crate::specs::Script::alter_line))]
+fn alter_octet(
+    domain: &Domain,
+    sizes: &[usize],
+    number: u64,
+    place: u64,
+    text: &[u8],
+) -> Result<Event, Refusal>
+    requires { IsTrue (is_few domain.now) }
+    ensures can { IfOk result (CanHappen domain.now sizes.now) }
+    ensures says { (line word rest second : List ℕ) → split_word line ≡ Some (word, rest)
+        → number_of_digits word ≡ Some number → split_word rest ≡ Some (second, text.now)
+        → number_of_digits second ≡ Some place
+        → Tells result (alter_line domain.now sizes.now line) }
+{
+    let (mask, rest) = split_word(text).ok_or(Refusal::Arguments)?;
+    let mask: [u8; 1] = hex_octets(mask).ok_or(Refusal::Arguments)?;
+    let name = to_name(rest).ok_or(Refusal::Arguments)?;
+    alter(domain, sizes, number, place, mask[0], name)
+}
+
+// A frame that was sent comes to a node with one octet changed, by its number and what stands
+// behind that in the line.
 #[tactic(auto, unfolding(crate::specs::Script::alter_line))]
 fn alter_frame(domain: &Domain, sizes: &[usize], number: u64, text: &[u8]) -> Result<Event, Refusal>
     requires { IsTrue (is_few domain.now) }
     ensures can { IfOk result (CanHappen domain.now sizes.now) }
-    ensures says { (line word : List ℕ) → split_word line ≡ Some (word, text.now) → number_of_digits word ≡ Some number
+    ensures says { (line word : List ℕ) → split_word line ≡ Some (word, text.now)
+        → number_of_digits word ≡ Some number
         → Tells result (alter_line domain.now sizes.now line) }
 {
     let (place, rest) = split_word(text).ok_or(Refusal::Arguments)?;
     let place = number_of_digits(place).ok_or(Refusal::Arguments)?;
-    let (mask, rest) = split_word(rest).ok_or(Refusal::Arguments)?;
-    let mask: [u8; 1] = hex_octets(mask).ok_or(Refusal::Arguments)?;
-    let name = to_name(rest).ok_or(Refusal::Arguments)?;
-    alter(domain, sizes, number, place, mask[0], name)
+    alter_octet(domain, sizes, number, place, rest)
 }
 
 // A frame that was sent comes to a node with one octet changed.
@@ -247,7 +279,10 @@ fn cut(
 ) -> Result<Event, Refusal>
     requires { IsTrue (is_few domain.now) }
     ensures can { IfOk result (CanHappen domain.now sizes.now) }
-    ensures says { Tells result (need node_ (listed domain.now (name_of name)) >>=ᴿ (λ to. need frame_ (size_of sizes.now number) >>=ᴿ (λ size. if nat_le count size then Ok (asks.Cut number count to) else Err place_))) }
+    ensures says { Tells result
+        (need node_ (listed domain.now (name_of name)) >>=ᴿ (λ to.
+        need frame_ (size_of sizes.now number) >>=ᴿ (λ size.
+        if nat_le count size then Ok (asks.Cut number count to) else Err place_))) }
 {
     let to = listed(domain, name).ok_or(Refusal::Node)?;
     let whole = size_of(sizes, number).ok_or(Refusal::Frame)?;
@@ -259,6 +294,22 @@ fn cut(
     }
 }
 
+// The first octets of a frame that was sent come to a node, by its number and what stands behind
+// that in the line.
+#[tactic(auto, unfolding(crate::specs::Script::cut_line))]
+fn cut_frame(domain: &Domain, sizes: &[usize], number: u64, text: &[u8]) -> Result<Event, Refusal>
+    requires { IsTrue (is_few domain.now) }
+    ensures can { IfOk result (CanHappen domain.now sizes.now) }
+    ensures says { (line word : List ℕ) → split_word line ≡ Some (word, text.now)
+        → number_of_digits word ≡ Some number
+        → Tells result (cut_line domain.now sizes.now line) }
+{
+    let (count, rest) = split_word(text).ok_or(Refusal::Arguments)?;
+    let count = number_of_digits(count).ok_or(Refusal::Arguments)?;
+    let name = to_name(rest).ok_or(Refusal::Arguments)?;
+    cut(domain, sizes, number, count, name)
+}
+
 // The first octets of a frame that was sent come to a node.
 #[tactic(auto, unfolding(crate::specs::Script::cut_line))]
 fn cut_line(domain: &Domain, sizes: &[usize], text: &[u8]) -> Result<Event, Refusal>
@@ -268,10 +319,7 @@ fn cut_line(domain: &Domain, sizes: &[usize], text: &[u8]) -> Result<Event, Refu
 {
     let (number, rest) = split_word(text).ok_or(Refusal::Arguments)?;
     let number = number_of_digits(number).ok_or(Refusal::Arguments)?;
-    let (count, rest) = split_word(rest).ok_or(Refusal::Arguments)?;
-    let count = number_of_digits(count).ok_or(Refusal::Arguments)?;
-    let name = to_name(rest).ok_or(Refusal::Arguments)?;
-    cut(domain, sizes, number, count, name)
+    cut_frame(domain, sizes, number, rest)
 }
 
 // Octets that are not too many for a frame.
@@ -289,6 +337,19 @@ fn frame_octets(text: &[u8]) -> Result<(), Refusal>
     }
 }
 
+// Octets come to a node, by its name and their digits.
+fn inject<'a>(domain: &Domain, name: NodeName, digits: &'a [u8]) -> Result<Asked<'a>, Refusal>
+    requires { IsTrue (is_few domain.now) }
+    ensures can { (sizes : List ℕ) → IfOk result (CanAsk domain.now sizes) }
+    ensures says { TellsBy event_asked result
+        (frame_octets digits.now >>=ᴿ (λ octets.
+        need node_ (listed domain.now (name_of name)) >>=ᴿ (λ to. Ok (asks.Inject to octets)))) }
+{
+    frame_octets(digits)?;
+    let to = listed(domain, name).ok_or(Refusal::Node)?;
+    Ok(Asked::Inject(to, digits))
+}
+
 // Octets come to a node.
 #[tactic(auto, unfolding(crate::specs::Script::inject_line))]
 fn inject_line<'a>(domain: &Domain, text: &'a [u8]) -> Result<Asked<'a>, Refusal>
@@ -298,9 +359,32 @@ fn inject_line<'a>(domain: &Domain, text: &'a [u8]) -> Result<Asked<'a>, Refusal
 {
     let (word, digits) = split_word(text).ok_or(Refusal::Arguments)?;
     let name = node_name(word).ok_or(Refusal::Arguments)?;
-    frame_octets(digits)?;
-    let to = listed(domain, name).ok_or(Refusal::Node)?;
-    Ok(Asked::Inject(to, digits))
+    inject(domain, name, digits)
+}
+
+// An event that takes no memory, where its first word is none of those before it.
+#[tactic(auto, unfolding(crate::specs::Script::event_of))]
+fn other_event_of(
+    domain: &Domain,
+    sizes: &[usize],
+    word: &[u8],
+    text: &[u8],
+) -> Result<Event, Refusal>
+    requires few { IsTrue (is_few domain.now) }
+    requires no_connect { bytes_eq word.now (codes "connect") ≡ false }
+    requires no_deliver { bytes_eq word.now (codes "deliver") ≡ false }
+    requires no_alter { bytes_eq word.now (codes "alter") ≡ false }
+    requires no_inject { bytes_eq word.now (codes "inject") ≡ false }
+    ensures can { IfOk result (CanHappen domain.now sizes.now) }
+    ensures says { Tells result (event_of domain.now sizes.now word.now text.now) }
+{
+    if word == b"cut".as_slice() {
+        cut_line(domain, sizes, text)
+    } else if word == b"retry".as_slice() {
+        retry_line(domain, text)
+    } else {
+        Err(Refusal::Word)
+    }
 }
 
 // An event that takes no memory, by its first word.
@@ -322,12 +406,8 @@ fn small_event_of(
         deliver_line(domain, sizes, text)
     } else if word == b"alter".as_slice() {
         alter_line(domain, sizes, text)
-    } else if word == b"cut".as_slice() {
-        cut_line(domain, sizes, text)
-    } else if word == b"retry".as_slice() {
-        retry_line(domain, text)
     } else {
-        Err(Refusal::Word)
+        other_event_of(domain, sizes, word, text)
     }
 }
 
@@ -361,7 +441,8 @@ pub(crate) fn event_line<'a>(
 ) -> Result<Asked<'a>, Refusal>
     requires { IsTrue (is_few domain.now) }
     ensures can { IfOk result (λ a. CanAsk domain.now sizes.now a × (length sizes.now ≤ 65535)) }
-    ensures says { TellsBy (λ a. Asks (event_asked a)) result (event_line domain.now sizes.now word.now text.now) }
+    ensures says { TellsBy (λ a. Asks (event_asked a)) result
+        (event_line domain.now sizes.now word.now text.now) }
 {
     let asked = event_of(domain, sizes, word, text)?;
     if sizes.len() <= MOST_FRAMES {

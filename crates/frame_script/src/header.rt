@@ -3,11 +3,11 @@
 ghost use Rattle.std.specs.Prelude.{◌≡◌, ◌≢◌, ◌≤◌, ℕ, List, length, IfOk};
 ghost use Rattle.domain_base.specs.declared.names.Akm.TheVariants.{FtPsk};
 ghost use Rattle.frame_script.specs.Due.{draft_of};
-ghost use Rattle.frame_script.specs.Script.{AtAkm, AtNodes, AtPsk, AtSeed, AtSsid, akm_of, header_line, new_network, passphrase_of, psk_of, seed_of, ssid_of};
+ghost use Rattle.frame_script.specs.Script.{AtAkm, AtNodes, AtPsk, AtSeed, AtSsid, header_line, new_network, psk_of};
 ghost use Rattle.frame_script.specs.Sentences.{IsKept, TakesHeader, Tells, TellsBy};
 
-use crate::reader::{LineFault, Step};
-use crate::refusal::Refusal;
+use crate::reader::Step;
+use crate::refusal::{Refusal, Untaken};
 use crate::tokens::{hex_octets, is_text};
 use domain_base::{Akm, Octets};
 use mac_prf::pbkdf2;
@@ -50,29 +50,20 @@ pub(crate) enum Due {
 }
 
 /// Which line is due behind this one, and what this one says.
-pub(crate) type Taken = (Due, Result<Step, LineFault>);
+pub(crate) type Taken = (Due, Result<Step, Untaken>);
 
-// 64 hexadecimal digits; not the draw that only a live run has.
-#[tactic(auto, unfolding(crate::specs::Script::seed_of))]
-fn seed_of(text: &[u8]) -> Result<[u8; 32], Refusal>
-    ensures { Tells result (seed_of text.now) }
+// The seed in 64 hexadecimal digits, behind its word; not the draw that only a live run has.
+#[tactic(auto, unfolding(crate::specs::Script::header_line, crate::specs::Script::seed_of))]
+fn seed_line(word: &[u8], text: &[u8]) -> Result<[u8; 32], Refusal>
+    ensures { TellsBy AtSsid result (header_line AtSeed word.now text.now) }
 {
+    if word != b"seed".as_slice() {
+        return Err(Refusal::Word);
+    }
     if text == b"draw".as_slice() {
         return Err(Refusal::Mode);
     }
     hex_octets(text).ok_or(Refusal::Arguments)
-}
-
-// The seed, behind its word.
-#[tactic(auto, unfolding(crate::specs::Script::header_line))]
-fn seed_line(word: &[u8], text: &[u8]) -> Result<[u8; 32], Refusal>
-    ensures { TellsBy AtSsid result (header_line AtSeed word.now text.now) }
-{
-    if word == b"seed".as_slice() {
-        seed_of(text)
-    } else {
-        Err(Refusal::Word)
-    }
 }
 
 /// Takes the seed.
@@ -82,33 +73,24 @@ pub(crate) fn take_seed(word: &[u8], text: &[u8]) -> Taken
 {
     match seed_line(word, text) {
         Ok(seed) => (Due::Ssid { seed }, Ok(Step::Nothing)),
-        Err(refusal) => (Due::Seed, Err(refusal.into())),
-    }
-}
-
-// The name of the network.
-#[tactic(auto, unfolding(crate::specs::Script::ssid_of))]
-fn ssid_of(text: &[u8]) -> Result<&[u8], Refusal>
-    ensures size { IfOk result (λ ssid. (1 ≤ length ssid.now) × (length ssid.now ≤ 32)) }
-    ensures says { TellsBy (λ ssid. ssid.now) result (ssid_of text.now) }
-{
-    if is_text(32, 32, text) {
-        Ok(text)
-    } else {
-        Err(Refusal::Arguments)
+        Err(refusal) => (Due::Seed, Err(Untaken::Refused(refusal))),
     }
 }
 
 // The name of the network, behind its word.
-#[tactic(auto, unfolding(crate::specs::Script::header_line))]
+#[tactic(auto, unfolding(crate::specs::Script::header_line, crate::specs::Script::ssid_of))]
 fn ssid_line<'a>(seed: &[u8; 32], word: &[u8], text: &'a [u8]) -> Result<&'a [u8], Refusal>
     ensures size { IfOk result (λ ssid. (1 ≤ length ssid.now) × (length ssid.now ≤ 32)) }
-    ensures says { TellsBy (λ ssid. AtPsk seed.now ssid.now) result (header_line (AtSsid seed.now) word.now text.now) }
+    ensures says { TellsBy (λ ssid. AtPsk seed.now ssid.now) result
+        (header_line (AtSsid seed.now) word.now text.now) }
 {
-    if word == b"ssid".as_slice() {
-        ssid_of(text)
+    if word != b"ssid".as_slice() {
+        return Err(Refusal::Word);
+    }
+    if is_text(32, 32, text) {
+        Ok(text)
     } else {
-        Err(Refusal::Word)
+        Err(Refusal::Arguments)
     }
 }
 
@@ -123,17 +105,23 @@ pub(crate) fn take_ssid(seed: [u8; 32], alloc: Global, word: &[u8], text: &[u8])
                 let ssid = Octets(octets);
                 (Due::Psk { seed, ssid }, Ok(Step::Nothing))
             }
-            Err(_) => (Due::Ssid { seed }, Err(LineFault::NoMemory)),
+            Err(_) => (Due::Ssid { seed }, Err(Untaken::NoMemory)),
         },
-        Err(refusal) => (Due::Ssid { seed }, Err(refusal.into())),
+        Err(refusal) => (Due::Ssid { seed }, Err(Untaken::Refused(refusal))),
     }
 }
 
-// The key of a passphrase.
-#[tactic(auto, unfolding(crate::specs::Script::passphrase_of))]
-fn passphrase_of(ssid: &[u8], text: &[u8]) -> Result<[u8; 32], Refusal>
-    ensures { Tells result (passphrase_of ssid.now text.now) }
+// The pre-shared key, as it is or by a passphrase.
+#[tactic(auto, unfolding(crate::specs::Script::psk_of, crate::specs::Script::passphrase_of))]
+fn psk_of(ssid: &[u8], word: &[u8], text: &[u8]) -> Result<[u8; 32], Refusal>
+    ensures { Tells result (psk_of ssid.now word.now text.now) }
 {
+    if word == b"psk".as_slice() {
+        return hex_octets(text).ok_or(Refusal::Arguments);
+    }
+    if word != b"passphrase".as_slice() {
+        return Err(Refusal::Word);
+    }
     if 8 <= text.len() && is_text(63, 32, text) {
         Ok(pbkdf2(text, ssid))
     } else {
@@ -141,65 +129,35 @@ fn passphrase_of(ssid: &[u8], text: &[u8]) -> Result<[u8; 32], Refusal>
     }
 }
 
-// The pre-shared key, as it is or by a passphrase.
-#[tactic(auto, unfolding(crate::specs::Script::psk_of))]
-fn psk_of(ssid: &[u8], word: &[u8], text: &[u8]) -> Result<[u8; 32], Refusal>
-    ensures { Tells result (psk_of ssid.now word.now text.now) }
-{
-    if word == b"psk".as_slice() {
-        hex_octets(text).ok_or(Refusal::Arguments)
-    } else if word == b"passphrase".as_slice() {
-        passphrase_of(ssid, text)
-    } else {
-        Err(Refusal::Word)
-    }
-}
-
-// The pre-shared key, by its word.
-#[tactic(auto, unfolding(crate::specs::Script::header_line))]
-fn psk_line(ssid: &[u8], word: &[u8], text: &[u8]) -> Result<[u8; 32], Refusal>
-    ensures { (seed : List ℕ) → TellsBy (AtAkm seed ssid.now) result (header_line (AtPsk seed ssid.now) word.now text.now) }
-{
-    psk_of(ssid, word, text)
-}
-
 /// Takes the pre-shared key.
+#[tactic(auto, unfolding(crate::specs::Script::header_line))]
 pub(crate) fn take_psk(seed: [u8; 32], ssid: Octets, word: &[u8], text: &[u8]) -> Taken
     requires { (1 ≤ length ssid) × (length ssid ≤ 32) }
     ensures kept { IsKept result.0 }
     ensures takes { TakesHeader (AtPsk seed ssid) (draft_of result.0) word.now text.now result.1 }
 {
-    match psk_line(ssid.as_slice(), word, text) {
+    match psk_of(ssid.as_slice(), word, text) {
         Ok(psk) => (Due::Akm { seed, ssid, psk }, Ok(Step::Nothing)),
-        Err(refusal) => (Due::Psk { seed, ssid }, Err(refusal.into())),
+        Err(refusal) => (Due::Psk { seed, ssid }, Err(Untaken::Refused(refusal))),
     }
 }
 
-// The suite by its name.
-#[tactic(auto, unfolding(crate::specs::Script::akm_of))]
-fn akm_of(text: &[u8]) -> Result<Akm, Refusal>
+// The suite by its name, behind its word.
+#[tactic(auto, unfolding(crate::specs::Script::header_line, crate::specs::Script::akm_of))]
+fn akm_line(word: &[u8], text: &[u8]) -> Result<Akm, Refusal>
     ensures suite { IfOk result (λ akm. akm ≢ FtPsk) }
-    ensures says { Tells result (akm_of text.now) }
+    ensures says { (seed ssid psk : List ℕ) → TellsBy
+        (λ akm. AtNodes (new_network seed ssid psk akm)) result
+        (header_line (AtAkm seed ssid psk) word.now text.now) }
 {
-    if text == b"psk".as_slice() {
+    if word != b"akm".as_slice() {
+        Err(Refusal::Word)
+    } else if text == b"psk".as_slice() {
         Ok(Akm::Psk)
     } else if text == b"psk-sha256".as_slice() {
         Ok(Akm::PskSha256)
     } else {
         Err(Refusal::Arguments)
-    }
-}
-
-// The suite, behind its word.
-#[tactic(auto, unfolding(crate::specs::Script::header_line))]
-fn akm_line(word: &[u8], text: &[u8]) -> Result<Akm, Refusal>
-    ensures suite { IfOk result (λ akm. akm ≢ FtPsk) }
-    ensures says { (seed ssid psk : List ℕ) → TellsBy (λ akm. AtNodes (new_network seed ssid psk akm)) result (header_line (AtAkm seed ssid psk) word.now text.now) }
-{
-    if word == b"akm".as_slice() {
-        akm_of(text)
-    } else {
-        Err(Refusal::Word)
     }
 }
 
@@ -229,13 +187,14 @@ pub(crate) fn take_akm(
 ) -> Taken
     requires { (1 ≤ length ssid) × (length ssid ≤ 32) }
     ensures kept { IsKept result.0 }
-    ensures takes { TakesHeader (AtAkm seed ssid psk) (draft_of result.0) word.now text.now result.1 }
+    ensures takes { TakesHeader (AtAkm seed ssid psk) (draft_of result.0)
+        word.now text.now result.1 }
 {
     match akm_line(word, text) {
         Ok(akm) => {
             let domain = new_network(seed, ssid, psk, akm, alloc);
             (Due::Nodes { domain }, Ok(Step::Network))
         }
-        Err(refusal) => (Due::Akm { seed, ssid, psk }, Err(refusal.into())),
+        Err(refusal) => (Due::Akm { seed, ssid, psk }, Err(Untaken::Refused(refusal))),
     }
 }

@@ -7,8 +7,8 @@ ghost use Rattle.frame_script.specs.Sentences.{IsKept, Takes, rounds_with, words
 
 use crate::body::take_body;
 use crate::header::{Due, Taken, take_akm, take_psk, take_seed, take_ssid};
-use crate::reader::{LineFault, Step};
-use crate::refusal::Refusal;
+use crate::reader::Step;
+use crate::refusal::{Refusal, Untaken};
 use crate::tokens::first_word;
 use std::alloc::Global;
 
@@ -16,12 +16,13 @@ use std::alloc::Global;
 #[tactic(auto, unfolding(crate::specs::Script::line_says))]
 fn take_version(line: &[u8]) -> Taken
     ensures kept { IsKept result.0 }
-    ensures takes { (rounds : ℕ) (sizes : List ℕ) → Takes AtVersion (draft_of result.0) rounds sizes (line_says AtVersion rounds sizes line.now) result.1 }
+    ensures takes { (rounds : ℕ) (sizes : List ℕ) → Takes AtVersion (draft_of result.0) rounds sizes
+        (line_says AtVersion rounds sizes line.now) result.1 }
 {
     if line == b"domain 1".as_slice() {
         (Due::Seed, Ok(Step::Nothing))
     } else {
-        (Due::Version, Err(Refusal::Version.into()))
+        (Due::Version, Err(Untaken::Refused(Refusal::Version)))
     }
 }
 
@@ -47,10 +48,11 @@ fn take_words(
 ) -> Taken
     requires { IsKept due }
     ensures kept { IsKept result.0 }
-    ensures takes { Takes (draft_of due) (draft_of result.0) rounds sizes.now (words_say (draft_of due) rounds sizes.now word.now text.now) result.1 }
+    ensures takes { Takes (draft_of due) (draft_of result.0) rounds sizes.now
+        (words_say (draft_of due) rounds sizes.now word.now text.now) result.1 }
 {
     match due {
-        Due::Version => (Due::Version, Err(Refusal::Word.into())),
+        Due::Version => (Due::Version, Err(Untaken::Refused(Refusal::Word))),
         Due::Seed => take_seed(word, text),
         Due::Ssid { seed } => take_ssid(seed, alloc, word, text),
         Due::Psk { seed, ssid } => take_psk(seed, ssid, word, text),
@@ -65,7 +67,8 @@ fn take_later(due: Due, alloc: Global, rounds: u64, sizes: &[usize], line: &[u8]
     requires kept { IsKept due }
     requires later { draft_of due ≢ AtVersion }
     ensures kept { IsKept result.0 }
-    ensures takes { Takes (draft_of due) (draft_of result.0) rounds sizes.now (line_says (draft_of due) rounds sizes.now line.now) result.1 }
+    ensures takes { Takes (draft_of due) (draft_of result.0) rounds sizes.now
+        (line_says (draft_of due) rounds sizes.now line.now) result.1 }
 {
     if is_passed_over(line) {
         return (due, Ok(Step::Nothing));
@@ -74,12 +77,13 @@ fn take_later(due: Due, alloc: Global, rounds: u64, sizes: &[usize], line: &[u8]
     take_words(due, alloc, rounds, sizes, word, text)
 }
 
-/// Takes the next line, where so many rounds were asked for and frames of these sizes sent. Where it is refused the same one
-/// is due.
+/// Takes the next line, where so many rounds were asked for and frames of these sizes sent. Where
+/// it is refused the same one is due.
 pub(crate) fn take_line(due: Due, alloc: Global, rounds: u64, sizes: &[usize], line: &[u8]) -> Taken
     requires { IsKept due }
     ensures kept { IsKept result.0 }
-    ensures takes { Takes (draft_of due) (draft_of result.0) rounds sizes.now (line_says (draft_of due) rounds sizes.now line.now) result.1 }
+    ensures takes { Takes (draft_of due) (draft_of result.0) rounds sizes.now
+        (line_says (draft_of due) rounds sizes.now line.now) result.1 }
 {
     match due {
         Due::Version => take_version(line),
@@ -88,7 +92,7 @@ pub(crate) fn take_line(due: Due, alloc: Global, rounds: u64, sizes: &[usize], l
 }
 
 /// How many rounds were asked for with this answer.
-pub(crate) fn rounds_with(rounds: u64, answer: &Result<Step, LineFault>) -> u64
+pub(crate) fn rounds_with(rounds: u64, answer: &Result<Step, Untaken>) -> u64
     requires { rounds < 2 ^ 63 }
     ensures { result ≡ rounds_with rounds answer.now }
 {

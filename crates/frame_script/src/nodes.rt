@@ -81,7 +81,8 @@ fn new_ap(domain: &Domain, address: Mac, r0kh_id: &[u8]) -> Result<(), Refusal>
     ensures room { OnOk result (length domain.now.aps < 16) }
     ensures free { OnOk result (is_used domain.now address ≡ false) }
     ensures other { OnOk result (is_used_id domain.now r0kh_id.now ≡ false) }
-    ensures says { TellsBy (λ _. ListsAp address r0kh_id.now) result (new_ap domain.now address r0kh_id.now) }
+    ensures says { TellsBy (λ _. ListsAp address r0kh_id.now) result
+        (new_ap domain.now address r0kh_id.now) }
 {
     if MOST_APS <= domain.aps.0.len() {
         Err(Refusal::ManyAps)

@@ -3,8 +3,10 @@
 ghost use Rattle.std.specs.Prelude.{◌≡◌, ◌<◌, ◌^◌, [], OnErr, OnOk, option_map};
 ghost use Rattle.run_journal.specs.declared.domain.Domain.{Domain as AnyDomain};
 
+use crate::forms::{Form, form_of};
 use crate::header::Due;
 use crate::lines::{rounds_with, take_line};
+use crate::refusal::Untaken;
 use crate::seen::see;
 use domain_base::{Mac, Octets};
 use run_journal::{Domain, Event, Journal};
@@ -12,14 +14,16 @@ use std::alloc::Global;
 use std::marker::Model;
 use std::mem::replace;
 
-/// Why a line is not taken. The reader has said nothing by it.
+/// Why a line is not taken, by number. The reader has said nothing by it.
 #[derive(Clone, Copy)]
 pub enum LineFault {
-    /// The line is outside the grammar, for that reason: 1 it is the first and not `domain 1`; 2 no such word in this place;
-    /// 3 the number or form of its arguments; 4 a node that is not listed or of the other kind; 5 a frame that was not sent;
-    /// 6 a place or length outside the frame; 8 an address or R0KH-ID used before; 9 a draw of the seed.
+    /// The line is outside the grammar, for that reason: 1 it is the first and not `domain 1`; 2 no
+    /// such word in this place; 3 the number or form of its arguments; 4 a node that is not listed
+    /// or of the other kind; 5 a frame that was not sent; 6 a place or length outside the frame; 8
+    /// an address or R0KH-ID used before; 9 a draw of the seed.
     Script(u8),
-    /// It goes past that limit: 3 octets of an injected frame; 4 frames sent; 5 access points; 6 stations.
+    /// It goes past that limit: 3 octets of an injected frame; 4 frames sent; 5 access points; 6
+    /// stations.
     Limit(u8),
     /// Memory ran out.
     NoMemory,
@@ -64,7 +68,12 @@ impl Model for ScriptReader {
 
     ghost Value = { Reading };
 
-    ghost view = { λ r. record { draft = draft_of r.due; rounds = r.rounds; seen = r.seen; sizes = r.sizes.items } };
+    ghost view = { λ r. record {
+      draft = draft_of r.due;
+      rounds = r.rounds;
+      seen = r.seen;
+      sizes = r.sizes.items;
+    } };
 
     ghost invariant = { λ r. IsKept r.due };
 }
@@ -72,7 +81,8 @@ impl Model for ScriptReader {
 impl ScriptReader {
     ghost use Rattle.std.specs.Prelude.{length, ℕ, List};
     ghost use Rattle.frame_script.specs.Script.{AtVersion, AtNodes};
-    ghost use Rattle.frame_script.specs.Headers.{HasSeen, HasSeenAll, TakesLine, IsDomain, sizes_of};
+    ghost use Rattle.frame_script.specs.Forms.{form_of};
+    ghost use Rattle.frame_script.specs.Headers.{HasSeen, HasSeenAll, IsDomain, ReadsLine, TakesLine, sizes_of};
 
     /// Before the first line.
     pub fn start(alloc: Global) -> Self
@@ -86,7 +96,27 @@ impl ScriptReader {
         }
     }
 
-    /// Takes the next line, without its end. The journal has grown at its end alone since the line before.
+    /// Takes the next line, without its end. The journal has grown at its end alone since the line
+    /// before.
+    pub fn take(&mut self, alloc: Global, line: &[u8], journal: &Journal) -> Result<Step, Untaken>
+        requires seen { HasSeen self.old journal.now.entries }
+        requires few { self.old.rounds < 2 ^ 63 }
+        ensures takes { ReadsLine self.old self.new (sizes_of journal.now.entries) line.now result }
+        ensures seen { OnOk result (HasSeenAll self.new journal.now.entries) }
+        ensures kept { OnErr result (HasSeen self.new journal.now.entries) }
+    {
+        if see(&mut self.seen, &mut self.sizes, journal).is_err() {
+            return Err(Untaken::NoMemory);
+        }
+        let due = replace(&mut self.due, Due::Version);
+        let (due, answer) = take_line(due, alloc, self.rounds, &self.sizes, line);
+        self.due = due;
+        self.rounds = rounds_with(self.rounds, &answer);
+        answer
+    }
+
+    /// Takes the next line as `take` does, and tells by number why it is not taken.
+    #[tactic(auto, using(crate::proofs::Numbering::by_number))]
     pub fn line(&mut self, alloc: Global, line: &[u8], journal: &Journal) -> Result<Step, LineFault>
         requires seen { HasSeen self.old journal.now.entries }
         requires few { self.old.rounds < 2 ^ 63 }
@@ -94,14 +124,17 @@ impl ScriptReader {
         ensures seen { OnOk result (HasSeenAll self.new journal.now.entries) }
         ensures kept { OnErr result (HasSeen self.new journal.now.entries) }
     {
-        if see(&mut self.seen, &mut self.sizes, journal).is_err() {
-            return Err(LineFault::NoMemory);
+        match self.take(alloc, line, journal) {
+            Ok(step) => Ok(step),
+            Err(untaken) => Err(untaken.into()),
         }
-        let due = replace(&mut self.due, Due::Version);
-        let (due, answer) = take_line(due, alloc, self.rounds, &self.sizes, line);
-        self.due = due;
-        self.rounds = rounds_with(self.rounds, &answer);
-        answer
+    }
+
+    /// The form that this line should have had, where it was not taken.
+    pub fn form(&self, line: &[u8]) -> Form
+        ensures { result ≡ form_of self.now.draft self.now.rounds line.now }
+    {
+        form_of(&self.due, self.rounds, line)
     }
 
     /// The network with the nodes listed so far, once the header is whole.

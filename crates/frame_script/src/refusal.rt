@@ -1,10 +1,14 @@
-//! Why a line is refused, by name.
+//! Why a line is refused, by name, with its number and its text.
+
+ghost use Rattle.std.specs.Prelude.{◌≡◌};
+ghost use Rattle.frame_script.specs.Refusals.{limit_of, reason_of, refusal_text};
 
 use crate::reader::LineFault;
 
-/// Why a line is refused, whatever memory there is.
+/// Why a script goes no further at a line, whatever memory there is: the line is outside the
+/// grammar, or goes past a limit.
 #[derive(Clone, Copy)]
-pub(crate) enum Refusal {
+pub enum Refusal {
     /// The first line is not `domain 1`.
     Version,
     /// No such word in this place.
@@ -21,6 +25,10 @@ pub(crate) enum Refusal {
     Duplicate,
     /// A draw of the seed, which only a live run has.
     Mode,
+    /// More lines than a script may have. The reader of a line does not count them.
+    ManyLines,
+    /// More octets than a line may have. The reader of a line does not count them.
+    LongLine,
     /// Too many octets for a frame.
     LongFrame,
     /// Too many frames sent before an event.
@@ -31,9 +39,74 @@ pub(crate) enum Refusal {
     ManyStas,
 }
 
+impl Refusal {
+    /// It in words.
+    pub fn text(self) -> &'static str
+        ensures { result.now ≡ refusal_text self }
+    {
+        match self {
+            Refusal::Version => "not the first line of a script",
+            Refusal::Word => "no such word here",
+            Refusal::Arguments => "wrong arguments",
+            Refusal::Node => "no such node, or a node of the other kind",
+            Refusal::Frame => "no such frame was sent",
+            Refusal::Place => "place or length outside the frame",
+            Refusal::Duplicate => "address or R0KH-ID used before",
+            Refusal::Mode => "the seed is drawn in a live run only",
+            Refusal::ManyLines => "more than 65536 lines",
+            Refusal::LongLine => "a line of more than 8192 octets",
+            Refusal::LongFrame => "an injected frame of more than 2400 octets",
+            Refusal::ManyFrames => "more than 65535 frames sent",
+            Refusal::ManyAps => "more than 16 access points",
+            Refusal::ManyStas => "more than 64 stations",
+        }
+    }
+
+    /// The one whose reason has that number.
+    pub fn of_reason(reason: u8) -> Option<Refusal>
+        ensures { result ≡ reason_of reason }
+    {
+        match reason {
+            1 => Some(Refusal::Version),
+            2 => Some(Refusal::Word),
+            3 => Some(Refusal::Arguments),
+            4 => Some(Refusal::Node),
+            5 => Some(Refusal::Frame),
+            6 => Some(Refusal::Place),
+            8 => Some(Refusal::Duplicate),
+            9 => Some(Refusal::Mode),
+            _ => None,
+        }
+    }
+
+    /// The one whose limit has that number.
+    pub fn of_limit(limit: u8) -> Option<Refusal>
+        ensures { result ≡ limit_of limit }
+    {
+        match limit {
+            1 => Some(Refusal::ManyLines),
+            2 => Some(Refusal::LongLine),
+            3 => Some(Refusal::LongFrame),
+            4 => Some(Refusal::ManyFrames),
+            5 => Some(Refusal::ManyAps),
+            6 => Some(Refusal::ManyStas),
+            _ => None,
+        }
+    }
+}
+
+/// Why a line is not taken.
+#[derive(Clone, Copy)]
+pub enum Untaken {
+    /// It is refused.
+    Refused(Refusal),
+    /// Memory ran out.
+    NoMemory,
+}
+
 impl From<Refusal> for LineFault {
     ghost use Rattle.std.specs.Prelude.{◌≡◌};
-    ghost use Rattle.frame_script.specs.Sentences.{answer_of, fault_of};
+    ghost use Rattle.frame_script.specs.Refusals.{answer_of, fault_of};
 
     ghost from_gives = { λ r e. e ≡ answer_of (fault_of r) };
 
@@ -47,10 +120,26 @@ impl From<Refusal> for LineFault {
             Refusal::Place => LineFault::Script(6),
             Refusal::Duplicate => LineFault::Script(8),
             Refusal::Mode => LineFault::Script(9),
+            Refusal::ManyLines => LineFault::Limit(1),
+            Refusal::LongLine => LineFault::Limit(2),
             Refusal::LongFrame => LineFault::Limit(3),
             Refusal::ManyFrames => LineFault::Limit(4),
             Refusal::ManyAps => LineFault::Limit(5),
             Refusal::ManyStas => LineFault::Limit(6),
+        }
+    }
+}
+
+impl From<Untaken> for LineFault {
+    ghost use Rattle.std.specs.Prelude.{◌≡◌};
+    ghost use Rattle.frame_script.specs.Refusals.{numbered};
+
+    ghost from_gives = { λ s e. e ≡ numbered s };
+
+    fn from(untaken: Untaken) -> Self {
+        match untaken {
+            Untaken::Refused(refusal) => refusal.into(),
+            Untaken::NoMemory => LineFault::NoMemory,
         }
     }
 }

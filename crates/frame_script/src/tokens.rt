@@ -11,7 +11,8 @@ use hex::FromHex;
 /// What stands behind the word at the front of the text.
 #[tactic(auto, unfolding(crate::specs::Tokens::behind))]
 pub(crate) fn behind<'a>(word: &[u8], text: &'a [u8]) -> Option<&'a [u8]>
-    ensures { MatchOption result (behind word.now text.now ≡ None) (λ rest. behind word.now text.now ≡ Some rest.now) }
+    ensures { MatchOption result (behind word.now text.now ≡ None)
+        (λ rest. behind word.now text.now ≡ Some rest.now) }
 {
     text.strip_prefix(word)
 }
@@ -26,7 +27,8 @@ fn first_space(text: &[u8]) -> Option<usize>
 /// What stands before the first space, and what stands behind it.
 #[tactic(auto, unfolding(crate::specs::Tokens::split_word))]
 pub(crate) fn split_word(text: &[u8]) -> Option<(&[u8], &[u8])>
-    ensures { MatchOption result (split_word text.now ≡ None) (λ words. split_word text.now ≡ Some (words.0.now, words.1.now)) }
+    ensures { MatchOption result (split_word text.now ≡ None)
+        (λ words. split_word text.now ≡ Some (words.0.now, words.1.now)) }
 {
     let place = first_space(text)?;
     let (word, _) = text.split_at(place);
@@ -116,7 +118,8 @@ pub(crate) enum NodeName {
 // The number behind a letter.
 #[tactic(auto, unfolding(crate::specs::Tokens::numbered))]
 fn number_behind(letter: &[u8], word: &[u8]) -> Option<u64>
-    ensures { (is_ap : Bool) → option_map (named is_ap) result ≡ numbered is_ap letter.now word.now }
+    ensures { (is_ap : Bool)
+        → option_map (named is_ap) result ≡ numbered is_ap letter.now word.now }
 {
     number_of_digits(behind(letter, word)?)
 }

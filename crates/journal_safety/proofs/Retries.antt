@@ -22,6 +22,7 @@ use Rattle.domain_rules.specs.Counters.{sent_count, next_in_attempt}
 use Rattle.domain_rules.specs.GroupKeys.{newest, newest_uses}
 use Rattle.domain_rules.specs.Rows.{NodeEvent, Take, Begin, Retry, Adds}
 use Rattle.domain_rules.specs.AccessPointRows.{most_sends, again_or_give_up, m3_again, retry_attempt, retry_acts}
+use Rattle.domain_rules.specs.Here.{here}
 use Rattle.run_journal.specs.GroupKinds as groups
 use Rattle.journal_safety.proofs.Ends.{Tail, tail_refl}
 use Rattle.journal_safety.proofs.Legal.{nonce_of, derives, LegalDerived, HasDrawn, Legal, LegalHistory}
@@ -117,7 +118,7 @@ retry_fine d n s h (Some part) legal settled a = retry_if d n s h part legal set
 
 -- ---- each event
 
-pub adds_fine : (d : Domain) (first : ℕ) (n : Node) (h : List Act) (event : NodeEvent) (g : List Act) → LegalHistory d n h → Settled d n h → Adds d first n h event g → Fine d n h g
+pub adds_fine : (d : Domain) (first : ℕ) (n : Node) (h : List Act) (event : NodeEvent) (g : List Act) → LegalHistory d n h → Settled d n h → Adds (here d first n) h event g → Fine d n h g
 adds_fine d first n h (Take octets) g legal s row = take_fine d first n h octets row.r row.facts g row.reads row.knows legal s row.row
 adds_fine d first n h (Begin a) g legal s row = connect_fine d first n h (Ap a) g s row
 adds_fine d first n h (Retry s) g legal settled is = subst (λ (x : List Act). Fine d n h x) (sym is) (retry_fine d n s h (attempt (Sta s) h) legal settled refl)

@@ -45,6 +45,7 @@ use Rattle.domain_rules.specs.Closing.{close_attempt, close_session, close_pendi
 use Rattle.domain_rules.specs.StationRows.{ConnectRow, Spent, Asks, carried, AssocRespRow, M1Row, M3Row, RepeatedM3Row}
 use Rattle.domain_rules.specs.Rows.{response, IgnoredRow, RefusedRow, TakeRows, By_assoc_req, By_assoc_resp, By_m1, By_m2, By_m3, By_repeated_m3, By_m4, By_ignored, By_refusal}
 use Rattle.domain_rules.specs.AccessPointRows.{AssocReqRow, M2Row, M4Row}
+use Rattle.domain_rules.specs.Here.{here}
 use Rattle.domain_rules.proofs.Parts.{attempt_more, in_part, own_nonce_more}
 use Rattle.run_journal.specs.GroupKinds as groups
 use Rattle.journal_safety.proofs.Covers.{Covers, took_covers}
@@ -77,7 +78,7 @@ size_nonce d n k = length-kdf _ _ _ 32
 abbrev asks : Domain → ℕ → Node → List Act → Node → List Act
 asks d first n h p = Opened p Connect ∷ Drew (Nonce (next_nonce d first n h)) ∷ sent_assoc_req d n p ∷ []
 
-pub connect_fine : (d : Domain) (first : ℕ) (n : Node) (h : List Act) (p : Node) (g : List Act) → Settled d n h → ConnectRow d first n h p g → Fine d n h g
+pub connect_fine : (d : Domain) (first : ℕ) (n : Node) (h : List Act) (p : Node) (g : List Act) → Settled d n h → ConnectRow (here d first n) h p g → Fine d n h g
 connect_fine d first n h p g s (Spent late is) = subst (λ (x : List Act). Fine d n h x) (sym is) (fine_quiet d n h (Idle why.Spent) [] tt refl s (fine_none d n _))
 connect_fine d first n h p g s (Asks early is) =
     let a = fine_pending d n h (pending h) s in
@@ -89,7 +90,7 @@ connect_fine d first n h p g s (Asks early is) =
 abbrev answers : Domain → ℕ → Node → List Act → Node → List Act
 answers d first n h p = Opened p Connect ∷ Drew (Nonce (next_nonce d first n h)) ∷ sent_assoc_resp d n p ∷ sent_m1 d n p 1 (next_nonce d first n h) ∷ []
 
-assoc_req_fine : (d : Domain) (first : ℕ) (n : Node) (h : List Act) (octets : List ℕ) (r : Reading) (facts : Facts) (g : List Act) → Settled d n h → AssocReqRow d first n h octets r facts g → Fine d n h g
+assoc_req_fine : (d : Domain) (first : ℕ) (n : Node) (h : List Act) (octets : List ℕ) (r : Reading) (facts : Facts) (g : List Act) → Settled d n h → AssocReqRow (here d first n) h octets r facts g → Fine d n h g
 assoc_req_fine d first n h octets r facts g s row =
     subst (λ (x : List Act). Fine d n h x) (sym row.says)
     (fine_quiet d n h (Took (Some row.p) octets kind.AssocReq Accepted None) _ tt refl s (λ t.
@@ -99,11 +100,11 @@ assoc_req_fine d first n h octets r facts g s row =
     fine_quiet d n _ (sent_assoc_resp d n row.p) _ (tt, λ is. cc is) refl u (λ v.
     fine_quiet d n _ (sent_m1 d n row.p 1 (next_nonce d first n h)) [] (tt, λ is. cc is) refl v (fine_none d n _))))))
 
-assoc_resp_fine : (d : Domain) (first : ℕ) (n : Node) (h : List Act) (octets : List ℕ) (r : Reading) (facts : Facts) (g : List Act) → Settled d n h → AssocRespRow d first n h octets r facts g → Fine d n h g
+assoc_resp_fine : (d : Domain) (first : ℕ) (n : Node) (h : List Act) (octets : List ℕ) (r : Reading) (facts : Facts) (g : List Act) → Settled d n h → AssocRespRow (here d first n) h octets r facts g → Fine d n h g
 assoc_resp_fine d first n h octets r facts g s row =
     subst (λ (x : List Act). Fine d n h x) (sym row.says) (fine_quiet d n h (Took (Some row.p) octets kind.AssocResp Accepted None) [] tt refl s (fine_none d n _))
 
-ignored_fine : (d : Domain) (first : ℕ) (n : Node) (h : List Act) (octets : List ℕ) (r : Reading) (facts : Facts) (g : List Act) → Settled d n h → IgnoredRow d first n h octets r facts g → Fine d n h g
+ignored_fine : (d : Domain) (first : ℕ) (n : Node) (h : List Act) (octets : List ℕ) (r : Reading) (facts : Facts) (g : List Act) → Settled d n h → IgnoredRow (here d first n) h octets r facts g → Fine d n h g
 ignored_fine d first n h octets r facts g s row =
     subst (λ (x : List Act). Fine d n h x) (sym row.says) (fine_quiet d n h (Took None octets kind.Ignored Ignored None) [] tt refl s (fine_none d n _))
 
@@ -111,7 +112,7 @@ response_fine : (d : Domain) (n : Node) (h : List Act) (from : Option Node) (k :
 response_fine d (Ap a) h (Some p) kind.AssocReq (reason.Status code) s = fine_quiet d (Ap a) h (sent_refusal d (Ap a) p code) [] (tt, λ is. cc is) refl s (fine_none d (Ap a) _)
 response_fine d n h from k _ s = fine_none d n h s
 
-refused_fine : (d : Domain) (first : ℕ) (n : Node) (h : List Act) (octets : List ℕ) (r : Reading) (facts : Facts) (g : List Act) → Settled d n h → RefusedRow d first n h octets r facts g → Fine d n h g
+refused_fine : (d : Domain) (first : ℕ) (n : Node) (h : List Act) (octets : List ℕ) (r : Reading) (facts : Facts) (g : List Act) → Settled d n h → RefusedRow (here d first n) h octets r facts g → Fine d n h g
 refused_fine d first n h octets r facts g s row =
     subst (λ (x : List Act). Fine d n h x) (sym row.says) (fine_quiet d n h _ (response d n (sender d n r) (kind_of r) row.why) tt refl s (response_fine d n _ (sender d n r) (kind_of r) row.why))
 
@@ -223,7 +224,7 @@ derived_by : (d : Domain) (n p : Node) (h part : List Act) (k : KeyMessage) (fro
 derived_by d n p h part k from octets kd out o seal i other t a w =
     subst (λ (x : Inputs). LegalDerived d n (Took from octets kd o seal ∷ h) p x (ptk x)) (sym w.is) (legal_derived d n p h part k from octets kd out o seal w.v other t a w.drawn)
 
-m1_fine : (d : Domain) (first : ℕ) (n : Node) (h : List Act) (octets : List ℕ) (r : Reading) (facts : Facts) (g : List Act) → Reads d.akm octets r → LegalHistory d n h → Settled d n h → M1Row d first n h octets r facts g → Fine d n h g
+m1_fine : (d : Domain) (first : ℕ) (n : Node) (h : List Act) (octets : List ℕ) (r : Reading) (facts : Facts) (g : List Act) → Reads d.akm octets r → LegalHistory d n h → Settled d n h → M1Row (here d first n) h octets r facts g → Fine d n h g
 m1_fine d first n h octets r facts g reads legal s row =
     let a = arrived d first n row.p h octets r row.k facts row.is reads row.from row.accepted in
     let role : is_ap n ≡ false = station_of d n row.p h row.k Accepted a.taken (ap ack row.message_is) in
@@ -234,7 +235,7 @@ m1_fine d first n h octets r facts g reads legal s row =
     fine_quiet d n _ (derives row.p row.i) _ (derived_by d n row.p h row.part row.k (Some row.p) octets (kind.Key M1) Accepted Accepted None row.i row.k.fields.nonce a.taken row.awaited w) refl t (λ u.
     fine_quiet d n _ (sent_m2 d n row.p (keyed_by row.i) row.k.fields.counter) [] (legal_m2 d n row.p _ row.i row.k.fields.counter role (inl refl) size) refl u (fine_none d n _))))
 
-m2_fine : (d : Domain) (first : ℕ) (n : Node) (h : List Act) (octets : List ℕ) (r : Reading) (facts : Facts) (g : List Act) → Reads d.akm octets r → LegalHistory d n h → Settled d n h → M2Row d first n h octets r facts g → Fine d n h g
+m2_fine : (d : Domain) (first : ℕ) (n : Node) (h : List Act) (octets : List ℕ) (r : Reading) (facts : Facts) (g : List Act) → Reads d.akm octets r → LegalHistory d n h → Settled d n h → M2Row (here d first n) h octets r facts g → Fine d n h g
 m2_fine d first n h octets r facts g reads legal s row =
     let a = arrived d first n row.p h octets r row.k facts row.is reads row.from row.accepted in
     let role : is_ap n ≡ true = access_of d n row.p h row.k Accepted a.taken (ap ack row.message_is) in
@@ -336,7 +337,7 @@ m3_core d n p h part octets k i plain e w a r o is =
 abbrev m3_acts : Domain → Node → Node → List Act → List ℕ → KeyMessage → Inputs → Ptk → Option ElementFields → List Act
 m3_acts d n p h octets k i x c = Took (Some p) octets (kind.Key M3) Accepted (Some (frame_seal x.kck k.octets)) ∷ Installed (One p) (Pairwise x.tk i) ∷ give groups.Gtk p (mac d p) (carried c) h ∷ Finished p i ∷ sent_m4 d n p (record { inputs = i; ptk = x }) k.fields.counter ∷ []
 
-m3_fine : (d : Domain) (first : ℕ) (n : Node) (h : List Act) (octets : List ℕ) (r : Reading) (facts : Facts) (g : List Act) → Reads d.akm octets r → Knows d first n h r facts → LegalHistory d n h → Settled d n h → M3Row d first n h octets r facts g → Fine d n h g
+m3_fine : (d : Domain) (first : ℕ) (n : Node) (h : List Act) (octets : List ℕ) (r : Reading) (facts : Facts) (g : List Act) → Reads d.akm octets r → Knows d first n h r facts → LegalHistory d n h → Settled d n h → M3Row (here d first n) h octets r facts g → Fine d n h g
 m3_fine d first n h octets r facts g reads knows legal s row =
     let a = arrived d first n row.p h octets r row.k facts row.is reads row.from row.accepted in
     let i : Inputs = row.y.key.inputs in
@@ -358,7 +359,7 @@ m3_fine d first n h octets r facts g reads knows legal s row =
 abbrev again_acts : Domain → Node → Node → List ℕ → KeyMessage → Inputs → Ptk → List Act
 again_acts d n p octets k i x = Took (Some p) octets (kind.Key M3) Answered (Some (frame_seal x.kck k.octets)) ∷ sent_m4 d n p (record { inputs = i; ptk = x }) k.fields.counter ∷ []
 
-repeated_m3_fine : (d : Domain) (first : ℕ) (n : Node) (h : List Act) (octets : List ℕ) (r : Reading) (facts : Facts) (g : List Act) → Reads d.akm octets r → LegalHistory d n h → Settled d n h → RepeatedM3Row d first n h octets r facts g → Fine d n h g
+repeated_m3_fine : (d : Domain) (first : ℕ) (n : Node) (h : List Act) (octets : List ℕ) (r : Reading) (facts : Facts) (g : List Act) → Reads d.akm octets r → LegalHistory d n h → Settled d n h → RepeatedM3Row (here d first n) h octets r facts g → Fine d n h g
 repeated_m3_fine d first n h octets r facts g reads legal s row =
     let a = arrived_again d first n row.p h octets r row.k facts row.is reads row.from row.answered in
     let role : is_ap n ≡ false = station_of d n row.p h row.k Answered a.taken (ap ack row.message_is) in
@@ -384,7 +385,7 @@ m4_core d n p h i s v a (Some x) = fine_quiet d n h (Closed p Session) (installs
 abbrev m4_acts : Domain → Node → List Act → List ℕ → KeyMessage → Inputs → Ptk → List Act
 m4_acts d p h octets k i x = Took (Some p) octets (kind.Key M4) Accepted (Some (frame_seal x.kck k.octets)) ∷ close_session p (session p h) ++ Installed (One p) (Pairwise x.tk i) ∷ Finished p i ∷ []
 
-m4_fine : (d : Domain) (first : ℕ) (n : Node) (h : List Act) (octets : List ℕ) (r : Reading) (facts : Facts) (g : List Act) → Reads d.akm octets r → LegalHistory d n h → Settled d n h → M4Row d first n h octets r facts g → Fine d n h g
+m4_fine : (d : Domain) (first : ℕ) (n : Node) (h : List Act) (octets : List ℕ) (r : Reading) (facts : Facts) (g : List Act) → Reads d.akm octets r → LegalHistory d n h → Settled d n h → M4Row (here d first n) h octets r facts g → Fine d n h g
 m4_fine d first n h octets r facts g reads legal s row =
     let a = arrived d first n row.p h octets r row.k facts row.is reads row.from row.accepted in
     let i : Inputs = row.x.inputs in
@@ -398,7 +399,7 @@ m4_fine d first n h octets r facts g reads legal s row =
 
 -- ---- octets come
 
-pub take_fine : (d : Domain) (first : ℕ) (n : Node) (h : List Act) (octets : List ℕ) (r : Reading) (facts : Facts) (g : List Act) → Reads d.akm octets r → Knows d first n h r facts → LegalHistory d n h → Settled d n h → TakeRows d first n h octets r facts g → Fine d n h g
+pub take_fine : (d : Domain) (first : ℕ) (n : Node) (h : List Act) (octets : List ℕ) (r : Reading) (facts : Facts) (g : List Act) → Reads d.akm octets r → Knows d first n h r facts → LegalHistory d n h → Settled d n h → TakeRows (here d first n) h octets r facts g → Fine d n h g
 take_fine d first n h octets r facts g reads knows legal s (By_assoc_req row) = assoc_req_fine d first n h octets r facts g s row
 take_fine d first n h octets r facts g reads knows legal s (By_assoc_resp row) = assoc_resp_fine d first n h octets r facts g s row
 take_fine d first n h octets r facts g reads knows legal s (By_m1 row) = m1_fine d first n h octets r facts g reads legal s row

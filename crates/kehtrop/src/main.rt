@@ -1,14 +1,12 @@
-//! Replays a script of a domain of access points and stations from standard input, and prints what happened.
+//! Replays a script of a domain of access points and stations from standard input, and prints what
+//! happened.
 #![tactic(auto)]
 
 use domain_cli::{Status, command, exit_number};
 use std::process::ExitCode;
 
 fn main(rt: HostRuntime) -> ExitCode {
-    let status = match command(&rt, rt.stdin(), rt.stdout()) {
-        Ok(status) => status,
-        Err(status) => status,
-    };
+    let status = command(&rt, rt.stdin(), rt.stdout());
     if status != Status::Done {
         let _ = eprintln!(rt; "{status}");
     }

@@ -2,3 +2,4 @@ pub mod Sizes
 pub mod Parts
 pub mod FastTransition
 pub mod Keys
+pub mod Shared

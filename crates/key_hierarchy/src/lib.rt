@@ -7,9 +7,11 @@ mod derivation;
 mod fast_transition;
 mod inputs;
 mod pairwise;
+mod shared_inputs;
 
 pub use answers::{PullAnswer, PutAnswer, RevokeAnswer};
 pub use derivation::{psk_of, ptk_of};
 pub use fast_transition::{PmkR0, PmkR1, ptk_from_r1, ptk_name};
 pub use inputs::{Inputs, Ptk};
 pub use pairwise::pairwise_ptk;
+pub use shared_inputs::{BoxedInputs, LastInputs, SharedInputs};

@@ -2,7 +2,7 @@
 
 ghost use Rattle.std.specs.Prelude.{◌≡◌, ◌≢◌, ◌<◌, length};
 ghost use Rattle.domain_base.specs.declared.names.Akm.{Akm as AnyAkm};
-ghost use Rattle.domain_rules.specs.Network.{InForm, last_draw};
+ghost use Rattle.domain_rules.specs.Network.{InForm, draw_end};
 
 mod handshakes;
 mod requests;
@@ -11,9 +11,10 @@ use crate::acts::Expected::{Drew, Group};
 use crate::acts::{Event, Expected, Step, come, come_of, is_outcome};
 use crate::network::network;
 use crate::vectors::GTK;
+use act_memory::Outbox;
 use ap_node::ApNode;
 use domain_base::{Akm, Peer};
-use node_frames::{NodeEvent, Outbox};
+use node_base::NodeEvent;
 use run_journal::{Domain, Drawn, Outcome};
 use std::alloc::Global;
 use std::process::Abort;
@@ -73,7 +74,7 @@ fn start(
     out: &mut Outbox,
     acts: &[Expected],
 ) -> ApNode
-    requires draw { first < last_draw }
+    requires draw { first < draw_end }
     requires aps { length domain.now.aps ≡ 2 }
     ensures { result.number ≡ 0 }
 {
@@ -92,7 +93,7 @@ fn try_steps(
     scenario: &[Step],
 )
     requires akm { akm ≢ AnyAkm.FtPsk }
-    requires draw { first < last_draw }
+    requires draw { first < draw_end }
 {
     let domain = network(rt, alloc, akm);
     let mut out = Outbox::new(alloc);

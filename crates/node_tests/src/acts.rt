@@ -2,11 +2,11 @@
 
 use crate::air_frames::Keys;
 use crate::vectors::A1_ADDRESS;
+use act_memory::Outbox;
 use domain_base::{NoMemory, Node, Peer};
 use eapol_key::Message;
-use key_hierarchy::{Inputs, Ptk};
-use node_frames::Outbox;
-use run_journal::{Act, Drawn, Key, Kind, Outcome, Part, Seal, Start, Why};
+use key_hierarchy::{Ptk, SharedInputs};
+use run_journal::{Act, BoxedSeal, Drawn, Key, Kind, Outcome, Part, Start, Why};
 
 /// An event at a node, by the number of the other node.
 #[derive(Clone, Copy)]
@@ -61,9 +61,12 @@ fn is_covered(covered: &[u8], frame: &[u8]) -> bool {
         && &covered[98..] == &frame[129..]
 }
 
-fn is_sealed(seal: &Option<Seal>, frame: &[u8], keys: &Keys) -> bool {
+fn is_sealed(seal: &Option<BoxedSeal>, frame: &[u8], keys: &Keys) -> bool {
     match seal {
-        Some(seal) => seal.key == keys.ptk.kck && is_covered(seal.octets.as_slice(), frame),
+        Some(seal) => {
+            let seal = seal.seal();
+            seal.key == keys.ptk.kck && is_covered(seal.octets.as_slice(), frame)
+        }
         None => false,
     }
 }
@@ -89,7 +92,8 @@ fn is_drawn(act: &Act, wanted: Drawn) -> bool {
     }
 }
 
-fn are_inputs(inputs: &Inputs, keys: &Keys) -> bool {
+fn are_inputs(inputs: &SharedInputs, keys: &Keys) -> bool {
+    let inputs = inputs.inputs();
     inputs.anonce == keys.anonce && inputs.snonce == keys.snonce
 }
 
@@ -123,7 +127,7 @@ fn is_sent(act: &Act, node: Node, what: Kind, frame: &[u8], keys: Option<&Keys>)
     }
 }
 
-fn is_sealed_or_not(seal: &Option<Seal>, frame: &[u8], keys: Option<&Keys>) -> bool {
+fn is_sealed_or_not(seal: &Option<BoxedSeal>, frame: &[u8], keys: Option<&Keys>) -> bool {
     match keys {
         Some(keys) => is_sealed(seal, frame, keys),
         None => seal.is_none(),

@@ -9,7 +9,8 @@ use crate::vectors::{A1, A1_ADDRESS, A2, A2_ADDRESS, S1, S1_ADDRESS, S2, S2_ADDR
 use air_frame::AirFault;
 use domain_base::{Akm, Mac, Node};
 use eapol_key::{FaultKind, FrameFault, Message};
-use node_frames::{Judged, address, judge, peer_of, read, rsne_status};
+use frame_intake::{Judged, judge, read};
+use node_base::{address, peer_of, rsne_status};
 use rsn_elements::{ElementFault, FaultKind as ElementFaultKind, Within, read_elements};
 use run_journal::{Domain, Kind, Malformed, Outcome, Reason};
 use std::alloc::Global;

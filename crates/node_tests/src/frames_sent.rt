@@ -11,11 +11,10 @@ use crate::vectors::{
 };
 use domain_base::{Akm, NoMemory, Node, Peer};
 use eapol_key::Message;
+use frame_making::{assoc_req, assoc_resp, refusal, write_m1, write_m2, write_m3, write_m4};
 use group_key::GroupKey;
-use node_frames::{
-    Ends, assoc_req, assoc_resp, gtk, nonce, refusal, write_m1, write_m2, write_m3, write_m4,
-};
-use run_journal::{Act, Domain, Kind, Reply};
+use node_base::{Ends, Here, gtk, nonce};
+use run_journal::{Act, Domain, Keyed, Kind, Reply};
 use std::alloc::Global;
 use std::process::Abort;
 
@@ -66,25 +65,20 @@ fn are_sent(alloc: Global, domain: &Domain) -> bool
     requires aps { length domain.now.aps ≡ 2 }
     requires stas { length domain.now.stas ≡ 2 }
 {
-    is_sent(assoc_req(alloc, domain, 0, 0), A1, Kind::AssocReq, REQUEST)
-        && is_sent(
-            assoc_resp(alloc, domain, 0, 0),
-            S1,
-            Kind::AssocResp,
-            RESPONSE,
-        )
-        && is_sent(
-            assoc_resp(alloc, domain, 0, 1),
-            S2,
-            Kind::AssocResp,
-            RESPONSE_TO_S2,
-        )
-        && is_sent(
-            refusal(alloc, domain, 0, 0, 43),
-            S1,
-            Kind::AssocResp,
-            REFUSAL,
-        )
+    let at_s1 = Here {
+        alloc,
+        domain,
+        node: S1,
+    };
+    let at_a1 = Here {
+        alloc,
+        domain,
+        node: A1,
+    };
+    is_sent(assoc_req(at_s1, 0), A1, Kind::AssocReq, REQUEST)
+        && is_sent(assoc_resp(at_a1, 0), S1, Kind::AssocResp, RESPONSE)
+        && is_sent(assoc_resp(at_a1, 1), S2, Kind::AssocResp, RESPONSE_TO_S2)
+        && is_sent(refusal(at_a1, 0, 43), S1, Kind::AssocResp, REFUSAL)
 }
 
 #[test]
@@ -100,6 +94,15 @@ fn ends_at_the_access_point(rt: &impl Abort, alloc: Global, suite: &Suite) -> En
 
 fn ends_at_the_station(rt: &impl Abort, alloc: Global, suite: &Suite) -> Ends {
     Ends::between(&network(rt, alloc, suite.akm), S1, A1)
+}
+
+// The pairwise key of the suite, with its nonces.
+fn keyed(suite: &Suite) -> Keyed {
+    Keyed {
+        ptk: suite.keys,
+        anonce: ANONCE,
+        snonce: SNONCE,
+    }
 }
 
 // A reply that was verified under another key.
@@ -158,7 +161,7 @@ fn first_message(rt: HostRuntime) {
 fn second(rt: &impl Abort, alloc: Global, suite: &Suite) {
     let ends = ends_at_the_station(rt, alloc, suite);
     let mut reply = verified();
-    write_m2(&ends, &suite.keys, 1, &SNONCE, &mut reply);
+    write_m2(&ends, &keyed(suite), 1, &mut reply);
     let mic = suite.m2;
     let pieces = [
         TO_AP,
@@ -223,7 +226,7 @@ fn third(rt: &impl Abort, alloc: Global, id: u8, rsc: u64, has: &ThirdMessage)
     let key = GTK;
     let group = GroupKey { place, id, key };
     let mut reply = verified();
-    write_m3(&ends, &suite.keys, 2, &ANONCE, &group, rsc, &mut reply);
+    write_m3(&ends, &keyed(suite), 2, &group, rsc, &mut reply);
     let rsc_field = has.rsc;
     let mic = has.mic;
     let pieces = [
@@ -253,7 +256,7 @@ fn third_message(rt: HostRuntime) {
 fn fourth(rt: &impl Abort, alloc: Global, suite: &Suite) {
     let ends = ends_at_the_station(rt, alloc, suite);
     let mut reply = verified();
-    write_m4(&ends, &suite.keys, 2, &mut reply);
+    write_m4(&ends, &keyed(suite), 2, &mut reply);
     let mic = suite.m4;
     let pieces = [
         TO_AP,

@@ -3,16 +3,19 @@
 ghost use Rattle.std.specs.Prelude.{◌≤◌, ◌+◌};
 ghost use Rattle.run_journal.specs.Replies.{IsWhole};
 ghost use Rattle.domain_rules.specs.Network.{IsListed};
-ghost use Rattle.node_frames.specs.Judging.{IsPeerOf};
+ghost use Rattle.node_base.specs.Peers.{IsPeerOf};
 
 use crate::network::network;
 use crate::vectors::{A1, A1_ADDRESS, ANONCE, GTK, S1, S1_ADDRESS, SNONCE};
+use act_memory::{Between, Outbox, Room, SendRoom, settle};
+use air_frame::{Direction, Header};
 use domain_base::{Akm, Node, Peer};
-use eapol_key::Message;
-use key_hierarchy::{Inputs, Ptk};
-use node_frames::{Between, Outbox, Room, SendRoom, settle};
+use eapol_key::{KeyFrame, Message};
+use frame_intake::{Heard, KeyMessage};
+use key_hierarchy::{Ptk, SharedInputs};
+use node_base::Here;
 use run_journal::{
-    Act, Domain, GtkNews, Key, Keyed, Kind, Outcome, Part, REPLY_LEN, Reason, Reply, Seal, Why,
+    Act, BoxedSeal, Domain, GtkNews, Key, Keyed, Kind, Outcome, Part, REPLY_LEN, Reason, Reply, Why,
 };
 use std::alloc::Global;
 use std::process::Abort;
@@ -63,7 +66,8 @@ fn full(resumed: bool) -> Reply
 }
 
 // The inputs are those of the key between the station and the access point.
-fn are_inputs(inputs: &Inputs) -> bool {
+fn are_inputs(inputs: &SharedInputs) -> bool {
+    let inputs = inputs.inputs();
     inputs.anonce == ANONCE
         && inputs.snonce == SNONCE
         && inputs.aa == A1_ADDRESS
@@ -72,9 +76,12 @@ fn are_inputs(inputs: &Inputs) -> bool {
 }
 
 // The seal is of a frame whose octets are all that, under that key.
-fn is_seal(seal: &Option<Seal>, octet: u8, key: [u8; 16]) -> bool {
+fn is_seal(seal: &Option<BoxedSeal>, octet: u8, key: [u8; 16]) -> bool {
     match seal {
-        Some(seal) => seal.key == key && is_covered(seal.octets.as_slice(), octet),
+        Some(seal) => {
+            let seal = seal.seal();
+            seal.key == key && is_covered(seal.octets.as_slice(), octet)
+        }
         None => false,
     }
 }
@@ -279,8 +286,46 @@ fn room_at(rt: &impl Abort, alloc: Global, domain: &Domain, node: Node, peer: No
     requires listed { IsListed domain.now node }
     requires peer { IsPeerOf domain.now node peer }
 {
-    let (_, frame) = CAME.split_at(32);
-    Room::take(alloc, domain, node, peer, &CAME, frame).expect(rt, "memory")
+    let here = Here {
+        alloc,
+        domain,
+        node,
+    };
+    let (header, frame) = CAME.split_at(32);
+    let heard = Heard {
+        octets: &CAME,
+        message: message_3(header, frame),
+    };
+    Room::take(here, peer, &heard).expect(rt, "memory")
+}
+
+// Message 3 in what comes: of its frame the octets alone are looked at.
+fn message_3<'a>(header: &'a [u8], frame: &'a [u8]) -> KeyMessage<'a> {
+    let frame = KeyFrame {
+        version: 2,
+        information: 0,
+        key_length: 0,
+        counter: 0,
+        nonce: [0; 32],
+        iv: [0; 16],
+        rsc: [0; 8],
+        reserved: [0; 8],
+        mic: [0; 16],
+        key_data: &[],
+        octets: frame,
+    };
+    let header = Header {
+        octets: header,
+        a1: S1_ADDRESS,
+        a2: A1_ADDRESS,
+        a3: A1_ADDRESS,
+    };
+    KeyMessage {
+        header,
+        direction: Direction::FromDs,
+        message: Message::M3,
+        frame,
+    }
 }
 
 // A reply to M3 at the station.
@@ -297,14 +342,8 @@ fn at_the_station(
 {
     let domain = network(rt, alloc, Akm::Psk);
     let room = room_at(rt, alloc, &domain, S1, A1);
-    room.add_reply(
-        Message::M3,
-        outcome,
-        had_session,
-        reply,
-        Between::nothing(alloc),
-        outbox,
-    );
+    let between = Between::nothing(alloc);
+    room.add_reply(outcome, had_session, reply, between, outbox);
 }
 
 const ALL: [Want; 7] = [
@@ -373,14 +412,8 @@ fn at_the_access_point(rt: &impl Abort, alloc: Global, outbox: &mut Outbox)
     let room = room_at(rt, alloc, &domain, A1, S1);
     let mut reply = Reply::empty();
     reply.derived = Some(KEYED);
-    room.add_reply(
-        Message::M3,
-        Outcome::Accepted,
-        true,
-        &reply,
-        Between::nothing(alloc),
-        outbox,
-    );
+    let between = Between::nothing(alloc);
+    room.add_reply(Outcome::Accepted, true, &reply, between, outbox);
 }
 
 const DERIVED: [Want; 2] = [Want::Took(Outcome::Accepted, false), Want::Derived];

@@ -2,15 +2,16 @@
 
 ghost use Rattle.std.specs.Prelude.{◌≡◌, ◌≢◌, ◌<◌, length};
 ghost use Rattle.domain_base.specs.declared.names.Akm.{Akm as AnyAkm};
-ghost use Rattle.domain_rules.specs.Network.{InForm, last_draw};
+ghost use Rattle.domain_rules.specs.Network.{InForm, draw_end};
 
 mod association;
 mod handshakes;
 
 use crate::acts::{Event, Step, come_of, is_outcome};
 use crate::network::network;
+use act_memory::Outbox;
 use domain_base::Akm;
-use node_frames::{NodeEvent, Outbox};
+use node_base::NodeEvent;
 use run_journal::Domain;
 use station_node::StationNode;
 use std::alloc::Global;
@@ -61,7 +62,7 @@ fn follow(
 
 // A station, which begins to draw at that number, takes these steps.
 fn try_steps(rt: &impl Abort, alloc: Global, first: u64, scenario: &[Step])
-    requires { first < last_draw }
+    requires { first < draw_end }
 {
     let domain = network(rt, alloc, Akm::Psk);
     let mut node = StationNode::start(alloc, 0, first);

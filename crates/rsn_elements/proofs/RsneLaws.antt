@@ -1,11 +1,10 @@
 -- A body spells one RSNE at most.
 use Rattle.std.proofs.Common.{◌≡◌, ℕ, ◌+◌, ◌-◌, ◌*◌, ◌<◌, ◌≤◌, List, [], ◌∷◌, ◌++◌, length, take, drop, get_or, Option, Some, None, refl, sym, ap, subst, ◌∙◌, arith}
-use Rattle.std.specs.Prelude.{MatchOption}
 use Rattle.std.specs.Int.{w16, from_le_bytes}
 use Rattle.std.proofs.lemmas.List.{take-append-le, length-append, take_all}
 use Rattle.domain_base.specs.Places.{little_endian_at}
 use Rattle.rsn_elements.specs.Rsne.{RsneFields, IsSuite, IsNumber, IsList, Field, SpellsRsne}
-use Rattle.rsn_elements.specs.RsneSteps.{IsBroken}
+use Rattle.rsn_elements.specs.RsneSteps.{IsBroken, LeadsBy}
 use Rattle.rsn_elements.proofs.Cuts.{same_cut}
 
 -- a field that is there has octets, and its octets end at one place and have one value
@@ -76,6 +75,26 @@ module _ (body : List ℕ) (f : RsneFields) (s : SpellsRsne body f) where
   pub at_management : (r5 r6 : List ℕ) (m : Option (List ℕ)) → s.behind_pmkids ≡ r5 → Field IsSuite r5 m r6 → f.management ≡ m
   at_management r5 r6 m e h = (same_field IsSuite suite_cut r5 _ r6 f.management m (subst (λ (w : List ℕ). Field IsSuite w f.management s.behind_management) e s.management) h).0
 
+-- The suites at the front of two readings are the same, and so are those of an RSNE that the body spells.
+pub same_leading : (octets r s : List ℕ) (g h p q a b : Option (List ℕ)) → LeadsBy octets g p a r → LeadsBy octets h q b s → ((g ≡ h) × (p ≡ q)) × ((a ≡ b) × (r ≡ s))
+same_leading octets r s g h p q a b l m =
+    let group = same_field IsSuite suite_cut octets _ _ g h l.group m.group in
+    let pairwise = same_field (IsList 4) (list_cut 4) _ _ _ p q (subst (λ (w : List ℕ). Field (IsList 4) w p l.behind_pairwise) group.1 l.pairwise) m.pairwise in
+    let akms = same_field (IsList 4) (list_cut 4) _ r s a b (subst (λ (w : List ℕ). Field (IsList 4) w a r) pairwise.1 l.akms) m.akms in
+    ((group.0, pairwise.0), (akms.0, akms.1))
+
+pub leads : (body octets : List ℕ) (f : RsneFields) (s : SpellsRsne body f) → s.behind_version ≡ octets → LeadsBy octets f.group f.pairwise f.akms s.behind_akms
+leads body octets f s e = record {
+  behind_group = s.behind_group;
+  behind_pairwise = s.behind_pairwise;
+  group = subst (λ (w : List ℕ). Field IsSuite w f.group s.behind_group) e s.group;
+  pairwise = s.pairwise;
+  akms = s.akms;
+}
+
+pub at_leading : (octets r : List ℕ) (f : RsneFields) (s : SpellsRsne (1 ∷ 0 ∷ octets) f) (g p a : Option (List ℕ)) → LeadsBy octets g p a r → s.behind_akms ≡ r
+at_leading octets r f s g p a l = (same_leading octets _ r f.group g f.pairwise p f.akms a (leads _ octets f s (at_version _ f s octets refl)) l).1.1
+
 made : ℕ → Option (List ℕ) → Option (List ℕ) → Option (List ℕ) → Option ℕ → Option (List ℕ) → Option (List ℕ) → RsneFields
 made v g p a c n m = record { version = v; group = g; pairwise = p; akms = a; capabilities = c; pmkids = n; management = m }
 
@@ -101,10 +120,6 @@ same_rsne body f g s t =
 -- where the body spells an RSNE, each field stands
 pub broken : {A : Type 0} (Spells : List ℕ → A → Type 0) (octets now rest : List ℕ) (o : Option A) → octets ≡ now → Field Spells octets o rest → IsBroken Spells now → ⊥
 broken Spells octets now rest o e h b = b o rest (subst (λ (w : List ℕ). Field Spells w o rest) e h)
-
-pub none_case : {T : Type 0} (r : Option T) (P : Type 0) (Q : T → Type 0) → r ≡ None → P → MatchOption r P Q
-none_case None P Q e p = p
-none_case (Some x) P Q e p = absurd cc
 
 -- the two octets of a version, and the rest
 pub begins : (body : List ℕ) → 2 ≤ length body → get_or body 0 0 ≡ 1 → get_or body 1 0 ≡ 0 → body ≡ 1 ∷ 0 ∷ take (length body - 2) (drop 2 body)

@@ -1,14 +1,30 @@
 -- What the private readers of an RSNE answer. No public contract cites them.
-use Rattle.std.specs.Prelude.{ℕ, List, ◌∷◌, Option, Result, Ok, Err}
+use Rattle.std.specs.Prelude.{ℕ, List, ◌∷◌, Option, option_map, Result, Ok, Err}
 use Rattle.rsn_elements.specs.declared.security.Rsne.{Rsne}
+use Rattle.rsn_elements.specs.declared.security.Leading.{Leading}
 use Rattle.rsn_elements.specs.declared.faults.FaultKind.{FaultKind}
 use Rattle.rsn_elements.specs.declared.faults.FaultKind.TheVariants.{Truncated, Length, Version, Repeated, SubelementLength}
-use Rattle.rsn_elements.specs.Rsne.{RsneFields, SpellsRsne, HasOtherVersion, Field}
+use Rattle.rsn_elements.specs.Rsne.{RsneFields, SpellsRsne, HasOtherVersion, Field, IsSuite, IsList}
 use Rattle.rsn_elements.specs.Fields.{rsne_fields}
 
 -- no field stands at the front
 abbrev pub IsBroken : {A : Type 0} → (List ℕ → A → Type 0) → List ℕ → Type 0
 IsBroken {A} Spells octets = (o : Option A) (rest : List ℕ) → Field Spells octets o rest → ⊥
+
+-- the suites of group traffic, of pairwise traffic and of key management at the front, and the rest behind them
+pub record LeadsBy (octets : List ℕ) (g p a : Option (List ℕ)) (rest : List ℕ) : Type 0 where
+  pub behind_group : List ℕ
+  pub behind_pairwise : List ℕ
+  pub group : Field IsSuite octets g behind_group
+  pub pairwise : Field (IsList 4) behind_group p behind_pairwise
+  pub akms : Field (IsList 4) behind_pairwise a rest
+
+abbrev pub Leads : List ℕ → Leading → List ℕ → Type 0
+Leads octets l rest = LeadsBy octets l.group (option_map (λ s. s.0.now) l.pairwise) (option_map (λ s. s.0.now) l.akms) rest
+
+-- they do not stand at the front
+abbrev pub HasNoLeading : List ℕ → Type 0
+HasNoLeading octets = (g p a : Option (List ℕ)) (rest : List ℕ) → LeadsBy octets g p a rest → ⊥
 
 -- behind the version no whole number of fields stands
 abbrev pub HasNoFields : List ℕ → Type 0

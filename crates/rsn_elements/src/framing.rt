@@ -1,6 +1,8 @@
 //! The one form of all elements: an id, a length and a body.
 
-ghost use Rattle.std.specs.Prelude.{◌≡◌, ◌≤◌, ◌+◌, ◌++◌, length};
+ghost use Rattle.std.specs.Prelude.{◌≡◌, ◌≢◌, ◌≤◌, ◌+◌, ◌++◌, [], length, MatchOption};
+ghost use Rattle.rsn_elements.specs.Framing.{element_octets, IsTruncated};
+ghost use Rattle.rsn_elements.specs.Fields.{element_of};
 ghost use Rattle.rsn_elements.specs.Steps.{IsNext};
 
 /// Where elements stand.
@@ -37,6 +39,23 @@ pub(crate) enum Next<'a> {
     Whole(Found<'a>, &'a [u8]),
 }
 
+// The element at the front, and the octets behind it; none where it is not whole.
+fn whole_element(octets: &[u8]) -> Option<(Found<'_>, &[u8])>
+    ensures { MatchOption result (octets.now ≢ [] → IsTruncated octets.now) (λ r. (octets.now ≡ element_octets (element_of r.0) ++ r.1.now) × (r.0.whole.now ≡ element_octets (element_of r.0))) }
+{
+    let [id, size, tail @ ..] = octets else {
+        return None;
+    };
+    let size = usize::from(*size);
+    if tail.len() < size {
+        return None;
+    }
+    let (body, rest) = tail.split_at(size);
+    let (whole, _) = octets.split_at(2 + size);
+    let id = *id;
+    Some((Found { id, body, whole }, rest))
+}
+
 /// What stands at the front of the octets.
 pub(crate) fn next_element(octets: &[u8], within: Within) -> Next<'_>
     ensures { IsNext within octets.now result }
@@ -44,16 +63,9 @@ pub(crate) fn next_element(octets: &[u8], within: Within) -> Next<'_>
     match octets {
         [] => Next::End,
         [VENDOR] | [VENDOR, 0, ..] if within == Within::KeyData => Next::End,
-        [_] => Next::Truncated,
-        [id, size, tail @ ..] => {
-            let size = usize::from(*size);
-            if tail.len() < size {
-                return Next::Truncated;
-            }
-            let (body, rest) = tail.split_at(size);
-            let (whole, _) = octets.split_at(2 + size);
-            let id = *id;
-            Next::Whole(Found { id, body, whole }, rest)
-        }
+        _ => match whole_element(octets) {
+            Some((element, rest)) => Next::Whole(element, rest),
+            None => Next::Truncated,
+        },
     }
 }

@@ -1,6 +1,6 @@
 //! Reading the elements of a frame body or of key data.
 
-ghost use Rattle.std.specs.Prelude.{◌≡◌, ◌++◌, ◌∷◌, [], ℕ, List, IfOk, IsOkAnd, IfErr, OnOk, Err, IsTrue, false, slice_index_or};
+ghost use Rattle.std.specs.Prelude.{◌≡◌, ◌<◌, ◌+◌, ◌^◌, ◌++◌, ◌∷◌, [], ℕ, List, IfOk, IsOkAnd, IfErr, OnOk, Err, IsTrue, false, slice_index_or};
 ghost use Rattle.rsn_elements.specs.declared.faults.FaultKind.{FaultKind as AnyKind};
 ghost use Rattle.rsn_elements.specs.Framing.{Element, element_octets, EndsReading};
 ghost use Rattle.rsn_elements.specs.declared.framing.Within.TheVariants.{KeyData};
@@ -160,6 +160,18 @@ impl<'a> Gathered<'a> {
         Ok(())
     }
 
+    // A vendor-specific element, of which a GTK KDE alone is kept, and in key data alone.
+    fn take_vendor(&mut self, element: Found<'a>, within: Within) -> Result<(), ElementFault>
+        requires { element.id ≡ 0xdd }
+        ensures ok { OnOk result (TakesIn within (element_of element.entry) self.old self.new) }
+        ensures err { IfErr result (RefusesIn within (element_of element.entry) self.old) }
+    {
+        match within {
+            Within::KeyData if element.body.starts_with(&GTK) => self.take_gtk(element),
+            _ => Ok(()),
+        }
+    }
+
     // A timeout interval of that type stands among the elements.
     fn has_type(&self, kind: u8) -> bool
         ensures { result ≡ slice_index_or self.now.types kind false }
@@ -202,11 +214,20 @@ impl<'a> Gathered<'a> {
             MDE => self.take_mde(element),
             FTE => self.take_fte(element),
             TIMEOUT => self.take_timeout(element),
-            VENDOR if within == Within::KeyData && element.body.starts_with(&GTK) => {
-                self.take_gtk(element)
-            }
+            VENDOR => self.take_vendor(element, within),
             _ => Ok(()),
         }
+    }
+}
+
+// A fault of the element that stands at a place.
+fn moved(fault: ElementFault, place: usize) -> ElementFault
+    requires { place + fault.place < 2 ^ 64 }
+    ensures { result ≡ record { place = place + fault.place; kind = fault.kind } }
+{
+    ElementFault {
+        place: place + fault.place,
+        kind: fault.kind,
     }
 }
 
@@ -228,9 +249,7 @@ fn gathered_from(bytes: &[u8], within: Within) -> Result<Elements<'_>, ElementFa
             }
         };
         if let Err(fault) = gathered.take(element, within) {
-            let place = place + fault.place;
-            let kind = fault.kind;
-            return Err(ElementFault { place, kind });
+            return Err(moved(fault, place));
         }
         rest = behind;
     }

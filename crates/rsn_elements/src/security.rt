@@ -5,7 +5,7 @@ ghost use Rattle.std.specs.Int.{w16};
 ghost use Rattle.domain_base.specs.Places.{part, little_endian_at};
 ghost use Rattle.rsn_elements.specs.Rsne.{Field, IsSuite, IsNumber, IsList, SpellsRsne};
 ghost use Rattle.rsn_elements.specs.Fields.{rsne_fields};
-ghost use Rattle.rsn_elements.specs.RsneSteps.{IsBroken, HasNoFields, IsRsneRead};
+ghost use Rattle.rsn_elements.specs.RsneSteps.{IsBroken, HasNoFields, HasNoLeading, Leads, IsRsneRead};
 
 use crate::faults::FaultKind;
 use domain_base::{array_at, little_u16_at};
@@ -160,21 +160,56 @@ fn management_at(octets: &[u8]) -> Option<Option<[u8; 4]>>
     Some(management)
 }
 
+// The suites that stand first in an RSNE.
+#[derive(Clone, Copy)]
+struct Leading<'a> {
+    group: Option<[u8; 4]>,
+    pairwise: Option<Suites<'a>>,
+    akms: Option<Suites<'a>>,
+}
+
+// The suites of group traffic, of pairwise traffic and of key management at the front, and the octets behind them.
+fn leading_at(octets: &[u8]) -> Option<(Leading<'_>, &[u8])>
+    ensures { MatchOption result (HasNoLeading octets.now) (λ r. Leads octets.now r.0 r.1.now) }
+{
+    let Some((group, rest)) = suite_at(octets) else {
+        return None;
+    };
+    let Some((pairwise, rest)) = suites_at(rest) else {
+        return None;
+    };
+    let Some((akms, rest)) = suites_at(rest) else {
+        return None;
+    };
+    let leading = Leading {
+        group,
+        pairwise,
+        akms,
+    };
+    Some((leading, rest))
+}
+
 // The fields behind the version, if the octets are a whole number of them.
 fn fields_at(octets: &[u8]) -> Option<Rsne<'_>>
     ensures { MatchOption result (HasNoFields octets.now) (λ r. SpellsRsne (1 ∷ 0 ∷ octets.now) (rsne_fields r)) }
 {
-    let (group, rest) = suite_at(octets)?;
-    let (pairwise, rest) = suites_at(rest)?;
-    let (akms, rest) = suites_at(rest)?;
-    let (capabilities, rest) = number_at(rest)?;
-    let (pmkids, rest) = pmkids_at(rest)?;
-    let management = management_at(rest)?;
+    let Some((leading, rest)) = leading_at(octets) else {
+        return None;
+    };
+    let Some((capabilities, rest)) = number_at(rest) else {
+        return None;
+    };
+    let Some((pmkids, rest)) = pmkids_at(rest) else {
+        return None;
+    };
+    let Some(management) = management_at(rest) else {
+        return None;
+    };
     Some(Rsne {
         version: 1,
-        group,
-        pairwise,
-        akms,
+        group: leading.group,
+        pairwise: leading.pairwise,
+        akms: leading.akms,
         capabilities,
         pmkids,
         management,

@@ -1,11 +1,11 @@
 //! Writing elements into the caller's octets, each with the fields and values that this project sends.
 
-ghost use Rattle.std.specs.Prelude.{◌≡◌, ◌≤◌, ◌<◌, ◌+◌, length, take, drop, option_map, Some, IfSome};
+ghost use Rattle.std.specs.Prelude.{◌≡◌, ◌≤◌, ◌<◌, ◌+◌, ◌++◌, ◌∷◌, [], length, take, drop, option_map, Some, IfSome};
 ghost use Rattle.std.specs.Option.{ForSome, option_copied};
 ghost use Rattle.std.specs.Int.{w16, to_le_bytes};
 ghost use Rattle.domain_base.specs.Padding.{padding};
 ghost use Rattle.rsn_elements.specs.Fields.{fte_fields, wrapped_gtk_fields};
-ghost use Rattle.rsn_elements.specs.Sent.{ssid_octets, rates_octets, akm_type, rsne_octets, mde_octets, fte_body, fte_octets, subelement_octets, wrapped_gtk_octets, wrapped_gtk_subelement, gtk_kde_octets, timeout_octets, pad_octets};
+ghost use Rattle.rsn_elements.specs.Sent.{ssid_octets, rates_octets, akm_type, rsne_start, rsne_octets, mde_octets, fte_body, fte_octets, subelement_octets, wrapped_gtk_octets, wrapped_gtk_subelement, gtk_kde_octets, timeout_octets, pad_octets};
 ghost use Rattle.rsn_elements.specs.Pieces.{FitsPiece, FitsWrappedGtk, SentRsne, SentMde, SentFte, SentGtkKde, SentTimeout};
 ghost use Rattle.rsn_elements.specs.Writer.{size, octets, HasRoom, Appends};
 
@@ -76,13 +76,21 @@ impl<'a> ElementWriter<'a> {
         ensures fits { FitsPiece (SentRsne akm (option_copied pmkid.entry)) }
     {
         let size = if pmkid.is_none() { 20 } else { 38 };
-        self.append(&[0x30, size, 1, 0, 0x00, 0x0f, 0xac, 4]);
-        self.append(&[1, 0, 0x00, 0x0f, 0xac, 4]);
-        self.append(&[1, 0, 0x00, 0x0f, 0xac, akm_suite_type(akm), 0x0c, 0]);
+        self.rsne_front(size, akm);
         if let Some(pmkid) = pmkid {
             self.append(&[1, 0]);
             self.append(pmkid);
         }
+    }
+
+    // An RSNE whose body has this size, as far as the capabilities.
+    fn rsne_front(&mut self, size: u8, akm: Akm)
+        requires { HasRoom self.old 22 }
+        ensures { Appends self.old self.new (0x30 ∷ size ∷ rsne_start akm) }
+    {
+        self.append(&[0x30, size, 1, 0, 0x00, 0x0f, 0xac, 4]);
+        self.append(&[1, 0, 0x00, 0x0f, 0xac, 4]);
+        self.append(&[1, 0, 0x00, 0x0f, 0xac, akm_suite_type(akm), 0x0c, 0]);
     }
 
     /// A mobility domain element with capability and policy 0 (9.4.2.46).
@@ -117,13 +125,22 @@ impl<'a> ElementWriter<'a> {
     {
         let fte = *fte;
         self.append(&[0x37, fte_size(&fte)]);
+        self.fixed_part(&fte);
+        self.r1kh_id(fte.r1kh_id);
+        self.r0kh_id(fte.r0kh_id);
+        self.gtk(fte.gtk);
+    }
+
+    // The part of an FTE that has one length.
+    fn fixed_part(&mut self, fte: &Fte<'_>)
+        requires { HasRoom self.old 82 }
+        ensures { Appends self.old self.new (fte.now.mic_control ++ (fte.now.mic ++ (fte.now.anonce ++ fte.now.snonce))) }
+    {
+        let fte = *fte;
         self.append(&fte.mic_control);
         self.append(&fte.mic);
         self.append(&fte.anonce);
         self.append(&fte.snonce);
-        self.r1kh_id(fte.r1kh_id);
-        self.r0kh_id(fte.r0kh_id);
-        self.gtk(fte.gtk);
     }
 
     // Subelement 1, where there is one.
@@ -173,10 +190,19 @@ impl<'a> ElementWriter<'a> {
         let gtk = *gtk;
         let wrapped = gtk.wrapped;
         self.append(&[2, 11 + wrapped.len() as u8]);
-        self.append(&gtk.information.to_le_bytes());
-        self.append(&[gtk.key_length]);
+        self.key_information(&gtk);
         self.append(&gtk.rsc);
         self.append(wrapped);
+    }
+
+    // The key information and the length of the key.
+    fn key_information(&mut self, gtk: &WrappedGtk<'_>)
+        requires { HasRoom self.old 3 }
+        ensures { Appends self.old self.new (to_le_bytes w16 gtk.now.information ++ gtk.now.key_length ∷ []) }
+    {
+        let gtk = *gtk;
+        self.append(&gtk.information.to_le_bytes());
+        self.append(&[gtk.key_length]);
     }
 
     /// A GTK KDE with this key id, from 0 to 3, and Tx clear (12.7.2).

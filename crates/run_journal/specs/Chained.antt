@@ -2,7 +2,7 @@
 -- speaks of it.
 use Rattle.std.specs.Prelude.{ℕ, ◌≡◌, ◌≢◌, ◌<◌, ◌≤◌, ◌+◌, ◌*◌, ◌%◌, ◌^◌, bit_xor, List, length, slice_get, slice_index_or, fold, vec_len, vec_capacity, Option, Some, None}
 use Rattle.run_journal.specs.declared.chains.Chains.{Chains}
-use Rattle.run_journal.specs.declared.chains.TheConstants.{CHAINS}
+use Rattle.run_journal.specs.declared.chains.TheConstants.{CHAINS, MOST}
 use Rattle.run_journal.specs.declared.mixing.TheConstants.{PRIME}
 
 -- one more octet in a mix (32-bit FNV-1a)
@@ -26,4 +26,5 @@ pub record Chained (chains : List (Option ℕ)) (t : Chains) : Type 0 where
 -- there is room for so many more
 pub record HasRoom (more : ℕ) (t : Chains) : Type 0 where
   pub links : vec_len t.links + more ≤ vec_capacity t.links
+  pub few : vec_len t.links + more ≤ MOST
   pub lasts : 0 < more → CHAINS ≤ vec_len t.lasts

@@ -1,9 +1,10 @@
 //! What a node does, act by act.
 
+use crate::seal::BoxedSeal;
 use air_frame::AirFault;
 use domain_base::{Mac, Node, Octets, Peer, Tid};
 use eapol_key::{FrameFault, Message};
-use key_hierarchy::{Inputs, Ptk};
+use key_hierarchy::{Ptk, SharedInputs};
 use rsn_elements::ElementFault;
 
 /// How an attempt began.
@@ -182,7 +183,7 @@ pub enum Key {
         /// The temporal key.
         tk: [u8; 16],
         /// What it was derived from.
-        inputs: Inputs,
+        inputs: SharedInputs,
     },
     /// A group temporal key.
     Group {
@@ -222,7 +223,7 @@ pub enum Act {
         /// The other node.
         peer: Node,
         /// What from.
-        inputs: Inputs,
+        inputs: SharedInputs,
         /// The key.
         ptk: Ptk,
     },
@@ -235,7 +236,7 @@ pub enum Act {
         /// The whole air frame.
         octets: Octets,
         /// What is sealed in it.
-        seal: Option<Seal>,
+        seal: Option<BoxedSeal>,
     },
     /// A frame came to the node.
     Took {
@@ -248,7 +249,7 @@ pub enum Act {
         /// What came of it: accepted, answered, ignored or refused.
         outcome: Outcome,
         /// What was sealed in it, where the MIC or CCM verified.
-        seal: Option<Seal>,
+        seal: Option<BoxedSeal>,
     },
     /// A key was installed.
     Installed {
@@ -297,7 +298,7 @@ pub enum Act {
         /// The other node.
         peer: Node,
         /// What the session's key was derived from.
-        inputs: Inputs,
+        inputs: SharedInputs,
     },
     /// Four sends of the message brought no answer.
     GaveUp {

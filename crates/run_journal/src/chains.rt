@@ -12,11 +12,24 @@ use std::alloc::Global;
 /// How many chains there are: a prime, so that every bit of a mix tells.
 pub(crate) const CHAINS: usize = 32_749;
 
+/// A journal has at most so many entries: places are kept in 32 bits.
+const MOST: usize = 4_294_967_296;
+
+// The place that is kept, if one is.
+fn place_of(kept: Option<u32>) -> Option<usize>
+    ensures { result ≡ kept }
+{
+    match kept {
+        Some(place) => Some(place as usize),
+        None => None,
+    }
+}
+
 /// The last entry of each chain, and for each entry the one before it in its chain.
 #[derive(Drop)]
 pub(crate) struct Chains {
-    lasts: Vec<Option<usize>>,
-    links: Vec<Option<usize>>,
+    lasts: Vec<Option<u32>>,
+    links: Vec<Option<u32>>,
 }
 
 impl Chains {
@@ -37,6 +50,10 @@ impl Chains {
         ensures room { OnOk result (HasRoom more self.new) }
         ensures kept { (n : ℕ) → HasRoom n self.old → HasRoom n self.new }
     {
+        let count = self.links.len();
+        if count > MOST || more > MOST - count {
+            return Err(NoMemory);
+        }
         self.links.reserve(more)?;
         if self.lasts.len() < CHAINS {
             self.lasts.resize(CHAINS, None)?;
@@ -52,7 +69,7 @@ impl Chains {
             → Chained (chains ++ chain ∷ []) self.new }
         ensures room { (n : ℕ) → HasRoom (n + 1) self.old → HasRoom n self.new }
     {
-        let place = self.links.len();
+        let place = self.links.len() as u32;
         let before = match chain {
             Some(chain) => {
                 let before = self.lasts[chain];
@@ -61,9 +78,7 @@ impl Chains {
             }
             None => None,
         };
-        if self.links.push(before).is_err() {
-            unreachable!()
-        }
+        self.links.push_reserved(before);
     }
 
     /// The place of the last entry of the chain.
@@ -73,7 +88,7 @@ impl Chains {
         ensures { (chains : List (Option ℕ)) → Chained chains self.now
             → IsLast chains chain (length chains) result }
     {
-        self.lasts[chain]
+        place_of(self.lasts[chain])
     }
 
     /// The place of the entry before that one in its chain.
@@ -82,6 +97,6 @@ impl Chains {
         ensures { (chains : List (Option ℕ)) (c : ℕ) → Chained chains self.now
             → slice_get chains place ≡ Some (Some c) → IsLast chains c place result }
     {
-        self.links[place]
+        place_of(self.links[place])
     }
 }

@@ -90,7 +90,7 @@ fn value_chain(act: &Act) -> Option<usize>
         Act::Sent {
             seal: Some(seal),
             ..
-        } => Some(chain_of_seal(seal)),
+        } => Some(chain_of_seal(seal.seal())),
         _ => None,
     }
 }

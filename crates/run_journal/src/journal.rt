@@ -1,13 +1,15 @@
 //! The journal of a run: its entries in order, with the premises of safety decided as they come.
 
-ghost use Rattle.std.specs.Prelude.{◌≡◌, ◌≤◌, ◌<◌, ◌+◌, ◌-◌, [], ◌∷◌, ◌++◌, length, max, reverse, slice_get, Some, OnOk, OnErr, IsOk, vec_len, vec_capacity};
+ghost use Rattle.std.specs.Prelude.{◌≡◌, ◌≤◌, ◌<◌, ◌+◌, ◌-◌, [], ◌∷◌, length, max, reverse, slice_get, Some, OnOk, OnErr, IsOk};
 ghost use Rattle.run_journal.specs.Report.{Decides};
 
 use crate::acts::Entry;
 use crate::index::Index;
 use crate::judging::judge;
 use crate::premises::Premises;
+use crate::sharing::shared;
 use domain_base::NoMemory;
+use key_hierarchy::LastInputs;
 use std::alloc::Global;
 use std::marker::Model;
 
@@ -21,19 +23,7 @@ pub struct Journal {
     index: Index,
     spare: usize,
     premises: Premises,
-}
-
-// One more entry, where there is room.
-fn append(entries: &mut Vec<Entry>, entry: Entry)
-    requires { vec_len entries.old < vec_capacity entries.old }
-    ensures items { entries.new.items ≡ entries.old.items ++ entry ∷ [] }
-    ensures len { vec_len entries.new ≡ vec_len entries.old + 1 }
-    ensures room { vec_capacity entries.old ≤ vec_capacity entries.new }
-{
-    match entries.push(entry) {
-        Ok(()) => {}
-        Err(_) => unreachable!(),
-    }
+    last: LastInputs,
 }
 
 impl Model for Journal {
@@ -64,6 +54,7 @@ impl Journal {
                 no_collision: true,
                 unforged: true,
             },
+            last: LastInputs::none(),
         }
     }
 
@@ -98,15 +89,17 @@ impl Journal {
         Ok(())
     }
 
-    /// One more entry, where there is room. Takes no memory.
+    /// One more entry, where there is room. No memory is wanted.
     pub fn add(&mut self, entry: Entry)
         requires { 0 < self.old.spare }
         ensures entries { self.new.entries ≡ entry ∷ self.old.entries }
         ensures spare { self.new.spare + 1 ≡ self.old.spare }
     {
+        let alloc = *self.entries.allocator();
+        let entry = shared(alloc, &mut self.last, entry);
         self.premises = judge(self.premises, &self.entries, &self.index, &entry);
         self.index.add(&entry);
-        append(&mut self.entries, entry);
+        self.entries.push_reserved(entry);
         self.spare -= 1;
     }
 

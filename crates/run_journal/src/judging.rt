@@ -19,7 +19,9 @@ fn same_maker(earlier: &Act, later: &Act) -> bool
     ensures { IsTrue result ↔ (maker earlier.now ≡ maker later.now) }
 {
     match (earlier, later) {
-        (Act::Derived { inputs: i, .. }, Act::Derived { inputs: m, .. }) => same_name(i, m),
+        (Act::Derived { inputs: i, .. }, Act::Derived { inputs: m, .. }) => {
+            same_name(i.inputs(), m.inputs())
+        }
         (Act::Derived { .. }, _) | (_, Act::Derived { .. }) => false,
         _ => true,
     }

@@ -14,6 +14,8 @@ mod naming;
 mod premises;
 mod reading;
 mod reply;
+mod seal;
+mod sharing;
 
 pub use acts::{
     Act, Drawn, Entry, Key, KeyDataFault, Kind, Malformed, Outcome, Part, Reason, Seal, Start, Why,
@@ -23,3 +25,4 @@ pub use journal::Journal;
 pub use laws::lines_read_no_key;
 pub use premises::Premises;
 pub use reply::{GtkNews, Keyed, REPLY_LEN, Reply};
+pub use seal::BoxedSeal;

@@ -58,7 +58,7 @@ pub(crate) fn seal_sent(act: &Act) -> Option<&Seal>
         Act::Sent {
             seal: Some(seal),
             ..
-        } => Some(seal),
+        } => Some(seal.seal()),
         _ => None,
     }
 }
@@ -71,7 +71,7 @@ pub(crate) fn seal_taken(act: &Act) -> Option<&Seal>
         Act::Took {
             seal: Some(seal),
             ..
-        } => Some(seal),
+        } => Some(seal.seal()),
         _ => None,
     }
 }

@@ -11,24 +11,26 @@ use Rattle.run_journal.specs.declared.acts.Outcome.TheVariants.{Idle as IdleBy}
 use Rattle.run_journal.specs.declared.acts.Act.{Act}
 use Rattle.run_journal.specs.declared.acts.Act.TheVariants.{Opened, Drew, Idle}
 use Rattle.run_journal.specs.Questions.{pending, associated}
-use Rattle.domain_rules.specs.Network.{nonce, last_draw}
+use Rattle.domain_rules.specs.Here.{here}
+use Rattle.domain_rules.specs.Network.{nonce, draw_end}
 use Rattle.domain_rules.specs.Frames.{sent_assoc_req}
 use Rattle.domain_rules.specs.Rows.{Begin, outcome_of}
 use Rattle.domain_rules.specs.Closing.{close_pending, close_associated}
 use Rattle.domain_rules.specs.StationRows.{Spent, Asks}
 use Rattle.domain_rules.proofs.Effects.{asking_acts}
-use Rattle.node_frames.specs.Events.{Steps}
+use Rattle.node_base.specs.Events.{Steps, seen}
 use Rattle.station_node.specs.State.{State}
-use Rattle.station_node.specs.Stands.{Stands, peer_in, peer_of_session}
+use Rattle.station_node.specs.Parts.{peer_of_attempt, peer_of_session}
+use Rattle.station_node.specs.Stands.{Stands}
 use Rattle.station_node.proofs.Acts.{plain-idle}
 use Rattle.station_node.proofs.Standing.{stands-plain}
 use Rattle.station_node.proofs.Beginning.{asked_state, stands-asked}
 
-pub steps-spent : (d : Domain) (first sta : ℕ) (s : State) (h : List Act) (p : ℕ) (waited : List Act) → Stands d first s h → last_draw ≤ s.drawn
-    → Steps d first (Sta sta) (Begin p) (Stands d first s) h waited (waited ++ Idle why.Spent ∷ []) (IdleBy why.Spent)
+pub steps-spent : (d : Domain) (first sta : ℕ) (s : State) (h : List Act) (p : ℕ) (waited : List Act) → Stands d first s h → draw_end ≤ s.drawn
+    → Steps (here d first (Sta sta)) (Begin p) (Stands d first s) h (seen waited (waited ++ Idle why.Spent ∷ []) (IdleBy why.Spent))
 steps-spent d first sta s h p waited st spent = record {
   acts = Idle why.Spent ∷ [];
-  adds = Spent (subst (λ (m : ℕ). last_draw ≤ m) st.draws_are spent) refl;
+  adds = Spent (subst (λ (m : ℕ). draw_end ≤ m) st.draws_are spent) refl;
   waiting = refl;
   came = refl;
   stands = stands-plain d first s h (Idle why.Spent) (plain-idle why.Spent) st;
@@ -47,13 +49,12 @@ asking-done d sta (Some q) None p v = refl
 asking-done d sta None (Some r) p v = refl
 asking-done d sta (Some q) (Some r) p v = refl
 
-pub steps-asked : (d : Domain) (first sta : ℕ) (s : State) (h : List Act) (p : ℕ) (v : List ℕ) (waited : List Act) → Stands d first s h → p < length d.aps → s.drawn < last_draw → v ≡ nonce d (Sta sta) s.drawn
-    → Steps d first (Sta sta) (Begin p) (Stands d first (asked_state s p v)) h waited
-    (((((waited ++ close_pending (peer_in s.association)) ++ close_associated (peer_of_session s.association)) ++ (Opened (Ap p) Connect ∷ [])) ++ (Drew (Nonce v) ∷ [])) ++ sent_assoc_req d (Sta sta) (Ap p) ∷ []) Done
+pub steps-asked : (d : Domain) (first sta : ℕ) (s : State) (h : List Act) (p : ℕ) (v : List ℕ) (waited : List Act) → Stands d first s h → p < length d.aps → s.drawn < draw_end → v ≡ nonce d (Sta sta) s.drawn
+    → Steps (here d first (Sta sta)) (Begin p) (Stands d first (asked_state s p v)) h (seen waited (((((waited ++ close_pending (peer_of_attempt s.attempt)) ++ close_associated (peer_of_session s.session)) ++ (Opened (Ap p) Connect ∷ [])) ++ (Drew (Nonce v) ∷ [])) ++ sent_assoc_req d (Sta sta) (Ap p) ∷ []) Done)
 steps-asked d first sta s h p v waited st listed low v_is = record {
   acts = asking_acts d (Sta sta) (pending h) (associated h) p v;
-  adds = Asks (subst (λ (m : ℕ). m < last_draw) st.draws_are low) (ap (asking_acts d (Sta sta) (pending h) (associated h) p) (v_is ∙ ap (nonce d (Sta sta)) st.draws_are));
-  waiting = rw (st.pending_is, st.associated_is) (asking-waits d sta (peer_in s.association) (peer_of_session s.association) p v waited);
-  came = rw (st.pending_is, st.associated_is) (asking-done d sta (peer_in s.association) (peer_of_session s.association) p v);
+  adds = Asks (subst (λ (m : ℕ). m < draw_end) st.draws_are low) (ap (asking_acts d (Sta sta) (pending h) (associated h) p) (v_is ∙ ap (nonce d (Sta sta)) st.draws_are));
+  waiting = rw (st.pending_is, st.associated_is) (asking-waits d sta (peer_of_attempt s.attempt) (peer_of_session s.session) p v waited);
+  came = rw (st.pending_is, st.associated_is) (asking-done d sta (peer_of_attempt s.attempt) (peer_of_session s.session) p v);
   stands = stands-asked d first s h (Sta sta) p v st listed;
 }

@@ -19,17 +19,19 @@ use Rattle.domain_rules.proofs.Effects.{IsBegun, begun-counter, begun-silent, as
 use Rattle.run_journal.specs.GroupKinds as groups
 use Rattle.group_key.specs.Keys.{Kept}
 use Rattle.group_key.specs.Holds.{Remembers}
-use Rattle.node_frames.specs.Ends.{AreEnds}
-use Rattle.node_frames.proofs.RepliedActs.{remembers_on}
-use Rattle.supplicant.specs.declared.stage.Stage.{Stage}
-use Rattle.supplicant.specs.declared.stage.Stage.TheVariants.{Attempt}
+use Rattle.node_base.specs.Ends.{AreEnds}
+use Rattle.act_memory.proofs.RepliedActs.{remembers_on}
+use Rattle.supplicant.specs.declared.attempt.Attempt.{Attempt as SupplicantAttempt}
+use Rattle.supplicant.specs.declared.session.Session.{Session as SupplicantSession}
 use Rattle.supplicant.specs.State.{State as Supplicant}
-use Rattle.supplicant.specs.Stands.{StandsIn, IsUnderWay}
-use Rattle.station_node.specs.declared.association.Association.{Association}
-use Rattle.station_node.specs.declared.association.Association.TheVariants.{Requested, Accepted}
+use Rattle.supplicant.specs.Stands.{SupplicantStands, IsUnderWay}
+use Rattle.supplicant.specs.Stands.{HasAttempt as HasSupplicantAttempt, HasSession as HasSupplicantSession}
+use Rattle.station_node.specs.declared.attempt.Association.TheVariants.{Requested, Accepted}
+use Rattle.station_node.specs.declared.session.Session.{Session}
 use Rattle.station_node.specs.State.{State, memory_at}
-use Rattle.station_node.specs.Stands.{Stands, IsRequested, IsElsewhere, attempt_at, session_at, peer_in, peer_of_session}
-use Rattle.station_node.proofs.Standing.{no_attempt, no_session, no_other_session, requested_is}
+use Rattle.station_node.specs.Parts.{peer_of_attempt, peer_of_session, IsElsewhere}
+use Rattle.station_node.specs.Stands.{Stands, IsRequested, HasSession}
+use Rattle.station_node.proofs.Standing.{nobody, no_attempt, no_session_beside, requested_is}
 
 -- ---- it asks an access point for association
 
@@ -57,16 +59,22 @@ left_by q p h alone = elim (cases_Bool (same (Ap p) q)) [ inl is ↦ rw is refl 
     other : (p : ℕ) (q : Node) → same (Ap p) q ≡ false → q ≡ Ap p → ⊥
     other p q none e = let here : same (Ap p) q ≡ true = subst (λ (x : Node). same (Ap p) x ≡ true) (sym e) (same-refl (Ap p)) in cc (none, here)
 
-left_session : (d : Domain) (first : ℕ) (s : State) (h : List Act) (p : ℕ) (o : Option Node) → Stands d first s h → peer_of_session s.association ≡ o → session (Ap p) (add (close_associated o) h) ≡ None
-left_session d first s h p None st is = no_session d first s h p st is
-left_session d first s h p (Some q) st is = left_by q p h (λ other. no_other_session d first s h p q st is other)
+that_node : (o : Option Node) (q : Node) (p : ℕ) → o ≡ Some q → (q ≡ Ap p → ⊥) → IsElsewhere o p
+that_node o q p is other here = other (same_node o q p is here)
+  where
+    same_node : (o : Option Node) (q : Node) (p : ℕ) → o ≡ Some q → o ≡ Some (Ap p) → q ≡ Ap p
+    same_node o q p is here = cc
+
+left_session : (d : Domain) (first : ℕ) (s : State) (h : List Act) (p : ℕ) (o : Option Node) → Stands d first s h → peer_of_session s.session ≡ o → session (Ap p) (add (close_associated o) h) ≡ None
+left_session d first s h p None st is = st.no_session p (nobody (peer_of_session s.session) p is)
+left_session d first s h p (Some q) st is = left_by q p h (λ other. st.no_session p (that_node (peer_of_session s.session) q p is other))
 
 no_session_left : (d : Domain) (first : ℕ) (s : State) (h : List Act) (n : Node) (a : ℕ) (v : List ℕ) (p : ℕ) → Stands d first s h → session (Ap p) (add (asking_acts d n (pending h) (associated h) a v) h) ≡ None
 no_session_left d first s h n a v p st =
     asked-session d n (pending h) (associated h) a v h (Ap p) ∙ left_session d first s h p (associated h) st (sym st.associated_is)
 
 abbrev pub asked_state : State → ℕ → List ℕ → State
-asked_state s a v = record { number = s.number; drawn = s.drawn + 1; association = Some (Requested a v); memories = s.memories }
+asked_state s a v = record { number = s.number; drawn = s.drawn + 1; attempt = Some (record { ap = a; association = Requested v }); session = None; memories = s.memories }
 
 pub stands-asked : (d : Domain) (first : ℕ) (s : State) (h : List Act) (n : Node) (a : ℕ) (v : List ℕ) → Stands d first s h → a < length d.aps
     → Stands d first (asked_state s a v) (add (asking_acts d n (pending h) (associated h) a v) h)
@@ -76,7 +84,8 @@ stands-asked d first s h n a v st low =
       draws_are = omega (arith, st.draws_are, asked-draws d n (pending h) (associated h) a v h);
       pending_is = asked-pending d n (pending h) (associated h) a v h;
       associated_is = asked-associated d n (pending h) a v h;
-      association_is = (
+      alone = refl;
+      attempt_is = (
         low,
         record {
           part = b.part;
@@ -87,10 +96,10 @@ stands-asked d first s h n a v st low =
           keeps = begun-counter (Ap a) v _ b;
           asked = begun-silent (Ap a) v _ b (kind.Key M1);
           keyed = b.derives;
-          no_session = no_session_left d first s h n a v a st;
         },
       );
-      no_attempt = λ p other. asked-others d n (associated h) a v h p (ne_eqb p a (λ e. other (sym e))) (λ none. no_attempt d first s h p st (sym st.pending_is ∙ none));
+      session_is = tt;
+      no_attempt = λ p other. asked-others d n (associated h) a v h p (ne_eqb p a (λ e. other (ap (λ (x : ℕ). Some (Ap x)) (sym e)))) (λ none. no_attempt d first s h p st (sym st.pending_is ∙ none));
       no_session = λ p other. no_session_left d first s h n a v p st;
       remembers = λ p. remembers_on (Ap p) (memory_at s.memories p) h _ (asked-given d n (pending h) (associated h) a v h (Ap p)) (λ key id. asked-got d n (pending h) (associated h) a v h (Ap p) key id) (st.remembers p);
     }
@@ -107,31 +116,44 @@ under_way-associated d n p v octets h u = record {
   keeps = rw (same-refl (Ap p)) u.keeps;
   asked = rw (same-refl (Ap p)) u.asked;
   keyed = u.keyed;
-  no_session = u.no_session;
 }
+
+-- the supplicant has begun
+pub record HasBegun (d : Domain) (n p : Node) (v : List ℕ) (x : Supplicant) : Type 0 where
+  pub ends : AreEnds d n p x.ends
+  pub psk : x.psk ≡ d.psk
+  pub attempt_is : x.attempt ≡ Some (record { snonce = v; key = None })
+  pub session_is : x.session ≡ None
+
+stands-begun : (d : Domain) (n : Node) (p : ℕ) (v octets : List ℕ) (x : Supplicant) (h : List Act) → HasBegun d n (Ap p) v x → IsRequested (Ap p) v h → session (Ap p) h ≡ None → SupplicantStands d n (Ap p) x (add (associated_acts (Ap p) octets) h)
+stands-begun d n p v octets x h b u silent =
+    let l : List Act = add (associated_acts (Ap p) octets) h in
+    record {
+      ends = b.ends;
+      psk = b.psk;
+      attempt_is = subst (λ (o : Option SupplicantAttempt). HasSupplicantAttempt d n (Ap p) o l) (sym b.attempt_is) (under_way-associated d n p v octets h u);
+      session_is = subst (λ (o : Option SupplicantSession). HasSupplicantSession d n (Ap p) o l) (sym b.session_is) silent;
+    }
 
 -- with a supplicant that has begun, and one place more in memory
 abbrev pub associated_state : State → ℕ → Supplicant → List (List Kept) → State
-associated_state s p x memories = record { number = s.number; drawn = s.drawn; association = Some (Accepted p x); memories = memories }
+associated_state s p x memories = record { number = s.number; drawn = s.drawn; attempt = Some (record { ap = p; association = Accepted x }); session = s.session; memories = memories }
 
-pub stands-associated : (d : Domain) (first : ℕ) (s : State) (h : List Act) (p : ℕ) (v octets : List ℕ) (x : Supplicant) (memories : List (List Kept)) → Stands d first s h → s.association ≡ Some (Requested p v)
-    → AreEnds d (Sta s.number) (Ap p) x.ends → x.psk ≡ d.psk → x.stage ≡ Attempt v None → ((k : ℕ) → memory_at memories k ≡ memory_at s.memories k)
+pub stands-associated : (d : Domain) (first : ℕ) (s : State) (h : List Act) (p : ℕ) (v octets : List ℕ) (x : Supplicant) (memories : List (List Kept)) → Stands d first s h → s.attempt ≡ Some (record { ap = p; association = Requested v })
+    → HasBegun d (Sta s.number) (Ap p) v x → ((k : ℕ) → memory_at memories k ≡ memory_at s.memories k)
     → Stands d first (associated_state s p x memories) (add (associated_acts (Ap p) octets) h)
-stands-associated d first s h p v octets x memories st is ends psk stage same_memory =
+stands-associated d first s h p v octets x memories st is b same_memory =
     let r = requested_is d first s h p v st is in
+    let none = no_session_beside d first s h _ st is in
+    let took : Act = Took (Some (Ap p)) octets kind.AssocResp outcome.Accepted None in
     record {
       draws_are = st.draws_are;
-      pending_is = st.pending_is ∙ ap peer_in is ∙ ap (attempt_at p) (sym stage);
-      associated_is = st.associated_is ∙ ap peer_of_session is ∙ ap (session_at p) (sym stage);
-      association_is = (
-        r.0,
-        record {
-          ends = ends;
-          psk = psk;
-          stage_is = subst (λ (y : Stage). StandsIn d (Sta s.number) (Ap p) y (add (associated_acts (Ap p) octets) h)) (sym stage) (under_way-associated d (Sta s.number) p v octets h r.1);
-        },
-      );
-      no_attempt = λ q other. attempt_none (Ap q) (Took (Some (Ap p)) octets kind.AssocResp outcome.Accepted None) h refl (st.no_attempt q (subst (λ (o : Option Association). IsElsewhere o q) (sym is) other));
-      no_session = λ q other. st.no_session q (subst (λ (o : Option Association). IsElsewhere o q) (sym is) other);
+      pending_is = st.pending_is ∙ ap peer_of_attempt is;
+      associated_is = st.associated_is;
+      alone = none;
+      attempt_is = (r.0, stands-begun d (Sta s.number) p v octets x h b r.1 (st.no_session p (nobody (peer_of_session s.session) p (ap peer_of_session none))));
+      session_is = subst (λ (o : Option Session). HasSession d (Sta s.number) o (took ∷ h)) (sym none) tt;
+      no_attempt = λ q other. attempt_none (Ap q) took h refl (st.no_attempt q (λ e. other (sym (ap peer_of_attempt is) ∙ e)));
+      no_session = λ q other. st.no_session q other;
       remembers = λ q. remembers_on (Ap q) (memory_at memories q) h _ refl (λ key id. refl) (subst (λ (ks : List Kept). Remembers (Ap q) ks h) (sym (same_memory q)) (st.remembers q));
     }

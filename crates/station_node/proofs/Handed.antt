@@ -1,94 +1,30 @@
--- What a station stands for behind a message that it handed to the supplicant of its association.
-use Rattle.std.proofs.Common.{◌≡◌, ◌≢◌, inl, inr, ℕ, false, List, Option, Some, None, refl, sym, ap, subst, ◌∙◌, arith}
+-- What a station stands for behind a message that it handed to a supplicant.
+use Rattle.std.proofs.Common.{◌≡◌, ◌≢◌, inl, inr, ℕ, ◌<◌, false, List, length, Option, Some, None, refl, sym, ap, subst, ◌∙◌, arith}
 use Rattle.std.specs.List.{AllByRecursion}
 use Rattle.std.proofs.lemmas.Bool.{ne_eqb}
 use Rattle.std.proofs.lemmas.Bool.Decides.{eqb_tells}
 use Rattle.domain_base.specs.declared.names.Node.{Node}
 use Rattle.domain_base.specs.declared.names.Node.TheVariants.{Ap, Sta}
 use Rattle.run_journal.specs.declared.domain.Domain.{Domain}
-use Rattle.run_journal.specs.declared.acts.Outcome.{Outcome}
 use Rattle.run_journal.specs.declared.acts.Act.{Act}
 use Rattle.run_journal.specs.declared.reply.Reply.{Reply}
 use Rattle.run_journal.specs.declared.reply.Keyed.{Keyed}
 use Rattle.run_journal.specs.Questions.{attempt, session, pending, associated, add}
-use Rattle.domain_rules.specs.Reading.{KeyMessage}
-use Rattle.domain_rules.specs.Replies.{reply_acts}
+use Rattle.domain_rules.specs.Here.{here}
+use Rattle.domain_rules.specs.Replies.{Taken, reply_acts, pair}
 use Rattle.group_key.specs.Keys.{Kept}
 use Rattle.group_key.specs.Holds.{Remembers}
-use Rattle.node_frames.proofs.RepliedActs.{IsAbout, replied_about, about_draws, about_no_attempt, about_session, about_remembers, EndsNone, replied_ends, ends_pending, ends_associated, ends_session, IsEnd, replied_end, end_pending, end_associated}
-use Rattle.supplicant.specs.declared.stage.Stage.{Stage}
-use Rattle.supplicant.specs.declared.stage.Stage.TheVariants.{Retired, Attempt, Session}
-use Rattle.supplicant.specs.State.{State as Supplicant, IsAttempt, IsSession, IsSessionUnder}
-use Rattle.supplicant.specs.Stands.{StandsIn}
-use Rattle.supplicant.specs.Steps.{Steps as SupplicantSteps, IsStaged}
-use Rattle.station_node.specs.declared.association.Association.{Association}
-use Rattle.station_node.specs.declared.association.Association.TheVariants.{Accepted}
+use Rattle.act_memory.proofs.RepliedActs.{IsAbout, replied_about, about_draws, about_no_attempt, about_session, about_remembers}
+use Rattle.act_memory.proofs.RepliedActs.{EndsNone, replied_ends, ends_pending, ends_associated, ends_session, IsEnd, replied_end, end_pending, end_associated}
+use Rattle.supplicant.specs.State.{State as Supplicant, both}
+use Rattle.supplicant.specs.Steps.{SupplicantSteps}
+use Rattle.station_node.specs.declared.attempt.Attempt.{Attempt}
+use Rattle.station_node.specs.declared.attempt.Association.TheVariants.{Accepted}
+use Rattle.station_node.specs.declared.session.Session.{Session}
 use Rattle.station_node.specs.State.{State, memory_at}
-use Rattle.station_node.specs.Stands.{Stands, IsElsewhere, attempt_at, session_at, peer_in, peer_of_session}
-use Rattle.station_node.proofs.Standing.{accepted_is}
-
--- ---- how far the supplicant is, as whom attempt and session are with
-
--- nothing begins without an attempt and ends in none
-pub record IsKept (a : ℕ) (old new : Stage) : Type 0 where
-  pub attempt_with : attempt_at a old ≡ attempt_at a new
-  pub session_with : session_at a old ≡ session_at a new
-
-retired_kept : (d : Domain) (n : Node) (a : ℕ) (new : Stage) (h l : List Act) → attempt (Ap a) l ≡ None → session (Ap a) l ≡ None → StandsIn d n (Ap a) new l → IsKept a Retired new
-retired_kept d n a Retired h l no_attempt no_session st = record { attempt_with = refl; session_with = refl }
-retired_kept d n a (Attempt v key) h l no_attempt no_session st = absurd (some_none st.part st.is no_attempt)
-  where
-    some_none : (part : List Act) → attempt (Ap a) l ≡ Some part → attempt (Ap a) l ≡ None → ⊥
-    some_none part some none = cc
-retired_kept d n a (Session key counter) h l no_attempt no_session st = absurd (some_none _ st.is no_session)
-  where
-    some_none : (x : _) → session (Ap a) l ≡ Some x → session (Ap a) l ≡ None → ⊥
-    some_none x some none = cc
-
-attempt_kept : (a : ℕ) (v : List ℕ) (key : Option Keyed) (new : Stage) → IsAttempt new → IsKept a (Attempt v key) new
-attempt_kept a v key Retired is = absurd is
-attempt_kept a v key (Attempt w other) is = record { attempt_with = refl; session_with = refl }
-attempt_kept a v key (Session y counter) is = absurd is
-
-session_kept : (a : ℕ) (key : Keyed) (was : ℕ) (new : Stage) → IsSession new → IsKept a (Session key was) new
-session_kept a key was Retired is = absurd is
-session_kept a key was (Attempt v y) is = absurd is
-session_kept a key was (Session y counter) is = record { attempt_with = refl; session_with = refl }
-
-kept_by : (d : Domain) (n : Node) (a : ℕ) (old new : Stage) (g h : List Act) → AllByRecursion (IsAbout (Ap a)) g → AllByRecursion EndsNone g → StandsIn d n (Ap a) old h → StandsIn d n (Ap a) new (add g h)
-    → (IsAttempt old → IsAttempt new) → (IsSession old → IsSession new) → IsKept a old new
-kept_by d n a Retired new g h about ends was is tried held =
-    retired_kept d n a new h (add g h) (about_no_attempt (Ap a) (Ap a) g h about was.no_attempt) (ends_session (Ap a) g h ends ∙ was.no_session) is
-kept_by d n a (Attempt v key) new g h about ends was is tried held = attempt_kept a v key new (tried tt)
-kept_by d n a (Session key counter) new g h about ends was is tried held = session_kept a key counter new (held tt)
-
-in_session : (a : ℕ) (y : Keyed) (new : Stage) → IsSessionUnder y new → (None ≡ attempt_at a new) × (Some (Ap a) ≡ session_at a new)
-in_session a y Retired is = absurd is
-in_session a y (Attempt v key) is = absurd is
-in_session a y (Session key counter) is = (refl, refl)
-
--- whom there is an attempt and a session with behind the acts of a reply
-pub record IsWith (a : ℕ) (new : Stage) (l : List Act) : Type 0 where
-  pub pending_is : pending l ≡ attempt_at a new
-  pub associated_is : associated l ≡ session_at a new
-
-with_by : (d : Domain) (n : Node) (a : ℕ) (octets : List ℕ) (k : KeyMessage) (o : Outcome) (r : Reply) (old new : Supplicant) (h : List Act) (x : Option Keyed) → r.installed ≡ x → IsStaged x old new
-    → StandsIn d n (Ap a) old.stage h → StandsIn d n (Ap a) new.stage (add (reply_acts d n (Ap a) false octets k o r) h) → pending h ≡ attempt_at a old.stage → associated h ≡ session_at a old.stage
-    → IsWith a new.stage (add (reply_acts d n (Ap a) false octets k o r) h)
-with_by d n a octets k o r old new h None is staged was stands pending_was associated_was =
-    let ends : AllByRecursion EndsNone (reply_acts d n (Ap a) false octets k o r) = replied_ends d n (Ap a) false octets k o r is in
-    let kept = kept_by d n a old.stage new.stage (reply_acts d n (Ap a) false octets k o r) h (replied_about d n (Ap a) false octets k o r) ends was stands staged.0 staged.1 in
-    record {
-      pending_is = ends_pending (reply_acts d n (Ap a) false octets k o r) h ends ∙ pending_was ∙ kept.attempt_with;
-      associated_is = ends_associated (reply_acts d n (Ap a) false octets k o r) h ends ∙ associated_was ∙ kept.session_with;
-    }
-with_by d n a octets k o r old new h (Some y) is staged was stands pending_was associated_was =
-    let e : IsEnd (Ap a) h (add (reply_acts d n (Ap a) false octets k o r) h) = replied_end d n (Ap a) false octets k o r y h is in
-    let s = in_session a y new.stage staged.1 in
-    record {
-      pending_is = end_pending (Ap a) h (add (reply_acts d n (Ap a) false octets k o r) h) e ∙ s.0;
-      associated_is = end_associated (Ap a) h (add (reply_acts d n (Ap a) false octets k o r) h) e ∙ s.1;
-    }
+use Rattle.station_node.specs.Parts.{peer_of_attempt, peer_of_session, IsElsewhere, IsAlone}
+use Rattle.station_node.specs.Stands.{Stands, HasAttempt, HasSession}
+use Rattle.station_node.proofs.Standing.{nobody, nobody_pending, no_session_beside, no_attempt_beside}
 
 -- ---- the memories
 
@@ -103,26 +39,120 @@ remembers-handed p a had has g h about only here was = elim (eqb_tells p a) [
   | inr other ↦ subst (λ (ks : List Kept). Remembers (Ap p) ks (add g h)) (sym (only.others p other.1)) (about_remembers (Ap a) (Ap p) (memory_at had p) g h (ne_eqb p a other.1) about was)
 ]
 
--- ---- the station
+-- ---- the acts
 
-abbrev pub handed_state : State → ℕ → Supplicant → List (List Kept) → State
-handed_state s a x memories = record { number = s.number; drawn = s.drawn; association = Some (Accepted a x); memories = memories }
+-- they are about that access point
+pub record AreAbout (a : ℕ) (g h : List Act) : Type 0 where
+  pub about : AllByRecursion (IsAbout (Ap a)) g
+  -- a session with another stays
+  pub others : (p : ℕ) → IsElsewhere (Some (Ap a)) p → session (Ap p) (add g h) ≡ session (Ap p) h
+  -- no attempt begins
+  pub none : (p : ℕ) → attempt (Ap p) h ≡ None → attempt (Ap p) (add g h) ≡ None
 
-pub stands-handed : (d : Domain) (first : ℕ) (s : State) (h : List Act) (a : ℕ) (octets : List ℕ) (k : KeyMessage) (o : Outcome) (r : Reply) (old new : Supplicant) (has : List (List Kept))
-    → Stands d first s h → s.association ≡ Some (Accepted a old) → IsStaged r.installed old new → IsOnly a s.memories has
-    → SupplicantSteps d first (Sta s.number) (Ap a) octets k new (memory_at has a) o r h
-    → Stands d first (handed_state s a new has) (add (reply_acts d (Sta s.number) (Ap a) false octets k o r) h)
-stands-handed d first s h a octets k o r old new has st is staged only steps =
-    let g : List Act = reply_acts d (Sta s.number) (Ap a) false octets k o r in
-    let about : AllByRecursion (IsAbout (Ap a)) g = replied_about d (Sta s.number) (Ap a) false octets k o r in
-    let x = accepted_is d first s h a old st is in
-    let w : IsWith a new.stage (add g h) = with_by d (Sta s.number) a octets k o r old new h r.installed refl staged x.1.stage_is steps.stands.stage_is (st.pending_is ∙ ap peer_in is) (st.associated_is ∙ ap peer_of_session is) in
+told_about : (d : Domain) (n : Node) (a : ℕ) (t : Taken) (r : Reply) (h : List Act) → AreAbout a (reply_acts (pair d n (Ap a)) false t r) h
+told_about d n a t r h =
+    let about : AllByRecursion (IsAbout (Ap a)) (reply_acts (pair d n (Ap a)) false t r) = replied_about d n (Ap a) false t.octets t.message t.outcome r in
     record {
-      draws_are = omega (arith, st.draws_are, about_draws (Ap a) g h about);
-      pending_is = w.pending_is;
+      about = about;
+      others = λ p other. about_session (Ap a) (Ap p) (reply_acts (pair d n (Ap a)) false t r) h (ne_eqb p a (λ e. other (ap (λ (x : ℕ). Some (Ap x)) (sym e)))) about;
+      none = λ p none. about_no_attempt (Ap a) (Ap p) (reply_acts (pair d n (Ap a)) false t r) h about none;
+    }
+
+-- and tell of nothing that was installed, or that the attempt became a session
+told_ends : (d : Domain) (n : Node) (a : ℕ) (t : Taken) (r : Reply) → r.installed ≡ None → AllByRecursion EndsNone (reply_acts (pair d n (Ap a)) false t r)
+told_ends d n a t r none = replied_ends d n (Ap a) false t.octets t.message t.outcome r none
+
+told_end : (d : Domain) (n : Node) (a : ℕ) (t : Taken) (r : Reply) (y : Keyed) (h : List Act) → r.installed ≡ Some y → IsEnd (Ap a) h (add (reply_acts (pair d n (Ap a)) false t r) h)
+told_end d n a t r y h some = replied_end d n (Ap a) false t.octets t.message t.outcome r y h some
+
+-- ---- in an attempt
+
+abbrev pub tried_state : State → ℕ → Supplicant → List (List Kept) → State
+tried_state s a x memories = record { number = s.number; drawn = s.drawn; attempt = Some (record { ap = a; association = Accepted x }); session = s.session; memories = memories }
+
+-- that goes on
+pub stands-tried : (d : Domain) (first : ℕ) (s : State) (h : List Act) (a : ℕ) (t : Taken) (r : Reply) (old new : Supplicant) (has : List (List Kept))
+    → Stands d first s h → s.attempt ≡ Some (record { ap = a; association = Accepted old }) → a < length d.aps → r.installed ≡ None → IsOnly a s.memories has
+    → SupplicantSteps (here d first (Sta s.number)) (Ap a) t (both new (memory_at has a)) r h
+    → Stands d first (tried_state s a new has) (add (reply_acts (pair d (Sta s.number) (Ap a)) false t r) h)
+stands-tried d first s h a t r old new has st is low none only steps =
+    let g : List Act = reply_acts (pair d (Sta s.number) (Ap a)) false t r in
+    let x : AreAbout a g h = told_about d (Sta s.number) a t r h in
+    let ends : AllByRecursion EndsNone g = told_ends d (Sta s.number) a t r none in
+    let alone = no_session_beside d first s h _ st is in
+    record {
+      draws_are = omega (arith, st.draws_are, about_draws (Ap a) g h x.about);
+      pending_is = ends_pending g h ends ∙ st.pending_is ∙ ap peer_of_attempt is;
+      associated_is = ends_associated g h ends ∙ st.associated_is;
+      alone = alone;
+      attempt_is = (low, steps.stands);
+      session_is = subst (λ (o : Option Session). HasSession d (Sta s.number) o (add g h)) (sym alone) tt;
+      no_attempt = λ p other. x.none p (st.no_attempt p (λ e. other (sym (ap peer_of_attempt is) ∙ e)));
+      no_session = λ p other. ends_session (Ap p) g h ends ∙ st.no_session p other;
+      remembers = λ p. remembers-handed p a s.memories has g h x.about only steps.remembers (st.remembers p);
+    }
+
+abbrev pub finished_state : State → ℕ → Supplicant → List (List Kept) → State
+finished_state s a x memories = record { number = s.number; drawn = s.drawn; attempt = None; session = Some (record { ap = a; supplicant = x }); memories = memories }
+
+-- that becomes a session
+pub stands-finished : (d : Domain) (first : ℕ) (s : State) (h : List Act) (a : ℕ) (t : Taken) (r : Reply) (y : Keyed) (old new : Supplicant) (has : List (List Kept))
+    → Stands d first s h → s.attempt ≡ Some (record { ap = a; association = Accepted old }) → a < length d.aps → r.installed ≡ Some y → IsOnly a s.memories has
+    → SupplicantSteps (here d first (Sta s.number)) (Ap a) t (both new (memory_at has a)) r h
+    → Stands d first (finished_state s a new has) (add (reply_acts (pair d (Sta s.number) (Ap a)) false t r) h)
+stands-finished d first s h a t r y old new has st is low some only steps =
+    let g : List Act = reply_acts (pair d (Sta s.number) (Ap a)) false t r in
+    let x : AreAbout a g h = told_about d (Sta s.number) a t r h in
+    let end : IsEnd (Ap a) h (add g h) = told_end d (Sta s.number) a t r y h some in
+    let alone = no_session_beside d first s h _ st is in
+    let nobody_left : pending (add g h) ≡ None = end_pending (Ap a) h (add g h) end in
+    record {
+      draws_are = omega (arith, st.draws_are, about_draws (Ap a) g h x.about);
+      pending_is = nobody_left;
+      associated_is = end_associated (Ap a) h (add g h) end;
+      alone = tt;
+      attempt_is = tt;
+      session_is = (low, steps.stands);
+      no_attempt = λ p other. nobody_pending p (add g h) nobody_left;
+      no_session = λ p other. x.others p other ∙ st.no_session p (nobody (peer_of_session s.session) p (ap peer_of_session alone));
+      remembers = λ p. remembers-handed p a s.memories has g h x.about only steps.remembers (st.remembers p);
+    }
+
+-- ---- in a session
+
+abbrev pub held_state : State → ℕ → Supplicant → List (List Kept) → State
+held_state s a x memories = record { number = s.number; drawn = s.drawn; attempt = s.attempt; session = Some (record { ap = a; supplicant = x }); memories = memories }
+
+-- whom there is an attempt and a session with then
+record IsWith (a : ℕ) (l : List Act) : Type 0 where
+  pub pending_is : pending l ≡ None
+  pub associated_is : associated l ≡ Some (Ap a)
+
+held_with : (d : Domain) (n : Node) (a : ℕ) (t : Taken) (r : Reply) (o : Option Keyed) (h : List Act) → r.installed ≡ o → pending h ≡ None → associated h ≡ Some (Ap a) → IsWith a (add (reply_acts (pair d n (Ap a)) false t r) h)
+held_with d n a t r None h none nobody_was was =
+    let ends = told_ends d n a t r none in
+    record { pending_is = ends_pending (reply_acts (pair d n (Ap a)) false t r) h ends ∙ nobody_was; associated_is = ends_associated (reply_acts (pair d n (Ap a)) false t r) h ends ∙ was }
+held_with d n a t r (Some y) h some nobody_was was =
+    let end = told_end d n a t r y h some in
+    record { pending_is = end_pending (Ap a) h _ end; associated_is = end_associated (Ap a) h _ end }
+
+pub stands-held : (d : Domain) (first : ℕ) (s : State) (h : List Act) (a : ℕ) (t : Taken) (r : Reply) (old new : Supplicant) (has : List (List Kept))
+    → Stands d first s h → s.session ≡ Some (record { ap = a; supplicant = old }) → a < length d.aps → IsOnly a s.memories has
+    → SupplicantSteps (here d first (Sta s.number)) (Ap a) t (both new (memory_at has a)) r h
+    → Stands d first (held_state s a new has) (add (reply_acts (pair d (Sta s.number) (Ap a)) false t r) h)
+stands-held d first s h a t r old new has st is low only steps =
+    let g : List Act = reply_acts (pair d (Sta s.number) (Ap a)) false t r in
+    let x : AreAbout a g h = told_about d (Sta s.number) a t r h in
+    let alone = no_attempt_beside d first s h _ st is in
+    let w : IsWith a (add g h) = held_with d (Sta s.number) a t r r.installed h refl (st.pending_is ∙ ap peer_of_attempt alone) (st.associated_is ∙ ap peer_of_session is) in
+    record {
+      draws_are = omega (arith, st.draws_are, about_draws (Ap a) g h x.about);
+      pending_is = w.pending_is ∙ sym (ap peer_of_attempt alone);
       associated_is = w.associated_is;
-      association_is = (x.0, steps.stands);
-      no_attempt = λ p other. about_no_attempt (Ap a) (Ap p) g h about (st.no_attempt p (subst (λ (y : Option Association). IsElsewhere y p) (sym is) other));
-      no_session = λ p other. about_session (Ap a) (Ap p) g h (ne_eqb p a (λ e. other (sym e))) about ∙ st.no_session p (subst (λ (y : Option Association). IsElsewhere y p) (sym is) other);
-      remembers = λ p. remembers-handed p a s.memories has g h about only steps.remembers (st.remembers p);
+      alone = subst (λ (o : Option Attempt). IsAlone o (Some (record { ap = a; supplicant = new }))) (sym alone) tt;
+      attempt_is = subst (λ (o : Option Attempt). HasAttempt d (Sta s.number) o (add g h)) (sym alone) tt;
+      session_is = (low, steps.stands);
+      no_attempt = λ p other. x.none p (st.no_attempt p other);
+      no_session = λ p other. x.others p other ∙ st.no_session p (λ e. other (sym (ap peer_of_session is) ∙ e));
+      remembers = λ p. remembers-handed p a s.memories has g h x.about only steps.remembers (st.remembers p);
     }

@@ -1,5 +1,5 @@
 -- What a station knows of a frame by what it was judged as.
-use Rattle.std.proofs.Common.{◌+◌, ◌≡◌, ℕ, true, List, [], ◌∷◌, ◌++◌, Option, Some, None, refl, ap, subst, ◌∙◌}
+use Rattle.std.proofs.Common.{◌+◌, ◌≡◌, ℕ, ◌<◌, length, true, List, [], ◌∷◌, ◌++◌, Option, Some, None, refl, ap, subst, ◌∙◌}
 use Rattle.domain_base.specs.declared.names.Node.{Node}
 use Rattle.domain_base.specs.declared.names.Node.TheVariants.{Ap, Sta}
 use Rattle.rsn_elements.specs.Fields.{element_fields}
@@ -17,13 +17,14 @@ use Rattle.domain_rules.specs.Replies.{IsMessageFrom}
 use Rattle.domain_rules.specs.Rows.{Take}
 use Rattle.domain_rules.specs.Closing.{sender}
 use Rattle.run_journal.specs.Questions.{draws}
-use Rattle.node_frames.specs.declared.delivered.Management.{Management}
-use Rattle.node_frames.specs.declared.delivered.KeyMessage.{KeyMessage}
-use Rattle.node_frames.specs.declared.judging.Judged.TheVariants as judged
-use Rattle.node_frames.specs.Views.{management_fields, message_fields}
-use Rattle.node_frames.specs.Judging.{IsJudged, IsPeerOf}
+use Rattle.frame_intake.specs.declared.delivered.Management.{Management}
+use Rattle.frame_intake.specs.declared.delivered.KeyMessage.{KeyMessage}
+use Rattle.frame_intake.specs.declared.judging.Judged.TheVariants as judged
+use Rattle.frame_intake.specs.Views.{management_fields, message_fields}
+use Rattle.node_base.specs.Peers.{IsPeerOf}
+use Rattle.frame_intake.specs.Judging.{IsJudged}
 use Rattle.station_node.specs.State.{State}
-use Rattle.station_node.specs.Steps.{IsTaken, IsManagementFrom}
+use Rattle.station_node.specs.Steps.{IsTaken, turn, IsManagementFrom}
 use Rattle.station_node.proofs.Taken.{taken-settled}
 
 -- the other node of a station is an access point
@@ -41,9 +42,9 @@ managed_is d sta p octets r frame elements from j reads from_is = record {
       (j.3 first h ∙ ap (λ (x : Node). management_verdict d (first + draws h) (Sta sta) h x frame.kind (management_fields frame) (element_fields elements)) from_is);
 }
 
-pub judged-managed : (d : Domain) (n sta p : ℕ) (octets : List ℕ) (r : Reading) (frame : Management) (elements : Elements) (from : Node) → IsJudged d (Sta n) r (judged.Managed from frame elements) → Reads d.akm octets r → from ≡ Ap p → n ≡ sta
+pub judged-managed : (d : Domain) (n : Node) (sta p : ℕ) (octets : List ℕ) (r : Reading) (frame : Management) (elements : Elements) (from : Node) → IsJudged d n r (judged.Managed from frame elements) → Reads d.akm octets r → from ≡ Ap p → n ≡ Sta sta
     → IsManagementFrom d sta p octets (management_fields frame)
-judged-managed d n sta p octets r frame elements from j reads from_is same = subst (λ (x : ℕ). IsManagementFrom d x p octets (management_fields frame)) same (managed_is d n p octets r frame elements from j reads from_is)
+judged-managed d n sta p octets r frame elements from j reads from_is same = managed_is d sta p octets r frame elements from (subst (λ (x : Node). IsJudged d x r (judged.Managed from frame elements)) same j) reads from_is
 
 keyed_is : (d : Domain) (sta p : ℕ) (octets : List ℕ) (r : Reading) (message : KeyMessage) (from : Node) → IsJudged d (Sta sta) r (judged.Keyed from message) → Reads d.akm octets r → from ≡ Ap p → IsMessageFrom d (Sta sta) (Ap p) octets (message_fields message)
 keyed_is d sta p octets r message from j reads from_is = record {
@@ -53,12 +54,19 @@ keyed_is d sta p octets r message from j reads from_is = record {
       (j.4 first h ∙ ap (λ (x : Node). key_verdict d (first + draws h) (Sta sta) h x (message_fields message) message.message) from_is);
 }
 
-pub judged-keyed : (d : Domain) (n sta p : ℕ) (octets : List ℕ) (r : Reading) (message : KeyMessage) (from : Node) → IsJudged d (Sta n) r (judged.Keyed from message) → Reads d.akm octets r → from ≡ Ap p → n ≡ sta
+pub judged-keyed : (d : Domain) (n : Node) (sta p : ℕ) (octets : List ℕ) (r : Reading) (message : KeyMessage) (from : Node) → IsJudged d n r (judged.Keyed from message) → Reads d.akm octets r → from ≡ Ap p → n ≡ Sta sta
     → IsMessageFrom d (Sta sta) (Ap p) octets (message_fields message)
-judged-keyed d n sta p octets r message from j reads from_is same = subst (λ (x : ℕ). IsMessageFrom d (Sta x) (Ap p) octets (message_fields message)) same (keyed_is d n p octets r message from j reads from_is)
+judged-keyed d n sta p octets r message from j reads from_is same = keyed_is d sta p octets r message from (subst (λ (x : Node). IsJudged d x r (judged.Keyed from message)) same j) reads from_is
 
-pub judged-settled : (d : Domain) (n : ℕ) (s : State) (octets : List ℕ) (r : Reading) (from : Option Node) (k : Kind) (outcome : Outcome) (waited waits : List Act) → IsJudged d (Sta n) r (judged.Settled from outcome) → Reads d.akm octets r → k ≡ kind_of r → n ≡ s.number
-    → waits ≡ waited ++ Took from octets k outcome None ∷ [] → IsTaken d (Take octets) s s waited waits outcome
+-- the other node is listed
+pub judged-listed : (d : Domain) (n : Node) (sta p : ℕ) (from : Node) → IsPeerOf d n from → from ≡ Ap p → n ≡ Sta sta → p < length d.aps
+judged-listed d n sta p from peer from_is same = subst (λ (x : Node). IsPeerOf d (Sta sta) x) from_is (subst (λ (x : Node). IsPeerOf d x from) same peer)
+
+pub judged-ap : (d : Domain) (n : Node) (sta : ℕ) (from : Node) → IsPeerOf d n from → n ≡ Sta sta → is_ap from ≡ true
+judged-ap d n sta from peer same = peer-is_ap d sta from (subst (λ (x : Node). IsPeerOf d x from) same peer)
+
+pub judged-settled : (d : Domain) (n : Node) (s : State) (octets : List ℕ) (r : Reading) (from : Option Node) (k : Kind) (outcome : Outcome) (waited waits : List Act) → IsJudged d n r (judged.Settled from outcome) → Reads d.akm octets r → k ≡ kind_of r → n ≡ Sta s.number
+    → waits ≡ waited ++ Took from octets k outcome None ∷ [] → IsTaken d (Take octets) (turn s s waited waits) outcome
 judged-settled d n s octets r from k outcome waited waits j reads kind_is same is =
-    let here : IsJudged d (Sta s.number) r (judged.Settled from outcome) = subst (λ (x : ℕ). IsJudged d (Sta x) r (judged.Settled from outcome)) same j in
+    let here : IsJudged d (Sta s.number) r (judged.Settled from outcome) = subst (λ (x : Node). IsJudged d x r (judged.Settled from outcome)) same j in
     taken-settled d s octets r from outcome waited waits reads here.0 here.1 here.2 (is ∙ ap (λ (m : Kind). waited ++ Took from octets m outcome None ∷ []) kind_is)

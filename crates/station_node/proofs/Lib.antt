@@ -8,3 +8,4 @@ pub mod Asking
 pub mod Taken
 pub mod Judged
 pub mod Growing
+pub mod Placed

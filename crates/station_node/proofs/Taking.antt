@@ -1,5 +1,5 @@
 -- A station takes a frame: the acts of each row, and what it stands for behind them.
-use Rattle.std.proofs.Common.{◌≡◌, ℕ, cond, List, [], ◌∷◌, ◌++◌, Some, None, refl, subst, ◌∙◌}
+use Rattle.std.proofs.Common.{◌≡◌, ℕ, List, [], ◌∷◌, ◌++◌, Some, None, refl, subst, ◌∙◌}
 use Rattle.domain_base.specs.declared.names.Node.TheVariants.{Ap, Sta}
 use Rattle.rsn_elements.specs.Elements.{ElementFields}
 use Rattle.run_journal.specs.declared.domain.Domain.{Domain}
@@ -8,24 +8,23 @@ use Rattle.run_journal.specs.declared.acts.Reason.{Reason}
 use Rattle.run_journal.specs.declared.acts.Outcome.TheVariants.{Accepted, Ignored, Refused}
 use Rattle.run_journal.specs.declared.acts.Act.{Act}
 use Rattle.run_journal.specs.declared.acts.Act.TheVariants.{Took}
+use Rattle.domain_rules.specs.Here.{here}
 use Rattle.domain_rules.specs.Reading.{Management, Reading, PassedOver, Managed, Reads, kind_of}
 use Rattle.domain_rules.specs.Verdict.{ComesSoFar, first_verdict}
 use Rattle.domain_rules.specs.Associating.{assoc_resp_verdict}
-use Rattle.domain_rules.specs.Rows.{Take, seal_in, refused_seal, By_assoc_resp, By_ignored, By_refusal}
+use Rattle.domain_rules.specs.Rows.{Take, refused_seal, By_assoc_resp, By_ignored, By_refusal}
 use Rattle.domain_rules.specs.Closing.{sender}
 use Rattle.domain_rules.proofs.Effects.{associated_acts}
 use Rattle.domain_rules.proofs.Refused.{no_facts}
 use Rattle.group_key.specs.Keys.{Kept}
-use Rattle.node_frames.specs.Events.{Steps}
-use Rattle.node_frames.specs.Ends.{AreEnds}
-use Rattle.supplicant.specs.declared.stage.Stage.TheVariants.{Attempt}
+use Rattle.node_base.specs.Events.{Steps, seen}
 use Rattle.supplicant.specs.State.{State as Supplicant}
-use Rattle.station_node.specs.declared.association.Association.TheVariants.{Requested}
+use Rattle.station_node.specs.declared.attempt.Association.TheVariants.{Requested}
 use Rattle.station_node.specs.State.{State, memory_at}
 use Rattle.station_node.specs.Stands.{Stands}
 use Rattle.station_node.proofs.Acts.{plain-refused, plain-ignored}
 use Rattle.station_node.proofs.Standing.{stands-plain}
-use Rattle.station_node.proofs.Beginning.{associated_state, stands-associated}
+use Rattle.station_node.proofs.Beginning.{HasBegun, associated_state, stands-associated}
 use Rattle.station_node.proofs.Verdicts.{response-awaited}
 
 -- nothing was sealed in a frame that the history refuses
@@ -34,7 +33,7 @@ unsealed d first sta h r why is = rw is refl
 
 pub steps-refused : (d : Domain) (first sta : ℕ) (s : State) (h : List Act) (octets : List ℕ) (r : Reading) (why : Reason) (waited : List Act)
     → Stands d first s h → Reads d.akm octets r → first_verdict d first (Sta sta) h r ≡ Refused why
-    → Steps d first (Sta sta) (Take octets) (Stands d first s) h waited (waited ++ Took (sender d (Sta sta) r) octets (kind_of r) (Refused why) None ∷ []) (Refused why)
+    → Steps (here d first (Sta sta)) (Take octets) (Stands d first s) h (seen waited (waited ++ Took (sender d (Sta sta) r) octets (kind_of r) (Refused why) None ∷ []) (Refused why))
 steps-refused d first sta s h octets r why waited st reads is = record {
   acts = Took (sender d (Sta sta) r) octets (kind_of r) (Refused why) None ∷ [];
   adds = record {
@@ -50,7 +49,7 @@ steps-refused d first sta s h octets r why waited st reads is = record {
 }
 
 pub steps-ignored : (d : Domain) (first sta : ℕ) (s : State) (h : List Act) (octets : List ℕ) (waited : List Act) → Stands d first s h → Reads d.akm octets PassedOver
-    → Steps d first (Sta sta) (Take octets) (Stands d first s) h waited (waited ++ Took None octets kind.Ignored Ignored None ∷ []) Ignored
+    → Steps (here d first (Sta sta)) (Take octets) (Stands d first s) h (seen waited (waited ++ Took None octets kind.Ignored Ignored None ∷ []) Ignored)
 steps-ignored d first sta s h octets waited st reads = record {
   acts = Took None octets kind.Ignored Ignored None ∷ [];
   adds = record { r = PassedOver; reads = reads; facts = no_facts; knows = λ so. absurd so; row = By_ignored (record { ignored = refl; says = refl }) };
@@ -60,12 +59,12 @@ steps-ignored d first sta s h octets waited st reads = record {
 }
 
 pub steps-associated : (d : Domain) (first : ℕ) (s : State) (h : List Act) (octets : List ℕ) (b : Management) (e : ElementFields) (p : ℕ) (v : List ℕ) (x : Supplicant) (memories : List (List Kept)) (waited : List Act)
-    → Stands d first s h → s.association ≡ Some (Requested p v)
-    → AreEnds d (Sta s.number) (Ap p) x.ends → x.psk ≡ d.psk → x.stage ≡ Attempt v None → ((k : ℕ) → memory_at memories k ≡ memory_at s.memories k)
+    → Stands d first s h → s.attempt ≡ Some (record { ap = p; association = Requested v })
+    → HasBegun d (Sta s.number) (Ap p) v x → ((k : ℕ) → memory_at memories k ≡ memory_at s.memories k)
     → Reads d.akm octets (Managed b e) → sender d (Sta s.number) (Managed b e) ≡ Some (Ap p) → b.kind ≡ kind.AssocResp → b.status ≡ 0
     → first_verdict d first (Sta s.number) h (Managed b e) ≡ assoc_resp_verdict h (Ap p) b
-    → Steps d first (Sta s.number) (Take octets) (Stands d first (associated_state s p x memories)) h waited (waited ++ associated_acts (Ap p) octets) Accepted
-steps-associated d first s h octets b e p v x memories waited st is ends psk stage same_memory reads from kind_is status verdict_is =
+    → Steps (here d first (Sta s.number)) (Take octets) (Stands d first (associated_state s p x memories)) h (seen waited (waited ++ associated_acts (Ap p) octets) Accepted)
+steps-associated d first s h octets b e p v x memories waited st is begun same_memory reads from kind_is status verdict_is =
     let accepted : first_verdict d first (Sta s.number) h (Managed b e) ≡ Accepted = verdict_is ∙ response-awaited d first s h p v b st is ∙ rw status refl in
     record {
       acts = associated_acts (Ap p) octets;
@@ -78,5 +77,5 @@ steps-associated d first s h octets b e p v x memories waited st is ends psk sta
       };
       waiting = refl;
       came = refl;
-      stands = stands-associated d first s h p v octets x memories st is ends psk stage same_memory;
+      stands = stands-associated d first s h p v octets x memories st is begun same_memory;
     }

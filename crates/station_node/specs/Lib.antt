@@ -1,3 +1,5 @@
 pub mod State
+pub mod Parts
 pub mod Stands
 pub mod Steps
+pub mod Handed

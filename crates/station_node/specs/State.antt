@@ -1,15 +1,18 @@
 -- What contracts see of a station (this project's choice).
 use Rattle.std.specs.Prelude.{ℕ, ◌<◌, List, [], length, Option, Some, None, slice_index_or}
 use Rattle.group_key.specs.Keys.{Kept}
-use Rattle.station_node.specs.declared.association.Association.{Association}
-use Rattle.station_node.specs.declared.association.Association.TheVariants.{Requested, Accepted}
+use Rattle.station_node.specs.declared.attempt.Attempt.{Attempt}
+use Rattle.station_node.specs.declared.attempt.Association.{Association}
+use Rattle.station_node.specs.declared.attempt.Association.TheVariants.{Requested, Accepted}
+use Rattle.station_node.specs.declared.session.Session.{Session}
 
--- its place among the stations, the number of its next draw, its association, and the group keys that it keeps by the numbers of
--- the access points, as far as they came
+-- its place among the stations, the number of its next draw, its attempt, its session, and the
+-- group keys that it keeps by the numbers of the access points, as far as they came
 pub record State : Type 0 where
   pub number : ℕ
   pub drawn : ℕ
-  pub association : Option Association
+  pub attempt : Option Attempt
+  pub session : Option Session
   pub memories : List (List Kept)
 
 -- the group keys kept of an access point
@@ -17,7 +20,18 @@ abbrev pub memory_at : List (List Kept) → ℕ → List Kept
 memory_at memories p = slice_index_or memories p []
 
 -- an access point that accepted an association has a place among the memories
-abbrev pub HasPlace : Option Association → List (List Kept) → Type 0
-HasPlace None memories = Unit {0}
-HasPlace (Some (Requested ap snonce)) memories = Unit {0}
-HasPlace (Some (Accepted ap s)) memories = ap < length memories
+abbrev pub HasPlace : ℕ → Association → List (List Kept) → Type 0
+HasPlace ap (Requested snonce) memories = Unit {0}
+HasPlace ap (Accepted s) memories = ap < length memories
+
+abbrev pub HasPlaceTried : Option Attempt → List (List Kept) → Type 0
+HasPlaceTried None memories = Unit {0}
+HasPlaceTried (Some a) memories = HasPlace a.ap a.association memories
+
+abbrev pub HasPlaceHeld : Option Session → List (List Kept) → Type 0
+HasPlaceHeld None memories = Unit {0}
+HasPlaceHeld (Some x) memories = x.ap < length memories
+
+pub record HavePlaces (a : Option Attempt) (x : Option Session) (memories : List (List Kept)) : Type 0 where
+  pub tried : HasPlaceTried a memories
+  pub held : HasPlaceHeld x memories

@@ -1,10 +1,12 @@
 //! A station, one event at a time.
 #![tactic(auto)]
 
-mod association;
+mod attempt;
+mod handing;
 mod laws;
 mod memories;
 mod refusing;
+mod session;
 mod station;
 
 pub use laws::stands_as_the_network_grows;

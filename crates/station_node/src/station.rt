@@ -9,24 +9,28 @@ ghost use Rattle.run_journal.specs.declared.acts.Kind.TheVariants.{AssocResp};
 ghost use Rattle.run_journal.specs.declared.acts.Reason.{Reason as AnyReason};
 ghost use Rattle.run_journal.specs.declared.acts.Outcome.TheVariants.{Refused};
 ghost use Rattle.run_journal.specs.declared.domain.Domain.{Domain as AnyDomain};
-ghost use Rattle.domain_rules.specs.Network.{InForm, is_ap, last_draw};
+ghost use Rattle.domain_rules.specs.Here.{here};
+ghost use Rattle.domain_rules.specs.Network.{InForm, is_ap, draw_end};
 ghost use Rattle.domain_rules.specs.Reading.{Management as ManagementFields};
 ghost use Rattle.domain_rules.specs.Replies.{IsMessageFrom};
 ghost use Rattle.domain_rules.specs.Rows.{Begin, Take};
-ghost use Rattle.node_frames.specs.Views.{management_fields, message_fields};
-ghost use Rattle.node_frames.specs.Events.{event_of, IsEventAt, Steps};
+ghost use Rattle.frame_intake.specs.Views.{management_fields, message_fields};
+ghost use Rattle.node_base.specs.Events.{event_of, IsEventAt, Steps, seen};
+ghost use Rattle.station_node.specs.Parts.{peer_of_attempt, IsElsewhere};
 ghost use Rattle.station_node.specs.Stands.{Stands};
-ghost use Rattle.station_node.specs.Steps.{IsTaken, IsManagementFrom};
+ghost use Rattle.station_node.specs.Steps.{Takes, turn, IsManagementFrom};
 
-use crate::association::Association;
+use crate::attempt::{Association, Attempt};
+use crate::handing::hand;
 use crate::memories::make_place;
-use crate::refusing::refuse;
+use crate::refusing::{refuse, refuse_message};
+use crate::session::Session;
+use act_memory::{Outbox, settle, took};
 use domain_base::{NoMemory, Node};
+use frame_intake::{Heard, Judged, Management, judge, read};
+use frame_making::assoc_req;
 use group_key::GroupMemory;
-use node_frames::{
-    Judged, KeyMessage, LAST_DRAW, Management, NodeEvent, Outbox, assoc_req, judge, nonce, read,
-    settle, took,
-};
+use node_base::{DRAW_END, Here, NodeEvent, nonce};
 use run_journal::{Act, Domain, Drawn, Kind, Outcome, Reason, Start, Why};
 use std::alloc::Global;
 use std::marker::Model;
@@ -37,36 +41,39 @@ use supplicant::{StaStart, Supplicant};
 pub struct StationNode {
     number: u16,
     drawn: u64,
-    association: Option<Association>,
+    attempt: Option<Attempt>,
+    session: Option<Session>,
     memories: Vec<GroupMemory>,
 }
 
 impl Model for StationNode {
-    ghost use Rattle.station_node.specs.State.{State, HasPlace};
+    ghost use Rattle.station_node.specs.State.{State, HavePlaces};
 
     ghost Value = { State };
 
     ghost view = { λ s. record {
       number = s.number;
       drawn = s.drawn;
-      association = s.association;
+      attempt = s.attempt;
+      session = s.session;
       memories = s.memories.items;
     } };
 
-    ghost invariant = { λ s. HasPlace s.association s.memories.items };
+    ghost invariant = { λ s. HavePlaces s.attempt s.session s.memories.items };
 }
 
 impl StationNode {
     /// The station as it starts. It begins to draw at that number.
     pub fn start(alloc: Global, sta: u16, first_draw: u64) -> Self
-        requires { first_draw < last_draw }
+        requires { first_draw < draw_end }
         ensures number { result.number ≡ sta }
         ensures stands { (d : AnyDomain) → Stands d first_draw result [] }
     {
         StationNode {
             number: sta,
             drawn: first_draw,
-            association: None,
+            attempt: None,
+            session: None,
             memories: Vec::new(alloc),
         }
     }
@@ -84,82 +91,69 @@ impl StationNode {
         requires listed { self.old.number < length domain.now.stas }
         requires event { IsEventAt domain.now (Sta self.old.number) (event_of event) }
         ensures number { self.new.number ≡ self.old.number }
-        ensures steps { IfOk result (λ outcome. (first : ℕ) (h : List AnyAct) → Stands domain.now first self.old h
-            → Steps domain.now first (Sta self.old.number) (event_of event.entry) (Stands domain.now first self.new) h out.old.acts out.new.acts outcome) }
-        ensures refused { IfOk result (λ outcome. (why : AnyReason) → outcome ≡ Refused why → self.new ≡ self.old) }
+        ensures steps { IfOk result (λ outcome. (first : ℕ) (h : List AnyAct)
+            → Stands domain.now first self.old h
+            → Steps (here domain.now first (Sta self.old.number)) (event_of event.entry)
+            (Stands domain.now first self.new) h (seen out.old.acts out.new.acts outcome)) }
+        ensures refused { IfOk result
+            (λ outcome. (why : AnyReason) → outcome ≡ Refused why → self.new ≡ self.old) }
         ensures same { OnErr result (self.new ≡ self.old) }
         ensures kept { OnErr result (out.new.acts ≡ out.old.acts) }
     {
+        let here = Here {
+            alloc,
+            domain,
+            node: Node::Sta(self.number),
+        };
         match event {
-            NodeEvent::Connect(ap) => self.connect(alloc, domain, ap, out),
-            NodeEvent::Take(octets) => self.take(alloc, domain, octets, out),
+            NodeEvent::Connect(ap) => self.connect(here, ap, out),
+            NodeEvent::Take(octets) => self.take(here, octets, out),
             NodeEvent::Retry(_) => unreachable!(),
         }
     }
 
     // Takes a frame that was delivered.
-    fn take(
-        &mut self,
-        alloc: Global,
-        domain: &Domain,
-        octets: &[u8],
-        out: &mut Outbox,
-    ) -> Result<Outcome, NoMemory>
-        requires form { InForm domain.now }
-        requires suite { domain.now.akm ≢ AnyAkm.FtPsk }
-        requires listed { self.old.number < length domain.now.stas }
-        ensures taken { IfOk result (IsTaken domain.now (Take octets.now) self.old self.new out.old.acts out.new.acts) }
-        ensures same { OnErr result (self.new ≡ self.old) }
-        ensures kept { OnErr result (out.new.acts ≡ out.old.acts) }
+    fn take(&mut self, here: Here<'_>, octets: &[u8], out: &mut Outbox) -> Result<Outcome, NoMemory>
+        requires form { InForm here.domain.now }
+        requires suite { here.domain.now.akm ≢ AnyAkm.FtPsk }
+        requires listed { self.old.number < length here.domain.now.stas }
+        requires node { here.node ≡ Sta self.old.number }
+        ensures { Takes here.entry.domain.now (Take octets.now)
+            (turn self.old self.new out.old.acts out.new.acts) result }
     {
-        let delivered = read(domain.akm, octets);
-        match judge(domain, Node::Sta(self.number), &delivered) {
+        let delivered = read(here.domain.akm, octets);
+        match judge(here.domain, here.node, &delivered) {
             Judged::Settled(from, outcome) => {
-                settle(alloc, from, octets, delivered.kind(), outcome, out)
+                settle(here.alloc, from, octets, delivered.kind(), outcome, out)
             }
-            Judged::Managed(from, frame, _) => self.take_management(
-                alloc,
-                domain,
-                number_of(from),
-                octets,
-                &frame,
-                out,
-            ),
-            Judged::Keyed(from, message) => self.take_message(
-                alloc,
-                domain,
-                number_of(from),
-                octets,
-                &message,
-                out,
-            ),
+            Judged::Managed(from, frame, _) => {
+                self.take_management(here, number_of(from), octets, &frame, out)
+            }
+            Judged::Keyed(from, message) => {
+                self.take_message(here, number_of(from), &Heard { octets, message }, out)
+            }
         }
     }
 
     // Begins an attempt with that access point, or does nothing where the last draw was made.
-    fn connect(
-        &mut self,
-        alloc: Global,
-        domain: &Domain,
-        ap: u16,
-        out: &mut Outbox,
-    ) -> Result<Outcome, NoMemory>
-        requires form { InForm domain.now }
-        requires listed { self.old.number < length domain.now.stas }
-        requires ap { ap < length domain.now.aps }
-        ensures taken { IfOk result (IsTaken domain.now (Begin ap) self.old self.new out.old.acts out.new.acts) }
-        ensures same { OnErr result (self.new ≡ self.old) }
-        ensures kept { OnErr result (out.new.acts ≡ out.old.acts) }
+    fn connect(&mut self, here: Here<'_>, ap: u16, out: &mut Outbox) -> Result<Outcome, NoMemory>
+        requires form { InForm here.domain.now }
+        requires listed { self.old.number < length here.domain.now.stas }
+        requires node { here.node ≡ Sta self.old.number }
+        requires ap { ap < length here.domain.now.aps }
+        ensures { Takes here.entry.domain.now (Begin ap)
+            (turn self.old self.new out.old.acts out.new.acts) result }
     {
-        if self.drawn >= LAST_DRAW {
+        if self.drawn >= DRAW_END {
             out.reserve(1)?;
             out.add(Act::Idle { why: Why::Spent });
             return Ok(Outcome::Idle(Why::Spent));
         }
-        let request = assoc_req(alloc, domain, self.number, ap)?;
-        out.reserve(4)?;
-        let snonce = nonce(domain, Node::Sta(self.number), self.drawn);
-        Association::leave(&self.association, out);
+        let request = assoc_req(here, ap)?;
+        out.reserve(5)?;
+        let snonce = nonce(here.domain, here.node, self.drawn);
+        Attempt::leave(&self.attempt, out);
+        Session::leave(&self.session, out);
         out.add(Act::Opened {
             peer: Node::Ap(ap),
             start: Start::Connect,
@@ -169,108 +163,144 @@ impl StationNode {
         });
         out.add(request);
         self.drawn += 1;
-        self.association = Some(Association::Requested { ap, snonce });
+        self.attempt = Some(Attempt {
+            ap,
+            association: Association::Requested(snonce),
+        });
+        self.session = None;
         Ok(Outcome::Done)
     }
 
     // A management frame of that access point.
     fn take_management(
         &mut self,
-        alloc: Global,
-        domain: &Domain,
+        here: Here<'_>,
         ap: u16,
         octets: &[u8],
         frame: &Management<'_>,
         out: &mut Outbox,
     ) -> Result<Outcome, NoMemory>
-        requires suite { domain.now.akm ≢ AnyAkm.FtPsk }
-        requires listed { self.old.number < length domain.now.stas }
-        requires ap { ap < length domain.now.aps }
-        requires managed { IsManagementFrom domain.now self.old.number ap octets.now (management_fields frame.now) }
-        ensures taken { IfOk result (IsTaken domain.now (Take octets.now) self.old self.new out.old.acts out.new.acts) }
-        ensures same { OnErr result (self.new ≡ self.old) }
-        ensures kept { OnErr result (out.new.acts ≡ out.old.acts) }
+        requires suite { here.domain.now.akm ≢ AnyAkm.FtPsk }
+        requires listed { self.old.number < length here.domain.now.stas }
+        requires ap { ap < length here.domain.now.aps }
+        requires managed { IsManagementFrom here.domain.now self.old.number ap octets.now
+            (management_fields frame.now) }
+        ensures { Takes here.entry.domain.now (Take octets.now)
+            (turn self.old self.new out.old.acts out.new.acts) result }
     {
         match frame.kind {
-            Kind::AssocResp => self.take_response(alloc, domain, ap, octets, frame.status, out),
-            kind => refuse(alloc, ap, octets, kind, Reason::Unawaited, out),
+            Kind::AssocResp => self.take_response(here, ap, octets, frame.status, out),
+            kind => refuse(here.alloc, ap, octets, kind, Reason::Unawaited, out),
         }
     }
 
     // An association response of that access point.
     fn take_response(
         &mut self,
-        alloc: Global,
-        domain: &Domain,
+        here: Here<'_>,
         ap: u16,
         octets: &[u8],
         status: u16,
         out: &mut Outbox,
     ) -> Result<Outcome, NoMemory>
-        requires suite { domain.now.akm ≢ AnyAkm.FtPsk }
-        requires listed { self.old.number < length domain.now.stas }
-        requires ap { ap < length domain.now.aps }
-        ensures taken { IfOk result (λ outcome. (b : ManagementFields) → IsManagementFrom domain.now self.old.number ap octets.now b
-            → b.kind ≡ AssocResp → b.status ≡ status → IsTaken domain.now (Take octets.now) self.old self.new out.old.acts out.new.acts outcome) }
-        ensures same { OnErr result (self.new ≡ self.old) }
-        ensures kept { OnErr result (out.new.acts ≡ out.old.acts) }
+        requires suite { here.domain.now.akm ≢ AnyAkm.FtPsk }
+        requires listed { self.old.number < length here.domain.now.stas }
+        requires ap { ap < length here.domain.now.aps }
+        ensures { (b : ManagementFields)
+            → IsManagementFrom here.entry.domain.now self.old.number ap octets.now b
+            → b.kind ≡ AssocResp → b.status ≡ status
+            → Takes here.entry.domain.now (Take octets.now)
+            (turn self.old self.new out.old.acts out.new.acts) result }
     {
         let kind = Kind::AssocResp;
-        let Some(snonce) = Association::requested(&self.association, ap) else {
-            return refuse(alloc, ap, octets, kind, Reason::Unawaited, out);
+        let Some(snonce) = Attempt::requested(&self.attempt, ap) else {
+            return refuse(here.alloc, ap, octets, kind, Reason::Unawaited, out);
         };
         if status != 0 {
-            return refuse(alloc, ap, octets, kind, Reason::Status(status), out);
+            return refuse(here.alloc, ap, octets, kind, Reason::Status(status), out);
         }
         let from = Some(Node::Ap(ap));
-        let act = took(alloc, from, octets, kind, Outcome::Accepted, None)?;
+        let act = took(here.alloc, from, octets, kind, Outcome::Accepted, None)?;
         out.reserve(1)?;
         make_place(&mut self.memories, ap)?;
         out.add(act);
         let start = StaStart::Connect { snonce: &snonce };
-        let supplicant = Supplicant::begin(domain, self.number, ap, start);
-        self.association = Some(Association::Accepted { ap, supplicant });
+        let supplicant = Supplicant::begin(here.domain, self.number, ap, start);
+        self.attempt = Some(Attempt {
+            ap,
+            association: Association::Accepted(supplicant),
+        });
         Ok(Outcome::Accepted)
     }
 
-    // An EAPOL-Key message of that access point.
+    // An EAPOL-Key message of that access point goes to the attempt with it, else to the session.
     fn take_message(
         &mut self,
-        alloc: Global,
-        domain: &Domain,
+        here: Here<'_>,
         ap: u16,
-        octets: &[u8],
-        message: &KeyMessage<'_>,
+        heard: &Heard<'_>,
         out: &mut Outbox,
     ) -> Result<Outcome, NoMemory>
-        requires listed { self.old.number < length domain.now.stas }
-        requires ap { ap < length domain.now.aps }
-        requires frame { IsKeyFrame message.now.frame }
-        requires message { IsMessageFrom domain.now (Sta self.old.number) (Ap ap) octets.now (message_fields message.now) }
-        ensures taken { IfOk result (IsTaken domain.now (Take octets.now) self.old self.new out.old.acts out.new.acts) }
-        ensures same { OnErr result (self.new ≡ self.old) }
-        ensures kept { OnErr result (out.new.acts ≡ out.old.acts) }
+        requires listed { self.old.number < length here.domain.now.stas }
+        requires node { here.node ≡ Sta self.old.number }
+        requires ap { ap < length here.domain.now.aps }
+        requires frame { IsKeyFrame heard.now.message.frame }
+        requires message { IsMessageFrom here.domain.now (Sta self.old.number) (Ap ap)
+            heard.now.octets.now (message_fields heard.now.message) }
+        ensures { Takes here.entry.domain.now (Take heard.now.octets.now)
+            (turn self.old self.new out.old.acts out.new.acts) result }
     {
-        let sta = self.number;
-        match &mut self.association {
-            Some(association) => association.take(
-                alloc,
-                domain,
-                sta,
-                ap,
-                octets,
-                message,
-                &mut self.memories,
-                out,
-            ),
-            None => refuse(
-                alloc,
-                ap,
-                octets,
-                Kind::Key(message.message),
-                Reason::Unawaited,
-                out,
-            ),
+        match &mut self.attempt {
+            Some(
+                Attempt {
+                    ap: with,
+                    association,
+                },
+            ) if *with == ap => match association {
+                Association::Requested(_) => refuse_message(here.alloc, ap, heard, out),
+                Association::Accepted(supplicant) => {
+                    let memory = &mut self.memories[usize::from(ap)];
+                    let came = hand(here, ap, heard, supplicant, memory, out)?;
+                    if came.is_finished {
+                        Attempt::finish(&mut self.attempt, &mut self.session);
+                    }
+                    Ok(came.outcome)
+                }
+            },
+            _ => self.take_in_session(here, ap, heard, out),
+        }
+    }
+
+    // An EAPOL-Key message of an access point with which there is no attempt.
+    fn take_in_session(
+        &mut self,
+        here: Here<'_>,
+        ap: u16,
+        heard: &Heard<'_>,
+        out: &mut Outbox,
+    ) -> Result<Outcome, NoMemory>
+        requires listed { self.old.number < length here.domain.now.stas }
+        requires node { here.node ≡ Sta self.old.number }
+        requires ap { ap < length here.domain.now.aps }
+        requires frame { IsKeyFrame heard.now.message.frame }
+        requires message { IsMessageFrom here.domain.now (Sta self.old.number) (Ap ap)
+            heard.now.octets.now (message_fields heard.now.message) }
+        requires elsewhere { IsElsewhere (peer_of_attempt self.old.attempt) ap }
+        ensures { Takes here.entry.domain.now (Take heard.now.octets.now)
+            (turn self.old self.new out.old.acts out.new.acts) result }
+    {
+        match &mut self.session {
+            Some(
+                Session {
+                    ap: with,
+                    supplicant,
+                },
+            ) if *with == ap => {
+                let kept = &mut self.memories[usize::from(ap)];
+                let came = hand(here, ap, heard, supplicant, kept, out)?;
+                Ok(came.outcome)
+            }
+            _ => refuse_message(here.alloc, ap, heard, out),
         }
     }
 }

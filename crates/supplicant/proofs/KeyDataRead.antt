@@ -20,7 +20,6 @@ use Rattle.run_journal.specs.declared.acts.Reason.{Reason}
 use Rattle.run_journal.specs.declared.acts.Reason.TheVariants as reason
 use Rattle.run_journal.specs.declared.acts.Outcome.{Outcome}
 use Rattle.run_journal.specs.declared.acts.Outcome.TheVariants.{Refused}
-use Rattle.run_journal.specs.declared.reply.Keyed.{Keyed}
 use Rattle.domain_rules.specs.Facts.{is_same, ReadsKeyData}
 use Rattle.domain_rules.specs.StationKeys.{is_group_key}
 use Rattle.domain_rules.specs.Asking.{above}
@@ -28,7 +27,7 @@ use Rattle.domain_rules.specs.StationRows.{carried_in}
 use Rattle.domain_rules.proofs.Peers.{not_same}
 use Rattle.domain_rules.proofs.Verdicts.{above-low, above-high}
 use Rattle.supplicant.specs.declared.m3.CarriedKey.{CarriedKey}
-use Rattle.supplicant.specs.M3.{group_key, IsPlain, IsOpened, IsAbove, IsNotAbove, IsVerified, before_key_data}
+use Rattle.supplicant.specs.M3.{group_key, Under, IsPlain, IsOpened, IsAbove, IsNotAbove, IsVerified, IsM3, before_key_data}
 
 -- ---- how long it is
 
@@ -89,24 +88,37 @@ low_counter : (kept : Option ℕ) (counter was : ℕ) → IsNotAbove kept counte
 low_counter None counter was low o = absurd low
 low_counter (Some k) counter was low o = above-low k counter o low.1 ∙ ap (λ (x : ℕ). Refused (reason.Counter x)) (sym low.0)
 
-pub counter_low : (akm : Akm) (y : Keyed) (kept : Option ℕ) (f : KeyFields) (octets : List ℕ) (was : ℕ) → IsNotAbove kept f.counter was → (o : Outcome) → before_key_data akm y kept f octets o ≡ Refused (reason.Counter was)
-counter_low akm y kept f octets was low o = low_counter kept f.counter was low _
+-- where nothing was told yet
+before : (u : Under) (f : KeyFields) (octets : List ℕ) (why : Reason) (v : Option (List ℕ)) → v ≡ None → ((o : Outcome) → before_key_data u f octets o ≡ Refused why) → IsM3 u f octets (Err why) v
+before u f octets why v none is = subst (λ (x : Option (List ℕ)). IsM3 u f octets (Err why) x) (sym none) is
 
-pub nonce_other : (akm : Akm) (y : Keyed) (kept : Option ℕ) (f : KeyFields) (octets : List ℕ) → IsAbove kept f.counter → (f.nonce ≡ y.anonce → ⊥) → (o : Outcome) → before_key_data akm y kept f octets o ≡ Refused reason.Nonce
-nonce_other akm y kept f octets high other o = let unlike = not_same f.nonce y.anonce other in high_counter kept f.counter high _ ∙ rw unlike refl
+pub counter_low : (u : Under) (f : KeyFields) (octets : List ℕ) (was : ℕ) (v : Option (List ℕ)) → v ≡ None → IsNotAbove u.kept f.counter was → IsM3 u f octets (Err (reason.Counter was)) v
+counter_low u f octets was v none low = before u f octets (reason.Counter was) v none (λ o. low_counter u.kept f.counter was low _)
+
+pub nonce_other : (u : Under) (f : KeyFields) (octets : List ℕ) (v : Option (List ℕ)) → v ≡ None → IsAbove u.kept f.counter → (f.nonce ≡ u.key.anonce → ⊥) → IsM3 u f octets (Err reason.Nonce) v
+nonce_other u f octets v none high other =
+    let unlike = not_same f.nonce u.key.anonce other in
+    before u f octets reason.Nonce v none (λ o. high_counter u.kept f.counter high _ ∙ rw unlike refl)
 
 same_octets : (a b : List ℕ) → a ≡ b → bytes_eq a b ≡ true
 same_octets a b same = (bytes_eq-Decides a b).1 same
 
-pub mic_other : (akm : Akm) (y : Keyed) (kept : Option ℕ) (f : KeyFields) (octets : List ℕ) → IsAbove kept f.counter → f.nonce ≡ y.anonce → (f.mic ≡ mic akm y.ptk.kck octets → ⊥) → (o : Outcome) → before_key_data akm y kept f octets o ≡ Refused reason.Mic
-mic_other akm y kept f octets high same other o =
-    let alike = same_octets f.nonce y.anonce same in
-    let unlike = not_same f.mic (mic akm y.ptk.kck octets) other in
-    high_counter kept f.counter high _ ∙ rw (alike, unlike) refl
+pub mic_other : (u : Under) (f : KeyFields) (octets : List ℕ) (v : Option (List ℕ)) → v ≡ None → IsAbove u.kept f.counter → f.nonce ≡ u.key.anonce → (f.mic ≡ mic u.akm u.key.ptk.kck octets → ⊥) → IsM3 u f octets (Err reason.Mic) v
+mic_other u f octets v none high same other =
+    let alike = same_octets f.nonce u.key.anonce same in
+    let unlike = not_same f.mic (mic u.akm u.key.ptk.kck octets) other in
+    before u f octets reason.Mic v none (λ o. high_counter u.kept f.counter high _ ∙ rw (alike, unlike) refl)
 
-pub is_verified : (akm : Akm) (y : Keyed) (kept : Option ℕ) (f : KeyFields) (octets : List ℕ) (r : Result CarriedKey Reason) → IsAbove kept f.counter → f.nonce ≡ y.anonce → f.mic ≡ mic akm y.ptk.kck octets → IsOpened akm y.ptk.kek f.key_data r
-    → IsVerified akm y kept f octets r
-is_verified akm y kept f octets r high same verifies opened =
-    let alike = same_octets f.nonce y.anonce same in
-    let right = same_octets f.mic (mic akm y.ptk.kck octets) verifies in
-    record { comes = λ o. (high_counter kept f.counter high _ ∙ rw (alike, right) refl); opened = opened }
+pub is_verified : (u : Under) (f : KeyFields) (octets : List ℕ) (r : Result CarriedKey Reason) → IsAbove u.kept f.counter → f.nonce ≡ u.key.anonce → f.mic ≡ mic u.akm u.key.ptk.kck octets → IsOpened u.akm u.key.ptk.kek f.key_data r
+    → IsM3 u f octets r (Some u.key.ptk.kck)
+is_verified u f octets r high same verifies opened =
+    let alike = same_octets f.nonce u.key.anonce same in
+    let right = same_octets f.mic (mic u.akm u.key.ptk.kck octets) verifies in
+    (refl, record { comes = λ o. (high_counter u.kept f.counter high _ ∙ rw (alike, right) refl); opened = opened })
+
+-- ---- by what was told
+
+-- a group key is that of a frame that verified
+pub agreed : (u : Under) (f : KeyFields) (octets : List ℕ) (c : CarriedKey) (v : Option (List ℕ)) → IsM3 u f octets (Ok c) v → (v ≡ Some u.key.ptk.kck) × IsVerified u f octets (Ok c)
+agreed u f octets c None is = absurd is
+agreed u f octets c (Some kck) is = (ap (λ (x : List ℕ). Some x) is.0, is.1)

@@ -1,4 +1,3 @@
-pub mod KeysOf
 pub mod Telling
 pub mod Standing
 pub mod TakenM1
@@ -7,4 +6,4 @@ pub mod KeyDataRead
 pub mod Sessions
 pub mod Remembering
 pub mod TakenM3
-pub mod Staged
+pub mod OwnKeys

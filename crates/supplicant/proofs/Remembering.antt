@@ -1,7 +1,5 @@
 -- What a memory of group keys stands for behind each message.
-use Rattle.std.proofs.Common.{◌≡◌, ℕ, List, [], ◌∷◌, ◌++◌, Option, Some, None, refl, ◌∙◌}
-use Rattle.std.specs.Prelude.{take}
-use Rattle.std.specs.Int.{w64, from_le_bytes}
+use Rattle.std.proofs.Common.{◌≡◌, ℕ, List, ◌∷◌, Option, Some, None, refl, ◌∙◌}
 use Rattle.domain_base.specs.declared.names.Node.{Node}
 use Rattle.domain_base.specs.declared.names.Peer.TheVariants.{One}
 use Rattle.eapol_key.specs.declared.messages.Message.TheVariants.{M1, M3}
@@ -47,10 +45,6 @@ remembers_answered d n p octets s x counter ks h r =
     stands p (sent_m4 d n p x counter) ks (Took (Some p) octets (kind.Key M3) Answered (Some s) ∷ h) (remembers_took p p octets (kind.Key M3) Answered (Some s) ks h r) refl (λ key id. refl)
 
 -- ---- a group key is given
-
--- the packet number that an RSC tells
-abbrev pub packet_number_of : List ℕ → ℕ
-packet_number_of rsc = from_le_bytes w64 (take 6 rsc ++ 0 ∷ 0 ∷ [])
 
 -- that of the M3 just accepted is told
 told_there : (p : Node) (octets : List ℕ) (s : Seal) (x : Derivation) (h : List Act) → told groups.Gtk p (Installed (One p) (Pairwise x.ptk.tk x.inputs) ∷ Took (Some p) octets (kind.Key M3) Accepted (Some s) ∷ h) ≡ rsc_in octets

@@ -5,7 +5,6 @@ use Rattle.domain_base.specs.declared.names.Node.TheVariants.{Ap, Sta}
 use Rattle.domain_base.specs.declared.names.Mac.{Mac}
 use Rattle.domain_base.specs.declared.names.Peer.TheVariants.{One}
 use Rattle.eapol_key.specs.declared.messages.Message.TheVariants.{M3, G1}
-use Rattle.key_hierarchy.specs.declared.inputs.Inputs.{Inputs}
 use Rattle.run_journal.specs.declared.domain.Domain.{Domain}
 use Rattle.run_journal.specs.declared.acts.Kind.TheVariants as kind
 use Rattle.run_journal.specs.declared.acts.Key.TheVariants.{Pairwise}
@@ -15,9 +14,9 @@ use Rattle.run_journal.specs.declared.acts.Act.{Act}
 use Rattle.run_journal.specs.declared.acts.Act.TheVariants.{Took, Installed, Finished}
 use Rattle.run_journal.specs.declared.reply.Keyed.{Keyed}
 use Rattle.run_journal.specs.Acts.{Derivation, GroupKey}
-use Rattle.run_journal.specs.Questions.{since, derivation, session, add}
+use Rattle.run_journal.specs.Questions.{attempt, since, derivation, session, add}
 use Rattle.domain_rules.specs.Frames.{sent_m4}
-use Rattle.domain_rules.specs.Replies.{inputs_by, key_by}
+use Rattle.domain_rules.specs.Replies.{key_by}
 use Rattle.domain_rules.specs.Asking.{by_connect, kept_counter, replay_counter, at_least}
 use Rattle.domain_rules.specs.GroupKeys.{give_by}
 use Rattle.domain_rules.proofs.Parts.{since_part, IsApart, same-refl, attempt_none, attempt_some, by_connect_more}
@@ -57,8 +56,11 @@ held_finished d sta a v octets s y g counter h u apart is =
       is = session_there d (Sta sta) (Ap a) octets s x g counter h apart ∙ derivation_part (Ap a) h u.part (key_by d (root d) (Sta sta) (Ap a) y) u.is u.keyed;
       begun = ap by_connect since_is ∙ by_connect_more (Took (Some (Ap a)) octets (kind.Key M3) Accepted (Some s)) u.part (attempt_some (Ap a) h u.part u.is) ∙ u.begun;
       keeps = ap (kept_counter (Ap a)) since_is ∙ counter_there d (Sta sta) (Ap a) octets s x g counter u.part apart ∙ rw (u.keeps, is) refl;
-      no_attempt = refl;
     }
+
+-- and no attempt
+pub none_finished : (d : Domain) (sta a : ℕ) (octets : List ℕ) (s : Seal) (x : Derivation) (g : Act) (counter : ℕ) (h : List Act) → attempt (Ap a) (add (finishing_acts d (Sta sta) (Ap a) octets s x g counter) h) ≡ None
+none_finished d sta a octets s x g counter h = refl
 
 -- ---- M3 once more
 
@@ -77,5 +79,9 @@ held_again d n p octets s x y kept counter h l is high =
       is = l.is;
       begun = by_connect_more took (since p h) (some_part (since p h) l.begun) ∙ l.begun;
       keeps = counter_again d n p octets s x counter h ∙ rw (l.keeps, is) (at_least-greater kept counter high);
-      no_attempt = attempt_none p (sent_m4 d n p x counter) (took ∷ h) refl (attempt_none p took h refl l.no_attempt);
     }
+
+pub none_again : (d : Domain) (n p : Node) (octets : List ℕ) (s : Seal) (x : Derivation) (counter : ℕ) (h : List Act) → attempt p h ≡ None → attempt p (add (answering_acts d n p octets s x counter) h) ≡ None
+none_again d n p octets s x counter h none =
+    let took : Act = Took (Some p) octets (kind.Key M3) Answered (Some s) in
+    attempt_none p (sent_m4 d n p x counter) (took ∷ h) refl (attempt_none p took h refl none)

@@ -1,5 +1,5 @@
 -- What acts that change nothing do to the histories that a supplicant stands for; and the parts of a history.
-use Rattle.std.proofs.Common.{◌≡◌, ℕ, ◌<◌, true, List, [], ◌∷◌, Option, Some, None, sym, ap, subst, ◌∙◌, arith}
+use Rattle.std.proofs.Common.{◌≡◌, ℕ, ◌<◌, true, List, [], ◌∷◌, Option, Some, None, ap, subst, ◌∙◌, arith}
 use Rattle.std.specs.Prelude.{is_some}
 use Rattle.domain_base.specs.declared.names.Node.{Node}
 use Rattle.eapol_key.specs.declared.messages.Message.TheVariants.{M1, M3, G1}
@@ -16,10 +16,10 @@ use Rattle.run_journal.specs.Acts.{Derivation}
 use Rattle.run_journal.specs.Questions.{attempt, since, derivation, or_else}
 use Rattle.domain_rules.specs.Asking.{by_connect, at_least}
 use Rattle.domain_rules.proofs.Parts.{Grows, Begins, Goes_on, grows, IsApart, apart-refused, IsCarried, GoesOn, goes_on, by_connect_more}
-use Rattle.supplicant.specs.declared.stage.Stage.{Stage}
-use Rattle.supplicant.specs.declared.stage.Stage.TheVariants.{Retired, Attempt, Session}
+use Rattle.supplicant.specs.declared.attempt.Attempt.{Attempt}
+use Rattle.supplicant.specs.declared.session.Session.{Session}
 use Rattle.supplicant.specs.State.{State}
-use Rattle.supplicant.specs.Stands.{Stands, StandsIn, IsUnderWay, IsHeld, IsRetired}
+use Rattle.supplicant.specs.Stands.{SupplicantStands, HasAttempt, HasSession, IsUnderWay, IsHeld}
 
 -- ---- an act that is not about the peer
 
@@ -39,7 +39,6 @@ under_way_more d n p v key h e apart u =
       keeps = rw (c.replies (kind.Key M3), c.replies (kind.Key G1)) u.keeps;
       asked = ap is_some (c.hears (kind.Key M1)) ∙ u.asked;
       keyed = c.derives ∙ u.keyed;
-      no_session = g.has ∙ u.no_session;
     }
 
 -- a history that began by connect is not empty
@@ -53,27 +52,28 @@ held_more d n p y counter h e apart l =
       is = g.has ∙ l.is;
       begun = rw (apart.opens_none) (by_connect_more e (since p h) (some_part (since p h) l.begun) ∙ l.begun);
       keeps = rw (apart.opens_none, apart.replies_none (kind.Key M3), apart.replies_none (kind.Key G1)) l.keeps;
-      no_attempt = g.none l.no_attempt;
     }
 
-retired_more : (p : Node) (h : List Act) (e : Act) → IsApart p e → IsRetired p h → IsRetired p (e ∷ h)
-retired_more p h e apart r =
-    let g : GoesOn p h (e ∷ h) = plainly p e h apart in
-    record { no_attempt = g.none r.no_attempt; no_session = g.has ∙ r.no_session }
+attempt_stays : (d : Domain) (n p : Node) (a : Option Attempt) (h : List Act) (e : Act) → IsApart p e → HasAttempt d n p a h → HasAttempt d n p a (e ∷ h)
+attempt_stays d n p None h e apart none = (plainly p e h apart).none none
+attempt_stays d n p (Some a) h e apart u = under_way_more d n p a.snonce a.key h e apart u
 
-pub stage_more : (d : Domain) (n p : Node) (x : Stage) (h : List Act) (e : Act) → IsApart p e → StandsIn d n p x h → StandsIn d n p x (e ∷ h)
-stage_more d n p Retired h e apart st = retired_more p h e apart st
-stage_more d n p (Attempt v key) h e apart st = under_way_more d n p v key h e apart st
-stage_more d n p (Session y counter) h e apart st = held_more d n p y counter h e apart st
+session_stays : (d : Domain) (n p : Node) (x : Option Session) (h : List Act) (e : Act) → IsApart p e → HasSession d n p x h → HasSession d n p x (e ∷ h)
+session_stays d n p None h e apart none = (plainly p e h apart).has ∙ none
+session_stays d n p (Some x) h e apart l = held_more d n p x.key x.counter h e apart l
 
--- a message of the peer was refused
-pub stands_refused : (d : Domain) (n p : Node) (s : State) (octets : List ℕ) (k : Kind) (why : Reason) (seal : Option Seal) (h : List Act) → Stands d n p s h
-    → Stands d n p s (Took (Some p) octets k (Refused why) seal ∷ h)
-stands_refused d n p s octets k why seal h st = record {
+pub stands_more : (d : Domain) (n p : Node) (s : State) (h : List Act) (e : Act) → IsApart p e → SupplicantStands d n p s h → SupplicantStands d n p s (e ∷ h)
+stands_more d n p s h e apart st = record {
   ends = st.ends;
   psk = st.psk;
-  stage_is = stage_more d n p s.stage h (Took (Some p) octets k (Refused why) seal) (apart-refused p (Some p) octets k why seal) st.stage_is;
+  attempt_is = attempt_stays d n p s.attempt h e apart st.attempt_is;
+  session_is = session_stays d n p s.session h e apart st.session_is;
 }
+
+-- a message of the peer was refused
+pub stands_refused : (d : Domain) (n p : Node) (s : State) (octets : List ℕ) (k : Kind) (why : Reason) (seal : Option Seal) (h : List Act) → SupplicantStands d n p s h
+    → SupplicantStands d n p s (Took (Some p) octets k (Refused why) seal ∷ h)
+stands_refused d n p s octets k why seal h st = stands_more d n p s h (Took (Some p) octets k (Refused why) seal) (apart-refused p (Some p) octets k why seal) st
 
 -- ---- the last derivation
 

@@ -1,5 +1,5 @@
 -- Each way in which a supplicant takes M1, and messages that nothing awaits.
-use Rattle.std.proofs.Common.{◌+◌, ◌≡◌, ◌≢◌, ℕ, Bool, true, false, cond, List, [], ◌∷◌, Option, Some, None, refl, sym, ap, subst, ◌∙◌}
+use Rattle.std.proofs.Common.{◌+◌, ◌≡◌, ◌≢◌, ℕ, true, cond, List, [], ◌∷◌, Option, Some, None, refl, sym, ap, subst, ◌∙◌}
 use Rattle.std.specs.Prelude.{is_some, unwrap_or}
 use Rattle.domain_base.specs.declared.names.Akm.TheVariants.{FtPsk}
 use Rattle.domain_base.specs.declared.names.Node.{Node}
@@ -23,8 +23,8 @@ use Rattle.run_journal.specs.declared.acts.Act.{Act}
 use Rattle.run_journal.specs.declared.acts.Act.TheVariants.{Took, Derived}
 use Rattle.run_journal.specs.declared.reply.Reply.{Reply}
 use Rattle.run_journal.specs.declared.reply.Keyed.{Keyed}
-use Rattle.run_journal.specs.Replies.{IsEmpty}
-use Rattle.run_journal.specs.Questions.{draws, attempt, add}
+use Rattle.run_journal.specs.Replies.{IsEmpty, IsWhole}
+use Rattle.run_journal.specs.Questions.{since, draws, add}
 use Rattle.domain_rules.specs.Network.{inputs, root}
 use Rattle.domain_rules.specs.Frames.{sent_m2}
 use Rattle.domain_rules.specs.Reading.{KeyMessage, Keyed as KeyedReading}
@@ -34,23 +34,22 @@ use Rattle.domain_rules.specs.Asking.{kept_counter, own}
 use Rattle.domain_rules.specs.StationKeys.{m1_verdict}
 use Rattle.domain_rules.specs.Rows.{Take, Adds, seal_in, refused_seal, By_m1, By_refusal}
 use Rattle.domain_rules.specs.Closing.{sender}
+use Rattle.domain_rules.specs.Here.{here}
 use Rattle.domain_rules.proofs.Refused.{no_facts}
 use Rattle.domain_rules.proofs.Effects.{IsTaken as GoesOnBy, replying_acts, has_replied}
 use Rattle.domain_rules.proofs.Verdicts.{unawaited-m1, m1-in}
 use Rattle.group_key.specs.Keys.{Kept}
-use Rattle.node_frames.specs.Ends.{AreEnds}
-use Rattle.supplicant.specs.declared.stage.Stage.{Stage}
-use Rattle.supplicant.specs.declared.stage.Stage.TheVariants.{Retired, Attempt, Session}
-use Rattle.supplicant.specs.State.{State, IsAttempt}
-use Rattle.supplicant.specs.Stands.{Stands, StandsIn, IsUnderWay}
-use Rattle.node_frames.specs.PairwiseKeys.{IsKeyOf}
-use Rattle.supplicant.specs.Stages.{at_stage, HasNonce}
-use Rattle.supplicant.specs.Told.{Tells}
-use Rattle.supplicant.specs.Taken.{IsTaken}
-use Rattle.node_frames.proofs.EndsKeys.{key_is}
+use Rattle.node_base.specs.PairwiseKeys.{IsKeyOf}
+use Rattle.node_base.proofs.EndsKeys.{key_is, is_key_of}
 use Rattle.domain_rules.proofs.Parts.{since_part}
-use Rattle.run_journal.specs.Acts.{Derivation}
-use Rattle.supplicant.proofs.Telling.{acts_told, steps_by, tells_nothing}
+use Rattle.supplicant.specs.declared.attempt.Attempt.{Attempt}
+use Rattle.supplicant.specs.declared.session.Session.{Session}
+use Rattle.supplicant.specs.State.{State, having, both}
+use Rattle.supplicant.specs.Stands.{SupplicantStands, HasAttempt, HasSession, IsUnderWay}
+use Rattle.supplicant.specs.Told.{IsSilent, verifies, derives}
+use Rattle.supplicant.specs.Exchange.{Answers}
+use Rattle.supplicant.specs.Taken.{IsTaken}
+use Rattle.supplicant.proofs.Telling.{steps_by, tells_silent, empty_silent, whole_silent}
 use Rattle.supplicant.proofs.Standing.{stands_refused}
 use Rattle.supplicant.proofs.Remembering.{remembers_took, remembers_replied}
 
@@ -60,7 +59,7 @@ unsealed : (d : Domain) (first sta : ℕ) (h : List Act) (k : KeyMessage) (why :
 unsealed d first sta h k why is = ap (λ (o : Outcome). cond (comes_so_far o) (seal_in d (Sta sta) h (KeyedReading k)) None) is
 
 pub adds_refused : (d : Domain) (first sta : ℕ) (p : Node) (octets : List ℕ) (k : KeyMessage) (h : List Act) (why : Reason) → IsMessageFrom d (Sta sta) p octets k → first_verdict d first (Sta sta) h (KeyedReading k) ≡ Refused why
-    → Adds d first (Sta sta) h (Take octets) (Took (Some p) octets (kind.Key k.message) (Refused why) None ∷ [])
+    → Adds (here d first (Sta sta)) h (Take octets) (Took (Some p) octets (kind.Key k.message) (Refused why) None ∷ [])
 adds_refused d first sta p octets k h why from is = record {
   r = KeyedReading k;
   reads = from.reads;
@@ -75,16 +74,21 @@ adds_refused d first sta p octets k h why from is = record {
 }
 
 -- where nothing is told
-pub taken_refused : (m : Message) (f : KeyFrame) (s : State) (ks : List Kept) (why : Reason) (r : Reply) → IsEmpty r
-    → ((d : Domain) (first sta a : ℕ) (octets : List ℕ) (k : KeyMessage) (h : List Act) → Stands d (Sta sta) (Ap a) s h → IsMessageFrom d (Sta sta) (Ap a) octets k → k.message ≡ m → k.fields ≡ fields_of f → k.octets ≡ f.octets.now
+pub taken_refused : (m : Message) (f : KeyFrame) (s : State) (ks : List Kept) (why : Reason) (r : Reply) → IsSilent r → r.verified ≡ None
+    → ((d : Domain) (first sta a : ℕ) (octets : List ℕ) (k : KeyMessage) (h : List Act) → SupplicantStands d (Sta sta) (Ap a) s h → IsMessageFrom d (Sta sta) (Ap a) octets k → k.message ≡ m → k.fields ≡ fields_of f → k.octets ≡ f.octets.now
     → first_verdict d first (Sta sta) h (KeyedReading k) ≡ Refused why)
-    → IsTaken m f s ks s ks (Refused why) r
-taken_refused m f s ks why r empty verdict_is = λ d first sta a octets k h st remembers from is fields are.
-    steps_by d first (Sta sta) (Ap a) octets k s ks (Refused why) r h (Took (Some (Ap a)) octets (kind.Key k.message) (Refused why) None ∷ [])
-    (acts_told d (Sta sta) (Ap a) octets k (Refused why) r None None None None [] (tells_nothing (Ap a) r empty))
-    (adds_refused d first sta (Ap a) octets k h why from (verdict_is d first sta a octets k h st from is fields are))
-    (stands_refused d (Sta sta) (Ap a) s octets (kind.Key k.message) why None h st)
-    (remembers_took (Ap a) (Ap a) octets (kind.Key k.message) (Refused why) None ks h remembers)
+    → IsTaken m f (both s ks) (both s ks) (Refused why) r
+taken_refused m f s ks why r silent plain verdict_is = record {
+  steps = λ d first sta a octets k h st remembers from is fields are.
+      steps_by d first (Sta sta) (Ap a) octets k (both s ks) (Refused why) r h (Took (Some (Ap a)) octets (kind.Key k.message) (Refused why) None ∷ [])
+      (verifies None) (tells_silent (Ap a) r None silent plain) tt refl
+      (adds_refused d first sta (Ap a) octets k h why from (verdict_is d first sta a octets k h st from is fields are))
+      (stands_refused d (Sta sta) (Ap a) s octets (kind.Key k.message) why None h st)
+      (remembers_took (Ap a) (Ap a) octets (kind.Key k.message) (Refused why) None ks h remembers);
+  refused = λ w e. (refl, silent.installed);
+  whole = whole_silent r silent;
+  ends = (refl, refl);
+}
 
 -- ---- other messages
 
@@ -93,8 +97,8 @@ key_other d drawn sta h p k M1 other more = absurd (other refl)
 key_other d drawn sta h p k M3 other more = absurd (more refl)
 key_other d drawn sta h p k _ other more = refl
 
-pub taken_other : (m : Message) (f : KeyFrame) (s : State) (ks : List Kept) (r : Reply) → IsEmpty r → m ≢ M1 → m ≢ M3 → IsTaken m f s ks s ks (Refused reason.Unawaited) r
-taken_other m f s ks r empty other more = taken_refused m f s ks reason.Unawaited r empty
+pub taken_other : (m : Message) (f : KeyFrame) (s : State) (ks : List Kept) (r : Reply) → IsEmpty r → m ≢ M1 → m ≢ M3 → IsTaken m f (both s ks) (both s ks) (Refused reason.Unawaited) r
+taken_other m f s ks r empty other more = taken_refused m f s ks reason.Unawaited r (empty_silent r empty) empty.verified
     (λ d first sta a octets k h st from is fields are. from.verdict_is first h ∙ ap (λ (x : Message). key_verdict d (first + draws h) (Sta sta) h (Ap a) k x) is ∙ key_other d (first + draws h) sta h (Ap a) k m other more)
 
 -- ---- M1 where no attempt is under way
@@ -102,25 +106,11 @@ taken_other m f s ks r empty other more = taken_refused m f s ks reason.Unawaite
 m1_is : (d : Domain) (first sta : ℕ) (p : Node) (octets : List ℕ) (k : KeyMessage) (h : List Act) → IsMessageFrom d (Sta sta) p octets k → k.message ≡ M1 → first_verdict d first (Sta sta) h (KeyedReading k) ≡ m1_verdict h p k
 m1_is d first sta p octets k h from is = from.verdict_is first h ∙ ap (λ (x : Message). key_verdict d (first + draws h) (Sta sta) h p k x) is
 
-no_attempt : (d : Domain) (n p : Node) (x : Stage) (h : List Act) → (IsAttempt x → ⊥) → StandsIn d n p x h → attempt p h ≡ None
-no_attempt d n p Retired h none st = st.no_attempt
-no_attempt d n p (Attempt v key) h none st = absurd (none tt)
-no_attempt d n p (Session y counter) h none st = st.no_attempt
-
-pub m1_unawaited : (f : KeyFrame) (s : State) (ks : List Kept) (r : Reply) → IsEmpty r → (IsAttempt s.stage → ⊥) → IsTaken M1 f s ks s ks (Refused reason.Unawaited) r
-m1_unawaited f s ks r empty none = taken_refused M1 f s ks reason.Unawaited r empty
-    (λ d first sta a octets k h st from is fields are. m1_is d first sta (Ap a) octets k h from is ∙ unawaited-m1 h (Ap a) k (no_attempt d (Sta sta) (Ap a) s.stage h none st.stage_is))
+pub m1_unawaited : (f : KeyFrame) (s : State) (ks : List Kept) (r : Reply) → IsEmpty r → s.attempt ≡ None → IsTaken M1 f (both s ks) (both s ks) (Refused reason.Unawaited) r
+m1_unawaited f s ks r empty none = taken_refused M1 f s ks reason.Unawaited r (empty_silent r empty) empty.verified
+    (λ d first sta a octets k h st from is fields are. m1_is d first sta (Ap a) octets k h from is ∙ unawaited-m1 h (Ap a) k (subst (λ (x : Option Attempt). HasAttempt d (Sta sta) (Ap a) x h) none st.attempt_is))
 
 -- ---- M1 accepted
-
-pub record IsTrying (x : Stage) (v : List ℕ) : Type 0 where
-  pub key : Option Keyed
-  pub is : x ≡ Attempt v key
-
-pub trying : (x : Stage) (v : List ℕ) → HasNonce x v → IsTrying x v
-trying Retired v has = absurd has
-trying (Attempt snonce key) v has = record { key = key; is = ap (λ (w : List ℕ). Attempt w key) has }
-trying (Session y counter) v has = absurd has
 
 -- the attempt goes on with that key
 under_way_replied : (d : Domain) (n p : Node) (v octets : List ℕ) (key : Option Keyed) (y : Keyed) (counter : ℕ) (h : List Act) → IsUnderWay d n p v key h
@@ -137,8 +127,15 @@ under_way_replied d n p v octets key y counter h u =
       keeps = g.counter ∙ u.keeps;
       asked = ap is_some t.2;
       keyed = t.3;
-      no_session = u.no_session;
     }
+
+-- a session that there is beside an attempt would keep a counter of that attempt
+no_counter : (kept : Option ℕ) (counter : ℕ) → kept ≡ None → kept ≡ Some counter → ⊥
+no_counter kept counter none some = cc
+
+session_replied : (d : Domain) (n p : Node) (x : Option Session) (octets v : List ℕ) (key : Option Keyed) (i : Inputs) (q : Ptk) (counter : ℕ) (h : List Act) → IsUnderWay d n p v key h → HasSession d n p x h → HasSession d n p x (add (replying_acts d n p octets i q counter) h)
+session_replied d n p None octets v key i q counter h u none = none
+session_replied d n p (Some x) octets v key i q counter h u l = absurd (no_counter (kept_counter p (since p h)) x.counter (ap (kept_counter p) (since_part p h u.part u.is) ∙ u.keeps) l.keeps)
 
 knows_m1 : (d : Domain) (h : List Act) (k : KeyMessage) (p : Node) → k.message ≡ M1 → KnowsOf d.akm h p k.message k no_facts
 knows_m1 d h k p is = rw is tt
@@ -162,7 +159,7 @@ made_of d sta p y part v k drawn mine theirs =
 
 adds_replied : (d : Domain) (first sta : ℕ) (p : Node) (octets : List ℕ) (k : KeyMessage) (h : List Act) (v : List ℕ) (key : Option Keyed) (y : Keyed) → IsMessageFrom d (Sta sta) p octets k → k.message ≡ M1 → IsUnderWay d (Sta sta) p v key h
     → y.snonce ≡ v → y.anonce ≡ k.fields.nonce → y.ptk ≡ ptk (inputs_by d (root d) (Sta sta) p y)
-    → Adds d first (Sta sta) h (Take octets) (replying_acts d (Sta sta) p octets (inputs_by d (root d) (Sta sta) p y) y.ptk k.fields.counter)
+    → Adds (here d first (Sta sta)) h (Take octets) (replying_acts d (Sta sta) p octets (inputs_by d (root d) (Sta sta) p y) y.ptk k.fields.counter)
 adds_replied d first sta p octets k h v key y from is u drawn theirs keyed =
     let accepted : first_verdict d first (Sta sta) h (KeyedReading k) ≡ Accepted = m1_is d first sta p octets k h from is ∙ m1-in h p k u.part true None u.is u.begun u.hears (ap (kept_counter p) (since_part p h u.part u.is) ∙ u.keeps) in
     let mine : own u.part ≡ v = ap (λ (o : Option (List ℕ)). unwrap_or o []) u.nonce in
@@ -186,18 +183,30 @@ adds_replied d first sta p octets k h v key y from is u drawn theirs keyed =
       });
     }
 
-pub m1_accepted : (f : KeyFrame) (s : State) (ks : List Kept) (v : List ℕ) (y : Keyed) (r : Reply) → s.ends.akm ≢ FtPsk → IsKeyOf s.ends s.psk y → y.anonce ≡ f.nonce → y.snonce ≡ v → HasNonce s.stage v
-    → ((d : Domain) (n p : Node) (x : Derivation) → AreEnds d n p s.ends → y.ptk ≡ x.ptk → x.inputs.snonce ≡ y.snonce → Tells p r None (Some y) None None (sent_m2 d n p x f.counter ∷ []))
-    → IsTaken M1 f s ks (at_stage (Attempt v (Some y)) s) ks Accepted r
-m1_accepted f s ks v y r suite of theirs drawn has tells = λ d first sta a octets k h st remembers from is fields are.
-    (let t = trying s.stage v has in
-    let keyed : y.ptk ≡ ptk (inputs_by d (root d) (Sta sta) (Ap a) y) = key_is d (Sta sta) (Ap a) s.ends s.psk y st.ends st.psk suite of in
-    let u : IsUnderWay d (Sta sta) (Ap a) v t.key h = subst (λ (x : Stage). StandsIn d (Sta sta) (Ap a) x h) t.is st.stage_is in
-    let nonce_is : y.anonce ≡ k.fields.nonce = theirs ∙ ap (λ (g : KeyFields). g.nonce) (sym fields) in
-    let counter_is : f.counter ≡ k.fields.counter = ap (λ (g : KeyFields). g.counter) (sym fields) in
-    steps_by d first (Sta sta) (Ap a) octets k (at_stage (Attempt v (Some y)) s) ks Accepted r h (replying_acts d (Sta sta) (Ap a) octets (inputs_by d (root d) (Sta sta) (Ap a) y) y.ptk k.fields.counter)
-    (acts_told d (Sta sta) (Ap a) octets k Accepted r None (Some y) None None (sent_m2 d (Sta sta) (Ap a) (key_by d (root d) (Sta sta) (Ap a) y) f.counter ∷ []) (tells d (Sta sta) (Ap a) (key_by d (root d) (Sta sta) (Ap a) y) st.ends refl refl)
-    ∙ replied d (Sta sta) (Ap a) octets k (inputs_by d (root d) (Sta sta) (Ap a) y) y.ptk f.counter is counter_is)
-    (adds_replied d first sta (Ap a) octets k h v t.key y from is u drawn nonce_is keyed)
-    (record { ends = st.ends; psk = st.psk; stage_is = under_way_replied d (Sta sta) (Ap a) v octets t.key y k.fields.counter h u })
-    (remembers_replied d (Sta sta) (Ap a) octets (inputs_by d (root d) (Sta sta) (Ap a) y) y.ptk k.fields.counter ks h remembers))
+pub m1_accepted : (f : KeyFrame) (s : State) (ks : List Kept) (old new : Attempt) (r : Reply) → s.ends.akm ≢ FtPsk → s.attempt ≡ Some old → Answers s.ends s.psk f old new r → IsWhole r
+    → IsTaken M1 f (both s ks) (both (having (Some new) s.session s) ks) Accepted r
+m1_accepted f s ks old new r suite has answers whole = record {
+  steps = λ d first sta a octets k h st remembers from is fields are.
+      (let y = answers.key in
+      let of : IsKeyOf s.ends s.psk y = is_key_of s.ends s.psk f.nonce old.snonce y answers.key_is in
+      let keyed : y.ptk ≡ ptk (inputs_by d (root d) (Sta sta) (Ap a) y) = key_is d (Sta sta) (Ap a) s.ends s.psk y st.ends st.psk suite of in
+      let u : IsUnderWay d (Sta sta) (Ap a) old.snonce old.key h = subst (λ (x : Option Attempt). HasAttempt d (Sta sta) (Ap a) x h) has st.attempt_is in
+      let drawn : y.snonce ≡ old.snonce = ap (λ (z : Keyed). z.snonce) answers.key_is in
+      let nonce_is : y.anonce ≡ k.fields.nonce = ap (λ (z : Keyed). z.anonce) answers.key_is ∙ ap (λ (g : KeyFields). g.nonce) (sym fields) in
+      let counter_is : f.counter ≡ k.fields.counter = ap (λ (g : KeyFields). g.counter) (sym fields) in
+      let acts : List Act = replying_acts d (Sta sta) (Ap a) octets (inputs_by d (root d) (Sta sta) (Ap a) y) y.ptk k.fields.counter in
+      steps_by d first (Sta sta) (Ap a) octets k (both (having (Some new) s.session s) ks) Accepted r h acts
+      (derives y (sent_m2 d (Sta sta) (Ap a) (key_by d (root d) (Sta sta) (Ap a) y) f.counter ∷ [])) (answers.tells d (Sta sta) (Ap a) (key_by d (root d) (Sta sta) (Ap a) y) st.ends refl refl) tt
+      (replied d (Sta sta) (Ap a) octets k (inputs_by d (root d) (Sta sta) (Ap a) y) y.ptk f.counter is counter_is)
+      (adds_replied d first sta (Ap a) octets k h old.snonce old.key y from is u drawn nonce_is keyed)
+      (record {
+        ends = st.ends;
+        psk = st.psk;
+        attempt_is = subst (λ (x : Attempt). IsUnderWay d (Sta sta) (Ap a) x.snonce x.key (add acts h)) (sym answers.is) (under_way_replied d (Sta sta) (Ap a) old.snonce octets old.key y k.fields.counter h u);
+        session_is = session_replied d (Sta sta) (Ap a) s.session octets old.snonce old.key (inputs_by d (root d) (Sta sta) (Ap a) y) y.ptk k.fields.counter h u st.session_is;
+      })
+      (remembers_replied d (Sta sta) (Ap a) octets (inputs_by d (root d) (Sta sta) (Ap a) y) y.ptk k.fields.counter ks h remembers));
+  refused = λ w e. cc;
+  whole = whole;
+  ends = (refl, refl);
+}

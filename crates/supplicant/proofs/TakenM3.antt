@@ -1,8 +1,7 @@
 -- Each way in which a supplicant takes M3.
-use Rattle.std.proofs.Common.{◌≡◌, ◌≢◌, ℕ, Bool, true, false, cond, List, [], ◌∷◌, Option, Some, None, refl, sym, ap, subst, ◌∙◌}
+use Rattle.std.proofs.Common.{◌≡◌, ℕ, true, false, cond, List, [], ◌∷◌, Option, Some, None, refl, sym, ap, subst, ◌∙◌}
 use Rattle.std.specs.Prelude.{is_some, Result, Ok, Err}
 use Rattle.domain_base.specs.declared.names.Akm.{Akm}
-use Rattle.domain_base.specs.declared.names.Akm.TheVariants.{FtPsk}
 use Rattle.domain_base.specs.declared.names.Node.{Node}
 use Rattle.domain_base.specs.declared.names.Node.TheVariants.{Ap, Sta}
 use Rattle.domain_base.specs.declared.names.Peer.TheVariants.{One}
@@ -11,8 +10,6 @@ use Rattle.eapol_key.specs.declared.messages.Message.{Message}
 use Rattle.eapol_key.specs.declared.messages.Message.TheVariants.{M3}
 use Rattle.eapol_key.specs.KeyFrame.{KeyFields}
 use Rattle.eapol_key.specs.Fields.{fields_of}
-use Rattle.key_hierarchy.specs.Keys.{ptk}
-use Rattle.key_hierarchy.specs.declared.inputs.Inputs.{Inputs}
 use Rattle.run_journal.specs.declared.domain.Domain.{Domain}
 use Rattle.run_journal.specs.declared.acts.Kind.TheVariants as kind
 use Rattle.run_journal.specs.declared.acts.Reason.{Reason}
@@ -26,58 +23,59 @@ use Rattle.run_journal.specs.declared.acts.Act.TheVariants.{Took, Installed, Res
 use Rattle.run_journal.specs.declared.reply.Reply.{Reply}
 use Rattle.run_journal.specs.declared.reply.Keyed.{Keyed}
 use Rattle.run_journal.specs.declared.reply.GtkNews.{GtkNews}
-use Rattle.run_journal.specs.Replies.{IsEmpty}
+use Rattle.run_journal.specs.Replies.{IsEmpty, IsWhole}
 use Rattle.run_journal.specs.Acts.{GroupKey}
-use Rattle.run_journal.specs.Questions.{add}
+use Rattle.run_journal.specs.Questions.{attempt, add}
 use Rattle.domain_rules.specs.Network.{mac, peer_of, root}
 use Rattle.domain_rules.specs.Frames.{sent_m4, frame_seal}
 use Rattle.domain_rules.specs.GroupKeys.{memory, give, give_by, find_key}
 use Rattle.domain_rules.specs.Reading.{KeyMessage, Keyed as KeyedReading}
-use Rattle.domain_rules.specs.Replies.{key_by, IsMessageFrom, inputs_by}
+use Rattle.domain_rules.specs.Replies.{key_by, IsMessageFrom}
 use Rattle.domain_rules.specs.Facts.{Facts}
 use Rattle.domain_rules.specs.StationKeys.{Keying, KnowsM3, m3_keying, m3_wrapped}
 use Rattle.domain_rules.specs.Verdict.{comes_so_far, Knows, KnowsOf, and_then, first_verdict, verdict}
 use Rattle.domain_rules.specs.Rows.{Take, Adds, seal_in, message_seal, refused_seal, By_m3, By_repeated_m3, By_refusal}
 use Rattle.domain_rules.specs.Closing.{sender}
+use Rattle.domain_rules.specs.Here.{here}
 use Rattle.domain_rules.proofs.SentReads.{reads-counter, reads-rsc}
 use Rattle.run_journal.specs.GroupKinds as groups
-use Rattle.group_key.specs.Keys.{Kept, kept_id, given}
+use Rattle.group_key.specs.Keys.{Kept, kept_id}
 use Rattle.group_key.specs.Holds.{Remembers}
 use Rattle.group_key.proofs.Keeping.{found_in, found_as}
-use Rattle.node_frames.specs.Ends.{AreEnds}
-use Rattle.supplicant.specs.declared.stage.Stage.{Stage}
-use Rattle.supplicant.specs.declared.stage.Stage.TheVariants.{Session}
-use Rattle.supplicant.specs.declared.m3.CarriedKey.{CarriedKey}
-use Rattle.supplicant.specs.declared.m3.M3.TheVariants as m3
-use Rattle.supplicant.specs.State.{State}
-use Rattle.supplicant.specs.Stands.{Stands, StandsIn, IsUnderWay, IsHeld}
-use Rattle.node_frames.specs.PairwiseKeys.{IsKeyOf}
-use Rattle.supplicant.specs.Stages.{at_stage, HasNoKey, HasKey}
-use Rattle.supplicant.specs.M3.{group_key, news_of, before_key_data, IsOpened, IsVerified, IsM3}
-use Rattle.supplicant.specs.Told.{Tells}
-use Rattle.supplicant.specs.Taken.{IsTaken}
-use Rattle.node_frames.proofs.EndsKeys.{key_is}
 use Rattle.domain_rules.proofs.Refused.{far_seal}
 use Rattle.run_journal.specs.Acts.{Derivation}
-use Rattle.supplicant.proofs.Telling.{acts_told, steps_by}
+use Rattle.supplicant.specs.declared.attempt.Attempt.{Attempt}
+use Rattle.supplicant.specs.declared.session.Session.{Session}
+use Rattle.supplicant.specs.declared.m3.CarriedKey.{CarriedKey}
+use Rattle.supplicant.specs.State.{State, having, both}
+use Rattle.supplicant.specs.Stands.{SupplicantStands, HasAttempt, HasSession, IsUnderWay, IsHeld}
+use Rattle.supplicant.specs.M3.{group_key, news_of, under, before_key_data, IsOpened, IsVerified, IsRefusedBefore, IsM3}
+use Rattle.supplicant.specs.Told.{IsSilent, verifies, repeats, installs}
+use Rattle.supplicant.specs.Exchange.{Finishes, Repeats, IsRefusal, packet_number_of}
+use Rattle.supplicant.specs.Taken.{IsTaken}
+use Rattle.supplicant.proofs.Telling.{steps_by, tells_silent, empty_silent, whole_silent}
 use Rattle.supplicant.proofs.Standing.{stands_refused}
-use Rattle.supplicant.proofs.Remembering.{packet_number_of, remembers_took, remembers_answered, remembers_finished}
-use Rattle.supplicant.proofs.Keyings.{IsKeying, keying_of, trying_with, holding_with, m3_is, m3_none, taken_by, m3_under, judged_as, counter_high}
-use Rattle.supplicant.proofs.Sessions.{finishing_acts, apart_give, held_finished, answering_acts, held_again}
+use Rattle.supplicant.proofs.Remembering.{remembers_took, remembers_answered, remembers_finished}
+use Rattle.supplicant.proofs.Keyings.{IsKeying, IsKeyingAt, attempt_keying, session_keying_is, m3_is, m3_none, taken_by, m3_under, refused_as, verified_as, counter_high}
+use Rattle.supplicant.proofs.Sessions.{finishing_acts, apart_give, held_finished, none_finished, answering_acts, held_again, none_again}
 use Rattle.supplicant.proofs.TakenM1.{taken_refused}
 
 -- ---- refused before its MIC
 
-pub m3_unawaited : (f : KeyFrame) (s : State) (ks : List Kept) (r : Reply) → IsEmpty r → HasNoKey s.stage → IsTaken M3 f s ks s ks (Refused reason.Unawaited) r
-m3_unawaited f s ks r empty none = taken_refused M3 f s ks reason.Unawaited r empty
-    (λ d first sta a octets k h st from is fields are. m3_is d first sta (Ap a) octets k h from is ∙ m3_none d (Sta sta) (Ap a) s.stage h k st.stage_is none)
+pub m3_unawaited : (f : KeyFrame) (s : State) (ks : List Kept) (r : Reply) → IsEmpty r → ((d : Domain) (n p : Node) (h : List Act) → SupplicantStands d n p s h → m3_keying p h ≡ None) → IsTaken M3 f (both s ks) (both s ks) (Refused reason.Unawaited) r
+m3_unawaited f s ks r empty none = taken_refused M3 f s ks reason.Unawaited r (empty_silent r empty) empty.verified
+    (λ d first sta a octets k h st from is fields are. m3_is d first sta (Ap a) octets k h from is ∙ m3_none d (Ap a) h k (none d (Sta sta) (Ap a) h st))
 
-pub m3_refused : (f : KeyFrame) (s : State) (ks : List Kept) (y : Keyed) (kept : Option ℕ) (why : Reason) (r : Reply) → IsEmpty r → HasKey s.stage y kept → IsM3 s.ends.akm y kept (fields_of f) f.octets.now (m3.Refused why)
-    → IsTaken M3 f s ks s ks (Refused why) r
-m3_refused f s ks y kept why r empty has judged = taken_refused M3 f s ks why r empty
+-- the key that M3 is taken under, and in a session the counter that is kept
+abbrev pub AreKeyings : State → Keyed → Option ℕ → Type 0
+AreKeyings s y kept = (d : Domain) (n p : Node) (h : List Act) → SupplicantStands d n p s h → IsKeying d n p h y kept
+
+m3_refused : (f : KeyFrame) (s : State) (ks : List Kept) (y : Keyed) (kept : Option ℕ) (why : Reason) (r : Reply) → IsSilent r → r.verified ≡ None → AreKeyings s y kept
+    → IsRefusedBefore (under s.ends.akm y kept) (fields_of f) f.octets.now (Err why) → IsTaken M3 f (both s ks) (both s ks) (Refused why) r
+m3_refused f s ks y kept why r silent plain keying judged = taken_refused M3 f s ks why r silent plain
     (λ d first sta a octets k h st from is fields are.
-    (let j : (o : Outcome) → before_key_data d.akm y kept k.fields k.octets o ≡ Refused why = judged_as s.ends.akm d.akm y kept (fields_of f) f.octets.now k (m3.Refused why) st.ends.akm fields are judged in
-    m3_is d first sta (Ap a) octets k h from is ∙ m3_under d sta (Ap a) h k y kept (keying_of d (Sta sta) (Ap a) s.stage h y kept st.stage_is has) ∙ j (taken_by kept)))
+    (let j : (o : Outcome) → before_key_data (under d.akm y kept) k.fields k.octets o ≡ Refused why = refused_as s.ends.akm d.akm y kept (fields_of f) f.octets.now k (Err why) st.ends.akm fields are judged in
+    m3_is d first sta (Ap a) octets k h from is ∙ m3_under d sta (Ap a) h k y kept (keying d (Sta sta) (Ap a) h st) ∙ j (taken_by kept)))
 
 -- ---- what is known where its MIC verified
 
@@ -103,7 +101,7 @@ verdict_m3 : (d : Domain) (first : ℕ) (n : Node) (h : List Act) (k : KeyMessag
     → verdict d first n h (KeyedReading k) facts ≡ and_then o w
 verdict_m3 d first n h k facts o w is comes wrapped = rw (comes, is, wrapped) refl
 
-comes_m3 : (d : Domain) (first sta : ℕ) (p : Node) (octets : List ℕ) (k : KeyMessage) (h : List Act) (y : Keyed) (kept : Option ℕ) (r : Result CarriedKey Reason) → IsMessageFrom d (Sta sta) p octets k → k.message ≡ M3 → IsKeying d (Sta sta) p h y kept → IsVerified d.akm y kept k.fields k.octets r
+comes_m3 : (d : Domain) (first sta : ℕ) (p : Node) (octets : List ℕ) (k : KeyMessage) (h : List Act) (y : Keyed) (kept : Option ℕ) (r : Result CarriedKey Reason) → IsMessageFrom d (Sta sta) p octets k → k.message ≡ M3 → IsKeying d (Sta sta) p h y kept → IsVerified (under d.akm y kept) k.fields k.octets r
     → first_verdict d first (Sta sta) h (KeyedReading k) ≡ taken_by kept
 comes_m3 d first sta p octets k h y kept r from is x v = m3_is d first sta p octets k h from is ∙ m3_under d sta p h k y kept x ∙ v.comes (taken_by kept)
 
@@ -126,8 +124,8 @@ seal_m3 d sta h p octets k y kept from is x =
 
 -- ---- refused after its MIC
 
-adds_sealed : (d : Domain) (first sta : ℕ) (p : Node) (octets : List ℕ) (k : KeyMessage) (h : List Act) (y : Keyed) (kept : Option ℕ) (why : Reason) → IsMessageFrom d (Sta sta) p octets k → k.message ≡ M3 → IsKeying d (Sta sta) p h y kept → IsVerified d.akm y kept k.fields k.octets (Err why)
-    → Adds d first (Sta sta) h (Take octets) (Took (Some p) octets (kind.Key k.message) (Refused why) (Some (frame_seal y.ptk.kck k.octets)) ∷ [])
+adds_sealed : (d : Domain) (first sta : ℕ) (p : Node) (octets : List ℕ) (k : KeyMessage) (h : List Act) (y : Keyed) (kept : Option ℕ) (why : Reason) → IsMessageFrom d (Sta sta) p octets k → k.message ≡ M3 → IsKeying d (Sta sta) p h y kept → IsVerified (under d.akm y kept) k.fields k.octets (Err why)
+    → Adds (here d first (Sta sta)) h (Take octets) (Took (Some p) octets (kind.Key k.message) (Refused why) (Some (frame_seal y.ptk.kck k.octets)) ∷ [])
 adds_sealed d first sta p octets k h y kept why from is x v =
     let sealed : refused_seal d first (Sta sta) h (KeyedReading k) ≡ Some (frame_seal y.ptk.kck k.octets) =
     sym (far_seal d first (Sta sta) h (KeyedReading k) (taken_by kept) (comes_m3 d first sta p octets k h y kept (Err why) from is x v) (taken_far kept)) ∙ seal_m3 d sta h p octets k y kept from is x in
@@ -144,16 +142,32 @@ adds_sealed d first sta p octets k h y kept why from is x v =
       });
     }
 
-pub m3_sealed : (f : KeyFrame) (s : State) (ks : List Kept) (y : Keyed) (kept : Option ℕ) (why : Reason) (r : Reply) → HasKey s.stage y kept → IsVerified s.ends.akm y kept (fields_of f) f.octets.now (Err why)
-    → ((p : Node) → Tells p r (Some y.ptk.kck) None None None []) → IsTaken M3 f s ks s ks (Refused why) r
-m3_sealed f s ks y kept why r has verified tells = λ d first sta a octets k h st remembers from is fields are.
-    (let v : IsVerified d.akm y kept k.fields k.octets (Err why) = judged_as s.ends.akm d.akm y kept (fields_of f) f.octets.now k (m3.Other why) st.ends.akm fields are verified in
-    let x = keying_of d (Sta sta) (Ap a) s.stage h y kept st.stage_is has in
-    steps_by d first (Sta sta) (Ap a) octets k s ks (Refused why) r h (Took (Some (Ap a)) octets (kind.Key k.message) (Refused why) (Some (frame_seal y.ptk.kck k.octets)) ∷ [])
-    (acts_told d (Sta sta) (Ap a) octets k (Refused why) r (Some y.ptk.kck) None None None [] (tells (Ap a)))
-    (adds_sealed d first sta (Ap a) octets k h y kept why from is x v)
-    (stands_refused d (Sta sta) (Ap a) s octets (kind.Key k.message) why (Some (frame_seal y.ptk.kck k.octets)) h st)
-    (remembers_took (Ap a) (Ap a) octets (kind.Key k.message) (Refused why) (Some (frame_seal y.ptk.kck k.octets)) ks h remembers))
+m3_sealed : (f : KeyFrame) (s : State) (ks : List Kept) (y : Keyed) (kept : Option ℕ) (why : Reason) (r : Reply) → IsSilent r → r.verified ≡ Some y.ptk.kck → AreKeyings s y kept
+    → IsVerified (under s.ends.akm y kept) (fields_of f) f.octets.now (Err why) → IsTaken M3 f (both s ks) (both s ks) (Refused why) r
+m3_sealed f s ks y kept why r silent seal keying verified = record {
+  steps = λ d first sta a octets k h st remembers from is fields are.
+      (let v : IsVerified (under d.akm y kept) k.fields k.octets (Err why) = verified_as s.ends.akm d.akm y kept (fields_of f) f.octets.now k (Err why) st.ends.akm fields are verified in
+      let x = keying d (Sta sta) (Ap a) h st in
+      steps_by d first (Sta sta) (Ap a) octets k (both s ks) (Refused why) r h (Took (Some (Ap a)) octets (kind.Key k.message) (Refused why) (Some (frame_seal y.ptk.kck k.octets)) ∷ [])
+      (verifies (Some y.ptk.kck)) (tells_silent (Ap a) r (Some y.ptk.kck) silent seal) tt refl
+      (adds_sealed d first sta (Ap a) octets k h y kept why from is x v)
+      (stands_refused d (Sta sta) (Ap a) s octets (kind.Key k.message) why (Some (frame_seal y.ptk.kck k.octets)) h st)
+      (remembers_took (Ap a) (Ap a) octets (kind.Key k.message) (Refused why) (Some (frame_seal y.ptk.kck k.octets)) ks h remembers));
+  refused = λ w e. (refl, silent.installed);
+  whole = whole_silent r silent;
+  ends = (refl, refl);
+}
+
+refused_by_told : (f : KeyFrame) (s : State) (ks : List Kept) (y : Keyed) (kept : Option ℕ) (why : Reason) (r : Reply) (v : Option (List ℕ)) → r.verified ≡ v → IsSilent r → AreKeyings s y kept
+    → IsM3 (under s.ends.akm y kept) (fields_of f) f.octets.now (Err why) v → IsTaken M3 f (both s ks) (both s ks) (Refused why) r
+refused_by_told f s ks y kept why r None plain silent keying judged = m3_refused f s ks y kept why r silent plain keying judged
+refused_by_told f s ks y kept why r (Some kck) seal silent keying judged = m3_sealed f s ks y kept why r silent (seal ∙ ap (λ (x : List ℕ). Some x) judged.0) keying judged.1
+
+-- as it was refused to an attempt or a session
+pub m3_refusal : (f : KeyFrame) (s : State) (ks : List Kept) (key : Option Keyed) (kept : Option ℕ) (why : Reason) (r : Reply) → ((d : Domain) (n p : Node) (h : List Act) → SupplicantStands d n p s h → IsKeyingAt d n p h key kept)
+    → IsRefusal s.ends.akm key kept f why r → IsTaken M3 f (both s ks) (both s ks) (Refused why) r
+m3_refusal f s ks None kept why r keying refusal = subst (λ (w : Reason). IsTaken M3 f (both s ks) (both s ks) (Refused w) r) (sym refusal.0) (m3_unawaited f s ks r refusal.1 keying)
+m3_refusal f s ks (Some y) kept why r keying refusal = refused_by_told f s ks y kept why r r.verified refl refusal.1 keying refusal.0
 
 -- ---- accepted
 
@@ -176,8 +190,8 @@ finishing d n p octets k s x g act counter is same number =
     ∙ ap (λ (e : Act). finishing_acts d n p octets s x e counter) same
     ∙ ap (finishing_acts d n p octets s x act) number
 
-adds_finished : (d : Domain) (first sta : ℕ) (p : Node) (octets : List ℕ) (k : KeyMessage) (h : List Act) (y : Keyed) (c : CarriedKey) → IsMessageFrom d (Sta sta) p octets k → k.message ≡ M3 → IsKeying d (Sta sta) p h y None → IsVerified d.akm y None k.fields k.octets (Ok c)
-    → Adds d first (Sta sta) h (Take octets) (finishing_acts d (Sta sta) p octets (frame_seal y.ptk.kck k.octets) (key_by d (root d) (Sta sta) p y) (give groups.Gtk p (mac d p) (group_key c) h) k.fields.counter)
+adds_finished : (d : Domain) (first sta : ℕ) (p : Node) (octets : List ℕ) (k : KeyMessage) (h : List Act) (y : Keyed) (c : CarriedKey) → IsMessageFrom d (Sta sta) p octets k → k.message ≡ M3 → IsKeying d (Sta sta) p h y None → IsVerified (under d.akm y None) k.fields k.octets (Ok c)
+    → Adds (here d first (Sta sta)) h (Take octets) (finishing_acts d (Sta sta) p octets (frame_seal y.ptk.kck k.octets) (key_by d (root d) (Sta sta) p y) (give groups.Gtk p (mac d p) (group_key c) h) k.fields.counter)
 adds_finished d first sta p octets k h y c from is x v = record {
   r = KeyedReading k;
   reads = from.reads;
@@ -196,39 +210,48 @@ adds_finished d first sta p octets k h y c from is x v = record {
   });
 }
 
-stands_finished : (d : Domain) (sta a : ℕ) (s : State) (octets : List ℕ) (k : KeyMessage) (y : Keyed) (c : CarriedKey) (counter : ℕ) (h : List Act) → Stands d (Sta sta) (Ap a) s h → HasKey s.stage y None → IsMessageFrom d (Sta sta) (Ap a) octets k → counter ≡ k.fields.counter
-    → Stands d (Sta sta) (Ap a) (at_stage (Session y counter) s)
-    (add (finishing_acts d (Sta sta) (Ap a) octets (frame_seal y.ptk.kck k.octets) (key_by d (root d) (Sta sta) (Ap a) y) (give groups.Gtk (Ap a) (mac d (Ap a)) (group_key c) h) k.fields.counter) h)
-stands_finished d sta a s octets k y c counter h st has from number =
-    let t = trying_with s.stage y has in
-    let u : IsUnderWay d (Sta sta) (Ap a) t.v (Some y) h = subst (λ (x : Stage). StandsIn d (Sta sta) (Ap a) x h) t.is st.stage_is in
+stands_finished : (d : Domain) (sta a : ℕ) (s : State) (old : Attempt) (octets : List ℕ) (k : KeyMessage) (x : Session) (c : CarriedKey) (h : List Act) → SupplicantStands d (Sta sta) (Ap a) s h → s.attempt ≡ Some old → old.key ≡ Some x.key → IsMessageFrom d (Sta sta) (Ap a) octets k → x.counter ≡ k.fields.counter
+    → SupplicantStands d (Sta sta) (Ap a) (having None (Some x) s)
+    (add (finishing_acts d (Sta sta) (Ap a) octets (frame_seal x.key.ptk.kck k.octets) (key_by d (root d) (Sta sta) (Ap a) x.key) (give groups.Gtk (Ap a) (mac d (Ap a)) (group_key c) h) k.fields.counter) h)
+stands_finished d sta a s old octets k x c h st is has from number =
+    let y = x.key in
+    let u : IsUnderWay d (Sta sta) (Ap a) old.snonce (Some y) h = subst (λ (o : Option Keyed). IsUnderWay d (Sta sta) (Ap a) old.snonce o h) has (subst (λ (o : Option Attempt). HasAttempt d (Sta sta) (Ap a) o h) is st.attempt_is) in
     let g : Act = give groups.Gtk (Ap a) (mac d (Ap a)) (group_key c) h in
+    let seal : Seal = frame_seal y.ptk.kck k.octets in
     record {
       ends = st.ends;
       psk = st.psk;
-      stage_is = subst (λ (x : ℕ). IsHeld d (Sta sta) (Ap a) y x (add (finishing_acts d (Sta sta) (Ap a) octets (frame_seal y.ptk.kck k.octets) (key_by d (root d) (Sta sta) (Ap a) y) g k.fields.counter) h)) (sym number)
-          (held_finished d sta a t.v octets (frame_seal y.ptk.kck k.octets) y g k.fields.counter h u
+      attempt_is = none_finished d sta a octets seal (key_by d (root d) (Sta sta) (Ap a) y) g k.fields.counter h;
+      session_is = subst (λ (z : ℕ). IsHeld d (Sta sta) (Ap a) y z (add (finishing_acts d (Sta sta) (Ap a) octets seal (key_by d (root d) (Sta sta) (Ap a) y) g k.fields.counter) h)) (sym number)
+          (held_finished d sta a old.snonce octets seal y g k.fields.counter h u
           (apart_give (Ap a) (Ap a) (mac d (Ap a)) (group_key c) (find_key c.key (memory groups.Gtk (Ap a) h))) (reads-counter d.akm octets k from.reads));
     }
 
-pub m3_finished : (f : KeyFrame) (s : State) (ks : List Kept) (y : Keyed) (c : CarriedKey) (rsc : ℕ) (g : GtkNews) (r : Reply) → s.ends.akm ≢ FtPsk → IsKeyOf s.ends s.psk y → HasKey s.stage y None
-    → IsVerified s.ends.akm y None (fields_of f) f.octets.now (Ok c) → rsc ≡ packet_number_of f.rsc → g ≡ news_of c (kept_id c.key ks)
-    → ((d : Domain) (n p : Node) (x : Derivation) → AreEnds d n p s.ends → y.ptk ≡ x.ptk → Tells p r (Some y.ptk.kck) None (Some y) (Some g) (sent_m4 d n p x f.counter ∷ []))
-    → IsTaken M3 f s ks (at_stage (Session y f.counter) s) (given c.key c.id rsc ks) Accepted r
-m3_finished f s ks y c rsc g r suite of has verified numbered news tells = λ d first sta a octets k h st remembers from is fields are.
-    (let der : Derivation = key_by d (root d) (Sta sta) (Ap a) y in
-    let seal : Seal = frame_seal y.ptk.kck k.octets in
-    let counter_is : f.counter ≡ k.fields.counter = ap (λ (x : KeyFields). x.counter) (sym fields) in
-    let v : IsVerified d.akm y None k.fields k.octets (Ok c) = judged_as s.ends.akm d.akm y None (fields_of f) f.octets.now k (m3.Agreed c) st.ends.akm fields are verified in
-    let x = keying_of d (Sta sta) (Ap a) s.stage h y None st.stage_is has in
-    steps_by d first (Sta sta) (Ap a) octets k (at_stage (Session y f.counter) s) (given c.key c.id rsc ks) Accepted r h
-    (finishing_acts d (Sta sta) (Ap a) octets seal der (give groups.Gtk (Ap a) (mac d (Ap a)) (group_key c) h) k.fields.counter)
-    (acts_told d (Sta sta) (Ap a) octets k Accepted r (Some y.ptk.kck) None (Some y) (Some g) (sent_m4 d (Sta sta) (Ap a) der f.counter ∷ []) (tells d (Sta sta) (Ap a) der st.ends refl)
-    ∙ finishing d (Sta sta) (Ap a) octets k seal der (news_act d (Ap a) g) (give groups.Gtk (Ap a) (mac d (Ap a)) (group_key c) h) f.counter is (group_act d (Ap a) c ks g h remembers news) counter_is)
-    (adds_finished d first sta (Ap a) octets k h y c from is x v)
-    (stands_finished d sta a s octets k y c f.counter h st has from counter_is)
-    (remembers_finished d (Sta sta) (Ap a) octets seal der (group_key c) k.fields.counter rsc ks h remembers
-    (reads-rsc d.akm octets k from.reads ∙ ap (λ (x : KeyFields). packet_number_of x.rsc) fields ∙ sym numbered)))
+pub m3_finished : (f : KeyFrame) (s : State) (old : Attempt) (had has : List Kept) (x : Session) (r : Reply) → s.attempt ≡ Some old → old.key ≡ Some x.key → Finishes s.ends f had has x r → IsWhole r
+    → IsTaken M3 f (both s had) (both (having None (Some x) s) has) Accepted r
+m3_finished f s old had has x r is key done whole = record {
+  steps = λ d first sta a octets k h st remembers from three fields are.
+      (let y = x.key in
+      let c = done.group in
+      let g : GtkNews = news_of c (kept_id c.key had) in
+      let der : Derivation = key_by d (root d) (Sta sta) (Ap a) y in
+      let seal : Seal = frame_seal y.ptk.kck k.octets in
+      let counter_is : f.counter ≡ k.fields.counter = ap (λ (z : KeyFields). z.counter) (sym fields) in
+      let v : IsVerified (under d.akm y None) k.fields k.octets (Ok c) = verified_as s.ends.akm d.akm y None (fields_of f) f.octets.now k (Ok c) st.ends.akm fields are done.verified in
+      let keying = subst (λ (o : Option Keyed). IsKeyingAt d (Sta sta) (Ap a) h o None) key (attempt_keying d (Sta sta) (Ap a) s.attempt old h is st.attempt_is) in
+      let acts : List Act = finishing_acts d (Sta sta) (Ap a) octets seal der (give groups.Gtk (Ap a) (mac d (Ap a)) (group_key c) h) k.fields.counter in
+      steps_by d first (Sta sta) (Ap a) octets k (both (having None (Some x) s) has) Accepted r h acts
+      (installs y g (sent_m4 d (Sta sta) (Ap a) der f.counter ∷ [])) (done.tells d (Sta sta) (Ap a) der st.ends refl) (refl, refl)
+      (finishing d (Sta sta) (Ap a) octets k seal der (news_act d (Ap a) g) (give groups.Gtk (Ap a) (mac d (Ap a)) (group_key c) h) f.counter three (group_act d (Ap a) c had g h remembers refl) counter_is)
+      (adds_finished d first sta (Ap a) octets k h y c from three keying v)
+      (stands_finished d sta a s old octets k x c h st is key from (done.counter_is ∙ counter_is))
+      (subst (λ (ks : List Kept). Remembers (Ap a) ks (add acts h)) (sym done.memory)
+      (remembers_finished d (Sta sta) (Ap a) octets seal der (group_key c) k.fields.counter (packet_number_of f.rsc) had h remembers
+      (reads-rsc d.akm octets k from.reads ∙ ap (λ (z : KeyFields). packet_number_of z.rsc) fields))));
+  refused = λ w e. cc;
+  whole = whole;
+  ends = (refl, refl);
+}
 
 -- ---- answered once more
 
@@ -237,8 +260,8 @@ answering : (d : Domain) (n p : Node) (octets : List ℕ) (k : KeyMessage) (s : 
 answering d n p octets k s x counter is number =
     ap (λ (m : Message). Took (Some p) octets (kind.Key m) Answered (Some s) ∷ sent_m4 d n p x counter ∷ []) is ∙ ap (answering_acts d n p octets s x) number
 
-adds_answered : (d : Domain) (first sta : ℕ) (p : Node) (octets : List ℕ) (k : KeyMessage) (h : List Act) (y : Keyed) (was : ℕ) (c : CarriedKey) → IsMessageFrom d (Sta sta) p octets k → k.message ≡ M3 → IsKeying d (Sta sta) p h y (Some was) → IsVerified d.akm y (Some was) k.fields k.octets (Ok c)
-    → Adds d first (Sta sta) h (Take octets) (answering_acts d (Sta sta) p octets (frame_seal y.ptk.kck k.octets) (key_by d (root d) (Sta sta) p y) k.fields.counter)
+adds_answered : (d : Domain) (first sta : ℕ) (p : Node) (octets : List ℕ) (k : KeyMessage) (h : List Act) (y : Keyed) (was : ℕ) (c : CarriedKey) → IsMessageFrom d (Sta sta) p octets k → k.message ≡ M3 → IsKeying d (Sta sta) p h y (Some was) → IsVerified (under d.akm y (Some was)) k.fields k.octets (Ok c)
+    → Adds (here d first (Sta sta)) h (Take octets) (answering_acts d (Sta sta) p octets (frame_seal y.ptk.kck k.octets) (key_by d (root d) (Sta sta) p y) k.fields.counter)
 adds_answered d first sta p octets k h y was c from is x v = record {
   r = KeyedReading k;
   reads = from.reads;
@@ -257,31 +280,40 @@ adds_answered d first sta p octets k h y was c from is x v = record {
   });
 }
 
-stands_answered : (d : Domain) (sta : ℕ) (p : Node) (s : State) (octets : List ℕ) (k : KeyMessage) (y : Keyed) (was counter : ℕ) (h : List Act) → Stands d (Sta sta) p s h → HasKey s.stage y (Some was) → IsMessageFrom d (Sta sta) p octets k → counter ≡ k.fields.counter
-    → ((o : Outcome) → before_key_data d.akm y (Some was) k.fields k.octets o ≡ o)
-    → Stands d (Sta sta) p (at_stage (Session y counter) s) (add (answering_acts d (Sta sta) p octets (frame_seal y.ptk.kck k.octets) (key_by d (root d) (Sta sta) p y) k.fields.counter) h)
-stands_answered d sta p s octets k y was counter h st has from number comes =
-    let l : IsHeld d (Sta sta) p y was h = subst (λ (x : Stage). StandsIn d (Sta sta) p x h) (holding_with s.stage y was has) st.stage_is in
+stands_answered : (d : Domain) (sta : ℕ) (p : Node) (s : State) (old new : Session) (octets : List ℕ) (k : KeyMessage) (h : List Act) → SupplicantStands d (Sta sta) p s h → s.attempt ≡ None → s.session ≡ Some old → IsMessageFrom d (Sta sta) p octets k
+    → new ≡ record { key = old.key; counter = k.fields.counter } → ((o : Outcome) → before_key_data (under d.akm old.key (Some old.counter)) k.fields k.octets o ≡ o)
+    → SupplicantStands d (Sta sta) p (having s.attempt (Some new) s) (add (answering_acts d (Sta sta) p octets (frame_seal old.key.ptk.kck k.octets) (key_by d (root d) (Sta sta) p old.key) k.fields.counter) h)
+stands_answered d sta p s old new octets k h st none has from is comes =
+    let l : IsHeld d (Sta sta) p old.key old.counter h = subst (λ (x : Option Session). HasSession d (Sta sta) p x h) has st.session_is in
+    let nowhere : attempt p h ≡ None = subst (λ (x : Option Attempt). HasAttempt d (Sta sta) p x h) none st.attempt_is in
+    let seal : Seal = frame_seal old.key.ptk.kck k.octets in
+    let x : Derivation = key_by d (root d) (Sta sta) p old.key in
+    let acts : List Act = answering_acts d (Sta sta) p octets seal x k.fields.counter in
     record {
       ends = st.ends;
       psk = st.psk;
-      stage_is = subst (λ (x : ℕ). IsHeld d (Sta sta) p y x (add (answering_acts d (Sta sta) p octets (frame_seal y.ptk.kck k.octets) (key_by d (root d) (Sta sta) p y) k.fields.counter) h)) (sym number)
-          (held_again d (Sta sta) p octets (frame_seal y.ptk.kck k.octets) (key_by d (root d) (Sta sta) p y) y was k.fields.counter h l (reads-counter d.akm octets k from.reads) (counter_high d.akm y was k.fields k.octets comes));
+      attempt_is = subst (λ (o : Option Attempt). HasAttempt d (Sta sta) p o (add acts h)) (sym none) (none_again d (Sta sta) p octets seal x k.fields.counter h nowhere);
+      session_is = subst (λ (z : Session). IsHeld d (Sta sta) p z.key z.counter (add acts h)) (sym is)
+          (held_again d (Sta sta) p octets seal x old.key old.counter k.fields.counter h l (reads-counter d.akm octets k from.reads) (counter_high d.akm old.key old.counter k.fields k.octets comes));
     }
 
-pub m3_answered : (f : KeyFrame) (s : State) (ks : List Kept) (y : Keyed) (was : ℕ) (c : CarriedKey) (r : Reply) → s.ends.akm ≢ FtPsk → IsKeyOf s.ends s.psk y → HasKey s.stage y (Some was)
-    → IsVerified s.ends.akm y (Some was) (fields_of f) f.octets.now (Ok c)
-    → ((d : Domain) (n p : Node) (x : Derivation) → AreEnds d n p s.ends → y.ptk ≡ x.ptk → Tells p r (Some y.ptk.kck) None None None (sent_m4 d n p x f.counter ∷ []))
-    → IsTaken M3 f s ks (at_stage (Session y f.counter) s) ks Answered r
-m3_answered f s ks y was c r suite of has verified tells = λ d first sta a octets k h st remembers from is fields are.
-    (let der : Derivation = key_by d (root d) (Sta sta) (Ap a) y in
-    let seal : Seal = frame_seal y.ptk.kck k.octets in
-    let counter_is : f.counter ≡ k.fields.counter = ap (λ (x : KeyFields). x.counter) (sym fields) in
-    let v : IsVerified d.akm y (Some was) k.fields k.octets (Ok c) = judged_as s.ends.akm d.akm y (Some was) (fields_of f) f.octets.now k (m3.Agreed c) st.ends.akm fields are verified in
-    let x = keying_of d (Sta sta) (Ap a) s.stage h y (Some was) st.stage_is has in
-    steps_by d first (Sta sta) (Ap a) octets k (at_stage (Session y f.counter) s) ks Answered r h (answering_acts d (Sta sta) (Ap a) octets seal der k.fields.counter)
-    (acts_told d (Sta sta) (Ap a) octets k Answered r (Some y.ptk.kck) None None None (sent_m4 d (Sta sta) (Ap a) der f.counter ∷ []) (tells d (Sta sta) (Ap a) der st.ends refl)
-    ∙ answering d (Sta sta) (Ap a) octets k seal der f.counter is counter_is)
-    (adds_answered d first sta (Ap a) octets k h y was c from is x v)
-    (stands_answered d sta (Ap a) s octets k y was f.counter h st has from counter_is v.comes)
-    (remembers_answered d (Sta sta) (Ap a) octets seal der k.fields.counter ks h remembers))
+pub m3_answered : (f : KeyFrame) (s : State) (old new : Session) (ks : List Kept) (r : Reply) → s.attempt ≡ None → s.session ≡ Some old → Repeats s.ends f old new r → IsWhole r
+    → IsTaken M3 f (both s ks) (both (having s.attempt (Some new) s) ks) Answered r
+m3_answered f s old new ks r none has done whole = record {
+  steps = λ d first sta a octets k h st remembers from is fields are.
+      (let y = old.key in
+      let der : Derivation = key_by d (root d) (Sta sta) (Ap a) y in
+      let seal : Seal = frame_seal y.ptk.kck k.octets in
+      let counter_is : f.counter ≡ k.fields.counter = ap (λ (x : KeyFields). x.counter) (sym fields) in
+      let v : IsVerified (under d.akm y (Some old.counter)) k.fields k.octets (Ok done.group) = verified_as s.ends.akm d.akm y (Some old.counter) (fields_of f) f.octets.now k (Ok done.group) st.ends.akm fields are done.verified in
+      let x = session_keying_is d (Sta sta) (Ap a) s.attempt s.session old h none has st.attempt_is st.session_is in
+      steps_by d first (Sta sta) (Ap a) octets k (both (having s.attempt (Some new) s) ks) Answered r h (answering_acts d (Sta sta) (Ap a) octets seal der k.fields.counter)
+      (repeats y (sent_m4 d (Sta sta) (Ap a) der f.counter ∷ [])) (done.tells d (Sta sta) (Ap a) der st.ends refl) tt
+      (answering d (Sta sta) (Ap a) octets k seal der f.counter is counter_is)
+      (adds_answered d first sta (Ap a) octets k h y old.counter done.group from is x v)
+      (stands_answered d sta (Ap a) s old new octets k h st none has from (done.is ∙ ap (λ (c : ℕ). record { key = old.key; counter = c }) counter_is) v.comes)
+      (remembers_answered d (Sta sta) (Ap a) octets seal der k.fields.counter ks h remembers));
+  refused = λ w e. cc;
+  whole = whole;
+  ends = (refl, refl);
+}

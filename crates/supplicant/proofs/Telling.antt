@@ -14,56 +14,65 @@ use Rattle.run_journal.specs.Replies.{IsEmpty, IsWhole}
 use Rattle.run_journal.specs.Questions.{add}
 use Rattle.domain_rules.specs.Frames.{frame_seal}
 use Rattle.domain_rules.specs.Reading.{KeyMessage}
-use Rattle.domain_rules.specs.Replies.{derived_acts, replaced_acts, installed_acts, gtk_acts, finished_acts, frame_acts, sent_acts, reply_acts}
+use Rattle.domain_rules.specs.Replies.{derived_acts, replaced_acts, installed_acts, gtk_acts, finished_acts, frame_acts, sent_acts, reply_acts, pair, taken_as}
 use Rattle.domain_rules.specs.Rows.{Take, Adds}
 use Rattle.domain_rules.specs.Network.{root}
-use Rattle.group_key.specs.Keys.{Kept}
+use Rattle.domain_rules.specs.Here.{here}
 use Rattle.group_key.specs.Holds.{Remembers}
-use Rattle.supplicant.specs.State.{State}
-use Rattle.supplicant.specs.Stands.{Stands}
-use Rattle.supplicant.specs.Steps.{Steps, IsStaged}
-use Rattle.supplicant.specs.Told.{Tells}
+use Rattle.supplicant.specs.State.{Both}
+use Rattle.supplicant.specs.Stands.{SupplicantStands}
+use Rattle.supplicant.specs.Steps.{SupplicantSteps, IsUnder}
+use Rattle.supplicant.specs.Told.{Told, Tells, IsSilent, verifies}
 
-abbrev pub told_acts : Domain → Node → Node → List ℕ → KeyMessage → Outcome → Option (List ℕ) → Option Keyed → Option Keyed → Option GtkNews → List Act → List Act
-told_acts d n p octets k outcome v y x g sends =
-    Took (Some p) octets (kind.Key k.message) outcome (option_map (λ kck. frame_seal kck k.octets) v)
-    ∷ derived_acts d (root d) n p y ++ replaced_acts p false x ++ installed_acts d (root d) n p x
-    ++ gtk_acts d p g ++ finished_acts d (root d) n p x ++ sends
+abbrev pub told_acts : Domain → Node → Node → List ℕ → KeyMessage → Outcome → Told → List Act
+told_acts d n p octets k outcome t =
+    Took (Some p) octets (kind.Key k.message) outcome (option_map (λ kck. frame_seal kck k.octets) t.verified)
+    ∷ derived_acts d (root d) n p t.derived ++ replaced_acts p false t.installed ++ installed_acts d (root d) n p t.installed
+    ++ gtk_acts d p t.gtk ++ finished_acts d (root d) n p t.installed ++ t.sends
 
-pub acts_told : (d : Domain) (n p : Node) (octets : List ℕ) (k : KeyMessage) (o : Outcome) (r : Reply) (v : Option (List ℕ)) (y x : Option Keyed) (g : Option GtkNews) (sends : List Act) → Tells p r v y x g sends
-    → reply_acts d n p false octets k o r ≡ told_acts d n p octets k o v y x g sends
-acts_told d n p octets k o r v y x g sends t =
-    ap (λ (w : Option (List ℕ)). told_acts d n p octets k o w r.derived r.installed r.gtk (sent_acts p r)) t.verified_is
-    ∙ ap (λ (w : Option Keyed). told_acts d n p octets k o v w r.installed r.gtk (sent_acts p r)) t.derived_is
-    ∙ ap (λ (w : Option Keyed). told_acts d n p octets k o v y w r.gtk (sent_acts p r)) t.installed_is
-    ∙ ap (λ (w : Option GtkNews). told_acts d n p octets k o v y x w (sent_acts p r)) t.gtk_is
-    ∙ ap (λ (w : List Act). told_acts d n p octets k o v y x g w) t.sends_are
+-- what it tells of, field by field
+abbrev told_with : Option (List ℕ) → Option Keyed → Option Keyed → Option GtkNews → List Act → Told
+told_with v y x g sends = record { verified = v; derived = y; installed = x; gtk = g; sends = sends }
 
-pub steps_by : (d : Domain) (first : ℕ) (n p : Node) (octets : List ℕ) (k : KeyMessage) (new : State) (remembered : List Kept) (o : Outcome) (r : Reply) (h acts : List Act) → reply_acts d n p false octets k o r ≡ acts
-    → Adds d first n h (Take octets) acts → Stands d n p new (add acts h) → Remembers p remembered (add acts h) → Steps d first n p octets k new remembered o r h
-steps_by d first n p octets k new remembered o r h acts is adds stands remembers = record {
-  adds = subst (λ (l : List Act). Adds d first n h (Take octets) l) (sym is) adds;
-  stands = subst (λ (l : List Act). Stands d n p new (add l h)) (sym is) stands;
-  remembers = subst (λ (l : List Act). Remembers p remembered (add l h)) (sym is) remembers;
-}
+acts_told : (d : Domain) (n p : Node) (octets : List ℕ) (k : KeyMessage) (o : Outcome) (r : Reply) (t : Told) → Tells p r t → reply_acts (pair d n p) false (taken_as octets k o) r ≡ told_acts d n p octets k o t
+acts_told d n p octets k o r t tells =
+    ap (λ (w : Option (List ℕ)). told_acts d n p octets k o (told_with w r.derived r.installed r.gtk (sent_acts p r))) tells.verified_is
+    ∙ ap (λ (w : Option Keyed). told_acts d n p octets k o (told_with t.verified w r.installed r.gtk (sent_acts p r))) tells.derived_is
+    ∙ ap (λ (w : Option Keyed). told_acts d n p octets k o (told_with t.verified t.derived w r.gtk (sent_acts p r))) tells.installed_is
+    ∙ ap (λ (w : Option GtkNews). told_acts d n p octets k o (told_with t.verified t.derived t.installed w (sent_acts p r))) tells.gtk_is
+    ∙ ap (λ (w : List Act). told_acts d n p octets k o (told_with t.verified t.derived t.installed t.gtk w)) tells.sends_are
+
+pub steps_by : (d : Domain) (first : ℕ) (n p : Node) (octets : List ℕ) (k : KeyMessage) (new : Both) (o : Outcome) (r : Reply) (h acts : List Act) (t : Told) → Tells p r t → IsUnder t.installed new.part → told_acts d n p octets k o t ≡ acts
+    → Adds (here d first n) h (Take octets) acts → SupplicantStands d n p new.part (add acts h) → Remembers p new.keys (add acts h) → SupplicantSteps (here d first n) p (taken_as octets k o) new r h
+steps_by d first n p octets k new o r h acts t tells under are adds stands remembers =
+    let is : reply_acts (pair d n p) false (taken_as octets k o) r ≡ acts = acts_told d n p octets k o r t tells ∙ are in
+    record {
+      adds = subst (λ (l : List Act). Adds (here d first n) h (Take octets) l) (sym is) adds;
+      stands = subst (λ (l : List Act). SupplicantStands d n p new.part (add l h)) (sym is) stands;
+      remembers = subst (λ (l : List Act). Remembers p new.keys (add l h)) (sym is) remembers;
+      under = subst (λ (x : Option Keyed). IsUnder x new.part) (sym tells.installed_is) under;
+    }
 
 -- ---- nothing is sent
 
-pub silent : (p : Node) (r : Reply) → r.len ≡ 0 → sent_acts p r ≡ []
+silent : (p : Node) (r : Reply) → r.len ≡ 0 → sent_acts p r ≡ []
 silent p r none = ap (λ (n : ℕ). cond (n == 0) [] (frame_acts p r (take n r.octets))) none
 
-pub tells_nothing : (p : Node) (r : Reply) → IsEmpty r → Tells p r None None None None []
-tells_nothing p r e = record { verified_is = e.verified; derived_is = e.derived; installed_is = e.installed; gtk_is = e.gtk; sends_are = silent p r e.len }
+pub tells_silent : (p : Node) (r : Reply) (v : Option (List ℕ)) → IsSilent r → r.verified ≡ v → Tells p r (verifies v)
+tells_silent p r v e is = record { verified_is = is; derived_is = e.derived; installed_is = e.installed; gtk_is = e.gtk; sends_are = silent p r e.len }
+
+pub empty_silent : (r : Reply) → IsEmpty r → IsSilent r
+empty_silent r e = record { len = e.len; sealed = e.sealed; derived = e.derived; installed = e.installed; gtk = e.gtk }
 
 none_some : (o : Option (List ℕ)) (x : List ℕ) → o ≡ None → o ≡ Some x → ⊥
 none_some o x none some = cc
 
 -- a reply of no octets is whole
-pub whole_silent : (r : Reply) → r.len ≡ 0 → r.sealed ≡ None → IsWhole r
-whole_silent r none plain = record { few = omega (arith, none); sealed = λ kck is. absurd (none_some r.sealed kck plain is) }
+whole_by : (r : Reply) → r.len ≡ 0 → r.sealed ≡ None → IsWhole r
+whole_by r none plain = record { few = omega (arith, none); sealed = λ kck is. absurd (none_some r.sealed kck plain is) }
 
--- ---- how far it is
+pub whole_silent : (r : Reply) → IsSilent r → IsWhole r
+whole_silent r e = whole_by r e.len e.sealed
 
--- nothing is installed, and it stays
-pub staged_same : (s : State) (o : Option Keyed) → o ≡ None → IsStaged o s s
-staged_same s o none = subst (λ (x : Option Keyed). IsStaged x s s) (sym none) (λ a. a, λ a. a)
+pub whole_empty : (r : Reply) → IsEmpty r → IsWhole r
+whole_empty r e = whole_by r e.len e.sealed

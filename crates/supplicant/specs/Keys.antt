@@ -2,22 +2,26 @@
 use Rattle.std.specs.Prelude.{◌≢◌, ℕ, List, Option, Some, None}
 use Rattle.domain_base.specs.declared.names.Akm.TheVariants.{FtPsk}
 use Rattle.run_journal.specs.declared.reply.Keyed.{Keyed}
-use Rattle.node_frames.specs.declared.ends.Ends.{Ends}
-use Rattle.node_frames.specs.PairwiseKeys.{IsKeyOf}
-use Rattle.supplicant.specs.declared.stage.Stage.{Stage}
-use Rattle.supplicant.specs.declared.stage.Stage.TheVariants.{Retired, Attempt, Session}
+use Rattle.node_base.specs.declared.ends.Ends.{Ends}
+use Rattle.node_base.specs.PairwiseKeys.{IsKeyOf}
+use Rattle.supplicant.specs.declared.attempt.Attempt.{Attempt}
+use Rattle.supplicant.specs.declared.session.Session.{Session}
 
 -- where a key was derived
 abbrev pub IsKeyIn : Ends → List ℕ → Option Keyed → Type 0
 IsKeyIn l psk None = Unit {0}
 IsKeyIn l psk (Some y) = IsKeyOf l psk y
 
-abbrev pub AreKeysOf : Ends → List ℕ → Stage → Type 0
-AreKeysOf l psk Retired = Unit {0}
-AreKeysOf l psk (Attempt snonce key) = IsKeyIn l psk key
-AreKeysOf l psk (Session key counter) = IsKeyOf l psk key
+abbrev pub IsKeyInAttempt : Ends → List ℕ → Option Attempt → Type 0
+IsKeyInAttempt l psk None = Unit {0}
+IsKeyInAttempt l psk (Some a) = IsKeyIn l psk a.key
+
+abbrev pub IsKeyInSession : Ends → List ℕ → Option Session → Type 0
+IsKeyInSession l psk None = Unit {0}
+IsKeyInSession l psk (Some x) = IsKeyOf l psk x.key
 
 -- what is true of every supplicant: its suite is 2 or 6, and its keys are those of their nonces
-pub record IsOwn (l : Ends) (psk : List ℕ) (s : Stage) : Type 0 where
+pub record IsOwn (l : Ends) (psk : List ℕ) (a : Option Attempt) (x : Option Session) : Type 0 where
   pub suite : l.akm ≢ FtPsk
-  pub keys : AreKeysOf l psk s
+  pub tried : IsKeyInAttempt l psk a
+  pub held : IsKeyInSession l psk x

@@ -3,7 +3,7 @@ pub mod Stands
 pub mod Steps
 pub mod Keys
 pub mod Starts
-pub mod Stages
 pub mod M3
 pub mod Told
+pub mod Exchange
 pub mod Taken

@@ -1,5 +1,7 @@
--- What M3 is judged as (IEEE Std 802.11-2020, 12.7.6.4; the order of the checks is this project's choice).
-use Rattle.std.specs.Prelude.{◌≡◌, ℕ, ◌<◌, ◌≤◌, true, false, List, Option, Some, None, bytes_eq, if◌then◌else◌, Result, Ok, Err}
+-- What M3 is judged as (IEEE Std 802.11-2020, 12.7.6.4; the order of the checks is this project's
+-- choice).
+use Rattle.std.specs.Prelude.{◌≡◌, ℕ, ◌<◌, ◌≤◌, true, false, List, Option, Some, None}
+use Rattle.std.specs.Prelude.{bytes_eq, if◌then◌else◌, Result, Ok, Err}
 use Rattle.domain_base.specs.declared.names.Akm.{Akm}
 use Rattle.rsn_elements.specs.Elements.{ElementFields}
 use Rattle.mac_prf.specs.Mic.{mic}
@@ -17,8 +19,6 @@ use Rattle.domain_rules.specs.Asking.{above}
 use Rattle.domain_rules.specs.StationKeys.{m3_key_data, m3_wrapped}
 use Rattle.domain_rules.specs.StationRows.{carried}
 use Rattle.supplicant.specs.declared.m3.CarriedKey.{CarriedKey}
-use Rattle.supplicant.specs.declared.m3.M3.{M3}
-use Rattle.supplicant.specs.declared.m3.M3.TheVariants as m3
 
 abbrev pub group_key : CarriedKey → GroupKey
 group_key c = record { key = c.key; id = c.id }
@@ -39,8 +39,10 @@ pub record IsPlain (akm : Akm) (plain : List ℕ) (r : Result CarriedKey KeyData
   pub is : IsKeyDataSaid akm says r
 
 -- wrapped key data carries that group key, or why it is refused
-abbrev pub IsWrappedSaid : Akm → Option (List ℕ) → Option ElementFields → Result CarriedKey Reason → Type 0
-IsWrappedSaid akm plain says (Ok c) = (m3_wrapped akm plain says ≡ Accepted) × (carried says ≡ group_key c)
+abbrev pub IsWrappedSaid : Akm → Option (List ℕ) → Option ElementFields → Result CarriedKey Reason
+    → Type 0
+IsWrappedSaid akm plain says (Ok c) =
+    (m3_wrapped akm plain says ≡ Accepted) × (carried says ≡ group_key c)
 IsWrappedSaid akm plain says (Err why) = m3_wrapped akm plain says ≡ Refused why
 
 pub record IsOpened (akm : Akm) (kek octets : List ℕ) (r : Result CarriedKey Reason) : Type 0 where
@@ -60,17 +62,34 @@ abbrev pub IsNotAbove : Option ℕ → ℕ → ℕ → Type 0
 IsNotAbove None counter was = ⊥
 IsNotAbove (Some kept) counter was = (was ≡ kept) × (counter ≤ kept)
 
--- what comes of M3 with these fields and octets before its key data, under that key
-abbrev pub before_key_data : Akm → Keyed → Option ℕ → KeyFields → List ℕ → Outcome → Outcome
-before_key_data akm y kept f octets then_ =
-    above kept f.counter (if bytes_eq f.nonce y.anonce then (if bytes_eq f.mic (mic akm y.ptk.kck octets) then then_ else Refused reason.Mic) else Refused reason.Nonce)
+-- what M3 is judged by: the suite, the key, and in a session the counter that is kept
+pub record Under : Type 0 where
+  pub akm : Akm
+  pub key : Keyed
+  pub kept : Option ℕ
+
+abbrev pub under : Akm → Keyed → Option ℕ → Under
+under akm y kept = record { akm = akm; key = y; kept = kept }
+
+-- what comes of M3 with these fields and octets before its key data
+abbrev pub before_key_data : Under → KeyFields → List ℕ → Outcome → Outcome
+before_key_data u f octets then_ =
+    above u.kept f.counter
+    (if bytes_eq f.nonce u.key.anonce
+    then (if bytes_eq f.mic (mic u.akm u.key.ptk.kck octets) then then_ else Refused reason.Mic)
+    else Refused reason.Nonce)
 
 -- its MIC verified, and its key data is that
-pub record IsVerified (akm : Akm) (y : Keyed) (kept : Option ℕ) (f : KeyFields) (octets : List ℕ) (r : Result CarriedKey Reason) : Type 0 where
-  pub comes : (o : Outcome) → before_key_data akm y kept f octets o ≡ o
-  pub opened : IsOpened akm y.ptk.kek f.key_data r
+pub record IsVerified (u : Under) (f : KeyFields) (octets : List ℕ) (r : Result CarriedKey Reason) : Type 0 where
+  pub comes : (o : Outcome) → before_key_data u f octets o ≡ o
+  pub opened : IsOpened u.akm u.key.ptk.kek f.key_data r
 
-abbrev pub IsM3 : Akm → Keyed → Option ℕ → KeyFields → List ℕ → M3 → Type 0
-IsM3 akm y kept f octets (m3.Refused why) = (o : Outcome) → before_key_data akm y kept f octets o ≡ Refused why
-IsM3 akm y kept f octets (m3.Other why) = IsVerified akm y kept f octets (Err why)
-IsM3 akm y kept f octets (m3.Agreed c) = IsVerified akm y kept f octets (Ok c)
+-- or it is refused before
+abbrev pub IsRefusedBefore : Under → KeyFields → List ℕ → Result CarriedKey Reason → Type 0
+IsRefusedBefore u f octets (Ok c) = ⊥
+IsRefusedBefore u f octets (Err why) = (o : Outcome) → before_key_data u f octets o ≡ Refused why
+
+-- what it is judged as: its group key, or why it is refused; and the KCK where its MIC verified
+abbrev pub IsM3 : Under → KeyFields → List ℕ → Result CarriedKey Reason → Option (List ℕ) → Type 0
+IsM3 u f octets r None = IsRefusedBefore u f octets r
+IsM3 u f octets r (Some kck) = (kck ≡ u.key.ptk.kck) × IsVerified u f octets r

@@ -1,10 +1,9 @@
 -- How a supplicant begins (this project's choice).
-use Rattle.std.specs.Prelude.{None}
+use Rattle.std.specs.Prelude.{Option, Some, None}
 use Rattle.supplicant.specs.declared.supplicant.StaStart.{StaStart}
 use Rattle.supplicant.specs.declared.supplicant.StaStart.TheVariants.{Connect}
-use Rattle.supplicant.specs.declared.stage.Stage.{Stage}
-use Rattle.supplicant.specs.declared.stage.Stage.TheVariants.{Attempt}
+use Rattle.supplicant.specs.declared.attempt.Attempt.{Attempt}
 
--- how far it is then
-abbrev pub begun : StaStart → Stage
-begun (Connect snonce) = Attempt snonce.now None
+-- the attempt that it has then
+abbrev pub begun : StaStart → Option Attempt
+begun (Connect snonce) = Some (record { snonce = snonce.now; key = None })

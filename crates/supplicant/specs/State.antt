@@ -1,35 +1,25 @@
 -- What contracts see of a supplicant (this project's choice).
-use Rattle.std.specs.Prelude.{◌≡◌, ℕ, List, Option, None, Some}
-use Rattle.run_journal.specs.declared.acts.Part.{Part}
-use Rattle.run_journal.specs.declared.acts.Part.TheVariants as part
-use Rattle.run_journal.specs.declared.reply.Keyed.{Keyed}
-use Rattle.node_frames.specs.declared.ends.Ends.{Ends}
-use Rattle.supplicant.specs.declared.stage.Stage.{Stage}
-use Rattle.supplicant.specs.declared.stage.Stage.TheVariants.{Retired, Attempt, Session}
+use Rattle.std.specs.Prelude.{ℕ, List, Option}
+use Rattle.group_key.specs.Keys.{Kept}
+use Rattle.node_base.specs.declared.ends.Ends.{Ends}
+use Rattle.supplicant.specs.declared.attempt.Attempt.{Attempt}
+use Rattle.supplicant.specs.declared.session.Session.{Session}
 
--- the ends, the pre-shared key, and how far it is
+-- the ends, the pre-shared key, and the attempt and the session that there are
 pub record State : Type 0 where
   pub ends : Ends
   pub psk : List ℕ
-  pub stage : Stage
+  pub attempt : Option Attempt
+  pub session : Option Session
 
--- an attempt is under way
-abbrev pub IsAttempt : Stage → Type 0
-IsAttempt (Attempt snonce key) = Unit {0}
-IsAttempt _ = ⊥
+-- the same ends with that attempt and that session
+abbrev pub having : Option Attempt → Option Session → State → State
+having a x s = record { ends = s.ends; psk = s.psk; attempt = a; session = x }
 
--- a session is there
-abbrev pub IsSession : Stage → Type 0
-IsSession (Session key counter) = Unit {0}
-IsSession _ = ⊥
+-- a supplicant, and the group keys that are kept of its access point
+pub record Both : Type 0 where
+  pub part : State
+  pub keys : List Kept
 
--- and it is under that very key
-abbrev pub IsSessionUnder : Keyed → Stage → Type 0
-IsSessionUnder y (Session key counter) = key ≡ y
-IsSessionUnder y _ = ⊥
-
--- which of the two there is
-abbrev pub part_in : Stage → Option Part
-part_in Retired = None
-part_in (Attempt snonce key) = Some part.Attempt
-part_in (Session key counter) = Some part.Session
+abbrev pub both : State → List Kept → Both
+both s ks = record { part = s; keys = ks }

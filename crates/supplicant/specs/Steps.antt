@@ -1,28 +1,30 @@
 -- What a message does (this project's choice).
-use Rattle.std.specs.Prelude.{ℕ, false, List, Option, Some, None}
+use Rattle.std.specs.Prelude.{◌≡◌, false, List, Option, Some, None, option_map}
 use Rattle.domain_base.specs.declared.names.Node.{Node}
-use Rattle.run_journal.specs.declared.domain.Domain.{Domain}
-use Rattle.run_journal.specs.declared.acts.Outcome.{Outcome}
 use Rattle.run_journal.specs.declared.acts.Act.{Act}
 use Rattle.run_journal.specs.declared.reply.Reply.{Reply}
 use Rattle.run_journal.specs.declared.reply.Keyed.{Keyed}
 use Rattle.run_journal.specs.Questions.{add}
-use Rattle.domain_rules.specs.Reading.{KeyMessage}
-use Rattle.domain_rules.specs.Replies.{reply_acts}
+use Rattle.domain_rules.specs.Replies.{Taken, reply_acts, pair}
 use Rattle.domain_rules.specs.Rows.{TakeRow}
-use Rattle.group_key.specs.Keys.{Kept}
+use Rattle.domain_rules.specs.Here.{Here}
 use Rattle.group_key.specs.Holds.{Remembers}
-use Rattle.supplicant.specs.State.{State, IsAttempt, IsSession, IsSessionUnder}
-use Rattle.supplicant.specs.Stands.{Stands}
+use Rattle.supplicant.specs.State.{State, Both}
+use Rattle.supplicant.specs.Stands.{SupplicantStands}
 
--- For a history that supplicant and memory stand for, the message adds to it what outcome and reply say, and they then stand for
--- the longer one.
-pub record Steps (d : Domain) (first : ℕ) (n p : Node) (octets : List ℕ) (k : KeyMessage) (new : State) (remembered : List Kept) (outcome : Outcome) (r : Reply) (h : List Act) : Type 0 where
-  pub adds : TakeRow d first n h octets (reply_acts d n p false octets k outcome r)
-  pub stands : Stands d n p new (add (reply_acts d n p false octets k outcome r) h)
-  pub remembers : Remembers p remembered (add (reply_acts d n p false octets k outcome r) h)
+-- what the node adds as it takes a message of p
+abbrev pub told_by : Here → Node → Taken → Reply → List Act
+told_by w p t r = reply_acts (pair w.domain w.node p) false t r
 
--- Where a key was installed, an attempt became a session under that very key; else an attempt is one still, and a session stays so.
-abbrev pub IsStaged : Option Keyed → State → State → Type 0
-IsStaged (Some y) old new = IsAttempt old.stage × IsSessionUnder y new.stage
-IsStaged None old new = (IsAttempt old.stage → IsAttempt new.stage) × (IsSession old.stage → IsSession new.stage)
+-- where a key was installed, the attempt became a session under that very key
+abbrev pub IsUnder : Option Keyed → State → Type 0
+IsUnder None s = Unit {0}
+IsUnder (Some y) s = (s.attempt ≡ None) × (option_map (λ x. x.key) s.session ≡ Some y)
+
+-- For a history that supplicant and memory stand for, the message adds to it what outcome and reply
+-- say, and they then stand for the longer one.
+pub record SupplicantSteps (w : Here) (p : Node) (t : Taken) (new : Both) (r : Reply) (h : List Act) : Type 0 where
+  pub adds : TakeRow w h t.octets (told_by w p t r)
+  pub stands : SupplicantStands w.domain w.node p new.part (add (told_by w p t r) h)
+  pub remembers : Remembers p new.keys (add (told_by w p t r) h)
+  pub under : IsUnder r.installed new.part

@@ -1,24 +1,37 @@
 -- What a message does, whichever history the supplicant stands for (this project's choice).
-use Rattle.std.specs.Prelude.{◌≡◌, ℕ, List}
+use Rattle.std.specs.Prelude.{◌≡◌, ℕ, List, None}
 use Rattle.domain_base.specs.declared.names.Node.TheVariants.{Ap, Sta}
 use Rattle.eapol_key.specs.declared.frame.KeyFrame.{KeyFrame}
 use Rattle.eapol_key.specs.declared.messages.Message.{Message}
 use Rattle.eapol_key.specs.Fields.{fields_of}
 use Rattle.run_journal.specs.declared.domain.Domain.{Domain}
+use Rattle.run_journal.specs.declared.acts.Reason.{Reason}
 use Rattle.run_journal.specs.declared.acts.Outcome.{Outcome}
+use Rattle.run_journal.specs.declared.acts.Outcome.TheVariants.{Refused}
 use Rattle.run_journal.specs.declared.acts.Act.{Act}
 use Rattle.run_journal.specs.declared.reply.Reply.{Reply}
+use Rattle.run_journal.specs.Replies.{IsWhole}
+use Rattle.domain_rules.specs.Here.{here}
 use Rattle.domain_rules.specs.Reading.{KeyMessage}
-use Rattle.domain_rules.specs.Replies.{IsMessageFrom}
-use Rattle.group_key.specs.Keys.{Kept}
+use Rattle.domain_rules.specs.Replies.{IsMessageFrom, taken_as}
 use Rattle.group_key.specs.Holds.{Remembers}
-use Rattle.supplicant.specs.State.{State}
-use Rattle.supplicant.specs.Stands.{Stands}
-use Rattle.supplicant.specs.Steps.{Steps}
+use Rattle.supplicant.specs.State.{Both}
+use Rattle.supplicant.specs.Stands.{SupplicantStands}
+use Rattle.supplicant.specs.Steps.{SupplicantSteps}
 
--- with these group keys in memory, before and behind it
-abbrev pub IsTaken : Message → KeyFrame → State → List Kept → State → List Kept → Outcome → Reply → Type 0
-IsTaken message f old had new has outcome r = (d : Domain) (first sta ap : ℕ) (octets : List ℕ) (k : KeyMessage) (h : List Act)
-    → Stands d (Sta sta) (Ap ap) old h → Remembers (Ap ap) had h → IsMessageFrom d (Sta sta) (Ap ap) octets k
+-- it adds what outcome and reply say to each of those histories
+abbrev pub AddsToAll : Message → KeyFrame → Both → Both → Outcome → Reply → Type 0
+AddsToAll message f old new outcome r =
+    (d : Domain) (first sta ap : ℕ) (octets : List ℕ) (k : KeyMessage) (h : List Act)
+    → SupplicantStands d (Sta sta) (Ap ap) old.part h → Remembers (Ap ap) old.keys h
+    → IsMessageFrom d (Sta sta) (Ap ap) octets k
     → k.message ≡ message → k.fields ≡ fields_of f → k.octets ≡ f.octets.now
-    → Steps d first (Sta sta) (Ap ap) octets k new has outcome r h
+    → SupplicantSteps (here d first (Sta sta)) (Ap ap) (taken_as octets k outcome) new r h
+
+-- with the group keys that are in memory before and behind it; a refusal changes and installs
+-- nothing
+pub record IsTaken (message : Message) (f : KeyFrame) (old new : Both) (outcome : Outcome) (r : Reply) : Type 0 where
+  pub steps : AddsToAll message f old new outcome r
+  pub refused : (why : Reason) → outcome ≡ Refused why → (new ≡ old) × (r.installed ≡ None)
+  pub whole : IsWhole r
+  pub ends : (new.part.ends ≡ old.part.ends) × (new.part.psk ≡ old.part.psk)

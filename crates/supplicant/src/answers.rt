@@ -1,59 +1,52 @@
 //! What a supplicant tells beside an outcome, written into replies. No memory is taken.
 
-ghost use Rattle.std.specs.Prelude.{◌≡◌, Some, None, [], ◌∷◌};
+ghost use Rattle.std.specs.Prelude.{◌≡◌, Some, [], ◌∷◌};
 ghost use Rattle.domain_base.specs.declared.names.Node.{Node as AnyNode};
 ghost use Rattle.run_journal.specs.declared.domain.Domain.{Domain as AnyDomain};
 ghost use Rattle.run_journal.specs.Replies.{IsEmpty, IsWhole};
 ghost use Rattle.run_journal.specs.Acts.{Derivation};
 ghost use Rattle.domain_rules.specs.Frames.{sent_m2, sent_m4};
 ghost use Rattle.group_key.specs.Keys.{kept_id, given};
-ghost use Rattle.node_frames.specs.Ends.{AreEnds};
+ghost use Rattle.node_base.specs.Ends.{AreEnds};
 ghost use Rattle.supplicant.specs.M3.{news_of};
-ghost use Rattle.supplicant.specs.Told.{Tells};
+ghost use Rattle.supplicant.specs.Told.{IsSilent, Tells, derives, repeats, installs};
 
 use crate::m3::CarriedKey;
+use frame_making::{write_m2, write_m4};
 use group_key::GroupMemory;
-use node_frames::{Ends, write_m2, write_m4};
+use node_base::Ends;
 use run_journal::{GtkNews, Keyed, Reply};
 
 /// The key was derived by M1: M2 is sent, with that counter.
 pub fn answer_m1(ends: &Ends, key: &Keyed, counter: u64, reply: &mut Reply)
     requires empty { IsEmpty reply.old }
-    ensures tells { (d : AnyDomain) (n p : AnyNode) (x : Derivation) → AreEnds d n p ends.now → key.now.ptk ≡ x.ptk
-        → x.inputs.snonce ≡ key.now.snonce → Tells p reply.new None (Some key.now) None None (sent_m2 d n p x counter ∷ []) }
+    ensures tells { (d : AnyDomain) (n p : AnyNode) (x : Derivation) → AreEnds d n p ends.now
+        → key.now.ptk ≡ x.ptk → x.inputs.snonce ≡ key.now.snonce
+        → Tells p reply.new (derives key.now (sent_m2 d n p x counter ∷ [])) }
     ensures whole { IsWhole reply.new }
 {
-    let (ptk, snonce) = (key.ptk, key.snonce);
-    write_m2(ends, &ptk, counter, &snonce, reply);
+    write_m2(ends, key, counter, reply);
     reply.derived = Some(*key);
-}
-
-/// M3 verified under that KCK, but its key data is refused: nothing is sent.
-pub fn refuse_sealed(kck: [u8; 16], reply: &mut Reply)
-    requires empty { IsEmpty reply.old }
-    ensures tells { (p : AnyNode) → Tells p reply.new (Some kck) None None None [] }
-    ensures whole { IsWhole reply.new }
-{
-    reply.verified = Some(kck);
 }
 
 /// M3 verified under the KCK: M4 is sent, with that counter, and nothing is installed.
 pub fn answer_m3(ends: &Ends, key: &Keyed, counter: u64, reply: &mut Reply)
-    requires empty { IsEmpty reply.old }
-    ensures tells { (d : AnyDomain) (n p : AnyNode) (x : Derivation) → AreEnds d n p ends.now → key.now.ptk ≡ x.ptk
-        → Tells p reply.new (Some key.now.ptk.kck) None None None (sent_m4 d n p x counter ∷ []) }
+    requires silent { IsSilent reply.old }
+    requires verified { reply.old.verified ≡ Some key.now.ptk.kck }
+    ensures tells { (d : AnyDomain) (n p : AnyNode) (x : Derivation) → AreEnds d n p ends.now
+        → key.now.ptk ≡ x.ptk → Tells p reply.new (repeats key.now (sent_m4 d n p x counter ∷ [])) }
     ensures whole { IsWhole reply.new }
 {
-    let ptk = key.ptk;
-    write_m4(ends, &ptk, counter, reply);
-    reply.verified = Some(ptk.kck);
+    write_m4(ends, key, counter, reply);
 }
 
 /// M3 was accepted: M4 is sent, with that counter, and the keys are installed.
 pub fn accept_m3(ends: &Ends, key: &Keyed, gtk: GtkNews, counter: u64, reply: &mut Reply)
-    requires empty { IsEmpty reply.old }
-    ensures tells { (d : AnyDomain) (n p : AnyNode) (x : Derivation) → AreEnds d n p ends.now → key.now.ptk ≡ x.ptk
-        → Tells p reply.new (Some key.now.ptk.kck) None (Some key.now) (Some gtk) (sent_m4 d n p x counter ∷ []) }
+    requires silent { IsSilent reply.old }
+    requires verified { reply.old.verified ≡ Some key.now.ptk.kck }
+    ensures tells { (d : AnyDomain) (n p : AnyNode) (x : Derivation) → AreEnds d n p ends.now
+        → key.now.ptk ≡ x.ptk
+        → Tells p reply.new (installs key.now gtk (sent_m4 d n p x counter ∷ [])) }
     ensures whole { IsWhole reply.new }
 {
     answer_m3(ends, key, counter, reply);
@@ -61,8 +54,8 @@ pub fn accept_m3(ends: &Ends, key: &Keyed, gtk: GtkNews, counter: u64, reply: &m
     reply.gtk = Some(gtk);
 }
 
-/// Gives a group key to the memory, and answers what became of it: one that is kept goes on under the key id that it was
-/// installed with.
+/// Gives a group key to the memory, and answers what became of it: one that is kept goes on under
+/// the key id that it was installed with.
 pub fn give(memory: &mut GroupMemory, group: CarriedKey, rsc: u64) -> GtkNews
     ensures news { result ≡ news_of group (kept_id group.key memory.old) }
     ensures memory { memory.new ≡ given group.key group.id rsc memory.old }

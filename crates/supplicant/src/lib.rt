@@ -2,9 +2,9 @@
 #![tactic(auto)]
 
 mod answers;
+mod attempt;
 mod m3;
-mod stage;
+mod session;
 mod supplicant;
 
-pub use stage::Stage;
 pub use supplicant::{StaStart, Supplicant};

@@ -1,8 +1,8 @@
 //! Hand-made journals, and which premises of safety hold of them.
 
 use domain_base::{Akm, Mac, Node, Octets, Peer};
-use key_hierarchy::{Inputs, Ptk};
-use run_journal::{Act, Drawn, Entry, Journal, Kind, Outcome, Premises, Seal};
+use key_hierarchy::{BoxedInputs, Inputs, Ptk, SharedInputs};
+use run_journal::{Act, BoxedSeal, Drawn, Entry, Journal, Kind, Outcome, Premises, Seal};
 use std::alloc::Global;
 use std::process::Abort;
 
@@ -67,9 +67,9 @@ fn octets(rt: &impl Abort, alloc: Global, of: &[u8]) -> Octets {
     Octets(Vec::from_slice(alloc, of).expect(rt, "memory"))
 }
 
-fn inputs(rt: &impl Abort, alloc: Global, akm: Akm, of: [u8; 4]) -> Inputs {
+fn inputs(rt: &impl Abort, alloc: Global, akm: Akm, of: [u8; 4]) -> SharedInputs {
     let [aa, spa, anonce, snonce] = of;
-    Inputs {
+    let inputs = Inputs {
         akm,
         psk: [7; 32],
         ssid: octets(rt, alloc, b"net"),
@@ -79,7 +79,8 @@ fn inputs(rt: &impl Abort, alloc: Global, akm: Akm, of: [u8; 4]) -> Inputs {
         spa: Mac([2, 0, 0, 0, 0, spa]),
         anonce: [anonce; 32],
         snonce: [snonce; 32],
-    }
+    };
+    SharedInputs::of(BoxedInputs::new(alloc, inputs).expect(rt, "memory"))
 }
 
 fn drew(value: Drawn) -> Act {
@@ -98,11 +99,12 @@ fn derived(rt: &impl Abort, alloc: Global, akm: Akm, of: [u8; 4], kck: u8, tk: u
     }
 }
 
-fn seal(rt: &impl Abort, alloc: Global, sealed: u8, key: u8) -> Seal {
-    Seal {
+fn seal(rt: &impl Abort, alloc: Global, sealed: u8, key: u8) -> BoxedSeal {
+    let seal = Seal {
         octets: octets(rt, alloc, &[3, sealed]),
         key: [key; 16],
-    }
+    };
+    BoxedSeal::new(alloc, seal).expect(rt, "memory")
 }
 
 fn sent(rt: &impl Abort, alloc: Global, sealed: u8, key: u8) -> Act {
@@ -114,7 +116,7 @@ fn sent(rt: &impl Abort, alloc: Global, sealed: u8, key: u8) -> Act {
     }
 }
 
-fn took(rt: &impl Abort, alloc: Global, seal: Option<Seal>) -> Act {
+fn took(rt: &impl Abort, alloc: Global, seal: Option<BoxedSeal>) -> Act {
     Act::Took {
         from: None,
         octets: octets(rt, alloc, b"frame"),

@@ -4,7 +4,7 @@ use air_frame::AirFault;
 use domain_base::{Akm, Mac, MemSink, Node, Octets, Peer, Tid};
 use eapol_key::{FaultKind, FrameFault, Message};
 use journal_report::{SUMMARY_ROOM, line_fits, line_of, summary_of, write_lines};
-use key_hierarchy::Inputs;
+use key_hierarchy::{BoxedInputs, Inputs, SharedInputs};
 use rsn_elements::{ElementFault, FaultKind as ElementFaultKind};
 use run_journal::{
     Act, Drawn, Entry, Key, KeyDataFault, Kind, Malformed, Outcome, Part, Premises, Reason, Start,
@@ -315,8 +315,8 @@ fn octets(rt: &impl Abort, alloc: Global, of: &[u8]) -> Octets {
     Octets(Vec::from_slice(alloc, of).expect(rt, "memory"))
 }
 
-fn inputs(rt: &impl Abort, alloc: Global) -> Inputs {
-    Inputs {
+fn inputs(rt: &impl Abort, alloc: Global) -> SharedInputs {
+    let inputs = Inputs {
         akm: Akm::Psk,
         psk: [1; 32],
         ssid: octets(rt, alloc, b"IEEE"),
@@ -326,7 +326,8 @@ fn inputs(rt: &impl Abort, alloc: Global) -> Inputs {
         spa: Mac([2, 0, 0, 0, 0, 0x11]),
         anonce: [3; 32],
         snonce: [4; 32],
-    }
+    };
+    SharedInputs::of(BoxedInputs::new(alloc, inputs).expect(rt, "memory"))
 }
 
 fn pairwise(rt: &impl Abort, alloc: Global) -> Key {

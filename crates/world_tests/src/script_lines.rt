@@ -12,8 +12,9 @@ use rows::Says::{
     Script, Sta,
 };
 use rows::{
-    A1, ADDRESS, BOTH, BSSID, EVENT_LINES, FALTERING, GROWING, HEADER, HEADER_LINES, INJECTIONS,
-    LATE_LINES, LONG_PSK, MORE_APS, MORE_STAS, NO_NODE, NODE_LINES, PSK, S1, SEED, SIZES,
+    A1, ADDRESS, BOTH, BSSID, EVENT_LINES, FALTERING, FORMS, GROWING, HEADER, HEADER_LINES,
+    INJECTIONS, LATE_LINES, LONG_PSK, MORE_APS, MORE_STAS, NO_NODE, NODE_LINES, PSK, S1, SEED,
+    SIZES,
 };
 use run_journal::{Act, Domain, Entry, Event, Journal, Kind, Start};
 use std::alloc::Global;
@@ -402,6 +403,35 @@ fn frames_that_are_injected(rt: HostRuntime) {
         assert!(rt;
             ask(&rt, rt.alloc(), HEADER, BOTH, &journal, &line) == *want,
             "{count}"
+        );
+    }
+}
+
+// How the form of the line is written behind these lines.
+fn form_text(
+    rt: &impl Abort,
+    alloc: Global,
+    header: &[&[u8]],
+    nodes: &[&[u8]],
+    line: &str,
+) -> &'static str
+    requires { length header.now + length nodes.now < 2 ^ 32 }
+{
+    let journal = Journal::new(alloc);
+    let reader = reader_behind(rt, alloc, header, nodes, &journal);
+    let form = reader.form(line.as_bytes());
+    drop(reader);
+    drop(journal);
+    form.text()
+}
+
+#[test]
+fn forms_of_lines(rt: HostRuntime) {
+    for (count, nodes, line, text) in FORMS {
+        assert!(rt; *count <= 5 && nodes.len() <= 10);
+        assert!(rt;
+            form_text(&rt, rt.alloc(), &HEADER[..*count], nodes, line) == *text,
+            "{line}"
         );
     }
 }

@@ -1,6 +1,7 @@
 //! Scripts, what is reported of them, and how they end.
 
 use domain_cli::Status;
+use frame_script::Form;
 
 // The first seven lines of each script: the header, an access point and a station; 157 octets.
 pub(crate) const NETWORK: &str = "domain 1
@@ -98,7 +99,7 @@ pub(crate) const SCRIPTS: &[(&str, &str, Status, &str)] = &[
     (
         "",
         "|\n|\r\n|domain 2\n|domain 1\r|domain 1\r\r\n",
-        Status::Script(1, 1),
+        Status::Script(1, 1, Form::Version),
         "",
     ),
     (
@@ -107,36 +108,72 @@ pub(crate) const SCRIPTS: &[(&str, &str, Status, &str)] = &[
         Status::Done,
         NOTHING,
     ),
-    ("domain 1\n", "seed draw\n", Status::Script(2, 9), ""),
-    ("domain 1\n", "ssid IEEE\n", Status::Script(2, 2), ""),
-    (NETWORK, "frob\n", Status::Script(8, 2), STARTED),
-    (NETWORK, "connect s1\n", Status::Script(8, 3), STARTED),
+    (
+        "domain 1\n",
+        "seed draw\n",
+        Status::Script(2, 9, Form::Seed),
+        "",
+    ),
+    (
+        "domain 1\n",
+        "ssid IEEE\n",
+        Status::Script(2, 2, Form::Seed),
+        "",
+    ),
+    (
+        NETWORK,
+        "frob\n|ap 020000000002 r0kh-2\n",
+        Status::Script(8, 2, Form::StaOrEvent),
+        STARTED,
+    ),
+    (
+        NETWORK,
+        "connect s1\n",
+        Status::Script(8, 3, Form::Connect),
+        STARTED,
+    ),
     (
         NETWORK,
         "connect s2 a1\n|connect a1 s1\n",
-        Status::Script(8, 4),
+        Status::Script(8, 4, Form::Connect),
         STARTED,
     ),
-    (NETWORK, "deliver 1 to a1\n", Status::Script(8, 5), STARTED),
+    (
+        NETWORK,
+        "deliver 1 to a1\n",
+        Status::Script(8, 5, Form::Deliver),
+        STARTED,
+    ),
     (
         NETWORK,
         "sta 020000000011\nconnect s1 a1\n",
-        Status::Script(8, 8),
+        Status::Script(8, 8, Form::Sta),
         STARTED,
     ),
     (
         NETWORK,
         "connect s1 a1\ndeliver 2 to a1\n",
-        Status::Script(9, 5),
+        Status::Script(9, 5, Form::Deliver),
         BEGUN,
     ),
     (
         NETWORK,
         "connect s1 a1\n\n# one octet too many\ncut 1 63 to a1\n",
-        Status::Script(11, 6),
+        Status::Script(11, 6, Form::Cut),
         BEGUN,
     ),
-    (PASSPHRASE, "1234567\n", Status::Script(4, 3), ""),
+    (
+        NETWORK,
+        "connect s1 a1\nsta 020000000012\n",
+        Status::Script(9, 2, Form::Event),
+        BEGUN,
+    ),
+    (
+        PASSPHRASE,
+        "1234567\n",
+        Status::Script(4, 3, Form::Passphrase),
+        "",
+    ),
     (
         PASSPHRASE,
         "12345678\n|123456789012345678901234567890123456789012345678901234567890123\n",
@@ -146,7 +183,7 @@ pub(crate) const SCRIPTS: &[(&str, &str, Status, &str)] = &[
     (
         PASSPHRASE,
         "1234567890123456789012345678901234567890123456789012345678901234\n",
-        Status::Script(4, 3),
+        Status::Script(4, 3, Form::Passphrase),
         "",
     ),
     (RETURNS, "", Status::Done, REPORT),
@@ -392,11 +429,11 @@ pub(crate) const LONG_SCRIPTS: &[(usize, usize, &str, Status, &str)] = &[
     (1, 8193, "", Status::Limit(2), ""),
     (1, 8193, "\n", Status::Limit(2), ""),
     (1, 8192, "\r\n", Status::Limit(2), ""),
-    (1, 8192, "\nfrob\n", Status::Script(3, 2), ""),
+    (1, 8192, "\nfrob\n", Status::Script(3, 2, Form::Seed), ""),
     (1, 8193, "\nfrob\n", Status::Limit(2), ""),
     (65536, 0, "", Status::Done, NOTHING),
     (65536, 1, "", Status::Limit(1), ""),
-    (65535, 0, "frob", Status::Script(65536, 2), ""),
+    (65535, 0, "frob", Status::Script(65536, 2, Form::Seed), ""),
     (65536, 0, "frob\n", Status::Limit(1), ""),
     (65537, 0, "", Status::Limit(1), ""),
     (65536, 8193, "", Status::Limit(2), ""),
@@ -424,46 +461,91 @@ pub(crate) const NETWORKS: &[(u8, u8, Status, u8, &str)] = &[
 pub(crate) const LONG_FRAMES: &[(usize, Status, &str)] = &[
     (4800, Status::Done, ZEROS),
     (4802, Status::Limit(3), STARTED),
-    (4801, Status::Script(8, 3), STARTED),
+    (4801, Status::Script(8, 3, Form::Inject), STARTED),
 ];
 
 // The text of each status.
 pub(crate) const TEXTS: &[(Status, &str)] = &[
     (Status::Done, "done"),
-    (Status::Usage, "usage: replay < SCRIPT"),
+    (Status::Usage, USAGE),
     (Status::ReadFault, "the script could not be read"),
     (Status::WriteFault, "the report could not be written"),
     (Status::NoMemory, "out of memory"),
-    (Status::Script(65536, 0), "line 65536: outside the grammar"),
     (
-        Status::Script(65537, 1),
-        "line 65537: the first line is not \"domain 1\"",
-    ),
-    (Status::Script(65538, 2), "line 65538: no such word here"),
-    (
-        Status::Script(65539, 3),
-        "line 65539: wrong number or form of arguments",
+        Status::Script(65536, 0, Form::Event),
+        "line 65536: outside the grammar; the form is that of connect, deliver, alter, cut, inject or retry",
     ),
     (
-        Status::Script(65540, 4),
-        "line 65540: no such node, or a node of the other kind",
+        Status::Script(65537, 1, Form::Version),
+        "line 65537: not the first line of a script; the form is domain 1",
     ),
     (
-        Status::Script(65541, 5),
-        "line 65541: no such frame was sent",
+        Status::Script(65538, 2, Form::Any),
+        "line 65538: no such word here; the form is that of ap, sta, connect, deliver, alter, cut, inject or retry",
     ),
     (
-        Status::Script(65542, 6),
-        "line 65542: place or length outside the frame",
-    ),
-    (Status::Script(65543, 7), "line 65543: outside the grammar"),
-    (
-        Status::Script(65544, 8),
-        "line 65544: address or R0KH-ID used before",
+        Status::Script(65538, 2, Form::StaOrEvent),
+        "line 65538: no such word here; the form is that of sta, connect, deliver, alter, cut, inject or retry",
     ),
     (
-        Status::Script(65545, 9),
-        "line 65545: the seed is drawn in a live run only",
+        Status::Script(65538, 2, Form::Key),
+        "line 65538: no such word here; the form is passphrase <8 to 63 octets> or psk <64 digits>",
+    ),
+    (
+        Status::Script(65539, 3, Form::Ssid),
+        "line 65539: wrong arguments; the form is ssid <1 to 32 octets>",
+    ),
+    (
+        Status::Script(65539, 3, Form::Passphrase),
+        "line 65539: wrong arguments; the form is passphrase <8 to 63 octets>",
+    ),
+    (
+        Status::Script(65539, 3, Form::Psk),
+        "line 65539: wrong arguments; the form is psk <64 digits>",
+    ),
+    (
+        Status::Script(65539, 3, Form::Akm),
+        "line 65539: wrong arguments; the form is akm <psk or psk-sha256>",
+    ),
+    (
+        Status::Script(65539, 3, Form::Inject),
+        "line 65539: wrong arguments; the form is inject <node> <digits>",
+    ),
+    (
+        Status::Script(65540, 4, Form::Connect),
+        "line 65540: no such node, or a node of the other kind; the form is connect <sta> <ap>",
+    ),
+    (
+        Status::Script(65540, 4, Form::Retry),
+        "line 65540: no such node, or a node of the other kind; the form is retry <ap> <sta>",
+    ),
+    (
+        Status::Script(65541, 5, Form::Deliver),
+        "line 65541: no such frame was sent; the form is deliver <n> to <node>",
+    ),
+    (
+        Status::Script(65542, 6, Form::Alter),
+        "line 65542: place or length outside the frame; the form is alter <n> <place> <2 digits> to <node>",
+    ),
+    (
+        Status::Script(65542, 6, Form::Cut),
+        "line 65542: place or length outside the frame; the form is cut <n> <length> to <node>",
+    ),
+    (
+        Status::Script(65543, 7, Form::Event),
+        "line 65543: outside the grammar; the form is that of connect, deliver, alter, cut, inject or retry",
+    ),
+    (
+        Status::Script(65544, 8, Form::Ap),
+        "line 65544: address or R0KH-ID used before; the form is ap <12 digits> <R0KH-ID of 1 to 48 octets>",
+    ),
+    (
+        Status::Script(65544, 8, Form::Sta),
+        "line 65544: address or R0KH-ID used before; the form is sta <12 digits>",
+    ),
+    (
+        Status::Script(65545, 9, Form::Seed),
+        "line 65545: the seed is drawn in a live run only; the form is seed <64 digits>",
     ),
     (Status::Limit(0), "past a limit"),
     (Status::Limit(1), "more than 65536 lines"),
@@ -476,3 +558,20 @@ pub(crate) const TEXTS: &[(Status, &str)] = &[
     (Status::Limit(5), "more than 16 access points"),
     (Status::Limit(6), "more than 64 stations"),
 ];
+
+// What stands on standard error for words that are no command.
+const USAGE: &str = "usage: kehtrop replay < SCRIPT
+
+  replay    runs the script on standard input, and writes its report to standard output
+
+The program ends with
+  0  done
+  1  these words are no command
+  2  a line of the script is refused
+  3  the script could not be read
+  4  the report could not be written
+  5  out of memory
+  8  a line of the script goes past a limit
+
+Example:
+  printf 'domain 1\\n' | kehtrop replay";

@@ -2,8 +2,8 @@ use Rattle.std.proofs.Common.{◌≡◌, ℕ, ◌-◌, ◌≤◌, vec_len, vec_c
 use Rattle.ap_node.specs.State.{station_at}
 use Rattle.ap_node.proofs.stations.make_place.Given as goal
 
-abbrev pub invariant-loop-place : goal.invariant-loop-place
-invariant-loop-place l = (l.places ≤ vec_capacity l.stations) × ((k : ℕ) → station_at l.stations.items k ≡ station_at l.fn.stations.items k)
+abbrev pub invariant-loop-stations : goal.invariant-loop-stations
+invariant-loop-stations l = (l.places ≤ vec_capacity l.stations) × ((k : ℕ) → station_at l.stations.items k ≡ station_at l.fn.stations.items k)
 
-abbrev pub decreases-loop-place : goal.decreases-loop-place
-decreases-loop-place l = l.places - vec_len l.stations
+abbrev pub decreases-loop-stations : goal.decreases-loop-stations
+decreases-loop-stations l = l.places - vec_len l.stations

@@ -3,9 +3,9 @@ use Rattle.run_journal.specs.Report.{lines}
 use Rattle.domain_cli.proofs.Out.{lines_alone, either_way}
 use Rattle.domain_cli.proofs.top.write_text.Goals as goal
 
-pub returns-in-Faulty : goal.returns-in-Faulty
-returns-in-Faulty g c =
+pub returns-in-Stopped : goal.returns-in-Stopped
+returns-in-Stopped g c =
     let j = c.args.journal.now.entries in
     let all = simp (c.entries.ensures, reverse-reverse) at c.write_lines.ensures.ok in
     let part = simp (c.entries.ensures, reverse-reverse) at c.write_lines.ensures.err in
-    record { written = (lines j, lines_alone c.args.found j c.in-Faulty.is, either_way c.write_lines.result _ _ all part); cause = c.write_lines.ensures.cause; unfailed = c.write_lines.ensures.unfailed }
+    record { written = (lines j, lines_alone c.args.found j c.in-Stopped.is, either_way c.write_lines.result _ _ all part); cause = c.write_lines.ensures.cause; unfailed = c.write_lines.ensures.unfailed }

@@ -1,29 +1,47 @@
-use Rattle.std.proofs.Common.{List, ◌++◌, ap, ◌∙◌}
+use Rattle.std.proofs.Common.{◌≡◌, ◌+◌, List, [], ◌∷◌, ◌++◌, Option, Some, sym, ap, ◌∙◌}
 use Rattle.std.specs.Prelude.{is_some}
+use Rattle.domain_base.specs.declared.names.Node.{Node}
 use Rattle.domain_base.specs.declared.names.Node.TheVariants.{Ap, Sta}
+use Rattle.domain_rules.specs.Frames.{sent_m1}
 use Rattle.domain_rules.specs.Network.{nonce}
 use Rattle.run_journal.specs.declared.acts.Act.{Act}
-use Rattle.ap_node.specs.declared.stations.Station.{Station}
-use Rattle.ap_node.specs.State.{State, station_at}
-use Rattle.ap_node.proofs.Requesting.{begins_as, begun_place, associated_added, associated_same}
+use Rattle.authenticator.specs.State.{State as Part, with_session}
+use Rattle.ap_node.specs.State.{State, station_at, attempt_in, session_in}
+use Rattle.ap_node.proofs.Requesting.{begins_as, associated_added, associated_same}
 use Rattle.ap_node.proofs.access_point.ApNode.associate.Goals as goal
 
 pub returns-clause-begun : goal.returns-clause-begun
-returns-clause-begun c = (
-  c.begin-attempt.result,
-  begun_place c.begin-attempt.result _ (station_at c.make_place.new.stations.items c.args.station) (station_at c.args.self.now.stations c.args.station) c.begin.ensures.begun
-      (c.make_place.ensures.same c.args.station ∙ ap (λ (s : State). station_at s.stations c.args.station) c.self.view_is),
-  begins_as c.args.domain.now c.self.inside.number c.args.self.now.number c.args.station c.nonce-anonce.result (nonce c.args.domain.now (Ap c.args.self.now.number) c.args.self.now.drawn) c.args.rsne.now c.begin-attempt.result
-      (ap (λ (s : State). s.number) c.self.view_is) (c.nonce-anonce.ensures ∙ ap (λ (s : State). nonce c.args.domain.now (Ap s.number) s.drawn) c.self.view_is)
-      (record { stands = c.begin-attempt.ensures.stands; attempt_is = c.begin-attempt.ensures.attempt }),
-)
+returns-clause-begun c =
+    let d = c.args.here.domain.now in
+    let sta = c.args.station in
+    let old = c.args.self.now in
+    let number = ap (λ (s : State). s.number) c.self.view_is in
+    let v_is = c.nonce-anonce.ensures ∙ ap (λ (m : Node). nonce d m c.self.inside.drawn) c.requires.node ∙ ap (λ (s : State). nonce d (Ap old.number) s.drawn) c.self.view_is in
+    record {
+      number = number;
+      drawn = ap (λ (s : State). s.drawn + 1) c.self.view_is;
+      group = ap (λ (s : State). s.group) c.self.view_is;
+      part = c.begin-part.result;
+      is = c.begin-had_attempt.ensures.begun
+          ∙ ap (λ (x : Option Part). Some (with_session (session_in x) c.begin-part.result)) (c.make_place.ensures.same sta ∙ ap (λ (s : State). station_at s.stations sta) c.self.view_is);
+      begins = begins_as d c.self.inside.number old.number sta c.nonce-anonce.result (nonce d (Ap old.number) old.drawn) c.args.rsne.now c.begin-part.result number v_is c.begin-part.ensures.stands;
+      others = λ k other. c.begin-had_attempt.ensures.others k other ∙ c.make_place.ensures.same k ∙ ap (λ (s : State). station_at s.stations k) c.self.view_is;
+    }
 
 pub returns-clause-acts : goal.returns-clause-acts
 returns-clause-acts c =
-    associated_added c.args.domain.now (Ap c.self.inside.number) (Sta c.args.station) c.args.octets.now c.has_attempt_with.result c.nonce-anonce.result _ _ c.args.out.now.acts c.reserve.new.self.acts c.add.new.self.acts c.close_attempt.new.out.acts c.open_attempt.new.out.acts _ c.add_sent.new.out.acts
-    c.reserve.ensures.acts c.add.ensures.acts c.close_attempt.ensures.acts c.open_attempt.ensures.acts c.add_sent.ensures.acts c.in_ok-taken.ensures.taken c.in_ok-taken.ensures.response c.begin-attempt.ensures.sends
+    let d = c.args.here.domain.now in
+    let sta = c.args.station in
+    let old = c.args.self.now in
+    let n = c.args.here.node in
+    let v = c.nonce-anonce.result in
+    let node : Ap c.self.inside.number ≡ n = ap (λ (s : State). Ap s.number) c.self.view_is ∙ sym c.requires.node in
+    let v_is = c.nonce-anonce.ensures ∙ ap (λ (m : Node). nonce d m c.self.inside.drawn) c.requires.node ∙ ap (λ (s : State). nonce d (Ap old.number) s.drawn) c.self.view_is in
+    associated_added d n (Sta sta) c.args.octets.now c.begin-had_attempt.result v _ _ c.args.out.now.acts c.reserve.new.self.acts c.add.new.self.acts c.close_attempt.new.out.acts c.open_attempt.new.out.acts _ c.add_sent.new.out.acts
+    c.reserve.ensures.acts c.add.ensures.acts c.close_attempt.ensures.acts c.open_attempt.ensures.acts c.add_sent.ensures.acts c.in_ok-taken.ensures.taken c.in_ok-taken.ensures.response
+    (c.begin-part.ensures.sends ∙ ap (λ (m : Node). sent_m1 d m (Sta sta) 1 v ∷ []) node)
     ∙ ap (λ (l : List Act). c.args.out.now.acts ++ l)
-    (associated_same c.args.domain.now (Ap c.self.inside.number) (Ap c.args.self.now.number) (Sta c.args.station) c.args.octets.now c.has_attempt_with.result (is_some (station_at c.args.self.now.stations c.args.station).attempt) c.nonce-anonce.result (nonce c.args.domain.now (Ap c.args.self.now.number) c.args.self.now.drawn)
-    (ap (λ (s : State). Ap s.number) c.self.view_is)
-    (c.has_attempt_with.ensures ∙ ap (λ (l : List Station). is_some (station_at l c.args.station).attempt) c.deref.ensures.value ∙ ap (λ (x : Station). is_some x.attempt) (c.make_place.ensures.same c.args.station) ∙ ap (λ (s : State). is_some (station_at s.stations c.args.station).attempt) c.self.view_is)
-    (c.nonce-anonce.ensures ∙ ap (λ (s : State). nonce c.args.domain.now (Ap s.number) s.drawn) c.self.view_is))
+    (associated_same d n (Ap old.number) (Sta sta) c.args.octets.now c.begin-had_attempt.result (is_some (attempt_in (station_at old.stations sta))) v (nonce d (Ap old.number) old.drawn)
+    c.requires.node
+    (c.begin-had_attempt.ensures.had ∙ ap (λ (x : Option Part). is_some (attempt_in x)) (c.make_place.ensures.same sta) ∙ ap (λ (s : State). is_some (attempt_in (station_at s.stations sta))) c.self.view_is)
+    v_is)

@@ -6,11 +6,11 @@ use Rattle.domain_world.specs.Owning.{AreListed}
 use Rattle.domain_world.proofs.Standing.{stand_more_ap, grows_ap}
 use Rattle.domain_world.proofs.nodes.Nodes.add_ap.Goals as goal
 
-pub returns-else-is_err-clause-stand : goal.returns-else-is_err-clause-stand
-returns-else-is_err-clause-stand c = λ j is none.
+pub returns-in-Ok-clause-stand : goal.returns-in-Ok-clause-stand
+returns-in-Ok-clause-stand c = λ j is none.
     let last = c.in-Ok.node in
     let aps : c.self.inside.aps.items ≡ c.args.self.now.aps = ap (λ (n : Nodes). n.aps) c.self.view_is in
-    let pushed = rw c.if-is_err.ensures.negation at c.push.ensures.items in
+    let pushed = c.push_reserved.ensures.items in
     let count : length c.args.self.now.aps ≡ c.len-number.result = search rules in
     let listed : AreListed c.args.self.now = subst AreListed c.self.view_is c.self.invariant in
     let domain : _ ≡ with_ap c.args.self.now.domain c.args.address c.args.r0kh_id = search rules in

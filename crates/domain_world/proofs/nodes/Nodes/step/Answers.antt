@@ -2,7 +2,7 @@ use Rattle.std.proofs.Common.{◌≡◌, ◌<◌, length, List, subst, ◌∙◌
 use Rattle.domain_base.specs.declared.names.Node.{Node}
 use Rattle.domain_base.specs.declared.names.Node.TheVariants.{Ap, Sta}
 use Rattle.run_journal.specs.declared.acts.Entry.{Entry}
-use Rattle.node_frames.specs.Events.{event_of}
+use Rattle.node_base.specs.Events.{event_of}
 use Rattle.domain_world.specs.State.{Nodes}
 use Rattle.domain_world.specs.Owning.{Stand}
 use Rattle.domain_world.specs.Acting.{Acted}

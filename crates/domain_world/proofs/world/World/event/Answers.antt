@@ -1,7 +1,7 @@
 use Rattle.std.proofs.Common.{◌≡◌, ◌+◌, suc, ℕ, List, sym, ap, subst, ◌∙◌, arith}
 use Rattle.run_journal.specs.declared.acts.Entry.{Entry}
 use Rattle.run_journal.specs.Questions.{history}
-use Rattle.node_frames.specs.Events.{event_of}
+use Rattle.node_base.specs.Events.{event_of}
 use Rattle.domain_rules.specs.Network.{IsListed}
 use Rattle.domain_rules.specs.Explained.{push, HappensAt}
 use Rattle.domain_world.specs.State.{State}

@@ -1,22 +1,32 @@
-use Rattle.std.proofs.Common.{ap}
-use Rattle.node_frames.specs.Views.{reading_of}
-use Rattle.station_node.specs.State.{State}
-use Rattle.node_frames.proofs.Returning.{if_settled}
-use Rattle.station_node.proofs.Judged.{judged-managed, judged-keyed, judged-settled}
+use Rattle.std.proofs.Common.{refl}
+use Rattle.domain_rules.specs.Rows.{Take}
+use Rattle.frame_intake.specs.Views.{reading_of}
+use Rattle.station_node.specs.Steps.{turn}
+use Rattle.station_node.proofs.Taken.{takes_by}
+use Rattle.station_node.proofs.Judged.{judged-managed, judged-keyed, judged-settled, judged-ap, judged-listed}
 use Rattle.station_node.proofs.station.StationNode.take.Goals as goal
+
+pub number_of-requires : goal.number_of-requires
+number_of-requires c = judged-ap c.args.here.domain.now c.args.here.node c.args.self.now.number c.in-Managed.from c.in-Managed.ensures.2 c.requires.node
+
+pub number_of-requires-in-Keyed : goal.number_of-requires-in-Keyed
+number_of-requires-in-Keyed c = judged-ap c.args.here.domain.now c.args.here.node c.args.self.now.number c.in-Keyed.from c.in-Keyed.ensures.2 c.requires.node
+
+pub take_management-requires-clause-ap : goal.take_management-requires-clause-ap
+take_management-requires-clause-ap c = judged-listed c.args.here.domain.now c.args.here.node c.args.self.now.number c.number_of.result c.in-Managed.from c.in-Managed.ensures.2 c.number_of.ensures c.requires.node
+
+pub take_message-requires-clause-ap : goal.take_message-requires-clause-ap
+take_message-requires-clause-ap c = judged-listed c.args.here.domain.now c.args.here.node c.args.self.now.number c.number_of-in-Keyed.result c.in-Keyed.from c.in-Keyed.ensures.2 c.number_of-in-Keyed.ensures c.requires.node
 
 pub take_management-requires-clause-managed : goal.take_management-requires-clause-managed
 take_management-requires-clause-managed c =
-    judged-managed c.args.domain.now c.self.inside.number c.args.self.now.number c.number_of.result c.args.octets.now (reading_of c.read-delivered.result) c.in-Managed.frame c.in-Managed.field-2 c.in-Managed.from c.in-Managed.ensures c.read-delivered.ensures.reads c.number_of.ensures
-    (ap (λ (s : State). s.number) c.self.view_is)
+    judged-managed c.args.here.domain.now c.args.here.node c.args.self.now.number c.number_of.result c.args.octets.now (reading_of c.read-delivered.result) c.in-Managed.frame c.in-Managed.field-2 c.in-Managed.from c.in-Managed.ensures c.read-delivered.ensures.reads c.number_of.ensures c.requires.node
 
 pub take_message-requires-clause-message : goal.take_message-requires-clause-message
 take_message-requires-clause-message c =
-    judged-keyed c.args.domain.now c.self.inside.number c.args.self.now.number c.number_of-in-Keyed.result c.args.octets.now (reading_of c.read-delivered.result) c.in-Keyed.message c.in-Keyed.from c.in-Keyed.ensures c.read-delivered.ensures.reads c.number_of-in-Keyed.ensures
-    (ap (λ (s : State). s.number) c.self.view_is)
+    judged-keyed c.args.here.domain.now c.args.here.node c.args.self.now.number c.number_of-in-Keyed.result c.args.octets.now (reading_of c.read-delivered.result) c.in-Keyed.message c.in-Keyed.from c.in-Keyed.ensures c.read-delivered.ensures.reads c.number_of-in-Keyed.ensures c.requires.node
 
-pub returns-in-Settled-clause-taken : goal.returns-in-Settled-clause-taken
-returns-in-Settled-clause-taken c =
-    if_settled c.settle.result c.in-Settled.outcome _ _ c.settle.ensures.outcome c.settle.ensures.acts
-    (λ is. judged-settled c.args.domain.now c.self.inside.number c.args.self.now c.args.octets.now (reading_of c.read-delivered.result) c.in-Settled.from c.kind.result c.in-Settled.outcome c.args.out.now.acts c.settle.new.out.acts c.in-Settled.ensures c.read-delivered.ensures.reads c.kind.ensures
-    (ap (λ (s : State). s.number) c.self.view_is) is)
+pub returns-in-Settled : goal.returns-in-Settled
+returns-in-Settled c =
+    takes_by c.args.here.domain.now (Take c.args.octets.now) (turn c.args.self.now c.args.self.now c.args.out.now.acts c.settle.new.out.acts) c.settle.result c.in-Settled.outcome _ c.settle.ensures.outcome c.settle.ensures.acts c.settle.ensures.kept refl
+    (λ is. judged-settled c.args.here.domain.now c.args.here.node c.args.self.now c.args.octets.now (reading_of c.read-delivered.result) c.in-Settled.from c.kind.result c.in-Settled.outcome c.args.out.now.acts c.settle.new.out.acts c.in-Settled.ensures c.read-delivered.ensures.reads c.kind.ensures c.requires.node is)

@@ -1,26 +1,96 @@
-use Rattle.std.proofs.Common.{sym, ap, subst, ◌∙◌}
-use Rattle.std.proofs.lemmas.Result.{IfOk-weaker}
+use Rattle.std.proofs.Common.{◌≡◌, Option, refl, sym, ap, subst, ◌∙◌}
+use Rattle.domain_base.specs.declared.names.Node.{Node}
+use Rattle.domain_base.specs.declared.names.Node.TheVariants.{Ap, Sta}
 use Rattle.run_journal.specs.declared.acts.Outcome.TheVariants.{Refused}
 use Rattle.run_journal.specs.declared.acts.Reason.TheVariants as reason
+use Rattle.domain_rules.specs.Replies.{IsMessageFrom, pair}
 use Rattle.domain_rules.specs.Rows.{Take}
-use Rattle.node_frames.specs.Views.{message_fields}
+use Rattle.std.specs.Prelude.{slice_set}
+use Rattle.frame_intake.specs.Views.{message_fields}
+use Rattle.supplicant.specs.State.{both}
+use Rattle.station_node.specs.declared.attempt.Attempt.{Attempt}
+use Rattle.station_node.specs.declared.attempt.Association.TheVariants.{Requested}
 use Rattle.station_node.specs.State.{State}
-use Rattle.station_node.specs.Steps.{IsTaken, state_with}
-use Rattle.node_frames.proofs.Returning.{if_settled}
-use Rattle.station_node.proofs.Taken.{taken-unawaited, not_accepted_none, state_is}
+use Rattle.station_node.specs.Steps.{IsTaken, Takes, turn}
+use Rattle.station_node.specs.Handed.{IsHanded, handing}
+use Rattle.station_node.specs.contracts.station.StationNode.{the_view}
+use Rattle.station_node.proofs.Handed.{tried_state}
+use Rattle.station_node.proofs.Placed.{whole_attempt, takes_nothing, left-tried, tried_places, finished_places, handed-tried, handed-finished, takes_same_old}
+use Rattle.station_node.proofs.Taken.{takes_by, taken-requested}
+use Rattle.station_node.proofs.station.StationNode.take_message.Goals.{in_default-via-in-Some+else-with-ap, in_default-via-in_default}
 use Rattle.station_node.proofs.station.StationNode.take_message.Goals as goal
 
-pub returns-in-Some-clause-taken : goal.returns-in-Some-clause-taken
-returns-in-Some-clause-taken c =
-    IfOk-weaker c.take.result _ _
-    (λ outcome taken. subst (λ (t : State). IsTaken c.args.domain.now (Take c.args.octets.now) t (state_with c.self.inside.number c.self.inside.drawn c.take.new.self c.take.new.memories.items) c.args.out.now.acts c.take.new.out.acts outcome)
-    (state_is c.self.inside.number c.self.inside.drawn c.self.inside.association c.in-Some.association c.self.inside.memories.items c.in-Some.is ∙ c.self.view_is)
-    (taken c.self.inside.drawn))
-    c.take.ensures.taken
+pub returns-in_err-came-in-Accepted : goal.returns-in_err-came-in-Accepted
+returns-in_err-came-in-Accepted c =
+    let s = the_view c.self.inside in
+    let same = c.in_err-came-in-Accepted.ensures.same in
+    takes_nothing c.args.here.domain.now (Take c.args.heard.now.octets.now) (turn c.args.self.now (tried_state s c.in-Some.field-0.ap c.hand.new.supplicant (slice_set s.memories c.from.result c.hand.new.memory)) c.args.out.now.acts c.hand.new.out.acts) c.from_residual.result c.from_residual.ensures.0
+    (left-tried s c.in-Some.field-0 c.from.result c.in-Accepted.supplicant c.hand.new.supplicant c.index_mut-memory.result.now c.hand.new.memory c.in-Some.is c.in-Accepted.is same.0 same.1 c.index_mut-memory.ensures.value ∙ c.self.view_is)
+    c.in_err-came-in-Accepted.ensures.kept
 
-pub returns-in-None-clause-taken : goal.returns-in-None-clause-taken
-returns-in-None-clause-taken c =
-    if_settled c.refuse.result (Refused reason.Unawaited) _ _ c.refuse.ensures.outcome c.refuse.ensures.acts
-    (λ is. subst (λ (t : State). IsTaken c.args.domain.now (Take c.args.octets.now) c.args.self.now t c.args.out.now.acts c.refuse.new.out.acts (Refused reason.Unawaited)) (sym c.self.view_is)
-    (taken-unawaited c.args.domain.now c.args.self.now c.args.ap c.args.octets.now (message_fields c.args.message.now) c.args.out.now.acts c.refuse.new.out.acts c.requires.message
-    (not_accepted_none c.args.self.now.association c.args.ap (ap (λ (t : State). t.association) (sym c.self.view_is) ∙ c.in-None.is)) is))
+pub invariant_of-self-then-came : goal.invariant_of-self-then-came
+invariant_of-self-then-came c =
+    let done = c.finish.ensures c.in-Some.field-0.ap c.hand.new.supplicant refl in
+    finished_places c.self.inside.attempt c.finish.new.attempt c.self.inside.session c.finish.new.session c.in-Some.field-0 c.in-Accepted.supplicant c.hand.new.supplicant c.self.inside.memories.items c.from.result c.hand.new.memory c.in-Some.is c.in-Accepted.is c.self.invariant done.0 done.1
+
+pub invariant_of-self-else-came : goal.invariant_of-self-else-came
+invariant_of-self-else-came c =
+    tried_places c.self.inside.attempt c.self.inside.session c.in-Some.field-0 c.in-Accepted.supplicant c.hand.new.supplicant c.self.inside.memories.items c.from.result c.hand.new.memory c.in-Some.is c.in-Accepted.is c.self.invariant
+
+pub returns-in-Requested : goal.returns-in-Requested
+returns-in-Requested c =
+    let d = c.args.here.domain.now in
+    let m = c.args.heard.now in
+    let s = c.args.self.now in
+    let waits = c.refuse_message.new.out.acts in
+    let there = ap (λ (t : State). t.attempt) (sym c.self.view_is) ∙ c.in-Some.is ∙ whole_attempt c.in-Some.field-0 c.args.ap (Requested c.in-Requested.field-0) c.if-with-ap.true c.in-Requested.is in
+    let same = ap (λ (o : Option Attempt). the_view (record { number = c.self.inside.number; drawn = c.self.inside.drawn; attempt = o; session = c.self.inside.session; memories = c.self.inside.memories })) (sym c.in-Some.is) ∙ c.self.view_is in
+    subst (λ (t : State). Takes d (Take m.octets.now) (turn s t c.args.out.now.acts waits) c.refuse_message.result) (sym same)
+    (takes_by d (Take m.octets.now) (turn s s c.args.out.now.acts waits) c.refuse_message.result (Refused reason.Unawaited) _ c.refuse_message.ensures.outcome c.refuse_message.ensures.acts c.refuse_message.ensures.kept refl
+    (λ is. taken-requested d s c.args.ap c.in-Requested.field-0 m.octets.now (message_fields m.message) c.args.out.now.acts waits c.requires.message there is))
+
+pub returns-then-came : goal.returns-then-came
+returns-then-came c =
+    let d = c.args.here.domain.now in
+    let s = the_view c.self.inside in
+    let m = c.args.heard.now in
+    let had = c.index_mut-memory.result.now in
+    let waits = c.hand.new.out.acts in
+    let came = c.in_ok-came-in-Accepted.came in
+    let t = handing (both c.in-Accepted.supplicant had) (both c.hand.new.supplicant c.hand.new.memory) c.args.out.now.acts waits in
+    let node_is : c.args.here.node ≡ Sta s.number = c.requires.node ∙ ap (λ (y : State). Sta y.number) (sym c.self.view_is) in
+    let done = c.finish.ensures c.in-Some.field-0.ap c.hand.new.supplicant refl in
+    let new : State = record { number = s.number; drawn = s.drawn; attempt = c.finish.new.attempt; session = c.finish.new.session; memories = slice_set s.memories c.from.result c.hand.new.memory } in
+    subst (λ (y : State). IsTaken d (Take m.octets.now) (turn y new c.args.out.now.acts waits) came.outcome) c.self.view_is
+    (handed-finished d s c.in-Some.field-0 c.finish.new.attempt c.finish.new.session c.args.ap c.from.result m c.in-Accepted.supplicant c.hand.new.supplicant had c.hand.new.memory c.args.out.now.acts waits came c.in-Some.is c.if-with-ap.true c.in-Accepted.is c.self.invariant.tried
+    (record { from = subst (λ (y : State). IsMessageFrom d (Sta y.number) (Ap c.args.ap) m.octets.now (message_fields m.message)) (sym c.self.view_is) c.requires.message; place_is = c.from.ensures; value = c.index_mut-memory.ensures.value })
+    (subst (λ (n : Node). IsHanded (pair d n (Ap c.args.ap)) m t came) node_is c.in_ok-came-in-Accepted.ensures.handed) c.if-came.true done.0 done.1)
+
+pub returns-else-came : goal.returns-else-came
+returns-else-came c =
+    let d = c.args.here.domain.now in
+    let s = the_view c.self.inside in
+    let m = c.args.heard.now in
+    let had = c.index_mut-memory.result.now in
+    let waits = c.hand.new.out.acts in
+    let came = c.in_ok-came-in-Accepted.came in
+    let t = handing (both c.in-Accepted.supplicant had) (both c.hand.new.supplicant c.hand.new.memory) c.args.out.now.acts waits in
+    let node_is : c.args.here.node ≡ Sta s.number = c.requires.node ∙ ap (λ (y : State). Sta y.number) (sym c.self.view_is) in
+    subst (λ (y : State). IsTaken d (Take m.octets.now) (turn y (tried_state s c.in-Some.field-0.ap c.hand.new.supplicant (slice_set s.memories c.from.result c.hand.new.memory)) c.args.out.now.acts waits) came.outcome) c.self.view_is
+    (handed-tried d s c.in-Some.field-0 c.args.ap c.from.result m c.in-Accepted.supplicant c.hand.new.supplicant had c.hand.new.memory c.args.out.now.acts waits came c.in-Some.is c.if-with-ap.true c.in-Accepted.is c.self.invariant.tried
+    (record { from = subst (λ (y : State). IsMessageFrom d (Sta y.number) (Ap c.args.ap) m.octets.now (message_fields m.message)) (sym c.self.view_is) c.requires.message; place_is = c.from.ensures; value = c.index_mut-memory.ensures.value })
+    (subst (λ (n : Node). IsHanded (pair d n (Ap c.args.ap)) m t came) node_is c.in_ok-came-in-Accepted.ensures.handed) c.if-came.false)
+
+-- the station as it was, for one with that attempt
+abbrev as_was : (c : goal.After-take_in_session) → Option Attempt → State
+as_was c o = the_view (record { number = c.self.inside.number; drawn = c.self.inside.drawn; attempt = o; session = c.self.inside.session; memories = c.self.inside.memories })
+
+elsewhere : (c : goal.After-take_in_session) → c.in_default.self ≡ c.args.self.now
+    → Takes c.args.here.domain.now (Take c.args.heard.now.octets.now) (turn c.args.self.now c.take_in_session.new.self c.args.out.now.acts c.take_in_session.new.out.acts) c.take_in_session.result
+elsewhere c same = takes_same_old c.args.here.domain.now (Take c.args.heard.now.octets.now) c.args.self.now c.in_default.self c.take_in_session.new.self c.args.out.now.acts c.take_in_session.new.out.acts c.take_in_session.result same c.take_in_session.ensures
+
+pub returns-in_default : goal.returns-in_default
+returns-in_default c = elim c.in_default.branch [
+  | in_default-via-in-Some+else-with-ap w ↦ elsewhere c (w.self-is ∙ ap (as_was c) (sym w.in-Some.is) ∙ c.self.view_is)
+  | in_default-via-in_default w ↦ elsewhere c (w.self-is ∙ c.self.view_is)
+]

@@ -1,0 +1,2 @@
+pub mod RepliedActs
+pub mod Returning

@@ -1,0 +1,37 @@
+use Rattle.std.proofs.Common.{◌≡◌, ◌∙◌, ◌++◌, ℕ, List, [], ◌∷◌, Option, Some, refl, sym, ap, subst, append_assoc}
+use Rattle.std.specs.Prelude.{option_map}
+use Rattle.domain_base.specs.declared.names.Node.{Node}
+use Rattle.mac_prf.specs.Mic.{without_mic}
+use Rattle.key_hierarchy.specs.declared.inputs.Inputs.{Inputs}
+use Rattle.eapol_key.specs.declared.messages.Message.{Message}
+use Rattle.run_journal.specs.declared.acts.Kind.TheVariants as kind
+use Rattle.run_journal.specs.declared.acts.Outcome.{Outcome}
+use Rattle.run_journal.specs.declared.acts.Seal.{Seal}
+use Rattle.run_journal.specs.declared.acts.Act.{Act}
+use Rattle.run_journal.specs.declared.acts.Act.TheVariants.{Took}
+use Rattle.domain_rules.specs.Frames.{frame_seal}
+use Rattle.domain_rules.specs.Network.{mac, root}
+use Rattle.domain_rules.specs.Replies.{replied_acts, pair, taken_as}
+use Rattle.act_memory.specs.Rooms.{between_of}
+use Rattle.act_memory.specs.Templates.{IsTemplate, seal_over}
+use Rattle.act_memory.proofs.room.Room.add_reply.Goals as goal
+
+took_is : (p : Node) (taken octets covered frame : List ℕ) (message m : Message) (outcome : Outcome) (verified : Option (List ℕ)) (seal : Option Seal) → taken ≡ octets → covered ≡ 1 ∷ without_mic frame → m ≡ message
+    → seal ≡ option_map (seal_over covered) verified
+    → Took (Some p) taken (kind.Key message) outcome seal ≡ Took (Some p) octets (kind.Key m) outcome (option_map (λ (kck : List ℕ). frame_seal kck frame) verified)
+took_is p taken octets covered frame message m outcome verified seal same covers is sealed = rw (sealed, same, covers, ← is) refl
+
+-- one after the other
+chain : (old took opened derived replaced installed gtk finished put sent a a1 b c d e f f1 g : List Act) → a ≡ old ++ took → a1 ≡ a ++ opened → b ≡ a1 ++ derived → c ≡ b ++ replaced → d ≡ c ++ installed → e ≡ d ++ gtk → f ≡ e ++ finished → f1 ≡ f ++ put → g ≡ f1 ++ sent
+    → g ≡ old ++ (took ++ (opened ++ (derived ++ replaced ++ installed ++ gtk ++ finished ++ (put ++ sent))))
+chain old took opened derived replaced installed gtk finished put sent a a1 b c d e f f1 g p o q r s t u w v = rw (v, w, u, t, s, r, q, o, p) (simp append_assoc)
+
+pub returns-clause-acts : goal.returns-clause-acts
+returns-clause-acts c d n p octets k room =
+    let back : p ≡ c.args.self.peer = sym room.peer in
+    let at : (i : Inputs) → IsTemplate d (root d) n p i → IsTemplate d (root d) n c.args.self.peer i = λ i t. subst (λ (q : Node). IsTemplate d (root d) n q i) back t in
+    let address : c.args.self.address ≡ mac d c.args.self.peer = room.address ∙ ap (λ (q : Node). mac d q) back in
+    let took = took_is c.args.self.peer c.args.self.taken.items octets c.args.self.covered.items k.octets c.args.self.message k.message c.args.outcome c.args.reply.now.verified _ room.taken room.covered (sym room.message) c.seal_over.ensures in
+    subst (λ (q : Node). c.add_sent.new.out.acts ≡ c.args.out.now.acts ++ replied_acts (pair d n q) c.args.had_session (taken_as octets k c.args.outcome) c.args.reply.now (between_of c.args.between)) room.peer
+    (chain _ _ _ _ _ _ _ _ _ _ _ _ _ _ _ _ _ _ _ (c.add.ensures.acts ∙ ap (λ (act : Act). c.args.out.now.acts ++ act ∷ []) took) c.add_all.ensures.acts (c.add_derived.ensures.acts d n (at c.args.self.derived room.derived)) c.add_replaced.ensures.acts (c.add_installed.ensures.acts d n (at c.args.self.installed room.installed))
+    (c.add_group_key.ensures.acts d address) (c.add_finished.ensures.acts d n (at c.args.self.finished room.finished)) c.add_all-2.ensures.acts c.add_sent.ensures.acts)

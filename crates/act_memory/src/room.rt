@@ -1,0 +1,279 @@
+//! The memory that the acts of one EAPOL-Key message take, taken before anything is done.
+
+ghost use Rattle.std.specs.Prelude.{◌≡◌, ◌≤◌, ◌<◌, ◌+◌, ◌++◌, ℕ, List, [], ◌∷◌, length, IfOk};
+ghost use Rattle.std.specs.Prelude.{Some, option_map};
+ghost use Rattle.domain_base.specs.declared.names.Node.{Node as AnyNode};
+ghost use Rattle.mac_prf.specs.Mic.{without_mic};
+ghost use Rattle.run_journal.specs.declared.domain.Domain.{Domain as AnyDomain};
+ghost use Rattle.run_journal.specs.declared.acts.Kind.TheVariants as kind;
+ghost use Rattle.run_journal.specs.declared.acts.Act.TheVariants.{Took};
+ghost use Rattle.run_journal.specs.Replies.{IsWhole};
+ghost use Rattle.domain_rules.specs.Network.{IsListed, mac, root};
+ghost use Rattle.domain_rules.specs.Replies.{derived_acts, replaced_acts, installed_acts, gtk_acts};
+ghost use Rattle.domain_rules.specs.Replies.{finished_acts};
+ghost use Rattle.node_base.specs.Peers.{IsPeerOf};
+ghost use Rattle.act_memory.specs.Templates.{IsTemplate, with_nonces, seal_over};
+
+use crate::covered::{append_covered, covered_len};
+use crate::outbox::Outbox;
+use crate::send_room::SendRoom;
+use domain_base::{Mac, NoMemory, Node, Octets, Peer};
+use eapol_key::Message;
+use frame_intake::Heard;
+use key_hierarchy::{BoxedInputs, SharedInputs};
+use node_base::{Here, address, pairwise_inputs};
+use run_journal::{Act, BoxedSeal, GtkNews, Key, Keyed, Kind, Outcome, Part, Reply, Seal};
+use std::alloc::Global;
+
+// What the MIC of an EAPOL-Key frame covers, behind the form.
+fn cover(alloc: Global, frame: &[u8]) -> Result<Vec<u8>, NoMemory>
+    ensures { IfOk result (λ covered. covered.items ≡ 1 ∷ without_mic frame.now) }
+{
+    let mut octets = Vec::with_capacity(alloc, covered_len(frame))?;
+    append_covered(&mut octets, frame);
+    Ok(octets)
+}
+
+// What the pairwise key of a node with its peer is made of, without nonces.
+fn template(here: Here<'_>, peer: Node) -> Result<BoxedInputs, NoMemory>
+    requires listed { IsListed here.domain.now here.node }
+    requires peer { IsPeerOf here.domain.now here.node peer }
+    ensures { IfOk result (λ i. let d = here.entry.domain.now
+        in IsTemplate d (root d) here.entry.node peer i) }
+{
+    let inputs = pairwise_inputs(here, peer, &[0; 32], &[0; 32])?;
+    BoxedInputs::new(here.alloc, inputs)
+}
+
+// The inputs with the nonces of that key.
+fn with_nonces(inputs: BoxedInputs, key: &Keyed) -> SharedInputs
+    ensures { result ≡ with_nonces inputs key.now }
+{
+    SharedInputs::of(inputs.with_nonces(&key.anonce, &key.snonce))
+}
+
+// The octets under that key, where there is one, in that room for a seal.
+fn seal_over(covered: Vec<u8>, room: BoxedSeal, key: Option<[u8; 16]>) -> Option<BoxedSeal>
+    ensures { result ≡ option_map (seal_over covered.items) key }
+{
+    let key = key?;
+    Some(room.filled(Seal {
+        octets: Octets(covered),
+        key,
+    }))
+}
+
+// The key was derived.
+fn add_derived(peer: Node, template: BoxedInputs, derived: Option<Keyed>, out: &mut Outbox)
+    requires { 0 < out.old.spare }
+    ensures acts { (d : AnyDomain) (n : AnyNode) → IsTemplate d (root d) n peer template
+        → out.new.acts ≡ out.old.acts ++ derived_acts d (root d) n peer derived }
+    ensures spare { out.old.spare ≤ out.new.spare + 1 }
+{
+    let Some(key) = derived else { return };
+    out.add(Act::Derived {
+        peer,
+        inputs: with_nonces(template, &key),
+        ptk: key.ptk,
+    });
+}
+
+// The session that was there is closed, where a key was installed.
+fn add_replaced(peer: Node, had_session: bool, installed: Option<Keyed>, out: &mut Outbox)
+    requires { 0 < out.old.spare }
+    ensures acts { out.new.acts ≡ out.old.acts ++ replaced_acts peer had_session installed }
+    ensures spare { out.old.spare ≤ out.new.spare + 1 }
+{
+    if !had_session {
+        return;
+    }
+    let Some(_) = installed else { return };
+    out.add(Act::Closed {
+        peer,
+        part: Part::Session,
+    });
+}
+
+// The key was installed.
+fn add_installed(peer: Node, template: BoxedInputs, installed: Option<Keyed>, out: &mut Outbox)
+    requires { 0 < out.old.spare }
+    ensures acts { (d : AnyDomain) (n : AnyNode) → IsTemplate d (root d) n peer template
+        → out.new.acts ≡ out.old.acts ++ installed_acts d (root d) n peer installed }
+    ensures spare { out.old.spare ≤ out.new.spare + 1 }
+{
+    let Some(key) = installed else { return };
+    let tk = key.ptk.tk;
+    let inputs = with_nonces(template, &key);
+    out.add(Act::Installed {
+        peer: Peer::One(peer),
+        key: Key::Pairwise { tk, inputs },
+    });
+}
+
+// The group key of that access point was installed, or taken into use again.
+fn add_group_key(peer: Node, bssid: Mac, gtk: Option<GtkNews>, out: &mut Outbox)
+    requires { 0 < out.old.spare }
+    ensures acts { (d : AnyDomain) → bssid ≡ mac d peer
+        → out.new.acts ≡ out.old.acts ++ gtk_acts d peer gtk }
+    ensures spare { out.old.spare ≤ out.new.spare + 1 }
+{
+    let Some(news) = gtk else { return };
+    let gtk = news.key;
+    let id = news.id;
+    let key = Key::Group { gtk, id, bssid };
+    if news.resumed {
+        out.add(Act::Resumed { peer, key });
+    } else {
+        let peer = Peer::One(peer);
+        out.add(Act::Installed { peer, key });
+    }
+}
+
+// The attempt became a session under the key that was installed.
+fn add_finished(peer: Node, template: BoxedInputs, installed: Option<Keyed>, out: &mut Outbox)
+    requires { 0 < out.old.spare }
+    ensures acts { (d : AnyDomain) (n : AnyNode) → IsTemplate d (root d) n peer template
+        → out.new.acts ≡ out.old.acts ++ finished_acts d (root d) n peer installed }
+    ensures spare { out.old.spare ≤ out.new.spare + 1 }
+{
+    let Some(key) = installed else { return };
+    out.add(Act::Finished {
+        peer,
+        inputs: with_nonces(template, &key),
+    });
+}
+
+/// Acts of a node that take their place among those of a reply, which does not tell of them.
+#[derive(Drop)]
+pub struct Between {
+    /// Right after the frame was taken: a look at key holders, or what the frame opens.
+    pub opened: Vec<Act>,
+    /// Right before a frame is sent: what is put with key holders.
+    pub put: Vec<Act>,
+}
+
+impl Between {
+    /// No acts. Takes no memory.
+    pub fn nothing(alloc: Global) -> Self
+        ensures opened { result.opened.items ≡ [] }
+        ensures put { result.put.items ≡ [] }
+    {
+        Between {
+            opened: Vec::new(alloc),
+            put: Vec::new(alloc),
+        }
+    }
+}
+
+// These acts, in order.
+fn add_all(acts: Vec<Act>, out: &mut Outbox)
+    requires { length acts.items ≤ out.old.spare }
+    ensures acts { out.new.acts ≡ out.old.acts ++ acts.items }
+    ensures spare { out.old.spare ≤ out.new.spare + length acts.items }
+{
+    for act in acts {
+        out.add(act);
+    }
+}
+
+/// The memory that the acts of one EAPOL-Key message take.
+#[derive(Drop)]
+pub struct Room {
+    peer: Node,
+    address: Mac,
+    message: Message,
+    // The octets that came, and what the MIC of their EAPOL frame covers.
+    taken: Vec<u8>,
+    covered: Vec<u8>,
+    seal: BoxedSeal,
+    // What a pairwise key is made of, without nonces, for three acts.
+    derived: BoxedInputs,
+    installed: BoxedInputs,
+    finished: BoxedInputs,
+    sent: SendRoom,
+}
+
+impl Room {
+    ghost use Rattle.domain_rules.specs.Reading.{KeyMessage};
+    ghost use Rattle.domain_rules.specs.Replies.{replied_acts, pair, taken_as};
+    ghost use Rattle.frame_intake.specs.Views.{message_fields};
+    ghost use Rattle.act_memory.specs.Rooms.{IsRoom, between_of};
+
+    /// Takes it, for the node that stands here and takes that message of its peer.
+    pub fn take(here: Here<'_>, peer: Node, heard: &Heard<'_>) -> Result<Self, NoMemory>
+        requires listed { IsListed here.domain.now here.node }
+        requires peer { IsPeerOf here.domain.now here.node peer }
+        ensures { IfOk result (λ room. IsRoom here.entry.domain.now here.entry.node peer
+            heard.now.octets.now (message_fields heard.now.message) room) }
+    {
+        let address = address(here.domain, peer);
+        let taken = Vec::from_slice(here.alloc, heard.octets)?;
+        let covered = cover(here.alloc, heard.message.frame.octets)?;
+        let seal = BoxedSeal::room(here.alloc)?;
+        let derived = template(here, peer)?;
+        let installed = template(here, peer)?;
+        let finished = template(here, peer)?;
+        let sent = SendRoom::take(here.alloc)?;
+        Ok(Room {
+            peer,
+            address,
+            message: heard.message.message,
+            taken,
+            covered,
+            seal,
+            derived,
+            installed,
+            finished,
+            sent,
+        })
+    }
+
+    /// Adds the acts of taking the message with that outcome and reply, where there was a session
+    /// with the peer or not, and the acts between them that the reply does not tell of. No
+    /// memory is wanted.
+    pub fn add_reply(
+        self,
+        outcome: Outcome,
+        had_session: bool,
+        reply: &Reply,
+        between: Between,
+        out: &mut Outbox,
+    )
+        requires room { 7 + length between.opened.items + length between.put.items ≤ out.old.spare }
+        requires whole { IsWhole reply.now }
+        ensures acts { (d : AnyDomain) (n p : AnyNode) (octets : List ℕ) (k : KeyMessage)
+            → IsRoom d n p octets k self
+            → out.new.acts ≡ out.old.acts ++ replied_acts (pair d n p) had_session
+            (taken_as octets k outcome) reply.now (between_of between) }
+        ensures spare { out.old.spare
+            ≤ out.new.spare + (7 + length between.opened.items + length between.put.items) }
+    {
+        let Room {
+            peer,
+            address,
+            message,
+            taken,
+            covered,
+            seal,
+            derived,
+            installed,
+            finished,
+            sent,
+        } = self;
+        out.add(Act::Took {
+            from: Some(peer),
+            octets: Octets(taken),
+            kind: Kind::Key(message),
+            outcome,
+            seal: seal_over(covered, seal, reply.verified),
+        });
+        add_all(between.opened, out);
+        add_derived(peer, derived, reply.derived, out);
+        add_replaced(peer, had_session, reply.installed, out);
+        add_installed(peer, installed, reply.installed, out);
+        add_group_key(peer, address, reply.gtk, out);
+        add_finished(peer, finished, reply.installed, out);
+        add_all(between.put, out);
+        sent.add_sent(peer, reply, out);
+    }
+}

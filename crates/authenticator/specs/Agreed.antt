@@ -1,0 +1,10 @@
+-- What an attempt has agreed on from M2 on (this project's choice).
+use Rattle.std.specs.Prelude.{ℕ}
+use Rattle.group_key.specs.declared.keys.GroupKey.{GroupKey}
+use Rattle.run_journal.specs.declared.reply.Keyed.{Keyed}
+
+-- the key that was derived, and the group key and the count of packet numbers that M3 carries
+pub record Agreed : Type 0 where
+  pub key : Keyed
+  pub group : GroupKey
+  pub rsc : ℕ

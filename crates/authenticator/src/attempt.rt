@@ -1,0 +1,183 @@
+//! An attempt of a station: the four-way handshake, up to M4 (IEEE Std 802.11-2020, 12.7.6).
+
+ghost use Rattle.std.specs.Prelude.{◌≡◌, ◌≢◌, ◌≤◌, ◌+◌, suc, length, MatchResult, OnErr};
+ghost use Rattle.domain_base.specs.declared.names.Akm.{Akm as AnyAkm};
+ghost use Rattle.air_frame.specs.Sent.{IsAddress};
+ghost use Rattle.eapol_key.specs.Fields.{IsKeyFrame};
+ghost use Rattle.run_journal.specs.Replies.{IsEmpty, IsWhole};
+ghost use Rattle.frame_making.specs.Replied.{TellsNothing};
+
+use crate::agreement::Agreement;
+use crate::counters::{is_offered, last_counter};
+use crate::m2::{M2, key_data_fault};
+use crate::request::RequestedRsne;
+use crate::session::Session;
+use domain_base::Akm;
+use eapol_key::{KeyFrame, Message, verify};
+use frame_making::write_m1;
+use node_base::{Ends, pairwise_key};
+use run_journal::{Reason, Reply};
+
+/// The replay counter of the first M1 of an attempt.
+const FIRST_COUNTER: u64 = 1;
+
+/// How often M1, and M3, is sent in an attempt at most.
+const MOST_SENDS: u8 = 4;
+
+/// An attempt, from its association request on.
+#[derive(Drop)]
+pub struct Attempt {
+    /// The nonce that was drawn for it.
+    pub anonce: [u8; 32],
+    /// The RSNE of the association request.
+    pub rsne: RequestedRsne,
+    /// How many M1 were sent in it.
+    pub m1s: u8,
+    /// How many M3 were sent in it.
+    pub m3s: u8,
+    /// What was agreed on, from M2 on.
+    pub agreed: Option<Agreement>,
+}
+
+/// What comes of an M4 in an attempt.
+#[derive(Drop)]
+pub enum M4 {
+    /// Refused: the attempt goes on as it was.
+    Refused(Reason, Attempt),
+    /// Accepted: the attempt has become this session.
+    Finished(Session),
+}
+
+impl Attempt {
+    ghost use Rattle.authenticator.specs.Sends.{SendsM1};
+    ghost use Rattle.authenticator.specs.Judged.{frame_of, begun, answered, IsM2, TellsDerived};
+    ghost use Rattle.authenticator.specs.Judged.{Answers, IsM4, IsFinish, IsRefusedM4};
+    ghost use Rattle.authenticator.specs.Judged.{IsAgain, IsInVain};
+
+    /// Begins an attempt, and writes its first M1 (IEEE Std 802.11-2020, 12.7.6.2). Nothing of what
+    /// was in the reply stays.
+    pub fn begin(ends: &Ends, anonce: &[u8; 32], rsne: &[u8], reply: &mut Reply) -> Self
+        requires { length rsne.now ≤ 257 }
+        ensures value { result ≡ begun anonce.now rsne.now }
+        ensures sends { SendsM1 ends.now 1 anonce.now reply.new }
+        ensures told { TellsNothing reply.new }
+        ensures fits { IsWhole reply.new }
+        ensures addresses { IsAddress ends.now.own.0 × IsAddress ends.now.peer.0 }
+    {
+        *reply = Reply::empty();
+        write_m1(ends, FIRST_COUNTER, anonce, reply);
+        Attempt {
+            anonce: *anonce,
+            rsne: RequestedRsne::of(rsne),
+            m1s: 1,
+            m3s: 0,
+            agreed: None,
+        }
+    }
+
+    /// Judges an M2 of the station.
+    pub fn judge_m2(&self, ends: &Ends, psk: &[u8; 32], frame: &KeyFrame<'_>) -> M2
+        requires suite { ends.now.akm ≢ AnyAkm.FtPsk }
+        requires frame { IsKeyFrame frame.now }
+        ensures { IsM2 ends.now psk.now self.now (frame_of frame.now) result }
+    {
+        if self.agreed.is_some() {
+            return M2::Refused(Reason::Unawaited);
+        }
+        if !is_offered(frame.counter, 0, self.m1s) {
+            return M2::Refused(Reason::Counter(u64::from(self.m1s)));
+        }
+        let key = pairwise_key(ends, psk, &self.anonce, &frame.nonce);
+        if !verify(frame, ends.akm, &key.ptk.kck) {
+            return M2::Refused(Reason::Mic);
+        }
+        match key_data_fault(self.rsne.as_slice(), frame.key_data) {
+            Some(fault) => M2::Other(fault, key),
+            None => M2::Agreed(key),
+        }
+    }
+
+    /// An M2 was accepted, under whose key it verified: it is answered with M3
+    /// (IEEE Std 802.11-2020, 12.7.6.4).
+    pub fn answer_m2(&mut self, ends: &Ends, agreement: Agreement, reply: &mut Reply)
+        requires { IsEmpty reply.old }
+        ensures attempt { self.new ≡ answered agreement self.old }
+        ensures sends { Answers ends.now self.old agreement reply.new }
+        ensures told { TellsDerived agreement.key reply.new }
+        ensures fits { IsWhole reply.new }
+    {
+        let counter = last_counter(self.m1s, self.m3s) + 1;
+        agreement.send_m3(ends, counter, reply);
+        let key = *agreement.key();
+        reply.verified = Some(key.ptk.kck);
+        reply.derived = Some(key);
+        self.m3s = 1;
+        self.agreed = Some(agreement);
+    }
+
+    // Judges an M4 of the station: the session that the attempt becomes, or why it is refused.
+    fn judge_m4(&self, akm: Akm, frame: &KeyFrame<'_>) -> Result<Session, Reason>
+        requires { IsKeyFrame frame.now }
+        ensures { MatchResult result (IsFinish akm self.now (frame_of frame.now))
+            (IsRefusedM4 akm self.now (frame_of frame.now)) }
+    {
+        let Some(agreement) = &self.agreed else {
+            return Err(Reason::Unawaited);
+        };
+        let last = last_counter(self.m1s, self.m3s);
+        if !is_offered(frame.counter, self.m1s, self.m3s) {
+            return Err(Reason::Counter(last));
+        }
+        let key = agreement.key();
+        if !verify(frame, akm, &key.ptk.kck) {
+            return Err(Reason::Mic);
+        }
+        Ok(Session {
+            key: *key,
+            next: last + 1,
+        })
+    }
+
+    /// The attempt becomes a session by an M4 of the station, or it is given back with the reason
+    /// why that is refused (IEEE Std 802.11-2020, 12.7.6.5).
+    pub fn finish(self, akm: Akm, frame: &KeyFrame<'_>) -> M4
+        requires { IsKeyFrame frame.now }
+        ensures { IsM4 akm self (frame_of frame.now) result }
+    {
+        match self.judge_m4(akm, frame) {
+            Err(why) => M4::Refused(why, self),
+            Ok(session) => M4::Finished(session),
+        }
+    }
+
+    /// Sends M1, or from M2 on M3 as it was sent first, once more. Fails with the message that was
+    /// sent as often as it may be.
+    pub fn send_again(&mut self, ends: &Ends, reply: &mut Reply) -> Result<(), Message>
+        requires { IsEmpty reply.old }
+        ensures again { MatchResult result (λ _. IsAgain ends.now self.old self.new reply.new)
+            (IsInVain self.old) }
+        ensures told { TellsNothing reply.new }
+        ensures silent { OnErr result (reply.new.len ≡ 0) }
+        ensures fits { IsWhole reply.new }
+    {
+        let counter = last_counter(self.m1s, self.m3s) + 1;
+        match &self.agreed {
+            None => {
+                if self.m1s >= MOST_SENDS {
+                    return Err(Message::M1);
+                }
+                write_m1(ends, counter, &self.anonce, reply);
+                self.m1s += 1;
+                Ok(())
+            }
+            Some(agreed) => {
+                if self.m3s >= MOST_SENDS {
+                    return Err(Message::M3);
+                }
+                agreed.send_m3(ends, counter, reply);
+                self.m3s += 1;
+                Ok(())
+            }
+        }
+    }
+}

@@ -1,5 +1,0 @@
-use Rattle.domain_cli.proofs.Taking.{ready_first}
-use Rattle.domain_cli.proofs.stage.Stage.start.Goals as goal
-
-pub returns-clause-ready : goal.returns-clause-ready
-returns-clause-ready c = ready_first c.start.result c.start.ensures

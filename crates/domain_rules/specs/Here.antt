@@ -1,0 +1,13 @@
+-- Where a node stands.
+use Rattle.std.specs.Prelude.{ℕ}
+use Rattle.domain_base.specs.declared.names.Node.{Node}
+use Rattle.run_journal.specs.declared.domain.Domain.{Domain}
+
+-- a node of a domain, and the number at which it began to draw
+pub record Here : Type 0 where
+  pub domain : Domain
+  pub first : ℕ
+  pub node : Node
+
+abbrev pub here : Domain → ℕ → Node → Here
+here d first n = record { domain = d; first = first; node = n }

@@ -1,0 +1,50 @@
+-- What a delivered frame is judged as before any question to the history (this project's choice).
+use Rattle.std.specs.Prelude.{◌≡◌, ℕ, ◌+◌, List, [], Option, Some, ◌⊎◌}
+use Rattle.domain_base.specs.declared.names.Node.{Node}
+use Rattle.eapol_key.specs.Fields.{IsKeyFrame}
+use Rattle.rsn_elements.specs.Fields.{element_fields}
+use Rattle.run_journal.specs.declared.domain.Domain.{Domain}
+use Rattle.run_journal.specs.declared.acts.Reason.{Reason}
+use Rattle.run_journal.specs.declared.acts.Kind.{Kind}
+use Rattle.run_journal.specs.declared.acts.Outcome.{Outcome}
+use Rattle.run_journal.specs.declared.acts.Outcome.TheVariants.{Ignored, Refused}
+use Rattle.run_journal.specs.declared.acts.Act.{Act}
+use Rattle.run_journal.specs.Questions.{draws}
+use Rattle.domain_rules.specs.Reading.{Reading, PassedOver, Managed, Keyed}
+use Rattle.domain_rules.specs.Verdict.{first_verdict, key_verdict}
+use Rattle.domain_rules.specs.Associating.{management_verdict}
+use Rattle.domain_rules.specs.Closing.{sender}
+use Rattle.domain_rules.specs.Rows.{response}
+use Rattle.node_base.specs.Peers.{IsPeerOf}
+use Rattle.frame_intake.specs.declared.judging.Judged.{Judged}
+use Rattle.frame_intake.specs.declared.judging.Judged.TheVariants as judged
+use Rattle.frame_intake.specs.Views.{management_fields, message_fields}
+
+-- a refusal that nothing answers
+abbrev pub IsSilent : Domain → Node → Reason → Type 0
+IsSilent d n why = (from : Option Node) (k : Kind) → response d n from k why ≡ []
+
+-- the frame is passed over, or refused so
+abbrev pub IsSettled : Domain → Node → Reading → Outcome → Type 0
+IsSettled d n r o =
+    ((o ≡ Ignored) × (r ≡ PassedOver)) ⊎ ((why : Reason) × (o ≡ Refused why) × IsSilent d n why)
+
+abbrev pub IsJudged : Domain → Node → Reading → Judged → Type 0
+IsJudged d n r (judged.Settled from outcome) =
+    (from ≡ sender d n r)
+    × ((first : ℕ) (h : List Act) → first_verdict d first n h r ≡ outcome)
+    × IsSettled d n r outcome
+IsJudged d n r (judged.Managed from frame elements) =
+    (r ≡ Managed (management_fields frame) (element_fields elements))
+    × (sender d n r ≡ Some from)
+    × IsPeerOf d n from
+    × ((first : ℕ) (h : List Act) → first_verdict d first n h r
+    ≡ management_verdict d (first + draws h) n h from frame.kind
+    (management_fields frame) (element_fields elements))
+IsJudged d n r (judged.Keyed from message) =
+    (r ≡ Keyed (message_fields message))
+    × (sender d n r ≡ Some from)
+    × IsPeerOf d n from
+    × IsKeyFrame message.frame
+    × ((first : ℕ) (h : List Act) → first_verdict d first n h r
+    ≡ key_verdict d (first + draws h) n h from (message_fields message) message.message)

@@ -1,0 +1,10 @@
+//! Delivered frames as values, read, and judged as far as no history is needed.
+#![tactic(auto)]
+
+mod delivered;
+mod judging;
+mod reading;
+
+pub use delivered::{Delivered, Heard, KeyMessage, Management};
+pub use judging::{Judged, judge};
+pub use reading::read;

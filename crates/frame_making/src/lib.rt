@@ -1,0 +1,11 @@
+//! The frames that nodes send: those of associations, each as the act of sending it, and the
+//! EAPOL-Key frames of the four-way handshake, written into replies.
+#![tactic(auto)]
+
+mod keying;
+mod sending;
+mod writing;
+
+pub use keying::rsne;
+pub use sending::{assoc_req, assoc_resp, refusal};
+pub use writing::{write_m1, write_m2, write_m3, write_m4};

@@ -1,0 +1,4 @@
+use Rattle.frame_script.proofs.events.other_event_of.Goals as goal
+
+pub returns-then-eq-2-clause-can : goal.returns-then-eq-2-clause-can
+returns-then-eq-2-clause-can c = c.retry_line.ensures.can c.args.sizes.now

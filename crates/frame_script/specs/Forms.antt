@@ -1,0 +1,71 @@
+-- The form that a line should have had (this project's choice).
+use Rattle.std.specs.Prelude.{ℕ, ◌==◌, ◌&&◌, if◌then◌else◌, List, length, bytes_eq, codes}
+use Rattle.run_journal.specs.declared.domain.Domain.{Domain}
+use Rattle.frame_script.specs.declared.forms.Form.{Form}
+use Rattle.frame_script.specs.declared.forms.Form.TheVariants.{Version, Seed, Ssid, Key, Passphrase, Psk, Akm, Ap, Sta, Connect, Deliver, Alter, Cut, Inject, Retry, Any, StaOrEvent, Event}
+use Rattle.frame_script.specs.Tokens.{first_word}
+use Rattle.frame_script.specs.Script.{Draft, AtVersion, AtSeed, AtSsid, AtPsk, AtAkm, AtNodes}
+
+-- as it is written: in angles what stands in its place, where digits are hexadecimal and n, place and length are numbers
+abbrev pub form_text : Form → List ℕ
+form_text Version = codes "domain 1"
+form_text Seed = codes "seed <64 digits>"
+form_text Ssid = codes "ssid <1 to 32 octets>"
+form_text Key = codes "passphrase <8 to 63 octets> or psk <64 digits>"
+form_text Passphrase = codes "passphrase <8 to 63 octets>"
+form_text Psk = codes "psk <64 digits>"
+form_text Akm = codes "akm <psk or psk-sha256>"
+form_text Ap = codes "ap <12 digits> <R0KH-ID of 1 to 48 octets>"
+form_text Sta = codes "sta <12 digits>"
+form_text Connect = codes "connect <sta> <ap>"
+form_text Deliver = codes "deliver <n> to <node>"
+form_text Alter = codes "alter <n> <place> <2 digits> to <node>"
+form_text Cut = codes "cut <n> <length> to <node>"
+form_text Inject = codes "inject <node> <digits>"
+form_text Retry = codes "retry <ap> <sta>"
+form_text Any = codes "that of ap, sta, connect, deliver, alter, cut, inject or retry"
+form_text StaOrEvent = codes "that of sta, connect, deliver, alter, cut, inject or retry"
+form_text Event = codes "that of connect, deliver, alter, cut, inject or retry"
+
+-- the line that tells the pre-shared key, by its first word
+abbrev pub key_form : List ℕ → Form
+key_form word =
+    if bytes_eq word (codes "passphrase") then Passphrase
+    else if bytes_eq word (codes "psk") then Psk
+    else Key
+
+-- a line that brings a frame, by its first word
+abbrev pub frame_form : List ℕ → Form → Form
+frame_form word other =
+    if bytes_eq word (codes "deliver") then Deliver
+    else if bytes_eq word (codes "alter") then Alter
+    else if bytes_eq word (codes "cut") then Cut
+    else if bytes_eq word (codes "inject") then Inject
+    else other
+
+-- a line that asks for an event, by its first word
+abbrev pub event_form : List ℕ → Form → Form
+event_form word other =
+    if bytes_eq word (codes "connect") then Connect
+    else if bytes_eq word (codes "retry") then Retry
+    else frame_form word other
+
+-- whatever may stand there: access points are listed before stations, and both before any event
+abbrev pub late_form : Domain → ℕ → Form
+late_form d rounds = if rounds == 0 then (if length d.stas == 0 then Any else StaOrEvent) else Event
+
+-- a line behind the header, by its first word; a word that may not stand there has the form of those that may
+abbrev pub body_form : Domain → ℕ → List ℕ → Form
+body_form d rounds word =
+    if bytes_eq word (codes "ap") then (if length d.stas == 0 && rounds == 0 then Ap else late_form d rounds)
+    else if bytes_eq word (codes "sta") then (if rounds == 0 then Sta else late_form d rounds)
+    else event_form word (late_form d rounds)
+
+-- after a script has said so much, when so many rounds were run
+abbrev pub form_of : Draft → ℕ → List ℕ → Form
+form_of AtVersion rounds line = Version
+form_of AtSeed rounds line = Seed
+form_of (AtSsid seed) rounds line = Ssid
+form_of (AtPsk seed ssid) rounds line = key_form (first_word line).0
+form_of (AtAkm seed ssid psk) rounds line = Akm
+form_of (AtNodes d) rounds line = body_form d rounds (first_word line).0

@@ -1,0 +1,2 @@
+pub mod EndsKeys
+pub mod Grown

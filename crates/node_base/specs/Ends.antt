@@ -1,0 +1,13 @@
+-- The two ends of a pairwise key (this project's choice).
+use Rattle.std.specs.Prelude.{◌≡◌}
+use Rattle.domain_base.specs.declared.names.Node.{Node}
+use Rattle.run_journal.specs.declared.domain.Domain.{Domain}
+use Rattle.domain_rules.specs.Network.{mac, direction}
+use Rattle.node_base.specs.declared.ends.Ends.{Ends}
+
+-- they are those of node n with its peer p
+pub record AreEnds (d : Domain) (n p : Node) (l : Ends) : Type 0 where
+  pub akm : l.akm ≡ d.akm
+  pub direction_is : l.direction ≡ direction n
+  pub own : l.own ≡ mac d n
+  pub peer : l.peer ≡ mac d p

@@ -1,0 +1,45 @@
+-- Events at nodes, and what one step of a node does (this project's choice).
+use Rattle.std.specs.Prelude.{◌≡◌, ℕ, ◌<◌, List, ◌++◌, length}
+use Rattle.domain_base.specs.declared.names.Node.{Node}
+use Rattle.domain_base.specs.declared.names.Node.TheVariants.{Ap, Sta}
+use Rattle.run_journal.specs.declared.domain.Domain.{Domain}
+use Rattle.run_journal.specs.declared.acts.Act.{Act}
+use Rattle.run_journal.specs.declared.acts.Outcome.{Outcome}
+use Rattle.run_journal.specs.Questions.{add}
+use Rattle.domain_rules.specs.Rows.{NodeEvent as AnyEvent, Take, Begin, Retry, Adds, outcome_of}
+use Rattle.domain_rules.specs.Here.{Here}
+use Rattle.node_base.specs.declared.event.NodeEvent.{NodeEvent}
+use Rattle.node_base.specs.declared.event.NodeEvent.TheVariants as event
+
+abbrev pub event_of : NodeEvent → AnyEvent
+event_of (event.Take octets) = Take octets.now
+event_of (event.Connect a) = Begin a
+event_of (event.Retry s) = Retry s
+
+-- the other node is listed; stations begin attempts, and access points send once more
+abbrev pub IsEventAt : Domain → Node → AnyEvent → Type 0
+IsEventAt d n (Take octets) = Unit {0}
+IsEventAt d (Ap k) (Begin a) = ⊥
+IsEventAt d (Sta k) (Begin a) = a < length d.aps
+IsEventAt d (Ap k) (Retry s) = s < length d.stas
+IsEventAt d (Sta k) (Retry s) = ⊥
+
+-- what is seen of a step: the acts that waited before it, those that wait after it, and what came
+-- of the event
+pub record Seen : Type 0 where
+  pub waited : List Act
+  pub waits : List Act
+  pub outcome : Outcome
+
+abbrev pub seen : List Act → List Act → Outcome → Seen
+seen waited waits outcome = record { waited = waited; waits = waits; outcome = outcome }
+
+-- A node that stands for its history h is taken by the event to one that stands for the history
+-- with these acts, which are put behind those that waited.
+pub record Steps (w : Here) (event : AnyEvent) (Stands : List Act → Type 0) (h : List Act)
+    (s : Seen) : Type 0 where
+  pub acts : List Act
+  pub adds : Adds w h event acts
+  pub waiting : s.waits ≡ s.waited ++ acts
+  pub came : s.outcome ≡ outcome_of acts
+  pub stands : Stands (add acts h)

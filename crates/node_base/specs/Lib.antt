@@ -1,0 +1,5 @@
+pub mod Peers
+pub mod Events
+pub mod Growing
+pub mod Ends
+pub mod PairwiseKeys

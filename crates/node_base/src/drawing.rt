@@ -1,0 +1,91 @@
+//! What nodes draw, and what their keys are made of.
+
+ghost use Rattle.std.specs.Prelude.{◌≡◌, ◌≤◌, ◌++◌, IfOk, length};
+ghost use Rattle.std.specs.Int.{w64, to_be_bytes};
+ghost use Rattle.mac_prf.specs.Prf.{kdf};
+ghost use Rattle.domain_rules.specs.Network.{IsListed, address, nonce, gtk, inputs, root};
+ghost use Rattle.node_base.specs.Peers.{IsPeerOf};
+
+use crate::here::Here;
+use crate::network::address;
+use domain_base::{NoMemory, Node, Octets, put};
+use key_hierarchy::Inputs;
+use mac_prf::kdf;
+use run_journal::Domain;
+
+/// The number of the draw from which on a node draws no more: 2^60.
+pub const DRAW_END: u64 = 1 << 60;
+
+// The octets that a node draws by that number under a label.
+fn draw(domain: &Domain, node: Node, number: u64, label: &[u8], out: &mut [u8])
+    requires listed { IsListed domain.now node }
+    requires few { length out.old ≤ 32 }
+    ensures { out.new ≡ kdf domain.now.seed label.now
+        (address domain.now node ++ to_be_bytes w64 number) (length out.old) }
+{
+    let address = address(domain, node);
+    let mut context = [0; 14];
+    let at = put(&mut context, 0, &address.0);
+    put(&mut context, at, &number.to_be_bytes());
+    kdf(&domain.seed, label, &context, out);
+}
+
+/// The value of that number that a node draws, from 0, as a nonce.
+#[tactic(auto, unfolding(domain_rules::specs::Network::nonce))]
+pub fn nonce(domain: &Domain, node: Node, number: u64) -> [u8; 32]
+    requires { IsListed domain.now node }
+    ensures { result ≡ nonce domain.now node number }
+{
+    let mut value = [0; 32];
+    draw(domain, node, number, b"Init Counter", &mut value);
+    value
+}
+
+/// The value of that number that an access point draws, from 0, as a group key.
+#[tactic(auto, unfolding(domain_rules::specs::Network::gtk))]
+pub fn gtk(domain: &Domain, node: Node, number: u64) -> [u8; 16]
+    requires { IsListed domain.now node }
+    ensures { result ≡ gtk domain.now node number }
+{
+    let mut value = [0; 16];
+    draw(domain, node, number, b"Group key expansion", &mut value);
+    value
+}
+
+/// What the pairwise key of a node with its peer is made of, by its own nonce and the other's, with
+/// suites 2 and 6.
+pub fn pairwise_inputs(
+    here: Here<'_>,
+    peer: Node,
+    own: &[u8; 32],
+    other: &[u8; 32],
+) -> Result<Inputs, NoMemory>
+    requires listed { IsListed here.domain.now here.node }
+    requires peer { IsPeerOf here.domain.now here.node peer }
+    ensures { IfOk result (λ i. let d = here.entry.domain.now
+        in i ≡ inputs d (root d) here.entry.node peer own.now other.now) }
+{
+    let Here {
+        alloc,
+        domain,
+        node,
+    } = here;
+    let ssid = Vec::from_slice(alloc, domain.ssid.as_slice())?;
+    let own_address = address(domain, node);
+    let peer_address = address(domain, peer);
+    let (aa, spa, anonce, snonce) = match node {
+        Node::Ap(_) => (own_address, peer_address, *own, *other),
+        Node::Sta(_) => (peer_address, own_address, *other, *own),
+    };
+    Ok(Inputs {
+        akm: domain.akm,
+        psk: domain.psk,
+        ssid: Octets(ssid),
+        mdid: [0, 0],
+        r0kh_id: Octets(Vec::new(alloc)),
+        aa,
+        spa,
+        anonce,
+        snonce,
+    })
+}

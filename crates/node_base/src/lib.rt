@@ -1,0 +1,20 @@
+//! What both kinds of nodes stand on: where a node stands, the nodes of a network by number and by
+//! address, the two ends of a pairwise key, what nodes draw and what their keys are made of, what
+//! an event is to a node, and the suites of an RSNE.
+#![tactic(auto)]
+
+mod drawing;
+mod ends;
+mod event;
+mod here;
+mod network;
+mod pairwise;
+mod suites;
+
+pub use drawing::{DRAW_END, gtk, nonce, pairwise_inputs};
+pub use ends::{Ends, direction};
+pub use event::NodeEvent;
+pub use here::Here;
+pub use network::{address, peer_of};
+pub use pairwise::pairwise_key;
+pub use suites::{is_same_rsne, rsne_status};

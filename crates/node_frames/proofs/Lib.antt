@@ -1,5 +1,0 @@
-pub mod FramesBetween
-pub mod EndsKeys
-pub mod RepliedActs
-pub mod Grown
-pub mod Returning

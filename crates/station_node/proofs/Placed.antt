@@ -1,0 +1,181 @@
+-- A message handed to the supplicant in a slot of a station, by what its code gave.
+use Rattle.std.proofs.Common.{◌≡◌, ℕ, ◌<◌, ◌≤◌, Bool, true, false, List, [], ◌∷◌, ◌++◌, length, Option, Some, None, refl, sym, ap, subst, ◌∙◌, arith}
+use Rattle.std.specs.Prelude.{Result, Ok, Err, IsErr, IfOk, OnOk, OnErr, slice_index_or, slice_set}
+use Rattle.std.proofs.lemmas.List.{set-get_or, get_or_default, length-set}
+use Rattle.domain_base.specs.declared.names.Node.TheVariants.{Ap, Sta}
+use Rattle.run_journal.specs.declared.domain.Domain.{Domain}
+use Rattle.run_journal.specs.declared.acts.Kind.TheVariants as kind
+use Rattle.run_journal.specs.declared.acts.Reason.TheVariants as reason
+use Rattle.run_journal.specs.declared.acts.Outcome.{Outcome}
+use Rattle.run_journal.specs.declared.acts.Outcome.TheVariants.{Refused}
+use Rattle.run_journal.specs.declared.acts.Act.{Act}
+use Rattle.run_journal.specs.declared.acts.Act.TheVariants.{Took}
+use Rattle.domain_rules.specs.Replies.{IsMessageFrom, pair}
+use Rattle.domain_rules.specs.Rows.{NodeEvent, Take}
+use Rattle.group_key.specs.Keys.{Kept}
+use Rattle.frame_intake.specs.declared.delivered.Heard.{Heard}
+use Rattle.frame_intake.specs.Views.{message_fields}
+use Rattle.supplicant.specs.State.{State as Supplicant, both}
+use Rattle.station_node.specs.declared.attempt.Attempt.{Attempt}
+use Rattle.station_node.specs.declared.attempt.Association.{Association}
+use Rattle.station_node.specs.declared.attempt.Association.TheVariants.{Requested, Accepted}
+use Rattle.station_node.specs.declared.session.Session.{Session}
+use Rattle.station_node.specs.declared.handing.Came.{Came}
+use Rattle.station_node.specs.State.{State, memory_at, HasPlace, HasPlaceTried, HasPlaceHeld, HavePlaces}
+use Rattle.station_node.specs.Parts.{peer_of_attempt, peer_of_session, IsElsewhere}
+use Rattle.station_node.specs.Steps.{IsTaken, Turn, turn, Takes}
+use Rattle.station_node.specs.Handed.{handing, IsHanded}
+use Rattle.station_node.proofs.Handed.{tried_state, held_state}
+use Rattle.station_node.proofs.Standing.{nobody, not_here}
+use Rattle.station_node.proofs.Taken.{takes_by, taken-nowhere, handed_by, taken-tried, taken-finished, taken-held}
+
+-- ---- places
+
+place_stays : (a : ℕ) (x : Association) (had has : List (List Kept)) → length had ≤ length has → HasPlace a x had → HasPlace a x has
+place_stays a (Requested v) had has more place = tt
+place_stays a (Accepted s) had has more place = omega (arith, more, place)
+
+tried_stays : (o : Option Attempt) (had has : List (List Kept)) → length had ≤ length has → HasPlaceTried o had → HasPlaceTried o has
+tried_stays None had has more place = tt
+tried_stays (Some a) had has more place = place_stays a.ap a.association had has more place
+
+pub held_stays : (o : Option Session) (had has : List (List Kept)) → length had ≤ length has → HasPlaceHeld o had → HasPlaceHeld o has
+held_stays None had has more place = tt
+held_stays (Some x) had has more place = omega (arith, more, place)
+
+same_length : (xs : List (List Kept)) (i : ℕ) (ks : List Kept) → length xs ≤ length (slice_set xs i ks)
+same_length xs i ks = omega (arith, length-set xs i ks)
+
+-- of the attempt whose supplicant took a message
+accepted_place : (o : Option Attempt) (a : Attempt) (old : Supplicant) (memories : List (List Kept)) → o ≡ Some a → a.association ≡ Accepted old → HasPlaceTried o memories → a.ap < length memories
+accepted_place o a old memories is has place = subst (λ (x : Association). HasPlace a.ap x memories) has (subst (λ (y : Option Attempt). HasPlaceTried y memories) is place)
+
+pub tried_places : (o : Option Attempt) (x : Option Session) (a : Attempt) (old new : Supplicant) (memories : List (List Kept)) (i : ℕ) (ks : List Kept) → o ≡ Some a → a.association ≡ Accepted old → HavePlaces o x memories
+    → HavePlaces (Some (record { ap = a.ap; association = Accepted new })) x (slice_set memories i ks)
+tried_places o x a old new memories i ks is has places =
+    let more = same_length memories i ks in
+    let low = accepted_place o a old memories is has places.tried in
+    record { tried = omega (arith, more, low); held = held_stays x memories (slice_set memories i ks) more places.held }
+
+pub finished_places : (o b : Option Attempt) (x y : Option Session) (a : Attempt) (old new : Supplicant) (memories : List (List Kept)) (i : ℕ) (ks : List Kept) → o ≡ Some a → a.association ≡ Accepted old → HavePlaces o x memories
+    → b ≡ None → y ≡ Some (record { ap = a.ap; supplicant = new }) → HavePlaces b y (slice_set memories i ks)
+finished_places o b x y a old new memories i ks is has places none there =
+    let more = same_length memories i ks in
+    let low = accepted_place o a old memories is has places.tried in
+    record {
+      tried = subst (λ (z : Option Attempt). HasPlaceTried z (slice_set memories i ks)) (sym none) tt;
+      held = subst (λ (z : Option Session). HasPlaceHeld z (slice_set memories i ks)) (sym there) (omega (arith, more, low));
+    }
+
+-- and of such a session
+held_place : (o : Option Session) (x : Session) (memories : List (List Kept)) → o ≡ Some x → HasPlaceHeld o memories → x.ap < length memories
+held_place o x memories is place = subst (λ (y : Option Session). HasPlaceHeld y memories) is place
+
+pub held_places : (o : Option Attempt) (s : Option Session) (x : Session) (new : Supplicant) (memories : List (List Kept)) (i : ℕ) (ks : List Kept) → s ≡ Some x → HavePlaces o s memories
+    → HavePlaces o (Some (record { ap = x.ap; supplicant = new })) (slice_set memories i ks)
+held_places o s x new memories i ks is places =
+    let more = same_length memories i ks in
+    let low = held_place s x memories is places.held in
+    record { tried = tried_stays o memories (slice_set memories i ks) more places.tried; held = omega (arith, more, low) }
+
+-- ---- without memory
+
+not_err : ◌≡◌ {A = Bool} false true → ⊥
+not_err is = cc
+
+pub takes_nothing : {E : Type 0} (d : Domain) (event : NodeEvent) (t : Turn) (r : Result Outcome E) → IsErr r → t.new ≡ t.old → t.waits ≡ t.waited → Takes d event t r
+takes_nothing d event t (Ok o) err same kept = absurd (not_err err)
+takes_nothing d event t (Err e) err same kept = (same, kept)
+
+same_memories : (memories : List (List Kept)) (i : ℕ) (had has : List Kept) → has ≡ had → had ≡ slice_index_or memories i had → slice_set memories i has ≡ memories
+same_memories memories i had has same value = ap (slice_set memories i) (same ∙ value) ∙ set-get_or memories i had
+
+pub left-tried : (s : State) (a : Attempt) (i : ℕ) (old new : Supplicant) (had has : List Kept) → s.attempt ≡ Some a → a.association ≡ Accepted old → new ≡ old → has ≡ had → had ≡ slice_index_or s.memories i had
+    → tried_state s a.ap new (slice_set s.memories i has) ≡ s
+left-tried s a i old new had has is there same kept value =
+    ap (λ (y : Supplicant). tried_state s a.ap y (slice_set s.memories i has)) same
+    ∙ ap (tried_state s a.ap old) (same_memories s.memories i had has kept value)
+    ∙ ap (λ (x : Association). record { number = s.number; drawn = s.drawn; attempt = Some (record { ap = a.ap; association = x }); session = s.session; memories = s.memories }) (sym there)
+    ∙ ap (λ (o : Option Attempt). record { number = s.number; drawn = s.drawn; attempt = o; session = s.session; memories = s.memories }) (sym is)
+
+pub left-held : (s : State) (x : Session) (i : ℕ) (old new : Supplicant) (had has : List Kept) → s.session ≡ Some x → x.supplicant ≡ old → new ≡ old → has ≡ had → had ≡ slice_index_or s.memories i had
+    → held_state s x.ap new (slice_set s.memories i has) ≡ s
+left-held s x i old new had has is there same kept value =
+    ap (λ (y : Supplicant). held_state s x.ap y (slice_set s.memories i has)) (same ∙ sym there)
+    ∙ ap (held_state s x.ap x.supplicant) (same_memories s.memories i had has kept value)
+    ∙ ap (λ (o : Option Session). record { number = s.number; drawn = s.drawn; attempt = s.attempt; session = o; memories = s.memories }) (sym is)
+
+-- ---- with it
+
+-- where the supplicant is, and its group keys
+pub whole_attempt : (a : Attempt) (p : ℕ) (x : Association) → a.ap ≡ p → a.association ≡ x → Some a ≡ Some (record { ap = p; association = x })
+whole_attempt a p x here there = ap (λ (q : ℕ). Some (record { ap = q; association = a.association })) here ∙ ap (λ (y : Association). Some (record { ap = p; association = y })) there
+
+whole_session : (x : Session) (p : ℕ) (old : Supplicant) → x.ap ≡ p → x.supplicant ≡ old → Some x ≡ Some (record { ap = p; supplicant = old })
+whole_session x p old here there = ap (λ (q : ℕ). Some (record { ap = q; supplicant = x.supplicant })) here ∙ ap (λ (y : Supplicant). Some (record { ap = p; supplicant = y })) there
+
+kept_there : (memories : List (List Kept)) (i p : ℕ) (had : List Kept) → i ≡ p → p < length memories → had ≡ slice_index_or memories i had → had ≡ memory_at memories p
+kept_there memories i p had i_is low value = value ∙ ap (λ (j : ℕ). slice_index_or memories j had) i_is ∙ get_or_default memories p had [] low
+
+-- the message is for the supplicant with access point p, whose group keys stand at place i
+pub record IsFor (d : Domain) (s : State) (p i : ℕ) (m : Heard) (had : List Kept) : Type 0 where
+  pub from : IsMessageFrom d (Sta s.number) (Ap p) m.octets.now (message_fields m.message)
+  pub place_is : i ≡ p
+  pub value : had ≡ slice_index_or s.memories i had
+
+pub handed-tried : (d : Domain) (s : State) (a : Attempt) (p i : ℕ) (m : Heard) (old new : Supplicant) (had has : List Kept) (waited waits : List Act) (came : Came) → s.attempt ≡ Some a → a.ap ≡ p → a.association ≡ Accepted old
+    → HasPlaceTried s.attempt s.memories → IsFor d s p i m had → IsHanded (pair d (Sta s.number) (Ap p)) m (handing (both old had) (both new has) waited waits) came → came.is_finished ≡ false
+    → IsTaken d (Take m.octets.now) (turn s (tried_state s a.ap new (slice_set s.memories i has)) waited waits) came.outcome
+handed-tried d s a p i m old new had has waited waits came is here there place b x goes_on =
+    let low : p < length s.memories = subst (λ (q : ℕ). q < length s.memories) here (accepted_place s.attempt a old s.memories is there place) in
+    subst (λ (q : ℕ). IsTaken d (Take m.octets.now) (turn s (tried_state s q new (slice_set s.memories i has)) waited waits) came.outcome) (sym here)
+    (subst (λ (j : ℕ). IsTaken d (Take m.octets.now) (turn s (tried_state s p new (slice_set s.memories j has)) waited waits) came.outcome) (sym b.place_is)
+    (taken-tried d s p m (slice_set s.memories p has) (handing (both old had) (both new has) waited waits) came (is ∙ whole_attempt a p (Accepted old) here there)
+    (handed_by d s p m had has old new waited waits b.from low (kept_there s.memories i p had b.place_is low b.value)) x goes_on))
+
+pub handed-finished : (d : Domain) (s : State) (a : Attempt) (b : Option Attempt) (y : Option Session) (p i : ℕ) (m : Heard) (old new : Supplicant) (had has : List Kept) (waited waits : List Act) (came : Came) → s.attempt ≡ Some a → a.ap ≡ p → a.association ≡ Accepted old
+    → HasPlaceTried s.attempt s.memories → IsFor d s p i m had → IsHanded (pair d (Sta s.number) (Ap p)) m (handing (both old had) (both new has) waited waits) came → came.is_finished ≡ true
+    → b ≡ None → y ≡ Some (record { ap = a.ap; supplicant = new })
+    → IsTaken d (Take m.octets.now) (turn s (record { number = s.number; drawn = s.drawn; attempt = b; session = y; memories = slice_set s.memories i has }) waited waits) came.outcome
+handed-finished d s a b y p i m old new had has waited waits came is here there place f x done none one =
+    let low : p < length s.memories = subst (λ (q : ℕ). q < length s.memories) here (accepted_place s.attempt a old s.memories is there place) in
+    let new_state : Option Attempt → Option Session → ℕ → State = λ o z j. record { number = s.number; drawn = s.drawn; attempt = o; session = z; memories = slice_set s.memories j has } in
+    subst (λ (o : Option Attempt). IsTaken d (Take m.octets.now) (turn s (new_state o y i) waited waits) came.outcome) (sym none)
+    (subst (λ (z : Option Session). IsTaken d (Take m.octets.now) (turn s (new_state None z i) waited waits) came.outcome) (sym (one ∙ ap (λ (q : ℕ). Some (record { ap = q; supplicant = new })) here))
+    (subst (λ (j : ℕ). IsTaken d (Take m.octets.now) (turn s (new_state None (Some (record { ap = p; supplicant = new })) j) waited waits) came.outcome) (sym f.place_is)
+    (taken-finished d s p m (slice_set s.memories p has) (handing (both old had) (both new has) waited waits) came (is ∙ whole_attempt a p (Accepted old) here there)
+    (handed_by d s p m had has old new waited waits f.from low (kept_there s.memories i p had f.place_is low f.value)) x done)))
+
+pub handed-held : (d : Domain) (s : State) (z : Session) (p i : ℕ) (m : Heard) (old new : Supplicant) (had has : List Kept) (waited waits : List Act) (came : Came) → s.session ≡ Some z → z.ap ≡ p → z.supplicant ≡ old
+    → HasPlaceHeld s.session s.memories → IsFor d s p i m had → IsHanded (pair d (Sta s.number) (Ap p)) m (handing (both old had) (both new has) waited waits) came
+    → IsTaken d (Take m.octets.now) (turn s (held_state s z.ap new (slice_set s.memories i has)) waited waits) came.outcome
+handed-held d s z p i m old new had has waited waits came is here there place b x =
+    let low : p < length s.memories = subst (λ (q : ℕ). q < length s.memories) here (held_place s.session z s.memories is place) in
+    subst (λ (q : ℕ). IsTaken d (Take m.octets.now) (turn s (held_state s q new (slice_set s.memories i has)) waited waits) came.outcome) (sym here)
+    (subst (λ (j : ℕ). IsTaken d (Take m.octets.now) (turn s (held_state s p new (slice_set s.memories j has)) waited waits) came.outcome) (sym b.place_is)
+    (taken-held d s p m (slice_set s.memories p has) (handing (both old had) (both new has) waited waits) came (is ∙ whole_session z p old here there)
+    (handed_by d s p m had has old new waited waits b.from low (kept_there s.memories i p had b.place_is low b.value)) x))
+
+-- ---- where there is nothing with the access point
+
+pub no_attempt_there : (o : Option Attempt) (p : ℕ) → o ≡ None → IsElsewhere (peer_of_attempt o) p
+no_attempt_there o p none = nobody (peer_of_attempt o) p (ap peer_of_attempt none)
+
+pub no_session_there : (o : Option Session) (p : ℕ) → o ≡ None → IsElsewhere (peer_of_session o) p
+no_session_there o p none = nobody (peer_of_session o) p (ap peer_of_session none)
+
+pub other_session : (o : Option Session) (x : Session) (p : ℕ) → o ≡ Some x → (x.ap ≡ p → ⊥) → IsElsewhere (peer_of_session o) p
+other_session o x p is other = subst (λ (y : Option Session). IsElsewhere (peer_of_session y) p) (sym is) (not_here x.ap p other)
+
+pub refused-nowhere : {E : Type 0} (d : Domain) (s self : State) (p : ℕ) (m : Heard) (waited waits : List Act) (r : Result Outcome E) → self ≡ s → IsMessageFrom d (Sta s.number) (Ap p) m.octets.now (message_fields m.message)
+    → IsElsewhere (peer_of_attempt s.attempt) p → IsElsewhere (peer_of_session s.session) p
+    → IfOk r (λ came. came ≡ Refused reason.Unawaited) → OnOk r (waits ≡ waited ++ Took (Some (Ap p)) m.octets.now (kind.Key m.message.message) (Refused reason.Unawaited) None ∷ []) → OnErr r (waits ≡ waited)
+    → Takes d (Take m.octets.now) (turn s self waited waits) r
+refused-nowhere d s self p m waited waits r same from tried held outcome acts kept =
+    subst (λ (t : State). Takes d (Take m.octets.now) (turn s t waited waits) r) (sym same)
+    (takes_by d (Take m.octets.now) (turn s s waited waits) r (Refused reason.Unawaited) _ outcome acts kept refl
+    (λ is. taken-nowhere d s p m.octets.now (message_fields m.message) waited waits from tried held is))
+
+-- what a later call does to the same station
+pub takes_same_old : {E : Type 0} (d : Domain) (event : NodeEvent) (s self new : State) (waited waits : List Act) (r : Result Outcome E) → self ≡ s → Takes d event (turn self new waited waits) r → Takes d event (turn s new waited waits) r
+takes_same_old d event s self new waited waits r same taken = subst (λ (t : State). Takes d event (turn t new waited waits) r) same taken

@@ -1,0 +1,24 @@
+use Rattle.std.proofs.Common.{false, List, ap, ◌∙◌, ◌++◌}
+use Rattle.domain_base.specs.declared.names.Node.TheVariants.{Ap}
+use Rattle.run_journal.specs.declared.acts.Act.{Act}
+use Rattle.domain_rules.specs.Replies.{reply_acts, pair, taken_as}
+use Rattle.frame_intake.specs.Views.{message_fields}
+use Rattle.act_memory.proofs.RepliedActs.{nothing_between}
+use Rattle.station_node.proofs.handing.hand.Goals as goal
+
+pub returns-clause-handed : goal.returns-clause-handed
+returns-clause-handed c =
+    let d = c.args.here.domain.now in
+    let n = c.args.here.node in
+    let octets = c.args.heard.now.octets.now in
+    let k = message_fields c.args.heard.now.message in
+    let outcome = c.step-outcome.result in
+    let reply = c.step-outcome.new.reply in
+    record {
+      reply = reply;
+      acts = c.add_reply.ensures.acts d n (Ap c.args.ap) octets k c.in_ok-room.ensures
+          ∙ ap (λ (l : List Act). c.reserve.new.self.acts ++ l) (nothing_between d n (Ap c.args.ap) false octets k outcome reply c.nothing-between.result c.nothing-between.ensures.opened c.nothing-between.ensures.put)
+          ∙ ap (λ (l : List Act). l ++ reply_acts (pair d n (Ap c.args.ap)) false (taken_as octets k outcome) reply) c.in_ok-reserve.ensures.acts;
+      taken = c.step-outcome.ensures;
+      finished = c.is_some.ensures;
+    }

@@ -1,0 +1,59 @@
+use Rattle.std.proofs.Common.{◌≡◌, Option, refl, sym, ap, subst, ◌∙◌}
+use Rattle.domain_base.specs.declared.names.Node.{Node}
+use Rattle.domain_base.specs.declared.names.Node.TheVariants.{Ap, Sta}
+use Rattle.domain_rules.specs.Replies.{IsMessageFrom, pair}
+use Rattle.domain_rules.specs.Rows.{Take}
+use Rattle.std.specs.Prelude.{slice_set}
+use Rattle.frame_intake.specs.Views.{message_fields}
+use Rattle.supplicant.specs.State.{both}
+use Rattle.station_node.specs.declared.session.Session.{Session}
+use Rattle.station_node.specs.State.{State}
+use Rattle.station_node.specs.Parts.{peer_of_session, IsElsewhere}
+use Rattle.station_node.specs.Steps.{IsTaken, Takes, turn}
+use Rattle.station_node.specs.Handed.{IsHanded, handing}
+use Rattle.station_node.specs.contracts.station.StationNode.{the_view}
+use Rattle.station_node.proofs.Handed.{held_state}
+use Rattle.station_node.proofs.Placed.{takes_nothing, left-held, held_places, handed-held, no_session_there, other_session, refused-nowhere}
+use Rattle.station_node.proofs.station.StationNode.take_in_session.Goals.{in_default-via-in-Some+else-with-ap, in_default-via-in_default}
+use Rattle.station_node.proofs.station.StationNode.take_in_session.Goals as goal
+
+pub returns-in_err-came-in-Some : goal.returns-in_err-came-in-Some
+returns-in_err-came-in-Some c =
+    let s = the_view c.self.inside in
+    let same = c.in_err-came-in-Some.ensures.same in
+    takes_nothing c.args.here.domain.now (Take c.args.heard.now.octets.now) (turn c.args.self.now (held_state s c.in-Some.field-0.ap c.hand.new.supplicant (slice_set s.memories c.from.result c.hand.new.memory)) c.args.out.now.acts c.hand.new.out.acts) c.from_residual.result c.from_residual.ensures.0
+    (left-held s c.in-Some.field-0 c.from.result c.in-Some.field-0.supplicant c.hand.new.supplicant c.index_mut-kept.result.now c.hand.new.memory c.in-Some.is refl same.0 same.1 c.index_mut-kept.ensures.value ∙ c.self.view_is)
+    c.in_err-came-in-Some.ensures.kept
+
+pub invariant_of-self-then-with-ap : goal.invariant_of-self-then-with-ap
+invariant_of-self-then-with-ap c =
+    held_places c.self.inside.attempt c.self.inside.session c.in-Some.field-0 c.hand.new.supplicant c.self.inside.memories.items c.from.result c.hand.new.memory c.in-Some.is c.self.invariant
+
+pub returns-in_ok-came-in-Some : goal.returns-in_ok-came-in-Some
+returns-in_ok-came-in-Some c =
+    let d = c.args.here.domain.now in
+    let s = the_view c.self.inside in
+    let m = c.args.heard.now in
+    let had = c.index_mut-kept.result.now in
+    let memories = slice_set s.memories c.from.result c.hand.new.memory in
+    let t = handing (both c.in-Some.field-0.supplicant had) (both c.hand.new.supplicant c.hand.new.memory) c.args.out.now.acts c.hand.new.out.acts in
+    let node_is : c.args.here.node ≡ Sta s.number = c.requires.node ∙ ap (λ (y : State). Sta y.number) (sym c.self.view_is) in
+    subst (λ (y : State). IsTaken d (Take m.octets.now) (turn y (held_state s c.in-Some.field-0.ap c.hand.new.supplicant memories) c.args.out.now.acts c.hand.new.out.acts) c.in_ok-came-in-Some.came.outcome) c.self.view_is
+    (handed-held d s c.in-Some.field-0 c.args.ap c.from.result m c.in-Some.field-0.supplicant c.hand.new.supplicant had c.hand.new.memory c.args.out.now.acts c.hand.new.out.acts c.in_ok-came-in-Some.came c.in-Some.is c.if-with-ap.true refl c.self.invariant.held
+    (record { from = subst (λ (y : State). IsMessageFrom d (Sta y.number) (Ap c.args.ap) m.octets.now (message_fields m.message)) (sym c.self.view_is) c.requires.message; place_is = c.from.ensures; value = c.index_mut-kept.ensures.value })
+    (subst (λ (n : Node). IsHanded (pair d n (Ap c.args.ap)) m t c.in_ok-came-in-Some.came) node_is c.in_ok-came-in-Some.ensures.handed))
+
+-- the station as it was, for one with that session
+abbrev as_was : (c : goal.After-refuse_message) → Option Session → State
+as_was c o = the_view (record { number = c.self.inside.number; drawn = c.self.inside.drawn; attempt = c.self.inside.attempt; session = o; memories = c.self.inside.memories })
+
+nowhere : (c : goal.After-refuse_message) → c.in_default.self ≡ c.args.self.now → IsElsewhere (peer_of_session c.self.inside.session) c.args.ap → Takes c.args.here.domain.now (Take c.args.heard.now.octets.now) (turn c.args.self.now c.in_default.self c.args.out.now.acts c.refuse_message.new.out.acts) c.refuse_message.result
+nowhere c same held =
+    refused-nowhere c.args.here.domain.now c.args.self.now c.in_default.self c.args.ap c.args.heard.now c.args.out.now.acts c.refuse_message.new.out.acts c.refuse_message.result same c.requires.message c.requires.elsewhere
+    (subst (λ (t : State). IsElsewhere (peer_of_session t.session) c.args.ap) c.self.view_is held) c.refuse_message.ensures.outcome c.refuse_message.ensures.acts c.refuse_message.ensures.kept
+
+pub returns-in_default : goal.returns-in_default
+returns-in_default c = elim c.in_default.branch [
+  | in_default-via-in-Some+else-with-ap w ↦ nowhere c (w.self-is ∙ ap (as_was c) (sym w.in-Some.is) ∙ c.self.view_is) (other_session c.self.inside.session w.in-Some.field-0 c.args.ap w.in-Some.is w.if-with-ap.false)
+  | in_default-via-in_default w ↦ nowhere c (w.self-is ∙ c.self.view_is) (no_session_there c.self.inside.session c.args.ap w.in_default.is)
+]

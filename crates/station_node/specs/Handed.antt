@@ -1,0 +1,28 @@
+-- A message handed to the supplicant of an attempt or of a session (this project's choice).
+use Rattle.std.specs.Prelude.{◌≡◌, false, List, ◌++◌, is_some}
+use Rattle.run_journal.specs.declared.acts.Act.{Act}
+use Rattle.run_journal.specs.declared.reply.Reply.{Reply}
+use Rattle.domain_rules.specs.Replies.{Pair, reply_acts, taken_as}
+use Rattle.frame_intake.specs.declared.delivered.Heard.{Heard}
+use Rattle.frame_intake.specs.Views.{message_fields}
+use Rattle.supplicant.specs.State.{Both}
+use Rattle.supplicant.specs.Taken.{IsTaken as IsTakenBySupplicant}
+use Rattle.station_node.specs.declared.handing.Came.{Came}
+
+-- the supplicant and the group keys before and behind it, and the acts that waited then
+pub record Handing : Type 0 where
+  pub old : Both
+  pub new : Both
+  pub waited : List Act
+  pub waits : List Act
+
+abbrev pub handing : Both → Both → List Act → List Act → Handing
+handing old new waited waits = record { old = old; new = new; waited = waited; waits = waits }
+
+-- the acts are those of the supplicant's reply, and an installed key makes an attempt a session
+pub record IsHanded (w : Pair) (m : Heard) (t : Handing) (came : Came) : Type 0 where
+  pub reply : Reply
+  pub acts : t.waits ≡ t.waited
+      ++ reply_acts w false (taken_as m.octets.now (message_fields m.message) came.outcome) reply
+  pub taken : IsTakenBySupplicant m.message.message m.message.frame t.old t.new came.outcome reply
+  pub finished : came.is_finished ≡ is_some reply.installed

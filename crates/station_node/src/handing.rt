@@ -1,0 +1,60 @@
+//! A message handed to a supplicant.
+
+ghost use Rattle.std.specs.Prelude.{◌≡◌, ◌<◌, length, IfOk, OnErr};
+ghost use Rattle.domain_base.specs.declared.names.Node.TheVariants.{Ap};
+ghost use Rattle.eapol_key.specs.Fields.{IsKeyFrame};
+ghost use Rattle.domain_rules.specs.Network.{IsListed};
+ghost use Rattle.domain_rules.specs.Replies.{pair};
+ghost use Rattle.node_base.specs.Peers.{IsPeerOf};
+ghost use Rattle.supplicant.specs.State.{both};
+ghost use Rattle.station_node.specs.Handed.{IsHanded, handing};
+
+use act_memory::{Between, Outbox, Room};
+use domain_base::{NoMemory, Node};
+use frame_intake::Heard;
+use group_key::GroupMemory;
+use node_base::Here;
+use run_journal::{Outcome, Reply};
+use supplicant::Supplicant;
+
+/// What came of a message.
+#[derive(Clone, Copy)]
+pub struct Came {
+    /// What came of it.
+    pub outcome: Outcome,
+    /// Whether it made an attempt a session.
+    pub is_finished: bool,
+}
+
+/// Hands a message of that access point to the supplicant of the station with it, and to the group
+/// keys that are kept of it.
+pub fn hand(
+    here: Here<'_>,
+    ap: u16,
+    heard: &Heard<'_>,
+    supplicant: &mut Supplicant,
+    memory: &mut GroupMemory,
+    out: &mut Outbox,
+) -> Result<Came, NoMemory>
+    requires listed { IsListed here.domain.now here.node }
+    requires peer { IsPeerOf here.domain.now here.node (Ap ap) }
+    requires frame { IsKeyFrame heard.now.message.frame }
+    ensures handed { IfOk result (λ came.
+        IsHanded (pair here.entry.domain.now here.entry.node (Ap ap)) heard.now
+        (handing (both supplicant.old memory.old) (both supplicant.new memory.new)
+        out.old.acts out.new.acts) came) }
+    ensures same { OnErr result ((supplicant.new ≡ supplicant.old) × (memory.new ≡ memory.old)) }
+    ensures kept { OnErr result (out.new.acts ≡ out.old.acts) }
+{
+    let message = heard.message;
+    let room = Room::take(here, Node::Ap(ap), heard)?;
+    out.reserve(7)?;
+    let mut reply = Reply::empty();
+    let outcome = supplicant.step(message.message, &message.frame, memory, &mut reply);
+    let between = Between::nothing(here.alloc);
+    room.add_reply(outcome, false, &reply, between, out);
+    Ok(Came {
+        outcome,
+        is_finished: reply.installed.is_some(),
+    })
+}

@@ -1,0 +1,21 @@
+use Rattle.std.proofs.Common.{ℕ, ◌∷◌, [], None, refl, ap, subst, ◌∙◌}
+use Rattle.domain_rules.specs.Frames.{sent_m4}
+use Rattle.group_key.specs.Keys.{given}
+use Rattle.run_journal.specs.declared.reply.GtkNews.{GtkNews}
+use Rattle.eapol_key.specs.Fields.{fields_of}
+use Rattle.supplicant.specs.M3.{under}
+use Rattle.supplicant.specs.Told.{Tells, installs}
+use Rattle.supplicant.proofs.KeyDataRead.{agreed}
+use Rattle.supplicant.proofs.attempt.Attempt.take_m3.Goals as goal
+
+pub returns-clause-finishes : goal.returns-clause-finishes
+returns-clause-finishes c =
+    let y = c.in-Some.key in
+    let group = c.in_ok-group.group in
+    record {
+      group = group;
+      verified = (agreed (under c.args.ends.now.akm y None) (fields_of c.args.frame.now) c.args.frame.now.octets.now group c.judge_m3.new.reply.verified c.in_ok-group.ensures.judged).1;
+      counter_is = refl;
+      memory = c.give-gtk.ensures.memory ∙ ap (λ (n : ℕ). given group.key group.id n c.args.memory.now) c.packet_number.ensures;
+      tells = λ d n p z ends keyed. subst (λ (g : GtkNews). Tells p c.accept_m3.new.reply (installs y g (sent_m4 d n p z c.args.frame.now.counter ∷ []))) c.give-gtk.ensures.news (c.accept_m3.ensures.tells d n p z ends keyed);
+    }

@@ -1,0 +1,92 @@
+//! An attempt of a station with an access point, from the association on.
+
+ghost use Rattle.std.specs.Prelude.{◌≡◌, ◌≢◌, ◌++◌, ◌∷◌, [], Some, None, take, IfOk, IfErr, OnErr};
+ghost use Rattle.std.specs.Int.{w64, from_le_bytes};
+ghost use Rattle.domain_base.specs.declared.names.Akm.{Akm as AnyAkm};
+ghost use Rattle.eapol_key.specs.Fields.{IsKeyFrame};
+ghost use Rattle.run_journal.specs.Replies.{IsEmpty, IsWhole};
+ghost use Rattle.supplicant.specs.Exchange.{Answers, Finishes, IsRefusal};
+
+use crate::answers::{accept_m3, answer_m1, give};
+use crate::m3::judge_m3;
+use crate::session::Session;
+use eapol_key::KeyFrame;
+use group_key::GroupMemory;
+use node_base::{Ends, pairwise_key};
+use run_journal::{Keyed, Reason, Reply};
+
+/// An attempt: the association was accepted, and M3 is awaited.
+#[derive(Clone, Copy)]
+pub struct Attempt {
+    /// The own nonce of the attempt.
+    pub snonce: [u8; 32],
+    /// The key of the last M1.
+    pub key: Option<Keyed>,
+}
+
+impl Attempt {
+    /// Under that nonce, before M1.
+    pub fn begin(snonce: [u8; 32]) -> Self
+        ensures { result ≡ record { snonce = snonce; key = None } }
+    {
+        Attempt { snonce, key: None }
+    }
+
+    /// M1: the key is derived, and M2 answers. No counter is kept before M3, so none is compared.
+    pub fn take_m1(
+        self,
+        ends: &Ends,
+        psk: &[u8; 32],
+        frame: &KeyFrame<'_>,
+        reply: &mut Reply,
+    ) -> Self
+        requires suite { ends.now.akm ≢ AnyAkm.FtPsk }
+        requires empty { IsEmpty reply.old }
+        ensures answers { Answers ends.now psk.now frame.now self result reply.new }
+        ensures whole { IsWhole reply.new }
+    {
+        let (anonce, snonce) = (frame.nonce, self.snonce);
+        let key = pairwise_key(ends, psk, &anonce, &snonce);
+        answer_m1(ends, &key, frame.counter, reply);
+        Attempt {
+            snonce,
+            key: Some(key),
+        }
+    }
+
+    /// M3: the keys are installed, M4 answers, and the attempt becomes a session.
+    pub fn take_m3(
+        self,
+        ends: &Ends,
+        frame: &KeyFrame<'_>,
+        memory: &mut GroupMemory,
+        reply: &mut Reply,
+    ) -> Result<Session, Reason>
+        requires frame { IsKeyFrame frame.now }
+        requires empty { IsEmpty reply.old }
+        ensures key { IfOk result (λ x. self.key ≡ Some x.key) }
+        ensures finishes { IfOk result (λ x.
+            Finishes ends.now frame.now memory.old memory.new x reply.new) }
+        ensures refused { IfErr result (λ why.
+            IsRefusal ends.now.akm self.key None frame.now why reply.new) }
+        ensures kept { OnErr result (memory.new ≡ memory.old) }
+        ensures whole { IsWhole reply.new }
+    {
+        let Some(key) = self.key else {
+            return Err(Reason::Unawaited);
+        };
+        let group = judge_m3(ends.akm, &key, None, frame, reply)?;
+        let counter = frame.counter;
+        let gtk = give(memory, group, packet_number(frame.rsc));
+        accept_m3(ends, &key, gtk, counter, reply);
+        Ok(Session { key, counter })
+    }
+}
+
+// The packet number in the RSC field: six octets, the lowest first (IEEE Std 802.11-2020, 12.7.2).
+fn packet_number(rsc: [u8; 8]) -> u64
+    ensures { result ≡ from_le_bytes w64 (take 6 rsc ++ 0 ∷ 0 ∷ []) }
+{
+    let [a, b, c, d, e, f, _, _] = rsc;
+    u64::from_le_bytes([a, b, c, d, e, f, 0, 0])
+}
