@@ -1,0 +1,442 @@
+#!/usr/bin/env python3
+"""A sequence chart of a run: from a script and the report of its replay.
+
+    tools/chart.py SCRIPT REPORT > CHART.svg
+    tools/chart.py --text SCRIPT REPORT
+
+A lane for each node, and a row for each event of the script, from the top. An arrow is a frame that came: solid as it was sent, in
+another colour where it came again, was altered or cut, or was injected from outside. A dotted arrow is a frame that never came. At the
+receiver stands what came of it; bars beside a lane are attempts and sessions, a diamond is a key that was installed.
+
+It needs Python's library alone. It knows the report lines of what is built, and ends with status 1 and the line where script and
+report do not fit together. docs/PROFILE.md has the grammar of both.
+"""
+
+import sys
+from xml.sax.saxutils import escape
+
+# What follows a `took` line of that kind and outcome, as first words; a word in brackets may be missing.
+AFTER_TAKING = {
+    ("assoc-req", "accepted"): ["[close]", "open", "sent", "sent"],
+    ("assoc-req", "status"): ["sent"],
+    ("m1", "accepted"): ["sent"],
+    ("m2", "accepted"): ["sent"],
+    ("m3", "accepted"): ["install", "install|resume", "finish", "sent"],
+    ("m3", "answered"): ["sent"],
+    ("m4", "accepted"): ["[close]", "install", "finish"],
+}
+CONNECT = ["[close]", "[close]", "open", "sent"]
+SUMMARY = ("end", "keys", "premises")
+
+
+class Mismatch(Exception):
+    """Script and report do not fit together."""
+
+
+class Event:
+    """An event of the script, or the start of an access point, with the report lines that came of it."""
+
+    def __init__(self, line, words):
+        self.line, self.words, self.acts = line, words, []
+
+    def text(self):
+        words = list(self.words)
+        if words[0] == "inject" and len(words[2]) > 8:
+            words[2] = words[2][:8] + ".."
+        return " ".join(words)
+
+    def took(self):
+        """The receiver, the kind and the outcome, where a frame came."""
+        if self.acts and self.acts[0][0] == "took":
+            act = self.acts[0]
+            return act[1], act[2], act[3:]
+        return None
+
+
+def events_of(script):
+    """The events of a script, in order, and the nodes that it lists."""
+    events, nodes = [], {"ap": 0, "sta": 0}
+    for line, text in enumerate(script.split("\n"), 1):
+        words = text.split(" ")
+        if text == "" or text.startswith("#") or line == 1:
+            continue
+        if words[0] in nodes:
+            nodes[words[0]] += 1
+            if words[0] == "ap":
+                events.append(Event(line, ["start", "a%d" % nodes["ap"]]))
+        elif words[0] in ("connect", "deliver", "alter", "cut", "inject", "retry"):
+            events.append(Event(line, words))
+    listed = ["s%d" % (n + 1) for n in range(nodes["sta"])] + ["a%d" % (n + 1) for n in range(nodes["ap"])]
+    return events, listed
+
+
+def awaited(event, acts):
+    """The first words of the report lines that come of the event, by its first line."""
+    word = event.words[0]
+    if word == "start":
+        return ["install"]
+    if acts[0][0] == "idle":
+        return ["idle"]
+    if word == "connect":
+        return CONNECT
+    if word == "retry":
+        return ["gave-up", "close"] if acts[0][0] == "gave-up" else ["sent"]
+    if acts[0][0] != "took":
+        raise Mismatch("a frame comes, and the report has `%s`" % " ".join(acts[0]))
+    outcome = acts[0][4] if acts[0][3] == "refused" else acts[0][3]
+    return ["took"] + AFTER_TAKING.get((acts[0][2], outcome), [])
+
+
+def node_of(event):
+    """The node whose report lines come of the event."""
+    return event.words[1] if event.words[0] in ("start", "connect", "retry") else node_at(event)
+
+
+def node_at(event):
+    return event.words[1] if event.words[0] == "inject" else event.words[-1]
+
+
+def node_in(act):
+    return act[2] if act[0] == "sent" else act[1]
+
+
+def pair(script, report):
+    """Gives each event its report lines. The events of a script that ended with a fault stop where the report does."""
+    events, listed = events_of(script)
+    lines = [line.split(" ") for line in report.splitlines()]
+    place = 0
+    for event in events:
+        if place == len(lines) or lines[place][0] in SUMMARY:
+            break
+        for word in awaited(event, lines[place:]):
+            optional, words = word.startswith("["), word.strip("[]").split("|")
+            act = lines[place] if place < len(lines) else [""]
+            if act[0] in words and node_in(act) == node_of(event):
+                event.acts.append(act)
+                place += 1
+            elif not optional:
+                raise Mismatch("script line %d (%s): awaited `%s`, the report has `%s` at line %d" % (
+                    event.line, event.text(), word, " ".join(act), place + 1))
+    rest = lines[place:]
+    if any(line[0] not in SUMMARY for line in rest):
+        raise Mismatch("report line %d: `%s` comes of no event" % (place + 1, " ".join(rest[0])))
+    return events, listed, [" ".join(line) for line in rest]
+
+
+class Frame:
+    def __init__(self, act, row):
+        self.number, self.sender, self.peer, self.kind = int(act[1]), act[2], act[3], act[4]
+        self.row, self.came = row, None
+
+
+class Arrow:
+    """A frame that comes: from where, to where, and how it is marked ('' where it comes as it was sent, for the first time)."""
+
+    def __init__(self, frame, sender, receiver, mark):
+        self.frame, self.sender, self.receiver, self.mark = frame, sender, receiver, mark
+
+    def label(self):
+        if self.frame is None:
+            return "injected"
+        return "%d %s%s" % (self.frame.number, self.frame.kind, " " + self.mark if self.mark else "")
+
+
+class Chart:
+    """Rows of a chart: each event with its arrow and notes, the frames, and when attempts and sessions began and ended."""
+
+    def __init__(self, script, report):
+        self.events, listed, self.summary = pair(script, report)
+        self.events = [event for event in self.events if event.acts]
+        self.frames, self.arrows, self.bars, seen = {}, [], [], set()
+        self.keys = []
+        for row, event in enumerate(self.events):
+            self.arrows.append(self.arrow(event, row))
+            for act in event.acts:
+                self.note(act, row)
+                if event.words[0] != "start":
+                    seen.add(node_in(act))
+        for bar in self.bars:
+            if bar[3] is None:
+                bar[3] = len(self.events)
+        self.lanes = [node for node in listed if node in seen] or listed
+
+    def arrow(self, event, row):
+        took = event.took()
+        if took is None:
+            return None
+        word = event.words[0]
+        if word == "inject":
+            return Arrow(None, None, took[0], "injected")
+        frame = self.frames[int(event.words[1])]
+        if word == "alter":
+            mark = "octet %s altered" % event.words[2]
+        elif word == "cut":
+            mark = "cut to %s" % event.words[2]
+        elif took[0] != frame.peer and frame.peer != "all":
+            mark = "for %s" % frame.peer
+        elif frame.came is None:
+            mark, frame.came = "", row
+        else:
+            mark = "again"
+        return Arrow(frame, frame.sender, took[0], mark)
+
+    def note(self, act, row):
+        word = act[0]
+        if word == "sent":
+            self.frames[int(act[1])] = Frame(act, row)
+        elif word == "open":
+            self.bars.append([act[1], act[2], "attempt", None, row])
+        elif word == "finish":
+            self.end(act[1], act[2], "attempt", row)
+            self.bars.append([act[1], act[2], "session", None, row])
+        elif word == "close":
+            self.end(act[1], act[2], act[3], row)
+        elif word in ("install", "resume"):
+            self.keys.append((act[1], row, word))
+
+    def end(self, node, peer, what, row):
+        for bar in self.bars:
+            if bar[:3] == [node, peer, what] and bar[3] is None:
+                bar[3] = row
+
+    def states(self, node, row):
+        """Whether the node is in an attempt and in a session after this row."""
+        now = {bar[2] for bar in self.bars if bar[0] == node and bar[4] <= row < bar[3]}
+        return "attempt" in now, "session" in now
+
+    def notes(self, event, is_drawn=False):
+        """What came of an event, in words; but for what the picture shows where it is drawn."""
+        words = {"install": "installs", "resume": "resumes", "finish": "session with", "gave-up": "gives up", "open": "attempt with"}
+        told, sends = [], []
+        for act in event.acts:
+            if is_drawn and act[0] in ("sent", "open", "finish"):
+                continue
+            if act[0] == "took":
+                frame = self.frames.get(int(event.words[1])) if event.words[0] != "inject" else None
+                told.append(" ".join(act[3:] if frame is not None and frame.kind == act[2] else act[2:]))
+            elif act[0] == "sent":
+                sends.append("%s %s" % (act[1], act[4]))
+            elif act[0] == "install" and act[2] == "all":
+                told.append("installs %s for all" % " ".join(act[3:]))
+            elif act[0] in ("install", "resume", "gave-up"):
+                told.append("%s %s" % (words[act[0]], " ".join(act[3:])))
+            elif act[0] == "close":
+                told.append("%s with %s ends" % (act[3], act[2]))
+            elif act[0] == "idle":
+                told.append("does nothing: %s" % act[2] if act[2] != "nothing" else "does nothing")
+            else:
+                told.append("%s %s" % (words[act[0]], act[2]))
+        if sends:
+            told.append("sends " + " and ".join(sends))
+        return ", ".join(told)
+
+    def is_second(self, frame):
+        """Another frame was sent before it in the same row."""
+        return any(f.row == frame.row and f.number < frame.number for f in self.frames.values())
+
+    def lost(self, row):
+        """The frames that were sent in this row and never came as they were sent."""
+        return [f for f in self.frames.values() if f.row == row and f.came is None]
+
+
+# The chart as text: one line for each event. A lane is `|`, in an attempt `:`, in a session `#`, in both `%`.
+
+WIDTH = 32
+
+
+def lane_line(chart, row, left):
+    line = [" "] * (left + WIDTH * (len(chart.lanes) - 1) + 1)
+    for place, node in enumerate(chart.lanes):
+        line[left + WIDTH * place] = {(False, False): "|", (True, False): ":", (False, True): "#", (True, True): "%"}[chart.states(node, row)]
+    return line
+
+
+def put(line, place, text):
+    line[place:place + len(text)] = list(text)
+
+
+def draw_arrow(line, start, end, label, dash, head):
+    first, last = min(start, end) + 1, max(start, end) - 1
+    for place in range(first, last + 1):
+        line[place] = dash[(place - first) % len(dash)]
+    put(line, last if end > start else first, {True: ">", False: "<"}[end > start] if head is None else head)
+    put(line, (first + last - len(label)) // 2, " " + label + " ")
+
+
+def text_chart(chart):
+    texts = ["%5d %s" % (event.line, event.text()) for event in chart.events]
+    left = max([len(text) for text in texts] + [12]) + 4
+    out = []
+    heads = [" "] * (left + WIDTH * len(chart.lanes))
+    for place, node in enumerate(chart.lanes):
+        put(heads, left + WIDTH * place - 1, node)
+    out.append("".join(heads).rstrip())
+    for row, event in enumerate(chart.events):
+        line, arrow = lane_line(chart, row, left), chart.arrows[row]
+        put(line, 0, texts[row])
+        if arrow is not None:
+            end = left + WIDTH * chart.lanes.index(arrow.receiver)
+            start = end - WIDTH // 2 if arrow.sender is None else left + WIDTH * chart.lanes.index(arrow.sender)
+            if arrow.sender is None and end == left:
+                start = end + WIDTH // 2
+            if start == end:
+                start = end + WIDTH // 2 if end == left else end - WIDTH // 2
+            draw_arrow(line, start, end, arrow.label(), "=" if arrow.mark else "-", None)
+        who = node_of(event)
+        out.append("%s   %s %s" % ("".join(line), who, chart.notes(event)))
+        for frame in chart.lost(row):
+            line = lane_line(chart, row, left)
+            put(line, 0, "      never comes")
+            start = left + WIDTH * chart.lanes.index(frame.sender)
+            end = left + WIDTH * chart.lanes.index(frame.peer) if frame.peer in chart.lanes else start + WIDTH
+            draw_arrow(line, start, (start + 3 * end) // 4, "%d %s" % (frame.number, frame.kind), ". ", "x")
+            out.append("".join(line))
+    return "\n".join(out + [""] + chart.summary) + "\n"
+
+
+# The chart as SVG.
+
+LANE, ROW, LOST, TOP, TEXT = 300, 26, 22, 70, 7.3
+LEGEND = ["Dotted: never came. Brown: came again, or to another node. Red: altered, cut or injected.",
+          "Yellow bar: attempt. Green bar: session. Diamond: a key installed (white: one that goes on)."]
+COLOURS = {"": "#1f2937", "again": "#b45309", "altered": "#b91c1c", "lost": "#6b7280"}
+
+
+class Picture:
+    def __init__(self):
+        self.parts = []
+
+    def line(self, x1, y1, x2, y2, colour, more=""):
+        self.parts.append('<line x1="%.1f" y1="%.1f" x2="%.1f" y2="%.1f" stroke="%s" %s/>' % (x1, y1, x2, y2, colour, more))
+
+    def text(self, x, y, text, anchor="start", colour="#111827", size=12):
+        self.parts.append('<text x="%.1f" y="%.1f" text-anchor="%s" fill="%s" font-size="%d" paint-order="stroke" stroke="#ffffff" '
+                          'stroke-width="3">%s</text>' % (x, y, anchor, colour, size, escape(text)))
+
+    def bar(self, x, y1, y2, colour, title):
+        self.parts.append('<rect x="%.1f" y="%.1f" width="7" height="%.1f" fill="%s" stroke="#374151" stroke-width="0.5"><title>%s</title>'
+                          '</rect>' % (x, y1, max(y2 - y1, 4), colour, escape(title)))
+
+    def diamond(self, x, y, colour):
+        self.parts.append('<path d="M %.1f %.1f l 6 6 l -6 6 l -6 -6 z" fill="%s" stroke="#111827"/>' % (x, y - 6, colour))
+
+    def head(self, x1, y1, x2, y2, colour):
+        way = 1 if x2 > x1 else -1
+        self.parts.append('<path d="M %.1f %.1f l %d -4 l 0 8 z" fill="%s"/>' % (x2, y2, -9 * way, colour))
+
+
+def colour_of(mark):
+    if mark.startswith("for "):
+        return COLOURS["again"]
+    return COLOURS.get(mark, COLOURS["altered"])
+
+
+def svg_chart(chart, title):
+    picture = Picture()
+    notes = [chart.notes(event, True) for event in chart.events]
+    script = 20 + TEXT * max([len(event.text()) for event in chart.events] + [16]) + 40
+    lanes = len(chart.lanes)
+    margin = 30 + TEXT * max([len(note) for note in notes] + [10])
+    first = script + (margin if lanes > 1 else 120)
+    width = max(first + LANE * (lanes - 1) + margin, 700)
+    x_of = {node: first + LANE * place for place, node in enumerate(chart.lanes)}
+    # A row for each event, and behind it some room for each frame that was sent in it and never came.
+    y_of = [TOP + ROW * 0.5]
+    for row in range(len(chart.events)):
+        y_of.append(y_of[row] + ROW + LOST * len(chart.lost(row)))
+    height = y_of[-1] + 20 * (len(chart.summary) + len(LEGEND) + 2)
+    picture.text(14, 22, title, size=14)
+    for node in chart.lanes:
+        picture.text(x_of[node], 46, node, "middle", size=15)
+        picture.line(x_of[node], 54, x_of[node], y_of[-1], "#9ca3af")
+    draw_bars(picture, chart, x_of, y_of)
+    draw_frames(picture, chart, x_of, y_of)
+    for row, event in enumerate(chart.events):
+        picture.text(14, y_of[row] + 4, "%d  %s" % (event.line, event.text()), colour="#6b7280", size=11)
+        node = node_of(event)
+        if node not in x_of:
+            continue
+        outer = -1 if lanes > 1 and node == chart.lanes[0] else 1
+        picture.text(x_of[node] + 18 * outer, y_of[row] + 4, notes[row], "end" if outer < 0 else "start")
+    below = y_of[-1] + 26
+    for number, line in enumerate(LEGEND):
+        picture.text(14, below + 16 * number, line, colour="#6b7280", size=11)
+    below += 16 * len(LEGEND)
+    for number, line in enumerate(chart.summary):
+        picture.text(14, below + 20 * number + 8, line)
+    return ('<?xml version="1.0" encoding="UTF-8"?>\n<svg xmlns="http://www.w3.org/2000/svg" width="%.0f" height="%.0f" '
+            'font-family="monospace">\n<rect width="100%%" height="100%%" fill="#ffffff"/>\n%s\n</svg>\n'
+            % (width, height, "\n".join(picture.parts)))
+
+
+def draw_bars(picture, chart, x_of, y_of):
+    peers = {}
+    for node, peer, what, end, begin in chart.bars:
+        if node not in x_of:
+            continue
+        places = peers.setdefault(node, [])
+        if peer not in places:
+            places.append(peer)
+        away = 8 * places.index(peer)
+        x = x_of[node] - 8 - away if what == "attempt" else x_of[node] + 1 + away
+        picture.bar(x, y_of[begin], y_of[end], "#fde68a" if what == "attempt" else "#86efac", "%s: %s with %s" % (node, what, peer))
+    before = None
+    for node, row, word in chart.keys:
+        if node in x_of:
+            away = 11 if before == (node, row) else 0
+            picture.diamond(x_of[node], y_of[row] + away, "#111827" if word == "install" else "#ffffff")
+        before = (node, row)
+
+
+def draw_frames(picture, chart, x_of, y_of):
+    for row, arrow in enumerate(chart.arrows):
+        if arrow is None:
+            continue
+        colour, end, y2 = colour_of(arrow.mark), x_of[arrow.receiver], y_of[row]
+        if arrow.sender is None or arrow.sender == arrow.receiver:
+            way = -1 if end > min(x_of.values()) or len(x_of) == 1 else 1
+            start, y1 = end + way * LANE * 0.4, y2 - 10
+        else:
+            start = x_of[arrow.sender]
+            is_slanted = arrow.mark == "" and row - arrow.frame.row <= 2
+            y1 = y_of[arrow.frame.row] if is_slanted else y2 - 10
+        picture.line(start, y1, end, y2, colour, 'stroke-width="1.5"')
+        picture.head(start, y1, end, y2, colour)
+        # Near its sender, where another frame sent in that row has its label farther on.
+        part = 0.6 if y2 - y1 > ROW and chart.is_second(arrow.frame) else 0.32
+        picture.text(start + (end - start) * part, y1 + (y2 - y1) * part - 4, arrow.label(), "middle", colour, 11)
+    for row in range(len(chart.events)):
+        for place, frame in enumerate(chart.lost(row)):
+            start = x_of[frame.sender]
+            end = x_of.get(frame.peer, start + LANE)
+            way = 1 if end > start else -1
+            x, y1 = start + way * LANE * 0.3, y_of[row] + LOST * (place + 0.55)
+            y2 = y1 + 8
+            picture.line(start, y1, x, y2, COLOURS["lost"], 'stroke-dasharray="2 5" stroke-width="1.5"')
+            picture.text(x + way * 6, y2 + 4, "×", "middle", COLOURS["lost"], 14)
+            label = "%d %s" % (frame.number, frame.kind)
+            picture.text(x + way * 14, y2 + 4, label, "start" if way > 0 else "end", COLOURS["lost"], 11)
+
+
+def read(name):
+    with open(name, encoding="latin-1", newline="") as file:
+        return file.read().replace("\r\n", "\n")
+
+
+def main(words):
+    as_text = "--text" in words
+    names = [word for word in words if word != "--text"]
+    if len(names) != 2 or names[0].startswith("-"):
+        print("usage: chart.py [--text] SCRIPT REPORT", file=sys.stderr)
+        return 2
+    try:
+        chart = Chart(read(names[0]), read(names[1]))
+    except Mismatch as why:
+        print("%s and %s: %s" % (names[0], names[1], why), file=sys.stderr)
+        return 1
+    sys.stdout.write(text_chart(chart) if as_text else svg_chart(chart, names[0].split("/")[-1]))
+    return 0
+
+
+if __name__ == "__main__":
+    sys.exit(main(sys.argv[1:]))

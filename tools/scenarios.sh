@@ -1,0 +1,68 @@
+#!/usr/bin/env bash
+# The example scripts and their reports: each `examples/NAME.txt` is replayed and has to give exactly `examples/NAME.report`, with
+# number 0 and nothing on standard error. Where Python is there, `tools/chart.py` has to make a chart of each, as text and as SVG that
+# an XML parser reads, and the chart in `docs/` has to be the one that it makes. A report that differs is shown as a diff. The last
+# line has counts; the status is 0 where nothing is wrong.
+# It runs the program that `rt ci` or `rt run` proved and built (or the one named by KEHTROP, as an unproved build), and does nothing
+# where there is none. Run it from anywhere in the repository.
+set -eu
+cd "$(dirname "$0")/.."
+work=$(mktemp -d)
+trap 'rm -rf "$work"' EXIT
+
+program=${KEHTROP:-crates/kehtrop/out/kehtrop}
+if [ ! -x "$program" ]; then
+    echo "skipped: no program was built"
+    exit 0
+fi
+python=
+if command -v python3 > /dev/null; then python=python3; fi
+
+scenarios=0 wrong=0
+says() { # TEXT
+    wrong=$((wrong + 1))
+    echo "$1"
+}
+
+replays() { # NAME
+    local ended=0
+    "$program" replay < "examples/$1.txt" > "$work/written" 2> "$work/said" || ended=$?
+    if [ "$ended" != 0 ] || [ -s "$work/said" ]; then
+        says "examples/$1.txt: ended with $ended: $(cat "$work/said")"
+    fi
+    diff -u "examples/$1.report" "$work/written" || says "examples/$1.txt: the report differs"
+}
+
+charts() { # NAME
+    tools/chart.py --text "examples/$1.txt" "examples/$1.report" > "$work/text" || says "examples/$1.txt: no chart as text"
+    tools/chart.py "examples/$1.txt" "examples/$1.report" > "$work/chart" || says "examples/$1.txt: no chart as SVG"
+    "$python" -c 'import sys, xml.dom.minidom; xml.dom.minidom.parse(sys.argv[1])' "$work/chart" || says "examples/$1.txt: the SVG is no XML"
+    if [ -e "docs/$1.svg" ]; then
+        cmp -s "docs/$1.svg" "$work/chart" || says "docs/$1.svg: not the chart of examples/$1.txt"
+    fi
+}
+
+for script in examples/*.txt; do
+    name=$(basename "$script" .txt)
+    scenarios=$((scenarios + 1))
+    if [ ! -e "examples/$name.report" ]; then
+        says "examples/$name.txt: has no report"
+        continue
+    fi
+    replays "$name"
+    if [ -n "$python" ]; then charts "$name"; fi
+done
+for report in examples/*.report; do
+    [ -e "${report%.report}.txt" ] || says "$report: has no script"
+done
+
+# The script that docs/PROFILE.md explains is one of the examples.
+awk '/^```/ { blocks++; next } blocks == 1' docs/PROFILE.md | cmp -s - examples/lost_message_4.txt \
+    || says "docs/PROFILE.md: its script is not examples/lost_message_4.txt"
+if [ -n "$python" ]; then
+    tools/crate_graph.py | cmp -s - docs/crates.svg || says "docs/crates.svg: not the graph of crates.txt (tools/crate_graph.py)"
+fi
+
+if [ -z "$python" ]; then echo "skipped: no Python, so no charts"; fi
+echo "scenarios $scenarios wrong $wrong"
+[ "$wrong" = 0 ]
