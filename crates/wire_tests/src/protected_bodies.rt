@@ -1,6 +1,6 @@
 //! Bodies of protected frames, and guards.
 
-ghost use Rattle.std.specs.Prelude.{◌↔◌, ◌<◌, IsTrue};
+ghost use Rattle.std.specs.Prelude.{◌↔◌, ◌<◌, ◌^◌, IsTrue};
 ghost use Rattle.ccmp_guard.specs.Ccmp.{IsHeader};
 ghost use Rattle.ccmp_guard.specs.Roles.{IsRole};
 
@@ -103,19 +103,59 @@ fn unprotects(
     guard.unprotect(header, body, &mut out) == expected
 }
 
-#[test]
-fn the_last_number_protects_one_frame(rt: HostRuntime) {
+// Without a key a guard neither protects nor opens.
+fn is_without_key() -> bool {
     let mut guard = Guard::empty();
-    assert!(rt; guard.used() == 0);
-    assert!(rt; protects(&mut guard, HEADER, PLAIN, Err(GuardFault::NoKey)));
-    assert!(rt; unprotects(&mut guard, HEADER, BODY, Err(GuardFault::NoKey)));
+    guard.used() == 0
+        && protects(&mut guard, HEADER, PLAIN, Err(GuardFault::NoKey))
+        && unprotects(&mut guard, HEADER, BODY, Err(GuardFault::NoKey))
+}
+
+// A guard that has one number left protects one frame.
+fn is_spent_by_one_frame() -> bool {
     let mut guard = Guard::empty();
     guard.install(&TK, Role::Pairwise, 281_474_976_710_654, 0);
-    assert!(rt; protects(&mut guard, HEADER, PLAIN, Ok(36)));
-    assert!(rt; guard.used() == 281_474_976_710_655);
-    assert!(rt; protects(&mut guard, HEADER, PLAIN, Err(GuardFault::Spent)));
-    assert!(rt; protects(&mut guard, HEADER, PLAIN, Err(GuardFault::Spent)));
-    assert!(rt; guard.used() == 281_474_976_710_655);
+    protects(&mut guard, HEADER, PLAIN, Ok(36))
+        && guard.used() == 281_474_976_710_655
+        && protects(&mut guard, HEADER, PLAIN, Err(GuardFault::Spent))
+        && protects(&mut guard, HEADER, PLAIN, Err(GuardFault::Spent))
+        && guard.used() == 281_474_976_710_655
+}
+
+#[test]
+fn the_last_number_protects_one_frame(rt: HostRuntime) {
+    assert!(rt; is_without_key());
+    assert!(rt; is_spent_by_one_frame());
+}
+
+// Protects `PLAIN` under a key of that role of which the packet numbers up to `used` were used.
+fn protected(role: Role, used: u64, header: &[u8], out: &mut [u8; 64]) -> Result<usize, GuardFault>
+    requires role { IsRole role }
+    requires used { used < 2 ^ 48 }
+    requires header { IsHeader header.now }
+{
+    let mut sender = Guard::empty();
+    sender.install(&TK, role, used, 0);
+    sender.protect(header, PLAIN, out)
+}
+
+// Under a key of that role, of which the number 41 was taken, the body is opened once.
+fn is_opened_once(role: Role, header: &[u8], body: &[u8]) -> bool
+    requires { IsRole role }
+{
+    let mut receiver = Guard::empty();
+    receiver.install(&TK, role, 0, 41);
+    unprotects(&mut receiver, header, body, Ok(20))
+        && unprotects(&mut receiver, header, body, Err(GuardFault::Replayed(42)))
+}
+
+// Under a key of that role the body is another key's.
+fn is_of_another_key(role: Role, header: &[u8], body: &[u8]) -> bool
+    requires { IsRole role }
+{
+    let mut stranger = Guard::empty();
+    stranger.install(&TK, role, 0, 0);
+    unprotects(&mut stranger, header, body, Err(GuardFault::KeyId))
 }
 
 // What one guard protects another opens once, and under its role alone.
@@ -124,25 +164,10 @@ fn is_carried(role: Role, other: Role, header: &[u8]) -> bool
     requires other { IsRole other }
     requires header { IsHeader header.now }
 {
-    let mut sender = Guard::empty();
-    sender.install(&TK, role, 41, 0);
     let mut out = [0; 64];
-    let Ok(end) = sender.protect(header, PLAIN, &mut out) else {
-        return false;
-    };
-    let mut stranger = Guard::empty();
-    stranger.install(&TK, other, 0, 0);
-    let mut receiver = Guard::empty();
-    receiver.install(&TK, role, 0, 41);
-    end == 36
-        && unprotects(&mut stranger, header, &out[..36], Err(GuardFault::KeyId))
-        && unprotects(&mut receiver, header, &out[..36], Ok(20))
-        && unprotects(
-            &mut receiver,
-            header,
-            &out[..36],
-            Err(GuardFault::Replayed(42)),
-        )
+    protected(role, 41, header, &mut out) == Ok(36)
+        && is_of_another_key(other, header, &out[..36])
+        && is_opened_once(role, header, &out[..36])
 }
 
 #[test]
@@ -152,28 +177,32 @@ fn what_is_protected_is_opened_once(rt: HostRuntime) {
     assert!(rt; is_carried(Role::Group(2), Role::Pairwise, QOS_HEADER));
 }
 
+// What the second of two bodies gives, under the two headers and a key of that role.
+fn opened_second(role: Role, first: &[u8; 64], then: &[u8; 64]) -> Result<usize, GuardFault>
+    requires { IsRole role }
+{
+    let mut receiver = Guard::empty();
+    receiver.install(&TK, role, 0, 0);
+    let mut plain = [0; 64];
+    match receiver.unprotect(SHORT_HEADER, &first[..36], &mut plain) {
+        Ok(_) => receiver.unprotect(HEADER, &then[..36], &mut plain),
+        Err(_) => Err(GuardFault::NoKey),
+    }
+}
+
 // Two frames of other traffic and of one number, under a key of that role: what the second gives.
 fn second_of_other_traffic(role: Role) -> Result<usize, GuardFault>
     requires { IsRole role }
 {
+    let mut short = [0; 64];
     let mut out = [0; 64];
-    let mut sender = Guard::empty();
-    sender.install(&TK, role, 4, 0);
-    let Ok(_) = sender.protect(SHORT_HEADER, PLAIN, &mut out) else {
-        return Err(GuardFault::NoKey);
-    };
-    let mut receiver = Guard::empty();
-    receiver.install(&TK, role, 0, 0);
-    let mut plain = [0; 64];
-    let Ok(_) = receiver.unprotect(SHORT_HEADER, &out[..36], &mut plain) else {
-        return Err(GuardFault::NoKey);
-    };
-    let mut sender = Guard::empty();
-    sender.install(&TK, role, 4, 0);
-    let Ok(_) = sender.protect(HEADER, PLAIN, &mut out) else {
-        return Err(GuardFault::NoKey);
-    };
-    receiver.unprotect(HEADER, &out[..36], &mut plain)
+    match (
+        protected(role, 4, SHORT_HEADER, &mut short),
+        protected(role, 4, HEADER, &mut out),
+    ) {
+        (Ok(_), Ok(_)) => opened_second(role, &short, &out),
+        _ => Err(GuardFault::NoKey),
+    }
 }
 
 #[test]
@@ -226,23 +255,22 @@ fn every_bit_of_a_frame_is_changed(rt: HostRuntime) {
     }
 }
 
-#[test]
-fn a_body_without_a_ccmp_header_is_refused(rt: HostRuntime) {
+// What one guard gives for each of six bodies, one after the other.
+fn gives_each() -> bool {
     let mut guard = Guard::empty();
     guard.install(&TK, Role::Pairwise, 0, 0);
-    assert!(rt; unprotects(&mut guard, HEADER, &BODY[..15], Err(GuardFault::Header)));
-    assert!(rt; unprotects(&mut guard, HEADER, &BODY[..16], Err(GuardFault::Seal)));
-    assert!(rt; unprotects(&mut guard, HEADER, b"", Err(GuardFault::Header)));
-    assert!(rt; unprotects(&mut guard, HEADER, FORGED, Err(GuardFault::Seal)));
-    assert!(rt; unprotects(&mut guard, HEADER, BODY, Ok(20)));
-    assert!(rt;
-        unprotects(
-            &mut guard,
-            HEADER,
-            FORGED,
-            Err(GuardFault::Replayed(0xb503_9776_e70c))
-        )
-    );
+    let replayed = GuardFault::Replayed(0xb503_9776_e70c);
+    unprotects(&mut guard, HEADER, &BODY[..15], Err(GuardFault::Header))
+        && unprotects(&mut guard, HEADER, &BODY[..16], Err(GuardFault::Seal))
+        && unprotects(&mut guard, HEADER, b"", Err(GuardFault::Header))
+        && unprotects(&mut guard, HEADER, FORGED, Err(GuardFault::Seal))
+        && unprotects(&mut guard, HEADER, BODY, Ok(20))
+        && unprotects(&mut guard, HEADER, FORGED, Err(replayed))
+}
+
+#[test]
+fn a_body_without_a_ccmp_header_is_refused(rt: HostRuntime) {
+    assert!(rt; gives_each());
 }
 
 // IEEE Std 802.11-2020, annex J: CCMP-128.
