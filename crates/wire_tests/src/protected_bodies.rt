@@ -139,23 +139,24 @@ fn protected(role: Role, used: u64, header: &[u8], out: &mut [u8; 64]) -> Result
     sender.protect(header, PLAIN, out)
 }
 
-// Under a key of that role, of which the number 41 was taken, the body is opened once.
-fn is_opened_once(role: Role, header: &[u8], body: &[u8]) -> bool
+// Under a key of that role, of which the number 41 was taken, the body in front is opened once.
+fn is_opened_once(role: Role, header: &[u8], out: &[u8; 64]) -> bool
     requires { IsRole role }
 {
     let mut receiver = Guard::empty();
     receiver.install(&TK, role, 0, 41);
+    let body = &out[..36];
     unprotects(&mut receiver, header, body, Ok(20))
         && unprotects(&mut receiver, header, body, Err(GuardFault::Replayed(42)))
 }
 
-// Under a key of that role the body is another key's.
-fn is_of_another_key(role: Role, header: &[u8], body: &[u8]) -> bool
+// Under a key of that role the body in front is another key's.
+fn is_of_another_key(role: Role, header: &[u8], out: &[u8; 64]) -> bool
     requires { IsRole role }
 {
     let mut stranger = Guard::empty();
     stranger.install(&TK, role, 0, 0);
-    unprotects(&mut stranger, header, body, Err(GuardFault::KeyId))
+    unprotects(&mut stranger, header, &out[..36], Err(GuardFault::KeyId))
 }
 
 // What one guard protects another opens once, and under its role alone.
@@ -166,8 +167,8 @@ fn is_carried(role: Role, other: Role, header: &[u8]) -> bool
 {
     let mut out = [0; 64];
     protected(role, 41, header, &mut out) == Ok(36)
-        && is_of_another_key(other, header, &out[..36])
-        && is_opened_once(role, header, &out[..36])
+        && is_of_another_key(other, header, &out)
+        && is_opened_once(role, header, &out)
 }
 
 #[test]
