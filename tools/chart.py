@@ -24,6 +24,7 @@ AFTER_TAKING = {
     ("m3", "accepted"): ["install", "install|resume", "finish", "sent"],
     ("m3", "answered"): ["sent"],
     ("m4", "accepted"): ["[close]", "install", "finish"],
+    ("g1", "accepted"): ["install|resume", "sent"],
 }
 CONNECT = ["[close]", "[close]", "open", "sent"]
 SUMMARY = ("end", "keys", "premises")
@@ -64,7 +65,7 @@ def events_of(script):
             nodes[words[0]] += 1
             if words[0] == "ap":
                 events.append(Event(line, ["start", "a%d" % nodes["ap"]]))
-        elif words[0] in ("connect", "deliver", "alter", "cut", "inject", "retry"):
+        elif words[0] in ("connect", "deliver", "alter", "cut", "inject", "retry", "rekey", "expire", "leave"):
             events.append(Event(line, words))
     listed = ["s%d" % (n + 1) for n in range(nodes["sta"])] + ["a%d" % (n + 1) for n in range(nodes["ap"])]
     return events, listed
@@ -81,15 +82,65 @@ def awaited(event, acts):
         return CONNECT
     if word == "retry":
         return ["gave-up", "close"] if acts[0][0] == "gave-up" else ["sent"]
+    if word == "rekey":
+        return ["sent"] * renewed(acts) or ["install"]
+    if word in ("expire", "leave"):
+        ends = [act[:1] + act[1:2] + act[3:] for act in acts[:2]]
+        both = [["close", event.words[1], part] for part in ("attempt", "session")]
+        return ["close", "close"] if ends == both and acts[0][2] == acts[1][2] else ["close"]
     if acts[0][0] != "took":
         raise Mismatch("a frame comes, and the report has `%s`" % " ".join(acts[0]))
     outcome = acts[0][4] if acts[0][3] == "refused" else acts[0][3]
     return ["took"] + AFTER_TAKING.get((acts[0][2], outcome), [])
 
 
+def renewed(acts):
+    """How many sessions get the new group key, which goes to the stations in their order."""
+    before = 0
+    for count, act in enumerate(acts):
+        if act[0] != "sent" or act[4] != "g1" or act[2] != acts[0][2] or int(act[3][1:]) <= before:
+            return count
+        before = int(act[3][1:])
+    return len(acts)
+
+
+class GroupKeys:
+    """What lines hang on that the report does not say: how many group keys an access point drew, how many were drawn as message 3 went
+    out, and whether the newest is in use."""
+
+    def __init__(self):
+        self.drawn, self.carried, self.pending = {}, {}, set()
+
+    def note(self, event):
+        node = node_of(event)
+        if event.words[0] == "start" or (event.words[0] == "rekey" and event.acts[0][0] != "idle"):
+            self.drawn[node] = self.drawn.get(node, 0) + 1
+            self.pending.add(node)
+        for act in event.acts:
+            if act[0] == "open":
+                self.carried.pop((node, act[2]), None)
+            elif act[0] == "sent" and act[4] == "m3":
+                self.carried.setdefault((node, act[3]), self.drawn[node])
+            elif act[0] == "install" and act[2] == "all":
+                self.pending.discard(node)
+
+    def behind(self, event, lines):
+        """The lines that come of the event behind those that are awaited of it: message 1 of the group-key handshake, where message 3
+        carried an older group key, and the newest group key, where it comes into use."""
+        node, last, taken = node_of(event), event.acts[-1], []
+        if event.took() and event.took()[1] == "m4" and last[0] == "finish" and self.carried[node, last[2]] < self.drawn[node]:
+            taken = lines[:1]
+            if not taken or taken[0][0] != "sent" or taken[0][2:5] != [node, last[2], "g1"]:
+                raise Mismatch("script line %d (%s): awaited `sent` with g1" % (event.line, event.text()))
+        rest = lines[len(taken):]
+        if node in self.pending and rest and rest[0][:3] == ["install", node, "all"]:
+            taken = taken + rest[:1]
+        return taken
+
+
 def node_of(event):
     """The node whose report lines come of the event."""
-    return event.words[1] if event.words[0] in ("start", "connect", "retry") else node_at(event)
+    return event.words[1] if event.words[0] in ("start", "connect", "retry", "rekey", "expire", "leave") else node_at(event)
 
 
 def node_at(event):
@@ -104,7 +155,7 @@ def pair(script, report):
     """Gives each event its report lines. The events of a script that ended with a fault stop where the report does."""
     events, listed = events_of(script)
     lines = [line.split(" ") for line in report.splitlines()]
-    place = 0
+    place, keys = 0, GroupKeys()
     for event in events:
         if place == len(lines) or lines[place][0] in SUMMARY:
             break
@@ -117,6 +168,10 @@ def pair(script, report):
             elif not optional:
                 raise Mismatch("script line %d (%s): awaited `%s`, the report has `%s` at line %d" % (
                     event.line, event.text(), word, " ".join(act), place + 1))
+        more = keys.behind(event, lines[place:])
+        event.acts += more
+        place += len(more)
+        keys.note(event)
     rest = lines[place:]
     if any(line[0] not in SUMMARY for line in rest):
         raise Mismatch("report line %d: `%s` comes of no event" % (place + 1, " ".join(rest[0])))

@@ -73,9 +73,9 @@ refuses() { # LINES LINE TEXT WRITES
     (head -n "$1" "$work/header"; printf '%s\n' "$2") > "$work/script"
     ends 2 "line $(($1 + 1)): $3" "$4" "$work/script" replay
 }
-any="that of ap, sta, connect, deliver, alter, cut, inject or retry"
-later="that of sta, connect, deliver, alter, cut, inject or retry"
-events="that of connect, deliver, alter, cut, inject or retry"
+any="that of ap, sta, connect, deliver, alter, cut, inject, retry, rekey, expire or leave"
+later="that of sta, connect, deliver, alter, cut, inject, retry, rekey, expire or leave"
+events="that of connect, deliver, alter, cut, inject, retry, rekey, expire or leave"
 key="passphrase <8 to 63 octets> or psk <64 digits>"
 refuses 0 "domain 2" "not the first line of a script; the form is domain 1" $none
 refuses 1 "seed draw" "the seed is drawn in a live run only; the form is seed <64 digits>" $none
@@ -92,6 +92,9 @@ refuses 7 "ap 0200000000cc r0kh-2" "no such word here; the form is $later" "$wor
 refuses 7 "conect s1 a1" "no such word here; the form is $later" "$work/started"
 refuses 7 "connect s2 a1" "no such node, or a node of the other kind; the form is connect <sta> <ap>" "$work/started"
 refuses 7 "retry s1 a1" "no such node, or a node of the other kind; the form is retry <ap> <sta>" "$work/started"
+refuses 7 "rekey s1" "no such node, or a node of the other kind; the form is rekey <ap>" "$work/started"
+refuses 7 "expire a1" "wrong arguments; the form is expire <ap> <sta>" "$work/started"
+refuses 7 "leave a1" "no such node, or a node of the other kind; the form is leave <sta>" "$work/started"
 refuses 7 "deliver 1 to a1" "no such frame was sent; the form is deliver <n> to <node>" "$work/started"
 refuses 7 "inject a1 0" "wrong arguments; the form is inject <node> <digits>" "$work/started"
 printf 'connect s1 a1\n' >> "$work/header"

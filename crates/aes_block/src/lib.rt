@@ -31,7 +31,8 @@ impl Model for Aes128 {
 
     ghost view = { λ a. octets_of (slice_index_or a.round_keys 0 []) };
 
-    ghost invariant = { λ a. IsExpanded a.round_keys a.unmixed_keys (octets_of (slice_index_or a.round_keys 0 [])) };
+    ghost invariant = { λ a. IsExpanded a.round_keys a.unmixed_keys
+        (octets_of (slice_index_or a.round_keys 0 [])) };
 }
 
 impl Aes128 {
@@ -143,7 +144,8 @@ fn mixed_column(a: u32, b: u32, c: u32, d: u32) -> u32
 // The column that SUBBYTES makes of the first octet of a, the second of b, the third of c and the fourth
 // of d (FIPS 197, 5.1.1).
 fn substituted_column(a: u32, b: u32, c: u32, d: u32) -> u32
-    ensures { result ≡ substituted_word (a / 2 ^ 24) (b / 2 ^ 16 % 256) (c / 2 ^ 8 % 256) (d % 256) }
+    ensures { result
+        ≡ substituted_word (a / 2 ^ 24) (b / 2 ^ 16 % 256) (c / 2 ^ 8 % 256) (d % 256) }
 {
     u32::from_be_bytes([
         SUBSTITUTION[(a >> 24) as usize],
@@ -263,7 +265,8 @@ fn next_round_key(constant: u32, key: [u32; 4]) -> [u32; 4]
 
 // ROTWORD, then SUBWORD (FIPS 197, 5.2).
 fn turned_word(word: u32) -> u32
-    ensures { result ≡ substituted_word (word / 2 ^ 16 % 256) (word / 2 ^ 8 % 256) (word % 256) (word / 2 ^ 24) }
+    ensures { result ≡ substituted_word (word / 2 ^ 16 % 256) (word / 2 ^ 8 % 256) (word % 256)
+        (word / 2 ^ 24) }
 {
     u32::from_be_bytes([
         SUBSTITUTION[(word >> 16 & 0xff) as usize],
@@ -277,7 +280,8 @@ fn turned_word(word: u32) -> u32
 fn unmix_keys(round_keys: &[[u32; 4]; 11]) -> [[u32; 4]; 9]
     ensures { (k : List ℕ) → IsBlock k
         → ((n : ℕ) → n < 11 → slice_index_or round_keys.now n [] ≡ columns (round_key k n))
-        → (n : ℕ) → n < 9 → slice_index_or result n [] ≡ columns (unmix_columns (round_key k (n + 1))) }
+        → (n : ℕ) → n < 9
+        → slice_index_or result n [] ≡ columns (unmix_columns (round_key k (n + 1))) }
 {
     let mut unmixed = [[0; 4]; 9];
     for i in 0..9 {
@@ -300,7 +304,8 @@ fn unmix_key(key: [u32; 4]) -> [u32; 4]
 
 // INVMIXCOLUMNS of one column (FIPS 197, 5.3.3).
 fn unmix_word(word: u32) -> u32
-    ensures { result ≡ unmixed_word (word / 2 ^ 24) (word / 2 ^ 16 % 256) (word / 2 ^ 8 % 256) (word % 256) }
+    ensures { result
+        ≡ unmixed_word (word / 2 ^ 24) (word / 2 ^ 16 % 256) (word / 2 ^ 8 % 256) (word % 256) }
 {
     let s = substituted_column(word, word, word, word);
     unmixed_column(s, s, s, s)

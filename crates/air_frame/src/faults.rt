@@ -70,7 +70,9 @@ fn has_ext_iv(octets: &[u8]) -> bool
 // The bits To DS and From DS are both set, or none is.
 fn goes_no_way(octets: &[u8]) -> bool
     requires { 2 ≤ length octets.now }
-    ensures { result ≡ ((is_to_ds octets.now && is_from_ds octets.now) || (not (is_to_ds octets.now) && not (is_from_ds octets.now))) }
+    ensures { result ≡
+        ((is_to_ds octets.now && is_from_ds octets.now) ||
+        (not (is_to_ds octets.now) && not (is_from_ds octets.now))) }
 {
     let control = frame_control(octets);
     is_set(control, TO_DS) == is_set(control, FROM_DS)

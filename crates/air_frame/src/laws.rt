@@ -12,12 +12,14 @@ ghost use Rattle.air_frame.specs.Sent.{air_octets, IsAddress, management_header_
 /// Octets are a frame exactly where they have no fault, and then one frame alone. So a fault and a frame exclude each
 /// other, and one of them is always there.
 pub fn one_frame_or_one_fault()
-    ensures { (octets : List ℕ) (f : AirFields) → SpellsAir octets f ↔ ((air_fault octets ≡ None) × (f ≡ air_at octets)) }
+    ensures { (octets : List ℕ) (f : AirFields)
+        → SpellsAir octets f ↔ ((air_fault octets ≡ None) × (f ≡ air_at octets)) }
 {}
 
 /// The octets that are a frame are those that are written for it.
 pub fn a_frame_has_one_spelling()
-    ensures { (octets : List ℕ) (f : AirFields) → AreOctets octets → SpellsAir octets f → f ≢ ignored → air_octets f ≡ octets }
+    ensures { (octets : List ℕ) (f : AirFields) → AreOctets octets → SpellsAir octets f
+        → f ≢ ignored → air_octets f ≡ octets }
 {}
 
 /// Management frames as they are sent are the frames with just these fields.
@@ -25,30 +27,42 @@ pub fn sent_management_is_spelled()
     ensures assoc_req { (a1 a2 a3 elements : List ℕ) → IsAddress a1 → IsAddress a2 → IsAddress a3
         → SpellsAir (assoc_req_octets a1 a2 a3 elements)
         (assoc_req (sent_header (management_header_octets 0 a1 a2 a3) a1 a2 a3) 0x11 10 elements) }
-    ensures assoc_resp { (a1 a2 a3 elements : List ℕ) (status aid : ℕ) → IsAddress a1 → IsAddress a2 → IsAddress a3 → status < 2 ^ 16 → aid < 2 ^ 16
+    ensures assoc_resp { (a1 a2 a3 elements : List ℕ) (status aid : ℕ) → IsAddress a1 → IsAddress a2
+        → IsAddress a3 → status < 2 ^ 16 → aid < 2 ^ 16
         → SpellsAir (assoc_resp_octets a1 a2 a3 status aid elements)
-        (assoc_resp (sent_header (management_header_octets 1 a1 a2 a3) a1 a2 a3) 0x11 status aid elements) }
-    ensures re_req { (a1 a2 a3 current_ap elements : List ℕ) → IsAddress a1 → IsAddress a2 → IsAddress a3 → IsAddress current_ap
+        (assoc_resp (sent_header (management_header_octets 1 a1 a2 a3) a1 a2 a3) 0x11 status aid
+        elements) }
+    ensures re_req { (a1 a2 a3 current_ap elements : List ℕ) → IsAddress a1 → IsAddress a2
+        → IsAddress a3 → IsAddress current_ap
         → SpellsAir (re_req_octets a1 a2 a3 current_ap elements)
-        (re_req (sent_header (management_header_octets 2 a1 a2 a3) a1 a2 a3) 0x11 10 current_ap elements) }
-    ensures re_resp { (a1 a2 a3 elements : List ℕ) (status aid : ℕ) → IsAddress a1 → IsAddress a2 → IsAddress a3 → status < 2 ^ 16 → aid < 2 ^ 16
+        (re_req (sent_header (management_header_octets 2 a1 a2 a3) a1 a2 a3) 0x11 10 current_ap
+        elements) }
+    ensures re_resp { (a1 a2 a3 elements : List ℕ) (status aid : ℕ) → IsAddress a1 → IsAddress a2
+        → IsAddress a3 → status < 2 ^ 16 → aid < 2 ^ 16
         → SpellsAir (re_resp_octets a1 a2 a3 status aid elements)
-        (re_resp (sent_header (management_header_octets 3 a1 a2 a3) a1 a2 a3) 0x11 status aid elements) }
+        (re_resp (sent_header (management_header_octets 3 a1 a2 a3) a1 a2 a3) 0x11 status aid
+        elements) }
     ensures ft_req { (a1 a2 a3 elements : List ℕ) → IsAddress a1 → IsAddress a2 → IsAddress a3
         → SpellsAir (ft_req_octets a1 a2 a3 elements)
         (ft_req (sent_header (management_header_octets 11 a1 a2 a3) a1 a2 a3) 0 elements) }
-    ensures ft_resp { (a1 a2 a3 elements : List ℕ) (status : ℕ) → IsAddress a1 → IsAddress a2 → IsAddress a3 → status < 2 ^ 16
+    ensures ft_resp { (a1 a2 a3 elements : List ℕ) (status : ℕ) → IsAddress a1 → IsAddress a2
+        → IsAddress a3 → status < 2 ^ 16
         → SpellsAir (ft_resp_octets a1 a2 a3 status elements)
         (ft_resp (sent_header (management_header_octets 11 a1 a2 a3) a1 a2 a3) status elements) }
 {}
 
 /// Data frames as they are sent are the frames with just these fields.
 pub fn sent_data_is_spelled()
-    ensures eapol { (direction : Direction) (a1 a2 a3 octets : List ℕ) → IsAddress a1 → IsAddress a2 → IsAddress a3
+    ensures eapol { (direction : Direction) (a1 a2 a3 octets : List ℕ) → IsAddress a1 → IsAddress a2
+        → IsAddress a3
         → SpellsAir (eapol_data_octets direction a1 a2 a3 octets)
-        (eapol (sent_header (data_header_octets direction false None a1 a2 a3) a1 a2 a3) direction None octets) }
-    ensures protected { (direction : Direction) (tid : Option ℕ) (a1 a2 a3 body : List ℕ) → IfSome tid (λ t. t < 16)
-        → IsAddress a1 → IsAddress a2 → IsAddress a3 → 16 ≤ length body → bit_at (slice_index body 3) 5 ≡ 1
+        (eapol (sent_header (data_header_octets direction false None a1 a2 a3) a1 a2 a3) direction
+        None octets) }
+    ensures protected { (direction : Direction) (tid : Option ℕ) (a1 a2 a3 body : List ℕ)
+        → IfSome tid (λ t. t < 16)
+        → IsAddress a1 → IsAddress a2 → IsAddress a3 → 16 ≤ length body
+        → bit_at (slice_index body 3) 5 ≡ 1
         → SpellsAir (protected_data_octets direction tid a1 a2 a3 body)
-        (protected (sent_header (data_header_octets direction true tid a1 a2 a3) a1 a2 a3) direction tid body) }
+        (protected (sent_header (data_header_octets direction true tid a1 a2 a3) a1 a2 a3) direction
+        tid body) }
 {}

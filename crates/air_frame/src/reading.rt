@@ -184,9 +184,12 @@ fn frame_of(octets: &[u8]) -> AirFrame<'_>
 pub fn read(bytes: &[u8]) -> Result<AirFrame<'_>, AirFault>
     ensures found { IfOk result (λ frame. SpellsAir bytes.now (fields_of frame)) }
     ensures spelled { IfOk result (λ frame. IsSpelled (fields_of frame)) }
-    ensures again { IfOk result (λ frame. frame ≢ AirFrame.Ignored → air_octets (fields_of frame) ≡ bytes.now) }
-    ensures only { (f : AirFields) → SpellsAir bytes.now f → IsOkAnd result (λ frame. fields_of frame ≡ f) }
-    ensures fault { MatchResult result (λ _. air_fault bytes.now ≡ None) (λ e. air_fault bytes.now ≡ Some e) }
+    ensures again { IfOk result
+        (λ frame. frame ≢ AirFrame.Ignored → air_octets (fields_of frame) ≡ bytes.now) }
+    ensures only { (f : AirFields) → SpellsAir bytes.now f
+        → IsOkAnd result (λ frame. fields_of frame ≡ f) }
+    ensures fault { MatchResult result (λ _. air_fault bytes.now ≡ None)
+        (λ e. air_fault bytes.now ≡ Some e) }
 {
     match fault_of(bytes) {
         Some(fault) => Err(fault),

@@ -132,7 +132,8 @@ pub fn write_assoc_resp(
 ) -> usize
     requires { 30 + length elements.now ≤ length out.old }
     ensures size { result ≡ 30 + length elements.now }
-    ensures octets { take result out.new ≡ assoc_resp_octets a1.0 a2.0 a3.0 status aid elements.now }
+    ensures octets { take result out.new
+        ≡ assoc_resp_octets a1.0 a2.0 a3.0 status aid elements.now }
     ensures rest { (n : ℕ) → result ≤ n → drop n out.new ≡ drop n out.old }
     ensures len { length out.new ≡ length out.old }
 {

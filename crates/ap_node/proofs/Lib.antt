@@ -1,8 +1,15 @@
 pub mod Places
 pub mod Others
 pub mod Standing
+pub mod Owed
+pub mod EachGiven
+pub mod Due
+pub mod Ending
 pub mod Refusing
 pub mod Requesting
 pub mod Messaging
 pub mod Repeating
+pub mod Dropping
+pub mod Idling
+pub mod Renewing
 pub mod Growing

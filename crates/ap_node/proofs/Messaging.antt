@@ -1,6 +1,6 @@
 -- EAPOL-Key messages that the part with their station takes.
-use Rattle.std.proofs.Common.{◌≡◌, ◌≢◌, ℕ, ◌+◌, List, [], ◌∷◌, ◌++◌, Option, Some, None, Result, Ok, Err, refl, sym, ap, subst, ◌∙◌}
-use Rattle.std.specs.Prelude.{is_some, IfOk, OnErr}
+use Rattle.std.proofs.Common.{◌≡◌, ◌≢◌, ℕ, ◌+◌, ◌<◌, ◌≤◌, ◌^◌, Bool, List, length, arith, [], ◌∷◌, ◌++◌, Option, Some, None, Result, Ok, Err, refl, sym, ap, subst, ◌∙◌}
+use Rattle.std.specs.Prelude.{◌-◌, is_some, IfOk, OnErr}
 use Rattle.domain_base.specs.declared.names.Node.{Node}
 use Rattle.domain_base.specs.declared.names.Node.TheVariants.{Ap, Sta}
 use Rattle.run_journal.specs.declared.domain.Domain.{Domain}
@@ -11,29 +11,31 @@ use Rattle.run_journal.specs.declared.acts.Reason.{Reason}
 use Rattle.run_journal.specs.declared.acts.Reason.TheVariants as reason
 use Rattle.run_journal.specs.declared.acts.Act.{Act}
 use Rattle.run_journal.specs.declared.acts.Act.TheVariants.{Took}
-use Rattle.run_journal.specs.Questions.{group_keys, add, draws}
-use Rattle.run_journal.specs.GroupKinds as groups
+use Rattle.run_journal.specs.Questions.{add, draws}
 use Rattle.domain_rules.specs.Here.{here}
+use Rattle.domain_rules.specs.Network.{draw_end}
 use Rattle.domain_rules.specs.Reading.{Keyed}
 use Rattle.domain_rules.specs.Replies.{IsMessageFrom, pair, Taken, taken_as, reply_acts}
 use Rattle.domain_rules.specs.Rows.{Take}
-use Rattle.group_key.specs.Holds.{IsLast, Holds}
 use Rattle.group_key.specs.declared.keys.GroupKey.{GroupKey}
+use Rattle.group_key.specs.Keys.{Pair}
 use Rattle.frame_intake.specs.declared.delivered.KeyMessage.{KeyMessage}
 use Rattle.frame_intake.specs.Views.{message_fields}
-use Rattle.node_base.specs.Events.{Steps, seen}
+use Rattle.node_base.specs.Events.{seen}
 use Rattle.act_memory.proofs.RepliedActs.{replied_about, about_draws, about_others}
 use Rattle.authenticator.specs.State.{State as Part}
 use Rattle.authenticator.specs.Judged.{frame_of}
 use Rattle.authenticator.specs.Taken.{given, Comes}
 use Rattle.authenticator.proofs.Standing.{other_on}
 use Rattle.ap_node.specs.State.{State, station_at}
-use Rattle.ap_node.specs.Stands.{HasPart, Stands}
+use Rattle.ap_node.specs.Counts.{owes_part, owing_count, recounted}
+use Rattle.ap_node.specs.Stands.{HasPart, StandsSoFar, Stands}
 use Rattle.ap_node.specs.Parts.{IsHanded, IsHandedAt}
-use Rattle.ap_node.specs.Takes.{IsTaken, IsKeyedAtAp}
+use Rattle.ap_node.specs.Takes.{Does, IsDone, IsKeyedAtAp}
 use Rattle.ap_node.proofs.Others.{uses_none, about_group}
-use Rattle.ap_node.proofs.Standing.{some_part, no_part, stands_with_one}
-use Rattle.ap_node.proofs.Refusing.{Stays, takes_quiet, unawaited_quiet, unawaited_message}
+use Rattle.ap_node.proofs.Owed.{bit, count_low, count_changed, recounted_is}
+use Rattle.ap_node.proofs.Standing.{some_part, no_part, no_part_session, stands_with_one}
+use Rattle.ap_node.proofs.Refusing.{does_quiet, unawaited_quiet, unawaited_message}
 
 message_from : (d : Domain) (a sta : ℕ) (octets : List ℕ) (message : KeyMessage) → IsKeyedAtAp d a octets (Sta sta) message → IsMessageFrom d (Ap a) (Sta sta) octets (message_fields message)
 message_from d a sta octets message w = record { reads = w.reads; from = w.judged.1; verdict_is = w.judged.4 }
@@ -43,33 +45,64 @@ pub record IsBeside (old new : State) (sta : ℕ) : Type 0 where
   pub number : new.number ≡ old.number
   pub drawn : new.drawn ≡ old.drawn
   pub group : new.group ≡ old.group
+  pub length_is : length new.stations ≡ length old.stations
+  pub counts : old.owing ≡ owing_count old.group.newest.place old.stations → length old.stations ≤ 65536 → new.owing ≡ owing_count old.group.newest.place new.stations
   pub others : (k : ℕ) → k ≢ sta → station_at new.stations k ≡ station_at old.stations k
+
+abbrev pub the_state : ℕ → ℕ → Pair → List (Option Part) → ℕ → State
+the_state number drawn group stations owing = record { number = number; drawn = drawn; group = group; stations = stations; owing = owing }
+
+-- as the code recounts
+pub beside_count : (old new : State) (sta : ℕ) (owed owes : Bool) → ((k : ℕ) → k ≢ sta → station_at new.stations k ≡ station_at old.stations k)
+    → owed ≡ owes_part old.group.newest.place (station_at old.stations sta) → owes ≡ owes_part old.group.newest.place (station_at new.stations sta)
+    → (old.owing < 2 ^ 64 - 1 → new.owing ≡ recounted old.owing owed owes) → old.owing ≡ owing_count old.group.newest.place old.stations → length old.stations ≤ 65536
+    → new.owing ≡ owing_count old.group.newest.place new.stations
+beside_count old new sta owed owes others owed_is owes_is counted is few =
+    let place = old.group.newest.place in
+    let changed = count_changed place old.stations new.stations sta (λ j other. ap (owes_part place) (others j other)) in
+    counted (omega (arith, is, few, count_low place old.stations))
+    ∙ recounted_is old.owing (owing_count place old.stations) (owing_count place new.stations) owed owes is (joined (owing_count place new.stations) (owing_count place old.stations) changed owed_is owes_is)
+  where
+    joined : (n m : ℕ) {a b c e : Bool} → n + bit a ≡ m + bit b → c ≡ a → e ≡ b → n + bit c ≡ m + bit e
+    joined n m sum f g = rw (f, g) sum
+
+pub owes_same : (g k : GroupKey) (o q : Option Part) → g ≡ k → o ≡ q → owes_part g.place o ≡ owes_part k.place q
+owes_same g k o q key part = rw (key, part) refl
+
+-- nothing is changed where the parts and the count are not
+pub kept_state : (number drawn m n : ℕ) (group : Pair) (now was : List (Option Part)) → now ≡ was → m ≡ n
+    → the_state number drawn group now m ≡ the_state number drawn group was n
+kept_state number drawn m n group now was parts count = rw (parts, count) refl
 
 -- the part took it
 handed : (d : Domain) (old new : State) (octets : List ℕ) (sta : ℕ) (message : KeyMessage) (outcome : Outcome) (a b : Part) (acts waited : List Act) → IsKeyedAtAp d old.number octets (Sta sta) message → IsBeside old new sta
     → station_at old.stations sta ≡ Some a → station_at new.stations sta ≡ Some b
     → IsHanded (pair d (Ap old.number) (Sta sta)) (given message.message (frame_of message.frame) old.group.newest 0) (taken_as octets (message_fields message) outcome) a b acts
-    → (first : ℕ) (h : List Act) → Stands d first old h → Steps (here d first (Ap old.number)) (Take octets) (Stands d first new) h (seen waited (waited ++ acts) outcome)
+    → (first : ℕ) (h : List Act) → Stands d first old h → Does (here d first (Ap old.number)) (Take octets) (StandsSoFar d first new) h (seen waited (waited ++ acts) outcome)
 handed d old new octets sta message outcome a b acts waited w beside was now x first h stands =
     let n = Ap old.number in
     let p = Sta sta in
     let k = message_fields message in
     let there = is_some a.session in
-    let at = some_part d n sta (station_at old.stations sta) a h was (stands.parts sta) in
+    let so_far = stands.so_far in
+    let at = some_part d n sta (station_at old.stations sta) a h was (so_far.parts sta) in
     let come : Comes (here d first n) p (given message.message (frame_of message.frame) old.group.newest 0) octets k h =
-    record { from = message_from d old.number sta octets message w; message = refl; frame = refl; newest = stands.group_is.newest; uses = uses_none h stands.unused } in
+    record { from = message_from d old.number sta octets message w; message = refl; frame = refl; newest = so_far.group_is.newest; uses = uses_none h so_far.unused } in
     let steps = x.steps d first old.number sta octets k h at.1 come in
     let said = reply_acts (pair d n p) there (taken_as octets k outcome) x.reply in
     let about = replied_about d n p there octets k outcome x.reply in
     record {
       acts = said;
-      adds = steps.adds;
+      row = steps.adds;
       waiting = ap (λ (l : List Act). waited ++ l) x.says;
       came = refl;
-      stands = stands_with_one d first old new h (add said h) sta stands (record {
+      stands = stands_with_one d first old new h (add said h) sta so_far (record {
         number = beside.number;
-        drawn = beside.drawn ∙ stands.draws_are ∙ ap (λ (m : ℕ). first + m) (sym (about_draws p said h about));
+        drawn = beside.drawn ∙ so_far.draws_are ∙ ap (λ (m : ℕ). first + m) (sym (about_draws p said h about));
+        drawn_low = subst (λ (m : ℕ). m ≤ draw_end) (sym beside.drawn) so_far.draws_low;
         group = beside.group;
+        few = subst (λ (m : ℕ). m ≤ 65536) (sym beside.length_is) so_far.few;
+        counted = beside.counts so_far.counted so_far.few;
         same_group = about_group p said h about;
         here = subst (λ (o : Option Part). HasPart d n sta o (add said h)) (sym now) (at.0, steps.stands);
         others = beside.others;
@@ -78,23 +111,25 @@ handed d old new octets sta message outcome a b acts waited w beside was now x f
     }
 
 -- without a part it is unawaited
-unhanded : (d : Domain) (s : State) (octets : List ℕ) (sta : ℕ) (message : KeyMessage) (waited waits : List Act) → IsKeyedAtAp d s.number octets (Sta sta) message → station_at s.stations sta ≡ None
-    → waits ≡ waited ++ Took (Some (Sta sta)) octets (kind.Key message.message) (Refused reason.Unawaited) None ∷ [] → Stays d s octets waited waits (Refused reason.Unawaited)
-unhanded d s octets sta message waited waits w none waiting =
-    takes_quiet d s octets (Keyed (message_fields message)) (Some (Sta sta)) (kind.Key message.message) reason.Unawaited waited waits w.reads (sym w.judged.1) refl (unawaited_quiet d (Ap s.number))
-    (λ first h stands. w.judged.4 first h ∙ unawaited_message d (first + draws h) s.number h (Sta sta) (message_fields message) message.message (no_part d (Ap s.number) sta (station_at s.stations sta) h none (stands.parts sta))) waiting
+unhanded : (d : Domain) (s : State) (octets : List ℕ) (sta : ℕ) (message : KeyMessage) (waited : List Act) → IsKeyedAtAp d s.number octets (Sta sta) message → station_at s.stations sta ≡ None → (first : ℕ) (h : List Act) → Stands d first s h
+    → Does (here d first (Ap s.number)) (Take octets) (StandsSoFar d first s) h (seen waited (waited ++ Took (Some (Sta sta)) octets (kind.Key message.message) (Refused reason.Unawaited) None ∷ []) (Refused reason.Unawaited))
+unhanded d s octets sta message waited w none first h stands =
+    does_quiet d s octets (Keyed (message_fields message)) (Some (Sta sta)) (kind.Key message.message) reason.Unawaited waited first h stands w.reads (sym w.judged.1) refl (unawaited_quiet d (Ap s.number))
+    (w.judged.4 first h ∙ unawaited_message d (first + draws h) s.number h (Sta sta) (message_fields message) message.message (no_part d (Ap s.number) sta (station_at s.stations sta) h none (stands.so_far.parts sta))
+    (no_part_session d (Ap s.number) sta (station_at s.stations sta) h none (stands.so_far.parts sta)))
 
 pub takes_message : (d : Domain) (old new : State) (octets : List ℕ) (sta : ℕ) (message : KeyMessage) (outcome : Outcome) (o q : Option Part) (acts waited : List Act) → IsKeyedAtAp d old.number octets (Sta sta) message → IsBeside old new sta
     → ((why : Reason) → outcome ≡ Refused why → new ≡ old) → station_at old.stations sta ≡ o → station_at new.stations sta ≡ q
     → IsHandedAt (pair d (Ap old.number) (Sta sta)) (given message.message (frame_of message.frame) old.group.newest 0) (taken_as octets (message_fields message) outcome) o q acts
-    → IsTaken d (Take octets) old new (seen waited (waited ++ acts) outcome)
+    → IsDone d (Take octets) old new (seen waited (waited ++ acts) outcome)
 takes_message d old new octets sta message outcome None q acts waited w beside refused was now x =
-    subst (λ (s : State). IsTaken d (Take octets) old s (seen waited (waited ++ acts) outcome)) (sym (refused reason.Unawaited x.1))
-    (subst (λ (z : Outcome). Stays d old octets waited (waited ++ acts) z) (sym x.1)
-    (unhanded d old octets sta message waited (waited ++ acts) w was (ap (λ (l : List Act). waited ++ l) x.2)))
+    subst (λ (s : State). IsDone d (Take octets) old s (seen waited (waited ++ acts) outcome)) (sym (refused reason.Unawaited x.1))
+    (subst (λ (z : Outcome). IsDone d (Take octets) old old (seen waited (waited ++ acts) z)) (sym x.1)
+    (subst (λ (l : List Act). IsDone d (Take octets) old old (seen waited (waited ++ l) (Refused reason.Unawaited))) (sym x.2)
+    (record { number = refl; does = λ first h stands. unhanded d old octets sta message waited w was first h stands; refused = λ why is. refl })))
 takes_message d old new octets sta message outcome (Some a) q acts waited w beside refused was now x = record {
   number = beside.number;
-  steps = handed d old new octets sta message outcome a x.0 acts waited w beside was (now ∙ x.1) x.2;
+  does = handed d old new octets sta message outcome a x.0 acts waited w beside was (now ∙ x.1) x.2;
   refused = refused;
 }
 

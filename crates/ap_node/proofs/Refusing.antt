@@ -1,13 +1,12 @@
 -- Frames that change nothing.
-use Rattle.std.proofs.Common.{◌+◌, ◌≡◌, ℕ, Bool, false, List, [], ◌∷◌, ◌++◌, Option, Some, None, refl, sym, ap, subst, ◌∙◌, inl, inr}
-use Rattle.std.specs.Prelude.{is_some}
+use Rattle.std.proofs.Common.{◌+◌, ◌≡◌, ℕ, false, List, [], ◌∷◌, ◌++◌, Option, Some, None, refl, sym, ap, subst, ◌∙◌, inl, inr}
 use Rattle.domain_base.specs.declared.names.Node.{Node}
 use Rattle.domain_base.specs.declared.names.Node.TheVariants.{Ap, Sta}
 use Rattle.rsn_elements.specs.declared.reading.Elements.{Elements}
 use Rattle.rsn_elements.specs.Elements.{ElementFields}
 use Rattle.rsn_elements.specs.Fields.{element_fields}
 use Rattle.eapol_key.specs.declared.messages.Message.{Message}
-use Rattle.eapol_key.specs.declared.messages.Message.TheVariants.{M2, M4}
+use Rattle.eapol_key.specs.declared.messages.Message.TheVariants.{M2, M4, G2}
 use Rattle.run_journal.specs.declared.domain.Domain.{Domain}
 use Rattle.run_journal.specs.declared.acts.Kind.{Kind}
 use Rattle.run_journal.specs.declared.acts.Kind.TheVariants as kind
@@ -18,56 +17,75 @@ use Rattle.run_journal.specs.declared.acts.Outcome.TheVariants.{Ignored, Refused
 use Rattle.run_journal.specs.declared.acts.Seal.{Seal}
 use Rattle.run_journal.specs.declared.acts.Act.{Act}
 use Rattle.run_journal.specs.declared.acts.Act.TheVariants.{Took}
-use Rattle.run_journal.specs.Questions.{add, attempt, draws}
+use Rattle.run_journal.specs.Questions.{add, attempt, session, draws}
 use Rattle.domain_rules.specs.Here.{here}
 use Rattle.domain_rules.specs.Network.{is_ap}
-use Rattle.domain_rules.specs.Reading.{Management, KeyMessage, Reading, PassedOver, Managed, Keyed, Reads, kind_of}
+use Rattle.domain_rules.specs.Reading.{Management, KeyMessage, Reading, PassedOver, Managed, Reads, kind_of}
+use Rattle.domain_rules.specs.AccessPointKeys.{g2_verdict_by}
 use Rattle.domain_rules.specs.Verdict.{ComesSoFar, first_verdict, further, and_then, key_verdict}
 use Rattle.domain_rules.specs.Associating.{management_verdict}
-use Rattle.domain_rules.specs.Rows.{NodeEvent, Take, By_ignored, By_refusal, seal_in, response}
+use Rattle.domain_rules.specs.Rows.{NodeEvent, Take, By_ignored, By_refusal, response}
 use Rattle.domain_rules.specs.Closing.{sender}
 use Rattle.domain_rules.proofs.Effects.{refused_acts}
 use Rattle.domain_rules.proofs.Refused.{IsRefused, no_facts, refused_first}
 use Rattle.domain_rules.proofs.Verdicts.{unawaited-m2}
 use Rattle.frame_intake.specs.declared.delivered.Management.{Management as AnyFrame}
 use Rattle.frame_intake.specs.declared.delivered.KeyMessage.{KeyMessage as AnyMessage}
-use Rattle.frame_intake.specs.Views.{management_fields, message_fields}
+use Rattle.frame_intake.specs.Views.{management_fields}
 use Rattle.frame_intake.specs.declared.judging.Judged.TheVariants as judged
 use Rattle.frame_intake.specs.Judging.{IsJudged, IsSilent, IsSettled}
 use Rattle.node_base.specs.Peers.{IsPeerOf}
-use Rattle.node_base.specs.Events.{Steps, Seen, seen}
+use Rattle.node_base.specs.Events.{Seen, seen}
+use Rattle.authenticator.proofs.Handshaking.{owing_no_session}
 use Rattle.ap_node.specs.State.{State}
-use Rattle.ap_node.specs.Stands.{Stands}
-use Rattle.ap_node.specs.Takes.{IsTaken, IsManagedAtAp, IsRequest, IsKeyedAtAp}
+use Rattle.ap_node.specs.Stands.{StandsSoFar, Stands}
+use Rattle.ap_node.specs.Takes.{Does, IsTaken, IsManagedAtAp, IsRequest, IsKeyedAtAp}
 use Rattle.ap_node.proofs.Others.{same-refused, same-ignored}
-use Rattle.ap_node.proofs.Standing.{stands_as_before}
+use Rattle.ap_node.proofs.Standing.{so_far_as_before}
+use Rattle.ap_node.proofs.Ending.{settled_steps}
 
 -- it takes the frame, and is as it was
 abbrev pub Stays : Domain → State → List ℕ → List Act → List Act → Outcome → Type 0
 Stays d s octets waited waits outcome = IsTaken d (Take octets) s s (seen waited waits outcome)
 
-pub stays : (d : Domain) (s : State) (event : NodeEvent) (x : Seen) → ((first : ℕ) (h : List Act) → Stands d first s h → Steps (here d first (Ap s.number)) event (Stands d first s) h x) → IsTaken d event s s x
-stays d s event x steps = record { number = refl; steps = steps; refused = λ why is. refl }
+pub stays : (d : Domain) (s : State) (event : NodeEvent) (x : Seen) → ((first : ℕ) (h : List Act) → Stands d first s h → Does (here d first (Ap s.number)) event (StandsSoFar d first s) h x) → IsTaken d event s s x
+stays d s event x does = record {
+  number = refl;
+  steps = λ first h stands. settled_steps d first event s s x h refl stands.settled (does first h stands);
+  refused = λ why is. refl;
+}
 
 -- ---- refused, whatever is sealed and answered
 
 abbrev pub RefusedAfter : Domain → State → Reading → Reason → Option Seal → Type 0
 RefusedAfter d s r why seal = (first : ℕ) (h : List Act) → Stands d first s h → IsRefused d first (Ap s.number) h r why seal
 
+-- after that history
+does_refused : (d : Domain) (s : State) (octets : List ℕ) (r : Reading) (from : Option Node) (k : Kind) (why : Reason) (seal : Option Seal) (answer waited waits : List Act) (first : ℕ) (h : List Act) → Stands d first s h → Reads d.akm octets r
+    → from ≡ sender d (Ap s.number) r → k ≡ kind_of r → answer ≡ response d (Ap s.number) from k why → IsRefused d first (Ap s.number) h r why seal → waits ≡ waited ++ Took from octets k (Refused why) seal ∷ answer
+    → Does (here d first (Ap s.number)) (Take octets) (StandsSoFar d first s) h (seen waited waits (Refused why))
+does_refused d s octets r from k why seal answer waited waits first h stands reads from_is kind_is answer_is w waiting = record {
+  acts = Took from octets k (Refused why) seal ∷ answer;
+  row = record { r = r; reads = reads; facts = w.facts; knows = w.knows; row = By_refusal (record { why = why; refused = w.refused; says = cc (from_is, kind_is, answer_is, w.seal_is) }) };
+  waiting = waiting;
+  came = refl;
+  stands = subst (λ (g : List Act). StandsSoFar d first s (add (Took from octets k (Refused why) seal ∷ g) h)) (sym answer_is)
+      (so_far_as_before d first s h (add (refused_acts d (Ap s.number) from octets k why seal) h) (same-refused d (Ap s.number) from octets k why seal h) stands.so_far);
+}
+
 pub takes_refused : (d : Domain) (s : State) (octets : List ℕ) (r : Reading) (from : Option Node) (k : Kind) (why : Reason) (seal : Option Seal) (answer waited waits : List Act) → Reads d.akm octets r
     → from ≡ sender d (Ap s.number) r → k ≡ kind_of r → answer ≡ response d (Ap s.number) from k why → RefusedAfter d s r why seal → waits ≡ waited ++ Took from octets k (Refused why) seal ∷ answer
     → Stays d s octets waited waits (Refused why)
 takes_refused d s octets r from k why seal answer waited waits reads from_is kind_is answer_is refused waiting = stays d s (Take octets) (seen waited waits (Refused why)) (λ first h stands.
-    (let w = refused first h stands in
-    record {
-      acts = Took from octets k (Refused why) seal ∷ answer;
-      adds = record { r = r; reads = reads; facts = w.facts; knows = w.knows; row = By_refusal (record { why = why; refused = w.refused; says = cc (from_is, kind_is, answer_is, w.seal_is) }) };
-      waiting = waiting;
-      came = refl;
-      stands = subst (λ (g : List Act). Stands d first s (add (Took from octets k (Refused why) seal ∷ g) h)) (sym answer_is) (stands_as_before d first s h (add (refused_acts d (Ap s.number) from octets k why seal) h) (same-refused d (Ap s.number) from octets k why seal h) stands);
-    }))
+    does_refused d s octets r from k why seal answer waited waits first h stands reads from_is kind_is answer_is (refused first h stands) waiting)
 
 -- ---- refused by the frame and the history alone
+
+pub does_quiet : (d : Domain) (s : State) (octets : List ℕ) (r : Reading) (from : Option Node) (k : Kind) (why : Reason) (waited : List Act) (first : ℕ) (h : List Act) → Stands d first s h → Reads d.akm octets r
+    → from ≡ sender d (Ap s.number) r → k ≡ kind_of r → IsSilent d (Ap s.number) why → first_verdict d first (Ap s.number) h r ≡ Refused why
+    → Does (here d first (Ap s.number)) (Take octets) (StandsSoFar d first s) h (seen waited (waited ++ Took from octets k (Refused why) None ∷ []) (Refused why))
+does_quiet d s octets r from k why waited first h stands reads from_is kind_is quiet refused =
+    does_refused d s octets r from k why None [] waited (waited ++ Took from octets k (Refused why) None ∷ []) first h stands reads from_is kind_is (sym (quiet from k)) (refused_first d first (Ap s.number) h r why refused) refl
 
 pub takes_quiet : (d : Domain) (s : State) (octets : List ℕ) (r : Reading) (from : Option Node) (k : Kind) (why : Reason) (waited waits : List Act) → Reads d.akm octets r → from ≡ sender d (Ap s.number) r → k ≡ kind_of r
     → IsSilent d (Ap s.number) why → ((first : ℕ) (h : List Act) → Stands d first s h → first_verdict d first (Ap s.number) h r ≡ Refused why) → waits ≡ waited ++ Took from octets k (Refused why) None ∷ []
@@ -83,7 +101,7 @@ takes_ignored : (d : Domain) (s : State) (octets : List ℕ) (r : Reading) (from
     → Stays d s octets waited waits Ignored
 takes_ignored d s octets r from waited waits reads from_is passed ignored waiting = stays d s (Take octets) (seen waited waits Ignored) (λ first h stands. record {
   acts = Took None octets kind.Ignored Ignored None ∷ [];
-  adds = record {
+  row = record {
     r = r;
     reads = reads;
     facts = no_facts;
@@ -92,7 +110,7 @@ takes_ignored d s octets r from waited waits reads from_is passed ignored waitin
   };
   waiting = waiting ∙ ap (λ (act : Act). waited ++ act ∷ []) (cc (from_is ∙ ap (sender d (Ap s.number)) passed, ap kind_of passed));
   came = refl;
-  stands = stands_as_before d first s h (Took None octets kind.Ignored Ignored None ∷ h) (same-ignored octets h) stands;
+  stands = so_far_as_before d first s h (Took None octets kind.Ignored Ignored None ∷ h) (same-ignored octets h) stands.so_far;
 })
 
 -- ---- judged with no question to the history
@@ -132,11 +150,12 @@ takes_other_frame d s octets from frame elements k waited waits w is other waiti
     takes_quiet d s octets (Managed (management_fields frame) (element_fields elements)) (Some from) k reason.Unawaited waited waits w.reads (sym w.judged.1) is (unawaited_quiet d (Ap s.number))
     (λ first h stands. w.judged.3 first h ∙ other_kind d (first + draws h) s.number h from frame.kind (management_fields frame) (element_fields elements) (λ same. other (is ∙ same))) waiting
 
--- an EAPOL-Key message is unawaited where there is no attempt
-pub unawaited_message : (d : Domain) (drawn a : ℕ) (h : List Act) (p : Node) (k : KeyMessage) (m : Message) → attempt p h ≡ None → key_verdict d drawn (Ap a) h p k m ≡ Refused reason.Unawaited
-unawaited_message d drawn a h p k M2 none = unawaited-m2 d (Ap a) h p k none
-unawaited_message d drawn a h p k M4 none = rw none refl
-unawaited_message d drawn a h p k m none = refl
+-- an EAPOL-Key message is unawaited where there is no attempt and no session
+pub unawaited_message : (d : Domain) (drawn a : ℕ) (h : List Act) (p : Node) (k : KeyMessage) (m : Message) → attempt p h ≡ None → session p h ≡ None → key_verdict d drawn (Ap a) h p k m ≡ Refused reason.Unawaited
+unawaited_message d drawn a h p k M2 none no_session = unawaited-m2 d (Ap a) h p k none
+unawaited_message d drawn a h p k M4 none no_session = rw none refl
+unawaited_message d drawn a h p k G2 none no_session = ap (g2_verdict_by d h p k) (owing_no_session p h no_session)
+unawaited_message d drawn a h p k m none no_session = refl
 
 -- ---- what is judged further
 

@@ -1,44 +1,60 @@
 -- What is sent once more.
-use Rattle.std.proofs.Common.{◌≡◌, ℕ, ◌+◌, Bool, true, false, cond, List, [], ◌∷◌, ◌++◌, Option, Some, None, refl, sym, ap, subst, ◌∙◌}
-use Rattle.std.specs.Prelude.{take, ◌==◌}
+use Rattle.std.proofs.Common.{◌≡◌, ℕ, ◌+◌, ◌<◌, ◌≤◌, ◌^◌, Bool, true, false, cond, List, [], ◌∷◌, ◌++◌, Option, Some, None, refl, sym, ap, subst, ◌∙◌, arith}
+use Rattle.std.specs.Prelude.{◌-◌, take, ◌==◌}
 use Rattle.std.specs.List.{AllByRecursion}
 use Rattle.domain_base.specs.declared.names.Node.{Node}
 use Rattle.domain_base.specs.declared.names.Node.TheVariants.{Ap, Sta}
 use Rattle.eapol_key.specs.declared.messages.Message.{Message}
 use Rattle.run_journal.specs.declared.domain.Domain.{Domain}
+use Rattle.run_journal.specs.declared.acts.Part.{Part as PartName}
+use Rattle.run_journal.specs.declared.acts.Part.TheVariants.{Attempt as OfAttempt, Session as OfSession}
 use Rattle.run_journal.specs.declared.acts.Reason.{Reason}
 use Rattle.run_journal.specs.declared.acts.Why.TheVariants as why
 use Rattle.run_journal.specs.declared.acts.Outcome.{Outcome}
 use Rattle.run_journal.specs.declared.acts.Outcome.TheVariants.{Refused, Done, Idle as IdleBy}
 use Rattle.run_journal.specs.declared.acts.Act.{Act}
-use Rattle.run_journal.specs.declared.acts.Act.TheVariants.{GaveUp, Idle}
+use Rattle.run_journal.specs.declared.acts.Act.TheVariants.{Closed, GaveUp, Idle}
 use Rattle.run_journal.specs.declared.reply.Reply.{Reply}
-use Rattle.run_journal.specs.Acts.{same}
-use Rattle.run_journal.specs.Questions.{attempt, draws, add}
+use Rattle.run_journal.specs.GroupKinds as groups
+use Rattle.run_journal.specs.Acts.{same, Derivation}
+use Rattle.run_journal.specs.Questions.{session, group_keys, draws, add}
 use Rattle.domain_rules.specs.Here.{here}
 use Rattle.domain_rules.specs.Replies.{frame_acts, sent_acts}
-use Rattle.domain_rules.specs.AccessPointRows.{retry_acts}
+use Rattle.domain_rules.specs.Network.{draw_end}
+use Rattle.domain_rules.specs.Counters.{next_in_session}
+use Rattle.domain_rules.specs.AccessPointRows.{retry_acts, retry_session}
 use Rattle.domain_rules.specs.Rows.{Retry, outcome_of}
-use Rattle.domain_rules.proofs.Parts.{IsApart, apart-closed, apart-idle}
-use Rattle.node_base.specs.Events.{Steps, seen}
+use Rattle.domain_rules.proofs.Parts.{IsApart, apart-closed, apart-closed_session, apart-idle}
+use Rattle.group_key.specs.declared.keys.GroupKey.{GroupKey}
+use Rattle.group_key.specs.Holds.{IsLast}
+use Rattle.group_key.proofs.Drawing.{place_low}
+use Rattle.node_base.specs.Events.{seen}
 use Rattle.act_memory.proofs.RepliedActs.{sent_about, about_draws, about_others}
 use Rattle.authenticator.specs.State.{State as Part}
-use Rattle.authenticator.specs.Steps.{again_acts}
+use Rattle.authenticator.specs.Stands.{HasSession, AuthenticatorStands}
+use Rattle.authenticator.specs.Steps.{part_of, again_acts}
+use Rattle.authenticator.specs.Taken.{Newest}
+use Rattle.authenticator.specs.declared.session.Session.{Session}
 use Rattle.authenticator.specs.declared.authenticator.Again.{Again}
 use Rattle.authenticator.specs.declared.authenticator.Again.TheVariants as again
+use Rattle.authenticator.proofs.Handshaking.{counts_newest, owing_no_session}
 use Rattle.authenticator.proofs.Standing.{other_on}
 use Rattle.ap_node.specs.State.{State, station_at}
-use Rattle.ap_node.specs.Stands.{HasPart, Stands}
+use Rattle.ap_node.specs.Stands.{HasPart, StandsSoFar}
 use Rattle.ap_node.specs.Parts.{IsResent, IsResentAt}
-use Rattle.ap_node.specs.Takes.{IsTaken}
-use Rattle.ap_node.proofs.Others.{IsSameGroup, about_group, same-idle}
-use Rattle.ap_node.proofs.Standing.{no_part, some_part, part_on, stands_with_one}
+use Rattle.ap_node.specs.Takes.{IsDone}
+use Rattle.ap_node.proofs.Others.{IsSameGroup, uses_none, about_group, same-idle}
+use Rattle.ap_node.proofs.Standing.{no_part, no_part_session, some_part, part_on, stands_with_one}
 use Rattle.ap_node.proofs.Messaging.{IsBeside}
 
 -- ---- what the acts of a retry leave
 
 apart-gave_up : (p q : Node) (m : Message) → IsApart p (GaveUp q m)
 apart-gave_up p q m = record { opens_none = refl; ends_none = refl; accepts_none = λ k. refl; replies_none = λ k. refl; sends_none = λ x. refl; derives_none = refl; finishes_none = refl; closes_none = refl }
+
+apart-part : (q : ℕ) (p : Node) (part : PartName) → same (Sta q) p ≡ false → IsApart (Sta q) (Closed p part)
+apart-part q p OfAttempt other = apart-closed q p other
+apart-part q p OfSession other = apart-closed_session (Sta q) p other
 
 again-group : (p : Node) (came : Again) (r : Reply) (h : List Act) → IsSameGroup h (add (again_acts p came r) h)
 again-group p again.Sent r h = about_group p (sent_acts p r) h (sent_about p r)
@@ -52,7 +68,7 @@ again-draws p again.Nothing r h = refl
 
 again-apart : (q : ℕ) (p : Node) (came : Again) (r : Reply) → same (Sta q) p ≡ false → AllByRecursion (IsApart (Sta q)) (again_acts p came r)
 again-apart q p again.Sent r other = about_others p q (sent_acts p r) other (sent_about p r)
-again-apart q p (again.GaveUp m) r other = (apart-gave_up (Sta q) p m, (apart-closed q p other, tt))
+again-apart q p (again.GaveUp m) r other = (apart-gave_up (Sta q) p m, (apart-part q p (part_of m) other, tt))
 again-apart q p again.Nothing r other = (apart-idle (Sta q) why.Nothing, tt)
 
 -- ---- a retry is never refused
@@ -71,25 +87,45 @@ never_refused p again.Nothing r o why_ is refused = cc (is, refused)
 
 -- ---- the part sends once more, or there is none
 
-resent : (d : Domain) (old new : State) (sta : ℕ) (a b : Part) (acts waited : List Act) (outcome : Outcome) → IsBeside old new sta → station_at old.stations sta ≡ Some a → station_at new.stations sta ≡ Some b → outcome ≡ outcome_of acts → IsResent sta a b acts
-    → IsTaken d (Retry sta) old new (seen waited (waited ++ acts) outcome)
+-- how the replay counters of a session stand: they are far from their end, as there are at most four for each group key
+pub counts_low : (d : Domain) (n p : Node) (o : Option Session) (place : ℕ) (g : GroupKey) (h : List Act) → IsLast g (group_keys groups.Gtk h) → g.place < 2 ^ 60 → HasSession d n p o h → (x : Derivation) → session p h ≡ Some x → next_in_session p h < 2 ^ 64 - 1
+counts_low d n p None place g h last low at x is = cc (at, is)
+counts_low d n p (Some s) place g h last low at x is =
+    let counts = counts_newest p s g h last at.counts in
+    omega (arith, counts.next, counts.low, counts.few, counts.drawn, low)
+
+-- the newest group key, as the parts are given it
+pub newest_at : (d : Domain) (first : ℕ) (s : State) (sta : ℕ) (part : Part) (h : List Act) → StandsSoFar d first s h → AuthenticatorStands d (Ap s.number) (Sta sta) part h → Newest (Sta sta) s.group.newest 0 h
+newest_at d first s sta part h so_far at = record {
+  newest = so_far.group_is.newest;
+  uses = uses_none h so_far.unused;
+  low = counts_low d (Ap s.number) (Sta sta) part.session s.group.newest.place s.group.newest h so_far.group_is.newest
+      (omega (arith, place_low s.group.newest h so_far.group_is.newest, so_far.draws_are, so_far.draws_low)) at.session_is;
+}
+
+resent : (d : Domain) (old new : State) (sta : ℕ) (a b : Part) (acts waited : List Act) (outcome : Outcome) → IsBeside old new sta → station_at old.stations sta ≡ Some a → station_at new.stations sta ≡ Some b → outcome ≡ outcome_of acts → IsResent sta old.group.newest a b acts
+    → IsDone d (Retry sta) old new (seen waited (waited ++ acts) outcome)
 resent d old new sta a b acts waited outcome beside was now came_is x = record {
   number = beside.number;
-  steps = λ first h stands.
+  does = λ first h stands.
       (let n = Ap old.number in
       let p = Sta sta in
-      let at = some_part d n sta (station_at old.stations sta) a h was (stands.parts sta) in
-      let y = x.retries d old.number sta h at.1 in
+      let so_far = stands.so_far in
+      let at = some_part d n sta (station_at old.stations sta) a h was (so_far.parts sta) in
+      let y = x.retries d old.number sta h at.1 (newest_at d first old sta a h so_far at.1) in
       let said = again_acts p x.came x.reply in
       record {
         acts = said;
-        adds = sym y.adds;
+        row = sym y.adds;
         waiting = ap (λ (l : List Act). waited ++ l) x.says;
         came = came_is ∙ ap outcome_of x.says;
-        stands = stands_with_one d first old new h (add said h) sta stands (record {
+        stands = stands_with_one d first old new h (add said h) sta so_far (record {
           number = beside.number;
-          drawn = beside.drawn ∙ stands.draws_are ∙ ap (λ (m : ℕ). first + m) (sym (again-draws p x.came x.reply h));
+          drawn = beside.drawn ∙ so_far.draws_are ∙ ap (λ (m : ℕ). first + m) (sym (again-draws p x.came x.reply h));
+          drawn_low = subst (λ (m : ℕ). m ≤ draw_end) (sym beside.drawn) so_far.draws_low;
           group = beside.group;
+          few = subst (λ (m : ℕ). m ≤ 65536) (sym beside.length_is) so_far.few;
+          counted = beside.counts so_far.counted so_far.few;
           same_group = again-group p x.came x.reply h;
           here = subst (λ (o : Option Part). HasPart d n sta o (add said h)) (sym now) (at.0, y.stands);
           others = beside.others;
@@ -99,24 +135,29 @@ resent d old new sta a b acts waited outcome beside was now came_is x = record {
   refused = λ why_ is. absurd (never_refused (Sta sta) x.came x.reply outcome why_ (came_is ∙ ap outcome_of x.says) is);
 }
 
-idle : (d : Domain) (old new : State) (sta : ℕ) (waited : List Act) → IsBeside old new sta → station_at old.stations sta ≡ None → station_at new.stations sta ≡ None → IsTaken d (Retry sta) old new (seen waited (waited ++ Idle why.Nothing ∷ []) (IdleBy why.Nothing))
+idle : (d : Domain) (old new : State) (sta : ℕ) (waited : List Act) → IsBeside old new sta → station_at old.stations sta ≡ None → station_at new.stations sta ≡ None → IsDone d (Retry sta) old new (seen waited (waited ++ Idle why.Nothing ∷ []) (IdleBy why.Nothing))
 idle d old new sta waited beside was now = record {
   number = beside.number;
-  steps = λ first h stands.
+  does = λ first h stands.
       (let n = Ap old.number in
-      let none = no_part d n sta (station_at old.stations sta) h was (stands.parts sta) in
+      let so_far = stands.so_far in
+      let none = no_part d n sta (station_at old.stations sta) h was (so_far.parts sta) in
+      let unowed = owing_no_session (Sta sta) h (no_part_session d n sta (station_at old.stations sta) h was (so_far.parts sta)) in
       let same = same-idle why.Nothing h in
       record {
         acts = Idle why.Nothing ∷ [];
-        adds = sym (ap (retry_acts d n h (Sta sta)) none);
+        row = sym (ap (retry_acts d n h (Sta sta)) none ∙ ap (retry_session d n h (Sta sta)) unowed);
         waiting = refl;
         came = refl;
-        stands = stands_with_one d first old new h (Idle why.Nothing ∷ h) sta stands (record {
+        stands = stands_with_one d first old new h (Idle why.Nothing ∷ h) sta so_far (record {
           number = beside.number;
-          drawn = beside.drawn ∙ stands.draws_are;
+          drawn = beside.drawn ∙ so_far.draws_are;
+          drawn_low = subst (λ (m : ℕ). m ≤ draw_end) (sym beside.drawn) so_far.draws_low;
           group = beside.group;
+          few = subst (λ (m : ℕ). m ≤ 65536) (sym beside.length_is) so_far.few;
+          counted = beside.counts so_far.counted so_far.few;
           same_group = same.group;
-          here = subst (λ (o : Option Part). HasPart d n sta o (Idle why.Nothing ∷ h)) (sym now) (part_on d n sta None h (Idle why.Nothing ∷ h) (same.each (Sta sta)) (subst (λ (o : Option Part). HasPart d n sta o h) was (stands.parts sta)));
+          here = subst (λ (o : Option Part). HasPart d n sta o (Idle why.Nothing ∷ h)) (sym now) (part_on d n sta None h (Idle why.Nothing ∷ h) (same.each (Sta sta)) (subst (λ (o : Option Part). HasPart d n sta o h) was (so_far.parts sta)));
           others = beside.others;
           goes = λ k other. same.each (Sta k);
         });
@@ -124,9 +165,14 @@ idle d old new sta waited beside was now = record {
   refused = λ why_ is. absurd (cc is);
 }
 
-pub retries : (d : Domain) (old new : State) (sta : ℕ) (o q : Option Part) (acts waited : List Act) (outcome : Outcome) → IsBeside old new sta → station_at old.stations sta ≡ o → station_at new.stations sta ≡ q → outcome ≡ outcome_of acts → IsResentAt sta o q acts
-    → IsTaken d (Retry sta) old new (seen waited (waited ++ acts) outcome)
+pub retries : (d : Domain) (old new : State) (sta : ℕ) (o q : Option Part) (acts waited : List Act) (outcome : Outcome) → IsBeside old new sta → station_at old.stations sta ≡ o → station_at new.stations sta ≡ q → outcome ≡ outcome_of acts → IsResentAt sta old.group.newest o q acts
+    → IsDone d (Retry sta) old new (seen waited (waited ++ acts) outcome)
 retries d old new sta None q acts waited outcome beside was now came_is x =
-    subst (λ (g : List Act). IsTaken d (Retry sta) old new (seen waited (waited ++ g) outcome)) (sym x.1)
-    (subst (λ (z : Outcome). IsTaken d (Retry sta) old new (seen waited (waited ++ Idle why.Nothing ∷ []) z)) (sym (came_is ∙ ap outcome_of x.1)) (idle d old new sta waited beside was (now ∙ x.0)))
+    subst (λ (g : List Act). IsDone d (Retry sta) old new (seen waited (waited ++ g) outcome)) (sym x.1)
+    (subst (λ (z : Outcome). IsDone d (Retry sta) old new (seen waited (waited ++ Idle why.Nothing ∷ []) z)) (sym (came_is ∙ ap outcome_of x.1)) (idle d old new sta waited beside was (now ∙ x.0)))
 retries d old new sta (Some a) q acts waited outcome beside was now came_is x = resent d old new sta a x.0 acts waited outcome beside was (now ∙ x.1) came_is x.2
+
+-- as the code comes by them
+pub resent_as : (sta : ℕ) (g newest : GroupKey) (o q new : Option Part) (acts : List Act) → g ≡ newest → o ≡ q → IsResentAt sta g o new acts → IsResentAt sta newest q new acts
+resent_as sta g newest o q new acts group here x =
+    subst (λ (z : GroupKey). IsResentAt sta z q new acts) group (subst (λ (z : Option Part). IsResentAt sta g z new acts) here x)

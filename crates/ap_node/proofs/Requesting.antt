@@ -1,7 +1,7 @@
 -- Association requests.
-use Rattle.std.proofs.Common.{◌≡◌, ◌≢◌, ℕ, ◌+◌, ◌<◌, ◌≤◌, Bool, true, false, List, [], ◌∷◌, ◌++◌, length, Option, Some, None, Result, Ok, Err, refl, sym, ap, subst, ◌∙◌, arith}
-use Rattle.std.specs.Prelude.{nat_lt, if◌then◌else◌, is_some, IfOk, OnOk}
-use Rattle.std.proofs.lemmas.Bool.{lt-ltb, le-ltb}
+use Rattle.std.proofs.Common.{◌≡◌, ℕ, ◌+◌, ◌<◌, ◌≤◌, Bool, true, false, List, [], ◌∷◌, ◌++◌, length, Option, Some, None, Result, Ok, Err, refl, sym, ap, subst, ◌∙◌, arith, inl, inr}
+use Rattle.std.specs.Prelude.{◌==◌, nat_lt, if◌then◌else◌, is_some, IfOk, OnOk}
+use Rattle.std.proofs.lemmas.Bool.{lt-ltb, le-ltb, cases_Bool, eqb-true, eq-eqb}
 use Rattle.domain_base.specs.declared.names.Node.{Node}
 use Rattle.domain_base.specs.declared.names.Node.TheVariants.{Ap, Sta}
 use Rattle.rsn_elements.specs.declared.framing.Within.TheVariants.{Body}
@@ -13,14 +13,14 @@ use Rattle.run_journal.specs.declared.acts.Start.TheVariants.{Connect}
 use Rattle.run_journal.specs.declared.acts.Drawn.TheVariants.{Nonce}
 use Rattle.run_journal.specs.declared.acts.Kind.{Kind}
 use Rattle.run_journal.specs.declared.acts.Kind.TheVariants as kind
+use Rattle.run_journal.specs.declared.acts.Part.TheVariants.{Attempt as OfAttempt}
 use Rattle.run_journal.specs.declared.acts.Reason.TheVariants as reason
 use Rattle.run_journal.specs.declared.acts.Outcome.{Outcome}
 use Rattle.run_journal.specs.declared.acts.Outcome.TheVariants.{Accepted, Refused}
 use Rattle.run_journal.specs.declared.acts.Act.{Act}
-use Rattle.run_journal.specs.declared.acts.Act.TheVariants.{Opened, Drew, Took}
+use Rattle.run_journal.specs.declared.acts.Act.TheVariants.{Opened, Closed, Drew, Took}
 use Rattle.run_journal.specs.Acts.{same}
 use Rattle.run_journal.specs.Questions.{attempt, session, draws, add}
-use Rattle.domain_rules.specs.Counters.{next_in_session}
 use Rattle.domain_rules.specs.Network.{nonce, draw_end}
 use Rattle.domain_rules.specs.Reading.{Managed}
 use Rattle.domain_rules.specs.Frames.{sent_assoc_resp, sent_m1, sent_refusal}
@@ -37,14 +37,20 @@ use Rattle.frame_intake.specs.declared.delivered.Management.{Management as AnyFr
 use Rattle.frame_intake.specs.Views.{management_fields}
 use Rattle.node_base.specs.Events.{seen}
 use Rattle.authenticator.specs.State.{State as Part, with_session}
-use Rattle.authenticator.specs.Stands.{HasAttempt}
+use Rattle.group_key.specs.Keys.{Pair}
+use Rattle.authenticator.specs.Stands.{Counts, HasAttempt}
 use Rattle.authenticator.specs.Steps.{IsBegun}
 use Rattle.authenticator.specs.declared.attempt.Attempt.{Attempt}
+use Rattle.authenticator.specs.declared.session.Session.{Session}
+use Rattle.authenticator.proofs.Handshaking.{counts_on}
 use Rattle.authenticator.proofs.Standing.{other_on, session_on}
 use Rattle.ap_node.specs.State.{State, station_at, attempt_in, session_in}
-use Rattle.ap_node.specs.Stands.{HasPart, Stands}
+use Rattle.ap_node.specs.Counts.{owes_part}
+use Rattle.ap_node.specs.Stands.{HasPart, StandsSoFar, IsSettled}
 use Rattle.ap_node.specs.Takes.{IsTaken, IsManagedAtAp, IsRequest, Begins, BeginsWith, closed, associated_acts}
 use Rattle.ap_node.proofs.Others.{IsSameGroup}
+use Rattle.ap_node.proofs.Owed.{owes_at, count_same}
+use Rattle.ap_node.proofs.Ending.{settled_steps}
 use Rattle.ap_node.proofs.Standing.{has_attempt_in, has_session_in, stands_with_one}
 use Rattle.ap_node.proofs.Refusing.{Stays, takes_refused, takes_quiet}
 
@@ -81,7 +87,7 @@ takes_spent d s octets station elements waited waits q none spent waiting =
     let w = q.managed in
     takes_quiet d s octets (Managed (management_fields q.frame) (element_fields elements)) (Some (Sta station)) kind.AssocReq reason.Spent waited waits w.reads (sym w.judged.1) (sym q.is)
     (spent_silent d (Ap s.number))
-    (λ first h stands. verdict_is d s.number octets station q.frame elements w q.is first h ∙ by_draws d (first + draws h) (element_fields elements) false none (le-ltb (first + draws h) draw_end (subst (λ (x : ℕ). draw_end ≤ x) stands.draws_are spent)))
+    (λ first h stands. verdict_is d s.number octets station q.frame elements w q.is first h ∙ by_draws d (first + draws h) (element_fields elements) false none (le-ltb (first + draws h) draw_end (subst (λ (x : ℕ). draw_end ≤ x) stands.so_far.draws_are spent)))
     waiting
 
 -- ---- accepted
@@ -122,9 +128,20 @@ session-before : (d : Domain) (n p : Node) (octets : List ℕ) (o : Option (List
 session-before d n p octets None v h = refl
 session-before d n p octets (Some part) v h = refl
 
-counts-before : (d : Domain) (n p : Node) (octets : List ℕ) (o : Option (List Act)) (v : List ℕ) (h : List Act) → next_in_session p (before_m1 d n p octets o v h) ≡ next_in_session p h
-counts-before d n p octets None v h = rw (same-refl p) refl
-counts-before d n p octets (Some part) v h = rw (same-refl p) refl
+-- the acts before M1, the attempt that was there being closed or not
+counts-behind : (d : Domain) (n p : Node) (v : List ℕ) (h : List Act) (s : Session) → Counts p s h → Counts p s (sent_assoc_resp d n p ∷ Drew (Nonce v) ∷ Opened p Connect ∷ h)
+counts-behind d n p v h s at =
+    counts_on p s (sent_assoc_resp d n p) (Drew (Nonce v) ∷ Opened p Connect ∷ h) refl refl (rw (same-refl p) refl) refl
+    (counts_on p s (Drew (Nonce v)) (Opened p Connect ∷ h) refl refl refl refl (counts_on p s (Opened p Connect) h refl refl refl refl at))
+
+counts-took : (p : Node) (octets : List ℕ) (h : List Act) (s : Session) → Counts p s h → Counts p s (Took (Some p) octets kind.AssocReq Accepted None ∷ h)
+counts-took p octets h s at = counts_on p s (Took (Some p) octets kind.AssocReq Accepted None) h refl refl refl (rw (same-refl p) refl) at
+
+counts-before : (d : Domain) (n p : Node) (octets : List ℕ) (o : Option (List Act)) (v : List ℕ) (h : List Act) (s : Session) → Counts p s h → Counts p s (before_m1 d n p octets o v h)
+counts-before d n p octets None v h s at = counts-behind d n p v (Took (Some p) octets kind.AssocReq Accepted None ∷ h) s (counts-took p octets h s at)
+counts-before d n p octets (Some part) v h s at =
+    counts-behind d n p v (Closed p OfAttempt ∷ Took (Some p) octets kind.AssocReq Accepted None ∷ h) s
+    (counts_on p s (Closed p OfAttempt) (Took (Some p) octets kind.AssocReq Accepted None ∷ h) refl refl refl refl (counts-took p octets h s at))
 
 answer-group : (d : Domain) (n p : Node) (octets : List ℕ) (o : Option (List Act)) (v : List ℕ) (h : List Act) → IsSameGroup h (add (answer_acts d n p octets o v) h)
 answer-group d n p octets None v h = record { gtks_are = refl; switches_are = refl; uses_are = refl }
@@ -144,26 +161,43 @@ begun_at d old new sta octets rsne h w o low said at =
     subst (λ (y : Option Part). HasPart d n sta y (add (answer_acts d n p octets o v) h)) (sym w.is)
     (subst (λ (g : List Act). HasPart d n sta (Some (with_session x w.part)) g) (sym (answer-add d n p octets o v h)) (low, stands))
 
-stands_associated : (d : Domain) (first : ℕ) (old new : State) (sta : ℕ) (octets rsne : List ℕ) (h : List Act) → sta < length d.stas → HasRsne d.akm octets (Some rsne) → BeginsWith d old new sta rsne → Stands d first old h
-    → Stands d first new (add (associated_acts d (Ap old.number) (Sta sta) octets (is_some (attempt_in (station_at old.stations sta))) (nonce d (Ap old.number) old.drawn)) h)
-stands_associated d first old new sta octets rsne h low said w stands =
+-- no session owes more or less than before
+owes_kept : (d : Domain) (old new : State) (sta place : ℕ) (rsne : List ℕ) → BeginsWith d old new sta rsne → (k : ℕ) → owes_at place new.stations k ≡ owes_at place old.stations k
+owes_kept d old new sta place rsne w k = elim (cases_Bool (k == sta)) [
+  | inl is ↦ (let same : k ≡ sta = eqb-true k sta is in
+      subst (λ (i : ℕ). owes_at place new.stations i ≡ owes_at place old.stations i) (sym same) (ap (owes_part place) w.is))
+  | inr other ↦ ap (owes_part place) (w.others k (λ (e : k ≡ sta). cc (eq-eqb k sta e, other)))
+]
+
+stands_associated : (d : Domain) (first : ℕ) (old new : State) (sta : ℕ) (octets rsne : List ℕ) (h : List Act) → sta < length d.stas → HasRsne d.akm octets (Some rsne) → old.drawn < draw_end → BeginsWith d old new sta rsne → StandsSoFar d first old h
+    → StandsSoFar d first new (add (associated_acts d (Ap old.number) (Sta sta) octets (is_some (attempt_in (station_at old.stations sta))) (nonce d (Ap old.number) old.drawn)) h)
+stands_associated d first old new sta octets rsne h low said room w stands =
     let n = Ap old.number in
     let p = Sta sta in
     let v = next_nonce d first n h in
     let v_is : nonce d n old.drawn ≡ v = ap (nonce d n) stands.draws_are in
     let o = attempt p h in
     let x = station_at old.stations sta in
+    let place = old.group.newest.place in
     let says = associated_is d first n sta octets x old.drawn h (stands.parts sta) stands.draws_are in
-    subst (λ (g : List Act). Stands d first new (add g h)) (sym says)
+    subst (λ (g : List Act). StandsSoFar d first new (add g h)) (sym says)
     (stands_with_one d first old new h (add (answer_acts d n p octets o v) h) sta stands (record {
       number = w.number;
       drawn = omega (arith, w.drawn, stands.draws_are, answer-draws d n p octets o v h);
+      drawn_low = omega (arith, w.drawn, room);
       group = w.group;
+      few = omega (arith, w.few, stands.few);
+      counted = w.owing ∙ stands.counted ∙ sym (count_same place old.stations new.stations (owes_kept d old new sta place rsne w));
       same_group = answer-group d n p octets o v h;
       here = subst (λ (u : List ℕ). HasPart d n sta (station_at new.stations sta) (add (answer_acts d n p octets o u) h)) v_is (begun_at d old new sta octets rsne h w o low said (stands.parts sta));
       others = w.others;
       goes = λ k other. other_on (Sta k) (answer_acts d n p octets o v) h (answer-apart d n p octets o v k other);
     }))
+
+-- and no switch is to come
+settled_still : (d : Domain) (old new : State) (sta : ℕ) (rsne : List ℕ) → BeginsWith d old new sta rsne → IsSettled old → IsSettled new
+settled_still d old new sta rsne w (inl same) = inl (subst (λ (g : Pair). g.newest.place ≡ g.current.place) (sym w.group) same)
+settled_still d old new sta rsne w (inr some) = inr (omega (arith, w.owing, some))
 
 pub takes_associated : (d : Domain) (old new : State) (octets : List ℕ) (sta : ℕ) (elements : Elements) (rsne raw : List ℕ) (waited waits : List Act) → IsRequest d old.number octets sta elements
     → rsne_status d.akm (element_fields elements).rsne ≡ None → old.drawn < draw_end → (element_fields elements).rsne_octets ≡ Some raw → rsne ≡ raw → BeginsWith d old new sta rsne
@@ -172,14 +206,16 @@ pub takes_associated : (d : Domain) (old new : State) (octets : List ℕ) (sta :
 takes_associated d old new octets sta elements rsne raw waited waits q none low raw_is rsne_is begun waiting = record {
   number = begun.number;
   steps = λ first h stands.
-      (let w = q.managed in
+      (let so_far = stands.so_far in
+      let w = q.managed in
       let m = management_fields q.frame in
       let e = element_fields elements in
       let n = Ap old.number in
-      let accepted = verdict_is d old.number octets sta q.frame elements w q.is first h ∙ by_draws d (first + draws h) e true none (lt-ltb (first + draws h) draw_end (subst (λ (x : ℕ). x < draw_end) stands.draws_are low)) in
-      record {
+      let accepted = verdict_is d old.number octets sta q.frame elements w q.is first h ∙ by_draws d (first + draws h) e true none (lt-ltb (first + draws h) draw_end (subst (λ (x : ℕ). x < draw_end) so_far.draws_are low)) in
+      settled_steps d first (Take octets) old new (seen waited waits Accepted) h begun.number (settled_still d old new sta rsne begun stands.settled)
+      (record {
         acts = associated_acts d n (Sta sta) octets (is_some (attempt_in (station_at old.stations sta))) (nonce d n old.drawn);
-        adds = record {
+        row = record {
           r = Managed m e;
           reads = w.reads;
           facts = no_facts;
@@ -192,13 +228,13 @@ takes_associated d old new octets sta elements rsne raw waited waits q none low 
             p = Sta sta;
             from = w.judged.1;
             accepted = ap (λ (o : Outcome). and_then o Accepted) accepted;
-            says = associated_is d first n sta octets (station_at old.stations sta) old.drawn h (stands.parts sta) stands.draws_are;
+            says = associated_is d first n sta octets (station_at old.stations sta) old.drawn h (so_far.parts sta) so_far.draws_are;
           });
         };
         waiting = waiting;
         came = refl;
-        stands = stands_associated d first old new sta octets rsne h w.judged.2 (e, ((m, w.reads), ap (λ (x : List ℕ). Some x) rsne_is ∙ sym raw_is)) begun stands;
-      });
+        stands = stands_associated d first old new sta octets rsne h w.judged.2 (e, ((m, w.reads), ap (λ (x : List ℕ). Some x) rsne_is ∙ sym raw_is)) low begun so_far;
+      }));
   refused = λ why is. absurd (cc is);
 }
 

@@ -1,11 +1,13 @@
 -- How an access point goes on to stand for the history with more acts.
-use Rattle.std.proofs.Common.{◌≡◌, ◌≢◌, ℕ, ◌+◌, ◌<◌, true, false, List, length, Option, Some, None, refl, sym, ap, subst, ◌∙◌, inl, inr}
+use Rattle.std.specs.Prelude.{◌⊎◌}
+use Rattle.std.proofs.Common.{◌≡◌, ◌≢◌, ℕ, suc, ◌+◌, ◌≤◌, false, List, length, Option, Some, None, sym, ap, subst, ◌∙◌, inl, inr}
 use Rattle.domain_base.specs.declared.names.Node.{Node}
 use Rattle.domain_base.specs.declared.names.Node.TheVariants.{Ap, Sta}
 use Rattle.run_journal.specs.declared.domain.Domain.{Domain}
 use Rattle.run_journal.specs.declared.acts.Act.{Act}
 use Rattle.run_journal.specs.Acts.{same}
-use Rattle.run_journal.specs.Questions.{attempt, draws}
+use Rattle.run_journal.specs.Questions.{attempt, session, draws}
+use Rattle.domain_rules.specs.Network.{draw_end}
 use Rattle.domain_rules.proofs.Parts.{is_same, same-false}
 use Rattle.group_key.specs.Keys.{Pair}
 use Rattle.group_key.specs.Holds.{Holds}
@@ -13,7 +15,8 @@ use Rattle.authenticator.specs.State.{State as Part}
 use Rattle.authenticator.specs.Stands.{HasAttempt, HasSession}
 use Rattle.authenticator.proofs.Standing.{IsOther, stands_on}
 use Rattle.ap_node.specs.State.{State, station_at, attempt_in, session_in}
-use Rattle.ap_node.specs.Stands.{HasPart, Stands}
+use Rattle.ap_node.specs.Counts.{owing_count}
+use Rattle.ap_node.specs.Stands.{HasPart, StandsSoFar}
 use Rattle.ap_node.proofs.Others.{IsSame, IsSameGroup, holds_on}
 
 -- ---- acts that are not about a station
@@ -22,11 +25,15 @@ pub part_on : (d : Domain) (n : Node) (sta : ℕ) (o : Option Part) (old new : L
 part_on d n sta None old new other at = (other.goes.none at.0, other.goes.has ∙ at.1)
 part_on d n sta (Some x) old new other at = (at.0, stands_on d n (Sta sta) x old new other at.1)
 
-pub stands_as_before : (d : Domain) (first : ℕ) (s : State) (old new : List Act) → IsSame old new → Stands d first s old → Stands d first s new
-stands_as_before d first s old new same stands = record {
+pub so_far_as_before : (d : Domain) (first : ℕ) (s : State) (old new : List Act) → IsSame old new → StandsSoFar d first s old → StandsSoFar d first s new
+so_far_as_before d first s old new same stands = record {
   draws_are = stands.draws_are ∙ ap (λ (n : ℕ). first + n) (sym same.draws_are);
+  draws_low = stands.draws_low;
   group_is = holds_on s.group old new same.group stands.group_is;
+  pending = stands.pending;
   unused = same.group.uses_are ∙ stands.unused;
+  few = stands.few;
+  counted = stands.counted;
   parts = λ k. part_on d (Ap s.number) k (station_at s.stations k) old new (same.each (Sta k)) (stands.parts k);
 }
 
@@ -48,17 +55,24 @@ with_one d n old new was now station k here others goes at =
 pub record IsAfter (d : Domain) (first : ℕ) (s t : State) (old new : List Act) (station : ℕ) : Type 0 where
   pub number : t.number ≡ s.number
   pub drawn : t.drawn ≡ first + draws new
+  pub drawn_low : t.drawn ≤ draw_end
   pub group : t.group ≡ s.group
+  pub few : length t.stations ≤ 65536
+  pub counted : t.owing ≡ owing_count s.group.newest.place t.stations
   pub same_group : IsSameGroup old new
   pub here : HasPart d (Ap s.number) station (station_at t.stations station) new
   pub others : (k : ℕ) → k ≢ station → station_at t.stations k ≡ station_at s.stations k
   pub goes : (k : ℕ) → same (Sta k) (Sta station) ≡ false → IsOther (Sta k) old new
 
-pub stands_with_one : (d : Domain) (first : ℕ) (s t : State) (old new : List Act) (station : ℕ) → Stands d first s old → IsAfter d first s t old new station → Stands d first t new
+pub stands_with_one : (d : Domain) (first : ℕ) (s t : State) (old new : List Act) (station : ℕ) → StandsSoFar d first s old → IsAfter d first s t old new station → StandsSoFar d first t new
 stands_with_one d first s t old new station stands w = record {
   draws_are = w.drawn;
+  draws_low = w.drawn_low;
   group_is = subst (λ (g : Pair). Holds g new) (sym w.group) (holds_on s.group old new w.same_group stands.group_is);
+  pending = subst (λ (g : Pair). (g.newest.place ≡ g.current.place) ⊎ (g.newest.place ≡ suc g.current.place)) (sym w.group) stands.pending;
   unused = w.same_group.uses_are ∙ stands.unused;
+  few = w.few;
+  counted = w.counted ∙ ap (λ (g : Pair). owing_count g.newest.place t.stations) (sym w.group);
   parts = λ k. subst (λ (a : ℕ). HasPart d (Ap a) k (station_at t.stations k) new) (sym w.number)
       (with_one d (Ap s.number) old new s.stations t.stations station k w.here w.others w.goes (stands.parts k));
 }
@@ -76,6 +90,10 @@ has_session_in d n sta (Some x) h at = at.1.session_is
 -- without a part there is no attempt
 pub no_part : (d : Domain) (n : Node) (sta : ℕ) (o : Option Part) (h : List Act) → o ≡ None → HasPart d n sta o h → attempt (Sta sta) h ≡ None
 no_part d n sta o h none at = (subst (λ (x : Option Part). HasPart d n sta x h) none at).0
+
+-- and no session
+pub no_part_session : (d : Domain) (n : Node) (sta : ℕ) (o : Option Part) (h : List Act) → o ≡ None → HasPart d n sta o h → session (Sta sta) h ≡ None
+no_part_session d n sta o h none at = (subst (λ (x : Option Part). HasPart d n sta x h) none at).1
 
 -- and with one it stands
 pub some_part : (d : Domain) (n : Node) (sta : ℕ) (o : Option Part) (x : Part) (h : List Act) → o ≡ Some x → HasPart d n sta o h → HasPart d n sta (Some x) h

@@ -1,4 +1,7 @@
 pub mod State
+pub mod Counts
+pub mod Switching
 pub mod Stands
 pub mod Parts
+pub mod Giving
 pub mod Takes

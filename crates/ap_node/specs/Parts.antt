@@ -10,6 +10,7 @@ use Rattle.run_journal.specs.declared.acts.Act.{Act}
 use Rattle.run_journal.specs.declared.acts.Act.TheVariants.{Took, Idle}
 use Rattle.run_journal.specs.declared.reply.Reply.{Reply}
 use Rattle.domain_rules.specs.Replies.{Pair, Taken, reply_acts}
+use Rattle.group_key.specs.declared.keys.GroupKey.{GroupKey}
 use Rattle.authenticator.specs.declared.authenticator.Again.{Again}
 use Rattle.authenticator.specs.State.{State as Part}
 use Rattle.authenticator.specs.Steps.{again_acts}
@@ -29,14 +30,14 @@ IsHandedAt w x t None new acts =
     × (acts ≡ Took (Some w.peer) t.octets (kind.Key t.message.message) (Refused reason.Unawaited) None ∷ [])
 IsHandedAt w x t (Some a) new acts = (b : Part) × (new ≡ Some b) × IsHanded w x t a b acts
 
--- the part sent once more: these acts are what came of it
-pub record IsResent (station : ℕ) (old new : Part) (acts : List Act) : Type 0 where
+-- the part sent once more by that newest group key: these acts are what came of it
+pub record IsResent (station : ℕ) (newest : GroupKey) (old new : Part) (acts : List Act) : Type 0 where
   pub came : Again
   pub reply : Reply
   pub says : acts ≡ again_acts (Sta station) came reply
-  pub retries : RetriesFrom old new came reply
+  pub retries : RetriesFrom old new newest 0 came reply
 
 -- and where there is no part, there is nothing to send
-abbrev pub IsResentAt : ℕ → Option Part → Option Part → List Act → Type 0
-IsResentAt station None new acts = (new ≡ None) × (acts ≡ Idle why.Nothing ∷ [])
-IsResentAt station (Some a) new acts = (b : Part) × (new ≡ Some b) × IsResent station a b acts
+abbrev pub IsResentAt : ℕ → GroupKey → Option Part → Option Part → List Act → Type 0
+IsResentAt station newest None new acts = (new ≡ None) × (acts ≡ Idle why.Nothing ∷ [])
+IsResentAt station newest (Some a) new acts = (b : Part) × (new ≡ Some b) × IsResent station newest a b acts

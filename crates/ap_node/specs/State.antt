@@ -5,13 +5,14 @@ use Rattle.authenticator.specs.State.{State as Part}
 use Rattle.authenticator.specs.declared.attempt.Attempt.{Attempt}
 use Rattle.authenticator.specs.declared.session.Session.{Session}
 
--- its place among the access points, the number of its next draw, its group keys, and its parts with the stations by their
--- numbers, as far as they came
+-- its place among the access points, the number of its next draw, its group keys, its parts with the stations by their numbers, as
+-- far as they came, and how many of their sessions owe a G2 for the newest group key
 pub record State : Type 0 where
   pub number : ℕ
   pub drawn : ℕ
   pub group : Pair
   pub stations : List (Option Part)
+  pub owing : ℕ
 
 -- its part with a station
 abbrev pub station_at : List (Option Part) → ℕ → Option Part

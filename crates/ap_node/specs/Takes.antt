@@ -1,5 +1,5 @@
 -- What an event does to an access point, and what is known of a frame that is for it (this project's choice).
-use Rattle.std.specs.Prelude.{◌≡◌, ◌≢◌, ◌+◌, ℕ, Bool, true, false, List, [], ◌∷◌, ◌++◌, Option, Some, None}
+use Rattle.std.specs.Prelude.{◌≡◌, ◌≢◌, ◌+◌, ◌≤◌, ℕ, max, Bool, true, false, List, length, [], ◌∷◌, ◌++◌, Option, Some, None}
 use Rattle.domain_base.specs.declared.names.Node.{Node}
 use Rattle.domain_base.specs.declared.names.Node.TheVariants.{Ap, Sta}
 use Rattle.rsn_elements.specs.declared.reading.Elements.{Elements}
@@ -8,16 +8,18 @@ use Rattle.run_journal.specs.declared.domain.Domain.{Domain}
 use Rattle.run_journal.specs.declared.acts.Start.TheVariants.{Connect}
 use Rattle.run_journal.specs.declared.acts.Drawn.TheVariants.{Nonce}
 use Rattle.run_journal.specs.declared.acts.Kind.TheVariants as kind
-use Rattle.run_journal.specs.declared.acts.Part.TheVariants.{Attempt as OfAttempt}
+use Rattle.run_journal.specs.declared.acts.Part.TheVariants.{Attempt as OfAttempt, Session as OfSession}
+use Rattle.run_journal.specs.declared.acts.Why.TheVariants as why
 use Rattle.run_journal.specs.declared.acts.Reason.{Reason}
 use Rattle.run_journal.specs.declared.acts.Outcome.TheVariants.{Accepted, Refused}
 use Rattle.run_journal.specs.declared.acts.Act.{Act}
-use Rattle.run_journal.specs.declared.acts.Act.TheVariants.{Closed, Took, Opened, Drew}
-use Rattle.domain_rules.specs.Here.{here}
+use Rattle.run_journal.specs.declared.acts.Act.TheVariants.{Closed, Took, Opened, Drew, Idle}
+use Rattle.run_journal.specs.Questions.{add}
+use Rattle.domain_rules.specs.Here.{Here, here}
 use Rattle.domain_rules.specs.Network.{nonce}
 use Rattle.domain_rules.specs.Reading.{Managed, Keyed, Reads}
 use Rattle.domain_rules.specs.Frames.{sent_assoc_resp, sent_m1}
-use Rattle.domain_rules.specs.Rows.{NodeEvent}
+use Rattle.domain_rules.specs.Rows.{NodeEvent, RowOf, outcome_of}
 use Rattle.frame_intake.specs.declared.delivered.Management.{Management}
 use Rattle.frame_intake.specs.declared.delivered.KeyMessage.{KeyMessage}
 use Rattle.frame_intake.specs.declared.judging.Judged.TheVariants as judged
@@ -29,7 +31,22 @@ use Rattle.authenticator.specs.Steps.{IsBegun}
 use Rattle.authenticator.specs.Stands.{HasSession, AuthenticatorStands}
 use Rattle.authenticator.specs.declared.session.Session.{Session}
 use Rattle.ap_node.specs.State.{State, station_at, session_in}
-use Rattle.ap_node.specs.Stands.{Stands}
+use Rattle.ap_node.specs.Stands.{StandsSoFar, Stands}
+
+-- behind the history h these are the acts of the event itself, before the switch at its end
+pub record Does (w : Here) (event : NodeEvent) (StandsFor : List Act → Type 0) (h : List Act) (s : Seen) : Type 0 where
+  pub acts : List Act
+  pub row : RowOf w h event acts
+  pub waiting : s.waits ≡ s.waited ++ acts
+  pub came : s.outcome ≡ outcome_of acts
+  pub stands : StandsFor (add acts h)
+
+-- it does what the event itself is, whichever history it stands for, and the switch may be to come
+pub record IsDone (d : Domain) (event : NodeEvent) (old new : State) (s : Seen) : Type 0 where
+  pub number : new.number ≡ old.number
+  pub does : (first : ℕ) (h : List Act) → Stands d first old h
+      → Does (here d first (Ap old.number)) event (StandsSoFar d first new) h s
+  pub refused : (why : Reason) → s.outcome ≡ Refused why → new ≡ old
 
 -- it takes the event, whichever history it stands for, and a refusal leaves it
 pub record IsTaken (d : Domain) (event : NodeEvent) (old new : State) (s : Seen) : Type 0 where
@@ -69,6 +86,8 @@ pub record BeginsWith (d : Domain) (old new : State) (station : ℕ) (rsne : Lis
   pub number : new.number ≡ old.number
   pub drawn : new.drawn ≡ old.drawn + 1
   pub group : new.group ≡ old.group
+  pub owing : new.owing ≡ old.owing
+  pub few : length new.stations ≤ max (length old.stations) 65536
   pub part : Part
   pub is : station_at new.stations station ≡ Some (with_session (session_in (station_at old.stations station)) part)
   pub begins : Begins d old.number station (nonce d (Ap old.number) old.drawn) rsne part
@@ -85,3 +104,10 @@ abbrev pub associated_acts : Domain → Node → Node → List ℕ → Bool → 
 associated_acts d n p octets had v =
     Took (Some p) octets kind.AssocReq Accepted None ∷ closed p had
     ++ Opened p Connect ∷ Drew (Nonce v) ∷ sent_assoc_resp d n p ∷ sent_m1 d n p 1 v ∷ []
+
+-- what an access point does as it drops what it has with p, by whether it had an attempt and a session
+abbrev pub expired_acts : Node → Bool → Bool → List Act
+expired_acts p false false = Idle why.Nothing ∷ []
+expired_acts p false true = Closed p OfSession ∷ []
+expired_acts p true false = Closed p OfAttempt ∷ []
+expired_acts p true true = Closed p OfAttempt ∷ Closed p OfSession ∷ []

@@ -1,31 +1,37 @@
 //! An access point's state, and what each event does to it.
 
-ghost use Rattle.std.specs.Prelude.{◌≡◌, ◌≢◌, ◌<◌, ◌≤◌, ◌++◌, ℕ, List, [], length};
-ghost use Rattle.std.specs.Prelude.{false, IfOk, OnOk, OnErr, is_some};
+ghost use Rattle.std.specs.Prelude.{◌≡◌, ◌≢◌, ◌<◌, ◌≤◌, ◌+◌, ◌++◌, ℕ, List, [], length};
+ghost use Rattle.std.specs.Prelude.{false, IfOk, OnOk, OnErr, is_some, vec_len};
 ghost use Rattle.domain_base.specs.declared.names.Akm.{Akm as AnyAkm};
 ghost use Rattle.domain_base.specs.declared.names.Node.TheVariants.{Ap, Sta};
 ghost use Rattle.run_journal.specs.declared.acts.Act.{Act as AnyAct};
 ghost use Rattle.run_journal.specs.declared.acts.Reason.{Reason as AnyReason};
-ghost use Rattle.run_journal.specs.declared.acts.Outcome.TheVariants.{Accepted, Refused};
+ghost use Rattle.run_journal.specs.declared.acts.Outcome.TheVariants.{Accepted, Done, Refused};
+ghost use Rattle.run_journal.specs.declared.domain.Domain.{Domain as AnyDomain};
 ghost use Rattle.run_journal.specs.Questions.{add};
 ghost use Rattle.domain_rules.specs.Here.{here};
 ghost use Rattle.domain_rules.specs.Network.{InForm, IsListed, is_ap, draw_end, nonce};
 ghost use Rattle.domain_rules.specs.AccessPointRows.{start_acts};
-ghost use Rattle.domain_rules.specs.Rows.{Take, Retry};
+ghost use Rattle.domain_rules.specs.Rows.{Take, Retry, Rekey, Expire};
 ghost use Rattle.node_base.specs.Events.{event_of, IsEventAt, Steps, seen};
 ghost use Rattle.ap_node.specs.State.{station_at, attempt_in};
-ghost use Rattle.ap_node.specs.Takes.{IsTaken, IsRequest, IsKeyedAtAp, BeginsWith, associated_acts};
+ghost use Rattle.ap_node.specs.Switching.{switched, due_acts, ended, end_acts};
+ghost use Rattle.ap_node.specs.Takes.{IsDone, IsTaken, IsRequest, IsKeyedAtAp, BeginsWith, associated_acts};
 
 use crate::association::{Acceptance, close_attempt, open_attempt, prepare, refuse, whole_element};
+use crate::counting::{owes, recounted};
+use crate::expiring::{add_dropped, drop_part};
+use crate::giving::{give_all, take_rooms};
+use crate::retrying::idle;
 use crate::stations::{begin, make_place, retry, take_message};
-use act_memory::{Outbox, settle};
+use act_memory::{Outbox, SendRoom, settle};
 use authenticator::{ApStart, Authenticator};
 use domain_base::{NoMemory, Node, Peer};
 use frame_intake::{Heard, Judged, judge, read};
 use group_key::GroupKeys;
 use node_base::{DRAW_END, Here, NodeEvent, address, gtk, nonce, rsne_status};
 use rsn_elements::Elements;
-use run_journal::{Act, Domain, Drawn, Key, Kind, Outcome, Reason, Reply};
+use run_journal::{Act, Domain, Drawn, Key, Kind, Outcome, Reason, Reply, Why};
 use std::alloc::Global;
 use std::marker::Model;
 
@@ -36,6 +42,8 @@ pub struct ApNode {
     drawn: u64,
     group: GroupKeys,
     stations: Vec<Option<Authenticator>>,
+    // How many sessions owe a G2 for the newest group key.
+    owing: u64,
 }
 
 impl Model for ApNode {
@@ -49,9 +57,10 @@ impl Model for ApNode {
       drawn = s.drawn;
       group = s.group;
       stations = s.stations.items;
+      owing = s.owing;
     } };
 
-    ghost invariant = { λ s. s.group.newest.id < 4 };
+    ghost invariant = { λ s. (s.group.newest.id < 4) × (s.group.newest.place < s.drawn) };
 }
 
 impl ApNode {
@@ -95,6 +104,7 @@ impl ApNode {
             drawn: first_draw + 1,
             group,
             stations: Vec::new(alloc),
+            owing: 0,
         })
     }
 
@@ -128,8 +138,52 @@ impl ApNode {
         };
         match event {
             NodeEvent::Take(octets) => self.take(here, octets, out),
-            NodeEvent::Connect(_) => unreachable!(),
             NodeEvent::Retry(station) => self.retry(here, station, out),
+            NodeEvent::Rekey => self.rekey(here, out),
+            NodeEvent::Expire(station) => self.expire(here, station, out),
+            NodeEvent::Connect(_) | NodeEvent::Leave => unreachable!(),
+        }
+    }
+
+    // The newest group key comes into use, where no session owes an answer for it
+    // (IEEE Std 802.11-2020, 12.7.7). Takes no memory.
+    fn switch(&mut self, here: Here<'_>, out: &mut Outbox)
+        requires node { here.node ≡ Ap self.old.number }
+        requires listed { self.old.number < length here.domain.now.aps }
+        requires room { 1 ≤ out.old.spare }
+        ensures state { self.new ≡ switched self.old }
+        ensures acts { out.new.acts ≡ out.old.acts ++ due_acts here.entry.domain.now self.old }
+    {
+        if self.owing > 0 || !self.group.is_pending() {
+            return;
+        }
+        self.group.switch();
+        let newest = self.group.newest();
+        let (gtk, id) = (newest.key, newest.id);
+        let bssid = address(here.domain, here.node);
+        out.add(Act::Installed {
+            peer: Peer::All,
+            key: Key::Group { gtk, id, bssid },
+        });
+    }
+
+    // The end of an event of which that came: the switch, unless the event was refused, which
+    // changes nothing. Takes no memory.
+    fn end(&mut self, here: Here<'_>, outcome: Outcome, out: &mut Outbox) -> Outcome
+        requires node { here.node ≡ Ap self.old.number }
+        requires listed { self.old.number < length here.domain.now.aps }
+        requires room { 1 ≤ out.old.spare }
+        ensures outcome { result ≡ outcome }
+        ensures state { self.new ≡ ended outcome self.old }
+        ensures acts { out.new.acts
+            ≡ out.old.acts ++ end_acts here.entry.domain.now outcome self.old }
+    {
+        match outcome {
+            Outcome::Refused(_) => outcome,
+            _ => {
+                self.switch(here, out);
+                outcome
+            }
         }
     }
 
@@ -265,18 +319,156 @@ impl ApNode {
         ensures same { OnErr result (self.new ≡ self.old) }
         ensures kept { OnErr result (out.new.acts ≡ out.old.acts) }
     {
+        let outcome = self.hand(here, station, heard, out)?;
+        Ok(self.end(here, outcome, out))
+    }
+
+    // The part with a station takes an EAPOL-Key message of it. The switch is to come, and there is
+    // room for it.
+    fn hand(
+        &mut self,
+        here: Here<'_>,
+        station: u16,
+        heard: &Heard<'_>,
+        out: &mut Outbox,
+    ) -> Result<Outcome, NoMemory>
+        requires node { here.node ≡ Ap self.old.number }
+        requires listed { self.old.number < length here.domain.now.aps }
+        requires frame { IsKeyedAtAp here.domain.now self.old.number heard.now.octets.now
+            (Sta station) heard.now.message }
+        ensures done { IfOk result (λ outcome. IsDone here.entry.domain.now
+            (Take heard.now.octets.now) self.old self.new
+            (seen out.old.acts out.new.acts outcome)) }
+        ensures number { self.new.number ≡ self.old.number }
+        ensures same { OnErr result (self.new ≡ self.old) }
+        ensures kept { OnErr result (out.new.acts ≡ out.old.acts) }
+        ensures room { OnOk result (1 ≤ out.new.spare) }
+    {
         let newest = self.group.newest();
-        take_message(&mut self.stations, here, station, heard, &newest, out)
+        let owed = owes(&self.stations, station, &newest);
+        let outcome = take_message(&mut self.stations, here, station, heard, &newest, out)?;
+        let owes = owes(&self.stations, station, &newest);
+        self.owing = recounted(self.owing, owed, owes);
+        Ok(outcome)
     }
 
     // Sends once more what waits for an answer of the station.
     fn retry(&mut self, here: Here<'_>, station: u16, out: &mut Outbox) -> Result<Outcome, NoMemory>
+        requires node { here.node ≡ Ap self.old.number }
+        requires form { InForm here.domain.now }
+        requires listed { self.old.number < length here.domain.now.aps }
         ensures taken { IfOk result (λ outcome. IsTaken here.entry.domain.now (Retry station)
             self.old self.new (seen out.old.acts out.new.acts outcome)) }
         ensures same { OnErr result (self.new ≡ self.old) }
         ensures kept { OnErr result (out.new.acts ≡ out.old.acts) }
     {
-        retry(&mut self.stations, here.alloc, station, out)
+        let outcome = self.repeat(here, station, out)?;
+        Ok(self.end(here, outcome, out))
+    }
+
+    // The part with a station sends once more. The switch is to come, and there is room for it.
+    fn repeat(
+        &mut self,
+        here: Here<'_>,
+        station: u16,
+        out: &mut Outbox,
+    ) -> Result<Outcome, NoMemory>
+        ensures done { IfOk result (λ outcome. IsDone here.entry.domain.now (Retry station)
+            self.old self.new (seen out.old.acts out.new.acts outcome)) }
+        ensures number { self.new.number ≡ self.old.number }
+        ensures same { OnErr result (self.new ≡ self.old) }
+        ensures kept { OnErr result (out.new.acts ≡ out.old.acts) }
+        ensures room { OnOk result (1 ≤ out.new.spare) }
+    {
+        let newest = self.group.newest();
+        let owed = owes(&self.stations, station, &newest);
+        let outcome = retry(&mut self.stations, here.alloc, station, &newest, out)?;
+        let owes = owes(&self.stations, station, &newest);
+        self.owing = recounted(self.owing, owed, owes);
+        Ok(outcome)
+    }
+
+    // Drops what there is with a station.
+    fn expire(
+        &mut self,
+        here: Here<'_>,
+        station: u16,
+        out: &mut Outbox,
+    ) -> Result<Outcome, NoMemory>
+        requires node { here.node ≡ Ap self.old.number }
+        requires form { InForm here.domain.now }
+        requires listed { self.old.number < length here.domain.now.aps }
+        ensures taken { IfOk result (λ outcome. IsTaken here.entry.domain.now (Expire station)
+            self.old self.new (seen out.old.acts out.new.acts outcome)) }
+        ensures same { OnErr result (self.new ≡ self.old) }
+        ensures kept { OnErr result (out.new.acts ≡ out.old.acts) }
+    {
+        out.reserve(3)?;
+        let outcome = self.drop_station(station, out);
+        Ok(self.end(here, outcome, out))
+    }
+
+    // The part with a station is dropped. The switch is to come, and there is room for it.
+    fn drop_station(&mut self, station: u16, out: &mut Outbox) -> Outcome
+        requires room { 3 ≤ out.old.spare }
+        ensures done { (d : AnyDomain) → IsDone d (Expire station) self.old self.new
+            (seen out.old.acts out.new.acts result) }
+        ensures number { self.new.number ≡ self.old.number }
+        ensures room { 1 ≤ out.new.spare }
+    {
+        let newest = self.group.newest();
+        let owed = owes(&self.stations, station, &newest);
+        let (had_attempt, had_session) = drop_part(&mut self.stations, station);
+        self.owing = recounted(self.owing, owed, false);
+        add_dropped(station, had_attempt, had_session, out)
+    }
+
+    // Draws a new group key and gives it to each session.
+    fn rekey(&mut self, here: Here<'_>, out: &mut Outbox) -> Result<Outcome, NoMemory>
+        requires node { here.node ≡ Ap self.old.number }
+        requires form { InForm here.domain.now }
+        requires listed { self.old.number < length here.domain.now.aps }
+        ensures taken { IfOk result (λ outcome. IsTaken here.entry.domain.now Rekey
+            self.old self.new (seen out.old.acts out.new.acts outcome)) }
+        ensures same { OnErr result (self.new ≡ self.old) }
+        ensures kept { OnErr result (out.new.acts ≡ out.old.acts) }
+    {
+        if self.group.is_pending() {
+            return idle(Why::RekeyPending, out);
+        }
+        if self.drawn >= DRAW_END {
+            return idle(Why::Spent, out);
+        }
+        let rooms = take_rooms(here.alloc, self.stations.len())?;
+        out.reserve(self.stations.len() + 2)?;
+        self.renew(here, rooms, out);
+        Ok(self.end(here, Outcome::Done, out))
+    }
+
+    // A new group key is drawn and given to each session. The switch is to come, and there is room
+    // for it. Takes no memory.
+    fn renew(&mut self, here: Here<'_>, rooms: Vec<SendRoom>, out: &mut Outbox)
+        requires node { here.node ≡ Ap self.old.number }
+        requires listed { self.old.number < length here.domain.now.aps }
+        requires in_use { self.old.group.newest.place ≡ self.old.group.current.place }
+        requires draw { self.old.drawn < draw_end }
+        requires rooms { length self.old.stations ≤ vec_len rooms }
+        requires room { length self.old.stations + 2 ≤ out.old.spare }
+        ensures done { IsDone here.entry.domain.now Rekey self.old self.new
+            (seen out.old.acts out.new.acts Done) }
+        ensures number { self.new.number ≡ self.old.number }
+        ensures room { 1 ≤ out.new.spare }
+    {
+        let gtk = gtk(here.domain, here.node, self.drawn);
+        if self.group.rekey(gtk).is_err() {
+            unreachable!();
+        }
+        self.drawn += 1;
+        out.add(Act::Drew {
+            value: Drawn::Gtk(gtk),
+        });
+        let newest = self.group.newest();
+        self.owing = give_all(&mut self.stations, &newest, rooms, out);
     }
 }
 

@@ -3,6 +3,9 @@
 
 mod access_point;
 mod association;
+mod counting;
+mod expiring;
+mod giving;
 mod laws;
 mod retrying;
 mod stations;

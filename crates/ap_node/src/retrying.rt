@@ -1,38 +1,49 @@
-//! What comes of a retry (IEEE Std 802.11-2020, 12.7.6.6).
+//! What comes of a retry (IEEE Std 802.11-2020, 12.7.6.6 and 12.7.7.4), and events that do nothing.
 
-ghost use Rattle.std.specs.Prelude.{◌≡◌, ◌≤◌, [], ◌∷◌, ◌++◌, IfOk, OnOk, OnErr};
+ghost use Rattle.std.specs.Prelude.{◌≡◌, ◌≤◌, ◌+◌, [], ◌∷◌, ◌++◌, IfOk, OnOk, OnErr};
 ghost use Rattle.domain_base.specs.declared.names.Node.TheVariants.{Sta};
 ghost use Rattle.run_journal.specs.declared.acts.Act.TheVariants.{Idle};
-ghost use Rattle.run_journal.specs.declared.acts.Why.TheVariants as why;
 ghost use Rattle.run_journal.specs.declared.acts.Outcome.TheVariants as outcome;
 ghost use Rattle.run_journal.specs.Replies.{IsWhole};
 ghost use Rattle.domain_rules.specs.Rows.{outcome_of};
-ghost use Rattle.authenticator.specs.Steps.{again_acts};
+ghost use Rattle.authenticator.specs.Steps.{part_of, again_acts};
 
 use act_memory::{Outbox, SendRoom};
 use authenticator::Again;
 use domain_base::{NoMemory, Node};
+use eapol_key::Message;
 use run_journal::{Act, Outcome, Part, Reply, Why};
 
-/// Nothing waits for an answer.
-pub fn idle(out: &mut Outbox) -> Result<Outcome, NoMemory>
-    ensures outcome { IfOk result (λ came. came ≡ outcome.Idle why.Nothing) }
-    ensures acts { OnOk result (out.new.acts ≡ out.old.acts ++ Idle why.Nothing ∷ []) }
+/// Nothing is done, and that is why.
+pub fn idle(why: Why, out: &mut Outbox) -> Result<Outcome, NoMemory>
+    ensures outcome { IfOk result (λ came. came ≡ outcome.Idle why) }
+    ensures acts { OnOk result (out.new.acts ≡ out.old.acts ++ Idle why ∷ []) }
     ensures kept { OnErr result (out.new.acts ≡ out.old.acts) }
+    ensures room { OnOk result (1 ≤ out.new.spare) }
 {
-    out.reserve(1)?;
-    Ok(stay_idle(out))
+    out.reserve(2)?;
+    Ok(stay_idle(why, out))
 }
 
-// The same, where there is room.
-fn stay_idle(out: &mut Outbox) -> Outcome
+/// The same, where there is room. Takes no memory.
+pub fn stay_idle(why: Why, out: &mut Outbox) -> Outcome
     requires { 1 ≤ out.old.spare }
-    ensures outcome { result ≡ outcome.Idle why.Nothing }
-    ensures acts { out.new.acts ≡ out.old.acts ++ Idle why.Nothing ∷ [] }
+    ensures outcome { result ≡ outcome.Idle why }
+    ensures acts { out.new.acts ≡ out.old.acts ++ Idle why ∷ [] }
+    ensures spare { out.old.spare ≤ out.new.spare + 1 }
 {
-    let why = Why::Nothing;
     out.add(Act::Idle { why });
     Outcome::Idle(why)
+}
+
+// What is given up with a message: a session with G1, and else an attempt.
+fn part_of(message: Message) -> Part
+    ensures { result ≡ part_of message }
+{
+    match message {
+        Message::G1 => Part::Session,
+        _ => Part::Attempt,
+    }
 }
 
 /// Adds the acts of a retry of a station, by what came of it and the reply. Takes no memory.
@@ -47,6 +58,7 @@ pub fn add_again(
     requires whole { IsWhole reply.now }
     ensures outcome { result ≡ outcome_of (again_acts (Sta station) came reply.now) }
     ensures acts { out.new.acts ≡ out.old.acts ++ again_acts (Sta station) came reply.now }
+    ensures spare { out.old.spare ≤ out.new.spare + 2 }
 {
     let peer = Node::Sta(station);
     match came {
@@ -58,10 +70,10 @@ pub fn add_again(
             out.add(Act::GaveUp { peer, message });
             out.add(Act::Closed {
                 peer,
-                part: Part::Attempt,
+                part: part_of(message),
             });
             Outcome::GaveUp(message)
         }
-        Again::Nothing => stay_idle(out),
+        Again::Nothing => stay_idle(Why::Nothing, out),
     }
 }

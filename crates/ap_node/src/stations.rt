@@ -1,7 +1,7 @@
 //! What an access point has with stations: a part by the number of each, as far as they came.
 
-ghost use Rattle.std.specs.Prelude.{◌≡◌, ◌≢◌, ◌<◌, ◌++◌, [], ◌∷◌, ℕ, List, Some, None};
-ghost use Rattle.std.specs.Prelude.{IfOk, OnOk, OnErr, vec_len, is_some};
+ghost use Rattle.std.specs.Prelude.{◌≡◌, ◌≢◌, ◌<◌, ◌≤◌, ◌++◌, [], ◌∷◌, ℕ, List, Some, None};
+ghost use Rattle.std.specs.Prelude.{IfOk, OnOk, OnErr, vec_len, length, is_some, max};
 ghost use Rattle.domain_base.specs.declared.names.Node.TheVariants.{Sta};
 ghost use Rattle.eapol_key.specs.Fields.{IsKeyFrame};
 ghost use Rattle.run_journal.specs.declared.acts.Act.{Act as AnyAct};
@@ -22,22 +22,23 @@ ghost use Rattle.ap_node.specs.State.{station_at, attempt_in, session_in};
 ghost use Rattle.ap_node.specs.Parts.{IsHanded, IsHandedAt, IsResent, IsResentAt};
 
 use crate::retrying::{add_again, idle};
-use act_memory::{Between, Outbox, Room, SendRoom, settle};
+use act_memory::{Between, Outbox, Room, SendRoom, took};
 use authenticator::Authenticator;
 use domain_base::{NoMemory, Node};
 use frame_intake::Heard;
 use group_key::GroupKey;
 use node_base::Here;
-use run_journal::{Kind, Outcome, Reason, Reply};
+use run_journal::{Kind, Outcome, Reason, Reply, Why};
 use std::alloc::Global;
 
 /// The count of packet numbers that were used under the newest group key: nothing is sent under it
 /// yet.
-const NO_USES: u64 = 0;
+pub const NO_USES: u64 = 0;
 
 /// Makes a place for the station of that number.
 pub fn make_place(stations: &mut Vec<Option<Authenticator>>, station: u16) -> Result<(), NoMemory>
     ensures place { OnOk result (station < vec_len stations.new) }
+    ensures few { length stations.new.items ≤ max (length stations.old.items) 65536 }
     ensures same { (k : ℕ) → station_at stations.new.items k ≡ station_at stations.old.items k }
     ensures err { OnErr result (stations.new.items ≡ stations.old.items) }
 {
@@ -81,13 +82,14 @@ pub fn begin(stations: &mut Vec<Option<Authenticator>>, station: u16, part: Auth
     ensures had { result ≡ is_some (attempt_in (station_at stations.old.items station)) }
     ensures begun { station_at stations.new.items station
         ≡ Some (with_session (session_in (station_at stations.old.items station)) part) }
+    ensures length { length stations.new.items ≡ length stations.old.items }
     ensures others { (k : ℕ) → k ≢ station
         → station_at stations.new.items k ≡ station_at stations.old.items k }
 {
     replace(&mut stations[usize::from(station)], part)
 }
 
-// The part with a station takes an EAPOL-Key message of it, with the newest group key for M3.
+// The part with a station takes an EAPOL-Key message of it, by the newest group key.
 fn hand(
     here: Here<'_>,
     station: u16,
@@ -108,10 +110,11 @@ fn hand(
         part.old part.new acts) }
     ensures same { OnErr result (part.new ≡ part.old) }
     ensures kept { OnErr result (out.new.acts ≡ out.old.acts) }
+    ensures room { OnOk result (1 ≤ out.new.spare) }
 {
     let message = &heard.message;
     let room = Room::take(here, Node::Sta(station), heard)?;
-    out.reserve(7)?;
+    out.reserve(8)?;
     let had_session = part.has_session();
     let mut reply = Reply::empty();
     let outcome = part.step(message.message, &message.frame, newest, NO_USES, &mut reply);
@@ -132,15 +135,19 @@ fn unawaited(
         ++ Took (Some (Sta station)) heard.now.octets.now
         (kind.Key heard.now.message.message) (Refused reason.Unawaited) None ∷ []) }
     ensures kept { OnErr result (out.new.acts ≡ out.old.acts) }
+    ensures room { OnOk result (1 ≤ out.new.spare) }
 {
     let from = Some(Node::Sta(station));
     let kind = Kind::Key(heard.message.message);
     let outcome = Outcome::Refused(Reason::Unawaited);
-    settle(here.alloc, from, heard.octets, kind, outcome, out)
+    let taken = took(here.alloc, from, heard.octets, kind, outcome, None)?;
+    out.reserve(2)?;
+    out.add(taken);
+    Ok(outcome)
 }
 
-/// The part with a station takes an EAPOL-Key message of it, with the newest group key for M3.
-/// Without a part the message is unawaited.
+/// The part with a station takes an EAPOL-Key message of it, by the newest group key. There is room
+/// for one more act then. Without a part the message is unawaited.
 pub fn take_message(
     stations: &mut Vec<Option<Authenticator>>,
     here: Here<'_>,
@@ -159,12 +166,14 @@ pub fn take_message(
         (given heard.now.message.message (frame_of heard.now.message.frame) newest.now 0)
         (taken_as heard.now.octets.now (message_fields heard.now.message) outcome)
         (station_at stations.old.items station) (station_at stations.new.items station) acts) }
+    ensures length { length stations.new.items ≡ length stations.old.items }
     ensures others { (k : ℕ) → k ≢ station
         → station_at stations.new.items k ≡ station_at stations.old.items k }
     ensures refused { IfOk result (λ outcome. (why : AnyReason) → outcome ≡ Refused why
         → stations.new.items ≡ stations.old.items) }
     ensures same { OnErr result (stations.new.items ≡ stations.old.items) }
     ensures kept { OnErr result (out.new.acts ≡ out.old.acts) }
+    ensures room { OnOk result (1 ≤ out.new.spare) }
 {
     let Some(place) = stations.get_mut(usize::from(station)) else {
         return unawaited(here, station, heard, out);
@@ -180,42 +189,50 @@ fn send_again(
     alloc: Global,
     station: u16,
     part: &mut Authenticator,
+    newest: &GroupKey,
     out: &mut Outbox,
 ) -> Result<Outcome, NoMemory>
+    requires id { newest.now.id < 4 }
     ensures resent { IfOk result (λ outcome. (acts : List AnyAct)
         × (out.new.acts ≡ out.old.acts ++ acts)
-        × (outcome ≡ outcome_of acts) × IsResent station part.old part.new acts) }
+        × (outcome ≡ outcome_of acts) × IsResent station newest.now part.old part.new acts) }
     ensures same { OnErr result (part.new ≡ part.old) }
     ensures kept { OnErr result (out.new.acts ≡ out.old.acts) }
+    ensures room { OnOk result (1 ≤ out.new.spare) }
 {
     let room = SendRoom::take(alloc)?;
-    out.reserve(2)?;
+    out.reserve(3)?;
     let mut reply = Reply::empty();
-    let came = part.send_again(&mut reply);
+    let came = part.send_again(newest, NO_USES, &mut reply);
     Ok(add_again(station, came, room, &reply, out))
 }
 
-/// The part with a station sends once more what waits for an answer of it, where there is one.
+/// The part with a station sends once more what waits for an answer of it, where there is one. There
+/// is room for one more act then.
 pub fn retry(
     stations: &mut Vec<Option<Authenticator>>,
     alloc: Global,
     station: u16,
+    newest: &GroupKey,
     out: &mut Outbox,
 ) -> Result<Outcome, NoMemory>
+    requires id { newest.now.id < 4 }
     ensures resent { IfOk result (λ outcome. (acts : List AnyAct)
         × (out.new.acts ≡ out.old.acts ++ acts)
-        × (outcome ≡ outcome_of acts) × IsResentAt station
+        × (outcome ≡ outcome_of acts) × IsResentAt station newest.now
         (station_at stations.old.items station) (station_at stations.new.items station) acts) }
+    ensures length { length stations.new.items ≡ length stations.old.items }
     ensures others { (k : ℕ) → k ≢ station
         → station_at stations.new.items k ≡ station_at stations.old.items k }
     ensures same { OnErr result (stations.new.items ≡ stations.old.items) }
     ensures kept { OnErr result (out.new.acts ≡ out.old.acts) }
+    ensures room { OnOk result (1 ≤ out.new.spare) }
 {
     let Some(place) = stations.get_mut(usize::from(station)) else {
-        return idle(out);
+        return idle(Why::Nothing, out);
     };
     match place {
-        Some(part) => send_again(alloc, station, part, out),
-        None => idle(out),
+        Some(part) => send_again(alloc, station, part, newest, out),
+        None => idle(Why::Nothing, out),
     }
 }

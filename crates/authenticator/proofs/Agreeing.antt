@@ -4,8 +4,6 @@ use Rattle.domain_base.specs.declared.names.Node.{Node}
 use Rattle.air_frame.specs.Sent.{IsAddress}
 use Rattle.eapol_key.specs.declared.messages.Message.TheVariants.{M1, M2, M3}
 use Rattle.eapol_key.specs.Sent.{sent_fields}
-use Rattle.key_hierarchy.specs.declared.inputs.Inputs.{Inputs}
-use Rattle.key_hierarchy.specs.Keys.{ptk}
 use Rattle.run_journal.specs.declared.domain.Domain.{Domain}
 use Rattle.run_journal.specs.declared.acts.Kind.TheVariants as kind
 use Rattle.run_journal.specs.declared.acts.Outcome.TheVariants.{Accepted}

@@ -21,12 +21,12 @@ use Rattle.run_journal.specs.declared.reply.Reply.{Reply}
 use Rattle.run_journal.specs.declared.reply.Keyed.{Keyed}
 use Rattle.run_journal.specs.Replies.{IsEmpty}
 use Rattle.run_journal.specs.Acts.{GroupKey as Carried}
-use Rattle.run_journal.specs.Questions.{session, add, chain, draws}
+use Rattle.run_journal.specs.Questions.{add, chain, draws}
 use Rattle.run_journal.specs.GroupKinds as groups
 use Rattle.group_key.specs.declared.keys.GroupKey.{GroupKey}
 use Rattle.group_key.specs.Holds.{carried}
 use Rattle.group_key.proofs.Drawing.{last_newest}
-use Rattle.domain_rules.specs.Counters.{next_in_attempt, next_in_session}
+use Rattle.domain_rules.specs.Counters.{next_in_attempt}
 use Rattle.domain_rules.specs.Frames.{frame_seal, sent_m3, keyed_by}
 use Rattle.domain_rules.specs.GroupKeys.{newest, newest_uses}
 use Rattle.domain_rules.specs.Here.{here}
@@ -40,13 +40,14 @@ use Rattle.domain_rules.proofs.Parts.{same-refl}
 use Rattle.domain_rules.proofs.Refused.{far_seal}
 use Rattle.authenticator.specs.Agreed.{Agreed}
 use Rattle.authenticator.specs.State.{State}
-use Rattle.authenticator.specs.Stands.{IsUnderWay, HasSession, AuthenticatorStands}
+use Rattle.authenticator.specs.Stands.{IsUnderWay, Counts, HasSession, AuthenticatorStands}
 use Rattle.authenticator.specs.Steps.{Steps}
 use Rattle.authenticator.specs.Judged.{Frame, answered, IsVerified, IsRefusedM2, TellsDerived, Answers}
 use Rattle.authenticator.specs.Taken.{given, frame_in, Comes, StepsFrom}
 use Rattle.authenticator.specs.declared.attempt.Attempt.{Attempt}
 use Rattle.authenticator.specs.declared.session.Session.{Session}
 use Rattle.authenticator.proofs.Addresses.{own_address, peer_address}
+use Rattle.authenticator.proofs.Handshaking.{counts_on}
 use Rattle.authenticator.proofs.Standing.{session_on}
 use Rattle.authenticator.proofs.Replying.{only_took, answer_took}
 use Rattle.authenticator.proofs.Refusing.{steps_refused, refused_as}
@@ -62,7 +63,7 @@ pub takes_refused_m2 : (s : State) (t : Attempt) (f : Frame) (newest : GroupKey)
     → StepsFrom s s (given M2 f newest rsc) (Refused why) r
 takes_refused_m2 s t f newest rsc why r is suite by e =
     refused_as s (given M2 f newest rsc) M2 why r refl e
-    (λ d drawn a sta k h stands same. refused_m2 d a (Sta sta) s t h k why (on_by d a (Sta sta) s t h is suite stands) (subst (λ (x : Frame). IsRefusedM2 s.ends s.psk t x why) (sym same) by))
+    (λ d drawn a sta k h stands same newest. refused_m2 d a (Sta sta) s t h k why (on_by d a (Sta sta) s t h is suite stands) (subst (λ (x : Frame). IsRefusedM2 s.ends s.psk t x why) (sym same) by))
 
 -- ---- refused by its key data
 
@@ -93,8 +94,13 @@ says_m2 : (d : Domain) (n p : Node) (octets : List ℕ) (y : Keyed) (i : Inputs)
     ≡ Took (Some p) octets (kind.Key M2) Accepted (Some (frame_seal (ptk i).kck k.octets)) ∷ Derived p i (ptk i) ∷ sent_m3 d n p (keyed_by i) next key uses ∷ []
 says_m2 d n p octets y i k counter next g key rsc uses ptk_is next_is key_is uses_is = rw (ptk_is, next_is, key_is, uses_is) refl
 
-counts_agreed : (d : Domain) (n p : Node) (octets : List ℕ) (s : Option Seal) (y : Agreed) (counter : ℕ) (h : List Act) → next_in_session p (agreed_after d n p octets s y counter h) ≡ next_in_session p h
-counts_agreed d n p octets s y counter h = rw (same-refl p) refl
+counts_agreed : (d : Domain) (n p : Node) (octets : List ℕ) (v : Option Seal) (y : Agreed) (counter : ℕ) (h : List Act) (s : Session) → Counts p s h → Counts p s (agreed_after d n p octets v y counter h)
+counts_agreed d n p octets v y counter h s at =
+    let took = Took (Some p) octets (kind.Key M2) Accepted v in
+    let derived = Derived p (inputs_by d (root d) n p y.key) y.key.ptk in
+    let m3 = sent_m3 d n p (key_by d (root d) n p y.key) counter (carried y.group) y.rsc in
+    counts_on p s m3 (derived ∷ took ∷ h) refl refl (rw (same-refl p) refl) refl
+    (counts_on p s derived (took ∷ h) refl refl refl refl (counts_on p s took h refl refl refl (rw (same-refl p) refl) at))
 
 -- the session stays
 session_agreed : (d : Domain) (n p : Node) (octets : List ℕ) (s : Option Seal) (y : Agreed) (counter : ℕ) (o : Option Session) (h : List Act) → HasSession d n p o h → HasSession d n p o (agreed_after d n p octets s y counter h)

@@ -1,5 +1,5 @@
 -- How an attempt begins.
-use Rattle.std.proofs.Common.{◌≡◌, ℕ, List, [], ◌∷◌, Option, Some, None, refl, sym, subst, ◌∙◌, arith}
+use Rattle.std.proofs.Common.{◌≡◌, ℕ, List, [], ◌∷◌, Option, Some, refl, sym, subst, ◌∙◌, arith}
 use Rattle.domain_base.specs.declared.names.Node.{Node}
 use Rattle.air_frame.specs.Sent.{IsAddress}
 use Rattle.eapol_key.specs.declared.messages.Message.TheVariants.{M1}
@@ -7,19 +7,18 @@ use Rattle.eapol_key.specs.Sent.{sent_fields}
 use Rattle.run_journal.specs.declared.domain.Domain.{Domain}
 use Rattle.run_journal.specs.declared.acts.Act.{Act}
 use Rattle.domain_rules.specs.Network.{address}
-use Rattle.domain_rules.specs.Counters.{next_in_session}
 use Rattle.domain_rules.specs.Frames.{sent_m1}
 use Rattle.domain_rules.proofs.Parts.{same-refl, attempt_more, attempt_some, by_connect_more, own_nonce_more}
 use Rattle.node_base.specs.declared.ends.Ends.{Ends}
 use Rattle.node_base.specs.Ends.{AreEnds}
-use Rattle.authenticator.specs.State.{State}
-use Rattle.authenticator.specs.Stands.{IsUnderWay, HasSession, AuthenticatorStands}
+use Rattle.authenticator.specs.Stands.{IsUnderWay, Counts, HasSession, AuthenticatorStands}
 use Rattle.authenticator.specs.Steps.{IsBegun}
 use Rattle.authenticator.specs.Judged.{begun}
 use Rattle.authenticator.specs.declared.attempt.Attempt.{Attempt}
 use Rattle.authenticator.specs.declared.session.Session.{Session}
 use Rattle.authenticator.proofs.Addresses.{own_address, peer_address}
 use Rattle.authenticator.proofs.Counting.{replay_plain}
+use Rattle.authenticator.proofs.Handshaking.{counts_on}
 use Rattle.authenticator.proofs.Standing.{session_on}
 use Rattle.authenticator.proofs.Agreeing.{cons_is}
 
@@ -40,8 +39,8 @@ is_begun d n p anonce rsne h l m b =
       rsne = b.has_rsne;
     }
 
-counts_begun : (d : Domain) (n p : Node) (anonce : List ℕ) (h : List Act) → next_in_session p (sent_m1 d n p 1 anonce ∷ h) ≡ next_in_session p h
-counts_begun d n p anonce h = rw (same-refl p) refl
+counts_begun : (d : Domain) (n p : Node) (anonce : List ℕ) (h : List Act) (s : Session) → Counts p s h → Counts p s (sent_m1 d n p 1 anonce ∷ h)
+counts_begun d n p anonce h s at = counts_on p s (sent_m1 d n p 1 anonce) h refl refl (rw (same-refl p) refl) refl at
 
 -- beside that session
 pub begins : (d : Domain) (n p : Node) (l : Ends) (anonce rsne : List ℕ) (a : Attempt) (o : Option Session) → AreEnds d n p l → IsAddress l.own.0 × IsAddress l.peer.0 → a ≡ begun anonce rsne → (h : List Act) → IsBegun d p anonce rsne h → HasSession d n p o h

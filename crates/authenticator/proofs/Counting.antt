@@ -1,9 +1,9 @@
 -- Replay counters: those of an attempt, and those in the octets of M1 and M3.
 use Rattle.std.proofs.Common.{◌≡◌, ◌≢◌, ℕ, zero, suc, ◌+◌, ◌<◌, ◌≤◌, ◌^◌, true, false, List, length, drop, Option, Some, refl, sym, ap, ◌∙◌, arith, inl, inr}
-use Rattle.std.specs.Prelude.{◌==◌, max, unwrap_or, nat_lt, leb}
+use Rattle.std.specs.Prelude.{◌==◌, ◌-◌, max, unwrap_or, nat_lt, leb}
 use Rattle.std.specs.List.{list_any}
 use Rattle.std.specs.Int.{w64}
-use Rattle.std.proofs.lemmas.Bool.{eqb-true, eq-eqb, cases_Bool, leb-true, leb-false, le-ltb}
+use Rattle.std.proofs.lemmas.Bool.{eqb-true, eq-eqb, cases_Bool, leb-true, leb-false, le-ltb, ltb-true, ltb-false}
 use Rattle.std.proofs.lemmas.Nat.{from_be_bytes-to_be_bytes_8}
 use Rattle.std.proofs.lemmas.List.{length-map}
 use Rattle.domain_base.specs.Places.{big_endian_at}
@@ -67,6 +67,21 @@ offered_high before n counter low last low_is above last_is =
 pub offered_low : (before n counter low : ℕ) → low ≡ before → counter ≤ low → nat_lt low counter ≡ list_any (λ c. c == counter) (counters before n)
 offered_low before n counter low low_is under =
     le-ltb low counter under ∙ sym (offered_none before n counter (λ over under_last. absurd (omega (arith, low_is, under, over))))
+
+-- one of the last is as near to the last as there are
+pub one_of_last : (before n counter last sends : ℕ) → last ≡ before + n → sends ≡ n → counter ≤ last → nat_lt (last - counter) sends ≡ list_any (λ c. c == counter) (counters before n)
+one_of_last before n counter last sends is sends_is low =
+    elim (cases_Bool (nat_lt (last - counter) sends)) [
+      | inl near ↦ near ∙ sym (offered_in before n counter (omega (arith, is, sends_is, low, ltb-true (last - counter) sends near)) (omega (arith, is, low)))
+      | inr far ↦ far ∙ sym (offered_none before n counter (λ over under. absurd (omega (arith, is, sends_is, low, over, ltb-false (last - counter) sends far))))
+    ]
+
+pub beyond_last : (before n counter last : ℕ) → last ≡ before + n → last < counter → leb counter last ≡ list_any (λ c. c == counter) (counters before n)
+beyond_last before n counter last is over =
+    elim (cases_Bool (leb counter last)) [
+      | inl low ↦ absurd (omega (arith, over, leb-true counter last low))
+      | inr high ↦ high ∙ sym (offered_none before n counter (λ above under. absurd (omega (arith, is, over, under))))
+    ]
 
 greater : (before n : ℕ) → max (suc (before + suc n)) (suc (before + n)) ≡ suc (before + suc n)
 greater before n = omega arith

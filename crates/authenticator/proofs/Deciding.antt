@@ -1,5 +1,5 @@
 -- What the tests of the code say.
-use Rattle.std.proofs.Common.{◌≡◌, ℕ, Bool, true, false, List, Option, Some, None, refl, sym, ap, subst, ◌∙◌}
+use Rattle.std.proofs.Common.{◌≡◌, ◌+◌, ℕ, Bool, true, false, List, Option, Some, None, refl, sym, ap, subst, ◌∙◌}
 use Rattle.std.specs.Prelude.{◌↔◌, IsTrue, is_some, ◌==◌}
 use Rattle.std.specs.List.{list_any}
 use Rattle.domain_base.specs.declared.names.Akm.{Akm}
@@ -13,7 +13,9 @@ use Rattle.authenticator.specs.Counters.{counters}
 use Rattle.authenticator.specs.KeyData.{IsKeyDataOf}
 use Rattle.authenticator.specs.declared.attempt.Attempt.{Attempt}
 use Rattle.node_base.specs.PairwiseKeys.{key_with}
+use Rattle.authenticator.specs.Groups.{sent_for, owes, IsOffered, IsForgedG2, IsG2}
 use Rattle.authenticator.specs.Judged.{Frame, IsAwaited, IsForged, IsVerified, IsAnswered, IsForgedM4}
+use Rattle.authenticator.specs.declared.session.Session.{Session}
 
 -- as the code verified a MIC
 is_same : (akm : Akm) (kck other m octets : List ℕ) (b : Bool) → kck ≡ other → (IsTrue b ↔ (m ≡ mic akm kck octets)) → b ≡ true → m ≡ mic akm other octets
@@ -61,3 +63,17 @@ forged_m4 akm a f y key b answered is by other = record {
 
 pub verified_m4 : (akm : Akm) (y : Agreed) (key : Keyed) (m octets : List ℕ) (b : Bool) → key ≡ y.key → (IsTrue b ↔ (m ≡ mic akm key.ptk.kck octets)) → b ≡ true → m ≡ mic akm y.key.ptk.kck octets
 verified_m4 akm y key m octets b is by same = is_same akm key.ptk.kck y.key.ptk.kck m octets b (ap (λ (x : Keyed). x.ptk.kck) is) by same
+
+-- a G2
+pub offered_as : (place : ℕ) (s : Session) (f : KeyFields) (sent : ℕ) (b o : Bool) → sent ≡ sent_for place s → ((before : ℕ) → s.last ≡ before + sent → o ≡ list_any (λ c. c == f.counter) (counters before sent)) → o ≡ b
+    → (before : ℕ) → s.last ≡ before + sent_for place s → list_any (λ c. c == f.counter) (counters before (sent_for place s)) ≡ b
+offered_as place s f sent b o is by value = subst (λ (n : ℕ). (before : ℕ) → s.last ≡ before + n → list_any (λ c. c == f.counter) (counters before n) ≡ b) is (λ before at. sym (by before at) ∙ value)
+
+pub offers_g2 : (place : ℕ) (s : Session) (f : KeyFields) (sent : ℕ) (owed o : Bool) → owed ≡ owes place s → owed ≡ true → sent ≡ sent_for place s → ((before : ℕ) → s.last ≡ before + sent → o ≡ list_any (λ c. c == f.counter) (counters before sent)) → o ≡ true → IsOffered place s f
+offers_g2 place s f sent owed o owed_is held is by value = record { owed = sym owed_is ∙ held; offer = offered_as place s f sent true o is by value }
+
+pub forged_g2 : (akm : Akm) (place : ℕ) (s : Session) (f : Frame) (b : Bool) → IsOffered place s f.fields → (IsTrue b ↔ (f.fields.mic ≡ mic akm s.key.ptk.kck f.octets)) → b ≡ false → IsForgedG2 akm place s f
+forged_g2 akm place s f b offered by other = record { offered = offered; other = not_same akm s.key.ptk.kck s.key.ptk.kck f.fields.mic f.octets b refl by other }
+
+pub verified_g2 : (akm : Akm) (place : ℕ) (s : Session) (f : Frame) (b : Bool) → IsOffered place s f.fields → (IsTrue b ↔ (f.fields.mic ≡ mic akm s.key.ptk.kck f.octets)) → b ≡ true → IsG2 akm place s f
+verified_g2 akm place s f b offered by same = record { offered = offered; mic_is = by.0 same }

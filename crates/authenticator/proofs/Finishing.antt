@@ -1,12 +1,12 @@
 -- Message 4 of the four-way handshake.
-use Rattle.std.proofs.Common.{◌+◌, ◌≡◌, ℕ, Bool, true, false, List, [], ◌∷◌, ◌++◌, Option, Some, None, refl, sym, ap, subst, ◌∙◌}
-use Rattle.std.specs.Prelude.{is_some, cond}
+use Rattle.std.proofs.Common.{◌+◌, ◌≡◌, ◌<◌, ℕ, suc, Bool, true, false, List, [], ◌∷◌, ◌++◌, Option, Some, None, refl, sym, ap, subst, ◌∙◌, arith}
+use Rattle.std.specs.Prelude.{is_some, cond, nat_lt}
 use Rattle.domain_base.specs.declared.names.Akm.{Akm}
 use Rattle.domain_base.specs.declared.names.Node.{Node}
 use Rattle.domain_base.specs.declared.names.Node.TheVariants.{Ap, Sta}
 use Rattle.domain_base.specs.declared.names.Peer.TheVariants.{One}
 use Rattle.eapol_key.specs.declared.messages.Message.{Message}
-use Rattle.eapol_key.specs.declared.messages.Message.TheVariants.{M4}
+use Rattle.eapol_key.specs.declared.messages.Message.TheVariants.{M3, M4}
 use Rattle.key_hierarchy.specs.declared.inputs.Inputs.{Inputs}
 use Rattle.run_journal.specs.declared.domain.Domain.{Domain}
 use Rattle.run_journal.specs.declared.acts.Kind.TheVariants as kind
@@ -16,44 +16,53 @@ use Rattle.run_journal.specs.declared.acts.Reason.{Reason}
 use Rattle.run_journal.specs.declared.acts.Reason.TheVariants as reason
 use Rattle.run_journal.specs.declared.acts.Outcome.{Outcome}
 use Rattle.run_journal.specs.declared.acts.Outcome.TheVariants.{Accepted, Refused}
-use Rattle.run_journal.specs.declared.acts.Seal.{Seal}
 use Rattle.run_journal.specs.declared.acts.Act.{Act}
 use Rattle.run_journal.specs.declared.acts.Act.TheVariants.{Took, Closed, Installed, Finished}
 use Rattle.run_journal.specs.declared.reply.Reply.{Reply}
 use Rattle.run_journal.specs.declared.reply.Keyed.{Keyed}
 use Rattle.run_journal.specs.Replies.{IsEmpty}
+use Rattle.run_journal.specs.GroupKinds as groups
 use Rattle.run_journal.specs.Acts.{derived, Derivation}
-use Rattle.run_journal.specs.Questions.{or_else, attempt, derivation, session, add, draws}
+use Rattle.run_journal.specs.Questions.{or_else, attempt, derivation, session, before_sent, group_keys, add, draws}
 use Rattle.group_key.specs.declared.keys.GroupKey.{GroupKey}
+use Rattle.group_key.specs.Holds.{IsLast}
+use Rattle.group_key.proofs.Drawing.{older}
 use Rattle.domain_rules.specs.Counters.{next_in_attempt, next_in_session}
 use Rattle.domain_rules.specs.Frames.{frame_seal}
+use Rattle.domain_rules.specs.GroupKeys.{newest_uses}
 use Rattle.domain_rules.specs.Here.{here}
 use Rattle.domain_rules.specs.Network.{root}
 use Rattle.domain_rules.specs.Reading.{KeyMessage, Keyed as KeyedReading}
-use Rattle.domain_rules.specs.Replies.{Pair, pair, IsMessageFrom, inputs_by, replaced_acts, key_by, reply_acts, taken_as}
+use Rattle.domain_rules.specs.Replies.{pair, inputs_by, replaced_acts, key_by, sent_acts, reply_acts, taken_as}
 use Rattle.domain_rules.specs.Verdict.{KnowsOf, key_further, and_then, key_verdict}
 use Rattle.domain_rules.specs.Asking.{by_connect, among, verified}
 use Rattle.domain_rules.specs.AccessPointKeys.{m4_keying, m4_verdict_by, m4_verdict}
+use Rattle.domain_rules.specs.AccessPointRows.{m4_acts, carried_older, newer_acts}
 use Rattle.domain_rules.specs.Rows.{By_m4}
 use Rattle.domain_rules.specs.Closing.{close_session}
 use Rattle.domain_rules.proofs.Refused.{no_facts}
-use Rattle.domain_rules.proofs.Parts.{same-refl, Grows, Begins, Goes_on, grows, attempt_more, attempt_ends, attempt_some, by_connect_more}
+use Rattle.domain_rules.proofs.Parts.{same-refl, Grows, Begins, Goes_on, grows, attempt_more, attempt_ends, attempt_some, by_connect_more, add_append}
 use Rattle.domain_rules.proofs.Verdicts.{among-one, among-none, verified-same, verified-other}
 use Rattle.authenticator.specs.Agreed.{Agreed}
 use Rattle.authenticator.specs.Counters.{counters}
+use Rattle.authenticator.specs.Groups.{sent_for, Asks}
+use Rattle.authenticator.specs.Installed.{AsksWhere, IsInstalled}
 use Rattle.authenticator.specs.State.{State}
 use Rattle.authenticator.specs.Stands.{IsAgreed, IsUnderWay, IsHeld, AuthenticatorStands}
 use Rattle.authenticator.specs.Steps.{Steps}
-use Rattle.authenticator.specs.Judged.{Frame, IsUncounted, IsForgedM4, IsFinish, IsRefusedM4}
-use Rattle.authenticator.specs.Taken.{given, frame_in, StepsFrom}
+use Rattle.authenticator.specs.Judged.{Frame, IsUncounted, IsForgedM4, IsFresh, IsFinish, IsRefusedM4}
+use Rattle.authenticator.specs.Taken.{given, frame_in, Comes, StepsFrom}
 use Rattle.authenticator.specs.declared.attempt.Attempt.{Attempt}
+use Rattle.authenticator.specs.declared.attempt.Finish.{Finish}
 use Rattle.authenticator.specs.declared.session.Session.{Session}
 use Rattle.authenticator.proofs.Counting.{last_is}
 use Rattle.authenticator.proofs.Standing.{or_none, under_way, has_session}
-use Rattle.authenticator.proofs.Replying.{finish_acts, finish_took}
+use Rattle.authenticator.proofs.Replying.{finish_took, nothing_sent}
 use Rattle.authenticator.proofs.Refusing.{refused_as}
 use Rattle.authenticator.proofs.Verified.{same_mic}
 use Rattle.authenticator.proofs.Agreeing.{next_is, some_sent}
+use Rattle.authenticator.proofs.Handshaking.{counts_newest, counts_fresh, fresh_none}
+use Rattle.authenticator.proofs.Asking.{g1_is, stands_asked}
 
 -- ---- its verdict
 
@@ -95,8 +104,8 @@ refused_m4 d n p h k a akm (reason.Counter last) suite at w = counted_m4 d n p h
 refused_m4 d n p h k a akm reason.Mic suite at w = forged_m4 d n p h k a akm suite at w
 refused_m4 d n p h k a akm why suite at w = absurd w
 
-accepted_m4 : (d : Domain) (n p : Node) (h : List Act) (k : KeyMessage) (a : Attempt) (akm : Akm) (s : Session) → akm ≡ d.akm → IsUnderWay d n p a h → IsFinish akm a (frame_in k) s → m4_verdict d h p k ≡ Accepted
-accepted_m4 d n p h k a akm s suite at w =
+accepted_m4 : (d : Domain) (n p : Node) (h : List Act) (k : KeyMessage) (a : Attempt) (akm : Akm) (g : GroupKey) (x : Finish) → akm ≡ d.akm → IsUnderWay d n p a h → IsFinish akm g a (frame_in k) x → m4_verdict d h p k ≡ Accepted
+accepted_m4 d n p h k a akm g x suite at w =
     verdict_keyed d n p h k a w.y at w.answered.some ∙ among-one (counters a.m1s a.m3s) k.fields.counter (verified d.akm w.y.key.ptk.kck k Accepted) w.answered.offer
     ∙ verified-same d.akm w.y.key.ptk.kck k Accepted (w.mic_is ∙ same_mic k.octets suite refl)
 
@@ -105,7 +114,7 @@ accepted_m4 d n p h k a akm s suite at w =
 pub takes_refused_m4 : (s : State) (t : Attempt) (f : Frame) (newest : GroupKey) (rsc : ℕ) (why : Reason) (r : Reply) → s.attempt ≡ Some t → IsRefusedM4 s.ends.akm t f why → IsEmpty r → StepsFrom s s (given M4 f newest rsc) (Refused why) r
 takes_refused_m4 s t f newest rsc why r is by e =
     refused_as s (given M4 f newest rsc) M4 why r refl e
-    (λ d drawn a sta k h stands same.
+    (λ d drawn a sta k h stands same newest.
     refused_m4 d (Ap a) (Sta sta) h k t s.ends.akm why stands.ends.akm (under_way d (Ap a) (Sta sta) s.attempt t h is stands.attempt_is) (subst (λ (x : Frame). IsRefusedM4 s.ends.akm t x why) (sym same) by))
 
 -- ---- accepted: the session
@@ -132,43 +141,6 @@ finished_key p i h x is = rw (same-refl p) is
 finished_next : (p : Node) (i : Inputs) (h part : List Act) → attempt p h ≡ Some part → by_connect part ≡ true → next_in_session p (Finished p i ∷ h) ≡ next_in_attempt p part
 finished_next p i h part is begun = rw (same-refl p, is, begun) refl
 
--- the acts after the taking, the first first
-held : (d : Domain) (n p : Node) (octets : List ℕ) (s : Option Seal) (had : Bool) (x : Session) (h part : List Act) → attempt p h ≡ Some part → by_connect part ≡ true → derivation p h ≡ Some (key_by d (root d) n p x.key) → next_in_attempt p part ≡ x.next
-    → IsHeld d n p x (add (Took (Some p) octets (kind.Key M4) Accepted s ∷ finish_acts d n p had x.key) h)
-held d n p octets s true x h part is begun key counts =
-    let i = inputs_by d (root d) n p x.key in
-    let took = Took (Some p) octets (kind.Key M4) Accepted s in
-    let closed = Closed p OfSession in
-    let installed = Installed (One p) (Pairwise x.key.ptk.tk i) in
-    let first = attempt_more p took h part refl refl is in
-    let second = attempt_more p closed (took ∷ h) (took ∷ part) refl refl first in
-    let third = attempt_more p installed (closed ∷ took ∷ h) (closed ∷ took ∷ part) refl refl second in
-    record {
-      is = finished_key p i (installed ∷ closed ∷ took ∷ h) (key_by d (root d) n p x.key) key;
-      counts = finished_next p i (installed ∷ closed ∷ took ∷ h) (installed ∷ closed ∷ took ∷ part) third (by_connect_more took part (attempt_some p h part is) ∙ begun) ∙ counts;
-    }
-held d n p octets s false x h part is begun key counts =
-    let i = inputs_by d (root d) n p x.key in
-    let took = Took (Some p) octets (kind.Key M4) Accepted s in
-    let installed = Installed (One p) (Pairwise x.key.ptk.tk i) in
-    let first = attempt_more p took h part refl refl is in
-    let second = attempt_more p installed (took ∷ h) (took ∷ part) refl refl first in
-    record {
-      is = finished_key p i (installed ∷ took ∷ h) (key_by d (root d) n p x.key) key;
-      counts = finished_next p i (installed ∷ took ∷ h) (installed ∷ took ∷ part) second (by_connect_more took part (attempt_some p h part is) ∙ begun) ∙ counts;
-    }
-
--- and the attempt is none any more
-left : (d : Domain) (n : Node) (sta : ℕ) (octets : List ℕ) (s : Option Seal) (had : Bool) (y : Keyed) (h : List Act) → attempt (Sta sta) (add (Took (Some (Sta sta)) octets (kind.Key M4) Accepted s ∷ finish_acts d n (Sta sta) had y) h) ≡ None
-left d n sta octets s true y h =
-    let p = Sta sta in
-    let i = inputs_by d (root d) n p y in
-    attempt_ends p (Finished p i) (Installed (One p) (Pairwise y.ptk.tk i) ∷ Closed p OfSession ∷ Took (Some p) octets (kind.Key M4) Accepted s ∷ h) refl (same-refl p)
-left d n sta octets s false y h =
-    let p = Sta sta in
-    let i = inputs_by d (root d) n p y in
-    attempt_ends p (Finished p i) (Installed (One p) (Pairwise y.ptk.tk i) ∷ Took (Some p) octets (kind.Key M4) Accepted s ∷ h) refl (same-refl p)
-
 -- the session that was there
 replaced_is : (p : Node) (o : Option Derivation) (had : Bool) (y : Keyed) → is_some o ≡ had → replaced_acts p had (Some y) ≡ close_session p o
 replaced_is p None true y is = absurd (cc is)
@@ -176,21 +148,156 @@ replaced_is p None false y is = refl
 replaced_is p (Some x) true y is = refl
 replaced_is p (Some x) false y is = absurd (cc is)
 
-finished_m4 : (d : Domain) (first a sta : ℕ) (octets : List ℕ) (k : KeyMessage) (s : State) (t : Attempt) (x : Session) (r : Reply) (h : List Act) → IsMessageFrom d (Ap a) (Sta sta) octets k → k.message ≡ M4 → AuthenticatorStands d (Ap a) (Sta sta) s h
-    → IsUnderWay d (Ap a) (Sta sta) t h → IsFinish s.ends.akm t (frame_in k) x → IsEmpty r
-    → Steps (here d first (Ap a)) (Sta sta) octets (reply_acts (pair d (Ap a) (Sta sta)) (is_some s.session) (taken_as octets k Accepted) (record r { verified = Some x.key.ptk.kck; installed = Some x.key }))
-    (record s { attempt = None; session = Some x }) h
-finished_m4 d first a sta octets k s t x r h from is stands at w e =
+-- ---- the history with the acts of M4, where that was the session
+
+abbrev after : Domain → Node → Node → List ℕ → KeyMessage → Keyed → Option Derivation → List Act → List Act
+after d n p octets k y o h = add (m4_acts octets k p (key_by d (root d) n p y) o) h
+
+begun_session : (d : Domain) (n p : Node) (octets : List ℕ) (k : KeyMessage) (o : Option Derivation) (s : Session) (g : GroupKey) (h part : List Act) → attempt p h ≡ Some part → by_connect part ≡ true → derivation p h ≡ Some (key_by d (root d) n p s.key)
+    → next_in_attempt p part ≡ suc s.last → IsLast g (group_keys groups.Gtk h) → IsFresh g.place s → IsHeld d n p s (after d n p octets k s.key o h)
+begun_session d n p octets k (Some old) s g h part is begun key counts last fresh =
+    let i = inputs_by d (root d) n p s.key in
+    let took = Took (Some p) octets (kind.Key M4) Accepted (Some (frame_seal s.key.ptk.kck k.octets)) in
+    let closed = Closed p OfSession in
+    let installed = Installed (One p) (Pairwise s.key.ptk.tk i) in
+    let first = attempt_more p took h part refl refl is in
+    let second = attempt_more p closed (took ∷ h) (took ∷ part) refl refl first in
+    let third = attempt_more p installed (closed ∷ took ∷ h) (closed ∷ took ∷ part) refl refl second in
+    record {
+      is = finished_key p i (installed ∷ closed ∷ took ∷ h) (key_by d (root d) n p s.key) key;
+      counts = record {
+        place = g.place;
+        here = counts_fresh p i s g (installed ∷ closed ∷ took ∷ h) last fresh
+            (finished_next p i (installed ∷ closed ∷ took ∷ h) (installed ∷ closed ∷ took ∷ part) third (by_connect_more took part (attempt_some p h part is) ∙ begun) ∙ counts);
+      };
+    }
+begun_session d n p octets k None s g h part is begun key counts last fresh =
+    let i = inputs_by d (root d) n p s.key in
+    let took = Took (Some p) octets (kind.Key M4) Accepted (Some (frame_seal s.key.ptk.kck k.octets)) in
+    let installed = Installed (One p) (Pairwise s.key.ptk.tk i) in
+    let first = attempt_more p took h part refl refl is in
+    let second = attempt_more p installed (took ∷ h) (took ∷ part) refl refl first in
+    record {
+      is = finished_key p i (installed ∷ took ∷ h) (key_by d (root d) n p s.key) key;
+      counts = record {
+        place = g.place;
+        here = counts_fresh p i s g (installed ∷ took ∷ h) last fresh
+            (finished_next p i (installed ∷ took ∷ h) (installed ∷ took ∷ part) second (by_connect_more took part (attempt_some p h part is) ∙ begun) ∙ counts);
+      };
+    }
+
+-- the attempt is none any more
+left : (d : Domain) (n : Node) (sta : ℕ) (octets : List ℕ) (k : KeyMessage) (o : Option Derivation) (y : Keyed) (h : List Act) → attempt (Sta sta) (after d n (Sta sta) octets k y o h) ≡ None
+left d n sta octets k (Some old) y h =
+    let p = Sta sta in
+    let i = inputs_by d (root d) n p y in
+    attempt_ends p (Finished p i) (Installed (One p) (Pairwise y.ptk.tk i) ∷ Closed p OfSession ∷ Took (Some p) octets (kind.Key M4) Accepted (Some (frame_seal y.ptk.kck k.octets)) ∷ h) refl (same-refl p)
+left d n sta octets k None y h =
+    let p = Sta sta in
+    let i = inputs_by d (root d) n p y in
+    attempt_ends p (Finished p i) (Installed (One p) (Pairwise y.ptk.tk i) ∷ Took (Some p) octets (kind.Key M4) Accepted (Some (frame_seal y.ptk.kck k.octets)) ∷ h) refl (same-refl p)
+
+-- the newest group key stays, and the count of its uses
+after_keys : (d : Domain) (n p : Node) (octets : List ℕ) (k : KeyMessage) (o : Option Derivation) (y : Keyed) (h : List Act) → group_keys groups.Gtk (after d n p octets k y o h) ≡ group_keys groups.Gtk h
+after_keys d n p octets k (Some old) y h = refl
+after_keys d n p octets k None y h = refl
+
+after_uses : (d : Domain) (n p : Node) (octets : List ℕ) (k : KeyMessage) (o : Option Derivation) (y : Keyed) (h : List Act) → newest_uses groups.Gtk (after d n p octets k y o h) ≡ newest_uses groups.Gtk h
+after_uses d n p octets k (Some old) y h = refl
+after_uses d n p octets k None y h = refl
+
+-- ---- accepted
+
+-- the group key that M3 carried is older as the code finds it
+older_is : (d : Domain) (n p : Node) (t : Attempt) (y : Agreed) (g : GroupKey) (part h : List Act) → IsAgreed (pair d n p) (Some y) t.m3s part h → IsLast g (group_keys groups.Gtk h) → carried_older p h (before_sent p (kind.Key M3) h) ≡ nat_lt y.group.place g.place
+older_is d n p t y g part h has last = ap (carried_older p h) has.2.is ∙ older y.group g has.2.past h has.2.key last
+
+-- what follows the acts of M4
+abbrev tail_acts : Domain → Node → Node → List ℕ → KeyMessage → Keyed → List Act → List Act
+tail_acts d n p octets k y h =
+    newer_acts d n p (after d n p octets k y (session p h) h) (key_by d (root d) n p y) (carried_older p h (before_sent p (kind.Key M3) h))
+
+-- what M4 makes of the attempt and of the history
+record Ends (d : Domain) (a sta : ℕ) (octets : List ℕ) (k : KeyMessage) (s : State) (x : Finish) (t : Session) (r : Reply) (h : List Act) : Type 0 where
+  sends : sent_acts (Sta sta) r ≡ tail_acts d (Ap a) (Sta sta) octets k x.session.key h
+  stands : AuthenticatorStands d (Ap a) (Sta sta) (record s { attempt = None; session = Some t }) (add (sent_acts (Sta sta) r) (after d (Ap a) (Sta sta) octets k x.session.key (session (Sta sta) h) h))
+
+-- no G1 follows
+ends_quiet : (d : Domain) (a sta : ℕ) (octets : List ℕ) (k : KeyMessage) (s : State) (x : Finish) (t : Session) (r : Reply) (h : List Act) → t ≡ x.session → r.len ≡ 0
+    → carried_older (Sta sta) h (before_sent (Sta sta) (kind.Key M3) h) ≡ false
+    → AuthenticatorStands d (Ap a) (Sta sta) (record s { attempt = None; session = Some x.session }) (after d (Ap a) (Sta sta) octets k x.session.key (session (Sta sta) h) h)
+    → Ends d a sta octets k s x t r h
+ends_quiet d a sta octets k s x t r h same len older_no stands =
+    let p = Sta sta in
+    let none = nothing_sent p r len in
+    let past = after d (Ap a) p octets k x.session.key (session p h) h in
+    record {
+      sends = none ∙ sym (ap (newer_acts d (Ap a) p past (key_by d (root d) (Ap a) p x.session.key)) older_no);
+      stands = subst (λ (g : List Act). AuthenticatorStands d (Ap a) p (record s { attempt = None; session = Some t }) (add g past)) (sym none)
+          (subst (λ (z : Session). AuthenticatorStands d (Ap a) p (record s { attempt = None; session = Some z }) past) (sym same) stands);
+    }
+
+-- G1 follows
+ends_asked : (d : Domain) (a sta : ℕ) (octets : List ℕ) (k : KeyMessage) (s : State) (x : Finish) (t : Session) (g : GroupKey) (rsc : ℕ) (r : Reply) (h : List Act) → Asks s.ends g rsc x.session t r → sent_for g.place x.session ≡ 0
+    → IsLast g (group_keys groups.Gtk h) → newest_uses groups.Gtk h ≡ rsc
+    → carried_older (Sta sta) h (before_sent (Sta sta) (kind.Key M3) h) ≡ true
+    → IsHeld d (Ap a) (Sta sta) x.session (after d (Ap a) (Sta sta) octets k x.session.key (session (Sta sta) h) h)
+    → AuthenticatorStands d (Ap a) (Sta sta) (record s { attempt = None; session = Some x.session }) (after d (Ap a) (Sta sta) octets k x.session.key (session (Sta sta) h) h)
+    → Ends d a sta octets k s x t r h
+ends_asked d a sta octets k s x t g rsc r h w none_yet last uses older_yes at stands =
     let n = Ap a in
     let p = Sta sta in
+    let y = x.session.key in
+    let i = key_by d (root d) n p y in
+    let past = after d n p octets k y (session p h) h in
+    let sends = w.sends d n p i stands.ends refl in
+    let last_now : IsLast g (group_keys groups.Gtk past) = subst (λ (keys : List (List ℕ)). IsLast g keys) (sym (after_keys d n p octets k (session p h) y h)) last in
+    let uses_now = after_uses d n p octets k (session p h) y h ∙ uses in
+    let counts = counts_newest p x.session g past last_now at.counts in
+    let few : sent_for g.place x.session < 4 = omega (arith, none_yet) in
+    record {
+      sends = sends ∙ ap (λ (e : Act). e ∷ []) (sym (g1_is d n p i g rsc x.session.last past last_now uses_now counts.next)) ∙ sym (ap (newer_acts d n p past i) older_yes);
+      stands = subst (λ (acts : List Act). AuthenticatorStands d n p (record s { attempt = None; session = Some t }) (add acts past)) (sym sends)
+          (stands_asked d a p (record s { attempt = None; session = Some x.session }) x.session t g rsc r past stands at counts few w);
+    }
+
+ends_by : (d : Domain) (a sta : ℕ) (octets : List ℕ) (k : KeyMessage) (s : State) (x : Finish) (t : Session) (g : GroupKey) (rsc : ℕ) (r : Reply) (h : List Act) (b : Bool) → AsksWhere b s.ends g rsc x.session t r → IsFresh g.place x.session
+    → IsLast g (group_keys groups.Gtk h) → newest_uses groups.Gtk h ≡ rsc
+    → carried_older (Sta sta) h (before_sent (Sta sta) (kind.Key M3) h) ≡ b
+    → IsHeld d (Ap a) (Sta sta) x.session (after d (Ap a) (Sta sta) octets k x.session.key (session (Sta sta) h) h)
+    → AuthenticatorStands d (Ap a) (Sta sta) (record s { attempt = None; session = Some x.session }) (after d (Ap a) (Sta sta) octets k x.session.key (session (Sta sta) h) h)
+    → Ends d a sta octets k s x t r h
+ends_by d a sta octets k s x t g rsc r h false w fresh last uses older_no at stands = ends_quiet d a sta octets k s x t r h w.0 w.1 older_no stands
+ends_by d a sta octets k s x t g rsc r h true w fresh last uses older_yes at stands = ends_asked d a sta octets k s x t g rsc r h w (fresh_none x.session g.place fresh) last uses older_yes at stands
+
+-- the acts, as the row says them
+says_m4 : (took : Act) (closed other rest sends more : List Act) → closed ≡ other → sends ≡ more → took ∷ ((closed ++ rest) ++ sends) ≡ took ∷ ((other ++ rest) ++ more)
+says_m4 took closed other rest sends more closed_is sends_is = rw (closed_is, sends_is) refl
+
+finished_m4 : (d : Domain) (first a sta : ℕ) (octets : List ℕ) (k : KeyMessage) (s : State) (t : Attempt) (x : Finish) (u : Session) (g : GroupKey) (rsc : ℕ) (r : Reply) (h : List Act) → Comes (here d first (Ap a)) (Sta sta) (given M4 (frame_in k) g rsc) octets k h
+    → AuthenticatorStands d (Ap a) (Sta sta) s h → IsUnderWay d (Ap a) (Sta sta) t h → IsFinish s.ends.akm g t (frame_in k) x → IsInstalled s.ends g rsc x u r
+    → Steps (here d first (Ap a)) (Sta sta) octets (reply_acts (pair d (Ap a) (Sta sta)) (is_some s.session) (taken_as octets k Accepted) r) (record s { attempt = None; session = Some u }) h
+finished_m4 d first a sta octets k s t x u g rsc r h come stands at w told =
+    let n = Ap a in
+    let p = Sta sta in
+    let from = come.from in
+    let is = come.message in
     let had = is_some s.session in
-    let y = x.key in
+    let y = x.session.key in
     let i = inputs_by d (root d) n p y in
     let seal = Some (frame_seal y.ptk.kck k.octets) in
     let key = some_sent (pair d n p) t.agreed w.y t.m3s at.part h w.answered.some at.agreed in
     let same : Some (key_by d (root d) n p w.y.key) ≡ Some (key_by d (root d) n p y) = ap (λ (z : Keyed). Some (key_by d (root d) n p z)) (sym w.key_is) in
-    let accepted = from.verdict_is first h ∙ ap (λ (m : Message). key_verdict d (first + draws h) n h p k m) is ∙ accepted_m4 d n p h k t s.ends.akm x stands.ends.akm at w in
-    let acts = finish_took d n p had octets k M4 Accepted r y is e in
+    let accepted = from.verdict_is first h ∙ ap (λ (m : Message). key_verdict d (first + draws h) n h p k m) is ∙ accepted_m4 d n p h k t s.ends.akm g x stands.ends.akm at w in
+    let held_now = begun_session d n p octets k (session p h) x.session g h at.part at.is at.begun (derived_in p h at.part (key_by d (root d) n p y) at.is (key.1 ∙ same)) (next_is d n p t h at ∙ sym (ap suc w.last_is)) come.newest w.fresh in
+    let past = after d n p octets k y (session p h) h in
+    let stands_now : AuthenticatorStands d n p (record s { attempt = None; session = Some x.session }) past = record { ends = stands.ends; psk = stands.psk; attempt_is = left d n sta octets k (session p h) y h; session_is = held_now } in
+    let end = ends_by d a sta octets k s x u g rsc r h x.is_older told.asks w.fresh come.newest come.uses (older_is d n p t w.y g at.part h key come.newest ∙ sym w.older) held_now stands_now in
+    let closed = replaced_is p (session p h) had y (has_session d n p s.session h stands.session_is) in
+    let took = Took (Some p) octets (kind.Key M4) Accepted seal in
+    let rest = Installed (One p) (Pairwise y.ptk.tk i) ∷ Finished p i ∷ [] in
+    let acts = finish_took d n p had octets k M4 Accepted r y is told.verified told.derived told.installed told.gtk in
+    let so_far = acts ∙ says_m4 took (replaced_acts p had (Some y)) (close_session p (session p h)) rest (sent_acts p r) (sent_acts p r) closed refl in
     record {
       adds = record {
         r = KeyedReading k;
@@ -208,21 +315,19 @@ finished_m4 d first a sta octets k s t x r h from is stands at w e =
           awaited = at.is;
           x = key_by d (root d) n p y;
           keyed = keying_is d n p t h at ∙ ap (keying_of d n p) w.answered.some ∙ same;
-          says = acts
-              ∙ ap (λ (closed : List Act). Took (Some p) octets (kind.Key M4) Accepted seal ∷ closed ++ Installed (One p) (Pairwise y.ptk.tk i) ∷ Finished p i ∷ [])
-              (replaced_is p (session p h) had y (has_session d n p s.session h stands.session_is));
+          says = acts ∙ says_m4 took (replaced_acts p had (Some y)) (close_session p (session p h)) rest (sent_acts p r) (tail_acts d n p octets k y h) closed end.sends;
         });
       };
-      stands = record {
-        ends = stands.ends;
-        psk = stands.psk;
-        attempt_is = subst (λ (g : List Act). attempt p (add g h) ≡ None) (sym acts) (left d n sta octets seal had y h);
-        session_is = subst (λ (g : List Act). IsHeld d n p x (add g h)) (sym acts)
-            (held d n p octets seal had x h at.part at.is at.begun (derived_in p h at.part (key_by d (root d) n p y) at.is (key.1 ∙ same)) (next_is d n p t h at ∙ sym w.next_is));
-      };
+      stands = subst (λ (z : List Act). AuthenticatorStands d n p (record s { attempt = None; session = Some u }) (add z h)) (sym so_far)
+          (subst (λ (z : List Act). AuthenticatorStands d n p (record s { attempt = None; session = Some u }) z) (sym (add_append (m4_acts octets k p (key_by d (root d) n p y) (session p h)) (sent_acts p r) h)) end.stands);
     }
 
-pub takes_finished : (s : State) (t : Attempt) (f : Frame) (newest : GroupKey) (rsc : ℕ) (x : Session) (r : Reply) → s.attempt ≡ Some t → IsFinish s.ends.akm t f x → IsEmpty r
-    → StepsFrom s (record s { attempt = None; session = Some x }) (given M4 f newest rsc) Accepted (record r { verified = Some x.key.ptk.kck; installed = Some x.key })
-takes_finished s t f newest rsc x r is by e = λ d first a sta octets k h stands w.
-    finished_m4 d first a sta octets k s t x r h w.from w.message stands (under_way d (Ap a) (Sta sta) s.attempt t h is stands.attempt_is) (subst (λ (z : Frame). IsFinish s.ends.akm t z x) (sym w.frame) by) e
+-- what comes, by its own frame
+come_by : (d : Domain) (first a : ℕ) (p : Node) (f : Frame) (g : GroupKey) (rsc : ℕ) (octets : List ℕ) (k : KeyMessage) (h : List Act) → Comes (here d first (Ap a)) p (given M4 f g rsc) octets k h → Comes (here d first (Ap a)) p (given M4 (frame_in k) g rsc) octets k h
+come_by d first a p f g rsc octets k h w = record { from = w.from; message = w.message; frame = refl; newest = w.newest; uses = w.uses }
+
+pub takes_finished : (s : State) (t : Attempt) (f : Frame) (g : GroupKey) (rsc : ℕ) (x : Finish) (u : Session) (r : Reply) → s.attempt ≡ Some t → IsFinish s.ends.akm g t f x → IsInstalled s.ends g rsc x u r
+    → StepsFrom s (record s { attempt = None; session = Some u }) (given M4 f g rsc) Accepted r
+takes_finished s t f g rsc x u r is by told = λ d first a sta octets k h stands w.
+    finished_m4 d first a sta octets k s t x u g rsc r h (come_by d first a (Sta sta) f g rsc octets k h w) stands (under_way d (Ap a) (Sta sta) s.attempt t h is stands.attempt_is)
+    (subst (λ (z : Frame). IsFinish s.ends.akm g t z x) (sym w.frame) by) told

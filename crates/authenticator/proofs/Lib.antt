@@ -2,11 +2,14 @@ pub mod KeyData
 pub mod Counting
 pub mod Deciding
 pub mod Addresses
+pub mod Handshaking
 pub mod Standing
 pub mod Replying
 pub mod Refusing
 pub mod Verified
 pub mod Agreeing
+pub mod Asking
+pub mod Answered
 pub mod Answering
 pub mod Finishing
 pub mod Retrying

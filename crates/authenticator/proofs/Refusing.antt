@@ -4,7 +4,7 @@ use Rattle.std.specs.Prelude.{is_some}
 use Rattle.domain_base.specs.declared.names.Node.{Node}
 use Rattle.domain_base.specs.declared.names.Node.TheVariants.{Ap, Sta}
 use Rattle.eapol_key.specs.declared.messages.Message.{Message}
-use Rattle.eapol_key.specs.declared.messages.Message.TheVariants.{M2, M4}
+use Rattle.eapol_key.specs.declared.messages.Message.TheVariants.{M2, M4, G2}
 use Rattle.run_journal.specs.declared.domain.Domain.{Domain}
 use Rattle.run_journal.specs.declared.acts.Kind.{Kind}
 use Rattle.run_journal.specs.declared.acts.Kind.TheVariants as kind
@@ -17,7 +17,9 @@ use Rattle.run_journal.specs.declared.acts.Act.{Act}
 use Rattle.run_journal.specs.declared.acts.Act.TheVariants.{Took}
 use Rattle.run_journal.specs.declared.reply.Reply.{Reply}
 use Rattle.run_journal.specs.Replies.{IsEmpty}
-use Rattle.run_journal.specs.Questions.{attempt, add, draws}
+use Rattle.run_journal.specs.Questions.{attempt, add, draws, group_keys}
+use Rattle.run_journal.specs.GroupKinds as groups
+use Rattle.group_key.specs.Holds.{IsLast}
 use Rattle.group_key.specs.declared.keys.GroupKey.{GroupKey}
 use Rattle.domain_rules.specs.Here.{here}
 use Rattle.domain_rules.specs.Reading.{KeyMessage, Keyed as KeyedReading}
@@ -79,22 +81,22 @@ steps_quiet d first a p octets k s why r h w stands e refused =
     steps_refused d first a p octets k s why None r h w stands (only_took d (Ap a) p (is_some s.session) octets k (Refused why) r None e.len e.verified e.derived e.installed e.gtk)
     (refused_first d first (Ap a) h (KeyedReading k) why (w.verdict_is first h ∙ refused))
 
--- a message of that name and frame is refused, whatever it came as
-abbrev pub IsRefusedAs : State → Message → Frame → Reason → Type 0
-IsRefusedAs s m f why =
-    (d : Domain) (drawn a sta : ℕ) (k : KeyMessage) (h : List Act) → AuthenticatorStands d (Ap a) (Sta sta) s h → frame_in k ≡ f → key_verdict d drawn (Ap a) h (Sta sta) k m ≡ Refused why
+-- a message of that name and frame is refused by that newest group key, whatever it came as
+abbrev pub IsRefusedAs : State → Message → Frame → GroupKey → Reason → Type 0
+IsRefusedAs s m f g why =
+    (d : Domain) (drawn a sta : ℕ) (k : KeyMessage) (h : List Act) → AuthenticatorStands d (Ap a) (Sta sta) s h → frame_in k ≡ f → IsLast g (group_keys groups.Gtk h) → key_verdict d drawn (Ap a) h (Sta sta) k m ≡ Refused why
 
-pub refused_as : (s : State) (x : Given) (m : Message) (why : Reason) (r : Reply) → x.message ≡ m → IsEmpty r → IsRefusedAs s m x.frame why → StepsFrom s s x (Refused why) r
+pub refused_as : (s : State) (x : Given) (m : Message) (why : Reason) (r : Reply) → x.message ≡ m → IsEmpty r → IsRefusedAs s m x.frame x.newest why → StepsFrom s s x (Refused why) r
 refused_as s x m why r named e refused = λ d first a sta octets k h stands w.
     steps_quiet d first a (Sta sta) octets k s why r h w.from stands e
-    (ap (λ (y : Message). key_verdict d (first + draws h) (Ap a) h (Sta sta) k y) (w.message ∙ named) ∙ refused d (first + draws h) a sta k h stands w.frame)
+    (ap (λ (y : Message). key_verdict d (first + draws h) (Ap a) h (Sta sta) k y) (w.message ∙ named) ∙ refused d (first + draws h) a sta k h stands w.frame w.newest)
 
 -- ---- without an attempt nothing is awaited
 
 pub no_m2 : (s : State) (f : Frame) (newest : GroupKey) (rsc : ℕ) (r : Reply) → s.attempt ≡ None → IsEmpty r → StepsFrom s s (given M2 f newest rsc) (Refused reason.Unawaited) r
 no_m2 s f newest rsc r none e =
     refused_as s (given M2 f newest rsc) M2 reason.Unawaited r refl e
-    (λ d drawn a sta k h stands same. unawaited-m2 d (Ap a) h (Sta sta) k (no_attempt d (Ap a) (Sta sta) s.attempt h none stands.attempt_is))
+    (λ d drawn a sta k h stands same newest. unawaited-m2 d (Ap a) h (Sta sta) k (no_attempt d (Ap a) (Sta sta) s.attempt h none stands.attempt_is))
 
 unawaited-m4 : (d : Domain) (h : List Act) (p : Node) (k : KeyMessage) → attempt p h ≡ None → m4_verdict d h p k ≡ Refused reason.Unawaited
 unawaited-m4 d h p k none = rw none refl
@@ -102,17 +104,18 @@ unawaited-m4 d h p k none = rw none refl
 pub no_m4 : (s : State) (f : Frame) (newest : GroupKey) (rsc : ℕ) (r : Reply) → s.attempt ≡ None → IsEmpty r → StepsFrom s s (given M4 f newest rsc) (Refused reason.Unawaited) r
 no_m4 s f newest rsc r none e =
     refused_as s (given M4 f newest rsc) M4 reason.Unawaited r refl e
-    (λ d drawn a sta k h stands same. unawaited-m4 d h (Sta sta) k (no_attempt d (Ap a) (Sta sta) s.attempt h none stands.attempt_is))
+    (λ d drawn a sta k h stands same newest. unawaited-m4 d h (Sta sta) k (no_attempt d (Ap a) (Sta sta) s.attempt h none stands.attempt_is))
 
 -- ---- other messages are unawaited
 
-other_message : (d : Domain) (drawn a : ℕ) (h : List Act) (p : Node) (k : KeyMessage) (m : Message) → (m ≡ M2 → ⊥) → (m ≡ M4 → ⊥) → key_verdict d drawn (Ap a) h p k m ≡ Refused reason.Unawaited
-other_message d drawn a h p k M2 other last = absurd (other refl)
-other_message d drawn a h p k M4 other last = absurd (last refl)
-other_message d drawn a h p k m other last = refl
+other_message : (d : Domain) (drawn a : ℕ) (h : List Act) (p : Node) (k : KeyMessage) (m : Message) → (m ≡ M2 → ⊥) → (m ≡ M4 → ⊥) → (m ≡ G2 → ⊥) → key_verdict d drawn (Ap a) h p k m ≡ Refused reason.Unawaited
+other_message d drawn a h p k M2 other last group = absurd (other refl)
+other_message d drawn a h p k M4 other last group = absurd (last refl)
+other_message d drawn a h p k G2 other last group = absurd (group refl)
+other_message d drawn a h p k m other last group = refl
 
-pub no_other : (s : State) (x : Given) (r : Reply) → (x.message ≡ M2 → ⊥) → (x.message ≡ M4 → ⊥) → IsEmpty r → StepsFrom s s x (Refused reason.Unawaited) r
-no_other s x r other last e = refused_as s x x.message reason.Unawaited r refl e (λ d drawn a sta k h stands same. other_message d drawn a h (Sta sta) k x.message other last)
+pub no_other : (s : State) (x : Given) (r : Reply) → (x.message ≡ M2 → ⊥) → (x.message ≡ M4 → ⊥) → (x.message ≡ G2 → ⊥) → IsEmpty r → StepsFrom s s x (Refused reason.Unawaited) r
+no_other s x r other last group e = refused_as s x x.message reason.Unawaited r refl e (λ d drawn a sta k h stands same newest. other_message d drawn a h (Sta sta) k x.message other last group)
 
 -- ---- by another name of the message
 

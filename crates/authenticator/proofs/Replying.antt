@@ -30,6 +30,12 @@ pub only_took : (d : Domain) (n p : Node) (had : Bool) (octets : List ℕ) (k : 
 only_took d n p true octets k o r v len verified derived installed gtk = rw (len, verified, derived, installed, gtk) refl
 only_took d n p false octets k o r v len verified derived installed gtk = rw (len, verified, derived, installed, gtk) refl
 
+-- by the name of the message
+pub took_only : (d : Domain) (n p : Node) (had : Bool) (octets : List ℕ) (k : KeyMessage) (m : Message) (o : Outcome) (r : Reply) (v : Option (List ℕ)) → k.message ≡ m → r.len ≡ 0 → r.verified ≡ v → r.derived ≡ None → r.installed ≡ None → r.gtk ≡ None
+    → reply_acts (pair d n p) had (taken_as octets k o) r ≡ Took (Some p) octets (kind.Key m) o (option_map (λ kck. frame_seal kck k.octets) v) ∷ []
+took_only d n p had octets k m o r v is len verified derived installed gtk =
+    only_took d n p had octets k o r v len verified derived installed gtk ∙ took_as p octets k.message m o (option_map (λ kck. frame_seal kck k.octets) v) [] is
+
 answer_acts : (d : Domain) (n p : Node) (had : Bool) (octets : List ℕ) (k : KeyMessage) (o : Outcome) (r : Reply) (y : Keyed) (act : Act) → TellsDerived y r → sent_acts p r ≡ act ∷ []
     → reply_acts (pair d n p) had (taken_as octets k o) r ≡ Took (Some p) octets (kind.Key k.message) o (Some (frame_seal y.ptk.kck k.octets)) ∷ Derived p (inputs_by d (root d) n p y) y.ptk ∷ act ∷ []
 answer_acts d n p true octets k o r y act told sends = rw (told.verified, told.derived, told.installed, told.gtk, sends) refl
@@ -45,17 +51,20 @@ answer_took d n p had octets k m o r y act is told sends =
 abbrev pub finish_acts : Domain → Node → Node → Bool → Keyed → List Act
 finish_acts d n p had y = replaced_acts p had (Some y) ++ Installed (One p) (Pairwise y.ptk.tk (inputs_by d (root d) n p y)) ∷ Finished p (inputs_by d (root d) n p y) ∷ []
 
-installed_took : (d : Domain) (n p : Node) (had : Bool) (octets : List ℕ) (k : KeyMessage) (o : Outcome) (r : Reply) (y : Keyed) → r.len ≡ 0 → r.verified ≡ Some y.ptk.kck → r.derived ≡ None → r.installed ≡ Some y → r.gtk ≡ None
-    → reply_acts (pair d n p) had (taken_as octets k o) r ≡ Took (Some p) octets (kind.Key k.message) o (Some (frame_seal y.ptk.kck k.octets)) ∷ finish_acts d n p had y
-installed_took d n p true octets k o r y len verified derived installed gtk = rw (len, verified, derived, installed, gtk) refl
-installed_took d n p false octets k o r y len verified derived installed gtk = rw (len, verified, derived, installed, gtk) refl
+installed_took : (d : Domain) (n p : Node) (had : Bool) (octets : List ℕ) (k : KeyMessage) (o : Outcome) (r : Reply) (y : Keyed) → r.verified ≡ Some y.ptk.kck → r.derived ≡ None → r.installed ≡ Some y → r.gtk ≡ None
+    → reply_acts (pair d n p) had (taken_as octets k o) r ≡ Took (Some p) octets (kind.Key k.message) o (Some (frame_seal y.ptk.kck k.octets)) ∷ (finish_acts d n p had y ++ sent_acts p r)
+installed_took d n p true octets k o r y verified derived installed gtk = rw (verified, derived, installed, gtk) refl
+installed_took d n p false octets k o r y verified derived installed gtk = rw (verified, derived, installed, gtk) refl
 
 -- the key was installed
-pub finish_took : (d : Domain) (n p : Node) (had : Bool) (octets : List ℕ) (k : KeyMessage) (m : Message) (o : Outcome) (r : Reply) (y : Keyed) → k.message ≡ m → IsEmpty r
-    → reply_acts (pair d n p) had (taken_as octets k o) (record r { verified = Some y.ptk.kck; installed = Some y }) ≡ Took (Some p) octets (kind.Key m) o (Some (frame_seal y.ptk.kck k.octets)) ∷ finish_acts d n p had y
-finish_took d n p had octets k m o r y is e =
-    installed_took d n p had octets k o (record r { verified = Some y.ptk.kck; installed = Some y }) y e.len refl e.derived refl e.gtk
-    ∙ took_as p octets k.message m o (Some (frame_seal y.ptk.kck k.octets)) (finish_acts d n p had y) is
+pub finish_took : (d : Domain) (n p : Node) (had : Bool) (octets : List ℕ) (k : KeyMessage) (m : Message) (o : Outcome) (r : Reply) (y : Keyed) → k.message ≡ m → r.verified ≡ Some y.ptk.kck → r.derived ≡ None → r.installed ≡ Some y → r.gtk ≡ None
+    → reply_acts (pair d n p) had (taken_as octets k o) r ≡ Took (Some p) octets (kind.Key m) o (Some (frame_seal y.ptk.kck k.octets)) ∷ (finish_acts d n p had y ++ sent_acts p r)
+finish_took d n p had octets k m o r y is verified derived installed gtk =
+    installed_took d n p had octets k o r y verified derived installed gtk ∙ took_as p octets k.message m o (Some (frame_seal y.ptk.kck k.octets)) (finish_acts d n p had y ++ sent_acts p r) is
+
+-- nothing is sent
+pub nothing_sent : (p : Node) (r : Reply) → r.len ≡ 0 → sent_acts p r ≡ []
+nothing_sent p r len = rw len refl
 
 -- an empty reply is whole
 pub empty_whole : (r : Reply) → IsEmpty r → IsWhole r

@@ -1,6 +1,6 @@
 -- What an attempt sends once more, and that it is given up.
 use Rattle.std.proofs.Common.{◌≡◌, ◌≢◌, ◌<◌, ◌≤◌, ◌+◌, ℕ, suc, Bool, true, false, List, [], ◌∷◌, Option, Some, None, refl, sym, ap, subst, ◌∙◌, arith, inl, inr}
-use Rattle.std.specs.Prelude.{is_some, unwrap_or, ◌⊎◌, if◌then◌else◌}
+use Rattle.std.specs.Prelude.{is_some, unwrap_or, if◌then◌else◌}
 use Rattle.std.proofs.lemmas.Bool.{lt-ltb, le-ltb}
 use Rattle.domain_base.specs.declared.names.Akm.TheVariants.{FtPsk}
 use Rattle.domain_base.specs.declared.names.Node.{Node}
@@ -12,30 +12,31 @@ use Rattle.eapol_key.specs.Octets.{frame_octets}
 use Rattle.eapol_key.specs.Sent.{sent_fields}
 use Rattle.run_journal.specs.declared.domain.Domain.{Domain}
 use Rattle.run_journal.specs.declared.acts.Kind.TheVariants as kind
+use Rattle.run_journal.specs.declared.acts.Part.{Part}
 use Rattle.run_journal.specs.declared.acts.Part.TheVariants.{Attempt as OfAttempt}
-use Rattle.run_journal.specs.declared.acts.Why.TheVariants as why
 use Rattle.run_journal.specs.declared.acts.Seal.{Seal}
 use Rattle.run_journal.specs.declared.acts.Act.{Act}
-use Rattle.run_journal.specs.declared.acts.Act.TheVariants.{Closed, Sent, GaveUp, Idle}
+use Rattle.run_journal.specs.declared.acts.Act.TheVariants.{Closed, Sent, GaveUp}
 use Rattle.run_journal.specs.declared.reply.Reply.{Reply}
 use Rattle.run_journal.specs.Acts.{Derivation}
-use Rattle.run_journal.specs.Questions.{attempt, session, derivation, before_sent, add, chain}
+use Rattle.run_journal.specs.Questions.{attempt, derivation, before_sent, add, chain}
 use Rattle.run_journal.specs.GroupKinds as groups
+use Rattle.group_key.specs.declared.keys.GroupKey.{GroupKey}
 use Rattle.group_key.specs.Holds.{carried}
 use Rattle.group_key.proofs.Drawing.{last_newest}
 use Rattle.domain_rules.specs.Frames.{frame_seal, in_data, m3_frame, sent_m1, sent_m3}
 use Rattle.domain_rules.specs.Network.{root}
-use Rattle.domain_rules.specs.Replies.{Pair, pair, key_by}
+use Rattle.domain_rules.specs.Replies.{pair, key_by}
 use Rattle.domain_rules.specs.Asking.{own, by_connect, has_heard, replay_counter}
-use Rattle.domain_rules.specs.Counters.{sent_count, next_in_attempt, next_in_session}
+use Rattle.domain_rules.specs.Counters.{sent_count, next_in_attempt}
 use Rattle.domain_rules.specs.GroupKeys.{newest, newest_uses}
 use Rattle.domain_rules.specs.AccessPointRows.{again_or_give_up, m3_again, retry_acts}
-use Rattle.domain_rules.proofs.Parts.{same-refl, attempt_more, attempt_ends, attempt_some, by_connect_more, own_nonce_more, apart-idle}
+use Rattle.domain_rules.proofs.Parts.{same-refl, attempt_more, attempt_ends, attempt_some, by_connect_more, own_nonce_more}
 use Rattle.authenticator.specs.Agreed.{Agreed}
 use Rattle.authenticator.specs.Counters.{counters}
 use Rattle.authenticator.specs.State.{State}
-use Rattle.authenticator.specs.Stands.{IsAgreed, IsUnderWay, HasSession, AuthenticatorStands}
-use Rattle.authenticator.specs.Steps.{Retries, again_acts}
+use Rattle.authenticator.specs.Stands.{IsAgreed, IsUnderWay, Counts, HasSession, AuthenticatorStands}
+use Rattle.authenticator.specs.Steps.{Retries, part_of, again_acts}
 use Rattle.authenticator.specs.Judged.{counted, IsM1Again, IsM3Again, IsAgain, IsInVain}
 use Rattle.authenticator.specs.Taken.{RetriesFrom}
 use Rattle.authenticator.specs.declared.authenticator.Again.TheVariants as again
@@ -43,7 +44,8 @@ use Rattle.authenticator.specs.declared.attempt.Attempt.{Attempt}
 use Rattle.authenticator.specs.declared.session.Session.{Session}
 use Rattle.authenticator.proofs.Addresses.{own_address, peer_address}
 use Rattle.authenticator.proofs.Counting.{count_is, replay_plain}
-use Rattle.authenticator.proofs.Standing.{agreed_on, session_on, stands_more, no_attempt}
+use Rattle.authenticator.proofs.Handshaking.{counts_on}
+use Rattle.authenticator.proofs.Standing.{agreed_on, session_on}
 use Rattle.authenticator.proofs.Agreeing.{m3_counter, none_sent, some_sent, cons_is, next_of}
 use Rattle.authenticator.proofs.Verified.{IsOn, on_by}
 
@@ -135,15 +137,12 @@ sent_three d n p h a y octets s at is has counter =
 abbrev Goes : Domain → ℕ → Node → State → Attempt → Reply → List Act → Type 0
 Goes d a p s b r h = Retries (pair d (Ap a) p) (again_acts p again.Sent r) (record s { attempt = Some b }) h
 
--- a frame to the peer that is no message of the group key handshake leaves its session
-session_sent : (d : Domain) (n p : Node) (o : Option Session) (act : Act) (h : List Act) → session p (act ∷ h) ≡ session p h → next_in_session p (act ∷ h) ≡ next_in_session p h → HasSession d n p o h → HasSession d n p o (act ∷ h)
-session_sent d n p o act h has counts at = session_on d n p o h (act ∷ h) has counts at
+-- M1 and M3 leave the session of the peer
+counts_m1 : (p : Node) (octets : List ℕ) (v : Option Seal) (h : List Act) (s : Session) → Counts p s h → Counts p s (Sent (One p) (kind.Key M1) octets v ∷ h)
+counts_m1 p octets v h s at = counts_on p s (Sent (One p) (kind.Key M1) octets v) h refl refl (rw (same-refl p) refl) refl at
 
-counts_m1 : (p : Node) (octets : List ℕ) (s : Option Seal) (h : List Act) → next_in_session p (Sent (One p) (kind.Key M1) octets s ∷ h) ≡ next_in_session p h
-counts_m1 p octets s h = rw (same-refl p) refl
-
-counts_m3 : (p : Node) (octets : List ℕ) (s : Option Seal) (h : List Act) → next_in_session p (Sent (One p) (kind.Key M3) octets s ∷ h) ≡ next_in_session p h
-counts_m3 p octets s h = rw (same-refl p) refl
+counts_m3 : (p : Node) (octets : List ℕ) (v : Option Seal) (h : List Act) (s : Session) → Counts p s h → Counts p s (Sent (One p) (kind.Key M3) octets v ∷ h)
+counts_m3 p octets v h s at = counts_on p s (Sent (One p) (kind.Key M3) octets v) h refl refl (rw (same-refl p) refl) refl at
 
 retries_m1 : (d : Domain) (a : ℕ) (p : Node) (s : State) (t b : Attempt) (r : Reply) (h : List Act) → AuthenticatorStands d (Ap a) p s h → IsOn d a p s t h → IsM1Again s.ends t b r → Goes d a p s b r h
 retries_m1 d a p s t b r h stands on w =
@@ -159,7 +158,7 @@ retries_m1 d a p s t b r h stands on w =
         ends = on.ends;
         psk = on.psk_is;
         attempt_is = subst (λ (g : List Act). IsUnderWay d n p b (add g h)) (sym sends) (subst (λ (x : Attempt). IsUnderWay d n p x (m1 ∷ h)) (sym w.now) goes);
-        session_is = subst (λ (g : List Act). HasSession d n p s.session (add g h)) (sym sends) (session_sent d n p s.session m1 h refl (counts_m1 p octets None h) stands.session_is);
+        session_is = subst (λ (g : List Act). HasSession d n p s.session (add g h)) (sym sends) (session_on d n p s.session h (m1 ∷ h) refl (counts_m1 p octets None h) stands.session_is);
       };
     }
 
@@ -183,7 +182,7 @@ retries_m3 d a p s t b r h stands on w =
         psk = on.psk_is;
         attempt_is = subst (λ (g : List Act). IsUnderWay d n p b (add g h)) (sym sends) (subst (λ (z : Attempt). IsUnderWay d n p z (m3 ∷ h)) (sym w.now) goes);
         session_is = subst (λ (g : List Act). HasSession d n p s.session (add g h)) (sym sends)
-            (session_sent d n p s.session m3 h refl (counts_m3 p (in_data d n p frame) (Some (frame_seal x.ptk.kck frame)) h) stands.session_is);
+            (session_on d n p s.session h (m3 ∷ h) refl (counts_m3 p (in_data d n p frame) (Some (frame_seal x.ptk.kck frame)) h) stands.session_is);
       };
     }
 
@@ -191,8 +190,8 @@ retries_by : (d : Domain) (a : ℕ) (p : Node) (s : State) (t b : Attempt) (r : 
 retries_by d a p s t b r h stands on (inl w) = retries_m1 d a p s t b r h stands on w
 retries_by d a p s t b r h stands on (inr w) = retries_m3 d a p s t b r h stands on w
 
-pub retries_sent : (s : State) (t b : Attempt) (r : Reply) → s.attempt ≡ Some t → s.ends.akm ≢ FtPsk → IsAgain s.ends t b r → RetriesFrom s (record s { attempt = Some b }) again.Sent r
-retries_sent s t b r is suite by = λ d a sta h stands. retries_by d a (Sta sta) s t b r h stands (on_by d a (Sta sta) s t h is suite stands) by
+pub retries_sent : (s : State) (t b : Attempt) (g : GroupKey) (rsc : ℕ) (r : Reply) → s.attempt ≡ Some t → s.ends.akm ≢ FtPsk → IsAgain s.ends t b r → RetriesFrom s (record s { attempt = Some b }) g rsc again.Sent r
+retries_sent s t b g rsc r is suite by = λ d a sta h stands w. retries_by d a (Sta sta) s t b r h stands (on_by d a (Sta sta) s t h is suite stands) by
 
 -- ---- given up
 
@@ -211,24 +210,26 @@ given_acts d n p h t m at w = absurd w
 given_none : (sta : ℕ) (m : Message) (h : List Act) → attempt (Sta sta) (Closed (Sta sta) OfAttempt ∷ GaveUp (Sta sta) m ∷ h) ≡ None
 given_none sta m h = attempt_ends (Sta sta) (Closed (Sta sta) OfAttempt) (GaveUp (Sta sta) m ∷ h) refl (same-refl (Sta sta))
 
-pub retries_given_up : (s : State) (t : Attempt) (m : Message) (r : Reply) → s.attempt ≡ Some t → s.ends.akm ≢ FtPsk → IsInVain t m → RetriesFrom s (record s { attempt = None }) (again.GaveUp m) r
-retries_given_up s t m r is suite by = λ d a sta h stands.
+-- and what is given up is an attempt
+given_part : (t : Attempt) (m : Message) → IsInVain t m → part_of m ≡ OfAttempt
+given_part t M1 w = refl
+given_part t M3 w = refl
+given_part t m w = absurd w
+
+counts_given : (p : Node) (m : Message) (h : List Act) (s : Session) → Counts p s h → Counts p s (Closed p OfAttempt ∷ GaveUp p m ∷ h)
+counts_given p m h s at = counts_on p s (Closed p OfAttempt) (GaveUp p m ∷ h) refl refl refl refl (counts_on p s (GaveUp p m) h refl refl refl refl at)
+
+pub retries_given_up : (s : State) (t : Attempt) (m : Message) (g : GroupKey) (rsc : ℕ) (r : Reply) → s.attempt ≡ Some t → s.ends.akm ≢ FtPsk → IsInVain t m → RetriesFrom s (record s { attempt = None }) g rsc (again.GaveUp m) r
+retries_given_up s t m g rsc r is suite by = λ d a sta h stands w.
     (let p = Sta sta in
     let on = on_by d a p s t h is suite stands in
-    record {
+    subst (λ (q : Part). Retries (pair d (Ap a) p) (GaveUp p m ∷ Closed p q ∷ []) (record s { attempt = None }) h) (sym (given_part t m by))
+    (record {
       adds = given_acts d (Ap a) p h t m on.trial by;
       stands = record {
         ends = on.ends;
         psk = on.psk_is;
         attempt_is = given_none sta m h;
-        session_is = session_on d (Ap a) p s.session h (Closed p OfAttempt ∷ GaveUp p m ∷ h) refl refl stands.session_is;
+        session_is = session_on d (Ap a) p s.session h (Closed p OfAttempt ∷ GaveUp p m ∷ h) refl (counts_given p m h) stands.session_is;
       };
-    })
-
--- ---- nothing to send
-
-pub retries_nothing : (s : State) (r : Reply) → s.attempt ≡ None → RetriesFrom s s again.Nothing r
-retries_nothing s r none = λ d a sta h stands. record {
-  adds = ap (retry_acts d (Ap a) h (Sta sta)) (no_attempt d (Ap a) (Sta sta) s.attempt h none stands.attempt_is);
-  stands = stands_more d (Ap a) (Sta sta) s (Idle why.Nothing) h (apart-idle (Sta sta) why.Nothing) stands;
-}
+    }))

@@ -1,23 +1,22 @@
 -- How an authenticator goes on to stand for a history with more acts that are not about its peer.
-use Rattle.std.proofs.Common.{◌≡◌, ℕ, List, [], ◌∷◌, Option, Some, None, map, refl, ap, subst, ◌∙◌, false}
+use Rattle.std.proofs.Common.{◌≡◌, ℕ, List, [], ◌∷◌, Option, Some, None, map, refl, ap, subst, ◌∙◌}
 use Rattle.std.specs.Prelude.{is_some}
 use Rattle.std.specs.List.{AllByRecursion}
 use Rattle.domain_base.specs.declared.names.Node.{Node}
-use Rattle.eapol_key.specs.declared.messages.Message.TheVariants.{M1, M2, M3, G1}
+use Rattle.eapol_key.specs.declared.messages.Message.TheVariants.{M1, M2, M3}
 use Rattle.run_journal.specs.declared.domain.Domain.{Domain}
 use Rattle.run_journal.specs.declared.acts.Kind.TheVariants as kind
 use Rattle.run_journal.specs.declared.acts.Act.{Act}
-use Rattle.run_journal.specs.Acts.{finishes, sent}
 use Rattle.run_journal.specs.Questions.{or_else, attempt, derivation, session, before_sent, add}
-use Rattle.domain_rules.specs.Counters.{next_in_session}
 use Rattle.domain_rules.specs.Asking.{replay_counter}
 use Rattle.domain_rules.specs.Replies.{Pair, pair}
 use Rattle.domain_rules.proofs.Parts.{IsApart, GoesOn, goes_on}
 use Rattle.authenticator.specs.Agreed.{Agreed}
 use Rattle.authenticator.specs.State.{State}
-use Rattle.authenticator.specs.Stands.{IsAgreed, IsUnderWay, HasAttempt, HasSession, AuthenticatorStands}
+use Rattle.authenticator.specs.Stands.{IsAgreed, IsUnderWay, Counts, IsHeld, HasAttempt, HasSession, AuthenticatorStands}
 use Rattle.authenticator.specs.declared.attempt.Attempt.{Attempt}
 use Rattle.authenticator.specs.declared.session.Session.{Session}
+use Rattle.authenticator.proofs.Handshaking.{counts_apart}
 
 -- ---- the first M3
 
@@ -32,14 +31,11 @@ first_on : (p : Node) (g h : List Act) → AllByRecursion (IsApart p) g → befo
 first_on p [] h all = refl
 first_on p (e ∷ g) h all = first_on p g (e ∷ h) all.1 ∙ first_more p e h all.0
 
--- ---- the replay counter in a session
+-- ---- the replay counters of a session
 
-counts_more : (p : Node) (e : Act) (h : List Act) → finishes p e ≡ false → sent p (kind.Key G1) e ≡ None → next_in_session p (e ∷ h) ≡ next_in_session p h
-counts_more p e h ends sends = rw (ends, sends) refl
-
-counts_on : (p : Node) (g h : List Act) → AllByRecursion (IsApart p) g → next_in_session p (add g h) ≡ next_in_session p h
-counts_on p [] h all = refl
-counts_on p (e ∷ g) h all = counts_on p g (e ∷ h) all.1 ∙ counts_more p e h all.0.finishes_none (all.0.sends_none G1)
+counts_more : (p : Node) (s : Session) (g h : List Act) → AllByRecursion (IsApart p) g → Counts p s h → Counts p s (add g h)
+counts_more p s [] h all at = at
+counts_more p s (e ∷ g) h all at = counts_more p s g (e ∷ h) all.1 (counts_apart p s e h all.0 at)
 
 -- ---- acts that are not about the peer
 
@@ -47,10 +43,10 @@ counts_on p (e ∷ g) h all = counts_on p g (e ∷ h) all.1 ∙ counts_more p e 
 pub record IsOther (p : Node) (old new : List Act) : Type 0 where
   pub goes : GoesOn p old new
   pub first : before_sent p (kind.Key M3) new ≡ before_sent p (kind.Key M3) old
-  pub counts : next_in_session p new ≡ next_in_session p old
+  pub counts : (s : Session) → Counts p s old → Counts p s new
 
 pub other_on : (p : Node) (g h : List Act) → AllByRecursion (IsApart p) g → IsOther p h (add g h)
-other_on p g h all = record { goes = goes_on p g h all; first = first_on p g h all; counts = counts_on p g h all }
+other_on p g h all = record { goes = goes_on p g h all; first = first_on p g h all; counts = λ s at. counts_more p s g h all at }
 
 pub agreed_on : (w : Pair) (o : Option Agreed) (m3s : ℕ) (part more old new : List Act) → derivation w.peer more ≡ derivation w.peer part → before_sent w.peer (kind.Key M3) new ≡ before_sent w.peer (kind.Key M3) old
     → IsAgreed w o m3s part old → IsAgreed w o m3s more new
@@ -82,10 +78,10 @@ attempt_on : (d : Domain) (n p : Node) (o : Option Attempt) (old new : List Act)
 attempt_on d n p None old new other at = other.goes.none at
 attempt_on d n p (Some a) old new other at = under_way_on d n p a old new other at
 
--- a session stays where its key and its counter do
-pub session_on : (d : Domain) (n p : Node) (o : Option Session) (old new : List Act) → session p new ≡ session p old → next_in_session p new ≡ next_in_session p old → HasSession d n p o old → HasSession d n p o new
+-- a session stays where its key and its counters do
+pub session_on : (d : Domain) (n p : Node) (o : Option Session) (old new : List Act) → session p new ≡ session p old → ((s : Session) → Counts p s old → Counts p s new) → HasSession d n p o old → HasSession d n p o new
 session_on d n p None old new has counts at = has ∙ at
-session_on d n p (Some s) old new has counts at = record { is = has ∙ at.is; counts = counts ∙ at.counts }
+session_on d n p (Some s) old new has counts at = record { is = has ∙ at.is; counts = counts s at.counts }
 
 pub stands_on : (d : Domain) (n p : Node) (s : State) (old new : List Act) → IsOther p old new → AuthenticatorStands d n p s old → AuthenticatorStands d n p s new
 stands_on d n p s old new other at = record {
@@ -110,6 +106,12 @@ under_way d n p o a h is at = subst (λ (x : Option Attempt). HasAttempt d n p x
 pub has_attempt : (d : Domain) (n p : Node) (o : Option Attempt) (h : List Act) → HasAttempt d n p o h → is_some (attempt p h) ≡ is_some o
 has_attempt d n p None h at = rw at refl
 has_attempt d n p (Some a) h at = rw at.is refl
+
+pub no_session : (d : Domain) (n p : Node) (o : Option Session) (h : List Act) → o ≡ None → HasSession d n p o h → session p h ≡ None
+no_session d n p o h none at = subst (λ (x : Option Session). HasSession d n p x h) none at
+
+pub held : (d : Domain) (n p : Node) (o : Option Session) (s : Session) (h : List Act) → o ≡ Some s → HasSession d n p o h → IsHeld d n p s h
+held d n p o s h is at = subst (λ (x : Option Session). HasSession d n p x h) is at
 
 pub has_session : (d : Domain) (n p : Node) (o : Option Session) (h : List Act) → HasSession d n p o h → is_some (session p h) ≡ is_some o
 has_session d n p None h at = rw at refl

@@ -1,6 +1,6 @@
 -- How the messages of an attempt are judged, and how it goes on (IEEE Std 802.11-2020, 12.7.6.3, 12.7.6.5 and 12.7.6.6; the order
 -- of the checks, and how often a message is sent, are this project's choice).
-use Rattle.std.specs.Prelude.{◌≡◌, ◌<◌, ◌≤◌, ◌+◌, ◌^◌, ◌==◌, ℕ, suc, true, false, List, Option, Some, None, is_some, ◌⊎◌}
+use Rattle.std.specs.Prelude.{◌≡◌, ◌<◌, ◌≤◌, ◌+◌, ◌^◌, ◌==◌, ℕ, suc, true, false, List, Option, Some, None, is_some, nat_lt, ◌⊎◌}
 use Rattle.std.specs.List.{list_any}
 use Rattle.domain_base.specs.declared.names.Akm.{Akm}
 use Rattle.air_frame.specs.Sent.{IsAddress}
@@ -15,6 +15,7 @@ use Rattle.run_journal.specs.declared.acts.Reason.{Reason}
 use Rattle.run_journal.specs.declared.acts.Reason.TheVariants as reason
 use Rattle.run_journal.specs.declared.reply.Keyed.{Keyed}
 use Rattle.run_journal.specs.declared.reply.Reply.{Reply}
+use Rattle.group_key.specs.declared.keys.GroupKey.{GroupKey}
 use Rattle.node_base.specs.declared.ends.Ends.{Ends}
 use Rattle.node_base.specs.PairwiseKeys.{key_with}
 use Rattle.authenticator.specs.Agreed.{Agreed}
@@ -22,6 +23,7 @@ use Rattle.authenticator.specs.Counters.{counters}
 use Rattle.authenticator.specs.KeyData.{IsKeyDataOf}
 use Rattle.authenticator.specs.Sends.{SendsM1, SendsM3}
 use Rattle.authenticator.specs.declared.attempt.Attempt.{Attempt}
+use Rattle.authenticator.specs.declared.attempt.Finish.{Finish}
 use Rattle.authenticator.specs.declared.attempt.M4.{M4}
 use Rattle.authenticator.specs.declared.attempt.M4.TheVariants as m4
 use Rattle.authenticator.specs.declared.session.Session.{Session}
@@ -123,12 +125,22 @@ pub record IsForgedM4 (akm : Akm) (a : Attempt) (f : Frame) : Type 0 where
   pub answered : IsAnswered a f.fields y
   pub other : f.fields.mic ≡ mic akm y.key.ptk.kck f.octets → ⊥
 
-pub record IsFinish (akm : Akm) (a : Attempt) (f : Frame) (s : Session) : Type 0 where
+-- nothing was sent in the session for the group key of that place, and what counts replay counters in it is that of an attempt
+pub record IsFresh (place : ℕ) (s : Session) : Type 0 where
+  pub place_is : s.place ≡ place
+  pub no_g1 : s.g1s ≡ 0
+  pub unanswered : s.is_answered ≡ false
+  pub low : s.last ≤ 510
+
+-- where this is the newest group key: the session, and whether M3 carried an older one
+pub record IsFinish (akm : Akm) (newest : GroupKey) (a : Attempt) (f : Frame) (x : Finish) : Type 0 where
   pub y : Agreed
   pub answered : IsAnswered a f.fields y
   pub mic_is : f.fields.mic ≡ mic akm y.key.ptk.kck f.octets
-  pub key_is : s.key ≡ y.key
-  pub next_is : s.next ≡ suc (a.m1s + a.m3s)
+  pub key_is : x.session.key ≡ y.key
+  pub last_is : x.session.last ≡ a.m1s + a.m3s
+  pub fresh : IsFresh newest.place x.session
+  pub older : x.is_older ≡ nat_lt y.group.place newest.place
 
 abbrev pub IsRefusedM4 : Akm → Attempt → Frame → Reason → Type 0
 IsRefusedM4 akm a f reason.Unawaited = a.agreed ≡ None
@@ -137,9 +149,9 @@ IsRefusedM4 akm a f reason.Mic = IsForgedM4 akm a f
 IsRefusedM4 akm a f _ = ⊥
 
 -- a refusal gives the attempt back as it was
-abbrev pub IsM4 : Akm → Attempt → Frame → M4 → Type 0
-IsM4 akm a f (m4.Refused why back) = (back ≡ a) × IsRefusedM4 akm a f why
-IsM4 akm a f (m4.Finished s) = IsFinish akm a f s
+abbrev pub IsM4 : Akm → GroupKey → Attempt → Frame → M4 → Type 0
+IsM4 akm newest a f (m4.Refused why back) = (back ≡ a) × IsRefusedM4 akm a f why
+IsM4 akm newest a f (m4.Finished x) = IsFinish akm newest a f x
 
 -- ---- once more
 

@@ -3,8 +3,10 @@ pub mod Counters
 pub mod KeyData
 pub mod Sends
 pub mod State
+pub mod Judged
+pub mod Groups
+pub mod Installed
 pub mod Stands
 pub mod Steps
-pub mod Judged
 pub mod Taken
 pub mod Starts

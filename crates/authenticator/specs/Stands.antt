@@ -1,12 +1,12 @@
 -- Which histories an authenticator stands for (this project's choice; the exchange is that of IEEE Std 802.11-2020, 12.7.6, its
 -- replay counters those of 12.7.2).
-use Rattle.std.specs.Prelude.{◌≡◌, ◌≤◌, ℕ, true, List, Option, Some, None, is_some}
+use Rattle.std.specs.Prelude.{◌≡◌, ◌≤◌, ◌+◌, ◌*◌, ℕ, suc, true, List, length, Option, Some, None, is_some}
 use Rattle.domain_base.specs.declared.names.Node.{Node}
-use Rattle.eapol_key.specs.declared.messages.Message.TheVariants.{M1, M2, M3}
+use Rattle.eapol_key.specs.declared.messages.Message.TheVariants.{M1, M2, M3, G1, G2}
 use Rattle.run_journal.specs.declared.domain.Domain.{Domain}
 use Rattle.run_journal.specs.declared.acts.Kind.TheVariants.{Key}
 use Rattle.run_journal.specs.declared.acts.Act.{Act}
-use Rattle.run_journal.specs.Questions.{attempt, own_nonce, derivation, session, before_sent, group_keys}
+use Rattle.run_journal.specs.Questions.{attempt, own_nonce, derivation, session, before_sent, group_keys, handshake}
 use Rattle.run_journal.specs.GroupKinds as groups
 use Rattle.domain_rules.specs.Network.{root}
 use Rattle.domain_rules.specs.Counters.{next_in_session}
@@ -18,6 +18,7 @@ use Rattle.group_key.specs.Holds.{IsLast}
 use Rattle.node_base.specs.Ends.{AreEnds}
 use Rattle.authenticator.specs.Agreed.{Agreed}
 use Rattle.authenticator.specs.Counters.{counters}
+use Rattle.authenticator.specs.Groups.{sent_for, is_answered_for}
 use Rattle.authenticator.specs.State.{State}
 use Rattle.authenticator.specs.declared.attempt.Attempt.{Attempt}
 use Rattle.authenticator.specs.declared.session.Session.{Session}
@@ -52,10 +53,28 @@ pub record IsUnderWay (d : Domain) (n p : Node) (a : Attempt) (h : List Act) : T
   pub heard_last : last_request p h ≡ Some request
   pub rsne : HasRsne d.akm request (Some a.rsne)
 
+-- the replay counters of a session, and its handshake for the newest group key, which has that place in the order of drawing
+pub record CountsAt (p : Node) (s : Session) (place : ℕ) (h : List Act) : Type 0 where
+  pub next : next_in_session p h ≡ suc s.last
+  pub newest : length (group_keys groups.Gtk h) ≡ suc place
+  pub drawn : s.place ≤ place
+  -- those of G1 are the last ones
+  pub before : ℕ
+  pub last : s.last ≡ before + sent_for place s
+  pub offers : offered p G1 (handshake groups.Gtk p h) ≡ counters before (sent_for place s)
+  pub answered : has_heard p (Key G2) (handshake groups.Gtk p h) ≡ is_answered_for place s
+  -- at most four for each group key, behind those of an attempt
+  pub few : s.g1s ≤ 4
+  pub low : s.last ≤ 510 + (4 * s.place + s.g1s)
+
+pub record Counts (p : Node) (s : Session) (h : List Act) : Type 0 where
+  pub place : ℕ
+  pub here : CountsAt p s place h
+
 -- the session is held, beside an attempt or without one
 pub record IsHeld (d : Domain) (n p : Node) (s : Session) (h : List Act) : Type 0 where
   pub is : session p h ≡ Some (key_by d (root d) n p s.key)
-  pub counts : next_in_session p h ≡ s.next
+  pub counts : Counts p s h
 
 -- there is that attempt, or none
 abbrev pub HasAttempt : Domain → Node → Node → Option Attempt → List Act → Type 0

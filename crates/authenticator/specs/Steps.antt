@@ -2,19 +2,22 @@
 -- 802.11-2020, 12.7.6.6).
 use Rattle.std.specs.Prelude.{◌≡◌, ℕ, true, false, List, [], ◌∷◌, Some, None}
 use Rattle.domain_base.specs.declared.names.Node.{Node}
-use Rattle.eapol_key.specs.declared.messages.Message.TheVariants.{M1, M2, M3}
+use Rattle.eapol_key.specs.declared.messages.Message.{Message}
+use Rattle.eapol_key.specs.declared.messages.Message.TheVariants.{M1, M2, M3, G1}
 use Rattle.run_journal.specs.declared.domain.Domain.{Domain}
 use Rattle.run_journal.specs.declared.acts.Kind.{Kind}
 use Rattle.run_journal.specs.declared.acts.Kind.TheVariants.{Key}
-use Rattle.run_journal.specs.declared.acts.Part.TheVariants.{Attempt as OfAttempt}
+use Rattle.run_journal.specs.declared.acts.Part.{Part}
+use Rattle.run_journal.specs.declared.acts.Part.TheVariants.{Attempt as OfAttempt, Session as OfSession}
 use Rattle.run_journal.specs.declared.acts.Why.TheVariants as why
 use Rattle.run_journal.specs.declared.acts.Act.{Act}
 use Rattle.run_journal.specs.declared.acts.Act.TheVariants.{Closed, GaveUp, Idle}
 use Rattle.run_journal.specs.declared.reply.Reply.{Reply}
-use Rattle.run_journal.specs.Questions.{add, attempt, own_nonce, before_sent}
+use Rattle.run_journal.specs.Questions.{add, attempt, session, own_nonce, before_sent}
+use Rattle.run_journal.specs.Acts.{Derivation}
 use Rattle.domain_rules.specs.Replies.{Pair, sent_acts}
 use Rattle.domain_rules.specs.Rows.{TakeRow}
-use Rattle.domain_rules.specs.AccessPointRows.{retry_acts}
+use Rattle.domain_rules.specs.AccessPointRows.{retry_acts, g1_to}
 use Rattle.domain_rules.specs.Asking.{by_connect, offered, has_heard}
 use Rattle.domain_rules.specs.AccessPointKeys.{HasRsne, request as last_request}
 use Rattle.domain_rules.specs.Here.{Here}
@@ -44,15 +47,27 @@ pub record Steps (w : Here) (p : Node) (octets : List ℕ) (acts : List Act) (ne
   pub adds : TakeRow w h octets acts
   pub stands : AuthenticatorStands w.domain w.node p new (add acts h)
 
+-- what is given up with a message: a session with G1, and else an attempt
+abbrev pub part_of : Message → Part
+part_of G1 = OfSession
+part_of _ = OfAttempt
+
 -- the acts of sending once more, by what came of it
 abbrev pub again_acts : Node → Again → Reply → List Act
 again_acts p again.Sent r = sent_acts p r
-again_acts p (again.GaveUp m) r = GaveUp p m ∷ Closed p OfAttempt ∷ []
+again_acts p (again.GaveUp m) r = GaveUp p m ∷ Closed p (part_of m) ∷ []
 again_acts p again.Nothing r = Idle why.Nothing ∷ []
 
 -- Behind the history h, they are what sending once more adds, and the authenticator then stands for the longer history.
 pub record Retries (w : Pair) (acts : List Act) (new : State) (h : List Act) : Type 0 where
   pub adds : retry_acts w.domain w.node h w.peer (attempt w.peer h) ≡ acts
+  pub stands : AuthenticatorStands w.domain w.node w.peer new (add acts h)
+
+-- Behind the history h, they are G1 to the session, and the authenticator then stands for the longer history.
+pub record Gives (w : Pair) (acts : List Act) (new : State) (h : List Act) : Type 0 where
+  pub x : Derivation
+  pub has : session w.peer h ≡ Some x
+  pub adds : g1_to w.domain w.node w.peer h x ∷ [] ≡ acts
   pub stands : AuthenticatorStands w.domain w.node w.peer new (add acts h)
 
 -- what came of sending once more, where a kind names the message that was sent in vain

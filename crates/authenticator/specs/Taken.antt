@@ -1,24 +1,28 @@
 -- What a message and sending once more do, after every history that the authenticator stands for (this project's choice).
-use Rattle.std.specs.Prelude.{◌≡◌, ℕ, List, is_some}
+use Rattle.std.specs.Prelude.{◌≡◌, ◌<◌, ◌-◌, ◌^◌, ℕ, List, [], Some, is_some}
 use Rattle.domain_base.specs.declared.names.Node.{Node}
 use Rattle.domain_base.specs.declared.names.Node.TheVariants.{Ap, Sta}
 use Rattle.eapol_key.specs.declared.messages.Message.{Message}
+use Rattle.eapol_key.specs.declared.messages.Message.TheVariants.{G1}
 use Rattle.run_journal.specs.declared.domain.Domain.{Domain}
 use Rattle.run_journal.specs.declared.acts.Outcome.{Outcome}
 use Rattle.run_journal.specs.declared.acts.Act.{Act}
 use Rattle.run_journal.specs.declared.reply.Reply.{Reply}
-use Rattle.run_journal.specs.Questions.{group_keys}
+use Rattle.run_journal.specs.Questions.{session, group_keys, handshake}
+use Rattle.run_journal.specs.Acts.{Derivation}
 use Rattle.run_journal.specs.GroupKinds as groups
 use Rattle.domain_rules.specs.GroupKeys.{newest_uses}
 use Rattle.domain_rules.specs.Here.{Here, here}
 use Rattle.domain_rules.specs.Reading.{KeyMessage}
-use Rattle.domain_rules.specs.Replies.{IsMessageFrom, reply_acts, pair, taken_as}
+use Rattle.domain_rules.specs.Asking.{offered}
+use Rattle.domain_rules.specs.Counters.{next_in_session}
+use Rattle.domain_rules.specs.Replies.{IsMessageFrom, reply_acts, sent_acts, pair, taken_as}
 use Rattle.group_key.specs.declared.keys.GroupKey.{GroupKey}
 use Rattle.group_key.specs.Holds.{IsLast}
 use Rattle.authenticator.specs.State.{State}
 use Rattle.authenticator.specs.Stands.{AuthenticatorStands}
 use Rattle.authenticator.specs.Judged.{Frame}
-use Rattle.authenticator.specs.Steps.{Steps, Retries, again_acts}
+use Rattle.authenticator.specs.Steps.{Steps, Retries, Gives, again_acts}
 use Rattle.authenticator.specs.declared.authenticator.Again.{Again}
 
 -- what an authenticator is given: a message and its frame, the newest group key, and how many packet numbers were used under it
@@ -50,8 +54,22 @@ StepsFrom old new x outcome r =
     → Steps (here d first (Ap ap)) (Sta sta) octets
     (reply_acts (pair d (Ap ap) (Sta sta)) (is_some old.session) (taken_as octets k outcome) r) new h
 
+-- behind the history h this is the newest group key, so many packet numbers were used under it, and where there is a session with p
+-- its replay counters have not come to their end
+pub record Newest (p : Node) (g : GroupKey) (rsc : ℕ) (h : List Act) : Type 0 where
+  pub newest : IsLast g (group_keys groups.Gtk h)
+  pub uses : newest_uses groups.Gtk h ≡ rsc
+  pub low : (x : Derivation) → session p h ≡ Some x → next_in_session p h < 2 ^ 64 - 1
+
 -- and so does sending once more
-abbrev pub RetriesFrom : State → State → Again → Reply → Type 0
-RetriesFrom old new came r =
-    (d : Domain) (ap sta : ℕ) (h : List Act) → AuthenticatorStands d (Ap ap) (Sta sta) old h
+abbrev pub RetriesFrom : State → State → GroupKey → ℕ → Again → Reply → Type 0
+RetriesFrom old new g rsc came r =
+    (d : Domain) (ap sta : ℕ) (h : List Act) → AuthenticatorStands d (Ap ap) (Sta sta) old h → Newest (Sta sta) g rsc h
     → Retries (pair d (Ap ap) (Sta sta)) (again_acts (Sta sta) came r) new h
+
+-- and sending G1 for a group key for which none was sent yet
+abbrev pub GivesFrom : State → State → GroupKey → ℕ → Reply → Type 0
+GivesFrom old new g rsc r =
+    (d : Domain) (ap sta : ℕ) (h : List Act) → AuthenticatorStands d (Ap ap) (Sta sta) old h → Newest (Sta sta) g rsc h
+    → offered (Sta sta) G1 (handshake groups.Gtk (Sta sta) h) ≡ []
+    → Gives (pair d (Ap ap) (Sta sta)) (sent_acts (Sta sta) r) new h

@@ -1,6 +1,6 @@
 //! What an attempt has from M2 on.
 
-ghost use Rattle.std.specs.Prelude.{◌≡◌, ◌<◌, ◌^◌};
+ghost use Rattle.std.specs.Prelude.{◌≡◌, ◌<◌, ◌^◌, nat_lt};
 ghost use Rattle.air_frame.specs.Sent.{IsAddress};
 ghost use Rattle.run_journal.specs.Replies.{IsWhole};
 ghost use Rattle.frame_making.specs.Replied.{Keeps};
@@ -48,6 +48,13 @@ impl Agreement {
         ensures { result.now ≡ self.now.key }
     {
         &self.key
+    }
+
+    /// Whether the group key is older than that one: it was drawn before it.
+    pub fn is_older(&self, newest: &GroupKey) -> bool
+        ensures { result ≡ nat_lt self.now.group.place newest.now.place }
+    {
+        self.group.place < newest.place
     }
 
     /// Writes M3, the first or once more (IEEE Std 802.11-2020, 12.7.6.4).

@@ -1,6 +1,6 @@
 //! An attempt of a station: the four-way handshake, up to M4 (IEEE Std 802.11-2020, 12.7.6).
 
-ghost use Rattle.std.specs.Prelude.{◌≡◌, ◌≢◌, ◌≤◌, ◌+◌, suc, length, MatchResult, OnErr};
+ghost use Rattle.std.specs.Prelude.{◌≡◌, ◌≢◌, ◌≤◌, ◌<◌, ◌+◌, ◌^◌, suc, length, MatchResult, OnErr};
 ghost use Rattle.domain_base.specs.declared.names.Akm.{Akm as AnyAkm};
 ghost use Rattle.air_frame.specs.Sent.{IsAddress};
 ghost use Rattle.eapol_key.specs.Fields.{IsKeyFrame};
@@ -15,6 +15,7 @@ use crate::session::Session;
 use domain_base::Akm;
 use eapol_key::{KeyFrame, Message, verify};
 use frame_making::write_m1;
+use group_key::GroupKey;
 use node_base::{Ends, pairwise_key};
 use run_journal::{Reason, Reply};
 
@@ -39,13 +40,51 @@ pub struct Attempt {
     pub agreed: Option<Agreement>,
 }
 
+/// The session that an attempt becomes by M4, and whether the group key that M3 carried is older
+/// than the newest.
+#[derive(Drop)]
+pub struct Finish {
+    /// The session.
+    pub session: Session,
+    /// Whether M3 carried an older group key.
+    pub is_older: bool,
+}
+
 /// What comes of an M4 in an attempt.
 #[derive(Drop)]
 pub enum M4 {
     /// Refused: the attempt goes on as it was.
     Refused(Reason, Attempt),
     /// Accepted: the attempt has become this session.
-    Finished(Session),
+    Finished(Finish),
+}
+
+impl Finish {
+    ghost use Rattle.authenticator.specs.Judged.{IsFresh};
+    ghost use Rattle.authenticator.specs.Installed.{IsInstalled};
+
+    /// The key is installed, and where M3 carried an older group key G1 is sent with the newest, of
+    /// which so many packet numbers were used (IEEE Std 802.11-2020, 12.7.7.2).
+    pub fn install(self, ends: &Ends, newest: &GroupKey, rsc: u64, reply: &mut Reply) -> Session
+        requires id { newest.now.id < 4 }
+        requires packet_number { rsc < 2 ^ 48 }
+        requires fresh { IsFresh newest.now.place self.session }
+        requires empty { IsEmpty reply.old }
+        ensures installed { IsInstalled ends.now newest.now rsc self result reply.new }
+        ensures fits { IsWhole reply.new }
+    {
+        let Finish {
+            mut session,
+            is_older,
+        } = self;
+        let key = session.key;
+        reply.verified = Some(key.ptk.kck);
+        reply.installed = Some(key);
+        if is_older {
+            session.send_g1(ends, newest, rsc, reply);
+        }
+        session
+    }
 }
 
 impl Attempt {
@@ -116,9 +155,9 @@ impl Attempt {
     }
 
     // Judges an M4 of the station: the session that the attempt becomes, or why it is refused.
-    fn judge_m4(&self, akm: Akm, frame: &KeyFrame<'_>) -> Result<Session, Reason>
+    fn judge_m4(&self, akm: Akm, newest: &GroupKey, frame: &KeyFrame<'_>) -> Result<Finish, Reason>
         requires { IsKeyFrame frame.now }
-        ensures { MatchResult result (IsFinish akm self.now (frame_of frame.now))
+        ensures { MatchResult result (IsFinish akm newest.now self.now (frame_of frame.now))
             (IsRefusedM4 akm self.now (frame_of frame.now)) }
     {
         let Some(agreement) = &self.agreed else {
@@ -132,21 +171,26 @@ impl Attempt {
         if !verify(frame, akm, &key.ptk.kck) {
             return Err(Reason::Mic);
         }
-        Ok(Session {
+        let is_older = agreement.is_older(newest);
+        let session = Session {
             key: *key,
-            next: last + 1,
-        })
+            last,
+            place: newest.place,
+            g1s: 0,
+            is_answered: false,
+        };
+        Ok(Finish { session, is_older })
     }
 
     /// The attempt becomes a session by an M4 of the station, or it is given back with the reason
     /// why that is refused (IEEE Std 802.11-2020, 12.7.6.5).
-    pub fn finish(self, akm: Akm, frame: &KeyFrame<'_>) -> M4
+    pub fn finish(self, akm: Akm, newest: &GroupKey, frame: &KeyFrame<'_>) -> M4
         requires { IsKeyFrame frame.now }
-        ensures { IsM4 akm self (frame_of frame.now) result }
+        ensures { IsM4 akm newest.now self (frame_of frame.now) result }
     {
-        match self.judge_m4(akm, frame) {
+        match self.judge_m4(akm, newest, frame) {
             Err(why) => M4::Refused(why, self),
-            Ok(session) => M4::Finished(session),
+            Ok(finish) => M4::Finished(finish),
         }
     }
 

@@ -1,7 +1,7 @@
 //! An access point's part with one station.
 
 ghost use Rattle.std.specs.Prelude.{◌≡◌, ◌≢◌, ◌<◌, ◌≤◌, ◌^◌, ℕ, List, [], ◌∷◌, length};
-ghost use Rattle.std.specs.Prelude.{None, Option, is_some};
+ghost use Rattle.std.specs.Prelude.{true, None, Option, is_some};
 ghost use Rattle.domain_base.specs.declared.names.Akm.{Akm as AnyAkm};
 ghost use Rattle.domain_base.specs.declared.names.Node.TheVariants.{Ap, Sta};
 ghost use Rattle.eapol_key.specs.Fields.{IsKeyFrame};
@@ -52,9 +52,9 @@ fn parts_of<'a>(start: ApStart<'a>) -> (&'a [u8; 32], &'a [u8])
 /// What came of sending once more, with the message that was sent in vain.
 #[derive(Clone, Copy)]
 pub enum Again {
-    /// M1 was sent once more, or from M2 on M3.
+    /// M1 was sent once more, or from M2 on M3; or in a session G1.
     Sent,
-    /// The attempt is given up: that message was sent as often as it may be.
+    /// The attempt is given up, or with G1 the session: that message was sent as often as it may be.
     GaveUp(Message),
     /// Nothing waits for an answer.
     Nothing,
@@ -63,10 +63,10 @@ pub enum Again {
 /// What came of sending once more.
 #[derive(Clone, Copy)]
 pub enum Retried {
-    /// M1 was sent once more, or from M2 on M3.
+    /// M1 was sent once more, or from M2 on M3; or in a session G1.
     Sent,
-    /// The attempt is given up: the message was sent as often as it may be. The reply names its
-    /// kind.
+    /// The attempt is given up, or with G1 the session: the message was sent as often as it may be.
+    /// The reply names its kind.
     GaveUp,
     /// Nothing waits for an answer.
     Nothing,
@@ -74,7 +74,8 @@ pub enum Retried {
 
 /// An access point's part with one station: an attempt, which is a four-way handshake
 /// (IEEE Std 802.11-2020, 12.7.6), and a session, where there is one. A new attempt may stand beside
-/// a session; it takes the session's place as it becomes one. AKM suites 2 and 6. It takes no memory.
+/// a session; it takes the session's place as it becomes one. In a session the station is given new
+/// group keys (12.7.7). AKM suites 2 and 6. It takes no memory.
 #[derive(Drop)]
 pub struct Authenticator {
     ends: Ends,
@@ -106,7 +107,8 @@ impl Authenticator {
     ghost use Rattle.authenticator.specs.Stands.{AuthenticatorStands, HasSession};
     ghost use Rattle.authenticator.specs.Steps.{IsBegun, IsNamed};
     ghost use Rattle.authenticator.specs.Judged.{frame_of};
-    ghost use Rattle.authenticator.specs.Taken.{given, StepsFrom, RetriesFrom};
+    ghost use Rattle.authenticator.specs.Groups.{owes_in};
+    ghost use Rattle.authenticator.specs.Taken.{given, StepsFrom, RetriesFrom, GivesFrom};
 
     /// Begins an attempt, and sends M1 with replay counter 1 (IEEE Std 802.11-2020, 12.7.6.2). There
     /// is no session. The reply has M1 and nothing else, whatever was in it.
@@ -165,6 +167,16 @@ impl Authenticator {
         self.session.is_some()
     }
 
+    /// Whether the session owes a G2 for that group key.
+    pub fn owes(&self, group: &GroupKey) -> bool
+        ensures { result ≡ owes_in group.now.place self.now.session }
+    {
+        match &self.session {
+            Some(session) => session.owes(group),
+            None => false,
+        }
+    }
+
     // Takes message 2. The newest group key is given, and the count of packet numbers that were
     // used under it.
     fn take_m2(
@@ -200,35 +212,62 @@ impl Authenticator {
     }
 
     // Takes message 4: where it is accepted, the session that the attempt becomes takes the place of
-    // the one there was.
-    fn take_m4(&mut self, frame: &KeyFrame<'_>, reply: &mut Reply) -> Outcome
+    // the one there was. Where M3 carried an older group key than the newest, G1 follows.
+    fn take_m4(
+        &mut self,
+        frame: &KeyFrame<'_>,
+        newest: &GroupKey,
+        rsc: u64,
+        reply: &mut Reply,
+    ) -> Outcome
         requires frame { IsKeyFrame frame.now }
+        requires id { newest.now.id < 4 }
+        requires packet_number { rsc < 2 ^ 48 }
         requires empty { IsEmpty reply.old }
-        ensures steps { (newest : AnyKey) (rsc : ℕ) → StepsFrom self.old self.new
-            (given messages.M4 (frame_of frame.now) newest rsc) result reply.new }
+        ensures steps { StepsFrom self.old self.new
+            (given messages.M4 (frame_of frame.now) newest.now rsc) result reply.new }
         ensures refused { (why : AnyReason) → result ≡ Refused why → self.new ≡ self.old }
         ensures fits { IsWhole reply.new }
     {
         let Some(attempt) = self.attempt.take() else {
             return Outcome::Refused(Reason::Unawaited);
         };
-        match attempt.finish(self.ends.akm, frame) {
+        match attempt.finish(self.ends.akm, newest, frame) {
             M4::Refused(why, attempt) => {
                 self.attempt = Some(attempt);
                 Outcome::Refused(why)
             }
-            M4::Finished(session) => {
-                let key = session.key;
-                reply.verified = Some(key.ptk.kck);
-                reply.installed = Some(key);
+            M4::Finished(finish) => {
+                let session = finish.install(&self.ends, newest, rsc, reply);
                 self.session = Some(session);
                 Outcome::Accepted
             }
         }
     }
 
+    // Takes message 2 of the group key handshake: it is awaited where the session owes it.
+    fn take_g2(&mut self, frame: &KeyFrame<'_>, newest: &GroupKey, reply: &mut Reply) -> Outcome
+        requires frame { IsKeyFrame frame.now }
+        requires empty { IsEmpty reply.old }
+        ensures steps { (rsc : ℕ) → StepsFrom self.old self.new
+            (given messages.G2 (frame_of frame.now) newest.now rsc) result reply.new }
+        ensures refused { (why : AnyReason) → result ≡ Refused why → self.new ≡ self.old }
+        ensures fits { IsWhole reply.new }
+    {
+        let Some(session) = &mut self.session else {
+            return Outcome::Refused(Reason::Unawaited);
+        };
+        match session.judge_g2(self.ends.akm, newest, frame) {
+            Err(why) => return Outcome::Refused(why),
+            Ok(()) => {}
+        }
+        reply.verified = Some(session.key.ptk.kck);
+        session.answer();
+        Outcome::Accepted
+    }
+
     /// Takes a message of the station. The newest group key and the count of packet numbers that
-    /// were used under it go into M3.
+    /// were used under it go into M3, and into G1 where an M4 answers an M3 with an older group key.
     ///
     /// What is sent, derived and installed comes into the reply, whatever was in it. A refusal does
     /// not change the authenticator.
@@ -251,23 +290,55 @@ impl Authenticator {
         *reply = Reply::empty();
         match message {
             Message::M2 => self.take_m2(frame, newest, rsc, reply),
-            Message::M4 => self.take_m4(frame, reply),
+            Message::M4 => self.take_m4(frame, newest, rsc, reply),
+            Message::G2 => self.take_g2(frame, newest, reply),
             _ => Outcome::Refused(Reason::Unawaited),
         }
     }
 
-    /// Sends M1, or from M2 on M3, once more: at most four times each. Then the attempt is given up
-    /// (IEEE Std 802.11-2020, 12.7.6.6). The reply has the message and nothing else, whatever was in
-    /// it; nothing is sent where the attempt is given up, or where nothing waits.
-    pub fn send_again(&mut self, reply: &mut Reply) -> Again
-        ensures retries { RetriesFrom self.old self.new result reply.new }
+    // Sends G1 once more in a session that owes its answer, or gives the session up.
+    fn ask_again(&mut self, newest: &GroupKey, rsc: u64, reply: &mut Reply) -> Again
+        requires none { self.old.attempt ≡ None }
+        requires id { newest.now.id < 4 }
+        requires packet_number { rsc < 2 ^ 48 }
+        requires empty { IsEmpty reply.old }
+        ensures retries { RetriesFrom self.old self.new newest.now rsc result reply.new }
+        ensures told { TellsNothing reply.new }
+        ensures silent { result ≢ Again.Sent → reply.new.len ≡ 0 }
+        ensures whole { IsWhole reply.new }
+    {
+        let Some(session) = &mut self.session else {
+            return Again::Nothing;
+        };
+        if !session.owes(newest) {
+            return Again::Nothing;
+        }
+        if session.is_in_vain(newest) {
+            self.session = None;
+            return Again::GaveUp(Message::G1);
+        }
+        session.send_g1(&self.ends, newest, rsc, reply);
+        Again::Sent
+    }
+
+    /// Sends M1, or from M2 on M3, once more; without an attempt G1 in a session that owes its
+    /// answer: at most four times each, G1 for each group key. Then the attempt, or with G1 the
+    /// session, is given up (IEEE Std 802.11-2020, 12.7.6.6 and 12.7.7.4). The newest group key and
+    /// the count of packet numbers that were used under it go into G1.
+    ///
+    /// The reply has the message and nothing else, whatever was in it; nothing is sent where it is
+    /// given up, or where nothing waits.
+    pub fn send_again(&mut self, newest: &GroupKey, rsc: u64, reply: &mut Reply) -> Again
+        requires id { newest.now.id < 4 }
+        requires packet_number { rsc < 2 ^ 48 }
+        ensures retries { RetriesFrom self.old self.new newest.now rsc result reply.new }
         ensures told { TellsNothing reply.new }
         ensures silent { result ≢ Again.Sent → reply.new.len ≡ 0 }
         ensures whole { IsWhole reply.new }
     {
         *reply = Reply::empty();
         let Some(attempt) = &mut self.attempt else {
-            return Again::Nothing;
+            return self.ask_again(newest, rsc, reply);
         };
         match attempt.send_again(&self.ends, reply) {
             Ok(()) => Again::Sent,
@@ -278,16 +349,18 @@ impl Authenticator {
         }
     }
 
-    /// As [`Authenticator::send_again`], but where the attempt is given up it is the reply that
-    /// names the kind of the message that was sent in vain.
-    pub fn retry(&mut self, reply: &mut Reply) -> Retried
+    /// As [`Authenticator::send_again`], but where something is given up it is the reply that names
+    /// the kind of the message that was sent in vain.
+    pub fn retry(&mut self, newest: &GroupKey, rsc: u64, reply: &mut Reply) -> Retried
+        requires id { newest.now.id < 4 }
+        requires packet_number { rsc < 2 ^ 48 }
         ensures retries { (came : Again) × IsNamed came result reply.new.kind
-            × RetriesFrom self.old self.new came reply.new }
+            × RetriesFrom self.old self.new newest.now rsc came reply.new }
         ensures told { TellsNothing reply.new }
         ensures silent { result ≢ Retried.Sent → reply.new.len ≡ 0 }
         ensures whole { IsWhole reply.new }
     {
-        match self.send_again(reply) {
+        match self.send_again(newest, rsc, reply) {
             Again::Sent => Retried::Sent,
             Again::GaveUp(message) => {
                 reply.kind = Kind::Key(message);
@@ -295,5 +368,25 @@ impl Authenticator {
             }
             Again::Nothing => Retried::Nothing,
         }
+    }
+
+    /// Sends G1 in the session: the newest group key was drawn, and none was sent for it yet. Of
+    /// that key so many packet numbers were used (IEEE Std 802.11-2020, 12.7.7.2). The reply has G1
+    /// and nothing else, whatever was in it.
+    pub fn group(&mut self, newest: &GroupKey, rsc: u64, reply: &mut Reply)
+        requires session { is_some self.old.session ≡ true }
+        requires id { newest.now.id < 4 }
+        requires packet_number { rsc < 2 ^ 48 }
+        ensures gives { GivesFrom self.old self.new newest.now rsc reply.new }
+        ensures attempt { self.new.attempt ≡ self.old.attempt }
+        ensures session { is_some self.new.session ≡ true }
+        ensures told { TellsNothing reply.new }
+        ensures whole { IsWhole reply.new }
+    {
+        *reply = Reply::empty();
+        let Some(session) = &mut self.session else {
+            unreachable!()
+        };
+        session.send_g1(&self.ends, newest, rsc, reply);
     }
 }

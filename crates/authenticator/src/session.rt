@@ -1,12 +1,125 @@
-//! A session with a station.
+//! A session with a station, and in it the group key handshake (IEEE Std 802.11-2020, 12.7.7).
 
-use run_journal::Keyed;
+ghost use Rattle.std.specs.Prelude.{◌≡◌, ◌<◌, ◌^◌, suc, leb, MatchResult};
+ghost use Rattle.eapol_key.specs.Fields.{IsKeyFrame};
+ghost use Rattle.run_journal.specs.Replies.{IsWhole};
+ghost use Rattle.frame_making.specs.Replied.{Keeps};
+ghost use Rattle.authenticator.specs.Judged.{frame_of};
 
-/// A session: what an attempt becomes by M4.
+use crate::counters::is_one_of_last;
+use domain_base::Akm;
+use eapol_key::{KeyFrame, verify};
+use frame_making::write_g1;
+use group_key::GroupKey;
+use node_base::Ends;
+use run_journal::{Keyed, Reason, Reply};
+
+/// How often G1 is sent in a session for one group key at most.
+const MOST_SENDS: u8 = 4;
+
+/// A session: what an attempt becomes by M4. It counts the handshake for one group key, the newest
+/// as it began or as G1 was sent last; for a newer one there was none yet.
 #[derive(Drop)]
 pub struct Session {
     /// The key that was installed.
     pub key: Keyed,
-    /// The next replay counter.
-    pub next: u64,
+    /// The last replay counter that was used.
+    pub last: u64,
+    /// The group key whose handshake is counted: its number in the order of drawing.
+    pub place: u64,
+    /// How many G1 were sent for it in this session.
+    pub g1s: u8,
+    /// Whether a G2 was accepted for it.
+    pub is_answered: bool,
+}
+
+impl Session {
+    ghost use Rattle.authenticator.specs.Groups.{sent_for, is_answered_for, owes, replied_to};
+    ghost use Rattle.authenticator.specs.Groups.{Asks, IsG2, IsRefusedG2};
+
+    // How many G1 were sent for that group key.
+    fn sent_for(&self, group: &GroupKey) -> u8
+        ensures { result ≡ sent_for group.now.place self.now }
+    {
+        if self.place == group.place {
+            self.g1s
+        } else {
+            0
+        }
+    }
+
+    // Whether a G2 was accepted for that group key.
+    fn is_answered_for(&self, group: &GroupKey) -> bool
+        ensures { result ≡ is_answered_for group.now.place self.now }
+    {
+        if self.place == group.place {
+            self.is_answered
+        } else {
+            false
+        }
+    }
+
+    /// Whether the session owes a G2 for that group key: G1 was sent for it, and no G2 accepted.
+    pub fn owes(&self, group: &GroupKey) -> bool
+        ensures { result ≡ owes group.now.place self.now }
+    {
+        let sent = self.sent_for(group);
+        let is_answered = self.is_answered_for(group);
+        sent > 0 && !is_answered
+    }
+
+    /// Whether G1 was sent as often as it may be for that group key.
+    pub fn is_in_vain(&self, group: &GroupKey) -> bool
+        ensures { result ≡ leb 4 (sent_for group.now.place self.now) }
+    {
+        self.sent_for(group) >= MOST_SENDS
+    }
+
+    /// Judges a G2 of the station by the newest group key (IEEE Std 802.11-2020, 12.7.7.3).
+    pub fn judge_g2(&self, akm: Akm, newest: &GroupKey, frame: &KeyFrame<'_>) -> Result<(), Reason>
+        requires { IsKeyFrame frame.now }
+        ensures { MatchResult result
+            (λ _. IsG2 akm newest.now.place self.now (frame_of frame.now))
+            (IsRefusedG2 akm newest.now.place self.now (frame_of frame.now)) }
+    {
+        if !self.owes(newest) {
+            return Err(Reason::Unawaited);
+        }
+        let sent = self.sent_for(newest);
+        if !is_one_of_last(frame.counter, self.last, sent) {
+            return Err(Reason::Counter(self.last));
+        }
+        let kck = self.key.ptk.kck;
+        if !verify(frame, akm, &kck) {
+            return Err(Reason::Mic);
+        }
+        Ok(())
+    }
+
+    /// A G2 was accepted.
+    pub fn answer(&mut self)
+        ensures { self.new ≡ replied_to self.old }
+    {
+        self.is_answered = true;
+    }
+
+    /// Sends G1 with the next replay counter and that group key, of which so many packet numbers
+    /// were used (IEEE Std 802.11-2020, 12.7.7.2). The replay counters do not come to their end:
+    /// a session has at most four G1 for each group key.
+    pub fn send_g1(&mut self, ends: &Ends, group: &GroupKey, rsc: u64, reply: &mut Reply)
+        requires id { group.now.id < 4 }
+        requires packet_number { rsc < 2 ^ 48 }
+        ensures asks { suc self.old.last < 2 ^ 64 → sent_for group.now.place self.old < 4
+            → Asks ends.now group.now rsc self.old self.new reply.new }
+        ensures keeps { Keeps reply.old reply.new }
+        ensures fits { IsWhole reply.new }
+    {
+        let sent = self.sent_for(group);
+        let is_answered = self.is_answered_for(group);
+        self.last = self.last.saturating_add(1);
+        self.place = group.place;
+        self.g1s = sent.saturating_add(1);
+        self.is_answered = is_answered;
+        write_g1(ends, &self.key, self.last, group, rsc, reply);
+    }
 }

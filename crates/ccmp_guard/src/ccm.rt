@@ -128,7 +128,8 @@ fn seal_block(key: &Aes128, x: &mut [u8; 16], stream: &[u8; 16], plain: &[u8], o
 fn open_block(key: &Aes128, x: &mut [u8; 16], stream: &[u8; 16], sealed: &[u8], out: &mut [u8])
     requires few { length sealed.now ≤ 16 }
     requires room { length out.old ≡ length sealed.now }
-    ensures chained { x.new ≡ cipher key.now (exclusive_or x.old (filled (exclusive_or sealed.now stream.now))) }
+    ensures chained { x.new
+        ≡ cipher key.now (exclusive_or x.old (filled (exclusive_or sealed.now stream.now))) }
     ensures decrypted { out.new ≡ exclusive_or sealed.now stream.now }
 {
     let mut sum = padded(sealed);
@@ -215,7 +216,8 @@ pub fn open(key: &Aes128, nonce: &[u8; 13], aad: &[u8], sealed: &[u8], out: &mut
     requires short { length sealed.now < 2 ^ 16 + 8 }
     requires room { length out.old + 8 ≡ length sealed.now }
     ensures sealed { IsTrue result → Sealed key.now nonce.now aad.now out.new sealed.now }
-    ensures only { (plain : List ℕ) → Sealed key.now nonce.now aad.now plain sealed.now → IsTrue result × (out.new ≡ plain) }
+    ensures only { (plain : List ℕ) → Sealed key.now nonce.now aad.now plain sealed.now
+        → IsTrue result × (out.new ≡ plain) }
 {
     let (text, mic) = sealed.split_at(sealed.len() - MIC_LEN);
     let start = begin(key, nonce, aad, text.len() as u16);

@@ -150,10 +150,12 @@ pub fn open_with(
     requires long { 16 ≤ length body.now }
     requires room { length body.now ≤ length out.old + 16 }
     ensures end { IfOk result (λ r. r.1 + 16 ≡ length body.now) }
-    ensures opened { IfOk result (λ r. Protected key.now header.now (key_id_in body.now) r.0 (take r.1 out.new) body.now) }
+    ensures opened { IfOk result
+        (λ r. Protected key.now header.now (key_id_in body.now) r.0 (take r.1 out.new) body.now) }
     ensures only { (id pn : ℕ) (plain : List ℕ) → Protected key.now header.now id pn plain body.now
         → IsOkAnd result (λ r. (r.0 ≡ pn) × (take r.1 out.new ≡ plain)) }
-    ensures seal { OnErr result ((id pn : ℕ) (plain : List ℕ) → ¬ Protected key.now header.now id pn plain body.now) }
+    ensures seal { OnErr result
+        ((id pn : ℕ) (plain : List ℕ) → ¬ Protected key.now header.now id pn plain body.now) }
     ensures rest { (n : ℕ) → length body.now ≤ n + 16 → drop n out.new ≡ drop n out.old }
     ensures len { length out.new ≡ length out.old }
 {
@@ -215,11 +217,13 @@ pub fn open_body(
     requires long { 16 ≤ length body.now }
     requires room { length body.now ≤ length out.old + 16 }
     ensures end { IfOk result (λ r. r.1 + 16 ≡ length body.now) }
-    ensures opened { IfOk result (λ r. Protected tk.now header.now (key_id_in body.now) r.0 (take r.1 out.new) body.now) }
+    ensures opened { IfOk result
+        (λ r. Protected tk.now header.now (key_id_in body.now) r.0 (take r.1 out.new) body.now) }
     // where a plain text is sealed to the body, it is given
     ensures only { (id pn : ℕ) (plain : List ℕ) → Protected tk.now header.now id pn plain body.now
         → IsOkAnd result (λ r. (r.0 ≡ pn) × (take r.1 out.new ≡ plain)) }
-    ensures seal { OnErr result ((id pn : ℕ) (plain : List ℕ) → ¬ Protected tk.now header.now id pn plain body.now) }
+    ensures seal { OnErr result
+        ((id pn : ℕ) (plain : List ℕ) → ¬ Protected tk.now header.now id pn plain body.now) }
     ensures rest { (n : ℕ) → length body.now ≤ n + 16 → drop n out.new ≡ drop n out.old }
     ensures len { length out.new ≡ length out.old }
 {

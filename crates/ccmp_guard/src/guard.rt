@@ -101,7 +101,8 @@ impl Installed {
     // The counter and packet number of a body whose seal is to be tried, or why it is refused before.
     fn look(&self, header: &[u8], body: &[u8]) -> Result<(Tid, u64), GuardFault>
         requires { IsHeader header.now }
-        ensures fault { MatchResult result (λ _. unprotect_fault (Some self.now) header.now body.now ≡ None)
+        ensures fault { MatchResult result
+            (λ _. unprotect_fault (Some self.now) header.now body.now ≡ None)
             (λ e. unprotect_fault (Some self.now) header.now body.now ≡ Some e) }
         ensures long { IfOk result (λ _. 16 ≤ length body.now) }
         ensures counter { IfOk result (λ r. r.0 ≡ counter_of self.now.role header.now) }
@@ -128,12 +129,15 @@ impl Installed {
         requires header { IsHeader header.now }
         requires short { length plain.now < 2 ^ 16 }
         requires room { length plain.now + 16 ≤ length out.old }
-        ensures fault { MatchResult result (λ _. protect_fault (Some self.old) ≡ None) (λ e. protect_fault (Some self.old) ≡ Some e) }
-        ensures guard { MatchResult result (λ _. self.new ≡ with_next self.old) (λ _. self.new ≡ self.old) }
+        ensures fault { MatchResult result (λ _. protect_fault (Some self.old) ≡ None)
+            (λ e. protect_fault (Some self.old) ≡ Some e) }
+        ensures guard { MatchResult result (λ _. self.new ≡ with_next self.old)
+            (λ _. self.new ≡ self.old) }
         ensures end { IfOk result (λ end. end ≡ length plain.now + 16) }
         ensures sealed { IfOk result (λ end.
             Protected self.old.key header.now (key_id self.old.role) (suc self.old.used) plain.now (take end out.new)) }
-        ensures header { IfOk result (λ _. take 8 out.new ≡ ccmp_header (key_id self.old.role) (suc self.old.used)) }
+        ensures header { IfOk result
+            (λ _. take 8 out.new ≡ ccmp_header (key_id self.old.role) (suc self.old.used)) }
         ensures rest { (n : ℕ) → length plain.now + 16 ≤ n → drop n out.new ≡ drop n out.old }
         ensures unwritten { OnErr result (out.new ≡ out.old) }
     {
@@ -147,12 +151,17 @@ impl Installed {
     fn unprotect(&mut self, header: &[u8], body: &[u8], out: &mut [u8]) -> Result<usize, GuardFault>
         requires header { IsHeader header.now }
         requires room { length body.now ≤ length out.old + 16 }
-        ensures first { (e : GuardFault) → unprotect_fault (Some self.old) header.now body.now ≡ Some e → result ≡ Err e }
+        ensures first { (e : GuardFault)
+            → unprotect_fault (Some self.old) header.now body.now ≡ Some e → result ≡ Err e }
         ensures opened { IfOk result (λ end.
             Protected self.old.key header.now (key_id self.old.role) (packet_number body.now) (take end out.new) body.now) }
         ensures seal { IfErr result (λ e. unprotect_fault (Some self.old) header.now body.now ≡ None
-            → (e ≡ GuardFault.Seal) × ((id pn : ℕ) (plain : List ℕ) → ¬ Protected self.old.key header.now id pn plain body.now)) }
-        ensures guard { MatchResult result (λ _. self.new ≡ with_taken header.now (packet_number body.now) self.old) (λ _. self.new ≡ self.old) }
+            → (e ≡ GuardFault.Seal) ×
+            ((id pn : ℕ) (plain : List ℕ)
+            → ¬ Protected self.old.key header.now id pn plain body.now)) }
+        ensures guard { MatchResult result
+            (λ _. self.new ≡ with_taken header.now (packet_number body.now) self.old)
+            (λ _. self.new ≡ self.old) }
         ensures end { IfOk result (λ end. end + 16 ≡ length body.now) }
         ensures rest { (n : ℕ) → length body.now ≤ n + 16 → drop n out.new ≡ drop n out.old }
     {
@@ -200,7 +209,8 @@ impl Guard {
         requires empty { self.old ≡ None }
         requires number { used ≤ last_number }
         requires role { IsRole role }
-        ensures { self.new ≡ Some (record { role = role; key = tk.now; used = used; kept = replicate 16 rsc }) }
+        ensures { self.new
+            ≡ Some (record { role = role; key = tk.now; used = used; kept = replicate 16 rsc }) }
     {
         self.installed = Some(Installed {
             cipher: Aes128::new(tk),
@@ -233,12 +243,15 @@ impl Guard {
         requires header { IsHeader header.now }
         requires short { length plain.now < 2 ^ 16 }
         requires room { length plain.now + 16 ≤ length out.old }
-        ensures fault { MatchResult result (λ _. protect_fault self.old ≡ None) (λ e. protect_fault self.old ≡ Some e) }
-        ensures guard { MatchResult result (λ _. self.new ≡ option_map with_next self.old) (λ _. self.new ≡ self.old) }
+        ensures fault { MatchResult result (λ _. protect_fault self.old ≡ None)
+            (λ e. protect_fault self.old ≡ Some e) }
+        ensures guard { MatchResult result (λ _. self.new ≡ option_map with_next self.old)
+            (λ _. self.new ≡ self.old) }
         ensures end { IfOk result (λ end. end ≡ length plain.now + 16) }
         ensures sealed { IfOk result (λ end. IfSome self.old (λ h.
             Protected h.key header.now (key_id h.role) (suc h.used) plain.now (take end out.new))) }
-        ensures header { IfOk result (λ _. IfSome self.old (λ h. take 8 out.new ≡ ccmp_header (key_id h.role) (suc h.used))) }
+        ensures header { IfOk result
+            (λ _. IfSome self.old (λ h. take 8 out.new ≡ ccmp_header (key_id h.role) (suc h.used))) }
         ensures rest { (n : ℕ) → length plain.now + 16 ≤ n → drop n out.new ≡ drop n out.old }
         ensures unwritten { OnErr result (out.new ≡ out.old) }
     {
@@ -261,13 +274,18 @@ impl Guard {
         requires header { IsHeader header.now }
         requires room { length body.now ≤ length out.old + 16 }
         // a refusal before the seal is tried
-        ensures first { (e : GuardFault) → unprotect_fault self.old header.now body.now ≡ Some e → result ≡ Err e }
+        ensures first { (e : GuardFault) → unprotect_fault self.old header.now body.now ≡ Some e
+            → result ≡ Err e }
         ensures opened { IfOk result (λ end. IfSome self.old (λ h.
             Protected h.key header.now (key_id h.role) (packet_number body.now) (take end out.new) body.now)) }
         // any other refusal: no plain text is sealed to the body
-        ensures seal { IfErr result (λ e. IfSome self.old (λ h. unprotect_fault self.old header.now body.now ≡ None
-            → (e ≡ GuardFault.Seal) × ((id pn : ℕ) (plain : List ℕ) → ¬ Protected h.key header.now id pn plain body.now))) }
-        ensures guard { MatchResult result (λ _. self.new ≡ option_map (with_taken header.now (packet_number body.now)) self.old) (λ _. self.new ≡ self.old) }
+        ensures seal { IfErr result
+            (λ e. IfSome self.old (λ h. unprotect_fault self.old header.now body.now ≡ None
+            → (e ≡ GuardFault.Seal) ×
+            ((id pn : ℕ) (plain : List ℕ) → ¬ Protected h.key header.now id pn plain body.now))) }
+        ensures guard { MatchResult result
+            (λ _. self.new ≡ option_map (with_taken header.now (packet_number body.now)) self.old)
+            (λ _. self.new ≡ self.old) }
         ensures end { IfOk result (λ end. end + 16 ≡ length body.now) }
         ensures rest { (n : ℕ) → length body.now ≤ n + 16 → drop n out.new ≡ drop n out.old }
     {

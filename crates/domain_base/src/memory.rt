@@ -236,7 +236,8 @@ impl Sink for MemSink {
 
         ensures fails { IsErr result ↔ (FailsNext self.old.calls ⊎ NoRoom self.old piece.now) }
         ensures calls { CountsCall self.old.calls self.new.calls result }
-        ensures full { IfOk result (λ size. size ≡ min (length piece.now) (self.old.room - length self.old.out)) }
+        ensures full { IfOk result
+            (λ size. size ≡ min (length piece.now) (self.old.room - length self.old.out)) }
         ensures room { self.new.room ≡ self.old.room }
     {
         let fails = self.calls.next_fails();
@@ -311,7 +312,8 @@ impl Sink for SteadySink {
 
     fn write(&mut self, piece: &[u8]) -> Result<usize, Failed>
         ensures all { result ≡ Ok (length piece.now) }
-        ensures kept { self.new ≡ record self.old { kept = take self.old.room (self.old.kept ++ piece.now) } }
+        ensures kept { self.new
+            ≡ record self.old { kept = take self.old.room (self.old.kept ++ piece.now) } }
     {
         fill(&mut self.bytes, self.room, piece);
         Ok(piece.len())

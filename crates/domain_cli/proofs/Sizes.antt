@@ -8,7 +8,7 @@ use Rattle.domain_base.specs.declared.names.Node.TheVariants.{Ap, Sta}
 use Rattle.domain_base.specs.declared.names.Peer.{Peer}
 use Rattle.run_journal.specs.declared.domain.Domain.{Domain}
 use Rattle.run_journal.specs.declared.domain.Event.{Event}
-use Rattle.run_journal.specs.declared.domain.Event.TheVariants.{Connect, Deliver, Alter, Cut, Inject, Retry}
+use Rattle.run_journal.specs.declared.domain.Event.TheVariants.{Connect, Deliver, Alter, Cut, Inject, Retry, Rekey, Expire, Leave}
 use Rattle.run_journal.specs.declared.acts.Kind.{Kind}
 use Rattle.run_journal.specs.declared.acts.Seal.{Seal}
 use Rattle.run_journal.specs.declared.acts.Act.{Act}
@@ -117,3 +117,6 @@ event_in w j (Cut number size to) own can =
     (can.1.some, number_low w j number size own can.1, listed w.domain to can.0, sized_octets j number size own.numbered can.1)
 event_in w j (Inject to octets) own can = listed w.domain to can
 event_in w j (Retry a s) own can = can
+event_in w j (Rekey a) own can = can
+event_in w j (Expire a s) own can = can
+event_in w j (Leave s) own can = can

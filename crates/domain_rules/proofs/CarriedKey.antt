@@ -19,7 +19,7 @@ use Rattle.key_hierarchy.specs.Keys.{ptk}
 use Rattle.key_hierarchy.specs.declared.inputs.Inputs.{Inputs}
 use Rattle.run_journal.specs.declared.domain.Domain.{Domain}
 use Rattle.run_journal.specs.Acts.{GroupKey}
-use Rattle.domain_rules.specs.Frames.{wrapped, m3_key_data}
+use Rattle.domain_rules.specs.Frames.{wrapped, m3_key_data, g1_key_data}
 use Rattle.domain_rules.specs.StationRows.{carried}
 use Rattle.domain_rules.proofs.KeyOctets.{octets-kek}
 
@@ -61,13 +61,13 @@ data_is d g is = ap (λ (x : List ℕ). plain_octets d g ++ x) (pad_is (length (
 length-data : (d : Domain) (g : GroupKey) → IsGroupKey g → length (m3_key_data d g) ≡ 48
 length-data d g is = ap length (data_is d g is) ∙ length-append (plain_octets d g) (0xdd ∷ 0x00 ∷ []) ∙ omega (arith, size_of d g is)
 
+octets_kde : (g : GroupKey) → IsGroupKey g → AreOctets (gtk_kde_octets g.id g.key)
+octets_kde g is = All-append (λ x. x < 256) (0xdd ∷ 0x16 ∷ 0x00 ∷ 0x0f ∷ 0xac ∷ 0x01 ∷ []) (g.id ∷ 0x00 ∷ g.key) (octets_few (0xdd ∷ 0x16 ∷ 0x00 ∷ 0x0f ∷ 0xac ∷ 0x01 ∷ []) refl)
+    (All-cons (λ x. x < 256) g.id (0x00 ∷ g.key) (omega (arith, is.low)) (All-cons (λ x. x < 256) 0 g.key (omega arith) is.octets))
+
 octets_data : (d : Domain) (g : GroupKey) → IsGroupKey g → AreOctets (m3_key_data d g)
 octets_data d g is = subst AreOctets (sym (data_is d g is))
-    (All-append (λ x. x < 256) (plain_octets d g) (0xdd ∷ 0x00 ∷ []) (All-append (λ x. x < 256) (rsne_octets d.akm None) (gtk_kde_octets g.id g.key) (octets_rsne d.akm) kde) (octets_few (0xdd ∷ 0x00 ∷ []) refl))
-  where
-    kde : AreOctets (gtk_kde_octets g.id g.key)
-    kde = All-append (λ x. x < 256) (0xdd ∷ 0x16 ∷ 0x00 ∷ 0x0f ∷ 0xac ∷ 0x01 ∷ []) (g.id ∷ 0x00 ∷ g.key) (octets_few (0xdd ∷ 0x16 ∷ 0x00 ∷ 0x0f ∷ 0xac ∷ 0x01 ∷ []) refl)
-        (All-cons (λ x. x < 256) g.id (0x00 ∷ g.key) (omega (arith, is.low)) (All-cons (λ x. x < 256) 0 g.key (omega arith) is.octets))
+    (All-append (λ x. x < 256) (plain_octets d g) (0xdd ∷ 0x00 ∷ []) (All-append (λ x. x < 256) (rsne_octets d.akm None) (gtk_kde_octets g.id g.key) (octets_rsne d.akm) (octets_kde g is)) (octets_few (0xdd ∷ 0x00 ∷ []) refl))
 
 pub wrapped_is : (d : Domain) (kek : List ℕ) (g : GroupKey) → IsGroupKey g → Wraps kek (m3_key_data d g) (wrapped kek (m3_key_data d g))
 wrapped_is d kek g is = record {
@@ -90,4 +90,40 @@ pub one_carried : (d : Domain) (i : Inputs) (g : GroupKey) (plain : List ℕ) (e
 one_carried d i g plain e is wraps spelled =
     let one : plain ≡ m3_key_data d g = Wraps-unique (ptk i).kek plain (m3_key_data d g) (wrapped (ptk i).kek (m3_key_data d g)) (octets-kek i) wraps (wrapped_is d (ptk i).kek g is) in
     let value = one_value KeyData (m3_key_data d g) e (said KeyData (SentRsne d.akm None ∷ SentGtkKde g.id g.key ∷ [])) (subst (λ (x : List ℕ). SpellsElements KeyData x e) one spelled) (says d g is) in
+    ap (λ (x : ElementFields). carried (Some x)) value
+
+-- ---- the same of G1, whose key data is a group key alone, and needs no padding
+
+size_kde : (g : GroupKey) → IsGroupKey g → length (gtk_kde_octets g.id g.key) ≡ 24
+size_kde g is = omega (arith, is.size)
+
+no_pad : (n : ℕ) → n ≡ 24 → padding_octets (padding n) ≡ []
+no_pad n e = rw e refl
+
+g1_data_is : (g : GroupKey) → IsGroupKey g → g1_key_data g ≡ gtk_kde_octets g.id g.key
+g1_data_is g is = ap (λ (x : List ℕ). gtk_kde_octets g.id g.key ++ x) (no_pad (length (gtk_kde_octets g.id g.key)) (size_kde g is)) ∙ append-nil (gtk_kde_octets g.id g.key)
+
+length-g1_data : (g : GroupKey) → IsGroupKey g → length (g1_key_data g) ≡ 24
+length-g1_data g is = ap length (g1_data_is g is) ∙ size_kde g is
+
+pub wrapped_g1 : (kek : List ℕ) (g : GroupKey) → IsGroupKey g → Wraps kek (g1_key_data g) (wrapped kek (g1_key_data g))
+wrapped_g1 kek g is = record {
+  whole_blocks = ap (λ (n : ℕ). n % 8) (length-g1_data g is);
+  two_blocks = omega (arith, length-g1_data g is);
+  are_octets = subst AreOctets (sym (g1_data_is g is)) (octets_kde g is);
+  wrapped = refl;
+}
+
+pub few_wrapped_g1 : (kek : List ℕ) (g : GroupKey) → AreOctets kek → IsGroupKey g → length (wrapped kek (g1_key_data g)) ≤ 65440
+few_wrapped_g1 kek g octets is = omega (arith, (length-Wraps kek (g1_key_data g) (wrapped kek (g1_key_data g)) octets (wrapped_g1 kek g is)).0, length-g1_data g is)
+
+pub says_g1 : (g : GroupKey) → IsGroupKey g → SpellsElements KeyData (g1_key_data g) (said KeyData (SentGtkKde g.id g.key ∷ []))
+says_g1 g is = subst (λ (x : List ℕ). SpellsElements KeyData x (said KeyData (SentGtkKde g.id g.key ∷ [])))
+    (append-nil (gtk_kde_octets g.id g.key ++ []) ∙ append-nil (gtk_kde_octets g.id g.key) ∙ sym (g1_data_is g is))
+    (pieces_spelled KeyData (SentGtkKde g.id g.key ∷ []) [] [] ((is.low, is.size), tt) (tt, tt) tt tt)
+
+pub one_carried_g1 : (i : Inputs) (g : GroupKey) (plain : List ℕ) (e : ElementFields) → IsGroupKey g → Wraps (ptk i).kek plain (wrapped (ptk i).kek (g1_key_data g)) → SpellsElements KeyData plain e → carried (Some e) ≡ g
+one_carried_g1 i g plain e is wraps spelled =
+    let one : plain ≡ g1_key_data g = Wraps-unique (ptk i).kek plain (g1_key_data g) (wrapped (ptk i).kek (g1_key_data g)) (octets-kek i) wraps (wrapped_g1 (ptk i).kek g is) in
+    let value = one_value KeyData (g1_key_data g) e (said KeyData (SentGtkKde g.id g.key ∷ [])) (subst (λ (x : List ℕ). SpellsElements KeyData x e) one spelled) (says_g1 g is) in
     ap (λ (x : ElementFields). carried (Some x)) value

@@ -1,11 +1,11 @@
 -- What ends a session.
-use Rattle.std.proofs.Common.{◌≡◌, ℕ, Bool, true, false, List, [], ◌∷◌, ◌++◌, Option, Some, None, refl, sym, ap, subst, ◌∙◌, inl, inr}
-use Rattle.std.specs.Prelude.{◌&&◌, nat_lt, if◌then◌else◌}
+use Rattle.std.proofs.Common.{◌≡◌, ◌⊎◌, ℕ, zero, suc, cond, Bool, true, false, List, [], ◌∷◌, ◌++◌, length, Option, Some, None, refl, sym, ap, subst, ◌∙◌, inl, inr}
+use Rattle.std.specs.Prelude.{◌&&◌, ◌||◌, nat_lt, if◌then◌else◌}
 use Rattle.domain_base.specs.declared.names.Mac.{Mac}
 use Rattle.domain_base.specs.declared.names.Node.{Node}
 use Rattle.domain_base.specs.declared.names.Node.TheVariants.{Ap, Sta}
 use Rattle.eapol_key.specs.declared.messages.Message.{Message}
-use Rattle.eapol_key.specs.declared.messages.Message.TheVariants.{M1, M2, M3, M4}
+use Rattle.eapol_key.specs.declared.messages.Message.TheVariants.{M1, M2, M3, M4, G1}
 use Rattle.run_journal.specs.declared.domain.Domain.{Domain}
 use Rattle.run_journal.specs.declared.acts.Kind.{Kind}
 use Rattle.run_journal.specs.declared.acts.Kind.TheVariants as kind
@@ -15,26 +15,29 @@ use Rattle.run_journal.specs.declared.acts.Reason.TheVariants as reason
 use Rattle.run_journal.specs.declared.acts.Why.TheVariants as why
 use Rattle.run_journal.specs.declared.acts.Outcome.TheVariants.{Accepted}
 use Rattle.run_journal.specs.declared.acts.Act.{Act}
-use Rattle.run_journal.specs.declared.acts.Act.TheVariants.{Closed, Finished, GaveUp, Idle, Took}
+use Rattle.run_journal.specs.declared.acts.Act.TheVariants.{Closed, Finished, GaveUp, Idle, Took, Installed}
+use Rattle.run_journal.specs.declared.acts.Key.TheVariants.{Pairwise}
+use Rattle.domain_base.specs.declared.names.Peer.TheVariants.{One}
 use Rattle.run_journal.specs.Acts.{Derivation, GroupKey}
 use Rattle.run_journal.specs.GroupKinds.{GroupKind}
 use Rattle.run_journal.specs.GroupKinds as groups
 use Rattle.run_journal.specs.Premises.{In}
-use Rattle.run_journal.specs.Questions.{attempt, chain, derivation, before_sent, session}
+use Rattle.run_journal.specs.Questions.{attempt, chain, derivation, before_sent, session, handshake, pending, associated, add}
 use Rattle.domain_rules.specs.Network.{mac}
 use Rattle.domain_rules.specs.Counters.{sent_count, next_in_attempt}
-use Rattle.domain_rules.specs.GroupKeys.{memory, find_key, give_by}
-use Rattle.domain_rules.specs.Frames.{sent_m1, sent_m4, frame_seal}
+use Rattle.domain_rules.specs.GroupKeys.{memory, find_key, give_by, is_current}
+use Rattle.domain_rules.specs.Owing.{owing, any_owes, switch_acts, and_switch}
+use Rattle.domain_rules.specs.Frames.{sent_m1, sent_m4, sent_g2, frame_seal}
 use Rattle.domain_rules.specs.Reading.{Reading, kind_of}
 use Rattle.domain_rules.specs.Facts.{Facts}
 use Rattle.domain_rules.specs.Asking.{by_connect, has_heard, own}
-use Rattle.domain_rules.specs.Rows.{NodeEvent, Take, Begin, Retry, response, TakeRows, By_assoc_req, By_assoc_resp, By_m1, By_m2, By_m3, By_repeated_m3, By_m4, By_ignored, By_refusal, Adds}
-use Rattle.domain_rules.specs.Closing.{close_attempt, close_session, sender}
+use Rattle.domain_rules.specs.Rows.{NodeEvent, Take, Begin, Retry, Rekey, Expire, Leave, response, TakeRows, By_assoc_req, By_assoc_resp, By_m1, By_m2, By_m3, By_repeated_m3, By_m4, By_g1, By_g2, By_ignored, By_refusal, RowOf, Adds}
+use Rattle.domain_rules.specs.Closing.{close_attempt, close_session, close_pending, close_associated, or_nothing, sender}
 use Rattle.domain_rules.specs.StationRows.{carried}
-use Rattle.domain_rules.specs.AccessPointRows.{most_sends, again_or_give_up, m3_again, retry_attempt, retry_acts}
-use Rattle.domain_rules.specs.Ended.{EndsRightly}
+use Rattle.domain_rules.specs.AccessPointRows.{m4_acts, newer_acts, carried_older, g1_to, most_sends, again_or_give_up, m3_again, retry_attempt, again_or_close, retry_session, retry_acts, to_session, to_sessions, next_key, RekeyRow, Pending, Spent, Renews}
+use Rattle.domain_rules.specs.Ended.{EndsRightly, By_begin, By_m4 as By_an_m4, By_retry, By_expire, By_leave}
 use Rattle.domain_rules.specs.Here.{here}
-use Rattle.domain_rules.proofs.Noted.{noted_verified}
+use Rattle.domain_rules.proofs.Noted.{noted_verified, in_switched, among_all}
 
 -- ---- acts that end no session
 
@@ -78,18 +81,81 @@ kept_m3 d n h p part x past = refl
 kept_again : (p : Node) (m : Message) (sends : ℕ) (e : Act) → is_kept e ≡ true → are_kept (again_or_give_up p m sends e) ≡ true
 kept_again p m sends e kept = kept_if (nat_lt sends most_sends) (e ∷ []) (GaveUp p m ∷ Closed p Attempt ∷ []) (ap (λ (b : Bool). b && true) kept) refl
 
-kept_retry : (d : Domain) (n : Node) (h : List Act) (p : Node) (o : Option (List Act)) → are_kept (retry_acts d n h p o) ≡ true
-kept_retry d n h p None = refl
-kept_retry d n h p (Some part) =
-    kept_if (by_connect part) (retry_attempt d n h p part) (Idle why.Nothing ∷ [])
-    (
+kept_retry_attempt : (d : Domain) (n : Node) (h : List Act) (p : Node) (part : List Act) → are_kept (retry_attempt d n h p part) ≡ true
+kept_retry_attempt d n h p part =
     kept_if (has_heard p (kind.Key M2) part)
     (again_or_give_up p M3 (sent_count p M3 part) (m3_again d n h p part (derivation p part) (before_sent p (kind.Key M3) h)))
     (again_or_give_up p M1 (sent_count p M1 part) (sent_m1 d n p (next_in_attempt p (chain p h)) (own part)))
     (kept_again p M3 (sent_count p M3 part) (m3_again d n h p part (derivation p part) (before_sent p (kind.Key M3) h)) (kept_m3 d n h p part (derivation p part) (before_sent p (kind.Key M3) h)))
     (kept_again p M1 (sent_count p M1 part) (sent_m1 d n p (next_in_attempt p (chain p h)) (own part)) refl)
-    )
-    refl
+
+-- where a session ends as it is given up, the message is G1, and it is that of the event
+abbrev GivesUp : Node → Node → List Act → Type 0
+GivesUp p q g = (p ≡ q) × In (GaveUp p G1) g
+
+given_up : (p q : Node) (b : Bool) (e : Act) → is_kept e ≡ true → In (Closed p Session) (if b then e ∷ [] else GaveUp q G1 ∷ Closed q Session ∷ []) → GivesUp p q (if b then e ∷ [] else GaveUp q G1 ∷ Closed q Session ∷ [])
+given_up p q true e kept there = absurd (none_ended p (e ∷ []) (ap (λ (b : Bool). b && true) kept) there)
+given_up p q false e kept (inl here) = absurd (cc here)
+given_up p q false e kept (inr (inl here)) = let same : p ≡ q = cc here in (same, inl (ap (λ (x : Node). GaveUp x G1) same))
+given_up p q false e kept (inr (inr none)) = absurd none
+
+up_session : (d : Domain) (n : Node) (h : List Act) (p q : Node) (o : Option Derivation) → In (Closed p Session) (retry_session d n h q o) → GivesUp p q (retry_session d n h q o)
+up_session d n h p q None there = absurd (none_ended p (Idle why.Nothing ∷ []) refl there)
+up_session d n h p q (Some x) there = given_up p q (nat_lt (sent_count q G1 (handshake groups.Gtk q h)) most_sends) (g1_to d n q h x) refl there
+
+up_if : (p q : Node) (b : Bool) (f g : List Act) → are_kept f ≡ true → (In (Closed p Session) g → GivesUp p q g) → In (Closed p Session) (if b then f else g) → GivesUp p q (if b then f else g)
+up_if p q true f g kept more there = absurd (none_ended p f kept there)
+up_if p q false f g kept more there = more there
+
+up_retry : (d : Domain) (n : Node) (h : List Act) (p q : Node) (o : Option (List Act)) → In (Closed p Session) (retry_acts d n h q o) → GivesUp p q (retry_acts d n h q o)
+up_retry d n h p q None there = up_session d n h p q (owing groups.Gtk q h) there
+up_retry d n h p q (Some part) there =
+    up_if p q (by_connect part) (retry_attempt d n h q part) (retry_session d n h q (owing groups.Gtk q h))
+    (kept_retry_attempt d n h q part) (up_session d n h p q (owing groups.Gtk q h)) there
+
+kept_both : (b c : Bool) → b ≡ true → c ≡ true → (b && c) ≡ true
+kept_both true c s t = t
+kept_both false c s t = absurd (cc s)
+
+kept_append : (f g : List Act) → are_kept f ≡ true → are_kept g ≡ true → are_kept (f ++ g) ≡ true
+kept_append [] g one two = two
+kept_append (e ∷ f) g one two = let w = both (is_kept e) (are_kept f) one in kept_both (is_kept e) (are_kept (f ++ g)) w.0 (kept_append f g w.1 two)
+
+kept_newer : (d : Domain) (n p : Node) (h : List Act) (x : Derivation) (b : Bool) → are_kept (newer_acts d n p h x b) ≡ true
+kept_newer d n p h x false = refl
+kept_newer d n p h x true = refl
+
+kept_to : (d : Domain) (n p : Node) (h : List Act) (o : Option Derivation) → are_kept (to_session d n p h o) ≡ true
+kept_to d n p h None = refl
+kept_to d n p h (Some x) = refl
+
+kept_all : (d : Domain) (n : Node) (k : ℕ) (h : List Act) → are_kept (to_sessions d n k h) ≡ true
+kept_all d n zero h = refl
+kept_all d n (suc k) h =
+    kept_append (to_sessions d n k h) (to_session d n (Sta k) (add (to_sessions d n k h) h) (session (Sta k) (add (to_sessions d n k h) h)))
+    (kept_all d n k h) (kept_to d n (Sta k) (add (to_sessions d n k h) h) (session (Sta k) (add (to_sessions d n k h) h)))
+
+kept_rekey : (d : Domain) (first : ℕ) (n : Node) (h g : List Act) → RekeyRow (here d first n) h g → are_kept g ≡ true
+kept_rekey d first n h g (Pending late is) = ap are_kept is
+kept_rekey d first n h g (Spent all many is) = ap are_kept is
+kept_rekey d first n h g (Renews role all few is) = ap are_kept is ∙ kept_all d n (length d.stas) (next_key (here d first n) h ∷ h)
+
+kept_switch_by : (b : Bool) (e : Act) → is_kept e ≡ true → are_kept (cond b [] (e ∷ [])) ≡ true
+kept_switch_by true e kept = refl
+kept_switch_by false e kept = ap (λ (b : Bool). b && true) kept
+
+kept_switch : (d : Domain) (a : ℕ) (h : List Act) → are_kept (switch_acts d a h) ≡ true
+kept_switch d a h = kept_switch_by (is_current groups.Gtk h || any_owes groups.Gtk _ h) _ refl
+
+-- the session that a station is told to be dropped by an access point
+expired : (p q : Node) (o : Option (List Act)) (x : Option Derivation) → In (Closed p Session) (or_nothing (close_attempt q o ++ close_session q x)) → p ≡ q
+expired p q None None there = absurd (none_ended p (Idle why.Nothing ∷ []) refl there)
+expired p q (Some part) None there = absurd (none_ended p (Closed q Attempt ∷ []) refl there)
+expired p q None (Some x) (inl here) = cc here
+expired p q None (Some x) (inr none) = absurd none
+expired p q (Some part) (Some x) (inl here) = absurd (cc here)
+expired p q (Some part) (Some x) (inr (inl here)) = cc here
+expired p q (Some part) (Some x) (inr (inr none)) = absurd none
 
 -- ---- an M4 is the only frame that ends one
 
@@ -97,6 +163,12 @@ closed_of : (p q : Node) (o : Option Derivation) (g : List Act) → are_kept g �
 closed_of p q None g kept there = absurd (none_ended p g kept there)
 closed_of p q (Some x) g kept (inl here) = cc here
 closed_of p q (Some x) g kept (inr there) = absurd (none_ended p g kept there)
+
+closed_m4 : (p q : Node) (o : Option Derivation) (x : Derivation) (newer : List Act) → are_kept newer ≡ true
+    → In (Closed p Session) ((close_session q o ++ Installed (One q) (Pairwise x.ptk.tk x.inputs) ∷ Finished q x.inputs ∷ []) ++ newer) → p ≡ q
+closed_m4 p q None x newer kept there = absurd (none_ended p (Installed (One q) (Pairwise x.ptk.tk x.inputs) ∷ Finished q x.inputs ∷ newer) kept there)
+closed_m4 p q (Some y) x newer kept (inl here) = cc here
+closed_m4 p q (Some y) x newer kept (inr there) = absurd (none_ended p (Installed (One q) (Pairwise x.ptk.tk x.inputs) ∷ Finished q x.inputs ∷ newer) kept there)
 
 -- the row is that of an M4 of p
 abbrev IsM4 : Node → List ℕ → List Act → Type 0
@@ -117,17 +189,35 @@ row_ends d first n h octets r facts g p (By_m3 row) there =
 row_ends d first n h octets r facts g p (By_repeated_m3 row) there = absurd (none_ended p g (ap are_kept row.says) there)
 row_ends d first n h octets r facts g p (By_m4 row) there =
     let at = subst (λ (x : List Act). In (Closed p Session) x) row.says there in
-    let same : p ≡ row.p = closed_of p row.p (session row.p h) _ refl (later_than (Closed p Session) _ _ at (λ e. cc e)) in (
+    let newer : List Act = newer_acts d n row.p (add (m4_acts octets row.k row.p row.x (session row.p h)) h) row.x (carried_older row.p h (before_sent row.p (kind.Key M3) h)) in
+    let same : p ≡ row.p = closed_m4 p row.p (session row.p h) row.x newer (kept_newer d n row.p (add (m4_acts octets row.k row.p row.x (session row.p h)) h) row.x (carried_older row.p h (before_sent row.p (kind.Key M3) h))) (later_than (Closed p Session) _ _ at (λ e. cc e)) in (
       row.x.ptk.kck,
       (row.k.octets, subst (λ (x : List Act). In (Took (Some p) octets (kind.Key M4) Accepted (Some (frame_seal row.x.ptk.kck row.k.octets))) x) (sym row.says) (inl (ap (λ (q : Node). Took (Some q) octets (kind.Key M4) Accepted (Some (frame_seal row.x.ptk.kck row.k.octets))) same))),
     )
+row_ends d first n h octets r facts g p (By_g1 row) there =
+    absurd (none_ended p g (ap are_kept row.says ∙ kept_give row.p (mac d row.p) (carried facts.data_) (find_key (carried facts.data_).key (memory groups.Gtk row.p h)) (sent_g2 d n row.p row.x row.k.fields.counter ∷ []) refl) there)
+row_ends d first n h octets r facts g p (By_g2 row) there = absurd (none_ended p g (ap are_kept row.says) there)
 row_ends d first n h octets r facts g p (By_ignored row) there = absurd (none_ended p g (ap are_kept row.says) there)
 row_ends d first n h octets r facts g p (By_refusal row) there = absurd (none_ended p g (ap are_kept row.says ∙ kept_response d n (sender d n r) (kind_of r) row.why) there)
 
-pub ends_rightly : (d : Domain) (first : ℕ) (n : Node) (h : List Act) (event : NodeEvent) (g : List Act) (p : Node) → Adds (here d first n) h event g → In (Closed p Session) g → EndsRightly d event g p
-ends_rightly d first n h (Take octets) g p row there =
+event_ends : (d : Domain) (first : ℕ) (n : Node) (h : List Act) (event : NodeEvent) (g all : List Act) (p : Node) → Adds (here d first n) h event all → RowOf (here d first n) h event g
+    → ((x : Act) → In x g → In x all) → In (Closed p Session) g → EndsRightly d event all p
+event_ends d first n h (Take octets) g all p adds row more there =
     let (kck, (whole, m4)) = row_ends d first n h octets row.r row.facts g p row.row there in
-    let v = noted_verified d first n h (Take octets) g (Some p) octets (kind.Key M4) Accepted (frame_seal kck whole) row m4 in
-    inr (record { octets = octets; is = refl; seal = frame_seal kck whole; accepted = m4; verified = v.1 })
-ends_rightly d first n h (Begin a) g p row there = inl (a, refl)
-ends_rightly d first n h (Retry s) g p is there = absurd (none_ended p g (ap are_kept is ∙ kept_retry d n h (Sta s) (attempt (Sta s) h)) there)
+    let v = noted_verified d first n h (Take octets) all (Some p) octets (kind.Key M4) Accepted (frame_seal kck whole) adds (more _ m4) in
+    By_an_m4 (record { octets = octets; is = refl; seal = frame_seal kck whole; accepted = more _ m4; verified = v.1 })
+event_ends d first n h (Begin a) g all p adds row more there = By_begin a refl
+event_ends d first n h (Retry s) g all p adds is more there =
+    let w = up_retry d n h p (Sta s) (attempt (Sta s) h) (subst (λ (x : List Act). In (Closed p Session) x) is there) in
+    By_retry s refl w.0 (more (GaveUp p G1) (subst (λ (x : List Act). In (GaveUp p G1) x) (sym is) w.1))
+event_ends d first n h Rekey g all p adds row more there = absurd (none_ended p g (kept_rekey d first n h g row) there)
+event_ends d first n h (Expire s) g all p adds is more there =
+    By_expire s refl (expired p (Sta s) (attempt (Sta s) h) (session (Sta s) h) (subst (λ (x : List Act). In (Closed p Session) x) is there))
+event_ends d first n h Leave g all p adds is more there = By_leave refl
+
+pub ends_rightly : (d : Domain) (first : ℕ) (n : Node) (h : List Act) (event : NodeEvent) (g : List Act) (p : Node) → Adds (here d first n) h event g → In (Closed p Session) g → EndsRightly d event g p
+ends_rightly d first n h event g p adds there =
+    event_ends d first n h event adds.acts g p adds adds.row
+    (λ x in_acts. subst (λ (y : List Act). In x y) (sym adds.is) (among_all d n h adds.acts x in_acts))
+    (in_switched d n h adds.acts (Closed p Session) (λ a after in_it. none_ended p (switch_acts d a after) (kept_switch d a after) in_it)
+    (subst (λ (x : List Act). In (Closed p Session) x) adds.is there))

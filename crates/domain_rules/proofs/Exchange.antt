@@ -14,22 +14,23 @@ use Rattle.domain_rules.specs.Frames.{sent_m3}
 use Rattle.domain_rules.specs.GroupKeys.{newest, newest_uses}
 use Rattle.domain_rules.specs.Network.{address, peer_of, nonce, gtk}
 use Rattle.domain_rules.specs.Reading.{KeyMessage}
-use Rattle.domain_rules.specs.Rows.{Take, TakeRow}
+use Rattle.domain_rules.specs.Rows.{Take, TakeRow, Adds}
+use Rattle.domain_rules.specs.Owing.{owing, and_switch}
 use Rattle.domain_rules.specs.AccessPointRows.{retry_acts, most_sends}
 use Rattle.domain_rules.specs.StationKeys as keys
 use Rattle.domain_rules.specs.Asking.{by_connect, has_heard, kept_counter, offered, verified}
 use Rattle.domain_rules.specs.Verdict.{is_mine}
 use Rattle.domain_rules.specs.Associating.{rsne_status}
-use Rattle.domain_rules.specs.StationKeys.{Keying, m3_keying, m3_verdict, taken_in}
-use Rattle.domain_rules.specs.AccessPointKeys.{m4_keying, m4_verdict}
+use Rattle.domain_rules.specs.StationKeys.{Keying, m3_keying, m3_verdict, g1_verdict, taken_in}
+use Rattle.domain_rules.specs.AccessPointKeys.{m4_keying, m4_verdict, g2_verdict}
 use Rattle.domain_rules.specs.Here.{here}
-use Rattle.eapol_key.specs.declared.messages.Message.TheVariants.{M1, M2, M3}
+use Rattle.eapol_key.specs.declared.messages.Message.TheVariants.{M1, M2, M3, G1}
 use Rattle.key_hierarchy.proofs.Lengths.{length-kdf}
 use Rattle.rsn_elements.specs.Pieces.{SentRsne, SentGtkKde, sent_rsne, said}
 use Rattle.rsn_elements.specs.Sent.{rsne_octets}
 use Rattle.rsn_elements.specs.declared.framing.Within.TheVariants.{KeyData}
 use Rattle.run_journal.specs.Acts.{Derivation}
-use Rattle.run_journal.specs.Questions.{attempt, derivation, history, add, since, session, before_sent, chain}
+use Rattle.run_journal.specs.Questions.{attempt, derivation, history, add, since, session, before_sent, chain, handshake}
 use Rattle.run_journal.specs.declared.acts.Act.{Act}
 use Rattle.run_journal.specs.declared.acts.Entry.{Entry}
 use Rattle.run_journal.specs.declared.acts.Kind.TheVariants as kind
@@ -56,14 +57,14 @@ unfolding gtk
 octets-gtk d n i = octets-kdf _ _ _ 16
 
 -- octets that come are one step
-pub take_step : (d : Domain) (round number : ℕ) (n : Node) (octets : List ℕ) (past : List Entry) (h g : List Act) → history n past ≡ h → WasSent past round number octets → TakeRow (here d 0 n) h octets g
+pub take_step : (d : Domain) (round number : ℕ) (n : Node) (octets : List ℕ) (past : List Entry) (h g : List Act) → history n past ≡ h → WasSent past round number octets → TakeRow (here d 0 n) h octets g → g ≡ and_switch d n h g
     → Step d round (Deliver number n) past (push round n g past)
-take_step d round number n octets past h g is was row = step_at d round (Deliver number n) past (push round n g past) (record {
+take_step d round number n octets past h g is was row still = step_at d round (Deliver number n) past (push round n g past) (record {
   node = n;
   at_node = Take octets;
   happens = (octets, (was, (refl, refl)));
   acts = g;
-  group = subst (λ (x : List Act). TakeRow (here d 0 n) x octets g) (sym is) row;
+  group = subst (λ (x : List Act). Adds (here d 0 n) x (Take octets) g) (sym is) (record { acts = g; row = row; is = still });
   is = refl;
 })
 
@@ -86,6 +87,15 @@ m3-in d h p k y s counter same = rw (s, counter, (bytes_eq-Decides k.fields.nonc
 pub m4-in : (d : Domain) (h : List Act) (p : Node) (k : KeyMessage) (part : List Act) (x : Derivation) (offers : List ℕ) → attempt p h ≡ Some part → m4_keying p part ≡ Some x → offered p M3 part ≡ offers
     → list_any (λ c. c == k.fields.counter) offers ≡ true → m4_verdict d h p k ≡ verified d.akm x.ptk.kck k Accepted
 m4-in d h p k part x offers s keyed is same = rw (s, keyed, is, same) refl
+
+-- G1 and G2 by the answers to what is asked of the history
+pub g1-in : (d : Domain) (h : List Act) (p : Node) (k : KeyMessage) (x : Derivation) (kept : ℕ) → session p h ≡ Some x → kept_counter p (chain p h) ≡ Some kept → nat_lt kept k.fields.counter ≡ true
+    → g1_verdict d h p k ≡ verified d.akm x.ptk.kck k Accepted
+g1-in d h p k x kept s counter low = rw (s, counter, low) refl
+
+pub g2-in : (d : Domain) (h : List Act) (p : Node) (k : KeyMessage) (x : Derivation) (offers : List ℕ) → owing groups.Gtk p h ≡ Some x → offered p G1 (handshake groups.Gtk p h) ≡ offers → list_any (λ c. c == k.fields.counter) offers ≡ true
+    → g2_verdict d h p k ≡ verified d.akm x.ptk.kck k Accepted
+g2-in d h p k x offers s is same = rw (s, is, same) refl
 
 -- the key of a session
 pub m3-keyed_session : (p : Node) (h part : List Act) (x : Derivation) → attempt p h ≡ None → since p h ≡ part → by_connect part ≡ true → session p h ≡ Some x

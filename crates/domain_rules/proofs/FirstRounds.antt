@@ -11,8 +11,8 @@ use Rattle.domain_rules.specs.Explained.{frames, push, started, WasSent, Step, E
 use Rattle.domain_rules.specs.Frames.{sent_m3, keyed_by}
 use Rattle.domain_rules.specs.GroupKeys.{newest, newest_uses}
 use Rattle.domain_rules.specs.Reading.{KeyMessage, Managed, Keyed, Reads}
-use Rattle.domain_rules.specs.StationRows.{ConnectRow, Asks}
-use Rattle.domain_rules.specs.Rows.{Begin, TakeRow, By_assoc_req, By_assoc_resp, By_m1, By_m2}
+use Rattle.domain_rules.specs.StationRows.{Asks}
+use Rattle.domain_rules.specs.Rows.{Begin, Adds, TakeRow, By_assoc_req, By_assoc_resp, By_m1, By_m2}
 use Rattle.domain_rules.specs.AccessPointKeys.{IsRequested, KnowsM2, request}
 use Rattle.domain_rules.specs.Asking.{has_heard, kept_counter, offered, verified}
 use Rattle.domain_rules.specs.Verdict.{is_mine, further, and_then, first_verdict, verdict}
@@ -127,7 +127,7 @@ module _ (d : Domain) (k m : ℕ) (pair : IsPair d k m) where
     at_node = Begin k;
     happens = (refl, refl);
     acts = acts1;
-    group = subst (λ (h : List Act). ConnectRow (here d 0 s) h a acts1) (sym (history-started_sta d m (length d.aps))) (Asks (omega arith) refl);
+    group = subst (λ (h : List Act). Adds (here d 0 s) h (Begin k) acts1) (sym (history-started_sta d m (length d.aps))) (record { acts = acts1; row = Asks (omega arith) refl; is = refl });
     is = refl;
   })
 
@@ -165,7 +165,7 @@ module _ (d : Domain) (k m : ℕ) (pair : IsPair d k m) where
   }
 
   step2 : Step d 2 (Deliver 1 a) past1 past2
-  step2 = take_step d 2 1 a octets1 past1 ap0 acts2 ap1-is was1 row1
+  step2 = take_step d 2 1 a octets1 past1 ap0 acts2 ap1-is was1 row1 refl
 
   ap2-is : history a past2 ≡ ap2
   ap2-is = history-push 2 a acts2 past1 ∙ ap (add acts2) ap1-is
@@ -200,7 +200,7 @@ module _ (d : Domain) (k m : ℕ) (pair : IsPair d k m) where
   }
 
   step3 : Step d 3 (Deliver 2 s) past2 past3
-  step3 = take_step d 3 2 s octets2 past2 sta1 acts3 sta2-is was2 row2
+  step3 = take_step d 3 2 s octets2 past2 sta1 acts3 sta2-is was2 row2 refl
 
   sta3-is : history s past3 ≡ sta3
   sta3-is = history-push 3 s acts3 past2 ∙ ap (add acts3) sta2-is
@@ -246,7 +246,7 @@ module _ (d : Domain) (k m : ℕ) (pair : IsPair d k m) where
   }
 
   step4 : Step d 4 (Deliver 3 s) past3 past4
-  step4 = take_step d 4 3 s octets3 past3 sta3 acts4 sta3-is was3 row3
+  step4 = take_step d 4 3 s octets3 past3 sta3 acts4 sta3-is was3 row3 refl
 
   ap4-is : history a past4 ≡ ap2
   ap4-is = history-other 4 s a acts4 past3 refl ∙ ap3-is
@@ -310,7 +310,7 @@ module _ (d : Domain) (k m : ℕ) (pair : IsPair d k m) where
   }
 
   step5 : Step d 5 (Deliver 4 a) past4 past5
-  step5 = take_step d 5 4 a octets4 past4 ap2 acts5 ap4-is was4 row4
+  step5 = take_step d 5 4 a octets4 past4 ap2 acts5 ap4-is was4 row4 refl
 
   ap5-is : history a past5 ≡ add acts5 ap2
   ap5-is = history-push 5 a acts5 past4 ∙ ap (add acts5) ap4-is

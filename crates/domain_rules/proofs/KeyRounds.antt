@@ -11,8 +11,8 @@ use Rattle.domain_rules.specs.Counters.{next_in_attempt, sent_count}
 use Rattle.domain_rules.specs.Explained.{push, Step}
 use Rattle.domain_rules.specs.Frames.{sent_m2, m3_key_data, sent_m3, keyed_by}
 use Rattle.domain_rules.specs.Reading.{KeyMessage, Keyed, Reads}
-use Rattle.domain_rules.specs.Rows.{TakeRow, By_m3, By_m4, By_repeated_m3}
-use Rattle.domain_rules.specs.AccessPointRows.{retry_acts, most_sends}
+use Rattle.domain_rules.specs.Rows.{Adds, TakeRow, By_m3, By_m4, By_repeated_m3}
+use Rattle.domain_rules.specs.AccessPointRows.{retry_acts, most_sends, m4_acts, newer_acts, carried_older}
 use Rattle.domain_rules.specs.Facts.{ReadsKeyData, Facts}
 use Rattle.domain_rules.specs.Asking.{has_heard, kept_counter, offered, verified, replay_counter}
 use Rattle.domain_rules.specs.Verdict.{is_mine, further, and_then, first_verdict, verdict}
@@ -25,7 +25,7 @@ use Rattle.rsn_elements.specs.Elements.{ElementFields}
 use Rattle.rsn_elements.specs.Pieces.{SentRsne, SentGtkKde, said}
 use Rattle.rsn_elements.specs.declared.framing.Within.TheVariants.{KeyData}
 use Rattle.run_journal.specs.Acts.{Derivation, GroupKey}
-use Rattle.run_journal.specs.Questions.{attempt, derivation, since, session, before_sent, chain}
+use Rattle.run_journal.specs.Questions.{attempt, derivation, since, session, before_sent, chain, add}
 use Rattle.run_journal.specs.declared.acts.Act.TheVariants.{Derived, Took}
 use Rattle.run_journal.specs.declared.acts.Act.{Act}
 use Rattle.run_journal.specs.declared.acts.Entry.{Entry}
@@ -36,8 +36,8 @@ use Rattle.run_journal.specs.declared.acts.Seal.{Seal}
 use Rattle.run_journal.specs.declared.domain.Domain.{Domain}
 use Rattle.run_journal.specs.declared.domain.Event.TheVariants.{Deliver, Retry}
 use Rattle.run_journal.specs.declared.domain.Event.{Event}
-use Rattle.std.proofs.Common.{◌≡◌, ℕ, suc, true, false, List, [], ◌∷◌, Some, None, refl, sym, ap, subst, ◌∙◌, arith, inl, inr}
-use Rattle.std.specs.Prelude.{not, ◌||◌, nat_lt}
+use Rattle.std.proofs.Common.{◌≡◌, ℕ, suc, true, false, List, [], ◌∷◌, Option, Some, None, refl, sym, ap, subst, ◌∙◌, arith, inl, inr}
+use Rattle.std.specs.Prelude.{not, ◌||◌, ◌++◌, nat_lt}
 use Rattle.domain_rules.proofs.Journals.{step_at}
 use Rattle.domain_rules.proofs.HandshakeActs as w
 use Rattle.domain_rules.proofs.FirstRounds.{stage5}
@@ -224,7 +224,7 @@ module _ (d : Domain) (k m : ℕ) (pair : IsPair d k m) where
   }
 
   step6 : Step d 6 (Deliver 5 s) past5 (push 6 s acts6 past5)
-  step6 = take_step d 6 5 s octets5 past5 sta4 acts6 (stage5 d k m pair).sta_is (stage5 d k m pair).was row6
+  step6 = take_step d 6 5 s octets5 past5 sta4 acts6 (stage5 d k m pair).sta_is (stage5 d k m pair).was row6 refl
 
   stage6 : Stage d k m rounds6 sta6 ap5 6 octets6
   stage6 = after_sta d k m rounds5 sta4 ap5 5 octets5 (stage5 d k m pair) (Deliver 5 s) acts6 6 octets6 step6 (ap suc (stage5 d k m pair).count)
@@ -264,7 +264,7 @@ module _ (d : Domain) (k m : ℕ) (pair : IsPair d k m) where
     at_node = again.Retry m;
     happens = (refl, refl);
     acts = acts7;
-    group = subst (λ (h : List Act). acts7 ≡ retry_acts d a h s (attempt s h)) (sym stage6.ap_is) retries7;
+    group = subst (λ (h : List Act). Adds (here d 0 a) h (again.Retry m) acts7) (sym stage6.ap_is) (record { acts = acts7; row = retries7; is = refl });
     is = refl;
   })
 
@@ -328,7 +328,7 @@ module _ (d : Domain) (k m : ℕ) (pair : IsPair d k m) where
   }
 
   step8 : Step d 8 (Deliver 7 s) stage7.journal (push 8 s acts8 stage7.journal)
-  step8 = take_step d 8 7 s octets7 stage7.journal sta6 acts8 stage7.sta_is stage7.was row8
+  step8 = take_step d 8 7 s octets7 stage7.journal sta6 acts8 stage7.sta_is stage7.was row8 refl
 
   stage8 : Stage d k m rounds8 sta8 ap7 8 octets8
   stage8 = after_sta d k m rounds7 sta6 ap7 7 octets7 stage7 (Deliver 7 s) acts8 8 octets8 step8 (ap suc stage7.count)
@@ -365,17 +365,24 @@ module _ (d : Domain) (k m : ℕ) (pair : IsPair d k m) where
   accepted9 : verdict d 0 a ap7 (Keyed m4) no_facts ≡ Accepted
   accepted9 = ap (λ (o : Outcome). and_then o Accepted) (keyed-from d 0 a ap7 m4 s mine9 pair.finds_sta ∙ m4-in d ap7 s m4 part7 key (3 ∷ 2 ∷ []) attempt9 keying9 offers9 refl ∙ verifies9)
 
+  -- the group key that went with M3 is the newest still
+  before9 : before_sent s (kind.Key M3) ap7 ≡ Some (Derived s i (ptk i) ∷ Took (Some s) octets4 (kind.Key M2) Accepted (Some seal4) ∷ ap2)
+  before9 = rw (same-refl s) refl
+
+  says9 : acts9 ≡ m4_acts octets8 m4 s key None ++ newer_acts d a s (add (m4_acts octets8 m4 s key None) ap7) key (carried_older s ap7 (before_sent s (kind.Key M3) ap7))
+  says9 = ap (λ (o : Option (List Act)). m4_acts octets8 m4 s key None ++ newer_acts d a s (add (m4_acts octets8 m4 s key None) ap7) key (carried_older s ap7 o)) (sym before9)
+
   row9 : TakeRow (here d 0 a) ap7 octets8 acts9
   row9 = record {
     r = Keyed m4;
     reads = reads-m4 d s a (keyed_by i) 3 pair.has_mic pair.sta_whole pair.ap_whole (omega arith);
     facts = no_facts;
     knows = λ came p from. tt;
-    row = By_m4 (record { k = m4; is = refl; message_is = refl; p = s; from = pair.finds_sta; accepted = accepted9; part = part7; awaited = attempt9; x = key; keyed = keying9; says = refl });
+    row = By_m4 (record { k = m4; is = refl; message_is = refl; p = s; from = pair.finds_sta; accepted = accepted9; part = part7; awaited = attempt9; x = key; keyed = keying9; says = says9 });
   }
 
   step9 : Step d 9 (Deliver 8 a) stage8.journal (push 9 a acts9 stage8.journal)
-  step9 = take_step d 9 8 a octets8 stage8.journal ap7 acts9 stage8.ap_is stage8.was row9
+  step9 = take_step d 9 8 a octets8 stage8.journal ap7 acts9 stage8.ap_is stage8.was row9 refl
 
   pub stage9 : Stage d k m rounds9 sta8 ap9 8 octets8
   stage9 = after_ap d k m rounds8 sta8 ap7 8 octets8 stage8 (Deliver 8 a) acts9 8 octets8 step9 stage8.count

@@ -10,8 +10,8 @@ use Rattle.domain_rules.specs.Example.{HasHandshake}
 use Rattle.domain_rules.specs.Explained.{push, Step}
 use Rattle.domain_rules.specs.Frames.{sent_assoc_req, sent_assoc_resp, sent_m1}
 use Rattle.domain_rules.specs.Reading.{Managed}
-use Rattle.domain_rules.specs.StationRows.{ConnectRow, Asks}
-use Rattle.domain_rules.specs.Rows.{Begin, TakeRow, By_assoc_req}
+use Rattle.domain_rules.specs.StationRows.{Asks}
+use Rattle.domain_rules.specs.Rows.{Begin, Adds, TakeRow, By_assoc_req}
 use Rattle.domain_rules.specs.Closing.{close_attempt}
 use Rattle.domain_rules.specs.Associating.{management_verdict}
 use Rattle.domain_rules.specs.Verdict.{and_then, verdict}
@@ -120,7 +120,7 @@ module _ (d : Domain) (k m : ℕ) (pair : IsPair d k m) where
     at_node = Begin k;
     happens = (refl, refl);
     acts = acts10;
-    group = subst (λ (h : List Act). ConnectRow (here d 0 s) h a acts10) (sym st.sta_is) (Asks (omega arith) refl);
+    group = subst (λ (h : List Act). Adds (here d 0 s) h (Begin k) acts10) (sym st.sta_is) (record { acts = acts10; row = Asks (omega arith) refl; is = refl });
     is = refl;
   })
 
@@ -153,7 +153,7 @@ module _ (d : Domain) (k m : ℕ) (pair : IsPair d k m) where
   }
 
   step11 : Step d 11 (Deliver 9 a) stage10.journal (push 11 a acts11 stage10.journal)
-  step11 = take_step d 11 9 a octets1 stage10.journal ap9 acts11 stage10.ap_is stage10.was row11
+  step11 = take_step d 11 9 a octets1 stage10.journal ap9 acts11 stage10.ap_is stage10.was row11 refl
 
   stage11 : Stage d k m rounds11 sta10 ap11 11 octets11
   stage11 = after_ap d k m rounds10 sta10 ap9 9 octets1 stage10 (Deliver 9 a) acts11 11 octets11 step11 (ap (λ (n : ℕ). suc (suc n)) stage10.count)

@@ -5,6 +5,9 @@ pub mod HandshakeActs
 pub mod FirstRounds
 pub mod KeyRounds
 pub mod LastRounds
+pub mod RenewalActs
+pub mod RenewalRounds
+pub mod ResumedRounds
 pub mod Example
 pub mod Parts
 pub mod Effects
@@ -18,4 +21,5 @@ pub mod OneGroup
 pub mod SomeGroup
 pub mod Journals
 pub mod Noted
+pub mod Switching
 mod Ended

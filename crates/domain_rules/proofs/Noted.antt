@@ -1,5 +1,5 @@
 -- A seal is noted where the MIC of a frame verified, and only there.
-use Rattle.std.proofs.Common.{◌≡◌, ℕ, ◌+◌, Bool, true, false, cond, List, [], ◌∷◌, ◌++◌, Option, Some, None, refl, sym, ap, subst, ◌∙◌, inl, inr}
+use Rattle.std.proofs.Common.{◌≡◌, ℕ, zero, suc, ◌+◌, Bool, true, false, cond, List, [], ◌∷◌, ◌++◌, length, Option, Some, None, refl, sym, ap, subst, ◌∙◌, inl, inr}
 use Rattle.std.specs.Prelude.{option_and_then, not, nat_lt, ◌||◌, ◌&&◌, ◌==◌, bytes_eq, option_map, if◌then◌else◌}
 use Rattle.std.specs.List.{list_any}
 use Rattle.std.proofs.lemmas.Slice.Eq.{bytes_eq-Decides}
@@ -15,7 +15,7 @@ use Rattle.key_hierarchy.specs.Keys.{ptk}
 use Rattle.key_hierarchy.specs.declared.inputs.Inputs.{Inputs}
 use Rattle.run_journal.specs.declared.domain.Domain.{Domain}
 use Rattle.run_journal.specs.declared.acts.Start.TheVariants.{Connect}
-use Rattle.run_journal.specs.declared.acts.Part.TheVariants.{Attempt}
+use Rattle.run_journal.specs.declared.acts.Part.TheVariants.{Attempt, Session}
 use Rattle.run_journal.specs.declared.acts.Drawn.TheVariants.{Nonce}
 use Rattle.run_journal.specs.declared.acts.Why.TheVariants as why
 use Rattle.run_journal.specs.declared.acts.Kind.{Kind}
@@ -26,27 +26,31 @@ use Rattle.run_journal.specs.declared.acts.Outcome.{Outcome}
 use Rattle.run_journal.specs.declared.acts.Outcome.TheVariants.{Accepted, Answered, Ignored, Refused}
 use Rattle.run_journal.specs.declared.acts.Seal.{Seal}
 use Rattle.run_journal.specs.declared.acts.Act.{Act}
-use Rattle.run_journal.specs.declared.acts.Act.TheVariants.{Opened, Closed, Drew, Took, Finished, GaveUp, Idle}
+use Rattle.run_journal.specs.declared.acts.Act.TheVariants.{Opened, Closed, Drew, Took, Installed, Finished, GaveUp, Idle}
 use Rattle.run_journal.specs.Acts.{Derivation, GroupKey}
-use Rattle.run_journal.specs.Questions.{attempt, session, pending, associated, before_sent, derivation, draws, chain}
+use Rattle.run_journal.specs.Questions.{attempt, session, pending, associated, before_sent, derivation, draws, chain, handshake, add}
+use Rattle.domain_base.specs.declared.names.Peer.TheVariants.{One, All}
+use Rattle.run_journal.specs.declared.acts.Key.TheVariants.{Pairwise, Group}
 use Rattle.run_journal.specs.Premises.{In}
 use Rattle.domain_rules.specs.Network.{mac, direction, goes_like, peer_of, inputs, root}
-use Rattle.domain_rules.specs.Frames.{sent_assoc_req, sent_m1, sent_m4, frame_seal}
+use Rattle.domain_rules.specs.Frames.{sent_assoc_req, sent_m1, sent_m4, sent_g2, frame_seal}
 use Rattle.domain_rules.specs.Reading.{Management, KeyMessage, Reading, NoFrame, PassedOver, NoElements, Managed, NoKeyFrame, NoMessage, Keyed, Sealed, Reads, kind_of}
 use Rattle.domain_rules.specs.Facts.{Facts}
 use Rattle.domain_rules.specs.Verdict.{Knows, first_verdict, further, key_further, and_then, verdict, from_peer, is_mine, air_reason, key_verdict, comes_so_far}
-use Rattle.domain_rules.specs.StationKeys.{Keying, m3_keying, m3_verdict_by}
-use Rattle.domain_rules.specs.AccessPointKeys.{m4_keying, m4_verdict_by}
+use Rattle.domain_rules.specs.StationKeys.{Keying, m3_keying, m3_verdict_by, g1_verdict_by}
+use Rattle.domain_rules.specs.AccessPointKeys.{m4_keying, m4_verdict_by, g2_verdict_by}
+use Rattle.domain_rules.specs.Owing.{owing, any_owes, switch_acts, and_switch}
 use Rattle.domain_rules.specs.Asking.{in_attempt, above, verified, by_connect, has_heard, kept_counter, offered, own}
 use Rattle.domain_rules.specs.Counters.{sent_count, next_in_attempt}
-use Rattle.domain_rules.specs.GroupKeys.{memory, find_key, give_by}
-use Rattle.domain_rules.specs.Rows.{NodeEvent, Take, Begin, Retry, refused_seal, message_seal, seal_in, response, TakeRows, By_assoc_req, By_assoc_resp, By_m1, By_m2, By_m3, By_repeated_m3, By_m4, By_ignored, By_refusal, Adds}
-use Rattle.domain_rules.specs.Closing.{close_attempt, close_session, close_pending, close_associated, next_nonce, sender}
+use Rattle.domain_rules.specs.GroupKeys.{memory, find_key, give_by, is_current}
+use Rattle.domain_rules.specs.Rows.{NodeEvent, Take, Begin, Retry, Rekey, Expire, Leave, refused_seal, message_seal, seal_in, response, TakeRows, By_assoc_req, By_assoc_resp, By_m1, By_m2, By_m3, By_repeated_m3, By_m4, By_g1, By_g2, By_ignored, By_refusal, TakeRow, RowOf, Adds}
+use Rattle.domain_rules.specs.Closing.{close_attempt, close_session, close_pending, close_associated, or_nothing, next_nonce, sender}
 use Rattle.domain_rules.specs.StationRows.{connect_acts, ConnectRow, Spent, Asks, carried}
-use Rattle.domain_rules.specs.AccessPointRows.{most_sends, again_or_give_up, m3_again, retry_attempt, retry_acts}
+use Rattle.domain_rules.specs.AccessPointRows.{m4_acts, newer_acts, carried_older, g1_to, most_sends, again_or_give_up, m3_again, retry_attempt, again_or_close, retry_session, retry_acts, to_session, to_sessions, next_key, RekeyRow, Pending, Renews}
+use Rattle.domain_rules.specs.AccessPointRows as rekey
 use Rattle.domain_rules.specs.Verified.{IsVerified, is_with_mic, is_past_mic}
 use Rattle.domain_rules.specs.Here.{here}
-use Rattle.domain_rules.proofs.OneOutcome.{IsTaken, taken_behind, taken_from, Awaited, Is_m1, Is_m2, Is_m3, Is_m4, key_kind, and_accepted, and_answered}
+use Rattle.domain_rules.proofs.OneOutcome.{IsTaken, taken_behind, taken_from, Awaited, Is_m1, Is_m2, Is_m3, Is_m4, Is_g1, Is_g2, key_kind, and_accepted, and_answered}
 use Rattle.domain_rules.proofs.OneGroup.{one_take}
 use Rattle.domain_rules.proofs.SomeGroup.{some_rows}
 use Rattle.run_journal.specs.GroupKinds as groups
@@ -78,6 +82,8 @@ abbrev VerifiedBy : Domain → Node → List Act → Node → KeyMessage → Mes
 VerifiedBy d n h p k M2 = (part : List Act) → attempt p h ≡ Some part → HasMicOf d.akm (ptk (inputs d (root d) n p (own part) k.fields.nonce)).kck k
 VerifiedBy d n h p k M3 = (y : Keying) → m3_keying p h ≡ Some y → HasMicOf d.akm y.key.ptk.kck k
 VerifiedBy d n h p k M4 = (part : List Act) (x : Derivation) → attempt p h ≡ Some part → m4_keying p part ≡ Some x → HasMicOf d.akm x.ptk.kck k
+VerifiedBy d n h p k G1 = (x : Derivation) → session p h ≡ Some x → HasMicOf d.akm x.ptk.kck k
+VerifiedBy d n h p k G2 = (x : Derivation) → owing groups.Gtk p h ≡ Some x → HasMicOf d.akm x.ptk.kck k
 VerifiedBy d n h p k _ = Unit {0}
 
 at_part : (o : Option (List Act)) (part : List Act) (f : List Act → Outcome) → o ≡ Some part → IsTaken (in_attempt o f) → IsTaken (f part)
@@ -93,6 +99,16 @@ verified_m4 d p k part x o is s =
     let t : IsTaken (m4_verdict_by d p k part (Some x)) = subst (λ (y : Option Derivation). IsTaken (m4_verdict_by d p k part y)) is s in
     passed_mic d.akm x.ptk.kck k _ (passed (list_any (λ c. c == k.fields.counter) (offered p M3 part)) _ _ t).1
 
+verified_g1 : (d : Domain) (kept : Option ℕ) (k : KeyMessage) (x : Derivation) (o : Option Derivation) → o ≡ Some x → IsTaken (g1_verdict_by d kept k o) → HasMicOf d.akm x.ptk.kck k
+verified_g1 d kept k x o is s =
+    let t : IsTaken (g1_verdict_by d kept k (Some x)) = subst (λ (y : Option Derivation). IsTaken (g1_verdict_by d kept k y)) is s in
+    passed_mic d.akm x.ptk.kck k _ (passed_above kept k.fields.counter _ t)
+
+verified_g2 : (d : Domain) (h : List Act) (p : Node) (k : KeyMessage) (x : Derivation) (o : Option Derivation) → o ≡ Some x → IsTaken (g2_verdict_by d h p k o) → HasMicOf d.akm x.ptk.kck k
+verified_g2 d h p k x o is s =
+    let t : IsTaken (g2_verdict_by d h p k (Some x)) = subst (λ (y : Option Derivation). IsTaken (g2_verdict_by d h p k y)) is s in
+    passed_mic d.akm x.ptk.kck k _ (passed (list_any (λ c. c == k.fields.counter) (offered p G1 (handshake groups.Gtk p h))) _ _ t).1
+
 never : {C : Type 0} (why : Reason) → IsTaken (Refused why) → C
 never why (inl s) = absurd (cc s)
 never why (inr s) = absurd (cc s)
@@ -104,6 +120,8 @@ verified_by d drawn (Ap a) h p k M2 t =
     (passed (list_any (λ c. c == k.fields.counter) (offered p M1 part)) _ _ (taken_behind (not (by_connect part) || has_heard p (kind.Key M2) part) reason.Unawaited _ (at_part (attempt p h) part _ is t))).1
 verified_by d drawn (Sta s) h p k M3 t = λ y is. verified_m3 d (kept_counter p (chain p h)) k y (m3_keying p h) is t
 verified_by d drawn (Ap a) h p k M4 t = λ part x awaited is. verified_m4 d p k part x (m4_keying p part) is (at_part (attempt p h) part _ awaited t)
+verified_by d drawn (Sta s) h p k G1 t = λ x is. verified_g1 d (kept_counter p (chain p h)) k x (session p h) is t
+verified_by d drawn (Ap a) h p k G2 t = λ x is. verified_g2 d h p k x (owing groups.Gtk p h) is t
 verified_by d drawn n h p k _ t = never reason.Unawaited t
 
 -- from the peer that its header names
@@ -149,8 +167,12 @@ message_verified d n h octets k p M4 s reads v is =
     let x = mapped (λ (x : Derivation). frame_seal x.ptk.kck k.octets) (option_and_then (λ (part : List Act). m4_keying p part) (attempt p h)) s is in
     let at = in_some (m4_keying p) (attempt p h) x.0 x.1.0 in
     is_verified d.akm octets (Keyed k) k x.0.ptk.kck s reads refl x.1.1 (v at.0 x.0 at.1.0 at.1.1)
-message_verified d n h octets k p G1 s reads v is = absurd (cc is)
-message_verified d n h octets k p G2 s reads v is = absurd (cc is)
+message_verified d n h octets k p G1 s reads v is =
+    let x = mapped (λ (x : Derivation). frame_seal x.ptk.kck k.octets) (session p h) s is in
+    is_verified d.akm octets (Keyed k) k x.0.ptk.kck s reads refl x.1.1 (v x.0 x.1.0)
+message_verified d n h octets k p G2 s reads v is =
+    let x = mapped (λ (x : Derivation). frame_seal x.ptk.kck k.octets) (owing groups.Gtk p h) s is in
+    is_verified d.akm octets (Keyed k) k x.0.ptk.kck s reads refl x.1.1 (v x.0 x.1.0)
 
 seal_from : (d : Domain) (first : ℕ) (n : Node) (h : List Act) (octets : List ℕ) (k : KeyMessage) (s : Seal) (o : Option Node) → peer_of d n k.header.a2 ≡ o → Reads d.akm octets (Keyed k) → IsTaken (first_verdict d first n h (Keyed k))
     → message_seal d n h k k.message o ≡ Some s → IsVerified d.akm octets s
@@ -235,18 +257,85 @@ quiet_m3 d n h p part x past = refl
 quiet_again : (p : Node) (m : Message) (sends : ℕ) (e : Act) → is_quiet e ≡ true → are_quiet (again_or_give_up p m sends e) ≡ true
 quiet_again p m sends e quiet = quiet_if (nat_lt sends most_sends) (e ∷ []) (GaveUp p m ∷ Closed p Attempt ∷ []) (ap (λ (b : Bool). b && true) quiet) refl
 
-quiet_retry : (d : Domain) (n : Node) (h : List Act) (p : Node) (o : Option (List Act)) → are_quiet (retry_acts d n h p o) ≡ true
-quiet_retry d n h p None = refl
-quiet_retry d n h p (Some part) =
-    quiet_if (by_connect part) (retry_attempt d n h p part) (Idle why.Nothing ∷ [])
-    (
+quiet_close : (p : Node) (sends : ℕ) (e : Act) → is_quiet e ≡ true → are_quiet (again_or_close p sends e) ≡ true
+quiet_close p sends e quiet = quiet_if (nat_lt sends most_sends) (e ∷ []) (GaveUp p G1 ∷ Closed p Session ∷ []) (ap (λ (b : Bool). b && true) quiet) refl
+
+quiet_retry_session : (d : Domain) (n : Node) (h : List Act) (p : Node) (o : Option Derivation) → are_quiet (retry_session d n h p o) ≡ true
+quiet_retry_session d n h p None = refl
+quiet_retry_session d n h p (Some x) = quiet_close p (sent_count p G1 (handshake groups.Gtk p h)) (g1_to d n p h x) refl
+
+quiet_retry_attempt : (d : Domain) (n : Node) (h : List Act) (p : Node) (part : List Act) → are_quiet (retry_attempt d n h p part) ≡ true
+quiet_retry_attempt d n h p part =
     quiet_if (has_heard p (kind.Key M2) part)
     (again_or_give_up p M3 (sent_count p M3 part) (m3_again d n h p part (derivation p part) (before_sent p (kind.Key M3) h)))
     (again_or_give_up p M1 (sent_count p M1 part) (sent_m1 d n p (next_in_attempt p (chain p h)) (own part)))
     (quiet_again p M3 (sent_count p M3 part) (m3_again d n h p part (derivation p part) (before_sent p (kind.Key M3) h)) (quiet_m3 d n h p part (derivation p part) (before_sent p (kind.Key M3) h)))
     (quiet_again p M1 (sent_count p M1 part) (sent_m1 d n p (next_in_attempt p (chain p h)) (own part)) refl)
-    )
-    refl
+
+quiet_retry : (d : Domain) (n : Node) (h : List Act) (p : Node) (o : Option (List Act)) → are_quiet (retry_acts d n h p o) ≡ true
+quiet_retry d n h p None = quiet_retry_session d n h p (owing groups.Gtk p h)
+quiet_retry d n h p (Some part) =
+    quiet_if (by_connect part) (retry_attempt d n h p part) (retry_session d n h p (owing groups.Gtk p h))
+    (quiet_retry_attempt d n h p part) (quiet_retry_session d n h p (owing groups.Gtk p h))
+
+-- what follows M4, and what an access point sends for a new group key
+quiet_newer : (d : Domain) (n p : Node) (h : List Act) (x : Derivation) (b : Bool) → are_quiet (newer_acts d n p h x b) ≡ true
+quiet_newer d n p h x false = refl
+quiet_newer d n p h x true = refl
+
+quiet_append : (f g : List Act) → are_quiet f ≡ true → are_quiet g ≡ true → are_quiet (f ++ g) ≡ true
+quiet_append [] g one two = two
+quiet_append (e ∷ f) g one two = let w = not_quiet (is_quiet e) (are_quiet f) one in both_quiet (is_quiet e) (are_quiet (f ++ g)) w.0 (quiet_append f g w.1 two)
+  where
+    both_quiet : (b c : Bool) → b ≡ true → c ≡ true → (b && c) ≡ true
+    both_quiet true c s t = t
+    both_quiet false c s t = absurd (cc s)
+
+-- what follows the Took of an M4
+quiet_m4 : (d : Domain) (n p : Node) (h : List Act) (octets : List ℕ) (k : KeyMessage) (x : Derivation)
+    → are_quiet ((close_session p (session p h) ++ Installed (One p) (Pairwise x.ptk.tk x.inputs) ∷ Finished p x.inputs ∷ [])
+    ++ newer_acts d n p (add (m4_acts octets k p x (session p h)) h) x (carried_older p h (before_sent p (kind.Key M3) h))) ≡ true
+quiet_m4 d n p h octets k x =
+    quiet_append (close_session p (session p h) ++ Installed (One p) (Pairwise x.ptk.tk x.inputs) ∷ Finished p x.inputs ∷ [])
+    (newer_acts d n p (add (m4_acts octets k p x (session p h)) h) x (carried_older p h (before_sent p (kind.Key M3) h)))
+    (quiet_session p (session p h) (Installed (One p) (Pairwise x.ptk.tk x.inputs) ∷ Finished p x.inputs ∷ []) refl)
+    (quiet_newer d n p (add (m4_acts octets k p x (session p h)) h) x (carried_older p h (before_sent p (kind.Key M3) h)))
+
+quiet_to : (d : Domain) (n p : Node) (h : List Act) (o : Option Derivation) → are_quiet (to_session d n p h o) ≡ true
+quiet_to d n p h None = refl
+quiet_to d n p h (Some x) = refl
+
+quiet_all : (d : Domain) (n : Node) (k : ℕ) (h : List Act) → are_quiet (to_sessions d n k h) ≡ true
+quiet_all d n zero h = refl
+quiet_all d n (suc k) h =
+    quiet_append (to_sessions d n k h) (to_session d n (Sta k) (add (to_sessions d n k h) h) (session (Sta k) (add (to_sessions d n k h) h)))
+    (quiet_all d n k h) (quiet_to d n (Sta k) (add (to_sessions d n k h) h) (session (Sta k) (add (to_sessions d n k h) h)))
+
+quiet_rekey : (d : Domain) (first : ℕ) (n : Node) (h g : List Act) → RekeyRow (here d first n) h g → are_quiet g ≡ true
+quiet_rekey d first n h g (Pending late is) = ap are_quiet is
+quiet_rekey d first n h g (rekey.Spent all many is) = ap are_quiet is
+quiet_rekey d first n h g (Renews role all few is) = ap are_quiet is ∙ quiet_all d n (length d.stas) (next_key (here d first n) h ∷ h)
+
+quiet_closed : (p : Node) (o : Option Derivation) → are_quiet (close_session p o) ≡ true
+quiet_closed p None = refl
+quiet_closed p (Some x) = refl
+
+quiet_left : (o p : Option Node) → are_quiet (close_pending o ++ close_associated p) ≡ true
+quiet_left None None = refl
+quiet_left None (Some p) = refl
+quiet_left (Some o) None = refl
+quiet_left (Some o) (Some p) = refl
+
+quiet_nothing : (g : List Act) → are_quiet g ≡ true → are_quiet (or_nothing g) ≡ true
+quiet_nothing [] quiet = refl
+quiet_nothing (e ∷ g) quiet = quiet
+
+quiet_switch_by : (b : Bool) (e : Act) → is_quiet e ≡ true → are_quiet (cond b [] (e ∷ [])) ≡ true
+quiet_switch_by true e quiet = refl
+quiet_switch_by false e quiet = ap (λ (b : Bool). b && true) quiet
+
+quiet_switch : (d : Domain) (a : ℕ) (h : List Act) → are_quiet (switch_acts d a h) ≡ true
+quiet_switch d a h = quiet_switch_by (is_current groups.Gtk h || any_owes groups.Gtk _ h) _ refl
 
 quiet_connect : (d : Domain) (first : ℕ) (n : Node) (h : List Act) (p : Node) → are_quiet (connect_acts d first n h p) ≡ true
 quiet_connect d first n h p = quiet_dropped (pending h) (associated h) (Opened p Connect ∷ Drew (Nonce (next_nonce d first n h)) ∷ sent_assoc_req d n p ∷ []) refl
@@ -279,9 +368,17 @@ row_noted d first n h octets r facts g from taken k o s reads (By_repeated_m3 ro
     notes d octets taken s (cc head) (is_verified d.akm octets r row.k row.y.key.ptk.kck s reads row.is (cc head)
     (verified_row d first n h r row.k M3 row.p row.is row.message_is row.from (answered_first d first n h r facts row.answered) row.y row.awaited))
 row_noted d first n h octets r facts g from taken k o s reads (By_m4 row) there =
-    let head = head_noted from taken k o s _ _ g row.says (quiet_session row.p (session row.p h) _ refl) there in
+    let head = head_noted from taken k o s _ _ g row.says (quiet_m4 d n row.p h octets row.k row.x) there in
     notes d octets taken s (cc head) (is_verified d.akm octets r row.k row.x.ptk.kck s reads row.is (cc head)
     (verified_row d first n h r row.k M4 row.p row.is row.message_is row.from (accepted_first d first n h r facts row.accepted) row.part row.x row.awaited row.keyed))
+row_noted d first n h octets r facts g from taken k o s reads (By_g1 row) there =
+    let head = head_noted from taken k o s _ _ g row.says (quiet_give row.p (mac d row.p) (carried facts.data_) (find_key (carried facts.data_).key (memory groups.Gtk row.p h)) (sent_g2 d n row.p row.x row.k.fields.counter ∷ []) refl) there in
+    notes d octets taken s (cc head) (is_verified d.akm octets r row.k row.x.ptk.kck s reads row.is (cc head)
+    (verified_row d first n h r row.k G1 row.p row.is row.message_is row.from (accepted_first d first n h r facts row.accepted) row.x row.awaited))
+row_noted d first n h octets r facts g from taken k o s reads (By_g2 row) there =
+    let head = head_noted from taken k o s _ _ g row.says refl there in
+    notes d octets taken s (cc head) (is_verified d.akm octets r row.k row.x.ptk.kck s reads row.is (cc head)
+    (verified_row d first n h r row.k G2 row.p row.is row.message_is row.from (accepted_first d first n h r facts row.accepted) row.x row.awaited))
 row_noted d first n h octets r facts g from taken k o s reads (By_ignored row) there = absurd (none_noted from taken k o s g (ap are_quiet row.says) there)
 row_noted d first n h octets r facts g from taken k o s reads (By_refusal row) there =
     let head = head_noted from taken k o s _ _ g row.says (quiet_response d n (sender d n r) (kind_of r) row.why) there in
@@ -293,14 +390,37 @@ connect_quiet : (d : Domain) (first : ℕ) (n : Node) (h : List Act) (p : Node) 
 connect_quiet d first n h p g (Spent many is) = ap are_quiet is
 connect_quiet d first n h p g (Asks few is) = ap are_quiet is ∙ quiet_connect d first n h p
 
+event_noted : (d : Domain) (first : ℕ) (n : Node) (h : List Act) (event : NodeEvent) (g : List Act) (from : Option Node) (octets : List ℕ) (k : Kind) (o : Outcome) (s : Seal)
+    → RowOf (here d first n) h event g → In (noting from octets k o s) g → (event ≡ Take octets) × IsVerified d.akm octets s
+event_noted d first n h (Take octets) g from taken k o s row there =
+    let n : Notes d octets taken s = row_noted d first n h octets row.r row.facts g from taken k o s row.reads row.row there in
+    (ap (λ (x : List ℕ). Take x) n.0, subst (λ (x : List ℕ). IsVerified d.akm x s) n.0 n.1)
+event_noted d first n h (Begin a) g from taken k o s row there = absurd (none_noted from taken k o s g (connect_quiet d first n h (Ap a) g row) there)
+event_noted d first n h (Retry p) g from taken k o s is there = absurd (none_noted from taken k o s g (ap are_quiet is ∙ quiet_retry d n h (Sta p) (attempt (Sta p) h)) there)
+event_noted d first n h Rekey g from taken k o s row there = absurd (none_noted from taken k o s g (quiet_rekey d first n h g row) there)
+event_noted d first n h (Expire p) g from taken k o s is there =
+    absurd (none_noted from taken k o s g (ap are_quiet is ∙ quiet_nothing (close_attempt (Sta p) (attempt (Sta p) h) ++ close_session (Sta p) (session (Sta p) h))
+    (quiet_attempt (Sta p) (attempt (Sta p) h) (close_session (Sta p) (session (Sta p) h)) (quiet_closed (Sta p) (session (Sta p) h)))) there)
+event_noted d first n h Leave g from taken k o s is there =
+    absurd (none_noted from taken k o s g (ap are_quiet is ∙ quiet_nothing (close_pending (pending h) ++ close_associated (associated h)) (quiet_left (pending h) (associated h))) there)
+
+-- the switch notes nothing
+pub in_switched : (d : Domain) (n : Node) (h acts : List Act) (x : Act) → ((a : ℕ) (after : List Act) → In x (switch_acts d a after) → ⊥) → In x (and_switch d n h acts) → In x acts
+in_switched d (Sta s) h acts x none there = there
+in_switched d (Ap a) h acts x none there = go acts there
+  where
+    go : (g : List Act) → In x (g ++ switch_acts d a (add acts h)) → In x g
+    go [] there = absurd (none a (add acts h) there)
+    go (e ∷ g) (inl here) = inl here
+    go (e ∷ g) (inr later) = inr (go g later)
+
 -- the event is that these octets came, and they verified
 pub noted_verified : (d : Domain) (first : ℕ) (n : Node) (h : List Act) (event : NodeEvent) (g : List Act) (from : Option Node) (octets : List ℕ) (k : Kind) (o : Outcome) (s : Seal)
     → Adds (here d first n) h event g → In (Took from octets k o (Some s)) g → (event ≡ Take octets) × IsVerified d.akm octets s
-noted_verified d first n h (Take octets) g from taken k o s row there =
-    let n : Notes d octets taken s = row_noted d first n h octets row.r row.facts g from taken k o s row.reads row.row there in
-    (ap (λ (x : List ℕ). Take x) n.0, subst (λ (x : List ℕ). IsVerified d.akm x s) n.0 n.1)
-noted_verified d first n h (Begin a) g from taken k o s row there = absurd (none_noted from taken k o s g (connect_quiet d first n h (Ap a) g row) there)
-noted_verified d first n h (Retry p) g from taken k o s is there = absurd (none_noted from taken k o s g (ap are_quiet is ∙ quiet_retry d n h (Sta p) (attempt (Sta p) h)) there)
+noted_verified d first n h event g from octets k o s adds there =
+    event_noted d first n h event adds.acts from octets k o s adds.row
+    (in_switched d n h adds.acts (noting from octets k o s) (λ a after in_it. none_noted from octets k o s (switch_acts d a after) (quiet_switch d a after) in_it)
+    (subst (λ (x : List Act). In (noting from octets k o s) x) adds.is there))
 
 -- ---- and wherever it verified
 
@@ -318,9 +438,18 @@ message_has d n h k p M3 facts a why (Is_m3 e w) t s = (frame_seal w.0.key.ptk.k
 message_has d n h k p M3 facts a why (Is_m1 e w) t s = absurd (cc e)
 message_has d n h k p M3 facts a why (Is_m2 e w) t s = absurd (cc e)
 message_has d n h k p M3 facts a why (Is_m4 e w) t s = absurd (cc e)
+message_has d n h k p M2 facts a why (Is_g1 e w) t s = absurd (cc e)
+message_has d n h k p M2 facts a why (Is_g2 e w) t s = absurd (cc e)
+message_has d n h k p M3 facts a why (Is_g1 e w) t s = absurd (cc e)
+message_has d n h k p M3 facts a why (Is_g2 e w) t s = absurd (cc e)
+message_has d n h k p G1 facts a why (Is_g1 e w) t s = (frame_seal w.0.ptk.kck k.octets, ap (option_map (λ (x : Derivation). frame_seal x.ptk.kck k.octets)) w.1)
+message_has d n h k p G1 facts a why (Is_m1 e w) t s = absurd (cc e)
+message_has d n h k p G1 facts a why (Is_m2 e w) t s = absurd (cc e)
+message_has d n h k p G1 facts a why (Is_m3 e w) t s = absurd (cc e)
+message_has d n h k p G1 facts a why (Is_m4 e w) t s = absurd (cc e)
+message_has d n h k p G1 facts a why (Is_g2 e w) t s = absurd (cc e)
 message_has d n h k p M1 facts a why w t s = absurd (unrefused a why t s)
 message_has d n h k p M4 facts a why w t s = absurd (unrefused a why t s)
-message_has d n h k p G1 facts a why w t s = absurd (unrefused a why t s)
 message_has d n h k p G2 facts a why w t s = absurd (unrefused a why t s)
 
 seal_there : (d : Domain) (first : ℕ) (n : Node) (h : List Act) (r : Reading) (facts : Facts) (why : Reason) → IsTaken (first_verdict d first n h r) → verdict d first n h r facts ≡ Refused why → (s : Seal) × (seal_in d n h r ≡ Some s)
@@ -380,6 +509,8 @@ has_noted d first n h octets r facts g (By_m2 row) s = (_, at_head (sender d n r
 has_noted d first n h octets r facts g (By_m3 row) s = (_, at_head (sender d n r) (Some row.p) octets (kind_of r) (kind.Key M3) _ Accepted _ _ g row.from (kind_is r row.k M3 row.is row.message_is) row.accepted row.says)
 has_noted d first n h octets r facts g (By_repeated_m3 row) s = (_, at_head (sender d n r) (Some row.p) octets (kind_of r) (kind.Key M3) _ Answered _ _ g row.from (kind_is r row.k M3 row.is row.message_is) row.answered row.says)
 has_noted d first n h octets r facts g (By_m4 row) s = (_, at_head (sender d n r) (Some row.p) octets (kind_of r) (kind.Key M4) _ Accepted _ _ g row.from (kind_is r row.k M4 row.is row.message_is) row.accepted row.says)
+has_noted d first n h octets r facts g (By_g1 row) s = (_, at_head (sender d n r) (Some row.p) octets (kind_of r) (kind.Key G1) _ Accepted _ _ g row.from (kind_is r row.k G1 row.is row.message_is) row.accepted row.says)
+has_noted d first n h octets r facts g (By_g2 row) s = (_, at_head (sender d n r) (Some row.p) octets (kind_of r) (kind.Key G2) _ Accepted _ _ g row.from (kind_is r row.k G2 row.is row.message_is) row.accepted row.says)
 has_noted d first n h octets r facts g (By_ignored row) s = absurd (not_ignored (first_verdict d first n h r) (further d.akm r facts) (past_far (first_verdict d first n h r) (kind_of r) s) row.ignored)
 has_noted d first n h octets r facts g (By_refusal row) s =
     let far : comes_so_far (first_verdict d first n h r) ≡ true = past_far (first_verdict d first n h r) (kind_of r) s in
@@ -390,9 +521,25 @@ has_noted d first n h octets r facts g (By_refusal row) s =
           (row.says ∙ ap (λ (x : Option Seal). Took (sender d n r) octets (kind_of r) (Refused row.why) x ∷ response d n (sender d n r) (kind_of r) row.why) is),
     )
 
-pub verified_noted : (d : Domain) (first : ℕ) (n : Node) (h : List Act) (octets : List ℕ) (r : Reading) (facts : Facts) (g : List Act) → Reads d.akm octets r → Knows d first n h r facts → Adds (here d first n) h (Take octets) g
+-- what stands among the acts of the event stands among all
+pub among_all : (d : Domain) (n : Node) (h acts : List Act) (x : Act) → In x acts → In x (and_switch d n h acts)
+among_all d (Sta s) h acts x there = there
+among_all d (Ap a) h acts x there = go acts there
+  where
+    go : (g : List Act) → In x g → In x (g ++ switch_acts d a (add acts h))
+    go [] none = absurd none
+    go (e ∷ g) (inl here) = inl here
+    go (e ∷ g) (inr later) = inr (go g later)
+
+verified_taken : (d : Domain) (first : ℕ) (n : Node) (h : List Act) (octets : List ℕ) (r : Reading) (facts : Facts) (g : List Act) → Reads d.akm octets r → Knows d first n h r facts → TakeRow (here d first n) h octets g
     → is_past_mic (first_verdict d first n h r) (kind_of r) ≡ true → HasNoted d first n h octets r facts g
-verified_noted d first n h octets r facts g reads knows row s =
+verified_taken d first n h octets r facts g reads knows row s =
     let rows = some_rows d first n h octets r facts in
     let same : g ≡ rows.0 = one_take d first n h octets g rows.0 row (record { r = r; reads = reads; facts = facts; knows = knows; row = rows.1 }) in
     subst (λ (x : List Act). HasNoted d first n h octets r facts x) (sym same) (has_noted d first n h octets r facts rows.0 rows.1 s)
+
+pub verified_noted : (d : Domain) (first : ℕ) (n : Node) (h : List Act) (octets : List ℕ) (r : Reading) (facts : Facts) (g : List Act) → Reads d.akm octets r → Knows d first n h r facts → Adds (here d first n) h (Take octets) g
+    → is_past_mic (first_verdict d first n h r) (kind_of r) ≡ true → HasNoted d first n h octets r facts g
+verified_noted d first n h octets r facts g reads knows adds s =
+    let w = verified_taken d first n h octets r facts adds.acts reads knows adds.row s in
+    (w.0, subst (λ (x : List Act). In (Took (sender d n r) octets (kind_of r) (verdict d first n h r facts) (Some w.0)) x) (sym adds.is) (among_all d n h adds.acts _ w.1))

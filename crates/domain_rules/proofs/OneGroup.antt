@@ -1,10 +1,10 @@
 -- An event adds one group of acts.
-use Rattle.std.proofs.Common.{◌≡◌, ℕ, List, [], ◌∷◌, ◌++◌, Option, Some, None, refl, sym, subst, ap, ◌∙◌, arith}
+use Rattle.std.proofs.Common.{◌≡◌, ◌⊎◌, ℕ, true, false, List, [], ◌∷◌, ◌++◌, Option, Some, None, refl, sym, subst, ap, ◌∙◌, arith, inl, inr}
 use Rattle.std.specs.Prelude.{unwrap_or}
 use Rattle.domain_base.specs.declared.names.Node.{Node}
 use Rattle.domain_base.specs.declared.names.Node.TheVariants.{Ap}
 use Rattle.eapol_key.specs.declared.messages.Message.{Message}
-use Rattle.eapol_key.specs.declared.messages.Message.TheVariants.{M1, M2, M3, M4}
+use Rattle.eapol_key.specs.declared.messages.Message.TheVariants.{M1, M2, M3, M4, G1, G2}
 use Rattle.key_hierarchy.specs.Keys.{ptk}
 use Rattle.key_hierarchy.specs.declared.inputs.Inputs.{Inputs}
 use Rattle.run_journal.specs.declared.domain.Domain.{Domain}
@@ -23,21 +23,24 @@ use Rattle.run_journal.specs.Acts.{Derivation, GroupKey}
 use Rattle.domain_rules.specs.Counters.{next_in_attempt}
 use Rattle.domain_rules.specs.GroupKeys.{newest, newest_uses, give}
 use Rattle.rsn_elements.specs.Elements.{ElementFields}
-use Rattle.run_journal.specs.Questions.{attempt, chain, session}
+use Rattle.run_journal.specs.Questions.{attempt, chain, session, before_sent, add}
 use Rattle.domain_rules.specs.Network.{mac, inputs, root}
 use Rattle.domain_rules.specs.Reading.{Management, KeyMessage, Reading, Managed, Keyed, kind_of}
-use Rattle.domain_rules.specs.Frames.{sent_assoc_resp, sent_m1, sent_m2, sent_m3, sent_m4, frame_seal, keyed_by}
+use Rattle.domain_rules.specs.Frames.{sent_assoc_resp, sent_m1, sent_m2, sent_m3, sent_m4, sent_g2, frame_seal, keyed_by}
 use Rattle.domain_rules.specs.Facts.{Facts}
 use Rattle.domain_rules.specs.Verdict.{Knows, verdict}
 use Rattle.domain_rules.specs.StationKeys.{Keying, m3_keying}
 use Rattle.domain_rules.specs.AccessPointKeys.{m4_keying}
+use Rattle.domain_rules.specs.AccessPointRows.{carried_older, m4_acts, newer_acts, RekeyRow, Pending, Renews}
+use Rattle.domain_rules.specs.AccessPointRows as rekey
+use Rattle.domain_rules.specs.Owing.{owing, and_switch}
 use Rattle.domain_rules.specs.Asking.{own}
-use Rattle.domain_rules.specs.Rows.{NodeEvent, Take, Begin, Retry, refused_seal, response, TakeRows, By_assoc_req, By_assoc_resp, By_m1, By_m2, By_m3, By_repeated_m3, By_m4, By_ignored, By_refusal, TakeRow, Adds}
+use Rattle.domain_rules.specs.Rows.{NodeEvent, Take, Begin, Retry, Rekey, Expire, Leave, refused_seal, response, TakeRows, By_assoc_req, By_assoc_resp, By_m1, By_m2, By_m3, By_repeated_m3, By_m4, By_g1, By_g2, By_ignored, By_refusal, TakeRow, RowOf, Adds}
 use Rattle.domain_rules.specs.Closing.{close_attempt, close_session, next_nonce, sender}
 use Rattle.domain_rules.specs.StationRows.{carried, ConnectRow, Spent, Asks}
 use Rattle.domain_rules.specs.Here.{here}
 use Rattle.domain_rules.proofs.OneReading.{one_reading}
-use Rattle.domain_rules.proofs.OneOutcome.{one_verdict, same_carried}
+use Rattle.domain_rules.proofs.OneOutcome.{one_verdict, same_carried, same_carried_g1}
 use Rattle.run_journal.specs.GroupKinds as groups
 
 -- ---- the acts, as a function of the outcome
@@ -69,18 +72,29 @@ abbrev repeated_acts : Domain → Node → List ℕ → Node → KeyMessage → 
 repeated_acts d n octets p k None = []
 repeated_acts d n octets p k (Some y) = Took (Some p) octets (kind.Key M3) Answered (Some (frame_seal y.key.ptk.kck k.octets)) ∷ sent_m4 d n p y.key k.fields.counter ∷ []
 
-abbrev m4_acts : List Act → List ℕ → Node → KeyMessage → Option Derivation → List Act
-m4_acts h octets p k None = []
-m4_acts h octets p k (Some x) =
-    Took (Some p) octets (kind.Key M4) Accepted (Some (frame_seal x.ptk.kck k.octets)) ∷ close_session p (session p h)
-    ++ Installed (One p) (Pairwise x.ptk.tk x.inputs) ∷ Finished p x.inputs ∷ []
+abbrev taken_m4 : Domain → Node → List Act → List ℕ → Node → KeyMessage → Option Derivation → List Act
+taken_m4 d n h octets p k None = []
+taken_m4 d n h octets p k (Some x) =
+    m4_acts octets k p x (session p h)
+    ++ newer_acts d n p (add (m4_acts octets k p x (session p h)) h) x (carried_older p h (before_sent p (kind.Key M3) h))
+
+abbrev g1_acts : Domain → Node → List Act → List ℕ → Node → KeyMessage → GroupKey → Option Derivation → List Act
+g1_acts d n h octets p k g None = []
+g1_acts d n h octets p k g (Some x) =
+    Took (Some p) octets (kind.Key G1) Accepted (Some (frame_seal x.ptk.kck k.octets))
+    ∷ give groups.Gtk p (mac d p) g h ∷ sent_g2 d n p x k.fields.counter ∷ []
+
+abbrev g2_acts : List ℕ → Node → KeyMessage → Option Derivation → List Act
+g2_acts octets p k None = []
+g2_acts octets p k (Some x) = Took (Some p) octets (kind.Key G2) Accepted (Some (frame_seal x.ptk.kck k.octets)) ∷ []
 
 abbrev keyed_acts : Domain → Node → List Act → List ℕ → Node → KeyMessage → GroupKey → Message → List Act
 keyed_acts d n h octets p k g M1 = m1_acts d n octets p k (inputs d (root d) n p (own (part_of p h)) k.fields.nonce)
 keyed_acts d n h octets p k g M2 = m2_acts d n h octets p k (inputs d (root d) n p (own (part_of p h)) k.fields.nonce)
 keyed_acts d n h octets p k g M3 = m3_acts d n h octets p k g (m3_keying p h)
-keyed_acts d n h octets p k g M4 = m4_acts h octets p k (m4_keying p (part_of p h))
-keyed_acts d n h octets p k g _ = []
+keyed_acts d n h octets p k g M4 = taken_m4 d n h octets p k (m4_keying p (part_of p h))
+keyed_acts d n h octets p k g G1 = g1_acts d n h octets p k g (session p h)
+keyed_acts d n h octets p k g G2 = g2_acts octets p k (owing groups.Gtk p h)
 
 abbrev accepted_acts : Domain → ℕ → Node → List Act → List ℕ → GroupKey → Option Node → Reading → List Act
 accepted_acts d first n h octets g (Some p) (Managed b e) = managed_acts d first n h octets p b.kind
@@ -126,9 +140,9 @@ answered_is : (d : Domain) (first : ℕ) (n : Node) (h : List Act) (octets : Lis
 answered_is d first n h octets r o k p x answered from is =
     ap (acts_by d first n h octets r x) answered ∙ ap (λ (o : Option Node). answered_acts d n h octets o r) from ∙ ap (answered_acts d n h octets (Some p)) is
 
--- what an accepted M3 carries is this
+-- what an accepted M3 or G1 carries is this
 abbrev Carries : Domain → ℕ → Node → List Act → Reading → Facts → GroupKey → Type 0
-Carries d first n h r facts x = (k : KeyMessage) → r ≡ Keyed k → k.message ≡ M3 → verdict d first n h r facts ≡ Accepted → carried facts.data_ ≡ x
+Carries d first n h r facts x = (k : KeyMessage) → r ≡ Keyed k → (k.message ≡ M3) ⊎ (k.message ≡ G1) → verdict d first n h r facts ≡ Accepted → carried facts.data_ ≡ x
 
 -- the acts of a row are these
 row_is : (d : Domain) (first : ℕ) (n : Node) (h : List Act) (octets : List ℕ) (r : Reading) (facts : Facts) (g : List Act) (x : GroupKey) → Carries d first n h r facts x → TakeRows (here d first n) h octets r facts g
@@ -142,19 +156,28 @@ row_is d first n h octets r facts g x carries (By_m2 row) =
     row.says ∙ ap (m2_acts d n h octets row.p row.k) (inputs_in d n row.p h row.part row.i row.k row.awaited row.inputs_are)
     ∙ sym (keyed_is d first n h octets r _ row.k M2 row.p x row.accepted row.from row.is row.message_is)
 row_is d first n h octets r facts g x carries (By_m3 row) =
-    row.says ∙ ap (λ (v : GroupKey). m3_acts d n h octets row.p row.k v (Some row.y)) (carries row.k row.is row.message_is row.accepted)
+    row.says ∙ ap (λ (v : GroupKey). m3_acts d n h octets row.p row.k v (Some row.y)) (carries row.k row.is (inl row.message_is) row.accepted)
     ∙ ap (m3_acts d n h octets row.p row.k x) (sym row.awaited)
     ∙ sym (keyed_is d first n h octets r _ row.k M3 row.p x row.accepted row.from row.is row.message_is)
 row_is d first n h octets r facts g x carries (By_repeated_m3 row) =
     row.says ∙ ap (repeated_acts d n octets row.p row.k) (sym row.awaited) ∙ sym (answered_is d first n h octets r _ row.k row.p x row.answered row.from row.is)
 row_is d first n h octets r facts g x carries (By_m4 row) =
-    row.says ∙ ap (m4_acts h octets row.p row.k) (sym row.keyed ∙ ap (m4_keying row.p) (part_is row.p h row.part row.awaited))
+    row.says ∙ ap (taken_m4 d n h octets row.p row.k) (sym row.keyed ∙ ap (m4_keying row.p) (part_is row.p h row.part row.awaited))
     ∙ sym (keyed_is d first n h octets r _ row.k M4 row.p x row.accepted row.from row.is row.message_is)
+row_is d first n h octets r facts g x carries (By_g1 row) =
+    row.says ∙ ap (λ (v : GroupKey). g1_acts d n h octets row.p row.k v (Some row.x)) (carries row.k row.is (inr row.message_is) row.accepted)
+    ∙ ap (g1_acts d n h octets row.p row.k x) (sym row.awaited)
+    ∙ sym (keyed_is d first n h octets r _ row.k G1 row.p x row.accepted row.from row.is row.message_is)
+row_is d first n h octets r facts g x carries (By_g2 row) =
+    row.says ∙ ap (g2_acts octets row.p row.k) (sym row.awaited)
+    ∙ sym (keyed_is d first n h octets r _ row.k G2 row.p x row.accepted row.from row.is row.message_is)
 row_is d first n h octets r facts g x carries (By_ignored row) = row.says ∙ sym (ap (acts_by d first n h octets r x) row.ignored)
 row_is d first n h octets r facts g x carries (By_refusal row) = row.says ∙ sym (ap (acts_by d first n h octets r x) row.refused)
 
 same_carries : (d : Domain) (first : ℕ) (n : Node) (h : List Act) (r : Reading) (f g : Facts) → Knows d first n h r f → Knows d first n h r g → Carries d first n h r f (carried g.data_)
-same_carries d first n h r f g s t k is m accepted =
+same_carries d first n h r f g s t k is (inr m) accepted =
+    ap carried (same_carried_g1 d first n h k f g m (subst (λ (v : Reading). Knows d first n h v f) is s) (subst (λ (v : Reading). Knows d first n h v g) is t) (subst (λ (v : Reading). verdict d first n h v f ≡ Accepted) is accepted))
+same_carries d first n h r f g s t k is (inl m) accepted =
     ap carried (same_carried d first n h k f g m (subst (λ (v : Reading). Knows d first n h v f) is s) (subst (λ (v : Reading). Knows d first n h v g) is t) (subst (λ (v : Reading). verdict d first n h v f ≡ Accepted) is accepted))
 
 pub one_take : (d : Domain) (first : ℕ) (n : Node) (h : List Act) (octets : List ℕ) (f g : List Act) → TakeRow (here d first n) h octets f → TakeRow (here d first n) h octets g → f ≡ g
@@ -172,7 +195,25 @@ one_connect d first n h p f g (Spent many is) (Asks few also) = absurd (omega ar
 one_connect d first n h p f g (Asks few is) (Spent many also) = absurd (omega arith)
 one_connect d first n h p f g (Asks few is) (Asks too also) = is ∙ sym also
 
+one_rekey : (d : Domain) (first : ℕ) (n : Node) (h f g : List Act) → RekeyRow (here d first n) h f → RekeyRow (here d first n) h g → f ≡ g
+one_rekey d first n h f g (Pending late is) (Pending too also) = is ∙ sym also
+one_rekey d first n h f g (Pending late is) (rekey.Spent all many also) = cc (late, all)
+one_rekey d first n h f g (Pending late is) (Renews role all few also) = cc (late, all)
+one_rekey d first n h f g (rekey.Spent all many is) (Pending late also) = cc (late, all)
+one_rekey d first n h f g (rekey.Spent all many is) (rekey.Spent too more also) = is ∙ sym also
+one_rekey d first n h f g (rekey.Spent all many is) (Renews role too few also) = absurd (omega (arith, many, few))
+one_rekey d first n h f g (Renews role all few is) (Pending late also) = cc (late, all)
+one_rekey d first n h f g (Renews role all few is) (rekey.Spent too many also) = absurd (omega (arith, many, few))
+one_rekey d first n h f g (Renews role all few is) (Renews too yet low also) = is ∙ sym also
+
+one_row : (d : Domain) (first : ℕ) (n : Node) (h : List Act) (event : NodeEvent) (f g : List Act) → RowOf (here d first n) h event f → RowOf (here d first n) h event g → f ≡ g
+one_row d first n h (Take octets) f g s t = one_take d first n h octets f g s t
+one_row d first n h (Begin a) f g s t = one_connect d first n h (Ap a) f g s t
+one_row d first n h (Retry p) f g s t = s ∙ sym t
+one_row d first n h Rekey f g s t = one_rekey d first n h f g s t
+one_row d first n h (Expire p) f g s t = s ∙ sym t
+one_row d first n h Leave f g s t = s ∙ sym t
+
 pub one_group : (d : Domain) (first : ℕ) (n : Node) (h : List Act) (event : NodeEvent) (f g : List Act) → Adds (here d first n) h event f → Adds (here d first n) h event g → f ≡ g
-one_group d first n h (Take octets) f g s t = one_take d first n h octets f g s t
-one_group d first n h (Begin a) f g s t = one_connect d first n h (Ap a) f g s t
-one_group d first n h (Retry p) f g s t = s ∙ sym t
+one_group d first n h event f g s t =
+    s.is ∙ ap (and_switch d n h) (one_row d first n h event s.acts t.acts s.row t.row) ∙ sym t.is

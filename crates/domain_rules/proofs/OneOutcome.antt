@@ -11,7 +11,7 @@ use Rattle.rsn_elements.specs.Elements.{ElementFields}
 use Rattle.rsn_elements.specs.Sent.{rsne_octets}
 use Rattle.domain_base.specs.declared.names.Akm.{Akm}
 use Rattle.eapol_key.specs.declared.messages.Message.{Message}
-use Rattle.eapol_key.specs.declared.messages.Message.TheVariants.{M1, M2, M3, M4}
+use Rattle.eapol_key.specs.declared.messages.Message.TheVariants.{M1, M2, M3, M4, G1, G2}
 use Rattle.run_journal.specs.declared.domain.Domain.{Domain}
 use Rattle.run_journal.specs.declared.acts.Kind.{Kind}
 use Rattle.run_journal.specs.declared.acts.Kind.TheVariants as kind
@@ -21,17 +21,19 @@ use Rattle.run_journal.specs.declared.acts.KeyDataFault.TheVariants as key_data
 use Rattle.run_journal.specs.declared.acts.Outcome.{Outcome}
 use Rattle.run_journal.specs.declared.acts.Outcome.TheVariants.{Accepted, Answered, Ignored, Refused}
 use Rattle.run_journal.specs.declared.acts.Act.{Act}
-use Rattle.run_journal.specs.Questions.{attempt, draws, chain}
+use Rattle.run_journal.specs.GroupKinds as groups
+use Rattle.run_journal.specs.Questions.{attempt, session, draws, chain, handshake}
 use Rattle.run_journal.specs.Acts.{Derivation}
 use Rattle.domain_rules.specs.Network.{bssid, direction, goes_like, peer_of, draw_end}
 use Rattle.domain_rules.specs.Reading.{Management, KeyMessage, Reading, NoFrame, PassedOver, NoElements, Managed, NoKeyFrame, NoMessage, Keyed, Sealed, Reads}
 use Rattle.domain_rules.specs.Facts.{Facts, is_same}
 use Rattle.domain_rules.specs.Verdict.{Knows, KnowsFrom, KnowsOf, ComesSoFar, unless_refused, first_verdict, further, key_further, and_then, verdict, from_peer, sender_in, management_sender, is_mine, is_mine_or_group, air_reason, key_verdict}
-use Rattle.domain_rules.specs.StationKeys.{KnowsM3, Keying, m3_keying, m3_verdict_by, taken_in, m3_key_data, m3_wrapped, is_group_key}
-use Rattle.domain_rules.specs.AccessPointKeys.{m4_keying, m4_verdict_by, m4_verdict, m2_key_data, requested_rsne}
+use Rattle.domain_rules.specs.StationKeys.{KnowsM3, Keying, m3_keying, m3_verdict_by, taken_in, m3_key_data, m3_wrapped, g1_verdict_by, g1_key_data, g1_wrapped, is_group_key}
+use Rattle.domain_rules.specs.Owing.{owing}
+use Rattle.domain_rules.specs.AccessPointKeys.{g2_verdict_by, m4_keying, m4_verdict_by, m4_verdict, m2_key_data, requested_rsne}
 use Rattle.domain_rules.specs.Asking.{in_attempt, above, by_connect, has_heard, kept_counter, offered}
 use Rattle.domain_rules.specs.Associating.{without_status, rsne_status, management_verdict}
-use Rattle.domain_rules.proofs.OneReading.{one_reading, same_m2, same_m3, same_opened}
+use Rattle.domain_rules.proofs.OneReading.{one_reading, same_m2, same_m3, same_g1, same_opened, same_opened_g1}
 
 -- ---- a frame is accepted, answered, ignored or refused
 
@@ -78,6 +80,14 @@ decided_wrapped : (akm : Akm) (u : Option (List ℕ)) (o : Option ElementFields)
 decided_wrapped akm None o = refused reason.Wrap
 decided_wrapped akm (Some plain) o = decided_group_key akm o
 
+decided_g1_data : (o : Option ElementFields) → Decided (g1_key_data o)
+decided_g1_data None = refused (reason.KeyData key_data.Unreadable)
+decided_g1_data (Some e) = decided_if (is_group_key e.gtk) _ _ (Took_in refl) (refused (reason.KeyData key_data.Gtk))
+
+decided_g1_wrapped : (u : Option (List ℕ)) (o : Option ElementFields) → Decided (g1_wrapped u o)
+decided_g1_wrapped None o = refused reason.Wrap
+decided_g1_wrapped (Some plain) o = decided_g1_data o
+
 decided_taken : (b : Bool) → Decided (taken_in b)
 decided_taken false = Took_in refl
 decided_taken true = Repeated refl
@@ -93,6 +103,17 @@ decided_m4 d p k part None = refused reason.Unawaited
 decided_m4 d p k part (Some x) =
     decided_if (list_any (λ c. c == k.fields.counter) (offered p M3 part)) _ _ (decided_if (bytes_eq k.fields.mic _) _ _ (Took_in refl) (refused reason.Mic)) (refused _)
 
+decided_g1 : (d : Domain) (kept : Option ℕ) (k : KeyMessage) (o : Option Derivation) → Decided (g1_verdict_by d kept k o)
+decided_g1 d kept k None = refused reason.Unawaited
+decided_g1 d kept k (Some x) =
+    decided_above kept k.fields.counter _ (decided_if (bytes_eq k.fields.mic _) _ _ (Took_in refl) (refused reason.Mic))
+
+decided_g2 : (d : Domain) (h : List Act) (p : Node) (k : KeyMessage) (o : Option Derivation) → Decided (g2_verdict_by d h p k o)
+decided_g2 d h p k None = refused reason.Unawaited
+decided_g2 d h p k (Some x) =
+    decided_if (list_any (λ c. c == k.fields.counter) (offered p G1 (handshake groups.Gtk p h))) _ _
+    (decided_if (bytes_eq k.fields.mic _) _ _ (Took_in refl) (refused reason.Mic)) (refused _)
+
 decided_management : (d : Domain) (drawn : ℕ) (n : Node) (h : List Act) (p : Node) (k : Kind) (b : Management) (e : ElementFields) → Decided (management_verdict d drawn n h p k b e)
 decided_management d drawn (Ap a) h p kind.AssocReq b e = decided_status (rsne_status d.akm e.rsne) _ (decided_if (nat_lt drawn draw_end) _ _ (Took_in refl) (refused reason.Spent))
 decided_management d drawn (Sta s) h p kind.AssocResp b e =
@@ -107,6 +128,8 @@ decided_key d drawn (Ap a) h p k M2 =
     (decided_if (list_any (λ c. c == k.fields.counter) (offered p M1 part)) _ _ (decided_if (bytes_eq k.fields.mic _) _ _ (Took_in refl) (refused reason.Mic)) (refused _)))
 decided_key d drawn (Sta s) h p k M3 = decided_m3 d (kept_counter p (chain p h)) k (m3_keying p h)
 decided_key d drawn (Ap a) h p k M4 = decided_attempt (attempt p h) _ (λ part. decided_m4 d p k part (m4_keying p part))
+decided_key d drawn (Sta s) h p k G1 = decided_g1 d (kept_counter p (chain p h)) k (session p h)
+decided_key d drawn (Ap a) h p k G2 = decided_g2 d h p k (owing groups.Gtk p h)
 decided_key d drawn n h p k _ = refused reason.Unawaited
 
 decided_first : (d : Domain) (first : ℕ) (n : Node) (h : List Act) (r : Reading) → Decided (first_verdict d first n h r)
@@ -125,6 +148,7 @@ decided_first d first n h (Sealed header way tid body) =
 decided_message : (akm : Akm) (m : Message) (facts : Facts) → Decided (key_further akm m facts)
 decided_message akm M2 facts = decided_key_data (requested_rsne facts.requested) facts.data_
 decided_message akm M3 facts = decided_wrapped akm facts.unwrapped facts.data_
+decided_message akm G1 facts = decided_g1_wrapped facts.unwrapped facts.data_
 decided_message akm _ facts = Took_in refl
 
 decided_further : (akm : Akm) (r : Reading) (facts : Facts) → Decided (further akm r facts)
@@ -187,12 +211,21 @@ pub record InKeyedAttempt (p : Node) (h : List Act) : Type 0 where
 abbrev pub HasKeying : Node → List Act → Type 0
 HasKeying p h = (y : Keying) × (m3_keying p h ≡ Some y)
 
+-- a session, and one that owes
+abbrev pub HasSession : Node → List Act → Type 0
+HasSession p h = (x : Derivation) × (session p h ≡ Some x)
+
+abbrev pub Owes : Node → List Act → Type 0
+Owes p h = (x : Derivation) × (owing groups.Gtk p h ≡ Some x)
+
 -- which message it is, and by what it is awaited
 pub data Awaited (p : Node) (h : List Act) (m : Message) : Type 0 where
   Is_m1 : m ≡ M1 → InAttempt p h → Awaited p h m
   Is_m2 : m ≡ M2 → InAttempt p h → Awaited p h m
   Is_m3 : m ≡ M3 → HasKeying p h → Awaited p h m
   Is_m4 : m ≡ M4 → InKeyedAttempt p h → Awaited p h m
+  Is_g1 : m ≡ G1 → HasSession p h → Awaited p h m
+  Is_g2 : m ≡ G2 → Owes p h → Awaited p h m
 
 -- the frame is taken: accepted or answered
 abbrev pub IsTaken : Outcome → Type 0
@@ -223,6 +256,16 @@ taken_m4 d p k part None (inl s) = absurd cc
 taken_m4 d p k part None (inr s) = absurd cc
 taken_m4 d p k part (Some x) s = (x, refl)
 
+taken_g1 : (d : Domain) (kept : Option ℕ) (k : KeyMessage) (o : Option Derivation) → IsTaken (g1_verdict_by d kept k o) → (x : Derivation) × (o ≡ Some x)
+taken_g1 d kept k None (inl s) = absurd cc
+taken_g1 d kept k None (inr s) = absurd cc
+taken_g1 d kept k (Some x) s = (x, refl)
+
+taken_g2 : (d : Domain) (h : List Act) (p : Node) (k : KeyMessage) (o : Option Derivation) → IsTaken (g2_verdict_by d h p k o) → (x : Derivation) × (o ≡ Some x)
+taken_g2 d h p k None (inl s) = absurd cc
+taken_g2 d h p k None (inr s) = absurd cc
+taken_g2 d h p k (Some x) s = (x, refl)
+
 in_m4 : (d : Domain) (p : Node) (h : List Act) (k : KeyMessage) → IsTaken (m4_verdict d h p k) → InKeyedAttempt p h
 in_m4 d p h k s =
     let a = taken_attempt (attempt p h) _ s in
@@ -238,6 +281,8 @@ key_kind d drawn (Sta sta) h p k M1 s = let x = taken_attempt (attempt p h) _ s 
 key_kind d drawn (Ap a) h p k M2 s = let x = taken_attempt (attempt p h) _ s in Is_m2 refl (x.0, x.1.0)
 key_kind d drawn (Sta sta) h p k M3 s = Is_m3 refl (taken_m3 d (kept_counter p (chain p h)) k (m3_keying p h) s)
 key_kind d drawn (Ap a) h p k M4 s = Is_m4 refl (in_m4 d p h k s)
+key_kind d drawn (Sta sta) h p k G1 s = Is_g1 refl (taken_g1 d (kept_counter p (chain p h)) k (session p h) s)
+key_kind d drawn (Ap a) h p k G2 s = Is_g2 refl (taken_g2 d h p k (owing groups.Gtk p h) s)
 key_kind d drawn n h p k _ s = never reason.Unawaited s
 
 and_taken : (a b : Outcome) → IsTaken (and_then a b) → IsTaken a
@@ -300,6 +345,16 @@ unanswered_m4 : (d : Domain) (p : Node) (k : KeyMessage) (part : List Act) (o : 
 unanswered_m4 d p k part None s = cc
 unanswered_m4 d p k part (Some x) s = unanswered_among (list_any (λ c. c == k.fields.counter) (offered p M3 part)) (bytes_eq k.fields.mic (mic d.akm x.ptk.kck k.octets)) reason.Mic _ s
 
+unanswered_g1 : (d : Domain) (kept : Option ℕ) (k : KeyMessage) (o : Option Derivation) → g1_verdict_by d kept k o ≡ Answered → ⊥
+unanswered_g1 d kept k None s = cc
+unanswered_g1 d None k (Some x) s = unanswered_if (bytes_eq k.fields.mic (mic d.akm x.ptk.kck k.octets)) reason.Mic s
+unanswered_g1 d (Some y) k (Some x) s = unanswered_among (nat_lt y k.fields.counter) (bytes_eq k.fields.mic (mic d.akm x.ptk.kck k.octets)) reason.Mic _ s
+
+unanswered_g2 : (d : Domain) (h : List Act) (p : Node) (k : KeyMessage) (o : Option Derivation) → g2_verdict_by d h p k o ≡ Answered → ⊥
+unanswered_g2 d h p k None s = cc
+unanswered_g2 d h p k (Some x) s =
+    unanswered_among (list_any (λ c. c == k.fields.counter) (offered p G1 (handshake groups.Gtk p h))) (bytes_eq k.fields.mic (mic d.akm x.ptk.kck k.octets)) reason.Mic _ s
+
 pub answered_kind : (d : Domain) (drawn : ℕ) (n : Node) (h : List Act) (p : Node) (k : KeyMessage) (m : Message) → key_verdict d drawn n h p k m ≡ Answered → (m ≡ M3) × HasKeying p h
 answered_kind d drawn (Sta sta) h p k M1 s =
     absurd (unanswered_in (attempt p h) _ (λ part t. unanswered_above (kept_counter p (chain p h)) k.fields.counter (answered_behind (not (by_connect part) || not (has_heard p kind.AssocResp part)) reason.Unawaited _ t)) s)
@@ -307,6 +362,8 @@ answered_kind d drawn (Ap a) h p k M2 s =
     absurd (unanswered_in (attempt p h) _ (λ part t. unanswered_among (list_any (λ c. c == k.fields.counter) (offered p M1 part)) (bytes_eq k.fields.mic _) reason.Mic _ (answered_behind (not (by_connect part) || has_heard p (kind.Key M2) part) reason.Unawaited _ t)) s)
 answered_kind d drawn (Sta sta) h p k M3 s = (refl, taken_m3 d (kept_counter p (chain p h)) k (m3_keying p h) (inr s))
 answered_kind d drawn (Ap a) h p k M4 s = absurd (unanswered_in (attempt p h) _ (λ part t. unanswered_m4 d p k part (m4_keying p part) t) s)
+answered_kind d drawn (Sta sta) h p k G1 s = absurd (unanswered_g1 d (kept_counter p (chain p h)) k (session p h) s)
+answered_kind d drawn (Ap a) h p k G2 s = absurd (unanswered_g2 d h p k (owing groups.Gtk p h) s)
 answered_kind d drawn n h p k _ s = cc
 
 unanswered_management : (d : Domain) (drawn : ℕ) (n : Node) (h : List Act) (p : Node) (k : Kind) (b : Management) (e : ElementFields) → management_verdict d drawn n h p k b e ≡ Answered → ⊥
@@ -340,6 +397,14 @@ same_message_further d h p M3 k f g (Is_m3 e y) s t = same_m3 d.akm y.0.key.ptk.
 same_message_further d h p M3 k f g (Is_m1 e y) s t = cc
 same_message_further d h p M3 k f g (Is_m2 e y) s t = cc
 same_message_further d h p M3 k f g (Is_m4 e y) s t = cc
+same_message_further d h p M3 k f g (Is_g1 e y) s t = cc
+same_message_further d h p M3 k f g (Is_g2 e y) s t = cc
+same_message_further d h p G1 k f g (Is_g1 e y) s t = same_g1 y.0.ptk.kek k f g (s y.0 y.1) (t y.0 y.1)
+same_message_further d h p G1 k f g (Is_m1 e y) s t = cc
+same_message_further d h p G1 k f g (Is_m2 e y) s t = cc
+same_message_further d h p G1 k f g (Is_m3 e y) s t = cc
+same_message_further d h p G1 k f g (Is_m4 e y) s t = cc
+same_message_further d h p G1 k f g (Is_g2 e y) s t = cc
 same_message_further d h p _ k f g awaited s t = refl
 
 same_further : (d : Domain) (first : ℕ) (n : Node) (h : List Act) (r : Reading) (f g : Facts) → ComesSoFar (first_verdict d first n h r) → KnowsFrom d n h r f → KnowsFrom d n h r g → further d.akm r f ≡ further d.akm r g
@@ -394,6 +459,8 @@ keyed_m3 p h m e (Is_m1 f y) = cc
 keyed_m3 p h m e (Is_m2 f y) = cc
 keyed_m3 p h m e (Is_m3 f y) = y
 keyed_m3 p h m e (Is_m4 f y) = cc
+keyed_m3 p h m e (Is_g1 f y) = cc
+keyed_m3 p h m e (Is_g2 f y) = cc
 
 knows_m3 : (d : Domain) (h : List Act) (p : Node) (m : Message) (k : KeyMessage) (f : Facts) → m ≡ M3 → KnowsOf d.akm h p m k f → (y : Keying) → m3_keying p h ≡ Some y → KnowsM3 y.key.ptk.kek k f
 knows_m3 d h p m k f e knows y is = let all : KnowsOf d.akm h p M3 k f = subst (λ (x : Message). KnowsOf d.akm h p x k f) e knows in all y is
@@ -407,3 +474,40 @@ same_carried d first n h k f g m s t accepted =
     let opened : and_then Accepted (key_further d.akm k.message f) ≡ Accepted = subst (λ (x : Outcome). and_then x (key_further d.akm k.message f) ≡ Accepted) a accepted in
     let open3 : unless_refused Accepted (m3_wrapped d.akm f.unwrapped f.data_) ≡ Accepted = subst (λ (x : Message). unless_refused Accepted (key_further d.akm x f) ≡ Accepted) m opened in
     same_opened d.akm y.0.key.ptk.kek k f g (knows_m3 d h behind.0 k.message k f m (s far behind.0 behind.1.0) y.0 y.1) (knows_m3 d h behind.0 k.message k g m (t far behind.0 behind.1.0) y.0 y.1) (not_refused d.akm f.unwrapped f.data_ open3)
+
+-- ---- the key data of a G1 that was accepted
+
+g1_data_by : (x : Option ElementFields) → (g1_key_data x ≡ Accepted) ⊎ ((w : Reason) × (g1_key_data x ≡ Refused w))
+g1_data_by None = inr (reason.KeyData key_data.Unreadable, refl)
+g1_data_by (Some e) = group_by (is_group_key e.gtk)
+
+g1_by : (u : Option (List ℕ)) (x : Option ElementFields) → (g1_wrapped u x ≡ Accepted) ⊎ ((w : Reason) × (g1_wrapped u x ≡ Refused w))
+g1_by None x = inr (reason.Wrap, refl)
+g1_by (Some plain) x = g1_data_by x
+
+not_refused_g1 : (u : Option (List ℕ)) (x : Option ElementFields) → unless_refused Accepted (g1_wrapped u x) ≡ Accepted → g1_wrapped u x ≡ Accepted
+not_refused_g1 u x s = elim (g1_by u x) [
+  | inl e ↦ e
+  | inr e ↦ absurd (unless_passed e.0 (g1_wrapped u x) s e.1)
+]
+
+session_g1 : (p : Node) (h : List Act) (m : Message) → m ≡ G1 → Awaited p h m → HasSession p h
+session_g1 p h m e (Is_m1 f y) = cc
+session_g1 p h m e (Is_m2 f y) = cc
+session_g1 p h m e (Is_m3 f y) = cc
+session_g1 p h m e (Is_m4 f y) = cc
+session_g1 p h m e (Is_g1 f y) = y
+session_g1 p h m e (Is_g2 f y) = cc
+
+knows_g1 : (d : Domain) (h : List Act) (p : Node) (m : Message) (k : KeyMessage) (f : Facts) → m ≡ G1 → KnowsOf d.akm h p m k f → (x : Derivation) → session p h ≡ Some x → KnowsM3 x.ptk.kek k f
+knows_g1 d h p m k f e knows x is = let all : KnowsOf d.akm h p G1 k f = subst (λ (y : Message). KnowsOf d.akm h p y k f) e knows in all x is
+
+pub same_carried_g1 : (d : Domain) (first : ℕ) (n : Node) (h : List Act) (k : KeyMessage) (f g : Facts) → k.message ≡ G1 → Knows d first n h (Keyed k) f → Knows d first n h (Keyed k) g → verdict d first n h (Keyed k) f ≡ Accepted → f.data_ ≡ g.data_
+same_carried_g1 d first n h k f g m s t accepted =
+    let a : first_verdict d first n h (Keyed k) ≡ Accepted = and_accepted _ _ accepted in
+    let far : ComesSoFar (first_verdict d first n h (Keyed k)) = subst ComesSoFar (sym a) tt in
+    let behind = taken_from (peer_of d n k.header.a2) (λ p. key_verdict d (first + draws h) n h p k k.message) (taken_behind (not (is_mine d n k.header) || goes_like k.direction (direction n)) reason.NotForMe _ (inl a)) in
+    let y = session_g1 behind.0 h k.message m (key_kind d (first + draws h) n h behind.0 k k.message behind.1.1) in
+    let opened : and_then Accepted (key_further d.akm k.message f) ≡ Accepted = subst (λ (x : Outcome). and_then x (key_further d.akm k.message f) ≡ Accepted) a accepted in
+    let open1 : unless_refused Accepted (g1_wrapped f.unwrapped f.data_) ≡ Accepted = subst (λ (x : Message). unless_refused Accepted (key_further d.akm x f) ≡ Accepted) m opened in
+    same_opened_g1 y.0.ptk.kek k f g (knows_g1 d h behind.0 k.message k f m (s far behind.0 behind.1.0) y.0 y.1) (knows_g1 d h behind.0 k.message k g m (t far behind.0 behind.1.0) y.0 y.1) (not_refused_g1 f.unwrapped f.data_ open1)

@@ -25,7 +25,7 @@ use Rattle.key_wrap.proofs.UniqueLemmas.{Wraps-unique}
 use Rattle.run_journal.specs.declared.acts.Outcome.TheVariants.{Accepted}
 use Rattle.domain_rules.specs.Facts.{Facts, ReadsKeyData, IsUnwrapped}
 use Rattle.domain_rules.specs.AccessPointKeys.{HasElements, IsRequested, KnowsM2, m2_key_data, request, requested_rsne}
-use Rattle.domain_rules.specs.StationKeys.{KnowsM3, m3_key_data, m3_wrapped}
+use Rattle.domain_rules.specs.StationKeys.{KnowsM3, m3_key_data, m3_wrapped, g1_key_data, g1_wrapped}
 use Rattle.domain_rules.specs.Reading.{Management, management_of, KeyMessage, Reading, NoFrame, PassedOver, NoElements, Managed, NoKeyFrame, NoMessage, Keyed, Sealed, Reads}
 
 -- ---- one message
@@ -214,6 +214,33 @@ same_unwrapped akm (Some a) (Some b) x y e s t = ap (m3_key_data akm) (same_key_
 pub same_m3 : (akm : Akm) (kek : List ℕ) (k : KeyMessage) (f g : Facts) → KnowsM3 kek k f → KnowsM3 kek k g → m3_wrapped akm f.unwrapped f.data_ ≡ m3_wrapped akm g.unwrapped g.data_
 same_m3 akm kek k f g s t =
     same_unwrapped akm f.unwrapped g.unwrapped f.data_ g.data_ (same_plain kek k.fields.key_data f.unwrapped g.unwrapped s.unwrapped t.unwrapped) s.data_ t.data_
+
+-- the same of G1
+same_unwrapped_g1 : (u v : Option (List ℕ)) (x y : Option ElementFields) → u ≡ v
+    → ((plain : List ℕ) → u ≡ Some plain → ReadsKeyData plain x) → ((plain : List ℕ) → v ≡ Some plain → ReadsKeyData plain y)
+    → g1_wrapped u x ≡ g1_wrapped v y
+same_unwrapped_g1 None None x y e s t = refl
+same_unwrapped_g1 (Some a) None x y e s t = cc
+same_unwrapped_g1 None (Some b) x y e s t = cc
+same_unwrapped_g1 (Some a) (Some b) x y e s t = ap g1_key_data (same_key_data a x y (s a refl) (t a (sym e)))
+
+pub same_g1 : (kek : List ℕ) (k : KeyMessage) (f g : Facts) → KnowsM3 kek k f → KnowsM3 kek k g
+    → g1_wrapped f.unwrapped f.data_ ≡ g1_wrapped g.unwrapped g.data_
+same_g1 kek k f g s t =
+    same_unwrapped_g1 f.unwrapped g.unwrapped f.data_ g.data_
+    (same_plain kek k.fields.key_data f.unwrapped g.unwrapped s.unwrapped t.unwrapped) s.data_ t.data_
+
+opened_g1 : (u v : Option (List ℕ)) (x y : Option ElementFields) → u ≡ v
+    → ((plain : List ℕ) → u ≡ Some plain → ReadsKeyData plain x) → ((plain : List ℕ) → v ≡ Some plain → ReadsKeyData plain y)
+    → g1_wrapped u x ≡ Accepted → x ≡ y
+opened_g1 None v x y e s t accepted = cc
+opened_g1 (Some a) v x y e s t accepted = same_key_data a x y (s a refl) (t a (sym e))
+
+pub same_opened_g1 : (kek : List ℕ) (k : KeyMessage) (f g : Facts) → KnowsM3 kek k f → KnowsM3 kek k g
+    → g1_wrapped f.unwrapped f.data_ ≡ Accepted → f.data_ ≡ g.data_
+same_opened_g1 kek k f g s t accepted =
+    opened_g1 f.unwrapped g.unwrapped f.data_ g.data_
+    (same_plain kek k.fields.key_data f.unwrapped g.unwrapped s.unwrapped t.unwrapped) s.data_ t.data_ accepted
 
 opened_by : (akm : Akm) (u v : Option (List ℕ)) (x y : Option ElementFields) → u ≡ v → ((plain : List ℕ) → u ≡ Some plain → ReadsKeyData plain x) → ((plain : List ℕ) → v ≡ Some plain → ReadsKeyData plain y)
     → m3_wrapped akm u x ≡ Accepted → x ≡ y

@@ -36,9 +36,9 @@ use Rattle.domain_rules.specs.Network.{address, bssid, direction}
 use Rattle.domain_rules.specs.Reading.{Management, Managed, KeyMessage, Keyed, IsManaged, Reads}
 use Rattle.domain_rules.specs.Asking.{replay_counter}
 use Rattle.domain_rules.specs.GroupKeys.{rsc_in}
-use Rattle.domain_rules.specs.Frames.{aid, assoc_req_elements, in_data, m2_frame, wrapped, m3_key_data, m3_frame, m4_frame}
+use Rattle.domain_rules.specs.Frames.{aid, assoc_req_elements, in_data, m2_frame, wrapped, m3_key_data, m3_frame, m4_frame, g1_key_data, g1_frame, g2_frame}
 use Rattle.domain_base.specs.Octets.{AreOctets}
-use Rattle.domain_rules.proofs.CarriedKey.{IsGroupKey, few_wrapped}
+use Rattle.domain_rules.proofs.CarriedKey.{IsGroupKey, few_wrapped, few_wrapped_g1}
 
 -- ---- elements
 
@@ -256,6 +256,36 @@ pub reads-m4 : (d : Domain) (n p : Node) (x : Derivation) (counter : ℕ) → Ha
     → Reads d.akm (in_data d n p (m4_frame d x counter)) (Keyed (m4_message d n p x counter))
 reads-m4 d n p x counter has l k c =
     reads-sealed d n p M4 x.ptk.kck (m4_fields d counter) has l k (fits-m4 d counter c) (message_sent M4 d.akm counter 0 [] [] refl)
+
+-- G1, before its MIC is put in: its nonce is zeros whatever is given
+abbrev pub g1_fields : Domain → Derivation → ℕ → GroupKey → ℕ → KeyFields
+g1_fields d x counter g rsc = sent_fields G1 d.akm counter [] rsc (wrapped x.ptk.kek (g1_key_data g))
+
+pub fits-g1 : (d : Domain) (x : Derivation) (counter : ℕ) (g : GroupKey) (rsc : ℕ) → counter < 2 ^ 64 → AreOctets x.ptk.kek → IsGroupKey g → FitsKeyFrame (g1_fields d x counter g rsc)
+fits-g1 d x counter g rsc c octets is = sent_fits G1 d.akm counter rsc (replicate 32 0) (wrapped x.ptk.kek (g1_key_data g)) c refl (few_wrapped_g1 x.ptk.kek g octets is)
+
+abbrev pub g1_message : Domain → Node → Node → Derivation → ℕ → GroupKey → ℕ → KeyMessage
+g1_message d n p x counter g rsc = key_message d n p G1 (with_mic d.akm x.ptk.kck (g1_fields d x counter g rsc)) (g1_frame d x counter g rsc)
+
+pub reads-g1 : (d : Domain) (n p : Node) (x : Derivation) (counter : ℕ) (g : GroupKey) (rsc : ℕ) → HasMic d.akm → IsAddress (address d n) → IsAddress (address d p) → counter < 2 ^ 64 → AreOctets x.ptk.kek → IsGroupKey g
+    → Reads d.akm (in_data d n p (g1_frame d x counter g rsc)) (Keyed (g1_message d n p x counter g rsc))
+reads-g1 d n p x counter g rsc has l k c octets is =
+    reads-sealed d n p G1 x.ptk.kck (g1_fields d x counter g rsc) has l k (fits-g1 d x counter g rsc c octets is) (message_sent G1 d.akm counter rsc [] (wrapped x.ptk.kek (g1_key_data g)) tt)
+
+-- G2, before its MIC is put in
+abbrev pub g2_fields : Domain → ℕ → KeyFields
+g2_fields d counter = sent_fields G2 d.akm counter [] 0 []
+
+pub fits-g2 : (d : Domain) (counter : ℕ) → counter < 2 ^ 64 → FitsKeyFrame (g2_fields d counter)
+fits-g2 d counter c = sent_fits G2 d.akm counter 0 (replicate 32 0) [] c refl (omega arith)
+
+abbrev pub g2_message : Domain → Node → Node → Derivation → ℕ → KeyMessage
+g2_message d n p x counter = key_message d n p G2 (with_mic d.akm x.ptk.kck (g2_fields d counter)) (g2_frame d x counter)
+
+pub reads-g2 : (d : Domain) (n p : Node) (x : Derivation) (counter : ℕ) → HasMic d.akm → IsAddress (address d n) → IsAddress (address d p) → counter < 2 ^ 64
+    → Reads d.akm (in_data d n p (g2_frame d x counter)) (Keyed (g2_message d n p x counter))
+reads-g2 d n p x counter has l k c =
+    reads-sealed d n p G2 x.ptk.kck (g2_fields d counter) has l k (fits-g2 d counter c) (message_sent G2 d.akm counter 0 [] [] refl)
 
 -- its MIC is that of its octets
 pub mic-sealed : (akm : Akm) (kck : List ℕ) (f : KeyFields) → HasMic akm → FitsKeyFrame f → (with_mic akm kck f).mic ≡ mic akm kck (sealed akm kck (frame_octets f))

@@ -1,8 +1,13 @@
 -- Whatever octets read as, an event adds a group of acts.
-use Rattle.std.proofs.Common.{◌≡◌, ◌⊎◌, ℕ, ◌+◌, List, Some, refl, inl, inr}
+use Rattle.std.proofs.Common.{◌≡◌, ◌⊎◌, ℕ, ◌+◌, Bool, true, false, List, Some, refl, inl, inr}
 use Rattle.std.specs.Prelude.{not, ◌||◌}
 use Rattle.std.proofs.lemmas.Bool.{cases_lt}
 use Rattle.domain_base.specs.declared.names.Node.{Node}
+use Rattle.domain_base.specs.declared.names.Node.TheVariants.{Ap}
+use Rattle.run_journal.specs.GroupKinds as groups
+use Rattle.domain_rules.specs.GroupKeys.{is_current}
+use Rattle.domain_rules.specs.AccessPointRows.{RekeyRow, Pending, Renews}
+use Rattle.domain_rules.specs.AccessPointRows as rekey
 use Rattle.rsn_elements.specs.Elements.{ElementFields}
 use Rattle.eapol_key.specs.declared.messages.Message.TheVariants.{M3}
 use Rattle.run_journal.specs.declared.domain.Domain.{Domain}
@@ -18,9 +23,9 @@ use Rattle.domain_rules.specs.Verdict.{first_verdict, further, verdict, is_mine,
 use Rattle.domain_rules.specs.Asking.{own}
 use Rattle.domain_rules.specs.Associating.{management_verdict}
 use Rattle.domain_rules.specs.StationRows.{connect_acts, ConnectRow, Spent, Asks}
-use Rattle.domain_rules.specs.Rows.{TakeRows, By_assoc_req, By_assoc_resp, By_m1, By_m2, By_m3, By_repeated_m3, By_m4, By_ignored, By_refusal}
+use Rattle.domain_rules.specs.Rows.{TakeRows, By_assoc_req, By_assoc_resp, By_m1, By_m2, By_m3, By_repeated_m3, By_m4, By_g1, By_g2, By_ignored, By_refusal}
 use Rattle.domain_rules.specs.Here.{here}
-use Rattle.domain_rules.proofs.OneOutcome.{Decided, Took_in, Repeated, Passed, Thrown, decided, Awaited, Is_m1, Is_m2, Is_m3, Is_m4, HasKeying, taken_behind, taken_from, not_thrown, from_some, sender-some, management_kind, key_kind, and_accepted, and_answered, answered_behind, answered_from, answered_kind, managed_unanswered, sealed_unanswered}
+use Rattle.domain_rules.proofs.OneOutcome.{Decided, Took_in, Repeated, Passed, Thrown, decided, Awaited, Is_m1, Is_m2, Is_m3, Is_m4, Is_g1, Is_g2, HasKeying, taken_behind, taken_from, not_thrown, from_some, sender-some, management_kind, key_kind, and_accepted, and_answered, answered_behind, answered_from, answered_kind, managed_unanswered, sealed_unanswered}
 
 -- ---- a row for each
 
@@ -41,6 +46,10 @@ keyed_row d first n h octets k facts p from (Is_m2 m a) s =
 keyed_row d first n h octets k facts p from (Is_m3 m a) s = (_, By_m3 (record { k = k; is = refl; message_is = m; p = p; from = from; accepted = s; y = a.0; awaited = a.1; says = refl }))
 keyed_row d first n h octets k facts p from (Is_m4 m a) s =
     (_, By_m4 (record { k = k; is = refl; message_is = m; p = p; from = from; accepted = s; part = a.part; awaited = a.awaited; x = a.x; keyed = a.keyed; says = refl }))
+keyed_row d first n h octets k facts p from (Is_g1 m a) s =
+    (_, By_g1 (record { k = k; is = refl; message_is = m; p = p; from = from; accepted = s; x = a.0; awaited = a.1; says = refl }))
+keyed_row d first n h octets k facts p from (Is_g2 m a) s =
+    (_, By_g2 (record { k = k; is = refl; message_is = m; p = p; from = from; accepted = s; x = a.0; awaited = a.1; says = refl }))
 
 -- an M3 that is answered was awaited in a session
 answered_row : (d : Domain) (first : ℕ) (n : Node) (h : List Act) (octets : List ℕ) (k : KeyMessage) (facts : Facts) (p : Node) → peer_of d n k.header.a2 ≡ Some p → (k.message ≡ M3) × HasKeying p h
@@ -79,3 +88,10 @@ some_rows d first n h octets r facts = by_outcome d first n h octets r facts (de
 
 pub some_connect : (d : Domain) (first : ℕ) (n : Node) (h : List Act) (p : Node) → (g : List Act) × ConnectRow (here d first n) h p g
 some_connect d first n h p = elim (cases_lt (first + draws h) draw_end) [ inl few ↦ (connect_acts d first n h p, Asks few refl) | inr many ↦ (_, Spent many refl) ]
+
+pub some_rekey : (d : Domain) (first a : ℕ) (h : List Act) → (g : List Act) × RekeyRow (here d first (Ap a)) h g
+some_rekey d first a h = go (is_current groups.Gtk h) refl
+  where
+    go : (b : Bool) → is_current groups.Gtk h ≡ b → (g : List Act) × RekeyRow (here d first (Ap a)) h g
+    go false is = (_, Pending is refl)
+    go true is = elim (cases_lt (first + draws h) draw_end) [ inl few ↦ (_, Renews refl is few refl) | inr many ↦ (_, rekey.Spent is many refl) ]

@@ -1,9 +1,9 @@
--- What comes of the messages of the four-way handshake at an access point: M2 and M4 (IEEE Std 802.11-2020, 12.7.6.3 and 12.7.6.5).
+-- What comes of the EAPOL-Key messages at an access point: M2, M4 and G2 (IEEE Std 802.11-2020, 12.7.6.3, 12.7.6.5 and 12.7.7.3).
 use Rattle.std.specs.Prelude.{◌≡◌, ℕ, cond, not, ◌||◌, List, Option, Some, None, if◌then◌else◌}
 use Rattle.domain_base.specs.declared.names.Akm.{Akm}
 use Rattle.domain_base.specs.declared.names.Node.{Node}
 use Rattle.rsn_elements.specs.Elements.{ElementFields}
-use Rattle.eapol_key.specs.declared.messages.Message.TheVariants.{M1, M2, M3}
+use Rattle.eapol_key.specs.declared.messages.Message.TheVariants.{M1, M2, M3, G1}
 use Rattle.key_hierarchy.specs.Keys.{ptk}
 use Rattle.run_journal.specs.declared.domain.Domain.{Domain}
 use Rattle.run_journal.specs.declared.acts.Kind.TheVariants as kind
@@ -13,10 +13,12 @@ use Rattle.run_journal.specs.declared.acts.Outcome.{Outcome}
 use Rattle.run_journal.specs.declared.acts.Outcome.TheVariants.{Accepted, Refused}
 use Rattle.run_journal.specs.declared.acts.Act.{Act}
 use Rattle.run_journal.specs.Acts.{Derivation}
-use Rattle.run_journal.specs.Questions.{attempt, derivation, heard}
+use Rattle.run_journal.specs.GroupKinds as groups
+use Rattle.run_journal.specs.Questions.{attempt, derivation, heard, handshake}
 use Rattle.domain_rules.specs.Network.{root, inputs}
 use Rattle.domain_rules.specs.Reading.{Management, KeyMessage, Managed, Reads}
 use Rattle.domain_rules.specs.Facts.{Facts, is_same, ReadsKeyData}
+use Rattle.domain_rules.specs.Owing.{owing}
 use Rattle.domain_rules.specs.Asking.{offered, by_connect, has_heard, own, in_attempt, among, verified}
 
 -- M2 at an access point, as far as its fields and the history decide
@@ -38,6 +40,14 @@ m4_verdict_by d p k part (Some x) = among (offered p M3 part) k.fields.counter (
 
 abbrev pub m4_verdict : Domain → List Act → Node → KeyMessage → Outcome
 m4_verdict d h p k = in_attempt (attempt p h) (λ part. m4_verdict_by d p k part (m4_keying p part))
+
+-- G2 at an access point: it is awaited in a session that owes it, with a counter of the handshake for the newest group key
+abbrev pub g2_verdict_by : Domain → List Act → Node → KeyMessage → Option Derivation → Outcome
+g2_verdict_by d h p k None = Refused reason.Unawaited
+g2_verdict_by d h p k (Some x) = among (offered p G1 (handshake groups.Gtk p h)) k.fields.counter (verified d.akm x.ptk.kck k Accepted)
+
+abbrev pub g2_verdict : Domain → List Act → Node → KeyMessage → Outcome
+g2_verdict d h p k = g2_verdict_by d h p k (owing groups.Gtk p h)
 
 -- the whole RSNE of an association request, where it has one
 abbrev pub requested_rsne : Option ElementFields → Option (List ℕ)

@@ -1,16 +1,17 @@
 -- What one event adds to the history of an access point: its acts, in order. A record for each row of the tables of events and of
 -- awaited messages; the acts stand last.
-use Rattle.std.specs.Prelude.{◌≡◌, ℕ, List, [], ◌∷◌, ◌++◌, Option, Some, None, option_map, option_and_then, nat_lt, if◌then◌else◌}
+use Rattle.std.specs.Prelude.{◌≡◌, ℕ, zero, suc, ◌+◌, ◌<◌, ◌≤◌, Bool, true, false, cond, List, [], ◌∷◌, ◌++◌, length, Option, Some, None, option_map, option_and_then, nat_lt, if◌then◌else◌}
 use Rattle.domain_base.specs.declared.names.Node.{Node}
+use Rattle.domain_base.specs.declared.names.Node.TheVariants.{Sta}
 use Rattle.domain_base.specs.declared.names.Peer.TheVariants.{One, All}
 use Rattle.rsn_elements.specs.Elements.{ElementFields}
 use Rattle.eapol_key.specs.declared.messages.Message.{Message}
-use Rattle.eapol_key.specs.declared.messages.Message.TheVariants.{M1, M2, M3, M4}
+use Rattle.eapol_key.specs.declared.messages.Message.TheVariants.{M1, M2, M3, M4, G1, G2}
 use Rattle.key_hierarchy.specs.Keys.{ptk}
 use Rattle.key_hierarchy.specs.declared.inputs.Inputs.{Inputs}
 use Rattle.run_journal.specs.declared.domain.Domain.{Domain}
 use Rattle.run_journal.specs.declared.acts.Start.TheVariants.{Connect}
-use Rattle.run_journal.specs.declared.acts.Part.TheVariants.{Attempt}
+use Rattle.run_journal.specs.declared.acts.Part.TheVariants.{Attempt, Session}
 use Rattle.run_journal.specs.declared.acts.Drawn.TheVariants.{Nonce, Gtk}
 use Rattle.run_journal.specs.declared.acts.Kind.TheVariants as kind
 use Rattle.run_journal.specs.declared.acts.Why.TheVariants as why
@@ -19,19 +20,20 @@ use Rattle.run_journal.specs.declared.acts.Seal.{Seal}
 use Rattle.run_journal.specs.declared.acts.Key.TheVariants.{Pairwise, Group}
 use Rattle.run_journal.specs.declared.acts.Act.{Act}
 use Rattle.run_journal.specs.declared.acts.Act.TheVariants.{Opened, Closed, Drew, Derived, Took, Installed, Finished, GaveUp, Idle}
-use Rattle.run_journal.specs.Questions.{attempt, chain, derivation, session, before_sent}
+use Rattle.run_journal.specs.Questions.{attempt, chain, derivation, session, before_sent, handshake, draws, add}
 use Rattle.run_journal.specs.Acts.{Derivation}
-use Rattle.domain_rules.specs.Network.{mac, gtk, root, inputs}
+use Rattle.domain_rules.specs.Network.{mac, gtk, root, inputs, is_ap, draw_end}
 use Rattle.domain_rules.specs.Reading.{Management, KeyMessage, Reading, Managed, Keyed}
-use Rattle.domain_rules.specs.Frames.{sent_assoc_resp, sent_m1, sent_m3, frame_seal, keyed_by}
+use Rattle.domain_rules.specs.Frames.{sent_assoc_resp, sent_m1, sent_m3, sent_g1, frame_seal, keyed_by}
 use Rattle.domain_rules.specs.Facts.{Facts}
 use Rattle.domain_rules.specs.Verdict.{verdict}
 use Rattle.domain_rules.specs.AccessPointKeys.{m4_keying}
 use Rattle.domain_rules.specs.Asking.{own, by_connect, has_heard}
-use Rattle.domain_rules.specs.Counters.{sent_count, next_in_attempt}
-use Rattle.domain_rules.specs.GroupKeys.{newest, newest_uses}
+use Rattle.domain_rules.specs.Counters.{sent_count, next_in_attempt, next_in_session}
+use Rattle.domain_rules.specs.GroupKeys.{newest, newest_uses, is_current}
+use Rattle.domain_rules.specs.Owing.{owing, is_older}
 use Rattle.run_journal.specs.GroupKinds as groups
-use Rattle.domain_rules.specs.Closing.{close_attempt, close_session, next_nonce, sender}
+use Rattle.domain_rules.specs.Closing.{close_attempt, close_session, or_nothing, next_nonce, sender}
 use Rattle.domain_rules.specs.Here.{Here}
 
 -- an access point answers an association request with its response and M1
@@ -61,7 +63,27 @@ pub record M2Row (w : Here) (h : List Act) (octets : List ℕ) (r : Reading) (fa
   pub says : g ≡ Took (Some p) octets (kind.Key M2) Accepted (Some (frame_seal (ptk i).kck k.octets)) ∷ Derived p i (ptk i)
       ∷ sent_m3 w.domain w.node p (keyed_by i) (next_in_attempt p (chain p h)) (newest groups.Gtk h) (newest_uses groups.Gtk h) ∷ []
 
--- an access point installs the pairwise key by M4, in place of the one in use
+-- G1 to a session with p, after that history: the next replay counter, and the newest group key
+abbrev pub g1_to : Domain → Node → Node → List Act → Derivation → Act
+g1_to d n p h x = sent_g1 d n p x (next_in_session p h) (newest groups.Gtk h) (newest_uses groups.Gtk h)
+
+-- the group key that the first M3 of the attempt with p carried is older than the newest
+abbrev pub carried_older : Node → List Act → Option (List Act) → Bool
+carried_older p h None = false
+carried_older p h (Some past) = is_older groups.Gtk past h
+
+-- the acts by which an access point takes M4 and installs the pairwise key
+abbrev pub m4_acts : List ℕ → KeyMessage → Node → Derivation → Option Derivation → List Act
+m4_acts octets k p x old =
+    Took (Some p) octets (kind.Key M4) Accepted (Some (frame_seal x.ptk.kck k.octets)) ∷ close_session p old
+    ++ Installed (One p) (Pairwise x.ptk.tk x.inputs) ∷ Finished p x.inputs ∷ []
+
+-- after these acts G1 follows, where M3 carried an older group key
+abbrev pub newer_acts : Domain → Node → Node → List Act → Derivation → Bool → List Act
+newer_acts d n p after x false = []
+newer_acts d n p after x true = g1_to d n p after x ∷ []
+
+-- an access point installs the pairwise key by M4, in place of the one in use, and sends G1 where M3 carried an older group key
 pub record M4Row (w : Here) (h : List Act) (octets : List ℕ) (r : Reading) (facts : Facts) (g : List Act) : Type 0 where
   pub k : KeyMessage
   pub is : r ≡ Keyed k
@@ -73,17 +95,32 @@ pub record M4Row (w : Here) (h : List Act) (octets : List ℕ) (r : Reading) (fa
   pub awaited : attempt p h ≡ Some part
   pub x : Derivation
   pub keyed : m4_keying p part ≡ Some x
-  pub says : g ≡ Took (Some p) octets (kind.Key M4) Accepted (Some (frame_seal x.ptk.kck k.octets)) ∷ close_session p (session p h)
-      ++ Installed (One p) (Pairwise x.ptk.tk x.inputs) ∷ Finished p x.inputs ∷ []
+  pub says : g ≡ m4_acts octets k p x (session p h)
+      ++ newer_acts w.domain w.node p (add (m4_acts octets k p x (session p h)) h) x (carried_older p h (before_sent p (kind.Key M3) h))
 
--- what the MIC of M2, M3 and M4 covers, under the key by which the message is judged
+-- an access point takes the answer to the group key handshake
+pub record G2Row (w : Here) (h : List Act) (octets : List ℕ) (r : Reading) (facts : Facts) (g : List Act) : Type 0 where
+  pub k : KeyMessage
+  pub is : r ≡ Keyed k
+  pub message_is : k.message ≡ G2
+  pub p : Node
+  pub from : sender w.domain w.node r ≡ Some p
+  pub accepted : verdict w.domain w.first w.node h r facts ≡ Accepted
+  pub x : Derivation
+  pub awaited : owing groups.Gtk p h ≡ Some x
+  pub says : g ≡ Took (Some p) octets (kind.Key G2) Accepted (Some (frame_seal x.ptk.kck k.octets)) ∷ []
+
+-- what the MIC of M2, M4 and G2 covers, under the key by which the message is judged
 abbrev pub m2_seal : Domain → Node → List Act → KeyMessage → Node → Option Seal
 m2_seal d n h k p = option_map (λ (part : List Act). frame_seal (ptk (inputs d (root d) n p (own part) k.fields.nonce)).kck k.octets) (attempt p h)
 
 abbrev pub m4_seal : List Act → KeyMessage → Node → Option Seal
 m4_seal h k p = option_map (λ (x : Derivation). frame_seal x.ptk.kck k.octets) (option_and_then (λ (part : List Act). m4_keying p part) (attempt p h))
 
--- at most four sends of M1, and of M3, in an attempt
+abbrev pub g2_seal : List Act → KeyMessage → Node → Option Seal
+g2_seal h k p = option_map (λ (x : Derivation). frame_seal x.ptk.kck k.octets) (owing groups.Gtk p h)
+
+-- at most four sends of M1, and of M3, in an attempt, and of G1 in a session for each group key
 abbrev pub most_sends : ℕ
 most_sends = 4
 
@@ -101,10 +138,47 @@ retry_attempt d n h p part =
     if has_heard p (kind.Key M2) part then again_or_give_up p M3 (sent_count p M3 part) (m3_again d n h p part (derivation p part) (before_sent p (kind.Key M3) h))
     else again_or_give_up p M1 (sent_count p M1 part) (sent_m1 d n p (next_in_attempt p (chain p h)) (own part))
 
--- in an attempt by a four-way handshake M1, or from M2 on M3
+-- G1 once more in a session that owes, or the session is given up
+abbrev pub again_or_close : Node → ℕ → Act → List Act
+again_or_close p sends act = if nat_lt sends most_sends then act ∷ [] else GaveUp p G1 ∷ Closed p Session ∷ []
+
+abbrev pub retry_session : Domain → Node → List Act → Node → Option Derivation → List Act
+retry_session d n h p None = Idle why.Nothing ∷ []
+retry_session d n h p (Some x) = again_or_close p (sent_count p G1 (handshake groups.Gtk p h)) (g1_to d n p h x)
+
+-- in an attempt by a four-way handshake M1, or from M2 on M3; else in a session that owes G1
 abbrev pub retry_acts : Domain → Node → List Act → Node → Option (List Act) → List Act
-retry_acts d n h p None = Idle why.Nothing ∷ []
-retry_acts d n h p (Some part) = if by_connect part then retry_attempt d n h p part else Idle why.Nothing ∷ []
+retry_acts d n h p None = retry_session d n h p (owing groups.Gtk p h)
+retry_acts d n h p (Some part) = if by_connect part then retry_attempt d n h p part else retry_session d n h p (owing groups.Gtk p h)
+
+-- G1 to p, where there is a session
+abbrev pub to_session : Domain → Node → Node → List Act → Option Derivation → List Act
+to_session d n p h None = []
+to_session d n p h (Some x) = g1_to d n p h x ∷ []
+
+-- G1 to each session with the first so many stations, in order, each after those before it
+abbrev pub to_sessions : Domain → Node → ℕ → List Act → List Act
+to_sessions d n zero h = []
+to_sessions d n (suc k) h =
+    to_sessions d n k h ++ to_session d n (Sta k) (add (to_sessions d n k h) h) (session (Sta k) (add (to_sessions d n k h) h))
+
+-- an access point draws a new group key
+abbrev pub next_key : Here → List Act → Act
+next_key w h = Drew (Gtk (gtk w.domain w.node (w.first + draws h)))
+
+-- and gives it to each session, in the order of the stations
+abbrev pub rekey_acts : Here → List Act → List Act
+rekey_acts w h = next_key w h ∷ to_sessions w.domain w.node (length w.domain.stas) (next_key w h ∷ h)
+
+-- an access point draws no new group key as long as the last one is not current
+pub data RekeyRow (w : Here) (h : List Act) (g : List Act) : Type 0 where
+  Pending : is_current groups.Gtk h ≡ false → g ≡ Idle why.RekeyPending ∷ [] → RekeyRow w h g
+  Spent : is_current groups.Gtk h ≡ true → draw_end ≤ w.first + draws h → g ≡ Idle why.Spent ∷ [] → RekeyRow w h g
+  Renews : is_ap w.node ≡ true → is_current groups.Gtk h ≡ true → w.first + draws h < draw_end → g ≡ rekey_acts w h → RekeyRow w h g
+
+-- an access point drops what it has with p
+abbrev pub expire_acts : Node → List Act → List Act
+expire_acts p h = or_nothing (close_attempt p (attempt p h) ++ close_session p (session p h))
 
 -- an access point starts: it draws its first group key, with key id 1, and installs it
 abbrev pub start_acts : Domain → ℕ → Node → List Act

@@ -4,8 +4,9 @@ use Rattle.domain_base.specs.declared.names.Node.{Node}
 use Rattle.air_frame.specs.Fields.{HeaderFields}
 use Rattle.run_journal.specs.declared.domain.Domain.{Domain}
 use Rattle.run_journal.specs.declared.acts.Part.TheVariants.{Attempt, Session}
+use Rattle.run_journal.specs.declared.acts.Why.TheVariants as why
 use Rattle.run_journal.specs.declared.acts.Act.{Act}
-use Rattle.run_journal.specs.declared.acts.Act.TheVariants.{Closed}
+use Rattle.run_journal.specs.declared.acts.Act.TheVariants.{Closed, Idle}
 use Rattle.run_journal.specs.Questions.{draws}
 use Rattle.run_journal.specs.Acts.{Derivation}
 use Rattle.domain_rules.specs.Network.{peer_of, nonce}
@@ -26,6 +27,11 @@ close_pending (Some p) = Closed p Attempt ∷ []
 abbrev pub close_associated : Option Node → List Act
 close_associated None = []
 close_associated (Some p) = Closed p Session ∷ []
+
+-- these acts, or that there is nothing to do
+abbrev pub or_nothing : List Act → List Act
+or_nothing [] = Idle why.Nothing ∷ []
+or_nothing (e ∷ g) = e ∷ g
 
 -- the next nonce of node n, which began to draw at number `first`
 abbrev pub next_nonce : Domain → ℕ → Node → List Act → List ℕ

@@ -1,4 +1,5 @@
--- A whole four-way handshake, with M3 repeated, and the begin of a second. And a small network.
+-- A whole four-way handshake, with M3 repeated, and the begin of a second; a group key handshake and a second association after it.
+-- And a small network.
 use Rattle.std.specs.Prelude.{◌≡◌, ℕ, List, [], ◌∷◌, Some, None, codes}
 use Rattle.std.specs.List.{AllByRecursion}
 use Rattle.domain_base.specs.declared.names.Mac.{Mac}
@@ -6,25 +7,25 @@ use Rattle.domain_base.specs.declared.names.Akm.{Akm}
 use Rattle.domain_base.specs.declared.names.Node.TheVariants.{Ap, Sta}
 use Rattle.domain_base.specs.declared.names.Peer.TheVariants.{One, All}
 use Rattle.air_frame.specs.Sent.{IsAddress}
-use Rattle.eapol_key.specs.declared.messages.Message.TheVariants.{M3}
+use Rattle.eapol_key.specs.declared.messages.Message.TheVariants.{M3, G2}
 use Rattle.key_hierarchy.specs.declared.inputs.Inputs.{Inputs}
 use Rattle.key_hierarchy.specs.Keys.{ptk}
 use Rattle.run_journal.specs.declared.domain.ListedAp.{ListedAp}
 use Rattle.run_journal.specs.declared.domain.Domain.{Domain}
 use Rattle.run_journal.specs.declared.domain.Event.{Event}
-use Rattle.run_journal.specs.declared.domain.Event.TheVariants.{Connect, Deliver, Retry}
-use Rattle.run_journal.specs.declared.acts.Act.TheVariants.{Drew, Took, Installed, Finished}
+use Rattle.run_journal.specs.declared.domain.Event.TheVariants.{Connect, Deliver, Retry, Rekey}
+use Rattle.run_journal.specs.declared.acts.Act.TheVariants.{Drew, Took, Installed, Resumed, Finished}
 use Rattle.run_journal.specs.declared.acts.Act.{Act}
 use Rattle.run_journal.specs.declared.acts.Entry.{Entry}
-use Rattle.run_journal.specs.declared.acts.Drawn.TheVariants.{Nonce}
+use Rattle.run_journal.specs.declared.acts.Drawn.TheVariants.{Nonce, Gtk}
 use Rattle.run_journal.specs.declared.acts.Kind.TheVariants.{Key}
-use Rattle.run_journal.specs.declared.acts.Outcome.TheVariants.{Answered}
+use Rattle.run_journal.specs.declared.acts.Outcome.TheVariants.{Accepted, Answered}
 use Rattle.run_journal.specs.declared.acts.Seal.{Seal}
 use Rattle.run_journal.specs.declared.acts.Key.TheVariants.{Pairwise, Group}
 use Rattle.run_journal.specs.Acts.{GroupKey}
 use Rattle.run_journal.specs.Questions.{history, attempt, session, own_nonce}
 use Rattle.run_journal.specs.Premises.{In}
-use Rattle.domain_rules.specs.Network.{mac, nonce, root, inputs}
+use Rattle.domain_rules.specs.Network.{mac, nonce, gtk, root, inputs}
 use Rattle.domain_rules.specs.Explained.{Explained}
 
 -- one access point and one station, of any suite, seed, name and pre-shared key
@@ -84,3 +85,31 @@ pub record HasHandshake (d : Domain) (a s : ℕ) : Type 0 where
   pub access_point_nonce : own_nonce access_point_part ≡ Some (nonce d (Ap a) 2)
   pub access_point_drew : In (Drew (Nonce (nonce d (Ap a) 2))) (history (Ap a) journal)
   pub access_point_keeps : session (Sta s) (history (Ap a) journal) ≡ Some (record { inputs = i; ptk = ptk i })
+
+-- the last round first: as above up to M4, then the access point draws a new group key, G1 and G2 are accepted, the station asks anew,
+-- and its messages up to M3 are accepted
+abbrev pub renewal : ℕ → ℕ → List (List Event)
+renewal a s =
+    (Deliver 15 (Sta s) ∷ []) ∷ (Deliver 14 (Ap a) ∷ []) ∷ (Deliver 13 (Sta s) ∷ []) ∷ (Deliver 12 (Sta s) ∷ []) ∷ (Deliver 11 (Ap a) ∷ []) ∷ (Connect s a ∷ [])
+    ∷ (Deliver 10 (Ap a) ∷ []) ∷ (Deliver 9 (Sta s) ∷ []) ∷ (Rekey a ∷ []) ∷ (Deliver 8 (Ap a) ∷ []) ∷ (Deliver 7 (Sta s) ∷ []) ∷ (Retry a s ∷ [])
+    ∷ (Deliver 5 (Sta s) ∷ []) ∷ (Deliver 4 (Ap a) ∷ []) ∷ (Deliver 3 (Sta s) ∷ []) ∷ (Deliver 2 (Sta s) ∷ []) ∷ (Deliver 1 (Ap a) ∷ []) ∷ (Connect s a ∷ []) ∷ []
+
+-- a journal that these rounds explain, in which the station installs the new group key, the access point takes the answer and makes
+-- the key current, and the station resumes it in its second association
+pub record HasRenewal (d : Domain) (a s : ℕ) : Type 0 where
+  pub journal : List Entry
+  pub explained : Explained d (renewal a s) journal
+  -- the third value that the access point draws, with the second key id
+  pub new : GroupKey
+  pub is_new : new ≡ record { key = gtk d (Ap a) 2; id = 2 }
+  pub drawn : In (Drew (Gtk new.key)) (history (Ap a) journal)
+  pub given : In (Installed (One (Ap a)) (Group new.key new.id (mac d (Ap a)))) (history (Sta s) journal)
+  pub octets : List ℕ
+  pub seal : Seal
+  pub answered : In (Took (Some (Sta s)) octets (Key G2) Accepted (Some seal)) (history (Ap a) journal)
+  pub current : In (Installed All (Group new.key new.id (mac d (Ap a)))) (history (Ap a) journal)
+  -- the pairwise key, of the nonces of the second association
+  pub i : Inputs
+  pub of_second : i ≡ inputs d (root d) (Sta s) (Ap a) (nonce d (Sta s) 1) (nonce d (Ap a) 3)
+  pub station : In (Installed (One (Ap a)) (Pairwise (ptk i).tk i)) (history (Sta s) journal)
+  pub resumed : In (Resumed (Ap a) (Group new.key new.id (mac d (Ap a)))) (history (Sta s) journal)

@@ -4,7 +4,7 @@ use Rattle.domain_base.specs.declared.names.Node.{Node}
 use Rattle.domain_base.specs.declared.names.Node.TheVariants.{Ap, Sta}
 use Rattle.run_journal.specs.declared.domain.Domain.{Domain}
 use Rattle.run_journal.specs.declared.domain.Event.{Event}
-use Rattle.run_journal.specs.declared.domain.Event.TheVariants.{Connect, Deliver, Alter, Cut, Inject, Retry}
+use Rattle.run_journal.specs.declared.domain.Event.TheVariants.{Connect, Deliver, Alter, Cut, Inject, Retry, Rekey, Expire, Leave}
 use Rattle.run_journal.specs.declared.acts.Act.{Act}
 use Rattle.run_journal.specs.declared.acts.Act.TheVariants.{Sent}
 use Rattle.domain_base.specs.declared.names.Peer.{Peer}
@@ -53,6 +53,9 @@ HappensAt (Alter number place mask to) past round n event = (octets : List ℕ) 
 HappensAt (Cut number size to) past round n event = (octets : List ℕ) × (WasSent past round number octets × ((n ≡ to) × (event ≡ Take (take size octets))))
 HappensAt (Inject to octets) past round n event = (n ≡ to) × (event ≡ Take octets)
 HappensAt (Retry a s) past round n event = (n ≡ Ap a) × (event ≡ again.Retry s)
+HappensAt (Rekey a) past round n event = (n ≡ Ap a) × (event ≡ again.Rekey)
+HappensAt (Expire a s) past round n event = (n ≡ Ap a) × (event ≡ again.Expire s)
+HappensAt (Leave s) past round n event = (n ≡ Sta s) × (event ≡ again.Leave)
 
 -- a node, and what an event is to it
 pub record Place : Type 0 where

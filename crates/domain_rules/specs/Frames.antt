@@ -9,7 +9,7 @@ use Rattle.rsn_elements.specs.Sent.{ssid_octets, rates_octets, rsne_octets, gtk_
 use Rattle.key_wrap.specs.KeyWrap.{last_registers}
 use Rattle.mac_prf.specs.Mic.{without_mic}
 use Rattle.eapol_key.specs.declared.messages.Message.{Message}
-use Rattle.eapol_key.specs.declared.messages.Message.TheVariants.{M1, M2, M3, M4}
+use Rattle.eapol_key.specs.declared.messages.Message.TheVariants.{M1, M2, M3, M4, G1, G2}
 use Rattle.eapol_key.specs.Octets.{frame_octets}
 use Rattle.eapol_key.specs.Sent.{sent_fields}
 use Rattle.eapol_key.specs.Sealed.{sealed}
@@ -93,3 +93,22 @@ m4_frame d x counter = sealed d.akm x.ptk.kck (frame_octets (sent_fields M4 d.ak
 
 abbrev pub sent_m4 : Domain → Node → Node → Derivation → ℕ → Act
 sent_m4 d n p x counter = sent_sealed d n p M4 x.ptk.kck (m4_frame d x counter)
+
+-- the key data of G1: the group key, padded (12.7.7.2)
+abbrev pub g1_key_data : GroupKey → List ℕ
+g1_key_data g = padded (gtk_kde_octets g.id g.key)
+
+-- G1, with a group key and the count of packet numbers that were used under it
+abbrev pub g1_frame : Domain → Derivation → ℕ → GroupKey → ℕ → List ℕ
+g1_frame d x counter g rsc =
+    sealed d.akm x.ptk.kck (frame_octets (sent_fields G1 d.akm counter [] rsc (wrapped x.ptk.kek (g1_key_data g))))
+
+abbrev pub sent_g1 : Domain → Node → Node → Derivation → ℕ → GroupKey → ℕ → Act
+sent_g1 d n p x counter g rsc = sent_sealed d n p G1 x.ptk.kck (g1_frame d x counter g rsc)
+
+-- G2 (12.7.7.3)
+abbrev pub g2_frame : Domain → Derivation → ℕ → List ℕ
+g2_frame d x counter = sealed d.akm x.ptk.kck (frame_octets (sent_fields G2 d.akm counter [] 0 []))
+
+abbrev pub sent_g2 : Domain → Node → Node → Derivation → ℕ → Act
+sent_g2 d n p x counter = sent_sealed d n p G2 x.ptk.kck (g2_frame d x counter)

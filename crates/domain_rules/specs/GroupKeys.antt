@@ -29,9 +29,14 @@ newest_of kind (key ∷ older) = record { key = key; id = key_id kind (length ol
 abbrev pub newest : GroupKind → List Act → GroupKey
 newest kind h = newest_of kind (group_keys kind h)
 
+-- the newest is current: as many were made current as were drawn. They are told apart by their place in the order of drawing, never
+-- by their octets or key ids
+abbrev pub is_current : GroupKind → List Act → Bool
+is_current kind h = length (switches kind h) == length (group_keys kind h)
+
 -- how many packet numbers were used under the newest: none as long as another is current
 abbrev pub newest_uses : GroupKind → List Act → ℕ
-newest_uses kind h = cond (length (switches kind h) == length (group_keys kind h)) (group_uses kind h) 0
+newest_uses kind h = cond (is_current kind h) (group_uses kind h) 0
 
 -- a station remembers the last two group keys of a kind that it installed from an access point
 abbrev pub memory : GroupKind → Node → List Act → List GroupKey

@@ -11,6 +11,7 @@ pub mod Verdict
 pub mod Verified
 pub mod Counters
 pub mod GroupKeys
+pub mod Owing
 pub mod Closing
 pub mod StationRows
 pub mod AccessPointRows

@@ -4,7 +4,7 @@ use Rattle.std.specs.Prelude.{◌≡◌, ℕ, cond, List, [], ◌∷◌, Option,
 use Rattle.domain_base.specs.declared.names.Node.{Node}
 use Rattle.domain_base.specs.declared.names.Node.TheVariants.{Ap, Sta}
 use Rattle.eapol_key.specs.declared.messages.Message.{Message}
-use Rattle.eapol_key.specs.declared.messages.Message.TheVariants.{M2, M3, M4}
+use Rattle.eapol_key.specs.declared.messages.Message.TheVariants.{M2, M3, M4, G1, G2}
 use Rattle.run_journal.specs.declared.domain.Domain.{Domain}
 use Rattle.run_journal.specs.declared.acts.Kind.{Kind}
 use Rattle.run_journal.specs.declared.acts.Kind.TheVariants as kind
@@ -22,9 +22,10 @@ use Rattle.domain_rules.specs.Reading.{KeyMessage, Reading, Keyed, Reads, kind_o
 use Rattle.domain_rules.specs.Frames.{sent_refusal}
 use Rattle.domain_rules.specs.Facts.{Facts}
 use Rattle.domain_rules.specs.Verdict.{Knows, first_verdict, comes_so_far, verdict}
-use Rattle.domain_rules.specs.AccessPointRows.{AssocReqRow, M2Row, M4Row, m2_seal, m4_seal, retry_acts}
+use Rattle.domain_rules.specs.AccessPointRows.{AssocReqRow, M2Row, M4Row, G2Row, m2_seal, m4_seal, g2_seal, retry_acts, RekeyRow, expire_acts}
+use Rattle.domain_rules.specs.Owing.{and_switch}
 use Rattle.domain_rules.specs.Closing.{sender}
-use Rattle.domain_rules.specs.StationRows.{ConnectRow, AssocRespRow, M1Row, M3Row, RepeatedM3Row, m3_seal}
+use Rattle.domain_rules.specs.StationRows.{ConnectRow, AssocRespRow, M1Row, M3Row, RepeatedM3Row, G1Row, m3_seal, g1_seal, leave_acts}
 use Rattle.domain_rules.specs.Here.{Here}
 
 -- what an event is to one node
@@ -35,16 +36,24 @@ pub data NodeEvent : Type 0 where
   Begin : ℕ → NodeEvent
   -- an access point sends that station once more what it waits to have answered
   Retry : ℕ → NodeEvent
+  -- an access point draws a new group key and gives it to each session
+  Rekey : NodeEvent
+  -- an access point drops what it has with that station
+  Expire : ℕ → NodeEvent
+  -- a station drops what it has
+  Leave : NodeEvent
 
 pub record IgnoredRow (w : Here) (h : List Act) (octets : List ℕ) (r : Reading) (facts : Facts) (g : List Act) : Type 0 where
   pub ignored : verdict w.domain w.first w.node h r facts ≡ Ignored
   pub says : g ≡ Took None octets kind.Ignored Ignored None ∷ []
 
--- M1 has no MIC, and no message of the group key handshake is awaited
+-- M1 has no MIC
 abbrev pub message_seal : Domain → Node → List Act → KeyMessage → Message → Option Node → Option Seal
 message_seal d n h k M2 (Some p) = m2_seal d n h k p
 message_seal d n h k M3 (Some p) = m3_seal h k p
 message_seal d n h k M4 (Some p) = m4_seal h k p
+message_seal d n h k G1 (Some p) = g1_seal h k p
+message_seal d n h k G2 (Some p) = g2_seal h k p
 message_seal d n h k _ from = None
 
 abbrev pub seal_in : Domain → Node → List Act → Reading → Option Seal
@@ -76,6 +85,8 @@ pub data TakeRows (w : Here) (h : List Act) (octets : List ℕ) (r : Reading) (f
   By_m3 : M3Row w h octets r facts g → TakeRows w h octets r facts g
   By_repeated_m3 : RepeatedM3Row w h octets r facts g → TakeRows w h octets r facts g
   By_m4 : M4Row w h octets r facts g → TakeRows w h octets r facts g
+  By_g1 : G1Row w h octets r facts g → TakeRows w h octets r facts g
+  By_g2 : G2Row w h octets r facts g → TakeRows w h octets r facts g
   By_ignored : IgnoredRow w h octets r facts g → TakeRows w h octets r facts g
   By_refusal : RefusedRow w h octets r facts g → TakeRows w h octets r facts g
 
@@ -87,11 +98,21 @@ pub record TakeRow (w : Here) (h : List Act) (octets : List ℕ) (g : List Act) 
   pub knows : Knows w.domain w.first w.node h r facts
   pub row : TakeRows w h octets r facts g
 
--- The event adds these acts, in order, to that history of node n, which began to draw at number `first`.
-abbrev pub Adds : Here → List Act → NodeEvent → List Act → Type 0
-Adds w h (Take octets) g = TakeRow w h octets g
-Adds w h (Begin a) g = ConnectRow w h (Ap a) g
-Adds w h (Retry s) g = g ≡ retry_acts w.domain w.node h (Sta s) (attempt (Sta s) h)
+-- the acts of the event itself
+abbrev pub RowOf : Here → List Act → NodeEvent → List Act → Type 0
+RowOf w h (Take octets) g = TakeRow w h octets g
+RowOf w h (Begin a) g = ConnectRow w h (Ap a) g
+RowOf w h (Retry s) g = g ≡ retry_acts w.domain w.node h (Sta s) (attempt (Sta s) h)
+RowOf w h Rekey g = RekeyRow w h g
+RowOf w h (Expire s) g = g ≡ expire_acts (Sta s) h
+RowOf w h Leave g = g ≡ leave_acts h
+
+-- The event adds these acts, in order, to that history of node n, which began to draw at number `first`: its own, and at an access
+-- point the switch to the newest group key, where no session owes after them.
+pub record Adds (w : Here) (h : List Act) (event : NodeEvent) (g : List Act) : Type 0 where
+  pub acts : List Act
+  pub row : RowOf w h event acts
+  pub is : g ≡ and_switch w.domain w.node h acts
 
 -- what came of the event, by the acts that it added
 abbrev pub outcome_of : List Act → Outcome

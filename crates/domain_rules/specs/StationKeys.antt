@@ -1,4 +1,4 @@
--- What comes of the messages of the four-way handshake at a station: M1 and M3 (IEEE Std 802.11-2020, 12.7.6.2 and 12.7.6.4).
+-- What comes of the EAPOL-Key messages at a station: M1, M3 and G1 (IEEE Std 802.11-2020, 12.7.6.2, 12.7.6.4 and 12.7.7.2).
 use Rattle.std.specs.Prelude.{◌≡◌, ℕ, Bool, true, false, cond, not, ◌||◌, ◌&&◌, ◌==◌, List, length, Option, Some, None, bytes_eq, if◌then◌else◌}
 use Rattle.domain_base.specs.declared.names.Akm.{Akm}
 use Rattle.domain_base.specs.declared.names.Node.{Node}
@@ -82,6 +82,24 @@ abbrev pub m3_wrapped : Akm → Option (List ℕ) → Option ElementFields → O
 m3_wrapped akm None data_ = Refused reason.Wrap
 m3_wrapped akm (Some plain) data_ = m3_key_data akm data_
 
+-- G1 at a station, as far as its fields and the history decide: it is awaited in a session (12.7.7.2)
+abbrev pub g1_verdict_by : Domain → Option ℕ → KeyMessage → Option Derivation → Outcome
+g1_verdict_by d kept k None = Refused reason.Unawaited
+g1_verdict_by d kept k (Some x) = above kept k.fields.counter (verified d.akm x.ptk.kck k Accepted)
+
+abbrev pub g1_verdict : Domain → List Act → Node → KeyMessage → Outcome
+g1_verdict d h p k = g1_verdict_by d (kept_counter p (chain p h)) k (session p h)
+
+-- the key data of G1: a group key
+abbrev pub g1_key_data : Option ElementFields → Outcome
+g1_key_data None = Refused (reason.KeyData key_data.Unreadable)
+g1_key_data (Some e) = if is_group_key e.gtk then Accepted else Refused (reason.KeyData key_data.Gtk)
+
+abbrev pub g1_wrapped : Option (List ℕ) → Option ElementFields → Outcome
+g1_wrapped None data_ = Refused reason.Wrap
+g1_wrapped (Some plain) data_ = g1_key_data data_
+
+-- of M3, and of G1
 pub record KnowsM3 (kek : List ℕ) (k : KeyMessage) (facts : Facts) : Type 0 where
   pub unwrapped : IsUnwrapped kek k.fields.key_data facts.unwrapped
   pub data_ : (plain : List ℕ) → facts.unwrapped ≡ Some plain → ReadsKeyData plain facts.data_

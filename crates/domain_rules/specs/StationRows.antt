@@ -5,7 +5,7 @@ use Rattle.domain_base.specs.declared.names.Node.{Node}
 use Rattle.domain_base.specs.declared.names.Peer.TheVariants.{One}
 use Rattle.rsn_elements.specs.KeyData.{GtkKdeFields}
 use Rattle.rsn_elements.specs.Elements.{ElementFields}
-use Rattle.eapol_key.specs.declared.messages.Message.TheVariants.{M1, M3}
+use Rattle.eapol_key.specs.declared.messages.Message.TheVariants.{M1, M3, G1}
 use Rattle.key_hierarchy.specs.Keys.{ptk}
 use Rattle.key_hierarchy.specs.declared.inputs.Inputs.{Inputs}
 use Rattle.run_journal.specs.declared.domain.Domain.{Domain}
@@ -18,18 +18,18 @@ use Rattle.run_journal.specs.declared.acts.Seal.{Seal}
 use Rattle.run_journal.specs.declared.acts.Key.TheVariants.{Pairwise}
 use Rattle.run_journal.specs.declared.acts.Act.{Act}
 use Rattle.run_journal.specs.declared.acts.Act.TheVariants.{Opened, Drew, Derived, Took, Installed, Finished, Idle}
-use Rattle.run_journal.specs.Questions.{attempt, pending, associated, draws}
-use Rattle.run_journal.specs.Acts.{GroupKey}
+use Rattle.run_journal.specs.Questions.{attempt, pending, associated, session, draws}
+use Rattle.run_journal.specs.Acts.{GroupKey, Derivation}
 use Rattle.domain_rules.specs.Network.{mac, root, inputs, draw_end}
 use Rattle.domain_rules.specs.Reading.{Management, KeyMessage, Reading, Managed, Keyed}
-use Rattle.domain_rules.specs.Frames.{sent_assoc_req, sent_m2, sent_m4, frame_seal, keyed_by}
+use Rattle.domain_rules.specs.Frames.{sent_assoc_req, sent_m2, sent_m4, sent_g2, frame_seal, keyed_by}
 use Rattle.domain_rules.specs.Facts.{Facts}
 use Rattle.domain_rules.specs.Verdict.{verdict}
 use Rattle.domain_rules.specs.StationKeys.{Keying, m3_keying}
 use Rattle.domain_rules.specs.Asking.{own}
 use Rattle.domain_rules.specs.GroupKeys.{give}
 use Rattle.run_journal.specs.GroupKinds as groups
-use Rattle.domain_rules.specs.Closing.{close_pending, close_associated, next_nonce, sender}
+use Rattle.domain_rules.specs.Closing.{close_pending, close_associated, or_nothing, next_nonce, sender}
 use Rattle.domain_rules.specs.Here.{Here}
 
 -- a station drops what it has and asks the access point for association
@@ -103,3 +103,23 @@ pub record RepeatedM3Row (w : Here) (h : List Act) (octets : List ℕ) (r : Read
 
 abbrev pub m3_seal : List Act → KeyMessage → Node → Option Seal
 m3_seal h k p = option_map (λ (y : Keying). frame_seal y.key.ptk.kck k.octets) (m3_keying p h)
+
+-- in a session a station installs or resumes the group key by G1, and answers with G2
+pub record G1Row (w : Here) (h : List Act) (octets : List ℕ) (r : Reading) (facts : Facts) (g : List Act) : Type 0 where
+  pub k : KeyMessage
+  pub is : r ≡ Keyed k
+  pub message_is : k.message ≡ G1
+  pub p : Node
+  pub from : sender w.domain w.node r ≡ Some p
+  pub accepted : verdict w.domain w.first w.node h r facts ≡ Accepted
+  pub x : Derivation
+  pub awaited : session p h ≡ Some x
+  pub says : g ≡ Took (Some p) octets (kind.Key G1) Accepted (Some (frame_seal x.ptk.kck k.octets))
+      ∷ give groups.Gtk p (mac w.domain p) (carried facts.data_) h ∷ sent_g2 w.domain w.node p x k.fields.counter ∷ []
+
+abbrev pub g1_seal : List Act → KeyMessage → Node → Option Seal
+g1_seal h k p = option_map (λ (x : Derivation). frame_seal x.ptk.kck k.octets) (session p h)
+
+-- a station drops what it has
+abbrev pub leave_acts : List Act → List Act
+leave_acts h = or_nothing (close_pending (pending h) ++ close_associated (associated h))

@@ -7,7 +7,7 @@ use Rattle.air_frame.specs.Fields.{HeaderFields}
 use Rattle.air_frame.specs.declared.frame.AirFault.{AirFault}
 use Rattle.air_frame.specs.declared.frame.AirFault.TheVariants as air
 use Rattle.eapol_key.specs.declared.messages.Message.{Message}
-use Rattle.eapol_key.specs.declared.messages.Message.TheVariants.{M1, M2, M3, M4}
+use Rattle.eapol_key.specs.declared.messages.Message.TheVariants.{M1, M2, M3, M4, G1, G2}
 use Rattle.run_journal.specs.declared.domain.Domain.{Domain}
 use Rattle.run_journal.specs.declared.acts.Malformed.TheVariants as malformed
 use Rattle.run_journal.specs.declared.acts.Reason.{Reason}
@@ -15,13 +15,14 @@ use Rattle.run_journal.specs.declared.acts.Reason.TheVariants as reason
 use Rattle.run_journal.specs.declared.acts.Outcome.{Outcome}
 use Rattle.run_journal.specs.declared.acts.Outcome.TheVariants.{Accepted, Answered, Ignored, Refused}
 use Rattle.run_journal.specs.declared.acts.Act.{Act}
-use Rattle.run_journal.specs.Questions.{draws}
+use Rattle.run_journal.specs.Acts.{Derivation}
+use Rattle.run_journal.specs.Questions.{draws, session}
 use Rattle.domain_rules.specs.Network.{address, bssid, peer_of, direction, goes_like}
 use Rattle.domain_rules.specs.Reading.{KeyMessage, Reading, NoFrame, PassedOver, NoElements, Managed, NoKeyFrame, NoMessage, Keyed, Sealed}
 use Rattle.domain_rules.specs.Facts.{Facts}
 use Rattle.domain_rules.specs.Associating.{management_verdict}
-use Rattle.domain_rules.specs.AccessPointKeys.{m2_verdict, m4_verdict, requested_rsne, m2_key_data, KnowsM2}
-use Rattle.domain_rules.specs.StationKeys.{m1_verdict, Keying, m3_keying, m3_verdict, m3_wrapped, KnowsM3}
+use Rattle.domain_rules.specs.AccessPointKeys.{m2_verdict, m4_verdict, g2_verdict, requested_rsne, m2_key_data, KnowsM2}
+use Rattle.domain_rules.specs.StationKeys.{m1_verdict, Keying, m3_keying, m3_verdict, m3_wrapped, g1_verdict, g1_wrapped, KnowsM3}
 
 -- an EAPOL-Key message from p at a node that has drawn so often
 abbrev pub key_verdict : Domain → ℕ → Node → List Act → Node → KeyMessage → Message → Outcome
@@ -29,6 +30,8 @@ key_verdict d drawn (Sta s) h p k M1 = m1_verdict h p k
 key_verdict d drawn (Ap a) h p k M2 = m2_verdict d (Ap a) h p k
 key_verdict d drawn (Sta s) h p k M3 = m3_verdict d h p k
 key_verdict d drawn (Ap a) h p k M4 = m4_verdict d h p k
+key_verdict d drawn (Sta s) h p k G1 = g1_verdict d h p k
+key_verdict d drawn (Ap a) h p k G2 = g2_verdict d h p k
 key_verdict d drawn n h p k _ = Refused reason.Unawaited
 
 -- refused where the sender is no listed node of the other kind
@@ -85,6 +88,7 @@ first_verdict d first n h (Sealed header way tid body) =
 abbrev pub key_further : Akm → Message → Facts → Outcome
 key_further akm M2 facts = m2_key_data (requested_rsne facts.requested) facts.data_
 key_further akm M3 facts = m3_wrapped akm facts.unwrapped facts.data_
+key_further akm G1 facts = g1_wrapped facts.unwrapped facts.data_
 key_further akm _ facts = Accepted
 
 abbrev pub further : Akm → Reading → Facts → Outcome
@@ -109,6 +113,7 @@ verdict d first n h r facts = and_then (first_verdict d first n h r) (further d.
 abbrev pub KnowsOf : Akm → List Act → Node → Message → KeyMessage → Facts → Type 0
 KnowsOf akm h p M2 k facts = KnowsM2 akm h p k facts
 KnowsOf akm h p M3 k facts = (y : Keying) → m3_keying p h ≡ Some y → KnowsM3 y.key.ptk.kek k facts
+KnowsOf akm h p G1 k facts = (x : Derivation) → session p h ≡ Some x → KnowsM3 x.ptk.kek k facts
 KnowsOf akm h p _ k facts = Unit {0}
 
 abbrev pub KnowsFrom : Domain → Node → List Act → Reading → Facts → Type 0

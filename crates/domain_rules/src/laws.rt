@@ -4,6 +4,7 @@ ghost use Rattle.std.specs.Prelude.{◌≡◌, ◌≢◌, ℕ, ◌<◌, true, Li
 ghost use Rattle.domain_base.specs.declared.names.Akm.{Akm};
 ghost use Rattle.domain_base.specs.declared.names.Akm.TheVariants.{FtPsk};
 ghost use Rattle.domain_base.specs.declared.names.Node.{Node};
+ghost use Rattle.domain_base.specs.declared.names.Node.TheVariants.{Ap};
 ghost use Rattle.key_hierarchy.specs.Sizes.{IsSsid};
 ghost use Rattle.run_journal.specs.declared.domain.Domain.{Domain};
 ghost use Rattle.run_journal.specs.declared.domain.Event.{Event};
@@ -15,62 +16,79 @@ ghost use Rattle.run_journal.specs.declared.acts.Outcome.{Outcome};
 ghost use Rattle.run_journal.specs.declared.acts.Seal.{Seal};
 ghost use Rattle.run_journal.specs.declared.acts.Entry.{Entry};
 ghost use Rattle.run_journal.specs.Premises.{In};
-ghost use Rattle.domain_rules.specs.Network.{InForm};
+ghost use Rattle.domain_rules.specs.Network.{InForm, gtk};
 ghost use Rattle.domain_rules.specs.Reading.{Reading, Reads, kind_of};
 ghost use Rattle.domain_rules.specs.Verified.{IsVerified, is_past_mic};
 ghost use Rattle.domain_rules.specs.Facts.{Facts};
 ghost use Rattle.domain_rules.specs.Verdict.{Knows, first_verdict, verdict};
-ghost use Rattle.domain_rules.specs.Rows.{NodeEvent, Take, Begin, Retry, Adds};
+ghost use Rattle.domain_rules.specs.Rows.{NodeEvent, Take, Begin, Retry, Rekey, Expire, Leave, Adds};
 ghost use Rattle.domain_rules.specs.Closing.{sender};
 ghost use Rattle.domain_rules.specs.Ended.{EndsRightly};
 ghost use Rattle.domain_rules.specs.Explained.{Explained};
-ghost use Rattle.domain_rules.specs.Example.{small, AreWhole, HasHandshake};
+ghost use Rattle.domain_rules.specs.Example.{small, AreWhole, HasHandshake, HasRenewal};
 ghost use Rattle.domain_rules.specs.Here.{here};
 
 /// Octets are one thing to a node at most, and so one outcome comes of them, by the history of the node alone.
 pub fn one_reading()
-    ensures reading { (akm : Akm) (octets : List ℕ) (r s : Reading) → Reads akm octets r → Reads akm octets s → r ≡ s }
-    ensures outcome { (d : Domain) (first : ℕ) (n : Node) (h : List Act) (octets : List ℕ) (r s : Reading) (f g : Facts)
-        → Reads d.akm octets r → Reads d.akm octets s → Knows d first n h r f → Knows d first n h s g
+    ensures reading { (akm : Akm) (octets : List ℕ) (r s : Reading) → Reads akm octets r
+        → Reads akm octets s → r ≡ s }
+    ensures outcome { (d : Domain) (first : ℕ) (n : Node) (h : List Act) (octets : List ℕ)
+        (r s : Reading) (f g : Facts)
+        → Reads d.akm octets r → Reads d.akm octets s → Knows d first n h r f
+        → Knows d first n h s g
         → verdict d first n h r f ≡ verdict d first n h s g }
 {}
 
 /// An event adds one group of acts to the history of a node at most, and whatever octets read as, and at each begin of an
-/// attempt and each repeat, there is one.
+/// attempt, each repeat, each dropping of what there is, and each new group key of an access point, there is one.
 pub fn one_group()
-    ensures one { (d : Domain) (first : ℕ) (n : Node) (h : List Act) (event : NodeEvent) (f g : List Act)
+    ensures one { (d : Domain) (first : ℕ) (n : Node) (h : List Act) (event : NodeEvent)
+        (f g : List Act)
         → Adds (here d first n) h event f → Adds (here d first n) h event g → f ≡ g }
-    ensures taken { (d : Domain) (first : ℕ) (n : Node) (h : List Act) (octets : List ℕ) (r : Reading) (facts : Facts)
-        → Reads d.akm octets r → Knows d first n h r facts → (g : List Act) × Adds (here d first n) h (Take octets) g }
+    ensures taken { (d : Domain) (first : ℕ) (n : Node) (h : List Act) (octets : List ℕ)
+        (r : Reading) (facts : Facts) → Reads d.akm octets r
+        → Knows d first n h r facts → (g : List Act) × Adds (here d first n) h (Take octets) g }
     ensures begun { (d : Domain) (first : ℕ) (n : Node) (h : List Act) (a : ℕ)
         → (g : List Act) × Adds (here d first n) h (Begin a) g }
     ensures again { (d : Domain) (first : ℕ) (n : Node) (h : List Act) (s : ℕ)
         → (g : List Act) × Adds (here d first n) h (Retry s) g }
+    ensures rekeyed { (d : Domain) (first a : ℕ) (h : List Act)
+        → (g : List Act) × Adds (here d first (Ap a)) h Rekey g }
+    ensures expired { (d : Domain) (first : ℕ) (n : Node) (h : List Act) (s : ℕ)
+        → (g : List Act) × Adds (here d first n) h (Expire s) g }
+    ensures left { (d : Domain) (first : ℕ) (n : Node) (h : List Act)
+        → (g : List Act) × Adds (here d first n) h Leave g }
 {}
 
 /// A node notes what a frame had sealed where the MIC of the frame verified, and there alone. Whatever its history, a seal is noted
 /// of octets that came and read as an EAPOL-Key message with the MIC of its octets under the key of the seal. And it is noted
 /// wherever a message with a MIC (all but M1) is accepted or answered, or is refused for what its key data hold.
 pub fn seals_are_verified()
-    ensures verified { (d : Domain) (first : ℕ) (n : Node) (h : List Act) (event : NodeEvent) (g : List Act)
+    ensures verified { (d : Domain) (first : ℕ) (n : Node) (h : List Act) (event : NodeEvent)
+        (g : List Act)
         (from : Option Node) (octets : List ℕ) (k : Kind) (o : Outcome) (s : Seal)
         → Adds (here d first n) h event g → In (Took from octets k o (Some s)) g
         → (event ≡ Take octets) × IsVerified d.akm octets s }
-    ensures noted { (d : Domain) (first : ℕ) (n : Node) (h : List Act) (octets : List ℕ) (r : Reading) (facts : Facts) (g : List Act)
+    ensures noted { (d : Domain) (first : ℕ) (n : Node) (h : List Act) (octets : List ℕ)
+        (r : Reading) (facts : Facts) (g : List Act)
         → Reads d.akm octets r → Knows d first n h r facts → Adds (here d first n) h (Take octets) g
         → is_past_mic (first_verdict d first n h r) (kind_of r) ≡ true
-        → (s : Seal) × In (Took (sender d n r) octets (kind_of r) (verdict d first n h r facts) (Some s)) g }
+        → (s : Seal)
+        × In (Took (sender d n r) octets (kind_of r) (verdict d first n h r facts) (Some s)) g }
 {}
 
 /// The network and the rounds determine the journal.
 pub fn one_journal()
-    ensures { (d : Domain) (rounds : List (List Event)) (j k : List Entry) → Explained d rounds j → Explained d rounds k → j ≡ k }
+    ensures { (d : Domain) (rounds : List (List Event)) (j k : List Entry) → Explained d rounds j
+        → Explained d rounds k → j ≡ k }
 {}
 
-/// A session ends only as its station connects anew, or as its access point accepts an M4 of a new attempt, whose MIC verified: so
-/// no frame that was made without the key ends one.
+/// A session ends only as its station connects anew or is told to leave, or as its access point accepts an M4 of a new attempt, whose
+/// MIC verified, gives it up after four sends of G1 that brought no answer, or is told to drop what it has with the station: so no
+/// frame that was made without the key ends one.
 pub fn sessions_end_by_a_key()
-    ensures { (d : Domain) (first : ℕ) (n : Node) (h : List Act) (event : NodeEvent) (g : List Act) (p : Node)
+    ensures { (d : Domain) (first : ℕ) (n : Node) (h : List Act) (event : NodeEvent) (g : List Act)
+        (p : Node)
         → Adds (here d first n) h event g → In (Closed p Session) g → EndsRightly d event g p }
 {}
 
@@ -79,7 +97,18 @@ pub fn sessions_end_by_a_key()
 /// station with the access point's group key, also where M3 is sent once more and answered once more; and both then begin a
 /// second attempt, each with a new nonce. And there are such networks.
 pub fn handshake_is_explained()
-    ensures whole { (d : Domain) (a s : ℕ) → InForm d → AreWhole d → d.akm ≢ FtPsk → a < length d.aps → s < length d.stas
+    ensures whole { (d : Domain) (a s : ℕ) → InForm d → AreWhole d → d.akm ≢ FtPsk
+        → a < length d.aps → s < length d.stas
         → HasHandshake d a s }
-    ensures network { (akm : Akm) (seed ssid psk : List ℕ) → IsSsid ssid → InForm (small akm seed ssid psk) × AreWhole (small akm seed ssid psk) }
+    ensures network { (akm : Akm) (seed ssid psk : List ℕ) → IsSsid ssid
+        → InForm (small akm seed ssid psk) × AreWhole (small akm seed ssid psk) }
+{}
+
+/// Nor is the group key handshake: after such a handshake the access point, where the group keys that it draws differ, draws a new
+/// one, the station installs it by G1 and answers with G2, by which it becomes current; and as the station associates anew, it
+/// resumes that key.
+pub fn renewal_is_explained()
+    ensures { (d : Domain) (a s : ℕ) → InForm d → AreWhole d → d.akm ≢ FtPsk → a < length d.aps
+        → s < length d.stas
+        → gtk d (Ap a) 2 ≢ gtk d (Ap a) 0 → HasRenewal d a s }
 {}

@@ -3,4 +3,7 @@
 
 mod laws;
 
-pub use laws::{handshake_is_explained, one_group, one_journal, one_reading, seals_are_verified};
+pub use laws::{
+    handshake_is_explained, one_group, one_journal, one_reading, renewal_is_explained,
+    seals_are_verified,
+};

@@ -5,7 +5,7 @@ use Rattle.domain_base.specs.declared.names.Akm.TheVariants.{FtPsk}
 use Rattle.domain_base.specs.declared.names.Node.TheVariants.{Ap, Sta}
 use Rattle.run_journal.specs.declared.domain.Domain.{Domain}
 use Rattle.run_journal.specs.declared.domain.Event.{Event}
-use Rattle.run_journal.specs.declared.domain.Event.TheVariants.{Connect, Deliver, Alter, Cut, Inject, Retry}
+use Rattle.run_journal.specs.declared.domain.Event.TheVariants.{Connect, Deliver, Alter, Cut, Inject, Retry, Rekey, Expire, Leave}
 use Rattle.run_journal.specs.declared.acts.Entry.{Entry}
 use Rattle.run_journal.specs.Acts.{is_sent}
 use Rattle.run_journal.specs.Questions.{history}
@@ -33,6 +33,9 @@ IsEventIn d sent j (Alter number place mask to) = (1 ≤ number) × (number ≤ 
 IsEventIn d sent j (Cut number size to) = (1 ≤ number) × (number ≤ sent) × IsListed d to × HasOctets j number size
 IsEventIn d sent j (Inject to octets) = IsListed d to
 IsEventIn d sent j (Retry a s) = (a < length d.aps) × (s < length d.stas)
+IsEventIn d sent j (Rekey a) = a < length d.aps
+IsEventIn d sent j (Expire a s) = (a < length d.aps) × (s < length d.stas)
+IsEventIn d sent j (Leave s) = s < length d.stas
 
 -- frames are numbered from 1 in the order of sending, and every other act has number 0
 unfoldable pub IsNumbered : List Entry → Type 0

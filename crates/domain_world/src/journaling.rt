@@ -13,7 +13,8 @@ use run_journal::{Act, Entry, Journal};
 fn number(act: &Act, place: usize, frames: &mut Vec<usize>) -> u64
     requires { vec_len frames.old < vec_capacity frames.old }
     ensures number { result ≡ cond (is_sent act.now) (suc (length frames.old.items)) 0 }
-    ensures noted { frames.new.items ≡ cond (is_sent act.now) (frames.old.items ++ place ∷ []) frames.old.items }
+    ensures noted { frames.new.items
+        ≡ cond (is_sent act.now) (frames.old.items ++ place ∷ []) frames.old.items }
     ensures length { vec_len frames.new ≤ vec_len frames.old + 1 }
     ensures capacity { vec_capacity frames.old ≤ vec_capacity frames.new }
 {
@@ -31,7 +32,13 @@ fn journal_act(round: u64, node: Node, act: Act, frames: &mut Vec<usize>, journa
     requires room { 0 < journal.old.spare }
     requires places { vec_len frames.old < vec_capacity frames.old }
     requires noted { frames.old.items ≡ places journal.old.entries }
-    ensures entries { journal.new.entries ≡ record { round = round; node = node; number = number_of act journal.old.entries; act = act } ∷ journal.old.entries }
+    ensures entries { journal.new.entries
+        ≡ record {
+          round = round;
+          node = node;
+          number = number_of act journal.old.entries;
+          act = act;
+        } ∷ journal.old.entries }
     ensures noted { frames.new.items ≡ places journal.new.entries }
     ensures room { journal.old.spare ≤ journal.new.spare + 1 }
     ensures length { vec_len frames.new ≤ vec_len frames.old + 1 }

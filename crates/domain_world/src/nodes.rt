@@ -61,7 +61,8 @@ fn list_station(stas: &mut Stas, address: Mac) -> Result<(), NoMemory>
 
 // The access point that was listed last is listed no more.
 fn unlist_ap(aps: &mut Aps)
-    ensures { (before : List Listed) (last : Listed) → aps.old ≡ before ++ last ∷ [] → aps.new ≡ before }
+    ensures { (before : List Listed) (last : Listed) → aps.old ≡ before ++ last ∷ []
+        → aps.new ≡ before }
 {
     let _last = aps.0.pop();
 }
@@ -115,7 +116,8 @@ impl Nodes {
         ensures domain { OnOk result (self.new.domain ≡ with_ap self.old.domain address r0kh_id) }
         ensures listed { AreListed self.new }
         ensures acts { IfOk result (λ node. out.new.acts ≡ start_acts self.new.domain 0 node) }
-        ensures stand { IfOk result (λ node. (j : List Entry) → Stand self.old j → history node j ≡ []
+        ensures stand { IfOk result
+            (λ node. (j : List Entry) → Stand self.old j → history node j ≡ []
             → Stand self.new (push 0 node out.new.acts j)) }
         ensures same { OnErr result (self.new ≡ self.old) }
         ensures kept { OnErr result (out.new.acts ≡ []) }
@@ -140,7 +142,9 @@ impl Nodes {
         requires form { InForm (with_sta self.old.domain address) }
         ensures domain { OnOk result (self.new.domain ≡ with_sta self.old.domain address) }
         ensures listed { AreListed self.new }
-        ensures stand { OnOk result ((j : List Entry) → Stand self.old j → history (StaOf (length self.old.domain.stas)) j ≡ []
+        ensures stand { OnOk result
+            ((j : List Entry) → Stand self.old j
+            → history (StaOf (length self.old.domain.stas)) j ≡ []
             → Stand self.new j) }
         ensures same { OnErr result (self.new ≡ self.old) }
     {
@@ -152,7 +156,7 @@ impl Nodes {
         Ok(())
     }
 
-    /// How many acts an event adds at most: for each station it may be one more.
+    /// How many acts an event adds at most: by a new group key a frame goes to each station.
     pub(crate) fn most_acts(&self) -> usize
         requires { length self.now.stas ≤ 64 }
         ensures { result ≡ 8 + length self.now.stas }

@@ -85,7 +85,8 @@ impl World {
         ensures domain { OnOk result (self.new.domain ≡ with_ap self.old.domain address r0kh_id) }
         ensures own { Owns self.new journal.new.entries }
         ensures rounds { self.new.rounds ≡ self.old.rounds }
-        ensures started { OnOk result (journal.old.entries ≡ started self.old.domain (length self.old.domain.aps)
+        ensures started { OnOk result
+            (journal.old.entries ≡ started self.old.domain (length self.old.domain.aps)
             → journal.new.entries ≡ started self.new.domain (length self.new.domain.aps)) }
         ensures same { OnErr result (self.new ≡ self.old) }
         ensures kept { OnErr result (journal.new.entries ≡ journal.old.entries) }
@@ -107,7 +108,8 @@ impl World {
         ensures domain { OnOk result (self.new.domain ≡ with_sta self.old.domain address) }
         ensures own { (j : List Entry) → Owns self.old j → Owns self.new j }
         ensures rounds { self.new.rounds ≡ self.old.rounds }
-        ensures started { OnOk result ((j : List Entry) → j ≡ started self.old.domain (length self.old.domain.aps)
+        ensures started { OnOk result
+            ((j : List Entry) → j ≡ started self.old.domain (length self.old.domain.aps)
             → j ≡ started self.new.domain (length self.new.domain.aps)) }
         ensures same { OnErr result (self.new ≡ self.old) }
     {
@@ -119,9 +121,12 @@ impl World {
     /// frame that was sent. An octet that is changed, and octets that are kept, are the frame's.
     pub fn event(&mut self, event: &Event, journal: &mut Journal) -> Result<(), NoMemory>
         requires own { Owns self.old journal.old.entries }
-        requires event { IsEventIn self.old.domain (length self.old.frames) journal.old.entries event.now }
+        requires event { IsEventIn self.old.domain (length self.old.frames) journal.old.entries
+            event.now }
         requires few { self.old.rounds + 1 < 2 ^ 64 }
-        ensures step { OnOk result (Step self.old.domain (suc self.old.rounds) event.now journal.old.entries journal.new.entries) }
+        ensures step { OnOk result
+            (Step self.old.domain (suc self.old.rounds) event.now journal.old.entries
+            journal.new.entries) }
         ensures rounds { OnOk result (self.new.rounds ≡ suc self.old.rounds) }
         ensures domain { self.new.domain ≡ self.old.domain }
         ensures own { Owns self.new journal.new.entries }
@@ -143,8 +148,10 @@ impl World {
     // The octets that come by an event that changes one; none by any other.
     fn changed(&self, event: &Event, journal: &Journal) -> Result<Vec<u8>, NoMemory>
         requires own { Owns self.now journal.now.entries }
-        requires event { IsEventIn self.now.domain (length self.now.frames) journal.now.entries event.now }
-        ensures { IfOk result (λ v. IsChanged event.now journal.now.entries (suc self.now.rounds) v.items) }
+        requires event { IsEventIn self.now.domain (length self.now.frames) journal.now.entries
+            event.now }
+        ensures { IfOk result
+            (λ v. IsChanged event.now journal.now.entries (suc self.now.rounds) v.items) }
     {
         match *event {
             Event::Alter {
@@ -169,7 +176,8 @@ impl World {
         requires some { 1 ≤ number }
         requires sent { number ≤ length self.now.frames }
         requires long { HasOctets journal.now.entries number (suc place) }
-        ensures { IfOk result (λ v. IsAltered journal.now.entries (suc self.now.rounds) number place mask v.items) }
+        ensures { IfOk result
+            (λ v. IsAltered journal.now.entries (suc self.now.rounds) number place mask v.items) }
     {
         let frame = self.frame(number, journal);
         let mut octets = Vec::from_slice(self.alloc, frame)?;
@@ -183,7 +191,9 @@ impl World {
         requires some { 1 ≤ number }
         requires sent { number ≤ length self.now.frames }
         requires long { HasOctets journal.now.entries number size }
-        ensures { (octets : List ℕ) × (WasSent journal.now.entries (suc self.now.rounds) number octets × (result.now ≡ take size octets)) }
+        ensures { (octets : List ℕ) ×
+            (WasSent journal.now.entries (suc self.now.rounds) number octets
+            × (result.now ≡ take size octets)) }
     {
         let frame = self.frame(number, journal);
         &frame[..size]
@@ -197,9 +207,11 @@ impl World {
         changed: &'a [u8],
     ) -> (Node, NodeEvent<'a>)
         requires own { Owns self.now journal.now.entries }
-        requires event { IsEventIn self.now.domain (length self.now.frames) journal.now.entries event.now }
+        requires event { IsEventIn self.now.domain (length self.now.frames) journal.now.entries
+            event.now }
         requires changed { IsChanged event.now journal.now.entries (suc self.now.rounds) changed.now }
-        ensures happens { HappensAt event.now journal.now.entries (suc self.now.rounds) result.0 (event_of result.1) }
+        ensures happens { HappensAt event.now journal.now.entries (suc self.now.rounds) result.0
+            (event_of result.1) }
         ensures listed { IsListed self.now.domain result.0 }
         ensures event { IsEventAt self.now.domain result.0 (event_of result.1) }
     {
@@ -212,6 +224,9 @@ impl World {
             }
             Event::Inject { to, octets } => (*to, NodeEvent::Take(octets.as_slice())),
             Event::Retry { ap, sta } => (Node::Ap(*ap), NodeEvent::Retry(*sta)),
+            Event::Rekey { ap } => (Node::Ap(*ap), NodeEvent::Rekey),
+            Event::Expire { ap, sta } => (Node::Ap(*ap), NodeEvent::Expire(*sta)),
+            Event::Leave { sta } => (Node::Sta(*sta), NodeEvent::Leave),
         }
     }
 

@@ -51,7 +51,8 @@ pub fn one_message()
 /// A sealed frame is the frame of the same fields with its MIC.
 pub fn sealed_octets()
     ensures { (akm : Akm) (kck : List ℕ) (f : KeyFields) → FitsKeyFrame f
-        → sealed akm kck (frame_octets f) ≡ frame_octets (record f { mic = mic akm kck (frame_octets f) }) }
+        → sealed akm kck (frame_octets f)
+        ≡ frame_octets (record f { mic = mic akm kck (frame_octets f) }) }
 {}
 
 /// The MIC of a sealed frame is the one that it carries.

@@ -1,8 +1,8 @@
-//! The EAPOL-Key frames of the four-way handshake, as octets.
+//! The EAPOL-Key frames of the four-way handshake and of the group key handshake, as octets.
 
 ghost use Rattle.std.specs.Prelude.{◌≡◌, ◌<◌, ◌^◌, ◌++◌, [], None, length};
 ghost use Rattle.rsn_elements.specs.Sent.{rsne_octets, gtk_kde_octets};
-ghost use Rattle.eapol_key.specs.declared.messages.Message.TheVariants.{M1, M2, M3, M4};
+ghost use Rattle.eapol_key.specs.declared.messages.Message.TheVariants.{M1, M2, M3, M4, G1, G2};
 ghost use Rattle.eapol_key.specs.KeyData.{padded};
 ghost use Rattle.eapol_key.specs.Octets.{frame_octets};
 ghost use Rattle.eapol_key.specs.Sealed.{sealed};
@@ -23,6 +23,12 @@ const RSNE_LEN: usize = 22;
 const GROUP_KEY_DATA_LEN: usize = RSNE_LEN + 24;
 
 const WRAPPED_LEN: usize = 56;
+
+// The octets of a GTK KDE, which is the key data of message 1 of the group key handshake; and under
+// its wrap, where it needs no padding.
+const GTK_KDE_LEN: usize = 24;
+
+const WRAPPED_KDE_LEN: usize = 32;
 
 /// The RSNE of the suite, as this network sends it: without a PMKID list
 /// (IEEE Std 802.11-2020, 9.4.2.24).
@@ -120,6 +126,63 @@ pub(crate) fn m4_frame(akm: Akm, kck: &[u8; 16], counter: u64) -> [u8; KEY_DATA_
 {
     let mut frame = [0; KEY_DATA_AT];
     write(Message::M4, akm, counter, &[0; 32], 0, &[], &mut frame);
+    seal(akm, kck, &mut frame);
+    frame
+}
+
+// A GTK KDE (IEEE Std 802.11-2020, 12.7.2).
+fn gtk_kde(id: u8, key: &[u8; 16]) -> [u8; GTK_KDE_LEN]
+    requires { id < 4 }
+    ensures octets { result ≡ gtk_kde_octets id key.now }
+    ensures size { length result ≡ GTK_KDE_LEN }
+{
+    let mut out = [0; GTK_KDE_LEN];
+    ElementWriter::over(&mut out).gtk_kde(id, key);
+    out
+}
+
+// Message 1 of the group key handshake, with a group key and the count of packet numbers used under
+// it (IEEE Std 802.11-2020, 12.7.7.2).
+pub(crate) fn g1_frame(
+    akm: Akm,
+    key: &Ptk,
+    counter: u64,
+    group: &GroupKey,
+    rsc: u64,
+) -> [u8; KEY_DATA_AT + WRAPPED_KDE_LEN]
+    requires id { group.now.id < 4 }
+    requires packet_number { rsc < 2 ^ 48 }
+    ensures frame { let plain = gtk_kde_octets group.now.id group.now.key
+        in let key_data = wrapped key.now.kek (padded plain)
+        in result ≡ sealed akm key.now.kck
+        (frame_octets (sent_fields G1 akm counter [] rsc key_data)) }
+    ensures size { length result ≡ 131 }
+{
+    let (kck, kek) = (key.kck, key.kek);
+    let mut key_data = [0; WRAPPED_KDE_LEN];
+    close_key_data(&kek, &gtk_kde(group.id, &group.key), &mut key_data);
+    let mut frame = [0; KEY_DATA_AT + WRAPPED_KDE_LEN];
+    write(
+        Message::G1,
+        akm,
+        counter,
+        &[0; 32],
+        rsc,
+        &key_data,
+        &mut frame,
+    );
+    seal(akm, &kck, &mut frame);
+    frame
+}
+
+// Message 2 of the group key handshake (IEEE Std 802.11-2020, 12.7.7.3).
+pub(crate) fn g2_frame(akm: Akm, kck: &[u8; 16], counter: u64) -> [u8; KEY_DATA_AT]
+    ensures frame { result ≡ sealed akm kck.now
+        (frame_octets (sent_fields G2 akm counter [] 0 [])) }
+    ensures size { length result ≡ KEY_DATA_AT }
+{
+    let mut frame = [0; KEY_DATA_AT];
+    write(Message::G2, akm, counter, &[0; 32], 0, &[], &mut frame);
     seal(akm, kck, &mut frame);
     frame
 }

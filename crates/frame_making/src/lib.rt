@@ -1,5 +1,5 @@
 //! The frames that nodes send: those of associations, each as the act of sending it, and the
-//! EAPOL-Key frames of the four-way handshake, written into replies.
+//! EAPOL-Key frames of the four-way handshake and of the group key handshake, written into replies.
 #![tactic(auto)]
 
 mod keying;
@@ -8,4 +8,4 @@ mod writing;
 
 pub use keying::rsne;
 pub use sending::{assoc_req, assoc_resp, refusal};
-pub use writing::{write_m1, write_m2, write_m3, write_m4};
+pub use writing::{write_g1, write_g2, write_m1, write_m2, write_m3, write_m4};

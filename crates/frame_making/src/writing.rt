@@ -1,4 +1,5 @@
-//! The EAPOL-Key frames of the four-way handshake, written into replies. No memory is taken.
+//! The EAPOL-Key frames of the four-way handshake and of the group key handshake, written into
+//! replies. No memory is taken.
 
 ghost use Rattle.std.specs.Prelude.{◌≡◌, ◌≤◌, ◌<◌, ◌+◌, ◌^◌, [], ◌∷◌, length, take};
 ghost use Rattle.std.specs.Prelude.{Some, None, option_map};
@@ -11,14 +12,14 @@ ghost use Rattle.run_journal.specs.declared.acts.Act.TheVariants.{Sent};
 ghost use Rattle.run_journal.specs.Replies.{IsWhole};
 ghost use Rattle.run_journal.specs.Acts.{Derivation};
 ghost use Rattle.domain_rules.specs.Frames.{in_data, frame_seal};
-ghost use Rattle.domain_rules.specs.Frames.{sent_m1, sent_m2, sent_m3, sent_m4};
+ghost use Rattle.domain_rules.specs.Frames.{sent_m1, sent_m2, sent_m3, sent_m4, sent_g1, sent_g2};
 ghost use Rattle.domain_rules.specs.Replies.{sent_acts};
 ghost use Rattle.group_key.specs.Holds.{carried};
 ghost use Rattle.frame_making.specs.Between.{bssid_between, octets_between};
 ghost use Rattle.node_base.specs.Ends.{AreEnds};
 ghost use Rattle.frame_making.specs.Replied.{Keeps};
 
-use crate::keying::{m1_frame, m2_frame, m3_frame, m4_frame};
+use crate::keying::{g1_frame, g2_frame, m1_frame, m2_frame, m3_frame, m4_frame};
 use air_frame::{Direction, write_eapol_data};
 use domain_base::Mac;
 use eapol_key::Message;
@@ -148,4 +149,41 @@ pub fn write_m4(ends: &Ends, key: &Keyed, counter: u64, reply: &mut Reply)
     let kck = key.ptk.kck;
     let frame = m4_frame(ends.akm, &kck, counter);
     write_frame(ends, Message::M4, Some(kck), &frame, reply);
+}
+
+/// Message 1 of the group key handshake under that key, with a group key and the count of packet
+/// numbers that were used under it (IEEE Std 802.11-2020, 12.7.7.2).
+pub fn write_g1(
+    ends: &Ends,
+    key: &Keyed,
+    counter: u64,
+    group: &GroupKey,
+    rsc: u64,
+    reply: &mut Reply,
+)
+    requires id { group.now.id < 4 }
+    requires packet_number { rsc < 2 ^ 48 }
+    ensures writes { (d : AnyDomain) (n p : AnyNode) (x : Derivation) → AreEnds d n p ends.now
+        → key.now.ptk ≡ x.ptk
+        → sent_acts p reply.new ≡ sent_g1 d n p x counter (carried group.now) rsc ∷ [] }
+    ensures keeps { Keeps reply.old reply.new }
+    ensures fits { IsWhole reply.new }
+    ensures whole { IsAddress ends.now.own.0 × IsAddress ends.now.peer.0 }
+{
+    let ptk = key.ptk;
+    let frame = g1_frame(ends.akm, &ptk, counter, group, rsc);
+    write_frame(ends, Message::G1, Some(ptk.kck), &frame, reply);
+}
+
+/// Message 2 of the group key handshake under that key (IEEE Std 802.11-2020, 12.7.7.3).
+pub fn write_g2(ends: &Ends, key: &Keyed, counter: u64, reply: &mut Reply)
+    ensures writes { (d : AnyDomain) (n p : AnyNode) (x : Derivation) → AreEnds d n p ends.now
+        → key.now.ptk ≡ x.ptk → sent_acts p reply.new ≡ sent_g2 d n p x counter ∷ [] }
+    ensures keeps { Keeps reply.old reply.new }
+    ensures fits { IsWhole reply.new }
+    ensures whole { IsAddress ends.now.own.0 × IsAddress ends.now.peer.0 }
+{
+    let kck = key.ptk.kck;
+    let frame = g2_frame(ends.akm, &kck, counter);
+    write_frame(ends, Message::G2, Some(kck), &frame, reply);
 }

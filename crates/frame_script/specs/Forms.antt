@@ -2,7 +2,7 @@
 use Rattle.std.specs.Prelude.{ℕ, ◌==◌, ◌&&◌, if◌then◌else◌, List, length, bytes_eq, codes}
 use Rattle.run_journal.specs.declared.domain.Domain.{Domain}
 use Rattle.frame_script.specs.declared.forms.Form.{Form}
-use Rattle.frame_script.specs.declared.forms.Form.TheVariants.{Version, Seed, Ssid, Key, Passphrase, Psk, Akm, Ap, Sta, Connect, Deliver, Alter, Cut, Inject, Retry, Any, StaOrEvent, Event}
+use Rattle.frame_script.specs.declared.forms.Form.TheVariants.{Version, Seed, Ssid, Key, Passphrase, Psk, Akm, Ap, Sta, Connect, Deliver, Alter, Cut, Inject, Retry, Rekey, Expire, Leave, Any, StaOrEvent, Event}
 use Rattle.frame_script.specs.Tokens.{first_word}
 use Rattle.frame_script.specs.Script.{Draft, AtVersion, AtSeed, AtSsid, AtPsk, AtAkm, AtNodes}
 
@@ -23,9 +23,12 @@ form_text Alter = codes "alter <n> <place> <2 digits> to <node>"
 form_text Cut = codes "cut <n> <length> to <node>"
 form_text Inject = codes "inject <node> <digits>"
 form_text Retry = codes "retry <ap> <sta>"
-form_text Any = codes "that of ap, sta, connect, deliver, alter, cut, inject or retry"
-form_text StaOrEvent = codes "that of sta, connect, deliver, alter, cut, inject or retry"
-form_text Event = codes "that of connect, deliver, alter, cut, inject or retry"
+form_text Rekey = codes "rekey <ap>"
+form_text Expire = codes "expire <ap> <sta>"
+form_text Leave = codes "leave <sta>"
+form_text Any = codes "that of ap, sta, connect, deliver, alter, cut, inject, retry, rekey, expire or leave"
+form_text StaOrEvent = codes "that of sta, connect, deliver, alter, cut, inject, retry, rekey, expire or leave"
+form_text Event = codes "that of connect, deliver, alter, cut, inject, retry, rekey, expire or leave"
 
 -- the line that tells the pre-shared key, by its first word
 abbrev pub key_form : List ℕ → Form
@@ -43,12 +46,20 @@ frame_form word other =
     else if bytes_eq word (codes "inject") then Inject
     else other
 
+-- a line for an access point's or a station's sessions, by its first word
+abbrev pub session_form : List ℕ → Form → Form
+session_form word other =
+    if bytes_eq word (codes "rekey") then Rekey
+    else if bytes_eq word (codes "expire") then Expire
+    else if bytes_eq word (codes "leave") then Leave
+    else other
+
 -- a line that asks for an event, by its first word
 abbrev pub event_form : List ℕ → Form → Form
 event_form word other =
     if bytes_eq word (codes "connect") then Connect
     else if bytes_eq word (codes "retry") then Retry
-    else frame_form word other
+    else frame_form word (session_form word other)
 
 -- whatever may stand there: access points are listed before stations, and both before any event
 abbrev pub late_form : Domain → ℕ → Form

@@ -8,7 +8,7 @@ use Rattle.domain_base.specs.declared.names.Node.TheVariants.{Ap, Sta}
 use Rattle.run_journal.specs.declared.domain.Domain.{Domain}
 use Rattle.run_journal.specs.declared.domain.ListedAp.{ListedAp}
 use Rattle.run_journal.specs.declared.domain.Event.{Event}
-use Rattle.run_journal.specs.declared.domain.Event.TheVariants.{Connect, Deliver, Alter, Cut, Inject, Retry}
+use Rattle.run_journal.specs.declared.domain.Event.TheVariants.{Connect, Deliver, Alter, Cut, Inject, Retry, Rekey, Expire, Leave}
 use Rattle.run_journal.specs.declared.acts.Act.{Act}
 use Rattle.run_journal.specs.declared.acts.Act.TheVariants.{Sent}
 use Rattle.run_journal.specs.declared.acts.Entry.{Entry}
@@ -106,6 +106,9 @@ CanHappen d sizes (Alter number place mask to) = IsListedIn d to × IsSized size
 CanHappen d sizes (Cut number size to) = IsListedIn d to × IsSized sizes number size
 CanHappen d sizes (Inject to octets) = IsListedIn d to
 CanHappen d sizes (Retry a s) = (a < length d.aps) × (s < length d.stas)
+CanHappen d sizes (Rekey a) = a < length d.aps
+CanHappen d sizes (Expire a s) = (a < length d.aps) × (s < length d.stas)
+CanHappen d sizes (Leave s) = s < length d.stas
 
 -- what a step says, and what can be done with it; the header is whole with one line only, so with `Network` it was not before
 abbrev pub TakesStep : Draft → Draft → ℕ → List ℕ → Result Said Fault → Step → Type 0

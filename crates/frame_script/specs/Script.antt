@@ -11,7 +11,7 @@ use Rattle.run_journal.specs.declared.domain.Domain.{Domain}
 use Rattle.run_journal.specs.Listing.{with_ap, with_sta}
 use Rattle.run_journal.specs.declared.domain.ListedAp.{ListedAp}
 use Rattle.run_journal.specs.declared.domain.Event.{Event}
-use Rattle.run_journal.specs.declared.domain.Event.TheVariants.{Connect, Deliver, Alter, Cut, Inject, Retry}
+use Rattle.run_journal.specs.declared.domain.Event.TheVariants.{Connect, Deliver, Alter, Cut, Inject, Retry, Rekey, Expire, Leave}
 use Rattle.frame_script.specs.Tokens.{NodeWord, behind, split_word, first_word, hex_octets, some_octets, number_of_digits, node_word, is_text}
 
 -- ---- why a line is refused
@@ -282,6 +282,38 @@ inject_line d text = do
   to ← need node_ (listed d w)
   Ok (Inject to octets)
 
+-- `rekey`, and an access point
+unfoldable pub rekey_line : Domain → List ℕ → Result Event Fault
+rekey_line d text = do
+  a ← need arguments (node_word text)
+  ap ← need node_ (listed_ap d a)
+  Ok (Rekey ap)
+
+-- `expire`, an access point and a station
+unfoldable pub expire_line : Domain → List ℕ → Result Event Fault
+expire_line d text = do
+  words ← need arguments (split_word text)
+  a ← need arguments (node_word words.0)
+  s ← need arguments (node_word words.1)
+  ap ← need node_ (listed_ap d a)
+  sta ← need node_ (listed_sta d s)
+  Ok (Expire ap sta)
+
+-- `leave`, and a station
+unfoldable pub leave_line : Domain → List ℕ → Result Event Fault
+leave_line d text = do
+  s ← need arguments (node_word text)
+  sta ← need node_ (listed_sta d s)
+  Ok (Leave sta)
+
+-- an event of an access point's or a station's sessions, by its first word
+unfoldable pub session_event_of : Domain → List ℕ → List ℕ → Result Event Fault
+session_event_of d word text =
+    if bytes_eq word (codes "rekey") then rekey_line d text
+    else if bytes_eq word (codes "expire") then expire_line d text
+    else if bytes_eq word (codes "leave") then leave_line d text
+    else Err word_
+
 -- an event by its first word
 unfoldable pub event_of : Domain → List ℕ → List ℕ → List ℕ → Result Event Fault
 event_of d sizes word text =
@@ -291,7 +323,7 @@ event_of d sizes word text =
     else if bytes_eq word (codes "cut") then cut_line d sizes text
     else if bytes_eq word (codes "inject") then inject_line d text
     else if bytes_eq word (codes "retry") then retry_line d text
-    else Err word_
+    else session_event_of d word text
 
 -- an event, where no more frames were sent than a run can number
 unfoldable pub event_line : Domain → List ℕ → List ℕ → List ℕ → Result Said Fault

@@ -4,7 +4,7 @@ ghost use Rattle.std.specs.Prelude.{◌≡◌, false, bytes_eq, ◌<◌, ◌≤�
 ghost use Rattle.run_journal.specs.declared.domain.Event.TheVariants as asks;
 ghost use Rattle.frame_script.specs.Tokens.{hex_value, number_of_digits, split_word};
 ghost use Rattle.frame_script.specs.Headers.{CanHappen, IsListedIn, IsSized};
-ghost use Rattle.frame_script.specs.Script.{Asks, alter_line, connect_line, cut_line, deliver_line, event_line, event_of, frame_octets, inject_line, listed, listed_ap, listed_sta, need, node_, frame_, place_, ◌>>=◌ as ◌>>=ᴿ◌, place_in, retry_line, size_of, to_word};
+ghost use Rattle.frame_script.specs.Script.{Asks, alter_line, connect_line, cut_line, deliver_line, event_line, event_of, frame_octets, inject_line, listed, listed_ap, listed_sta, need, node_, frame_, place_, ◌>>=◌ as ◌>>=ᴿ◌, place_in, expire_line, leave_line, rekey_line, retry_line, session_event_of, size_of, to_word};
 ghost use Rattle.frame_script.specs.Sentences.{CanAsk, Tells, TellsBy, event_of as event_asked, is_few, name_of, octets_of};
 
 use crate::refusal::Refusal;
@@ -362,6 +362,74 @@ fn inject_line<'a>(domain: &Domain, text: &'a [u8]) -> Result<Asked<'a>, Refusal
     inject(domain, name, digits)
 }
 
+// An access point draws a new group key.
+#[tactic(auto, unfolding(crate::specs::Script::rekey_line))]
+fn rekey_line(domain: &Domain, text: &[u8]) -> Result<Event, Refusal>
+    requires { IsTrue (is_few domain.now) }
+    ensures can { (sizes : List ℕ) → IfOk result (CanHappen domain.now sizes) }
+    ensures says { Tells result (rekey_line domain.now text.now) }
+{
+    let ap = node_name(text).ok_or(Refusal::Arguments)?;
+    let ap = listed_ap(domain, ap).ok_or(Refusal::Node)?;
+    Ok(Event::Rekey { ap })
+}
+
+// An access point drops what it has with a station, by their names.
+fn expire(domain: &Domain, ap: NodeName, sta: NodeName) -> Result<Event, Refusal>
+    requires { IsTrue (is_few domain.now) }
+    ensures can { (sizes : List ℕ) → IfOk result (CanHappen domain.now sizes) }
+    ensures says { Tells result
+        (need node_ (listed_ap domain.now (name_of ap)) >>=ᴿ (λ a.
+        need node_ (listed_sta domain.now (name_of sta)) >>=ᴿ (λ s. Ok (asks.Expire a s)))) }
+{
+    let ap = listed_ap(domain, ap).ok_or(Refusal::Node)?;
+    let sta = listed_sta(domain, sta).ok_or(Refusal::Node)?;
+    Ok(Event::Expire { ap, sta })
+}
+
+// An access point drops what it has with a station.
+#[tactic(auto, unfolding(crate::specs::Script::expire_line))]
+fn expire_line(domain: &Domain, text: &[u8]) -> Result<Event, Refusal>
+    requires { IsTrue (is_few domain.now) }
+    ensures can { (sizes : List ℕ) → IfOk result (CanHappen domain.now sizes) }
+    ensures says { Tells result (expire_line domain.now text.now) }
+{
+    let (first, second) = split_word(text).ok_or(Refusal::Arguments)?;
+    let ap = node_name(first).ok_or(Refusal::Arguments)?;
+    let sta = node_name(second).ok_or(Refusal::Arguments)?;
+    expire(domain, ap, sta)
+}
+
+// A station drops what it has.
+#[tactic(auto, unfolding(crate::specs::Script::leave_line))]
+fn leave_line(domain: &Domain, text: &[u8]) -> Result<Event, Refusal>
+    requires { IsTrue (is_few domain.now) }
+    ensures can { (sizes : List ℕ) → IfOk result (CanHappen domain.now sizes) }
+    ensures says { Tells result (leave_line domain.now text.now) }
+{
+    let sta = node_name(text).ok_or(Refusal::Arguments)?;
+    let sta = listed_sta(domain, sta).ok_or(Refusal::Node)?;
+    Ok(Event::Leave { sta })
+}
+
+// An event of an access point's or a station's sessions, by its first word.
+#[tactic(auto, unfolding(crate::specs::Script::session_event_of))]
+fn session_event_of(domain: &Domain, word: &[u8], text: &[u8]) -> Result<Event, Refusal>
+    requires { IsTrue (is_few domain.now) }
+    ensures can { (sizes : List ℕ) → IfOk result (CanHappen domain.now sizes) }
+    ensures says { Tells result (session_event_of domain.now word.now text.now) }
+{
+    if word == b"rekey".as_slice() {
+        rekey_line(domain, text)
+    } else if word == b"expire".as_slice() {
+        expire_line(domain, text)
+    } else if word == b"leave".as_slice() {
+        leave_line(domain, text)
+    } else {
+        Err(Refusal::Word)
+    }
+}
+
 // An event that takes no memory, where its first word is none of those before it.
 #[tactic(auto, unfolding(crate::specs::Script::event_of))]
 fn other_event_of(
@@ -383,7 +451,7 @@ fn other_event_of(
     } else if word == b"retry".as_slice() {
         retry_line(domain, text)
     } else {
-        Err(Refusal::Word)
+        session_event_of(domain, word, text)
     }
 }
 

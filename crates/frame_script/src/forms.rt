@@ -2,7 +2,7 @@
 
 ghost use Rattle.std.specs.Prelude.{◌≡◌};
 ghost use Rattle.frame_script.specs.Due.{draft_of};
-ghost use Rattle.frame_script.specs.Forms.{body_form, event_form, form_of, form_text, frame_form, key_form, late_form};
+ghost use Rattle.frame_script.specs.Forms.{body_form, event_form, form_of, form_text, frame_form, key_form, late_form, session_form};
 
 use crate::header::Due;
 use crate::tokens::first_word;
@@ -41,6 +41,12 @@ pub enum Form {
     Inject,
     /// What waits for an answer is sent once more.
     Retry,
+    /// A new group key.
+    Rekey,
+    /// What an access point drops.
+    Expire,
+    /// A station that drops what it has.
+    Leave,
     /// An access point, a station or an event.
     Any,
     /// A station or an event.
@@ -70,9 +76,18 @@ impl Form {
             Form::Cut => "cut <n> <length> to <node>",
             Form::Inject => "inject <node> <digits>",
             Form::Retry => "retry <ap> <sta>",
-            Form::Any => "that of ap, sta, connect, deliver, alter, cut, inject or retry",
-            Form::StaOrEvent => "that of sta, connect, deliver, alter, cut, inject or retry",
-            Form::Event => "that of connect, deliver, alter, cut, inject or retry",
+            Form::Rekey => "rekey <ap>",
+            Form::Expire => "expire <ap> <sta>",
+            Form::Leave => "leave <sta>",
+            Form::Any => {
+                "that of ap, sta, connect, deliver, alter, cut, inject, retry, rekey, expire or leave"
+            }
+            Form::StaOrEvent => {
+                "that of sta, connect, deliver, alter, cut, inject, retry, rekey, expire or leave"
+            }
+            Form::Event => {
+                "that of connect, deliver, alter, cut, inject, retry, rekey, expire or leave"
+            }
         }
     }
 }
@@ -107,6 +122,22 @@ fn frame_form(word: &[u8], other: Form) -> Form
     }
 }
 
+// The form of a line for an access point's or a station's sessions, by its first word; for another
+// word the other one.
+fn session_form(word: &[u8], other: Form) -> Form
+    ensures { result ≡ session_form word.now other }
+{
+    if word == b"rekey".as_slice() {
+        Form::Rekey
+    } else if word == b"expire".as_slice() {
+        Form::Expire
+    } else if word == b"leave".as_slice() {
+        Form::Leave
+    } else {
+        other
+    }
+}
+
 // The form of a line that asks for an event, by its first word; for another word the other one.
 fn event_form(word: &[u8], other: Form) -> Form
     ensures { result ≡ event_form word.now other }
@@ -116,7 +147,7 @@ fn event_form(word: &[u8], other: Form) -> Form
     } else if word == b"retry".as_slice() {
         Form::Retry
     } else {
-        frame_form(word, other)
+        frame_form(word, session_form(word, other))
     }
 }
 

@@ -1,5 +1,5 @@
 -- The receive counters of the group keys that a station keeps beside those of its history.
-use Rattle.std.proofs.Common.{◌≡◌, ℕ, ◌<◌, Bool, true, false, cond, List, [], ◌∷◌, Option, Some, None, refl, sym, ap, subst, ◌∙◌, arith}
+use Rattle.std.proofs.Common.{◌≡◌, ℕ, ◌<◌, Bool, true, false, cond, List, [], ◌∷◌, Option, Some, None, refl, sym, ap, subst, ◌∙◌, inl, inr, arith}
 use Rattle.std.specs.Prelude.{take, map, max, bytes_eq, is_some, ◌||◌, ◌&&◌, ◌==◌}
 use Rattle.std.specs.List.{AllByRecursion}
 use Rattle.std.proofs.lemmas.Bool.{eq-eqb, eqb-true}
@@ -7,18 +7,22 @@ use Rattle.std.proofs.lemmas.Slice.Eq.{bytes_eq-Decides}
 use Rattle.domain_base.specs.declared.names.Node.{Node}
 use Rattle.domain_base.specs.declared.names.Mac.{Mac}
 use Rattle.domain_base.specs.declared.names.Peer.TheVariants.{One}
+use Rattle.eapol_key.specs.declared.messages.Message.{Message}
 use Rattle.run_journal.specs.declared.acts.Key.TheVariants.{Group}
+use Rattle.run_journal.specs.declared.acts.Kind.TheVariants.{Key}
+use Rattle.run_journal.specs.declared.acts.Outcome.TheVariants.{Accepted}
+use Rattle.run_journal.specs.declared.acts.Seal.{Seal}
 use Rattle.run_journal.specs.declared.acts.Act.{Act}
-use Rattle.run_journal.specs.declared.acts.Act.TheVariants.{Installed, Resumed, HandedUp}
+use Rattle.run_journal.specs.declared.acts.Act.TheVariants.{Took, Installed, Resumed, HandedUp}
 use Rattle.run_journal.specs.Questions.{listed}
 use Rattle.run_journal.specs.Acts.{same, GroupKey, given_from}
 use Rattle.run_journal.specs.Questions.{given as all_given}
-use Rattle.domain_rules.specs.GroupKeys.{give_by, give, told, is_key, got}
+use Rattle.domain_rules.specs.GroupKeys.{give_by, give, told, rsc_in, is_key, got}
 use Rattle.domain_rules.proofs.Parts.{same-refl}
 use Rattle.domain_rules.proofs.Peers.{not_same}
 use Rattle.run_journal.specs.GroupKinds as groups
 use Rattle.group_key.specs.Keys.{Kept, has_key, kept_id, raised, given, found, taken}
-use Rattle.group_key.specs.Holds.{AreApart, Remembers, key_of}
+use Rattle.group_key.specs.Holds.{CarriesGroupKey, AreApart, Remembers, key_of}
 use Rattle.group_key.proofs.Keeping.{found_as, found_in, has_some, keys_raised, keys_taken, keys_given}
 
 -- the counter of a key is that of the history
@@ -27,6 +31,12 @@ IsCounted p h k = k.counter ≡ got groups.Gtk p k.key k.id h
 
 abbrev AreCounted : Node → List Act → List Kept → Type 0
 AreCounted p h ks = AllByRecursion (λ (k : Kept). IsCounted p h k) ks
+
+-- ---- what a message tells of a group key as it is accepted
+
+pub told_by_message : (p : Node) (m : Message) (octets : List ℕ) (s : Option Seal) (h : List Act) → CarriesGroupKey m → told groups.Gtk p (Took (Some p) octets (Key m) Accepted s ∷ h) ≡ rsc_in octets
+told_by_message p m octets s h (inl is) = rw (is, same-refl p) refl
+told_by_message p m octets s h (inr is) = rw (is, same-refl p) refl
 
 -- ---- which key an act is about
 

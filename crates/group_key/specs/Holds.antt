@@ -1,9 +1,11 @@
 -- Which histories group keys stand for.
-use Rattle.std.specs.Prelude.{◌≡◌, ℕ, false, List, [], ◌∷◌, length, map}
+use Rattle.std.specs.Prelude.{◌≡◌, ◌⊎◌, ℕ, false, List, [], ◌∷◌, length, map, None}
 use Rattle.std.specs.List.{AllByRecursion}
 use Rattle.domain_base.specs.declared.names.Node.{Node}
 use Rattle.run_journal.specs.declared.acts.Act.{Act}
-use Rattle.run_journal.specs.Acts.{GroupKey as Carried}
+use Rattle.eapol_key.specs.declared.messages.Message.{Message}
+use Rattle.eapol_key.specs.declared.messages.Message.TheVariants.{M3, G1}
+use Rattle.run_journal.specs.Acts.{GroupKey as Carried, key_drawn, switched}
 use Rattle.group_key.specs.declared.keys.GroupKey.{GroupKey}
 use Rattle.run_journal.specs.Questions.{group_keys, switches}
 use Rattle.domain_rules.specs.GroupKeys.{memory, got}
@@ -21,9 +23,18 @@ pub record Holds (s : Pair) (h : List Act) : Type 0 where
   pub newest : IsLast s.newest (group_keys groups.Gtk h)
   pub current : IsLast s.current (switches groups.Gtk h)
 
+-- an act that neither draws a group key nor makes one current
+pub record LeavesGroupKeys (e : Act) : Type 0 where
+  pub drawn : key_drawn groups.Gtk e ≡ None
+  pub made : switched groups.Gtk e ≡ None
+
 -- a group key of an access point as frames carry it
 abbrev pub carried : GroupKey → Carried
 carried k = record { key = k.key; id = k.id }
+
+-- the EAPOL-Key messages that carry one, with an RSC (IEEE Std 802.11-2020, 12.7.6.4 and 12.7.7.2)
+abbrev pub CarriesGroupKey : Message → Type 0
+CarriesGroupKey m = (m ≡ M3) ⊎ (m ≡ G1)
 
 -- a key under a key id
 abbrev pub under : List ℕ → ℕ → Carried

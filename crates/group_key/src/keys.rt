@@ -1,6 +1,6 @@
 //! The group keys of an access point (IEEE Std 802.11-2020, 12.7.7).
 
-ghost use Rattle.std.specs.Prelude.{◌≡◌, ◌≢◌, ◌<◌, ◌^◌, suc, MatchResult};
+ghost use Rattle.std.specs.Prelude.{◌≡◌, ◌≢◌, ◌↔◌, ◌<◌, ◌^◌, suc, IsTrue, IsFalse, MatchResult};
 ghost use Rattle.group_key.specs.Keys.{placed};
 
 use std::marker::Model;
@@ -38,11 +38,14 @@ pub struct GroupKeys {
 }
 
 impl Model for GroupKeys {
+    ghost use Rattle.std.specs.Prelude.{◌≡◌, ◌⊎◌, suc};
     ghost use Rattle.group_key.specs.Keys.{Pair};
 
     ghost Value = { Pair };
 
     ghost view = { λ s. record { current = s.current; newest = s.newest } };
+
+    ghost invariant = { λ s. (s.newest.place ≡ s.current.place) ⊎ (s.newest.place ≡ suc s.current.place) };
 }
 
 impl GroupKeys {
@@ -72,13 +75,25 @@ impl GroupKeys {
         self.newest
     }
 
+    /// Whether the key drawn last is not in use yet: it is then the one drawn right after the key in use.
+    pub fn is_pending(&self) -> bool
+        ensures pending { IsTrue result ↔ (self.now.newest.place ≡ suc self.now.current.place) }
+        ensures in_use { IsFalse result ↔ (self.now.newest.place ≡ self.now.current.place) }
+    {
+        let in_use = self.newest.place == self.current.place;
+        !in_use
+    }
+
     /// One more key was drawn; it comes into use by `switch`. Refused exactly where the newest is not in use yet, and then
     /// nothing is changed.
     pub fn rekey(&mut self, next: [u8; 16]) -> Result<(), RekeyPending>
         requires { self.old.newest.place < 2 ^ 60 }
-        ensures newest { MatchResult result (λ _. self.new.newest ≡ placed (suc self.old.newest.place) next) (λ _. self.new.newest ≡ self.old.newest) }
+        ensures newest { MatchResult result
+            (λ _. self.new.newest ≡ placed (suc self.old.newest.place) next)
+            (λ _. self.new.newest ≡ self.old.newest) }
         ensures current { self.new.current ≡ self.old.current }
-        ensures pending { MatchResult result (λ _. self.old.newest.place ≡ self.old.current.place) (λ _. self.old.newest.place ≢ self.old.current.place) }
+        ensures pending { MatchResult result (λ _. self.old.newest.place ≡ self.old.current.place)
+            (λ _. self.old.newest.place ≢ self.old.current.place) }
     {
         if self.newest.place != self.current.place {
             return Err(RekeyPending);

@@ -1,32 +1,62 @@
 //! What the calls do stands for what a history gains. The functions do nothing; their contracts are proved.
 
-ghost use Rattle.std.specs.Prelude.{◌≡◌, ◌↔◌, ℕ, ◌<◌, suc, List, [], ◌∷◌, length, map, None, Some, option_map};
+ghost use Rattle.std.specs.Prelude.{◌≡◌, ℕ, ◌<◌, ◌==◌, nat_lt, if◌then◌else◌, suc, List, [], ◌∷◌, map, Option, None, Some, option_map};
+ghost use Rattle.std.specs.List.{AllByRecursion};
 ghost use Rattle.domain_base.specs.declared.names.Mac.{Mac};
 ghost use Rattle.domain_base.specs.declared.names.Node.{Node};
 ghost use Rattle.domain_base.specs.declared.names.Peer.TheVariants.{All};
+ghost use Rattle.eapol_key.specs.declared.messages.Message.{Message};
 ghost use Rattle.run_journal.specs.declared.acts.Drawn.TheVariants.{Gtk};
 ghost use Rattle.run_journal.specs.declared.acts.Key.TheVariants.{Group};
+ghost use Rattle.run_journal.specs.declared.acts.Kind.TheVariants.{Key};
+ghost use Rattle.run_journal.specs.declared.acts.Outcome.TheVariants.{Accepted};
+ghost use Rattle.run_journal.specs.declared.acts.Seal.{Seal};
 ghost use Rattle.run_journal.specs.declared.acts.Act.{Act};
-ghost use Rattle.run_journal.specs.declared.acts.Act.TheVariants.{Drew, Installed, HandedUp};
-ghost use Rattle.run_journal.specs.Questions.{group_keys, switches};
+ghost use Rattle.run_journal.specs.declared.acts.Act.TheVariants.{Drew, Took, Installed, HandedUp};
+ghost use Rattle.run_journal.specs.Questions.{group_keys, switches, group_uses, draws, add};
 ghost use Rattle.run_journal.specs.Acts.{GroupKey as Carried, given_from};
-ghost use Rattle.domain_rules.specs.GroupKeys.{newest, memory, find_key, give, told, got};
 ghost use Rattle.run_journal.specs.GroupKinds as groups;
+ghost use Rattle.domain_rules.specs.GroupKeys.{newest, newest_uses, is_current, memory, find_key, give, told, rsc_in, got};
+ghost use Rattle.domain_rules.specs.Owing.{is_older};
+ghost use Rattle.group_key.specs.declared.keys.GroupKey.{GroupKey};
 ghost use Rattle.group_key.specs.Keys.{Pair, Kept, placed, kept_id, given, found, taken};
-ghost use Rattle.group_key.specs.Holds.{Holds, Remembers, carried, key_of, under};
+ghost use Rattle.group_key.specs.Holds.{IsLast, Holds, LeavesGroupKeys, CarriesGroupKey, Remembers, carried, key_of, under};
 
 /// The keys of an access point stand for its history: after the first key was drawn and made current (`GroupKeys::new`),
-/// after one more was drawn (`rekey`), and after the one drawn last was made current (`switch`). The key drawn last is then
-/// the newest of the definitions, and it is in use (`rekey` is not refused) exactly where as many keys were made current as were
-/// drawn.
+/// after one more was drawn (`rekey`), after the newest of the definitions was made current (`switch`), and after acts that
+/// neither draw a group key nor make one current.
+///
+/// The key drawn last is the newest of the definitions, and it is in use (`is_pending` is false, `rekey` is not refused) exactly
+/// where the newest of the history is current. As many packet numbers as the history used to all were used under the newest, but
+/// none as long as it is not in use. A key drawn earlier is older where its number is less. Key ids are below 4, and a key's number
+/// is below the number of values drawn.
 pub fn keys_stand()
-    ensures started { (key : List ℕ) (h : List Act) → group_keys groups.Gtk h ≡ key ∷ [] → switches groups.Gtk h ≡ key ∷ [] → Holds (record { current = placed 0 key; newest = placed 0 key }) h }
-    ensures drawn { (s : Pair) (key : List ℕ) (h : List Act) → Holds s h
-        → Holds (record { current = s.current; newest = placed (suc s.newest.place) key }) (Drew (Gtk key) ∷ h) }
-    ensures switched { (s : Pair) (b : Mac) (h : List Act) → Holds s h → s.newest.place ≡ suc s.current.place
-        → Holds (record { current = s.newest; newest = s.newest }) (Installed All (Group s.newest.key s.newest.id b) ∷ h) }
-    ensures newest { (s : Pair) (h : List Act) → Holds s h → newest groups.Gtk h ≡ carried s.newest }
-    ensures in_use { (s : Pair) (h : List Act) → Holds s h → (s.newest.place ≡ s.current.place) ↔ (length (group_keys groups.Gtk h) ≡ length (switches groups.Gtk h)) }
+    ensures started { (key : List ℕ) (h : List Act) → group_keys groups.Gtk h ≡ key ∷ []
+        → switches groups.Gtk h ≡ key ∷ []
+        → Holds (record { current = placed 0 key; newest = placed 0 key }) h }
+    ensures drawn { (s t : Pair) (key : List ℕ) (h : List Act) → Holds s h → t.current ≡ s.current
+        → t.newest ≡ placed (suc s.newest.place) key
+        → Holds t (Drew (Gtk key) ∷ h) }
+    ensures switched { (s t : Pair) (b : Mac) (h : List Act) → Holds s h
+        → s.newest.place ≡ suc s.current.place → t.current ≡ s.newest → t.newest ≡ s.newest
+        → Holds t (Installed All (Group (newest groups.Gtk h).key (newest groups.Gtk h).id b) ∷ h) }
+    ensures other { (s : Pair) (e : Act) (h : List Act) → Holds s h → LeavesGroupKeys e
+        → Holds s (e ∷ h) }
+    ensures others { (s : Pair) (g h : List Act) → Holds s h → AllByRecursion LeavesGroupKeys g
+        → Holds s (add g h) }
+    ensures newest { (s : Pair) (h : List Act) → Holds s h
+        → newest groups.Gtk h ≡ carried s.newest }
+    ensures in_use { (s : Pair) (h : List Act) → Holds s h
+        → is_current groups.Gtk h ≡ (s.newest.place == s.current.place) }
+    ensures uses { (s : Pair) (h : List Act) → Holds s h
+        → newest_uses groups.Gtk h
+        ≡ (if s.newest.place == s.current.place then group_uses groups.Gtk h else 0) }
+    ensures older { (k n : GroupKey) (past h : List Act) → IsLast k (group_keys groups.Gtk past)
+        → IsLast n (group_keys groups.Gtk h)
+        → is_older groups.Gtk past h ≡ nat_lt k.place n.place }
+    ensures id { (k : GroupKey) (h : List Act) → IsLast k (group_keys groups.Gtk h) → k.id < 4 }
+    ensures place { (k : GroupKey) (h : List Act) → IsLast k (group_keys groups.Gtk h)
+        → k.place < draws h }
 {}
 
 /// The memory of a station stands for its history: at first, after a group key was given (`give`) with what was told of it as
@@ -34,21 +64,33 @@ pub fn keys_stand()
 /// taken (`take`), and after any act that installs no group key of that access point and changes no receive counter.
 ///
 /// A key is found in it as the definitions find it (`id_of`), and the counter that `find` gives is that of the history. Which
-/// keys it holds depends on what was given alone, whatever numbers come with it.
+/// keys it holds depends on what was given alone, whatever numbers come with it. An M3 and a G1 tell the number in their RSC
+/// field as they are accepted.
 pub fn memory_stands()
     ensures started { (p : Node) → Remembers p [] [] }
-    ensures given { (p : Node) (b : Mac) (g : Carried) (rsc : ℕ) (ks : List Kept) (h : List Act) → Remembers p ks h → told groups.Gtk p h ≡ rsc
+    ensures given { (p : Node) (b : Mac) (g : Carried) (rsc : ℕ) (ks : List Kept) (h : List Act)
+        → Remembers p ks h → told groups.Gtk p h ≡ rsc
         → Remembers p (given g.key g.id rsc ks) (give groups.Gtk p b g h ∷ h) }
-    ensures taken { (p : Node) (id tid number : ℕ) (octets : List ℕ) (k : Kept) (ks : List Kept) (h : List Act)
+    ensures taken { (p : Node) (id tid number : ℕ) (octets : List ℕ) (k : Kept) (ks : List Kept)
+        (h : List Act)
         → Remembers p ks h → found id ks ≡ Some k → k.counter < number
         → Remembers p (taken id number ks) (HandedUp p k.key id tid number octets ∷ h) }
-    ensures other { (p : Node) (e : Act) (ks : List Kept) (h : List Act) → Remembers p ks h → given_from groups.Gtk p e ≡ None
-        → ((key : List ℕ) (id : ℕ) → got groups.Gtk p key id (e ∷ h) ≡ got groups.Gtk p key id h) → Remembers p ks (e ∷ h) }
-    ensures found { (p : Node) (key : List ℕ) (ks : List Kept) (h : List Act) → map key_of ks ≡ memory groups.Gtk p h
+    ensures other { (p : Node) (e : Act) (ks : List Kept) (h : List Act) → Remembers p ks h
+        → given_from groups.Gtk p e ≡ None
+        → ((key : List ℕ) (id : ℕ) → got groups.Gtk p key id (e ∷ h) ≡ got groups.Gtk p key id h)
+        → Remembers p ks (e ∷ h) }
+    ensures found { (p : Node) (key : List ℕ) (ks : List Kept) (h : List Act)
+        → map key_of ks ≡ memory groups.Gtk p h
         → find_key key (memory groups.Gtk p h) ≡ option_map (under key) (kept_id key ks) }
-    ensures counted { (p : Node) (id : ℕ) (k : Kept) (ks : List Kept) (h : List Act) → Remembers p ks h → found id ks ≡ Some k
+    ensures counted { (p : Node) (id : ℕ) (k : Kept) (ks : List Kept) (h : List Act)
+        → Remembers p ks h → found id ks ≡ Some k
         → (k.id ≡ id) × (k.counter ≡ got groups.Gtk p k.key id h) }
-    ensures keys_given { (p : Node) (b : Mac) (g : Carried) (rsc : ℕ) (ks : List Kept) (h : List Act) → map key_of ks ≡ memory groups.Gtk p h
+    ensures keys_given { (p : Node) (b : Mac) (g : Carried) (rsc : ℕ) (ks : List Kept)
+        (h : List Act) → map key_of ks ≡ memory groups.Gtk p h
         → map key_of (given g.key g.id rsc ks) ≡ memory groups.Gtk p (give groups.Gtk p b g h ∷ h) }
-    ensures keys_taken { (id number : ℕ) (ks : List Kept) → map key_of (taken id number ks) ≡ map key_of ks }
+    ensures told { (p : Node) (m : Message) (octets : List ℕ) (s : Option Seal) (h : List Act)
+        → CarriesGroupKey m
+        → told groups.Gtk p (Took (Some p) octets (Key m) Accepted s ∷ h) ≡ rsc_in octets }
+    ensures keys_taken { (id number : ℕ) (ks : List Kept)
+        → map key_of (taken id number ks) ≡ map key_of ks }
 {}

@@ -86,7 +86,8 @@ impl GroupMemory {
     /// less than the RSC; a new one is kept with the RSC as its counter, and the earlier of two is forgotten.
     pub fn give(&mut self, key: &[u8; 16], id: u8, rsc: u64) -> Given
         ensures memory { self.new ≡ given key.now id rsc self.old }
-        ensures what { result ≡ (if has_key key.now self.old then Given.Resumed else Given.Installed) }
+        ensures what { result
+            ≡ (if has_key key.now self.old then Given.Resumed else Given.Installed) }
     {
         if let Some(kept) = self.later
             && kept.key == *key

@@ -44,7 +44,8 @@ pub(crate) fn put_words(out: &mut [u8], at: usize, first: &[u8], further: &[Word
 /// Writes a line of these words at a place, and answers the place behind its line feed.
 pub(crate) fn put_line(out: &mut [u8], at: usize, first: &[u8], further: &[Word]) -> usize
     requires { at + length first.now + words_room further.now + 1 ≤ length out.old }
-    ensures written { Writes (words (first.now ∷ map word_text further.now)) at out.old result out.new }
+    ensures written { Writes (words (first.now ∷ map word_text further.now)) at out.old result
+        out.new }
     ensures short { result ≤ at + length first.now + words_room further.now + 1 }
 {
     let end = put_words(out, at, first, further);
@@ -54,7 +55,8 @@ pub(crate) fn put_line(out: &mut [u8], at: usize, first: &[u8], further: &[Word]
 /// Writes the line of a node, its peer and one word more to the front, and answers its length.
 pub(crate) fn put_pair(out: &mut [u8], verb: &[u8], node: Node, peer: Word, last: Word) -> usize
     requires { length verb.now + word_room peer + word_room last + 15 ≤ length out.old }
-    ensures written { Writes (words (verb.now ∷ node_text node ∷ word_text peer ∷ word_text last ∷ [])) 0
+    ensures written { Writes
+        (words (verb.now ∷ node_text node ∷ word_text peer ∷ word_text last ∷ [])) 0
         out.old result out.new }
     ensures short { result ≤ length verb.now + word_room peer + word_room last + 15 }
 {

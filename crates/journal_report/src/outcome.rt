@@ -44,7 +44,8 @@ pub(crate) fn put_outcome(out: &mut [u8], at: usize, outcome: Outcome) -> usize
 // What the reason is called, and the number that it tells, where it tells one.
 fn reason_words(reason: Reason) -> (&'static [u8], Option<u64>)
     requires { (malformed : AnyMalformed) → reason ≢ reasons.Malformed malformed }
-    ensures text { MatchOption result.1 (reason_text reason ≡ result.0.now) (λ n. reason_text reason ≡ numbered result.0.now n) }
+    ensures text { MatchOption result.1 (reason_text reason ≡ result.0.now)
+        (λ n. reason_text reason ≡ numbered result.0.now n) }
     ensures short { length result.0.now ≤ 14 }
 {
     match reason {

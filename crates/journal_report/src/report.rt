@@ -21,8 +21,10 @@ const BUFFER: usize = LINE_ROOM + 2 * PIECE;
 ///
 /// Where the sink fails, a part of the lines has gone out.
 pub fn write_lines<K: Sink>(entries: &[Entry], sink: &mut K) -> Result<(), Failed>
-    ensures ok { OnOk result (Appends (K.out sink.old) (K.out sink.new) (lines (reverse entries.now))) }
-    ensures err { OnErr result (AppendsPart (K.out sink.old) (K.out sink.new) (lines (reverse entries.now))) }
+    ensures ok { OnOk result
+        (Appends (K.out sink.old) (K.out sink.new) (lines (reverse entries.now))) }
+    ensures err { OnErr result
+        (AppendsPart (K.out sink.old) (K.out sink.new) (lines (reverse entries.now))) }
     ensures cause { HasCause (K.faults sink.old) (K.faults sink.new) result }
     ensures unfailed { OnOk result (K.faults sink.new ≡ K.faults sink.old) }
 {

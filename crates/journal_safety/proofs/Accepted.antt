@@ -1,6 +1,7 @@
 -- What an accepted or answered EAPOL-Key message tells of the node, its peer and the history.
-use Rattle.std.proofs.Common.{ℕ, ◌≡◌, ◌+◌, ◌≤◌, Bool, true, false, cond, List, length, take, drop, Option, Some, None, refl, sym, ap, subst, arith}
-use Rattle.std.specs.Prelude.{not, ◌||◌}
+use Rattle.std.proofs.Common.{ℕ, ◌≡◌, ◌⊎◌, ◌+◌, ◌<◌, ◌≤◌, inl, inr, Bool, true, false, cond, List, [], ◌∷◌, ◌++◌, length, take, drop, map, Option, Some, None, refl, sym, ap, subst, arith}
+use Rattle.std.specs.Prelude.{not, ◌||◌, max, nat_lt, if◌then◌else◌}
+use Rattle.std.proofs.lemmas.Bool.{ltb-true}
 use Rattle.std.proofs.lemmas.List.{length-take, length-drop}
 use Rattle.std.proofs.lemmas.Slice.Eq.{bytes_eq-Decides}
 use Rattle.key_wrap.specs.KeyWrap.{Wraps}
@@ -14,27 +15,31 @@ use Rattle.rsn_elements.specs.Elements.{ElementFields, SpellsElements}
 use Rattle.eapol_key.specs.declared.messages.Message.{Message}
 use Rattle.eapol_key.specs.declared.messages.Message.TheVariants.{M1, M2, M3, M4, G1, G2}
 use Rattle.run_journal.specs.declared.domain.Domain.{Domain}
+use Rattle.run_journal.specs.declared.acts.Kind.{Kind}
 use Rattle.run_journal.specs.declared.acts.Kind.TheVariants as kind
+use Rattle.run_journal.specs.declared.acts.Seal.{Seal}
 use Rattle.run_journal.specs.declared.acts.KeyDataFault.TheVariants as key_data
 use Rattle.run_journal.specs.declared.acts.Reason.{Reason}
 use Rattle.run_journal.specs.declared.acts.Reason.TheVariants as reason
 use Rattle.run_journal.specs.declared.acts.Outcome.{Outcome}
 use Rattle.run_journal.specs.declared.acts.Outcome.TheVariants.{Accepted, Answered, Refused}
 use Rattle.run_journal.specs.declared.acts.Act.{Act}
-use Rattle.run_journal.specs.declared.acts.Act.TheVariants.{Derived}
-use Rattle.run_journal.specs.Acts.{Derivation}
-use Rattle.run_journal.specs.Questions.{attempt, since, derivation, session, chain, draws}
+use Rattle.run_journal.specs.declared.acts.Act.TheVariants.{Derived, Took}
+use Rattle.run_journal.specs.Acts.{Derivation, same_kind, replied}
+use Rattle.run_journal.specs.Questions.{attempt, since, derivation, session, chain, draws, listed, all_replied}
 use Rattle.run_journal.specs.Premises.{In}
-use Rattle.domain_rules.specs.Network.{address, peer_of, is_ap, direction, goes_like, IsListed}
-use Rattle.domain_rules.specs.Reading.{KeyMessage, Keyed, HasMessage}
+use Rattle.domain_rules.specs.Network.{address, peer_of, is_ap, direction, goes_like, root, inputs, IsListed}
+use Rattle.key_hierarchy.specs.Keys.{ptk}
+use Rattle.domain_rules.specs.Reading.{Management, KeyMessage, Managed, Keyed, HasMessage}
 use Rattle.domain_rules.specs.Facts.{Facts, IsUnwrapped, ReadsKeyData}
-use Rattle.domain_rules.specs.StationKeys.{Keying, keying_by, session_keying, attempt_keying, m3_keying, taken_in, m3_verdict_by, m3_wrapped, KnowsM3}
-use Rattle.domain_rules.specs.Asking.{above, verified, by_connect, has_heard, kept_counter}
+use Rattle.domain_rules.specs.StationKeys.{Keying, keying_by, session_keying, attempt_keying, m3_keying, taken_in, m3_verdict_by, m3_wrapped, g1_verdict_by, g1_wrapped, KnowsM3}
+use Rattle.domain_rules.specs.Associating.{management_verdict}
+use Rattle.domain_rules.specs.Asking.{replay_counter, at_least, greatest, in_attempt, above, among, verified, by_connect, has_heard, kept_counter, offered, own}
 use Rattle.domain_rules.specs.AccessPointKeys.{m4_keying}
-use Rattle.domain_rules.specs.Verdict.{is_mine, from_peer, key_verdict, first_verdict, further, and_then, unless_refused, verdict, ComesSoFar, KnowsOf, KnowsFrom, Knows}
-use Rattle.domain_rules.proofs.Parts.{in_part}
+use Rattle.domain_rules.specs.Verdict.{is_mine, management_sender, from_peer, key_verdict, first_verdict, further, and_then, unless_refused, verdict, ComesSoFar, KnowsOf, KnowsFrom, Knows}
+use Rattle.domain_rules.proofs.Parts.{in_part, same-refl}
 use Rattle.domain_rules.proofs.Peers.{IsPeer, peer_is}
-use Rattle.journal_safety.proofs.Legal.{ack}
+use Rattle.journal_safety.proofs.Legal.{ack, GivesKey, In_m3, In_g1, Above}
 use Rattle.journal_safety.proofs.Names.{listed_by}
 use Rattle.journal_safety.proofs.Histories.{derivation_in, session_in}
 
@@ -97,8 +102,8 @@ key_role d drawn (Sta s) h p k M2 o c e = absurd (comes_as _ o e c)
 key_role d drawn (Ap a) h p k M3 o c e = absurd (comes_as _ o e c)
 key_role d drawn (Sta s) h p k M4 o c e = absurd (comes_as _ o e c)
 key_role d drawn (Ap a) h p k G1 o c e = absurd (comes_as _ o e c)
-key_role d drawn (Sta s) h p k G1 o c e = absurd (comes_as _ o e c)
-key_role d drawn (Ap a) h p k G2 o c e = absurd (comes_as _ o e c)
+key_role d drawn (Sta s) h p k G1 o c e = refl
+key_role d drawn (Ap a) h p k G2 o c e = refl
 key_role d drawn (Sta s) h p k G2 o c e = absurd (comes_as _ o e c)
 
 -- an address in a frame is there
@@ -203,15 +208,15 @@ keying_in_by p h y (Some part) a e = in_attempt_by p h part y a (by_connect part
 pub keying_in : (p : Node) (h : List Act) (y : Keying) → m3_keying p h ≡ Some y → KeyingIn p h y
 keying_in p h y e = keying_in_by p h y (attempt p h) refl e
 
--- what an accepted M3 carries
-pub record Unwrapped (y : Keying) (k : KeyMessage) (facts : Facts) : Type 0 where
+-- what an accepted M3 or G1 carries, under a KEK
+pub record Unwrapped (kek : List ℕ) (k : KeyMessage) (facts : Facts) : Type 0 where
   pub plain : List ℕ
   pub e : ElementFields
-  pub wraps : Wraps y.key.ptk.kek plain k.fields.key_data
+  pub wraps : Wraps kek plain k.fields.key_data
   pub spelled : SpellsElements KeyData plain e
   pub is : facts.data_ ≡ Some e
 
-unwrapped_by : (d : Domain) (y : Keying) (k : KeyMessage) (facts : Facts) → KnowsM3 y.key.ptk.kek k facts → ((why : Reason) → m3_wrapped d.akm facts.unwrapped facts.data_ ≡ Refused why → ⊥) → (u : Option (List ℕ)) → facts.unwrapped ≡ u → (o : Option ElementFields) → facts.data_ ≡ o → Unwrapped y k facts
+unwrapped_by : (d : Domain) (y : Keying) (k : KeyMessage) (facts : Facts) → KnowsM3 y.key.ptk.kek k facts → ((why : Reason) → m3_wrapped d.akm facts.unwrapped facts.data_ ≡ Refused why → ⊥) → (u : Option (List ℕ)) → facts.unwrapped ≡ u → (o : Option ElementFields) → facts.data_ ≡ o → Unwrapped y.key.ptk.kek k facts
 unwrapped_by d y k facts knows unrefused None is o none = absurd (unrefused reason.Wrap (rw is refl))
 unwrapped_by d y k facts knows unrefused (Some plain) is None none = absurd (unrefused (reason.KeyData key_data.Unreadable) (rw (is, none) refl))
 unwrapped_by d y k facts knows unrefused (Some plain) is (Some e) said = record {
@@ -228,7 +233,7 @@ knows_m3 d first n p h k facts y m3 from e knows awaited =
     let all : KnowsFrom d n h (Keyed k) facts = knows (comes_as (first_verdict d first n h (Keyed k)) Accepted e tt) in
     subst (λ (m : Message). KnowsOf d.akm h p m k facts) m3 (all p from) y awaited
 
-pub unwrapped_m3 : (d : Domain) (first : ℕ) (n p : Node) (h : List Act) (k : KeyMessage) (facts : Facts) (y : Keying) → k.message ≡ M3 → peer_of d n k.header.a2 ≡ Some p → verdict d first n h (Keyed k) facts ≡ Accepted → Knows d first n h (Keyed k) facts → m3_keying p h ≡ Some y → Unwrapped y k facts
+pub unwrapped_m3 : (d : Domain) (first : ℕ) (n p : Node) (h : List Act) (k : KeyMessage) (facts : Facts) (y : Keying) → k.message ≡ M3 → peer_of d n k.header.a2 ≡ Some p → verdict d first n h (Keyed k) facts ≡ Accepted → Knows d first n h (Keyed k) facts → m3_keying p h ≡ Some y → Unwrapped y.key.ptk.kek k facts
 unwrapped_m3 d first n p h k facts y m3 from e knows awaited =
     let so_far = first_accepted (first_verdict d first n h (Keyed k)) (further d.akm (Keyed k) facts) e in
     unwrapped_by d y k facts (knows_m3 d first n p h k facts y m3 from so_far knows awaited)
@@ -237,6 +242,135 @@ unwrapped_m3 d first n p h k facts y m3 from e knows awaited =
 
 pub awaited_m3 : (d : Domain) (n p : Node) (h : List Act) (k : KeyMessage) (y : Keying) → k.message ≡ M3 → Taken d n p h k Accepted → m3_keying p h ≡ Some y → y.is_session ≡ false
 awaited_m3 d n p h k y m3 t awaited = m3_attempt d t.drawn n h p k y (subst (λ (m : Message). key_verdict d t.drawn n h p k m ≡ Accepted) m3 t.is) awaited
+
+-- ---- G1: what it carries, and that its replay counter is above all before it
+
+unwrapped_g1_by : (kek : List ℕ) (k : KeyMessage) (facts : Facts) → KnowsM3 kek k facts → ((why : Reason) → g1_wrapped facts.unwrapped facts.data_ ≡ Refused why → ⊥) → (u : Option (List ℕ)) → facts.unwrapped ≡ u → (o : Option ElementFields) → facts.data_ ≡ o → Unwrapped kek k facts
+unwrapped_g1_by kek k facts knows unrefused None is o none = absurd (unrefused reason.Wrap (rw is refl))
+unwrapped_g1_by kek k facts knows unrefused (Some plain) is None none = absurd (unrefused (reason.KeyData key_data.Unreadable) (rw (is, none) refl))
+unwrapped_g1_by kek k facts knows unrefused (Some plain) is (Some e) said = record {
+  plain = plain;
+  e = e;
+  wraps = (subst (λ (x : Option (List ℕ)). IsUnwrapped kek k.fields.key_data x) is knows.unwrapped).1;
+  spelled = subst (λ (x : Option ElementFields). ReadsKeyData plain x) said (knows.data_ plain is);
+  is = said;
+}
+
+knows_g1 : (d : Domain) (first : ℕ) (n p : Node) (h : List Act) (k : KeyMessage) (facts : Facts) (x : Derivation) → k.message ≡ G1 → peer_of d n k.header.a2 ≡ Some p → first_verdict d first n h (Keyed k) ≡ Accepted → Knows d first n h (Keyed k) facts → session p h ≡ Some x → KnowsM3 x.ptk.kek k facts
+knows_g1 d first n p h k facts x g1 from e knows awaited =
+    let all : KnowsFrom d n h (Keyed k) facts = knows (comes_as (first_verdict d first n h (Keyed k)) Accepted e tt) in
+    subst (λ (m : Message). KnowsOf d.akm h p m k facts) g1 (all p from) x awaited
+
+pub unwrapped_g1 : (d : Domain) (first : ℕ) (n p : Node) (h : List Act) (k : KeyMessage) (facts : Facts) (x : Derivation) → k.message ≡ G1 → peer_of d n k.header.a2 ≡ Some p → verdict d first n h (Keyed k) facts ≡ Accepted → Knows d first n h (Keyed k) facts → session p h ≡ Some x → Unwrapped x.ptk.kek k facts
+unwrapped_g1 d first n p h k facts x g1 from e knows awaited =
+    let so_far = first_accepted (first_verdict d first n h (Keyed k)) (further d.akm (Keyed k) facts) e in
+    unwrapped_g1_by x.ptk.kek k facts (knows_g1 d first n p h k facts x g1 from so_far knows awaited)
+    (λ why is. further_unrefused (first_verdict d first n h (Keyed k)) (further d.akm (Keyed k) facts) e why (rw g1 is))
+    facts.unwrapped refl facts.data_ refl
+
+above_low_by : (y counter : ℕ) (b : Bool) (x : Outcome) → nat_lt y counter ≡ b → cond b x (Refused (reason.Counter y)) ≡ Accepted → y < counter
+above_low_by y counter true x is e = ltb-true y counter is
+above_low_by y counter false x is e = cc
+
+above_low : (o : Option ℕ) (counter y : ℕ) (x : Outcome) → o ≡ Some y → above o counter x ≡ Accepted → y < counter
+above_low o counter y x is e = let w : above (Some y) counter x ≡ Accepted = subst (λ (z : Option ℕ). above z counter x ≡ Accepted) is e in above_low_by y counter (nat_lt y counter) x refl w
+
+-- the greatest is no less than each
+over_by : (x z : ℕ) (o : Option ℕ) → (x ≡ z) ⊎ ((y : ℕ) × ((o ≡ Some y) × (x ≤ y))) → (y : ℕ) × ((at_least z o ≡ Some y) × (x ≤ y))
+over_by x z None (inl is) = (z, (refl, omega (arith, is)))
+over_by x z None (inr w) = cc (w.1.0)
+over_by x z (Some v) (inl is) = (max z v, (refl, omega (arith, is)))
+over_by x z (Some v) (inr w) = (max z v, (refl, (let one : v ≡ w.0 = cc (w.1.0) in omega (arith, one, w.1.1))))
+
+over : (x : ℕ) (xs : List ℕ) → In x xs → (y : ℕ) × ((greatest xs ≡ Some y) × (x ≤ y))
+over x [] there = absurd there
+over x (z ∷ zs) (inl here) = over_by x z (greatest zs) (inl here)
+over x (z ∷ zs) (inr later) = over_by x z (greatest zs) (inr (over x zs later))
+
+mapped_in : (octets : List ℕ) (xs : List (List ℕ)) → In octets xs → In (replay_counter octets) (map replay_counter xs)
+mapped_in octets [] there = there
+mapped_in octets (x ∷ xs) (inl here) = inl (ap replay_counter here)
+mapped_in octets (x ∷ xs) (inr later) = inr (mapped_in octets xs later)
+
+in_front : (octets : List ℕ) (xs ys : List (List ℕ)) → In octets xs → In octets (xs ++ ys)
+in_front octets [] ys there = absurd there
+in_front octets (x ∷ xs) ys (inl here) = inl here
+in_front octets (x ∷ xs) ys (inr later) = inr (in_front octets xs ys later)
+
+in_back : (octets : List ℕ) (xs ys : List (List ℕ)) → In octets ys → In octets (xs ++ ys)
+in_back octets [] ys there = there
+in_back octets (x ∷ xs) ys there = inr (in_back octets xs ys there)
+
+listed_more : (octets : List ℕ) (o : Option (List ℕ)) (xs : List (List ℕ)) → In octets xs → In octets (listed o xs)
+listed_more octets None xs there = there
+listed_more octets (Some x) xs there = inr there
+
+replied_in : (p : Node) (m : Message) (octets : List ℕ) (s : Option Seal) (part : List Act) → same_kind (kind.Key m) (kind.Key m) ≡ true → In (Took (Some p) octets (kind.Key m) Accepted s) part → In octets (all_replied p (kind.Key m) part)
+replied_in p m octets s [] same there = absurd there
+replied_in p m octets s (e ∷ part) same (inl here) =
+    subst (λ (x : Act). In octets (listed (replied p (kind.Key m) x) (all_replied p (kind.Key m) part))) here (rw (same-refl p, same) (inl refl))
+replied_in p m octets s (e ∷ part) same (inr later) = listed_more octets (replied p (kind.Key m) e) (all_replied p (kind.Key m) part) (replied_in p m octets s part same later)
+
+kept_in : (p : Node) (m : Message) (octets : List ℕ) (s : Option Seal) (part : List Act) → GivesKey m → In (Took (Some p) octets (kind.Key m) Accepted s) part → In octets (all_replied p (kind.Key M3) part ++ all_replied p (kind.Key G1) part)
+kept_in p m octets s part (In_m3 is) there =
+    in_front octets (all_replied p (kind.Key M3) part) (all_replied p (kind.Key G1) part) (replied_in p M3 octets s part refl (subst (λ (x : Message). In (Took (Some p) octets (kind.Key x) Accepted s) part) is there))
+kept_in p m octets s part (In_g1 is) there =
+    in_back octets (all_replied p (kind.Key M3) part) (all_replied p (kind.Key G1) part) (replied_in p G1 octets s part refl (subst (λ (x : Message). In (Took (Some p) octets (kind.Key x) Accepted s) part) is there))
+
+g1_above_by : (d : Domain) (h : List Act) (p : Node) (k : KeyMessage) (x : Derivation) → g1_verdict_by d (kept_counter p (chain p h)) k (Some x) ≡ Accepted → Above p k.fields.counter (since p h)
+g1_above_by d h p k x e m octets s gives there =
+    let w = over (replay_counter octets) (map replay_counter (all_replied p (kind.Key M3) (since p h) ++ all_replied p (kind.Key G1) (since p h)))
+    (mapped_in octets (all_replied p (kind.Key M3) (since p h) ++ all_replied p (kind.Key G1) (since p h)) (kept_in p m octets s (since p h) gives there)) in
+    let low : w.0 < k.fields.counter = above_low (kept_counter p (chain p h)) k.fields.counter w.0 (verified d.akm x.ptk.kck k Accepted) w.1.0 e in
+    omega (arith, low, w.1.1)
+
+g1_above_at : (d : Domain) (drawn : ℕ) (n : Node) (h : List Act) (p : Node) (k : KeyMessage) (x : Derivation) → key_verdict d drawn n h p k G1 ≡ Accepted → session p h ≡ Some x → Above p k.fields.counter (since p h)
+g1_above_at d drawn (Sta s) h p k x e is = g1_above_by d h p k x (subst (λ (o : Option Derivation). g1_verdict_by d (kept_counter p (chain p h)) k o ≡ Accepted) is e)
+g1_above_at d drawn (Ap a) h p k x e is = absurd (cc e)
+
+pub g1_above : (d : Domain) (n p : Node) (h : List Act) (k : KeyMessage) (x : Derivation) → k.message ≡ G1 → Taken d n p h k Accepted → session p h ≡ Some x → Above p k.fields.counter (since p h)
+g1_above d n p h k x g1 t is = g1_above_at d t.drawn n h p k x (subst (λ (m : Message). key_verdict d t.drawn n h p k m ≡ Accepted) g1 t.is) is
+
+-- ---- M2 is accepted once in an attempt
+
+silent_by : (a b : Bool) (x : Outcome) → cond (a || b) (Refused reason.Unawaited) x ≡ Accepted → b ≡ false
+silent_by true b x e = cc
+silent_by false true x e = cc
+silent_by false false x e = refl
+
+m2_silent_at : (d : Domain) (drawn : ℕ) (n : Node) (h : List Act) (p : Node) (k : KeyMessage) (part : List Act) → key_verdict d drawn n h p k M2 ≡ Accepted → attempt p h ≡ Some part → has_heard p (kind.Key M2) part ≡ false
+m2_silent_at d drawn (Ap a) h p k part e is =
+    silent_by (not (by_connect part)) (has_heard p (kind.Key M2) part) _ (subst (λ (o : Option (List Act)). m2_by o ≡ Accepted) is e)
+  where
+    m2_by : Option (List Act) → Outcome
+    m2_by o = in_attempt o (λ part. (
+        if not (by_connect part) || has_heard p (kind.Key M2) part then Refused reason.Unawaited
+        else among (offered p M1 part) k.fields.counter
+        (verified d.akm (ptk (inputs d (root d) (Ap a) p (own part) k.fields.nonce)).kck k Accepted)))
+m2_silent_at d drawn (Sta s) h p k part e is = absurd (cc e)
+
+pub m2_silent : (d : Domain) (n p : Node) (h : List Act) (k : KeyMessage) (part : List Act) → k.message ≡ M2 → Taken d n p h k Accepted → attempt p h ≡ Some part → has_heard p (kind.Key M2) part ≡ false
+m2_silent d n p h k part m2 t is = m2_silent_at d t.drawn n h p k part (subst (λ (m : Message). key_verdict d t.drawn n h p k m ≡ Accepted) m2 t.is) is
+
+-- ---- an association request is accepted by access points alone
+
+not_thrown : (c : Bool) (why : Reason) (a : Outcome) → cond c (Refused why) a ≡ Accepted → a ≡ Accepted
+not_thrown true why a s = cc
+not_thrown false why a s = s
+
+from_some : (o : Option Node) (f : Node → Outcome) → from_peer o f ≡ Accepted → (p : Node) × (f p ≡ Accepted)
+from_some None f s = cc
+from_some (Some p) f s = (p, s)
+
+request_role_by : (d : Domain) (drawn : ℕ) (n : Node) (h : List Act) (p : Node) (k : Kind) (b : Management) (e : ElementFields) → k ≡ kind.AssocReq → management_verdict d drawn n h p k b e ≡ Accepted → is_ap n ≡ true
+request_role_by d drawn (Ap a) h p k b e is s = refl
+request_role_by d drawn (Sta sta) h p k b e is s = let w : management_verdict d drawn (Sta sta) h p kind.AssocReq b e ≡ Accepted = subst (λ (x : Kind). management_verdict d drawn (Sta sta) h p x b e ≡ Accepted) is s in absurd (cc w)
+
+pub request_role : (d : Domain) (first : ℕ) (n : Node) (h : List Act) (b : Management) (e : ElementFields) (facts : Facts) → b.kind ≡ kind.AssocReq → verdict d first n h (Managed b e) facts ≡ Accepted → is_ap n ≡ true
+request_role d first n h b e facts is accepted =
+    let a : first_verdict d first n h (Managed b e) ≡ Accepted = first_accepted (first_verdict d first n h (Managed b e)) (further d.akm (Managed b e) facts) accepted in
+    let behind = from_some (management_sender d n b.header) (λ p. management_verdict d (first + draws h) n h p b.kind b e) (not_thrown (not (is_mine d n b.header)) reason.NotForMe _ a) in
+    request_role_by d (first + draws h) n h behind.0 b.kind b e is behind.1
 
 -- ---- M4
 

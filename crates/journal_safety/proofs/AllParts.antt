@@ -39,7 +39,7 @@ sourced d (l ∷ past) j = ((λ p u is from. absurd (no_up d l.node (history l.n
 
 -- ---- the parts of a run
 
-good_run : (d : Domain) (rounds : List (List Event)) (j : List Entry) → IsNamed d → Explained d rounds j → Fresh j → NoCollision j → Unforged j → Good d j
+pub good_run : (d : Domain) (rounds : List (List Event)) (j : List Entry) → IsNamed d → Explained d rounds j → Fresh j → NoCollision j → Unforged j → Good d j
 good_run d rounds j names run fresh apart unforged =
     record { names = names; legal = (run_sound d rounds j run).legal; fresh = fresh; apart = apart; unforged = unforged }
 

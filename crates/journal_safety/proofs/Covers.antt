@@ -3,7 +3,7 @@
 use Rattle.std.proofs.Common.{◌≡◌, ℕ, ◌+◌, ◌-◌, ◌^◌, ◌<◌, ◌≤◌, List, [], ◌∷◌, ◌++◌, length, take, drop, replicate, get_or, refl, sym, ap, subst, ◌∙◌, arith, Bool, true, false}
 use Rattle.std.specs.Prelude.{not, nat_lt}
 use Rattle.std.specs.Int.{w16, w64, to_be_bytes, from_be_bytes}
-use Rattle.std.proofs.lemmas.Nat.{be_bytes_8}
+use Rattle.std.proofs.lemmas.Nat.{be_bytes_8, from_be_bytes-to_be_bytes_8}
 use Rattle.std.proofs.lemmas.List.{take_all, length-drop, length-take, length-append, append-nil}
 use Rattle.domain_base.specs.declared.names.Akm.{Akm}
 use Rattle.domain_base.specs.Places.{part, big_endian_at}
@@ -114,6 +114,11 @@ took_covers akm octets k has =
 -- the counter as its eight octets have it
 pub sent_counter : ℕ → ℕ
 sent_counter counter = from_be_bytes w64 (to_be_bytes w64 counter)
+
+-- a counter that fits its field is as it is
+pub sent_counter_low : (counter : ℕ) → counter < 2 ^ 64 → sent_counter counter ≡ counter
+unfolding sent_counter
+sent_counter_low counter low = from_be_bytes-to_be_bytes_8 counter low
 
 low_counter : (counter : ℕ) → sent_counter counter < 2 ^ 64
 unfolding sent_counter

@@ -17,7 +17,7 @@ use Rattle.domain_rules.proofs.Parts.{same-true, Grows, Begins, Goes_on, grows, 
 use Rattle.journal_safety.proofs.Ends.{Tail}
 use Rattle.domain_rules.proofs.CarriedKey.{IsGroupKey}
 use Rattle.run_journal.specs.GroupKinds as groups
-use Rattle.journal_safety.proofs.Legal.{nonce_of, Alive, LegalDerived, LegalGtk, HasDrawn, Legal, LegalHistory}
+use Rattle.journal_safety.proofs.Legal.{nonce_of, Alive, LegalDerived, LegalGtk, HasDrawn, IsNewest, Legal, LegalHistory}
 
 -- an act of the history was legal when it was added
 pub record LegalIn (d : Domain) (n : Node) (e : Act) (h : List Act) : Type 0 where
@@ -29,6 +29,11 @@ pub legal_in : (d : Domain) (n : Node) (e : Act) (h : List Act) → LegalHistory
 legal_in d n e [] legal there = absurd there
 legal_in d n e (x ∷ h) legal (inl here) = record { before = h; tail = inl (ap (λ (y : Act). y ∷ h) here); legal = subst (λ (y : Act). Legal d n h y) (sym here) legal.0 }
 legal_in d n e (x ∷ h) legal (inr later) = let w = legal_in d n e h legal.1 later in record { before = w.before; tail = inr w.tail; legal = w.legal }
+
+pub legal_end : (d : Domain) (n : Node) (a h : List Act) → Tail a h → LegalHistory d n h → LegalHistory d n a
+legal_end d n a [] t legal = subst (λ (x : List Act). LegalHistory d n x) (sym t) legal
+legal_end d n a (e ∷ h) (inl is) legal = subst (λ (x : List Act). LegalHistory d n x) (sym is) legal
+legal_end d n a (e ∷ h) (inr t) legal = legal_end d n a h t legal.1
 
 -- ---- what an act is by the tests on it
 
@@ -54,7 +59,7 @@ pub nonce_drawn-is : (e : Act) (v : List ℕ) → nonce_drawn e ≡ Some v → e
 nonce_drawn-is (Drew (Nonce w)) v o = cc
 nonce_drawn-is _ v o = cc
 
-gtk_drawn-is : (e : Act) (v : List ℕ) → key_drawn groups.Gtk e ≡ Some v → e ≡ Drew (Gtk v)
+pub gtk_drawn-is : (e : Act) (v : List ℕ) → key_drawn groups.Gtk e ≡ Some v → e ≡ Drew (Gtk v)
 gtk_drawn-is (Drew (Gtk w)) v o = cc
 gtk_drawn-is _ v o = cc
 
@@ -151,36 +156,11 @@ gtks_tail v a [] t there = subst (λ (x : List Act). In v (group_keys groups.Gtk
 gtks_tail v a (e ∷ h) (inl is) there = subst (λ (x : List Act). In v (group_keys groups.Gtk x)) is there
 gtks_tail v a (e ∷ h) (inr t) there = gtks_more v e h (gtks_tail v a h t there)
 
--- one at most
-abbrev pub AtMostOne : List (List ℕ) → Type 0
-AtMostOne xs = (xs ≡ []) ⊎ ((x : List ℕ) × (xs ≡ x ∷ []))
-
-few_by : (d : Domain) (n : Node) (e : Act) (h : List Act) → Legal d n h e → AtMostOne (group_keys groups.Gtk h) → (o : Option (List ℕ)) → key_drawn groups.Gtk e ≡ o → AtMostOne (listed o (group_keys groups.Gtk h))
-few_by d n e h legal more None is = more
-few_by d n e h legal more (Some v) is =
-    let l : LegalGtk n h v = subst (λ (x : Act). Legal d n h x) (gtk_drawn-is e v is) legal in
-    inr (v, ap (λ (x : List (List ℕ)). v ∷ x) l.first)
-
-pub few_gtks : (d : Domain) (n : Node) (h : List Act) → LegalHistory d n h → AtMostOne (group_keys groups.Gtk h)
-few_gtks d n [] legal = inl refl
-few_gtks d n (e ∷ h) legal = few_by d n e h legal.0 (few_gtks d n h legal.1) (key_drawn groups.Gtk e) refl
-
-one_of : (a b : List ℕ) (xs : List (List ℕ)) → AtMostOne xs → In a xs → In b xs → a ≡ b
-one_of a b xs (inl none) l r = absurd (subst (λ (x : List (List ℕ)). In a x) none l)
-one_of a b xs (inr (x, is)) l r = go (subst (λ (y : List (List ℕ)). In a y) is l) (subst (λ (y : List (List ℕ)). In b y) is r)
-  where
-    go : In a (x ∷ []) → In b (x ∷ []) → a ≡ b
-    go (inl s) (inl t) = s ∙ sym t
-    go (inl s) (inr t) = absurd t
-    go (inr s) t = absurd s
-
-pub one_gtk : (d : Domain) (n : Node) (a b : List ℕ) (h : List Act) → LegalHistory d n h → In a (group_keys groups.Gtk h) → In b (group_keys groups.Gtk h) → a ≡ b
-one_gtk d n a b h legal l r = one_of a b (group_keys groups.Gtk h) (few_gtks d n h legal) l r
-
 -- the newest
 pub record Newest (h : List Act) : Type 0 where
   pub is : IsGroupKey (newest groups.Gtk h)
   pub drawn : In (newest groups.Gtk h).key (group_keys groups.Gtk h)
+  pub last : IsNewest (newest groups.Gtk h).key h
 
 newest_by : (d : Domain) (n : Node) (h : List Act) → LegalHistory d n h → (xs : List (List ℕ)) → group_keys groups.Gtk h ≡ xs → HasDrawn h → Newest h
 newest_by d n h legal [] is w = absurd (subst (λ (x : List (List ℕ)). In w.0 x) is w.1)
@@ -192,6 +172,7 @@ newest_by d n h legal (x ∷ older) is w =
     record {
       is = subst (λ (g : GroupKey). IsGroupKey g) (sym one) (record { octets = l.octets; size = l.size; low = (let b : length older % 2 < 2 = mod-lt (length older) (omega arith) in omega (arith, b)) });
       drawn = subst (λ (g : GroupKey). In g.key (group_keys groups.Gtk h)) (sym one) there;
+      last = (older, is ∙ ap (λ (g : GroupKey). g.key ∷ older) (sym one));
     }
 
 pub newest_is : (d : Domain) (n : Node) (h : List Act) → LegalHistory d n h → HasDrawn h → Newest h

@@ -1,5 +1,5 @@
 -- Which act may come next in the history of a node, whatever event adds it: what all of the proof of safety rests on.
-use Rattle.std.proofs.Common.{ℕ, ◌≡◌, inr, Bool, true, false, not, List, [], ◌∷◌, length, Option, Some, None}
+use Rattle.std.proofs.Common.{ℕ, ◌≡◌, ◌<◌, inr, Bool, true, false, not, List, [], ◌∷◌, length, Option, Some, None}
 use Rattle.domain_base.specs.Octets.{AreOctets}
 use Rattle.key_wrap.specs.KeyWrap.{Wraps}
 use Rattle.domain_base.specs.declared.names.Mac.{Mac}
@@ -24,15 +24,21 @@ use Rattle.run_journal.specs.declared.acts.Seal.{Seal}
 use Rattle.run_journal.specs.declared.acts.Key.{Key}
 use Rattle.run_journal.specs.declared.acts.Key.TheVariants.{Pairwise, Group}
 use Rattle.run_journal.specs.declared.acts.Act.{Act}
-use Rattle.run_journal.specs.declared.acts.Act.TheVariants.{Drew, Derived, Sent, Took, Installed, Used, HandedUp, Finished}
-use Rattle.run_journal.specs.Acts.{same, same_kind, GroupKey}
-use Rattle.run_journal.specs.Questions.{attempt, own_nonce, group_keys, switches}
+use Rattle.run_journal.specs.declared.acts.Act.TheVariants.{Opened, Closed, Drew, Derived, Sent, Took, Installed, Used, HandedUp, Finished}
+use Rattle.run_journal.specs.Acts.{same, GroupKey}
+use Rattle.run_journal.specs.declared.acts.Outcome.TheVariants.{Accepted}
+use Rattle.run_journal.specs.declared.acts.Part.TheVariants.{Session}
+use Rattle.run_journal.specs.Questions.{attempt, since, own_nonce, derivation, session, associated, before_sent, handshake, group_keys, switches}
 use Rattle.run_journal.specs.Premises.{In}
-use Rattle.domain_rules.specs.Network.{mac, is_ap, IsListed}
-use Rattle.domain_rules.specs.Frames.{wrapped, m3_key_data}
+use Rattle.domain_rules.specs.Network.{mac, is_ap, draw_end, IsListed}
+use Rattle.domain_rules.specs.Asking.{has_heard, replay_counter}
+use Rattle.domain_rules.specs.Counters.{sent_count, next_in_session}
+use Rattle.domain_rules.specs.AccessPointRows.{most_sends}
+use Rattle.domain_rules.specs.Frames.{wrapped, m3_key_data, g1_key_data, keyed_by}
 use Rattle.domain_rules.specs.GroupKeys.{memory, find_key}
 use Rattle.domain_rules.specs.StationRows.{carried}
-use Rattle.journal_safety.proofs.Covers.{covered_message, covered_key_data}
+use Rattle.journal_safety.proofs.Ends.{Tail}
+use Rattle.journal_safety.proofs.Covers.{covered_message, covered_counter, covered_key_data}
 use Rattle.domain_rules.proofs.CarriedKey.{IsGroupKey}
 use Rattle.run_journal.specs.GroupKinds as groups
 
@@ -81,7 +87,7 @@ pub record AreCommon (d : Domain) (i : Inputs) : Type 0 where
   pub mdid : i.mdid ≡ 0 ∷ 0 ∷ []
   pub r0kh_id : i.r0kh_id ≡ []
 
--- the node derived with a listed node of the other kind, from its own nonce of the attempt
+-- the node derived with a listed node of the other kind, from its own nonce of the attempt; an access point before it sent M3
 pub record LegalDerived (d : Domain) (n : Node) (h : List Act) (p : Node) (i : Inputs) (k : Ptk) : Type 0 where
   pub roles : is_ap p ≡ not (is_ap n)
   pub listed : IsListed d n
@@ -91,6 +97,7 @@ pub record LegalDerived (d : Domain) (n : Node) (h : List Act) (p : Node) (i : I
   pub peer : peer_address n i ≡ mac d p
   pub common : AreCommon d i
   pub key : k ≡ ptk i
+  pub no_m3 : is_ap n ≡ true → before_sent p (kind.Key M3) h ≡ None
 
 -- the node took a frame of the other direction, sealed with the KCK of inputs that it derived from
 pub record Verified (n : Node) (h : List Act) (p : Node) (i : Inputs) : Type 0 where
@@ -103,68 +110,153 @@ pub record Verified (n : Node) (h : List Act) (p : Node) (i : Inputs) : Type 0 w
   pub took : In (Took from octets kind outcome (Some (record { octets = covered; key = (ptk i).kck }))) h
   pub direction : goes_down covered ≡ not (is_ap n)
 
--- M3 carries a group key that its sender drew
-pub record CarriesM3 (d : Domain) (h : List Act) (i : Inputs) (covered : List ℕ) : Type 0 where
+-- the group key that was drawn last
+abbrev pub IsNewest : List ℕ → List Act → Type 0
+IsNewest key h = (older : List (List ℕ)) × (group_keys groups.Gtk h ≡ key ∷ older)
+
+-- key data was made now or at an earlier moment: with the newest group key, after a message of the peer had verified, in an attempt
+-- that went on
+pub record Built (n : Node) (h : List Act) (p : Node) (i : Inputs) (key : List ℕ) : Type 0 where
+  pub past : List Act
+  pub tail : Tail past h
+  pub newest : IsNewest key past
+  pub verified : Verified n past p i
+  pub alive : Alive n past p i
+
+-- M3 carries a group key that was the newest as its key data was made
+pub record CarriesM3 (d : Domain) (n : Node) (h : List Act) (p : Node) (i : Inputs) (covered : List ℕ) : Type 0 where
   pub key : GroupKey
   pub is : IsGroupKey key
-  pub drawn : In key.key (group_keys groups.Gtk h)
   pub load : covered_key_data covered ≡ wrapped (ptk i).kek (m3_key_data d key)
+  pub built : Built n h p i key.key
 
-abbrev pub Carries : Domain → List Act → Inputs → List ℕ → Message → Type 0
-Carries d h i covered M3 = CarriesM3 d h i covered
-Carries d h i covered _ = Unit {0}
+-- G1 carries the newest group key, and the next replay counter of the session
+pub record CarriesG1 (d : Domain) (n : Node) (h : List Act) (p : Node) (i : Inputs) (covered : List ℕ) : Type 0 where
+  pub key : GroupKey
+  pub is : IsGroupKey key
+  pub load : covered_key_data covered ≡ wrapped (ptk i).kek (g1_key_data key)
+  pub newest : IsNewest key.key h
+  pub awaited : session p h ≡ Some (keyed_by i)
+  pub counter : covered_counter covered ≡ next_in_session p h
 
--- what a node seals with a KCK is of its own direction, and it derived that KCK
-pub record LegalSeal (d : Domain) (n : Node) (h : List Act) (p : Node) (s : Seal) : Type 0 where
+abbrev pub Carries : Domain → Node → List Act → Node → Inputs → List ℕ → Message → Type 0
+Carries d n h p i covered M3 = CarriesM3 d n h p i covered
+Carries d n h p i covered G1 = CarriesG1 d n h p i covered
+Carries d n h p i covered _ = Unit {0}
+
+-- what a node seals with a KCK is of its own direction, its kind is that of what is sealed, and the node derived that KCK
+pub record LegalSeal (d : Domain) (n : Node) (h : List Act) (p : Node) (k : Kind) (s : Seal) : Type 0 where
   pub i : Inputs
   pub there : In (derives p i) h
   pub is : (ptk i).kck ≡ s.key
   pub direction : goes_down s.octets ≡ is_ap n
-  pub carries : Carries d h i s.octets (covered_message s.octets)
+  pub kind_is : k ≡ kind.Key (covered_message s.octets)
+  pub carries : Carries d n h p i s.octets (covered_message s.octets)
 
 -- nothing is sealed for all
-abbrev pub LegalSealed : Domain → Node → List Act → Peer → Option Seal → Type 0
-LegalSealed d n h q None = Unit {0}
-LegalSealed d n h All (Some s) = ⊥
-LegalSealed d n h (One p) (Some s) = LegalSeal d n h p s
+abbrev pub LegalSealed : Domain → Node → List Act → Peer → Kind → Option Seal → Type 0
+LegalSealed d n h q k None = Unit {0}
+LegalSealed d n h All k (Some s) = ⊥
+LegalSealed d n h (One p) k (Some s) = LegalSeal d n h p k s
 
 -- a group key was drawn
 abbrev pub HasDrawn : List Act → Type 0
 HasDrawn h = (g : List ℕ) × In g (group_keys groups.Gtk h)
 
--- the act installs a pairwise key of p
+-- M3 is sent in an attempt in which M2 was accepted, under the key derived last, at most four times
+pub record SendsM3 (n : Node) (h : List Act) (p : Node) : Type 0 where
+  pub part : List Act
+  pub awaited : attempt p h ≡ Some part
+  pub heard : has_heard p (kind.Key M2) part ≡ true
+  pub few : sent_count p M3 (since p h) < most_sends
+  pub i : Inputs
+  pub last : derivation p part ≡ Some (keyed_by i)
+  pub verified : Verified n h p i
+  pub drawn : HasDrawn h
+
+-- what may be sent by its kind: M1 and M3 at most four times in an attempt, G1 at most four times for a group key in a session
+abbrev pub Sends : Node → List Act → Node → Message → Type 0
+Sends n h p M1 = sent_count p M1 (since p h) < most_sends
+Sends n h p M3 = SendsM3 n h p
+Sends n h p G1 = sent_count p G1 (handshake groups.Gtk p h) < most_sends
+Sends n h p _ = Unit {0}
+
+abbrev pub LegalKind : Node → List Act → Peer → Kind → Type 0
+LegalKind n h (One p) (kind.Key m) = Sends n h p m
+LegalKind n h q k = Unit {0}
+
+-- the act installs a key of p
 abbrev pub gives : Node → Act → Bool
-gives p (Installed (One q) (Pairwise tk i)) = same p q
+gives p (Installed (One q) key) = same p q
 gives p _ = false
 
 abbrev pub Uninstalled : Node → List Act → Type 0
 Uninstalled p part = (e : Act) → In e part → gives p e ≡ false
 
--- a pairwise key is installed after a message of the peer verified under it, once in an attempt
+-- a pairwise key is installed after a message of the peer verified under it, once in an attempt, and before the group key
 pub record LegalPairwise (n : Node) (h : List Act) (p : Node) (tk : List ℕ) (i : Inputs) : Type 0 where
   pub verified : Verified n h p i
   pub alive : Alive n h p i
   pub first : Uninstalled p alive.part
   pub is : tk ≡ (ptk i).tk
 
--- a station installs a group key that came in an M3, and that it does not remember
-pub record LegalGroup (n : Node) (h : List Act) (p : Node) (g : List ℕ) : Type 0 where
-  pub station : is_ap n ≡ false
-  pub i : Inputs
-  pub derived : In (derives p i) h
-  pub from : Option Node
+-- the messages that give a group key
+pub data GivesKey (m : Message) : Type 0 where
+  In_m3 : m ≡ M3 → GivesKey m
+  In_g1 : m ≡ G1 → GivesKey m
+
+abbrev pub seal_under : Inputs → List ℕ → Seal
+seal_under i covered = record { octets = covered; key = (ptk i).kck }
+
+-- a station accepted a message with a group key since the last Opened with p, under these inputs
+pub record Given (n : Node) (h : List Act) (p : Node) (i : Inputs) (g : List ℕ) : Type 0 where
+  pub message : Message
   pub octets : List ℕ
-  pub kind : Kind
-  pub outcome : Outcome
   pub covered : List ℕ
-  pub took : In (Took from octets kind outcome (Some (record { octets = covered; key = (ptk i).kck }))) h
-  pub message : covered_message covered ≡ M3
+  pub took : In (Took (Some p) octets (kind.Key message) Accepted (Some (seal_under i covered))) (since p h)
+  pub gives_key : GivesKey message
+  pub message_is : covered_message covered ≡ message
+  pub counter : replay_counter octets ≡ covered_counter covered
+  pub derived : In (derives p i) h
   pub plain : List ℕ
   pub wraps : Wraps (ptk i).kek plain (covered_key_data covered)
   pub e : ElementFields
   pub spelled : SpellsElements KeyData plain e
   pub key : (carried (Some e)).key ≡ g
+
+-- by M3: it is the first that comes in the attempt
+pub record GivenM3 (n : Node) (h : List Act) (p : Node) (g : List ℕ) : Type 0 where
+  pub station : is_ap n ≡ false
+  pub i : Inputs
+  pub given : Given n h p i g
+  pub alive : Alive n h p i
+  pub first : (key : List ℕ) (id : ℕ) (b : Mac) → In (Installed (One p) (Group key id b)) alive.part → ⊥
   pub new : find_key g (memory groups.Gtk p h) ≡ None
+
+-- each M3 and G1 accepted from p in that part has a smaller replay counter
+abbrev pub Above : Node → ℕ → List Act → Type 0
+Above p counter part = (m : Message) (octets : List ℕ) (s : Option Seal) → GivesKey m → In (Took (Some p) octets (kind.Key m) Accepted s) part → replay_counter octets < counter
+
+-- by G1: it comes in the session, with a replay counter above all before it
+pub record GivenG1 (n : Node) (h : List Act) (p : Node) (g : List ℕ) : Type 0 where
+  pub station : is_ap n ≡ false
+  pub i : Inputs
+  pub given : Given n h p i g
+  pub kind_is : given.message ≡ G1
+  pub before : List Act
+  pub from : Option Node
+  pub octets : List ℕ
+  pub kind : Kind
+  pub outcome : Outcome
+  pub seal : Option Seal
+  pub is : h ≡ Took from octets kind outcome seal ∷ before
+  pub awaited : session p before ≡ Some (keyed_by i)
+  pub above : Above p (covered_counter given.covered) (since p before)
+  pub new : find_key g (memory groups.Gtk p h) ≡ None
+
+pub data LegalGroup (n : Node) (h : List Act) (p : Node) (g : List ℕ) : Type 0 where
+  By_m3 : GivenM3 n h p g → LegalGroup n h p g
+  By_g1 : GivenG1 n h p g → LegalGroup n h p g
 
 -- an access point makes a key current that it drew and did not make current yet
 pub record LegalCurrent (n : Node) (h : List Act) (g : List ℕ) : Type 0 where
@@ -177,27 +269,40 @@ LegalInstalled n h (One p) (Group g id b) = LegalGroup n h p g
 LegalInstalled n h All (Pairwise tk i) = ⊥
 LegalInstalled n h All (Group g id b) = LegalCurrent n h g
 
--- an access point draws one group key in all
+-- an access point draws group keys, fewer than its draws
 pub record LegalGtk (n : Node) (h : List Act) (v : List ℕ) : Type 0 where
   pub ap : is_ap n ≡ true
   pub octets : AreOctets v
   pub size : length v ≡ 16
-  pub first : group_keys groups.Gtk h ≡ []
+  pub few : length (group_keys groups.Gtk h) < draw_end
 
 abbrev pub LegalDrew : Node → List Act → Drawn → Type 0
 LegalDrew n h (Nonce v) = length v ≡ 32
 LegalDrew n h (Gtk v) = LegalGtk n h v
 
--- a final message is accepted where a message of the peer verified
+-- a final message is accepted where a message of the peer verified, under the key derived last. A station has no other session, and
+-- was given its group keys in this attempt under the same inputs
 pub record LegalFinished (n : Node) (h : List Act) (p : Node) (i : Inputs) : Type 0 where
   pub verified : Verified n h p i
   pub alive : Alive n h p i
+  pub last : derivation p h ≡ Some (keyed_by i)
+  pub alone : is_ap n ≡ false → associated h ≡ None
+  pub gave : is_ap n ≡ false → (g : List ℕ) (id : ℕ) (b : Mac) → In (Installed (One p) (Group g id b)) (since p h) → Given n h p i g
+
+-- a station has no session as it begins an attempt, and it ends the only one that it has
+abbrev pub LegalOpened : Node → List Act → Node → Type 0
+LegalOpened n h p = is_ap n ≡ false → (associated h ≡ None) × (is_ap p ≡ true)
+
+abbrev pub LegalClosed : Node → List Act → Node → Type 0
+LegalClosed n h p = is_ap n ≡ false → associated h ≡ Some p
 
 -- no packet number is used yet, and nothing handed up
 abbrev pub Legal : Domain → Node → List Act → Act → Type 0
+Legal d n h (Opened p s) = LegalOpened n h p
+Legal d n h (Closed p Session) = LegalClosed n h p
 Legal d n h (Drew v) = LegalDrew n h v
 Legal d n h (Derived p i k) = LegalDerived d n h p i k
-Legal d n h (Sent q k octets s) = LegalSealed d n h q s × (same_kind (kind.Key M3) k ≡ true → HasDrawn h)
+Legal d n h (Sent q k octets s) = LegalSealed d n h q k s × LegalKind n h q k
 Legal d n h (Installed q key) = LegalInstalled n h q key
 Legal d n h (Finished p i) = LegalFinished n h p i
 Legal d n h (Used p key id number octets) = ⊥

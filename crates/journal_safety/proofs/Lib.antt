@@ -3,11 +3,15 @@ pub mod Ends
 pub mod Names
 pub mod Legal
 pub mod Histories
+pub mod Sessions
+pub mod Counts
+pub mod FirstM3
 pub mod Accepted
 pub mod Settled
 pub mod SentLegal
 pub mod Rows
 pub mod Retries
+pub mod Renewals
 pub mod Runs
 pub mod Places
 pub mod Seals
@@ -16,3 +20,4 @@ pub mod Pairwise
 pub mod GroupKeys
 pub mod Once
 pub mod AllParts
+pub mod Order

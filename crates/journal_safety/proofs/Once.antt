@@ -21,7 +21,7 @@ use Rattle.journal_safety.proofs.Legal.{LegalPairwise, LegalGroup, LegalCurrent,
 use Rattle.journal_safety.proofs.Histories.{gtk_drew, gtks_tail}
 use Rattle.journal_safety.proofs.Places.{Good, good_tail, at_of, in_history, legal_at, earlier_tail, entry_in, DerivedAt, derived_at, has_derived}
 use Rattle.journal_safety.proofs.Pairwise.{installs, verified_wider, pairwise_once}
-use Rattle.journal_safety.proofs.GroupKeys.{group_drawn, group_once, current_once}
+use Rattle.journal_safety.proofs.GroupKeys.{group_station, group_drawn, group_once, current_once}
 
 -- how an act installs a key
 data Installs (e : Act) (key : List ℕ) : Type 0 where
@@ -65,7 +65,7 @@ group_earlier d n p key id b past g there =
     let w = at_of n act past there in
     let t = earlier_tail n act past w in
     let old : LegalGroup n (history n w.earlier) p key = legal_at d n act past g.legal w in
-    (gtks_tail key (history p w.earlier) (history p past) (history_tail p w.earlier past t) (group_drawn d n p key w.earlier (good_tail d w.earlier past t g) old), old.station)
+    (gtks_tail key (history p w.earlier) (history p past) (history_tail p w.earlier past t) (group_drawn d n p key w.earlier (good_tail d w.earlier past t g) old), group_station n (history n w.earlier) p key old)
 
 current_drawn : (n : Node) (h : List Act) (key : List ℕ) → LegalCurrent n h key → In key (group_keys groups.Gtk h)
 current_drawn n h key l = subst (λ (x : List (List ℕ)). In key x) (sym l.newest) (inl refl)
@@ -95,7 +95,7 @@ once_by d n e x key past g legal there (FromPeer p id b is) (FromPeer q id2 b2 w
 once_by d n e x key past g legal there (FromPeer p id b is) (ForAll id2 b2 was) =
     let l : LegalGroup n (history n past) p key = subst (λ (y : Act). Legal d n (history n past) y) is legal in
     let role = (current_earlier d n key id2 b2 past g (subst (λ (y : Act). In y (history n past)) was there)).1 in
-    let no_role : is_ap n ≡ false = l.station in cc (role, no_role)
+    let no_role : is_ap n ≡ false = group_station n (history n past) p key l in cc (role, no_role)
 once_by d n e x key past g legal there (ForAll id b is) (WithPeer q k was) =
     let l : LegalCurrent n (history n past) key = subst (λ (y : Act). Legal d n (history n past) y) is legal in
     let o = pairwise_earlier d n q key k past g (subst (λ (y : Act). In y (history n past)) was there) in

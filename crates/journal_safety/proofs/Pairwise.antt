@@ -15,12 +15,12 @@ use Rattle.run_journal.specs.Questions.{history, or_else, attempt, own_nonce}
 use Rattle.run_journal.specs.Premises.{In, drawn, NotDrawn, Fresh}
 use Rattle.domain_rules.proofs.Parts.{same-refl, Grows, Begins, Goes_on, grows}
 use Rattle.journal_safety.proofs.Ends.{Tail, tail_in, history_tail}
-use Rattle.journal_safety.proofs.Legal.{nonce_of, derives, Alive, Verified, gives, LegalPairwise, LegalFinished, Legal, LegalHistory}
+use Rattle.journal_safety.proofs.Legal.{nonce_of, derives, Alive, Verified, gives, seal_under, LegalPairwise, LegalFinished, Legal, LegalHistory}
 use Rattle.journal_safety.proofs.Histories.{opens-undrawn, nonce_drawn-is, alive_drew}
 use Rattle.journal_safety.proofs.Settled.{same_attempt}
 use Rattle.journal_safety.proofs.Runs.{legal_history}
 use Rattle.journal_safety.proofs.Places.{Good, at_of, legal_at, earlier_tail, entry_in, DerivedAt, derived_at, has_derived}
-use Rattle.journal_safety.proofs.Seals.{named, SameInputs, same_inputs, seal_under, verified_by, peer_facts}
+use Rattle.journal_safety.proofs.Seals.{named, SameInputs, same_inputs, verified_by, peer_facts}
 
 -- what the node drew is not drawn again
 abbrev pub FreshHistory : List Act → Type 0
@@ -95,9 +95,9 @@ unfinished p i [] part a there = cc
 unfinished p i (e ∷ h) part a there = unfinished_by p i e h part (unfinished p i h) (grows p e h part a) there
 
 -- nothing was finished before from the nonce of an attempt
-pub alive_unfinished : (d : Domain) (n p : Node) (i : Inputs) (past : List Entry) → Good d past → Alive n (history n past) p i → In (Finished p i) (history n past) → ⊥
-alive_unfinished d n p i past g a there = unfinished p i (history n past) a.part a.awaited
-    (inside p (nonce_of n i) (Finished p i) (history n past) a.part (finished_had d n p i (history n past) (legal_history d n past g.legal)) (fresh_history n past g.fresh) a.awaited a.own there)
+pub alive_over : (d : Domain) (n p : Node) (i : Inputs) (h : List Act) → LegalHistory d n h → FreshHistory h → Alive n h p i → In (Finished p i) h → ⊥
+alive_over d n p i h legal fresh a there = unfinished p i h a.part a.awaited
+    (inside p (nonce_of n i) (Finished p i) h a.part (finished_had d n p i h legal) fresh a.awaited a.own there)
 
 pub verified_wider : (n p : Node) (i : Inputs) (a b : List Entry) → Tail a b → Verified n (history n a) p i → Verified n (history n b) p i
 verified_wider n p i a b t v = record {

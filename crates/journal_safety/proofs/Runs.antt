@@ -19,7 +19,7 @@ use Rattle.domain_rules.proofs.Journals.{history-started_sta, history-not_starte
 use Rattle.domain_rules.proofs.KeyOctets.{octets-kdf}
 use Rattle.journal_safety.proofs.Legal.{Legal, LegalHistory, Chain}
 use Rattle.journal_safety.proofs.Settled.{Settled, Fine}
-use Rattle.journal_safety.proofs.Retries.{adds_fine}
+use Rattle.journal_safety.proofs.Renewals.{adds_fine}
 
 -- no entry is of a later round
 abbrev pub Until : ℕ → List Entry → Type 0
@@ -99,7 +99,7 @@ follows_sound d r (event ∷ events) old new (mid, (step, rest)) s = follows_sou
 
 start_chain : (d : Domain) (k : ℕ) → Chain d (Ap k) [] (start_acts d 0 (Ap k))
 unfolding gtk
-start_chain d k = (record { ap = refl; octets = octets-kdf _ _ _ 16; size = length-kdf _ _ _ 16; first = refl }, (record { ap = refl; newest = refl }, tt))
+start_chain d k = (record { ap = refl; octets = octets-kdf _ _ _ 16; size = length-kdf _ _ _ 16; few = omega arith }, (record { ap = refl; newest = refl }, tt))
 
 -- legal as far as it goes, in round 0
 pub record Begun (d : Domain) (past : List Entry) : Type 0 where
@@ -118,10 +118,10 @@ started_begun d zero = record { legal = tt; until = λ m there. absurd there }
 started_begun d (suc k) = begun_push d (Ap k) (start_acts d 0 (Ap k)) (started d k) (subst (λ (x : List Act). Chain d (Ap k) x (start_acts d 0 (Ap k))) (sym (history-not_started d k k (omega arith))) (start_chain d k)) (started_begun d k)
 
 settled_none : (d : Domain) (n : Node) → (is_ap n ≡ true → IsListed d n → ⊥) → Settled d n []
-settled_none d n other = record { bare = λ p part a. cc a; nonced = λ p part a. cc a; started = λ role listed. absurd (other role listed) }
+settled_none d n other = record { bare = λ p part a. cc a; nonced = λ p part a. cc a; started = λ role listed. absurd (other role listed); nearly = inl refl }
 
 settled_start : (d : Domain) (k : ℕ) → Settled d (Ap k) (add (start_acts d 0 (Ap k)) [])
-settled_start d k = record { bare = λ p part a. cc a; nonced = λ p part a. cc a; started = λ role listed. (gtk d (Ap k) 0, inl refl) }
+settled_start d k = record { bare = λ p part a. cc a; nonced = λ p part a. cc a; started = λ role listed. (gtk d (Ap k) 0, inl refl); nearly = inl refl }
 
 settled_started : (d : Domain) (n : Node) → Settled d n (history n (started d (length d.aps)))
 settled_started d (Sta s) = subst (λ (x : List Act). Settled d (Sta s) x) (sym (history-started_sta d s (length d.aps))) (settled_none d (Sta s) (λ role listed. cc role))

@@ -8,6 +8,7 @@ use Rattle.key_hierarchy.specs.Keys.{ptk}
 use Rattle.key_hierarchy.specs.declared.inputs.Inputs.{Inputs}
 use Rattle.run_journal.specs.declared.domain.Domain.{Domain}
 use Rattle.run_journal.specs.declared.acts.Kind.{Kind}
+use Rattle.run_journal.specs.declared.acts.Kind.TheVariants as kinds
 use Rattle.run_journal.specs.declared.acts.Outcome.{Outcome}
 use Rattle.run_journal.specs.declared.acts.Seal.{Seal}
 use Rattle.run_journal.specs.declared.acts.Act.{Act}
@@ -19,7 +20,7 @@ use Rattle.domain_rules.specs.Network.{is_ap, IsNamed}
 use Rattle.journal_safety.proofs.Covers.{covered_message}
 use Rattle.journal_safety.proofs.Ends.{Tail, tail_rest, tail_trans, place}
 use Rattle.journal_safety.proofs.Names.{one_address, Crossed, IsSameName, same_name}
-use Rattle.journal_safety.proofs.Legal.{goes_down, derives, Carries, AreCommon, LegalSeal, LegalSealed, Verified, Legal}
+use Rattle.journal_safety.proofs.Legal.{goes_down, derives, Carries, AreCommon, LegalSeal, LegalSealed, seal_under, Verified, Legal}
 use Rattle.journal_safety.proofs.Runs.{Until, LegalJournal}
 use Rattle.journal_safety.proofs.Places.{Good, good_tail, At, at_of, not_itself, apart_draws, Draws, DerivedAt, derived_at, derived_wider, has_derived}
 
@@ -136,15 +137,12 @@ pub record KeySeal (d : Domain) (n : Node) (h : List Act) (e : Act) (s : Seal) :
   pub kind : Kind
   pub octets : List ℕ
   pub is : e ≡ Sent (One peer) kind octets (Some s)
-  pub seal : LegalSeal d n h peer s
+  pub seal : LegalSeal d n h peer kind s
 
 seal_facts : (d : Domain) (n : Node) (h : List Act) (e : Act) (s : Seal) → Legal d n h e → seal_sent e ≡ Some s → KeySeal d n h e s
-seal_facts d n h (Sent (One p) k octets o) s l w = record { peer = p; kind = k; octets = octets; is = ap (λ (x : Option Seal). Sent (One p) k octets x) w; seal = subst (λ (x : Option Seal). LegalSealed d n h (One p) x) w l.0 }
-seal_facts d n h (Sent All k octets o) s l w = absurd (subst (λ (x : Option Seal). LegalSealed d n h All x) w l.0)
+seal_facts d n h (Sent (One p) k octets o) s l w = record { peer = p; kind = k; octets = octets; is = ap (λ (x : Option Seal). Sent (One p) k octets x) w; seal = subst (λ (x : Option Seal). LegalSealed d n h (One p) k x) w l.0 }
+seal_facts d n h (Sent All k octets o) s l w = absurd (subst (λ (x : Option Seal). LegalSealed d n h All k x) w l.0)
 seal_facts d n h _ s l w = cc
-
-abbrev pub seal_under : Inputs → List ℕ → Seal
-seal_under i covered = record { octets = covered; key = (ptk i).kck }
 
 -- Of octets of the other side that verified under inputs of the node's own: the peer sealed them, in a lower round, and had
 -- derived from the same inputs.
@@ -163,7 +161,8 @@ pub record SealedBy (d : Domain) (n p : Node) (i : Inputs) (covered : List ℕ) 
   pub rounds : sent.round < taken.round
   pub until : Until sent.round earlier
   pub facts : DerivedAt d p n i earlier
-  pub carries : Carries d (history p earlier) i covered (covered_message covered)
+  pub kind_is : kind ≡ kinds.Key (covered_message covered)
+  pub carries : Carries d p (history p earlier) n i covered (covered_message covered)
 
 pub sealed_by : (d : Domain) (n p : Node) (i : Inputs) (from : Option Node) (octets : List ℕ) (kd : Kind) (o : Outcome) (covered : List ℕ) (past : List Entry) → Good d past → In (derives p i) (history n past)
     → In (Took from octets kd o (Some (seal_under i covered))) (history n past) → goes_down covered ≡ not (is_ap n) → SealedBy d n p i covered past
@@ -183,7 +182,10 @@ sealed_by d n p i from octets kd o covered past g derived took direction =
       rounds = other_round n sent.entry w.entry sent.before w.at roles;
       until = legal_z.1;
       facts = subst (λ (x : Node). DerivedAt d x n i z.0) (sym one.peer) (subst (λ (x : Node). DerivedAt d sent.entry.node x i z.0) one.back (subst (λ (x : Inputs). DerivedAt d sent.entry.node ks.peer x z.0) (sym one.inputs) theirs));
-      carries = subst (λ (x : Node). Carries d (history x z.0) i covered (covered_message covered)) (sym one.peer) (subst (λ (x : Inputs). Carries d (history sent.entry.node z.0) x covered (covered_message covered)) (sym one.inputs) ks.seal.carries);
+      kind_is = ks.seal.kind_is;
+      carries = subst (λ (x : Node). Carries d x (history x z.0) n i covered (covered_message covered)) (sym one.peer)
+          (subst (λ (x : Node). Carries d sent.entry.node (history sent.entry.node z.0) x i covered (covered_message covered)) one.back
+          (subst (λ (x : Inputs). Carries d sent.entry.node (history sent.entry.node z.0) ks.peer x covered (covered_message covered)) (sym one.inputs) ks.seal.carries));
     }
   where
     own : DerivedAt d n p i past

@@ -1,22 +1,26 @@
--- What holds of a history between events: in each attempt that goes on a nonce was drawn and no pairwise key installed, and an
--- access point of the network has drawn a group key. And what a group of acts has to show.
-use Rattle.std.proofs.Common.{ℕ, ◌≡◌, inl, inr, Bool, true, false, List, [], ◌∷◌, ◌++◌, length, Some, None, refl, sym, subst}
+-- What holds of a history between events: in each attempt that goes on a nonce was drawn and no key installed, an access point of the
+-- network has drawn a group key, and of the group keys drawn all are current, or all but the newest. And what a group of acts has to
+-- show.
+use Rattle.std.proofs.Common.{ℕ, ◌≡◌, ◌⊎◌, inl, inr, Bool, true, false, List, [], ◌∷◌, ◌++◌, length, Option, Some, None, refl, sym, ap, subst}
 use Rattle.std.specs.List.{AllByRecursion}
 use Rattle.domain_base.specs.declared.names.Node.{Node}
 use Rattle.domain_base.specs.declared.names.Node.TheVariants.{Ap, Sta}
-use Rattle.domain_base.specs.declared.names.Peer.TheVariants.{One}
+use Rattle.domain_base.specs.declared.names.Peer.TheVariants.{One, All}
 use Rattle.key_hierarchy.specs.declared.inputs.Inputs.{Inputs}
 use Rattle.run_journal.specs.declared.domain.Domain.{Domain}
 use Rattle.run_journal.specs.declared.acts.Start.{Start}
-use Rattle.run_journal.specs.declared.acts.Drawn.TheVariants.{Nonce}
-use Rattle.run_journal.specs.declared.acts.Key.TheVariants.{Pairwise}
+use Rattle.run_journal.specs.declared.acts.Drawn.TheVariants.{Nonce, Gtk}
+use Rattle.run_journal.specs.GroupKinds as groups
+use Rattle.domain_base.specs.declared.names.Mac.{Mac}
+use Rattle.run_journal.specs.declared.acts.Key.{Key}
+use Rattle.run_journal.specs.declared.acts.Key.TheVariants.{Group}
 use Rattle.run_journal.specs.declared.acts.Act.{Act}
 use Rattle.run_journal.specs.declared.acts.Act.TheVariants.{Opened, Drew, Installed, Finished}
-use Rattle.run_journal.specs.Acts.{same, is_same_attempt, opens, ends}
-use Rattle.run_journal.specs.Questions.{attempt, own_nonce, add}
+use Rattle.run_journal.specs.Acts.{same, is_same_attempt, opens, ends, key_drawn, switched}
+use Rattle.run_journal.specs.Questions.{attempt, own_nonce, listed, group_keys, switches, add}
 use Rattle.domain_rules.specs.Network.{is_ap, IsListed}
 use Rattle.domain_rules.proofs.Parts.{same-true, same-refl, Grows, Begins, Goes_on, grows, attempt_ends, own_nonce_more, add_append}
-use Rattle.journal_safety.proofs.Legal.{gives, Uninstalled, HasDrawn, Legal, Chain}
+use Rattle.journal_safety.proofs.Legal.{gives, Uninstalled, HasDrawn, LegalOpened, Legal, Chain}
 use Rattle.journal_safety.proofs.Histories.{opens-is, has_drawn_more}
 
 abbrev pub Bare : List Act → Type 0
@@ -28,10 +32,24 @@ Nonced h = (p : Node) (part : List Act) → attempt p h ≡ Some part → (v : L
 abbrev pub Started : Domain → Node → List Act → Type 0
 Started d n h = is_ap n ≡ true → IsListed d n → HasDrawn h
 
+-- all group keys drawn are current, or all but the newest
+abbrev pub Nearly : List Act → Type 0
+Nearly h = (group_keys groups.Gtk h ≡ switches groups.Gtk h) ⊎ ((k : List ℕ) × (group_keys groups.Gtk h ≡ k ∷ switches groups.Gtk h))
+
 pub record Settled (d : Domain) (n : Node) (h : List Act) : Type 0 where
   pub bare : Bare h
   pub nonced : Nonced h
   pub started : Started d n h
+  pub nearly : Nearly h
+
+-- acts that change neither list of group keys
+nearly_by : (e : Act) (h : List Act) → Nearly h → (o p : Option (List ℕ)) → o ≡ None → p ≡ None → (listed o (group_keys groups.Gtk h) ≡ listed p (switches groups.Gtk h)) ⊎ ((k : List ℕ) × (listed o (group_keys groups.Gtk h) ≡ k ∷ listed p (switches groups.Gtk h)))
+nearly_by e h w None None s t = w
+nearly_by e h w (Some x) p s t = cc
+nearly_by e h w None (Some x) s t = cc
+
+nearly_more : (e : Act) (h : List Act) → key_drawn groups.Gtk e ≡ None → switched groups.Gtk e ≡ None → Nearly h → Nearly (e ∷ h)
+nearly_more e h s t w = nearly_by e h w (key_drawn groups.Gtk e) (switched groups.Gtk e) s t
 
 -- ---- one act more
 
@@ -53,27 +71,40 @@ nonced_by e h p part apart s (Goes_on old o goes a is) = let w = s old a in (w.0
 started_more : (d : Domain) (n : Node) (e : Act) (h : List Act) → Started d n h → Started d n (e ∷ h)
 started_more d n e h s = λ role listed. has_drawn_more e h (s role listed)
 
--- it neither opens an attempt nor installs a pairwise key
+-- it neither opens an attempt nor installs a key, and draws no group key
 abbrev pub is_quiet : Act → Bool
 is_quiet (Opened p s) = false
-is_quiet (Installed (One p) (Pairwise tk i)) = false
+is_quiet (Installed q key) = false
+is_quiet (Drew (Gtk v)) = false
 is_quiet _ = true
 
 quiet-gives : (p : Node) (e : Act) → is_quiet e ≡ true → gives p e ≡ false
-quiet-gives p (Installed (One q) (Pairwise tk i)) is = cc
+quiet-gives p (Installed q key) is = cc
 quiet-gives p (Opened q s) is = cc
+quiet-gives p (Drew (Gtk v)) is = cc
 quiet-gives p _ is = refl
 
 quiet-opens : (p : Node) (e : Act) → is_quiet e ≡ true → opens p e ≡ false
 quiet-opens p (Opened q s) is = cc
-quiet-opens p (Installed (One q) (Pairwise tk i)) is = cc
+quiet-opens p (Installed q key) is = cc
+quiet-opens p (Drew (Gtk v)) is = cc
 quiet-opens p _ is = refl
+
+quiet-drawn : (e : Act) → is_quiet e ≡ true → key_drawn groups.Gtk e ≡ None
+quiet-drawn (Drew (Gtk v)) is = cc
+quiet-drawn (Drew (Nonce v)) is = refl
+quiet-drawn _ is = refl
+
+quiet-switched : (e : Act) → is_quiet e ≡ true → switched groups.Gtk e ≡ None
+quiet-switched (Installed q key) is = cc
+quiet-switched _ is = refl
 
 pub settled_quiet : (d : Domain) (n : Node) (e : Act) (h : List Act) → is_quiet e ≡ true → Settled d n h → Settled d n (e ∷ h)
 settled_quiet d n e h is s = record {
   bare = λ p part a. bare_by e h p part (quiet-gives p e is) (s.bare p) (grows p e h part a);
   nonced = λ p part a. nonced_by e h p part (quiet-opens p e is) (s.nonced p) (grows p e h part a);
   started = started_more d n e h s.started;
+  nearly = nearly_more e h (quiet-drawn e is) (quiet-switched e is) s.nearly;
 }
 
 abbrev pub Quiet : List Act → Type 0
@@ -105,6 +136,7 @@ settled_opened d n q s v h w =
       bare = λ p part a. bare_by (Drew (Nonce v)) (Opened q s ∷ h) p part refl (opened p) (grows p (Drew (Nonce v)) (Opened q s ∷ h) part a);
       nonced = λ p part a. drew_by v q s h p part (w.nonced p) (grows p (Drew (Nonce v)) (Opened q s ∷ h) part a);
       started = started_more d n (Drew (Nonce v)) (Opened q s ∷ h) (started_more d n (Opened q s) h w.started);
+      nearly = w.nearly;
     }
 
 -- ---- a pairwise key is installed, and the attempt is finished
@@ -114,15 +146,17 @@ pub record SettledBut (d : Domain) (n p : Node) (h : List Act) : Type 0 where
   pub but : (q : Node) (part : List Act) → same q p ≡ false → attempt q h ≡ Some part → Uninstalled q part
   pub nonced : Nonced h
   pub started : Started d n h
+  pub nearly : Nearly h
 
 pub but_of : (d : Domain) (n p : Node) (h : List Act) → Settled d n h → SettledBut d n p h
-but_of d n p h s = record { but = λ q part apart a. s.bare q part a; nonced = s.nonced; started = s.started }
+but_of d n p h s = record { but = λ q part apart a. s.bare q part a; nonced = s.nonced; started = s.started; nearly = s.nearly }
 
-pub but_more : (d : Domain) (n p : Node) (e : Act) (h : List Act) → ((q : Node) → same q p ≡ false → gives q e ≡ false) → ((q : Node) → opens q e ≡ false) → SettledBut d n p h → SettledBut d n p (e ∷ h)
-but_more d n p e h free apart_all s = record {
+pub but_more : (d : Domain) (n p : Node) (e : Act) (h : List Act) → ((q : Node) → same q p ≡ false → gives q e ≡ false) → ((q : Node) → opens q e ≡ false) → (key_drawn groups.Gtk e ≡ None) × (switched groups.Gtk e ≡ None) → SettledBut d n p h → SettledBut d n p (e ∷ h)
+but_more d n p e h free apart_all keys s = record {
   but = λ q part apart a. bare_by e h q part (free q apart) (λ old was. s.but q old apart was) (grows q e h part a);
   nonced = λ q part a. nonced_by e h q part (apart_all q) (s.nonced q) (grows q e h part a);
   started = started_more d n e h s.started;
+  nearly = nearly_more e h keys.0 keys.1 s.nearly;
 }
 
 pub same_attempt : (p : Node) → is_same_attempt p p ≡ true
@@ -141,6 +175,40 @@ settled_finished d n p i h s = record {
   bare = λ q part a. finished_by d n p q i h part s (same q p) refl a;
   nonced = λ q part a. nonced_by (Finished p i) h q part refl (s.nonced q) (grows q (Finished p i) h part a);
   started = started_more d n (Finished p i) h s.started;
+  nearly = s.nearly;
+}
+
+-- ---- a group key is drawn, and becomes current
+
+pub settled_drew : (d : Domain) (n : Node) (v : List ℕ) (h : List Act) → group_keys groups.Gtk h ≡ switches groups.Gtk h → Settled d n h → Settled d n (Drew (Gtk v) ∷ h)
+settled_drew d n v h all s = record {
+  bare = λ p part a. bare_by (Drew (Gtk v)) h p part refl (s.bare p) (grows p (Drew (Gtk v)) h part a);
+  nonced = λ p part a. nonced_by (Drew (Gtk v)) h p part refl (s.nonced p) (grows p (Drew (Gtk v)) h part a);
+  started = started_more d n (Drew (Gtk v)) h s.started;
+  nearly = inr (v, ap (λ (x : List (List ℕ)). v ∷ x) all);
+}
+
+pub settled_switched : (d : Domain) (n : Node) (g : List ℕ) (id : ℕ) (b : Mac) (h : List Act) → group_keys groups.Gtk h ≡ g ∷ switches groups.Gtk h → Settled d n h → Settled d n (Installed All (Group g id b) ∷ h)
+settled_switched d n g id b h all s = record {
+  bare = λ p part a. bare_by (Installed All (Group g id b)) h p part refl (s.bare p) (grows p (Installed All (Group g id b)) h part a);
+  nonced = λ p part a. nonced_by (Installed All (Group g id b)) h p part refl (s.nonced p) (grows p (Installed All (Group g id b)) h part a);
+  started = started_more d n (Installed All (Group g id b)) h s.started;
+  nearly = inl all;
+}
+
+-- ---- a station is given a group key in a session, beside which it has no attempt with the same access point
+
+given_by : (p q : Node) (key : Key) (h part : List Act) → attempt p h ≡ None → (b : Bool) → same q p ≡ b → ((old : List Act) → attempt q h ≡ Some old → Uninstalled q old) → Grows q (Installed (One p) key) h part → Uninstalled q part
+given_by p q key h part none true is s (Begins o are) = cc
+given_by p q key h part none true is s (Goes_on old o goes a are) = let w : attempt p h ≡ Some old = subst (λ (x : Node). attempt x h ≡ Some old) (same-true q p is) a in absurd (cc (none, w))
+given_by p q key h part none false is s g = bare_by (Installed (One p) key) h q part is s g
+
+pub settled_given : (d : Domain) (n p : Node) (g : List ℕ) (id : ℕ) (b : Mac) (h : List Act) → attempt p h ≡ None → Settled d n h → Settled d n (Installed (One p) (Group g id b) ∷ h)
+settled_given d n p g id b h none s = record {
+  bare = λ q part a. given_by p q (Group g id b) h part none (same q p) refl (s.bare q) (grows q (Installed (One p) (Group g id b)) h part a);
+  nonced = λ q part a. nonced_by (Installed (One p) (Group g id b)) h q part refl (s.nonced q) (grows q (Installed (One p) (Group g id b)) h part a);
+  started = started_more d n (Installed (One p) (Group g id b)) h s.started;
+  nearly = s.nearly;
 }
 
 -- ---- what each group of acts has to show
@@ -169,6 +237,6 @@ fine_append d n h a b v w = record {
   settled = subst (λ (x : List Act). Settled d n x) (sym (add_append a b h)) w.settled;
 }
 
-pub fine_opened : (d : Domain) (n : Node) (h : List Act) (q : Node) (s : Start) (v : List ℕ) (g : List Act) → length v ≡ 32 → Settled d n h → (Settled d n (Drew (Nonce v) ∷ Opened q s ∷ h) → Fine d n (Drew (Nonce v) ∷ Opened q s ∷ h) g)
+pub fine_opened : (d : Domain) (n : Node) (h : List Act) (q : Node) (s : Start) (v : List ℕ) (g : List Act) → LegalOpened n h q → length v ≡ 32 → Settled d n h → (Settled d n (Drew (Nonce v) ∷ Opened q s ∷ h) → Fine d n (Drew (Nonce v) ∷ Opened q s ∷ h) g)
     → Fine d n h (Opened q s ∷ Drew (Nonce v) ∷ g)
-fine_opened d n h q s v g size w more = fine_cons d n h (Opened q s) (Drew (Nonce v) ∷ g) tt (fine_cons d n (Opened q s ∷ h) (Drew (Nonce v)) g size (more (settled_opened d n q s v h w)))
+fine_opened d n h q s v g legal size w more = fine_cons d n h (Opened q s) (Drew (Nonce v) ∷ g) legal (fine_cons d n (Opened q s ∷ h) (Drew (Nonce v)) g size (more (settled_opened d n q s v h w)))

@@ -17,6 +17,7 @@ ghost use Rattle.run_journal.specs.Premises.{Fresh, NoCollision, Unforged};
 ghost use Rattle.run_journal.specs.Safe.{InstalledOnce, Joined, Once, Sourced, use_of, up_of};
 ghost use Rattle.domain_rules.specs.Network.{IsNamed};
 ghost use Rattle.domain_rules.specs.Explained.{Explained};
+ghost use Rattle.journal_safety.specs.NeverBack.{NeverBack};
 
 /// An accepted final message joins equal derivations: whoever accepts one has the inputs of a derivation that its peer made before.
 pub fn joins()
@@ -28,6 +29,13 @@ pub fn joins()
 pub fn installs_once()
     ensures { (d : Domain) (rounds : List (List Event)) (j : List Entry)
         → IsNamed d → Explained d rounds j → Fresh j → NoCollision j → Unforged j → InstalledOnce j }
+{}
+
+/// The group keys that a station takes from one access point never go back in the order of drawing, over all its associations and
+/// whatever is repeated or comes late. So it is enough that it remembers the last of them.
+pub fn keys_never_go_back()
+    ensures { (d : Domain) (rounds : List (List Event)) (j : List Entry)
+        → IsNamed d → Explained d rounds j → Fresh j → NoCollision j → Unforged j → NeverBack j }
 {}
 
 /// No node uses a packet number twice under a key.

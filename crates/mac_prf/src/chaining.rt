@@ -57,7 +57,8 @@ impl CmacState {
     fn push(&mut self, octet: u8)
         ensures { (key text : List ℕ)
             → HoldsBlocks self.old.cipher self.old.chain self.old.block self.old.count key text
-            → HoldsBlocks self.new.cipher self.new.chain self.new.block self.new.count key (text ++ octet ∷ []) }
+            → HoldsBlocks self.new.cipher self.new.chain self.new.block self.new.count key
+            (text ++ octet ∷ []) }
     {
         if self.count < BLOCK_LEN {
             self.block[self.count] = octet;
@@ -75,7 +76,8 @@ impl CmacState {
     pub fn update(&mut self, piece: &[u8])
         ensures { (key text : List ℕ)
             → HoldsBlocks self.old.cipher self.old.chain self.old.block self.old.count key text
-            → HoldsBlocks self.new.cipher self.new.chain self.new.block self.new.count key (text ++ piece.now) }
+            → HoldsBlocks self.new.cipher self.new.chain self.new.block self.new.count key
+            (text ++ piece.now) }
     {
         for octet in piece {
             self.push(*octet);

@@ -6,7 +6,7 @@ use Rattle.run_journal.specs.declared.domain.Domain.{Domain}
 use Rattle.run_journal.specs.declared.acts.Act.{Act}
 use Rattle.run_journal.specs.declared.acts.Outcome.{Outcome}
 use Rattle.run_journal.specs.Questions.{add}
-use Rattle.domain_rules.specs.Rows.{NodeEvent as AnyEvent, Take, Begin, Retry, Adds, outcome_of}
+use Rattle.domain_rules.specs.Rows.{NodeEvent as AnyEvent, Take, Begin, Retry, Rekey, Expire, Leave, Adds, outcome_of}
 use Rattle.domain_rules.specs.Here.{Here}
 use Rattle.node_base.specs.declared.event.NodeEvent.{NodeEvent}
 use Rattle.node_base.specs.declared.event.NodeEvent.TheVariants as event
@@ -15,14 +15,24 @@ abbrev pub event_of : NodeEvent → AnyEvent
 event_of (event.Take octets) = Take octets.now
 event_of (event.Connect a) = Begin a
 event_of (event.Retry s) = Retry s
+event_of event.Rekey = Rekey
+event_of (event.Expire s) = Expire s
+event_of event.Leave = Leave
 
--- the other node is listed; stations begin attempts, and access points send once more
+-- the other node is listed; stations begin attempts and leave, and access points send once more, draw new group keys and drop
+-- what they have with a station
 abbrev pub IsEventAt : Domain → Node → AnyEvent → Type 0
 IsEventAt d n (Take octets) = Unit {0}
 IsEventAt d (Ap k) (Begin a) = ⊥
 IsEventAt d (Sta k) (Begin a) = a < length d.aps
 IsEventAt d (Ap k) (Retry s) = s < length d.stas
 IsEventAt d (Sta k) (Retry s) = ⊥
+IsEventAt d (Ap k) Rekey = Unit {0}
+IsEventAt d (Sta k) Rekey = ⊥
+IsEventAt d (Ap k) (Expire s) = s < length d.stas
+IsEventAt d (Sta k) (Expire s) = ⊥
+IsEventAt d (Ap k) Leave = ⊥
+IsEventAt d (Sta k) Leave = Unit {0}
 
 -- what is seen of a step: the acts that waited before it, those that wait after it, and what came
 -- of the event

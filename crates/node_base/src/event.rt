@@ -9,4 +9,10 @@ pub enum NodeEvent<'a> {
     Connect(u16),
     /// An access point sends that station once more what it waits to have answered.
     Retry(u16),
+    /// An access point draws a new group key and gives it to each session.
+    Rekey,
+    /// An access point drops what it has with that station.
+    Expire(u16),
+    /// A station drops what it has.
+    Leave,
 }

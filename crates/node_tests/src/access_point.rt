@@ -5,6 +5,7 @@ ghost use Rattle.domain_base.specs.declared.names.Akm.{Akm as AnyAkm};
 ghost use Rattle.domain_rules.specs.Network.{InForm, draw_end};
 
 mod handshakes;
+mod rekeys;
 mod requests;
 
 use crate::acts::Expected::{Drew, Group};
@@ -40,7 +41,9 @@ fn steps(alloc: Global, domain: &Domain, node: &mut ApNode, out: &mut Outbox, st
     let event = match step.event {
         Event::Take(octets) => NodeEvent::Take(octets),
         Event::Retry(station) => NodeEvent::Retry(station % 2),
-        Event::Connect(_) => return false,
+        Event::Rekey => NodeEvent::Rekey,
+        Event::Expire(station) => NodeEvent::Expire(station % 2),
+        Event::Connect(_) | Event::Leave => return false,
     };
     is_outcome(node.step(alloc, domain, event, out), step.outcome) && come_of(out, step)
 }
@@ -143,4 +146,35 @@ fn m4_finishes_a_handshake_of_suite_6(rt: HostRuntime) {
 #[test]
 fn stations_are_kept_apart(rt: HostRuntime) {
     try_steps(&rt, rt.alloc(), Akm::Psk, 0, START, handshakes::STATIONS);
+}
+
+#[test]
+fn new_group_key_waits_for_the_answer(rt: HostRuntime) {
+    try_steps(&rt, rt.alloc(), Akm::Psk, 0, START, rekeys::ANSWERED);
+}
+
+#[test]
+fn session_without_an_answer_is_given_up(rt: HostRuntime) {
+    try_steps(&rt, rt.alloc(), Akm::Psk, 0, START, rekeys::GIVEN_UP);
+}
+
+#[test]
+fn session_that_owes_is_dropped(rt: HostRuntime) {
+    try_steps(&rt, rt.alloc(), Akm::Psk, 0, START, rekeys::DROPPED);
+}
+
+#[test]
+fn m4_for_an_older_group_key_is_followed_by_g1(rt: HostRuntime) {
+    try_steps(&rt, rt.alloc(), Akm::Psk, 0, START, rekeys::OLDER);
+}
+
+#[test]
+fn new_group_key_waits_for_all_answers(rt: HostRuntime) {
+    try_steps(&rt, rt.alloc(), Akm::Psk, 0, START, rekeys::BOTH);
+}
+
+#[test]
+fn no_group_key_is_drawn_at_the_end_of_draws(rt: HostRuntime) {
+    let last = 1_152_921_504_606_846_975;
+    try_steps(&rt, rt.alloc(), Akm::Psk, last, LAST_START, rekeys::SPENT);
 }

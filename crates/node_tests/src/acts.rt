@@ -14,6 +14,9 @@ pub enum Event {
     Connect(u16),
     Take(&'static [u8]),
     Retry(u16),
+    Rekey,
+    Expire(u16),
+    Leave,
 }
 
 /// An act as it is to be. What is taken has the octets that came and the outcome of the step.
@@ -263,7 +266,7 @@ pub fn come(out: &mut Outbox, acts: &[Expected], came: &[u8], told: Outcome) -> 
 pub fn come_of(out: &mut Outbox, step: &Step) -> bool {
     let came = match step.event {
         Event::Take(octets) => octets,
-        Event::Connect(_) | Event::Retry(_) => b"",
+        Event::Connect(_) | Event::Retry(_) | Event::Rekey | Event::Expire(_) | Event::Leave => b"",
     };
     come(out, step.acts, came, step.outcome)
 }

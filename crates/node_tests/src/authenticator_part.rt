@@ -227,7 +227,9 @@ fn is_right(
     requires packet_number { newest.now.rsc < 2 ^ 48 }
 {
     match step.came {
-        Came::Retried(retried) => is_same(authenticator.retry(reply), retried),
+        Came::Retried(retried) => {
+            is_same(authenticator.retry(&newest.key, newest.rsc, reply), retried)
+        },
         Came::Took(outcome) => {
             let (message, frame) = frame_of(suite, step.given);
             let came = on_air(rt, alloc, &frame);

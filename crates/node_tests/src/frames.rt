@@ -110,6 +110,40 @@ pub fn m4(suite: &Suite, counter: u64, mic: [u8; 16]) -> Frame {
     }
 }
 
+/// G1 with that key information.
+pub fn g1(
+    information: &'static [u8],
+    counter: u64,
+    rsc: u64,
+    mic: [u8; 16],
+    key_data: &'static [u8],
+) -> Frame {
+    Frame {
+        header: FROM_AP,
+        information,
+        key_length: [0, 0],
+        counter,
+        nonce: [0; 32],
+        rsc,
+        mic,
+        key_data,
+    }
+}
+
+/// G2 with that key information.
+pub fn g2(information: &'static [u8], counter: u64, mic: [u8; 16]) -> Frame {
+    Frame {
+        header: TO_AP,
+        information,
+        key_length: [0, 0],
+        counter,
+        nonce: [0; 32],
+        rsc: 0,
+        mic,
+        key_data: &[],
+    }
+}
+
 /// The octets of the frame on the air.
 pub fn on_air(rt: &impl Abort, alloc: Global, frame: &Frame) -> Vec<u8> {
     let size = (frame.key_data.len() % 65_536) as u16;

@@ -1,4 +1,5 @@
-//! The frames that nodes send, octet by octet: of associations, and the four messages with both suites.
+//! The frames that nodes send, octet by octet: of associations, and the messages of the four-way handshake and of the group key
+//! handshake with both suites.
 
 ghost use Rattle.std.specs.Prelude.{◌≡◌, ◌<◌, ◌^◌, length};
 ghost use Rattle.domain_rules.specs.Network.{InForm};
@@ -6,12 +7,17 @@ ghost use Rattle.domain_rules.specs.Network.{InForm};
 use crate::frames::{is_joined, sent};
 use crate::network::network;
 use crate::vectors::{
-    A1, ANONCE, FROM_AP, GTK, KEY_DATA, KEY_DATA_OF_ID_2, M3_MIC, REFUSAL, REQUEST, RESPONSE,
-    RESPONSE_TO_S2, S1, S2, SHA256_KEY_DATA, SHA256_M3_MIC, SNONCE, SUITE_2, SUITE_6, Suite, TO_AP,
+    A1, ANONCE, FROM_AP, G1_KEY_DATA, G1_KEY_DATA_OF_ID_1, G1_MIC, G2_MIC, GTK, KEY_DATA,
+    KEY_DATA_OF_ID_2, M3_MIC, NEXT_GTK, REFUSAL, REQUEST, RESPONSE, RESPONSE_TO_S2, S1, S2,
+    SECOND_G1_MIC, SECOND_G2_MIC, SHA256_G1_KEY_DATA, SHA256_G1_KEY_DATA_OF_ID_1, SHA256_G1_MIC,
+    SHA256_G2_MIC, SHA256_KEY_DATA, SHA256_M3_MIC, SHA256_SECOND_G1_MIC, SHA256_SECOND_G2_MIC,
+    SNONCE, SUITE_2, SUITE_6, Suite, TO_AP,
 };
 use domain_base::{Akm, NoMemory, Node, Peer};
 use eapol_key::Message;
-use frame_making::{assoc_req, assoc_resp, refusal, write_m1, write_m2, write_m3, write_m4};
+use frame_making::{
+    assoc_req, assoc_resp, refusal, write_g1, write_g2, write_m1, write_m2, write_m3, write_m4,
+};
 use group_key::GroupKey;
 use node_base::{Ends, Here, gtk, nonce};
 use run_journal::{Act, Domain, Keyed, Kind, Reply};
@@ -25,12 +31,20 @@ const FIRST: &[u8] = b"\0\0\0\0\0\0\0\x01";
 
 const SECOND: &[u8] = b"\0\0\0\0\0\0\0\x02";
 
+// The replay counters 3 and 4.
+const THIRD_COUNTER: &[u8] = b"\0\0\0\0\0\0\0\x03";
+
+const FOURTH_COUNTER: &[u8] = b"\0\0\0\0\0\0\0\x04";
+
 fn is_drawn(domain: &Domain) -> bool
     requires form { InForm domain.now }
     requires aps { length domain.now.aps ≡ 2 }
     requires stas { length domain.now.stas ≡ 2 }
 {
-    gtk(domain, A1, 0) == GTK && nonce(domain, A1, 1) == ANONCE && nonce(domain, S1, 0) == SNONCE
+    gtk(domain, A1, 0) == GTK
+        && gtk(domain, A1, 2) == NEXT_GTK
+        && nonce(domain, A1, 1) == ANONCE
+        && nonce(domain, S1, 0) == SNONCE
 }
 
 #[test]
@@ -276,4 +290,161 @@ fn fourth_message(rt: HostRuntime) {
     for suite in &SUITES {
         fourth(&rt, rt.alloc(), suite);
     }
+}
+
+// What a message 1 of the group key handshake has of its own: the suite, the key information, the group key, the fields of the
+// replay counter and of the RSC, the MIC and the key data.
+#[derive(Clone, Copy)]
+struct GroupMessage {
+    suite: Suite,
+    information: &'static [u8],
+    key: [u8; 16],
+    counter: &'static [u8],
+    rsc: [u8; 8],
+    mic: [u8; 16],
+    key_data: &'static [u8],
+}
+
+const G1: GroupMessage = GroupMessage {
+    suite: SUITE_2,
+    information: b"\x13\x82",
+    key: NEXT_GTK,
+    counter: THIRD_COUNTER,
+    rsc: [0; 8],
+    mic: G1_MIC,
+    key_data: G1_KEY_DATA,
+};
+
+const LATER_G1: GroupMessage = GroupMessage {
+    suite: SUITE_2,
+    information: b"\x13\x82",
+    key: GTK,
+    counter: FOURTH_COUNTER,
+    rsc: [1, 2, 3, 4, 5, 6, 0, 0],
+    mic: SECOND_G1_MIC,
+    key_data: G1_KEY_DATA_OF_ID_1,
+};
+
+const SHA256_G1: GroupMessage = GroupMessage {
+    suite: SUITE_6,
+    information: b"\x13\x83",
+    key: NEXT_GTK,
+    counter: THIRD_COUNTER,
+    rsc: [0; 8],
+    mic: SHA256_G1_MIC,
+    key_data: SHA256_G1_KEY_DATA,
+};
+
+const SHA256_LATER_G1: GroupMessage = GroupMessage {
+    suite: SUITE_6,
+    information: b"\x13\x83",
+    key: GTK,
+    counter: FOURTH_COUNTER,
+    rsc: [1, 2, 3, 4, 5, 6, 0, 0],
+    mic: SHA256_SECOND_G1_MIC,
+    key_data: SHA256_G1_KEY_DATA_OF_ID_1,
+};
+
+// With that replay counter, and the key under that id with that count of packet numbers.
+fn group_first(rt: &impl Abort, alloc: Global, counter: u64, id: u8, rsc: u64, has: &GroupMessage)
+    requires id { id < 4 }
+    requires packet_number { rsc < 2 ^ 48 }
+{
+    let suite = &has.suite;
+    let ends = ends_at_the_access_point(rt, alloc, suite);
+    let place = 0;
+    let key = has.key;
+    let group = GroupKey { place, id, key };
+    let mut reply = verified();
+    write_g1(&ends, &keyed(suite), counter, &group, rsc, &mut reply);
+    let rsc_field = has.rsc;
+    let mic = has.mic;
+    let pieces = [
+        FROM_AP,
+        b"\x02\x03\x00\x7f\x02",
+        has.information,
+        b"\x00\x00",
+        has.counter,
+        &[0; 48],
+        &rsc_field,
+        &[0; 8],
+        &mic,
+        b"\x00\x20",
+        has.key_data,
+    ];
+    assert!(rt; is_written(&reply, Message::G1, Some(suite.keys.kck), 163, &pieces));
+}
+
+#[test]
+fn first_message_of_the_group_key_handshake(rt: HostRuntime) {
+    group_first(&rt, rt.alloc(), 3, 2, 0, &G1);
+    group_first(&rt, rt.alloc(), 4, 1, 0x0605_0403_0201, &LATER_G1);
+    group_first(&rt, rt.alloc(), 3, 2, 0, &SHA256_G1);
+    group_first(&rt, rt.alloc(), 4, 1, 0x0605_0403_0201, &SHA256_LATER_G1);
+}
+
+// What a message 2 of the group key handshake has of its own: the suite, the key information, the field of the replay counter,
+// and the MIC.
+#[derive(Clone, Copy)]
+struct GroupAnswer {
+    suite: Suite,
+    information: &'static [u8],
+    counter: &'static [u8],
+    mic: [u8; 16],
+}
+
+const G2: GroupAnswer = GroupAnswer {
+    suite: SUITE_2,
+    information: b"\x03\x02",
+    counter: THIRD_COUNTER,
+    mic: G2_MIC,
+};
+
+const LATER_G2: GroupAnswer = GroupAnswer {
+    suite: SUITE_2,
+    information: b"\x03\x02",
+    counter: FOURTH_COUNTER,
+    mic: SECOND_G2_MIC,
+};
+
+const SHA256_G2: GroupAnswer = GroupAnswer {
+    suite: SUITE_6,
+    information: b"\x03\x03",
+    counter: THIRD_COUNTER,
+    mic: SHA256_G2_MIC,
+};
+
+const SHA256_LATER_G2: GroupAnswer = GroupAnswer {
+    suite: SUITE_6,
+    information: b"\x03\x03",
+    counter: FOURTH_COUNTER,
+    mic: SHA256_SECOND_G2_MIC,
+};
+
+// With that replay counter.
+fn group_second(rt: &impl Abort, alloc: Global, counter: u64, has: &GroupAnswer) {
+    let suite = &has.suite;
+    let ends = ends_at_the_station(rt, alloc, suite);
+    let mut reply = verified();
+    write_g2(&ends, &keyed(suite), counter, &mut reply);
+    let mic = has.mic;
+    let pieces = [
+        TO_AP,
+        b"\x02\x03\x00\x5f\x02",
+        has.information,
+        b"\x00\x00",
+        has.counter,
+        &[0; 64],
+        &mic,
+        b"\x00\x00",
+    ];
+    assert!(rt; is_written(&reply, Message::G2, Some(suite.keys.kck), 131, &pieces));
+}
+
+#[test]
+fn second_message_of_the_group_key_handshake(rt: HostRuntime) {
+    group_second(&rt, rt.alloc(), 3, &G2);
+    group_second(&rt, rt.alloc(), 4, &LATER_G2);
+    group_second(&rt, rt.alloc(), 3, &SHA256_G2);
+    group_second(&rt, rt.alloc(), 4, &SHA256_LATER_G2);
 }

@@ -16,6 +16,8 @@ mod frames_judged;
 #[cfg(test)]
 mod frames_sent;
 #[cfg(test)]
+mod group_frames;
+#[cfg(test)]
 mod group_keys;
 #[cfg(test)]
 mod network;
@@ -23,6 +25,8 @@ mod network;
 mod outbox;
 #[cfg(test)]
 mod station;
+#[cfg(test)]
+mod supplicant_group;
 #[cfg(test)]
 mod supplicant_part;
 #[cfg(test)]

@@ -35,7 +35,8 @@ fn steps(
     let event = match step.event {
         Event::Connect(ap) => NodeEvent::Connect(ap % 2),
         Event::Take(octets) => NodeEvent::Take(octets),
-        Event::Retry(_) => return false,
+        Event::Leave => NodeEvent::Leave,
+        Event::Retry(_) | Event::Rekey | Event::Expire(_) => return false,
     };
     is_outcome(node.step(alloc, domain, event, out), step.outcome) && come_of(out, step)
 }
@@ -78,6 +79,11 @@ fn a_station_answers_m1(rt: HostRuntime) {
 #[test]
 fn connect_leaves_the_old_attempt(rt: HostRuntime) {
     try_steps(&rt, rt.alloc(), 0, association::TWO_ATTEMPTS);
+}
+
+#[test]
+fn a_station_leaves(rt: HostRuntime) {
+    try_steps(&rt, rt.alloc(), 0, handshakes::LEAVING);
 }
 
 #[test]

@@ -40,7 +40,8 @@ impl RecvCounters {
 
     /// Whether a number may be taken. `Replayed` comes exactly where it is at most the one kept for the traffic identifier.
     pub fn look(&self, tid: Tid, pn: u64) -> Result<(), Replayed>
-        ensures fresh { MatchResult result (λ _. kept_for tid self.now < pn) (λ _. pn ≤ kept_for tid self.now) }
+        ensures fresh { MatchResult result (λ _. kept_for tid self.now < pn)
+            (λ _. pn ≤ kept_for tid self.now) }
         ensures kept { IfErr result (λ e. e.0 ≡ kept_for tid self.now) }
     {
         let kept = self.kept[tid.number() as usize];

@@ -41,7 +41,9 @@ pub(crate) enum Next<'a> {
 
 // The element at the front, and the octets behind it; none where it is not whole.
 fn whole_element(octets: &[u8]) -> Option<(Found<'_>, &[u8])>
-    ensures { MatchOption result (octets.now ≢ [] → IsTruncated octets.now) (λ r. (octets.now ≡ element_octets (element_of r.0) ++ r.1.now) × (r.0.whole.now ≡ element_octets (element_of r.0))) }
+    ensures { MatchOption result (octets.now ≢ [] → IsTruncated octets.now)
+        (λ r. (octets.now ≡ element_octets (element_of r.0) ++ r.1.now)
+        × (r.0.whole.now ≡ element_octets (element_of r.0))) }
 {
     let [id, size, tail @ ..] = octets else {
         return None;

@@ -17,7 +17,8 @@ pub struct GtkKde<'a> {
 
 /// The GTK KDE that a body spells, which begins with its OUI and type.
 pub(crate) fn read_gtk_kde(body: &[u8]) -> Option<GtkKde<'_>>
-    ensures { MatchOption result (length body.now < 6) (λ g. SpellsGtkKde body.now (gtk_kde_fields g)) }
+    ensures { MatchOption result (length body.now < 6)
+        (λ g. SpellsGtkKde body.now (gtk_kde_fields g)) }
 {
     if body.len() < 6 {
         return None;

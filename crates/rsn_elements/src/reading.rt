@@ -265,13 +265,15 @@ pub fn read_elements(bytes: &[u8], within: Within) -> Result<Elements<'_>, Eleme
     // What is read is spelled so.
     ensures found { IfOk result (λ e. SpellsElements within bytes.now (element_fields e)) }
     // What is spelled so is read.
-    ensures only { (f : ElementFields) → SpellsElements within bytes.now f → IsOkAnd result (λ e. element_fields e ≡ f) }
+    ensures only { (f : ElementFields) → SpellsElements within bytes.now f
+        → IsOkAnd result (λ e. element_fields e ≡ f) }
     // The octets that are kept of an element are those of the element.
     ensures raw { IfOk result (λ e. HasRaw (element_fields e)) }
     // A fault that is answered is there.
     ensures fault { IfErr result (λ e. HasElementFault within bytes.now e.place e.kind) }
     // A fault that is there is answered.
-    ensures first { (place : ℕ) (kind : AnyKind) → HasElementFault within bytes.now place kind → result ≡ Err (record { place = place; kind = kind }) }
+    ensures first { (place : ℕ) (kind : AnyKind) → HasElementFault within bytes.now place kind
+        → result ≡ Err (record { place = place; kind = kind }) }
 {
     gathered_from(bytes, within)
 }

@@ -49,7 +49,8 @@ impl Pmkids<'_> {
 
     /// The name at a place from 0.
     pub fn get(&self, at: usize) -> Option<[u8; 16]>
-        ensures { SomeIff result (at < length self.now.0.now / 16) (part (16 * at) 16 self.now.0.now) }
+        ensures { SomeIff result (at < length self.now.0.now / 16)
+            (part (16 * at) 16 self.now.0.now) }
     {
         let octets = self.0;
         if at < octets.len() / 16 {
@@ -81,7 +82,8 @@ pub struct Rsne<'a> {
 
 // A suite at the front, and the octets behind it.
 fn suite_at(octets: &[u8]) -> Option<(Option<[u8; 4]>, &[u8])>
-    ensures { MatchOption result (IsBroken IsSuite octets.now) (λ r. Field IsSuite octets.now r.0 r.1.now) }
+    ensures { MatchOption result (IsBroken IsSuite octets.now)
+        (λ r. Field IsSuite octets.now r.0 r.1.now) }
 {
     if octets.is_empty() {
         return Some((None, octets));
@@ -95,7 +97,8 @@ fn suite_at(octets: &[u8]) -> Option<(Option<[u8; 4]>, &[u8])>
 
 // A number at the front, and the octets behind it.
 fn number_at(octets: &[u8]) -> Option<(Option<u16>, &[u8])>
-    ensures { MatchOption result (IsBroken IsNumber octets.now) (λ r. Field IsNumber octets.now r.0 r.1.now) }
+    ensures { MatchOption result (IsBroken IsNumber octets.now)
+        (λ r. Field IsNumber octets.now r.0 r.1.now) }
 {
     if octets.is_empty() {
         return Some((None, octets));
@@ -119,7 +122,8 @@ fn list_size(octets: &[u8], n: usize) -> usize
 // A count and its members of n octets at the front, and the octets behind them.
 fn list_at(octets: &[u8], n: usize) -> Option<(Option<&[u8]>, &[u8])>
     requires { n ≤ 16 }
-    ensures { MatchOption result (IsBroken (IsList n) octets.now) (λ r. Field (IsList n) octets.now (option_map (λ s. s.now) r.0) r.1.now) }
+    ensures { MatchOption result (IsBroken (IsList n) octets.now)
+        (λ r. Field (IsList n) octets.now (option_map (λ s. s.now) r.0) r.1.now) }
 {
     if octets.is_empty() {
         return Some((None, octets));
@@ -138,7 +142,8 @@ fn list_at(octets: &[u8], n: usize) -> Option<(Option<&[u8]>, &[u8])>
 
 // Suites behind their count at the front, and the octets behind them.
 fn suites_at(octets: &[u8]) -> Option<(Option<Suites<'_>>, &[u8])>
-    ensures { MatchOption result (IsBroken (IsList 4) octets.now) (λ r. Field (IsList 4) octets.now (option_map (λ s. s.0.now) r.0) r.1.now) }
+    ensures { MatchOption result (IsBroken (IsList 4) octets.now)
+        (λ r. Field (IsList 4) octets.now (option_map (λ s. s.0.now) r.0) r.1.now) }
 {
     let (members, rest) = list_at(octets, 4)?;
     Some((members.map(Suites), rest))
@@ -146,7 +151,8 @@ fn suites_at(octets: &[u8]) -> Option<(Option<Suites<'_>>, &[u8])>
 
 // Names behind their count at the front, and the octets behind them.
 fn pmkids_at(octets: &[u8]) -> Option<(Option<Pmkids<'_>>, &[u8])>
-    ensures { MatchOption result (IsBroken (IsList 16) octets.now) (λ r. Field (IsList 16) octets.now (option_map (λ s. s.0.now) r.0) r.1.now) }
+    ensures { MatchOption result (IsBroken (IsList 16) octets.now)
+        (λ r. Field (IsList 16) octets.now (option_map (λ s. s.0.now) r.0) r.1.now) }
 {
     let (members, rest) = list_at(octets, 16)?;
     Some((members.map(Pmkids), rest))
@@ -154,7 +160,8 @@ fn pmkids_at(octets: &[u8]) -> Option<(Option<Pmkids<'_>>, &[u8])>
 
 // The suite of group management frames at the front. What stands behind it is not looked at.
 fn management_at(octets: &[u8]) -> Option<Option<[u8; 4]>>
-    ensures { MatchOption result (IsBroken IsSuite octets.now) (λ m. (rest : List ℕ) × Field IsSuite octets.now m rest) }
+    ensures { MatchOption result (IsBroken IsSuite octets.now)
+        (λ m. (rest : List ℕ) × Field IsSuite octets.now m rest) }
 {
     let (management, _) = suite_at(octets)?;
     Some(management)
@@ -191,7 +198,8 @@ fn leading_at(octets: &[u8]) -> Option<(Leading<'_>, &[u8])>
 
 // The fields behind the version, if the octets are a whole number of them.
 fn fields_at(octets: &[u8]) -> Option<Rsne<'_>>
-    ensures { MatchOption result (HasNoFields octets.now) (λ r. SpellsRsne (1 ∷ 0 ∷ octets.now) (rsne_fields r)) }
+    ensures { MatchOption result (HasNoFields octets.now)
+        (λ r. SpellsRsne (1 ∷ 0 ∷ octets.now) (rsne_fields r)) }
 {
     let Some((leading, rest)) = leading_at(octets) else {
         return None;

@@ -99,7 +99,8 @@ fn is_right(subelement: &Found<'_>) -> bool
 
 // The subelement at the front, if it has a right length, and the octets behind it.
 fn right_subelement(octets: &[u8]) -> Option<(Found<'_>, &[u8])>
-    ensures { MatchOption result (BeginsWrong octets.now) (λ r. (octets.now ≡ element_octets (element_of r.0) ++ r.1.now) × IsRight (element_of r.0)) }
+    ensures { MatchOption result (BeginsWrong octets.now)
+        (λ r. (octets.now ≡ element_octets (element_of r.0) ++ r.1.now) × IsRight (element_of r.0)) }
 {
     match next_element(octets, Within::Body) {
         Next::Whole(subelement, behind) if is_right(&subelement) => Some((subelement, behind)),
@@ -136,9 +137,12 @@ impl<'a> Subelements<'a> {
     // Keeps the subelement, unless it is the second of its id: then all stays.
     fn keep(&mut self, subelement: Found<'a>) -> bool
         requires { IsRight (element_of subelement) }
-        ensures kept { IsTrue result → (es : List Element) → Say es self.old → Say (es ++ element_of subelement.entry ∷ []) self.new }
+        ensures kept { IsTrue result → (es : List Element) → Say es self.old
+            → Say (es ++ element_of subelement.entry ∷ []) self.new }
         ensures repeated { self.new.repeated ≡ self.old.repeated }
-        ensures second { result ≡ false → (es : List Element) → Say es self.old → (1 ≤ subelement.entry.id) × (subelement.entry.id ≤ 3) × (filter (has_id subelement.entry.id) es ≢ []) }
+        ensures second { result ≡ false → (es : List Element) → Say es self.old
+            → (1 ≤ subelement.entry.id) × (subelement.entry.id ≤ 3)
+            × (filter (has_id subelement.entry.id) es ≢ []) }
     {
         let body = subelement.body;
         match subelement.id {
@@ -154,8 +158,11 @@ impl<'a> Subelements<'a> {
     // Takes the subelement at a place.
     fn take(&mut self, subelement: Found<'a>, place: usize)
         requires { IsRight (element_of subelement) }
-        ensures { (octets : List ℕ) (es : List Element) (behind : List ℕ) → octets ≡ joined es ++ (element_octets (element_of subelement.entry) ++ behind) → place ≡ length (joined es)
-            → Reached octets es self.old → Reached octets (es ++ element_of subelement.entry ∷ []) self.new }
+        ensures { (octets : List ℕ) (es : List Element) (behind : List ℕ)
+            → octets ≡ joined es ++ (element_octets (element_of subelement.entry) ++ behind)
+            → place ≡ length (joined es)
+            → Reached octets es self.old
+            → Reached octets (es ++ element_of subelement.entry ∷ []) self.new }
     {
         if self.repeated.is_none() && !self.keep(subelement) {
             self.repeated = Some(place);

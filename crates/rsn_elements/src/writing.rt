@@ -118,7 +118,8 @@ impl<'a> ElementWriter<'a> {
     /// A fast BSS transition element, with the subelements that it has in the order 1, 3, 2 (9.4.2.47).
     pub fn fte(&mut self, fte: &Fte<'_>)
         requires fits { length (fte_body (fte_fields fte.now)) ≤ 255 }
-        requires r0kh_id { ForSome fte.now.r0kh_id (λ id. (1 ≤ length id.now) × (length id.now ≤ 48)) }
+        requires r0kh_id { ForSome fte.now.r0kh_id
+            (λ id. (1 ≤ length id.now) × (length id.now ≤ 48)) }
         requires room { HasRoom self.old (length (fte_octets (fte_fields fte.now))) }
         ensures written { Appends self.old self.new (fte_octets (fte_fields fte.now)) }
         ensures fits { FitsPiece (SentFte (fte_fields fte.now)) }
@@ -134,7 +135,8 @@ impl<'a> ElementWriter<'a> {
     // The part of an FTE that has one length.
     fn fixed_part(&mut self, fte: &Fte<'_>)
         requires { HasRoom self.old 82 }
-        ensures { Appends self.old self.new (fte.now.mic_control ++ (fte.now.mic ++ (fte.now.anonce ++ fte.now.snonce))) }
+        ensures { Appends self.old self.new
+            (fte.now.mic_control ++ (fte.now.mic ++ (fte.now.anonce ++ fte.now.snonce))) }
     {
         let fte = *fte;
         self.append(&fte.mic_control);
@@ -171,8 +173,10 @@ impl<'a> ElementWriter<'a> {
     // Subelement 2, where there is one.
     fn gtk(&mut self, gtk: Option<WrappedGtk<'_>>)
         requires fits { length (wrapped_gtk_subelement (option_map wrapped_gtk_fields gtk)) ≤ 255 }
-        requires room { HasRoom self.old (length (wrapped_gtk_subelement (option_map wrapped_gtk_fields gtk))) }
-        ensures written { Appends self.old self.new (wrapped_gtk_subelement (option_map wrapped_gtk_fields gtk.entry)) }
+        requires room { HasRoom self.old
+            (length (wrapped_gtk_subelement (option_map wrapped_gtk_fields gtk))) }
+        ensures written { Appends self.old self.new
+            (wrapped_gtk_subelement (option_map wrapped_gtk_fields gtk.entry)) }
         ensures fits { IfSome (option_map wrapped_gtk_fields gtk.entry) FitsWrappedGtk }
     {
         if let Some(gtk) = gtk {
@@ -183,8 +187,10 @@ impl<'a> ElementWriter<'a> {
     // Subelement 2, which is there.
     fn wrapped_gtk(&mut self, gtk: &WrappedGtk<'_>)
         requires fits { length (wrapped_gtk_octets (wrapped_gtk_fields gtk.now)) ≤ 255 }
-        requires room { HasRoom self.old (2 + length (wrapped_gtk_octets (wrapped_gtk_fields gtk.now))) }
-        ensures written { Appends self.old self.new (subelement_octets 2 (Some (wrapped_gtk_octets (wrapped_gtk_fields gtk.now)))) }
+        requires room { HasRoom self.old
+            (2 + length (wrapped_gtk_octets (wrapped_gtk_fields gtk.now))) }
+        ensures written { Appends self.old self.new
+            (subelement_octets 2 (Some (wrapped_gtk_octets (wrapped_gtk_fields gtk.now)))) }
         ensures fits { FitsWrappedGtk (wrapped_gtk_fields gtk.now) }
     {
         let gtk = *gtk;
@@ -198,7 +204,8 @@ impl<'a> ElementWriter<'a> {
     // The key information and the length of the key.
     fn key_information(&mut self, gtk: &WrappedGtk<'_>)
         requires { HasRoom self.old 3 }
-        ensures { Appends self.old self.new (to_le_bytes w16 gtk.now.information ++ gtk.now.key_length ∷ []) }
+        ensures { Appends self.old self.new
+            (to_le_bytes w16 gtk.now.information ++ gtk.now.key_length ∷ []) }
     {
         let gtk = *gtk;
         self.append(&gtk.information.to_le_bytes());

@@ -106,6 +106,12 @@ abbrev pub given : GroupKind → Node → List Act → List GroupKey
 given kind p [] = []
 given kind p (e ∷ h) = listed (given_from kind p e) (given kind p h)
 
+-- an access point's group key handshake with p: the history of its session with p since the newest group key of that kind was drawn,
+-- or since the session began, whichever was later (IEEE Std 802.11-2020, 12.7.7)
+abbrev pub handshake : GroupKind → Node → List Act → List Act
+handshake kind p [] = []
+handshake kind p (e ∷ h) = cond (finishes p e) [] (cond (is_some (key_drawn kind e)) [] (e ∷ handshake kind p h))
+
 -- how many packet numbers an access point used under its current group key of that kind
 abbrev pub group_uses : GroupKind → List Act → ℕ
 group_uses kind [] = 0

@@ -108,4 +108,21 @@ pub enum Event {
         /// The station, from 0.
         sta: u16,
     },
+    /// The access point draws a new group key and gives it to each session.
+    Rekey {
+        /// The access point, from 0.
+        ap: u16,
+    },
+    /// The access point drops what it has with the station.
+    Expire {
+        /// The access point, from 0.
+        ap: u16,
+        /// The station, from 0.
+        sta: u16,
+    },
+    /// The station drops what it has.
+    Leave {
+        /// The station, from 0.
+        sta: u16,
+    },
 }

@@ -29,7 +29,8 @@ fn greater<'a>(a: &'a [u8], b: &'a [u8]) -> &'a [u8]
 
 // The name of the network, the mobility domain and the R0KH-ID.
 fn same_network(i: &Inputs, m: &Inputs) -> bool
-    ensures { IsTrue result ↔ ((i.now.ssid ≡ m.now.ssid) × ((i.now.mdid ≡ m.now.mdid) × (i.now.r0kh_id ≡ m.now.r0kh_id))) }
+    ensures { IsTrue result ↔
+        ((i.now.ssid ≡ m.now.ssid) × ((i.now.mdid ≡ m.now.mdid) × (i.now.r0kh_id ≡ m.now.r0kh_id))) }
 {
     i.ssid.as_slice() == m.ssid.as_slice()
         && i.mdid == m.mdid
@@ -49,7 +50,8 @@ fn same_in_roles(i: &Inputs, m: &Inputs) -> bool
 
 // Two octets' lists by their order are two others by theirs.
 fn same_pair(a: &[u8], b: &[u8], c: &[u8], d: &[u8]) -> bool
-    ensures { IsTrue result ↔ ((lesser a.now b.now ≡ lesser c.now d.now) × (greater a.now b.now ≡ greater c.now d.now)) }
+    ensures { IsTrue result ↔
+        ((lesser a.now b.now ≡ lesser c.now d.now) × (greater a.now b.now ≡ greater c.now d.now)) }
 {
     lesser(a, b) == lesser(c, d) && greater(a, b) == greater(c, d)
 }

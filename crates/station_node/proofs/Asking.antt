@@ -18,6 +18,7 @@ use Rattle.domain_rules.specs.Rows.{Begin, outcome_of}
 use Rattle.domain_rules.specs.Closing.{close_pending, close_associated}
 use Rattle.domain_rules.specs.StationRows.{Spent, Asks}
 use Rattle.domain_rules.proofs.Effects.{asking_acts}
+use Rattle.domain_rules.proofs.Switching.{station_adds}
 use Rattle.node_base.specs.Events.{Steps, seen}
 use Rattle.station_node.specs.State.{State}
 use Rattle.station_node.specs.Parts.{peer_of_attempt, peer_of_session}
@@ -30,7 +31,7 @@ pub steps-spent : (d : Domain) (first sta : ℕ) (s : State) (h : List Act) (p :
     → Steps (here d first (Sta sta)) (Begin p) (Stands d first s) h (seen waited (waited ++ Idle why.Spent ∷ []) (IdleBy why.Spent))
 steps-spent d first sta s h p waited st spent = record {
   acts = Idle why.Spent ∷ [];
-  adds = Spent (subst (λ (m : ℕ). draw_end ≤ m) st.draws_are spent) refl;
+  adds = station_adds d first sta h (Begin p) (Idle why.Spent ∷ []) (Spent (subst (λ (m : ℕ). draw_end ≤ m) st.draws_are spent) refl);
   waiting = refl;
   came = refl;
   stands = stands-plain d first s h (Idle why.Spent) (plain-idle why.Spent) st;
@@ -53,7 +54,7 @@ pub steps-asked : (d : Domain) (first sta : ℕ) (s : State) (h : List Act) (p :
     → Steps (here d first (Sta sta)) (Begin p) (Stands d first (asked_state s p v)) h (seen waited (((((waited ++ close_pending (peer_of_attempt s.attempt)) ++ close_associated (peer_of_session s.session)) ++ (Opened (Ap p) Connect ∷ [])) ++ (Drew (Nonce v) ∷ [])) ++ sent_assoc_req d (Sta sta) (Ap p) ∷ []) Done)
 steps-asked d first sta s h p v waited st listed low v_is = record {
   acts = asking_acts d (Sta sta) (pending h) (associated h) p v;
-  adds = Asks (subst (λ (m : ℕ). m < draw_end) st.draws_are low) (ap (asking_acts d (Sta sta) (pending h) (associated h) p) (v_is ∙ ap (nonce d (Sta sta)) st.draws_are));
+  adds = station_adds d first sta h (Begin p) (asking_acts d (Sta sta) (pending h) (associated h) p v) (Asks (subst (λ (m : ℕ). m < draw_end) st.draws_are low) (ap (asking_acts d (Sta sta) (pending h) (associated h) p) (v_is ∙ ap (nonce d (Sta sta)) st.draws_are)));
   waiting = rw (st.pending_is, st.associated_is) (asking-waits d sta (peer_of_attempt s.attempt) (peer_of_session s.session) p v waited);
   came = rw (st.pending_is, st.associated_is) (asking-done d sta (peer_of_attempt s.attempt) (peer_of_session s.session) p v);
   stands = stands-asked d first s h (Sta sta) p v st listed;

@@ -65,7 +65,7 @@ that_node o q p is other here = other (same_node o q p is here)
     same_node : (o : Option Node) (q : Node) (p : ℕ) → o ≡ Some q → o ≡ Some (Ap p) → q ≡ Ap p
     same_node o q p is here = cc
 
-left_session : (d : Domain) (first : ℕ) (s : State) (h : List Act) (p : ℕ) (o : Option Node) → Stands d first s h → peer_of_session s.session ≡ o → session (Ap p) (add (close_associated o) h) ≡ None
+pub left_session : (d : Domain) (first : ℕ) (s : State) (h : List Act) (p : ℕ) (o : Option Node) → Stands d first s h → peer_of_session s.session ≡ o → session (Ap p) (add (close_associated o) h) ≡ None
 left_session d first s h p None st is = st.no_session p (nobody (peer_of_session s.session) p is)
 left_session d first s h p (Some q) st is = left_by q p h (λ other. st.no_session p (that_node (peer_of_session s.session) q p is other))
 

@@ -5,6 +5,7 @@ pub mod Handed
 pub mod Verdicts
 pub mod Taking
 pub mod Asking
+pub mod Leaving
 pub mod Taken
 pub mod Judged
 pub mod Growing

@@ -27,8 +27,9 @@ use Rattle.domain_rules.specs.Reading.{Management, KeyMessage, Reading, PassedOv
 use Rattle.domain_rules.specs.Replies.{IsMessageFrom, reply_acts, pair, taken_as}
 use Rattle.domain_rules.specs.Verdict.{first_verdict, key_verdict}
 use Rattle.domain_rules.specs.Associating.{assoc_resp_verdict}
-use Rattle.domain_rules.specs.Rows.{NodeEvent, Take, Begin}
+use Rattle.domain_rules.specs.Rows.{NodeEvent, Take, Begin, Leave}
 use Rattle.domain_rules.specs.Closing.{close_pending, close_associated, sender}
+use Rattle.domain_rules.proofs.Switching.{station_adds}
 use Rattle.group_key.specs.Keys.{Kept}
 use Rattle.group_key.specs.Holds.{Remembers}
 use Rattle.frame_intake.specs.declared.delivered.Heard.{Heard}
@@ -43,7 +44,7 @@ use Rattle.station_node.specs.declared.attempt.Association.TheVariants as associ
 use Rattle.station_node.specs.declared.session.Session.{Session}
 use Rattle.station_node.specs.declared.handing.Came.{Came}
 use Rattle.station_node.specs.State.{State, memory_at}
-use Rattle.station_node.specs.Parts.{peer_of_attempt, peer_of_session, IsElsewhere, IsNotRequested}
+use Rattle.station_node.specs.Parts.{peer_of_attempt, peer_of_session, has_neither, IsElsewhere, IsNotRequested}
 use Rattle.station_node.specs.Stands.{Stands}
 use Rattle.station_node.specs.Steps.{IsTaken, Turn, turn, Takes, IsManagementFrom}
 use Rattle.station_node.specs.Handed.{Handing, handing, IsHanded}
@@ -52,6 +53,7 @@ use Rattle.station_node.proofs.Handed.{IsOnly, tried_state, finished_state, held
 use Rattle.station_node.proofs.Verdicts.{response-unawaited, response-awaited, message-nowhere, message-requested, management-other}
 use Rattle.station_node.proofs.Standing.{accepted_is, held_is}
 use Rattle.station_node.proofs.Asking.{steps-spent, steps-asked}
+use Rattle.station_node.proofs.Leaving.{left_state, steps-nothing, steps-left}
 use Rattle.station_node.proofs.Taking.{steps-refused, steps-ignored, steps-associated}
 
 -- ---- what is returned
@@ -106,6 +108,24 @@ taken-asked d s new p v request waited closed opened drew waits listed low v_is 
       (subst (λ (w : List Act). Steps (here d first (Sta s.number)) (Begin p) (Stands d first (asked_state s p v)) h (seen waited w Done))
       (sym (asking-waits waited closed opened drew waits ((waited ++ close_pending (peer_of_attempt s.attempt)) ++ close_associated (peer_of_session s.session)) (Opened (Ap p) Connect) (Drew (Nonce v)) (sent_assoc_req d (Sta s.number) (Ap p)) closes opens draws (asks ∙ ap (λ (x : Act). drew ++ x ∷ []) request_is)))
       (steps-asked d first s.number s h p v waited st listed low v_is));
+  refused = λ w e. cc;
+}
+
+-- ---- it drops what it has
+
+pub taken-nothing : (d : Domain) (s : State) (waited waits : List Act) → has_neither s.attempt s.session ≡ true → waits ≡ waited ++ Idle why.Nothing ∷ [] → IsTaken d Leave (turn s s waited waits) (IdleBy why.Nothing)
+taken-nothing d s waited waits none is = record {
+  number = refl;
+  steps = λ first h st. subst (λ (w : List Act). Steps (here d first (Sta s.number)) Leave (Stands d first s) h (seen waited w (IdleBy why.Nothing))) (sym is) (steps-nothing d first s.number s h waited st none);
+  refused = λ w e. cc;
+}
+
+pub taken-left : (d : Domain) (s new : State) (waited waits : List Act) → has_neither s.attempt s.session ≡ false → new ≡ left_state s
+    → waits ≡ (waited ++ close_pending (peer_of_attempt s.attempt)) ++ close_associated (peer_of_session s.session) → IsTaken d Leave (turn s new waited waits) Done
+taken-left d s new waited waits some new_is is = record {
+  number = ap (λ (t : State). t.number) new_is;
+  steps = λ first h st. subst (λ (t : State). Steps (here d first (Sta s.number)) Leave (Stands d first t) h (seen waited waits Done)) (sym new_is)
+      (subst (λ (w : List Act). Steps (here d first (Sta s.number)) Leave (Stands d first (left_state s)) h (seen waited w Done)) (sym is) (steps-left d first s.number s h waited st some));
   refused = λ w e. cc;
 }
 
@@ -248,7 +268,7 @@ steps-handed : (d : Domain) (s new : State) (p : ℕ) (m : Heard) (t : Handing) 
     → Steps (here d first (Sta s.number)) (Take m.octets.now) (Stands d first new) h (seen t.waited t.waits came.outcome)
 steps-handed d s new p m t came first h has x steps stands = record {
   acts = reply_acts (pair d (Sta s.number) (Ap p)) false (taken_as m.octets.now (message_fields m.message) came.outcome) x.reply;
-  adds = steps.adds;
+  adds = station_adds d first s.number h (Take m.octets.now) (reply_acts (pair d (Sta s.number) (Ap p)) false (taken_as m.octets.now (message_fields m.message) came.outcome) x.reply) steps.adds;
   waiting = x.acts;
   came = refl;
   stands = stands;

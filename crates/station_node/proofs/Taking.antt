@@ -16,6 +16,7 @@ use Rattle.domain_rules.specs.Rows.{Take, refused_seal, By_assoc_resp, By_ignore
 use Rattle.domain_rules.specs.Closing.{sender}
 use Rattle.domain_rules.proofs.Effects.{associated_acts}
 use Rattle.domain_rules.proofs.Refused.{no_facts}
+use Rattle.domain_rules.proofs.Switching.{station_adds}
 use Rattle.group_key.specs.Keys.{Kept}
 use Rattle.node_base.specs.Events.{Steps, seen}
 use Rattle.supplicant.specs.State.{State as Supplicant}
@@ -36,13 +37,13 @@ pub steps-refused : (d : Domain) (first sta : ℕ) (s : State) (h : List Act) (o
     → Steps (here d first (Sta sta)) (Take octets) (Stands d first s) h (seen waited (waited ++ Took (sender d (Sta sta) r) octets (kind_of r) (Refused why) None ∷ []) (Refused why))
 steps-refused d first sta s h octets r why waited st reads is = record {
   acts = Took (sender d (Sta sta) r) octets (kind_of r) (Refused why) None ∷ [];
-  adds = record {
+  adds = station_adds d first sta h (Take octets) (Took (sender d (Sta sta) r) octets (kind_of r) (Refused why) None ∷ []) (record {
     r = r;
     reads = reads;
     facts = no_facts;
     knows = λ so. absurd (subst ComesSoFar is so);
     row = By_refusal (record { why = why; refused = rw is refl; says = rw (unsealed d first sta h r why is) refl });
-  };
+  });
   waiting = refl;
   came = refl;
   stands = stands-plain d first s h (Took (sender d (Sta sta) r) octets (kind_of r) (Refused why) None) (plain-refused (sender d (Sta sta) r) octets (kind_of r) why None) st;
@@ -52,7 +53,7 @@ pub steps-ignored : (d : Domain) (first sta : ℕ) (s : State) (h : List Act) (o
     → Steps (here d first (Sta sta)) (Take octets) (Stands d first s) h (seen waited (waited ++ Took None octets kind.Ignored Ignored None ∷ []) Ignored)
 steps-ignored d first sta s h octets waited st reads = record {
   acts = Took None octets kind.Ignored Ignored None ∷ [];
-  adds = record { r = PassedOver; reads = reads; facts = no_facts; knows = λ so. absurd so; row = By_ignored (record { ignored = refl; says = refl }) };
+  adds = station_adds d first sta h (Take octets) (Took None octets kind.Ignored Ignored None ∷ []) (record { r = PassedOver; reads = reads; facts = no_facts; knows = λ so. absurd so; row = By_ignored (record { ignored = refl; says = refl }) });
   waiting = refl;
   came = refl;
   stands = stands-plain d first s h (Took None octets kind.Ignored Ignored None) (plain-ignored None octets kind.Ignored None) st;
@@ -68,13 +69,13 @@ steps-associated d first s h octets b e p v x memories waited st is begun same_m
     let accepted : first_verdict d first (Sta s.number) h (Managed b e) ≡ Accepted = verdict_is ∙ response-awaited d first s h p v b st is ∙ rw status refl in
     record {
       acts = associated_acts (Ap p) octets;
-      adds = record {
+      adds = station_adds d first s.number h (Take octets) (associated_acts (Ap p) octets) (record {
         r = Managed b e;
         reads = reads;
         facts = no_facts;
         knows = λ so. tt;
         row = By_assoc_resp (record { b = b; e = e; is = refl; kind_is = kind_is; p = Ap p; from = from; accepted = rw accepted refl; says = refl });
-      };
+      });
       waiting = refl;
       came = refl;
       stands = stands-associated d first s h p v octets x memories st is begun same_memory;

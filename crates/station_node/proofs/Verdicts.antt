@@ -6,7 +6,7 @@ use Rattle.domain_base.specs.declared.names.Node.{Node}
 use Rattle.domain_base.specs.declared.names.Node.TheVariants.{Ap, Sta}
 use Rattle.rsn_elements.specs.Elements.{ElementFields}
 use Rattle.eapol_key.specs.declared.messages.Message.{Message}
-use Rattle.eapol_key.specs.declared.messages.Message.TheVariants.{M1, M3}
+use Rattle.eapol_key.specs.declared.messages.Message.TheVariants.{M1, M3, G1}
 use Rattle.run_journal.specs.declared.domain.Domain.{Domain}
 use Rattle.run_journal.specs.declared.acts.Kind.{Kind}
 use Rattle.run_journal.specs.declared.acts.Kind.TheVariants as kind
@@ -30,7 +30,7 @@ use Rattle.station_node.specs.declared.attempt.Association.TheVariants.{Requeste
 use Rattle.station_node.specs.State.{State}
 use Rattle.station_node.specs.Parts.{peer_of_attempt, peer_of_session, IsElsewhere, IsNotRequested}
 use Rattle.station_node.specs.Stands.{Stands, IsRequested, HasAssociation, HasAttempt}
-use Rattle.station_node.proofs.Standing.{nobody, not_here, requested_is}
+use Rattle.station_node.proofs.Standing.{nobody, not_here, no_session_beside, requested_is}
 
 -- ---- an association response that is not waited for
 
@@ -72,6 +72,7 @@ response-awaited d first s h p v b st is =
 message_nowhere : (d : Domain) (drawn s : ℕ) (h : List Act) (p : Node) (k : KeyMessage) (m : Message) → attempt p h ≡ None → session p h ≡ None → key_verdict d drawn (Sta s) h p k m ≡ outcome.Refused reason.Unawaited
 message_nowhere d drawn s h p k M1 none silent = unawaited-m1 h p k none
 message_nowhere d drawn s h p k M3 none silent = m3_none d p h k (nowhere_keying p h none silent)
+message_nowhere d drawn s h p k G1 none silent = rw silent refl
 message_nowhere d drawn s h p k _ none silent = refl
 
 pub message-nowhere : (d : Domain) (first : ℕ) (s : State) (h : List Act) (p : ℕ) (k : KeyMessage) (m : Message) → Stands d first s h → IsElsewhere (peer_of_attempt s.attempt) p → IsElsewhere (peer_of_session s.session) p
@@ -83,14 +84,17 @@ message-nowhere d first s h p k m st tried held = message_nowhere d (first + dra
 no_m3 : (p : Node) (v : List ℕ) (h : List Act) → IsRequested p v h → m3_keying p h ≡ None
 no_m3 p v h r = rw (r.is, r.begun, r.asked) refl
 
-message_requested : (d : Domain) (drawn s : ℕ) (h : List Act) (p : Node) (v : List ℕ) (k : KeyMessage) (m : Message) → IsRequested p v h → key_verdict d drawn (Sta s) h p k m ≡ outcome.Refused reason.Unawaited
-message_requested d drawn s h p v k M1 r = m1-in h p k r.part false None r.is r.begun r.hears (ap (kept_counter p) (since_part p h r.part r.is) ∙ r.keeps)
-message_requested d drawn s h p v k M3 r = rw (no_m3 p v h r) refl
-message_requested d drawn s h p v k _ r = refl
+message_requested : (d : Domain) (drawn s : ℕ) (h : List Act) (p : Node) (v : List ℕ) (k : KeyMessage) (m : Message) → IsRequested p v h → session p h ≡ None → key_verdict d drawn (Sta s) h p k m ≡ outcome.Refused reason.Unawaited
+message_requested d drawn s h p v k M1 r silent = m1-in h p k r.part false None r.is r.begun r.hears (ap (kept_counter p) (since_part p h r.part r.is) ∙ r.keeps)
+message_requested d drawn s h p v k M3 r silent = rw (no_m3 p v h r) refl
+message_requested d drawn s h p v k G1 r silent = rw silent refl
+message_requested d drawn s h p v k _ r silent = refl
 
 pub message-requested : (d : Domain) (first : ℕ) (s : State) (h : List Act) (p : ℕ) (v : List ℕ) (k : KeyMessage) (m : Message) → Stands d first s h → s.attempt ≡ Some (record { ap = p; association = Requested v })
     → key_verdict d (first + draws h) (Sta s.number) h (Ap p) k m ≡ outcome.Refused reason.Unawaited
-message-requested d first s h p v k m st is = message_requested d (first + draws h) s.number h (Ap p) v k m (requested_is d first s h p v st is).1
+message-requested d first s h p v k m st is =
+    let alone = nobody (peer_of_session s.session) p (ap peer_of_session (no_session_beside d first s h _ st is)) in
+    message_requested d (first + draws h) s.number h (Ap p) v k m (requested_is d first s h p v st is).1 (st.no_session p alone)
 
 -- ---- management frames of other kinds
 

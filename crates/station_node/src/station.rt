@@ -1,6 +1,6 @@
 //! A station's state, and what each event does to it.
 
-ghost use Rattle.std.specs.Prelude.{true, ◌≡◌, ◌≢◌, ◌<◌, ℕ, List, [], length, IfOk, OnErr};
+ghost use Rattle.std.specs.Prelude.{true, ◌≡◌, ◌≢◌, ◌<◌, ◌≤◌, ◌+◌, ◌++◌, ℕ, List, [], length, IfOk, OnErr};
 ghost use Rattle.domain_base.specs.declared.names.Akm.{Akm as AnyAkm};
 ghost use Rattle.domain_base.specs.declared.names.Node.TheVariants.{Ap, Sta};
 ghost use Rattle.eapol_key.specs.Fields.{IsKeyFrame};
@@ -13,10 +13,11 @@ ghost use Rattle.domain_rules.specs.Here.{here};
 ghost use Rattle.domain_rules.specs.Network.{InForm, is_ap, draw_end};
 ghost use Rattle.domain_rules.specs.Reading.{Management as ManagementFields};
 ghost use Rattle.domain_rules.specs.Replies.{IsMessageFrom};
-ghost use Rattle.domain_rules.specs.Rows.{Begin, Take};
+ghost use Rattle.domain_rules.specs.Closing.{close_associated, close_pending};
+ghost use Rattle.domain_rules.specs.Rows.{Begin, Leave, Take};
 ghost use Rattle.frame_intake.specs.Views.{management_fields, message_fields};
 ghost use Rattle.node_base.specs.Events.{event_of, IsEventAt, Steps, seen};
-ghost use Rattle.station_node.specs.Parts.{peer_of_attempt, IsElsewhere};
+ghost use Rattle.station_node.specs.Parts.{peer_of_attempt, peer_of_session, has_neither, IsElsewhere};
 ghost use Rattle.station_node.specs.Stands.{Stands};
 ghost use Rattle.station_node.specs.Steps.{Takes, turn, IsManagementFrom};
 
@@ -108,7 +109,10 @@ impl StationNode {
         match event {
             NodeEvent::Connect(ap) => self.connect(here, ap, out),
             NodeEvent::Take(octets) => self.take(here, octets, out),
+            NodeEvent::Leave => self.leave(out),
             NodeEvent::Retry(_) => unreachable!(),
+            NodeEvent::Rekey => unreachable!(),
+            NodeEvent::Expire(_) => unreachable!(),
         }
     }
 
@@ -152,8 +156,7 @@ impl StationNode {
         let request = assoc_req(here, ap)?;
         out.reserve(5)?;
         let snonce = nonce(here.domain, here.node, self.drawn);
-        Attempt::leave(&self.attempt, out);
-        Session::leave(&self.session, out);
+        close(&self.attempt, &self.session, out);
         out.add(Act::Opened {
             peer: Node::Ap(ap),
             start: Start::Connect,
@@ -167,6 +170,24 @@ impl StationNode {
             ap,
             association: Association::Requested(snonce),
         });
+        self.session = None;
+        Ok(Outcome::Done)
+    }
+
+    // Drops the attempt and the session, or does nothing where there is neither. What is kept of
+    // group keys stays.
+    fn leave(&mut self, out: &mut Outbox) -> Result<Outcome, NoMemory>
+        ensures { (d : AnyDomain)
+            → Takes d Leave (turn self.old self.new out.old.acts out.new.acts) result }
+    {
+        if has_neither(&self.attempt, &self.session) {
+            out.reserve(1)?;
+            out.add(Act::Idle { why: Why::Nothing });
+            return Ok(Outcome::Idle(Why::Nothing));
+        }
+        out.reserve(2)?;
+        close(&self.attempt, &self.session, out);
+        self.attempt = None;
         self.session = None;
         Ok(Outcome::Done)
     }
@@ -302,6 +323,30 @@ impl StationNode {
             }
             _ => refuse_message(here.alloc, ap, heard, out),
         }
+    }
+}
+
+// The ends of an attempt and of a session, where there are any.
+fn close(attempt: &Option<Attempt>, session: &Option<Session>, out: &mut Outbox)
+    requires { 2 ≤ out.old.spare }
+    ensures acts { out.new.acts ≡ (out.old.acts ++ close_pending (peer_of_attempt attempt.now))
+        ++ close_associated (peer_of_session session.now) }
+    ensures spare { out.old.spare ≤ out.new.spare + 2 }
+{
+    Attempt::leave(attempt, out);
+    Session::leave(session, out);
+}
+
+// Whether there is neither an attempt nor a session.
+fn has_neither(attempt: &Option<Attempt>, session: &Option<Session>) -> bool
+    ensures { result ≡ has_neither attempt.now session.now }
+{
+    match attempt {
+        Some(_) => false,
+        None => match session {
+            Some(_) => false,
+            None => true,
+        },
     }
 }
 

@@ -25,7 +25,7 @@ use Rattle.domain_rules.specs.Network.{root}
 use Rattle.domain_rules.proofs.Parts.{since_part}
 use Rattle.supplicant.specs.declared.attempt.Attempt.{Attempt}
 use Rattle.supplicant.specs.declared.session.Session.{Session}
-use Rattle.supplicant.specs.declared.m3.CarriedKey.{CarriedKey}
+use Rattle.supplicant.specs.declared.key_data.CarriedKey.{CarriedKey}
 use Rattle.supplicant.specs.Stands.{HasAttempt, HasSession, IsUnderWay, IsHeld}
 use Rattle.supplicant.specs.M3.{under, before_key_data, IsVerified, IsRefusedBefore}
 
@@ -103,7 +103,7 @@ verified_as akm other y kept f octets k r suite fields are is =
     (subst (λ (g : KeyFields). IsVerified (under akm y kept) g k.octets r) (sym fields)
     (subst (λ (o : List ℕ). IsVerified (under akm y kept) f o r) (sym are) is))
 
-high_by : (kept counter : ℕ) (o : Outcome) (b : Bool) → nat_lt kept counter ≡ b → (cond b o (Refused (reason.Counter kept)) ≡ Accepted) → kept < counter
+pub high_by : (kept counter : ℕ) (o : Outcome) (b : Bool) → nat_lt kept counter ≡ b → (cond b o (Refused (reason.Counter kept)) ≡ Accepted) → kept < counter
 high_by kept counter o true is e = ltb-true kept counter is
 high_by kept counter o false is e = cc
 

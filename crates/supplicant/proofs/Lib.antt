@@ -3,7 +3,9 @@ pub mod Standing
 pub mod TakenM1
 pub mod Keyings
 pub mod KeyDataRead
+pub mod G1Read
 pub mod Sessions
 pub mod Remembering
 pub mod TakenM3
+pub mod TakenG1
 pub mod OwnKeys

@@ -1,8 +1,9 @@
 -- The keys of a supplicant are its own.
-use Rattle.std.proofs.Common.{◌≡◌, ℕ, List, Option, Some, sym, subst}
+use Rattle.std.proofs.Common.{◌≡◌, ◌⊎◌, ℕ, List, Option, Some, None, sym, subst, inl, inr}
 use Rattle.eapol_key.specs.declared.frame.KeyFrame.{KeyFrame}
 use Rattle.run_journal.specs.declared.reply.Keyed.{Keyed}
 use Rattle.run_journal.specs.declared.reply.Reply.{Reply}
+use Rattle.group_key.specs.Keys.{Kept}
 use Rattle.node_base.specs.declared.ends.Ends.{Ends}
 use Rattle.node_base.specs.PairwiseKeys.{IsKeyOf}
 use Rattle.node_base.proofs.EndsKeys.{is_key_of}
@@ -11,7 +12,7 @@ use Rattle.supplicant.specs.declared.session.Session.{Session}
 use Rattle.supplicant.specs.declared.supplicant.StaStart.{StaStart}
 use Rattle.supplicant.specs.declared.supplicant.StaStart.TheVariants.{Connect}
 use Rattle.supplicant.specs.Starts.{begun}
-use Rattle.supplicant.specs.Exchange.{Answers, Repeats}
+use Rattle.supplicant.specs.Exchange.{Answers, Repeats, Renews}
 use Rattle.supplicant.specs.Keys.{IsKeyIn, IsKeyInAttempt, IsKeyInSession}
 
 pub begun_keys : (l : Ends) (psk : List ℕ) (s : StaStart) → IsKeyInAttempt l psk (begun s)
@@ -32,3 +33,16 @@ answered_key l psk f old new r a = subst (λ (x : Attempt). IsKeyIn l psk x.key)
 -- and that of a session stays
 pub repeated_key : (l : Ends) (psk : List ℕ) (f : KeyFrame) (o : Option Session) (old new : Session) (r : Reply) → o ≡ Some old → IsKeyInSession l psk o → Repeats l f old new r → IsKeyInSession l psk (Some new)
 repeated_key l psk f o old new r is own again = subst (λ (x : Session). IsKeyOf l psk x.key) (sym again.is) (held_key l psk o old is own)
+
+pub renewed_key : (l : Ends) (psk : List ℕ) (f : KeyFrame) (had has : List Kept) (o : Option Session) (old new : Session) (r : Reply) → o ≡ Some old → IsKeyInSession l psk o → Renews l f had has old new r → IsKeyInSession l psk (Some new)
+renewed_key l psk f had has o old new r is own again = subst (λ (x : Session). IsKeyOf l psk x.key) (sym again.is) (held_key l psk o old is own)
+
+-- ---- an attempt or a session
+
+pub no_session : (o : Option Attempt) (a : Attempt) (x : Option Session) → o ≡ Some a → (o ≡ None) ⊎ (x ≡ None) → x ≡ None
+no_session o a x is (inl none) = cc (is, none)
+no_session o a x is (inr none) = none
+
+pub no_attempt : (o : Option Attempt) (x : Option Session) (s : Session) → x ≡ Some s → (o ≡ None) ⊎ (x ≡ None) → o ≡ None
+no_attempt o x s is (inl none) = none
+no_attempt o x s is (inr none) = cc (is, none)

@@ -6,7 +6,7 @@ use Rattle.domain_base.specs.declared.names.Node.{Node}
 use Rattle.domain_base.specs.declared.names.Node.TheVariants.{Ap, Sta}
 use Rattle.eapol_key.specs.declared.frame.KeyFrame.{KeyFrame}
 use Rattle.eapol_key.specs.declared.messages.Message.{Message}
-use Rattle.eapol_key.specs.declared.messages.Message.TheVariants.{M1, M3}
+use Rattle.eapol_key.specs.declared.messages.Message.TheVariants.{M1, M3, G1}
 use Rattle.eapol_key.specs.KeyFrame.{KeyFields}
 use Rattle.eapol_key.specs.Fields.{fields_of}
 use Rattle.key_hierarchy.specs.Keys.{ptk}
@@ -32,7 +32,7 @@ use Rattle.domain_rules.specs.Replies.{key_by, IsMessageFrom, inputs_by}
 use Rattle.domain_rules.specs.Verdict.{comes_so_far, ComesSoFar, KnowsOf, and_then, further, first_verdict, key_verdict}
 use Rattle.domain_rules.specs.Asking.{kept_counter, own}
 use Rattle.domain_rules.specs.StationKeys.{m1_verdict}
-use Rattle.domain_rules.specs.Rows.{Take, Adds, seal_in, refused_seal, By_m1, By_refusal}
+use Rattle.domain_rules.specs.Rows.{TakeRow, seal_in, refused_seal, By_m1, By_refusal}
 use Rattle.domain_rules.specs.Closing.{sender}
 use Rattle.domain_rules.specs.Here.{here}
 use Rattle.domain_rules.proofs.Refused.{no_facts}
@@ -59,7 +59,7 @@ unsealed : (d : Domain) (first sta : ℕ) (h : List Act) (k : KeyMessage) (why :
 unsealed d first sta h k why is = ap (λ (o : Outcome). cond (comes_so_far o) (seal_in d (Sta sta) h (KeyedReading k)) None) is
 
 pub adds_refused : (d : Domain) (first sta : ℕ) (p : Node) (octets : List ℕ) (k : KeyMessage) (h : List Act) (why : Reason) → IsMessageFrom d (Sta sta) p octets k → first_verdict d first (Sta sta) h (KeyedReading k) ≡ Refused why
-    → Adds (here d first (Sta sta)) h (Take octets) (Took (Some p) octets (kind.Key k.message) (Refused why) None ∷ [])
+    → TakeRow (here d first (Sta sta)) h octets (Took (Some p) octets (kind.Key k.message) (Refused why) None ∷ [])
 adds_refused d first sta p octets k h why from is = record {
   r = KeyedReading k;
   reads = from.reads;
@@ -92,14 +92,15 @@ taken_refused m f s ks why r silent plain verdict_is = record {
 
 -- ---- other messages
 
-key_other : (d : Domain) (drawn sta : ℕ) (h : List Act) (p : Node) (k : KeyMessage) (m : Message) → m ≢ M1 → m ≢ M3 → key_verdict d drawn (Sta sta) h p k m ≡ Refused reason.Unawaited
-key_other d drawn sta h p k M1 other more = absurd (other refl)
-key_other d drawn sta h p k M3 other more = absurd (more refl)
-key_other d drawn sta h p k _ other more = refl
+key_other : (d : Domain) (drawn sta : ℕ) (h : List Act) (p : Node) (k : KeyMessage) (m : Message) → m ≢ M1 → m ≢ M3 → m ≢ G1 → key_verdict d drawn (Sta sta) h p k m ≡ Refused reason.Unawaited
+key_other d drawn sta h p k M1 other more last = absurd (other refl)
+key_other d drawn sta h p k M3 other more last = absurd (more refl)
+key_other d drawn sta h p k G1 other more last = absurd (last refl)
+key_other d drawn sta h p k _ other more last = refl
 
-pub taken_other : (m : Message) (f : KeyFrame) (s : State) (ks : List Kept) (r : Reply) → IsEmpty r → m ≢ M1 → m ≢ M3 → IsTaken m f (both s ks) (both s ks) (Refused reason.Unawaited) r
-taken_other m f s ks r empty other more = taken_refused m f s ks reason.Unawaited r (empty_silent r empty) empty.verified
-    (λ d first sta a octets k h st from is fields are. from.verdict_is first h ∙ ap (λ (x : Message). key_verdict d (first + draws h) (Sta sta) h (Ap a) k x) is ∙ key_other d (first + draws h) sta h (Ap a) k m other more)
+pub taken_other : (m : Message) (f : KeyFrame) (s : State) (ks : List Kept) (r : Reply) → IsEmpty r → m ≢ M1 → m ≢ M3 → m ≢ G1 → IsTaken m f (both s ks) (both s ks) (Refused reason.Unawaited) r
+taken_other m f s ks r empty other more last = taken_refused m f s ks reason.Unawaited r (empty_silent r empty) empty.verified
+    (λ d first sta a octets k h st from is fields are. from.verdict_is first h ∙ ap (λ (x : Message). key_verdict d (first + draws h) (Sta sta) h (Ap a) k x) is ∙ key_other d (first + draws h) sta h (Ap a) k m other more last)
 
 -- ---- M1 where no attempt is under way
 
@@ -159,7 +160,7 @@ made_of d sta p y part v k drawn mine theirs =
 
 adds_replied : (d : Domain) (first sta : ℕ) (p : Node) (octets : List ℕ) (k : KeyMessage) (h : List Act) (v : List ℕ) (key : Option Keyed) (y : Keyed) → IsMessageFrom d (Sta sta) p octets k → k.message ≡ M1 → IsUnderWay d (Sta sta) p v key h
     → y.snonce ≡ v → y.anonce ≡ k.fields.nonce → y.ptk ≡ ptk (inputs_by d (root d) (Sta sta) p y)
-    → Adds (here d first (Sta sta)) h (Take octets) (replying_acts d (Sta sta) p octets (inputs_by d (root d) (Sta sta) p y) y.ptk k.fields.counter)
+    → TakeRow (here d first (Sta sta)) h octets (replying_acts d (Sta sta) p octets (inputs_by d (root d) (Sta sta) p y) y.ptk k.fields.counter)
 adds_replied d first sta p octets k h v key y from is u drawn theirs keyed =
     let accepted : first_verdict d first (Sta sta) h (KeyedReading k) ≡ Accepted = m1_is d first sta p octets k h from is ∙ m1-in h p k u.part true None u.is u.begun u.hears (ap (kept_counter p) (since_part p h u.part u.is) ∙ u.keeps) in
     let mine : own u.part ≡ v = ap (λ (o : Option (List ℕ)). unwrap_or o []) u.nonce in

@@ -34,7 +34,7 @@ use Rattle.domain_rules.specs.Replies.{key_by, IsMessageFrom}
 use Rattle.domain_rules.specs.Facts.{Facts}
 use Rattle.domain_rules.specs.StationKeys.{Keying, KnowsM3, m3_keying, m3_wrapped}
 use Rattle.domain_rules.specs.Verdict.{comes_so_far, Knows, KnowsOf, and_then, first_verdict, verdict}
-use Rattle.domain_rules.specs.Rows.{Take, Adds, seal_in, message_seal, refused_seal, By_m3, By_repeated_m3, By_refusal}
+use Rattle.domain_rules.specs.Rows.{TakeRow, seal_in, message_seal, refused_seal, By_m3, By_repeated_m3, By_refusal}
 use Rattle.domain_rules.specs.Closing.{sender}
 use Rattle.domain_rules.specs.Here.{here}
 use Rattle.domain_rules.proofs.SentReads.{reads-counter, reads-rsc}
@@ -46,12 +46,13 @@ use Rattle.domain_rules.proofs.Refused.{far_seal}
 use Rattle.run_journal.specs.Acts.{Derivation}
 use Rattle.supplicant.specs.declared.attempt.Attempt.{Attempt}
 use Rattle.supplicant.specs.declared.session.Session.{Session}
-use Rattle.supplicant.specs.declared.m3.CarriedKey.{CarriedKey}
+use Rattle.supplicant.specs.declared.key_data.CarriedKey.{CarriedKey}
 use Rattle.supplicant.specs.State.{State, having, both}
 use Rattle.supplicant.specs.Stands.{SupplicantStands, HasAttempt, HasSession, IsUnderWay, IsHeld}
-use Rattle.supplicant.specs.M3.{group_key, news_of, under, before_key_data, IsOpened, IsVerified, IsRefusedBefore, IsM3}
+use Rattle.supplicant.specs.KeyData.{packet_number_of, group_key, news_of, IsOpened}
+use Rattle.supplicant.specs.M3.{under, before_key_data, IsVerified, IsRefusedBefore, IsM3}
 use Rattle.supplicant.specs.Told.{IsSilent, verifies, repeats, installs}
-use Rattle.supplicant.specs.Exchange.{Finishes, Repeats, IsRefusal, packet_number_of}
+use Rattle.supplicant.specs.Exchange.{Finishes, Repeats, IsRefusal}
 use Rattle.supplicant.specs.Taken.{IsTaken}
 use Rattle.supplicant.proofs.Telling.{steps_by, tells_silent, empty_silent, whole_silent}
 use Rattle.supplicant.proofs.Standing.{stands_refused}
@@ -79,7 +80,7 @@ m3_refused f s ks y kept why r silent plain keying judged = taken_refused M3 f s
 
 -- ---- what is known where its MIC verified
 
-abbrev facts_of : {akm : Akm} {kek octets : List ℕ} {r : Result CarriedKey Reason} → IsOpened akm kek octets r → Facts
+abbrev pub facts_of : {asked : Option Akm} {kek octets : List ℕ} {r : Result CarriedKey Reason} → IsOpened asked kek octets r → Facts
 facts_of o = record { requested = None; unwrapped = o.plain; data_ = o.says }
 
 knows_y : (d : Domain) (n p : Node) (h : List Act) (k : KeyMessage) (y : Keyed) (kept : Option ℕ) (facts : Facts) → IsKeying d n p h y kept → KnowsM3 y.ptk.kek k facts → (z : Keying) → m3_keying p h ≡ Some z → KnowsM3 z.key.ptk.kek k facts
@@ -94,8 +95,8 @@ knows_m3 d first sta h p octets k y kept facts from is x knows = λ so q peer.
     let same : p ≡ q = (let both = sym mine ∙ peer in cc) in
     subst (λ (m : Message). KnowsOf d.akm h q m k facts) (sym is) (subst (λ (z : Node). (w : Keying) → m3_keying z h ≡ Some w → KnowsM3 w.key.ptk.kek k facts) same (knows_y d (Sta sta) p h k y kept facts x knows)))
 
-knows_opened : (akm : Akm) (kek : List ℕ) (k : KeyMessage) (r : Result CarriedKey Reason) (o : IsOpened akm kek k.fields.key_data r) → KnowsM3 kek k (facts_of o)
-knows_opened akm kek k r o = record { unwrapped = o.unwrapped; data_ = o.reads }
+pub knows_opened : (asked : Option Akm) (kek : List ℕ) (k : KeyMessage) (r : Result CarriedKey Reason) (o : IsOpened asked kek k.fields.key_data r) → KnowsM3 kek k (facts_of o)
+knows_opened asked kek k r o = record { unwrapped = o.unwrapped; data_ = o.reads }
 
 verdict_m3 : (d : Domain) (first : ℕ) (n : Node) (h : List Act) (k : KeyMessage) (facts : Facts) (o w : Outcome) → k.message ≡ M3 → first_verdict d first n h (KeyedReading k) ≡ o → m3_wrapped d.akm facts.unwrapped facts.data_ ≡ w
     → verdict d first n h (KeyedReading k) facts ≡ and_then o w
@@ -125,7 +126,7 @@ seal_m3 d sta h p octets k y kept from is x =
 -- ---- refused after its MIC
 
 adds_sealed : (d : Domain) (first sta : ℕ) (p : Node) (octets : List ℕ) (k : KeyMessage) (h : List Act) (y : Keyed) (kept : Option ℕ) (why : Reason) → IsMessageFrom d (Sta sta) p octets k → k.message ≡ M3 → IsKeying d (Sta sta) p h y kept → IsVerified (under d.akm y kept) k.fields k.octets (Err why)
-    → Adds (here d first (Sta sta)) h (Take octets) (Took (Some p) octets (kind.Key k.message) (Refused why) (Some (frame_seal y.ptk.kck k.octets)) ∷ [])
+    → TakeRow (here d first (Sta sta)) h octets (Took (Some p) octets (kind.Key k.message) (Refused why) (Some (frame_seal y.ptk.kck k.octets)) ∷ [])
 adds_sealed d first sta p octets k h y kept why from is x v =
     let sealed : refused_seal d first (Sta sta) h (KeyedReading k) ≡ Some (frame_seal y.ptk.kck k.octets) =
     sym (far_seal d first (Sta sta) h (KeyedReading k) (taken_by kept) (comes_m3 d first sta p octets k h y kept (Err why) from is x v) (taken_far kept)) ∙ seal_m3 d sta h p octets k y kept from is x in
@@ -133,7 +134,7 @@ adds_sealed d first sta p octets k h y kept why from is x v =
       r = KeyedReading k;
       reads = from.reads;
       facts = facts_of v.opened;
-      knows = knows_m3 d first sta h p octets k y kept (facts_of v.opened) from is x (knows_opened d.akm y.ptk.kek k (Err why) v.opened);
+      knows = knows_m3 d first sta h p octets k y kept (facts_of v.opened) from is x (knows_opened (Some d.akm) y.ptk.kek k (Err why) v.opened);
       row = By_refusal (record {
         why = why;
         refused = verdict_m3 d first (Sta sta) h k (facts_of v.opened) (taken_by kept) (Refused why) is (comes_m3 d first sta p octets k h y kept (Err why) from is x v) v.opened.is ∙ refused_by kept why;
@@ -172,14 +173,14 @@ m3_refusal f s ks (Some y) kept why r keying refusal = refused_by_told f s ks y 
 -- ---- accepted
 
 -- the act of a group key
-abbrev news_act : Domain → Node → GtkNews → Act
+abbrev pub news_act : Domain → Node → GtkNews → Act
 news_act d p g = cond g.resumed (Resumed p (Group g.key g.id (mac d p))) (Installed (One p) (Group g.key g.id (mac d p)))
 
 given_act : (d : Domain) (p : Node) (c : CarriedKey) (o : Option ℕ) → news_act d p (news_of c o) ≡ give_by groups.Gtk p (mac d p) (group_key c) (found_as c.key o)
 given_act d p c None = refl
 given_act d p c (Some id) = refl
 
-group_act : (d : Domain) (p : Node) (c : CarriedKey) (ks : List Kept) (g : GtkNews) (h : List Act) → Remembers p ks h → g ≡ news_of c (kept_id c.key ks) → news_act d p g ≡ give groups.Gtk p (mac d p) (group_key c) h
+pub group_act : (d : Domain) (p : Node) (c : CarriedKey) (ks : List Kept) (g : GtkNews) (h : List Act) → Remembers p ks h → g ≡ news_of c (kept_id c.key ks) → news_act d p g ≡ give groups.Gtk p (mac d p) (group_key c) h
 group_act d p c ks g h remembers is =
     ap (news_act d p) is ∙ given_act d p c (kept_id c.key ks) ∙ ap (give_by groups.Gtk p (mac d p) (group_key c)) (sym (found_in p c.key ks h remembers.keys))
 
@@ -191,12 +192,12 @@ finishing d n p octets k s x g act counter is same number =
     ∙ ap (finishing_acts d n p octets s x act) number
 
 adds_finished : (d : Domain) (first sta : ℕ) (p : Node) (octets : List ℕ) (k : KeyMessage) (h : List Act) (y : Keyed) (c : CarriedKey) → IsMessageFrom d (Sta sta) p octets k → k.message ≡ M3 → IsKeying d (Sta sta) p h y None → IsVerified (under d.akm y None) k.fields k.octets (Ok c)
-    → Adds (here d first (Sta sta)) h (Take octets) (finishing_acts d (Sta sta) p octets (frame_seal y.ptk.kck k.octets) (key_by d (root d) (Sta sta) p y) (give groups.Gtk p (mac d p) (group_key c) h) k.fields.counter)
+    → TakeRow (here d first (Sta sta)) h octets (finishing_acts d (Sta sta) p octets (frame_seal y.ptk.kck k.octets) (key_by d (root d) (Sta sta) p y) (give groups.Gtk p (mac d p) (group_key c) h) k.fields.counter)
 adds_finished d first sta p octets k h y c from is x v = record {
   r = KeyedReading k;
   reads = from.reads;
   facts = facts_of v.opened;
-  knows = knows_m3 d first sta h p octets k y None (facts_of v.opened) from is x (knows_opened d.akm y.ptk.kek k (Ok c) v.opened);
+  knows = knows_m3 d first sta h p octets k y None (facts_of v.opened) from is x (knows_opened (Some d.akm) y.ptk.kek k (Ok c) v.opened);
   row = By_m3 (record {
     k = k;
     is = refl;
@@ -261,12 +262,12 @@ answering d n p octets k s x counter is number =
     ap (λ (m : Message). Took (Some p) octets (kind.Key m) Answered (Some s) ∷ sent_m4 d n p x counter ∷ []) is ∙ ap (answering_acts d n p octets s x) number
 
 adds_answered : (d : Domain) (first sta : ℕ) (p : Node) (octets : List ℕ) (k : KeyMessage) (h : List Act) (y : Keyed) (was : ℕ) (c : CarriedKey) → IsMessageFrom d (Sta sta) p octets k → k.message ≡ M3 → IsKeying d (Sta sta) p h y (Some was) → IsVerified (under d.akm y (Some was)) k.fields k.octets (Ok c)
-    → Adds (here d first (Sta sta)) h (Take octets) (answering_acts d (Sta sta) p octets (frame_seal y.ptk.kck k.octets) (key_by d (root d) (Sta sta) p y) k.fields.counter)
+    → TakeRow (here d first (Sta sta)) h octets (answering_acts d (Sta sta) p octets (frame_seal y.ptk.kck k.octets) (key_by d (root d) (Sta sta) p y) k.fields.counter)
 adds_answered d first sta p octets k h y was c from is x v = record {
   r = KeyedReading k;
   reads = from.reads;
   facts = facts_of v.opened;
-  knows = knows_m3 d first sta h p octets k y (Some was) (facts_of v.opened) from is x (knows_opened d.akm y.ptk.kek k (Ok c) v.opened);
+  knows = knows_m3 d first sta h p octets k y (Some was) (facts_of v.opened) from is x (knows_opened (Some d.akm) y.ptk.kek k (Ok c) v.opened);
   row = By_repeated_m3 (record {
     k = k;
     is = refl;

@@ -15,7 +15,7 @@ use Rattle.run_journal.specs.Questions.{add}
 use Rattle.domain_rules.specs.Frames.{frame_seal}
 use Rattle.domain_rules.specs.Reading.{KeyMessage}
 use Rattle.domain_rules.specs.Replies.{derived_acts, replaced_acts, installed_acts, gtk_acts, finished_acts, frame_acts, sent_acts, reply_acts, pair, taken_as}
-use Rattle.domain_rules.specs.Rows.{Take, Adds}
+use Rattle.domain_rules.specs.Rows.{TakeRow}
 use Rattle.domain_rules.specs.Network.{root}
 use Rattle.domain_rules.specs.Here.{here}
 use Rattle.group_key.specs.Holds.{Remembers}
@@ -43,11 +43,11 @@ acts_told d n p octets k o r t tells =
     ∙ ap (λ (w : List Act). told_acts d n p octets k o (told_with t.verified t.derived t.installed t.gtk w)) tells.sends_are
 
 pub steps_by : (d : Domain) (first : ℕ) (n p : Node) (octets : List ℕ) (k : KeyMessage) (new : Both) (o : Outcome) (r : Reply) (h acts : List Act) (t : Told) → Tells p r t → IsUnder t.installed new.part → told_acts d n p octets k o t ≡ acts
-    → Adds (here d first n) h (Take octets) acts → SupplicantStands d n p new.part (add acts h) → Remembers p new.keys (add acts h) → SupplicantSteps (here d first n) p (taken_as octets k o) new r h
+    → TakeRow (here d first n) h octets acts → SupplicantStands d n p new.part (add acts h) → Remembers p new.keys (add acts h) → SupplicantSteps (here d first n) p (taken_as octets k o) new r h
 steps_by d first n p octets k new o r h acts t tells under are adds stands remembers =
     let is : reply_acts (pair d n p) false (taken_as octets k o) r ≡ acts = acts_told d n p octets k o r t tells ∙ are in
     record {
-      adds = subst (λ (l : List Act). Adds (here d first n) h (Take octets) l) (sym is) adds;
+      adds = subst (λ (l : List Act). TakeRow (here d first n) h octets l) (sym is) adds;
       stands = subst (λ (l : List Act). SupplicantStands d n p new.part (add l h)) (sym is) stands;
       remembers = subst (λ (l : List Act). Remembers p new.keys (add l h)) (sym is) remembers;
       under = subst (λ (x : Option Keyed). IsUnder x new.part) (sym tells.installed_is) under;

@@ -1,5 +1,5 @@
 -- The keys of a supplicant (this project's choice).
-use Rattle.std.specs.Prelude.{◌≢◌, ℕ, List, Option, Some, None}
+use Rattle.std.specs.Prelude.{◌≡◌, ◌≢◌, ◌⊎◌, ℕ, List, Option, Some, None}
 use Rattle.domain_base.specs.declared.names.Akm.TheVariants.{FtPsk}
 use Rattle.run_journal.specs.declared.reply.Keyed.{Keyed}
 use Rattle.node_base.specs.declared.ends.Ends.{Ends}
@@ -20,8 +20,10 @@ abbrev pub IsKeyInSession : Ends → List ℕ → Option Session → Type 0
 IsKeyInSession l psk None = Unit {0}
 IsKeyInSession l psk (Some x) = IsKeyOf l psk x.key
 
--- what is true of every supplicant: its suite is 2 or 6, and its keys are those of their nonces
+-- what is true of every supplicant: its suite is 2 or 6, its keys are those of their nonces, and it has no attempt beside a
+-- session
 pub record IsOwn (l : Ends) (psk : List ℕ) (a : Option Attempt) (x : Option Session) : Type 0 where
   pub suite : l.akm ≢ FtPsk
   pub tried : IsKeyInAttempt l psk a
   pub held : IsKeyInSession l psk x
+  pub alone : (a ≡ None) ⊎ (x ≡ None)

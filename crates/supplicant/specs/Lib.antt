@@ -3,7 +3,9 @@ pub mod Stands
 pub mod Steps
 pub mod Keys
 pub mod Starts
+pub mod KeyData
 pub mod M3
+pub mod G1
 pub mod Told
 pub mod Exchange
 pub mod Taken

@@ -1,56 +1,16 @@
--- What M3 is judged as (IEEE Std 802.11-2020, 12.7.6.4; the order of the checks is this project's
--- choice).
-use Rattle.std.specs.Prelude.{◌≡◌, ℕ, ◌<◌, ◌≤◌, true, false, List, Option, Some, None}
-use Rattle.std.specs.Prelude.{bytes_eq, if◌then◌else◌, Result, Ok, Err}
+-- What M3 is judged as (IEEE Std 802.11-2020, 12.7.6.4; the order of the checks is this project's choice).
+use Rattle.std.specs.Prelude.{◌≡◌, ℕ, ◌<◌, ◌≤◌, List, Option, Some, None, bytes_eq, if◌then◌else◌, Result, Ok, Err}
 use Rattle.domain_base.specs.declared.names.Akm.{Akm}
-use Rattle.rsn_elements.specs.Elements.{ElementFields}
 use Rattle.mac_prf.specs.Mic.{mic}
 use Rattle.eapol_key.specs.KeyFrame.{KeyFields}
-use Rattle.run_journal.specs.declared.acts.KeyDataFault.{KeyDataFault}
 use Rattle.run_journal.specs.declared.acts.Reason.{Reason}
 use Rattle.run_journal.specs.declared.acts.Reason.TheVariants as reason
 use Rattle.run_journal.specs.declared.acts.Outcome.{Outcome}
-use Rattle.run_journal.specs.declared.acts.Outcome.TheVariants.{Accepted, Refused}
+use Rattle.run_journal.specs.declared.acts.Outcome.TheVariants.{Refused}
 use Rattle.run_journal.specs.declared.reply.Keyed.{Keyed}
-use Rattle.run_journal.specs.declared.reply.GtkNews.{GtkNews}
-use Rattle.run_journal.specs.Acts.{GroupKey}
-use Rattle.domain_rules.specs.Facts.{IsUnwrapped, ReadsKeyData}
 use Rattle.domain_rules.specs.Asking.{above}
-use Rattle.domain_rules.specs.StationKeys.{m3_key_data, m3_wrapped}
-use Rattle.domain_rules.specs.StationRows.{carried}
-use Rattle.supplicant.specs.declared.m3.CarriedKey.{CarriedKey}
-
-abbrev pub group_key : CarriedKey → GroupKey
-group_key c = record { key = c.key; id = c.id }
-
--- what becomes of a group key by the key id under which it is kept
-abbrev pub news_of : CarriedKey → Option ℕ → GtkNews
-news_of c None = record { resumed = false; id = c.id; key = c.key }
-news_of c (Some id) = record { resumed = true; id = id; key = c.key }
-
--- plain key data carries that group key, or what is wrong with it
-abbrev pub IsKeyDataSaid : Akm → Option ElementFields → Result CarriedKey KeyDataFault → Type 0
-IsKeyDataSaid akm says (Ok c) = (m3_key_data akm says ≡ Accepted) × (carried says ≡ group_key c)
-IsKeyDataSaid akm says (Err fault) = m3_key_data akm says ≡ Refused (reason.KeyData fault)
-
-pub record IsPlain (akm : Akm) (plain : List ℕ) (r : Result CarriedKey KeyDataFault) : Type 0 where
-  pub says : Option ElementFields
-  pub reads : ReadsKeyData plain says
-  pub is : IsKeyDataSaid akm says r
-
--- wrapped key data carries that group key, or why it is refused
-abbrev pub IsWrappedSaid : Akm → Option (List ℕ) → Option ElementFields → Result CarriedKey Reason
-    → Type 0
-IsWrappedSaid akm plain says (Ok c) =
-    (m3_wrapped akm plain says ≡ Accepted) × (carried says ≡ group_key c)
-IsWrappedSaid akm plain says (Err why) = m3_wrapped akm plain says ≡ Refused why
-
-pub record IsOpened (akm : Akm) (kek octets : List ℕ) (r : Result CarriedKey Reason) : Type 0 where
-  pub plain : Option (List ℕ)
-  pub says : Option ElementFields
-  pub unwrapped : IsUnwrapped kek octets plain
-  pub reads : (p : List ℕ) → plain ≡ Some p → ReadsKeyData p says
-  pub is : IsWrappedSaid akm plain says r
+use Rattle.supplicant.specs.declared.key_data.CarriedKey.{CarriedKey}
+use Rattle.supplicant.specs.KeyData.{IsOpened}
 
 -- the counter is above the kept one, where there is one
 abbrev pub IsAbove : Option ℕ → ℕ → Type 0
@@ -82,7 +42,7 @@ before_key_data u f octets then_ =
 -- its MIC verified, and its key data is that
 pub record IsVerified (u : Under) (f : KeyFields) (octets : List ℕ) (r : Result CarriedKey Reason) : Type 0 where
   pub comes : (o : Outcome) → before_key_data u f octets o ≡ o
-  pub opened : IsOpened u.akm u.key.ptk.kek f.key_data r
+  pub opened : IsOpened (Some u.akm) u.key.ptk.kek f.key_data r
 
 -- or it is refused before
 abbrev pub IsRefusedBefore : Under → KeyFields → List ℕ → Result CarriedKey Reason → Type 0

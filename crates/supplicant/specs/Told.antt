@@ -49,6 +49,11 @@ installs y gtk sends = record {
   sends = sends;
 }
 
+-- G1 verified under that key, and is answered; the group key is installed, or goes on
+abbrev pub renews : Keyed → GtkNews → List Act → Told
+renews y gtk sends =
+    record { verified = Some y.ptk.kck; derived = None; installed = None; gtk = Some gtk; sends = sends }
+
 -- the reply to p tells that
 pub record Tells (p : Node) (r : Reply) (t : Told) : Type 0 where
   pub verified_is : r.verified ≡ t.verified

@@ -5,14 +5,14 @@ ghost use Rattle.domain_base.specs.declared.names.Node.{Node as AnyNode};
 ghost use Rattle.run_journal.specs.declared.domain.Domain.{Domain as AnyDomain};
 ghost use Rattle.run_journal.specs.Replies.{IsEmpty, IsWhole};
 ghost use Rattle.run_journal.specs.Acts.{Derivation};
-ghost use Rattle.domain_rules.specs.Frames.{sent_m2, sent_m4};
+ghost use Rattle.domain_rules.specs.Frames.{sent_m2, sent_m4, sent_g2};
 ghost use Rattle.group_key.specs.Keys.{kept_id, given};
 ghost use Rattle.node_base.specs.Ends.{AreEnds};
-ghost use Rattle.supplicant.specs.M3.{news_of};
-ghost use Rattle.supplicant.specs.Told.{IsSilent, Tells, derives, repeats, installs};
+ghost use Rattle.supplicant.specs.KeyData.{news_of};
+ghost use Rattle.supplicant.specs.Told.{IsSilent, Tells, derives, repeats, installs, renews};
 
-use crate::m3::CarriedKey;
-use frame_making::{write_m2, write_m4};
+use crate::key_data::CarriedKey;
+use frame_making::{write_g2, write_m2, write_m4};
 use group_key::GroupMemory;
 use node_base::Ends;
 use run_journal::{GtkNews, Keyed, Reply};
@@ -51,6 +51,19 @@ pub fn accept_m3(ends: &Ends, key: &Keyed, gtk: GtkNews, counter: u64, reply: &m
 {
     answer_m3(ends, key, counter, reply);
     reply.installed = Some(*key);
+    reply.gtk = Some(gtk);
+}
+
+/// G1 was accepted: G2 is sent, with that counter, and the group key is installed or goes on.
+pub fn accept_g1(ends: &Ends, key: &Keyed, gtk: GtkNews, counter: u64, reply: &mut Reply)
+    requires silent { IsSilent reply.old }
+    requires verified { reply.old.verified ≡ Some key.now.ptk.kck }
+    ensures tells { (d : AnyDomain) (n p : AnyNode) (x : Derivation) → AreEnds d n p ends.now
+        → key.now.ptk ≡ x.ptk
+        → Tells p reply.new (renews key.now gtk (sent_g2 d n p x counter ∷ [])) }
+    ensures whole { IsWhole reply.new }
+{
+    write_g2(ends, key, counter, reply);
     reply.gtk = Some(gtk);
 }
 

@@ -1,13 +1,13 @@
 //! An attempt of a station with an access point, from the association on.
 
-ghost use Rattle.std.specs.Prelude.{◌≡◌, ◌≢◌, ◌++◌, ◌∷◌, [], Some, None, take, IfOk, IfErr, OnErr};
-ghost use Rattle.std.specs.Int.{w64, from_le_bytes};
+ghost use Rattle.std.specs.Prelude.{◌≡◌, ◌≢◌, Some, None, IfOk, IfErr, OnErr};
 ghost use Rattle.domain_base.specs.declared.names.Akm.{Akm as AnyAkm};
 ghost use Rattle.eapol_key.specs.Fields.{IsKeyFrame};
 ghost use Rattle.run_journal.specs.Replies.{IsEmpty, IsWhole};
 ghost use Rattle.supplicant.specs.Exchange.{Answers, Finishes, IsRefusal};
 
 use crate::answers::{accept_m3, answer_m1, give};
+use crate::key_data::packet_number;
 use crate::m3::judge_m3;
 use crate::session::Session;
 use eapol_key::KeyFrame;
@@ -81,12 +81,4 @@ impl Attempt {
         accept_m3(ends, &key, gtk, counter, reply);
         Ok(Session { key, counter })
     }
-}
-
-// The packet number in the RSC field: six octets, the lowest first (IEEE Std 802.11-2020, 12.7.2).
-fn packet_number(rsc: [u8; 8]) -> u64
-    ensures { result ≡ from_le_bytes w64 (take 6 rsc ++ 0 ∷ 0 ∷ []) }
-{
-    let [a, b, c, d, e, f, _, _] = rsc;
-    u64::from_le_bytes([a, b, c, d, e, f, 0, 0])
 }

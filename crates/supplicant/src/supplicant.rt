@@ -3,7 +3,7 @@
 ghost use Rattle.std.specs.Prelude.{◌≡◌, ◌≢◌, ◌<◌, List, None, length};
 ghost use Rattle.domain_base.specs.declared.names.Akm.{Akm as AnyAkm};
 ghost use Rattle.domain_base.specs.declared.names.Node.TheVariants.{Ap, Sta};
-ghost use Rattle.eapol_key.specs.declared.messages.Message.TheVariants.{M1, M3};
+ghost use Rattle.eapol_key.specs.declared.messages.Message.TheVariants.{M1, M3, G1};
 ghost use Rattle.eapol_key.specs.Fields.{IsKeyFrame};
 ghost use Rattle.run_journal.specs.Replies.{IsEmpty};
 ghost use Rattle.group_key.specs.Keys.{Kept};
@@ -79,9 +79,9 @@ impl Supplicant {
     /// Takes an EAPOL-Key message of the access point: its kind and its frame.
     ///
     /// In an attempt M1 gives the key and M2 answers it, and M3 installs the keys and M4 answers
-    /// it; in a session M3 is answered once more. The memory is of the group keys of that access
-    /// point. What is sent, derived and installed comes into the reply, whatever was in it. A
-    /// refusal changes neither the supplicant nor the memory.
+    /// it; in a session M3 is answered once more, and G1 gives a group key and G2 answers it. The
+    /// memory is of the group keys of that access point. What is sent, derived and installed comes
+    /// into the reply, whatever was in it. A refusal changes neither the supplicant nor the memory.
     pub fn step(
         &mut self,
         message: Message,
@@ -97,6 +97,7 @@ impl Supplicant {
         match message {
             Message::M1 => self.take_m1(frame, reply),
             Message::M3 => self.take_m3(frame, memory, reply),
+            Message::G1 => self.take_g1(frame, memory, reply),
             _ => Outcome::Refused(Reason::Unawaited),
         }
     }
@@ -162,6 +163,30 @@ impl Supplicant {
             Ok(session) => {
                 self.session = Some(session);
                 Outcome::Answered
+            }
+            Err(why) => Outcome::Refused(why),
+        }
+    }
+
+    // G1 goes to the session.
+    fn take_g1(
+        &mut self,
+        frame: &KeyFrame<'_>,
+        memory: &mut GroupMemory,
+        reply: &mut Reply,
+    ) -> Outcome
+        requires frame { IsKeyFrame frame.now }
+        requires empty { IsEmpty reply.old }
+        ensures { IsTaken G1 frame.now (both self.old memory.old) (both self.new memory.new)
+            result reply.new }
+    {
+        let Some(session) = self.session else {
+            return Outcome::Refused(Reason::Unawaited);
+        };
+        match session.take_g1(&self.ends, frame, memory, reply) {
+            Ok(session) => {
+                self.session = Some(session);
+                Outcome::Accepted
             }
             Err(why) => Outcome::Refused(why),
         }

@@ -8,8 +8,8 @@ mod rows;
 use domain_base::{Akm, Mac, NoMemory, Node, Octets, Peer};
 use frame_script::{LineFault, ScriptReader, Step};
 use rows::Says::{
-    self, Alter, Ap, Connect, Cut, Deliver, Inject, Limit, Network, Nothing, OutOfMemory, Retry,
-    Script, Sta,
+    self, Alter, Ap, Connect, Cut, Deliver, Expire, Inject, Leave, Limit, Network, Nothing,
+    OutOfMemory, Rekey, Retry, Script, Sta,
 };
 use rows::{
     A1, ADDRESS, BOTH, BSSID, EVENT_LINES, FALTERING, FORMS, GROWING, HEADER, HEADER_LINES,
@@ -46,6 +46,9 @@ fn what_it_asks(event: &Event) -> Says {
         Event::Cut { number, size, to } => Cut(*number, *size, *to),
         Event::Inject { to, octets } => Inject(*to, octets.as_slice().len()),
         Event::Retry { ap, sta } => Retry(*ap, *sta),
+        Event::Rekey { ap } => Rekey(*ap),
+        Event::Expire { ap, sta } => Expire(*ap, *sta),
+        Event::Leave { sta } => Leave(*sta),
     }
 }
 

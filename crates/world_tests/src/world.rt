@@ -39,6 +39,9 @@ fn event(rt: &impl Abort, alloc: Global, turn: Turn) -> Event {
             octets: octets(rt, alloc, comes),
         },
         Turn::Retry => Event::Retry { ap: 0, sta: 0 },
+        Turn::Rekey => Event::Rekey { ap: 0 },
+        Turn::Expire => Event::Expire { ap: 0, sta: 0 },
+        Turn::Leave => Event::Leave { sta: 0 },
     }
 }
 
@@ -128,7 +131,8 @@ fn has_octet(world: &World, number: u64, place: usize, journal: &Journal) -> boo
 
 fn is_event_in(world: &World, event: &Event, journal: &Journal) -> bool
     requires { Owns world.now journal.now.entries }
-    ensures { IsTrue result → IsEventIn world.now.domain (length world.now.frames) journal.now.entries event.now }
+    ensures { IsTrue result
+        → IsEventIn world.now.domain (length world.now.frames) journal.now.entries event.now }
 {
     let domain = world.domain();
     match event {
@@ -155,6 +159,11 @@ fn is_event_in(world: &World, event: &Event, journal: &Journal) -> bool
                 && has_octets(world, *number, *size, journal)
         }
         Event::Inject { to, .. } => is_listed(domain, *to),
+        Event::Rekey { ap } => is_listed(domain, Node::Ap(*ap)),
+        Event::Expire { ap, sta } => {
+            is_listed(domain, Node::Ap(*ap)) && is_listed(domain, Node::Sta(*sta))
+        }
+        Event::Leave { sta } => is_listed(domain, Node::Sta(*sta)),
     }
 }
 
@@ -200,6 +209,7 @@ fn verb(act: &Act) -> &'static str {
         } => "refused",
         Act::Took { .. } => "took",
         Act::Installed { .. } => "installed",
+        Act::Resumed { .. } => "resumed",
         Act::Finished { .. } => "finished",
         Act::GaveUp { .. } => "gave up",
         Act::Idle { .. } => "idle",

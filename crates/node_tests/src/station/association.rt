@@ -88,6 +88,18 @@ pub const FIRST_ASSOCIATION: &[Step] = &[
             SentSealed(A1, Kind::Key(Message::M2), M2_1, &KEYS),
         ],
     },
+    Step {
+        shows: "leaves the attempt",
+        event: Event::Leave,
+        outcome: Outcome::Done,
+        acts: &[Closed(A1, Part::Attempt)],
+    },
+    Step {
+        shows: "M1 without an attempt",
+        event: Event::Take(M1_1),
+        outcome: Outcome::Refused(Reason::Unawaited),
+        acts: &[Took(Some(A1), Kind::Key(Message::M1))],
+    },
 ];
 
 /// An attempt with one access point, and then with another.

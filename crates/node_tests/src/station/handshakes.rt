@@ -1,8 +1,8 @@
 //! Whole handshakes at a station.
 
 use crate::acts::Expected::{
-    Closed, Derived, Drew, Finished, Group, Opened, Pairwise, Resumed, Sent, SentSealed, Took,
-    TookSealed,
+    Closed, Derived, Drew, Finished, Group, Idle, Opened, Pairwise, Resumed, Sent, SentSealed,
+    Took, TookSealed,
 };
 use crate::acts::{Event, Step};
 use crate::air_frames::{
@@ -12,7 +12,7 @@ use crate::air_frames::{
 use crate::vectors::{A1, GTK, NEXT_SNONCE, REQUEST, RESPONSE, SNONCE};
 use domain_base::Peer;
 use eapol_key::Message;
-use run_journal::{Drawn, Kind, Outcome, Part, Reason};
+use run_journal::{Drawn, Kind, Outcome, Part, Reason, Why};
 
 /// A whole handshake, M3 over again, and another handshake.
 pub const HANDSHAKES: &[Step] = &[
@@ -134,6 +134,110 @@ pub const HANDSHAKES: &[Step] = &[
     },
     Step {
         shows: "M3 with the same group key under another key id",
+        event: Event::Take(NEXT_M3_2),
+        outcome: Outcome::Accepted,
+        acts: &[
+            TookSealed(A1, Kind::Key(Message::M3), &NEXT_KEYS),
+            Pairwise(A1, &NEXT_KEYS),
+            Resumed(A1, GTK, 1),
+            Finished(A1, &NEXT_KEYS),
+            SentSealed(A1, Kind::Key(Message::M4), NEXT_M4_2, &NEXT_KEYS),
+        ],
+    },
+];
+
+/// A station that has nothing to leave, leaves a session, and comes back: what it kept of group keys goes on.
+pub const LEAVING: &[Step] = &[
+    Step {
+        shows: "nothing to leave",
+        event: Event::Leave,
+        outcome: Outcome::Idle(Why::Nothing),
+        acts: &[Idle(Why::Nothing)],
+    },
+    Step {
+        shows: "connect",
+        event: Event::Connect(0),
+        outcome: Outcome::Done,
+        acts: &[
+            Opened(A1),
+            Drew(Drawn::Nonce(SNONCE)),
+            Sent(A1, Kind::AssocReq, REQUEST),
+        ],
+    },
+    Step {
+        shows: "the response",
+        event: Event::Take(RESPONSE),
+        outcome: Outcome::Accepted,
+        acts: &[Took(Some(A1), Kind::AssocResp)],
+    },
+    Step {
+        shows: "M1",
+        event: Event::Take(M1_1),
+        outcome: Outcome::Accepted,
+        acts: &[
+            Took(Some(A1), Kind::Key(Message::M1)),
+            Derived(A1, &KEYS),
+            SentSealed(A1, Kind::Key(Message::M2), M2_1, &KEYS),
+        ],
+    },
+    Step {
+        shows: "M3",
+        event: Event::Take(M3_2),
+        outcome: Outcome::Accepted,
+        acts: &[
+            TookSealed(A1, Kind::Key(Message::M3), &KEYS),
+            Pairwise(A1, &KEYS),
+            Group(Peer::One(A1), GTK, 1),
+            Finished(A1, &KEYS),
+            SentSealed(A1, Kind::Key(Message::M4), M4_2, &KEYS),
+        ],
+    },
+    Step {
+        shows: "leaves the session",
+        event: Event::Leave,
+        outcome: Outcome::Done,
+        acts: &[Closed(A1, Part::Session)],
+    },
+    Step {
+        shows: "M3 again, without a session",
+        event: Event::Take(M3_3),
+        outcome: Outcome::Refused(Reason::Unawaited),
+        acts: &[Took(Some(A1), Kind::Key(Message::M3))],
+    },
+    Step {
+        shows: "nothing left",
+        event: Event::Leave,
+        outcome: Outcome::Idle(Why::Nothing),
+        acts: &[Idle(Why::Nothing)],
+    },
+    Step {
+        shows: "connect again",
+        event: Event::Connect(0),
+        outcome: Outcome::Done,
+        acts: &[
+            Opened(A1),
+            Drew(Drawn::Nonce(NEXT_SNONCE)),
+            Sent(A1, Kind::AssocReq, REQUEST),
+        ],
+    },
+    Step {
+        shows: "the response again",
+        event: Event::Take(RESPONSE),
+        outcome: Outcome::Accepted,
+        acts: &[Took(Some(A1), Kind::AssocResp)],
+    },
+    Step {
+        shows: "the next M1",
+        event: Event::Take(NEXT_M1_1),
+        outcome: Outcome::Accepted,
+        acts: &[
+            Took(Some(A1), Kind::Key(Message::M1)),
+            Derived(A1, &NEXT_KEYS),
+            SentSealed(A1, Kind::Key(Message::M2), NEXT_M2_1, &NEXT_KEYS),
+        ],
+    },
+    Step {
+        shows: "M3 with the group key that was kept",
         event: Event::Take(NEXT_M3_2),
         outcome: Outcome::Accepted,
         acts: &[

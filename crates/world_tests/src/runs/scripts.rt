@@ -194,6 +194,180 @@ pub(crate) const SCRIPTS: &[(&str, &str, Status, &str)] = &[
 // report.
 pub(crate) const FRAMES: &[(&str, &str, &str)] = &[
     (
+        "a new group key, whose messages come again",
+        "connect s1 a1
+deliver 1 to a1
+deliver 2 to s1
+deliver 3 to s1
+deliver 4 to a1
+deliver 5 to s1
+deliver 6 to a1
+rekey a1
+rekey a1
+deliver 7 to s1
+deliver 8 to a1
+deliver 7 to s1
+deliver 8 to a1
+",
+        "install a1 all gtk 1
+open s1 a1 connect
+sent 1 s1 a1 assoc-req 62
+took a1 assoc-req accepted
+open a1 s1 connect
+sent 2 a1 s1 assoc-resp 36
+sent 3 a1 s1 m1 131
+took s1 assoc-resp accepted
+took s1 m1 accepted
+sent 4 s1 a1 m2 153
+took a1 m2 accepted
+sent 5 a1 s1 m3 187
+took s1 m3 accepted
+install s1 a1 ptk
+install s1 a1 gtk 1
+finish s1 a1
+sent 6 s1 a1 m4 131
+took a1 m4 accepted
+install a1 s1 ptk
+finish a1 s1
+sent 7 a1 s1 g1 163
+idle a1 rekey-pending
+took s1 g1 accepted
+install s1 a1 gtk 2
+sent 8 s1 a1 g2 131
+took a1 g2 accepted
+install a1 all gtk 2
+took s1 g1 refused counter 3
+took a1 g2 refused unawaited
+end frames 8 accepted 8 answered 0 refused 2 ignored 0
+keys installed 6 resumed 0 used 0 handed-up 0
+premises fresh yes no-collision yes unforged yes
+",
+    ),
+    (
+        "G1 sent four times, and given up",
+        "connect s1 a1
+deliver 1 to a1
+deliver 2 to s1
+deliver 3 to s1
+deliver 4 to a1
+deliver 5 to s1
+deliver 6 to a1
+rekey a1
+rekey a1
+retry a1 s1
+retry a1 s1
+retry a1 s1
+retry a1 s1
+retry a1 s1
+deliver 10 to s1
+deliver 11 to a1
+",
+        "install a1 all gtk 1
+open s1 a1 connect
+sent 1 s1 a1 assoc-req 62
+took a1 assoc-req accepted
+open a1 s1 connect
+sent 2 a1 s1 assoc-resp 36
+sent 3 a1 s1 m1 131
+took s1 assoc-resp accepted
+took s1 m1 accepted
+sent 4 s1 a1 m2 153
+took a1 m2 accepted
+sent 5 a1 s1 m3 187
+took s1 m3 accepted
+install s1 a1 ptk
+install s1 a1 gtk 1
+finish s1 a1
+sent 6 s1 a1 m4 131
+took a1 m4 accepted
+install a1 s1 ptk
+finish a1 s1
+sent 7 a1 s1 g1 163
+idle a1 rekey-pending
+sent 8 a1 s1 g1 163
+sent 9 a1 s1 g1 163
+sent 10 a1 s1 g1 163
+gave-up a1 s1 g1
+close a1 s1 session
+install a1 all gtk 2
+idle a1 nothing
+took s1 g1 accepted
+install s1 a1 gtk 2
+sent 11 s1 a1 g2 131
+took a1 g2 refused unawaited
+end frames 11 accepted 7 answered 0 refused 1 ignored 0
+keys installed 6 resumed 0 used 0 handed-up 0
+premises fresh yes no-collision yes unforged yes
+",
+    ),
+    (
+        "G1 answered, repeated, and of a session that is gone",
+        "connect s1 a1
+deliver 1 to a1
+deliver 2 to s1
+deliver 3 to s1
+deliver 4 to a1
+deliver 5 to s1
+deliver 6 to a1
+rekey a1
+deliver 7 to s1
+deliver 7 to s1
+retry a1 s1
+deliver 9 to s1
+deliver 8 to a1
+deliver 10 to a1
+rekey a1
+leave s1
+deliver 11 to s1
+expire a1 s1
+expire a1 s1
+leave s1
+",
+        "install a1 all gtk 1
+open s1 a1 connect
+sent 1 s1 a1 assoc-req 62
+took a1 assoc-req accepted
+open a1 s1 connect
+sent 2 a1 s1 assoc-resp 36
+sent 3 a1 s1 m1 131
+took s1 assoc-resp accepted
+took s1 m1 accepted
+sent 4 s1 a1 m2 153
+took a1 m2 accepted
+sent 5 a1 s1 m3 187
+took s1 m3 accepted
+install s1 a1 ptk
+install s1 a1 gtk 1
+finish s1 a1
+sent 6 s1 a1 m4 131
+took a1 m4 accepted
+install a1 s1 ptk
+finish a1 s1
+sent 7 a1 s1 g1 163
+took s1 g1 accepted
+install s1 a1 gtk 2
+sent 8 s1 a1 g2 131
+took s1 g1 refused counter 3
+sent 9 a1 s1 g1 163
+took s1 g1 accepted
+resume s1 a1 gtk 2
+sent 10 s1 a1 g2 131
+took a1 g2 accepted
+install a1 all gtk 2
+took a1 g2 refused unawaited
+sent 11 a1 s1 g1 163
+close s1 a1 session
+took s1 g1 refused unawaited
+close a1 s1 session
+install a1 all gtk 1
+idle a1 nothing
+idle s1 nothing
+end frames 11 accepted 9 answered 0 refused 3 ignored 0
+keys installed 7 resumed 1 used 0 handed-up 0
+premises fresh yes no-collision yes unforged yes
+",
+    ),
+    (
         "M3 once more, and old frames",
         "connect s1 a1
 deliver 1 to a1
@@ -473,7 +647,7 @@ pub(crate) const TEXTS: &[(Status, &str)] = &[
     (Status::NoMemory, "out of memory"),
     (
         Status::Script(65536, 0, Form::Event),
-        "line 65536: outside the grammar; the form is that of connect, deliver, alter, cut, inject or retry",
+        "line 65536: outside the grammar; the form is that of connect, deliver, alter, cut, inject, retry, rekey, expire or leave",
     ),
     (
         Status::Script(65537, 1, Form::Version),
@@ -481,11 +655,11 @@ pub(crate) const TEXTS: &[(Status, &str)] = &[
     ),
     (
         Status::Script(65538, 2, Form::Any),
-        "line 65538: no such word here; the form is that of ap, sta, connect, deliver, alter, cut, inject or retry",
+        "line 65538: no such word here; the form is that of ap, sta, connect, deliver, alter, cut, inject, retry, rekey, expire or leave",
     ),
     (
         Status::Script(65538, 2, Form::StaOrEvent),
-        "line 65538: no such word here; the form is that of sta, connect, deliver, alter, cut, inject or retry",
+        "line 65538: no such word here; the form is that of sta, connect, deliver, alter, cut, inject, retry, rekey, expire or leave",
     ),
     (
         Status::Script(65538, 2, Form::Key),
@@ -516,6 +690,18 @@ pub(crate) const TEXTS: &[(Status, &str)] = &[
         "line 65540: no such node, or a node of the other kind; the form is connect <sta> <ap>",
     ),
     (
+        Status::Script(65540, 4, Form::Rekey),
+        "line 65540: no such node, or a node of the other kind; the form is rekey <ap>",
+    ),
+    (
+        Status::Script(65540, 4, Form::Expire),
+        "line 65540: no such node, or a node of the other kind; the form is expire <ap> <sta>",
+    ),
+    (
+        Status::Script(65540, 4, Form::Leave),
+        "line 65540: no such node, or a node of the other kind; the form is leave <sta>",
+    ),
+    (
         Status::Script(65540, 4, Form::Retry),
         "line 65540: no such node, or a node of the other kind; the form is retry <ap> <sta>",
     ),
@@ -533,7 +719,7 @@ pub(crate) const TEXTS: &[(Status, &str)] = &[
     ),
     (
         Status::Script(65543, 7, Form::Event),
-        "line 65543: outside the grammar; the form is that of connect, deliver, alter, cut, inject or retry",
+        "line 65543: outside the grammar; the form is that of connect, deliver, alter, cut, inject, retry, rekey, expire or leave",
     ),
     (
         Status::Script(65544, 8, Form::Ap),

@@ -1,4 +1,4 @@
-use Rattle.std.proofs.Common.{◌≡◌, Bool, List, ◌++◌, refl, ap, ◌∙◌}
+use Rattle.std.proofs.Common.{Bool, List, ◌++◌, refl, ap, ◌∙◌}
 use Rattle.std.specs.Prelude.{is_some}
 use Rattle.domain_base.specs.declared.names.Node.TheVariants.{Sta}
 use Rattle.run_journal.specs.declared.acts.Act.{Act}

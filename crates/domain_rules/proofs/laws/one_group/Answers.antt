@@ -1,15 +1,23 @@
 use Rattle.std.proofs.Common.{refl}
-use Rattle.run_journal.specs.Questions.{attempt}
-use Rattle.domain_rules.specs.AccessPointRows.{retry_acts}
-use Rattle.domain_rules.proofs.OneGroup.{one_group}
-use Rattle.domain_rules.proofs.SomeGroup.{some_rows, some_connect}
 use Rattle.domain_base.specs.declared.names.Node.TheVariants.{Ap, Sta}
+use Rattle.run_journal.specs.Questions.{attempt}
+use Rattle.domain_rules.specs.AccessPointRows.{retry_acts, expire_acts}
+use Rattle.domain_rules.specs.StationRows.{leave_acts}
+use Rattle.domain_rules.specs.Owing.{and_switch}
+use Rattle.domain_rules.proofs.OneGroup.{one_group}
+use Rattle.domain_rules.proofs.SomeGroup.{some_rows, some_connect, some_rekey}
 use Rattle.domain_rules.proofs.laws.one_group.Goals as goal
 
 pub returns : goal.returns
 returns c = record {
   one = one_group;
-  taken = λ d first n h octets r facts reads knows. (let rows = some_rows d first n h octets r facts in (rows.0, record { r = r; reads = reads; facts = facts; knows = knows; row = rows.1 }));
-  begun = λ d first n h a. some_connect d first n h (Ap a);
-  again = λ d first n h s. (retry_acts d n h (Sta s) (attempt (Sta s) h), refl);
+  taken = λ d first n h octets r facts reads knows.
+      (let rows = some_rows d first n h octets r facts in
+      (and_switch d n h rows.0, record { acts = rows.0; row = record { r = r; reads = reads; facts = facts; knows = knows; row = rows.1 }; is = refl }));
+  begun = λ d first n h a. (let w = some_connect d first n h (Ap a) in (and_switch d n h w.0, record { acts = w.0; row = w.1; is = refl }));
+  again = λ d first n h s.
+      (and_switch d n h (retry_acts d n h (Sta s) (attempt (Sta s) h)), record { acts = retry_acts d n h (Sta s) (attempt (Sta s) h); row = refl; is = refl });
+  rekeyed = λ d first a h. (let w = some_rekey d first a h in (and_switch d (Ap a) h w.0, record { acts = w.0; row = w.1; is = refl }));
+  expired = λ d first n h s. (and_switch d n h (expire_acts (Sta s) h), record { acts = expire_acts (Sta s) h; row = refl; is = refl });
+  left = λ d first n h. (and_switch d n h (leave_acts h), record { acts = leave_acts h; row = refl; is = refl });
 }

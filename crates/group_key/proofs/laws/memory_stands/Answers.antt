@@ -11,5 +11,6 @@ returns c = record {
   found = keeping.found_in;
   counted = counting.counted;
   keys_given = keeping.keys_given;
+  told = counting.told_by_message;
   keys_taken = keeping.keys_taken;
 }

@@ -1,5 +1,5 @@
-use Rattle.std.proofs.Common.{◌≡◌, ◌+◌, List, [], ◌∷◌, ◌++◌, Option, Some, sym, ap, ◌∙◌}
-use Rattle.std.specs.Prelude.{is_some}
+use Rattle.std.proofs.Common.{◌≡◌, ◌≤◌, ℕ, length, subst, ◌+◌, List, [], ◌∷◌, ◌++◌, Option, Some, sym, ap, ◌∙◌}
+use Rattle.std.specs.Prelude.{is_some, max}
 use Rattle.domain_base.specs.declared.names.Node.{Node}
 use Rattle.domain_base.specs.declared.names.Node.TheVariants.{Ap, Sta}
 use Rattle.domain_rules.specs.Frames.{sent_m1}
@@ -21,6 +21,9 @@ returns-clause-begun c =
       number = number;
       drawn = ap (λ (s : State). s.drawn + 1) c.self.view_is;
       group = ap (λ (s : State). s.group) c.self.view_is;
+      owing = ap (λ (s : State). s.owing) c.self.view_is;
+      few = subst (λ (n : ℕ). length c.begin-had_attempt.new.stations.items ≤ max n 65536) (ap (λ (s : State). length s.stations) c.self.view_is)
+          (subst (λ (n : ℕ). n ≤ max (length c.self.inside.stations.items) 65536) (sym c.begin-had_attempt.ensures.length) c.make_place.ensures.few);
       part = c.begin-part.result;
       is = c.begin-had_attempt.ensures.begun
           ∙ ap (λ (x : Option Part). Some (with_session (session_in x) c.begin-part.result)) (c.make_place.ensures.same sta ∙ ap (λ (s : State). station_at s.stations sta) c.self.view_is);

@@ -1,4 +1,4 @@
-use Rattle.eapol_key.specs.declared.messages.Message.TheVariants.{M2, M4}
+use Rattle.eapol_key.specs.declared.messages.Message.TheVariants.{M2, M4, G2}
 use Rattle.authenticator.specs.Judged.{frame_of}
 use Rattle.authenticator.specs.Taken.{given}
 use Rattle.authenticator.proofs.Refusing.{as_message, no_other}
@@ -8,9 +8,12 @@ pub returns-in-M2-clause-steps : goal.returns-in-M2-clause-steps
 returns-in-M2-clause-steps c = as_message c.args.self.now c.take_m2.new.self c.args.message M2 (frame_of c.args.frame.now) c.args.newest.now c.args.rsc c.take_m2.result c.take_m2.new.reply c.in-M2.is c.take_m2.ensures.steps
 
 pub returns-in-M4-clause-steps : goal.returns-in-M4-clause-steps
-returns-in-M4-clause-steps c =
-    as_message c.args.self.now c.take_m4.new.self c.args.message M4 (frame_of c.args.frame.now) c.args.newest.now c.args.rsc c.take_m4.result c.take_m4.new.reply c.in-M4.is (c.take_m4.ensures.steps c.args.newest.now c.args.rsc)
+returns-in-M4-clause-steps c = as_message c.args.self.now c.take_m4.new.self c.args.message M4 (frame_of c.args.frame.now) c.args.newest.now c.args.rsc c.take_m4.result c.take_m4.new.reply c.in-M4.is c.take_m4.ensures.steps
+
+pub returns-in-G2-clause-steps : goal.returns-in-G2-clause-steps
+returns-in-G2-clause-steps c =
+    as_message c.args.self.now c.take_g2.new.self c.args.message G2 (frame_of c.args.frame.now) c.args.newest.now c.args.rsc c.take_g2.result c.take_g2.new.reply c.in-G2.is (c.take_g2.ensures.steps c.args.rsc)
 
 pub returns-in_default-clause-steps : goal.returns-in_default-clause-steps
 returns-in_default-clause-steps c =
-    no_other c.args.self.now (given c.args.message (frame_of c.args.frame.now) c.args.newest.now c.args.rsc) c.empty.result c.in_default.not-M2 c.in_default.not-M4 c.empty.ensures
+    no_other c.args.self.now (given c.args.message (frame_of c.args.frame.now) c.args.newest.now c.args.rsc) c.empty.result c.in_default.not-M2 c.in_default.not-M4 c.in_default.not-G2 c.empty.ensures

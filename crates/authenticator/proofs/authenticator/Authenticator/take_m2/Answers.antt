@@ -1,4 +1,4 @@
-use Rattle.std.proofs.Common.{◌≡◌, Option, Some, None, sym, ap, subst, ◌∙◌}
+use Rattle.std.proofs.Common.{Option, Some, sym, ap, subst, ◌∙◌}
 use Rattle.eapol_key.specs.declared.messages.Message.TheVariants.{M2}
 use Rattle.run_journal.specs.declared.acts.Outcome.TheVariants.{Accepted, Refused}
 use Rattle.run_journal.specs.declared.acts.Reason.TheVariants as reason

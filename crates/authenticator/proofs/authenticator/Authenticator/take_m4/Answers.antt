@@ -11,27 +11,27 @@ use Rattle.authenticator.proofs.Finishing.{takes_refused_m4, takes_finished}
 use Rattle.authenticator.proofs.authenticator.Authenticator.take_m4.Goals as goal
 
 pub returns-in_default-clause-steps : goal.returns-in_default-clause-steps
-returns-in_default-clause-steps c newest rsc =
+returns-in_default-clause-steps c =
     let s : State = record { ends = c.self.inside.ends; psk = c.self.inside.psk; attempt = c.self.inside.attempt; session = c.self.inside.session } in
     let none : s.attempt ≡ None = sym c.take.ensures.value ∙ c.in_default.is in
     rw (← c.self.view_is)
-    (steps_to s s (record s { attempt = c.take.new.self }) (given M4 (frame_of c.args.frame.now) newest rsc) (Refused reason.Unawaited) c.args.reply.now
-    (ap (λ (o : Option Attempt). record s { attempt = o }) (none ∙ sym c.take.ensures.after)) (no_m4 s (frame_of c.args.frame.now) newest rsc c.args.reply.now none c.requires.empty))
+    (steps_to s s (record s { attempt = c.take.new.self }) (given M4 (frame_of c.args.frame.now) c.args.newest.now c.args.rsc) (Refused reason.Unawaited) c.args.reply.now
+    (ap (λ (o : Option Attempt). record s { attempt = o }) (none ∙ sym c.take.ensures.after)) (no_m4 s (frame_of c.args.frame.now) c.args.newest.now c.args.rsc c.args.reply.now none c.requires.empty))
 
 pub returns-in-Refused-clause-steps : goal.returns-in-Refused-clause-steps
-returns-in-Refused-clause-steps c newest rsc =
+returns-in-Refused-clause-steps c =
     let s : State = record { ends = c.self.inside.ends; psk = c.self.inside.psk; attempt = c.self.inside.attempt; session = c.self.inside.session } in
     let some : s.attempt ≡ Some c.in-Some.attempt = sym c.take.ensures.value ∙ c.in-Some.is in
     rw (← c.self.view_is)
-    (steps_to s s (record s { attempt = Some c.in-Refused.attempt }) (given M4 (frame_of c.args.frame.now) newest rsc) (Refused c.in-Refused.why) c.args.reply.now
+    (steps_to s s (record s { attempt = Some c.in-Refused.attempt }) (given M4 (frame_of c.args.frame.now) c.args.newest.now c.args.rsc) (Refused c.in-Refused.why) c.args.reply.now
     (ap (λ (o : Option Attempt). record s { attempt = o }) (some ∙ ap (λ (a : Attempt). Some a) (sym c.in-Refused.ensures.0)))
-    (takes_refused_m4 s c.in-Some.attempt (frame_of c.args.frame.now) newest rsc c.in-Refused.why c.args.reply.now some c.in-Refused.ensures.1 c.requires.empty))
+    (takes_refused_m4 s c.in-Some.attempt (frame_of c.args.frame.now) c.args.newest.now c.args.rsc c.in-Refused.why c.args.reply.now some c.in-Refused.ensures.1 c.requires.empty))
 
 pub returns-in-Finished-clause-steps : goal.returns-in-Finished-clause-steps
-returns-in-Finished-clause-steps c newest rsc =
+returns-in-Finished-clause-steps c =
     let s : State = record { ends = c.self.inside.ends; psk = c.self.inside.psk; attempt = c.self.inside.attempt; session = c.self.inside.session } in
-    let x = c.in-Finished.session in
+    let u = c.install-session.result in
     rw (← c.self.view_is)
-    (steps_to s (record s { attempt = None; session = Some x }) (record s { attempt = c.take.new.self; session = Some x }) (given M4 (frame_of c.args.frame.now) newest rsc) Accepted (record c.args.reply.now { verified = Some x.key.ptk.kck; installed = Some x.key })
-    (ap (λ (o : Option Attempt). record s { attempt = o; session = Some x }) (sym c.take.ensures.after))
-    (takes_finished s c.in-Some.attempt (frame_of c.args.frame.now) newest rsc x c.args.reply.now (sym c.take.ensures.value ∙ c.in-Some.is) c.in-Finished.ensures c.requires.empty))
+    (steps_to s (record s { attempt = None; session = Some u }) (record s { attempt = c.take.new.self; session = Some u }) (given M4 (frame_of c.args.frame.now) c.args.newest.now c.args.rsc) Accepted c.install-session.new.reply
+    (ap (λ (o : Option Attempt). record s { attempt = o; session = Some u }) (sym c.take.ensures.after))
+    (takes_finished s c.in-Some.attempt (frame_of c.args.frame.now) c.args.newest.now c.args.rsc c.in-Finished.finish u c.install-session.new.reply (sym c.take.ensures.value ∙ c.in-Some.is) c.in-Finished.ensures c.install-session.ensures.installed))

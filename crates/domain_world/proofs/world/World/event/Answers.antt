@@ -5,7 +5,7 @@ use Rattle.node_base.specs.Events.{event_of}
 use Rattle.domain_rules.specs.Network.{IsListed}
 use Rattle.domain_rules.specs.Explained.{push, HappensAt}
 use Rattle.domain_world.specs.State.{State}
-use Rattle.domain_world.specs.Owning.{Stand, nodes_of}
+use Rattle.domain_world.specs.Owning.{AreListed, Stand, nodes_of}
 use Rattle.domain_world.specs.Acting.{Acted}
 use Rattle.domain_world.proofs.Few.{few}
 use Rattle.domain_world.proofs.Owned.{own_event, step_event}
@@ -16,16 +16,18 @@ journal_acts-requires-clause-room c =
     let j = c.args.journal.now.entries in
     let stand = subst (λ (w : State). Stand (nodes_of w) j) (sym c.self.view_is) c.requires.own.stand in
     let acted = c.in_ok-step.ensures.acted j stand in
+    let listed = subst (λ (w : State). AreListed (nodes_of w)) (sym c.self.view_is) c.requires.own.listed in
     let short = few _ 0 c.at_node-node.result.0 (history c.at_node-node.result.0 j) (event_of c.at_node-node.result.1) c.step.new.out.acts acted.adds in
-    omega (arith, short, c.in_ok-reserve.ensures.spare)
+    omega (arith, short, c.in_ok-reserve.ensures.spare, listed.count_stas)
 
 pub journal_acts-requires-clause-places : goal.journal_acts-requires-clause-places
 journal_acts-requires-clause-places c =
     let j = c.args.journal.now.entries in
     let stand = subst (λ (w : State). Stand (nodes_of w) j) (sym c.self.view_is) c.requires.own.stand in
     let acted = c.in_ok-step.ensures.acted j stand in
+    let listed = subst (λ (w : State). AreListed (nodes_of w)) (sym c.self.view_is) c.requires.own.listed in
     let short = few _ 0 c.at_node-node.result.0 (history c.at_node-node.result.0 j) (event_of c.at_node-node.result.1) c.step.new.out.acts acted.adds in
-    omega (arith, short, c.in_ok-reserve-2.ensures.ok)
+    omega (arith, short, c.in_ok-reserve-2.ensures.ok, listed.count_stas)
 
 pub returns-clause-step : goal.returns-clause-step
 returns-clause-step c =

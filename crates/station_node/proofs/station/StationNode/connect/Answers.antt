@@ -28,7 +28,7 @@ returns c =
     let s = the_view c.self.inside in
     let node_is : c.args.here.node ≡ Sta s.number = c.requires.node ∙ ap (λ (t : State). Sta t.number) (sym c.self.view_is) in
     subst (λ (t : State). IsTaken d (Begin c.args.ap) (turn t (asked_state s c.args.ap c.nonce-snonce.result) c.args.out.now.acts c.add-4.new.self.acts) Done) c.self.view_is
-    (taken-asked d s _ c.args.ap c.nonce-snonce.result c.in_ok-request.request c.args.out.now.acts c.leave-2.new.out.acts c.add-2.new.self.acts c.add-3.new.self.acts c.add-4.new.self.acts c.requires.ap (omega arith)
+    (taken-asked d s _ c.args.ap c.nonce-snonce.result c.in_ok-request.request c.args.out.now.acts c.close.new.out.acts c.add-2.new.self.acts c.add-3.new.self.acts c.add-4.new.self.acts c.requires.ap (omega arith)
     (c.nonce-snonce.ensures ∙ ap (λ (n : Node). nonce d n s.drawn) node_is) refl
-    (c.leave-2.ensures.acts ∙ ap (λ (l : List AnyAct). l ++ close_associated (peer_of_session s.session)) (c.leave.ensures.acts ∙ ap (λ (l : List AnyAct). l ++ close_pending (peer_of_attempt s.attempt)) c.in_ok-reserve-2.ensures.acts))
+    (c.close.ensures.acts ∙ ap (λ (l : List AnyAct). (l ++ close_pending (peer_of_attempt s.attempt)) ++ close_associated (peer_of_session s.session)) c.in_ok-reserve-2.ensures.acts)
     c.add-2.ensures.acts c.add-3.ensures.acts (c.in_ok-request.ensures ∙ ap (λ (n : Node). sent_assoc_req d n (Ap c.args.ap)) node_is) c.add-4.ensures.acts)

@@ -1,4 +1,4 @@
-use Rattle.std.proofs.Common.{Option, sym, subst, ◌∙◌}
+use Rattle.std.proofs.Common.{Option, refl, sym, subst, inr, ◌∙◌}
 use Rattle.supplicant.specs.declared.attempt.Attempt.{Attempt}
 use Rattle.supplicant.specs.Keys.{IsKeyInAttempt}
 use Rattle.supplicant.proofs.OwnKeys.{begun_keys}
@@ -9,4 +9,5 @@ invariant_of-result c = record {
   suite = λ e. c.requires.suite (sym c.between-ends.ensures.ends.akm ∙ e);
   tried = subst (λ (x : Option Attempt). IsKeyInAttempt c.between-ends.result c.args.domain.now.psk x) (sym c.first_attempt.ensures) (begun_keys c.between-ends.result c.args.domain.now.psk c.args.start);
   held = tt;
+  alone = inr refl;
 }

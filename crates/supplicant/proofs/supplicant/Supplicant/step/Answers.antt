@@ -15,5 +15,10 @@ returns-in-M3 c =
     subst (λ (m : Message). IsTaken m c.args.frame.now (both c.args.self.now c.args.memory.now) (both c.take_m3.new.self c.take_m3.new.memory) c.take_m3.result c.take_m3.new.reply) (sym c.in-M3.is)
     c.take_m3.ensures
 
+pub returns-in-G1 : goal.returns-in-G1
+returns-in-G1 c =
+    subst (λ (m : Message). IsTaken m c.args.frame.now (both c.args.self.now c.args.memory.now) (both c.take_g1.new.self c.take_g1.new.memory) c.take_g1.result c.take_g1.new.reply) (sym c.in-G1.is)
+    c.take_g1.ensures
+
 pub returns-in_default : goal.returns-in_default
-returns-in_default c = taken_other c.args.message c.args.frame.now c.args.self.now c.args.memory.now c.empty.result c.empty.ensures c.in_default.not-M1 c.in_default.not-M3
+returns-in_default c = taken_other c.args.message c.args.frame.now c.args.self.now c.args.memory.now c.empty.result c.empty.ensures c.in_default.not-M1 c.in_default.not-M3 c.in_default.not-G1

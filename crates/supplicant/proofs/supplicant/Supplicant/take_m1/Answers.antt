@@ -1,4 +1,4 @@
-use Rattle.std.proofs.Common.{Some, subst}
+use Rattle.std.proofs.Common.{Some, subst, inr}
 use Rattle.eapol_key.specs.declared.messages.Message.TheVariants.{M1}
 use Rattle.run_journal.specs.declared.acts.Outcome.TheVariants.{Accepted, Refused}
 use Rattle.run_journal.specs.declared.acts.Reason.TheVariants as reason
@@ -6,7 +6,7 @@ use Rattle.supplicant.specs.contracts.supplicant.Supplicant.{the_view}
 use Rattle.supplicant.specs.State.{State, having, both}
 use Rattle.supplicant.specs.Taken.{IsTaken}
 use Rattle.supplicant.proofs.TakenM1.{m1_unawaited, m1_accepted}
-use Rattle.supplicant.proofs.OwnKeys.{answered_key}
+use Rattle.supplicant.proofs.OwnKeys.{answered_key, no_session}
 use Rattle.supplicant.proofs.supplicant.Supplicant.take_m1.Goals as goal
 
 pub invariant_of-self : goal.invariant_of-self
@@ -14,6 +14,7 @@ invariant_of-self c = record {
   suite = c.self.invariant.suite;
   tried = answered_key c.self.inside.ends c.self.inside.psk c.args.frame.now c.in-Some.attempt c.take_m1.result c.take_m1.new.reply c.take_m1.ensures.answers;
   held = c.self.invariant.held;
+  alone = inr (no_session c.self.inside.attempt c.in-Some.attempt c.self.inside.session c.in-Some.is c.self.invariant.alone);
 }
 
 pub returns-in_default : goal.returns-in_default

@@ -1,4 +1,4 @@
-use Rattle.std.proofs.Common.{Some, None, sym, subst}
+use Rattle.std.proofs.Common.{Some, None, refl, sym, subst, inl}
 use Rattle.eapol_key.specs.declared.messages.Message.TheVariants.{M3}
 use Rattle.run_journal.specs.declared.acts.Outcome.TheVariants.{Accepted, Refused}
 use Rattle.supplicant.specs.contracts.supplicant.Supplicant.{the_view}
@@ -14,6 +14,7 @@ invariant_of-self c = record {
   suite = c.self.invariant.suite;
   tried = tt;
   held = tried_key c.self.inside.ends c.self.inside.psk c.self.inside.attempt c.in-Some.attempt c.in-Ok.session.key c.in-Some.is c.in-Ok.ensures.key c.self.invariant.tried;
+  alone = inl refl;
 }
 
 pub returns-in_default : goal.returns-in_default

@@ -1,4 +1,4 @@
-use Rattle.std.proofs.Common.{Some, subst, ◌∙◌, ap}
+use Rattle.std.proofs.Common.{Some, subst, ◌∙◌, ap, inl}
 use Rattle.eapol_key.specs.declared.messages.Message.TheVariants.{M3}
 use Rattle.run_journal.specs.declared.acts.Outcome.TheVariants.{Answered, Refused}
 use Rattle.run_journal.specs.declared.acts.Reason.TheVariants as reason
@@ -15,6 +15,7 @@ invariant_of-self c = record {
   suite = c.self.invariant.suite;
   tried = c.self.invariant.tried;
   held = repeated_key c.self.inside.ends c.self.inside.psk c.args.frame.now c.self.inside.session c.in-Some.session c.in-Ok.session c.take_m3.new.reply c.in-Some.is c.self.invariant.held c.in-Ok.ensures.repeats;
+  alone = inl (ap (λ (t : State). t.attempt) c.self.view_is ∙ c.requires.alone);
 }
 
 pub returns-in_default : goal.returns-in_default

@@ -1,0 +1,126 @@
+-- What there is with a station is dropped.
+use Rattle.std.proofs.Common.{◌≡◌, ℕ, ◌+◌, ◌≤◌, Bool, true, false, List, ◌∷◌, ◌++◌, Option, Some, None, refl, sym, ap, subst, ◌∙◌}
+use Rattle.std.specs.Prelude.{is_some}
+use Rattle.std.specs.List.{AllByRecursion}
+use Rattle.domain_base.specs.declared.names.Node.{Node}
+use Rattle.domain_base.specs.declared.names.Node.TheVariants.{Ap, Sta}
+use Rattle.run_journal.specs.declared.domain.Domain.{Domain}
+use Rattle.run_journal.specs.declared.acts.Part.TheVariants.{Attempt as OfAttempt, Session as OfSession}
+use Rattle.run_journal.specs.declared.acts.Reason.{Reason}
+use Rattle.run_journal.specs.declared.acts.Why.TheVariants as why
+use Rattle.run_journal.specs.declared.acts.Outcome.{Outcome}
+use Rattle.run_journal.specs.declared.acts.Outcome.TheVariants.{Refused}
+use Rattle.run_journal.specs.declared.acts.Act.{Act}
+use Rattle.run_journal.specs.declared.acts.Act.TheVariants.{Closed, Idle}
+use Rattle.run_journal.specs.Acts.{same, Derivation}
+use Rattle.run_journal.specs.Questions.{attempt, session, draws, add}
+use Rattle.domain_rules.specs.Network.{draw_end}
+use Rattle.domain_rules.specs.Closing.{close_attempt, close_session, or_nothing}
+use Rattle.domain_rules.specs.AccessPointRows.{expire_acts}
+use Rattle.domain_rules.specs.Rows.{Expire, outcome_of}
+use Rattle.domain_rules.proofs.Parts.{same-refl, IsApart, apart-closed, apart-closed_session, apart-idle, attempt_ends, attempt_none}
+use Rattle.node_base.specs.Events.{seen}
+use Rattle.authenticator.specs.State.{State as Part}
+use Rattle.authenticator.proofs.Standing.{has_attempt, has_session, other_on}
+use Rattle.ap_node.specs.State.{State, station_at, attempt_in, session_in}
+use Rattle.ap_node.specs.Stands.{HasPart}
+use Rattle.ap_node.specs.Takes.{IsDone, expired_acts}
+use Rattle.ap_node.proofs.Others.{IsSameGroup}
+use Rattle.ap_node.proofs.Standing.{has_attempt_in, has_session_in, stands_with_one}
+use Rattle.ap_node.proofs.Messaging.{IsBeside}
+
+-- ---- the acts
+
+by_history : (p : Node) (a : Option (List Act)) (s : Option Derivation) → expired_acts p (is_some a) (is_some s) ≡ or_nothing (close_attempt p a ++ close_session p s)
+by_history p None None = refl
+by_history p None (Some x) = refl
+by_history p (Some part) None = refl
+by_history p (Some part) (Some x) = refl
+
+expired_is : (d : Domain) (n : Node) (sta : ℕ) (o : Option Part) (h : List Act) → HasPart d n sta o h → expired_acts (Sta sta) (is_some (attempt_in o)) (is_some (session_in o)) ≡ expire_acts (Sta sta) h
+expired_is d n sta o h at =
+    same_tests (sym (has_attempt d n (Sta sta) (attempt_in o) h (has_attempt_in d n sta o h at))) (sym (has_session d n (Sta sta) (session_in o) h (has_session_in d n sta o h at)))
+    ∙ by_history (Sta sta) (attempt (Sta sta) h) (session (Sta sta) h)
+  where
+    same_tests : {a b c e : Bool} → a ≡ b → c ≡ e → expired_acts (Sta sta) a c ≡ expired_acts (Sta sta) b e
+    same_tests f g = rw (f, g) refl
+
+-- ---- what they leave
+
+none_of : {A : Type 0} (o : Option A) → is_some o ≡ false → o ≡ None
+none_of None is = refl
+none_of (Some x) is = absurd (cc is)
+
+no_attempt_left : (sta : ℕ) (h : List Act) (a s : Bool) → is_some (attempt (Sta sta) h) ≡ a → attempt (Sta sta) (add (expired_acts (Sta sta) a s) h) ≡ None
+no_attempt_left sta h false false is = attempt_none (Sta sta) (Idle why.Nothing) h refl (none_of (attempt (Sta sta) h) is)
+no_attempt_left sta h false true is = attempt_none (Sta sta) (Closed (Sta sta) OfSession) h refl (none_of (attempt (Sta sta) h) is)
+no_attempt_left sta h true false is = attempt_ends (Sta sta) (Closed (Sta sta) OfAttempt) h refl (same-refl (Sta sta))
+no_attempt_left sta h true true is =
+    attempt_none (Sta sta) (Closed (Sta sta) OfSession) (Closed (Sta sta) OfAttempt ∷ h) refl (attempt_ends (Sta sta) (Closed (Sta sta) OfAttempt) h refl (same-refl (Sta sta)))
+
+no_session_left : (p : Node) (h : List Act) (a s : Bool) → is_some (session p h) ≡ s → session p (add (expired_acts p a s) h) ≡ None
+no_session_left p h false false is = none_of (session p h) is
+no_session_left p h false true is = rw (same-refl p) refl
+no_session_left p h true false is = none_of (session p h) is
+no_session_left p h true true is = rw (same-refl p) refl
+
+expired-group : (p : Node) (a s : Bool) (h : List Act) → IsSameGroup h (add (expired_acts p a s) h)
+expired-group p false false h = record { gtks_are = refl; switches_are = refl; uses_are = refl }
+expired-group p false true h = record { gtks_are = refl; switches_are = refl; uses_are = refl }
+expired-group p true false h = record { gtks_are = refl; switches_are = refl; uses_are = refl }
+expired-group p true true h = record { gtks_are = refl; switches_are = refl; uses_are = refl }
+
+expired-draws : (p : Node) (a s : Bool) (h : List Act) → draws (add (expired_acts p a s) h) ≡ draws h
+expired-draws p false false h = refl
+expired-draws p false true h = refl
+expired-draws p true false h = refl
+expired-draws p true true h = refl
+
+expired-apart : (q : ℕ) (p : Node) (a s : Bool) → same (Sta q) p ≡ false → AllByRecursion (IsApart (Sta q)) (expired_acts p a s)
+expired-apart q p false false other = (apart-idle (Sta q) why.Nothing, tt)
+expired-apart q p false true other = (apart-closed_session (Sta q) p other, tt)
+expired-apart q p true false other = (apart-closed q p other, tt)
+expired-apart q p true true other = (apart-closed q p other, (apart-closed_session (Sta q) p other, tt))
+
+never_refused : (p : Node) (a s : Bool) (o : Outcome) (why_ : Reason) → o ≡ outcome_of (expired_acts p a s) → o ≡ Refused why_ → ⊥
+never_refused p false false o why_ is refused = cc (is, refused)
+never_refused p false true o why_ is refused = cc (is, refused)
+never_refused p true false o why_ is refused = cc (is, refused)
+never_refused p true true o why_ is refused = cc (is, refused)
+
+pub drops : (d : Domain) (old new : State) (sta : ℕ) (a s : Bool) (waited waits : List Act) (outcome : Outcome) → IsBeside old new sta → a ≡ is_some (attempt_in (station_at old.stations sta)) → s ≡ is_some (session_in (station_at old.stations sta))
+    → station_at new.stations sta ≡ None → waits ≡ waited ++ expired_acts (Sta sta) a s → outcome ≡ outcome_of (expired_acts (Sta sta) a s) → IsDone d (Expire sta) old new (seen waited waits outcome)
+drops d old new sta a s waited waits outcome beside a_is s_is gone waiting came_is = record {
+  number = beside.number;
+  does = λ first h stands.
+      (let n = Ap old.number in
+      let p = Sta sta in
+      let o = station_at old.stations sta in
+      let so_far = stands.so_far in
+      let at = so_far.parts sta in
+      let said = expired_acts p a s in
+      let has_a : is_some (attempt p h) ≡ a = has_attempt d n p (attempt_in o) h (has_attempt_in d n sta o h at) ∙ sym a_is in
+      let has_s : is_some (session p h) ≡ s = has_session d n p (session_in o) h (has_session_in d n sta o h at) ∙ sym s_is in
+      record {
+        acts = said;
+        row = both a_is s_is ∙ expired_is d n sta o h at;
+        waiting = waiting;
+        came = came_is;
+        stands = stands_with_one d first old new h (add said h) sta so_far (record {
+          number = beside.number;
+          drawn = beside.drawn ∙ so_far.draws_are ∙ ap (λ (m : ℕ). first + m) (sym (expired-draws p a s h));
+          drawn_low = subst (λ (m : ℕ). m ≤ draw_end) (sym beside.drawn) so_far.draws_low;
+          group = beside.group;
+          few = subst (λ (m : ℕ). m ≤ 65536) (sym beside.length_is) so_far.few;
+          counted = beside.counts so_far.counted so_far.few;
+          same_group = expired-group p a s h;
+          here = subst (λ (x : Option Part). HasPart d n sta x (add said h)) (sym gone) (no_attempt_left sta h a s has_a, no_session_left p h a s has_s);
+          others = beside.others;
+          goes = λ k other. other_on (Sta k) said h (expired-apart k p a s other);
+        });
+      });
+  refused = λ why_ is. absurd (never_refused (Sta sta) a s outcome why_ came_is is);
+}
+  where
+    both : {b c e f : Bool} → b ≡ c → e ≡ f → expired_acts (Sta sta) b e ≡ expired_acts (Sta sta) c f
+    both g k = rw (g, k) refl

@@ -1,0 +1,164 @@
+-- The switch to the newest group key, beside that of the rows.
+use Rattle.std.proofs.Common.{◌≡◌, ℕ, zero, suc, ◌<◌, ◌≤◌, Bool, true, false, cond, List, [], ◌∷◌, length, Option, Some, None, is_some, refl, sym, ap, subst, ◌∙◌, arith, inl, inr}
+use Rattle.std.specs.Prelude.{◌==◌, ◌&&◌, ◌||◌, ◌⊎◌, not, nat_lt}
+use Rattle.std.proofs.lemmas.Bool.{cases_Bool, eqb-true, eq-eqb, ltb-true, ltb-false}
+use Rattle.domain_base.specs.declared.names.Mac.{Mac}
+use Rattle.domain_base.specs.declared.names.Node.{Node}
+use Rattle.domain_base.specs.declared.names.Node.TheVariants.{Ap, Sta}
+use Rattle.domain_base.specs.declared.names.Peer.TheVariants.{All}
+use Rattle.run_journal.specs.declared.domain.Domain.{Domain}
+use Rattle.run_journal.specs.declared.acts.Key.TheVariants.{Group}
+use Rattle.run_journal.specs.declared.acts.Act.{Act}
+use Rattle.run_journal.specs.declared.acts.Act.TheVariants.{Installed}
+use Rattle.run_journal.specs.GroupKinds as groups
+use Rattle.run_journal.specs.Acts.{GroupKey as Carried, Derivation}
+use Rattle.run_journal.specs.Questions.{group_keys, add}
+use Rattle.domain_rules.specs.Network.{mac}
+use Rattle.domain_rules.specs.GroupKeys.{newest, is_current}
+use Rattle.domain_rules.specs.Owing.{owing, any_owes, switch_acts}
+use Rattle.domain_rules.proofs.Parts.{IsApart}
+use Rattle.group_key.specs.declared.keys.GroupKey.{GroupKey}
+use Rattle.group_key.specs.Holds.{IsLast, Holds}
+use Rattle.group_key.proofs.Drawing.{newest_is, in_use, made_current}
+use Rattle.authenticator.specs.State.{State as Part}
+use Rattle.authenticator.proofs.Handshaking.{owes_is, owing_no_session}
+use Rattle.authenticator.proofs.Standing.{other_on}
+use Rattle.ap_node.specs.State.{State, station_at}
+use Rattle.ap_node.specs.Counts.{owes_part}
+use Rattle.ap_node.specs.Stands.{HasPart, StandsSoFar, IsSettled, Stands}
+use Rattle.ap_node.specs.Switching.{is_due, in_use as both_newest, switched, due_acts}
+use Rattle.ap_node.proofs.Owed.{owes_at, count_some, none_owes}
+use Rattle.ap_node.proofs.Standing.{part_on}
+
+-- ---- whether a session owes, by the count
+
+part_owes : (d : Domain) (n : Node) (k : ℕ) (o : Option Part) (g : GroupKey) (h : List Act) → IsLast g (group_keys groups.Gtk h) → HasPart d n k o h → is_some (owing groups.Gtk (Sta k) h) ≡ owes_part g.place o
+part_owes d n k None g h last at = ap (λ (x : Option Derivation). is_some x) (owing_no_session (Sta k) h at.1)
+part_owes d n k (Some x) g h last at = owes_is d n (Sta k) x.session g h last at.1.session_is
+
+any_none : (h : List Act) (n : ℕ) → ((k : ℕ) → is_some (owing groups.Gtk (Sta k) h) ≡ false) → any_owes groups.Gtk n h ≡ false
+any_none h zero none = refl
+any_none h (suc n) none = rw (none n) (any_none h n none)
+
+any_later : (h : List Act) (k : ℕ) (b : Bool) (c : Bool) → c ≡ true → (b || c) ≡ true
+any_later h k true c is = refl
+any_later h k false c is = is
+
+any_some : (h : List Act) (n k : ℕ) → k < n → is_some (owing groups.Gtk (Sta k) h) ≡ true → any_owes groups.Gtk n h ≡ true
+any_some h zero k low is = absurd (omega (arith, low))
+any_some h (suc n) k low is = elim (cases_Bool (k == n)) [
+  | inl same ↦ (let here : is_some (owing groups.Gtk (Sta n) h) ≡ true = subst (λ (i : ℕ). is_some (owing groups.Gtk (Sta i) h) ≡ true) (eqb-true k n same) is in rw here refl)
+  | inr other ↦ any_later h k (is_some (owing groups.Gtk (Sta n) h)) (any_owes groups.Gtk n h) (any_some h n k (below k n low other) is)
+]
+  where
+    below : (k n : ℕ) → k < suc n → (k == n) ≡ false → k < n
+    below k n low other = elim (cases_Bool (nat_lt k n)) [
+      | inl is ↦ ltb-true k n is
+      | inr none ↦ absurd (cc (eq-eqb k n (omega (arith, low, ltb-false k n none)), other))
+    ]
+
+-- a station that owes is listed
+listed_by : (d : Domain) (n : Node) (k place : ℕ) (o : Option Part) (h : List Act) → HasPart d n k o h → owes_part place o ≡ true → k < length d.stas
+listed_by d n k place None h at is = absurd (cc is)
+listed_by d n k place (Some x) h at is = at.0
+
+owes_station : (d : Domain) (first : ℕ) (s : State) (h : List Act) (k : ℕ) → StandsSoFar d first s h → is_some (owing groups.Gtk (Sta k) h) ≡ owes_at s.group.newest.place s.stations k
+owes_station d first s h k at = part_owes d (Ap s.number) k (station_at s.stations k) s.group.newest h at.group_is.newest (at.parts k)
+
+not_zero : (n : ℕ) → (n == 0) ≡ false → 1 ≤ n
+not_zero zero other = absurd (cc (eq-eqb 0 0 refl, other))
+not_zero (suc n) other = omega arith
+
+any_is : (d : Domain) (first : ℕ) (s : State) (h : List Act) → StandsSoFar d first s h → any_owes groups.Gtk (length d.stas) h ≡ not (s.owing == 0)
+any_is d first s h at = elim (cases_Bool (s.owing == 0)) [
+  | inl zero_is ↦ (let none = none_owes s.group.newest.place s.stations (sym at.counted ∙ eqb-true s.owing 0 zero_is) in
+      rw zero_is (any_none h (length d.stas) (λ k. owes_station d first s h k at ∙ none k)))
+  | inr some ↦ (let one = count_some s.group.newest.place s.stations (above at.counted some) in
+      rw some (any_some h (length d.stas) one.0 (listed_by d (Ap s.number) one.0 s.group.newest.place (station_at s.stations one.0) h (at.parts one.0) one.1) (owes_station d first s h one.0 at ∙ one.1)))
+]
+  where
+    above : {n m : ℕ} → n ≡ m → (n == 0) ≡ false → 1 ≤ m
+    above {n} {m} is some = omega (arith, is, not_zero n some)
+
+-- ---- the acts of the switch
+
+switch_by : (b c : Bool) (g k : List Act) → g ≡ k → cond (b || not c) [] g ≡ cond (not b && c) k []
+switch_by true true g k is = refl
+switch_by true false g k is = refl
+switch_by false true g k is = is
+switch_by false false g k is = refl
+
+same_install : {x y : Carried} (b : Mac) → x ≡ y → Installed All (Group x.key x.id b) ∷ [] ≡ Installed All (Group y.key y.id b) ∷ []
+same_install b e = rw e refl
+
+pub switch_is : (d : Domain) (first : ℕ) (s : State) (h : List Act) → StandsSoFar d first s h → switch_acts d s.number h ≡ due_acts d s
+switch_is d first s h at =
+    tests (in_use s.group h at.group_is) (any_is d first s h at)
+    ∙ switch_by (s.group.newest.place == s.group.current.place) (s.owing == 0) _ _ (same_install (mac d (Ap s.number)) (newest_is s.group h at.group_is))
+  where
+    tests : {b c : Bool} → is_current groups.Gtk h ≡ b → any_owes groups.Gtk (length d.stas) h ≡ c
+        → switch_acts d s.number h ≡ cond (b || c) [] (Installed All (Group (newest groups.Gtk h).key (newest groups.Gtk h).id (mac d (Ap s.number))) ∷ [])
+    tests e f = rw (e, f) refl
+
+-- ---- the access point after the switch
+
+apart-all : (p : Node) (key : List ℕ) (id : ℕ) (b : Mac) → IsApart p (Installed All (Group key id b))
+apart-all p key id b = record { opens_none = refl; ends_none = refl; accepts_none = λ k. refl; replies_none = λ k. refl; sends_none = λ m. refl; derives_none = refl; finishes_none = refl; closes_none = refl }
+
+-- the newest group key is not in use yet: it is the next
+next_by : (s : State) → (s.group.newest.place == s.group.current.place) ≡ false → (s.group.newest.place ≡ s.group.current.place) ⊎ (s.group.newest.place ≡ suc s.group.current.place) → s.group.newest.place ≡ suc s.group.current.place
+next_by s other (inl same) = absurd (cc (eq-eqb s.group.newest.place s.group.current.place same, other))
+next_by s other (inr next) = next
+
+both_true : (a b : Bool) → (not a && b) ≡ true → (a ≡ false) × (b ≡ true)
+both_true true b is = absurd (cc is)
+both_true false b is = (refl, is)
+
+due_so_far : (d : Domain) (first : ℕ) (s : State) (h : List Act) → StandsSoFar d first s h → is_due s ≡ true
+    → StandsSoFar d first (record s { group = both_newest s.group }) (Installed All (Group s.group.newest.key s.group.newest.id (mac d (Ap s.number))) ∷ h)
+due_so_far d first s h at due =
+    let tests = both_true (s.group.newest.place == s.group.current.place) (s.owing == 0) due in
+    let act = Installed All (Group s.group.newest.key s.group.newest.id (mac d (Ap s.number))) in
+    let act_is : Installed All (Group (newest groups.Gtk h).key (newest groups.Gtk h).id (mac d (Ap s.number))) ≡ act = ap (λ (x : Carried). Installed All (Group x.key x.id (mac d (Ap s.number)))) (newest_is s.group h at.group_is) in
+    record {
+      draws_are = at.draws_are;
+      draws_low = at.draws_low;
+      group_is = subst (λ (e : Act). Holds (both_newest s.group) (e ∷ h)) act_is
+          (made_current s.group (both_newest s.group) (mac d (Ap s.number)) h at.group_is (next_by s tests.0 at.pending) refl refl);
+      pending = inl refl;
+      unused = refl;
+      few = at.few;
+      counted = at.counted;
+      parts = λ k. part_on d (Ap s.number) k (station_at s.stations k) h (act ∷ h) (other_on (Sta k) (act ∷ []) h (apart-all (Sta k) s.group.newest.key s.group.newest.id (mac d (Ap s.number)), tt)) (at.parts k);
+    }
+
+quiet_settled : (s : State) → is_due s ≡ false → IsSettled s
+quiet_settled s quiet = settled_by (s.group.newest.place == s.group.current.place) (s.owing == 0) refl refl quiet
+  where
+    settled_by : (a b : Bool) → (s.group.newest.place == s.group.current.place) ≡ a → (s.owing == 0) ≡ b → (not a && b) ≡ false → IsSettled s
+    settled_by true b same none is = inl (eqb-true s.group.newest.place s.group.current.place same)
+    settled_by false true same none is = absurd (cc is)
+    settled_by false false same none is = inr (not_zero s.owing none)
+
+pub stands_switched : (d : Domain) (first : ℕ) (s : State) (h : List Act) → StandsSoFar d first s h → Stands d first (switched s) (add (due_acts d s) h)
+stands_switched d first s h at = by (is_due s) refl
+  where
+    by : (b : Bool) → is_due s ≡ b → Stands d first (switched s) (add (due_acts d s) h)
+    by true due = rw due (record { so_far = due_so_far d first s h at due; settled = inl refl })
+    by false quiet = rw quiet (record { so_far = at; settled = quiet_settled s quiet })
+
+-- ---- where no switch is to come
+
+settled_quiet : (s : State) → IsSettled s → is_due s ≡ false
+settled_quiet s (inl same) = rw (eq-eqb s.group.newest.place s.group.current.place same) refl
+settled_quiet s (inr some) = none_by (not (s.group.newest.place == s.group.current.place)) (s.owing == 0) (above s.owing some)
+  where
+    above : (n : ℕ) → 1 ≤ n → (n == 0) ≡ false
+    above n some = elim (cases_Bool (n == 0)) [ inl is ↦ absurd (omega (arith, eqb-true n 0 is, some)) | inr other ↦ other ]
+
+    none_by : (a b : Bool) → b ≡ false → (a && b) ≡ false
+    none_by true b is = is
+    none_by false b is = refl
+
+pub no_switch : (d : Domain) (first : ℕ) (s : State) (h : List Act) → StandsSoFar d first s h → IsSettled s → switch_acts d s.number h ≡ []
+no_switch d first s h at settled = switch_is d first s h at ∙ ap (λ (b : Bool). cond b (Installed All (Group s.group.newest.key s.group.newest.id (mac d (Ap s.number))) ∷ []) []) (settled_quiet s settled)

@@ -1,0 +1,328 @@
+-- A new group key is given to each session: the acts are those of the row.
+use Rattle.std.proofs.Common.{◌≡◌, ℕ, zero, suc, ◌+◌, ◌<◌, ◌≤◌, false, List, [], ◌∷◌, ◌++◌, length, map, Option, Some, None, Result, Ok, Err, refl, sym, ap, subst, ◌∙◌, arith, inl, inr}
+use Rattle.std.specs.Prelude.{MatchResult}
+use Rattle.std.specs.List.{AllByRecursion}
+use Rattle.std.proofs.lemmas.List.{append-nil, append_assoc, get_or_past}
+use Rattle.std.proofs.lemmas.Bool.{cases_lt, eq-eqb}
+use Rattle.domain_base.specs.declared.names.Node.{Node}
+use Rattle.domain_base.specs.declared.names.Node.TheVariants.{Ap, Sta}
+use Rattle.eapol_key.specs.declared.messages.Message.TheVariants.{G1}
+use Rattle.run_journal.specs.declared.domain.Domain.{Domain}
+use Rattle.run_journal.specs.declared.acts.Kind.TheVariants as kind
+use Rattle.run_journal.specs.declared.acts.Drawn.TheVariants.{Gtk}
+use Rattle.run_journal.specs.declared.acts.Outcome.TheVariants.{Done}
+use Rattle.run_journal.specs.declared.acts.Act.{Act}
+use Rattle.run_journal.specs.declared.acts.Act.TheVariants.{Drew}
+use Rattle.run_journal.specs.GroupKinds as groups
+use Rattle.run_journal.specs.Acts.{same, finishes, key_drawn, sent, Derivation}
+use Rattle.run_journal.specs.Questions.{session, group_keys, group_uses, handshake, draws, add}
+use Rattle.domain_rules.specs.Network.{draw_end, gtk}
+use Rattle.domain_rules.specs.Here.{here}
+use Rattle.domain_rules.specs.Rows.{Rekey}
+use Rattle.domain_rules.specs.Asking.{offered, replay_counter}
+use Rattle.domain_rules.specs.AccessPointRows.{to_session, to_sessions, rekey_acts, Renews}
+use Rattle.domain_rules.proofs.Parts.{apart-drew, is_same, sent_more, add_append}
+use Rattle.group_key.specs.declared.keys.GroupKey.{GroupKey}
+use Rattle.group_key.specs.Keys.{placed}
+use Rattle.group_key.specs.Holds.{IsLast}
+use Rattle.group_key.proofs.Drawing.{place_low, in_use, drawn}
+use Rattle.node_base.specs.Events.{seen}
+use Rattle.act_memory.proofs.RepliedActs.{IsAbout, sent_about, about_draws, about_others}
+use Rattle.authenticator.specs.State.{State as Part}
+use Rattle.authenticator.specs.Stands.{AuthenticatorStands}
+use Rattle.authenticator.specs.Taken.{Newest}
+use Rattle.authenticator.specs.declared.session.Session.{Session}
+use Rattle.authenticator.proofs.Standing.{no_session, other_on}
+use Rattle.ap_node.specs.State.{State, station_at}
+use Rattle.ap_node.specs.Counts.{owing_count}
+use Rattle.ap_node.specs.Giving.{IsGivenIn, IsGivenAt, AreGiven}
+use Rattle.ap_node.specs.Stands.{HasPart, StandsSoFar, Stands}
+use Rattle.ap_node.specs.Takes.{Does, IsDone}
+use Rattle.ap_node.proofs.Others.{IsSameGroup, uses_none, same_group, about_group, holds_on}
+use Rattle.ap_node.proofs.Standing.{part_on}
+use Rattle.ap_node.proofs.Repeating.{counts_low}
+
+-- ---- the G1 that were sent for the newest group key
+
+handshake_more : (p : Node) (e : Act) (h : List Act) → finishes p e ≡ false → key_drawn groups.Gtk e ≡ None → handshake groups.Gtk p (e ∷ h) ≡ e ∷ handshake groups.Gtk p h
+handshake_more p e h ends drawn = rw (ends, drawn) refl
+
+offers_more : (p : Node) (e : Act) (h : List Act) → finishes p e ≡ false → key_drawn groups.Gtk e ≡ None → sent p (kind.Key G1) e ≡ None
+    → offered p G1 (handshake groups.Gtk p (e ∷ h)) ≡ offered p G1 (handshake groups.Gtk p h)
+offers_more p e h ends drawn sends =
+    ap (offered p G1) (handshake_more p e h ends drawn) ∙ ap (map replay_counter) (sent_more p (kind.Key G1) e (handshake groups.Gtk p h) sends)
+
+-- acts about one node leave those to another
+offers_on : (p q : Node) (g h : List Act) → same q p ≡ false → AllByRecursion (IsAbout p) g → offered q G1 (handshake groups.Gtk q (add g h)) ≡ offered q G1 (handshake groups.Gtk q h)
+offers_on p q [] h other all = refl
+offers_on p q (e ∷ g) h other all =
+    offers_on p q g (e ∷ h) other all.1
+    ∙ offers_more q e h (all.0.others q other).finishes_none all.0.draws_no_key ((all.0.others q other).sends_none G1)
+
+-- ---- one station
+
+-- the part with station k is as it was given the key, behind that history, and these acts are those of the row
+record IsOne (d : Domain) (a k : ℕ) (q : Option Part) (one mid : List Act) : Type 0 where
+  pub says : one ≡ to_session d (Ap a) (Sta k) mid (session (Sta k) mid)
+  pub about : AllByRecursion (IsAbout (Sta k)) one
+  pub here : HasPart d (Ap a) k q (add one mid)
+
+-- behind that history it is the newest key, so far not used, and none was sent for it to the station
+record IsNew (g : GroupKey) (k : ℕ) (mid : List Act) : Type 0 where
+  pub newest : IsLast g (group_keys groups.Gtk mid)
+  pub unused : group_uses groups.Gtk mid ≡ 0
+  pub low : draws mid ≤ draw_end
+  pub none : offered (Sta k) G1 (handshake groups.Gtk (Sta k) mid) ≡ []
+
+the_newest : (d : Domain) (a k : ℕ) (g : GroupKey) (x : Part) (mid : List Act) → IsNew g k mid → AuthenticatorStands d (Ap a) (Sta k) x mid → Newest (Sta k) g 0 mid
+the_newest d a k g x mid new at = record {
+  newest = new.newest;
+  uses = uses_none mid new.unused;
+  low = counts_low d (Ap a) (Sta k) x.session g.place g mid new.newest (omega (arith, place_low g mid new.newest, new.low)) at.session_is;
+}
+
+-- no session, no act
+not_one : (d : Domain) (a k : ℕ) (q : Option Part) (one mid : List Act) → one ≡ [] → session (Sta k) mid ≡ None → HasPart d (Ap a) k q mid → IsOne d a k q one mid
+not_one d a k q one mid is none at = record {
+  says = is ∙ sym (ap (to_session d (Ap a) (Sta k) mid) none);
+  about = subst (λ (l : List Act). AllByRecursion (IsAbout (Sta k)) l) (sym is) tt;
+  here = subst (λ (l : List Act). HasPart d (Ap a) k q (add l mid)) (sym is) at;
+}
+
+one_in : (d : Domain) (a k : ℕ) (g : GroupKey) (x y : Part) (o : Option Session) (one mid : List Act) → x.session ≡ o → IsNew g k mid → HasPart d (Ap a) k (Some x) mid → IsGivenIn k g o x y one → IsOne d a k (Some y) one mid
+one_in d a k g x y None one mid is new at given =
+    not_one d a k (Some y) one mid given.1 (no_session d (Ap a) (Sta k) x.session mid is at.1.session_is)
+    (subst (λ (z : Part). HasPart d (Ap a) k (Some z) mid) (sym given.0) at)
+one_in d a k g x y (Some s) one mid is new at given =
+    let gives = given.gives d a k mid at.1 (the_newest d a k g x mid new at.1) new.none in
+    record {
+      says = given.says ∙ sym gives.adds ∙ sym (ap (to_session d (Ap a) (Sta k) mid) gives.has);
+      about = subst (λ (l : List Act). AllByRecursion (IsAbout (Sta k)) l) (sym given.says) (sent_about (Sta k) given.reply);
+      here = subst (λ (l : List Act). HasPart d (Ap a) k (Some y) (add l mid)) (sym given.says) (at.0, gives.stands);
+    }
+
+one_at : (d : Domain) (a k : ℕ) (g : GroupKey) (o q : Option Part) (one mid : List Act) → IsNew g k mid → HasPart d (Ap a) k o mid → IsGivenAt k g o q one → IsOne d a k q one mid
+one_at d a k g None q one mid new at given =
+    not_one d a k q one mid given.1 at.1 (subst (λ (z : Option Part). HasPart d (Ap a) k z mid) (sym given.0) at)
+one_at d a k g (Some x) q one mid new at given =
+    subst (λ (z : Option Part). IsOne d a k z one mid) (sym given.1) (one_in d a k g x given.0 x.session one mid refl new at given.2)
+
+-- ---- the first so many stations
+
+-- behind the base, at which the key was drawn
+pub record IsBase (d : Domain) (a : ℕ) (g : GroupKey) (old : List (Option Part)) (base : List Act) : Type 0 where
+  pub newest : IsLast g (group_keys groups.Gtk base)
+  pub unused : group_uses groups.Gtk base ≡ 0
+  pub low : draws base ≤ draw_end
+  pub parts : (j : ℕ) → HasPart d (Ap a) j (station_at old j) base
+  pub none : (j : ℕ) → offered (Sta j) G1 (handshake groups.Gtk (Sta j) base) ≡ []
+
+-- these acts gave it to the first k stations
+pub record IsGivenTo (d : Domain) (a : ℕ) (old new : List (Option Part)) (k : ℕ) (acts base : List Act) : Type 0 where
+  pub says : acts ≡ to_sessions d (Ap a) k base
+  pub same_group : IsSameGroup base (add acts base)
+  pub draws_are : draws (add acts base) ≡ draws base
+  pub given : (j : ℕ) → j < k → HasPart d (Ap a) j (station_at new j) (add acts base)
+  pub yet : (j : ℕ) → k ≤ j → HasPart d (Ap a) j (station_at old j) (add acts base)
+  pub none : (j : ℕ) → k ≤ j → offered (Sta j) G1 (handshake groups.Gtk (Sta j) (add acts base)) ≡ []
+
+apart : (j k : ℕ) → (j ≡ k → ⊥) → same (Sta j) (Sta k) ≡ false
+apart j k other = elim (is_same (Sta j) (Sta k)) [ inl is ↦ absurd (other (cc is)) | inr none ↦ none ]
+
+new_at : (d : Domain) (a k : ℕ) (g : GroupKey) (old new : List (Option Part)) (before base : List Act) → IsBase d a g old base → IsGivenTo d a old new k before base → IsNew g k (add before base)
+new_at d a k g old new before base at so = record {
+  newest = subst (λ (keys : List (List ℕ)). IsLast g keys) (sym so.same_group.gtks_are) at.newest;
+  unused = so.same_group.uses_are ∙ at.unused;
+  low = subst (λ (n : ℕ). n ≤ draw_end) (sym so.draws_are) at.low;
+  none = so.none k (omega arith);
+}
+
+group_then : (h l m : List Act) → IsSameGroup h l → IsSameGroup l m → IsSameGroup h m
+group_then h l m one two = record { gtks_are = two.gtks_are ∙ one.gtks_are; switches_are = two.switches_are ∙ one.switches_are; uses_are = two.uses_are ∙ one.uses_are }
+
+-- one more
+one_more : (d : Domain) (a k : ℕ) (old new : List (Option Part)) (before one base : List Act) → IsGivenTo d a old new k before base → IsOne d a k (station_at new k) one (add before base) → IsGivenTo d a old new (suc k) (before ++ one) base
+one_more d a k old new before one base so x =
+    let mid = add before base in
+    let joined : add (before ++ one) base ≡ add one mid = add_append before one base in
+    let goes = λ (j : ℕ) (other : j ≡ k → ⊥) (o : Option Part) (at : HasPart d (Ap a) j o mid).
+    part_on d (Ap a) j o mid (add one mid) (other_on (Sta j) one mid (about_others (Sta k) j one (apart j k other) x.about)) at in
+    record {
+      says = says_by (to_sessions d (Ap a) k base) so.says x.says;
+      same_group = subst (λ (h : List Act). IsSameGroup base h) (sym joined) (group_then base mid (add one mid) so.same_group (about_group (Sta k) one mid x.about));
+      draws_are = ap draws joined ∙ about_draws (Sta k) one mid x.about ∙ so.draws_are;
+      given = λ j low. subst (λ (h : List Act). HasPart d (Ap a) j (station_at new j) h) (sym joined) (elim (cases_lt j k) [
+        | inl less ↦ goes j (λ is. omega (arith, is, less)) (station_at new j) (so.given j less)
+        | inr most ↦ subst (λ (i : ℕ). HasPart d (Ap a) i (station_at new i) (add one mid)) (last j k low most) x.here
+      ]);
+      yet = λ j past. subst (λ (h : List Act). HasPart d (Ap a) j (station_at old j) h) (sym joined) (goes j (λ is. omega (arith, is, past)) (station_at old j) (so.yet j (omega (arith, past))));
+      none = λ j past. ap (λ (h : List Act). offered (Sta j) G1 (handshake groups.Gtk (Sta j) h)) joined
+          ∙ offers_on (Sta k) (Sta j) one mid (apart j k (λ is. omega (arith, is, past))) x.about ∙ so.none j (omega (arith, past));
+    }
+  where
+    last : (j k : ℕ) → j < suc k → k ≤ j → k ≡ j
+    last j k low most = omega (arith, low, most)
+
+    says_by : (sends : List Act) → before ≡ sends → one ≡ to_session d (Ap a) (Sta k) (add before base) (session (Sta k) (add before base))
+        → before ++ one ≡ sends ++ to_session d (Ap a) (Sta k) (add sends base) (session (Sta k) (add sends base))
+    says_by sends is are = ap (λ (l : List Act). before ++ l) are ∙ ap (λ (l : List Act). l ++ to_session d (Ap a) (Sta k) (add l base) (session (Sta k) (add l base))) is
+
+pub given_to : (d : Domain) (a : ℕ) (g : GroupKey) (old new : List (Option Part)) (base : List Act) → IsBase d a g old base → (k : ℕ) (acts : List Act) → AreGiven g old new k acts → IsGivenTo d a old new k acts base
+given_to d a g old new base at zero acts are =
+    subst (λ (l : List Act). IsGivenTo d a old new zero l base) (sym are) (record {
+      says = refl;
+      same_group = same_group base;
+      draws_are = refl;
+      given = λ j low. absurd (omega (arith, low));
+      yet = λ j past. at.parts j;
+      none = λ j past. at.none j;
+    })
+given_to d a g old new base at (suc k) acts are =
+    let before = are.0 in
+    let one = are.1 in
+    let so = given_to d a g old new base at k before are.3 in
+    subst (λ (l : List Act). IsGivenTo d a old new (suc k) l base) (sym are.2)
+    (one_more d a k old new before one base so
+    (one_at d a k g (station_at old k) (station_at new k) one (add before base) (new_at d a k g old new before base at so) (so.yet k (omega arith)) are.4))
+
+-- ---- beyond the last session
+
+session_sent : (d : Domain) (n q : Node) (p : Node) (h : List Act) (o : Option Derivation) → session p (add (to_session d n q h o) h) ≡ session p h
+session_sent d n q p h None = refl
+session_sent d n q p h (Some x) = refl
+
+-- G1 leaves the sessions
+sessions_stay : (d : Domain) (n p : Node) (k : ℕ) (h : List Act) → session p (add (to_sessions d n k h) h) ≡ session p h
+sessions_stay d n p zero h = refl
+sessions_stay d n p (suc k) h =
+    let mid = add (to_sessions d n k h) h in
+    ap (session p) (add_append (to_sessions d n k h) (to_session d n (Sta k) mid (session (Sta k) mid)) h)
+    ∙ session_sent d n (Sta k) p mid (session (Sta k) mid) ∙ sessions_stay d n p k h
+
+-- from station b on there is none
+no_more_than : (d : Domain) (n : Node) (b m : ℕ) (h : List Act) → b ≤ m → ((j : ℕ) → b ≤ j → session (Sta j) h ≡ None) → to_sessions d n m h ≡ to_sessions d n b h
+no_more_than d n b zero h low none = ap (λ (i : ℕ). to_sessions d n i h) (zero_is b low)
+  where
+    zero_is : (b : ℕ) → b ≤ 0 → 0 ≡ b
+    zero_is b low = omega (arith, low)
+no_more_than d n b (suc k) h low none = elim (cases_lt k b) [
+  | inl less ↦ ap (λ (i : ℕ). to_sessions d n i h) (last k b low less)
+  | inr most ↦
+      let l = to_sessions d n k h in
+      let unheld : session (Sta k) (add l h) ≡ None = sessions_stay d n (Sta k) k h ∙ none k most in
+      ap (λ (o : Option Derivation). l ++ to_session d n (Sta k) (add l h) o) unheld ∙ append-nil l ∙ no_more_than d n b k h most none
+]
+  where
+    last : (k b : ℕ) → b ≤ suc k → k < b → suc k ≡ b
+    last k b low less = omega (arith, low, less)
+
+-- a station that is not listed has none, and neither has one that never came
+unlisted : (d : Domain) (a j : ℕ) (o : Option Part) (h : List Act) → length d.stas ≤ j → HasPart d (Ap a) j o h → session (Sta j) h ≡ None
+unlisted d a j None h past at = at.1
+unlisted d a j (Some x) h past at = absurd (omega (arith, past, at.0))
+
+never_came : (d : Domain) (a j : ℕ) (o : Option Part) (h : List Act) → o ≡ None → HasPart d (Ap a) j o h → session (Sta j) h ≡ None
+never_came d a j o h is at = (subst (λ (z : Option Part). HasPart d (Ap a) j z h) is at).1
+
+pub to_listed : (d : Domain) (a : ℕ) (g : GroupKey) (old : List (Option Part)) (base : List Act) → IsBase d a g old base → to_sessions d (Ap a) (length old) base ≡ to_sessions d (Ap a) (length d.stas) base
+to_listed d a g old base at = elim (cases_lt (length old) (length d.stas)) [
+  | inl less ↦ sym (no_more_than d (Ap a) (length old) (length d.stas) base (omega (arith, less)) (λ j past. never_came d a j (station_at old j) base (get_or_past old j None past) (at.parts j)))
+  | inr most ↦ no_more_than d (Ap a) (length d.stas) (length old) base most (λ j past. unlisted d a j (station_at old j) base past (at.parts j))
+]
+
+-- each part behind all of them
+pub parts_after : (d : Domain) (a : ℕ) (old new : List (Option Part)) (acts base : List Act) → length new ≡ length old → IsGivenTo d a old new (length old) acts base → (j : ℕ) → HasPart d (Ap a) j (station_at new j) (add acts base)
+parts_after d a old new acts base length_is so j = elim (cases_lt j (length old)) [
+  | inl less ↦ so.given j less
+  | inr most ↦ subst (λ (o : Option Part). HasPart d (Ap a) j o (add acts base)) (get_or_past old j None most ∙ sym (get_or_past new j None (omega (arith, length_is, most)))) (so.yet j most)
+]
+
+-- ---- the row
+
+-- the access point before and after: it drew that key and gave it to each session
+pub record IsRenewed (d : Domain) (old new : State) (key : List ℕ) (waited waits : List Act) : Type 0 where
+  pub number : new.number ≡ old.number
+  pub drawn : new.drawn ≡ suc old.drawn
+  pub low : old.drawn < draw_end
+  pub key_is : key ≡ gtk d (Ap old.number) old.drawn
+  pub was_in_use : old.group.newest.place ≡ old.group.current.place
+  pub current : new.group.current ≡ old.group.current
+  pub newest : new.group.newest ≡ placed (suc old.group.newest.place) key
+  pub length_is : length new.stations ≡ length old.stations
+  pub counted : new.owing ≡ owing_count new.group.newest.place new.stations
+  pub given : length old.stations ≤ 65536
+      → (acts : List Act) × (waits ≡ (waited ++ Drew (Gtk key) ∷ []) ++ acts) × AreGiven new.group.newest old.stations new.stations (length old.stations) acts
+
+-- the key is drawn
+based : (d : Domain) (first : ℕ) (old new : State) (key : List ℕ) (waited waits h : List Act) → IsRenewed d old new key waited waits → StandsSoFar d first old h → IsBase d old.number new.group.newest old.stations (Drew (Gtk key) ∷ h)
+based d first old new key waited waits h w at = record {
+  newest = (drawn old.group new.group key h at.group_is w.current w.newest).newest;
+  unused = at.unused;
+  low = omega (arith, at.draws_are, w.low);
+  parts = λ j. part_on d (Ap old.number) j (station_at old.stations j) h (Drew (Gtk key) ∷ h) (other_on (Sta j) (Drew (Gtk key) ∷ []) h (apart-drew (Sta j) (Gtk key), tt)) (at.parts j);
+  none = λ j. refl;
+}
+
+-- the access point behind all of it
+renewed_stands : (d : Domain) (first : ℕ) (old new : State) (key : List ℕ) (waited waits acts h : List Act) → IsRenewed d old new key waited waits → StandsSoFar d first old h
+    → IsGivenTo d old.number old.stations new.stations (length old.stations) acts (Drew (Gtk key) ∷ h) → StandsSoFar d first new (add acts (Drew (Gtk key) ∷ h))
+renewed_stands d first old new key waited waits acts h w at so =
+    let base = Drew (Gtk key) ∷ h in
+    record {
+      draws_are = w.drawn ∙ ap suc at.draws_are ∙ plus_suc first (draws h) ∙ ap (λ (n : ℕ). first + n) (sym so.draws_are);
+      draws_low = subst (λ (n : ℕ). n ≤ draw_end) (sym w.drawn) (omega (arith, w.low));
+      group_is = holds_on new.group base (add acts base) so.same_group (drawn old.group new.group key h at.group_is w.current w.newest);
+      pending = inr (ap (λ (g : GroupKey). g.place) w.newest ∙ ap suc w.was_in_use ∙ sym (ap (λ (g : GroupKey). suc g.place) w.current));
+      unused = so.same_group.uses_are ∙ at.unused;
+      few = subst (λ (n : ℕ). n ≤ 65536) (sym w.length_is) at.few;
+      counted = w.counted;
+      parts = λ j. subst (λ (a : ℕ). HasPart d (Ap a) j (station_at new.stations j) (add acts base)) (sym w.number)
+          (parts_after d old.number old.stations new.stations acts base w.length_is so j);
+    }
+  where
+    plus_suc : (n m : ℕ) → suc (n + m) ≡ n + suc m
+    plus_suc n m = omega arith
+
+-- the acts are those of the row
+row_acts : (d : Domain) (first a : ℕ) (key : List ℕ) (acts h : List Act) → key ≡ gtk d (Ap a) (first + draws h) → acts ≡ to_sessions d (Ap a) (length d.stas) (Drew (Gtk key) ∷ h) → Drew (Gtk key) ∷ acts ≡ rekey_acts (here d first (Ap a)) h
+row_acts d first a key acts h key_is acts_are =
+    ap (λ (l : List Act). Drew (Gtk key) ∷ l) acts_are ∙ ap (λ (k : List ℕ). Drew (Gtk k) ∷ to_sessions d (Ap a) (length d.stas) (Drew (Gtk k) ∷ h)) key_is
+
+renews_does : (d : Domain) (old new : State) (key : List ℕ) (waited waits : List Act) → IsRenewed d old new key waited waits → (first : ℕ) (h : List Act) → Stands d first old h
+    → Does (here d first (Ap old.number)) Rekey (StandsSoFar d first new) h (seen waited waits Done)
+renews_does d old new key waited waits w first h stands =
+    let at = stands.so_far in
+    let base = Drew (Gtk key) ∷ h in
+    let gave = w.given at.few in
+    let is_base = based d first old new key waited waits h w at in
+    let so = given_to d old.number new.group.newest old.stations new.stations base is_base (length old.stations) gave.0 gave.2 in
+    record {
+      acts = Drew (Gtk key) ∷ gave.0;
+      row = Renews refl (in_use old.group h at.group_is ∙ eq-eqb old.group.newest.place old.group.current.place w.was_in_use)
+          (subst (λ (n : ℕ). n < draw_end) at.draws_are w.low)
+          (row_acts d first old.number key gave.0 h (w.key_is ∙ ap (gtk d (Ap old.number)) at.draws_are) (so.says ∙ to_listed d old.number new.group.newest old.stations base is_base));
+      waiting = gave.1 ∙ append_assoc waited (Drew (Gtk key) ∷ []) gave.0;
+      came = refl;
+      stands = renewed_stands d first old new key waited waits gave.0 h w at so;
+    }
+
+pub renews : (d : Domain) (old new : State) (key : List ℕ) (waited waits : List Act) → IsRenewed d old new key waited waits → IsDone d Rekey old new (seen waited waits Done)
+renews d old new key waited waits w = record { number = w.number; does = renews_does d old new key waited waits w; refused = λ why is. absurd (cc is) }
+
+-- ---- as the code comes by it
+
+pub key_by : (d : Domain) (n : Node) (a k m : ℕ) (key : List ℕ) → key ≡ gtk d n k → n ≡ Ap a → k ≡ m → key ≡ gtk d (Ap a) m
+key_by d n a k m key is node drawn = is ∙ ap (λ (x : Node). gtk d x k) node ∙ ap (gtk d (Ap a)) drawn
+
+-- it is not refused where the last one is in use
+pub if_in_use : {A E C : Type 0} (r : Result A E) (P Q : Type 0) → C → MatchResult r (λ _. P) (λ _. Q) → MatchResult r (λ _. C) (λ _. C → ⊥) → P
+if_in_use (Ok x) P Q is p pending = p
+if_in_use (Err e) P Q is p pending = absurd (pending is)
+
+pub given_as : (g k : GroupKey) (o was new : List (Option Part)) (mid before waits : List Act) → g ≡ k → o ≡ was → mid ≡ before
+    → (length o ≤ 65536 → (acts : List Act) × (waits ≡ mid ++ acts) × AreGiven g o new (length o) acts)
+    → length was ≤ 65536 → (acts : List Act) × (waits ≡ before ++ acts) × AreGiven k was new (length was) acts
+given_as g k o was new mid before waits key parts acts x =
+    subst (λ (z : GroupKey). length was ≤ 65536 → (acts : List Act) × (waits ≡ before ++ acts) × AreGiven z was new (length was) acts) key
+    (subst (λ (z : List (Option Part)). length z ≤ 65536 → (acts : List Act) × (waits ≡ before ++ acts) × AreGiven g z new (length z) acts) parts
+    (subst (λ (z : List Act). length o ≤ 65536 → (acts : List Act) × (waits ≡ z ++ acts) × AreGiven g o new (length o) acts) acts x))

@@ -1,0 +1,39 @@
+use Rattle.std.proofs.Common.{◌≡◌, ◌≤◌, suc, List, subst}
+use Rattle.run_journal.specs.declared.acts.Why.TheVariants as why
+use Rattle.run_journal.specs.declared.acts.Outcome.TheVariants.{Done, Idle as IdleBy}
+use Rattle.run_journal.specs.declared.acts.Act.{Act}
+use Rattle.domain_rules.specs.Network.{draw_end}
+use Rattle.domain_rules.specs.Rows.{Rekey}
+use Rattle.node_base.specs.Events.{seen}
+use Rattle.act_memory.proofs.Returning.{if_settled}
+use Rattle.ap_node.specs.State.{State}
+use Rattle.ap_node.specs.Takes.{IsDone, IsTaken}
+use Rattle.ap_node.proofs.Idling.{takes_pending, takes_no_draw}
+use Rattle.ap_node.proofs.Ending.{ends_as}
+use Rattle.ap_node.proofs.access_point.ApNode.rekey.Goals as goal
+
+pub returns-then-is_pending-clause-taken : goal.returns-then-is_pending-clause-taken
+returns-then-is_pending-clause-taken c =
+    let d = c.args.here.domain.now in
+    let s = c.args.self.now in
+    let waited = c.args.out.now.acts in
+    let waits = c.idle.new.out.acts in
+    if_settled c.idle.result (IdleBy why.RekeyPending) (λ outcome. IsTaken d Rekey s s (seen waited waits outcome)) _ c.idle.ensures.outcome c.idle.ensures.acts
+    (λ waiting. takes_pending d s waited waits (subst (λ (t : State). t.group.newest.place ≡ suc t.group.current.place) c.self.view_is (c.is_pending.ensures.pending.0 c.if-is_pending.true)) waiting)
+
+pub returns-then-self-ge-DRAW_END-clause-taken : goal.returns-then-self-ge-DRAW_END-clause-taken
+returns-then-self-ge-DRAW_END-clause-taken c =
+    let d = c.args.here.domain.now in
+    let s = c.args.self.now in
+    let waited = c.args.out.now.acts in
+    let waits = c.idle-then-self-ge-DRAW_END.new.out.acts in
+    if_settled c.idle-then-self-ge-DRAW_END.result (IdleBy why.Spent) (λ outcome. IsTaken d Rekey s s (seen waited waits outcome)) _ c.idle-then-self-ge-DRAW_END.ensures.outcome c.idle-then-self-ge-DRAW_END.ensures.acts
+    (λ waiting. takes_no_draw d s waited waits (subst (λ (t : State). t.group.newest.place ≡ t.group.current.place) c.self.view_is (c.is_pending.ensures.in_use.0 c.if-is_pending.false))
+    (subst (λ (t : State). draw_end ≤ t.drawn) c.self.view_is c.if-self-ge-DRAW_END.true) waiting)
+
+pub returns-clause-taken : goal.returns-clause-taken
+returns-clause-taken c =
+    let d = c.args.here.domain.now in
+    ends_as d Rekey c.args.self.now c.renew.new.self c.end.new.self c.args.out.now.acts c.renew.new.out.acts c.end.new.out.acts Done c.end.result
+    (subst (λ (l : List Act). IsDone d Rekey c.args.self.now c.renew.new.self (seen l c.renew.new.out.acts Done)) c.in_ok-reserve.ensures.acts c.renew.ensures.done)
+    c.end.ensures.state c.end.ensures.acts c.end.ensures.outcome

@@ -1,0 +1,32 @@
+-- What the parts with stations do as a new group key is given to each session (this project's choice).
+use Rattle.std.specs.Prelude.{◌≡◌, ℕ, zero, suc, List, [], ◌++◌, Option, Some, None}
+use Rattle.domain_base.specs.declared.names.Node.TheVariants.{Sta}
+use Rattle.run_journal.specs.declared.acts.Act.{Act}
+use Rattle.run_journal.specs.declared.reply.Reply.{Reply}
+use Rattle.domain_rules.specs.Replies.{sent_acts}
+use Rattle.group_key.specs.declared.keys.GroupKey.{GroupKey}
+use Rattle.authenticator.specs.State.{State as Part}
+use Rattle.authenticator.specs.Taken.{GivesFrom}
+use Rattle.authenticator.specs.declared.session.Session.{Session}
+use Rattle.ap_node.specs.State.{station_at}
+
+-- the part sent G1 with that group key in its session: these acts are those of its reply
+pub record IsGiven (station : ℕ) (g : GroupKey) (old new : Part) (acts : List Act) : Type 0 where
+  pub reply : Reply
+  pub says : acts ≡ sent_acts (Sta station) reply
+  pub gives : GivesFrom old new g 0 reply
+
+-- where there is one
+abbrev pub IsGivenIn : ℕ → GroupKey → Option Session → Part → Part → List Act → Type 0
+IsGivenIn station g None old new acts = (new ≡ old) × (acts ≡ [])
+IsGivenIn station g (Some s) old new acts = IsGiven station g old new acts
+
+abbrev pub IsGivenAt : ℕ → GroupKey → Option Part → Option Part → List Act → Type 0
+IsGivenAt station g None new acts = (new ≡ None) × (acts ≡ [])
+IsGivenAt station g (Some a) new acts = (b : Part) × (new ≡ Some b) × IsGivenIn station g a.session a b acts
+
+-- the first so many did, in order
+abbrev pub AreGiven : GroupKey → List (Option Part) → List (Option Part) → ℕ → List Act → Type 0
+AreGiven g old new zero acts = acts ≡ []
+AreGiven g old new (suc k) acts =
+    (before one : List Act) × (acts ≡ before ++ one) × AreGiven g old new k before × IsGivenAt k g (station_at old k) (station_at new k) one

@@ -1,0 +1,36 @@
+-- The switch to the newest group key at the end of an event (this project's choice).
+use Rattle.std.specs.Prelude.{◌==◌, ◌&&◌, Bool, cond, not, List, [], ◌∷◌}
+use Rattle.domain_base.specs.declared.names.Node.TheVariants.{Ap}
+use Rattle.domain_base.specs.declared.names.Peer.TheVariants.{All}
+use Rattle.run_journal.specs.declared.domain.Domain.{Domain}
+use Rattle.run_journal.specs.declared.acts.Key.TheVariants.{Group}
+use Rattle.run_journal.specs.declared.acts.Outcome.{Outcome}
+use Rattle.run_journal.specs.declared.acts.Outcome.TheVariants.{Refused}
+use Rattle.run_journal.specs.declared.acts.Act.{Act}
+use Rattle.run_journal.specs.declared.acts.Act.TheVariants.{Installed}
+use Rattle.domain_rules.specs.Network.{mac}
+use Rattle.group_key.specs.Keys.{Pair}
+use Rattle.ap_node.specs.State.{State}
+
+-- the newest group key is not in use, and no session owes an answer for it
+abbrev pub is_due : State → Bool
+is_due s = not (s.group.newest.place == s.group.current.place) && (s.owing == 0)
+
+-- where it is due, the newest group key comes into use
+abbrev pub in_use : Pair → Pair
+in_use g = record { current = g.newest; newest = g.newest }
+
+abbrev pub switched : State → State
+switched s = record s { group = cond (is_due s) (in_use s.group) s.group }
+
+abbrev pub due_acts : Domain → State → List Act
+due_acts d s = cond (is_due s) (Installed All (Group s.group.newest.key s.group.newest.id (mac d (Ap s.number))) ∷ []) []
+
+-- the end of an event of which that came: a refusal changes nothing
+abbrev pub ended : Outcome → State → State
+ended (Refused why) s = s
+ended _ s = switched s
+
+abbrev pub end_acts : Domain → Outcome → State → List Act
+end_acts d (Refused why) s = []
+end_acts d _ s = due_acts d s

@@ -1,0 +1,101 @@
+-- The group key handshake in a session (IEEE Std 802.11-2020, 12.7.7; the order of the checks, and how often G1 is sent, are this
+-- project's choice). Group keys are told apart by their place in the order of drawing.
+use Rattle.std.specs.Prelude.{◌≡◌, ◌<◌, ◌+◌, ◌^◌, ◌==◌, ◌&&◌, ℕ, suc, Bool, true, false, cond, not, nat_lt, [], ◌∷◌, Option, Some, None}
+use Rattle.std.specs.List.{list_any}
+use Rattle.domain_base.specs.declared.names.Akm.{Akm}
+use Rattle.domain_base.specs.declared.names.Node.{Node}
+use Rattle.air_frame.specs.Sent.{IsAddress}
+use Rattle.mac_prf.specs.Mic.{mic}
+use Rattle.eapol_key.specs.KeyFrame.{KeyFields}
+use Rattle.run_journal.specs.declared.domain.Domain.{Domain}
+use Rattle.run_journal.specs.declared.acts.Reason.{Reason}
+use Rattle.run_journal.specs.declared.acts.Reason.TheVariants as reason
+use Rattle.run_journal.specs.declared.reply.Keyed.{Keyed}
+use Rattle.run_journal.specs.declared.reply.Reply.{Reply}
+use Rattle.run_journal.specs.Acts.{Derivation}
+use Rattle.domain_rules.specs.Frames.{sent_g1}
+use Rattle.domain_rules.specs.Replies.{sent_acts}
+use Rattle.group_key.specs.declared.keys.GroupKey.{GroupKey}
+use Rattle.group_key.specs.Holds.{carried}
+use Rattle.node_base.specs.declared.ends.Ends.{Ends}
+use Rattle.node_base.specs.Ends.{AreEnds}
+use Rattle.authenticator.specs.Counters.{counters}
+use Rattle.authenticator.specs.Judged.{Frame}
+use Rattle.authenticator.specs.declared.session.Session.{Session}
+
+-- ---- the handshake for the group key of that place
+
+-- how many G1 were sent for it in the session
+abbrev pub sent_for : ℕ → Session → ℕ
+sent_for place s = cond (s.place == place) s.g1s 0
+
+-- a G2 was accepted for it
+abbrev pub is_answered_for : ℕ → Session → Bool
+is_answered_for place s = cond (s.place == place) s.is_answered false
+
+-- the session owes a G2 for it
+abbrev pub owes : ℕ → Session → Bool
+owes place s = nat_lt 0 (sent_for place s) && not (is_answered_for place s)
+
+-- where there is one
+abbrev pub owes_in : ℕ → Option Session → Bool
+owes_in place None = false
+owes_in place (Some s) = owes place s
+
+-- ---- how the session goes on
+
+-- one more G1 was sent for it
+abbrev pub asked : ℕ → Session → Session
+asked place s = record {
+  key = s.key;
+  last = suc s.last;
+  place = place;
+  g1s = suc (sent_for place s);
+  is_answered = is_answered_for place s;
+}
+
+-- G2 was accepted
+abbrev pub replied_to : Session → Session
+replied_to s = record s { is_answered = true }
+
+-- ---- G1
+
+-- the reply sends G1 between the ends, under that key
+abbrev pub SendsG1 : Ends → Keyed → ℕ → GroupKey → ℕ → Reply → Type 0
+SendsG1 l y counter g rsc r =
+    (d : Domain) (n p : Node) (x : Derivation) → AreEnds d n p l → y.ptk ≡ x.ptk
+    → sent_acts p r ≡ sent_g1 d n p x counter (carried g) rsc ∷ []
+
+-- it sends one with the next replay counter, and the session is t then
+pub record Asks (l : Ends) (g : GroupKey) (rsc : ℕ) (s t : Session) (r : Reply) : Type 0 where
+  pub low : suc s.last < 2 ^ 64
+  pub sends : SendsG1 l s.key (suc s.last) g rsc r
+  pub own : IsAddress l.own.0
+  pub peer : IsAddress l.peer.0
+  pub now : t ≡ asked g.place s
+
+-- ---- G2
+
+-- it is owed, and its counter is one of those of the G1
+pub record IsOffered (place : ℕ) (s : Session) (f : KeyFields) : Type 0 where
+  pub owed : owes place s ≡ true
+  pub offer : (before : ℕ) → s.last ≡ before + sent_for place s → list_any (λ c. c == f.counter) (counters before (sent_for place s)) ≡ true
+
+pub record IsUnoffered (place : ℕ) (s : Session) (f : KeyFields) (last : ℕ) : Type 0 where
+  pub owed : owes place s ≡ true
+  pub offer : (before : ℕ) → s.last ≡ before + sent_for place s → list_any (λ c. c == f.counter) (counters before (sent_for place s)) ≡ false
+  pub is : last ≡ s.last
+
+pub record IsForgedG2 (akm : Akm) (place : ℕ) (s : Session) (f : Frame) : Type 0 where
+  pub offered : IsOffered place s f.fields
+  pub other : f.fields.mic ≡ mic akm s.key.ptk.kck f.octets → ⊥
+
+pub record IsG2 (akm : Akm) (place : ℕ) (s : Session) (f : Frame) : Type 0 where
+  pub offered : IsOffered place s f.fields
+  pub mic_is : f.fields.mic ≡ mic akm s.key.ptk.kck f.octets
+
+abbrev pub IsRefusedG2 : Akm → ℕ → Session → Frame → Reason → Type 0
+IsRefusedG2 akm place s f reason.Unawaited = owes place s ≡ false
+IsRefusedG2 akm place s f (reason.Counter last) = IsUnoffered place s f.fields last
+IsRefusedG2 akm place s f reason.Mic = IsForgedG2 akm place s f
+IsRefusedG2 akm place s f _ = ⊥

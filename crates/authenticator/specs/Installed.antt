@@ -1,0 +1,21 @@
+-- What is said and sent as an attempt becomes a session (IEEE Std 802.11-2020, 12.7.6.5 and 12.7.7.2).
+use Rattle.std.specs.Prelude.{◌≡◌, ℕ, Bool, true, false, Some, None}
+use Rattle.run_journal.specs.declared.reply.Reply.{Reply}
+use Rattle.group_key.specs.declared.keys.GroupKey.{GroupKey}
+use Rattle.node_base.specs.declared.ends.Ends.{Ends}
+use Rattle.authenticator.specs.Groups.{Asks}
+use Rattle.authenticator.specs.declared.attempt.Finish.{Finish}
+use Rattle.authenticator.specs.declared.session.Session.{Session}
+
+-- G1 is sent, where M3 carried an older group key
+abbrev pub AsksWhere : Bool → Ends → GroupKey → ℕ → Session → Session → Reply → Type 0
+AsksWhere false l g rsc s t r = (t ≡ s) × (r.len ≡ 0)
+AsksWhere true l g rsc s t r = Asks l g rsc s t r
+
+-- the key of the session is installed, under which M4 verified; the session is t then
+pub record IsInstalled (l : Ends) (g : GroupKey) (rsc : ℕ) (x : Finish) (t : Session) (r : Reply) : Type 0 where
+  pub verified : r.verified ≡ Some x.session.key.ptk.kck
+  pub derived : r.derived ≡ None
+  pub installed : r.installed ≡ Some x.session.key
+  pub gtk : r.gtk ≡ None
+  pub asks : AsksWhere x.is_older l g rsc x.session t r

@@ -1,0 +1,171 @@
+-- A new group key, what is dropped, and the switch: each event adds a chain of legal acts.
+use Rattle.std.proofs.Common.{ℕ, zero, suc, ◌≡◌, ◌⊎◌, ◌+◌, ◌<◌, ◌≤◌, inl, inr, Bool, true, false, not, cond, List, [], ◌∷◌, ◌++◌, length, Option, Some, None, refl, sym, ap, ◌∙◌, subst, arith}
+use Rattle.std.specs.Prelude.{◌==◌, ◌||◌}
+use Rattle.std.proofs.lemmas.Bool.{eqb-true, eq-eqb}
+use Rattle.domain_base.specs.declared.names.Node.{Node}
+use Rattle.domain_base.specs.declared.names.Node.TheVariants.{Ap, Sta}
+use Rattle.domain_base.specs.declared.names.Peer.TheVariants.{All}
+use Rattle.eapol_key.specs.declared.messages.Message.TheVariants.{G1}
+use Rattle.key_hierarchy.proofs.Lengths.{length-kdf}
+use Rattle.run_journal.specs.GroupKinds as groups
+use Rattle.run_journal.specs.declared.domain.Domain.{Domain}
+use Rattle.run_journal.specs.declared.acts.Part.TheVariants.{Attempt, Session}
+use Rattle.run_journal.specs.declared.acts.Drawn.TheVariants.{Gtk}
+use Rattle.run_journal.specs.declared.acts.Kind.TheVariants as kind
+use Rattle.run_journal.specs.declared.acts.Why.TheVariants as why
+use Rattle.run_journal.specs.declared.acts.Key.TheVariants.{Group}
+use Rattle.run_journal.specs.declared.acts.Act.{Act}
+use Rattle.run_journal.specs.declared.acts.Act.TheVariants.{Closed, Drew, Sent, Installed, Idle}
+use Rattle.run_journal.specs.Acts.{key_drawn, Derivation}
+use Rattle.run_journal.specs.Questions.{attempt, session, associated, pending, listed, group_keys, switches, handshake, draws, is_draw, add}
+use Rattle.domain_rules.specs.Network.{mac, gtk, is_ap, draw_end, IsListed}
+use Rattle.domain_rules.specs.Counters.{sent_count}
+use Rattle.domain_rules.specs.GroupKeys.{newest_of, newest, is_current}
+use Rattle.domain_rules.specs.Owing.{any_owes, switch_acts, and_switch}
+use Rattle.domain_rules.specs.Closing.{close_attempt, close_session, close_pending, close_associated, or_nothing}
+use Rattle.domain_rules.specs.StationRows.{leave_acts}
+use Rattle.domain_rules.specs.AccessPointRows.{most_sends, g1_to, to_session, to_sessions, next_key, rekey_acts, RekeyRow, Pending, Spent, Renews, expire_acts}
+use Rattle.domain_rules.specs.Rows.{NodeEvent, Take, Begin, Retry, Rekey, Expire, Leave, RowOf, Adds}
+use Rattle.domain_rules.specs.Here.{here}
+use Rattle.domain_rules.proofs.Parts.{add_append}
+use Rattle.domain_rules.proofs.KeyOctets.{octets-kdf}
+use Rattle.journal_safety.proofs.Legal.{LegalGtk, Legal, LegalHistory, Chain}
+use Rattle.journal_safety.proofs.Settled.{Settled, settled_drew, settled_switched, Fine, fine_none, fine_cons, fine_quiet, fine_append}
+use Rattle.journal_safety.proofs.Sessions.{session_role}
+use Rattle.journal_safety.proofs.Rows.{connect_fine, take_fine, fine_attempt, fine_dropped, not_station, legal_add, g1_legal}
+use Rattle.journal_safety.proofs.Retries.{retry_fine}
+
+-- ---- a new group key
+
+-- group keys are among what is drawn
+keys_by : (e : Act) (h : List Act) → length (group_keys groups.Gtk h) ≤ draws h → (o : Option (List ℕ)) → key_drawn groups.Gtk e ≡ o → (b : Bool) → is_draw e ≡ b → length (listed o (group_keys groups.Gtk h)) ≤ cond b (suc (draws h)) (draws h)
+keys_by e h low None is true d = omega (arith, low)
+keys_by e h low None is false d = low
+keys_by e h low (Some v) is true d = omega (arith, low)
+keys_by (Drew v) h low (Some w) is false d = cc
+keys_by _ h low (Some w) is false d = cc
+
+keys_few : (h : List Act) → length (group_keys groups.Gtk h) ≤ draws h
+keys_few [] = omega arith
+keys_few (e ∷ h) = keys_by e h (keys_few h) (key_drawn groups.Gtk e) refl (is_draw e) refl
+
+legal_key : (d : Domain) (first : ℕ) (n : Node) (h : List Act) → is_ap n ≡ true → first + draws h < draw_end → LegalGtk n h (gtk d n (first + draws h))
+unfolding gtk
+legal_key d first n h role few = record { ap = role; octets = octets-kdf _ _ _ 16; size = length-kdf _ _ _ 16; few = omega (arith, few, keys_few h) }
+
+-- no G1 was sent to the stations from the k-th on for the newest group key
+abbrev Silent : ℕ → List Act → Type 0
+Silent k h = (j : ℕ) → k ≤ j → sent_count (Sta j) G1 (handshake groups.Gtk (Sta j) h) ≡ 0
+
+silent_more : (d : Domain) (n : Node) (k : ℕ) (h : List Act) (o : Option Derivation) → Silent k h → Silent (suc k) (add (to_session d n (Sta k) h o) h)
+silent_more d n k h None s = λ j low. s j (omega (arith, low))
+silent_more d n k h (Some x) s = λ j low. silent_other j (j == k) refl low
+  where
+    silent_other : (j : ℕ) (b : Bool) → (j == k) ≡ b → suc k ≤ j → sent_count (Sta j) G1 (handshake groups.Gtk (Sta j) (g1_to d n (Sta k) h x ∷ h)) ≡ 0
+    silent_other j true is low = let one : j ≡ k = eqb-true j k is in absurd (omega (arith, one, low))
+    silent_other j false is low = rw is (s j (omega (arith, low)))
+
+pub record AllSent (d : Domain) (n : Node) (k : ℕ) (h : List Act) : Type 0 where
+  pub fine : Fine d n h (to_sessions d n k h)
+  pub silent : Silent k (add (to_sessions d n k h) h)
+
+to_one : (d : Domain) (n : Node) (k : ℕ) (h : List Act) → is_ap n ≡ true → LegalHistory d n h → Settled d n h → Silent k h → (o : Option Derivation) → session (Sta k) h ≡ o → Fine d n h (to_session d n (Sta k) h o)
+to_one d n k h role legal s silent None is = fine_none d n h s
+to_one d n k h role legal s silent (Some x) is =
+    let none : sent_count (Sta k) G1 (handshake groups.Gtk (Sta k) h) ≡ 0 = silent k (omega arith) in
+    fine_quiet d n h (g1_to d n (Sta k) h x) [] (g1_legal d n (Sta k) h x role legal s is (omega (arith, none))) refl s (fine_none d n _)
+
+all_sent_fine : (d : Domain) (n : Node) (k : ℕ) (h : List Act) → is_ap n ≡ true → LegalHistory d n h → Settled d n h → Silent 0 h → AllSent d n k h
+all_sent_fine d n zero h role legal s silent = record { fine = fine_none d n h s; silent = silent }
+all_sent_fine d n (suc k) h role legal s silent =
+    let w = all_sent_fine d n k h role legal s silent in
+    let mid : List Act = add (to_sessions d n k h) h in
+    let mid_legal : LegalHistory d n mid = legal_add d n h (to_sessions d n k h) legal w.fine.chain in
+    let o : Option Derivation = session (Sta k) mid in
+    record {
+      fine = fine_append d n h (to_sessions d n k h) (to_session d n (Sta k) mid o) w.fine (to_one d n k mid role mid_legal w.fine.settled w.silent o refl);
+      silent = subst (λ (x : List Act). Silent (suc k) x) (sym (add_append (to_sessions d n k h) (to_session d n (Sta k) mid o) h)) (silent_more d n k mid o w.silent);
+    }
+
+-- all are current where as many are
+all_current : (h : List Act) (o : (group_keys groups.Gtk h ≡ switches groups.Gtk h) ⊎ ((k : List ℕ) × (group_keys groups.Gtk h ≡ k ∷ switches groups.Gtk h))) → is_current groups.Gtk h ≡ true → group_keys groups.Gtk h ≡ switches groups.Gtk h
+all_current h (inl all) is = all
+all_current h (inr (k, more)) is =
+    let same : length (switches groups.Gtk h) ≡ length (group_keys groups.Gtk h) = eqb-true (length (switches groups.Gtk h)) (length (group_keys groups.Gtk h)) is in
+    absurd (omega (arith, same, ap length more))
+
+rekey_fine : (d : Domain) (first : ℕ) (n : Node) (h g : List Act) → LegalHistory d n h → Settled d n h → RekeyRow (here d first n) h g → Fine d n h g
+rekey_fine d first n h g legal s (Pending late is) = subst (λ (x : List Act). Fine d n h x) (sym is) (fine_quiet d n h (Idle why.RekeyPending) [] tt refl s (fine_none d n _))
+rekey_fine d first n h g legal s (Spent all many is) = subst (λ (x : List Act). Fine d n h x) (sym is) (fine_quiet d n h (Idle why.Spent) [] tt refl s (fine_none d n _))
+rekey_fine d first n h g legal s (Renews role all few is) =
+    let key : LegalGtk n h (gtk d n (first + draws h)) = legal_key d first n h role few in
+    let after : List Act = Drew (Gtk (gtk d n (first + draws h))) ∷ h in
+    let settled : Settled d n after = settled_drew d n (gtk d n (first + draws h)) h (all_current h s.nearly all) s in
+    let sent_all = all_sent_fine d n (length d.stas) after role (key, legal) settled (λ j low. refl) in
+    subst (λ (x : List Act). Fine d n h x) (sym is)
+    (fine_cons d n h (Drew (Gtk (gtk d n (first + draws h)))) (to_sessions d n (length d.stas) after) key sent_all.fine)
+
+-- ---- what is dropped
+
+fine_nothing : (d : Domain) (n : Node) (h g : List Act) → Settled d n h → Fine d n h g → Fine d n h (or_nothing g)
+fine_nothing d n h [] s w = fine_quiet d n h (Idle why.Nothing) [] tt refl s (fine_none d n _)
+fine_nothing d n h (e ∷ g) s w = w
+
+opposite : (b : Bool) → false ≡ not b → b ≡ true
+opposite true e = refl
+opposite false e = cc
+
+-- the session with a station is an access point's
+fine_session : (d : Domain) (n : Node) (s : ℕ) (h mid : List Act) → LegalHistory d n h → Settled d n mid → (o : Option Derivation) → session (Sta s) h ≡ o → Fine d n mid (close_session (Sta s) o)
+fine_session d n s h mid legal settled None is = fine_none d n mid settled
+fine_session d n s h mid legal settled (Some x) is =
+    fine_quiet d n mid (Closed (Sta s) Session) [] (not_station n (opposite (is_ap n) (session_role d n (Sta s) h x legal is))) refl settled (fine_none d n _)
+
+expire_fine : (d : Domain) (n : Node) (s : ℕ) (h : List Act) → LegalHistory d n h → Settled d n h → Fine d n h (expire_acts (Sta s) h)
+expire_fine d n s h legal settled =
+    let a = fine_attempt d n h (Sta s) (attempt (Sta s) h) settled in
+    fine_nothing d n h (close_attempt (Sta s) (attempt (Sta s) h) ++ close_session (Sta s) (session (Sta s) h)) settled
+    (fine_append d n h (close_attempt (Sta s) (attempt (Sta s) h)) (close_session (Sta s) (session (Sta s) h)) a
+    (fine_session d n s h (add (close_attempt (Sta s) (attempt (Sta s) h)) h) legal a.settled (session (Sta s) h) refl))
+
+leave_fine : (d : Domain) (n : Node) (h : List Act) → Settled d n h → Fine d n h (leave_acts h)
+leave_fine d n h s = fine_nothing d n h (close_pending (pending h) ++ close_associated (associated h)) s (fine_dropped d n h s)
+
+-- ---- the switch
+
+-- the newest is the one that is not current yet
+one_ahead : (h : List Act) (o : (group_keys groups.Gtk h ≡ switches groups.Gtk h) ⊎ ((k : List ℕ) × (group_keys groups.Gtk h ≡ k ∷ switches groups.Gtk h))) → is_current groups.Gtk h ≡ false → group_keys groups.Gtk h ≡ (newest groups.Gtk h).key ∷ switches groups.Gtk h
+one_ahead h (inl all) late =
+    let current : is_current groups.Gtk h ≡ true = eq-eqb (length (switches groups.Gtk h)) (length (group_keys groups.Gtk h)) (sym (ap length all)) in absurd (cc (current, late))
+one_ahead h (inr (k, more)) late =
+    let key : (newest groups.Gtk h).key ≡ k = ap (λ (xs : List (List ℕ)). (newest_of groups.Gtk xs).key) more in
+    more ∙ ap (λ (x : List ℕ). x ∷ switches groups.Gtk h) (sym key)
+
+switch_by : (d : Domain) (a : ℕ) (h : List Act) → Settled d (Ap a) h → (b c : Bool) → is_current groups.Gtk h ≡ b → Fine d (Ap a) h (cond (b || c) [] (Installed All (Group (newest groups.Gtk h).key (newest groups.Gtk h).id (mac d (Ap a))) ∷ []))
+switch_by d a h s true c is = fine_none d (Ap a) h s
+switch_by d a h s false true is = fine_none d (Ap a) h s
+switch_by d a h s false false is =
+    let new = one_ahead h s.nearly is in
+    fine_cons d (Ap a) h (Installed All (Group (newest groups.Gtk h).key (newest groups.Gtk h).id (mac d (Ap a)))) [] (record { ap = refl; newest = new })
+    (fine_none d (Ap a) _ (settled_switched d (Ap a) (newest groups.Gtk h).key (newest groups.Gtk h).id (mac d (Ap a)) h new s))
+
+switch_fine : (d : Domain) (a : ℕ) (h : List Act) → Settled d (Ap a) h → Fine d (Ap a) h (switch_acts d a h)
+switch_fine d a h s = switch_by d a h s (is_current groups.Gtk h) (any_owes groups.Gtk (length d.stas) h) refl
+
+and_switch_fine : (d : Domain) (n : Node) (h acts : List Act) → Fine d n h acts → Fine d n h (and_switch d n h acts)
+and_switch_fine d (Sta s) h acts w = w
+and_switch_fine d (Ap a) h acts w = fine_append d (Ap a) h acts (switch_acts d a (add acts h)) w (switch_fine d a (add acts h) w.settled)
+
+-- ---- each event
+
+row_fine : (d : Domain) (first : ℕ) (n : Node) (h : List Act) (event : NodeEvent) (g : List Act) → LegalHistory d n h → Settled d n h → RowOf (here d first n) h event g → Fine d n h g
+row_fine d first n h (Take octets) g legal s row = take_fine d first n h octets row.r row.facts g row.reads row.knows legal s row.row
+row_fine d first n h (Begin a) g legal s row = connect_fine d first n h (Ap a) g refl s row
+row_fine d first n h (Retry s) g legal settled is = subst (λ (x : List Act). Fine d n h x) (sym is) (retry_fine d n s h (attempt (Sta s) h) legal settled refl)
+row_fine d first n h Rekey g legal s row = rekey_fine d first n h g legal s row
+row_fine d first n h (Expire s) g legal settled is = subst (λ (x : List Act). Fine d n h x) (sym is) (expire_fine d n s h legal settled)
+row_fine d first n h Leave g legal s is = subst (λ (x : List Act). Fine d n h x) (sym is) (leave_fine d n h s)
+
+pub adds_fine : (d : Domain) (first : ℕ) (n : Node) (h : List Act) (event : NodeEvent) (g : List Act) → LegalHistory d n h → Settled d n h → Adds (here d first n) h event g → Fine d n h g
+adds_fine d first n h event g legal s adds =
+    subst (λ (x : List Act). Fine d n h x) (sym adds.is) (and_switch_fine d n h adds.acts (row_fine d first n h event adds.acts legal s adds.row))
