@@ -25,6 +25,7 @@ AFTER_TAKING = {
     ("m3", "answered"): ["sent"],
     ("m4", "accepted"): ["[close]", "install", "finish"],
     ("g1", "accepted"): ["install|resume", "sent"],
+    ("data", "accepted"): ["up"],
 }
 CONNECT = ["[close]", "[close]", "open", "sent"]
 SUMMARY = ("end", "keys", "premises")
@@ -42,8 +43,8 @@ class Event:
 
     def text(self):
         words = list(self.words)
-        if words[0] == "inject" and len(words[2]) > 8:
-            words[2] = words[2][:8] + ".."
+        if words[0] in ("inject", "send"):
+            words[-1] = shortened(words[-1], 8)
         return " ".join(words)
 
     def took(self):
@@ -52,6 +53,10 @@ class Event:
             act = self.acts[0]
             return act[1], act[2], act[3:]
         return None
+
+
+def shortened(digits, most):
+    return digits[:most] + ".." if len(digits) > most else digits
 
 
 def events_of(script):
@@ -65,7 +70,7 @@ def events_of(script):
             nodes[words[0]] += 1
             if words[0] == "ap":
                 events.append(Event(line, ["start", "a%d" % nodes["ap"]]))
-        elif words[0] in ("connect", "deliver", "alter", "cut", "inject", "retry", "rekey", "expire", "leave"):
+        elif words[0] in ("connect", "deliver", "alter", "cut", "inject", "retry", "rekey", "send", "expire", "leave"):
             events.append(Event(line, words))
     listed = ["s%d" % (n + 1) for n in range(nodes["sta"])] + ["a%d" % (n + 1) for n in range(nodes["ap"])]
     return events, listed
@@ -80,6 +85,8 @@ def awaited(event, acts):
         return ["idle"]
     if word == "connect":
         return CONNECT
+    if word == "send":
+        return ["used", "sent"]
     if word == "retry":
         return ["gave-up", "close"] if acts[0][0] == "gave-up" else ["sent"]
     if word == "rekey":
@@ -140,7 +147,7 @@ class GroupKeys:
 
 def node_of(event):
     """The node whose report lines come of the event."""
-    return event.words[1] if event.words[0] in ("start", "connect", "retry", "rekey", "expire", "leave") else node_at(event)
+    return event.words[1] if event.words[0] in ("start", "connect", "retry", "rekey", "send", "expire", "leave") else node_at(event)
 
 
 def node_at(event):
@@ -181,7 +188,7 @@ def pair(script, report):
 class Frame:
     def __init__(self, act, row):
         self.number, self.sender, self.peer, self.kind = int(act[1]), act[2], act[3], act[4]
-        self.row, self.came = row, None
+        self.row, self.came = row, set()
 
 
 class Arrow:
@@ -229,8 +236,9 @@ class Chart:
             mark = "cut to %s" % event.words[2]
         elif took[0] != frame.peer and frame.peer != "all":
             mark = "for %s" % frame.peer
-        elif frame.came is None:
-            mark, frame.came = "", row
+        elif took[0] not in frame.came:
+            mark = ""
+            frame.came.add(took[0])
         else:
             mark = "again"
         return Arrow(frame, frame.sender, took[0], mark)
@@ -275,6 +283,10 @@ class Chart:
                 told.append("installs %s for all" % " ".join(act[3:]))
             elif act[0] in ("install", "resume", "gave-up"):
                 told.append("%s %s" % (words[act[0]], " ".join(act[3:])))
+            elif act[0] == "used":
+                told.append("uses packet number %s%s" % (act[4], "" if act[3] == "0" else " of gtk %s" % act[3]))
+            elif act[0] == "up":
+                told.append("hands up %s" % shortened(act[6], 16))
             elif act[0] == "close":
                 told.append("%s with %s ends" % (act[3], act[2]))
             elif act[0] == "idle":
@@ -291,7 +303,7 @@ class Chart:
 
     def lost(self, row):
         """The frames that were sent in this row and never came as they were sent."""
-        return [f for f in self.frames.values() if f.row == row and f.came is None]
+        return [f for f in self.frames.values() if f.row == row and not f.came]
 
 
 # The chart as text: one line for each event. A lane is `|`, in an attempt `:`, in a session `#`, in both `%`.

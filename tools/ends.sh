@@ -73,9 +73,10 @@ refuses() { # LINES LINE TEXT WRITES
     (head -n "$1" "$work/header"; printf '%s\n' "$2") > "$work/script"
     ends 2 "line $(($1 + 1)): $3" "$4" "$work/script" replay
 }
-any="that of ap, sta, connect, deliver, alter, cut, inject, retry, rekey, expire or leave"
-later="that of sta, connect, deliver, alter, cut, inject, retry, rekey, expire or leave"
-events="that of connect, deliver, alter, cut, inject, retry, rekey, expire or leave"
+any="that of ap, sta, connect, deliver, alter, cut, inject, retry, rekey, send, expire or leave"
+later="that of sta, connect, deliver, alter, cut, inject, retry, rekey, send, expire or leave"
+events="that of connect, deliver, alter, cut, inject, retry, rekey, send, expire or leave"
+send="send <node> <node or all> <tid 0 to 15 or -> <digits>"
 key="passphrase <8 to 63 octets> or psk <64 digits>"
 refuses 0 "domain 2" "not the first line of a script; the form is domain 1" $none
 refuses 1 "seed draw" "the seed is drawn in a live run only; the form is seed <64 digits>" $none
@@ -93,6 +94,8 @@ refuses 7 "conect s1 a1" "no such word here; the form is $later" "$work/started"
 refuses 7 "connect s2 a1" "no such node, or a node of the other kind; the form is connect <sta> <ap>" "$work/started"
 refuses 7 "retry s1 a1" "no such node, or a node of the other kind; the form is retry <ap> <sta>" "$work/started"
 refuses 7 "rekey s1" "no such node, or a node of the other kind; the form is rekey <ap>" "$work/started"
+refuses 7 "send s1 all - 00" "no such node, or a node of the other kind; the form is $send" "$work/started"
+refuses 7 "send s1 a1 16 00" "wrong arguments; the form is $send" "$work/started"
 refuses 7 "expire a1" "wrong arguments; the form is expire <ap> <sta>" "$work/started"
 refuses 7 "leave a1" "no such node, or a node of the other kind; the form is leave <sta>" "$work/started"
 refuses 7 "deliver 1 to a1" "no such frame was sent; the form is deliver <n> to <node>" "$work/started"
@@ -110,6 +113,8 @@ ends 3 "the script could not be read" $none / replay
 ends 8 "a line of more than 8192 octets" "$work/started" "$work/long" replay
 (head -n 7 "$work/header"; printf 'inject a1 %04802d\n' 0) > "$work/long"
 ends 8 "an injected frame of more than 2400 octets" "$work/started" "$work/long" replay
+(head -n 7 "$work/header"; printf 'send a1 all - %04610d\n' 0) > "$work/long"
+ends 8 "a payload of more than 2304 octets" "$work/started" "$work/long" replay
 (head -n 5 "$work/header"; printf 'ap 0200000001%02x %d\n' $(for n in {1..17}; do echo $n $n; done)) > "$work/many"
 printf 'install a%d all gtk 1\n' {1..16} > "$work/sixteen"
 ends 8 "more than 16 access points" "$work/sixteen" "$work/many" replay

@@ -17,7 +17,7 @@ pub(crate) fn covered_len(frame: &[u8]) -> usize
 }
 
 /// Puts the piece behind the octets, within the room that there is.
-pub(crate) fn append(octets: &mut Vec<u8>, piece: &[u8])
+pub fn append(octets: &mut Vec<u8>, piece: &[u8])
     requires { vec_len octets.old + length piece.now ≤ vec_capacity octets.old }
     ensures items { octets.new.items ≡ octets.old.items ++ piece.now }
     ensures len { vec_len octets.new ≡ vec_len octets.old + length piece.now }

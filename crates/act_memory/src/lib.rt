@@ -8,6 +8,7 @@ mod room;
 mod send_room;
 mod taking;
 
+pub use covered::append;
 pub use outbox::Outbox;
 pub use room::{Between, Room};
 pub use send_room::SendRoom;

@@ -20,12 +20,12 @@ use Rattle.domain_rules.specs.AccessPointRows.{expire_acts}
 use Rattle.domain_rules.specs.Rows.{Expire, outcome_of}
 use Rattle.domain_rules.proofs.Parts.{same-refl, IsApart, apart-closed, apart-closed_session, apart-idle, attempt_ends, attempt_none}
 use Rattle.node_base.specs.Events.{seen}
-use Rattle.authenticator.specs.State.{State as Part}
-use Rattle.authenticator.proofs.Standing.{has_attempt, has_session, other_on}
+use Rattle.ap_node.specs.declared.station.Station.{Station}
+use Rattle.authenticator.proofs.Standing.{has_attempt, has_session}
 use Rattle.ap_node.specs.State.{State, station_at, attempt_in, session_in}
 use Rattle.ap_node.specs.Stands.{HasPart}
 use Rattle.ap_node.specs.Takes.{IsDone, expired_acts}
-use Rattle.ap_node.proofs.Others.{IsSameGroup}
+use Rattle.ap_node.proofs.Others.{IsSameGroup, AllLeave, far_on}
 use Rattle.ap_node.proofs.Standing.{has_attempt_in, has_session_in, stands_with_one}
 use Rattle.ap_node.proofs.Messaging.{IsBeside}
 
@@ -37,7 +37,7 @@ by_history p None (Some x) = refl
 by_history p (Some part) None = refl
 by_history p (Some part) (Some x) = refl
 
-expired_is : (d : Domain) (n : Node) (sta : ℕ) (o : Option Part) (h : List Act) → HasPart d n sta o h → expired_acts (Sta sta) (is_some (attempt_in o)) (is_some (session_in o)) ≡ expire_acts (Sta sta) h
+expired_is : (d : Domain) (n : Node) (sta : ℕ) (o : Option Station) (h : List Act) → HasPart d n sta o h → expired_acts (Sta sta) (is_some (attempt_in o)) (is_some (session_in o)) ≡ expire_acts (Sta sta) h
 expired_is d n sta o h at =
     same_tests (sym (has_attempt d n (Sta sta) (attempt_in o) h (has_attempt_in d n sta o h at))) (sym (has_session d n (Sta sta) (session_in o) h (has_session_in d n sta o h at)))
     ∙ by_history (Sta sta) (attempt (Sta sta) h) (session (Sta sta) h)
@@ -82,6 +82,12 @@ expired-apart q p false true other = (apart-closed_session (Sta q) p other, tt)
 expired-apart q p true false other = (apart-closed q p other, tt)
 expired-apart q p true true other = (apart-closed q p other, (apart-closed_session (Sta q) p other, tt))
 
+expired-leaves : (q p : Node) (a s : Bool) → AllLeave q (expired_acts p a s)
+expired-leaves q p false false tk = (record { used = λ h. refl; got = λ tid h. refl }, tt)
+expired-leaves q p false true tk = (record { used = λ h. refl; got = λ tid h. refl }, tt)
+expired-leaves q p true false tk = (record { used = λ h. refl; got = λ tid h. refl }, tt)
+expired-leaves q p true true tk = (record { used = λ h. refl; got = λ tid h. refl }, (record { used = λ h. refl; got = λ tid h. refl }, tt))
+
 never_refused : (p : Node) (a s : Bool) (o : Outcome) (why_ : Reason) → o ≡ outcome_of (expired_acts p a s) → o ≡ Refused why_ → ⊥
 never_refused p false false o why_ is refused = cc (is, refused)
 never_refused p false true o why_ is refused = cc (is, refused)
@@ -111,12 +117,13 @@ drops d old new sta a s waited waits outcome beside a_is s_is gone waiting came_
           drawn = beside.drawn ∙ so_far.draws_are ∙ ap (λ (m : ℕ). first + m) (sym (expired-draws p a s h));
           drawn_low = subst (λ (m : ℕ). m ≤ draw_end) (sym beside.drawn) so_far.draws_low;
           group = beside.group;
+          sending = beside.sending;
           few = subst (λ (m : ℕ). m ≤ 65536) (sym beside.length_is) so_far.few;
           counted = beside.counts so_far.counted so_far.few;
           same_group = expired-group p a s h;
-          here = subst (λ (x : Option Part). HasPart d n sta x (add said h)) (sym gone) (no_attempt_left sta h a s has_a, no_session_left p h a s has_s);
+          here = subst (λ (x : Option Station). HasPart d n sta x (add said h)) (sym gone) (no_attempt_left sta h a s has_a, no_session_left p h a s has_s);
           others = beside.others;
-          goes = λ k other. other_on (Sta k) said h (expired-apart k p a s other);
+          goes = λ k other. far_on (Sta k) said h (expired-apart k p a s other) (expired-leaves (Sta k) p a s);
         });
       });
   refused = λ why_ is. absurd (never_refused (Sta sta) a s outcome why_ came_is is);

@@ -1,6 +1,6 @@
 -- The switch to the newest group key, beside that of the rows.
 use Rattle.std.proofs.Common.{◌≡◌, ℕ, zero, suc, ◌<◌, ◌≤◌, Bool, true, false, cond, List, [], ◌∷◌, length, Option, Some, None, is_some, refl, sym, ap, subst, ◌∙◌, arith, inl, inr}
-use Rattle.std.specs.Prelude.{◌==◌, ◌&&◌, ◌||◌, ◌⊎◌, not, nat_lt}
+use Rattle.std.specs.Prelude.{◌==◌, ◌&&◌, ◌||◌, ◌⊎◌, ◌%◌, not, nat_lt}
 use Rattle.std.proofs.lemmas.Bool.{cases_Bool, eqb-true, eq-eqb, ltb-true, ltb-false}
 use Rattle.domain_base.specs.declared.names.Mac.{Mac}
 use Rattle.domain_base.specs.declared.names.Node.{Node}
@@ -12,29 +12,31 @@ use Rattle.run_journal.specs.declared.acts.Act.{Act}
 use Rattle.run_journal.specs.declared.acts.Act.TheVariants.{Installed}
 use Rattle.run_journal.specs.GroupKinds as groups
 use Rattle.run_journal.specs.Acts.{GroupKey as Carried, Derivation}
-use Rattle.run_journal.specs.Questions.{group_keys, add}
+use Rattle.run_journal.specs.Questions.{group_keys, switches, add}
 use Rattle.domain_rules.specs.Network.{mac}
 use Rattle.domain_rules.specs.GroupKeys.{newest, is_current}
 use Rattle.domain_rules.specs.Owing.{owing, any_owes, switch_acts}
 use Rattle.domain_rules.proofs.Parts.{IsApart}
 use Rattle.group_key.specs.declared.keys.GroupKey.{GroupKey}
-use Rattle.group_key.specs.Holds.{IsLast, Holds}
-use Rattle.group_key.proofs.Drawing.{newest_is, in_use, made_current}
-use Rattle.authenticator.specs.State.{State as Part}
+use Rattle.group_key.specs.Holds.{IsLast, Holds, under}
+use Rattle.group_key.proofs.Drawing.{place_is, newest_is, in_use, made_current}
+use Rattle.domain_rules.specs.PacketNumbers.{current}
+use Rattle.data_frames.specs.Holding.{HoldsGroup}
+use Rattle.ap_node.specs.declared.station.Station.{Station}
 use Rattle.authenticator.proofs.Handshaking.{owes_is, owing_no_session}
-use Rattle.authenticator.proofs.Standing.{other_on}
 use Rattle.ap_node.specs.State.{State, station_at}
 use Rattle.ap_node.specs.Counts.{owes_part}
 use Rattle.ap_node.specs.Stands.{HasPart, StandsSoFar, IsSettled, Stands}
-use Rattle.ap_node.specs.Switching.{is_due, in_use as both_newest, switched, due_acts}
+use Rattle.ap_node.specs.Switching.{is_due, in_use as both_newest, unused, switched, due_acts}
+use Rattle.ap_node.proofs.Others.{AllLeave, far_on}
 use Rattle.ap_node.proofs.Owed.{owes_at, count_some, none_owes}
 use Rattle.ap_node.proofs.Standing.{part_on}
 
 -- ---- whether a session owes, by the count
 
-part_owes : (d : Domain) (n : Node) (k : ℕ) (o : Option Part) (g : GroupKey) (h : List Act) → IsLast g (group_keys groups.Gtk h) → HasPart d n k o h → is_some (owing groups.Gtk (Sta k) h) ≡ owes_part g.place o
+part_owes : (d : Domain) (n : Node) (k : ℕ) (o : Option Station) (g : GroupKey) (h : List Act) → IsLast g (group_keys groups.Gtk h) → HasPart d n k o h → is_some (owing groups.Gtk (Sta k) h) ≡ owes_part g.place o
 part_owes d n k None g h last at = ap (λ (x : Option Derivation). is_some x) (owing_no_session (Sta k) h at.1)
-part_owes d n k (Some x) g h last at = owes_is d n (Sta k) x.session g h last at.1.session_is
+part_owes d n k (Some x) g h last at = owes_is d n (Sta k) x.part.session g h last at.1.session_is
 
 any_none : (h : List Act) (n : ℕ) → ((k : ℕ) → is_some (owing groups.Gtk (Sta k) h) ≡ false) → any_owes groups.Gtk n h ≡ false
 any_none h zero none = refl
@@ -58,7 +60,7 @@ any_some h (suc n) k low is = elim (cases_Bool (k == n)) [
     ]
 
 -- a station that owes is listed
-listed_by : (d : Domain) (n : Node) (k place : ℕ) (o : Option Part) (h : List Act) → HasPart d n k o h → owes_part place o ≡ true → k < length d.stas
+listed_by : (d : Domain) (n : Node) (k place : ℕ) (o : Option Station) (h : List Act) → HasPart d n k o h → owes_part place o ≡ true → k < length d.stas
 listed_by d n k place None h at is = absurd (cc is)
 listed_by d n k place (Some x) h at is = at.0
 
@@ -114,8 +116,26 @@ both_true : (a b : Bool) → (not a && b) ≡ true → (a ≡ false) × (b ≡ t
 both_true true b is = absurd (cc is)
 both_true false b is = (refl, is)
 
+leaves-all : (p : Node) (key : List ℕ) (id : ℕ) (b : Mac) → AllLeave p (Installed All (Group key id b) ∷ [])
+leaves-all p key id b tk = (record { used = λ h. refl; got = λ tid h. refl }, tt)
+
+-- the newest group key is the current one then, and no packet number was used under it
+id_is : (g : GroupKey) (keys : List (List ℕ)) → IsLast g keys → g.id ≡ suc (g.place % 2)
+id_is g keys last = ap (λ (x : GroupKey). x.id) last.is ∙ ap (λ (n : ℕ). suc (n % 2)) (sym (ap (λ (x : GroupKey). x.place) last.is))
+
+current_then : (s : State) (b : Mac) (h : List Act) → Holds s.group h → s.group.newest.place ≡ suc s.group.current.place
+    → current groups.Gtk (Installed All (Group s.group.newest.key s.group.newest.id b) ∷ h) ≡ Some (record { key = s.group.newest.key; id = s.group.newest.id })
+current_then s b h holds next =
+    let g = s.group.newest in
+    let places : length (switches groups.Gtk h) ≡ g.place = sym (place_is s.group.current (switches groups.Gtk h) holds.current) ∙ sym next in
+    let is : suc (length (switches groups.Gtk h) % 2) ≡ g.id = ap (λ (n : ℕ). suc (n % 2)) places ∙ sym (id_is g (group_keys groups.Gtk h) holds.newest) in
+    ap (λ (i : ℕ). Some (under g.key i)) is
+
+in_use_then : (s : State) (b : Mac) (h : List Act) → Holds s.group h → s.group.newest.place ≡ suc s.group.current.place → HoldsGroup (unused s.group.newest) (Installed All (Group s.group.newest.key s.group.newest.id b) ∷ h)
+in_use_then s b h holds next = record { id = s.group.newest.id; role = refl; current_is = current_then s b h holds next; used = refl }
+
 due_so_far : (d : Domain) (first : ℕ) (s : State) (h : List Act) → StandsSoFar d first s h → is_due s ≡ true
-    → StandsSoFar d first (record s { group = both_newest s.group }) (Installed All (Group s.group.newest.key s.group.newest.id (mac d (Ap s.number))) ∷ h)
+    → StandsSoFar d first (record s { group = both_newest s.group; sending = unused s.group.newest }) (Installed All (Group s.group.newest.key s.group.newest.id (mac d (Ap s.number))) ∷ h)
 due_so_far d first s h at due =
     let tests = both_true (s.group.newest.place == s.group.current.place) (s.owing == 0) due in
     let act = Installed All (Group s.group.newest.key s.group.newest.id (mac d (Ap s.number))) in
@@ -126,10 +146,10 @@ due_so_far d first s h at due =
       group_is = subst (λ (e : Act). Holds (both_newest s.group) (e ∷ h)) act_is
           (made_current s.group (both_newest s.group) (mac d (Ap s.number)) h at.group_is (next_by s tests.0 at.pending) refl refl);
       pending = inl refl;
-      unused = refl;
+      sending_is = in_use_then s (mac d (Ap s.number)) h at.group_is (next_by s tests.0 at.pending);
       few = at.few;
       counted = at.counted;
-      parts = λ k. part_on d (Ap s.number) k (station_at s.stations k) h (act ∷ h) (other_on (Sta k) (act ∷ []) h (apart-all (Sta k) s.group.newest.key s.group.newest.id (mac d (Ap s.number)), tt)) (at.parts k);
+      parts = λ k. part_on d (Ap s.number) k (station_at s.stations k) h (act ∷ h) (far_on (Sta k) (act ∷ []) h (apart-all (Sta k) s.group.newest.key s.group.newest.id (mac d (Ap s.number)), tt) (leaves-all (Sta k) s.group.newest.key s.group.newest.id (mac d (Ap s.number)))) (at.parts k);
     }
 
 quiet_settled : (s : State) → is_due s ≡ false → IsSettled s

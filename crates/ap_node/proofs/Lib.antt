@@ -1,7 +1,9 @@
 pub mod Places
 pub mod Others
 pub mod Standing
+pub mod InUse
 pub mod Owed
+pub mod Starting
 pub mod EachGiven
 pub mod Due
 pub mod Ending
@@ -13,3 +15,6 @@ pub mod Dropping
 pub mod Idling
 pub mod Renewing
 pub mod Growing
+pub mod DataTaken
+pub mod Using
+pub mod Traffic

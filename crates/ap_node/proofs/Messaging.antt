@@ -23,18 +23,21 @@ use Rattle.frame_intake.specs.declared.delivered.KeyMessage.{KeyMessage}
 use Rattle.frame_intake.specs.Views.{message_fields}
 use Rattle.node_base.specs.Events.{seen}
 use Rattle.act_memory.proofs.RepliedActs.{replied_about, about_draws, about_others}
-use Rattle.authenticator.specs.State.{State as Part}
+use Rattle.ap_node.specs.declared.station.Station.{Station}
 use Rattle.authenticator.specs.Judged.{frame_of}
 use Rattle.authenticator.specs.Taken.{given, Comes}
-use Rattle.authenticator.proofs.Standing.{other_on}
-use Rattle.ap_node.specs.State.{State, station_at}
+use Rattle.ccmp_guard.specs.Held.{Held}
+use Rattle.data_frames.proofs.RepliedKeys.{replied_leaves_others}
+use Rattle.ap_node.specs.declared.newest.NewestGroup.{NewestGroup}
+use Rattle.ap_node.specs.State.{State, station_at, newest_uses}
 use Rattle.ap_node.specs.Counts.{owes_part, owing_count, recounted}
 use Rattle.ap_node.specs.Stands.{HasPart, StandsSoFar, Stands}
 use Rattle.ap_node.specs.Parts.{IsHanded, IsHandedAt}
 use Rattle.ap_node.specs.Takes.{Does, IsDone, IsKeyedAtAp}
-use Rattle.ap_node.proofs.Others.{uses_none, about_group}
+use Rattle.ap_node.proofs.Others.{about_group, far_on}
 use Rattle.ap_node.proofs.Owed.{bit, count_low, count_changed, recounted_is}
-use Rattle.ap_node.proofs.Standing.{some_part, no_part, no_part_session, stands_with_one}
+use Rattle.ap_node.proofs.InUse.{key_replied}
+use Rattle.ap_node.proofs.Standing.{some_part, no_part, no_part_session, stands_with_one, uses_are}
 use Rattle.ap_node.proofs.Refusing.{does_quiet, unawaited_quiet, unawaited_message}
 
 message_from : (d : Domain) (a sta : ℕ) (octets : List ℕ) (message : KeyMessage) → IsKeyedAtAp d a octets (Sta sta) message → IsMessageFrom d (Ap a) (Sta sta) octets (message_fields message)
@@ -45,12 +48,13 @@ pub record IsBeside (old new : State) (sta : ℕ) : Type 0 where
   pub number : new.number ≡ old.number
   pub drawn : new.drawn ≡ old.drawn
   pub group : new.group ≡ old.group
+  pub sending : new.sending ≡ old.sending
   pub length_is : length new.stations ≡ length old.stations
   pub counts : old.owing ≡ owing_count old.group.newest.place old.stations → length old.stations ≤ 65536 → new.owing ≡ owing_count old.group.newest.place new.stations
   pub others : (k : ℕ) → k ≢ sta → station_at new.stations k ≡ station_at old.stations k
 
-abbrev pub the_state : ℕ → ℕ → Pair → List (Option Part) → ℕ → State
-the_state number drawn group stations owing = record { number = number; drawn = drawn; group = group; stations = stations; owing = owing }
+abbrev pub the_state : ℕ → ℕ → Pair → Held → List (Option Station) → ℕ → State
+the_state number drawn group sending stations owing = record { number = number; drawn = drawn; group = group; sending = sending; stations = stations; owing = owing }
 
 -- as the code recounts
 pub beside_count : (old new : State) (sta : ℕ) (owed owes : Bool) → ((k : ℕ) → k ≢ sta → station_at new.stations k ≡ station_at old.stations k)
@@ -66,28 +70,28 @@ beside_count old new sta owed owes others owed_is owes_is counted is few =
     joined : (n m : ℕ) {a b c e : Bool} → n + bit a ≡ m + bit b → c ≡ a → e ≡ b → n + bit c ≡ m + bit e
     joined n m sum f g = rw (f, g) sum
 
-pub owes_same : (g k : GroupKey) (o q : Option Part) → g ≡ k → o ≡ q → owes_part g.place o ≡ owes_part k.place q
+pub owes_same : (g k : GroupKey) (o q : Option Station) → g ≡ k → o ≡ q → owes_part g.place o ≡ owes_part k.place q
 owes_same g k o q key part = rw (key, part) refl
 
 -- nothing is changed where the parts and the count are not
-pub kept_state : (number drawn m n : ℕ) (group : Pair) (now was : List (Option Part)) → now ≡ was → m ≡ n
-    → the_state number drawn group now m ≡ the_state number drawn group was n
-kept_state number drawn m n group now was parts count = rw (parts, count) refl
+pub kept_state : (number drawn m n : ℕ) (group : Pair) (sending : Held) (now was : List (Option Station)) → now ≡ was → m ≡ n
+    → the_state number drawn group sending now m ≡ the_state number drawn group sending was n
+kept_state number drawn m n group sending now was parts count = rw (parts, count) refl
 
 -- the part took it
-handed : (d : Domain) (old new : State) (octets : List ℕ) (sta : ℕ) (message : KeyMessage) (outcome : Outcome) (a b : Part) (acts waited : List Act) → IsKeyedAtAp d old.number octets (Sta sta) message → IsBeside old new sta
+handed : (d : Domain) (old new : State) (octets : List ℕ) (sta : ℕ) (message : KeyMessage) (outcome : Outcome) (a b : Station) (acts waited : List Act) → IsKeyedAtAp d old.number octets (Sta sta) message → IsBeside old new sta
     → station_at old.stations sta ≡ Some a → station_at new.stations sta ≡ Some b
-    → IsHanded (pair d (Ap old.number) (Sta sta)) (given message.message (frame_of message.frame) old.group.newest 0) (taken_as octets (message_fields message) outcome) a b acts
+    → IsHanded (pair d (Ap old.number) (Sta sta)) (given message.message (frame_of message.frame) old.group.newest (newest_uses old)) (taken_as octets (message_fields message) outcome) a b acts
     → (first : ℕ) (h : List Act) → Stands d first old h → Does (here d first (Ap old.number)) (Take octets) (StandsSoFar d first new) h (seen waited (waited ++ acts) outcome)
 handed d old new octets sta message outcome a b acts waited w beside was now x first h stands =
     let n = Ap old.number in
     let p = Sta sta in
     let k = message_fields message in
-    let there = is_some a.session in
+    let there = is_some a.part.session in
     let so_far = stands.so_far in
     let at = some_part d n sta (station_at old.stations sta) a h was (so_far.parts sta) in
-    let come : Comes (here d first n) p (given message.message (frame_of message.frame) old.group.newest 0) octets k h =
-    record { from = message_from d old.number sta octets message w; message = refl; frame = refl; newest = so_far.group_is.newest; uses = uses_none h so_far.unused } in
+    let come : Comes (here d first n) p (given message.message (frame_of message.frame) old.group.newest (newest_uses old)) octets k h =
+    record { from = message_from d old.number sta octets message w; message = refl; frame = refl; newest = so_far.group_is.newest; uses = uses_are d first old h so_far } in
     let steps = x.steps d first old.number sta octets k h at.1 come in
     let said = reply_acts (pair d n p) there (taken_as octets k outcome) x.reply in
     let about = replied_about d n p there octets k outcome x.reply in
@@ -101,12 +105,14 @@ handed d old new octets sta message outcome a b acts waited w beside was now x f
         drawn = beside.drawn ∙ so_far.draws_are ∙ ap (λ (m : ℕ). first + m) (sym (about_draws p said h about));
         drawn_low = subst (λ (m : ℕ). m ≤ draw_end) (sym beside.drawn) so_far.draws_low;
         group = beside.group;
+        sending = beside.sending;
         few = subst (λ (m : ℕ). m ≤ 65536) (sym beside.length_is) so_far.few;
         counted = beside.counts so_far.counted so_far.few;
         same_group = about_group p said h about;
-        here = subst (λ (o : Option Part). HasPart d n sta o (add said h)) (sym now) (at.0, steps.stands);
+        here = subst (λ (o : Option Station). HasPart d n sta o (add said h)) (sym now)
+            (at.0, steps.stands, key_replied d n p there octets k outcome x.reply b.part a.key b.key h x.key x.installs steps.stands.session_is at.2);
         others = beside.others;
-        goes = λ i other. other_on (Sta i) said h (about_others p i said other about);
+        goes = λ i other. far_on (Sta i) said h (about_others p i said other about) (λ tk. replied_leaves_others d n p (Sta i) tk there octets k outcome x.reply other);
       });
     }
 
@@ -118,9 +124,9 @@ unhanded d s octets sta message waited w none first h stands =
     (w.judged.4 first h ∙ unawaited_message d (first + draws h) s.number h (Sta sta) (message_fields message) message.message (no_part d (Ap s.number) sta (station_at s.stations sta) h none (stands.so_far.parts sta))
     (no_part_session d (Ap s.number) sta (station_at s.stations sta) h none (stands.so_far.parts sta)))
 
-pub takes_message : (d : Domain) (old new : State) (octets : List ℕ) (sta : ℕ) (message : KeyMessage) (outcome : Outcome) (o q : Option Part) (acts waited : List Act) → IsKeyedAtAp d old.number octets (Sta sta) message → IsBeside old new sta
+pub takes_message : (d : Domain) (old new : State) (octets : List ℕ) (sta : ℕ) (message : KeyMessage) (outcome : Outcome) (o q : Option Station) (acts waited : List Act) → IsKeyedAtAp d old.number octets (Sta sta) message → IsBeside old new sta
     → ((why : Reason) → outcome ≡ Refused why → new ≡ old) → station_at old.stations sta ≡ o → station_at new.stations sta ≡ q
-    → IsHandedAt (pair d (Ap old.number) (Sta sta)) (given message.message (frame_of message.frame) old.group.newest 0) (taken_as octets (message_fields message) outcome) o q acts
+    → IsHandedAt (pair d (Ap old.number) (Sta sta)) (given message.message (frame_of message.frame) old.group.newest (newest_uses old)) (taken_as octets (message_fields message) outcome) o q acts
     → IsDone d (Take octets) old new (seen waited (waited ++ acts) outcome)
 takes_message d old new octets sta message outcome None q acts waited w beside refused was now x =
     subst (λ (s : State). IsDone d (Take octets) old s (seen waited (waited ++ acts) outcome)) (sym (refused reason.Unawaited x.1))
@@ -135,12 +141,13 @@ takes_message d old new octets sta message outcome (Some a) q acts waited w besi
 
 -- ---- as the code comes by them
 
-pub handed_as : (d : Domain) (n m : Node) (sta : ℕ) (k : KeyMessage) (g newest : GroupKey) (t : Taken) (o q new : Option Part) (acts : List Act) → n ≡ m → g ≡ newest → o ≡ q
-    → IsHandedAt (pair d n (Sta sta)) (given k.message (frame_of k.frame) g 0) t o new acts → IsHandedAt (pair d m (Sta sta)) (given k.message (frame_of k.frame) newest 0) t q new acts
-handed_as d n m sta k g newest t o q new acts node group here x =
-    subst (λ (z : Node). IsHandedAt (pair d z (Sta sta)) (given k.message (frame_of k.frame) newest 0) t q new acts) node
-    (subst (λ (z : GroupKey). IsHandedAt (pair d n (Sta sta)) (given k.message (frame_of k.frame) z 0) t q new acts) group
-    (subst (λ (z : Option Part). IsHandedAt (pair d n (Sta sta)) (given k.message (frame_of k.frame) g 0) t z new acts) here x))
+pub handed_as : (d : Domain) (n m : Node) (sta : ℕ) (k : KeyMessage) (g : NewestGroup) (newest : GroupKey) (uses : ℕ) (t : Taken) (o q new : Option Station) (acts : List Act) → n ≡ m → g.key ≡ newest → g.uses ≡ uses → o ≡ q
+    → IsHandedAt (pair d n (Sta sta)) (given k.message (frame_of k.frame) g.key g.uses) t o new acts → IsHandedAt (pair d m (Sta sta)) (given k.message (frame_of k.frame) newest uses) t q new acts
+handed_as d n m sta k g newest uses t o q new acts node group count here x =
+    subst (λ (z : Node). IsHandedAt (pair d z (Sta sta)) (given k.message (frame_of k.frame) newest uses) t q new acts) node
+    (subst (λ (z : ℕ). IsHandedAt (pair d n (Sta sta)) (given k.message (frame_of k.frame) newest z) t q new acts) count
+    (subst (λ (z : GroupKey). IsHandedAt (pair d n (Sta sta)) (given k.message (frame_of k.frame) z g.uses) t q new acts) group
+    (subst (λ (z : Option Station). IsHandedAt (pair d n (Sta sta)) (given k.message (frame_of k.frame) g.key g.uses) t z new acts) here x)))
 
 -- two facts of what came make a third
 pub if_both : {E : Type 0} (r : Result Outcome E) (P Q R : Outcome → Type 0) → IfOk r P → IfOk r Q → ((o : Outcome) → P o → Q o → R o) → IfOk r R

@@ -1,5 +1,5 @@
--- What acts that are not about a station leave of what is asked of a history, the group keys above all.
-use Rattle.std.proofs.Common.{◌≡◌, ℕ, true, false, cond, List, [], ◌∷◌, Option, Some, None, refl, sym, subst}
+-- What acts leave of what is asked of a history: of the group keys, and of a station that they are not about.
+use Rattle.std.proofs.Common.{◌≡◌, ◌∙◌, ℕ, List, [], ◌∷◌, Option, Some, None, refl, sym, ap, subst}
 use Rattle.std.specs.List.{AllByRecursion}
 use Rattle.domain_base.specs.declared.names.Node.{Node}
 use Rattle.domain_base.specs.declared.names.Node.TheVariants.{Ap}
@@ -13,16 +13,21 @@ use Rattle.run_journal.specs.declared.acts.Outcome.TheVariants.{Ignored, Refused
 use Rattle.run_journal.specs.declared.acts.Seal.{Seal}
 use Rattle.run_journal.specs.declared.acts.Act.{Act}
 use Rattle.run_journal.specs.declared.acts.Act.TheVariants.{Took, Idle}
+use Rattle.run_journal.specs.Acts.{Derivation}
 use Rattle.run_journal.specs.Questions.{group_keys, switches, group_uses, draws, add}
-use Rattle.domain_rules.specs.GroupKeys.{newest_uses}
+use Rattle.domain_rules.specs.PacketNumbers.{current_of}
 use Rattle.domain_rules.specs.Rows.{response}
-use Rattle.domain_rules.proofs.Parts.{apart-refused, apart-ignored, apart-idle}
+use Rattle.domain_rules.proofs.Parts.{IsApart, apart-refused, apart-ignored, apart-idle}
 use Rattle.domain_rules.proofs.Effects.{response-apart, refused_acts, as_before-refused}
 use Rattle.run_journal.specs.GroupKinds as groups
 use Rattle.group_key.specs.Keys.{Pair}
 use Rattle.group_key.specs.Holds.{IsLast, Holds}
 use Rattle.act_memory.proofs.RepliedActs.{IsAbout, about_gtks, about_switches, about_uses}
+use Rattle.ccmp_guard.specs.Held.{Held}
+use Rattle.data_frames.specs.Holding.{HoldsPairwise, HoldsGroup, LeavesPairwise}
+use Rattle.data_frames.proofs.Standing.{others}
 use Rattle.authenticator.proofs.Standing.{IsOther, other_on}
+use Rattle.ap_node.specs.Keys.{HasKey}
 
 -- ---- the group keys
 
@@ -41,22 +46,53 @@ holds_on g old new same holds = record {
   current = subst (λ (keys : List (List ℕ)). IsLast g.current keys) (sym same.switches_are) holds.current;
 }
 
--- how often the newest key was used
-uses_by : (b : _) (n : ℕ) → n ≡ 0 → cond b n 0 ≡ 0
-uses_by true n is = is
-uses_by false n is = refl
-
-pub uses_none : (h : List Act) → group_uses groups.Gtk h ≡ 0 → newest_uses groups.Gtk h ≡ 0
-uses_none h is = uses_by _ (group_uses groups.Gtk h) is
+-- so the current one in use is still
+pub in_use_on : (k : Held) (old new : List Act) → IsSameGroup old new → HoldsGroup k old → HoldsGroup k new
+in_use_on k old new same holds = record {
+  id = holds.id;
+  role = holds.role;
+  current_is = ap (current_of groups.Gtk) same.switches_are ∙ holds.current_is;
+  used = holds.used ∙ sym same.uses_are;
+}
 
 -- acts about one node leave them
 pub about_group : (p : Node) (g h : List Act) → AllByRecursion (IsAbout p) g → IsSameGroup h (add g h)
 about_group p g h all = record { gtks_are = about_gtks p g h all; switches_are = about_switches p g h all; uses_are = about_uses p g h all }
 
+-- ---- a station that they are not about
+
+-- a pairwise key in use with p is so still
+abbrev pub KeepsKey : Node → List Act → List Act → Type 0
+KeepsKey p old new = (tk : List ℕ) (k : Held) → HoldsPairwise p tk k old → HoldsPairwise p tk k new
+
+abbrev pub AllLeave : Node → List Act → Type 0
+AllLeave p g = (tk : List ℕ) → AllByRecursion (LeavesPairwise p tk) g
+
+pub keeps : (p : Node) (g h : List Act) → AllLeave p g → KeepsKey p h (add g h)
+keeps p g h leave tk k at = others p tk k g h at (leave tk)
+
+pub key_on : (p : Node) (o : Option Derivation) (k : Option Held) (old new : List Act) → KeepsKey p old new → HasKey p o k old → HasKey p o k new
+key_on p None None old new keep at = tt
+key_on p None (Some k) old new keep at = at
+key_on p (Some x) None old new keep at = at
+key_on p (Some x) (Some k) old new keep at = keep x.ptk.tk k at
+
+-- and for another session or none
+pub key_as : (p : Node) (o q : Option Derivation) (k : Option Held) (old new : List Act) → q ≡ o → KeepsKey p old new → HasKey p o k old → HasKey p q k new
+key_as p o q k old new same keep at = subst (λ (x : Option Derivation). HasKey p x k new) (sym same) (key_on p o k old new keep at)
+
+-- from the one history to the other lead acts that are not about p
+pub record IsFar (p : Node) (old new : List Act) : Type 0 where
+  pub other : IsOther p old new
+  pub keeps_key : KeepsKey p old new
+
+pub far_on : (p : Node) (g h : List Act) → AllByRecursion (IsApart p) g → AllLeave p g → IsFar p h (add g h)
+far_on p g h apart leave = record { other = other_on p g h apart; keeps_key = keeps p g h leave }
+
 -- ---- a frame that was refused or ignored, or an event that did nothing
 
 pub record IsSame (old new : List Act) : Type 0 where
-  pub each : (p : Node) → IsOther p old new
+  pub each : (p : Node) → IsFar p old new
   pub draws_are : draws new ≡ draws old
   pub group : IsSameGroup old new
 
@@ -69,23 +105,29 @@ refused-group d n from octets k why s h =
     let after = response-group d n from k why (Took from octets k (Refused why) s ∷ h) in
     record { gtks_are = after.gtks_are; switches_are = after.switches_are; uses_are = after.uses_are }
 
+response-leaves : (d : Domain) (n p : Node) (from : Option Node) (k : Kind) (why : Reason) → AllLeave p (response d n from k why)
+response-leaves d (Ap a) p (Some q) kind.AssocReq (reason.Status code) tk = (record { used = λ h. refl; got = λ tid h. refl }, tt)
+response-leaves d n p from k _ tk = tt
+
 pub same-refused : (d : Domain) (n : Node) (from : Option Node) (octets : List ℕ) (k : Kind) (why : Reason) (s : Option Seal) (h : List Act) → IsSame h (add (refused_acts d n from octets k why s) h)
 same-refused d n from octets k why s h = record {
-  each = λ p. other_on p (refused_acts d n from octets k why s) h (apart-refused p from octets k why s, response-apart d n from k why p);
+  each = λ p. far_on p (refused_acts d n from octets k why s) h (apart-refused p from octets k why s, response-apart d n from k why p)
+      (λ tk. (record { used = λ l. refl; got = λ tid l. refl }, response-leaves d n p from k why tk));
   draws_are = (as_before-refused d n from octets k why s h).draws_are;
   group = refused-group d n from octets k why s h;
 }
 
 pub same-ignored : (octets : List ℕ) (h : List Act) → IsSame h (Took None octets kind.Ignored Ignored None ∷ h)
 same-ignored octets h = record {
-  each = λ p. other_on p (Took None octets kind.Ignored Ignored None ∷ []) h (apart-ignored p None octets kind.Ignored None, tt);
+  each = λ p. far_on p (Took None octets kind.Ignored Ignored None ∷ []) h (apart-ignored p None octets kind.Ignored None, tt)
+      (λ tk. (record { used = λ l. refl; got = λ tid l. refl }, tt));
   draws_are = refl;
   group = record { gtks_are = refl; switches_are = refl; uses_are = refl };
 }
 
 pub same-idle : (w : Why) (h : List Act) → IsSame h (Idle w ∷ h)
 same-idle w h = record {
-  each = λ p. other_on p (Idle w ∷ []) h (apart-idle p w, tt);
+  each = λ p. far_on p (Idle w ∷ []) h (apart-idle p w, tt) (λ tk. (record { used = λ l. refl; got = λ tid l. refl }, tt));
   draws_are = refl;
   group = record { gtks_are = refl; switches_are = refl; uses_are = refl };
 }

@@ -31,6 +31,7 @@ use Rattle.domain_rules.proofs.Refused.{IsRefused, no_facts, refused_first}
 use Rattle.domain_rules.proofs.Verdicts.{unawaited-m2}
 use Rattle.frame_intake.specs.declared.delivered.Management.{Management as AnyFrame}
 use Rattle.frame_intake.specs.declared.delivered.KeyMessage.{KeyMessage as AnyMessage}
+use Rattle.frame_intake.specs.declared.delivered.SealedData.{SealedData}
 use Rattle.frame_intake.specs.Views.{management_fields}
 use Rattle.frame_intake.specs.declared.judging.Judged.TheVariants as judged
 use Rattle.frame_intake.specs.Judging.{IsJudged, IsSilent, IsSettled}
@@ -39,7 +40,7 @@ use Rattle.node_base.specs.Events.{Seen, seen}
 use Rattle.authenticator.proofs.Handshaking.{owing_no_session}
 use Rattle.ap_node.specs.State.{State}
 use Rattle.ap_node.specs.Stands.{StandsSoFar, Stands}
-use Rattle.ap_node.specs.Takes.{Does, IsTaken, IsManagedAtAp, IsRequest, IsKeyedAtAp}
+use Rattle.ap_node.specs.Takes.{Does, IsTaken, IsManagedAtAp, IsRequest, IsKeyedAtAp, IsSealedAtAp}
 use Rattle.ap_node.proofs.Others.{same-refused, same-ignored}
 use Rattle.ap_node.proofs.Standing.{so_far_as_before}
 use Rattle.ap_node.proofs.Ending.{settled_steps}
@@ -172,6 +173,11 @@ pub keyed_from : (d : Domain) (n : Node) (a : ℕ) (octets : List ℕ) (r : Read
 keyed_from d n a octets r from message reads was node =
     let here = judged_as d n a r (judged.Keyed from message) node was in
     record { reads = subst (λ (x : Reading). Reads d.akm octets x) was.0 reads; judged = subst (λ (x : Reading). IsJudged d (Ap a) x (judged.Keyed from message)) was.0 here }
+
+pub sealed_from : (d : Domain) (n : Node) (a : ℕ) (octets : List ℕ) (r : Reading) (from : Node) (frame : SealedData) → Reads d.akm octets r → IsJudged d n r (judged.Sealed from frame) → n ≡ Ap a → IsSealedAtAp d a octets from frame
+sealed_from d n a octets r from frame reads was node =
+    let here = judged_as d n a r (judged.Sealed from frame) node was in
+    record { reads = subst (λ (x : Reading). Reads d.akm octets x) was.0 reads; judged = subst (λ (x : Reading). IsJudged d (Ap a) x (judged.Sealed from frame)) was.0 here }
 
 -- the sender of a frame is a station
 pub is_station : (d : Domain) (n : Node) (a : ℕ) (from : Node) → n ≡ Ap a → IsPeerOf d n from → is_ap from ≡ false

@@ -1,6 +1,7 @@
 -- A new group key is given to each session: the acts are those of the row.
-use Rattle.std.proofs.Common.{◌≡◌, ℕ, zero, suc, ◌+◌, ◌<◌, ◌≤◌, false, List, [], ◌∷◌, ◌++◌, length, map, Option, Some, None, Result, Ok, Err, refl, sym, ap, subst, ◌∙◌, arith, inl, inr}
-use Rattle.std.specs.Prelude.{MatchResult}
+use Rattle.std.proofs.Common.{◌≡◌, ℕ, zero, suc, ◌+◌, ◌<◌, ◌≤◌, Bool, true, false, List, [], ◌∷◌, ◌++◌, length, map, Option, Some, None, Result, Ok, Err, refl, sym, ap, subst, ◌∙◌, arith, inl, inr}
+use Rattle.std.specs.Prelude.{MatchResult, cond, ◌==◌}
+use Rattle.std.proofs.lemmas.Bool.{eqb-true}
 use Rattle.std.specs.List.{AllByRecursion}
 use Rattle.std.proofs.lemmas.List.{append-nil, append_assoc, get_or_past}
 use Rattle.std.proofs.lemmas.Bool.{cases_lt, eq-eqb}
@@ -16,6 +17,7 @@ use Rattle.run_journal.specs.declared.acts.Act.TheVariants.{Drew}
 use Rattle.run_journal.specs.GroupKinds as groups
 use Rattle.run_journal.specs.Acts.{same, finishes, key_drawn, sent, Derivation}
 use Rattle.run_journal.specs.Questions.{session, group_keys, group_uses, handshake, draws, add}
+use Rattle.domain_rules.specs.GroupKeys.{newest_uses}
 use Rattle.domain_rules.specs.Network.{draw_end, gtk}
 use Rattle.domain_rules.specs.Here.{here}
 use Rattle.domain_rules.specs.Rows.{Rekey}
@@ -23,22 +25,27 @@ use Rattle.domain_rules.specs.Asking.{offered, replay_counter}
 use Rattle.domain_rules.specs.AccessPointRows.{to_session, to_sessions, rekey_acts, Renews}
 use Rattle.domain_rules.proofs.Parts.{apart-drew, is_same, sent_more, add_append}
 use Rattle.group_key.specs.declared.keys.GroupKey.{GroupKey}
-use Rattle.group_key.specs.Keys.{placed}
-use Rattle.group_key.specs.Holds.{IsLast}
-use Rattle.group_key.proofs.Drawing.{place_low, in_use, drawn}
+use Rattle.group_key.specs.Keys.{Pair, placed}
+use Rattle.group_key.specs.Holds.{IsLast, Holds}
+use Rattle.group_key.proofs.Drawing.{place_low, in_use, uses, drawn}
+use Rattle.ccmp_guard.specs.Held.{Held}
+use Rattle.data_frames.specs.Holding.{HoldsGroup}
+use Rattle.data_frames.proofs.RepliedKeys.{sent_leaves}
 use Rattle.node_base.specs.Events.{seen}
-use Rattle.act_memory.proofs.RepliedActs.{IsAbout, sent_about, about_draws, about_others}
-use Rattle.authenticator.specs.State.{State as Part}
+use Rattle.act_memory.proofs.RepliedActs.{IsAbout, sent_about, about_draws, about_others, sent_ends, ends_session}
+use Rattle.domain_rules.specs.Replies.{sent_acts}
+use Rattle.ap_node.specs.Keys.{HasKey}
+use Rattle.ap_node.specs.declared.station.Station.{Station}
 use Rattle.authenticator.specs.Stands.{AuthenticatorStands}
 use Rattle.authenticator.specs.Taken.{Newest}
 use Rattle.authenticator.specs.declared.session.Session.{Session}
-use Rattle.authenticator.proofs.Standing.{no_session, other_on}
+use Rattle.authenticator.proofs.Standing.{no_session}
 use Rattle.ap_node.specs.State.{State, station_at}
 use Rattle.ap_node.specs.Counts.{owing_count}
 use Rattle.ap_node.specs.Giving.{IsGivenIn, IsGivenAt, AreGiven}
 use Rattle.ap_node.specs.Stands.{HasPart, StandsSoFar, Stands}
 use Rattle.ap_node.specs.Takes.{Does, IsDone}
-use Rattle.ap_node.proofs.Others.{IsSameGroup, uses_none, same_group, about_group, holds_on}
+use Rattle.ap_node.proofs.Others.{IsSameGroup, same_group, about_group, holds_on, in_use_on, AllLeave, keeps, key_as, far_on}
 use Rattle.ap_node.proofs.Standing.{part_on}
 use Rattle.ap_node.proofs.Repeating.{counts_low}
 
@@ -62,63 +69,70 @@ offers_on p q (e ∷ g) h other all =
 -- ---- one station
 
 -- the part with station k is as it was given the key, behind that history, and these acts are those of the row
-record IsOne (d : Domain) (a k : ℕ) (q : Option Part) (one mid : List Act) : Type 0 where
+record IsOne (d : Domain) (a k : ℕ) (q : Option Station) (one mid : List Act) : Type 0 where
   pub says : one ≡ to_session d (Ap a) (Sta k) mid (session (Sta k) mid)
   pub about : AllByRecursion (IsAbout (Sta k)) one
+  pub leaves : (q : Node) → AllLeave q one
   pub here : HasPart d (Ap a) k q (add one mid)
 
--- behind that history it is the newest key, so far not used, and none was sent for it to the station
+-- behind that history it is the newest key, not used so far, and none was sent for it to the station
 record IsNew (g : GroupKey) (k : ℕ) (mid : List Act) : Type 0 where
   pub newest : IsLast g (group_keys groups.Gtk mid)
-  pub unused : group_uses groups.Gtk mid ≡ 0
+  pub unused : newest_uses groups.Gtk mid ≡ 0
   pub low : draws mid ≤ draw_end
   pub none : offered (Sta k) G1 (handshake groups.Gtk (Sta k) mid) ≡ []
 
-the_newest : (d : Domain) (a k : ℕ) (g : GroupKey) (x : Part) (mid : List Act) → IsNew g k mid → AuthenticatorStands d (Ap a) (Sta k) x mid → Newest (Sta k) g 0 mid
+the_newest : (d : Domain) (a k : ℕ) (g : GroupKey) (x : Station) (mid : List Act) → IsNew g k mid → AuthenticatorStands d (Ap a) (Sta k) x.part mid → Newest (Sta k) g 0 mid
 the_newest d a k g x mid new at = record {
   newest = new.newest;
-  uses = uses_none mid new.unused;
-  low = counts_low d (Ap a) (Sta k) x.session g.place g mid new.newest (omega (arith, place_low g mid new.newest, new.low)) at.session_is;
+  uses = new.unused;
+  low = counts_low d (Ap a) (Sta k) x.part.session g.place g mid new.newest (omega (arith, place_low g mid new.newest, new.low)) at.session_is;
 }
 
 -- no session, no act
-not_one : (d : Domain) (a k : ℕ) (q : Option Part) (one mid : List Act) → one ≡ [] → session (Sta k) mid ≡ None → HasPart d (Ap a) k q mid → IsOne d a k q one mid
+not_one : (d : Domain) (a k : ℕ) (q : Option Station) (one mid : List Act) → one ≡ [] → session (Sta k) mid ≡ None → HasPart d (Ap a) k q mid → IsOne d a k q one mid
 not_one d a k q one mid is none at = record {
   says = is ∙ sym (ap (to_session d (Ap a) (Sta k) mid) none);
   about = subst (λ (l : List Act). AllByRecursion (IsAbout (Sta k)) l) (sym is) tt;
+  leaves = λ q. subst (λ (l : List Act). AllLeave q l) (sym is) (λ tk. tt);
   here = subst (λ (l : List Act). HasPart d (Ap a) k q (add l mid)) (sym is) at;
 }
 
-one_in : (d : Domain) (a k : ℕ) (g : GroupKey) (x y : Part) (o : Option Session) (one mid : List Act) → x.session ≡ o → IsNew g k mid → HasPart d (Ap a) k (Some x) mid → IsGivenIn k g o x y one → IsOne d a k (Some y) one mid
+one_in : (d : Domain) (a k : ℕ) (g : GroupKey) (x y : Station) (o : Option Session) (one mid : List Act) → x.part.session ≡ o → IsNew g k mid → HasPart d (Ap a) k (Some x) mid → IsGivenIn k g o x y one → IsOne d a k (Some y) one mid
 one_in d a k g x y None one mid is new at given =
-    not_one d a k (Some y) one mid given.1 (no_session d (Ap a) (Sta k) x.session mid is at.1.session_is)
-    (subst (λ (z : Part). HasPart d (Ap a) k (Some z) mid) (sym given.0) at)
+    not_one d a k (Some y) one mid given.1 (no_session d (Ap a) (Sta k) x.part.session mid is at.1.session_is)
+    (subst (λ (z : Station). HasPart d (Ap a) k (Some z) mid) (sym given.0) at)
 one_in d a k g x y (Some s) one mid is new at given =
     let gives = given.gives d a k mid at.1 (the_newest d a k g x mid new at.1) new.none in
+    let said = sent_acts (Sta k) given.reply in
+    let key = key_as (Sta k) (session (Sta k) mid) (session (Sta k) (add said mid)) x.key mid (add said mid) (ends_session (Sta k) said mid (sent_ends (Sta k) given.reply))
+    (keeps (Sta k) said mid (λ tk. sent_leaves (Sta k) (Sta k) tk given.reply)) at.2 in
     record {
       says = given.says ∙ sym gives.adds ∙ sym (ap (to_session d (Ap a) (Sta k) mid) gives.has);
       about = subst (λ (l : List Act). AllByRecursion (IsAbout (Sta k)) l) (sym given.says) (sent_about (Sta k) given.reply);
-      here = subst (λ (l : List Act). HasPart d (Ap a) k (Some y) (add l mid)) (sym given.says) (at.0, gives.stands);
+      leaves = λ q. subst (λ (l : List Act). AllLeave q l) (sym given.says) (λ tk. sent_leaves (Sta k) q tk given.reply);
+      here = subst (λ (l : List Act). HasPart d (Ap a) k (Some y) (add l mid)) (sym given.says)
+          (at.0, gives.stands, subst (λ (m : Option Held). HasKey (Sta k) (session (Sta k) (add said mid)) m (add said mid)) (sym given.key) key);
     }
 
-one_at : (d : Domain) (a k : ℕ) (g : GroupKey) (o q : Option Part) (one mid : List Act) → IsNew g k mid → HasPart d (Ap a) k o mid → IsGivenAt k g o q one → IsOne d a k q one mid
+one_at : (d : Domain) (a k : ℕ) (g : GroupKey) (o q : Option Station) (one mid : List Act) → IsNew g k mid → HasPart d (Ap a) k o mid → IsGivenAt k g o q one → IsOne d a k q one mid
 one_at d a k g None q one mid new at given =
-    not_one d a k q one mid given.1 at.1 (subst (λ (z : Option Part). HasPart d (Ap a) k z mid) (sym given.0) at)
+    not_one d a k q one mid given.1 at.1 (subst (λ (z : Option Station). HasPart d (Ap a) k z mid) (sym given.0) at)
 one_at d a k g (Some x) q one mid new at given =
-    subst (λ (z : Option Part). IsOne d a k z one mid) (sym given.1) (one_in d a k g x given.0 x.session one mid refl new at given.2)
+    subst (λ (z : Option Station). IsOne d a k z one mid) (sym given.1) (one_in d a k g x given.0 x.part.session one mid refl new at given.2)
 
 -- ---- the first so many stations
 
 -- behind the base, at which the key was drawn
-pub record IsBase (d : Domain) (a : ℕ) (g : GroupKey) (old : List (Option Part)) (base : List Act) : Type 0 where
+pub record IsBase (d : Domain) (a : ℕ) (g : GroupKey) (old : List (Option Station)) (base : List Act) : Type 0 where
   pub newest : IsLast g (group_keys groups.Gtk base)
-  pub unused : group_uses groups.Gtk base ≡ 0
+  pub unused : newest_uses groups.Gtk base ≡ 0
   pub low : draws base ≤ draw_end
   pub parts : (j : ℕ) → HasPart d (Ap a) j (station_at old j) base
   pub none : (j : ℕ) → offered (Sta j) G1 (handshake groups.Gtk (Sta j) base) ≡ []
 
 -- these acts gave it to the first k stations
-pub record IsGivenTo (d : Domain) (a : ℕ) (old new : List (Option Part)) (k : ℕ) (acts base : List Act) : Type 0 where
+pub record IsGivenTo (d : Domain) (a : ℕ) (old new : List (Option Station)) (k : ℕ) (acts base : List Act) : Type 0 where
   pub says : acts ≡ to_sessions d (Ap a) k base
   pub same_group : IsSameGroup base (add acts base)
   pub draws_are : draws (add acts base) ≡ draws base
@@ -129,10 +143,13 @@ pub record IsGivenTo (d : Domain) (a : ℕ) (old new : List (Option Part)) (k : 
 apart : (j k : ℕ) → (j ≡ k → ⊥) → same (Sta j) (Sta k) ≡ false
 apart j k other = elim (is_same (Sta j) (Sta k)) [ inl is ↦ absurd (other (cc is)) | inr none ↦ none ]
 
-new_at : (d : Domain) (a k : ℕ) (g : GroupKey) (old new : List (Option Part)) (before base : List Act) → IsBase d a g old base → IsGivenTo d a old new k before base → IsNew g k (add before base)
+newest_same : (old new : List Act) → IsSameGroup old new → newest_uses groups.Gtk new ≡ newest_uses groups.Gtk old
+newest_same old new same = rw (same.gtks_are, same.switches_are, same.uses_are) refl
+
+new_at : (d : Domain) (a k : ℕ) (g : GroupKey) (old new : List (Option Station)) (before base : List Act) → IsBase d a g old base → IsGivenTo d a old new k before base → IsNew g k (add before base)
 new_at d a k g old new before base at so = record {
   newest = subst (λ (keys : List (List ℕ)). IsLast g keys) (sym so.same_group.gtks_are) at.newest;
-  unused = so.same_group.uses_are ∙ at.unused;
+  unused = newest_same base (add before base) so.same_group ∙ at.unused;
   low = subst (λ (n : ℕ). n ≤ draw_end) (sym so.draws_are) at.low;
   none = so.none k (omega arith);
 }
@@ -141,12 +158,12 @@ group_then : (h l m : List Act) → IsSameGroup h l → IsSameGroup l m → IsSa
 group_then h l m one two = record { gtks_are = two.gtks_are ∙ one.gtks_are; switches_are = two.switches_are ∙ one.switches_are; uses_are = two.uses_are ∙ one.uses_are }
 
 -- one more
-one_more : (d : Domain) (a k : ℕ) (old new : List (Option Part)) (before one base : List Act) → IsGivenTo d a old new k before base → IsOne d a k (station_at new k) one (add before base) → IsGivenTo d a old new (suc k) (before ++ one) base
+one_more : (d : Domain) (a k : ℕ) (old new : List (Option Station)) (before one base : List Act) → IsGivenTo d a old new k before base → IsOne d a k (station_at new k) one (add before base) → IsGivenTo d a old new (suc k) (before ++ one) base
 one_more d a k old new before one base so x =
     let mid = add before base in
     let joined : add (before ++ one) base ≡ add one mid = add_append before one base in
-    let goes = λ (j : ℕ) (other : j ≡ k → ⊥) (o : Option Part) (at : HasPart d (Ap a) j o mid).
-    part_on d (Ap a) j o mid (add one mid) (other_on (Sta j) one mid (about_others (Sta k) j one (apart j k other) x.about)) at in
+    let goes = λ (j : ℕ) (other : j ≡ k → ⊥) (o : Option Station) (at : HasPart d (Ap a) j o mid).
+    part_on d (Ap a) j o mid (add one mid) (far_on (Sta j) one mid (about_others (Sta k) j one (apart j k other) x.about) (x.leaves (Sta j))) at in
     record {
       says = says_by (to_sessions d (Ap a) k base) so.says x.says;
       same_group = subst (λ (h : List Act). IsSameGroup base h) (sym joined) (group_then base mid (add one mid) so.same_group (about_group (Sta k) one mid x.about));
@@ -167,7 +184,7 @@ one_more d a k old new before one base so x =
         → before ++ one ≡ sends ++ to_session d (Ap a) (Sta k) (add sends base) (session (Sta k) (add sends base))
     says_by sends is are = ap (λ (l : List Act). before ++ l) are ∙ ap (λ (l : List Act). l ++ to_session d (Ap a) (Sta k) (add l base) (session (Sta k) (add l base))) is
 
-pub given_to : (d : Domain) (a : ℕ) (g : GroupKey) (old new : List (Option Part)) (base : List Act) → IsBase d a g old base → (k : ℕ) (acts : List Act) → AreGiven g old new k acts → IsGivenTo d a old new k acts base
+pub given_to : (d : Domain) (a : ℕ) (g : GroupKey) (old new : List (Option Station)) (base : List Act) → IsBase d a g old base → (k : ℕ) (acts : List Act) → AreGiven g old new k acts → IsGivenTo d a old new k acts base
 given_to d a g old new base at zero acts are =
     subst (λ (l : List Act). IsGivenTo d a old new zero l base) (sym are) (record {
       says = refl;
@@ -217,24 +234,24 @@ no_more_than d n b (suc k) h low none = elim (cases_lt k b) [
     last k b low less = omega (arith, low, less)
 
 -- a station that is not listed has none, and neither has one that never came
-unlisted : (d : Domain) (a j : ℕ) (o : Option Part) (h : List Act) → length d.stas ≤ j → HasPart d (Ap a) j o h → session (Sta j) h ≡ None
+unlisted : (d : Domain) (a j : ℕ) (o : Option Station) (h : List Act) → length d.stas ≤ j → HasPart d (Ap a) j o h → session (Sta j) h ≡ None
 unlisted d a j None h past at = at.1
 unlisted d a j (Some x) h past at = absurd (omega (arith, past, at.0))
 
-never_came : (d : Domain) (a j : ℕ) (o : Option Part) (h : List Act) → o ≡ None → HasPart d (Ap a) j o h → session (Sta j) h ≡ None
-never_came d a j o h is at = (subst (λ (z : Option Part). HasPart d (Ap a) j z h) is at).1
+never_came : (d : Domain) (a j : ℕ) (o : Option Station) (h : List Act) → o ≡ None → HasPart d (Ap a) j o h → session (Sta j) h ≡ None
+never_came d a j o h is at = (subst (λ (z : Option Station). HasPart d (Ap a) j z h) is at).1
 
-pub to_listed : (d : Domain) (a : ℕ) (g : GroupKey) (old : List (Option Part)) (base : List Act) → IsBase d a g old base → to_sessions d (Ap a) (length old) base ≡ to_sessions d (Ap a) (length d.stas) base
+pub to_listed : (d : Domain) (a : ℕ) (g : GroupKey) (old : List (Option Station)) (base : List Act) → IsBase d a g old base → to_sessions d (Ap a) (length old) base ≡ to_sessions d (Ap a) (length d.stas) base
 to_listed d a g old base at = elim (cases_lt (length old) (length d.stas)) [
   | inl less ↦ sym (no_more_than d (Ap a) (length old) (length d.stas) base (omega (arith, less)) (λ j past. never_came d a j (station_at old j) base (get_or_past old j None past) (at.parts j)))
   | inr most ↦ no_more_than d (Ap a) (length d.stas) (length old) base most (λ j past. unlisted d a j (station_at old j) base past (at.parts j))
 ]
 
 -- each part behind all of them
-pub parts_after : (d : Domain) (a : ℕ) (old new : List (Option Part)) (acts base : List Act) → length new ≡ length old → IsGivenTo d a old new (length old) acts base → (j : ℕ) → HasPart d (Ap a) j (station_at new j) (add acts base)
+pub parts_after : (d : Domain) (a : ℕ) (old new : List (Option Station)) (acts base : List Act) → length new ≡ length old → IsGivenTo d a old new (length old) acts base → (j : ℕ) → HasPart d (Ap a) j (station_at new j) (add acts base)
 parts_after d a old new acts base length_is so j = elim (cases_lt j (length old)) [
   | inl less ↦ so.given j less
-  | inr most ↦ subst (λ (o : Option Part). HasPart d (Ap a) j o (add acts base)) (get_or_past old j None most ∙ sym (get_or_past new j None (omega (arith, length_is, most)))) (so.yet j most)
+  | inr most ↦ subst (λ (o : Option Station). HasPart d (Ap a) j o (add acts base)) (get_or_past old j None most ∙ sym (get_or_past new j None (omega (arith, length_is, most)))) (so.yet j most)
 ]
 
 -- ---- the row
@@ -247,19 +264,34 @@ pub record IsRenewed (d : Domain) (old new : State) (key : List ℕ) (waited wai
   pub key_is : key ≡ gtk d (Ap old.number) old.drawn
   pub was_in_use : old.group.newest.place ≡ old.group.current.place
   pub current : new.group.current ≡ old.group.current
+  pub sending : new.sending ≡ old.sending
   pub newest : new.group.newest ≡ placed (suc old.group.newest.place) key
   pub length_is : length new.stations ≡ length old.stations
   pub counted : new.owing ≡ owing_count new.group.newest.place new.stations
   pub given : length old.stations ≤ 65536
       → (acts : List Act) × (waits ≡ (waited ++ Drew (Gtk key) ∷ []) ++ acts) × AreGiven new.group.newest old.stations new.stations (length old.stations) acts
 
+-- the place of the newest, and that no number was used under it as long as another is current
+next_place : (d : Domain) (old new : State) (key : List ℕ) (waited waits : List Act) → IsRenewed d old new key waited waits → new.group.newest.place ≡ suc new.group.current.place
+next_place d old new key waited waits w = ap (λ (g : GroupKey). g.place) w.newest ∙ ap suc w.was_in_use ∙ sym (ap (λ (g : GroupKey). suc g.place) w.current)
+
+unused_yet : (g : Pair) (h : List Act) → Holds g h → g.newest.place ≡ suc g.current.place → newest_uses groups.Gtk h ≡ 0
+unused_yet g h holds next = uses g h holds ∙ by (g.newest.place == g.current.place) refl
+  where
+    by : (b : Bool) → (g.newest.place == g.current.place) ≡ b → cond b (group_uses groups.Gtk h) 0 ≡ 0
+    by true is = absurd (omega (arith, eqb-true g.newest.place g.current.place is, next))
+    by false other = refl
+
+leaves-drew : (q : Node) (key : List ℕ) → AllLeave q (Drew (Gtk key) ∷ [])
+leaves-drew q key tk = (record { used = λ h. refl; got = λ tid h. refl }, tt)
+
 -- the key is drawn
 based : (d : Domain) (first : ℕ) (old new : State) (key : List ℕ) (waited waits h : List Act) → IsRenewed d old new key waited waits → StandsSoFar d first old h → IsBase d old.number new.group.newest old.stations (Drew (Gtk key) ∷ h)
 based d first old new key waited waits h w at = record {
   newest = (drawn old.group new.group key h at.group_is w.current w.newest).newest;
-  unused = at.unused;
+  unused = unused_yet new.group (Drew (Gtk key) ∷ h) (drawn old.group new.group key h at.group_is w.current w.newest) (next_place d old new key waited waits w);
   low = omega (arith, at.draws_are, w.low);
-  parts = λ j. part_on d (Ap old.number) j (station_at old.stations j) h (Drew (Gtk key) ∷ h) (other_on (Sta j) (Drew (Gtk key) ∷ []) h (apart-drew (Sta j) (Gtk key), tt)) (at.parts j);
+  parts = λ j. part_on d (Ap old.number) j (station_at old.stations j) h (Drew (Gtk key) ∷ h) (far_on (Sta j) (Drew (Gtk key) ∷ []) h (apart-drew (Sta j) (Gtk key), tt) (leaves-drew (Sta j) key)) (at.parts j);
   none = λ j. refl;
 }
 
@@ -272,8 +304,8 @@ renewed_stands d first old new key waited waits acts h w at so =
       draws_are = w.drawn ∙ ap suc at.draws_are ∙ plus_suc first (draws h) ∙ ap (λ (n : ℕ). first + n) (sym so.draws_are);
       draws_low = subst (λ (n : ℕ). n ≤ draw_end) (sym w.drawn) (omega (arith, w.low));
       group_is = holds_on new.group base (add acts base) so.same_group (drawn old.group new.group key h at.group_is w.current w.newest);
-      pending = inr (ap (λ (g : GroupKey). g.place) w.newest ∙ ap suc w.was_in_use ∙ sym (ap (λ (g : GroupKey). suc g.place) w.current));
-      unused = so.same_group.uses_are ∙ at.unused;
+      pending = inr (next_place d old new key waited waits w);
+      sending_is = subst (λ (k : Held). HoldsGroup k (add acts base)) (sym w.sending) (in_use_on old.sending base (add acts base) so.same_group (drew_on old.sending key h at.sending_is));
       few = subst (λ (n : ℕ). n ≤ 65536) (sym w.length_is) at.few;
       counted = w.counted;
       parts = λ j. subst (λ (a : ℕ). HasPart d (Ap a) j (station_at new.stations j) (add acts base)) (sym w.number)
@@ -282,6 +314,9 @@ renewed_stands d first old new key waited waits acts h w at so =
   where
     plus_suc : (n m : ℕ) → suc (n + m) ≡ n + suc m
     plus_suc n m = omega arith
+
+    drew_on : (k : Held) (key : List ℕ) (h : List Act) → HoldsGroup k h → HoldsGroup k (Drew (Gtk key) ∷ h)
+    drew_on k key h at = record { id = at.id; role = at.role; current_is = at.current_is; used = at.used }
 
 -- the acts are those of the row
 row_acts : (d : Domain) (first a : ℕ) (key : List ℕ) (acts h : List Act) → key ≡ gtk d (Ap a) (first + draws h) → acts ≡ to_sessions d (Ap a) (length d.stas) (Drew (Gtk key) ∷ h) → Drew (Gtk key) ∷ acts ≡ rekey_acts (here d first (Ap a)) h
@@ -319,10 +354,10 @@ pub if_in_use : {A E C : Type 0} (r : Result A E) (P Q : Type 0) → C → Match
 if_in_use (Ok x) P Q is p pending = p
 if_in_use (Err e) P Q is p pending = absurd (pending is)
 
-pub given_as : (g k : GroupKey) (o was new : List (Option Part)) (mid before waits : List Act) → g ≡ k → o ≡ was → mid ≡ before
+pub given_as : (g k : GroupKey) (o was new : List (Option Station)) (mid before waits : List Act) → g ≡ k → o ≡ was → mid ≡ before
     → (length o ≤ 65536 → (acts : List Act) × (waits ≡ mid ++ acts) × AreGiven g o new (length o) acts)
     → length was ≤ 65536 → (acts : List Act) × (waits ≡ before ++ acts) × AreGiven k was new (length was) acts
 given_as g k o was new mid before waits key parts acts x =
     subst (λ (z : GroupKey). length was ≤ 65536 → (acts : List Act) × (waits ≡ before ++ acts) × AreGiven z was new (length was) acts) key
-    (subst (λ (z : List (Option Part)). length z ≤ 65536 → (acts : List Act) × (waits ≡ before ++ acts) × AreGiven g z new (length z) acts) parts
+    (subst (λ (z : List (Option Station)). length z ≤ 65536 → (acts : List Act) × (waits ≡ before ++ acts) × AreGiven g z new (length z) acts) parts
     (subst (λ (z : List Act). length o ≤ 65536 → (acts : List Act) × (waits ≡ z ++ acts) × AreGiven g o new (length o) acts) acts x))

@@ -1,6 +1,6 @@
 -- What is sent once more.
 use Rattle.std.proofs.Common.{◌≡◌, ℕ, ◌+◌, ◌<◌, ◌≤◌, ◌^◌, Bool, true, false, cond, List, [], ◌∷◌, ◌++◌, Option, Some, None, refl, sym, ap, subst, ◌∙◌, arith}
-use Rattle.std.specs.Prelude.{◌-◌, take, ◌==◌}
+use Rattle.std.specs.Prelude.{◌-◌, take, is_some, ◌==◌}
 use Rattle.std.specs.List.{AllByRecursion}
 use Rattle.domain_base.specs.declared.names.Node.{Node}
 use Rattle.domain_base.specs.declared.names.Node.TheVariants.{Ap, Sta}
@@ -30,7 +30,7 @@ use Rattle.group_key.specs.Holds.{IsLast}
 use Rattle.group_key.proofs.Drawing.{place_low}
 use Rattle.node_base.specs.Events.{seen}
 use Rattle.act_memory.proofs.RepliedActs.{sent_about, about_draws, about_others}
-use Rattle.authenticator.specs.State.{State as Part}
+use Rattle.ap_node.specs.declared.station.Station.{Station}
 use Rattle.authenticator.specs.Stands.{HasSession, AuthenticatorStands}
 use Rattle.authenticator.specs.Steps.{part_of, again_acts}
 use Rattle.authenticator.specs.Taken.{Newest}
@@ -38,13 +38,15 @@ use Rattle.authenticator.specs.declared.session.Session.{Session}
 use Rattle.authenticator.specs.declared.authenticator.Again.{Again}
 use Rattle.authenticator.specs.declared.authenticator.Again.TheVariants as again
 use Rattle.authenticator.proofs.Handshaking.{counts_newest, owing_no_session}
-use Rattle.authenticator.proofs.Standing.{other_on}
-use Rattle.ap_node.specs.State.{State, station_at}
+use Rattle.authenticator.proofs.Standing.{has_session}
+use Rattle.ap_node.specs.declared.newest.NewestGroup.{NewestGroup}
+use Rattle.ap_node.specs.State.{State, station_at, newest_uses}
 use Rattle.ap_node.specs.Stands.{HasPart, StandsSoFar}
 use Rattle.ap_node.specs.Parts.{IsResent, IsResentAt}
 use Rattle.ap_node.specs.Takes.{IsDone}
-use Rattle.ap_node.proofs.Others.{IsSameGroup, uses_none, about_group, same-idle}
-use Rattle.ap_node.proofs.Standing.{no_part, no_part_session, some_part, part_on, stands_with_one}
+use Rattle.ap_node.proofs.Others.{IsSameGroup, about_group, far_on, same-idle}
+use Rattle.ap_node.proofs.InUse.{again_leaves, key_again}
+use Rattle.ap_node.proofs.Standing.{no_part, no_part_session, some_part, part_on, stands_with_one, uses_are}
 use Rattle.ap_node.proofs.Messaging.{IsBeside}
 
 -- ---- what the acts of a retry leave
@@ -95,15 +97,22 @@ counts_low d n p (Some s) place g h last low at x is =
     omega (arith, counts.next, counts.low, counts.few, counts.drawn, low)
 
 -- the newest group key, as the parts are given it
-pub newest_at : (d : Domain) (first : ℕ) (s : State) (sta : ℕ) (part : Part) (h : List Act) → StandsSoFar d first s h → AuthenticatorStands d (Ap s.number) (Sta sta) part h → Newest (Sta sta) s.group.newest 0 h
-newest_at d first s sta part h so_far at = record {
+pub newest_at : (d : Domain) (first : ℕ) (s : State) (sta : ℕ) (x : Station) (h : List Act) → StandsSoFar d first s h → AuthenticatorStands d (Ap s.number) (Sta sta) x.part h → Newest (Sta sta) s.group.newest (newest_uses s) h
+newest_at d first s sta x h so_far at = record {
   newest = so_far.group_is.newest;
-  uses = uses_none h so_far.unused;
-  low = counts_low d (Ap s.number) (Sta sta) part.session s.group.newest.place s.group.newest h so_far.group_is.newest
+  uses = uses_are d first s h so_far;
+  low = counts_low d (Ap s.number) (Sta sta) x.part.session s.group.newest.place s.group.newest h so_far.group_is.newest
       (omega (arith, place_low s.group.newest h so_far.group_is.newest, so_far.draws_are, so_far.draws_low)) at.session_is;
 }
 
-resent : (d : Domain) (old new : State) (sta : ℕ) (a b : Part) (acts waited : List Act) (outcome : Outcome) → IsBeside old new sta → station_at old.stations sta ≡ Some a → station_at new.stations sta ≡ Some b → outcome ≡ outcome_of acts → IsResent sta old.group.newest a b acts
+-- the newest group key of an access point, as the code has it
+abbrev newest_group : GroupKey → ℕ → NewestGroup
+newest_group key uses = record { key = key; uses = uses }
+
+abbrev pub newest_of : State → NewestGroup
+newest_of s = newest_group s.group.newest (newest_uses s)
+
+resent : (d : Domain) (old new : State) (sta : ℕ) (a b : Station) (acts waited : List Act) (outcome : Outcome) → IsBeside old new sta → station_at old.stations sta ≡ Some a → station_at new.stations sta ≡ Some b → outcome ≡ outcome_of acts → IsResent sta (newest_of old) a b acts
     → IsDone d (Retry sta) old new (seen waited (waited ++ acts) outcome)
 resent d old new sta a b acts waited outcome beside was now came_is x = record {
   number = beside.number;
@@ -124,12 +133,14 @@ resent d old new sta a b acts waited outcome beside was now came_is x = record {
           drawn = beside.drawn ∙ so_far.draws_are ∙ ap (λ (m : ℕ). first + m) (sym (again-draws p x.came x.reply h));
           drawn_low = subst (λ (m : ℕ). m ≤ draw_end) (sym beside.drawn) so_far.draws_low;
           group = beside.group;
+          sending = beside.sending;
           few = subst (λ (m : ℕ). m ≤ 65536) (sym beside.length_is) so_far.few;
           counted = beside.counts so_far.counted so_far.few;
           same_group = again-group p x.came x.reply h;
-          here = subst (λ (o : Option Part). HasPart d n sta o (add said h)) (sym now) (at.0, y.stands);
+          here = subst (λ (o : Option Station). HasPart d n sta o (add said h)) (sym now)
+              (at.0, y.stands, key_again p (is_some b.part.session) x.came x.reply a.key b.key h x.key (has_session d n p b.part.session (add said h) y.stands.session_is) at.2);
           others = beside.others;
-          goes = λ k other. other_on (Sta k) said h (again-apart k p x.came x.reply other);
+          goes = λ k other. far_on (Sta k) said h (again-apart k p x.came x.reply other) (again_leaves (Sta k) p x.came x.reply);
         });
       });
   refused = λ why_ is. absurd (never_refused (Sta sta) x.came x.reply outcome why_ (came_is ∙ ap outcome_of x.says) is);
@@ -154,10 +165,11 @@ idle d old new sta waited beside was now = record {
           drawn = beside.drawn ∙ so_far.draws_are;
           drawn_low = subst (λ (m : ℕ). m ≤ draw_end) (sym beside.drawn) so_far.draws_low;
           group = beside.group;
+          sending = beside.sending;
           few = subst (λ (m : ℕ). m ≤ 65536) (sym beside.length_is) so_far.few;
           counted = beside.counts so_far.counted so_far.few;
           same_group = same.group;
-          here = subst (λ (o : Option Part). HasPart d n sta o (Idle why.Nothing ∷ h)) (sym now) (part_on d n sta None h (Idle why.Nothing ∷ h) (same.each (Sta sta)) (subst (λ (o : Option Part). HasPart d n sta o h) was (so_far.parts sta)));
+          here = subst (λ (o : Option Station). HasPart d n sta o (Idle why.Nothing ∷ h)) (sym now) (part_on d n sta None h (Idle why.Nothing ∷ h) (same.each (Sta sta)) (subst (λ (o : Option Station). HasPart d n sta o h) was (so_far.parts sta)));
           others = beside.others;
           goes = λ k other. same.each (Sta k);
         });
@@ -165,7 +177,7 @@ idle d old new sta waited beside was now = record {
   refused = λ why_ is. absurd (cc is);
 }
 
-pub retries : (d : Domain) (old new : State) (sta : ℕ) (o q : Option Part) (acts waited : List Act) (outcome : Outcome) → IsBeside old new sta → station_at old.stations sta ≡ o → station_at new.stations sta ≡ q → outcome ≡ outcome_of acts → IsResentAt sta old.group.newest o q acts
+pub retries : (d : Domain) (old new : State) (sta : ℕ) (o q : Option Station) (acts waited : List Act) (outcome : Outcome) → IsBeside old new sta → station_at old.stations sta ≡ o → station_at new.stations sta ≡ q → outcome ≡ outcome_of acts → IsResentAt sta (newest_of old) o q acts
     → IsDone d (Retry sta) old new (seen waited (waited ++ acts) outcome)
 retries d old new sta None q acts waited outcome beside was now came_is x =
     subst (λ (g : List Act). IsDone d (Retry sta) old new (seen waited (waited ++ g) outcome)) (sym x.1)
@@ -173,6 +185,12 @@ retries d old new sta None q acts waited outcome beside was now came_is x =
 retries d old new sta (Some a) q acts waited outcome beside was now came_is x = resent d old new sta a x.0 acts waited outcome beside was (now ∙ x.1) came_is x.2
 
 -- as the code comes by them
-pub resent_as : (sta : ℕ) (g newest : GroupKey) (o q new : Option Part) (acts : List Act) → g ≡ newest → o ≡ q → IsResentAt sta g o new acts → IsResentAt sta newest q new acts
+pub newest_as : (g : NewestGroup) (s : State) → g.key ≡ s.group.newest → g.uses ≡ newest_uses s → g ≡ newest_of s
+newest_as g s key uses = by key uses
+  where
+    by : {k m : GroupKey} {a b : ℕ} → k ≡ m → a ≡ b → newest_group k a ≡ newest_group m b
+    by e f = rw (e, f) refl
+
+pub resent_as : (sta : ℕ) (g newest : NewestGroup) (o q new : Option Station) (acts : List Act) → g ≡ newest → o ≡ q → IsResentAt sta g o new acts → IsResentAt sta newest q new acts
 resent_as sta g newest o q new acts group here x =
-    subst (λ (z : GroupKey). IsResentAt sta z q new acts) group (subst (λ (z : Option Part). IsResentAt sta g z new acts) here x)
+    subst (λ (z : NewestGroup). IsResentAt sta z q new acts) group (subst (λ (z : Option Station). IsResentAt sta g z new acts) here x)

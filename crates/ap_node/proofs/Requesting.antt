@@ -37,18 +37,21 @@ use Rattle.frame_intake.specs.declared.delivered.Management.{Management as AnyFr
 use Rattle.frame_intake.specs.Views.{management_fields}
 use Rattle.node_base.specs.Events.{seen}
 use Rattle.authenticator.specs.State.{State as Part, with_session}
+use Rattle.authenticator.specs.Stands.{AuthenticatorStands}
+use Rattle.ap_node.specs.declared.station.Station.{Station}
 use Rattle.group_key.specs.Keys.{Pair}
 use Rattle.authenticator.specs.Stands.{Counts, HasAttempt}
 use Rattle.authenticator.specs.Steps.{IsBegun}
 use Rattle.authenticator.specs.declared.attempt.Attempt.{Attempt}
 use Rattle.authenticator.specs.declared.session.Session.{Session}
 use Rattle.authenticator.proofs.Handshaking.{counts_on}
-use Rattle.authenticator.proofs.Standing.{other_on, session_on}
-use Rattle.ap_node.specs.State.{State, station_at, attempt_in, session_in}
+use Rattle.authenticator.proofs.Standing.{session_on}
+use Rattle.ap_node.specs.State.{State, station_at, attempt_in, session_in, key_in}
 use Rattle.ap_node.specs.Counts.{owes_part}
 use Rattle.ap_node.specs.Stands.{HasPart, StandsSoFar, IsSettled}
 use Rattle.ap_node.specs.Takes.{IsTaken, IsManagedAtAp, IsRequest, Begins, BeginsWith, closed, associated_acts}
-use Rattle.ap_node.proofs.Others.{IsSameGroup}
+use Rattle.ap_node.proofs.Others.{IsSameGroup, AllLeave, keeps, key_as, far_on}
+use Rattle.ap_node.proofs.InUse.{has_key_in}
 use Rattle.ap_node.proofs.Owed.{owes_at, count_same}
 use Rattle.ap_node.proofs.Ending.{settled_steps}
 use Rattle.ap_node.proofs.Standing.{has_attempt_in, has_session_in, stands_with_one}
@@ -97,7 +100,7 @@ closed_is : (d : Domain) (n p : Node) (o : Option Attempt) (h : List Act) → Ha
 closed_is d n p None h at = sym (ap (close_attempt p) at)
 closed_is d n p (Some a) h at = sym (ap (close_attempt p) at.is)
 
-associated_is : (d : Domain) (first : ℕ) (n : Node) (sta : ℕ) (octets : List ℕ) (o : Option Part) (drawn : ℕ) (h : List Act) → HasPart d n sta o h → drawn ≡ first + draws h
+associated_is : (d : Domain) (first : ℕ) (n : Node) (sta : ℕ) (octets : List ℕ) (o : Option Station) (drawn : ℕ) (h : List Act) → HasPart d n sta o h → drawn ≡ first + draws h
     → associated_acts d n (Sta sta) octets (is_some (attempt_in o)) (nonce d n drawn) ≡ answer_acts d n (Sta sta) octets (attempt (Sta sta) h) (next_nonce d first n h)
 associated_is d first n sta octets o drawn h at drawn_is = rw (closed_is d n (Sta sta) (attempt_in o) h (has_attempt_in d n sta o h at), drawn_is) refl
 
@@ -147,7 +150,42 @@ answer-group : (d : Domain) (n p : Node) (octets : List ℕ) (o : Option (List A
 answer-group d n p octets None v h = record { gtks_are = refl; switches_are = refl; uses_are = refl }
 answer-group d n p octets (Some part) v h = record { gtks_are = refl; switches_are = refl; uses_are = refl }
 
--- what there is with the station then: the old session goes on beside the new attempt
+answer-leaves : (q : Node) (d : Domain) (n p : Node) (octets : List ℕ) (o : Option (List Act)) (v : List ℕ) → AllLeave q (answer_acts d n p octets o v)
+answer-leaves q d n p octets None v tk = (
+  record { used = λ h. refl; got = λ tid h. refl },
+  (
+    record { used = λ h. refl; got = λ tid h. refl },
+    (
+      record { used = λ h. refl; got = λ tid h. refl },
+      (
+        record { used = λ h. refl; got = λ tid h. refl },
+        (record { used = λ h. refl; got = λ tid h. refl }, tt),
+      ),
+    ),
+  ),
+)
+answer-leaves q d n p octets (Some part) v tk = (
+  record { used = λ h. refl; got = λ tid h. refl },
+  (
+    record { used = λ h. refl; got = λ tid h. refl },
+    (
+      record { used = λ h. refl; got = λ tid h. refl },
+      (
+        record { used = λ h. refl; got = λ tid h. refl },
+        (
+          record { used = λ h. refl; got = λ tid h. refl },
+          (record { used = λ h. refl; got = λ tid h. refl }, tt),
+        ),
+      ),
+    ),
+  ),
+)
+
+answer-session : (d : Domain) (n p : Node) (octets : List ℕ) (o : Option (List Act)) (v : List ℕ) (h : List Act) → session p (add (answer_acts d n p octets o v) h) ≡ session p h
+answer-session d n p octets None v h = refl
+answer-session d n p octets (Some part) v h = refl
+
+-- what there is with the station then: the old session goes on beside the new attempt, under its key
 begun_at : (d : Domain) (old new : State) (sta : ℕ) (octets rsne : List ℕ) (h : List Act) (w : BeginsWith d old new sta rsne) (o : Option (List Act)) → sta < length d.stas → HasRsne d.akm octets (Some rsne) → HasPart d (Ap old.number) sta (station_at old.stations sta) h
     → HasPart d (Ap old.number) sta (station_at new.stations sta) (add (answer_acts d (Ap old.number) (Sta sta) octets o (nonce d (Ap old.number) old.drawn)) h)
 begun_at d old new sta octets rsne h w o low said at =
@@ -158,8 +196,13 @@ begun_at d old new sta octets rsne h w o low said at =
     let past = before_m1 d n p octets o v h in
     let before = session_on d n p x h past (session-before d n p octets o v h) (counts-before d n p octets o v h) (has_session_in d n sta (station_at old.stations sta) h at) in
     let stands = w.begins past x (is_begun d n p octets v rsne o h said) before in
-    subst (λ (y : Option Part). HasPart d n sta y (add (answer_acts d n p octets o v) h)) (sym w.is)
-    (subst (λ (g : List Act). HasPart d n sta (Some (with_session x w.part)) g) (sym (answer-add d n p octets o v h)) (low, stands))
+    let said = answer_acts d n p octets o v in
+    let old_station = station_at old.stations sta in
+    subst (λ (y : Option Station). HasPart d n sta y (add said h)) (sym w.is) (
+      low,
+      subst (λ (g : List Act). AuthenticatorStands d n p (with_session x w.part) g) (sym (answer-add d n p octets o v h)) stands,
+      key_as p (session p h) (session p (add said h)) (key_in old_station) h (add said h) (answer-session d n p octets o v h) (keeps p said h (answer-leaves p d n p octets o v)) (has_key_in d n sta old_station h at),
+    )
 
 -- no session owes more or less than before
 owes_kept : (d : Domain) (old new : State) (sta place : ℕ) (rsne : List ℕ) → BeginsWith d old new sta rsne → (k : ℕ) → owes_at place new.stations k ≡ owes_at place old.stations k
@@ -186,12 +229,13 @@ stands_associated d first old new sta octets rsne h low said room w stands =
       drawn = omega (arith, w.drawn, stands.draws_are, answer-draws d n p octets o v h);
       drawn_low = omega (arith, w.drawn, room);
       group = w.group;
+      sending = w.sending;
       few = omega (arith, w.few, stands.few);
       counted = w.owing ∙ stands.counted ∙ sym (count_same place old.stations new.stations (owes_kept d old new sta place rsne w));
       same_group = answer-group d n p octets o v h;
       here = subst (λ (u : List ℕ). HasPart d n sta (station_at new.stations sta) (add (answer_acts d n p octets o u) h)) v_is (begun_at d old new sta octets rsne h w o low said (stands.parts sta));
       others = w.others;
-      goes = λ k other. other_on (Sta k) (answer_acts d n p octets o v) h (answer-apart d n p octets o v k other);
+      goes = λ k other. far_on (Sta k) (answer_acts d n p octets o v) h (answer-apart d n p octets o v k other) (answer-leaves (Sta k) d n p octets o v);
     }))
 
 -- and no switch is to come

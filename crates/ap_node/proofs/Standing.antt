@@ -1,6 +1,6 @@
 -- How an access point goes on to stand for the history with more acts.
-use Rattle.std.specs.Prelude.{◌⊎◌}
-use Rattle.std.proofs.Common.{◌≡◌, ◌≢◌, ℕ, suc, ◌+◌, ◌≤◌, false, List, length, Option, Some, None, sym, ap, subst, ◌∙◌, inl, inr}
+use Rattle.std.specs.Prelude.{◌⊎◌, ◌==◌}
+use Rattle.std.proofs.Common.{◌≡◌, ◌≢◌, ℕ, suc, ◌+◌, ◌≤◌, false, cond, List, length, Option, Some, None, sym, ap, subst, ◌∙◌, inl, inr}
 use Rattle.domain_base.specs.declared.names.Node.{Node}
 use Rattle.domain_base.specs.declared.names.Node.TheVariants.{Ap, Sta}
 use Rattle.run_journal.specs.declared.domain.Domain.{Domain}
@@ -11,19 +11,28 @@ use Rattle.domain_rules.specs.Network.{draw_end}
 use Rattle.domain_rules.proofs.Parts.{is_same, same-false}
 use Rattle.group_key.specs.Keys.{Pair}
 use Rattle.group_key.specs.Holds.{Holds}
-use Rattle.authenticator.specs.State.{State as Part}
+use Rattle.group_key.proofs.Drawing.{uses}
+use Rattle.run_journal.specs.GroupKinds as groups
+use Rattle.domain_rules.specs.GroupKeys.{newest_uses}
+use Rattle.ap_node.specs.declared.station.Station.{Station}
 use Rattle.authenticator.specs.Stands.{HasAttempt, HasSession}
-use Rattle.authenticator.proofs.Standing.{IsOther, stands_on}
-use Rattle.ap_node.specs.State.{State, station_at, attempt_in, session_in}
+use Rattle.ccmp_guard.specs.Held.{Held}
+use Rattle.data_frames.specs.Holding.{HoldsGroup}
+use Rattle.authenticator.proofs.Standing.{stands_on}
+use Rattle.ap_node.specs.State.{State, station_at, attempt_in, session_in, newest_uses as uses_of}
 use Rattle.ap_node.specs.Counts.{owing_count}
 use Rattle.ap_node.specs.Stands.{HasPart, StandsSoFar}
-use Rattle.ap_node.proofs.Others.{IsSame, IsSameGroup, holds_on}
+use Rattle.ap_node.proofs.Others.{IsFar, IsSame, IsSameGroup, holds_on, in_use_on, key_as}
 
 -- ---- acts that are not about a station
 
-pub part_on : (d : Domain) (n : Node) (sta : ℕ) (o : Option Part) (old new : List Act) → IsOther (Sta sta) old new → HasPart d n sta o old → HasPart d n sta o new
-part_on d n sta None old new other at = (other.goes.none at.0, other.goes.has ∙ at.1)
-part_on d n sta (Some x) old new other at = (at.0, stands_on d n (Sta sta) x old new other at.1)
+pub part_on : (d : Domain) (n : Node) (sta : ℕ) (o : Option Station) (old new : List Act) → IsFar (Sta sta) old new → HasPart d n sta o old → HasPart d n sta o new
+part_on d n sta None old new far at = (far.other.goes.none at.0, far.other.goes.has ∙ at.1)
+part_on d n sta (Some x) old new far at = (
+  at.0,
+  stands_on d n (Sta sta) x.part old new far.other at.1,
+  key_as (Sta sta) (session (Sta sta) old) (session (Sta sta) new) x.key old new far.other.goes.has far.keeps_key at.2,
+)
 
 pub so_far_as_before : (d : Domain) (first : ℕ) (s : State) (old new : List Act) → IsSame old new → StandsSoFar d first s old → StandsSoFar d first s new
 so_far_as_before d first s old new same stands = record {
@@ -31,7 +40,7 @@ so_far_as_before d first s old new same stands = record {
   draws_low = stands.draws_low;
   group_is = holds_on s.group old new same.group stands.group_is;
   pending = stands.pending;
-  unused = same.group.uses_are ∙ stands.unused;
+  sending_is = in_use_on s.sending old new same.group stands.sending_is;
   few = stands.few;
   counted = stands.counted;
   parts = λ k. part_on d (Ap s.number) k (station_at s.stations k) old new (same.each (Sta k)) (stands.parts k);
@@ -39,8 +48,8 @@ so_far_as_before d first s old new same stands = record {
 
 -- ---- acts about one station
 
-with_one : (d : Domain) (n : Node) (old new : List Act) (was now : List (Option Part)) (station k : ℕ) → HasPart d n station (station_at now station) new → ((i : ℕ) → i ≢ station → station_at now i ≡ station_at was i)
-    → ((i : ℕ) → same (Sta i) (Sta station) ≡ false → IsOther (Sta i) old new) → HasPart d n k (station_at was k) old → HasPart d n k (station_at now k) new
+with_one : (d : Domain) (n : Node) (old new : List Act) (was now : List (Option Station)) (station k : ℕ) → HasPart d n station (station_at now station) new → ((i : ℕ) → i ≢ station → station_at now i ≡ station_at was i)
+    → ((i : ℕ) → same (Sta i) (Sta station) ≡ false → IsFar (Sta i) old new) → HasPart d n k (station_at was k) old → HasPart d n k (station_at now k) new
 with_one d n old new was now station k here others goes at =
     elim (is_same (Sta k) (Sta station)) [
       | inl same ↦
@@ -48,7 +57,7 @@ with_one d n old new was now station k here others goes at =
           subst (λ (i : ℕ). HasPart d n i (station_at now i) new) (sym is) here
       | inr other ↦
           let apart : k ≢ station = λ (e : k ≡ station). same-false (Sta k) (Sta station) other (ap Sta e) in
-          subst (λ (x : Option Part). HasPart d n k x new) (sym (others k apart)) (part_on d n k (station_at was k) old new (goes k other) at)
+          subst (λ (x : Option Station). HasPart d n k x new) (sym (others k apart)) (part_on d n k (station_at was k) old new (goes k other) at)
     ]
 
 -- the access point after acts about one station
@@ -57,12 +66,13 @@ pub record IsAfter (d : Domain) (first : ℕ) (s t : State) (old new : List Act)
   pub drawn : t.drawn ≡ first + draws new
   pub drawn_low : t.drawn ≤ draw_end
   pub group : t.group ≡ s.group
+  pub sending : t.sending ≡ s.sending
   pub few : length t.stations ≤ 65536
   pub counted : t.owing ≡ owing_count s.group.newest.place t.stations
   pub same_group : IsSameGroup old new
   pub here : HasPart d (Ap s.number) station (station_at t.stations station) new
   pub others : (k : ℕ) → k ≢ station → station_at t.stations k ≡ station_at s.stations k
-  pub goes : (k : ℕ) → same (Sta k) (Sta station) ≡ false → IsOther (Sta k) old new
+  pub goes : (k : ℕ) → same (Sta k) (Sta station) ≡ false → IsFar (Sta k) old new
 
 pub stands_with_one : (d : Domain) (first : ℕ) (s t : State) (old new : List Act) (station : ℕ) → StandsSoFar d first s old → IsAfter d first s t old new station → StandsSoFar d first t new
 stands_with_one d first s t old new station stands w = record {
@@ -70,7 +80,7 @@ stands_with_one d first s t old new station stands w = record {
   draws_low = w.drawn_low;
   group_is = subst (λ (g : Pair). Holds g new) (sym w.group) (holds_on s.group old new w.same_group stands.group_is);
   pending = subst (λ (g : Pair). (g.newest.place ≡ g.current.place) ⊎ (g.newest.place ≡ suc g.current.place)) (sym w.group) stands.pending;
-  unused = w.same_group.uses_are ∙ stands.unused;
+  sending_is = subst (λ (k : Held). HoldsGroup k new) (sym w.sending) (in_use_on s.sending old new w.same_group stands.sending_is);
   few = w.few;
   counted = w.counted ∙ ap (λ (g : Pair). owing_count g.newest.place t.stations) (sym w.group);
   parts = λ k. subst (λ (a : ℕ). HasPart d (Ap a) k (station_at t.stations k) new) (sym w.number)
@@ -79,22 +89,28 @@ stands_with_one d first s t old new station stands w = record {
 
 -- ---- what there is with a station
 
-pub has_attempt_in : (d : Domain) (n : Node) (sta : ℕ) (o : Option Part) (h : List Act) → HasPart d n sta o h → HasAttempt d n (Sta sta) (attempt_in o) h
+pub has_attempt_in : (d : Domain) (n : Node) (sta : ℕ) (o : Option Station) (h : List Act) → HasPart d n sta o h → HasAttempt d n (Sta sta) (attempt_in o) h
 has_attempt_in d n sta None h at = at.0
 has_attempt_in d n sta (Some x) h at = at.1.attempt_is
 
-pub has_session_in : (d : Domain) (n : Node) (sta : ℕ) (o : Option Part) (h : List Act) → HasPart d n sta o h → HasSession d n (Sta sta) (session_in o) h
+pub has_session_in : (d : Domain) (n : Node) (sta : ℕ) (o : Option Station) (h : List Act) → HasPart d n sta o h → HasSession d n (Sta sta) (session_in o) h
 has_session_in d n sta None h at = at.1
 has_session_in d n sta (Some x) h at = at.1.session_is
 
 -- without a part there is no attempt
-pub no_part : (d : Domain) (n : Node) (sta : ℕ) (o : Option Part) (h : List Act) → o ≡ None → HasPart d n sta o h → attempt (Sta sta) h ≡ None
-no_part d n sta o h none at = (subst (λ (x : Option Part). HasPart d n sta x h) none at).0
+pub no_part : (d : Domain) (n : Node) (sta : ℕ) (o : Option Station) (h : List Act) → o ≡ None → HasPart d n sta o h → attempt (Sta sta) h ≡ None
+no_part d n sta o h none at = (subst (λ (x : Option Station). HasPart d n sta x h) none at).0
 
 -- and no session
-pub no_part_session : (d : Domain) (n : Node) (sta : ℕ) (o : Option Part) (h : List Act) → o ≡ None → HasPart d n sta o h → session (Sta sta) h ≡ None
-no_part_session d n sta o h none at = (subst (λ (x : Option Part). HasPart d n sta x h) none at).1
+pub no_part_session : (d : Domain) (n : Node) (sta : ℕ) (o : Option Station) (h : List Act) → o ≡ None → HasPart d n sta o h → session (Sta sta) h ≡ None
+no_part_session d n sta o h none at = (subst (λ (x : Option Station). HasPart d n sta x h) none at).1
 
 -- and with one it stands
-pub some_part : (d : Domain) (n : Node) (sta : ℕ) (o : Option Part) (x : Part) (h : List Act) → o ≡ Some x → HasPart d n sta o h → HasPart d n sta (Some x) h
-some_part d n sta o x h is at = subst (λ (y : Option Part). HasPart d n sta y h) is at
+pub some_part : (d : Domain) (n : Node) (sta : ℕ) (o : Option Station) (x : Station) (h : List Act) → o ≡ Some x → HasPart d n sta o h → HasPart d n sta (Some x) h
+some_part d n sta o x h is at = subst (λ (y : Option Station). HasPart d n sta y h) is at
+
+-- ---- the newest group key
+
+-- as many packet numbers were used under it as the access point counts
+pub uses_are : (d : Domain) (first : ℕ) (s : State) (h : List Act) → StandsSoFar d first s h → newest_uses groups.Gtk h ≡ uses_of s
+uses_are d first s h at = uses s.group h at.group_is ∙ ap (λ (n : ℕ). cond (s.group.newest.place == s.group.current.place) n 0) (sym at.sending_is.used)

@@ -2,15 +2,15 @@
 -- project's choice).
 use Rattle.std.specs.Prelude.{◌-◌, ℕ, suc, Bool, true, false, cond, List, [], ◌∷◌, Option}
 use Rattle.authenticator.specs.Groups.{owes_in}
-use Rattle.authenticator.specs.State.{State as Part}
+use Rattle.ap_node.specs.declared.station.Station.{Station}
 use Rattle.ap_node.specs.State.{session_in}
 
--- the session in a part owes a G2 for the group key of that place in the order of drawing
-abbrev pub owes_part : ℕ → Option Part → Bool
+-- the session with a station owes a G2 for the group key of that place in the order of drawing
+abbrev pub owes_part : ℕ → Option Station → Bool
 owes_part place o = owes_in place (session_in o)
 
--- how many of the sessions in these parts owe one
-abbrev pub owing_count : ℕ → List (Option Part) → ℕ
+-- how many of the sessions with these stations owe one
+abbrev pub owing_count : ℕ → List (Option Station) → ℕ
 owing_count place [] = 0
 owing_count place (x ∷ xs) = cond (owes_part place x) (suc (owing_count place xs)) (owing_count place xs)
 

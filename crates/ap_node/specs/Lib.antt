@@ -1,4 +1,5 @@
 pub mod State
+pub mod Keys
 pub mod Counts
 pub mod Switching
 pub mod Stands

@@ -4,19 +4,21 @@ use Rattle.domain_base.specs.declared.names.Node.{Node}
 use Rattle.domain_base.specs.declared.names.Node.TheVariants.{Ap, Sta}
 use Rattle.run_journal.specs.declared.domain.Domain.{Domain}
 use Rattle.run_journal.specs.declared.acts.Act.{Act}
-use Rattle.run_journal.specs.Questions.{attempt, session, group_uses, draws}
-use Rattle.run_journal.specs.GroupKinds as groups
+use Rattle.run_journal.specs.Questions.{attempt, session, draws}
 use Rattle.domain_rules.specs.Network.{draw_end}
 use Rattle.group_key.specs.Holds.{Holds}
-use Rattle.authenticator.specs.State.{State as Part}
 use Rattle.authenticator.specs.Stands.{AuthenticatorStands}
+use Rattle.data_frames.specs.Holding.{HoldsGroup}
+use Rattle.ap_node.specs.declared.station.Station.{Station}
 use Rattle.ap_node.specs.State.{State, station_at}
+use Rattle.ap_node.specs.Keys.{HasKey}
 use Rattle.ap_node.specs.Counts.{owing_count}
 
--- of node n there is that part with the station, or nothing
-abbrev pub HasPart : Domain → Node → ℕ → Option Part → List Act → Type 0
+-- of node n there is that part with the station and the key of its session, or nothing
+abbrev pub HasPart : Domain → Node → ℕ → Option Station → List Act → Type 0
 HasPart d n station None h = (attempt (Sta station) h ≡ None) × (session (Sta station) h ≡ None)
-HasPart d n station (Some x) h = (station < length d.stas) × AuthenticatorStands d n (Sta station) x h
+HasPart d n station (Some x) h =
+    (station < length d.stas) × AuthenticatorStands d n (Sta station) x.part h × HasKey (Sta station) (session (Sta station) h) x.key h
 
 -- the access point, which began to draw at number `first`, stands for the history, at whose end a switch to the newest group key may
 -- be to come
@@ -25,7 +27,7 @@ pub record StandsSoFar (d : Domain) (first : ℕ) (s : State) (h : List Act) : T
   pub draws_low : s.drawn ≤ draw_end
   pub group_is : Holds s.group h
   pub pending : (s.group.newest.place ≡ s.group.current.place) ⊎ (s.group.newest.place ≡ suc s.group.current.place)
-  pub unused : group_uses groups.Gtk h ≡ 0
+  pub sending_is : HoldsGroup s.sending h
   pub few : length s.stations ≤ 65536
   pub counted : s.owing ≡ owing_count s.group.newest.place s.stations
   pub parts : (station : ℕ) → HasPart d (Ap s.number) station (station_at s.stations station) h

@@ -1,29 +1,50 @@
 -- What contracts see of an access point (this project's choice).
-use Rattle.std.specs.Prelude.{ℕ, List, Option, Some, None, slice_index_or}
+use Rattle.std.specs.Prelude.{◌==◌, ℕ, cond, List, Option, Some, None, slice_index_or}
+use Rattle.ccmp_guard.specs.Held.{Held}
 use Rattle.group_key.specs.Keys.{Pair}
-use Rattle.authenticator.specs.State.{State as Part}
+use Rattle.authenticator.specs.State.{State as Part, with_session}
 use Rattle.authenticator.specs.declared.attempt.Attempt.{Attempt}
 use Rattle.authenticator.specs.declared.session.Session.{Session}
+use Rattle.ap_node.specs.declared.station.Station.{Station}
 
--- its place among the access points, the number of its next draw, its group keys, its parts with the stations by their numbers, as
--- far as they came, and how many of their sessions owe a G2 for the newest group key
+-- its place among the access points, the number of its next draw, its group keys, the current one in use, what it has with the
+-- stations by their numbers, as far as they came, and how many of their sessions owe a G2 for the newest group key
 pub record State : Type 0 where
   pub number : ℕ
   pub drawn : ℕ
   pub group : Pair
-  pub stations : List (Option Part)
+  pub sending : Held
+  pub stations : List (Option Station)
   pub owing : ℕ
 
--- its part with a station
-abbrev pub station_at : List (Option Part) → ℕ → Option Part
+-- what it has with a station
+abbrev pub station_at : List (Option Station) → ℕ → Option Station
 station_at stations station = slice_index_or stations station None
 
--- the attempt in a part, where there is one
-abbrev pub attempt_in : Option Part → Option Attempt
+-- the attempt in it, where there is one
+abbrev pub attempt_in : Option Station → Option Attempt
 attempt_in None = None
-attempt_in (Some x) = x.attempt
+attempt_in (Some x) = x.part.attempt
 
--- and the session
-abbrev pub session_in : Option Part → Option Session
+-- the session
+abbrev pub session_in : Option Station → Option Session
 session_in None = None
-session_in (Some x) = x.session
+session_in (Some x) = x.part.session
+
+-- and the key in use
+abbrev pub key_in : Option Station → Option Held
+key_in None = None
+key_in (Some x) = x.key
+
+-- with that key
+abbrev pub with_key : Option Held → Option Station → Option Station
+with_key key None = None
+with_key key (Some x) = Some (record { part = x.part; key = key })
+
+-- with that part, in which the session goes on under its key
+abbrev pub begun_beside : Option Station → Part → Station
+begun_beside o part = record { part = with_session (session_in o) part; key = key_in o }
+
+-- how many packet numbers were used under the newest group key: none as long as another is current
+abbrev pub newest_uses : State → ℕ
+newest_uses s = cond (s.group.newest.place == s.group.current.place) s.sending.used 0

@@ -1,5 +1,5 @@
 -- The switch to the newest group key at the end of an event (this project's choice).
-use Rattle.std.specs.Prelude.{◌==◌, ◌&&◌, Bool, cond, not, List, [], ◌∷◌}
+use Rattle.std.specs.Prelude.{◌==◌, ◌&&◌, Bool, cond, not, List, [], ◌∷◌, replicate}
 use Rattle.domain_base.specs.declared.names.Node.TheVariants.{Ap}
 use Rattle.domain_base.specs.declared.names.Peer.TheVariants.{All}
 use Rattle.run_journal.specs.declared.domain.Domain.{Domain}
@@ -9,6 +9,9 @@ use Rattle.run_journal.specs.declared.acts.Outcome.TheVariants.{Refused}
 use Rattle.run_journal.specs.declared.acts.Act.{Act}
 use Rattle.run_journal.specs.declared.acts.Act.TheVariants.{Installed}
 use Rattle.domain_rules.specs.Network.{mac}
+use Rattle.ccmp_guard.specs.declared.guard.Role.TheVariants as roles
+use Rattle.ccmp_guard.specs.Held.{Held}
+use Rattle.group_key.specs.declared.keys.GroupKey.{GroupKey}
 use Rattle.group_key.specs.Keys.{Pair}
 use Rattle.ap_node.specs.State.{State}
 
@@ -20,8 +23,12 @@ is_due s = not (s.group.newest.place == s.group.current.place) && (s.owing == 0)
 abbrev pub in_use : Pair → Pair
 in_use g = record { current = g.newest; newest = g.newest }
 
+-- no packet number was used under it
+abbrev pub unused : GroupKey → Held
+unused g = record { role = roles.Group g.id; key = g.key; used = 0; kept = replicate 16 0 }
+
 abbrev pub switched : State → State
-switched s = record s { group = cond (is_due s) (in_use s.group) s.group }
+switched s = record s { group = cond (is_due s) (in_use s.group) s.group; sending = cond (is_due s) (unused s.group.newest) s.sending }
 
 abbrev pub due_acts : Domain → State → List Act
 due_acts d s = cond (is_due s) (Installed All (Group s.group.newest.key s.group.newest.id (mac d (Ap s.number))) ∷ []) []

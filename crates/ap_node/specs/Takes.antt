@@ -22,15 +22,17 @@ use Rattle.domain_rules.specs.Frames.{sent_assoc_resp, sent_m1}
 use Rattle.domain_rules.specs.Rows.{NodeEvent, RowOf, outcome_of}
 use Rattle.frame_intake.specs.declared.delivered.Management.{Management}
 use Rattle.frame_intake.specs.declared.delivered.KeyMessage.{KeyMessage}
+use Rattle.frame_intake.specs.declared.delivered.SealedData.{SealedData}
 use Rattle.frame_intake.specs.declared.judging.Judged.TheVariants as judged
-use Rattle.frame_intake.specs.Views.{management_fields, message_fields}
+use Rattle.frame_intake.specs.SealedFields.{sealed_reading}
+use Rattle.frame_intake.specs.Views.{management_fields, message_fields, sealed_fields}
 use Rattle.frame_intake.specs.Judging.{IsJudged}
 use Rattle.node_base.specs.Events.{Steps, Seen}
 use Rattle.authenticator.specs.State.{State as Part, with_session}
 use Rattle.authenticator.specs.Steps.{IsBegun}
 use Rattle.authenticator.specs.Stands.{HasSession, AuthenticatorStands}
 use Rattle.authenticator.specs.declared.session.Session.{Session}
-use Rattle.ap_node.specs.State.{State, station_at, session_in}
+use Rattle.ap_node.specs.State.{State, station_at, begun_beside}
 use Rattle.ap_node.specs.Stands.{StandsSoFar, Stands}
 
 -- behind the history h these are the acts of the event itself, before the switch at its end
@@ -73,6 +75,11 @@ pub record IsKeyedAtAp (d : Domain) (a : ℕ) (octets : List ℕ) (from : Node) 
   pub reads : Reads d.akm octets (Keyed (message_fields message))
   pub judged : IsJudged d (Ap a) (Keyed (message_fields message)) (judged.Keyed from message)
 
+-- the octets are protected data for access point a from a node
+pub record IsSealedAtAp (d : Domain) (a : ℕ) (octets : List ℕ) (from : Node) (frame : SealedData) : Type 0 where
+  pub reads : Reads d.akm octets (sealed_reading (sealed_fields frame))
+  pub judged : IsJudged d (Ap a) (sealed_reading (sealed_fields frame)) (judged.Sealed from frame)
+
 -- a part of access point a with a station has begun an attempt, by that nonce and RSNE: it stands for the history with M1, beside
 -- whatever session there is
 abbrev pub Begins : Domain → ℕ → ℕ → List ℕ → List ℕ → Part → Type 0
@@ -86,10 +93,11 @@ pub record BeginsWith (d : Domain) (old new : State) (station : ℕ) (rsne : Lis
   pub number : new.number ≡ old.number
   pub drawn : new.drawn ≡ old.drawn + 1
   pub group : new.group ≡ old.group
+  pub sending : new.sending ≡ old.sending
   pub owing : new.owing ≡ old.owing
   pub few : length new.stations ≤ max (length old.stations) 65536
   pub part : Part
-  pub is : station_at new.stations station ≡ Some (with_session (session_in (station_at old.stations station)) part)
+  pub is : station_at new.stations station ≡ Some (begun_beside (station_at old.stations station) part)
   pub begins : Begins d old.number station (nonce d (Ap old.number) old.drawn) rsne part
   pub others : (k : ℕ) → k ≢ station → station_at new.stations k ≡ station_at old.stations k
 

@@ -1,9 +1,10 @@
 //! An access point's state, and what each event does to it.
 
-ghost use Rattle.std.specs.Prelude.{◌≡◌, ◌≢◌, ◌<◌, ◌≤◌, ◌+◌, ◌++◌, ℕ, List, [], length};
+ghost use Rattle.std.specs.Prelude.{◌≡◌, ◌≢◌, ◌<◌, ◌≤◌, ◌+◌, ◌^◌, ◌++◌, ℕ, List, [], length};
 ghost use Rattle.std.specs.Prelude.{false, IfOk, OnOk, OnErr, is_some, vec_len};
 ghost use Rattle.domain_base.specs.declared.names.Akm.{Akm as AnyAkm};
 ghost use Rattle.domain_base.specs.declared.names.Node.TheVariants.{Ap, Sta};
+ghost use Rattle.domain_base.specs.declared.names.Peer.TheVariants.{One, All};
 ghost use Rattle.run_journal.specs.declared.acts.Act.{Act as AnyAct};
 ghost use Rattle.run_journal.specs.declared.acts.Reason.{Reason as AnyReason};
 ghost use Rattle.run_journal.specs.declared.acts.Outcome.TheVariants.{Accepted, Done, Refused};
@@ -12,22 +13,28 @@ ghost use Rattle.run_journal.specs.Questions.{add};
 ghost use Rattle.domain_rules.specs.Here.{here};
 ghost use Rattle.domain_rules.specs.Network.{InForm, IsListed, is_ap, draw_end, nonce};
 ghost use Rattle.domain_rules.specs.AccessPointRows.{start_acts};
-ghost use Rattle.domain_rules.specs.Rows.{Take, Retry, Rekey, Expire};
+ghost use Rattle.domain_rules.specs.Rows.{Take, Retry, Rekey, Send, Expire};
+ghost use Rattle.node_base.specs.Peers.{IsReceiverOf, most_payload};
 ghost use Rattle.node_base.specs.Events.{event_of, IsEventAt, Steps, seen};
-ghost use Rattle.ap_node.specs.State.{station_at, attempt_in};
+ghost use Rattle.ap_node.specs.State.{station_at, attempt_in, newest_uses};
 ghost use Rattle.ap_node.specs.Switching.{switched, due_acts, ended, end_acts};
-ghost use Rattle.ap_node.specs.Takes.{IsDone, IsTaken, IsRequest, IsKeyedAtAp, BeginsWith, associated_acts};
+ghost use Rattle.ap_node.specs.Takes.{IsDone, IsTaken, IsRequest, IsKeyedAtAp, IsSealedAtAp};
+ghost use Rattle.ap_node.specs.Takes.{BeginsWith, associated_acts};
 
 use crate::association::{Acceptance, close_attempt, open_attempt, prepare, refuse, whole_element};
 use crate::counting::{owes, recounted};
 use crate::expiring::{add_dropped, drop_part};
 use crate::giving::{give_all, take_rooms};
+use crate::newest::NewestGroup;
+use crate::protected::{send_to, take_data};
 use crate::retrying::idle;
+use crate::station::Station;
 use crate::stations::{begin, make_place, retry, take_message};
 use act_memory::{Outbox, SendRoom, settle};
 use authenticator::{ApStart, Authenticator};
-use domain_base::{NoMemory, Node, Peer};
-use frame_intake::{Heard, Judged, judge, read};
+use data_frames::DataKey;
+use domain_base::{NoMemory, Node, Peer, Tid};
+use frame_intake::{Heard, Judged, SealedData, judge, read};
 use group_key::GroupKeys;
 use node_base::{DRAW_END, Here, NodeEvent, address, gtk, nonce, rsne_status};
 use rsn_elements::Elements;
@@ -41,13 +48,15 @@ pub struct ApNode {
     number: u16,
     drawn: u64,
     group: GroupKeys,
-    stations: Vec<Option<Authenticator>>,
+    // The current group key, under which data is sent to all.
+    sending: DataKey,
+    stations: Vec<Option<Station>>,
     // How many sessions owe a G2 for the newest group key.
     owing: u64,
 }
 
 impl Model for ApNode {
-    ghost use Rattle.std.specs.Prelude.{◌<◌};
+    ghost use Rattle.std.specs.Prelude.{◌<◌, ◌≤◌};
     ghost use Rattle.ap_node.specs.State.{State};
 
     ghost Value = { State };
@@ -56,11 +65,13 @@ impl Model for ApNode {
       number = s.number;
       drawn = s.drawn;
       group = s.group;
+      sending = s.sending;
       stations = s.stations.items;
       owing = s.owing;
     } };
 
-    ghost invariant = { λ s. (s.group.newest.id < 4) × (s.group.newest.place < s.drawn) };
+    ghost invariant = { λ s. (s.group.newest.id < 4) × (1 ≤ s.group.newest.id)
+        × (s.group.newest.place < s.drawn) };
 }
 
 impl ApNode {
@@ -87,6 +98,7 @@ impl ApNode {
         let node = Node::Ap(ap);
         let group_key = gtk(domain, node, first_draw);
         let group = GroupKeys::new(group_key);
+        let sending = DataKey::group(&group_key, group.current().id, 0);
         out.reserve(2)?;
         out.add(Act::Drew {
             value: Drawn::Gtk(group_key),
@@ -103,6 +115,7 @@ impl ApNode {
             number: ap,
             drawn: first_draw + 1,
             group,
+            sending,
             stations: Vec::new(alloc),
             owing: 0,
         })
@@ -140,9 +153,25 @@ impl ApNode {
             NodeEvent::Take(octets) => self.take(here, octets, out),
             NodeEvent::Retry(station) => self.retry(here, station, out),
             NodeEvent::Rekey => self.rekey(here, out),
+            NodeEvent::Send(to, Some(tid), payload) => self.send(here, to, Some(tid), payload, out),
+            NodeEvent::Send(to, None, payload) => self.send(here, to, None, payload, out),
             NodeEvent::Expire(station) => self.expire(here, station, out),
             NodeEvent::Connect(_) | NodeEvent::Leave => unreachable!(),
         }
+    }
+
+    // The newest group key, and how many packet numbers were used under it: none as long as another
+    // is current.
+    fn newest(&self) -> NewestGroup
+        ensures key { result.key ≡ self.now.group.newest }
+        ensures uses { result.uses ≡ newest_uses self.now }
+        ensures id { result.key.id < 4 }
+        ensures few { result.uses < 2 ^ 48 }
+    {
+        let key = self.group.newest();
+        let is_current = !self.group.is_pending();
+        let uses = if is_current { self.sending.used() } else { 0 };
+        NewestGroup { key, uses }
     }
 
     // The newest group key comes into use, where no session owes an answer for it
@@ -160,6 +189,7 @@ impl ApNode {
         self.group.switch();
         let newest = self.group.newest();
         let (gtk, id) = (newest.key, newest.id);
+        self.sending = DataKey::group(&gtk, id, 0);
         let bssid = address(here.domain, here.node);
         out.add(Act::Installed {
             peer: Peer::All,
@@ -215,6 +245,9 @@ impl ApNode {
             Judged::Keyed(from, message) => {
                 let heard = Heard { octets, message };
                 self.take_keyed(here, number_of(from), &heard, out)
+            }
+            Judged::Sealed(from, frame) => {
+                self.take_sealed(here, number_of(from), octets, &frame, out)
             }
         }
     }
@@ -344,12 +377,100 @@ impl ApNode {
         ensures kept { OnErr result (out.new.acts ≡ out.old.acts) }
         ensures room { OnOk result (1 ≤ out.new.spare) }
     {
-        let newest = self.group.newest();
-        let owed = owes(&self.stations, station, &newest);
+        let newest = self.newest();
+        let owed = owes(&self.stations, station, &newest.key);
         let outcome = take_message(&mut self.stations, here, station, heard, &newest, out)?;
-        let owes = owes(&self.stations, station, &newest);
+        let owes = owes(&self.stations, station, &newest.key);
         self.owing = recounted(self.owing, owed, owes);
         Ok(outcome)
+    }
+
+    // Takes protected data of a station: it is under the key of the session with it. No session owes
+    // more or less because of it.
+    fn take_sealed(
+        &mut self,
+        here: Here<'_>,
+        station: u16,
+        octets: &[u8],
+        frame: &SealedData<'_>,
+        out: &mut Outbox,
+    ) -> Result<Outcome, NoMemory>
+        requires node { here.node ≡ Ap self.old.number }
+        requires frame { IsSealedAtAp here.domain.now self.old.number octets.now (Sta station)
+            frame.now }
+        ensures taken { IfOk result (λ outcome. IsTaken here.entry.domain.now (Take octets.now)
+            self.old self.new (seen out.old.acts out.new.acts outcome)) }
+        ensures same { OnErr result (self.new ≡ self.old) }
+        ensures kept { OnErr result (out.new.acts ≡ out.old.acts) }
+    {
+        take_data(&mut self.stations, here.alloc, station, octets, frame, out)
+    }
+
+    // Sends a payload to a station, or to all. No session owes more or less because of it.
+    fn send(
+        &mut self,
+        here: Here<'_>,
+        to: Peer,
+        tid: Option<Tid>,
+        payload: &[u8],
+        out: &mut Outbox,
+    ) -> Result<Outcome, NoMemory>
+        requires node { here.node ≡ Ap self.old.number }
+        requires listed { self.old.number < length here.domain.now.aps }
+        requires receiver { IsReceiverOf here.domain.now (Ap self.old.number) to }
+        requires short { length payload.now ≤ most_payload }
+        ensures taken { IfOk result (λ outcome. IsTaken here.entry.domain.now
+            (Send to tid payload.now) self.old self.new
+            (seen out.old.acts out.new.acts outcome)) }
+        ensures same { OnErr result (self.new ≡ self.old) }
+        ensures kept { OnErr result (out.new.acts ≡ out.old.acts) }
+    {
+        match to {
+            Peer::One(peer) => self.send_to_one(here, number_of(peer), tid, payload, out),
+            Peer::All => self.send_to_all(here, tid, payload, out),
+        }
+    }
+
+    // Sends a payload to a station, under the key of the session with it.
+    fn send_to_one(
+        &mut self,
+        here: Here<'_>,
+        station: u16,
+        tid: Option<Tid>,
+        payload: &[u8],
+        out: &mut Outbox,
+    ) -> Result<Outcome, NoMemory>
+        requires node { here.node ≡ Ap self.old.number }
+        requires listed { self.old.number < length here.domain.now.aps }
+        requires station { station < length here.domain.now.stas }
+        requires short { length payload.now ≤ most_payload }
+        ensures taken { IfOk result (λ outcome. IsTaken here.entry.domain.now
+            (Send (One (Sta station)) tid payload.now) self.old self.new
+            (seen out.old.acts out.new.acts outcome)) }
+        ensures same { OnErr result (self.new ≡ self.old) }
+        ensures kept { OnErr result (out.new.acts ≡ out.old.acts) }
+    {
+        send_to(&mut self.stations, here, station, tid, payload, out)
+    }
+
+    // Sends a payload to all, under the current group key.
+    fn send_to_all(
+        &mut self,
+        here: Here<'_>,
+        tid: Option<Tid>,
+        payload: &[u8],
+        out: &mut Outbox,
+    ) -> Result<Outcome, NoMemory>
+        requires node { here.node ≡ Ap self.old.number }
+        requires listed { self.old.number < length here.domain.now.aps }
+        requires short { length payload.now ≤ most_payload }
+        ensures taken { IfOk result (λ outcome. IsTaken here.entry.domain.now
+            (Send All tid payload.now) self.old self.new
+            (seen out.old.acts out.new.acts outcome)) }
+        ensures same { OnErr result (self.new ≡ self.old) }
+        ensures kept { OnErr result (out.new.acts ≡ out.old.acts) }
+    {
+        self.sending.send(here, Peer::All, tid, payload, out)
     }
 
     // Sends once more what waits for an answer of the station.
@@ -380,10 +501,10 @@ impl ApNode {
         ensures kept { OnErr result (out.new.acts ≡ out.old.acts) }
         ensures room { OnOk result (1 ≤ out.new.spare) }
     {
-        let newest = self.group.newest();
-        let owed = owes(&self.stations, station, &newest);
+        let newest = self.newest();
+        let owed = owes(&self.stations, station, &newest.key);
         let outcome = retry(&mut self.stations, here.alloc, station, &newest, out)?;
-        let owes = owes(&self.stations, station, &newest);
+        let owes = owes(&self.stations, station, &newest.key);
         self.owing = recounted(self.owing, owed, owes);
         Ok(outcome)
     }

@@ -5,15 +5,15 @@ ghost use Rattle.std.specs.Prelude.{◌≡◌, ◌<◌, ◌-◌, ◌^◌};
 ghost use Rattle.ap_node.specs.State.{station_at};
 ghost use Rattle.ap_node.specs.Counts.{owes_part, recounted};
 
-use authenticator::Authenticator;
+use crate::station::Station;
 use group_key::GroupKey;
 
 /// Whether the session of that station owes a G2 for that group key.
-pub fn owes(stations: &Vec<Option<Authenticator>>, station: u16, group: &GroupKey) -> bool
+pub fn owes(stations: &Vec<Option<Station>>, station: u16, group: &GroupKey) -> bool
     ensures { result ≡ owes_part group.now.place (station_at stations.now.items station) }
 {
     match stations.get(usize::from(station)) {
-        Some(Some(part)) => part.owes(group),
+        Some(Some(place)) => place.part.owes(group),
         _ => false,
     }
 }

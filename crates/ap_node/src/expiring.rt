@@ -7,25 +7,25 @@ ghost use Rattle.ap_node.specs.State.{station_at, attempt_in, session_in};
 ghost use Rattle.ap_node.specs.Takes.{expired_acts};
 
 use crate::retrying::stay_idle;
+use crate::station::Station;
 use act_memory::Outbox;
-use authenticator::Authenticator;
 use domain_base::Node;
 use run_journal::{Act, Outcome, Part, Why};
 
-// Drops the part in that place, and tells whether there was an attempt, and whether a session.
-fn vacate(place: &mut Option<Authenticator>) -> (bool, bool)
+// Drops what is in that place, and tells whether there was an attempt, and whether a session.
+fn vacate(place: &mut Option<Station>) -> (bool, bool)
     ensures attempt { result.0 ≡ is_some (attempt_in place.old) }
     ensures session { result.1 ≡ is_some (session_in place.old) }
     ensures left { place.new ≡ None }
 {
     match place.take() {
-        Some(part) => (part.has_attempt(), part.has_session()),
+        Some(Station { part, .. }) => (part.has_attempt(), part.has_session()),
         None => (false, false),
     }
 }
 
-/// Drops the part with a station, and tells whether there was an attempt, and whether a session.
-pub fn drop_part(stations: &mut Vec<Option<Authenticator>>, station: u16) -> (bool, bool)
+/// Drops what there is with a station, and tells whether there was an attempt, and whether a session.
+pub fn drop_part(stations: &mut Vec<Option<Station>>, station: u16) -> (bool, bool)
     ensures attempt { result.0 ≡ is_some (attempt_in (station_at stations.old.items station)) }
     ensures session { result.1 ≡ is_some (session_in (station_at stations.old.items station)) }
     ensures length { length stations.new.items ≡ length stations.old.items }

@@ -5,13 +5,15 @@ ghost use Rattle.run_journal.specs.declared.acts.Act.{Act as AnyAct};
 ghost use Rattle.ap_node.specs.Counts.{owes_part, owing_count};
 ghost use Rattle.ap_node.specs.Giving.{IsGivenAt, AreGiven};
 
-use crate::stations::NO_USES;
+use crate::station::Station;
 use act_memory::{Outbox, SendRoom};
-use authenticator::Authenticator;
 use domain_base::{NoMemory, Node};
 use group_key::GroupKey;
 use run_journal::Reply;
 use std::alloc::Global;
+
+// How many packet numbers were used under a group key that was just drawn.
+const NO_USES: u64 = 0;
 
 /// The memory for so many acts of sending, taken before anything is done.
 pub fn take_rooms(alloc: Global, count: usize) -> Result<Vec<SendRoom>, NoMemory>
@@ -27,7 +29,7 @@ pub fn take_rooms(alloc: Global, count: usize) -> Result<Vec<SendRoom>, NoMemory
 // Gives the group key to the part in that place, where it has a session, and tells whether that
 // owes a G2 now.
 fn give(
-    place: &mut Option<Authenticator>,
+    place: &mut Option<Station>,
     station: u16,
     newest: &GroupKey,
     room: SendRoom,
@@ -40,7 +42,7 @@ fn give(
     ensures owes { result ≡ owes_part newest.now.place place.new }
     ensures spare { out.old.spare ≤ out.new.spare + 1 }
 {
-    let Some(part) = place else {
+    let Some(Station { part, .. }) = place else {
         return false;
     };
     if !part.has_session() {
@@ -55,7 +57,7 @@ fn give(
 /// Gives the newest group key to each session, in the order of the stations, and counts those that
 /// owe a G2 now. Takes no memory.
 pub fn give_all(
-    stations: &mut [Option<Authenticator>],
+    stations: &mut [Option<Station>],
     newest: &GroupKey,
     rooms: Vec<SendRoom>,
     out: &mut Outbox,

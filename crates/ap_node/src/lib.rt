@@ -7,7 +7,10 @@ mod counting;
 mod expiring;
 mod giving;
 mod laws;
+mod newest;
+mod protected;
 mod retrying;
+mod station;
 mod stations;
 
 pub use access_point::ApNode;

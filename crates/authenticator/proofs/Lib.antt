@@ -13,5 +13,6 @@ pub mod Answered
 pub mod Answering
 pub mod Finishing
 pub mod Retrying
+pub mod Installing
 pub mod Beginning
 pub mod Growing

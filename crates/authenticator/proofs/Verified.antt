@@ -116,7 +116,7 @@ pub record IsTold (d : Domain) (p : Node) (h : List Act) (k : KeyMessage) (fault
 
 pub told : (d : Domain) (n p : Node) (t : Attempt) (h : List Act) (k : KeyMessage) (fault : Option KeyDataFault) → IsUnderWay d n p t h → IsKeyDataOf t.rsne k.fields.key_data fault → IsTold d p h k fault
 told d n p t h k fault at says = record {
-  facts = record { requested = Some at.rsne.0; unwrapped = None; data_ = says.says };
+  facts = record { requested = Some at.rsne.0; unwrapped = None; data_ = says.says; opened = None };
   knows = record { requested = subst (λ (x : Option (List ℕ)). IsRequested d.akm x (Some at.rsne.0)) (sym at.heard_last) at.rsne.1.0; data_ = says.reads };
   outcome = ap (λ (x : Option (List ℕ)). m2_key_data x says.says) (sym at.rsne.1.1) ∙ says.is;
 }

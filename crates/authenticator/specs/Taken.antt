@@ -6,7 +6,9 @@ use Rattle.eapol_key.specs.declared.messages.Message.{Message}
 use Rattle.eapol_key.specs.declared.messages.Message.TheVariants.{G1}
 use Rattle.run_journal.specs.declared.domain.Domain.{Domain}
 use Rattle.run_journal.specs.declared.acts.Outcome.{Outcome}
+use Rattle.run_journal.specs.declared.acts.Outcome.TheVariants.{Accepted}
 use Rattle.run_journal.specs.declared.acts.Act.{Act}
+use Rattle.run_journal.specs.declared.reply.Keyed.{Keyed}
 use Rattle.run_journal.specs.declared.reply.Reply.{Reply}
 use Rattle.run_journal.specs.Questions.{session, group_keys, handshake}
 use Rattle.run_journal.specs.Acts.{Derivation}
@@ -24,6 +26,7 @@ use Rattle.authenticator.specs.Stands.{AuthenticatorStands}
 use Rattle.authenticator.specs.Judged.{Frame}
 use Rattle.authenticator.specs.Steps.{Steps, Retries, Gives, again_acts}
 use Rattle.authenticator.specs.declared.authenticator.Again.{Again}
+use Rattle.authenticator.specs.declared.session.Session.{Session}
 
 -- what an authenticator is given: a message and its frame, the newest group key, and how many packet numbers were used under it
 pub record Given : Type 0 where
@@ -53,6 +56,10 @@ StepsFrom old new x outcome r =
     → AuthenticatorStands d (Ap ap) (Sta sta) old h → Comes (here d first (Ap ap)) (Sta sta) x octets k h
     → Steps (here d first (Ap ap)) (Sta sta) octets
     (reply_acts (pair d (Ap ap) (Sta sta)) (is_some old.session) (taken_as octets k outcome) r) new h
+
+-- a key is installed by a message that is accepted alone, and is then the key of the session
+abbrev pub Installs : Outcome → Reply → State → Type 0
+Installs outcome r new = (y : Keyed) → r.installed ≡ Some y → (outcome ≡ Accepted) × (s : Session) × (new.session ≡ Some s) × (s.key ≡ y)
 
 -- behind the history h this is the newest group key, so many packet numbers were used under it, and where there is a session with p
 -- its replay counters have not come to their end

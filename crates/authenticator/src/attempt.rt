@@ -10,9 +10,8 @@ ghost use Rattle.frame_making.specs.Replied.{TellsNothing};
 use crate::agreement::Agreement;
 use crate::counters::{is_offered, last_counter};
 use crate::m2::{M2, key_data_fault};
-use crate::request::RequestedRsne;
 use crate::session::Session;
-use domain_base::Akm;
+use domain_base::{Akm, ShortOctets};
 use eapol_key::{KeyFrame, Message, verify};
 use frame_making::write_m1;
 use group_key::GroupKey;
@@ -25,13 +24,17 @@ const FIRST_COUNTER: u64 = 1;
 /// How often M1, and M3, is sent in an attempt at most.
 const MOST_SENDS: u8 = 4;
 
+/// The octets of an element at most: its id, its length, and 255 more
+/// (IEEE Std 802.11-2020, 9.4.2.1).
+const MOST_RSNE: usize = 257;
+
 /// An attempt, from its association request on.
 #[derive(Drop)]
 pub struct Attempt {
     /// The nonce that was drawn for it.
     pub anonce: [u8; 32],
     /// The RSNE of the association request.
-    pub rsne: RequestedRsne,
+    pub rsne: ShortOctets<MOST_RSNE>,
     /// How many M1 were sent in it.
     pub m1s: u8,
     /// How many M3 were sent in it.
@@ -107,7 +110,7 @@ impl Attempt {
         write_m1(ends, FIRST_COUNTER, anonce, reply);
         Attempt {
             anonce: *anonce,
-            rsne: RequestedRsne::of(rsne),
+            rsne: ShortOctets::of(rsne),
             m1s: 1,
             m3s: 0,
             agreed: None,

@@ -108,7 +108,7 @@ impl Authenticator {
     ghost use Rattle.authenticator.specs.Steps.{IsBegun, IsNamed};
     ghost use Rattle.authenticator.specs.Judged.{frame_of};
     ghost use Rattle.authenticator.specs.Groups.{owes_in};
-    ghost use Rattle.authenticator.specs.Taken.{given, StepsFrom, RetriesFrom, GivesFrom};
+    ghost use Rattle.authenticator.specs.Taken.{given, StepsFrom, Installs, RetriesFrom, GivesFrom};
 
     /// Begins an attempt, and sends M1 with replay counter 1 (IEEE Std 802.11-2020, 12.7.6.2). There
     /// is no session. The reply has M1 and nothing else, whatever was in it.
@@ -193,6 +193,7 @@ impl Authenticator {
         ensures steps { StepsFrom self.old self.new
             (given messages.M2 (frame_of frame.now) newest.now rsc) result reply.new }
         ensures refused { (why : AnyReason) → result ≡ Refused why → self.new ≡ self.old }
+        ensures installs { Installs result reply.new self.new }
         ensures fits { IsWhole reply.new }
     {
         let Some(attempt) = &mut self.attempt else {
@@ -227,6 +228,7 @@ impl Authenticator {
         ensures steps { StepsFrom self.old self.new
             (given messages.M4 (frame_of frame.now) newest.now rsc) result reply.new }
         ensures refused { (why : AnyReason) → result ≡ Refused why → self.new ≡ self.old }
+        ensures installs { Installs result reply.new self.new }
         ensures fits { IsWhole reply.new }
     {
         let Some(attempt) = self.attempt.take() else {
@@ -252,6 +254,7 @@ impl Authenticator {
         ensures steps { (rsc : ℕ) → StepsFrom self.old self.new
             (given messages.G2 (frame_of frame.now) newest.now rsc) result reply.new }
         ensures refused { (why : AnyReason) → result ≡ Refused why → self.new ≡ self.old }
+        ensures installs { Installs result reply.new self.new }
         ensures fits { IsWhole reply.new }
     {
         let Some(session) = &mut self.session else {
@@ -285,6 +288,7 @@ impl Authenticator {
         ensures steps { StepsFrom self.old self.new
             (given message (frame_of frame.now) newest.now rsc) result reply.new }
         ensures refused { (why : AnyReason) → result ≡ Refused why → self.new ≡ self.old }
+        ensures installs { Installs result reply.new self.new }
         ensures whole { IsWhole reply.new }
     {
         *reply = Reply::empty();

@@ -7,7 +7,6 @@ mod attempt;
 mod authenticator;
 mod counters;
 mod m2;
-mod request;
 mod session;
 
 pub use authenticator::{Again, ApStart, Authenticator, Retried};

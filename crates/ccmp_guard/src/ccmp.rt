@@ -5,7 +5,7 @@ ghost use Rattle.ccmp_guard.specs.Ccmp.{IsHeader, traffic_identifier, ccm_nonce,
 
 use crate::ccm::{MIC_LEN, open, seal};
 use aes_block::Aes128;
-use domain_base::put;
+use domain_base::{ShortOctets, put};
 
 /// No plain text is sealed to the body: the MIC does not verify.
 #[derive(Clone, Copy, PartialEq, Eq)]
@@ -22,6 +22,9 @@ const EXT_IV: u8 = 0x20;
 
 /// The octets of a body that carries none.
 pub const LEAST_BODY: usize = 16;
+
+// The most octets that the seal of a frame covers before its plain text.
+const MOST_FRONT: usize = 37;
 
 // The longest payload.
 const LONGEST: usize = 65_535;
@@ -66,6 +69,23 @@ fn aad_of(header: &[u8], aad: &mut [u8; 24]) -> usize
     } else {
         at
     }
+}
+
+/// What the seal of a frame covers before the plain text: the nonce of 13 octets and the additional authenticated data, 22 octets
+/// or in a QoS data frame 24 (IEEE Std 802.11-2020, 12.5.3.3.3 and 12.5.3.3.4). Takes no memory.
+pub fn sealed_front(header: &[u8], pn: u64) -> ShortOctets<MOST_FRONT>
+    requires { IsHeader header.now }
+    ensures octets { result ≡ ccm_nonce header.now pn ++ ccm_aad header.now }
+    ensures few { length result ≤ 37 }
+{
+    let mut front = [0; MOST_FRONT];
+    let at = put(&mut front, 0, &nonce_of(header, pn));
+    let mut aad = [0; 24];
+    let size = aad_of(header, &mut aad);
+    let (aad, _) = aad.split_at(size);
+    let end = put(&mut front, at, aad);
+    let (front, _) = front.split_at(end);
+    ShortOctets::of(front)
 }
 
 // The CCMP header (IEEE Std 802.11-2020, 12.5.3.2).

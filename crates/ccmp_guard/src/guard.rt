@@ -81,7 +81,12 @@ impl Model for Installed {
 
     ghost Value = { Held };
 
-    ghost view = { λ i. record { role = i.role; key = i.cipher; used = i.sent; kept = i.received } };
+    ghost view = { λ i. record {
+      role = i.role;
+      key = i.cipher;
+      used = i.sent;
+      kept = i.received;
+    } };
 
     ghost invariant = { λ i. IsRole i.role };
 }
@@ -135,7 +140,8 @@ impl Installed {
             (λ _. self.new ≡ self.old) }
         ensures end { IfOk result (λ end. end ≡ length plain.now + 16) }
         ensures sealed { IfOk result (λ end.
-            Protected self.old.key header.now (key_id self.old.role) (suc self.old.used) plain.now (take end out.new)) }
+            Protected self.old.key header.now (key_id self.old.role) (suc self.old.used) plain.now
+            (take end out.new)) }
         ensures header { IfOk result
             (λ _. take 8 out.new ≡ ccmp_header (key_id self.old.role) (suc self.old.used)) }
         ensures rest { (n : ℕ) → length plain.now + 16 ≤ n → drop n out.new ≡ drop n out.old }
@@ -154,7 +160,8 @@ impl Installed {
         ensures first { (e : GuardFault)
             → unprotect_fault (Some self.old) header.now body.now ≡ Some e → result ≡ Err e }
         ensures opened { IfOk result (λ end.
-            Protected self.old.key header.now (key_id self.old.role) (packet_number body.now) (take end out.new) body.now) }
+            Protected self.old.key header.now (key_id self.old.role) (packet_number body.now)
+            (take end out.new) body.now) }
         ensures seal { IfErr result (λ e. unprotect_fault (Some self.old) header.now body.now ≡ None
             → (e ≡ GuardFault.Seal) ×
             ((id pn : ℕ) (plain : List ℕ)
@@ -251,7 +258,8 @@ impl Guard {
         ensures sealed { IfOk result (λ end. IfSome self.old (λ h.
             Protected h.key header.now (key_id h.role) (suc h.used) plain.now (take end out.new))) }
         ensures header { IfOk result
-            (λ _. IfSome self.old (λ h. take 8 out.new ≡ ccmp_header (key_id h.role) (suc h.used))) }
+            (λ _. IfSome self.old
+            (λ h. take 8 out.new ≡ ccmp_header (key_id h.role) (suc h.used))) }
         ensures rest { (n : ℕ) → length plain.now + 16 ≤ n → drop n out.new ≡ drop n out.old }
         ensures unwritten { OnErr result (out.new ≡ out.old) }
     {
@@ -277,7 +285,8 @@ impl Guard {
         ensures first { (e : GuardFault) → unprotect_fault self.old header.now body.now ≡ Some e
             → result ≡ Err e }
         ensures opened { IfOk result (λ end. IfSome self.old (λ h.
-            Protected h.key header.now (key_id h.role) (packet_number body.now) (take end out.new) body.now)) }
+            Protected h.key header.now (key_id h.role) (packet_number body.now) (take end out.new)
+            body.now)) }
         // any other refusal: no plain text is sealed to the body
         ensures seal { IfErr result
             (λ e. IfSome self.old (λ h. unprotect_fault self.old header.now body.now ≡ None

@@ -9,6 +9,8 @@ mod laws;
 #[cfg(test)]
 mod tests;
 
-pub use ccmp::{Seal, key_id_in, open_body, packet_number, seal_body};
+pub use ccmp::{
+    Seal, key_id_in, open_body, packet_number, seal_body, sealed_front, traffic_identifier,
+};
 pub use guard::{Guard, GuardFault, Role};
 pub use laws::{a_body_has_one_plain_text, a_plain_text_has_one_body};

@@ -1,9 +1,11 @@
 -- What contracts see of the objects of the outside that are kept in memory (this project's choice).
-use Rattle.std.specs.Prelude.{◌≡◌, ◌≢◌, ℕ, ◌+◌, ◌-◌, ◌^◌, ◌<◌, ◌≤◌, min, List, [], length, Contains, Bool, false, ◌==◌, Option, Some, None, if◌then◌else◌, Result, MatchResult, find}
-use Rattle.std.specs.Option.{option_map_or}
+use Rattle.std.specs.Prelude.{◌≡◌, ◌≢◌, ℕ, ◌+◌, ◌-◌, ◌^◌, ◌<◌, ◌≤◌, min, List, [], length, Contains, Bool, false, ◌==◌, Option, Some, None, if◌then◌else◌, Result, MatchResult, find, ◌⊎◌}
+use Rattle.std.specs.Option.{option_map_or, option_and_then}
 use Rattle.domain_base.specs.declared.names.Node.{Node}
 use Rattle.domain_base.specs.declared.names.Node.TheVariants.{Ap, Sta}
-use Rattle.domain_base.specs.Told.{LinkStory, AirStory}
+use Rattle.domain_base.specs.declared.outside.LinkError.{LinkError}
+use Rattle.domain_base.specs.declared.outside.LinkError.TheVariants.{Failed, NoMemory}
+use Rattle.domain_base.specs.Told.{LinkStory, AirStory, new_link}
 
 -- the calls that are to fail, by their numbers from 0, and how many were made and how many failed,
 -- each of these two up to the end of 64 bits
@@ -36,6 +38,12 @@ after_fault calls = record calls { made = one_more calls.made; faults = one_more
 abbrev pub CountsCall : {T E : Type 0} → Calls → Calls → Result T E → Type 0
 CountsCall old new result = MatchResult result (λ _. new ≡ after_call old) (λ _. new ≡ after_fault old)
 
+-- the same of a send: memory that ran out is no fault
+abbrev pub CountsSend : {T : Type 0} → Calls → Calls → Result T LinkError → Type 0
+CountsSend old new result =
+    MatchResult result (λ _. new ≡ after_call old)
+    (λ e. ((e ≡ Failed) × (new ≡ after_fault old)) ⊎ ((e ≡ NoMemory) × (new ≡ after_call old)))
+
 -- a source: what is left, and its calls
 pub record KeptSource : Type 0 where
   pub left : List ℕ
@@ -60,6 +68,17 @@ pub record FirstOctets : Type 0 where
 pub record OneSeed : Type 0 where
   pub seed : List ℕ
   pub last : Option (List ℕ)
+
+-- a link: its story, and its calls
+pub record KeptLink : Type 0 where
+  pub story : LinkStory
+  pub calls : Calls
+
+-- draws: the seed that they give, the one given last, and their calls
+pub record KeptDraws : Type 0 where
+  pub seed : List ℕ
+  pub last : Option (List ℕ)
+  pub calls : Calls
 
 -- the frames that the link of a node will give, in order
 pub record NodeFrames : Type 0 where
@@ -98,4 +117,52 @@ SameForOthers node old new =
 abbrev pub story_of : KeptAir → Option AirStory
 story_of air =
     if air.tells then Some (record { frames = λ node. frames_for node air.incoming; returned = air.returned })
+    else None
+
+-- the frames that a link will give, in order, and the numbers of its calls that are to fail
+pub record PlannedParts : Type 0 where
+  pub frames : List (List ℕ)
+  pub failing : List ℕ
+
+-- what is handed in for the link of a node: none, once the node was attached
+pub record PlannedLink : Type 0 where
+  pub node : Node
+  pub parts : Option PlannedParts
+
+-- a plan is for that node
+abbrev pub is_plan_of : Node → PlannedLink → Bool
+is_plan_of node plan = same_node plan.node node
+
+-- what the first plan for that node has for its link
+abbrev pub parts_for : Node → List PlannedLink → Option PlannedParts
+parts_for node plans =
+    option_and_then (λ (plan : PlannedLink). plan.parts) (find (is_plan_of node) plans)
+
+-- the frames among them, and none where there are no parts
+abbrev pub planned_frames : Node → List PlannedLink → List (List ℕ)
+planned_frames node plans =
+    option_map_or (λ (parts : PlannedParts). parts.frames) (parts_for node plans) []
+
+-- the link made of them
+abbrev pub planned_link : Node → PlannedParts → KeptLink
+planned_link node parts = record { story = new_link node parts.frames; calls = no_calls parts.failing }
+
+-- what is there for other nodes is as it was
+abbrev pub SamePartsForOthers : Node → List PlannedLink → List PlannedLink → Type 0
+SamePartsForOthers node old new =
+    (other : Node) → other ≢ node → parts_for other new ≡ parts_for other old
+
+-- an air some of whose calls fail: what was handed in for links, those taken back, in order, for how
+-- many of them it has room, whether it tells, and its calls
+pub record FaultyAir : Type 0 where
+  pub plans : List PlannedLink
+  pub returned : List LinkStory
+  pub room : ℕ
+  pub tells : Bool
+  pub calls : Calls
+
+-- what it tells
+abbrev pub faulty_story : FaultyAir → Option AirStory
+faulty_story air =
+    if air.tells then Some (record { frames = λ node. planned_frames node air.plans; returned = air.returned })
     else None

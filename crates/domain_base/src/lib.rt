@@ -4,6 +4,7 @@
 
 mod memory;
 mod memory_air;
+mod memory_faults;
 mod names;
 mod octets;
 mod outside;
@@ -12,6 +13,7 @@ mod short_octets;
 
 pub use memory::{MemSink, MemSource, SteadySink, SteadySource};
 pub use memory_air::{Incoming, SteadyAir, SteadyDraws, SteadyLink};
+pub use memory_faults::{LinkPlan, MemAir, MemDraws, MemLink};
 pub use names::{Akm, Mac, Node, Octets, Peer, Tid};
 pub use octets::{array_at, big_u16_at, little_u16_at, put};
 pub use outside::{Failed, LinkError, NoMemory, Sink, Source, write_all};

@@ -59,6 +59,13 @@ impl FailingCalls {
         fails
     }
 
+    // Whether a call has failed.
+    pub(crate) fn has_failed(&self) -> bool
+        ensures { IsTrue result ↔ (0 < self.now.faults) }
+    {
+        self.faults > 0
+    }
+
     // Counts a fault.
     pub(crate) fn fault(&mut self)
         ensures counted { self.new ≡ record self.old { faults = one_more self.old.faults } }

@@ -6,9 +6,10 @@ use Rattle.std.proofs.lemmas.List.{get_or_append_left, get_or-append_right}
 use Rattle.domain_base.specs.declared.names.Node.{Node}
 use Rattle.domain_base.specs.declared.names.Node.TheVariants.{Ap, Sta}
 use Rattle.domain_base.specs.declared.names.Peer.{Peer}
+use Rattle.domain_base.specs.declared.names.Peer.TheVariants.{One, All}
 use Rattle.run_journal.specs.declared.domain.Domain.{Domain}
 use Rattle.run_journal.specs.declared.domain.Event.{Event}
-use Rattle.run_journal.specs.declared.domain.Event.TheVariants.{Connect, Deliver, Alter, Cut, Inject, Retry, Rekey, Expire, Leave}
+use Rattle.run_journal.specs.declared.domain.Event.TheVariants.{Connect, Deliver, Alter, Cut, Inject, Retry, Rekey, Send, Expire, Leave}
 use Rattle.run_journal.specs.declared.acts.Kind.{Kind}
 use Rattle.run_journal.specs.declared.acts.Seal.{Seal}
 use Rattle.run_journal.specs.declared.acts.Act.{Act}
@@ -17,11 +18,12 @@ use Rattle.run_journal.specs.declared.acts.Entry.{Entry}
 use Rattle.run_journal.specs.Acts.{is_sent}
 use Rattle.run_journal.specs.Premises.{In}
 use Rattle.domain_rules.specs.Network.{IsListed}
+use Rattle.node_base.specs.Peers.{IsReceiverOf}
 use Rattle.domain_rules.specs.Explained.{frames, number_of}
 use Rattle.domain_world.specs.State.{State}
 use Rattle.domain_world.specs.Owning.{Owns, IsNumbered, HasOctets, IsEventIn}
 use Rattle.frame_script.specs.Script.{size_of}
-use Rattle.frame_script.specs.Headers.{sizes_of, size_sent, CanHappen, IsListedIn, IsSized}
+use Rattle.frame_script.specs.Headers.{sizes_of, size_sent, CanHappen, IsListedIn, IsReceiverIn, IsSized}
 
 -- there are as many sizes as frames
 
@@ -105,6 +107,14 @@ listed : (d : Domain) (n : Node) → IsListedIn d n → IsListed d n
 listed d (Ap k) is = is
 listed d (Sta k) is = is
 
+receiver : (d : Domain) (n : Node) (q : Peer) → IsReceiverIn d n q → IsReceiverOf d n q
+receiver d (Ap k) All is = is
+receiver d (Ap k) (One (Sta i)) is = is
+receiver d (Ap k) (One (Ap i)) is = absurd is
+receiver d (Sta k) All is = absurd is
+receiver d (Sta k) (One (Ap i)) is = is
+receiver d (Sta k) (One (Sta i)) is = absurd is
+
 number_low : (w : State) (j : List Entry) (number size : ℕ) → Owns w j → IsSized (sizes_of j) number size → number ≤ length w.frames
 number_low w j number size own s = omega (arith, s.sent, sizes_count j, own.count)
 
@@ -118,5 +128,6 @@ event_in w j (Cut number size to) own can =
 event_in w j (Inject to octets) own can = listed w.domain to can
 event_in w j (Retry a s) own can = can
 event_in w j (Rekey a) own can = can
+event_in w j (Send from to tid octets) own can = (listed w.domain from can.0, receiver w.domain from to can.1, can.2)
 event_in w j (Expire a s) own can = can
 event_in w j (Leave s) own can = can

@@ -62,8 +62,8 @@ pub enum Status {
     #[error("line {0}: {reason}; the form is {form}", reason = reason_text(*.1), form = .2.text())]
     Script(u64, u8, Form),
     /// The first line that cannot be taken goes past this limit: 1 lines of a script; 2 octets of a
-    /// line; 3 octets of an injected frame; 4 frames sent; 5 access points; 6 stations. All events
-    /// before it were run, and their lines were written.
+    /// line; 3 octets of an injected frame; 4 frames sent; 5 access points; 6 stations; 7 octets of a
+    /// payload. All events before it were run, and their lines were written.
     #[error("{limit}", limit = limit_text(*.0))]
     Limit(u8),
     /// The source failed.

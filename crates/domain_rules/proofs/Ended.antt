@@ -1,5 +1,5 @@
 -- What ends a session.
-use Rattle.std.proofs.Common.{◌≡◌, ◌⊎◌, ℕ, zero, suc, cond, Bool, true, false, List, [], ◌∷◌, ◌++◌, length, Option, Some, None, refl, sym, ap, subst, ◌∙◌, inl, inr}
+use Rattle.std.proofs.Common.{◌≡◌, ℕ, zero, suc, cond, Bool, true, false, List, [], ◌∷◌, ◌++◌, length, Option, Some, None, refl, sym, ap, subst, ◌∙◌, inl, inr}
 use Rattle.std.specs.Prelude.{◌&&◌, ◌||◌, nat_lt, if◌then◌else◌}
 use Rattle.domain_base.specs.declared.names.Mac.{Mac}
 use Rattle.domain_base.specs.declared.names.Node.{Node}
@@ -15,26 +15,36 @@ use Rattle.run_journal.specs.declared.acts.Reason.TheVariants as reason
 use Rattle.run_journal.specs.declared.acts.Why.TheVariants as why
 use Rattle.run_journal.specs.declared.acts.Outcome.TheVariants.{Accepted}
 use Rattle.run_journal.specs.declared.acts.Act.{Act}
-use Rattle.run_journal.specs.declared.acts.Act.TheVariants.{Closed, Finished, GaveUp, Idle, Took, Installed}
+use Rattle.run_journal.specs.declared.acts.Act.TheVariants.{Closed, Finished, GaveUp, Idle, Took, Used, Installed}
 use Rattle.run_journal.specs.declared.acts.Key.TheVariants.{Pairwise}
+use Rattle.domain_base.specs.declared.names.Akm.{Akm}
+use Rattle.domain_base.specs.declared.names.Peer.{Peer}
 use Rattle.domain_base.specs.declared.names.Peer.TheVariants.{One}
+use Rattle.mac_prf.specs.Mic.{without_mic}
+use Rattle.replay_window.specs.Numbers.{last_number}
+use Rattle.ccmp_guard.specs.Ccmp.{packet_number, sealed_octets}
+use Rattle.run_journal.specs.declared.acts.Seal.{Seal}
+use Rattle.domain_rules.specs.PacketNumbers.{SendKey, send_key}
+use Rattle.domain_rules.specs.DataFrames.{sent_data}
+use Rattle.domain_rules.specs.DataRows.{used_acts, send_acts_by}
+use Rattle.domain_rules.specs.Verified.{IsVerified, IsNoted, By_mic, By_ccm}
 use Rattle.run_journal.specs.Acts.{Derivation, GroupKey}
 use Rattle.run_journal.specs.GroupKinds.{GroupKind}
 use Rattle.run_journal.specs.GroupKinds as groups
 use Rattle.run_journal.specs.Premises.{In}
-use Rattle.run_journal.specs.Questions.{attempt, chain, derivation, before_sent, session, handshake, pending, associated, add}
+use Rattle.run_journal.specs.Questions.{attempt, chain, derivation, before_sent, session, handshake, add}
 use Rattle.domain_rules.specs.Network.{mac}
 use Rattle.domain_rules.specs.Counters.{sent_count, next_in_attempt}
 use Rattle.domain_rules.specs.GroupKeys.{memory, find_key, give_by, is_current}
-use Rattle.domain_rules.specs.Owing.{owing, any_owes, switch_acts, and_switch}
+use Rattle.domain_rules.specs.Owing.{owing, any_owes, switch_acts}
 use Rattle.domain_rules.specs.Frames.{sent_m1, sent_m4, sent_g2, frame_seal}
 use Rattle.domain_rules.specs.Reading.{Reading, kind_of}
 use Rattle.domain_rules.specs.Facts.{Facts}
 use Rattle.domain_rules.specs.Asking.{by_connect, has_heard, own}
-use Rattle.domain_rules.specs.Rows.{NodeEvent, Take, Begin, Retry, Rekey, Expire, Leave, response, TakeRows, By_assoc_req, By_assoc_resp, By_m1, By_m2, By_m3, By_repeated_m3, By_m4, By_g1, By_g2, By_ignored, By_refusal, RowOf, Adds}
-use Rattle.domain_rules.specs.Closing.{close_attempt, close_session, close_pending, close_associated, or_nothing, sender}
+use Rattle.domain_rules.specs.Rows.{NodeEvent, Take, Begin, Retry, Rekey, Send, Expire, Leave, response, TakeRows, By_assoc_req, By_assoc_resp, By_m1, By_m2, By_m3, By_repeated_m3, By_m4, By_g1, By_g2, By_data, By_ignored, By_refusal, RowOf, Adds}
+use Rattle.domain_rules.specs.Closing.{close_attempt, close_session, or_nothing, sender}
 use Rattle.domain_rules.specs.StationRows.{carried}
-use Rattle.domain_rules.specs.AccessPointRows.{m4_acts, newer_acts, carried_older, g1_to, most_sends, again_or_give_up, m3_again, retry_attempt, again_or_close, retry_session, retry_acts, to_session, to_sessions, next_key, RekeyRow, Pending, Spent, Renews}
+use Rattle.domain_rules.specs.AccessPointRows.{m4_acts, newer_acts, carried_older, g1_to, most_sends, again_or_give_up, m3_again, retry_attempt, retry_session, retry_acts, to_session, to_sessions, next_key, RekeyRow, Pending, Spent, Renews}
 use Rattle.domain_rules.specs.Ended.{EndsRightly, By_begin, By_m4 as By_an_m4, By_retry, By_expire, By_leave}
 use Rattle.domain_rules.specs.Here.{here}
 use Rattle.domain_rules.proofs.Noted.{noted_verified, in_switched, among_all}
@@ -157,6 +167,14 @@ expired p q (Some part) (Some x) (inl here) = absurd (cc here)
 expired p q (Some part) (Some x) (inr (inl here)) = cc here
 expired p q (Some part) (Some x) (inr (inr none)) = absurd none
 
+-- what is sent ends none
+kept_used : (d : Domain) (n : Node) (q : Peer) (tid : Option ℕ) (plain : List ℕ) (k : SendKey) → are_kept (used_acts d n q tid plain k) ≡ true
+kept_used d n q tid plain k = kept_if (nat_lt k.used last_number) (Used q k.key k.id (suc k.used) plain ∷ sent_data d n q tid k.key k.id (suc k.used) plain ∷ []) (Idle why.Spent ∷ []) refl refl
+
+kept_send : (d : Domain) (n : Node) (q : Peer) (tid : Option ℕ) (plain : List ℕ) (o : Option SendKey) → are_kept (send_acts_by d n q tid plain o) ≡ true
+kept_send d n q tid plain None = refl
+kept_send d n q tid plain (Some k) = kept_used d n q tid plain k
+
 -- ---- an M4 is the only frame that ends one
 
 closed_of : (p q : Node) (o : Option Derivation) (g : List Act) → are_kept g ≡ true → In (Closed p Session) (close_session q o ++ g) → p ≡ q
@@ -197,20 +215,27 @@ row_ends d first n h octets r facts g p (By_m4 row) there =
 row_ends d first n h octets r facts g p (By_g1 row) there =
     absurd (none_ended p g (ap are_kept row.says ∙ kept_give row.p (mac d row.p) (carried facts.data_) (find_key (carried facts.data_).key (memory groups.Gtk row.p h)) (sent_g2 d n row.p row.x row.k.fields.counter ∷ []) refl) there)
 row_ends d first n h octets r facts g p (By_g2 row) there = absurd (none_ended p g (ap are_kept row.says) there)
+row_ends d first n h octets r facts g p (By_data row) there = absurd (none_ended p g (ap are_kept row.says) there)
 row_ends d first n h octets r facts g p (By_ignored row) there = absurd (none_ended p g (ap are_kept row.says) there)
 row_ends d first n h octets r facts g p (By_refusal row) there = absurd (none_ended p g (ap are_kept row.says ∙ kept_response d n (sender d n r) (kind_of r) row.why) there)
+
+-- what has the form of a MIC's seal was noted of a MIC
+mic_noted : (akm : Akm) (octets kck whole : List ℕ) → IsNoted akm octets (frame_seal kck whole) → IsVerified akm octets (frame_seal kck whole)
+mic_noted akm octets kck whole (By_mic v) = v
+mic_noted akm octets kck whole (By_ccm u) = let e : 1 ∷ without_mic whole ≡ 3 ∷ sealed_octets u.header.octets (packet_number u.body) u.plain = ap (λ (s : Seal). s.octets) u.is in cc e
 
 event_ends : (d : Domain) (first : ℕ) (n : Node) (h : List Act) (event : NodeEvent) (g all : List Act) (p : Node) → Adds (here d first n) h event all → RowOf (here d first n) h event g
     → ((x : Act) → In x g → In x all) → In (Closed p Session) g → EndsRightly d event all p
 event_ends d first n h (Take octets) g all p adds row more there =
     let (kck, (whole, m4)) = row_ends d first n h octets row.r row.facts g p row.row there in
     let v = noted_verified d first n h (Take octets) all (Some p) octets (kind.Key M4) Accepted (frame_seal kck whole) adds (more _ m4) in
-    By_an_m4 (record { octets = octets; is = refl; seal = frame_seal kck whole; accepted = more _ m4; verified = v.1 })
+    By_an_m4 (record { octets = octets; is = refl; seal = frame_seal kck whole; accepted = more _ m4; verified = mic_noted d.akm octets kck whole v.1 })
 event_ends d first n h (Begin a) g all p adds row more there = By_begin a refl
 event_ends d first n h (Retry s) g all p adds is more there =
     let w = up_retry d n h p (Sta s) (attempt (Sta s) h) (subst (λ (x : List Act). In (Closed p Session) x) is there) in
     By_retry s refl w.0 (more (GaveUp p G1) (subst (λ (x : List Act). In (GaveUp p G1) x) (sym is) w.1))
 event_ends d first n h Rekey g all p adds row more there = absurd (none_ended p g (kept_rekey d first n h g row) there)
+event_ends d first n h (Send q tid octets) g all p adds is more there = absurd (none_ended p g (ap are_kept is ∙ kept_send d n q tid octets (send_key h q)) there)
 event_ends d first n h (Expire s) g all p adds is more there =
     By_expire s refl (expired p (Sta s) (attempt (Sta s) h) (session (Sta s) h) (subst (λ (x : List Act). In (Closed p Session) x) is there))
 event_ends d first n h Leave g all p adds is more there = By_leave refl

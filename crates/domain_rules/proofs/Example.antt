@@ -2,17 +2,23 @@
 use Rattle.domain_base.specs.declared.names.Akm.TheVariants.{FtPsk}
 use Rattle.domain_base.specs.declared.names.Mac.{Mac}
 use Rattle.domain_base.specs.declared.names.Node.TheVariants.{Ap, Sta}
-use Rattle.domain_rules.proofs.Peers.{listed-address, named, finds-sta, finds-ap}
+use Rattle.domain_base.specs.Octets.{AreOctets}
+use Rattle.domain_base.proofs.OctetLemmas.{octets_by_entries}
+use Rattle.domain_rules.proofs.Peers.{listed-address, listed-octets, listed-unicast, named, finds-sta, finds-ap}
 use Rattle.domain_rules.specs.Example.{small, AreWhole, HasHandshake, HasRenewal}
+use Rattle.domain_rules.specs.DataExample.{HaveOctets, Payloads, ArePayloads, HasExchange}
+use Rattle.domain_rules.specs.DataFrames.{broadcast}
 use Rattle.domain_rules.specs.Network.{InForm, gtk}
 use Rattle.domain_rules.proofs.Exchange.{IsPair}
 use Rattle.key_hierarchy.specs.Sizes.{IsSsid}
 use Rattle.run_journal.specs.declared.domain.Domain.{Domain}
 use Rattle.domain_base.specs.declared.names.Akm.{Akm}
 use Rattle.mac_prf.proofs.Parts.{length-mic}
-use Rattle.std.proofs.Common.{◌≢◌, ℕ, ◌<◌, List, length, refl, ap, arith}
+use Rattle.std.proofs.Common.{◌≢◌, ℕ, zero, suc, ◌<◌, List, [], ◌∷◌, length, get_or, refl, ap, arith}
+use Rattle.std.specs.Prelude.{◌==◌}
 use Rattle.domain_rules.proofs.LastRounds.{whole}
 use Rattle.domain_rules.proofs.ResumedRounds.{renewed}
+use Rattle.domain_rules.proofs.DataRounds.{exchanged}
 
 pair_of : (d : Domain) (a s : ℕ) → InForm d → AreWhole d → a < length d.aps → s < length d.stas → IsPair d a s
 pair_of d a s form are ap_low sta_low = record {
@@ -45,3 +51,40 @@ small-in_form akm seed ssid psk is = record {
 
 pub small-whole : (akm : Akm) (seed ssid psk : List ℕ) → AreWhole (small akm seed ssid psk)
 small-whole akm seed ssid psk = record { aps = (refl, tt); stas = (refl, tt) }
+
+-- octets, each below 256
+pub broadcast_octets : AreOctets broadcast
+broadcast_octets = octets_by_entries broadcast low
+  where
+    low : (k : ℕ) → get_or broadcast k 0 < 256
+    low zero = omega arith
+    low (suc zero) = omega arith
+    low (suc (suc zero)) = omega arith
+    low (suc (suc (suc zero))) = omega arith
+    low (suc (suc (suc (suc zero)))) = omega arith
+    low (suc (suc (suc (suc (suc zero))))) = omega arith
+    low (suc (suc (suc (suc (suc (suc k)))))) = omega arith
+
+pub exchange_explained : (d : Domain) (a s : ℕ) (p : Payloads) → InForm d → AreWhole d → HaveOctets d → d.akm ≢ FtPsk → a < length d.aps → s < length d.stas → ArePayloads p → HasExchange d a s p
+exchange_explained d a s p form are octets akm ap_low sta_low fit = exchanged d a s p (pair_of d a s form are ap_low sta_low) (record {
+  ap_octets = listed-octets d (Ap a) octets.aps octets.stas ap_low;
+  sta_octets = listed-octets d (Sta s) octets.aps octets.stas sta_low;
+  alone = ap (λ (n : ℕ). n == 1) (listed-unicast d s form sta_low).1;
+  all_octets = broadcast_octets;
+}) fit
+
+-- the small network's addresses are octets
+low_six : (last : ℕ) → last < 256 → AreOctets (0x02 ∷ 0 ∷ 0 ∷ 0 ∷ 0 ∷ last ∷ [])
+low_six last low_last = octets_by_entries (0x02 ∷ 0 ∷ 0 ∷ 0 ∷ 0 ∷ last ∷ []) low
+  where
+    low : (k : ℕ) → get_or (0x02 ∷ 0 ∷ 0 ∷ 0 ∷ 0 ∷ last ∷ []) k 0 < 256
+    low zero = omega arith
+    low (suc zero) = omega arith
+    low (suc (suc zero)) = omega arith
+    low (suc (suc (suc zero))) = omega arith
+    low (suc (suc (suc (suc zero)))) = omega arith
+    low (suc (suc (suc (suc (suc zero))))) = low_last
+    low (suc (suc (suc (suc (suc (suc k)))))) = omega arith
+
+pub small-octets : (akm : Akm) (seed ssid psk : List ℕ) → HaveOctets (small akm seed ssid psk)
+small-octets akm seed ssid psk = record { aps = (low_six 0x01 (omega arith), tt); stas = (low_six 0x11 (omega arith), tt) }

@@ -277,7 +277,7 @@ module _ (d : Domain) (k m : ℕ) (pair : IsPair d k m) where
   first4 = keyed-from d 0 a ap2 m2 s mine4 pair.finds_sta ∙ m2-in d a ap2 s m2 part2 false (1 ∷ []) anonce attempt4 refl refl offers4 refl ∙ verifies4
 
   abbrev facts : Facts
-  facts = record { requested = Some (assoc_req_said d); unwrapped = None; data_ = Some (rsne_said d.akm) }
+  facts = record { requested = Some (assoc_req_said d); unwrapped = None; data_ = Some (rsne_said d.akm); opened = None }
 
   same_rsne : further d.akm (Keyed m2) facts ≡ Accepted
   same_rsne = rw ((bytes_eq-Decides (rsne_octets d.akm None) (rsne_octets d.akm None)).1 refl) refl

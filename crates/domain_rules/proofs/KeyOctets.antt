@@ -76,3 +76,21 @@ octets-by FtPsk i = octets-split _ (octets-kdf _ _ _ 48)
 pub octets-kek : (i : Inputs) → AreOctets (ptk i).kek
 unfolding ptk
 octets-kek i = octets-by i.akm i
+
+-- and temporal keys
+octets-split_tk : (octets : List ℕ) → AreOctets octets → AreOctets (split_ptk octets).tk
+octets-split_tk octets are = All-take (λ x. x < 256) 16 (drop 32 octets) (All-drop (λ x. x < 256) 32 octets are)
+
+octets-pairwise_tk : (akm : Akm) (i : Inputs) → AreOctets (pairwise_ptk akm i.psk i.aa i.spa i.anonce i.snonce).tk
+unfolding pairwise_ptk
+octets-pairwise_tk akm i = octets-split_tk _ (octets-expansion akm _ _ _ 48)
+
+octets-by_tk : (akm : Akm) (i : Inputs) → AreOctets (ptk_by akm i).tk
+unfolding ft_ptk
+octets-by_tk Psk i = octets-pairwise_tk Psk i
+octets-by_tk PskSha256 i = octets-pairwise_tk PskSha256 i
+octets-by_tk FtPsk i = octets-split_tk _ (octets-kdf _ _ _ 48)
+
+pub octets-tk : (i : Inputs) → AreOctets (ptk i).tk
+unfolding ptk
+octets-tk i = octets-by_tk i.akm i

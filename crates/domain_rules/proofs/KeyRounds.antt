@@ -197,7 +197,7 @@ module _ (d : Domain) (k m : ℕ) (pair : IsPair d k m) where
   said_by_m3 = said KeyData (SentRsne d.akm None ∷ SentGtkKde g.id g.key ∷ [])
 
   abbrev facts : Facts
-  facts = record { requested = None; unwrapped = Some (m3_key_data d g); data_ = Some said_by_m3 }
+  facts = record { requested = None; unwrapped = Some (m3_key_data d g); data_ = Some said_by_m3; opened = None }
 
   further6 : further d.akm (Keyed m3) facts ≡ Accepted
   further6 = key_data-same d.akm g.key 1 (length-gtk d a 0) refl

@@ -23,3 +23,9 @@ pub mod Journals
 pub mod Noted
 pub mod Switching
 mod Ended
+pub mod DataOctets
+pub mod DataReads
+pub mod DataExchange
+pub mod DataActs
+pub mod DataRounds
+pub mod Unmoved

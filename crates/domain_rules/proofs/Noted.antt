@@ -26,33 +26,42 @@ use Rattle.run_journal.specs.declared.acts.Outcome.{Outcome}
 use Rattle.run_journal.specs.declared.acts.Outcome.TheVariants.{Accepted, Answered, Ignored, Refused}
 use Rattle.run_journal.specs.declared.acts.Seal.{Seal}
 use Rattle.run_journal.specs.declared.acts.Act.{Act}
-use Rattle.run_journal.specs.declared.acts.Act.TheVariants.{Opened, Closed, Drew, Took, Installed, Finished, GaveUp, Idle}
+use Rattle.run_journal.specs.declared.acts.Act.TheVariants.{Opened, Closed, Drew, Took, Installed, Used, Finished, GaveUp, Idle}
 use Rattle.run_journal.specs.Acts.{Derivation, GroupKey}
 use Rattle.run_journal.specs.Questions.{attempt, session, pending, associated, before_sent, derivation, draws, chain, handshake, add}
-use Rattle.domain_base.specs.declared.names.Peer.TheVariants.{One, All}
-use Rattle.run_journal.specs.declared.acts.Key.TheVariants.{Pairwise, Group}
+use Rattle.domain_base.specs.declared.names.Peer.{Peer}
+use Rattle.domain_base.specs.declared.names.Peer.TheVariants.{One}
+use Rattle.air_frame.specs.Fields.{HeaderFields}
+use Rattle.air_frame.specs.declared.frame.Direction.{Direction}
+use Rattle.replay_window.specs.Numbers.{last_number}
+use Rattle.ccmp_guard.specs.Ccmp.{packet_number}
+use Rattle.domain_rules.specs.PacketNumbers.{SendKey, send_key}
+use Rattle.domain_rules.specs.DataFrames.{sent_data, data_seal}
+use Rattle.domain_rules.specs.DataVerdict.{IsOpened}
+use Rattle.domain_rules.specs.DataRows.{send_acts_by, DataRow}
+use Rattle.run_journal.specs.declared.acts.Key.TheVariants.{Pairwise}
 use Rattle.run_journal.specs.Premises.{In}
 use Rattle.domain_rules.specs.Network.{mac, direction, goes_like, peer_of, inputs, root}
 use Rattle.domain_rules.specs.Frames.{sent_assoc_req, sent_m1, sent_m4, sent_g2, frame_seal}
 use Rattle.domain_rules.specs.Reading.{Management, KeyMessage, Reading, NoFrame, PassedOver, NoElements, Managed, NoKeyFrame, NoMessage, Keyed, Sealed, Reads, kind_of}
 use Rattle.domain_rules.specs.Facts.{Facts}
-use Rattle.domain_rules.specs.Verdict.{Knows, first_verdict, further, key_further, and_then, verdict, from_peer, is_mine, air_reason, key_verdict, comes_so_far}
+use Rattle.domain_rules.specs.Verdict.{Knows, KnowsFrom, ComesSoFar, first_verdict, further, key_further, and_then, verdict, from_peer, is_mine, air_reason, key_verdict, comes_so_far}
 use Rattle.domain_rules.specs.StationKeys.{Keying, m3_keying, m3_verdict_by, g1_verdict_by}
 use Rattle.domain_rules.specs.AccessPointKeys.{m4_keying, m4_verdict_by, g2_verdict_by}
 use Rattle.domain_rules.specs.Owing.{owing, any_owes, switch_acts, and_switch}
 use Rattle.domain_rules.specs.Asking.{in_attempt, above, verified, by_connect, has_heard, kept_counter, offered, own}
 use Rattle.domain_rules.specs.Counters.{sent_count, next_in_attempt}
 use Rattle.domain_rules.specs.GroupKeys.{memory, find_key, give_by, is_current}
-use Rattle.domain_rules.specs.Rows.{NodeEvent, Take, Begin, Retry, Rekey, Expire, Leave, refused_seal, message_seal, seal_in, response, TakeRows, By_assoc_req, By_assoc_resp, By_m1, By_m2, By_m3, By_repeated_m3, By_m4, By_g1, By_g2, By_ignored, By_refusal, TakeRow, RowOf, Adds}
+use Rattle.domain_rules.specs.Rows.{NodeEvent, Take, Begin, Retry, Rekey, Send, Expire, Leave, refused_seal, message_seal, seal_in, response, TakeRows, By_assoc_req, By_assoc_resp, By_m1, By_m2, By_m3, By_repeated_m3, By_m4, By_g1, By_g2, By_data, By_ignored, By_refusal, TakeRow, RowOf, Adds}
 use Rattle.domain_rules.specs.Closing.{close_attempt, close_session, close_pending, close_associated, or_nothing, next_nonce, sender}
 use Rattle.domain_rules.specs.StationRows.{connect_acts, ConnectRow, Spent, Asks, carried}
 use Rattle.domain_rules.specs.AccessPointRows.{m4_acts, newer_acts, carried_older, g1_to, most_sends, again_or_give_up, m3_again, retry_attempt, again_or_close, retry_session, retry_acts, to_session, to_sessions, next_key, RekeyRow, Pending, Renews}
 use Rattle.domain_rules.specs.AccessPointRows as rekey
-use Rattle.domain_rules.specs.Verified.{IsVerified, is_with_mic, is_past_mic}
+use Rattle.domain_rules.specs.Verified.{IsVerified, IsUnsealed, IsNoted, By_mic, By_ccm, is_with_mic, is_past_mic}
 use Rattle.domain_rules.specs.Here.{here}
-use Rattle.domain_rules.proofs.OneOutcome.{IsTaken, taken_behind, taken_from, Awaited, Is_m1, Is_m2, Is_m3, Is_m4, Is_g1, Is_g2, key_kind, and_accepted, and_answered}
+use Rattle.domain_rules.proofs.OneOutcome.{IsTaken, taken_behind, taken_from, Awaited, Is_m1, Is_m2, Is_m3, Is_m4, Is_g1, Is_g2, key_kind, and_accepted, and_answered, payload_in}
 use Rattle.domain_rules.proofs.OneGroup.{one_take}
-use Rattle.domain_rules.proofs.SomeGroup.{some_rows}
+use Rattle.domain_rules.proofs.SomeGroup.{HasRow, some_rows}
 use Rattle.run_journal.specs.GroupKinds as groups
 
 far_taken : (o : Outcome) → comes_so_far o ≡ true → IsTaken o
@@ -340,47 +349,78 @@ quiet_switch d a h = quiet_switch_by (is_current groups.Gtk h || any_owes groups
 quiet_connect : (d : Domain) (first : ℕ) (n : Node) (h : List Act) (p : Node) → are_quiet (connect_acts d first n h p) ≡ true
 quiet_connect d first n h p = quiet_dropped (pending h) (associated h) (Opened p Connect ∷ Drew (Nonce (next_nonce d first n h)) ∷ sent_assoc_req d n p ∷ []) refl
 
--- ---- a seal is noted only where the MIC verified
+quiet_send : (d : Domain) (n : Node) (q : Peer) (tid : Option ℕ) (plain : List ℕ) (o : Option SendKey) → are_quiet (send_acts_by d n q tid plain o) ≡ true
+quiet_send d n q tid plain None = refl
+quiet_send d n q tid plain (Some k) = quiet_if (nat_lt k.used last_number) (Used q k.key k.id (suc k.used) plain ∷ sent_data d n q tid k.key k.id (suc k.used) plain ∷ []) (Idle why.Spent ∷ []) refl refl
+
+-- ---- a seal is noted only where the MIC, or CCM, verified
 
 -- the act is of these octets, and verified
 abbrev Notes : Domain → List ℕ → List ℕ → Seal → Type 0
-Notes d octets taken s = (octets ≡ taken) × IsVerified d.akm octets s
+Notes d octets taken s = (octets ≡ taken) × IsNoted d.akm octets s
 
 notes : (d : Domain) (octets taken : List ℕ) (s : Seal) → taken ≡ octets → IsVerified d.akm octets s → Notes d octets taken s
-notes d octets taken s same v = (sym same, v)
+notes d octets taken s same v = (sym same, By_mic v)
+
+-- what is known of data that was accepted
+pub data_opened : (d : Domain) (first : ℕ) (n : Node) (h : List Act) (octets : List ℕ) (r : Reading) (facts : Facts) (g : List Act) → Knows d first n h r facts → (row : DataRow (here d first n) h octets r facts g)
+    → IsOpened row.k.key row.k.id row.header.octets row.body (Some row.plain)
+data_opened d first n h octets r facts g knows row =
+    let a : first_verdict d first n h r ≡ Accepted = and_accepted (first_verdict d first n h r) (further d.akm r facts) row.accepted in
+    let all : KnowsFrom d n h (Sealed row.header row.way row.tid row.body) facts = subst (λ (x : Reading). KnowsFrom d n h x facts) row.is (knows (subst ComesSoFar (sym a) tt)) in
+    let from : peer_of d n row.header.a2 ≡ Some row.p = subst (λ (x : Reading). sender d n x ≡ Some row.p) row.is row.from in
+    subst (IsOpened row.k.key row.k.id row.header.octets row.body) row.opened (all row.p from row.k row.under)
+
+data_unsealed : (d : Domain) (first : ℕ) (n : Node) (h : List Act) (octets : List ℕ) (r : Reading) (facts : Facts) (g : List Act) (s : Seal) → Reads d.akm octets r → Knows d first n h r facts → (row : DataRow (here d first n) h octets r facts g)
+    → s ≡ data_seal row.k.key row.header.octets (packet_number row.body) row.plain → IsUnsealed d.akm octets s
+data_unsealed d first n h octets r facts g s reads knows row is =
+    subst (λ (x : Seal). IsUnsealed d.akm octets x) (sym is) (record {
+      header = row.header;
+      way = row.way;
+      tid = row.tid;
+      body = row.body;
+      reads = subst (λ (x : Reading). Reads d.akm octets x) row.is reads;
+      id = row.k.id;
+      plain = row.plain;
+      opens = data_opened d first n h octets r facts g knows row;
+      is = refl;
+    })
 
 row_noted : (d : Domain) (first : ℕ) (n : Node) (h : List Act) (octets : List ℕ) (r : Reading) (facts : Facts) (g : List Act) (from : Option Node) (taken : List ℕ) (k : Kind) (o : Outcome) (s : Seal)
-    → Reads d.akm octets r → TakeRows (here d first n) h octets r facts g → In (noting from taken k o s) g → Notes d octets taken s
-row_noted d first n h octets r facts g from taken k o s reads (By_assoc_req row) there =
+    → Reads d.akm octets r → Knows d first n h r facts → TakeRows (here d first n) h octets r facts g → In (noting from taken k o s) g → Notes d octets taken s
+row_noted d first n h octets r facts g from taken k o s reads knows (By_assoc_req row) there =
     absurd (none_noted from taken k o s g (ap are_quiet row.says ∙ quiet_attempt row.p (attempt row.p h) _ refl) there)
-row_noted d first n h octets r facts g from taken k o s reads (By_assoc_resp row) there = absurd (none_noted from taken k o s g (ap are_quiet row.says) there)
-row_noted d first n h octets r facts g from taken k o s reads (By_m1 row) there = absurd (none_noted from taken k o s g (ap are_quiet row.says) there)
-row_noted d first n h octets r facts g from taken k o s reads (By_m2 row) there =
+row_noted d first n h octets r facts g from taken k o s reads knows (By_assoc_resp row) there = absurd (none_noted from taken k o s g (ap are_quiet row.says) there)
+row_noted d first n h octets r facts g from taken k o s reads knows (By_m1 row) there = absurd (none_noted from taken k o s g (ap are_quiet row.says) there)
+row_noted d first n h octets r facts g from taken k o s reads knows (By_m2 row) there =
     let head = head_noted from taken k o s _ _ g row.says refl there in
     notes d octets taken s (cc head) (is_verified d.akm octets r row.k (ptk row.i).kck s reads row.is (cc head)
     (subst (λ (x : Inputs). HasMicOf d.akm (ptk x).kck row.k) (sym row.inputs_are) (verified_row d first n h r row.k M2 row.p row.is row.message_is row.from (accepted_first d first n h r facts row.accepted) row.part row.awaited)))
-row_noted d first n h octets r facts g from taken k o s reads (By_m3 row) there =
+row_noted d first n h octets r facts g from taken k o s reads knows (By_m3 row) there =
     let head = head_noted from taken k o s _ _ g row.says (quiet_give row.p (mac d row.p) (carried facts.data_) (find_key (carried facts.data_).key (memory groups.Gtk row.p h)) (Finished row.p row.y.key.inputs ∷ sent_m4 d n row.p row.y.key row.k.fields.counter ∷ []) refl) there in
     notes d octets taken s (cc head) (is_verified d.akm octets r row.k row.y.key.ptk.kck s reads row.is (cc head)
     (verified_row d first n h r row.k M3 row.p row.is row.message_is row.from (accepted_first d first n h r facts row.accepted) row.y row.awaited))
-row_noted d first n h octets r facts g from taken k o s reads (By_repeated_m3 row) there =
+row_noted d first n h octets r facts g from taken k o s reads knows (By_repeated_m3 row) there =
     let head = head_noted from taken k o s _ _ g row.says refl there in
     notes d octets taken s (cc head) (is_verified d.akm octets r row.k row.y.key.ptk.kck s reads row.is (cc head)
     (verified_row d first n h r row.k M3 row.p row.is row.message_is row.from (answered_first d first n h r facts row.answered) row.y row.awaited))
-row_noted d first n h octets r facts g from taken k o s reads (By_m4 row) there =
+row_noted d first n h octets r facts g from taken k o s reads knows (By_m4 row) there =
     let head = head_noted from taken k o s _ _ g row.says (quiet_m4 d n row.p h octets row.k row.x) there in
     notes d octets taken s (cc head) (is_verified d.akm octets r row.k row.x.ptk.kck s reads row.is (cc head)
     (verified_row d first n h r row.k M4 row.p row.is row.message_is row.from (accepted_first d first n h r facts row.accepted) row.part row.x row.awaited row.keyed))
-row_noted d first n h octets r facts g from taken k o s reads (By_g1 row) there =
+row_noted d first n h octets r facts g from taken k o s reads knows (By_g1 row) there =
     let head = head_noted from taken k o s _ _ g row.says (quiet_give row.p (mac d row.p) (carried facts.data_) (find_key (carried facts.data_).key (memory groups.Gtk row.p h)) (sent_g2 d n row.p row.x row.k.fields.counter ∷ []) refl) there in
     notes d octets taken s (cc head) (is_verified d.akm octets r row.k row.x.ptk.kck s reads row.is (cc head)
     (verified_row d first n h r row.k G1 row.p row.is row.message_is row.from (accepted_first d first n h r facts row.accepted) row.x row.awaited))
-row_noted d first n h octets r facts g from taken k o s reads (By_g2 row) there =
+row_noted d first n h octets r facts g from taken k o s reads knows (By_g2 row) there =
     let head = head_noted from taken k o s _ _ g row.says refl there in
     notes d octets taken s (cc head) (is_verified d.akm octets r row.k row.x.ptk.kck s reads row.is (cc head)
     (verified_row d first n h r row.k G2 row.p row.is row.message_is row.from (accepted_first d first n h r facts row.accepted) row.x row.awaited))
-row_noted d first n h octets r facts g from taken k o s reads (By_ignored row) there = absurd (none_noted from taken k o s g (ap are_quiet row.says) there)
-row_noted d first n h octets r facts g from taken k o s reads (By_refusal row) there =
+row_noted d first n h octets r facts g from taken k o s reads knows (By_data row) there =
+    let head = head_noted from taken k o s _ _ g row.says refl there in
+    (sym (cc head), By_ccm (data_unsealed d first n h octets r facts g s reads knows row (cc head)))
+row_noted d first n h octets r facts g from taken k o s reads knows (By_ignored row) there = absurd (none_noted from taken k o s g (ap are_quiet row.says) there)
+row_noted d first n h octets r facts g from taken k o s reads knows (By_refusal row) there =
     let head = head_noted from taken k o s _ _ g row.says (quiet_response d n (sender d n r) (kind_of r) row.why) there in
     let seal : refused_seal d first n h r ≡ Some s = cc head in
     let by = noted_by (comes_so_far (first_verdict d first n h r)) (seal_in d n h r) s seal in
@@ -391,13 +431,14 @@ connect_quiet d first n h p g (Spent many is) = ap are_quiet is
 connect_quiet d first n h p g (Asks few is) = ap are_quiet is ∙ quiet_connect d first n h p
 
 event_noted : (d : Domain) (first : ℕ) (n : Node) (h : List Act) (event : NodeEvent) (g : List Act) (from : Option Node) (octets : List ℕ) (k : Kind) (o : Outcome) (s : Seal)
-    → RowOf (here d first n) h event g → In (noting from octets k o s) g → (event ≡ Take octets) × IsVerified d.akm octets s
+    → RowOf (here d first n) h event g → In (noting from octets k o s) g → (event ≡ Take octets) × IsNoted d.akm octets s
 event_noted d first n h (Take octets) g from taken k o s row there =
-    let n : Notes d octets taken s = row_noted d first n h octets row.r row.facts g from taken k o s row.reads row.row there in
-    (ap (λ (x : List ℕ). Take x) n.0, subst (λ (x : List ℕ). IsVerified d.akm x s) n.0 n.1)
+    let n : Notes d octets taken s = row_noted d first n h octets row.r row.facts g from taken k o s row.reads row.knows row.row there in
+    (ap (λ (x : List ℕ). Take x) n.0, subst (λ (x : List ℕ). IsNoted d.akm x s) n.0 n.1)
 event_noted d first n h (Begin a) g from taken k o s row there = absurd (none_noted from taken k o s g (connect_quiet d first n h (Ap a) g row) there)
 event_noted d first n h (Retry p) g from taken k o s is there = absurd (none_noted from taken k o s g (ap are_quiet is ∙ quiet_retry d n h (Sta p) (attempt (Sta p) h)) there)
 event_noted d first n h Rekey g from taken k o s row there = absurd (none_noted from taken k o s g (quiet_rekey d first n h g row) there)
+event_noted d first n h (Send q tid octets) g from taken k o s is there = absurd (none_noted from taken k o s g (ap are_quiet is ∙ quiet_send d n q tid octets (send_key h q)) there)
 event_noted d first n h (Expire p) g from taken k o s is there =
     absurd (none_noted from taken k o s g (ap are_quiet is ∙ quiet_nothing (close_attempt (Sta p) (attempt (Sta p) h) ++ close_session (Sta p) (session (Sta p) h))
     (quiet_attempt (Sta p) (attempt (Sta p) h) (close_session (Sta p) (session (Sta p) h)) (quiet_closed (Sta p) (session (Sta p) h)))) there)
@@ -416,7 +457,7 @@ in_switched d (Ap a) h acts x none there = go acts there
 
 -- the event is that these octets came, and they verified
 pub noted_verified : (d : Domain) (first : ℕ) (n : Node) (h : List Act) (event : NodeEvent) (g : List Act) (from : Option Node) (octets : List ℕ) (k : Kind) (o : Outcome) (s : Seal)
-    → Adds (here d first n) h event g → In (Took from octets k o (Some s)) g → (event ≡ Take octets) × IsVerified d.akm octets s
+    → Adds (here d first n) h event g → In (Took from octets k o (Some s)) g → (event ≡ Take octets) × IsNoted d.akm octets s
 noted_verified d first n h event g from octets k o s adds there =
     event_noted d first n h event adds.acts from octets k o s adds.row
     (in_switched d n h adds.acts (noting from octets k o s) (λ a after in_it. none_noted from octets k o s (switch_acts d a after) (quiet_switch d a after) in_it)
@@ -452,29 +493,29 @@ message_has d n h k p M1 facts a why w t s = absurd (unrefused a why t s)
 message_has d n h k p M4 facts a why w t s = absurd (unrefused a why t s)
 message_has d n h k p G2 facts a why w t s = absurd (unrefused a why t s)
 
-seal_there : (d : Domain) (first : ℕ) (n : Node) (h : List Act) (r : Reading) (facts : Facts) (why : Reason) → IsTaken (first_verdict d first n h r) → verdict d first n h r facts ≡ Refused why → (s : Seal) × (seal_in d n h r ≡ Some s)
-seal_there d first n h (Keyed k) facts why t s =
+no_and : (b c : Bool) → c ≡ false → (b && c) ≡ true → ⊥
+no_and true c f t = cc (f, t)
+no_and false c f t = cc t
+
+seal_there : (d : Domain) (first : ℕ) (n : Node) (h : List Act) (r : Reading) (facts : Facts) (why : Reason) → IsTaken (first_verdict d first n h r) → is_past_mic (first_verdict d first n h r) (kind_of r) ≡ true → verdict d first n h r facts ≡ Refused why → (s : Seal) × (seal_in d n h r ≡ Some s)
+seal_there d first n h (Keyed k) facts why t past s =
     let behind = taken_from (peer_of d n k.header.a2) (λ p. key_verdict d (first + draws h) n h p k k.message) (taken_behind (not (is_mine d n k.header) || goes_like k.direction (direction n)) reason.NotForMe _ t) in
     let has = message_has d n h k behind.0 k.message facts (first_verdict d first n h (Keyed k)) why (key_kind d (first + draws h) n h behind.0 k k.message behind.1.1) t s in
     (has.0, ap (message_seal d n h k k.message) behind.1.0 ∙ has.1)
-seal_there d first n h (Managed b e) facts why t s = absurd (unrefused (first_verdict d first n h (Managed b e)) why t s)
-seal_there d first n h (Sealed header way tid body) facts why t s = absurd (unrefused (first_verdict d first n h (Sealed header way tid body)) why t s)
-seal_there d first n h (NoFrame fault) facts why t s = never (air_reason fault) t
-seal_there d first n h PassedOver facts why (inl t) s = absurd (cc t)
-seal_there d first n h PassedOver facts why (inr t) s = absurd (cc t)
-seal_there d first n h (NoElements b fault) facts why t s = never _ t
-seal_there d first n h (NoKeyFrame header fault) facts why t s = never _ t
-seal_there d first n h (NoMessage header) facts why t s = never _ t
+seal_there d first n h (Managed b e) facts why t past s = absurd (unrefused (first_verdict d first n h (Managed b e)) why t s)
+seal_there d first n h (Sealed header way tid body) facts why t past s = absurd (no_and (comes_so_far (first_verdict d first n h (Sealed header way tid body))) false refl past)
+seal_there d first n h (NoFrame fault) facts why t past s = never (air_reason fault) t
+seal_there d first n h PassedOver facts why (inl t) past s = absurd (cc t)
+seal_there d first n h PassedOver facts why (inr t) past s = absurd (cc t)
+seal_there d first n h (NoElements b fault) facts why t past s = never _ t
+seal_there d first n h (NoKeyFrame header fault) facts why t past s = never _ t
+seal_there d first n h (NoMessage header) facts why t past s = never _ t
 
 -- the frame has a MIC, and it verified
 past_far : (o : Outcome) (k : Kind) → is_past_mic o k ≡ true → comes_so_far o ≡ true
 past_far Accepted k s = refl
 past_far Answered k s = refl
 past_far _ k s = absurd (cc s)
-
-no_and : (b c : Bool) → c ≡ false → (b && c) ≡ true → ⊥
-no_and true c f t = cc (f, t)
-no_and false c f t = cc t
 
 no_mic : (o : Outcome) (k m : Kind) → k ≡ m → is_with_mic m ≡ false → is_past_mic o k ≡ true → ⊥
 no_mic o k m same none s = no_and (comes_so_far o) (is_with_mic m) none (subst (λ (x : Kind). is_past_mic o x ≡ true) same s)
@@ -511,10 +552,11 @@ has_noted d first n h octets r facts g (By_repeated_m3 row) s = (_, at_head (sen
 has_noted d first n h octets r facts g (By_m4 row) s = (_, at_head (sender d n r) (Some row.p) octets (kind_of r) (kind.Key M4) _ Accepted _ _ g row.from (kind_is r row.k M4 row.is row.message_is) row.accepted row.says)
 has_noted d first n h octets r facts g (By_g1 row) s = (_, at_head (sender d n r) (Some row.p) octets (kind_of r) (kind.Key G1) _ Accepted _ _ g row.from (kind_is r row.k G1 row.is row.message_is) row.accepted row.says)
 has_noted d first n h octets r facts g (By_g2 row) s = (_, at_head (sender d n r) (Some row.p) octets (kind_of r) (kind.Key G2) _ Accepted _ _ g row.from (kind_is r row.k G2 row.is row.message_is) row.accepted row.says)
+has_noted d first n h octets r facts g (By_data row) s = absurd (no_mic (first_verdict d first n h r) (kind_of r) kind.Data (ap kind_of row.is) refl s)
 has_noted d first n h octets r facts g (By_ignored row) s = absurd (not_ignored (first_verdict d first n h r) (further d.akm r facts) (past_far (first_verdict d first n h r) (kind_of r) s) row.ignored)
 has_noted d first n h octets r facts g (By_refusal row) s =
     let far : comes_so_far (first_verdict d first n h r) ≡ true = past_far (first_verdict d first n h r) (kind_of r) s in
-    let seal = seal_there d first n h r facts row.why (far_taken (first_verdict d first n h r) far) row.refused in
+    let seal = seal_there d first n h r facts row.why (far_taken (first_verdict d first n h r) far) s row.refused in
     let is : refused_seal d first n h r ≡ Some seal.0 = ap (λ (b : Bool). cond b (seal_in d n h r) None) far ∙ seal.1 in (
       seal.0,
       at_head (sender d n r) (sender d n r) octets (kind_of r) (kind_of r) _ (Refused row.why) seal.0 _ g refl refl row.refused
@@ -543,3 +585,21 @@ pub verified_noted : (d : Domain) (first : ℕ) (n : Node) (h : List Act) (octet
 verified_noted d first n h octets r facts g reads knows adds s =
     let w = verified_taken d first n h octets r facts adds.acts reads knows adds.row s in
     (w.0, subst (λ (x : List Act). In (Took (sender d n r) octets (kind_of r) (verdict d first n h r facts) (Some w.0)) x) (sym adds.is) (among_all d n h adds.acts _ w.1))
+
+-- what data that is accepted had sealed is noted
+data_taken : (d : Domain) (first : ℕ) (n : Node) (h : List Act) (octets : List ℕ) (header : HeaderFields) (way : Direction) (tid : Option ℕ) (body : List ℕ) (facts : Facts) (g : List Act)
+    → Reads d.akm octets (Sealed header way tid body) → Knows d first n h (Sealed header way tid body) facts → TakeRow (here d first n) h octets g → verdict d first n h (Sealed header way tid body) facts ≡ Accepted
+    → (s : Seal) × In (Took (peer_of d n header.a2) octets kind.Data Accepted (Some s)) g
+data_taken d first n h octets header way tid body facts g reads knows row accepted =
+    let o = payload_in d first n h header way tid body facts accepted in
+    let seal : Seal = data_seal o.k.key header.octets (packet_number body) o.plain in
+    let rows : HasRow d first n h octets (Sealed header way tid body) facts = (_, By_data (record { header = header; way = way; tid = tid; body = body; is = refl; p = o.p; from = o.from; accepted = accepted; k = o.k; under = o.under; plain = o.plain; opened = o.opened; says = refl })) in
+    let same : g ≡ rows.0 = one_take d first n h octets g rows.0 row (record { r = Sealed header way tid body; reads = reads; facts = facts; knows = knows; row = rows.1 }) in
+    (seal, subst (λ (x : List Act). In (Took (peer_of d n header.a2) octets kind.Data Accepted (Some seal)) x) (sym same) (inl (ap (λ (x : Option Node). Took x octets kind.Data Accepted (Some seal)) o.from)))
+
+pub data_noted : (d : Domain) (first : ℕ) (n : Node) (h : List Act) (octets : List ℕ) (header : HeaderFields) (way : Direction) (tid : Option ℕ) (body : List ℕ) (facts : Facts) (g : List Act)
+    → Reads d.akm octets (Sealed header way tid body) → Knows d first n h (Sealed header way tid body) facts → Adds (here d first n) h (Take octets) g → verdict d first n h (Sealed header way tid body) facts ≡ Accepted
+    → (s : Seal) × In (Took (peer_of d n header.a2) octets kind.Data Accepted (Some s)) g
+data_noted d first n h octets header way tid body facts g reads knows adds accepted =
+    let w = data_taken d first n h octets header way tid body facts adds.acts reads knows adds.row accepted in
+    (w.0, subst (λ (x : List Act). In (Took (peer_of d n header.a2) octets kind.Data Accepted (Some w.0)) x) (sym adds.is) (among_all d n h adds.acts _ w.1))

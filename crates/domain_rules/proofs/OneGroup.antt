@@ -1,5 +1,5 @@
 -- An event adds one group of acts.
-use Rattle.std.proofs.Common.{◌≡◌, ◌⊎◌, ℕ, true, false, List, [], ◌∷◌, ◌++◌, Option, Some, None, refl, sym, subst, ap, ◌∙◌, arith, inl, inr}
+use Rattle.std.proofs.Common.{◌≡◌, ◌⊎◌, ℕ, List, [], ◌∷◌, ◌++◌, Option, Some, None, refl, sym, subst, ap, ◌∙◌, arith, inl, inr}
 use Rattle.std.specs.Prelude.{unwrap_or}
 use Rattle.domain_base.specs.declared.names.Node.{Node}
 use Rattle.domain_base.specs.declared.names.Node.TheVariants.{Ap}
@@ -16,7 +16,7 @@ use Rattle.run_journal.specs.declared.acts.Reason.{Reason}
 use Rattle.run_journal.specs.declared.acts.Outcome.{Outcome}
 use Rattle.run_journal.specs.declared.acts.Outcome.TheVariants.{Accepted, Answered, Ignored, Refused}
 use Rattle.run_journal.specs.declared.acts.Act.{Act}
-use Rattle.run_journal.specs.declared.acts.Act.TheVariants.{Opened, Drew, Derived, Took, Installed, Finished}
+use Rattle.run_journal.specs.declared.acts.Act.TheVariants.{Opened, Drew, Derived, Took, Installed, HandedUp, Finished}
 use Rattle.run_journal.specs.declared.acts.Key.TheVariants.{Pairwise}
 use Rattle.domain_base.specs.declared.names.Peer.TheVariants.{One}
 use Rattle.run_journal.specs.Acts.{Derivation, GroupKey}
@@ -25,9 +25,15 @@ use Rattle.domain_rules.specs.GroupKeys.{newest, newest_uses, give}
 use Rattle.rsn_elements.specs.Elements.{ElementFields}
 use Rattle.run_journal.specs.Questions.{attempt, chain, session, before_sent, add}
 use Rattle.domain_rules.specs.Network.{mac, inputs, root}
-use Rattle.domain_rules.specs.Reading.{Management, KeyMessage, Reading, Managed, Keyed, kind_of}
+use Rattle.domain_rules.specs.Reading.{Management, KeyMessage, Reading, Managed, Keyed, Sealed, kind_of}
 use Rattle.domain_rules.specs.Frames.{sent_assoc_resp, sent_m1, sent_m2, sent_m3, sent_m4, sent_g2, frame_seal, keyed_by}
 use Rattle.domain_rules.specs.Facts.{Facts}
+use Rattle.air_frame.specs.Fields.{HeaderFields}
+use Rattle.air_frame.specs.declared.frame.Direction.{Direction}
+use Rattle.ccmp_guard.specs.Ccmp.{packet_number}
+use Rattle.domain_rules.specs.PacketNumbers.{OpenKey}
+use Rattle.domain_rules.specs.DataFrames.{data_seal}
+use Rattle.domain_rules.specs.DataVerdict.{opened_by}
 use Rattle.domain_rules.specs.Verdict.{Knows, verdict}
 use Rattle.domain_rules.specs.StationKeys.{Keying, m3_keying}
 use Rattle.domain_rules.specs.AccessPointKeys.{m4_keying}
@@ -35,12 +41,12 @@ use Rattle.domain_rules.specs.AccessPointRows.{carried_older, m4_acts, newer_act
 use Rattle.domain_rules.specs.AccessPointRows as rekey
 use Rattle.domain_rules.specs.Owing.{owing, and_switch}
 use Rattle.domain_rules.specs.Asking.{own}
-use Rattle.domain_rules.specs.Rows.{NodeEvent, Take, Begin, Retry, Rekey, Expire, Leave, refused_seal, response, TakeRows, By_assoc_req, By_assoc_resp, By_m1, By_m2, By_m3, By_repeated_m3, By_m4, By_g1, By_g2, By_ignored, By_refusal, TakeRow, RowOf, Adds}
-use Rattle.domain_rules.specs.Closing.{close_attempt, close_session, next_nonce, sender}
+use Rattle.domain_rules.specs.Rows.{NodeEvent, Take, Begin, Retry, Rekey, Send, Expire, Leave, refused_seal, response, TakeRows, By_assoc_req, By_assoc_resp, By_m1, By_m2, By_m3, By_repeated_m3, By_m4, By_g1, By_g2, By_data, By_ignored, By_refusal, TakeRow, RowOf, Adds}
+use Rattle.domain_rules.specs.Closing.{close_attempt, next_nonce, sender}
 use Rattle.domain_rules.specs.StationRows.{carried, ConnectRow, Spent, Asks}
 use Rattle.domain_rules.specs.Here.{here}
 use Rattle.domain_rules.proofs.OneReading.{one_reading}
-use Rattle.domain_rules.proofs.OneOutcome.{one_verdict, same_carried, same_carried_g1}
+use Rattle.domain_rules.proofs.OneOutcome.{one_verdict, same_carried, same_carried_g1, same_payload}
 use Rattle.run_journal.specs.GroupKinds as groups
 
 -- ---- the acts, as a function of the outcome
@@ -96,9 +102,24 @@ keyed_acts d n h octets p k g M4 = taken_m4 d n h octets p k (m4_keying p (part_
 keyed_acts d n h octets p k g G1 = g1_acts d n h octets p k g (session p h)
 keyed_acts d n h octets p k g G2 = g2_acts octets p k (owing groups.Gtk p h)
 
-abbrev accepted_acts : Domain → ℕ → Node → List Act → List ℕ → GroupKey → Option Node → Reading → List Act
+abbrev data_acts : List ℕ → Node → HeaderFields → List ℕ → Option (List ℕ) → Option OpenKey → List Act
+data_acts octets p header body (Some plain) (Some k) =
+    Took (Some p) octets kind.Data Accepted (Some (data_seal k.key header.octets (packet_number body) plain))
+    ∷ HandedUp p k.key k.id k.tid (packet_number body) plain ∷ []
+data_acts octets p header body plain k = []
+
+-- what reading further tells of a frame that was accepted: the group key that it carries, and the payload
+record Load : Type 0 where
+  key : GroupKey
+  plain : Option (List ℕ)
+
+abbrev load_of : Facts → Load
+load_of facts = record { key = carried facts.data_; plain = facts.opened }
+
+abbrev accepted_acts : Domain → ℕ → Node → List Act → List ℕ → Load → Option Node → Reading → List Act
 accepted_acts d first n h octets g (Some p) (Managed b e) = managed_acts d first n h octets p b.kind
-accepted_acts d first n h octets g (Some p) (Keyed k) = keyed_acts d n h octets p k g k.message
+accepted_acts d first n h octets g (Some p) (Keyed k) = keyed_acts d n h octets p k g.key k.message
+accepted_acts d first n h octets g (Some p) (Sealed header way tid body) = data_acts octets p header body g.plain (opened_by n h p header tid body)
 accepted_acts d first n h octets g from r = []
 
 abbrev answered_acts : Domain → Node → List Act → List ℕ → Option Node → Reading → List Act
@@ -109,7 +130,7 @@ abbrev refused_acts : Domain → ℕ → Node → List Act → List ℕ → Read
 refused_acts d first n h octets r w =
     Took (sender d n r) octets (kind_of r) (Refused w) (refused_seal d first n h r) ∷ response d n (sender d n r) (kind_of r) w
 
-abbrev acts_by : Domain → ℕ → Node → List Act → List ℕ → Reading → GroupKey → Outcome → List Act
+abbrev acts_by : Domain → ℕ → Node → List Act → List ℕ → Reading → Load → Outcome → List Act
 acts_by d first n h octets r g Accepted = accepted_acts d first n h octets g (sender d n r) r
 acts_by d first n h octets r g Answered = answered_acts d n h octets (sender d n r) r
 acts_by d first n h octets r g Ignored = Took None octets kind.Ignored Ignored None ∷ []
@@ -123,29 +144,36 @@ part_is : (p : Node) (h part : List Act) → attempt p h ≡ Some part → part 
 part_is p h part s = sym (ap (λ (o : Option (List Act)). unwrap_or o []) s)
 
 -- the acts that follow the acceptance of a message
-keyed_is : (d : Domain) (first : ℕ) (n : Node) (h : List Act) (octets : List ℕ) (r : Reading) (o : Outcome) (k : KeyMessage) (m : Message) (p : Node) (x : GroupKey) → o ≡ Accepted → sender d n r ≡ Some p → r ≡ Keyed k → k.message ≡ m
-    → acts_by d first n h octets r x o ≡ keyed_acts d n h octets p k x m
+keyed_is : (d : Domain) (first : ℕ) (n : Node) (h : List Act) (octets : List ℕ) (r : Reading) (o : Outcome) (k : KeyMessage) (m : Message) (p : Node) (x : Load) → o ≡ Accepted → sender d n r ≡ Some p → r ≡ Keyed k → k.message ≡ m
+    → acts_by d first n h octets r x o ≡ keyed_acts d n h octets p k x.key m
 keyed_is d first n h octets r o k m p x accepted from is message_is =
     ap (acts_by d first n h octets r x) accepted ∙ ap (λ (o : Option Node). accepted_acts d first n h octets x o r) from
-    ∙ ap (accepted_acts d first n h octets x (Some p)) is ∙ ap (keyed_acts d n h octets p k x) message_is
+    ∙ ap (accepted_acts d first n h octets x (Some p)) is ∙ ap (keyed_acts d n h octets p k x.key) message_is
 
-managed_is : (d : Domain) (first : ℕ) (n : Node) (h : List Act) (octets : List ℕ) (r : Reading) (o : Outcome) (b : Management) (e : ElementFields) (m : Kind) (p : Node) (x : GroupKey) → o ≡ Accepted → sender d n r ≡ Some p → r ≡ Managed b e → b.kind ≡ m
+managed_is : (d : Domain) (first : ℕ) (n : Node) (h : List Act) (octets : List ℕ) (r : Reading) (o : Outcome) (b : Management) (e : ElementFields) (m : Kind) (p : Node) (x : Load) → o ≡ Accepted → sender d n r ≡ Some p → r ≡ Managed b e → b.kind ≡ m
     → acts_by d first n h octets r x o ≡ managed_acts d first n h octets p m
 managed_is d first n h octets r o b e m p x accepted from is kind_is =
     ap (acts_by d first n h octets r x) accepted ∙ ap (λ (o : Option Node). accepted_acts d first n h octets x o r) from
     ∙ ap (accepted_acts d first n h octets x (Some p)) is ∙ ap (managed_acts d first n h octets p) kind_is
 
-answered_is : (d : Domain) (first : ℕ) (n : Node) (h : List Act) (octets : List ℕ) (r : Reading) (o : Outcome) (k : KeyMessage) (p : Node) (x : GroupKey) → o ≡ Answered → sender d n r ≡ Some p → r ≡ Keyed k
+answered_is : (d : Domain) (first : ℕ) (n : Node) (h : List Act) (octets : List ℕ) (r : Reading) (o : Outcome) (k : KeyMessage) (p : Node) (x : Load) → o ≡ Answered → sender d n r ≡ Some p → r ≡ Keyed k
     → acts_by d first n h octets r x o ≡ repeated_acts d n octets p k (m3_keying p h)
 answered_is d first n h octets r o k p x answered from is =
     ap (acts_by d first n h octets r x) answered ∙ ap (λ (o : Option Node). answered_acts d n h octets o r) from ∙ ap (answered_acts d n h octets (Some p)) is
 
--- what an accepted M3 or G1 carries is this
-abbrev Carries : Domain → ℕ → Node → List Act → Reading → Facts → GroupKey → Type 0
-Carries d first n h r facts x = (k : KeyMessage) → r ≡ Keyed k → (k.message ≡ M3) ⊎ (k.message ≡ G1) → verdict d first n h r facts ≡ Accepted → carried facts.data_ ≡ x
+data_is : (d : Domain) (first : ℕ) (n : Node) (h : List Act) (octets : List ℕ) (r : Reading) (o : Outcome) (header : HeaderFields) (way : Direction) (tid : Option ℕ) (body : List ℕ) (p : Node) (x : Load) → o ≡ Accepted → sender d n r ≡ Some p → r ≡ Sealed header way tid body
+    → acts_by d first n h octets r x o ≡ data_acts octets p header body x.plain (opened_by n h p header tid body)
+data_is d first n h octets r o header way tid body p x accepted from is =
+    ap (acts_by d first n h octets r x) accepted ∙ ap (λ (o : Option Node). accepted_acts d first n h octets x o r) from
+    ∙ ap (accepted_acts d first n h octets x (Some p)) is
+
+-- what an accepted M3 or G1 carries is this, and so is the payload of accepted data
+record Carries (d : Domain) (first : ℕ) (n : Node) (h : List Act) (r : Reading) (facts : Facts) (x : Load) : Type 0 where
+  key : (k : KeyMessage) → r ≡ Keyed k → (k.message ≡ M3) ⊎ (k.message ≡ G1) → verdict d first n h r facts ≡ Accepted → carried facts.data_ ≡ x.key
+  plain : (header : HeaderFields) (way : Direction) (tid : Option ℕ) (body : List ℕ) → r ≡ Sealed header way tid body → verdict d first n h r facts ≡ Accepted → facts.opened ≡ x.plain
 
 -- the acts of a row are these
-row_is : (d : Domain) (first : ℕ) (n : Node) (h : List Act) (octets : List ℕ) (r : Reading) (facts : Facts) (g : List Act) (x : GroupKey) → Carries d first n h r facts x → TakeRows (here d first n) h octets r facts g
+row_is : (d : Domain) (first : ℕ) (n : Node) (h : List Act) (octets : List ℕ) (r : Reading) (facts : Facts) (g : List Act) (x : Load) → Carries d first n h r facts x → TakeRows (here d first n) h octets r facts g
     → g ≡ acts_by d first n h octets r x (verdict d first n h r facts)
 row_is d first n h octets r facts g x carries (By_assoc_req row) = row.says ∙ sym (managed_is d first n h octets r _ row.b row.e kind.AssocReq row.p x row.accepted row.from row.is row.kind_is)
 row_is d first n h octets r facts g x carries (By_assoc_resp row) = row.says ∙ sym (managed_is d first n h octets r _ row.b row.e kind.AssocResp row.p x row.accepted row.from row.is row.kind_is)
@@ -156,8 +184,8 @@ row_is d first n h octets r facts g x carries (By_m2 row) =
     row.says ∙ ap (m2_acts d n h octets row.p row.k) (inputs_in d n row.p h row.part row.i row.k row.awaited row.inputs_are)
     ∙ sym (keyed_is d first n h octets r _ row.k M2 row.p x row.accepted row.from row.is row.message_is)
 row_is d first n h octets r facts g x carries (By_m3 row) =
-    row.says ∙ ap (λ (v : GroupKey). m3_acts d n h octets row.p row.k v (Some row.y)) (carries row.k row.is (inl row.message_is) row.accepted)
-    ∙ ap (m3_acts d n h octets row.p row.k x) (sym row.awaited)
+    row.says ∙ ap (λ (v : GroupKey). m3_acts d n h octets row.p row.k v (Some row.y)) (carries.key row.k row.is (inl row.message_is) row.accepted)
+    ∙ ap (m3_acts d n h octets row.p row.k x.key) (sym row.awaited)
     ∙ sym (keyed_is d first n h octets r _ row.k M3 row.p x row.accepted row.from row.is row.message_is)
 row_is d first n h octets r facts g x carries (By_repeated_m3 row) =
     row.says ∙ ap (repeated_acts d n octets row.p row.k) (sym row.awaited) ∙ sym (answered_is d first n h octets r _ row.k row.p x row.answered row.from row.is)
@@ -165,29 +193,41 @@ row_is d first n h octets r facts g x carries (By_m4 row) =
     row.says ∙ ap (taken_m4 d n h octets row.p row.k) (sym row.keyed ∙ ap (m4_keying row.p) (part_is row.p h row.part row.awaited))
     ∙ sym (keyed_is d first n h octets r _ row.k M4 row.p x row.accepted row.from row.is row.message_is)
 row_is d first n h octets r facts g x carries (By_g1 row) =
-    row.says ∙ ap (λ (v : GroupKey). g1_acts d n h octets row.p row.k v (Some row.x)) (carries row.k row.is (inr row.message_is) row.accepted)
-    ∙ ap (g1_acts d n h octets row.p row.k x) (sym row.awaited)
+    row.says ∙ ap (λ (v : GroupKey). g1_acts d n h octets row.p row.k v (Some row.x)) (carries.key row.k row.is (inr row.message_is) row.accepted)
+    ∙ ap (g1_acts d n h octets row.p row.k x.key) (sym row.awaited)
     ∙ sym (keyed_is d first n h octets r _ row.k G1 row.p x row.accepted row.from row.is row.message_is)
 row_is d first n h octets r facts g x carries (By_g2 row) =
     row.says ∙ ap (g2_acts octets row.p row.k) (sym row.awaited)
     ∙ sym (keyed_is d first n h octets r _ row.k G2 row.p x row.accepted row.from row.is row.message_is)
+row_is d first n h octets r facts g x carries (By_data row) =
+    row.says ∙ ap (λ (v : Option (List ℕ)). data_acts octets row.p row.header row.body v (Some row.k)) (sym row.opened ∙ carries.plain row.header row.way row.tid row.body row.is row.accepted)
+    ∙ ap (data_acts octets row.p row.header row.body x.plain) (sym row.under)
+    ∙ sym (data_is d first n h octets r _ row.header row.way row.tid row.body row.p x row.accepted row.from row.is)
 row_is d first n h octets r facts g x carries (By_ignored row) = row.says ∙ sym (ap (acts_by d first n h octets r x) row.ignored)
 row_is d first n h octets r facts g x carries (By_refusal row) = row.says ∙ sym (ap (acts_by d first n h octets r x) row.refused)
 
-same_carries : (d : Domain) (first : ℕ) (n : Node) (h : List Act) (r : Reading) (f g : Facts) → Knows d first n h r f → Knows d first n h r g → Carries d first n h r f (carried g.data_)
-same_carries d first n h r f g s t k is (inr m) accepted =
+same_keys : (d : Domain) (first : ℕ) (n : Node) (h : List Act) (r : Reading) (f g : Facts) → Knows d first n h r f → Knows d first n h r g
+    → (k : KeyMessage) → r ≡ Keyed k → (k.message ≡ M3) ⊎ (k.message ≡ G1) → verdict d first n h r f ≡ Accepted → carried f.data_ ≡ carried g.data_
+same_keys d first n h r f g s t k is (inr m) accepted =
     ap carried (same_carried_g1 d first n h k f g m (subst (λ (v : Reading). Knows d first n h v f) is s) (subst (λ (v : Reading). Knows d first n h v g) is t) (subst (λ (v : Reading). verdict d first n h v f ≡ Accepted) is accepted))
-same_carries d first n h r f g s t k is (inl m) accepted =
+same_keys d first n h r f g s t k is (inl m) accepted =
     ap carried (same_carried d first n h k f g m (subst (λ (v : Reading). Knows d first n h v f) is s) (subst (λ (v : Reading). Knows d first n h v g) is t) (subst (λ (v : Reading). verdict d first n h v f ≡ Accepted) is accepted))
+
+same_carries : (d : Domain) (first : ℕ) (n : Node) (h : List Act) (r : Reading) (f g : Facts) → Knows d first n h r f → Knows d first n h r g → Carries d first n h r f (load_of g)
+same_carries d first n h r f g s t = record {
+  key = same_keys d first n h r f g s t;
+  plain = λ header way tid body is accepted. same_payload d first n h header way tid body f g (subst (λ (v : Reading). Knows d first n h v f) is s) (subst (λ (v : Reading). Knows d first n h v g) is t)
+      (subst (λ (v : Reading). verdict d first n h v f ≡ Accepted) is accepted);
+}
 
 pub one_take : (d : Domain) (first : ℕ) (n : Node) (h : List Act) (octets : List ℕ) (f g : List Act) → TakeRow (here d first n) h octets f → TakeRow (here d first n) h octets g → f ≡ g
 one_take d first n h octets f g s t =
     let same : s.r ≡ t.r = one_reading d.akm octets s.r t.r s.reads t.reads in
     let knows : Knows d first n h s.r t.facts = subst (λ (v : Reading). Knows d first n h v t.facts) (sym same) t.knows in
-    row_is d first n h octets s.r s.facts f (carried t.facts.data_) (same_carries d first n h s.r s.facts t.facts s.knows knows) s.row
-    ∙ ap (acts_by d first n h octets s.r (carried t.facts.data_)) (one_verdict d first n h octets s.r t.r s.facts t.facts s.reads t.reads s.knows t.knows)
-    ∙ ap (λ (r : Reading). acts_by d first n h octets r (carried t.facts.data_) (verdict d first n h t.r t.facts)) same
-    ∙ sym (row_is d first n h octets t.r t.facts g (carried t.facts.data_) (λ k is m accepted. refl) t.row)
+    row_is d first n h octets s.r s.facts f (load_of t.facts) (same_carries d first n h s.r s.facts t.facts s.knows knows) s.row
+    ∙ ap (acts_by d first n h octets s.r (load_of t.facts)) (one_verdict d first n h octets s.r t.r s.facts t.facts s.reads t.reads s.knows t.knows)
+    ∙ ap (λ (r : Reading). acts_by d first n h octets r (load_of t.facts) (verdict d first n h t.r t.facts)) same
+    ∙ sym (row_is d first n h octets t.r t.facts g (load_of t.facts) (record { key = λ k is m accepted. refl; plain = λ header way tid body is accepted. refl }) t.row)
 
 one_connect : (d : Domain) (first : ℕ) (n : Node) (h : List Act) (p : Node) (f g : List Act) → ConnectRow (here d first n) h p f → ConnectRow (here d first n) h p g → f ≡ g
 one_connect d first n h p f g (Spent many is) (Spent too also) = is ∙ sym also
@@ -211,6 +251,7 @@ one_row d first n h (Take octets) f g s t = one_take d first n h octets f g s t
 one_row d first n h (Begin a) f g s t = one_connect d first n h (Ap a) f g s t
 one_row d first n h (Retry p) f g s t = s ∙ sym t
 one_row d first n h Rekey f g s t = one_rekey d first n h f g s t
+one_row d first n h (Send q tid octets) f g s t = s ∙ sym t
 one_row d first n h (Expire p) f g s t = s ∙ sym t
 one_row d first n h Leave f g s t = s ∙ sym t
 

@@ -1,6 +1,6 @@
 -- A frame is accepted, answered, ignored or refused, and of these one.
 use Rattle.std.proofs.Common.{◌≡◌, ◌⊎◌, ℕ, ◌+◌, Bool, true, false, List, Option, Some, None, refl, sym, ap, subst, ◌∙◌, inl, inr}
-use Rattle.std.specs.Prelude.{not, nat_lt, ◌||◌, ◌==◌, bytes_eq, if◌then◌else◌}
+use Rattle.std.specs.Prelude.{not, nat_lt, ◌||◌, ◌==◌, bytes_eq, drop, if◌then◌else◌}
 use Rattle.std.specs.List.{list_any}
 use Rattle.domain_base.specs.declared.names.Node.{Node}
 use Rattle.domain_base.specs.declared.names.Node.TheVariants.{Ap, Sta}
@@ -30,6 +30,10 @@ use Rattle.domain_rules.specs.Facts.{Facts, is_same}
 use Rattle.domain_rules.specs.Verdict.{Knows, KnowsFrom, KnowsOf, ComesSoFar, unless_refused, first_verdict, further, key_further, and_then, verdict, from_peer, sender_in, management_sender, is_mine, is_mine_or_group, air_reason, key_verdict}
 use Rattle.domain_rules.specs.StationKeys.{KnowsM3, Keying, m3_keying, m3_verdict_by, taken_in, m3_key_data, m3_wrapped, g1_verdict_by, g1_key_data, g1_wrapped, is_group_key}
 use Rattle.domain_rules.specs.Owing.{owing}
+use Rattle.ccmp_guard.specs.Ccmp.{ccm_nonce, ccm_aad, packet_number}
+use Rattle.ccmp_guard.proofs.Sealing.{Sealed-unique}
+use Rattle.domain_rules.specs.PacketNumbers.{OpenKey}
+use Rattle.domain_rules.specs.DataVerdict.{opened_by, data_verdict_by, data_verdict, unsealed, IsOpened}
 use Rattle.domain_rules.specs.AccessPointKeys.{g2_verdict_by, m4_keying, m4_verdict_by, m4_verdict, m2_key_data, requested_rsne}
 use Rattle.domain_rules.specs.Asking.{in_attempt, above, by_connect, has_heard, kept_counter, offered}
 use Rattle.domain_rules.specs.Associating.{without_status, rsne_status, management_verdict}
@@ -114,6 +118,14 @@ decided_g2 d h p k (Some x) =
     decided_if (list_any (λ c. c == k.fields.counter) (offered p G1 (handshake groups.Gtk p h))) _ _
     (decided_if (bytes_eq k.fields.mic _) _ _ (Took_in refl) (refused reason.Mic)) (refused _)
 
+decided_data : (pn : ℕ) (o : Option OpenKey) → Decided (data_verdict_by pn o)
+decided_data pn None = refused reason.NoKey
+decided_data pn (Some k) = decided_if (nat_lt k.kept pn) _ _ (Took_in refl) (refused (reason.Replayed k.kept))
+
+decided_unsealed : (o : Option (List ℕ)) → Decided (unsealed o)
+decided_unsealed None = refused reason.Seal
+decided_unsealed (Some plain) = Took_in refl
+
 decided_management : (d : Domain) (drawn : ℕ) (n : Node) (h : List Act) (p : Node) (k : Kind) (b : Management) (e : ElementFields) → Decided (management_verdict d drawn n h p k b e)
 decided_management d drawn (Ap a) h p kind.AssocReq b e = decided_status (rsne_status d.akm e.rsne) _ (decided_if (nat_lt drawn draw_end) _ _ (Took_in refl) (refused reason.Spent))
 decided_management d drawn (Sta s) h p kind.AssocResp b e =
@@ -143,7 +155,7 @@ decided_first d first n h (Managed b e) =
 decided_first d first n h (Keyed k) =
     decided_if (not (is_mine d n k.header) || goes_like k.direction (direction n)) _ _ (refused reason.NotForMe) (decided_peer (peer_of d n k.header.a2) _ (λ p. decided_key d (first + draws h) n h p k k.message))
 decided_first d first n h (Sealed header way tid body) =
-    decided_if (not (is_mine_or_group d n header) || goes_like way (direction n)) _ _ (refused reason.NotForMe) (decided_peer (peer_of d n header.a2) _ (λ p. refused reason.NoKey))
+    decided_if (not (is_mine_or_group d n header) || goes_like way (direction n)) _ _ (refused reason.NotForMe) (decided_peer (peer_of d n header.a2) _ (λ p. decided_data (packet_number body) (opened_by n h p header tid body)))
 
 decided_message : (akm : Akm) (m : Message) (facts : Facts) → Decided (key_further akm m facts)
 decided_message akm M2 facts = decided_key_data (requested_rsne facts.requested) facts.data_
@@ -153,6 +165,7 @@ decided_message akm _ facts = Took_in refl
 
 decided_further : (akm : Akm) (r : Reading) (facts : Facts) → Decided (further akm r facts)
 decided_further akm (Keyed k) facts = decided_message akm k.message facts
+decided_further akm (Sealed header way tid body) facts = decided_unsealed facts.opened
 decided_further akm _ facts = Took_in refl
 
 decided_unless : (a b : Outcome) → Decided a → Decided b → Decided (unless_refused a b)
@@ -266,6 +279,29 @@ taken_g2 d h p k None (inl s) = absurd cc
 taken_g2 d h p k None (inr s) = absurd cc
 taken_g2 d h p k (Some x) s = (x, refl)
 
+-- protected data is opened under a key
+abbrev pub HasOpenKey : Node → List Act → Node → HeaderFields → Option ℕ → List ℕ → Type 0
+HasOpenKey n h p header tid body = (k : OpenKey) × (opened_by n h p header tid body ≡ Some k)
+
+taken_data : (pn : ℕ) (o : Option OpenKey) → IsTaken (data_verdict_by pn o) → (k : OpenKey) × (o ≡ Some k)
+taken_data pn None (inl s) = absurd cc
+taken_data pn None (inr s) = absurd cc
+taken_data pn (Some k) s = (k, refl)
+
+-- from the peer that its header names
+pub record OpenFrom (d : Domain) (n : Node) (h : List Act) (header : HeaderFields) (tid : Option ℕ) (body : List ℕ) : Type 0 where
+  pub p : Node
+  pub from : peer_of d n header.a2 ≡ Some p
+  pub taken : IsTaken (data_verdict n h p header tid body)
+  pub k : OpenKey
+  pub under : opened_by n h p header tid body ≡ Some k
+
+pub open_from : (d : Domain) (first : ℕ) (n : Node) (h : List Act) (header : HeaderFields) (way : Direction) (tid : Option ℕ) (body : List ℕ) → IsTaken (first_verdict d first n h (Sealed header way tid body)) → OpenFrom d n h header tid body
+open_from d first n h header way tid body s =
+    let behind = taken_from (peer_of d n header.a2) (λ p. data_verdict n h p header tid body) (taken_behind (not (is_mine_or_group d n header) || goes_like way (direction n)) reason.NotForMe _ s) in
+    let k = taken_data (packet_number body) (opened_by n h behind.0 header tid body) behind.1.1 in
+    record { p = behind.0; from = behind.1.0; taken = behind.1.1; k = k.0; under = k.1 }
+
 in_m4 : (d : Domain) (p : Node) (h : List Act) (k : KeyMessage) → IsTaken (m4_verdict d h p k) → InKeyedAttempt p h
 in_m4 d p h k s =
     let a = taken_attempt (attempt p h) _ s in
@@ -318,9 +354,6 @@ pub answered_from : (o : Option Node) (p : Node) (f : Node → Outcome) → o �
 answered_from None p f is s = cc
 answered_from (Some q) p f is s = subst (λ (x : Node). f x ≡ Answered) (cc is) s
 
-refused_unanswered : {why : Reason} → Refused why ≡ Answered → ⊥
-refused_unanswered s = cc
-
 unanswered_if : (c : Bool) (why : Reason) → (if c then Accepted else Refused why) ≡ Answered → ⊥
 unanswered_if true why s = cc
 unanswered_if false why s = cc
@@ -366,6 +399,10 @@ answered_kind d drawn (Sta sta) h p k G1 s = absurd (unanswered_g1 d (kept_count
 answered_kind d drawn (Ap a) h p k G2 s = absurd (unanswered_g2 d h p k (owing groups.Gtk p h) s)
 answered_kind d drawn n h p k _ s = cc
 
+unanswered_data : (pn : ℕ) (o : Option OpenKey) → data_verdict_by pn o ≡ Answered → ⊥
+unanswered_data pn None s = cc
+unanswered_data pn (Some k) s = unanswered_if (nat_lt k.kept pn) (reason.Replayed k.kept) s
+
 unanswered_management : (d : Domain) (drawn : ℕ) (n : Node) (h : List Act) (p : Node) (k : Kind) (b : Management) (e : ElementFields) → management_verdict d drawn n h p k b e ≡ Answered → ⊥
 unanswered_management d drawn (Ap a) h p kind.AssocReq b e s = unanswered_status (rsne_status d.akm e.rsne) (nat_lt drawn draw_end) s
 unanswered_management d drawn (Sta sta) h p kind.AssocResp b e s =
@@ -380,9 +417,9 @@ pub managed_unanswered : (d : Domain) (first : ℕ) (n : Node) (h : List Act) (b
 managed_unanswered d first n h b e s =
     unanswered_peer (management_sender d n b.header) _ (λ p. unanswered_management d (first + draws h) n h p b.kind b e) (answered_behind (not (is_mine d n b.header)) reason.NotForMe _ s)
 
-pub sealed_unanswered : (d : Domain) (n : Node) (header : HeaderFields) (way : Direction) → (if not (is_mine_or_group d n header) || goes_like way (direction n) then Refused reason.NotForMe else from_peer (peer_of d n header.a2) (λ p. Refused reason.NoKey)) ≡ Answered → ⊥
-sealed_unanswered d n header way s =
-    unanswered_peer (peer_of d n header.a2) _ (λ p t. refused_unanswered t) (answered_behind (not (is_mine_or_group d n header) || goes_like way (direction n)) reason.NotForMe _ s)
+pub sealed_unanswered : (d : Domain) (first : ℕ) (n : Node) (h : List Act) (header : HeaderFields) (way : Direction) (tid : Option ℕ) (body : List ℕ) → first_verdict d first n h (Sealed header way tid body) ≡ Answered → ⊥
+sealed_unanswered d first n h header way tid body s =
+    unanswered_peer (peer_of d n header.a2) _ (λ p t. unanswered_data (packet_number body) (opened_by n h p header tid body) t) (answered_behind (not (is_mine_or_group d n header) || goes_like way (direction n)) reason.NotForMe _ s)
 
 -- ---- one outcome
 
@@ -390,6 +427,13 @@ far_taken : (o : Outcome) → ComesSoFar o → IsTaken o
 far_taken Accepted far = inl refl
 far_taken Answered far = inr refl
 far_taken _ far = absurd far
+
+-- a body has one payload under a key
+one_payload : (tk : List ℕ) (id : ℕ) (header body : List ℕ) (x y : Option (List ℕ)) → IsOpened tk id header body x → IsOpened tk id header body y → x ≡ y
+one_payload tk id header body (Some a) (Some b) s t = ap Some (Sealed-unique tk (ccm_nonce header (packet_number body)) (ccm_aad header) a b (drop 8 body) s.1.sealed t.1.sealed)
+one_payload tk id header body (Some a) None s t = absurd (t a s.0 s.1)
+one_payload tk id header body None (Some b) s t = absurd (s b t.0 t.1)
+one_payload tk id header body None None s t = refl
 
 same_message_further : (d : Domain) (h : List Act) (p : Node) (m : Message) (k : KeyMessage) (f g : Facts) → Awaited p h m → KnowsOf d.akm h p m k f → KnowsOf d.akm h p m k g → key_further d.akm m f ≡ key_further d.akm m g
 same_message_further d h p M2 k f g awaited s t = same_m2 d.akm h p k f g s t
@@ -411,6 +455,9 @@ same_further : (d : Domain) (first : ℕ) (n : Node) (h : List Act) (r : Reading
 same_further d first n h (Keyed k) f g a s t =
     let behind = taken_from (peer_of d n k.header.a2) (λ p. key_verdict d (first + draws h) n h p k k.message) (taken_behind (not (is_mine d n k.header) || goes_like k.direction (direction n)) reason.NotForMe _ (far_taken _ a)) in
     same_message_further d h behind.0 k.message k f g (key_kind d (first + draws h) n h behind.0 k k.message behind.1.1) (s behind.0 behind.1.0) (t behind.0 behind.1.0)
+same_further d first n h (Sealed header way tid body) f g a s t =
+    let o = open_from d first n h header way tid body (far_taken _ a) in
+    ap unsealed (one_payload o.k.key o.k.id header.octets body f.opened g.opened (s o.p o.from o.k o.under) (t o.p o.from o.k o.under))
 same_further d first n h _ f g a s t = refl
 
 same_then : (o x y : Outcome) → (ComesSoFar o → x ≡ y) → and_then o x ≡ and_then o y
@@ -474,6 +521,40 @@ same_carried d first n h k f g m s t accepted =
     let opened : and_then Accepted (key_further d.akm k.message f) ≡ Accepted = subst (λ (x : Outcome). and_then x (key_further d.akm k.message f) ≡ Accepted) a accepted in
     let open3 : unless_refused Accepted (m3_wrapped d.akm f.unwrapped f.data_) ≡ Accepted = subst (λ (x : Message). unless_refused Accepted (key_further d.akm x f) ≡ Accepted) m opened in
     same_opened d.akm y.0.key.ptk.kek k f g (knows_m3 d h behind.0 k.message k f m (s far behind.0 behind.1.0) y.0 y.1) (knows_m3 d h behind.0 k.message k g m (t far behind.0 behind.1.0) y.0 y.1) (not_refused d.akm f.unwrapped f.data_ open3)
+
+-- ---- the payload of protected data that was accepted
+
+opened_some : (a : Outcome) (o : Option (List ℕ)) → and_then a (unsealed o) ≡ Accepted → (plain : List ℕ) × (o ≡ Some plain)
+opened_some a (Some plain) s = (plain, refl)
+opened_some Accepted None s = absurd (cc s)
+opened_some Answered None s = absurd (cc s)
+opened_some _ None s = absurd (cc s)
+
+-- it is under a key and has a payload
+pub record HasPayload (d : Domain) (n : Node) (h : List Act) (header : HeaderFields) (tid : Option ℕ) (body : List ℕ) (facts : Facts) : Type 0 where
+  pub p : Node
+  pub from : peer_of d n header.a2 ≡ Some p
+  pub taken : IsTaken (data_verdict n h p header tid body)
+  pub k : OpenKey
+  pub under : opened_by n h p header tid body ≡ Some k
+  pub plain : List ℕ
+  pub opened : facts.opened ≡ Some plain
+
+pub payload_in : (d : Domain) (first : ℕ) (n : Node) (h : List Act) (header : HeaderFields) (way : Direction) (tid : Option ℕ) (body : List ℕ) (facts : Facts) → verdict d first n h (Sealed header way tid body) facts ≡ Accepted
+    → HasPayload d n h header tid body facts
+payload_in d first n h header way tid body facts s =
+    let o = open_from d first n h header way tid body (inl (and_accepted _ _ s)) in
+    let plain = opened_some (first_verdict d first n h (Sealed header way tid body)) facts.opened s in
+    record { p = o.p; from = o.from; taken = o.taken; k = o.k; under = o.under; plain = plain.0; opened = plain.1 }
+
+-- and whoever knows of it knows the same
+pub same_payload : (d : Domain) (first : ℕ) (n : Node) (h : List Act) (header : HeaderFields) (way : Direction) (tid : Option ℕ) (body : List ℕ) (f g : Facts) → Knows d first n h (Sealed header way tid body) f → Knows d first n h (Sealed header way tid body) g
+    → verdict d first n h (Sealed header way tid body) f ≡ Accepted → f.opened ≡ g.opened
+same_payload d first n h header way tid body f g s t accepted =
+    let a : first_verdict d first n h (Sealed header way tid body) ≡ Accepted = and_accepted _ _ accepted in
+    let far : ComesSoFar (first_verdict d first n h (Sealed header way tid body)) = subst ComesSoFar (sym a) tt in
+    let o = open_from d first n h header way tid body (inl a) in
+    one_payload o.k.key o.k.id header.octets body f.opened g.opened (s far o.p o.from o.k o.under) (t far o.p o.from o.k o.under)
 
 -- ---- the key data of a G1 that was accepted
 

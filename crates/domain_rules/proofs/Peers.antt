@@ -6,13 +6,14 @@ use Rattle.std.proofs.lemmas.Bool.{lt-ltb, ltb-true, cases_Bool}
 use Rattle.std.proofs.lemmas.List.Sums.{passes_at_first, position_or_len_is}
 use Rattle.std.proofs.lemmas.Option.{slice_get-get_or}
 use Rattle.std.proofs.lemmas.Slice.Eq.{bytes_eq-Decides}
+use Rattle.domain_base.specs.Octets.{AreOctets}
 use Rattle.domain_base.specs.declared.names.Mac.{Mac}
 use Rattle.domain_base.specs.declared.names.Node.{Node}
 use Rattle.domain_base.specs.declared.names.Node.TheVariants.{Ap, Sta}
 use Rattle.air_frame.specs.Sent.{IsAddress}
 use Rattle.run_journal.specs.declared.domain.Domain.{Domain}
 use Rattle.run_journal.specs.declared.domain.ListedAp.{ListedAp}
-use Rattle.domain_rules.specs.Network.{address, peer_of, is_ap, AreAps, AreStas, IsNamed, InForm, IsListed}
+use Rattle.domain_rules.specs.Network.{address, peer_of, is_ap, AreAps, AreStas, IsUnicast, IsNamed, InForm, IsListed}
 
 -- ---- the first that passes
 
@@ -55,6 +56,20 @@ all_at P (x ∷ xs) (suc k) d all low = all_at P xs k d all.1 (omega arith)
 pub listed-address : (d : Domain) (n : Node) → AllByRecursion (λ (a : ListedAp). IsAddress a.address.0) d.aps → AllByRecursion (λ (m : Mac). IsAddress m.0) d.stas → IsListed d n → IsAddress (address d n)
 listed-address d (Ap k) aps stas low = subst (λ (x : List ℕ). IsAddress x) (sym (ap_address d k low no_ap)) (all_at (λ (a : ListedAp). IsAddress a.address.0) d.aps k no_ap aps low)
 listed-address d (Sta k) aps stas low = subst (λ (x : List ℕ). IsAddress x) (sym (sta_address d k low no_mac)) (all_at (λ (m : Mac). IsAddress m.0) d.stas k no_mac stas low)
+
+-- is of octets where all are
+pub listed-octets : (d : Domain) (n : Node) → AllByRecursion (λ (a : ListedAp). AreOctets a.address.0) d.aps → AllByRecursion (λ (m : Mac). AreOctets m.0) d.stas → IsListed d n → AreOctets (address d n)
+listed-octets d (Ap k) aps stas low = subst (λ (x : List ℕ). AreOctets x) (sym (ap_address d k low no_ap)) (all_at (λ (a : ListedAp). AreOctets a.address.0) d.aps k no_ap aps low)
+listed-octets d (Sta k) aps stas low = subst (λ (x : List ℕ). AreOctets x) (sym (sta_address d k low no_mac)) (all_at (λ (m : Mac). AreOctets m.0) d.stas k no_mac stas low)
+
+-- a station's is that of one node
+sta_unicast : (aps : List ListedAp) (stas : List Mac) (k : ℕ) → AreStas aps stas → k < length stas → IsUnicast (get_or stas k no_mac).0
+sta_unicast aps [] k are low = absurd (omega (arith, low))
+sta_unicast aps (m ∷ stas) zero are low = are.0
+sta_unicast aps (m ∷ stas) (suc k) are low = sta_unicast aps stas k are.2 (omega (arith, low))
+
+pub listed-unicast : (d : Domain) (k : ℕ) → InForm d → k < length d.stas → IsUnicast (address d (Sta k))
+listed-unicast d k form low = subst IsUnicast (sym (sta_address d k low no_mac)) (sta_unicast d.aps d.stas k form.stas low)
 
 -- ---- the node that has an address
 

@@ -7,7 +7,7 @@ use Rattle.domain_rules.specs.Frames.{assoc_req_elements, aid, in_data, m2_frame
 use Rattle.domain_rules.specs.Network.{address, mac, nonce, gtk, inputs, root}
 use Rattle.eapol_key.specs.Octets.{frame_octets}
 use Rattle.eapol_key.specs.Sent.{sent_fields}
-use Rattle.eapol_key.specs.declared.messages.Message.TheVariants.{M1, M2, M3, M4, G1, G2}
+use Rattle.eapol_key.specs.declared.messages.Message.TheVariants.{M1, M2, M3, G1, G2}
 use Rattle.key_hierarchy.specs.Keys.{ptk}
 use Rattle.key_hierarchy.specs.declared.inputs.Inputs.{Inputs}
 use Rattle.rsn_elements.specs.Sent.{rates_octets}

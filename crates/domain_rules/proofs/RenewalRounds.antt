@@ -9,25 +9,23 @@ use Rattle.domain_rules.proofs.Peers.{not_same}
 use Rattle.domain_rules.proofs.CarriedKey.{IsGroupKey, wrapped_g1, says_g1}
 use Rattle.domain_rules.proofs.KeyOctets.{octets-kek}
 use Rattle.domain_rules.proofs.SentReads.{g1_message, g1_fields, reads-g1, fits-g1, g2_message, g2_fields, reads-g2, fits-g2, mic-sealed, reads-counter, reads-m3, m3_message}
-use Rattle.domain_rules.proofs.Verdicts.{verified-same, keyed-from, above-high, among-one}
-use Rattle.domain_rules.specs.Asking.{greatest, has_heard, kept_counter, offered, above, among, verified, replay_counter}
+use Rattle.domain_rules.proofs.Verdicts.{verified-same, keyed-from}
+use Rattle.domain_rules.specs.Asking.{greatest, kept_counter, offered, verified, replay_counter}
 use Rattle.domain_rules.specs.Counters.{next_in_attempt, first_in_session, next_in_session}
 use Rattle.domain_rules.specs.Explained.{push, Step}
 use Rattle.domain_rules.specs.Facts.{Facts, ReadsKeyData}
 use Rattle.domain_rules.specs.Frames.{g1_key_data, sent_m3, sent_g1, sent_g2, keyed_by}
-use Rattle.domain_rules.specs.GroupKeys.{find_key, memory, newest, is_current, give_by}
+use Rattle.domain_rules.specs.GroupKeys.{find_key, memory, newest, give_by}
 use Rattle.domain_rules.specs.Network.{mac, gtk}
-use Rattle.domain_rules.specs.Owing.{is_open, owing, any_owes, switch_acts, and_switch}
+use Rattle.domain_rules.specs.Owing.{is_open, owing, any_owes, switch_acts}
 use Rattle.domain_rules.specs.Reading.{KeyMessage, Keyed, Reads}
 use Rattle.domain_rules.specs.Rows.{TakeRow, Adds, By_g1, By_g2}
 use Rattle.domain_rules.specs.Rows as event
 use Rattle.domain_rules.specs.AccessPointRows.{g1_to, to_session, to_sessions, RekeyRow, Renews}
-use Rattle.domain_rules.specs.AccessPointKeys.{g2_verdict}
-use Rattle.domain_rules.specs.StationKeys.{KnowsM3, g1_verdict}
-use Rattle.domain_rules.specs.StationRows.{carried}
+use Rattle.domain_rules.specs.StationKeys.{KnowsM3}
 use Rattle.domain_rules.specs.Verdict.{is_mine, further, and_then, first_verdict, verdict}
 use Rattle.domain_rules.specs.Here.{here}
-use Rattle.eapol_key.specs.declared.messages.Message.TheVariants.{M2, M3, M4, G1, G2}
+use Rattle.eapol_key.specs.declared.messages.Message.TheVariants.{M2, M4, G1}
 use Rattle.key_hierarchy.specs.Keys.{ptk}
 use Rattle.key_hierarchy.specs.declared.inputs.Inputs.{Inputs}
 use Rattle.rsn_elements.specs.Elements.{ElementFields}
@@ -48,8 +46,7 @@ use Rattle.run_journal.specs.declared.domain.Domain.{Domain}
 use Rattle.run_journal.specs.declared.domain.Event.TheVariants.{Deliver, Rekey}
 use Rattle.run_journal.specs.declared.domain.Event.{Event}
 use Rattle.std.proofs.Common.{◌≡◌, ℕ, zero, suc, ◌<◌, ◌≤◌, Bool, true, false, List, [], ◌∷◌, length, Option, Some, None, is_some, refl, sym, ap, subst, ◌∙◌, arith, inl, inr}
-use Rattle.std.proofs.lemmas.Bool.{eqb-true, eq-eqb, cases_lt, cases_Bool}
-use Rattle.std.proofs.lemmas.List.{append-nil}
+use Rattle.std.proofs.lemmas.Bool.{eqb-true, cases_lt, cases_Bool}
 use Rattle.std.specs.Prelude.{not, ◌||◌, ◌++◌, ◌==◌, cond}
 use Rattle.domain_rules.proofs.Journals.{step_at}
 use Rattle.domain_rules.proofs.RenewalActs as w
@@ -289,7 +286,7 @@ module _ (d : Domain) (k m : ℕ) (pair : IsPair d k m) (listed : m < length d.s
   said_by_g1 = said KeyData (SentGtkKde new.id new.key ∷ [])
 
   abbrev facts : Facts
-  facts = record { requested = None; unwrapped = Some (g1_key_data new); data_ = Some said_by_g1 }
+  facts = record { requested = None; unwrapped = Some (g1_key_data new); data_ = Some said_by_g1; opened = None }
 
   further11 : further d.akm (Keyed g1) facts ≡ Accepted
   further11 = rw (length-gtk d a 2) refl

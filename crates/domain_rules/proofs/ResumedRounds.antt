@@ -1,11 +1,11 @@
 -- The last rounds of an example of the group key handshake: the station associates anew, and resumes the new key.
 use Rattle.domain_base.specs.declared.names.Node.{Node}
-use Rattle.domain_base.specs.declared.names.Node.TheVariants.{Ap, Sta}
+use Rattle.domain_base.specs.declared.names.Node.TheVariants.{Ap}
 use Rattle.domain_base.specs.declared.names.Peer.TheVariants.{One, All}
 use Rattle.domain_rules.proofs.Refused.{no_facts}
-use Rattle.domain_rules.proofs.Exchange.{length-nonce, length-gtk, octets-gtk, take_step, some-injective, m3-keyed, m3-in, key_data-same, status-sent, same_octets, IsPair, Stage, after_sta, after_ap}
+use Rattle.domain_rules.proofs.Exchange.{length-nonce, length-gtk, octets-gtk, take_step, some-injective, m3-keyed, m3-in, key_data-same, status-sent, same_octets, IsPair, Stage, after_sta}
 use Rattle.domain_rules.proofs.Journals.{step_at, history-push, history-other, explained_event}
-use Rattle.domain_rules.proofs.Parts.{same-refl, attempt_more, attempt_none, attempt_ends, since_part}
+use Rattle.domain_rules.proofs.Parts.{same-refl, attempt_more, attempt_none, since_part}
 use Rattle.domain_rules.proofs.CarriedKey.{IsGroupKey, wrapped_is, says}
 use Rattle.domain_rules.proofs.KeyOctets.{octets-kek}
 use Rattle.domain_rules.proofs.SentReads.{assoc_req_body, assoc_req_said, reads-assoc_req, assoc_resp_body, rates_said, reads-assoc_resp, m1_message, reads-m1, m2_message, m2_fields, reads-m2, fits-m2, m3_message, m3_fields, reads-m3, fits-m3, rsne_said, rsne_spelled, mic-sealed, reads-counter}
@@ -28,7 +28,7 @@ use Rattle.domain_rules.specs.Verdict.{is_mine, further, and_then, first_verdict
 use Rattle.domain_rules.specs.Associating.{management_verdict}
 use Rattle.domain_rules.specs.Facts.{Facts, ReadsKeyData}
 use Rattle.domain_rules.specs.Here.{here}
-use Rattle.eapol_key.specs.declared.messages.Message.TheVariants.{M1, M2, M3, G1, G2}
+use Rattle.eapol_key.specs.declared.messages.Message.TheVariants.{M1, M2, M3, G2}
 use Rattle.key_hierarchy.specs.Keys.{ptk}
 use Rattle.key_hierarchy.specs.declared.inputs.Inputs.{Inputs}
 use Rattle.rsn_elements.specs.Elements.{ElementFields}
@@ -37,7 +37,7 @@ use Rattle.rsn_elements.specs.declared.framing.Within.TheVariants.{KeyData}
 use Rattle.rsn_elements.specs.Sent.{rates_octets, rsne_octets}
 use Rattle.run_journal.specs.Acts.{Derivation, GroupKey}
 use Rattle.run_journal.specs.Questions.{attempt, derivation, history, add, chain}
-use Rattle.run_journal.specs.declared.acts.Act.TheVariants.{Opened, Drew, Derived, Took, Installed, Resumed, Finished}
+use Rattle.run_journal.specs.declared.acts.Act.TheVariants.{Opened, Drew, Derived, Took, Installed, Finished}
 use Rattle.run_journal.specs.declared.acts.Act.{Act}
 use Rattle.run_journal.specs.declared.acts.Drawn.TheVariants.{Nonce, Gtk}
 use Rattle.run_journal.specs.declared.acts.Entry.{Entry}
@@ -345,7 +345,7 @@ module _ (d : Domain) (k m : ℕ) (pair : IsPair d k m) (listed : m < length d.s
   first17 = keyed-from d 0 a ap14 m2 s mine17 pair.finds_sta ∙ m2-in d a ap14 s m2 answered false (1 ∷ []) anonce attempt14 refl refl offers17 refl ∙ verifies17
 
   abbrev facts17 : Facts
-  facts17 = record { requested = Some (assoc_req_said d); unwrapped = None; data_ = Some (rsne_said d.akm) }
+  facts17 = record { requested = Some (assoc_req_said d); unwrapped = None; data_ = Some (rsne_said d.akm); opened = None }
 
   same_rsne : further d.akm (Keyed m2) facts17 ≡ Accepted
   same_rsne = rw ((bytes_eq-Decides (rsne_octets d.akm None) (rsne_octets d.akm None)).1 refl) refl
@@ -442,7 +442,7 @@ module _ (d : Domain) (k m : ℕ) (pair : IsPair d k m) (listed : m < length d.s
   said_by_m3 = said KeyData (SentRsne d.akm None ∷ SentGtkKde new.id new.key ∷ [])
 
   abbrev facts18 : Facts
-  facts18 = record { requested = None; unwrapped = Some (m3_key_data d new); data_ = Some said_by_m3 }
+  facts18 = record { requested = None; unwrapped = Some (m3_key_data d new); data_ = Some said_by_m3; opened = None }
 
   further18 : further d.akm (Keyed m3) facts18 ≡ Accepted
   further18 = key_data-same d.akm new.key 2 (length-gtk d a 2) refl

@@ -13,19 +13,19 @@ use Rattle.eapol_key.specs.declared.messages.Message.TheVariants.{M3}
 use Rattle.run_journal.specs.declared.domain.Domain.{Domain}
 use Rattle.run_journal.specs.declared.acts.Kind.TheVariants as kind
 use Rattle.run_journal.specs.declared.acts.Reason.TheVariants as reason
-use Rattle.run_journal.specs.declared.acts.Outcome.TheVariants.{Accepted, Answered, Refused}
+use Rattle.run_journal.specs.declared.acts.Outcome.TheVariants.{Accepted, Answered}
 use Rattle.run_journal.specs.declared.acts.Act.{Act}
 use Rattle.run_journal.specs.Questions.{draws}
 use Rattle.domain_rules.specs.Network.{direction, goes_like, peer_of, inputs, draw_end, root}
 use Rattle.domain_rules.specs.Reading.{Management, KeyMessage, Reading, Managed, Keyed, Sealed}
 use Rattle.domain_rules.specs.Facts.{Facts}
-use Rattle.domain_rules.specs.Verdict.{first_verdict, further, verdict, is_mine, is_mine_or_group, management_sender, key_verdict}
+use Rattle.domain_rules.specs.Verdict.{first_verdict, further, verdict, is_mine, management_sender, key_verdict}
 use Rattle.domain_rules.specs.Asking.{own}
 use Rattle.domain_rules.specs.Associating.{management_verdict}
 use Rattle.domain_rules.specs.StationRows.{connect_acts, ConnectRow, Spent, Asks}
-use Rattle.domain_rules.specs.Rows.{TakeRows, By_assoc_req, By_assoc_resp, By_m1, By_m2, By_m3, By_repeated_m3, By_m4, By_g1, By_g2, By_ignored, By_refusal}
+use Rattle.domain_rules.specs.Rows.{TakeRows, By_assoc_req, By_assoc_resp, By_m1, By_m2, By_m3, By_repeated_m3, By_m4, By_g1, By_g2, By_data, By_ignored, By_refusal}
 use Rattle.domain_rules.specs.Here.{here}
-use Rattle.domain_rules.proofs.OneOutcome.{Decided, Took_in, Repeated, Passed, Thrown, decided, Awaited, Is_m1, Is_m2, Is_m3, Is_m4, Is_g1, Is_g2, HasKeying, taken_behind, taken_from, not_thrown, from_some, sender-some, management_kind, key_kind, and_accepted, and_answered, answered_behind, answered_from, answered_kind, managed_unanswered, sealed_unanswered}
+use Rattle.domain_rules.proofs.OneOutcome.{Decided, Took_in, Repeated, Passed, Thrown, decided, Awaited, Is_m1, Is_m2, Is_m3, Is_m4, Is_g1, Is_g2, HasKeying, taken_behind, taken_from, not_thrown, from_some, sender-some, management_kind, key_kind, and_accepted, and_answered, answered_behind, answered_from, answered_kind, managed_unanswered, sealed_unanswered, payload_in}
 
 -- ---- a row for each
 
@@ -65,8 +65,8 @@ first_row d first n h octets (Keyed k) facts a s =
     let behind = from_some (peer_of d n k.header.a2) (λ p. key_verdict d (first + draws h) n h p k k.message) (not_thrown (not (is_mine d n k.header) || goes_like k.direction (direction n)) reason.NotForMe _ a) in
     keyed_row d first n h octets k facts behind.0 behind.1.0 (key_kind d (first + draws h) n h behind.0 k k.message (inl behind.1.1)) s
 first_row d first n h octets (Sealed header way tid body) facts a s =
-    let behind = from_some (peer_of d n header.a2) (λ p. Refused reason.NoKey) (not_thrown (not (is_mine_or_group d n header) || goes_like way (direction n)) reason.NotForMe _ a) in
-    absurd (cc (behind.1.1))
+    let o = payload_in d first n h header way tid body facts s in
+    (_, By_data (record { header = header; way = way; tid = tid; body = body; is = refl; p = o.p; from = o.from; accepted = s; k = o.k; under = o.under; plain = o.plain; opened = o.opened; says = refl }))
 first_row d first n h octets _ facts a s = cc
 
 repeated_row : (d : Domain) (first : ℕ) (n : Node) (h : List Act) (octets : List ℕ) (r : Reading) (facts : Facts) → first_verdict d first n h r ≡ Answered → verdict d first n h r facts ≡ Answered → HasRow d first n h octets r facts
@@ -74,7 +74,7 @@ repeated_row d first n h octets (Managed b e) facts a s = absurd (managed_unansw
 repeated_row d first n h octets (Keyed k) facts a s =
     let behind = taken_from (peer_of d n k.header.a2) (λ p. key_verdict d (first + draws h) n h p k k.message) (taken_behind (not (is_mine d n k.header) || goes_like k.direction (direction n)) reason.NotForMe _ (inr a)) in
     answered_row d first n h octets k facts behind.0 behind.1.0 (answered_kind d (first + draws h) n h behind.0 k k.message (answered_from (peer_of d n k.header.a2) behind.0 (λ p. key_verdict d (first + draws h) n h p k k.message) behind.1.0 (answered_behind (not (is_mine d n k.header) || goes_like k.direction (direction n)) reason.NotForMe _ a))) s
-repeated_row d first n h octets (Sealed header way tid body) facts a s = absurd (sealed_unanswered d n header way a)
+repeated_row d first n h octets (Sealed header way tid body) facts a s = absurd (sealed_unanswered d first n h header way tid body a)
 repeated_row d first n h octets _ facts a s = cc
 
 by_outcome : (d : Domain) (first : ℕ) (n : Node) (h : List Act) (octets : List ℕ) (r : Reading) (facts : Facts) → Decided (verdict d first n h r facts) → HasRow d first n h octets r facts

@@ -1,22 +1,19 @@
 -- Where no new group key was drawn after the first, the switch adds nothing.
-use Rattle.std.proofs.Common.{ℕ, zero, suc, ◌≡◌, Bool, true, false, cond, List, [], ◌∷◌, ◌++◌, length, Option, Some, None, is_some, refl, sym, ap, ◌∙◌, subst}
-use Rattle.std.specs.Prelude.{not, nat_lt, ◌&&◌, ◌||◌, ◌==◌}
+use Rattle.std.proofs.Common.{ℕ, ◌≡◌, Bool, true, false, cond, List, [], ◌∷◌, ◌++◌, length, Option, Some, None, is_some, refl, sym, ap, ◌∙◌}
+use Rattle.std.specs.Prelude.{◌||◌}
 use Rattle.std.specs.List.{AllByRecursion}
 use Rattle.std.proofs.lemmas.List.{append-nil}
-use Rattle.std.proofs.lemmas.Bool.{eq-eqb}
 use Rattle.domain_base.specs.declared.names.Node.{Node}
 use Rattle.domain_base.specs.declared.names.Node.TheVariants.{Ap, Sta}
-use Rattle.eapol_key.specs.declared.messages.Message.TheVariants.{G1, G2}
+use Rattle.eapol_key.specs.declared.messages.Message.TheVariants.{G1}
 use Rattle.run_journal.specs.GroupKinds as groups
 use Rattle.run_journal.specs.declared.domain.Domain.{Domain}
 use Rattle.run_journal.specs.declared.acts.Kind.TheVariants as kind
 use Rattle.run_journal.specs.declared.acts.Act.{Act}
-use Rattle.run_journal.specs.Acts.{key_drawn, switched, finishes, sent, Derivation}
-use Rattle.run_journal.specs.Questions.{listed, all_sent, session, group_keys, switches, handshake, add}
-use Rattle.domain_rules.specs.Asking.{has_heard}
-use Rattle.domain_rules.specs.Counters.{sent_count}
+use Rattle.run_journal.specs.Acts.{key_drawn, switched, finishes, sent}
+use Rattle.run_journal.specs.Questions.{listed, all_sent, handshake, add}
 use Rattle.domain_rules.specs.GroupKeys.{is_current}
-use Rattle.domain_rules.specs.Owing.{is_open, owing, any_owes, switch_acts, and_switch}
+use Rattle.domain_rules.specs.Owing.{owing, any_owes, switch_acts, and_switch}
 use Rattle.domain_rules.specs.Rows.{NodeEvent, RowOf, Adds}
 use Rattle.domain_rules.specs.Here.{here}
 

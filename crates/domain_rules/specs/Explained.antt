@@ -4,7 +4,7 @@ use Rattle.domain_base.specs.declared.names.Node.{Node}
 use Rattle.domain_base.specs.declared.names.Node.TheVariants.{Ap, Sta}
 use Rattle.run_journal.specs.declared.domain.Domain.{Domain}
 use Rattle.run_journal.specs.declared.domain.Event.{Event}
-use Rattle.run_journal.specs.declared.domain.Event.TheVariants.{Connect, Deliver, Alter, Cut, Inject, Retry, Rekey, Expire, Leave}
+use Rattle.run_journal.specs.declared.domain.Event.TheVariants.{Connect, Deliver, Alter, Cut, Inject, Retry, Rekey, Send, Expire, Leave}
 use Rattle.run_journal.specs.declared.acts.Act.{Act}
 use Rattle.run_journal.specs.declared.acts.Act.TheVariants.{Sent}
 use Rattle.domain_base.specs.declared.names.Peer.{Peer}
@@ -54,6 +54,7 @@ HappensAt (Cut number size to) past round n event = (octets : List ℕ) × (WasS
 HappensAt (Inject to octets) past round n event = (n ≡ to) × (event ≡ Take octets)
 HappensAt (Retry a s) past round n event = (n ≡ Ap a) × (event ≡ again.Retry s)
 HappensAt (Rekey a) past round n event = (n ≡ Ap a) × (event ≡ again.Rekey)
+HappensAt (Send from to tid octets) past round n event = (n ≡ from) × (event ≡ again.Send to tid octets)
 HappensAt (Expire a s) past round n event = (n ≡ Ap a) × (event ≡ again.Expire s)
 HappensAt (Leave s) past round n event = (n ≡ Sta s) × (event ≡ again.Leave)
 

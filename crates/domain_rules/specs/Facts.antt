@@ -15,6 +15,8 @@ pub record Facts : Type 0 where
   pub unwrapped : Option (List ℕ)
   -- what the plain key data says, where it can be read
   pub data_ : Option ElementFields
+  -- the payload of protected data, where its seal verifies
+  pub opened : Option (List ℕ)
 
 abbrev pub is_same : Option (List ℕ) → Option (List ℕ) → Bool
 is_same (Some a) (Some b) = bytes_eq a b

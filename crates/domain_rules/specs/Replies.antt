@@ -1,4 +1,4 @@
--- What the reply of a part of a node comes to: the acts of the node, in order.
+-- What the reply of one side of a handshake comes to: the acts of the node, in order.
 use Rattle.std.specs.Prelude.{◌≡◌, ℕ, ◌+◌, ◌==◌, Bool, true, cond, List, [], ◌∷◌, ◌++◌, take, drop, Option, None, Some, option_map}
 use Rattle.domain_base.specs.declared.names.Node.{Node}
 use Rattle.domain_base.specs.declared.names.Node.TheVariants.{Ap, Sta}

@@ -3,6 +3,7 @@
 use Rattle.std.specs.Prelude.{◌≡◌, ℕ, cond, List, [], ◌∷◌, Option, Some, None}
 use Rattle.domain_base.specs.declared.names.Node.{Node}
 use Rattle.domain_base.specs.declared.names.Node.TheVariants.{Ap, Sta}
+use Rattle.domain_base.specs.declared.names.Peer.{Peer}
 use Rattle.eapol_key.specs.declared.messages.Message.{Message}
 use Rattle.eapol_key.specs.declared.messages.Message.TheVariants.{M2, M3, M4, G1, G2}
 use Rattle.run_journal.specs.declared.domain.Domain.{Domain}
@@ -26,6 +27,7 @@ use Rattle.domain_rules.specs.AccessPointRows.{AssocReqRow, M2Row, M4Row, G2Row,
 use Rattle.domain_rules.specs.Owing.{and_switch}
 use Rattle.domain_rules.specs.Closing.{sender}
 use Rattle.domain_rules.specs.StationRows.{ConnectRow, AssocRespRow, M1Row, M3Row, RepeatedM3Row, G1Row, m3_seal, g1_seal, leave_acts}
+use Rattle.domain_rules.specs.DataRows.{send_acts, DataRow}
 use Rattle.domain_rules.specs.Here.{Here}
 
 -- what an event is to one node
@@ -38,6 +40,8 @@ pub data NodeEvent : Type 0 where
   Retry : ℕ → NodeEvent
   -- an access point draws a new group key and gives it to each session
   Rekey : NodeEvent
+  -- a node sends that payload to a peer, or to all, with that TID
+  Send : Peer → Option ℕ → List ℕ → NodeEvent
   -- an access point drops what it has with that station
   Expire : ℕ → NodeEvent
   -- a station drops what it has
@@ -61,7 +65,7 @@ seal_in d n h (Keyed k) = message_seal d n h k k.message (peer_of d n k.header.a
 seal_in d n h _ = None
 
 -- What a refused frame had sealed: something exactly where its MIC was tried and verified. The MIC is the last that is tried
--- before what the key data say, so that is where nothing up to it refused the frame.
+-- before what the key data say, so that is where nothing up to it refused the frame. The seal of protected data is tried last.
 abbrev pub refused_seal : Domain → ℕ → Node → List Act → Reading → Option Seal
 refused_seal d first n h r = cond (comes_so_far (first_verdict d first n h r)) (seal_in d n h r) None
 
@@ -87,6 +91,7 @@ pub data TakeRows (w : Here) (h : List Act) (octets : List ℕ) (r : Reading) (f
   By_m4 : M4Row w h octets r facts g → TakeRows w h octets r facts g
   By_g1 : G1Row w h octets r facts g → TakeRows w h octets r facts g
   By_g2 : G2Row w h octets r facts g → TakeRows w h octets r facts g
+  By_data : DataRow w h octets r facts g → TakeRows w h octets r facts g
   By_ignored : IgnoredRow w h octets r facts g → TakeRows w h octets r facts g
   By_refusal : RefusedRow w h octets r facts g → TakeRows w h octets r facts g
 
@@ -104,6 +109,7 @@ RowOf w h (Take octets) g = TakeRow w h octets g
 RowOf w h (Begin a) g = ConnectRow w h (Ap a) g
 RowOf w h (Retry s) g = g ≡ retry_acts w.domain w.node h (Sta s) (attempt (Sta s) h)
 RowOf w h Rekey g = RekeyRow w h g
+RowOf w h (Send q tid octets) g = g ≡ send_acts w.domain w.node h q tid octets
 RowOf w h (Expire s) g = g ≡ expire_acts (Sta s) h
 RowOf w h Leave g = g ≡ leave_acts h
 

@@ -1,5 +1,5 @@
 -- What comes of a delivered frame: the first reason that applies, in the one order of reasons, or acceptance.
-use Rattle.std.specs.Prelude.{◌≡◌, ℕ, ◌+◌, Bool, true, false, not, ◌||◌, ◌==◌, ◌%◌, slice_index, List, Option, Some, None, bytes_eq, if◌then◌else◌}
+use Rattle.std.specs.Prelude.{◌≡◌, ℕ, ◌+◌, Bool, true, false, not, ◌||◌, List, Option, Some, None, bytes_eq, if◌then◌else◌}
 use Rattle.domain_base.specs.declared.names.Akm.{Akm}
 use Rattle.domain_base.specs.declared.names.Node.{Node}
 use Rattle.domain_base.specs.declared.names.Node.TheVariants.{Ap, Sta}
@@ -20,6 +20,8 @@ use Rattle.run_journal.specs.Questions.{draws, session}
 use Rattle.domain_rules.specs.Network.{address, bssid, peer_of, direction, goes_like}
 use Rattle.domain_rules.specs.Reading.{KeyMessage, Reading, NoFrame, PassedOver, NoElements, Managed, NoKeyFrame, NoMessage, Keyed, Sealed}
 use Rattle.domain_rules.specs.Facts.{Facts}
+use Rattle.domain_rules.specs.PacketNumbers.{OpenKey}
+use Rattle.domain_rules.specs.DataVerdict.{is_group, opened_by, data_verdict, unsealed, IsOpened}
 use Rattle.domain_rules.specs.Associating.{management_verdict}
 use Rattle.domain_rules.specs.AccessPointKeys.{m2_verdict, m4_verdict, g2_verdict, requested_rsne, m2_key_data, KnowsM2}
 use Rattle.domain_rules.specs.StationKeys.{m1_verdict, Keying, m3_keying, m3_verdict, m3_wrapped, g1_verdict, g1_wrapped, KnowsM3}
@@ -50,10 +52,6 @@ management_sender d n h = sender_in d n h (peer_of d n h.a2)
 abbrev pub is_mine : Domain → Node → HeaderFields → Bool
 is_mine d n h = bytes_eq h.a1 (address d n)
 
--- a group address has the lowest bit of its first octet set (9.2.4.3)
-abbrev pub is_group : List ℕ → Bool
-is_group octets = slice_index octets 0 % 2 == 1
-
 -- protected data is for the node, or at a station for a group
 abbrev pub is_mine_or_group : Domain → Node → HeaderFields → Bool
 is_mine_or_group d (Ap a) h = is_mine d (Ap a) h
@@ -67,7 +65,7 @@ air_reason air.Version = reason.Malformed (malformed.Air air.Version)
 air_reason (air.Body place) = reason.Malformed (malformed.Air (air.Body place))
 
 -- What comes of a frame at node n, which began to draw at number `first`, by its history h, as far as the frame alone
--- and the history decide. Protected frames are refused as long as nothing is sent under a session's key.
+-- and the history decide.
 abbrev pub first_verdict : Domain → ℕ → Node → List Act → Reading → Outcome
 first_verdict d first n h (NoFrame fault) = Refused (air_reason fault)
 first_verdict d first n h PassedOver = Ignored
@@ -82,7 +80,7 @@ first_verdict d first n h (Keyed k) =
     else from_peer (peer_of d n k.header.a2) (λ p. key_verdict d (first + draws h) n h p k k.message)
 first_verdict d first n h (Sealed header way tid body) =
     if not (is_mine_or_group d n header) || goes_like way (direction n) then Refused reason.NotForMe
-    else from_peer (peer_of d n header.a2) (λ p. Refused reason.NoKey)
+    else from_peer (peer_of d n header.a2) (λ p. data_verdict n h p header tid body)
 
 -- what comes of a message by what reading further tells of it
 abbrev pub key_further : Akm → Message → Facts → Outcome
@@ -93,6 +91,7 @@ key_further akm _ facts = Accepted
 
 abbrev pub further : Akm → Reading → Facts → Outcome
 further akm (Keyed k) facts = key_further akm k.message facts
+further akm (Sealed header way tid body) facts = unsealed facts.opened
 further akm _ facts = Accepted
 
 -- an acceptance or an answer stands where further reading refuses nothing
@@ -118,9 +117,10 @@ KnowsOf akm h p _ k facts = Unit {0}
 
 abbrev pub KnowsFrom : Domain → Node → List Act → Reading → Facts → Type 0
 KnowsFrom d n h (Keyed k) facts = (p : Node) → peer_of d n k.header.a2 ≡ Some p → KnowsOf d.akm h p k.message k facts
+KnowsFrom d n h (Sealed header way tid body) facts = (p : Node) → peer_of d n header.a2 ≡ Some p → (k : OpenKey) → opened_by n h p header tid body ≡ Some k → IsOpened k.key k.id header.octets body facts.opened
 KnowsFrom d n h _ facts = Unit {0}
 
--- the frame comes so far that they are asked: all that is tried up to its MIC holds
+-- the frame comes so far that they are asked: all that is tried up to its MIC, or before its seal, holds
 abbrev pub comes_so_far : Outcome → Bool
 comes_so_far Accepted = true
 comes_so_far Answered = true

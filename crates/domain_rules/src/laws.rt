@@ -5,6 +5,9 @@ ghost use Rattle.domain_base.specs.declared.names.Akm.{Akm};
 ghost use Rattle.domain_base.specs.declared.names.Akm.TheVariants.{FtPsk};
 ghost use Rattle.domain_base.specs.declared.names.Node.{Node};
 ghost use Rattle.domain_base.specs.declared.names.Node.TheVariants.{Ap};
+ghost use Rattle.domain_base.specs.declared.names.Peer.{Peer};
+ghost use Rattle.air_frame.specs.Fields.{HeaderFields};
+ghost use Rattle.air_frame.specs.declared.frame.Direction.{Direction};
 ghost use Rattle.key_hierarchy.specs.Sizes.{IsSsid};
 ghost use Rattle.run_journal.specs.declared.domain.Domain.{Domain};
 ghost use Rattle.run_journal.specs.declared.domain.Event.{Event};
@@ -12,20 +15,28 @@ ghost use Rattle.run_journal.specs.declared.acts.Act.{Act};
 ghost use Rattle.run_journal.specs.declared.acts.Act.TheVariants.{Closed, Took};
 ghost use Rattle.run_journal.specs.declared.acts.Part.TheVariants.{Session};
 ghost use Rattle.run_journal.specs.declared.acts.Kind.{Kind};
+ghost use Rattle.run_journal.specs.declared.acts.Kind.TheVariants.{Data};
 ghost use Rattle.run_journal.specs.declared.acts.Outcome.{Outcome};
+ghost use Rattle.run_journal.specs.declared.acts.Outcome.TheVariants.{Accepted, Refused};
+ghost use Rattle.run_journal.specs.declared.acts.Reason.{Reason};
+ghost use Rattle.run_journal.specs.GroupKinds as groups;
+ghost use Rattle.run_journal.specs.Questions.{add};
+ghost use Rattle.domain_rules.specs.GroupKeys.{got};
+ghost use Rattle.domain_rules.specs.PacketNumbers.{pairwise_got};
 ghost use Rattle.run_journal.specs.declared.acts.Seal.{Seal};
 ghost use Rattle.run_journal.specs.declared.acts.Entry.{Entry};
 ghost use Rattle.run_journal.specs.Premises.{In};
-ghost use Rattle.domain_rules.specs.Network.{InForm, gtk};
-ghost use Rattle.domain_rules.specs.Reading.{Reading, Reads, kind_of};
-ghost use Rattle.domain_rules.specs.Verified.{IsVerified, is_past_mic};
+ghost use Rattle.domain_rules.specs.Network.{InForm, gtk, peer_of};
+ghost use Rattle.domain_rules.specs.Reading.{Reading, Sealed, Reads, kind_of};
+ghost use Rattle.domain_rules.specs.Verified.{IsNoted, is_past_mic};
 ghost use Rattle.domain_rules.specs.Facts.{Facts};
 ghost use Rattle.domain_rules.specs.Verdict.{Knows, first_verdict, verdict};
-ghost use Rattle.domain_rules.specs.Rows.{NodeEvent, Take, Begin, Retry, Rekey, Expire, Leave, Adds};
+ghost use Rattle.domain_rules.specs.Rows.{NodeEvent, Take, Begin, Retry, Rekey, Send, Expire, Leave, Adds};
 ghost use Rattle.domain_rules.specs.Closing.{sender};
 ghost use Rattle.domain_rules.specs.Ended.{EndsRightly};
 ghost use Rattle.domain_rules.specs.Explained.{Explained};
 ghost use Rattle.domain_rules.specs.Example.{small, AreWhole, HasHandshake, HasRenewal};
+ghost use Rattle.domain_rules.specs.DataExample.{HaveOctets, Payloads, ArePayloads, HasExchange};
 ghost use Rattle.domain_rules.specs.Here.{here};
 
 /// Octets are one thing to a node at most, and so one outcome comes of them, by the history of the node alone.
@@ -40,7 +51,8 @@ pub fn one_reading()
 {}
 
 /// An event adds one group of acts to the history of a node at most, and whatever octets read as, and at each begin of an
-/// attempt, each repeat, each dropping of what there is, and each new group key of an access point, there is one.
+/// attempt, each repeat, each payload to be sent, each dropping of what there is, and each new group key of an access point,
+/// there is one.
 pub fn one_group()
     ensures one { (d : Domain) (first : ℕ) (n : Node) (h : List Act) (event : NodeEvent)
         (f g : List Act)
@@ -54,27 +66,55 @@ pub fn one_group()
         → (g : List Act) × Adds (here d first n) h (Retry s) g }
     ensures rekeyed { (d : Domain) (first a : ℕ) (h : List Act)
         → (g : List Act) × Adds (here d first (Ap a)) h Rekey g }
+    ensures sends { (d : Domain) (first : ℕ) (n : Node) (h : List Act) (q : Peer) (tid : Option ℕ)
+        (octets : List ℕ)
+        → (g : List Act) × Adds (here d first n) h (Send q tid octets) g }
     ensures expired { (d : Domain) (first : ℕ) (n : Node) (h : List Act) (s : ℕ)
         → (g : List Act) × Adds (here d first n) h (Expire s) g }
     ensures left { (d : Domain) (first : ℕ) (n : Node) (h : List Act)
         → (g : List Act) × Adds (here d first n) h Leave g }
 {}
 
-/// A node notes what a frame had sealed where the MIC of the frame verified, and there alone. Whatever its history, a seal is noted
-/// of octets that came and read as an EAPOL-Key message with the MIC of its octets under the key of the seal. And it is noted
-/// wherever a message with a MIC (all but M1) is accepted or answered, or is refused for what its key data hold.
+/// A node notes what a frame had sealed where the MIC of the frame, or its CCM seal, verified, and there alone. Whatever its history,
+/// a seal is noted of octets that came and read as an EAPOL-Key message with the MIC of its octets under the key of the seal, or as
+/// protected data that opens under it. And it is noted wherever a message with a MIC (all but M1) is accepted or answered, or is
+/// refused for what its key data hold, and wherever data is accepted.
 pub fn seals_are_verified()
     ensures verified { (d : Domain) (first : ℕ) (n : Node) (h : List Act) (event : NodeEvent)
         (g : List Act)
         (from : Option Node) (octets : List ℕ) (k : Kind) (o : Outcome) (s : Seal)
         → Adds (here d first n) h event g → In (Took from octets k o (Some s)) g
-        → (event ≡ Take octets) × IsVerified d.akm octets s }
+        → (event ≡ Take octets) × IsNoted d.akm octets s }
     ensures noted { (d : Domain) (first : ℕ) (n : Node) (h : List Act) (octets : List ℕ)
         (r : Reading) (facts : Facts) (g : List Act)
         → Reads d.akm octets r → Knows d first n h r facts → Adds (here d first n) h (Take octets) g
         → is_past_mic (first_verdict d first n h r) (kind_of r) ≡ true
         → (s : Seal)
         × In (Took (sender d n r) octets (kind_of r) (verdict d first n h r facts) (Some s)) g }
+    ensures opened { (d : Domain) (first : ℕ) (n : Node) (h : List Act) (octets : List ℕ)
+        (header : HeaderFields) (way : Direction) (tid : Option ℕ) (body : List ℕ) (facts : Facts)
+        (g : List Act)
+        → Reads d.akm octets (Sealed header way tid body)
+        → Knows d first n h (Sealed header way tid body) facts
+        → Adds (here d first n) h (Take octets) g
+        → verdict d first n h (Sealed header way tid body) facts ≡ Accepted
+        → (s : Seal) × In (Took (peer_of d n header.a2) octets Data Accepted (Some s)) g }
+{}
+
+/// A frame that is refused moves no receive counter, whatever its packet number: so no frame that was made without the key keeps
+/// a node from taking those that come after it.
+pub fn refusals_move_no_counter()
+    ensures pairwise { (d : Domain) (first : ℕ) (n : Node) (h : List Act) (octets : List ℕ)
+        (r : Reading) (facts : Facts) (why : Reason) (g : List Act)
+        → Reads d.akm octets r → Knows d first n h r facts
+        → verdict d first n h r facts ≡ Refused why → Adds (here d first n) h (Take octets) g
+        → (p : Node) (key : List ℕ) (tid : ℕ)
+        → pairwise_got p key tid (add g h) ≡ pairwise_got p key tid h }
+    ensures group { (d : Domain) (first : ℕ) (n : Node) (h : List Act) (octets : List ℕ)
+        (r : Reading) (facts : Facts) (why : Reason) (g : List Act)
+        → Reads d.akm octets r → Knows d first n h r facts → Adds (here d first n) h (Take octets) g
+        → verdict d first n h r facts ≡ Refused why → (p : Node) (key : List ℕ) (id : ℕ)
+        → got groups.Gtk p key id (add g h) ≡ got groups.Gtk p key id h }
 {}
 
 /// The network and the rounds determine the journal.
@@ -111,4 +151,14 @@ pub fn renewal_is_explained()
     ensures { (d : Domain) (a s : ℕ) → InForm d → AreWhole d → d.akm ≢ FtPsk → a < length d.aps
         → s < length d.stas
         → gtk d (Ap a) 2 ≢ gtk d (Ap a) 0 → HasRenewal d a s }
+{}
+
+/// Nor is protected data: after such a handshake, in every such network whose addresses are octets, payloads of a station, of its
+/// access point for the station, and of the access point for all are each sent under the first packet number of their key and
+/// handed up with it; and a frame that comes once more is refused as replayed.
+pub fn exchange_is_explained()
+    ensures whole { (d : Domain) (a s : ℕ) (p : Payloads) → InForm d → AreWhole d → HaveOctets d
+        → d.akm ≢ FtPsk → a < length d.aps → s < length d.stas → ArePayloads p
+        → HasExchange d a s p }
+    ensures network { (akm : Akm) (seed ssid psk : List ℕ) → HaveOctets (small akm seed ssid psk) }
 {}

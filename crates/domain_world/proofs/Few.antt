@@ -3,13 +3,14 @@ use Rattle.std.proofs.Common.{ℕ, zero, suc, ◌+◌, ◌≤◌, Bool, true, fa
 use Rattle.std.specs.Prelude.{cond, ◌||◌, if◌then◌else◌, nat_lt}
 use Rattle.domain_base.specs.declared.names.Node.{Node}
 use Rattle.domain_base.specs.declared.names.Node.TheVariants.{Ap}
+use Rattle.domain_base.specs.declared.names.Peer.{Peer}
 use Rattle.run_journal.specs.declared.domain.Domain.{Domain}
 use Rattle.run_journal.specs.declared.acts.Kind.{Kind}
 use Rattle.run_journal.specs.declared.acts.Kind.TheVariants as kind
 use Rattle.run_journal.specs.declared.acts.Reason.{Reason}
 use Rattle.run_journal.specs.declared.acts.Reason.TheVariants as reason
 use Rattle.run_journal.specs.declared.acts.Act.{Act}
-use Rattle.run_journal.specs.declared.acts.Act.TheVariants.{GaveUp, Closed, Idle}
+use Rattle.run_journal.specs.declared.acts.Act.TheVariants.{GaveUp, Closed, Idle, Used}
 use Rattle.run_journal.specs.declared.acts.Part.TheVariants.{Attempt, Session}
 use Rattle.run_journal.specs.declared.acts.Why.TheVariants as why
 use Rattle.run_journal.specs.GroupKinds as groups
@@ -23,12 +24,15 @@ use Rattle.domain_rules.specs.Facts.{Facts}
 use Rattle.domain_rules.specs.Asking.{by_connect, has_heard, own}
 use Rattle.domain_rules.specs.Counters.{sent_count, next_in_attempt}
 use Rattle.domain_rules.specs.Frames.{sent_m1}
-use Rattle.domain_rules.specs.Rows.{NodeEvent, Take, Begin, Retry, Rekey, Expire, Leave, RowOf, Adds, response, TakeRows, By_assoc_req, By_assoc_resp, By_m1, By_m2, By_m3, By_repeated_m3, By_m4, By_g1, By_g2, By_ignored, By_refusal}
+use Rattle.domain_rules.specs.Rows.{NodeEvent, Take, Begin, Retry, Rekey, Send, Expire, Leave, RowOf, Adds, response, TakeRows, By_assoc_req, By_assoc_resp, By_m1, By_m2, By_m3, By_repeated_m3, By_m4, By_g1, By_g2, By_data, By_ignored, By_refusal}
 use Rattle.domain_rules.specs.AccessPointRows.{again_or_give_up, most_sends, m3_again, retry_attempt, again_or_close, retry_session, retry_acts, g1_to, carried_older, m4_acts, newer_acts, to_session, to_sessions, next_key, RekeyRow, Pending, Spent as NoDraw, Renews, expire_acts}
 use Rattle.domain_rules.specs.Owing.{owing, any_owes, switch_acts, and_switch}
 use Rattle.domain_rules.specs.GroupKeys.{is_current}
 use Rattle.domain_rules.specs.Closing.{close_session, close_attempt, close_pending, close_associated, or_nothing, sender}
 use Rattle.domain_rules.specs.StationRows.{ConnectRow, Spent, Asks, leave_acts}
+use Rattle.domain_rules.specs.DataFrames.{sent_data}
+use Rattle.domain_rules.specs.DataRows.{used_acts, send_acts_by}
+use Rattle.domain_rules.specs.PacketNumbers.{SendKey, send_key}
 use Rattle.domain_rules.specs.Here.{Here, here}
 
 short_attempt : (p : Node) (part : Option (List Act)) → length (close_attempt p part) ≤ 1
@@ -106,12 +110,26 @@ few_rows d first n h octets r facts g (By_m4 row) =
     omega (arith, ap length row.says, length-append (m4_acts octets row.k row.p row.x (session row.p h)) more, short_m4 octets row.k row.p row.x (session row.p h), short)
 few_rows d first n h octets r facts g (By_g1 row) = omega (arith, ap length row.says)
 few_rows d first n h octets r facts g (By_g2 row) = omega (arith, ap length row.says)
+few_rows d first n h octets r facts g (By_data row) = omega (arith, ap length row.says)
 few_rows d first n h octets r facts g (By_ignored row) = omega (arith, ap length row.says)
 few_rows d first n h octets r facts g (By_refusal row) = omega (arith, ap length row.says, short_response d n (sender d n r) (kind_of r) row.why)
 
 few_connect : (d : Domain) (first : ℕ) (n : Node) (h : List Act) (p : Node) (g : List Act) → ConnectRow (here d first n) h p g → length g ≤ 7
 few_connect d first n h p g (Spent spent says) = omega (arith, ap length says)
 few_connect d first n h p g (Asks asks says) = let long = simp length-append at (ap length says) in omega (arith, long, short_pending (pending h), short_associated (associated h))
+
+-- a payload that is sent
+short_used_by : (b : Bool) (x y z : Act) → length (if b then x ∷ y ∷ [] else z ∷ []) ≤ 2
+short_used_by true x y z = omega arith
+short_used_by false x y z = omega arith
+
+short_used : (d : Domain) (n : Node) (q : Peer) (tid : Option ℕ) (plain : List ℕ) (k : SendKey) → length (used_acts d n q tid plain k) ≤ 2
+short_used d n q tid plain k =
+    short_used_by _ (Used q k.key k.id (suc k.used) plain) (sent_data d n q tid k.key k.id (suc k.used) plain) (Idle why.Spent)
+
+short_send : (d : Domain) (n : Node) (q : Peer) (tid : Option ℕ) (plain : List ℕ) (o : Option SendKey) → length (send_acts_by d n q tid plain o) ≤ 2
+short_send d n q tid plain None = one_act (Idle why.NoKey)
+short_send d n q tid plain (Some k) = short_used d n q tid plain k
 
 -- by a new group key one for each station at most
 short_to : (d : Domain) (n p : Node) (h : List Act) (x : Option Derivation) → length (to_session d n p h x) ≤ 1
@@ -147,6 +165,7 @@ few_row d first n h (Take octets) g row = omega (arith, few_rows d first n h oct
 few_row d first n h (Begin a) g row = omega (arith, few_connect d first n h (Ap a) g row)
 few_row d first n h (Retry s) g row = omega (arith, ap length row, short_retry d n h (Sta s) (attempt (Sta s) h))
 few_row d first n h Rekey g row = omega (arith, few_rekey d first n h g row)
+few_row d first n h (Send q tid octets) g row = omega (arith, ap length row, short_send d n q tid octets (send_key h q))
 few_row d first n h (Expire s) g row = omega (arith, ap length row, short_expire (Sta s) h)
 few_row d first n h Leave g row = omega (arith, ap length row, short_leave h)
 

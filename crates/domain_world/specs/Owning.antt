@@ -5,12 +5,13 @@ use Rattle.domain_base.specs.declared.names.Akm.TheVariants.{FtPsk}
 use Rattle.domain_base.specs.declared.names.Node.TheVariants.{Ap, Sta}
 use Rattle.run_journal.specs.declared.domain.Domain.{Domain}
 use Rattle.run_journal.specs.declared.domain.Event.{Event}
-use Rattle.run_journal.specs.declared.domain.Event.TheVariants.{Connect, Deliver, Alter, Cut, Inject, Retry, Rekey, Expire, Leave}
+use Rattle.run_journal.specs.declared.domain.Event.TheVariants.{Connect, Deliver, Alter, Cut, Inject, Retry, Rekey, Send, Expire, Leave}
 use Rattle.run_journal.specs.declared.acts.Entry.{Entry}
 use Rattle.run_journal.specs.Acts.{is_sent}
 use Rattle.run_journal.specs.Questions.{history}
 use Rattle.domain_rules.specs.Network.{InForm, IsListed}
 use Rattle.domain_rules.specs.Explained.{frames, number_of, WasSent}
+use Rattle.node_base.specs.Peers.{IsReceiverOf, most_payload}
 use Rattle.station_node.specs.State.{State as StationState}
 use Rattle.station_node.specs.Stands.{Stands as StationStands}
 use Rattle.ap_node.specs.State.{State as ApState}
@@ -25,7 +26,7 @@ pub record HasOctets (j : List Entry) (number size : ℕ) : Type 0 where
   pub long : size ≤ length octets
 
 -- the event names listed nodes of the right kinds, and a frame that was sent; an octet that it changes, and octets that it
--- keeps, are the frame's
+-- keeps, are the frame's; a payload has at most so many octets
 abbrev pub IsEventIn : Domain → ℕ → List Entry → Event → Type 0
 IsEventIn d sent j (Connect s a) = (s < length d.stas) × (a < length d.aps)
 IsEventIn d sent j (Deliver number to) = (1 ≤ number) × (number ≤ sent) × IsListed d to
@@ -34,6 +35,7 @@ IsEventIn d sent j (Cut number size to) = (1 ≤ number) × (number ≤ sent) ×
 IsEventIn d sent j (Inject to octets) = IsListed d to
 IsEventIn d sent j (Retry a s) = (a < length d.aps) × (s < length d.stas)
 IsEventIn d sent j (Rekey a) = a < length d.aps
+IsEventIn d sent j (Send from to tid octets) = IsListed d from × IsReceiverOf d from to × (length octets ≤ most_payload)
 IsEventIn d sent j (Expire a s) = (a < length d.aps) × (s < length d.stas)
 IsEventIn d sent j (Leave s) = s < length d.stas
 

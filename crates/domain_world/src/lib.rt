@@ -1,6 +1,7 @@
 //! A domain of access points and stations, one event at a time, journaled.
 #![tactic(auto)]
 
+mod handing;
 mod journaling;
 mod nodes;
 mod world;

@@ -13,6 +13,7 @@ ghost use Rattle.node_base.specs.Events.{event_of, IsEventAt};
 ghost use Rattle.run_journal.specs.Listing.{with_ap, with_sta};
 ghost use Rattle.domain_world.specs.State.{Nodes as AllNodes};
 
+use crate::handing::{step_ap, step_station};
 use act_memory::Outbox;
 use ap_node::ApNode;
 use domain_base::{Mac, NoMemory, Node, Octets};
@@ -38,7 +39,11 @@ impl Model for Nodes {
 
     ghost view = { λ n. record { domain = n.domain; aps = n.aps.items; stas = n.stas.items } };
 
-    ghost invariant = { λ n. AreListed (record { domain = n.domain; aps = n.aps.items; stas = n.stas.items }) };
+    ghost invariant = { λ n. AreListed (record {
+      domain = n.domain;
+      aps = n.aps.items;
+      stas = n.stas.items;
+    }) };
 }
 
 // One more listed access point.
@@ -169,29 +174,29 @@ impl Nodes {
         &mut self,
         alloc: Global,
         node: Node,
-        event: NodeEvent<'_>,
+        event: &NodeEvent<'_>,
         out: &mut Outbox,
     ) -> Result<(), NoMemory>
         requires form { InForm self.old.domain }
         requires suite { self.old.domain.akm ≢ AnyAkm.FtPsk }
         requires listed { IsListed self.old.domain node }
-        requires event { IsEventAt self.old.domain node (event_of event) }
+        requires event { IsEventAt self.old.domain node (event_of event.now) }
         requires waiting { out.old.acts ≡ [] }
         ensures domain { self.new.domain ≡ self.old.domain }
         ensures listed { AreListed self.new }
         ensures acted { OnOk result ((j : List Entry) → Stand self.old j
-            → Acted node (event_of event.entry) j self.old self.new out.new.acts) }
+            → Acted node (event_of event.now) j self.old self.new out.new.acts) }
         ensures same { OnErr result (self.new ≡ self.old) }
         ensures kept { OnErr result (out.new.acts ≡ []) }
     {
         match node {
             Node::Ap(number) => {
                 let ap = &mut self.aps[usize::from(number)];
-                ap.step(alloc, &self.domain, event, out)?;
+                step_ap(ap, alloc, &self.domain, event, out)?;
             }
             Node::Sta(number) => {
                 let station = &mut self.stas[usize::from(number)];
-                station.step(alloc, &self.domain, event, out)?;
+                step_station(station, alloc, &self.domain, event, out)?;
             }
         }
         Ok(())

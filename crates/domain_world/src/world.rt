@@ -118,7 +118,8 @@ impl World {
     }
 
     /// One event, a round by itself. The journal is this world's own; the event names listed nodes of the right kinds and a
-    /// frame that was sent. An octet that is changed, and octets that are kept, are the frame's.
+    /// frame that was sent. An octet that is changed, and octets that are kept, are the frame's. A payload has at most 2304
+    /// octets.
     pub fn event(&mut self, event: &Event, journal: &mut Journal) -> Result<(), NoMemory>
         requires own { Owns self.old journal.old.entries }
         requires event { IsEventIn self.old.domain (length self.old.frames) journal.old.entries
@@ -138,7 +139,7 @@ impl World {
         journal.reserve(most)?;
         self.frames.reserve(most)?;
         let (node, at_node) = self.at_node(event, journal, changed.as_slice());
-        self.nodes.step(self.alloc, node, at_node, &mut self.out)?;
+        self.nodes.step(self.alloc, node, &at_node, &mut self.out)?;
         let round = self.rounds + 1;
         journal_acts(round, node, &mut self.out, &mut self.frames, journal);
         self.rounds = round;
@@ -209,7 +210,8 @@ impl World {
         requires own { Owns self.now journal.now.entries }
         requires event { IsEventIn self.now.domain (length self.now.frames) journal.now.entries
             event.now }
-        requires changed { IsChanged event.now journal.now.entries (suc self.now.rounds) changed.now }
+        requires changed { IsChanged event.now journal.now.entries (suc self.now.rounds)
+            changed.now }
         ensures happens { HappensAt event.now journal.now.entries (suc self.now.rounds) result.0
             (event_of result.1) }
         ensures listed { IsListed self.now.domain result.0 }
@@ -225,6 +227,12 @@ impl World {
             Event::Inject { to, octets } => (*to, NodeEvent::Take(octets.as_slice())),
             Event::Retry { ap, sta } => (Node::Ap(*ap), NodeEvent::Retry(*sta)),
             Event::Rekey { ap } => (Node::Ap(*ap), NodeEvent::Rekey),
+            Event::Send {
+                from,
+                to,
+                tid,
+                octets,
+            } => (*from, NodeEvent::Send(*to, *tid, octets.as_slice())),
             Event::Expire { ap, sta } => (Node::Ap(*ap), NodeEvent::Expire(*sta)),
             Event::Leave { sta } => (Node::Sta(*sta), NodeEvent::Leave),
         }

@@ -1,6 +1,7 @@
 -- What a delivered frame is judged as before any question to the history (this project's choice).
 use Rattle.std.specs.Prelude.{◌≡◌, ℕ, ◌+◌, List, [], Option, Some, ◌⊎◌}
 use Rattle.domain_base.specs.declared.names.Node.{Node}
+use Rattle.air_frame.specs.Views.{header_of}
 use Rattle.eapol_key.specs.Fields.{IsKeyFrame}
 use Rattle.rsn_elements.specs.Fields.{element_fields}
 use Rattle.run_journal.specs.declared.domain.Domain.{Domain}
@@ -13,12 +14,14 @@ use Rattle.run_journal.specs.Questions.{draws}
 use Rattle.domain_rules.specs.Reading.{Reading, PassedOver, Managed, Keyed}
 use Rattle.domain_rules.specs.Verdict.{first_verdict, key_verdict}
 use Rattle.domain_rules.specs.Associating.{management_verdict}
+use Rattle.domain_rules.specs.DataVerdict.{data_verdict}
 use Rattle.domain_rules.specs.Closing.{sender}
 use Rattle.domain_rules.specs.Rows.{response}
 use Rattle.node_base.specs.Peers.{IsPeerOf}
 use Rattle.frame_intake.specs.declared.judging.Judged.{Judged}
 use Rattle.frame_intake.specs.declared.judging.Judged.TheVariants as judged
-use Rattle.frame_intake.specs.Views.{management_fields, message_fields}
+use Rattle.frame_intake.specs.SealedFields.{sealed_reading, IsSealedData}
+use Rattle.frame_intake.specs.Views.{management_fields, message_fields, sealed_fields}
 
 -- a refusal that nothing answers
 abbrev pub IsSilent : Domain → Node → Reason → Type 0
@@ -48,3 +51,10 @@ IsJudged d n r (judged.Keyed from message) =
     × IsKeyFrame message.frame
     × ((first : ℕ) (h : List Act) → first_verdict d first n h r
     ≡ key_verdict d (first + draws h) n h from (message_fields message) message.message)
+IsJudged d n r (judged.Sealed from frame) =
+    (r ≡ sealed_reading (sealed_fields frame))
+    × (sender d n r ≡ Some from)
+    × IsPeerOf d n from
+    × IsSealedData (sealed_fields frame)
+    × ((first : ℕ) (h : List Act) → first_verdict d first n h r
+    ≡ data_verdict n h from (header_of frame.header) frame.tid frame.body.now)

@@ -1,2 +1,3 @@
+pub mod SealedFields
 pub mod Views
 pub mod Judging

@@ -4,10 +4,12 @@ use Rattle.rsn_elements.specs.Elements.{HasRaw}
 use Rattle.rsn_elements.specs.Fields.{element_fields}
 use Rattle.eapol_key.specs.Fields.{fields_of, IsKeyFrame}
 use Rattle.domain_rules.specs.Reading.{Reading, NoFrame, PassedOver, NoElements, Managed}
-use Rattle.domain_rules.specs.Reading.{NoKeyFrame, NoMessage, Keyed, Sealed}
+use Rattle.domain_rules.specs.Reading.{NoKeyFrame, NoMessage, Keyed}
 use Rattle.domain_rules.specs.Reading.{Management as ManagementFields, KeyMessage as MessageFields}
+use Rattle.frame_intake.specs.SealedFields.{SealedFields, sealed_reading, IsSealedData}
 use Rattle.frame_intake.specs.declared.delivered.Management.{Management}
 use Rattle.frame_intake.specs.declared.delivered.KeyMessage.{KeyMessage}
+use Rattle.frame_intake.specs.declared.delivered.SealedData.{SealedData}
 use Rattle.frame_intake.specs.declared.delivered.Delivered.{Delivered}
 use Rattle.frame_intake.specs.declared.delivered.Delivered.TheVariants as delivered
 
@@ -28,6 +30,14 @@ message_fields k = record {
   octets = k.frame.octets.now;
 }
 
+abbrev pub sealed_fields : SealedData → SealedFields
+sealed_fields s = record {
+  header = header_of s.header;
+  direction = s.direction;
+  tid = s.tid;
+  body = s.body.now;
+}
+
 abbrev pub reading_of : Delivered → Reading
 reading_of (delivered.NoFrame fault) = NoFrame fault
 reading_of delivered.PassedOver = PassedOver
@@ -36,10 +46,10 @@ reading_of (delivered.Managed m e) = Managed (management_fields m) (element_fiel
 reading_of (delivered.NoKeyFrame h fault) = NoKeyFrame (header_of h) fault
 reading_of (delivered.NoMessage h) = NoMessage (header_of h)
 reading_of (delivered.Keyed k) = Keyed (message_fields k)
-reading_of (delivered.Sealed h way tid body) = Sealed (header_of h) way tid body.now
+reading_of (delivered.Sealed s) = sealed_reading (sealed_fields s)
 
 -- what its reader vouches for: of elements that the octets kept are theirs, of a message that its
--- octets are its frame
+-- octets are its frame, of protected data what its header and body are
 abbrev pub IsWhole : Delivered → Type 0
 IsWhole (delivered.NoFrame fault) = Unit {0}
 IsWhole delivered.PassedOver = Unit {0}
@@ -48,4 +58,4 @@ IsWhole (delivered.Managed m e) = HasRaw (element_fields e)
 IsWhole (delivered.NoKeyFrame h fault) = Unit {0}
 IsWhole (delivered.NoMessage h) = Unit {0}
 IsWhole (delivered.Keyed k) = IsKeyFrame k.frame
-IsWhole (delivered.Sealed h way tid body) = Unit {0}
+IsWhole (delivered.Sealed s) = IsSealedData (sealed_fields s)

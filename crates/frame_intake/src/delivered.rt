@@ -45,6 +45,19 @@ pub struct Heard<'a> {
     pub message: KeyMessage<'a>,
 }
 
+/// Protected data.
+#[derive(Clone, Copy)]
+pub struct SealedData<'a> {
+    /// Its header, of 24 octets or in QoS data 26.
+    pub header: Header<'a>,
+    /// Which way it goes.
+    pub direction: Direction,
+    /// The number of its TID, in QoS data.
+    pub tid: Option<u8>,
+    /// Its body: the CCMP header, what is encrypted, and the MIC.
+    pub body: &'a [u8],
+}
+
 /// What the octets of a delivered frame are to a node.
 #[derive(Clone, Copy)]
 pub enum Delivered<'a> {
@@ -62,8 +75,8 @@ pub enum Delivered<'a> {
     NoMessage(Header<'a>),
     /// An EAPOL-Key message.
     Keyed(KeyMessage<'a>),
-    /// A protected data frame: its header, its way, the number of its TID in QoS data, its body.
-    Sealed(Header<'a>, Direction, Option<u8>, &'a [u8]),
+    /// A protected data frame.
+    Sealed(SealedData<'a>),
 }
 
 impl<'a> Delivered<'a> {
@@ -79,7 +92,7 @@ impl<'a> Delivered<'a> {
             Delivered::NoKeyFrame(_, _) => Kind::Eapol,
             Delivered::NoMessage(_) => Kind::Eapol,
             Delivered::Keyed(message) => Kind::Key(message.message),
-            Delivered::Sealed(_, _, _, _) => Kind::Data,
+            Delivered::Sealed(_) => Kind::Data,
         }
     }
 }

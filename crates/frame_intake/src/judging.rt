@@ -5,12 +5,14 @@ ghost use Rattle.air_frame.specs.Views.{header_of};
 ghost use Rattle.rsn_elements.specs.Fields.{element_fields};
 ghost use Rattle.eapol_key.specs.Fields.{IsKeyFrame};
 ghost use Rattle.domain_rules.specs.Network.{InForm, IsListed, bssid, direction, goes_like};
-ghost use Rattle.domain_rules.specs.Reading.{Managed, Keyed, Sealed};
-ghost use Rattle.domain_rules.specs.Verdict.{is_mine, is_group, is_mine_or_group, air_reason};
-ghost use Rattle.frame_intake.specs.Views.{management_fields, message_fields, reading_of, IsWhole};
+ghost use Rattle.domain_rules.specs.Reading.{Managed, Keyed};
+ghost use Rattle.domain_rules.specs.DataVerdict.{is_group};
+ghost use Rattle.domain_rules.specs.Verdict.{is_mine, is_mine_or_group, air_reason};
+ghost use Rattle.frame_intake.specs.Views.{management_fields, message_fields, sealed_fields, reading_of, IsWhole};
+ghost use Rattle.frame_intake.specs.SealedFields.{IsSealedData};
 ghost use Rattle.frame_intake.specs.Judging.{IsJudged};
 
-use crate::delivered::{Delivered, KeyMessage, Management};
+use crate::delivered::{Delivered, KeyMessage, Management, SealedData};
 use air_frame::{AirFault, Direction, Header};
 use domain_base::{Mac, Node};
 use node_base::{address, direction, peer_of};
@@ -30,6 +32,8 @@ pub enum Judged<'a> {
     Managed(Node, Management<'a>, Elements<'a>),
     /// An EAPOL-Key message for this node from that node.
     Keyed(Node, KeyMessage<'a>),
+    /// Protected data for this node from that node.
+    Sealed(Node, SealedData<'a>),
 }
 
 // Of a node and its peer, the access point's BSSID.
@@ -52,8 +56,8 @@ fn is_mine(domain: &Domain, node: Node, header: &Header<'_>) -> bool
     header.a1.0 == address(domain, node).0
 }
 
-// A group address has the lowest bit of its first octet set (IEEE Std 802.11-2020, 9.2.4.3).
-fn is_group(address: Mac) -> bool
+/// A group address has the lowest bit of its first octet set (IEEE Std 802.11-2020, 9.2.4.3).
+pub fn is_group(address: Mac) -> bool
     ensures { result ≡ is_group address.0 }
 {
     address.0[0] % 2 == 1
@@ -129,19 +133,19 @@ fn judge_keyed<'a>(domain: &Domain, node: Node, message: KeyMessage<'a>) -> Judg
     }
 }
 
-// A protected frame, whatever its TID and its body.
-fn judge_sealed<'a>(domain: &Domain, node: Node, header: Header<'_>, way: Direction) -> Judged<'a>
+// Protected data, by its addresses and the way that it goes.
+fn judge_sealed<'a>(domain: &Domain, node: Node, frame: SealedData<'a>) -> Judged<'a>
     requires listed { IsListed domain.now node }
     requires form { InForm domain.now }
-    ensures { (tid : Option ℕ) (body : List ℕ)
-        → IsJudged domain.now node (Sealed (header_of header.entry) way tid body) result }
+    requires whole { IsSealedData (sealed_fields frame) }
+    ensures { IsJudged domain.now node (reading_of (Delivered.Sealed frame.entry)) result }
 {
-    let from = peer_of(domain, node, header.a2);
-    if !is_mine_or_group(domain, node, &header) || is_own_way(node, way) {
+    let from = peer_of(domain, node, frame.header.a2);
+    if !is_mine_or_group(domain, node, &frame.header) || is_own_way(node, frame.direction) {
         return Judged::Settled(from, Outcome::Refused(Reason::NotForMe));
     }
     match from {
-        Some(_) => Judged::Settled(from, Outcome::Refused(Reason::NoKey)),
+        Some(peer) => Judged::Sealed(peer, frame),
         None => Judged::Settled(None, Outcome::Refused(Reason::UnknownPeer)),
     }
 }
@@ -172,6 +176,6 @@ pub fn judge<'a>(domain: &Domain, node: Node, delivered: &Delivered<'a>) -> Judg
             Judged::Settled(from, Outcome::Refused(Reason::OutOfProfile(NO_MESSAGE)))
         }
         Delivered::Keyed(message) => judge_keyed(domain, node, message),
-        Delivered::Sealed(header, way, _, _) => judge_sealed(domain, node, header, way),
+        Delivered::Sealed(frame) => judge_sealed(domain, node, frame),
     }
 }

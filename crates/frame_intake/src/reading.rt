@@ -8,7 +8,7 @@ ghost use Rattle.air_frame.specs.Views.{header_of};
 ghost use Rattle.domain_rules.specs.Reading.{management_of, IsEapol, Reads};
 ghost use Rattle.frame_intake.specs.Views.{reading_of, IsWhole};
 
-use crate::delivered::{Delivered, KeyMessage, Management};
+use crate::delivered::{Delivered, KeyMessage, Management, SealedData};
 use air_frame::{AirFrame, Direction, Header};
 use domain_base::{Akm, Tid};
 use eapol_key::classify;
@@ -87,12 +87,12 @@ pub fn read(akm: Akm, octets: &[u8]) -> Delivered<'_>
         AirFrame::ReReq(f) => managed(Kind::ReReq, f.header, 0, f.elements),
         AirFrame::ReResp(f) => managed(Kind::ReResp, f.header, f.status, f.elements),
         AirFrame::Eapol(f) => keyed(akm, f.header, f.direction, f.body),
-        AirFrame::Protected(f) => Delivered::Sealed(
-            f.header,
-            f.direction,
-            number_of(f.tid),
-            f.body,
-        ),
+        AirFrame::Protected(f) => Delivered::Sealed(SealedData {
+            header: f.header,
+            direction: f.direction,
+            tid: number_of(f.tid),
+            body: f.body,
+        }),
         AirFrame::Ignored => Delivered::PassedOver,
     }
 }

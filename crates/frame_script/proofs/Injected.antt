@@ -1,9 +1,9 @@
--- The octets of a frame that is injected.
+-- The octets of a frame that is injected, and of a payload.
 use Rattle.std.proofs.Common.{◌≡◌, ℕ, suc, ◌+◌, ◌*◌, ◌/◌, ◌<◌, ◌≤◌, Bool, true, false, if◌then◌else◌, nat_le, is_some, unwrap_or, IsTrue, List, [], ◌∷◌, length, refl, Option, None, Some, Ok, Err, arith, ap}
 use Rattle.std.proofs.lemmas.Bool.{false≢true, le-leb, lt-leb}
 use Rattle.hex.specs.Hex.{hex_digit_value}
 use Rattle.frame_script.specs.Tokens.{◌>>=◌, hex_value, some_octets}
-use Rattle.frame_script.specs.Script.{frame_octets, long_frame}
+use Rattle.frame_script.specs.Script.{Fault, octets_within}
 use Rattle.frame_script.specs.Sentences.{octets_of}
 
 size_step : (h l : Option ℕ) (o : Option (List ℕ)) (octets : List ℕ) (n : ℕ) → ((os : List ℕ) → o ≡ Some os → n ≡ 2 * length os) → (h >>= (λ x. l >>= (λ y. o >>= (λ os. Some ((x * 16 + y) ∷ os))))) ≡ Some octets
@@ -40,21 +40,26 @@ unfolding some_octets
 whole text e = let parts = chosen text (nat_le 1 (length text)) (hex_value text) refl e in record { some = parts.0; digits = parts.1.0; size = parts.1.1 }
 
 -- what is tested in turn
-pub fits-frame : (text : List ℕ) → is_some (some_octets text) ≡ true → length text / 2 ≤ 2400 → frame_octets text ≡ Ok (octets_of text)
-unfolding frame_octets
-fits-frame text e small =
+pub few-octets : (text : List ℕ) (most : ℕ) → is_some (some_octets text) ≡ true → length text / 2 ≤ most → length (octets_of text) ≤ most
+few-octets text most e small =
     let w = whole text e in
-    let few : length (octets_of text) ≤ 2400 = omega (arith, w.size) in
-    rw (w.some, le-leb (length (octets_of text)) 2400 few) refl
+    omega (arith, w.size, small)
 
-pub past-frame : (text : List ℕ) → is_some (some_octets text) ≡ true → 2400 < length text / 2 → frame_octets text ≡ Err long_frame
-unfolding frame_octets
-past-frame text e large =
+pub fits-within : (text : List ℕ) (most : ℕ) (fault : Fault) → is_some (some_octets text) ≡ true → length text / 2 ≤ most → octets_within most fault text ≡ Ok (octets_of text)
+unfolding octets_within
+fits-within text most fault e small =
     let w = whole text e in
-    let many : 2400 < length (octets_of text) = omega (arith, w.size) in
-    rw (w.some, lt-leb (length (octets_of text)) 2400 many) refl
+    let few : length (octets_of text) ≤ most = omega (arith, w.size, small) in
+    rw (w.some, le-leb (length (octets_of text)) most few) refl
 
-pub digits-frame : (text : List ℕ) → is_some (some_octets text) ≡ true → IsTrue (is_some (hex_value text))
-digits-frame text e = (whole text e).digits
+pub past-within : (text : List ℕ) (most : ℕ) (fault : Fault) → is_some (some_octets text) ≡ true → most < length text / 2 → octets_within most fault text ≡ Err fault
+unfolding octets_within
+past-within text most fault e large =
+    let w = whole text e in
+    let many : most < length (octets_of text) = omega (arith, w.size, large) in
+    rw (w.some, lt-leb (length (octets_of text)) most many) refl
 
-pub ruleset framing = (fits-frame, past-frame, digits-frame)
+pub digits-within : (text : List ℕ) → is_some (some_octets text) ≡ true → IsTrue (is_some (hex_value text))
+digits-within text e = (whole text e).digits
+
+pub ruleset framing = (few-octets, fits-within, past-within, digits-within)

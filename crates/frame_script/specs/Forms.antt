@@ -2,7 +2,7 @@
 use Rattle.std.specs.Prelude.{ℕ, ◌==◌, ◌&&◌, if◌then◌else◌, List, length, bytes_eq, codes}
 use Rattle.run_journal.specs.declared.domain.Domain.{Domain}
 use Rattle.frame_script.specs.declared.forms.Form.{Form}
-use Rattle.frame_script.specs.declared.forms.Form.TheVariants.{Version, Seed, Ssid, Key, Passphrase, Psk, Akm, Ap, Sta, Connect, Deliver, Alter, Cut, Inject, Retry, Rekey, Expire, Leave, Any, StaOrEvent, Event}
+use Rattle.frame_script.specs.declared.forms.Form.TheVariants.{Version, Seed, Ssid, Key, Passphrase, Psk, Akm, Ap, Sta, Connect, Deliver, Alter, Cut, Inject, Retry, Rekey, Send, Expire, Leave, Any, StaOrEvent, Event}
 use Rattle.frame_script.specs.Tokens.{first_word}
 use Rattle.frame_script.specs.Script.{Draft, AtVersion, AtSeed, AtSsid, AtPsk, AtAkm, AtNodes}
 
@@ -24,11 +24,12 @@ form_text Cut = codes "cut <n> <length> to <node>"
 form_text Inject = codes "inject <node> <digits>"
 form_text Retry = codes "retry <ap> <sta>"
 form_text Rekey = codes "rekey <ap>"
+form_text Send = codes "send <node> <node or all> <tid 0 to 15 or -> <digits>"
 form_text Expire = codes "expire <ap> <sta>"
 form_text Leave = codes "leave <sta>"
-form_text Any = codes "that of ap, sta, connect, deliver, alter, cut, inject, retry, rekey, expire or leave"
-form_text StaOrEvent = codes "that of sta, connect, deliver, alter, cut, inject, retry, rekey, expire or leave"
-form_text Event = codes "that of connect, deliver, alter, cut, inject, retry, rekey, expire or leave"
+form_text Any = codes "that of ap, sta, connect, deliver, alter, cut, inject, retry, rekey, send, expire or leave"
+form_text StaOrEvent = codes "that of sta, connect, deliver, alter, cut, inject, retry, rekey, send, expire or leave"
+form_text Event = codes "that of connect, deliver, alter, cut, inject, retry, rekey, send, expire or leave"
 
 -- the line that tells the pre-shared key, by its first word
 abbrev pub key_form : List ℕ → Form
@@ -50,6 +51,7 @@ frame_form word other =
 abbrev pub session_form : List ℕ → Form → Form
 session_form word other =
     if bytes_eq word (codes "rekey") then Rekey
+    else if bytes_eq word (codes "send") then Send
     else if bytes_eq word (codes "expire") then Expire
     else if bytes_eq word (codes "leave") then Leave
     else other

@@ -5,10 +5,12 @@ use Rattle.domain_base.specs.declared.names.Akm.TheVariants.{FtPsk}
 use Rattle.domain_base.specs.declared.names.Mac.{Mac}
 use Rattle.domain_base.specs.declared.names.Node.{Node}
 use Rattle.domain_base.specs.declared.names.Node.TheVariants.{Ap, Sta}
+use Rattle.domain_base.specs.declared.names.Peer.{Peer}
+use Rattle.domain_base.specs.declared.names.Peer.TheVariants.{One, All}
 use Rattle.run_journal.specs.declared.domain.Domain.{Domain}
 use Rattle.run_journal.specs.declared.domain.ListedAp.{ListedAp}
 use Rattle.run_journal.specs.declared.domain.Event.{Event}
-use Rattle.run_journal.specs.declared.domain.Event.TheVariants.{Connect, Deliver, Alter, Cut, Inject, Retry, Rekey, Expire, Leave}
+use Rattle.run_journal.specs.declared.domain.Event.TheVariants.{Connect, Deliver, Alter, Cut, Inject, Retry, Rekey, Send, Expire, Leave}
 use Rattle.run_journal.specs.declared.acts.Act.{Act}
 use Rattle.run_journal.specs.declared.acts.Act.TheVariants.{Sent}
 use Rattle.run_journal.specs.declared.acts.Entry.{Entry}
@@ -91,6 +93,13 @@ abbrev pub IsListedIn : Domain → Node → Type 0
 IsListedIn d (Ap k) = k < length d.aps
 IsListedIn d (Sta k) = k < length d.stas
 
+-- the node sends to that one: it is listed and of the other kind, and to all only access points send
+abbrev pub IsReceiverIn : Domain → Node → Peer → Type 0
+IsReceiverIn d (Ap k) All = Unit {0}
+IsReceiverIn d (Ap k) (One (Sta i)) = i < length d.stas
+IsReceiverIn d (Sta k) (One (Ap i)) = i < length d.aps
+IsReceiverIn d n q = ⊥
+
 -- the frame of that number was sent with that many octets at least
 pub record IsSized (sizes : List ℕ) (number size : ℕ) : Type 0 where
   pub some : 1 ≤ number
@@ -107,6 +116,7 @@ CanHappen d sizes (Cut number size to) = IsListedIn d to × IsSized sizes number
 CanHappen d sizes (Inject to octets) = IsListedIn d to
 CanHappen d sizes (Retry a s) = (a < length d.aps) × (s < length d.stas)
 CanHappen d sizes (Rekey a) = a < length d.aps
+CanHappen d sizes (Send from to tid octets) = IsListedIn d from × IsReceiverIn d from to × (length octets ≤ 2304)
 CanHappen d sizes (Expire a s) = (a < length d.aps) × (s < length d.stas)
 CanHappen d sizes (Leave s) = s < length d.stas
 

@@ -3,10 +3,10 @@ use Rattle.std.specs.Prelude.{ℕ, ◌==◌, if◌then◌else◌, List, codes, O
 use Rattle.frame_script.specs.declared.reader.LineFault.{LineFault}
 use Rattle.frame_script.specs.declared.reader.LineFault.TheVariants as answered
 use Rattle.frame_script.specs.declared.refusal.Refusal.{Refusal}
-use Rattle.frame_script.specs.declared.refusal.Refusal.TheVariants.{Version, Word, Arguments, Node, Frame, Place, Duplicate, Mode, ManyLines, LongLine, LongFrame, ManyFrames, ManyAps, ManyStas}
+use Rattle.frame_script.specs.declared.refusal.Refusal.TheVariants.{Version, Word, Arguments, Node, Frame, Place, Duplicate, Mode, ManyLines, LongLine, LongFrame, ManyFrames, ManyAps, ManyStas, LongPayload}
 use Rattle.frame_script.specs.declared.refusal.Untaken.{Untaken}
 use Rattle.frame_script.specs.declared.refusal.Untaken.TheVariants as untaken
-use Rattle.frame_script.specs.Script.{Fault, Outside, Past, version_, word_, arguments, node_, frame_, place_, duplicate, mode, many_lines, long_line, long_frame, many_frames, many_aps, many_stas}
+use Rattle.frame_script.specs.Script.{Fault, Outside, Past, version_, word_, arguments, node_, frame_, place_, duplicate, mode, many_lines, long_line, long_frame, many_frames, many_aps, many_stas, long_payload}
 
 abbrev pub fault_of : Refusal → Fault
 fault_of Version = version_
@@ -23,6 +23,7 @@ fault_of LongFrame = long_frame
 fault_of ManyFrames = many_frames
 fault_of ManyAps = many_aps
 fault_of ManyStas = many_stas
+fault_of LongPayload = long_payload
 
 abbrev pub answer_of : Fault → LineFault
 answer_of (Outside reason) = answered.Script reason
@@ -48,6 +49,7 @@ refusal_text LongFrame = codes "an injected frame of more than 2400 octets"
 refusal_text ManyFrames = codes "more than 65535 frames sent"
 refusal_text ManyAps = codes "more than 16 access points"
 refusal_text ManyStas = codes "more than 64 stations"
+refusal_text LongPayload = codes "a payload of more than 2304 octets"
 
 -- by the number of a reason, and of a limit
 abbrev pub reason_of : ℕ → Option Refusal
@@ -70,4 +72,5 @@ limit_of limit =
     else if limit == 4 then Some ManyFrames
     else if limit == 5 then Some ManyAps
     else if limit == 6 then Some ManyStas
+    else if limit == 7 then Some LongPayload
     else None

@@ -6,13 +6,15 @@ use Rattle.domain_base.specs.declared.names.Akm.TheVariants.{Psk, PskSha256}
 use Rattle.domain_base.specs.declared.names.Mac.{Mac}
 use Rattle.domain_base.specs.declared.names.Node.{Node}
 use Rattle.domain_base.specs.declared.names.Node.TheVariants.{Ap, Sta}
+use Rattle.domain_base.specs.declared.names.Peer.{Peer}
+use Rattle.domain_base.specs.declared.names.Peer.TheVariants.{One, All}
 use Rattle.mac_prf.specs.Pbkdf2.{pbkdf2}
 use Rattle.run_journal.specs.declared.domain.Domain.{Domain}
 use Rattle.run_journal.specs.Listing.{with_ap, with_sta}
 use Rattle.run_journal.specs.declared.domain.ListedAp.{ListedAp}
 use Rattle.run_journal.specs.declared.domain.Event.{Event}
-use Rattle.run_journal.specs.declared.domain.Event.TheVariants.{Connect, Deliver, Alter, Cut, Inject, Retry, Rekey, Expire, Leave}
-use Rattle.frame_script.specs.Tokens.{NodeWord, behind, split_word, first_word, hex_octets, some_octets, number_of_digits, node_word, is_text}
+use Rattle.run_journal.specs.declared.domain.Event.TheVariants.{Connect, Deliver, Alter, Cut, Inject, Retry, Rekey, Send, Expire, Leave}
+use Rattle.frame_script.specs.Tokens.{NodeWord, PeerWord, ToAll, ToOne, behind, split_word, first_word, hex_octets, some_octets, number_of_digits, node_word, peer_word, tid_word, is_text}
 
 -- ---- why a line is refused
 
@@ -49,7 +51,7 @@ abbrev pub mode : Fault
 mode = Outside 9
 
 -- the limits: lines of a script; octets of a line; octets of an injected frame; frames sent before the line of an event; access
--- points; stations
+-- points; stations; octets of a payload
 abbrev pub many_lines : Fault
 many_lines = Past 1
 
@@ -67,6 +69,9 @@ many_aps = Past 5
 
 abbrev pub many_stas : Fault
 many_stas = Past 6
+
+abbrev pub long_payload : Fault
+long_payload = Past 7
 
 -- the second form with what the first one gave, or the fault of the first
 infixl 10 ◌>>=◌
@@ -267,11 +272,19 @@ cut_line d sizes text = do
   size ← need frame_ (size_of sizes number)
   if nat_le count size then Ok (Cut number count to) else Err place_
 
--- octets that are not too many for a frame
-unfoldable pub frame_octets : List ℕ → Result (List ℕ) Fault
-frame_octets text = do
+-- octets, at most so many, or that fault
+unfoldable pub octets_within : ℕ → Fault → List ℕ → Result (List ℕ) Fault
+octets_within most fault text = do
   octets ← need arguments (some_octets text)
-  if nat_le (length octets) 2400 then Ok octets else Err long_frame
+  if nat_le (length octets) most then Ok octets else Err fault
+
+-- octets that are not too many for a frame
+abbrev pub frame_octets : List ℕ → Result (List ℕ) Fault
+frame_octets text = octets_within 2400 long_frame text
+
+-- and not too many for a payload (IEEE Std 802.11-2020, 9.2.4.8.1)
+abbrev pub payload_octets : List ℕ → Result (List ℕ) Fault
+payload_octets text = octets_within 2304 long_payload text
 
 -- `inject`, a node and octets, at most 2400
 unfoldable pub inject_line : Domain → List ℕ → Result Event Fault
@@ -288,6 +301,35 @@ rekey_line d text = do
   a ← need arguments (node_word text)
   ap ← need node_ (listed_ap d a)
   Ok (Rekey ap)
+
+-- to whom a node sends: a station to a listed access point, an access point to a listed station or to all
+abbrev pub receiver_by : Domain → Node → PeerWord → Option Peer
+receiver_by d (Ap k) ToAll = Some All
+receiver_by d (Ap k) (ToOne w) = option_map (λ s. One (Sta s)) (listed_sta d w)
+receiver_by d (Sta k) ToAll = None
+receiver_by d (Sta k) (ToOne w) = option_map (λ a. One (Ap a)) (listed_ap d w)
+
+-- `send`, a node, and to whom: a node or `all`; then a traffic identifier or `-`, and a payload of at most 2304 octets
+unfoldable pub send_payload : Domain → NodeWord → PeerWord → Option ℕ → List ℕ → Result Event Fault
+send_payload d f t tid text = do
+  octets ← payload_octets text
+  from ← need node_ (listed d f)
+  to ← need node_ (receiver_by d from t)
+  Ok (Send from to tid octets)
+
+unfoldable pub send_between : Domain → NodeWord → PeerWord → List ℕ → Result Event Fault
+send_between d f t text = do
+  words ← need arguments (split_word text)
+  tid ← need arguments (tid_word words.0)
+  send_payload d f t tid words.1
+
+unfoldable pub send_line : Domain → List ℕ → Result Event Fault
+send_line d text = do
+  words ← need arguments (split_word text)
+  f ← need arguments (node_word words.0)
+  more ← need arguments (split_word words.1)
+  t ← need arguments (peer_word more.0)
+  send_between d f t more.1
 
 -- `expire`, an access point and a station
 unfoldable pub expire_line : Domain → List ℕ → Result Event Fault
@@ -323,6 +365,7 @@ event_of d sizes word text =
     else if bytes_eq word (codes "cut") then cut_line d sizes text
     else if bytes_eq word (codes "inject") then inject_line d text
     else if bytes_eq word (codes "retry") then retry_line d text
+    else if bytes_eq word (codes "send") then send_line d text
     else session_event_of d word text
 
 -- an event, where no more frames were sent than a run can number

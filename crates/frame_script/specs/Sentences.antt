@@ -2,7 +2,7 @@
 use Rattle.std.specs.Prelude.{◌≡◌, ℕ, suc, ◌≤◌, ◌&&◌, Bool, true, false, nat_le, IsTrue, List, [], length, unwrap_or, is_some, Result, Ok, Err, MatchResult}
 use Rattle.run_journal.specs.declared.domain.Domain.{Domain}
 use Rattle.run_journal.specs.declared.domain.Event.{Event}
-use Rattle.run_journal.specs.declared.domain.Event.TheVariants.{Inject}
+use Rattle.run_journal.specs.declared.domain.Event.TheVariants.{Inject, Send}
 use Rattle.frame_script.specs.declared.reader.Step.{Step}
 use Rattle.frame_script.specs.declared.reader.Step.TheVariants as step
 use Rattle.frame_script.specs.declared.refusal.Refusal.{Refusal}
@@ -12,13 +12,15 @@ use Rattle.frame_script.specs.declared.header.Due.{Due}
 use Rattle.frame_script.specs.declared.header.Due.TheVariants.{Nodes}
 use Rattle.frame_script.specs.declared.tokens.NodeName.{NodeName}
 use Rattle.frame_script.specs.declared.tokens.NodeName.TheVariants.{Ap, Sta}
+use Rattle.frame_script.specs.declared.tokens.PeerName.{PeerName}
+use Rattle.frame_script.specs.declared.tokens.PeerName.TheVariants as peers
 use Rattle.frame_script.specs.declared.events.Asked.{Asked}
 use Rattle.frame_script.specs.declared.events.Asked.TheVariants as asked
 use Rattle.frame_script.specs.declared.body.Sentence.{Sentence}
 use Rattle.frame_script.specs.declared.body.Sentence.TheVariants as says
 use Rattle.frame_script.specs.Due.{is_fit}
 use Rattle.frame_script.specs.Refusals.{fault_of}
-use Rattle.frame_script.specs.Tokens.{NodeWord, named, hex_value}
+use Rattle.frame_script.specs.Tokens.{NodeWord, PeerWord, ToAll, ToOne, named, hex_value}
 use Rattle.frame_script.specs.Script.{Fault, ◌>>=◌, Draft, AtVersion, AtNodes, Said, Goes, ListsAp, ListsSta, Asks, header_line, body_line, said_after}
 use Rattle.frame_script.specs.Headers.{Reading, CanListAp, CanListSta, CanHappen, IsHeaderStep, IsListedIn, IsNetwork, TakesStep}
 
@@ -35,6 +37,10 @@ abbrev pub name_of : NodeName → NodeWord
 name_of (Ap number) = named true number
 name_of (Sta number) = named false number
 
+abbrev pub peer_of : PeerName → PeerWord
+peer_of peers.All = ToAll
+peer_of (peers.One name) = ToOne (name_of name)
+
 -- the octets that the digits write, if they write any
 abbrev pub octets_of : List ℕ → List ℕ
 octets_of digits = unwrap_or (hex_value digits) []
@@ -42,6 +48,7 @@ octets_of digits = unwrap_or (hex_value digits) []
 abbrev pub event_of : Asked → Event
 event_of (asked.Event event) = event
 event_of (asked.Inject to digits) = Inject to (octets_of digits.now)
+event_of (asked.Send from to tid digits) = Send from to tid (octets_of digits.now)
 
 abbrev pub said_of : Sentence → Said
 said_of (says.Ap address r0kh_id) = ListsAp address r0kh_id.now
@@ -52,6 +59,8 @@ said_of (says.Asks a) = Asks (event_of a)
 abbrev pub CanAsk : Domain → List ℕ → Asked → Type 0
 CanAsk d sizes (asked.Event event) = CanHappen d sizes event
 CanAsk d sizes (asked.Inject to digits) = IsListedIn d to × IsTrue (is_some (hex_value digits.now))
+CanAsk d sizes (asked.Send from to tid digits) =
+    IsTrue (is_some (hex_value digits.now)) × CanHappen d sizes (Send from to tid (octets_of digits.now))
 
 -- and can be said of it, behind so many rounds and frames of these sizes
 abbrev pub CanSay : Domain → ℕ → List ℕ → Sentence → Type 0

@@ -1,5 +1,5 @@
 -- The words of a script's line (this project's choice).
-use Rattle.std.specs.Prelude.{ℕ, ◌+◌, ◌*◌, ◌==◌, ◌&&◌, Bool, true, false, nat_le, if◌then◌else◌, List, [], ◌∷◌, length, take, drop, position, bytes_eq, codes, Option, None, Some, option_and_then}
+use Rattle.std.specs.Prelude.{ℕ, ◌+◌, ◌*◌, ◌==◌, ◌&&◌, Bool, true, false, nat_le, if◌then◌else◌, List, [], ◌∷◌, length, take, drop, position, bytes_eq, codes, Option, None, Some, option_and_then, option_map, nat_lt}
 use Rattle.std.specs.Option.{option_or}
 use Rattle.std.specs.List.{list_all}
 use Rattle.std.specs.Char.{is_ascii_digit}
@@ -71,6 +71,23 @@ numbered is_ap letter word = do
 
 unfoldable pub node_word : List ℕ → Option NodeWord
 node_word word = option_or (numbered true (codes "a") word) (numbered false (codes "s") word)
+
+-- to whom is sent, by its word: `all`, or a node
+pub data PeerWord : Type 0 where
+  ToAll : PeerWord
+  ToOne : NodeWord → PeerWord
+
+unfoldable pub peer_word : List ℕ → Option PeerWord
+peer_word word = if bytes_eq word (codes "all") then Some ToAll else option_map ToOne (node_word word)
+
+-- a traffic identifier from 0 to 15, or `-` where there is none
+unfoldable pub tid_number : List ℕ → Option ℕ
+tid_number word = do
+  number ← number_of_digits word
+  if nat_lt number 16 then Some number else None
+
+unfoldable pub tid_word : List ℕ → Option (Option ℕ)
+tid_word word = if bytes_eq word (codes "-") then Some None else option_map Some (tid_number word)
 
 -- octets, at least one, in pairs of hexadecimal digits
 unfoldable pub some_octets : List ℕ → Option (List ℕ)

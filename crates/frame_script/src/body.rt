@@ -146,6 +146,15 @@ fn make_event(alloc: Global, asked: Asked) -> Result<Event, Untaken>
             let octets = decode(alloc, digits)?;
             Ok(Event::Inject { to, octets })
         }
+        Asked::Send(from, to, tid, digits) => {
+            let octets = decode(alloc, digits)?;
+            Ok(Event::Send {
+                from,
+                to,
+                tid,
+                octets,
+            })
+        }
     }
 }
 

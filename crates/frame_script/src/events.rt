@@ -3,15 +3,17 @@
 ghost use Rattle.std.specs.Prelude.{◌≡◌, false, bytes_eq, ◌<◌, ◌≤◌, ℕ, List, codes, length, is_some, nat_le, nat_lt, if◌then◌else◌, Some, Ok, Err, IfOk, IfSome, IsTrue, option_map};
 ghost use Rattle.run_journal.specs.declared.domain.Event.TheVariants as asks;
 ghost use Rattle.frame_script.specs.Tokens.{hex_value, number_of_digits, split_word};
-ghost use Rattle.frame_script.specs.Headers.{CanHappen, IsListedIn, IsSized};
-ghost use Rattle.frame_script.specs.Script.{Asks, alter_line, connect_line, cut_line, deliver_line, event_line, event_of, frame_octets, inject_line, listed, listed_ap, listed_sta, need, node_, frame_, place_, ◌>>=◌ as ◌>>=ᴿ◌, place_in, expire_line, leave_line, rekey_line, retry_line, session_event_of, size_of, to_word};
-ghost use Rattle.frame_script.specs.Sentences.{CanAsk, Tells, TellsBy, event_of as event_asked, is_few, name_of, octets_of};
+ghost use Rattle.frame_script.specs.Headers.{CanHappen, IsListedIn, IsReceiverIn, IsSized};
+ghost use Rattle.frame_script.specs.Refusals.{fault_of};
+ghost use Rattle.frame_script.specs.Script.{Asks, alter_line, connect_line, cut_line, deliver_line, event_line, event_of, frame_octets, inject_line, listed, listed_ap, listed_sta, need, node_, frame_, place_, ◌>>=◌ as ◌>>=ᴿ◌, place_in, expire_line, leave_line, octets_within, receiver_by, rekey_line, retry_line, send_between, send_line, send_payload, session_event_of, size_of, to_word};
+ghost use Rattle.frame_script.specs.Sentences.{CanAsk, Tells, TellsBy, event_of as event_asked, is_few, name_of, octets_of, peer_of};
 
 use crate::refusal::Refusal;
 use crate::tokens::{
-    NodeName, behind, hex_octets, is_octets, node_name, number_of_digits, split_word,
+    NodeName, PeerName, behind, hex_octets, is_octets, node_name, number_of_digits, peer_name,
+    split_word, tid_of,
 };
-use domain_base::Node;
+use domain_base::{Node, Peer, Tid};
 use run_journal::{Domain, Event};
 
 /// What is asked for, before memory is taken for it.
@@ -21,10 +23,15 @@ pub(crate) enum Asked<'a> {
     Event(Event),
     /// That octets come to a node, in digits.
     Inject(Node, &'a [u8]),
+    /// That a node sends a payload, with the TID, if there is one, in digits.
+    Send(Node, Peer, Option<Tid>, &'a [u8]),
 }
 
 // The most octets of a frame.
 const MOST_OCTETS: usize = 2400;
+
+// The most octets of a payload.
+const MOST_PAYLOAD: usize = 2304;
 
 // The most frames that are sent before an event.
 const MOST_FRAMES: usize = 65535;
@@ -322,16 +329,18 @@ fn cut_line(domain: &Domain, sizes: &[usize], text: &[u8]) -> Result<Event, Refu
     cut_frame(domain, sizes, number, rest)
 }
 
-// Octets that are not too many for a frame.
-#[tactic(auto, using(crate::proofs::Injected::framing), unfolding(crate::specs::Script::frame_octets))]
-fn frame_octets(text: &[u8]) -> Result<(), Refusal>
+// Octets, at most so many, or they are refused as too many.
+#[tactic(auto, using(crate::proofs::Injected::framing), unfolding(crate::specs::Script::octets_within))]
+fn octets_within(most: usize, many: Refusal, text: &[u8]) -> Result<(), Refusal>
     ensures digits { IfOk result (λ _. IsTrue (is_some (hex_value text.now))) }
-    ensures says { TellsBy (λ _. octets_of text.now) result (frame_octets text.now) }
+    ensures few { IfOk result (λ _. length (octets_of text.now) ≤ most) }
+    ensures says { TellsBy (λ _. octets_of text.now) result
+        (octets_within most (fault_of many) text.now) }
 {
     if !is_octets(text) {
         Err(Refusal::Arguments)
-    } else if MOST_OCTETS < text.len() / 2 {
-        Err(Refusal::LongFrame)
+    } else if most < text.len() / 2 {
+        Err(many)
     } else {
         Ok(())
     }
@@ -345,7 +354,7 @@ fn inject<'a>(domain: &Domain, name: NodeName, digits: &'a [u8]) -> Result<Asked
         (frame_octets digits.now >>=ᴿ (λ octets.
         need node_ (listed domain.now (name_of name)) >>=ᴿ (λ to. Ok (asks.Inject to octets)))) }
 {
-    frame_octets(digits)?;
+    octets_within(MOST_OCTETS, Refusal::LongFrame, digits)?;
     let to = listed(domain, name).ok_or(Refusal::Node)?;
     Ok(Asked::Inject(to, digits))
 }
@@ -360,6 +369,73 @@ fn inject_line<'a>(domain: &Domain, text: &'a [u8]) -> Result<Asked<'a>, Refusal
     let (word, digits) = split_word(text).ok_or(Refusal::Arguments)?;
     let name = node_name(word).ok_or(Refusal::Arguments)?;
     inject(domain, name, digits)
+}
+
+// To whom the node sends, by the name.
+#[tactic(auto, unfolding(crate::specs::Script::receiver_by))]
+fn receiver_of(domain: &Domain, from: Node, name: PeerName) -> Option<Peer>
+    requires { IsTrue (is_few domain.now) }
+    ensures inside { IfSome result (IsReceiverIn domain.now from) }
+    ensures value { result ≡ receiver_by domain.now from (peer_of name) }
+{
+    match (from, name) {
+        (Node::Ap(_), PeerName::All) => Some(Peer::All),
+        (Node::Ap(_), PeerName::One(sta)) => Some(Peer::One(Node::Sta(listed_sta(domain, sta)?))),
+        (Node::Sta(_), PeerName::All) => None,
+        (Node::Sta(_), PeerName::One(ap)) => Some(Peer::One(Node::Ap(listed_ap(domain, ap)?))),
+    }
+}
+
+// A node sends a payload, by the names and the digits.
+#[tactic(auto, unfolding(crate::specs::Script::send_payload))]
+fn send_payload<'a>(
+    domain: &Domain,
+    from: NodeName,
+    to: PeerName,
+    tid: Option<Tid>,
+    digits: &'a [u8],
+) -> Result<Asked<'a>, Refusal>
+    requires { IsTrue (is_few domain.now) }
+    ensures can { (sizes : List ℕ) → IfOk result (CanAsk domain.now sizes) }
+    ensures says { TellsBy event_asked result
+        (send_payload domain.now (name_of from) (peer_of to) tid digits.now) }
+{
+    octets_within(MOST_PAYLOAD, Refusal::LongPayload, digits)?;
+    let from = listed(domain, from).ok_or(Refusal::Node)?;
+    let to = receiver_of(domain, from, to).ok_or(Refusal::Node)?;
+    Ok(Asked::Send(from, to, tid, digits))
+}
+
+// A node sends a payload, by the names and what stands behind them in the line.
+#[tactic(auto, unfolding(crate::specs::Script::send_between))]
+fn send_between<'a>(
+    domain: &Domain,
+    from: NodeName,
+    to: PeerName,
+    text: &'a [u8],
+) -> Result<Asked<'a>, Refusal>
+    requires { IsTrue (is_few domain.now) }
+    ensures can { (sizes : List ℕ) → IfOk result (CanAsk domain.now sizes) }
+    ensures says { TellsBy event_asked result
+        (send_between domain.now (name_of from) (peer_of to) text.now) }
+{
+    let (word, digits) = split_word(text).ok_or(Refusal::Arguments)?;
+    let tid = tid_of(word).ok_or(Refusal::Arguments)?;
+    send_payload(domain, from, to, tid, digits)
+}
+
+// A node sends a payload.
+#[tactic(auto, unfolding(crate::specs::Script::send_line))]
+fn send_line<'a>(domain: &Domain, text: &'a [u8]) -> Result<Asked<'a>, Refusal>
+    requires { IsTrue (is_few domain.now) }
+    ensures can { (sizes : List ℕ) → IfOk result (CanAsk domain.now sizes) }
+    ensures says { TellsBy event_asked result (send_line domain.now text.now) }
+{
+    let (first, rest) = split_word(text).ok_or(Refusal::Arguments)?;
+    let from = node_name(first).ok_or(Refusal::Arguments)?;
+    let (second, rest) = split_word(rest).ok_or(Refusal::Arguments)?;
+    let to = peer_name(second).ok_or(Refusal::Arguments)?;
+    send_between(domain, from, to, rest)
 }
 
 // An access point draws a new group key.
@@ -443,6 +519,7 @@ fn other_event_of(
     requires no_deliver { bytes_eq word.now (codes "deliver") ≡ false }
     requires no_alter { bytes_eq word.now (codes "alter") ≡ false }
     requires no_inject { bytes_eq word.now (codes "inject") ≡ false }
+    requires no_send { bytes_eq word.now (codes "send") ≡ false }
     ensures can { IfOk result (CanHappen domain.now sizes.now) }
     ensures says { Tells result (event_of domain.now sizes.now word.now text.now) }
 {
@@ -464,7 +541,8 @@ fn small_event_of(
     text: &[u8],
 ) -> Result<Event, Refusal>
     requires few { IsTrue (is_few domain.now) }
-    requires other { bytes_eq word.now (codes "inject") ≡ false }
+    requires no_inject { bytes_eq word.now (codes "inject") ≡ false }
+    requires no_send { bytes_eq word.now (codes "send") ≡ false }
     ensures can { IfOk result (CanHappen domain.now sizes.now) }
     ensures says { Tells result (event_of domain.now sizes.now word.now text.now) }
 {
@@ -493,6 +571,8 @@ fn event_of<'a>(
 {
     if word == b"inject".as_slice() {
         inject_line(domain, text)
+    } else if word == b"send".as_slice() {
+        send_line(domain, text)
     } else {
         let event = small_event_of(domain, sizes, word, text)?;
         Ok(Asked::Event(event))

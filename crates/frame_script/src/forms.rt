@@ -43,6 +43,8 @@ pub enum Form {
     Retry,
     /// A new group key.
     Rekey,
+    /// A payload that is sent.
+    Send,
     /// What an access point drops.
     Expire,
     /// A station that drops what it has.
@@ -77,16 +79,17 @@ impl Form {
             Form::Inject => "inject <node> <digits>",
             Form::Retry => "retry <ap> <sta>",
             Form::Rekey => "rekey <ap>",
+            Form::Send => "send <node> <node or all> <tid 0 to 15 or -> <digits>",
             Form::Expire => "expire <ap> <sta>",
             Form::Leave => "leave <sta>",
             Form::Any => {
-                "that of ap, sta, connect, deliver, alter, cut, inject, retry, rekey, expire or leave"
+                "that of ap, sta, connect, deliver, alter, cut, inject, retry, rekey, send, expire or leave"
             }
             Form::StaOrEvent => {
-                "that of sta, connect, deliver, alter, cut, inject, retry, rekey, expire or leave"
+                "that of sta, connect, deliver, alter, cut, inject, retry, rekey, send, expire or leave"
             }
             Form::Event => {
-                "that of connect, deliver, alter, cut, inject, retry, rekey, expire or leave"
+                "that of connect, deliver, alter, cut, inject, retry, rekey, send, expire or leave"
             }
         }
     }
@@ -129,6 +132,8 @@ fn session_form(word: &[u8], other: Form) -> Form
 {
     if word == b"rekey".as_slice() {
         Form::Rekey
+    } else if word == b"send".as_slice() {
+        Form::Send
     } else if word == b"expire".as_slice() {
         Form::Expire
     } else if word == b"leave".as_slice() {

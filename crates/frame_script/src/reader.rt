@@ -23,7 +23,7 @@ pub enum LineFault {
     /// an address or R0KH-ID used before; 9 a draw of the seed.
     Script(u8),
     /// It goes past that limit: 3 octets of an injected frame; 4 frames sent; 5 access points; 6
-    /// stations.
+    /// stations; 7 octets of a payload.
     Limit(u8),
     /// Memory ran out.
     NoMemory,

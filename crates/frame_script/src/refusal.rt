@@ -37,6 +37,8 @@ pub enum Refusal {
     ManyAps,
     /// Too many stations.
     ManyStas,
+    /// Too many octets for a payload.
+    LongPayload,
 }
 
 impl Refusal {
@@ -59,6 +61,7 @@ impl Refusal {
             Refusal::ManyFrames => "more than 65535 frames sent",
             Refusal::ManyAps => "more than 16 access points",
             Refusal::ManyStas => "more than 64 stations",
+            Refusal::LongPayload => "a payload of more than 2304 octets",
         }
     }
 
@@ -90,6 +93,7 @@ impl Refusal {
             4 => Some(Refusal::ManyFrames),
             5 => Some(Refusal::ManyAps),
             6 => Some(Refusal::ManyStas),
+            7 => Some(Refusal::LongPayload),
             _ => None,
         }
     }
@@ -126,6 +130,7 @@ impl From<Refusal> for LineFault {
             Refusal::ManyFrames => LineFault::Limit(4),
             Refusal::ManyAps => LineFault::Limit(5),
             Refusal::ManyStas => LineFault::Limit(6),
+            Refusal::LongPayload => LineFault::Limit(7),
         }
     }
 }

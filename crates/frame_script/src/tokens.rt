@@ -3,9 +3,10 @@
 ghost use Rattle.std.specs.Prelude.{◌≡◌, ◌==◌, ◌&&◌, None, Some, Bool, MatchOption, nat_le, position, is_some, option_map};
 ghost use Rattle.std.specs.Char.{is_ascii_hexdigit};
 ghost use Rattle.std.specs.List.{list_all};
-ghost use Rattle.frame_script.specs.Tokens.{behind, first_word, hex_octets, is_text, named, node_word, number_of_digits, numbered, some_octets, split_word};
-ghost use Rattle.frame_script.specs.Sentences.{name_of};
+ghost use Rattle.frame_script.specs.Tokens.{behind, first_word, hex_octets, is_text, named, node_word, number_of_digits, numbered, peer_word, some_octets, split_word, tid_number, tid_word};
+ghost use Rattle.frame_script.specs.Sentences.{name_of, peer_of};
 
+use domain_base::Tid;
 use hex::FromHex;
 
 /// What stands behind the word at the front of the text.
@@ -54,11 +55,16 @@ pub(crate) fn hex_octets<const N: usize>(text: &[u8]) -> Option<[u8; N]>
     <[u8; N] as FromHex>::from_hex(text).ok()
 }
 
-// Whether all of the text is hexadecimal digits.
+// Whether all of the text is hexadecimal digits. Each is looked at, also behind one that is none: a
+// loop with one way out is made into one over many octets at once.
 fn is_hex(text: &[u8]) -> bool
     ensures { result ≡ list_all is_ascii_hexdigit text.now }
 {
-    text.iter().all(|c| c.is_ascii_hexdigit())
+    let mut all = true;
+    for octet in text {
+        all &= octet.is_ascii_hexdigit();
+    }
+    all
 }
 
 /// Whether the text is at least one octet, in pairs of hexadecimal digits.
@@ -133,4 +139,50 @@ pub(crate) fn node_name(word: &[u8]) -> Option<NodeName>
         return Some(NodeName::Ap(number));
     }
     number_behind(b"s", word).map(NodeName::Sta)
+}
+
+/// To whom is sent, by its word.
+#[derive(Clone, Copy)]
+pub(crate) enum PeerName {
+    /// All stations.
+    All,
+    /// One node.
+    One(NodeName),
+}
+
+/// To whom is sent, by its word.
+#[tactic(auto, unfolding(crate::specs::Tokens::peer_word))]
+pub(crate) fn peer_name(word: &[u8]) -> Option<PeerName>
+    ensures { option_map peer_of result ≡ peer_word word.now }
+{
+    if word == b"all".as_slice() {
+        Some(PeerName::All)
+    } else {
+        node_name(word).map(PeerName::One)
+    }
+}
+
+// The traffic identifier by its number.
+#[tactic(auto, unfolding(crate::specs::Tokens::tid_number))]
+fn tid_number(word: &[u8]) -> Option<Tid>
+    ensures { result ≡ tid_number word.now }
+{
+    let number = number_of_digits(word)?;
+    if number < 16 {
+        Tid::new(number as u8)
+    } else {
+        None
+    }
+}
+
+/// A traffic identifier; `-` where there is none.
+#[tactic(auto, unfolding(crate::specs::Tokens::tid_word))]
+pub(crate) fn tid_of(word: &[u8]) -> Option<Option<Tid>>
+    ensures { result ≡ tid_word word.now }
+{
+    if word == b"-".as_slice() {
+        Some(None)
+    } else {
+        tid_number(word).map(Some)
+    }
 }

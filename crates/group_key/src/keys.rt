@@ -45,7 +45,8 @@ impl Model for GroupKeys {
 
     ghost view = { λ s. record { current = s.current; newest = s.newest } };
 
-    ghost invariant = { λ s. (s.newest.place ≡ s.current.place) ⊎ (s.newest.place ≡ suc s.current.place) };
+    ghost invariant = { λ s. (s.newest.place ≡ s.current.place)
+        ⊎ (s.newest.place ≡ suc s.current.place) };
 }
 
 impl GroupKeys {

@@ -1,5 +1,5 @@
 -- How many frames were sent: a replay counter stays below 2^64.
-use Rattle.std.proofs.Common.{ℕ, suc, ◌≡◌, ◌+◌, ◌*◌, ◌^◌, ◌<◌, ◌≤◌, inr, Bool, true, false, cond, List, [], ◌∷◌, length, Option, Some, None, is_some, refl, sym, ap, ◌∙◌, subst, arith}
+use Rattle.std.proofs.Common.{ℕ, ◌≡◌, ◌+◌, ◌*◌, ◌^◌, ◌<◌, ◌≤◌, Bool, true, false, cond, List, [], ◌∷◌, length, Option, Some, None, is_some, refl, sym, ap, subst, arith}
 use Rattle.std.specs.Prelude.{if◌then◌else◌}
 use Rattle.domain_base.specs.declared.names.Node.{Node}
 use Rattle.eapol_key.specs.declared.messages.Message.{Message}
@@ -8,8 +8,6 @@ use Rattle.run_journal.specs.GroupKinds as groups
 use Rattle.run_journal.specs.declared.domain.Domain.{Domain}
 use Rattle.run_journal.specs.declared.acts.Kind.TheVariants as kind
 use Rattle.run_journal.specs.declared.acts.Act.{Act}
-use Rattle.run_journal.specs.declared.acts.Drawn.TheVariants.{Gtk}
-use Rattle.run_journal.specs.declared.acts.Act.TheVariants.{Drew}
 use Rattle.run_journal.specs.Acts.{opens, finishes, key_drawn, sent}
 use Rattle.run_journal.specs.Questions.{listed, attempt, since, all_sent, group_keys, handshake, before_sent, or_else}
 use Rattle.domain_rules.specs.Network.{draw_end}

@@ -1,5 +1,5 @@
 -- Of the first M3 that an access point sent in an attempt: its key data was made from the key derived last.
-use Rattle.std.proofs.Common.{ℕ, ◌≡◌, inl, inr, Bool, true, false, cond, List, [], ◌∷◌, Option, Some, None, is_some, refl, sym, ap, ◌∙◌, subst}
+use Rattle.std.proofs.Common.{ℕ, ◌≡◌, inr, Bool, true, false, cond, List, [], ◌∷◌, Option, Some, None, is_some, refl, sym, ap, ◌∙◌, subst}
 use Rattle.domain_base.specs.declared.names.Node.{Node}
 use Rattle.eapol_key.specs.declared.messages.Message.TheVariants.{M2, M3}
 use Rattle.key_hierarchy.specs.declared.inputs.Inputs.{Inputs}
@@ -10,13 +10,13 @@ use Rattle.run_journal.specs.declared.acts.Act.{Act}
 use Rattle.run_journal.specs.declared.acts.Act.TheVariants.{Sent, Took}
 use Rattle.key_hierarchy.specs.Keys.{ptk}
 use Rattle.run_journal.specs.Acts.{opens, derived, accepted, sent, Derivation}
-use Rattle.run_journal.specs.Questions.{or_else, attempt, own_nonce, derivation, heard, before_sent}
+use Rattle.run_journal.specs.Questions.{or_else, attempt, derivation, before_sent}
 use Rattle.domain_rules.specs.Network.{is_ap}
 use Rattle.domain_rules.specs.Frames.{keyed_by}
 use Rattle.domain_rules.specs.Asking.{has_heard}
-use Rattle.domain_rules.proofs.Parts.{Grows, Begins, Goes_on, grows, heard_more}
+use Rattle.domain_rules.proofs.Parts.{Grows, Begins, Goes_on, grows}
 use Rattle.journal_safety.proofs.Ends.{Tail, tail_refl, tail_in}
-use Rattle.journal_safety.proofs.Legal.{nonce_of, derives, Verified, Built, IsNewest, SendsM3, LegalDerived, Legal, LegalHistory}
+use Rattle.journal_safety.proofs.Legal.{derives, Verified, Built, IsNewest, SendsM3, LegalDerived, Legal, LegalHistory}
 use Rattle.journal_safety.proofs.Histories.{derived-is, own_of_part}
 use Rattle.journal_safety.proofs.Sessions.{sends_by}
 
@@ -109,6 +109,7 @@ verified_end n p i a h t v = record {
   outcome = v.outcome;
   covered = v.covered;
   took = tail_in a h (Took v.from v.octets v.kind v.outcome (Some (record { octets = v.covered; key = (ptk i).kck }))) t v.took;
+  form = v.form;
   direction = v.direction;
 }
 

@@ -1,5 +1,5 @@
 -- No group key is installed twice: the keys that a station takes from one access point never go back in the order of drawing.
-use Rattle.std.proofs.Common.{ℕ, suc, ◌≡◌, ◌<◌, ◌≤◌, ◌⊎◌, inl, inr, ⊎_elim, Bool, true, false, not, cond, List, [], ◌∷◌, take, Option, Some, None, is_some, refl, sym, ap, ◌∙◌, subst, arith}
+use Rattle.std.proofs.Common.{ℕ, suc, ◌≡◌, ◌<◌, ◌⊎◌, inl, inr, ⊎_elim, Bool, true, false, not, cond, List, [], ◌∷◌, take, Option, Some, None, is_some, refl, sym, ap, ◌∙◌, subst, arith}
 use Rattle.std.specs.Prelude.{bytes_eq}
 use Rattle.std.proofs.lemmas.Slice.Eq.{bytes_eq-Decides}
 use Rattle.key_wrap.specs.KeyWrap.{Wraps}
@@ -7,7 +7,7 @@ use Rattle.domain_base.specs.declared.names.Mac.{Mac}
 use Rattle.domain_base.specs.declared.names.Node.{Node}
 use Rattle.domain_base.specs.declared.names.Peer.TheVariants.{One, All}
 use Rattle.eapol_key.specs.declared.messages.Message.{Message}
-use Rattle.eapol_key.specs.declared.messages.Message.TheVariants.{M3, G1}
+use Rattle.eapol_key.specs.declared.messages.Message.TheVariants.{G1}
 use Rattle.key_hierarchy.specs.Keys.{ptk}
 use Rattle.key_hierarchy.specs.declared.inputs.Inputs.{Inputs}
 use Rattle.run_journal.specs.GroupKinds as groups
@@ -21,24 +21,25 @@ use Rattle.run_journal.specs.declared.acts.Key.TheVariants.{Group}
 use Rattle.run_journal.specs.declared.acts.Act.{Act}
 use Rattle.run_journal.specs.declared.acts.Act.TheVariants.{Drew, Sent, Took, Installed, Finished}
 use Rattle.run_journal.specs.declared.acts.Entry.{Entry}
-use Rattle.run_journal.specs.Acts.{same, opens, finishes, closes, key_drawn, sent, GroupKey, given_from, switched, Derivation}
+use Rattle.run_journal.specs.Acts.{same, opens, finishes, closes, key_drawn, sent, GroupKey, given_from, switched}
 use Rattle.run_journal.specs.Questions.{history, attempt, since, derivation, session, listed, given, group_keys, switches}
-use Rattle.run_journal.specs.Premises.{In, drawn, Fresh}
+use Rattle.run_journal.specs.Premises.{In, drawn}
 use Rattle.domain_rules.specs.Network.{is_ap}
-use Rattle.domain_rules.specs.Frames.{keyed_by, wrapped, m3_key_data, g1_key_data}
+use Rattle.domain_rules.specs.Frames.{keyed_by}
 use Rattle.domain_rules.specs.Counters.{next_in_session, first_in_session}
 use Rattle.domain_rules.specs.GroupKeys.{find_key}
 use Rattle.domain_rules.specs.StationRows.{carried}
 use Rattle.domain_rules.proofs.Parts.{same-true, same-refl, since_part}
 use Rattle.domain_rules.proofs.CarriedKey.{one_carried, one_carried_g1}
-use Rattle.journal_safety.proofs.Covers.{covered_message, covered_counter, covered_key_data}
+use Rattle.journal_safety.proofs.Covers.{covered_message, covered_counter}
 use Rattle.journal_safety.proofs.Ends.{Tail, tail_refl, tail_rest, tail_trans, tail_total, tail_in, Order, Same, First, Second, order, history_tail, EndOf, end_of}
-use Rattle.journal_safety.proofs.Legal.{ack, goes_down, nonce_of, Alive, Verified, IsNewest, Built, CarriesM3, CarriesG1, Carries, seal_under, GivesKey, In_m3, In_g1, Given, GivenG1, By_m3, By_g1, LegalGroup, LegalCurrent, LegalFinished, Legal, LegalHistory}
+use Rattle.journal_safety.proofs.Legal.{ack, nonce_of, Alive, Verified, IsNewest, CarriesM3, CarriesG1, Carries, seal_under, GivesKey, In_m3, In_g1, Given, GivenG1, By_m3, By_g1, LegalGroup, LegalCurrent, LegalFinished, Legal, LegalHistory}
 use Rattle.journal_safety.proofs.Histories.{nonce_in, legal_end, gtk_drew, gtks_tail, gtk_drawn-is}
 use Rattle.journal_safety.proofs.Sessions.{session_older, finished_of, session_finished, finished_verified, session_nonce, given_wider, given_in_session}
 use Rattle.journal_safety.proofs.Runs.{legal_history}
 use Rattle.journal_safety.proofs.Places.{Good, good_tail, At, at_of, at_wider, legal_at, earlier_tail, entry_in, in_history, Draws, draws_of, one_drawer}
 use Rattle.journal_safety.proofs.Seals.{SealedBy, sealed_by, sealed_tail, verified_by}
+use Rattle.journal_safety.proofs.Given.{given-is, given_in, given_listed}
 use Rattle.journal_safety.proofs.Pairwise.{FreshHistory, fresh_history, alive_over}
 
 -- ---- the history since the last Opened with p, and what was before it
@@ -172,7 +173,7 @@ given_sealed : (d : Domain) (n s : Node) (i : Inputs) (g : List ℕ) (past : Lis
 given_sealed d n s i g past good station v =
     sealed_by d s n i (Some n) v.octets (kind.Key v.message) Accepted v.covered past good v.derived
     (since_in n (Took (Some n) v.octets (kind.Key v.message) Accepted (Some (seal_under i v.covered))) (history s past) v.took)
-    (ap ack v.message_is ∙ from_ap v.message v.gives_key ∙ ap not (sym station))
+    v.form (ap ack v.message_is ∙ from_ap v.message v.gives_key ∙ ap not (sym station))
 
 -- whoever unwraps the key data has the group key that was put in
 key_m3 : (d : Domain) (n s : Node) (i : Inputs) (g : List ℕ) (h hs : List Act) (v : Given s hs n i g) → (c : CarriesM3 d n h s i v.covered) → c.key.key ≡ g
@@ -440,38 +441,6 @@ no_way_back d n g h past a good t u v =
     go (inr z) = let k = distinct_tail (g ∷ v.second.0) (group_keys groups.Gtk (history n past)) c_end distinct in absurd (k.0 (tail_in (h ∷ u.second.0) v.second.0 g z g_in))
 
 -- ---- the keys that a station was given
-
-given_same : (p q : Node) (g : List ℕ) (id : ℕ) (b : Mac) (x : GroupKey) (c : Bool) → same p q ≡ c → cond c (Some (record { key = g; id = id })) None ≡ Some x → (Installed (One q) (Group g id b) ≡ Installed (One p) (Group x.key x.id b))
-given_same p q g id b x true s e =
-    let to : q ≡ p = sym (same-true p q s) in
-    let one : record { key = g; id = id } ≡ x = cc e in
-    ap (λ (y : Node). Installed (One y) (Group g id b)) to ∙ ap (λ (y : GroupKey). Installed (One p) (Group y.key y.id b)) one
-given_same p q g id b x false s e = cc
-
-pub given-is : (p : Node) (e : Act) (x : GroupKey) → given_from groups.Gtk p e ≡ Some x → (b : Mac) × (e ≡ Installed (One p) (Group x.key x.id b))
-given-is p (Installed (One q) (Group g id b)) x is = (b, given_same p q g id b x (same p q) refl is)
-given-is p _ x is = cc
-
--- each of them is an installation of the history
-given_by : (p : Node) (x : GroupKey) (e : Act) (h : List Act) → (In x (given groups.Gtk p h) → (b : Mac) × In (Installed (One p) (Group x.key x.id b)) h) → (o : Option GroupKey) → given_from groups.Gtk p e ≡ o → In x (listed o (given groups.Gtk p h))
-    → (b : Mac) × In (Installed (One p) (Group x.key x.id b)) (e ∷ h)
-given_by p x e h more None is there = let w = more there in (w.0, inr w.1)
-given_by p x e h more (Some y) is (inl here) = let w = given-is p e x (is ∙ ap Some (sym here)) in (w.0, inl (sym w.1))
-given_by p x e h more (Some y) is (inr later) = let w = more later in (w.0, inr w.1)
-
-given_in : (p : Node) (x : GroupKey) (h : List Act) → In x (given groups.Gtk p h) → (b : Mac) × In (Installed (One p) (Group x.key x.id b)) h
-given_in p x [] there = absurd there
-given_in p x (e ∷ h) there = given_by p x e h (given_in p x h) (given_from groups.Gtk p e) refl there
-
-more_given : (x : GroupKey) (o : Option GroupKey) (xs : List GroupKey) → In x xs → In x (listed o xs)
-more_given x None xs there = there
-more_given x (Some y) xs there = inr there
-
--- and each installation is one of them
-given_listed : (p : Node) (g : List ℕ) (id : ℕ) (b : Mac) (h : List Act) → In (Installed (One p) (Group g id b)) h → In (record { key = g; id = id }) (given groups.Gtk p h)
-given_listed p g id b [] there = absurd there
-given_listed p g id b (e ∷ h) (inl here) = subst (λ (x : Act). In (record { key = g; id = id }) (listed (given_from groups.Gtk p x) (given groups.Gtk p h))) here (rw same-refl (inl refl))
-given_listed p g id b (e ∷ h) (inr later) = more_given (record { key = g; id = id }) (given_from groups.Gtk p e) (given groups.Gtk p h) (given_listed p g id b h later)
 
 -- of the key that was given last
 record LastGiven (d : Domain) (n s : Node) (x : GroupKey) (older : List GroupKey) (past : List Entry) : Type 0 where

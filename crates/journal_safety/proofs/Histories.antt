@@ -1,5 +1,5 @@
 -- What the questions to a history say of its acts, where each of them was legal.
-use Rattle.std.proofs.Common.{ℕ, suc, ◌≡◌, ◌⊎◌, ◌<◌, ◌%◌, inl, inr, Bool, true, false, cond, List, [], ◌∷◌, length, Option, Some, None, refl, sym, ap, ◌∙◌, subst, arith, mod-lt}
+use Rattle.std.proofs.Common.{ℕ, suc, ◌≡◌, ◌<◌, ◌%◌, inl, inr, Bool, true, false, cond, List, [], ◌∷◌, length, Option, Some, None, refl, sym, ap, ◌∙◌, subst, arith, mod-lt}
 use Rattle.domain_base.specs.declared.names.Node.{Node}
 use Rattle.key_hierarchy.specs.Keys.{ptk}
 use Rattle.key_hierarchy.specs.declared.inputs.Inputs.{Inputs}
@@ -13,6 +13,7 @@ use Rattle.run_journal.specs.Acts.{same, opens, finishes, closes, nonce_drawn, k
 use Rattle.run_journal.specs.Questions.{or_else, attempt, own_nonce, derivation, session, listed, group_keys}
 use Rattle.run_journal.specs.Premises.{In}
 use Rattle.domain_rules.specs.GroupKeys.{newest_of, newest}
+use Rattle.domain_rules.specs.Frames.{keyed_by}
 use Rattle.domain_rules.proofs.Parts.{same-true, Grows, Begins, Goes_on, grows, in_part, own_nonce_more}
 use Rattle.journal_safety.proofs.Ends.{Tail}
 use Rattle.domain_rules.proofs.CarriedKey.{IsGroupKey}
@@ -102,6 +103,10 @@ session_in p (e ∷ h) x s = session_by p e h x (session_in p h x) (finishes p e
 -- and is the key of its inputs
 pub derived_key : (d : Domain) (n p : Node) (i : Inputs) (k : Ptk) (h : List Act) → LegalHistory d n h → In (Derived p i k) h → k ≡ ptk i
 derived_key d n p i k h legal there = let l : LegalDerived d n (legal_in d n (Derived p i k) h legal there).before p i k = (legal_in d n (Derived p i k) h legal there).legal in l.key
+
+-- a key that is that of its inputs
+pub keyed_as : (x : Derivation) → x.ptk ≡ ptk x.inputs → x ≡ keyed_by x.inputs
+keyed_as x e = ap (λ (k : Ptk). record { inputs = x.inputs; ptk = k }) e
 
 -- the own nonce of what was derived in an attempt is that of the attempt
 own_new : (d : Domain) (n p : Node) (x : Derivation) (e : Act) (h old : List Act) → Legal d n h e → e ≡ Derived p x.inputs x.ptk → attempt p h ≡ Some old → own_nonce (e ∷ old) ≡ Some (nonce_of n x.inputs)

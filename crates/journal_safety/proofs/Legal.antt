@@ -1,5 +1,5 @@
 -- Which act may come next in the history of a node, whatever event adds it: what all of the proof of safety rests on.
-use Rattle.std.proofs.Common.{ℕ, ◌≡◌, ◌<◌, inr, Bool, true, false, not, List, [], ◌∷◌, length, Option, Some, None}
+use Rattle.std.proofs.Common.{ℕ, suc, ◌≡◌, ◌<◌, inr, Bool, true, false, not, List, [], ◌∷◌, length, Option, Some, None}
 use Rattle.domain_base.specs.Octets.{AreOctets}
 use Rattle.key_wrap.specs.KeyWrap.{Wraps}
 use Rattle.domain_base.specs.declared.names.Mac.{Mac}
@@ -28,17 +28,20 @@ use Rattle.run_journal.specs.declared.acts.Act.TheVariants.{Opened, Closed, Drew
 use Rattle.run_journal.specs.Acts.{same, GroupKey}
 use Rattle.run_journal.specs.declared.acts.Outcome.TheVariants.{Accepted}
 use Rattle.run_journal.specs.declared.acts.Part.TheVariants.{Session}
-use Rattle.run_journal.specs.Questions.{attempt, since, own_nonce, derivation, session, associated, before_sent, handshake, group_keys, switches}
+use Rattle.run_journal.specs.Questions.{attempt, since, own_nonce, derivation, session, associated, before_sent, handshake, group_keys, switches, pairwise_uses, group_uses}
 use Rattle.run_journal.specs.Premises.{In}
-use Rattle.domain_rules.specs.Network.{mac, is_ap, draw_end, IsListed}
+use Rattle.air_frame.specs.Sent.{IsAddress}
+use Rattle.domain_rules.specs.Network.{mac, address, is_ap, draw_end, IsListed}
 use Rattle.domain_rules.specs.Asking.{has_heard, replay_counter}
 use Rattle.domain_rules.specs.Counters.{sent_count, next_in_session}
 use Rattle.domain_rules.specs.AccessPointRows.{most_sends}
 use Rattle.domain_rules.specs.Frames.{wrapped, m3_key_data, g1_key_data, keyed_by}
-use Rattle.domain_rules.specs.GroupKeys.{memory, find_key}
+use Rattle.domain_rules.specs.GroupKeys.{memory, find_key, got}
+use Rattle.domain_rules.specs.PacketNumbers.{pairwise_got}
 use Rattle.domain_rules.specs.StationRows.{carried}
 use Rattle.journal_safety.proofs.Ends.{Tail}
 use Rattle.journal_safety.proofs.Covers.{covered_message, covered_counter, covered_key_data}
+use Rattle.journal_safety.proofs.CoversData.{covered_form, covered_tid, CoversData}
 use Rattle.domain_rules.proofs.CarriedKey.{IsGroupKey}
 use Rattle.run_journal.specs.GroupKinds as groups
 
@@ -51,8 +54,7 @@ ack M4 = false
 ack G1 = true
 ack G2 = false
 
--- sealed octets are those of a frame from an access point to a station, by the Ack bit. The other forms of sealed octets, which
--- the first octet tells apart, come with the frames that have them
+-- octets that a MIC covers are those of a frame from an access point to a station, by the Ack bit
 abbrev pub goes_down : List ℕ → Bool
 goes_down covered = ack (covered_message covered)
 
@@ -108,6 +110,7 @@ pub record Verified (n : Node) (h : List Act) (p : Node) (i : Inputs) : Type 0 w
   pub outcome : Outcome
   pub covered : List ℕ
   pub took : In (Took from octets kind outcome (Some (record { octets = covered; key = (ptk i).kck }))) h
+  pub form : covered_form covered ≡ 1
   pub direction : goes_down covered ≡ not (is_ap n)
 
 -- the group key that was drawn last
@@ -144,7 +147,7 @@ Carries d n h p i covered M3 = CarriesM3 d n h p i covered
 Carries d n h p i covered G1 = CarriesG1 d n h p i covered
 Carries d n h p i covered _ = Unit {0}
 
--- what a node seals with a KCK is of its own direction, its kind is that of what is sealed, and the node derived that KCK
+-- what a node seals with a KCK, in a MIC, is of its own direction, its kind is that of what is sealed, and the node derived that KCK
 pub record LegalSeal (d : Domain) (n : Node) (h : List Act) (p : Node) (k : Kind) (s : Seal) : Type 0 where
   pub i : Inputs
   pub there : In (derives p i) h
@@ -153,11 +156,31 @@ pub record LegalSeal (d : Domain) (n : Node) (h : List Act) (p : Node) (k : Kind
   pub kind_is : k ≡ kind.Key (covered_message s.octets)
   pub carries : Carries d n h p i s.octets (covered_message s.octets)
 
--- nothing is sealed for all
+-- the receiver has an address
+abbrev pub IsReceiver : Domain → Peer → Type 0
+IsReceiver d (One p) = IsAddress (address d p)
+IsReceiver d All = Unit {0}
+
+-- a node used a packet number just before it seals with CCM; and where the addresses are such, what is sealed is of its own direction,
+-- with that number and plain text
+pub record LegalData (d : Domain) (n : Node) (h : List Act) (s : Seal) : Type 0 where
+  pub form : covered_form s.octets ≡ 3
+  pub peer : Peer
+  pub id : ℕ
+  pub number : ℕ
+  pub plain : List ℕ
+  pub before : List Act
+  pub is : h ≡ Used peer s.key id number plain ∷ before
+  pub covers : IsAddress (address d n) → IsReceiver d peer → CoversData s.octets (is_ap n) (covered_tid s.octets) number plain
+
+-- with a MIC nothing is sealed for all, with CCM it may be
+pub data LegalSealing (d : Domain) (n : Node) (h : List Act) (q : Peer) (k : Kind) (s : Seal) : Type 0 where
+  With_mic : (p : Node) → q ≡ One p → covered_form s.octets ≡ 1 → LegalSeal d n h p k s → LegalSealing d n h q k s
+  With_ccm : LegalData d n h s → LegalSealing d n h q k s
+
 abbrev pub LegalSealed : Domain → Node → List Act → Peer → Kind → Option Seal → Type 0
 LegalSealed d n h q k None = Unit {0}
-LegalSealed d n h All k (Some s) = ⊥
-LegalSealed d n h (One p) k (Some s) = LegalSeal d n h p k s
+LegalSealed d n h q k (Some s) = LegalSealing d n h q k s
 
 -- a group key was drawn
 abbrev pub HasDrawn : List Act → Type 0
@@ -193,12 +216,14 @@ gives p _ = false
 abbrev pub Uninstalled : Node → List Act → Type 0
 Uninstalled p part = (e : Act) → In e part → gives p e ≡ false
 
--- a pairwise key is installed after a message of the peer verified under it, once in an attempt, and before the group key
+-- a pairwise key is installed after a message of the peer verified under it, once in an attempt, before the group key, and where there
+-- is no session
 pub record LegalPairwise (n : Node) (h : List Act) (p : Node) (tk : List ℕ) (i : Inputs) : Type 0 where
   pub verified : Verified n h p i
   pub alive : Alive n h p i
   pub first : Uninstalled p alive.part
   pub is : tk ≡ (ptk i).tk
+  pub none : session p h ≡ None
 
 -- the messages that give a group key
 pub data GivesKey (m : Message) : Type 0 where
@@ -215,6 +240,7 @@ pub record Given (n : Node) (h : List Act) (p : Node) (i : Inputs) (g : List ℕ
   pub covered : List ℕ
   pub took : In (Took (Some p) octets (kind.Key message) Accepted (Some (seal_under i covered))) (since p h)
   pub gives_key : GivesKey message
+  pub form : covered_form covered ≡ 1
   pub message_is : covered_message covered ≡ message
   pub counter : replay_counter octets ≡ covered_counter covered
   pub derived : In (derives p i) h
@@ -280,12 +306,13 @@ abbrev pub LegalDrew : Node → List Act → Drawn → Type 0
 LegalDrew n h (Nonce v) = length v ≡ 32
 LegalDrew n h (Gtk v) = LegalGtk n h v
 
--- a final message is accepted where a message of the peer verified, under the key derived last. A station has no other session, and
--- was given its group keys in this attempt under the same inputs
+-- a final message is accepted where a message of the peer verified, under the key derived last, which was installed. A station has no
+-- other session, and was given its group keys in this attempt under the same inputs
 pub record LegalFinished (n : Node) (h : List Act) (p : Node) (i : Inputs) : Type 0 where
   pub verified : Verified n h p i
   pub alive : Alive n h p i
   pub last : derivation p h ≡ Some (keyed_by i)
+  pub installed : In (Installed (One p) (Pairwise (ptk i).tk i)) h
   pub alone : is_ap n ≡ false → associated h ≡ None
   pub gave : is_ap n ≡ false → (g : List ℕ) (id : ℕ) (b : Mac) → In (Installed (One p) (Group g id b)) (since p h) → Given n h p i g
 
@@ -296,7 +323,39 @@ LegalOpened n h p = is_ap n ≡ false → (associated h ≡ None) × (is_ap p �
 abbrev pub LegalClosed : Node → List Act → Node → Type 0
 LegalClosed n h p = is_ap n ≡ false → associated h ≡ Some p
 
--- no packet number is used yet, and nothing handed up
+-- a packet number is the next under the key of the session with p
+pub record LegalUsedWith (h : List Act) (p : Node) (key : List ℕ) (number : ℕ) : Type 0 where
+  pub i : Inputs
+  pub awaited : session p h ≡ Some (keyed_by i)
+  pub is : key ≡ (ptk i).tk
+  pub next : number ≡ suc (pairwise_uses p h)
+
+-- or under the access point's current group key
+pub record LegalUsedAll (h : List Act) (key : List ℕ) (number : ℕ) : Type 0 where
+  pub older : List (List ℕ)
+  pub current : switches groups.Gtk h ≡ key ∷ older
+  pub next : number ≡ suc (group_uses groups.Gtk h)
+
+abbrev pub LegalUsed : List Act → Peer → List ℕ → ℕ → Type 0
+LegalUsed h (One p) key number = LegalUsedWith h p key number
+LegalUsed h All key number = LegalUsedAll h key number
+
+-- a payload is handed up under the key of the session with p, or under a group key that was installed from p, with a number above the
+-- kept one
+pub data OpensUnder (d : Domain) (n : Node) (h : List Act) (p : Node) (key : List ℕ) (id tid number : ℕ) (covered : List ℕ) : Type 0 where
+  With_session : (i : Inputs) → session p h ≡ Some (keyed_by i) → key ≡ (ptk i).tk → id ≡ 0 → tid ≡ covered_tid covered → IsAddress (address d n) → pairwise_got p key tid h < number → OpensUnder d n h p key id tid number covered
+  With_group : is_ap n ≡ false → (b : Mac) → In (Installed (One p) (Group key id b)) h → tid ≡ 0 → got groups.Gtk p key id h < number → OpensUnder d n h p key id tid number covered
+
+-- data from p was taken, sealed under that key in the other direction, with that number and those octets
+pub record LegalUp (d : Domain) (n : Node) (h : List Act) (p : Node) (key : List ℕ) (id tid number : ℕ) (plain : List ℕ) : Type 0 where
+  pub covered : List ℕ
+  pub octets : List ℕ
+  pub took : In (Took (Some p) octets kind.Data Accepted (Some (record { octets = covered; key = key }))) h
+  pub covers : CoversData covered (not (is_ap n)) (covered_tid covered) number plain
+  pub whole : IsAddress (address d p)
+  pub roles : is_ap p ≡ not (is_ap n)
+  pub under : OpensUnder d n h p key id tid number covered
+
 abbrev pub Legal : Domain → Node → List Act → Act → Type 0
 Legal d n h (Opened p s) = LegalOpened n h p
 Legal d n h (Closed p Session) = LegalClosed n h p
@@ -305,8 +364,8 @@ Legal d n h (Derived p i k) = LegalDerived d n h p i k
 Legal d n h (Sent q k octets s) = LegalSealed d n h q k s × LegalKind n h q k
 Legal d n h (Installed q key) = LegalInstalled n h q key
 Legal d n h (Finished p i) = LegalFinished n h p i
-Legal d n h (Used p key id number octets) = ⊥
-Legal d n h (HandedUp p key id tid number octets) = ⊥
+Legal d n h (Used q key id number octets) = LegalUsed h q key number
+Legal d n h (HandedUp p key id tid number octets) = LegalUp d n h p key id tid number octets
 Legal d n h _ = Unit {0}
 
 -- each act was legal after those before it
@@ -320,4 +379,4 @@ Chain d n h [] = Unit {0}
 Chain d n h (e ∷ g) = Legal d n h e × Chain d n (e ∷ h) g
 
 pub verified_more : (n p : Node) (h : List Act) (e : Act) (i : Inputs) → Verified n h p i → Verified n (e ∷ h) p i
-verified_more n p h e i v = record { derived = inr v.derived; from = v.from; octets = v.octets; kind = v.kind; outcome = v.outcome; covered = v.covered; took = inr v.took; direction = v.direction }
+verified_more n p h e i v = record { derived = inr v.derived; from = v.from; octets = v.octets; kind = v.kind; outcome = v.outcome; covered = v.covered; took = inr v.took; form = v.form; direction = v.direction }

@@ -21,3 +21,9 @@ pub mod GroupKeys
 pub mod Once
 pub mod AllParts
 pub mod Order
+pub mod CoversData
+pub mod ReadData
+pub mod Given
+pub mod RowsData
+pub mod Numbers
+pub mod Ups

@@ -24,7 +24,7 @@ use Rattle.journal_safety.proofs.Pairwise.{installs, verified_wider, pairwise_on
 use Rattle.journal_safety.proofs.GroupKeys.{group_station, group_drawn, group_once, current_once}
 
 -- how an act installs a key
-data Installs (e : Act) (key : List ℕ) : Type 0 where
+pub data Installs (e : Act) (key : List ℕ) : Type 0 where
   WithPeer : (p : Node) (i : Inputs) → e ≡ installs p key i → Installs e key
   FromPeer : (p : Node) (id : ℕ) (b : Mac) → e ≡ Installed (One p) (Group key id b) → Installs e key
   ForAll : (id : ℕ) (b : Mac) → e ≡ Installed All (Group key id b) → Installs e key
@@ -37,7 +37,7 @@ installs_by d n h (Installed All (Group g id b)) key legal is = let one : g ≡ 
 installs_by d n h _ key legal is = cc
 
 -- a temporal key is no group key
-clash : (d : Domain) (n p m : Node) (i : Inputs) (key : List ℕ) (past : List Entry) → Good d past → DerivedAt d n p i past → key ≡ (ptk i).tk → In key (group_keys groups.Gtk (history m past)) → ⊥
+pub clash : (d : Domain) (n p m : Node) (i : Inputs) (key : List ℕ) (past : List Entry) → Good d past → DerivedAt d n p i past → key ≡ (ptk i).tk → In key (group_keys groups.Gtk (history m past)) → ⊥
 clash d n p m i key past g a is there =
     let w = at_of m (Drew (Gtk key)) past (gtk_drew key (history m past) there) in
     g.apart.no_gtk i (ptk i) w.entry (has_derived d n p i past a) (entry_in m (Drew (Gtk key)) past w) (w.is ∙ ap (λ (x : List ℕ). Drew (Gtk x)) is)
@@ -59,7 +59,7 @@ pairwise_earlier d n p key i past g there =
     let v = verified_wider n p i w.earlier past (earlier_tail n (installs p key i) past w) old.verified in
     record { p = p; i = i; derived = derived_at d n p i past g.legal v.derived; is = old.is }
 
-group_earlier : (d : Domain) (n p : Node) (key : List ℕ) (id : ℕ) (b : Mac) (past : List Entry) → Good d past → In (Installed (One p) (Group key id b)) (history n past) → In key (group_keys groups.Gtk (history p past)) × (is_ap n ≡ false)
+pub group_earlier : (d : Domain) (n p : Node) (key : List ℕ) (id : ℕ) (b : Mac) (past : List Entry) → Good d past → In (Installed (One p) (Group key id b)) (history n past) → In key (group_keys groups.Gtk (history p past)) × (is_ap n ≡ false)
 group_earlier d n p key id b past g there =
     let act : Act = Installed (One p) (Group key id b) in
     let w = at_of n act past there in
@@ -70,7 +70,7 @@ group_earlier d n p key id b past g there =
 current_drawn : (n : Node) (h : List Act) (key : List ℕ) → LegalCurrent n h key → In key (group_keys groups.Gtk h)
 current_drawn n h key l = subst (λ (x : List (List ℕ)). In key x) (sym l.newest) (inl refl)
 
-current_earlier : (d : Domain) (n : Node) (key : List ℕ) (id : ℕ) (b : Mac) (past : List Entry) → Good d past → In (Installed All (Group key id b)) (history n past) → In key (group_keys groups.Gtk (history n past)) × (is_ap n ≡ true)
+pub current_earlier : (d : Domain) (n : Node) (key : List ℕ) (id : ℕ) (b : Mac) (past : List Entry) → Good d past → In (Installed All (Group key id b)) (history n past) → In key (group_keys groups.Gtk (history n past)) × (is_ap n ≡ true)
 current_earlier d n key id b past g there =
     let act : Act = Installed All (Group key id b) in
     let w = at_of n act past there in
@@ -78,7 +78,7 @@ current_earlier d n key id b past g there =
     (gtks_tail key (history n w.earlier) (history n past) (history_tail n w.earlier past (earlier_tail n act past w)) (current_drawn n (history n w.earlier) key old), old.ap)
 
 -- one installation after another
-once_by : (d : Domain) (n : Node) (e x : Act) (key : List ℕ) (past : List Entry) → Good d past → Legal d n (history n past) e → In x (history n past) → Installs e key → Installs x key → ⊥
+pub once_by : (d : Domain) (n : Node) (e x : Act) (key : List ℕ) (past : List Entry) → Good d past → Legal d n (history n past) e → In x (history n past) → Installs e key → Installs x key → ⊥
 once_by d n e x key past g legal there (WithPeer p i is) (WithPeer q k was) =
     pairwise_once d n p q key i k past g (subst (λ (y : Act). Legal d n (history n past) y) is legal) (subst (λ (y : Act). In y (history n past)) was there)
 once_by d n e x key past g legal there (WithPeer p i is) (FromPeer q id b was) =

@@ -20,7 +20,8 @@ use Rattle.journal_safety.specs.NeverBack.{DrawnBefore, installed_from, NeverBac
 use Rattle.journal_safety.proofs.Ends.{Tail, tail_refl, tail_in, history_tail}
 use Rattle.journal_safety.proofs.Legal.{LegalGroup, Legal}
 use Rattle.journal_safety.proofs.Places.{Good, good_tail, in_history}
-use Rattle.journal_safety.proofs.GroupKeys.{Later, never_back, group_once, given-is, keys_tail}
+use Rattle.journal_safety.proofs.Given.{given-is}
+use Rattle.journal_safety.proofs.GroupKeys.{Later, never_back, group_once, keys_tail}
 use Rattle.journal_safety.proofs.AllParts.{good_run}
 
 -- what stands before an end

@@ -108,6 +108,7 @@ verified_wider n p i a b t v = record {
   outcome = v.outcome;
   covered = v.covered;
   took = tail_in (history n a) (history n b) (Took v.from v.octets v.kind v.outcome (Some (seal_under i v.covered))) (history_tail n a b t) v.took;
+  form = v.form;
   direction = v.direction;
 }
 

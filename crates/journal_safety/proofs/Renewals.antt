@@ -9,31 +9,31 @@ use Rattle.eapol_key.specs.declared.messages.Message.TheVariants.{G1}
 use Rattle.key_hierarchy.proofs.Lengths.{length-kdf}
 use Rattle.run_journal.specs.GroupKinds as groups
 use Rattle.run_journal.specs.declared.domain.Domain.{Domain}
-use Rattle.run_journal.specs.declared.acts.Part.TheVariants.{Attempt, Session}
+use Rattle.run_journal.specs.declared.acts.Part.TheVariants.{Session}
 use Rattle.run_journal.specs.declared.acts.Drawn.TheVariants.{Gtk}
-use Rattle.run_journal.specs.declared.acts.Kind.TheVariants as kind
 use Rattle.run_journal.specs.declared.acts.Why.TheVariants as why
 use Rattle.run_journal.specs.declared.acts.Key.TheVariants.{Group}
 use Rattle.run_journal.specs.declared.acts.Act.{Act}
-use Rattle.run_journal.specs.declared.acts.Act.TheVariants.{Closed, Drew, Sent, Installed, Idle}
+use Rattle.run_journal.specs.declared.acts.Act.TheVariants.{Closed, Drew, Installed, Idle}
 use Rattle.run_journal.specs.Acts.{key_drawn, Derivation}
 use Rattle.run_journal.specs.Questions.{attempt, session, associated, pending, listed, group_keys, switches, handshake, draws, is_draw, add}
-use Rattle.domain_rules.specs.Network.{mac, gtk, is_ap, draw_end, IsListed}
+use Rattle.domain_rules.specs.Network.{mac, gtk, is_ap, draw_end}
 use Rattle.domain_rules.specs.Counters.{sent_count}
 use Rattle.domain_rules.specs.GroupKeys.{newest_of, newest, is_current}
 use Rattle.domain_rules.specs.Owing.{any_owes, switch_acts, and_switch}
 use Rattle.domain_rules.specs.Closing.{close_attempt, close_session, close_pending, close_associated, or_nothing}
 use Rattle.domain_rules.specs.StationRows.{leave_acts}
-use Rattle.domain_rules.specs.AccessPointRows.{most_sends, g1_to, to_session, to_sessions, next_key, rekey_acts, RekeyRow, Pending, Spent, Renews, expire_acts}
-use Rattle.domain_rules.specs.Rows.{NodeEvent, Take, Begin, Retry, Rekey, Expire, Leave, RowOf, Adds}
+use Rattle.domain_rules.specs.AccessPointRows.{g1_to, to_session, to_sessions, RekeyRow, Pending, Spent, Renews, expire_acts}
+use Rattle.domain_rules.specs.Rows.{NodeEvent, Take, Begin, Retry, Rekey, Send, Expire, Leave, RowOf, Adds}
 use Rattle.domain_rules.specs.Here.{here}
 use Rattle.domain_rules.proofs.Parts.{add_append}
 use Rattle.domain_rules.proofs.KeyOctets.{octets-kdf}
-use Rattle.journal_safety.proofs.Legal.{LegalGtk, Legal, LegalHistory, Chain}
+use Rattle.journal_safety.proofs.Legal.{LegalGtk, LegalHistory}
 use Rattle.journal_safety.proofs.Settled.{Settled, settled_drew, settled_switched, Fine, fine_none, fine_cons, fine_quiet, fine_append}
 use Rattle.journal_safety.proofs.Sessions.{session_role}
 use Rattle.journal_safety.proofs.Rows.{connect_fine, take_fine, fine_attempt, fine_dropped, not_station, legal_add, g1_legal}
 use Rattle.journal_safety.proofs.Retries.{retry_fine}
+use Rattle.journal_safety.proofs.RowsData.{send_fine}
 
 -- ---- a new group key
 
@@ -159,6 +159,7 @@ and_switch_fine d (Ap a) h acts w = fine_append d (Ap a) h acts (switch_acts d a
 -- ---- each event
 
 row_fine : (d : Domain) (first : ℕ) (n : Node) (h : List Act) (event : NodeEvent) (g : List Act) → LegalHistory d n h → Settled d n h → RowOf (here d first n) h event g → Fine d n h g
+row_fine d first n h (Send q tid octets) g legal s is = subst (λ (x : List Act). Fine d n h x) (sym is) (send_fine d n h q tid octets legal s)
 row_fine d first n h (Take octets) g legal s row = take_fine d first n h octets row.r row.facts g row.reads row.knows legal s row.row
 row_fine d first n h (Begin a) g legal s row = connect_fine d first n h (Ap a) g refl s row
 row_fine d first n h (Retry s) g legal settled is = subst (λ (x : List Act). Fine d n h x) (sym is) (retry_fine d n s h (attempt (Sta s) h) legal settled refl)

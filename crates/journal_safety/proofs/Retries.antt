@@ -1,8 +1,8 @@
 -- What is sent once more may be sent.
-use Rattle.std.proofs.Common.{ℕ, ◌≡◌, inr, Bool, true, false, not, cond, List, [], ◌∷◌, length, Option, Some, None, is_some, refl, sym, ap, ◌∙◌, subst, ◌<◌}
+use Rattle.std.proofs.Common.{ℕ, ◌≡◌, Bool, true, false, not, cond, List, [], ◌∷◌, length, Option, Some, None, refl, sym, ap, ◌∙◌, subst, ◌<◌}
 use Rattle.std.specs.Prelude.{nat_lt}
 use Rattle.domain_base.specs.declared.names.Node.{Node}
-use Rattle.domain_base.specs.declared.names.Node.TheVariants.{Ap, Sta}
+use Rattle.domain_base.specs.declared.names.Node.TheVariants.{Sta}
 use Rattle.eapol_key.specs.declared.messages.Message.{Message}
 use Rattle.eapol_key.specs.declared.messages.Message.TheVariants.{M1, M2, M3, G1}
 use Rattle.key_hierarchy.specs.Keys.{ptk}
@@ -13,7 +13,7 @@ use Rattle.run_journal.specs.declared.acts.Why.TheVariants as why
 use Rattle.run_journal.specs.declared.acts.Act.{Act}
 use Rattle.run_journal.specs.declared.acts.Act.TheVariants.{Closed, GaveUp, Idle}
 use Rattle.run_journal.specs.Acts.{Derivation}
-use Rattle.run_journal.specs.Questions.{attempt, since, derivation, session, before_sent, chain, handshake}
+use Rattle.run_journal.specs.Questions.{attempt, derivation, session, before_sent, chain, handshake}
 use Rattle.domain_rules.specs.Network.{is_ap}
 use Rattle.domain_rules.specs.Frames.{sent_m3, sent_m1, keyed_by}
 use Rattle.domain_rules.specs.Asking.{own, by_connect, has_heard}
@@ -26,12 +26,12 @@ use Rattle.key_hierarchy.specs.declared.inputs.Inputs.{Inputs}
 use Rattle.std.proofs.lemmas.Bool.{ltb-true}
 use Rattle.run_journal.specs.GroupKinds as groups
 use Rattle.journal_safety.proofs.Legal.{nonce_of, derives, Verified, SendsM3, LegalDerived, Legal, LegalHistory}
-use Rattle.journal_safety.proofs.Histories.{legal_in, nonce_size, alive_drew, gtks_tail, newest_is}
+use Rattle.journal_safety.proofs.Histories.{keyed_as, legal_in, nonce_size, alive_drew, gtks_tail, newest_is}
 use Rattle.journal_safety.proofs.Settled.{Settled, is_quiet, Fine, fine_none, fine_quiet}
 use Rattle.journal_safety.proofs.Sessions.{session_role}
 use Rattle.journal_safety.proofs.FirstM3.{first_m3, built_then, same_first, verified_end}
 use Rattle.journal_safety.proofs.SentLegal.{legal_m1, legal_m3, ap_nonce}
-use Rattle.journal_safety.proofs.Rows.{ready_of, keyed_as, not_station, g1_legal}
+use Rattle.journal_safety.proofs.Rows.{ready_of, not_station, g1_legal}
 
 -- ---- once more, or no more
 

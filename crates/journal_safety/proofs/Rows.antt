@@ -43,19 +43,20 @@ use Rattle.domain_rules.specs.Counters.{next_in_attempt, sent_count}
 use Rattle.domain_rules.specs.GroupKeys.{newest, newest_uses, memory, find_key, give_by, give}
 use Rattle.domain_rules.specs.Closing.{close_attempt, close_session, close_pending, close_associated, next_nonce, sender}
 use Rattle.domain_rules.specs.StationRows.{ConnectRow, Spent, Asks, carried, AssocRespRow, M1Row, M3Row, RepeatedM3Row, G1Row}
-use Rattle.domain_rules.specs.Rows.{response, IgnoredRow, RefusedRow, TakeRows, By_assoc_req, By_assoc_resp, By_m1, By_m2, By_m3 as By_row_m3, By_repeated_m3, By_m4, By_ignored, By_refusal, By_g1 as By_row_g1, By_g2 as By_row_g2}
+use Rattle.domain_rules.specs.Rows.{response, IgnoredRow, RefusedRow, TakeRows, By_assoc_req, By_assoc_resp, By_m1, By_m2, By_m3 as By_row_m3, By_repeated_m3, By_m4, By_data, By_ignored, By_refusal, By_g1 as By_row_g1, By_g2 as By_row_g2}
 use Rattle.domain_rules.specs.AccessPointRows.{AssocReqRow, M2Row, M4Row, G2Row, m4_acts, newer_acts, carried_older, g1_to, most_sends}
 use Rattle.domain_rules.specs.Here.{here}
 use Rattle.domain_rules.proofs.Parts.{attempt_more, in_part, own_nonce_more, same-refl, since_part, attempt_none, add_append}
 use Rattle.run_journal.specs.GroupKinds as groups
 use Rattle.journal_safety.proofs.Covers.{Covers, took_covers}
 use Rattle.journal_safety.proofs.Legal.{ack, nonce_of, own_address, peer_address, derives, Alive, AreCommon, LegalDerived, Verified, gives, LegalPairwise, LegalGroup, Legal, LegalHistory, verified_more, Built, HasDrawn, SendsM3, Uninstalled, GivesKey, In_m3, In_g1, Given, Above, By_m3, By_g1, Chain}
-use Rattle.journal_safety.proofs.Histories.{nonce_in, nonce_size, derivation_in, derived_key, own_of_part, Newest, newest_is, legal_in}
+use Rattle.journal_safety.proofs.Histories.{nonce_in, nonce_size, derivation_in, derived_key, keyed_as, own_of_part, Newest, newest_is, legal_in}
 use Rattle.journal_safety.proofs.Accepted.{Taken, taken_accepted, taken_answered, keying_in, unwrapped_m3, awaited_m3, m4_derivation, request_role, m2_silent, unwrapped_g1, g1_above}
 use Rattle.journal_safety.proofs.Settled.{Settled, SettledBut, settled_quiet, but_of, but_more, settled_finished, Fine, fine_none, fine_cons, fine_quiet, fine_append, fine_opened, settled_given}
 use Rattle.journal_safety.proofs.SentLegal.{legal_m2, legal_m3, legal_m4, sta_nonce, ap_nonce, legal_m1, legal_g1, legal_g2}
 use Rattle.domain_rules.proofs.SentReads.{reads-counter}
 use Rattle.journal_safety.proofs.Ends.{tail_refl}
+use Rattle.journal_safety.proofs.RowsData.{data_fine}
 use Rattle.journal_safety.proofs.Sessions.{session_key, alone_in, single}
 use Rattle.journal_safety.proofs.Counts.{none_sent}
 use Rattle.journal_safety.proofs.FirstM3.{no_m3}
@@ -181,10 +182,6 @@ access_peer true b e f = refl
 access_peer false true e f = cc
 access_peer false false e f = cc
 
--- a key that is that of its inputs
-pub keyed_as : (x : Derivation) → x.ptk ≡ ptk x.inputs → x ≡ keyed_by x.inputs
-keyed_as x e = ap (λ (k : Ptk). record { inputs = x.inputs; ptk = k }) e
-
 is_access : (b : Bool) → false ≡ not b → b ≡ true
 is_access true e = refl
 is_access false e = cc
@@ -211,6 +208,7 @@ verified_now d n p h octets kd o i k there a = record {
   outcome = o;
   covered = 1 ∷ without_mic k.octets;
   took = inl refl;
+  form = refl;
   direction = ap ack a.covers.message ∙ a.taken.direction;
 }
 
@@ -302,6 +300,7 @@ m2_fine d first n h octets r facts g reads legal s row =
       outcome = Accepted;
       covered = 1 ∷ without_mic row.k.octets;
       took = inr (inl refl);
+      form = refl;
       direction = ap ack a.covers.message ∙ a.taken.direction;
     } in
     let own : own_nonce row.part ≡ Some (nonce_of n row.i) = w.drawn ∙ ap Some (sym (ap (nonce_of n) w.is ∙ inputs_own d n row.p w.v row.k.fields.nonce)) in
@@ -337,8 +336,16 @@ ready_of d n p h part x legal a e =
     let key : x.ptk ≡ ptk x.inputs = derived_key d n p x.inputs x.ptk h legal there in
     (key, record { awaited = a; there = subst (λ (k : Ptk). In (Derived p x.inputs k) h) key there; own = own_of_part d n p x h part legal a e })
 
-pairwise_now : (d : Domain) (n p : Node) (h : List Act) (i : Inputs) → Settled d n h → Verified n h p i → Alive n h p i → LegalPairwise n h p (ptk i).tk i
-pairwise_now d n p h i s v a = record { verified = v; alive = a; first = s.bare p a.part a.awaited; is = refl }
+pairwise_now : (d : Domain) (n p : Node) (h : List Act) (i : Inputs) → Settled d n h → Verified n h p i → Alive n h p i → session p h ≡ None → LegalPairwise n h p (ptk i).tk i
+pairwise_now d n p h i s v a none = record { verified = v; alive = a; first = s.bare p a.part a.awaited; is = refl; none = none }
+
+-- a station has no session with whom it has an attempt
+pub no_session : (d : Domain) (n p : Node) (h part : List Act) → is_ap n ≡ false → LegalHistory d n h → attempt p h ≡ Some part → session p h ≡ None
+no_session d n p h part station legal a = go (session p h) refl
+  where
+    go : (o : Option Derivation) → session p h ≡ o → session p h ≡ None
+    go None is = is
+    go (Some x) is = let none : attempt p h ≡ None = single d n p h x station legal is in absurd (cc (none, a))
 
 -- a message of this kind, with the group key in the key data of this plain text
 pub record Gift (n : Node) (k : KeyMessage) (m : Message) (i : Inputs) (plain : List ℕ) (e : ElementFields) : Type 0 where
@@ -356,6 +363,7 @@ gift_given d n p h more octets k m i plain e w gives_key a there took = record {
   covered = 1 ∷ without_mic k.octets;
   took = took;
   gives_key = gives_key;
+  form = refl;
   message_is = a.covers.message ∙ w.message;
   counter = reads-counter d.akm octets k a.has ∙ sym a.covers.counter;
   derived = there;
@@ -468,13 +476,14 @@ m3_core d n p h part octets k i plain e w a legal settled r last o is =
     let alive_end = alive_more n p (installs p i ∷ took ∷ h) i gift (it.opens_none p) (it.ends_none p) (alive_more n p (took ∷ h) i (installs p i) refl refl alive) in
     let role_p : is_ap p ≡ true = access_peer (is_ap p) (is_ap n) a.taken.roles w.role in
     fine_cons d n h took _ tt (
-    fine_cons d n (took ∷ h) (installs p i) _ (pairwise_now d n p (took ∷ h) i s v alive) (
+    fine_cons d n (took ∷ h) (installs p i) _ (pairwise_now d n p (took ∷ h) i s v alive (no_session d n p h part w.role legal r.awaited)) (
     fine_cons d n (installs p i ∷ took ∷ h) gift _ (legal_give d n p h part octets k i plain e w a r settled o is) (
     fine_cons d n (gift ∷ installs p i ∷ took ∷ h) (Finished p i) _
     (record {
       verified = verified_more n p (installs p i ∷ took ∷ h) gift i (verified_more n p (took ∷ h) (installs p i) i v);
       alive = alive_end;
       last = rw it.derives_none (derivation_of p h part (keyed_by i) r.awaited last);
+      installed = inr (inl refl);
       alone = λ station. it.leaves (installs p i ∷ took ∷ h) ∙ alone_in d n p h part station role_p legal r.awaited;
       gave = λ station key id b there.
           (let one : key ≡ (carried (Some e)).key = gave_by p h part gift (installs p i) took (carried (Some e)).key key id b it (settled.bare p part r.awaited) (since_part p h part r.awaited) refl refl (λ same_act. cc same_act) (λ same_act. cc same_act) there in
@@ -522,18 +531,18 @@ repeated_m3_fine d first n h octets r facts g reads legal s row =
     fine_quiet d n _ (sent_m4 d n row.p (keyed_by row.y.key.inputs) row.k.fields.counter) [] (legal_m4 d n row.p _ row.y.key.inputs row.k.fields.counter role (inr derived)) refl t (fine_none d n _))))
 
 -- from the Installed on, at an access point
-install_end : (d : Domain) (n p : Node) (h : List Act) (i : Inputs) → is_ap n ≡ true → Settled d n h → Verified n h p i → Alive n h p i → derivation p h ≡ Some (keyed_by i) → Fine d n h (installs p i ∷ Finished p i ∷ [])
-install_end d n p h i role s v a last =
-    fine_cons d n h (installs p i) (Finished p i ∷ []) (pairwise_now d n p h i s v a)
+install_end : (d : Domain) (n p : Node) (h : List Act) (i : Inputs) → is_ap n ≡ true → Settled d n h → Verified n h p i → Alive n h p i → session p h ≡ None → derivation p h ≡ Some (keyed_by i) → Fine d n h (installs p i ∷ Finished p i ∷ [])
+install_end d n p h i role s v a none last =
+    fine_cons d n h (installs p i) (Finished p i ∷ []) (pairwise_now d n p h i s v a none)
     (fine_cons d n (installs p i ∷ h) (Finished p i) []
-    (record { verified = verified_more n p h (installs p i) i v; alive = alive_more n p h i (installs p i) refl refl a; last = last; alone = not_station n role; gave = λ station. not_station n role station })
+    (record { verified = verified_more n p h (installs p i) i v; alive = alive_more n p h i (installs p i) refl refl a; last = last; installed = inl refl; alone = not_station n role; gave = λ station. not_station n role station })
     (fine_none d n (Finished p i ∷ installs p i ∷ h) (settled_finished d n p i (installs p i ∷ h) (but_more d n p (installs p i) h (λ q apart. apart) (λ q. refl) (refl, refl) (but_of d n p h s)))))
 
-m4_core : (d : Domain) (n p : Node) (h : List Act) (i : Inputs) → is_ap n ≡ true → Settled d n h → Verified n h p i → Alive n h p i → derivation p h ≡ Some (keyed_by i) → (o : Option Derivation) → Fine d n h (close_session p o ++ installs p i ∷ Finished p i ∷ [])
-m4_core d n p h i role s v a last None = install_end d n p h i role s v a last
-m4_core d n p h i role s v a last (Some x) =
+m4_core : (d : Domain) (n p : Node) (h : List Act) (i : Inputs) → is_ap n ≡ true → Settled d n h → Verified n h p i → Alive n h p i → derivation p h ≡ Some (keyed_by i) → (o : Option Derivation) → session p h ≡ o → Fine d n h (close_session p o ++ installs p i ∷ Finished p i ∷ [])
+m4_core d n p h i role s v a last None is = install_end d n p h i role s v a is last
+m4_core d n p h i role s v a last (Some x) is =
     fine_quiet d n h (Closed p Session) (installs p i ∷ Finished p i ∷ []) (not_station n role) refl s (λ t.
-    install_end d n p (Closed p Session ∷ h) i role t (verified_more n p h (Closed p Session) i v) (alive_more n p h i (Closed p Session) refl refl a) last)
+    install_end d n p (Closed p Session ∷ h) i role t (verified_more n p h (Closed p Session) i v) (alive_more n p h i (Closed p Session) refl refl a) (rw (same-refl p) refl) last)
 
 -- a chain of legal acts leads to a history of such
 pub legal_add : (d : Domain) (n : Node) (h g : List Act) → LegalHistory d n h → Chain d n h g → LegalHistory d n (add g h)
@@ -572,7 +581,7 @@ m4_fine d first n h octets r facts g reads legal s row =
     let took : Act = takes row.p octets M4 Accepted i row.k in
     let v = verified_now d n row.p h octets (kind.Key M4) Accepted i row.k ready.1.there a in
     let alive = alive_took n row.p h row.part i (Some row.p) octets (kind.Key M4) Accepted (Some (frame_seal (ptk i).kck row.k.octets)) row.awaited ready.1.own in
-    let core : Fine d n h (m4_acts octets row.k row.p (keyed_by i) (session row.p h)) = fine_quiet d n h took _ tt refl s (λ t. m4_core d n row.p (took ∷ h) i role t v alive (last ∙ ap Some same) (session row.p h)) in
+    let core : Fine d n h (m4_acts octets row.k row.p (keyed_by i) (session row.p h)) = fine_quiet d n h took _ tt refl s (λ t. m4_core d n row.p (took ∷ h) i role t v alive (last ∙ ap Some same) (session row.p h) refl) in
     let mine : Fine d n h (m4_acts octets row.k row.p row.x (session row.p h)) = subst (λ (x : Derivation). Fine d n h (m4_acts octets row.k row.p x (session row.p h))) (sym same) core in
     let begun = begun_session row.p h octets row.k row.x (session row.p h) last in
     let few : sent_count row.p G1 (handshake groups.Gtk row.p (add (m4_acts octets row.k row.p row.x (session row.p h)) h)) < most_sends = (let none = begun.1 in omega (arith, none)) in
@@ -660,5 +669,6 @@ take_fine d first n h octets r facts g reads knows legal s (By_repeated_m3 row) 
 take_fine d first n h octets r facts g reads knows legal s (By_m4 row) = m4_fine d first n h octets r facts g reads legal s row
 take_fine d first n h octets r facts g reads knows legal s (By_row_g1 row) = g1_fine d first n h octets r facts g reads knows legal s row
 take_fine d first n h octets r facts g reads knows legal s (By_row_g2 row) = g2_fine d first n h octets r facts g s row
+take_fine d first n h octets r facts g reads knows legal s (By_data row) = data_fine d first n h octets r facts g reads knows legal s row
 take_fine d first n h octets r facts g reads knows legal s (By_ignored row) = ignored_fine d first n h octets r facts g s row
 take_fine d first n h octets r facts g reads knows legal s (By_refusal row) = refused_fine d first n h octets r facts g s row

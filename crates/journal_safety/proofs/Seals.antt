@@ -3,7 +3,8 @@ use Rattle.std.proofs.Common.{ℕ, ◌≡◌, ◌<◌, inl, inr, true, false, no
 use Rattle.domain_base.specs.declared.names.Mac.{Mac}
 use Rattle.domain_base.specs.declared.names.Node.{Node}
 use Rattle.domain_base.specs.declared.names.Node.TheVariants.{Ap, Sta}
-use Rattle.domain_base.specs.declared.names.Peer.TheVariants.{One, All}
+use Rattle.domain_base.specs.declared.names.Peer.{Peer}
+use Rattle.domain_base.specs.declared.names.Peer.TheVariants.{One}
 use Rattle.key_hierarchy.specs.Keys.{ptk}
 use Rattle.key_hierarchy.specs.declared.inputs.Inputs.{Inputs}
 use Rattle.run_journal.specs.declared.domain.Domain.{Domain}
@@ -18,9 +19,10 @@ use Rattle.run_journal.specs.Questions.{history}
 use Rattle.run_journal.specs.Premises.{In, IsBefore, Fresh, name, seal_taken, seal_sent, SentBefore}
 use Rattle.domain_rules.specs.Network.{is_ap, IsNamed}
 use Rattle.journal_safety.proofs.Covers.{covered_message}
+use Rattle.journal_safety.proofs.CoversData.{covered_form}
 use Rattle.journal_safety.proofs.Ends.{Tail, tail_rest, tail_trans, place}
 use Rattle.journal_safety.proofs.Names.{one_address, Crossed, IsSameName, same_name}
-use Rattle.journal_safety.proofs.Legal.{goes_down, derives, Carries, AreCommon, LegalSeal, LegalSealed, seal_under, Verified, Legal}
+use Rattle.journal_safety.proofs.Legal.{goes_down, derives, Carries, AreCommon, LegalSeal, LegalSealing, With_mic, With_ccm, LegalSealed, seal_under, Verified, Legal}
 use Rattle.journal_safety.proofs.Runs.{Until, LegalJournal}
 use Rattle.journal_safety.proofs.Places.{Good, good_tail, At, at_of, not_itself, apart_draws, Draws, DerivedAt, derived_at, derived_wider, has_derived}
 
@@ -76,7 +78,7 @@ match_sta d x y p q i k past names f a b s = go s.addresses s.nonces
       inputs = common_path d i k a.common b.common addresses.0 addresses.1 nonces.0 nonces.1;
     }
 
-match_names : (d : Domain) (n m p q : Node) (i k : Inputs) (past : List Entry) → IsNamed d → Fresh past → is_ap m ≡ not (is_ap n) → DerivedAt d n p i past → DerivedAt d m q k past → IsSameName i k → Match n p m q i k
+pub match_names : (d : Domain) (n m p q : Node) (i k : Inputs) (past : List Entry) → IsNamed d → Fresh past → is_ap m ≡ not (is_ap n) → DerivedAt d n p i past → DerivedAt d m q k past → IsSameName i k → Match n p m q i k
 match_names d (Ap x) (Sta y) p q i k past names f roles a b s = match_ap d x y p q i k past names f a b s
 match_names d (Sta x) (Ap y) p q i k past names f roles a b s = match_sta d x y p q i k past names f a b s
 match_names d (Ap x) (Ap y) p q i k past names f roles a b s = cc
@@ -128,7 +130,7 @@ same_inputs d (Sta x) p q r i k past names f a b c s = same_sta d x p q r i k pa
 
 -- ---- a Sent with its seal
 
-other_round : (n : Node) (m l : Entry) → IsBefore m l → l.node ≡ n → is_ap m.node ≡ not (is_ap n) → m.round < l.round
+pub other_round : (n : Node) (m l : Entry) → IsBefore m l → l.node ≡ n → is_ap m.node ≡ not (is_ap n) → m.round < l.round
 other_round n m l (inl lower) at roles = lower
 other_round n m l (inr one) at roles = absurd (not_itself (is_ap n) (ap is_ap (sym at ∙ sym one) ∙ roles))
 
@@ -139,10 +141,25 @@ pub record KeySeal (d : Domain) (n : Node) (h : List Act) (e : Act) (s : Seal) :
   pub is : e ≡ Sent (One peer) kind octets (Some s)
   pub seal : LegalSeal d n h peer kind s
 
-seal_facts : (d : Domain) (n : Node) (h : List Act) (e : Act) (s : Seal) → Legal d n h e → seal_sent e ≡ Some s → KeySeal d n h e s
-seal_facts d n h (Sent (One p) k octets o) s l w = record { peer = p; kind = k; octets = octets; is = ap (λ (x : Option Seal). Sent (One p) k octets x) w; seal = subst (λ (x : Option Seal). LegalSealed d n h (One p) k x) w l.0 }
-seal_facts d n h (Sent All k octets o) s l w = absurd (subst (λ (x : Option Seal). LegalSealed d n h All k x) w l.0)
-seal_facts d n h _ s l w = cc
+-- a seal that is sent
+pub record SealSent (d : Domain) (n : Node) (h : List Act) (e : Act) (s : Seal) : Type 0 where
+  pub peer : Peer
+  pub kind : Kind
+  pub octets : List ℕ
+  pub is : e ≡ Sent peer kind octets (Some s)
+  pub sealing : LegalSealing d n h peer kind s
+
+pub seal_there : (d : Domain) (n : Node) (h : List Act) (e : Act) (s : Seal) → Legal d n h e → seal_sent e ≡ Some s → SealSent d n h e s
+seal_there d n h (Sent q k octets o) s l w = record { peer = q; kind = k; octets = octets; is = ap (λ (x : Option Seal). Sent q k octets x) w; sealing = subst (λ (x : Option Seal). LegalSealed d n h q k x) w l.0 }
+seal_there d n h _ s l w = cc
+
+-- with the form of a MIC
+seal_by : (d : Domain) (n : Node) (h : List Act) (e : Act) (s : Seal) (q : Peer) (k : Kind) (octets : List ℕ) → e ≡ Sent q k octets (Some s) → covered_form s.octets ≡ 1 → LegalSealing d n h q k s → KeySeal d n h e s
+seal_by d n h e s q k octets is form (With_mic p one own seal) = record { peer = p; kind = k; octets = octets; is = is ∙ ap (λ (x : Peer). Sent x k octets (Some s)) one; seal = seal }
+seal_by d n h e s q k octets is form (With_ccm data_) = let other : covered_form s.octets ≡ 3 = data_.form in absurd (cc (form, other))
+
+seal_facts : (d : Domain) (n : Node) (h : List Act) (e : Act) (s : Seal) → covered_form s.octets ≡ 1 → Legal d n h e → seal_sent e ≡ Some s → KeySeal d n h e s
+seal_facts d n h e s form l w = let x = seal_there d n h e s l w in seal_by d n h e s x.peer x.kind x.octets x.is form x.sealing
 
 -- Of octets of the other side that verified under inputs of the node's own: the peer sealed them, in a lower round, and had
 -- derived from the same inputs.
@@ -165,8 +182,8 @@ pub record SealedBy (d : Domain) (n p : Node) (i : Inputs) (covered : List ℕ) 
   pub carries : Carries d p (history p earlier) n i covered (covered_message covered)
 
 pub sealed_by : (d : Domain) (n p : Node) (i : Inputs) (from : Option Node) (octets : List ℕ) (kd : Kind) (o : Outcome) (covered : List ℕ) (past : List Entry) → Good d past → In (derives p i) (history n past)
-    → In (Took from octets kd o (Some (seal_under i covered))) (history n past) → goes_down covered ≡ not (is_ap n) → SealedBy d n p i covered past
-sealed_by d n p i from octets kd o covered past g derived took direction =
+    → In (Took from octets kd o (Some (seal_under i covered))) (history n past) → covered_form covered ≡ 1 → goes_down covered ≡ not (is_ap n) → SealedBy d n p i covered past
+sealed_by d n p i from octets kd o covered past g derived took form direction =
     record {
       taken = w.entry;
       before = w.earlier;
@@ -210,7 +227,7 @@ sealed_by d n p i from octets kd o covered past g derived took direction =
     legal_z = (good_tail d (sent.entry ∷ z.0) past z_tail g).legal
 
     ks : KeySeal d sent.entry.node (history sent.entry.node z.0) sent.entry.act (seal_under i covered)
-    ks = seal_facts d sent.entry.node (history sent.entry.node z.0) sent.entry.act (seal_under i covered) legal_z.0 sent.is
+    ks = seal_facts d sent.entry.node (history sent.entry.node z.0) sent.entry.act (seal_under i covered) form legal_z.0 sent.is
 
     theirs : DerivedAt d sent.entry.node ks.peer ks.seal.i z.0
     theirs = derived_at d sent.entry.node ks.peer ks.seal.i z.0 legal_z.2 ks.seal.there
@@ -229,7 +246,7 @@ sealed_by d n p i from octets kd o covered past g derived took direction =
     one = match_names d n sent.entry.node p ks.peer i ks.seal.i past g.names g.fresh roles own theirs_wide same
 
 pub verified_by : (d : Domain) (n p : Node) (i : Inputs) (past : List Entry) → Good d past → (v : Verified n (history n past) p i) → SealedBy d n p i v.covered past
-verified_by d n p i past g v = sealed_by d n p i v.from v.octets v.kind v.outcome v.covered past g v.derived v.took v.direction
+verified_by d n p i past g v = sealed_by d n p i v.from v.octets v.kind v.outcome v.covered past g v.derived v.took v.form v.direction
 
 pub sealed_tail : (d : Domain) (n p : Node) (i : Inputs) (covered : List ℕ) (past : List Entry) → (s : SealedBy d n p i covered past) → Tail s.earlier past
 sealed_tail d n p i covered past s = tail_trans s.earlier s.before past (tail_rest s.sent s.earlier s.before s.sent_tail) (tail_rest s.taken s.before past s.taken_tail)

@@ -2,6 +2,7 @@
 use Rattle.std.proofs.Common.{ℕ, ◌≡◌, ◌<◌, true, false, List, [], ◌∷◌, length, replicate, Some, None, refl, sym, ap, ◌∙◌, subst, arith}
 use Rattle.domain_base.specs.declared.names.Node.{Node}
 use Rattle.domain_base.specs.declared.names.Node.TheVariants.{Ap, Sta}
+use Rattle.domain_base.specs.declared.names.Peer.TheVariants.{One}
 use Rattle.rsn_elements.specs.Sent.{rsne_octets}
 use Rattle.mac_prf.specs.Mic.{without_mic}
 use Rattle.eapol_key.specs.declared.messages.Message.{Message}
@@ -23,20 +24,20 @@ use Rattle.domain_rules.proofs.CarriedKey.{IsGroupKey, few_wrapped, few_wrapped_
 use Rattle.domain_rules.proofs.KeyOctets.{octets-kek}
 use Rattle.run_journal.specs.GroupKinds as groups
 use Rattle.journal_safety.proofs.Covers.{Covers, sealed_covers, sent_counter, sent_counter_low}
-use Rattle.journal_safety.proofs.Legal.{ack, nonce_of, derives, IsNewest, Built, Carries, LegalSeal, SendsM3, Legal, LegalHistory}
+use Rattle.journal_safety.proofs.Legal.{ack, nonce_of, derives, IsNewest, Built, Carries, LegalSealing, With_mic, SendsM3, Legal, LegalHistory}
 use Rattle.journal_safety.proofs.Sessions.{session_key}
 use Rattle.journal_safety.proofs.Counts.{next_fits}
 
 seal_of : (d : Domain) (n p : Node) (h : List Act) (i : Inputs) (m : Message) (frame : List ℕ) (f : KeyFields) → In (derives p i) h → Covers (1 ∷ without_mic frame) m f → ack m ≡ is_ap n → Carries d n h p i (1 ∷ without_mic frame) m
-    → LegalSeal d n h p (kind.Key m) (frame_seal (ptk i).kck frame)
-seal_of d n p h i m frame f there covers direction carries = record {
+    → LegalSealing d n h (One p) (kind.Key m) (frame_seal (ptk i).kck frame)
+seal_of d n p h i m frame f there covers direction carries = With_mic p refl refl (record {
   i = i;
   there = there;
   is = refl;
   direction = ap ack covers.message ∙ direction;
   kind_is = ap (λ (x : Message). kind.Key x) (sym covers.message);
   carries = subst (λ (x : Message). Carries d n h p i (1 ∷ without_mic frame) x) (sym covers.message) carries;
-}
+})
 
 pub legal_m1 : (d : Domain) (n p : Node) (h : List Act) (counter : ℕ) (nonce : List ℕ) → sent_count p M1 (since p h) < most_sends → Legal d n h (sent_m1 d n p counter nonce)
 legal_m1 d n p h counter nonce few = (tt, few)

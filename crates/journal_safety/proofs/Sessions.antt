@@ -3,7 +3,6 @@ use Rattle.std.proofs.Common.{ℕ, ◌≡◌, ◌⊎◌, inl, inr, Bool, true, f
 use Rattle.domain_base.specs.declared.names.Mac.{Mac}
 use Rattle.domain_base.specs.declared.names.Node.{Node}
 use Rattle.domain_base.specs.declared.names.Node.TheVariants.{Ap, Sta}
-use Rattle.domain_base.specs.declared.names.Peer.{Peer}
 use Rattle.domain_base.specs.declared.names.Peer.TheVariants.{One, All}
 use Rattle.eapol_key.specs.declared.messages.Message.{Message}
 use Rattle.eapol_key.specs.declared.messages.Message.TheVariants.{M1, M2, M3, M4, G1, G2}
@@ -11,15 +10,13 @@ use Rattle.key_hierarchy.specs.Keys.{ptk}
 use Rattle.key_hierarchy.specs.declared.inputs.Inputs.{Inputs}
 use Rattle.key_hierarchy.specs.declared.inputs.Ptk.{Ptk}
 use Rattle.run_journal.specs.declared.domain.Domain.{Domain}
-use Rattle.run_journal.specs.declared.acts.Start.{Start}
-use Rattle.run_journal.specs.declared.acts.Part.TheVariants.{Attempt, Session}
+use Rattle.run_journal.specs.declared.acts.Part.TheVariants.{Session}
 use Rattle.run_journal.specs.declared.acts.Kind.{Kind}
 use Rattle.run_journal.specs.declared.acts.Kind.TheVariants as kind
-use Rattle.run_journal.specs.declared.acts.Seal.{Seal}
 use Rattle.run_journal.specs.declared.acts.Key.TheVariants.{Group}
 use Rattle.run_journal.specs.declared.acts.Act.{Act}
-use Rattle.run_journal.specs.declared.acts.Act.TheVariants.{Opened, Closed, Derived, Sent, Took, Installed, Finished}
-use Rattle.run_journal.specs.Acts.{same, same_kind, is_one, opens, ends, finishes, closes, sent, Derivation}
+use Rattle.run_journal.specs.declared.acts.Act.TheVariants.{Closed, Derived, Sent, Installed, Finished}
+use Rattle.run_journal.specs.Acts.{same, same_kind, opens, ends, finishes, closes, sent, Derivation}
 use Rattle.run_journal.specs.Questions.{attempt, since, own_nonce, derivation, session, associated}
 use Rattle.run_journal.specs.Premises.{In}
 use Rattle.domain_rules.specs.Network.{is_ap}
@@ -183,6 +180,7 @@ given_more n p h e i g o v = record {
   covered = v.covered;
   took = rw o (inr v.took);
   gives_key = v.gives_key;
+  form = v.form;
   message_is = v.message_is;
   counter = v.counter;
   derived = inr v.derived;

@@ -27,8 +27,8 @@ pub fn joins()
 
 /// No node installs a key twice.
 pub fn installs_once()
-    ensures { (d : Domain) (rounds : List (List Event)) (j : List Entry)
-        → IsNamed d → Explained d rounds j → Fresh j → NoCollision j → Unforged j → InstalledOnce j }
+    ensures { (d : Domain) (rounds : List (List Event)) (j : List Entry) → IsNamed d
+        → Explained d rounds j → Fresh j → NoCollision j → Unforged j → InstalledOnce j }
 {}
 
 /// The group keys that a station takes from one access point never go back in the order of drawing, over all its associations and

@@ -37,12 +37,17 @@ r1_context r1kh sta = r1kh.0 ++ sta.0
 unfoldable pub pmk_r1_name : List ℕ → Mac → Mac → List ℕ
 pmk_r1_name r0_name r1kh sta = take 16 (sha256 (codes "FT-R1N" ++ r0_name ++ r1_context r1kh sta))
 
--- PMK-R1 = KDF-Hash-256(PMK-R0, "FT-R1", context), with its name (IEEE Std 802.11-2020, 12.7.1.6.4)
-unfoldable pub pmk_r1 : PmkR0 → Mac → Mac → PmkR1
-pmk_r1 r0 r1kh sta = record {
-  key = kdf r0.key (codes "FT-R1") (r1_context r1kh sta) 32;
-  name = pmk_r1_name (pmk_r0_name r0) r1kh sta;
+-- PMK-R1 = KDF-Hash-256(PMK-R0, "FT-R1", context), with its name, by PMK-R0 and PMKR0Name
+-- (IEEE Std 802.11-2020, 12.7.1.6.4)
+abbrev pub pmk_r1_of : List ℕ → List ℕ → Mac → Mac → PmkR1
+pmk_r1_of key r0_name r1kh sta = record {
+  key = kdf key (codes "FT-R1") (r1_context r1kh sta) 32;
+  name = pmk_r1_name r0_name r1kh sta;
 }
+
+-- the PMK-R1 of the first level of the hierarchy
+unfoldable pub pmk_r1 : PmkR0 → Mac → Mac → PmkR1
+pmk_r1 r0 r1kh sta = pmk_r1_of r0.key (pmk_r0_name r0) r1kh sta
 
 -- SNonce || ANonce || BSSID || STA-ADDR (IEEE Std 802.11-2020, 12.7.1.6.5)
 abbrev pub ft_context : List ℕ → List ℕ → Mac → Mac → List ℕ

@@ -7,6 +7,7 @@ ghost use Rattle.key_hierarchy.specs.FastTransition.{
   pmk_r0_name,
   r1_context,
   pmk_r1,
+  pmk_r1_of,
   pmk_r1_name,
   ft_context,
   ft_ptk,
@@ -103,10 +104,7 @@ impl PmkR0 {
         ensures r1 { result ≡ pmk_r1 self.now r1kh sta }
         ensures name { result.name ≡ pmk_r1_name (pmk_r0_name self.now) r1kh sta }
     {
-        let mut key = [0; 32];
-        kdf(&self.key, b"FT-R1", &r1_context(r1kh, sta), &mut key);
-        let name = r1_name(&self.name(), r1kh, sta);
-        PmkR1 { key, name }
+        PmkR1::of(&self.key, &self.name(), r1kh, sta)
     }
 }
 
@@ -132,6 +130,17 @@ fn r1_name(r0_name: &[u8; 16], r1kh: Mac, sta: Mac) -> [u8; 16]
 }
 
 impl PmkR1 {
+    /// The PMK-R1 that a PMK-R0, by its octets and its name, makes for an R1 key holder and the station
+    /// (IEEE Std 802.11-2020, 12.7.1.6.4). Takes no memory.
+    pub fn of(pmk_r0: &[u8; 32], pmk_r0_name: &[u8; 16], r1kh: Mac, sta: Mac) -> PmkR1
+        ensures { result ≡ pmk_r1_of pmk_r0.now pmk_r0_name.now r1kh sta }
+    {
+        let mut key = [0; 32];
+        kdf(pmk_r0, b"FT-R1", &r1_context(r1kh, sta), &mut key);
+        let name = r1_name(pmk_r0_name, r1kh, sta);
+        PmkR1 { key, name }
+    }
+
     /// PMKR1Name (IEEE Std 802.11-2020, 12.7.1.6.4).
     pub fn name(&self) -> [u8; 16]
         ensures { result ≡ self.now.name }

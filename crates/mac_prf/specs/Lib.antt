@@ -5,3 +5,4 @@ pub mod HoldsBlocks
 pub mod Prf
 pub mod Pbkdf2
 pub mod Mic
+pub mod FteMic

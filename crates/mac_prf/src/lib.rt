@@ -1,5 +1,5 @@
-//! Keyed digests and what is made with them: HMAC, CMAC, the two functions that expand a key, PBKDF2
-//! and the MIC of EAPOL-Key frames.
+//! Keyed digests and what is made with them: HMAC, CMAC, the two functions that expand a key, PBKDF2,
+//! and the MICs of EAPOL-Key frames and of fast transition.
 #![tactic(auto)]
 
 mod block_hash;
@@ -9,9 +9,11 @@ mod expansion;
 mod hmac;
 mod integrity;
 mod passphrase;
+mod reassociation;
 
 pub use chaining::cmac;
 pub use expansion::{kdf, prf};
 pub use hmac::{hmac_sha1, hmac_sha256};
 pub use integrity::mic;
 pub use passphrase::pbkdf2;
+pub use reassociation::{FteCovered, Reassociation, fte_mic, verify_fte_mic};

@@ -1,13 +1,14 @@
 -- Events at nodes, and what one step of a node does (this project's choice).
-use Rattle.std.specs.Prelude.{◌≡◌, ℕ, ◌<◌, List, ◌++◌, length}
+use Rattle.std.specs.Prelude.{◌≡◌, ℕ, ◌<◌, ◌≤◌, List, ◌++◌, length}
 use Rattle.domain_base.specs.declared.names.Node.{Node}
 use Rattle.domain_base.specs.declared.names.Node.TheVariants.{Ap, Sta}
 use Rattle.run_journal.specs.declared.domain.Domain.{Domain}
 use Rattle.run_journal.specs.declared.acts.Act.{Act}
 use Rattle.run_journal.specs.declared.acts.Outcome.{Outcome}
 use Rattle.run_journal.specs.Questions.{add}
-use Rattle.domain_rules.specs.Rows.{NodeEvent as AnyEvent, Take, Begin, Retry, Rekey, Expire, Leave, Adds, outcome_of}
+use Rattle.domain_rules.specs.Rows.{NodeEvent as AnyEvent, Take, Begin, Retry, Rekey, Send, Expire, Leave, Adds, outcome_of}
 use Rattle.domain_rules.specs.Here.{Here}
+use Rattle.node_base.specs.Peers.{IsReceiverOf, most_payload}
 use Rattle.node_base.specs.declared.event.NodeEvent.{NodeEvent}
 use Rattle.node_base.specs.declared.event.NodeEvent.TheVariants as event
 
@@ -16,11 +17,12 @@ event_of (event.Take octets) = Take octets.now
 event_of (event.Connect a) = Begin a
 event_of (event.Retry s) = Retry s
 event_of event.Rekey = Rekey
+event_of (event.Send q tid octets) = Send q tid octets.now
 event_of (event.Expire s) = Expire s
 event_of event.Leave = Leave
 
--- the other node is listed; stations begin attempts and leave, and access points send once more, draw new group keys and drop
--- what they have with a station
+-- the other node is listed; stations begin attempts and leave, access points send once more, draw new group keys and drop what they
+-- have with a station, and both send payloads of at most that many octets
 abbrev pub IsEventAt : Domain → Node → AnyEvent → Type 0
 IsEventAt d n (Take octets) = Unit {0}
 IsEventAt d (Ap k) (Begin a) = ⊥
@@ -29,6 +31,7 @@ IsEventAt d (Ap k) (Retry s) = s < length d.stas
 IsEventAt d (Sta k) (Retry s) = ⊥
 IsEventAt d (Ap k) Rekey = Unit {0}
 IsEventAt d (Sta k) Rekey = ⊥
+IsEventAt d n (Send q tid octets) = IsReceiverOf d n q × (length octets ≤ most_payload)
 IsEventAt d (Ap k) (Expire s) = s < length d.stas
 IsEventAt d (Sta k) (Expire s) = ⊥
 IsEventAt d (Ap k) Leave = ⊥

@@ -1,5 +1,7 @@
 //! What an event is to one node.
 
+use domain_base::{Peer, Tid};
+
 /// An event at a node. Numbers are those of the other node, from 0.
 #[derive(Clone, Copy)]
 pub enum NodeEvent<'a> {
@@ -11,6 +13,8 @@ pub enum NodeEvent<'a> {
     Retry(u16),
     /// An access point draws a new group key and gives it to each session.
     Rekey,
+    /// A node sends that payload to its peer, or an access point to all, as QoS data where there is a TID.
+    Send(Peer, Option<Tid>, &'a [u8]),
     /// An access point drops what it has with that station.
     Expire(u16),
     /// A station drops what it has.

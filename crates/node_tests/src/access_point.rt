@@ -5,16 +5,17 @@ ghost use Rattle.domain_base.specs.declared.names.Akm.{Akm as AnyAkm};
 ghost use Rattle.domain_rules.specs.Network.{InForm, draw_end};
 
 mod handshakes;
+mod protected;
 mod rekeys;
 mod requests;
 
 use crate::acts::Expected::{Drew, Group};
-use crate::acts::{Event, Expected, Step, come, come_of, is_outcome};
+use crate::acts::{Event, Expected, Step, come, come_of, is_outcome, tid_of};
 use crate::network::network;
 use crate::vectors::GTK;
 use act_memory::Outbox;
 use ap_node::ApNode;
-use domain_base::{Akm, Peer};
+use domain_base::{Akm, Node, Peer};
 use node_base::NodeEvent;
 use run_journal::{Domain, Drawn, Outcome};
 use std::alloc::Global;
@@ -40,10 +41,17 @@ fn steps(alloc: Global, domain: &Domain, node: &mut ApNode, out: &mut Outbox, st
 {
     let event = match step.event {
         Event::Take(octets) => NodeEvent::Take(octets),
+        Event::TakeData(data) => NodeEvent::Take(data.octets),
         Event::Retry(station) => NodeEvent::Retry(station % 2),
         Event::Rekey => NodeEvent::Rekey,
+        Event::Send(station, tid, payload) if payload.len() <= 2304 => {
+            NodeEvent::Send(Peer::One(Node::Sta(station % 2)), tid_of(tid), payload)
+        }
+        Event::SendAll(tid, payload) if payload.len() <= 2304 => {
+            NodeEvent::Send(Peer::All, tid_of(tid), payload)
+        }
         Event::Expire(station) => NodeEvent::Expire(station % 2),
-        Event::Connect(_) | Event::Leave => return false,
+        _ => return false,
     };
     is_outcome(node.step(alloc, domain, event, out), step.outcome) && come_of(out, step)
 }
@@ -146,6 +154,26 @@ fn m4_finishes_a_handshake_of_suite_6(rt: HostRuntime) {
 #[test]
 fn stations_are_kept_apart(rt: HostRuntime) {
     try_steps(&rt, rt.alloc(), Akm::Psk, 0, START, handshakes::STATIONS);
+}
+
+#[test]
+fn data_goes_under_the_keys_in_use(rt: HostRuntime) {
+    try_steps(&rt, rt.alloc(), Akm::Psk, 0, START, protected::DATA);
+}
+
+#[test]
+fn data_of_a_station_is_taken_once(rt: HostRuntime) {
+    try_steps(&rt, rt.alloc(), Akm::Psk, 0, START, protected::TAKEN);
+}
+
+#[test]
+fn next_handshake_brings_a_new_key(rt: HostRuntime) {
+    try_steps(&rt, rt.alloc(), Akm::Psk, 0, START, protected::NEXT_KEY);
+}
+
+#[test]
+fn key_goes_with_the_session(rt: HostRuntime) {
+    try_steps(&rt, rt.alloc(), Akm::Psk, 0, START, protected::GIVEN_UP);
 }
 
 #[test]

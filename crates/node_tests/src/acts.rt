@@ -1,9 +1,10 @@
 //! The steps of a scenario, and whether the acts of a node are those of its step.
 
 use crate::air_frames::Keys;
+use crate::protected_frames::Data;
 use crate::vectors::A1_ADDRESS;
 use act_memory::Outbox;
-use domain_base::{NoMemory, Node, Peer};
+use domain_base::{NoMemory, Node, Peer, Tid};
 use eapol_key::Message;
 use key_hierarchy::{Ptk, SharedInputs};
 use run_journal::{Act, BoxedSeal, Drawn, Key, Kind, Outcome, Part, Start, Why};
@@ -13,8 +14,13 @@ use run_journal::{Act, BoxedSeal, Drawn, Key, Kind, Outcome, Part, Start, Why};
 pub enum Event {
     Connect(u16),
     Take(&'static [u8]),
+    /// The octets of that frame.
+    TakeData(&'static Data),
     Retry(u16),
     Rekey,
+    /// A payload to a node, with a TID or without.
+    Send(u16, Option<u8>, &'static [u8]),
+    SendAll(Option<u8>, &'static [u8]),
     Expire(u16),
     Leave,
 }
@@ -39,6 +45,11 @@ pub enum Expected {
     Group(Peer, [u8; 16], u8),
     /// The same.
     Resumed(Node, [u8; 16], u8),
+    Used(Peer, &'static Data),
+    SentData(Peer, &'static Data),
+    /// It was opened.
+    TookData(Node, &'static Data),
+    HandedUp(Node, &'static Data),
     Finished(Node, &'static Keys),
     GaveUp(Node, Message),
     Idle(Why),
@@ -69,6 +80,17 @@ fn is_sealed(seal: &Option<BoxedSeal>, frame: &[u8], keys: &Keys) -> bool {
         Some(seal) => {
             let seal = seal.seal();
             seal.key == keys.ptk.kck && is_covered(seal.octets.as_slice(), frame)
+        }
+        None => false,
+    }
+}
+
+// It covers what it is to cover, under the key.
+fn is_data_seal(seal: &Option<BoxedSeal>, data: &Data) -> bool {
+    match seal {
+        Some(seal) => {
+            let seal = seal.seal();
+            seal.key == data.key && seal.octets.as_slice() == data.sealed
         }
         None => false,
     }
@@ -163,6 +185,82 @@ fn is_taken(
     }
 }
 
+fn is_used(act: &Act, with: Peer, data: &Data) -> bool {
+    match act {
+        Act::Used {
+            peer,
+            key,
+            id,
+            number,
+            octets,
+        } => {
+            *peer == with
+                && *key == data.key
+                && *id == data.id
+                && *number == data.number
+                && octets.as_slice() == data.payload
+        }
+        _ => false,
+    }
+}
+
+fn is_sent_data(act: &Act, to: Peer, data: &Data) -> bool {
+    match act {
+        Act::Sent {
+            peer,
+            kind,
+            octets,
+            seal,
+        } => {
+            *peer == to
+                && *kind == Kind::Data
+                && octets.as_slice() == data.octets
+                && is_data_seal(seal, data)
+        }
+        _ => false,
+    }
+}
+
+fn is_data_taken(act: &Act, node: Node, data: &Data, told: Outcome) -> bool {
+    match act {
+        Act::Took {
+            from,
+            octets,
+            kind,
+            outcome,
+            seal,
+        } => {
+            *from == Some(node)
+                && *kind == Kind::Data
+                && *outcome == told
+                && octets.as_slice() == data.octets
+                && is_data_seal(seal, data)
+        }
+        _ => false,
+    }
+}
+
+fn is_handed_up(act: &Act, node: Node, data: &Data) -> bool {
+    match act {
+        Act::HandedUp {
+            peer,
+            key,
+            id,
+            tid,
+            number,
+            octets,
+        } => {
+            *peer == node
+                && *key == data.key
+                && *id == data.id
+                && tid.number() == data.tid
+                && *number == data.number
+                && octets.as_slice() == data.payload
+        }
+        _ => false,
+    }
+}
+
 fn is_pairwise(act: &Act, node: Node, keys: &Keys) -> bool {
     match act {
         Act::Installed {
@@ -233,6 +331,10 @@ fn is(act: &Act, expected: Expected, came: &[u8], told: Outcome) -> bool {
         Expected::Pairwise(node, keys) => is_pairwise(act, node, keys),
         Expected::Group(peer, gtk, id) => is_group(act, peer, gtk, id),
         Expected::Resumed(node, gtk, id) => is_resumed(act, node, gtk, id),
+        Expected::Used(peer, data) => is_used(act, peer, data),
+        Expected::SentData(peer, data) => is_sent_data(act, peer, data),
+        Expected::TookData(node, data) => is_data_taken(act, node, data, told),
+        Expected::HandedUp(node, data) => is_handed_up(act, node, data),
         Expected::Finished(node, keys) => is_finished(act, node, keys),
         Expected::GaveUp(node, message) => is_given_up(act, node, message),
         Expected::Idle(why) => is_idle(act, why),
@@ -266,9 +368,18 @@ pub fn come(out: &mut Outbox, acts: &[Expected], came: &[u8], told: Outcome) -> 
 pub fn come_of(out: &mut Outbox, step: &Step) -> bool {
     let came = match step.event {
         Event::Take(octets) => octets,
-        Event::Connect(_) | Event::Retry(_) | Event::Rekey | Event::Expire(_) | Event::Leave => b"",
+        Event::TakeData(data) => data.octets,
+        _ => b"",
     };
     come(out, step.acts, came, step.outcome)
+}
+
+/// The traffic identifier of that number, where there is one and it is below 16.
+pub fn tid_of(tid: Option<u8>) -> Option<Tid> {
+    match tid {
+        Some(number) => Tid::new(number),
+        None => None,
+    }
 }
 
 /// That came of an event.

@@ -26,6 +26,7 @@ enum Told {
     Refused(Option<Node>, Reason),
     Managed(Node),
     Keyed(Node),
+    Sealed(Node),
 }
 
 // It is judged so.
@@ -37,6 +38,7 @@ fn is_told(judged: &Judged<'_>, told: Told) -> bool {
         }
         (Told::Managed(sender), Judged::Managed(from, _, _)) => *from == sender,
         (Told::Keyed(sender), Judged::Keyed(from, _)) => *from == sender,
+        (Told::Sealed(sender), Judged::Sealed(from, _)) => *from == sender,
         _ => false,
     }
 }
@@ -375,7 +377,7 @@ const SEALED: [Case; 7] = [
             b"",
         ),
         kind: Kind::Data,
-        told: Told::Refused(Some(A1), Reason::NoKey),
+        told: Told::Sealed(A1),
     },
     Case {
         shows: "to all stations",
@@ -386,7 +388,7 @@ const SEALED: [Case; 7] = [
             b"",
         ),
         kind: Kind::Data,
-        told: Told::Refused(Some(A1), Reason::NoKey),
+        told: Told::Sealed(A1),
     },
     Case {
         shows: "to another station",
@@ -430,7 +432,7 @@ const SEALED: [Case; 7] = [
             b"",
         ),
         kind: Kind::Data,
-        told: Told::Refused(Some(S1), Reason::NoKey),
+        told: Told::Sealed(S1),
     },
     Case {
         shows: "to a group at an access point",
@@ -446,7 +448,7 @@ const SEALED: [Case; 7] = [
 ];
 
 #[test]
-fn protected_data_has_no_key(rt: HostRuntime) {
+fn protected_data_is_for_its_receiver_from_a_peer(rt: HostRuntime) {
     try_cases(&rt, rt.alloc(), &SEALED);
 }
 

@@ -24,6 +24,8 @@ mod network;
 #[cfg(test)]
 mod outbox;
 #[cfg(test)]
+mod protected_frames;
+#[cfg(test)]
 mod station;
 #[cfg(test)]
 mod supplicant_group;

@@ -6,11 +6,12 @@ ghost use Rattle.domain_rules.specs.Network.{InForm, draw_end};
 
 mod association;
 mod handshakes;
+mod protected;
 
-use crate::acts::{Event, Step, come_of, is_outcome};
+use crate::acts::{Event, Step, come_of, is_outcome, tid_of};
 use crate::network::network;
 use act_memory::Outbox;
-use domain_base::Akm;
+use domain_base::{Akm, Node, Peer};
 use node_base::NodeEvent;
 use run_journal::Domain;
 use station_node::StationNode;
@@ -35,8 +36,12 @@ fn steps(
     let event = match step.event {
         Event::Connect(ap) => NodeEvent::Connect(ap % 2),
         Event::Take(octets) => NodeEvent::Take(octets),
+        Event::TakeData(data) => NodeEvent::Take(data.octets),
+        Event::Send(ap, tid, payload) if payload.len() <= 2304 => {
+            NodeEvent::Send(Peer::One(Node::Ap(ap % 2)), tid_of(tid), payload)
+        }
         Event::Leave => NodeEvent::Leave,
-        Event::Retry(_) | Event::Rekey | Event::Expire(_) => return false,
+        _ => return false,
     };
     is_outcome(node.step(alloc, domain, event, out), step.outcome) && come_of(out, step)
 }
@@ -99,4 +104,9 @@ fn draws_of_a_station_end(rt: HostRuntime) {
 #[test]
 fn a_station_answers_m3(rt: HostRuntime) {
     try_steps(&rt, rt.alloc(), 0, handshakes::HANDSHAKES);
+}
+
+#[test]
+fn a_station_sends_and_takes_data(rt: HostRuntime) {
+    try_steps(&rt, rt.alloc(), 0, protected::PAYLOADS);
 }

@@ -98,10 +98,13 @@ pub const TO_AP: &[u8] =
 
 // Suite 2: the pairwise key of `ANONCE` and `SNONCE`; key data under its KEK: the RSNE with `GTK` under key id 1, under key id
 // 2, and without a group key.
+// The temporal key of `PTK`.
+pub const TK: [u8; 16] = *b"\xbc\x28\x53\x36\xd8\x09\x6e\xec\x70\xcb\x1e\x6c\x2b\x05\xf3\x0a";
+
 pub const PTK: Ptk = Ptk {
     kck: *b"\x8e\x6a\x0f\x25\x76\xa6\xe5\xb8\x07\x5c\x45\x24\xeb\xbe\xf8\x05",
     kek: *b"\xf2\xd8\x8c\xd9\xd0\xf8\x46\x4d\xc0\xc5\x42\x0f\xc0\xff\x3e\xfc",
-    tk: *b"\xbc\x28\x53\x36\xd8\x09\x6e\xec\x70\xcb\x1e\x6c\x2b\x05\xf3\x0a",
+    tk: TK,
 };
 
 pub const KEY_DATA: &[u8] =
@@ -145,10 +148,14 @@ pub const M3_MIC_WITHOUT_GTK: [u8; 16] =
 
 // Suite 2: the pairwise key of `NEXT_ANONCE` and `SNONCE`; key data under its KEK: the RSNE with `GTK` under key id 1; and the
 // MICs of M2 with counter 1 and 2.
+// The temporal key of `CROSSED_PTK`.
+pub const CROSSED_TK: [u8; 16] =
+    *b"\xfe\xd5\xd4\x6d\xea\x0b\x65\xd5\xa4\x83\xf6\x18\xed\x6a\xaf\x8a";
+
 pub const CROSSED_PTK: Ptk = Ptk {
     kck: *b"\xc2\x38\x5d\x2c\x8a\xa1\x62\x03\xed\x79\x8b\x80\xf0\xb9\x74\x92",
     kek: *b"\xef\x19\xb3\xc8\x2e\xe8\x23\xd5\x8a\x98\xed\xbc\x28\x1d\xb8\x19",
-    tk: *b"\xfe\xd5\xd4\x6d\xea\x0b\x65\xd5\xa4\x83\xf6\x18\xed\x6a\xaf\x8a",
+    tk: CROSSED_TK,
 };
 
 pub const CROSSED_KEY_DATA: &[u8] =

@@ -6,4 +6,4 @@ mod receiving;
 mod sending;
 
 pub use receiving::{RecvCounters, Replayed};
-pub use sending::{SendCounter, Spent};
+pub use sending::{LAST_NUMBER, SendCounter, Spent};

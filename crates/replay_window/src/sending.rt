@@ -6,7 +6,7 @@ ghost use Rattle.replay_window.specs.Numbers.{last_number};
 use std::marker::Model;
 
 // The last packet number: they have 48 bits.
-const LAST_NUMBER: u64 = (1 << 48) - 1;
+pub const LAST_NUMBER: u64 = (1 << 48) - 1;
 
 /// Every packet number of the key was used.
 #[derive(Clone, Copy, PartialEq, Eq)]

@@ -100,7 +100,8 @@ fn is_right(subelement: &Found<'_>) -> bool
 // The subelement at the front, if it has a right length, and the octets behind it.
 fn right_subelement(octets: &[u8]) -> Option<(Found<'_>, &[u8])>
     ensures { MatchOption result (BeginsWrong octets.now)
-        (λ r. (octets.now ≡ element_octets (element_of r.0) ++ r.1.now) × IsRight (element_of r.0)) }
+        (λ r. (octets.now ≡ element_octets (element_of r.0) ++ r.1.now)
+        × IsRight (element_of r.0)) }
 {
     match next_element(octets, Within::Body) {
         Next::Whole(subelement, behind) if is_right(&subelement) => Some((subelement, behind)),

@@ -151,6 +151,16 @@ abbrev pub given_from : GroupKind → Node → Act → Option GroupKey
 given_from groups.Gtk p (Installed (One q) (Group gtk id b)) = cond (same p q) (Some (record { key = gtk; id = id })) None
 given_from kind p _ = None
 
+-- a pairwise key was installed with p
+abbrev pub installs_pairwise : Node → Act → Bool
+installs_pairwise p (Installed (One q) (Pairwise tk i)) = same p q
+installs_pairwise p _ = false
+
+-- a packet number was used with p alone, under a pairwise key
+abbrev pub uses_with : Node → Act → Bool
+uses_with p (Used q key id number octets) = is_one p q
+uses_with p _ = false
+
 -- a packet number was used to all, under a group key of that kind
 abbrev pub uses_all : GroupKind → Act → Bool
 uses_all groups.Gtk (Used All key id number octets) = true

@@ -7,7 +7,7 @@ use Rattle.run_journal.specs.declared.acts.Part.TheVariants.{Attempt, Session}
 use Rattle.run_journal.specs.declared.acts.Act.{Act}
 use Rattle.run_journal.specs.declared.acts.Act.TheVariants.{Opened, Closed, Finished, Drew}
 use Rattle.run_journal.specs.declared.acts.Entry.{Entry}
-use Rattle.run_journal.specs.Acts.{same, opens, ends, closes, finishes, nonce_drawn, key_drawn, switched, GroupKey, given_from, uses_all, Derivation, derived, accepted, replied, sent}
+use Rattle.run_journal.specs.Acts.{same, opens, ends, closes, finishes, nonce_drawn, key_drawn, switched, GroupKey, given_from, installs_pairwise, uses_with, uses_all, Derivation, derived, accepted, replied, sent}
 
 -- the acts of one node in a journal
 abbrev pub history : Node → List Entry → List Act
@@ -111,6 +111,11 @@ given kind p (e ∷ h) = listed (given_from kind p e) (given kind p h)
 abbrev pub handshake : GroupKind → Node → List Act → List Act
 handshake kind p [] = []
 handshake kind p (e ∷ h) = cond (finishes p e) [] (cond (is_some (key_drawn kind e)) [] (e ∷ handshake kind p h))
+
+-- how many packet numbers a node used with p since it last installed a pairwise key with p
+abbrev pub pairwise_uses : Node → List Act → ℕ
+pairwise_uses p [] = 0
+pairwise_uses p (e ∷ h) = cond (installs_pairwise p e) 0 (cond (uses_with p e) (suc (pairwise_uses p h)) (pairwise_uses p h))
 
 -- how many packet numbers an access point used under its current group key of that kind
 abbrev pub group_uses : GroupKind → List Act → ℕ

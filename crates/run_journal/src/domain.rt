@@ -1,6 +1,6 @@
 //! The network: its keys, its access points and its stations.
 
-use domain_base::{Akm, Mac, Node, Octets};
+use domain_base::{Akm, Mac, Node, Octets, Peer, Tid};
 use std::marker::Model;
 
 /// A listed access point.
@@ -112,6 +112,18 @@ pub enum Event {
     Rekey {
         /// The access point, from 0.
         ap: u16,
+    },
+    /// The node sends a payload: a station to an access point, or an access point to a station or to
+    /// all.
+    Send {
+        /// The node.
+        from: Node,
+        /// To whom.
+        to: Peer,
+        /// The traffic identifier, where it is sent as QoS data.
+        tid: Option<Tid>,
+        /// The payload.
+        octets: Octets,
     },
     /// The access point drops what it has with the station.
     Expire {

@@ -30,7 +30,8 @@ fn greater<'a>(a: &'a [u8], b: &'a [u8]) -> &'a [u8]
 // The name of the network, the mobility domain and the R0KH-ID.
 fn same_network(i: &Inputs, m: &Inputs) -> bool
     ensures { IsTrue result ↔
-        ((i.now.ssid ≡ m.now.ssid) × ((i.now.mdid ≡ m.now.mdid) × (i.now.r0kh_id ≡ m.now.r0kh_id))) }
+        ((i.now.ssid ≡ m.now.ssid)
+        × ((i.now.mdid ≡ m.now.mdid) × (i.now.r0kh_id ≡ m.now.r0kh_id))) }
 {
     i.ssid.as_slice() == m.ssid.as_slice()
         && i.mdid == m.mdid

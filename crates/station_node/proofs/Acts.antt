@@ -10,6 +10,7 @@ use Rattle.run_journal.specs.declared.acts.Act.{Act}
 use Rattle.run_journal.specs.declared.acts.Act.TheVariants.{Took, Idle}
 use Rattle.run_journal.specs.Acts.{given_from}
 use Rattle.run_journal.specs.Questions.{is_draw}
+use Rattle.data_frames.specs.Holding.{LeavesPairwise}
 use Rattle.domain_rules.specs.GroupKeys.{got_by}
 use Rattle.domain_rules.proofs.Parts.{IsApart, apart-refused, apart-ignored, apart-idle, leaves_pending, leaves_associated}
 use Rattle.run_journal.specs.GroupKinds as groups
@@ -22,6 +23,7 @@ pub record IsPlainAct (e : Act) : Type 0 where
   pub associated : leaves_associated e ≡ true
   pub gives : (p : Node) → given_from groups.Gtk p e ≡ None
   pub gets : (p : Node) (key : List ℕ) (id heard before : ℕ) → got_by groups.Gtk p key id e heard before ≡ before
+  pub leaves : (p : Node) (tk : List ℕ) → LeavesPairwise p tk e
 
 pub plain-refused : (from : Option Node) (octets : List ℕ) (k : Kind) (why : Reason) (s : Option Seal) → IsPlainAct (Took from octets k (Refused why) s)
 plain-refused from octets k why s = record {
@@ -31,6 +33,7 @@ plain-refused from octets k why s = record {
   associated = refl;
   gives = λ p. refl;
   gets = λ p key id heard before. refl;
+  leaves = λ p tk. record { used = λ h. refl; got = λ tid h. refl };
 }
 
 pub plain-ignored : (from : Option Node) (octets : List ℕ) (k : Kind) (s : Option Seal) → IsPlainAct (Took from octets k Ignored s)
@@ -41,6 +44,7 @@ plain-ignored from octets k s = record {
   associated = refl;
   gives = λ p. refl;
   gets = λ p key id heard before. refl;
+  leaves = λ p tk. record { used = λ h. refl; got = λ tid h. refl };
 }
 
 pub plain-idle : (w : Why) → IsPlainAct (Idle w)
@@ -51,4 +55,5 @@ plain-idle w = record {
   associated = refl;
   gives = λ p. refl;
   gets = λ p key id heard before. refl;
+  leaves = λ p tk. record { used = λ h. refl; got = λ tid h. refl };
 }

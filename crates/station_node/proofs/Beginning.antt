@@ -24,6 +24,7 @@ use Rattle.act_memory.proofs.RepliedActs.{remembers_on}
 use Rattle.supplicant.specs.declared.attempt.Attempt.{Attempt as SupplicantAttempt}
 use Rattle.supplicant.specs.declared.session.Session.{Session as SupplicantSession}
 use Rattle.supplicant.specs.State.{State as Supplicant}
+use Rattle.supplicant.specs.Taken.{HaveGroupIds}
 use Rattle.supplicant.specs.Stands.{SupplicantStands, IsUnderWay}
 use Rattle.supplicant.specs.Stands.{HasAttempt as HasSupplicantAttempt, HasSession as HasSupplicantSession}
 use Rattle.station_node.specs.declared.attempt.Association.TheVariants.{Requested, Accepted}
@@ -102,6 +103,7 @@ stands-asked d first s h n a v st low =
       no_attempt = λ p other. asked-others d n (associated h) a v h p (ne_eqb p a (λ e. other (ap (λ (x : ℕ). Some (Ap x)) (sym e)))) (λ none. no_attempt d first s h p st (sym st.pending_is ∙ none));
       no_session = λ p other. no_session_left d first s h n a v p st;
       remembers = λ p. remembers_on (Ap p) (memory_at s.memories p) h _ (asked-given d n (pending h) (associated h) a v h (Ap p)) (λ key id. asked-got d n (pending h) (associated h) a v h (Ap p) key id) (st.remembers p);
+      ids = st.ids;
     }
 
 -- ---- the access point accepts it
@@ -156,4 +158,5 @@ stands-associated d first s h p v octets x memories st is b same_memory =
       no_attempt = λ q other. attempt_none (Ap q) took h refl (st.no_attempt q (λ e. other (sym (ap peer_of_attempt is) ∙ e)));
       no_session = λ q other. st.no_session q other;
       remembers = λ q. remembers_on (Ap q) (memory_at memories q) h _ refl (λ key id. refl) (subst (λ (ks : List Kept). Remembers (Ap q) ks h) (sym (same_memory q)) (st.remembers q));
+      ids = λ q. subst HaveGroupIds (sym (same_memory q)) (st.ids q);
     }

@@ -68,7 +68,11 @@ attempt_grown d e sta (Some a) h g listed has = (listed_grown d e (Ap a.ap) g ha
 
 session_grown : (d e : Domain) (sta : ℕ) (o : Option Session) (h : List Act) → Grows d e → sta < length d.stas → HasSession d (Sta sta) o h → HasSession e (Sta sta) o h
 session_grown d e sta None h g listed has = tt
-session_grown d e sta (Some x) h g listed has = (listed_grown d e (Ap x.ap) g has.0, supplicant_grown d e sta x.ap x.supplicant h g listed has.0 has.1)
+session_grown d e sta (Some x) h g listed has = record {
+  listed = listed_grown d e (Ap x.ap) g has.listed;
+  stands = supplicant_grown d e sta x.ap x.supplicant h g listed has.listed has.stands;
+  keyed = has.keyed;
+}
 
 pub grown : (d e : Domain) (first : ℕ) (s : State) (h : List Act) → Grows d e → s.number < length d.stas → Stands d first s h → Stands e first s h
 grown d e first s h g listed st = record {
@@ -81,4 +85,5 @@ grown d e first s h g listed st = record {
   no_attempt = st.no_attempt;
   no_session = st.no_session;
   remembers = st.remembers;
+  ids = st.ids;
 }

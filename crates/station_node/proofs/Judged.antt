@@ -2,6 +2,7 @@
 use Rattle.std.proofs.Common.{◌+◌, ◌≡◌, ℕ, ◌<◌, length, true, List, [], ◌∷◌, ◌++◌, Option, Some, None, refl, ap, subst, ◌∙◌}
 use Rattle.domain_base.specs.declared.names.Node.{Node}
 use Rattle.domain_base.specs.declared.names.Node.TheVariants.{Ap, Sta}
+use Rattle.air_frame.specs.Views.{header_of}
 use Rattle.rsn_elements.specs.Fields.{element_fields}
 use Rattle.rsn_elements.specs.declared.reading.Elements.{Elements}
 use Rattle.run_journal.specs.declared.domain.Domain.{Domain}
@@ -13,6 +14,7 @@ use Rattle.domain_rules.specs.Network.{is_ap}
 use Rattle.domain_rules.specs.Reading.{Reading, Reads, kind_of}
 use Rattle.domain_rules.specs.Verdict.{first_verdict, key_verdict}
 use Rattle.domain_rules.specs.Associating.{management_verdict}
+use Rattle.domain_rules.specs.DataVerdict.{data_verdict}
 use Rattle.domain_rules.specs.Replies.{IsMessageFrom}
 use Rattle.domain_rules.specs.Rows.{Take}
 use Rattle.domain_rules.specs.Closing.{sender}
@@ -20,11 +22,12 @@ use Rattle.run_journal.specs.Questions.{draws}
 use Rattle.frame_intake.specs.declared.delivered.Management.{Management}
 use Rattle.frame_intake.specs.declared.delivered.KeyMessage.{KeyMessage}
 use Rattle.frame_intake.specs.declared.judging.Judged.TheVariants as judged
-use Rattle.frame_intake.specs.Views.{management_fields, message_fields}
+use Rattle.frame_intake.specs.declared.delivered.SealedData.{SealedData}
+use Rattle.frame_intake.specs.Views.{management_fields, message_fields, sealed_fields}
 use Rattle.node_base.specs.Peers.{IsPeerOf}
 use Rattle.frame_intake.specs.Judging.{IsJudged}
 use Rattle.station_node.specs.State.{State}
-use Rattle.station_node.specs.Steps.{IsTaken, turn, IsManagementFrom}
+use Rattle.station_node.specs.Steps.{IsTaken, turn, IsManagementFrom, IsDataFrom}
 use Rattle.station_node.proofs.Taken.{taken-settled}
 
 -- the other node of a station is an access point
@@ -57,6 +60,18 @@ keyed_is d sta p octets r message from j reads from_is = record {
 pub judged-keyed : (d : Domain) (n : Node) (sta p : ℕ) (octets : List ℕ) (r : Reading) (message : KeyMessage) (from : Node) → IsJudged d n r (judged.Keyed from message) → Reads d.akm octets r → from ≡ Ap p → n ≡ Sta sta
     → IsMessageFrom d (Sta sta) (Ap p) octets (message_fields message)
 judged-keyed d n sta p octets r message from j reads from_is same = keyed_is d sta p octets r message from (subst (λ (x : Node). IsJudged d x r (judged.Keyed from message)) same j) reads from_is
+
+sealed_is : (d : Domain) (sta p : ℕ) (octets : List ℕ) (r : Reading) (frame : SealedData) (from : Node) → IsJudged d (Sta sta) r (judged.Sealed from frame) → Reads d.akm octets r → from ≡ Ap p → IsDataFrom d sta p octets (sealed_fields frame)
+sealed_is d sta p octets r frame from j reads from_is = record {
+  reads = subst (λ (x : Reading). Reads d.akm octets x) j.0 reads;
+  from = subst (λ (x : Reading). sender d (Sta sta) x ≡ Some (Ap p)) j.0 (j.1 ∙ ap (λ (x : Node). Some x) from_is);
+  verdict_is = λ first h. subst (λ (x : Reading). first_verdict d first (Sta sta) h x ≡ data_verdict (Sta sta) h (Ap p) (header_of frame.header) frame.tid frame.body.now) j.0
+      (j.4 first h ∙ ap (λ (x : Node). data_verdict (Sta sta) h x (header_of frame.header) frame.tid frame.body.now) from_is);
+}
+
+pub judged-sealed : (d : Domain) (n : Node) (sta p : ℕ) (octets : List ℕ) (r : Reading) (frame : SealedData) (from : Node) → IsJudged d n r (judged.Sealed from frame) → Reads d.akm octets r → from ≡ Ap p → n ≡ Sta sta
+    → IsDataFrom d sta p octets (sealed_fields frame)
+judged-sealed d n sta p octets r frame from j reads from_is same = sealed_is d sta p octets r frame from (subst (λ (x : Node). IsJudged d x r (judged.Sealed from frame)) same j) reads from_is
 
 -- the other node is listed
 pub judged-listed : (d : Domain) (n : Node) (sta p : ℕ) (from : Node) → IsPeerOf d n from → from ≡ Ap p → n ≡ Sta sta → p < length d.aps

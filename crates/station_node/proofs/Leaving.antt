@@ -86,6 +86,7 @@ stands-left d first s h st =
       no_attempt = λ p other. nobody_pending p l nobody_left;
       no_session = λ p other. left-session (pending h) (associated h) h (Ap p) ∙ left_session d first s h p (associated h) st (sym st.associated_is);
       remembers = λ p. remembers_on (Ap p) (memory_at s.memories p) h l (left-given (pending h) (associated h) h (Ap p)) (λ key id. left-got (pending h) (associated h) h (Ap p) key id) (st.remembers p);
+      ids = st.ids;
     }
 
 left-done : (a : Option Attempt) (x : Option Session) → has_neither a x ≡ false → (left_acts (peer_of_attempt a) (peer_of_session x) ≡ or_nothing (left_acts (peer_of_attempt a) (peer_of_session x))) × (Done ≡ outcome_of (left_acts (peer_of_attempt a) (peer_of_session x)))

@@ -12,6 +12,8 @@ use Rattle.run_journal.specs.declared.acts.Act.{Act}
 use Rattle.run_journal.specs.declared.acts.Act.TheVariants.{Took}
 use Rattle.domain_rules.specs.Replies.{IsMessageFrom, pair}
 use Rattle.domain_rules.specs.Rows.{NodeEvent, Take}
+use Rattle.ccmp_guard.specs.Held.{Held}
+use Rattle.data_frames.specs.Holding.{fresh_key, key_after}
 use Rattle.group_key.specs.Keys.{Kept}
 use Rattle.frame_intake.specs.declared.delivered.Heard.{Heard}
 use Rattle.frame_intake.specs.Views.{message_fields}
@@ -57,9 +59,9 @@ tried_places o x a old new memories i ks is has places =
     let low = accepted_place o a old memories is has places.tried in
     record { tried = omega (arith, more, low); held = held_stays x memories (slice_set memories i ks) more places.held }
 
-pub finished_places : (o b : Option Attempt) (x y : Option Session) (a : Attempt) (old new : Supplicant) (memories : List (List Kept)) (i : ℕ) (ks : List Kept) → o ≡ Some a → a.association ≡ Accepted old → HavePlaces o x memories
-    → b ≡ None → y ≡ Some (record { ap = a.ap; supplicant = new }) → HavePlaces b y (slice_set memories i ks)
-finished_places o b x y a old new memories i ks is has places none there =
+pub finished_places : (o b : Option Attempt) (x y : Option Session) (a : Attempt) (old new : Supplicant) (k : Held) (memories : List (List Kept)) (i : ℕ) (ks : List Kept) → o ≡ Some a → a.association ≡ Accepted old → HavePlaces o x memories
+    → b ≡ None → y ≡ Some (record { ap = a.ap; supplicant = new; key = k }) → HavePlaces b y (slice_set memories i ks)
+finished_places o b x y a old new k memories i ks is has places none there =
     let more = same_length memories i ks in
     let low = accepted_place o a old memories is has places.tried in
     record {
@@ -68,12 +70,12 @@ finished_places o b x y a old new memories i ks is has places none there =
     }
 
 -- and of such a session
-held_place : (o : Option Session) (x : Session) (memories : List (List Kept)) → o ≡ Some x → HasPlaceHeld o memories → x.ap < length memories
+pub held_place : (o : Option Session) (x : Session) (memories : List (List Kept)) → o ≡ Some x → HasPlaceHeld o memories → x.ap < length memories
 held_place o x memories is place = subst (λ (y : Option Session). HasPlaceHeld y memories) is place
 
-pub held_places : (o : Option Attempt) (s : Option Session) (x : Session) (new : Supplicant) (memories : List (List Kept)) (i : ℕ) (ks : List Kept) → s ≡ Some x → HavePlaces o s memories
-    → HavePlaces o (Some (record { ap = x.ap; supplicant = new })) (slice_set memories i ks)
-held_places o s x new memories i ks is places =
+pub held_places : (o : Option Attempt) (s : Option Session) (x : Session) (new : Supplicant) (k : Held) (memories : List (List Kept)) (i : ℕ) (ks : List Kept) → s ≡ Some x → HavePlaces o s memories
+    → HavePlaces o (Some (record { ap = x.ap; supplicant = new; key = k })) (slice_set memories i ks)
+held_places o s x new k memories i ks is places =
     let more = same_length memories i ks in
     let low = held_place s x memories is places.held in
     record { tried = tried_stays o memories (slice_set memories i ks) more places.tried; held = omega (arith, more, low) }
@@ -87,7 +89,7 @@ pub takes_nothing : {E : Type 0} (d : Domain) (event : NodeEvent) (t : Turn) (r 
 takes_nothing d event t (Ok o) err same kept = absurd (not_err err)
 takes_nothing d event t (Err e) err same kept = (same, kept)
 
-same_memories : (memories : List (List Kept)) (i : ℕ) (had has : List Kept) → has ≡ had → had ≡ slice_index_or memories i had → slice_set memories i has ≡ memories
+pub same_memories : (memories : List (List Kept)) (i : ℕ) (had has : List Kept) → has ≡ had → had ≡ slice_index_or memories i had → slice_set memories i has ≡ memories
 same_memories memories i had has same value = ap (slice_set memories i) (same ∙ value) ∙ set-get_or memories i had
 
 pub left-tried : (s : State) (a : Attempt) (i : ℕ) (old new : Supplicant) (had has : List Kept) → s.attempt ≡ Some a → a.association ≡ Accepted old → new ≡ old → has ≡ had → had ≡ slice_index_or s.memories i had
@@ -99,10 +101,10 @@ left-tried s a i old new had has is there same kept value =
     ∙ ap (λ (o : Option Attempt). record { number = s.number; drawn = s.drawn; attempt = o; session = s.session; memories = s.memories }) (sym is)
 
 pub left-held : (s : State) (x : Session) (i : ℕ) (old new : Supplicant) (had has : List Kept) → s.session ≡ Some x → x.supplicant ≡ old → new ≡ old → has ≡ had → had ≡ slice_index_or s.memories i had
-    → held_state s x.ap new (slice_set s.memories i has) ≡ s
+    → held_state s x.ap new x.key (slice_set s.memories i has) ≡ s
 left-held s x i old new had has is there same kept value =
-    ap (λ (y : Supplicant). held_state s x.ap y (slice_set s.memories i has)) (same ∙ sym there)
-    ∙ ap (held_state s x.ap x.supplicant) (same_memories s.memories i had has kept value)
+    ap (λ (y : Supplicant). held_state s x.ap y x.key (slice_set s.memories i has)) (same ∙ sym there)
+    ∙ ap (held_state s x.ap x.supplicant x.key) (same_memories s.memories i had has kept value)
     ∙ ap (λ (o : Option Session). record { number = s.number; drawn = s.drawn; attempt = s.attempt; session = o; memories = s.memories }) (sym is)
 
 -- ---- with it
@@ -111,10 +113,10 @@ left-held s x i old new had has is there same kept value =
 pub whole_attempt : (a : Attempt) (p : ℕ) (x : Association) → a.ap ≡ p → a.association ≡ x → Some a ≡ Some (record { ap = p; association = x })
 whole_attempt a p x here there = ap (λ (q : ℕ). Some (record { ap = q; association = a.association })) here ∙ ap (λ (y : Association). Some (record { ap = p; association = y })) there
 
-whole_session : (x : Session) (p : ℕ) (old : Supplicant) → x.ap ≡ p → x.supplicant ≡ old → Some x ≡ Some (record { ap = p; supplicant = old })
-whole_session x p old here there = ap (λ (q : ℕ). Some (record { ap = q; supplicant = x.supplicant })) here ∙ ap (λ (y : Supplicant). Some (record { ap = p; supplicant = y })) there
+whole_session : (x : Session) (p : ℕ) (old : Supplicant) → x.ap ≡ p → x.supplicant ≡ old → Some x ≡ Some (record { ap = p; supplicant = old; key = x.key })
+whole_session x p old here there = ap (λ (q : ℕ). Some (record { ap = q; supplicant = x.supplicant; key = x.key })) here ∙ ap (λ (y : Supplicant). Some (record { ap = p; supplicant = y; key = x.key })) there
 
-kept_there : (memories : List (List Kept)) (i p : ℕ) (had : List Kept) → i ≡ p → p < length memories → had ≡ slice_index_or memories i had → had ≡ memory_at memories p
+pub kept_there : (memories : List (List Kept)) (i p : ℕ) (had : List Kept) → i ≡ p → p < length memories → had ≡ slice_index_or memories i had → had ≡ memory_at memories p
 kept_there memories i p had i_is low value = value ∙ ap (λ (j : ℕ). slice_index_or memories j had) i_is ∙ get_or_default memories p had [] low
 
 -- the message is for the supplicant with access point p, whose group keys stand at place i
@@ -124,7 +126,7 @@ pub record IsFor (d : Domain) (s : State) (p i : ℕ) (m : Heard) (had : List Ke
   pub value : had ≡ slice_index_or s.memories i had
 
 pub handed-tried : (d : Domain) (s : State) (a : Attempt) (p i : ℕ) (m : Heard) (old new : Supplicant) (had has : List Kept) (waited waits : List Act) (came : Came) → s.attempt ≡ Some a → a.ap ≡ p → a.association ≡ Accepted old
-    → HasPlaceTried s.attempt s.memories → IsFor d s p i m had → IsHanded (pair d (Sta s.number) (Ap p)) m (handing (both old had) (both new has) waited waits) came → came.is_finished ≡ false
+    → HasPlaceTried s.attempt s.memories → IsFor d s p i m had → IsHanded (pair d (Sta s.number) (Ap p)) m (handing (both old had) (both new has) waited waits) came → came.installed ≡ None
     → IsTaken d (Take m.octets.now) (turn s (tried_state s a.ap new (slice_set s.memories i has)) waited waits) came.outcome
 handed-tried d s a p i m old new had has waited waits came is here there place b x goes_on =
     let low : p < length s.memories = subst (λ (q : ℕ). q < length s.memories) here (accepted_place s.attempt a old s.memories is there place) in
@@ -133,27 +135,27 @@ handed-tried d s a p i m old new had has waited waits came is here there place b
     (taken-tried d s p m (slice_set s.memories p has) (handing (both old had) (both new has) waited waits) came (is ∙ whole_attempt a p (Accepted old) here there)
     (handed_by d s p m had has old new waited waits b.from low (kept_there s.memories i p had b.place_is low b.value)) x goes_on))
 
-pub handed-finished : (d : Domain) (s : State) (a : Attempt) (b : Option Attempt) (y : Option Session) (p i : ℕ) (m : Heard) (old new : Supplicant) (had has : List Kept) (waited waits : List Act) (came : Came) → s.attempt ≡ Some a → a.ap ≡ p → a.association ≡ Accepted old
-    → HasPlaceTried s.attempt s.memories → IsFor d s p i m had → IsHanded (pair d (Sta s.number) (Ap p)) m (handing (both old had) (both new has) waited waits) came → came.is_finished ≡ true
-    → b ≡ None → y ≡ Some (record { ap = a.ap; supplicant = new })
+pub handed-finished : (d : Domain) (s : State) (a : Attempt) (b : Option Attempt) (y : Option Session) (p i : ℕ) (m : Heard) (old new : Supplicant) (tk : List ℕ) (had has : List Kept) (waited waits : List Act) (came : Came) → s.attempt ≡ Some a → a.ap ≡ p → a.association ≡ Accepted old
+    → HasPlaceTried s.attempt s.memories → IsFor d s p i m had → IsHanded (pair d (Sta s.number) (Ap p)) m (handing (both old had) (both new has) waited waits) came → came.installed ≡ Some tk
+    → b ≡ None → y ≡ Some (record { ap = a.ap; supplicant = new; key = fresh_key tk })
     → IsTaken d (Take m.octets.now) (turn s (record { number = s.number; drawn = s.drawn; attempt = b; session = y; memories = slice_set s.memories i has }) waited waits) came.outcome
-handed-finished d s a b y p i m old new had has waited waits came is here there place f x done none one =
+handed-finished d s a b y p i m old new tk had has waited waits came is here there place f x done none one =
     let low : p < length s.memories = subst (λ (q : ℕ). q < length s.memories) here (accepted_place s.attempt a old s.memories is there place) in
     let new_state : Option Attempt → Option Session → ℕ → State = λ o z j. record { number = s.number; drawn = s.drawn; attempt = o; session = z; memories = slice_set s.memories j has } in
     subst (λ (o : Option Attempt). IsTaken d (Take m.octets.now) (turn s (new_state o y i) waited waits) came.outcome) (sym none)
-    (subst (λ (z : Option Session). IsTaken d (Take m.octets.now) (turn s (new_state None z i) waited waits) came.outcome) (sym (one ∙ ap (λ (q : ℕ). Some (record { ap = q; supplicant = new })) here))
-    (subst (λ (j : ℕ). IsTaken d (Take m.octets.now) (turn s (new_state None (Some (record { ap = p; supplicant = new })) j) waited waits) came.outcome) (sym f.place_is)
-    (taken-finished d s p m (slice_set s.memories p has) (handing (both old had) (both new has) waited waits) came (is ∙ whole_attempt a p (Accepted old) here there)
+    (subst (λ (z : Option Session). IsTaken d (Take m.octets.now) (turn s (new_state None z i) waited waits) came.outcome) (sym (one ∙ ap (λ (q : ℕ). Some (record { ap = q; supplicant = new; key = fresh_key tk })) here))
+    (subst (λ (j : ℕ). IsTaken d (Take m.octets.now) (turn s (new_state None (Some (record { ap = p; supplicant = new; key = fresh_key tk })) j) waited waits) came.outcome) (sym f.place_is)
+    (taken-finished d s p m tk (slice_set s.memories p has) (handing (both old had) (both new has) waited waits) came (is ∙ whole_attempt a p (Accepted old) here there)
     (handed_by d s p m had has old new waited waits f.from low (kept_there s.memories i p had f.place_is low f.value)) x done)))
 
 pub handed-held : (d : Domain) (s : State) (z : Session) (p i : ℕ) (m : Heard) (old new : Supplicant) (had has : List Kept) (waited waits : List Act) (came : Came) → s.session ≡ Some z → z.ap ≡ p → z.supplicant ≡ old
     → HasPlaceHeld s.session s.memories → IsFor d s p i m had → IsHanded (pair d (Sta s.number) (Ap p)) m (handing (both old had) (both new has) waited waits) came
-    → IsTaken d (Take m.octets.now) (turn s (held_state s z.ap new (slice_set s.memories i has)) waited waits) came.outcome
+    → IsTaken d (Take m.octets.now) (turn s (held_state s z.ap new (key_after z.key came.installed) (slice_set s.memories i has)) waited waits) came.outcome
 handed-held d s z p i m old new had has waited waits came is here there place b x =
     let low : p < length s.memories = subst (λ (q : ℕ). q < length s.memories) here (held_place s.session z s.memories is place) in
-    subst (λ (q : ℕ). IsTaken d (Take m.octets.now) (turn s (held_state s q new (slice_set s.memories i has)) waited waits) came.outcome) (sym here)
-    (subst (λ (j : ℕ). IsTaken d (Take m.octets.now) (turn s (held_state s p new (slice_set s.memories j has)) waited waits) came.outcome) (sym b.place_is)
-    (taken-held d s p m (slice_set s.memories p has) (handing (both old had) (both new has) waited waits) came (is ∙ whole_session z p old here there)
+    subst (λ (q : ℕ). IsTaken d (Take m.octets.now) (turn s (held_state s q new (key_after z.key came.installed) (slice_set s.memories i has)) waited waits) came.outcome) (sym here)
+    (subst (λ (j : ℕ). IsTaken d (Take m.octets.now) (turn s (held_state s p new (key_after z.key came.installed) (slice_set s.memories j has)) waited waits) came.outcome) (sym b.place_is)
+    (taken-held d s p m z.key (slice_set s.memories p has) (handing (both old had) (both new has) waited waits) came (is ∙ whole_session z p old here there)
     (handed_by d s p m had has old new waited waits b.from low (kept_there s.memories i p had b.place_is low b.value)) x))
 
 -- ---- where there is nothing with the access point

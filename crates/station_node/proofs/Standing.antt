@@ -14,6 +14,8 @@ use Rattle.run_journal.specs.Questions.{attempt, pending, given, listed}
 use Rattle.domain_rules.specs.GroupKeys.{told, got}
 use Rattle.domain_rules.proofs.Parts.{IsCarried, GoesOn, goes_on, draws_more, pending_more, associated_more}
 use Rattle.run_journal.specs.GroupKinds as groups
+use Rattle.ccmp_guard.specs.Held.{Held}
+use Rattle.data_frames.proofs.Standing.{others}
 use Rattle.group_key.specs.Keys.{Kept}
 use Rattle.group_key.specs.Holds.{Remembers}
 use Rattle.act_memory.proofs.RepliedActs.{remembers_on}
@@ -26,7 +28,7 @@ use Rattle.station_node.specs.declared.attempt.Association.TheVariants.{Requeste
 use Rattle.station_node.specs.declared.session.Session.{Session}
 use Rattle.station_node.specs.State.{State}
 use Rattle.station_node.specs.Parts.{peer_of_attempt, IsElsewhere, IsAlone}
-use Rattle.station_node.specs.Stands.{Stands, IsRequested, HasAssociation, HasAttempt, HasSession}
+use Rattle.station_node.specs.Stands.{Stands, IsRequested, HasAssociation, HasAttempt, HasSession, IsKeyed, IsIn}
 use Rattle.station_node.proofs.Acts.{IsPlainAct}
 
 -- ---- an act that changes nothing of what is asked
@@ -57,9 +59,20 @@ attempt_stays : (d : Domain) (n : Node) (o : Option Attempt) (h : List Act) (e :
 attempt_stays d n None h e plain st = tt
 attempt_stays d n (Some a) h e plain st = (st.0, association_more d n a.ap a.association h e plain st.1)
 
+keyed_more : (p : Node) (k : Held) (h : List Act) (e : Act) → IsPlainAct e → IsKeyed p k h → IsKeyed p k (e ∷ h)
+keyed_more p k h e plain st = record {
+  key = st.key;
+  is = (plainly p e h plain).has ∙ st.is;
+  holds = others p st.key.ptk.tk k (e ∷ []) h st.holds (plain.leaves p st.key.ptk.tk, tt);
+}
+
 session_stays : (d : Domain) (n : Node) (o : Option Session) (h : List Act) (e : Act) → IsPlainAct e → HasSession d n o h → HasSession d n o (e ∷ h)
 session_stays d n None h e plain st = tt
-session_stays d n (Some x) h e plain st = (st.0, stands_more d n (Ap x.ap) x.supplicant h e (plain.apart (Ap x.ap)) st.1)
+session_stays d n (Some x) h e plain st = record {
+  listed = st.listed;
+  stands = stands_more d n (Ap x.ap) x.supplicant h e (plain.apart (Ap x.ap)) st.stands;
+  keyed = keyed_more (Ap x.ap) x.key h e plain st.keyed;
+}
 
 remembers_more : (p : Node) (ks : List Kept) (h : List Act) (e : Act) → IsPlainAct e → Remembers p ks h → Remembers p ks (e ∷ h)
 remembers_more p ks h e plain = remembers_on p ks h (e ∷ h) (ap (λ (o : Option GroupKey). listed o (given groups.Gtk p h)) (plain.gives p)) (λ key id. plain.gets p key id (told groups.Gtk p h) (got groups.Gtk p key id h))
@@ -75,6 +88,7 @@ stands-plain d first s h e plain st = record {
   no_attempt = λ p other. (plainly (Ap p) e h plain).none (st.no_attempt p other);
   no_session = λ p other. (plainly (Ap p) e h plain).has ∙ st.no_session p other;
   remembers = λ p. remembers_more (Ap p) _ h e plain (st.remembers p);
+  ids = st.ids;
 }
 
 -- ---- where nobody is pending there is no attempt
@@ -124,5 +138,5 @@ requested_is d first s h p v st is = subst (λ (o : Option Attempt). HasAttempt 
 pub accepted_is : (d : Domain) (first : ℕ) (s : State) (h : List Act) (p : ℕ) (x : Supplicant) → Stands d first s h → s.attempt ≡ Some (record { ap = p; association = Accepted x }) → (p < length d.aps) × SupplicantStands d (Sta s.number) (Ap p) x h
 accepted_is d first s h p x st is = subst (λ (o : Option Attempt). HasAttempt d (Sta s.number) o h) is st.attempt_is
 
-pub held_is : (d : Domain) (first : ℕ) (s : State) (h : List Act) (p : ℕ) (x : Supplicant) → Stands d first s h → s.session ≡ Some (record { ap = p; supplicant = x }) → (p < length d.aps) × SupplicantStands d (Sta s.number) (Ap p) x h
-held_is d first s h p x st is = subst (λ (o : Option Session). HasSession d (Sta s.number) o h) is st.session_is
+pub held_is : (d : Domain) (first : ℕ) (s : State) (h : List Act) (p : ℕ) (x : Supplicant) (k : Held) → Stands d first s h → s.session ≡ Some (record { ap = p; supplicant = x; key = k }) → IsIn d (Sta s.number) p x k h
+held_is d first s h p x k st is = subst (λ (o : Option Session). HasSession d (Sta s.number) o h) is st.session_is

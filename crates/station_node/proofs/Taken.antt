@@ -1,6 +1,6 @@
 -- Each way in which a station takes an event, by what its code did.
-use Rattle.std.proofs.Common.{◌+◌, ◌≡◌, ◌≢◌, inl, inr, ℕ, ◌<◌, ◌≤◌, Bool, false, true, List, [], ◌∷◌, ◌++◌, length, Option, Some, None, refl, sym, ap, subst, ◌∙◌}
-use Rattle.std.specs.Prelude.{Result, Ok, Err, IfOk, OnOk, OnErr, is_some, slice_set}
+use Rattle.std.proofs.Common.{◌+◌, ◌≡◌, ◌≢◌, inl, inr, true, false, ℕ, ◌<◌, ◌≤◌, List, [], ◌∷◌, ◌++◌, length, Option, Some, None, refl, sym, ap, subst, ◌∙◌}
+use Rattle.std.specs.Prelude.{Result, Ok, Err, IfOk, OnOk, OnErr, option_map, slice_set}
 use Rattle.std.proofs.lemmas.List.{get_or-set_same, get_or-set_other, set-get_or}
 use Rattle.std.proofs.lemmas.Bool.{ne_eqb}
 use Rattle.domain_base.specs.declared.names.Node.{Node}
@@ -30,6 +30,8 @@ use Rattle.domain_rules.specs.Associating.{assoc_resp_verdict}
 use Rattle.domain_rules.specs.Rows.{NodeEvent, Take, Begin, Leave}
 use Rattle.domain_rules.specs.Closing.{close_pending, close_associated, sender}
 use Rattle.domain_rules.proofs.Switching.{station_adds}
+use Rattle.ccmp_guard.specs.Held.{Held}
+use Rattle.data_frames.specs.Holding.{key_after}
 use Rattle.group_key.specs.Keys.{Kept}
 use Rattle.group_key.specs.Holds.{Remembers}
 use Rattle.frame_intake.specs.declared.delivered.Heard.{Heard}
@@ -39,6 +41,7 @@ use Rattle.node_base.specs.Events.{Steps, seen}
 use Rattle.supplicant.specs.State.{State as Supplicant, Both, both}
 use Rattle.supplicant.specs.Stands.{SupplicantStands}
 use Rattle.supplicant.specs.Steps.{SupplicantSteps}
+use Rattle.supplicant.specs.Taken.{HaveGroupIds}
 use Rattle.station_node.specs.declared.attempt.Attempt.{Attempt}
 use Rattle.station_node.specs.declared.attempt.Association.TheVariants as association
 use Rattle.station_node.specs.declared.session.Session.{Session}
@@ -261,6 +264,11 @@ steps-supplicant d s p m has t came first h b x st remembers =
     subst (λ (ks : List Kept). SupplicantSteps (here d first (Sta s.number)) (Ap p) (taken_as m.octets.now (message_fields m.message) came.outcome) (both t.new.part ks) x.reply h) b.has_is
     (x.taken.steps d first s.number p m.octets.now (message_fields m.message) h st (subst (λ (ks : List Kept). Remembers (Ap p) ks h) (sym b.had_is) remembers) b.from refl refl refl)
 
+-- the key ids behind it
+ids-behind : (d : Domain) (s : State) (p : ℕ) (m : Heard) (has : List (List Kept)) (t : Handing) (came : Came) (first : ℕ) (h : List Act) → IsHandedBy d s p m has t → IsHanded (pair d (Sta s.number) (Ap p)) m t came → Stands d first s h
+    → HaveGroupIds (memory_at has p)
+ids-behind d s p m has t came first h b x st = subst HaveGroupIds b.has_is (x.taken.ids (subst HaveGroupIds (sym b.had_is) (st.ids p)))
+
 -- what the station adds, with the supplicant where it is then
 steps-handed : (d : Domain) (s new : State) (p : ℕ) (m : Heard) (t : Handing) (came : Came) (first : ℕ) (h : List Act) (has : List (List Kept)) → (x : IsHanded (pair d (Sta s.number) (Ap p)) m t came)
     → SupplicantSteps (here d first (Sta s.number)) (Ap p) (taken_as m.octets.now (message_fields m.message) came.outcome) (both t.new.part (memory_at has p)) x.reply h
@@ -280,60 +288,61 @@ left_by d s p m has t came w b x is =
     let same : t.new ≡ t.old = (x.taken.refused w is).0 in
     (ap (λ (y : Both). y.part) same, b.left (ap (λ (y : Both). y.keys) same))
 
-not_installed : (o : Option PairwiseKey) → is_some o ≡ false → o ≡ None
+not_installed : (o : Option PairwiseKey) → option_map (λ (y : PairwiseKey). y.ptk.tk) o ≡ None → o ≡ None
 not_installed None is = refl
 not_installed (Some y) is = cc
 
-false_true : ◌≡◌ {A = Bool} false true → ⊥
-false_true is = cc
-
-installed_there : (o : Option PairwiseKey) → is_some o ≡ true → (y : PairwiseKey) × (o ≡ Some y)
-installed_there None is = absurd (false_true is)
-installed_there (Some y) is = (y, refl)
+installed_there : (o : Option PairwiseKey) (tk : List ℕ) → option_map (λ (y : PairwiseKey). y.ptk.tk) o ≡ Some tk → (y : PairwiseKey) × ((o ≡ Some y) × (y.ptk.tk ≡ tk))
+installed_there None tk is = absurd (cc is)
+installed_there (Some y) tk is = (y, (refl, cc is))
 
 not_both : (o : Option PairwiseKey) (y : PairwiseKey) → o ≡ None → o ≡ Some y → ⊥
 not_both o y none some = cc
 
 -- in an attempt that goes on
 pub taken-tried : (d : Domain) (s : State) (p : ℕ) (m : Heard) (has : List (List Kept)) (t : Handing) (came : Came) → s.attempt ≡ Some (record { ap = p; association = association.Accepted t.old.part }) → IsHandedBy d s p m has t
-    → IsHanded (pair d (Sta s.number) (Ap p)) m t came → came.is_finished ≡ false → IsTaken d (Take m.octets.now) (turn s (tried_state s p t.new.part has) t.waited t.waits) came.outcome
+    → IsHanded (pair d (Sta s.number) (Ap p)) m t came → came.installed ≡ None → IsTaken d (Take m.octets.now) (turn s (tried_state s p t.new.part has) t.waited t.waits) came.outcome
 taken-tried d s p m has t came is b x goes_on = record {
   number = refl;
   steps = λ first h st. (
       let place = accepted_is d first s h p t.old.part st is in
       let steps = steps-supplicant d s p m has t came first h b x place.1 (st.remembers p) in
       steps-handed d s (tried_state s p t.new.part has) p m t came first h has x steps
-      (stands-tried d first s h p (taken_as m.octets.now (message_fields m.message) came.outcome) x.reply t.old.part t.new.part has st is place.0 (not_installed x.reply.installed (sym x.finished ∙ goes_on)) b.only steps));
+      (stands-tried d first s h p (taken_as m.octets.now (message_fields m.message) came.outcome) x.reply t.old.part t.new.part has st is place.0 (not_installed x.reply.installed (sym x.installed ∙ goes_on)) b.only (ids-behind d s p m has t came first h b x st) steps));
   refused = λ w e. (let l = left_by d s p m has t came w b x e in
       ap (λ (y : Supplicant). tried_state s p y has) l.0 ∙ ap (tried_state s p t.old.part) l.1
       ∙ ap (λ (o : Option Attempt). record { number = s.number; drawn = s.drawn; attempt = o; session = s.session; memories = s.memories }) (sym is));
 }
 
 -- that becomes a session
-pub taken-finished : (d : Domain) (s : State) (p : ℕ) (m : Heard) (has : List (List Kept)) (t : Handing) (came : Came) → s.attempt ≡ Some (record { ap = p; association = association.Accepted t.old.part }) → IsHandedBy d s p m has t
-    → IsHanded (pair d (Sta s.number) (Ap p)) m t came → came.is_finished ≡ true → IsTaken d (Take m.octets.now) (turn s (finished_state s p t.new.part has) t.waited t.waits) came.outcome
-taken-finished d s p m has t came is b x done = record {
+pub taken-finished : (d : Domain) (s : State) (p : ℕ) (m : Heard) (tk : List ℕ) (has : List (List Kept)) (t : Handing) (came : Came) → s.attempt ≡ Some (record { ap = p; association = association.Accepted t.old.part }) → IsHandedBy d s p m has t
+    → IsHanded (pair d (Sta s.number) (Ap p)) m t came → came.installed ≡ Some tk → IsTaken d (Take m.octets.now) (turn s (finished_state s p t.new.part tk has) t.waited t.waits) came.outcome
+taken-finished d s p m tk has t came is b x done = record {
   number = refl;
   steps = λ first h st. (
       let place = accepted_is d first s h p t.old.part st is in
       let steps = steps-supplicant d s p m has t came first h b x place.1 (st.remembers p) in
-      let y = installed_there x.reply.installed (sym x.finished ∙ done) in
-      steps-handed d s (finished_state s p t.new.part has) p m t came first h has x steps
-      (stands-finished d first s h p (taken_as m.octets.now (message_fields m.message) came.outcome) x.reply y.0 t.old.part t.new.part has st is place.0 y.1 b.only steps));
-  refused = λ w e. absurd (not_both x.reply.installed (installed_there x.reply.installed (sym x.finished ∙ done)).0 (x.taken.refused w e).1 (installed_there x.reply.installed (sym x.finished ∙ done)).1);
+      let y = installed_there x.reply.installed tk (sym x.installed ∙ done) in
+      steps-handed d s (finished_state s p t.new.part tk has) p m t came first h has x steps
+      (subst (λ (z : List ℕ). Stands d first (finished_state s p t.new.part z has) (add (reply_acts (pair d (Sta s.number) (Ap p)) false (taken_as m.octets.now (message_fields m.message) came.outcome) x.reply) h)) y.1.1
+      (stands-finished d first s h p (taken_as m.octets.now (message_fields m.message) came.outcome) x.reply y.0 t.old.part t.new.part has st is place.0 y.1.0 b.only (ids-behind d s p m has t came first h b x st) steps)));
+  refused = λ w e. absurd (not_both x.reply.installed (installed_there x.reply.installed tk (sym x.installed ∙ done)).0 (x.taken.refused w e).1 (installed_there x.reply.installed tk (sym x.installed ∙ done)).1.0);
 }
 
 -- or in a session
-pub taken-held : (d : Domain) (s : State) (p : ℕ) (m : Heard) (has : List (List Kept)) (t : Handing) (came : Came) → s.session ≡ Some (record { ap = p; supplicant = t.old.part }) → IsHandedBy d s p m has t
-    → IsHanded (pair d (Sta s.number) (Ap p)) m t came → IsTaken d (Take m.octets.now) (turn s (held_state s p t.new.part has) t.waited t.waits) came.outcome
-taken-held d s p m has t came is b x = record {
+pub taken-held : (d : Domain) (s : State) (p : ℕ) (m : Heard) (k : Held) (has : List (List Kept)) (t : Handing) (came : Came) → s.session ≡ Some (record { ap = p; supplicant = t.old.part; key = k }) → IsHandedBy d s p m has t
+    → IsHanded (pair d (Sta s.number) (Ap p)) m t came → IsTaken d (Take m.octets.now) (turn s (held_state s p t.new.part (key_after k came.installed) has) t.waited t.waits) came.outcome
+taken-held d s p m k has t came is b x = record {
   number = refl;
   steps = λ first h st. (
-      let place = held_is d first s h p t.old.part st is in
-      let steps = steps-supplicant d s p m has t came first h b x place.1 (st.remembers p) in
-      steps-handed d s (held_state s p t.new.part has) p m t came first h has x steps
-      (stands-held d first s h p (taken_as m.octets.now (message_fields m.message) came.outcome) x.reply t.old.part t.new.part has st is place.0 b.only steps));
+      let place = held_is d first s h p t.old.part k st is in
+      let steps = steps-supplicant d s p m has t came first h b x place.stands (st.remembers p) in
+      steps-handed d s (held_state s p t.new.part (key_after k came.installed) has) p m t came first h has x steps
+      (subst (λ (o : Option (List ℕ)). Stands d first (held_state s p t.new.part (key_after k o) has) (add (reply_acts (pair d (Sta s.number) (Ap p)) false (taken_as m.octets.now (message_fields m.message) came.outcome) x.reply) h)) (sym x.installed)
+      (stands-held d first s h p (taken_as m.octets.now (message_fields m.message) came.outcome) x.reply t.old.part t.new.part k has st is place.listed b.only (ids-behind d s p m has t came first h b x st) steps)));
   refused = λ w e. (let l = left_by d s p m has t came w b x e in
-      ap (λ (y : Supplicant). held_state s p y has) l.0 ∙ ap (held_state s p t.old.part) l.1
+      let none : came.installed ≡ None = x.installed ∙ ap (option_map (λ (y : PairwiseKey). y.ptk.tk)) (x.taken.refused w e).1 in
+      ap (λ (o : Option (List ℕ)). held_state s p t.new.part (key_after k o) has) none
+      ∙ ap (λ (y : Supplicant). held_state s p y k has) l.0 ∙ ap (held_state s p t.old.part k) l.1
       ∙ ap (λ (o : Option Session). record { number = s.number; drawn = s.drawn; attempt = s.attempt; session = o; memories = s.memories }) (sym is));
 }

@@ -1,7 +1,8 @@
 -- A message handed to the supplicant of an attempt or of a session (this project's choice).
-use Rattle.std.specs.Prelude.{◌≡◌, false, List, ◌++◌, is_some}
+use Rattle.std.specs.Prelude.{◌≡◌, false, List, ◌++◌, option_map}
 use Rattle.run_journal.specs.declared.acts.Act.{Act}
 use Rattle.run_journal.specs.declared.reply.Reply.{Reply}
+use Rattle.run_journal.specs.declared.reply.Keyed.{Keyed}
 use Rattle.domain_rules.specs.Replies.{Pair, reply_acts, taken_as}
 use Rattle.frame_intake.specs.declared.delivered.Heard.{Heard}
 use Rattle.frame_intake.specs.Views.{message_fields}
@@ -25,4 +26,4 @@ pub record IsHanded (w : Pair) (m : Heard) (t : Handing) (came : Came) : Type 0 
   pub acts : t.waits ≡ t.waited
       ++ reply_acts w false (taken_as m.octets.now (message_fields m.message) came.outcome) reply
   pub taken : IsTakenBySupplicant m.message.message m.message.frame t.old t.new came.outcome reply
-  pub finished : came.is_finished ≡ is_some reply.installed
+  pub installed : came.installed ≡ option_map (λ (y : Keyed). y.ptk.tk) reply.installed

@@ -10,7 +10,12 @@ use Rattle.run_journal.specs.Questions.{attempt, own_nonce, derivation, session}
 use Rattle.run_journal.specs.Questions.{pending, associated, draws}
 use Rattle.domain_rules.specs.Asking.{by_connect, has_heard, kept_counter}
 use Rattle.group_key.specs.Holds.{Remembers}
+use Rattle.ccmp_guard.specs.Held.{Held}
+use Rattle.run_journal.specs.Acts.{Derivation}
+use Rattle.data_frames.specs.Holding.{HoldsPairwise}
+use Rattle.supplicant.specs.State.{State as SupplicantState}
 use Rattle.supplicant.specs.Stands.{SupplicantStands}
+use Rattle.supplicant.specs.Taken.{HaveGroupIds}
 use Rattle.station_node.specs.declared.attempt.Attempt.{Attempt}
 use Rattle.station_node.specs.declared.attempt.Association.{Association}
 use Rattle.station_node.specs.declared.attempt.Association.TheVariants.{Requested, Accepted}
@@ -37,9 +42,21 @@ abbrev pub HasAttempt : Domain → Node → Option Attempt → List Act → Type
 HasAttempt d n None h = Unit {0}
 HasAttempt d n (Some a) h = (a.ap < length d.aps) × HasAssociation d n a.ap a.association h
 
+-- the pairwise key of the session with p is in use
+pub record IsKeyed (p : Node) (k : Held) (h : List Act) : Type 0 where
+  pub key : Derivation
+  pub is : session p h ≡ Some key
+  pub holds : HoldsPairwise p key.ptk.tk k h
+
+-- the session with access point ap
+pub record IsIn (d : Domain) (n : Node) (ap : ℕ) (s : SupplicantState) (k : Held) (h : List Act) : Type 0 where
+  pub listed : ap < length d.aps
+  pub stands : SupplicantStands d n (Ap ap) s h
+  pub keyed : IsKeyed (Ap ap) k h
+
 abbrev pub HasSession : Domain → Node → Option Session → List Act → Type 0
 HasSession d n None h = Unit {0}
-HasSession d n (Some x) h = (x.ap < length d.aps) × SupplicantStands d n (Ap x.ap) x.supplicant h
+HasSession d n (Some x) h = IsIn d n x.ap x.supplicant x.key h
 
 -- the station, which began to draw at number `first`, stands for the history; with suites 2 and 6
 -- it has no session as it tries another
@@ -53,3 +70,4 @@ pub record Stands (d : Domain) (first : ℕ) (s : State) (h : List Act) : Type 0
   pub no_attempt : (p : ℕ) → IsElsewhere (peer_of_attempt s.attempt) p → attempt (Ap p) h ≡ None
   pub no_session : (p : ℕ) → IsElsewhere (peer_of_session s.session) p → session (Ap p) h ≡ None
   pub remembers : (p : ℕ) → Remembers (Ap p) (memory_at s.memories p) h
+  pub ids : (p : ℕ) → HaveGroupIds (memory_at s.memories p)

@@ -14,6 +14,8 @@ use Rattle.domain_rules.specs.Rows.{NodeEvent}
 use Rattle.domain_rules.specs.Closing.{sender}
 use Rattle.domain_rules.specs.Verdict.{first_verdict}
 use Rattle.domain_rules.specs.Associating.{management_verdict}
+use Rattle.domain_rules.specs.DataVerdict.{data_verdict}
+use Rattle.frame_intake.specs.SealedFields.{SealedFields, sealed_reading}
 use Rattle.node_base.specs.Events.{Steps, seen}
 use Rattle.station_node.specs.State.{State}
 use Rattle.station_node.specs.Stands.{Stands}
@@ -51,3 +53,10 @@ pub record IsManagementFrom (d : Domain) (sta ap : ℕ) (octets : List ℕ) (b :
   pub from : sender d (Sta sta) (Managed b e) ≡ Some (Ap ap)
   pub verdict_is : (first : ℕ) (h : List Act) → first_verdict d first (Sta sta) h (Managed b e)
       ≡ management_verdict d (first + draws h) (Sta sta) h (Ap ap) b.kind b e
+
+-- the octets are that protected data for the station from that access point
+pub record IsDataFrom (d : Domain) (sta ap : ℕ) (octets : List ℕ) (f : SealedFields) : Type 0 where
+  pub reads : Reads d.akm octets (sealed_reading f)
+  pub from : sender d (Sta sta) (sealed_reading f) ≡ Some (Ap ap)
+  pub verdict_is : (first : ℕ) (h : List Act) → first_verdict d first (Sta sta) h (sealed_reading f)
+      ≡ data_verdict (Sta sta) h (Ap ap) f.header f.tid f.body

@@ -5,6 +5,7 @@ ghost use Rattle.domain_rules.specs.Closing.{close_pending};
 
 use crate::session::Session;
 use act_memory::Outbox;
+use data_frames::DataKey;
 use domain_base::Node;
 use run_journal::{Act, Part};
 use supplicant::Supplicant;
@@ -29,6 +30,7 @@ pub struct Attempt {
 
 impl Attempt {
     ghost use Rattle.supplicant.specs.State.{State as SupplicantState};
+    ghost use Rattle.data_frames.specs.Holding.{fresh_key};
     ghost use Rattle.station_node.specs.Parts.{peer_of_attempt, IsNotRequested};
 
     /// The nonce of the attempt in which association was requested of that access point.
@@ -61,11 +63,12 @@ impl Attempt {
         }
     }
 
-    /// The attempt, in which M3 was accepted, becomes the session.
-    pub fn finish(attempt: &mut Option<Attempt>, session: &mut Option<Session>)
+    /// The attempt, in which M3 was accepted, becomes the session under that key.
+    pub fn finish(attempt: &mut Option<Attempt>, session: &mut Option<Session>, tk: &[u8; 16])
         ensures { (ap : ℕ) (s : SupplicantState)
             → attempt.old ≡ Some (record { ap = ap; association = Association.Accepted s })
-            → (attempt.new ≡ None) × (session.new ≡ Some (record { ap = ap; supplicant = s })) }
+            → (attempt.new ≡ None)
+            × (session.new ≡ Some (record { ap = ap; supplicant = s; key = fresh_key tk.now })) }
     {
         match attempt.take() {
             Some(
@@ -73,7 +76,14 @@ impl Attempt {
                     ap,
                     association: Association::Accepted(supplicant),
                 },
-            ) => *session = Some(Session { ap, supplicant }),
+            ) => {
+                let key = DataKey::pairwise(tk);
+                *session = Some(Session {
+                    ap,
+                    supplicant,
+                    key,
+                });
+            }
             other => *attempt = other,
         }
     }

@@ -1,6 +1,7 @@
 //! A message handed to a supplicant.
 
-ghost use Rattle.std.specs.Prelude.{◌≡◌, ◌<◌, length, IfOk, OnErr};
+ghost use Rattle.std.specs.Prelude.{◌≡◌, ◌<◌, length, option_map, IfOk, OnErr};
+ghost use Rattle.run_journal.specs.declared.reply.Keyed.{Keyed as AnyKeyed};
 ghost use Rattle.domain_base.specs.declared.names.Node.TheVariants.{Ap};
 ghost use Rattle.eapol_key.specs.Fields.{IsKeyFrame};
 ghost use Rattle.domain_rules.specs.Network.{IsListed};
@@ -22,8 +23,8 @@ use supplicant::Supplicant;
 pub struct Came {
     /// What came of it.
     pub outcome: Outcome,
-    /// Whether it made an attempt a session.
-    pub is_finished: bool,
+    /// The temporal key that it installed, if it did: then it made an attempt a session.
+    pub installed: Option<[u8; 16]>,
 }
 
 /// Hands a message of that access point to the supplicant of the station with it, and to the group
@@ -53,8 +54,17 @@ pub fn hand(
     let outcome = supplicant.step(message.message, &message.frame, memory, &mut reply);
     let between = Between::nothing(here.alloc);
     room.add_reply(outcome, false, &reply, between, out);
-    Ok(Came {
-        outcome,
-        is_finished: reply.installed.is_some(),
-    })
+    let installed = installed_key(&reply);
+    Ok(Came { outcome, installed })
+}
+
+// The temporal key that a reply installs.
+fn installed_key(reply: &Reply) -> Option<[u8; 16]>
+    ensures { result ≡ option_map (λ (y : AnyKeyed). y.ptk.tk) reply.now.installed }
+{
+    let Some(key) = reply.installed else {
+        return None;
+    };
+    let tk = key.ptk.tk;
+    Some(tk)
 }

@@ -2,6 +2,7 @@
 #![tactic(auto)]
 
 mod attempt;
+mod group_data;
 mod handing;
 mod laws;
 mod memories;

@@ -3,6 +3,7 @@
 ghost use Rattle.std.specs.Prelude.{true, ◌≡◌, ◌≢◌, ◌<◌, ◌≤◌, ◌+◌, ◌++◌, ℕ, List, [], length, IfOk, OnErr};
 ghost use Rattle.domain_base.specs.declared.names.Akm.{Akm as AnyAkm};
 ghost use Rattle.domain_base.specs.declared.names.Node.TheVariants.{Ap, Sta};
+ghost use Rattle.domain_base.specs.declared.names.Peer.TheVariants.{One};
 ghost use Rattle.eapol_key.specs.Fields.{IsKeyFrame};
 ghost use Rattle.run_journal.specs.declared.acts.Act.{Act as AnyAct};
 ghost use Rattle.run_journal.specs.declared.acts.Kind.TheVariants.{AssocResp};
@@ -14,21 +15,24 @@ ghost use Rattle.domain_rules.specs.Network.{InForm, is_ap, draw_end};
 ghost use Rattle.domain_rules.specs.Reading.{Management as ManagementFields};
 ghost use Rattle.domain_rules.specs.Replies.{IsMessageFrom};
 ghost use Rattle.domain_rules.specs.Closing.{close_associated, close_pending};
-ghost use Rattle.domain_rules.specs.Rows.{Begin, Leave, Take};
-ghost use Rattle.frame_intake.specs.Views.{management_fields, message_fields};
+ghost use Rattle.domain_rules.specs.Rows.{Begin, Leave, Send, Take};
+ghost use Rattle.frame_intake.specs.SealedFields.{IsSealedData};
+ghost use Rattle.frame_intake.specs.Views.{management_fields, message_fields, sealed_fields};
 ghost use Rattle.node_base.specs.Events.{event_of, IsEventAt, Steps, seen};
+ghost use Rattle.node_base.specs.Peers.{IsReceiverOf, most_payload};
 ghost use Rattle.station_node.specs.Parts.{peer_of_attempt, peer_of_session, has_neither, IsElsewhere};
 ghost use Rattle.station_node.specs.Stands.{Stands};
-ghost use Rattle.station_node.specs.Steps.{Takes, turn, IsManagementFrom};
+ghost use Rattle.station_node.specs.Steps.{Takes, turn, IsManagementFrom, IsDataFrom};
 
 use crate::attempt::{Association, Attempt};
+use crate::group_data::take_group;
 use crate::handing::hand;
 use crate::memories::make_place;
 use crate::refusing::{refuse, refuse_message};
 use crate::session::Session;
 use act_memory::{Outbox, settle, took};
-use domain_base::{NoMemory, Node};
-use frame_intake::{Heard, Judged, Management, judge, read};
+use domain_base::{NoMemory, Node, Peer, Tid};
+use frame_intake::{Heard, Judged, Management, SealedData, is_group, judge, read};
 use frame_making::assoc_req;
 use group_key::GroupMemory;
 use node_base::{DRAW_END, Here, NodeEvent, nonce};
@@ -109,6 +113,8 @@ impl StationNode {
         match event {
             NodeEvent::Connect(ap) => self.connect(here, ap, out),
             NodeEvent::Take(octets) => self.take(here, octets, out),
+            NodeEvent::Send(to, Some(tid), payload) => self.send(here, to, Some(tid), payload, out),
+            NodeEvent::Send(to, None, payload) => self.send(here, to, None, payload, out),
             NodeEvent::Leave => self.leave(out),
             NodeEvent::Retry(_) => unreachable!(),
             NodeEvent::Rekey => unreachable!(),
@@ -135,6 +141,9 @@ impl StationNode {
             }
             Judged::Keyed(from, message) => {
                 self.take_message(here, number_of(from), &Heard { octets, message }, out)
+            }
+            Judged::Sealed(from, frame) => {
+                self.take_data(here.alloc, number_of(from), octets, &frame, out)
             }
         }
     }
@@ -190,6 +199,61 @@ impl StationNode {
         self.attempt = None;
         self.session = None;
         Ok(Outcome::Done)
+    }
+
+    // Sends a payload under the key of the session with that access point, or does nothing where there is
+    // none.
+    fn send(
+        &mut self,
+        here: Here<'_>,
+        to: Peer,
+        tid: Option<Tid>,
+        payload: &[u8],
+        out: &mut Outbox,
+    ) -> Result<Outcome, NoMemory>
+        requires listed { self.old.number < length here.domain.now.stas }
+        requires node { here.node ≡ Sta self.old.number }
+        requires receiver { IsReceiverOf here.domain.now (Sta self.old.number) to }
+        requires short { length payload.now ≤ most_payload }
+        ensures { Takes here.entry.domain.now (Send to tid payload.now)
+            (turn self.old self.new out.old.acts out.new.acts) result }
+    {
+        let with = receiver_number(here.domain, self.number, to);
+        match &mut self.session {
+            Some(Session { ap, key, .. }) if *ap == with => key.send(here, to, tid, payload, out),
+            _ => {
+                out.reserve(1)?;
+                out.add(Act::Idle { why: Why::NoKey });
+                Ok(Outcome::Idle(Why::NoKey))
+            }
+        }
+    }
+
+    // Protected data of that access point: for the station alone it is under the key of the session with
+    // it, and for a group under one of the group keys that are kept of it.
+    fn take_data(
+        &mut self,
+        alloc: Global,
+        ap: u16,
+        octets: &[u8],
+        frame: &SealedData<'_>,
+        out: &mut Outbox,
+    ) -> Result<Outcome, NoMemory>
+        requires whole { IsSealedData (sealed_fields frame.now) }
+        ensures { (d : AnyDomain) → ap < length d.aps
+            → IsDataFrom d self.old.number ap octets.now (sealed_fields frame.now)
+            → Takes d (Take octets.now) (turn self.old self.new out.old.acts out.new.acts) result }
+    {
+        match &mut self.session {
+            Some(Session { ap: with, key, .. }) if *with == ap => {
+                if is_group(frame.header.a1) {
+                    let kept = &mut self.memories[usize::from(ap)];
+                    return take_group(alloc, ap, octets, frame, kept, out);
+                }
+                key.take(alloc, Node::Ap(ap), octets, frame, out)
+            }
+            _ => refuse(alloc, ap, octets, Kind::Data, Reason::NoKey, out),
+        }
     }
 
     // A management frame of that access point.
@@ -282,8 +346,8 @@ impl StationNode {
                 Association::Accepted(supplicant) => {
                     let memory = &mut self.memories[usize::from(ap)];
                     let came = hand(here, ap, heard, supplicant, memory, out)?;
-                    if came.is_finished {
-                        Attempt::finish(&mut self.attempt, &mut self.session);
+                    if let Some(tk) = came.installed {
+                        Attempt::finish(&mut self.attempt, &mut self.session, &tk);
                     }
                     Ok(came.outcome)
                 }
@@ -315,10 +379,12 @@ impl StationNode {
                 Session {
                     ap: with,
                     supplicant,
+                    key,
                 },
             ) if *with == ap => {
                 let kept = &mut self.memories[usize::from(ap)];
                 let came = hand(here, ap, heard, supplicant, kept, out)?;
+                Session::take_key(key, came.installed);
                 Ok(came.outcome)
             }
             _ => refuse_message(here.alloc, ap, heard, out),
@@ -358,5 +424,19 @@ fn number_of(peer: Node) -> u16
     match peer {
         Node::Ap(number) => number,
         Node::Sta(_) => unreachable!(),
+    }
+}
+
+// The number of the access point to which a station sends.
+fn receiver_number(domain: &Domain, sta: u16, to: Peer) -> u16
+    requires { IsReceiverOf domain.now (Sta sta) to }
+    ensures { to ≡ One (Ap result) }
+{
+    match to {
+        Peer::One(peer) => match peer {
+            Node::Ap(number) => number,
+            Node::Sta(_) => unreachable!(),
+        },
+        Peer::All => unreachable!(),
     }
 }

@@ -6,6 +6,7 @@ pub mod KeyDataRead
 pub mod G1Read
 pub mod Sessions
 pub mod Remembering
+pub mod GroupIds
 pub mod TakenM3
 pub mod TakenG1
 pub mod OwnKeys

@@ -53,7 +53,8 @@ use Rattle.supplicant.specs.M3.{under}
 use Rattle.supplicant.specs.G1.{before_g1_key_data, IsVerifiedG1, IsG1RefusedBefore, IsG1}
 use Rattle.supplicant.specs.Told.{IsSilent, verifies, renews}
 use Rattle.supplicant.specs.Exchange.{Renews, IsG1Refusal}
-use Rattle.supplicant.specs.Taken.{IsTaken}
+use Rattle.supplicant.specs.Taken.{IsTaken, HaveGroupIds}
+use Rattle.supplicant.proofs.GroupIds.{carried_id, ids_given}
 use Rattle.supplicant.proofs.Telling.{steps_by, tells_silent, empty_silent, whole_silent}
 use Rattle.supplicant.proofs.Standing.{some_part, at_least-greater, stands_refused}
 use Rattle.supplicant.proofs.Remembering.{remembers_took}
@@ -164,6 +165,7 @@ g1_sealed f s ks x why r has silent seal verified = record {
   refused = λ w e. (refl, silent.installed);
   whole = whole_silent r silent;
   ends = (refl, refl);
+  ids = λ ids. ids;
 }
 
 refused_by_told : (f : KeyFrame) (s : State) (ks : List Kept) (x : Session) (why : Reason) (r : Reply) (v : Option (List ℕ)) → r.verified ≡ v → s.session ≡ Some x → IsSilent r
@@ -295,4 +297,5 @@ g1_renewed f s old new had has r none there done whole = record {
   refused = λ w e. cc;
   whole = whole;
   ends = (refl, refl);
+  ids = λ ids. subst HaveGroupIds (sym done.memory) (ids_given done.group.key done.group.id (packet_number_of f.rsc) had (carried_id None done.verified.opened.plain done.verified.opened.says done.group done.verified.opened.is) ids);
 }

@@ -88,6 +88,7 @@ taken_refused m f s ks why r silent plain verdict_is = record {
   refused = λ w e. (refl, silent.installed);
   whole = whole_silent r silent;
   ends = (refl, refl);
+  ids = λ ids. ids;
 }
 
 -- ---- other messages
@@ -210,4 +211,5 @@ m1_accepted f s ks old new r suite has answers whole = record {
   refused = λ w e. cc;
   whole = whole;
   ends = (refl, refl);
+  ids = λ ids. ids;
 }

@@ -53,7 +53,8 @@ use Rattle.supplicant.specs.KeyData.{packet_number_of, group_key, news_of, IsOpe
 use Rattle.supplicant.specs.M3.{under, before_key_data, IsVerified, IsRefusedBefore, IsM3}
 use Rattle.supplicant.specs.Told.{IsSilent, verifies, repeats, installs}
 use Rattle.supplicant.specs.Exchange.{Finishes, Repeats, IsRefusal}
-use Rattle.supplicant.specs.Taken.{IsTaken}
+use Rattle.supplicant.specs.Taken.{IsTaken, HaveGroupIds}
+use Rattle.supplicant.proofs.GroupIds.{carried_id, ids_given}
 use Rattle.supplicant.proofs.Telling.{steps_by, tells_silent, empty_silent, whole_silent}
 use Rattle.supplicant.proofs.Standing.{stands_refused}
 use Rattle.supplicant.proofs.Remembering.{remembers_took, remembers_answered, remembers_finished}
@@ -81,7 +82,7 @@ m3_refused f s ks y kept why r silent plain keying judged = taken_refused M3 f s
 -- ---- what is known where its MIC verified
 
 abbrev pub facts_of : {asked : Option Akm} {kek octets : List ℕ} {r : Result CarriedKey Reason} → IsOpened asked kek octets r → Facts
-facts_of o = record { requested = None; unwrapped = o.plain; data_ = o.says }
+facts_of o = record { requested = None; unwrapped = o.plain; data_ = o.says; opened = None }
 
 knows_y : (d : Domain) (n p : Node) (h : List Act) (k : KeyMessage) (y : Keyed) (kept : Option ℕ) (facts : Facts) → IsKeying d n p h y kept → KnowsM3 y.ptk.kek k facts → (z : Keying) → m3_keying p h ≡ Some z → KnowsM3 z.key.ptk.kek k facts
 knows_y d n p h k y kept facts x knows z is =
@@ -157,6 +158,7 @@ m3_sealed f s ks y kept why r silent seal keying verified = record {
   refused = λ w e. (refl, silent.installed);
   whole = whole_silent r silent;
   ends = (refl, refl);
+  ids = λ ids. ids;
 }
 
 refused_by_told : (f : KeyFrame) (s : State) (ks : List Kept) (y : Keyed) (kept : Option ℕ) (why : Reason) (r : Reply) (v : Option (List ℕ)) → r.verified ≡ v → IsSilent r → AreKeyings s y kept
@@ -252,6 +254,7 @@ m3_finished f s old had has x r is key done whole = record {
   refused = λ w e. cc;
   whole = whole;
   ends = (refl, refl);
+  ids = λ ids. subst HaveGroupIds (sym done.memory) (ids_given done.group.key done.group.id (packet_number_of f.rsc) had (carried_id (Some s.ends.akm) done.verified.opened.plain done.verified.opened.says done.group done.verified.opened.is) ids);
 }
 
 -- ---- answered once more
@@ -317,4 +320,5 @@ m3_answered f s old new ks r none has done whole = record {
   refused = λ w e. cc;
   whole = whole;
   ends = (refl, refl);
+  ids = λ ids. ids;
 }

@@ -470,39 +470,3 @@ fn key_data_of_message_3(rt: HostRuntime) {
     let mut buffer = [0xff; 50];
     assert!(rt; write_message_3(&mut buffer) == [46, 48] && buffer == MESSAGE_3);
 }
-
-const SENT_FTE: Fte<'static> = Fte {
-    mic_control: [0, 0],
-    mic: [0; 16],
-    anonce: [0; 32],
-    snonce: [0; 32],
-    r1kh_id: Some([2, 0, 0, 0, 0, 1]),
-    gtk: None,
-    r0kh_id: Some(b"r0kh-1"),
-};
-
-// How many octets stand there behind the RSNE, the MDE, the GTK KDE, the FTE, the timeout intervals and the padding.
-fn write_message_3_with_fast_transition(buffer: &mut [u8; 184], name: &[u8; 16]) -> [usize; 6] {
-    let mut writer = ElementWriter::over(buffer);
-    writer.rsne(Akm::FtPsk, Some(name));
-    let rsne = writer.len();
-    writer.mde([0xa1, 0xb2]);
-    let mde = writer.len();
-    writer.gtk_kde(2, name);
-    let gtk = writer.len();
-    writer.fte(&SENT_FTE);
-    let fte = writer.len();
-    writer.timeout(1, 1000);
-    writer.timeout(2, 86400);
-    let timeouts = writer.len();
-    writer.pad();
-    [rsne, mde, gtk, fte, timeouts, writer.len()]
-}
-
-#[test]
-fn key_data_of_message_3_with_fast_transition(rt: HostRuntime) {
-    let mut buffer = [0; 184];
-    let lens = write_message_3_with_fast_transition(&mut buffer, &NAME);
-    assert!(rt; lens == [40, 45, 69, 169, 183, 184]);
-    assert!(rt; buffer[183] == 0xdd && fault(&buffer, Within::KeyData).is_none());
-}

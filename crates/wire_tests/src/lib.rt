@@ -1,12 +1,19 @@
-//! Tests of the public calls of the crates below the journal: cryptography, frames, elements, keys.
+//! Tests of the public calls of the crates below the journal: the outside, cryptography, frames,
+//! elements, keys.
 #![tactic(auto)]
 
+#[cfg(test)]
+mod adapters;
 #[cfg(test)]
 mod blocks;
 #[cfg(test)]
 mod elements;
 #[cfg(test)]
+mod fast_transition;
+#[cfg(test)]
 mod frames;
+#[cfg(test)]
+mod holders;
 #[cfg(test)]
 mod key_frames;
 #[cfg(test)]

@@ -2,9 +2,9 @@
 //! printed.
 
 use domain_base::{
-    Air, Draws, Failed, Incoming, Link, MemSink, MemSource, NoMemory, Node, Octets, Peer, Sink,
-    Source, SteadyAir, SteadyDraws, SteadyLink, SteadySink, SteadySource, Tid, array_at,
-    big_u16_at, little_u16_at, put, write_all,
+    Air, Draws, Failed, Incoming, Link, LinkError, LinkPlan, MemAir, MemDraws, MemLink, MemSink,
+    MemSource, NoMemory, Node, Octets, Peer, Sink, Source, SteadyAir, SteadyDraws, SteadyLink,
+    SteadySink, SteadySource, Tid, array_at, big_u16_at, little_u16_at, put, write_all,
 };
 use std::alloc::Global;
 use std::process::Abort;
@@ -180,4 +180,80 @@ fn draws_give_their_seed(rt: HostRuntime) {
     let mut draws = SteadyDraws::new([7; 32]);
     assert!(rt; draws.seed() == Ok([7; 32]));
     assert!(rt; draws.seed() == Ok([7; 32]));
+}
+
+// The link gives its first frame, fails, and gives its second one, cut; then a send fails, and the
+// next one is kept.
+fn fails_twice(link: &mut MemLink) -> bool {
+    for frame in [Ok(Some(*b"one\0")), Err(Failed), Ok(Some(*b"anot"))] {
+        if next_frame(link) != frame {
+            return false;
+        }
+    }
+    matches!(link.send(Node::Sta(2), b"lost"), Err(LinkError::Failed))
+        && link.send(Node::Sta(2), b"reply").is_ok()
+        && link.sent().len() == 1
+        && link.left().is_empty()
+}
+
+#[test]
+fn a_link_fails_where_it_was_told(rt: HostRuntime) {
+    let frames = two_frames(rt.alloc()).expect(&rt, "memory");
+    let failing = [1, 3].to_vec(rt.alloc()).expect(&rt, "memory");
+    let mut link = MemLink::new(rt.alloc(), Node::Ap(0), frames, failing);
+    assert!(rt; fails_twice(&mut link));
+}
+
+// An air with two frames for the first access point. The second call of `attach` fails, and so does
+// the first call of the link.
+fn failing_air(alloc: Global) -> Result<MemAir, NoMemory> {
+    let failing = [0].to_vec(alloc)?;
+    let mut plans = Vec::new(alloc);
+    plans.push(LinkPlan::new(Node::Ap(0), two_frames(alloc)?, failing))?;
+    MemAir::new(alloc, plans, [1].to_vec(alloc)?)
+}
+
+// No link is given to a node: the first time because the call was to fail, then because the access
+// point was attached before, and because nothing was handed in for the station.
+fn gives_no_more(air: &mut MemAir) -> bool {
+    for node in [Node::Ap(0), Node::Ap(0), Node::Sta(0)] {
+        if air.attach(node).is_ok() {
+            return false;
+        }
+    }
+    true
+}
+
+#[test]
+fn an_air_fails_where_it_was_told(rt: HostRuntime) {
+    let mut air = failing_air(rt.alloc()).expect(&rt, "memory");
+    let mut link = air.attach(Node::Ap(0)).expect(&rt, "a link");
+    let is_right = gives_no_more(&mut air)
+        && next_frame(&mut link) == Err(Failed)
+        && gives_two_and_sends(&mut link);
+    air.take_back(link);
+    assert!(rt; is_right && air.tells() && sent_one_reply(air.returned()));
+}
+
+// A link of the first station that nothing was handed in for.
+fn take_back_another(alloc: Global, air: &mut MemAir) {
+    air.take_back(MemLink::new(alloc, Node::Sta(0), Vec::new(alloc), Vec::new(alloc)));
+}
+
+#[test]
+fn a_failing_air_without_room_ceases_to_tell(rt: HostRuntime) {
+    let mut air = failing_air(rt.alloc()).expect(&rt, "memory");
+    take_back_another(rt.alloc(), &mut air);
+    let tells = air.tells();
+    take_back_another(rt.alloc(), &mut air);
+    assert!(rt; tells && !air.tells() && air.returned().len() == 1);
+}
+
+#[test]
+fn draws_fail_where_they_were_told(rt: HostRuntime) {
+    let failing = [1].to_vec(rt.alloc()).expect(&rt, "memory");
+    let mut draws = MemDraws::new([7; 32], failing);
+    for given in [Ok([7; 32]), Err(Failed), Ok([7; 32])] {
+        assert!(rt; draws.seed() == given);
+    }
 }

@@ -8,8 +8,8 @@ use domain_base::{Failed, MemSink, MemSource, Source, SteadyAir, SteadyDraws};
 use domain_cli::{Status, run};
 use run_journal::Journal;
 use scripts::{
-    FRAMES, HANDSHAKE, LONG_FRAMES, LONG_SCRIPTS, NETWORK, NETWORKS, OPEN_LINES, PASSPHRASE,
-    READ_FAULTS, REPORT, SCRIPTS, TEXTS, WORDS, WRITE_FAULTS,
+    CARRIED, CARRIED_REPORT, FRAMES, HANDSHAKE, LONG_LINES, LONG_SCRIPTS, NETWORK, NETWORKS,
+    OPEN_LINES, PASSPHRASE, READ_FAULTS, REPORT, SCRIPTS, TEXTS, WORDS, WRITE_FAULTS,
 };
 use std::alloc::Global;
 use std::process::Abort;
@@ -114,7 +114,7 @@ fn ends<R: Threads + Sync + Abort>(
     written: &[u8],
 ) -> bool {
     let mut source = source_of(rt, alloc, octets, NEVER);
-    let mut sink = sink_of(rt, alloc, 4000, NEVER);
+    let mut sink = sink_of(rt, alloc, 6000, NEVER);
     replays(rt, alloc, &mut source, &mut sink, status, written)
 }
 
@@ -354,38 +354,50 @@ fn many_nodes(rt: HostRuntime) {
     }
 }
 
-// A script that injects a frame of so many digits 0.
-fn injection(rt: &impl Abort, alloc: Global, digits: usize) -> Vec<u8> {
-    let mut script = joined(rt, alloc, NETWORK, "inject a1 ");
-    add_many(rt, &mut script, b'0', digits);
-    script
-}
-
-// A script that injects so long a frame ends so, and writes this.
-fn is_long_frame<R: Threads + Sync + Abort>(
+// A script whose last line has this front and so many digits 0 ends so, and writes this.
+fn is_long_line<R: Threads + Sync + Abort>(
     rt: &R,
     alloc: Global,
+    line: &str,
     digits: usize,
     status: Status,
     report: &str,
 ) -> bool {
-    ends(
-        rt,
-        alloc,
-        injection(rt, alloc, digits),
-        status,
-        report.as_bytes(),
-    )
+    let mut script = joined(rt, alloc, NETWORK, line);
+    add_many(rt, &mut script, b'0', digits);
+    ends(rt, alloc, script, status, report.as_bytes())
 }
 
 #[test]
-fn long_frames(rt: HostRuntime) {
-    for (digits, status, report) in LONG_FRAMES {
+fn long_frames_and_payloads(rt: HostRuntime) {
+    for (line, digits, status, report) in LONG_LINES {
         assert!(rt;
-            is_long_frame(&rt, rt.alloc(), *digits, *status, report),
-            "{digits}"
+            is_long_line(&rt, rt.alloc(), line, *digits, *status, report),
+            "{line}{digits}"
         );
     }
+}
+
+// What stands in front, and behind it a text, 4608 digits and another text.
+fn carrying(rt: &impl Abort, front: Vec<u8>, texts: (&str, &str)) -> Vec<u8> {
+    let mut octets = front;
+    add(rt, &mut octets, texts.0);
+    add_many(rt, &mut octets, b'7', 4608);
+    add(rt, &mut octets, texts.1);
+    octets
+}
+
+// The report of a handshake, and behind it that of a payload of 2304 octets.
+fn carried(rt: &impl Abort, alloc: Global) -> Vec<u8> {
+    let lines = Vec::from_slice(alloc, front_of_report(rt, 409)).expect(rt, "memory");
+    carrying(rt, lines, CARRIED_REPORT)
+}
+
+#[test]
+fn longest_payload_is_handed_up(rt: HostRuntime) {
+    let script = carrying(&rt, joined(&rt, rt.alloc(), NETWORK, HANDSHAKE), CARRIED);
+    let report = carried(&rt, rt.alloc());
+    assert!(rt; ends(&rt, rt.alloc(), script, Status::Done, &report));
 }
 
 fn has_text(rt: &impl Abort, alloc: Global, status: Status, text: &str) -> bool {

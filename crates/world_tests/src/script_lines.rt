@@ -5,15 +5,15 @@ ghost use Rattle.frame_script.specs.Headers.{HasSeen, Reading};
 
 mod rows;
 
-use domain_base::{Akm, Mac, NoMemory, Node, Octets, Peer};
+use domain_base::{Akm, Mac, NoMemory, Node, Octets, Peer, Tid};
 use frame_script::{LineFault, ScriptReader, Step};
 use rows::Says::{
     self, Alter, Ap, Connect, Cut, Deliver, Expire, Inject, Leave, Limit, Network, Nothing,
-    OutOfMemory, Rekey, Retry, Script, Sta,
+    OutOfMemory, Rekey, Retry, Script, Send, Sta,
 };
 use rows::{
     A1, ADDRESS, BOTH, BSSID, EVENT_LINES, FALTERING, FORMS, GROWING, HEADER, HEADER_LINES,
-    INJECTIONS, LATE_LINES, LONG_PSK, MORE_APS, MORE_STAS, NO_NODE, NODE_LINES, PSK, S1, SEED,
+    LATE_LINES, LONG_LINES, LONG_PSK, MORE_APS, MORE_STAS, NO_NODE, NODE_LINES, PSK, S1, SEED,
     SIZES,
 };
 use run_journal::{Act, Domain, Entry, Event, Journal, Kind, Start};
@@ -47,6 +47,12 @@ fn what_it_asks(event: &Event) -> Says {
         Event::Inject { to, octets } => Inject(*to, octets.as_slice().len()),
         Event::Retry { ap, sta } => Retry(*ap, *sta),
         Event::Rekey { ap } => Rekey(*ap),
+        Event::Send {
+            from,
+            to,
+            tid,
+            octets,
+        } => Send(*from, *to, tid.map(Tid::number), octets.as_slice().len()),
         Event::Expire { ap, sta } => Expire(*ap, *sta),
         Event::Leave { sta } => Leave(*sta),
     }
@@ -386,11 +392,9 @@ fn lines_that_ask_for_events(rt: HostRuntime) {
     drop(journal);
 }
 
-// `inject`, a node, so many times two digits and what stands behind them.
-fn inject_line(alloc: Global, node: &[u8], count: usize, end: &[u8]) -> Result<Vec<u8>, NoMemory> {
-    let mut line = Vec::from_slice(alloc, b"inject ")?;
-    line.extend_from_slice(node)?;
-    line.push(b' ')?;
+// That front of a line, so many times two digits and what stands behind them.
+fn long_line(alloc: Global, front: &[u8], count: usize, end: &[u8]) -> Result<Vec<u8>, NoMemory> {
+    let mut line = Vec::from_slice(alloc, front)?;
     for _ in 0..count {
         line.extend_from_slice(b"5A")?;
     }
@@ -399,13 +403,13 @@ fn inject_line(alloc: Global, node: &[u8], count: usize, end: &[u8]) -> Result<V
 }
 
 #[test]
-fn frames_that_are_injected(rt: HostRuntime) {
+fn long_frames_and_payloads(rt: HostRuntime) {
     let journal = Journal::new(rt.alloc());
-    for (node, count, end, want) in INJECTIONS {
-        let line = inject_line(rt.alloc(), node, *count, end).expect(&rt, "memory");
+    for (front, count, end, want) in LONG_LINES {
+        let line = long_line(rt.alloc(), front, *count, end).expect(&rt, "memory");
         assert!(rt;
             ask(&rt, rt.alloc(), HEADER, BOTH, &journal, &line) == *want,
-            "{count}"
+            "{front:?}, {count}"
         );
     }
 }
@@ -439,20 +443,25 @@ fn forms_of_lines(rt: HostRuntime) {
     }
 }
 
-fn is_injected(answer: Result<Step, LineFault>, frame: &[u8]) -> bool {
+fn has_octets(answer: Result<Step, LineFault>, frame: &[u8]) -> bool {
     match &answer {
-        Ok(Step::Event(Event::Inject { octets, .. })) => octets.as_slice() == frame,
+        Ok(Step::Event(Event::Inject { octets, .. } | Event::Send { octets, .. })) => {
+            octets.as_slice() == frame
+        }
         _ => false,
     }
 }
 
 #[test]
-fn a_frame_is_injected_as_it_stands(rt: HostRuntime) {
+fn octets_are_as_they_stand(rt: HostRuntime) {
+    let lines: [&[u8]; 2] = [b"inject a1 00Ff5a", b"send a1 all 5 00Ff5a"];
     let journal = Journal::new(rt.alloc());
-    let mut reader = reader_behind(&rt, rt.alloc(), HEADER, BOTH, &journal);
-    let answer = reader.line(rt.alloc(), b"inject a1 00Ff5a", &journal);
-    assert!(rt; is_injected(answer, &[0, 0xff, 0x5a]));
-    drop(reader);
+    for line in lines {
+        let mut reader = reader_behind(&rt, rt.alloc(), HEADER, BOTH, &journal);
+        let answer = reader.line(rt.alloc(), line, &journal);
+        assert!(rt; has_octets(answer, &[0, 0xff, 0x5a]), "{line:?}");
+        drop(reader);
+    }
     drop(journal);
 }
 

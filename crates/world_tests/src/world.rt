@@ -4,12 +4,13 @@ ghost use Rattle.std.specs.Prelude.{◌≡◌, ◌≢◌, ◌≤◌, ◌<◌, su
 ghost use Rattle.domain_base.specs.declared.names.Akm.{Akm as AnyAkm};
 ghost use Rattle.domain_rules.specs.Network.{InForm, IsListed};
 ghost use Rattle.domain_world.specs.Owning.{HasOctets, IsEventIn, Owns};
+ghost use Rattle.node_base.specs.Peers.{IsReceiverOf, most_payload};
 
 mod cases;
 mod outcomes;
 
 use cases::{CASES, CHANGED, COMING, Line, STARTED, THREE_FRAMES, Turn};
-use domain_base::{Akm, Mac, Node, Octets};
+use domain_base::{Akm, Mac, Node, Octets, Peer, Tid};
 use domain_world::World;
 use outcomes::come_to;
 use run_journal::{Act, Aps, Domain, Entry, Event, Journal, Outcome, Stas};
@@ -40,6 +41,12 @@ fn event(rt: &impl Abort, alloc: Global, turn: Turn) -> Event {
         },
         Turn::Retry => Event::Retry { ap: 0, sta: 0 },
         Turn::Rekey => Event::Rekey { ap: 0 },
+        Turn::Send(from, to, tid, payload) => Event::Send {
+            from,
+            to,
+            tid: tid.and_then(Tid::new),
+            octets: octets(rt, alloc, payload),
+        },
         Turn::Expire => Event::Expire { ap: 0, sta: 0 },
         Turn::Leave => Event::Leave { sta: 0 },
     }
@@ -129,6 +136,24 @@ fn has_octet(world: &World, number: u64, place: usize, journal: &Journal) -> boo
     is_below(place, frame)
 }
 
+// The node sends to that one.
+fn is_receiver(domain: &Domain, from: Node, to: Peer) -> bool
+    ensures { IsTrue result → IsReceiverOf domain.now from to }
+{
+    match (from, to) {
+        (Node::Ap(_), Peer::All) => true,
+        (Node::Ap(_), Peer::One(Node::Sta(number))) => usize::from(number) < domain.stas.0.len(),
+        (Node::Sta(_), Peer::One(Node::Ap(number))) => usize::from(number) < domain.aps.0.len(),
+        _ => false,
+    }
+}
+
+fn is_payload(octets: &[u8]) -> bool
+    ensures { IsTrue result → length octets.now ≤ most_payload }
+{
+    octets.len() <= 2304
+}
+
 fn is_event_in(world: &World, event: &Event, journal: &Journal) -> bool
     requires { Owns world.now journal.now.entries }
     ensures { IsTrue result
@@ -160,6 +185,16 @@ fn is_event_in(world: &World, event: &Event, journal: &Journal) -> bool
         }
         Event::Inject { to, .. } => is_listed(domain, *to),
         Event::Rekey { ap } => is_listed(domain, Node::Ap(*ap)),
+        Event::Send {
+            from,
+            to,
+            octets,
+            ..
+        } => {
+            is_listed(domain, *from)
+                && is_receiver(domain, *from, *to)
+                && is_payload(octets.as_slice())
+        }
         Event::Expire { ap, sta } => {
             is_listed(domain, Node::Ap(*ap)) && is_listed(domain, Node::Sta(*sta))
         }
@@ -210,10 +245,11 @@ fn verb(act: &Act) -> &'static str {
         Act::Took { .. } => "took",
         Act::Installed { .. } => "installed",
         Act::Resumed { .. } => "resumed",
+        Act::Used { .. } => "used",
+        Act::HandedUp { .. } => "handed up",
         Act::Finished { .. } => "finished",
         Act::GaveUp { .. } => "gave up",
         Act::Idle { .. } => "idle",
-        _ => "other",
     }
 }
 

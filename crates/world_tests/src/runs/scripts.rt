@@ -554,6 +554,111 @@ keys installed 1 resumed 0 used 0 handed-up 0
 premises fresh yes no-collision yes unforged yes
 ",
     ),
+    (
+        "data altered, with no packet number, with another key id, as it was sent, and again",
+        "connect s1 a1
+deliver 1 to a1
+deliver 2 to s1
+deliver 3 to s1
+deliver 4 to a1
+deliver 5 to s1
+deliver 6 to a1
+send s1 a1 5 6869
+alter 7 43 01 to a1
+alter 7 29 20 to a1
+alter 7 29 40 to a1
+deliver 7 to a1
+deliver 7 to a1
+",
+        "install a1 all gtk 1
+open s1 a1 connect
+sent 1 s1 a1 assoc-req 62
+took a1 assoc-req accepted
+open a1 s1 connect
+sent 2 a1 s1 assoc-resp 36
+sent 3 a1 s1 m1 131
+took s1 assoc-resp accepted
+took s1 m1 accepted
+sent 4 s1 a1 m2 153
+took a1 m2 accepted
+sent 5 a1 s1 m3 187
+took s1 m3 accepted
+install s1 a1 ptk
+install s1 a1 gtk 1
+finish s1 a1
+sent 6 s1 a1 m4 131
+took a1 m4 accepted
+install a1 s1 ptk
+finish a1 s1
+used s1 a1 0 1
+sent 7 s1 a1 data 44
+took a1 data refused seal
+took a1 unread refused out-of-profile 20
+took a1 data refused no-key
+took a1 data accepted
+up a1 s1 0 5 1 6869
+took a1 data refused replayed 1
+end frames 7 accepted 7 answered 0 refused 4 ignored 0
+keys installed 4 resumed 0 used 1 handed-up 1
+premises fresh yes no-collision yes unforged yes
+",
+    ),
+    (
+        "data to all, before a session, and in it, once",
+        "send s1 a1 - 00
+send a1 s1 - 00
+send a1 all - 68656c6c6f
+deliver 1 to s1
+connect s1 a1
+deliver 2 to a1
+deliver 3 to s1
+deliver 4 to s1
+deliver 5 to a1
+deliver 6 to s1
+deliver 7 to a1
+deliver 1 to s1
+send a1 all - 6869
+deliver 8 to s1
+deliver 8 to s1
+deliver 8 to a1
+",
+        "install a1 all gtk 1
+idle s1 no-key
+idle a1 no-key
+used a1 all 1 1
+sent 1 a1 all data 45
+took s1 data refused no-key
+open s1 a1 connect
+sent 2 s1 a1 assoc-req 62
+took a1 assoc-req accepted
+open a1 s1 connect
+sent 3 a1 s1 assoc-resp 36
+sent 4 a1 s1 m1 131
+took s1 assoc-resp accepted
+took s1 m1 accepted
+sent 5 s1 a1 m2 153
+took a1 m2 accepted
+sent 6 a1 s1 m3 187
+took s1 m3 accepted
+install s1 a1 ptk
+install s1 a1 gtk 1
+finish s1 a1
+sent 7 s1 a1 m4 131
+took a1 m4 accepted
+install a1 s1 ptk
+finish a1 s1
+took s1 data refused replayed 1
+used a1 all 1 2
+sent 8 a1 all data 42
+took s1 data accepted
+up s1 a1 1 0 2 6869
+took s1 data refused replayed 2
+took a1 data refused not-for-me
+end frames 8 accepted 7 answered 0 refused 4 ignored 0
+keys installed 4 resumed 0 used 2 handed-up 1
+premises fresh yes no-collision yes unforged yes
+",
+    ),
 ];
 
 // The summary of a run in which sixteen access points have started.
@@ -631,12 +736,54 @@ pub(crate) const NETWORKS: &[(u8, u8, Status, u8, &str)] = &[
     (1, 65, Status::Limit(6), 1, ""),
 ];
 
-// Injected frames of so many digits 0: how the script ends and what it writes.
-pub(crate) const LONG_FRAMES: &[(usize, Status, &str)] = &[
-    (4800, Status::Done, ZEROS),
-    (4802, Status::Limit(3), STARTED),
-    (4801, Status::Script(8, 3, Form::Inject), STARTED),
+// What is reported of a payload of 2304 octets to all.
+const TO_ALL: &str = "install a1 all gtk 1
+used a1 all 1 1
+sent 1 a1 all data 2344
+end frames 1 accepted 0 answered 0 refused 0 ignored 0
+keys installed 1 resumed 0 used 1 handed-up 0
+premises fresh yes no-collision yes unforged yes
+";
+
+// Lines of a front and so many digits 0: how the script ends and what it writes.
+pub(crate) const LONG_LINES: &[(&str, usize, Status, &str)] = &[
+    ("inject a1 ", 4800, Status::Done, ZEROS),
+    ("inject a1 ", 4802, Status::Limit(3), STARTED),
+    (
+        "inject a1 ",
+        4801,
+        Status::Script(8, 3, Form::Inject),
+        STARTED,
+    ),
+    ("send a1 all - ", 4608, Status::Done, TO_ALL),
+    ("send a1 all - ", 4610, Status::Limit(7), STARTED),
+    (
+        "send a1 all - ",
+        4609,
+        Status::Script(8, 3, Form::Send),
+        STARTED,
+    ),
 ];
+
+// What stands behind a handshake and in front of 4608 digits in a script, and behind them; and the same in its report.
+pub(crate) const CARRIED: (&str, &str) = (
+    "send s1 a1 - ",
+    "
+deliver 7 to a1
+",
+);
+
+pub(crate) const CARRIED_REPORT: (&str, &str) = (
+    "used s1 a1 0 1
+sent 7 s1 a1 data 2344
+took a1 data accepted
+up a1 s1 0 0 1 ",
+    "
+end frames 7 accepted 7 answered 0 refused 0 ignored 0
+keys installed 4 resumed 0 used 1 handed-up 1
+premises fresh yes no-collision yes unforged yes
+",
+);
 
 // The text of each status.
 pub(crate) const TEXTS: &[(Status, &str)] = &[
@@ -647,7 +794,7 @@ pub(crate) const TEXTS: &[(Status, &str)] = &[
     (Status::NoMemory, "out of memory"),
     (
         Status::Script(65536, 0, Form::Event),
-        "line 65536: outside the grammar; the form is that of connect, deliver, alter, cut, inject, retry, rekey, expire or leave",
+        "line 65536: outside the grammar; the form is that of connect, deliver, alter, cut, inject, retry, rekey, send, expire or leave",
     ),
     (
         Status::Script(65537, 1, Form::Version),
@@ -655,11 +802,11 @@ pub(crate) const TEXTS: &[(Status, &str)] = &[
     ),
     (
         Status::Script(65538, 2, Form::Any),
-        "line 65538: no such word here; the form is that of ap, sta, connect, deliver, alter, cut, inject, retry, rekey, expire or leave",
+        "line 65538: no such word here; the form is that of ap, sta, connect, deliver, alter, cut, inject, retry, rekey, send, expire or leave",
     ),
     (
         Status::Script(65538, 2, Form::StaOrEvent),
-        "line 65538: no such word here; the form is that of sta, connect, deliver, alter, cut, inject, retry, rekey, expire or leave",
+        "line 65538: no such word here; the form is that of sta, connect, deliver, alter, cut, inject, retry, rekey, send, expire or leave",
     ),
     (
         Status::Script(65538, 2, Form::Key),
@@ -694,6 +841,10 @@ pub(crate) const TEXTS: &[(Status, &str)] = &[
         "line 65540: no such node, or a node of the other kind; the form is rekey <ap>",
     ),
     (
+        Status::Script(65540, 4, Form::Send),
+        "line 65540: no such node, or a node of the other kind; the form is send <node> <node or all> <tid 0 to 15 or -> <digits>",
+    ),
+    (
         Status::Script(65540, 4, Form::Expire),
         "line 65540: no such node, or a node of the other kind; the form is expire <ap> <sta>",
     ),
@@ -719,7 +870,7 @@ pub(crate) const TEXTS: &[(Status, &str)] = &[
     ),
     (
         Status::Script(65543, 7, Form::Event),
-        "line 65543: outside the grammar; the form is that of connect, deliver, alter, cut, inject, retry, rekey, expire or leave",
+        "line 65543: outside the grammar; the form is that of connect, deliver, alter, cut, inject, retry, rekey, send, expire or leave",
     ),
     (
         Status::Script(65544, 8, Form::Ap),
@@ -743,6 +894,7 @@ pub(crate) const TEXTS: &[(Status, &str)] = &[
     (Status::Limit(4), "more than 65535 frames sent"),
     (Status::Limit(5), "more than 16 access points"),
     (Status::Limit(6), "more than 64 stations"),
+    (Status::Limit(7), "a payload of more than 2304 octets"),
 ];
 
 // What stands on standard error for words that are no command.

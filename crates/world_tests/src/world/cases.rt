@@ -1,10 +1,14 @@
 //! Events at a world, and what they add to its journal.
 
-use domain_base::Node;
+use domain_base::{Node, Peer};
 
 pub(crate) const A1: Node = Node::Ap(0);
 
 pub(crate) const S1: Node = Node::Sta(0);
+
+const TO_A1: Peer = Peer::One(A1);
+
+const TO_S1: Peer = Peer::One(S1);
 
 // An event with the first access point and the first station, where it says no others.
 #[derive(Clone, Copy)]
@@ -21,6 +25,8 @@ pub(crate) enum Turn {
     Inject(Node, &'static [u8]),
     Retry,
     Rekey,
+    // From whom, to whom, with which TID, and what.
+    Send(Node, Peer, Option<u8>, &'static [u8]),
     Expire,
     Leave,
 }
@@ -111,6 +117,68 @@ pub(crate) const CASES: &[Case] = &[
             (7, S1, 0, "idle"),
             (8, A1, 0, "drew"),
             (8, A1, 0, "installed"),
+        ],
+    },
+    Case {
+        shows: "payloads before a session and in one, from the station, to it and to all; they come, and one comes again",
+        turns: &[
+            Turn::Send(S1, TO_A1, None, b"p"),
+            Turn::Send(A1, Peer::All, None, b"p"),
+            Turn::Connect,
+            Turn::Deliver(2, A1),
+            Turn::Deliver(3, S1),
+            Turn::Deliver(4, S1),
+            Turn::Deliver(5, A1),
+            Turn::Deliver(6, S1),
+            Turn::Deliver(7, A1),
+            Turn::Send(S1, TO_A1, Some(15), b"hi"),
+            Turn::Deliver(8, A1),
+            Turn::Deliver(8, A1),
+            Turn::Send(A1, TO_S1, None, &[0; 2304]),
+            Turn::Deliver(9, S1),
+            Turn::Send(A1, Peer::All, Some(3), b""),
+            Turn::Deliver(10, S1),
+        ],
+        lines: &[
+            (1, S1, 0, "idle"),
+            (2, A1, 0, "used"),
+            (2, A1, 1, "sent"),
+            (3, S1, 0, "opened"),
+            (3, S1, 0, "drew"),
+            (3, S1, 2, "sent"),
+            (4, A1, 0, "took"),
+            (4, A1, 0, "opened"),
+            (4, A1, 0, "drew"),
+            (4, A1, 3, "sent"),
+            (4, A1, 4, "sent"),
+            (5, S1, 0, "took"),
+            (6, S1, 0, "took"),
+            (6, S1, 0, "derived"),
+            (6, S1, 5, "sent"),
+            (7, A1, 0, "took"),
+            (7, A1, 0, "derived"),
+            (7, A1, 6, "sent"),
+            (8, S1, 0, "took"),
+            (8, S1, 0, "installed"),
+            (8, S1, 0, "installed"),
+            (8, S1, 0, "finished"),
+            (8, S1, 7, "sent"),
+            (9, A1, 0, "took"),
+            (9, A1, 0, "installed"),
+            (9, A1, 0, "finished"),
+            (10, S1, 0, "used"),
+            (10, S1, 8, "sent"),
+            (11, A1, 0, "took"),
+            (11, A1, 0, "handed up"),
+            (12, A1, 0, "refused"),
+            (13, A1, 0, "used"),
+            (13, A1, 9, "sent"),
+            (14, S1, 0, "took"),
+            (14, S1, 0, "handed up"),
+            (15, A1, 0, "used"),
+            (15, A1, 10, "sent"),
+            (16, S1, 0, "took"),
+            (16, S1, 0, "handed up"),
         ],
     },
     Case {

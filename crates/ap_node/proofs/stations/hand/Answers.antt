@@ -5,6 +5,7 @@ use Rattle.run_journal.specs.declared.acts.Act.{Act}
 use Rattle.domain_rules.specs.Replies.{reply_acts, pair, taken_as}
 use Rattle.frame_intake.specs.Views.{message_fields}
 use Rattle.act_memory.proofs.RepliedActs.{nothing_between}
+use Rattle.ap_node.proofs.InUse.{refused_key, same_station}
 use Rattle.ap_node.proofs.stations.hand.Goals as goal
 
 pub returns-clause-handed : goal.returns-clause-handed
@@ -17,10 +18,17 @@ returns-clause-handed c =
     let outcome = c.step-outcome.result in
     let r = c.step-outcome.new.reply in
     let had = c.has_session-had_session.result in (
-      reply_acts (pair d n p) (is_some c.args.part.now.session) (taken_as octets k outcome) r,
+      reply_acts (pair d n p) (is_some c.args.place.now.part.session) (taken_as octets k outcome) r,
       c.add_reply.ensures.acts d n p octets k c.in_ok-room.ensures
           ∙ ap (λ (l : List Act). c.reserve.new.self.acts ++ l) (nothing_between d n p had octets k outcome r c.nothing-between.result c.nothing-between.ensures.opened c.nothing-between.ensures.put)
           ∙ ap (λ (l : List Act). l ++ reply_acts (pair d n p) had (taken_as octets k outcome) r) c.reserve.ensures.acts
           ∙ ap (λ (b : Bool). c.args.out.now.acts ++ reply_acts (pair d n p) b (taken_as octets k outcome) r) c.has_session-had_session.ensures,
-      record { reply = r; says = refl; steps = c.step-outcome.ensures.steps; refused = c.step-outcome.ensures.refused },
+      record {
+        reply = r;
+        says = refl;
+        steps = c.step-outcome.ensures.steps;
+        installs = c.step-outcome.ensures.installs;
+        key = c.put_key.ensures;
+        refused = λ why is. same_station c.args.place.now c.step-outcome.new.self c.put_key.new.place (c.step-outcome.ensures.refused why is) (c.put_key.ensures ∙ refused_key outcome r c.step-outcome.new.self c.args.place.now.key why c.step-outcome.ensures.installs is);
+      },
     )

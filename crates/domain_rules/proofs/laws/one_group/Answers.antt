@@ -3,6 +3,7 @@ use Rattle.domain_base.specs.declared.names.Node.TheVariants.{Ap, Sta}
 use Rattle.run_journal.specs.Questions.{attempt}
 use Rattle.domain_rules.specs.AccessPointRows.{retry_acts, expire_acts}
 use Rattle.domain_rules.specs.StationRows.{leave_acts}
+use Rattle.domain_rules.specs.DataRows.{send_acts}
 use Rattle.domain_rules.specs.Owing.{and_switch}
 use Rattle.domain_rules.proofs.OneGroup.{one_group}
 use Rattle.domain_rules.proofs.SomeGroup.{some_rows, some_connect, some_rekey}
@@ -18,6 +19,7 @@ returns c = record {
   again = λ d first n h s.
       (and_switch d n h (retry_acts d n h (Sta s) (attempt (Sta s) h)), record { acts = retry_acts d n h (Sta s) (attempt (Sta s) h); row = refl; is = refl });
   rekeyed = λ d first a h. (let w = some_rekey d first a h in (and_switch d (Ap a) h w.0, record { acts = w.0; row = w.1; is = refl }));
+  sends = λ d first n h q tid octets. (and_switch d n h (send_acts d n h q tid octets), record { acts = send_acts d n h q tid octets; row = refl; is = refl });
   expired = λ d first n h s. (and_switch d n h (expire_acts (Sta s) h), record { acts = expire_acts (Sta s) h; row = refl; is = refl });
   left = λ d first n h. (and_switch d n h (leave_acts h), record { acts = leave_acts h; row = refl; is = refl });
 }

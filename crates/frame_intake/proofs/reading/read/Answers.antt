@@ -1,8 +1,10 @@
 use Rattle.std.proofs.Common.{ap, subst}
 use Rattle.air_frame.specs.declared.frame.AirFrame.{AirFrame}
 use Rattle.air_frame.specs.Spelled.{SpellsAir}
-use Rattle.air_frame.specs.Views.{fields_of}
+use Rattle.air_frame.specs.Views.{fields_of, header_of}
 use Rattle.domain_rules.specs.Reading.{management_of}
+use Rattle.domain_base.proofs.OctetLemmas.{octets_by_entries}
+use Rattle.frame_intake.proofs.SealedHeaders.{sealed_data}
 use Rattle.frame_intake.proofs.reading.read.Goals as goal
 
 pub returns-in-AssocReq-clause-reads : goal.returns-in-AssocReq-clause-reads
@@ -39,3 +41,9 @@ returns-in-Eapol-clause-reads c =
 pub returns-in-Protected-clause-reads : goal.returns-in-Protected-clause-reads
 returns-in-Protected-clause-reads c =
     rw c.number_of.ensures (subst (λ (x : AirFrame). SpellsAir c.args.octets.now (fields_of x)) c.in-Protected.is c.in-Ok.ensures.found)
+
+pub returns-in-Protected-clause-whole : goal.returns-in-Protected-clause-whole
+returns-in-Protected-clause-whole c =
+    let f = c.in-Protected.f in
+    let s = subst (λ (x : AirFrame). SpellsAir c.args.octets.now (fields_of x)) c.in-Protected.is c.in-Ok.ensures.found in
+    rw c.number_of.ensures (sealed_data c.args.octets.now (header_of f.header) f.direction f.tid f.body.now (octets_by_entries c.args.octets.now (λ k. (c.type_inv.octets k).fits)) s)

@@ -20,5 +20,5 @@ returns-clause-handed c =
           ∙ ap (λ (l : List Act). c.reserve.new.self.acts ++ l) (nothing_between d n (Ap c.args.ap) false octets k outcome reply c.nothing-between.result c.nothing-between.ensures.opened c.nothing-between.ensures.put)
           ∙ ap (λ (l : List Act). l ++ reply_acts (pair d n (Ap c.args.ap)) false (taken_as octets k outcome) reply) c.in_ok-reserve.ensures.acts;
       taken = c.step-outcome.ensures;
-      finished = c.is_some.ensures;
+      installed = c.installed_key-installed.ensures;
     }

@@ -5,8 +5,8 @@ use Rattle.domain_base.specs.declared.names.Node.TheVariants.{Ap, Sta}
 use Rattle.domain_rules.specs.Frames.{sent_m1}
 use Rattle.domain_rules.specs.Network.{nonce}
 use Rattle.run_journal.specs.declared.acts.Act.{Act}
-use Rattle.authenticator.specs.State.{State as Part, with_session}
-use Rattle.ap_node.specs.State.{State, station_at, attempt_in, session_in}
+use Rattle.ap_node.specs.declared.station.Station.{Station}
+use Rattle.ap_node.specs.State.{State, station_at, attempt_in, begun_beside}
 use Rattle.ap_node.proofs.Requesting.{begins_as, associated_added, associated_same}
 use Rattle.ap_node.proofs.access_point.ApNode.associate.Goals as goal
 
@@ -21,12 +21,13 @@ returns-clause-begun c =
       number = number;
       drawn = ap (λ (s : State). s.drawn + 1) c.self.view_is;
       group = ap (λ (s : State). s.group) c.self.view_is;
+      sending = ap (λ (s : State). s.sending) c.self.view_is;
       owing = ap (λ (s : State). s.owing) c.self.view_is;
       few = subst (λ (n : ℕ). length c.begin-had_attempt.new.stations.items ≤ max n 65536) (ap (λ (s : State). length s.stations) c.self.view_is)
           (subst (λ (n : ℕ). n ≤ max (length c.self.inside.stations.items) 65536) (sym c.begin-had_attempt.ensures.length) c.make_place.ensures.few);
       part = c.begin-part.result;
       is = c.begin-had_attempt.ensures.begun
-          ∙ ap (λ (x : Option Part). Some (with_session (session_in x) c.begin-part.result)) (c.make_place.ensures.same sta ∙ ap (λ (s : State). station_at s.stations sta) c.self.view_is);
+          ∙ ap (λ (x : Option Station). Some (begun_beside x c.begin-part.result)) (c.make_place.ensures.same sta ∙ ap (λ (s : State). station_at s.stations sta) c.self.view_is);
       begins = begins_as d c.self.inside.number old.number sta c.nonce-anonce.result (nonce d (Ap old.number) old.drawn) c.args.rsne.now c.begin-part.result number v_is c.begin-part.ensures.stands;
       others = λ k other. c.begin-had_attempt.ensures.others k other ∙ c.make_place.ensures.same k ∙ ap (λ (s : State). station_at s.stations k) c.self.view_is;
     }
@@ -46,5 +47,5 @@ returns-clause-acts c =
     ∙ ap (λ (l : List Act). c.args.out.now.acts ++ l)
     (associated_same d n (Ap old.number) (Sta sta) c.args.octets.now c.begin-had_attempt.result (is_some (attempt_in (station_at old.stations sta))) v (nonce d (Ap old.number) old.drawn)
     c.requires.node
-    (c.begin-had_attempt.ensures.had ∙ ap (λ (x : Option Part). is_some (attempt_in x)) (c.make_place.ensures.same sta) ∙ ap (λ (s : State). is_some (attempt_in (station_at s.stations sta))) c.self.view_is)
+    (c.begin-had_attempt.ensures.had ∙ ap (λ (x : Option Station). is_some (attempt_in x)) (c.make_place.ensures.same sta) ∙ ap (λ (s : State). is_some (attempt_in (station_at s.stations sta))) c.self.view_is)
     v_is)

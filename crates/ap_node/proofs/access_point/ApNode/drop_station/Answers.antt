@@ -1,6 +1,6 @@
 use Rattle.std.proofs.Common.{◌≡◌, ◌≢◌, ◌<◌, ◌^◌, ℕ, false, length, Option, sym, ap, subst, ◌∙◌}
 use Rattle.std.specs.Prelude.{◌-◌}
-use Rattle.authenticator.specs.State.{State as Part}
+use Rattle.ap_node.specs.declared.station.Station.{Station}
 use Rattle.ap_node.specs.State.{State, station_at}
 use Rattle.ap_node.specs.Counts.{owes_part, recounted}
 use Rattle.ap_node.proofs.Messaging.{IsBeside, the_state, owes_same, beside_count}
@@ -17,7 +17,7 @@ returns-clause-done c d =
     let g = c.newest-newest.result in
     let newest_is : g ≡ old.group.newest = c.newest-newest.ensures ∙ ap (λ (s : State). s.group.newest) c.self.view_is in
     let was : station_at c.self.inside.stations.items sta ≡ station_at old.stations sta = ap (λ (s : State). station_at s.stations sta) c.self.view_is in
-    let new : State = the_state c.self.inside.number c.self.inside.drawn c.self.inside.group c.drop_part-had_attempt.new.stations.items c.recounted-self-inside.result in
+    let new : State = the_state c.self.inside.number c.self.inside.drawn c.self.inside.group c.self.inside.sending c.drop_part-had_attempt.new.stations.items c.recounted-self-inside.result in
     let q = station_at new.stations sta in
     let others = λ (k : ℕ) (other : k ≢ sta). c.drop_part-had_attempt.ensures.others k other ∙ ap (λ (s : State). station_at s.stations k) c.self.view_is in
     let owed_is = c.owes-owed.ensures ∙ owes_same g old.group.newest (station_at c.self.inside.stations.items sta) (station_at old.stations sta) newest_is was in
@@ -27,10 +27,11 @@ returns-clause-done c d =
       number = ap (λ (s : State). s.number) c.self.view_is;
       drawn = ap (λ (s : State). s.drawn) c.self.view_is;
       group = ap (λ (s : State). s.group) c.self.view_is;
+      sending = ap (λ (s : State). s.sending) c.self.view_is;
       length_is = c.drop_part-had_attempt.ensures.length ∙ ap (λ (s : State). length s.stations) c.self.view_is;
       counts = beside_count old new sta c.owes-owed.result false others owed_is owes_is exact;
       others = others;
     } in
     drops d old new sta c.drop_part-had_attempt.result.0 c.drop_part-had_attempt.result.1 waited c.add_dropped.new.out.acts c.add_dropped.result beside
-    (c.drop_part-had_attempt.ensures.attempt ∙ ap (λ (o : Option Part). is_some (attempt_in o)) was) (c.drop_part-had_attempt.ensures.session ∙ ap (λ (o : Option Part). is_some (session_in o)) was)
+    (c.drop_part-had_attempt.ensures.attempt ∙ ap (λ (o : Option Station). is_some (attempt_in o)) was) (c.drop_part-had_attempt.ensures.session ∙ ap (λ (o : Option Station). is_some (session_in o)) was)
     c.drop_part-had_attempt.ensures.left c.add_dropped.ensures.acts c.add_dropped.ensures.outcome

@@ -7,7 +7,7 @@ use Rattle.ap_node.specs.State.{State, station_at}
 use Rattle.ap_node.specs.Counts.{recounted}
 use Rattle.ap_node.specs.Takes.{IsDone}
 use Rattle.ap_node.proofs.Messaging.{IsBeside, the_state, owes_same, beside_count}
-use Rattle.ap_node.proofs.Repeating.{retries, resent_as}
+use Rattle.ap_node.proofs.Repeating.{newest_of, newest_as, retries, resent_as}
 use Rattle.ap_node.proofs.access_point.ApNode.repeat.Goals as goal
 
 pub returns-clause-done : goal.returns-clause-done
@@ -18,22 +18,24 @@ returns-clause-done c =
     let sta = c.args.station in
     let waited = c.args.out.now.acts in
     let g = c.newest-newest.result in
-    let newest_is : g ≡ old.group.newest = c.newest-newest.ensures ∙ ap (λ (s : State). s.group.newest) c.self.view_is in
+    let newest_is : g.key ≡ old.group.newest = c.newest-newest.ensures.key in
+    let same_newest : g ≡ newest_of old = newest_as g old newest_is c.newest-newest.ensures.uses in
     let was : station_at c.self.inside.stations.items sta ≡ station_at old.stations sta = ap (λ (s : State). station_at s.stations sta) c.self.view_is in
-    let new : State = the_state c.self.inside.number c.self.inside.drawn c.self.inside.group c.retry.new.stations.items c.recounted-self-inside.result in
+    let new : State = the_state c.self.inside.number c.self.inside.drawn c.self.inside.group c.self.inside.sending c.retry.new.stations.items c.recounted-self-inside.result in
     let q = station_at new.stations sta in
     let others = λ (k : ℕ) (other : k ≢ sta). c.retry.ensures.others k other ∙ ap (λ (s : State). station_at s.stations k) c.self.view_is in
-    let owed_is = c.owes-owed.ensures ∙ owes_same g old.group.newest (station_at c.self.inside.stations.items sta) (station_at old.stations sta) newest_is was in
-    let owes_is = c.owes-owes.ensures ∙ owes_same g old.group.newest q q newest_is refl in
+    let owed_is = c.owes-owed.ensures ∙ owes_same g.key old.group.newest (station_at c.self.inside.stations.items sta) (station_at old.stations sta) newest_is was in
+    let owes_is = c.owes-owes.ensures ∙ owes_same g.key old.group.newest q q newest_is refl in
     let exact = subst (λ (n : ℕ). n < 2 ^ 64 - 1 → c.recounted-self-inside.result ≡ recounted n c.owes-owed.result c.owes-owes.result) (ap (λ (s : State). s.owing) c.self.view_is) c.recounted-self-inside.ensures.exact in
     let beside : IsBeside old new sta = record {
       number = ap (λ (s : State). s.number) c.self.view_is;
       drawn = ap (λ (s : State). s.drawn) c.self.view_is;
       group = ap (λ (s : State). s.group) c.self.view_is;
+      sending = ap (λ (s : State). s.sending) c.self.view_is;
       length_is = c.retry.ensures.length ∙ ap (λ (s : State). length s.stations) c.self.view_is;
       counts = beside_count old new sta c.owes-owed.result c.owes-owes.result others owed_is owes_is exact;
       others = others;
     } in
     let x = c.in_ok-outcome.ensures.resent in
     subst (λ (l : List Act). IsDone d (Retry sta) old new (seen waited l outcome)) (sym x.1)
-    (retries d old new sta (station_at old.stations sta) q x.0 waited outcome beside refl refl x.2 (resent_as sta g old.group.newest _ (station_at old.stations sta) q x.0 newest_is was x.3))
+    (retries d old new sta (station_at old.stations sta) q x.0 waited outcome beside refl refl x.2 (resent_as sta g (newest_of old) _ (station_at old.stations sta) q x.0 same_newest was x.3))

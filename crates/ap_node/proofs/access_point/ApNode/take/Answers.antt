@@ -4,8 +4,8 @@ use Rattle.run_journal.specs.declared.acts.Outcome.TheVariants.{Refused}
 use Rattle.run_journal.specs.declared.acts.Reason.TheVariants as reason
 use Rattle.frame_intake.specs.Views.{reading_of}
 use Rattle.act_memory.proofs.Returning.{if_settled}
-use Rattle.ap_node.specs.Takes.{IsKeyedAtAp}
-use Rattle.ap_node.proofs.Refusing.{Stays, takes_settled, takes_other_frame, managed_from, keyed_from, request_from}
+use Rattle.ap_node.specs.Takes.{IsKeyedAtAp, IsSealedAtAp}
+use Rattle.ap_node.proofs.Refusing.{Stays, takes_settled, takes_other_frame, managed_from, keyed_from, sealed_from, request_from}
 use Rattle.ap_node.proofs.access_point.ApNode.take.Goals as goal
 
 pub take_request-requires-clause-frame : goal.take_request-requires-clause-frame
@@ -23,6 +23,14 @@ take_keyed-requires-clause-frame c =
     let octets = c.args.octets.now in
     subst (λ (q : Node). IsKeyedAtAp d a octets q c.in-Keyed.message) c.number_of-in-Keyed.ensures
     (keyed_from d c.args.here.node a octets (reading_of c.read-delivered.result) c.in-Keyed.from c.in-Keyed.message c.read-delivered.ensures.reads c.in-Keyed.ensures c.requires.node)
+
+pub take_sealed-requires-clause-frame : goal.take_sealed-requires-clause-frame
+take_sealed-requires-clause-frame c =
+    let d = c.args.here.domain.now in
+    let a = c.args.self.now.number in
+    let octets = c.args.octets.now in
+    subst (λ (q : Node). IsSealedAtAp d a octets q c.in-Sealed.frame) c.number_of-in-Sealed.ensures
+    (sealed_from d c.args.here.node a octets (reading_of c.read-delivered.result) c.in-Sealed.from c.in-Sealed.frame c.read-delivered.ensures.reads c.in-Sealed.ensures c.requires.node)
 
 pub returns-in-Settled-clause-taken : goal.returns-in-Settled-clause-taken
 returns-in-Settled-clause-taken c =

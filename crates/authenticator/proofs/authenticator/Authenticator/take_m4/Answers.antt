@@ -1,4 +1,4 @@
-use Rattle.std.proofs.Common.{◌≡◌, Option, Some, None, sym, ap, ◌∙◌}
+use Rattle.std.proofs.Common.{◌≡◌, Option, Some, None, refl, sym, ap, ◌∙◌}
 use Rattle.eapol_key.specs.declared.messages.Message.TheVariants.{M4}
 use Rattle.run_journal.specs.declared.acts.Outcome.TheVariants.{Accepted, Refused}
 use Rattle.run_journal.specs.declared.acts.Reason.TheVariants as reason
@@ -8,6 +8,7 @@ use Rattle.authenticator.specs.Taken.{given}
 use Rattle.authenticator.specs.declared.attempt.Attempt.{Attempt}
 use Rattle.authenticator.proofs.Refusing.{no_m4, steps_to}
 use Rattle.authenticator.proofs.Finishing.{takes_refused_m4, takes_finished}
+use Rattle.authenticator.proofs.Installing.{installs_finished}
 use Rattle.authenticator.proofs.authenticator.Authenticator.take_m4.Goals as goal
 
 pub returns-in_default-clause-steps : goal.returns-in_default-clause-steps
@@ -35,3 +36,9 @@ returns-in-Finished-clause-steps c =
     (steps_to s (record s { attempt = None; session = Some u }) (record s { attempt = c.take.new.self; session = Some u }) (given M4 (frame_of c.args.frame.now) c.args.newest.now c.args.rsc) Accepted c.install-session.new.reply
     (ap (λ (o : Option Attempt). record s { attempt = o; session = Some u }) (sym c.take.ensures.after))
     (takes_finished s c.in-Some.attempt (frame_of c.args.frame.now) c.args.newest.now c.args.rsc c.in-Finished.finish u c.install-session.new.reply (sym c.take.ensures.value ∙ c.in-Some.is) c.in-Finished.ensures c.install-session.ensures.installed))
+
+pub returns-in-Finished-clause-installs : goal.returns-in-Finished-clause-installs
+returns-in-Finished-clause-installs c =
+    let u = c.install-session.result in
+    let s : State = record { ends = c.self.inside.ends; psk = c.self.inside.psk; attempt = c.take.new.self; session = Some u } in
+    installs_finished c.self.inside.ends c.args.newest.now c.args.rsc c.in-Finished.finish u c.install-session.new.reply s c.install-session.ensures.installed refl

@@ -1,10 +1,28 @@
-use Rattle.std.proofs.Common.{◌≡◌, List, [], ◌∷◌, ◌++◌, length, ap, subst, ◌∙◌, rules}
+use Rattle.std.proofs.Common.{◌≡◌, List, [], ◌∷◌, ◌++◌, suc, length, refl, arith, ap, subst, ◌∙◌, rules, length-append}
 use Rattle.ap_node.specs.State.{State as ApState}
 use Rattle.run_journal.specs.Listing.{with_ap}
 use Rattle.domain_world.specs.State.{Nodes}
 use Rattle.domain_world.specs.Owning.{AreListed}
-use Rattle.domain_world.proofs.Standing.{stand_more_ap, grows_ap}
+use Rattle.domain_world.proofs.Standing.{listed_more_ap, stand_more_ap, grows_ap}
 use Rattle.domain_world.proofs.nodes.Nodes.add_ap.Goals as goal
+
+pub invariant_of-self-in-Ok : goal.invariant_of-self-in-Ok
+invariant_of-self-in-Ok c =
+    let old : Nodes = record { domain = c.self.inside.domain; aps = c.self.inside.aps.items; stas = c.self.inside.stas.items } in
+    let last = c.in-Ok.node in
+    let count : length old.aps ≡ c.len-number.result = search rules in
+    let grown = simp length-append at (ap length c.in_ok-list_ap.ensures.ok) in
+    listed_more_ap old _ _ last (omega (arith, grown)) refl (c.push_reserved.ensures.items ∙ ap (λ (l : List ApState). l ++ last ∷ []) c.reserve.ensures.items) refl
+    count c.in-Ok.ensures.number c.self.invariant
+
+pub returns-in-Ok-clause-listed : goal.returns-in-Ok-clause-listed
+returns-in-Ok-clause-listed c =
+    let old : Nodes = record { domain = c.self.inside.domain; aps = c.self.inside.aps.items; stas = c.self.inside.stas.items } in
+    let last = c.in-Ok.node in
+    let count : length old.aps ≡ c.len-number.result = search rules in
+    let grown = simp length-append at (ap length c.in_ok-list_ap.ensures.ok) in
+    listed_more_ap old _ _ last (omega (arith, grown)) refl (c.push_reserved.ensures.items ∙ ap (λ (l : List ApState). l ++ last ∷ []) c.reserve.ensures.items) refl
+    count c.in-Ok.ensures.number c.self.invariant
 
 pub returns-in-Ok-clause-stand : goal.returns-in-Ok-clause-stand
 returns-in-Ok-clause-stand c = λ j is none.

@@ -3,7 +3,7 @@ use Rattle.domain_rules.specs.Rows.{Take}
 use Rattle.frame_intake.specs.Views.{reading_of}
 use Rattle.station_node.specs.Steps.{turn}
 use Rattle.station_node.proofs.Taken.{takes_by}
-use Rattle.station_node.proofs.Judged.{judged-managed, judged-keyed, judged-settled, judged-ap, judged-listed}
+use Rattle.station_node.proofs.Judged.{judged-managed, judged-keyed, judged-sealed, judged-settled, judged-ap, judged-listed}
 use Rattle.station_node.proofs.station.StationNode.take.Goals as goal
 
 pub number_of-requires : goal.number_of-requires
@@ -30,3 +30,10 @@ pub returns-in-Settled : goal.returns-in-Settled
 returns-in-Settled c =
     takes_by c.args.here.domain.now (Take c.args.octets.now) (turn c.args.self.now c.args.self.now c.args.out.now.acts c.settle.new.out.acts) c.settle.result c.in-Settled.outcome _ c.settle.ensures.outcome c.settle.ensures.acts c.settle.ensures.kept refl
     (λ is. judged-settled c.args.here.domain.now c.args.here.node c.args.self.now c.args.octets.now (reading_of c.read-delivered.result) c.in-Settled.from c.kind.result c.in-Settled.outcome c.args.out.now.acts c.settle.new.out.acts c.in-Settled.ensures c.read-delivered.ensures.reads c.kind.ensures c.requires.node is)
+
+pub returns-in-Sealed : goal.returns-in-Sealed
+returns-in-Sealed c =
+    let d = c.args.here.domain.now in
+    let p = c.number_of-in-Sealed.result in
+    c.take_data.ensures d (judged-listed d c.args.here.node c.args.self.now.number p c.in-Sealed.from c.in-Sealed.ensures.2 c.number_of-in-Sealed.ensures c.requires.node)
+    (judged-sealed d c.args.here.node c.args.self.now.number p c.args.octets.now (reading_of c.read-delivered.result) c.in-Sealed.frame c.in-Sealed.from c.in-Sealed.ensures c.read-delivered.ensures.reads c.number_of-in-Sealed.ensures c.requires.node)

@@ -4,6 +4,7 @@ use Rattle.domain_base.specs.declared.names.Node.TheVariants.{Ap, Sta}
 use Rattle.domain_rules.specs.Replies.{IsMessageFrom, pair}
 use Rattle.domain_rules.specs.Rows.{Take}
 use Rattle.std.specs.Prelude.{slice_set}
+use Rattle.ccmp_guard.specs.Held.{Held}
 use Rattle.frame_intake.specs.Views.{message_fields}
 use Rattle.supplicant.specs.State.{both}
 use Rattle.station_node.specs.declared.session.Session.{Session}
@@ -21,13 +22,13 @@ pub returns-in_err-came-in-Some : goal.returns-in_err-came-in-Some
 returns-in_err-came-in-Some c =
     let s = the_view c.self.inside in
     let same = c.in_err-came-in-Some.ensures.same in
-    takes_nothing c.args.here.domain.now (Take c.args.heard.now.octets.now) (turn c.args.self.now (held_state s c.in-Some.field-0.ap c.hand.new.supplicant (slice_set s.memories c.from.result c.hand.new.memory)) c.args.out.now.acts c.hand.new.out.acts) c.from_residual.result c.from_residual.ensures.0
+    takes_nothing c.args.here.domain.now (Take c.args.heard.now.octets.now) (turn c.args.self.now (held_state s c.in-Some.field-0.ap c.hand.new.supplicant c.in-Some.field-0.key (slice_set s.memories c.from.result c.hand.new.memory)) c.args.out.now.acts c.hand.new.out.acts) c.from_residual.result c.from_residual.ensures.0
     (left-held s c.in-Some.field-0 c.from.result c.in-Some.field-0.supplicant c.hand.new.supplicant c.index_mut-kept.result.now c.hand.new.memory c.in-Some.is refl same.0 same.1 c.index_mut-kept.ensures.value ∙ c.self.view_is)
     c.in_err-came-in-Some.ensures.kept
 
 pub invariant_of-self-then-with-ap : goal.invariant_of-self-then-with-ap
 invariant_of-self-then-with-ap c =
-    held_places c.self.inside.attempt c.self.inside.session c.in-Some.field-0 c.hand.new.supplicant c.self.inside.memories.items c.from.result c.hand.new.memory c.in-Some.is c.self.invariant
+    held_places c.self.inside.attempt c.self.inside.session c.in-Some.field-0 c.hand.new.supplicant _ c.self.inside.memories.items c.from.result c.hand.new.memory c.in-Some.is c.self.invariant
 
 pub returns-in_ok-came-in-Some : goal.returns-in_ok-came-in-Some
 returns-in_ok-came-in-Some c =
@@ -38,10 +39,12 @@ returns-in_ok-came-in-Some c =
     let memories = slice_set s.memories c.from.result c.hand.new.memory in
     let t = handing (both c.in-Some.field-0.supplicant had) (both c.hand.new.supplicant c.hand.new.memory) c.args.out.now.acts c.hand.new.out.acts in
     let node_is : c.args.here.node ≡ Sta s.number = c.requires.node ∙ ap (λ (y : State). Sta y.number) (sym c.self.view_is) in
-    subst (λ (y : State). IsTaken d (Take m.octets.now) (turn y (held_state s c.in-Some.field-0.ap c.hand.new.supplicant memories) c.args.out.now.acts c.hand.new.out.acts) c.in_ok-came-in-Some.came.outcome) c.self.view_is
+    let came = c.in_ok-came-in-Some.came in
+    subst (λ (y : State). IsTaken d (Take m.octets.now) (turn y (held_state s c.in-Some.field-0.ap c.hand.new.supplicant c.take_key.new.key memories) c.args.out.now.acts c.hand.new.out.acts) came.outcome) c.self.view_is
+    (subst (λ (k : Held). IsTaken d (Take m.octets.now) (turn s (held_state s c.in-Some.field-0.ap c.hand.new.supplicant k memories) c.args.out.now.acts c.hand.new.out.acts) came.outcome) (sym c.take_key.ensures)
     (handed-held d s c.in-Some.field-0 c.args.ap c.from.result m c.in-Some.field-0.supplicant c.hand.new.supplicant had c.hand.new.memory c.args.out.now.acts c.hand.new.out.acts c.in_ok-came-in-Some.came c.in-Some.is c.if-with-ap.true refl c.self.invariant.held
     (record { from = subst (λ (y : State). IsMessageFrom d (Sta y.number) (Ap c.args.ap) m.octets.now (message_fields m.message)) (sym c.self.view_is) c.requires.message; place_is = c.from.ensures; value = c.index_mut-kept.ensures.value })
-    (subst (λ (n : Node). IsHanded (pair d n (Ap c.args.ap)) m t c.in_ok-came-in-Some.came) node_is c.in_ok-came-in-Some.ensures.handed))
+    (subst (λ (n : Node). IsHanded (pair d n (Ap c.args.ap)) m t c.in_ok-came-in-Some.came) node_is c.in_ok-came-in-Some.ensures.handed)))
 
 -- the station as it was, for one with that session
 abbrev as_was : (c : goal.After-refuse_message) → Option Session → State

@@ -8,6 +8,7 @@ use Rattle.domain_rules.specs.Rows.{Take}
 use Rattle.std.specs.Prelude.{slice_set}
 use Rattle.frame_intake.specs.Views.{message_fields}
 use Rattle.supplicant.specs.State.{both}
+use Rattle.data_frames.specs.Holding.{fresh_key}
 use Rattle.station_node.specs.declared.attempt.Attempt.{Attempt}
 use Rattle.station_node.specs.declared.attempt.Association.TheVariants.{Requested}
 use Rattle.station_node.specs.State.{State}
@@ -28,13 +29,13 @@ returns-in_err-came-in-Accepted c =
     (left-tried s c.in-Some.field-0 c.from.result c.in-Accepted.supplicant c.hand.new.supplicant c.index_mut-memory.result.now c.hand.new.memory c.in-Some.is c.in-Accepted.is same.0 same.1 c.index_mut-memory.ensures.value ∙ c.self.view_is)
     c.in_err-came-in-Accepted.ensures.kept
 
-pub invariant_of-self-then-came : goal.invariant_of-self-then-came
-invariant_of-self-then-came c =
+pub invariant_of-self-in-Some-installed : goal.invariant_of-self-in-Some-installed
+invariant_of-self-in-Some-installed c =
     let done = c.finish.ensures c.in-Some.field-0.ap c.hand.new.supplicant refl in
-    finished_places c.self.inside.attempt c.finish.new.attempt c.self.inside.session c.finish.new.session c.in-Some.field-0 c.in-Accepted.supplicant c.hand.new.supplicant c.self.inside.memories.items c.from.result c.hand.new.memory c.in-Some.is c.in-Accepted.is c.self.invariant done.0 done.1
+    finished_places c.self.inside.attempt c.finish.new.attempt c.self.inside.session c.finish.new.session c.in-Some.field-0 c.in-Accepted.supplicant c.hand.new.supplicant (fresh_key c.in-Some-installed.tk) c.self.inside.memories.items c.from.result c.hand.new.memory c.in-Some.is c.in-Accepted.is c.self.invariant done.0 done.1
 
-pub invariant_of-self-else-came : goal.invariant_of-self-else-came
-invariant_of-self-else-came c =
+pub invariant_of-self-in_default-installed : goal.invariant_of-self-in_default-installed
+invariant_of-self-in_default-installed c =
     tried_places c.self.inside.attempt c.self.inside.session c.in-Some.field-0 c.in-Accepted.supplicant c.hand.new.supplicant c.self.inside.memories.items c.from.result c.hand.new.memory c.in-Some.is c.in-Accepted.is c.self.invariant
 
 pub returns-in-Requested : goal.returns-in-Requested
@@ -49,8 +50,8 @@ returns-in-Requested c =
     (takes_by d (Take m.octets.now) (turn s s c.args.out.now.acts waits) c.refuse_message.result (Refused reason.Unawaited) _ c.refuse_message.ensures.outcome c.refuse_message.ensures.acts c.refuse_message.ensures.kept refl
     (λ is. taken-requested d s c.args.ap c.in-Requested.field-0 m.octets.now (message_fields m.message) c.args.out.now.acts waits c.requires.message there is))
 
-pub returns-then-came : goal.returns-then-came
-returns-then-came c =
+pub returns-in-Some-installed : goal.returns-in-Some-installed
+returns-in-Some-installed c =
     let d = c.args.here.domain.now in
     let s = the_view c.self.inside in
     let m = c.args.heard.now in
@@ -62,12 +63,12 @@ returns-then-came c =
     let done = c.finish.ensures c.in-Some.field-0.ap c.hand.new.supplicant refl in
     let new : State = record { number = s.number; drawn = s.drawn; attempt = c.finish.new.attempt; session = c.finish.new.session; memories = slice_set s.memories c.from.result c.hand.new.memory } in
     subst (λ (y : State). IsTaken d (Take m.octets.now) (turn y new c.args.out.now.acts waits) came.outcome) c.self.view_is
-    (handed-finished d s c.in-Some.field-0 c.finish.new.attempt c.finish.new.session c.args.ap c.from.result m c.in-Accepted.supplicant c.hand.new.supplicant had c.hand.new.memory c.args.out.now.acts waits came c.in-Some.is c.if-with-ap.true c.in-Accepted.is c.self.invariant.tried
+    (handed-finished d s c.in-Some.field-0 c.finish.new.attempt c.finish.new.session c.args.ap c.from.result m c.in-Accepted.supplicant c.hand.new.supplicant c.in-Some-installed.tk had c.hand.new.memory c.args.out.now.acts waits came c.in-Some.is c.if-with-ap.true c.in-Accepted.is c.self.invariant.tried
     (record { from = subst (λ (y : State). IsMessageFrom d (Sta y.number) (Ap c.args.ap) m.octets.now (message_fields m.message)) (sym c.self.view_is) c.requires.message; place_is = c.from.ensures; value = c.index_mut-memory.ensures.value })
-    (subst (λ (n : Node). IsHanded (pair d n (Ap c.args.ap)) m t came) node_is c.in_ok-came-in-Accepted.ensures.handed) c.if-came.true done.0 done.1)
+    (subst (λ (n : Node). IsHanded (pair d n (Ap c.args.ap)) m t came) node_is c.in_ok-came-in-Accepted.ensures.handed) c.in-Some-installed.is done.0 done.1)
 
-pub returns-else-came : goal.returns-else-came
-returns-else-came c =
+pub returns-in_default-installed : goal.returns-in_default-installed
+returns-in_default-installed c =
     let d = c.args.here.domain.now in
     let s = the_view c.self.inside in
     let m = c.args.heard.now in
@@ -79,7 +80,7 @@ returns-else-came c =
     subst (λ (y : State). IsTaken d (Take m.octets.now) (turn y (tried_state s c.in-Some.field-0.ap c.hand.new.supplicant (slice_set s.memories c.from.result c.hand.new.memory)) c.args.out.now.acts waits) came.outcome) c.self.view_is
     (handed-tried d s c.in-Some.field-0 c.args.ap c.from.result m c.in-Accepted.supplicant c.hand.new.supplicant had c.hand.new.memory c.args.out.now.acts waits came c.in-Some.is c.if-with-ap.true c.in-Accepted.is c.self.invariant.tried
     (record { from = subst (λ (y : State). IsMessageFrom d (Sta y.number) (Ap c.args.ap) m.octets.now (message_fields m.message)) (sym c.self.view_is) c.requires.message; place_is = c.from.ensures; value = c.index_mut-memory.ensures.value })
-    (subst (λ (n : Node). IsHanded (pair d n (Ap c.args.ap)) m t came) node_is c.in_ok-came-in-Accepted.ensures.handed) c.if-came.false)
+    (subst (λ (n : Node). IsHanded (pair d n (Ap c.args.ap)) m t came) node_is c.in_ok-came-in-Accepted.ensures.handed) c.in_default-installed.is)
 
 -- the station as it was, for one with that attempt
 abbrev as_was : (c : goal.After-take_in_session) → Option Attempt → State

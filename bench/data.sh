@@ -1,0 +1,149 @@
+#!/usr/bin/env bash
+# Protected data (IEEE Std 802.11-2020, 12.5.3). How long a replay takes, and how much memory, at a quarter, a half and the whole of the
+# largest script: 64 stations are connected at one access point, and from then on half of the lines send a payload of 1,500 octets and
+# deliver the frame, from a station, to one and to all; between them stations are connected anew. And what one such frame costs, in
+# instructions, at both ends, with its place in the journal, the judging of the premises and the lines of the report: two lines of a
+# script; two scripts, of 10 and of 60 frames from one station, the one less the other, over 50. Instructions are counted by callgrind of
+# valgrind, and where that is missing seconds of one processor are measured.
+# Prints one figure a line, and what it means. It runs the program that `rt ci` proved and built, and says so and ends with 1 where there
+# is none. Run it from anywhere in the repository. With --profile it also prints which functions the instructions of the longer script
+# are spent in.
+set -eu
+cd "$(dirname "$0")/.."
+work=$(mktemp -d)
+trap 'rm -rf "$work"' EXIT
+
+program=crates/kehtrop/out/kehtrop
+if [ ! -x "$program" ]; then
+    echo "no program was built: \`rt ci\` does" >&2
+    exit 1
+fi
+
+# The scripts of the replay, with how many payloads are sent and taken in each.
+python3 - "$work" <<'PY'
+import sys
+LINES, STATIONS, OCTETS = 65536, 64, 1500
+header = ["domain 1", "seed %064x" % 7, "ssid bench", "psk %064x" % 11, "akm psk", "ap 020000000001 r0kh-1"]
+header += ["sta 0200000001%02x" % (1 + k) for k in range(STATIONS)]
+
+
+class Script:
+    def __init__(self, lines):
+        self.out, self.lines, self.frame, self.next, self.payloads = list(header), lines, 0, 0, 0
+
+    def has_room(self, more):
+        return len(self.out) + more <= self.lines
+
+    def station(self):
+        self.next += 1
+        return "s%d" % (self.next % STATIONS + 1)
+
+    def deliver(self, *receivers):
+        for receiver in receivers:
+            self.frame += 1
+            self.out.append("deliver %d to %s" % (self.frame, receiver))
+
+    # A whole handshake of the next station.
+    def connect(self):
+        station = self.station()
+        self.out.append("connect %s a1" % station)
+        self.deliver("a1", station, station, "a1", station, "a1")
+
+    # A payload, each with other octets, which its receiver takes, or one of its receivers.
+    def send(self, sender, to, receiver):
+        self.payloads += 1
+        self.out.append("send %s %s - %s" % (sender, to, ("%08x" % self.payloads) * (OCTETS // 4)))
+        self.deliver(receiver)
+
+
+for name, lines in (("quarter", LINES // 4), ("half", LINES // 2), ("whole", LINES)):
+    script = Script(lines)
+    for _ in range(STATIONS):
+        script.connect()
+    while script.has_room(28):
+        script.connect()
+        script.connect()
+        for _ in range(3):
+            one, other = script.station(), script.station()
+            script.send(one, "a1", "a1")
+            script.send("a1", other, other)
+        script.send("a1", "all", script.station())
+    script.out += ["# one more line"] * (lines - len(script.out))
+    open("%s/%s" % (sys.argv[1], name), "w").write("\n".join(script.out) + "\n")
+    open("%s/%s.count" % (sys.argv[1], name), "w").write("%d\n" % script.payloads)
+PY
+
+# The processor seconds and the greatest resident memory (KiB) of a program, its output to a file.
+measure() { # OUTPUT INPUT WORDS..
+    python3 - "$@" <<'PY'
+import resource, subprocess, sys
+out, source, words = sys.argv[1], sys.argv[2], sys.argv[3:]
+done = subprocess.run(words, stdin=open(source), stdout=open(out, "w"))
+used = resource.getrusage(resource.RUSAGE_CHILDREN)
+print("%.2f %d %d" % (used.ru_utime + used.ru_stime, used.ru_maxrss, done.returncode))
+PY
+}
+
+# It ends where one of the payloads was not handed up.
+handed_up() { # REPORT PAYLOADS
+    if [ "$(grep -c '^up ' "$1")" != "$2" ]; then
+        echo "a payload was not handed up" >&2
+        exit 1
+    fi
+}
+
+echo "processors: $(nproc)"
+for part in quarter half whole; do
+    read -r seconds memory status < <(measure "$work/report" "$work/$part" "$program" replay)
+    [ "$status" = 0 ] || { echo "the replay of $part ended with status $status" >&2; exit 1; }
+    read -r payloads < "$work/$part.count"
+    handed_up "$work/report" "$payloads"
+    echo "seconds, $(wc -l < "$work/$part") lines: $seconds (whole replay with $payloads payloads of 1500 octets, processor time)"
+    echo "memory, $(wc -l < "$work/$part") lines: $((memory / 1024)) MiB (greatest resident size)"
+done
+tail -3 "$work/report"
+
+# A script of a handshake and that many payloads behind it.
+script() { # SUITE PAYLOADS
+    python3 - "$1" "$2" <<'PY'
+import sys
+suite, payloads = sys.argv[1], int(sys.argv[2])
+lines = ["domain 1", "seed %064x" % 7, "ssid bench", "psk %064x" % 11, "akm " + suite]
+lines += ["ap 020000000001 r0kh-1", "sta 020000000101", "connect s1 a1"]
+lines += ["deliver %d to %s" % (n + 1, receiver) for n, receiver in enumerate(("a1", "s1", "s1", "a1", "s1", "a1"))]
+for k in range(payloads):
+    lines += ["send s1 a1 - " + ("%08x" % k) * 375, "deliver %d to a1" % (7 + k)]
+print("\n".join(lines))
+PY
+}
+
+# The instructions, or else the seconds, of a replay of that many payloads.
+counted() { # SUITE PAYLOADS
+    local name=$1.$2
+    script "$1" "$2" > "$work/$name.script"
+    "$program" replay < "$work/$name.script" > "$work/$name.report"
+    handed_up "$work/$name.report" "$2"
+    if command -v valgrind > /dev/null; then
+        valgrind --tool=callgrind --callgrind-out-file="$work/$name" "$program" replay < "$work/$name.script" 2>&1 > /dev/null \
+            | sed -n 's/.*Collected : //p'
+    else
+        python3 - "$program" "$work/$name.script" <<'PY'
+import resource, subprocess, sys
+RUNS = 200
+for _ in range(RUNS):
+    subprocess.run([sys.argv[1], "replay"], stdin=open(sys.argv[2]), stdout=subprocess.DEVNULL, check=True)
+used = resource.getrusage(resource.RUSAGE_CHILDREN)
+print((used.ru_utime + used.ru_stime) / RUNS)
+PY
+    fi
+}
+
+if command -v valgrind > /dev/null; then unit=instructions; else unit=seconds; fi
+few=$(counted psk 10)
+more=$(counted psk 60)
+python3 -c "print('one frame of 1500 octets sent and taken: %.6g %s' % (($more - $few) / 50, '$unit'))"
+
+if [ "${1:-}" = --profile ] && command -v callgrind_annotate > /dev/null; then
+    echo "== 60 frames of 1500 octets"
+    callgrind_annotate --threshold=99 "$work/psk.60" | awk '/ file:function/ { on = 1 } on { print } on && /%/ && ++rows == 30 { exit }'
+fi

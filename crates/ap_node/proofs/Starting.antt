@@ -1,0 +1,70 @@
+-- An access point as it starts.
+use Rattle.std.proofs.Common.{◌≡◌, ℕ, ◌+◌, ◌<◌, List, [], Option, refl, sym, ap, subst, ◌∙◌, arith, inl, replicate}
+use Rattle.domain_base.specs.declared.names.Node.TheVariants.{Ap}
+use Rattle.ccmp_guard.specs.declared.guard.Role.TheVariants as roles
+use Rattle.ccmp_guard.specs.Held.{Held}
+use Rattle.run_journal.specs.declared.domain.Domain.{Domain}
+use Rattle.run_journal.specs.Questions.{add}
+use Rattle.domain_rules.specs.Network.{draw_end, gtk}
+use Rattle.domain_rules.specs.AccessPointRows.{start_acts}
+use Rattle.group_key.specs.declared.keys.GroupKey.{GroupKey}
+use Rattle.group_key.specs.Keys.{Pair, placed}
+use Rattle.group_key.proofs.Drawing.{started}
+use Rattle.ap_node.specs.declared.station.Station.{Station}
+use Rattle.ap_node.specs.State.{State}
+use Rattle.ap_node.specs.Stands.{HasPart, StandsSoFar, Stands}
+use Rattle.ap_node.proofs.Messaging.{the_state}
+use Rattle.ap_node.proofs.Owed.{past_end}
+
+-- the group keys after the first was drawn and installed
+abbrev pair_of : GroupKey → GroupKey → Pair
+pair_of current newest = record { current = current; newest = newest }
+
+abbrev both : List ℕ → Pair
+both key = pair_of (placed 0 key) (placed 0 key)
+
+pub as_both : (g : Pair) (key : List ℕ) → g.current ≡ placed 0 key → g.newest ≡ placed 0 key → g ≡ both key
+as_both g key current newest = by current newest
+  where
+    by : {a b c e : GroupKey} → a ≡ b → c ≡ e → pair_of a c ≡ pair_of b e
+    by e f = rw (e, f) refl
+
+-- and that in use
+abbrev with_id : ℕ → List ℕ → Held
+with_id id key = record { role = roles.Group id; key = key; used = 0; kept = replicate 16 0 }
+
+abbrev pub first_key : List ℕ → Held
+first_key key = with_id 1 key
+
+pub as_first : (k : Held) (key : List ℕ) (id : ℕ) → k ≡ record { role = roles.Group id; key = key; used = 0; kept = replicate 16 0 } → id ≡ 1 → k ≡ first_key key
+as_first k key id is one = is ∙ by one
+  where
+    by : {i j : ℕ} → i ≡ j → with_id i key ≡ with_id j key
+    by e = rw e refl
+
+the_first : (d : Domain) (first a : ℕ) → first < draw_end → StandsSoFar d first (record { number = a; drawn = first + 1; group = both (gtk d (Ap a) first); sending = first_key (gtk d (Ap a) first); stations = []; owing = 0 }) (add (start_acts d first (Ap a)) [])
+the_first d first a low =
+    let key = gtk d (Ap a) first in
+    let h = add (start_acts d first (Ap a)) [] in
+    record {
+      draws_are = refl;
+      draws_low = omega (arith, low);
+      group_is = started key h refl refl;
+      pending = inl refl;
+      sending_is = record { id = 1; role = refl; current_is = refl; used = refl };
+      few = omega arith;
+      counted = refl;
+      parts = λ sta. subst (λ (o : Option Station). HasPart d (Ap a) sta o h) (sym (past_end sta)) (refl, refl);
+    }
+
+pub starts : (d : Domain) (first a drawn : ℕ) (key : List ℕ) (g : Pair) (k : Held) (xs : List (Option Station)) → first < draw_end → drawn ≡ first + 1 → key ≡ gtk d (Ap a) first → g.current ≡ placed 0 key → g.newest ≡ placed 0 key → k ≡ first_key key → xs ≡ []
+    → Stands d first (record { number = a; drawn = drawn; group = g; sending = k; stations = xs; owing = 0 }) (add (start_acts d first (Ap a)) [])
+starts d first a drawn key g k xs low drawn_is key_is current newest k_is none =
+    let g_is : g ≡ both (gtk d (Ap a) first) = as_both g key current newest ∙ ap both key_is in
+    subst (λ (s : State). Stands d first s (add (start_acts d first (Ap a)) []))
+    (sym (by drawn_is g_is (k_is ∙ ap first_key key_is) none))
+    (record { so_far = the_first d first a low; settled = inl refl })
+  where
+    by : {m n : ℕ} {x y : Pair} {b c : Held} {ys zs : List (Option Station)} → m ≡ n → x ≡ y → b ≡ c → ys ≡ zs
+        → the_state a m x b ys 0 ≡ the_state a n y c zs 0
+    by e f i j = rw (e, f, i, j) refl

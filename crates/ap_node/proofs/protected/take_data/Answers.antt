@@ -1,0 +1,39 @@
+use Rattle.std.proofs.Common.{◌≡◌, ◌∙◌, List, ℕ, Option, Some, None, Result, Ok, Err, refl, ap}
+use Rattle.std.specs.Prelude.{IfOk}
+use Rattle.domain_base.specs.declared.names.Node.{Node}
+use Rattle.domain_base.specs.declared.names.Node.TheVariants.{Sta}
+use Rattle.ccmp_guard.specs.Held.{Held}
+use Rattle.run_journal.specs.declared.acts.Reason.{Reason}
+use Rattle.run_journal.specs.declared.acts.Outcome.{Outcome}
+use Rattle.run_journal.specs.declared.acts.Outcome.TheVariants.{Refused}
+use Rattle.run_journal.specs.declared.acts.Act.{Act}
+use Rattle.frame_intake.specs.SealedFields.{SealedFields}
+use Rattle.frame_intake.specs.Views.{sealed_fields}
+use Rattle.node_base.specs.Events.{seen}
+use Rattle.data_frames.specs.Taking.{IsOpenedUnder, HandsUp, Refuses}
+use Rattle.ap_node.specs.Keys.{IsTakenUnder}
+use Rattle.ap_node.proofs.InUse.{the_station, same_station}
+use Rattle.ap_node.proofs.Places.{put_back}
+use Rattle.ap_node.proofs.protected.take_data.Goals as goal
+
+-- what is refused leaves the key in use
+kept_under : (p : Node) (octets : List ℕ) (f : SealedFields) (k m : Held) (waited waits : List Act) (o : Outcome) (why : Reason) → o ≡ Refused why → IsOpenedUnder p octets f k m (seen waited waits o) → m ≡ k
+kept_under p octets f k m waited waits o why is (HandsUp plain opened came are) = absurd (cc (came, is))
+kept_under p octets f k m waited waits o why is (Refuses fault stopped same came are) = same
+
+kept_key : (p : Node) (octets : List ℕ) (f : SealedFields) (old new : Option Held) (waited waits : List Act) (o : Outcome) (why : Reason) → o ≡ Refused why → IsTakenUnder p octets f old new (seen waited waits o) → new ≡ old
+kept_key p octets f None new waited waits o why is t = t.0
+kept_key p octets f (Some k) new waited waits o why is t = t.1 ∙ ap Some (kept_under p octets f k t.0 waited waits o why is t.2)
+
+if_kept : {E : Type 0} (r : Result Outcome E) (p : Node) (octets : List ℕ) (f : SealedFields) (old new : Option Held) (waited waits : List Act) (Q : Type 0) → IfOk r (λ outcome. IsTakenUnder p octets f old new (seen waited waits outcome)) → (new ≡ old → Q)
+    → IfOk r (λ outcome. (why : Reason) → outcome ≡ Refused why → Q)
+if_kept (Ok o) p octets f old new waited waits Q t then_ = λ why is. then_ (kept_key p octets f old new waited waits o why is t)
+if_kept (Err e) p octets f old new waited waits Q t then_ = tt
+
+pub returns-in-Some-place-clause-refused : goal.returns-in-Some-place-clause-refused
+returns-in-Some-place-clause-refused c =
+    let items = c.args.stations.now.items in
+    let x = c.in-Some-place.field-0 in
+    let key = c.take_under.new.key in
+    if_kept c.take_under.result (Sta c.args.station) c.args.octets.now (sealed_fields c.args.frame.now) x.key key c.args.out.now.acts c.take_under.new.out.acts _ c.take_under.ensures.taken
+    (λ same. put_back items c.from.result x (the_station x.part key) c.in-Some.place.now c.in-Some.ensures.value c.in-Some-place.is (same_station x x.part key refl same))

@@ -1,0 +1,4 @@
+mod Opening
+pub mod DataRows
+pub mod Standing
+pub mod RepliedKeys

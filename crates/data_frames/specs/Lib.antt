@@ -1,0 +1,5 @@
+pub mod Holding
+pub mod Sending
+pub mod Taking
+pub mod Rooms
+pub mod Rows

@@ -1,0 +1,5 @@
+use Rattle.domain_rules.proofs.Example.{exchange_explained, small-octets}
+use Rattle.domain_rules.proofs.laws.exchange_is_explained.Goals as goal
+
+pub returns : goal.returns
+returns c = record { whole = exchange_explained; network = small-octets }

@@ -1,0 +1,54 @@
+-- What protected data adds to the history of a node, as it is sent and as it is taken: its acts, in order (IEEE Std 802.11-2020,
+-- 12.5.3).
+use Rattle.std.specs.Prelude.{◌≡◌, ℕ, suc, nat_lt, List, [], ◌∷◌, Option, Some, None, if◌then◌else◌}
+use Rattle.domain_base.specs.declared.names.Node.{Node}
+use Rattle.domain_base.specs.declared.names.Peer.{Peer}
+use Rattle.air_frame.specs.declared.frame.Direction.{Direction}
+use Rattle.air_frame.specs.Fields.{HeaderFields}
+use Rattle.replay_window.specs.Numbers.{last_number}
+use Rattle.ccmp_guard.specs.Ccmp.{packet_number}
+use Rattle.run_journal.specs.declared.domain.Domain.{Domain}
+use Rattle.run_journal.specs.declared.acts.Kind.TheVariants.{Data}
+use Rattle.run_journal.specs.declared.acts.Why.TheVariants as why
+use Rattle.run_journal.specs.declared.acts.Outcome.TheVariants.{Accepted}
+use Rattle.run_journal.specs.declared.acts.Act.{Act}
+use Rattle.run_journal.specs.declared.acts.Act.TheVariants.{Took, Used, HandedUp, Idle}
+use Rattle.domain_rules.specs.Reading.{Reading, Sealed}
+use Rattle.domain_rules.specs.Facts.{Facts}
+use Rattle.domain_rules.specs.PacketNumbers.{SendKey, send_key, OpenKey}
+use Rattle.domain_rules.specs.DataFrames.{sent_data, data_seal}
+use Rattle.domain_rules.specs.DataVerdict.{opened_by}
+use Rattle.domain_rules.specs.Verdict.{verdict}
+use Rattle.domain_rules.specs.Closing.{sender}
+use Rattle.domain_rules.specs.Here.{Here}
+
+-- a node uses the next packet number of a key, and sends a frame under it; of a key whose last number was used it uses none
+abbrev pub used_acts : Domain → Node → Peer → Option ℕ → List ℕ → SendKey → List Act
+used_acts d n q tid plain k =
+    if nat_lt k.used last_number then Used q k.key k.id (suc k.used) plain ∷ sent_data d n q tid k.key k.id (suc k.used) plain ∷ []
+    else Idle why.Spent ∷ []
+
+abbrev pub send_acts_by : Domain → Node → Peer → Option ℕ → List ℕ → Option SendKey → List Act
+send_acts_by d n q tid plain None = Idle why.NoKey ∷ []
+send_acts_by d n q tid plain (Some k) = used_acts d n q tid plain k
+
+-- a node sends a payload to a peer, or an access point to all
+abbrev pub send_acts : Domain → Node → List Act → Peer → Option ℕ → List ℕ → List Act
+send_acts d n h q tid plain = send_acts_by d n q tid plain (send_key h q)
+
+-- a node takes protected data and hands its payload up, whatever that begins with
+pub record DataRow (w : Here) (h : List Act) (octets : List ℕ) (r : Reading) (facts : Facts) (g : List Act) : Type 0 where
+  pub header : HeaderFields
+  pub way : Direction
+  pub tid : Option ℕ
+  pub body : List ℕ
+  pub is : r ≡ Sealed header way tid body
+  pub p : Node
+  pub from : sender w.domain w.node r ≡ Some p
+  pub accepted : verdict w.domain w.first w.node h r facts ≡ Accepted
+  pub k : OpenKey
+  pub under : opened_by w.node h p header tid body ≡ Some k
+  pub plain : List ℕ
+  pub opened : facts.opened ≡ Some plain
+  pub says : g ≡ Took (Some p) octets Data Accepted (Some (data_seal k.key header.octets (packet_number body) plain))
+      ∷ HandedUp p k.key k.id k.tid (packet_number body) plain ∷ []

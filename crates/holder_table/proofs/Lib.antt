@@ -1,0 +1,13 @@
+pub mod Growth
+pub mod Pieces
+pub mod Places
+pub mod Views
+pub mod Loads
+pub mod Stores
+pub mod Passes
+pub mod Starts
+pub mod Knows
+pub mod Spots
+pub mod Twins
+pub mod After
+pub mod Rest

@@ -1,0 +1,38 @@
+use Rattle.std.proofs.Common.{◌≡◌, ◌≢◌, ℕ, true, sym, subst}
+use Rattle.key_holders.specs.Rows.{after_put}
+use Rattle.holder_table.specs.Histories.{is_in, held_at}
+use Rattle.holder_table.specs.Pass.{Pass}
+use Rattle.holder_table.specs.Knowledge.{NoLess}
+use Rattle.holder_table.proofs.After.{put_rows, put_others, put_knows, put_twins}
+use Rattle.holder_table.proofs.Rest.{rest_after}
+use Rattle.holder_table.proofs.holders.SharedHolders.put.Goals as goal
+
+-- the pass has the access point
+has : (c : goal.After-put) → is_in c.args.r0kh c.pass.inside.seat.me.0.has ≡ true
+has c = subst (λ (p : Pass). is_in c.args.r0kh p.knows.has ≡ true) (sym c.pass.view_is) c.requires.has
+
+pub invariant_of-pass : goal.invariant_of-pass
+invariant_of-pass c =
+    let me = c.pass.inside.seat.me in
+    let now = c.put.new.seat.me in
+    let less = put_knows c.args.r0kh c.args.row me.0 now.0 c.put.result c.put.ensures.effect in
+    rest_after c.pass.inside.seat.table_id c.put.new.seat.table_id me now c.put.ensures.pass.0 c.put.ensures.pass.1 less.0 less.1
+    (put_twins c.args.r0kh c.args.row me.0 now.0 c.put.result (has c) c.put.ensures.effect c.put.ensures.answer c.pass.invariant.twins)
+    c.pass.invariant
+
+pub returns-clause-rows : goal.returns-clause-rows
+returns-clause-rows c =
+    let w = c.put.new.seat.me.0 in
+    subst (λ (p : Pass). held_at c.args.r0kh w.seen ≡ after_put c.args.row c.put.result (held_at c.args.r0kh p.knows.seen)) c.pass.view_is
+    (put_rows c.args.r0kh c.args.row c.pass.inside.seat.me.0 w c.put.result (has c) c.put.ensures.effect)
+
+pub returns-clause-others : goal.returns-clause-others
+returns-clause-others c =
+    let w = c.put.new.seat.me.0 in
+    subst (λ (p : Pass). (s : ℕ) → s ≢ c.args.r0kh → is_in s p.knows.has ≡ true → held_at s w.seen ≡ held_at s p.knows.seen) c.pass.view_is
+    (put_others c.args.r0kh c.args.row c.pass.inside.seat.me.0 w c.put.result c.put.ensures.effect)
+
+pub returns-clause-no_less : goal.returns-clause-no_less
+returns-clause-no_less c =
+    let w = c.put.new.seat.me.0 in
+    subst (λ (p : Pass). NoLess p.knows w) c.pass.view_is (put_knows c.args.r0kh c.args.row c.pass.inside.seat.me.0 w c.put.result c.put.ensures.effect).0

@@ -1,0 +1,66 @@
+//! The shared holders as one worker calls them.
+
+ghost use Rattle.std.specs.Prelude.{◌≡◌};
+
+use crate::holders::{HolderPass, SharedHolders};
+use domain_base::Mac;
+use key_hierarchy::{PullAnswer, PutAnswer, RevokeAnswer};
+use key_holders::{HolderRow, Holders};
+
+/// The shared holders, by a pass of theirs: those that the pass has may be changed, and all asked.
+pub struct Bound<'a> {
+    table: &'a SharedHolders,
+    pass: HolderPass,
+    ghost its: { pass.table ≡ table.now.table },
+}
+
+impl<'a> Bound<'a> {
+    /// The holders by this pass.
+    pub fn new(table: &'a SharedHolders, pass: HolderPass) -> Bound<'a>
+        requires { pass.table ≡ table.now.table }
+        ensures { (result.table ≡ table.entry) × (result.pass ≡ pass) }
+    {
+        Bound { table, pass }
+    }
+
+    /// The pass.
+    pub fn into_pass(self) -> HolderPass
+        ensures { result ≡ self.entry.pass }
+    {
+        let Bound { table: _, pass } = self;
+        pass
+    }
+}
+
+impl<'a> Holders for Bound<'a> {
+    ghost use Rattle.holder_table.specs.Histories.{held_at};
+    ghost use Rattle.holder_table.specs.Relations.{Pulls, KnowsNoLess, no_less_here, no_less_then};
+
+    ghost ids = { λ b. b.table.now.ids };
+
+    ghost has = { λ b. b.pass.knows.has };
+
+    ghost rows = { λ b r. held_at r b.pass.knows.seen };
+
+    ghost pulls = { λ b id name r1kh sta c answer.
+        Pulls b.table.now b.pass id name r1kh sta c.table.now c.pass answer };
+
+    ghost no_less = { λ b c. KnowsNoLess b.table.now b.pass c.table.now c.pass };
+
+    ghost same = { λ b. no_less_here b.table.now b.pass };
+
+    ghost chain = { λ a b c f g.
+        no_less_then a.table.now a.pass b.table.now b.pass c.table.now c.pass f g };
+
+    fn put(&mut self, r0kh: u16, row: HolderRow) -> PutAnswer {
+        self.table.put(&mut self.pass, r0kh, row)
+    }
+
+    fn pull(&mut self, r0kh_id: &[u8], name: &[u8; 16], r1kh: Mac, sta: Mac) -> PullAnswer {
+        self.table.pull(&mut self.pass, r0kh_id, name, r1kh, sta)
+    }
+
+    fn revoke(&mut self, r0kh: u16, name: &[u8; 16]) -> RevokeAnswer {
+        self.table.revoke(&mut self.pass, r0kh, name)
+    }
+}
