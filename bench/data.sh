@@ -8,16 +8,8 @@
 # Prints one figure a line, and what it means. It runs the program that `rt ci` proved and built, and says so and ends with 1 where there
 # is none. Run it from anywhere in the repository. With --profile it also prints which functions the instructions of the longer script
 # are spent in.
-set -eu
-cd "$(dirname "$0")/.."
-work=$(mktemp -d)
-trap 'rm -rf "$work"' EXIT
-
-program=crates/kehtrop/out/kehtrop
-if [ ! -x "$program" ]; then
-    echo "no program was built: \`rt ci\` does" >&2
-    exit 1
-fi
+source "$(dirname "$0")/common.sh"
+built kehtrop
 
 # The scripts of the replay, with how many payloads are sent and taken in each.
 python3 - "$work" <<'PY'
@@ -73,17 +65,6 @@ for name, lines in (("quarter", LINES // 4), ("half", LINES // 2), ("whole", LIN
     open("%s/%s.count" % (sys.argv[1], name), "w").write("%d\n" % script.payloads)
 PY
 
-# The processor seconds and the greatest resident memory (KiB) of a program, its output to a file.
-measure() { # OUTPUT INPUT WORDS..
-    python3 - "$@" <<'PY'
-import resource, subprocess, sys
-out, source, words = sys.argv[1], sys.argv[2], sys.argv[3:]
-done = subprocess.run(words, stdin=open(source), stdout=open(out, "w"))
-used = resource.getrusage(resource.RUSAGE_CHILDREN)
-print("%.2f %d %d" % (used.ru_utime + used.ru_stime, used.ru_maxrss, done.returncode))
-PY
-}
-
 # It ends where one of the payloads was not handed up.
 handed_up() { # REPORT PAYLOADS
     if [ "$(grep -c '^up ' "$1")" != "$2" ]; then
@@ -118,32 +99,15 @@ PY
 }
 
 # The instructions, or else the seconds, of a replay of that many payloads.
-counted() { # SUITE PAYLOADS
+of_many() { # SUITE PAYLOADS
     local name=$1.$2
     script "$1" "$2" > "$work/$name.script"
     "$program" replay < "$work/$name.script" > "$work/$name.report"
     handed_up "$work/$name.report" "$2"
-    if command -v valgrind > /dev/null; then
-        valgrind --tool=callgrind --callgrind-out-file="$work/$name" "$program" replay < "$work/$name.script" 2>&1 > /dev/null \
-            | sed -n 's/.*Collected : //p'
-    else
-        python3 - "$program" "$work/$name.script" <<'PY'
-import resource, subprocess, sys
-RUNS = 200
-for _ in range(RUNS):
-    subprocess.run([sys.argv[1], "replay"], stdin=open(sys.argv[2]), stdout=subprocess.DEVNULL, check=True)
-used = resource.getrusage(resource.RUSAGE_CHILDREN)
-print((used.ru_utime + used.ru_stime) / RUNS)
-PY
-    fi
+    counted "$work/$name" "$work/$name.script" 200 replay
 }
 
-if command -v valgrind > /dev/null; then unit=instructions; else unit=seconds; fi
-few=$(counted psk 10)
-more=$(counted psk 60)
-python3 -c "print('one frame of 1500 octets sent and taken: %.6g %s' % (($more - $few) / 50, '$unit'))"
-
-if [ "${1:-}" = --profile ] && command -v callgrind_annotate > /dev/null; then
-    echo "== 60 frames of 1500 octets"
-    callgrind_annotate --threshold=99 "$work/psk.60" | awk '/ file:function/ { on = 1 } on { print } on && /%/ && ++rows == 30 { exit }'
-fi
+few=$(of_many psk 10)
+more=$(of_many psk 60)
+of_one "one frame of 1500 octets sent and taken" "$few" "$more" 50
+profile "${1:-}" "$work/psk.60" 30 "60 frames of 1500 octets"

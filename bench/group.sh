@@ -8,16 +8,8 @@
 # Prints one figure a line, and what it means. It runs the program that `rt ci` proved and built, and says so and ends with 1 where there
 # is none. Run it from anywhere in the repository. With --profile it also prints which functions the instructions of the longer script
 # are spent in.
-set -eu
-cd "$(dirname "$0")/.."
-work=$(mktemp -d)
-trap 'rm -rf "$work"' EXIT
-
-program=crates/kehtrop/out/kehtrop
-if [ ! -x "$program" ]; then
-    echo "no program was built: \`rt ci\` does" >&2
-    exit 1
-fi
+source "$(dirname "$0")/common.sh"
+built kehtrop
 
 # The scripts of the replay, with how many group keys each draws behind the first.
 python3 - "$work" <<'PY'
@@ -69,17 +61,6 @@ for name, lines in (("quarter", LINES // 4), ("half", LINES // 2), ("whole", LIN
     open("%s/%s.count" % (sys.argv[1], name), "w").write("%d\n" % rekeys)
 PY
 
-# The processor seconds and the greatest resident memory (KiB) of a program, its output to a file.
-measure() { # OUTPUT INPUT WORDS..
-    python3 - "$@" <<'PY'
-import resource, subprocess, sys
-out, source, words = sys.argv[1], sys.argv[2], sys.argv[3:]
-done = subprocess.run(words, stdin=open(source), stdout=open(out, "w"))
-used = resource.getrusage(resource.RUSAGE_CHILDREN)
-print("%.2f %d %d" % (used.ru_utime + used.ru_stime, used.ru_maxrss, done.returncode))
-PY
-}
-
 # It ends where one of the group keys did not come into use.
 in_use() { # REPORT REKEYS
     if [ "$(grep -c '^install a1 all gtk' "$1")" != $(($2 + 1)) ]; then
@@ -114,36 +95,20 @@ PY
 }
 
 # The instructions, or else the seconds, of a replay of that many group-key handshakes.
-counted() { # SUITE HANDSHAKES
+of_many() { # SUITE HANDSHAKES
     local name=$1.$2
     script "$1" "$2" > "$work/$name.script"
     "$program" replay < "$work/$name.script" > "$work/$name.report"
     in_use "$work/$name.report" "$2"
-    if command -v valgrind > /dev/null; then
-        valgrind --tool=callgrind --callgrind-out-file="$work/$name" "$program" replay < "$work/$name.script" 2>&1 > /dev/null \
-            | sed -n 's/.*Collected : //p'
-    else
-        python3 - "$program" "$work/$name.script" <<'PY'
-import resource, subprocess, sys
-RUNS = 200
-for _ in range(RUNS):
-    subprocess.run([sys.argv[1], "replay"], stdin=open(sys.argv[2]), stdout=subprocess.DEVNULL, check=True)
-used = resource.getrusage(resource.RUSAGE_CHILDREN)
-print((used.ru_utime + used.ru_stime) / RUNS)
-PY
-    fi
+    counted "$work/$name" "$work/$name.script" 200 replay
 }
 
-if command -v valgrind > /dev/null; then unit=instructions; else unit=seconds; fi
 for suite in psk psk-sha256; do
-    few=$(counted "$suite" 10)
-    more=$(counted "$suite" 60)
-    python3 -c "print('one group-key handshake of the suite %s: %.6g %s' % ('$suite', ($more - $few) / 50, '$unit'))"
+    few=$(of_many "$suite" 10)
+    more=$(of_many "$suite" 60)
+    of_one "one group-key handshake of the suite $suite" "$few" "$more" 50
 done
 
-if [ "${1:-}" = --profile ] && command -v callgrind_annotate > /dev/null; then
-    for suite in psk psk-sha256; do
-        echo "== $suite, 60 group-key handshakes"
-        callgrind_annotate --threshold=99 "$work/$suite.60" | awk '/ file:function/ { on = 1 } on { print } on && /%/ && ++rows == 30 { exit }'
-    done
-fi
+for suite in psk psk-sha256; do
+    profile "${1:-}" "$work/$suite.60" 30 "$suite, 60 group-key handshakes"
+done

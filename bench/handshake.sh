@@ -6,16 +6,8 @@
 # 9.4.2.24.3, with SHA-1 (2) and with SHA-256 (6). Instructions are counted by callgrind of valgrind, and where that is missing seconds
 # of one processor are measured. It runs the program that `rt ci` proved and built, and says so and ends with 1 where there is none. Run it
 # from anywhere in the repository. With --profile it also prints which functions the instructions of the longer script are spent in.
-set -eu
-cd "$(dirname "$0")/.."
-work=$(mktemp -d)
-trap 'rm -rf "$work"' EXIT
-
-program=crates/kehtrop/out/kehtrop
-if [ ! -x "$program" ]; then
-    echo "no program was built: \`rt ci\` does" >&2
-    exit 1
-fi
+source "$(dirname "$0")/common.sh"
+built kehtrop
 
 # A script of that many handshakes.
 script() { # SUITE HANDSHAKES
@@ -33,7 +25,7 @@ PY
 }
 
 # The instructions, or else the seconds, of a replay of that many handshakes. It ends where one of them does not come to its end.
-counted() { # SUITE HANDSHAKES
+of_many() { # SUITE HANDSHAKES
     local name=$1.$2
     script "$1" "$2" > "$work/$name.script"
     "$program" replay < "$work/$name.script" > "$work/$name.report"
@@ -41,31 +33,15 @@ counted() { # SUITE HANDSHAKES
         echo "a handshake of the suite $1 did not come to its end" >&2
         exit 1
     fi
-    if command -v valgrind > /dev/null; then
-        valgrind --tool=callgrind --callgrind-out-file="$work/$name" "$program" replay < "$work/$name.script" 2>&1 > /dev/null \
-            | sed -n 's/.*Collected : //p'
-    else
-        python3 - "$program" "$work/$name.script" <<'PY'
-import resource, subprocess, sys
-RUNS = 200
-for _ in range(RUNS):
-    subprocess.run([sys.argv[1], "replay"], stdin=open(sys.argv[2]), stdout=subprocess.DEVNULL, check=True)
-used = resource.getrusage(resource.RUSAGE_CHILDREN)
-print((used.ru_utime + used.ru_stime) / RUNS)
-PY
-    fi
+    counted "$work/$name" "$work/$name.script" 200 replay
 }
 
-if command -v valgrind > /dev/null; then unit=instructions; else unit=seconds; fi
 for suite in psk psk-sha256; do
-    few=$(counted "$suite" 10)
-    more=$(counted "$suite" 60)
-    python3 -c "print('one handshake of the suite %s: %.6g %s' % ('$suite', ($more - $few) / 50, '$unit'))"
+    few=$(of_many "$suite" 10)
+    more=$(of_many "$suite" 60)
+    of_one "one handshake of the suite $suite" "$few" "$more" 50
 done
 
-if [ "${1:-}" = --profile ] && command -v callgrind_annotate > /dev/null; then
-    for suite in psk psk-sha256; do
-        echo "== $suite, 60 handshakes"
-        callgrind_annotate --threshold=99 "$work/$suite.60" | awk '/ file:function/ { on = 1 } on { print } on && /%/ && ++rows == 30 { exit }'
-    done
-fi
+for suite in psk psk-sha256; do
+    profile "${1:-}" "$work/$suite.60" 30 "$suite, 60 handshakes"
+done

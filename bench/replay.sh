@@ -3,16 +3,8 @@
 # points over and over, each by a connect and the six deliveries of a whole handshake. Prints one figure a line, and what it
 # means. It runs the program that `rt ci` or `rt run` proved and built, and ends where there is none; run it from anywhere in the
 # repository.
-set -eu
-cd "$(dirname "$0")/.."
-work=$(mktemp -d)
-trap 'rm -rf "$work"' EXIT
-
-program=crates/kehtrop/out/kehtrop
-if [ ! -x "$program" ]; then
-    echo "no program was built: rt ci does it" >&2
-    exit 1
-fi
+source "$(dirname "$0")/common.sh"
+built kehtrop
 
 python3 - "$work" <<'PY'
 import sys
@@ -33,17 +25,6 @@ for name, lines in (("quarter", LINES // 4), ("half", LINES // 2), ("whole", LIN
     open("%s/%s" % (sys.argv[1], name), "w").write("\n".join(out) + "\n")
     open("%s/%s.count" % (sys.argv[1], name), "w").write("%d %d\n" % (k, frame))
 PY
-
-# The processor seconds and the greatest resident memory (KiB) of a program, its output to a file.
-measure() { # OUTPUT INPUT WORDS..
-    python3 - "$@" <<'PY'
-import resource, subprocess, sys
-out, source, words = sys.argv[1], sys.argv[2], sys.argv[3:]
-done = subprocess.run(words, stdin=open(source), stdout=open(out, "w"))
-used = resource.getrusage(resource.RUSAGE_CHILDREN)
-print("%.2f %d %d" % (used.ru_utime + used.ru_stime, used.ru_maxrss, done.returncode))
-PY
-}
 
 echo "processors: $(nproc)"
 for part in quarter half whole; do

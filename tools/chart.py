@@ -70,7 +70,7 @@ def events_of(script):
             nodes[words[0]] += 1
             if words[0] == "ap":
                 events.append(Event(line, ["start", "a%d" % nodes["ap"]]))
-        elif words[0] in ("connect", "deliver", "alter", "cut", "inject", "retry", "rekey", "send", "expire", "leave"):
+        elif words[0] in ("connect", "deliver", "alter", "cut", "inject", "retry", "rekey", "send", "expire", "revoke", "leave"):
             events.append(Event(line, words))
     listed = ["s%d" % (n + 1) for n in range(nodes["sta"])] + ["a%d" % (n + 1) for n in range(nodes["ap"])]
     return events, listed
@@ -91,6 +91,8 @@ def awaited(event, acts):
         return ["gave-up", "close"] if acts[0][0] == "gave-up" else ["sent"]
     if word == "rekey":
         return ["sent"] * renewed(acts) or ["install"]
+    if word == "revoke":
+        return ["revoke"]
     if word in ("expire", "leave"):
         ends = [act[:1] + act[1:2] + act[3:] for act in acts[:2]]
         both = [["close", event.words[1], part] for part in ("attempt", "session")]
@@ -147,7 +149,7 @@ class GroupKeys:
 
 def node_of(event):
     """The node whose report lines come of the event."""
-    return event.words[1] if event.words[0] in ("start", "connect", "retry", "rekey", "send", "expire", "leave") else node_at(event)
+    return event.words[1] if event.words[0] in ("start", "connect", "retry", "rekey", "send", "expire", "revoke", "leave") else node_at(event)
 
 
 def node_at(event):
@@ -289,6 +291,8 @@ class Chart:
                 told.append("hands up %s" % shortened(act[6], 16))
             elif act[0] == "close":
                 told.append("%s with %s ends" % (act[3], act[2]))
+            elif act[0] == "revoke":
+                told.append("key of %s %s" % (act[2], act[3]))
             elif act[0] == "idle":
                 told.append("does nothing: %s" % act[2] if act[2] != "nothing" else "does nothing")
             else:

@@ -73,9 +73,9 @@ refuses() { # LINES LINE TEXT WRITES
     (head -n "$1" "$work/header"; printf '%s\n' "$2") > "$work/script"
     ends 2 "line $(($1 + 1)): $3" "$4" "$work/script" replay
 }
-any="that of ap, sta, connect, deliver, alter, cut, inject, retry, rekey, send, expire or leave"
-later="that of sta, connect, deliver, alter, cut, inject, retry, rekey, send, expire or leave"
-events="that of connect, deliver, alter, cut, inject, retry, rekey, send, expire or leave"
+any="that of ap, sta, connect, deliver, alter, cut, inject, retry, rekey, send, expire, revoke or leave"
+later="that of sta, connect, deliver, alter, cut, inject, retry, rekey, send, expire, revoke or leave"
+events="that of connect, deliver, alter, cut, inject, retry, rekey, send, expire, revoke or leave"
 send="send <node> <node or all> <tid 0 to 15 or -> <digits>"
 key="passphrase <8 to 63 octets> or psk <64 digits>"
 refuses 0 "domain 2" "not the first line of a script; the form is domain 1" $none

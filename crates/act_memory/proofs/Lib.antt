@@ -1,2 +1,3 @@
 pub mod RepliedActs
 pub mod Returning
+pub mod Templating

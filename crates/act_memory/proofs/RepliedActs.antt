@@ -28,12 +28,13 @@ use Rattle.domain_rules.specs.GroupKeys.{got, got_by, told}
 use Rattle.domain_rules.specs.Reading.{KeyMessage}
 use Rattle.act_memory.specs.declared.room.Between.{Between}
 use Rattle.act_memory.specs.Rooms.{between_of}
-use Rattle.domain_rules.specs.Replies.{replied_acts, derived_acts, replaced_acts, installed_acts, gtk_acts, finished_acts, frame_acts, sent_acts, reply_acts, inputs_by, pair, taken_as}
+use Rattle.domain_rules.specs.Replies.{replied_acts, derived_acts, replaced_acts, installed_acts, gtk_acts, finished_acts, frame_acts, sent_acts, reply_acts, inputs_by, taken_as}
 use Rattle.domain_rules.proofs.Parts.{IsApart, apart-took, attempt_none, session_more, draws_more, pending_more, associated_more, leaves_pending, leaves_associated, add_append, GoesOn, goes_on}
 use Rattle.run_journal.specs.GroupKinds as groups
-use Rattle.domain_rules.specs.Network.{root}
+use Rattle.domain_rules.specs.Network.{Root}
 use Rattle.group_key.specs.Keys.{Kept}
 use Rattle.group_key.specs.Holds.{Remembers}
+use Rattle.node_base.specs.Pairs.{pair_of}
 
 -- ---- acts that are about one node
 
@@ -224,18 +225,18 @@ pub all_joined : {X : Type 0} (P : X → Type 0) (xs ys : List X) → AllByRecur
 all_joined P [] ys all more = more
 all_joined P (x ∷ xs) ys all more = (all.0, all_joined P xs ys all.1 more)
 
-derived_about : (d : Domain) (n p : Node) (y : Option Keyed) → AllByRecursion (IsAbout p) (derived_acts d (root d) n p y)
-derived_about d n p None = tt
-derived_about d n p (Some y) = (about_derived p (inputs_by d (root d) n p y) y.ptk, tt)
+derived_about : (d : Domain) (t : Root) (n p : Node) (y : Option Keyed) → AllByRecursion (IsAbout p) (derived_acts d t n p y)
+derived_about d t n p None = tt
+derived_about d t n p (Some y) = (about_derived p (inputs_by d t n p y) y.ptk, tt)
 
 replaced_about : (p : Node) (had : Bool) (x : Option Keyed) → AllByRecursion (IsAbout p) (replaced_acts p had x)
 replaced_about p true None = tt
 replaced_about p true (Some y) = (about_closed p, tt)
 replaced_about p false x = tt
 
-installed_about : (d : Domain) (n p : Node) (x : Option Keyed) → AllByRecursion (IsAbout p) (installed_acts d (root d) n p x)
-installed_about d n p None = tt
-installed_about d n p (Some y) = (about_pairwise p y.ptk.tk (inputs_by d (root d) n p y), tt)
+installed_about : (d : Domain) (t : Root) (n p : Node) (x : Option Keyed) → AllByRecursion (IsAbout p) (installed_acts d t n p x)
+installed_about d t n p None = tt
+installed_about d t n p (Some y) = (about_pairwise p y.ptk.tk (inputs_by d t n p y), tt)
 
 gtk_by : (b : Bool) (p : Node) (key : List ℕ) (id : ℕ) (m : Mac) → IsAbout p (cond b (Resumed p (Group key id m)) (Installed (One p) (Group key id m)))
 gtk_by true p key id m = about_resumed p key id m
@@ -245,9 +246,9 @@ gtk_about : (d : Domain) (p : Node) (g : Option GtkNews) → AllByRecursion (IsA
 gtk_about d p None = tt
 gtk_about d p (Some g) = (gtk_by g.resumed p g.key g.id _, tt)
 
-finished_about : (d : Domain) (n p : Node) (x : Option Keyed) → AllByRecursion (IsAbout p) (finished_acts d (root d) n p x)
-finished_about d n p None = tt
-finished_about d n p (Some y) = (about_finished p (inputs_by d (root d) n p y), tt)
+finished_about : (d : Domain) (t : Root) (n p : Node) (x : Option Keyed) → AllByRecursion (IsAbout p) (finished_acts d t n p x)
+finished_about d t n p None = tt
+finished_about d t n p (Some y) = (about_finished p (inputs_by d t n p y), tt)
 
 frame_by : (b : Bool) (p : Node) (r : Reply) (octets : List ℕ) → AllByRecursion (IsAbout p) (cond b [] (frame_acts p r octets))
 frame_by true p r octets = tt
@@ -256,17 +257,17 @@ frame_by false p r octets = (about_sent p r.kind octets _, tt)
 pub sent_about : (p : Node) (r : Reply) → AllByRecursion (IsAbout p) (sent_acts p r)
 sent_about p r = frame_by (r.len == 0) p r (take r.len r.octets)
 
-pub replied_about : (d : Domain) (n p : Node) (had : Bool) (octets : List ℕ) (k : KeyMessage) (o : Outcome) (r : Reply) → AllByRecursion (IsAbout p) (reply_acts (pair d n p) had (taken_as octets k o) r)
-replied_about d n p had octets k o r = (
+pub replied_about : (d : Domain) (t : Root) (n p : Node) (had : Bool) (octets : List ℕ) (k : KeyMessage) (o : Outcome) (r : Reply) → AllByRecursion (IsAbout p) (reply_acts (pair_of d t n p) had (taken_as octets k o) r)
+replied_about d t n p had octets k o r = (
   about_took p octets (kind.Key k.message) o _,
   all_joined (IsAbout p) _ (sent_acts p r)
-      (all_joined (IsAbout p) _ (finished_acts d (root d) n p r.installed)
+      (all_joined (IsAbout p) _ (finished_acts d t n p r.installed)
       (all_joined (IsAbout p) _ (gtk_acts d p r.gtk)
-      (all_joined (IsAbout p) _ (installed_acts d (root d) n p r.installed)
-      (all_joined (IsAbout p) (derived_acts d (root d) n p r.derived) (replaced_acts p had r.installed) (derived_about d n p r.derived) (replaced_about p had r.installed))
-      (installed_about d n p r.installed))
+      (all_joined (IsAbout p) _ (installed_acts d t n p r.installed)
+      (all_joined (IsAbout p) (derived_acts d t n p r.derived) (replaced_acts p had r.installed) (derived_about d t n p r.derived) (replaced_about p had r.installed))
+      (installed_about d t n p r.installed))
       (gtk_about d p r.gtk))
-      (finished_about d n p r.installed))
+      (finished_about d t n p r.installed))
       (sent_about p r),
 )
 
@@ -374,9 +375,9 @@ pub record EndsNone (e : Act) : Type 0 where
 took_ends : (p : Node) (octets : List ℕ) (k : Kind) (o : Outcome) (s : Option Seal) → EndsNone (Took (Some p) octets k o s)
 took_ends p octets k o s = record { leaves_attempt = refl; leaves_session = refl; ends_none = λ q. refl; finishes_none = λ q. refl; closes_none = λ q. refl }
 
-derived_ends : (d : Domain) (n p : Node) (y : Option Keyed) → AllByRecursion EndsNone (derived_acts d (root d) n p y)
-derived_ends d n p None = tt
-derived_ends d n p (Some y) = (record { leaves_attempt = refl; leaves_session = refl; ends_none = λ q. refl; finishes_none = λ q. refl; closes_none = λ q. refl }, tt)
+derived_ends : (d : Domain) (t : Root) (n p : Node) (y : Option Keyed) → AllByRecursion EndsNone (derived_acts d t n p y)
+derived_ends d t n p None = tt
+derived_ends d t n p (Some y) = (record { leaves_attempt = refl; leaves_session = refl; ends_none = λ q. refl; finishes_none = λ q. refl; closes_none = λ q. refl }, tt)
 
 gtk_ends_by : (b : Bool) (p : Node) (key : List ℕ) (id : ℕ) (m : Mac) → EndsNone (cond b (Resumed p (Group key id m)) (Installed (One p) (Group key id m)))
 gtk_ends_by true p key id m = record { leaves_attempt = refl; leaves_session = refl; ends_none = λ q. refl; finishes_none = λ q. refl; closes_none = λ q. refl }
@@ -394,24 +395,24 @@ pub sent_ends : (p : Node) (r : Reply) → AllByRecursion EndsNone (sent_acts p 
 sent_ends p r = frame_ends (r.len == 0) p r (take r.len r.octets)
 
 -- the acts by each of the fields of a reply
-abbrev acts_by : Domain → Node → Node → Bool → List ℕ → KeyMessage → Outcome → Option (List ℕ) → Option Keyed → Option Keyed → Option GtkNews → List Act → List Act
-acts_by d n p had octets k o v y x g sends =
+abbrev acts_by : Domain → Root → Node → Node → Bool → List ℕ → KeyMessage → Outcome → Option (List ℕ) → Option Keyed → Option Keyed → Option GtkNews → List Act → List Act
+acts_by d t n p had octets k o v y x g sends =
     Took (Some p) octets (kind.Key k.message) o (option_map (λ kck. frame_seal kck k.octets) v)
-    ∷ derived_acts d (root d) n p y ++ replaced_acts p had x ++ installed_acts d (root d) n p x ++ gtk_acts d p g ++ finished_acts d (root d) n p x ++ sends
+    ∷ derived_acts d t n p y ++ replaced_acts p had x ++ installed_acts d t n p x ++ gtk_acts d p g ++ finished_acts d t n p x ++ sends
 
 replaced_none : (p : Node) (had : Bool) → AllByRecursion EndsNone (replaced_acts p had None)
 replaced_none p true = tt
 replaced_none p false = tt
 
-ends_by : (d : Domain) (n p : Node) (had : Bool) (octets : List ℕ) (k : KeyMessage) (o : Outcome) (v : Option (List ℕ)) (y : Option Keyed) (g : Option GtkNews) (sends : List Act) → AllByRecursion EndsNone sends
-    → AllByRecursion EndsNone (acts_by d n p had octets k o v y None g sends)
-ends_by d n p had octets k o v y g sends rest = (
+ends_by : (d : Domain) (t : Root) (n p : Node) (had : Bool) (octets : List ℕ) (k : KeyMessage) (o : Outcome) (v : Option (List ℕ)) (y : Option Keyed) (g : Option GtkNews) (sends : List Act) → AllByRecursion EndsNone sends
+    → AllByRecursion EndsNone (acts_by d t n p had octets k o v y None g sends)
+ends_by d t n p had octets k o v y g sends rest = (
   took_ends p octets _ o _,
   all_joined EndsNone _ sends
       (all_joined EndsNone _ []
       (all_joined EndsNone _ (gtk_acts d p g)
       (all_joined EndsNone _ []
-      (all_joined EndsNone (derived_acts d (root d) n p y) (replaced_acts p had None) (derived_ends d n p y) (replaced_none p had))
+      (all_joined EndsNone (derived_acts d t n p y) (replaced_acts p had None) (derived_ends d t n p y) (replaced_none p had))
       tt)
       (gtk_ends d p g))
       tt)
@@ -419,10 +420,10 @@ ends_by d n p had octets k o v y g sends rest = (
 )
 
 -- where no key was installed nothing ends
-pub replied_ends : (d : Domain) (n p : Node) (had : Bool) (octets : List ℕ) (k : KeyMessage) (o : Outcome) (r : Reply) → r.installed ≡ None → AllByRecursion EndsNone (reply_acts (pair d n p) had (taken_as octets k o) r)
-replied_ends d n p had octets k o r none =
-    subst (λ (x : Option Keyed). AllByRecursion EndsNone (acts_by d n p had octets k o r.verified r.derived x r.gtk (sent_acts p r))) (sym none)
-    (ends_by d n p had octets k o r.verified r.derived r.gtk (sent_acts p r) (sent_ends p r))
+pub replied_ends : (d : Domain) (t : Root) (n p : Node) (had : Bool) (octets : List ℕ) (k : KeyMessage) (o : Outcome) (r : Reply) → r.installed ≡ None → AllByRecursion EndsNone (reply_acts (pair_of d t n p) had (taken_as octets k o) r)
+replied_ends d t n p had octets k o r none =
+    subst (λ (x : Option Keyed). AllByRecursion EndsNone (acts_by d t n p had octets k o r.verified r.derived x r.gtk (sent_acts p r))) (sym none)
+    (ends_by d t n p had octets k o r.verified r.derived r.gtk (sent_acts p r) (sent_ends p r))
 
 pub ends_pending : (g h : List Act) → AllByRecursion EndsNone g → pending (add g h) ≡ pending h
 ends_pending [] h all = refl
@@ -437,15 +438,15 @@ ends_session q [] h all = refl
 ends_session q (e ∷ g) h all = ends_session q g (e ∷ h) all.1 ∙ session_more q e h (all.0.finishes_none q) (all.0.closes_none q)
 
 -- where one was, the acts before the end of the attempt, and the end
-abbrev before_end : Domain → Node → Node → Bool → List ℕ → KeyMessage → Outcome → Reply → Keyed → List Act
-before_end d n p had octets k o r y =
+abbrev before_end : Domain → Root → Node → Node → Bool → List ℕ → KeyMessage → Outcome → Reply → Keyed → List Act
+before_end d t n p had octets k o r y =
     Took (Some p) octets (kind.Key k.message) o (option_map (λ kck. frame_seal kck k.octets) r.verified)
-    ∷ derived_acts d (root d) n p r.derived ++ replaced_acts p had (Some y) ++ installed_acts d (root d) n p (Some y) ++ gtk_acts d p r.gtk
+    ∷ derived_acts d t n p r.derived ++ replaced_acts p had (Some y) ++ installed_acts d t n p (Some y) ++ gtk_acts d p r.gtk
 
-split_end : (d : Domain) (n p : Node) (had : Bool) (octets : List ℕ) (k : KeyMessage) (o : Outcome) (r : Reply) (y : Keyed)
-    → acts_by d n p had octets k o r.verified r.derived (Some y) r.gtk (sent_acts p r) ≡ before_end d n p had octets k o r y ++ (Finished p (inputs_by d (root d) n p y) ∷ sent_acts p r)
-split_end d n p had octets k o r y =
-    append_assoc (before_end d n p had octets k o r y) (Finished p (inputs_by d (root d) n p y) ∷ []) (sent_acts p r)
+split_end : (d : Domain) (t : Root) (n p : Node) (had : Bool) (octets : List ℕ) (k : KeyMessage) (o : Outcome) (r : Reply) (y : Keyed)
+    → acts_by d t n p had octets k o r.verified r.derived (Some y) r.gtk (sent_acts p r) ≡ before_end d t n p had octets k o r y ++ (Finished p (inputs_by d t n p y) ∷ sent_acts p r)
+split_end d t n p had octets k o r y =
+    append_assoc (before_end d t n p had octets k o r y) (Finished p (inputs_by d t n p y) ∷ []) (sent_acts p r)
 
 -- the attempt became a session, behind some acts
 pub record IsEnd (p : Node) (h new : List Act) : Type 0 where
@@ -455,15 +456,15 @@ pub record IsEnd (p : Node) (h new : List Act) : Type 0 where
   pub ends_more : AllByRecursion EndsNone more
   pub is : new ≡ add more (Finished p i ∷ past)
 
-pub replied_end : (d : Domain) (n p : Node) (had : Bool) (octets : List ℕ) (k : KeyMessage) (o : Outcome) (r : Reply) (y : Keyed) (h : List Act) → r.installed ≡ Some y → IsEnd p h (add (reply_acts (pair d n p) had (taken_as octets k o) r) h)
-replied_end d n p had octets k o r y h some = record {
-  past = add (before_end d n p had octets k o r y) h;
-  i = inputs_by d (root d) n p y;
+pub replied_end : (d : Domain) (t : Root) (n p : Node) (had : Bool) (octets : List ℕ) (k : KeyMessage) (o : Outcome) (r : Reply) (y : Keyed) (h : List Act) → r.installed ≡ Some y → IsEnd p h (add (reply_acts (pair_of d t n p) had (taken_as octets k o) r) h)
+replied_end d t n p had octets k o r y h some = record {
+  past = add (before_end d t n p had octets k o r y) h;
+  i = inputs_by d t n p y;
   more = sent_acts p r;
   ends_more = sent_ends p r;
-  is = ap (λ (x : Option Keyed). add (acts_by d n p had octets k o r.verified r.derived x r.gtk (sent_acts p r)) h) some
-      ∙ ap (λ (l : List Act). add l h) (split_end d n p had octets k o r y)
-      ∙ add_append (before_end d n p had octets k o r y) (Finished p (inputs_by d (root d) n p y) ∷ sent_acts p r) h;
+  is = ap (λ (x : Option Keyed). add (acts_by d t n p had octets k o r.verified r.derived x r.gtk (sent_acts p r)) h) some
+      ∙ ap (λ (l : List Act). add l h) (split_end d t n p had octets k o r y)
+      ∙ add_append (before_end d t n p had octets k o r y) (Finished p (inputs_by d t n p y) ∷ sent_acts p r) h;
 }
 
 -- the attempt has become a session
@@ -475,6 +476,6 @@ end_associated p h new e = ap associated e.is ∙ ends_associated e.more (Finish
 
 -- ---- where nothing stands between
 
-pub nothing_between : (d : Domain) (n p : Node) (had : Bool) (octets : List ℕ) (k : KeyMessage) (o : Outcome) (r : Reply) (b : Between) → b.opened.items ≡ [] → b.put.items ≡ []
-    → replied_acts (pair d n p) had (taken_as octets k o) r (between_of b) ≡ reply_acts (pair d n p) had (taken_as octets k o) r
-nothing_between d n p had octets k o r b opened put = rw (opened, put) refl
+pub nothing_between : (d : Domain) (t : Root) (n p : Node) (had : Bool) (octets : List ℕ) (k : KeyMessage) (o : Outcome) (r : Reply) (b : Between) → b.opened.items ≡ [] → b.put.items ≡ []
+    → replied_acts (pair_of d t n p) had (taken_as octets k o) r (between_of b) ≡ reply_acts (pair_of d t n p) had (taken_as octets k o) r
+nothing_between d t n p had octets k o r b opened put = rw (opened, put) refl

@@ -8,7 +8,7 @@ ghost use Rattle.run_journal.specs.declared.domain.Domain.{Domain as AnyDomain};
 ghost use Rattle.run_journal.specs.declared.acts.Kind.TheVariants as kind;
 ghost use Rattle.run_journal.specs.declared.acts.Act.TheVariants.{Took};
 ghost use Rattle.run_journal.specs.Replies.{IsWhole};
-ghost use Rattle.domain_rules.specs.Network.{IsListed, mac, root};
+ghost use Rattle.domain_rules.specs.Network.{IsListed, mac, Root, root_at};
 ghost use Rattle.domain_rules.specs.Replies.{derived_acts, replaced_acts, installed_acts, gtk_acts};
 ghost use Rattle.domain_rules.specs.Replies.{finished_acts};
 ghost use Rattle.node_base.specs.Peers.{IsPeerOf};
@@ -35,13 +35,14 @@ fn cover(alloc: Global, frame: &[u8]) -> Result<Vec<u8>, NoMemory>
 }
 
 // What the pairwise key of a node with its peer is made of, without nonces.
-fn template(here: Here<'_>, peer: Node) -> Result<BoxedInputs, NoMemory>
+#[tactic(auto, using(crate::proofs::Templating::template_is))]
+fn template(here: Here<'_>, peer: Node, r0kh_id: &[u8]) -> Result<BoxedInputs, NoMemory>
     requires listed { IsListed here.domain.now here.node }
     requires peer { IsPeerOf here.domain.now here.node peer }
     ensures { IfOk result (λ i. let d = here.entry.domain.now
-        in IsTemplate d (root d) here.entry.node peer i) }
+        in IsTemplate d (root_at d r0kh_id.now) here.entry.node peer i) }
 {
-    let inputs = pairwise_inputs(here, peer, &[0; 32], &[0; 32])?;
+    let inputs = pairwise_inputs(here, peer, r0kh_id, &[0; 32], &[0; 32])?;
     BoxedInputs::new(here.alloc, inputs)
 }
 
@@ -66,8 +67,8 @@ fn seal_over(covered: Vec<u8>, room: BoxedSeal, key: Option<[u8; 16]>) -> Option
 // The key was derived.
 fn add_derived(peer: Node, template: BoxedInputs, derived: Option<Keyed>, out: &mut Outbox)
     requires { 0 < out.old.spare }
-    ensures acts { (d : AnyDomain) (n : AnyNode) → IsTemplate d (root d) n peer template
-        → out.new.acts ≡ out.old.acts ++ derived_acts d (root d) n peer derived }
+    ensures acts { (d : AnyDomain) (r : Root) (n : AnyNode) → IsTemplate d r n peer template
+        → out.new.acts ≡ out.old.acts ++ derived_acts d r n peer derived }
     ensures spare { out.old.spare ≤ out.new.spare + 1 }
 {
     let Some(key) = derived else { return };
@@ -97,8 +98,8 @@ fn add_replaced(peer: Node, had_session: bool, installed: Option<Keyed>, out: &m
 // The key was installed.
 fn add_installed(peer: Node, template: BoxedInputs, installed: Option<Keyed>, out: &mut Outbox)
     requires { 0 < out.old.spare }
-    ensures acts { (d : AnyDomain) (n : AnyNode) → IsTemplate d (root d) n peer template
-        → out.new.acts ≡ out.old.acts ++ installed_acts d (root d) n peer installed }
+    ensures acts { (d : AnyDomain) (r : Root) (n : AnyNode) → IsTemplate d r n peer template
+        → out.new.acts ≡ out.old.acts ++ installed_acts d r n peer installed }
     ensures spare { out.old.spare ≤ out.new.spare + 1 }
 {
     let Some(key) = installed else { return };
@@ -132,8 +133,8 @@ fn add_group_key(peer: Node, bssid: Mac, gtk: Option<GtkNews>, out: &mut Outbox)
 // The attempt became a session under the key that was installed.
 fn add_finished(peer: Node, template: BoxedInputs, installed: Option<Keyed>, out: &mut Outbox)
     requires { 0 < out.old.spare }
-    ensures acts { (d : AnyDomain) (n : AnyNode) → IsTemplate d (root d) n peer template
-        → out.new.acts ≡ out.old.acts ++ finished_acts d (root d) n peer installed }
+    ensures acts { (d : AnyDomain) (r : Root) (n : AnyNode) → IsTemplate d r n peer template
+        → out.new.acts ≡ out.old.acts ++ finished_acts d r n peer installed }
     ensures spare { out.old.spare ≤ out.new.spare + 1 }
 {
     let Some(key) = installed else { return };
@@ -195,24 +196,31 @@ pub struct Room {
 
 impl Room {
     ghost use Rattle.domain_rules.specs.Reading.{KeyMessage};
-    ghost use Rattle.domain_rules.specs.Replies.{replied_acts, pair, taken_as};
+    ghost use Rattle.domain_rules.specs.Replies.{replied_acts, taken_as};
+    ghost use Rattle.node_base.specs.Pairs.{pair_at};
     ghost use Rattle.frame_intake.specs.Views.{message_fields};
     ghost use Rattle.act_memory.specs.Rooms.{IsRoom, between_of};
 
-    /// Takes it, for the node that stands here and takes that message of its peer.
-    pub fn take(here: Here<'_>, peer: Node, heard: &Heard<'_>) -> Result<Self, NoMemory>
+    /// Takes it, for the node that stands here and takes that message of its peer, with suite 4 by the
+    /// R0KH-ID that their keys go back to, which the other suites do not look at.
+    pub fn take(
+        here: Here<'_>,
+        peer: Node,
+        r0kh_id: &[u8],
+        heard: &Heard<'_>,
+    ) -> Result<Self, NoMemory>
         requires listed { IsListed here.domain.now here.node }
         requires peer { IsPeerOf here.domain.now here.node peer }
-        ensures { IfOk result (λ room. IsRoom here.entry.domain.now here.entry.node peer
+        ensures { IfOk result (λ room. IsRoom here.entry.domain.now r0kh_id.now here.entry.node peer
             heard.now.octets.now (message_fields heard.now.message) room) }
     {
         let address = address(here.domain, peer);
         let taken = Vec::from_slice(here.alloc, heard.octets)?;
         let covered = cover(here.alloc, heard.message.frame.octets)?;
         let seal = BoxedSeal::room(here.alloc)?;
-        let derived = template(here, peer)?;
-        let installed = template(here, peer)?;
-        let finished = template(here, peer)?;
+        let derived = template(here, peer, r0kh_id)?;
+        let installed = template(here, peer, r0kh_id)?;
+        let finished = template(here, peer, r0kh_id)?;
         let sent = SendRoom::take(here.alloc)?;
         Ok(Room {
             peer,
@@ -241,9 +249,9 @@ impl Room {
     )
         requires room { 7 + length between.opened.items + length between.put.items ≤ out.old.spare }
         requires whole { IsWhole reply.now }
-        ensures acts { (d : AnyDomain) (n p : AnyNode) (octets : List ℕ) (k : KeyMessage)
-            → IsRoom d n p octets k self
-            → out.new.acts ≡ out.old.acts ++ replied_acts (pair d n p) had_session
+        ensures acts { (d : AnyDomain) (id : List ℕ) (n p : AnyNode) (octets : List ℕ) (k : KeyMessage)
+            → IsRoom d id n p octets k self
+            → out.new.acts ≡ out.old.acts ++ replied_acts (pair_at d id n p) had_session
             (taken_as octets k outcome) reply.now (between_of between) }
         ensures spare { out.old.spare
             ≤ out.new.spare + (7 + length between.opened.items + length between.put.items) }

@@ -13,7 +13,7 @@ use Rattle.run_journal.specs.declared.acts.Act.TheVariants.{Took, HandedUp}
 use Rattle.run_journal.specs.Acts.{same_kind, accepted}
 use Rattle.run_journal.specs.Questions.{before_sent}
 use Rattle.domain_rules.specs.Asking.{replay_counter}
-use Rattle.domain_rules.specs.Replies.{pair}
+use Rattle.authenticator.specs.Bases.{own_pair}
 use Rattle.domain_rules.proofs.Parts.{IsApart, same-refl, attempt_more, attempt_none, attempt_some, by_connect_more, own_nonce_more, heard_more, sent_more, derivation_more}
 use Rattle.authenticator.specs.State.{State as Part}
 use Rattle.authenticator.specs.Stands.{IsUnderWay, HasAttempt, AuthenticatorStands}
@@ -41,7 +41,7 @@ module _ (d : Domain) (n p : Node) (octets : List ℕ) (s : Option Seal) where
     m1_offers = ap (map replay_counter) (sent_more p (kind.Key M1) took at.part refl) ∙ at.m1_offers;
     m3_offers = ap (map replay_counter) (sent_more p (kind.Key M3) took at.part refl) ∙ at.m3_offers;
     answered = ap (λ (o : Option (List ℕ)). is_some o) (heard_more p (kind.Key M2) took at.part (not_data p (kind.Key M2) octets s refl)) ∙ at.answered;
-    agreed = agreed_on (pair d n p) a.agreed a.m3s at.part (took ∷ at.part) h (took ∷ h) (derivation_more p took at.part refl) (or_none (before_sent p (kind.Key M3) h)) at.agreed;
+    agreed = agreed_on (own_pair d n p) a.agreed a.m3s at.part (took ∷ at.part) h (took ∷ h) (derivation_more p took at.part refl) (or_none (before_sent p (kind.Key M3) h)) at.agreed;
     request = at.request;
     heard_last = heard_more p kind.AssocReq took h (not_data p kind.AssocReq octets s refl) ∙ at.heard_last;
     rsne = at.rsne;
@@ -54,7 +54,7 @@ module _ (d : Domain) (n p : Node) (octets : List ℕ) (s : Option Seal) where
   pub stands_behind : (x : Part) (h : List Act) → AuthenticatorStands d n p x h → AuthenticatorStands d n p x (took ∷ h)
   stands_behind x h at = record {
     ends = at.ends;
-    psk = at.psk;
+    base = at.base;
     attempt_is = attempt_behind x.attempt h at.attempt_is;
     session_is = session_on d n p x.session h (took ∷ h) refl (λ t counts. counts_on p t took h refl refl refl (not_data p (kind.Key G2) octets s refl) counts) at.session_is;
   }

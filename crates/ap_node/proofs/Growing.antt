@@ -1,5 +1,5 @@
 -- The network grows: an access point of it stands for the same histories.
-use Rattle.std.proofs.Common.{ℕ, ◌<◌, List, length, Option, Some, None}
+use Rattle.std.proofs.Common.{ℕ, ◌<◌, List, length, Option, Some, None, ◌∙◌}
 use Rattle.domain_base.specs.declared.names.Node.{Node}
 use Rattle.domain_base.specs.declared.names.Node.TheVariants.{Ap, Sta}
 use Rattle.run_journal.specs.declared.domain.Domain.{Domain}
@@ -29,4 +29,4 @@ so_far_grown d e first s h g low stands = record {
 }
 
 pub grown : (d e : Domain) (first : ℕ) (s : State) (h : List Act) → Grows d e → s.number < length d.aps → Stands d first s h → Stands e first s h
-grown d e first s h g low stands = record { so_far = so_far_grown d e first s h g low stands.so_far; settled = stands.settled }
+grown d e first s h g low stands = record { so_far = so_far_grown d e first s h g low stands.so_far; settled = stands.settled; connects = λ suite. stands.connects (λ same. suite (g.akm ∙ same)) }

@@ -15,10 +15,12 @@ use Rattle.run_journal.specs.declared.reply.Keyed.{Keyed}
 use Rattle.run_journal.specs.declared.reply.Reply.{Reply}
 use Rattle.run_journal.specs.Acts.{Derivation}
 use Rattle.run_journal.specs.Questions.{session, add}
-use Rattle.domain_rules.specs.Network.{root}
+use Rattle.domain_rules.specs.Network.{Root}
+use Rattle.key_hierarchy.specs.declared.inputs.Ptk.{Ptk}
 use Rattle.domain_rules.specs.PacketNumbers.{send_key}
 use Rattle.domain_rules.specs.Reading.{KeyMessage}
-use Rattle.domain_rules.specs.Replies.{pair, taken_as, reply_acts, sent_acts, key_by}
+use Rattle.domain_rules.specs.Replies.{taken_as, reply_acts, sent_acts}
+use Rattle.node_base.specs.Pairs.{pair_of}
 use Rattle.domain_rules.proofs.Parts.{same-refl}
 use Rattle.act_memory.proofs.RepliedActs.{replied_ends, sent_ends, ends_session}
 use Rattle.authenticator.specs.Stands.{HasSession}
@@ -50,23 +52,24 @@ has_key_in d n sta (Some x) h at = at.2
 -- ---- a message
 
 -- that installs a key or not
-pub key_replied : (d : Domain) (n p : Node) (had : Bool) (octets : List ℕ) (k : KeyMessage) (o : Outcome) (r : Reply) (new : Part) (old now : Option Held) (h : List Act) → now ≡ key_after r.installed old → Installs o r new
-    → HasSession d n p new.session (add (reply_acts (pair d n p) had (taken_as octets k o) r) h) → HasKey p (session p h) old h
-    → HasKey p (session p (add (reply_acts (pair d n p) had (taken_as octets k o) r) h)) now (add (reply_acts (pair d n p) had (taken_as octets k o) r) h)
-key_replied d n p had octets k o r new old now h now_is installs there at = by r.installed refl
+pub key_replied : (d : Domain) (t : Root) (n p : Node) (had : Bool) (octets : List ℕ) (k : KeyMessage) (o : Outcome) (r : Reply) (new : Part) (old now : Option Held) (h : List Act) → now ≡ key_after r.installed old → Installs o r new
+    → HasSession d n p new.session (add (reply_acts (pair_of d t n p) had (taken_as octets k o) r) h) → HasKey p (session p h) old h
+    → HasKey p (session p (add (reply_acts (pair_of d t n p) had (taken_as octets k o) r) h)) now (add (reply_acts (pair_of d t n p) had (taken_as octets k o) r) h)
+key_replied d t n p had octets k o r new old now h now_is installs there at = by r.installed refl
   where
-    by : (i : Option Keyed) → r.installed ≡ i → HasKey p (session p (add (reply_acts (pair d n p) had (taken_as octets k o) r) h)) now (add (reply_acts (pair d n p) had (taken_as octets k o) r) h)
+    by : (i : Option Keyed) → r.installed ≡ i → HasKey p (session p (add (reply_acts (pair_of d t n p) had (taken_as octets k o) r) h)) now (add (reply_acts (pair_of d t n p) had (taken_as octets k o) r) h)
     by None none =
-        let said = reply_acts (pair d n p) had (taken_as octets k o) r in
+        let said = reply_acts (pair_of d t n p) had (taken_as octets k o) r in
         subst (λ (m : Option Held). HasKey p (session p (add said h)) m (add said h)) (sym (now_is ∙ ap (λ (i : Option Keyed). key_after i old) none))
-        (key_as p (session p h) (session p (add said h)) old h (add said h) (ends_session p said h (replied_ends d n p had octets k o r none))
-        (keeps p said h (λ tk. replied_leaves d n p p tk had octets k o r none)) at)
+        (key_as p (session p h) (session p (add said h)) old h (add said h) (ends_session p said h (replied_ends d t n p had octets k o r none))
+        (keeps p said h (λ tk. replied_leaves d t n p p tk had octets k o r none)) at)
     by (Some y) some =
-        let said = reply_acts (pair d n p) had (taken_as octets k o) r in
+        let said = reply_acts (pair_of d t n p) had (taken_as octets k o) r in
         let i = installs y some in
-        let is : session p (add said h) ≡ Some (key_by d (root d) n p i.1.key) = (held d n p new.session i.1 (add said h) i.2 there).is in
-        let holds : HoldsPairwise p i.1.key.ptk.tk (fresh y.ptk.tk) (add said h) =
-        subst (λ (z : Keyed). HoldsPairwise p z.ptk.tk (fresh y.ptk.tk) (add said h)) (sym i.3) (replied_holds d n p had octets k o r y h some) in
+        let there_is = held d n p new.session i.1 (add said h) i.2 there in
+        let is : session p (add said h) ≡ Some there_is.x = there_is.is in
+        let holds : HoldsPairwise p there_is.x.ptk.tk (fresh y.ptk.tk) (add said h) =
+        subst (λ (z : Ptk). HoldsPairwise p z.tk (fresh y.ptk.tk) (add said h)) (sym (there_is.key ∙ i.3)) (replied_holds d t n p had octets k o r y h some) in
         subst (λ (m : Option Held). HasKey p (session p (add said h)) m (add said h)) (sym (now_is ∙ ap (λ (z : Option Keyed). key_after z old) some))
         (subst (λ (x : Option Derivation). HasKey p x (Some (fresh y.ptk.tk)) (add said h)) (sym is) holds)
 

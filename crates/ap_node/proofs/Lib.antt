@@ -5,6 +5,7 @@ pub mod InUse
 pub mod Owed
 pub mod Starting
 pub mod EachGiven
+pub mod Connects
 pub mod Due
 pub mod Ending
 pub mod Refusing
@@ -13,6 +14,7 @@ pub mod Messaging
 pub mod Repeating
 pub mod Dropping
 pub mod Idling
+pub mod RevokedKeys
 pub mod Renewing
 pub mod Growing
 pub mod DataTaken

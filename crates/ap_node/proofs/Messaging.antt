@@ -13,10 +13,15 @@ use Rattle.run_journal.specs.declared.acts.Act.{Act}
 use Rattle.run_journal.specs.declared.acts.Act.TheVariants.{Took}
 use Rattle.run_journal.specs.Questions.{add, draws}
 use Rattle.domain_rules.specs.Here.{here}
-use Rattle.domain_rules.specs.Network.{draw_end}
-use Rattle.domain_rules.specs.Reading.{Keyed}
-use Rattle.domain_rules.specs.Replies.{IsMessageFrom, pair, Taken, taken_as, reply_acts}
-use Rattle.domain_rules.specs.Rows.{Take}
+use Rattle.domain_rules.specs.Network.{draw_end, Root, root_at, r0kh_id}
+use Rattle.domain_rules.specs.Reading.{Keyed, KeyMessage as MessageFields}
+use Rattle.domain_rules.proofs.SuiteWords.{root_suite, put_suite}
+use Rattle.domain_base.specs.declared.names.Akm.TheVariants.{FtPsk}
+use Rattle.domain_rules.specs.Replies.{IsMessageFrom, Between, Taken, taken_as, key_by, reply_acts, replied_acts}
+use Rattle.node_base.specs.Pairs.{pair_of, pair_at}
+use Rattle.run_journal.specs.declared.reply.Reply.{Reply}
+use Rattle.run_journal.specs.declared.reply.Keyed.{Keyed as KeyedAs}
+use Rattle.domain_rules.specs.Rows.{Take, TakeRow}
 use Rattle.group_key.specs.declared.keys.GroupKey.{GroupKey}
 use Rattle.group_key.specs.Keys.{Pair}
 use Rattle.frame_intake.specs.declared.delivered.KeyMessage.{KeyMessage}
@@ -25,7 +30,9 @@ use Rattle.node_base.specs.Events.{seen}
 use Rattle.act_memory.proofs.RepliedActs.{replied_about, about_draws, about_others}
 use Rattle.ap_node.specs.declared.station.Station.{Station}
 use Rattle.authenticator.specs.Judged.{frame_of}
-use Rattle.authenticator.specs.Taken.{given, Comes}
+use Rattle.authenticator.specs.Taken.{given, put_for, told_acts, Comes}
+use Rattle.authenticator.specs.Bases.{home}
+use Rattle.authenticator.specs.Stands.{AuthenticatorStands}
 use Rattle.ccmp_guard.specs.Held.{Held}
 use Rattle.data_frames.proofs.RepliedKeys.{replied_leaves_others}
 use Rattle.ap_node.specs.declared.newest.NewestGroup.{NewestGroup}
@@ -78,12 +85,28 @@ pub kept_state : (number drawn m n : ℕ) (group : Pair) (sending : Held) (now w
     → the_state number drawn group sending now m ≡ the_state number drawn group sending was n
 kept_state number drawn m n group sending now was parts count = rw (parts, count) refl
 
+-- ---- with suites 2 and 6 nothing is put with a key holder, and keys go back to no R0KH-ID
+
+abbrev put_only : List Act → Between
+put_only g = record { opened = []; put = g }
+
+told_same : (d : Domain) (n p : Node) (had : Bool) (octets : List ℕ) (k : MessageFields) (outcome : Outcome) (r : Reply) (h : List Act) → d.akm ≢ FtPsk
+    → told_acts d n p had octets k outcome r h ≡ reply_acts (pair_at d [] n p) had (taken_as octets k outcome) r
+told_same d n p had octets k outcome r h suite =
+    ap (λ (t : Root). replied_acts (pair_of d t n p) had (taken_as octets k outcome) r (put_only (put_for d n h p r.installed)))
+    (root_suite d.akm d (r0kh_id d n) suite ∙ sym (root_suite d.akm d [] suite))
+    ∙ ap (λ (g : List Act). replied_acts (pair_at d [] n p) had (taken_as octets k outcome) r (put_only g)) (none_put r.installed)
+  where
+    none_put : (y : Option KeyedAs) → put_for d n h p y ≡ []
+    none_put None = refl
+    none_put (Some y) = put_suite d.akm d n h p (key_by d (home d n) n p y) suite
+
 -- the part took it
-handed : (d : Domain) (old new : State) (octets : List ℕ) (sta : ℕ) (message : KeyMessage) (outcome : Outcome) (a b : Station) (acts waited : List Act) → IsKeyedAtAp d old.number octets (Sta sta) message → IsBeside old new sta
+handed : (d : Domain) (old new : State) (octets : List ℕ) (sta : ℕ) (message : KeyMessage) (outcome : Outcome) (a b : Station) (acts waited : List Act) → d.akm ≢ FtPsk → IsKeyedAtAp d old.number octets (Sta sta) message → IsBeside old new sta
     → station_at old.stations sta ≡ Some a → station_at new.stations sta ≡ Some b
-    → IsHanded (pair d (Ap old.number) (Sta sta)) (given message.message (frame_of message.frame) old.group.newest (newest_uses old)) (taken_as octets (message_fields message) outcome) a b acts
+    → IsHanded (pair_at d [] (Ap old.number) (Sta sta)) (given message.message (frame_of message.frame) old.group.newest (newest_uses old)) (taken_as octets (message_fields message) outcome) a b acts
     → (first : ℕ) (h : List Act) → Stands d first old h → Does (here d first (Ap old.number)) (Take octets) (StandsSoFar d first new) h (seen waited (waited ++ acts) outcome)
-handed d old new octets sta message outcome a b acts waited w beside was now x first h stands =
+handed d old new octets sta message outcome a b acts waited suite w beside was now x first h stands =
     let n = Ap old.number in
     let p = Sta sta in
     let k = message_fields message in
@@ -93,11 +116,14 @@ handed d old new octets sta message outcome a b acts waited w beside was now x f
     let come : Comes (here d first n) p (given message.message (frame_of message.frame) old.group.newest (newest_uses old)) octets k h =
     record { from = message_from d old.number sta octets message w; message = refl; frame = refl; newest = so_far.group_is.newest; uses = uses_are d first old h so_far } in
     let steps = x.steps d first old.number sta octets k h at.1 come in
-    let said = reply_acts (pair d n p) there (taken_as octets k outcome) x.reply in
-    let about = replied_about d n p there octets k outcome x.reply in
+    let said = reply_acts (pair_at d [] n p) there (taken_as octets k outcome) x.reply in
+    let same_acts : told_acts d n p there octets k outcome x.reply h ≡ said = told_same d n p there octets k outcome x.reply h suite in
+    let standing : AuthenticatorStands d n p b.part (add said h) =
+    subst (λ (l : List Act). AuthenticatorStands d n p b.part (add l h)) same_acts steps.stands in
+    let about = replied_about d (root_at d []) n p there octets k outcome x.reply in
     record {
       acts = said;
-      row = steps.adds;
+      row = subst (λ (l : List Act). TakeRow (here d first n) h octets l) same_acts steps.adds;
       waiting = ap (λ (l : List Act). waited ++ l) x.says;
       came = refl;
       stands = stands_with_one d first old new h (add said h) sta so_far (record {
@@ -110,9 +136,9 @@ handed d old new octets sta message outcome a b acts waited w beside was now x f
         counted = beside.counts so_far.counted so_far.few;
         same_group = about_group p said h about;
         here = subst (λ (o : Option Station). HasPart d n sta o (add said h)) (sym now)
-            (at.0, steps.stands, key_replied d n p there octets k outcome x.reply b.part a.key b.key h x.key x.installs steps.stands.session_is at.2);
+            (at.0, standing, key_replied d (root_at d []) n p there octets k outcome x.reply b.part a.key b.key h x.key x.installs standing.session_is at.2);
         others = beside.others;
-        goes = λ i other. far_on (Sta i) said h (about_others p i said other about) (λ tk. replied_leaves_others d n p (Sta i) tk there octets k outcome x.reply other);
+        goes = λ i other. far_on (Sta i) said h (about_others p i said other about) (λ tk. replied_leaves_others d (root_at d []) n p (Sta i) tk there octets k outcome x.reply other);
       });
     }
 
@@ -124,30 +150,30 @@ unhanded d s octets sta message waited w none first h stands =
     (w.judged.4 first h ∙ unawaited_message d (first + draws h) s.number h (Sta sta) (message_fields message) message.message (no_part d (Ap s.number) sta (station_at s.stations sta) h none (stands.so_far.parts sta))
     (no_part_session d (Ap s.number) sta (station_at s.stations sta) h none (stands.so_far.parts sta)))
 
-pub takes_message : (d : Domain) (old new : State) (octets : List ℕ) (sta : ℕ) (message : KeyMessage) (outcome : Outcome) (o q : Option Station) (acts waited : List Act) → IsKeyedAtAp d old.number octets (Sta sta) message → IsBeside old new sta
+pub takes_message : (d : Domain) (old new : State) (octets : List ℕ) (sta : ℕ) (message : KeyMessage) (outcome : Outcome) (o q : Option Station) (acts waited : List Act) → d.akm ≢ FtPsk → IsKeyedAtAp d old.number octets (Sta sta) message → IsBeside old new sta
     → ((why : Reason) → outcome ≡ Refused why → new ≡ old) → station_at old.stations sta ≡ o → station_at new.stations sta ≡ q
-    → IsHandedAt (pair d (Ap old.number) (Sta sta)) (given message.message (frame_of message.frame) old.group.newest (newest_uses old)) (taken_as octets (message_fields message) outcome) o q acts
+    → IsHandedAt (pair_at d [] (Ap old.number) (Sta sta)) (given message.message (frame_of message.frame) old.group.newest (newest_uses old)) (taken_as octets (message_fields message) outcome) o q acts
     → IsDone d (Take octets) old new (seen waited (waited ++ acts) outcome)
-takes_message d old new octets sta message outcome None q acts waited w beside refused was now x =
+takes_message d old new octets sta message outcome None q acts waited suite w beside refused was now x =
     subst (λ (s : State). IsDone d (Take octets) old s (seen waited (waited ++ acts) outcome)) (sym (refused reason.Unawaited x.1))
     (subst (λ (z : Outcome). IsDone d (Take octets) old old (seen waited (waited ++ acts) z)) (sym x.1)
     (subst (λ (l : List Act). IsDone d (Take octets) old old (seen waited (waited ++ l) (Refused reason.Unawaited))) (sym x.2)
     (record { number = refl; does = λ first h stands. unhanded d old octets sta message waited w was first h stands; refused = λ why is. refl })))
-takes_message d old new octets sta message outcome (Some a) q acts waited w beside refused was now x = record {
+takes_message d old new octets sta message outcome (Some a) q acts waited suite w beside refused was now x = record {
   number = beside.number;
-  does = handed d old new octets sta message outcome a x.0 acts waited w beside was (now ∙ x.1) x.2;
+  does = handed d old new octets sta message outcome a x.0 acts waited suite w beside was (now ∙ x.1) x.2;
   refused = refused;
 }
 
 -- ---- as the code comes by them
 
 pub handed_as : (d : Domain) (n m : Node) (sta : ℕ) (k : KeyMessage) (g : NewestGroup) (newest : GroupKey) (uses : ℕ) (t : Taken) (o q new : Option Station) (acts : List Act) → n ≡ m → g.key ≡ newest → g.uses ≡ uses → o ≡ q
-    → IsHandedAt (pair d n (Sta sta)) (given k.message (frame_of k.frame) g.key g.uses) t o new acts → IsHandedAt (pair d m (Sta sta)) (given k.message (frame_of k.frame) newest uses) t q new acts
+    → IsHandedAt (pair_at d [] n (Sta sta)) (given k.message (frame_of k.frame) g.key g.uses) t o new acts → IsHandedAt (pair_at d [] m (Sta sta)) (given k.message (frame_of k.frame) newest uses) t q new acts
 handed_as d n m sta k g newest uses t o q new acts node group count here x =
-    subst (λ (z : Node). IsHandedAt (pair d z (Sta sta)) (given k.message (frame_of k.frame) newest uses) t q new acts) node
-    (subst (λ (z : ℕ). IsHandedAt (pair d n (Sta sta)) (given k.message (frame_of k.frame) newest z) t q new acts) count
-    (subst (λ (z : GroupKey). IsHandedAt (pair d n (Sta sta)) (given k.message (frame_of k.frame) z g.uses) t q new acts) group
-    (subst (λ (z : Option Station). IsHandedAt (pair d n (Sta sta)) (given k.message (frame_of k.frame) g.key g.uses) t z new acts) here x)))
+    subst (λ (z : Node). IsHandedAt (pair_at d [] z (Sta sta)) (given k.message (frame_of k.frame) newest uses) t q new acts) node
+    (subst (λ (z : ℕ). IsHandedAt (pair_at d [] n (Sta sta)) (given k.message (frame_of k.frame) newest z) t q new acts) count
+    (subst (λ (z : GroupKey). IsHandedAt (pair_at d [] n (Sta sta)) (given k.message (frame_of k.frame) z g.uses) t q new acts) group
+    (subst (λ (z : Option Station). IsHandedAt (pair_at d [] n (Sta sta)) (given k.message (frame_of k.frame) g.key g.uses) t z new acts) here x)))
 
 -- two facts of what came make a third
 pub if_both : {E : Type 0} (r : Result Outcome E) (P Q R : Outcome → Type 0) → IfOk r P → IfOk r Q → ((o : Outcome) → P o → Q o → R o) → IfOk r R

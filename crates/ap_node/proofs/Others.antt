@@ -2,12 +2,11 @@
 use Rattle.std.proofs.Common.{◌≡◌, ◌∙◌, ℕ, List, [], ◌∷◌, Option, Some, None, refl, sym, ap, subst}
 use Rattle.std.specs.List.{AllByRecursion}
 use Rattle.domain_base.specs.declared.names.Node.{Node}
-use Rattle.domain_base.specs.declared.names.Node.TheVariants.{Ap}
+use Rattle.domain_base.specs.declared.names.Node.TheVariants.{Ap, Sta}
 use Rattle.run_journal.specs.declared.domain.Domain.{Domain}
 use Rattle.run_journal.specs.declared.acts.Kind.{Kind}
 use Rattle.run_journal.specs.declared.acts.Kind.TheVariants as kind
 use Rattle.run_journal.specs.declared.acts.Reason.{Reason}
-use Rattle.run_journal.specs.declared.acts.Reason.TheVariants as reason
 use Rattle.run_journal.specs.declared.acts.Why.{Why}
 use Rattle.run_journal.specs.declared.acts.Outcome.TheVariants.{Ignored, Refused}
 use Rattle.run_journal.specs.declared.acts.Seal.{Seal}
@@ -16,7 +15,7 @@ use Rattle.run_journal.specs.declared.acts.Act.TheVariants.{Took, Idle}
 use Rattle.run_journal.specs.Acts.{Derivation}
 use Rattle.run_journal.specs.Questions.{group_keys, switches, group_uses, draws, add}
 use Rattle.domain_rules.specs.PacketNumbers.{current_of}
-use Rattle.domain_rules.specs.Rows.{response}
+use Rattle.domain_rules.specs.Rows.{refused_status, response_by, response}
 use Rattle.domain_rules.proofs.Parts.{IsApart, apart-refused, apart-ignored, apart-idle}
 use Rattle.domain_rules.proofs.Effects.{response-apart, refused_acts, as_before-refused}
 use Rattle.run_journal.specs.GroupKinds as groups
@@ -96,18 +95,32 @@ pub record IsSame (old new : List Act) : Type 0 where
   pub draws_are : draws new ≡ draws old
   pub group : IsSameGroup old new
 
+group_by : (d : Domain) (n q : Node) (k : Kind) (o : Option ℕ) (h : List Act) → IsSameGroup h (add (response_by d n q k o) h)
+group_by d n q kind.AssocReq (Some code) h = record { gtks_are = refl; switches_are = refl; uses_are = refl }
+group_by d n q kind.FtReq (Some code) h = record { gtks_are = refl; switches_are = refl; uses_are = refl }
+group_by d n q kind.ReReq (Some code) h = record { gtks_are = refl; switches_are = refl; uses_are = refl }
+group_by d n q k _ h = same_group h
+
 response-group : (d : Domain) (n : Node) (from : Option Node) (k : Kind) (why : Reason) (h : List Act) → IsSameGroup h (add (response d n from k why) h)
-response-group d (Ap a) (Some q) kind.AssocReq (reason.Status code) h = record { gtks_are = refl; switches_are = refl; uses_are = refl }
-response-group d n from k _ h = same_group h
+response-group d (Ap a) (Some q) k why h = group_by d (Ap a) q k (refused_status why) h
+response-group d (Ap a) None k why h = same_group h
+response-group d (Sta s) from k why h = same_group h
 
 refused-group : (d : Domain) (n : Node) (from : Option Node) (octets : List ℕ) (k : Kind) (why : Reason) (s : Option Seal) (h : List Act) → IsSameGroup h (add (refused_acts d n from octets k why s) h)
 refused-group d n from octets k why s h =
     let after = response-group d n from k why (Took from octets k (Refused why) s ∷ h) in
     record { gtks_are = after.gtks_are; switches_are = after.switches_are; uses_are = after.uses_are }
 
+leaves_by : (d : Domain) (n p q : Node) (k : Kind) (o : Option ℕ) → AllLeave p (response_by d n q k o)
+leaves_by d n p q kind.AssocReq (Some code) tk = (record { used = λ h. refl; got = λ tid h. refl }, tt)
+leaves_by d n p q kind.FtReq (Some code) tk = (record { used = λ h. refl; got = λ tid h. refl }, tt)
+leaves_by d n p q kind.ReReq (Some code) tk = (record { used = λ h. refl; got = λ tid h. refl }, tt)
+leaves_by d n p q k _ tk = tt
+
 response-leaves : (d : Domain) (n p : Node) (from : Option Node) (k : Kind) (why : Reason) → AllLeave p (response d n from k why)
-response-leaves d (Ap a) p (Some q) kind.AssocReq (reason.Status code) tk = (record { used = λ h. refl; got = λ tid h. refl }, tt)
-response-leaves d n p from k _ tk = tt
+response-leaves d (Ap a) p (Some q) k why tk = leaves_by d (Ap a) p q k (refused_status why) tk
+response-leaves d (Ap a) p None k why tk = tt
+response-leaves d (Sta s) p from k why tk = tt
 
 pub same-refused : (d : Domain) (n : Node) (from : Option Node) (octets : List ℕ) (k : Kind) (why : Reason) (s : Option Seal) (h : List Act) → IsSame h (add (refused_acts d n from octets k why s) h)
 same-refused d n from octets k why s h = record {

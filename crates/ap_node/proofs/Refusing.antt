@@ -1,9 +1,9 @@
 -- Frames that change nothing.
-use Rattle.std.proofs.Common.{◌+◌, ◌≡◌, ℕ, false, List, [], ◌∷◌, ◌++◌, Option, Some, None, refl, sym, ap, subst, ◌∙◌, inl, inr}
+use Rattle.std.proofs.Common.{◌+◌, ◌≡◌, ◌≢◌, ℕ, false, List, [], ◌∷◌, ◌++◌, Option, Some, None, refl, sym, ap, subst, ◌∙◌, inl, inr}
+use Rattle.domain_base.specs.declared.names.Akm.TheVariants.{FtPsk}
 use Rattle.domain_base.specs.declared.names.Node.{Node}
 use Rattle.domain_base.specs.declared.names.Node.TheVariants.{Ap, Sta}
 use Rattle.rsn_elements.specs.declared.reading.Elements.{Elements}
-use Rattle.rsn_elements.specs.Elements.{ElementFields}
 use Rattle.rsn_elements.specs.Fields.{element_fields}
 use Rattle.eapol_key.specs.declared.messages.Message.{Message}
 use Rattle.eapol_key.specs.declared.messages.Message.TheVariants.{M2, M4, G2}
@@ -20,11 +20,12 @@ use Rattle.run_journal.specs.declared.acts.Act.TheVariants.{Took}
 use Rattle.run_journal.specs.Questions.{add, attempt, session, draws}
 use Rattle.domain_rules.specs.Here.{here}
 use Rattle.domain_rules.specs.Network.{is_ap}
-use Rattle.domain_rules.specs.Reading.{Management, KeyMessage, Reading, PassedOver, Managed, Reads, kind_of}
+use Rattle.domain_rules.specs.Reading.{KeyMessage, Reading, PassedOver, Managed, Reads, kind_of}
 use Rattle.domain_rules.specs.AccessPointKeys.{g2_verdict_by}
 use Rattle.domain_rules.specs.Verdict.{ComesSoFar, first_verdict, further, and_then, key_verdict}
-use Rattle.domain_rules.specs.Associating.{management_verdict}
-use Rattle.domain_rules.specs.Rows.{NodeEvent, Take, By_ignored, By_refusal, response}
+use Rattle.domain_rules.specs.Rows.{NodeEvent, Take, By_ignored, By_refusal, refused_seal, response}
+use Rattle.domain_rules.specs.TransitionRows.{refused_look}
+use Rattle.key_hierarchy.specs.declared.fast_transition.PmkR1.{PmkR1}
 use Rattle.domain_rules.specs.Closing.{sender}
 use Rattle.domain_rules.proofs.Effects.{refused_acts}
 use Rattle.domain_rules.proofs.Refused.{IsRefused, no_facts, refused_first}
@@ -41,6 +42,8 @@ use Rattle.authenticator.proofs.Handshaking.{owing_no_session}
 use Rattle.ap_node.specs.State.{State}
 use Rattle.ap_node.specs.Stands.{StandsSoFar, Stands}
 use Rattle.ap_node.specs.Takes.{Does, IsTaken, IsManagedAtAp, IsRequest, IsKeyedAtAp, IsSealedAtAp}
+use Rattle.frame_intake.proofs.Silence.{silent_unawaited}
+use Rattle.ap_node.proofs.Connects.{other_kind}
 use Rattle.ap_node.proofs.Others.{same-refused, same-ignored}
 use Rattle.ap_node.proofs.Standing.{so_far_as_before}
 use Rattle.ap_node.proofs.Ending.{settled_steps}
@@ -52,7 +55,7 @@ Stays d s octets waited waits outcome = IsTaken d (Take octets) s s (seen waited
 pub stays : (d : Domain) (s : State) (event : NodeEvent) (x : Seen) → ((first : ℕ) (h : List Act) → Stands d first s h → Does (here d first (Ap s.number)) event (StandsSoFar d first s) h x) → IsTaken d event s s x
 stays d s event x does = record {
   number = refl;
-  steps = λ first h stands. settled_steps d first event s s x h refl stands.settled (does first h stands);
+  steps = λ first h stands. settled_steps d first event s s x h refl stands.settled stands.connects (does first h stands);
   refused = λ why is. refl;
 }
 
@@ -61,24 +64,46 @@ stays d s event x does = record {
 abbrev pub RefusedAfter : Domain → State → Reading → Reason → Option Seal → Type 0
 RefusedAfter d s r why seal = (first : ℕ) (h : List Act) → Stands d first s h → IsRefused d first (Ap s.number) h r why seal
 
+-- no key holder was asked before it was refused
+abbrev pub Unasked : State → Option Node → Reading → Reason → Type 0
+Unasked s from r why = (pulled : Option PmkR1) → refused_look (Ap s.number) from r pulled why ≡ []
+
+says_refused : (octets : List ℕ) (why : Reason) (from other : Option Node) (k m : Kind) (s t : Option Seal) (answer look more : List Act) → from ≡ other → k ≡ m → s ≡ t → look ≡ [] → answer ≡ more
+    → Took from octets k (Refused why) s ∷ answer ≡ Took other octets m (Refused why) t ∷ look ++ more
+says_refused octets why from other k m s t answer look more from_is kind_is seal_is none answer_is = rw (from_is, kind_is, seal_is, none, answer_is) refl
+
 -- after that history
 does_refused : (d : Domain) (s : State) (octets : List ℕ) (r : Reading) (from : Option Node) (k : Kind) (why : Reason) (seal : Option Seal) (answer waited waits : List Act) (first : ℕ) (h : List Act) → Stands d first s h → Reads d.akm octets r
-    → from ≡ sender d (Ap s.number) r → k ≡ kind_of r → answer ≡ response d (Ap s.number) from k why → IsRefused d first (Ap s.number) h r why seal → waits ≡ waited ++ Took from octets k (Refused why) seal ∷ answer
+    → from ≡ sender d (Ap s.number) r → k ≡ kind_of r → answer ≡ response d (Ap s.number) from k why → Unasked s from r why → IsRefused d first (Ap s.number) h r why seal → waits ≡ waited ++ Took from octets k (Refused why) seal ∷ answer
     → Does (here d first (Ap s.number)) (Take octets) (StandsSoFar d first s) h (seen waited waits (Refused why))
-does_refused d s octets r from k why seal answer waited waits first h stands reads from_is kind_is answer_is w waiting = record {
-  acts = Took from octets k (Refused why) seal ∷ answer;
-  row = record { r = r; reads = reads; facts = w.facts; knows = w.knows; row = By_refusal (record { why = why; refused = w.refused; says = cc (from_is, kind_is, answer_is, w.seal_is) }) };
-  waiting = waiting;
-  came = refl;
-  stands = subst (λ (g : List Act). StandsSoFar d first s (add (Took from octets k (Refused why) seal ∷ g) h)) (sym answer_is)
-      (so_far_as_before d first s h (add (refused_acts d (Ap s.number) from octets k why seal) h) (same-refused d (Ap s.number) from octets k why seal h) stands.so_far);
-}
+does_refused d s octets r from k why seal answer waited waits first h stands reads from_is kind_is answer_is unasked w waiting =
+    let n = Ap s.number in
+    let look_is : refused_look n (sender d n r) r w.facts.pulled why ≡ [] = ap (λ (o : Option Node). refused_look n o r w.facts.pulled why) (sym from_is) ∙ unasked w.facts.pulled in
+    let more_is : answer ≡ response d n (sender d n r) (kind_of r) why = answer_is ∙ ap (λ (o : Option Node). response d n o k why) from_is ∙ ap (λ (m : Kind). response d n (sender d n r) m why) kind_is in
+    record {
+      acts = Took from octets k (Refused why) seal ∷ answer;
+      row = record {
+        r = r;
+        reads = reads;
+        facts = w.facts;
+        knows = w.knows;
+        row = By_refusal (record {
+          why = why;
+          refused = w.refused;
+          says = says_refused octets why from (sender d n r) k (kind_of r) seal (refused_seal d first n h r) answer (refused_look n (sender d n r) r w.facts.pulled why) (response d n (sender d n r) (kind_of r) why) from_is kind_is w.seal_is look_is more_is;
+        });
+      };
+      waiting = waiting;
+      came = refl;
+      stands = subst (λ (g : List Act). StandsSoFar d first s (add (Took from octets k (Refused why) seal ∷ g) h)) (sym answer_is)
+          (so_far_as_before d first s h (add (refused_acts d (Ap s.number) from octets k why seal) h) (same-refused d (Ap s.number) from octets k why seal h) stands.so_far);
+    }
 
 pub takes_refused : (d : Domain) (s : State) (octets : List ℕ) (r : Reading) (from : Option Node) (k : Kind) (why : Reason) (seal : Option Seal) (answer waited waits : List Act) → Reads d.akm octets r
-    → from ≡ sender d (Ap s.number) r → k ≡ kind_of r → answer ≡ response d (Ap s.number) from k why → RefusedAfter d s r why seal → waits ≡ waited ++ Took from octets k (Refused why) seal ∷ answer
+    → from ≡ sender d (Ap s.number) r → k ≡ kind_of r → answer ≡ response d (Ap s.number) from k why → Unasked s from r why → RefusedAfter d s r why seal → waits ≡ waited ++ Took from octets k (Refused why) seal ∷ answer
     → Stays d s octets waited waits (Refused why)
-takes_refused d s octets r from k why seal answer waited waits reads from_is kind_is answer_is refused waiting = stays d s (Take octets) (seen waited waits (Refused why)) (λ first h stands.
-    does_refused d s octets r from k why seal answer waited waits first h stands reads from_is kind_is answer_is (refused first h stands) waiting)
+takes_refused d s octets r from k why seal answer waited waits reads from_is kind_is answer_is unasked refused waiting = stays d s (Take octets) (seen waited waits (Refused why)) (λ first h stands.
+    does_refused d s octets r from k why seal answer waited waits first h stands reads from_is kind_is answer_is unasked (refused first h stands) waiting)
 
 -- ---- refused by the frame and the history alone
 
@@ -86,13 +111,13 @@ pub does_quiet : (d : Domain) (s : State) (octets : List ℕ) (r : Reading) (fro
     → from ≡ sender d (Ap s.number) r → k ≡ kind_of r → IsSilent d (Ap s.number) why → first_verdict d first (Ap s.number) h r ≡ Refused why
     → Does (here d first (Ap s.number)) (Take octets) (StandsSoFar d first s) h (seen waited (waited ++ Took from octets k (Refused why) None ∷ []) (Refused why))
 does_quiet d s octets r from k why waited first h stands reads from_is kind_is quiet refused =
-    does_refused d s octets r from k why None [] waited (waited ++ Took from octets k (Refused why) None ∷ []) first h stands reads from_is kind_is (sym (quiet from k)) (refused_first d first (Ap s.number) h r why refused) refl
+    does_refused d s octets r from k why None [] waited (waited ++ Took from octets k (Refused why) None ∷ []) first h stands reads from_is kind_is (sym (quiet.answer from k)) (quiet.look from r) (refused_first d first (Ap s.number) h r why refused) refl
 
 pub takes_quiet : (d : Domain) (s : State) (octets : List ℕ) (r : Reading) (from : Option Node) (k : Kind) (why : Reason) (waited waits : List Act) → Reads d.akm octets r → from ≡ sender d (Ap s.number) r → k ≡ kind_of r
     → IsSilent d (Ap s.number) why → ((first : ℕ) (h : List Act) → Stands d first s h → first_verdict d first (Ap s.number) h r ≡ Refused why) → waits ≡ waited ++ Took from octets k (Refused why) None ∷ []
     → Stays d s octets waited waits (Refused why)
 takes_quiet d s octets r from k why waited waits reads from_is kind_is quiet refused waiting =
-    takes_refused d s octets r from k why None [] waited waits reads from_is kind_is (sym (quiet from k))
+    takes_refused d s octets r from k why None [] waited waits reads from_is kind_is (sym (quiet.answer from k)) (quiet.look from r)
     (λ first h stands. refused_first d first (Ap s.number) h r why (refused first h stands)) waiting
 
 -- ---- ignored
@@ -107,7 +132,7 @@ takes_ignored d s octets r from waited waits reads from_is passed ignored waitin
     reads = reads;
     facts = no_facts;
     knows = λ far. absurd (subst ComesSoFar (ignored first h) far);
-    row = By_ignored (record { ignored = ap (λ (o : Outcome). and_then o (further d.akm r no_facts)) (ignored first h); says = refl });
+    row = By_ignored (record { ignored = ap (λ (o : Outcome). and_then o (further d first (Ap s.number) h r no_facts)) (ignored first h); says = refl });
   };
   waiting = waiting ∙ ap (λ (act : Act). waited ++ act ∷ []) (cc (from_is ∙ ap (sender d (Ap s.number)) passed, ap kind_of passed));
   came = refl;
@@ -134,22 +159,14 @@ takes_settled d s octets r from k o n waited waits reads was number kind_is wait
 
 -- ---- other messages are unawaited
 
-unawaited_silent : (d : Domain) (n : Node) (from : Option Node) (k : Kind) → response d n from k reason.Unawaited ≡ []
-unawaited_silent d (Ap a) (Some p) kind.AssocReq = refl
-unawaited_silent d n from k = refl
-
 pub unawaited_quiet : (d : Domain) (n : Node) → IsSilent d n reason.Unawaited
-unawaited_quiet d n = unawaited_silent d n
+unawaited_quiet d n = silent_unawaited d n
 
-pub other_kind : (d : Domain) (drawn a : ℕ) (h : List Act) (p : Node) (k : Kind) (b : Management) (e : ElementFields) → (k ≡ kind.AssocReq → ⊥) → management_verdict d drawn (Ap a) h p k b e ≡ Refused reason.Unawaited
-other_kind d first a h p kind.AssocReq b e other = absurd (other refl)
-other_kind d first a h p k b e other = refl
-
-pub takes_other_frame : (d : Domain) (s : State) (octets : List ℕ) (from : Node) (frame : AnyFrame) (elements : Elements) (k : Kind) (waited waits : List Act) → IsManagedAtAp d s.number octets from frame elements → k ≡ frame.kind → (k ≡ kind.AssocReq → ⊥)
+pub takes_other_frame : (d : Domain) (s : State) (octets : List ℕ) (from : Node) (frame : AnyFrame) (elements : Elements) (k : Kind) (waited waits : List Act) → d.akm ≢ FtPsk → IsManagedAtAp d s.number octets from frame elements → k ≡ frame.kind → (k ≡ kind.AssocReq → ⊥)
     → waits ≡ waited ++ Took (Some from) octets k (Refused reason.Unawaited) None ∷ [] → Stays d s octets waited waits (Refused reason.Unawaited)
-takes_other_frame d s octets from frame elements k waited waits w is other waiting =
+takes_other_frame d s octets from frame elements k waited waits suite w is other waiting =
     takes_quiet d s octets (Managed (management_fields frame) (element_fields elements)) (Some from) k reason.Unawaited waited waits w.reads (sym w.judged.1) is (unawaited_quiet d (Ap s.number))
-    (λ first h stands. w.judged.3 first h ∙ other_kind d (first + draws h) s.number h from frame.kind (management_fields frame) (element_fields elements) (λ same. other (is ∙ same))) waiting
+    (λ first h stands. w.judged.3 first h ∙ other_kind d (first + draws h) s.number h from frame.kind (management_fields frame) (element_fields elements) suite (stands.connects suite) (λ same. other (is ∙ same))) waiting
 
 -- an EAPOL-Key message is unawaited where there is no attempt and no session
 pub unawaited_message : (d : Domain) (drawn a : ℕ) (h : List Act) (p : Node) (k : KeyMessage) (m : Message) → attempt p h ≡ None → session p h ≡ None → key_verdict d drawn (Ap a) h p k m ≡ Refused reason.Unawaited

@@ -1,7 +1,8 @@
 -- Association requests.
-use Rattle.std.proofs.Common.{◌≡◌, ℕ, ◌+◌, ◌<◌, ◌≤◌, Bool, true, false, List, [], ◌∷◌, ◌++◌, length, Option, Some, None, Result, Ok, Err, refl, sym, ap, subst, ◌∙◌, arith, inl, inr}
+use Rattle.std.proofs.Common.{◌≡◌, ◌≢◌, ℕ, ◌+◌, ◌<◌, ◌≤◌, Bool, true, false, List, [], ◌∷◌, ◌++◌, length, Option, Some, None, Result, Ok, Err, refl, sym, ap, subst, ◌∙◌, arith, inl, inr}
 use Rattle.std.specs.Prelude.{◌==◌, nat_lt, if◌then◌else◌, is_some, IfOk, OnOk}
 use Rattle.std.proofs.lemmas.Bool.{lt-ltb, le-ltb, cases_Bool, eqb-true, eq-eqb}
+use Rattle.domain_base.specs.declared.names.Akm.TheVariants.{FtPsk}
 use Rattle.domain_base.specs.declared.names.Node.{Node}
 use Rattle.domain_base.specs.declared.names.Node.TheVariants.{Ap, Sta}
 use Rattle.rsn_elements.specs.declared.framing.Within.TheVariants.{Body}
@@ -14,6 +15,7 @@ use Rattle.run_journal.specs.declared.acts.Drawn.TheVariants.{Nonce}
 use Rattle.run_journal.specs.declared.acts.Kind.{Kind}
 use Rattle.run_journal.specs.declared.acts.Kind.TheVariants as kind
 use Rattle.run_journal.specs.declared.acts.Part.TheVariants.{Attempt as OfAttempt}
+use Rattle.run_journal.specs.declared.acts.Reason.{Reason}
 use Rattle.run_journal.specs.declared.acts.Reason.TheVariants as reason
 use Rattle.run_journal.specs.declared.acts.Outcome.{Outcome}
 use Rattle.run_journal.specs.declared.acts.Outcome.TheVariants.{Accepted, Refused}
@@ -22,17 +24,21 @@ use Rattle.run_journal.specs.declared.acts.Act.TheVariants.{Opened, Closed, Drew
 use Rattle.run_journal.specs.Acts.{same}
 use Rattle.run_journal.specs.Questions.{attempt, session, draws, add}
 use Rattle.domain_rules.specs.Network.{nonce, draw_end}
-use Rattle.domain_rules.specs.Reading.{Managed}
+use Rattle.domain_rules.specs.Reading.{Management, Managed}
 use Rattle.domain_rules.specs.Frames.{sent_assoc_resp, sent_m1, sent_refusal}
 use Rattle.domain_rules.specs.AccessPointKeys.{HasRsne}
 use Rattle.domain_rules.specs.Associating.{rsne_status, without_status, management_verdict, assoc_req_verdict}
-use Rattle.domain_rules.specs.Verdict.{first_verdict, and_then}
-use Rattle.domain_rules.specs.Rows.{Take, By_assoc_req, response}
+use Rattle.domain_rules.specs.FastTransition.{mobility_status}
+use Rattle.domain_rules.specs.TransitionRows.{look_answer, look_of_kind, refused_look}
+use Rattle.domain_rules.specs.Verdict.{management_sender, first_verdict, management_further, further_from, further, and_then, verdict}
+use Rattle.key_hierarchy.specs.declared.fast_transition.PmkR1.{PmkR1}
+use Rattle.domain_rules.specs.Rows.{Take, By_assoc_req}
 use Rattle.domain_rules.specs.Closing.{close_attempt, next_nonce}
 use Rattle.domain_rules.proofs.Parts.{same-refl}
 use Rattle.domain_rules.proofs.Effects.{answer_acts, answer-add, heard-request, answer-apart, answer-draws}
 use Rattle.domain_rules.proofs.Refused.{no_facts, refused_first}
 use Rattle.domain_rules.proofs.Verdicts.{accepted-rsne}
+use Rattle.domain_rules.proofs.SuiteWords.{mobility_suite}
 use Rattle.frame_intake.specs.declared.delivered.Management.{Management as AnyFrame}
 use Rattle.frame_intake.specs.Views.{management_fields}
 use Rattle.node_base.specs.Events.{seen}
@@ -55,7 +61,7 @@ use Rattle.ap_node.proofs.InUse.{has_key_in}
 use Rattle.ap_node.proofs.Owed.{owes_at, count_same}
 use Rattle.ap_node.proofs.Ending.{settled_steps}
 use Rattle.ap_node.proofs.Standing.{has_attempt_in, has_session_in, stands_with_one}
-use Rattle.ap_node.proofs.Refusing.{Stays, takes_refused, takes_quiet}
+use Rattle.ap_node.proofs.Refusing.{Stays, takes_refused}
 
 -- ---- what comes of it
 
@@ -63,34 +69,42 @@ verdict_is : (d : Domain) (a : ℕ) (octets : List ℕ) (station : ℕ) (frame :
     → first_verdict d first (Ap a) h (Managed (management_fields frame) (element_fields elements)) ≡ assoc_req_verdict d (first + draws h) (element_fields elements)
 verdict_is d a octets station frame elements w is first h = w.judged.3 first h ∙ ap (λ (k : Kind). management_verdict d (first + draws h) (Ap a) h (Sta station) k (management_fields frame) (element_fields elements)) is
 
+-- no key holder is asked for an association request
+unasked : (a : ℕ) (p : Node) (b : Management) (e : ElementFields) (why : Reason) → b.kind ≡ kind.AssocReq → (pulled : Option PmkR1) → refused_look (Ap a) (Some p) (Managed b e) pulled why ≡ []
+unasked a p b e why is pulled = ap (λ (k : Kind). look_of_kind k p e (look_answer why pulled)) is
+
 -- refused with a status
 pub takes_status : (d : Domain) (s : State) (octets : List ℕ) (station : ℕ) (elements : Elements) (status : ℕ) (n : Node) (waited waits : List Act) → IsRequest d s.number octets station elements
     → rsne_status d.akm (element_fields elements).rsne ≡ Some status → n ≡ Ap s.number → waits ≡ waited ++ Took (Some (Sta station)) octets kind.AssocReq (Refused (reason.Status status)) None ∷ sent_refusal d n (Sta station) status ∷ []
     → Stays d s octets waited waits (Refused (reason.Status status))
 takes_status d s octets station elements status n waited waits q status_is node waiting =
     let w = q.managed in
-    let r = Managed (management_fields q.frame) (element_fields elements) in
+    let b = management_fields q.frame in
+    let e = element_fields elements in
+    let r = Managed b e in
     takes_refused d s octets r (Some (Sta station)) kind.AssocReq (reason.Status status) None (sent_refusal d (Ap s.number) (Sta station) status ∷ []) waited waits w.reads (sym w.judged.1) (sym q.is) refl
+    (unasked s.number (Sta station) b e (reason.Status status) q.is)
     (λ first h stands. refused_first d first (Ap s.number) h r (reason.Status status)
-    (verdict_is d s.number octets station q.frame elements w q.is first h ∙ ap (λ (o : Option ℕ). without_status o (if nat_lt (first + draws h) draw_end then Accepted else Refused reason.Spent)) status_is))
+    (verdict_is d s.number octets station q.frame elements w q.is first h ∙ ap (λ (o : Option ℕ). without_status o (without_status (mobility_status d.akm d e.mde) (if nat_lt (first + draws h) draw_end then Accepted else Refused reason.Spent))) status_is))
     (waiting ∙ ap (λ (x : Node). waited ++ Took (Some (Sta station)) octets kind.AssocReq (Refused (reason.Status status)) None ∷ sent_refusal d x (Sta station) status ∷ []) node)
 
-spent_silent : (d : Domain) (n : Node) (from : Option Node) (k : Kind) → response d n from k reason.Spent ≡ []
-spent_silent d (Ap a) (Some p) kind.AssocReq = refl
-spent_silent d n from k = refl
-
-by_draws : (d : Domain) (drawn : ℕ) (e : ElementFields) (b : Bool) → rsne_status d.akm e.rsne ≡ None → nat_lt drawn draw_end ≡ b → assoc_req_verdict d drawn e ≡ (if b then Accepted else Refused reason.Spent)
-by_draws d drawn e b none low = rw (none, low) refl
+-- with suites 2 and 6 there is no MDE to look at
+by_draws : (d : Domain) (drawn : ℕ) (e : ElementFields) (b : Bool) → d.akm ≢ FtPsk → rsne_status d.akm e.rsne ≡ None → nat_lt drawn draw_end ≡ b → assoc_req_verdict d drawn e ≡ (if b then Accepted else Refused reason.Spent)
+by_draws d drawn e b suite none low = rw (none, mobility_suite d.akm d e.mde suite, low) refl
 
 -- refused as the draws are at their end
-pub takes_spent : (d : Domain) (s : State) (octets : List ℕ) (station : ℕ) (elements : Elements) (waited waits : List Act) → IsRequest d s.number octets station elements
+pub takes_spent : (d : Domain) (s : State) (octets : List ℕ) (station : ℕ) (elements : Elements) (waited waits : List Act) → d.akm ≢ FtPsk → IsRequest d s.number octets station elements
     → rsne_status d.akm (element_fields elements).rsne ≡ None → draw_end ≤ s.drawn → waits ≡ waited ++ Took (Some (Sta station)) octets kind.AssocReq (Refused reason.Spent) None ∷ []
     → Stays d s octets waited waits (Refused reason.Spent)
-takes_spent d s octets station elements waited waits q none spent waiting =
+takes_spent d s octets station elements waited waits suite q none spent waiting =
     let w = q.managed in
-    takes_quiet d s octets (Managed (management_fields q.frame) (element_fields elements)) (Some (Sta station)) kind.AssocReq reason.Spent waited waits w.reads (sym w.judged.1) (sym q.is)
-    (spent_silent d (Ap s.number))
-    (λ first h stands. verdict_is d s.number octets station q.frame elements w q.is first h ∙ by_draws d (first + draws h) (element_fields elements) false none (le-ltb (first + draws h) draw_end (subst (λ (x : ℕ). draw_end ≤ x) stands.so_far.draws_are spent)))
+    let b = management_fields q.frame in
+    let e = element_fields elements in
+    let r = Managed b e in
+    takes_refused d s octets r (Some (Sta station)) kind.AssocReq reason.Spent None [] waited waits w.reads (sym w.judged.1) (sym q.is) refl
+    (unasked s.number (Sta station) b e reason.Spent q.is)
+    (λ first h stands. refused_first d first (Ap s.number) h r reason.Spent
+    (verdict_is d s.number octets station q.frame elements w q.is first h ∙ by_draws d (first + draws h) e false suite none (le-ltb (first + draws h) draw_end (subst (λ (x : ℕ). draw_end ≤ x) stands.so_far.draws_are spent))))
     waiting
 
 -- ---- accepted
@@ -243,11 +257,21 @@ settled_still : (d : Domain) (old new : State) (sta : ℕ) (rsne : List ℕ) →
 settled_still d old new sta rsne w (inl same) = inl (subst (λ (g : Pair). g.newest.place ≡ g.current.place) (sym w.group) same)
 settled_still d old new sta rsne w (inr some) = inr (omega (arith, w.owing, some))
 
-pub takes_associated : (d : Domain) (old new : State) (octets : List ℕ) (sta : ℕ) (elements : Elements) (rsne raw : List ℕ) (waited waits : List Act) → IsRequest d old.number octets sta elements
+-- reading further refuses nothing of an association request
+further_request : (d : Domain) (drawn a : ℕ) (h : List Act) (b : Management) (e : ElementFields) (o : Option Node) → b.kind ≡ kind.AssocReq → further_from o (λ p. management_further d drawn (Ap a) h p b e no_facts b.kind) ≡ Accepted
+further_request d drawn a h b e None is = refl
+further_request d drawn a h b e (Some p) is = ap (λ (k : Kind). management_further d drawn (Ap a) h p b e no_facts k) is
+
+request_accepted : (d : Domain) (first a : ℕ) (h : List Act) (b : Management) (e : ElementFields) → b.kind ≡ kind.AssocReq → first_verdict d first (Ap a) h (Managed b e) ≡ Accepted → verdict d first (Ap a) h (Managed b e) no_facts ≡ Accepted
+request_accepted d first a h b e kind_is is =
+    ap (λ (o : Outcome). and_then o (further d first (Ap a) h (Managed b e) no_facts)) is
+    ∙ ap (λ (o : Outcome). and_then Accepted o) (further_request d (first + draws h) a h b e (management_sender d (Ap a) b.header) kind_is)
+
+pub takes_associated : (d : Domain) (old new : State) (octets : List ℕ) (sta : ℕ) (elements : Elements) (rsne raw : List ℕ) (waited waits : List Act) → d.akm ≢ FtPsk → IsRequest d old.number octets sta elements
     → rsne_status d.akm (element_fields elements).rsne ≡ None → old.drawn < draw_end → (element_fields elements).rsne_octets ≡ Some raw → rsne ≡ raw → BeginsWith d old new sta rsne
     → waits ≡ waited ++ associated_acts d (Ap old.number) (Sta sta) octets (is_some (attempt_in (station_at old.stations sta))) (nonce d (Ap old.number) old.drawn)
     → IsTaken d (Take octets) old new (seen waited waits Accepted)
-takes_associated d old new octets sta elements rsne raw waited waits q none low raw_is rsne_is begun waiting = record {
+takes_associated d old new octets sta elements rsne raw waited waits suite q none low raw_is rsne_is begun waiting = record {
   number = begun.number;
   steps = λ first h stands.
       (let so_far = stands.so_far in
@@ -255,15 +279,15 @@ takes_associated d old new octets sta elements rsne raw waited waits q none low 
       let m = management_fields q.frame in
       let e = element_fields elements in
       let n = Ap old.number in
-      let accepted = verdict_is d old.number octets sta q.frame elements w q.is first h ∙ by_draws d (first + draws h) e true none (lt-ltb (first + draws h) draw_end (subst (λ (x : ℕ). x < draw_end) so_far.draws_are low)) in
-      settled_steps d first (Take octets) old new (seen waited waits Accepted) h begun.number (settled_still d old new sta rsne begun stands.settled)
+      let accepted = verdict_is d old.number octets sta q.frame elements w q.is first h ∙ by_draws d (first + draws h) e true suite none (lt-ltb (first + draws h) draw_end (subst (λ (x : ℕ). x < draw_end) so_far.draws_are low)) in
+      settled_steps d first (Take octets) old new (seen waited waits Accepted) h begun.number (settled_still d old new sta rsne begun stands.settled) stands.connects
       (record {
         acts = associated_acts d n (Sta sta) octets (is_some (attempt_in (station_at old.stations sta))) (nonce d n old.drawn);
         row = record {
           r = Managed m e;
           reads = w.reads;
           facts = no_facts;
-          knows = λ far. tt;
+          knows = λ far from sent. tt;
           row = By_assoc_req (record {
             b = m;
             e = e;
@@ -271,7 +295,7 @@ takes_associated d old new octets sta elements rsne raw waited waits q none low 
             kind_is = q.is;
             p = Sta sta;
             from = w.judged.1;
-            accepted = ap (λ (o : Outcome). and_then o Accepted) accepted;
+            accepted = request_accepted d first old.number h m e q.is accepted;
             says = associated_is d first n sta octets (station_at old.stations sta) old.drawn h (so_far.parts sta) so_far.draws_are;
           });
         };

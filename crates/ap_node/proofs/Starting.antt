@@ -63,7 +63,7 @@ starts d first a drawn key g k xs low drawn_is key_is current newest k_is none =
     let g_is : g ≡ both (gtk d (Ap a) first) = as_both g key current newest ∙ ap both key_is in
     subst (λ (s : State). Stands d first s (add (start_acts d first (Ap a)) []))
     (sym (by drawn_is g_is (k_is ∙ ap first_key key_is) none))
-    (record { so_far = the_first d first a low; settled = inl refl })
+    (record { so_far = the_first d first a low; settled = inl refl; connects = λ suite. (tt, (tt, tt)) })
   where
     by : {m n : ℕ} {x y : Pair} {b c : Held} {ys zs : List (Option Station)} → m ≡ n → x ≡ y → b ≡ c → ys ≡ zs
         → the_state a m x b ys 0 ≡ the_state a n y c zs 0

@@ -15,7 +15,6 @@ use Rattle.ccmp_guard.specs.Roles.{key_id, counter_of}
 use Rattle.ccmp_guard.specs.declared.guard.GuardFault.{GuardFault}
 use Rattle.ccmp_guard.specs.Held.{Held}
 use Rattle.run_journal.specs.declared.domain.Domain.{Domain}
-use Rattle.run_journal.specs.declared.acts.Kind.{Kind}
 use Rattle.run_journal.specs.declared.acts.Kind.TheVariants as kind
 use Rattle.run_journal.specs.declared.acts.Why.TheVariants as why
 use Rattle.run_journal.specs.declared.acts.Reason.{Reason}
@@ -32,7 +31,7 @@ use Rattle.domain_rules.specs.PacketNumbers.{SendKey}
 use Rattle.domain_rules.specs.DataFrames.{sent_data, data_seal}
 use Rattle.domain_rules.specs.DataRows.{used_acts, send_acts_by}
 use Rattle.domain_rules.specs.DataVerdict.{data_verdict}
-use Rattle.domain_rules.specs.Rows.{Take, Send, outcome_of, response}
+use Rattle.domain_rules.specs.Rows.{Take, Send, outcome_of}
 use Rattle.domain_rules.proofs.Parts.{IsApart, apart-took, apart-sent_kind, apart-idle}
 use Rattle.group_key.specs.Keys.{Pair}
 use Rattle.group_key.specs.Holds.{LeavesGroupKeys}
@@ -58,6 +57,7 @@ use Rattle.ap_node.proofs.InUse.{has_key_in, sends_by}
 use Rattle.ap_node.proofs.Owed.{owes_at, count_same}
 use Rattle.ap_node.proofs.Standing.{part_on, so_far_as_before, stands_with_one}
 use Rattle.authenticator.proofs.Standing.{other_on, stands_on}
+use Rattle.frame_intake.proofs.Silence.{silent_no_key}
 use Rattle.ap_node.proofs.Ending.{settled_steps}
 use Rattle.ap_node.proofs.Refusing.{stays, does_quiet}
 use Rattle.ap_node.proofs.DataTaken.{apart-handed_up, stands_handed_up}
@@ -211,7 +211,7 @@ takes_sent d old new sta tid plain waited waits outcome w waiting came_is =
     record {
       number = w.number;
       steps = λ first h stands.
-          settled_steps d first (Send (One p) tid plain) old new (seen waited waits outcome) h w.number (settled_still old new sta (used_in (key_in o)) w stands.settled) (record {
+          settled_steps d first (Send (One p) tid plain) old new (seen waited waits outcome) h w.number (settled_still old new sta (used_in (key_in o)) w stands.settled) stands.connects (record {
             acts = acts;
             row = ap (send_acts_by d n (One p) tid plain) (sym (sends_by p (key_in o) h (has_key_in d n sta o h (stands.so_far.parts sta))));
             waiting = waiting;
@@ -253,7 +253,7 @@ takes_sent_all d old tid plain waited waits outcome waiting came_is =
     record {
       number = refl;
       steps = λ first h stands.
-          settled_steps d first (Send All tid plain) old new (seen waited waits outcome) h refl stands.settled (record {
+          settled_steps d first (Send All tid plain) old new (seen waited waits outcome) h refl stands.settled stands.connects (record {
             acts = acts;
             row = ap (send_acts_by d n All tid plain) (sym (group_sends old.sending h stands.so_far.sending_is));
             waiting = waiting;
@@ -267,10 +267,6 @@ takes_sent_all d old tid plain waited waits outcome waiting came_is =
 
 data_from : (d : Domain) (first a : ℕ) (octets : List ℕ) (p : Node) (frame : SealedData) (h : List Act) → IsSealedAtAp d a octets p frame → IsDataFrom (here d first (Ap a)) h p octets (sealed_fields frame)
 data_from d first a octets p frame h w = record { reads = w.reads; whole = w.judged.3; from = w.judged.1; verdict_is = w.judged.4 first h }
-
-no_key_silent : (d : Domain) (n : Node) (from : Option Node) (k : Kind) → response d n from k reason.NoKey ≡ []
-no_key_silent d (Ap a) (Some p) kind.AssocReq = refl
-no_key_silent d n from k = refl
 
 -- without a session
 no_session_verdict : (d : Domain) (a : ℕ) (p : Node) (f : SealedFields) (h : List Act) → session p h ≡ None → data_verdict (Ap a) h p f.header f.tid f.body ≡ Refused reason.NoKey
@@ -289,7 +285,7 @@ takes_no_key d s octets sta frame waited w none =
     let p = Sta sta in
     let f = sealed_fields frame in
     stays d s (Take octets) (seen waited (waited ++ refusal p octets reason.NoKey) (Refused reason.NoKey)) (λ first h stands.
-    does_quiet d s octets (sealed_reading f) (Some p) kind.Data reason.NoKey waited first h stands w.reads (sym w.judged.1) refl (no_key_silent d (Ap s.number))
+    does_quiet d s octets (sealed_reading f) (Some p) kind.Data reason.NoKey waited first h stands w.reads (sym w.judged.1) refl (silent_no_key d (Ap s.number))
     (w.judged.4 first h ∙ no_session_verdict d s.number p f h (no_session_by p (key_in (station_at s.stations sta)) h none (has_key_in d (Ap s.number) sta (station_at s.stations sta) h (stands.so_far.parts sta)))))
 
 -- the key in use is that by which the rules open it
@@ -351,7 +347,7 @@ takes_handed_up d old new octets sta frame k m text waited w is rekeyed opened =
           let part = stands.so_far.parts sta in
           let key = subst (λ (z : Option Held). HasKey p (session p h) z h) is (has_key_in d n sta (station_at old.stations sta) h part) in
           let at = opens_at d first old.number octets p f k h key from in
-          settled_steps d first (Take octets) old new (seen waited (waited ++ acts) Accepted) h rekeyed.number (settled_still old new sta (Some m) rekeyed stands.settled) (record {
+          settled_steps d first (Take octets) old new (seen waited (waited ++ acts) Accepted) h rekeyed.number (settled_still old new sta (Some m) rekeyed stands.settled) stands.connects (record {
             acts = acts;
             row = handed_up_row (here d first n) h p octets f k from at.3 m text opened;
             waiting = refl;

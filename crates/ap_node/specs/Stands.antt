@@ -1,9 +1,13 @@
 -- Which histories an access point stands for (this project's choice).
-use Rattle.std.specs.Prelude.{◌≡◌, ◌⊎◌, ℕ, ◌<◌, ◌≤◌, ◌+◌, suc, List, length, Option, Some, None}
+use Rattle.std.specs.Prelude.{◌≡◌, ◌≢◌, ◌⊎◌, ℕ, ◌<◌, ◌≤◌, ◌+◌, suc, List, length, Option, Some, None}
+use Rattle.std.specs.List.{AllByRecursion}
+use Rattle.domain_base.specs.declared.names.Akm.TheVariants.{FtPsk}
 use Rattle.domain_base.specs.declared.names.Node.{Node}
 use Rattle.domain_base.specs.declared.names.Node.TheVariants.{Ap, Sta}
 use Rattle.run_journal.specs.declared.domain.Domain.{Domain}
+use Rattle.run_journal.specs.declared.acts.Start.TheVariants.{Connect}
 use Rattle.run_journal.specs.declared.acts.Act.{Act}
+use Rattle.run_journal.specs.declared.acts.Act.TheVariants.{Opened}
 use Rattle.run_journal.specs.Questions.{attempt, session, draws}
 use Rattle.domain_rules.specs.Network.{draw_end}
 use Rattle.group_key.specs.Holds.{Holds}
@@ -36,7 +40,16 @@ pub record StandsSoFar (d : Domain) (first : ℕ) (s : State) (h : List Act) : T
 abbrev pub IsSettled : State → Type 0
 IsSettled s = (s.group.newest.place ≡ s.group.current.place) ⊎ (1 ≤ s.owing)
 
--- it stands for the history between two events
+-- an attempt begins by association
+abbrev pub IsConnect : Act → Type 0
+IsConnect (Opened p start) = start ≡ Connect
+IsConnect _ = Unit {0}
+
+abbrev pub AllConnect : List Act → Type 0
+AllConnect h = AllByRecursion IsConnect h
+
+-- it stands for the history between two events; with suites 2 and 6 each attempt began by association
 pub record Stands (d : Domain) (first : ℕ) (s : State) (h : List Act) : Type 0 where
   pub so_far : StandsSoFar d first s h
   pub settled : IsSettled s
+  pub connects : d.akm ≢ FtPsk → AllConnect h

@@ -13,7 +13,7 @@ ghost use Rattle.run_journal.specs.Questions.{add};
 ghost use Rattle.domain_rules.specs.Here.{here};
 ghost use Rattle.domain_rules.specs.Network.{InForm, IsListed, is_ap, draw_end, nonce};
 ghost use Rattle.domain_rules.specs.AccessPointRows.{start_acts};
-ghost use Rattle.domain_rules.specs.Rows.{Take, Retry, Rekey, Send, Expire};
+ghost use Rattle.domain_rules.specs.Rows.{Take, Retry, Rekey, Send, Expire, Revoke};
 ghost use Rattle.node_base.specs.Peers.{IsReceiverOf, most_payload};
 ghost use Rattle.node_base.specs.Events.{event_of, IsEventAt, Steps, seen};
 ghost use Rattle.ap_node.specs.State.{station_at, attempt_in, newest_uses};
@@ -28,6 +28,7 @@ use crate::giving::{give_all, take_rooms};
 use crate::newest::NewestGroup;
 use crate::protected::{send_to, take_data};
 use crate::retrying::idle;
+use crate::revoking::revoke;
 use crate::station::Station;
 use crate::stations::{begin, make_place, retry, take_message};
 use act_memory::{Outbox, SendRoom, settle};
@@ -156,7 +157,8 @@ impl ApNode {
             NodeEvent::Send(to, Some(tid), payload) => self.send(here, to, Some(tid), payload, out),
             NodeEvent::Send(to, None, payload) => self.send(here, to, None, payload, out),
             NodeEvent::Expire(station) => self.expire(here, station, out),
-            NodeEvent::Connect(_) | NodeEvent::Leave => unreachable!(),
+            NodeEvent::Revoke(station) => self.revoke(here, station, out),
+            NodeEvent::Connect(_) | NodeEvent::Roam(_) | NodeEvent::Leave => unreachable!(),
         }
     }
 
@@ -343,6 +345,7 @@ impl ApNode {
         out: &mut Outbox,
     ) -> Result<Outcome, NoMemory>
         requires node { here.node ≡ Ap self.old.number }
+        requires suite { here.domain.now.akm ≢ AnyAkm.FtPsk }
         requires listed { self.old.number < length here.domain.now.aps }
         requires frame { IsKeyedAtAp here.domain.now self.old.number heard.now.octets.now
             (Sta station) heard.now.message }
@@ -366,6 +369,7 @@ impl ApNode {
         out: &mut Outbox,
     ) -> Result<Outcome, NoMemory>
         requires node { here.node ≡ Ap self.old.number }
+        requires suite { here.domain.now.akm ≢ AnyAkm.FtPsk }
         requires listed { self.old.number < length here.domain.now.aps }
         requires frame { IsKeyedAtAp here.domain.now self.old.number heard.now.octets.now
             (Sta station) heard.now.message }
@@ -542,6 +546,18 @@ impl ApNode {
         let (had_attempt, had_session) = drop_part(&mut self.stations, station);
         self.owing = recounted(self.owing, owed, false);
         add_dropped(station, had_attempt, had_session, out)
+    }
+
+    // Revokes the key of a station: with suites 2 and 6 there is none.
+    fn revoke(&self, here: Here<'_>, station: u16, out: &mut Outbox) -> Result<Outcome, NoMemory>
+        requires form { InForm here.domain.now }
+        requires suite { here.domain.now.akm ≢ AnyAkm.FtPsk }
+        requires listed { self.now.number < length here.domain.now.aps }
+        ensures taken { IfOk result (λ outcome. IsTaken here.entry.domain.now (Revoke station)
+            self.now self.now (seen out.old.acts out.new.acts outcome)) }
+        ensures kept { OnErr result (out.new.acts ≡ out.old.acts) }
+    {
+        revoke(here, self.number, station, out)
     }
 
     // Draws a new group key and gives it to each session.

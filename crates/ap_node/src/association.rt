@@ -1,7 +1,7 @@
 //! Association requests at an access point.
 
-ghost use Rattle.std.specs.Prelude.{◌≡◌, ◌≤◌, ◌+◌, [], ◌∷◌, ◌++◌, length, slice_index, Some, None};
-ghost use Rattle.std.specs.Prelude.{IfOk, OnOk, OnErr};
+ghost use Rattle.std.specs.Prelude.{◌≡◌, ◌≤◌, ◌+◌, [], ◌∷◌, ◌++◌, true, length, slice_index, Some};
+ghost use Rattle.std.specs.Prelude.{None, IfOk, OnOk, OnErr};
 ghost use Rattle.domain_base.specs.declared.names.Node.TheVariants.{Sta};
 ghost use Rattle.run_journal.specs.declared.acts.Act.TheVariants.{Took, Opened, Drew};
 ghost use Rattle.run_journal.specs.declared.acts.Reason.TheVariants as reason;
@@ -9,7 +9,7 @@ ghost use Rattle.run_journal.specs.declared.acts.Kind.TheVariants as kind;
 ghost use Rattle.run_journal.specs.declared.acts.Start.TheVariants.{Connect};
 ghost use Rattle.run_journal.specs.declared.acts.Drawn.TheVariants.{Nonce};
 ghost use Rattle.run_journal.specs.declared.acts.Outcome.TheVariants.{Accepted, Refused};
-ghost use Rattle.domain_rules.specs.Network.{InForm, IsListed};
+ghost use Rattle.domain_rules.specs.Network.{InForm, IsListed, is_ap};
 ghost use Rattle.domain_rules.specs.Frames.{sent_assoc_resp, sent_refusal};
 ghost use Rattle.ap_node.specs.Takes.{closed};
 
@@ -104,6 +104,7 @@ pub struct Acceptance {
 pub fn prepare(here: Here<'_>, station: u16, octets: &[u8]) -> Result<Acceptance, NoMemory>
     requires form { InForm here.domain.now }
     requires ap { IsListed here.domain.now here.node }
+    requires is_ap { is_ap here.node ≡ true }
     requires station { IsListed here.domain.now (Sta station) }
     ensures taken { IfOk result (λ a. a.taken
         ≡ Took (Some (Sta station)) octets.now kind.AssocReq Accepted None) }

@@ -10,6 +10,7 @@ mod laws;
 mod newest;
 mod protected;
 mod retrying;
+mod revoking;
 mod station;
 mod stations;
 

@@ -2,6 +2,7 @@
 
 ghost use Rattle.std.specs.Prelude.{◌≡◌, ◌≢◌, ◌<◌, ◌≤◌, ◌^◌, ◌++◌, [], ◌∷◌, ℕ, List, Some, None};
 ghost use Rattle.std.specs.Prelude.{IfOk, OnOk, OnErr, vec_len, length, is_some, max};
+ghost use Rattle.domain_base.specs.declared.names.Akm.TheVariants.{FtPsk};
 ghost use Rattle.domain_base.specs.declared.names.Node.TheVariants.{Sta};
 ghost use Rattle.eapol_key.specs.Fields.{IsKeyFrame};
 ghost use Rattle.run_journal.specs.declared.acts.Act.{Act as AnyAct};
@@ -11,9 +12,10 @@ ghost use Rattle.run_journal.specs.declared.acts.Outcome.TheVariants.{Refused};
 ghost use Rattle.run_journal.specs.declared.acts.Reason.TheVariants as reason;
 ghost use Rattle.run_journal.specs.declared.acts.Reason.{Reason as AnyReason};
 ghost use Rattle.domain_rules.specs.Network.{IsListed};
-ghost use Rattle.domain_rules.specs.Replies.{pair, taken_as};
+ghost use Rattle.domain_rules.specs.Replies.{taken_as};
 ghost use Rattle.domain_rules.specs.Rows.{outcome_of};
 ghost use Rattle.frame_intake.specs.Views.{message_fields};
+ghost use Rattle.node_base.specs.Pairs.{pair_at};
 ghost use Rattle.node_base.specs.Peers.{IsPeerOf};
 ghost use Rattle.authenticator.specs.Judged.{frame_of};
 ghost use Rattle.authenticator.specs.Taken.{given};
@@ -95,6 +97,7 @@ fn hand(
     newest: &NewestGroup,
     out: &mut Outbox,
 ) -> Result<Outcome, NoMemory>
+    requires suite { here.domain.now.akm ≢ FtPsk }
     requires listed { IsListed here.domain.now here.node }
     requires peer { IsPeerOf here.domain.now here.node (Sta station) }
     requires frame { IsKeyFrame heard.now.message.frame }
@@ -102,7 +105,7 @@ fn hand(
     requires uses { newest.now.uses < 2 ^ 48 }
     ensures handed { IfOk result (λ outcome. (acts : List AnyAct)
         × (out.new.acts ≡ out.old.acts ++ acts)
-        × IsHanded (pair here.entry.domain.now here.entry.node (Sta station))
+        × IsHanded (pair_at here.entry.domain.now [] here.entry.node (Sta station))
         (given heard.now.message.message (frame_of heard.now.message.frame)
         newest.now.key newest.now.uses)
         (taken_as heard.now.octets.now (message_fields heard.now.message) outcome)
@@ -112,7 +115,7 @@ fn hand(
     ensures room { OnOk result (1 ≤ out.new.spare) }
 {
     let message = &heard.message;
-    let room = Room::take(here, Node::Sta(station), heard)?;
+    let room = Room::take(here, Node::Sta(station), &[], heard)?;
     out.reserve(8)?;
     let part = &mut place.part;
     let had_session = part.has_session();
@@ -158,6 +161,7 @@ pub fn take_message(
     newest: &NewestGroup,
     out: &mut Outbox,
 ) -> Result<Outcome, NoMemory>
+    requires suite { here.domain.now.akm ≢ FtPsk }
     requires listed { IsListed here.domain.now here.node }
     requires peer { IsPeerOf here.domain.now here.node (Sta station) }
     requires frame { IsKeyFrame heard.now.message.frame }
@@ -165,7 +169,7 @@ pub fn take_message(
     requires uses { newest.now.uses < 2 ^ 48 }
     ensures handed { IfOk result (λ outcome. (acts : List AnyAct)
         × (out.new.acts ≡ out.old.acts ++ acts)
-        × IsHandedAt (pair here.entry.domain.now here.entry.node (Sta station))
+        × IsHandedAt (pair_at here.entry.domain.now [] here.entry.node (Sta station))
         (given heard.now.message.message (frame_of heard.now.message.frame)
         newest.now.key newest.now.uses)
         (taken_as heard.now.octets.now (message_fields heard.now.message) outcome)

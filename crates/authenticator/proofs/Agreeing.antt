@@ -11,12 +11,14 @@ use Rattle.run_journal.specs.declared.acts.Seal.{Seal}
 use Rattle.run_journal.specs.declared.acts.Act.{Act}
 use Rattle.run_journal.specs.declared.acts.Act.TheVariants.{Took, Derived}
 use Rattle.run_journal.specs.Questions.{before_sent, group_keys, chain}
-use Rattle.domain_rules.specs.Network.{address, root}
+use Rattle.domain_rules.specs.Network.{address}
 use Rattle.domain_rules.specs.Frames.{in_data, m3_frame, m3_key_data, wrapped, sent_m3}
 use Rattle.domain_rules.specs.Asking.{replay_counter}
 use Rattle.domain_rules.specs.Counters.{next_in_attempt}
 use Rattle.domain_rules.specs.GroupKeys.{newest_uses}
-use Rattle.domain_rules.specs.Replies.{Pair, pair, inputs_by, key_by}
+use Rattle.domain_rules.specs.Replies.{Pair, inputs_by, key_by}
+use Rattle.eapol_key.specs.KeyData.{padded}
+use Rattle.authenticator.specs.Bases.{home, own_pair}
 use Rattle.domain_rules.proofs.Parts.{same-refl, attempt_more, attempt_some, by_connect_more, own_nonce_more, since_part}
 use Rattle.run_journal.specs.GroupKinds as groups
 use Rattle.run_journal.specs.Acts.{Derivation}
@@ -31,8 +33,8 @@ use Rattle.authenticator.proofs.Counting.{count_is, replay_sealed}
 
 -- the counter of M3
 pub m3_counter : (d : Domain) (n p : Node) (x : Derivation) (counter : ℕ) (g : GroupKey) (rsc : ℕ) → IsAddress (address d n) → IsAddress (address d p) → counter < 2 ^ 64
-    → replay_counter (in_data d n p (m3_frame d x counter (carried g) rsc)) ≡ counter
-m3_counter d n p x counter g rsc l m low = replay_sealed d n p d.akm x.ptk.kck (sent_fields M3 d.akm counter x.inputs.anonce rsc (wrapped x.ptk.kek (m3_key_data d (carried g)))) l m low
+    → replay_counter (in_data d n p (m3_frame d n x counter (carried g) rsc)) ≡ counter
+m3_counter d n p x counter g rsc l m low = replay_sealed d n p d.akm x.ptk.kck (sent_fields M3 d.akm counter x.inputs.anonce rsc (wrapped x.ptk.kek (m3_key_data d n x (carried g)))) l m low
 
 -- the next counter of the attempt
 pub next_is : (d : Domain) (n p : Node) (a : Attempt) (h : List Act) (at : IsUnderWay d n p a h) → next_in_attempt p at.part ≡ suc (a.m1s + a.m3s)
@@ -59,20 +61,21 @@ cons_is e f = rw (e, f) refl
 -- the acts of accepting M2, the last first
 abbrev pub agreed_after : Domain → Node → Node → List ℕ → Option Seal → Agreed → ℕ → List Act → List Act
 agreed_after d n p octets s y counter h =
-    sent_m3 d n p (key_by d (root d) n p y.key) counter (carried y.group) y.rsc ∷ Derived p (inputs_by d (root d) n p y.key) y.key.ptk ∷ Took (Some p) octets (kind.Key M2) Accepted s ∷ h
+    sent_m3 d n p (key_by d (home d n) n p y.key) counter (carried y.group) y.rsc ∷ Derived p (inputs_by d (home d n) n p y.key) y.key.ptk ∷ Took (Some p) octets (kind.Key M2) Accepted s ∷ h
 
 pub has_agreed : (d : Domain) (n p : Node) (octets : List ℕ) (s : Option Seal) (y : Agreed) (a : Attempt) (h : List Act) → IsAddress (address d n) → IsAddress (address d p) → suc (a.m1s + a.m3s) < 2 ^ 64
-    → IsUnderWay d n p a h → a.agreed ≡ None → IsLast y.group (group_keys groups.Gtk h) → newest_uses groups.Gtk h ≡ y.rsc → IsUnderWay d n p (answered y a) (agreed_after d n p octets s y (suc (a.m1s + a.m3s)) h)
-has_agreed d n p octets s y a h l m low at none key uses =
+    → IsUnderWay d n p a h → a.agreed ≡ None → IsLast y.group (group_keys groups.Gtk h) → newest_uses groups.Gtk h ≡ y.rsc → padded y.plain ≡ m3_key_data d n (key_by d (home d n) n p y.key) (carried y.group)
+    → IsUnderWay d n p (answered y a) (agreed_after d n p octets s y (suc (a.m1s + a.m3s)) h)
+has_agreed d n p octets s y a h l m low at none key uses data_ =
     let took = Took (Some p) octets (kind.Key M2) Accepted s in
-    let derived = Derived p (inputs_by d (root d) n p y.key) y.key.ptk in
-    let x = key_by d (root d) n p y.key in
+    let derived = Derived p (inputs_by d (home d n) n p y.key) y.key.ptk in
+    let x = key_by d (home d n) n p y.key in
     let counter = suc (a.m1s + a.m3s) in
     let m3 = sent_m3 d n p x counter (carried y.group) y.rsc in
-    let w = none_sent (pair d n p) a.agreed a.m3s at.part h none at.agreed in
+    let w = none_sent (own_pair d n p) a.agreed a.m3s at.part h none at.agreed in
     let first = attempt_more p took h at.part refl refl at.is in
     let second = attempt_more p derived (took ∷ h) (took ∷ at.part) refl refl first in
-    let here : replay_counter (in_data d n p (m3_frame d x counter (carried y.group) y.rsc)) ≡ suc (a.m1s + 0) = m3_counter d n p x counter y.group y.rsc l m low ∙ ap (λ (z : ℕ). suc (a.m1s + z)) w.0 in
+    let here : replay_counter (in_data d n p (m3_frame d n x counter (carried y.group) y.rsc)) ≡ suc (a.m1s + 0) = m3_counter d n p x counter y.group y.rsc l m low ∙ ap (λ (z : ℕ). suc (a.m1s + z)) w.0 in
     record {
       part = m3 ∷ derived ∷ took ∷ at.part;
       is = attempt_more p m3 (derived ∷ took ∷ h) (derived ∷ took ∷ at.part) refl refl second;
@@ -85,6 +88,7 @@ has_agreed d n p octets s y a h l m low at none key uses =
         omega arith,
         rw (same-refl p) refl,
         record { past = derived ∷ took ∷ h; is = rw (same-refl p, w.1) refl; key = key; uses = uses },
+        data_,
       );
       request = at.request;
       heard_last = rw (same-refl p) at.heard_last;

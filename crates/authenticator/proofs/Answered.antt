@@ -1,5 +1,5 @@
 -- Message 2 of the group key handshake.
-use Rattle.std.proofs.Common.{◌≡◌, ◌≤◌, ◌+◌, ℕ, Bool, true, false, List, Option, Some, None, refl, sym, ap, subst, ◌∙◌}
+use Rattle.std.proofs.Common.{◌≡◌, ◌≤◌, ◌+◌, ℕ, Bool, true, false, List, Option, Some, None, refl, sym, ap, subst, ◌∙◌, [], ◌∷◌}
 use Rattle.std.specs.Prelude.{is_some, ◌&&◌, not, nat_lt}
 use Rattle.std.proofs.lemmas.Bool.{ltb-true}
 use Rattle.domain_base.specs.declared.names.Akm.{Akm}
@@ -24,10 +24,9 @@ use Rattle.run_journal.specs.Questions.{handshake, add, draws}
 use Rattle.group_key.specs.declared.keys.GroupKey.{GroupKey}
 use Rattle.domain_rules.specs.Frames.{frame_seal}
 use Rattle.domain_rules.specs.Here.{here}
-use Rattle.domain_rules.specs.Network.{root}
+use Rattle.key_hierarchy.specs.declared.inputs.Ptk.{Ptk}
 use Rattle.domain_rules.specs.Reading.{KeyMessage, Keyed as KeyedReading}
-use Rattle.domain_rules.specs.Replies.{pair, key_by, reply_acts, taken_as}
-use Rattle.domain_rules.specs.Verdict.{KnowsOf, key_further, and_then, key_verdict}
+use Rattle.domain_rules.specs.Verdict.{KnowsOf, KnowsResponse, key_further, and_then, key_verdict}
 use Rattle.domain_rules.specs.Asking.{offered, among, verified}
 use Rattle.domain_rules.specs.Owing.{owing}
 use Rattle.domain_rules.specs.AccessPointKeys.{g2_verdict}
@@ -41,14 +40,14 @@ use Rattle.authenticator.specs.Judged.{Frame}
 use Rattle.authenticator.specs.State.{State}
 use Rattle.authenticator.specs.Stands.{CountsAt, IsHeld, AuthenticatorStands}
 use Rattle.authenticator.specs.Steps.{Steps}
-use Rattle.authenticator.specs.Taken.{given, frame_in, Comes, StepsFrom}
+use Rattle.authenticator.specs.Taken.{given, frame_in, told_acts, Comes, StepsFrom}
 use Rattle.authenticator.specs.declared.session.Session.{Session}
 use Rattle.authenticator.proofs.Counting.{last_is}
 use Rattle.authenticator.proofs.Handshaking.{counts_newest, counts_answered, owing_none, owing_some, owing_no_session}
 use Rattle.authenticator.proofs.Standing.{no_session, held}
 use Rattle.authenticator.proofs.Replying.{took_only}
 use Rattle.authenticator.proofs.Refusing.{refused_as}
-use Rattle.authenticator.proofs.Verified.{same_mic}
+use Rattle.authenticator.proofs.Verified.{same_mic, unresponded_g2, further_none}
 use Rattle.authenticator.proofs.Asking.{IsQuiet, attempt_quiet}
 
 -- ---- its verdict
@@ -61,8 +60,10 @@ owed_by : (d : Domain) (h : List Act) (p : Node) (k : KeyMessage) (x : Derivatio
 owed_by d h p k x offers some is = rw (some, is) refl
 
 verdict_held : (d : Domain) (n p : Node) (h : List Act) (k : KeyMessage) (s : Session) (place : ℕ) → IsHeld d n p s h → (at : CountsAt p s place h) → owes place s ≡ true
-    → g2_verdict d h p k ≡ among (counters at.before (sent_for place s)) k.fields.counter (verified d.akm s.key.ptk.kck k Accepted)
-verdict_held d n p h k s place has at owed = owed_by d h p k (key_by d (root d) n p s.key) (counters at.before (sent_for place s)) (owing_some p s place (key_by d (root d) n p s.key) h at owed has.is) at.offers
+    → g2_verdict d h p k ≡ among (counters at.before (sent_for place s)) k.fields.counter (verified d.akm s.ptk.kck k Accepted)
+verdict_held d n p h k s place has at owed =
+    owed_by d h p k has.x (counters at.before (sent_for place s)) (owing_some p s place has.x h at owed has.is) at.offers
+    ∙ ap (λ (q : Ptk). among (counters at.before (sent_for place s)) k.fields.counter (verified d.akm q.kck k Accepted)) has.key
 
 left_true : (a b : Bool) → (a && b) ≡ true → a ≡ true
 left_true true b is = refl
@@ -74,20 +75,20 @@ owed_some place s owed = ltb-true 0 (sent_for place s) (left_true (nat_lt 0 (sen
 counted_g2 : (d : Domain) (n p : Node) (h : List Act) (k : KeyMessage) (s : Session) (place last : ℕ) → IsHeld d n p s h → CountsAt p s place h → IsUnoffered place s k.fields last → g2_verdict d h p k ≡ Refused (reason.Counter last)
 counted_g2 d n p h k s place last has at w =
     verdict_held d n p h k s place has at w.owed
-    ∙ among-none (counters at.before (sent_for place s)) k.fields.counter (verified d.akm s.key.ptk.kck k Accepted) (w.offer at.before at.last)
+    ∙ among-none (counters at.before (sent_for place s)) k.fields.counter (verified d.akm s.ptk.kck k Accepted) (w.offer at.before at.last)
     ∙ ap (λ (x : ℕ). Refused (reason.Counter x)) (last_is at.before (sent_for place s) (owed_some place s w.owed) ∙ sym at.last ∙ sym w.is)
 
 forged_g2 : (d : Domain) (n p : Node) (h : List Act) (k : KeyMessage) (s : Session) (place : ℕ) (akm : Akm) → akm ≡ d.akm → IsHeld d n p s h → CountsAt p s place h → IsForgedG2 akm place s (frame_in k) → g2_verdict d h p k ≡ Refused reason.Mic
 forged_g2 d n p h k s place akm suite has at w =
     verdict_held d n p h k s place has at w.offered.owed
-    ∙ among-one (counters at.before (sent_for place s)) k.fields.counter (verified d.akm s.key.ptk.kck k Accepted) (w.offered.offer at.before at.last)
-    ∙ verified-other d.akm s.key.ptk.kck k Accepted (λ same. w.other (same ∙ sym (same_mic k.octets suite refl)))
+    ∙ among-one (counters at.before (sent_for place s)) k.fields.counter (verified d.akm s.ptk.kck k Accepted) (w.offered.offer at.before at.last)
+    ∙ verified-other d.akm s.ptk.kck k Accepted (λ same. w.other (same ∙ sym (same_mic k.octets suite refl)))
 
 accepted_g2 : (d : Domain) (n p : Node) (h : List Act) (k : KeyMessage) (s : Session) (place : ℕ) (akm : Akm) → akm ≡ d.akm → IsHeld d n p s h → CountsAt p s place h → IsG2 akm place s (frame_in k) → g2_verdict d h p k ≡ Accepted
 accepted_g2 d n p h k s place akm suite has at w =
     verdict_held d n p h k s place has at w.offered.owed
-    ∙ among-one (counters at.before (sent_for place s)) k.fields.counter (verified d.akm s.key.ptk.kck k Accepted) (w.offered.offer at.before at.last)
-    ∙ verified-same d.akm s.key.ptk.kck k Accepted (w.mic_is ∙ same_mic k.octets suite refl)
+    ∙ among-one (counters at.before (sent_for place s)) k.fields.counter (verified d.akm s.ptk.kck k Accepted) (w.offered.offer at.before at.last)
+    ∙ verified-same d.akm s.ptk.kck k Accepted (w.mic_is ∙ same_mic k.octets suite refl)
 
 refused_g2 : (d : Domain) (n p : Node) (h : List Act) (k : KeyMessage) (s : Session) (place : ℕ) (akm : Akm) (why : Reason) → akm ≡ d.akm → IsHeld d n p s h → CountsAt p s place h → IsRefusedG2 akm place s (frame_in k) why → g2_verdict d h p k ≡ Refused why
 refused_g2 d n p h k s place akm reason.Unawaited suite has at w = unowed d h p k (owing_none p s place h at w)
@@ -116,42 +117,42 @@ quiet_g2 p octets v = record { opens_none = refl; ends_none = refl; no_m1 = refl
 
 answered_g2 : (d : Domain) (first a : ℕ) (p : Node) (octets : List ℕ) (k : KeyMessage) (s : State) (t : Session) (g : GroupKey) (rsc : ℕ) (r : Reply) (h : List Act) → Comes (here d first (Ap a)) p (given G2 (frame_in k) g rsc) octets k h
     → AuthenticatorStands d (Ap a) p s h → s.session ≡ Some t → IsG2 s.ends.akm g.place t (frame_in k) → IsEmpty r
-    → Steps (here d first (Ap a)) p octets (reply_acts (pair d (Ap a) p) (is_some s.session) (taken_as octets k Accepted) (record r { verified = Some t.key.ptk.kck })) (record s { session = Some (replied_to t) }) h
+    → Steps (here d first (Ap a)) p octets (told_acts d (Ap a) p (is_some s.session) octets k Accepted (record r { verified = Some t.ptk.kck }) h) (record s { session = Some (replied_to t) }) h
 answered_g2 d first a p octets k s t g rsc r h come stands some w e =
     let n = Ap a in
     let from = come.from in
     let is = come.message in
-    let x = key_by d (root d) n p t.key in
     let at = held d n p s.session t h some stands.session_is in
+    let x = at.x in
     let counts = counts_newest p t g h come.newest at.counts in
-    let seal = Some (frame_seal t.key.ptk.kck k.octets) in
+    let seal = Some (frame_seal t.ptk.kck k.octets) in
     let took = Took (Some p) octets (kind.Key G2) Accepted seal in
-    let acts = took_only d n p (is_some s.session) octets k G2 Accepted (record r { verified = Some t.key.ptk.kck }) (Some t.key.ptk.kck) is e.len refl e.derived e.installed e.gtk in
+    let acts = took_only d n p (is_some s.session) octets k G2 Accepted (record r { verified = Some t.ptk.kck }) (Some t.ptk.kck) h is e.len refl e.derived e.installed e.gtk in
     let accepted = from.verdict_is first h ∙ ap (λ (m : Message). key_verdict d (first + draws h) n h p k m) is ∙ accepted_g2 d n p h k t g.place s.ends.akm stands.ends.akm at counts w in
     record {
       adds = record {
         r = KeyedReading k;
         reads = from.reads;
         facts = no_facts;
-        knows = λ far q other. subst (λ (m : Message). KnowsOf d.akm h q m k no_facts) (sym is) tt;
+        knows = λ far q other. subst (λ (m : Message). KnowsOf d.akm h q m k no_facts × KnowsResponse d.akm h q m no_facts) (sym is) (tt, unresponded_g2 d.akm h q no_facts);
         row = By_g2 (record {
           k = k;
           is = refl;
           message_is = is;
           p = p;
           from = from.from;
-          accepted = ap (λ (o : Outcome). and_then o (key_further d.akm k.message no_facts)) accepted ∙ ap (λ (m : Message). and_then Accepted (key_further d.akm m no_facts)) is;
+          accepted = further_none d first n p h k accepted from.from ∙ ap (λ (m : Message). and_then Accepted (key_further d n h p m no_facts)) is;
           x = x;
           awaited = owing_some p t g.place x h counts w.offered.owed at.is;
-          says = acts;
+          says = acts ∙ ap (λ (q : Ptk). Took (Some p) octets (kind.Key G2) Accepted (Some (frame_seal q.kck k.octets)) ∷ []) (sym at.key);
         });
       };
       stands = subst (λ (z : List Act). AuthenticatorStands d n p (record s { session = Some (replied_to t) }) (add z h)) (sym acts)
           (record {
             ends = stands.ends;
-            psk = stands.psk;
+            base = stands.base;
             attempt_is = attempt_quiet d n p s.attempt took h (quiet_g2 p octets seal) stands.attempt_is;
-            session_is = record { is = at.is; counts = record { place = g.place; here = counts_answered p octets seal t g.place h w.offered.owed counts } };
+            session_is = record { x = x; is = at.is; key = at.key; counts = record { place = g.place; here = counts_answered p octets seal t g.place h w.offered.owed counts } };
           });
     }
 
@@ -160,6 +161,6 @@ come_by : (d : Domain) (first a : ℕ) (p : Node) (f : Frame) (g : GroupKey) (rs
 come_by d first a p f g rsc octets k h w = record { from = w.from; message = w.message; frame = refl; newest = w.newest; uses = w.uses }
 
 pub takes_answered : (s : State) (t : Session) (f : Frame) (g : GroupKey) (rsc : ℕ) (r : Reply) → s.session ≡ Some t → IsG2 s.ends.akm g.place t f → IsEmpty r
-    → StepsFrom s (record s { session = Some (replied_to t) }) (given G2 f g rsc) Accepted (record r { verified = Some t.key.ptk.kck })
+    → StepsFrom s (record s { session = Some (replied_to t) }) (given G2 f g rsc) Accepted (record r { verified = Some t.ptk.kck })
 takes_answered s t f g rsc r some by e = λ d first a sta octets k h stands w.
     answered_g2 d first a (Sta sta) octets k s t g rsc r h (come_by d first a (Sta sta) f g rsc octets k h w) stands some (subst (λ (x : Frame). IsG2 s.ends.akm g.place t x) (sym w.frame) by) e

@@ -18,8 +18,7 @@ use Rattle.run_journal.specs.GroupKinds as groups
 use Rattle.run_journal.specs.Acts.{Derivation, GroupKey as Carried, opens, ends, sent, accepted, derived}
 use Rattle.run_journal.specs.Questions.{attempt, session, before_sent, group_keys, handshake, add}
 use Rattle.domain_rules.specs.Frames.{sent_g1}
-use Rattle.domain_rules.specs.Network.{root}
-use Rattle.domain_rules.specs.Replies.{pair, key_by}
+use Rattle.authenticator.specs.Bases.{own_pair}
 use Rattle.domain_rules.specs.Asking.{offered, replay_counter}
 use Rattle.domain_rules.specs.Counters.{sent_count, next_in_session}
 use Rattle.domain_rules.specs.GroupKeys.{newest_uses}
@@ -66,7 +65,7 @@ under_way_quiet d n p a e h quiet at = record {
   m1_offers = ap (map replay_counter) (sent_more p (kind.Key M1) e at.part quiet.no_m1) ∙ at.m1_offers;
   m3_offers = ap (map replay_counter) (sent_more p (kind.Key M3) e at.part quiet.no_m3) ∙ at.m3_offers;
   answered = ap (λ (o : Option (List ℕ)). is_some o) (heard_more p (kind.Key M2) e at.part quiet.no_m2) ∙ at.answered;
-  agreed = agreed_on (pair d n p) a.agreed a.m3s at.part (e ∷ at.part) h (e ∷ h) (derivation_more p e at.part quiet.derives_none) (first_quiet p e h quiet) at.agreed;
+  agreed = agreed_on (own_pair d n p) a.agreed a.m3s at.part (e ∷ at.part) h (e ∷ h) (derivation_more p e at.part quiet.derives_none) (first_quiet p e h quiet) at.agreed;
   request = at.request;
   heard_last = heard_more p kind.AssocReq e h quiet.no_request ∙ at.heard_last;
   rsne = at.rsne;
@@ -90,18 +89,17 @@ pub g1_is : (d : Domain) (n p : Node) (x : Derivation) (g : GroupKey) (rsc last 
 g1_is d n p x g rsc last h key uses next = same_g1 d n p x next (last_newest g h key) uses
 
 -- the authenticator goes on
-pub stands_asked : (d : Domain) (a : ℕ) (p : Node) (s : State) (t u : Session) (g : GroupKey) (rsc : ℕ) (r : Reply) (h : List Act) → AuthenticatorStands d (Ap a) p s h → IsHeld d (Ap a) p t h → CountsAt p t g.place h → sent_for g.place t < 4 → Asks s.ends g rsc t u r
-    → AuthenticatorStands d (Ap a) p (record s { session = Some u }) (sent_g1 d (Ap a) p (key_by d (root d) (Ap a) p t.key) (suc t.last) (carried g) rsc ∷ h)
-stands_asked d a p s t u g rsc r h stands at counts few w =
+pub stands_asked : (d : Domain) (a : ℕ) (p : Node) (s : State) (t u : Session) (g : GroupKey) (rsc : ℕ) (r : Reply) (x : Derivation) (h : List Act) → AuthenticatorStands d (Ap a) p s h → session p h ≡ Some x → x.ptk ≡ t.ptk → CountsAt p t g.place h → sent_for g.place t < 4 → Asks s.ends g rsc t u r
+    → AuthenticatorStands d (Ap a) p (record s { session = Some u }) (sent_g1 d (Ap a) p x (suc t.last) (carried g) rsc ∷ h)
+stands_asked d a p s t u g rsc r x h stands is key counts few w =
     let n = Ap a in
-    let x = key_by d (root d) n p t.key in
     let g1 = sent_g1 d n p x (suc t.last) (carried g) rsc in
     let more = counts_asked d n p x g rsc t h (own_address d n p s.ends stands.ends w.own) (peer_address d n p s.ends stands.ends w.peer) w.low few counts in
     record {
       ends = stands.ends;
-      psk = stands.psk;
+      base = stands.base;
       attempt_is = attempt_quiet d n p s.attempt g1 h (quiet_g1 p _ _) stands.attempt_is;
-      session_is = subst (λ (z : Session). IsHeld d n p z (g1 ∷ h)) (sym w.now) (record { is = at.is; counts = record { place = g.place; here = more } });
+      session_is = subst (λ (z : Session). IsHeld d n p z (g1 ∷ h)) (sym w.now) (record { x = x; is = is; key = key; counts = record { place = g.place; here = more } });
     }
 
 -- the replay counter is one
@@ -131,17 +129,17 @@ pub retries_asked : (s : State) (t u : Session) (g : GroupKey) (rsc : ℕ) (r : 
 retries_asked s t u g rsc r none some owed few asks = λ d a sta h stands w.
     (let n = Ap a in
     let p = Sta sta in
-    let x = key_by d (root d) n p t.key in
     let at = held d n p s.session t h some stands.session_is in
+    let x = at.x in
     let counts = counts_newest p t g h w.newest at.counts in
     let less : sent_for g.place t < 4 = leb-false 4 (sent_for g.place t) few in
     let asked_by = asks (low_by p t x g rsc h w at.is counts.next) less in
-    let sends = asked_by.sends d n p x stands.ends refl in
+    let sends = asked_by.sends d n p x stands.ends (sym at.key) in
     record {
       adds = retry_owed d n p x h (no_attempt d n p s.attempt h none stands.attempt_is) (owing_some p t g.place x h counts owed at.is)
           ∙ close_few p (sent_count p G1 (handshake groups.Gtk p h)) (sent_for g.place t) (g1_to d n p h x) (count_is p G1 (handshake groups.Gtk p h) counts.before (sent_for g.place t) counts.offers) less
           ∙ ap (λ (e : Act). e ∷ []) (g1_is d n p x g rsc t.last h w.newest w.uses counts.next) ∙ sym sends;
-      stands = subst (λ (acts : List Act). AuthenticatorStands d n p (record s { session = Some u }) (add acts h)) (sym sends) (stands_asked d a p s t u g rsc r h stands at counts less asked_by);
+      stands = subst (λ (acts : List Act). AuthenticatorStands d n p (record s { session = Some u }) (add acts h)) (sym sends) (stands_asked d a p s t u g rsc r x h stands at.is at.key counts less asked_by);
     })
 
 closed_session : (p : Node) (h : List Act) → session p (Closed p OfSession ∷ GaveUp p G1 ∷ h) ≡ None
@@ -154,8 +152,8 @@ pub retries_session_given_up : (s : State) (t : Session) (g : GroupKey) (rsc : �
 retries_session_given_up s t g rsc r none some owed many = λ d a sta h stands w.
     (let n = Ap a in
     let p = Sta sta in
-    let x = key_by d (root d) n p t.key in
     let at = held d n p s.session t h some stands.session_is in
+    let x = at.x in
     let counts = counts_newest p t g h w.newest at.counts in
     let unbegun = no_attempt d n p s.attempt h none stands.attempt_is in
     let gone : attempt p (Closed p OfSession ∷ GaveUp p G1 ∷ h) ≡ None = attempt_none p (Closed p OfSession) (GaveUp p G1 ∷ h) refl (attempt_none p (GaveUp p G1) h refl unbegun) in
@@ -164,7 +162,7 @@ retries_session_given_up s t g rsc r none some owed many = λ d a sta h stands w
           ∙ close_many p (sent_count p G1 (handshake groups.Gtk p h)) (sent_for g.place t) (g1_to d n p h x) (count_is p G1 (handshake groups.Gtk p h) counts.before (sent_for g.place t) counts.offers) (leb-true 4 (sent_for g.place t) many);
       stands = record {
         ends = stands.ends;
-        psk = stands.psk;
+        base = stands.base;
         attempt_is = subst (λ (o : Option Attempt). HasAttempt d n p o (Closed p OfSession ∷ GaveUp p G1 ∷ h)) (sym none) gone;
         session_is = closed_session p h;
       };
@@ -195,17 +193,17 @@ pub gives_asked : (s : State) (t u : Session) (g : GroupKey) (rsc : ℕ) (r : Re
 gives_asked s t u g rsc r some asks = λ d a sta h stands w none.
     (let n = Ap a in
     let p = Sta sta in
-    let x = key_by d (root d) n p t.key in
     let at = held d n p s.session t h some stands.session_is in
+    let x = at.x in
     let counts = counts_newest p t g h w.newest at.counts in
     let less : sent_for g.place t < 4 = omega (arith, none_offered p (handshake groups.Gtk p h) counts.before (sent_for g.place t) counts.offers none) in
     let asked_by = asks (low_by p t x g rsc h w at.is counts.next) less in
-    let sends = asked_by.sends d n p x stands.ends refl in
+    let sends = asked_by.sends d n p x stands.ends (sym at.key) in
     record {
       x = x;
       has = at.is;
       adds = ap (λ (e : Act). e ∷ []) (g1_is d n p x g rsc t.last h w.newest w.uses counts.next) ∙ sym sends;
-      stands = subst (λ (acts : List Act). AuthenticatorStands d n p (record s { session = Some u }) (add acts h)) (sym sends) (stands_asked d a p s t u g rsc r h stands at counts less asked_by);
+      stands = subst (λ (acts : List Act). AuthenticatorStands d n p (record s { session = Some u }) (add acts h)) (sym sends) (stands_asked d a p s t u g rsc r x h stands at.is at.key counts less asked_by);
     })
 
 -- by another name of what the authenticator is then

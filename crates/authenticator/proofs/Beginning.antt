@@ -1,5 +1,5 @@
 -- How an attempt begins.
-use Rattle.std.proofs.Common.{◌≡◌, ℕ, List, [], ◌∷◌, Option, Some, refl, sym, subst, ◌∙◌, arith}
+use Rattle.std.proofs.Common.{◌≡◌, ℕ, List, [], ◌∷◌, Option, Some, None, refl, sym, subst, ◌∙◌, arith}
 use Rattle.domain_base.specs.declared.names.Node.{Node}
 use Rattle.air_frame.specs.Sent.{IsAddress}
 use Rattle.eapol_key.specs.declared.messages.Message.TheVariants.{M1}
@@ -11,14 +11,19 @@ use Rattle.domain_rules.specs.Frames.{sent_m1}
 use Rattle.domain_rules.proofs.Parts.{same-refl, attempt_more, attempt_some, by_connect_more, own_nonce_more}
 use Rattle.node_base.specs.declared.ends.Ends.{Ends}
 use Rattle.node_base.specs.Ends.{AreEnds}
-use Rattle.authenticator.specs.Stands.{IsUnderWay, Counts, HasSession, AuthenticatorStands}
+use Rattle.key_hierarchy.specs.declared.inputs.Ptk.{Ptk}
+use Rattle.authenticator.specs.declared.base.Base.{Base}
+use Rattle.authenticator.specs.Bases.{IsBaseOf}
+use Rattle.authenticator.specs.Begins.{IsTransferred}
+use Rattle.authenticator.specs.Groups.{transferred}
+use Rattle.authenticator.specs.Stands.{IsUnderWay, IsHeld, Counts, HasSession, AuthenticatorStands}
 use Rattle.authenticator.specs.Steps.{IsBegun}
 use Rattle.authenticator.specs.Judged.{begun}
 use Rattle.authenticator.specs.declared.attempt.Attempt.{Attempt}
 use Rattle.authenticator.specs.declared.session.Session.{Session}
 use Rattle.authenticator.proofs.Addresses.{own_address, peer_address}
 use Rattle.authenticator.proofs.Counting.{replay_plain}
-use Rattle.authenticator.proofs.Handshaking.{counts_on}
+use Rattle.authenticator.proofs.Handshaking.{counts_on, counts_transferred}
 use Rattle.authenticator.proofs.Standing.{session_on}
 use Rattle.authenticator.proofs.Agreeing.{cons_is}
 
@@ -43,11 +48,22 @@ counts_begun : (d : Domain) (n p : Node) (anonce : List ℕ) (h : List Act) (s :
 counts_begun d n p anonce h s at = counts_on p s (sent_m1 d n p 1 anonce) h refl refl (rw (same-refl p) refl) refl at
 
 -- beside that session
-pub begins : (d : Domain) (n p : Node) (l : Ends) (anonce rsne : List ℕ) (a : Attempt) (o : Option Session) → AreEnds d n p l → IsAddress l.own.0 × IsAddress l.peer.0 → a ≡ begun anonce rsne → (h : List Act) → IsBegun d p anonce rsne h → HasSession d n p o h
-    → AuthenticatorStands d n p (record { ends = l; psk = d.psk; attempt = Some a; session = o }) (sent_m1 d n p 1 anonce ∷ h)
-begins d n p l anonce rsne a o ends addresses is h b at = record {
+pub begins : (d : Domain) (n p : Node) (l : Ends) (b : Base) (anonce rsne : List ℕ) (a : Attempt) (o : Option Session) → AreEnds d n p l → IsBaseOf d n p b → IsAddress l.own.0 × IsAddress l.peer.0 → a ≡ begun anonce rsne → (h : List Act) → IsBegun d p anonce rsne h → HasSession d n p o h
+    → AuthenticatorStands d n p (record { ends = l; base = b; attempt = Some a; session = o }) (sent_m1 d n p 1 anonce ∷ h)
+begins d n p l b anonce rsne a o ends base addresses is h at has = record {
   ends = ends;
-  psk = refl;
-  attempt_is = subst (λ (x : Attempt). IsUnderWay d n p x (sent_m1 d n p 1 anonce ∷ h)) (sym is) (is_begun d n p anonce rsne h (own_address d n p l ends addresses.0) (peer_address d n p l ends addresses.1) b);
-  session_is = session_on d n p o h (sent_m1 d n p 1 anonce ∷ h) refl (counts_begun d n p anonce h) at;
+  base = base;
+  attempt_is = subst (λ (x : Attempt). IsUnderWay d n p x (sent_m1 d n p 1 anonce ∷ h)) (sym is) (is_begun d n p anonce rsne h (own_address d n p l ends addresses.0) (peer_address d n p l ends addresses.1) at);
+  session_is = session_on d n p o h (sent_m1 d n p 1 anonce ∷ h) refl (counts_begun d n p anonce h) has;
+}
+
+-- by fast transition
+pub transfers : (d : Domain) (n p : Node) (l : Ends) (b : Base) (q : Ptk) (s : Session) → AreEnds d n p l → IsBaseOf d n p b → s ≡ transferred q → (h : List Act) → IsTransferred p q h
+    → AuthenticatorStands d n p (record { ends = l; base = b; attempt = None; session = Some s }) h
+transfers d n p l b q s ends base is h at = record {
+  ends = ends;
+  base = base;
+  attempt_is = at.none;
+  session_is = subst (λ (x : Session). IsHeld d n p x h) (sym is)
+      (record { x = at.x; is = at.is; key = at.key; counts = record { place = at.newest.place; here = counts_transferred p q at.newest h at.last at.next at.quiet } });
 }

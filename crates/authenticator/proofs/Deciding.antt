@@ -10,6 +10,8 @@ use Rattle.run_journal.specs.declared.reply.Keyed.{Keyed}
 use Rattle.node_base.specs.declared.ends.Ends.{Ends}
 use Rattle.authenticator.specs.Agreed.{Agreed}
 use Rattle.authenticator.specs.Counters.{counters}
+use Rattle.frame_making.specs.Mobile.{Mobility}
+use Rattle.authenticator.specs.declared.base.Base.{Base}
 use Rattle.authenticator.specs.KeyData.{IsKeyDataOf}
 use Rattle.authenticator.specs.declared.attempt.Attempt.{Attempt}
 use Rattle.node_base.specs.PairwiseKeys.{key_with}
@@ -28,26 +30,26 @@ pub none_by : (o : Option Agreed) → is_some o ≡ false → o ≡ None
 none_by None is = refl
 none_by (Some y) is = absurd (cc is)
 
-key_data_as : (rsne octets : List ℕ) (o fault : Option KeyDataFault) → o ≡ fault → IsKeyDataOf rsne octets o → IsKeyDataOf rsne octets fault
-key_data_as rsne octets o fault is by = subst (λ (x : Option KeyDataFault). IsKeyDataOf rsne octets x) is by
+key_data_as : (m : Option Mobility) (rsne octets : List ℕ) (o fault : Option KeyDataFault) → o ≡ fault → IsKeyDataOf m rsne octets o → IsKeyDataOf m rsne octets fault
+key_data_as m rsne octets o fault is by = subst (λ (x : Option KeyDataFault). IsKeyDataOf m rsne octets x) is by
 
 -- an M2
 pub awaits : (a : Attempt) (f : KeyFields) (some offer : Bool) → some ≡ is_some a.agreed → some ≡ false → offer ≡ list_any (λ c. c == f.counter) (counters 0 a.m1s) → offer ≡ true → IsAwaited a f
 awaits a f some offer some_is none offer_is one = record { none = none_by a.agreed (sym some_is ∙ none); offer = sym offer_is ∙ one }
 
-pub forged : (l : Ends) (psk : List ℕ) (a : Attempt) (f : Frame) (y : Keyed) (b : Bool) → IsAwaited a f.fields → y ≡ key_with l psk a.anonce f.fields.nonce → (IsTrue b ↔ (f.fields.mic ≡ mic l.akm y.ptk.kck f.octets)) → b ≡ false → IsForged l psk a f
-forged l psk a f y b awaited key by is = record {
+pub forged : (l : Ends) (e : Base) (a : Attempt) (f : Frame) (y : Keyed) (b : Bool) → IsAwaited a f.fields → y ≡ key_with l e.pmk a.anonce f.fields.nonce → (IsTrue b ↔ (f.fields.mic ≡ mic l.akm y.ptk.kck f.octets)) → b ≡ false → IsForged l e a f
+forged l e a f y b awaited key by is = record {
   awaited = awaited;
-  other = not_same l.akm y.ptk.kck (key_with l psk a.anonce f.fields.nonce).ptk.kck f.fields.mic f.octets b (ap (λ (x : Keyed). x.ptk.kck) key) by is;
+  other = not_same l.akm y.ptk.kck (key_with l e.pmk a.anonce f.fields.nonce).ptk.kck f.fields.mic f.octets b (ap (λ (x : Keyed). x.ptk.kck) key) by is;
 }
 
-pub verifies : (l : Ends) (psk : List ℕ) (a : Attempt) (f : Frame) (y : Keyed) (b : Bool) (rsne : List ℕ) (o fault : Option KeyDataFault) → IsAwaited a f.fields → y ≡ key_with l psk a.anonce f.fields.nonce
-    → (IsTrue b ↔ (f.fields.mic ≡ mic l.akm y.ptk.kck f.octets)) → b ≡ true → rsne ≡ a.rsne → o ≡ fault → IsKeyDataOf rsne f.fields.key_data o → IsVerified l psk a f y fault
-verifies l psk a f y b rsne o fault awaited key by is raw fault_is key_data = record {
+pub verifies : (l : Ends) (e : Base) (a : Attempt) (f : Frame) (y : Keyed) (b : Bool) (rsne : List ℕ) (o fault : Option KeyDataFault) → IsAwaited a f.fields → y ≡ key_with l e.pmk a.anonce f.fields.nonce
+    → (IsTrue b ↔ (f.fields.mic ≡ mic l.akm y.ptk.kck f.octets)) → b ≡ true → rsne ≡ a.rsne → o ≡ fault → IsKeyDataOf e.mobility rsne f.fields.key_data o → IsVerified l e a f y fault
+verifies l e a f y b rsne o fault awaited key by is raw fault_is key_data = record {
   awaited = awaited;
-  mic_is = is_same l.akm y.ptk.kck (key_with l psk a.anonce f.fields.nonce).ptk.kck f.fields.mic f.octets b (ap (λ (x : Keyed). x.ptk.kck) key) by is;
+  mic_is = is_same l.akm y.ptk.kck (key_with l e.pmk a.anonce f.fields.nonce).ptk.kck f.fields.mic f.octets b (ap (λ (x : Keyed). x.ptk.kck) key) by is;
   key = key;
-  key_data = subst (λ (x : List ℕ). IsKeyDataOf x f.fields.key_data fault) raw (key_data_as rsne f.fields.key_data o fault fault_is key_data);
+  key_data = subst (λ (x : List ℕ). IsKeyDataOf e.mobility x f.fields.key_data fault) raw (key_data_as e.mobility rsne f.fields.key_data o fault fault_is key_data);
 }
 
 -- an M4
@@ -72,8 +74,8 @@ offered_as place s f sent b o is by value = subst (λ (n : ℕ). (before : ℕ) 
 pub offers_g2 : (place : ℕ) (s : Session) (f : KeyFields) (sent : ℕ) (owed o : Bool) → owed ≡ owes place s → owed ≡ true → sent ≡ sent_for place s → ((before : ℕ) → s.last ≡ before + sent → o ≡ list_any (λ c. c == f.counter) (counters before sent)) → o ≡ true → IsOffered place s f
 offers_g2 place s f sent owed o owed_is held is by value = record { owed = sym owed_is ∙ held; offer = offered_as place s f sent true o is by value }
 
-pub forged_g2 : (akm : Akm) (place : ℕ) (s : Session) (f : Frame) (b : Bool) → IsOffered place s f.fields → (IsTrue b ↔ (f.fields.mic ≡ mic akm s.key.ptk.kck f.octets)) → b ≡ false → IsForgedG2 akm place s f
-forged_g2 akm place s f b offered by other = record { offered = offered; other = not_same akm s.key.ptk.kck s.key.ptk.kck f.fields.mic f.octets b refl by other }
+pub forged_g2 : (akm : Akm) (place : ℕ) (s : Session) (f : Frame) (b : Bool) → IsOffered place s f.fields → (IsTrue b ↔ (f.fields.mic ≡ mic akm s.ptk.kck f.octets)) → b ≡ false → IsForgedG2 akm place s f
+forged_g2 akm place s f b offered by other = record { offered = offered; other = not_same akm s.ptk.kck s.ptk.kck f.fields.mic f.octets b refl by other }
 
-pub verified_g2 : (akm : Akm) (place : ℕ) (s : Session) (f : Frame) (b : Bool) → IsOffered place s f.fields → (IsTrue b ↔ (f.fields.mic ≡ mic akm s.key.ptk.kck f.octets)) → b ≡ true → IsG2 akm place s f
+pub verified_g2 : (akm : Akm) (place : ℕ) (s : Session) (f : Frame) (b : Bool) → IsOffered place s f.fields → (IsTrue b ↔ (f.fields.mic ≡ mic akm s.ptk.kck f.octets)) → b ≡ true → IsG2 akm place s f
 verified_g2 akm place s f b offered by same = record { offered = offered; mic_is = by.0 same }

@@ -2,6 +2,8 @@
 use Rattle.std.proofs.Common.{◌+◌, ◌≡◌, ◌<◌, ℕ, suc, Bool, true, false, List, [], ◌∷◌, ◌++◌, Option, Some, None, refl, sym, ap, subst, ◌∙◌, arith}
 use Rattle.std.specs.Prelude.{is_some, cond, nat_lt}
 use Rattle.domain_base.specs.declared.names.Akm.{Akm}
+use Rattle.domain_base.specs.declared.names.Akm.TheVariants.{Psk, PskSha256, FtPsk}
+use Rattle.std.specs.List.{AllByRecursion}
 use Rattle.domain_base.specs.declared.names.Node.{Node}
 use Rattle.domain_base.specs.declared.names.Node.TheVariants.{Ap, Sta}
 use Rattle.domain_base.specs.declared.names.Peer.TheVariants.{One}
@@ -31,35 +33,36 @@ use Rattle.domain_rules.specs.Counters.{next_in_attempt, next_in_session}
 use Rattle.domain_rules.specs.Frames.{frame_seal}
 use Rattle.domain_rules.specs.GroupKeys.{newest_uses}
 use Rattle.domain_rules.specs.Here.{here}
-use Rattle.domain_rules.specs.Network.{root}
+use Rattle.authenticator.specs.Bases.{home, own_pair}
 use Rattle.domain_rules.specs.Reading.{KeyMessage, Keyed as KeyedReading}
-use Rattle.domain_rules.specs.Replies.{pair, inputs_by, replaced_acts, key_by, sent_acts, reply_acts, taken_as}
-use Rattle.domain_rules.specs.Verdict.{KnowsOf, key_further, and_then, key_verdict}
+use Rattle.domain_rules.specs.Replies.{inputs_by, replaced_acts, key_by, sent_acts}
+use Rattle.domain_rules.specs.Verdict.{KnowsOf, KnowsResponse, key_further, and_then, key_verdict}
 use Rattle.domain_rules.specs.Asking.{by_connect, among, verified}
 use Rattle.domain_rules.specs.AccessPointKeys.{m4_keying, m4_verdict_by, m4_verdict}
 use Rattle.domain_rules.specs.AccessPointRows.{m4_acts, carried_older, newer_acts}
 use Rattle.domain_rules.specs.Rows.{By_m4}
 use Rattle.domain_rules.specs.Closing.{close_session}
 use Rattle.domain_rules.proofs.Refused.{no_facts}
-use Rattle.domain_rules.proofs.Parts.{same-refl, Grows, Begins, Goes_on, grows, attempt_more, attempt_ends, attempt_some, by_connect_more, add_append}
+use Rattle.domain_rules.specs.KeyHolders.{put_acts_by}
+use Rattle.domain_rules.proofs.Parts.{IsApart, same-refl, Grows, Begins, Goes_on, grows, attempt_more, attempt_ends, attempt_some, by_connect_more, add_append}
 use Rattle.domain_rules.proofs.Verdicts.{among-one, among-none, verified-same, verified-other}
 use Rattle.authenticator.specs.Agreed.{Agreed}
 use Rattle.authenticator.specs.Counters.{counters}
 use Rattle.authenticator.specs.Groups.{sent_for, Asks}
 use Rattle.authenticator.specs.Installed.{AsksWhere, IsInstalled}
 use Rattle.authenticator.specs.State.{State}
-use Rattle.authenticator.specs.Stands.{IsAgreed, IsUnderWay, IsHeld, AuthenticatorStands}
+use Rattle.authenticator.specs.Stands.{IsAgreed, IsUnderWay, Counts, IsHeld, AuthenticatorStands}
 use Rattle.authenticator.specs.Steps.{Steps}
 use Rattle.authenticator.specs.Judged.{Frame, IsUncounted, IsForgedM4, IsFresh, IsFinish, IsRefusedM4}
-use Rattle.authenticator.specs.Taken.{given, frame_in, Comes, StepsFrom}
+use Rattle.authenticator.specs.Taken.{given, frame_in, told_acts, Comes, StepsFrom}
 use Rattle.authenticator.specs.declared.attempt.Attempt.{Attempt}
 use Rattle.authenticator.specs.declared.attempt.Finish.{Finish}
 use Rattle.authenticator.specs.declared.session.Session.{Session}
 use Rattle.authenticator.proofs.Counting.{last_is}
-use Rattle.authenticator.proofs.Standing.{or_none, under_way, has_session}
-use Rattle.authenticator.proofs.Replying.{finish_took, nothing_sent}
+use Rattle.authenticator.proofs.Standing.{or_none, other_on, stands_on, under_way, has_session}
+use Rattle.authenticator.proofs.Replying.{put_by, finish_took, nothing_sent}
 use Rattle.authenticator.proofs.Refusing.{refused_as}
-use Rattle.authenticator.proofs.Verified.{same_mic}
+use Rattle.authenticator.proofs.Verified.{same_mic, unresponded_m4, further_none}
 use Rattle.authenticator.proofs.Agreeing.{next_is, some_sent}
 use Rattle.authenticator.proofs.Handshaking.{counts_newest, counts_fresh, fresh_none}
 use Rattle.authenticator.proofs.Asking.{g1_is, stands_asked}
@@ -71,9 +74,9 @@ m4-in d h p k part is = rw is refl
 
 abbrev keying_of : Domain → Node → Node → Option Agreed → Option Derivation
 keying_of d n p None = None
-keying_of d n p (Some y) = Some (key_by d (root d) n p y.key)
+keying_of d n p (Some y) = Some (key_by d (home d n) n p y.key)
 
-keying_by : (d : Domain) (n p : Node) (o : Option Agreed) (m3s : ℕ) (part h : List Act) → IsAgreed (pair d n p) o m3s part h → cond (is_some o) (derivation p part) None ≡ keying_of d n p o
+keying_by : (d : Domain) (n p : Node) (o : Option Agreed) (m3s : ℕ) (part h : List Act) → IsAgreed (own_pair d n p) o m3s part h → cond (is_some o) (derivation p part) None ≡ keying_of d n p o
 keying_by d n p None m3s part h at = refl
 keying_by d n p (Some y) m3s part h at = at.1
 
@@ -91,7 +94,7 @@ verdict_keyed d n p h k a y at is =
 counted_m4 : (d : Domain) (n p : Node) (h : List Act) (k : KeyMessage) (a : Attempt) (last : ℕ) → IsUnderWay d n p a h → IsUncounted a k.fields last → m4_verdict d h p k ≡ Refused (reason.Counter last)
 counted_m4 d n p h k a last at w =
     verdict_keyed d n p h k a w.y at w.some ∙ among-none (counters a.m1s a.m3s) k.fields.counter (verified d.akm w.y.key.ptk.kck k Accepted) w.offer
-    ∙ ap (λ (x : ℕ). Refused (reason.Counter x)) (last_is a.m1s a.m3s (some_sent (pair d n p) a.agreed w.y a.m3s at.part h w.some at.agreed).0 ∙ sym w.is)
+    ∙ ap (λ (x : ℕ). Refused (reason.Counter x)) (last_is a.m1s a.m3s (some_sent (own_pair d n p) a.agreed w.y a.m3s at.part h w.some at.agreed).0 ∙ sym w.is)
 
 forged_m4 : (d : Domain) (n p : Node) (h : List Act) (k : KeyMessage) (a : Attempt) (akm : Akm) → akm ≡ d.akm → IsUnderWay d n p a h → IsForgedM4 akm a (frame_in k) → m4_verdict d h p k ≡ Refused reason.Mic
 forged_m4 d n p h k a akm suite at w =
@@ -150,35 +153,64 @@ replaced_is p (Some x) false y is = absurd (cc is)
 
 -- ---- the history with the acts of M4, where that was the session
 
-abbrev after : Domain → Node → Node → List ℕ → KeyMessage → Keyed → Option Derivation → List Act → List Act
-after d n p octets k y o h = add (m4_acts octets k p (key_by d (root d) n p y) o) h
+-- as far as the key is installed
+abbrev installed_after : Domain → Node → Node → List ℕ → KeyMessage → Keyed → Option Derivation → List Act → List Act
+installed_after d n p octets k y o h = add (m4_acts octets k p (key_by d (home d n) n p y) o []) h
 
-begun_session : (d : Domain) (n p : Node) (octets : List ℕ) (k : KeyMessage) (o : Option Derivation) (s : Session) (g : GroupKey) (h part : List Act) → attempt p h ≡ Some part → by_connect part ≡ true → derivation p h ≡ Some (key_by d (root d) n p s.key)
-    → next_in_attempt p part ≡ suc s.last → IsLast g (group_keys groups.Gtk h) → IsFresh g.place s → IsHeld d n p s (after d n p octets k s.key o h)
-begun_session d n p octets k (Some old) s g h part is begun key counts last fresh =
-    let i = inputs_by d (root d) n p s.key in
-    let took = Took (Some p) octets (kind.Key M4) Accepted (Some (frame_seal s.key.ptk.kck k.octets)) in
+-- and with what is put with the key holder
+abbrev after : Domain → Node → Node → List ℕ → KeyMessage → Keyed → Option Derivation → List Act → List Act
+after d n p octets k y o h = add (m4_acts octets k p (key_by d (home d n) n p y) o (put_by d n h p y)) h
+
+put_then : (d : Domain) (n p : Node) (octets : List ℕ) (k : KeyMessage) (y : Keyed) (o : Option Derivation) (h : List Act) → add (put_by d n h p y) (installed_after d n p octets k y o h) ≡ after d n p octets k y o h
+put_then d n p octets k y None h = refl
+put_then d n p octets k y (Some old) h = refl
+
+-- what is put is not about the peer, nor about group keys
+apart_put : (akm : Akm) (d : Domain) (n : Node) (h : List Act) (p : Node) (x : Derivation) → AllByRecursion (IsApart p) (put_acts_by akm d n h p x)
+apart_put Psk d n h p x = tt
+apart_put PskSha256 d n h p x = tt
+apart_put FtPsk d n h p x = (record { opens_none = refl; ends_none = refl; accepts_none = λ k. refl; replies_none = λ k. refl; sends_none = λ m. refl; derives_none = refl; finishes_none = refl; closes_none = refl }, tt)
+
+keys_put : (akm : Akm) (d : Domain) (n : Node) (h : List Act) (p : Node) (x : Derivation) (past : List Act) → group_keys groups.Gtk (add (put_acts_by akm d n h p x) past) ≡ group_keys groups.Gtk past
+keys_put Psk d n h p x past = refl
+keys_put PskSha256 d n h p x past = refl
+keys_put FtPsk d n h p x past = refl
+
+uses_put : (akm : Akm) (d : Domain) (n : Node) (h : List Act) (p : Node) (x : Derivation) (past : List Act) → newest_uses groups.Gtk (add (put_acts_by akm d n h p x) past) ≡ newest_uses groups.Gtk past
+uses_put Psk d n h p x past = refl
+uses_put PskSha256 d n h p x past = refl
+uses_put FtPsk d n h p x past = refl
+
+begun_session : (d : Domain) (n p : Node) (octets : List ℕ) (k : KeyMessage) (o : Option Derivation) (y : Keyed) (s : Session) (g : GroupKey) (h part : List Act) → attempt p h ≡ Some part → by_connect part ≡ true → derivation p h ≡ Some (key_by d (home d n) n p y) → y.ptk ≡ s.ptk
+    → next_in_attempt p part ≡ suc s.last → IsLast g (group_keys groups.Gtk h) → IsFresh g.place s → IsHeld d n p s (installed_after d n p octets k y o h)
+begun_session d n p octets k (Some old) y s g h part is begun key same counts last fresh =
+    let i = inputs_by d (home d n) n p y in
+    let took = Took (Some p) octets (kind.Key M4) Accepted (Some (frame_seal y.ptk.kck k.octets)) in
     let closed = Closed p OfSession in
-    let installed = Installed (One p) (Pairwise s.key.ptk.tk i) in
+    let installed = Installed (One p) (Pairwise y.ptk.tk i) in
     let first = attempt_more p took h part refl refl is in
     let second = attempt_more p closed (took ∷ h) (took ∷ part) refl refl first in
     let third = attempt_more p installed (closed ∷ took ∷ h) (closed ∷ took ∷ part) refl refl second in
     record {
-      is = finished_key p i (installed ∷ closed ∷ took ∷ h) (key_by d (root d) n p s.key) key;
+      x = key_by d (home d n) n p y;
+      is = finished_key p i (installed ∷ closed ∷ took ∷ h) (key_by d (home d n) n p y) key;
+      key = same;
       counts = record {
         place = g.place;
         here = counts_fresh p i s g (installed ∷ closed ∷ took ∷ h) last fresh
             (finished_next p i (installed ∷ closed ∷ took ∷ h) (installed ∷ closed ∷ took ∷ part) third (by_connect_more took part (attempt_some p h part is) ∙ begun) ∙ counts);
       };
     }
-begun_session d n p octets k None s g h part is begun key counts last fresh =
-    let i = inputs_by d (root d) n p s.key in
-    let took = Took (Some p) octets (kind.Key M4) Accepted (Some (frame_seal s.key.ptk.kck k.octets)) in
-    let installed = Installed (One p) (Pairwise s.key.ptk.tk i) in
+begun_session d n p octets k None y s g h part is begun key same counts last fresh =
+    let i = inputs_by d (home d n) n p y in
+    let took = Took (Some p) octets (kind.Key M4) Accepted (Some (frame_seal y.ptk.kck k.octets)) in
+    let installed = Installed (One p) (Pairwise y.ptk.tk i) in
     let first = attempt_more p took h part refl refl is in
     let second = attempt_more p installed (took ∷ h) (took ∷ part) refl refl first in
     record {
-      is = finished_key p i (installed ∷ took ∷ h) (key_by d (root d) n p s.key) key;
+      x = key_by d (home d n) n p y;
+      is = finished_key p i (installed ∷ took ∷ h) (key_by d (home d n) n p y) key;
+      key = same;
       counts = record {
         place = g.place;
         here = counts_fresh p i s g (installed ∷ took ∷ h) last fresh
@@ -186,53 +218,83 @@ begun_session d n p octets k None s g h part is begun key counts last fresh =
       };
     }
 
+-- its key
+session_after : (d : Domain) (n p : Node) (octets : List ℕ) (k : KeyMessage) (o : Option Derivation) (y : Keyed) (h : List Act) → derivation p h ≡ Some (key_by d (home d n) n p y) → session p (installed_after d n p octets k y o h) ≡ Some (key_by d (home d n) n p y)
+session_after d n p octets k None y h key =
+    let i = inputs_by d (home d n) n p y in
+    finished_key p i (Installed (One p) (Pairwise y.ptk.tk i) ∷ Took (Some p) octets (kind.Key M4) Accepted (Some (frame_seal y.ptk.kck k.octets)) ∷ h) (key_by d (home d n) n p y) key
+session_after d n p octets k (Some old) y h key =
+    let i = inputs_by d (home d n) n p y in
+    finished_key p i (Installed (One p) (Pairwise y.ptk.tk i) ∷ Closed p OfSession ∷ Took (Some p) octets (kind.Key M4) Accepted (Some (frame_seal y.ptk.kck k.octets)) ∷ h) (key_by d (home d n) n p y) key
+
 -- the attempt is none any more
-left : (d : Domain) (n : Node) (sta : ℕ) (octets : List ℕ) (k : KeyMessage) (o : Option Derivation) (y : Keyed) (h : List Act) → attempt (Sta sta) (after d n (Sta sta) octets k y o h) ≡ None
+left : (d : Domain) (n : Node) (sta : ℕ) (octets : List ℕ) (k : KeyMessage) (o : Option Derivation) (y : Keyed) (h : List Act) → attempt (Sta sta) (installed_after d n (Sta sta) octets k y o h) ≡ None
 left d n sta octets k (Some old) y h =
     let p = Sta sta in
-    let i = inputs_by d (root d) n p y in
+    let i = inputs_by d (home d n) n p y in
     attempt_ends p (Finished p i) (Installed (One p) (Pairwise y.ptk.tk i) ∷ Closed p OfSession ∷ Took (Some p) octets (kind.Key M4) Accepted (Some (frame_seal y.ptk.kck k.octets)) ∷ h) refl (same-refl p)
 left d n sta octets k None y h =
     let p = Sta sta in
-    let i = inputs_by d (root d) n p y in
+    let i = inputs_by d (home d n) n p y in
     attempt_ends p (Finished p i) (Installed (One p) (Pairwise y.ptk.tk i) ∷ Took (Some p) octets (kind.Key M4) Accepted (Some (frame_seal y.ptk.kck k.octets)) ∷ h) refl (same-refl p)
 
 -- the newest group key stays, and the count of its uses
+keys_installed : (d : Domain) (n p : Node) (octets : List ℕ) (k : KeyMessage) (o : Option Derivation) (y : Keyed) (h : List Act) → group_keys groups.Gtk (installed_after d n p octets k y o h) ≡ group_keys groups.Gtk h
+keys_installed d n p octets k (Some old) y h = refl
+keys_installed d n p octets k None y h = refl
+
+uses_installed : (d : Domain) (n p : Node) (octets : List ℕ) (k : KeyMessage) (o : Option Derivation) (y : Keyed) (h : List Act) → newest_uses groups.Gtk (installed_after d n p octets k y o h) ≡ newest_uses groups.Gtk h
+uses_installed d n p octets k (Some old) y h = refl
+uses_installed d n p octets k None y h = refl
+
 after_keys : (d : Domain) (n p : Node) (octets : List ℕ) (k : KeyMessage) (o : Option Derivation) (y : Keyed) (h : List Act) → group_keys groups.Gtk (after d n p octets k y o h) ≡ group_keys groups.Gtk h
-after_keys d n p octets k (Some old) y h = refl
-after_keys d n p octets k None y h = refl
+after_keys d n p octets k o y h =
+    ap (group_keys groups.Gtk) (sym (put_then d n p octets k y o h)) ∙ keys_put d.akm d n h p (key_by d (home d n) n p y) (installed_after d n p octets k y o h) ∙ keys_installed d n p octets k o y h
 
 after_uses : (d : Domain) (n p : Node) (octets : List ℕ) (k : KeyMessage) (o : Option Derivation) (y : Keyed) (h : List Act) → newest_uses groups.Gtk (after d n p octets k y o h) ≡ newest_uses groups.Gtk h
-after_uses d n p octets k (Some old) y h = refl
-after_uses d n p octets k None y h = refl
+after_uses d n p octets k o y h =
+    ap (newest_uses groups.Gtk) (sym (put_then d n p octets k y o h)) ∙ uses_put d.akm d n h p (key_by d (home d n) n p y) (installed_after d n p octets k y o h) ∙ uses_installed d n p octets k o y h
+
+-- what the authenticator stands for there, it stands for behind what is put
+stands_put : (d : Domain) (n p : Node) (octets : List ℕ) (k : KeyMessage) (o : Option Derivation) (y : Keyed) (s : State) (h : List Act) → AuthenticatorStands d n p s (installed_after d n p octets k y o h) → AuthenticatorStands d n p s (after d n p octets k y o h)
+stands_put d n p octets k o y s h stands =
+    let past = installed_after d n p octets k y o h in
+    let put = put_by d n h p y in
+    subst (λ (g : List Act). AuthenticatorStands d n p s g) (put_then d n p octets k y o h) (stands_on d n p s past (add put past) (other_on p put past (apart_put d.akm d n h p (key_by d (home d n) n p y))) stands)
+
+session_put : (d : Domain) (n p : Node) (octets : List ℕ) (k : KeyMessage) (o : Option Derivation) (y : Keyed) (h : List Act) → session p (after d n p octets k y o h) ≡ session p (installed_after d n p octets k y o h)
+session_put d n p octets k o y h =
+    let past = installed_after d n p octets k y o h in
+    let put = put_by d n h p y in
+    ap (session p) (sym (put_then d n p octets k y o h)) ∙ (other_on p put past (apart_put d.akm d n h p (key_by d (home d n) n p y))).goes.has
 
 -- ---- accepted
 
 -- the group key that M3 carried is older as the code finds it
-older_is : (d : Domain) (n p : Node) (t : Attempt) (y : Agreed) (g : GroupKey) (part h : List Act) → IsAgreed (pair d n p) (Some y) t.m3s part h → IsLast g (group_keys groups.Gtk h) → carried_older p h (before_sent p (kind.Key M3) h) ≡ nat_lt y.group.place g.place
+older_is : (d : Domain) (n p : Node) (t : Attempt) (y : Agreed) (g : GroupKey) (part h : List Act) → IsAgreed (own_pair d n p) (Some y) t.m3s part h → IsLast g (group_keys groups.Gtk h) → carried_older p h (before_sent p (kind.Key M3) h) ≡ nat_lt y.group.place g.place
 older_is d n p t y g part h has last = ap (carried_older p h) has.2.is ∙ older y.group g has.2.past h has.2.key last
 
 -- what follows the acts of M4
 abbrev tail_acts : Domain → Node → Node → List ℕ → KeyMessage → Keyed → List Act → List Act
 tail_acts d n p octets k y h =
-    newer_acts d n p (after d n p octets k y (session p h) h) (key_by d (root d) n p y) (carried_older p h (before_sent p (kind.Key M3) h))
+    newer_acts d n p (after d n p octets k y (session p h) h) (key_by d (home d n) n p y) (carried_older p h (before_sent p (kind.Key M3) h))
 
 -- what M4 makes of the attempt and of the history
 record Ends (d : Domain) (a sta : ℕ) (octets : List ℕ) (k : KeyMessage) (s : State) (x : Finish) (t : Session) (r : Reply) (h : List Act) : Type 0 where
-  sends : sent_acts (Sta sta) r ≡ tail_acts d (Ap a) (Sta sta) octets k x.session.key h
-  stands : AuthenticatorStands d (Ap a) (Sta sta) (record s { attempt = None; session = Some t }) (add (sent_acts (Sta sta) r) (after d (Ap a) (Sta sta) octets k x.session.key (session (Sta sta) h) h))
+  sends : sent_acts (Sta sta) r ≡ tail_acts d (Ap a) (Sta sta) octets k x.key h
+  stands : AuthenticatorStands d (Ap a) (Sta sta) (record s { attempt = None; session = Some t }) (add (sent_acts (Sta sta) r) (after d (Ap a) (Sta sta) octets k x.key (session (Sta sta) h) h))
 
 -- no G1 follows
 ends_quiet : (d : Domain) (a sta : ℕ) (octets : List ℕ) (k : KeyMessage) (s : State) (x : Finish) (t : Session) (r : Reply) (h : List Act) → t ≡ x.session → r.len ≡ 0
     → carried_older (Sta sta) h (before_sent (Sta sta) (kind.Key M3) h) ≡ false
-    → AuthenticatorStands d (Ap a) (Sta sta) (record s { attempt = None; session = Some x.session }) (after d (Ap a) (Sta sta) octets k x.session.key (session (Sta sta) h) h)
+    → AuthenticatorStands d (Ap a) (Sta sta) (record s { attempt = None; session = Some x.session }) (after d (Ap a) (Sta sta) octets k x.key (session (Sta sta) h) h)
     → Ends d a sta octets k s x t r h
 ends_quiet d a sta octets k s x t r h same len older_no stands =
     let p = Sta sta in
     let none = nothing_sent p r len in
-    let past = after d (Ap a) p octets k x.session.key (session p h) h in
+    let past = after d (Ap a) p octets k x.key (session p h) h in
     record {
-      sends = none ∙ sym (ap (newer_acts d (Ap a) p past (key_by d (root d) (Ap a) p x.session.key)) older_no);
+      sends = none ∙ sym (ap (newer_acts d (Ap a) p past (key_by d (home d (Ap a)) (Ap a) p x.key)) older_no);
       stands = subst (λ (g : List Act). AuthenticatorStands d (Ap a) p (record s { attempt = None; session = Some t }) (add g past)) (sym none)
           (subst (λ (z : Session). AuthenticatorStands d (Ap a) p (record s { attempt = None; session = Some z }) past) (sym same) stands);
     }
@@ -241,85 +303,95 @@ ends_quiet d a sta octets k s x t r h same len older_no stands =
 ends_asked : (d : Domain) (a sta : ℕ) (octets : List ℕ) (k : KeyMessage) (s : State) (x : Finish) (t : Session) (g : GroupKey) (rsc : ℕ) (r : Reply) (h : List Act) → Asks s.ends g rsc x.session t r → sent_for g.place x.session ≡ 0
     → IsLast g (group_keys groups.Gtk h) → newest_uses groups.Gtk h ≡ rsc
     → carried_older (Sta sta) h (before_sent (Sta sta) (kind.Key M3) h) ≡ true
-    → IsHeld d (Ap a) (Sta sta) x.session (after d (Ap a) (Sta sta) octets k x.session.key (session (Sta sta) h) h)
-    → AuthenticatorStands d (Ap a) (Sta sta) (record s { attempt = None; session = Some x.session }) (after d (Ap a) (Sta sta) octets k x.session.key (session (Sta sta) h) h)
+    → session (Sta sta) (after d (Ap a) (Sta sta) octets k x.key (session (Sta sta) h) h) ≡ Some (key_by d (home d (Ap a)) (Ap a) (Sta sta) x.key) → x.key.ptk ≡ x.session.ptk
+    → Counts (Sta sta) x.session (after d (Ap a) (Sta sta) octets k x.key (session (Sta sta) h) h)
+    → AuthenticatorStands d (Ap a) (Sta sta) (record s { attempt = None; session = Some x.session }) (after d (Ap a) (Sta sta) octets k x.key (session (Sta sta) h) h)
     → Ends d a sta octets k s x t r h
-ends_asked d a sta octets k s x t g rsc r h w none_yet last uses older_yes at stands =
+ends_asked d a sta octets k s x t g rsc r h w none_yet last uses older_yes has same at stands =
     let n = Ap a in
     let p = Sta sta in
-    let y = x.session.key in
-    let i = key_by d (root d) n p y in
+    let y = x.key in
+    let i = key_by d (home d n) n p y in
     let past = after d n p octets k y (session p h) h in
-    let sends = w.sends d n p i stands.ends refl in
+    let sends = w.sends d n p i stands.ends (sym same) in
     let last_now : IsLast g (group_keys groups.Gtk past) = subst (λ (keys : List (List ℕ)). IsLast g keys) (sym (after_keys d n p octets k (session p h) y h)) last in
     let uses_now = after_uses d n p octets k (session p h) y h ∙ uses in
-    let counts = counts_newest p x.session g past last_now at.counts in
+    let counts = counts_newest p x.session g past last_now at in
     let few : sent_for g.place x.session < 4 = omega (arith, none_yet) in
     record {
       sends = sends ∙ ap (λ (e : Act). e ∷ []) (sym (g1_is d n p i g rsc x.session.last past last_now uses_now counts.next)) ∙ sym (ap (newer_acts d n p past i) older_yes);
       stands = subst (λ (acts : List Act). AuthenticatorStands d n p (record s { attempt = None; session = Some t }) (add acts past)) (sym sends)
-          (stands_asked d a p (record s { attempt = None; session = Some x.session }) x.session t g rsc r past stands at counts few w);
+          (stands_asked d a p (record s { attempt = None; session = Some x.session }) x.session t g rsc r i past stands has same counts few w);
     }
 
 ends_by : (d : Domain) (a sta : ℕ) (octets : List ℕ) (k : KeyMessage) (s : State) (x : Finish) (t : Session) (g : GroupKey) (rsc : ℕ) (r : Reply) (h : List Act) (b : Bool) → AsksWhere b s.ends g rsc x.session t r → IsFresh g.place x.session
     → IsLast g (group_keys groups.Gtk h) → newest_uses groups.Gtk h ≡ rsc
     → carried_older (Sta sta) h (before_sent (Sta sta) (kind.Key M3) h) ≡ b
-    → IsHeld d (Ap a) (Sta sta) x.session (after d (Ap a) (Sta sta) octets k x.session.key (session (Sta sta) h) h)
-    → AuthenticatorStands d (Ap a) (Sta sta) (record s { attempt = None; session = Some x.session }) (after d (Ap a) (Sta sta) octets k x.session.key (session (Sta sta) h) h)
+    → session (Sta sta) (after d (Ap a) (Sta sta) octets k x.key (session (Sta sta) h) h) ≡ Some (key_by d (home d (Ap a)) (Ap a) (Sta sta) x.key) → x.key.ptk ≡ x.session.ptk
+    → Counts (Sta sta) x.session (after d (Ap a) (Sta sta) octets k x.key (session (Sta sta) h) h)
+    → AuthenticatorStands d (Ap a) (Sta sta) (record s { attempt = None; session = Some x.session }) (after d (Ap a) (Sta sta) octets k x.key (session (Sta sta) h) h)
     → Ends d a sta octets k s x t r h
-ends_by d a sta octets k s x t g rsc r h false w fresh last uses older_no at stands = ends_quiet d a sta octets k s x t r h w.0 w.1 older_no stands
-ends_by d a sta octets k s x t g rsc r h true w fresh last uses older_yes at stands = ends_asked d a sta octets k s x t g rsc r h w (fresh_none x.session g.place fresh) last uses older_yes at stands
+ends_by d a sta octets k s x t g rsc r h false w fresh last uses older_no has same at stands = ends_quiet d a sta octets k s x t r h w.0 w.1 older_no stands
+ends_by d a sta octets k s x t g rsc r h true w fresh last uses older_yes has same at stands = ends_asked d a sta octets k s x t g rsc r h w (fresh_none x.session g.place fresh) last uses older_yes has same at stands
 
 -- the acts, as the row says them
-says_m4 : (took : Act) (closed other rest sends more : List Act) → closed ≡ other → sends ≡ more → took ∷ ((closed ++ rest) ++ sends) ≡ took ∷ ((other ++ rest) ++ more)
-says_m4 took closed other rest sends more closed_is sends_is = rw (closed_is, sends_is) refl
+says_m4 : (p : Node) (took i f : Act) (o : Option Derivation) (closed put sends more : List Act) → closed ≡ close_session p o → sends ≡ more → took ∷ ((closed ++ i ∷ f ∷ []) ++ (put ++ sends)) ≡ (took ∷ close_session p o ++ i ∷ f ∷ put) ++ more
+says_m4 p took i f None closed put sends more closed_is sends_is = rw (closed_is, sends_is) refl
+says_m4 p took i f (Some x) closed put sends more closed_is sends_is = rw (closed_is, sends_is) refl
 
 finished_m4 : (d : Domain) (first a sta : ℕ) (octets : List ℕ) (k : KeyMessage) (s : State) (t : Attempt) (x : Finish) (u : Session) (g : GroupKey) (rsc : ℕ) (r : Reply) (h : List Act) → Comes (here d first (Ap a)) (Sta sta) (given M4 (frame_in k) g rsc) octets k h
     → AuthenticatorStands d (Ap a) (Sta sta) s h → IsUnderWay d (Ap a) (Sta sta) t h → IsFinish s.ends.akm g t (frame_in k) x → IsInstalled s.ends g rsc x u r
-    → Steps (here d first (Ap a)) (Sta sta) octets (reply_acts (pair d (Ap a) (Sta sta)) (is_some s.session) (taken_as octets k Accepted) r) (record s { attempt = None; session = Some u }) h
+    → Steps (here d first (Ap a)) (Sta sta) octets (told_acts d (Ap a) (Sta sta) (is_some s.session) octets k Accepted r h) (record s { attempt = None; session = Some u }) h
 finished_m4 d first a sta octets k s t x u g rsc r h come stands at w told =
     let n = Ap a in
     let p = Sta sta in
     let from = come.from in
     let is = come.message in
     let had = is_some s.session in
-    let y = x.session.key in
-    let i = inputs_by d (root d) n p y in
+    let y = x.key in
+    let z = key_by d (home d n) n p y in
+    let i = inputs_by d (home d n) n p y in
     let seal = Some (frame_seal y.ptk.kck k.octets) in
-    let key = some_sent (pair d n p) t.agreed w.y t.m3s at.part h w.answered.some at.agreed in
-    let same : Some (key_by d (root d) n p w.y.key) ≡ Some (key_by d (root d) n p y) = ap (λ (z : Keyed). Some (key_by d (root d) n p z)) (sym w.key_is) in
+    let put = put_by d n h p y in
+    let key = some_sent (own_pair d n p) t.agreed w.y t.m3s at.part h w.answered.some at.agreed in
+    let same : Some (key_by d (home d n) n p w.y.key) ≡ Some z = ap (λ (v : Keyed). Some (key_by d (home d n) n p v)) (sym w.key_is) in
+    let held_by : y.ptk ≡ x.session.ptk = ap (λ (v : Keyed). v.ptk) w.key_is ∙ sym w.ptk_is in
     let accepted = from.verdict_is first h ∙ ap (λ (m : Message). key_verdict d (first + draws h) n h p k m) is ∙ accepted_m4 d n p h k t s.ends.akm g x stands.ends.akm at w in
-    let held_now = begun_session d n p octets k (session p h) x.session g h at.part at.is at.begun (derived_in p h at.part (key_by d (root d) n p y) at.is (key.1 ∙ same)) (next_is d n p t h at ∙ sym (ap suc w.last_is)) come.newest w.fresh in
+    let derived_is = derived_in p h at.part z at.is (key.1 ∙ same) in
+    let held_now = begun_session d n p octets k (session p h) y x.session g h at.part at.is at.begun derived_is held_by (next_is d n p t h at ∙ sym (ap suc w.last_is)) come.newest w.fresh in
     let past = after d n p octets k y (session p h) h in
-    let stands_now : AuthenticatorStands d n p (record s { attempt = None; session = Some x.session }) past = record { ends = stands.ends; psk = stands.psk; attempt_is = left d n sta octets k (session p h) y h; session_is = held_now } in
-    let end = ends_by d a sta octets k s x u g rsc r h x.is_older told.asks w.fresh come.newest come.uses (older_is d n p t w.y g at.part h key come.newest ∙ sym w.older) held_now stands_now in
+    let begun_now : AuthenticatorStands d n p (record s { attempt = None; session = Some x.session }) (installed_after d n p octets k y (session p h) h) =
+    record { ends = stands.ends; base = stands.base; attempt_is = left d n sta octets k (session p h) y h; session_is = held_now } in
+    let stands_now : AuthenticatorStands d n p (record s { attempt = None; session = Some x.session }) past = stands_put d n p octets k (session p h) y (record s { attempt = None; session = Some x.session }) h begun_now in
+    let has_now = session_put d n p octets k (session p h) y h ∙ session_after d n p octets k (session p h) y h derived_is in
+    let end = ends_by d a sta octets k s x u g rsc r h x.is_older told.asks w.fresh come.newest come.uses (older_is d n p t w.y g at.part h key come.newest ∙ sym w.older) has_now held_by stands_now.session_is.counts stands_now in
     let closed = replaced_is p (session p h) had y (has_session d n p s.session h stands.session_is) in
     let took = Took (Some p) octets (kind.Key M4) Accepted seal in
-    let rest = Installed (One p) (Pairwise y.ptk.tk i) ∷ Finished p i ∷ [] in
-    let acts = finish_took d n p had octets k M4 Accepted r y is told.verified told.derived told.installed told.gtk in
-    let so_far = acts ∙ says_m4 took (replaced_acts p had (Some y)) (close_session p (session p h)) rest (sent_acts p r) (sent_acts p r) closed refl in
+    let installed = Installed (One p) (Pairwise y.ptk.tk i) in
+    let acts = finish_took d n p had octets k M4 Accepted r y h is told.verified told.derived told.installed told.gtk in
+    let so_far = acts ∙ says_m4 p took installed (Finished p i) (session p h) (replaced_acts p had (Some y)) put (sent_acts p r) (sent_acts p r) closed refl in
     record {
       adds = record {
         r = KeyedReading k;
         reads = from.reads;
         facts = no_facts;
-        knows = λ far q other. subst (λ (m : Message). KnowsOf d.akm h q m k no_facts) (sym is) tt;
+        knows = λ far q other. subst (λ (m : Message). KnowsOf d.akm h q m k no_facts × KnowsResponse d.akm h q m no_facts) (sym is) (tt, unresponded_m4 d.akm h q no_facts);
         row = By_m4 (record {
           k = k;
           is = refl;
           message_is = is;
           p = p;
           from = from.from;
-          accepted = ap (λ (o : Outcome). and_then o (key_further d.akm k.message no_facts)) accepted ∙ ap (λ (m : Message). and_then Accepted (key_further d.akm m no_facts)) is;
+          accepted = further_none d first n p h k accepted from.from ∙ ap (λ (m : Message). and_then Accepted (key_further d n h p m no_facts)) is;
           part = at.part;
           awaited = at.is;
-          x = key_by d (root d) n p y;
+          x = z;
           keyed = keying_is d n p t h at ∙ ap (keying_of d n p) w.answered.some ∙ same;
-          says = acts ∙ says_m4 took (replaced_acts p had (Some y)) (close_session p (session p h)) rest (sent_acts p r) (tail_acts d n p octets k y h) closed end.sends;
+          says = acts ∙ says_m4 p took installed (Finished p i) (session p h) (replaced_acts p had (Some y)) put (sent_acts p r) (tail_acts d n p octets k y h) closed end.sends;
         });
       };
-      stands = subst (λ (z : List Act). AuthenticatorStands d n p (record s { attempt = None; session = Some u }) (add z h)) (sym so_far)
-          (subst (λ (z : List Act). AuthenticatorStands d n p (record s { attempt = None; session = Some u }) z) (sym (add_append (m4_acts octets k p (key_by d (root d) n p y) (session p h)) (sent_acts p r) h)) end.stands);
+      stands = subst (λ (e : List Act). AuthenticatorStands d n p (record s { attempt = None; session = Some u }) (add e h)) (sym so_far)
+          (subst (λ (e : List Act). AuthenticatorStands d n p (record s { attempt = None; session = Some u }) e) (sym (add_append (m4_acts octets k p z (session p h) put) (sent_acts p r) h)) end.stands);
     }
 
 -- what comes, by its own frame

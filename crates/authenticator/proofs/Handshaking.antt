@@ -27,7 +27,8 @@ use Rattle.group_key.specs.declared.keys.GroupKey.{GroupKey}
 use Rattle.group_key.specs.Holds.{IsLast, carried}
 use Rattle.group_key.proofs.Drawing.{place_is}
 use Rattle.authenticator.specs.Counters.{counters}
-use Rattle.authenticator.specs.Groups.{sent_for, is_answered_for, owes, owes_in, asked, replied_to}
+use Rattle.authenticator.specs.Groups.{sent_for, is_answered_for, owes, owes_in, transferred, asked, replied_to}
+use Rattle.key_hierarchy.specs.declared.inputs.Ptk.{Ptk}
 use Rattle.authenticator.specs.Judged.{IsFresh}
 use Rattle.authenticator.specs.Stands.{CountsAt, Counts, HasSession}
 use Rattle.authenticator.specs.declared.session.Session.{Session}
@@ -268,3 +269,20 @@ counts_fresh p i s g h last fresh next = record {
   few = omega (arith, fresh.no_g1);
   low = omega (arith, fresh.low);
 }
+
+-- ---- a fast transition begins it
+
+pub counts_transferred : (p : Node) (q : Ptk) (g : GroupKey) (h : List Act) → IsLast g (group_keys groups.Gtk h) → next_in_session p h ≡ 1 → handshake groups.Gtk p h ≡ [] → CountsAt p (transferred q) g.place h
+counts_transferred p q g h last next quiet =
+    let none : sent_for g.place (transferred q) ≡ 0 = cond_zero (0 == g.place) 0 refl in
+    record {
+      next = next;
+      newest = sym (place_is g (group_keys groups.Gtk h) last);
+      drawn = omega arith;
+      before = 0;
+      last = plus_none 0 (sent_for g.place (transferred q)) none;
+      offers = ap (offered p G1) quiet ∙ sym (ap (counters 0) none);
+      answered = ap (has_heard p (kind.Key G2)) quiet ∙ sym (cond_false (0 == g.place) false refl);
+      few = omega arith;
+      low = omega arith;
+    }

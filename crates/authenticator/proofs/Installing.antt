@@ -13,11 +13,11 @@ use Rattle.authenticator.specs.declared.attempt.Finish.{Finish}
 use Rattle.authenticator.specs.declared.session.Session.{Session}
 
 -- G1 leaves the key of the session
-key_stays : (b : Bool) (l : Ends) (g : GroupKey) (rsc : ℕ) (s t : Session) (r : Reply) → AsksWhere b l g rsc s t r → t.key ≡ s.key
-key_stays false l g rsc s t r at = ap (λ (z : Session). z.key) at.0
-key_stays true l g rsc s t r at = ap (λ (z : Session). z.key) at.now
+key_stays : (b : Bool) (l : Ends) (g : GroupKey) (rsc : ℕ) (s t : Session) (r : Reply) → AsksWhere b l g rsc s t r → t.ptk ≡ s.ptk
+key_stays false l g rsc s t r at = ap (λ (z : Session). z.ptk) at.0
+key_stays true l g rsc s t r at = ap (λ (z : Session). z.ptk) at.now
 
-pub installs_finished : (l : Ends) (g : GroupKey) (rsc : ℕ) (x : Finish) (t : Session) (r : Reply) (s : State) → IsInstalled l g rsc x t r → s.session ≡ Some t → Installs Accepted r s
-installs_finished l g rsc x t r s at is y installed =
-    let one : x.session.key ≡ y = cc (at.installed, installed) in
-    (refl, t, is, key_stays x.is_older l g rsc x.session t r at.asks ∙ one)
+pub installs_finished : (l : Ends) (g : GroupKey) (rsc : ℕ) (x : Finish) (t : Session) (r : Reply) (s : State) → x.session.ptk ≡ x.key.ptk → IsInstalled l g rsc x t r → s.session ≡ Some t → Installs Accepted r s
+installs_finished l g rsc x t r s same at is y installed =
+    let one : x.key ≡ y = cc (at.installed, installed) in
+    (refl, t, is, key_stays x.is_older l g rsc x.session t r at.asks ∙ same ∙ ap (λ (z : Keyed). z.ptk) one)

@@ -6,6 +6,7 @@ pub mod Handshaking
 pub mod Standing
 pub mod Replying
 pub mod Refusing
+pub mod RsneAlone
 pub mod Verified
 pub mod Agreeing
 pub mod Asking

@@ -1,5 +1,5 @@
 -- Messages that change nothing.
-use Rattle.std.proofs.Common.{◌+◌, ◌≡◌, ℕ, List, [], ◌∷◌, Option, Some, None, refl, sym, ap, subst, ◌∙◌}
+use Rattle.std.proofs.Common.{◌+◌, ◌≡◌, ℕ, List, [], ◌∷◌, ◌++◌, Option, Some, None, refl, sym, ap, subst, ◌∙◌}
 use Rattle.std.specs.Prelude.{is_some}
 use Rattle.domain_base.specs.declared.names.Node.{Node}
 use Rattle.domain_base.specs.declared.names.Node.TheVariants.{Ap, Sta}
@@ -23,10 +23,12 @@ use Rattle.group_key.specs.Holds.{IsLast}
 use Rattle.group_key.specs.declared.keys.GroupKey.{GroupKey}
 use Rattle.domain_rules.specs.Here.{here}
 use Rattle.domain_rules.specs.Reading.{KeyMessage, Keyed as KeyedReading}
-use Rattle.domain_rules.specs.Replies.{IsMessageFrom, reply_acts, pair, taken_as}
+use Rattle.domain_rules.specs.Replies.{IsMessageFrom}
 use Rattle.domain_rules.specs.AccessPointKeys.{m4_verdict}
 use Rattle.domain_rules.specs.Verdict.{key_verdict}
 use Rattle.domain_rules.specs.Rows.{By_refusal, refused_seal, response}
+use Rattle.domain_rules.specs.TransitionRows.{refused_look}
+use Rattle.key_hierarchy.specs.declared.fast_transition.PmkR1.{PmkR1}
 use Rattle.domain_rules.specs.Closing.{sender}
 use Rattle.domain_rules.proofs.Parts.{apart-refused}
 use Rattle.domain_rules.proofs.Refused.{IsRefused, refused_first}
@@ -34,27 +36,27 @@ use Rattle.domain_rules.proofs.Verdicts.{unawaited-m2}
 use Rattle.authenticator.specs.State.{State}
 use Rattle.authenticator.specs.Stands.{AuthenticatorStands}
 use Rattle.authenticator.specs.Steps.{Steps}
-use Rattle.authenticator.specs.Taken.{Given, given, frame_in, StepsFrom}
+use Rattle.authenticator.specs.Taken.{Given, given, frame_in, told_acts, StepsFrom}
 use Rattle.authenticator.specs.Judged.{Frame}
 use Rattle.authenticator.proofs.Standing.{stands_more, no_attempt}
 use Rattle.authenticator.proofs.Replying.{only_took}
 
 -- ---- refused, whatever was sealed
 
--- no message is answered with a response
-no_response : (d : Domain) (a : ℕ) (p : Node) (m : Message) (why : Reason) → response d (Ap a) (Some p) (kind.Key m) why ≡ []
-no_response d a p m why = refl
+-- no message is answered with a response, and no key holder is asked
+no_response : (d : Domain) (a : ℕ) (p : Node) (k : KeyMessage) (pulled : Option PmkR1) (why : Reason) → refused_look (Ap a) (Some p) (KeyedReading k) pulled why ++ response d (Ap a) (Some p) (kind.Key k.message) why ≡ []
+no_response d a p k pulled why = refl
 
-silent : (d : Domain) (a : ℕ) (p : Node) (from : Option Node) (m : Message) (why : Reason) → from ≡ Some p → response d (Ap a) from (kind.Key m) why ≡ []
-silent d a p from m why is = ap (λ (o : Option Node). response d (Ap a) o (kind.Key m) why) is ∙ no_response d a p m why
+silent : (d : Domain) (a : ℕ) (p : Node) (from : Option Node) (k : KeyMessage) (pulled : Option PmkR1) (why : Reason) → from ≡ Some p → refused_look (Ap a) from (KeyedReading k) pulled why ++ response d (Ap a) from (kind.Key k.message) why ≡ []
+silent d a p from k pulled why is = ap (λ (o : Option Node). refused_look (Ap a) o (KeyedReading k) pulled why ++ response d (Ap a) o (kind.Key k.message) why) is ∙ no_response d a p k pulled why
 
 says_refused : (p : Node) (octets : List ℕ) (m : Kind) (why : Reason) (s other : Option Seal) (from : Option Node) (answer : List Act) → from ≡ Some p → s ≡ other → answer ≡ []
     → Took (Some p) octets m (Refused why) s ∷ [] ≡ Took from octets m (Refused why) other ∷ answer
 says_refused p octets m why s other from answer from_is seal_is answer_is = cc
 
 pub steps_refused : (d : Domain) (first a : ℕ) (p : Node) (octets : List ℕ) (k : KeyMessage) (s : State) (why : Reason) (seal : Option Seal) (r : Reply) (h : List Act) → IsMessageFrom d (Ap a) p octets k → AuthenticatorStands d (Ap a) p s h
-    → reply_acts (pair d (Ap a) p) (is_some s.session) (taken_as octets k (Refused why)) r ≡ Took (Some p) octets (kind.Key k.message) (Refused why) seal ∷ []
-    → IsRefused d first (Ap a) h (KeyedReading k) why seal → Steps (here d first (Ap a)) p octets (reply_acts (pair d (Ap a) p) (is_some s.session) (taken_as octets k (Refused why)) r) s h
+    → told_acts d (Ap a) p (is_some s.session) octets k (Refused why) r h ≡ Took (Some p) octets (kind.Key k.message) (Refused why) seal ∷ []
+    → IsRefused d first (Ap a) h (KeyedReading k) why seal → Steps (here d first (Ap a)) p octets (told_acts d (Ap a) p (is_some s.session) octets k (Refused why) r h) s h
 steps_refused d first a p octets k s why seal r h w stands acts refused = record {
   adds = record {
     r = KeyedReading k;
@@ -65,8 +67,9 @@ steps_refused d first a p octets k s why seal r h w stands acts refused = record
       why = why;
       refused = refused.refused;
       says = acts
-          ∙ says_refused p octets (kind.Key k.message) why seal (refused_seal d first (Ap a) h (KeyedReading k)) (sender d (Ap a) (KeyedReading k)) (response d (Ap a) (sender d (Ap a) (KeyedReading k)) (kind.Key k.message) why) w.from refused.seal_is
-          (silent d a p (sender d (Ap a) (KeyedReading k)) k.message why w.from);
+          ∙ says_refused p octets (kind.Key k.message) why seal (refused_seal d first (Ap a) h (KeyedReading k)) (sender d (Ap a) (KeyedReading k))
+          (refused_look (Ap a) (sender d (Ap a) (KeyedReading k)) (KeyedReading k) refused.facts.pulled why ++ response d (Ap a) (sender d (Ap a) (KeyedReading k)) (kind.Key k.message) why) w.from refused.seal_is
+          (silent d a p (sender d (Ap a) (KeyedReading k)) k refused.facts.pulled why w.from);
     });
   };
   stands = subst (λ (g : List Act). AuthenticatorStands d (Ap a) p s (add g h)) (sym acts)
@@ -76,9 +79,9 @@ steps_refused d first a p octets k s why seal r h w stands acts refused = record
 -- ---- refused by the frame and the history alone
 
 pub steps_quiet : (d : Domain) (first a : ℕ) (p : Node) (octets : List ℕ) (k : KeyMessage) (s : State) (why : Reason) (r : Reply) (h : List Act) → IsMessageFrom d (Ap a) p octets k → AuthenticatorStands d (Ap a) p s h → IsEmpty r
-    → key_verdict d (first + draws h) (Ap a) h p k k.message ≡ Refused why → Steps (here d first (Ap a)) p octets (reply_acts (pair d (Ap a) p) (is_some s.session) (taken_as octets k (Refused why)) r) s h
+    → key_verdict d (first + draws h) (Ap a) h p k k.message ≡ Refused why → Steps (here d first (Ap a)) p octets (told_acts d (Ap a) p (is_some s.session) octets k (Refused why) r h) s h
 steps_quiet d first a p octets k s why r h w stands e refused =
-    steps_refused d first a p octets k s why None r h w stands (only_took d (Ap a) p (is_some s.session) octets k (Refused why) r None e.len e.verified e.derived e.installed e.gtk)
+    steps_refused d first a p octets k s why None r h w stands (only_took d (Ap a) p (is_some s.session) octets k (Refused why) r None h e.len e.verified e.derived e.installed e.gtk)
     (refused_first d first (Ap a) h (KeyedReading k) why (w.verdict_is first h ∙ refused))
 
 -- a message of that name and frame is refused by that newest group key, whatever it came as

@@ -1,8 +1,7 @@
 -- What an attempt sends once more, and that it is given up.
-use Rattle.std.proofs.Common.{◌≡◌, ◌≢◌, ◌<◌, ◌≤◌, ◌+◌, ℕ, suc, Bool, true, false, List, [], ◌∷◌, Option, Some, None, refl, sym, ap, subst, ◌∙◌, arith, inl, inr}
+use Rattle.std.proofs.Common.{◌≡◌, ◌<◌, ◌≤◌, ◌+◌, ℕ, suc, Bool, true, false, List, [], ◌∷◌, Option, Some, None, refl, sym, ap, subst, ◌∙◌, arith, inl, inr}
 use Rattle.std.specs.Prelude.{is_some, unwrap_or, if◌then◌else◌}
 use Rattle.std.proofs.lemmas.Bool.{lt-ltb, le-ltb}
-use Rattle.domain_base.specs.declared.names.Akm.TheVariants.{FtPsk}
 use Rattle.domain_base.specs.declared.names.Node.{Node}
 use Rattle.domain_base.specs.declared.names.Node.TheVariants.{Ap, Sta}
 use Rattle.domain_base.specs.declared.names.Peer.TheVariants.{One}
@@ -25,7 +24,7 @@ use Rattle.group_key.specs.declared.keys.GroupKey.{GroupKey}
 use Rattle.group_key.specs.Holds.{carried}
 use Rattle.group_key.proofs.Drawing.{last_newest}
 use Rattle.domain_rules.specs.Frames.{frame_seal, in_data, m3_frame, sent_m1, sent_m3}
-use Rattle.domain_rules.specs.Network.{root}
+use Rattle.authenticator.specs.Bases.{home, own_pair}
 use Rattle.domain_rules.specs.Replies.{pair, key_by}
 use Rattle.domain_rules.specs.Asking.{own, by_connect, has_heard, replay_counter}
 use Rattle.domain_rules.specs.Counters.{sent_count, next_in_attempt}
@@ -72,14 +71,14 @@ retry_m1 d n p h a at none =
     says : {next counter : ℕ} {v w : List ℕ} → next ≡ counter → v ≡ w → again_or_give_up p M1 (sent_count p M1 at.part) (sent_m1 d n p next v) ≡ again_or_give_up p M1 (sent_count p M1 at.part) (sent_m1 d n p counter w)
     says e f = rw (e, f) refl
 
-retry_m3 : (d : Domain) (n p : Node) (h : List Act) (a : Attempt) (y : Agreed) (at : IsUnderWay d n p a h) → a.agreed ≡ Some y → IsAgreed (pair d n p) (Some y) a.m3s at.part h
-    → retry_acts d n h p (attempt p h) ≡ again_or_give_up p M3 (sent_count p M3 at.part) (sent_m3 d n p (key_by d (root d) n p y.key) (suc (a.m1s + a.m3s)) (carried y.group) y.rsc)
+retry_m3 : (d : Domain) (n p : Node) (h : List Act) (a : Attempt) (y : Agreed) (at : IsUnderWay d n p a h) → a.agreed ≡ Some y → IsAgreed (own_pair d n p) (Some y) a.m3s at.part h
+    → retry_acts d n h p (attempt p h) ≡ again_or_give_up p M3 (sent_count p M3 at.part) (sent_m3 d n p (key_by d (home d n) n p y.key) (suc (a.m1s + a.m3s)) (carried y.group) y.rsc)
 retry_m3 d n p h a y at is has =
     retry_in d n p h at.part true at.is at.begun (at.answered ∙ ap (λ (o : Option Agreed). is_some o) is)
     ∙ says at.part (sent_count p M3 at.part) (derivation p at.part) (before_sent p (kind.Key M3) h) has.2.past has.1 has.2.is (next_of d n p a h at) (last_newest y.group has.2.past has.2.key) has.2.uses
   where
-    says : (part : List Act) (sends : ℕ) (o : Option Derivation) (b : Option (List Act)) (past : List Act) → o ≡ Some (key_by d (root d) n p y.key) → b ≡ Some past → next_in_attempt p (chain p h) ≡ suc (a.m1s + a.m3s) → newest groups.Gtk past ≡ carried y.group → newest_uses groups.Gtk past ≡ y.rsc
-        → again_or_give_up p M3 sends (m3_again d n h p part o b) ≡ again_or_give_up p M3 sends (sent_m3 d n p (key_by d (root d) n p y.key) (suc (a.m1s + a.m3s)) (carried y.group) y.rsc)
+    says : (part : List Act) (sends : ℕ) (o : Option Derivation) (b : Option (List Act)) (past : List Act) → o ≡ Some (key_by d (home d n) n p y.key) → b ≡ Some past → next_in_attempt p (chain p h) ≡ suc (a.m1s + a.m3s) → newest groups.Gtk past ≡ carried y.group → newest_uses groups.Gtk past ≡ y.rsc
+        → again_or_give_up p M3 sends (m3_again d n h p part o b) ≡ again_or_give_up p M3 sends (sent_m3 d n p (key_by d (home d n) n p y.key) (suc (a.m1s + a.m3s)) (carried y.group) y.rsc)
     says part sends o b past derives first next key uses = rw (derives, first, next, key, uses) refl
 
 -- ---- how the attempt goes on
@@ -87,7 +86,7 @@ retry_m3 d n p h a y at is has =
 sent_one : (d : Domain) (n p : Node) (h : List Act) (a : Attempt) (octets : List ℕ) → IsUnderWay d n p a h → a.agreed ≡ None → replay_counter octets ≡ suc (a.m1s + a.m3s)
     → IsUnderWay d n p (counted (suc a.m1s) a.m3s a) (Sent (One p) (kind.Key M1) octets None ∷ h)
 sent_one d n p h a octets at none counter =
-    let w = none_sent (pair d n p) a.agreed a.m3s at.part h none at.agreed in
+    let w = none_sent (own_pair d n p) a.agreed a.m3s at.part h none at.agreed in
     let m1 = Sent (One p) (kind.Key M1) octets None in
     record {
       part = m1 ∷ at.part;
@@ -97,7 +96,7 @@ sent_one d n p h a octets at none counter =
       m1_offers = rw (same-refl p) (cons_is (counter ∙ low w.0) at.m1_offers);
       m3_offers = rw (same-refl p) (at.m3_offers ∙ none_of w.0);
       answered = at.answered;
-      agreed = agreed_on (pair d n p) a.agreed a.m3s at.part (m1 ∷ at.part) h (m1 ∷ h) refl (rw (same-refl p, w.1) refl) at.agreed;
+      agreed = agreed_on (own_pair d n p) a.agreed a.m3s at.part (m1 ∷ at.part) h (m1 ∷ h) refl (rw (same-refl p, w.1) refl) at.agreed;
       request = at.request;
       heard_last = at.heard_last;
       rsne = at.rsne;
@@ -112,7 +111,7 @@ sent_one d n p h a octets at none counter =
 first_again : (p : Node) (h past : List Act) (octets : List ℕ) (s : Option Seal) → before_sent p (kind.Key M3) h ≡ Some past → before_sent p (kind.Key M3) (Sent (One p) (kind.Key M3) octets s ∷ h) ≡ Some past
 first_again p h past octets s is = rw is refl
 
-sent_three : (d : Domain) (n p : Node) (h : List Act) (a : Attempt) (y : Agreed) (octets : List ℕ) (s : Option Seal) (at : IsUnderWay d n p a h) → a.agreed ≡ Some y → IsAgreed (pair d n p) (Some y) a.m3s at.part h → replay_counter octets ≡ suc (a.m1s + a.m3s)
+sent_three : (d : Domain) (n p : Node) (h : List Act) (a : Attempt) (y : Agreed) (octets : List ℕ) (s : Option Seal) (at : IsUnderWay d n p a h) → a.agreed ≡ Some y → IsAgreed (own_pair d n p) (Some y) a.m3s at.part h → replay_counter octets ≡ suc (a.m1s + a.m3s)
     → IsUnderWay d n p (counted a.m1s (suc a.m3s) a) (Sent (One p) (kind.Key M3) octets s ∷ h)
 sent_three d n p h a y octets s at is has counter =
     let m3 = Sent (One p) (kind.Key M3) octets s in
@@ -124,8 +123,8 @@ sent_three d n p h a y octets s at is has counter =
       m1_offers = rw (same-refl p) at.m1_offers;
       m3_offers = rw (same-refl p) (cons_is counter at.m3_offers);
       answered = at.answered;
-      agreed = subst (λ (o : Option Agreed). IsAgreed (pair d n p) o (suc a.m3s) (m3 ∷ at.part) (m3 ∷ h)) (sym is)
-          (omega arith, has.1, record { past = has.2.past; is = first_again p h has.2.past octets s has.2.is; key = has.2.key; uses = has.2.uses });
+      agreed = subst (λ (o : Option Agreed). IsAgreed (own_pair d n p) o (suc a.m3s) (m3 ∷ at.part) (m3 ∷ h)) (sym is)
+          (omega arith, has.1, record { past = has.2.past; is = first_again p h has.2.past octets s has.2.is; key = has.2.key; uses = has.2.uses }, has.3);
       request = at.request;
       heard_last = at.heard_last;
       rsne = at.rsne;
@@ -156,7 +155,7 @@ retries_m1 d a p s t b r h stands on w =
       adds = retry_m1 d n p h t on.trial w.none ∙ again_few p M1 (sent_count p M1 on.trial.part) t.m1s m1 (count_is p M1 on.trial.part 0 t.m1s on.trial.m1_offers) w.few ∙ sym sends;
       stands = record {
         ends = on.ends;
-        psk = on.psk_is;
+        base = on.base;
         attempt_is = subst (λ (g : List Act). IsUnderWay d n p b (add g h)) (sym sends) (subst (λ (x : Attempt). IsUnderWay d n p x (m1 ∷ h)) (sym w.now) goes);
         session_is = subst (λ (g : List Act). HasSession d n p s.session (add g h)) (sym sends) (session_on d n p s.session h (m1 ∷ h) refl (counts_m1 p octets None h) stands.session_is);
       };
@@ -166,12 +165,12 @@ retries_m3 : (d : Domain) (a : ℕ) (p : Node) (s : State) (t b : Attempt) (r : 
 retries_m3 d a p s t b r h stands on w =
     let n = Ap a in
     let y = w.y in
-    let x = key_by d (root d) n p y.key in
+    let x = key_by d (home d n) n p y.key in
     let counter = suc (t.m1s + t.m3s) in
-    let sends = w.sends d n p x on.ends refl refl in
-    let frame = m3_frame d x counter (carried y.group) y.rsc in
+    let has = some_sent (own_pair d n p) t.agreed y t.m3s on.trial.part h w.some on.trial.agreed in
+    let sends = w.sends d n p x on.ends refl refl has.3 in
+    let frame = m3_frame d n x counter (carried y.group) y.rsc in
     let m3 = sent_m3 d n p x counter (carried y.group) y.rsc in
-    let has = some_sent (pair d n p) t.agreed y t.m3s on.trial.part h w.some on.trial.agreed in
     let goes = sent_three d n p h t y (in_data d n p frame) (Some (frame_seal x.ptk.kck frame)) on.trial w.some has
     (m3_counter d n p x counter y.group y.rsc (own_address d n p s.ends on.ends w.next.own) (peer_address d n p s.ends on.ends w.next.peer) w.next.low) in
     record {
@@ -179,7 +178,7 @@ retries_m3 d a p s t b r h stands on w =
           ∙ again_few p M3 (sent_count p M3 on.trial.part) t.m3s m3 (count_is p M3 on.trial.part t.m1s t.m3s on.trial.m3_offers) w.few ∙ sym sends;
       stands = record {
         ends = on.ends;
-        psk = on.psk_is;
+        base = on.base;
         attempt_is = subst (λ (g : List Act). IsUnderWay d n p b (add g h)) (sym sends) (subst (λ (z : Attempt). IsUnderWay d n p z (m3 ∷ h)) (sym w.now) goes);
         session_is = subst (λ (g : List Act). HasSession d n p s.session (add g h)) (sym sends)
             (session_on d n p s.session h (m3 ∷ h) refl (counts_m3 p (in_data d n p frame) (Some (frame_seal x.ptk.kck frame)) h) stands.session_is);
@@ -190,8 +189,8 @@ retries_by : (d : Domain) (a : ℕ) (p : Node) (s : State) (t b : Attempt) (r : 
 retries_by d a p s t b r h stands on (inl w) = retries_m1 d a p s t b r h stands on w
 retries_by d a p s t b r h stands on (inr w) = retries_m3 d a p s t b r h stands on w
 
-pub retries_sent : (s : State) (t b : Attempt) (g : GroupKey) (rsc : ℕ) (r : Reply) → s.attempt ≡ Some t → s.ends.akm ≢ FtPsk → IsAgain s.ends t b r → RetriesFrom s (record s { attempt = Some b }) g rsc again.Sent r
-retries_sent s t b g rsc r is suite by = λ d a sta h stands w. retries_by d a (Sta sta) s t b r h stands (on_by d a (Sta sta) s t h is suite stands) by
+pub retries_sent : (s : State) (t b : Attempt) (g : GroupKey) (rsc : ℕ) (r : Reply) → s.attempt ≡ Some t → IsAgain s.ends t b r → RetriesFrom s (record s { attempt = Some b }) g rsc again.Sent r
+retries_sent s t b g rsc r is by = λ d a sta h stands w. retries_by d a (Sta sta) s t b r h stands (on_by d a (Sta sta) s t h is stands) by
 
 -- ---- given up
 
@@ -203,8 +202,8 @@ given_acts : (d : Domain) (n p : Node) (h : List Act) (t : Attempt) (m : Message
 given_acts d n p h t M1 at w = retry_m1 d n p h t at w.0 ∙ again_many p M1 (sent_count p M1 at.part) t.m1s (sent_m1 d n p (suc (t.m1s + t.m3s)) t.anonce) (count_is p M1 at.part 0 t.m1s at.m1_offers) w.1
 given_acts d n p h t M3 at w =
     let y = agreed_some t.agreed w.0 in
-    retry_m3 d n p h t y.0 at y.1 (some_sent (pair d n p) t.agreed y.0 t.m3s at.part h y.1 at.agreed)
-    ∙ again_many p M3 (sent_count p M3 at.part) t.m3s (sent_m3 d n p (key_by d (root d) n p y.0.key) (suc (t.m1s + t.m3s)) (carried y.0.group) y.0.rsc) (count_is p M3 at.part t.m1s t.m3s at.m3_offers) w.1
+    retry_m3 d n p h t y.0 at y.1 (some_sent (own_pair d n p) t.agreed y.0 t.m3s at.part h y.1 at.agreed)
+    ∙ again_many p M3 (sent_count p M3 at.part) t.m3s (sent_m3 d n p (key_by d (home d n) n p y.0.key) (suc (t.m1s + t.m3s)) (carried y.0.group) y.0.rsc) (count_is p M3 at.part t.m1s t.m3s at.m3_offers) w.1
 given_acts d n p h t m at w = absurd w
 
 given_none : (sta : ℕ) (m : Message) (h : List Act) → attempt (Sta sta) (Closed (Sta sta) OfAttempt ∷ GaveUp (Sta sta) m ∷ h) ≡ None
@@ -219,16 +218,16 @@ given_part t m w = absurd w
 counts_given : (p : Node) (m : Message) (h : List Act) (s : Session) → Counts p s h → Counts p s (Closed p OfAttempt ∷ GaveUp p m ∷ h)
 counts_given p m h s at = counts_on p s (Closed p OfAttempt) (GaveUp p m ∷ h) refl refl refl refl (counts_on p s (GaveUp p m) h refl refl refl refl at)
 
-pub retries_given_up : (s : State) (t : Attempt) (m : Message) (g : GroupKey) (rsc : ℕ) (r : Reply) → s.attempt ≡ Some t → s.ends.akm ≢ FtPsk → IsInVain t m → RetriesFrom s (record s { attempt = None }) g rsc (again.GaveUp m) r
-retries_given_up s t m g rsc r is suite by = λ d a sta h stands w.
+pub retries_given_up : (s : State) (t : Attempt) (m : Message) (g : GroupKey) (rsc : ℕ) (r : Reply) → s.attempt ≡ Some t → IsInVain t m → RetriesFrom s (record s { attempt = None }) g rsc (again.GaveUp m) r
+retries_given_up s t m g rsc r is by = λ d a sta h stands w.
     (let p = Sta sta in
-    let on = on_by d a p s t h is suite stands in
+    let on = on_by d a p s t h is stands in
     subst (λ (q : Part). Retries (pair d (Ap a) p) (GaveUp p m ∷ Closed p q ∷ []) (record s { attempt = None }) h) (sym (given_part t m by))
     (record {
       adds = given_acts d (Ap a) p h t m on.trial by;
       stands = record {
         ends = on.ends;
-        psk = on.psk_is;
+        base = on.base;
         attempt_is = given_none sta m h;
         session_is = session_on d (Ap a) p s.session h (Closed p OfAttempt ∷ GaveUp p m ∷ h) refl (counts_given p m h) stands.session_is;
       };

@@ -9,7 +9,8 @@ use Rattle.run_journal.specs.declared.acts.Kind.TheVariants as kind
 use Rattle.run_journal.specs.declared.acts.Act.{Act}
 use Rattle.run_journal.specs.Questions.{or_else, attempt, derivation, session, before_sent, add}
 use Rattle.domain_rules.specs.Asking.{replay_counter}
-use Rattle.domain_rules.specs.Replies.{Pair, pair}
+use Rattle.domain_rules.specs.Replies.{Pair}
+use Rattle.authenticator.specs.Bases.{own_pair}
 use Rattle.domain_rules.proofs.Parts.{IsApart, GoesOn, goes_on}
 use Rattle.authenticator.specs.Agreed.{Agreed}
 use Rattle.authenticator.specs.State.{State}
@@ -55,6 +56,7 @@ agreed_on w (Some y) m3s part more old new derives first at = (
   at.0,
   derives ∙ at.1,
   record { past = at.2.past; is = first ∙ at.2.is; key = at.2.key; uses = at.2.uses },
+  at.3,
 )
 
 under_way_on : (d : Domain) (n p : Node) (a : Attempt) (old new : List Act) → IsOther p old new → IsUnderWay d n p a old → IsUnderWay d n p a new
@@ -68,7 +70,7 @@ under_way_on d n p a old new other at =
       m1_offers = ap (map replay_counter) (c.sends M1) ∙ at.m1_offers;
       m3_offers = ap (map replay_counter) (c.sends M3) ∙ at.m3_offers;
       answered = ap (λ (o : Option (List ℕ)). is_some o) (c.hears (kind.Key M2)) ∙ at.answered;
-      agreed = agreed_on (pair d n p) a.agreed a.m3s at.part c.more old new c.derives other.first at.agreed;
+      agreed = agreed_on (own_pair d n p) a.agreed a.m3s at.part c.more old new c.derives other.first at.agreed;
       request = at.request;
       heard_last = other.goes.hears kind.AssocReq ∙ at.heard_last;
       rsne = at.rsne;
@@ -81,12 +83,12 @@ attempt_on d n p (Some a) old new other at = under_way_on d n p a old new other 
 -- a session stays where its key and its counters do
 pub session_on : (d : Domain) (n p : Node) (o : Option Session) (old new : List Act) → session p new ≡ session p old → ((s : Session) → Counts p s old → Counts p s new) → HasSession d n p o old → HasSession d n p o new
 session_on d n p None old new has counts at = has ∙ at
-session_on d n p (Some s) old new has counts at = record { is = has ∙ at.is; counts = counts s at.counts }
+session_on d n p (Some s) old new has counts at = record { x = at.x; is = has ∙ at.is; key = at.key; counts = counts s at.counts }
 
 pub stands_on : (d : Domain) (n p : Node) (s : State) (old new : List Act) → IsOther p old new → AuthenticatorStands d n p s old → AuthenticatorStands d n p s new
 stands_on d n p s old new other at = record {
   ends = at.ends;
-  psk = at.psk;
+  base = at.base;
   attempt_is = attempt_on d n p s.attempt old new other at.attempt_is;
   session_is = session_on d n p s.session old new other.goes.has other.counts at.session_is;
 }

@@ -10,7 +10,7 @@ use Rattle.eapol_key.specs.KeyFrame.{KeyFields}
 use Rattle.run_journal.specs.declared.domain.Domain.{Domain}
 use Rattle.run_journal.specs.declared.acts.Reason.{Reason}
 use Rattle.run_journal.specs.declared.acts.Reason.TheVariants as reason
-use Rattle.run_journal.specs.declared.reply.Keyed.{Keyed}
+use Rattle.key_hierarchy.specs.declared.inputs.Ptk.{Ptk}
 use Rattle.run_journal.specs.declared.reply.Reply.{Reply}
 use Rattle.run_journal.specs.Acts.{Derivation}
 use Rattle.domain_rules.specs.Frames.{sent_g1}
@@ -42,12 +42,16 @@ abbrev pub owes_in : ℕ → Option Session → Bool
 owes_in place None = false
 owes_in place (Some s) = owes place s
 
--- ---- how the session goes on
+-- ---- how the session begins and goes on
+
+-- as a fast transition installs it: nothing was sent in it
+abbrev pub transferred : Ptk → Session
+transferred ptk = record { ptk = ptk; last = 0; place = 0; g1s = 0; is_answered = false }
 
 -- one more G1 was sent for it
 abbrev pub asked : ℕ → Session → Session
 asked place s = record {
-  key = s.key;
+  ptk = s.ptk;
   last = suc s.last;
   place = place;
   g1s = suc (sent_for place s);
@@ -61,15 +65,15 @@ replied_to s = record s { is_answered = true }
 -- ---- G1
 
 -- the reply sends G1 between the ends, under that key
-abbrev pub SendsG1 : Ends → Keyed → ℕ → GroupKey → ℕ → Reply → Type 0
+abbrev pub SendsG1 : Ends → Ptk → ℕ → GroupKey → ℕ → Reply → Type 0
 SendsG1 l y counter g rsc r =
-    (d : Domain) (n p : Node) (x : Derivation) → AreEnds d n p l → y.ptk ≡ x.ptk
+    (d : Domain) (n p : Node) (x : Derivation) → AreEnds d n p l → y ≡ x.ptk
     → sent_acts p r ≡ sent_g1 d n p x counter (carried g) rsc ∷ []
 
 -- it sends one with the next replay counter, and the session is t then
 pub record Asks (l : Ends) (g : GroupKey) (rsc : ℕ) (s t : Session) (r : Reply) : Type 0 where
   pub low : suc s.last < 2 ^ 64
-  pub sends : SendsG1 l s.key (suc s.last) g rsc r
+  pub sends : SendsG1 l s.ptk (suc s.last) g rsc r
   pub own : IsAddress l.own.0
   pub peer : IsAddress l.peer.0
   pub now : t ≡ asked g.place s
@@ -88,11 +92,11 @@ pub record IsUnoffered (place : ℕ) (s : Session) (f : KeyFields) (last : ℕ) 
 
 pub record IsForgedG2 (akm : Akm) (place : ℕ) (s : Session) (f : Frame) : Type 0 where
   pub offered : IsOffered place s f.fields
-  pub other : f.fields.mic ≡ mic akm s.key.ptk.kck f.octets → ⊥
+  pub other : f.fields.mic ≡ mic akm s.ptk.kck f.octets → ⊥
 
 pub record IsG2 (akm : Akm) (place : ℕ) (s : Session) (f : Frame) : Type 0 where
   pub offered : IsOffered place s f.fields
-  pub mic_is : f.fields.mic ≡ mic akm s.key.ptk.kck f.octets
+  pub mic_is : f.fields.mic ≡ mic akm s.ptk.kck f.octets
 
 abbrev pub IsRefusedG2 : Akm → ℕ → Session → Frame → Reason → Type 0
 IsRefusedG2 akm place s f reason.Unawaited = owes place s ≡ false

@@ -14,8 +14,8 @@ AsksWhere true l g rsc s t r = Asks l g rsc s t r
 
 -- the key of the session is installed, under which M4 verified; the session is t then
 pub record IsInstalled (l : Ends) (g : GroupKey) (rsc : ℕ) (x : Finish) (t : Session) (r : Reply) : Type 0 where
-  pub verified : r.verified ≡ Some x.session.key.ptk.kck
+  pub verified : r.verified ≡ Some x.key.ptk.kck
   pub derived : r.derived ≡ None
-  pub installed : r.installed ≡ Some x.session.key
+  pub installed : r.installed ≡ Some x.key
   pub gtk : r.gtk ≡ None
   pub asks : AsksWhere x.is_older l g rsc x.session t r

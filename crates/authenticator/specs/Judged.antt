@@ -22,6 +22,7 @@ use Rattle.authenticator.specs.Agreed.{Agreed}
 use Rattle.authenticator.specs.Counters.{counters}
 use Rattle.authenticator.specs.KeyData.{IsKeyDataOf}
 use Rattle.authenticator.specs.Sends.{SendsM1, SendsM3}
+use Rattle.authenticator.specs.declared.base.Base.{Base}
 use Rattle.authenticator.specs.declared.attempt.Attempt.{Attempt}
 use Rattle.authenticator.specs.declared.attempt.Finish.{Finish}
 use Rattle.authenticator.specs.declared.attempt.M4.{M4}
@@ -71,29 +72,29 @@ pub record IsCounted (a : Attempt) (f : KeyFields) (last : ℕ) : Type 0 where
   pub is : last ≡ a.m1s
 
 -- the MIC of an M2 verifies under the key of both nonces
-abbrev pub Verifies : Ends → List ℕ → Attempt → Frame → Type 0
-Verifies l psk a f = f.fields.mic ≡ mic l.akm (key_with l psk a.anonce f.fields.nonce).ptk.kck f.octets
+abbrev pub Verifies : Ends → Base → Attempt → Frame → Type 0
+Verifies l b a f = f.fields.mic ≡ mic l.akm (key_with l b.pmk a.anonce f.fields.nonce).ptk.kck f.octets
 
-pub record IsForged (l : Ends) (psk : List ℕ) (a : Attempt) (f : Frame) : Type 0 where
+pub record IsForged (l : Ends) (b : Base) (a : Attempt) (f : Frame) : Type 0 where
   pub awaited : IsAwaited a f.fields
-  pub other : Verifies l psk a f → ⊥
+  pub other : Verifies l b a f → ⊥
 
-pub record IsVerified (l : Ends) (psk : List ℕ) (a : Attempt) (f : Frame) (y : Keyed) (fault : Option KeyDataFault) : Type 0 where
+pub record IsVerified (l : Ends) (b : Base) (a : Attempt) (f : Frame) (y : Keyed) (fault : Option KeyDataFault) : Type 0 where
   pub awaited : IsAwaited a f.fields
-  pub mic_is : Verifies l psk a f
-  pub key : y ≡ key_with l psk a.anonce f.fields.nonce
-  pub key_data : IsKeyDataOf a.rsne f.fields.key_data fault
+  pub mic_is : Verifies l b a f
+  pub key : y ≡ key_with l b.pmk a.anonce f.fields.nonce
+  pub key_data : IsKeyDataOf b.mobility a.rsne f.fields.key_data fault
 
-abbrev pub IsRefusedM2 : Ends → List ℕ → Attempt → Frame → Reason → Type 0
-IsRefusedM2 l psk a f reason.Unawaited = is_some a.agreed ≡ true
-IsRefusedM2 l psk a f (reason.Counter last) = IsCounted a f.fields last
-IsRefusedM2 l psk a f reason.Mic = IsForged l psk a f
-IsRefusedM2 l psk a f _ = ⊥
+abbrev pub IsRefusedM2 : Ends → Base → Attempt → Frame → Reason → Type 0
+IsRefusedM2 l b a f reason.Unawaited = is_some a.agreed ≡ true
+IsRefusedM2 l b a f (reason.Counter last) = IsCounted a f.fields last
+IsRefusedM2 l b a f reason.Mic = IsForged l b a f
+IsRefusedM2 l b a f _ = ⊥
 
-abbrev pub IsM2 : Ends → List ℕ → Attempt → Frame → M2 → Type 0
-IsM2 l psk a f (m2.Refused why) = IsRefusedM2 l psk a f why
-IsM2 l psk a f (m2.Other fault y) = IsVerified l psk a f y (Some fault)
-IsM2 l psk a f (m2.Agreed y) = IsVerified l psk a f y None
+abbrev pub IsM2 : Ends → Base → Attempt → Frame → M2 → Type 0
+IsM2 l b a f (m2.Refused why) = IsRefusedM2 l b a f why
+IsM2 l b a f (m2.Other fault y) = IsVerified l b a f y (Some fault)
+IsM2 l b a f (m2.Agreed y) = IsVerified l b a f y None
 
 -- the reply says that the key was derived, under which the frame verified, and nothing else of keys
 pub record TellsDerived (y : Keyed) (r : Reply) : Type 0 where
@@ -137,7 +138,8 @@ pub record IsFinish (akm : Akm) (newest : GroupKey) (a : Attempt) (f : Frame) (x
   pub y : Agreed
   pub answered : IsAnswered a f.fields y
   pub mic_is : f.fields.mic ≡ mic akm y.key.ptk.kck f.octets
-  pub key_is : x.session.key ≡ y.key
+  pub key_is : x.key ≡ y.key
+  pub ptk_is : x.session.ptk ≡ y.key.ptk
   pub last_is : x.session.last ≡ a.m1s + a.m3s
   pub fresh : IsFresh newest.place x.session
   pub older : x.is_older ≡ nat_lt y.group.place newest.place

@@ -2,6 +2,7 @@ pub mod Agreed
 pub mod Counters
 pub mod KeyData
 pub mod Sends
+pub mod Bases
 pub mod State
 pub mod Judged
 pub mod Groups
@@ -10,3 +11,4 @@ pub mod Stands
 pub mod Steps
 pub mod Taken
 pub mod Starts
+pub mod Begins

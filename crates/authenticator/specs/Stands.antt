@@ -8,17 +8,20 @@ use Rattle.run_journal.specs.declared.acts.Kind.TheVariants.{Key}
 use Rattle.run_journal.specs.declared.acts.Act.{Act}
 use Rattle.run_journal.specs.Questions.{attempt, own_nonce, derivation, session, before_sent, group_keys, handshake}
 use Rattle.run_journal.specs.GroupKinds as groups
-use Rattle.domain_rules.specs.Network.{root}
+use Rattle.domain_rules.specs.Frames.{m3_key_data}
+use Rattle.eapol_key.specs.KeyData.{padded}
+use Rattle.run_journal.specs.Acts.{Derivation}
 use Rattle.domain_rules.specs.Counters.{next_in_session}
 use Rattle.domain_rules.specs.Asking.{by_connect, offered, has_heard}
 use Rattle.domain_rules.specs.AccessPointKeys.{HasRsne, request as last_request}
 use Rattle.domain_rules.specs.GroupKeys.{newest_uses}
-use Rattle.domain_rules.specs.Replies.{Pair, pair, key_by}
-use Rattle.group_key.specs.Holds.{IsLast}
+use Rattle.domain_rules.specs.Replies.{Pair, key_by}
+use Rattle.group_key.specs.Holds.{IsLast, carried}
 use Rattle.node_base.specs.Ends.{AreEnds}
 use Rattle.authenticator.specs.Agreed.{Agreed}
 use Rattle.authenticator.specs.Counters.{counters}
 use Rattle.authenticator.specs.Groups.{sent_for, is_answered_for}
+use Rattle.authenticator.specs.Bases.{own_pair, IsBaseOf}
 use Rattle.authenticator.specs.State.{State}
 use Rattle.authenticator.specs.declared.attempt.Attempt.{Attempt}
 use Rattle.authenticator.specs.declared.session.Session.{Session}
@@ -36,6 +39,7 @@ abbrev pub IsAgreed : Pair → Option Agreed → ℕ → List Act → List Act �
 IsAgreed w None m3s part h = (m3s ≡ 0) × (before_sent w.peer (Key M3) h ≡ None)
 IsAgreed w (Some y) m3s part h =
     (1 ≤ m3s) × (derivation w.peer part ≡ Some (key_by w.domain w.root w.node w.peer y.key)) × IsFirstM3 w.peer y h
+    × (padded y.plain ≡ m3_key_data w.domain w.node (key_by w.domain w.root w.node w.peer y.key) (carried y.group))
 
 -- the attempt is under way: it began by association
 pub record IsUnderWay (d : Domain) (n p : Node) (a : Attempt) (h : List Act) : Type 0 where
@@ -47,7 +51,7 @@ pub record IsUnderWay (d : Domain) (n p : Node) (a : Attempt) (h : List Act) : T
   pub m1_offers : offered p M1 part ≡ counters 0 a.m1s
   pub m3_offers : offered p M3 part ≡ counters a.m1s a.m3s
   pub answered : has_heard p (Key M2) part ≡ is_some a.agreed
-  pub agreed : IsAgreed (pair d n p) a.agreed a.m3s part h
+  pub agreed : IsAgreed (own_pair d n p) a.agreed a.m3s part h
   -- the last association request that was accepted, and its RSNE
   pub request : List ℕ
   pub heard_last : last_request p h ≡ Some request
@@ -73,7 +77,9 @@ pub record Counts (p : Node) (s : Session) (h : List Act) : Type 0 where
 
 -- the session is held, beside an attempt or without one
 pub record IsHeld (d : Domain) (n p : Node) (s : Session) (h : List Act) : Type 0 where
-  pub is : session p h ≡ Some (key_by d (root d) n p s.key)
+  pub x : Derivation
+  pub is : session p h ≡ Some x
+  pub key : x.ptk ≡ s.ptk
   pub counts : Counts p s h
 
 -- there is that attempt, or none
@@ -89,6 +95,6 @@ HasSession d n p (Some s) h = IsHeld d n p s h
 -- the authenticator of node n with its peer p stands for the history of n
 pub record AuthenticatorStands (d : Domain) (n p : Node) (s : State) (h : List Act) : Type 0 where
   pub ends : AreEnds d n p s.ends
-  pub psk : s.psk ≡ d.psk
+  pub base : IsBaseOf d n p s.base
   pub attempt_is : HasAttempt d n p s.attempt h
   pub session_is : HasSession d n p s.session h

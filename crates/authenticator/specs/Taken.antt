@@ -1,5 +1,5 @@
 -- What a message and sending once more do, after every history that the authenticator stands for (this project's choice).
-use Rattle.std.specs.Prelude.{◌≡◌, ◌<◌, ◌-◌, ◌^◌, ℕ, List, [], Some, is_some}
+use Rattle.std.specs.Prelude.{◌≡◌, ◌<◌, ◌-◌, ◌^◌, ℕ, Bool, List, [], Option, Some, None, is_some}
 use Rattle.domain_base.specs.declared.names.Node.{Node}
 use Rattle.domain_base.specs.declared.names.Node.TheVariants.{Ap, Sta}
 use Rattle.eapol_key.specs.declared.messages.Message.{Message}
@@ -18,9 +18,11 @@ use Rattle.domain_rules.specs.Here.{Here, here}
 use Rattle.domain_rules.specs.Reading.{KeyMessage}
 use Rattle.domain_rules.specs.Asking.{offered}
 use Rattle.domain_rules.specs.Counters.{next_in_session}
-use Rattle.domain_rules.specs.Replies.{IsMessageFrom, reply_acts, sent_acts, pair, taken_as}
+use Rattle.domain_rules.specs.Replies.{IsMessageFrom, key_by, replied_acts, sent_acts, pair, taken_as}
+use Rattle.domain_rules.specs.KeyHolders.{put_acts}
 use Rattle.group_key.specs.declared.keys.GroupKey.{GroupKey}
 use Rattle.group_key.specs.Holds.{IsLast}
+use Rattle.authenticator.specs.Bases.{home, own_pair}
 use Rattle.authenticator.specs.State.{State}
 use Rattle.authenticator.specs.Stands.{AuthenticatorStands}
 use Rattle.authenticator.specs.Judged.{Frame}
@@ -49,17 +51,27 @@ pub record Comes (w : Here) (p : Node) (x : Given) (octets : List ℕ) (k : KeyM
   pub newest : IsLast x.newest (group_keys groups.Gtk h)
   pub uses : newest_uses groups.Gtk h ≡ x.rsc
 
+-- where a key was installed, what is put with the key holder
+abbrev pub put_for : Domain → Node → List Act → Node → Option Keyed → List Act
+put_for d n h p None = []
+put_for d n h p (Some y) = put_acts d n h p (key_by d (home d n) n p y)
+
+-- what the node adds as it takes the message
+abbrev pub told_acts : Domain → Node → Node → Bool → List ℕ → KeyMessage → Outcome → Reply → List Act → List Act
+told_acts d n p had octets k outcome r h =
+    replied_acts (own_pair d n p) had (taken_as octets k outcome) r (record { opened = []; put = put_for d n h p r.installed })
+
 -- what it is given takes the authenticator from old to new
 abbrev pub StepsFrom : State → State → Given → Outcome → Reply → Type 0
 StepsFrom old new x outcome r =
     (d : Domain) (first ap sta : ℕ) (octets : List ℕ) (k : KeyMessage) (h : List Act)
     → AuthenticatorStands d (Ap ap) (Sta sta) old h → Comes (here d first (Ap ap)) (Sta sta) x octets k h
     → Steps (here d first (Ap ap)) (Sta sta) octets
-    (reply_acts (pair d (Ap ap) (Sta sta)) (is_some old.session) (taken_as octets k outcome) r) new h
+    (told_acts d (Ap ap) (Sta sta) (is_some old.session) octets k outcome r h) new h
 
 -- a key is installed by a message that is accepted alone, and is then the key of the session
 abbrev pub Installs : Outcome → Reply → State → Type 0
-Installs outcome r new = (y : Keyed) → r.installed ≡ Some y → (outcome ≡ Accepted) × (s : Session) × (new.session ≡ Some s) × (s.key ≡ y)
+Installs outcome r new = (y : Keyed) → r.installed ≡ Some y → (outcome ≡ Accepted) × (s : Session) × (new.session ≡ Some s) × (s.ptk ≡ y.ptk)
 
 -- behind the history h this is the newest group key, so many packet numbers were used under it, and where there is a session with p
 -- its replay counters have not come to their end

@@ -1,46 +1,61 @@
 //! What an attempt has from M2 on.
 
-ghost use Rattle.std.specs.Prelude.{◌≡◌, ◌<◌, ◌^◌, nat_lt};
+ghost use Rattle.std.specs.Prelude.{◌≡◌, ◌≤◌, ◌<◌, ◌^◌, nat_lt, length};
 ghost use Rattle.air_frame.specs.Sent.{IsAddress};
 ghost use Rattle.run_journal.specs.Replies.{IsWhole};
 ghost use Rattle.frame_making.specs.Replied.{Keeps};
 
-use frame_making::write_m3;
+use domain_base::ShortOctets;
+use frame_making::{MOST_M3_DATA, write_m3};
 use group_key::GroupKey;
 use node_base::Ends;
 use run_journal::{Keyed, Reply};
 use std::marker::Model;
 
-/// The pairwise key, and the group key and the count of packet numbers that its M3 carry.
+/// The pairwise key, and the group key, the count of packet numbers and the whole key data that its M3
+/// carry.
 #[derive(Drop)]
 pub struct Agreement {
     key: Keyed,
     group: GroupKey,
     rsc: u64,
+    plain: ShortOctets<MOST_M3_DATA>,
 }
 
 impl Model for Agreement {
-    ghost use Rattle.std.specs.Prelude.{◌<◌, ◌^◌};
+    ghost use Rattle.std.specs.Prelude.{◌≤◌, ◌<◌, ◌^◌, length};
     ghost use Rattle.authenticator.specs.Agreed.{Agreed};
 
     ghost Value = { Agreed };
 
-    ghost view = { λ a. record { key = a.key; group = a.group; rsc = a.rsc } };
+    ghost view = { λ a. record {
+      key = a.key;
+      group = a.group;
+      rsc = a.rsc;
+      plain = a.plain;
+    } };
 
-    ghost invariant = { λ a. (a.group.id < 4) × (a.rsc < 2 ^ 48) };
+    ghost invariant = { λ a. (a.group.id < 4) × (a.rsc < 2 ^ 48) × (length a.plain ≤ 340) };
 }
 
 impl Agreement {
     ghost use Rattle.authenticator.specs.Sends.{SendsM3};
 
-    /// Of these keys and that count.
-    pub fn of(key: &Keyed, group: &GroupKey, rsc: u64) -> Self
+    /// Of these keys, that count and that key data.
+    pub fn of(key: &Keyed, group: &GroupKey, rsc: u64, plain: ShortOctets<MOST_M3_DATA>) -> Self
         requires id { group.now.id < 4 }
         requires packet_number { rsc < 2 ^ 48 }
-        ensures { result ≡ record { key = key.now; group = group.now; rsc = rsc } }
+        requires few { length plain ≤ MOST_M3_DATA }
+        ensures { result
+            ≡ record { key = key.now; group = group.now; rsc = rsc; plain = plain } }
     {
         let (key, group) = (*key, *group);
-        Agreement { key, group, rsc }
+        Agreement {
+            key,
+            group,
+            rsc,
+            plain,
+        }
     }
 
     /// The pairwise key.
@@ -64,6 +79,13 @@ impl Agreement {
         ensures fits { IsWhole reply.new }
         ensures addresses { IsAddress ends.now.own.0 × IsAddress ends.now.peer.0 }
     {
-        write_m3(ends, &self.key, counter, &self.group, self.rsc, reply);
+        write_m3(
+            ends,
+            &self.key,
+            counter,
+            self.plain.as_slice(),
+            self.rsc,
+            reply,
+        );
     }
 }

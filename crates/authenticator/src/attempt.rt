@@ -1,13 +1,13 @@
 //! An attempt of a station: the four-way handshake, up to M4 (IEEE Std 802.11-2020, 12.7.6).
 
-ghost use Rattle.std.specs.Prelude.{◌≡◌, ◌≢◌, ◌≤◌, ◌<◌, ◌+◌, ◌^◌, suc, length, MatchResult, OnErr};
-ghost use Rattle.domain_base.specs.declared.names.Akm.{Akm as AnyAkm};
+ghost use Rattle.std.specs.Prelude.{◌≡◌, ◌≤◌, ◌<◌, ◌+◌, ◌^◌, suc, length, MatchResult, OnErr};
 ghost use Rattle.air_frame.specs.Sent.{IsAddress};
 ghost use Rattle.eapol_key.specs.Fields.{IsKeyFrame};
 ghost use Rattle.run_journal.specs.Replies.{IsEmpty, IsWhole};
 ghost use Rattle.frame_making.specs.Replied.{TellsNothing};
 
 use crate::agreement::Agreement;
+use crate::base::Base;
 use crate::counters::{is_offered, last_counter};
 use crate::m2::{M2, key_data_fault};
 use crate::session::Session;
@@ -16,7 +16,7 @@ use eapol_key::{KeyFrame, Message, verify};
 use frame_making::write_m1;
 use group_key::GroupKey;
 use node_base::{Ends, pairwise_key};
-use run_journal::{Reason, Reply};
+use run_journal::{Keyed, Reason, Reply};
 
 /// The replay counter of the first M1 of an attempt.
 const FIRST_COUNTER: u64 = 1;
@@ -49,6 +49,8 @@ pub struct Attempt {
 pub struct Finish {
     /// The session.
     pub session: Session,
+    /// Its key, with its nonces.
+    pub key: Keyed,
     /// Whether M3 carried an older group key.
     pub is_older: bool,
 }
@@ -78,9 +80,9 @@ impl Finish {
     {
         let Finish {
             mut session,
+            key,
             is_older,
         } = self;
-        let key = session.key;
         reply.verified = Some(key.ptk.kck);
         reply.installed = Some(key);
         if is_older {
@@ -118,10 +120,9 @@ impl Attempt {
     }
 
     /// Judges an M2 of the station.
-    pub fn judge_m2(&self, ends: &Ends, psk: &[u8; 32], frame: &KeyFrame<'_>) -> M2
-        requires suite { ends.now.akm ≢ AnyAkm.FtPsk }
+    pub fn judge_m2(&self, ends: &Ends, base: &Base, frame: &KeyFrame<'_>) -> M2
         requires frame { IsKeyFrame frame.now }
-        ensures { IsM2 ends.now psk.now self.now (frame_of frame.now) result }
+        ensures { IsM2 ends.now base.now self.now (frame_of frame.now) result }
     {
         if self.agreed.is_some() {
             return M2::Refused(Reason::Unawaited);
@@ -129,11 +130,11 @@ impl Attempt {
         if !is_offered(frame.counter, 0, self.m1s) {
             return M2::Refused(Reason::Counter(u64::from(self.m1s)));
         }
-        let key = pairwise_key(ends, psk, &self.anonce, &frame.nonce);
+        let key = pairwise_key(ends, &base.pmk, &self.anonce, &frame.nonce);
         if !verify(frame, ends.akm, &key.ptk.kck) {
             return M2::Refused(Reason::Mic);
         }
-        match key_data_fault(self.rsne.as_slice(), frame.key_data) {
+        match key_data_fault(&base.mobility, self.rsne.as_slice(), frame.key_data) {
             Some(fault) => M2::Other(fault, key),
             None => M2::Agreed(key),
         }
@@ -176,13 +177,17 @@ impl Attempt {
         }
         let is_older = agreement.is_older(newest);
         let session = Session {
-            key: *key,
+            ptk: key.ptk,
             last,
             place: newest.place,
             g1s: 0,
             is_answered: false,
         };
-        Ok(Finish { session, is_older })
+        Ok(Finish {
+            session,
+            key: *key,
+            is_older,
+        })
     }
 
     /// The attempt becomes a session by an M4 of the station, or it is given back with the reason

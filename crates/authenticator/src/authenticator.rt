@@ -1,9 +1,9 @@
 //! An access point's part with one station.
 
 ghost use Rattle.std.specs.Prelude.{◌≡◌, ◌≢◌, ◌<◌, ◌≤◌, ◌^◌, ℕ, List, [], ◌∷◌, length};
-ghost use Rattle.std.specs.Prelude.{true, None, Option, is_some};
-ghost use Rattle.domain_base.specs.declared.names.Akm.{Akm as AnyAkm};
+ghost use Rattle.std.specs.Prelude.{true, Some, None, is_some};
 ghost use Rattle.domain_base.specs.declared.names.Node.TheVariants.{Ap, Sta};
+ghost use Rattle.air_frame.specs.Sent.{IsAddress};
 ghost use Rattle.eapol_key.specs.Fields.{IsKeyFrame};
 ghost use Rattle.eapol_key.specs.declared.messages.Message.TheVariants as messages;
 ghost use Rattle.group_key.specs.declared.keys.GroupKey.{GroupKey as AnyKey};
@@ -11,18 +11,21 @@ ghost use Rattle.run_journal.specs.declared.acts.Act.{Act as AnyAct};
 ghost use Rattle.run_journal.specs.declared.acts.Outcome.TheVariants.{Refused};
 ghost use Rattle.run_journal.specs.declared.acts.Reason.{Reason as AnyReason};
 ghost use Rattle.run_journal.specs.Replies.{IsEmpty, IsWhole};
-ghost use Rattle.domain_rules.specs.Frames.{sent_m1};
 ghost use Rattle.domain_rules.specs.Replies.{sent_acts};
 ghost use Rattle.frame_making.specs.Replied.{TellsNothing};
-ghost use Rattle.authenticator.specs.Starts.{nonce_in, rsne_in};
+ghost use Rattle.domain_rules.specs.Network.{InForm};
+ghost use Rattle.authenticator.specs.Starts.{rsne_in, first_acts, held_at_first};
 
 use crate::agreement::Agreement;
 use crate::attempt::{Attempt, M4};
+use crate::base::Base;
 use crate::m2::M2;
 use crate::session::Session;
 use domain_base::Node;
 use eapol_key::{KeyFrame, Message};
+use frame_making::m3_key_data;
 use group_key::GroupKey;
+use key_hierarchy::Ptk;
 use node_base::Ends;
 use run_journal::{Domain, Kind, Outcome, Reason, Reply};
 use std::marker::Model;
@@ -37,16 +40,11 @@ pub enum ApStart<'a> {
         /// The whole RSNE of the request, from its id on: at most 257 octets.
         rsne: &'a [u8],
     },
-}
-
-// The nonce of the attempt and the RSNE of the request.
-fn parts_of<'a>(start: ApStart<'a>) -> (&'a [u8; 32], &'a [u8])
-    ensures anonce { result.0.now ≡ nonce_in start.entry }
-    ensures rsne { result.1.now ≡ rsne_in start.entry }
-{
-    match start {
-        ApStart::Connect { anonce, rsne } => (anonce, rsne),
-    }
+    /// A fast transition installed that key.
+    Ft {
+        /// The key.
+        ptk: &'a Ptk,
+    },
 }
 
 /// What came of sending once more, with the message that was sent in vain.
@@ -75,43 +73,40 @@ pub enum Retried {
 /// An access point's part with one station: an attempt, which is a four-way handshake
 /// (IEEE Std 802.11-2020, 12.7.6), and a session, where there is one. A new attempt may stand beside
 /// a session; it takes the session's place as it becomes one. In a session the station is given new
-/// group keys (12.7.7). AKM suites 2 and 6. It takes no memory.
+/// group keys (12.7.7). It takes no memory.
 #[derive(Drop)]
 pub struct Authenticator {
     ends: Ends,
-    psk: [u8; 32],
+    base: Base,
     attempt: Option<Attempt>,
     session: Option<Session>,
 }
 
 impl Model for Authenticator {
-    ghost use Rattle.std.specs.Prelude.{◌≢◌};
-    ghost use Rattle.domain_base.specs.declared.names.Akm.TheVariants.{FtPsk};
     ghost use Rattle.authenticator.specs.State.{State};
 
     ghost Value = { State };
 
     ghost view = { λ s. record {
       ends = s.ends;
-      psk = s.psk;
+      base = s.base;
       attempt = s.attempt;
       session = s.session;
     } };
-
-    ghost invariant = { λ s. s.ends.akm ≢ FtPsk };
 }
 
 impl Authenticator {
-    ghost use Rattle.authenticator.specs.State.{with_session};
-    ghost use Rattle.authenticator.specs.declared.session.Session.{Session as AnySession};
-    ghost use Rattle.authenticator.specs.Stands.{AuthenticatorStands, HasSession};
-    ghost use Rattle.authenticator.specs.Steps.{IsBegun, IsNamed};
-    ghost use Rattle.authenticator.specs.Judged.{frame_of};
-    ghost use Rattle.authenticator.specs.Groups.{owes_in};
+    ghost use Rattle.authenticator.specs.State.{beginning, with_session};
+    ghost use Rattle.authenticator.specs.Steps.{IsNamed};
+    ghost use Rattle.authenticator.specs.Begins.{StandsAtFirst};
+    ghost use Rattle.authenticator.specs.Judged.{begun, frame_of};
+    ghost use Rattle.authenticator.specs.Sends.{SendsM1};
+    ghost use Rattle.authenticator.specs.Groups.{owes_in, transferred};
     ghost use Rattle.authenticator.specs.Taken.{given, StepsFrom, Installs, RetriesFrom, GivesFrom};
 
-    /// Begins an attempt, and sends M1 with replay counter 1 (IEEE Std 802.11-2020, 12.7.6.2). There
-    /// is no session. The reply has M1 and nothing else, whatever was in it.
+    /// Begins with an attempt, and sends M1 with replay counter 1 (IEEE Std 802.11-2020, 12.7.6.2); or
+    /// with the session that a fast transition installed, and sends nothing. The reply has M1 or nothing,
+    /// whatever was in it.
     pub fn begin(
         domain: &Domain,
         ap: u16,
@@ -119,30 +114,65 @@ impl Authenticator {
         start: ApStart<'_>,
         reply: &mut Reply,
     ) -> Authenticator
-        requires suite { domain.now.akm ≢ AnyAkm.FtPsk }
+        requires form { InForm domain.now }
         requires ap { ap < length domain.now.aps }
         requires sta { sta < length domain.now.stas }
         requires rsne { length (rsne_in start) ≤ 257 }
         ensures sends { sent_acts (Sta sta) reply.new
-            ≡ sent_m1 domain.now (Ap ap) (Sta sta) 1 (nonce_in start.entry) ∷ [] }
-        // it stands for the history with M1, also beside the session of another part
-        ensures stands { (h : List AnyAct) (session : Option AnySession)
-            → IsBegun domain.now (Sta sta) (nonce_in start.entry) (rsne_in start.entry) h
-            → HasSession domain.now (Ap ap) (Sta sta) session h
-            → AuthenticatorStands domain.now (Ap ap) (Sta sta) (with_session session result)
-            (sent_m1 domain.now (Ap ap) (Sta sta) 1 (nonce_in start.entry) ∷ h) }
-        ensures alone { result.session ≡ None }
+            ≡ first_acts domain.now (Ap ap) (Sta sta) start.entry }
+        // after an association it stands for the history with M1, also beside the session of another
+        // part; after a fast transition for the history as it is
+        ensures stands { StandsAtFirst domain.now (Ap ap) (Sta sta) start.entry result }
+        ensures session { result.session ≡ held_at_first start.entry }
         ensures told { TellsNothing reply.new }
         ensures whole { IsWhole reply.new }
     {
         let ends = Ends::between(domain, Node::Ap(ap), Node::Sta(sta));
-        let (anonce, rsne) = parts_of(start);
+        let base = Base::of(domain, ap, sta);
+        match start {
+            ApStart::Connect { anonce, rsne } => {
+                Authenticator::with_attempt(ends, base, anonce, rsne, reply)
+            }
+            ApStart::Ft { ptk } => {
+                *reply = Reply::empty();
+                Authenticator::after_transition(ends, base, ptk)
+            }
+        }
+    }
+
+    // With an attempt, whose M1 is sent.
+    fn with_attempt(
+        ends: Ends,
+        base: Base,
+        anonce: &[u8; 32],
+        rsne: &[u8],
+        reply: &mut Reply,
+    ) -> Authenticator
+        requires { length rsne.now ≤ 257 }
+        ensures value { result ≡ beginning ends base (Some (begun anonce.now rsne.now)) None }
+        ensures sends { SendsM1 ends 1 anonce.now reply.new }
+        ensures told { TellsNothing reply.new }
+        ensures whole { IsWhole reply.new }
+        ensures addresses { IsAddress ends.own.0 × IsAddress ends.peer.0 }
+    {
         let attempt = Attempt::begin(&ends, anonce, rsne, reply);
         Authenticator {
             ends,
-            psk: domain.psk,
+            base,
             attempt: Some(attempt),
             session: None,
+        }
+    }
+
+    // With the session that a fast transition installed.
+    fn after_transition(ends: Ends, base: Base, ptk: &Ptk) -> Authenticator
+        ensures { result ≡ beginning ends base None (Some (transferred ptk.now)) }
+    {
+        Authenticator {
+            ends,
+            base,
+            attempt: None,
+            session: Some(Session::transferred(*ptk)),
         }
     }
 
@@ -199,7 +229,7 @@ impl Authenticator {
         let Some(attempt) = &mut self.attempt else {
             return Outcome::Refused(Reason::Unawaited);
         };
-        let key = match attempt.judge_m2(&self.ends, &self.psk, frame) {
+        let key = match attempt.judge_m2(&self.ends, &self.base, frame) {
             M2::Refused(why) => return Outcome::Refused(why),
             M2::Other(fault, key) => {
                 reply.verified = Some(key.ptk.kck);
@@ -207,7 +237,8 @@ impl Authenticator {
             }
             M2::Agreed(key) => key,
         };
-        let agreement = Agreement::of(&key, newest, rsc);
+        let plain = m3_key_data(self.ends.akm, &self.base.mobility, newest.id, &newest.key);
+        let agreement = Agreement::of(&key, newest, rsc, plain);
         attempt.answer_m2(&self.ends, agreement, reply);
         Outcome::Accepted
     }
@@ -264,7 +295,7 @@ impl Authenticator {
             Err(why) => return Outcome::Refused(why),
             Ok(()) => {}
         }
-        reply.verified = Some(session.key.ptk.kck);
+        reply.verified = Some(session.ptk.kck);
         session.answer();
         Outcome::Accepted
     }

@@ -5,6 +5,7 @@
 mod agreement;
 mod attempt;
 mod authenticator;
+mod base;
 mod counters;
 mod m2;
 mod session;

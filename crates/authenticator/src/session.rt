@@ -11,18 +11,19 @@ use domain_base::Akm;
 use eapol_key::{KeyFrame, verify};
 use frame_making::write_g1;
 use group_key::GroupKey;
+use key_hierarchy::Ptk;
 use node_base::Ends;
-use run_journal::{Keyed, Reason, Reply};
+use run_journal::{Reason, Reply};
 
 /// How often G1 is sent in a session for one group key at most.
 const MOST_SENDS: u8 = 4;
 
-/// A session: what an attempt becomes by M4. It counts the handshake for one group key, the newest
+/// A session: what an attempt becomes by M4, or a fast transition by its reassociation. It counts the handshake for one group key, the newest
 /// as it began or as G1 was sent last; for a newer one there was none yet.
 #[derive(Drop)]
 pub struct Session {
     /// The key that was installed.
-    pub key: Keyed,
+    pub ptk: Ptk,
     /// The last replay counter that was used.
     pub last: u64,
     /// The group key whose handshake is counted: its number in the order of drawing.
@@ -34,7 +35,21 @@ pub struct Session {
 }
 
 impl Session {
+    /// A session of that key as a fast transition installs it: nothing was sent in it.
+    pub fn transferred(ptk: Ptk) -> Self
+        ensures { result ≡ transferred ptk }
+    {
+        Session {
+            ptk,
+            last: 0,
+            place: 0,
+            g1s: 0,
+            is_answered: false,
+        }
+    }
+
     ghost use Rattle.authenticator.specs.Groups.{sent_for, is_answered_for, owes, replied_to};
+    ghost use Rattle.authenticator.specs.Groups.{transferred};
     ghost use Rattle.authenticator.specs.Groups.{Asks, IsG2, IsRefusedG2};
 
     // How many G1 were sent for that group key.
@@ -89,7 +104,7 @@ impl Session {
         if !is_one_of_last(frame.counter, self.last, sent) {
             return Err(Reason::Counter(self.last));
         }
-        let kck = self.key.ptk.kck;
+        let kck = self.ptk.kck;
         if !verify(frame, akm, &kck) {
             return Err(Reason::Mic);
         }
@@ -120,6 +135,6 @@ impl Session {
         self.place = group.place;
         self.g1s = sent.saturating_add(1);
         self.is_answered = is_answered;
-        write_g1(ends, &self.key, self.last, group, rsc, reply);
+        write_g1(ends, &self.ptk, self.last, group, rsc, reply);
     }
 }

@@ -1,10 +1,8 @@
 -- What a key in use comes to is the row of the rules.
-use Rattle.std.proofs.Common.{◌≡◌, ◌∙◌, ◌++◌, ◌<◌, ℕ, Bool, true, false, cond, List, [], ◌∷◌, Option, Some, None, refl, sym, ap, subst, length, arith, eqb-true}
-use Rattle.std.specs.Prelude.{not, ◌||◌, ◌==◌, nat_lt, nat_le, unwrap_or, if◌then◌else◌}
+use Rattle.std.proofs.Common.{◌≡◌, ◌∙◌, ◌++◌, ℕ, Bool, true, false, cond, List, [], ◌∷◌, Option, Some, None, refl, sym, ap, subst, length, arith}
+use Rattle.std.specs.Prelude.{not, ◌||◌, ◌==◌, nat_lt, nat_le, if◌then◌else◌}
 use Rattle.domain_base.specs.declared.names.Node.{Node}
 use Rattle.domain_base.specs.declared.names.Node.TheVariants.{Ap, Sta}
-use Rattle.air_frame.specs.Fields.{HeaderFields}
-use Rattle.air_frame.specs.declared.frame.Direction.{Direction}
 use Rattle.ccmp_guard.specs.declared.guard.GuardFault.{GuardFault}
 use Rattle.ccmp_guard.specs.declared.guard.GuardFault.TheVariants as fault
 use Rattle.ccmp_guard.specs.Ccmp.{packet_number, key_id_in, ext_iv}
@@ -23,16 +21,18 @@ use Rattle.domain_rules.specs.Closing.{sender}
 use Rattle.domain_rules.specs.Facts.{Facts}
 use Rattle.domain_rules.specs.Here.{Here}
 use Rattle.domain_rules.specs.PacketNumbers.{OpenKey}
-use Rattle.domain_rules.specs.DataVerdict.{opened_by, data_verdict, data_verdict_by, unsealed, IsOpened}
-use Rattle.domain_rules.specs.Reading.{Reading, Sealed}
-use Rattle.domain_rules.specs.Rows.{TakeRow, By_data, By_refusal, response, refused_seal}
+use Rattle.domain_rules.specs.DataVerdict.{opened_by, data_verdict_by, unsealed, IsOpened}
+use Rattle.domain_rules.specs.Reading.{Reading}
+use Rattle.domain_rules.specs.Rows.{TakeRow, By_data, By_refusal, response}
+use Rattle.domain_rules.specs.TransitionRows.{refused_look}
+use Rattle.key_hierarchy.specs.declared.fast_transition.PmkR1.{PmkR1}
 use Rattle.domain_rules.specs.Verdict.{first_verdict, verdict, and_then, comes_so_far, ComesSoFar}
 use Rattle.frame_intake.specs.SealedFields.{SealedFields, sealed_reading, IsSealedData}
 use Rattle.data_frames.specs.Rows.{IsDataFrom, OpensBy}
 use Rattle.data_frames.specs.Taking.{reason_of, refusal, taken_acts, IsOpenedTo, IsStoppedBy, Before, Unsealed}
 
 abbrev pub facts_of : Option (List ℕ) → Facts
-facts_of opened = record { requested = None; unwrapped = None; data_ = None; opened = opened }
+facts_of opened = record { requested = None; responded = None; unwrapped = None; data_ = None; pulled = None; opened = opened }
 
 -- protected data is answered by nothing
 silent : (w : Here) (p : Node) (why : Reason) → response w.domain w.node (Some p) Data why ≡ []
@@ -101,9 +101,16 @@ unsealed_always : (b : Bool) → cond {A = Option Seal} b None None ≡ None
 unsealed_always true = refl
 unsealed_always false = refl
 
-says_by : (w : Here) (p : Node) (octets : List ℕ) (why : Reason) (o : Option Node) (s : Option Seal) → o ≡ Some p → s ≡ None
-    → refusal p octets why ≡ Took o octets Data (Refused why) s ∷ response w.domain w.node o Data why
-says_by w p octets why o s from none = rw (from, none) (ap (λ (g : List Act). Took (Some p) octets Data (Refused why) None ∷ g) (sym (silent w p why)))
+-- and no key holder is asked
+unasked : (n : Node) (o : Option Node) (f : SealedFields) (pulled : Option PmkR1) (why : Reason) → refused_look n o (sealed_reading f) pulled why ≡ []
+unasked (Ap a) (Some p) f pulled why = refl
+unasked (Ap a) None f pulled why = refl
+unasked (Sta s) o f pulled why = refl
+
+says_by : (w : Here) (p : Node) (octets : List ℕ) (f : SealedFields) (pulled : Option PmkR1) (why : Reason) (o : Option Node) (s : Option Seal) → o ≡ Some p → s ≡ None
+    → refusal p octets why ≡ Took o octets Data (Refused why) s ∷ refused_look w.node o (sealed_reading f) pulled why ++ response w.domain w.node o Data why
+says_by w p octets f pulled why o s from none =
+    rw (from, none) (ap (λ (g : List Act). Took (Some p) octets Data (Refused why) None ∷ g) (sym (ap (λ (g : List Act). g ++ response w.domain w.node (Some p) Data why) (unasked w.node (Some p) f pulled why) ∙ silent w p why)))
 
 -- the key as the rules see it
 abbrev pub rule_key : SealedFields → Held → OpenKey
@@ -137,7 +144,7 @@ module _ (w : Here) (h : List Act) (p : Node) (octets : List ℕ) (f : SealedFie
     row = By_refusal (record {
       why = why;
       refused = refused;
-      says = says_by w p octets why _ _ d.from (unsealed_always (comes_so_far first));
+      says = says_by w p octets f facts.pulled why _ _ d.from (unsealed_always (comes_so_far first));
     });
   }
 

@@ -20,7 +20,7 @@ use Rattle.run_journal.specs.declared.acts.Act.TheVariants.{Took, HandedUp}
 use Rattle.domain_rules.specs.DataFrames.{data_seal}
 use Rattle.node_base.specs.Events.{seen}
 use Rattle.frame_intake.specs.SealedFields.{SealedFields}
-use Rattle.data_frames.specs.Taking.{reason_of, taken_acts, IsOpenedTo, IsStoppedBy, Before, Unsealed, IsOpenedUnder, HandsUp, Refuses}
+use Rattle.data_frames.specs.Taking.{reason_of, IsOpenedTo, IsStoppedBy, Before, Unsealed, IsOpenedUnder, HandsUp, Refuses}
 
 -- what was written over all of the front
 pub whole : (n : ℕ) (xs ys : List ℕ) → length xs ≡ n → take n (xs ++ ys) ≡ xs

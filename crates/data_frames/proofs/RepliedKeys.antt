@@ -1,5 +1,5 @@
 -- What the acts of a reply leave of pairwise keys in use, and what an installation among them gives.
-use Rattle.std.proofs.Common.{◌≡◌, ◌∙◌, ◌++◌, ℕ, Bool, true, false, cond, List, [], ◌∷◌, Option, Some, None, refl, sym, ap, subst, replicate, take}
+use Rattle.std.proofs.Common.{◌≡◌, ◌∙◌, ◌++◌, ℕ, Bool, true, false, cond, List, [], ◌∷◌, Option, Some, None, refl, sym, ap, subst, take}
 use Rattle.std.proofs.lemmas.List.{get_or-replicate}
 use Rattle.std.proofs.lemmas.Slice.Eq.{bytes_eq-Decides}
 use Rattle.std.specs.Prelude.{◌==◌, bytes_eq, option_map}
@@ -23,14 +23,15 @@ use Rattle.run_journal.specs.declared.reply.Keyed.{Keyed}
 use Rattle.run_journal.specs.declared.reply.GtkNews.{GtkNews}
 use Rattle.run_journal.specs.Acts.{same}
 use Rattle.run_journal.specs.Questions.{add}
-use Rattle.domain_rules.specs.Network.{root}
+use Rattle.domain_rules.specs.Network.{Root}
 use Rattle.domain_rules.specs.Reading.{KeyMessage}
 use Rattle.domain_rules.specs.Frames.{frame_seal}
-use Rattle.domain_rules.specs.Replies.{pair, taken_as, inputs_by, derived_acts, replaced_acts, installed_acts, gtk_acts, finished_acts, frame_acts, sent_acts, reply_acts}
+use Rattle.domain_rules.specs.Replies.{taken_as, inputs_by, derived_acts, replaced_acts, installed_acts, gtk_acts, finished_acts, frame_acts, sent_acts, reply_acts}
 use Rattle.domain_rules.proofs.Parts.{same-refl, add_append}
 use Rattle.act_memory.proofs.RepliedActs.{all_joined}
 use Rattle.data_frames.specs.Holding.{HoldsPairwise, LeavesPairwise, fresh_key}
 use Rattle.data_frames.proofs.Standing.{others}
+use Rattle.node_base.specs.Pairs.{pair_of}
 
 -- ---- acts that leave each pairwise key in use
 
@@ -61,9 +62,9 @@ leaves-installed q p tk key i other = record { used = λ h. rw other refl; got =
 
 -- ---- the acts of a reply
 
-derived_leaves : (d : Domain) (n p q : Node) (tk : List ℕ) (y : Option Keyed) → AllByRecursion (LeavesPairwise q tk) (derived_acts d (root d) n p y)
-derived_leaves d n p q tk None = tt
-derived_leaves d n p q tk (Some y) = (leaves-derived q p tk (inputs_by d (root d) n p y) y.ptk, tt)
+derived_leaves : (d : Domain) (t : Root) (n p q : Node) (tk : List ℕ) (y : Option Keyed) → AllByRecursion (LeavesPairwise q tk) (derived_acts d t n p y)
+derived_leaves d t n p q tk None = tt
+derived_leaves d t n p q tk (Some y) = (leaves-derived q p tk (inputs_by d t n p y) y.ptk, tt)
 
 replaced_leaves : (p q : Node) (tk : List ℕ) (had : Bool) (x : Option Keyed) → AllByRecursion (LeavesPairwise q tk) (replaced_acts p had x)
 replaced_leaves p q tk true None = tt
@@ -78,9 +79,9 @@ gtk_leaves : (d : Domain) (p q : Node) (tk : List ℕ) (g : Option GtkNews) → 
 gtk_leaves d p q tk None = tt
 gtk_leaves d p q tk (Some g) = (gtk_by g.resumed q p tk g.key g.id _, tt)
 
-finished_leaves : (d : Domain) (n p q : Node) (tk : List ℕ) (x : Option Keyed) → AllByRecursion (LeavesPairwise q tk) (finished_acts d (root d) n p x)
-finished_leaves d n p q tk None = tt
-finished_leaves d n p q tk (Some y) = (leaves-finished q p tk (inputs_by d (root d) n p y), tt)
+finished_leaves : (d : Domain) (t : Root) (n p q : Node) (tk : List ℕ) (x : Option Keyed) → AllByRecursion (LeavesPairwise q tk) (finished_acts d t n p x)
+finished_leaves d t n p q tk None = tt
+finished_leaves d t n p q tk (Some y) = (leaves-finished q p tk (inputs_by d t n p y), tt)
 
 frame_by : (b : Bool) (p q : Node) (tk : List ℕ) (r : Reply) (octets : List ℕ) → AllByRecursion (LeavesPairwise q tk) (cond b [] (frame_acts p r octets))
 frame_by true p q tk r octets = tt
@@ -89,35 +90,35 @@ frame_by false p q tk r octets = (leaves-sent q p tk octets r.kind _, tt)
 pub sent_leaves : (p q : Node) (tk : List ℕ) (r : Reply) → AllByRecursion (LeavesPairwise q tk) (sent_acts p r)
 sent_leaves p q tk r = frame_by (r.len == 0) p q tk r (take r.len r.octets)
 
-installed_leaves : (d : Domain) (n p q : Node) (tk : List ℕ) (x : Option Keyed) → same q p ≡ false → AllByRecursion (LeavesPairwise q tk) (installed_acts d (root d) n p x)
-installed_leaves d n p q tk None other = tt
-installed_leaves d n p q tk (Some y) other = (leaves-installed q p tk y.ptk.tk (inputs_by d (root d) n p y) other, tt)
+installed_leaves : (d : Domain) (t : Root) (n p q : Node) (tk : List ℕ) (x : Option Keyed) → same q p ≡ false → AllByRecursion (LeavesPairwise q tk) (installed_acts d t n p x)
+installed_leaves d t n p q tk None other = tt
+installed_leaves d t n p q tk (Some y) other = (leaves-installed q p tk y.ptk.tk (inputs_by d t n p y) other, tt)
 
-leaves_by : (d : Domain) (n p q : Node) (tk : List ℕ) (had : Bool) (octets : List ℕ) (k : KeyMessage) (o : Outcome) (r : Reply) → AllByRecursion (LeavesPairwise q tk) (installed_acts d (root d) n p r.installed)
-    → AllByRecursion (LeavesPairwise q tk) (reply_acts (pair d n p) had (taken_as octets k o) r)
-leaves_by d n p q tk had octets k o r installs = (
+leaves_by : (d : Domain) (t : Root) (n p q : Node) (tk : List ℕ) (had : Bool) (octets : List ℕ) (k : KeyMessage) (o : Outcome) (r : Reply) → AllByRecursion (LeavesPairwise q tk) (installed_acts d t n p r.installed)
+    → AllByRecursion (LeavesPairwise q tk) (reply_acts (pair_of d t n p) had (taken_as octets k o) r)
+leaves_by d t n p q tk had octets k o r installs = (
   leaves-took q p tk octets _ o _,
   all_joined (LeavesPairwise q tk) _ (sent_acts p r)
-      (all_joined (LeavesPairwise q tk) _ (finished_acts d (root d) n p r.installed)
+      (all_joined (LeavesPairwise q tk) _ (finished_acts d t n p r.installed)
       (all_joined (LeavesPairwise q tk) _ (gtk_acts d p r.gtk)
-      (all_joined (LeavesPairwise q tk) _ (installed_acts d (root d) n p r.installed)
-      (all_joined (LeavesPairwise q tk) (derived_acts d (root d) n p r.derived) (replaced_acts p had r.installed) (derived_leaves d n p q tk r.derived) (replaced_leaves p q tk had r.installed))
+      (all_joined (LeavesPairwise q tk) _ (installed_acts d t n p r.installed)
+      (all_joined (LeavesPairwise q tk) (derived_acts d t n p r.derived) (replaced_acts p had r.installed) (derived_leaves d t n p q tk r.derived) (replaced_leaves p q tk had r.installed))
       installs)
       (gtk_leaves d p q tk r.gtk))
-      (finished_leaves d n p q tk r.installed))
+      (finished_leaves d t n p q tk r.installed))
       (sent_leaves p q tk r),
 )
 
 -- those of another peer leave the key
-pub replied_leaves_others : (d : Domain) (n p q : Node) (tk : List ℕ) (had : Bool) (octets : List ℕ) (k : KeyMessage) (o : Outcome) (r : Reply) → same q p ≡ false
-    → AllByRecursion (LeavesPairwise q tk) (reply_acts (pair d n p) had (taken_as octets k o) r)
-replied_leaves_others d n p q tk had octets k o r other = leaves_by d n p q tk had octets k o r (installed_leaves d n p q tk r.installed other)
+pub replied_leaves_others : (d : Domain) (t : Root) (n p q : Node) (tk : List ℕ) (had : Bool) (octets : List ℕ) (k : KeyMessage) (o : Outcome) (r : Reply) → same q p ≡ false
+    → AllByRecursion (LeavesPairwise q tk) (reply_acts (pair_of d t n p) had (taken_as octets k o) r)
+replied_leaves_others d t n p q tk had octets k o r other = leaves_by d t n p q tk had octets k o r (installed_leaves d t n p q tk r.installed other)
 
 -- and so do those that install none
-pub replied_leaves : (d : Domain) (n p q : Node) (tk : List ℕ) (had : Bool) (octets : List ℕ) (k : KeyMessage) (o : Outcome) (r : Reply) → r.installed ≡ None
-    → AllByRecursion (LeavesPairwise q tk) (reply_acts (pair d n p) had (taken_as octets k o) r)
-replied_leaves d n p q tk had octets k o r none =
-    leaves_by d n p q tk had octets k o r (subst (λ (x : Option Keyed). AllByRecursion (LeavesPairwise q tk) (installed_acts d (root d) n p x)) (sym none) tt)
+pub replied_leaves : (d : Domain) (t : Root) (n p q : Node) (tk : List ℕ) (had : Bool) (octets : List ℕ) (k : KeyMessage) (o : Outcome) (r : Reply) → r.installed ≡ None
+    → AllByRecursion (LeavesPairwise q tk) (reply_acts (pair_of d t n p) had (taken_as octets k o) r)
+replied_leaves d t n p q tk had octets k o r none =
+    leaves_by d t n p q tk had octets k o r (subst (λ (x : Option Keyed). AllByRecursion (LeavesPairwise q tk) (installed_acts d t n p x)) (sym none) tt)
 
 -- ---- an installation
 
@@ -134,32 +135,32 @@ holds_installed p tk i h = record {
 }
 
 -- behind the acts of a reply that installs a key, that key is in use
-module _ (d : Domain) (n p : Node) (had : Bool) (octets : List ℕ) (k : KeyMessage) (o : Outcome) (r : Reply) (y : Keyed) (h : List Act) where
+module _ (d : Domain) (t : Root) (n p : Node) (had : Bool) (octets : List ℕ) (k : KeyMessage) (o : Outcome) (r : Reply) (y : Keyed) (h : List Act) where
   abbrev front : List Act
-  front = derived_acts d (root d) n p r.derived ++ replaced_acts p had (Some y)
+  front = derived_acts d t n p r.derived ++ replaced_acts p had (Some y)
 
   abbrev at_first : List Act
   at_first = Took (Some p) octets (kind.Key k.message) o (option_map (λ (kck : List ℕ). frame_seal kck k.octets) r.verified) ∷ h
 
   abbrev acts : List Act
-  acts = ((((front ++ installed_acts d (root d) n p (Some y)) ++ gtk_acts d p r.gtk) ++ finished_acts d (root d) n p (Some y)) ++ sent_acts p r)
+  acts = ((((front ++ installed_acts d t n p (Some y)) ++ gtk_acts d p r.gtk) ++ finished_acts d t n p (Some y)) ++ sent_acts p r)
 
-  in_turn : add acts at_first ≡ add (sent_acts p r) (add (finished_acts d (root d) n p (Some y)) (add (gtk_acts d p r.gtk) (Installed (One p) (Pairwise y.ptk.tk (inputs_by d (root d) n p y)) ∷ add front at_first)))
+  in_turn : add acts at_first ≡ add (sent_acts p r) (add (finished_acts d t n p (Some y)) (add (gtk_acts d p r.gtk) (Installed (One p) (Pairwise y.ptk.tk (inputs_by d t n p y)) ∷ add front at_first)))
   in_turn =
-      add_append ((((front ++ installed_acts d (root d) n p (Some y)) ++ gtk_acts d p r.gtk)) ++ finished_acts d (root d) n p (Some y)) (sent_acts p r) at_first
-      ∙ ap (add (sent_acts p r)) (add_append ((front ++ installed_acts d (root d) n p (Some y)) ++ gtk_acts d p r.gtk) (finished_acts d (root d) n p (Some y)) at_first
-      ∙ ap (add (finished_acts d (root d) n p (Some y))) (add_append (front ++ installed_acts d (root d) n p (Some y)) (gtk_acts d p r.gtk) at_first
-      ∙ ap (add (gtk_acts d p r.gtk)) (add_append front (installed_acts d (root d) n p (Some y)) at_first)))
+      add_append ((((front ++ installed_acts d t n p (Some y)) ++ gtk_acts d p r.gtk)) ++ finished_acts d t n p (Some y)) (sent_acts p r) at_first
+      ∙ ap (add (sent_acts p r)) (add_append ((front ++ installed_acts d t n p (Some y)) ++ gtk_acts d p r.gtk) (finished_acts d t n p (Some y)) at_first
+      ∙ ap (add (finished_acts d t n p (Some y))) (add_append (front ++ installed_acts d t n p (Some y)) (gtk_acts d p r.gtk) at_first
+      ∙ ap (add (gtk_acts d p r.gtk)) (add_append front (installed_acts d t n p (Some y)) at_first)))
 
   holds_then : HoldsPairwise p y.ptk.tk (fresh_key y.ptk.tk) (add acts at_first)
   holds_then = subst (λ (l : List Act). HoldsPairwise p y.ptk.tk (fresh_key y.ptk.tk) l) (sym in_turn)
       (others p y.ptk.tk (fresh_key y.ptk.tk) (sent_acts p r) _
-      (others p y.ptk.tk (fresh_key y.ptk.tk) (finished_acts d (root d) n p (Some y)) _
+      (others p y.ptk.tk (fresh_key y.ptk.tk) (finished_acts d t n p (Some y)) _
       (others p y.ptk.tk (fresh_key y.ptk.tk) (gtk_acts d p r.gtk) _
-      (holds_installed p y.ptk.tk (inputs_by d (root d) n p y) (add front at_first)) (gtk_leaves d p p y.ptk.tk r.gtk))
-      (finished_leaves d n p p y.ptk.tk (Some y)))
+      (holds_installed p y.ptk.tk (inputs_by d t n p y) (add front at_first)) (gtk_leaves d p p y.ptk.tk r.gtk))
+      (finished_leaves d t n p p y.ptk.tk (Some y)))
       (sent_leaves p p y.ptk.tk r))
 
-pub replied_holds : (d : Domain) (n p : Node) (had : Bool) (octets : List ℕ) (k : KeyMessage) (o : Outcome) (r : Reply) (y : Keyed) (h : List Act) → r.installed ≡ Some y
-    → HoldsPairwise p y.ptk.tk (fresh_key y.ptk.tk) (add (reply_acts (pair d n p) had (taken_as octets k o) r) h)
-replied_holds d n p had octets k o r y h some = rw some (holds_then d n p had octets k o r y h)
+pub replied_holds : (d : Domain) (t : Root) (n p : Node) (had : Bool) (octets : List ℕ) (k : KeyMessage) (o : Outcome) (r : Reply) (y : Keyed) (h : List Act) → r.installed ≡ Some y
+    → HoldsPairwise p y.ptk.tk (fresh_key y.ptk.tk) (add (reply_acts (pair_of d t n p) had (taken_as octets k o) r) h)
+replied_holds d t n p had octets k o r y h some = rw some (holds_then d t n p had octets k o r y h)

@@ -5,7 +5,7 @@ use Rattle.ccmp_guard.specs.declared.guard.Role.TheVariants.{Pairwise, Group}
 use Rattle.ccmp_guard.specs.Held.{Held}
 use Rattle.run_journal.specs.GroupKinds as groups
 use Rattle.run_journal.specs.declared.acts.Act.{Act}
-use Rattle.run_journal.specs.Acts.{GroupKey, switched, uses_all}
+use Rattle.run_journal.specs.Acts.{switched, uses_all}
 use Rattle.run_journal.specs.Questions.{pairwise_uses, group_uses}
 use Rattle.domain_rules.specs.PacketNumbers.{pairwise_got, current}
 

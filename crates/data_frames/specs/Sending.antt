@@ -1,5 +1,5 @@
 -- What sending under a key in use comes to (this project's choice).
-use Rattle.std.specs.Prelude.{ℕ, nat_lt, if◌then◌else◌}
+use Rattle.std.specs.Prelude.{nat_lt, if◌then◌else◌}
 use Rattle.replay_window.specs.Numbers.{last_number}
 use Rattle.ccmp_guard.specs.Roles.{key_id}
 use Rattle.ccmp_guard.specs.Held.{Held, with_next}

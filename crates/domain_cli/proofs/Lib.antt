@@ -9,3 +9,4 @@ pub mod Lines
 pub mod Words
 pub mod Out
 pub mod Faults
+pub mod Safety

@@ -17,7 +17,7 @@ use Rattle.domain_cli.specs.declared.status.Stop.TheVariants as stops
 use Rattle.domain_cli.specs.Script.{IsJournal, sizes_before, Says, Refuses, Spells, NoFeed, most_lines, most_octets, too_many, without_return, joined, texts, AreLines, Begins, Ends, IsWrong, HasFault, HasForm, Point, point_of}
 use Rattle.frame_script.specs.declared.refusal.Untaken.TheVariants as untaken
 use Rattle.domain_cli.specs.States.{RefusesLine, Stands}
-use Rattle.domain_cli.specs.Stops.{Stopped, IsRefused, StopsLine}
+use Rattle.domain_cli.specs.Stops.{Stopped, StopsLine}
 use Rattle.domain_cli.specs.Story.{Explains, IsWhole, IsFaulty, IsPrefix, StoppedBy, Tells, most_read}
 use Rattle.domain_cli.specs.declared.status.Found.TheVariants as founds
 

@@ -1,5 +1,5 @@
 -- What goes out at the end of a reading.
-use Rattle.std.proofs.Common.{◌≡◌, ℕ, List, ◌⊎◌, inl, inr, Result, Ok, Err, MatchResult, OnOk, OnErr, refl, sym, subst}
+use Rattle.std.proofs.Common.{◌≡◌, List, ◌⊎◌, inl, inr, Result, Ok, Err, MatchResult, OnOk, OnErr, refl, sym, subst}
 use Rattle.run_journal.specs.declared.acts.Entry.{Entry}
 use Rattle.run_journal.specs.Report.{lines}
 use Rattle.domain_cli.specs.declared.status.Found.{Found}

@@ -9,7 +9,7 @@ use Rattle.domain_base.specs.declared.names.Peer.{Peer}
 use Rattle.domain_base.specs.declared.names.Peer.TheVariants.{One, All}
 use Rattle.run_journal.specs.declared.domain.Domain.{Domain}
 use Rattle.run_journal.specs.declared.domain.Event.{Event}
-use Rattle.run_journal.specs.declared.domain.Event.TheVariants.{Connect, Deliver, Alter, Cut, Inject, Retry, Rekey, Send, Expire, Leave}
+use Rattle.run_journal.specs.declared.domain.Event.TheVariants.{Connect, Roam, Deliver, Alter, Cut, Inject, Retry, Rekey, Send, Expire, Revoke, Leave}
 use Rattle.run_journal.specs.declared.acts.Kind.{Kind}
 use Rattle.run_journal.specs.declared.acts.Seal.{Seal}
 use Rattle.run_journal.specs.declared.acts.Act.{Act}
@@ -120,6 +120,7 @@ number_low w j number size own s = omega (arith, s.sent, sizes_count j, own.coun
 
 pub event_in : (w : State) (j : List Entry) (e : Event) → Owns w j → CanHappen w.domain (sizes_of j) e → IsEventIn w.domain (length w.frames) j e
 event_in w j (Connect s a) own can = can
+event_in w j (Roam s a) own can = can
 event_in w j (Deliver number to) own can = (can.1.some, number_low w j number 0 own can.1, listed w.domain to can.0)
 event_in w j (Alter number place mask to) own can =
     (can.1.some, number_low w j number (suc place) own can.1, listed w.domain to can.0, sized_octets j number (suc place) own.numbered can.1)
@@ -130,4 +131,5 @@ event_in w j (Retry a s) own can = can
 event_in w j (Rekey a) own can = can
 event_in w j (Send from to tid octets) own can = (listed w.domain from can.0, receiver w.domain from to can.1, can.2)
 event_in w j (Expire a s) own can = can
+event_in w j (Revoke a s) own can = can
 event_in w j (Leave s) own can = can

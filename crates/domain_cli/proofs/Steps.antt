@@ -202,10 +202,10 @@ no_rounds (round ∷ rounds) n count none = absurd (omega (arith, count, none))
 
 -- in a world
 own_journal : (w : State) (r : Reading) (rounds : List (List Event)) (j : List Entry) → IsOwn w r j → Explained w.domain rounds j → IsJournal r.draft rounds j
-own_journal w r rounds j own explained = subst (λ (x : Draft). IsJournal x rounds j) (sym own.network) (own.own.form, explained)
+own_journal w r rounds j own explained = subst (λ (x : Draft). IsJournal x rounds j) (sym own.network) (own.own.form, own.own.suite, explained)
 
 own_explained : (w : State) (r : Reading) (rounds : List (List Event)) (j : List Entry) → IsOwn w r j → IsJournal r.draft rounds j → Explained w.domain rounds j
-own_explained w r rounds j own told = (subst (λ (x : Draft). IsJournal x rounds j) own.network told).1
+own_explained w r rounds j own told = (subst (λ (x : Draft). IsJournal x rounds j) own.network told).2
 
 first_explained : (w : State) (r : Reading) (rounds : List (List Event)) (j : List Entry) → IsOwn w r j → rounds ≡ [] → w.rounds ≡ 0 → Explained w.domain rounds j
 first_explained w r rounds j own none zero =

@@ -2,6 +2,7 @@
 use Rattle.std.specs.Prelude.{◌≡◌, ◌≢◌, ◌⊎◌, ℕ, ◌<◌, ◌≤◌, ◌-◌, ◌==◌, ◌&&◌, nat_lt, nat_le, cond, if◌then◌else◌, Bool, true, List, [], ◌∷◌, ◌++◌, length, take, map, slice_index, Ok, Err}
 use Rattle.std.proofs.Common.{inl, inr}
 use Rattle.std.specs.List.{AllByRecursion}
+use Rattle.domain_base.specs.declared.names.Akm.TheVariants.{FtPsk}
 use Rattle.run_journal.specs.declared.domain.Event.{Event}
 use Rattle.run_journal.specs.declared.acts.Entry.{Entry}
 use Rattle.domain_rules.specs.Network.{InForm}
@@ -14,9 +15,9 @@ use Rattle.frame_script.specs.Forms.{form_of}
 -- what the lines so far have told: what the script has said, from the end of its header on the network with the nodes listed
 -- so far, together with the rounds asked for so far
 
--- the network is in form, and the rounds explain this journal; before the header is whole there are none
+-- the network is in form, of suite 2 or 6, and the rounds explain this journal; before the header is whole there are none
 abbrev pub IsJournal : Draft → List (List Event) → List Entry → Type 0
-IsJournal (AtNodes d) rounds j = InForm d × Explained d rounds j
+IsJournal (AtNodes d) rounds j = InForm d × (d.akm ≢ FtPsk) × Explained d rounds j
 IsJournal draft rounds j = (rounds ≡ []) × (j ≡ [])
 
 -- the sizes of the frames that the journal j of the run has sent in the rounds up to that number, in order

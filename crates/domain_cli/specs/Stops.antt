@@ -1,5 +1,5 @@
 -- Why a reading goes no further.
-use Rattle.std.specs.Prelude.{◌≡◌, ◌<◌, ◌≤◌, ◌⊎◌, ℕ, suc, List, length, Bool, false}
+use Rattle.std.specs.Prelude.{◌≡◌, ◌<◌, ◌≤◌, ◌⊎◌, ℕ, suc, List, length, false}
 use Rattle.run_journal.specs.declared.domain.Event.{Event}
 use Rattle.run_journal.specs.declared.acts.Entry.{Entry}
 use Rattle.frame_script.specs.Forms.{form_of}

@@ -19,7 +19,8 @@ use Rattle.key_hierarchy.specs.Keys.{ptk}
 use Rattle.key_hierarchy.specs.declared.inputs.Inputs.{Inputs}
 use Rattle.run_journal.specs.declared.domain.Domain.{Domain}
 use Rattle.run_journal.specs.Acts.{GroupKey}
-use Rattle.domain_rules.specs.Frames.{wrapped, m3_key_data, g1_key_data}
+use Rattle.domain_rules.specs.Frames.{wrapped, g1_key_data}
+use Rattle.domain_rules.proofs.SuiteWords.{plain_key_data}
 use Rattle.domain_rules.specs.StationRows.{carried}
 use Rattle.domain_rules.proofs.KeyOctets.{octets-kek}
 
@@ -55,21 +56,21 @@ size_of d g is = omega (arith, is.size)
 pad_is : (n : ℕ) → n ≡ 46 → padding_octets (padding n) ≡ 0xdd ∷ 0x00 ∷ []
 pad_is n e = rw e refl
 
-data_is : (d : Domain) (g : GroupKey) → IsGroupKey g → m3_key_data d g ≡ plain_octets d g ++ 0xdd ∷ 0x00 ∷ []
+data_is : (d : Domain) (g : GroupKey) → IsGroupKey g → plain_key_data d g ≡ plain_octets d g ++ 0xdd ∷ 0x00 ∷ []
 data_is d g is = ap (λ (x : List ℕ). plain_octets d g ++ x) (pad_is (length (plain_octets d g)) (size_of d g is))
 
-length-data : (d : Domain) (g : GroupKey) → IsGroupKey g → length (m3_key_data d g) ≡ 48
+length-data : (d : Domain) (g : GroupKey) → IsGroupKey g → length (plain_key_data d g) ≡ 48
 length-data d g is = ap length (data_is d g is) ∙ length-append (plain_octets d g) (0xdd ∷ 0x00 ∷ []) ∙ omega (arith, size_of d g is)
 
 octets_kde : (g : GroupKey) → IsGroupKey g → AreOctets (gtk_kde_octets g.id g.key)
 octets_kde g is = All-append (λ x. x < 256) (0xdd ∷ 0x16 ∷ 0x00 ∷ 0x0f ∷ 0xac ∷ 0x01 ∷ []) (g.id ∷ 0x00 ∷ g.key) (octets_few (0xdd ∷ 0x16 ∷ 0x00 ∷ 0x0f ∷ 0xac ∷ 0x01 ∷ []) refl)
     (All-cons (λ x. x < 256) g.id (0x00 ∷ g.key) (omega (arith, is.low)) (All-cons (λ x. x < 256) 0 g.key (omega arith) is.octets))
 
-octets_data : (d : Domain) (g : GroupKey) → IsGroupKey g → AreOctets (m3_key_data d g)
+octets_data : (d : Domain) (g : GroupKey) → IsGroupKey g → AreOctets (plain_key_data d g)
 octets_data d g is = subst AreOctets (sym (data_is d g is))
     (All-append (λ x. x < 256) (plain_octets d g) (0xdd ∷ 0x00 ∷ []) (All-append (λ x. x < 256) (rsne_octets d.akm None) (gtk_kde_octets g.id g.key) (octets_rsne d.akm) (octets_kde g is)) (octets_few (0xdd ∷ 0x00 ∷ []) refl))
 
-pub wrapped_is : (d : Domain) (kek : List ℕ) (g : GroupKey) → IsGroupKey g → Wraps kek (m3_key_data d g) (wrapped kek (m3_key_data d g))
+pub wrapped_is : (d : Domain) (kek : List ℕ) (g : GroupKey) → IsGroupKey g → Wraps kek (plain_key_data d g) (wrapped kek (plain_key_data d g))
 wrapped_is d kek g is = record {
   whole_blocks = ap (λ (n : ℕ). n % 8) (length-data d g is);
   two_blocks = omega (arith, length-data d g is);
@@ -77,19 +78,19 @@ wrapped_is d kek g is = record {
   wrapped = refl;
 }
 
-pub few_wrapped : (d : Domain) (kek : List ℕ) (g : GroupKey) → AreOctets kek → IsGroupKey g → length (wrapped kek (m3_key_data d g)) ≤ 65440
-few_wrapped d kek g octets is = omega (arith, (length-Wraps kek (m3_key_data d g) (wrapped kek (m3_key_data d g)) octets (wrapped_is d kek g is)).0, length-data d g is)
+pub few_wrapped : (d : Domain) (kek : List ℕ) (g : GroupKey) → AreOctets kek → IsGroupKey g → length (wrapped kek (plain_key_data d g)) ≤ 65440
+few_wrapped d kek g octets is = omega (arith, (length-Wraps kek (plain_key_data d g) (wrapped kek (plain_key_data d g)) octets (wrapped_is d kek g is)).0, length-data d g is)
 
-pub says : (d : Domain) (g : GroupKey) → IsGroupKey g → SpellsElements KeyData (m3_key_data d g) (said KeyData (SentRsne d.akm None ∷ SentGtkKde g.id g.key ∷ []))
+pub says : (d : Domain) (g : GroupKey) → IsGroupKey g → SpellsElements KeyData (plain_key_data d g) (said KeyData (SentRsne d.akm None ∷ SentGtkKde g.id g.key ∷ []))
 says d g is = subst (λ (x : List ℕ). SpellsElements KeyData x (said KeyData (SentRsne d.akm None ∷ SentGtkKde g.id g.key ∷ [])))
     (ap (λ (x : List ℕ). (rsne_octets d.akm None ++ x) ++ 0xdd ∷ 0x00 ∷ []) (append-nil (gtk_kde_octets g.id g.key)) ∙ sym (data_is d g is))
     (pieces_spelled KeyData (SentRsne d.akm None ∷ SentGtkKde g.id g.key ∷ []) [] (0xdd ∷ 0x00 ∷ []) (tt, ((is.low, is.size), tt)) ((refl, tt), (tt, tt)) tt (refl, refl))
 
 -- whoever unwraps what was wrapped has the key that was put in
-pub one_carried : (d : Domain) (i : Inputs) (g : GroupKey) (plain : List ℕ) (e : ElementFields) → IsGroupKey g → Wraps (ptk i).kek plain (wrapped (ptk i).kek (m3_key_data d g)) → SpellsElements KeyData plain e → carried (Some e) ≡ g
+pub one_carried : (d : Domain) (i : Inputs) (g : GroupKey) (plain : List ℕ) (e : ElementFields) → IsGroupKey g → Wraps (ptk i).kek plain (wrapped (ptk i).kek (plain_key_data d g)) → SpellsElements KeyData plain e → carried (Some e) ≡ g
 one_carried d i g plain e is wraps spelled =
-    let one : plain ≡ m3_key_data d g = Wraps-unique (ptk i).kek plain (m3_key_data d g) (wrapped (ptk i).kek (m3_key_data d g)) (octets-kek i) wraps (wrapped_is d (ptk i).kek g is) in
-    let value = one_value KeyData (m3_key_data d g) e (said KeyData (SentRsne d.akm None ∷ SentGtkKde g.id g.key ∷ [])) (subst (λ (x : List ℕ). SpellsElements KeyData x e) one spelled) (says d g is) in
+    let one : plain ≡ plain_key_data d g = Wraps-unique (ptk i).kek plain (plain_key_data d g) (wrapped (ptk i).kek (plain_key_data d g)) (octets-kek i) wraps (wrapped_is d (ptk i).kek g is) in
+    let value = one_value KeyData (plain_key_data d g) e (said KeyData (SentRsne d.akm None ∷ SentGtkKde g.id g.key ∷ [])) (subst (λ (x : List ℕ). SpellsElements KeyData x e) one spelled) (says d g is) in
     ap (λ (x : ElementFields). carried (Some x)) value
 
 -- ---- the same of G1, whose key data is a group key alone, and needs no padding

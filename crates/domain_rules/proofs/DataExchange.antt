@@ -115,7 +115,7 @@ module _ (d : Domain) (n p : Node) (h : List Act) (way : Direction) (tid : Optio
   first_by from mine under = first_is from mine ∙ ap (data_verdict_by (packet_number body)) under ∙ ap (λ (x : ℕ). judged (nat_lt kept x)) number
 
   abbrev facts : Facts
-  facts = record { requested = None; unwrapped = None; data_ = None; opened = Some plain }
+  facts = record { requested = None; responded = None; unwrapped = None; data_ = None; pulled = None; opened = Some plain }
 
   pub data_row : peer_of d n a2 ≡ Some p → IsFor → opened_by n h p fields tid body ≡ Some under_key → nat_lt kept pn ≡ true
       → TakeRow (here d 0 n) h octets (Took (Some p) octets kind.Data Accepted (Some (data_seal tk header pn plain)) ∷ HandedUp p tk id t pn plain ∷ [])

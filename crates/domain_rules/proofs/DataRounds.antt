@@ -40,7 +40,7 @@ use Rattle.domain_rules.specs.Here.{here}
 use Rattle.domain_rules.proofs.CarriedKey.{IsGroupKey}
 use Rattle.domain_rules.proofs.KeyOctets.{octets-kek, octets-tk}
 use Rattle.domain_rules.proofs.Parts.{same-refl}
-use Rattle.domain_rules.proofs.SentReads.{m3_message, reads-m3, reads-rsc}
+use Rattle.domain_rules.proofs.SentReads.{m3_message, reads-m3, few-m3, reads-rsc}
 use Rattle.domain_rules.proofs.Exchange.{length-nonce, length-gtk, octets-gtk, take_step, same_octets, IsPair, Stage, after_sta, after_ap}
 use Rattle.domain_rules.proofs.DataReads.{IsMade, body_of, data_protected}
 use Rattle.domain_rules.proofs.DataExchange.{send_step, sends_first, sends_first_all, opens_pairwise, opens_group, other_id, data_row, replayed_row}
@@ -289,7 +289,7 @@ module _ (d : Domain) (k m : ℕ) (p : Payloads) (pair : IsPair d k m) (from : I
   is_group_key = record { octets = octets-gtk d a 0; size = length-gtk d a 0; low = omega arith }
 
   reads5 : Reads d.akm (first.octets5 d k m) (Keyed (m3_message d a s (keyed_by i) 2 g 0))
-  reads5 = reads-m3 d a s (keyed_by i) 2 g 0 pair.has_mic pair.ap_whole pair.sta_whole (omega arith) (length-nonce d a 1) (octets-kek i) is_group_key
+  reads5 = reads-m3 d a s (keyed_by i) 2 g 0 pair.has_mic pair.ap_whole pair.sta_whole (omega arith) (length-nonce d a 1) (few-m3 d a (keyed_by i) g pair.suite (octets-kek i) is_group_key)
 
   rsc5 : rsc_in (first.octets5 d k m) ≡ 0
   rsc5 = reads-rsc d.akm (first.octets5 d k m) (m3_message d a s (keyed_by i) 2 g 0) reads5

@@ -18,19 +18,18 @@ use Rattle.run_journal.specs.declared.acts.Drawn.TheVariants.{Nonce}
 use Rattle.run_journal.specs.declared.acts.Kind.{Kind}
 use Rattle.run_journal.specs.declared.acts.Kind.TheVariants as kind
 use Rattle.run_journal.specs.declared.acts.Reason.{Reason}
-use Rattle.run_journal.specs.declared.acts.Reason.TheVariants as reason
 use Rattle.run_journal.specs.declared.acts.Why.{Why}
 use Rattle.run_journal.specs.declared.acts.Outcome.TheVariants.{Accepted, Ignored, Refused}
 use Rattle.run_journal.specs.declared.acts.Seal.{Seal}
 use Rattle.run_journal.specs.declared.acts.Act.{Act}
 use Rattle.run_journal.specs.declared.acts.Act.TheVariants.{Opened, Closed, Drew, Derived, Took, Idle}
-use Rattle.run_journal.specs.Acts.{same, same_kind}
+use Rattle.run_journal.specs.Acts.{same, same_kind, Derivation}
 use Rattle.run_journal.specs.Questions.{attempt, own_nonce, derivation, pending, associated, heard, all_replied, draws, add}
 use Rattle.domain_rules.specs.Network.{address}
 use Rattle.domain_rules.specs.Frames.{in_data, sent_assoc_req, sent_assoc_resp, sent_m1, sent_m2}
 use Rattle.domain_rules.specs.Asking.{by_connect, kept_counter, offered, has_heard}
 use Rattle.domain_rules.specs.Closing.{close_attempt, close_pending, close_associated}
-use Rattle.domain_rules.specs.Rows.{response}
+use Rattle.domain_rules.specs.Rows.{refused_status, response_by, response}
 use Rattle.domain_rules.proofs.Parts.{same-refl, attempt_none, attempt_more, by_connect_more, attempt_some, own_nonce_more, IsApart, apart-opened, apart-closed, apart-drew, apart-derived, apart-sent, apart-sent_kind, apart-took, apart-refused, apart-ignored, apart-idle, GoesOn, goes_on, draws_add, pending_add, associated_add, leaves_pending, leaves_associated}
 use Rattle.domain_rules.proofs.SentReads.{m1_message, reads-m1, reads-counter}
 
@@ -44,18 +43,55 @@ no_response M4 = refl
 no_response G1 = refl
 no_response G2 = refl
 
+no_ft_response : (m : Message) → same_kind (kind.Key m) kind.FtResp ≡ false
+no_ft_response M1 = refl
+no_ft_response M2 = refl
+no_ft_response M3 = refl
+no_ft_response M4 = refl
+no_ft_response G1 = refl
+no_ft_response G2 = refl
+
+no_re_response : (m : Message) → same_kind (kind.Key m) kind.ReResp ≡ false
+no_re_response M1 = refl
+no_re_response M2 = refl
+no_re_response M3 = refl
+no_re_response M4 = refl
+no_re_response G1 = refl
+no_re_response G2 = refl
+
+apart_by : (d : Domain) (n q : Node) (k : Kind) (o : Option ℕ) (p : Node) → AllByRecursion (IsApart p) (response_by d n q k o)
+apart_by d n q kind.AssocReq (Some code) p = (apart-sent_kind p (One q) kind.AssocResp _ None no_response, tt)
+apart_by d n q kind.FtReq (Some code) p = (apart-sent_kind p (One q) kind.FtResp _ None no_ft_response, tt)
+apart_by d n q kind.ReReq (Some code) p = (apart-sent_kind p (One q) kind.ReResp _ None no_re_response, tt)
+apart_by d n q k _ p = tt
+
 pub response-apart : (d : Domain) (n : Node) (from : Option Node) (k : Kind) (why : Reason) (p : Node) → AllByRecursion (IsApart p) (response d n from k why)
-response-apart d (Ap a) (Some q) kind.AssocReq (reason.Status code) p = (apart-sent_kind p (One q) kind.AssocResp _ None no_response, tt)
-response-apart d n from k _ p = tt
+response-apart d (Ap a) (Some q) k why p = apart_by d (Ap a) q k (refused_status why) p
+response-apart d (Ap a) None k why p = tt
+response-apart d (Sta s) from k why p = tt
+
+draws_by : (d : Domain) (n q : Node) (k : Kind) (o : Option ℕ) → draws (response_by d n q k o) ≡ 0
+draws_by d n q kind.AssocReq (Some code) = refl
+draws_by d n q kind.FtReq (Some code) = refl
+draws_by d n q kind.ReReq (Some code) = refl
+draws_by d n q k _ = refl
 
 response-draws : (d : Domain) (n : Node) (from : Option Node) (k : Kind) (why : Reason) → draws (response d n from k why) ≡ 0
-response-draws d (Ap a) (Some q) kind.AssocReq (reason.Status code) = refl
-response-draws d n from k _ = refl
+response-draws d (Ap a) (Some q) k why = draws_by d (Ap a) q k (refused_status why)
+response-draws d (Ap a) None k why = refl
+response-draws d (Sta s) from k why = refl
+
+leaves_by : (d : Domain) (n q : Node) (k : Kind) (o : Option ℕ) → AllByRecursion (λ e. leaves_pending e ≡ true) (response_by d n q k o) × AllByRecursion (λ e. leaves_associated e ≡ true) (response_by d n q k o)
+leaves_by d n q kind.AssocReq (Some code) = ((refl, tt), (refl, tt))
+leaves_by d n q kind.FtReq (Some code) = ((refl, tt), (refl, tt))
+leaves_by d n q kind.ReReq (Some code) = ((refl, tt), (refl, tt))
+leaves_by d n q k _ = (tt, tt)
 
 response-leaves : (d : Domain) (n : Node) (from : Option Node) (k : Kind) (why : Reason)
     → AllByRecursion (λ e. leaves_pending e ≡ true) (response d n from k why) × AllByRecursion (λ e. leaves_associated e ≡ true) (response d n from k why)
-response-leaves d (Ap a) (Some q) kind.AssocReq (reason.Status code) = ((refl, tt), (refl, tt))
-response-leaves d n from k _ = (tt, tt)
+response-leaves d (Ap a) (Some q) k why = leaves_by d (Ap a) q k (refused_status why)
+response-leaves d (Ap a) None k why = (tt, tt)
+response-leaves d (Sta s) from k why = (tt, tt)
 
 -- nothing that is asked is answered otherwise
 pub record IsAsBefore (old new : List Act) : Type 0 where
@@ -313,26 +349,26 @@ has_associated p octets h part is = (
 
 -- ---- a station derives the key by M1 of access point p
 
-abbrev pub replying_acts : Domain → Node → Node → List ℕ → Inputs → Ptk → ℕ → List Act
-replying_acts d n p octets i k counter = Took (Some p) octets (kind.Key M1) Accepted None ∷ Derived p i k ∷ sent_m2 d n p (record { inputs = i; ptk = k }) counter ∷ []
+abbrev pub replying_acts : Domain → Node → Node → List ℕ → Derivation → ℕ → List ℕ → List Act
+replying_acts d n p octets x counter fte = Took (Some p) octets (kind.Key M1) Accepted None ∷ Derived p x.inputs x.ptk ∷ sent_m2 d n p x counter fte ∷ []
 
-pub has_replied : (d : Domain) (n p : Node) (octets : List ℕ) (i : Inputs) (k : Ptk) (counter : ℕ) (h part : List Act) → attempt p h ≡ Some part
-    → (t : IsTaken p part h (add (replying_acts d n p octets i k counter) h)) × (heard p kind.AssocResp t.more ≡ heard p kind.AssocResp part) × (heard p (kind.Key M1) t.more ≡ Some octets) × (derivation p t.more ≡ Some (record { inputs = i; ptk = k }))
-has_replied d n p octets i k counter h part is =
+pub has_replied : (d : Domain) (n p : Node) (octets : List ℕ) (x : Derivation) (counter : ℕ) (fte : List ℕ) (h part : List Act) → attempt p h ≡ Some part
+    → (t : IsTaken p part h (add (replying_acts d n p octets x counter fte) h)) × (heard p kind.AssocResp t.more ≡ heard p kind.AssocResp part) × (heard p (kind.Key M1) t.more ≡ Some octets) × (derivation p t.more ≡ Some x)
+has_replied d n p octets x counter fte h part is =
     let took = Took (Some p) octets (kind.Key M1) Accepted None in
-    let m2 = sent_m2 d n p (record { inputs = i; ptk = k }) counter in
+    let m2 = sent_m2 d n p x counter fte in
     let first = attempt_more p took h part refl refl is in
-    let second = attempt_more p (Derived p i k) (took ∷ h) (took ∷ part) refl refl first in (
+    let second = attempt_more p (Derived p x.inputs x.ptk) (took ∷ h) (took ∷ part) refl refl first in (
       record {
-        more = m2 ∷ Derived p i k ∷ took ∷ part;
-        is = attempt_more p m2 (Derived p i k ∷ took ∷ h) (Derived p i k ∷ took ∷ part) refl refl second;
+        more = m2 ∷ Derived p x.inputs x.ptk ∷ took ∷ part;
+        is = attempt_more p m2 (Derived p x.inputs x.ptk ∷ took ∷ h) (Derived p x.inputs x.ptk ∷ took ∷ part) refl refl second;
         begun = by_connect_more took part (attempt_some p h part is);
-        nonce = λ v s. own_nonce_more m2 (Derived p i k ∷ took ∷ part) v (own_nonce_more (Derived p i k) (took ∷ part) v (own_nonce_more took part v s));
+        nonce = λ v s. own_nonce_more m2 (Derived p x.inputs x.ptk ∷ took ∷ part) v (own_nonce_more (Derived p x.inputs x.ptk) (took ∷ part) v (own_nonce_more took part v s));
         counter = rw (same-refl p) refl;
         pending_is = refl;
         associated_is = refl;
         draws_are = refl;
-        others = λ q s. attempt_none q m2 (Derived p i k ∷ took ∷ h) refl (attempt_none q (Derived p i k) (took ∷ h) refl (attempt_none q took h refl s));
+        others = λ q s. attempt_none q m2 (Derived p x.inputs x.ptk ∷ took ∷ h) refl (attempt_none q (Derived p x.inputs x.ptk) (took ∷ h) refl (attempt_none q took h refl s));
       },
       rw (same-refl p) refl,
       rw (same-refl p) refl,

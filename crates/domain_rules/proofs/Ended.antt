@@ -11,7 +11,6 @@ use Rattle.run_journal.specs.declared.acts.Kind.{Kind}
 use Rattle.run_journal.specs.declared.acts.Kind.TheVariants as kind
 use Rattle.run_journal.specs.declared.acts.Part.TheVariants.{Attempt, Session}
 use Rattle.run_journal.specs.declared.acts.Reason.{Reason}
-use Rattle.run_journal.specs.declared.acts.Reason.TheVariants as reason
 use Rattle.run_journal.specs.declared.acts.Why.TheVariants as why
 use Rattle.run_journal.specs.declared.acts.Outcome.TheVariants.{Accepted}
 use Rattle.run_journal.specs.declared.acts.Act.{Act}
@@ -27,25 +26,38 @@ use Rattle.run_journal.specs.declared.acts.Seal.{Seal}
 use Rattle.domain_rules.specs.PacketNumbers.{SendKey, send_key}
 use Rattle.domain_rules.specs.DataFrames.{sent_data}
 use Rattle.domain_rules.specs.DataRows.{used_acts, send_acts_by}
-use Rattle.domain_rules.specs.Verified.{IsVerified, IsNoted, By_mic, By_ccm}
+use Rattle.domain_rules.specs.Verified.{IsVerified, IsVerifiedFte, IsNoted, By_mic, By_fte, By_ccm}
 use Rattle.run_journal.specs.Acts.{Derivation, GroupKey}
 use Rattle.run_journal.specs.GroupKinds.{GroupKind}
 use Rattle.run_journal.specs.GroupKinds as groups
 use Rattle.run_journal.specs.Premises.{In}
-use Rattle.run_journal.specs.Questions.{attempt, chain, derivation, before_sent, session, handshake, add}
+use Rattle.run_journal.specs.Questions.{pending, attempt, chain, derivation, before_sent, session, handshake, add}
 use Rattle.domain_rules.specs.Network.{mac}
 use Rattle.domain_rules.specs.Counters.{sent_count, next_in_attempt}
 use Rattle.domain_rules.specs.GroupKeys.{memory, find_key, give_by, is_current}
 use Rattle.domain_rules.specs.Owing.{owing, any_owes, switch_acts}
 use Rattle.domain_rules.specs.Frames.{sent_m1, sent_m4, sent_g2, frame_seal}
-use Rattle.domain_rules.specs.Reading.{Reading, kind_of}
+use Rattle.domain_rules.specs.Reading.{Reading, NoFrame, PassedOver, NoElements, Managed, NoKeyFrame, NoMessage, Keyed, Sealed, Reads, kind_of}
 use Rattle.domain_rules.specs.Facts.{Facts}
 use Rattle.domain_rules.specs.Asking.{by_connect, has_heard, own}
-use Rattle.domain_rules.specs.Rows.{NodeEvent, Take, Begin, Retry, Rekey, Send, Expire, Leave, response, TakeRows, By_assoc_req, By_assoc_resp, By_m1, By_m2, By_m3, By_repeated_m3, By_m4, By_g1, By_g2, By_data, By_ignored, By_refusal, RowOf, Adds}
-use Rattle.domain_rules.specs.Closing.{close_attempt, close_session, or_nothing, sender}
+use Rattle.domain_rules.specs.Rows.{NodeEvent, Take, Begin, Retry, Rekey, Send, Expire, Leave, Roam as RoamEvent, Revoke, refused_status, response_by, response, TakeRows, By_assoc_req, By_assoc_resp, By_m1, By_m2, By_m3, By_repeated_m3, By_m4, By_g1, By_g2, By_data, By_ft_req, By_repeated_ft_req, By_ft_resp, By_re_req as By_request, By_repeated_re_req, By_re_resp as By_response, By_ignored, By_refusal, RowOf, Adds}
+use Rattle.domain_rules.specs.Closing.{close_attempt, close_session, close_pending, or_nothing, sender}
 use Rattle.domain_rules.specs.StationRows.{carried}
 use Rattle.domain_rules.specs.AccessPointRows.{m4_acts, newer_acts, carried_older, g1_to, most_sends, again_or_give_up, m3_again, retry_attempt, retry_session, retry_acts, to_session, to_sessions, next_key, RekeyRow, Pending, Spent, Renews}
-use Rattle.domain_rules.specs.Ended.{EndsRightly, By_begin, By_m4 as By_an_m4, By_retry, By_expire, By_leave}
+use Rattle.domain_rules.specs.Ended.{EndsRightly, By_begin, By_m4 as By_an_m4, By_retry, By_expire, By_leave, By_re_req, By_re_resp}
+use Rattle.rsn_elements.specs.Elements.{ElementFields}
+use Rattle.key_hierarchy.specs.declared.answers.PullAnswer.{PullAnswer}
+use Rattle.key_hierarchy.specs.declared.fast_transition.PmkR1.{PmkR1}
+use Rattle.domain_base.specs.declared.names.Akm.TheVariants.{Psk, PskSha256, FtPsk}
+use Rattle.run_journal.specs.Holders.{Stored, first_stored, since_finished}
+use Rattle.domain_rules.specs.FastTransition.{single}
+use Rattle.domain_rules.specs.TransitionKeys.{Asked, asked}
+use Rattle.domain_rules.specs.TransitionRows.{sent_again, look_answer, looked_by, looked_for, look_of_kind, refused_look, RoamRow, NoSession, SamePeer}
+use Rattle.domain_rules.specs.TransitionRows as roam
+use Rattle.domain_rules.specs.KeyHolders.{put_acts_by, put_acts, revoke_acts_by}
+use Rattle.domain_rules.proofs.OneOutcome.{and_accepted}
+use Rattle.domain_rules.proofs.FteSeals.{request_noted, response_noted, request_has, response_has}
+use Rattle.domain_rules.proofs.Covered.{req_covered, resp_covered}
 use Rattle.domain_rules.specs.Here.{here}
 use Rattle.domain_rules.proofs.Noted.{noted_verified, in_switched, among_all}
 
@@ -80,9 +92,59 @@ kept_give : (p : Node) (b : Mac) (x : GroupKey) (o : Option GroupKey) (g : List 
 kept_give p b x None g kept = kept
 kept_give p b x (Some k) g kept = kept
 
+kept_by : (d : Domain) (n q : Node) (k : Kind) (o : Option ℕ) → are_kept (response_by d n q k o) ≡ true
+kept_by d n q kind.AssocReq (Some code) = refl
+kept_by d n q kind.FtReq (Some code) = refl
+kept_by d n q kind.ReReq (Some code) = refl
+kept_by d n q k _ = refl
+
 kept_response : (d : Domain) (n : Node) (from : Option Node) (k : Kind) (w : Reason) → are_kept (response d n from k w) ≡ true
-kept_response d (Ap a) (Some p) kind.AssocReq (reason.Status code) = refl
-kept_response d n from k _ = refl
+kept_response d (Ap a) (Some p) k w = kept_by d (Ap a) p k (refused_status w)
+kept_response d (Ap a) None k w = refl
+kept_response d (Sta s) from k w = refl
+
+kept_asked : (p : Node) (o : Option Asked) (x : Option PullAnswer) → are_kept (looked_for p o x) ≡ true
+kept_asked p None x = refl
+kept_asked p (Some a) x = by (single a.names) x
+  where
+    by : (m : Option (List ℕ)) (y : Option PullAnswer) → are_kept (looked_by p a m y) ≡ true
+    by (Some name) (Some answer) = refl
+    by (Some name) None = refl
+    by None y = refl
+
+kept_kind : (k : Kind) (p : Node) (e : ElementFields) (x : Option PullAnswer) → are_kept (look_of_kind k p e x) ≡ true
+kept_kind kind.FtReq p e x = kept_asked p (asked e) x
+kept_kind _ p e x = refl
+
+kept_look : (n : Node) (from : Option Node) (r : Reading) (x : Option PmkR1) (w : Reason) → are_kept (refused_look n from r x w) ≡ true
+kept_look (Ap a) (Some p) (Managed b e) x w = kept_kind b.kind p e (look_answer w x)
+kept_look (Ap a) (Some p) (NoFrame fault) x w = refl
+kept_look (Ap a) (Some p) PassedOver x w = refl
+kept_look (Ap a) (Some p) (NoElements b fault) x w = refl
+kept_look (Ap a) (Some p) (NoKeyFrame header fault) x w = refl
+kept_look (Ap a) (Some p) (NoMessage header) x w = refl
+kept_look (Ap a) (Some p) (Keyed k) x w = refl
+kept_look (Ap a) (Some p) (Sealed header way tid body) x w = refl
+kept_look (Ap a) None r x w = refl
+kept_look (Sta s) from r x w = refl
+
+kept_stored : (p : Node) (k : Kind) (o : Option Stored) → are_kept (sent_again p k o) ≡ true
+kept_stored p k None = refl
+kept_stored p k (Some s) = refl
+
+kept_put : (akm : Akm) (d : Domain) (n : Node) (h : List Act) (p : Node) (x : Derivation) → are_kept (put_acts_by akm d n h p x) ≡ true
+kept_put FtPsk d n h p x = refl
+kept_put Psk d n h p x = refl
+kept_put PskSha256 d n h p x = refl
+
+kept_revoke : (akm : Akm) (d : Domain) (n : Node) (h : List Act) (p : Node) → are_kept (revoke_acts_by akm d n h p) ≡ true
+kept_revoke FtPsk d n h p = refl
+kept_revoke Psk d n h p = refl
+kept_revoke PskSha256 d n h p = refl
+
+kept_pending : (o : Option Node) (g : List Act) → are_kept g ≡ true → are_kept (close_pending o ++ g) ≡ true
+kept_pending None g kept = kept
+kept_pending (Some p) g kept = kept
 
 kept_m3 : (d : Domain) (n : Node) (h : List Act) (p : Node) (part : List Act) (x : Option Derivation) (past : Option (List Act)) → is_kept (m3_again d n h p part x past) ≡ true
 kept_m3 d n h p part (Some x) (Some past) = refl
@@ -182,11 +244,11 @@ closed_of p q None g kept there = absurd (none_ended p g kept there)
 closed_of p q (Some x) g kept (inl here) = cc here
 closed_of p q (Some x) g kept (inr there) = absurd (none_ended p g kept there)
 
-closed_m4 : (p q : Node) (o : Option Derivation) (x : Derivation) (newer : List Act) → are_kept newer ≡ true
-    → In (Closed p Session) ((close_session q o ++ Installed (One q) (Pairwise x.ptk.tk x.inputs) ∷ Finished q x.inputs ∷ []) ++ newer) → p ≡ q
-closed_m4 p q None x newer kept there = absurd (none_ended p (Installed (One q) (Pairwise x.ptk.tk x.inputs) ∷ Finished q x.inputs ∷ newer) kept there)
-closed_m4 p q (Some y) x newer kept (inl here) = cc here
-closed_m4 p q (Some y) x newer kept (inr there) = absurd (none_ended p (Installed (One q) (Pairwise x.ptk.tk x.inputs) ∷ Finished q x.inputs ∷ newer) kept there)
+closed_m4 : (p q : Node) (o : Option Derivation) (x : Derivation) (put newer : List Act) → are_kept put ≡ true → are_kept newer ≡ true
+    → In (Closed p Session) ((close_session q o ++ Installed (One q) (Pairwise x.ptk.tk x.inputs) ∷ Finished q x.inputs ∷ put) ++ newer) → p ≡ q
+closed_m4 p q None x put newer putting kept there = absurd (none_ended p (Installed (One q) (Pairwise x.ptk.tk x.inputs) ∷ Finished q x.inputs ∷ put ++ newer) (kept_append put newer putting kept) there)
+closed_m4 p q (Some y) x put newer putting kept (inl here) = cc here
+closed_m4 p q (Some y) x put newer putting kept (inr there) = absurd (none_ended p (Installed (One q) (Pairwise x.ptk.tk x.inputs) ∷ Finished q x.inputs ∷ put ++ newer) (kept_append put newer putting kept) there)
 
 -- the row is that of an M4 of p
 abbrev IsM4 : Node → List ℕ → List Act → Type 0
@@ -196,40 +258,79 @@ later_than : (x e : Act) (g : List Act) → In x (e ∷ g) → (x ≡ e → ⊥)
 later_than x e g (inl here) other = absurd (other here)
 later_than x e g (inr later) other = later
 
+-- the row is that of an M4 of p, or of a reassociation frame, whose MIC verified
+data RowEnds (p : Node) (octets : List ℕ) (g : List Act) : Type 0 where
+  An_m4 : IsM4 p octets g → RowEnds p octets g
+  A_request : (s : Seal) → In (Took (Some p) octets kind.ReReq Accepted (Some s)) g → IsVerifiedFte octets s → RowEnds p octets g
+  A_response : (q : Node) (s : Seal) → In (Took (Some q) octets kind.ReResp Accepted (Some s)) g → IsVerifiedFte octets s → RowEnds p octets g
+
 row_ends : (d : Domain) (first : ℕ) (n : Node) (h : List Act) (octets : List ℕ) (r : Reading) (facts : Facts) (g : List Act) (p : Node)
-    → TakeRows (here d first n) h octets r facts g → In (Closed p Session) g → IsM4 p octets g
-row_ends d first n h octets r facts g p (By_assoc_req row) there = absurd (none_ended p g (ap are_kept row.says ∙ kept_attempt row.p (attempt row.p h) _ refl) there)
-row_ends d first n h octets r facts g p (By_assoc_resp row) there = absurd (none_ended p g (ap are_kept row.says) there)
-row_ends d first n h octets r facts g p (By_m1 row) there = absurd (none_ended p g (ap are_kept row.says) there)
-row_ends d first n h octets r facts g p (By_m2 row) there = absurd (none_ended p g (ap are_kept row.says) there)
-row_ends d first n h octets r facts g p (By_m3 row) there =
+    → Reads d.akm octets r → TakeRows (here d first n) h octets r facts g → In (Closed p Session) g → RowEnds p octets g
+row_ends d first n h octets r facts g p reads (By_assoc_req row) there = absurd (none_ended p g (ap are_kept row.says ∙ kept_attempt row.p (attempt row.p h) _ refl) there)
+row_ends d first n h octets r facts g p reads (By_assoc_resp row) there = absurd (none_ended p g (ap are_kept row.says) there)
+row_ends d first n h octets r facts g p reads (By_m1 row) there = absurd (none_ended p g (ap are_kept row.says) there)
+row_ends d first n h octets r facts g p reads (By_m2 row) there = absurd (none_ended p g (ap are_kept row.says) there)
+row_ends d first n h octets r facts g p reads (By_m3 row) there =
     absurd (none_ended p g (ap are_kept row.says ∙ kept_give row.p (mac d row.p) (carried facts.data_) (find_key (carried facts.data_).key (memory groups.Gtk row.p h)) (Finished row.p row.y.key.inputs ∷ sent_m4 d n row.p row.y.key row.k.fields.counter ∷ []) refl) there)
-row_ends d first n h octets r facts g p (By_repeated_m3 row) there = absurd (none_ended p g (ap are_kept row.says) there)
-row_ends d first n h octets r facts g p (By_m4 row) there =
+row_ends d first n h octets r facts g p reads (By_repeated_m3 row) there = absurd (none_ended p g (ap are_kept row.says) there)
+row_ends d first n h octets r facts g p reads (By_m4 row) there =
     let at = subst (λ (x : List Act). In (Closed p Session) x) row.says there in
-    let newer : List Act = newer_acts d n row.p (add (m4_acts octets row.k row.p row.x (session row.p h)) h) row.x (carried_older row.p h (before_sent row.p (kind.Key M3) h)) in
-    let same : p ≡ row.p = closed_m4 p row.p (session row.p h) row.x newer (kept_newer d n row.p (add (m4_acts octets row.k row.p row.x (session row.p h)) h) row.x (carried_older row.p h (before_sent row.p (kind.Key M3) h))) (later_than (Closed p Session) _ _ at (λ e. cc e)) in (
+    let put : List Act = put_acts d n h row.p row.x in
+    let after : List Act = add (m4_acts octets row.k row.p row.x (session row.p h) put) h in
+    let newer : List Act = newer_acts d n row.p after row.x (carried_older row.p h (before_sent row.p (kind.Key M3) h)) in
+    let same : p ≡ row.p = closed_m4 p row.p (session row.p h) row.x put newer (kept_put d.akm d n h row.p row.x) (kept_newer d n row.p after row.x (carried_older row.p h (before_sent row.p (kind.Key M3) h))) (later_than (Closed p Session) _ _ at (λ e. cc e)) in
+    An_m4 (
       row.x.ptk.kck,
       (row.k.octets, subst (λ (x : List Act). In (Took (Some p) octets (kind.Key M4) Accepted (Some (frame_seal row.x.ptk.kck row.k.octets))) x) (sym row.says) (inl (ap (λ (q : Node). Took (Some q) octets (kind.Key M4) Accepted (Some (frame_seal row.x.ptk.kck row.k.octets))) same))),
     )
-row_ends d first n h octets r facts g p (By_g1 row) there =
+row_ends d first n h octets r facts g p reads (By_g1 row) there =
     absurd (none_ended p g (ap are_kept row.says ∙ kept_give row.p (mac d row.p) (carried facts.data_) (find_key (carried facts.data_).key (memory groups.Gtk row.p h)) (sent_g2 d n row.p row.x row.k.fields.counter ∷ []) refl) there)
-row_ends d first n h octets r facts g p (By_g2 row) there = absurd (none_ended p g (ap are_kept row.says) there)
-row_ends d first n h octets r facts g p (By_data row) there = absurd (none_ended p g (ap are_kept row.says) there)
-row_ends d first n h octets r facts g p (By_ignored row) there = absurd (none_ended p g (ap are_kept row.says) there)
-row_ends d first n h octets r facts g p (By_refusal row) there = absurd (none_ended p g (ap are_kept row.says ∙ kept_response d n (sender d n r) (kind_of r) row.why) there)
+row_ends d first n h octets r facts g p reads (By_g2 row) there = absurd (none_ended p g (ap are_kept row.says) there)
+row_ends d first n h octets r facts g p reads (By_data row) there = absurd (none_ended p g (ap are_kept row.says) there)
+row_ends d first n h octets r facts g p reads (By_ft_req row) there = absurd (none_ended p g (ap are_kept row.says ∙ kept_attempt row.p (attempt row.p h) _ refl) there)
+row_ends d first n h octets r facts g p reads (By_repeated_ft_req row) there = absurd (none_ended p g (ap are_kept row.says ∙ kept_stored row.p kind.FtResp (first_stored row.p kind.FtResp row.part)) there)
+row_ends d first n h octets r facts g p reads (By_ft_resp row) there = absurd (none_ended p g (ap are_kept row.says) there)
+row_ends d first n h octets r facts g p reads (By_request row) there =
+    let at = subst (λ (x : List Act). In (Closed p Session) x) row.says there in
+    let same : p ≡ row.p = closed_of p row.p (session row.p h) _ refl (later_than (Closed p Session) _ _ at (λ e. cc e)) in
+    let taken = inl (and_accepted _ _ row.accepted) in
+    let seal = request_has d first n h r row.b row.e row.p row.is row.kind_is row.from taken (req_covered d first n h octets r row.b row.e facts reads row.is row.kind_is row.accepted) in
+    A_request seal.0 (subst (λ (x : List Act). In (Took (Some p) octets kind.ReReq Accepted (Some seal.0)) x) (sym row.says)
+    (inl (ap (λ (q : Node). Took (Some q) octets kind.ReReq Accepted (Some seal.0)) same ∙ ap (λ (o : Option Seal). Took (Some row.p) octets kind.ReReq Accepted o) (sym seal.1))))
+    (request_noted d first n h octets r row.b row.e row.p seal.0 reads row.is row.kind_is row.from taken seal.1)
+row_ends d first n h octets r facts g p reads (By_repeated_re_req row) there = absurd (none_ended p g (ap are_kept row.says ∙ kept_stored row.p kind.ReResp (first_stored row.p kind.ReResp (since_finished row.p h))) there)
+row_ends d first n h octets r facts g p reads (By_response row) there =
+    let taken = inl (and_accepted _ _ row.accepted) in
+    let seal = response_has d first n h r row.b row.e row.p row.is row.kind_is row.from taken (resp_covered d first n h octets r row.b row.e facts reads row.is row.kind_is row.accepted) in
+    A_response row.p seal.0 (subst (λ (x : List Act). In (Took (Some row.p) octets kind.ReResp Accepted (Some seal.0)) x) (sym row.says)
+    (inl (ap (λ (o : Option Seal). Took (Some row.p) octets kind.ReResp Accepted o) (sym seal.1))))
+    (response_noted d first n h octets r row.b row.e row.p seal.0 reads row.is row.kind_is row.from taken seal.1)
+row_ends d first n h octets r facts g p reads (By_ignored row) there = absurd (none_ended p g (ap are_kept row.says) there)
+row_ends d first n h octets r facts g p reads (By_refusal row) there =
+    absurd (none_ended p g (ap are_kept row.says ∙ kept_append (refused_look n (sender d n r) r facts.pulled row.why) (response d n (sender d n r) (kind_of r) row.why) (kept_look n (sender d n r) r facts.pulled row.why) (kept_response d n (sender d n r) (kind_of r) row.why)) there)
 
 -- what has the form of a MIC's seal was noted of a MIC
 mic_noted : (akm : Akm) (octets kck whole : List ℕ) → IsNoted akm octets (frame_seal kck whole) → IsVerified akm octets (frame_seal kck whole)
 mic_noted akm octets kck whole (By_mic v) = v
+mic_noted akm octets kck whole (By_fte u) = let e : 1 ∷ without_mic whole ≡ 2 ∷ u.input = ap (λ (s : Seal). s.octets) u.is in cc e
 mic_noted akm octets kck whole (By_ccm u) = let e : 1 ∷ without_mic whole ≡ 3 ∷ sealed_octets u.header.octets (packet_number u.body) u.plain = ap (λ (s : Seal). s.octets) u.is in cc e
+
+kept_roam : (d : Domain) (first : ℕ) (n : Node) (h : List Act) (p : Node) (g : List Act) → RoamRow (here d first n) h p g → are_kept g ≡ true
+kept_roam d first n h p g (NoSession none is) = ap are_kept is
+kept_roam d first n h p g (SamePeer q some same is) = ap are_kept is
+kept_roam d first n h p g (roam.Spent q some other many is) = ap are_kept is
+kept_roam d first n h p g (roam.Asks suite q some other few is) = ap are_kept is ∙ kept_pending (pending h) _ refl
 
 event_ends : (d : Domain) (first : ℕ) (n : Node) (h : List Act) (event : NodeEvent) (g all : List Act) (p : Node) → Adds (here d first n) h event all → RowOf (here d first n) h event g
     → ((x : Act) → In x g → In x all) → In (Closed p Session) g → EndsRightly d event all p
-event_ends d first n h (Take octets) g all p adds row more there =
-    let (kck, (whole, m4)) = row_ends d first n h octets row.r row.facts g p row.row there in
-    let v = noted_verified d first n h (Take octets) all (Some p) octets (kind.Key M4) Accepted (frame_seal kck whole) adds (more _ m4) in
-    By_an_m4 (record { octets = octets; is = refl; seal = frame_seal kck whole; accepted = more _ m4; verified = mic_noted d.akm octets kck whole v.1 })
+event_ends d first n h (Take octets) g all p adds row more there = by (row_ends d first n h octets row.r row.facts g p row.reads row.row there)
+  where
+    by : RowEnds p octets g → EndsRightly d (Take octets) all p
+    by (An_m4 (kck, (whole, m4))) =
+        let v = noted_verified d first n h (Take octets) all (Some p) octets (kind.Key M4) Accepted (frame_seal kck whole) adds (more _ m4) in
+        By_an_m4 (record { octets = octets; is = refl; seal = frame_seal kck whole; accepted = more _ m4; verified = mic_noted d.akm octets kck whole v.1 })
+    by (A_request s at v) = By_re_req (record { octets = octets; is = refl; seal = s; accepted = more _ at; verified = v })
+    by (A_response q s at v) = By_re_resp q (record { octets = octets; is = refl; seal = s; accepted = more _ at; verified = v })
 event_ends d first n h (Begin a) g all p adds row more there = By_begin a refl
 event_ends d first n h (Retry s) g all p adds is more there =
     let w = up_retry d n h p (Sta s) (attempt (Sta s) h) (subst (λ (x : List Act). In (Closed p Session) x) is there) in
@@ -239,6 +340,8 @@ event_ends d first n h (Send q tid octets) g all p adds is more there = absurd (
 event_ends d first n h (Expire s) g all p adds is more there =
     By_expire s refl (expired p (Sta s) (attempt (Sta s) h) (session (Sta s) h) (subst (λ (x : List Act). In (Closed p Session) x) is there))
 event_ends d first n h Leave g all p adds is more there = By_leave refl
+event_ends d first n h (RoamEvent a) g all p adds row more there = absurd (none_ended p g (kept_roam d first n h (Ap a) g row) there)
+event_ends d first n h (Revoke s) g all p adds is more there = absurd (none_ended p g (ap are_kept is ∙ kept_revoke d.akm d n h (Sta s)) there)
 
 pub ends_rightly : (d : Domain) (first : ℕ) (n : Node) (h : List Act) (event : NodeEvent) (g : List Act) (p : Node) → Adds (here d first n) h event g → In (Closed p Session) g → EndsRightly d event g p
 ends_rightly d first n h event g p adds there =

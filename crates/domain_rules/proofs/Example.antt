@@ -20,8 +20,8 @@ use Rattle.domain_rules.proofs.LastRounds.{whole}
 use Rattle.domain_rules.proofs.ResumedRounds.{renewed}
 use Rattle.domain_rules.proofs.DataRounds.{exchanged}
 
-pair_of : (d : Domain) (a s : ℕ) → InForm d → AreWhole d → a < length d.aps → s < length d.stas → IsPair d a s
-pair_of d a s form are ap_low sta_low = record {
+pair_of : (d : Domain) (a s : ℕ) → InForm d → AreWhole d → d.akm ≢ FtPsk → a < length d.aps → s < length d.stas → IsPair d a s
+pair_of d a s form are akm ap_low sta_low = record {
   ap_whole = listed-address d (Ap a) are.aps are.stas ap_low;
   sta_whole = listed-address d (Sta s) are.aps are.stas sta_low;
   finds_ap = finds-ap d s a (named d form) ap_low;
@@ -29,14 +29,15 @@ pair_of d a s form are ap_low sta_low = record {
   ap_low = ap_low;
   sta_low = omega (arith, form.few_stas);
   has_mic = length-mic d.akm;
+  suite = akm;
 }
 
 pub handshake_explained : (d : Domain) (a s : ℕ) → InForm d → AreWhole d → d.akm ≢ FtPsk → a < length d.aps → s < length d.stas → HasHandshake d a s
-handshake_explained d a s form are akm ap_low sta_low = whole d a s (pair_of d a s form are ap_low sta_low)
+handshake_explained d a s form are akm ap_low sta_low = whole d a s (pair_of d a s form are akm ap_low sta_low)
 
 -- where the two group keys that it draws differ
 pub renewal_explained : (d : Domain) (a s : ℕ) → InForm d → AreWhole d → d.akm ≢ FtPsk → a < length d.aps → s < length d.stas → gtk d (Ap a) 2 ≢ gtk d (Ap a) 0 → HasRenewal d a s
-renewal_explained d a s form are akm ap_low sta_low differ = renewed d a s (pair_of d a s form are ap_low sta_low) sta_low differ
+renewal_explained d a s form are akm ap_low sta_low differ = renewed d a s (pair_of d a s form are akm ap_low sta_low) sta_low differ
 
 -- the small network is in form
 pub small-in_form : (akm : Akm) (seed ssid psk : List ℕ) → IsSsid ssid → InForm (small akm seed ssid psk)
@@ -66,7 +67,7 @@ broadcast_octets = octets_by_entries broadcast low
     low (suc (suc (suc (suc (suc (suc k)))))) = omega arith
 
 pub exchange_explained : (d : Domain) (a s : ℕ) (p : Payloads) → InForm d → AreWhole d → HaveOctets d → d.akm ≢ FtPsk → a < length d.aps → s < length d.stas → ArePayloads p → HasExchange d a s p
-exchange_explained d a s p form are octets akm ap_low sta_low fit = exchanged d a s p (pair_of d a s form are ap_low sta_low) (record {
+exchange_explained d a s p form are octets akm ap_low sta_low fit = exchanged d a s p (pair_of d a s form are akm ap_low sta_low) (record {
   ap_octets = listed-octets d (Ap a) octets.aps octets.stas ap_low;
   sta_octets = listed-octets d (Sta s) octets.aps octets.stas sta_low;
   alone = ap (λ (n : ℕ). n == 1) (listed-unicast d s form sta_low).1;

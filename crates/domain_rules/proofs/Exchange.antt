@@ -19,7 +19,7 @@ use Rattle.domain_rules.specs.Owing.{owing, and_switch}
 use Rattle.domain_rules.specs.AccessPointRows.{retry_acts, most_sends}
 use Rattle.domain_rules.specs.StationKeys as keys
 use Rattle.domain_rules.specs.Asking.{by_connect, has_heard, kept_counter, offered, verified}
-use Rattle.domain_rules.specs.Verdict.{is_mine}
+use Rattle.domain_rules.specs.Verdict.{is_mine, further_from, and_then}
 use Rattle.domain_rules.specs.Associating.{rsne_status}
 use Rattle.domain_rules.specs.StationKeys.{Keying, m3_keying, m3_verdict, g1_verdict, taken_in}
 use Rattle.domain_rules.specs.AccessPointKeys.{m4_keying, m4_verdict, g2_verdict}
@@ -34,12 +34,13 @@ use Rattle.run_journal.specs.Questions.{attempt, derivation, history, add, since
 use Rattle.run_journal.specs.declared.acts.Act.{Act}
 use Rattle.run_journal.specs.declared.acts.Entry.{Entry}
 use Rattle.run_journal.specs.declared.acts.Kind.TheVariants as kind
+use Rattle.run_journal.specs.declared.acts.Outcome.{Outcome}
 use Rattle.run_journal.specs.declared.acts.Outcome.TheVariants.{Accepted}
 use Rattle.run_journal.specs.declared.domain.Domain.{Domain}
 use Rattle.run_journal.specs.declared.domain.Event.TheVariants.{Deliver}
 use Rattle.run_journal.specs.declared.domain.Event.{Event}
 use Rattle.run_journal.specs.GroupKinds as groups
-use Rattle.std.proofs.Common.{◌≡◌, ℕ, zero, suc, ◌<◌, true, false, List, [], ◌∷◌, length, Some, None, refl, sym, ap, subst, ◌∙◌}
+use Rattle.std.proofs.Common.{◌≡◌, ◌≢◌, ℕ, zero, suc, ◌<◌, true, false, List, [], ◌∷◌, length, Option, Some, None, refl, sym, ap, subst, ◌∙◌}
 use Rattle.std.proofs.lemmas.Slice.Eq.{bytes_eq-Decides}
 use Rattle.std.specs.List.{list_any}
 use Rattle.std.specs.Prelude.{◌==◌, nat_lt}
@@ -117,6 +118,14 @@ pub key_data-same : (akm : Akm) (key : List ℕ) (id : ℕ) → length key ≡ 1
     → keys.m3_key_data akm (Some (said KeyData (SentRsne akm None ∷ SentGtkKde id key ∷ []))) ≡ Accepted
 key_data-same akm key id size other = rw ((bytes_eq-Decides (rsne_octets akm None) (rsne_octets akm None)).1 refl, size, other) refl
 
+-- nothing further is asked of the frame
+pub nothing_further : (o : Option Node) (f : Node → Outcome) → ((p : Node) → f p ≡ Accepted) → further_from o f ≡ Accepted
+nothing_further None f none = refl
+nothing_further (Some p) f none = none p
+
+pub stands : (o first then_ : Outcome) → first ≡ o → then_ ≡ Accepted → and_then o Accepted ≡ o → and_then first then_ ≡ o
+stands o first then_ one none keeps = ap (λ (x : Outcome). and_then x then_) one ∙ ap (and_then o) none ∙ keeps
+
 -- no frame is sent as access points start
 pub frames-started : (d : Domain) (n : ℕ) → frames (started d n) ≡ 0
 frames-started d zero = ap frames (started_none d)
@@ -140,6 +149,7 @@ pub record IsPair (d : Domain) (a s : ℕ) : Type 0 where
   pub ap_low : a < length d.aps
   pub sta_low : s < 64
   pub has_mic : HasMic d.akm
+  pub suite : d.akm ≢ FtPsk
 
 -- the journal of some rounds: the histories of both nodes, how many frames were sent, and the octets of the last of them
 pub record Stage (d : Domain) (k m : ℕ) (rounds : List (List Event)) (sta ap : List Act) (sent : ℕ) (octets : List ℕ) : Type 0 where

@@ -1,36 +1,39 @@
 -- The rounds of an example handshake from the start to M2.
 use Rattle.domain_base.specs.declared.names.Node.{Node}
 use Rattle.domain_rules.proofs.Refused.{no_facts}
-use Rattle.domain_rules.proofs.Exchange.{length-nonce, take_step, frames-started, status-sent, same_octets, IsPair, Stage}
+use Rattle.domain_rules.proofs.Exchange.{length-nonce, take_step, frames-started, status-sent, same_octets, nothing_further, stands, IsPair, Stage}
 use Rattle.domain_rules.proofs.Journals.{step_at, history-push, history-other, history-started, history-started_sta, explained_start, explained_event}
 use Rattle.domain_rules.proofs.Parts.{same-refl, attempt_more, since_part}
-use Rattle.domain_rules.proofs.SentReads.{assoc_req_body, assoc_req_said, reads-assoc_req, assoc_resp_body, rates_said, reads-assoc_resp, m1_message, reads-m1, m2_message, m2_fields, reads-m2, fits-m2, rsne_said, rsne_spelled, mic-sealed, reads-counter}
+use Rattle.domain_rules.proofs.SentReads.{assoc_req_body, assoc_req_said, reads-assoc_req, assoc_resp_body, rates_said, reads-assoc_resp, m1_message, reads-m1, m2_message, m2_fields, reads-m2, fits-m2, few-m2, rsne_said, rsne_spelled, mic-sealed, reads-counter}
 use Rattle.domain_rules.proofs.Verdicts.{assoc_resp-in, m1-in, m2-in, verified-same, management-from, managed-from, keyed-from}
 use Rattle.domain_rules.specs.Counters.{next_in_attempt}
 use Rattle.domain_rules.specs.Explained.{frames, push, started, WasSent, Step, Explained}
-use Rattle.domain_rules.specs.Frames.{sent_m3, keyed_by}
+use Rattle.domain_rules.specs.Frames.{assoc_resp_elements, sent_m3, keyed_by}
+use Rattle.domain_rules.specs.Network.{r0kh_id, peer_of}
+use Rattle.domain_rules.specs.TransitionKeyData.{responded_r0kh_id}
+use Rattle.domain_rules.proofs.OneOutcome.{from_named}
+use Rattle.domain_rules.proofs.SuiteWords.{inputs_suite, m2_data_suite, mobility_suite, fields_suite, m2_further_suite, no_response}
 use Rattle.domain_rules.specs.GroupKeys.{newest, newest_uses}
 use Rattle.domain_rules.specs.Reading.{KeyMessage, Managed, Keyed, Reads}
 use Rattle.domain_rules.specs.StationRows.{Asks}
 use Rattle.domain_rules.specs.Rows.{Begin, Adds, TakeRow, By_assoc_req, By_assoc_resp, By_m1, By_m2}
-use Rattle.domain_rules.specs.AccessPointKeys.{IsRequested, KnowsM2, request}
+use Rattle.domain_rules.specs.AccessPointKeys.{requested_rsne, m2_key_data, IsRequested, KnowsM2, request}
 use Rattle.domain_rules.specs.Asking.{has_heard, kept_counter, offered, verified}
-use Rattle.domain_rules.specs.Verdict.{is_mine, further, and_then, first_verdict, verdict}
+use Rattle.domain_rules.specs.Verdict.{is_mine, management_sender, management_further, key_further, further, first_verdict, verdict}
 use Rattle.domain_rules.specs.Associating.{management_verdict}
-use Rattle.domain_rules.specs.Facts.{Facts}
+use Rattle.domain_rules.specs.Facts.{ReadsKeyData, Facts}
 use Rattle.domain_rules.specs.Here.{here}
 use Rattle.eapol_key.specs.declared.messages.Message.TheVariants.{M1, M2}
 use Rattle.key_hierarchy.specs.Keys.{ptk}
 use Rattle.key_hierarchy.specs.declared.inputs.Inputs.{Inputs}
-use Rattle.rsn_elements.specs.Sent.{rates_octets, rsne_octets}
+use Rattle.rsn_elements.specs.Sent.{rsne_octets}
 use Rattle.run_journal.specs.Acts.{GroupKey}
-use Rattle.run_journal.specs.Questions.{attempt, history, add, chain}
+use Rattle.run_journal.specs.Questions.{attempt, draws, history, add, chain}
 use Rattle.run_journal.specs.declared.acts.Act.TheVariants.{Derived, Took}
 use Rattle.run_journal.specs.declared.acts.Act.{Act}
 use Rattle.run_journal.specs.declared.acts.Entry.{Entry}
 use Rattle.run_journal.specs.declared.acts.Kind.TheVariants as kind
 use Rattle.run_journal.specs.declared.acts.Outcome.TheVariants.{Accepted}
-use Rattle.run_journal.specs.declared.acts.Outcome.{Outcome}
 use Rattle.run_journal.specs.declared.acts.Seal.{Seal}
 use Rattle.run_journal.specs.declared.domain.Domain.{Domain}
 use Rattle.run_journal.specs.declared.domain.Event.TheVariants.{Connect, Deliver}
@@ -50,6 +53,9 @@ module _ (d : Domain) (k m : ℕ) (pair : IsPair d k m) where
 
   abbrev anonce : List ℕ
   anonce = w.anonce d k m
+
+  abbrev snonce : List ℕ
+  snonce = w.snonce d k m
 
   abbrev i : Inputs
   i = w.i d k m
@@ -148,19 +154,19 @@ module _ (d : Domain) (k m : ℕ) (pair : IsPair d k m) where
   was1 = record { entry = _; there = inl refl; earlier = omega arith; is = ap suc none_sent; act = (_, (_, (_, refl))) }
 
   awaited1 : management_verdict d 0 a ap0 s kind.AssocReq (assoc_req_body d s a) (assoc_req_said d) ≡ Accepted
-  awaited1 = rw (status-sent d.akm) refl
+  awaited1 = rw (status-sent d.akm, mobility_suite d.akm d None pair.suite) refl
 
   accepted1 : verdict d 0 a ap0 (Managed (assoc_req_body d s a) (assoc_req_said d)) no_facts ≡ Accepted
-  accepted1 =
-      ap (λ (o : Outcome). and_then o Accepted)
+  accepted1 = stands Accepted _ _
       (managed-from d 0 a ap0 (assoc_req_body d s a) (assoc_req_said d) s (same_octets d a) (management-from d a s (assoc_req_body d s a).header pair.finds_sta refl) ∙ awaited1)
+      (nothing_further (management_sender d a (assoc_req_body d s a).header) (λ p. management_further d (draws ap0) a ap0 p (assoc_req_body d s a) (assoc_req_said d) no_facts kind.AssocReq) (λ p. refl)) refl
 
   row1 : TakeRow (here d 0 a) ap0 octets1 acts2
   row1 = record {
     r = Managed (assoc_req_body d s a) (assoc_req_said d);
-    reads = reads-assoc_req d s a pair.sta_whole pair.ap_whole;
+    reads = reads-assoc_req d s a pair.suite pair.sta_whole pair.ap_whole;
     facts = no_facts;
-    knows = λ came. tt;
+    knows = λ came p from. tt;
     row = By_assoc_req (record { b = assoc_req_body d s a; e = assoc_req_said d; is = refl; kind_is = refl; p = s; from = pair.finds_sta; accepted = accepted1; says = refl });
   }
 
@@ -183,20 +189,21 @@ module _ (d : Domain) (k m : ℕ) (pair : IsPair d k m) where
   attempt1 : attempt a sta1 ≡ Some sta1
   attempt1 = rw (same-refl a) refl
 
-  accepted2 : verdict d 0 s sta1 (Managed (assoc_resp_body d a s 0 rates_octets) rates_said) no_facts ≡ Accepted
-  accepted2 =
-      ap (λ (o : Outcome). and_then o Accepted) (
-      managed-from d 0 s sta1 (assoc_resp_body d a s 0 rates_octets) rates_said a (same_octets d s) (management-from d s a (assoc_resp_body d a s 0 rates_octets).header pair.finds_ap refl)
-      ∙ assoc_resp-in sta1 a (assoc_resp_body d a s 0 rates_octets) sta1 false attempt1 refl refl
+  accepted2 : verdict d 0 s sta1 (Managed (assoc_resp_body d a s 0 (assoc_resp_elements d a)) rates_said) no_facts ≡ Accepted
+  accepted2 = stands Accepted _ _ (
+      managed-from d 0 s sta1 (assoc_resp_body d a s 0 (assoc_resp_elements d a)) rates_said a (same_octets d s) (management-from d s a (assoc_resp_body d a s 0 (assoc_resp_elements d a)).header pair.finds_ap refl)
+      ∙ assoc_resp-in d sta1 a (assoc_resp_body d a s 0 (assoc_resp_elements d a)) rates_said sta1 false attempt1 refl refl
+      ∙ fields_suite d.akm d a rates_said pair.suite
       )
+      (nothing_further (management_sender d s (assoc_resp_body d a s 0 (assoc_resp_elements d a)).header) (λ p. management_further d (draws sta1) s sta1 p (assoc_resp_body d a s 0 (assoc_resp_elements d a)) rates_said no_facts kind.AssocResp) (λ p. refl)) refl
 
   row2 : TakeRow (here d 0 s) sta1 octets2 acts3
   row2 = record {
-    r = Managed (assoc_resp_body d a s 0 rates_octets) rates_said;
-    reads = reads-assoc_resp d a s pair.ap_whole pair.sta_whole (omega (arith, pair.sta_low));
+    r = Managed (assoc_resp_body d a s 0 (assoc_resp_elements d a)) rates_said;
+    reads = reads-assoc_resp d a s pair.suite pair.ap_whole pair.sta_whole (omega (arith, pair.sta_low));
     facts = no_facts;
-    knows = λ came. tt;
-    row = By_assoc_resp (record { b = assoc_resp_body d a s 0 rates_octets; e = rates_said; is = refl; kind_is = refl; p = a; from = pair.finds_ap; accepted = accepted2; says = refl });
+    knows = λ came p from. tt;
+    row = By_assoc_resp (record { b = assoc_resp_body d a s 0 (assoc_resp_elements d a); e = rates_said; is = refl; kind_is = refl; p = a; from = pair.finds_ap; accepted = accepted2; says = refl });
   }
 
   step3 : Step d 3 (Deliver 2 s) past2 past3
@@ -231,7 +238,8 @@ module _ (d : Domain) (k m : ℕ) (pair : IsPair d k m) where
   mine3 = rw (same_octets d s) refl
 
   accepted3 : verdict d 0 s sta3 (Keyed m1) no_facts ≡ Accepted
-  accepted3 = ap (λ (o : Outcome). and_then o Accepted) (keyed-from d 0 s sta3 m1 a mine3 pair.finds_ap ∙ m1-in sta3 a m1 sta3 true None attempt3 refl heard3 (ap (kept_counter a) (since_part a sta3 sta3 attempt3) ∙ counter3))
+  accepted3 = stands Accepted _ _ (keyed-from d 0 s sta3 m1 a mine3 pair.finds_ap ∙ m1-in sta3 a m1 sta3 true None attempt3 refl heard3 (ap (kept_counter a) (since_part a sta3 sta3 attempt3) ∙ counter3))
+      (nothing_further (peer_of d s m1.header.a2) (λ p. key_further d s sta3 p M1 no_facts) (λ p. refl)) refl
 
   reads3 : Reads d.akm octets3 (Keyed m1)
   reads3 = reads-m1 d a s 1 anonce pair.ap_whole pair.sta_whole (omega arith) (length-nonce d a 1)
@@ -241,8 +249,8 @@ module _ (d : Domain) (k m : ℕ) (pair : IsPair d k m) where
     r = Keyed m1;
     reads = reads3;
     facts = no_facts;
-    knows = λ came p from. tt;
-    row = By_m1 (record { k = m1; is = refl; message_is = refl; p = a; from = pair.finds_ap; accepted = accepted3; part = sta3; awaited = attempt3; i = i; inputs_are = refl; says = refl });
+    knows = λ came p from. (tt, no_response d.akm sta3 p M1 no_facts pair.suite);
+    row = By_m1 (record { k = m1; is = refl; message_is = refl; p = a; from = pair.finds_ap; accepted = accepted3; part = sta3; awaited = attempt3; i = i; inputs_are = inputs_suite d (responded_r0kh_id None) s a snonce anonce pair.suite; says = refl });
   }
 
   step4 : Step d 4 (Deliver 3 s) past3 past4
@@ -253,7 +261,7 @@ module _ (d : Domain) (k m : ℕ) (pair : IsPair d k m) where
 
   -- round 5: the access point derives it by M2
   abbrev m2 : KeyMessage
-  m2 = m2_message d s a (keyed_by i) 1
+  m2 = m2_message d s a (keyed_by i) 1 []
 
   abbrev past5 : List Entry
   past5 = push 5 a acts5 past4
@@ -268,30 +276,34 @@ module _ (d : Domain) (k m : ℕ) (pair : IsPair d k m) where
   offers4 = rw (same-refl s) (ap (λ (c : ℕ). c ∷ []) (reads-counter d.akm octets3 m1 reads3))
 
   verifies4 : verified d.akm (ptk i).kck m2 Accepted ≡ Accepted
-  verifies4 = verified-same d.akm (ptk i).kck m2 Accepted (mic-sealed d.akm (ptk i).kck (m2_fields d (keyed_by i) 1) pair.has_mic (fits-m2 d (keyed_by i) 1 (omega arith) (length-nonce d s 0)))
+  verifies4 = verified-same d.akm (ptk i).kck m2 Accepted (mic-sealed d.akm (ptk i).kck (m2_fields d (keyed_by i) 1 []) pair.has_mic (fits-m2 d (keyed_by i) 1 [] (omega arith) (length-nonce d s 0) (few-m2 d (keyed_by i) [] pair.suite)))
 
   mine4 : (not (is_mine d a m2.header) || false) ≡ false
   mine4 = rw (same_octets d a) refl
 
   first4 : first_verdict d 0 a ap2 (Keyed m2) ≡ Accepted
-  first4 = keyed-from d 0 a ap2 m2 s mine4 pair.finds_sta ∙ m2-in d a ap2 s m2 part2 false (1 ∷ []) anonce attempt4 refl refl offers4 refl ∙ verifies4
+  first4 = keyed-from d 0 a ap2 m2 s mine4 pair.finds_sta ∙ m2-in d a ap2 s m2 part2 false (1 ∷ []) anonce attempt4 refl refl offers4 refl
+      ∙ ap (λ (v : Inputs). verified d.akm (ptk v).kck m2 Accepted) (sym (inputs_suite d (r0kh_id d a) a s anonce snonce pair.suite)) ∙ verifies4
 
   abbrev facts : Facts
-  facts = record { requested = Some (assoc_req_said d); unwrapped = None; data_ = Some (rsne_said d.akm); opened = None }
+  facts = record { requested = Some (assoc_req_said d); responded = None; unwrapped = None; data_ = Some (rsne_said d.akm); pulled = None; opened = None }
 
-  same_rsne : further d.akm (Keyed m2) facts ≡ Accepted
+  same_rsne : m2_key_data (requested_rsne facts.requested) facts.data_ ≡ Accepted
   same_rsne = rw ((bytes_eq-Decides (rsne_octets d.akm None) (rsne_octets d.akm None)).1 refl) refl
 
+  further4 : further d 0 a ap2 (Keyed m2) facts ≡ Accepted
+  further4 = from_named (peer_of d a m2.header.a2) s (λ p. key_further d a ap2 p M2 facts) pair.finds_sta ∙ m2_further_suite d.akm d a s facts pair.suite ∙ same_rsne
+
   accepted4 : verdict d 0 a ap2 (Keyed m2) facts ≡ Accepted
-  accepted4 = ap (λ (o : Outcome). and_then o (further d.akm (Keyed m2) facts)) first4 ∙ ap (and_then Accepted) same_rsne
+  accepted4 = stands Accepted _ _ first4 further4 refl
 
   request4 : request s ap2 ≡ Some octets1
   request4 = rw (same-refl s) refl
 
   knows4 : KnowsM2 d.akm ap2 s m2 facts
   knows4 = record {
-    requested = subst (λ (o : Option (List ℕ)). IsRequested d.akm o facts.requested) (sym request4) (assoc_req_body d s a, reads-assoc_req d s a pair.sta_whole pair.ap_whole);
-    data_ = rsne_spelled d.akm;
+    requested = subst (λ (o : Option (List ℕ)). IsRequested d.akm o facts.requested) (sym request4) (assoc_req_body d s a, reads-assoc_req d s a pair.suite pair.sta_whole pair.ap_whole);
+    data_ = subst (λ (x : List ℕ). ReadsKeyData x facts.data_) (sym (m2_data_suite d.akm d (keyed_by i) [] pair.suite)) (rsne_spelled d.akm);
   }
 
   counter4 : next_in_attempt s (chain s ap2) ≡ 2
@@ -303,10 +315,10 @@ module _ (d : Domain) (k m : ℕ) (pair : IsPair d k m) where
   row4 : TakeRow (here d 0 a) ap2 octets4 acts5
   row4 = record {
     r = Keyed m2;
-    reads = reads-m2 d s a (keyed_by i) 1 pair.has_mic pair.sta_whole pair.ap_whole (omega arith) (length-nonce d s 0);
+    reads = reads-m2 d s a (keyed_by i) 1 [] pair.has_mic pair.sta_whole pair.ap_whole (omega arith) (length-nonce d s 0) (few-m2 d (keyed_by i) [] pair.suite);
     facts = facts;
-    knows = λ came p from. (let same : s ≡ p = cc (from, pair.finds_sta) in subst (λ (x : Node). KnowsM2 d.akm ap2 x m2 facts) same knows4);
-    row = By_m2 (record { k = m2; is = refl; message_is = refl; p = s; from = pair.finds_sta; accepted = accepted4; part = part2; awaited = attempt4; i = i; inputs_are = refl; says = says4 });
+    knows = λ came p from. (let same : s ≡ p = cc (from, pair.finds_sta) in (subst (λ (x : Node). KnowsM2 d.akm ap2 x m2 facts) same knows4, no_response d.akm ap2 p M2 facts pair.suite));
+    row = By_m2 (record { k = m2; is = refl; message_is = refl; p = s; from = pair.finds_sta; accepted = accepted4; part = part2; awaited = attempt4; i = i; inputs_are = inputs_suite d (r0kh_id d a) a s anonce snonce pair.suite; says = says4 });
   }
 
   step5 : Step d 5 (Deliver 4 a) past4 past5

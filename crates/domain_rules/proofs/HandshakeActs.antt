@@ -3,7 +3,7 @@ use Rattle.air_frame.specs.Sent.{assoc_req_octets, assoc_resp_octets}
 use Rattle.domain_base.specs.declared.names.Node.TheVariants.{Ap, Sta}
 use Rattle.domain_base.specs.declared.names.Node.{Node}
 use Rattle.domain_base.specs.declared.names.Peer.TheVariants.{One}
-use Rattle.domain_rules.specs.Frames.{assoc_req_elements, aid, in_data, m2_frame, sent_assoc_req, sent_assoc_resp, sent_m1, sent_m2, frame_seal, m3_frame, m4_frame, sent_m3, sent_m4, keyed_by}
+use Rattle.domain_rules.specs.Frames.{assoc_req_elements, assoc_resp_elements, aid, in_data, m2_frame, sent_assoc_req, sent_assoc_resp, sent_m1, sent_m2, frame_seal, m3_frame, m4_frame, sent_m3, sent_m4, keyed_by}
 use Rattle.domain_rules.specs.Network.{address, mac, nonce, gtk, inputs, root}
 use Rattle.domain_rules.specs.AccessPointRows.{start_acts}
 use Rattle.eapol_key.specs.Octets.{frame_octets}
@@ -11,7 +11,6 @@ use Rattle.eapol_key.specs.Sent.{sent_fields}
 use Rattle.eapol_key.specs.declared.messages.Message.TheVariants.{M1, M2, M3, M4}
 use Rattle.key_hierarchy.specs.Keys.{ptk}
 use Rattle.key_hierarchy.specs.declared.inputs.Inputs.{Inputs}
-use Rattle.rsn_elements.specs.Sent.{rates_octets}
 use Rattle.run_journal.specs.Acts.{Derivation, GroupKey}
 use Rattle.run_journal.specs.Questions.{add}
 use Rattle.run_journal.specs.declared.acts.Act.TheVariants.{Opened, Drew, Derived, Took, Installed, Finished, Closed}
@@ -63,22 +62,22 @@ module _ (d : Domain) (k m : ℕ) where
   octets1 = assoc_req_octets (address d a) (address d s) (address d a) (assoc_req_elements d)
 
   abbrev pub octets2 : List ℕ
-  octets2 = assoc_resp_octets (address d s) (address d a) (address d a) 0 (aid s) rates_octets
+  octets2 = assoc_resp_octets (address d s) (address d a) (address d a) 0 (aid s) (assoc_resp_elements d a)
 
   abbrev pub octets3 : List ℕ
   octets3 = in_data d a s (frame_octets (sent_fields M1 d.akm 1 anonce 0 []))
 
   abbrev pub octets4 : List ℕ
-  octets4 = in_data d s a (m2_frame d (keyed_by i) 1)
+  octets4 = in_data d s a (m2_frame d (keyed_by i) 1 [])
 
   abbrev pub octets5 : List ℕ
-  octets5 = in_data d a s (m3_frame d (keyed_by i) 2 g 0)
+  octets5 = in_data d a s (m3_frame d a (keyed_by i) 2 g 0)
 
   abbrev pub octets6 : List ℕ
   octets6 = in_data d s a (m4_frame d (keyed_by i) 2)
 
   abbrev pub octets7 : List ℕ
-  octets7 = in_data d a s (m3_frame d (keyed_by i) 3 g 0)
+  octets7 = in_data d a s (m3_frame d a (keyed_by i) 3 g 0)
 
   abbrev pub octets8 : List ℕ
   octets8 = in_data d s a (m4_frame d (keyed_by i) 3)
@@ -87,13 +86,13 @@ module _ (d : Domain) (k m : ℕ) where
   octets11 = in_data d a s (frame_octets (sent_fields M1 d.akm 1 anonce2 0 []))
 
   abbrev pub seal4 : Seal
-  seal4 = frame_seal (ptk i).kck (m2_frame d (keyed_by i) 1)
+  seal4 = frame_seal (ptk i).kck (m2_frame d (keyed_by i) 1 [])
 
   abbrev pub seal5 : Seal
-  seal5 = frame_seal (ptk i).kck (m3_frame d (keyed_by i) 2 g 0)
+  seal5 = frame_seal (ptk i).kck (m3_frame d a (keyed_by i) 2 g 0)
 
   abbrev pub seal7 : Seal
-  seal7 = frame_seal (ptk i).kck (m3_frame d (keyed_by i) 3 g 0)
+  seal7 = frame_seal (ptk i).kck (m3_frame d a (keyed_by i) 3 g 0)
 
   abbrev pub seal8 : Seal
   seal8 = frame_seal (ptk i).kck (m4_frame d (keyed_by i) 3)
@@ -109,7 +108,7 @@ module _ (d : Domain) (k m : ℕ) where
   acts3 = Took (Some a) octets2 kind.AssocResp Accepted None ∷ []
 
   abbrev pub acts4 : List Act
-  acts4 = Took (Some a) octets3 (kind.Key M1) Accepted None ∷ Derived a i (ptk i) ∷ sent_m2 d s a (keyed_by i) 1 ∷ []
+  acts4 = Took (Some a) octets3 (kind.Key M1) Accepted None ∷ Derived a i (ptk i) ∷ sent_m2 d s a (keyed_by i) 1 [] ∷ []
 
   abbrev pub acts5 : List Act
   acts5 = Took (Some s) octets4 (kind.Key M2) Accepted (Some seal4) ∷ Derived s i (ptk i) ∷ sent_m3 d a s (keyed_by i) 2 g 0 ∷ []

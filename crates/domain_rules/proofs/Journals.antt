@@ -1,5 +1,5 @@
 -- What acts that are put on a journal do to histories, and the one journal of some rounds.
-use Rattle.std.proofs.Common.{◌≡◌, ℕ, zero, suc, ◌<◌, ◌≤◌, Bool, true, false, cond, List, [], ◌∷◌, ◌++◌, length, refl, sym, ap, subst, ◌∙◌, arith, inl, inr}
+use Rattle.std.proofs.Common.{◌≡◌, ℕ, zero, suc, ◌<◌, ◌≤◌, Bool, true, false, cond, List, [], ◌∷◌, ◌++◌, length, Option, Some, None, refl, sym, ap, subst, ◌∙◌, arith, inl, inr}
 use Rattle.std.specs.Prelude.{codes, take}
 use Rattle.std.specs.Int.{w64, to_be_bytes}
 use Rattle.std.proofs.lemmas.Bool.{cases_lt}
@@ -13,19 +13,23 @@ use Rattle.domain_base.specs.declared.names.Node.{Node}
 use Rattle.domain_base.specs.declared.names.Node.TheVariants.{Ap, Sta}
 use Rattle.run_journal.specs.declared.domain.Domain.{Domain}
 use Rattle.run_journal.specs.declared.domain.Event.{Event}
-use Rattle.run_journal.specs.declared.domain.Event.TheVariants.{Connect, Deliver, Alter, Cut, Inject, Retry, Rekey, Send, Expire, Leave}
+use Rattle.run_journal.specs.declared.domain.Event.TheVariants.{Connect, Roam, Deliver, Alter, Cut, Inject, Retry, Rekey, Send, Expire, Revoke, Leave}
 use Rattle.run_journal.specs.declared.acts.Act.{Act}
 use Rattle.run_journal.specs.declared.acts.Act.TheVariants.{Drew, Installed}
 use Rattle.run_journal.specs.declared.acts.Entry.{Entry}
 use Rattle.run_journal.specs.Acts.{same, is_sent}
-use Rattle.run_journal.specs.Questions.{history, add}
+use Rattle.run_journal.specs.Questions.{history, listed, add}
 use Rattle.run_journal.specs.Premises.{In}
 use Rattle.domain_rules.specs.Rows.{NodeEvent, Take, Adds}
 use Rattle.domain_rules.specs.AccessPointRows.{start_acts}
 use Rattle.domain_rules.specs.Explained.{HappensAt, Place, AddsAll, frames, number_of, push, altered, WasSent, Step, Follows, started, Explained}
 use Rattle.domain_rules.specs.Here.{here}
 use Rattle.domain_rules.proofs.Parts.{same-refl, same-other}
-use Rattle.domain_rules.proofs.OneGroup.{one_group}
+use Rattle.domain_rules.proofs.OneGroup.{one_group, group_looks}
+use Rattle.domain_rules.specs.Rounds.{by_nodes}
+use Rattle.key_hierarchy.specs.declared.answers.PullAnswer.{PullAnswer}
+use Rattle.run_journal.specs.Holders.{answer_of, answers, answers_in}
+use Rattle.std.proofs.lemmas.List.{append_assoc, length-append}
 
 -- ---- histories
 
@@ -66,7 +70,7 @@ numbered-started d (suc k) = numbered-push 0 (Ap k) (start_acts d 0 (Ap k)) (sta
 pub numbered : (d : Domain) (rounds : List (List Event)) (j : List Entry) → Explained d rounds j → IsNumbered j
 unfolding Explained
 numbered d [] j is = subst IsNumbered (sym is) (numbered-started d (length d.aps))
-numbered d (round ∷ rounds) j (old, (before, follows)) = numbered-follows d (suc (length rounds)) round old j follows (numbered d rounds old before)
+numbered d (round ∷ rounds) j (old, (before, follows)) = numbered-follows d (suc (length rounds)) (by_nodes round) old j follows (numbered d rounds old before)
 
 frames-sent : (e : Entry) (past : List Entry) → is_sent e.act ≡ true → (number_of e.act past ≡ suc (frames past)) × (frames (e ∷ past) ≡ suc (frames past))
 frames-sent e past s = (rw s refl, rw s refl)
@@ -132,6 +136,7 @@ at_one d round event old new s =
 -- what an event is, at which node
 same_happens : (event : Event) (past : List Entry) (round : ℕ) (n m : Node) (x y : NodeEvent) → IsNumbered past → HappensAt event past round n x → HappensAt event past round m y → (n ≡ m) × (x ≡ y)
 same_happens (Connect s a) past round n m x y is one two = (one.0 ∙ sym two.0, one.1 ∙ sym two.1)
+same_happens (Roam s a) past round n m x y is one two = (one.0 ∙ sym two.0, one.1 ∙ sym two.1)
 same_happens (Deliver number to) past round n m x y is (octets, (was, (at, event))) (others, (was_too, (at_too, event_too))) =
     (at ∙ sym at_too, event ∙ ap Take (one_frame past round number octets others is was was_too) ∙ sym event_too)
 same_happens (Alter number place mask to) past round n m x y is (octets, (was, (at, event))) (others, (was_too, (at_too, event_too))) =
@@ -143,35 +148,112 @@ same_happens (Retry a s) past round n m x y is one two = (one.0 ∙ sym two.0, o
 same_happens (Rekey a) past round n m x y is one two = (one.0 ∙ sym two.0, one.1 ∙ sym two.1)
 same_happens (Send from to tid octets) past round n m x y is one two = (one.0 ∙ sym two.0, one.1 ∙ sym two.1)
 same_happens (Expire a s) past round n m x y is one two = (one.0 ∙ sym two.0, one.1 ∙ sym two.1)
+same_happens (Revoke a s) past round n m x y is one two = (one.0 ∙ sym two.0, one.1 ∙ sym two.1)
 same_happens (Leave s) past round n m x y is one two = (one.0 ∙ sym two.0, one.1 ∙ sym two.1)
 
 same_push : (round : ℕ) (n m : Node) (f g : List Act) (past : List Entry) → n ≡ m → f ≡ g → push round n f past ≡ push round m g past
 same_push round n m f g past node acts = ap (λ (x : Node). push round x f past) node ∙ ap (λ (x : List Act). push round m x past) acts
 
-pub one_step : (d : Domain) (round : ℕ) (event : Event) (old new other : List Entry) → IsNumbered old → Step d round event old new → Step d round event old other → new ≡ other
-one_step d round event old new other is one two =
+-- ---- the answers of key holders, the last first
+
+-- these before those
+abbrev turned : List PullAnswer → List PullAnswer → List PullAnswer
+turned [] l = l
+turned (x ∷ xs) l = turned xs (x ∷ l)
+
+turned_some : (xs l : List PullAnswer) → (zs : List PullAnswer) × (turned xs l ≡ zs ++ l)
+turned_some [] l = ([], refl)
+turned_some (x ∷ xs) l = let w = turned_some xs (x ∷ l) in (w.0 ++ x ∷ [], w.1 ∙ sym (append_assoc w.0 (x ∷ []) l))
+
+answers_next : (o : Option PullAnswer) (g : List PullAnswer) (l : List PullAnswer) → turned g (listed o l) ≡ turned (listed o g) l
+answers_next None g l = refl
+answers_next (Some x) g l = refl
+
+answers-push : (round : ℕ) (n : Node) (g : List Act) (past : List Entry) → answers_in (push round n g past) ≡ turned (answers g) (answers_in past)
+answers-push round n [] past = refl
+answers-push round n (e ∷ g) past =
+    answers-push round n g (record { round = round; node = n; number = number_of e past; act = e } ∷ past) ∙ answers_next (answer_of e) (answers g) (answers_in past)
+
+-- a journal goes on from another
+abbrev GoesOnFrom : List Entry → List Entry → Type 0
+GoesOnFrom old new = (zs : List PullAnswer) × (answers_in new ≡ zs ++ answers_in old)
+
+from_on : (a b c : List Entry) → GoesOnFrom a b → GoesOnFrom b c → GoesOnFrom a c
+from_on a b c x y = (y.0 ++ x.0, y.1 ∙ ap (λ (l : List PullAnswer). y.0 ++ l) x.1 ∙ sym (append_assoc y.0 x.0 (answers_in a)))
+
+step_on : (d : Domain) (round : ℕ) (event : Event) (old new : List Entry) → Step d round event old new → GoesOnFrom old new
+step_on d round event old new step =
+    let s = at_one d round event old new step in
+    let w = turned_some (answers s.acts) (answers_in old) in
+    (w.0, ap answers_in s.is ∙ answers-push round s.node s.acts old ∙ w.1)
+
+follows_on : (d : Domain) (round : ℕ) (events : List Event) (old new : List Entry) → Follows d round events old new → GoesOnFrom old new
+follows_on d round [] old new is = ([], ap answers_in is)
+follows_on d round (event ∷ events) old new (mid, (step, rest)) = from_on old mid new (step_on d round event old mid step) (follows_on d round events mid new rest)
+
+-- the answers of two journals are one list as far as both go
+abbrev Agree : List Entry → List Entry → Type 0
+Agree j k = (xs : List PullAnswer) × ((ys : List PullAnswer) × (xs ++ answers_in j ≡ ys ++ answers_in k))
+
+agree_before : (j k a b : List Entry) → GoesOnFrom a j → GoesOnFrom b k → Agree j k → Agree a b
+agree_before j k a b x y (xs, (ys, is)) = (
+  xs ++ x.0,
+  (
+    ys ++ y.0,
+    append_assoc xs x.0 (answers_in a) ∙ sym (ap (λ (l : List PullAnswer). xs ++ l) x.1) ∙ is ∙ ap (λ (l : List PullAnswer). ys ++ l) y.1 ∙ sym (append_assoc ys y.0 (answers_in b)),
+  ),
+)
+
+-- what stands right before a common end is the same
+length_same : (xs ys : List PullAnswer) → xs ≡ ys → length xs ≡ length ys
+length_same xs ys is = ap length is
+
+before_end : (xs ys l : List PullAnswer) (a b : PullAnswer) → xs ++ a ∷ l ≡ ys ++ b ∷ l → a ≡ b
+before_end [] [] l a b is = cc is
+before_end (x ∷ xs) (y ∷ ys) l a b is = before_end xs ys l a b (cc is)
+before_end [] (y ∷ ys) l a b is =
+    let size = length_same (a ∷ l) (y ∷ ys ++ b ∷ l) is in
+    let more = length-append ys (b ∷ l) in absurd (omega (arith, size, more))
+before_end (x ∷ xs) [] l a b is =
+    let size = length_same (x ∷ xs ++ a ∷ l) (b ∷ l) is in
+    let more = length-append xs (a ∷ l) in absurd (omega (arith, size, more))
+
+pub one_step : (d : Domain) (round : ℕ) (event : Event) (old new other : List Entry) → IsNumbered old → Step d round event old new → Step d round event old other → Agree new other → new ≡ other
+one_step d round event old new other is one two (xs, (ys, agree)) =
     let s = at_one d round event old new one in
     let t = at_one d round event old other two in
     let same = same_happens event old round s.node t.node s.at_node t.at_node is s.happens t.happens in
     let group : Adds (here d 0 t.node) (history t.node old) t.at_node s.acts =
     subst (λ (x : NodeEvent). Adds (here d 0 t.node) (history t.node old) x s.acts) same.1 (subst (λ (n : Node). Adds (here d 0 n) (history n old) s.at_node s.acts) same.0 s.group) in
-    s.is ∙ same_push round s.node t.node s.acts t.acts old same.0 (one_group d 0 t.node (history t.node old) t.at_node s.acts t.acts group t.group) ∙ sym t.is
+    let acts : s.acts ≡ t.acts = elim (group_looks d 0 t.node (history t.node old) t.at_node s.acts t.acts group t.group) [
+      | inl alike ↦ alike
+      | inr looks ↦ (
+          let left : answers_in new ≡ looks.0 ∷ answers_in old = ap answers_in s.is ∙ answers-push round s.node s.acts old ∙ ap (λ (l : List PullAnswer). turned l (answers_in old)) looks.1.1.0 in
+          let right : answers_in other ≡ looks.1.0 ∷ answers_in old = ap answers_in t.is ∙ answers-push round t.node t.acts old ∙ ap (λ (l : List PullAnswer). turned l (answers_in old)) looks.1.1.1 in
+          let alike : looks.0 ≡ looks.1.0 = before_end xs ys (answers_in old) looks.0 looks.1.0 (sym (ap (λ (l : List PullAnswer). xs ++ l) left) ∙ agree ∙ ap (λ (l : List PullAnswer). ys ++ l) right) in
+          one_group d 0 t.node (history t.node old) t.at_node s.acts t.acts group t.group (looks.1.1.0 ∙ ap (λ (x : PullAnswer). x ∷ []) alike ∙ sym looks.1.1.1))
+    ] in
+    s.is ∙ same_push round s.node t.node s.acts t.acts old same.0 acts ∙ sym t.is
 
 step-numbered : (d : Domain) (round : ℕ) (event : Event) (old new : List Entry) → IsNumbered old → Step d round event old new → IsNumbered new
 step-numbered d round event old new is step = numbered-all d round step.places old new step.adds is
 
-pub one_follows : (d : Domain) (round : ℕ) (events : List Event) (old new other : List Entry) → IsNumbered old → Follows d round events old new → Follows d round events old other → new ≡ other
-one_follows d round [] old new other is s t = s ∙ sym t
-one_follows d round (event ∷ events) old new other is (mid, (step, rest)) (mid_too, (step_too, rest_too)) =
-    let same : mid ≡ mid_too = one_step d round event old mid mid_too is step step_too in
-    one_follows d round events mid_too new other (step-numbered d round event old mid_too is step_too) (subst (λ (x : List Entry). Follows d round events x new) same rest) rest_too
+pub one_follows : (d : Domain) (round : ℕ) (events : List Event) (old new other : List Entry) → IsNumbered old → Follows d round events old new → Follows d round events old other → Agree new other → new ≡ other
+one_follows d round [] old new other is s t agree = s ∙ sym t
+one_follows d round (event ∷ events) old new other is (mid, (step, rest)) (mid_too, (step_too, rest_too)) agree =
+    let same : mid ≡ mid_too = one_step d round event old mid mid_too is step step_too (agree_before new other mid mid_too (follows_on d round events mid new rest) (follows_on d round events mid_too other rest_too) agree) in
+    one_follows d round events mid_too new other (step-numbered d round event old mid_too is step_too) (subst (λ (x : List Entry). Follows d round events x new) same rest) rest_too agree
 
-pub one_journal : (d : Domain) (rounds : List (List Event)) (j k : List Entry) → Explained d rounds j → Explained d rounds k → j ≡ k
+one_journal_by : (d : Domain) (rounds : List (List Event)) (j k : List Entry) → Explained d rounds j → Explained d rounds k → Agree j k → j ≡ k
 unfolding Explained
-one_journal d [] j k s t = s ∙ sym t
-one_journal d (round ∷ rounds) j k (old, (before, follows)) (old_too, (before_too, follows_too)) =
-    let same : old ≡ old_too = one_journal d rounds old old_too before before_too in
-    one_follows d (suc (length rounds)) round old_too j k (numbered d rounds old_too before_too) (subst (λ (x : List Entry). Follows d (suc (length rounds)) round x j) same follows) follows_too
+one_journal_by d [] j k s t agree = s ∙ sym t
+one_journal_by d (round ∷ rounds) j k (old, (before, follows)) (old_too, (before_too, follows_too)) agree =
+    let n = suc (length rounds) in
+    let same : old ≡ old_too = one_journal_by d rounds old old_too before before_too (agree_before j k old old_too (follows_on d n (by_nodes round) old j follows) (follows_on d n (by_nodes round) old_too k follows_too) agree) in
+    one_follows d n (by_nodes round) old_too j k (numbered d rounds old_too before_too) (subst (λ (x : List Entry). Follows d n (by_nodes round) x j) same follows) follows_too agree
+
+pub one_journal : (d : Domain) (rounds : List (List Event)) (j k : List Entry) → Explained d rounds j → Explained d rounds k → answers_in j ≡ answers_in k → j ≡ k
+one_journal d rounds j k s t same = one_journal_by d rounds j k s t ([], ([], same))
 
 -- ---- a journal grows by events
 
@@ -183,11 +265,11 @@ pub explained_event : (d : Domain) (rounds : List (List Event)) (event : Event) 
 unfolding Explained
 explained_event d rounds event old new explained step = (old, (explained, (new, (step, refl))))
 
-pub explained_round : (d : Domain) (rounds : List (List Event)) (events : List Event) (old new : List Entry) → Explained d rounds old → Follows d (suc (length rounds)) events old new → Explained d (events ∷ rounds) new
+pub explained_round : (d : Domain) (rounds : List (List Event)) (events : List Event) (old new : List Entry) → Explained d rounds old → Follows d (suc (length rounds)) (by_nodes events) old new → Explained d (events ∷ rounds) new
 unfolding Explained
 explained_round d rounds events old new explained follows = (old, (explained, follows))
 
-pub explained_by_round : (d : Domain) (events : List Event) (rounds : List (List Event)) (j : List Entry) → Explained d (events ∷ rounds) j → (old : List Entry) × (Explained d rounds old × Follows d (suc (length rounds)) events old j)
+pub explained_by_round : (d : Domain) (events : List Event) (rounds : List (List Event)) (j : List Entry) → Explained d (events ∷ rounds) j → (old : List Entry) × (Explained d rounds old × Follows d (suc (length rounds)) (by_nodes events) old j)
 unfolding Explained
 explained_by_round d events rounds j explained = explained
 

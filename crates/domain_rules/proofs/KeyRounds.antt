@@ -1,24 +1,28 @@
 -- The rounds of an example handshake from M3 to M4: the keys are installed, and M3 is sent and answered twice.
 use Rattle.domain_base.specs.declared.names.Node.{Node}
 use Rattle.domain_rules.proofs.Refused.{no_facts}
-use Rattle.domain_rules.proofs.CarriedKey.{IsGroupKey, wrapped_is, says}
-use Rattle.domain_rules.proofs.Exchange.{length-nonce, length-gtk, octets-gtk, take_step, some-injective, m3-keyed, m4-keyed, m3-in, m4-in, m3-keyed_session, m3-again, retries-m3, key_data-same, same_octets, IsPair, Stage, after_sta, after_ap}
+use Rattle.domain_rules.proofs.CarriedKey.{IsGroupKey, says}
+use Rattle.domain_rules.proofs.OneOutcome.{from_named}
+use Rattle.domain_rules.proofs.SuiteWords.{plain_key_data, put_suite, m3_further_suite, no_response}
+use Rattle.domain_rules.specs.KeyHolders.{put_acts}
+use Rattle.domain_rules.specs.Network.{peer_of}
+use Rattle.domain_rules.proofs.Exchange.{length-nonce, length-gtk, octets-gtk, take_step, some-injective, m3-keyed, m4-keyed, m3-in, m4-in, m3-keyed_session, m3-again, retries-m3, key_data-same, same_octets, nothing_further, stands, IsPair, Stage, after_sta, after_ap}
 use Rattle.domain_rules.proofs.KeyOctets.{octets-kek}
 use Rattle.domain_rules.proofs.Parts.{same-refl, attempt_more, since_part}
-use Rattle.domain_rules.proofs.SentReads.{mic-sealed, reads-counter, m3_fields, fits-m3, m3_message, reads-m3, m4_fields, fits-m4, m4_message, reads-m4}
+use Rattle.domain_rules.proofs.SentReads.{mic-sealed, reads-counter, m3_fields, fits-m3, few-m3, wraps-m3, m3_message, reads-m3, m4_fields, fits-m4, m4_message, reads-m4}
 use Rattle.domain_rules.proofs.Verdicts.{verified-same, keyed-from}
 use Rattle.domain_rules.specs.Counters.{next_in_attempt, sent_count}
 use Rattle.domain_rules.specs.Explained.{push, Step}
-use Rattle.domain_rules.specs.Frames.{sent_m2, m3_key_data, sent_m3, keyed_by}
+use Rattle.domain_rules.specs.Frames.{sent_m2, sent_m3, keyed_by}
 use Rattle.domain_rules.specs.Reading.{KeyMessage, Keyed, Reads}
 use Rattle.domain_rules.specs.Rows.{Adds, TakeRow, By_m3, By_m4, By_repeated_m3}
 use Rattle.domain_rules.specs.AccessPointRows.{retry_acts, most_sends, m4_acts, newer_acts, carried_older}
 use Rattle.domain_rules.specs.Facts.{ReadsKeyData, Facts}
 use Rattle.domain_rules.specs.Asking.{has_heard, kept_counter, offered, verified, replay_counter}
-use Rattle.domain_rules.specs.Verdict.{is_mine, further, and_then, first_verdict, verdict}
+use Rattle.domain_rules.specs.Verdict.{is_mine, key_further, further, first_verdict, verdict}
 use Rattle.domain_rules.specs.StationKeys.{KnowsM3, Keying, m3_keying}
 use Rattle.domain_rules.specs.AccessPointKeys.{m4_keying}
-use Rattle.eapol_key.specs.declared.messages.Message.TheVariants.{M1, M2, M3}
+use Rattle.eapol_key.specs.declared.messages.Message.TheVariants.{M1, M2, M3, M4}
 use Rattle.key_hierarchy.specs.Keys.{ptk}
 use Rattle.key_hierarchy.specs.declared.inputs.Inputs.{Inputs}
 use Rattle.rsn_elements.specs.Elements.{ElementFields}
@@ -31,7 +35,6 @@ use Rattle.run_journal.specs.declared.acts.Act.{Act}
 use Rattle.run_journal.specs.declared.acts.Entry.{Entry}
 use Rattle.run_journal.specs.declared.acts.Kind.TheVariants as kind
 use Rattle.run_journal.specs.declared.acts.Outcome.TheVariants.{Accepted, Answered}
-use Rattle.run_journal.specs.declared.acts.Outcome.{Outcome}
 use Rattle.run_journal.specs.declared.acts.Seal.{Seal}
 use Rattle.run_journal.specs.declared.domain.Domain.{Domain}
 use Rattle.run_journal.specs.declared.domain.Event.TheVariants.{Deliver, Retry}
@@ -164,7 +167,7 @@ module _ (d : Domain) (k m : ℕ) (pair : IsPair d k m) where
   attempt_first = attempt_more a (Took (Some a) octets2 kind.AssocResp Accepted None) sta1 sta1 refl refl (rw (same-refl a) refl)
 
   attempt6 : attempt a sta4 ≡ Some sta4
-  attempt6 = attempt_more a (sent_m2 d s a (keyed_by i) 1) (Derived a i (ptk i) ∷ Took (Some a) octets3 (kind.Key M1) Accepted None ∷ sta3) (Derived a i (ptk i) ∷ Took (Some a) octets3 (kind.Key M1) Accepted None ∷ sta3) refl refl
+  attempt6 = attempt_more a (sent_m2 d s a (keyed_by i) 1 []) (Derived a i (ptk i) ∷ Took (Some a) octets3 (kind.Key M1) Accepted None ∷ sta3) (Derived a i (ptk i) ∷ Took (Some a) octets3 (kind.Key M1) Accepted None ∷ sta3) refl refl
       (attempt_more a (Derived a i (ptk i)) (Took (Some a) octets3 (kind.Key M1) Accepted None ∷ sta3) (Took (Some a) octets3 (kind.Key M1) Accepted None ∷ sta3) refl refl
       (attempt_more a (Took (Some a) octets3 (kind.Key M1) Accepted None) sta3 sta3 refl refl attempt_first))
 
@@ -181,10 +184,10 @@ module _ (d : Domain) (k m : ℕ) (pair : IsPair d k m) where
   counter6 = ap (kept_counter a) (since_part a sta4 sta4 attempt6) ∙ rw (same-refl a) refl
 
   reads6 : Reads d.akm octets5 (Keyed m3)
-  reads6 = reads-m3 d a s (keyed_by i) 2 g 0 pair.has_mic pair.ap_whole pair.sta_whole (omega arith) (length-nonce d a 1) (octets-kek i) is_key
+  reads6 = reads-m3 d a s (keyed_by i) 2 g 0 pair.has_mic pair.ap_whole pair.sta_whole (omega arith) (length-nonce d a 1) (few-m3 d a (keyed_by i) g pair.suite (octets-kek i) is_key)
 
   verifies6 : verified d.akm (ptk i).kck m3 Accepted ≡ Accepted
-  verifies6 = verified-same d.akm (ptk i).kck m3 Accepted (mic-sealed d.akm (ptk i).kck (m3_fields d (keyed_by i) 2 g 0) pair.has_mic (fits-m3 d (keyed_by i) 2 g 0 (omega arith) (length-nonce d a 1) (octets-kek i) is_key))
+  verifies6 = verified-same d.akm (ptk i).kck m3 Accepted (mic-sealed d.akm (ptk i).kck (m3_fields d a (keyed_by i) 2 g 0) pair.has_mic (fits-m3 d a (keyed_by i) 2 g 0 (omega arith) (length-nonce d a 1) (few-m3 d a (keyed_by i) g pair.suite (octets-kek i) is_key)))
 
   mine6 : (not (is_mine d s m3.header) || false) ≡ false
   mine6 = rw (same_octets d s) refl
@@ -197,18 +200,18 @@ module _ (d : Domain) (k m : ℕ) (pair : IsPair d k m) where
   said_by_m3 = said KeyData (SentRsne d.akm None ∷ SentGtkKde g.id g.key ∷ [])
 
   abbrev facts : Facts
-  facts = record { requested = None; unwrapped = Some (m3_key_data d g); data_ = Some said_by_m3; opened = None }
+  facts = record { requested = None; responded = None; unwrapped = Some (plain_key_data d g); data_ = Some said_by_m3; pulled = None; opened = None }
 
-  further6 : further d.akm (Keyed m3) facts ≡ Accepted
-  further6 = key_data-same d.akm g.key 1 (length-gtk d a 0) refl
+  further6 : further d 0 s sta4 (Keyed m3) facts ≡ Accepted
+  further6 = from_named (peer_of d s m3.header.a2) a (λ p. key_further d s sta4 p M3 facts) pair.finds_ap ∙ m3_further_suite d.akm d (m3_keying a sta4) facts pair.suite ∙ key_data-same d.akm g.key 1 (length-gtk d a 0) refl
 
   accepted6 : verdict d 0 s sta4 (Keyed m3) facts ≡ Accepted
-  accepted6 = ap (λ (o : Outcome). and_then o (further d.akm (Keyed m3) facts)) first6 ∙ ap (and_then Accepted) further6
+  accepted6 = stands Accepted _ _ first6 further6 refl
 
   knows6 : KnowsM3 (ptk i).kek m3 facts
   knows6 = record {
-    unwrapped = (octets-kek i, wrapped_is d (ptk i).kek g is_key);
-    data_ = λ plain e. (let same : m3_key_data d g ≡ plain = cc e in subst (λ (x : List ℕ). ReadsKeyData x facts.data_) same (says d g is_key));
+    unwrapped = (octets-kek i, wraps-m3 d a (keyed_by i) g pair.suite is_key);
+    data_ = λ plain e. (let same : plain_key_data d g ≡ plain = cc e in subst (λ (x : List ℕ). ReadsKeyData x facts.data_) same (says d g is_key));
   }
 
   row6 : TakeRow (here d 0 s) sta4 octets5 acts6
@@ -216,10 +219,13 @@ module _ (d : Domain) (k m : ℕ) (pair : IsPair d k m) where
     r = Keyed m3;
     reads = reads6;
     facts = facts;
-    knows = λ came p from y awaited.
-        (let same : a ≡ p = cc (from, pair.finds_ap) in
-        let one : keying ≡ y = some-injective keying y (sym keying6 ∙ subst (λ (x : Node). m3_keying x sta4 ≡ Some y) (sym same) awaited) in
-        subst (λ (x : Keying). KnowsM3 x.key.ptk.kek m3 facts) one knows6);
+    knows = λ came p from. (
+      λ y awaited.
+          (let same : a ≡ p = cc (from, pair.finds_ap) in
+          let one : keying ≡ y = some-injective keying y (sym keying6 ∙ subst (λ (x : Node). m3_keying x sta4 ≡ Some y) (sym same) awaited) in
+          subst (λ (x : Keying). KnowsM3 x.key.ptk.kek m3 facts) one knows6),
+      no_response d.akm sta4 p M3 facts pair.suite,
+    );
     row = By_m3 (record { k = m3; is = refl; message_is = refl; p = a; from = pair.finds_ap; accepted = accepted6; y = keying; awaited = keying6; says = refl });
   }
 
@@ -292,10 +298,10 @@ module _ (d : Domain) (k m : ℕ) (pair : IsPair d k m) where
   counter8 = ap (kept_counter a) since8 ∙ rw (same-refl a) (ap (λ (c : ℕ). Some c) (reads-counter d.akm octets5 m3 reads6))
 
   reads8 : Reads d.akm octets7 (Keyed m3_again)
-  reads8 = reads-m3 d a s (keyed_by i) 3 g 0 pair.has_mic pair.ap_whole pair.sta_whole (omega arith) (length-nonce d a 1) (octets-kek i) is_key
+  reads8 = reads-m3 d a s (keyed_by i) 3 g 0 pair.has_mic pair.ap_whole pair.sta_whole (omega arith) (length-nonce d a 1) (few-m3 d a (keyed_by i) g pair.suite (octets-kek i) is_key)
 
   verifies8 : verified d.akm (ptk i).kck m3_again Answered ≡ Answered
-  verifies8 = verified-same d.akm (ptk i).kck m3_again Answered (mic-sealed d.akm (ptk i).kck (m3_fields d (keyed_by i) 3 g 0) pair.has_mic (fits-m3 d (keyed_by i) 3 g 0 (omega arith) (length-nonce d a 1) (octets-kek i) is_key))
+  verifies8 = verified-same d.akm (ptk i).kck m3_again Answered (mic-sealed d.akm (ptk i).kck (m3_fields d a (keyed_by i) 3 g 0) pair.has_mic (fits-m3 d a (keyed_by i) 3 g 0 (omega arith) (length-nonce d a 1) (few-m3 d a (keyed_by i) g pair.suite (octets-kek i) is_key)))
 
   mine8 : (not (is_mine d s m3_again.header) || false) ≡ false
   mine8 = rw (same_octets d s) refl
@@ -303,16 +309,16 @@ module _ (d : Domain) (k m : ℕ) (pair : IsPair d k m) where
   first8 : first_verdict d 0 s sta6 (Keyed m3_again) ≡ Answered
   first8 = keyed-from d 0 s sta6 m3_again a mine8 pair.finds_ap ∙ m3-again d sta6 a m3_again keyed 2 keying8 counter8 refl refl ∙ verifies8
 
-  further8 : further d.akm (Keyed m3_again) facts ≡ Accepted
-  further8 = key_data-same d.akm g.key 1 (length-gtk d a 0) refl
+  further8 : further d 0 s sta6 (Keyed m3_again) facts ≡ Accepted
+  further8 = from_named (peer_of d s m3_again.header.a2) a (λ p. key_further d s sta6 p M3 facts) pair.finds_ap ∙ m3_further_suite d.akm d (m3_keying a sta6) facts pair.suite ∙ key_data-same d.akm g.key 1 (length-gtk d a 0) refl
 
   answered8 : verdict d 0 s sta6 (Keyed m3_again) facts ≡ Answered
-  answered8 = ap (λ (o : Outcome). and_then o (further d.akm (Keyed m3_again) facts)) first8 ∙ ap (and_then Answered) further8
+  answered8 = stands Answered _ _ first8 further8 refl
 
   knows8 : KnowsM3 (ptk i).kek m3_again facts
   knows8 = record {
-    unwrapped = (octets-kek i, wrapped_is d (ptk i).kek g is_key);
-    data_ = λ plain e. (let same : m3_key_data d g ≡ plain = cc e in subst (λ (x : List ℕ). ReadsKeyData x facts.data_) same (says d g is_key));
+    unwrapped = (octets-kek i, wraps-m3 d a (keyed_by i) g pair.suite is_key);
+    data_ = λ plain e. (let same : plain_key_data d g ≡ plain = cc e in subst (λ (x : List ℕ). ReadsKeyData x facts.data_) same (says d g is_key));
   }
 
   row8 : TakeRow (here d 0 s) sta6 octets7 acts8
@@ -320,10 +326,13 @@ module _ (d : Domain) (k m : ℕ) (pair : IsPair d k m) where
     r = Keyed m3_again;
     reads = reads8;
     facts = facts;
-    knows = λ came p from y awaited.
-        (let same : a ≡ p = cc (from, pair.finds_ap) in
-        let one : keyed ≡ y = some-injective keyed y (sym keying8 ∙ subst (λ (x : Node). m3_keying x sta6 ≡ Some y) (sym same) awaited) in
-        subst (λ (x : Keying). KnowsM3 x.key.ptk.kek m3_again facts) one knows8);
+    knows = λ came p from. (
+      λ y awaited.
+          (let same : a ≡ p = cc (from, pair.finds_ap) in
+          let one : keyed ≡ y = some-injective keyed y (sym keying8 ∙ subst (λ (x : Node). m3_keying x sta6 ≡ Some y) (sym same) awaited) in
+          subst (λ (x : Keying). KnowsM3 x.key.ptk.kek m3_again facts) one knows8),
+      no_response d.akm sta6 p M3 facts pair.suite,
+    );
     row = By_repeated_m3 (record { k = m3_again; is = refl; message_is = refl; p = a; from = pair.finds_ap; answered = answered8; y = keyed; awaited = keying8; says = refl });
   }
 
@@ -363,21 +372,26 @@ module _ (d : Domain) (k m : ℕ) (pair : IsPair d k m) where
   mine9 = rw (same_octets d a) refl
 
   accepted9 : verdict d 0 a ap7 (Keyed m4) no_facts ≡ Accepted
-  accepted9 = ap (λ (o : Outcome). and_then o Accepted) (keyed-from d 0 a ap7 m4 s mine9 pair.finds_sta ∙ m4-in d ap7 s m4 part7 key (3 ∷ 2 ∷ []) attempt9 keying9 offers9 refl ∙ verifies9)
+  accepted9 = stands Accepted _ _ (keyed-from d 0 a ap7 m4 s mine9 pair.finds_sta ∙ m4-in d ap7 s m4 part7 key (3 ∷ 2 ∷ []) attempt9 keying9 offers9 refl ∙ verifies9)
+      (nothing_further (peer_of d a m4.header.a2) (λ p. key_further d a ap7 p M4 no_facts) (λ p. refl)) refl
 
   -- the group key that went with M3 is the newest still
   before9 : before_sent s (kind.Key M3) ap7 ≡ Some (Derived s i (ptk i) ∷ Took (Some s) octets4 (kind.Key M2) Accepted (Some seal4) ∷ ap2)
   before9 = rw (same-refl s) refl
 
-  says9 : acts9 ≡ m4_acts octets8 m4 s key None ++ newer_acts d a s (add (m4_acts octets8 m4 s key None) ap7) key (carried_older s ap7 (before_sent s (kind.Key M3) ap7))
-  says9 = ap (λ (o : Option (List Act)). m4_acts octets8 m4 s key None ++ newer_acts d a s (add (m4_acts octets8 m4 s key None) ap7) key (carried_older s ap7 o)) (sym before9)
+  put9 : put_acts d a ap7 s key ≡ []
+  put9 = put_suite d.akm d a ap7 s key pair.suite
+
+  says9 : acts9 ≡ m4_acts octets8 m4 s key None (put_acts d a ap7 s key) ++ newer_acts d a s (add (m4_acts octets8 m4 s key None (put_acts d a ap7 s key)) ap7) key (carried_older s ap7 (before_sent s (kind.Key M3) ap7))
+  says9 = ap (λ (o : Option (List Act)). m4_acts octets8 m4 s key None [] ++ newer_acts d a s (add (m4_acts octets8 m4 s key None []) ap7) key (carried_older s ap7 o)) (sym before9)
+      ∙ ap (λ (put : List Act). m4_acts octets8 m4 s key None put ++ newer_acts d a s (add (m4_acts octets8 m4 s key None put) ap7) key (carried_older s ap7 (before_sent s (kind.Key M3) ap7))) (sym put9)
 
   row9 : TakeRow (here d 0 a) ap7 octets8 acts9
   row9 = record {
     r = Keyed m4;
     reads = reads-m4 d s a (keyed_by i) 3 pair.has_mic pair.sta_whole pair.ap_whole (omega arith);
     facts = no_facts;
-    knows = λ came p from. tt;
+    knows = λ came p from. (tt, no_response d.akm ap7 p M4 no_facts pair.suite);
     row = By_m4 (record { k = m4; is = refl; message_is = refl; p = s; from = pair.finds_sta; accepted = accepted9; part = part7; awaited = attempt9; x = key; keyed = keying9; says = says9 });
   }
 

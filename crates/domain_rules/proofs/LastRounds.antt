@@ -2,7 +2,7 @@
 use Rattle.domain_base.specs.declared.names.Node.{Node}
 use Rattle.domain_base.specs.declared.names.Peer.TheVariants.{One}
 use Rattle.domain_rules.proofs.Refused.{no_facts}
-use Rattle.domain_rules.proofs.Exchange.{take_step, status-sent, same_octets, IsPair, Stage, after_sta, after_ap}
+use Rattle.domain_rules.proofs.Exchange.{take_step, status-sent, same_octets, nothing_further, stands, IsPair, Stage, after_sta, after_ap}
 use Rattle.domain_rules.proofs.Parts.{same-refl, attempt_ends}
 use Rattle.domain_rules.proofs.SentReads.{assoc_req_body, assoc_req_said, reads-assoc_req}
 use Rattle.domain_rules.proofs.Verdicts.{management-from, managed-from}
@@ -14,21 +14,21 @@ use Rattle.domain_rules.specs.StationRows.{Asks}
 use Rattle.domain_rules.specs.Rows.{Begin, Adds, TakeRow, By_assoc_req}
 use Rattle.domain_rules.specs.Closing.{close_attempt}
 use Rattle.domain_rules.specs.Associating.{management_verdict}
-use Rattle.domain_rules.specs.Verdict.{and_then, verdict}
+use Rattle.domain_rules.specs.Verdict.{management_sender, management_further, verdict}
+use Rattle.domain_rules.proofs.SuiteWords.{mobility_suite}
 use Rattle.domain_rules.specs.Here.{here}
 use Rattle.eapol_key.specs.declared.messages.Message.TheVariants.{M4}
 use Rattle.key_hierarchy.specs.Keys.{ptk}
 use Rattle.key_hierarchy.specs.declared.inputs.Inputs.{Inputs}
 use Rattle.run_journal.specs.Acts.{Derivation, GroupKey}
 use Rattle.run_journal.specs.Premises.{In}
-use Rattle.run_journal.specs.Questions.{attempt, history, add, session}
+use Rattle.run_journal.specs.Questions.{attempt, draws, history, add, session}
 use Rattle.run_journal.specs.declared.acts.Act.TheVariants.{Opened, Drew, Took, Installed, Finished}
 use Rattle.run_journal.specs.declared.acts.Act.{Act}
 use Rattle.run_journal.specs.declared.acts.Drawn.TheVariants.{Nonce}
 use Rattle.run_journal.specs.declared.acts.Key.TheVariants.{Pairwise}
 use Rattle.run_journal.specs.declared.acts.Kind.TheVariants as kind
 use Rattle.run_journal.specs.declared.acts.Outcome.TheVariants.{Accepted}
-use Rattle.run_journal.specs.declared.acts.Outcome.{Outcome}
 use Rattle.run_journal.specs.declared.acts.Seal.{Seal}
 use Rattle.run_journal.specs.declared.acts.Start.TheVariants as start
 use Rattle.run_journal.specs.declared.domain.Domain.{Domain}
@@ -130,12 +130,12 @@ module _ (d : Domain) (k m : ℕ) (pair : IsPair d k m) where
 
   -- round 11: the access point begins a second attempt, and keeps its session
   awaited11 : management_verdict d 0 a ap9 s kind.AssocReq (assoc_req_body d s a) (assoc_req_said d) ≡ Accepted
-  awaited11 = rw (status-sent d.akm) refl
+  awaited11 = rw (status-sent d.akm, mobility_suite d.akm d None pair.suite) refl
 
   accepted11 : verdict d 0 a ap9 (Managed (assoc_req_body d s a) (assoc_req_said d)) no_facts ≡ Accepted
-  accepted11 =
-      ap (λ (o : Outcome). and_then o Accepted)
+  accepted11 = stands Accepted _ _
       (managed-from d 0 a ap9 (assoc_req_body d s a) (assoc_req_said d) s (same_octets d a) (management-from d a s (assoc_req_body d s a).header pair.finds_sta refl) ∙ awaited11)
+      (nothing_further (management_sender d a (assoc_req_body d s a).header) (λ p. management_further d (draws ap9) a ap9 p (assoc_req_body d s a) (assoc_req_said d) no_facts kind.AssocReq) (λ p. refl)) refl
 
   attempt11 : attempt s ap9 ≡ None
   attempt11 = attempt_ends s (Finished s i) (add (Took (Some s) octets8 (kind.Key M4) Accepted (Some seal8) ∷ Installed (One s) (Pairwise (ptk i).tk i) ∷ []) ap7) refl (same-refl s)
@@ -146,9 +146,9 @@ module _ (d : Domain) (k m : ℕ) (pair : IsPair d k m) where
   row11 : TakeRow (here d 0 a) ap9 octets1 acts11
   row11 = record {
     r = Managed (assoc_req_body d s a) (assoc_req_said d);
-    reads = reads-assoc_req d s a pair.sta_whole pair.ap_whole;
+    reads = reads-assoc_req d s a pair.suite pair.sta_whole pair.ap_whole;
     facts = no_facts;
-    knows = λ came. tt;
+    knows = λ came p from. tt;
     row = By_assoc_req (record { b = assoc_req_body d s a; e = assoc_req_said d; is = refl; kind_is = refl; p = s; from = pair.finds_sta; accepted = accepted11; says = says11 });
   }
 

@@ -1,3 +1,4 @@
+pub mod SuiteWords
 pub mod SentReads
 pub mod OneReading
 pub mod Exchange
@@ -16,13 +17,19 @@ pub mod Peers
 pub mod KeyOctets
 pub mod CarriedKey
 pub mod Verdicts
+pub mod Deciding
+pub mod TransitionOutcome
 pub mod OneOutcome
+pub mod Pulled
 pub mod OneGroup
 pub mod SomeGroup
 pub mod Journals
+pub mod FteSeals
+pub mod Covered
 pub mod Noted
 pub mod Switching
 mod Ended
+mod Looks
 pub mod DataOctets
 pub mod DataReads
 pub mod DataExchange

@@ -41,7 +41,7 @@ use Rattle.domain_rules.specs.DataVerdict.{IsOpened}
 use Rattle.domain_rules.specs.DataRows.{send_acts_by, DataRow}
 use Rattle.run_journal.specs.declared.acts.Key.TheVariants.{Pairwise}
 use Rattle.run_journal.specs.Premises.{In}
-use Rattle.domain_rules.specs.Network.{mac, direction, goes_like, peer_of, inputs, root}
+use Rattle.domain_rules.specs.Network.{mac, direction, goes_like, peer_of, r0kh_id, root_at, inputs}
 use Rattle.domain_rules.specs.Frames.{sent_assoc_req, sent_m1, sent_m4, sent_g2, frame_seal}
 use Rattle.domain_rules.specs.Reading.{Management, KeyMessage, Reading, NoFrame, PassedOver, NoElements, Managed, NoKeyFrame, NoMessage, Keyed, Sealed, Reads, kind_of}
 use Rattle.domain_rules.specs.Facts.{Facts}
@@ -52,15 +52,28 @@ use Rattle.domain_rules.specs.Owing.{owing, any_owes, switch_acts, and_switch}
 use Rattle.domain_rules.specs.Asking.{in_attempt, above, verified, by_connect, has_heard, kept_counter, offered, own}
 use Rattle.domain_rules.specs.Counters.{sent_count, next_in_attempt}
 use Rattle.domain_rules.specs.GroupKeys.{memory, find_key, give_by, is_current}
-use Rattle.domain_rules.specs.Rows.{NodeEvent, Take, Begin, Retry, Rekey, Send, Expire, Leave, refused_seal, message_seal, seal_in, response, TakeRows, By_assoc_req, By_assoc_resp, By_m1, By_m2, By_m3, By_repeated_m3, By_m4, By_g1, By_g2, By_data, By_ignored, By_refusal, TakeRow, RowOf, Adds}
+use Rattle.domain_rules.specs.Rows.{NodeEvent, Take, Begin, Retry, Rekey, Send, Expire, Leave, Roam as RoamEvent, Revoke, refused_status, response_by, refused_seal, message_seal, seal_in, response, TakeRows, By_assoc_req, By_assoc_resp, By_m1, By_m2, By_m3, By_repeated_m3, By_m4, By_g1, By_g2, By_data, By_ft_req, By_repeated_ft_req, By_ft_resp, By_re_req, By_repeated_re_req, By_re_resp, By_ignored, By_refusal, TakeRow, RowOf, Adds}
 use Rattle.domain_rules.specs.Closing.{close_attempt, close_session, close_pending, close_associated, or_nothing, next_nonce, sender}
 use Rattle.domain_rules.specs.StationRows.{connect_acts, ConnectRow, Spent, Asks, carried}
 use Rattle.domain_rules.specs.AccessPointRows.{m4_acts, newer_acts, carried_older, g1_to, most_sends, again_or_give_up, m3_again, retry_attempt, again_or_close, retry_session, retry_acts, to_session, to_sessions, next_key, RekeyRow, Pending, Renews}
 use Rattle.domain_rules.specs.AccessPointRows as rekey
-use Rattle.domain_rules.specs.Verified.{IsVerified, IsUnsealed, IsNoted, By_mic, By_ccm, is_with_mic, is_past_mic}
+use Rattle.domain_rules.specs.Verified.{IsVerified, IsUnsealed, IsNoted, By_mic, By_fte, By_ccm, has_mic, is_covered, is_with_mic, is_past_mic}
+use Rattle.key_hierarchy.specs.declared.answers.PullAnswer.{PullAnswer}
+use Rattle.key_hierarchy.specs.declared.fast_transition.PmkR1.{PmkR1}
+use Rattle.domain_base.specs.declared.names.Akm.TheVariants.{Psk, PskSha256, FtPsk}
+use Rattle.run_journal.specs.Holders.{Stored, first_stored, since_finished}
+use Rattle.domain_rules.specs.GroupKeys.{newest, newest_uses, give}
+use Rattle.domain_rules.specs.FastTransition.{single, gtk_in}
+use Rattle.domain_rules.specs.TransitionKeys.{Asked, asked}
+use Rattle.domain_rules.specs.TransitionFrames.{re_resp_fte, sent_re_resp}
+use Rattle.domain_rules.specs.TransitionRows.{sent_again, carried_by, look_answer, looked_by, looked_for, look_of_kind, refused_look, RoamRow, NoSession, SamePeer}
+use Rattle.domain_rules.specs.TransitionRows as roam
+use Rattle.domain_rules.specs.KeyHolders.{put_acts_by, put_acts, revoke_acts_by}
 use Rattle.domain_rules.specs.Here.{here}
-use Rattle.domain_rules.proofs.OneOutcome.{IsTaken, taken_behind, taken_from, Awaited, Is_m1, Is_m2, Is_m3, Is_m4, Is_g1, Is_g2, key_kind, and_accepted, and_answered, payload_in}
-use Rattle.domain_rules.proofs.OneGroup.{one_take}
+use Rattle.domain_rules.proofs.OneOutcome.{IsTaken, taken_behind, taken_from, Awaited, Is_m1, Is_m2, Is_m3, Is_m4, Is_g1, Is_g2, key_kind, and_accepted, and_answered, payload_in, from_named as named_further}
+use Rattle.domain_rules.proofs.OneGroup.{take_by}
+use Rattle.domain_rules.proofs.Pulled.{with_pulled, knows_from, IsFree, verdict_free}
+use Rattle.domain_rules.proofs.FteSeals.{managed_verified, managed_has, request_noted, response_noted, request_has, response_has}
 use Rattle.domain_rules.proofs.SomeGroup.{HasRow, some_rows}
 use Rattle.run_journal.specs.GroupKinds as groups
 
@@ -88,7 +101,7 @@ HasMicOf akm kck k = k.fields.mic ≡ mic akm kck k.octets
 
 -- under the key that it is judged by
 abbrev VerifiedBy : Domain → Node → List Act → Node → KeyMessage → Message → Type 0
-VerifiedBy d n h p k M2 = (part : List Act) → attempt p h ≡ Some part → HasMicOf d.akm (ptk (inputs d (root d) n p (own part) k.fields.nonce)).kck k
+VerifiedBy d n h p k M2 = (part : List Act) → attempt p h ≡ Some part → HasMicOf d.akm (ptk (inputs d (root_at d (r0kh_id d n)) n p (own part) k.fields.nonce)).kck k
 VerifiedBy d n h p k M3 = (y : Keying) → m3_keying p h ≡ Some y → HasMicOf d.akm y.key.ptk.kck k
 VerifiedBy d n h p k M4 = (part : List Act) (x : Derivation) → attempt p h ≡ Some part → m4_keying p part ≡ Some x → HasMicOf d.akm x.ptk.kck k
 VerifiedBy d n h p k G1 = (x : Derivation) → session p h ≡ Some x → HasMicOf d.akm x.ptk.kck k
@@ -125,7 +138,7 @@ never why (inr s) = absurd (cc s)
 verified_by : (d : Domain) (drawn : ℕ) (n : Node) (h : List Act) (p : Node) (k : KeyMessage) (m : Message) → IsTaken (key_verdict d drawn n h p k m) → VerifiedBy d n h p k m
 verified_by d drawn (Sta s) h p k M1 t = tt
 verified_by d drawn (Ap a) h p k M2 t =
-    λ part is. passed_mic d.akm (ptk (inputs d (root d) (Ap a) p (own part) k.fields.nonce)).kck k Accepted
+    λ part is. passed_mic d.akm (ptk (inputs d (root_at d (r0kh_id d (Ap a))) (Ap a) p (own part) k.fields.nonce)).kck k Accepted
     (passed (list_any (λ c. c == k.fields.counter) (offered p M1 part)) _ _ (taken_behind (not (by_connect part) || has_heard p (kind.Key M2) part) reason.Unawaited _ (at_part (attempt p h) part _ is t))).1
 verified_by d drawn (Sta s) h p k M3 t = λ y is. verified_m3 d (kept_counter p (chain p h)) k y (m3_keying p h) is t
 verified_by d drawn (Ap a) h p k M4 t = λ part x awaited is. verified_m4 d p k part x (m4_keying p part) is (at_part (attempt p h) part _ awaited t)
@@ -145,10 +158,10 @@ verified_row d first n h r k m p is message_is from s =
     (verified_by d (first + draws h) n h p k k.message (from_named d first n h k p (subst (λ (v : Reading). sender d n v ≡ Some p) is from) (subst (λ (v : Reading). IsTaken (first_verdict d first n h v)) is s)))
 
 accepted_first : (d : Domain) (first : ℕ) (n : Node) (h : List Act) (r : Reading) (facts : Facts) → verdict d first n h r facts ≡ Accepted → IsTaken (first_verdict d first n h r)
-accepted_first d first n h r facts s = inl (and_accepted (first_verdict d first n h r) (further d.akm r facts) s)
+accepted_first d first n h r facts s = inl (and_accepted (first_verdict d first n h r) (further d first n h r facts) s)
 
 answered_first : (d : Domain) (first : ℕ) (n : Node) (h : List Act) (r : Reading) (facts : Facts) → verdict d first n h r facts ≡ Answered → IsTaken (first_verdict d first n h r)
-answered_first d first n h r facts s = inr (and_answered (first_verdict d first n h r) (further d.akm r facts) s)
+answered_first d first n h r facts s = inr (and_answered (first_verdict d first n h r) (further d first n h r facts) s)
 
 -- ---- the seal of a message whose MIC verified
 
@@ -166,8 +179,8 @@ in_some f (Some x) y s = (x, (refl, s))
 
 message_verified : (d : Domain) (n : Node) (h : List Act) (octets : List ℕ) (k : KeyMessage) (p : Node) (m : Message) (s : Seal) → Reads d.akm octets (Keyed k) → VerifiedBy d n h p k m → message_seal d n h k m (Some p) ≡ Some s → IsVerified d.akm octets s
 message_verified d n h octets k p M2 s reads v is =
-    let x = mapped (λ (part : List Act). frame_seal (ptk (inputs d (root d) n p (own part) k.fields.nonce)).kck k.octets) (attempt p h) s is in
-    is_verified d.akm octets (Keyed k) k (ptk (inputs d (root d) n p (own x.0) k.fields.nonce)).kck s reads refl x.1.1 (v x.0 x.1.0)
+    let x = mapped (λ (part : List Act). frame_seal (ptk (inputs d (root_at d (r0kh_id d n)) n p (own part) k.fields.nonce)).kck k.octets) (attempt p h) s is in
+    is_verified d.akm octets (Keyed k) k (ptk (inputs d (root_at d (r0kh_id d n)) n p (own x.0) k.fields.nonce)).kck s reads refl x.1.1 (v x.0 x.1.0)
 message_verified d n h octets k p M3 s reads v is =
     let x = mapped (λ (y : Keying). frame_seal y.key.ptk.kck k.octets) (m3_keying p h) s is in
     is_verified d.akm octets (Keyed k) k x.0.key.ptk.kck s reads refl x.1.1 (v x.0 x.1.0)
@@ -196,8 +209,9 @@ seal_from d first n h octets k s None from reads t is = absurd (no_peer k.messag
     no_peer G1 is = cc is
     no_peer G2 is = cc is
 
-seal_verified : (d : Domain) (first : ℕ) (n : Node) (h : List Act) (octets : List ℕ) (r : Reading) (s : Seal) → Reads d.akm octets r → IsTaken (first_verdict d first n h r) → seal_in d n h r ≡ Some s → IsVerified d.akm octets s
-seal_verified d first n h octets (Keyed k) s reads t is = seal_from d first n h octets k s (peer_of d n k.header.a2) refl reads t is
+seal_verified : (d : Domain) (first : ℕ) (n : Node) (h : List Act) (octets : List ℕ) (r : Reading) (s : Seal) → Reads d.akm octets r → IsTaken (first_verdict d first n h r) → seal_in d n h r ≡ Some s → IsNoted d.akm octets s
+seal_verified d first n h octets (Keyed k) s reads t is = By_mic (seal_from d first n h octets k s (peer_of d n k.header.a2) refl reads t is)
+seal_verified d first n h octets (Managed b e) s reads t is = By_fte (managed_verified d first n h octets b e s reads t is)
 seal_verified d first n h octets _ s reads t is = absurd (cc is)
 
 noted_by : (b : Bool) (o : Option Seal) (s : Seal) → cond b o None ≡ Some s → (b ≡ true) × (o ≡ Some s)
@@ -255,9 +269,63 @@ quiet_give : (p : Node) (b : Mac) (x : GroupKey) (o : Option GroupKey) (g : List
 quiet_give p b x None g quiet = quiet
 quiet_give p b x (Some kept) g quiet = quiet
 
+quiet_by : (d : Domain) (n q : Node) (k : Kind) (o : Option ℕ) → are_quiet (response_by d n q k o) ≡ true
+quiet_by d n q kind.AssocReq (Some code) = refl
+quiet_by d n q kind.FtReq (Some code) = refl
+quiet_by d n q kind.ReReq (Some code) = refl
+quiet_by d n q k _ = refl
+
 quiet_response : (d : Domain) (n : Node) (from : Option Node) (k : Kind) (why : Reason) → are_quiet (response d n from k why) ≡ true
-quiet_response d (Ap a) (Some p) kind.AssocReq (reason.Status code) = refl
-quiet_response d n from k _ = refl
+quiet_response d (Ap a) (Some p) k why = quiet_by d (Ap a) p k (refused_status why)
+quiet_response d (Ap a) None k why = refl
+quiet_response d (Sta s) from k why = refl
+
+quiet_asked : (p : Node) (o : Option Asked) (x : Option PullAnswer) → are_quiet (looked_for p o x) ≡ true
+quiet_asked p None x = refl
+quiet_asked p (Some a) x = by (single a.names) x
+  where
+    by : (m : Option (List ℕ)) (y : Option PullAnswer) → are_quiet (looked_by p a m y) ≡ true
+    by (Some name) (Some answer) = refl
+    by (Some name) None = refl
+    by None y = refl
+
+quiet_kind : (k : Kind) (p : Node) (e : ElementFields) (x : Option PullAnswer) → are_quiet (look_of_kind k p e x) ≡ true
+quiet_kind kind.FtReq p e x = quiet_asked p (asked e) x
+quiet_kind _ p e x = refl
+
+pub quiet_look : (n : Node) (from : Option Node) (r : Reading) (x : Option PmkR1) (why : Reason) → are_quiet (refused_look n from r x why) ≡ true
+quiet_look (Ap a) (Some p) (Managed b e) x why = quiet_kind b.kind p e (look_answer why x)
+quiet_look (Ap a) (Some p) (NoFrame fault) x why = refl
+quiet_look (Ap a) (Some p) PassedOver x why = refl
+quiet_look (Ap a) (Some p) (NoElements b fault) x why = refl
+quiet_look (Ap a) (Some p) (NoKeyFrame header fault) x why = refl
+quiet_look (Ap a) (Some p) (NoMessage header) x why = refl
+quiet_look (Ap a) (Some p) (Keyed k) x why = refl
+quiet_look (Ap a) (Some p) (Sealed header way tid body) x why = refl
+quiet_look (Ap a) None r x why = refl
+quiet_look (Sta s) from r x why = refl
+
+quiet_stored : (p : Node) (k : Kind) (o : Option Stored) → are_quiet (sent_again p k o) ≡ true
+quiet_stored p k None = refl
+quiet_stored p k (Some s) = refl
+
+quiet_elsewhere : (o : Option Node) (g : List Act) → are_quiet g ≡ true → are_quiet (close_associated o ++ g) ≡ true
+quiet_elsewhere None g quiet = quiet
+quiet_elsewhere (Some p) g quiet = quiet
+
+quiet_pending : (o : Option Node) (g : List Act) → are_quiet g ≡ true → are_quiet (close_pending o ++ g) ≡ true
+quiet_pending None g quiet = quiet
+quiet_pending (Some p) g quiet = quiet
+
+quiet_put : (akm : Akm) (d : Domain) (n : Node) (h : List Act) (p : Node) (x : Derivation) → are_quiet (put_acts_by akm d n h p x) ≡ true
+quiet_put FtPsk d n h p x = refl
+quiet_put Psk d n h p x = refl
+quiet_put PskSha256 d n h p x = refl
+
+quiet_revoke : (akm : Akm) (d : Domain) (n : Node) (h : List Act) (p : Node) → are_quiet (revoke_acts_by akm d n h p) ≡ true
+quiet_revoke FtPsk d n h p = refl
+quiet_revoke Psk d n h p = refl
+quiet_revoke PskSha256 d n h p = refl
 
 quiet_m3 : (d : Domain) (n : Node) (h : List Act) (p : Node) (part : List Act) (x : Option Derivation) (past : Option (List Act)) → is_quiet (m3_again d n h p part x past) ≡ true
 quiet_m3 d n h p part (Some x) (Some past) = refl
@@ -302,13 +370,13 @@ quiet_append (e ∷ f) g one two = let w = not_quiet (is_quiet e) (are_quiet f) 
 
 -- what follows the Took of an M4
 quiet_m4 : (d : Domain) (n p : Node) (h : List Act) (octets : List ℕ) (k : KeyMessage) (x : Derivation)
-    → are_quiet ((close_session p (session p h) ++ Installed (One p) (Pairwise x.ptk.tk x.inputs) ∷ Finished p x.inputs ∷ [])
-    ++ newer_acts d n p (add (m4_acts octets k p x (session p h)) h) x (carried_older p h (before_sent p (kind.Key M3) h))) ≡ true
+    → are_quiet ((close_session p (session p h) ++ Installed (One p) (Pairwise x.ptk.tk x.inputs) ∷ Finished p x.inputs ∷ put_acts d n h p x)
+    ++ newer_acts d n p (add (m4_acts octets k p x (session p h) (put_acts d n h p x)) h) x (carried_older p h (before_sent p (kind.Key M3) h))) ≡ true
 quiet_m4 d n p h octets k x =
-    quiet_append (close_session p (session p h) ++ Installed (One p) (Pairwise x.ptk.tk x.inputs) ∷ Finished p x.inputs ∷ [])
-    (newer_acts d n p (add (m4_acts octets k p x (session p h)) h) x (carried_older p h (before_sent p (kind.Key M3) h)))
-    (quiet_session p (session p h) (Installed (One p) (Pairwise x.ptk.tk x.inputs) ∷ Finished p x.inputs ∷ []) refl)
-    (quiet_newer d n p (add (m4_acts octets k p x (session p h)) h) x (carried_older p h (before_sent p (kind.Key M3) h)))
+    quiet_append (close_session p (session p h) ++ Installed (One p) (Pairwise x.ptk.tk x.inputs) ∷ Finished p x.inputs ∷ put_acts d n h p x)
+    (newer_acts d n p (add (m4_acts octets k p x (session p h) (put_acts d n h p x)) h) x (carried_older p h (before_sent p (kind.Key M3) h)))
+    (quiet_session p (session p h) (Installed (One p) (Pairwise x.ptk.tk x.inputs) ∷ Finished p x.inputs ∷ put_acts d n h p x) (quiet_put d.akm d n h p x))
+    (quiet_newer d n p (add (m4_acts octets k p x (session p h) (put_acts d n h p x)) h) x (carried_older p h (before_sent p (kind.Key M3) h)))
 
 quiet_to : (d : Domain) (n p : Node) (h : List Act) (o : Option Derivation) → are_quiet (to_session d n p h o) ≡ true
 quiet_to d n p h None = refl
@@ -366,7 +434,7 @@ notes d octets taken s same v = (sym same, By_mic v)
 pub data_opened : (d : Domain) (first : ℕ) (n : Node) (h : List Act) (octets : List ℕ) (r : Reading) (facts : Facts) (g : List Act) → Knows d first n h r facts → (row : DataRow (here d first n) h octets r facts g)
     → IsOpened row.k.key row.k.id row.header.octets row.body (Some row.plain)
 data_opened d first n h octets r facts g knows row =
-    let a : first_verdict d first n h r ≡ Accepted = and_accepted (first_verdict d first n h r) (further d.akm r facts) row.accepted in
+    let a : first_verdict d first n h r ≡ Accepted = and_accepted (first_verdict d first n h r) (further d first n h r facts) row.accepted in
     let all : KnowsFrom d n h (Sealed row.header row.way row.tid row.body) facts = subst (λ (x : Reading). KnowsFrom d n h x facts) row.is (knows (subst ComesSoFar (sym a) tt)) in
     let from : peer_of d n row.header.a2 ≡ Some row.p = subst (λ (x : Reading). sender d n x ≡ Some row.p) row.is row.from in
     subst (IsOpened row.k.key row.k.id row.header.octets row.body) row.opened (all row.p from row.k row.under)
@@ -419,12 +487,33 @@ row_noted d first n h octets r facts g from taken k o s reads knows (By_g2 row) 
 row_noted d first n h octets r facts g from taken k o s reads knows (By_data row) there =
     let head = head_noted from taken k o s _ _ g row.says refl there in
     (sym (cc head), By_ccm (data_unsealed d first n h octets r facts g s reads knows row (cc head)))
+row_noted d first n h octets r facts g from taken k o s reads knows (By_ft_req row) there =
+    absurd (none_noted from taken k o s g (ap are_quiet row.says ∙ quiet_attempt row.p (attempt row.p h) _ refl) there)
+row_noted d first n h octets r facts g from taken k o s reads knows (By_repeated_ft_req row) there =
+    absurd (none_noted from taken k o s g (ap are_quiet row.says ∙ quiet_stored row.p kind.FtResp (first_stored row.p kind.FtResp row.part)) there)
+row_noted d first n h octets r facts g from taken k o s reads knows (By_ft_resp row) there = absurd (none_noted from taken k o s g (ap are_quiet row.says) there)
+row_noted d first n h octets r facts g from taken k o s reads knows (By_re_req row) there =
+    let head = head_noted from taken k o s _ _ g row.says (quiet_session row.p (session row.p h) _ refl) there in
+    (sym (cc head), By_fte (request_noted d first n h octets r row.b row.e row.p s reads row.is row.kind_is row.from (accepted_first d first n h r facts row.accepted) (cc head)))
+row_noted d first n h octets r facts g from taken k o s reads knows (By_repeated_re_req row) there =
+    let head = head_noted from taken k o s _ _ g row.says (quiet_stored row.p kind.ReResp (first_stored row.p kind.ReResp (since_finished row.p h))) there in
+    (sym (cc head), By_fte (request_noted d first n h octets r row.b row.e row.p s reads row.is row.kind_is row.from (answered_first d first n h r facts row.answered) (cc head)))
+row_noted d first n h octets r facts g from taken k o s reads knows (By_re_resp row) there =
+    let head = head_noted from taken k o s _ _ g row.says
+    (quiet_elsewhere (associated h) _ (quiet_give row.p (mac d row.p) (carried_by (gtk_in row.e.fte) facts.unwrapped) (find_key (carried_by (gtk_in row.e.fte) facts.unwrapped).key (memory groups.Gtk row.p h)) (Finished row.p row.x.inputs ∷ []) refl)) there in
+    (sym (cc head), By_fte (response_noted d first n h octets r row.b row.e row.p s reads row.is row.kind_is row.from (accepted_first d first n h r facts row.accepted) (cc head)))
 row_noted d first n h octets r facts g from taken k o s reads knows (By_ignored row) there = absurd (none_noted from taken k o s g (ap are_quiet row.says) there)
 row_noted d first n h octets r facts g from taken k o s reads knows (By_refusal row) there =
-    let head = head_noted from taken k o s _ _ g row.says (quiet_response d n (sender d n r) (kind_of r) row.why) there in
+    let head = head_noted from taken k o s _ _ g row.says (quiet_append (refused_look n (sender d n r) r facts.pulled row.why) (response d n (sender d n r) (kind_of r) row.why) (quiet_look n (sender d n r) r facts.pulled row.why) (quiet_response d n (sender d n r) (kind_of r) row.why)) there in
     let seal : refused_seal d first n h r ≡ Some s = cc head in
     let by = noted_by (comes_so_far (first_verdict d first n h r)) (seal_in d n h r) s seal in
-    notes d octets taken s (cc head) (seal_verified d first n h octets r s reads (far_taken (first_verdict d first n h r) by.0) by.1)
+    (sym (cc head), seal_verified d first n h octets r s reads (far_taken (first_verdict d first n h r) by.0) by.1)
+
+roam_quiet : (d : Domain) (first : ℕ) (n : Node) (h : List Act) (p : Node) (g : List Act) → RoamRow (here d first n) h p g → are_quiet g ≡ true
+roam_quiet d first n h p g (NoSession none is) = ap are_quiet is
+roam_quiet d first n h p g (SamePeer q some same is) = ap are_quiet is
+roam_quiet d first n h p g (roam.Spent q some other many is) = ap are_quiet is
+roam_quiet d first n h p g (roam.Asks suite q some other few is) = ap are_quiet is ∙ quiet_pending (pending h) _ refl
 
 connect_quiet : (d : Domain) (first : ℕ) (n : Node) (h : List Act) (p : Node) (g : List Act) → ConnectRow (here d first n) h p g → are_quiet g ≡ true
 connect_quiet d first n h p g (Spent many is) = ap are_quiet is
@@ -444,6 +533,8 @@ event_noted d first n h (Expire p) g from taken k o s is there =
     (quiet_attempt (Sta p) (attempt (Sta p) h) (close_session (Sta p) (session (Sta p) h)) (quiet_closed (Sta p) (session (Sta p) h)))) there)
 event_noted d first n h Leave g from taken k o s is there =
     absurd (none_noted from taken k o s g (ap are_quiet is ∙ quiet_nothing (close_pending (pending h) ++ close_associated (associated h)) (quiet_left (pending h) (associated h))) there)
+event_noted d first n h (RoamEvent a) g from taken k o s row there = absurd (none_noted from taken k o s g (roam_quiet d first n h (Ap a) g row) there)
+event_noted d first n h (Revoke p) g from taken k o s is there = absurd (none_noted from taken k o s g (ap are_quiet is ∙ quiet_revoke d.akm d n h (Sta p)) there)
 
 -- the switch notes nothing
 pub in_switched : (d : Domain) (n : Node) (h acts : List Act) (x : Act) → ((a : ℕ) (after : List Act) → In x (switch_acts d a after) → ⊥) → In x (and_switch d n h acts) → In x acts
@@ -469,9 +560,9 @@ unrefused : (a : Outcome) (why : Reason) → IsTaken a → and_then a Accepted �
 unrefused a why (inl s) t = let e : and_then Accepted Accepted ≡ Refused why = subst (λ (x : Outcome). and_then x Accepted ≡ Refused why) s t in cc e
 unrefused a why (inr s) t = let e : and_then Answered Accepted ≡ Refused why = subst (λ (x : Outcome). and_then x Accepted ≡ Refused why) s t in cc e
 
-message_has : (d : Domain) (n : Node) (h : List Act) (k : KeyMessage) (p : Node) (m : Message) (facts : Facts) (a : Outcome) (why : Reason) → Awaited p h m → IsTaken a → and_then a (key_further d.akm m facts) ≡ Refused why
+message_has : (d : Domain) (n : Node) (h : List Act) (k : KeyMessage) (p : Node) (m : Message) (facts : Facts) (a : Outcome) (why : Reason) → Awaited p h m → IsTaken a → and_then a (key_further d n h p m facts) ≡ Refused why
     → (s : Seal) × (message_seal d n h k m (Some p) ≡ Some s)
-message_has d n h k p M2 facts a why (Is_m2 e w) t s = (frame_seal (ptk (inputs d (root d) n p (own w.0) k.fields.nonce)).kck k.octets, ap (option_map (λ (part : List Act). frame_seal (ptk (inputs d (root d) n p (own part) k.fields.nonce)).kck k.octets)) w.1)
+message_has d n h k p M2 facts a why (Is_m2 e w) t s = (frame_seal (ptk (inputs d (root_at d (r0kh_id d n)) n p (own w.0) k.fields.nonce)).kck k.octets, ap (option_map (λ (part : List Act). frame_seal (ptk (inputs d (root_at d (r0kh_id d n)) n p (own part) k.fields.nonce)).kck k.octets)) w.1)
 message_has d n h k p M2 facts a why (Is_m1 e w) t s = absurd (cc e)
 message_has d n h k p M2 facts a why (Is_m3 e w) t s = absurd (cc e)
 message_has d n h k p M2 facts a why (Is_m4 e w) t s = absurd (cc e)
@@ -493,16 +584,32 @@ message_has d n h k p M1 facts a why w t s = absurd (unrefused a why t s)
 message_has d n h k p M4 facts a why w t s = absurd (unrefused a why t s)
 message_has d n h k p G2 facts a why w t s = absurd (unrefused a why t s)
 
+second : (b c : Bool) → (b && c) ≡ true → c ≡ true
+second true c s = s
+second false c s = absurd (cc s)
+
+-- what has a MIC is no request for authentication
+mic_free : (r : Reading) → is_with_mic r ≡ true → IsFree r
+mic_free (Managed b e) s = λ k. absurd (cc (sym (ap (λ (v : Kind). is_covered v b e) k) ∙ s))
+mic_free (Keyed k) s = tt
+mic_free (NoFrame fault) s = tt
+mic_free PassedOver s = tt
+mic_free (NoElements b fault) s = tt
+mic_free (NoKeyFrame header fault) s = tt
+mic_free (NoMessage header) s = tt
+mic_free (Sealed header way tid body) s = tt
+
 no_and : (b c : Bool) → c ≡ false → (b && c) ≡ true → ⊥
 no_and true c f t = cc (f, t)
 no_and false c f t = cc t
 
-seal_there : (d : Domain) (first : ℕ) (n : Node) (h : List Act) (r : Reading) (facts : Facts) (why : Reason) → IsTaken (first_verdict d first n h r) → is_past_mic (first_verdict d first n h r) (kind_of r) ≡ true → verdict d first n h r facts ≡ Refused why → (s : Seal) × (seal_in d n h r ≡ Some s)
+seal_there : (d : Domain) (first : ℕ) (n : Node) (h : List Act) (r : Reading) (facts : Facts) (why : Reason) → IsTaken (first_verdict d first n h r) → is_past_mic (first_verdict d first n h r) r ≡ true → verdict d first n h r facts ≡ Refused why → (s : Seal) × (seal_in d n h r ≡ Some s)
 seal_there d first n h (Keyed k) facts why t past s =
     let behind = taken_from (peer_of d n k.header.a2) (λ p. key_verdict d (first + draws h) n h p k k.message) (taken_behind (not (is_mine d n k.header) || goes_like k.direction (direction n)) reason.NotForMe _ t) in
-    let has = message_has d n h k behind.0 k.message facts (first_verdict d first n h (Keyed k)) why (key_kind d (first + draws h) n h behind.0 k k.message behind.1.1) t s in
+    let refused = ap (and_then (first_verdict d first n h (Keyed k))) (sym (named_further (peer_of d n k.header.a2) behind.0 (λ p. key_further d n h p k.message facts) behind.1.0)) ∙ s in
+    let has = message_has d n h k behind.0 k.message facts (first_verdict d first n h (Keyed k)) why (key_kind d (first + draws h) n h behind.0 k k.message behind.1.1) t refused in
     (has.0, ap (message_seal d n h k k.message) behind.1.0 ∙ has.1)
-seal_there d first n h (Managed b e) facts why t past s = absurd (unrefused (first_verdict d first n h (Managed b e)) why t s)
+seal_there d first n h (Managed b e) facts why t past s = managed_has d first n h b e t (second (comes_so_far (first_verdict d first n h (Managed b e))) (is_covered b.kind b e) past)
 seal_there d first n h (Sealed header way tid body) facts why t past s = absurd (no_and (comes_so_far (first_verdict d first n h (Sealed header way tid body))) false refl past)
 seal_there d first n h (NoFrame fault) facts why t past s = never (air_reason fault) t
 seal_there d first n h PassedOver facts why (inl t) past s = absurd (cc t)
@@ -512,13 +619,19 @@ seal_there d first n h (NoKeyFrame header fault) facts why t past s = never _ t
 seal_there d first n h (NoMessage header) facts why t past s = never _ t
 
 -- the frame has a MIC, and it verified
-past_far : (o : Outcome) (k : Kind) → is_past_mic o k ≡ true → comes_so_far o ≡ true
-past_far Accepted k s = refl
-past_far Answered k s = refl
-past_far _ k s = absurd (cc s)
+past_far : (o : Outcome) (r : Reading) → is_past_mic o r ≡ true → comes_so_far o ≡ true
+past_far Accepted r s = refl
+past_far Answered r s = refl
+past_far _ r s = absurd (cc s)
 
-no_mic : (o : Outcome) (k m : Kind) → k ≡ m → is_with_mic m ≡ false → is_past_mic o k ≡ true → ⊥
-no_mic o k m same none s = no_and (comes_so_far o) (is_with_mic m) none (subst (λ (x : Kind). is_past_mic o x ≡ true) same s)
+no_mic : (o : Outcome) (r : Reading) → is_with_mic r ≡ false → is_past_mic o r ≡ true → ⊥
+no_mic o r none s = no_and (comes_so_far o) (is_with_mic r) none s
+
+uncovered : (r : Reading) (b : Management) (e : ElementFields) (k : Kind) → r ≡ Managed b e → b.kind ≡ k → is_covered k b e ≡ false → is_with_mic r ≡ false
+uncovered r b e k is kind_is none = ap is_with_mic is ∙ ap (λ (v : Kind). is_covered v b e) kind_is ∙ none
+
+keyed_mic : (r : Reading) (k : KeyMessage) (m : Message) → r ≡ Keyed k → k.message ≡ m → has_mic m ≡ false → is_with_mic r ≡ false
+keyed_mic r k m is message_is none = ap is_with_mic is ∙ ap has_mic message_is ∙ none
 
 not_ignored : (o b : Outcome) → comes_so_far o ≡ true → and_then o b ≡ Ignored → ⊥
 not_ignored Accepted (Refused why) s t = cc t
@@ -542,25 +655,49 @@ managed_kind : (r : Reading) (b : Management) (e : ElementFields) (m : Kind) →
 managed_kind r b e m is same = ap kind_of is ∙ same
 
 has_noted : (d : Domain) (first : ℕ) (n : Node) (h : List Act) (octets : List ℕ) (r : Reading) (facts : Facts) (g : List Act) → TakeRows (here d first n) h octets r facts g
-    → is_past_mic (first_verdict d first n h r) (kind_of r) ≡ true → HasNoted d first n h octets r facts g
-has_noted d first n h octets r facts g (By_assoc_req row) s = absurd (no_mic (first_verdict d first n h r) (kind_of r) kind.AssocReq (managed_kind r row.b row.e kind.AssocReq row.is row.kind_is) refl s)
-has_noted d first n h octets r facts g (By_assoc_resp row) s = absurd (no_mic (first_verdict d first n h r) (kind_of r) kind.AssocResp (managed_kind r row.b row.e kind.AssocResp row.is row.kind_is) refl s)
-has_noted d first n h octets r facts g (By_m1 row) s = absurd (no_mic (first_verdict d first n h r) (kind_of r) (kind.Key M1) (kind_is r row.k M1 row.is row.message_is) refl s)
+    → is_past_mic (first_verdict d first n h r) r ≡ true → HasNoted d first n h octets r facts g
+has_noted d first n h octets r facts g (By_assoc_req row) s = absurd (no_mic (first_verdict d first n h r) r (uncovered r row.b row.e kind.AssocReq row.is row.kind_is refl) s)
+has_noted d first n h octets r facts g (By_assoc_resp row) s = absurd (no_mic (first_verdict d first n h r) r (uncovered r row.b row.e kind.AssocResp row.is row.kind_is refl) s)
+has_noted d first n h octets r facts g (By_ft_req row) s = absurd (no_mic (first_verdict d first n h r) r (uncovered r row.b row.e kind.FtReq row.is row.kind_is refl) s)
+has_noted d first n h octets r facts g (By_repeated_ft_req row) s = absurd (no_mic (first_verdict d first n h r) r (uncovered r row.b row.e kind.FtReq row.is row.kind_is refl) s)
+has_noted d first n h octets r facts g (By_ft_resp row) s = absurd (no_mic (first_verdict d first n h r) r (uncovered r row.b row.e kind.FtResp row.is row.kind_is refl) s)
+has_noted d first n h octets r facts g (By_re_req row) s =
+    let seal = request_has d first n h r row.b row.e row.p row.is row.kind_is row.from (accepted_first d first n h r facts row.accepted) (second (comes_so_far (first_verdict d first n h r)) (is_with_mic r) s) in (
+      seal.0,
+      at_head (sender d n r) (Some row.p) octets (kind_of r) kind.ReReq _ Accepted seal.0 _ g row.from (managed_kind r row.b row.e kind.ReReq row.is row.kind_is) row.accepted
+          (row.says ∙ ap (λ (x : Option Seal). Took (Some row.p) octets kind.ReReq Accepted x ∷ close_session row.p (session row.p h)
+          ++ Installed (One row.p) (Pairwise row.x.ptk.tk row.x.inputs) ∷ Finished row.p row.x.inputs
+          ∷ sent_re_resp d n row.p row.y.by_.r1_name row.x (re_resp_fte d n row.x (newest groups.Gtk h) (newest_uses groups.Gtk h)) ∷ []) seal.1),
+    )
+has_noted d first n h octets r facts g (By_repeated_re_req row) s =
+    let seal = request_has d first n h r row.b row.e row.p row.is row.kind_is row.from (answered_first d first n h r facts row.answered) (second (comes_so_far (first_verdict d first n h r)) (is_with_mic r) s) in (
+      seal.0,
+      at_head (sender d n r) (Some row.p) octets (kind_of r) kind.ReReq _ Answered seal.0 _ g row.from (managed_kind r row.b row.e kind.ReReq row.is row.kind_is) row.answered
+          (row.says ∙ ap (λ (x : Option Seal). Took (Some row.p) octets kind.ReReq Answered x ∷ sent_again row.p kind.ReResp (first_stored row.p kind.ReResp (since_finished row.p h))) seal.1),
+    )
+has_noted d first n h octets r facts g (By_re_resp row) s =
+    let seal = response_has d first n h r row.b row.e row.p row.is row.kind_is row.from (accepted_first d first n h r facts row.accepted) (second (comes_so_far (first_verdict d first n h r)) (is_with_mic r) s) in (
+      seal.0,
+      at_head (sender d n r) (Some row.p) octets (kind_of r) kind.ReResp _ Accepted seal.0 _ g row.from (managed_kind r row.b row.e kind.ReResp row.is row.kind_is) row.accepted
+          (row.says ∙ ap (λ (x : Option Seal). Took (Some row.p) octets kind.ReResp Accepted x ∷ close_associated (associated h)
+          ++ Installed (One row.p) (Pairwise row.x.ptk.tk row.x.inputs) ∷ give groups.Gtk row.p (mac d row.p) (carried_by (gtk_in row.e.fte) facts.unwrapped) h ∷ Finished row.p row.x.inputs ∷ []) seal.1),
+    )
+has_noted d first n h octets r facts g (By_m1 row) s = absurd (no_mic (first_verdict d first n h r) r (keyed_mic r row.k M1 row.is row.message_is refl) s)
 has_noted d first n h octets r facts g (By_m2 row) s = (_, at_head (sender d n r) (Some row.p) octets (kind_of r) (kind.Key M2) _ Accepted _ _ g row.from (kind_is r row.k M2 row.is row.message_is) row.accepted row.says)
 has_noted d first n h octets r facts g (By_m3 row) s = (_, at_head (sender d n r) (Some row.p) octets (kind_of r) (kind.Key M3) _ Accepted _ _ g row.from (kind_is r row.k M3 row.is row.message_is) row.accepted row.says)
 has_noted d first n h octets r facts g (By_repeated_m3 row) s = (_, at_head (sender d n r) (Some row.p) octets (kind_of r) (kind.Key M3) _ Answered _ _ g row.from (kind_is r row.k M3 row.is row.message_is) row.answered row.says)
 has_noted d first n h octets r facts g (By_m4 row) s = (_, at_head (sender d n r) (Some row.p) octets (kind_of r) (kind.Key M4) _ Accepted _ _ g row.from (kind_is r row.k M4 row.is row.message_is) row.accepted row.says)
 has_noted d first n h octets r facts g (By_g1 row) s = (_, at_head (sender d n r) (Some row.p) octets (kind_of r) (kind.Key G1) _ Accepted _ _ g row.from (kind_is r row.k G1 row.is row.message_is) row.accepted row.says)
 has_noted d first n h octets r facts g (By_g2 row) s = (_, at_head (sender d n r) (Some row.p) octets (kind_of r) (kind.Key G2) _ Accepted _ _ g row.from (kind_is r row.k G2 row.is row.message_is) row.accepted row.says)
-has_noted d first n h octets r facts g (By_data row) s = absurd (no_mic (first_verdict d first n h r) (kind_of r) kind.Data (ap kind_of row.is) refl s)
-has_noted d first n h octets r facts g (By_ignored row) s = absurd (not_ignored (first_verdict d first n h r) (further d.akm r facts) (past_far (first_verdict d first n h r) (kind_of r) s) row.ignored)
+has_noted d first n h octets r facts g (By_data row) s = absurd (no_mic (first_verdict d first n h r) r (ap is_with_mic row.is) s)
+has_noted d first n h octets r facts g (By_ignored row) s = absurd (not_ignored (first_verdict d first n h r) (further d first n h r facts) (past_far (first_verdict d first n h r) r s) row.ignored)
 has_noted d first n h octets r facts g (By_refusal row) s =
-    let far : comes_so_far (first_verdict d first n h r) ≡ true = past_far (first_verdict d first n h r) (kind_of r) s in
+    let far : comes_so_far (first_verdict d first n h r) ≡ true = past_far (first_verdict d first n h r) r s in
     let seal = seal_there d first n h r facts row.why (far_taken (first_verdict d first n h r) far) s row.refused in
     let is : refused_seal d first n h r ≡ Some seal.0 = ap (λ (b : Bool). cond b (seal_in d n h r) None) far ∙ seal.1 in (
       seal.0,
       at_head (sender d n r) (sender d n r) octets (kind_of r) (kind_of r) _ (Refused row.why) seal.0 _ g refl refl row.refused
-          (row.says ∙ ap (λ (x : Option Seal). Took (sender d n r) octets (kind_of r) (Refused row.why) x ∷ response d n (sender d n r) (kind_of r) row.why) is),
+          (row.says ∙ ap (λ (x : Option Seal). Took (sender d n r) octets (kind_of r) (Refused row.why) x ∷ refused_look n (sender d n r) r facts.pulled row.why ++ response d n (sender d n r) (kind_of r) row.why) is),
     )
 
 -- what stands among the acts of the event stands among all
@@ -574,14 +711,20 @@ among_all d (Ap a) h acts x there = go acts there
     go (e ∷ g) (inr later) = inr (go g later)
 
 verified_taken : (d : Domain) (first : ℕ) (n : Node) (h : List Act) (octets : List ℕ) (r : Reading) (facts : Facts) (g : List Act) → Reads d.akm octets r → Knows d first n h r facts → TakeRow (here d first n) h octets g
-    → is_past_mic (first_verdict d first n h r) (kind_of r) ≡ true → HasNoted d first n h octets r facts g
+    → is_past_mic (first_verdict d first n h r) r ≡ true → HasNoted d first n h octets r facts g
 verified_taken d first n h octets r facts g reads knows row s =
-    let rows = some_rows d first n h octets r facts in
-    let same : g ≡ rows.0 = one_take d first n h octets g rows.0 row (record { r = r; reads = reads; facts = facts; knows = knows; row = rows.1 }) in
-    subst (λ (x : List Act). HasNoted d first n h octets r facts x) (sym same) (has_noted d first n h octets r facts rows.0 rows.1 s)
+    let x = row.facts.pulled in
+    let rows = some_rows d first n h octets r (with_pulled facts x) in
+    let free = mic_free r (second (comes_so_far (first_verdict d first n h r)) (is_with_mic r) s) in
+    let same : g ≡ rows.0 = take_by d first n h octets g rows.0 row (record { r = r; reads = reads; facts = with_pulled facts x; knows = λ far. knows_from d n h r facts x (knows far); row = rows.1 }) refl in
+    let w = has_noted d first n h octets r (with_pulled facts x) rows.0 rows.1 s in (
+      w.0,
+      subst (λ (l : List Act). In (Took (sender d n r) octets (kind_of r) (verdict d first n h r facts) (Some w.0)) l) (sym same)
+          (subst (λ (o : Outcome). In (Took (sender d n r) octets (kind_of r) o (Some w.0)) rows.0) (verdict_free d first n h r facts x free) w.1),
+    )
 
 pub verified_noted : (d : Domain) (first : ℕ) (n : Node) (h : List Act) (octets : List ℕ) (r : Reading) (facts : Facts) (g : List Act) → Reads d.akm octets r → Knows d first n h r facts → Adds (here d first n) h (Take octets) g
-    → is_past_mic (first_verdict d first n h r) (kind_of r) ≡ true → HasNoted d first n h octets r facts g
+    → is_past_mic (first_verdict d first n h r) r ≡ true → HasNoted d first n h octets r facts g
 verified_noted d first n h octets r facts g reads knows adds s =
     let w = verified_taken d first n h octets r facts adds.acts reads knows adds.row s in
     (w.0, subst (λ (x : List Act). In (Took (sender d n r) octets (kind_of r) (verdict d first n h r facts) (Some w.0)) x) (sym adds.is) (among_all d n h adds.acts _ w.1))
@@ -591,11 +734,12 @@ data_taken : (d : Domain) (first : ℕ) (n : Node) (h : List Act) (octets : List
     → Reads d.akm octets (Sealed header way tid body) → Knows d first n h (Sealed header way tid body) facts → TakeRow (here d first n) h octets g → verdict d first n h (Sealed header way tid body) facts ≡ Accepted
     → (s : Seal) × In (Took (peer_of d n header.a2) octets kind.Data Accepted (Some s)) g
 data_taken d first n h octets header way tid body facts g reads knows row accepted =
-    let o = payload_in d first n h header way tid body facts accepted in
+    let x = row.facts.pulled in
+    let o = payload_in d first n h header way tid body (with_pulled facts x) accepted in
     let seal : Seal = data_seal o.k.key header.octets (packet_number body) o.plain in
-    let rows : HasRow d first n h octets (Sealed header way tid body) facts = (_, By_data (record { header = header; way = way; tid = tid; body = body; is = refl; p = o.p; from = o.from; accepted = accepted; k = o.k; under = o.under; plain = o.plain; opened = o.opened; says = refl })) in
-    let same : g ≡ rows.0 = one_take d first n h octets g rows.0 row (record { r = Sealed header way tid body; reads = reads; facts = facts; knows = knows; row = rows.1 }) in
-    (seal, subst (λ (x : List Act). In (Took (peer_of d n header.a2) octets kind.Data Accepted (Some seal)) x) (sym same) (inl (ap (λ (x : Option Node). Took x octets kind.Data Accepted (Some seal)) o.from)))
+    let rows : HasRow d first n h octets (Sealed header way tid body) (with_pulled facts x) = (_, By_data (record { header = header; way = way; tid = tid; body = body; is = refl; p = o.p; from = o.from; accepted = accepted; k = o.k; under = o.under; plain = o.plain; opened = o.opened; says = refl })) in
+    let same : g ≡ rows.0 = take_by d first n h octets g rows.0 row (record { r = Sealed header way tid body; reads = reads; facts = with_pulled facts x; knows = knows; row = rows.1 }) refl in
+    (seal, subst (λ (l : List Act). In (Took (peer_of d n header.a2) octets kind.Data Accepted (Some seal)) l) (sym same) (inl (ap (λ (y : Option Node). Took y octets kind.Data Accepted (Some seal)) o.from)))
 
 pub data_noted : (d : Domain) (first : ℕ) (n : Node) (h : List Act) (octets : List ℕ) (header : HeaderFields) (way : Direction) (tid : Option ℕ) (body : List ℕ) (facts : Facts) (g : List Act)
     → Reads d.akm octets (Sealed header way tid body) → Knows d first n h (Sealed header way tid body) facts → Adds (here d first n) h (Take octets) g → verdict d first n h (Sealed header way tid body) facts ≡ Accepted

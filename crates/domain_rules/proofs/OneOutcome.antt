@@ -1,15 +1,17 @@
 -- A frame is accepted, answered, ignored or refused, and of these one.
 use Rattle.std.proofs.Common.{◌≡◌, ◌⊎◌, ℕ, ◌+◌, Bool, true, false, List, Option, Some, None, refl, sym, ap, subst, ◌∙◌, inl, inr}
-use Rattle.std.specs.Prelude.{not, nat_lt, ◌||◌, ◌==◌, bytes_eq, drop, if◌then◌else◌}
+use Rattle.std.specs.Prelude.{not, nat_lt, ◌||◌, ◌&&◌, ◌==◌, bytes_eq, length, drop, option_and_then, if◌then◌else◌}
 use Rattle.std.specs.List.{list_any}
 use Rattle.domain_base.specs.declared.names.Node.{Node}
 use Rattle.domain_base.specs.declared.names.Node.TheVariants.{Ap, Sta}
 use Rattle.air_frame.specs.Fields.{HeaderFields}
 use Rattle.air_frame.specs.declared.frame.Direction.{Direction}
 use Rattle.mac_prf.specs.Mic.{mic}
+use Rattle.rsn_elements.specs.Transition.{WrappedGtkFields}
 use Rattle.rsn_elements.specs.Elements.{ElementFields}
-use Rattle.rsn_elements.specs.Sent.{rsne_octets}
+use Rattle.rsn_elements.specs.Sent.{rsne_octets, fte_octets}
 use Rattle.domain_base.specs.declared.names.Akm.{Akm}
+use Rattle.domain_base.specs.declared.names.Akm.TheVariants.{Psk, PskSha256, FtPsk}
 use Rattle.eapol_key.specs.declared.messages.Message.{Message}
 use Rattle.eapol_key.specs.declared.messages.Message.TheVariants.{M1, M2, M3, M4, G1, G2}
 use Rattle.run_journal.specs.declared.domain.Domain.{Domain}
@@ -24,10 +26,10 @@ use Rattle.run_journal.specs.declared.acts.Act.{Act}
 use Rattle.run_journal.specs.GroupKinds as groups
 use Rattle.run_journal.specs.Questions.{attempt, session, draws, chain, handshake}
 use Rattle.run_journal.specs.Acts.{Derivation}
-use Rattle.domain_rules.specs.Network.{bssid, direction, goes_like, peer_of, draw_end}
+use Rattle.domain_rules.specs.Network.{address, bssid, direction, goes_like, peer_of, draw_end}
 use Rattle.domain_rules.specs.Reading.{Management, KeyMessage, Reading, NoFrame, PassedOver, NoElements, Managed, NoKeyFrame, NoMessage, Keyed, Sealed, Reads}
 use Rattle.domain_rules.specs.Facts.{Facts, is_same}
-use Rattle.domain_rules.specs.Verdict.{Knows, KnowsFrom, KnowsOf, ComesSoFar, unless_refused, first_verdict, further, key_further, and_then, verdict, from_peer, sender_in, management_sender, is_mine, is_mine_or_group, air_reason, key_verdict}
+use Rattle.domain_rules.specs.Verdict.{Knows, KnowsFrom, KnowsOf, KnowsResponse, KnowsManaged, ComesSoFar, unless_refused, first_verdict, further, further_from, m2_further, m3_further, key_further, management_further, and_then, verdict, from_peer, sender_in, management_sender, is_mine, is_mine_or_group, air_reason, key_verdict}
 use Rattle.domain_rules.specs.StationKeys.{KnowsM3, Keying, m3_keying, m3_verdict_by, taken_in, m3_key_data, m3_wrapped, g1_verdict_by, g1_key_data, g1_wrapped, is_group_key}
 use Rattle.domain_rules.specs.Owing.{owing}
 use Rattle.ccmp_guard.specs.Ccmp.{ccm_nonce, ccm_aad, packet_number}
@@ -36,43 +38,47 @@ use Rattle.domain_rules.specs.PacketNumbers.{OpenKey}
 use Rattle.domain_rules.specs.DataVerdict.{opened_by, data_verdict_by, data_verdict, unsealed, IsOpened}
 use Rattle.domain_rules.specs.AccessPointKeys.{g2_verdict_by, m4_keying, m4_verdict_by, m4_verdict, m2_key_data, requested_rsne}
 use Rattle.domain_rules.specs.Asking.{in_attempt, above, by_connect, has_heard, kept_counter, offered}
-use Rattle.domain_rules.specs.Associating.{without_status, rsne_status, management_verdict}
-use Rattle.domain_rules.proofs.OneReading.{one_reading, same_m2, same_m3, same_g1, same_opened, same_opened_g1}
+use Rattle.domain_rules.specs.Associating.{without_status, rsne_status, response_fields, management_verdict}
+use Rattle.domain_rules.specs.FastTransition.{r1_name, assoc_fte, is_named, mobility_status, mde_status, fte_status, names_r1kh, names_both, counts_three, gtk_in, gtk_id, is_wrapped_gtk, to_unwrap}
+use Rattle.domain_rules.specs.TransitionKeyData.{response, ft_m2_key_data, ft_m3_key_data, ft_m3_wrapped, has_same_suites, requested_suites, responded_fte, is_domain}
+use Rattle.domain_rules.specs.TransitionKeys.{ft_req_further, re_resp_further, re_resp_keying, re_resp_names, unwraps, KnowsGtk}
+use Rattle.domain_rules.proofs.OneReading.{one_reading, same_m2, same_m3, same_g1, same_opened, same_opened_g1, same_requested, same_plain, same_gtk}
+pub use Rattle.domain_rules.proofs.Deciding.{Decided, Took_in, Repeated, Passed, Thrown, IsTaken, taken_behind, answered_behind}
+use Rattle.domain_rules.proofs.Deciding.{decided_if, refused, decided_attempt, decided_status, never, taken_attempt, taken_status, taken_passed, answered_passed, answered_status}
+use Rattle.domain_rules.proofs.TransitionOutcome.{decided_ft_req, decided_ft_req_further, decided_ft_resp, decided_re_req, decided_re_req_further, decided_re_resp, decided_re_resp_further, FtReqTaken, ft_req_taken, FtRespTaken, ft_resp_taken, ft_resp_unanswered, re_resp_awaited, re_resp_unanswered}
 
--- ---- a frame is accepted, answered, ignored or refused
-
-pub data Decided (o : Outcome) : Type 0 where
-  Took_in : o ≡ Accepted → Decided o
-  Repeated : o ≡ Answered → Decided o
-  Passed : o ≡ Ignored → Decided o
-  Thrown : (why : Reason) → o ≡ Refused why → Decided o
-
-decided_if : (c : Bool) (a b : Outcome) → Decided a → Decided b → Decided (if c then a else b)
-decided_if true a b x y = x
-decided_if false a b x y = y
-
-refused : (why : Reason) → Decided (Refused why)
-refused why = Thrown why refl
+-- ---- each is decided
 
 decided_peer : (o : Option Node) (f : Node → Outcome) → ((p : Node) → Decided (f p)) → Decided (from_peer o f)
 decided_peer None f all = refused reason.UnknownPeer
 decided_peer (Some p) f all = all p
 
-decided_attempt : (o : Option (List Act)) (f : List Act → Outcome) → ((part : List Act) → Decided (f part)) → Decided (in_attempt o f)
-decided_attempt None f all = refused reason.Unawaited
-decided_attempt (Some part) f all = all part
-
 decided_above : (o : Option ℕ) (counter : ℕ) (a : Outcome) → Decided a → Decided (above o counter a)
 decided_above None counter a x = x
 decided_above (Some kept) counter a x = decided_if (nat_lt kept counter) a _ x (refused (reason.Counter kept))
 
-decided_status : (o : Option ℕ) (a : Outcome) → Decided a → Decided (without_status o a)
-decided_status None a x = x
-decided_status (Some status) a x = refused (reason.Status status)
-
 decided_key_data : (requested : Option (List ℕ)) (o : Option ElementFields) → Decided (m2_key_data requested o)
 decided_key_data requested None = refused (reason.KeyData key_data.Unreadable)
 decided_key_data requested (Some e) = decided_if (is_same e.rsne_octets requested) _ _ (Took_in refl) (refused (reason.KeyData key_data.Rsne))
+
+decided_ft_m2 : (d : Domain) (n : Node) (name : List ℕ) (requested o : Option ElementFields) → Decided (ft_m2_key_data d n name requested o)
+decided_ft_m2 d n name requested None = refused (reason.KeyData key_data.Unreadable)
+decided_ft_m2 d n name requested (Some e) =
+    decided_if (not (has_same_suites e.rsne (requested_suites requested) && is_named name e)) _ _ (refused (reason.KeyData key_data.Rsne))
+    (decided_if (not (is_domain d e.mde)) _ _ (refused (reason.KeyData key_data.Mde))
+    (decided_if (is_same e.fte_octets (Some (fte_octets (assoc_fte d n)))) _ _ (Took_in refl) (refused (reason.KeyData key_data.Fte))))
+
+decided_ft_m3 : (d : Domain) (name : List ℕ) (responded o : Option ElementFields) → Decided (ft_m3_key_data d name responded o)
+decided_ft_m3 d name responded None = refused (reason.KeyData key_data.Unreadable)
+decided_ft_m3 d name responded (Some e) =
+    decided_if (not (is_same e.rsne_octets (Some (rsne_octets FtPsk (Some name))))) _ _ (refused (reason.KeyData key_data.Rsne))
+    (decided_if (not (is_domain d e.mde)) _ _ (refused (reason.KeyData key_data.Mde))
+    (decided_if (not (is_same e.fte_octets (responded_fte responded))) _ _ (refused (reason.KeyData key_data.Fte))
+    (decided_if (is_group_key e.gtk) _ _ (Took_in refl) (refused (reason.KeyData key_data.Gtk)))))
+
+decided_ft_wrapped : (d : Domain) (name : List ℕ) (responded : Option ElementFields) (u : Option (List ℕ)) (o : Option ElementFields) → Decided (ft_m3_wrapped d name responded u o)
+decided_ft_wrapped d name responded None o = refused reason.Wrap
+decided_ft_wrapped d name responded (Some plain) o = decided_ft_m3 d name responded o
 
 decided_group_key : (akm : Akm) (o : Option ElementFields) → Decided (m3_key_data akm o)
 decided_group_key akm None = refused (reason.KeyData key_data.Unreadable)
@@ -126,10 +132,20 @@ decided_unsealed : (o : Option (List ℕ)) → Decided (unsealed o)
 decided_unsealed None = refused reason.Seal
 decided_unsealed (Some plain) = Took_in refl
 
+decided_response : (akm : Akm) (d : Domain) (p : Node) (e : ElementFields) → Decided (response_fields akm d p e)
+decided_response FtPsk d p e = decided_status (mde_status d e.mde) _ (decided_if (names_r1kh (address d p) e.fte) _ _ (Took_in refl) (refused (reason.Status fte_status)))
+decided_response Psk d p e = Took_in refl
+decided_response PskSha256 d p e = Took_in refl
+
 decided_management : (d : Domain) (drawn : ℕ) (n : Node) (h : List Act) (p : Node) (k : Kind) (b : Management) (e : ElementFields) → Decided (management_verdict d drawn n h p k b e)
-decided_management d drawn (Ap a) h p kind.AssocReq b e = decided_status (rsne_status d.akm e.rsne) _ (decided_if (nat_lt drawn draw_end) _ _ (Took_in refl) (refused reason.Spent))
+decided_management d drawn (Ap a) h p kind.AssocReq b e =
+    decided_status (rsne_status d.akm e.rsne) _ (decided_status (mobility_status d.akm d e.mde) _ (decided_if (nat_lt drawn draw_end) _ _ (Took_in refl) (refused reason.Spent)))
 decided_management d drawn (Sta s) h p kind.AssocResp b e =
-    decided_attempt (attempt p h) _ (λ part. decided_if (not (by_connect part) || has_heard p kind.AssocResp part) _ _ (refused reason.Unawaited) (decided_if (b.status == 0) _ _ (Took_in refl) (refused (reason.Status b.status))))
+    decided_attempt (attempt p h) _ (λ part. decided_if (not (by_connect part) || has_heard p kind.AssocResp part) _ _ (refused reason.Unawaited) (decided_if (b.status == 0) _ _ (decided_response d.akm d p e) (refused (reason.Status b.status))))
+decided_management d drawn (Ap a) h p kind.FtReq b e = decided_ft_req d h p e
+decided_management d drawn (Sta s) h p kind.FtResp b e = decided_ft_resp d (Sta s) h p b e
+decided_management d drawn (Ap a) h p kind.ReReq b e = decided_re_req d (Ap a) h p e
+decided_management d drawn (Sta s) h p kind.ReResp b e = decided_re_resp d (Sta s) h p b e
 decided_management d drawn n h p _ b e = refused reason.Unawaited
 
 decided_key : (d : Domain) (drawn : ℕ) (n : Node) (h : List Act) (p : Node) (k : KeyMessage) (m : Message) → Decided (key_verdict d drawn n h p k m)
@@ -144,7 +160,7 @@ decided_key d drawn (Sta s) h p k G1 = decided_g1 d (kept_counter p (chain p h))
 decided_key d drawn (Ap a) h p k G2 = decided_g2 d h p k (owing groups.Gtk p h)
 decided_key d drawn n h p k _ = refused reason.Unawaited
 
-decided_first : (d : Domain) (first : ℕ) (n : Node) (h : List Act) (r : Reading) → Decided (first_verdict d first n h r)
+pub decided_first : (d : Domain) (first : ℕ) (n : Node) (h : List Act) (r : Reading) → Decided (first_verdict d first n h r)
 decided_first d first n h (NoFrame fault) = refused (air_reason fault)
 decided_first d first n h PassedOver = Passed refl
 decided_first d first n h (NoElements b fault) = refused _
@@ -157,16 +173,38 @@ decided_first d first n h (Keyed k) =
 decided_first d first n h (Sealed header way tid body) =
     decided_if (not (is_mine_or_group d n header) || goes_like way (direction n)) _ _ (refused reason.NotForMe) (decided_peer (peer_of d n header.a2) _ (λ p. decided_data (packet_number body) (opened_by n h p header tid body)))
 
-decided_message : (akm : Akm) (m : Message) (facts : Facts) → Decided (key_further akm m facts)
-decided_message akm M2 facts = decided_key_data (requested_rsne facts.requested) facts.data_
-decided_message akm M3 facts = decided_wrapped akm facts.unwrapped facts.data_
-decided_message akm G1 facts = decided_g1_wrapped facts.unwrapped facts.data_
-decided_message akm _ facts = Took_in refl
+decided_m2_further : (akm : Akm) (d : Domain) (n p : Node) (facts : Facts) → Decided (m2_further akm d n p facts)
+decided_m2_further FtPsk d n p facts = decided_ft_m2 d n _ facts.requested facts.data_
+decided_m2_further Psk d n p facts = decided_key_data (requested_rsne facts.requested) facts.data_
+decided_m2_further PskSha256 d n p facts = decided_key_data (requested_rsne facts.requested) facts.data_
 
-decided_further : (akm : Akm) (r : Reading) (facts : Facts) → Decided (further akm r facts)
-decided_further akm (Keyed k) facts = decided_message akm k.message facts
-decided_further akm (Sealed header way tid body) facts = decided_unsealed facts.opened
-decided_further akm _ facts = Took_in refl
+decided_m3_further : (akm : Akm) (d : Domain) (y : Option Keying) (facts : Facts) → Decided (m3_further akm d y facts)
+decided_m3_further FtPsk d (Some y) facts = decided_ft_wrapped d _ facts.responded facts.unwrapped facts.data_
+decided_m3_further FtPsk d None facts = decided_wrapped FtPsk facts.unwrapped facts.data_
+decided_m3_further Psk d y facts = decided_wrapped Psk facts.unwrapped facts.data_
+decided_m3_further PskSha256 d y facts = decided_wrapped PskSha256 facts.unwrapped facts.data_
+
+decided_message : (d : Domain) (n : Node) (h : List Act) (p : Node) (m : Message) (facts : Facts) → Decided (key_further d n h p m facts)
+decided_message d n h p M2 facts = decided_m2_further d.akm d n p facts
+decided_message d n h p M3 facts = decided_m3_further d.akm d (m3_keying p h) facts
+decided_message d n h p G1 facts = decided_g1_wrapped facts.unwrapped facts.data_
+decided_message d n h p _ facts = Took_in refl
+
+decided_managed : (d : Domain) (drawn : ℕ) (n : Node) (h : List Act) (p : Node) (b : Management) (e : ElementFields) (facts : Facts) (k : Kind) → Decided (management_further d drawn n h p b e facts k)
+decided_managed d drawn (Ap a) h p b e facts kind.FtReq = decided_ft_req_further drawn h p e facts.pulled
+decided_managed d drawn (Ap a) h p b e facts kind.ReReq = decided_re_req_further d (Ap a) h p e
+decided_managed d drawn (Sta s) h p b e facts kind.ReResp = decided_re_resp_further d (Sta s) h p b e facts.unwrapped
+decided_managed d drawn n h p b e facts _ = Took_in refl
+
+decided_from : (o : Option Node) (f : Node → Outcome) → ((p : Node) → Decided (f p)) → Decided (further_from o f)
+decided_from None f all = Took_in refl
+decided_from (Some p) f all = all p
+
+pub decided_further : (d : Domain) (first : ℕ) (n : Node) (h : List Act) (r : Reading) (facts : Facts) → Decided (further d first n h r facts)
+decided_further d first n h (Keyed k) facts = decided_from (peer_of d n k.header.a2) _ (λ p. decided_message d n h p k.message facts)
+decided_further d first n h (Managed b e) facts = decided_from (management_sender d n b.header) _ (λ p. decided_managed d (first + draws h) n h p b e facts b.kind)
+decided_further d first n h (Sealed header way tid body) facts = decided_unsealed facts.opened
+decided_further d first n h _ facts = Took_in refl
 
 decided_unless : (a b : Outcome) → Decided a → Decided b → Decided (unless_refused a b)
 decided_unless a b x (Took_in s) = rw s x
@@ -181,7 +219,7 @@ decided_then a b (Passed s) y = rw s (Passed refl)
 decided_then a b (Thrown why s) y = rw s (refused why)
 
 pub decided : (d : Domain) (first : ℕ) (n : Node) (h : List Act) (r : Reading) (facts : Facts) → Decided (verdict d first n h r facts)
-decided d first n h r facts = decided_then (first_verdict d first n h r) (further d.akm r facts) (decided_first d first n h r) (decided_further d.akm r facts)
+decided d first n h r facts = decided_then (first_verdict d first n h r) (further d first n h r facts) (decided_first d first n h r) (decided_further d first n h r facts)
 
 -- ---- what was accepted is awaited
 
@@ -205,11 +243,6 @@ sender_by false p q s = cc
 pub sender-some : (d : Domain) (n p : Node) (header : HeaderFields) (o : Option Node) → sender_in d n header o ≡ Some p → o ≡ Some p
 sender-some d n p header None s = cc
 sender-some d n p header (Some q) s = ap (λ (x : Node). Some x) (sender_by (bytes_eq header.a3 (bssid d n q)) q p s)
-
-pub management_kind : (d : Domain) (first : ℕ) (n : Node) (h : List Act) (p : Node) (k : Kind) (b : Management) (e : ElementFields) → management_verdict d first n h p k b e ≡ Accepted → (k ≡ kind.AssocReq) ⊎ (k ≡ kind.AssocResp)
-management_kind d first (Ap a) h p kind.AssocReq b e s = inl refl
-management_kind d first (Sta sta) h p kind.AssocResp b e s = inr refl
-management_kind d first n h p _ b e s = cc
 
 abbrev pub InAttempt : Node → List Act → Type 0
 InAttempt p h = (part : List Act) × (attempt p h ≡ Some part)
@@ -240,24 +273,10 @@ pub data Awaited (p : Node) (h : List Act) (m : Message) : Type 0 where
   Is_g1 : m ≡ G1 → HasSession p h → Awaited p h m
   Is_g2 : m ≡ G2 → Owes p h → Awaited p h m
 
--- the frame is taken: accepted or answered
-abbrev pub IsTaken : Outcome → Type 0
-IsTaken o = (o ≡ Accepted) ⊎ (o ≡ Answered)
-
-pub taken_behind : (c : Bool) (why : Reason) (a : Outcome) → IsTaken (if c then Refused why else a) → IsTaken a
-taken_behind true why a (inl s) = absurd cc
-taken_behind true why a (inr s) = absurd cc
-taken_behind false why a s = s
-
 pub taken_from : (o : Option Node) (f : Node → Outcome) → IsTaken (from_peer o f) → (p : Node) × ((o ≡ Some p) × IsTaken (f p))
 taken_from None f (inl s) = absurd cc
 taken_from None f (inr s) = absurd cc
 taken_from (Some p) f s = (p, (refl, s))
-
-taken_attempt : (o : Option (List Act)) (f : List Act → Outcome) → IsTaken (in_attempt o f) → (part : List Act) × ((o ≡ Some part) × IsTaken (f part))
-taken_attempt None f (inl s) = absurd cc
-taken_attempt None f (inr s) = absurd cc
-taken_attempt (Some part) f s = (part, (refl, s))
 
 taken_m3 : (d : Domain) (kept : Option ℕ) (k : KeyMessage) (o : Option Keying) → IsTaken (m3_verdict_by d kept k o) → (y : Keying) × (o ≡ Some y)
 taken_m3 d kept k None (inl s) = absurd cc
@@ -278,6 +297,24 @@ taken_g2 : (d : Domain) (h : List Act) (p : Node) (k : KeyMessage) (o : Option D
 taken_g2 d h p k None (inl s) = absurd cc
 taken_g2 d h p k None (inr s) = absurd cc
 taken_g2 d h p k (Some x) s = (x, refl)
+
+-- which management frame it is, and by what it is awaited
+pub data FrameAwaited (d : Domain) (n : Node) (h : List Act) (p : Node) (e : ElementFields) (k : Kind) : Type 0 where
+  Is_assoc_req : k ≡ kind.AssocReq → FrameAwaited d n h p e k
+  Is_assoc_resp : k ≡ kind.AssocResp → FrameAwaited d n h p e k
+  Is_ft_req : (a : ℕ) → n ≡ Ap a → k ≡ kind.FtReq → FtReqTaken d h p e → FrameAwaited d n h p e k
+  Is_ft_resp : k ≡ kind.FtResp → FtRespTaken d n h p e → FrameAwaited d n h p e k
+  Is_re_req : (a : ℕ) → n ≡ Ap a → k ≡ kind.ReReq → FrameAwaited d n h p e k
+  Is_re_resp : (s : ℕ) → n ≡ Sta s → k ≡ kind.ReResp → (x : Derivation) × (re_resp_keying p h ≡ Some x) → FrameAwaited d n h p e k
+
+pub frame_kind : (d : Domain) (drawn : ℕ) (n : Node) (h : List Act) (p : Node) (k : Kind) (b : Management) (e : ElementFields) → IsTaken (management_verdict d drawn n h p k b e) → FrameAwaited d n h p e k
+frame_kind d drawn (Ap a) h p kind.AssocReq b e s = Is_assoc_req refl
+frame_kind d drawn (Sta sta) h p kind.AssocResp b e s = Is_assoc_resp refl
+frame_kind d drawn (Ap a) h p kind.FtReq b e s = Is_ft_req a refl refl (ft_req_taken d h p e s)
+frame_kind d drawn (Sta sta) h p kind.FtResp b e s = Is_ft_resp refl (ft_resp_taken d (Sta sta) h p b e s)
+frame_kind d drawn (Ap a) h p kind.ReReq b e s = Is_re_req a refl refl
+frame_kind d drawn (Sta sta) h p kind.ReResp b e s = Is_re_resp sta refl refl (re_resp_awaited d (Sta sta) p b e (re_resp_keying p h) s)
+frame_kind d drawn n h p _ b e s = never reason.Unawaited s
 
 -- protected data is opened under a key
 abbrev pub HasOpenKey : Node → List Act → Node → HeaderFields → Option ℕ → List ℕ → Type 0
@@ -307,10 +344,6 @@ in_m4 d p h k s =
     let a = taken_attempt (attempt p h) _ s in
     let x = taken_m4 d p k a.0 (m4_keying p a.0) a.1.1 in
     record { part = a.0; awaited = a.1.0; x = x.0; keyed = x.1 }
-
-never : {C : Type 0} (why : Reason) → IsTaken (Refused why) → C
-never why (inl s) = absurd cc
-never why (inr s) = absurd cc
 
 pub key_kind : (d : Domain) (drawn : ℕ) (n : Node) (h : List Act) (p : Node) (k : KeyMessage) (m : Message) → IsTaken (key_verdict d drawn n h p k m) → Awaited p h m
 key_kind d drawn (Sta sta) h p k M1 s = let x = taken_attempt (attempt p h) _ s in Is_m1 refl (x.0, x.1.0)
@@ -346,10 +379,6 @@ and_answered _ b s = s
 
 -- ---- what was answered is a repeated M3
 
-pub answered_behind : (c : Bool) (why : Reason) (a : Outcome) → (if c then Refused why else a) ≡ Answered → a ≡ Answered
-answered_behind true why a s = cc
-answered_behind false why a s = s
-
 pub answered_from : (o : Option Node) (p : Node) (f : Node → Outcome) → o ≡ Some p → from_peer o f ≡ Answered → f p ≡ Answered
 answered_from None p f is s = cc
 answered_from (Some q) p f is s = subst (λ (x : Node). f x ≡ Answered) (cc is) s
@@ -361,10 +390,6 @@ unanswered_if false why s = cc
 unanswered_above : (o : Option ℕ) (counter : ℕ) → above o counter Accepted ≡ Answered → ⊥
 unanswered_above None counter s = cc
 unanswered_above (Some kept) counter s = unanswered_if (nat_lt kept counter) (reason.Counter kept) s
-
-unanswered_status : (o : Option ℕ) (c : Bool) → without_status o (if c then Accepted else Refused reason.Spent) ≡ Answered → ⊥
-unanswered_status None c s = unanswered_if c reason.Spent s
-unanswered_status (Some status) c s = cc
 
 unanswered_in : (o : Option (List Act)) (f : List Act → Outcome) → ((part : List Act) → f part ≡ Answered → ⊥) → in_attempt o f ≡ Answered → ⊥
 unanswered_in None f all s = cc
@@ -403,19 +428,26 @@ unanswered_data : (pn : ℕ) (o : Option OpenKey) → data_verdict_by pn o ≡ A
 unanswered_data pn None s = cc
 unanswered_data pn (Some k) s = unanswered_if (nat_lt k.kept pn) (reason.Replayed k.kept) s
 
-unanswered_management : (d : Domain) (drawn : ℕ) (n : Node) (h : List Act) (p : Node) (k : Kind) (b : Management) (e : ElementFields) → management_verdict d drawn n h p k b e ≡ Answered → ⊥
-unanswered_management d drawn (Ap a) h p kind.AssocReq b e s = unanswered_status (rsne_status d.akm e.rsne) (nat_lt drawn draw_end) s
-unanswered_management d drawn (Sta sta) h p kind.AssocResp b e s =
-    unanswered_in (attempt p h) _ (λ part t. unanswered_if (b.status == 0) (reason.Status b.status) (answered_behind (not (by_connect part) || has_heard p kind.AssocResp part) reason.Unawaited _ t)) s
-unanswered_management d drawn n h p _ b e s = cc
-
 unanswered_peer : (o : Option Node) (f : Node → Outcome) → ((p : Node) → f p ≡ Answered → ⊥) → from_peer o f ≡ Answered → ⊥
 unanswered_peer None f all s = cc
 unanswered_peer (Some p) f all s = all p s
 
-pub managed_unanswered : (d : Domain) (first : ℕ) (n : Node) (h : List Act) (b : Management) (e : ElementFields) → first_verdict d first n h (Managed b e) ≡ Answered → ⊥
-managed_unanswered d first n h b e s =
-    unanswered_peer (management_sender d n b.header) _ (λ p. unanswered_management d (first + draws h) n h p b.kind b e) (answered_behind (not (is_mine d n b.header)) reason.NotForMe _ s)
+-- of management frames requests alone are answered
+response_unanswered : (akm : Akm) (d : Domain) (p : Node) (e : ElementFields) → response_fields akm d p e ≡ Answered → ⊥
+response_unanswered FtPsk d p e s = unanswered_if (names_r1kh (address d p) e.fte) (reason.Status fte_status) (answered_status (mde_status d e.mde) _ s)
+response_unanswered Psk d p e s = cc
+response_unanswered PskSha256 d p e s = cc
+
+pub answered_frame : (d : Domain) (drawn : ℕ) (n : Node) (h : List Act) (p : Node) (k : Kind) (b : Management) (e : ElementFields) → management_verdict d drawn n h p k b e ≡ Answered → (k ≡ kind.FtReq) ⊎ (k ≡ kind.ReReq)
+answered_frame d drawn (Ap a) h p kind.AssocReq b e s =
+    absurd (unanswered_if (nat_lt drawn draw_end) reason.Spent (answered_status (mobility_status d.akm d e.mde) _ (answered_status (rsne_status d.akm e.rsne) _ s)))
+answered_frame d drawn (Sta sta) h p kind.AssocResp b e s =
+    absurd (unanswered_in (attempt p h) _ (λ part t. response_unanswered d.akm d p e (answered_passed (b.status == 0) (reason.Status b.status) _ (answered_behind (not (by_connect part) || has_heard p kind.AssocResp part) reason.Unawaited _ t))) s)
+answered_frame d drawn (Ap a) h p kind.FtReq b e s = inl refl
+answered_frame d drawn (Sta sta) h p kind.FtResp b e s = absurd (ft_resp_unanswered d (Sta sta) h p b e s)
+answered_frame d drawn (Ap a) h p kind.ReReq b e s = inr refl
+answered_frame d drawn (Sta sta) h p kind.ReResp b e s = absurd (re_resp_unanswered d (Sta sta) h p b e s)
+answered_frame d drawn n h p _ b e s = cc
 
 pub sealed_unanswered : (d : Domain) (first : ℕ) (n : Node) (h : List Act) (header : HeaderFields) (way : Direction) (tid : Option ℕ) (body : List ℕ) → first_verdict d first n h (Sealed header way tid body) ≡ Answered → ⊥
 sealed_unanswered d first n h header way tid body s =
@@ -435,44 +467,75 @@ one_payload tk id header body (Some a) None s t = absurd (t a s.0 s.1)
 one_payload tk id header body None (Some b) s t = absurd (s b t.0 t.1)
 one_payload tk id header body None None s t = refl
 
-same_message_further : (d : Domain) (h : List Act) (p : Node) (m : Message) (k : KeyMessage) (f g : Facts) → Awaited p h m → KnowsOf d.akm h p m k f → KnowsOf d.akm h p m k g → key_further d.akm m f ≡ key_further d.akm m g
-same_message_further d h p M2 k f g awaited s t = same_m2 d.akm h p k f g s t
-same_message_further d h p M3 k f g (Is_m3 e y) s t = same_m3 d.akm y.0.key.ptk.kek k f g (s y.0 y.1) (t y.0 y.1)
-same_message_further d h p M3 k f g (Is_m1 e y) s t = cc
-same_message_further d h p M3 k f g (Is_m2 e y) s t = cc
-same_message_further d h p M3 k f g (Is_m4 e y) s t = cc
-same_message_further d h p M3 k f g (Is_g1 e y) s t = cc
-same_message_further d h p M3 k f g (Is_g2 e y) s t = cc
-same_message_further d h p G1 k f g (Is_g1 e y) s t = same_g1 y.0.ptk.kek k f g (s y.0 y.1) (t y.0 y.1)
-same_message_further d h p G1 k f g (Is_m1 e y) s t = cc
-same_message_further d h p G1 k f g (Is_m2 e y) s t = cc
-same_message_further d h p G1 k f g (Is_m3 e y) s t = cc
-same_message_further d h p G1 k f g (Is_m4 e y) s t = cc
-same_message_further d h p G1 k f g (Is_g2 e y) s t = cc
-same_message_further d h p _ k f g awaited s t = refl
+same_message_further : (d : Domain) (n : Node) (h : List Act) (p : Node) (m : Message) (k : KeyMessage) (f g : Facts) → Awaited p h m → KnowsOf d.akm h p m k f → KnowsOf d.akm h p m k g
+    → KnowsResponse d.akm h p m f → KnowsResponse d.akm h p m g → key_further d n h p m f ≡ key_further d n h p m g
+same_message_further d n h p M2 k f g awaited s t v w = same_m2 d.akm d n h p k f g s t
+same_message_further d n h p M3 k f g (Is_m3 e y) s t v w =
+    ap (λ (o : Option Keying). m3_further d.akm d o f) y.1 ∙ same_m3 d.akm d h p y.0 k f g (s y.0 y.1) (t y.0 y.1) v w ∙ sym (ap (λ (o : Option Keying). m3_further d.akm d o g) y.1)
+same_message_further d n h p M3 k f g (Is_m1 e y) s t v w = cc
+same_message_further d n h p M3 k f g (Is_m2 e y) s t v w = cc
+same_message_further d n h p M3 k f g (Is_m4 e y) s t v w = cc
+same_message_further d n h p M3 k f g (Is_g1 e y) s t v w = cc
+same_message_further d n h p M3 k f g (Is_g2 e y) s t v w = cc
+same_message_further d n h p G1 k f g (Is_g1 e y) s t v w = same_g1 y.0.ptk.kek k f g (s y.0 y.1) (t y.0 y.1)
+same_message_further d n h p G1 k f g (Is_m1 e y) s t v w = cc
+same_message_further d n h p G1 k f g (Is_m2 e y) s t v w = cc
+same_message_further d n h p G1 k f g (Is_m3 e y) s t v w = cc
+same_message_further d n h p G1 k f g (Is_m4 e y) s t v w = cc
+same_message_further d n h p G1 k f g (Is_g2 e y) s t v w = cc
+same_message_further d n h p _ k f g awaited s t v w = refl
 
-same_further : (d : Domain) (first : ℕ) (n : Node) (h : List Act) (r : Reading) (f g : Facts) → ComesSoFar (first_verdict d first n h r) → KnowsFrom d n h r f → KnowsFrom d n h r g → further d.akm r f ≡ further d.akm r g
-same_further d first n h (Keyed k) f g a s t =
+same_wrapped_key : (p : Node) (h : List Act) (x : Derivation) (w u v : Option (List ℕ)) (rest : Outcome) → re_resp_keying p h ≡ Some x → KnowsGtk (re_resp_keying p h) w u → KnowsGtk (re_resp_keying p h) w v → unwraps w u rest ≡ unwraps w v rest
+same_wrapped_key p h x w u v rest is s t =
+    same_gtk x w u v rest (subst (λ (o : Option Derivation). KnowsGtk o w u) is s) (subst (λ (o : Option Derivation). KnowsGtk o w v) is t)
+
+same_managed_further : (d : Domain) (drawn : ℕ) (n : Node) (h : List Act) (p : Node) (b : Management) (e : ElementFields) (f g : Facts) (k : Kind) → f.pulled ≡ g.pulled → FrameAwaited d n h p e k
+    → KnowsManaged n h p e f k → KnowsManaged n h p e g k → management_further d drawn n h p b e f k ≡ management_further d drawn n h p b e g k
+same_managed_further d drawn (Ap a) h p b e f g kind.FtReq pulled awaited s t = ap (ft_req_further drawn h p e) pulled
+same_managed_further d drawn (Sta sta) h p b e f g kind.ReResp pulled (Is_re_resp z at is x) s t = same_wrapped_key p h x.0 (to_unwrap e.fte) f.unwrapped g.unwrapped _ x.1 s t
+same_managed_further d drawn (Sta sta) h p b e f g kind.ReResp pulled (Is_assoc_req is) s t = cc
+same_managed_further d drawn (Sta sta) h p b e f g kind.ReResp pulled (Is_assoc_resp is) s t = cc
+same_managed_further d drawn (Sta sta) h p b e f g kind.ReResp pulled (Is_ft_req z at is x) s t = cc
+same_managed_further d drawn (Sta sta) h p b e f g kind.ReResp pulled (Is_ft_resp is x) s t = cc
+same_managed_further d drawn (Sta sta) h p b e f g kind.ReResp pulled (Is_re_req z at is) s t = cc
+same_managed_further d drawn n h p b e f g _ pulled awaited s t = refl
+
+-- where the frame has a sender
+pub from_named : (o : Option Node) (p : Node) (f : Node → Outcome) → o ≡ Some p → further_from o f ≡ f p
+from_named o p f is = ap (λ (x : Option Node). further_from x f) is
+
+same_further : (d : Domain) (first : ℕ) (n : Node) (h : List Act) (r : Reading) (f g : Facts) → f.pulled ≡ g.pulled → ComesSoFar (first_verdict d first n h r) → KnowsFrom d n h r f → KnowsFrom d n h r g
+    → further d first n h r f ≡ further d first n h r g
+same_further d first n h (Keyed k) f g pulled a s t =
     let behind = taken_from (peer_of d n k.header.a2) (λ p. key_verdict d (first + draws h) n h p k k.message) (taken_behind (not (is_mine d n k.header) || goes_like k.direction (direction n)) reason.NotForMe _ (far_taken _ a)) in
-    same_message_further d h behind.0 k.message k f g (key_kind d (first + draws h) n h behind.0 k k.message behind.1.1) (s behind.0 behind.1.0) (t behind.0 behind.1.0)
-same_further d first n h (Sealed header way tid body) f g a s t =
+    let one = s behind.0 behind.1.0 in
+    let two = t behind.0 behind.1.0 in
+    from_named (peer_of d n k.header.a2) behind.0 _ behind.1.0
+    ∙ same_message_further d n h behind.0 k.message k f g (key_kind d (first + draws h) n h behind.0 k k.message behind.1.1) one.0 two.0 one.1 two.1
+    ∙ sym (from_named (peer_of d n k.header.a2) behind.0 _ behind.1.0)
+same_further d first n h (Managed b e) f g pulled a s t =
+    let behind = taken_from (management_sender d n b.header) (λ p. management_verdict d (first + draws h) n h p b.kind b e) (taken_behind (not (is_mine d n b.header)) reason.NotForMe _ (far_taken _ a)) in
+    from_named (management_sender d n b.header) behind.0 _ behind.1.0
+    ∙ same_managed_further d (first + draws h) n h behind.0 b e f g b.kind pulled (frame_kind d (first + draws h) n h behind.0 b.kind b e behind.1.1) (s behind.0 behind.1.0) (t behind.0 behind.1.0)
+    ∙ sym (from_named (management_sender d n b.header) behind.0 _ behind.1.0)
+same_further d first n h (Sealed header way tid body) f g pulled a s t =
     let o = open_from d first n h header way tid body (far_taken _ a) in
     ap unsealed (one_payload o.k.key o.k.id header.octets body f.opened g.opened (s o.p o.from o.k o.under) (t o.p o.from o.k o.under))
-same_further d first n h _ f g a s t = refl
+same_further d first n h _ f g pulled a s t = refl
 
 same_then : (o x y : Outcome) → (ComesSoFar o → x ≡ y) → and_then o x ≡ and_then o y
 same_then Accepted x y same = ap (unless_refused Accepted) (same tt)
 same_then Answered x y same = ap (unless_refused Answered) (same tt)
 same_then _ x y same = refl
 
-pub same_verdict : (d : Domain) (first : ℕ) (n : Node) (h : List Act) (r : Reading) (f g : Facts) → Knows d first n h r f → Knows d first n h r g → verdict d first n h r f ≡ verdict d first n h r g
-same_verdict d first n h r f g s t = same_then (first_verdict d first n h r) (further d.akm r f) (further d.akm r g) (λ a. same_further d first n h r f g a (s a) (t a))
+pub same_verdict : (d : Domain) (first : ℕ) (n : Node) (h : List Act) (r : Reading) (f g : Facts) → f.pulled ≡ g.pulled → Knows d first n h r f → Knows d first n h r g → verdict d first n h r f ≡ verdict d first n h r g
+same_verdict d first n h r f g pulled s t = same_then (first_verdict d first n h r) (further d first n h r f) (further d first n h r g) (λ a. same_further d first n h r f g pulled a (s a) (t a))
 
-pub one_verdict : (d : Domain) (first : ℕ) (n : Node) (h : List Act) (octets : List ℕ) (r s : Reading) (f g : Facts) → Reads d.akm octets r → Reads d.akm octets s → Knows d first n h r f → Knows d first n h s g
+pub one_verdict : (d : Domain) (first : ℕ) (n : Node) (h : List Act) (octets : List ℕ) (r s : Reading) (f g : Facts) → f.pulled ≡ g.pulled → Reads d.akm octets r → Reads d.akm octets s → Knows d first n h r f → Knows d first n h s g
     → verdict d first n h r f ≡ verdict d first n h s g
-one_verdict d first n h octets r s f g x y k l =
+one_verdict d first n h octets r s f g pulled x y k l =
     let same : r ≡ s = one_reading d.akm octets r s x y in
-    same_verdict d first n h r f g k (subst (λ (v : Reading). Knows d first n h v g) (sym same) l) ∙ ap (λ (v : Reading). verdict d first n h v g) same
+    same_verdict d first n h r f g pulled k (subst (λ (v : Reading). Knows d first n h v g) (sym same) l) ∙ ap (λ (v : Reading). verdict d first n h v g) same
 
 -- ---- the key data of an M3 that was accepted
 
@@ -484,21 +547,24 @@ group_by : (c : Bool) → ((if c then Accepted else Refused (reason.KeyData key_
 group_by true = inl refl
 group_by false = inr (reason.KeyData key_data.Gtk, refl)
 
-key_data_by : (akm : Akm) (x : Option ElementFields) → (m3_key_data akm x ≡ Accepted) ⊎ ((w : Reason) × (m3_key_data akm x ≡ Refused w))
-key_data_by akm None = inr (reason.KeyData key_data.Unreadable, refl)
-key_data_by akm (Some e) = never_by (not (is_same e.rsne_octets (Some (rsne_octets akm None)))) (reason.KeyData key_data.Rsne) _ (group_by (is_group_key e.gtk))
-
-wrapped_by : (akm : Akm) (u : Option (List ℕ)) (x : Option ElementFields) → (m3_wrapped akm u x ≡ Accepted) ⊎ ((w : Reason) × (m3_wrapped akm u x ≡ Refused w))
-wrapped_by akm None x = inr (reason.Wrap, refl)
-wrapped_by akm (Some plain) x = key_data_by akm x
-
-unless_passed : (why : Reason) (b : Outcome) → unless_refused Accepted b ≡ Accepted → b ≡ Refused why → ⊥
+pub unless_passed : (why : Reason) (b : Outcome) → unless_refused Accepted b ≡ Accepted → b ≡ Refused why → ⊥
 unless_passed why b s t = let e : unless_refused Accepted (Refused why) ≡ Accepted = subst (λ (x : Outcome). unless_refused Accepted x ≡ Accepted) t s in cc
 
-not_refused : (akm : Akm) (u : Option (List ℕ)) (x : Option ElementFields) → unless_refused Accepted (m3_wrapped akm u x) ≡ Accepted → m3_wrapped akm u x ≡ Accepted
-not_refused akm u x s = elim (wrapped_by akm u x) [
-  | inl e ↦ e
-  | inr e ↦ absurd (unless_passed e.0 (m3_wrapped akm u x) s e.1)
+-- an M3 whose key data has no plain text is refused
+m3_unopened : (akm : Akm) (d : Domain) (y : Option Keying) (f : Facts) → f.unwrapped ≡ None → m3_further akm d y f ≡ Refused reason.Wrap
+m3_unopened FtPsk d (Some y) f e = ap (λ (o : Option (List ℕ)). ft_m3_wrapped d (r1_name y.key.inputs) f.responded o f.data_) e
+m3_unopened FtPsk d None f e = ap (λ (o : Option (List ℕ)). m3_wrapped FtPsk o f.data_) e
+m3_unopened Psk d y f e = ap (λ (o : Option (List ℕ)). m3_wrapped Psk o f.data_) e
+m3_unopened PskSha256 d y f e = ap (λ (o : Option (List ℕ)). m3_wrapped PskSha256 o f.data_) e
+
+pub some_or_none : {A : Type 0} (o : Option A) → (o ≡ None) ⊎ ((x : A) × (o ≡ Some x))
+some_or_none None = inl refl
+some_or_none (Some x) = inr (x, refl)
+
+opened_m3 : (akm : Akm) (d : Domain) (y : Option Keying) (f : Facts) → unless_refused Accepted (m3_further akm d y f) ≡ Accepted → (plain : List ℕ) × (f.unwrapped ≡ Some plain)
+opened_m3 akm d y f s = elim (some_or_none f.unwrapped) [
+  | inl e ↦ absurd (unless_passed reason.Wrap (m3_further akm d y f) s (m3_unopened akm d y f e))
+  | inr x ↦ x
 ]
 
 keyed_m3 : (p : Node) (h : List Act) (m : Message) → m ≡ M3 → Awaited p h m → HasKeying p h
@@ -512,15 +578,192 @@ keyed_m3 p h m e (Is_g2 f y) = cc
 knows_m3 : (d : Domain) (h : List Act) (p : Node) (m : Message) (k : KeyMessage) (f : Facts) → m ≡ M3 → KnowsOf d.akm h p m k f → (y : Keying) → m3_keying p h ≡ Some y → KnowsM3 y.key.ptk.kek k f
 knows_m3 d h p m k f e knows y is = let all : KnowsOf d.akm h p M3 k f = subst (λ (x : Message). KnowsOf d.akm h p x k f) e knows in all y is
 
+-- a message that was accepted, of whom it is, and what reading further told of it
+pub record KeyAccepted (d : Domain) (first : ℕ) (n : Node) (h : List Act) (k : KeyMessage) (facts : Facts) : Type 0 where
+  pub p : Node
+  pub from : peer_of d n k.header.a2 ≡ Some p
+  pub awaited : Awaited p h k.message
+  pub far : ComesSoFar (first_verdict d first n h (Keyed k))
+  pub opened : unless_refused Accepted (key_further d n h p k.message facts) ≡ Accepted
+
+pub key_accepted : (d : Domain) (first : ℕ) (n : Node) (h : List Act) (k : KeyMessage) (facts : Facts) → verdict d first n h (Keyed k) facts ≡ Accepted → KeyAccepted d first n h k facts
+key_accepted d first n h k facts accepted =
+    let a : first_verdict d first n h (Keyed k) ≡ Accepted = and_accepted _ _ accepted in
+    let behind = taken_from (peer_of d n k.header.a2) (λ p. key_verdict d (first + draws h) n h p k k.message) (taken_behind (not (is_mine d n k.header) || goes_like k.direction (direction n)) reason.NotForMe _ (inl a)) in
+    let opened : unless_refused Accepted (further d first n h (Keyed k) facts) ≡ Accepted = subst (λ (x : Outcome). and_then x (further d first n h (Keyed k) facts) ≡ Accepted) a accepted in
+    record {
+      p = behind.0;
+      from = behind.1.0;
+      awaited = key_kind d (first + draws h) n h behind.0 k k.message behind.1.1;
+      far = subst ComesSoFar (sym a) tt;
+      opened = subst (λ (o : Outcome). unless_refused Accepted o ≡ Accepted) (from_named (peer_of d n k.header.a2) behind.0 (λ p. key_further d n h p k.message facts) behind.1.0) opened;
+    }
+
 pub same_carried : (d : Domain) (first : ℕ) (n : Node) (h : List Act) (k : KeyMessage) (f g : Facts) → k.message ≡ M3 → Knows d first n h (Keyed k) f → Knows d first n h (Keyed k) g → verdict d first n h (Keyed k) f ≡ Accepted → f.data_ ≡ g.data_
 same_carried d first n h k f g m s t accepted =
-    let a : first_verdict d first n h (Keyed k) ≡ Accepted = and_accepted _ _ accepted in
-    let far : ComesSoFar (first_verdict d first n h (Keyed k)) = subst ComesSoFar (sym a) tt in
-    let behind = taken_from (peer_of d n k.header.a2) (λ p. key_verdict d (first + draws h) n h p k k.message) (taken_behind (not (is_mine d n k.header) || goes_like k.direction (direction n)) reason.NotForMe _ (inl a)) in
-    let y = keyed_m3 behind.0 h k.message m (key_kind d (first + draws h) n h behind.0 k k.message behind.1.1) in
-    let opened : and_then Accepted (key_further d.akm k.message f) ≡ Accepted = subst (λ (x : Outcome). and_then x (key_further d.akm k.message f) ≡ Accepted) a accepted in
-    let open3 : unless_refused Accepted (m3_wrapped d.akm f.unwrapped f.data_) ≡ Accepted = subst (λ (x : Message). unless_refused Accepted (key_further d.akm x f) ≡ Accepted) m opened in
-    same_opened d.akm y.0.key.ptk.kek k f g (knows_m3 d h behind.0 k.message k f m (s far behind.0 behind.1.0) y.0 y.1) (knows_m3 d h behind.0 k.message k g m (t far behind.0 behind.1.0) y.0 y.1) (not_refused d.akm f.unwrapped f.data_ open3)
+    let x = key_accepted d first n h k f accepted in
+    let y = keyed_m3 x.p h k.message m x.awaited in
+    let open3 = opened_m3 d.akm d (m3_keying x.p h) f (subst (λ (v : Message). unless_refused Accepted (key_further d n h x.p v f) ≡ Accepted) m x.opened) in
+    same_opened y.0.key.ptk.kek k f g open3.0 (knows_m3 d h x.p k.message k f m (s x.far x.p x.from).0 y.0 y.1) (knows_m3 d h x.p k.message k g m (t x.far x.p x.from).0 y.0 y.1) open3.1
+
+-- the association response by which an M1 is taken with suite 4
+pub same_responded : (d : Domain) (first : ℕ) (n : Node) (h : List Act) (k : KeyMessage) (f g : Facts) → k.message ≡ M1 → d.akm ≡ FtPsk → Knows d first n h (Keyed k) f → Knows d first n h (Keyed k) g → verdict d first n h (Keyed k) f ≡ Accepted → f.responded ≡ g.responded
+same_responded d first n h k f g m suite s t accepted =
+    let x = key_accepted d first n h k f accepted in
+    let one : KnowsResponse FtPsk h x.p M1 f = subst (λ (v : Akm). KnowsResponse v h x.p M1 f) suite (subst (λ (v : Message). KnowsResponse d.akm h x.p v f) m (s x.far x.p x.from).1) in
+    let two : KnowsResponse FtPsk h x.p M1 g = subst (λ (v : Akm). KnowsResponse v h x.p M1 g) suite (subst (λ (v : Message). KnowsResponse d.akm h x.p v g) m (t x.far x.p x.from).1) in
+    same_requested FtPsk (response x.p h) f.responded g.responded one two
+
+-- ---- a management frame that was accepted
+
+pub record FrameAccepted (d : Domain) (first : ℕ) (n : Node) (h : List Act) (b : Management) (e : ElementFields) (facts : Facts) : Type 0 where
+  pub p : Node
+  pub from : management_sender d n b.header ≡ Some p
+  pub far : ComesSoFar (first_verdict d first n h (Managed b e))
+  pub verdict_is : management_verdict d (first + draws h) n h p b.kind b e ≡ Accepted
+  pub opened : unless_refused Accepted (management_further d (first + draws h) n h p b e facts b.kind) ≡ Accepted
+
+pub frame_accepted : (d : Domain) (first : ℕ) (n : Node) (h : List Act) (b : Management) (e : ElementFields) (facts : Facts) → verdict d first n h (Managed b e) facts ≡ Accepted → FrameAccepted d first n h b e facts
+frame_accepted d first n h b e facts accepted =
+    let a : first_verdict d first n h (Managed b e) ≡ Accepted = and_accepted _ _ accepted in
+    let behind = from_some (management_sender d n b.header) (λ p. management_verdict d (first + draws h) n h p b.kind b e) (not_thrown (not (is_mine d n b.header)) reason.NotForMe _ a) in
+    let opened : unless_refused Accepted (further d first n h (Managed b e) facts) ≡ Accepted = subst (λ (x : Outcome). and_then x (further d first n h (Managed b e) facts) ≡ Accepted) a accepted in
+    record {
+      p = behind.0;
+      from = behind.1.0;
+      far = subst ComesSoFar (sym a) tt;
+      verdict_is = behind.1.1;
+      opened = subst (λ (o : Outcome). unless_refused Accepted o ≡ Accepted) (from_named (management_sender d n b.header) behind.0 (λ p. management_further d (first + draws h) n h p b e facts b.kind) behind.1.0) opened;
+    }
+
+-- behind a decided outcome that refuses nothing
+pub opened_decided : (o : Outcome) → Decided o → unless_refused Accepted o ≡ Accepted → (o ≡ Accepted) ⊎ ((o ≡ Answered) ⊎ (o ≡ Ignored))
+opened_decided o (Took_in s) t = inl s
+opened_decided o (Repeated s) t = inr (inl s)
+opened_decided o (Passed s) t = inr (inr s)
+opened_decided o (Thrown why s) t = absurd (unless_passed why o t s)
+
+wrapped_some : (w u : Option (List ℕ)) (rest : Outcome) → unless_refused Accepted (unwraps w u rest) ≡ Accepted → (w ≡ None) ⊎ ((octets : List ℕ) × ((w ≡ Some octets) × ((plain : List ℕ) × (u ≡ Some plain))))
+wrapped_some None u rest s = inl refl
+wrapped_some (Some octets) None rest s = cc
+wrapped_some (Some octets) (Some plain) rest s = inr (octets, (refl, (plain, refl)))
+
+sized_some : (g : Option WrappedGtkFields) → is_wrapped_gtk g ≡ true → option_and_then (λ (x : WrappedGtkFields). if length x.wrapped == 24 then Some x.wrapped else None) g ≡ None → ⊥
+sized_some None s t = cc
+sized_some (Some x) s t = by (x.key_length == 16) (length x.wrapped == 24) (not (gtk_id x == 0)) s t
+  where
+    by : (a b c : Bool) → (a && b && c) ≡ true → (if b then Some x.wrapped else None) ≡ None → ⊥
+    by true true c s t = cc
+    by true false c s t = cc
+    by false b c s t = cc
+
+pub both_true : (a b : Bool) → (a && b) ≡ true → (a ≡ true) × (b ≡ true)
+both_true true b s = (refl, s)
+both_true false b s = absurd (cc s)
+
+-- behind the tests of its elements a response carries a wrapped key
+resp_carries : (d : Domain) (n p : Node) (e : ElementFields) (o : Option Derivation) → IsTaken (re_resp_names d n p e o) → is_wrapped_gtk (gtk_in e.fte) ≡ true
+resp_carries d n p e None s = never reason.Unawaited s
+resp_carries d n p e (Some x) s =
+    let one = taken_status (rsne_status d.akm e.rsne) _ s in
+    let two = taken_status (mde_status d e.mde) _ one.1 in
+    let three = (taken_passed (counts_three e.fte && names_both (address d p) x.inputs.r0kh_id e.fte && is_wrapped_gtk (gtk_in e.fte)) (reason.Status fte_status) _ two.1).0 in
+    (both_true (counts_three e.fte && names_both (address d p) x.inputs.r0kh_id e.fte) _ three).1
+
+unless_taken : (o : Outcome) → Decided o → unless_refused Accepted o ≡ Accepted → (o ≡ Ignored → ⊥) → IsTaken o
+unless_taken o (Took_in is) s other = inl is
+unless_taken o (Repeated is) s other = inr is
+unless_taken o (Passed is) s other = absurd (other is)
+unless_taken o (Thrown why is) s other = absurd (unless_passed why o s is)
+
+zero_passed : (c : Bool) (why : Reason) (a : Outcome) → IsTaken (if c then a else Refused why) → IsTaken a
+zero_passed c why a s = (taken_passed c why a s).1
+
+pub unwraps_taken : (w u : Option (List ℕ)) (rest : Outcome) → IsTaken (unwraps w u rest) → IsTaken rest
+unwraps_taken None u rest s = s
+unwraps_taken (Some octets) None rest s = never reason.Wrap s
+unwraps_taken (Some octets) (Some plain) rest s = s
+
+names_ignored : (c : Bool) (why : Reason) → (if c then Accepted else Refused why) ≡ Ignored → ⊥
+names_ignored true why s = cc
+names_ignored false why s = cc
+
+status_ignored : (o : Option ℕ) (a : Outcome) → (a ≡ Ignored → ⊥) → without_status o a ≡ Ignored → ⊥
+status_ignored None a other s = other s
+status_ignored (Some code) a other s = cc
+
+if_ignored : (c : Bool) (a b : Outcome) → (a ≡ Ignored → ⊥) → (b ≡ Ignored → ⊥) → (if c then a else b) ≡ Ignored → ⊥
+if_ignored true a b x y s = x s
+if_ignored false a b x y s = y s
+
+resp_ignored : (d : Domain) (n p : Node) (e : ElementFields) (o : Option Derivation) → re_resp_names d n p e o ≡ Ignored → ⊥
+resp_ignored d n p e None s = cc
+resp_ignored d n p e (Some x) s =
+    status_ignored (rsne_status d.akm e.rsne) _ (status_ignored (mde_status d e.mde) _
+    (if_ignored (counts_three e.fte && names_both (address d p) x.inputs.r0kh_id e.fte && is_wrapped_gtk (gtk_in e.fte)) _ _ (names_ignored (is_named (r1_name x.inputs) e) reason.Name) (λ w. cc w))) s
+
+unwraps_ignored : (w u : Option (List ℕ)) (rest : Outcome) → (rest ≡ Ignored → ⊥) → unwraps w u rest ≡ Ignored → ⊥
+unwraps_ignored None u rest other s = other s
+unwraps_ignored (Some octets) None rest other s = cc
+unwraps_ignored (Some octets) (Some plain) rest other s = other s
+
+-- what is known of a reassociation response that was accepted
+pub record RespAccepted (d : Domain) (first : ℕ) (n : Node) (h : List Act) (b : Management) (e : ElementFields) (facts : Facts) : Type 0 where
+  pub s : ℕ
+  pub at : n ≡ Sta s
+  pub p : Node
+  pub from : management_sender d n b.header ≡ Some p
+  pub far : ComesSoFar (first_verdict d first n h (Managed b e))
+  pub x : Derivation
+  pub keyed : re_resp_keying p h ≡ Some x
+  pub opened : IsTaken (re_resp_further d n h p b e facts.unwrapped)
+
+resp_opened : (d : Domain) (drawn : ℕ) (n : Node) (h : List Act) (p : Node) (b : Management) (e : ElementFields) (facts : Facts) (k : Kind) → k ≡ kind.ReResp → FrameAwaited d n h p e k → unless_refused Accepted (management_further d drawn n h p b e facts k) ≡ Accepted
+    → (s : ℕ) × ((n ≡ Sta s) × (((x : Derivation) × (re_resp_keying p h ≡ Some x)) × IsTaken (re_resp_further d n h p b e facts.unwrapped)))
+resp_opened d drawn n h p b e facts k is (Is_assoc_req w) s = cc
+resp_opened d drawn n h p b e facts k is (Is_assoc_resp w) s = cc
+resp_opened d drawn n h p b e facts k is (Is_ft_req a at w t) s = cc
+resp_opened d drawn n h p b e facts k is (Is_ft_resp w t) s = cc
+resp_opened d drawn n h p b e facts k is (Is_re_req a at w) s = cc
+resp_opened d drawn n h p b e facts k is (Is_re_resp sta at w x) s =
+    let one : unless_refused Accepted (management_further d drawn (Sta sta) h p b e facts kind.ReResp) ≡ Accepted =
+    subst (λ (m : Node). unless_refused Accepted (management_further d drawn m h p b e facts kind.ReResp) ≡ Accepted) at (subst (λ (v : Kind). unless_refused Accepted (management_further d drawn n h p b e facts v) ≡ Accepted) w s) in
+    let two : unless_refused Accepted (re_resp_further d n h p b e facts.unwrapped) ≡ Accepted = subst (λ (m : Node). unless_refused Accepted (re_resp_further d m h p b e facts.unwrapped) ≡ Accepted) (sym at) one in (
+      sta,
+      (
+        at,
+        (
+          x,
+          unless_taken _ (decided_re_resp_further d n h p b e facts.unwrapped) two
+              (unwraps_ignored (to_unwrap e.fte) facts.unwrapped _ (if_ignored (b.status == 0) _ _ (resp_ignored d n p e (re_resp_keying p h)) (λ w. cc w))),
+        ),
+      ),
+    )
+
+pub resp_accepted : (d : Domain) (first : ℕ) (n : Node) (h : List Act) (b : Management) (e : ElementFields) (facts : Facts) → b.kind ≡ kind.ReResp → verdict d first n h (Managed b e) facts ≡ Accepted → RespAccepted d first n h b e facts
+resp_accepted d first n h b e facts k accepted =
+    let x = frame_accepted d first n h b e facts accepted in
+    let o = resp_opened d (first + draws h) n h x.p b e facts b.kind k (frame_kind d (first + draws h) n h x.p b.kind b e (inl x.verdict_is)) x.opened in
+    record { s = o.0; at = o.1.0; p = x.p; from = x.from; far = x.far; x = o.1.1.0.0; keyed = o.1.1.0.1; opened = o.1.1.1 }
+
+-- its group key was unwrapped, and whoever knows of it knows the same
+pub same_unwrapped_key : (d : Domain) (first : ℕ) (n : Node) (h : List Act) (b : Management) (e : ElementFields) (f g : Facts) → b.kind ≡ kind.ReResp → Knows d first n h (Managed b e) f → Knows d first n h (Managed b e) g
+    → verdict d first n h (Managed b e) f ≡ Accepted → f.unwrapped ≡ g.unwrapped
+same_unwrapped_key d first n h b e f g k s t accepted =
+    let x = resp_accepted d first n h b e f k accepted in
+    let names = zero_passed (b.status == 0) (reason.Status b.status) _ (unwraps_taken (to_unwrap e.fte) f.unwrapped _ x.opened) in
+    let has = resp_carries d n x.p e (re_resp_keying x.p h) names in
+    one_wrapped x.x (to_unwrap e.fte) f.unwrapped g.unwrapped (sized_some (gtk_in e.fte) has)
+    (knows_gtk f x (s x.far x.p x.from)) (knows_gtk g x (t x.far x.p x.from))
+  where
+    knows_gtk : (v : Facts) (x : RespAccepted d first n h b e f) → KnowsManaged n h x.p e v b.kind → KnowsGtk (Some x.x) (to_unwrap e.fte) v.unwrapped
+    knows_gtk v x w =
+        let one : KnowsManaged (Sta x.s) h x.p e v kind.ReResp = subst (λ (m : Node). KnowsManaged m h x.p e v kind.ReResp) x.at (subst (λ (y : Kind). KnowsManaged n h x.p e v y) k w) in
+        subst (λ (o : Option Derivation). KnowsGtk o (to_unwrap e.fte) v.unwrapped) x.keyed one
+
+    one_wrapped : (y : Derivation) (w u v : Option (List ℕ)) → (w ≡ None → ⊥) → KnowsGtk (Some y) w u → KnowsGtk (Some y) w v → u ≡ v
+    one_wrapped y None u v some a c = absurd (some refl)
+    one_wrapped y (Some octets) u v some a c = same_plain y.ptk.kek octets u v a c
 
 -- ---- the payload of protected data that was accepted
 
@@ -585,10 +828,7 @@ knows_g1 d h p m k f e knows x is = let all : KnowsOf d.akm h p G1 k f = subst (
 
 pub same_carried_g1 : (d : Domain) (first : ℕ) (n : Node) (h : List Act) (k : KeyMessage) (f g : Facts) → k.message ≡ G1 → Knows d first n h (Keyed k) f → Knows d first n h (Keyed k) g → verdict d first n h (Keyed k) f ≡ Accepted → f.data_ ≡ g.data_
 same_carried_g1 d first n h k f g m s t accepted =
-    let a : first_verdict d first n h (Keyed k) ≡ Accepted = and_accepted _ _ accepted in
-    let far : ComesSoFar (first_verdict d first n h (Keyed k)) = subst ComesSoFar (sym a) tt in
-    let behind = taken_from (peer_of d n k.header.a2) (λ p. key_verdict d (first + draws h) n h p k k.message) (taken_behind (not (is_mine d n k.header) || goes_like k.direction (direction n)) reason.NotForMe _ (inl a)) in
-    let y = session_g1 behind.0 h k.message m (key_kind d (first + draws h) n h behind.0 k k.message behind.1.1) in
-    let opened : and_then Accepted (key_further d.akm k.message f) ≡ Accepted = subst (λ (x : Outcome). and_then x (key_further d.akm k.message f) ≡ Accepted) a accepted in
-    let open1 : unless_refused Accepted (g1_wrapped f.unwrapped f.data_) ≡ Accepted = subst (λ (x : Message). unless_refused Accepted (key_further d.akm x f) ≡ Accepted) m opened in
-    same_opened_g1 y.0.ptk.kek k f g (knows_g1 d h behind.0 k.message k f m (s far behind.0 behind.1.0) y.0 y.1) (knows_g1 d h behind.0 k.message k g m (t far behind.0 behind.1.0) y.0 y.1) (not_refused_g1 f.unwrapped f.data_ open1)
+    let x = key_accepted d first n h k f accepted in
+    let y = session_g1 x.p h k.message m x.awaited in
+    let open1 : unless_refused Accepted (g1_wrapped f.unwrapped f.data_) ≡ Accepted = subst (λ (v : Message). unless_refused Accepted (key_further d n h x.p v f) ≡ Accepted) m x.opened in
+    same_opened_g1 y.0.ptk.kek k f g (knows_g1 d h x.p k.message k f m (s x.far x.p x.from).0 y.0 y.1) (knows_g1 d h x.p k.message k g m (t x.far x.p x.from).0 y.0 y.1) (not_refused_g1 f.unwrapped f.data_ open1)

@@ -25,7 +25,15 @@ use Rattle.key_wrap.proofs.UniqueLemmas.{Wraps-unique}
 use Rattle.run_journal.specs.declared.acts.Outcome.TheVariants.{Accepted}
 use Rattle.domain_rules.specs.Facts.{Facts, ReadsKeyData, IsUnwrapped}
 use Rattle.domain_rules.specs.AccessPointKeys.{HasElements, IsRequested, KnowsM2, m2_key_data, request, requested_rsne}
-use Rattle.domain_rules.specs.StationKeys.{KnowsM3, m3_key_data, m3_wrapped, g1_key_data, g1_wrapped}
+use Rattle.domain_rules.specs.StationKeys.{Keying, KnowsM3, m3_key_data, m3_wrapped, g1_key_data, g1_wrapped}
+use Rattle.domain_rules.specs.FastTransition.{r1_name}
+use Rattle.domain_rules.specs.TransitionKeyData.{response, ft_m2_key_data, ft_m3_key_data, ft_m3_wrapped}
+use Rattle.domain_rules.specs.TransitionKeys.{unwraps, KnowsGtk}
+use Rattle.domain_rules.specs.Verdict.{KnowsResponse, m2_further, own_r1_name, m3_further}
+use Rattle.domain_base.specs.declared.names.Akm.TheVariants.{Psk, PskSha256, FtPsk}
+use Rattle.run_journal.specs.declared.domain.Domain.{Domain}
+use Rattle.run_journal.specs.declared.acts.Outcome.{Outcome}
+use Rattle.run_journal.specs.Acts.{Derivation}
 use Rattle.domain_rules.specs.Reading.{Management, management_of, KeyMessage, Reading, NoFrame, PassedOver, NoElements, Managed, NoKeyFrame, NoMessage, Keyed, Sealed, Reads}
 
 -- ---- one message
@@ -180,7 +188,7 @@ pub same_request : (akm : Akm) (octets : List ℕ) (e f : ElementFields) → Has
 same_request akm octets e f (b, reads) (c, reads_too) =
     let same : Managed b e ≡ Managed c f = one_reading akm octets (Managed b e) (Managed c f) reads reads_too in cc same
 
-same_requested : (akm : Akm) (o : Option (List ℕ)) (x y : Option ElementFields) → IsRequested akm o x → IsRequested akm o y → x ≡ y
+pub same_requested : (akm : Akm) (o : Option (List ℕ)) (x y : Option ElementFields) → IsRequested akm o x → IsRequested akm o y → x ≡ y
 same_requested akm None x y is also = is ∙ sym also
 same_requested akm (Some octets) None y has has_too = absurd has
 same_requested akm (Some octets) (Some e) None has has_too = absurd has_too
@@ -192,17 +200,28 @@ same_key_data octets (Some e) None s t = absurd (value_or_fault KeyData octets e
 same_key_data octets None (Some f) s t = absurd (value_or_fault KeyData octets f s.0.place s.0.kind t s.1)
 same_key_data octets None None s t = refl
 
-pub same_m2 : (akm : Akm) (h : List Act) (p : Node) (k : KeyMessage) (f g : Facts) → KnowsM2 akm h p k f → KnowsM2 akm h p k g → m2_key_data (requested_rsne f.requested) f.data_ ≡ m2_key_data (requested_rsne g.requested) g.data_
-same_m2 akm h p k f g s t =
-    ap (λ (x : Option ElementFields). m2_key_data (requested_rsne x) f.data_) (same_requested akm (request p h) f.requested g.requested s.requested t.requested)
+pub same_m2 : (akm : Akm) (d : Domain) (n : Node) (h : List Act) (p : Node) (k : KeyMessage) (f g : Facts) → KnowsM2 akm h p k f → KnowsM2 akm h p k g → m2_further akm d n p f ≡ m2_further akm d n p g
+same_m2 FtPsk d n h p k f g s t =
+    ap (λ (x : Option ElementFields). ft_m2_key_data d n (own_r1_name d n p) x f.data_) (same_requested FtPsk (request p h) f.requested g.requested s.requested t.requested)
+    ∙ ap (ft_m2_key_data d n (own_r1_name d n p) g.requested) (same_key_data k.fields.key_data f.data_ g.data_ s.data_ t.data_)
+same_m2 Psk d n h p k f g s t =
+    ap (λ (x : Option ElementFields). m2_key_data (requested_rsne x) f.data_) (same_requested Psk (request p h) f.requested g.requested s.requested t.requested)
+    ∙ ap (m2_key_data (requested_rsne g.requested)) (same_key_data k.fields.key_data f.data_ g.data_ s.data_ t.data_)
+same_m2 PskSha256 d n h p k f g s t =
+    ap (λ (x : Option ElementFields). m2_key_data (requested_rsne x) f.data_) (same_requested PskSha256 (request p h) f.requested g.requested s.requested t.requested)
     ∙ ap (m2_key_data (requested_rsne g.requested)) (same_key_data k.fields.key_data f.data_ g.data_ s.data_ t.data_)
 
 -- key data has one plain text at most
-same_plain : (kek octets : List ℕ) (x y : Option (List ℕ)) → IsUnwrapped kek octets x → IsUnwrapped kek octets y → x ≡ y
+pub same_plain : (kek octets : List ℕ) (x y : Option (List ℕ)) → IsUnwrapped kek octets x → IsUnwrapped kek octets y → x ≡ y
 same_plain kek octets (Some a) (Some b) s t = ap (λ (v : List ℕ). Some v) (Wraps-unique kek a b octets s.0 s.1 t.1)
 same_plain kek octets (Some a) None s t = absurd (t a s.0 s.1)
 same_plain kek octets None (Some b) s t = absurd (s b t.0 t.1)
 same_plain kek octets None None s t = refl
+
+-- the group key of a reassociation response
+pub same_gtk : (x : Derivation) (w u v : Option (List ℕ)) (rest : Outcome) → KnowsGtk (Some x) w u → KnowsGtk (Some x) w v → unwraps w u rest ≡ unwraps w v rest
+same_gtk x (Some octets) u v rest s t = ap (λ (o : Option (List ℕ)). unwraps (Some octets) o rest) (same_plain x.ptk.kek octets u v s t)
+same_gtk x None u v rest s t = refl
 
 same_unwrapped : (akm : Akm) (u v : Option (List ℕ)) (x y : Option ElementFields) → u ≡ v → ((plain : List ℕ) → u ≡ Some plain → ReadsKeyData plain x) → ((plain : List ℕ) → v ≡ Some plain → ReadsKeyData plain y)
     → m3_wrapped akm u x ≡ m3_wrapped akm v y
@@ -211,9 +230,24 @@ same_unwrapped akm None (Some b) x y e s t = cc
 same_unwrapped akm (Some a) None x y e s t = cc
 same_unwrapped akm (Some a) (Some b) x y e s t = ap (m3_key_data akm) (same_key_data a x y (s a refl) (t a (sym e)))
 
-pub same_m3 : (akm : Akm) (kek : List ℕ) (k : KeyMessage) (f g : Facts) → KnowsM3 kek k f → KnowsM3 kek k g → m3_wrapped akm f.unwrapped f.data_ ≡ m3_wrapped akm g.unwrapped g.data_
-same_m3 akm kek k f g s t =
-    same_unwrapped akm f.unwrapped g.unwrapped f.data_ g.data_ (same_plain kek k.fields.key_data f.unwrapped g.unwrapped s.unwrapped t.unwrapped) s.data_ t.data_
+same_unwrapped_ft : (d : Domain) (name : List ℕ) (q r : Option ElementFields) (u v : Option (List ℕ)) (x y : Option ElementFields) → q ≡ r → u ≡ v
+    → ((plain : List ℕ) → u ≡ Some plain → ReadsKeyData plain x) → ((plain : List ℕ) → v ≡ Some plain → ReadsKeyData plain y)
+    → ft_m3_wrapped d name q u x ≡ ft_m3_wrapped d name r v y
+same_unwrapped_ft d name q r None None x y a e s t = refl
+same_unwrapped_ft d name q r None (Some b) x y a e s t = cc
+same_unwrapped_ft d name q r (Some c) None x y a e s t = cc
+same_unwrapped_ft d name q r (Some c) (Some b) x y a e s t =
+    ap (λ (o : Option ElementFields). ft_m3_key_data d name o x) a ∙ ap (ft_m3_key_data d name r) (same_key_data c x y (s c refl) (t c (sym e)))
+
+pub same_m3 : (akm : Akm) (d : Domain) (h : List Act) (p : Node) (y : Keying) (k : KeyMessage) (f g : Facts) → KnowsM3 y.key.ptk.kek k f → KnowsM3 y.key.ptk.kek k g
+    → KnowsResponse akm h p M3 f → KnowsResponse akm h p M3 g → m3_further akm d (Some y) f ≡ m3_further akm d (Some y) g
+same_m3 FtPsk d h p y k f g s t v w =
+    same_unwrapped_ft d (r1_name y.key.inputs) f.responded g.responded f.unwrapped g.unwrapped f.data_ g.data_ (same_requested FtPsk (response p h) f.responded g.responded v w)
+    (same_plain y.key.ptk.kek k.fields.key_data f.unwrapped g.unwrapped s.unwrapped t.unwrapped) s.data_ t.data_
+same_m3 Psk d h p y k f g s t v w =
+    same_unwrapped Psk f.unwrapped g.unwrapped f.data_ g.data_ (same_plain y.key.ptk.kek k.fields.key_data f.unwrapped g.unwrapped s.unwrapped t.unwrapped) s.data_ t.data_
+same_m3 PskSha256 d h p y k f g s t v w =
+    same_unwrapped PskSha256 f.unwrapped g.unwrapped f.data_ g.data_ (same_plain y.key.ptk.kek k.fields.key_data f.unwrapped g.unwrapped s.unwrapped t.unwrapped) s.data_ t.data_
 
 -- the same of G1
 same_unwrapped_g1 : (u v : Option (List ℕ)) (x y : Option ElementFields) → u ≡ v
@@ -242,12 +276,11 @@ same_opened_g1 kek k f g s t accepted =
     opened_g1 f.unwrapped g.unwrapped f.data_ g.data_
     (same_plain kek k.fields.key_data f.unwrapped g.unwrapped s.unwrapped t.unwrapped) s.data_ t.data_ accepted
 
-opened_by : (akm : Akm) (u v : Option (List ℕ)) (x y : Option ElementFields) → u ≡ v → ((plain : List ℕ) → u ≡ Some plain → ReadsKeyData plain x) → ((plain : List ℕ) → v ≡ Some plain → ReadsKeyData plain y)
-    → m3_wrapped akm u x ≡ Accepted → x ≡ y
-opened_by akm None v x y e s t accepted = cc
-opened_by akm (Some a) v x y e s t accepted = same_key_data a x y (s a refl) (t a (sym e))
+-- key data that was opened says one thing
+opened_by : (u v : Option (List ℕ)) (x y : Option ElementFields) (plain : List ℕ) → u ≡ Some plain → u ≡ v
+    → ((plain : List ℕ) → u ≡ Some plain → ReadsKeyData plain x) → ((plain : List ℕ) → v ≡ Some plain → ReadsKeyData plain y) → x ≡ y
+opened_by u v x y plain is e s t = same_key_data plain x y (s plain is) (t plain (sym e ∙ is))
 
--- where the key data was opened, what it says is one thing
-pub same_opened : (akm : Akm) (kek : List ℕ) (k : KeyMessage) (f g : Facts) → KnowsM3 kek k f → KnowsM3 kek k g → m3_wrapped akm f.unwrapped f.data_ ≡ Accepted → f.data_ ≡ g.data_
-same_opened akm kek k f g s t accepted =
-    opened_by akm f.unwrapped g.unwrapped f.data_ g.data_ (same_plain kek k.fields.key_data f.unwrapped g.unwrapped s.unwrapped t.unwrapped) s.data_ t.data_ accepted
+pub same_opened : (kek : List ℕ) (k : KeyMessage) (f g : Facts) (plain : List ℕ) → KnowsM3 kek k f → KnowsM3 kek k g → f.unwrapped ≡ Some plain → f.data_ ≡ g.data_
+same_opened kek k f g plain s t is =
+    opened_by f.unwrapped g.unwrapped f.data_ g.data_ plain is (same_plain kek k.fields.key_data f.unwrapped g.unwrapped s.unwrapped t.unwrapped) s.data_ t.data_

@@ -21,13 +21,13 @@ pub record IsRefused (d : Domain) (first : ℕ) (n : Node) (h : List Act) (r : R
 
 -- nothing has to be known of a frame beside its fields
 abbrev pub no_facts : Facts
-no_facts = record { requested = None; unwrapped = None; data_ = None; opened = None }
+no_facts = record { requested = None; responded = None; unwrapped = None; data_ = None; pulled = None; opened = None }
 
 refused_knows : (d : Domain) (first : ℕ) (n : Node) (h : List Act) (r : Reading) (facts : Facts) (why : Reason) → first_verdict d first n h r ≡ Refused why → Knows d first n h r facts
 refused_knows d first n h r facts why refused = λ far. absurd (subst ComesSoFar refused far)
 
 first_refused : (d : Domain) (first : ℕ) (n : Node) (h : List Act) (r : Reading) (facts : Facts) (why : Reason) → first_verdict d first n h r ≡ Refused why → verdict d first n h r facts ≡ Refused why
-first_refused d first n h r facts why refused = ap (λ (o : Outcome). and_then o (further d.akm r facts)) refused
+first_refused d first n h r facts why refused = ap (λ (o : Outcome). and_then o (further d first n h r facts)) refused
 
 -- no seal is noted of it
 pub refused_first : (d : Domain) (first : ℕ) (n : Node) (h : List Act) (r : Reading) (why : Reason) → first_verdict d first n h r ≡ Refused why → IsRefused d first n h r why None

@@ -3,14 +3,13 @@ use Rattle.air_frame.specs.Sent.{assoc_req_octets, assoc_resp_octets}
 use Rattle.domain_base.specs.declared.names.Node.TheVariants.{Ap, Sta}
 use Rattle.domain_base.specs.declared.names.Node.{Node}
 use Rattle.domain_base.specs.declared.names.Peer.TheVariants.{One, All}
-use Rattle.domain_rules.specs.Frames.{assoc_req_elements, aid, in_data, m2_frame, sent_assoc_req, sent_assoc_resp, sent_m1, sent_m2, frame_seal, m3_frame, m4_frame, sent_m3, sent_m4, g1_frame, g2_frame, sent_g1, sent_g2, keyed_by}
+use Rattle.domain_rules.specs.Frames.{assoc_req_elements, assoc_resp_elements, aid, in_data, m2_frame, sent_assoc_req, sent_assoc_resp, sent_m1, sent_m2, frame_seal, m3_frame, m4_frame, sent_m3, sent_m4, g1_frame, g2_frame, sent_g1, sent_g2, keyed_by}
 use Rattle.domain_rules.specs.Network.{address, mac, nonce, gtk, inputs, root}
 use Rattle.eapol_key.specs.Octets.{frame_octets}
 use Rattle.eapol_key.specs.Sent.{sent_fields}
 use Rattle.eapol_key.specs.declared.messages.Message.TheVariants.{M1, M2, M3, G1, G2}
 use Rattle.key_hierarchy.specs.Keys.{ptk}
 use Rattle.key_hierarchy.specs.declared.inputs.Inputs.{Inputs}
-use Rattle.rsn_elements.specs.Sent.{rates_octets}
 use Rattle.run_journal.specs.Acts.{Derivation, GroupKey}
 use Rattle.run_journal.specs.Questions.{add}
 use Rattle.run_journal.specs.declared.acts.Act.TheVariants.{Opened, Drew, Derived, Took, Installed, Resumed, Finished, Closed}
@@ -117,25 +116,25 @@ module _ (d : Domain) (k m : ℕ) where
   octets11 = assoc_req_octets (address d a) (address d s) (address d a) (assoc_req_elements d)
 
   abbrev pub octets12 : List ℕ
-  octets12 = assoc_resp_octets (address d s) (address d a) (address d a) 0 (aid s) rates_octets
+  octets12 = assoc_resp_octets (address d s) (address d a) (address d a) 0 (aid s) (assoc_resp_elements d a)
 
   abbrev pub octets13 : List ℕ
   octets13 = in_data d a s (frame_octets (sent_fields M1 d.akm 1 anonce 0 []))
 
   abbrev pub octets14 : List ℕ
-  octets14 = in_data d s a (m2_frame d (keyed_by i2) 1)
+  octets14 = in_data d s a (m2_frame d (keyed_by i2) 1 [])
 
   abbrev pub octets15 : List ℕ
-  octets15 = in_data d a s (m3_frame d (keyed_by i2) 2 new 0)
+  octets15 = in_data d a s (m3_frame d a (keyed_by i2) 2 new 0)
 
   abbrev pub octets16 : List ℕ
   octets16 = in_data d s a (m4_frame d (keyed_by i2) 2)
 
   abbrev pub seal14 : Seal
-  seal14 = frame_seal (ptk i2).kck (m2_frame d (keyed_by i2) 1)
+  seal14 = frame_seal (ptk i2).kck (m2_frame d (keyed_by i2) 1 [])
 
   abbrev pub seal15 : Seal
-  seal15 = frame_seal (ptk i2).kck (m3_frame d (keyed_by i2) 2 new 0)
+  seal15 = frame_seal (ptk i2).kck (m3_frame d a (keyed_by i2) 2 new 0)
 
   -- its acts
   abbrev pub acts13 : List Act
@@ -148,7 +147,7 @@ module _ (d : Domain) (k m : ℕ) where
   acts15 = Took (Some a) octets12 kind.AssocResp Accepted None ∷ []
 
   abbrev pub acts16 : List Act
-  acts16 = Took (Some a) octets13 (kind.Key M1) Accepted None ∷ Derived a i2 (ptk i2) ∷ sent_m2 d s a (keyed_by i2) 1 ∷ []
+  acts16 = Took (Some a) octets13 (kind.Key M1) Accepted None ∷ Derived a i2 (ptk i2) ∷ sent_m2 d s a (keyed_by i2) 1 [] ∷ []
 
   abbrev pub acts17 : List Act
   acts17 = Took (Some s) octets14 (kind.Key M2) Accepted (Some seal14) ∷ Derived s i2 (ptk i2) ∷ sent_m3 d a s (keyed_by i2) 2 new 0 ∷ []

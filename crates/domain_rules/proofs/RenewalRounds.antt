@@ -3,12 +3,12 @@ use Rattle.domain_base.specs.declared.names.Node.{Node}
 use Rattle.domain_base.specs.declared.names.Node.TheVariants.{Ap, Sta}
 use Rattle.domain_base.specs.declared.names.Peer.TheVariants.{One, All}
 use Rattle.domain_rules.proofs.Refused.{no_facts}
-use Rattle.domain_rules.proofs.Exchange.{length-nonce, length-gtk, octets-gtk, g1-in, g2-in, take_step, same_octets, IsPair, Stage, after_sta, after_ap}
+use Rattle.domain_rules.proofs.Exchange.{length-nonce, length-gtk, octets-gtk, g1-in, g2-in, take_step, same_octets, nothing_further, stands, IsPair, Stage, after_sta, after_ap}
 use Rattle.domain_rules.proofs.Parts.{same-refl, attempt_more}
 use Rattle.domain_rules.proofs.Peers.{not_same}
 use Rattle.domain_rules.proofs.CarriedKey.{IsGroupKey, wrapped_g1, says_g1}
 use Rattle.domain_rules.proofs.KeyOctets.{octets-kek}
-use Rattle.domain_rules.proofs.SentReads.{g1_message, g1_fields, reads-g1, fits-g1, g2_message, g2_fields, reads-g2, fits-g2, mic-sealed, reads-counter, reads-m3, m3_message}
+use Rattle.domain_rules.proofs.SentReads.{g1_message, g1_fields, reads-g1, fits-g1, g2_message, g2_fields, reads-g2, fits-g2, mic-sealed, reads-counter, reads-m3, few-m3, m3_message}
 use Rattle.domain_rules.proofs.Verdicts.{verified-same, keyed-from}
 use Rattle.domain_rules.specs.Asking.{greatest, kept_counter, offered, verified, replay_counter}
 use Rattle.domain_rules.specs.Counters.{next_in_attempt, first_in_session, next_in_session}
@@ -16,16 +16,18 @@ use Rattle.domain_rules.specs.Explained.{push, Step}
 use Rattle.domain_rules.specs.Facts.{Facts, ReadsKeyData}
 use Rattle.domain_rules.specs.Frames.{g1_key_data, sent_m3, sent_g1, sent_g2, keyed_by}
 use Rattle.domain_rules.specs.GroupKeys.{find_key, memory, newest, give_by}
-use Rattle.domain_rules.specs.Network.{mac, gtk}
+use Rattle.domain_rules.specs.Network.{mac, gtk, peer_of}
 use Rattle.domain_rules.specs.Owing.{is_open, owing, any_owes, switch_acts}
 use Rattle.domain_rules.specs.Reading.{KeyMessage, Keyed, Reads}
 use Rattle.domain_rules.specs.Rows.{TakeRow, Adds, By_g1, By_g2}
 use Rattle.domain_rules.specs.Rows as event
 use Rattle.domain_rules.specs.AccessPointRows.{g1_to, to_session, to_sessions, RekeyRow, Renews}
-use Rattle.domain_rules.specs.StationKeys.{KnowsM3}
-use Rattle.domain_rules.specs.Verdict.{is_mine, further, and_then, first_verdict, verdict}
+use Rattle.domain_rules.specs.StationKeys.{KnowsM3, g1_wrapped}
+use Rattle.domain_rules.proofs.OneOutcome.{from_named}
+use Rattle.domain_rules.proofs.SuiteWords.{no_response}
+use Rattle.domain_rules.specs.Verdict.{is_mine, key_further, further, first_verdict, verdict}
 use Rattle.domain_rules.specs.Here.{here}
-use Rattle.eapol_key.specs.declared.messages.Message.TheVariants.{M2, M4, G1}
+use Rattle.eapol_key.specs.declared.messages.Message.TheVariants.{M2, M4, G1, G2}
 use Rattle.key_hierarchy.specs.Keys.{ptk}
 use Rattle.key_hierarchy.specs.declared.inputs.Inputs.{Inputs}
 use Rattle.rsn_elements.specs.Elements.{ElementFields}
@@ -40,7 +42,6 @@ use Rattle.run_journal.specs.declared.acts.Drawn.TheVariants.{Gtk}
 use Rattle.run_journal.specs.declared.acts.Key.TheVariants.{Pairwise, Group}
 use Rattle.run_journal.specs.declared.acts.Kind.TheVariants as kind
 use Rattle.run_journal.specs.declared.acts.Outcome.TheVariants.{Accepted}
-use Rattle.run_journal.specs.declared.acts.Outcome.{Outcome}
 use Rattle.run_journal.specs.declared.acts.Seal.{Seal}
 use Rattle.run_journal.specs.declared.domain.Domain.{Domain}
 use Rattle.run_journal.specs.declared.domain.Event.TheVariants.{Deliver, Rekey}
@@ -260,10 +261,10 @@ module _ (d : Domain) (k m : ℕ) (pair : IsPair d k m) (listed : m < length d.s
   first_key = record { octets = octets-gtk d a 0; size = length-gtk d a 0; low = omega arith }
 
   reads5 : Reads d.akm (first.octets5 d k m) (Keyed (m3_message d a s (keyed_by i) 2 (first.g d k m) 0))
-  reads5 = reads-m3 d a s (keyed_by i) 2 (first.g d k m) 0 pair.has_mic pair.ap_whole pair.sta_whole (omega arith) (length-nonce d a 1) (octets-kek i) first_key
+  reads5 = reads-m3 d a s (keyed_by i) 2 (first.g d k m) 0 pair.has_mic pair.ap_whole pair.sta_whole (omega arith) (length-nonce d a 1) (few-m3 d a (keyed_by i) (first.g d k m) pair.suite (octets-kek i) first_key)
 
   reads7 : Reads d.akm (first.octets7 d k m) (Keyed (m3_message d a s (keyed_by i) 3 (first.g d k m) 0))
-  reads7 = reads-m3 d a s (keyed_by i) 3 (first.g d k m) 0 pair.has_mic pair.ap_whole pair.sta_whole (omega arith) (length-nonce d a 1) (octets-kek i) first_key
+  reads7 = reads-m3 d a s (keyed_by i) 3 (first.g d k m) 0 pair.has_mic pair.ap_whole pair.sta_whole (omega arith) (length-nonce d a 1) (few-m3 d a (keyed_by i) (first.g d k m) pair.suite (octets-kek i) first_key)
 
   counter11 : kept_counter a (chain a sta8) ≡ Some 3
   counter11 = ap (kept_counter a) since11 ∙ rw (same-refl a)
@@ -286,13 +287,16 @@ module _ (d : Domain) (k m : ℕ) (pair : IsPair d k m) (listed : m < length d.s
   said_by_g1 = said KeyData (SentGtkKde new.id new.key ∷ [])
 
   abbrev facts : Facts
-  facts = record { requested = None; unwrapped = Some (g1_key_data new); data_ = Some said_by_g1; opened = None }
+  facts = record { requested = None; responded = None; unwrapped = Some (g1_key_data new); data_ = Some said_by_g1; pulled = None; opened = None }
 
-  further11 : further d.akm (Keyed g1) facts ≡ Accepted
-  further11 = rw (length-gtk d a 2) refl
+  said11 : g1_wrapped facts.unwrapped facts.data_ ≡ Accepted
+  said11 = rw (length-gtk d a 2) refl
+
+  further11 : further d 0 s sta8 (Keyed g1) facts ≡ Accepted
+  further11 = from_named (peer_of d s g1.header.a2) a (λ p. key_further d s sta8 p G1 facts) pair.finds_ap ∙ said11
 
   accepted11 : verdict d 0 s sta8 (Keyed g1) facts ≡ Accepted
-  accepted11 = ap (λ (o : Outcome). and_then o (further d.akm (Keyed g1) facts)) first11 ∙ ap (and_then Accepted) further11
+  accepted11 = stands Accepted _ _ first11 further11 refl
 
   knows11 : KnowsM3 (ptk i).kek g1 facts
   knows11 = record {
@@ -312,10 +316,13 @@ module _ (d : Domain) (k m : ℕ) (pair : IsPair d k m) (listed : m < length d.s
     r = Keyed g1;
     reads = reads11;
     facts = facts;
-    knows = λ came p from x awaited.
-        (let same : a ≡ p = cc (from, pair.finds_ap) in
-        let one : key ≡ x = cc (has11, subst (λ (q : Node). session q sta8 ≡ Some x) (sym same) awaited) in
-        subst (λ (y : Derivation). KnowsM3 y.ptk.kek g1 facts) one knows11);
+    knows = λ came p from. (
+      λ x awaited.
+          (let same : a ≡ p = cc (from, pair.finds_ap) in
+          let one : key ≡ x = cc (has11, subst (λ (q : Node). session q sta8 ≡ Some x) (sym same) awaited) in
+          subst (λ (y : Derivation). KnowsM3 y.ptk.kek g1 facts) one knows11),
+      no_response d.akm sta8 p G1 facts pair.suite,
+    );
     row = By_g1 (record { k = g1; is = refl; message_is = refl; p = a; from = pair.finds_ap; accepted = accepted11; x = key; awaited = has11; says = says11 });
   }
 
@@ -340,14 +347,15 @@ module _ (d : Domain) (k m : ℕ) (pair : IsPair d k m) (listed : m < length d.s
   mine12 = rw (same_octets d a) refl
 
   accepted12 : verdict d 0 a ap10 (Keyed g2) no_facts ≡ Accepted
-  accepted12 = ap (λ (o : Outcome). and_then o Accepted) (keyed-from d 0 a ap10 g2 s mine12 pair.finds_sta ∙ g2-in d ap10 s g2 key (4 ∷ []) owes10 offers12 refl ∙ verifies12)
+  accepted12 = stands Accepted _ _ (keyed-from d 0 a ap10 g2 s mine12 pair.finds_sta ∙ g2-in d ap10 s g2 key (4 ∷ []) owes10 offers12 refl ∙ verifies12)
+      (nothing_further (peer_of d a g2.header.a2) (λ p. key_further d a ap10 p G2 no_facts) (λ p. refl)) refl
 
   row12 : TakeRow (here d 0 a) ap10 octets10 taken12
   row12 = record {
     r = Keyed g2;
     reads = reads-g2 d s a (keyed_by i) 4 pair.has_mic pair.sta_whole pair.ap_whole (omega arith);
     facts = no_facts;
-    knows = λ came p from. tt;
+    knows = λ came p from. (tt, no_response d.akm ap10 p G2 no_facts pair.suite);
     row = By_g2 (record { k = g2; is = refl; message_is = refl; p = s; from = pair.finds_sta; accepted = accepted12; x = key; awaited = owes10; says = refl });
   }
 

@@ -3,28 +3,31 @@ use Rattle.domain_base.specs.declared.names.Node.{Node}
 use Rattle.domain_base.specs.declared.names.Node.TheVariants.{Ap}
 use Rattle.domain_base.specs.declared.names.Peer.TheVariants.{One, All}
 use Rattle.domain_rules.proofs.Refused.{no_facts}
-use Rattle.domain_rules.proofs.Exchange.{length-nonce, length-gtk, octets-gtk, take_step, some-injective, m3-keyed, m3-in, key_data-same, status-sent, same_octets, IsPair, Stage, after_sta}
+use Rattle.domain_rules.proofs.Exchange.{length-nonce, length-gtk, octets-gtk, take_step, some-injective, m3-keyed, m3-in, key_data-same, status-sent, same_octets, nothing_further, stands, IsPair, Stage, after_sta}
 use Rattle.domain_rules.proofs.Journals.{step_at, history-push, history-other, explained_event}
 use Rattle.domain_rules.proofs.Parts.{same-refl, attempt_more, attempt_none, since_part}
-use Rattle.domain_rules.proofs.CarriedKey.{IsGroupKey, wrapped_is, says}
+use Rattle.domain_rules.proofs.CarriedKey.{IsGroupKey, says}
+use Rattle.domain_rules.proofs.OneOutcome.{from_named}
+use Rattle.domain_rules.proofs.SuiteWords.{plain_key_data, inputs_suite, m2_data_suite, mobility_suite, fields_suite, m2_further_suite, m3_further_suite, no_response}
 use Rattle.domain_rules.proofs.KeyOctets.{octets-kek}
-use Rattle.domain_rules.proofs.SentReads.{assoc_req_body, assoc_req_said, reads-assoc_req, assoc_resp_body, rates_said, reads-assoc_resp, m1_message, reads-m1, m2_message, m2_fields, reads-m2, fits-m2, m3_message, m3_fields, reads-m3, fits-m3, rsne_said, rsne_spelled, mic-sealed, reads-counter}
+use Rattle.domain_rules.proofs.SentReads.{assoc_req_body, assoc_req_said, reads-assoc_req, assoc_resp_body, rates_said, reads-assoc_resp, m1_message, reads-m1, m2_message, m2_fields, reads-m2, fits-m2, few-m2, m3_message, m3_fields, reads-m3, fits-m3, few-m3, wraps-m3, rsne_said, rsne_spelled, mic-sealed, reads-counter}
 use Rattle.domain_rules.proofs.Verdicts.{assoc_resp-in, m1-in, m2-in, verified-same, management-from, managed-from, keyed-from}
 use Rattle.domain_rules.specs.Counters.{next_in_attempt}
 use Rattle.domain_rules.specs.Example.{HasRenewal}
 use Rattle.run_journal.specs.Premises.{In}
 use Rattle.domain_rules.specs.Explained.{push, WasSent, Step, Explained}
-use Rattle.domain_rules.specs.Frames.{sent_assoc_resp, sent_m1, sent_m2, sent_m3, sent_m4, sent_g1, keyed_by, m3_key_data}
+use Rattle.domain_rules.specs.Frames.{sent_assoc_resp, sent_m1, sent_m2, sent_m3, sent_m4, sent_g1, keyed_by, assoc_resp_elements}
 use Rattle.domain_rules.specs.GroupKeys.{newest, newest_uses, find_key, memory, give_by}
-use Rattle.domain_rules.specs.Network.{mac, gtk}
+use Rattle.domain_rules.specs.Network.{mac, gtk, r0kh_id, peer_of}
+use Rattle.domain_rules.specs.TransitionKeyData.{responded_r0kh_id}
 use Rattle.domain_rules.specs.Reading.{KeyMessage, Managed, Keyed, Reads}
 use Rattle.domain_rules.specs.StationRows.{Asks}
 use Rattle.domain_rules.specs.Rows.{Begin, Adds, TakeRow, By_assoc_req, By_assoc_resp, By_m1, By_m2, By_m3}
 use Rattle.domain_rules.specs.Closing.{close_attempt}
-use Rattle.domain_rules.specs.AccessPointKeys.{IsRequested, KnowsM2, request}
+use Rattle.domain_rules.specs.AccessPointKeys.{requested_rsne, m2_key_data, IsRequested, KnowsM2, request}
 use Rattle.domain_rules.specs.StationKeys.{Keying, m3_keying, KnowsM3}
 use Rattle.domain_rules.specs.Asking.{has_heard, kept_counter, offered, verified}
-use Rattle.domain_rules.specs.Verdict.{is_mine, further, and_then, first_verdict, verdict}
+use Rattle.domain_rules.specs.Verdict.{is_mine, management_sender, management_further, key_further, further, first_verdict, verdict}
 use Rattle.domain_rules.specs.Associating.{management_verdict}
 use Rattle.domain_rules.specs.Facts.{Facts, ReadsKeyData}
 use Rattle.domain_rules.specs.Here.{here}
@@ -34,9 +37,9 @@ use Rattle.key_hierarchy.specs.declared.inputs.Inputs.{Inputs}
 use Rattle.rsn_elements.specs.Elements.{ElementFields}
 use Rattle.rsn_elements.specs.Pieces.{SentRsne, SentGtkKde, said}
 use Rattle.rsn_elements.specs.declared.framing.Within.TheVariants.{KeyData}
-use Rattle.rsn_elements.specs.Sent.{rates_octets, rsne_octets}
+use Rattle.rsn_elements.specs.Sent.{rsne_octets}
 use Rattle.run_journal.specs.Acts.{Derivation, GroupKey}
-use Rattle.run_journal.specs.Questions.{attempt, derivation, history, add, chain}
+use Rattle.run_journal.specs.Questions.{attempt, derivation, draws, history, add, chain}
 use Rattle.run_journal.specs.declared.acts.Act.TheVariants.{Opened, Drew, Derived, Took, Installed, Finished}
 use Rattle.run_journal.specs.declared.acts.Act.{Act}
 use Rattle.run_journal.specs.declared.acts.Drawn.TheVariants.{Nonce, Gtk}
@@ -44,7 +47,6 @@ use Rattle.run_journal.specs.declared.acts.Entry.{Entry}
 use Rattle.run_journal.specs.declared.acts.Key.TheVariants.{Pairwise, Group}
 use Rattle.run_journal.specs.declared.acts.Kind.TheVariants as kind
 use Rattle.run_journal.specs.declared.acts.Outcome.TheVariants.{Accepted}
-use Rattle.run_journal.specs.declared.acts.Outcome.{Outcome}
 use Rattle.run_journal.specs.declared.acts.Seal.{Seal}
 use Rattle.run_journal.specs.declared.acts.Start.TheVariants as start
 use Rattle.run_journal.specs.declared.domain.Domain.{Domain}
@@ -198,12 +200,12 @@ module _ (d : Domain) (k m : ℕ) (pair : IsPair d k m) (listed : m < length d.s
 
   -- round 14: the access point answers, and keeps its session
   awaited14 : management_verdict d 0 a ap12 s kind.AssocReq (assoc_req_body d s a) (assoc_req_said d) ≡ Accepted
-  awaited14 = rw (status-sent d.akm) refl
+  awaited14 = rw (status-sent d.akm, mobility_suite d.akm d None pair.suite) refl
 
   accepted14 : verdict d 0 a ap12 (Managed (assoc_req_body d s a) (assoc_req_said d)) no_facts ≡ Accepted
-  accepted14 =
-      ap (λ (o : Outcome). and_then o Accepted)
+  accepted14 = stands Accepted _ _
       (managed-from d 0 a ap12 (assoc_req_body d s a) (assoc_req_said d) s (same_octets d a) (management-from d a s (assoc_req_body d s a).header pair.finds_sta refl) ∙ awaited14)
+      (nothing_further (management_sender d a (assoc_req_body d s a).header) (λ p. management_further d (draws ap12) a ap12 p (assoc_req_body d s a) (assoc_req_said d) no_facts kind.AssocReq) (λ p. refl)) refl
 
   attempt9 : attempt s (w.ap9 d k m) ≡ None
   attempt9 = rw (same-refl s) refl
@@ -220,9 +222,9 @@ module _ (d : Domain) (k m : ℕ) (pair : IsPair d k m) (listed : m < length d.s
   row14 : TakeRow (here d 0 a) ap12 octets11 acts14
   row14 = record {
     r = Managed (assoc_req_body d s a) (assoc_req_said d);
-    reads = reads-assoc_req d s a pair.sta_whole pair.ap_whole;
+    reads = reads-assoc_req d s a pair.suite pair.sta_whole pair.ap_whole;
     facts = no_facts;
-    knows = λ came. tt;
+    knows = λ came p from. tt;
     row = By_assoc_req (record { b = assoc_req_body d s a; e = assoc_req_said d; is = refl; kind_is = refl; p = s; from = pair.finds_sta; accepted = accepted14; says = says14 });
   }
 
@@ -251,20 +253,21 @@ module _ (d : Domain) (k m : ℕ) (pair : IsPair d k m) (listed : m < length d.s
   attempt13 : attempt a sta13 ≡ Some asked
   attempt13 = rw (same-refl a) refl
 
-  accepted15 : verdict d 0 s sta13 (Managed (assoc_resp_body d a s 0 rates_octets) rates_said) no_facts ≡ Accepted
-  accepted15 =
-      ap (λ (o : Outcome). and_then o Accepted) (
-      managed-from d 0 s sta13 (assoc_resp_body d a s 0 rates_octets) rates_said a (same_octets d s) (management-from d s a (assoc_resp_body d a s 0 rates_octets).header pair.finds_ap refl)
-      ∙ assoc_resp-in sta13 a (assoc_resp_body d a s 0 rates_octets) asked false attempt13 refl refl
+  accepted15 : verdict d 0 s sta13 (Managed (assoc_resp_body d a s 0 (assoc_resp_elements d a)) rates_said) no_facts ≡ Accepted
+  accepted15 = stands Accepted _ _ (
+      managed-from d 0 s sta13 (assoc_resp_body d a s 0 (assoc_resp_elements d a)) rates_said a (same_octets d s) (management-from d s a (assoc_resp_body d a s 0 (assoc_resp_elements d a)).header pair.finds_ap refl)
+      ∙ assoc_resp-in d sta13 a (assoc_resp_body d a s 0 (assoc_resp_elements d a)) rates_said asked false attempt13 refl refl
+      ∙ fields_suite d.akm d a rates_said pair.suite
       )
+      (nothing_further (management_sender d s (assoc_resp_body d a s 0 (assoc_resp_elements d a)).header) (λ p. management_further d (draws sta13) s sta13 p (assoc_resp_body d a s 0 (assoc_resp_elements d a)) rates_said no_facts kind.AssocResp) (λ p. refl)) refl
 
   row15 : TakeRow (here d 0 s) sta13 octets12 acts15
   row15 = record {
-    r = Managed (assoc_resp_body d a s 0 rates_octets) rates_said;
-    reads = reads-assoc_resp d a s pair.ap_whole pair.sta_whole (omega (arith, pair.sta_low));
+    r = Managed (assoc_resp_body d a s 0 (assoc_resp_elements d a)) rates_said;
+    reads = reads-assoc_resp d a s pair.suite pair.ap_whole pair.sta_whole (omega (arith, pair.sta_low));
     facts = no_facts;
-    knows = λ came. tt;
-    row = By_assoc_resp (record { b = assoc_resp_body d a s 0 rates_octets; e = rates_said; is = refl; kind_is = refl; p = a; from = pair.finds_ap; accepted = accepted15; says = refl });
+    knows = λ came p from. tt;
+    row = By_assoc_resp (record { b = assoc_resp_body d a s 0 (assoc_resp_elements d a); e = rates_said; is = refl; kind_is = refl; p = a; from = pair.finds_ap; accepted = accepted15; says = refl });
   }
 
   step15 : Step d 15 (Deliver 12 s) past14 past15
@@ -299,7 +302,8 @@ module _ (d : Domain) (k m : ℕ) (pair : IsPair d k m) (listed : m < length d.s
   mine16 = rw (same_octets d s) refl
 
   accepted16 : verdict d 0 s sta15 (Keyed m1) no_facts ≡ Accepted
-  accepted16 = ap (λ (o : Outcome). and_then o Accepted) (keyed-from d 0 s sta15 m1 a mine16 pair.finds_ap ∙ m1-in sta15 a m1 joined true None attempt15 refl heard16 (ap (kept_counter a) (since_part a sta15 joined attempt15) ∙ counter16))
+  accepted16 = stands Accepted _ _ (keyed-from d 0 s sta15 m1 a mine16 pair.finds_ap ∙ m1-in sta15 a m1 joined true None attempt15 refl heard16 (ap (kept_counter a) (since_part a sta15 joined attempt15) ∙ counter16))
+      (nothing_further (peer_of d s m1.header.a2) (λ p. key_further d s sta15 p M1 no_facts) (λ p. refl)) refl
 
   reads16 : Reads d.akm octets13 (Keyed m1)
   reads16 = reads-m1 d a s 1 anonce pair.ap_whole pair.sta_whole (omega arith) (length-nonce d a 3)
@@ -309,8 +313,8 @@ module _ (d : Domain) (k m : ℕ) (pair : IsPair d k m) (listed : m < length d.s
     r = Keyed m1;
     reads = reads16;
     facts = no_facts;
-    knows = λ came p from. tt;
-    row = By_m1 (record { k = m1; is = refl; message_is = refl; p = a; from = pair.finds_ap; accepted = accepted16; part = joined; awaited = attempt15; i = i2; inputs_are = refl; says = refl });
+    knows = λ came p from. (tt, no_response d.akm sta15 p M1 no_facts pair.suite);
+    row = By_m1 (record { k = m1; is = refl; message_is = refl; p = a; from = pair.finds_ap; accepted = accepted16; part = joined; awaited = attempt15; i = i2; inputs_are = inputs_suite d (responded_r0kh_id None) s a snonce anonce pair.suite; says = refl });
   }
 
   step16 : Step d 16 (Deliver 13 s) past15 past16
@@ -321,7 +325,7 @@ module _ (d : Domain) (k m : ℕ) (pair : IsPair d k m) (listed : m < length d.s
 
   -- round 17: the access point derives it by M2, and gives its newest group key with M3
   abbrev m2 : KeyMessage
-  m2 = m2_message d s a (keyed_by i2) 1
+  m2 = m2_message d s a (keyed_by i2) 1 []
 
   abbrev past17 : List Entry
   past17 = push 17 a acts17 past16
@@ -336,30 +340,34 @@ module _ (d : Domain) (k m : ℕ) (pair : IsPair d k m) (listed : m < length d.s
   offers17 = rw (same-refl s) (ap (λ (c : ℕ). c ∷ []) (reads-counter d.akm octets13 m1 reads16))
 
   verifies17 : verified d.akm (ptk i2).kck m2 Accepted ≡ Accepted
-  verifies17 = verified-same d.akm (ptk i2).kck m2 Accepted (mic-sealed d.akm (ptk i2).kck (m2_fields d (keyed_by i2) 1) pair.has_mic (fits-m2 d (keyed_by i2) 1 (omega arith) (length-nonce d s 1)))
+  verifies17 = verified-same d.akm (ptk i2).kck m2 Accepted (mic-sealed d.akm (ptk i2).kck (m2_fields d (keyed_by i2) 1 []) pair.has_mic (fits-m2 d (keyed_by i2) 1 [] (omega arith) (length-nonce d s 1) (few-m2 d (keyed_by i2) [] pair.suite)))
 
   mine17 : (not (is_mine d a m2.header) || false) ≡ false
   mine17 = rw (same_octets d a) refl
 
   first17 : first_verdict d 0 a ap14 (Keyed m2) ≡ Accepted
-  first17 = keyed-from d 0 a ap14 m2 s mine17 pair.finds_sta ∙ m2-in d a ap14 s m2 answered false (1 ∷ []) anonce attempt14 refl refl offers17 refl ∙ verifies17
+  first17 = keyed-from d 0 a ap14 m2 s mine17 pair.finds_sta ∙ m2-in d a ap14 s m2 answered false (1 ∷ []) anonce attempt14 refl refl offers17 refl
+      ∙ ap (λ (v : Inputs). verified d.akm (ptk v).kck m2 Accepted) (sym (inputs_suite d (r0kh_id d a) a s anonce snonce pair.suite)) ∙ verifies17
 
   abbrev facts17 : Facts
-  facts17 = record { requested = Some (assoc_req_said d); unwrapped = None; data_ = Some (rsne_said d.akm); opened = None }
+  facts17 = record { requested = Some (assoc_req_said d); responded = None; unwrapped = None; data_ = Some (rsne_said d.akm); pulled = None; opened = None }
 
-  same_rsne : further d.akm (Keyed m2) facts17 ≡ Accepted
+  same_rsne : m2_key_data (requested_rsne facts17.requested) facts17.data_ ≡ Accepted
   same_rsne = rw ((bytes_eq-Decides (rsne_octets d.akm None) (rsne_octets d.akm None)).1 refl) refl
 
+  further17 : further d 0 a ap14 (Keyed m2) facts17 ≡ Accepted
+  further17 = from_named (peer_of d a m2.header.a2) s (λ p. key_further d a ap14 p M2 facts17) pair.finds_sta ∙ m2_further_suite d.akm d a s facts17 pair.suite ∙ same_rsne
+
   accepted17 : verdict d 0 a ap14 (Keyed m2) facts17 ≡ Accepted
-  accepted17 = ap (λ (o : Outcome). and_then o (further d.akm (Keyed m2) facts17)) first17 ∙ ap (and_then Accepted) same_rsne
+  accepted17 = stands Accepted _ _ first17 further17 refl
 
   request17 : request s ap14 ≡ Some octets11
   request17 = rw (same-refl s) refl
 
   knows17 : KnowsM2 d.akm ap14 s m2 facts17
   knows17 = record {
-    requested = subst (λ (o : Option (List ℕ)). IsRequested d.akm o facts17.requested) (sym request17) (assoc_req_body d s a, reads-assoc_req d s a pair.sta_whole pair.ap_whole);
-    data_ = rsne_spelled d.akm;
+    requested = subst (λ (o : Option (List ℕ)). IsRequested d.akm o facts17.requested) (sym request17) (assoc_req_body d s a, reads-assoc_req d s a pair.suite pair.sta_whole pair.ap_whole);
+    data_ = subst (λ (x : List ℕ). ReadsKeyData x facts17.data_) (sym (m2_data_suite d.akm d (keyed_by i2) [] pair.suite)) (rsne_spelled d.akm);
   }
 
   counter17 : next_in_attempt s (chain s ap14) ≡ 2
@@ -371,10 +379,10 @@ module _ (d : Domain) (k m : ℕ) (pair : IsPair d k m) (listed : m < length d.s
   row17 : TakeRow (here d 0 a) ap14 octets14 acts17
   row17 = record {
     r = Keyed m2;
-    reads = reads-m2 d s a (keyed_by i2) 1 pair.has_mic pair.sta_whole pair.ap_whole (omega arith) (length-nonce d s 1);
+    reads = reads-m2 d s a (keyed_by i2) 1 [] pair.has_mic pair.sta_whole pair.ap_whole (omega arith) (length-nonce d s 1) (few-m2 d (keyed_by i2) [] pair.suite);
     facts = facts17;
-    knows = λ came p from. (let same : s ≡ p = cc (from, pair.finds_sta) in subst (λ (x : Node). KnowsM2 d.akm ap14 x m2 facts17) same knows17);
-    row = By_m2 (record { k = m2; is = refl; message_is = refl; p = s; from = pair.finds_sta; accepted = accepted17; part = answered; awaited = attempt14; i = i2; inputs_are = refl; says = says17 });
+    knows = λ came p from. (let same : s ≡ p = cc (from, pair.finds_sta) in (subst (λ (x : Node). KnowsM2 d.akm ap14 x m2 facts17) same knows17, no_response d.akm ap14 p M2 facts17 pair.suite));
+    row = By_m2 (record { k = m2; is = refl; message_is = refl; p = s; from = pair.finds_sta; accepted = accepted17; part = answered; awaited = attempt14; i = i2; inputs_are = inputs_suite d (r0kh_id d a) a s anonce snonce pair.suite; says = says17 });
   }
 
   step17 : Step d 17 (Deliver 14 a) past16 past17
@@ -410,7 +418,7 @@ module _ (d : Domain) (k m : ℕ) (pair : IsPair d k m) (listed : m < length d.s
   is_key = record { octets = octets-gtk d a 2; size = length-gtk d a 2; low = omega arith }
 
   attempt18 : attempt a sta16 ≡ Some derived
-  attempt18 = attempt_more a (sent_m2 d s a (keyed_by i2) 1) (Derived a i2 (ptk i2) ∷ Took (Some a) octets13 (kind.Key M1) Accepted None ∷ sta15) (Derived a i2 (ptk i2) ∷ Took (Some a) octets13 (kind.Key M1) Accepted None ∷ joined) refl refl
+  attempt18 = attempt_more a (sent_m2 d s a (keyed_by i2) 1 []) (Derived a i2 (ptk i2) ∷ Took (Some a) octets13 (kind.Key M1) Accepted None ∷ sta15) (Derived a i2 (ptk i2) ∷ Took (Some a) octets13 (kind.Key M1) Accepted None ∷ joined) refl refl
       (attempt_more a (Derived a i2 (ptk i2)) (Took (Some a) octets13 (kind.Key M1) Accepted None ∷ sta15) (Took (Some a) octets13 (kind.Key M1) Accepted None ∷ joined) refl refl
       (attempt_more a (Took (Some a) octets13 (kind.Key M1) Accepted None) sta15 joined refl refl attempt15))
 
@@ -427,10 +435,10 @@ module _ (d : Domain) (k m : ℕ) (pair : IsPair d k m) (listed : m < length d.s
   counter18 = ap (kept_counter a) (since_part a sta16 derived attempt18) ∙ rw (same-refl a) refl
 
   reads18 : Reads d.akm octets15 (Keyed m3)
-  reads18 = reads-m3 d a s (keyed_by i2) 2 new 0 pair.has_mic pair.ap_whole pair.sta_whole (omega arith) (length-nonce d a 3) (octets-kek i2) is_key
+  reads18 = reads-m3 d a s (keyed_by i2) 2 new 0 pair.has_mic pair.ap_whole pair.sta_whole (omega arith) (length-nonce d a 3) (few-m3 d a (keyed_by i2) new pair.suite (octets-kek i2) is_key)
 
   verifies18 : verified d.akm (ptk i2).kck m3 Accepted ≡ Accepted
-  verifies18 = verified-same d.akm (ptk i2).kck m3 Accepted (mic-sealed d.akm (ptk i2).kck (m3_fields d (keyed_by i2) 2 new 0) pair.has_mic (fits-m3 d (keyed_by i2) 2 new 0 (omega arith) (length-nonce d a 3) (octets-kek i2) is_key))
+  verifies18 = verified-same d.akm (ptk i2).kck m3 Accepted (mic-sealed d.akm (ptk i2).kck (m3_fields d a (keyed_by i2) 2 new 0) pair.has_mic (fits-m3 d a (keyed_by i2) 2 new 0 (omega arith) (length-nonce d a 3) (few-m3 d a (keyed_by i2) new pair.suite (octets-kek i2) is_key)))
 
   mine18 : (not (is_mine d s m3.header) || false) ≡ false
   mine18 = rw (same_octets d s) refl
@@ -442,18 +450,18 @@ module _ (d : Domain) (k m : ℕ) (pair : IsPair d k m) (listed : m < length d.s
   said_by_m3 = said KeyData (SentRsne d.akm None ∷ SentGtkKde new.id new.key ∷ [])
 
   abbrev facts18 : Facts
-  facts18 = record { requested = None; unwrapped = Some (m3_key_data d new); data_ = Some said_by_m3; opened = None }
+  facts18 = record { requested = None; responded = None; unwrapped = Some (plain_key_data d new); data_ = Some said_by_m3; pulled = None; opened = None }
 
-  further18 : further d.akm (Keyed m3) facts18 ≡ Accepted
-  further18 = key_data-same d.akm new.key 2 (length-gtk d a 2) refl
+  further18 : further d 0 s sta16 (Keyed m3) facts18 ≡ Accepted
+  further18 = from_named (peer_of d s m3.header.a2) a (λ p. key_further d s sta16 p M3 facts18) pair.finds_ap ∙ m3_further_suite d.akm d (m3_keying a sta16) facts18 pair.suite ∙ key_data-same d.akm new.key 2 (length-gtk d a 2) refl
 
   accepted18 : verdict d 0 s sta16 (Keyed m3) facts18 ≡ Accepted
-  accepted18 = ap (λ (o : Outcome). and_then o (further d.akm (Keyed m3) facts18)) first18 ∙ ap (and_then Accepted) further18
+  accepted18 = stands Accepted _ _ first18 further18 refl
 
   knows18 : KnowsM3 (ptk i2).kek m3 facts18
   knows18 = record {
-    unwrapped = (octets-kek i2, wrapped_is d (ptk i2).kek new is_key);
-    data_ = λ plain e. (let same : m3_key_data d new ≡ plain = cc e in subst (λ (x : List ℕ). ReadsKeyData x facts18.data_) same (says d new is_key));
+    unwrapped = (octets-kek i2, wraps-m3 d a (keyed_by i2) new pair.suite is_key);
+    data_ = λ plain e. (let same : plain_key_data d new ≡ plain = cc e in subst (λ (x : List ℕ). ReadsKeyData x facts18.data_) same (says d new is_key));
   }
 
   -- the station has it
@@ -468,10 +476,13 @@ module _ (d : Domain) (k m : ℕ) (pair : IsPair d k m) (listed : m < length d.s
     r = Keyed m3;
     reads = reads18;
     facts = facts18;
-    knows = λ came p from y awaited.
-        (let same : a ≡ p = cc (from, pair.finds_ap) in
-        let one : keying ≡ y = some-injective keying y (sym keying18 ∙ subst (λ (x : Node). m3_keying x sta16 ≡ Some y) (sym same) awaited) in
-        subst (λ (x : Keying). KnowsM3 x.key.ptk.kek m3 facts18) one knows18);
+    knows = λ came p from. (
+      λ y awaited.
+          (let same : a ≡ p = cc (from, pair.finds_ap) in
+          let one : keying ≡ y = some-injective keying y (sym keying18 ∙ subst (λ (x : Node). m3_keying x sta16 ≡ Some y) (sym same) awaited) in
+          subst (λ (x : Keying). KnowsM3 x.key.ptk.kek m3 facts18) one knows18),
+      no_response d.akm sta16 p M3 facts18 pair.suite,
+    );
     row = By_m3 (record { k = m3; is = refl; message_is = refl; p = a; from = pair.finds_ap; accepted = accepted18; y = keying; awaited = keying18; says = says18 });
   }
 

@@ -1,5 +1,5 @@
 -- Frames as they are sent read as what they carry, in any network.
-use Rattle.std.proofs.Common.{◌≡◌, ℕ, ◌+◌, ◌^◌, ◌<◌, false, List, [], ◌∷◌, ◌++◌, length, take, drop, None, refl, sym, ap, subst, ◌∙◌, arith}
+use Rattle.std.proofs.Common.{◌≡◌, ◌≢◌, ℕ, ◌+◌, ◌^◌, ◌<◌, ◌≤◌, false, List, [], ◌∷◌, ◌++◌, length, take, drop, None, refl, sym, ap, subst, ◌∙◌, arith}
 use Rattle.std.specs.Prelude.{not, nat_lt, replicate}
 use Rattle.std.specs.Int.{w64, from_le_bytes}
 use Rattle.std.proofs.lemmas.Bool.{lt-ltb}
@@ -18,6 +18,7 @@ use Rattle.rsn_elements.specs.Elements.{ElementFields, SpellsElements}
 use Rattle.rsn_elements.specs.Sent.{ssid_octets, rates_octets, rsne_octets}
 use Rattle.rsn_elements.specs.Pieces.{SentSsid, SentRates, SentRsne, nothing, said}
 use Rattle.rsn_elements.proofs.PiecesTell.{pieces_spelled}
+use Rattle.key_wrap.specs.KeyWrap.{Wraps}
 use Rattle.mac_prf.specs.Mic.{mic}
 use Rattle.eapol_key.specs.declared.messages.Message.{Message}
 use Rattle.eapol_key.specs.declared.messages.Message.TheVariants.{M1, M2, M3, M4, G1, G2}
@@ -36,17 +37,18 @@ use Rattle.domain_rules.specs.Network.{address, bssid, direction}
 use Rattle.domain_rules.specs.Reading.{Management, Managed, KeyMessage, Keyed, IsManaged, Reads}
 use Rattle.domain_rules.specs.Asking.{replay_counter}
 use Rattle.domain_rules.specs.GroupKeys.{rsc_in}
-use Rattle.domain_rules.specs.Frames.{aid, assoc_req_elements, in_data, m2_frame, wrapped, m3_key_data, m3_frame, m4_frame, g1_key_data, g1_frame, g2_frame}
+use Rattle.domain_rules.specs.Frames.{aid, assoc_req_elements, assoc_resp_elements, in_data, sent_m2_key_data, m2_frame, wrapped, m3_key_data, m3_frame, m4_frame, g1_key_data, g1_frame, g2_frame}
 use Rattle.domain_base.specs.Octets.{AreOctets}
-use Rattle.domain_rules.proofs.CarriedKey.{IsGroupKey, few_wrapped, few_wrapped_g1}
+use Rattle.domain_rules.proofs.SuiteWords.{plain_key_data, plain_request, request_suite, response_suite, m2_data_suite, m3_data_suite}
+use Rattle.domain_rules.proofs.CarriedKey.{IsGroupKey, wrapped_is, few_wrapped, few_wrapped_g1}
 
 -- ---- elements
 
 abbrev pub assoc_req_said : Domain → ElementFields
 assoc_req_said d = said Body (SentSsid d.ssid ∷ SentRates ∷ SentRsne d.akm None ∷ [])
 
-pub assoc_req_spelled : (d : Domain) → SpellsElements Body (assoc_req_elements d) (assoc_req_said d)
-assoc_req_spelled d =
+plain_spelled : (d : Domain) → SpellsElements Body (plain_request d) (assoc_req_said d)
+plain_spelled d =
     subst (λ (x : List ℕ). SpellsElements Body x (assoc_req_said d))
     (
     append-nil (ssid_octets d.ssid ++ (rates_octets ++ (rsne_octets d.akm None ++ []))) ∙ ap (λ (x : List ℕ). ssid_octets d.ssid ++ (rates_octets ++ x)) (append-nil (rsne_octets d.akm None))
@@ -54,11 +56,18 @@ assoc_req_spelled d =
     )
     (pieces_spelled Body (SentSsid d.ssid ∷ SentRates ∷ SentRsne d.akm None ∷ []) [] [] (tt, (tt, (tt, tt))) ((refl, (refl, tt)), ((refl, tt), (tt, tt))) tt tt)
 
+-- with suites 2 and 6
+pub assoc_req_spelled : (d : Domain) → d.akm ≢ FtPsk → SpellsElements Body (assoc_req_elements d) (assoc_req_said d)
+assoc_req_spelled d other = subst (λ (x : List ℕ). SpellsElements Body x (assoc_req_said d)) (sym (request_suite d.akm d other)) (plain_spelled d)
+
 abbrev pub rates_said : ElementFields
 rates_said = nothing
 
 pub rates_spelled : SpellsElements Body rates_octets rates_said
 rates_spelled = pieces_spelled Body (SentRates ∷ []) [] [] (tt, tt) (tt, tt) tt tt
+
+pub assoc_resp_spelled : (d : Domain) (n : Node) → d.akm ≢ FtPsk → SpellsElements Body (assoc_resp_elements d n) rates_said
+assoc_resp_spelled d n other = subst (λ (x : List ℕ). SpellsElements Body x rates_said) (sym (response_suite d.akm d n other)) rates_spelled
 
 pub nothing_spelled : SpellsElements Body [] nothing
 nothing_spelled = pieces_spelled Body [] [] [] tt tt tt tt
@@ -82,15 +91,15 @@ assoc_req_body d n p = record {
   elements = assoc_req_elements d;
 }
 
-pub reads-assoc_req : (d : Domain) (n p : Node) → IsAddress (address d n) → IsAddress (address d p)
+pub reads-assoc_req : (d : Domain) (n p : Node) → d.akm ≢ FtPsk → IsAddress (address d n) → IsAddress (address d p)
     → Reads d.akm (assoc_req_octets (address d p) (address d n) (address d p) (assoc_req_elements d)) (Managed (assoc_req_body d n p) (assoc_req_said d))
-reads-assoc_req d n p l m = (
+reads-assoc_req d n p other l m = (
   record {
     frame = assoc_req (assoc_req_body d n p).header 0x11 10 (assoc_req_elements d);
     spelled = assoc_req_sent (address d p) (address d n) (address d p) m l m (assoc_req_elements d);
     is = refl;
   },
-  assoc_req_spelled d,
+  assoc_req_spelled d other,
 )
 
 abbrev pub assoc_resp_body : Domain → Node → Node → ℕ → List ℕ → Management
@@ -109,9 +118,9 @@ managed-assoc_resp d n p status aid elements l m s a = record {
   is = refl;
 }
 
-pub reads-assoc_resp : (d : Domain) (n p : Node) → IsAddress (address d n) → IsAddress (address d p) → aid p < 2 ^ 16
-    → Reads d.akm (assoc_resp_octets (address d p) (address d n) (address d n) 0 (aid p) rates_octets) (Managed (assoc_resp_body d n p 0 rates_octets) rates_said)
-reads-assoc_resp d n p l m a = (managed-assoc_resp d n p 0 (aid p) rates_octets l m (omega arith) a, rates_spelled)
+pub reads-assoc_resp : (d : Domain) (n p : Node) → d.akm ≢ FtPsk → IsAddress (address d n) → IsAddress (address d p) → aid p < 2 ^ 16
+    → Reads d.akm (assoc_resp_octets (address d p) (address d n) (address d n) 0 (aid p) (assoc_resp_elements d n)) (Managed (assoc_resp_body d n p 0 (assoc_resp_elements d n)) rates_said)
+reads-assoc_resp d n p other l m a = (managed-assoc_resp d n p 0 (aid p) (assoc_resp_elements d n) l m (omega arith) a, assoc_resp_spelled d n other)
 
 pub reads-refusal : (d : Domain) (n p : Node) (status : ℕ) → IsAddress (address d n) → IsAddress (address d p) → status < 2 ^ 16
     → Reads d.akm (assoc_resp_octets (address d p) (address d n) (address d n) status 0 []) (Managed (assoc_resp_body d n p status []) nothing)
@@ -213,34 +222,53 @@ reads-sealed d n p m kck f has l k fits is =
     (reads-key d n p m (with_mic d.akm kck f) l k (fits-with_mic d.akm kck f has fits) (message-with_mic d.akm kck m f is))
 
 -- M2, before its MIC is put in
-abbrev pub m2_fields : Domain → Derivation → ℕ → KeyFields
-m2_fields d x counter = sent_fields M2 d.akm counter x.inputs.snonce 0 (rsne_octets d.akm None)
+abbrev pub m2_fields : Domain → Derivation → ℕ → List ℕ → KeyFields
+m2_fields d x counter fte = sent_fields M2 d.akm counter x.inputs.snonce 0 (sent_m2_key_data d.akm d x fte)
 
-pub fits-m2 : (d : Domain) (x : Derivation) (counter : ℕ) → counter < 2 ^ 64 → length x.inputs.snonce ≡ 32 → FitsKeyFrame (m2_fields d x counter)
-fits-m2 d x counter c h = sent_fits M2 d.akm counter 0 x.inputs.snonce (rsne_octets d.akm None) c h (omega arith)
+pub fits-m2 : (d : Domain) (x : Derivation) (counter : ℕ) (fte : List ℕ) → counter < 2 ^ 64 → length x.inputs.snonce ≡ 32 → length (sent_m2_key_data d.akm d x fte) ≤ 65440 → FitsKeyFrame (m2_fields d x counter fte)
+fits-m2 d x counter fte c h few = sent_fits M2 d.akm counter 0 x.inputs.snonce (sent_m2_key_data d.akm d x fte) c h few
 
-abbrev pub m2_message : Domain → Node → Node → Derivation → ℕ → KeyMessage
-m2_message d n p x counter = key_message d n p M2 (with_mic d.akm x.ptk.kck (m2_fields d x counter)) (m2_frame d x counter)
+-- it has some key data, and with suites 2 and 6 it is short
+pub some-m2 : (akm : Akm) (d : Domain) (x : Derivation) (fte : List ℕ) → 0 < length (sent_m2_key_data akm d x fte)
+some-m2 Psk d x fte = omega arith
+some-m2 PskSha256 d x fte = omega arith
+some-m2 FtPsk d x fte = omega arith
 
-pub reads-m2 : (d : Domain) (n p : Node) (x : Derivation) (counter : ℕ) → HasMic d.akm → IsAddress (address d n) → IsAddress (address d p) → counter < 2 ^ 64 → length x.inputs.snonce ≡ 32
-    → Reads d.akm (in_data d n p (m2_frame d x counter)) (Keyed (m2_message d n p x counter))
-reads-m2 d n p x counter has l k c h =
-    reads-sealed d n p M2 x.ptk.kck (m2_fields d x counter) has l k (fits-m2 d x counter c h) (message_sent M2 d.akm counter 0 x.inputs.snonce (rsne_octets d.akm None) (omega arith))
+pub few-m2 : (d : Domain) (x : Derivation) (fte : List ℕ) → d.akm ≢ FtPsk → length (sent_m2_key_data d.akm d x fte) ≤ 65440
+few-m2 d x fte other = let size : length (sent_m2_key_data d.akm d x fte) ≡ 22 = ap length (m2_data_suite d.akm d x fte other) in omega (arith, size)
+
+abbrev pub m2_message : Domain → Node → Node → Derivation → ℕ → List ℕ → KeyMessage
+m2_message d n p x counter fte = key_message d n p M2 (with_mic d.akm x.ptk.kck (m2_fields d x counter fte)) (m2_frame d x counter fte)
+
+pub reads-m2 : (d : Domain) (n p : Node) (x : Derivation) (counter : ℕ) (fte : List ℕ) → HasMic d.akm → IsAddress (address d n) → IsAddress (address d p) → counter < 2 ^ 64 → length x.inputs.snonce ≡ 32
+    → length (sent_m2_key_data d.akm d x fte) ≤ 65440 → Reads d.akm (in_data d n p (m2_frame d x counter fte)) (Keyed (m2_message d n p x counter fte))
+reads-m2 d n p x counter fte has l k c h few =
+    reads-sealed d n p M2 x.ptk.kck (m2_fields d x counter fte) has l k (fits-m2 d x counter fte c h few) (message_sent M2 d.akm counter 0 x.inputs.snonce (sent_m2_key_data d.akm d x fte) (some-m2 d.akm d x fte))
 
 -- M3, before its MIC is put in
-abbrev pub m3_fields : Domain → Derivation → ℕ → GroupKey → ℕ → KeyFields
-m3_fields d x counter g rsc = sent_fields M3 d.akm counter x.inputs.anonce rsc (wrapped x.ptk.kek (m3_key_data d g))
+abbrev pub m3_fields : Domain → Node → Derivation → ℕ → GroupKey → ℕ → KeyFields
+m3_fields d n x counter g rsc = sent_fields M3 d.akm counter x.inputs.anonce rsc (wrapped x.ptk.kek (m3_key_data d n x g))
 
-pub fits-m3 : (d : Domain) (x : Derivation) (counter : ℕ) (g : GroupKey) (rsc : ℕ) → counter < 2 ^ 64 → length x.inputs.anonce ≡ 32 → AreOctets x.ptk.kek → IsGroupKey g → FitsKeyFrame (m3_fields d x counter g rsc)
-fits-m3 d x counter g rsc c h octets is = sent_fits M3 d.akm counter rsc x.inputs.anonce (wrapped x.ptk.kek (m3_key_data d g)) c h (few_wrapped d x.ptk.kek g octets is)
+-- its wrapped key data fits the frame
+abbrev pub FewWrapped : Domain → Node → Derivation → GroupKey → Type 0
+FewWrapped d n x g = length (wrapped x.ptk.kek (m3_key_data d n x g)) ≤ 65440
+
+pub few-m3 : (d : Domain) (n : Node) (x : Derivation) (g : GroupKey) → d.akm ≢ FtPsk → AreOctets x.ptk.kek → IsGroupKey g → FewWrapped d n x g
+few-m3 d n x g other octets is = subst (λ (v : List ℕ). length (wrapped x.ptk.kek v) ≤ 65440) (sym (m3_data_suite d.akm d n x g other)) (few_wrapped d x.ptk.kek g octets is)
+
+pub wraps-m3 : (d : Domain) (n : Node) (x : Derivation) (g : GroupKey) → d.akm ≢ FtPsk → IsGroupKey g → Wraps x.ptk.kek (plain_key_data d g) (wrapped x.ptk.kek (m3_key_data d n x g))
+wraps-m3 d n x g other is = subst (λ (v : List ℕ). Wraps x.ptk.kek (plain_key_data d g) (wrapped x.ptk.kek v)) (sym (m3_data_suite d.akm d n x g other)) (wrapped_is d x.ptk.kek g is)
+
+pub fits-m3 : (d : Domain) (n : Node) (x : Derivation) (counter : ℕ) (g : GroupKey) (rsc : ℕ) → counter < 2 ^ 64 → length x.inputs.anonce ≡ 32 → FewWrapped d n x g → FitsKeyFrame (m3_fields d n x counter g rsc)
+fits-m3 d n x counter g rsc c h few = sent_fits M3 d.akm counter rsc x.inputs.anonce (wrapped x.ptk.kek (m3_key_data d n x g)) c h few
 
 abbrev pub m3_message : Domain → Node → Node → Derivation → ℕ → GroupKey → ℕ → KeyMessage
-m3_message d n p x counter g rsc = key_message d n p M3 (with_mic d.akm x.ptk.kck (m3_fields d x counter g rsc)) (m3_frame d x counter g rsc)
+m3_message d n p x counter g rsc = key_message d n p M3 (with_mic d.akm x.ptk.kck (m3_fields d n x counter g rsc)) (m3_frame d n x counter g rsc)
 
-pub reads-m3 : (d : Domain) (n p : Node) (x : Derivation) (counter : ℕ) (g : GroupKey) (rsc : ℕ) → HasMic d.akm → IsAddress (address d n) → IsAddress (address d p) → counter < 2 ^ 64 → length x.inputs.anonce ≡ 32 → AreOctets x.ptk.kek → IsGroupKey g
-    → Reads d.akm (in_data d n p (m3_frame d x counter g rsc)) (Keyed (m3_message d n p x counter g rsc))
-reads-m3 d n p x counter g rsc has l k c h octets is =
-    reads-sealed d n p M3 x.ptk.kck (m3_fields d x counter g rsc) has l k (fits-m3 d x counter g rsc c h octets is) (message_sent M3 d.akm counter rsc x.inputs.anonce (wrapped x.ptk.kek (m3_key_data d g)) tt)
+pub reads-m3 : (d : Domain) (n p : Node) (x : Derivation) (counter : ℕ) (g : GroupKey) (rsc : ℕ) → HasMic d.akm → IsAddress (address d n) → IsAddress (address d p) → counter < 2 ^ 64 → length x.inputs.anonce ≡ 32 → FewWrapped d n x g
+    → Reads d.akm (in_data d n p (m3_frame d n x counter g rsc)) (Keyed (m3_message d n p x counter g rsc))
+reads-m3 d n p x counter g rsc has l k c h few =
+    reads-sealed d n p M3 x.ptk.kck (m3_fields d n x counter g rsc) has l k (fits-m3 d n x counter g rsc c h few) (message_sent M3 d.akm counter rsc x.inputs.anonce (wrapped x.ptk.kek (m3_key_data d n x g)) tt)
 
 -- M4, before its MIC is put in: its nonce is zeros whatever is given
 abbrev pub m4_fields : Domain → ℕ → KeyFields

@@ -1,34 +1,37 @@
 -- A frame that is refused moves no receive counter.
-use Rattle.std.proofs.Common.{ℕ, ◌≡◌, Bool, true, false, cond, List, [], ◌∷◌, length, Option, Some, refl, sym, ◌∙◌, subst}
+use Rattle.std.proofs.Common.{ℕ, ◌≡◌, Bool, true, false, cond, List, [], ◌∷◌, ◌++◌, length, Option, Some, None, refl, sym, ap, ◌∙◌, subst}
 use Rattle.std.specs.Prelude.{◌||◌}
 use Rattle.domain_base.specs.declared.names.Node.{Node}
 use Rattle.domain_base.specs.declared.names.Node.TheVariants.{Ap, Sta}
 use Rattle.domain_base.specs.declared.names.Peer.TheVariants.{All}
+use Rattle.key_hierarchy.specs.declared.answers.PullAnswer.{PullAnswer}
+use Rattle.key_hierarchy.specs.declared.fast_transition.PmkR1.{PmkR1}
+use Rattle.rsn_elements.specs.Elements.{ElementFields}
 use Rattle.run_journal.specs.GroupKinds as groups
 use Rattle.run_journal.specs.declared.domain.Domain.{Domain}
 use Rattle.run_journal.specs.declared.acts.Key.TheVariants.{Group}
 use Rattle.run_journal.specs.declared.acts.Kind.{Kind}
 use Rattle.run_journal.specs.declared.acts.Kind.TheVariants as kind
 use Rattle.run_journal.specs.declared.acts.Reason.{Reason}
-use Rattle.run_journal.specs.declared.acts.Reason.TheVariants as reason
+use Rattle.run_journal.specs.declared.acts.Outcome.{Outcome}
 use Rattle.run_journal.specs.declared.acts.Outcome.TheVariants.{Refused}
 use Rattle.run_journal.specs.declared.acts.Seal.{Seal}
 use Rattle.run_journal.specs.declared.acts.Act.{Act}
 use Rattle.run_journal.specs.declared.acts.Act.TheVariants.{Took, Installed}
 use Rattle.run_journal.specs.Questions.{add}
 use Rattle.domain_rules.specs.Network.{mac}
-use Rattle.domain_rules.specs.Reading.{Reading, Reads, kind_of}
+use Rattle.domain_rules.specs.Reading.{Reading, Managed, kind_of}
 use Rattle.domain_rules.specs.Facts.{Facts}
-use Rattle.domain_rules.specs.Verdict.{Knows, verdict}
+use Rattle.domain_rules.specs.FastTransition.{single}
+use Rattle.domain_rules.specs.TransitionKeys.{Asked, asked}
+use Rattle.domain_rules.specs.TransitionRows.{look_answer, looked_by, looked_for, look_of_kind, refused_look}
 use Rattle.domain_rules.specs.GroupKeys.{newest, is_current, got}
 use Rattle.domain_rules.specs.PacketNumbers.{pairwise_got}
 use Rattle.domain_rules.specs.Closing.{sender}
 use Rattle.domain_rules.specs.Owing.{any_owes, switch_acts, and_switch}
-use Rattle.domain_rules.specs.Rows.{Take, refused_seal, response, By_refusal, Adds}
+use Rattle.domain_rules.specs.Rows.{Take, refused_seal, refused_status, response_by, response, RefusedRow, TakeRows, By_assoc_req, By_assoc_resp, By_m1, By_m2, By_m3, By_repeated_m3, By_m4, By_g1, By_g2, By_ft_req, By_repeated_ft_req, By_ft_resp, By_re_req, By_repeated_re_req, By_re_resp, By_data, By_ignored, By_refusal, Adds, outcome_of}
 use Rattle.domain_rules.specs.Here.{here}
 use Rattle.domain_rules.proofs.Parts.{add_append}
-use Rattle.domain_rules.proofs.SomeGroup.{HasRow}
-use Rattle.domain_rules.proofs.OneGroup.{one_take}
 
 -- each receive counter is the same after the acts
 pub record Unmoved (h after : List Act) : Type 0 where
@@ -38,10 +41,32 @@ pub record Unmoved (h after : List Act) : Type 0 where
 unmoved_took : (from : Option Node) (octets : List ℕ) (k : Kind) (why : Reason) (s : Option Seal) (h : List Act) → Unmoved h (Took from octets k (Refused why) s ∷ h)
 unmoved_took from octets k why s h = record { pairwise = λ p key tid. refl; group = λ p key id. refl }
 
--- the response, and the switch
+-- the look, the response, and the switch
+unmoved_response_by : (d : Domain) (n p : Node) (k : Kind) (code : Option ℕ) (h : List Act) → Unmoved h (add (response_by d n p k code) h)
+unmoved_response_by d n p kind.AssocReq (Some code) h = record { pairwise = λ q key tid. refl; group = λ q key id. refl }
+unmoved_response_by d n p kind.FtReq (Some code) h = record { pairwise = λ q key tid. refl; group = λ q key id. refl }
+unmoved_response_by d n p kind.ReReq (Some code) h = record { pairwise = λ q key tid. refl; group = λ q key id. refl }
+unmoved_response_by d n p k code h = record { pairwise = λ q key tid. refl; group = λ q key id. refl }
+
 unmoved_response : (d : Domain) (n : Node) (from : Option Node) (k : Kind) (why : Reason) (h : List Act) → Unmoved h (add (response d n from k why) h)
-unmoved_response d (Ap a) (Some p) kind.AssocReq (reason.Status code) h = record { pairwise = λ q key tid. refl; group = λ q key id. refl }
-unmoved_response d n from k _ h = record { pairwise = λ q key tid. refl; group = λ q key id. refl }
+unmoved_response d (Ap a) (Some p) k why h = unmoved_response_by d (Ap a) p k (refused_status why) h
+unmoved_response d n from k why h = record { pairwise = λ q key tid. refl; group = λ q key id. refl }
+
+unmoved_asked : (p : Node) (a : Asked) (name : Option (List ℕ)) (o : Option PullAnswer) (h : List Act) → Unmoved h (add (looked_by p a name o) h)
+unmoved_asked p a (Some name) (Some answer) h = record { pairwise = λ q key tid. refl; group = λ q key id. refl }
+unmoved_asked p a name o h = record { pairwise = λ q key tid. refl; group = λ q key id. refl }
+
+unmoved_looked : (p : Node) (a : Option Asked) (o : Option PullAnswer) (h : List Act) → Unmoved h (add (looked_for p a o) h)
+unmoved_looked p None o h = record { pairwise = λ q key tid. refl; group = λ q key id. refl }
+unmoved_looked p (Some a) o h = unmoved_asked p a (single a.names) o h
+
+unmoved_of_kind : (k : Kind) (p : Node) (e : ElementFields) (o : Option PullAnswer) (h : List Act) → Unmoved h (add (look_of_kind k p e o) h)
+unmoved_of_kind kind.FtReq p e o h = unmoved_looked p (asked e) o h
+unmoved_of_kind k p e o h = record { pairwise = λ q key tid. refl; group = λ q key id. refl }
+
+unmoved_look : (n : Node) (from : Option Node) (r : Reading) (pulled : Option PmkR1) (why : Reason) (h : List Act) → Unmoved h (add (refused_look n from r pulled why) h)
+unmoved_look (Ap a) (Some p) (Managed b e) pulled why h = unmoved_of_kind b.kind p e (look_answer why pulled) h
+unmoved_look n from r pulled why h = record { pairwise = λ q key tid. refl; group = λ q key id. refl }
 
 unmoved_switch_by : (e : Act) (h : List Act) → Unmoved h (e ∷ h) → (b : Bool) → Unmoved h (add (cond b [] (e ∷ [])) h)
 unmoved_switch_by e h more true = record { pairwise = λ p key tid. refl; group = λ p key id. refl }
@@ -60,23 +85,65 @@ unmoved_all d (Sta s) h acts w = w
 unmoved_all d (Ap a) h acts w =
     subst (λ (x : List Act). Unmoved h x) (sym (add_append acts (switch_acts d a (add acts h)) h)) (unmoved_then h (add acts h) (add (switch_acts d a (add acts h)) (add acts h)) w (unmoved_switch d a (add acts h)))
 
-refused_rows : (d : Domain) (first : ℕ) (n : Node) (h : List Act) (octets : List ℕ) (r : Reading) (facts : Facts) (why : Reason) → verdict d first n h r facts ≡ Refused why → HasRow d first n h octets r facts
-refused_rows d first n h octets r facts why refused =
-    (Took (sender d n r) octets (kind_of r) (Refused why) (refused_seal d first n h r) ∷ response d n (sender d n r) (kind_of r) why, By_refusal (record { why = why; refused = refused; says = refl }))
+unmoved_refusal : (d : Domain) (first : ℕ) (n : Node) (h : List Act) (octets : List ℕ) (r : Reading) (facts : Facts) (acts : List Act) → RefusedRow (here d first n) h octets r facts acts → Unmoved h (add acts h)
+unmoved_refusal d first n h octets r facts acts w =
+    let from : Option Node = sender d n r in
+    let took : List Act = Took from octets (kind_of r) (Refused w.why) (refused_seal d first n h r) ∷ h in
+    let look : List Act = refused_look n from r facts.pulled w.why in
+    let said : List Act = response d n from (kind_of r) w.why in
+    let behind : Unmoved took (add (look ++ said) took) = subst (λ (x : List Act). Unmoved took x) (sym (add_append look said took))
+    (unmoved_then took (add look took) (add said (add look took)) (unmoved_look n from r facts.pulled w.why took) (unmoved_response d n from (kind_of r) w.why (add look took))) in
+    subst (λ (x : List Act). Unmoved h (add x h)) (sym w.says)
+    (unmoved_then h took (add (look ++ said) took) (unmoved_took from octets (kind_of r) w.why (refused_seal d first n h r) h) behind)
 
-refused_unmoved : (d : Domain) (first : ℕ) (n : Node) (h : List Act) (octets : List ℕ) (r : Reading) (facts : Facts) (why : Reason) (g : List Act) → Reads d.akm octets r → Knows d first n h r facts → verdict d first n h r facts ≡ Refused why → Adds (here d first n) h (Take octets) g → Unmoved h (add g h)
-unfolding refused_rows
-refused_unmoved d first n h octets r facts why g reads knows refused adds =
-    let rows = refused_rows d first n h octets r facts why refused in
-    let same_acts : adds.acts ≡ rows.0 = one_take d first n h octets adds.acts rows.0 adds.row (record { r = r; reads = reads; facts = facts; knows = knows; row = rows.1 }) in
-    let took : List Act = Took (sender d n r) octets (kind_of r) (Refused why) (refused_seal d first n h r) ∷ h in
-    let w : Unmoved h (add rows.0 h) = unmoved_then h took (add rows.0 h) (unmoved_took (sender d n r) octets (kind_of r) why (refused_seal d first n h r) h) (unmoved_response d n (sender d n r) (kind_of r) why took) in
-    subst (λ (x : List Act). Unmoved h (add x h)) (sym adds.is) (unmoved_all d n h adds.acts (subst (λ (x : List Act). Unmoved h (add x h)) (sym same_acts) w))
+-- a group begins with the frame, and where that is refused it is the row of a refusal
+record Headed (h acts : List Act) : Type 0 where
+  pub from : Option Node
+  pub octets : List ℕ
+  pub k : Kind
+  pub o : Outcome
+  pub s : Option Seal
+  pub rest : List Act
+  pub is : acts ≡ Took from octets k o s ∷ rest
+  pub refused : (why : Reason) → o ≡ Refused why → Unmoved h (add acts h)
 
-pub pairwise_unmoved : (d : Domain) (first : ℕ) (n : Node) (h : List Act) (octets : List ℕ) (r : Reading) (facts : Facts) (why : Reason) (g : List Act) → Reads d.akm octets r → Knows d first n h r facts → verdict d first n h r facts ≡ Refused why → Adds (here d first n) h (Take octets) g
+headed : (h acts : List Act) (from : Option Node) (octets : List ℕ) (k : Kind) (o : Outcome) (s : Option Seal) (rest : List Act) → acts ≡ Took from octets k o s ∷ rest → ((why : Reason) → o ≡ Refused why → Unmoved h (add acts h)) → Headed h acts
+headed h acts from octets k o s rest is refused = record { from = from; octets = octets; k = k; o = o; s = s; rest = rest; is = is; refused = refused }
+
+row_headed : (d : Domain) (first : ℕ) (n : Node) (h : List Act) (octets : List ℕ) (r : Reading) (facts : Facts) (acts : List Act) → TakeRows (here d first n) h octets r facts acts → Headed h acts
+row_headed d first n h octets r facts acts (By_assoc_req w) = headed h acts _ _ _ _ _ _ w.says (λ why is. absurd (cc is))
+row_headed d first n h octets r facts acts (By_assoc_resp w) = headed h acts _ _ _ _ _ _ w.says (λ why is. absurd (cc is))
+row_headed d first n h octets r facts acts (By_m1 w) = headed h acts _ _ _ _ _ _ w.says (λ why is. absurd (cc is))
+row_headed d first n h octets r facts acts (By_m2 w) = headed h acts _ _ _ _ _ _ w.says (λ why is. absurd (cc is))
+row_headed d first n h octets r facts acts (By_m3 w) = headed h acts _ _ _ _ _ _ w.says (λ why is. absurd (cc is))
+row_headed d first n h octets r facts acts (By_repeated_m3 w) = headed h acts _ _ _ _ _ _ w.says (λ why is. absurd (cc is))
+row_headed d first n h octets r facts acts (By_m4 w) = headed h acts _ _ _ _ _ _ w.says (λ why is. absurd (cc is))
+row_headed d first n h octets r facts acts (By_g1 w) = headed h acts _ _ _ _ _ _ w.says (λ why is. absurd (cc is))
+row_headed d first n h octets r facts acts (By_g2 w) = headed h acts _ _ _ _ _ _ w.says (λ why is. absurd (cc is))
+row_headed d first n h octets r facts acts (By_ft_req w) = headed h acts _ _ _ _ _ _ w.says (λ why is. absurd (cc is))
+row_headed d first n h octets r facts acts (By_repeated_ft_req w) = headed h acts _ _ _ _ _ _ w.says (λ why is. absurd (cc is))
+row_headed d first n h octets r facts acts (By_ft_resp w) = headed h acts _ _ _ _ _ _ w.says (λ why is. absurd (cc is))
+row_headed d first n h octets r facts acts (By_re_req w) = headed h acts _ _ _ _ _ _ w.says (λ why is. absurd (cc is))
+row_headed d first n h octets r facts acts (By_repeated_re_req w) = headed h acts _ _ _ _ _ _ w.says (λ why is. absurd (cc is))
+row_headed d first n h octets r facts acts (By_re_resp w) = headed h acts _ _ _ _ _ _ w.says (λ why is. absurd (cc is))
+row_headed d first n h octets r facts acts (By_data w) = headed h acts _ _ _ _ _ _ w.says (λ why is. absurd (cc is))
+row_headed d first n h octets r facts acts (By_ignored w) = headed h acts _ _ _ _ _ _ w.says (λ why is. absurd (cc is))
+row_headed d first n h octets r facts acts (By_refusal w) = headed h acts _ _ _ _ _ _ w.says (λ why is. unmoved_refusal d first n h octets r facts acts w)
+
+after_switch : (d : Domain) (n : Node) (h : List Act) (from : Option Node) (octets : List ℕ) (k : Kind) (o : Outcome) (s : Option Seal) (rest : List Act) → outcome_of (and_switch d n h (Took from octets k o s ∷ rest)) ≡ o
+after_switch d (Sta t) h from octets k o s rest = refl
+after_switch d (Ap a) h from octets k o s rest = refl
+
+refused_unmoved : (d : Domain) (first : ℕ) (n : Node) (h : List Act) (octets : List ℕ) (why : Reason) (g : List Act) → Adds (here d first n) h (Take octets) g → outcome_of g ≡ Refused why → Unmoved h (add g h)
+refused_unmoved d first n h octets why g adds is =
+    let w = row_headed d first n h octets adds.row.r adds.row.facts adds.acts adds.row.row in
+    let o : w.o ≡ Refused why = sym (after_switch d n h w.from w.octets w.k w.o w.s w.rest) ∙ sym (ap (λ (x : List Act). outcome_of (and_switch d n h x)) w.is) ∙ sym (ap outcome_of adds.is) ∙ is in
+    subst (λ (x : List Act). Unmoved h (add x h)) (sym adds.is) (unmoved_all d n h adds.acts (w.refused why o))
+
+pub pairwise_unmoved : (d : Domain) (first : ℕ) (n : Node) (h : List Act) (octets : List ℕ) (why : Reason) (g : List Act) → Adds (here d first n) h (Take octets) g → outcome_of g ≡ Refused why
     → (p : Node) (key : List ℕ) (tid : ℕ) → pairwise_got p key tid (add g h) ≡ pairwise_got p key tid h
-pairwise_unmoved d first n h octets r facts why g reads knows refused adds = (refused_unmoved d first n h octets r facts why g reads knows refused adds).pairwise
+pairwise_unmoved d first n h octets why g adds is = (refused_unmoved d first n h octets why g adds is).pairwise
 
-pub group_unmoved : (d : Domain) (first : ℕ) (n : Node) (h : List Act) (octets : List ℕ) (r : Reading) (facts : Facts) (why : Reason) (g : List Act) → Reads d.akm octets r → Knows d first n h r facts → Adds (here d first n) h (Take octets) g → verdict d first n h r facts ≡ Refused why
+pub group_unmoved : (d : Domain) (first : ℕ) (n : Node) (h : List Act) (octets : List ℕ) (why : Reason) (g : List Act) → Adds (here d first n) h (Take octets) g → outcome_of g ≡ Refused why
     → (p : Node) (key : List ℕ) (id : ℕ) → got groups.Gtk p key id (add g h) ≡ got groups.Gtk p key id h
-group_unmoved d first n h octets r facts why g reads knows adds refused = (refused_unmoved d first n h octets r facts why g reads knows refused adds).group
+group_unmoved d first n h octets why g adds is = (refused_unmoved d first n h octets why g adds is).group

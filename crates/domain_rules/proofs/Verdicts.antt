@@ -22,18 +22,18 @@ use Rattle.run_journal.specs.declared.acts.Outcome.TheVariants.{Accepted, Refuse
 use Rattle.run_journal.specs.declared.acts.Act.{Act}
 use Rattle.run_journal.specs.Questions.{attempt, chain, own_nonce, draws}
 use Rattle.air_frame.specs.Fields.{HeaderFields}
-use Rattle.domain_rules.specs.Network.{inputs, peer_of, bssid, direction, goes_like, root}
+use Rattle.domain_rules.specs.Network.{inputs, peer_of, bssid, direction, goes_like, r0kh_id, root_at}
 use Rattle.domain_rules.specs.Reading.{Management, KeyMessage, Managed, Keyed}
 use Rattle.domain_rules.specs.Asking.{by_connect, has_heard, kept_counter, offered, greatest, above, among, verified}
-use Rattle.domain_rules.specs.Associating.{rsne_status, assoc_resp_verdict, management_verdict}
+use Rattle.domain_rules.specs.Associating.{rsne_status, response_fields, assoc_resp_verdict, management_verdict}
 use Rattle.domain_rules.specs.StationKeys.{m1_verdict}
 use Rattle.domain_rules.specs.AccessPointKeys.{m2_verdict}
 use Rattle.domain_rules.specs.Verdict.{first_verdict, is_mine, management_sender, key_verdict}
 
 -- ---- without an attempt nothing of it is awaited
 
-pub unawaited-assoc_resp : (h : List Act) (p : Node) (b : Management) → attempt p h ≡ None → assoc_resp_verdict h p b ≡ Refused reason.Unawaited
-unawaited-assoc_resp h p b s = rw s refl
+pub unawaited-assoc_resp : (d : Domain) (h : List Act) (p : Node) (b : Management) (e : ElementFields) → attempt p h ≡ None → assoc_resp_verdict d h p b e ≡ Refused reason.Unawaited
+unawaited-assoc_resp d h p b e s = rw s refl
 
 pub unawaited-m1 : (h : List Act) (p : Node) (k : KeyMessage) → attempt p h ≡ None → m1_verdict h p k ≡ Refused reason.Unawaited
 unawaited-m1 h p k s = rw s refl
@@ -43,9 +43,9 @@ unawaited-m2 d n h p k s = rw s refl
 
 -- ---- in an attempt by connect
 
-pub assoc_resp-in : (h : List Act) (p : Node) (b : Management) (part : List Act) (associated : Bool) → attempt p h ≡ Some part → by_connect part ≡ true → has_heard p kind.AssocResp part ≡ associated
-    → assoc_resp_verdict h p b ≡ (if associated then Refused reason.Unawaited else if b.status == 0 then Accepted else Refused (reason.Status b.status))
-assoc_resp-in h p b part associated s begun heard = rw (s, begun, heard) refl
+pub assoc_resp-in : (d : Domain) (h : List Act) (p : Node) (b : Management) (e : ElementFields) (part : List Act) (associated : Bool) → attempt p h ≡ Some part → by_connect part ≡ true → has_heard p kind.AssocResp part ≡ associated
+    → assoc_resp_verdict d h p b e ≡ (if associated then Refused reason.Unawaited else if b.status == 0 then response_fields d.akm d p e else Refused (reason.Status b.status))
+assoc_resp-in d h p b e part associated s begun heard = rw (s, begun, heard) refl
 
 pub m1-in : (h : List Act) (p : Node) (k : KeyMessage) (part : List Act) (associated : Bool) (kept : Option ℕ) → attempt p h ≡ Some part → by_connect part ≡ true → has_heard p kind.AssocResp part ≡ associated → kept_counter p (chain p h) ≡ kept
     → m1_verdict h p k ≡ (if not associated then Refused reason.Unawaited else above kept k.fields.counter Accepted)
@@ -53,7 +53,7 @@ m1-in h p k part associated kept s begun heard counter = rw (s, begun, heard, co
 
 pub m2-in : (d : Domain) (n : Node) (h : List Act) (p : Node) (k : KeyMessage) (part : List Act) (answered : Bool) (counters : List ℕ) (nonce : List ℕ)
     → attempt p h ≡ Some part → by_connect part ≡ true → has_heard p (kind.Key M2) part ≡ answered → offered p M1 part ≡ counters → own_nonce part ≡ Some nonce
-    → m2_verdict d n h p k ≡ (if answered then Refused reason.Unawaited else among counters k.fields.counter (verified d.akm (ptk (inputs d (root d) n p nonce k.fields.nonce)).kck k Accepted))
+    → m2_verdict d n h p k ≡ (if answered then Refused reason.Unawaited else among counters k.fields.counter (verified d.akm (ptk (inputs d (root_at d (r0kh_id d n)) n p nonce k.fields.nonce)).kck k Accepted))
 m2-in d n h p k part answered counters nonce s begun heard offers drawn = rw (s, begun, heard, offers, drawn) refl
 
 -- ---- the tests

@@ -15,19 +15,19 @@ use Rattle.run_journal.specs.declared.acts.Act.{Act}
 use Rattle.run_journal.specs.Acts.{Derivation}
 use Rattle.run_journal.specs.GroupKinds as groups
 use Rattle.run_journal.specs.Questions.{attempt, derivation, heard, handshake}
-use Rattle.domain_rules.specs.Network.{root, inputs}
+use Rattle.domain_rules.specs.Network.{r0kh_id, root_at, inputs}
 use Rattle.domain_rules.specs.Reading.{Management, KeyMessage, Managed, Reads}
 use Rattle.domain_rules.specs.Facts.{Facts, is_same, ReadsKeyData}
 use Rattle.domain_rules.specs.Owing.{owing}
 use Rattle.domain_rules.specs.Asking.{offered, by_connect, has_heard, own, in_attempt, among, verified}
 
--- M2 at an access point, as far as its fields and the history decide
+-- M2 at an access point, as far as its fields and the history decide. With suite 4 the access point is the R0KH
 abbrev pub m2_verdict : Domain → Node → List Act → Node → KeyMessage → Outcome
 m2_verdict d n h p k =
     in_attempt (attempt p h) (λ part. (
     if not (by_connect part) || has_heard p (kind.Key M2) part then Refused reason.Unawaited
     else among (offered p M1 part) k.fields.counter
-    (verified d.akm (ptk (inputs d (root d) n p (own part) k.fields.nonce)).kck k Accepted)))
+    (verified d.akm (ptk (inputs d (root_at d (r0kh_id d n)) n p (own part) k.fields.nonce)).kck k Accepted)))
 
 -- the key derived last in an attempt by connect in which M2 was accepted
 abbrev pub m4_keying : Node → List Act → Option Derivation

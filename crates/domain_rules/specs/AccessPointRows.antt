@@ -22,7 +22,7 @@ use Rattle.run_journal.specs.declared.acts.Act.{Act}
 use Rattle.run_journal.specs.declared.acts.Act.TheVariants.{Opened, Closed, Drew, Derived, Took, Installed, Finished, GaveUp, Idle}
 use Rattle.run_journal.specs.Questions.{attempt, chain, derivation, session, before_sent, handshake, draws, add}
 use Rattle.run_journal.specs.Acts.{Derivation}
-use Rattle.domain_rules.specs.Network.{mac, gtk, root, inputs, is_ap, draw_end}
+use Rattle.domain_rules.specs.Network.{mac, gtk, r0kh_id, root_at, inputs, is_ap, draw_end}
 use Rattle.domain_rules.specs.Reading.{Management, KeyMessage, Reading, Managed, Keyed}
 use Rattle.domain_rules.specs.Frames.{sent_assoc_resp, sent_m1, sent_m3, sent_g1, frame_seal, keyed_by}
 use Rattle.domain_rules.specs.Facts.{Facts}
@@ -32,6 +32,7 @@ use Rattle.domain_rules.specs.Asking.{own, by_connect, has_heard}
 use Rattle.domain_rules.specs.Counters.{sent_count, next_in_attempt, next_in_session}
 use Rattle.domain_rules.specs.GroupKeys.{newest, newest_uses, is_current}
 use Rattle.domain_rules.specs.Owing.{owing, is_older}
+use Rattle.domain_rules.specs.KeyHolders.{put_acts}
 use Rattle.run_journal.specs.GroupKinds as groups
 use Rattle.domain_rules.specs.Closing.{close_attempt, close_session, or_nothing, next_nonce, sender}
 use Rattle.domain_rules.specs.Here.{Here}
@@ -59,7 +60,7 @@ pub record M2Row (w : Here) (h : List Act) (octets : List ℕ) (r : Reading) (fa
   pub part : List Act
   pub awaited : attempt p h ≡ Some part
   pub i : Inputs
-  pub inputs_are : i ≡ inputs w.domain (root w.domain) w.node p (own part) k.fields.nonce
+  pub inputs_are : i ≡ inputs w.domain (root_at w.domain (r0kh_id w.domain w.node)) w.node p (own part) k.fields.nonce
   pub says : g ≡ Took (Some p) octets (kind.Key M2) Accepted (Some (frame_seal (ptk i).kck k.octets)) ∷ Derived p i (ptk i)
       ∷ sent_m3 w.domain w.node p (keyed_by i) (next_in_attempt p (chain p h)) (newest groups.Gtk h) (newest_uses groups.Gtk h) ∷ []
 
@@ -72,18 +73,18 @@ abbrev pub carried_older : Node → List Act → Option (List Act) → Bool
 carried_older p h None = false
 carried_older p h (Some past) = is_older groups.Gtk past h
 
--- the acts by which an access point takes M4 and installs the pairwise key
-abbrev pub m4_acts : List ℕ → KeyMessage → Node → Derivation → Option Derivation → List Act
-m4_acts octets k p x old =
+-- the acts by which an access point takes M4 and installs the pairwise key, and what it puts with its key holder
+abbrev pub m4_acts : List ℕ → KeyMessage → Node → Derivation → Option Derivation → List Act → List Act
+m4_acts octets k p x old put =
     Took (Some p) octets (kind.Key M4) Accepted (Some (frame_seal x.ptk.kck k.octets)) ∷ close_session p old
-    ++ Installed (One p) (Pairwise x.ptk.tk x.inputs) ∷ Finished p x.inputs ∷ []
+    ++ Installed (One p) (Pairwise x.ptk.tk x.inputs) ∷ Finished p x.inputs ∷ put
 
 -- after these acts G1 follows, where M3 carried an older group key
 abbrev pub newer_acts : Domain → Node → Node → List Act → Derivation → Bool → List Act
 newer_acts d n p after x false = []
 newer_acts d n p after x true = g1_to d n p after x ∷ []
 
--- an access point installs the pairwise key by M4, in place of the one in use, and sends G1 where M3 carried an older group key
+-- an access point installs the pairwise key by M4, in place of the one in use, with suite 4 puts the PMK-R0, and sends G1 where M3 carried an older group key
 pub record M4Row (w : Here) (h : List Act) (octets : List ℕ) (r : Reading) (facts : Facts) (g : List Act) : Type 0 where
   pub k : KeyMessage
   pub is : r ≡ Keyed k
@@ -95,8 +96,9 @@ pub record M4Row (w : Here) (h : List Act) (octets : List ℕ) (r : Reading) (fa
   pub awaited : attempt p h ≡ Some part
   pub x : Derivation
   pub keyed : m4_keying p part ≡ Some x
-  pub says : g ≡ m4_acts octets k p x (session p h)
-      ++ newer_acts w.domain w.node p (add (m4_acts octets k p x (session p h)) h) x (carried_older p h (before_sent p (kind.Key M3) h))
+  pub says : g ≡ m4_acts octets k p x (session p h) (put_acts w.domain w.node h p x)
+      ++ newer_acts w.domain w.node p (add (m4_acts octets k p x (session p h) (put_acts w.domain w.node h p x)) h) x
+      (carried_older p h (before_sent p (kind.Key M3) h))
 
 -- an access point takes the answer to the group key handshake
 pub record G2Row (w : Here) (h : List Act) (octets : List ℕ) (r : Reading) (facts : Facts) (g : List Act) : Type 0 where
@@ -112,7 +114,7 @@ pub record G2Row (w : Here) (h : List Act) (octets : List ℕ) (r : Reading) (fa
 
 -- what the MIC of M2, M4 and G2 covers, under the key by which the message is judged
 abbrev pub m2_seal : Domain → Node → List Act → KeyMessage → Node → Option Seal
-m2_seal d n h k p = option_map (λ (part : List Act). frame_seal (ptk (inputs d (root d) n p (own part) k.fields.nonce)).kck k.octets) (attempt p h)
+m2_seal d n h k p = option_map (λ (part : List Act). frame_seal (ptk (inputs d (root_at d (r0kh_id d n)) n p (own part) k.fields.nonce)).kck k.octets) (attempt p h)
 
 abbrev pub m4_seal : List Act → KeyMessage → Node → Option Seal
 m4_seal h k p = option_map (λ (x : Derivation). frame_seal x.ptk.kck k.octets) (option_and_then (λ (part : List Act). m4_keying p part) (attempt p h))

@@ -4,7 +4,7 @@ use Rattle.domain_base.specs.declared.names.Node.{Node}
 use Rattle.domain_base.specs.declared.names.Node.TheVariants.{Ap, Sta}
 use Rattle.run_journal.specs.declared.domain.Domain.{Domain}
 use Rattle.run_journal.specs.declared.domain.Event.{Event}
-use Rattle.run_journal.specs.declared.domain.Event.TheVariants.{Connect, Deliver, Alter, Cut, Inject, Retry, Rekey, Send, Expire, Leave}
+use Rattle.run_journal.specs.declared.domain.Event.TheVariants.{Connect, Roam, Deliver, Alter, Cut, Inject, Retry, Rekey, Send, Expire, Revoke, Leave}
 use Rattle.run_journal.specs.declared.acts.Act.{Act}
 use Rattle.run_journal.specs.declared.acts.Act.TheVariants.{Sent}
 use Rattle.domain_base.specs.declared.names.Peer.{Peer}
@@ -17,6 +17,7 @@ use Rattle.run_journal.specs.Premises.{In}
 use Rattle.domain_rules.specs.Rows.{NodeEvent, Take, Begin, Adds}
 use Rattle.domain_rules.specs.AccessPointRows.{start_acts}
 use Rattle.domain_rules.specs.Rows as again
+use Rattle.domain_rules.specs.Rounds.{by_nodes}
 use Rattle.domain_rules.specs.Here.{here}
 
 -- how many frames were sent
@@ -48,6 +49,7 @@ altered place mask octets = take place octets ++ bit_xor (slice_index octets pla
 -- what an event is at one node, in that round after that journal
 abbrev pub HappensAt : Event → List Entry → ℕ → Node → NodeEvent → Type 0
 HappensAt (Connect s a) past round n event = (n ≡ Sta s) × (event ≡ Begin a)
+HappensAt (Roam s a) past round n event = (n ≡ Sta s) × (event ≡ again.Roam a)
 HappensAt (Deliver number to) past round n event = (octets : List ℕ) × (WasSent past round number octets × ((n ≡ to) × (event ≡ Take octets)))
 HappensAt (Alter number place mask to) past round n event = (octets : List ℕ) × (WasSent past round number octets × ((n ≡ to) × (event ≡ Take (altered place mask octets))))
 HappensAt (Cut number size to) past round n event = (octets : List ℕ) × (WasSent past round number octets × ((n ≡ to) × (event ≡ Take (take size octets))))
@@ -56,6 +58,7 @@ HappensAt (Retry a s) past round n event = (n ≡ Ap a) × (event ≡ again.Retr
 HappensAt (Rekey a) past round n event = (n ≡ Ap a) × (event ≡ again.Rekey)
 HappensAt (Send from to tid octets) past round n event = (n ≡ from) × (event ≡ again.Send to tid octets)
 HappensAt (Expire a s) past round n event = (n ≡ Ap a) × (event ≡ again.Expire s)
+HappensAt (Revoke a s) past round n event = (n ≡ Ap a) × (event ≡ again.Revoke s)
 HappensAt (Leave s) past round n event = (n ≡ Sta s) × (event ≡ again.Leave)
 
 -- a node, and what an event is to it
@@ -79,8 +82,7 @@ pub record Step (d : Domain) (round : ℕ) (event : Event) (old new : List Entry
   pub happens : Happens event old round places
   pub adds : AddsAll d round places old new
 
--- the events of a round, one after the other, in the order of the list, at whichever nodes they are. Today every round of a
--- script has one event
+-- events one after the other, in the order of the list, at whichever nodes they are
 abbrev pub Follows : Domain → ℕ → List Event → List Entry → List Entry → Type 0
 Follows d round [] old new = new ≡ old
 Follows d round (event ∷ events) old new = (mid : List Entry) × (Step d round event old mid × Follows d round events mid new)
@@ -90,8 +92,8 @@ unfoldable pub started : Domain → ℕ → List Entry
 started d zero = []
 started d (suc k) = push 0 (Ap k) (start_acts d 0 (Ap k)) (started d k)
 
--- the journal of these rounds, the last first; each has its events in order. The rows are those of suites 2 and 6. Those of
--- suite 4 come later: a network with it is not excluded, and what this says of one is not yet what its nodes are to do
+-- The journal of these rounds, the last first. The events of a round come by the nodes at which they are, access points before stations,
+-- each node's in the order of the list; what each node does is told by its own history, but for the answers of key holders.
 unfoldable pub Explained : Domain → List (List Event) → List Entry → Type 0
 Explained d [] j = j ≡ started d (length d.aps)
-Explained d (round ∷ rounds) j = (old : List Entry) × (Explained d rounds old × Follows d (suc (length rounds)) round old j)
+Explained d (round ∷ rounds) j = (old : List Entry) × (Explained d rounds old × Follows d (suc (length rounds)) (by_nodes round) old j)

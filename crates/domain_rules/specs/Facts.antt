@@ -6,15 +6,20 @@ use Rattle.rsn_elements.specs.Elements.{ElementFields, SpellsElements}
 use Rattle.rsn_elements.specs.Faults.{HasElementFault}
 use Rattle.domain_base.specs.Octets.{AreOctets}
 use Rattle.key_wrap.specs.KeyWrap.{Wraps}
+use Rattle.key_hierarchy.specs.declared.fast_transition.PmkR1.{PmkR1}
 
 -- what reading further tells of a message, beside its fields and the history
 pub record Facts : Type 0 where
   -- what the association request says
   pub requested : Option ElementFields
+  -- with suite 4, what the association response says
+  pub responded : Option ElementFields
   -- the key data without its wrap, where it has one
   pub unwrapped : Option (List ℕ)
   -- what the plain key data says, where it can be read
   pub data_ : Option ElementFields
+  -- the PMK-R1 that the key holder gave, where it was asked and gave one
+  pub pulled : Option PmkR1
   -- the payload of protected data, where its seal verifies
   pub opened : Option (List ℕ)
 

@@ -1,11 +1,13 @@
 -- Every octet of the frames that nodes send (IEEE Std 802.11-2020, 9.3, 9.4.2 and 12.7.6; order and choice of elements
 -- are this project's).
 use Rattle.std.specs.Prelude.{ℕ, suc, ◌+◌, List, [], ◌∷◌, ◌++◌, Some, None}
+use Rattle.domain_base.specs.declared.names.Akm.{Akm}
+use Rattle.domain_base.specs.declared.names.Akm.TheVariants.{FtPsk}
 use Rattle.domain_base.specs.declared.names.Node.{Node}
 use Rattle.domain_base.specs.declared.names.Node.TheVariants.{Ap, Sta}
 use Rattle.domain_base.specs.declared.names.Peer.TheVariants.{One}
 use Rattle.air_frame.specs.Sent.{assoc_req_octets, assoc_resp_octets, eapol_data_octets}
-use Rattle.rsn_elements.specs.Sent.{ssid_octets, rates_octets, rsne_octets, gtk_kde_octets}
+use Rattle.rsn_elements.specs.Sent.{ssid_octets, rates_octets, rsne_octets, mde_octets, fte_octets, timeout_octets, gtk_kde_octets}
 use Rattle.key_wrap.specs.KeyWrap.{last_registers}
 use Rattle.mac_prf.specs.Mic.{without_mic}
 use Rattle.eapol_key.specs.declared.messages.Message.{Message}
@@ -23,10 +25,15 @@ use Rattle.run_journal.specs.declared.acts.Act.{Act}
 use Rattle.run_journal.specs.declared.acts.Act.TheVariants.{Sent}
 use Rattle.run_journal.specs.Acts.{GroupKey, Derivation}
 use Rattle.domain_rules.specs.Network.{address, bssid, direction}
+use Rattle.domain_rules.specs.FastTransition.{r1_name, assoc_fte}
 
--- SSID, rates, RSNE
+-- SSID, rates, RSNE; with suite 4 the MDE too (13.4.2)
+abbrev pub assoc_req_elements_by : Akm → Domain → List ℕ
+assoc_req_elements_by FtPsk d = ssid_octets d.ssid ++ rates_octets ++ rsne_octets d.akm None ++ mde_octets d.mdid
+assoc_req_elements_by _ d = ssid_octets d.ssid ++ rates_octets ++ rsne_octets d.akm None
+
 abbrev pub assoc_req_elements : Domain → List ℕ
-assoc_req_elements d = ssid_octets d.ssid ++ rates_octets ++ rsne_octets d.akm None
+assoc_req_elements d = assoc_req_elements_by d.akm d
 
 -- from station n to access point p
 abbrev pub sent_assoc_req : Domain → Node → Node → Act
@@ -37,9 +44,17 @@ abbrev pub aid : Node → ℕ
 aid (Ap k) = 0
 aid (Sta k) = 49152 + suc k
 
--- from access point n to station p: with status 0 its AID and rates
+-- rates; with suite 4 the MDE and the FTE too (13.4.2)
+abbrev pub assoc_resp_elements_by : Akm → Domain → Node → List ℕ
+assoc_resp_elements_by FtPsk d n = rates_octets ++ mde_octets d.mdid ++ fte_octets (assoc_fte d n)
+assoc_resp_elements_by _ d n = rates_octets
+
+abbrev pub assoc_resp_elements : Domain → Node → List ℕ
+assoc_resp_elements d n = assoc_resp_elements_by d.akm d n
+
+-- from access point n to station p: with status 0 its AID and elements
 abbrev pub sent_assoc_resp : Domain → Node → Node → Act
-sent_assoc_resp d n p = Sent (One p) kind.AssocResp (assoc_resp_octets (address d p) (address d n) (address d n) 0 (aid p) rates_octets) None
+sent_assoc_resp d n p = Sent (One p) kind.AssocResp (assoc_resp_octets (address d p) (address d n) (address d n) 0 (aid p) (assoc_resp_elements d n)) None
 
 -- with another status neither
 abbrev pub sent_refusal : Domain → Node → Node → ℕ → Act
@@ -64,28 +79,44 @@ sent_m1 d n p counter anonce = Sent (One p) (kind.Key M1) (in_data d n p (frame_
 abbrev pub keyed_by : Inputs → Derivation
 keyed_by i = record { inputs = i; ptk = ptk i }
 
--- M2, under a derived key: the RSNE as in the association request
-abbrev pub m2_frame : Domain → Derivation → ℕ → List ℕ
-m2_frame d x counter = sealed d.akm x.ptk.kck (frame_octets (sent_fields M2 d.akm counter x.inputs.snonce 0 (rsne_octets d.akm None)))
+-- the key data of M2: the RSNE as in the association request; with suite 4 the RSNE with PMKR1Name, the MDE, and the FTE of the
+-- association response (13.4.2)
+abbrev pub sent_m2_key_data : Akm → Domain → Derivation → List ℕ → List ℕ
+sent_m2_key_data FtPsk d x fte = rsne_octets d.akm (Some (r1_name x.inputs)) ++ mde_octets d.mdid ++ fte
+sent_m2_key_data _ d x fte = rsne_octets d.akm None
 
-abbrev pub sent_m2 : Domain → Node → Node → Derivation → ℕ → Act
-sent_m2 d n p x counter = sent_sealed d n p M2 x.ptk.kck (m2_frame d x counter)
+-- M2, under a derived key
+abbrev pub m2_frame : Domain → Derivation → ℕ → List ℕ → List ℕ
+m2_frame d x counter fte = sealed d.akm x.ptk.kck (frame_octets (sent_fields M2 d.akm counter x.inputs.snonce 0 (sent_m2_key_data d.akm d x fte)))
+
+abbrev pub sent_m2 : Domain → Node → Node → Derivation → ℕ → List ℕ → Act
+sent_m2 d n p x counter fte = sent_sealed d n p M2 x.ptk.kck (m2_frame d x counter fte)
 
 -- key data under key wrap (RFC 3394)
 abbrev pub wrapped : List ℕ → List ℕ → List ℕ
 wrapped kek plain = (last_registers kek plain).check ++ (last_registers kek plain).blocks
 
--- the key data of M3: the RSNE as in the association request, and the group key, padded
-abbrev pub m3_key_data : Domain → GroupKey → List ℕ
-m3_key_data d g = padded (rsne_octets d.akm None ++ gtk_kde_octets g.id g.key)
+-- the deadline for a reassociation and the lifetime of the key, in milliseconds and seconds (9.4.2.48): written, and looked at by none
+abbrev pub timeouts : List ℕ
+timeouts = timeout_octets 1 1000 ++ timeout_octets 2 86400
+
+-- the key data of M3 from access point n: the RSNE as in the association request, and the group key, padded; with suite 4 the RSNE with
+-- PMKR1Name, the MDE, the group key, the FTE of the association response, and both timeouts (13.4.2)
+abbrev pub m3_key_data_by : Akm → Domain → Node → Derivation → GroupKey → List ℕ
+m3_key_data_by FtPsk d n x g =
+    padded (rsne_octets d.akm (Some (r1_name x.inputs)) ++ mde_octets d.mdid ++ gtk_kde_octets g.id g.key ++ fte_octets (assoc_fte d n) ++ timeouts)
+m3_key_data_by _ d n x g = padded (rsne_octets d.akm None ++ gtk_kde_octets g.id g.key)
+
+abbrev pub m3_key_data : Domain → Node → Derivation → GroupKey → List ℕ
+m3_key_data d n x g = m3_key_data_by d.akm d n x g
 
 -- M3, with a group key and the count of packet numbers that were used under it
-abbrev pub m3_frame : Domain → Derivation → ℕ → GroupKey → ℕ → List ℕ
-m3_frame d x counter g rsc =
-    sealed d.akm x.ptk.kck (frame_octets (sent_fields M3 d.akm counter x.inputs.anonce rsc (wrapped x.ptk.kek (m3_key_data d g))))
+abbrev pub m3_frame : Domain → Node → Derivation → ℕ → GroupKey → ℕ → List ℕ
+m3_frame d n x counter g rsc =
+    sealed d.akm x.ptk.kck (frame_octets (sent_fields M3 d.akm counter x.inputs.anonce rsc (wrapped x.ptk.kek (m3_key_data d n x g))))
 
 abbrev pub sent_m3 : Domain → Node → Node → Derivation → ℕ → GroupKey → ℕ → Act
-sent_m3 d n p x counter g rsc = sent_sealed d n p M3 x.ptk.kck (m3_frame d x counter g rsc)
+sent_m3 d n p x counter g rsc = sent_sealed d n p M3 x.ptk.kck (m3_frame d n x counter g rsc)
 
 -- M4
 abbrev pub m4_frame : Domain → Derivation → ℕ → List ℕ

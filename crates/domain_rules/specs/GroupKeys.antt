@@ -1,6 +1,6 @@
 -- The group keys of access points and stations (IEEE Std 802.11-2020, 12.7.7; the key ids and how many a station keeps are
 -- this project's choice).
-use Rattle.std.specs.Prelude.{ℕ, suc, ◌+◌, ◌%◌, ◌==◌, max, Bool, ◌&&◌, cond, List, [], ◌∷◌, ◌++◌, length, take, Option, Some, None, bytes_eq}
+use Rattle.std.specs.Prelude.{ℕ, zero, suc, ◌+◌, ◌%◌, ◌==◌, max, Bool, ◌&&◌, cond, List, [], ◌∷◌, ◌++◌, length, take, drop, slice_index, Option, Some, None, bytes_eq}
 use Rattle.std.specs.Int.{w64, from_le_bytes}
 use Rattle.domain_base.specs.Places.{part}
 use Rattle.air_frame.specs.Control.{data_header_length}
@@ -62,6 +62,24 @@ rsc_in octets = from_le_bytes w64 (part (data_header_length octets + 73) 6 octet
 abbrev pub told_in : GroupKind → List ℕ → ℕ
 told_in groups.Gtk octets = rsc_in octets
 
+-- the body of the first element with that id among octets of which so many are to be passed over (9.4.2.1)
+abbrev pub body_of : ℕ → ℕ → List ℕ → List ℕ
+body_of id skip [] = []
+body_of id (suc skip) (x ∷ octets) = body_of id skip octets
+body_of id zero (x ∷ octets) = cond (x == id) (take (slice_index octets 0) (drop 1 octets)) (body_of id (suc (slice_index octets 0)) octets)
+
+-- the packet number that a reassociation response tells of the group key: the RSC in the GTK subelement of its FTE, six octets, the
+-- lowest first (9.4.2.47). Its elements stand behind 30 octets, the subelements of an FTE behind 82
+abbrev pub rsc_in_response : List ℕ → ℕ
+rsc_in_response octets = from_le_bytes w64 (part 3 6 (body_of 2 0 (drop 82 (body_of 0x37 0 (drop 30 octets)))) ++ 0 ∷ 0 ∷ [])
+
+abbrev pub told_in_response : GroupKind → List ℕ → ℕ
+told_in_response groups.Gtk octets = rsc_in_response octets
+
+abbrev pub told_by_response : GroupKind → Option (List ℕ) → ℕ → ℕ
+told_by_response kind None before = before
+told_by_response kind (Some octets) before = told_in_response kind octets
+
 abbrev pub told_by : GroupKind → Option (List ℕ) → ℕ → ℕ
 told_by kind None before = before
 told_by kind (Some octets) before = told_in kind octets
@@ -69,7 +87,9 @@ told_by kind (Some octets) before = told_in kind octets
 -- what the last frame that was accepted from p and carries a group key of that kind told
 abbrev pub told : GroupKind → Node → List Act → ℕ
 told kind p [] = 0
-told kind p (e ∷ h) = told_by kind (accepted p (frame_kind.Key M3) e) (told_by kind (accepted p (frame_kind.Key G1) e) (told kind p h))
+told kind p (e ∷ h) =
+    told_by kind (accepted p (frame_kind.Key M3) e)
+    (told_by kind (accepted p (frame_kind.Key G1) e) (told_by_response kind (accepted p frame_kind.ReResp e) (told kind p h)))
 
 abbrev pub is_key : Node → List ℕ → ℕ → Node → List ℕ → ℕ → Bool
 is_key p key id q k i = same p q && bytes_eq key k && (id == i)

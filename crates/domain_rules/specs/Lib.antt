@@ -4,6 +4,10 @@ pub mod Reading
 pub mod Frames
 pub mod Asking
 pub mod Facts
+pub mod Suites
+pub mod FastTransition
+pub mod TransitionFrames
+pub mod TransitionKeys
 pub mod GroupKeys
 pub mod PacketNumbers
 pub mod DataFrames
@@ -11,6 +15,7 @@ pub mod DataVerdict
 pub mod Associating
 pub mod AccessPointKeys
 pub mod StationKeys
+pub mod TransitionKeyData
 pub mod Verdict
 pub mod Verified
 pub mod Counters
@@ -18,10 +23,14 @@ pub mod Owing
 pub mod Closing
 pub mod StationRows
 pub mod AccessPointRows
+pub mod KeyHolders
+pub mod TransitionRows
 pub mod DataRows
 pub mod Rows
 pub mod Replies
 pub mod Ended
+pub mod Rounds
 pub mod Explained
+pub mod HeldRight
 pub mod Example
 pub mod DataExample

@@ -2,6 +2,8 @@
 use Rattle.std.specs.Prelude.{ℕ, ◌≡◌, ◌≢◌, ◌<◌, ◌≤◌, ◌%◌, Bool, true, false, List, [], ◌∷◌, ◌++◌, length, slice_index, Option, option_map, unwrap_or, slice_get, position, bytes_eq, codes}
 use Rattle.std.specs.List.{AllByRecursion}
 use Rattle.std.specs.Int.{w64, to_be_bytes}
+use Rattle.domain_base.specs.declared.names.Akm.{Akm}
+use Rattle.domain_base.specs.declared.names.Akm.TheVariants.{FtPsk}
 use Rattle.domain_base.specs.declared.names.Mac.{Mac}
 use Rattle.domain_base.specs.declared.names.Node.{Node}
 use Rattle.domain_base.specs.declared.names.Node.TheVariants.{Ap, Sta}
@@ -58,23 +60,40 @@ gtk d n i = kdf d.seed (codes "Group key expansion") (address d n ++ to_be_bytes
 abbrev pub draw_end : ℕ
 draw_end = 1152921504606846976
 
--- what the pairwise keys of a station go back to: its pre-shared key, and the R0KH-ID of its first association
+-- the R0KH-ID of an access point
+abbrev pub r0kh_id : Domain → Node → List ℕ
+r0kh_id d (Ap k) = unwrap_or (option_map (λ (a : ListedAp). a.r0kh_id) (slice_get d.aps k)) []
+r0kh_id d (Sta k) = []
+
+-- the first listed access point that has this R0KH-ID
+abbrev pub holder_of : Domain → List ℕ → Option Node
+holder_of d id = option_map (λ i. Ap i) (position (λ (a : ListedAp). bytes_eq a.r0kh_id id) d.aps)
+
+-- what the pairwise keys of a station go back to: its pre-shared key, its mobility domain, and the R0KH-ID of its first association
 pub record Root : Type 0 where
   pub psk : List ℕ
+  pub mdid : List ℕ
   pub r0kh_id : List ℕ
 
--- with suites 2 and 6: the network's pre-shared key, and no R0KH-ID
+-- with suites 2 and 6: the network's pre-shared key, and neither mobility domain nor R0KH-ID
 abbrev pub root : Domain → Root
-root d = record { psk = d.psk; r0kh_id = [] }
+root d = record { psk = d.psk; mdid = 0 ∷ 0 ∷ []; r0kh_id = [] }
 
--- what the pairwise key of a node with its peer is made of, by its root, its own nonce and the other's, with suites 2 and 6. The
--- rows of suite 4 come later, and with them its mobility domain: of a network with suite 4 this does not speak yet
+-- with suite 4 the network's mobility domain and an R0KH-ID too (IEEE Std 802.11-2020, 12.7.1.6.3)
+abbrev pub root_by : Akm → Domain → List ℕ → Root
+root_by FtPsk d id = record { psk = d.psk; mdid = d.mdid; r0kh_id = id }
+root_by _ d id = root d
+
+abbrev pub root_at : Domain → List ℕ → Root
+root_at d id = root_by d.akm d id
+
+-- what the pairwise key of a node with its peer is made of, by its root, its own nonce and the other's
 abbrev pub inputs : Domain → Root → Node → Node → List ℕ → List ℕ → Inputs
 inputs d r (Ap k) p own other = record {
   akm = d.akm;
   psk = r.psk;
   ssid = d.ssid;
-  mdid = 0 ∷ 0 ∷ [];
+  mdid = r.mdid;
   r0kh_id = r.r0kh_id;
   aa = mac d (Ap k);
   spa = mac d p;
@@ -85,7 +104,7 @@ inputs d r (Sta k) p own other = record {
   akm = d.akm;
   psk = r.psk;
   ssid = d.ssid;
-  mdid = 0 ∷ 0 ∷ [];
+  mdid = r.mdid;
   r0kh_id = r.r0kh_id;
   aa = mac d p;
   spa = mac d (Sta k);

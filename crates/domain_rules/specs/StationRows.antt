@@ -1,6 +1,6 @@
 -- What one event adds to the history of a station: its acts, in order. A record for each row of the tables of events and of
 -- awaited messages; the acts stand last.
-use Rattle.std.specs.Prelude.{◌≡◌, ℕ, ◌+◌, ◌<◌, ◌≤◌, List, [], ◌∷◌, ◌++◌, Option, Some, None, option_map}
+use Rattle.std.specs.Prelude.{◌≡◌, ℕ, ◌+◌, ◌<◌, ◌≤◌, List, [], ◌∷◌, ◌++◌, Option, Some, None, option_map, unwrap_or}
 use Rattle.domain_base.specs.declared.names.Node.{Node}
 use Rattle.domain_base.specs.declared.names.Peer.TheVariants.{One}
 use Rattle.rsn_elements.specs.KeyData.{GtkKdeFields}
@@ -20,12 +20,13 @@ use Rattle.run_journal.specs.declared.acts.Act.{Act}
 use Rattle.run_journal.specs.declared.acts.Act.TheVariants.{Opened, Drew, Derived, Took, Installed, Finished, Idle}
 use Rattle.run_journal.specs.Questions.{attempt, pending, associated, session, draws}
 use Rattle.run_journal.specs.Acts.{GroupKey, Derivation}
-use Rattle.domain_rules.specs.Network.{mac, root, inputs, draw_end}
+use Rattle.domain_rules.specs.Network.{mac, root_at, inputs, draw_end}
 use Rattle.domain_rules.specs.Reading.{Management, KeyMessage, Reading, Managed, Keyed}
 use Rattle.domain_rules.specs.Frames.{sent_assoc_req, sent_m2, sent_m4, sent_g2, frame_seal, keyed_by}
 use Rattle.domain_rules.specs.Facts.{Facts}
 use Rattle.domain_rules.specs.Verdict.{verdict}
 use Rattle.domain_rules.specs.StationKeys.{Keying, m3_keying}
+use Rattle.domain_rules.specs.TransitionKeyData.{responded_fte, responded_r0kh_id}
 use Rattle.domain_rules.specs.Asking.{own}
 use Rattle.domain_rules.specs.GroupKeys.{give}
 use Rattle.run_journal.specs.GroupKinds as groups
@@ -53,7 +54,7 @@ pub record AssocRespRow (w : Here) (h : List Act) (octets : List ℕ) (r : Readi
   pub accepted : verdict w.domain w.first w.node h r facts ≡ Accepted
   pub says : g ≡ Took (Some p) octets kind.AssocResp Accepted None ∷ []
 
--- a station derives a key by M1 and answers with M2
+-- a station derives a key by M1 and answers with M2, with suite 4 by the association response too
 pub record M1Row (w : Here) (h : List Act) (octets : List ℕ) (r : Reading) (facts : Facts) (g : List Act) : Type 0 where
   pub k : KeyMessage
   pub is : r ≡ Keyed k
@@ -64,8 +65,9 @@ pub record M1Row (w : Here) (h : List Act) (octets : List ℕ) (r : Reading) (fa
   pub part : List Act
   pub awaited : attempt p h ≡ Some part
   pub i : Inputs
-  pub inputs_are : i ≡ inputs w.domain (root w.domain) w.node p (own part) k.fields.nonce
-  pub says : g ≡ Took (Some p) octets (kind.Key M1) Accepted None ∷ Derived p i (ptk i) ∷ sent_m2 w.domain w.node p (keyed_by i) k.fields.counter ∷ []
+  pub inputs_are : i ≡ inputs w.domain (root_at w.domain (responded_r0kh_id facts.responded)) w.node p (own part) k.fields.nonce
+  pub says : g ≡ Took (Some p) octets (kind.Key M1) Accepted None ∷ Derived p i (ptk i)
+      ∷ sent_m2 w.domain w.node p (keyed_by i) k.fields.counter (unwrap_or (responded_fte facts.responded) []) ∷ []
 
 abbrev pub carried_in : Option GtkKdeFields → GroupKey
 carried_in None = record { key = []; id = 0 }

@@ -1,14 +1,18 @@
 -- What comes of a delivered frame: the first reason that applies, in the one order of reasons, or acceptance.
-use Rattle.std.specs.Prelude.{◌≡◌, ℕ, ◌+◌, Bool, true, false, not, ◌||◌, List, Option, Some, None, bytes_eq, if◌then◌else◌}
+use Rattle.std.specs.Prelude.{◌≡◌, ℕ, ◌+◌, Bool, true, false, not, ◌||◌, List, [], Option, Some, None, bytes_eq, if◌then◌else◌}
 use Rattle.domain_base.specs.declared.names.Akm.{Akm}
+use Rattle.domain_base.specs.declared.names.Akm.TheVariants.{FtPsk}
 use Rattle.domain_base.specs.declared.names.Node.{Node}
 use Rattle.domain_base.specs.declared.names.Node.TheVariants.{Ap, Sta}
 use Rattle.air_frame.specs.Fields.{HeaderFields}
+use Rattle.rsn_elements.specs.Elements.{ElementFields}
 use Rattle.air_frame.specs.declared.frame.AirFault.{AirFault}
 use Rattle.air_frame.specs.declared.frame.AirFault.TheVariants as air
 use Rattle.eapol_key.specs.declared.messages.Message.{Message}
 use Rattle.eapol_key.specs.declared.messages.Message.TheVariants.{M1, M2, M3, M4, G1, G2}
 use Rattle.run_journal.specs.declared.domain.Domain.{Domain}
+use Rattle.run_journal.specs.declared.acts.Kind.{Kind}
+use Rattle.run_journal.specs.declared.acts.Kind.TheVariants as kind
 use Rattle.run_journal.specs.declared.acts.Malformed.TheVariants as malformed
 use Rattle.run_journal.specs.declared.acts.Reason.{Reason}
 use Rattle.run_journal.specs.declared.acts.Reason.TheVariants as reason
@@ -17,13 +21,16 @@ use Rattle.run_journal.specs.declared.acts.Outcome.TheVariants.{Accepted, Answer
 use Rattle.run_journal.specs.declared.acts.Act.{Act}
 use Rattle.run_journal.specs.Acts.{Derivation}
 use Rattle.run_journal.specs.Questions.{draws, session}
-use Rattle.domain_rules.specs.Network.{address, bssid, peer_of, direction, goes_like}
-use Rattle.domain_rules.specs.Reading.{KeyMessage, Reading, NoFrame, PassedOver, NoElements, Managed, NoKeyFrame, NoMessage, Keyed, Sealed}
+use Rattle.domain_rules.specs.Network.{address, bssid, peer_of, direction, goes_like, r0kh_id, root_at, inputs}
+use Rattle.domain_rules.specs.Reading.{Management, KeyMessage, Reading, NoFrame, PassedOver, NoElements, Managed, NoKeyFrame, NoMessage, Keyed, Sealed}
 use Rattle.domain_rules.specs.Facts.{Facts}
 use Rattle.domain_rules.specs.PacketNumbers.{OpenKey}
 use Rattle.domain_rules.specs.DataVerdict.{is_group, opened_by, data_verdict, unsealed, IsOpened}
 use Rattle.domain_rules.specs.Associating.{management_verdict}
-use Rattle.domain_rules.specs.AccessPointKeys.{m2_verdict, m4_verdict, g2_verdict, requested_rsne, m2_key_data, KnowsM2}
+use Rattle.domain_rules.specs.AccessPointKeys.{m2_verdict, m4_verdict, g2_verdict, requested_rsne, m2_key_data, IsRequested, KnowsM2}
+use Rattle.domain_rules.specs.FastTransition.{r1_name, to_unwrap}
+use Rattle.domain_rules.specs.TransitionKeys.{ft_req_further, re_req_further, re_resp_keying, re_resp_further, KnowsGtk}
+use Rattle.domain_rules.specs.TransitionKeyData.{response, ft_m2_key_data, ft_m3_wrapped}
 use Rattle.domain_rules.specs.StationKeys.{m1_verdict, Keying, m3_keying, m3_verdict, m3_wrapped, g1_verdict, g1_wrapped, KnowsM3}
 
 -- an EAPOL-Key message from p at a node that has drawn so often
@@ -82,17 +89,45 @@ first_verdict d first n h (Sealed header way tid body) =
     if not (is_mine_or_group d n header) || goes_like way (direction n) then Refused reason.NotForMe
     else from_peer (peer_of d n header.a2) (λ p. data_verdict n h p header tid body)
 
--- what comes of a message by what reading further tells of it
-abbrev pub key_further : Akm → Message → Facts → Outcome
-key_further akm M2 facts = m2_key_data (requested_rsne facts.requested) facts.data_
-key_further akm M3 facts = m3_wrapped akm facts.unwrapped facts.data_
-key_further akm G1 facts = g1_wrapped facts.unwrapped facts.data_
-key_further akm _ facts = Accepted
+-- PMKR1Name of an access point that is the R0KH of its station p
+abbrev pub own_r1_name : Domain → Node → Node → List ℕ
+own_r1_name d n p = r1_name (inputs d (root_at d (r0kh_id d n)) n p [] [])
 
-abbrev pub further : Akm → Reading → Facts → Outcome
-further akm (Keyed k) facts = key_further akm k.message facts
-further akm (Sealed header way tid body) facts = unsealed facts.opened
-further akm _ facts = Accepted
+-- M2 by what reading further tells of it; with suite 4 by PMKR1Name too
+abbrev pub m2_further : Akm → Domain → Node → Node → Facts → Outcome
+m2_further FtPsk d n p facts = ft_m2_key_data d n (own_r1_name d n p) facts.requested facts.data_
+m2_further _ d n p facts = m2_key_data (requested_rsne facts.requested) facts.data_
+
+-- M3, by the key under which it is judged
+abbrev pub m3_further : Akm → Domain → Option Keying → Facts → Outcome
+m3_further FtPsk d (Some y) facts = ft_m3_wrapped d (r1_name y.key.inputs) facts.responded facts.unwrapped facts.data_
+m3_further akm d y facts = m3_wrapped akm facts.unwrapped facts.data_
+
+-- what comes of a message from p by what reading further tells of it
+abbrev pub key_further : Domain → Node → List Act → Node → Message → Facts → Outcome
+key_further d n h p M2 facts = m2_further d.akm d n p facts
+key_further d n h p M3 facts = m3_further d.akm d (m3_keying p h) facts
+key_further d n h p G1 facts = g1_wrapped facts.unwrapped facts.data_
+key_further d n h p _ facts = Accepted
+
+-- and of a management frame
+abbrev pub management_further : Domain → ℕ → Node → List Act → Node → Management → ElementFields → Facts → Kind → Outcome
+management_further d drawn (Ap a) h p b e facts kind.FtReq = ft_req_further drawn h p e facts.pulled
+management_further d drawn (Ap a) h p b e facts kind.ReReq = re_req_further d (Ap a) h p e
+management_further d drawn (Sta s) h p b e facts kind.ReResp = re_resp_further d (Sta s) h p b e facts.unwrapped
+management_further d drawn n h p b e facts _ = Accepted
+
+-- where the frame has a sender
+abbrev pub further_from : Option Node → (Node → Outcome) → Outcome
+further_from None then_ = Accepted
+further_from (Some p) then_ = then_ p
+
+abbrev pub further : Domain → ℕ → Node → List Act → Reading → Facts → Outcome
+further d first n h (Keyed k) facts = further_from (peer_of d n k.header.a2) (λ p. key_further d n h p k.message facts)
+further d first n h (Managed b e) facts =
+    further_from (management_sender d n b.header) (λ p. management_further d (first + draws h) n h p b e facts b.kind)
+further d first n h (Sealed header way tid body) facts = unsealed facts.opened
+further d first n h _ facts = Accepted
 
 -- an acceptance or an answer stands where further reading refuses nothing
 abbrev pub unless_refused : Outcome → Outcome → Outcome
@@ -106,17 +141,30 @@ and_then outcome then_ = outcome
 
 -- what comes of the frame: the first reason that applies
 abbrev pub verdict : Domain → ℕ → Node → List Act → Reading → Facts → Outcome
-verdict d first n h r facts = and_then (first_verdict d first n h r) (further d.akm r facts)
+verdict d first n h r facts = and_then (first_verdict d first n h r) (further d first n h r facts)
 
--- the facts are right, as far as the message needs them
+-- the facts are right, as far as the message needs them. What a key holder gives is free
 abbrev pub KnowsOf : Akm → List Act → Node → Message → KeyMessage → Facts → Type 0
 KnowsOf akm h p M2 k facts = KnowsM2 akm h p k facts
 KnowsOf akm h p M3 k facts = (y : Keying) → m3_keying p h ≡ Some y → KnowsM3 y.key.ptk.kek k facts
 KnowsOf akm h p G1 k facts = (x : Derivation) → session p h ≡ Some x → KnowsM3 x.ptk.kek k facts
 KnowsOf akm h p _ k facts = Unit {0}
 
+-- with suite 4 what the association response says too, which M1 and M3 are taken by
+abbrev pub KnowsResponse : Akm → List Act → Node → Message → Facts → Type 0
+KnowsResponse FtPsk h p M1 facts = IsRequested FtPsk (response p h) facts.responded
+KnowsResponse FtPsk h p M3 facts = IsRequested FtPsk (response p h) facts.responded
+KnowsResponse akm h p m facts = Unit {0}
+
+-- of a management frame, the group key without its wrap
+abbrev pub KnowsManaged : Node → List Act → Node → ElementFields → Facts → Kind → Type 0
+KnowsManaged (Sta s) h p e facts kind.ReResp = KnowsGtk (re_resp_keying p h) (to_unwrap e.fte) facts.unwrapped
+KnowsManaged n h p e facts _ = Unit {0}
+
 abbrev pub KnowsFrom : Domain → Node → List Act → Reading → Facts → Type 0
-KnowsFrom d n h (Keyed k) facts = (p : Node) → peer_of d n k.header.a2 ≡ Some p → KnowsOf d.akm h p k.message k facts
+KnowsFrom d n h (Keyed k) facts =
+    (p : Node) → peer_of d n k.header.a2 ≡ Some p → KnowsOf d.akm h p k.message k facts × KnowsResponse d.akm h p k.message facts
+KnowsFrom d n h (Managed b e) facts = (p : Node) → management_sender d n b.header ≡ Some p → KnowsManaged n h p e facts b.kind
 KnowsFrom d n h (Sealed header way tid body) facts = (p : Node) → peer_of d n header.a2 ≡ Some p → (k : OpenKey) → opened_by n h p header tid body ≡ Some k → IsOpened k.key k.id header.octets body facts.opened
 KnowsFrom d n h _ facts = Unit {0}
 

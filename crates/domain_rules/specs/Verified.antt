@@ -1,10 +1,14 @@
 -- Whose MIC or seal verified, by what a node notes of the frames that it takes.
-use Rattle.std.specs.Prelude.{◌≡◌, ℕ, Bool, true, false, ◌&&◌, List, Option, Some}
+use Rattle.std.specs.Prelude.{◌≡◌, ℕ, Bool, true, false, ◌&&◌, ◌==◌, List, [], Option, Some, None, is_some}
 use Rattle.domain_base.specs.declared.names.Akm.{Akm}
 use Rattle.mac_prf.specs.Mic.{mic}
+use Rattle.mac_prf.specs.Cmac.{cmac}
 use Rattle.air_frame.specs.declared.frame.Direction.{Direction}
 use Rattle.air_frame.specs.Fields.{HeaderFields}
 use Rattle.ccmp_guard.specs.Ccmp.{packet_number}
+use Rattle.rsn_elements.specs.declared.framing.Within.TheVariants.{Body}
+use Rattle.rsn_elements.specs.Transition.{FteFields}
+use Rattle.rsn_elements.specs.Elements.{ElementFields, SpellsElements}
 use Rattle.eapol_key.specs.declared.messages.Message.{Message}
 use Rattle.eapol_key.specs.declared.messages.Message.TheVariants.{M1, M2, M3, M4, G1, G2}
 use Rattle.run_journal.specs.declared.acts.Kind.{Kind}
@@ -12,9 +16,10 @@ use Rattle.run_journal.specs.declared.acts.Kind.TheVariants as kind
 use Rattle.run_journal.specs.declared.acts.Outcome.{Outcome}
 use Rattle.run_journal.specs.declared.acts.Seal.{Seal}
 use Rattle.domain_rules.specs.Frames.{frame_seal}
+use Rattle.domain_rules.specs.FastTransition.{mic_input, request_number, response_number, fte_seal}
+use Rattle.domain_rules.specs.Reading.{Management, KeyMessage, Reading, Managed, Keyed, Sealed, IsManaged, Reads}
 use Rattle.domain_rules.specs.DataFrames.{data_seal}
 use Rattle.domain_rules.specs.DataVerdict.{IsOpened}
-use Rattle.domain_rules.specs.Reading.{KeyMessage, Keyed, Sealed, Reads}
 use Rattle.domain_rules.specs.Verdict.{comes_so_far}
 
 -- the octets read as an EAPOL-Key message whose MIC is that of its octets under the key of the seal, and the seal is theirs
@@ -36,11 +41,6 @@ pub record IsUnsealed (akm : Akm) (octets : List ℕ) (s : Seal) : Type 0 where
   pub opens : IsOpened s.key id header.octets body (Some plain)
   pub is : s ≡ data_seal s.key header.octets (packet_number body) plain
 
--- the MIC or the seal of the octets verified under the key of the seal
-pub data IsNoted (akm : Akm) (octets : List ℕ) (s : Seal) : Type 0 where
-  By_mic : IsVerified akm octets s → IsNoted akm octets s
-  By_ccm : IsUnsealed akm octets s → IsNoted akm octets s
-
 -- of the EAPOL-Key messages all but M1 have a MIC (12.7.6)
 abbrev pub has_mic : Message → Bool
 has_mic M1 = false
@@ -50,10 +50,43 @@ has_mic M4 = true
 has_mic G1 = true
 has_mic G2 = true
 
-abbrev pub is_with_mic : Kind → Bool
-is_with_mic (kind.Key m) = has_mic m
+-- what the MIC in an FTE covers, by the addresses in the header: a request is from the station, a response to it
+abbrev pub covered_by : Kind → HeaderFields → ElementFields → Option (List ℕ)
+covered_by kind.ReReq h e = mic_input h.a2 h.a1 request_number e
+covered_by kind.ReResp h e = mic_input h.a1 h.a2 response_number e
+covered_by _ h e = None
+
+-- The octets read as a reassociation request or response whose FTE has the MIC of what it covers, under the key of the seal, and the seal
+-- is of that. The addresses are those of its header
+pub record IsVerifiedFte (octets : List ℕ) (s : Seal) : Type 0 where
+  pub b : Management
+  pub e : ElementFields
+  pub managed : IsManaged octets b
+  pub spelled : SpellsElements Body b.elements e
+  pub f : FteFields
+  pub fte : e.fte ≡ Some f
+  pub input : List ℕ
+  pub covers : covered_by b.kind b.header e ≡ Some input
+  pub verifies : f.mic ≡ cmac s.key input
+  pub is : s ≡ fte_seal s.key input
+
+-- the MIC or the seal of the octets verified under the key of the seal
+pub data IsNoted (akm : Akm) (octets : List ℕ) (s : Seal) : Type 0 where
+  By_mic : IsVerified akm octets s → IsNoted akm octets s
+  By_fte : IsVerifiedFte octets s → IsNoted akm octets s
+  By_ccm : IsUnsealed akm octets s → IsNoted akm octets s
+
+-- of management frames those two have a MIC, which is tried where the status is 0 and all that it covers is there
+abbrev pub is_covered : Kind → Management → ElementFields → Bool
+is_covered kind.ReReq b e = is_some e.fte && is_some (mic_input [] [] 0 e)
+is_covered kind.ReResp b e = (b.status == 0) && is_some e.fte && is_some (mic_input [] [] 0 e)
+is_covered _ b e = false
+
+abbrev pub is_with_mic : Reading → Bool
+is_with_mic (Keyed k) = has_mic k.message
+is_with_mic (Managed b e) = is_covered b.kind b e
 is_with_mic _ = false
 
--- by what is tried up to the MIC, a frame of that kind has one and it verified
-abbrev pub is_past_mic : Outcome → Kind → Bool
-is_past_mic first k = comes_so_far first && is_with_mic k
+-- by what is tried up to the MIC, a frame that reads so has one and it verified
+abbrev pub is_past_mic : Outcome → Reading → Bool
+is_past_mic first r = comes_so_far first && is_with_mic r

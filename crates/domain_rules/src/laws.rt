@@ -26,42 +26,48 @@ ghost use Rattle.domain_rules.specs.PacketNumbers.{pairwise_got};
 ghost use Rattle.run_journal.specs.declared.acts.Seal.{Seal};
 ghost use Rattle.run_journal.specs.declared.acts.Entry.{Entry};
 ghost use Rattle.run_journal.specs.Premises.{In};
+ghost use Rattle.run_journal.specs.Holders.{answers, answers_in};
 ghost use Rattle.domain_rules.specs.Network.{InForm, gtk, peer_of};
 ghost use Rattle.domain_rules.specs.Reading.{Reading, Sealed, Reads, kind_of};
 ghost use Rattle.domain_rules.specs.Verified.{IsNoted, is_past_mic};
 ghost use Rattle.domain_rules.specs.Facts.{Facts};
 ghost use Rattle.domain_rules.specs.Verdict.{Knows, first_verdict, verdict};
-ghost use Rattle.domain_rules.specs.Rows.{NodeEvent, Take, Begin, Retry, Rekey, Send, Expire, Leave, Adds};
+ghost use Rattle.domain_rules.specs.Rows.{NodeEvent, Take, Begin, Retry, Rekey, Send, Expire, Leave, Roam, Revoke, Adds, outcome_of};
 ghost use Rattle.domain_rules.specs.Closing.{sender};
 ghost use Rattle.domain_rules.specs.Ended.{EndsRightly};
 ghost use Rattle.domain_rules.specs.Explained.{Explained};
+ghost use Rattle.domain_rules.specs.HeldRight.{HeldRight, AnsweredInTime};
 ghost use Rattle.domain_rules.specs.Example.{small, AreWhole, HasHandshake, HasRenewal};
 ghost use Rattle.domain_rules.specs.DataExample.{HaveOctets, Payloads, ArePayloads, HasExchange};
 ghost use Rattle.domain_rules.specs.Here.{here};
 
-/// Octets are one thing to a node at most, and so one outcome comes of them, by the history of the node alone.
+/// Octets are one thing to a node at most, and so one outcome comes of them, by the history of the node and what a key holder gives
+/// alone.
 pub fn one_reading()
     ensures reading { (akm : Akm) (octets : List ℕ) (r s : Reading) → Reads akm octets r
         → Reads akm octets s → r ≡ s }
     ensures outcome { (d : Domain) (first : ℕ) (n : Node) (h : List Act) (octets : List ℕ)
-        (r s : Reading) (f g : Facts)
+        (r s : Reading) (f g : Facts) → f.pulled ≡ g.pulled
         → Reads d.akm octets r → Reads d.akm octets s → Knows d first n h r f
         → Knows d first n h s g
         → verdict d first n h r f ≡ verdict d first n h s g }
 {}
 
-/// An event adds one group of acts to the history of a node at most, and whatever octets read as, and at each begin of an
-/// attempt, each repeat, each payload to be sent, each dropping of what there is, and each new group key of an access point,
-/// there is one.
+/// An event adds one group of acts to the history of a node at most, by what key holders answer where it asks one, and whatever octets
+/// read as, and at each begin of an attempt, by fast transition with suite 4, each repeat, each payload to be sent, each dropping of what
+/// there is, each revocation, and each new group key of an access point, there is one.
 pub fn one_group()
     ensures one { (d : Domain) (first : ℕ) (n : Node) (h : List Act) (event : NodeEvent)
         (f g : List Act)
-        → Adds (here d first n) h event f → Adds (here d first n) h event g → f ≡ g }
+        → Adds (here d first n) h event f → Adds (here d first n) h event g
+        → answers f ≡ answers g → f ≡ g }
     ensures taken { (d : Domain) (first : ℕ) (n : Node) (h : List Act) (octets : List ℕ)
         (r : Reading) (facts : Facts) → Reads d.akm octets r
         → Knows d first n h r facts → (g : List Act) × Adds (here d first n) h (Take octets) g }
     ensures begun { (d : Domain) (first : ℕ) (n : Node) (h : List Act) (a : ℕ)
         → (g : List Act) × Adds (here d first n) h (Begin a) g }
+    ensures roams { (d : Domain) (first : ℕ) (n : Node) (h : List Act) (a : ℕ) → d.akm ≡ FtPsk
+        → (g : List Act) × Adds (here d first n) h (Roam a) g }
     ensures again { (d : Domain) (first : ℕ) (n : Node) (h : List Act) (s : ℕ)
         → (g : List Act) × Adds (here d first n) h (Retry s) g }
     ensures rekeyed { (d : Domain) (first a : ℕ) (h : List Act)
@@ -71,14 +77,17 @@ pub fn one_group()
         → (g : List Act) × Adds (here d first n) h (Send q tid octets) g }
     ensures expired { (d : Domain) (first : ℕ) (n : Node) (h : List Act) (s : ℕ)
         → (g : List Act) × Adds (here d first n) h (Expire s) g }
+    ensures revoked { (d : Domain) (first : ℕ) (n : Node) (h : List Act) (s : ℕ)
+        → (g : List Act) × Adds (here d first n) h (Revoke s) g }
     ensures left { (d : Domain) (first : ℕ) (n : Node) (h : List Act)
         → (g : List Act) × Adds (here d first n) h Leave g }
 {}
 
 /// A node notes what a frame had sealed where the MIC of the frame, or its CCM seal, verified, and there alone. Whatever its history,
-/// a seal is noted of octets that came and read as an EAPOL-Key message with the MIC of its octets under the key of the seal, or as
-/// protected data that opens under it. And it is noted wherever a message with a MIC (all but M1) is accepted or answered, or is
-/// refused for what its key data hold, and wherever data is accepted.
+/// a seal is noted of octets that came and read as an EAPOL-Key message with the MIC of its octets under the key of the seal, as a
+/// reassociation frame whose FTE has the MIC under it, or as protected data that opens under it. And it is noted wherever a frame with a
+/// MIC (all EAPOL-Key messages but M1, and both reassociation frames) is accepted or answered, or is refused for what its key data or its
+/// elements hold, and wherever data is accepted.
 pub fn seals_are_verified()
     ensures verified { (d : Domain) (first : ℕ) (n : Node) (h : List Act) (event : NodeEvent)
         (g : List Act)
@@ -88,7 +97,7 @@ pub fn seals_are_verified()
     ensures noted { (d : Domain) (first : ℕ) (n : Node) (h : List Act) (octets : List ℕ)
         (r : Reading) (facts : Facts) (g : List Act)
         → Reads d.akm octets r → Knows d first n h r facts → Adds (here d first n) h (Take octets) g
-        → is_past_mic (first_verdict d first n h r) (kind_of r) ≡ true
+        → is_past_mic (first_verdict d first n h r) r ≡ true
         → (s : Seal)
         × In (Took (sender d n r) octets (kind_of r) (verdict d first n h r facts) (Some s)) g }
     ensures opened { (d : Domain) (first : ℕ) (n : Node) (h : List Act) (octets : List ℕ)
@@ -105,27 +114,32 @@ pub fn seals_are_verified()
 /// a node from taking those that come after it.
 pub fn refusals_move_no_counter()
     ensures pairwise { (d : Domain) (first : ℕ) (n : Node) (h : List Act) (octets : List ℕ)
-        (r : Reading) (facts : Facts) (why : Reason) (g : List Act)
-        → Reads d.akm octets r → Knows d first n h r facts
-        → verdict d first n h r facts ≡ Refused why → Adds (here d first n) h (Take octets) g
-        → (p : Node) (key : List ℕ) (tid : ℕ)
+        (why : Reason) (g : List Act)
+        → Adds (here d first n) h (Take octets) g → outcome_of g ≡ Refused why → (p : Node)
+        (key : List ℕ) (tid : ℕ)
         → pairwise_got p key tid (add g h) ≡ pairwise_got p key tid h }
     ensures group { (d : Domain) (first : ℕ) (n : Node) (h : List Act) (octets : List ℕ)
-        (r : Reading) (facts : Facts) (why : Reason) (g : List Act)
-        → Reads d.akm octets r → Knows d first n h r facts → Adds (here d first n) h (Take octets) g
-        → verdict d first n h r facts ≡ Refused why → (p : Node) (key : List ℕ) (id : ℕ)
+        (why : Reason) (g : List Act)
+        → Adds (here d first n) h (Take octets) g → outcome_of g ≡ Refused why
+        → (p : Node) (key : List ℕ) (id : ℕ)
         → got groups.Gtk p key id (add g h) ≡ got groups.Gtk p key id h }
 {}
 
-/// The network and the rounds determine the journal.
+/// The network, the rounds and the answers of the key holders determine the journal.
 pub fn one_journal()
     ensures { (d : Domain) (rounds : List (List Event)) (j k : List Entry) → Explained d rounds j
-        → Explained d rounds k → j ≡ k }
+        → Explained d rounds k → answers_in j ≡ answers_in k → j ≡ k }
 {}
 
-/// A session ends only as its station connects anew or is told to leave, or as its access point accepts an M4 of a new attempt, whose
-/// MIC verified, gives it up after four sends of G1 that brought no answer, or is told to drop what it has with the station: so no
-/// frame that was made without the key ends one.
+/// Where each look of a journal is answered by what the holder that is asked has at some moment of the round, and at the own access
+/// point just then, and with the right key, the key holders answered rightly.
+pub fn looks_are_right()
+    ensures { (d : Domain) (j : List Entry) → AnsweredInTime d j → HeldRight d j }
+{}
+
+/// A session ends only as its station connects anew, takes a reassociation response whose MIC verified, or is told to leave, or as its
+/// access point accepts an M4 of a new attempt or a reassociation request, whose MIC verified, gives it up after four sends of G1 that
+/// brought no answer, or is told to drop what it has with the station: so no frame that was made without the key ends one.
 pub fn sessions_end_by_a_key()
     ensures { (d : Domain) (first : ℕ) (n : Node) (h : List Act) (event : NodeEvent) (g : List Act)
         (p : Node)

@@ -1,6 +1,8 @@
 -- How many acts an event adds.
-use Rattle.std.proofs.Common.{ℕ, zero, suc, ◌+◌, ◌≤◌, Bool, true, false, List, [], ◌∷◌, ◌++◌, length, Option, Some, None, ap, arith, length-append}
+use Rattle.std.proofs.Common.{◌≡◌, ℕ, zero, suc, ◌+◌, ◌≤◌, Bool, true, false, List, [], ◌∷◌, ◌++◌, length, Option, Some, None, refl, ap, arith, length-append}
 use Rattle.std.specs.Prelude.{cond, ◌||◌, if◌then◌else◌, nat_lt}
+use Rattle.domain_base.specs.declared.names.Akm.{Akm}
+use Rattle.domain_base.specs.declared.names.Akm.TheVariants.{Psk, PskSha256, FtPsk}
 use Rattle.domain_base.specs.declared.names.Node.{Node}
 use Rattle.domain_base.specs.declared.names.Node.TheVariants.{Ap}
 use Rattle.domain_base.specs.declared.names.Peer.{Peer}
@@ -8,7 +10,6 @@ use Rattle.run_journal.specs.declared.domain.Domain.{Domain}
 use Rattle.run_journal.specs.declared.acts.Kind.{Kind}
 use Rattle.run_journal.specs.declared.acts.Kind.TheVariants as kind
 use Rattle.run_journal.specs.declared.acts.Reason.{Reason}
-use Rattle.run_journal.specs.declared.acts.Reason.TheVariants as reason
 use Rattle.run_journal.specs.declared.acts.Act.{Act}
 use Rattle.run_journal.specs.declared.acts.Act.TheVariants.{GaveUp, Closed, Idle, Used}
 use Rattle.run_journal.specs.declared.acts.Part.TheVariants.{Attempt, Session}
@@ -19,13 +20,22 @@ use Rattle.run_journal.specs.Acts.{Derivation}
 use Rattle.eapol_key.specs.declared.messages.Message.{Message}
 use Rattle.eapol_key.specs.declared.messages.Message.TheVariants.{M1, M2, M3, G1}
 use Rattle.domain_base.specs.declared.names.Node.TheVariants.{Sta}
-use Rattle.domain_rules.specs.Reading.{Reading, KeyMessage, kind_of}
+use Rattle.key_hierarchy.specs.declared.answers.PullAnswer.{PullAnswer}
+use Rattle.key_hierarchy.specs.declared.fast_transition.PmkR1.{PmkR1}
+use Rattle.rsn_elements.specs.Elements.{ElementFields}
+use Rattle.run_journal.specs.Holders.{Stored, first_stored, since_finished}
+use Rattle.domain_rules.specs.FastTransition.{single}
+use Rattle.domain_rules.specs.KeyHolders.{put_acts_by, put_acts, revoke_acts_by}
+use Rattle.domain_rules.specs.TransitionKeys.{Asked, asked}
+use Rattle.domain_rules.specs.TransitionRows.{RoamRow, NoSession, SamePeer, sent_again, look_answer, looked_by, looked_for, look_of_kind, refused_look}
+use Rattle.domain_rules.specs.TransitionRows as roam
+use Rattle.domain_rules.specs.Reading.{Reading, Managed, KeyMessage, kind_of}
 use Rattle.domain_rules.specs.Facts.{Facts}
 use Rattle.domain_rules.specs.Asking.{by_connect, has_heard, own}
 use Rattle.domain_rules.specs.Counters.{sent_count, next_in_attempt}
 use Rattle.domain_rules.specs.Frames.{sent_m1}
-use Rattle.domain_rules.specs.Rows.{NodeEvent, Take, Begin, Retry, Rekey, Send, Expire, Leave, RowOf, Adds, response, TakeRows, By_assoc_req, By_assoc_resp, By_m1, By_m2, By_m3, By_repeated_m3, By_m4, By_g1, By_g2, By_data, By_ignored, By_refusal}
-use Rattle.domain_rules.specs.AccessPointRows.{again_or_give_up, most_sends, m3_again, retry_attempt, again_or_close, retry_session, retry_acts, g1_to, carried_older, m4_acts, newer_acts, to_session, to_sessions, next_key, RekeyRow, Pending, Spent as NoDraw, Renews, expire_acts}
+use Rattle.domain_rules.specs.Rows.{NodeEvent, Take, Begin, Roam, Retry, Rekey, Send, Expire, Revoke, Leave, RowOf, Adds, refused_status, response_by, response, TakeRows, By_assoc_req, By_assoc_resp, By_m1, By_m2, By_m3, By_repeated_m3, By_m4, By_g1, By_g2, By_ft_req, By_repeated_ft_req, By_ft_resp, By_re_req, By_repeated_re_req, By_re_resp, By_data, By_ignored, By_refusal}
+use Rattle.domain_rules.specs.AccessPointRows.{again_or_give_up, most_sends, m3_again, retry_attempt, retry_session, retry_acts, g1_to, carried_older, m4_acts, newer_acts, to_session, to_sessions, next_key, RekeyRow, Pending, Spent as NoDraw, Renews, expire_acts}
 use Rattle.domain_rules.specs.Owing.{owing, any_owes, switch_acts, and_switch}
 use Rattle.domain_rules.specs.GroupKeys.{is_current}
 use Rattle.domain_rules.specs.Closing.{close_session, close_attempt, close_pending, close_associated, or_nothing, sender}
@@ -33,7 +43,7 @@ use Rattle.domain_rules.specs.StationRows.{ConnectRow, Spent, Asks, leave_acts}
 use Rattle.domain_rules.specs.DataFrames.{sent_data}
 use Rattle.domain_rules.specs.DataRows.{used_acts, send_acts_by}
 use Rattle.domain_rules.specs.PacketNumbers.{SendKey, send_key}
-use Rattle.domain_rules.specs.Here.{Here, here}
+use Rattle.domain_rules.specs.Here.{here}
 
 short_attempt : (p : Node) (part : Option (List Act)) → length (close_attempt p part) ≤ 1
 short_attempt p None = omega arith
@@ -85,17 +95,58 @@ short_associated : (p : Option Node) → length (close_associated p) ≤ 1
 short_associated None = omega arith
 short_associated (Some p) = omega arith
 
-short_response : (d : Domain) (n : Node) (from : Option Node) (k : Kind) (why : Reason) → length (response d n from k why) ≤ 1
-short_response d (Ap a) (Some p) kind.AssocReq (reason.Status code) = omega arith
-short_response d n from k _ = omega arith
+short_answer : (d : Domain) (n p : Node) (k : Kind) (o : Option ℕ) → length (response_by d n p k o) ≤ 1
+short_answer d n p kind.AssocReq (Some code) = omega arith
+short_answer d n p kind.FtReq (Some code) = omega arith
+short_answer d n p kind.ReReq (Some code) = omega arith
+short_answer d n p k _ = omega arith
 
-short_m4 : (octets : List ℕ) (k : KeyMessage) (p : Node) (x : Derivation) (old : Option Derivation) → length (m4_acts octets k p x old) ≤ 4
-short_m4 octets k p x None = omega arith
-short_m4 octets k p x (Some y) = omega arith
+short_response : (d : Domain) (n : Node) (from : Option Node) (k : Kind) (why : Reason) → length (response d n from k why) ≤ 1
+short_response d (Ap a) (Some p) k why = short_answer d (Ap a) p k (refused_status why)
+short_response d (Ap a) None k why = omega arith
+short_response d (Sta s) from k why = omega arith
+
+-- a look at a key holder
+short_looked : (p : Node) (a : Asked) (name : Option (List ℕ)) (answer : Option PullAnswer) → length (looked_by p a name answer) ≤ 1
+short_looked p a (Some name) (Some answer) = omega arith
+short_looked p a (Some name) None = omega arith
+short_looked p a None answer = omega arith
+
+short_look_for : (p : Node) (a : Option Asked) (answer : Option PullAnswer) → length (looked_for p a answer) ≤ 1
+short_look_for p None answer = omega arith
+short_look_for p (Some a) answer = short_looked p a (single a.names) answer
+
+short_look_of : (k : Kind) (p : Node) (e : ElementFields) (answer : Option PullAnswer) → length (look_of_kind k p e answer) ≤ 1
+short_look_of kind.FtReq p e answer = short_look_for p (asked e) answer
+short_look_of _ p e answer = omega arith
+
+short_look : (n : Node) (from : Option Node) (r : Reading) (pulled : Option PmkR1) (why : Reason) → length (refused_look n from r pulled why) ≤ 1
+short_look (Ap a) (Some p) (Managed b e) pulled why = short_look_of b.kind p e (look_answer why pulled)
+short_look n from r pulled why = omega arith
+
+short_again_sent : (p : Node) (k : Kind) (o : Option Stored) → length (sent_again p k o) ≤ 1
+short_again_sent p k None = omega arith
+short_again_sent p k (Some s) = omega arith
+
+short_put : (akm : Akm) (d : Domain) (n : Node) (h : List Act) (p : Node) (x : Derivation) → length (put_acts_by akm d n h p x) ≤ 1
+short_put Psk d n h p x = omega arith
+short_put PskSha256 d n h p x = omega arith
+short_put FtPsk d n h p x = omega arith
+
+short_m4 : (octets : List ℕ) (k : KeyMessage) (p : Node) (x : Derivation) (old : Option Derivation) (put : List Act) → length put ≤ 1 → length (m4_acts octets k p x old put) ≤ 5
+short_m4 octets k p x None put short = omega (arith, short)
+short_m4 octets k p x (Some y) put short = omega (arith, short)
 
 short_newer : (d : Domain) (n p : Node) (after : List Act) (x : Derivation) (b : Bool) → length (newer_acts d n p after x b) ≤ 1
 short_newer d n p after x false = omega arith
 short_newer d n p after x true = omega arith
+
+-- an act or two, the end of an attempt or a session, and what stands behind it
+few_behind : (a : Act) (close after g : List Act) → g ≡ a ∷ close ++ after → length close ≤ 1 → length after ≡ 3 → length g ≤ 7
+few_behind a close after g says short three = omega (arith, ap length says, length-append close after, short, three)
+
+few_behind_two : (a b : Act) (close after g : List Act) → g ≡ a ∷ b ∷ close ++ after → length close ≤ 1 → length after ≡ 4 → length g ≤ 7
+few_behind_two a b close after g says short four = omega (arith, ap length says, length-append close after, short, four)
 
 few_rows : (d : Domain) (first : ℕ) (n : Node) (h : List Act) (octets : List ℕ) (r : Reading) (facts : Facts) (g : List Act) → TakeRows (here d first n) h octets r facts g → length g ≤ 7
 few_rows d first n h octets r facts g (By_assoc_req row) = let long = simp length-append at (ap length row.says) in omega (arith, long, short_attempt row.p (attempt row.p h))
@@ -105,18 +156,40 @@ few_rows d first n h octets r facts g (By_m2 row) = omega (arith, ap length row.
 few_rows d first n h octets r facts g (By_m3 row) = omega (arith, ap length row.says)
 few_rows d first n h octets r facts g (By_repeated_m3 row) = omega (arith, ap length row.says)
 few_rows d first n h octets r facts g (By_m4 row) =
-    let more = newer_acts d n row.p (add (m4_acts octets row.k row.p row.x (session row.p h)) h) row.x (carried_older row.p h (before_sent row.p (kind.Key M3) h)) in
-    let short = short_newer d n row.p (add (m4_acts octets row.k row.p row.x (session row.p h)) h) row.x (carried_older row.p h (before_sent row.p (kind.Key M3) h)) in
-    omega (arith, ap length row.says, length-append (m4_acts octets row.k row.p row.x (session row.p h)) more, short_m4 octets row.k row.p row.x (session row.p h), short)
+    let put = put_acts d n h row.p row.x in
+    let acts = m4_acts octets row.k row.p row.x (session row.p h) put in
+    let more = newer_acts d n row.p (add acts h) row.x (carried_older row.p h (before_sent row.p (kind.Key M3) h)) in
+    let short = short_newer d n row.p (add acts h) row.x (carried_older row.p h (before_sent row.p (kind.Key M3) h)) in
+    omega (arith, ap length row.says, length-append acts more, short_m4 octets row.k row.p row.x (session row.p h) put (short_put d.akm d n h row.p row.x), short)
 few_rows d first n h octets r facts g (By_g1 row) = omega (arith, ap length row.says)
 few_rows d first n h octets r facts g (By_g2 row) = omega (arith, ap length row.says)
+few_rows d first n h octets r facts g (By_ft_req row) = few_behind_two _ _ (close_attempt row.p (attempt row.p h)) _ g row.says (short_attempt row.p (attempt row.p h)) refl
+few_rows d first n h octets r facts g (By_repeated_ft_req row) = omega (arith, ap length row.says, short_again_sent row.p kind.FtResp (first_stored row.p kind.FtResp row.part))
+few_rows d first n h octets r facts g (By_ft_resp row) = omega (arith, ap length row.says)
+few_rows d first n h octets r facts g (By_re_req row) = few_behind _ (close_session row.p (session row.p h)) _ g row.says (short_session row.p (session row.p h)) refl
+few_rows d first n h octets r facts g (By_repeated_re_req row) = omega (arith, ap length row.says, short_again_sent row.p kind.ReResp (first_stored row.p kind.ReResp (since_finished row.p h)))
+few_rows d first n h octets r facts g (By_re_resp row) = few_behind _ (close_associated (associated h)) _ g row.says (short_associated (associated h)) refl
 few_rows d first n h octets r facts g (By_data row) = omega (arith, ap length row.says)
 few_rows d first n h octets r facts g (By_ignored row) = omega (arith, ap length row.says)
-few_rows d first n h octets r facts g (By_refusal row) = omega (arith, ap length row.says, short_response d n (sender d n r) (kind_of r) row.why)
+few_rows d first n h octets r facts g (By_refusal row) =
+    let look = refused_look n (sender d n r) r facts.pulled row.why in
+    let answer = response d n (sender d n r) (kind_of r) row.why in
+    omega (arith, ap length row.says, length-append look answer, short_look n (sender d n r) r facts.pulled row.why, short_response d n (sender d n r) (kind_of r) row.why)
 
 few_connect : (d : Domain) (first : ℕ) (n : Node) (h : List Act) (p : Node) (g : List Act) → ConnectRow (here d first n) h p g → length g ≤ 7
 few_connect d first n h p g (Spent spent says) = omega (arith, ap length says)
 few_connect d first n h p g (Asks asks says) = let long = simp length-append at (ap length says) in omega (arith, long, short_pending (pending h), short_associated (associated h))
+
+few_roam : (d : Domain) (first : ℕ) (n : Node) (h : List Act) (p : Node) (g : List Act) → RoamRow (here d first n) h p g → length g ≤ 7
+few_roam d first n h p g (NoSession none says) = omega (arith, ap length says)
+few_roam d first n h p g (SamePeer q with_ same says) = omega (arith, ap length says)
+few_roam d first n h p g (roam.Spent q with_ other spent says) = omega (arith, ap length says)
+few_roam d first n h p g (roam.Asks mobile q with_ other low says) = let long = simp length-append at (ap length says) in omega (arith, long, short_pending (pending h))
+
+short_revoke : (akm : Akm) (d : Domain) (n : Node) (h : List Act) (p : Node) → length (revoke_acts_by akm d n h p) ≤ 1
+short_revoke Psk d n h p = omega arith
+short_revoke PskSha256 d n h p = omega arith
+short_revoke FtPsk d n h p = omega arith
 
 -- a payload that is sent
 short_used_by : (b : Bool) (x y z : Act) → length (if b then x ∷ y ∷ [] else z ∷ []) ≤ 2
@@ -168,6 +241,8 @@ few_row d first n h Rekey g row = omega (arith, few_rekey d first n h g row)
 few_row d first n h (Send q tid octets) g row = omega (arith, ap length row, short_send d n q tid octets (send_key h q))
 few_row d first n h (Expire s) g row = omega (arith, ap length row, short_expire (Sta s) h)
 few_row d first n h Leave g row = omega (arith, ap length row, short_leave h)
+few_row d first n h (Roam a) g row = omega (arith, few_roam d first n h (Ap a) g row)
+few_row d first n h (Revoke s) g row = omega (arith, ap length row, short_revoke d.akm d n h (Sta s))
 
 -- and the switch
 short_switch_by : (b : Bool) (act : Act) → length (cond b [] (act ∷ [])) ≤ 1

@@ -5,7 +5,7 @@ use Rattle.domain_base.specs.declared.names.Akm.TheVariants.{FtPsk}
 use Rattle.domain_base.specs.declared.names.Node.TheVariants.{Ap, Sta}
 use Rattle.run_journal.specs.declared.domain.Domain.{Domain}
 use Rattle.run_journal.specs.declared.domain.Event.{Event}
-use Rattle.run_journal.specs.declared.domain.Event.TheVariants.{Connect, Deliver, Alter, Cut, Inject, Retry, Rekey, Send, Expire, Leave}
+use Rattle.run_journal.specs.declared.domain.Event.TheVariants.{Connect, Roam, Deliver, Alter, Cut, Inject, Retry, Rekey, Send, Expire, Revoke, Leave}
 use Rattle.run_journal.specs.declared.acts.Entry.{Entry}
 use Rattle.run_journal.specs.Acts.{is_sent}
 use Rattle.run_journal.specs.Questions.{history}
@@ -26,9 +26,10 @@ pub record HasOctets (j : List Entry) (number size : ℕ) : Type 0 where
   pub long : size ≤ length octets
 
 -- the event names listed nodes of the right kinds, and a frame that was sent; an octet that it changes, and octets that it
--- keeps, are the frame's; a payload has at most so many octets
+-- keeps, are the frame's; a payload has at most so many octets; a fast transition is begun with suite 4 alone
 abbrev pub IsEventIn : Domain → ℕ → List Entry → Event → Type 0
 IsEventIn d sent j (Connect s a) = (s < length d.stas) × (a < length d.aps)
+IsEventIn d sent j (Roam s a) = (s < length d.stas) × (a < length d.aps) × (d.akm ≡ FtPsk)
 IsEventIn d sent j (Deliver number to) = (1 ≤ number) × (number ≤ sent) × IsListed d to
 IsEventIn d sent j (Alter number place mask to) = (1 ≤ number) × (number ≤ sent) × IsListed d to × HasOctets j number (suc place)
 IsEventIn d sent j (Cut number size to) = (1 ≤ number) × (number ≤ sent) × IsListed d to × HasOctets j number size
@@ -37,6 +38,7 @@ IsEventIn d sent j (Retry a s) = (a < length d.aps) × (s < length d.stas)
 IsEventIn d sent j (Rekey a) = a < length d.aps
 IsEventIn d sent j (Send from to tid octets) = IsListed d from × IsReceiverOf d from to × (length octets ≤ most_payload)
 IsEventIn d sent j (Expire a s) = (a < length d.aps) × (s < length d.stas)
+IsEventIn d sent j (Revoke a s) = (a < length d.aps) × (s < length d.stas)
 IsEventIn d sent j (Leave s) = s < length d.stas
 
 -- frames are numbered from 1 in the order of sending, and every other act has number 0

@@ -49,7 +49,8 @@ pub(crate) fn step_ap(
             ap.step(alloc, domain, NodeEvent::Send(to, None, payload), out)
         }
         NodeEvent::Expire(sta) => ap.step(alloc, domain, NodeEvent::Expire(sta), out),
-        NodeEvent::Connect(_) | NodeEvent::Leave => unreachable!(),
+        NodeEvent::Revoke(sta) => ap.step(alloc, domain, NodeEvent::Revoke(sta), out),
+        NodeEvent::Connect(_) | NodeEvent::Roam(_) | NodeEvent::Leave => unreachable!(),
     }
 }
 
@@ -84,6 +85,7 @@ pub(crate) fn step_station(
             station.step(alloc, domain, NodeEvent::Send(to, None, payload), out)
         }
         NodeEvent::Leave => station.step(alloc, domain, NodeEvent::Leave, out),
+        NodeEvent::Roam(_) | NodeEvent::Revoke(_) => unreachable!(),
         NodeEvent::Retry(_) | NodeEvent::Rekey | NodeEvent::Expire(_) => unreachable!(),
     }
 }

@@ -219,6 +219,7 @@ impl World {
     {
         match event {
             Event::Connect { sta, ap } => (Node::Sta(*sta), NodeEvent::Connect(*ap)),
+            Event::Roam { sta, ap } => (Node::Sta(*sta), NodeEvent::Roam(*ap)),
             Event::Deliver { number, to } => (*to, NodeEvent::Take(self.frame(*number, journal))),
             Event::Alter { to, .. } => (*to, NodeEvent::Take(changed)),
             Event::Cut { number, size, to } => {
@@ -234,6 +235,7 @@ impl World {
                 octets,
             } => (*from, NodeEvent::Send(*to, *tid, octets.as_slice())),
             Event::Expire { ap, sta } => (Node::Ap(*ap), NodeEvent::Expire(*sta)),
+            Event::Revoke { ap, sta } => (Node::Ap(*ap), NodeEvent::Revoke(*sta)),
             Event::Leave { sta } => (Node::Sta(*sta), NodeEvent::Leave),
         }
     }

@@ -1,1 +1,2 @@
 mod SealedHeaders
+pub mod Silence

@@ -3,6 +3,7 @@ use Rattle.std.specs.Prelude.{◌≡◌, ℕ, ◌+◌, List, [], Option, Some, �
 use Rattle.domain_base.specs.declared.names.Node.{Node}
 use Rattle.air_frame.specs.Views.{header_of}
 use Rattle.eapol_key.specs.Fields.{IsKeyFrame}
+use Rattle.key_hierarchy.specs.declared.fast_transition.PmkR1.{PmkR1}
 use Rattle.rsn_elements.specs.Fields.{element_fields}
 use Rattle.run_journal.specs.declared.domain.Domain.{Domain}
 use Rattle.run_journal.specs.declared.acts.Reason.{Reason}
@@ -17,15 +18,17 @@ use Rattle.domain_rules.specs.Associating.{management_verdict}
 use Rattle.domain_rules.specs.DataVerdict.{data_verdict}
 use Rattle.domain_rules.specs.Closing.{sender}
 use Rattle.domain_rules.specs.Rows.{response}
+use Rattle.domain_rules.specs.TransitionRows.{refused_look}
 use Rattle.node_base.specs.Peers.{IsPeerOf}
 use Rattle.frame_intake.specs.declared.judging.Judged.{Judged}
 use Rattle.frame_intake.specs.declared.judging.Judged.TheVariants as judged
 use Rattle.frame_intake.specs.SealedFields.{sealed_reading, IsSealedData}
 use Rattle.frame_intake.specs.Views.{management_fields, message_fields, sealed_fields}
 
--- a refusal that nothing answers
-abbrev pub IsSilent : Domain → Node → Reason → Type 0
-IsSilent d n why = (from : Option Node) (k : Kind) → response d n from k why ≡ []
+-- a refusal that nothing answers, and before which no key holder was asked
+pub record IsSilent (d : Domain) (n : Node) (why : Reason) : Type 0 where
+  pub answer : (from : Option Node) (k : Kind) → response d n from k why ≡ []
+  pub look : (from : Option Node) (r : Reading) (pulled : Option PmkR1) → refused_look n from r pulled why ≡ []
 
 -- the frame is passed over, or refused so
 abbrev pub IsSettled : Domain → Node → Reading → Outcome → Type 0

@@ -92,6 +92,7 @@ fn air_reason(fault: AirFault) -> Reason
 }
 
 // A management frame, by its addresses.
+#[tactic(auto, using(crate::proofs::Silence::silent_receiver, crate::proofs::Silence::silent_sender))]
 fn judge_managed<'a>(
     domain: &Domain,
     node: Node,
@@ -117,6 +118,7 @@ fn judge_managed<'a>(
 }
 
 // An EAPOL-Key message, by its addresses and the way that it goes.
+#[tactic(auto, using(crate::proofs::Silence::silent_receiver, crate::proofs::Silence::silent_sender))]
 fn judge_keyed<'a>(domain: &Domain, node: Node, message: KeyMessage<'a>) -> Judged<'a>
     requires listed { IsListed domain.now node }
     requires form { InForm domain.now }
@@ -134,6 +136,7 @@ fn judge_keyed<'a>(domain: &Domain, node: Node, message: KeyMessage<'a>) -> Judg
 }
 
 // Protected data, by its addresses and the way that it goes.
+#[tactic(auto, using(crate::proofs::Silence::silent_receiver, crate::proofs::Silence::silent_sender))]
 fn judge_sealed<'a>(domain: &Domain, node: Node, frame: SealedData<'a>) -> Judged<'a>
     requires listed { IsListed domain.now node }
     requires form { InForm domain.now }
@@ -151,6 +154,7 @@ fn judge_sealed<'a>(domain: &Domain, node: Node, frame: SealedData<'a>) -> Judge
 }
 
 /// What a delivered frame is judged as at a node, by the frame alone. Takes no memory.
+#[tactic(auto, using(crate::proofs::Silence::silent_air, crate::proofs::Silence::silent_malformed, crate::proofs::Silence::silent_profile))]
 pub fn judge<'a>(domain: &Domain, node: Node, delivered: &Delivered<'a>) -> Judged<'a>
     requires listed { IsListed domain.now node }
     requires form { InForm domain.now }

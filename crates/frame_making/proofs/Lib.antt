@@ -1,1 +1,3 @@
 pub mod FramesBetween
+pub mod Elements
+pub mod MobileData

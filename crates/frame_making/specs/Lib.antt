@@ -1,2 +1,4 @@
 pub mod Replied
 pub mod Between
+pub mod Mobile
+pub mod KeyData

@@ -1,7 +1,7 @@
 //! The EAPOL-Key frames of the four-way handshake and of the group key handshake, as octets.
 
-ghost use Rattle.std.specs.Prelude.{◌≡◌, ◌<◌, ◌^◌, ◌++◌, [], None, length};
-ghost use Rattle.rsn_elements.specs.Sent.{rsne_octets, gtk_kde_octets};
+ghost use Rattle.std.specs.Prelude.{◌≡◌, ◌≤◌, ◌<◌, ◌+◌, ◌^◌, [], length, take};
+ghost use Rattle.rsn_elements.specs.Sent.{gtk_kde_octets};
 ghost use Rattle.eapol_key.specs.declared.messages.Message.TheVariants.{M1, M2, M3, M4, G1, G2};
 ghost use Rattle.eapol_key.specs.KeyData.{padded};
 ghost use Rattle.eapol_key.specs.Octets.{frame_octets};
@@ -9,36 +9,23 @@ ghost use Rattle.eapol_key.specs.Sealed.{sealed};
 ghost use Rattle.eapol_key.specs.Sent.{sent_fields};
 ghost use Rattle.domain_rules.specs.Frames.{wrapped};
 
-use domain_base::Akm;
+use crate::key_data::{MOST_M2_DATA, MOST_M3_DATA, gtk_kde};
+use domain_base::{Akm, ShortOctets};
 use eapol_key::{KEY_DATA_AT, Message, close_key_data, seal, write};
 use group_key::GroupKey;
 use key_hierarchy::Ptk;
-use rsn_elements::ElementWriter;
 
-// The octets of an RSNE without a PMKID list.
-const RSNE_LEN: usize = 22;
+// The octets of message 2 at most.
+pub(crate) const MOST_M2: usize = KEY_DATA_AT + MOST_M2_DATA;
 
-// The octets of the key data of message 3: the RSNE and a GTK KDE of 24 octets; and under its wrap,
-// with padding.
-const GROUP_KEY_DATA_LEN: usize = RSNE_LEN + 24;
+// The octets of the key data of message 3 under its wrap at most, and of message 3.
+const MOST_WRAPPED: usize = MOST_M3_DATA + 7 + 8;
 
-const WRAPPED_LEN: usize = 56;
+pub(crate) const MOST_M3: usize = KEY_DATA_AT + MOST_WRAPPED;
 
-// The octets of a GTK KDE, which is the key data of message 1 of the group key handshake; and under
-// its wrap, where it needs no padding.
-const GTK_KDE_LEN: usize = 24;
-
+// The octets of a GTK KDE, which is the key data of message 1 of the group key handshake, under its
+// wrap, where it needs no padding.
 const WRAPPED_KDE_LEN: usize = 32;
-
-/// The RSNE of the suite, as this network sends it: without a PMKID list
-/// (IEEE Std 802.11-2020, 9.4.2.24).
-pub fn rsne(akm: Akm) -> [u8; RSNE_LEN]
-    ensures { result ≡ rsne_octets akm None }
-{
-    let mut out = [0; RSNE_LEN];
-    ElementWriter::over(&mut out).rsne(akm, None);
-    out
-}
 
 // Message 1 (IEEE Std 802.11-2020, 12.7.6.2).
 pub(crate) fn m1_frame(akm: Akm, counter: u64, anonce: &[u8; 32]) -> [u8; KEY_DATA_AT]
@@ -50,72 +37,79 @@ pub(crate) fn m1_frame(akm: Akm, counter: u64, anonce: &[u8; 32]) -> [u8; KEY_DA
     frame
 }
 
-// Message 2 (IEEE Std 802.11-2020, 12.7.6.3).
-pub(crate) fn m2_frame(
+/// Message 2 with that key data, at the front of `out`, and how many octets it takes
+/// (IEEE Std 802.11-2020, 12.7.6.3).
+pub(crate) fn put_m2(
     akm: Akm,
     kck: &[u8; 16],
     counter: u64,
     snonce: &[u8; 32],
-) -> [u8; KEY_DATA_AT + RSNE_LEN]
-    ensures frame { result ≡ sealed akm kck.now
-        (frame_octets (sent_fields M2 akm counter snonce.now 0 (rsne_octets akm None))) }
-    ensures size { length result ≡ 121 }
+    key_data: &[u8],
+    out: &mut [u8; MOST_M2],
+) -> usize
+    requires some { 0 < length key_data.now }
+    requires few { length key_data.now ≤ MOST_M2_DATA }
+    ensures size { result ≡ 99 + length key_data.now }
+    ensures frame { take result out.new ≡ sealed akm kck.now
+        (frame_octets (sent_fields M2 akm counter snonce.now 0 key_data.now)) }
 {
-    let mut frame = [0; KEY_DATA_AT + RSNE_LEN];
-    write(Message::M2, akm, counter, snonce, 0, &rsne(akm), &mut frame);
-    seal(akm, kck, &mut frame);
-    frame
+    let size = write(Message::M2, akm, counter, snonce, 0, key_data, out);
+    let (frame, _) = out.split_at_mut(size);
+    seal(akm, kck, frame);
+    size
 }
 
-// Writes the key data of message 3, before padding and wrap: the RSNE, and the group key.
-fn group_key_data(akm: Akm, id: u8, key: &[u8; 16]) -> [u8; GROUP_KEY_DATA_LEN]
-    requires { id < 4 }
-    ensures elements { result ≡ rsne_octets akm None ++ gtk_kde_octets id key.now }
-    ensures size { length result ≡ GROUP_KEY_DATA_LEN }
+// Key data under its wrap, with padding.
+fn closed(kek: &[u8; 16], plain: &[u8]) -> ShortOctets<MOST_WRAPPED>
+    requires { length plain.now ≤ MOST_M3_DATA }
+    ensures { result ≡ wrapped kek.now (padded plain.now) }
 {
-    let mut out = [0; GROUP_KEY_DATA_LEN];
-    let mut writer = ElementWriter::over(&mut out);
-    writer.rsne(akm, None);
-    writer.gtk_kde(id, key);
-    out
+    let mut out = [0; MOST_WRAPPED];
+    let end = close_key_data(kek, plain, &mut out);
+    let (octets, _) = out.split_at(end);
+    ShortOctets::of(octets)
 }
 
-// Message 3 with a group key and the count of packet numbers used under it
-// (IEEE Std 802.11-2020, 12.7.6.4).
-pub(crate) fn m3_frame(
+// What message 3 carries: the ANonce, and the count of packet numbers used under its group key.
+#[derive(Clone, Copy)]
+pub(crate) struct Third {
+    pub(crate) anonce: [u8; 32],
+    pub(crate) rsc: u64,
+}
+
+/// Message 3 with that key data, which comes under its wrap, at the front of `out`, and how many octets
+/// it takes (IEEE Std 802.11-2020, 12.7.6.4).
+pub(crate) fn put_m3(
     akm: Akm,
     key: &Ptk,
     counter: u64,
-    anonce: &[u8; 32],
-    group: &GroupKey,
-    rsc: u64,
-) -> [u8; KEY_DATA_AT + WRAPPED_LEN]
-    requires id { group.now.id < 4 }
-    requires packet_number { rsc < 2 ^ 48 }
-    ensures frame { let plain = rsne_octets akm None ++ gtk_kde_octets group.now.id group.now.key
-        in let key_data = wrapped key.now.kek (padded plain)
-        in result ≡ sealed akm key.now.kck
-        (frame_octets (sent_fields M3 akm counter anonce.now rsc key_data)) }
-    ensures size { length result ≡ 155 }
+    third: Third,
+    plain: &[u8],
+    out: &mut [u8; MOST_M3],
+) -> usize
+    requires packet_number { third.rsc < 2 ^ 48 }
+    requires few { length plain.now ≤ MOST_M3_DATA }
+    ensures least { 99 ≤ result }
+    ensures most { result ≤ MOST_M3 }
+    ensures frame { take result out.new ≡ sealed akm key.now.kck
+        (frame_octets (sent_fields M3 akm counter third.anonce third.rsc
+        (wrapped key.now.kek (padded plain.now)))) }
 {
-    let mut key_data = [0; WRAPPED_LEN];
-    close_key_data(
-        &key.kek,
-        &group_key_data(akm, group.id, &group.key),
-        &mut key_data,
-    );
-    let mut frame = [0; KEY_DATA_AT + WRAPPED_LEN];
-    write(
+    let (kck, kek) = (key.kck, key.kek);
+    let key_data = closed(&kek, plain);
+    let (anonce, rsc) = (third.anonce, third.rsc);
+    let size = write(
         Message::M3,
         akm,
         counter,
-        anonce,
+        &anonce,
         rsc,
-        &key_data,
-        &mut frame,
+        key_data.as_slice(),
+        out,
     );
-    seal(akm, &key.kck, &mut frame);
-    frame
+    let (frame, _) = out.split_at_mut(size);
+    seal(akm, &kck, frame);
+    size
 }
 
 // Message 4 (IEEE Std 802.11-2020, 12.7.6.5).
@@ -128,17 +122,6 @@ pub(crate) fn m4_frame(akm: Akm, kck: &[u8; 16], counter: u64) -> [u8; KEY_DATA_
     write(Message::M4, akm, counter, &[0; 32], 0, &[], &mut frame);
     seal(akm, kck, &mut frame);
     frame
-}
-
-// A GTK KDE (IEEE Std 802.11-2020, 12.7.2).
-fn gtk_kde(id: u8, key: &[u8; 16]) -> [u8; GTK_KDE_LEN]
-    requires { id < 4 }
-    ensures octets { result ≡ gtk_kde_octets id key.now }
-    ensures size { length result ≡ GTK_KDE_LEN }
-{
-    let mut out = [0; GTK_KDE_LEN];
-    ElementWriter::over(&mut out).gtk_kde(id, key);
-    out
 }
 
 // Message 1 of the group key handshake, with a group key and the count of packet numbers used under

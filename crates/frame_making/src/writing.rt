@@ -1,7 +1,7 @@
 //! The EAPOL-Key frames of the four-way handshake and of the group key handshake, written into
 //! replies. No memory is taken.
 
-ghost use Rattle.std.specs.Prelude.{◌≡◌, ◌≤◌, ◌<◌, ◌+◌, ◌^◌, [], ◌∷◌, length, take};
+ghost use Rattle.std.specs.Prelude.{◌≡◌, ◌≤◌, ◌<◌, ◌+◌, ◌^◌, ℕ, List, [], ◌∷◌, length, take};
 ghost use Rattle.std.specs.Prelude.{Some, None, option_map};
 ghost use Rattle.domain_base.specs.declared.names.Node.{Node as AnyNode};
 ghost use Rattle.domain_base.specs.declared.names.Peer.TheVariants.{One};
@@ -10,8 +10,10 @@ ghost use Rattle.run_journal.specs.declared.domain.Domain.{Domain as AnyDomain};
 ghost use Rattle.run_journal.specs.declared.acts.Kind.TheVariants.{Key};
 ghost use Rattle.run_journal.specs.declared.acts.Act.TheVariants.{Sent};
 ghost use Rattle.run_journal.specs.Replies.{IsWhole};
-ghost use Rattle.run_journal.specs.Acts.{Derivation};
+ghost use Rattle.run_journal.specs.Acts.{Derivation, GroupKey as Carried};
+ghost use Rattle.eapol_key.specs.KeyData.{padded};
 ghost use Rattle.domain_rules.specs.Frames.{in_data, frame_seal};
+ghost use Rattle.domain_rules.specs.Frames.{sent_m2_key_data, m3_key_data};
 ghost use Rattle.domain_rules.specs.Frames.{sent_m1, sent_m2, sent_m3, sent_m4, sent_g1, sent_g2};
 ghost use Rattle.domain_rules.specs.Replies.{sent_acts};
 ghost use Rattle.group_key.specs.Holds.{carried};
@@ -19,11 +21,15 @@ ghost use Rattle.frame_making.specs.Between.{bssid_between, octets_between};
 ghost use Rattle.node_base.specs.Ends.{AreEnds};
 ghost use Rattle.frame_making.specs.Replied.{Keeps};
 
-use crate::keying::{g1_frame, g2_frame, m1_frame, m2_frame, m3_frame, m4_frame};
+use crate::key_data::{MOST_M2_DATA, MOST_M3_DATA};
+use crate::keying::{
+    MOST_M2, MOST_M3, Third, g1_frame, g2_frame, m1_frame, m4_frame, put_m2, put_m3,
+};
 use air_frame::{Direction, write_eapol_data};
 use domain_base::Mac;
 use eapol_key::Message;
 use group_key::GroupKey;
+use key_hierarchy::Ptk;
 use node_base::Ends;
 use run_journal::{Keyed, Kind, REPLY_LEN, Reply};
 
@@ -99,91 +105,89 @@ pub fn write_m1(ends: &Ends, counter: u64, anonce: &[u8; 32], reply: &mut Reply)
     write_frame(ends, Message::M1, None, &frame, reply);
 }
 
-/// Message 2 of the four-way handshake under that key, with its SNonce
+/// Message 2 of the four-way handshake under that key, with its SNonce and that key data
 /// (IEEE Std 802.11-2020, 12.7.6.3).
-pub fn write_m2(ends: &Ends, key: &Keyed, counter: u64, reply: &mut Reply)
-    ensures writes { (d : AnyDomain) (n p : AnyNode) (x : Derivation) → AreEnds d n p ends.now
-        → key.now.ptk ≡ x.ptk → x.inputs.snonce ≡ key.now.snonce
-        → sent_acts p reply.new ≡ sent_m2 d n p x counter ∷ [] }
+pub fn write_m2(ends: &Ends, key: &Keyed, counter: u64, key_data: &[u8], reply: &mut Reply)
+    requires some { 0 < length key_data.now }
+    requires few { length key_data.now ≤ MOST_M2_DATA }
+    ensures writes { (d : AnyDomain) (n p : AnyNode) (x : Derivation) (fte : List ℕ)
+        → AreEnds d n p ends.now → key.now.ptk ≡ x.ptk → x.inputs.snonce ≡ key.now.snonce
+        → key_data.now ≡ sent_m2_key_data d.akm d x fte
+        → sent_acts p reply.new ≡ sent_m2 d n p x counter fte ∷ [] }
     ensures keeps { Keeps reply.old reply.new }
     ensures fits { IsWhole reply.new }
     ensures whole { IsAddress ends.now.own.0 × IsAddress ends.now.peer.0 }
 {
     let kck = key.ptk.kck;
-    let frame = m2_frame(ends.akm, &kck, counter, &key.snonce);
-    write_frame(ends, Message::M2, Some(kck), &frame, reply);
+    let mut buffer = [0; MOST_M2];
+    let size = put_m2(ends.akm, &kck, counter, &key.snonce, key_data, &mut buffer);
+    let (frame, _) = buffer.split_at(size);
+    write_frame(ends, Message::M2, Some(kck), frame, reply);
 }
 
-/// Message 3 of the four-way handshake under that key, with its ANonce, a group key and the count
-/// of packet numbers that were used under the group key (IEEE Std 802.11-2020, 12.7.6.4).
-pub fn write_m3(
-    ends: &Ends,
-    key: &Keyed,
-    counter: u64,
-    group: &GroupKey,
-    rsc: u64,
-    reply: &mut Reply,
-)
-    requires id { group.now.id < 4 }
+/// Message 3 of the four-way handshake under that key, with its ANonce, that key data, which comes
+/// under key wrap, and the count of packet numbers that were used under its group key
+/// (IEEE Std 802.11-2020, 12.7.6.4).
+pub fn write_m3(ends: &Ends, key: &Keyed, counter: u64, plain: &[u8], rsc: u64, reply: &mut Reply)
+    requires few { length plain.now ≤ MOST_M3_DATA }
     requires packet_number { rsc < 2 ^ 48 }
-    ensures writes { (d : AnyDomain) (n p : AnyNode) (x : Derivation) → AreEnds d n p ends.now
-        → key.now.ptk ≡ x.ptk → x.inputs.anonce ≡ key.now.anonce
-        → sent_acts p reply.new ≡ sent_m3 d n p x counter (carried group.now) rsc ∷ [] }
+    ensures writes { (d : AnyDomain) (n p : AnyNode) (x : Derivation) (g : Carried)
+        → AreEnds d n p ends.now → key.now.ptk ≡ x.ptk → x.inputs.anonce ≡ key.now.anonce
+        → padded plain.now ≡ m3_key_data d n x g
+        → sent_acts p reply.new ≡ sent_m3 d n p x counter g rsc ∷ [] }
     ensures keeps { Keeps reply.old reply.new }
     ensures fits { IsWhole reply.new }
     ensures whole { IsAddress ends.now.own.0 × IsAddress ends.now.peer.0 }
 {
     let ptk = key.ptk;
-    let frame = m3_frame(ends.akm, &ptk, counter, &key.anonce, group, rsc);
-    write_frame(ends, Message::M3, Some(ptk.kck), &frame, reply);
+    let third = Third {
+        anonce: key.anonce,
+        rsc,
+    };
+    let mut buffer = [0; MOST_M3];
+    let size = put_m3(ends.akm, &ptk, counter, third, plain, &mut buffer);
+    let (frame, _) = buffer.split_at(size);
+    write_frame(ends, Message::M3, Some(ptk.kck), frame, reply);
 }
 
 /// Message 4 of the four-way handshake under that key (IEEE Std 802.11-2020, 12.7.6.5).
-pub fn write_m4(ends: &Ends, key: &Keyed, counter: u64, reply: &mut Reply)
+pub fn write_m4(ends: &Ends, key: &Ptk, counter: u64, reply: &mut Reply)
     ensures writes { (d : AnyDomain) (n p : AnyNode) (x : Derivation) → AreEnds d n p ends.now
-        → key.now.ptk ≡ x.ptk → sent_acts p reply.new ≡ sent_m4 d n p x counter ∷ [] }
+        → key.now ≡ x.ptk → sent_acts p reply.new ≡ sent_m4 d n p x counter ∷ [] }
     ensures keeps { Keeps reply.old reply.new }
     ensures fits { IsWhole reply.new }
     ensures whole { IsAddress ends.now.own.0 × IsAddress ends.now.peer.0 }
 {
-    let kck = key.ptk.kck;
+    let kck = key.kck;
     let frame = m4_frame(ends.akm, &kck, counter);
     write_frame(ends, Message::M4, Some(kck), &frame, reply);
 }
 
 /// Message 1 of the group key handshake under that key, with a group key and the count of packet
 /// numbers that were used under it (IEEE Std 802.11-2020, 12.7.7.2).
-pub fn write_g1(
-    ends: &Ends,
-    key: &Keyed,
-    counter: u64,
-    group: &GroupKey,
-    rsc: u64,
-    reply: &mut Reply,
-)
+pub fn write_g1(ends: &Ends, key: &Ptk, counter: u64, group: &GroupKey, rsc: u64, reply: &mut Reply)
     requires id { group.now.id < 4 }
     requires packet_number { rsc < 2 ^ 48 }
     ensures writes { (d : AnyDomain) (n p : AnyNode) (x : Derivation) → AreEnds d n p ends.now
-        → key.now.ptk ≡ x.ptk
+        → key.now ≡ x.ptk
         → sent_acts p reply.new ≡ sent_g1 d n p x counter (carried group.now) rsc ∷ [] }
     ensures keeps { Keeps reply.old reply.new }
     ensures fits { IsWhole reply.new }
     ensures whole { IsAddress ends.now.own.0 × IsAddress ends.now.peer.0 }
 {
-    let ptk = key.ptk;
-    let frame = g1_frame(ends.akm, &ptk, counter, group, rsc);
-    write_frame(ends, Message::G1, Some(ptk.kck), &frame, reply);
+    let frame = g1_frame(ends.akm, key, counter, group, rsc);
+    write_frame(ends, Message::G1, Some(key.kck), &frame, reply);
 }
 
 /// Message 2 of the group key handshake under that key (IEEE Std 802.11-2020, 12.7.7.3).
-pub fn write_g2(ends: &Ends, key: &Keyed, counter: u64, reply: &mut Reply)
+pub fn write_g2(ends: &Ends, key: &Ptk, counter: u64, reply: &mut Reply)
     ensures writes { (d : AnyDomain) (n p : AnyNode) (x : Derivation) → AreEnds d n p ends.now
-        → key.now.ptk ≡ x.ptk → sent_acts p reply.new ≡ sent_g2 d n p x counter ∷ [] }
+        → key.now ≡ x.ptk → sent_acts p reply.new ≡ sent_g2 d n p x counter ∷ [] }
     ensures keeps { Keeps reply.old reply.new }
     ensures fits { IsWhole reply.new }
     ensures whole { IsAddress ends.now.own.0 × IsAddress ends.now.peer.0 }
 {
-    let kck = key.ptk.kck;
+    let kck = key.kck;
     let frame = g2_frame(ends.akm, &kck, counter);
     write_frame(ends, Message::G2, Some(kck), &frame, reply);
 }

@@ -1,11 +1,9 @@
 -- A line that is not taken, by number.
-use Rattle.std.proofs.Common.{◌≡◌, ℕ, List, Result, Ok, Err}
-use Rattle.frame_script.specs.declared.reader.LineFault.{LineFault}
-use Rattle.frame_script.specs.declared.reader.Step.{Step}
+use Rattle.std.proofs.Common.{◌≡◌, ℕ, List, Err}
 use Rattle.frame_script.specs.declared.refusal.Untaken.{Untaken}
 use Rattle.frame_script.specs.declared.refusal.Untaken.TheVariants.{Refused, NoMemory}
 use Rattle.frame_script.specs.Refusals.{answer_of, fault_of, numbered}
-use Rattle.frame_script.specs.Script.{Fault, Outside, Past, Said, line_says}
+use Rattle.frame_script.specs.Script.{Fault, Outside, Past, line_says}
 use Rattle.frame_script.specs.Headers.{Reading, ReadsLine, TakesLine}
 
 by_fault : (old new : Reading) (sizes line : List ℕ) (fault : Fault) → line_says old.draft old.rounds sizes line ≡ Err fault → (new.draft ≡ old.draft) × (new.rounds ≡ old.rounds) → TakesLine old new sizes line (Err (answer_of fault))

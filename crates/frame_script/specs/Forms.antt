@@ -2,7 +2,7 @@
 use Rattle.std.specs.Prelude.{ℕ, ◌==◌, ◌&&◌, if◌then◌else◌, List, length, bytes_eq, codes}
 use Rattle.run_journal.specs.declared.domain.Domain.{Domain}
 use Rattle.frame_script.specs.declared.forms.Form.{Form}
-use Rattle.frame_script.specs.declared.forms.Form.TheVariants.{Version, Seed, Ssid, Key, Passphrase, Psk, Akm, Ap, Sta, Connect, Deliver, Alter, Cut, Inject, Retry, Rekey, Send, Expire, Leave, Any, StaOrEvent, Event}
+use Rattle.frame_script.specs.declared.forms.Form.TheVariants.{Version, Seed, Ssid, Key, Passphrase, Psk, Akm, Ap, Sta, Connect, Deliver, Alter, Cut, Inject, Retry, Rekey, Send, Expire, Revoke, Leave, Any, StaOrEvent, Event}
 use Rattle.frame_script.specs.Tokens.{first_word}
 use Rattle.frame_script.specs.Script.{Draft, AtVersion, AtSeed, AtSsid, AtPsk, AtAkm, AtNodes}
 
@@ -26,10 +26,11 @@ form_text Retry = codes "retry <ap> <sta>"
 form_text Rekey = codes "rekey <ap>"
 form_text Send = codes "send <node> <node or all> <tid 0 to 15 or -> <digits>"
 form_text Expire = codes "expire <ap> <sta>"
+form_text Revoke = codes "revoke <ap> <sta>"
 form_text Leave = codes "leave <sta>"
-form_text Any = codes "that of ap, sta, connect, deliver, alter, cut, inject, retry, rekey, send, expire or leave"
-form_text StaOrEvent = codes "that of sta, connect, deliver, alter, cut, inject, retry, rekey, send, expire or leave"
-form_text Event = codes "that of connect, deliver, alter, cut, inject, retry, rekey, send, expire or leave"
+form_text Any = codes "that of ap, sta, connect, deliver, alter, cut, inject, retry, rekey, send, expire, revoke or leave"
+form_text StaOrEvent = codes "that of sta, connect, deliver, alter, cut, inject, retry, rekey, send, expire, revoke or leave"
+form_text Event = codes "that of connect, deliver, alter, cut, inject, retry, rekey, send, expire, revoke or leave"
 
 -- the line that tells the pre-shared key, by its first word
 abbrev pub key_form : List ℕ → Form
@@ -53,6 +54,7 @@ session_form word other =
     if bytes_eq word (codes "rekey") then Rekey
     else if bytes_eq word (codes "send") then Send
     else if bytes_eq word (codes "expire") then Expire
+    else if bytes_eq word (codes "revoke") then Revoke
     else if bytes_eq word (codes "leave") then Leave
     else other
 

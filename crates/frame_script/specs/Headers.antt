@@ -10,7 +10,7 @@ use Rattle.domain_base.specs.declared.names.Peer.TheVariants.{One, All}
 use Rattle.run_journal.specs.declared.domain.Domain.{Domain}
 use Rattle.run_journal.specs.declared.domain.ListedAp.{ListedAp}
 use Rattle.run_journal.specs.declared.domain.Event.{Event}
-use Rattle.run_journal.specs.declared.domain.Event.TheVariants.{Connect, Deliver, Alter, Cut, Inject, Retry, Rekey, Send, Expire, Leave}
+use Rattle.run_journal.specs.declared.domain.Event.TheVariants.{Connect, Roam, Deliver, Alter, Cut, Inject, Retry, Rekey, Send, Expire, Revoke, Leave}
 use Rattle.run_journal.specs.declared.acts.Act.{Act}
 use Rattle.run_journal.specs.declared.acts.Act.TheVariants.{Sent}
 use Rattle.run_journal.specs.declared.acts.Entry.{Entry}
@@ -110,6 +110,7 @@ pub record IsSized (sizes : List ℕ) (number size : ℕ) : Type 0 where
 
 abbrev pub CanHappen : Domain → List ℕ → Event → Type 0
 CanHappen d sizes (Connect s a) = (s < length d.stas) × (a < length d.aps)
+CanHappen d sizes (Roam s a) = (s < length d.stas) × (a < length d.aps) × (d.akm ≡ FtPsk)
 CanHappen d sizes (Deliver number to) = IsListedIn d to × IsSized sizes number 0
 CanHappen d sizes (Alter number place mask to) = IsListedIn d to × IsSized sizes number (suc place)
 CanHappen d sizes (Cut number size to) = IsListedIn d to × IsSized sizes number size
@@ -118,6 +119,7 @@ CanHappen d sizes (Retry a s) = (a < length d.aps) × (s < length d.stas)
 CanHappen d sizes (Rekey a) = a < length d.aps
 CanHappen d sizes (Send from to tid octets) = IsListedIn d from × IsReceiverIn d from to × (length octets ≤ 2304)
 CanHappen d sizes (Expire a s) = (a < length d.aps) × (s < length d.stas)
+CanHappen d sizes (Revoke a s) = (a < length d.aps) × (s < length d.stas)
 CanHappen d sizes (Leave s) = s < length d.stas
 
 -- what a step says, and what can be done with it; the header is whole with one line only, so with `Network` it was not before

@@ -13,7 +13,7 @@ use Rattle.run_journal.specs.declared.domain.Domain.{Domain}
 use Rattle.run_journal.specs.Listing.{with_ap, with_sta}
 use Rattle.run_journal.specs.declared.domain.ListedAp.{ListedAp}
 use Rattle.run_journal.specs.declared.domain.Event.{Event}
-use Rattle.run_journal.specs.declared.domain.Event.TheVariants.{Connect, Deliver, Alter, Cut, Inject, Retry, Rekey, Send, Expire, Leave}
+use Rattle.run_journal.specs.declared.domain.Event.TheVariants.{Connect, Deliver, Alter, Cut, Inject, Retry, Rekey, Send, Expire, Revoke, Leave}
 use Rattle.frame_script.specs.Tokens.{NodeWord, PeerWord, ToAll, ToOne, behind, split_word, first_word, hex_octets, some_octets, number_of_digits, node_word, peer_word, tid_word, is_text}
 
 -- ---- why a line is refused
@@ -341,6 +341,16 @@ expire_line d text = do
   sta ← need node_ (listed_sta d s)
   Ok (Expire ap sta)
 
+-- `revoke`, an access point and a station
+unfoldable pub revoke_line : Domain → List ℕ → Result Event Fault
+revoke_line d text = do
+  words ← need arguments (split_word text)
+  a ← need arguments (node_word words.0)
+  s ← need arguments (node_word words.1)
+  ap ← need node_ (listed_ap d a)
+  sta ← need node_ (listed_sta d s)
+  Ok (Revoke ap sta)
+
 -- `leave`, and a station
 unfoldable pub leave_line : Domain → List ℕ → Result Event Fault
 leave_line d text = do
@@ -353,6 +363,7 @@ unfoldable pub session_event_of : Domain → List ℕ → List ℕ → Result Ev
 session_event_of d word text =
     if bytes_eq word (codes "rekey") then rekey_line d text
     else if bytes_eq word (codes "expire") then expire_line d text
+    else if bytes_eq word (codes "revoke") then revoke_line d text
     else if bytes_eq word (codes "leave") then leave_line d text
     else Err word_
 

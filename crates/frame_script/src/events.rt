@@ -5,7 +5,7 @@ ghost use Rattle.run_journal.specs.declared.domain.Event.TheVariants as asks;
 ghost use Rattle.frame_script.specs.Tokens.{hex_value, number_of_digits, split_word};
 ghost use Rattle.frame_script.specs.Headers.{CanHappen, IsListedIn, IsReceiverIn, IsSized};
 ghost use Rattle.frame_script.specs.Refusals.{fault_of};
-ghost use Rattle.frame_script.specs.Script.{Asks, alter_line, connect_line, cut_line, deliver_line, event_line, event_of, frame_octets, inject_line, listed, listed_ap, listed_sta, need, node_, frame_, place_, ◌>>=◌ as ◌>>=ᴿ◌, place_in, expire_line, leave_line, octets_within, receiver_by, rekey_line, retry_line, send_between, send_line, send_payload, session_event_of, size_of, to_word};
+ghost use Rattle.frame_script.specs.Script.{Asks, alter_line, connect_line, cut_line, deliver_line, event_line, event_of, frame_octets, inject_line, listed, listed_ap, listed_sta, need, node_, frame_, place_, ◌>>=◌ as ◌>>=ᴿ◌, place_in, expire_line, leave_line, octets_within, receiver_by, rekey_line, retry_line, revoke_line, send_between, send_line, send_payload, session_event_of, size_of, to_word};
 ghost use Rattle.frame_script.specs.Sentences.{CanAsk, Tells, TellsBy, event_of as event_asked, is_few, name_of, octets_of, peer_of};
 
 use crate::refusal::Refusal;
@@ -476,6 +476,32 @@ fn expire_line(domain: &Domain, text: &[u8]) -> Result<Event, Refusal>
     expire(domain, ap, sta)
 }
 
+// An access point revokes the key of a station, by their names.
+fn revoke(domain: &Domain, ap: NodeName, sta: NodeName) -> Result<Event, Refusal>
+    requires { IsTrue (is_few domain.now) }
+    ensures can { (sizes : List ℕ) → IfOk result (CanHappen domain.now sizes) }
+    ensures says { Tells result
+        (need node_ (listed_ap domain.now (name_of ap)) >>=ᴿ (λ a.
+        need node_ (listed_sta domain.now (name_of sta)) >>=ᴿ (λ s. Ok (asks.Revoke a s)))) }
+{
+    let ap = listed_ap(domain, ap).ok_or(Refusal::Node)?;
+    let sta = listed_sta(domain, sta).ok_or(Refusal::Node)?;
+    Ok(Event::Revoke { ap, sta })
+}
+
+// An access point revokes the key of a station.
+#[tactic(auto, unfolding(crate::specs::Script::revoke_line))]
+fn revoke_line(domain: &Domain, text: &[u8]) -> Result<Event, Refusal>
+    requires { IsTrue (is_few domain.now) }
+    ensures can { (sizes : List ℕ) → IfOk result (CanHappen domain.now sizes) }
+    ensures says { Tells result (revoke_line domain.now text.now) }
+{
+    let (first, second) = split_word(text).ok_or(Refusal::Arguments)?;
+    let ap = node_name(first).ok_or(Refusal::Arguments)?;
+    let sta = node_name(second).ok_or(Refusal::Arguments)?;
+    revoke(domain, ap, sta)
+}
+
 // A station drops what it has.
 #[tactic(auto, unfolding(crate::specs::Script::leave_line))]
 fn leave_line(domain: &Domain, text: &[u8]) -> Result<Event, Refusal>
@@ -499,6 +525,8 @@ fn session_event_of(domain: &Domain, word: &[u8], text: &[u8]) -> Result<Event, 
         rekey_line(domain, text)
     } else if word == b"expire".as_slice() {
         expire_line(domain, text)
+    } else if word == b"revoke".as_slice() {
+        revoke_line(domain, text)
     } else if word == b"leave".as_slice() {
         leave_line(domain, text)
     } else {

@@ -47,6 +47,8 @@ pub enum Form {
     Send,
     /// What an access point drops.
     Expire,
+    /// A key that an access point revokes.
+    Revoke,
     /// A station that drops what it has.
     Leave,
     /// An access point, a station or an event.
@@ -81,15 +83,16 @@ impl Form {
             Form::Rekey => "rekey <ap>",
             Form::Send => "send <node> <node or all> <tid 0 to 15 or -> <digits>",
             Form::Expire => "expire <ap> <sta>",
+            Form::Revoke => "revoke <ap> <sta>",
             Form::Leave => "leave <sta>",
             Form::Any => {
-                "that of ap, sta, connect, deliver, alter, cut, inject, retry, rekey, send, expire or leave"
+                "that of ap, sta, connect, deliver, alter, cut, inject, retry, rekey, send, expire, revoke or leave"
             }
             Form::StaOrEvent => {
-                "that of sta, connect, deliver, alter, cut, inject, retry, rekey, send, expire or leave"
+                "that of sta, connect, deliver, alter, cut, inject, retry, rekey, send, expire, revoke or leave"
             }
             Form::Event => {
-                "that of connect, deliver, alter, cut, inject, retry, rekey, send, expire or leave"
+                "that of connect, deliver, alter, cut, inject, retry, rekey, send, expire, revoke or leave"
             }
         }
     }
@@ -136,6 +139,8 @@ fn session_form(word: &[u8], other: Form) -> Form
         Form::Send
     } else if word == b"expire".as_slice() {
         Form::Expire
+    } else if word == b"revoke".as_slice() {
+        Form::Revoke
     } else if word == b"leave".as_slice() {
         Form::Leave
     } else {

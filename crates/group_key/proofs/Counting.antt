@@ -9,7 +9,7 @@ use Rattle.domain_base.specs.declared.names.Mac.{Mac}
 use Rattle.domain_base.specs.declared.names.Peer.TheVariants.{One}
 use Rattle.eapol_key.specs.declared.messages.Message.{Message}
 use Rattle.run_journal.specs.declared.acts.Key.TheVariants.{Group}
-use Rattle.run_journal.specs.declared.acts.Kind.TheVariants.{Key}
+use Rattle.run_journal.specs.declared.acts.Kind.TheVariants.{Key, ReResp}
 use Rattle.run_journal.specs.declared.acts.Outcome.TheVariants.{Accepted}
 use Rattle.run_journal.specs.declared.acts.Seal.{Seal}
 use Rattle.run_journal.specs.declared.acts.Act.{Act}
@@ -17,7 +17,7 @@ use Rattle.run_journal.specs.declared.acts.Act.TheVariants.{Took, Installed, Res
 use Rattle.run_journal.specs.Questions.{listed}
 use Rattle.run_journal.specs.Acts.{same, GroupKey, given_from}
 use Rattle.run_journal.specs.Questions.{given as all_given}
-use Rattle.domain_rules.specs.GroupKeys.{give_by, give, told, rsc_in, is_key, got}
+use Rattle.domain_rules.specs.GroupKeys.{give_by, give, told, rsc_in, rsc_in_response, is_key, got}
 use Rattle.domain_rules.proofs.Parts.{same-refl}
 use Rattle.domain_rules.proofs.Peers.{not_same}
 use Rattle.run_journal.specs.GroupKinds as groups
@@ -37,6 +37,9 @@ AreCounted p h ks = AllByRecursion (λ (k : Kept). IsCounted p h k) ks
 pub told_by_message : (p : Node) (m : Message) (octets : List ℕ) (s : Option Seal) (h : List Act) → CarriesGroupKey m → told groups.Gtk p (Took (Some p) octets (Key m) Accepted s ∷ h) ≡ rsc_in octets
 told_by_message p m octets s h (inl is) = rw (is, same-refl p) refl
 told_by_message p m octets s h (inr is) = rw (is, same-refl p) refl
+
+pub told_by_response : (p : Node) (octets : List ℕ) (s : Option Seal) (h : List Act) → told groups.Gtk p (Took (Some p) octets ReResp Accepted s ∷ h) ≡ rsc_in_response octets
+told_by_response p octets s h = rw (same-refl p) refl
 
 -- ---- which key an act is about
 

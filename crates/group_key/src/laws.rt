@@ -8,7 +8,7 @@ ghost use Rattle.domain_base.specs.declared.names.Peer.TheVariants.{All};
 ghost use Rattle.eapol_key.specs.declared.messages.Message.{Message};
 ghost use Rattle.run_journal.specs.declared.acts.Drawn.TheVariants.{Gtk};
 ghost use Rattle.run_journal.specs.declared.acts.Key.TheVariants.{Group};
-ghost use Rattle.run_journal.specs.declared.acts.Kind.TheVariants.{Key};
+ghost use Rattle.run_journal.specs.declared.acts.Kind.TheVariants.{Key, ReResp};
 ghost use Rattle.run_journal.specs.declared.acts.Outcome.TheVariants.{Accepted};
 ghost use Rattle.run_journal.specs.declared.acts.Seal.{Seal};
 ghost use Rattle.run_journal.specs.declared.acts.Act.{Act};
@@ -16,7 +16,7 @@ ghost use Rattle.run_journal.specs.declared.acts.Act.TheVariants.{Drew, Took, In
 ghost use Rattle.run_journal.specs.Questions.{group_keys, switches, group_uses, draws, add};
 ghost use Rattle.run_journal.specs.Acts.{GroupKey as Carried, given_from};
 ghost use Rattle.run_journal.specs.GroupKinds as groups;
-ghost use Rattle.domain_rules.specs.GroupKeys.{newest, newest_uses, is_current, memory, find_key, give, told, rsc_in, got};
+ghost use Rattle.domain_rules.specs.GroupKeys.{newest, newest_uses, is_current, memory, find_key, give, told, rsc_in, rsc_in_response, got};
 ghost use Rattle.domain_rules.specs.Owing.{is_older};
 ghost use Rattle.group_key.specs.declared.keys.GroupKey.{GroupKey};
 ghost use Rattle.group_key.specs.Keys.{Pair, Kept, placed, kept_id, given, found, taken};
@@ -65,7 +65,7 @@ pub fn keys_stand()
 ///
 /// A key is found in it as the definitions find it (`id_of`), and the counter that `find` gives is that of the history. Which
 /// keys it holds depends on what was given alone, whatever numbers come with it. An M3 and a G1 tell the number in their RSC
-/// field as they are accepted.
+/// field as they are accepted, and a reassociation response in the GTK subelement of its FTE.
 pub fn memory_stands()
     ensures started { (p : Node) → Remembers p [] [] }
     ensures given { (p : Node) (b : Mac) (g : Carried) (rsc : ℕ) (ks : List Kept) (h : List Act)
@@ -91,6 +91,8 @@ pub fn memory_stands()
     ensures told { (p : Node) (m : Message) (octets : List ℕ) (s : Option Seal) (h : List Act)
         → CarriesGroupKey m
         → told groups.Gtk p (Took (Some p) octets (Key m) Accepted s ∷ h) ≡ rsc_in octets }
+    ensures told_in_response { (p : Node) (octets : List ℕ) (s : Option Seal) (h : List Act)
+        → told groups.Gtk p (Took (Some p) octets ReResp Accepted s ∷ h) ≡ rsc_in_response octets }
     ensures keys_taken { (id number : ℕ) (ks : List Kept)
         → map key_of (taken id number ks) ≡ map key_of ks }
 {}

@@ -1,5 +1,5 @@
 -- What a call leaves at the access points of its pass.
-use Rattle.std.proofs.Common.{◌≡◌, ◌≢◌, ◌⊎◌, ℕ, ◌<◌, Bool, true, false, List, [], ◌∷◌, ◌++◌, Some, None, refl, sym, ap, ◌∙◌, subst, inl, inr}
+use Rattle.std.proofs.Common.{◌≡◌, ◌≢◌, ℕ, true, List, [], ◌∷◌, ◌++◌, Some, None, refl, sym, ap, ◌∙◌, subst}
 use Rattle.std.specs.Prelude.{slice_get, position, bytes_eq}
 use mathlib.Core.Logic.{dite}
 use native.Mathlib.Decide.{ℕ_discrete}
@@ -20,7 +20,7 @@ use Rattle.holder_table.specs.declared.history.HolderEvent.{HolderEvent}
 use Rattle.holder_table.specs.declared.history.HolderEvent.TheVariants.{Put, Revoke}
 use Rattle.holder_table.specs.declared.view.View.{View}
 use Rattle.holder_table.specs.Histories.{HeldRow, is_in, live, ended_at, held_at, NoTwins}
-use Rattle.holder_table.specs.Knowledge.{NoLess, KnowsMore, Did, AfterPut, AfterRevoke, Finds, PullsAt, Pulled}
+use Rattle.holder_table.specs.Knowledge.{NoLess, KnowsMore, Did, AfterPut, AfterRevoke, PullsAt, Pulled}
 use Rattle.holder_table.proofs.Stores.{put_here, put_other, end_here, end_other}
 use Rattle.holder_table.proofs.Twins.{one_ends, put_no_twins, end_no_twins}
 use Rattle.holder_table.proofs.Knows.{no_less-more, no_less-did}

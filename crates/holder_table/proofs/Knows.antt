@@ -4,7 +4,7 @@ use Rattle.std.specs.Prelude.{slice_get}
 use Rattle.std.proofs.lemmas.Option.{slice_get_within}
 use Rattle.key_holders.specs.declared.rows.HolderRow.{HolderRow}
 use Rattle.holder_table.specs.declared.history.HolderEvent.{HolderEvent}
-use Rattle.holder_table.specs.Histories.{HeldRow, live, held_at, Follows, Grows}
+use Rattle.holder_table.specs.Histories.{HeldRow, live, held_at, Grows}
 use Rattle.holder_table.specs.declared.view.View.{View}
 use Rattle.holder_table.specs.declared.view.Load.{Load}
 use Rattle.holder_table.specs.Words.{state_of}

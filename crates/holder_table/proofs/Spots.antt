@@ -1,5 +1,5 @@
 -- What a walk says of the rows of an access point of the pass, and of any.
-use Rattle.std.proofs.Common.{◌≡◌, ℕ, ◌<◌, ◌≤◌, true, false, List, length, Option, Some, None, refl, sym, ap, ◌∙◌, subst}
+use Rattle.std.proofs.Common.{◌≡◌, ℕ, ◌<◌, true, false, List, length, Some, None, refl, sym, ap, ◌∙◌, subst}
 use Rattle.std.specs.Prelude.{slice_get}
 use Rattle.domain_base.specs.declared.names.Mac.{Mac}
 use Rattle.key_holders.specs.declared.rows.HolderRow.{HolderRow}

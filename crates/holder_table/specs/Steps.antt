@@ -1,5 +1,5 @@
 -- What each step tells the pass that takes it.
-use Rattle.std.specs.Prelude.{◌≡◌, ℕ, ◌<◌, ◌≤◌, ◌==◌, if◌then◌else◌, true, List, [], ◌∷◌, ◌++◌, length, take, Some, slice_get, slice_index}
+use Rattle.std.specs.Prelude.{◌≡◌, ℕ, ◌<◌, ◌≤◌, ◌==◌, if◌then◌else◌, true, List, [], ◌∷◌, ◌++◌, length, take, Some, slice_get}
 use Rattle.atomic_table.specs.Table.{Step, Me}
 use Rattle.holder_table.specs.declared.words.RowWords.{RowWords}
 use Rattle.holder_table.specs.declared.history.HolderEvent.{HolderEvent}

@@ -3,7 +3,6 @@
 -- begins at 1 + 8 * (64 * r + j).
 use Rattle.std.specs.Prelude.{◌≡◌, ℕ, zero, suc, ◌+◌, ◌*◌, ◌<◌, ◌≤◌, ◌==◌, if◌then◌else◌, Bool, true, false, List, [], ◌∷◌, ◌++◌, length, drop, Some, slice_get, slice_index, slice_index_or}
 use Rattle.std.specs.Int.{w64, to_be_bytes}
-use Rattle.domain_base.specs.declared.names.Mac.{Mac}
 use Rattle.domain_base.specs.Places.{part}
 use Rattle.key_holders.specs.declared.rows.HolderRow.{HolderRow}
 use Rattle.holder_table.specs.declared.history.HolderEvent.{HolderEvent}

@@ -3,7 +3,7 @@ use Rattle.std.specs.Prelude.{ℕ, ◌+◌, ◌*◌, List, [], ◌∷◌, ◌++�
 use Rattle.domain_base.specs.Names.{node_text}
 use Rattle.domain_base.specs.declared.names.Node.{Node}
 use Rattle.run_journal.specs.declared.acts.Act.{Act}
-use Rattle.run_journal.specs.declared.acts.Act.TheVariants.{Opened, Closed, Sent, Used, HandedUp, Finished, GaveUp}
+use Rattle.run_journal.specs.declared.acts.Act.TheVariants.{Opened, Closed, Sent, Used, HandedUp, Finished, Put, Looked, Revoked, GaveUp}
 use Rattle.run_journal.specs.declared.acts.Entry.{Entry}
 
 -- the octets that are handed up, where any are
@@ -22,6 +22,13 @@ IsAttempt (Closed p t) = Unit {0}
 IsAttempt (Finished p i) = Unit {0}
 IsAttempt (GaveUp p m) = Unit {0}
 IsAttempt _ = ⊥
+
+-- a key holder was asked
+abbrev pub IsHolding : Act → Type 0
+IsHolding (Put x m p answer) = Unit {0}
+IsHolding (Looked x m p answer) = Unit {0}
+IsHolding (Revoked x m p answer) = Unit {0}
+IsHolding _ = ⊥
 
 -- a frame was sent, a packet number used or a payload handed up
 abbrev pub IsTraffic : Act → Type 0

@@ -2,12 +2,15 @@
 
 ghost use Rattle.std.specs.Prelude.{◌≡◌, ◌≤◌, ◌↔◌, ℕ, drop, length, take, IsTrue};
 ghost use Rattle.run_journal.specs.Report.{line};
-ghost use Rattle.journal_report.specs.Room.{IsAttempt, IsTraffic, room_of, up_head};
+ghost use Rattle.journal_report.specs.Room.{IsAttempt, IsHolding, IsTraffic, room_of, up_head};
 ghost use Rattle.journal_report.specs.Writing.{Writes};
 
 use crate::layout::{put_line, put_pair, put_words};
 use crate::pieces::put_payload;
-use crate::words::{Word, key_word, kind_word, message_word, part_word, start_word, why_word};
+use crate::words::{
+    Word, key_word, kind_word, message_word, part_word, pull_word, put_word, revoke_word,
+    start_word, why_word,
+};
 use domain_base::{Node, Tid, put};
 use run_journal::{Act, Entry};
 
@@ -55,6 +58,7 @@ pub fn line_of(entry: &Entry, out: &mut [u8]) -> usize
             let words = [Word::Node(node), kind_word(*kind), Word::Outcome(*outcome)];
             put_line(out, 0, b"took", &words)
         }
+        Act::Put { .. } | Act::Looked { .. } | Act::Revoked { .. } => holder_line(entry, out),
         Act::Idle { why } => put_line(out, 0, b"idle", &[Word::Node(node), why_word(*why)]),
         Act::Sent { .. } | Act::Used { .. } | Act::HandedUp { .. } => traffic_line(entry, out),
     }
@@ -81,6 +85,28 @@ fn attempt_line(entry: &Entry, out: &mut [u8]) -> usize
         Act::GaveUp { peer, message } => {
             let message = message_word(*message);
             put_pair(out, b"gave-up", node, Word::Node(*peer), message)
+        }
+        _ => unreachable!(),
+    }
+}
+
+// The line of what a key holder was asked and answered.
+fn holder_line(entry: &Entry, out: &mut [u8]) -> usize
+    requires holding { IsHolding entry.now.act }
+    requires room { room_of entry.now ≤ length out.old }
+    ensures written { Writes (line entry.now) 0 out.old result out.new }
+    ensures short { result ≤ room_of entry.now }
+{
+    let node = entry.node;
+    match &entry.act {
+        Act::Put { sta, answer, .. } => {
+            put_pair(out, b"put", node, Word::Node(*sta), put_word(*answer))
+        }
+        Act::Looked { sta, answer, .. } => {
+            put_pair(out, b"look", node, Word::Node(*sta), pull_word(answer))
+        }
+        Act::Revoked { sta, answer, .. } => {
+            put_pair(out, b"revoke", node, Word::Node(*sta), revoke_word(*answer))
         }
         _ => unreachable!(),
     }

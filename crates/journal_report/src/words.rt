@@ -1,11 +1,12 @@
 //! The words of the report.
 
 ghost use Rattle.std.specs.Prelude.{◌≡◌, ◌≤◌};
-ghost use Rattle.run_journal.specs.Report.{key_text, kind_text, message_text, part_text, start_text, why_text, yes_no};
+ghost use Rattle.run_journal.specs.Report.{key_text, kind_text, message_text, part_text, pull_text, put_text, revoke_text, start_text, why_text, yes_no};
 ghost use Rattle.journal_report.specs.Words.{word_room, word_text};
 
 use domain_base::{Node, Peer};
 use eapol_key::Message;
+use key_hierarchy::{PullAnswer, PutAnswer, RevokeAnswer};
 use run_journal::{Key, Kind, Outcome, Part, Start, Why};
 
 /// A word of a line.
@@ -105,6 +106,42 @@ pub(crate) fn why_word(why: Why) -> Word
         Why::RekeyPending => Word::Text(b"rekey-pending"),
         Why::NoKey => Word::Text(b"no-key"),
         Why::Spent => Word::Text(b"spent"),
+    }
+}
+
+/// How a key holder answered a key put into it.
+pub(crate) fn put_word(answer: PutAnswer) -> Word
+    ensures text { word_text result ≡ put_text answer }
+    ensures short { word_room result ≤ 24 }
+{
+    match answer {
+        PutAnswer::Held => Word::Text(b"held"),
+        PutAnswer::HeldAlready => Word::Text(b"held-already"),
+        PutAnswer::Full => Word::Text(b"full"),
+        PutAnswer::NoMemory => Word::Text(b"no-memory"),
+    }
+}
+
+/// How the key holders answered where a key was asked for.
+pub(crate) fn pull_word(answer: &PullAnswer) -> Word
+    ensures text { word_text result ≡ pull_text answer.now }
+    ensures short { word_room result ≤ 24 }
+{
+    match answer {
+        PullAnswer::Found(_) => Word::Text(b"found"),
+        PullAnswer::NoHolder => Word::Text(b"no-holder"),
+        PullAnswer::Absent => Word::Text(b"absent"),
+    }
+}
+
+/// How a key holder answered where a key is to be held no longer.
+pub(crate) fn revoke_word(answer: RevokeAnswer) -> Word
+    ensures text { word_text result ≡ revoke_text answer }
+    ensures short { word_room result ≤ 24 }
+{
+    match answer {
+        RevokeAnswer::Revoked => Word::Text(b"revoked"),
+        RevokeAnswer::Absent => Word::Text(b"absent"),
     }
 }
 

@@ -1,11 +1,12 @@
 -- What an accepted or answered EAPOL-Key message tells of the node, its peer and the history.
-use Rattle.std.proofs.Common.{ℕ, ◌≡◌, ◌⊎◌, ◌+◌, ◌<◌, ◌≤◌, inl, inr, Bool, true, false, cond, List, [], ◌∷◌, ◌++◌, length, take, drop, map, Option, Some, None, refl, sym, ap, subst, arith}
+use Rattle.std.proofs.Common.{◌∙◌, ℕ, ◌≡◌, ◌⊎◌, ◌+◌, ◌<◌, ◌≤◌, inl, inr, Bool, true, false, cond, List, [], ◌∷◌, ◌++◌, length, take, drop, map, Option, Some, None, refl, sym, ap, subst, arith}
 use Rattle.std.specs.Prelude.{not, ◌||◌, max, nat_lt, if◌then◌else◌}
 use Rattle.std.proofs.lemmas.Bool.{ltb-true}
 use Rattle.std.proofs.lemmas.List.{length-take, length-drop}
 use Rattle.std.proofs.lemmas.Slice.Eq.{bytes_eq-Decides}
 use Rattle.key_wrap.specs.KeyWrap.{Wraps}
 use Rattle.domain_base.specs.declared.names.Akm.{Akm}
+use Rattle.domain_base.specs.declared.names.Akm.TheVariants.{Psk, PskSha256, FtPsk}
 use Rattle.domain_base.specs.declared.names.Node.{Node}
 use Rattle.domain_base.specs.declared.names.Node.TheVariants.{Ap, Sta}
 use Rattle.air_frame.specs.Fields.{HeaderFields, header_in, header_at}
@@ -28,18 +29,19 @@ use Rattle.run_journal.specs.declared.acts.Act.TheVariants.{Derived, Took}
 use Rattle.run_journal.specs.Acts.{Derivation, same_kind, replied}
 use Rattle.run_journal.specs.Questions.{attempt, since, derivation, session, chain, draws, listed, all_replied}
 use Rattle.run_journal.specs.Premises.{In}
-use Rattle.domain_rules.specs.Network.{address, peer_of, is_ap, direction, goes_like, root, inputs, IsListed}
+use Rattle.domain_rules.specs.Network.{address, peer_of, is_ap, direction, goes_like, r0kh_id, root_at, inputs, IsListed}
 use Rattle.key_hierarchy.specs.Keys.{ptk}
 use Rattle.domain_rules.specs.Reading.{Management, KeyMessage, Managed, Keyed, HasMessage}
 use Rattle.domain_rules.specs.Facts.{Facts, IsUnwrapped, ReadsKeyData}
-use Rattle.domain_rules.specs.StationKeys.{Keying, keying_by, session_keying, attempt_keying, m3_keying, taken_in, m3_verdict_by, m3_wrapped, g1_verdict_by, g1_wrapped, KnowsM3}
+use Rattle.domain_rules.specs.StationKeys.{Keying, keying_by, session_keying, attempt_keying, m3_keying, taken_in, m3_verdict_by, g1_verdict_by, g1_wrapped, KnowsM3}
 use Rattle.domain_rules.specs.Associating.{management_verdict}
 use Rattle.domain_rules.specs.Asking.{replay_counter, at_least, greatest, in_attempt, above, among, verified, by_connect, has_heard, kept_counter, offered, own}
 use Rattle.domain_rules.specs.AccessPointKeys.{m4_keying}
-use Rattle.domain_rules.specs.Verdict.{is_mine, management_sender, from_peer, key_verdict, first_verdict, further, and_then, unless_refused, verdict, ComesSoFar, KnowsOf, KnowsFrom, Knows}
+use Rattle.domain_rules.specs.Verdict.{is_mine, management_sender, from_peer, key_verdict, first_verdict, further, key_further, m3_further, and_then, unless_refused, verdict, ComesSoFar, KnowsOf, KnowsFrom, Knows}
 use Rattle.domain_rules.proofs.Parts.{in_part, same-refl}
+use Rattle.domain_rules.proofs.OneOutcome.{from_named}
 use Rattle.domain_rules.proofs.Peers.{IsPeer, peer_is}
-use Rattle.journal_safety.proofs.Legal.{ack, GivesKey, In_m3, In_g1, Above}
+use Rattle.journal_safety.proofs.Legal.{ack, Above}
 use Rattle.journal_safety.proofs.Names.{listed_by}
 use Rattle.journal_safety.proofs.Histories.{derivation_in, session_in}
 
@@ -143,10 +145,10 @@ taken_by d first n p h octets k o c has from e =
     }
 
 pub taken_accepted : (d : Domain) (first : ℕ) (n p : Node) (h : List Act) (octets : List ℕ) (k : KeyMessage) (facts : Facts) → HasMessage d.akm octets k → peer_of d n k.header.a2 ≡ Some p → verdict d first n h (Keyed k) facts ≡ Accepted → Taken d n p h k Accepted
-taken_accepted d first n p h octets k facts has from e = taken_by d first n p h octets k Accepted tt has from (first_accepted (first_verdict d first n h (Keyed k)) (further d.akm (Keyed k) facts) e)
+taken_accepted d first n p h octets k facts has from e = taken_by d first n p h octets k Accepted tt has from (first_accepted (first_verdict d first n h (Keyed k)) (further d first n h (Keyed k) facts) e)
 
 pub taken_answered : (d : Domain) (first : ℕ) (n p : Node) (h : List Act) (octets : List ℕ) (k : KeyMessage) (facts : Facts) → HasMessage d.akm octets k → peer_of d n k.header.a2 ≡ Some p → verdict d first n h (Keyed k) facts ≡ Answered → Taken d n p h k Answered
-taken_answered d first n p h octets k facts has from e = taken_by d first n p h octets k Answered tt has from (first_answered (first_verdict d first n h (Keyed k)) (further d.akm (Keyed k) facts) e)
+taken_answered d first n p h octets k facts has from e = taken_by d first n p h octets k Answered tt has from (first_answered (first_verdict d first n h (Keyed k)) (further d first n h (Keyed k) facts) e)
 
 -- ---- M3
 
@@ -186,7 +188,7 @@ by_derivation b (Some x) y e =
 
 pub record KeyingIn (p : Node) (h : List Act) (y : Keying) : Type 0 where
   pub there : In (Derived p y.key.inputs y.key.ptk) h
-  pub awaited : y.is_session ≡ false → (part : List Act) × ((attempt p h ≡ Some part) × (derivation p part ≡ Some y.key))
+  pub awaited : y.is_session ≡ false → (part : List Act) × ((attempt p h ≡ Some part) × ((derivation p part ≡ Some y.key) × (by_connect part ≡ true)))
 
 in_session : (p : Node) (h : List Act) (y : Keying) (b : Bool) → cond b (keying_by true (session p h)) None ≡ Some y → KeyingIn p h y
 in_session p h y false e = cc
@@ -194,16 +196,16 @@ in_session p h y true e =
     let w = by_derivation true (session p h) y e in
     record { there = session_in p h y.key w.0; awaited = λ no. (let z : y.is_session ≡ true = w.1 in cc (no, z)) }
 
-in_attempt_by : (p : Node) (h part : List Act) (y : Keying) → attempt p h ≡ Some part → (b c : Bool) → cond b (cond c (keying_by false (derivation p part)) None) (session_keying p h) ≡ Some y → KeyingIn p h y
-in_attempt_by p h part y a false c e = in_session p h y (by_connect (since p h)) e
-in_attempt_by p h part y a true false e = cc
-in_attempt_by p h part y a true true e =
+in_attempt_by : (p : Node) (h part : List Act) (y : Keying) → attempt p h ≡ Some part → (b c : Bool) → by_connect part ≡ b → cond b (cond c (keying_by false (derivation p part)) None) (session_keying p h) ≡ Some y → KeyingIn p h y
+in_attempt_by p h part y a false c begun e = in_session p h y (by_connect (since p h)) e
+in_attempt_by p h part y a true false begun e = cc
+in_attempt_by p h part y a true true begun e =
     let w = by_derivation false (derivation p part) y e in
-    record { there = in_part p h part (Derived p y.key.inputs y.key.ptk) a (derivation_in p part y.key w.0); awaited = λ no. (part, (a, w.0)) }
+    record { there = in_part p h part (Derived p y.key.inputs y.key.ptk) a (derivation_in p part y.key w.0); awaited = λ no. (part, (a, (w.0, begun))) }
 
 keying_in_by : (p : Node) (h : List Act) (y : Keying) (o : Option (List Act)) → attempt p h ≡ o → attempt_keying p h o ≡ Some y → KeyingIn p h y
 keying_in_by p h y None a e = in_session p h y (by_connect (since p h)) e
-keying_in_by p h y (Some part) a e = in_attempt_by p h part y a (by_connect part) (has_heard p (kind.Key M1) part) e
+keying_in_by p h y (Some part) a e = in_attempt_by p h part y a (by_connect part) (has_heard p (kind.Key M1) part) refl e
 
 pub keying_in : (p : Node) (h : List Act) (y : Keying) → m3_keying p h ≡ Some y → KeyingIn p h y
 keying_in p h y e = keying_in_by p h y (attempt p h) refl e
@@ -216,9 +218,20 @@ pub record Unwrapped (kek : List ℕ) (k : KeyMessage) (facts : Facts) : Type 0 
   pub spelled : SpellsElements KeyData plain e
   pub is : facts.data_ ≡ Some e
 
-unwrapped_by : (d : Domain) (y : Keying) (k : KeyMessage) (facts : Facts) → KnowsM3 y.key.ptk.kek k facts → ((why : Reason) → m3_wrapped d.akm facts.unwrapped facts.data_ ≡ Refused why → ⊥) → (u : Option (List ℕ)) → facts.unwrapped ≡ u → (o : Option ElementFields) → facts.data_ ≡ o → Unwrapped y.key.ptk.kek k facts
-unwrapped_by d y k facts knows unrefused None is o none = absurd (unrefused reason.Wrap (rw is refl))
-unwrapped_by d y k facts knows unrefused (Some plain) is None none = absurd (unrefused (reason.KeyData key_data.Unreadable) (rw (is, none) refl))
+-- by the suite: without plain text, or where it cannot be read, it is refused
+no_plain : (akm : Akm) (d : Domain) (y : Keying) (facts : Facts) → facts.unwrapped ≡ None → m3_further akm d (Some y) facts ≡ Refused reason.Wrap
+no_plain Psk d y facts is = rw is refl
+no_plain PskSha256 d y facts is = rw is refl
+no_plain FtPsk d y facts is = rw is refl
+
+no_data : (akm : Akm) (d : Domain) (y : Keying) (facts : Facts) (plain : List ℕ) → facts.unwrapped ≡ Some plain → facts.data_ ≡ None → m3_further akm d (Some y) facts ≡ Refused (reason.KeyData key_data.Unreadable)
+no_data Psk d y facts plain is none = rw (is, none) refl
+no_data PskSha256 d y facts plain is none = rw (is, none) refl
+no_data FtPsk d y facts plain is none = rw (is, none) refl
+
+unwrapped_by : (d : Domain) (y : Keying) (k : KeyMessage) (facts : Facts) → KnowsM3 y.key.ptk.kek k facts → ((why : Reason) → m3_further d.akm d (Some y) facts ≡ Refused why → ⊥) → (u : Option (List ℕ)) → facts.unwrapped ≡ u → (o : Option ElementFields) → facts.data_ ≡ o → Unwrapped y.key.ptk.kek k facts
+unwrapped_by d y k facts knows unrefused None is o none = absurd (unrefused reason.Wrap (no_plain d.akm d y facts is))
+unwrapped_by d y k facts knows unrefused (Some plain) is None none = absurd (unrefused (reason.KeyData key_data.Unreadable) (no_data d.akm d y facts plain is none))
 unwrapped_by d y k facts knows unrefused (Some plain) is (Some e) said = record {
   plain = plain;
   e = e;
@@ -227,17 +240,22 @@ unwrapped_by d y k facts knows unrefused (Some plain) is (Some e) said = record 
   is = said;
 }
 
+-- what is asked further of a message from p
+further_named : (d : Domain) (first : ℕ) (n : Node) (h : List Act) (k : KeyMessage) (facts : Facts) (p : Node) → peer_of d n k.header.a2 ≡ Some p → further d first n h (Keyed k) facts ≡ key_further d n h p k.message facts
+further_named d first n h k facts p from = from_named (peer_of d n k.header.a2) p (λ p. key_further d n h p k.message facts) from
+
 -- the facts are known of a message that came so far
 knows_m3 : (d : Domain) (first : ℕ) (n p : Node) (h : List Act) (k : KeyMessage) (facts : Facts) (y : Keying) → k.message ≡ M3 → peer_of d n k.header.a2 ≡ Some p → first_verdict d first n h (Keyed k) ≡ Accepted → Knows d first n h (Keyed k) facts → m3_keying p h ≡ Some y → KnowsM3 y.key.ptk.kek k facts
 knows_m3 d first n p h k facts y m3 from e knows awaited =
     let all : KnowsFrom d n h (Keyed k) facts = knows (comes_as (first_verdict d first n h (Keyed k)) Accepted e tt) in
-    subst (λ (m : Message). KnowsOf d.akm h p m k facts) m3 (all p from) y awaited
+    subst (λ (m : Message). KnowsOf d.akm h p m k facts) m3 (all p from).0 y awaited
 
 pub unwrapped_m3 : (d : Domain) (first : ℕ) (n p : Node) (h : List Act) (k : KeyMessage) (facts : Facts) (y : Keying) → k.message ≡ M3 → peer_of d n k.header.a2 ≡ Some p → verdict d first n h (Keyed k) facts ≡ Accepted → Knows d first n h (Keyed k) facts → m3_keying p h ≡ Some y → Unwrapped y.key.ptk.kek k facts
 unwrapped_m3 d first n p h k facts y m3 from e knows awaited =
-    let so_far = first_accepted (first_verdict d first n h (Keyed k)) (further d.akm (Keyed k) facts) e in
+    let so_far = first_accepted (first_verdict d first n h (Keyed k)) (further d first n h (Keyed k) facts) e in
     unwrapped_by d y k facts (knows_m3 d first n p h k facts y m3 from so_far knows awaited)
-    (λ why is. further_unrefused (first_verdict d first n h (Keyed k)) (further d.akm (Keyed k) facts) e why (rw m3 is))
+    (λ why is. further_unrefused (first_verdict d first n h (Keyed k)) (further d first n h (Keyed k) facts) e why
+    (further_named d first n h k facts p from ∙ ap (λ (m : Message). key_further d n h p m facts) m3 ∙ ap (λ (o : Option Keying). m3_further d.akm d o facts) awaited ∙ is))
     facts.unwrapped refl facts.data_ refl
 
 pub awaited_m3 : (d : Domain) (n p : Node) (h : List Act) (k : KeyMessage) (y : Keying) → k.message ≡ M3 → Taken d n p h k Accepted → m3_keying p h ≡ Some y → y.is_session ≡ false
@@ -259,13 +277,14 @@ unwrapped_g1_by kek k facts knows unrefused (Some plain) is (Some e) said = reco
 knows_g1 : (d : Domain) (first : ℕ) (n p : Node) (h : List Act) (k : KeyMessage) (facts : Facts) (x : Derivation) → k.message ≡ G1 → peer_of d n k.header.a2 ≡ Some p → first_verdict d first n h (Keyed k) ≡ Accepted → Knows d first n h (Keyed k) facts → session p h ≡ Some x → KnowsM3 x.ptk.kek k facts
 knows_g1 d first n p h k facts x g1 from e knows awaited =
     let all : KnowsFrom d n h (Keyed k) facts = knows (comes_as (first_verdict d first n h (Keyed k)) Accepted e tt) in
-    subst (λ (m : Message). KnowsOf d.akm h p m k facts) g1 (all p from) x awaited
+    subst (λ (m : Message). KnowsOf d.akm h p m k facts) g1 (all p from).0 x awaited
 
 pub unwrapped_g1 : (d : Domain) (first : ℕ) (n p : Node) (h : List Act) (k : KeyMessage) (facts : Facts) (x : Derivation) → k.message ≡ G1 → peer_of d n k.header.a2 ≡ Some p → verdict d first n h (Keyed k) facts ≡ Accepted → Knows d first n h (Keyed k) facts → session p h ≡ Some x → Unwrapped x.ptk.kek k facts
 unwrapped_g1 d first n p h k facts x g1 from e knows awaited =
-    let so_far = first_accepted (first_verdict d first n h (Keyed k)) (further d.akm (Keyed k) facts) e in
+    let so_far = first_accepted (first_verdict d first n h (Keyed k)) (further d first n h (Keyed k) facts) e in
     unwrapped_g1_by x.ptk.kek k facts (knows_g1 d first n p h k facts x g1 from so_far knows awaited)
-    (λ why is. further_unrefused (first_verdict d first n h (Keyed k)) (further d.akm (Keyed k) facts) e why (rw g1 is))
+    (λ why is. further_unrefused (first_verdict d first n h (Keyed k)) (further d first n h (Keyed k) facts) e why
+    (further_named d first n h k facts p from ∙ ap (λ (m : Message). key_further d n h p m facts) g1 ∙ is))
     facts.unwrapped refl facts.data_ refl
 
 above_low_by : (y counter : ℕ) (b : Bool) (x : Outcome) → nat_lt y counter ≡ b → cond b x (Refused (reason.Counter y)) ≡ Accepted → y < counter
@@ -292,11 +311,6 @@ mapped_in octets [] there = there
 mapped_in octets (x ∷ xs) (inl here) = inl (ap replay_counter here)
 mapped_in octets (x ∷ xs) (inr later) = inr (mapped_in octets xs later)
 
-in_front : (octets : List ℕ) (xs ys : List (List ℕ)) → In octets xs → In octets (xs ++ ys)
-in_front octets [] ys there = absurd there
-in_front octets (x ∷ xs) ys (inl here) = inl here
-in_front octets (x ∷ xs) ys (inr later) = inr (in_front octets xs ys later)
-
 in_back : (octets : List ℕ) (xs ys : List (List ℕ)) → In octets ys → In octets (xs ++ ys)
 in_back octets [] ys there = there
 in_back octets (x ∷ xs) ys there = inr (in_back octets xs ys there)
@@ -311,16 +325,13 @@ replied_in p m octets s (e ∷ part) same (inl here) =
     subst (λ (x : Act). In octets (listed (replied p (kind.Key m) x) (all_replied p (kind.Key m) part))) here (rw (same-refl p, same) (inl refl))
 replied_in p m octets s (e ∷ part) same (inr later) = listed_more octets (replied p (kind.Key m) e) (all_replied p (kind.Key m) part) (replied_in p m octets s part same later)
 
-kept_in : (p : Node) (m : Message) (octets : List ℕ) (s : Option Seal) (part : List Act) → GivesKey m → In (Took (Some p) octets (kind.Key m) Accepted s) part → In octets (all_replied p (kind.Key M3) part ++ all_replied p (kind.Key G1) part)
-kept_in p m octets s part (In_m3 is) there =
-    in_front octets (all_replied p (kind.Key M3) part) (all_replied p (kind.Key G1) part) (replied_in p M3 octets s part refl (subst (λ (x : Message). In (Took (Some p) octets (kind.Key x) Accepted s) part) is there))
-kept_in p m octets s part (In_g1 is) there =
-    in_back octets (all_replied p (kind.Key M3) part) (all_replied p (kind.Key G1) part) (replied_in p G1 octets s part refl (subst (λ (x : Message). In (Took (Some p) octets (kind.Key x) Accepted s) part) is there))
+kept_in : (p : Node) (octets : List ℕ) (s : Option Seal) (part : List Act) → In (Took (Some p) octets (kind.Key G1) Accepted s) part → In octets (all_replied p (kind.Key M3) part ++ all_replied p (kind.Key G1) part)
+kept_in p octets s part there = in_back octets (all_replied p (kind.Key M3) part) (all_replied p (kind.Key G1) part) (replied_in p G1 octets s part refl there)
 
 g1_above_by : (d : Domain) (h : List Act) (p : Node) (k : KeyMessage) (x : Derivation) → g1_verdict_by d (kept_counter p (chain p h)) k (Some x) ≡ Accepted → Above p k.fields.counter (since p h)
-g1_above_by d h p k x e m octets s gives there =
+g1_above_by d h p k x e octets s there =
     let w = over (replay_counter octets) (map replay_counter (all_replied p (kind.Key M3) (since p h) ++ all_replied p (kind.Key G1) (since p h)))
-    (mapped_in octets (all_replied p (kind.Key M3) (since p h) ++ all_replied p (kind.Key G1) (since p h)) (kept_in p m octets s (since p h) gives there)) in
+    (mapped_in octets (all_replied p (kind.Key M3) (since p h) ++ all_replied p (kind.Key G1) (since p h)) (kept_in p octets s (since p h) there)) in
     let low : w.0 < k.fields.counter = above_low (kept_counter p (chain p h)) k.fields.counter w.0 (verified d.akm x.ptk.kck k Accepted) w.1.0 e in
     omega (arith, low, w.1.1)
 
@@ -346,7 +357,7 @@ m2_silent_at d drawn (Ap a) h p k part e is =
     m2_by o = in_attempt o (λ part. (
         if not (by_connect part) || has_heard p (kind.Key M2) part then Refused reason.Unawaited
         else among (offered p M1 part) k.fields.counter
-        (verified d.akm (ptk (inputs d (root d) (Ap a) p (own part) k.fields.nonce)).kck k Accepted)))
+        (verified d.akm (ptk (inputs d (root_at d (r0kh_id d (Ap a))) (Ap a) p (own part) k.fields.nonce)).kck k Accepted)))
 m2_silent_at d drawn (Sta s) h p k part e is = absurd (cc e)
 
 pub m2_silent : (d : Domain) (n p : Node) (h : List Act) (k : KeyMessage) (part : List Act) → k.message ≡ M2 → Taken d n p h k Accepted → attempt p h ≡ Some part → has_heard p (kind.Key M2) part ≡ false
@@ -368,7 +379,7 @@ request_role_by d drawn (Sta sta) h p k b e is s = let w : management_verdict d 
 
 pub request_role : (d : Domain) (first : ℕ) (n : Node) (h : List Act) (b : Management) (e : ElementFields) (facts : Facts) → b.kind ≡ kind.AssocReq → verdict d first n h (Managed b e) facts ≡ Accepted → is_ap n ≡ true
 request_role d first n h b e facts is accepted =
-    let a : first_verdict d first n h (Managed b e) ≡ Accepted = first_accepted (first_verdict d first n h (Managed b e)) (further d.akm (Managed b e) facts) accepted in
+    let a : first_verdict d first n h (Managed b e) ≡ Accepted = first_accepted (first_verdict d first n h (Managed b e)) (further d first n h (Managed b e) facts) accepted in
     let behind = from_some (management_sender d n b.header) (λ p. management_verdict d (first + draws h) n h p b.kind b e) (not_thrown (not (is_mine d n b.header)) reason.NotForMe _ a) in
     request_role_by d (first + draws h) n h behind.0 b.kind b e is behind.1
 

@@ -6,16 +6,18 @@ use Rattle.std.specs.Int.{w16, w64, to_be_bytes, from_be_bytes}
 use Rattle.std.proofs.lemmas.Nat.{be_bytes_8, from_be_bytes-to_be_bytes_8}
 use Rattle.std.proofs.lemmas.List.{take_all, length-drop, length-take, length-append, append-nil}
 use Rattle.domain_base.specs.declared.names.Akm.{Akm}
+use Rattle.domain_base.specs.declared.names.Akm.TheVariants.{Psk, PskSha256, FtPsk}
+use Rattle.std.proofs.lemmas.Bool.{lt-ltb}
 use Rattle.domain_base.specs.Places.{part, big_endian_at}
 use Rattle.mac_prf.specs.Mic.{mic, without_mic}
 use Rattle.mac_prf.proofs.Parts.{length-mic}
 use Rattle.eapol_key.specs.declared.messages.Message.{Message}
 use Rattle.eapol_key.specs.declared.messages.Message.TheVariants.{M1, M2, M3, M4, G1, G2}
 use Rattle.eapol_key.specs.KeyFrame.{KeyFields, SpellsKeyFrame}
-use Rattle.eapol_key.specs.Messages.{IsMessage, has_bit}
+use Rattle.eapol_key.specs.Messages.{descriptor_version, IsMessage, has_bit}
 use Rattle.eapol_key.specs.Octets.{FitsKeyFrame, frame_octets}
 use Rattle.eapol_key.specs.Sealed.{sealed}
-use Rattle.eapol_key.specs.Sent.{IsSentWith, sent_fields}
+use Rattle.eapol_key.specs.Sent.{IsSentWith, sent_bits, sent_fields}
 use Rattle.eapol_key.proofs.Codes.{spells_with_mic}
 use Rattle.eapol_key.proofs.Fronts.{front_spells}
 use Rattle.eapol_key.proofs.Joined.{sent_fits}
@@ -153,3 +155,34 @@ sealed_covers m akm kck counter rsc nonce key_data with_ n few =
     (sym size ∙ sym (length-over (frame_octets f) code (omega (arith, size)) (length-mic akm kck (frame_octets f)))) (record { version = is.version; error = is.error; request = is.request; bits = is.bits; key_data = is.key_data }) in
     subst (λ (x : List ℕ). Covers (1 ∷ without_mic (sealed akm kck x)) m f) (same_frame m akm counter rsc nonce key_data)
     (record { message = c.message; counter = c.counter; nonce = c.nonce; key_data = c.key_data })
+
+-- ---- M2 with key data of any length
+
+m2_octets : Akm → ℕ → List ℕ → List ℕ → List ℕ
+m2_octets akm counter nonce key_data = frame_octets (sent_fields M2 akm counter nonce 0 key_data)
+
+length-m2 : (akm : Akm) (counter : ℕ) (nonce key_data : List ℕ) → length nonce ≡ 32 → length (m2_octets akm counter nonce key_data) ≡ 99 + length key_data
+unfolding m2_octets frame_octets
+length-m2 akm counter nonce key_data n = simp length-append (omega (arith, n))
+
+m2_bits : (akm : Akm) (kck : List ℕ) (counter : ℕ) (nonce key_data : List ℕ) → covered_information (1 ∷ without_mic (sealed akm kck (m2_octets akm counter nonce key_data))) ≡ sent_bits M2 + descriptor_version akm
+unfolding covered_information m2_octets frame_octets
+m2_bits Psk kck counter nonce key_data = refl
+m2_bits PskSha256 kck counter nonce key_data = refl
+m2_bits FtPsk kck counter nonce key_data = refl
+
+m2_parts : (akm : Akm) (key_data : List ℕ) → 0 < length key_data → by_parts (sent_bits M2 + descriptor_version akm) key_data ≡ M2
+unfolding by_parts by_bits
+m2_parts Psk key_data some = rw (lt-ltb 0 (length key_data) some) refl
+m2_parts PskSha256 key_data some = rw (lt-ltb 0 (length key_data) some) refl
+m2_parts FtPsk key_data some = rw (lt-ltb 0 (length key_data) some) refl
+
+pub m2_covers : (akm : Akm) (kck : List ℕ) (counter : ℕ) (nonce key_data : List ℕ) → length nonce ≡ 32 → 0 < length key_data → covered_message (1 ∷ without_mic (sealed akm kck (frame_octets (sent_fields M2 akm counter nonce 0 key_data)))) ≡ M2
+unfolding covered_message covered_key_data m2_octets
+m2_covers akm kck counter nonce key_data n some =
+    let frame : List ℕ = frame_octets (sent_fields M2 akm counter nonce 0 key_data) in
+    let size : length frame ≡ 99 + length key_data = length-m2 akm counter nonce key_data n in
+    let over : length (sealed akm kck frame) ≡ length frame = length-over frame (mic akm kck frame) (omega (arith, size)) (length-mic akm kck frame) in
+    let whole : length (without_mic (sealed akm kck frame)) ≡ length (sealed akm kck frame) = length-over (sealed akm kck frame) (replicate 16 0) (omega (arith, over, size)) refl in
+    let rest : 0 < length (drop 100 (1 ∷ without_mic (sealed akm kck frame))) = omega (arith, length-drop 99 (without_mic (sealed akm kck frame)), whole, over, size, some) in
+    ap (λ (x : ℕ). by_parts x (drop 100 (1 ∷ without_mic (sealed akm kck frame)))) (m2_bits akm kck counter nonce key_data) ∙ m2_parts akm (drop 100 (1 ∷ without_mic (sealed akm kck frame))) rest

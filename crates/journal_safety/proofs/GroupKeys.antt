@@ -2,13 +2,10 @@
 use Rattle.std.proofs.Common.{ℕ, suc, ◌≡◌, ◌<◌, ◌⊎◌, inl, inr, ⊎_elim, Bool, true, false, not, cond, List, [], ◌∷◌, take, Option, Some, None, is_some, refl, sym, ap, ◌∙◌, subst, arith}
 use Rattle.std.specs.Prelude.{bytes_eq}
 use Rattle.std.proofs.lemmas.Slice.Eq.{bytes_eq-Decides}
-use Rattle.key_wrap.specs.KeyWrap.{Wraps}
 use Rattle.domain_base.specs.declared.names.Mac.{Mac}
 use Rattle.domain_base.specs.declared.names.Node.{Node}
 use Rattle.domain_base.specs.declared.names.Peer.TheVariants.{One, All}
-use Rattle.eapol_key.specs.declared.messages.Message.{Message}
 use Rattle.eapol_key.specs.declared.messages.Message.TheVariants.{G1}
-use Rattle.key_hierarchy.specs.Keys.{ptk}
 use Rattle.key_hierarchy.specs.declared.inputs.Inputs.{Inputs}
 use Rattle.run_journal.specs.GroupKinds as groups
 use Rattle.run_journal.specs.declared.domain.Domain.{Domain}
@@ -28,12 +25,10 @@ use Rattle.domain_rules.specs.Network.{is_ap}
 use Rattle.domain_rules.specs.Frames.{keyed_by}
 use Rattle.domain_rules.specs.Counters.{next_in_session, first_in_session}
 use Rattle.domain_rules.specs.GroupKeys.{find_key}
-use Rattle.domain_rules.specs.StationRows.{carried}
 use Rattle.domain_rules.proofs.Parts.{same-true, same-refl, since_part}
-use Rattle.domain_rules.proofs.CarriedKey.{one_carried, one_carried_g1}
-use Rattle.journal_safety.proofs.Covers.{covered_message, covered_counter}
+use Rattle.journal_safety.proofs.Covers.{covered_counter}
 use Rattle.journal_safety.proofs.Ends.{Tail, tail_refl, tail_rest, tail_trans, tail_total, tail_in, Order, Same, First, Second, order, history_tail, EndOf, end_of}
-use Rattle.journal_safety.proofs.Legal.{ack, nonce_of, Alive, Verified, IsNewest, CarriesM3, CarriesG1, Carries, seal_under, GivesKey, In_m3, In_g1, Given, GivenG1, By_m3, By_g1, LegalGroup, LegalCurrent, LegalFinished, Legal, LegalHistory}
+use Rattle.journal_safety.proofs.Legal.{covered_kind, In_response, nonce_of, Alive, Verified, IsNewest, CarriesM3, CarriesG1, Carries, seal_under, GivesKey, In_m3, In_g1, Given, GivenG1, By_m3, By_g1, LegalGroup, LegalCurrent, LegalFinished, Legal, LegalHistory}
 use Rattle.journal_safety.proofs.Histories.{nonce_in, legal_end, gtk_drew, gtks_tail, gtk_drawn-is}
 use Rattle.journal_safety.proofs.Sessions.{session_older, finished_of, session_finished, finished_verified, session_nonce, given_wider, given_in_session}
 use Rattle.journal_safety.proofs.Runs.{legal_history}
@@ -125,22 +120,22 @@ rising d n s i (x ∷ h) before e legal fresh w (inr t) is was =
 -- ---- where the key data of a message was made that a station took
 
 -- in an attempt that went on, or it stands in a G1
-data Origin (n s : Node) (i : Inputs) (covered : List ℕ) (lines : List Entry) : Type 0 where
+pub data Origin (n s : Node) (i : Inputs) (covered : List ℕ) (lines : List Entry) : Type 0 where
   In_attempt : Alive n (history n lines) s i → Origin n s i covered lines
-  In_session : covered_message covered ≡ G1 → Origin n s i covered lines
+  In_session : covered_kind covered ≡ kind.Key G1 → Origin n s i covered lines
 
-record BuiltAt (d : Domain) (n s : Node) (i : Inputs) (covered g : List ℕ) (past : List Entry) : Type 0 where
-  sealed : SealedBy d s n i covered past
-  lines : List Entry
-  tail : Tail lines sealed.earlier
-  newest : IsNewest g (history n lines)
-  verified : Verified n (history n lines) s i
-  origin : Origin n s i covered lines
+pub record BuiltAt (d : Domain) (n s : Node) (i : Inputs) (covered g : List ℕ) (past : List Entry) : Type 0 where
+  pub sealed : SealedBy d s n i covered past
+  pub lines : List Entry
+  pub tail : Tail lines sealed.earlier
+  pub newest : IsNewest g (history n lines)
+  pub verified : Verified n (history n lines) s i
+  pub origin : Origin n s i covered lines
 
-built_tail : (d : Domain) (n s : Node) (i : Inputs) (covered g : List ℕ) (past : List Entry) → (b : BuiltAt d n s i covered g past) → Tail b.lines past
+pub built_tail : (d : Domain) (n s : Node) (i : Inputs) (covered g : List ℕ) (past : List Entry) → (b : BuiltAt d n s i covered g past) → Tail b.lines past
 built_tail d n s i covered g past b = tail_trans b.lines b.sealed.earlier past b.tail (sealed_tail d s n i covered past b.sealed)
 
-built_m3 : (d : Domain) (n s : Node) (i : Inputs) (covered g : List ℕ) (past : List Entry) → (w : SealedBy d s n i covered past) → (c : CarriesM3 d n (history n w.earlier) s i covered) → c.key.key ≡ g → BuiltAt d n s i covered g past
+built_m3 : (d : Domain) (n s : Node) (i : Inputs) (covered g : List ℕ) (past : List Entry) → (w : SealedBy d s n i covered past) → (c : CarriesM3 n (history n w.earlier) s i covered) → c.key ≡ g → BuiltAt d n s i covered g past
 built_m3 d n s i covered g past w c key =
     let b = c.built in
     let e = end_of n b.past w.earlier b.tail in
@@ -153,7 +148,7 @@ built_m3 d n s i covered g past w c key =
       origin = In_attempt (subst (λ (x : List Act). Alive n x s i) (sym e.is) b.alive);
     }
 
-built_g1 : (d : Domain) (n s : Node) (i : Inputs) (covered g : List ℕ) (past : List Entry) → Good d past → covered_message covered ≡ G1 → (w : SealedBy d s n i covered past) → (c : CarriesG1 d n (history n w.earlier) s i covered) → c.key.key ≡ g → BuiltAt d n s i covered g past
+built_g1 : (d : Domain) (n s : Node) (i : Inputs) (covered g : List ℕ) (past : List Entry) → Good d past → covered_kind covered ≡ kind.Key G1 → (w : SealedBy d s n i covered past) → (c : CarriesG1 n (history n w.earlier) s i covered) → c.key ≡ g → BuiltAt d n s i covered g past
 built_g1 d n s i covered g past good is w c key =
     let legal : LegalHistory d n (history n w.earlier) = legal_history d n w.earlier (good_tail d w.earlier past (sealed_tail d s n i covered past w) good).legal in
     record {
@@ -165,36 +160,24 @@ built_g1 d n s i covered g past good is w c key =
       origin = In_session is;
     }
 
-from_ap : (m : Message) → GivesKey m → ack m ≡ true
-from_ap m (In_m3 is) = ap ack is
-from_ap m (In_g1 is) = ap ack is
-
 given_sealed : (d : Domain) (n s : Node) (i : Inputs) (g : List ℕ) (past : List Entry) → Good d past → is_ap s ≡ false → (v : Given s (history s past) n i g) → SealedBy d s n i v.covered past
 given_sealed d n s i g past good station v =
-    sealed_by d s n i (Some n) v.octets (kind.Key v.message) Accepted v.covered past good v.derived
-    (since_in n (Took (Some n) v.octets (kind.Key v.message) Accepted (Some (seal_under i v.covered))) (history s past) v.took)
-    v.form (ap ack v.message_is ∙ from_ap v.message v.gives_key ∙ ap not (sym station))
+    sealed_by d s n i (Some n) v.octets v.frame Accepted v.covered past good v.derived
+    (since_in n (Took (Some n) v.octets v.frame Accepted (Some (seal_under i v.covered))) (history s past) v.took)
+    v.form (v.down ∙ ap not (sym station))
 
--- whoever unwraps the key data has the group key that was put in
-key_m3 : (d : Domain) (n s : Node) (i : Inputs) (g : List ℕ) (h hs : List Act) (v : Given s hs n i g) → (c : CarriesM3 d n h s i v.covered) → c.key.key ≡ g
-key_m3 d n s i g h hs v c =
-    let one : carried (Some v.e) ≡ c.key = one_carried d i c.key v.plain v.e c.is (subst (λ (x : List ℕ). Wraps (ptk i).kek v.plain x) c.load v.wraps) v.spelled in
-    ap (λ (x : GroupKey). x.key) (sym one) ∙ v.key
-
-key_g1 : (d : Domain) (n s : Node) (i : Inputs) (g : List ℕ) (h hs : List Act) (v : Given s hs n i g) → (c : CarriesG1 d n h s i v.covered) → c.key.key ≡ g
-key_g1 d n s i g h hs v c =
-    let one : carried (Some v.e) ≡ c.key = one_carried_g1 i c.key v.plain v.e c.is (subst (λ (x : List ℕ). Wraps (ptk i).kek v.plain x) c.load v.wraps) v.spelled in
-    ap (λ (x : GroupKey). x.key) (sym one) ∙ v.key
-
-built_by : (d : Domain) (n s : Node) (i : Inputs) (g : List ℕ) (past : List Entry) → Good d past → (v : Given s (history s past) n i g) → (w : SealedBy d s n i v.covered past) → GivesKey v.message → BuiltAt d n s i v.covered g past
+built_by : (d : Domain) (n s : Node) (i : Inputs) (g : List ℕ) (past : List Entry) → Good d past → (v : Given s (history s past) n i g) → (w : SealedBy d s n i v.covered past) → GivesKey v.frame → BuiltAt d n s i v.covered g past
 built_by d n s i g past good v w (In_m3 is) =
-    let c : CarriesM3 d n (history n w.earlier) s i v.covered = subst (λ (x : Message). Carries d n (history n w.earlier) s i v.covered x) (v.message_is ∙ is) w.carries in
-    built_m3 d n s i v.covered g past w c (key_m3 d n s i g (history n w.earlier) (history s past) v c)
+    let c : CarriesM3 n (history n w.earlier) s i v.covered = subst (λ (x : Kind). Carries n (history n w.earlier) s i v.covered x) (v.frame_is ∙ is) w.carries in
+    built_m3 d n s i v.covered g past w c (c.gives g v.opens)
+built_by d n s i g past good v w (In_response is) =
+    let c : CarriesM3 n (history n w.earlier) s i v.covered = subst (λ (x : Kind). Carries n (history n w.earlier) s i v.covered x) (v.frame_is ∙ is) w.carries in
+    built_m3 d n s i v.covered g past w c (c.gives g v.opens)
 built_by d n s i g past good v w (In_g1 is) =
-    let c : CarriesG1 d n (history n w.earlier) s i v.covered = subst (λ (x : Message). Carries d n (history n w.earlier) s i v.covered x) (v.message_is ∙ is) w.carries in
-    built_g1 d n s i v.covered g past good (v.message_is ∙ is) w c (key_g1 d n s i g (history n w.earlier) (history s past) v c)
+    let c : CarriesG1 n (history n w.earlier) s i v.covered = subst (λ (x : Kind). Carries n (history n w.earlier) s i v.covered x) (v.frame_is ∙ is) w.carries in
+    built_g1 d n s i v.covered g past good (v.frame_is ∙ is) w c (c.gives g v.opens)
 
-built_at : (d : Domain) (n s : Node) (i : Inputs) (g : List ℕ) (past : List Entry) → Good d past → is_ap s ≡ false → (v : Given s (history s past) n i g) → BuiltAt d n s i v.covered g past
+pub built_at : (d : Domain) (n s : Node) (i : Inputs) (g : List ℕ) (past : List Entry) → Good d past → is_ap s ≡ false → (v : Given s (history s past) n i g) → BuiltAt d n s i v.covered g past
 built_at d n s i g past good station v = built_by d n s i g past good v (given_sealed d n s i g past good station v) v.gives_key
 
 -- what every installation of a group key at a station has
@@ -271,8 +254,8 @@ sends_g1 : (s : Node) (e : Act) (k : Kind) (octets : List ℕ) (seal : Option Se
 sends_g1 s e k octets seal is kind_is =
     subst (λ (x : Act). is_some (sent s (kind.Key G1) x) ≡ true) (sym (is ∙ ap (λ (x : Kind). Sent (One s) x octets seal) kind_is)) (rw (same-refl s) refl)
 
-later_within : (d : Domain) (n s : Node) (i : Inputs) (new old g1 g2 : List ℕ) (past : List Entry) → Good d past → (b : BuiltAt d n s i old g1 past) → (w : SealedBy d s n i new past) → covered_message new ≡ G1
-    → (covered_message old ≡ G1 → covered_counter old < covered_counter new) → IsNewest g2 (history n w.earlier) → CarriesG1 d n (history n w.earlier) s i new → Later n g1 g2 past
+later_within : (d : Domain) (n s : Node) (i : Inputs) (new old g1 g2 : List ℕ) (past : List Entry) → Good d past → (b : BuiltAt d n s i old g1 past) → (w : SealedBy d s n i new past) → covered_kind new ≡ kind.Key G1
+    → (covered_kind old ≡ kind.Key G1 → covered_counter old < covered_counter new) → IsNewest g2 (history n w.earlier) → CarriesG1 n (history n w.earlier) s i new → Later n g1 g2 past
 later_within d n s i new old g1 g2 past good b w is lt newest c = go b.origin
   where
     in_order : Tail b.lines w.earlier → Later n g1 g2 past
@@ -287,19 +270,19 @@ later_within d n s i new old g1 g2 past good b w is lt newest c = go b.origin
     good_w : Good d w.earlier
     good_w = good_tail d w.earlier past (sealed_tail d s n i new past w) good
 
-    counters_cross : Tail (w.sent ∷ w.earlier) b.sealed.earlier → covered_message old ≡ G1 → ⊥
+    counters_cross : Tail (w.sent ∷ w.earlier) b.sealed.earlier → covered_kind old ≡ kind.Key G1 → ⊥
     counters_cross t g1_old =
-        let cg : CarriesG1 d n (history n b.sealed.earlier) s i old = subst (λ (x : Message). Carries d n (history n b.sealed.earlier) s i old x) g1_old b.sealed.carries in
+        let cg : CarriesG1 n (history n b.sealed.earlier) s i old = subst (λ (x : Kind). Carries n (history n b.sealed.earlier) s i old x) g1_old b.sealed.carries in
         let tail : Tail (w.sent.act ∷ history n w.earlier) (history n b.sealed.earlier) =
         subst (λ (x : List Act). Tail x (history n b.sealed.earlier)) (own_history n w.sent w.earlier w.sent_at) (history_tail n (w.sent ∷ w.earlier) b.sealed.earlier t) in
         let r = rising d n s i (history n b.sealed.earlier) (history n w.earlier) w.sent.act (legal_history d n b.sealed.earlier good_b.legal) (fresh_history n b.sealed.earlier good_b.fresh) cg.awaited tail
-        (sends_g1 s w.sent.act w.kind w.octets (Some (seal_under i new)) w.sent_is (w.kind_is ∙ ap (λ (x : Message). kind.Key x) is)) c.awaited in
+        (sends_g1 s w.sent.act w.kind w.octets (Some (seal_under i new)) w.sent_is (w.kind_is ∙ is)) c.awaited in
         let less : covered_counter old < covered_counter new = lt g1_old in
         let new_is : covered_counter new ≡ next_in_session s (history n w.earlier) = c.counter in
         let old_is : covered_counter old ≡ next_in_session s (history n b.sealed.earlier) = cg.counter in
         omega (arith, r, less, new_is, old_is)
 
-    by_order : covered_message old ≡ G1 → Order b.sealed.sent b.sealed.earlier w.sent w.earlier → Later n g1 g2 past
+    by_order : covered_kind old ≡ kind.Key G1 → Order b.sealed.sent b.sealed.earlier w.sent w.earlier → Later n g1 g2 past
     by_order g1_old (Same x are) = in_order (subst (λ (y : List Entry). Tail b.lines y) are b.tail)
     by_order g1_old (First t) = in_order (tail_trans b.lines b.sealed.earlier w.earlier b.tail (tail_rest b.sealed.sent b.sealed.earlier w.earlier t))
     by_order g1_old (Second t) = absurd (counters_cross t g1_old)
@@ -316,8 +299,8 @@ later_within d n s i new old g1 g2 past good b w is lt newest c = go b.origin
 
 later_g1 : (d : Domain) (n s : Node) (g1 g2 : List ℕ) (id : ℕ) (m : Mac) (past : List Entry) → Good d past → (v : GivenG1 s (history s past) n g2) → In (Installed (One n) (Group g1 id m)) (since n (history s past)) → Later n g1 g2 past
 later_g1 d n s g1 g2 id m past good v there =
-    later_within d n s v.i v.given.covered now.0.covered g1 g2 past good built w is (λ g1_old. below)
-    (subst (λ (x : List ℕ). IsNewest x (history n w.earlier)) (key_g1 d n s v.i g2 (history n w.earlier) (history s past) v.given c) c.newest) c
+    later_within d n s v.i v.given.covered now.0.covered g1 g2 past good built w is below
+    (subst (λ (x : List ℕ). IsNewest x (history n w.earlier)) (c.gives g2 v.given.opens) c.newest) c
   where
     took : Act
     took = Took v.from v.octets v.kind v.outcome v.seal
@@ -338,11 +321,12 @@ later_g1 d n s g1 g2 id m past good v there =
     now : (y : Given s (history s past) n v.i g1) × (y.covered ≡ was.covered)
     now = subst (λ (x : List Act). (y : Given s x n v.i g1) × (y.covered ≡ was.covered)) (sym v.is) (given_wider s n v.before (Took v.from v.octets v.kind v.outcome v.seal) v.i g1 refl was)
 
-    -- its counter is below that of this G1
-    below : covered_counter now.0.covered < covered_counter v.given.covered
-    below =
-        let low = v.above was.message was.octets (Some (seal_under v.i was.covered)) was.gives_key was.took in
-        subst (λ (c : ℕ). c < covered_counter v.given.covered) (was.counter ∙ ap covered_counter (sym now.1)) low
+    -- if it came by G1, its counter is below that of this G1
+    below : covered_kind now.0.covered ≡ kind.Key G1 → covered_counter now.0.covered < covered_counter v.given.covered
+    below g1_old =
+        let frame_is : was.frame ≡ kind.Key G1 = sym was.frame_is ∙ ap covered_kind (sym now.1) ∙ g1_old in
+        let low = v.above was.octets (Some (seal_under v.i was.covered)) (subst (λ (x : Kind). In (Took (Some n) was.octets x Accepted (Some (seal_under v.i was.covered))) (since n v.before)) frame_is was.took) in
+        subst (λ (c : ℕ). c < covered_counter v.given.covered) (was.counter frame_is ∙ ap covered_counter (sym now.1)) low
 
     built : BuiltAt d n s v.i now.0.covered g1 past
     built = built_at d n s v.i g1 past good v.station now.0
@@ -350,11 +334,11 @@ later_g1 d n s g1 g2 id m past good v there =
     w : SealedBy d s n v.i v.given.covered past
     w = given_sealed d n s v.i g2 past good v.station v.given
 
-    is : covered_message v.given.covered ≡ G1
-    is = v.given.message_is ∙ v.kind_is
+    is : covered_kind v.given.covered ≡ kind.Key G1
+    is = v.given.frame_is ∙ v.kind_is
 
-    c : CarriesG1 d n (history n w.earlier) s v.i v.given.covered
-    c = subst (λ (x : Message). Carries d n (history n w.earlier) s v.i v.given.covered x) is w.carries
+    c : CarriesG1 n (history n w.earlier) s v.i v.given.covered
+    c = subst (λ (x : Kind). Carries n (history n w.earlier) s v.i v.given.covered x) is w.carries
 
 -- The keys that a station takes from one access point never go back in the order of drawing: an earlier one was not newer.
 pub never_back : (d : Domain) (n s : Node) (g1 g2 : List ℕ) (id : ℕ) (m : Mac) (past : List Entry) → Good d past → LegalGroup s (history s past) n g2 → In (Installed (One n) (Group g1 id m)) (history s past) → Later n g1 g2 past

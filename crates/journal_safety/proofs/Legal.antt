@@ -1,7 +1,9 @@
 -- Which act may come next in the history of a node, whatever event adds it: what all of the proof of safety rests on.
-use Rattle.std.proofs.Common.{ℕ, suc, ◌≡◌, ◌<◌, inr, Bool, true, false, not, List, [], ◌∷◌, length, Option, Some, None}
+use Rattle.std.proofs.Common.{ℕ, suc, ◌≡◌, ◌<◌, inr, Bool, true, false, not, cond, List, [], ◌∷◌, length, Option, Some, None}
+use Rattle.std.specs.Prelude.{◌==◌}
 use Rattle.domain_base.specs.Octets.{AreOctets}
 use Rattle.key_wrap.specs.KeyWrap.{Wraps}
+use Rattle.domain_base.specs.declared.names.Akm.TheVariants.{FtPsk}
 use Rattle.domain_base.specs.declared.names.Mac.{Mac}
 use Rattle.domain_base.specs.declared.names.Node.{Node}
 use Rattle.domain_base.specs.declared.names.Node.TheVariants.{Ap, Sta}
@@ -15,6 +17,8 @@ use Rattle.key_hierarchy.specs.Keys.{ptk}
 use Rattle.key_hierarchy.specs.declared.inputs.Inputs.{Inputs}
 use Rattle.key_hierarchy.specs.declared.inputs.Ptk.{Ptk}
 use Rattle.run_journal.specs.declared.domain.Domain.{Domain}
+use Rattle.run_journal.specs.declared.acts.Start.{Start}
+use Rattle.run_journal.specs.declared.acts.Start.TheVariants.{Connect, Roam}
 use Rattle.run_journal.specs.declared.acts.Drawn.{Drawn}
 use Rattle.run_journal.specs.declared.acts.Drawn.TheVariants.{Nonce, Gtk}
 use Rattle.run_journal.specs.declared.acts.Kind.{Kind}
@@ -24,25 +28,28 @@ use Rattle.run_journal.specs.declared.acts.Seal.{Seal}
 use Rattle.run_journal.specs.declared.acts.Key.{Key}
 use Rattle.run_journal.specs.declared.acts.Key.TheVariants.{Pairwise, Group}
 use Rattle.run_journal.specs.declared.acts.Act.{Act}
-use Rattle.run_journal.specs.declared.acts.Act.TheVariants.{Opened, Closed, Drew, Derived, Sent, Took, Installed, Used, HandedUp, Finished}
-use Rattle.run_journal.specs.Acts.{same, GroupKey}
+use Rattle.run_journal.specs.declared.acts.Act.TheVariants.{Opened, Closed, Drew, Derived, Sent, Took, Installed, Used, HandedUp, Finished, Looked}
+use Rattle.run_journal.specs.Acts.{same}
 use Rattle.run_journal.specs.declared.acts.Outcome.TheVariants.{Accepted}
 use Rattle.run_journal.specs.declared.acts.Part.TheVariants.{Session}
 use Rattle.run_journal.specs.Questions.{attempt, since, own_nonce, derivation, session, associated, before_sent, handshake, group_keys, switches, pairwise_uses, group_uses}
 use Rattle.run_journal.specs.Premises.{In}
 use Rattle.air_frame.specs.Sent.{IsAddress}
-use Rattle.domain_rules.specs.Network.{mac, address, is_ap, draw_end, IsListed}
+use Rattle.domain_rules.specs.Network.{mac, address, is_ap, root_at, draw_end, IsListed}
+use Rattle.domain_rules.specs.HeldRight.{GivesRightKey}
+use Rattle.key_hierarchy.specs.declared.answers.PullAnswer.{PullAnswer}
+use Rattle.rsn_elements.specs.Transition.{WrappedGtkFields, FteFields}
 use Rattle.domain_rules.specs.Asking.{has_heard, replay_counter}
 use Rattle.domain_rules.specs.Counters.{sent_count, next_in_session}
 use Rattle.domain_rules.specs.AccessPointRows.{most_sends}
-use Rattle.domain_rules.specs.Frames.{wrapped, m3_key_data, g1_key_data, keyed_by}
+use Rattle.domain_rules.specs.Frames.{keyed_by}
 use Rattle.domain_rules.specs.GroupKeys.{memory, find_key, got}
 use Rattle.domain_rules.specs.PacketNumbers.{pairwise_got}
 use Rattle.domain_rules.specs.StationRows.{carried}
 use Rattle.journal_safety.proofs.Ends.{Tail}
 use Rattle.journal_safety.proofs.Covers.{covered_message, covered_counter, covered_key_data}
 use Rattle.journal_safety.proofs.CoversData.{covered_form, covered_tid, CoversData}
-use Rattle.domain_rules.proofs.CarriedKey.{IsGroupKey}
+use Rattle.journal_safety.proofs.CoversFte.{fte_number, CoversFte}
 use Rattle.run_journal.specs.GroupKinds as groups
 
 -- the Ack bit: set by access points alone
@@ -54,9 +61,18 @@ ack M4 = false
 ack G1 = true
 ack G2 = false
 
--- octets that a MIC covers are those of a frame from an access point to a station, by the Ack bit
+-- a MIC is in an EAPOL-Key frame, or in the FTE of a reassociation frame
+pub data IsMic (covered : List ℕ) : Type 0 where
+  Of_key : covered_form covered ≡ 1 → IsMic covered
+  Of_fte : covered_form covered ≡ 2 → IsMic covered
+
+-- octets that a MIC covers are those of a frame from an access point to a station, by the Ack bit, or by the number of the frame
 abbrev pub goes_down : List ℕ → Bool
-goes_down covered = ack (covered_message covered)
+goes_down covered = cond (covered_form covered == 2) (fte_number covered == 6) (ack (covered_message covered))
+
+-- and the kind of that frame
+abbrev pub covered_kind : List ℕ → Kind
+covered_kind covered = cond (covered_form covered == 2) (cond (fte_number covered == 6) kind.ReResp kind.ReReq) (kind.Key (covered_message covered))
 
 -- of a node that derived from these inputs: its own nonce, its own address, its peer's
 abbrev pub nonce_of : Node → Inputs → List ℕ
@@ -86,8 +102,8 @@ pub record AreCommon (d : Domain) (i : Inputs) : Type 0 where
   pub akm : i.akm ≡ d.akm
   pub psk : i.psk ≡ d.psk
   pub ssid : i.ssid ≡ d.ssid
-  pub mdid : i.mdid ≡ 0 ∷ 0 ∷ []
-  pub r0kh_id : i.r0kh_id ≡ []
+  pub mdid : i.mdid ≡ (root_at d i.r0kh_id).mdid
+  pub r0kh_id : i.r0kh_id ≡ (root_at d i.r0kh_id).r0kh_id
 
 -- the node derived with a listed node of the other kind, from its own nonce of the attempt; an access point before it sent M3
 pub record LegalDerived (d : Domain) (n : Node) (h : List Act) (p : Node) (i : Inputs) (k : Ptk) : Type 0 where
@@ -110,7 +126,7 @@ pub record Verified (n : Node) (h : List Act) (p : Node) (i : Inputs) : Type 0 w
   pub outcome : Outcome
   pub covered : List ℕ
   pub took : In (Took from octets kind outcome (Some (record { octets = covered; key = (ptk i).kck }))) h
-  pub form : covered_form covered ≡ 1
+  pub form : IsMic covered
   pub direction : goes_down covered ≡ not (is_ap n)
 
 -- the group key that was drawn last
@@ -126,35 +142,43 @@ pub record Built (n : Node) (h : List Act) (p : Node) (i : Inputs) (key : List �
   pub verified : Verified n past p i
   pub alive : Alive n past p i
 
--- M3 carries a group key that was the newest as its key data was made
-pub record CarriesM3 (d : Domain) (n : Node) (h : List Act) (p : Node) (i : Inputs) (covered : List ℕ) : Type 0 where
-  pub key : GroupKey
-  pub is : IsGroupKey key
-  pub load : covered_key_data covered ≡ wrapped (ptk i).kek (m3_key_data d key)
-  pub built : Built n h p i key.key
+-- what a MIC covers carries that group key under key wrap: in the key data of an EAPOL-Key frame, or in the FTE of a reassociation response
+pub data Opens (kek covered g : List ℕ) : Type 0 where
+  Of_key_data : covered_form covered ≡ 1 → (plain : List ℕ) → Wraps kek plain (covered_key_data covered) → (e : ElementFields) → SpellsElements KeyData plain e → (carried (Some e)).key ≡ g → Opens kek covered g
+  Of_response : (f : FteFields) → CoversFte covered 6 f → (w : WrappedGtkFields) → f.gtk ≡ Some w → Wraps kek g w.wrapped → Opens kek covered g
+
+-- whoever opens it has this key
+abbrev pub Gives : Inputs → List ℕ → List ℕ → Type 0
+Gives i covered key = (g : List ℕ) → Opens (ptk i).kek covered g → key ≡ g
+
+-- M3 and a reassociation response carry a group key that was the newest as it was wrapped
+pub record CarriesM3 (n : Node) (h : List Act) (p : Node) (i : Inputs) (covered : List ℕ) : Type 0 where
+  pub key : List ℕ
+  pub gives : Gives i covered key
+  pub built : Built n h p i key
 
 -- G1 carries the newest group key, and the next replay counter of the session
-pub record CarriesG1 (d : Domain) (n : Node) (h : List Act) (p : Node) (i : Inputs) (covered : List ℕ) : Type 0 where
-  pub key : GroupKey
-  pub is : IsGroupKey key
-  pub load : covered_key_data covered ≡ wrapped (ptk i).kek (g1_key_data key)
-  pub newest : IsNewest key.key h
+pub record CarriesG1 (n : Node) (h : List Act) (p : Node) (i : Inputs) (covered : List ℕ) : Type 0 where
+  pub key : List ℕ
+  pub gives : Gives i covered key
+  pub newest : IsNewest key h
   pub awaited : session p h ≡ Some (keyed_by i)
   pub counter : covered_counter covered ≡ next_in_session p h
 
-abbrev pub Carries : Domain → Node → List Act → Node → Inputs → List ℕ → Message → Type 0
-Carries d n h p i covered M3 = CarriesM3 d n h p i covered
-Carries d n h p i covered G1 = CarriesG1 d n h p i covered
-Carries d n h p i covered _ = Unit {0}
+abbrev pub Carries : Node → List Act → Node → Inputs → List ℕ → Kind → Type 0
+Carries n h p i covered (kind.Key M3) = CarriesM3 n h p i covered
+Carries n h p i covered (kind.Key G1) = CarriesG1 n h p i covered
+Carries n h p i covered kind.ReResp = CarriesM3 n h p i covered
+Carries n h p i covered _ = Unit {0}
 
 -- what a node seals with a KCK, in a MIC, is of its own direction, its kind is that of what is sealed, and the node derived that KCK
-pub record LegalSeal (d : Domain) (n : Node) (h : List Act) (p : Node) (k : Kind) (s : Seal) : Type 0 where
+pub record LegalSeal (n : Node) (h : List Act) (p : Node) (k : Kind) (s : Seal) : Type 0 where
   pub i : Inputs
   pub there : In (derives p i) h
   pub is : (ptk i).kck ≡ s.key
   pub direction : goes_down s.octets ≡ is_ap n
-  pub kind_is : k ≡ kind.Key (covered_message s.octets)
-  pub carries : Carries d n h p i s.octets (covered_message s.octets)
+  pub kind_is : k ≡ covered_kind s.octets
+  pub carries : Carries n h p i s.octets (covered_kind s.octets)
 
 -- the receiver has an address
 abbrev pub IsReceiver : Domain → Peer → Type 0
@@ -173,10 +197,10 @@ pub record LegalData (d : Domain) (n : Node) (h : List Act) (s : Seal) : Type 0 
   pub is : h ≡ Used peer s.key id number plain ∷ before
   pub covers : IsAddress (address d n) → IsReceiver d peer → CoversData s.octets (is_ap n) (covered_tid s.octets) number plain
 
--- with a MIC nothing is sealed for all, with CCM it may be
+-- with a MIC nothing is sealed for all, with CCM it may be, and data alone
 pub data LegalSealing (d : Domain) (n : Node) (h : List Act) (q : Peer) (k : Kind) (s : Seal) : Type 0 where
-  With_mic : (p : Node) → q ≡ One p → covered_form s.octets ≡ 1 → LegalSeal d n h p k s → LegalSealing d n h q k s
-  With_ccm : LegalData d n h s → LegalSealing d n h q k s
+  With_mic : (p : Node) → q ≡ One p → IsMic s.octets → LegalSeal n h p k s → LegalSealing d n h q k s
+  With_ccm : k ≡ kind.Data → LegalData d n h s → LegalSealing d n h q k s
 
 abbrev pub LegalSealed : Domain → Node → List Act → Peer → Kind → Option Seal → Type 0
 LegalSealed d n h q k None = Unit {0}
@@ -225,32 +249,30 @@ pub record LegalPairwise (n : Node) (h : List Act) (p : Node) (tk : List ℕ) (i
   pub is : tk ≡ (ptk i).tk
   pub none : session p h ≡ None
 
--- the messages that give a group key
-pub data GivesKey (m : Message) : Type 0 where
-  In_m3 : m ≡ M3 → GivesKey m
-  In_g1 : m ≡ G1 → GivesKey m
+-- the frames that give a group key
+pub data GivesKey (k : Kind) : Type 0 where
+  In_m3 : k ≡ kind.Key M3 → GivesKey k
+  In_g1 : k ≡ kind.Key G1 → GivesKey k
+  In_response : k ≡ kind.ReResp → GivesKey k
 
 abbrev pub seal_under : Inputs → List ℕ → Seal
 seal_under i covered = record { octets = covered; key = (ptk i).kck }
 
--- a station accepted a message with a group key since the last Opened with p, under these inputs
+-- a station accepted a frame with a group key since the last Opened with p, under these inputs
 pub record Given (n : Node) (h : List Act) (p : Node) (i : Inputs) (g : List ℕ) : Type 0 where
-  pub message : Message
+  pub frame : Kind
   pub octets : List ℕ
   pub covered : List ℕ
-  pub took : In (Took (Some p) octets (kind.Key message) Accepted (Some (seal_under i covered))) (since p h)
-  pub gives_key : GivesKey message
-  pub form : covered_form covered ≡ 1
-  pub message_is : covered_message covered ≡ message
-  pub counter : replay_counter octets ≡ covered_counter covered
+  pub took : In (Took (Some p) octets frame Accepted (Some (seal_under i covered))) (since p h)
+  pub gives_key : GivesKey frame
+  pub form : IsMic covered
+  pub down : goes_down covered ≡ true
+  pub frame_is : covered_kind covered ≡ frame
+  pub counter : frame ≡ kind.Key G1 → replay_counter octets ≡ covered_counter covered
   pub derived : In (derives p i) h
-  pub plain : List ℕ
-  pub wraps : Wraps (ptk i).kek plain (covered_key_data covered)
-  pub e : ElementFields
-  pub spelled : SpellsElements KeyData plain e
-  pub key : (carried (Some e)).key ≡ g
+  pub opens : Opens (ptk i).kek covered g
 
--- by M3: it is the first that comes in the attempt
+-- by M3 or a reassociation response: it is the first that comes in the attempt
 pub record GivenM3 (n : Node) (h : List Act) (p : Node) (g : List ℕ) : Type 0 where
   pub station : is_ap n ≡ false
   pub i : Inputs
@@ -259,16 +281,16 @@ pub record GivenM3 (n : Node) (h : List Act) (p : Node) (g : List ℕ) : Type 0 
   pub first : (key : List ℕ) (id : ℕ) (b : Mac) → In (Installed (One p) (Group key id b)) alive.part → ⊥
   pub new : find_key g (memory groups.Gtk p h) ≡ None
 
--- each M3 and G1 accepted from p in that part has a smaller replay counter
+-- each G1 accepted from p in that part has a smaller replay counter
 abbrev pub Above : Node → ℕ → List Act → Type 0
-Above p counter part = (m : Message) (octets : List ℕ) (s : Option Seal) → GivesKey m → In (Took (Some p) octets (kind.Key m) Accepted s) part → replay_counter octets < counter
+Above p counter part = (octets : List ℕ) (s : Option Seal) → In (Took (Some p) octets (kind.Key G1) Accepted s) part → replay_counter octets < counter
 
 -- by G1: it comes in the session, with a replay counter above all before it
 pub record GivenG1 (n : Node) (h : List Act) (p : Node) (g : List ℕ) : Type 0 where
   pub station : is_ap n ≡ false
   pub i : Inputs
   pub given : Given n h p i g
-  pub kind_is : given.message ≡ G1
+  pub kind_is : given.frame ≡ kind.Key G1
   pub before : List Act
   pub from : Option Node
   pub octets : List ℕ
@@ -316,10 +338,14 @@ pub record LegalFinished (n : Node) (h : List Act) (p : Node) (i : Inputs) : Typ
   pub alone : is_ap n ≡ false → associated h ≡ None
   pub gave : is_ap n ≡ false → (g : List ℕ) (id : ℕ) (b : Mac) → In (Installed (One p) (Group g id b)) (since p h) → Given n h p i g
 
--- a station has no session as it begins an attempt, and it ends the only one that it has
-abbrev pub LegalOpened : Node → List Act → Node → Type 0
-LegalOpened n h p = is_ap n ≡ false → (associated h ≡ None) × (is_ap p ≡ true)
+-- a station has no session as it begins an attempt by connect, and none with p as it begins one with p. A fast transition is begun with
+-- suite 4 alone
+pub record LegalOpened (d : Domain) (n : Node) (h : List Act) (p : Node) (s : Start) : Type 0 where
+  pub none : s ≡ Connect → is_ap n ≡ false → associated h ≡ None
+  pub alone : is_ap n ≡ false → (associated h ≡ Some p → ⊥) × (is_ap p ≡ true)
+  pub mobile : s ≡ Roam → d.akm ≡ FtPsk
 
+-- a station ends the only session that it has
 abbrev pub LegalClosed : Node → List Act → Node → Type 0
 LegalClosed n h p = is_ap n ≡ false → associated h ≡ Some p
 
@@ -356,8 +382,12 @@ pub record LegalUp (d : Domain) (n : Node) (h : List Act) (p : Node) (key : List
   pub roles : is_ap p ≡ not (is_ap n)
   pub under : OpensUnder d n h p key id tid number covered
 
+-- with suite 4 a key holder that has a key gives the right one (IEEE Std 802.11-2020, 12.7.1.6)
+abbrev pub LegalLook : Domain → Node → List ℕ → Node → PullAnswer → Type 0
+LegalLook d n id p answer = d.akm ≡ FtPsk → GivesRightKey d id (record { node = n; round = 0; name = []; sta = p }) answer
+
 abbrev pub Legal : Domain → Node → List Act → Act → Type 0
-Legal d n h (Opened p s) = LegalOpened n h p
+Legal d n h (Opened p s) = LegalOpened d n h p s
 Legal d n h (Closed p Session) = LegalClosed n h p
 Legal d n h (Drew v) = LegalDrew n h v
 Legal d n h (Derived p i k) = LegalDerived d n h p i k
@@ -366,6 +396,7 @@ Legal d n h (Installed q key) = LegalInstalled n h q key
 Legal d n h (Finished p i) = LegalFinished n h p i
 Legal d n h (Used q key id number octets) = LegalUsed h q key number
 Legal d n h (HandedUp p key id tid number octets) = LegalUp d n h p key id tid number octets
+Legal d n h (Looked id name p answer) = LegalLook d n id p answer
 Legal d n h _ = Unit {0}
 
 -- each act was legal after those before it

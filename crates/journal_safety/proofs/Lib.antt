@@ -1,4 +1,6 @@
 pub mod Covers
+pub mod CoversFte
+pub mod MobileKeyData
 pub mod Ends
 pub mod Names
 pub mod Legal
@@ -7,9 +9,11 @@ pub mod Sessions
 pub mod Counts
 pub mod FirstM3
 pub mod Accepted
+pub mod Transitions
 pub mod Settled
 pub mod SentLegal
 pub mod Rows
+pub mod RowsTransition
 pub mod Retries
 pub mod Renewals
 pub mod Runs
@@ -27,3 +31,4 @@ pub mod Given
 pub mod RowsData
 pub mod Numbers
 pub mod Ups
+pub mod TiedFacts

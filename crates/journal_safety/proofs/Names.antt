@@ -1,5 +1,5 @@
 -- Addresses tell listed nodes apart, and what equal names of inputs say.
-use Rattle.std.proofs.Common.{◌≡◌, ◌≢◌, ◌⊎◌, inl, inr, ℕ, zero, suc, ◌<◌, ◌≤◌, List, [], ◌∷◌, length, get_or, Option, Some, sym, ap, ◌∙◌, subst, arith}
+use Rattle.std.proofs.Common.{refl, ◌≡◌, ◌≢◌, ◌⊎◌, inl, inr, ℕ, zero, suc, ◌<◌, ◌≤◌, List, [], ◌∷◌, length, get_or, Option, Some, sym, ap, ◌∙◌, subst, arith}
 use Rattle.std.specs.Prelude.{unwrap_or, option_map}
 use Rattle.std.specs.List.{AllByRecursion}
 use Rattle.std.specs.Ordering.{nat_cmp}
@@ -89,24 +89,28 @@ crossed_by a b c e Greater Greater x y = inl (y, x)
 crossed : (a b c e : List ℕ) → lesser a b ≡ lesser c e → greater a b ≡ greater c e → Crossed a b c e
 crossed a b c e x y = crossed_by a b c e (slice_cmp nat_cmp a b) (slice_cmp nat_cmp c e) x y
 
--- the inputs as the derivation reads them: addresses and nonces without their roles
+-- the inputs as the derivation reads them: addresses and nonces without their roles, and with suite 4 the R0KH-ID
 pub record IsSameName (i k : Inputs) : Type 0 where
+  pub holder : k.akm ≡ FtPsk → i.r0kh_id ≡ k.r0kh_id
   pub addresses : Crossed i.aa.0 i.spa.0 k.aa.0 k.spa.0
   pub nonces : Crossed i.anonce i.snonce k.anonce k.snonce
 
-same_by : (akm : Akm) (i k : Inputs) → name_by akm i ≡ name_by akm k → IsSameName i k
-same_by Psk i k e = record {
+same_by : (akm : Akm) (i k : Inputs) → k.akm ≡ akm → name_by akm i ≡ name_by akm k → IsSameName i k
+same_by Psk i k suite e = record {
+  holder = λ mobile. absurd (cc (suite, mobile));
   addresses = crossed i.aa.0 i.spa.0 k.aa.0 k.spa.0 (ap (λ (x : Name). x.addresses.0) e) (ap (λ (x : Name). x.addresses.1) e);
   nonces = crossed i.anonce i.snonce k.anonce k.snonce (ap (λ (x : Name). x.nonces.0) e) (ap (λ (x : Name). x.nonces.1) e);
 }
-same_by PskSha256 i k e = record {
+same_by PskSha256 i k suite e = record {
+  holder = λ mobile. absurd (cc (suite, mobile));
   addresses = crossed i.aa.0 i.spa.0 k.aa.0 k.spa.0 (ap (λ (x : Name). x.addresses.0) e) (ap (λ (x : Name). x.addresses.1) e);
   nonces = crossed i.anonce i.snonce k.anonce k.snonce (ap (λ (x : Name). x.nonces.0) e) (ap (λ (x : Name). x.nonces.1) e);
 }
-same_by FtPsk i k e = record {
+same_by FtPsk i k suite e = record {
+  holder = λ mobile. ap (λ (x : Name). x.r0kh_id) e;
   addresses = inl (ap (λ (x : Name). x.addresses.0) e, ap (λ (x : Name). x.addresses.1) e);
   nonces = inl (ap (λ (x : Name). x.nonces.0) e, ap (λ (x : Name). x.nonces.1) e);
 }
 
 pub same_name : (i k : Inputs) → i.akm ≡ k.akm → name i ≡ name k → IsSameName i k
-same_name i k akm e = same_by k.akm i k (subst (λ (a : Akm). name_by a i ≡ name k) akm e)
+same_name i k akm e = same_by k.akm i k refl (subst (λ (a : Akm). name_by a i ≡ name k) akm e)

@@ -105,7 +105,7 @@ counted_by d n p i id number plain l past g more true is s there = counted_at d 
 counted_by d n p i id number plain l past g more false is s there = more s there
 
 -- numbers that were used under the key of a session that goes on are among those that are counted
-counted : (d : Domain) (n p : Node) (i : Inputs) (id number : ℕ) (plain : List ℕ) (past : List Entry) → Good d past → session p (history n past) ≡ Some (keyed_by i) → In (Used (One p) (ptk i).tk id number plain) (history n past) → number ≤ pairwise_uses p (history n past)
+pub counted : (d : Domain) (n p : Node) (i : Inputs) (id number : ℕ) (plain : List ℕ) (past : List Entry) → Good d past → session p (history n past) ≡ Some (keyed_by i) → In (Used (One p) (ptk i).tk id number plain) (history n past) → number ≤ pairwise_uses p (history n past)
 counted d n p i id number plain [] g s there = absurd there
 counted d n p i id number plain (l ∷ past) g s there =
     counted_by d n p i id number plain l past g (counted d n p i id number plain past (good_tail d past (l ∷ past) (inr (tail_refl past)) g)) (same n l.node) refl s there

@@ -1,5 +1,6 @@
 -- The group keys that a station takes from one access point go on in the order of drawing.
 use Rattle.std.proofs.Common.{ℕ, ◌≡◌, inl, inr, List, [], ◌∷◌, ◌++◌, Option, Some, None, refl, sym, ap, ◌∙◌, subst}
+use Rattle.domain_base.specs.declared.names.Akm.TheVariants.{FtPsk}
 use Rattle.std.specs.Prelude.{option_map}
 use Rattle.domain_base.specs.declared.names.Mac.{Mac}
 use Rattle.domain_base.specs.declared.names.Node.{Node}
@@ -16,6 +17,8 @@ use Rattle.run_journal.specs.Questions.{history, group_keys}
 use Rattle.run_journal.specs.Premises.{In, Fresh, NoCollision, Unforged}
 use Rattle.domain_rules.specs.Network.{IsNamed}
 use Rattle.domain_rules.specs.Explained.{Explained}
+use Rattle.domain_rules.specs.HeldRight.{HeldRight}
+use Rattle.journal_safety.specs.InOctets.{InOctets}
 use Rattle.journal_safety.specs.NeverBack.{DrawnBefore, installed_from, NeverBack}
 use Rattle.journal_safety.proofs.Ends.{Tail, tail_refl, tail_in, history_tail}
 use Rattle.journal_safety.proofs.Legal.{LegalGroup, Legal}
@@ -77,5 +80,5 @@ never : (d : Domain) (past : List Entry) → Good d past → NeverBack past
 never d [] g = tt
 never d (l ∷ past) g = (never_now d l past g, never d past (good_tail d past (l ∷ past) (inr (tail_refl past)) g))
 
-pub never_back_run : (d : Domain) (rounds : List (List Event)) (j : List Entry) → IsNamed d → Explained d rounds j → Fresh j → NoCollision j → Unforged j → NeverBack j
-never_back_run d rounds j names run fresh apart unforged = never d j (good_run d rounds j names run fresh apart unforged)
+pub never_back_run : (d : Domain) (rounds : List (List Event)) (j : List Entry) → (d.akm ≡ FtPsk → InOctets d) → (d.akm ≡ FtPsk → HeldRight d j) → IsNamed d → Explained d rounds j → Fresh j → NoCollision j → Unforged j → NeverBack j
+never_back_run d rounds j octets held names run fresh apart unforged = never d j (good_run d rounds j octets held names run fresh apart unforged)

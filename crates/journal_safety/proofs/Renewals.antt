@@ -2,6 +2,8 @@
 use Rattle.std.proofs.Common.{ℕ, zero, suc, ◌≡◌, ◌⊎◌, ◌+◌, ◌<◌, ◌≤◌, inl, inr, Bool, true, false, not, cond, List, [], ◌∷◌, ◌++◌, length, Option, Some, None, refl, sym, ap, ◌∙◌, subst, arith}
 use Rattle.std.specs.Prelude.{◌==◌, ◌||◌}
 use Rattle.std.proofs.lemmas.Bool.{eqb-true, eq-eqb}
+use Rattle.domain_base.specs.declared.names.Akm.{Akm}
+use Rattle.domain_base.specs.declared.names.Akm.TheVariants.{Psk, PskSha256, FtPsk}
 use Rattle.domain_base.specs.declared.names.Node.{Node}
 use Rattle.domain_base.specs.declared.names.Node.TheVariants.{Ap, Sta}
 use Rattle.domain_base.specs.declared.names.Peer.TheVariants.{All}
@@ -24,14 +26,16 @@ use Rattle.domain_rules.specs.Owing.{any_owes, switch_acts, and_switch}
 use Rattle.domain_rules.specs.Closing.{close_attempt, close_session, close_pending, close_associated, or_nothing}
 use Rattle.domain_rules.specs.StationRows.{leave_acts}
 use Rattle.domain_rules.specs.AccessPointRows.{g1_to, to_session, to_sessions, RekeyRow, Pending, Spent, Renews, expire_acts}
-use Rattle.domain_rules.specs.Rows.{NodeEvent, Take, Begin, Retry, Rekey, Send, Expire, Leave, RowOf, Adds}
+use Rattle.domain_rules.specs.Rows.{NodeEvent, Take, Begin, Retry, Rekey, Send, Expire, Leave, Roam, Revoke, RowOf, Adds}
+use Rattle.domain_rules.specs.KeyHolders.{revoke_acts_by}
 use Rattle.domain_rules.specs.Here.{here}
 use Rattle.domain_rules.proofs.Parts.{add_append}
 use Rattle.domain_rules.proofs.KeyOctets.{octets-kdf}
 use Rattle.journal_safety.proofs.Legal.{LegalGtk, LegalHistory}
 use Rattle.journal_safety.proofs.Settled.{Settled, settled_drew, settled_switched, Fine, fine_none, fine_cons, fine_quiet, fine_append}
 use Rattle.journal_safety.proofs.Sessions.{session_role}
-use Rattle.journal_safety.proofs.Rows.{connect_fine, take_fine, fine_attempt, fine_dropped, not_station, legal_add, g1_legal}
+use Rattle.journal_safety.proofs.Rows.{connect_fine, fine_attempt, fine_dropped, not_station, legal_add, g1_legal, RightActs, right_front}
+use Rattle.journal_safety.proofs.RowsTransition.{roam_fine, take_fine}
 use Rattle.journal_safety.proofs.Retries.{retry_fine}
 use Rattle.journal_safety.proofs.RowsData.{send_fine}
 
@@ -131,6 +135,13 @@ expire_fine d n s h legal settled =
 leave_fine : (d : Domain) (n : Node) (h : List Act) → Settled d n h → Fine d n h (leave_acts h)
 leave_fine d n h s = fine_nothing d n h (close_pending (pending h) ++ close_associated (associated h)) s (fine_dropped d n h s)
 
+-- ---- a revocation
+
+revoke_fine : (akm : Akm) (d : Domain) (n : Node) (h : List Act) (p : Node) → Settled d n h → Fine d n h (revoke_acts_by akm d n h p)
+revoke_fine Psk d n h p s = fine_quiet d n h _ [] tt refl s (fine_none d n _)
+revoke_fine PskSha256 d n h p s = fine_quiet d n h _ [] tt refl s (fine_none d n _)
+revoke_fine FtPsk d n h p s = fine_quiet d n h _ [] tt refl s (fine_none d n _)
+
 -- ---- the switch
 
 -- the newest is the one that is not current yet
@@ -158,15 +169,22 @@ and_switch_fine d (Ap a) h acts w = fine_append d (Ap a) h acts (switch_acts d a
 
 -- ---- each event
 
-row_fine : (d : Domain) (first : ℕ) (n : Node) (h : List Act) (event : NodeEvent) (g : List Act) → LegalHistory d n h → Settled d n h → RowOf (here d first n) h event g → Fine d n h g
-row_fine d first n h (Send q tid octets) g legal s is = subst (λ (x : List Act). Fine d n h x) (sym is) (send_fine d n h q tid octets legal s)
-row_fine d first n h (Take octets) g legal s row = take_fine d first n h octets row.r row.facts g row.reads row.knows legal s row.row
-row_fine d first n h (Begin a) g legal s row = connect_fine d first n h (Ap a) g refl s row
-row_fine d first n h (Retry s) g legal settled is = subst (λ (x : List Act). Fine d n h x) (sym is) (retry_fine d n s h (attempt (Sta s) h) legal settled refl)
-row_fine d first n h Rekey g legal s row = rekey_fine d first n h g legal s row
-row_fine d first n h (Expire s) g legal settled is = subst (λ (x : List Act). Fine d n h x) (sym is) (expire_fine d n s h legal settled)
-row_fine d first n h Leave g legal s is = subst (λ (x : List Act). Fine d n h x) (sym is) (leave_fine d n h s)
+row_fine : (d : Domain) (first : ℕ) (n : Node) (h : List Act) (event : NodeEvent) (g : List Act) → RightActs d n g → LegalHistory d n h → Settled d n h → RowOf (here d first n) h event g → Fine d n h g
+row_fine d first n h (Send q tid octets) g right legal s is = subst (λ (x : List Act). Fine d n h x) (sym is) (send_fine d n h q tid octets legal s)
+row_fine d first n h (Take octets) g right legal s row = take_fine d first n h octets row.r row.facts g row.reads row.knows right legal s row.row
+row_fine d first n h (Begin a) g right legal s row = connect_fine d first n h (Ap a) g refl s row
+row_fine d first n h (Retry s) g right legal settled is = subst (λ (x : List Act). Fine d n h x) (sym is) (retry_fine d n s h (attempt (Sta s) h) legal settled refl)
+row_fine d first n h Rekey g right legal s row = rekey_fine d first n h g legal s row
+row_fine d first n h (Expire s) g right legal settled is = subst (λ (x : List Act). Fine d n h x) (sym is) (expire_fine d n s h legal settled)
+row_fine d first n h (Roam a) g right legal s row = roam_fine d first n h (Ap a) g refl s row
+row_fine d first n h (Revoke m) g right legal s is = subst (λ (x : List Act). Fine d n h x) (sym is) (revoke_fine d.akm d n h (Sta m) s)
+row_fine d first n h Leave g right legal s is = subst (λ (x : List Act). Fine d n h x) (sym is) (leave_fine d n h s)
 
-pub adds_fine : (d : Domain) (first : ℕ) (n : Node) (h : List Act) (event : NodeEvent) (g : List Act) → LegalHistory d n h → Settled d n h → Adds (here d first n) h event g → Fine d n h g
-adds_fine d first n h event g legal s adds =
-    subst (λ (x : List Act). Fine d n h x) (sym adds.is) (and_switch_fine d n h adds.acts (row_fine d first n h event adds.acts legal s adds.row))
+-- the event's own acts are right where all are
+own_right : (d : Domain) (n : Node) (h acts g : List Act) → g ≡ and_switch d n h acts → RightActs d n g → RightActs d n acts
+own_right d (Sta s) h acts g is w = subst (λ (x : List Act). RightActs d (Sta s) x) is w
+own_right d (Ap a) h acts g is w = right_front d (Ap a) acts (switch_acts d a (add acts h)) (subst (λ (x : List Act). RightActs d (Ap a) x) is w)
+
+pub adds_fine : (d : Domain) (first : ℕ) (n : Node) (h : List Act) (event : NodeEvent) (g : List Act) → RightActs d n g → LegalHistory d n h → Settled d n h → Adds (here d first n) h event g → Fine d n h g
+adds_fine d first n h event g right legal s adds =
+    subst (λ (x : List Act). Fine d n h x) (sym adds.is) (and_switch_fine d n h adds.acts (row_fine d first n h event adds.acts (own_right d n h adds.acts g adds.is right) legal s adds.row))

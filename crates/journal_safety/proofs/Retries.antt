@@ -27,7 +27,7 @@ use Rattle.std.proofs.lemmas.Bool.{ltb-true}
 use Rattle.run_journal.specs.GroupKinds as groups
 use Rattle.journal_safety.proofs.Legal.{nonce_of, derives, Verified, SendsM3, LegalDerived, Legal, LegalHistory}
 use Rattle.journal_safety.proofs.Histories.{keyed_as, legal_in, nonce_size, alive_drew, gtks_tail, newest_is}
-use Rattle.journal_safety.proofs.Settled.{Settled, is_quiet, Fine, fine_none, fine_quiet}
+use Rattle.journal_safety.proofs.Settled.{Ground, Settled, is_quiet, Fine, fine_none, fine_quiet}
 use Rattle.journal_safety.proofs.Sessions.{session_role}
 use Rattle.journal_safety.proofs.FirstM3.{first_m3, built_then, same_first, verified_end}
 use Rattle.journal_safety.proofs.SentLegal.{legal_m1, legal_m3, ap_nonce}
@@ -53,11 +53,11 @@ opposite a false e f = cc
 ap_session : (d : Domain) (n : Node) (s : ℕ) (h : List Act) (x : Derivation) → LegalHistory d n h → session (Sta s) h ≡ Some x → is_ap n ≡ true
 ap_session d n s h x legal awaited = opposite false (is_ap n) (session_role d n (Sta s) h x legal awaited) refl
 
-legal_again : (d : Domain) (n : Node) (s : ℕ) (h part : List Act) (o : Option Derivation) (b : Option (List Act)) → LegalHistory d n h → attempt (Sta s) h ≡ Some part → derivation (Sta s) part ≡ o → before_sent (Sta s) (kind.Key M3) h ≡ b → sent_count (Sta s) M3 part < most_sends
+legal_again : (d : Domain) (n : Node) (s : ℕ) (h part : List Act) (o : Option Derivation) (b : Option (List Act)) → Ground d → LegalHistory d n h → attempt (Sta s) h ≡ Some part → derivation (Sta s) part ≡ o → before_sent (Sta s) (kind.Key M3) h ≡ b → sent_count (Sta s) M3 part < most_sends
     → Legal d n h (m3_again d n h (Sta s) part o b)
-legal_again d n s h part None b legal a e f few = tt
-legal_again d n s h part (Some x) None legal a e f few = tt
-legal_again d n s h part (Some x) (Some past) legal a e f few =
+legal_again d n s h part None b ground legal a e f few = tt
+legal_again d n s h part (Some x) None ground legal a e f few = tt
+legal_again d n s h part (Some x) (Some past) ground legal a e f few =
     let ready = ready_of d n (Sta s) h part x legal a e in
     let r = ready.1 in
     let same : x ≡ keyed_by x.inputs = keyed_as x ready.0 in
@@ -81,7 +81,7 @@ legal_again d n s h part (Some x) (Some past) legal a e f few =
       drawn = (let g = w.sends.drawn in (g.0, gtks_tail g.0 past h w.tail g.1));
     } in
     subst (λ (y : Derivation). Legal d n h (sent_m3 d n (Sta s) y (next_in_attempt (Sta s) (chain (Sta s) h)) (newest groups.Gtk past) (newest_uses groups.Gtk past))) (sym same)
-    (legal_m3 d n (Sta s) h x.inputs (next_in_attempt (Sta s) (chain (Sta s) h)) (newest groups.Gtk past) (newest_uses groups.Gtk past) role r.there size new.is built sends)
+    (legal_m3 d n (Sta s) h x.inputs (next_in_attempt (Sta s) (chain (Sta s) h)) (newest groups.Gtk past) (newest_uses groups.Gtk past) role r.there size new.is built sends ground l.listed)
 
 quiet_m3 : (d : Domain) (n : Node) (h part : List Act) (p : Node) (o : Option Derivation) (b : Option (List Act)) → is_quiet (m3_again d n h p part o b) ≡ true
 quiet_m3 d n h part p (Some x) (Some past) = refl
@@ -93,7 +93,7 @@ retry_by d n s h part legal settled a = go (has_heard (Sta s) (kind.Key M2) part
     go : (b : Bool) → Fine d n h (cond b (again_or_give_up (Sta s) M3 (sent_count (Sta s) M3 part) (m3_again d n h (Sta s) part (derivation (Sta s) part) (before_sent (Sta s) (kind.Key M3) h)))
         (again_or_give_up (Sta s) M1 (sent_count (Sta s) M1 part) (sent_m1 d n (Sta s) (next_in_attempt (Sta s) (chain (Sta s) h)) (own part))))
     go true = fine_again d n h (Sta s) M3 (sent_count (Sta s) M3 part) (m3_again d n h (Sta s) part (derivation (Sta s) part) (before_sent (Sta s) (kind.Key M3) h)) settled
-        (λ few. legal_again d n s h part (derivation (Sta s) part) (before_sent (Sta s) (kind.Key M3) h) legal a refl refl few) (quiet_m3 d n h part (Sta s) (derivation (Sta s) part) (before_sent (Sta s) (kind.Key M3) h))
+        (λ few. legal_again d n s h part (derivation (Sta s) part) (before_sent (Sta s) (kind.Key M3) h) settled.ground legal a refl refl few) (quiet_m3 d n h part (Sta s) (derivation (Sta s) part) (before_sent (Sta s) (kind.Key M3) h))
     go false = fine_again d n h (Sta s) M1 (sent_count (Sta s) M1 part) (sent_m1 d n (Sta s) (next_in_attempt (Sta s) (chain (Sta s) h)) (own part)) settled
         (λ few. legal_m1 d n (Sta s) h (next_in_attempt (Sta s) (chain (Sta s) h)) (own part) (subst (λ (y : List Act). sent_count (Sta s) M1 y < most_sends) (sym (since_part (Sta s) h part a)) few)) refl
 

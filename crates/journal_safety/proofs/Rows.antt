@@ -1,6 +1,9 @@
 -- Each row of the tables adds a chain of legal acts.
 use Rattle.std.proofs.Common.{ℕ, ◌≡◌, inl, inr, Bool, true, false, not, List, [], ◌∷◌, ◌++◌, length, Option, Some, None, refl, sym, ap, ◌∙◌, subst, ◌<◌, arith, cond}
 use Rattle.std.specs.Prelude.{unwrap_or}
+use Rattle.std.specs.List.{AllByRecursion}
+use Rattle.domain_base.specs.declared.names.Akm.{Akm}
+use Rattle.domain_base.specs.declared.names.Akm.TheVariants.{Psk, PskSha256, FtPsk}
 use Rattle.domain_base.specs.declared.names.Mac.{Mac}
 use Rattle.domain_base.specs.declared.names.Node.{Node}
 use Rattle.domain_base.specs.declared.names.Node.TheVariants.{Ap, Sta}
@@ -12,6 +15,9 @@ use Rattle.eapol_key.specs.declared.messages.Message.{Message}
 use Rattle.eapol_key.specs.declared.messages.Message.TheVariants.{M1, M2, M3, M4, G1, G2}
 use Rattle.key_wrap.specs.KeyWrap.{Wraps}
 use Rattle.key_hierarchy.specs.Keys.{ptk}
+use Rattle.key_hierarchy.specs.declared.answers.PullAnswer.{PullAnswer}
+use Rattle.key_hierarchy.specs.declared.answers.PutAnswer.{PutAnswer}
+use Rattle.key_hierarchy.specs.declared.fast_transition.PmkR1.{PmkR1}
 use Rattle.key_hierarchy.specs.declared.inputs.Inputs.{Inputs}
 use Rattle.key_hierarchy.specs.declared.inputs.Ptk.{Ptk}
 use Rattle.key_hierarchy.proofs.Lengths.{length-kdf}
@@ -22,41 +28,45 @@ use Rattle.run_journal.specs.declared.acts.Drawn.TheVariants.{Nonce}
 use Rattle.run_journal.specs.declared.acts.Kind.{Kind}
 use Rattle.run_journal.specs.declared.acts.Kind.TheVariants as kind
 use Rattle.run_journal.specs.declared.acts.Reason.{Reason}
-use Rattle.run_journal.specs.declared.acts.Reason.TheVariants as reason
 use Rattle.run_journal.specs.declared.acts.Why.TheVariants as why
 use Rattle.run_journal.specs.declared.acts.Outcome.{Outcome}
 use Rattle.run_journal.specs.declared.acts.Outcome.TheVariants.{Accepted, Answered, Ignored}
 use Rattle.run_journal.specs.declared.acts.Seal.{Seal}
 use Rattle.run_journal.specs.declared.acts.Key.TheVariants.{Pairwise, Group}
 use Rattle.run_journal.specs.declared.acts.Act.{Act}
-use Rattle.run_journal.specs.declared.acts.Act.TheVariants.{Opened, Closed, Drew, Derived, Took, Installed, Finished, Idle, Resumed}
+use Rattle.run_journal.specs.declared.acts.Act.TheVariants.{Opened, Closed, Drew, Derived, Took, Installed, Finished, Put, Looked, Idle, Resumed}
 use Rattle.run_journal.specs.Acts.{Derivation, GroupKey, opens, ends, same, derived, key_drawn, switched}
 use Rattle.run_journal.specs.Questions.{attempt, own_nonce, derivation, session, pending, associated, add, chain, since, before_sent, handshake, or_else}
 use Rattle.run_journal.specs.Premises.{In}
-use Rattle.domain_rules.specs.Network.{mac, peer_of, is_ap, nonce, inputs, root}
-use Rattle.domain_rules.specs.Reading.{KeyMessage, Reading, Keyed, HasMessage, Reads, kind_of}
+use Rattle.domain_rules.specs.Network.{mac, peer_of, is_ap, nonce, r0kh_id, root_by, root_at, inputs, IsListed}
+use Rattle.domain_rules.specs.KeyHolders.{put_acts_by, put_acts}
+use Rattle.domain_rules.specs.Reading.{KeyMessage, Reading, Managed, Keyed, HasMessage, Reads, kind_of}
 use Rattle.domain_rules.specs.Frames.{sent_assoc_req, sent_assoc_resp, sent_refusal, sent_m1, sent_m2, sent_m3, sent_m4, frame_seal, keyed_by, sent_g2}
 use Rattle.domain_rules.specs.Facts.{Facts}
 use Rattle.domain_rules.specs.Verdict.{Knows, verdict}
-use Rattle.domain_rules.specs.Asking.{own}
+use Rattle.domain_rules.specs.Asking.{by_connect, own}
 use Rattle.domain_rules.specs.Counters.{next_in_attempt, sent_count}
 use Rattle.domain_rules.specs.GroupKeys.{newest, newest_uses, memory, find_key, give_by, give}
 use Rattle.domain_rules.specs.Closing.{close_attempt, close_session, close_pending, close_associated, next_nonce, sender}
 use Rattle.domain_rules.specs.StationRows.{ConnectRow, Spent, Asks, carried, AssocRespRow, M1Row, M3Row, RepeatedM3Row, G1Row}
-use Rattle.domain_rules.specs.Rows.{response, IgnoredRow, RefusedRow, TakeRows, By_assoc_req, By_assoc_resp, By_m1, By_m2, By_m3 as By_row_m3, By_repeated_m3, By_m4, By_data, By_ignored, By_refusal, By_g1 as By_row_g1, By_g2 as By_row_g2}
+use Rattle.domain_rules.specs.Rows.{refused_status, response_by, response, IgnoredRow, RefusedRow}
 use Rattle.domain_rules.specs.AccessPointRows.{AssocReqRow, M2Row, M4Row, G2Row, m4_acts, newer_acts, carried_older, g1_to, most_sends}
+use Rattle.domain_rules.specs.FastTransition.{single as single_name}
+use Rattle.domain_rules.specs.TransitionKeyData.{responded_fte, responded_r0kh_id}
+use Rattle.domain_rules.specs.TransitionFrames.{sent_ft_refusal, sent_re_refusal}
+use Rattle.domain_rules.specs.TransitionKeys.{Asked, asked}
+use Rattle.domain_rules.specs.TransitionRows.{look_answer, looked_by, looked_for, look_of_kind, refused_look}
 use Rattle.domain_rules.specs.Here.{here}
 use Rattle.domain_rules.proofs.Parts.{attempt_more, in_part, own_nonce_more, same-refl, since_part, attempt_none, add_append}
 use Rattle.run_journal.specs.GroupKinds as groups
 use Rattle.journal_safety.proofs.Covers.{Covers, took_covers}
-use Rattle.journal_safety.proofs.Legal.{ack, nonce_of, own_address, peer_address, derives, Alive, AreCommon, LegalDerived, Verified, gives, LegalPairwise, LegalGroup, Legal, LegalHistory, verified_more, Built, HasDrawn, SendsM3, Uninstalled, GivesKey, In_m3, In_g1, Given, Above, By_m3, By_g1, Chain}
+use Rattle.journal_safety.proofs.Legal.{ack, Of_key, Of_key_data, LegalLook, nonce_of, own_address, peer_address, derives, Alive, AreCommon, LegalDerived, Verified, gives, LegalPairwise, LegalGroup, Legal, LegalHistory, verified_more, Built, HasDrawn, SendsM3, Uninstalled, GivesKey, In_m3, In_g1, Given, Above, By_m3, By_g1, Chain}
 use Rattle.journal_safety.proofs.Histories.{nonce_in, nonce_size, derivation_in, derived_key, keyed_as, own_of_part, Newest, newest_is, legal_in}
 use Rattle.journal_safety.proofs.Accepted.{Taken, taken_accepted, taken_answered, keying_in, unwrapped_m3, awaited_m3, m4_derivation, request_role, m2_silent, unwrapped_g1, g1_above}
 use Rattle.journal_safety.proofs.Settled.{Settled, SettledBut, settled_quiet, but_of, but_more, settled_finished, Fine, fine_none, fine_cons, fine_quiet, fine_append, fine_opened, settled_given}
 use Rattle.journal_safety.proofs.SentLegal.{legal_m2, legal_m3, legal_m4, sta_nonce, ap_nonce, legal_m1, legal_g1, legal_g2}
 use Rattle.domain_rules.proofs.SentReads.{reads-counter}
 use Rattle.journal_safety.proofs.Ends.{tail_refl}
-use Rattle.journal_safety.proofs.RowsData.{data_fine}
 use Rattle.journal_safety.proofs.Sessions.{session_key, alone_in, single}
 use Rattle.journal_safety.proofs.Counts.{none_sent}
 use Rattle.journal_safety.proofs.FirstM3.{no_m3}
@@ -67,7 +77,7 @@ pub fine_attempt : (d : Domain) (n : Node) (h : List Act) (p : Node) (o : Option
 fine_attempt d n h p None s = fine_none d n h s
 fine_attempt d n h p (Some x) s = fine_quiet d n h (Closed p Attempt) [] tt refl s (fine_none d n _)
 
-fine_pending : (d : Domain) (n : Node) (h : List Act) (o : Option Node) → Settled d n h → Fine d n h (close_pending o)
+pub fine_pending : (d : Domain) (n : Node) (h : List Act) (o : Option Node) → Settled d n h → Fine d n h (close_pending o)
 fine_pending d n h None s = fine_none d n h s
 fine_pending d n h (Some p) s = fine_quiet d n h (Closed p Attempt) [] tt refl s (fine_none d n _)
 
@@ -76,11 +86,11 @@ fine_associated d n h None is s = fine_none d n h s
 fine_associated d n h (Some p) is s = fine_quiet d n h (Closed p Session) [] (λ station. is) refl s (fine_none d n _)
 
 -- no session is left
-left_pending : (h : List Act) (o : Option Node) → associated (add (close_pending o) h) ≡ associated h
+pub left_pending : (h : List Act) (o : Option Node) → associated (add (close_pending o) h) ≡ associated h
 left_pending h None = refl
 left_pending h (Some p) = refl
 
-left_associated : (h : List Act) (o : Option Node) → associated h ≡ o → associated (add (close_associated o) h) ≡ None
+pub left_associated : (h : List Act) (o : Option Node) → associated h ≡ o → associated (add (close_associated o) h) ≡ None
 left_associated h None is = is
 left_associated h (Some p) is = refl
 
@@ -99,7 +109,7 @@ none_left h =
 pub not_station : {A : Type 0} (n : Node) → is_ap n ≡ true → is_ap n ≡ false → A
 not_station n ours theirs = absurd (cc (ours, theirs))
 
-size_nonce : (d : Domain) (n : Node) (k : ℕ) → length (nonce d n k) ≡ 32
+pub size_nonce : (d : Domain) (n : Node) (k : ℕ) → length (nonce d n k) ≡ 32
 unfolding nonce
 size_nonce d n k = length-kdf _ _ _ 32
 
@@ -114,37 +124,77 @@ connect_fine d first n h p g role s (Asks early is) =
     let b = fine_dropped d n h s in
     subst (λ (x : List Act). Fine d n h x) (sym is)
     (fine_append d n h (close_pending (pending h) ++ close_associated (associated h)) (asks d first n h p) b
-    (fine_opened d n _ p Connect (next_nonce d first n h) _ (λ station. (none_left h, role)) (size_nonce d n _) b.settled (λ t. fine_quiet d n _ (sent_assoc_req d n p) [] (tt, tt) refl t (fine_none d n _))))
+    (fine_opened d n _ p Connect (next_nonce d first n h) _ (record { none = λ is station. none_left h; alone = λ station. ((λ some. (let none = none_left h in cc (none, some))), role); mobile = λ is. cc is }) (size_nonce d n _) b.settled (λ t. fine_quiet d n _ (sent_assoc_req d n p) [] (tt, tt) refl t (fine_none d n _))))
 
 abbrev answers : Domain → ℕ → Node → List Act → Node → List Act
 answers d first n h p = Opened p Connect ∷ Drew (Nonce (next_nonce d first n h)) ∷ sent_assoc_resp d n p ∷ sent_m1 d n p 1 (next_nonce d first n h) ∷ []
 
-assoc_req_fine : (d : Domain) (first : ℕ) (n : Node) (h : List Act) (octets : List ℕ) (r : Reading) (facts : Facts) (g : List Act) → Settled d n h → AssocReqRow (here d first n) h octets r facts g → Fine d n h g
+pub assoc_req_fine : (d : Domain) (first : ℕ) (n : Node) (h : List Act) (octets : List ℕ) (r : Reading) (facts : Facts) (g : List Act) → Settled d n h → AssocReqRow (here d first n) h octets r facts g → Fine d n h g
 assoc_req_fine d first n h octets r facts g s row =
     let role : is_ap n ≡ true = request_role d first n h row.b row.e facts row.kind_is (subst (λ (x : Reading). verdict d first n h x facts ≡ Accepted) row.is row.accepted) in
     subst (λ (x : List Act). Fine d n h x) (sym row.says)
     (fine_quiet d n h (Took (Some row.p) octets kind.AssocReq Accepted None) _ tt refl s (λ t.
     let a = fine_attempt d n (Took (Some row.p) octets kind.AssocReq Accepted None ∷ h) row.p (attempt row.p h) t in
     fine_append d n (Took (Some row.p) octets kind.AssocReq Accepted None ∷ h) (close_attempt row.p (attempt row.p h)) (answers d first n h row.p) a
-    (fine_opened d n _ row.p Connect (next_nonce d first n h) _ (not_station n role) (size_nonce d n _) a.settled (λ u.
+    (fine_opened d n _ row.p Connect (next_nonce d first n h) _ (record { none = λ is. not_station n role; alone = not_station n role; mobile = λ is. cc is }) (size_nonce d n _) a.settled (λ u.
     fine_quiet d n _ (sent_assoc_resp d n row.p) _ (tt, tt) refl u (λ v.
     fine_quiet d n _ (sent_m1 d n row.p 1 (next_nonce d first n h)) [] (legal_m1 d n row.p (sent_assoc_resp d n row.p ∷ Drew (Nonce (next_nonce d first n h)) ∷ Opened row.p Connect ∷ add (close_attempt row.p (attempt row.p h)) (Took (Some row.p) octets kind.AssocReq Accepted None ∷ h)) 1 (next_nonce d first n h) (rw (same-refl row.p) (omega arith))) refl v (fine_none d n _))))))
 
-assoc_resp_fine : (d : Domain) (first : ℕ) (n : Node) (h : List Act) (octets : List ℕ) (r : Reading) (facts : Facts) (g : List Act) → Settled d n h → AssocRespRow (here d first n) h octets r facts g → Fine d n h g
+pub assoc_resp_fine : (d : Domain) (first : ℕ) (n : Node) (h : List Act) (octets : List ℕ) (r : Reading) (facts : Facts) (g : List Act) → Settled d n h → AssocRespRow (here d first n) h octets r facts g → Fine d n h g
 assoc_resp_fine d first n h octets r facts g s row =
     subst (λ (x : List Act). Fine d n h x) (sym row.says) (fine_quiet d n h (Took (Some row.p) octets kind.AssocResp Accepted None) [] tt refl s (fine_none d n _))
 
-ignored_fine : (d : Domain) (first : ℕ) (n : Node) (h : List Act) (octets : List ℕ) (r : Reading) (facts : Facts) (g : List Act) → Settled d n h → IgnoredRow (here d first n) h octets r facts g → Fine d n h g
+pub ignored_fine : (d : Domain) (first : ℕ) (n : Node) (h : List Act) (octets : List ℕ) (r : Reading) (facts : Facts) (g : List Act) → Settled d n h → IgnoredRow (here d first n) h octets r facts g → Fine d n h g
 ignored_fine d first n h octets r facts g s row =
     subst (λ (x : List Act). Fine d n h x) (sym row.says) (fine_quiet d n h (Took None octets kind.Ignored Ignored None) [] tt refl s (fine_none d n _))
 
-response_fine : (d : Domain) (n : Node) (h : List Act) (from : Option Node) (k : Kind) (w : Reason) → Settled d n h → Fine d n h (response d n from k w)
-response_fine d (Ap a) h (Some p) kind.AssocReq (reason.Status code) s = fine_quiet d (Ap a) h (sent_refusal d (Ap a) p code) [] (tt, tt) refl s (fine_none d (Ap a) _)
-response_fine d n h from k _ s = fine_none d n h s
+response_by_fine : (d : Domain) (n : Node) (h : List Act) (p : Node) (k : Kind) (code : Option ℕ) → Settled d n h → Fine d n h (response_by d n p k code)
+response_by_fine d n h p kind.AssocReq (Some code) s = fine_quiet d n h (sent_refusal d n p code) [] (tt, tt) refl s (fine_none d n _)
+response_by_fine d n h p kind.FtReq (Some code) s = fine_quiet d n h (sent_ft_refusal d n p code) [] (tt, tt) refl s (fine_none d n _)
+response_by_fine d n h p kind.ReReq (Some code) s = fine_quiet d n h (sent_re_refusal d n p code) [] (tt, tt) refl s (fine_none d n _)
+response_by_fine d n h p k code s = fine_none d n h s
 
-refused_fine : (d : Domain) (first : ℕ) (n : Node) (h : List Act) (octets : List ℕ) (r : Reading) (facts : Facts) (g : List Act) → Settled d n h → RefusedRow (here d first n) h octets r facts g → Fine d n h g
-refused_fine d first n h octets r facts g s row =
-    subst (λ (x : List Act). Fine d n h x) (sym row.says) (fine_quiet d n h _ (response d n (sender d n r) (kind_of r) row.why) tt refl s (response_fine d n _ (sender d n r) (kind_of r) row.why))
+response_fine : (d : Domain) (n : Node) (h : List Act) (from : Option Node) (k : Kind) (w : Reason) → Settled d n h → Fine d n h (response d n from k w)
+response_fine d (Ap a) h (Some p) k w s = response_by_fine d (Ap a) h p k (refused_status w) s
+response_fine d n h from k w s = fine_none d n h s
+
+-- looks are answered with the right key, as far as acts tell
+abbrev pub RightAct : Domain → Node → Act → Type 0
+RightAct d n (Looked id name p answer) = LegalLook d n id p answer
+RightAct d n _ = Unit {0}
+
+abbrev pub RightActs : Domain → Node → List Act → Type 0
+RightActs d n g = AllByRecursion (λ e. RightAct d n e) g
+
+pub right_front : (d : Domain) (n : Node) (a b : List Act) → RightActs d n (a ++ b) → RightActs d n a
+right_front d n [] b w = tt
+right_front d n (e ∷ a) b w = (w.0, right_front d n a b w.1)
+
+-- the look of a refused request
+asked_fine : (d : Domain) (n : Node) (h : List Act) (p : Node) (a : Asked) (name : Option (List ℕ)) (o : Option PullAnswer) → RightActs d n (looked_by p a name o) → Settled d n h → Fine d n h (looked_by p a name o)
+asked_fine d n h p a (Some name) (Some answer) right s = fine_quiet d n h (Looked a.r0kh_id name p answer) [] right.0 refl s (fine_none d n _)
+asked_fine d n h p a name o right s = fine_none d n h s
+
+looked_fine : (d : Domain) (n : Node) (h : List Act) (p : Node) (a : Option Asked) (o : Option PullAnswer) → RightActs d n (looked_for p a o) → Settled d n h → Fine d n h (looked_for p a o)
+looked_fine d n h p None o right s = fine_none d n h s
+looked_fine d n h p (Some a) o right s = asked_fine d n h p a (single_name a.names) o right s
+
+kind_fine : (d : Domain) (n : Node) (h : List Act) (k : Kind) (p : Node) (e : ElementFields) (o : Option PullAnswer) → RightActs d n (look_of_kind k p e o) → Settled d n h → Fine d n h (look_of_kind k p e o)
+kind_fine d n h kind.FtReq p e o right s = looked_fine d n h p (asked e) o right s
+kind_fine d n h k p e o right s = fine_none d n h s
+
+look_fine : (d : Domain) (n : Node) (h : List Act) (from : Option Node) (r : Reading) (pulled : Option PmkR1) (w : Reason) → RightActs d n (refused_look n from r pulled w) → Settled d n h → Fine d n h (refused_look n from r pulled w)
+look_fine d (Ap a) h (Some p) (Managed b e) pulled w right s = kind_fine d (Ap a) h b.kind p e (look_answer w pulled) right s
+look_fine d n h from r pulled w right s = fine_none d n h s
+
+pub refused_fine : (d : Domain) (first : ℕ) (n : Node) (h : List Act) (octets : List ℕ) (r : Reading) (facts : Facts) (g : List Act) → RightActs d n g → Settled d n h → RefusedRow (here d first n) h octets r facts g → Fine d n h g
+refused_fine d first n h octets r facts g right s row =
+    let all = subst (λ (x : List Act). RightActs d n x) row.says right in
+    let looks = right_front d n (refused_look n (sender d n r) r facts.pulled row.why) (response d n (sender d n r) (kind_of r) row.why) all.1 in
+    subst (λ (x : List Act). Fine d n h x) (sym row.says) (fine_quiet d n h _ _ tt refl s (λ t.
+    let look = look_fine d n _ (sender d n r) r facts.pulled row.why looks t in
+    fine_append d n _ (refused_look n (sender d n r) r facts.pulled row.why) (response d n (sender d n r) (kind_of r) row.why) look
+    (response_fine d n _ (sender d n r) (kind_of r) row.why look.settled)))
 
 -- ---- of a message that was taken
 
@@ -177,7 +227,7 @@ is_station : (b : Bool) → true ≡ not b → b ≡ false
 is_station true e = cc
 is_station false e = refl
 
-access_peer : (a b : Bool) → a ≡ not b → b ≡ false → a ≡ true
+pub access_peer : (a b : Bool) → a ≡ not b → b ≡ false → a ≡ true
 access_peer true b e f = refl
 access_peer false true e f = cc
 access_peer false false e f = cc
@@ -186,13 +236,13 @@ is_access : (b : Bool) → false ≡ not b → b ≡ true
 is_access true e = refl
 is_access false e = cc
 
-station_of : (d : Domain) (n p : Node) (h : List Act) (k : KeyMessage) (o : Outcome) → Taken d n p h k o → ack k.message ≡ true → is_ap n ≡ false
+pub station_of : (d : Domain) (n p : Node) (h : List Act) (k : KeyMessage) (o : Outcome) → Taken d n p h k o → ack k.message ≡ true → is_ap n ≡ false
 station_of d n p h k o t e = is_station (is_ap n) (sym e ∙ t.direction)
 
 access_of : (d : Domain) (n p : Node) (h : List Act) (k : KeyMessage) (o : Outcome) → Taken d n p h k o → ack k.message ≡ false → is_ap n ≡ true
 access_of d n p h k o t e = is_access (is_ap n) (sym e ∙ t.direction)
 
-abbrev installs : Node → Inputs → Act
+abbrev pub installs : Node → Inputs → Act
 installs p i = Installed (One p) (Pairwise (ptk i).tk i)
 
 abbrev takes : Node → List ℕ → Message → Outcome → Inputs → KeyMessage → Act
@@ -208,84 +258,110 @@ verified_now d n p h octets kd o i k there a = record {
   outcome = o;
   covered = 1 ∷ without_mic k.octets;
   took = inl refl;
-  form = refl;
+  form = Of_key refl;
   direction = ap ack a.covers.message ∙ a.taken.direction;
 }
 
 -- ---- M1 and M2: a key is derived
 
-inputs_own : (d : Domain) (n p : Node) (v other : List ℕ) → nonce_of n (inputs d (root d) n p v other) ≡ v
-inputs_own d (Ap k) p v other = refl
-inputs_own d (Sta k) p v other = refl
+pub inputs_own : (d : Domain) (id : List ℕ) (n p : Node) (v other : List ℕ) → nonce_of n (inputs d (root_at d id) n p v other) ≡ v
+inputs_own d id (Ap k) p v other = refl
+inputs_own d id (Sta k) p v other = refl
 
-inputs_address : (d : Domain) (n p : Node) (v other : List ℕ) → own_address n (inputs d (root d) n p v other) ≡ mac d n
-inputs_address d (Ap k) p v other = refl
-inputs_address d (Sta k) p v other = refl
+pub inputs_address : (d : Domain) (id : List ℕ) (n p : Node) (v other : List ℕ) → own_address n (inputs d (root_at d id) n p v other) ≡ mac d n
+inputs_address d id (Ap k) p v other = refl
+inputs_address d id (Sta k) p v other = refl
 
-inputs_peer : (d : Domain) (n p : Node) (v other : List ℕ) → peer_address n (inputs d (root d) n p v other) ≡ mac d p
-inputs_peer d (Ap k) p v other = refl
-inputs_peer d (Sta k) p v other = refl
+pub inputs_peer : (d : Domain) (id : List ℕ) (n p : Node) (v other : List ℕ) → peer_address n (inputs d (root_at d id) n p v other) ≡ mac d p
+inputs_peer d id (Ap k) p v other = refl
+inputs_peer d id (Sta k) p v other = refl
 
-inputs_common : (d : Domain) (n p : Node) (v other : List ℕ) → AreCommon d (inputs d (root d) n p v other)
-inputs_common d (Ap k) p v other = record { akm = refl; psk = refl; ssid = refl; mdid = refl; r0kh_id = refl }
-inputs_common d (Sta k) p v other = record { akm = refl; psk = refl; ssid = refl; mdid = refl; r0kh_id = refl }
+-- the root by the suite
+root_psk : (akm : Akm) (d : Domain) (id : List ℕ) → (root_by akm d id).psk ≡ d.psk
+root_psk Psk d id = refl
+root_psk PskSha256 d id = refl
+root_psk FtPsk d id = refl
 
-alive_took : (n p : Node) (h part : List Act) (i : Inputs) (from : Option Node) (octets : List ℕ) (kd : Kind) (o : Outcome) (seal : Option Seal) → attempt p h ≡ Some part → own_nonce part ≡ Some (nonce_of n i) → Alive n (Took from octets kd o seal ∷ h) p i
+root_mdid : (akm : Akm) (d : Domain) (id : List ℕ) → (root_by akm d id).mdid ≡ (root_by akm d (root_by akm d id).r0kh_id).mdid
+root_mdid Psk d id = refl
+root_mdid PskSha256 d id = refl
+root_mdid FtPsk d id = refl
+
+root_holder : (akm : Akm) (d : Domain) (id : List ℕ) → (root_by akm d id).r0kh_id ≡ (root_by akm d (root_by akm d id).r0kh_id).r0kh_id
+root_holder Psk d id = refl
+root_holder PskSha256 d id = refl
+root_holder FtPsk d id = refl
+
+pub inputs_common : (d : Domain) (id : List ℕ) (n p : Node) (v other : List ℕ) → AreCommon d (inputs d (root_at d id) n p v other)
+inputs_common d id (Ap k) p v other = record { akm = refl; psk = root_psk d.akm d id; ssid = refl; mdid = root_mdid d.akm d id; r0kh_id = root_holder d.akm d id }
+inputs_common d id (Sta k) p v other = record { akm = refl; psk = root_psk d.akm d id; ssid = refl; mdid = root_mdid d.akm d id; r0kh_id = root_holder d.akm d id }
+
+-- a node and its peer, of two kinds, are listed
+pub record Both (d : Domain) (n p : Node) : Type 0 where
+  pub roles : is_ap p ≡ not (is_ap n)
+  pub listed : IsListed d n
+  pub peer_listed : IsListed d p
+
+both_of : (d : Domain) (n p : Node) (h : List Act) (k : KeyMessage) (o : Outcome) → Taken d n p h k o → Both d n p
+both_of d n p h k o t = record { roles = t.roles; listed = t.listed; peer_listed = t.peer_listed }
+
+pub alive_took : (n p : Node) (h part : List Act) (i : Inputs) (from : Option Node) (octets : List ℕ) (kd : Kind) (o : Outcome) (seal : Option Seal) → attempt p h ≡ Some part → own_nonce part ≡ Some (nonce_of n i) → Alive n (Took from octets kd o seal ∷ h) p i
 alive_took n p h part i from octets kd o seal a is = record { part = Took from octets kd o seal ∷ part; awaited = attempt_more p (Took from octets kd o seal) h part refl refl a; own = own_nonce_more (Took from octets kd o seal) part (nonce_of n i) is }
 
-alive_more : (n p : Node) (h : List Act) (i : Inputs) (e : Act) → opens p e ≡ false → ends p e ≡ false → Alive n h p i → Alive n (e ∷ h) p i
+pub alive_more : (n p : Node) (h : List Act) (i : Inputs) (e : Act) → opens p e ≡ false → ends p e ≡ false → Alive n h p i → Alive n (e ∷ h) p i
 alive_more n p h i e o goes a = record { part = e ∷ a.part; awaited = attempt_more p e h a.part o goes a.awaited; own = own_nonce_more e a.part (nonce_of n i) a.own }
 
-legal_derived : (d : Domain) (n p : Node) (h part : List Act) (k : KeyMessage) (from : Option Node) (octets : List ℕ) (kd : Kind) (out o : Outcome) (seal : Option Seal) (v other : List ℕ) → Taken d n p h k out → attempt p h ≡ Some part → own_nonce part ≡ Some v → (is_ap n ≡ true → before_sent p (kind.Key M3) (Took from octets kd o seal ∷ h) ≡ None)
-    → LegalDerived d n (Took from octets kd o seal ∷ h) p (inputs d (root d) n p v other) (ptk (inputs d (root d) n p v other))
-legal_derived d n p h part k from octets kd out o seal v other t a is free = record {
+legal_derived : (d : Domain) (id : List ℕ) (n p : Node) (h part : List Act) (from : Option Node) (octets : List ℕ) (kd : Kind) (o : Outcome) (seal : Option Seal) (v other : List ℕ) → Both d n p → attempt p h ≡ Some part → own_nonce part ≡ Some v → (is_ap n ≡ true → before_sent p (kind.Key M3) (Took from octets kd o seal ∷ h) ≡ None)
+    → LegalDerived d n (Took from octets kd o seal ∷ h) p (inputs d (root_at d id) n p v other) (ptk (inputs d (root_at d id) n p v other))
+legal_derived d id n p h part from octets kd o seal v other t a is free = record {
   roles = t.roles;
   listed = t.listed;
   peer_listed = t.peer_listed;
-  alive = alive_took n p h part (inputs d (root d) n p v other) from octets kd o seal a (is ∙ ap Some (sym (inputs_own d n p v other)));
-  address = inputs_address d n p v other;
-  peer = inputs_peer d n p v other;
-  common = inputs_common d n p v other;
+  alive = alive_took n p h part (inputs d (root_at d id) n p v other) from octets kd o seal a (is ∙ ap Some (sym (inputs_own d id n p v other)));
+  address = inputs_address d id n p v other;
+  peer = inputs_peer d id n p v other;
+  common = inputs_common d id n p v other;
   key = refl;
   no_m3 = free;
 }
 
 -- what is derived in an attempt is from its own nonce, of 32 octets
-pub record Own (d : Domain) (n p : Node) (h part : List Act) (i : Inputs) (other : List ℕ) : Type 0 where
+pub record Own (d : Domain) (id : List ℕ) (n p : Node) (h part : List Act) (i : Inputs) (other : List ℕ) : Type 0 where
   pub v : List ℕ
   pub drawn : own_nonce part ≡ Some v
-  pub is : i ≡ inputs d (root d) n p v other
+  pub is : i ≡ inputs d (root_at d id) n p v other
   pub size : length (nonce_of n i) ≡ 32
 
-own_inputs : (d : Domain) (n p : Node) (h part : List Act) (i : Inputs) (other : List ℕ) → LegalHistory d n h → Settled d n h → attempt p h ≡ Some part → i ≡ inputs d (root d) n p (own part) other → Own d n p h part i other
-own_inputs d n p h part i other legal s a e =
+pub own_inputs : (d : Domain) (id : List ℕ) (n p : Node) (h part : List Act) (i : Inputs) (other : List ℕ) → LegalHistory d n h → Settled d n h → attempt p h ≡ Some part → i ≡ inputs d (root_at d id) n p (own part) other → Own d id n p h part i other
+own_inputs d id n p h part i other legal s a e =
     let w = s.nonced p part a in
     let v_is : own part ≡ w.0 = ap (λ (o : Option (List ℕ)). unwrap_or o []) w.1 in
-    let is : i ≡ inputs d (root d) n p w.0 other = e ∙ ap (λ (x : List ℕ). inputs d (root d) n p x other) v_is in
+    let is : i ≡ inputs d (root_at d id) n p w.0 other = e ∙ ap (λ (x : List ℕ). inputs d (root_at d id) n p x other) v_is in
     let size : length w.0 ≡ 32 = nonce_size d n w.0 h legal (in_part p h part (Drew (Nonce w.0)) a (nonce_in part w.0 w.1)) in
-    record { v = w.0; drawn = w.1; is = is; size = ap (λ (x : Inputs). length (nonce_of n x)) is ∙ ap length (inputs_own d n p w.0 other) ∙ size }
+    record { v = w.0; drawn = w.1; is = is; size = ap (λ (x : Inputs). length (nonce_of n x)) is ∙ ap length (inputs_own d id n p w.0 other) ∙ size }
 
-derived_by : (d : Domain) (n p : Node) (h part : List Act) (k : KeyMessage) (from : Option Node) (octets : List ℕ) (kd : Kind) (out o : Outcome) (seal : Option Seal) (i : Inputs) (other : List ℕ) → Taken d n p h k out → attempt p h ≡ Some part → Own d n p h part i other → (is_ap n ≡ true → before_sent p (kind.Key M3) (Took from octets kd o seal ∷ h) ≡ None)
+pub derived_by : (d : Domain) (id : List ℕ) (n p : Node) (h part : List Act) (from : Option Node) (octets : List ℕ) (kd : Kind) (o : Outcome) (seal : Option Seal) (i : Inputs) (other : List ℕ) → Both d n p → attempt p h ≡ Some part → Own d id n p h part i other → (is_ap n ≡ true → before_sent p (kind.Key M3) (Took from octets kd o seal ∷ h) ≡ None)
     → LegalDerived d n (Took from octets kd o seal ∷ h) p i (ptk i)
-derived_by d n p h part k from octets kd out o seal i other t a w free =
-    subst (λ (x : Inputs). LegalDerived d n (Took from octets kd o seal ∷ h) p x (ptk x)) (sym w.is) (legal_derived d n p h part k from octets kd out o seal w.v other t a w.drawn free)
+derived_by d id n p h part from octets kd o seal i other t a w free =
+    subst (λ (x : Inputs). LegalDerived d n (Took from octets kd o seal ∷ h) p x (ptk x)) (sym w.is) (legal_derived d id n p h part from octets kd o seal w.v other t a w.drawn free)
 
-m1_fine : (d : Domain) (first : ℕ) (n : Node) (h : List Act) (octets : List ℕ) (r : Reading) (facts : Facts) (g : List Act) → Reads d.akm octets r → LegalHistory d n h → Settled d n h → M1Row (here d first n) h octets r facts g → Fine d n h g
+pub m1_fine : (d : Domain) (first : ℕ) (n : Node) (h : List Act) (octets : List ℕ) (r : Reading) (facts : Facts) (g : List Act) → Reads d.akm octets r → LegalHistory d n h → Settled d n h → M1Row (here d first n) h octets r facts g → Fine d n h g
 m1_fine d first n h octets r facts g reads legal s row =
     let a = arrived d first n row.p h octets r row.k facts row.is reads row.from row.accepted in
     let role : is_ap n ≡ false = station_of d n row.p h row.k Accepted a.taken (ap ack row.message_is) in
-    let w = own_inputs d n row.p h row.part row.i row.k.fields.nonce legal s row.awaited row.inputs_are in
+    let w = own_inputs d (responded_r0kh_id facts.responded) n row.p h row.part row.i row.k.fields.nonce legal s row.awaited row.inputs_are in
     let size : length row.i.snonce ≡ 32 = ap length (sta_nonce n row.i role) ∙ w.size in
     subst (λ (x : List Act). Fine d n h x) (sym row.says)
     (fine_quiet d n h (Took (Some row.p) octets (kind.Key M1) Accepted None) _ tt refl s (λ t.
-    fine_quiet d n _ (derives row.p row.i) _ (derived_by d n row.p h row.part row.k (Some row.p) octets (kind.Key M1) Accepted Accepted None row.i row.k.fields.nonce a.taken row.awaited w (λ ap_role. not_station n ap_role role)) refl t (λ u.
-    fine_quiet d n _ (sent_m2 d n row.p (keyed_by row.i) row.k.fields.counter) [] (legal_m2 d n row.p _ row.i row.k.fields.counter role (inl refl) size) refl u (fine_none d n _))))
+    fine_quiet d n _ (derives row.p row.i) _ (derived_by d (responded_r0kh_id facts.responded) n row.p h row.part (Some row.p) octets (kind.Key M1) Accepted None row.i row.k.fields.nonce (both_of d n row.p h row.k Accepted a.taken) row.awaited w (λ ap_role. not_station n ap_role role)) refl t (λ u.
+    fine_quiet d n _ (sent_m2 d n row.p (keyed_by row.i) row.k.fields.counter (unwrap_or (responded_fte facts.responded) [])) []
+    (legal_m2 d n row.p _ row.i row.k.fields.counter (unwrap_or (responded_fte facts.responded) []) role (inl refl) size) refl u (fine_none d n _))))
 
-m2_fine : (d : Domain) (first : ℕ) (n : Node) (h : List Act) (octets : List ℕ) (r : Reading) (facts : Facts) (g : List Act) → Reads d.akm octets r → LegalHistory d n h → Settled d n h → M2Row (here d first n) h octets r facts g → Fine d n h g
+pub m2_fine : (d : Domain) (first : ℕ) (n : Node) (h : List Act) (octets : List ℕ) (r : Reading) (facts : Facts) (g : List Act) → Reads d.akm octets r → LegalHistory d n h → Settled d n h → M2Row (here d first n) h octets r facts g → Fine d n h g
 m2_fine d first n h octets r facts g reads legal s row =
     let a = arrived d first n row.p h octets r row.k facts row.is reads row.from row.accepted in
     let role : is_ap n ≡ true = access_of d n row.p h row.k Accepted a.taken (ap ack row.message_is) in
-    let w = own_inputs d n row.p h row.part row.i row.k.fields.nonce legal s row.awaited row.inputs_are in
+    let w = own_inputs d (r0kh_id d n) n row.p h row.part row.i row.k.fields.nonce legal s row.awaited row.inputs_are in
     let size : length row.i.anonce ≡ 32 = ap length (ap_nonce n row.i role) ∙ w.size in
     let drawn : HasDrawn h = s.started role a.taken.listed in
     let new : Newest h = newest_is d n h legal drawn in
@@ -300,10 +376,10 @@ m2_fine d first n h octets r facts g reads legal s row =
       outcome = Accepted;
       covered = 1 ∷ without_mic row.k.octets;
       took = inr (inl refl);
-      form = refl;
+      form = Of_key refl;
       direction = ap ack a.covers.message ∙ a.taken.direction;
     } in
-    let own : own_nonce row.part ≡ Some (nonce_of n row.i) = w.drawn ∙ ap Some (sym (ap (nonce_of n) w.is ∙ inputs_own d n row.p w.v row.k.fields.nonce)) in
+    let own : own_nonce row.part ≡ Some (nonce_of n row.i) = w.drawn ∙ ap Some (sym (ap (nonce_of n) w.is ∙ inputs_own d (r0kh_id d n) n row.p w.v row.k.fields.nonce)) in
     let alive : Alive n (derives row.p row.i ∷ took ∷ h) row.p row.i = alive_more n row.p (took ∷ h) row.i (derives row.p row.i) refl refl (alive_took n row.p h row.part row.i (Some row.p) octets (kind.Key M2) Accepted seal row.awaited own) in
     let sends : SendsM3 n (derives row.p row.i ∷ took ∷ h) row.p = record {
       part = derives row.p row.i ∷ took ∷ row.part;
@@ -318,9 +394,9 @@ m2_fine d first n h octets r facts g reads legal s row =
     let built : Built n (derives row.p row.i ∷ took ∷ h) row.p row.i (newest groups.Gtk h).key = record { past = derives row.p row.i ∷ took ∷ h; tail = tail_refl (derives row.p row.i ∷ took ∷ h); newest = new.last; verified = verified; alive = alive } in
     subst (λ (x : List Act). Fine d n h x) (sym row.says)
     (fine_quiet d n h took _ tt refl s (λ t.
-    fine_quiet d n _ (derives row.p row.i) _ (derived_by d n row.p h row.part row.k (Some row.p) octets (kind.Key M2) Accepted Accepted seal row.i row.k.fields.nonce a.taken row.awaited w (λ ap_role. rw none refl)) refl t (λ u.
+    fine_quiet d n _ (derives row.p row.i) _ (derived_by d (r0kh_id d n) n row.p h row.part (Some row.p) octets (kind.Key M2) Accepted seal row.i row.k.fields.nonce (both_of d n row.p h row.k Accepted a.taken) row.awaited w (λ ap_role. rw none refl)) refl t (λ u.
     fine_quiet d n _ (sent_m3 d n row.p (keyed_by row.i) (next_in_attempt row.p (chain row.p h)) (newest groups.Gtk h) (newest_uses groups.Gtk h)) []
-    (legal_m3 d n row.p _ row.i (next_in_attempt row.p (chain row.p h)) (newest groups.Gtk h) (newest_uses groups.Gtk h) role (inl refl) size new.is built sends) refl u (fine_none d n _))))
+    (legal_m3 d n row.p _ row.i (next_in_attempt row.p (chain row.p h)) (newest groups.Gtk h) (newest_uses groups.Gtk h) role (inl refl) size new.is built sends s.ground a.taken.listed) refl u (fine_none d n _))))
 
 -- ---- a pairwise key is installed
 
@@ -336,7 +412,7 @@ ready_of d n p h part x legal a e =
     let key : x.ptk ≡ ptk x.inputs = derived_key d n p x.inputs x.ptk h legal there in
     (key, record { awaited = a; there = subst (λ (k : Ptk). In (Derived p x.inputs k) h) key there; own = own_of_part d n p x h part legal a e })
 
-pairwise_now : (d : Domain) (n p : Node) (h : List Act) (i : Inputs) → Settled d n h → Verified n h p i → Alive n h p i → session p h ≡ None → LegalPairwise n h p (ptk i).tk i
+pub pairwise_now : (d : Domain) (n p : Node) (h : List Act) (i : Inputs) → Settled d n h → Verified n h p i → Alive n h p i → session p h ≡ None → LegalPairwise n h p (ptk i).tk i
 pairwise_now d n p h i s v a none = record { verified = v; alive = a; first = s.bare p a.part a.awaited; is = refl; none = none }
 
 -- a station has no session with whom it has an attempt
@@ -355,23 +431,20 @@ pub record Gift (n : Node) (k : KeyMessage) (m : Message) (i : Inputs) (plain : 
   pub spelled : SpellsElements KeyData plain e
 
 -- what a station is given by a message that it has just accepted
-gift_given : (d : Domain) (n p : Node) (h more : List Act) (octets : List ℕ) (k : KeyMessage) (m : Message) (i : Inputs) (plain : List ℕ) (e : ElementFields) → Gift n k m i plain e → GivesKey m → Arrived d n p h octets k Accepted → In (derives p i) more
+gift_given : (d : Domain) (n p : Node) (h more : List Act) (octets : List ℕ) (k : KeyMessage) (m : Message) (i : Inputs) (plain : List ℕ) (e : ElementFields) → Gift n k m i plain e → GivesKey (kind.Key m) → ack m ≡ true → Arrived d n p h octets k Accepted → In (derives p i) more
     → In (takes p octets m Accepted i k) (since p more) → Given n more p i (carried (Some e)).key
-gift_given d n p h more octets k m i plain e w gives_key a there took = record {
-  message = m;
+gift_given d n p h more octets k m i plain e w gives_key down a there took = record {
+  frame = kind.Key m;
   octets = octets;
   covered = 1 ∷ without_mic k.octets;
   took = took;
   gives_key = gives_key;
-  form = refl;
-  message_is = a.covers.message ∙ w.message;
-  counter = reads-counter d.akm octets k a.has ∙ sym a.covers.counter;
+  form = Of_key refl;
+  down = ap ack (a.covers.message ∙ w.message) ∙ down;
+  frame_is = ap (λ (x : Message). kind.Key x) (a.covers.message ∙ w.message);
+  counter = λ is. reads-counter d.akm octets k a.has ∙ sym a.covers.counter;
   derived = there;
-  plain = plain;
-  wraps = subst (λ (x : List ℕ). Wraps (ptk i).kek plain x) (sym a.covers.key_data) w.wraps;
-  e = e;
-  spelled = w.spelled;
-  key = refl;
+  opens = Of_key_data refl plain (subst (λ (x : List ℕ). Wraps (ptk i).kek plain x) (sym a.covers.key_data) w.wraps) e w.spelled refl;
 }
 
 -- what is given is installed, or resumed; it is about p alone
@@ -384,7 +457,7 @@ pub record IsGift (p : Node) (gift : Act) (g : List ℕ) : Type 0 where
   pub leaves : (h : List Act) → associated (gift ∷ h) ≡ associated h
   pub installs_it : (key : List ℕ) (id : ℕ) (b : Mac) → Installed (One p) (Group key id b) ≡ gift → key ≡ g
 
-is_gift : (p : Node) (b : Mac) (g : GroupKey) (o : Option GroupKey) → IsGift p (give_by groups.Gtk p b g o) g.key
+pub is_gift : (p : Node) (b : Mac) (g : GroupKey) (o : Option GroupKey) → IsGift p (give_by groups.Gtk p b g o) g.key
 is_gift p b g None = record {
   apart = λ q other. other;
   opens_none = λ q. refl;
@@ -405,10 +478,10 @@ is_gift p b g (Some kept) = record {
 }
 
 -- in an attempt in which nothing was installed yet no group key was
-no_group : (p : Node) (part : List Act) (key : List ℕ) (id : ℕ) (b : Mac) → Uninstalled p part → In (Installed (One p) (Group key id b)) part → ⊥
+pub no_group : (p : Node) (part : List Act) (key : List ℕ) (id : ℕ) (b : Mac) → Uninstalled p part → In (Installed (One p) (Group key id b)) part → ⊥
 no_group p part key id b free there = let none : same p p ≡ false = free (Installed (One p) (Group key id b)) there in let self : same p p ≡ true = same-refl p in cc (none, self)
 
-no_group_later : (p : Node) (part octets : List Act) (x y : Act) (key : List ℕ) (id : ℕ) (b : Mac) → Uninstalled p part → (Installed (One p) (Group key id b) ≡ x → ⊥) → (Installed (One p) (Group key id b) ≡ y → ⊥) → In (Installed (One p) (Group key id b)) (x ∷ y ∷ part) → ⊥
+pub no_group_later : (p : Node) (part octets : List Act) (x y : Act) (key : List ℕ) (id : ℕ) (b : Mac) → Uninstalled p part → (Installed (One p) (Group key id b) ≡ x → ⊥) → (Installed (One p) (Group key id b) ≡ y → ⊥) → In (Installed (One p) (Group key id b)) (x ∷ y ∷ part) → ⊥
 no_group_later p part octets x y key id b free one two (inl here) = one here
 no_group_later p part octets x y key id b free one two (inr (inl here)) = two here
 no_group_later p part octets x y key id b free one two (inr (inr later)) = no_group p part key id b free later
@@ -435,7 +508,7 @@ m3_gift d n p h part octets k i plain e w a r s new =
     By_m3 (record {
       station = w.role;
       i = i;
-      given = gift_given d n p h (installs p i ∷ took ∷ h) octets k M3 i plain e w (In_m3 refl) a (inr (inr r.there)) (inr (inl refl));
+      given = gift_given d n p h (installs p i ∷ took ∷ h) octets k M3 i plain e w (In_m3 refl) refl a (inr (inr r.there)) (inr (inl refl));
       alive = record {
         part = installs p i ∷ took ∷ part;
         awaited = attempt_more p (installs p i) (took ∷ h) (took ∷ part) refl refl (attempt_more p took h part refl refl r.awaited);
@@ -451,7 +524,7 @@ legal_give d n p h part octets k i plain e w a r s None is = m3_gift d n p h par
 legal_give d n p h part octets k i plain e w a r s (Some kept) is = tt
 
 -- what is installed since the last Opened before M3 is finished is this gift alone
-gave_by : (p : Node) (h part : List Act) (gift x y : Act) (g : List ℕ) (key : List ℕ) (id : ℕ) (b : Mac) → IsGift p gift g → Uninstalled p part → since p h ≡ part → opens p x ≡ false → opens p y ≡ false → (Installed (One p) (Group key id b) ≡ x → ⊥) → (Installed (One p) (Group key id b) ≡ y → ⊥)
+pub gave_by : (p : Node) (h part : List Act) (gift x y : Act) (g : List ℕ) (key : List ℕ) (id : ℕ) (b : Mac) → IsGift p gift g → Uninstalled p part → since p h ≡ part → opens p x ≡ false → opens p y ≡ false → (Installed (One p) (Group key id b) ≡ x → ⊥) → (Installed (One p) (Group key id b) ≡ y → ⊥)
     → In (Installed (One p) (Group key id b)) (since p (gift ∷ x ∷ y ∷ h)) → key ≡ g
 gave_by p h part gift x y g key id b is free parts o u one two there = go (subst (λ (l : List Act). In (Installed (One p) (Group key id b)) l) here there)
   where
@@ -462,9 +535,9 @@ gave_by p h part gift x y g key id b is free parts o u one two there = go (subst
     go (inl at) = is.installs_it key id b at
     go (inr later) = absurd (no_group_later p part [] x y key id b free one two later)
 
-m3_core : (d : Domain) (n p : Node) (h part : List Act) (octets : List ℕ) (k : KeyMessage) (i : Inputs) (plain : List ℕ) (e : ElementFields) → Gift n k M3 i plain e → Arrived d n p h octets k Accepted → LegalHistory d n h → Settled d n h → Ready d n p h part i → derivation p part ≡ Some (keyed_by i) → (o : Option GroupKey) → find_key (carried (Some e)).key (memory groups.Gtk p h) ≡ o
+m3_core : (d : Domain) (n p : Node) (h part : List Act) (octets : List ℕ) (k : KeyMessage) (i : Inputs) (plain : List ℕ) (e : ElementFields) → Gift n k M3 i plain e → Arrived d n p h octets k Accepted → LegalHistory d n h → Settled d n h → Ready d n p h part i → by_connect part ≡ true → derivation p part ≡ Some (keyed_by i) → (o : Option GroupKey) → find_key (carried (Some e)).key (memory groups.Gtk p h) ≡ o
     → Fine d n h (takes p octets M3 Accepted i k ∷ installs p i ∷ give_by groups.Gtk p (mac d p) (carried (Some e)) o ∷ Finished p i ∷ sent_m4 d n p (keyed_by i) k.fields.counter ∷ [])
-m3_core d n p h part octets k i plain e w a legal settled r last o is =
+m3_core d n p h part octets k i plain e w a legal settled r begun last o is =
     let took : Act = takes p octets M3 Accepted i k in
     let gift : Act = give_by groups.Gtk p (mac d p) (carried (Some e)) o in
     let it : IsGift p gift (carried (Some e)).key = is_gift p (mac d p) (carried (Some e)) o in
@@ -484,11 +557,11 @@ m3_core d n p h part octets k i plain e w a legal settled r last o is =
       alive = alive_end;
       last = rw it.derives_none (derivation_of p h part (keyed_by i) r.awaited last);
       installed = inr (inl refl);
-      alone = λ station. it.leaves (installs p i ∷ took ∷ h) ∙ alone_in d n p h part station role_p legal r.awaited;
+      alone = λ station. it.leaves (installs p i ∷ took ∷ h) ∙ alone_in d n p h part station role_p legal r.awaited begun;
       gave = λ station key id b there.
           (let one : key ≡ (carried (Some e)).key = gave_by p h part gift (installs p i) took (carried (Some e)).key key id b it (settled.bare p part r.awaited) (since_part p h part r.awaited) refl refl (λ same_act. cc same_act) (λ same_act. cc same_act) there in
           subst (λ (x : List ℕ). Given n (gift ∷ installs p i ∷ took ∷ h) p i x) (sym one)
-          (gift_given d n p h (gift ∷ installs p i ∷ took ∷ h) octets k M3 i plain e w (In_m3 refl) a (inr (inr (inr r.there))) (rw (it.opens_none p) (inr (inr (inl refl))))));
+          (gift_given d n p h (gift ∷ installs p i ∷ took ∷ h) octets k M3 i plain e w (In_m3 refl) refl a (inr (inr (inr r.there))) (rw (it.opens_none p) (inr (inr (inl refl))))));
     }) (
     fine_quiet d n (Finished p i ∷ gift ∷ installs p i ∷ took ∷ h) (sent_m4 d n p (keyed_by i) k.fields.counter) []
     (legal_m4 d n p (Finished p i ∷ gift ∷ installs p i ∷ took ∷ h) i k.fields.counter w.role (inr (inr (inr (inr r.there))))) refl
@@ -497,12 +570,12 @@ m3_core d n p h part octets k i plain e w a legal settled r last o is =
 abbrev m3_acts : Domain → Node → Node → List Act → List ℕ → KeyMessage → Inputs → Ptk → Option ElementFields → List Act
 m3_acts d n p h octets k i x c = Took (Some p) octets (kind.Key M3) Accepted (Some (frame_seal x.kck k.octets)) ∷ Installed (One p) (Pairwise x.tk i) ∷ give groups.Gtk p (mac d p) (carried c) h ∷ Finished p i ∷ sent_m4 d n p (record { inputs = i; ptk = x }) k.fields.counter ∷ []
 
-m3_fine : (d : Domain) (first : ℕ) (n : Node) (h : List Act) (octets : List ℕ) (r : Reading) (facts : Facts) (g : List Act) → Reads d.akm octets r → Knows d first n h r facts → LegalHistory d n h → Settled d n h → M3Row (here d first n) h octets r facts g → Fine d n h g
+pub m3_fine : (d : Domain) (first : ℕ) (n : Node) (h : List Act) (octets : List ℕ) (r : Reading) (facts : Facts) (g : List Act) → Reads d.akm octets r → Knows d first n h r facts → LegalHistory d n h → Settled d n h → M3Row (here d first n) h octets r facts g → Fine d n h g
 m3_fine d first n h octets r facts g reads knows legal s row =
     let a = arrived d first n row.p h octets r row.k facts row.is reads row.from row.accepted in
     let i : Inputs = row.y.key.inputs in
     let w = (keying_in row.p h row.y row.awaited).awaited (awaited_m3 d n row.p h row.k row.y row.message_is a.taken row.awaited) in
-    let ready = ready_of d n row.p h w.0 row.y.key legal w.1.0 w.1.1 in
+    let ready = ready_of d n row.p h w.0 row.y.key legal w.1.0 w.1.1.0 in
     let u = unwrapped_m3 d first n row.p h row.k facts row.y row.message_is a.from (subst (λ (x : Reading). verdict d first n h x facts ≡ Accepted) row.is row.accepted) (subst (λ (x : Reading). Knows d first n h x facts) row.is knows) row.awaited in
     let gift : Gift n row.k M3 i u.plain u.e = record {
       role = station_of d n row.p h row.k Accepted a.taken (ap ack row.message_is);
@@ -510,7 +583,7 @@ m3_fine d first n h octets r facts g reads knows legal s row =
       wraps = subst (λ (x : Ptk). Wraps x.kek u.plain row.k.fields.key_data) ready.0 u.wraps;
       spelled = u.spelled;
     } in
-    let core = m3_core d n row.p h w.0 octets row.k i u.plain u.e gift a legal s ready.1 (w.1.1 ∙ ap Some (keyed_as row.y.key ready.0)) (find_key (carried (Some u.e)).key (memory groups.Gtk row.p h)) refl in
+    let core = m3_core d n row.p h w.0 octets row.k i u.plain u.e gift a legal s ready.1 w.1.1.1 (w.1.1.0 ∙ ap Some (keyed_as row.y.key ready.0)) (find_key (carried (Some u.e)).key (memory groups.Gtk row.p h)) refl in
     subst (λ (x : List Act). Fine d n h x) (sym row.says)
     (subst (λ (x : Ptk). Fine d n h (m3_acts d n row.p h octets row.k i x facts.data_)) (sym ready.0)
     (subst (λ (c : Option ElementFields). Fine d n h (m3_acts d n row.p h octets row.k i (ptk i) c)) (sym u.is) core))
@@ -518,7 +591,7 @@ m3_fine d first n h octets r facts g reads knows legal s row =
 abbrev again_acts : Domain → Node → Node → List ℕ → KeyMessage → Inputs → Ptk → List Act
 again_acts d n p octets k i x = Took (Some p) octets (kind.Key M3) Answered (Some (frame_seal x.kck k.octets)) ∷ sent_m4 d n p (record { inputs = i; ptk = x }) k.fields.counter ∷ []
 
-repeated_m3_fine : (d : Domain) (first : ℕ) (n : Node) (h : List Act) (octets : List ℕ) (r : Reading) (facts : Facts) (g : List Act) → Reads d.akm octets r → LegalHistory d n h → Settled d n h → RepeatedM3Row (here d first n) h octets r facts g → Fine d n h g
+pub repeated_m3_fine : (d : Domain) (first : ℕ) (n : Node) (h : List Act) (octets : List ℕ) (r : Reading) (facts : Facts) (g : List Act) → Reads d.akm octets r → LegalHistory d n h → Settled d n h → RepeatedM3Row (here d first n) h octets r facts g → Fine d n h g
 repeated_m3_fine d first n h octets r facts g reads legal s row =
     let a = arrived_again d first n row.p h octets r row.k facts row.is reads row.from row.answered in
     let role : is_ap n ≡ false = station_of d n row.p h row.k Answered a.taken (ap ack row.message_is) in
@@ -531,14 +604,14 @@ repeated_m3_fine d first n h octets r facts g reads legal s row =
     fine_quiet d n _ (sent_m4 d n row.p (keyed_by row.y.key.inputs) row.k.fields.counter) [] (legal_m4 d n row.p _ row.y.key.inputs row.k.fields.counter role (inr derived)) refl t (fine_none d n _))))
 
 -- from the Installed on, at an access point
-install_end : (d : Domain) (n p : Node) (h : List Act) (i : Inputs) → is_ap n ≡ true → Settled d n h → Verified n h p i → Alive n h p i → session p h ≡ None → derivation p h ≡ Some (keyed_by i) → Fine d n h (installs p i ∷ Finished p i ∷ [])
+pub install_end : (d : Domain) (n p : Node) (h : List Act) (i : Inputs) → is_ap n ≡ true → Settled d n h → Verified n h p i → Alive n h p i → session p h ≡ None → derivation p h ≡ Some (keyed_by i) → Fine d n h (installs p i ∷ Finished p i ∷ [])
 install_end d n p h i role s v a none last =
     fine_cons d n h (installs p i) (Finished p i ∷ []) (pairwise_now d n p h i s v a none)
     (fine_cons d n (installs p i ∷ h) (Finished p i) []
     (record { verified = verified_more n p h (installs p i) i v; alive = alive_more n p h i (installs p i) refl refl a; last = last; installed = inl refl; alone = not_station n role; gave = λ station. not_station n role station })
     (fine_none d n (Finished p i ∷ installs p i ∷ h) (settled_finished d n p i (installs p i ∷ h) (but_more d n p (installs p i) h (λ q apart. apart) (λ q. refl) (refl, refl) (but_of d n p h s)))))
 
-m4_core : (d : Domain) (n p : Node) (h : List Act) (i : Inputs) → is_ap n ≡ true → Settled d n h → Verified n h p i → Alive n h p i → derivation p h ≡ Some (keyed_by i) → (o : Option Derivation) → session p h ≡ o → Fine d n h (close_session p o ++ installs p i ∷ Finished p i ∷ [])
+pub m4_core : (d : Domain) (n p : Node) (h : List Act) (i : Inputs) → is_ap n ≡ true → Settled d n h → Verified n h p i → Alive n h p i → derivation p h ≡ Some (keyed_by i) → (o : Option Derivation) → session p h ≡ o → Fine d n h (close_session p o ++ installs p i ∷ Finished p i ∷ [])
 m4_core d n p h i role s v a last None is = install_end d n p h i role s v a is last
 m4_core d n p h i role s v a last (Some x) is =
     fine_quiet d n h (Closed p Session) (installs p i ∷ Finished p i ∷ []) (not_station n role) refl s (λ t.
@@ -564,12 +637,41 @@ newer_fine : (d : Domain) (n p : Node) (h : List Act) (x : Derivation) (b : Bool
 newer_fine d n p h x false role legal s awaited few = fine_none d n h s
 newer_fine d n p h x true role legal s awaited few = fine_quiet d n h (g1_to d n p h x) [] (g1_legal d n p h x role legal s awaited few) refl s (fine_none d n _)
 
--- the session that M4 begins, in which no G1 was sent yet
-begun_session : (p : Node) (h : List Act) (octets : List ℕ) (k : KeyMessage) (x : Derivation) (o : Option Derivation) → derivation p h ≡ Some x → (session p (add (m4_acts octets k p x o) h) ≡ Some x) × (sent_count p G1 (handshake groups.Gtk p (add (m4_acts octets k p x o) h)) ≡ 0)
-begun_session p h octets k x None last = (rw (same-refl p) last, rw (same-refl p) refl)
-begun_session p h octets k x (Some y) last = (rw (same-refl p) last, rw (same-refl p) refl)
+-- with suite 4 a row is put with the key holder
+data IsPut (put : List Act) : Type 0 where
+  No_put : put ≡ [] → IsPut put
+  One_put : (id name : List ℕ) (q : Node) (answer : PutAnswer) → put ≡ Put id name q answer ∷ [] → IsPut put
 
-m4_fine : (d : Domain) (first : ℕ) (n : Node) (h : List Act) (octets : List ℕ) (r : Reading) (facts : Facts) (g : List Act) → Reads d.akm octets r → LegalHistory d n h → Settled d n h → M4Row (here d first n) h octets r facts g → Fine d n h g
+put_is : (akm : Akm) (d : Domain) (n : Node) (h : List Act) (p : Node) (x : Derivation) → IsPut (put_acts_by akm d n h p x)
+put_is Psk d n h p x = No_put refl
+put_is PskSha256 d n h p x = No_put refl
+put_is FtPsk d n h p x = One_put _ _ _ _ refl
+
+put_fine : (d : Domain) (n : Node) (h put : List Act) → IsPut put → Settled d n h → Fine d n h put
+put_fine d n h put (No_put is) s = subst (λ (x : List Act). Fine d n h x) (sym is) (fine_none d n h s)
+put_fine d n h put (One_put id name q answer is) s = subst (λ (x : List Act). Fine d n h x) (sym is) (fine_quiet d n h (Put id name q answer) [] tt refl s (fine_none d n _))
+
+m4_append : (octets : List ℕ) (k : KeyMessage) (p : Node) (x : Derivation) (o : Option Derivation) (put : List Act) → m4_acts octets k p x o put ≡ m4_acts octets k p x o [] ++ put
+m4_append octets k p x None put = refl
+m4_append octets k p x (Some y) put = refl
+
+-- the session that M4 begins, in which no G1 was sent yet
+abbrev IsBegun : Node → List Act → Derivation → Type 0
+IsBegun p h x = (session p h ≡ Some x) × (sent_count p G1 (handshake groups.Gtk p h) ≡ 0)
+
+begun_none : (p : Node) (h : List Act) (octets : List ℕ) (k : KeyMessage) (x : Derivation) (o : Option Derivation) → derivation p h ≡ Some x → IsBegun p (add (m4_acts octets k p x o []) h) x
+begun_none p h octets k x None last = (rw (same-refl p) last, rw (same-refl p) refl)
+begun_none p h octets k x (Some y) last = (rw (same-refl p) last, rw (same-refl p) refl)
+
+begun_put : (p : Node) (h : List Act) (octets : List ℕ) (k : KeyMessage) (x : Derivation) (o : Option Derivation) (id name : List ℕ) (q : Node) (answer : PutAnswer) → derivation p h ≡ Some x → IsBegun p (add (m4_acts octets k p x o (Put id name q answer ∷ [])) h) x
+begun_put p h octets k x None id name q answer last = (rw (same-refl p) last, rw (same-refl p) refl)
+begun_put p h octets k x (Some y) id name q answer last = (rw (same-refl p) last, rw (same-refl p) refl)
+
+begun_session : (p : Node) (h : List Act) (octets : List ℕ) (k : KeyMessage) (x : Derivation) (o : Option Derivation) (put : List Act) → IsPut put → derivation p h ≡ Some x → IsBegun p (add (m4_acts octets k p x o put) h) x
+begun_session p h octets k x o put (No_put is) last = subst (λ (y : List Act). IsBegun p (add (m4_acts octets k p x o y) h) x) (sym is) (begun_none p h octets k x o last)
+begun_session p h octets k x o put (One_put id name q answer is) last = subst (λ (y : List Act). IsBegun p (add (m4_acts octets k p x o y) h) x) (sym is) (begun_put p h octets k x o id name q answer last)
+
+pub m4_fine : (d : Domain) (first : ℕ) (n : Node) (h : List Act) (octets : List ℕ) (r : Reading) (facts : Facts) (g : List Act) → Reads d.akm octets r → LegalHistory d n h → Settled d n h → M4Row (here d first n) h octets r facts g → Fine d n h g
 m4_fine d first n h octets r facts g reads legal s row =
     let a = arrived d first n row.p h octets r row.k facts row.is reads row.from row.accepted in
     let role : is_ap n ≡ true = access_of d n row.p h row.k Accepted a.taken (ap ack row.message_is) in
@@ -581,13 +683,17 @@ m4_fine d first n h octets r facts g reads legal s row =
     let took : Act = takes row.p octets M4 Accepted i row.k in
     let v = verified_now d n row.p h octets (kind.Key M4) Accepted i row.k ready.1.there a in
     let alive = alive_took n row.p h row.part i (Some row.p) octets (kind.Key M4) Accepted (Some (frame_seal (ptk i).kck row.k.octets)) row.awaited ready.1.own in
-    let core : Fine d n h (m4_acts octets row.k row.p (keyed_by i) (session row.p h)) = fine_quiet d n h took _ tt refl s (λ t. m4_core d n row.p (took ∷ h) i role t v alive (last ∙ ap Some same) (session row.p h) refl) in
-    let mine : Fine d n h (m4_acts octets row.k row.p row.x (session row.p h)) = subst (λ (x : Derivation). Fine d n h (m4_acts octets row.k row.p x (session row.p h))) (sym same) core in
-    let begun = begun_session row.p h octets row.k row.x (session row.p h) last in
-    let few : sent_count row.p G1 (handshake groups.Gtk row.p (add (m4_acts octets row.k row.p row.x (session row.p h)) h)) < most_sends = (let none = begun.1 in omega (arith, none)) in
+    let core : Fine d n h (m4_acts octets row.k row.p (keyed_by i) (session row.p h) []) = fine_quiet d n h took _ tt refl s (λ t. m4_core d n row.p (took ∷ h) i role t v alive (last ∙ ap Some same) (session row.p h) refl) in
+    let bare : Fine d n h (m4_acts octets row.k row.p row.x (session row.p h) []) = subst (λ (x : Derivation). Fine d n h (m4_acts octets row.k row.p x (session row.p h) [])) (sym same) core in
+    let put : List Act = put_acts d n h row.p row.x in
+    let is_put : IsPut put = put_is d.akm d n h row.p row.x in
+    let mine : Fine d n h (m4_acts octets row.k row.p row.x (session row.p h) put) = subst (λ (x : List Act). Fine d n h x) (sym (m4_append octets row.k row.p row.x (session row.p h) put))
+    (fine_append d n h (m4_acts octets row.k row.p row.x (session row.p h) []) put bare (put_fine d n (add (m4_acts octets row.k row.p row.x (session row.p h) []) h) put is_put bare.settled)) in
+    let begun = begun_session row.p h octets row.k row.x (session row.p h) put is_put last in
+    let few : sent_count row.p G1 (handshake groups.Gtk row.p (add (m4_acts octets row.k row.p row.x (session row.p h) put) h)) < most_sends = (let none = begun.1 in omega (arith, none)) in
     subst (λ (x : List Act). Fine d n h x) (sym row.says)
-    (fine_append d n h (m4_acts octets row.k row.p row.x (session row.p h)) _ mine
-    (newer_fine d n row.p (add (m4_acts octets row.k row.p row.x (session row.p h)) h) row.x (carried_older row.p h (before_sent row.p (kind.Key M3) h)) role (legal_add d n h (m4_acts octets row.k row.p row.x (session row.p h)) legal mine.chain) mine.settled begun.0 few))
+    (fine_append d n h (m4_acts octets row.k row.p row.x (session row.p h) put) _ mine
+    (newer_fine d n row.p (add (m4_acts octets row.k row.p row.x (session row.p h) put) h) row.x (carried_older row.p h (before_sent row.p (kind.Key M3) h)) role (legal_add d n h (m4_acts octets row.k row.p row.x (session row.p h) put) legal mine.chain) mine.settled begun.0 few))
 
 -- ---- G1 and G2
 
@@ -596,7 +702,7 @@ g1_gift : (d : Domain) (n p : Node) (h : List Act) (octets : List ℕ) (k : KeyM
 unfolding gift_given
 g1_gift d n p h octets k i plain e w a there awaited above new =
     let took : Act = takes p octets G1 Accepted i k in
-    let given : Given n (took ∷ h) p i (carried (Some e)).key = gift_given d n p h (took ∷ h) octets k G1 i plain e w (In_g1 refl) a (inr there) (inl refl) in
+    let given : Given n (took ∷ h) p i (carried (Some e)).key = gift_given d n p h (took ∷ h) octets k G1 i plain e w (In_g1 refl) refl a (inr there) (inl refl) in
     By_g1 (record {
       station = w.role;
       i = i;
@@ -634,7 +740,7 @@ g1_core d n p h octets k i plain e w a legal s awaited there above (Some kept) i
 abbrev g1_acts : Domain → Node → Node → List Act → List ℕ → KeyMessage → Derivation → Option ElementFields → List Act
 g1_acts d n p h octets k x c = Took (Some p) octets (kind.Key G1) Accepted (Some (frame_seal x.ptk.kck k.octets)) ∷ give groups.Gtk p (mac d p) (carried c) h ∷ sent_g2 d n p x k.fields.counter ∷ []
 
-g1_fine : (d : Domain) (first : ℕ) (n : Node) (h : List Act) (octets : List ℕ) (r : Reading) (facts : Facts) (g : List Act) → Reads d.akm octets r → Knows d first n h r facts → LegalHistory d n h → Settled d n h → G1Row (here d first n) h octets r facts g → Fine d n h g
+pub g1_fine : (d : Domain) (first : ℕ) (n : Node) (h : List Act) (octets : List ℕ) (r : Reading) (facts : Facts) (g : List Act) → Reads d.akm octets r → Knows d first n h r facts → LegalHistory d n h → Settled d n h → G1Row (here d first n) h octets r facts g → Fine d n h g
 g1_fine d first n h octets r facts g reads knows legal s row =
     let a = arrived d first n row.p h octets r row.k facts row.is reads row.from row.accepted in
     let i : Inputs = row.x.inputs in
@@ -652,23 +758,7 @@ g1_fine d first n h octets r facts g reads knows legal s row =
     (subst (λ (x : Derivation). Fine d n h (g1_acts d n row.p h octets row.k x facts.data_)) (sym same)
     (subst (λ (c : Option ElementFields). Fine d n h (g1_acts d n row.p h octets row.k (keyed_by i) c)) (sym u.is) core))
 
-g2_fine : (d : Domain) (first : ℕ) (n : Node) (h : List Act) (octets : List ℕ) (r : Reading) (facts : Facts) (g : List Act) → Settled d n h → G2Row (here d first n) h octets r facts g → Fine d n h g
+pub g2_fine : (d : Domain) (first : ℕ) (n : Node) (h : List Act) (octets : List ℕ) (r : Reading) (facts : Facts) (g : List Act) → Settled d n h → G2Row (here d first n) h octets r facts g → Fine d n h g
 g2_fine d first n h octets r facts g s row =
     subst (λ (x : List Act). Fine d n h x) (sym row.says)
     (fine_quiet d n h (Took (Some row.p) octets (kind.Key G2) Accepted (Some (frame_seal row.x.ptk.kck row.k.octets))) [] tt refl s (fine_none d n _))
-
--- ---- octets come
-
-pub take_fine : (d : Domain) (first : ℕ) (n : Node) (h : List Act) (octets : List ℕ) (r : Reading) (facts : Facts) (g : List Act) → Reads d.akm octets r → Knows d first n h r facts → LegalHistory d n h → Settled d n h → TakeRows (here d first n) h octets r facts g → Fine d n h g
-take_fine d first n h octets r facts g reads knows legal s (By_assoc_req row) = assoc_req_fine d first n h octets r facts g s row
-take_fine d first n h octets r facts g reads knows legal s (By_assoc_resp row) = assoc_resp_fine d first n h octets r facts g s row
-take_fine d first n h octets r facts g reads knows legal s (By_m1 row) = m1_fine d first n h octets r facts g reads legal s row
-take_fine d first n h octets r facts g reads knows legal s (By_m2 row) = m2_fine d first n h octets r facts g reads legal s row
-take_fine d first n h octets r facts g reads knows legal s (By_row_m3 row) = m3_fine d first n h octets r facts g reads knows legal s row
-take_fine d first n h octets r facts g reads knows legal s (By_repeated_m3 row) = repeated_m3_fine d first n h octets r facts g reads legal s row
-take_fine d first n h octets r facts g reads knows legal s (By_m4 row) = m4_fine d first n h octets r facts g reads legal s row
-take_fine d first n h octets r facts g reads knows legal s (By_row_g1 row) = g1_fine d first n h octets r facts g reads knows legal s row
-take_fine d first n h octets r facts g reads knows legal s (By_row_g2 row) = g2_fine d first n h octets r facts g s row
-take_fine d first n h octets r facts g reads knows legal s (By_data row) = data_fine d first n h octets r facts g reads knows legal s row
-take_fine d first n h octets r facts g reads knows legal s (By_ignored row) = ignored_fine d first n h octets r facts g s row
-take_fine d first n h octets r facts g reads knows legal s (By_refusal row) = refused_fine d first n h octets r facts g s row

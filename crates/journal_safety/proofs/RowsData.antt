@@ -209,7 +209,7 @@ payload d first n h octets r facts g reads knows legal row =
     sizes = read_addresses octets row.header row.way row.tid row.body spelled
 
     accepted : first_verdict d first n h (Sealed row.header row.way row.tid row.body) ≡ Accepted
-    accepted = subst (λ (x : Reading). first_verdict d first n h x ≡ Accepted) row.is (and_accepted (first_verdict d first n h r) (further d.akm r facts) row.accepted)
+    accepted = subst (λ (x : Reading). first_verdict d first n h x ≡ Accepted) row.is (and_accepted (first_verdict d first n h r) (further d first n h r facts) row.accepted)
 
     passed : ((not (is_mine_or_group d n row.header) || goes_like row.way (direction n)) ≡ false) × (from_peer (peer_of d n row.header.a2) (λ p. data_verdict n h p row.header row.tid row.body) ≡ Accepted)
     passed = not_refused (not (is_mine_or_group d n row.header) || goes_like row.way (direction n)) (from_peer (peer_of d n row.header.a2) (λ p. data_verdict n h p row.header row.tid row.body)) accepted
@@ -268,7 +268,7 @@ bssid_whole d n All own theirs = own
 
 legal_sent : (d : Domain) (n : Node) (h : List Act) (q : Peer) (tid : Option ℕ) (key plain : List ℕ) (id number : ℕ) → number < 2 ^ 48 → Legal d n (Used q key id number plain ∷ h) (sent_data d n q tid key id number plain)
 legal_sent d n h q tid key plain id number low = (
-  With_ccm (record {
+  With_ccm refl (record {
     form = refl;
     peer = q;
     id = id;

@@ -1,6 +1,14 @@
 -- The journal of a run: each act of each node was legal when it was added.
-use Rattle.std.proofs.Common.{ℕ, zero, suc, ◌≡◌, ◌≤◌, inl, inr, Bool, true, false, cond, List, [], ◌∷◌, length, refl, sym, ap, subst, arith}
+use Rattle.std.specs.List.{AllByRecursion}
+use Rattle.std.proofs.lemmas.List.{append_assoc}
+use Rattle.key_hierarchy.specs.declared.answers.PullAnswer.{PullAnswer}
+use Rattle.key_hierarchy.specs.declared.answers.PullAnswer.TheVariants.{Found, NoHolder, Absent}
+use Rattle.run_journal.specs.declared.acts.Act.TheVariants.{Looked}
+use Rattle.domain_rules.specs.HeldRight.{GivesRightKey, looking, HeldRight}
+use Rattle.journal_safety.proofs.Legal.{LegalLook}
+use Rattle.std.proofs.Common.{ℕ, zero, suc, ◌≡◌, ◌≤◌, inl, inr, Bool, true, false, cond, List, [], ◌∷◌, ◌++◌, length, refl, sym, ap, subst, arith}
 use Rattle.std.proofs.lemmas.Bool.{cases_lt}
+use Rattle.domain_base.specs.declared.names.Akm.TheVariants.{FtPsk}
 use Rattle.domain_base.specs.declared.names.Node.{Node}
 use Rattle.domain_base.specs.declared.names.Node.TheVariants.{Ap, Sta}
 use Rattle.key_hierarchy.proofs.Lengths.{length-kdf}
@@ -13,12 +21,15 @@ use Rattle.run_journal.specs.Questions.{history, add}
 use Rattle.run_journal.specs.Premises.{In}
 use Rattle.domain_rules.specs.Network.{gtk, is_ap, IsListed}
 use Rattle.domain_rules.specs.AccessPointRows.{start_acts}
+use Rattle.domain_rules.specs.Rounds.{by_nodes}
 use Rattle.domain_rules.specs.Explained.{Place, AddsAll, number_of, push, Step, Follows, started, Explained}
 use Rattle.domain_rules.proofs.Parts.{same-true, same-refl}
 use Rattle.domain_rules.proofs.Journals.{history-started_sta, history-not_started, history-started}
 use Rattle.domain_rules.proofs.KeyOctets.{octets-kdf}
 use Rattle.journal_safety.proofs.Legal.{Legal, LegalHistory, Chain}
 use Rattle.journal_safety.proofs.Settled.{Settled, Fine}
+use Rattle.journal_safety.proofs.Rows.{RightAct, RightActs}
+use Rattle.journal_safety.proofs.Settled.{Ground}
 use Rattle.journal_safety.proofs.Renewals.{adds_fine}
 
 -- no entry is of a later round
@@ -80,20 +91,58 @@ push_sound d r n (e ∷ g) past w =
       others = λ m is. subst (λ (x : List Act). Settled d m x) (sym (other_history r n m e past is)) (w.others m is);
     })
 
+-- ---- key holders gave the right keys, as far as the journal goes
+
+abbrev pub RightJournal : Domain → List Entry → Type 0
+RightJournal d past = AllByRecursion (λ (e : Entry). RightAct d e.node e.act) past
+
+right_push : (d : Domain) (r : ℕ) (n : Node) (g : List Act) (past : List Entry) → RightJournal d (push r n g past) → RightActs d n g × RightJournal d past
+right_push d r n [] past w = (tt, w)
+right_push d r n (e ∷ g) past w = let v = right_push d r n g (entry_of r n e past ∷ past) w in ((v.1.0, v.0), v.1.1)
+
+right_places : (d : Domain) (r : ℕ) (places : List Place) (old new : List Entry) → AddsAll d r places old new → RightJournal d new → RightJournal d old
+right_places d r [] old new is w = subst (λ (x : List Entry). RightJournal d x) is w
+right_places d r (p ∷ places) old new (acts, (adds, rest)) w = (right_push d r p.node acts old (right_places d r places (push r p.node acts old) new rest w)).1
+
+right_events : (d : Domain) (r : ℕ) (events : List Event) (old new : List Entry) → Follows d r events old new → RightJournal d new → RightJournal d old
+right_events d r [] old new is w = subst (λ (x : List Entry). RightJournal d x) is w
+right_events d r (event ∷ events) old new (mid, (step, rest)) w = right_places d r step.places old mid step.adds (right_events d r events mid new rest w)
+
+right_act : (d : Domain) (e : Entry) (a : Act) → e.act ≡ a → ((id name : List ℕ) (p : Node) (answer : PullAnswer) → e.act ≡ Looked id name p answer → d.akm ≡ FtPsk → GivesRightKey d id (looking e name p) answer) → RightAct d e.node a
+right_act d e (Looked id name p answer) is gives = right_by answer (gives id name p answer is)
+  where
+    right_by : (x : PullAnswer) → (d.akm ≡ FtPsk → GivesRightKey d id (looking e name p) x) → LegalLook d e.node id p x
+    right_by (Found k) w = w
+    right_by NoHolder w = λ suite. tt
+    right_by Absent w = λ suite. tt
+right_act d e _ is gives = tt
+
+right_from : (d : Domain) (later past : List Entry) → (d.akm ≡ FtPsk → HeldRight d (later ++ past)) → RightJournal d past
+right_from d later [] held = tt
+right_from d later (e ∷ past) held = (
+  right_act d e e.act refl (λ id name p answer is suite. (held suite later past e id name p answer refl is).1),
+  right_from d (later ++ e ∷ []) past (λ suite. subst (λ (x : List Entry). HeldRight d x) (sym (append_assoc later (e ∷ []) past)) (held suite)),
+)
+
+pub held_right : (d : Domain) (j : List Entry) → (d.akm ≡ FtPsk → HeldRight d j) → RightJournal d j
+held_right d j held = right_from d [] j held
+
 -- each node in turn
-all_sound : (d : Domain) (r : ℕ) (places : List Place) (old new : List Entry) → AddsAll d r places old new → Sound d r old → Sound d r new
-all_sound d r [] old new is s = subst (λ (x : List Entry). Sound d r x) (sym is) s
-all_sound d r (p ∷ places) old new (acts, (adds, rest)) s =
-    let fine : Fine d p.node (history p.node old) acts = adds_fine d 0 p.node (history p.node old) p.event acts (legal_history d p.node old s.legal) (s.settled p.node) adds in
+all_sound : (d : Domain) (r : ℕ) (places : List Place) (old new : List Entry) → RightJournal d new → AddsAll d r places old new → Sound d r old → Sound d r new
+all_sound d r [] old new right is s = subst (λ (x : List Entry). Sound d r x) (sym is) s
+all_sound d r (p ∷ places) old new right (acts, (adds, rest)) s =
+    let so_far = right_push d r p.node acts old (right_places d r places (push r p.node acts old) new rest right) in
+    let fine : Fine d p.node (history p.node old) acts = adds_fine d 0 p.node (history p.node old) p.event acts so_far.0 (legal_history d p.node old s.legal) (s.settled p.node) adds in
     let next : Sound d r (push r p.node acts old) = push_sound d r p.node acts old (record { legal = s.legal; until = s.until; chain = fine.chain; own = fine.settled; others = λ m is. s.settled m }) in
-    all_sound d r places (push r p.node acts old) new rest next
+    all_sound d r places (push r p.node acts old) new right rest next
 
-step_sound : (d : Domain) (r : ℕ) (event : Event) (old new : List Entry) → Step d r event old new → Sound d r old → Sound d r new
-step_sound d r event old new step s = all_sound d r step.places old new step.adds s
+step_sound : (d : Domain) (r : ℕ) (event : Event) (old new : List Entry) → RightJournal d new → Step d r event old new → Sound d r old → Sound d r new
+step_sound d r event old new right step s = all_sound d r step.places old new right step.adds s
 
-follows_sound : (d : Domain) (r : ℕ) (events : List Event) (old new : List Entry) → Follows d r events old new → Sound d r old → Sound d r new
-follows_sound d r [] old new is s = subst (λ (x : List Entry). Sound d r x) (sym is) s
-follows_sound d r (event ∷ events) old new (mid, (step, rest)) s = follows_sound d r events mid new rest (step_sound d r event old mid step s)
+follows_sound : (d : Domain) (r : ℕ) (events : List Event) (old new : List Entry) → RightJournal d new → Follows d r events old new → Sound d r old → Sound d r new
+follows_sound d r [] old new right is s = subst (λ (x : List Entry). Sound d r x) (sym is) s
+follows_sound d r (event ∷ events) old new right (mid, (step, rest)) s =
+    follows_sound d r events mid new right rest (step_sound d r event old mid (right_events d r events mid new rest right) step s)
 
 -- ---- the start
 
@@ -117,28 +166,32 @@ unfolding started
 started_begun d zero = record { legal = tt; until = λ m there. absurd there }
 started_begun d (suc k) = begun_push d (Ap k) (start_acts d 0 (Ap k)) (started d k) (subst (λ (x : List Act). Chain d (Ap k) x (start_acts d 0 (Ap k))) (sym (history-not_started d k k (omega arith))) (start_chain d k)) (started_begun d k)
 
-settled_none : (d : Domain) (n : Node) → (is_ap n ≡ true → IsListed d n → ⊥) → Settled d n []
-settled_none d n other = record { bare = λ p part a. cc a; nonced = λ p part a. cc a; started = λ role listed. absurd (other role listed); nearly = inl refl }
+settled_none : (d : Domain) (n : Node) → Ground d → (is_ap n ≡ true → IsListed d n → ⊥) → Settled d n []
+settled_none d n ground other = record { ground = ground; bare = λ p part a. cc a; nonced = λ p part a. cc a; started = λ role listed. absurd (other role listed); nearly = inl refl }
 
-settled_start : (d : Domain) (k : ℕ) → Settled d (Ap k) (add (start_acts d 0 (Ap k)) [])
-settled_start d k = record { bare = λ p part a. cc a; nonced = λ p part a. cc a; started = λ role listed. (gtk d (Ap k) 0, inl refl); nearly = inl refl }
+settled_start : (d : Domain) (k : ℕ) → Ground d → Settled d (Ap k) (add (start_acts d 0 (Ap k)) [])
+settled_start d k ground = record { ground = ground; bare = λ p part a. cc a; nonced = λ p part a. cc a; started = λ role listed. (gtk d (Ap k) 0, inl refl); nearly = inl refl }
 
-settled_started : (d : Domain) (n : Node) → Settled d n (history n (started d (length d.aps)))
-settled_started d (Sta s) = subst (λ (x : List Act). Settled d (Sta s) x) (sym (history-started_sta d s (length d.aps))) (settled_none d (Sta s) (λ role listed. cc role))
-settled_started d (Ap k) = elim (cases_lt k (length d.aps)) [
-  | inl low ↦ subst (λ (x : List Act). Settled d (Ap k) x) (sym (history-started d k (length d.aps) low)) (settled_start d k)
-  | inr high ↦ subst (λ (x : List Act). Settled d (Ap k) x) (sym (history-not_started d k (length d.aps) high)) (settled_none d (Ap k) (λ role listed. omega (arith, listed, high)))
+settled_started : (d : Domain) (n : Node) → Ground d → Settled d n (history n (started d (length d.aps)))
+settled_started d (Sta s) ground = subst (λ (x : List Act). Settled d (Sta s) x) (sym (history-started_sta d s (length d.aps))) (settled_none d (Sta s) ground (λ role listed. cc role))
+settled_started d (Ap k) ground = elim (cases_lt k (length d.aps)) [
+  | inl low ↦ subst (λ (x : List Act). Settled d (Ap k) x) (sym (history-started d k (length d.aps) low)) (settled_start d k ground)
+  | inr high ↦ subst (λ (x : List Act). Settled d (Ap k) x) (sym (history-not_started d k (length d.aps) high)) (settled_none d (Ap k) ground (λ role listed. omega (arith, listed, high)))
 ]
 
-sound_start : (d : Domain) → Sound d 0 (started d (length d.aps))
-sound_start d = let w = started_begun d (length d.aps) in record { legal = w.legal; until = w.until; settled = settled_started d }
+sound_start : (d : Domain) → Ground d → Sound d 0 (started d (length d.aps))
+sound_start d ground = let w = started_begun d (length d.aps) in record { legal = w.legal; until = w.until; settled = λ n. settled_started d n ground }
 
 -- ---- a run
 
 later_round : (d : Domain) (r : ℕ) (past : List Entry) → Sound d r past → Sound d (suc r) past
 later_round d r past s = record { legal = s.legal; until = λ m there. omega (arith, s.until m there); settled = s.settled }
 
-pub run_sound : (d : Domain) (rounds : List (List Event)) (j : List Entry) → Explained d rounds j → Sound d (length rounds) j
+run_by : (d : Domain) (rounds : List (List Event)) (j : List Entry) → Ground d → RightJournal d j → Explained d rounds j → Sound d (length rounds) j
 unfolding Explained
-run_sound d [] j is = subst (λ (x : List Entry). Sound d 0 x) (sym is) (sound_start d)
-run_sound d (round ∷ rounds) j (old, (earlier, follows)) = follows_sound d (suc (length rounds)) round old j follows (later_round d (length rounds) old (run_sound d rounds old earlier))
+run_by d [] j ground right is = subst (λ (x : List Entry). Sound d 0 x) (sym is) (sound_start d ground)
+run_by d (round ∷ rounds) j ground right (old, (earlier, follows)) =
+    follows_sound d (suc (length rounds)) (by_nodes round) old j right follows (later_round d (length rounds) old (run_by d rounds old ground (right_events d (suc (length rounds)) (by_nodes round) old j follows right) earlier))
+
+pub run_sound : (d : Domain) (rounds : List (List Event)) (j : List Entry) → Ground d → (d.akm ≡ FtPsk → HeldRight d j) → Explained d rounds j → Sound d (length rounds) j
+run_sound d rounds j ground held run = run_by d rounds j ground (held_right d j held) run

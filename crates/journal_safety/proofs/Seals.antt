@@ -1,5 +1,8 @@
 -- Who sealed what a node took.
-use Rattle.std.proofs.Common.{ℕ, ◌≡◌, ◌<◌, inl, inr, true, false, not, List, ◌∷◌, Option, Some, refl, sym, ap, ◌∙◌, subst}
+use Rattle.domain_base.specs.declared.names.Akm.{Akm}
+use Rattle.domain_base.specs.declared.names.Akm.TheVariants.{Psk, PskSha256, FtPsk}
+use Rattle.domain_rules.specs.Network.{root_by, root_at}
+use Rattle.std.proofs.Common.{ℕ, ◌≡◌, ◌⊎◌, ⊎_elim, ◌<◌, inl, inr, true, false, not, List, [], ◌∷◌, Option, Some, refl, sym, ap, ◌∙◌, subst}
 use Rattle.domain_base.specs.declared.names.Mac.{Mac}
 use Rattle.domain_base.specs.declared.names.Node.{Node}
 use Rattle.domain_base.specs.declared.names.Node.TheVariants.{Ap, Sta}
@@ -9,7 +12,6 @@ use Rattle.key_hierarchy.specs.Keys.{ptk}
 use Rattle.key_hierarchy.specs.declared.inputs.Inputs.{Inputs}
 use Rattle.run_journal.specs.declared.domain.Domain.{Domain}
 use Rattle.run_journal.specs.declared.acts.Kind.{Kind}
-use Rattle.run_journal.specs.declared.acts.Kind.TheVariants as kinds
 use Rattle.run_journal.specs.declared.acts.Outcome.{Outcome}
 use Rattle.run_journal.specs.declared.acts.Seal.{Seal}
 use Rattle.run_journal.specs.declared.acts.Act.{Act}
@@ -18,28 +20,48 @@ use Rattle.run_journal.specs.declared.acts.Entry.{Entry}
 use Rattle.run_journal.specs.Questions.{history}
 use Rattle.run_journal.specs.Premises.{In, IsBefore, Fresh, name, seal_taken, seal_sent, SentBefore}
 use Rattle.domain_rules.specs.Network.{is_ap, IsNamed}
-use Rattle.journal_safety.proofs.Covers.{covered_message}
 use Rattle.journal_safety.proofs.CoversData.{covered_form}
 use Rattle.journal_safety.proofs.Ends.{Tail, tail_rest, tail_trans, place}
 use Rattle.journal_safety.proofs.Names.{one_address, Crossed, IsSameName, same_name}
-use Rattle.journal_safety.proofs.Legal.{goes_down, derives, Carries, AreCommon, LegalSeal, LegalSealing, With_mic, With_ccm, LegalSealed, seal_under, Verified, Legal}
+use Rattle.journal_safety.proofs.Legal.{IsMic, Of_key, Of_fte, covered_kind, goes_down, derives, Carries, AreCommon, LegalSeal, LegalSealing, With_mic, With_ccm, LegalSealed, seal_under, Verified, Legal}
 use Rattle.journal_safety.proofs.Runs.{Until, LegalJournal}
 use Rattle.journal_safety.proofs.Places.{Good, good_tail, At, at_of, not_itself, apart_draws, Draws, DerivedAt, derived_at, derived_wider, has_derived}
 
 -- ---- the same inputs
 
-pub common_path : (d : Domain) (i k : Inputs) → AreCommon d i → AreCommon d k → i.aa.0 ≡ k.aa.0 → i.spa.0 ≡ k.spa.0 → i.anonce ≡ k.anonce → i.snonce ≡ k.snonce → i ≡ k
-common_path d i k c e aa spa anonce snonce = λ j. record {
+-- the R0KH-ID is that of the name with suite 4, and else empty
+no_holder : (akm : Akm) (d : Domain) (id : List ℕ) → (akm ≡ FtPsk → ⊥) → (root_by akm d id).r0kh_id ≡ []
+no_holder Psk d id other = refl
+no_holder PskSha256 d id other = refl
+no_holder FtPsk d id other = absurd (other refl)
+
+is_mobile : (akm : Akm) → (akm ≡ FtPsk) ⊎ (akm ≡ FtPsk → ⊥)
+is_mobile FtPsk = inl refl
+is_mobile Psk = inr (λ e. cc e)
+is_mobile PskSha256 = inr (λ e. cc e)
+
+same_holder : (d : Domain) (i k : Inputs) → AreCommon d i → AreCommon d k → (k.akm ≡ FtPsk → i.r0kh_id ≡ k.r0kh_id) → i.r0kh_id ≡ k.r0kh_id
+same_holder d i k c e holder =
+    ⊎_elim
+    (λ mobile. holder (e.akm ∙ mobile))
+    (λ other. c.r0kh_id ∙ no_holder d.akm d i.r0kh_id other ∙ sym (e.r0kh_id ∙ no_holder d.akm d k.r0kh_id other))
+    (is_mobile d.akm)
+
+common_by : (d : Domain) (i k : Inputs) → AreCommon d i → AreCommon d k → i.r0kh_id ≡ k.r0kh_id → i.aa.0 ≡ k.aa.0 → i.spa.0 ≡ k.spa.0 → i.anonce ≡ k.anonce → i.snonce ≡ k.snonce → i ≡ k
+common_by d i k c e holder aa spa anonce snonce = λ j. record {
   akm = (c.akm ∙ sym e.akm) j;
   psk = (c.psk ∙ sym e.psk) j;
   ssid = (c.ssid ∙ sym e.ssid) j;
-  mdid = (c.mdid ∙ sym e.mdid) j;
-  r0kh_id = (c.r0kh_id ∙ sym e.r0kh_id) j;
+  mdid = (c.mdid ∙ ap (λ (id : List ℕ). (root_at d id).mdid) holder ∙ sym e.mdid) j;
+  r0kh_id = holder j;
   aa = record { 0 = aa j };
   spa = record { 0 = spa j };
   anonce = anonce j;
   snonce = snonce j;
 }
+
+pub common_path : (d : Domain) (i k : Inputs) → AreCommon d i → AreCommon d k → IsSameName i k → i.aa.0 ≡ k.aa.0 → i.spa.0 ≡ k.spa.0 → i.anonce ≡ k.anonce → i.snonce ≡ k.snonce → i ≡ k
+common_path d i k c e s aa spa anonce snonce = common_by d i k c e (same_holder d i k c e s.holder) aa spa anonce snonce
 
 pub named : (d : Domain) (i k : Inputs) → AreCommon d i → AreCommon d k → name i ≡ name k → IsSameName i k
 named d i k c e is = same_name i k (c.akm ∙ sym e.akm) is
@@ -63,7 +85,7 @@ match_ap d x y p q i k past names f a b s = go s.addresses s.nonces
     go (inl addresses) (inl nonces) = record {
       peer = one_address d p (Sta y) names a.peer_listed b.listed (sym (octets_of _ _ a.peer) ∙ addresses.1 ∙ octets_of _ _ b.address);
       back = one_address d q (Ap x) names b.peer_listed a.listed (sym (octets_of _ _ b.peer) ∙ sym addresses.0 ∙ octets_of _ _ a.address);
-      inputs = common_path d i k a.common b.common addresses.0 addresses.1 nonces.0 nonces.1;
+      inputs = common_path d i k a.common b.common s addresses.0 addresses.1 nonces.0 nonces.1;
     }
 
 match_sta : (d : Domain) (x y : ℕ) (p q : Node) (i k : Inputs) (past : List Entry) → IsNamed d → Fresh past → DerivedAt d (Sta x) p i past → DerivedAt d (Ap y) q k past → IsSameName i k → Match (Sta x) p (Ap y) q i k
@@ -75,7 +97,7 @@ match_sta d x y p q i k past names f a b s = go s.addresses s.nonces
     go (inl addresses) (inl nonces) = record {
       peer = one_address d p (Ap y) names a.peer_listed b.listed (sym (octets_of _ _ a.peer) ∙ addresses.0 ∙ octets_of _ _ b.address);
       back = one_address d q (Sta x) names b.peer_listed a.listed (sym (octets_of _ _ b.peer) ∙ sym addresses.1 ∙ octets_of _ _ a.address);
-      inputs = common_path d i k a.common b.common addresses.0 addresses.1 nonces.0 nonces.1;
+      inputs = common_path d i k a.common b.common s addresses.0 addresses.1 nonces.0 nonces.1;
     }
 
 pub match_names : (d : Domain) (n m p q : Node) (i k : Inputs) (past : List Entry) → IsNamed d → Fresh past → is_ap m ≡ not (is_ap n) → DerivedAt d n p i past → DerivedAt d m q k past → IsSameName i k → Match n p m q i k
@@ -104,7 +126,7 @@ same_ap d x p q r i k past names f a b c s = go s.addresses s.nonces
     go (inl addresses) (inr crossed) = absurd (apart_draws (Ap x) q i.anonce k.snonce past f b.roles a.draw (theirs q b.roles c) crossed.0)
     go (inl addresses) (inl nonces) = record {
       peer = one_address d p q names a.peer_listed b.peer_listed (sym (octets_of _ _ a.peer) ∙ addresses.1 ∙ octets_of _ _ b.peer);
-      inputs = common_path d i k a.common b.common addresses.0 addresses.1 nonces.0 nonces.1;
+      inputs = common_path d i k a.common b.common s addresses.0 addresses.1 nonces.0 nonces.1;
     }
 
 same_sta : (d : Domain) (x : ℕ) (p q r : Node) (i k : Inputs) (past : List Entry) → IsNamed d → Fresh past → DerivedAt d (Sta x) p i past → DerivedAt d (Sta x) q k past → DerivedAt d q r k past → IsSameName i k → SameInputs p q i k
@@ -121,7 +143,7 @@ same_sta d x p q r i k past names f a b c s = go s.addresses s.nonces
     go (inl addresses) (inr crossed) = absurd (apart_draws (Sta x) q i.snonce k.anonce past f b.roles a.draw (theirs q b.roles c) crossed.1)
     go (inl addresses) (inl nonces) = record {
       peer = one_address d p q names a.peer_listed b.peer_listed (sym (octets_of _ _ a.peer) ∙ addresses.0 ∙ octets_of _ _ b.peer);
-      inputs = common_path d i k a.common b.common addresses.0 addresses.1 nonces.0 nonces.1;
+      inputs = common_path d i k a.common b.common s addresses.0 addresses.1 nonces.0 nonces.1;
     }
 
 pub same_inputs : (d : Domain) (n p q r : Node) (i k : Inputs) (past : List Entry) → IsNamed d → Fresh past → DerivedAt d n p i past → DerivedAt d n q k past → DerivedAt d q r k past → IsSameName i k → SameInputs p q i k
@@ -139,7 +161,7 @@ pub record KeySeal (d : Domain) (n : Node) (h : List Act) (e : Act) (s : Seal) :
   pub kind : Kind
   pub octets : List ℕ
   pub is : e ≡ Sent (One peer) kind octets (Some s)
-  pub seal : LegalSeal d n h peer kind s
+  pub seal : LegalSeal n h peer kind s
 
 -- a seal that is sent
 pub record SealSent (d : Domain) (n : Node) (h : List Act) (e : Act) (s : Seal) : Type 0 where
@@ -154,11 +176,12 @@ seal_there d n h (Sent q k octets o) s l w = record { peer = q; kind = k; octets
 seal_there d n h _ s l w = cc
 
 -- with the form of a MIC
-seal_by : (d : Domain) (n : Node) (h : List Act) (e : Act) (s : Seal) (q : Peer) (k : Kind) (octets : List ℕ) → e ≡ Sent q k octets (Some s) → covered_form s.octets ≡ 1 → LegalSealing d n h q k s → KeySeal d n h e s
+seal_by : (d : Domain) (n : Node) (h : List Act) (e : Act) (s : Seal) (q : Peer) (k : Kind) (octets : List ℕ) → e ≡ Sent q k octets (Some s) → IsMic s.octets → LegalSealing d n h q k s → KeySeal d n h e s
 seal_by d n h e s q k octets is form (With_mic p one own seal) = record { peer = p; kind = k; octets = octets; is = is ∙ ap (λ (x : Peer). Sent x k octets (Some s)) one; seal = seal }
-seal_by d n h e s q k octets is form (With_ccm data_) = let other : covered_form s.octets ≡ 3 = data_.form in absurd (cc (form, other))
+seal_by d n h e s q k octets is (Of_key form) (With_ccm is_data l) = let other : covered_form s.octets ≡ 3 = l.form in absurd (cc (form, other))
+seal_by d n h e s q k octets is (Of_fte form) (With_ccm is_data l) = let other : covered_form s.octets ≡ 3 = l.form in absurd (cc (form, other))
 
-seal_facts : (d : Domain) (n : Node) (h : List Act) (e : Act) (s : Seal) → covered_form s.octets ≡ 1 → Legal d n h e → seal_sent e ≡ Some s → KeySeal d n h e s
+seal_facts : (d : Domain) (n : Node) (h : List Act) (e : Act) (s : Seal) → IsMic s.octets → Legal d n h e → seal_sent e ≡ Some s → KeySeal d n h e s
 seal_facts d n h e s form l w = let x = seal_there d n h e s l w in seal_by d n h e s x.peer x.kind x.octets x.is form x.sealing
 
 -- Of octets of the other side that verified under inputs of the node's own: the peer sealed them, in a lower round, and had
@@ -178,11 +201,11 @@ pub record SealedBy (d : Domain) (n p : Node) (i : Inputs) (covered : List ℕ) 
   pub rounds : sent.round < taken.round
   pub until : Until sent.round earlier
   pub facts : DerivedAt d p n i earlier
-  pub kind_is : kind ≡ kinds.Key (covered_message covered)
-  pub carries : Carries d p (history p earlier) n i covered (covered_message covered)
+  pub kind_is : kind ≡ covered_kind covered
+  pub carries : Carries p (history p earlier) n i covered (covered_kind covered)
 
 pub sealed_by : (d : Domain) (n p : Node) (i : Inputs) (from : Option Node) (octets : List ℕ) (kd : Kind) (o : Outcome) (covered : List ℕ) (past : List Entry) → Good d past → In (derives p i) (history n past)
-    → In (Took from octets kd o (Some (seal_under i covered))) (history n past) → covered_form covered ≡ 1 → goes_down covered ≡ not (is_ap n) → SealedBy d n p i covered past
+    → In (Took from octets kd o (Some (seal_under i covered))) (history n past) → IsMic covered → goes_down covered ≡ not (is_ap n) → SealedBy d n p i covered past
 sealed_by d n p i from octets kd o covered past g derived took form direction =
     record {
       taken = w.entry;
@@ -200,9 +223,9 @@ sealed_by d n p i from octets kd o covered past g derived took form direction =
       until = legal_z.1;
       facts = subst (λ (x : Node). DerivedAt d x n i z.0) (sym one.peer) (subst (λ (x : Node). DerivedAt d sent.entry.node x i z.0) one.back (subst (λ (x : Inputs). DerivedAt d sent.entry.node ks.peer x z.0) (sym one.inputs) theirs));
       kind_is = ks.seal.kind_is;
-      carries = subst (λ (x : Node). Carries d x (history x z.0) n i covered (covered_message covered)) (sym one.peer)
-          (subst (λ (x : Node). Carries d sent.entry.node (history sent.entry.node z.0) x i covered (covered_message covered)) one.back
-          (subst (λ (x : Inputs). Carries d sent.entry.node (history sent.entry.node z.0) ks.peer x covered (covered_message covered)) (sym one.inputs) ks.seal.carries));
+      carries = subst (λ (x : Node). Carries x (history x z.0) n i covered (covered_kind covered)) (sym one.peer)
+          (subst (λ (x : Node). Carries sent.entry.node (history sent.entry.node z.0) x i covered (covered_kind covered)) one.back
+          (subst (λ (x : Inputs). Carries sent.entry.node (history sent.entry.node z.0) ks.peer x covered (covered_kind covered)) (sym one.inputs) ks.seal.carries));
     }
   where
     own : DerivedAt d n p i past

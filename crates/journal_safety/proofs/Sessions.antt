@@ -15,13 +15,16 @@ use Rattle.run_journal.specs.declared.acts.Kind.{Kind}
 use Rattle.run_journal.specs.declared.acts.Kind.TheVariants as kind
 use Rattle.run_journal.specs.declared.acts.Key.TheVariants.{Group}
 use Rattle.run_journal.specs.declared.acts.Act.{Act}
-use Rattle.run_journal.specs.declared.acts.Act.TheVariants.{Closed, Derived, Sent, Installed, Finished}
+use Rattle.run_journal.specs.declared.acts.Act.TheVariants.{Opened, Closed, Derived, Sent, Installed, Finished}
 use Rattle.run_journal.specs.Acts.{same, same_kind, opens, ends, finishes, closes, sent, Derivation}
 use Rattle.run_journal.specs.Questions.{attempt, since, own_nonce, derivation, session, associated}
 use Rattle.run_journal.specs.Premises.{In}
 use Rattle.domain_rules.specs.Network.{is_ap}
 use Rattle.domain_rules.specs.Frames.{keyed_by}
-use Rattle.domain_rules.proofs.Parts.{same-true, same-refl, Grows, Begins, Goes_on, grows, since_part, own_nonce_more}
+use Rattle.run_journal.specs.declared.acts.Start.{Start}
+use Rattle.run_journal.specs.declared.acts.Start.TheVariants.{Connect, Roam}
+use Rattle.domain_rules.specs.Asking.{by_connect}
+use Rattle.domain_rules.proofs.Parts.{same-true, same-refl, Grows, Begins, Goes_on, grows, since_part, by_connect_more, attempt_some, own_nonce_more}
 use Rattle.journal_safety.proofs.Legal.{nonce_of, derives, LegalDerived, Verified, Sends, LegalKind, Given, By_m3, By_g1, LegalGroup, LegalFinished, LegalOpened, Legal, LegalHistory, verified_more}
 use Rattle.journal_safety.proofs.Histories.{legal_in, opens-is, session_in, derived_key}
 
@@ -114,22 +117,49 @@ pub sole : (d : Domain) (n p : Node) (h : List Act) (x : Derivation) → is_ap n
 sole d n p [] x station legal s = cc
 sole d n p (e ∷ h) x station legal s = sole_by d n p e h x station legal.0 (sole d n p h x station legal.1) (finishes p e) (closes p e) refl refl s
 
+-- with whom a station has an attempt it has no session
+without_on : (p : Node) (e : Act) (h : List Act) → is_ap p ≡ true → ends p e ≡ false → (associated h ≡ Some p → ⊥) → associated (e ∷ h) ≡ Some p → ⊥
+without_on (Ap k) (Finished q i) h role goes was is = cc
+without_on (Sta k) (Finished q i) h role goes was is = cc
+without_on p (Closed q Session) h role goes was is = cc
+without_on p _ h role goes was is = was is
+
+without_by : (d : Domain) (n p : Node) (e : Act) (h part : List Act) → is_ap n ≡ false → is_ap p ≡ true → Legal d n h e → ((old : List Act) → attempt p h ≡ Some old → associated h ≡ Some p → ⊥) → Grows p e h part → associated (e ∷ h) ≡ Some p → ⊥
+without_by d n p e h part station role legal more (Begins o is) some =
+    let w = opens-is p e o in
+    let l : LegalOpened d n h p w.0 = subst (λ (y : Act). Legal d n h y) w.1 legal in
+    (l.alone station).0 (subst (λ (y : Act). associated (y ∷ h) ≡ Some p) w.1 some)
+without_by d n p e h part station role legal more (Goes_on old o goes a is) some = without_on p e h role goes (more old a) some
+
+without : (d : Domain) (n p : Node) (h part : List Act) → is_ap n ≡ false → is_ap p ≡ true → LegalHistory d n h → attempt p h ≡ Some part → associated h ≡ Some p → ⊥
+without d n p [] part station role legal a = cc
+without d n p (e ∷ h) part station role legal a = without_by d n p e h part station role legal.0 (λ old was. without d n p h old station role legal.1 was) (grows p e h part a)
+
+-- and in an attempt by connect it has none at all
 alone_on : (p : Node) (e : Act) (h : List Act) → is_ap p ≡ true → ends p e ≡ false → associated h ≡ None → associated (e ∷ h) ≡ None
 alone_on (Ap k) (Finished q i) h role goes was = cc
 alone_on (Sta k) (Finished q i) h role goes was = cc
 alone_on p (Closed q Session) h role goes was = refl
 alone_on p _ h role goes was = was
 
-alone_by : (d : Domain) (n p : Node) (e : Act) (h part : List Act) → is_ap n ≡ false → is_ap p ≡ true → Legal d n h e → ((old : List Act) → attempt p h ≡ Some old → associated h ≡ None) → Grows p e h part → associated (e ∷ h) ≡ None
-alone_by d n p e h part station role legal more (Begins o is) =
-    let w = opens-is p e o in
-    let l : LegalOpened n h p = subst (λ (y : Act). Legal d n h y) w.1 legal in
-    subst (λ (y : Act). associated (y ∷ h) ≡ None) (sym w.1) (l station).0
-alone_by d n p e h part station role legal more (Goes_on old o goes a is) = alone_on p e h role goes (more old a)
+begun_as : (p : Node) (s : Start) → by_connect (Opened p s ∷ []) ≡ true → s ≡ Connect
+begun_as p Connect is = refl
+begun_as p Roam is = cc
 
-pub alone_in : (d : Domain) (n p : Node) (h part : List Act) → is_ap n ≡ false → is_ap p ≡ true → LegalHistory d n h → attempt p h ≡ Some part → associated h ≡ None
-alone_in d n p [] part station role legal a = cc
-alone_in d n p (e ∷ h) part station role legal a = alone_by d n p e h part station role legal.0 (λ old was. alone_in d n p h old station role legal.1 was) (grows p e h part a)
+begun_older : (p : Node) (e : Act) (h old : List Act) → attempt p h ≡ Some old → by_connect (e ∷ old) ≡ true → by_connect old ≡ true
+begun_older p e h old a is = sym (by_connect_more e old (attempt_some p h old a)) ∙ is
+
+alone_by : (d : Domain) (n p : Node) (e : Act) (h part : List Act) → is_ap n ≡ false → is_ap p ≡ true → Legal d n h e → ((old : List Act) → attempt p h ≡ Some old → by_connect old ≡ true → associated h ≡ None) → Grows p e h part → by_connect part ≡ true → associated (e ∷ h) ≡ None
+alone_by d n p e h part station role legal more (Begins o is) begun =
+    let w = opens-is p e o in
+    let l : LegalOpened d n h p w.0 = subst (λ (y : Act). Legal d n h y) w.1 legal in
+    let one : by_connect (Opened p w.0 ∷ []) ≡ true = subst (λ (y : Act). by_connect (y ∷ []) ≡ true) w.1 (subst (λ (y : List Act). by_connect y ≡ true) is begun) in
+    subst (λ (y : Act). associated (y ∷ h) ≡ None) (sym w.1) (l.none (begun_as p w.0 one) station)
+alone_by d n p e h part station role legal more (Goes_on old o goes a is) begun = alone_on p e h role goes (more old a (begun_older p e h old a (subst (λ (y : List Act). by_connect y ≡ true) is begun)))
+
+pub alone_in : (d : Domain) (n p : Node) (h part : List Act) → is_ap n ≡ false → is_ap p ≡ true → LegalHistory d n h → attempt p h ≡ Some part → by_connect part ≡ true → associated h ≡ None
+alone_in d n p [] part station role legal a begun = cc
+alone_in d n p (e ∷ h) part station role legal a begun = alone_by d n p e h part station role legal.0 (λ old was by_connect_old. alone_in d n p h old station role legal.1 was by_connect_old) (grows p e h part a) begun
 
 other_side : (a b : Bool) → a ≡ not b → b ≡ false → a ≡ true
 other_side true b e f = refl
@@ -139,8 +169,7 @@ other_side false false e f = cc
 single_by : (d : Domain) (n p : Node) (h : List Act) (x : Derivation) → is_ap n ≡ false → LegalHistory d n h → session p h ≡ Some x → (o : Option (List Act)) → attempt p h ≡ o → attempt p h ≡ None
 single_by d n p h x station legal s None is = is
 single_by d n p h x station legal s (Some part) is =
-    let none : associated h ≡ None = alone_in d n p h part station (other_side (is_ap p) (is_ap n) (session_role d n p h x legal s) station) legal is in
-    let some : associated h ≡ Some p = sole d n p h x station legal s in cc (none, some)
+    absurd (without d n p h part station (other_side (is_ap p) (is_ap n) (session_role d n p h x legal s) station) legal is (sole d n p h x station legal s))
 
 pub single : (d : Domain) (n p : Node) (h : List Act) (x : Derivation) → is_ap n ≡ false → LegalHistory d n h → session p h ≡ Some x → attempt p h ≡ None
 single d n p h x station legal s = single_by d n p h x station legal s (attempt p h) refl
@@ -150,10 +179,9 @@ single d n p h x station legal s = single_by d n p h x station legal s (attempt 
 none_opened : (d : Domain) (n p : Node) (e : Act) (h : List Act) (x : Derivation) → is_ap n ≡ false → LegalHistory d n (e ∷ h) → opens p e ≡ true → session p (e ∷ h) ≡ Some x → ⊥
 none_opened d n p e h x station legal o s =
     let w = opens-is p e o in
-    let l : LegalOpened n h p = subst (λ (y : Act). Legal d n h y) w.1 legal.0 in
+    let l : LegalOpened d n h p w.0 = subst (λ (y : Act). Legal d n h y) w.1 legal.0 in
     let same_session : session p h ≡ Some x = subst (λ (y : Act). session p (y ∷ h) ≡ Some x) w.1 s in
-    let none : associated h ≡ None = (l station).0 in
-    let some : associated h ≡ Some p = sole d n p h x station legal.1 same_session in cc (none, some)
+    (l.alone station).0 (sole d n p h x station legal.1 same_session)
 
 nonce_by : (d : Domain) (n p : Node) (x : Derivation) (e : Act) (h : List Act) → Legal d n h e → (session p h ≡ Some x → own_nonce (since p h) ≡ Some (nonce_of n x.inputs)) → (b : Bool) → finishes p e ≡ b → cond b (derivation p h) (cond (closes p e) None (session p h)) ≡ Some x
     → own_nonce (e ∷ since p h) ≡ Some (nonce_of n x.inputs)
@@ -175,20 +203,17 @@ session_nonce d n p x (e ∷ h) station legal s =
 
 pub given_more : (n p : Node) (h : List Act) (e : Act) (i : Inputs) (g : List ℕ) → opens p e ≡ false → Given n h p i g → Given n (e ∷ h) p i g
 given_more n p h e i g o v = record {
-  message = v.message;
+  frame = v.frame;
   octets = v.octets;
   covered = v.covered;
   took = rw o (inr v.took);
   gives_key = v.gives_key;
   form = v.form;
-  message_is = v.message_is;
+  down = v.down;
+  frame_is = v.frame_is;
   counter = v.counter;
   derived = inr v.derived;
-  plain = v.plain;
-  wraps = v.wraps;
-  e = v.e;
-  spelled = v.spelled;
-  key = v.key;
+  opens = v.opens;
 }
 
 -- with the same octets

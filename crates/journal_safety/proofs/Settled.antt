@@ -18,7 +18,9 @@ use Rattle.run_journal.specs.declared.acts.Act.{Act}
 use Rattle.run_journal.specs.declared.acts.Act.TheVariants.{Opened, Drew, Installed, Finished}
 use Rattle.run_journal.specs.Acts.{same, is_same_attempt, opens, ends, key_drawn, switched}
 use Rattle.run_journal.specs.Questions.{attempt, own_nonce, listed, group_keys, switches, add}
-use Rattle.domain_rules.specs.Network.{is_ap, IsListed}
+use Rattle.domain_base.specs.declared.names.Akm.TheVariants.{FtPsk}
+use Rattle.domain_rules.specs.Network.{is_ap, IsNamed, IsListed}
+use Rattle.journal_safety.specs.InOctets.{InOctets}
 use Rattle.domain_rules.proofs.Parts.{same-true, same-refl, Grows, Begins, Goes_on, grows, attempt_ends, own_nonce_more, add_append}
 use Rattle.journal_safety.proofs.Legal.{gives, Uninstalled, HasDrawn, LegalOpened, Legal, Chain}
 use Rattle.journal_safety.proofs.Histories.{opens-is, has_drawn_more}
@@ -36,7 +38,13 @@ Started d n h = is_ap n ≡ true → IsListed d n → HasDrawn h
 abbrev pub Nearly : List Act → Type 0
 Nearly h = (group_keys groups.Gtk h ≡ switches groups.Gtk h) ⊎ ((k : List ℕ) × (group_keys groups.Gtk h ≡ k ∷ switches groups.Gtk h))
 
+-- what the network is: named, and with suite 4 of octets
+pub record Ground (d : Domain) : Type 0 where
+  pub names : IsNamed d
+  pub octets : d.akm ≡ FtPsk → InOctets d
+
 pub record Settled (d : Domain) (n : Node) (h : List Act) : Type 0 where
+  pub ground : Ground d
   pub bare : Bare h
   pub nonced : Nonced h
   pub started : Started d n h
@@ -101,6 +109,7 @@ quiet-switched _ is = refl
 
 pub settled_quiet : (d : Domain) (n : Node) (e : Act) (h : List Act) → is_quiet e ≡ true → Settled d n h → Settled d n (e ∷ h)
 settled_quiet d n e h is s = record {
+  ground = s.ground;
   bare = λ p part a. bare_by e h p part (quiet-gives p e is) (s.bare p) (grows p e h part a);
   nonced = λ p part a. nonced_by e h p part (quiet-opens p e is) (s.nonced p) (grows p e h part a);
   started = started_more d n e h s.started;
@@ -133,6 +142,7 @@ pub settled_opened : (d : Domain) (n q : Node) (s : Start) (v : List ℕ) (h : L
 settled_opened d n q s v h w =
     let opened : Bare (Opened q s ∷ h) = λ p part a. bare_by (Opened q s) h p part refl (w.bare p) (grows p (Opened q s) h part a) in
     record {
+      ground = w.ground;
       bare = λ p part a. bare_by (Drew (Nonce v)) (Opened q s ∷ h) p part refl (opened p) (grows p (Drew (Nonce v)) (Opened q s ∷ h) part a);
       nonced = λ p part a. drew_by v q s h p part (w.nonced p) (grows p (Drew (Nonce v)) (Opened q s ∷ h) part a);
       started = started_more d n (Drew (Nonce v)) (Opened q s ∷ h) (started_more d n (Opened q s) h w.started);
@@ -143,16 +153,18 @@ settled_opened d n q s v h w =
 
 -- settled but for the attempt with p
 pub record SettledBut (d : Domain) (n p : Node) (h : List Act) : Type 0 where
+  pub ground : Ground d
   pub but : (q : Node) (part : List Act) → same q p ≡ false → attempt q h ≡ Some part → Uninstalled q part
   pub nonced : Nonced h
   pub started : Started d n h
   pub nearly : Nearly h
 
 pub but_of : (d : Domain) (n p : Node) (h : List Act) → Settled d n h → SettledBut d n p h
-but_of d n p h s = record { but = λ q part apart a. s.bare q part a; nonced = s.nonced; started = s.started; nearly = s.nearly }
+but_of d n p h s = record { ground = s.ground; but = λ q part apart a. s.bare q part a; nonced = s.nonced; started = s.started; nearly = s.nearly }
 
 pub but_more : (d : Domain) (n p : Node) (e : Act) (h : List Act) → ((q : Node) → same q p ≡ false → gives q e ≡ false) → ((q : Node) → opens q e ≡ false) → (key_drawn groups.Gtk e ≡ None) × (switched groups.Gtk e ≡ None) → SettledBut d n p h → SettledBut d n p (e ∷ h)
 but_more d n p e h free apart_all keys s = record {
+  ground = s.ground;
   but = λ q part apart a. bare_by e h q part (free q apart) (λ old was. s.but q old apart was) (grows q e h part a);
   nonced = λ q part a. nonced_by e h q part (apart_all q) (s.nonced q) (grows q e h part a);
   started = started_more d n e h s.started;
@@ -172,6 +184,7 @@ finished_by d n p q i h part s false is a = bare_by (Finished p i) h q part refl
 
 pub settled_finished : (d : Domain) (n p : Node) (i : Inputs) (h : List Act) → SettledBut d n p h → Settled d n (Finished p i ∷ h)
 settled_finished d n p i h s = record {
+  ground = s.ground;
   bare = λ q part a. finished_by d n p q i h part s (same q p) refl a;
   nonced = λ q part a. nonced_by (Finished p i) h q part refl (s.nonced q) (grows q (Finished p i) h part a);
   started = started_more d n (Finished p i) h s.started;
@@ -182,6 +195,7 @@ settled_finished d n p i h s = record {
 
 pub settled_drew : (d : Domain) (n : Node) (v : List ℕ) (h : List Act) → group_keys groups.Gtk h ≡ switches groups.Gtk h → Settled d n h → Settled d n (Drew (Gtk v) ∷ h)
 settled_drew d n v h all s = record {
+  ground = s.ground;
   bare = λ p part a. bare_by (Drew (Gtk v)) h p part refl (s.bare p) (grows p (Drew (Gtk v)) h part a);
   nonced = λ p part a. nonced_by (Drew (Gtk v)) h p part refl (s.nonced p) (grows p (Drew (Gtk v)) h part a);
   started = started_more d n (Drew (Gtk v)) h s.started;
@@ -190,6 +204,7 @@ settled_drew d n v h all s = record {
 
 pub settled_switched : (d : Domain) (n : Node) (g : List ℕ) (id : ℕ) (b : Mac) (h : List Act) → group_keys groups.Gtk h ≡ g ∷ switches groups.Gtk h → Settled d n h → Settled d n (Installed All (Group g id b) ∷ h)
 settled_switched d n g id b h all s = record {
+  ground = s.ground;
   bare = λ p part a. bare_by (Installed All (Group g id b)) h p part refl (s.bare p) (grows p (Installed All (Group g id b)) h part a);
   nonced = λ p part a. nonced_by (Installed All (Group g id b)) h p part refl (s.nonced p) (grows p (Installed All (Group g id b)) h part a);
   started = started_more d n (Installed All (Group g id b)) h s.started;
@@ -205,6 +220,7 @@ given_by p q key h part none false is s g = bare_by (Installed (One p) key) h q 
 
 pub settled_given : (d : Domain) (n p : Node) (g : List ℕ) (id : ℕ) (b : Mac) (h : List Act) → attempt p h ≡ None → Settled d n h → Settled d n (Installed (One p) (Group g id b) ∷ h)
 settled_given d n p g id b h none s = record {
+  ground = s.ground;
   bare = λ q part a. given_by p q (Group g id b) h part none (same q p) refl (s.bare q) (grows q (Installed (One p) (Group g id b)) h part a);
   nonced = λ q part a. nonced_by (Installed (One p) (Group g id b)) h q part refl (s.nonced q) (grows q (Installed (One p) (Group g id b)) h part a);
   started = started_more d n (Installed (One p) (Group g id b)) h s.started;
@@ -237,6 +253,6 @@ fine_append d n h a b v w = record {
   settled = subst (λ (x : List Act). Settled d n x) (sym (add_append a b h)) w.settled;
 }
 
-pub fine_opened : (d : Domain) (n : Node) (h : List Act) (q : Node) (s : Start) (v : List ℕ) (g : List Act) → LegalOpened n h q → length v ≡ 32 → Settled d n h → (Settled d n (Drew (Nonce v) ∷ Opened q s ∷ h) → Fine d n (Drew (Nonce v) ∷ Opened q s ∷ h) g)
+pub fine_opened : (d : Domain) (n : Node) (h : List Act) (q : Node) (s : Start) (v : List ℕ) (g : List Act) → LegalOpened d n h q s → length v ≡ 32 → Settled d n h → (Settled d n (Drew (Nonce v) ∷ Opened q s ∷ h) → Fine d n (Drew (Nonce v) ∷ Opened q s ∷ h) g)
     → Fine d n h (Opened q s ∷ Drew (Nonce v) ∷ g)
 fine_opened d n h q s v g legal size w more = fine_cons d n h (Opened q s) (Drew (Nonce v) ∷ g) legal (fine_cons d n (Opened q s ∷ h) (Drew (Nonce v)) g size (more (settled_opened d n q s v h w)))

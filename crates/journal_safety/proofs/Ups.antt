@@ -34,7 +34,7 @@ use Rattle.domain_rules.proofs.Parts.{same-true, same-refl}
 use Rattle.journal_safety.proofs.CoversData.{covered_form, covered_tid, CoversData}
 use Rattle.journal_safety.proofs.Ends.{Tail, tail_refl, tail_rest, tail_trans, tail_in, tail_head, place, Order, Same, First, Second, order, history_tail}
 use Rattle.journal_safety.proofs.Names.{Crossed}
-use Rattle.journal_safety.proofs.Legal.{own_address, peer_address, IsReceiver, LegalData, LegalSealing, With_mic, With_ccm, LegalFinished, LegalUsedWith, LegalUsedAll, LegalUsed, OpensUnder, With_session, With_group, LegalUp, Legal}
+use Rattle.journal_safety.proofs.Legal.{Of_key, Of_fte, own_address, peer_address, IsReceiver, LegalData, LegalSealing, With_mic, With_ccm, LegalFinished, LegalUsedWith, LegalUsedAll, LegalUsed, OpensUnder, With_session, With_group, LegalUp, Legal}
 use Rattle.journal_safety.proofs.Histories.{gtk_drew, gtks_tail}
 use Rattle.journal_safety.proofs.Sessions.{session_key, session_finished}
 use Rattle.journal_safety.proofs.Runs.{legal_history}
@@ -175,8 +175,9 @@ sender_is d n p m covered key number plain past z g t c whole of l = go l.peer r
 
 -- what was sealed by CCM was sealed as data
 ccm_of : (d : Domain) (n : Node) (h : List Act) (q : Peer) (k : Kind) (s : Seal) → covered_form s.octets ≡ 3 → LegalSealing d n h q k s → LegalData d n h s
-ccm_of d n h q k s form (With_ccm l) = l
-ccm_of d n h q k s form (With_mic p one other l) = absurd (cc (form, other))
+ccm_of d n h q k s form (With_ccm is l) = l
+ccm_of d n h q k s form (With_mic p one (Of_key other) l) = absurd (cc (form, other))
+ccm_of d n h q k s form (With_mic p one (Of_fte other) l) = absurd (cc (form, other))
 
 data_from : (d : Domain) (n p : Node) (octets covered key : List ℕ) (number : ℕ) (plain : List ℕ) (past : List Entry) → Good d past → In (Took (Some p) octets kinds.Data Accepted (Some (seal_of covered key))) (history n past) → CoversData covered (not (is_ap n)) (covered_tid covered) number plain
     → IsAddress (address d p) → is_ap p ≡ not (is_ap n) → KeyOf d n p key past → DataFrom d n p covered key number plain past

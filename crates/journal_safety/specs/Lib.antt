@@ -1,1 +1,2 @@
+pub mod InOctets
 pub mod NeverBack

@@ -2,14 +2,17 @@
 //! functions do nothing; their contracts are proved.
 //!
 //! The premises of each are the same. Listed nodes have addresses of one node each, which differ; the definitions explain the
-//! journal; the values drawn are fresh; derived keys do not collide; and whatever verified was sealed by a holder of its key.
-//! Each part holds for any number of stations and access points, and whatever frames come in whatever order.
+//! journal; the values drawn are fresh; derived keys do not collide; and whatever verified was sealed by a holder of its key. With
+//! suite 4, what the network puts into frames of fast transition is of octets and of the sizes of their fields, and key holders
+//! answered rightly. Each part holds for any number of stations and access points, whatever frames come in whatever order, and
+//! however stations roam.
 //!
 //! That addresses differ is needed: where two stations have one address, an access point that ends a handshake with the second
 //! of them takes it for the first.
 #![tactic(auto)]
 
 ghost use Rattle.std.specs.Prelude.{◌≡◌, List};
+ghost use Rattle.domain_base.specs.declared.names.Akm.TheVariants.{FtPsk};
 ghost use Rattle.run_journal.specs.declared.domain.Domain.{Domain};
 ghost use Rattle.run_journal.specs.declared.domain.Event.{Event};
 ghost use Rattle.run_journal.specs.declared.acts.Entry.{Entry};
@@ -17,17 +20,21 @@ ghost use Rattle.run_journal.specs.Premises.{Fresh, NoCollision, Unforged};
 ghost use Rattle.run_journal.specs.Safe.{InstalledOnce, Joined, Once, Sourced, use_of, up_of};
 ghost use Rattle.domain_rules.specs.Network.{IsNamed};
 ghost use Rattle.domain_rules.specs.Explained.{Explained};
+ghost use Rattle.domain_rules.specs.HeldRight.{HeldRight};
+ghost use Rattle.journal_safety.specs.InOctets.{InOctets};
 ghost use Rattle.journal_safety.specs.NeverBack.{NeverBack};
 
 /// An accepted final message joins equal derivations: whoever accepts one has the inputs of a derivation that its peer made before.
 pub fn joins()
     ensures { (d : Domain) (rounds : List (List Event)) (j : List Entry)
+        → (d.akm ≡ FtPsk → InOctets d) → (d.akm ≡ FtPsk → HeldRight d j)
         → IsNamed d → Explained d rounds j → Fresh j → NoCollision j → Unforged j → Joined j }
 {}
 
 /// No node installs a key twice.
 pub fn installs_once()
-    ensures { (d : Domain) (rounds : List (List Event)) (j : List Entry) → IsNamed d
+    ensures { (d : Domain) (rounds : List (List Event)) (j : List Entry)
+        → (d.akm ≡ FtPsk → InOctets d) → (d.akm ≡ FtPsk → HeldRight d j) → IsNamed d
         → Explained d rounds j → Fresh j → NoCollision j → Unforged j → InstalledOnce j }
 {}
 
@@ -35,19 +42,23 @@ pub fn installs_once()
 /// whatever is repeated or comes late. So it is enough that it remembers the last of them.
 pub fn keys_never_go_back()
     ensures { (d : Domain) (rounds : List (List Event)) (j : List Entry)
+        → (d.akm ≡ FtPsk → InOctets d) → (d.akm ≡ FtPsk → HeldRight d j)
         → IsNamed d → Explained d rounds j → Fresh j → NoCollision j → Unforged j → NeverBack j }
 {}
 
 /// No node uses a packet number twice under a key.
 pub fn uses_once()
     ensures { (d : Domain) (rounds : List (List Event)) (j : List Entry)
+        → (d.akm ≡ FtPsk → InOctets d) → (d.akm ≡ FtPsk → HeldRight d j)
         → IsNamed d → Explained d rounds j → Fresh j → NoCollision j → Unforged j → Once use_of j }
 {}
 
 /// What a node hands up its peer used before, with that key, packet number and octets, and it hands it up once.
 pub fn hands_up_once()
     ensures sourced { (d : Domain) (rounds : List (List Event)) (j : List Entry)
+        → (d.akm ≡ FtPsk → InOctets d) → (d.akm ≡ FtPsk → HeldRight d j)
         → IsNamed d → Explained d rounds j → Fresh j → NoCollision j → Unforged j → Sourced j }
     ensures once { (d : Domain) (rounds : List (List Event)) (j : List Entry)
+        → (d.akm ≡ FtPsk → InOctets d) → (d.akm ≡ FtPsk → HeldRight d j)
         → IsNamed d → Explained d rounds j → Fresh j → NoCollision j → Unforged j → Once up_of j }
 {}

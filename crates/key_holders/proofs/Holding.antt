@@ -1,5 +1,5 @@
 -- Which access point is asked, and what a pull then answers.
-use Rattle.std.proofs.Common.{◌≡◌, ◌≢◌, ℕ, ◌<◌, true, false, true≢false, List, [], length, get_or, Some, None, refl, sym, ap, ◌∙◌, subst, arith}
+use Rattle.std.proofs.Common.{◌≡◌, ◌≢◌, ℕ, ◌<◌, true≢false, List, [], length, get_or, Some, None, refl, sym, ap, ◌∙◌, subst, arith}
 use Rattle.std.specs.Prelude.{slice_get, position, bytes_eq}
 use Rattle.std.proofs.lemmas.Slice.Eq.{bytes_eq-Decides}
 use Rattle.std.proofs.lemmas.List.{get_or_default}
@@ -8,11 +8,9 @@ use Rattle.domain_base.specs.declared.names.Mac.{Mac}
 use Rattle.key_hierarchy.specs.declared.fast_transition.PmkR1.{PmkR1}
 use Rattle.key_hierarchy.specs.declared.answers.PullAnswer.{PullAnswer}
 use Rattle.key_hierarchy.specs.declared.answers.PullAnswer.TheVariants.{Found, NoHolder, Absent}
-use Rattle.key_holders.specs.declared.rows.HolderRow.{HolderRow}
 use Rattle.key_holders.specs.declared.rows.HeldRow.{HeldRow}
 use Rattle.key_holders.specs.Keys.{row_r1}
-use Rattle.key_holders.specs.Rows.{live}
-use Rattle.key_holders.specs.Pulls.{Matches, is_match, MayPull, IsHolder, Answers, IsNamed}
+use Rattle.key_holders.specs.Pulls.{is_match, MayPull, IsHolder, Answers, IsNamed}
 use Rattle.key_holders.specs.Listed.{Listed, below, rows_at, Pulled}
 use Rattle.key_holders.proofs.Searches.{at_position, none_at}
 use Rattle.key_holders.proofs.Lives.{match_lives, no_match}

@@ -1,5 +1,5 @@
 -- Numbers below a number.
-use Rattle.std.proofs.Common.{◌≡◌, ℕ, zero, suc, ◌<◌, eqb, eqb-true, eq-eqb, Bool, true, false, cond, true≢false, List, refl, sym, ap, ◌∙◌, arith}
+use Rattle.std.proofs.Common.{◌≡◌, ℕ, zero, suc, ◌<◌, eqb, eqb-true, eq-eqb, Bool, true, false, cond, true≢false, refl, sym, ap, ◌∙◌, arith}
 use Rattle.key_holders.specs.Rows.{is_in}
 use Rattle.key_holders.specs.Listed.{below}
 

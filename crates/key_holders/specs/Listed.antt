@@ -1,5 +1,5 @@
 -- Key holders that one alone has: a list of rows for each access point.
-use Rattle.std.specs.Prelude.{◌≡◌, ℕ, zero, suc, List, [], ◌∷◌, length, replicate, slice_index_or}
+use Rattle.std.specs.Prelude.{ℕ, zero, suc, List, [], ◌∷◌, length, replicate, slice_index_or}
 use Rattle.domain_base.specs.declared.names.Mac.{Mac}
 use Rattle.key_hierarchy.specs.declared.answers.PullAnswer.{PullAnswer}
 use Rattle.key_holders.specs.declared.rows.HeldRow.{HeldRow}

@@ -7,7 +7,9 @@ use Rattle.domain_base.specs.declared.names.Mac.{Mac}
 use Rattle.run_journal.specs.declared.domain.Domain.{Domain}
 use Rattle.run_journal.specs.declared.domain.ListedAp.{ListedAp}
 use Rattle.run_journal.specs.declared.reply.Keyed.{Keyed}
-use Rattle.domain_rules.specs.Network.{IsListed, mac, root}
+use Rattle.domain_base.specs.declared.names.Akm.{Akm}
+use Rattle.domain_base.specs.declared.names.Akm.TheVariants.{Psk, PskSha256, FtPsk}
+use Rattle.domain_rules.specs.Network.{IsListed, mac, r0kh_id, Root, root, root_by, root_at, inputs}
 use Rattle.domain_rules.specs.Replies.{inputs_by}
 use Rattle.node_base.specs.declared.ends.Ends.{Ends}
 use Rattle.node_base.specs.Growing.{Grows}
@@ -40,6 +42,25 @@ ends_grown d e n p l g listed peer ends = record {
 pub inputs_grown : (d e : Domain) (n p : Node) (y : Keyed) → Grows d e → IsListed d n → IsListed d p → inputs_by e (root e) n p y ≡ inputs_by d (root d) n p y
 inputs_grown d e (Ap k) p y g listed peer = rw (g.akm, g.psk, g.ssid, mac_grown d e (Ap k) g listed, mac_grown d e p g peer) refl
 inputs_grown d e (Sta k) p y g listed peer = rw (g.akm, g.psk, g.ssid, mac_grown d e (Sta k) g listed, mac_grown d e p g peer) refl
+
+-- what they go back to with suite 4
+pub r0kh_id_grown : (d e : Domain) (n : Node) → Grows d e → IsListed d n → r0kh_id e n ≡ r0kh_id d n
+r0kh_id_grown d e (Ap k) g listed =
+    ap (λ (l : List ListedAp). unwrap_or (option_map (λ (a : ListedAp). a.r0kh_id) (slice_get l k)) []) g.aps
+    ∙ ap (λ (o : Option ListedAp). unwrap_or (option_map (λ (a : ListedAp). a.r0kh_id) o) []) (get_front d.aps g.more_aps k listed)
+r0kh_id_grown d e (Sta k) g listed = refl
+
+root_by_grown : (akm : Akm) (d e : Domain) (id : List ℕ) → Grows d e → root_by akm e id ≡ root_by akm d id
+root_by_grown Psk d e id g = rw (g.psk) refl
+root_by_grown PskSha256 d e id g = rw (g.psk) refl
+root_by_grown FtPsk d e id g = rw (g.psk, g.mdid) refl
+
+pub root_grown : (d e : Domain) (id : List ℕ) → Grows d e → root_at e id ≡ root_at d id
+root_grown d e id g = ap (λ (akm : Akm). root_by akm e id) g.akm ∙ root_by_grown d.akm d e id g
+
+pub inputs_of_grown : (d e : Domain) (r : Root) (n p : Node) (own other : List ℕ) → Grows d e → IsListed d n → IsListed d p → inputs e r n p own other ≡ inputs d r n p own other
+inputs_of_grown d e r (Ap k) p own other g listed peer = rw (g.akm, g.ssid, mac_grown d e (Ap k) g listed, mac_grown d e p g peer) refl
+inputs_of_grown d e r (Sta k) p own other g listed peer = rw (g.akm, g.ssid, mac_grown d e (Sta k) g listed, mac_grown d e p g peer) refl
 
 -- listed nodes are listed still
 pub listed_grown : (d e : Domain) (n : Node) → Grows d e → IsListed d n → IsListed e n

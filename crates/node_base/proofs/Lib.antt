@@ -1,2 +1,3 @@
 pub mod EndsKeys
 pub mod Grown
+pub mod HolderIds

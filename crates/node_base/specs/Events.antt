@@ -1,12 +1,13 @@
 -- Events at nodes, and what one step of a node does (this project's choice).
 use Rattle.std.specs.Prelude.{◌≡◌, ℕ, ◌<◌, ◌≤◌, List, ◌++◌, length}
+use Rattle.domain_base.specs.declared.names.Akm.TheVariants.{FtPsk}
 use Rattle.domain_base.specs.declared.names.Node.{Node}
 use Rattle.domain_base.specs.declared.names.Node.TheVariants.{Ap, Sta}
 use Rattle.run_journal.specs.declared.domain.Domain.{Domain}
 use Rattle.run_journal.specs.declared.acts.Act.{Act}
 use Rattle.run_journal.specs.declared.acts.Outcome.{Outcome}
 use Rattle.run_journal.specs.Questions.{add}
-use Rattle.domain_rules.specs.Rows.{NodeEvent as AnyEvent, Take, Begin, Retry, Rekey, Send, Expire, Leave, Adds, outcome_of}
+use Rattle.domain_rules.specs.Rows.{NodeEvent as AnyEvent, Take, Begin, Roam, Retry, Rekey, Send, Expire, Revoke, Leave, Adds, outcome_of}
 use Rattle.domain_rules.specs.Here.{Here}
 use Rattle.node_base.specs.Peers.{IsReceiverOf, most_payload}
 use Rattle.node_base.specs.declared.event.NodeEvent.{NodeEvent}
@@ -15,18 +16,22 @@ use Rattle.node_base.specs.declared.event.NodeEvent.TheVariants as event
 abbrev pub event_of : NodeEvent → AnyEvent
 event_of (event.Take octets) = Take octets.now
 event_of (event.Connect a) = Begin a
+event_of (event.Roam a) = Roam a
 event_of (event.Retry s) = Retry s
 event_of event.Rekey = Rekey
 event_of (event.Send q tid octets) = Send q tid octets.now
 event_of (event.Expire s) = Expire s
+event_of (event.Revoke s) = Revoke s
 event_of event.Leave = Leave
 
--- the other node is listed; stations begin attempts and leave, access points send once more, draw new group keys and drop what they
--- have with a station, and both send payloads of at most that many octets
+-- the other node is listed; stations begin attempts, by fast transition with suite 4 alone, and leave, access points send once more,
+-- draw new group keys, drop what they have with a station and revoke its key, and both send payloads of at most that many octets
 abbrev pub IsEventAt : Domain → Node → AnyEvent → Type 0
 IsEventAt d n (Take octets) = Unit {0}
 IsEventAt d (Ap k) (Begin a) = ⊥
 IsEventAt d (Sta k) (Begin a) = a < length d.aps
+IsEventAt d (Ap k) (Roam a) = ⊥
+IsEventAt d (Sta k) (Roam a) = (a < length d.aps) × (d.akm ≡ FtPsk)
 IsEventAt d (Ap k) (Retry s) = s < length d.stas
 IsEventAt d (Sta k) (Retry s) = ⊥
 IsEventAt d (Ap k) Rekey = Unit {0}
@@ -34,6 +39,8 @@ IsEventAt d (Sta k) Rekey = ⊥
 IsEventAt d n (Send q tid octets) = IsReceiverOf d n q × (length octets ≤ most_payload)
 IsEventAt d (Ap k) (Expire s) = s < length d.stas
 IsEventAt d (Sta k) (Expire s) = ⊥
+IsEventAt d (Ap k) (Revoke s) = s < length d.stas
+IsEventAt d (Sta k) (Revoke s) = ⊥
 IsEventAt d (Ap k) Leave = ⊥
 IsEventAt d (Sta k) Leave = Unit {0}
 

@@ -3,3 +3,4 @@ pub mod Events
 pub mod Growing
 pub mod Ends
 pub mod PairwiseKeys
+pub mod Pairs

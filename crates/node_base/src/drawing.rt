@@ -3,12 +3,12 @@
 ghost use Rattle.std.specs.Prelude.{◌≡◌, ◌≤◌, ◌++◌, IfOk, length};
 ghost use Rattle.std.specs.Int.{w64, to_be_bytes};
 ghost use Rattle.mac_prf.specs.Prf.{kdf};
-ghost use Rattle.domain_rules.specs.Network.{IsListed, address, nonce, gtk, inputs, root};
+ghost use Rattle.domain_rules.specs.Network.{IsListed, address, nonce, gtk, inputs, root_at};
 ghost use Rattle.node_base.specs.Peers.{IsPeerOf};
 
 use crate::here::Here;
 use crate::network::address;
-use domain_base::{NoMemory, Node, Octets, put};
+use domain_base::{Akm, NoMemory, Node, Octets, put};
 use key_hierarchy::Inputs;
 use mac_prf::kdf;
 use run_journal::Domain;
@@ -52,25 +52,42 @@ pub fn gtk(domain: &Domain, node: Node, number: u64) -> [u8; 16]
     value
 }
 
-/// What the pairwise key of a node with its peer is made of, by its own nonce and the other's, with
-/// suites 2 and 6.
+// The mobility domain that pairwise keys of the network are made of, and the R0KH-ID: with suite 4 its
+// own and that one, else neither.
+#[tactic(auto, using(domain_rules::proofs::SuiteWords::root_suite))]
+fn root_of<'a>(domain: &Domain, r0kh_id: &'a [u8]) -> ([u8; 2], &'a [u8])
+    ensures mdid { result.0 ≡ (root_at domain.now r0kh_id.now).mdid }
+    ensures id { result.1.now ≡ (root_at domain.now r0kh_id.now).r0kh_id }
+{
+    match domain.akm {
+        Akm::FtPsk => (domain.mdid, r0kh_id),
+        Akm::Psk => ([0, 0], &[]),
+        Akm::PskSha256 => ([0, 0], &[]),
+    }
+}
+
+/// What the pairwise key of a node with its peer is made of, by its own nonce and the other's, and with
+/// suite 4 by the R0KH-ID of the station's first association, which the other suites do not look at.
 pub fn pairwise_inputs(
     here: Here<'_>,
     peer: Node,
+    r0kh_id: &[u8],
     own: &[u8; 32],
     other: &[u8; 32],
 ) -> Result<Inputs, NoMemory>
     requires listed { IsListed here.domain.now here.node }
     requires peer { IsPeerOf here.domain.now here.node peer }
     ensures { IfOk result (λ i. let d = here.entry.domain.now
-        in i ≡ inputs d (root d) here.entry.node peer own.now other.now) }
+        in i ≡ inputs d (root_at d r0kh_id.now) here.entry.node peer own.now other.now) }
 {
     let Here {
         alloc,
         domain,
         node,
     } = here;
+    let (mdid, r0kh_id) = root_of(domain, r0kh_id);
     let ssid = Vec::from_slice(alloc, domain.ssid.as_slice())?;
+    let r0kh_id = Vec::from_slice(alloc, r0kh_id)?;
     let own_address = address(domain, node);
     let peer_address = address(domain, peer);
     let (aa, spa, anonce, snonce) = match node {
@@ -81,8 +98,8 @@ pub fn pairwise_inputs(
         akm: domain.akm,
         psk: domain.psk,
         ssid: Octets(ssid),
-        mdid: [0, 0],
-        r0kh_id: Octets(Vec::new(alloc)),
+        mdid,
+        r0kh_id: Octets(r0kh_id),
         aa,
         spa,
         anonce,

@@ -9,6 +9,8 @@ pub enum NodeEvent<'a> {
     Take(&'a [u8]),
     /// A station begins an attempt with that access point, by association.
     Connect(u16),
+    /// A station with a session begins a fast transition to that access point.
+    Roam(u16),
     /// An access point sends that station once more what it waits to have answered.
     Retry(u16),
     /// An access point draws a new group key and gives it to each session.
@@ -17,6 +19,8 @@ pub enum NodeEvent<'a> {
     Send(Peer, Option<Tid>, &'a [u8]),
     /// An access point drops what it has with that station.
     Expire(u16),
+    /// An access point tells its key holder to hold the key of that station no longer.
+    Revoke(u16),
     /// A station drops what it has.
     Leave,
 }

@@ -1,10 +1,13 @@
 //! The nodes of a network by number and by address.
 
-ghost use Rattle.std.specs.Prelude.{◌≡◌, ◌≤◌, length, position, bytes_eq};
+ghost use Rattle.std.specs.Prelude.{◌≡◌, ◌≤◌, [], length, position, bytes_eq};
+ghost use Rattle.std.specs.Prelude.{slice_get, option_map, unwrap_or};
 ghost use Rattle.run_journal.specs.declared.domain.ListedAp.{ListedAp as AnyAp};
 ghost use Rattle.domain_base.specs.declared.names.Mac.{Mac as AnyMac};
 ghost use Rattle.air_frame.specs.Sent.{IsAddress};
-ghost use Rattle.domain_rules.specs.Network.{IsListed, mac, peer_of};
+ghost use Rattle.domain_base.specs.declared.names.Node.TheVariants.{Ap};
+ghost use Rattle.key_hierarchy.specs.Sizes.{IsR0khId};
+ghost use Rattle.domain_rules.specs.Network.{InForm, IsListed, mac, peer_of, r0kh_id};
 
 use domain_base::{Mac, Node};
 use run_journal::{Domain, ListedAp};
@@ -27,6 +30,27 @@ pub fn address(domain: &Domain, node: Node) -> Mac
         Node::Ap(number) => whole(domain.aps.0[usize::from(number)].address),
         Node::Sta(number) => whole(domain.stas.0[usize::from(number)]),
     }
+}
+
+// The R0KH-ID at that place, or none.
+fn id_at(aps: &[ListedAp], place: usize) -> &[u8]
+    ensures { result.now
+        ≡ unwrap_or (option_map (λ (a : AnyAp). a.r0kh_id) (slice_get aps.now place)) [] }
+{
+    match aps.get(place) {
+        Some(ap) => ap.r0kh_id.as_slice(),
+        None => &[],
+    }
+}
+
+/// The R0KH-ID of an access point.
+pub fn r0kh_id(domain: &Domain, ap: u16) -> &[u8]
+    requires form { InForm domain.now }
+    requires listed { IsListed domain.now (Ap ap) }
+    ensures id { result.now ≡ r0kh_id domain.now (Ap ap) }
+    ensures sized { IsR0khId result.now }
+{
+    id_at(&domain.aps.0, usize::from(ap))
 }
 
 // The place of the first station that has this address.

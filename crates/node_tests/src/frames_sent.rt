@@ -16,7 +16,8 @@ use crate::vectors::{
 use domain_base::{Akm, NoMemory, Node, Peer};
 use eapol_key::Message;
 use frame_making::{
-    assoc_req, assoc_resp, refusal, write_g1, write_g2, write_m1, write_m2, write_m3, write_m4,
+    assoc_req, assoc_resp, m2_key_data, m3_key_data, refusal, write_g1, write_g2, write_m1,
+    write_m2, write_m3, write_m4,
 };
 use group_key::GroupKey;
 use node_base::{Ends, Here, gtk, nonce};
@@ -175,7 +176,8 @@ fn first_message(rt: HostRuntime) {
 fn second(rt: &impl Abort, alloc: Global, suite: &Suite) {
     let ends = ends_at_the_station(rt, alloc, suite);
     let mut reply = verified();
-    write_m2(&ends, &keyed(suite), 1, &mut reply);
+    let key_data = m2_key_data(suite.akm, &None);
+    write_m2(&ends, &keyed(suite), 1, key_data.as_slice(), &mut reply);
     let mic = suite.m2;
     let pieces = [
         TO_AP,
@@ -236,11 +238,9 @@ fn third(rt: &impl Abort, alloc: Global, id: u8, rsc: u64, has: &ThirdMessage)
 {
     let suite = &has.suite;
     let ends = ends_at_the_access_point(rt, alloc, suite);
-    let place = 0;
-    let key = GTK;
-    let group = GroupKey { place, id, key };
+    let plain = m3_key_data(suite.akm, &None, id, &GTK);
     let mut reply = verified();
-    write_m3(&ends, &keyed(suite), 2, &group, rsc, &mut reply);
+    write_m3(&ends, &keyed(suite), 2, plain.as_slice(), rsc, &mut reply);
     let rsc_field = has.rsc;
     let mic = has.mic;
     let pieces = [
@@ -270,7 +270,7 @@ fn third_message(rt: HostRuntime) {
 fn fourth(rt: &impl Abort, alloc: Global, suite: &Suite) {
     let ends = ends_at_the_station(rt, alloc, suite);
     let mut reply = verified();
-    write_m4(&ends, &keyed(suite), 2, &mut reply);
+    write_m4(&ends, &keyed(suite).ptk, 2, &mut reply);
     let mic = suite.m4;
     let pieces = [
         TO_AP,
@@ -356,7 +356,7 @@ fn group_first(rt: &impl Abort, alloc: Global, counter: u64, id: u8, rsc: u64, h
     let key = has.key;
     let group = GroupKey { place, id, key };
     let mut reply = verified();
-    write_g1(&ends, &keyed(suite), counter, &group, rsc, &mut reply);
+    write_g1(&ends, &keyed(suite).ptk, counter, &group, rsc, &mut reply);
     let rsc_field = has.rsc;
     let mic = has.mic;
     let pieces = [
@@ -426,7 +426,7 @@ fn group_second(rt: &impl Abort, alloc: Global, counter: u64, has: &GroupAnswer)
     let suite = &has.suite;
     let ends = ends_at_the_station(rt, alloc, suite);
     let mut reply = verified();
-    write_g2(&ends, &keyed(suite), counter, &mut reply);
+    write_g2(&ends, &keyed(suite).ptk, counter, &mut reply);
     let mic = has.mic;
     let pieces = [
         TO_AP,

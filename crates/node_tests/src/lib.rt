@@ -20,6 +20,10 @@ mod group_frames;
 #[cfg(test)]
 mod group_keys;
 #[cfg(test)]
+mod mobility;
+#[cfg(test)]
+mod mobility_vectors;
+#[cfg(test)]
 mod network;
 #[cfg(test)]
 mod outbox;
@@ -31,5 +35,7 @@ mod station;
 mod supplicant_group;
 #[cfg(test)]
 mod supplicant_part;
+#[cfg(test)]
+mod transition_parts;
 #[cfg(test)]
 mod vectors;

@@ -1,6 +1,7 @@
 //! The test network.
 
 ghost use Rattle.std.specs.Prelude.{◌≡◌, IfOk, length};
+ghost use Rattle.domain_base.specs.declared.names.Akm.{Akm as AnyAkm};
 ghost use Rattle.domain_rules.specs.Network.{InForm};
 
 use crate::vectors::{PSK, SEED};
@@ -15,7 +16,7 @@ fn octets(alloc: Global, of: &[u8]) -> Result<Octets, NoMemory>
     Ok(Octets(Vec::from_slice(alloc, of)?))
 }
 
-fn made(alloc: Global, akm: Akm) -> Result<Domain, NoMemory>
+fn made(alloc: Global, akm: Akm, mdid: [u8; 2]) -> Result<Domain, NoMemory>
     ensures form { IfOk result (λ d. InForm d) }
     ensures akm { IfOk result (λ d. d.akm ≡ akm) }
     ensures aps { IfOk result (λ d. length d.aps ≡ 2) }
@@ -35,7 +36,7 @@ fn made(alloc: Global, akm: Akm) -> Result<Domain, NoMemory>
         ssid: octets(alloc, b"IEEE")?,
         psk: PSK,
         akm,
-        mdid: [0, 0],
+        mdid,
         aps: Aps(Vec::from_array(alloc, [first, second])?),
         stas: Stas(Vec::from_array(alloc, stas)?),
     })
@@ -48,5 +49,15 @@ pub fn network(rt: &impl Abort, alloc: Global, akm: Akm) -> Domain
     ensures aps { length result.aps ≡ 2 }
     ensures stas { length result.stas ≡ 2 }
 {
-    made(alloc, akm).expect(rt, "memory")
+    made(alloc, akm, [0, 0]).expect(rt, "memory")
+}
+
+/// With suite 4 and the mobility domain a1b2.
+pub fn mobile_network(rt: &impl Abort, alloc: Global) -> Domain
+    ensures form { InForm result }
+    ensures akm { result.akm ≡ AnyAkm.FtPsk }
+    ensures aps { length result.aps ≡ 2 }
+    ensures stas { length result.stas ≡ 2 }
+{
+    made(alloc, Akm::FtPsk, [0xa1, 0xb2]).expect(rt, "memory")
 }

@@ -296,7 +296,7 @@ fn room_at(rt: &impl Abort, alloc: Global, domain: &Domain, node: Node, peer: No
         octets: &CAME,
         message: message_3(header, frame),
     };
-    Room::take(here, peer, &heard).expect(rt, "memory")
+    Room::take(here, peer, &[], &heard).expect(rt, "memory")
 }
 
 // Message 3 in what comes: of its frame the octets alone are looked at.

@@ -3,6 +3,7 @@
 
 ghost use Rattle.std.specs.Prelude.{◌≡◌, ◌≢◌, length};
 ghost use Rattle.domain_base.specs.declared.names.Akm.{Akm as AnyAkm};
+ghost use Rattle.domain_rules.specs.Network.{InForm};
 
 use crate::frames::{Frame, g1, g2, is_silent, m1, m3, on_air, sends, tells};
 use crate::network::network;
@@ -282,11 +283,20 @@ const RETIRED: [Step; 1] = [Step {
 
 // A whole session.
 fn session(rt: &impl Abort, alloc: Global, group: &Group, domain: &Domain, memory: &mut GroupMemory)
+    requires form { InForm domain.now }
     requires suite { domain.now.akm ≢ AnyAkm.FtPsk }
     requires aps { length domain.now.aps ≡ 2 }
     requires stas { length domain.now.stas ≡ 2 }
 {
-    let mut supplicant = Supplicant::begin(domain, 0, 0, StaStart::Connect { snonce: &SNONCE });
+    let mut supplicant = Supplicant::begin(
+        domain,
+        0,
+        0,
+        StaStart::Connect {
+            snonce: &SNONCE,
+            fte: &[],
+        },
+    );
     try_steps(rt, alloc, group, &mut supplicant, memory, &IN_AN_ATTEMPT);
     try_steps(rt, alloc, group, &mut supplicant, memory, &IN_A_SESSION);
     supplicant.retire();

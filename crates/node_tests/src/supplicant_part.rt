@@ -2,6 +2,7 @@
 
 ghost use Rattle.std.specs.Prelude.{◌≡◌, ◌≢◌, length};
 ghost use Rattle.domain_base.specs.declared.names.Akm.{Akm as AnyAkm};
+ghost use Rattle.domain_rules.specs.Network.{InForm};
 
 use crate::frames::{Frame, is_silent, m1, m2, m3, m4, on_air, sends, tells};
 use crate::network::network;
@@ -429,11 +430,12 @@ const NEXT_ATTEMPT: [Step; 2] = [
 
 // An attempt of the first station with the first access point, with that SNonce.
 fn begun(domain: &Domain, snonce: &[u8; 32]) -> Supplicant
+    requires form { InForm domain.now }
     requires suite { domain.now.akm ≢ AnyAkm.FtPsk }
     requires aps { length domain.now.aps ≡ 2 }
     requires stas { length domain.now.stas ≡ 2 }
 {
-    Supplicant::begin(domain, 0, 0, StaStart::Connect { snonce })
+    Supplicant::begin(domain, 0, 0, StaStart::Connect { snonce, fte: &[] })
 }
 
 // A whole handshake, and the end of its session.
@@ -444,6 +446,7 @@ fn first_session(
     domain: &Domain,
     memory: &mut GroupMemory,
 )
+    requires form { InForm domain.now }
     requires suite { domain.now.akm ≢ AnyAkm.FtPsk }
     requires aps { length domain.now.aps ≡ 2 }
     requires stas { length domain.now.stas ≡ 2 }
@@ -463,6 +466,7 @@ fn next_session(
     domain: &Domain,
     memory: &mut GroupMemory,
 )
+    requires form { InForm domain.now }
     requires suite { domain.now.akm ≢ AnyAkm.FtPsk }
     requires aps { length domain.now.aps ≡ 2 }
     requires stas { length domain.now.stas ≡ 2 }

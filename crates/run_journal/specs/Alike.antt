@@ -2,12 +2,15 @@
 use Rattle.std.specs.Prelude.{ℕ, ◌≡◌, List, [], ◌∷◌, Option}
 use Rattle.key_hierarchy.specs.declared.inputs.Inputs.{Inputs}
 use Rattle.key_hierarchy.specs.declared.inputs.Ptk.{Ptk}
+use Rattle.key_hierarchy.specs.declared.answers.PullAnswer.{PullAnswer}
+use Rattle.key_hierarchy.specs.declared.answers.PullAnswer.TheVariants.{Found}
+use Rattle.key_hierarchy.specs.declared.fast_transition.PmkR1.{PmkR1}
 use Rattle.run_journal.specs.declared.acts.Drawn.{Drawn}
 use Rattle.run_journal.specs.declared.acts.Seal.{Seal}
 use Rattle.run_journal.specs.declared.acts.Key.{Key}
 use Rattle.run_journal.specs.declared.acts.Key.TheVariants.{Pairwise, Group}
 use Rattle.run_journal.specs.declared.acts.Act.{Act}
-use Rattle.run_journal.specs.declared.acts.Act.TheVariants.{Drew, Derived, Sent, Took, Installed, Resumed, Used, HandedUp, Finished}
+use Rattle.run_journal.specs.declared.acts.Act.TheVariants.{Drew, Derived, Sent, Took, Installed, Resumed, Used, HandedUp, Finished, Looked}
 use Rattle.run_journal.specs.declared.acts.Entry.{Entry}
 
 -- two keys of one kind, and group keys of one id
@@ -15,7 +18,12 @@ abbrev pub AlikeKeys : Key → Key → Type 0
 AlikeKeys (Pairwise tk i) b = (tk' : List ℕ) × ((i' : Inputs) × (b ≡ Pairwise tk' i'))
 AlikeKeys (Group gtk id bssid) b = (gtk' : List ℕ) × (b ≡ Group gtk' id bssid)
 
--- the second act is the first with any other keys, derived or drawn values and sealed octets
+-- two PMK-R1 that were found, or one answer
+abbrev pub AlikeAnswers : PullAnswer → PullAnswer → Type 0
+AlikeAnswers (Found k) b = (k' : PmkR1) × (b ≡ Found k')
+AlikeAnswers a b = b ≡ a
+
+-- the second act is the first with any other keys, derived, drawn or found values and sealed octets
 abbrev pub AlikeActs : Act → Act → Type 0
 AlikeActs (Drew v) b = (v' : Drawn) × (b ≡ Drew v')
 AlikeActs (Derived p i k) b = (i' : Inputs) × ((k' : Ptk) × (b ≡ Derived p i' k'))
@@ -26,6 +34,7 @@ AlikeActs (Resumed p key) b = (key' : Key) × (AlikeKeys key key' × (b ≡ Resu
 AlikeActs (Used p key id n octets) b = (key' : List ℕ) × (b ≡ Used p key' id n octets)
 AlikeActs (HandedUp p key id tid n octets) b = (key' : List ℕ) × (b ≡ HandedUp p key' id tid n octets)
 AlikeActs (Finished p i) b = (i' : Inputs) × (b ≡ Finished p i')
+AlikeActs (Looked x m p answer) b = (answer' : PullAnswer) × (AlikeAnswers answer answer' × (b ≡ Looked x m p answer'))
 AlikeActs a b = b ≡ a
 
 pub record AlikeEntries (a b : Entry) : Type 0 where

@@ -2,7 +2,7 @@
 use Rattle.std.specs.Prelude.{◌≡◌, ◌≤◌, ℕ, List, None, Some}
 use Rattle.run_journal.specs.declared.reply.Reply.{Reply}
 
--- no frame (its length is 0, whatever the octets of its room), and no key (this project's choice, as the next)
+-- no frame (its length is 0, whatever the octets of its room), no key and no look (this project's choice, as the next)
 pub record IsEmpty (r : Reply) : Type 0 where
   pub len : r.len ≡ 0
   pub sealed : r.sealed ≡ None
@@ -10,6 +10,7 @@ pub record IsEmpty (r : Reply) : Type 0 where
   pub derived : r.derived ≡ None
   pub installed : r.installed ≡ None
   pub gtk : r.gtk ≡ None
+  pub looked : r.looked ≡ None
 
 -- the octets that it tells of are in its room of 512, and where it is sealed they reach to the end of the MIC of an EAPOL-Key frame without key data
 -- in a data frame: at least 131

@@ -7,6 +7,12 @@ use Rattle.domain_base.specs.declared.names.Node.{Node}
 use Rattle.air_frame.specs.declared.frame.AirFault.{AirFault}
 use Rattle.air_frame.specs.declared.frame.AirFault.TheVariants as air
 use Rattle.eapol_key.specs.KeyFrame.{fault_code}
+use Rattle.key_hierarchy.specs.declared.answers.PutAnswer.{PutAnswer}
+use Rattle.key_hierarchy.specs.declared.answers.PutAnswer.TheVariants as put
+use Rattle.key_hierarchy.specs.declared.answers.PullAnswer.{PullAnswer}
+use Rattle.key_hierarchy.specs.declared.answers.PullAnswer.TheVariants as pulled
+use Rattle.key_hierarchy.specs.declared.answers.RevokeAnswer.{RevokeAnswer}
+use Rattle.key_hierarchy.specs.declared.answers.RevokeAnswer.TheVariants as revoke
 use Rattle.eapol_key.specs.declared.messages.Message.{Message}
 use Rattle.eapol_key.specs.declared.messages.Message.TheVariants.{M1, M2, M3, M4, G1, G2}
 use Rattle.rsn_elements.specs.Codes.{code_of}
@@ -29,7 +35,7 @@ use Rattle.run_journal.specs.declared.acts.Outcome.TheVariants.{Accepted, Answer
 use Rattle.run_journal.specs.declared.acts.Key.{Key}
 use Rattle.run_journal.specs.declared.acts.Key.TheVariants.{Pairwise, Group}
 use Rattle.run_journal.specs.declared.acts.Act.{Act}
-use Rattle.run_journal.specs.declared.acts.Act.TheVariants.{Opened, Closed, Drew, Derived, Sent, Took, Installed, Resumed, Used, HandedUp, Finished, GaveUp, Idle}
+use Rattle.run_journal.specs.declared.acts.Act.TheVariants.{Opened, Closed, Drew, Derived, Sent, Took, Installed, Resumed, Used, HandedUp, Finished, Put, Looked, Revoked, GaveUp, Idle}
 use Rattle.run_journal.specs.declared.acts.Entry.{Entry}
 use Rattle.run_journal.specs.declared.premises.Premises.{Premises}
 use Rattle.run_journal.specs.Acts.{is_sent}
@@ -123,6 +129,22 @@ why_text why.RekeyPending = codes "rekey-pending"
 why_text why.NoKey = codes "no-key"
 why_text why.Spent = codes "spent"
 
+-- what a key holder answers. A put for which memory runs out is never journaled
+abbrev pub put_text : PutAnswer → List ℕ
+put_text put.Held = codes "held"
+put_text put.HeldAlready = codes "held-already"
+put_text put.Full = codes "full"
+put_text put.NoMemory = codes "no-memory"
+
+abbrev pub pull_text : PullAnswer → List ℕ
+pull_text (pulled.Found k) = codes "found"
+pull_text pulled.NoHolder = codes "no-holder"
+pull_text pulled.Absent = codes "absent"
+
+abbrev pub revoke_text : RevokeAnswer → List ℕ
+revoke_text revoke.Revoked = codes "revoked"
+revoke_text revoke.Absent = codes "absent"
+
 abbrev pub key_text : Key → List ℕ
 key_text (Pairwise tk i) = codes "ptk"
 key_text (Group gtk id b) = numbered (codes "gtk") id
@@ -158,6 +180,9 @@ act_line number n (Resumed p key) = words (codes "resume" ∷ node_text n ∷ no
 act_line number n (Used p key id pn octets) = words (codes "used" ∷ node_text n ∷ peer_text p ∷ decimal id ∷ decimal pn ∷ [])
 act_line number n (HandedUp p key id tid pn octets) = words (codes "up" ∷ node_text n ∷ node_text p ∷ decimal id ∷ decimal tid ∷ decimal pn ∷ payload_text octets ∷ [])
 act_line number n (Finished p i) = words (codes "finish" ∷ node_text n ∷ node_text p ∷ [])
+act_line number n (Put x m p answer) = words (codes "put" ∷ node_text n ∷ node_text p ∷ put_text answer ∷ [])
+act_line number n (Looked x m p answer) = words (codes "look" ∷ node_text n ∷ node_text p ∷ pull_text answer ∷ [])
+act_line number n (Revoked x m p answer) = words (codes "revoke" ∷ node_text n ∷ node_text p ∷ revoke_text answer ∷ [])
 act_line number n (GaveUp p m) = words (codes "gave-up" ∷ node_text n ∷ node_text p ∷ message_text m ∷ [])
 act_line number n (Idle y) = words (codes "idle" ∷ node_text n ∷ why_text y ∷ [])
 

@@ -4,7 +4,7 @@ use crate::seal::BoxedSeal;
 use air_frame::AirFault;
 use domain_base::{Mac, Node, Octets, Peer, Tid};
 use eapol_key::{FrameFault, Message};
-use key_hierarchy::{Ptk, SharedInputs};
+use key_hierarchy::{Ptk, PullAnswer, PutAnswer, RevokeAnswer, SharedInputs};
 use rsn_elements::ElementFault;
 
 /// How an attempt began.
@@ -299,6 +299,39 @@ pub enum Act {
         peer: Node,
         /// What the session's key was derived from.
         inputs: SharedInputs,
+    },
+    /// An access point gave its key holder the PMK-R0 of a station.
+    Put {
+        /// The R0KH-ID of the holder.
+        r0kh_id: Octets,
+        /// PMKR0Name.
+        name: [u8; 16],
+        /// The station.
+        sta: Node,
+        /// What the holder answered.
+        answer: PutAnswer,
+    },
+    /// An access point asked for the PMK-R1 of a station.
+    Looked {
+        /// The R0KH-ID of the holder that was asked.
+        r0kh_id: Octets,
+        /// PMKR0Name.
+        name: [u8; 16],
+        /// The station.
+        sta: Node,
+        /// What the holder answered.
+        answer: PullAnswer,
+    },
+    /// An access point told its key holder to hold the PMK-R0 of a station no longer.
+    Revoked {
+        /// The R0KH-ID of the holder.
+        r0kh_id: Octets,
+        /// PMKR0Name; 16 zero octets with AKM suites 2 and 6.
+        name: [u8; 16],
+        /// The station.
+        sta: Node,
+        /// What the holder answered.
+        answer: RevokeAnswer,
     },
     /// Four sends of the message brought no answer.
     GaveUp {

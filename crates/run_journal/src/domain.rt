@@ -67,6 +67,13 @@ pub enum Event {
         /// The access point, from 0.
         ap: u16,
     },
+    /// The station begins an attempt with the access point, by fast transition over the air.
+    Roam {
+        /// The station, from 0.
+        sta: u16,
+        /// The access point, from 0.
+        ap: u16,
+    },
     /// The frame of that number comes to the node.
     Deliver {
         /// The frame's number, from 1.
@@ -127,6 +134,13 @@ pub enum Event {
     },
     /// The access point drops what it has with the station.
     Expire {
+        /// The access point, from 0.
+        ap: u16,
+        /// The station, from 0.
+        sta: u16,
+    },
+    /// The access point tells its key holder to hold the key of the station no longer.
+    Revoke {
         /// The access point, from 0.
         ap: u16,
         /// The station, from 0.

@@ -1,7 +1,7 @@
 //! What a part of a node gives back beside an outcome.
 
 use crate::acts::Kind;
-use key_hierarchy::Ptk;
+use key_hierarchy::{Ptk, PullAnswer};
 
 /// The octets that a reply has room for.
 pub const REPLY_LEN: usize = 512;
@@ -47,6 +47,8 @@ pub struct Reply {
     pub installed: Option<Keyed>,
     /// The group key that was installed or resumed.
     pub gtk: Option<GtkNews>,
+    /// What a key holder answered, where one was asked.
+    pub looked: Option<PullAnswer>,
 }
 
 impl Reply {
@@ -65,6 +67,7 @@ impl Reply {
             derived: None,
             installed: None,
             gtk: None,
+            looked: None,
         }
     }
 }

@@ -26,10 +26,13 @@ use Rattle.group_key.specs.Holds.{Remembers}
 use Rattle.supplicant.specs.declared.attempt.Attempt.{Attempt as SupplicantAttempt}
 use Rattle.supplicant.specs.declared.session.Session.{Session as SupplicantSession}
 use Rattle.supplicant.specs.State.{State as Supplicant}
-use Rattle.supplicant.specs.Stands.{SupplicantStands, IsUnderWay, IsHeld}
+use Rattle.supplicant.specs.declared.session.Session.TheVariants.{Connect, Ft}
+use Rattle.supplicant.specs.declared.base.Base.{Base}
+use Rattle.key_hierarchy.specs.declared.inputs.Ptk.{Ptk}
+use Rattle.supplicant.specs.Stands.{SupplicantStands, IsUnderWay, IsHeld, IsTransferred, Holds}
 use Rattle.supplicant.specs.Stands.{HasAttempt as HasSupplicantAttempt, HasSession as HasSupplicantSession}
 use Rattle.supplicant.specs.Taken.{HaveGroupIds}
-use Rattle.supplicant.proofs.Standing.{some_part}
+use Rattle.supplicant.proofs.Standing.{based_on, some_part}
 use Rattle.station_node.specs.declared.attempt.Attempt.{Attempt}
 use Rattle.station_node.specs.State.{State, memory_at}
 use Rattle.station_node.specs.Parts.{peer_of_session, IsAlone}
@@ -168,40 +171,55 @@ quiet-session p (e ∷ g) h q = quiet-session p g (e ∷ h) q.1 ∙ session_more
 
 -- ---- the handshake
 
-under_way_on : (d : Domain) (n p : Node) (v : List ℕ) (key : Option Keyed) (h : List Act) (e : Act) → IsQuietAct e → IsUnderWay d n p v key h → IsUnderWay d n p v key (e ∷ h)
-under_way_on d n p v key h e q u = record {
+under_way_on : (d : Domain) (n p : Node) (b : Base) (v : List ℕ) (key : Option Keyed) (h : List Act) (e : Act) → IsQuietAct e → IsUnderWay d n p b v key h → IsUnderWay d n p b v key (e ∷ h)
+under_way_on d n p b v key h e q u = record {
   part = e ∷ u.part;
   is = attempt_more p e h u.part (q.opens_none p) (q.ends_none p) u.is;
   begun = by_connect_more e u.part (attempt_some p h u.part u.is) ∙ u.begun;
   nonce = own_nonce_more e u.part v u.nonce;
   hears = ap is_some (heard_more p kind.AssocResp e u.part (q.accepts_none p kind.AssocResp refl)) ∙ u.hears;
+  based = based_on d n p b u.part (e ∷ u.part) (heard_more p kind.AssocResp e u.part (q.accepts_none p kind.AssocResp refl)) u.based;
   keeps = rw (q.replies_none p (kind.Key M3) refl, q.replies_none p (kind.Key G1) refl) u.keeps;
   asked = ap is_some (heard_more p (kind.Key M1) e u.part (q.accepts_none p (kind.Key M1) refl)) ∙ u.asked;
   keyed = derivation_more p e u.part (q.derives_none p) ∙ u.keyed;
 }
 
-held_on : (d : Domain) (n p : Node) (y : Keyed) (counter : ℕ) (h : List Act) (e : Act) → IsQuietAct e → IsHeld d n p y counter h → IsHeld d n p y counter (e ∷ h)
-held_on d n p y counter h e q l = record {
+held_on : (d : Domain) (n p : Node) (b : Base) (y : Keyed) (counter : ℕ) (h : List Act) (e : Act) → IsQuietAct e → IsHeld d n p b y counter h → IsHeld d n p b y counter (e ∷ h)
+held_on d n p b y counter h e q l = record {
   is = session_more p e h (q.finishes_none p) (q.closes_none p) ∙ l.is;
   begun = rw (q.opens_none p) (by_connect_more e (since p h) (some_part (since p h) l.begun) ∙ l.begun);
+  based = rw (q.opens_none p) (based_on d n p b (since p h) (e ∷ since p h) (heard_more p kind.AssocResp e (since p h) (q.accepts_none p kind.AssocResp refl)) l.based);
   keeps = rw (q.opens_none p, q.replies_none p (kind.Key M3) refl, q.replies_none p (kind.Key G1) refl) l.keeps;
 }
 
-attempt_on : (d : Domain) (n p : Node) (a : Option SupplicantAttempt) (h : List Act) (e : Act) → IsQuietAct e → HasSupplicantAttempt d n p a h → HasSupplicantAttempt d n p a (e ∷ h)
-attempt_on d n p None h e q none = attempt_none p e h (q.opens_none p) none
-attempt_on d n p (Some a) h e q u = under_way_on d n p a.snonce a.key h e q u
+transferred_on : (p : Node) (k : Ptk) (counter : Option ℕ) (h : List Act) (e : Act) → IsQuietAct e → IsTransferred p k counter h → IsTransferred p k counter (e ∷ h)
+transferred_on p k counter h e q l = record {
+  x = l.x;
+  is = session_more p e h (q.finishes_none p) (q.closes_none p) ∙ l.is;
+  key = l.key;
+  some = rw (q.opens_none p) (λ none. cc none);
+  begun = rw (q.opens_none p) (by_connect_more e (since p h) l.some ∙ l.begun);
+  keeps = rw (q.opens_none p, q.replies_none p (kind.Key M3) refl, q.replies_none p (kind.Key G1) refl) l.keeps;
+}
 
-session_on : (d : Domain) (n p : Node) (x : Option SupplicantSession) (h : List Act) (e : Act) → IsQuietAct e → HasSupplicantSession d n p x h → HasSupplicantSession d n p x (e ∷ h)
-session_on d n p None h e q none = session_more p e h (q.finishes_none p) (q.closes_none p) ∙ none
-session_on d n p (Some x) h e q l = held_on d n p x.key x.counter h e q l
+holds_on : (d : Domain) (n p : Node) (b : Base) (x : SupplicantSession) (h : List Act) (e : Act) → IsQuietAct e → Holds d n p b x h → Holds d n p b x (e ∷ h)
+holds_on d n p b (Connect key counter) h e q l = held_on d n p b key counter h e q l
+holds_on d n p b (Ft ptk counter) h e q l = transferred_on p ptk counter h e q l
+
+attempt_on : (d : Domain) (n p : Node) (b : Base) (a : Option SupplicantAttempt) (h : List Act) (e : Act) → IsQuietAct e → HasSupplicantAttempt d n p b a h → HasSupplicantAttempt d n p b a (e ∷ h)
+attempt_on d n p b None h e q none = attempt_none p e h (q.opens_none p) none
+attempt_on d n p b (Some a) h e q u = under_way_on d n p b a.snonce a.key h e q u
+
+session_on : (d : Domain) (n p : Node) (b : Base) (x : Option SupplicantSession) (h : List Act) (e : Act) → IsQuietAct e → HasSupplicantSession d n p b x h → HasSupplicantSession d n p b x (e ∷ h)
+session_on d n p b None h e q none = session_more p e h (q.finishes_none p) (q.closes_none p) ∙ none
+session_on d n p b (Some x) h e q l = holds_on d n p b x h e q l
 
 quiet-supplicant : (d : Domain) (n p : Node) (s : Supplicant) (g h : List Act) → AreQuiet g → SupplicantStands d n p s h → SupplicantStands d n p s (add g h)
 quiet-supplicant d n p s [] h q st = st
 quiet-supplicant d n p s (e ∷ g) h q st = quiet-supplicant d n p s g (e ∷ h) q.1 (record {
   ends = st.ends;
-  psk = st.psk;
-  attempt_is = attempt_on d n p s.attempt h e q.0 st.attempt_is;
-  session_is = session_on d n p s.session h e q.0 st.session_is;
+  attempt_is = attempt_on d n p s.base s.attempt h e q.0 st.attempt_is;
+  session_is = session_on d n p s.base s.session h e q.0 st.session_is;
 })
 
 -- ---- the station

@@ -10,7 +10,7 @@ use Rattle.run_journal.specs.declared.acts.Outcome.{Outcome}
 use Rattle.run_journal.specs.declared.acts.Outcome.TheVariants.{Refused}
 use Rattle.run_journal.specs.declared.acts.Act.{Act}
 use Rattle.run_journal.specs.declared.acts.Act.TheVariants.{Took}
-use Rattle.domain_rules.specs.Replies.{IsMessageFrom, pair}
+use Rattle.domain_rules.specs.Replies.{IsMessageFrom}
 use Rattle.domain_rules.specs.Rows.{NodeEvent, Take}
 use Rattle.ccmp_guard.specs.Held.{Held}
 use Rattle.data_frames.specs.Holding.{fresh_key, key_after}
@@ -126,7 +126,7 @@ pub record IsFor (d : Domain) (s : State) (p i : ℕ) (m : Heard) (had : List Ke
   pub value : had ≡ slice_index_or s.memories i had
 
 pub handed-tried : (d : Domain) (s : State) (a : Attempt) (p i : ℕ) (m : Heard) (old new : Supplicant) (had has : List Kept) (waited waits : List Act) (came : Came) → s.attempt ≡ Some a → a.ap ≡ p → a.association ≡ Accepted old
-    → HasPlaceTried s.attempt s.memories → IsFor d s p i m had → IsHanded (pair d (Sta s.number) (Ap p)) m (handing (both old had) (both new has) waited waits) came → came.installed ≡ None
+    → HasPlaceTried s.attempt s.memories → IsFor d s p i m had → IsHanded d (Sta s.number) (Ap p) m (handing (both old had) (both new has) waited waits) came → came.installed ≡ None
     → IsTaken d (Take m.octets.now) (turn s (tried_state s a.ap new (slice_set s.memories i has)) waited waits) came.outcome
 handed-tried d s a p i m old new had has waited waits came is here there place b x goes_on =
     let low : p < length s.memories = subst (λ (q : ℕ). q < length s.memories) here (accepted_place s.attempt a old s.memories is there place) in
@@ -136,7 +136,7 @@ handed-tried d s a p i m old new had has waited waits came is here there place b
     (handed_by d s p m had has old new waited waits b.from low (kept_there s.memories i p had b.place_is low b.value)) x goes_on))
 
 pub handed-finished : (d : Domain) (s : State) (a : Attempt) (b : Option Attempt) (y : Option Session) (p i : ℕ) (m : Heard) (old new : Supplicant) (tk : List ℕ) (had has : List Kept) (waited waits : List Act) (came : Came) → s.attempt ≡ Some a → a.ap ≡ p → a.association ≡ Accepted old
-    → HasPlaceTried s.attempt s.memories → IsFor d s p i m had → IsHanded (pair d (Sta s.number) (Ap p)) m (handing (both old had) (both new has) waited waits) came → came.installed ≡ Some tk
+    → HasPlaceTried s.attempt s.memories → IsFor d s p i m had → IsHanded d (Sta s.number) (Ap p) m (handing (both old had) (both new has) waited waits) came → came.installed ≡ Some tk
     → b ≡ None → y ≡ Some (record { ap = a.ap; supplicant = new; key = fresh_key tk })
     → IsTaken d (Take m.octets.now) (turn s (record { number = s.number; drawn = s.drawn; attempt = b; session = y; memories = slice_set s.memories i has }) waited waits) came.outcome
 handed-finished d s a b y p i m old new tk had has waited waits came is here there place f x done none one =
@@ -149,7 +149,7 @@ handed-finished d s a b y p i m old new tk had has waited waits came is here the
     (handed_by d s p m had has old new waited waits f.from low (kept_there s.memories i p had f.place_is low f.value)) x done)))
 
 pub handed-held : (d : Domain) (s : State) (z : Session) (p i : ℕ) (m : Heard) (old new : Supplicant) (had has : List Kept) (waited waits : List Act) (came : Came) → s.session ≡ Some z → z.ap ≡ p → z.supplicant ≡ old
-    → HasPlaceHeld s.session s.memories → IsFor d s p i m had → IsHanded (pair d (Sta s.number) (Ap p)) m (handing (both old had) (both new has) waited waits) came
+    → HasPlaceHeld s.session s.memories → IsFor d s p i m had → IsHanded d (Sta s.number) (Ap p) m (handing (both old had) (both new has) waited waits) came
     → IsTaken d (Take m.octets.now) (turn s (held_state s z.ap new (key_after z.key came.installed) (slice_set s.memories i has)) waited waits) came.outcome
 handed-held d s z p i m old new had has waited waits came is here there place b x =
     let low : p < length s.memories = subst (λ (q : ℕ). q < length s.memories) here (held_place s.session z s.memories is place) in

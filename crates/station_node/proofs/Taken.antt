@@ -3,6 +3,7 @@ use Rattle.std.proofs.Common.{◌+◌, ◌≡◌, ◌≢◌, inl, inr, true, fal
 use Rattle.std.specs.Prelude.{Result, Ok, Err, IfOk, OnOk, OnErr, option_map, slice_set}
 use Rattle.std.proofs.lemmas.List.{get_or-set_same, get_or-set_other, set-get_or}
 use Rattle.std.proofs.lemmas.Bool.{ne_eqb}
+use Rattle.domain_base.specs.declared.names.Akm.TheVariants.{FtPsk}
 use Rattle.domain_base.specs.declared.names.Node.{Node}
 use Rattle.domain_base.specs.declared.names.Node.TheVariants.{Ap, Sta}
 use Rattle.run_journal.specs.declared.domain.Domain.{Domain}
@@ -24,7 +25,7 @@ use Rattle.domain_rules.specs.Here.{here}
 use Rattle.domain_rules.specs.Network.{nonce, draw_end}
 use Rattle.domain_rules.specs.Frames.{sent_assoc_req}
 use Rattle.domain_rules.specs.Reading.{Management, KeyMessage, Reading, PassedOver, Managed, Keyed, Reads, kind_of}
-use Rattle.domain_rules.specs.Replies.{IsMessageFrom, reply_acts, pair, taken_as}
+use Rattle.domain_rules.specs.Replies.{IsMessageFrom, reply_acts, taken_as}
 use Rattle.domain_rules.specs.Verdict.{first_verdict, key_verdict}
 use Rattle.domain_rules.specs.Associating.{assoc_resp_verdict}
 use Rattle.domain_rules.specs.Rows.{NodeEvent, Take, Begin, Leave}
@@ -38,6 +39,7 @@ use Rattle.frame_intake.specs.declared.delivered.Heard.{Heard}
 use Rattle.frame_intake.specs.Views.{message_fields}
 use Rattle.frame_intake.specs.Judging.{IsSettled}
 use Rattle.node_base.specs.Events.{Steps, seen}
+use Rattle.node_base.specs.Pairs.{pair_at}
 use Rattle.supplicant.specs.State.{State as Supplicant, Both, both}
 use Rattle.supplicant.specs.Stands.{SupplicantStands}
 use Rattle.supplicant.specs.Steps.{SupplicantSteps}
@@ -182,34 +184,34 @@ pub taken-other_management : (d : Domain) (s : State) (p : ℕ) (octets : List �
     → waits ≡ waited ++ Took (Some (Ap p)) octets k (Refused reason.Unawaited) None ∷ [] → IsTaken d (Take octets) (turn s s waited waits) (Refused reason.Unawaited)
 taken-other_management d s p octets b k waited waits m kind_is other is =
     taken-refused d s octets (Managed b m.e) (Some (Ap p)) k reason.Unawaited waited waits m.reads
-    (λ first h st. m.verdict_is first h ∙ management-other d (first + draws h) s.number h (Ap p) b.kind b m.e other) m.from kind_is is
+    (λ first h st. m.verdict_is first h ∙ management-other d first s h p b.kind b m.e st other) m.from kind_is is
 
 -- what comes of a response
 response_is : (d : Domain) (first sta : ℕ) (h : List Act) (p : ℕ) (octets : List ℕ) (b : Management) (m : IsManagementFrom d sta p octets b) → b.kind ≡ kind.AssocResp
-    → first_verdict d first (Sta sta) h (Managed b m.e) ≡ assoc_resp_verdict h (Ap p) b
+    → first_verdict d first (Sta sta) h (Managed b m.e) ≡ assoc_resp_verdict d h (Ap p) b m.e
 response_is d first sta h p octets b m kind_is = m.verdict_is first h ∙ rw kind_is refl
 
 pub taken-response_unawaited : (d : Domain) (s : State) (p : ℕ) (octets : List ℕ) (b : Management) (waited waits : List Act) → IsManagementFrom d s.number p octets b → b.kind ≡ kind.AssocResp → IsNotRequested s.attempt p
     → waits ≡ waited ++ Took (Some (Ap p)) octets kind.AssocResp (Refused reason.Unawaited) None ∷ [] → IsTaken d (Take octets) (turn s s waited waits) (Refused reason.Unawaited)
 taken-response_unawaited d s p octets b waited waits m kind_is none is =
     taken-refused d s octets (Managed b m.e) (Some (Ap p)) kind.AssocResp reason.Unawaited waited waits m.reads
-    (λ first h st. response_is d first s.number h p octets b m kind_is ∙ response-unawaited d first s h p b st none) m.from kind_is is
+    (λ first h st. response_is d first s.number h p octets b m kind_is ∙ response-unawaited d first s h p b m.e st none) m.from kind_is is
 
-pub taken-response_status : (d : Domain) (s : State) (p : ℕ) (v octets : List ℕ) (b : Management) (status : ℕ) (waited waits : List Act) → IsManagementFrom d s.number p octets b → b.kind ≡ kind.AssocResp
+pub taken-response_status : (d : Domain) (s : State) (p : ℕ) (v octets : List ℕ) (b : Management) (status : ℕ) (waited waits : List Act) → d.akm ≢ FtPsk → IsManagementFrom d s.number p octets b → b.kind ≡ kind.AssocResp
     → s.attempt ≡ Some (record { ap = p; association = association.Requested v }) → b.status ≡ status → status ≢ 0
     → waits ≡ waited ++ Took (Some (Ap p)) octets kind.AssocResp (Refused (reason.Status status)) None ∷ [] → IsTaken d (Take octets) (turn s s waited waits) (Refused (reason.Status status))
-taken-response_status d s p v octets b status waited waits m kind_is has status_is other is =
+taken-response_status d s p v octets b status waited waits suite m kind_is has status_is other is =
     let unlike = ne_eqb status 0 other in
     taken-refused d s octets (Managed b m.e) (Some (Ap p)) kind.AssocResp (reason.Status status) waited waits m.reads
-    (λ first h st. response_is d first s.number h p octets b m kind_is ∙ response-awaited d first s h p v b st has ∙ rw (status_is, unlike) refl) m.from kind_is is
+    (λ first h st. response_is d first s.number h p octets b m kind_is ∙ response-awaited d first s h p v b m.e suite st has ∙ rw (status_is, unlike) refl) m.from kind_is is
 
-pub taken-response : (d : Domain) (s new : State) (p : ℕ) (v octets : List ℕ) (b : Management) (x : Supplicant) (memories : List (List Kept)) (act : Act) (waited waits : List Act) → IsManagementFrom d s.number p octets b → b.kind ≡ kind.AssocResp
+pub taken-response : (d : Domain) (s new : State) (p : ℕ) (v octets : List ℕ) (b : Management) (x : Supplicant) (memories : List (List Kept)) (act : Act) (waited waits : List Act) → d.akm ≢ FtPsk → IsManagementFrom d s.number p octets b → b.kind ≡ kind.AssocResp
     → s.attempt ≡ Some (record { ap = p; association = association.Requested v }) → b.status ≡ 0 → HasBegun d (Sta s.number) (Ap p) v x → ((k : ℕ) → memory_at memories k ≡ memory_at s.memories k)
     → new ≡ associated_state s p x memories → act ≡ Took (Some (Ap p)) octets kind.AssocResp Accepted None → waits ≡ waited ++ act ∷ [] → IsTaken d (Take octets) (turn s new waited waits) Accepted
-taken-response d s new p v octets b x memories act waited waits m kind_is has status begun same_memory new_is act_is is = subst (λ (t : State). IsTaken d (Take octets) (turn s t waited waits) Accepted) (sym new_is) (record {
+taken-response d s new p v octets b x memories act waited waits suite m kind_is has status begun same_memory new_is act_is is = subst (λ (t : State). IsTaken d (Take octets) (turn s t waited waits) Accepted) (sym new_is) (record {
   number = refl;
   steps = λ first h st. subst (λ (w : List Act). Steps (here d first (Sta s.number)) (Take octets) (Stands d first (associated_state s p x memories)) h (seen waited w Accepted)) (sym (is ∙ ap (λ (y : Act). waited ++ y ∷ []) act_is))
-      (steps-associated d first s h octets b m.e p v x memories waited st has begun same_memory m.reads m.from kind_is status (response_is d first s.number h p octets b m kind_is));
+      (steps-associated d first s h octets b m.e p v x memories waited suite st has begun same_memory m.reads m.from kind_is status (response_is d first s.number h p octets b m kind_is));
   refused = λ y e. cc;
 })
 
@@ -257,7 +259,7 @@ handed_by d s p m had has old new waited waits from low had_is = record {
 }
 
 -- what the supplicant does of it
-steps-supplicant : (d : Domain) (s : State) (p : ℕ) (m : Heard) (has : List (List Kept)) (t : Handing) (came : Came) (first : ℕ) (h : List Act) → IsHandedBy d s p m has t → (x : IsHanded (pair d (Sta s.number) (Ap p)) m t came)
+steps-supplicant : (d : Domain) (s : State) (p : ℕ) (m : Heard) (has : List (List Kept)) (t : Handing) (came : Came) (first : ℕ) (h : List Act) → IsHandedBy d s p m has t → (x : IsHanded d (Sta s.number) (Ap p) m t came)
     → SupplicantStands d (Sta s.number) (Ap p) t.old.part h → Remembers (Ap p) (memory_at s.memories p) h
     → SupplicantSteps (here d first (Sta s.number)) (Ap p) (taken_as m.octets.now (message_fields m.message) came.outcome) (both t.new.part (memory_at has p)) x.reply h
 steps-supplicant d s p m has t came first h b x st remembers =
@@ -265,25 +267,25 @@ steps-supplicant d s p m has t came first h b x st remembers =
     (x.taken.steps d first s.number p m.octets.now (message_fields m.message) h st (subst (λ (ks : List Kept). Remembers (Ap p) ks h) (sym b.had_is) remembers) b.from refl refl refl)
 
 -- the key ids behind it
-ids-behind : (d : Domain) (s : State) (p : ℕ) (m : Heard) (has : List (List Kept)) (t : Handing) (came : Came) (first : ℕ) (h : List Act) → IsHandedBy d s p m has t → IsHanded (pair d (Sta s.number) (Ap p)) m t came → Stands d first s h
+ids-behind : (d : Domain) (s : State) (p : ℕ) (m : Heard) (has : List (List Kept)) (t : Handing) (came : Came) (first : ℕ) (h : List Act) → IsHandedBy d s p m has t → IsHanded d (Sta s.number) (Ap p) m t came → Stands d first s h
     → HaveGroupIds (memory_at has p)
 ids-behind d s p m has t came first h b x st = subst HaveGroupIds b.has_is (x.taken.ids (subst HaveGroupIds (sym b.had_is) (st.ids p)))
 
 -- what the station adds, with the supplicant where it is then
-steps-handed : (d : Domain) (s new : State) (p : ℕ) (m : Heard) (t : Handing) (came : Came) (first : ℕ) (h : List Act) (has : List (List Kept)) → (x : IsHanded (pair d (Sta s.number) (Ap p)) m t came)
+steps-handed : (d : Domain) (s new : State) (p : ℕ) (m : Heard) (t : Handing) (came : Came) (first : ℕ) (h : List Act) (has : List (List Kept)) → (x : IsHanded d (Sta s.number) (Ap p) m t came)
     → SupplicantSteps (here d first (Sta s.number)) (Ap p) (taken_as m.octets.now (message_fields m.message) came.outcome) (both t.new.part (memory_at has p)) x.reply h
-    → Stands d first new (add (reply_acts (pair d (Sta s.number) (Ap p)) false (taken_as m.octets.now (message_fields m.message) came.outcome) x.reply) h)
+    → Stands d first new (add (reply_acts (pair_at d t.new.part.base.r0kh_id (Sta s.number) (Ap p)) false (taken_as m.octets.now (message_fields m.message) came.outcome) x.reply) h)
     → Steps (here d first (Sta s.number)) (Take m.octets.now) (Stands d first new) h (seen t.waited t.waits came.outcome)
 steps-handed d s new p m t came first h has x steps stands = record {
-  acts = reply_acts (pair d (Sta s.number) (Ap p)) false (taken_as m.octets.now (message_fields m.message) came.outcome) x.reply;
-  adds = station_adds d first s.number h (Take m.octets.now) (reply_acts (pair d (Sta s.number) (Ap p)) false (taken_as m.octets.now (message_fields m.message) came.outcome) x.reply) steps.adds;
+  acts = reply_acts (pair_at d t.new.part.base.r0kh_id (Sta s.number) (Ap p)) false (taken_as m.octets.now (message_fields m.message) came.outcome) x.reply;
+  adds = station_adds d first s.number h (Take m.octets.now) (reply_acts (pair_at d t.new.part.base.r0kh_id (Sta s.number) (Ap p)) false (taken_as m.octets.now (message_fields m.message) came.outcome) x.reply) steps.adds;
   waiting = x.acts;
   came = refl;
   stands = stands;
 }
 
 -- a refusal leaves supplicant and memories
-left_by : (d : Domain) (s : State) (p : ℕ) (m : Heard) (has : List (List Kept)) (t : Handing) (came : Came) (w : Reason) → IsHandedBy d s p m has t → IsHanded (pair d (Sta s.number) (Ap p)) m t came → came.outcome ≡ Refused w → (t.new.part ≡ t.old.part) × (has ≡ s.memories)
+left_by : (d : Domain) (s : State) (p : ℕ) (m : Heard) (has : List (List Kept)) (t : Handing) (came : Came) (w : Reason) → IsHandedBy d s p m has t → IsHanded d (Sta s.number) (Ap p) m t came → came.outcome ≡ Refused w → (t.new.part ≡ t.old.part) × (has ≡ s.memories)
 left_by d s p m has t came w b x is =
     let same : t.new ≡ t.old = (x.taken.refused w is).0 in
     (ap (λ (y : Both). y.part) same, b.left (ap (λ (y : Both). y.keys) same))
@@ -301,7 +303,7 @@ not_both o y none some = cc
 
 -- in an attempt that goes on
 pub taken-tried : (d : Domain) (s : State) (p : ℕ) (m : Heard) (has : List (List Kept)) (t : Handing) (came : Came) → s.attempt ≡ Some (record { ap = p; association = association.Accepted t.old.part }) → IsHandedBy d s p m has t
-    → IsHanded (pair d (Sta s.number) (Ap p)) m t came → came.installed ≡ None → IsTaken d (Take m.octets.now) (turn s (tried_state s p t.new.part has) t.waited t.waits) came.outcome
+    → IsHanded d (Sta s.number) (Ap p) m t came → came.installed ≡ None → IsTaken d (Take m.octets.now) (turn s (tried_state s p t.new.part has) t.waited t.waits) came.outcome
 taken-tried d s p m has t came is b x goes_on = record {
   number = refl;
   steps = λ first h st. (
@@ -316,7 +318,7 @@ taken-tried d s p m has t came is b x goes_on = record {
 
 -- that becomes a session
 pub taken-finished : (d : Domain) (s : State) (p : ℕ) (m : Heard) (tk : List ℕ) (has : List (List Kept)) (t : Handing) (came : Came) → s.attempt ≡ Some (record { ap = p; association = association.Accepted t.old.part }) → IsHandedBy d s p m has t
-    → IsHanded (pair d (Sta s.number) (Ap p)) m t came → came.installed ≡ Some tk → IsTaken d (Take m.octets.now) (turn s (finished_state s p t.new.part tk has) t.waited t.waits) came.outcome
+    → IsHanded d (Sta s.number) (Ap p) m t came → came.installed ≡ Some tk → IsTaken d (Take m.octets.now) (turn s (finished_state s p t.new.part tk has) t.waited t.waits) came.outcome
 taken-finished d s p m tk has t came is b x done = record {
   number = refl;
   steps = λ first h st. (
@@ -324,21 +326,21 @@ taken-finished d s p m tk has t came is b x done = record {
       let steps = steps-supplicant d s p m has t came first h b x place.1 (st.remembers p) in
       let y = installed_there x.reply.installed tk (sym x.installed ∙ done) in
       steps-handed d s (finished_state s p t.new.part tk has) p m t came first h has x steps
-      (subst (λ (z : List ℕ). Stands d first (finished_state s p t.new.part z has) (add (reply_acts (pair d (Sta s.number) (Ap p)) false (taken_as m.octets.now (message_fields m.message) came.outcome) x.reply) h)) y.1.1
+      (subst (λ (z : List ℕ). Stands d first (finished_state s p t.new.part z has) (add (reply_acts (pair_at d t.new.part.base.r0kh_id (Sta s.number) (Ap p)) false (taken_as m.octets.now (message_fields m.message) came.outcome) x.reply) h)) y.1.1
       (stands-finished d first s h p (taken_as m.octets.now (message_fields m.message) came.outcome) x.reply y.0 t.old.part t.new.part has st is place.0 y.1.0 b.only (ids-behind d s p m has t came first h b x st) steps)));
   refused = λ w e. absurd (not_both x.reply.installed (installed_there x.reply.installed tk (sym x.installed ∙ done)).0 (x.taken.refused w e).1 (installed_there x.reply.installed tk (sym x.installed ∙ done)).1.0);
 }
 
 -- or in a session
 pub taken-held : (d : Domain) (s : State) (p : ℕ) (m : Heard) (k : Held) (has : List (List Kept)) (t : Handing) (came : Came) → s.session ≡ Some (record { ap = p; supplicant = t.old.part; key = k }) → IsHandedBy d s p m has t
-    → IsHanded (pair d (Sta s.number) (Ap p)) m t came → IsTaken d (Take m.octets.now) (turn s (held_state s p t.new.part (key_after k came.installed) has) t.waited t.waits) came.outcome
+    → IsHanded d (Sta s.number) (Ap p) m t came → IsTaken d (Take m.octets.now) (turn s (held_state s p t.new.part (key_after k came.installed) has) t.waited t.waits) came.outcome
 taken-held d s p m k has t came is b x = record {
   number = refl;
   steps = λ first h st. (
       let place = held_is d first s h p t.old.part k st is in
       let steps = steps-supplicant d s p m has t came first h b x place.stands (st.remembers p) in
       steps-handed d s (held_state s p t.new.part (key_after k came.installed) has) p m t came first h has x steps
-      (subst (λ (o : Option (List ℕ)). Stands d first (held_state s p t.new.part (key_after k o) has) (add (reply_acts (pair d (Sta s.number) (Ap p)) false (taken_as m.octets.now (message_fields m.message) came.outcome) x.reply) h)) (sym x.installed)
+      (subst (λ (o : Option (List ℕ)). Stands d first (held_state s p t.new.part (key_after k o) has) (add (reply_acts (pair_at d t.new.part.base.r0kh_id (Sta s.number) (Ap p)) false (taken_as m.octets.now (message_fields m.message) came.outcome) x.reply) h)) (sym x.installed)
       (stands-held d first s h p (taken_as m.octets.now (message_fields m.message) came.outcome) x.reply t.old.part t.new.part k has st is place.listed b.only (ids-behind d s p m has t came first h b x st) steps)));
   refused = λ w e. (let l = left_by d s p m has t came w b x e in
       let none : came.installed ≡ None = x.installed ∙ ap (option_map (λ (y : PairwiseKey). y.ptk.tk)) (x.taken.refused w e).1 in

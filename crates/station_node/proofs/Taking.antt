@@ -1,16 +1,21 @@
 -- A station takes a frame: the acts of each row, and what it stands for behind them.
-use Rattle.std.proofs.Common.{◌≡◌, ℕ, List, [], ◌∷◌, ◌++◌, Some, None, refl, subst, ◌∙◌}
+use Rattle.std.proofs.Common.{◌≡◌, ◌≢◌, ℕ, ◌+◌, List, [], ◌∷◌, ◌++◌, Option, Some, None, refl, sym, ap, subst, ◌∙◌}
+use Rattle.domain_base.specs.declared.names.Akm.TheVariants.{FtPsk}
+use Rattle.domain_base.specs.declared.names.Node.{Node}
 use Rattle.domain_base.specs.declared.names.Node.TheVariants.{Ap, Sta}
 use Rattle.rsn_elements.specs.Elements.{ElementFields}
 use Rattle.run_journal.specs.declared.domain.Domain.{Domain}
+use Rattle.run_journal.specs.declared.acts.Kind.{Kind}
 use Rattle.run_journal.specs.declared.acts.Kind.TheVariants as kind
 use Rattle.run_journal.specs.declared.acts.Reason.{Reason}
+use Rattle.run_journal.specs.declared.acts.Outcome.{Outcome}
 use Rattle.run_journal.specs.declared.acts.Outcome.TheVariants.{Accepted, Ignored, Refused}
 use Rattle.run_journal.specs.declared.acts.Act.{Act}
 use Rattle.run_journal.specs.declared.acts.Act.TheVariants.{Took}
+use Rattle.run_journal.specs.Questions.{draws}
 use Rattle.domain_rules.specs.Here.{here}
 use Rattle.domain_rules.specs.Reading.{Management, Reading, PassedOver, Managed, Reads, kind_of}
-use Rattle.domain_rules.specs.Verdict.{ComesSoFar, first_verdict}
+use Rattle.domain_rules.specs.Verdict.{ComesSoFar, KnowsManaged, management_sender, management_further, further_from, further, and_then, first_verdict, verdict}
 use Rattle.domain_rules.specs.Associating.{assoc_resp_verdict}
 use Rattle.domain_rules.specs.Rows.{Take, refused_seal, By_assoc_resp, By_ignored, By_refusal}
 use Rattle.domain_rules.specs.Closing.{sender}
@@ -59,24 +64,34 @@ steps-ignored d first sta s h octets waited st reads = record {
   stands = stands-plain d first s h (Took None octets kind.Ignored Ignored None) (plain-ignored None octets kind.Ignored None) st;
 }
 
+-- reading further refuses nothing of an association response
+further_response : (d : Domain) (drawn sta : ℕ) (h : List Act) (b : Management) (e : ElementFields) (o : Option Node) → b.kind ≡ kind.AssocResp → further_from o (λ p. management_further d drawn (Sta sta) h p b e no_facts b.kind) ≡ Accepted
+further_response d drawn sta h b e None is = refl
+further_response d drawn sta h b e (Some p) is = ap (λ (k : Kind). management_further d drawn (Sta sta) h p b e no_facts k) is
+
+response_accepted : (d : Domain) (first sta : ℕ) (h : List Act) (b : Management) (e : ElementFields) → b.kind ≡ kind.AssocResp → first_verdict d first (Sta sta) h (Managed b e) ≡ Accepted → verdict d first (Sta sta) h (Managed b e) no_facts ≡ Accepted
+response_accepted d first sta h b e kind_is is =
+    ap (λ (o : Outcome). and_then o (further d first (Sta sta) h (Managed b e) no_facts)) is
+    ∙ ap (λ (o : Outcome). and_then Accepted o) (further_response d (first + draws h) sta h b e (management_sender d (Sta sta) b.header) kind_is)
+
 pub steps-associated : (d : Domain) (first : ℕ) (s : State) (h : List Act) (octets : List ℕ) (b : Management) (e : ElementFields) (p : ℕ) (v : List ℕ) (x : Supplicant) (memories : List (List Kept)) (waited : List Act)
-    → Stands d first s h → s.attempt ≡ Some (record { ap = p; association = Requested v })
+    → d.akm ≢ FtPsk → Stands d first s h → s.attempt ≡ Some (record { ap = p; association = Requested v })
     → HasBegun d (Sta s.number) (Ap p) v x → ((k : ℕ) → memory_at memories k ≡ memory_at s.memories k)
     → Reads d.akm octets (Managed b e) → sender d (Sta s.number) (Managed b e) ≡ Some (Ap p) → b.kind ≡ kind.AssocResp → b.status ≡ 0
-    → first_verdict d first (Sta s.number) h (Managed b e) ≡ assoc_resp_verdict h (Ap p) b
+    → first_verdict d first (Sta s.number) h (Managed b e) ≡ assoc_resp_verdict d h (Ap p) b e
     → Steps (here d first (Sta s.number)) (Take octets) (Stands d first (associated_state s p x memories)) h (seen waited (waited ++ associated_acts (Ap p) octets) Accepted)
-steps-associated d first s h octets b e p v x memories waited st is begun same_memory reads from kind_is status verdict_is =
-    let accepted : first_verdict d first (Sta s.number) h (Managed b e) ≡ Accepted = verdict_is ∙ response-awaited d first s h p v b st is ∙ rw status refl in
+steps-associated d first s h octets b e p v x memories waited suite st is begun same_memory reads from kind_is status verdict_is =
+    let accepted : first_verdict d first (Sta s.number) h (Managed b e) ≡ Accepted = verdict_is ∙ response-awaited d first s h p v b e suite st is ∙ rw status refl in
     record {
       acts = associated_acts (Ap p) octets;
       adds = station_adds d first s.number h (Take octets) (associated_acts (Ap p) octets) (record {
         r = Managed b e;
         reads = reads;
         facts = no_facts;
-        knows = λ so. tt;
-        row = By_assoc_resp (record { b = b; e = e; is = refl; kind_is = kind_is; p = Ap p; from = from; accepted = rw accepted refl; says = refl });
+        knows = λ so q sent. subst (λ (k : Kind). KnowsManaged (Sta s.number) h q e no_facts k) (sym kind_is) tt;
+        row = By_assoc_resp (record { b = b; e = e; is = refl; kind_is = kind_is; p = Ap p; from = from; accepted = response_accepted d first s.number h b e kind_is accepted; says = refl });
       });
       waiting = refl;
       came = refl;
-      stands = stands-associated d first s h p v octets x memories st is begun same_memory;
+      stands = stands-associated d first s h p v octets x memories suite st is begun same_memory;
     }

@@ -1,9 +1,12 @@
 -- A message handed to the supplicant of an attempt or of a session (this project's choice).
 use Rattle.std.specs.Prelude.{◌≡◌, false, List, ◌++◌, option_map}
+use Rattle.domain_base.specs.declared.names.Node.{Node}
+use Rattle.run_journal.specs.declared.domain.Domain.{Domain}
 use Rattle.run_journal.specs.declared.acts.Act.{Act}
 use Rattle.run_journal.specs.declared.reply.Reply.{Reply}
 use Rattle.run_journal.specs.declared.reply.Keyed.{Keyed}
-use Rattle.domain_rules.specs.Replies.{Pair, reply_acts, taken_as}
+use Rattle.domain_rules.specs.Replies.{reply_acts, taken_as}
+use Rattle.node_base.specs.Pairs.{pair_at}
 use Rattle.frame_intake.specs.declared.delivered.Heard.{Heard}
 use Rattle.frame_intake.specs.Views.{message_fields}
 use Rattle.supplicant.specs.State.{Both}
@@ -20,10 +23,12 @@ pub record Handing : Type 0 where
 abbrev pub handing : Both → Both → List Act → List Act → Handing
 handing old new waited waits = record { old = old; new = new; waited = waited; waits = waits }
 
--- the acts are those of the supplicant's reply, and an installed key makes an attempt a session
-pub record IsHanded (w : Pair) (m : Heard) (t : Handing) (came : Came) : Type 0 where
+-- of p at node n: the acts are those of the supplicant's reply, and an installed key makes an attempt a
+-- session
+pub record IsHanded (d : Domain) (n p : Node) (m : Heard) (t : Handing) (came : Came) : Type 0 where
   pub reply : Reply
   pub acts : t.waits ≡ t.waited
-      ++ reply_acts w false (taken_as m.octets.now (message_fields m.message) came.outcome) reply
+      ++ reply_acts (pair_at d t.new.part.base.r0kh_id n p) false
+      (taken_as m.octets.now (message_fields m.message) came.outcome) reply
   pub taken : IsTakenBySupplicant m.message.message m.message.frame t.old t.new came.outcome reply
   pub installed : came.installed ≡ option_map (λ (y : Keyed). y.ptk.tk) reply.installed

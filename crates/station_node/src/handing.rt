@@ -5,7 +5,6 @@ ghost use Rattle.run_journal.specs.declared.reply.Keyed.{Keyed as AnyKeyed};
 ghost use Rattle.domain_base.specs.declared.names.Node.TheVariants.{Ap};
 ghost use Rattle.eapol_key.specs.Fields.{IsKeyFrame};
 ghost use Rattle.domain_rules.specs.Network.{IsListed};
-ghost use Rattle.domain_rules.specs.Replies.{pair};
 ghost use Rattle.node_base.specs.Peers.{IsPeerOf};
 ghost use Rattle.supplicant.specs.State.{both};
 ghost use Rattle.station_node.specs.Handed.{IsHanded, handing};
@@ -41,14 +40,14 @@ pub fn hand(
     requires peer { IsPeerOf here.domain.now here.node (Ap ap) }
     requires frame { IsKeyFrame heard.now.message.frame }
     ensures handed { IfOk result (λ came.
-        IsHanded (pair here.entry.domain.now here.entry.node (Ap ap)) heard.now
+        IsHanded here.entry.domain.now here.entry.node (Ap ap) heard.now
         (handing (both supplicant.old memory.old) (both supplicant.new memory.new)
         out.old.acts out.new.acts) came) }
     ensures same { OnErr result ((supplicant.new ≡ supplicant.old) × (memory.new ≡ memory.old)) }
     ensures kept { OnErr result (out.new.acts ≡ out.old.acts) }
 {
     let message = heard.message;
-    let room = Room::take(here, Node::Ap(ap), heard)?;
+    let room = Room::take(here, Node::Ap(ap), supplicant.r0kh_id(), heard)?;
     out.reserve(7)?;
     let mut reply = Reply::empty();
     let outcome = supplicant.step(message.message, &message.frame, memory, &mut reply);

@@ -116,9 +116,11 @@ impl StationNode {
             NodeEvent::Send(to, Some(tid), payload) => self.send(here, to, Some(tid), payload, out),
             NodeEvent::Send(to, None, payload) => self.send(here, to, None, payload, out),
             NodeEvent::Leave => self.leave(out),
+            NodeEvent::Roam(_) => unreachable!(),
             NodeEvent::Retry(_) => unreachable!(),
             NodeEvent::Rekey => unreachable!(),
             NodeEvent::Expire(_) => unreachable!(),
+            NodeEvent::Revoke(_) => unreachable!(),
         }
     }
 
@@ -265,6 +267,7 @@ impl StationNode {
         frame: &Management<'_>,
         out: &mut Outbox,
     ) -> Result<Outcome, NoMemory>
+        requires form { InForm here.domain.now }
         requires suite { here.domain.now.akm ≢ AnyAkm.FtPsk }
         requires listed { self.old.number < length here.domain.now.stas }
         requires ap { ap < length here.domain.now.aps }
@@ -288,6 +291,7 @@ impl StationNode {
         status: u16,
         out: &mut Outbox,
     ) -> Result<Outcome, NoMemory>
+        requires form { InForm here.domain.now }
         requires suite { here.domain.now.akm ≢ AnyAkm.FtPsk }
         requires listed { self.old.number < length here.domain.now.stas }
         requires ap { ap < length here.domain.now.aps }
@@ -309,7 +313,10 @@ impl StationNode {
         out.reserve(1)?;
         make_place(&mut self.memories, ap)?;
         out.add(act);
-        let start = StaStart::Connect { snonce: &snonce };
+        let start = StaStart::Connect {
+            snonce: &snonce,
+            fte: &[],
+        };
         let supplicant = Supplicant::begin(here.domain, self.number, ap, start);
         self.attempt = Some(Attempt {
             ap,

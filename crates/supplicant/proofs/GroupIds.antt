@@ -16,7 +16,9 @@ use Rattle.domain_rules.specs.StationKeys.{is_group_key}
 use Rattle.domain_rules.specs.StationRows.{carried_in, carried}
 use Rattle.group_key.specs.Keys.{Kept, has_key, raised, given}
 use Rattle.supplicant.specs.declared.key_data.CarriedKey.{CarriedKey}
-use Rattle.supplicant.specs.KeyData.{group_key, wrapped_by, IsWrappedSaid}
+use Rattle.supplicant.specs.KeyData.{group_key, has_mdid_by, m3_said, wrapped_by, IsWrappedSaid}
+use Rattle.supplicant.specs.declared.base.Base.{Base}
+use Rattle.frame_making.specs.Mobile.{Mobility}
 use Rattle.supplicant.specs.Taken.{HaveGroupIds}
 
 -- ---- that of an accepted group key
@@ -40,15 +42,34 @@ group_id (Some g) c is same =
     let ids : g.id ≡ c.id = ap (λ (x : GroupKey). x.id) same in
     subst (λ (n : ℕ). (n == 0) ≡ false) ids (other_id (length g.key == 16) (g.id == 0) is)
 
-pub carried_id : (asked : Option Akm) (plain : Option (List ℕ)) (says : Option ElementFields) (c : CarriedKey) → IsWrappedSaid asked plain says (Ok c) → (c.id == 0) ≡ false
+abbrev accepted_key : Option GtkKdeFields → Outcome
+accepted_key o = if is_group_key o then Accepted else Refused (reason.KeyData key_data.Gtk)
+
+said_key : (akm : Akm) (o : Option Mobility) (e : ElementFields) → m3_said akm o (Some e) ≡ Accepted → is_group_key e.gtk ≡ true
+said_key akm None e is =
+    if_accepted (is_group_key e.gtk) (reason.KeyData key_data.Gtk)
+    (unless_accepted (not (is_same e.rsne_octets (Some (rsne_octets akm None)))) (reason.KeyData key_data.Rsne) (accepted_key e.gtk) is)
+said_key akm (Some m) e is =
+    let has_fte : Bool = is_same e.fte_octets (Some m.fte) in
+    let behind_fte : Outcome = if not has_fte then Refused (reason.KeyData key_data.Fte) else accepted_key e.gtk in
+    let has_mde : Bool = has_mdid_by (Some m) e.mde in
+    let behind_mde : Outcome = if not has_mde then Refused (reason.KeyData key_data.Mde) else behind_fte in
+    if_accepted (is_group_key e.gtk) (reason.KeyData key_data.Gtk)
+    (unless_accepted (not has_fte) (reason.KeyData key_data.Fte) (accepted_key e.gtk)
+    (unless_accepted (not has_mde) (reason.KeyData key_data.Mde) behind_fte
+    (unless_accepted (not (is_same e.rsne_octets (Some (rsne_octets akm (Some m.name))))) (reason.KeyData key_data.Rsne) behind_mde is)))
+
+unsaid : (akm : Akm) (o : Option Mobility) → m3_said akm o None ≡ Accepted → ⊥
+unsaid akm None is = cc is
+unsaid akm (Some m) is = cc is
+
+pub carried_id : (asked : Option Base) (plain : Option (List ℕ)) (says : Option ElementFields) (c : CarriedKey) → IsWrappedSaid asked plain says (Ok c) → (c.id == 0) ≡ false
 carried_id None None says c is = cc (is.0)
 carried_id None (Some plain) None c is = cc (is.0)
 carried_id None (Some plain) (Some e) c is = group_id e.gtk c (if_accepted (is_group_key e.gtk) (reason.KeyData key_data.Gtk) is.0) is.1
-carried_id (Some akm) None says c is = cc (is.0)
-carried_id (Some akm) (Some plain) None c is = cc (is.0)
-carried_id (Some akm) (Some plain) (Some e) c is =
-    group_id e.gtk c
-    (if_accepted (is_group_key e.gtk) (reason.KeyData key_data.Gtk) (unless_accepted (not (is_same e.rsne_octets (Some (rsne_octets akm None)))) (reason.KeyData key_data.Rsne) (if is_group_key e.gtk then Accepted else Refused (reason.KeyData key_data.Gtk)) is.0)) is.1
+carried_id (Some b) None says c is = cc (is.0)
+carried_id (Some b) (Some plain) None c is = absurd (unsaid b.akm b.mobility is.0)
+carried_id (Some b) (Some plain) (Some e) c is = group_id e.gtk c (said_key b.akm b.mobility e is.0) is.1
 
 -- ---- those of the keys that are kept
 

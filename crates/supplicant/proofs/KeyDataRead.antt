@@ -1,6 +1,6 @@
 -- The key data of M3 and of G1, and what comes of M3 before it.
 use Rattle.std.proofs.Common.{◌≡◌, ℕ, ◌<◌, ◌≤◌, ◌-◌, [], get_or, true, false, List, Option, Some, None, length, drop, refl, sym, ap, subst, ◌∙◌, arith}
-use Rattle.std.specs.Prelude.{◌↔◌, IsTrue, Bool, bytes_eq, Result, Ok, Err}
+use Rattle.std.specs.Prelude.{Bool, not, if◌then◌else◌, bytes_eq, option_map, Result, Ok, Err}
 use Rattle.std.specs.Int.{w16}
 use Rattle.std.proofs.lemmas.Slice.Eq.{bytes_eq-Decides}
 use Rattle.std.proofs.lemmas.List.{append-nil, length-take}
@@ -19,7 +19,7 @@ use Rattle.run_journal.specs.declared.acts.KeyDataFault.TheVariants as fault
 use Rattle.run_journal.specs.declared.acts.Reason.{Reason}
 use Rattle.run_journal.specs.declared.acts.Reason.TheVariants as reason
 use Rattle.run_journal.specs.declared.acts.Outcome.{Outcome}
-use Rattle.run_journal.specs.declared.acts.Outcome.TheVariants.{Refused}
+use Rattle.run_journal.specs.declared.acts.Outcome.TheVariants.{Accepted, Refused}
 use Rattle.domain_rules.specs.Facts.{is_same, ReadsKeyData}
 use Rattle.domain_rules.specs.StationKeys.{is_group_key}
 use Rattle.domain_rules.specs.Asking.{above}
@@ -27,7 +27,9 @@ use Rattle.domain_rules.specs.StationRows.{carried_in}
 use Rattle.domain_rules.proofs.Peers.{not_same}
 use Rattle.domain_rules.proofs.Verdicts.{above-low, above-high}
 use Rattle.supplicant.specs.declared.key_data.CarriedKey.{CarriedKey}
-use Rattle.supplicant.specs.KeyData.{group_key, HasRsne, said_by, wrapped_by, IsPlain, IsOpened}
+use Rattle.frame_making.specs.Mobile.{Mobility}
+use Rattle.supplicant.specs.declared.base.Base.{Base}
+use Rattle.supplicant.specs.KeyData.{group_key, has_rsne, has_mdid_by, has_mdid, has_fte_by, has_fte, element_fault, m3_said, said_by, IsPlain, IsOpened}
 use Rattle.supplicant.specs.M3.{Under, IsAbove, IsNotAbove, IsVerified, IsM3, before_key_data}
 
 -- ---- how long it is
@@ -44,38 +46,62 @@ frame_long octets f s = omega (arith, s.key_data_length)
 
 -- ---- plain key data
 
-said : (rsne : List ℕ) (o : Option (List ℕ)) → o ≡ Some rsne → is_same o (Some rsne) ≡ true
-said rsne o is = ap (λ (x : Option (List ℕ)). is_same x (Some rsne)) is ∙ (bytes_eq-Decides rsne rsne).1 refl
-
-not_said : (rsne : List ℕ) (o : Option (List ℕ)) → (o ≡ Some rsne → ⊥) → is_same o (Some rsne) ≡ false
-not_said rsne None other = refl
-not_said rsne (Some octets) other = not_same octets rsne (λ same. other (ap (λ (x : List ℕ). Some x) same))
-
--- where an RSNE is asked for, it is there as the code compares it
-pub rsne_there : (asked : Option Akm) (akm : Akm) (rsne : List ℕ) (o : Option (List ℕ)) (b : Bool) → asked ≡ Some akm → rsne ≡ rsne_octets akm None → (IsTrue b ↔ (o ≡ Some rsne)) → IsTrue b ↔ HasRsne asked o
-rsne_there asked akm rsne o b is own by = subst (λ (x : Option Akm). IsTrue b ↔ HasRsne x o) (sym is) (subst (λ (x : List ℕ). IsTrue b ↔ (o ≡ Some x)) own by)
-
-pub rsne_unasked : (asked : Option Akm) (o : Option (List ℕ)) → asked ≡ None → IsTrue true ↔ HasRsne asked o
-rsne_unasked asked o is = subst (λ (x : Option Akm). IsTrue true ↔ HasRsne x o) (sym is) (λ yes. tt, λ any. refl)
-
-not_read : (asked : Option Akm) → said_by asked None ≡ Refused (reason.KeyData fault.Unreadable)
+not_read : (asked : Option Base) → said_by asked None ≡ Refused (reason.KeyData fault.Unreadable)
 not_read None = refl
-not_read (Some akm) = refl
+not_read (Some b) = not_read_by b.akm b.mobility
+  where
+    not_read_by : (akm : Akm) (o : Option Mobility) → m3_said akm o None ≡ Refused (reason.KeyData fault.Unreadable)
+    not_read_by akm None = refl
+    not_read_by akm (Some m) = refl
 
-pub plain_unreadable : (asked : Option Akm) (plain : List ℕ) → ReadsKeyData plain None → IsPlain asked plain (Err fault.Unreadable)
+-- three elements that are asked for, and a group key
+abbrev first_of : Bool → Bool → Bool → Option KeyDataFault
+first_of a b c = if not a then Some fault.Rsne else if not b then Some fault.Mde else if not c then Some fault.Fte else None
+
+abbrev pub comes_of : Bool → Bool → Bool → Bool → Outcome
+comes_of a b c g =
+    if not a then Refused (reason.KeyData fault.Rsne) else if not b then Refused (reason.KeyData fault.Mde)
+    else if not c then Refused (reason.KeyData fault.Fte) else if g then Accepted else Refused (reason.KeyData fault.Gtk)
+
+first_refuses : (a b c g : Bool) (f : KeyDataFault) → first_of a b c ≡ Some f → comes_of a b c g ≡ Refused (reason.KeyData f)
+first_refuses false b c g f is = let same : fault.Rsne ≡ f = cc is in ap (λ (x : KeyDataFault). Refused (reason.KeyData x)) same
+first_refuses true false c g f is = let same : fault.Mde ≡ f = cc is in ap (λ (x : KeyDataFault). Refused (reason.KeyData x)) same
+first_refuses true true false g f is = let same : fault.Fte ≡ f = cc is in ap (λ (x : KeyDataFault). Refused (reason.KeyData x)) same
+first_refuses true true true g f is = cc is
+
+none_refuses : (a b c g : Bool) → first_of a b c ≡ None → comes_of a b c g ≡ (if g then Accepted else Refused (reason.KeyData fault.Gtk))
+none_refuses false b c g is = cc is
+none_refuses true false c g is = cc is
+none_refuses true true false g is = cc is
+none_refuses true true true g is = refl
+
+comes_by : (akm : Akm) (o : Option Mobility) (e : ElementFields) → m3_said akm o (Some e) ≡ comes_of (is_same e.rsne_octets (Some (rsne_octets akm (option_map (λ (m : Mobility). m.name) o)))) (has_mdid_by o e.mde) (has_fte_by o e.fte_octets) (is_group_key e.gtk)
+comes_by akm None e = refl
+comes_by akm (Some m) e = refl
+
+said_of : (asked : Option Base) (e : ElementFields) → said_by asked (Some e) ≡ comes_of (has_rsne asked e.rsne_octets) (has_mdid asked e.mde) (has_fte asked e.fte_octets) (is_group_key e.gtk)
+said_of None e = refl
+said_of (Some b) e = comes_by b.akm b.mobility e
+
+pub plain_unreadable : (asked : Option Base) (plain : List ℕ) → ReadsKeyData plain None → IsPlain asked plain (Err fault.Unreadable)
 plain_unreadable asked plain reads = record { says = None; reads = reads; is = not_read asked }
 
-pub plain_other : (asked : Option Akm) (plain : List ℕ) (e : ElementFields) → SpellsElements KeyData plain e → (HasRsne asked e.rsne_octets → ⊥) → IsPlain asked plain (Err fault.Rsne)
-plain_other None plain e spelled other = absurd (other tt)
-plain_other (Some akm) plain e spelled other = let unlike = not_said (rsne_octets akm None) e.rsne_octets other in record { says = Some e; reads = spelled; is = rw unlike refl }
+pub plain_other : (asked : Option Base) (plain : List ℕ) (e : ElementFields) (f : KeyDataFault) → SpellsElements KeyData plain e → element_fault asked e ≡ Some f → IsPlain asked plain (Err f)
+plain_other asked plain e f spelled is = record {
+  says = Some e;
+  reads = spelled;
+  is = said_of asked e ∙ first_refuses (has_rsne asked e.rsne_octets) (has_mdid asked e.mde) (has_fte asked e.fte_octets) (is_group_key e.gtk) f is;
+}
 
-pub plain_gtk : (asked : Option Akm) (plain : List ℕ) (e : ElementFields) → SpellsElements KeyData plain e → HasRsne asked e.rsne_octets → is_group_key e.gtk ≡ false → IsPlain asked plain (Err fault.Gtk)
-plain_gtk None plain e spelled is none = record { says = Some e; reads = spelled; is = rw none refl }
-plain_gtk (Some akm) plain e spelled is none = let alike = said (rsne_octets akm None) e.rsne_octets is in record { says = Some e; reads = spelled; is = rw (alike, none) refl }
+-- by its group key, where those elements are there
+by_key : (asked : Option Base) (e : ElementFields) → element_fault asked e ≡ None → said_by asked (Some e) ≡ (if is_group_key e.gtk then Accepted else Refused (reason.KeyData fault.Gtk))
+by_key asked e is = said_of asked e ∙ none_refuses (has_rsne asked e.rsne_octets) (has_mdid asked e.mde) (has_fte asked e.fte_octets) (is_group_key e.gtk) is
 
-pub plain_key : (asked : Option Akm) (plain : List ℕ) (e : ElementFields) (c : CarriedKey) → SpellsElements KeyData plain e → HasRsne asked e.rsne_octets → (is_group_key e.gtk ≡ true) × (carried_in e.gtk ≡ group_key c) → IsPlain asked plain (Ok c)
-plain_key None plain e c spelled is key = record { says = Some e; reads = spelled; is = (rw (key.0) refl, key.1) }
-plain_key (Some akm) plain e c spelled is key = let alike = said (rsne_octets akm None) e.rsne_octets is in record { says = Some e; reads = spelled; is = (rw (alike, key.0) refl, key.1) }
+pub plain_gtk : (asked : Option Base) (plain : List ℕ) (e : ElementFields) → SpellsElements KeyData plain e → element_fault asked e ≡ None → is_group_key e.gtk ≡ false → IsPlain asked plain (Err fault.Gtk)
+plain_gtk asked plain e spelled is none = record { says = Some e; reads = spelled; is = by_key asked e is ∙ ap (λ (b : Bool). if b then Accepted else Refused (reason.KeyData fault.Gtk)) none }
+
+pub plain_key : (asked : Option Base) (plain : List ℕ) (e : ElementFields) (c : CarriedKey) → SpellsElements KeyData plain e → element_fault asked e ≡ None → (is_group_key e.gtk ≡ true) × (carried_in e.gtk ≡ group_key c) → IsPlain asked plain (Ok c)
+plain_key asked plain e c spelled is key = record { says = Some e; reads = spelled; is = (by_key asked e is ∙ ap (λ (b : Bool). if b then Accepted else Refused (reason.KeyData fault.Gtk)) key.0, key.1) }
 
 -- ---- wrapped key data
 
@@ -85,23 +111,14 @@ are_octets kek low = octets_unwrapped kek [] (subst (λ (x : List ℕ). (k : ℕ
 reads_plain : (plain : List ℕ) (says : Option ElementFields) → ReadsKeyData plain says → (p : List ℕ) → Some plain ≡ Some p → ReadsKeyData p says
 reads_plain plain says reads p is = let same : plain ≡ p = cc in subst (λ (x : List ℕ). ReadsKeyData x says) same reads
 
--- with a plain text it is what that says
-wrapped_said : (asked : Option Akm) (plain : List ℕ) (says : Option ElementFields) → wrapped_by asked (Some plain) says ≡ said_by asked says
-wrapped_said None plain says = refl
-wrapped_said (Some akm) plain says = refl
+pub opened_not : (asked : Option Base) (kek octets : List ℕ) → ((plain : List ℕ) → Wraps kek plain octets → ⊥) → IsOpened asked kek octets (Err reason.Wrap)
+opened_not asked kek octets none = record { plain = None; says = None; unwrapped = λ plain are wraps. none plain wraps; reads = λ p is. cc is; is = refl }
 
-not_wrapped : (asked : Option Akm) → wrapped_by asked None None ≡ Refused reason.Wrap
-not_wrapped None = refl
-not_wrapped (Some akm) = refl
+pub opened_key : (asked : Option Base) (kek octets plain front : List ℕ) (c : CarriedKey) → ((k : ℕ) → get_or kek k 0 < 256) → Wraps kek front octets → plain ≡ front → IsPlain asked plain (Ok c) → IsOpened asked kek octets (Ok c)
+opened_key asked kek octets plain front c are wraps same read = record { plain = Some plain; says = read.says; unwrapped = (are_octets kek are, subst (λ (x : List ℕ). Wraps kek x octets) (sym same) wraps); reads = reads_plain plain read.says read.reads; is = read.is }
 
-pub opened_not : (asked : Option Akm) (kek octets : List ℕ) → ((plain : List ℕ) → Wraps kek plain octets → ⊥) → IsOpened asked kek octets (Err reason.Wrap)
-opened_not asked kek octets none = record { plain = None; says = None; unwrapped = λ plain are wraps. none plain wraps; reads = λ p is. cc is; is = not_wrapped asked }
-
-pub opened_key : (asked : Option Akm) (kek octets plain front : List ℕ) (c : CarriedKey) → ((k : ℕ) → get_or kek k 0 < 256) → Wraps kek front octets → plain ≡ front → IsPlain asked plain (Ok c) → IsOpened asked kek octets (Ok c)
-opened_key asked kek octets plain front c are wraps same read = record { plain = Some plain; says = read.says; unwrapped = (are_octets kek are, subst (λ (x : List ℕ). Wraps kek x octets) (sym same) wraps); reads = reads_plain plain read.says read.reads; is = (wrapped_said asked plain read.says ∙ read.is.0, read.is.1) }
-
-pub opened_fault : (asked : Option Akm) (kek octets plain front : List ℕ) (f : KeyDataFault) → ((k : ℕ) → get_or kek k 0 < 256) → Wraps kek front octets → plain ≡ front → IsPlain asked plain (Err f) → IsOpened asked kek octets (Err (reason.KeyData f))
-opened_fault asked kek octets plain front f are wraps same read = record { plain = Some plain; says = read.says; unwrapped = (are_octets kek are, subst (λ (x : List ℕ). Wraps kek x octets) (sym same) wraps); reads = reads_plain plain read.says read.reads; is = wrapped_said asked plain read.says ∙ read.is }
+pub opened_fault : (asked : Option Base) (kek octets plain front : List ℕ) (f : KeyDataFault) → ((k : ℕ) → get_or kek k 0 < 256) → Wraps kek front octets → plain ≡ front → IsPlain asked plain (Err f) → IsOpened asked kek octets (Err (reason.KeyData f))
+opened_fault asked kek octets plain front f are wraps same read = record { plain = Some plain; says = read.says; unwrapped = (are_octets kek are, subst (λ (x : List ℕ). Wraps kek x octets) (sym same) wraps); reads = reads_plain plain read.says read.reads; is = read.is }
 
 -- ---- before it
 
@@ -128,17 +145,17 @@ nonce_other u f octets v none high other =
 pub same_octets : (a b : List ℕ) → a ≡ b → bytes_eq a b ≡ true
 same_octets a b same = (bytes_eq-Decides a b).1 same
 
-pub mic_other : (u : Under) (f : KeyFields) (octets : List ℕ) (v : Option (List ℕ)) → v ≡ None → IsAbove u.kept f.counter → f.nonce ≡ u.key.anonce → (f.mic ≡ mic u.akm u.key.ptk.kck octets → ⊥) → IsM3 u f octets (Err reason.Mic) v
+pub mic_other : (u : Under) (f : KeyFields) (octets : List ℕ) (v : Option (List ℕ)) → v ≡ None → IsAbove u.kept f.counter → f.nonce ≡ u.key.anonce → (f.mic ≡ mic u.base.akm u.key.ptk.kck octets → ⊥) → IsM3 u f octets (Err reason.Mic) v
 mic_other u f octets v none high same other =
     let alike = same_octets f.nonce u.key.anonce same in
-    let unlike = not_same f.mic (mic u.akm u.key.ptk.kck octets) other in
+    let unlike = not_same f.mic (mic u.base.akm u.key.ptk.kck octets) other in
     before u f octets reason.Mic v none (λ o. high_counter u.kept f.counter high _ ∙ rw (alike, unlike) refl)
 
-pub is_verified : (u : Under) (f : KeyFields) (octets : List ℕ) (r : Result CarriedKey Reason) → IsAbove u.kept f.counter → f.nonce ≡ u.key.anonce → f.mic ≡ mic u.akm u.key.ptk.kck octets → IsOpened (Some u.akm) u.key.ptk.kek f.key_data r
+pub is_verified : (u : Under) (f : KeyFields) (octets : List ℕ) (r : Result CarriedKey Reason) → IsAbove u.kept f.counter → f.nonce ≡ u.key.anonce → f.mic ≡ mic u.base.akm u.key.ptk.kck octets → IsOpened (Some u.base) u.key.ptk.kek f.key_data r
     → IsM3 u f octets r (Some u.key.ptk.kck)
 is_verified u f octets r high same verifies opened =
     let alike = same_octets f.nonce u.key.anonce same in
-    let right = same_octets f.mic (mic u.akm u.key.ptk.kck octets) verifies in
+    let right = same_octets f.mic (mic u.base.akm u.key.ptk.kck octets) verifies in
     (refl, record { comes = λ o. (high_counter u.kept f.counter high _ ∙ rw (alike, right) refl); opened = opened })
 
 -- ---- by what was told

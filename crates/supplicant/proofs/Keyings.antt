@@ -2,7 +2,6 @@
 use Rattle.std.proofs.Common.{◌≡◌, ℕ, ◌+◌, ◌<◌, Bool, true, false, cond, List, Option, Some, None, refl, sym, ap, subst, ◌∙◌}
 use Rattle.std.specs.Prelude.{is_some, nat_lt, Result}
 use Rattle.std.proofs.lemmas.Bool.{ltb-true}
-use Rattle.domain_base.specs.declared.names.Akm.{Akm}
 use Rattle.domain_base.specs.declared.names.Node.{Node}
 use Rattle.domain_base.specs.declared.names.Node.TheVariants.{Sta}
 use Rattle.eapol_key.specs.KeyFrame.{KeyFields}
@@ -21,44 +20,53 @@ use Rattle.domain_rules.specs.Replies.{IsMessageFrom, key_by}
 use Rattle.domain_rules.specs.Asking.{by_connect, kept_counter}
 use Rattle.domain_rules.specs.StationKeys.{session_keying, m3_keying, m3_verdict, taken_in}
 use Rattle.domain_rules.specs.Verdict.{first_verdict, key_verdict}
-use Rattle.domain_rules.specs.Network.{root}
+use Rattle.domain_rules.specs.Network.{root_at}
+use Rattle.key_hierarchy.specs.declared.inputs.Ptk.{Ptk}
+use Rattle.supplicant.specs.declared.base.Base.{Base}
+use Rattle.supplicant.specs.declared.session.Session.TheVariants.{Connect, Ft}
 use Rattle.domain_rules.proofs.Parts.{since_part}
 use Rattle.supplicant.specs.declared.attempt.Attempt.{Attempt}
 use Rattle.supplicant.specs.declared.session.Session.{Session}
 use Rattle.supplicant.specs.declared.key_data.CarriedKey.{CarriedKey}
-use Rattle.supplicant.specs.Stands.{HasAttempt, HasSession, IsUnderWay, IsHeld}
+use Rattle.supplicant.specs.Stands.{HasAttempt, HasSession, IsUnderWay, IsHeld, IsTransferred, IsBased}
 use Rattle.supplicant.specs.M3.{under, before_key_data, IsVerified, IsRefusedBefore}
 
 -- ---- the key that there is
 
--- it is that key, and the counter of its chain is the kept one
-pub record IsKeying (d : Domain) (n p : Node) (h : List Act) (y : Keyed) (kept : Option ℕ) : Type 0 where
-  pub is : m3_keying p h ≡ Some (record { key = key_by d (root d) n p y; is_session = is_some kept })
+-- it is that key, with the base of its association, and the counter of its chain is the kept one
+pub record IsKeying (d : Domain) (n p : Node) (b : Base) (h : List Act) (y : Keyed) (kept : Option ℕ) : Type 0 where
+  pub is : m3_keying p h ≡ Some (record { key = key_by d (root_at d b.r0kh_id) n p y; is_session = is_some kept })
+  pub based : IsBased d n p b (since p h)
   pub keeps : kept_counter p (chain p h) ≡ kept
 
 -- it is that one, if any
-abbrev pub IsKeyingAt : Domain → Node → Node → List Act → Option Keyed → Option ℕ → Type 0
-IsKeyingAt d n p h None kept = m3_keying p h ≡ None
-IsKeyingAt d n p h (Some y) kept = IsKeying d n p h y kept
+abbrev pub IsKeyingAt : Domain → Node → Node → Base → List Act → Option Keyed → Option ℕ → Type 0
+IsKeyingAt d n p b h None kept = m3_keying p h ≡ None
+IsKeyingAt d n p b h (Some y) kept = IsKeying d n p b h y kept
 
-in_attempt : (d : Domain) (n p : Node) (v : List ℕ) (key : Option Keyed) (h : List Act) → IsUnderWay d n p v key h → IsKeyingAt d n p h key None
-in_attempt d n p v None h u = rw (u.is, u.begun, u.asked) refl
-in_attempt d n p v (Some y) h u = record { is = rw (u.is, u.begun, u.asked, u.keyed) refl; keeps = ap (kept_counter p) (since_part p h u.part u.is) ∙ u.keeps }
+in_attempt : (d : Domain) (n p : Node) (b : Base) (v : List ℕ) (key : Option Keyed) (h : List Act) → IsUnderWay d n p b v key h → IsKeyingAt d n p b h key None
+in_attempt d n p b v None h u = rw (u.is, u.begun, u.asked) refl
+in_attempt d n p b v (Some y) h u = record {
+  is = rw (u.is, u.begun, u.asked, u.keyed) refl;
+  based = subst (IsBased d n p b) (sym (since_part p h u.part u.is)) u.based;
+  keeps = ap (kept_counter p) (since_part p h u.part u.is) ∙ u.keeps;
+}
 
 -- in an attempt its own
-pub attempt_keying : (d : Domain) (n p : Node) (o : Option Attempt) (a : Attempt) (h : List Act) → o ≡ Some a → HasAttempt d n p o h → IsKeyingAt d n p h a.key None
-attempt_keying d n p o a h is st = in_attempt d n p a.snonce a.key h (subst (λ (x : Option Attempt). HasAttempt d n p x h) is st)
+pub attempt_keying : (d : Domain) (n p : Node) (b : Base) (o : Option Attempt) (a : Attempt) (h : List Act) → o ≡ Some a → HasAttempt d n p b o h → IsKeyingAt d n p b h a.key None
+attempt_keying d n p b o a h is st = in_attempt d n p b a.snonce a.key h (subst (λ (x : Option Attempt). HasAttempt d n p b x h) is st)
 
-no_attempt : (d : Domain) (n p : Node) (o : Option Attempt) (h : List Act) → o ≡ None → HasAttempt d n p o h → attempt p h ≡ None
-no_attempt d n p o h none st = subst (λ (x : Option Attempt). HasAttempt d n p x h) none st
+no_attempt : (d : Domain) (n p : Node) (b : Base) (o : Option Attempt) (h : List Act) → o ≡ None → HasAttempt d n p b o h → attempt p h ≡ None
+no_attempt d n p b o h none st = subst (λ (x : Option Attempt). HasAttempt d n p b x h) none st
 
 -- else that of the session
-in_session : (d : Domain) (n p : Node) (y : Keyed) (counter : ℕ) (h : List Act) → attempt p h ≡ None → IsHeld d n p y counter h → IsKeying d n p h y (Some counter)
-in_session d n p y counter h none l = record { is = rw (none, l.begun, l.is) refl; keeps = l.keeps }
+in_session : (d : Domain) (n p : Node) (b : Base) (y : Keyed) (counter : ℕ) (h : List Act) → attempt p h ≡ None → IsHeld d n p b y counter h → IsKeying d n p b h y (Some counter)
+in_session d n p b y counter h none l = record { is = rw (none, l.begun, l.is) refl; based = l.based; keeps = l.keeps }
 
-pub session_keying_is : (d : Domain) (n p : Node) (o : Option Attempt) (s : Option Session) (x : Session) (h : List Act) → o ≡ None → s ≡ Some x → HasAttempt d n p o h → HasSession d n p s h → IsKeying d n p h x.key (Some x.counter)
-session_keying_is d n p o s x h none is tried held =
-    in_session d n p x.key x.counter h (no_attempt d n p o h none tried) (subst (λ (z : Option Session). HasSession d n p z h) is held)
+pub session_keying_is : (d : Domain) (n p : Node) (b : Base) (o : Option Attempt) (s : Option Session) (y : Keyed) (counter : ℕ) (h : List Act) → o ≡ None → s ≡ Some (Connect y counter) → HasAttempt d n p b o h → HasSession d n p b s h
+    → IsKeying d n p b h y (Some counter)
+session_keying_is d n p b o s y counter h none is tried held =
+    in_session d n p b y counter h (no_attempt d n p b o h none tried) (subst (λ (z : Option Session). HasSession d n p b z h) is held)
 
 -- ---- or there is none
 
@@ -72,8 +80,14 @@ nowhere_keying p h none silent = rw none (no_session_key p h silent)
     no_session_key : (p : Node) (h : List Act) → session p h ≡ None → session_keying p h ≡ None
     no_session_key p h none = rw none (cond_none (by_connect (since p h)) _ refl)
 
-pub no_keying : (d : Domain) (n p : Node) (o : Option Attempt) (s : Option Session) (h : List Act) → o ≡ None → s ≡ None → HasAttempt d n p o h → HasSession d n p s h → m3_keying p h ≡ None
-no_keying d n p o s h none silent tried held = nowhere_keying p h (no_attempt d n p o h none tried) (subst (λ (z : Option Session). HasSession d n p z h) silent held)
+pub no_keying : (d : Domain) (n p : Node) (b : Base) (o : Option Attempt) (s : Option Session) (h : List Act) → o ≡ None → s ≡ None → HasAttempt d n p b o h → HasSession d n p b s h → m3_keying p h ≡ None
+no_keying d n p b o s h none silent tried held = nowhere_keying p h (no_attempt d n p b o h none tried) (subst (λ (z : Option Session). HasSession d n p b z h) silent held)
+
+-- nor is there one in a session of a fast transition
+pub transferred_keying : (d : Domain) (n p : Node) (b : Base) (o : Option Attempt) (s : Option Session) (q : Ptk) (counter : Option ℕ) (h : List Act) → o ≡ None → s ≡ Some (Ft q counter) → HasAttempt d n p b o h → HasSession d n p b s h → m3_keying p h ≡ None
+transferred_keying d n p b o s q counter h none is tried held =
+    let l : IsTransferred p q counter h = subst (λ (z : Option Session). HasSession d n p b z h) is held in
+    rw (no_attempt d n p b o h none tried, l.begun) refl
 
 -- ---- what comes of M3
 
@@ -87,26 +101,22 @@ m3_none d p h k none = rw none refl
 abbrev pub taken_by : Option ℕ → Outcome
 taken_by kept = taken_in (is_some kept)
 
-pub m3_under : (d : Domain) (sta : ℕ) (p : Node) (h : List Act) (k : KeyMessage) (y : Keyed) (kept : Option ℕ) → IsKeying d (Sta sta) p h y kept → m3_verdict d h p k ≡ before_key_data (under d.akm y kept) k.fields k.octets (taken_by kept)
-m3_under d sta p h k y kept x = rw (x.is, x.keeps) refl
+pub m3_under : (d : Domain) (sta : ℕ) (p : Node) (b : Base) (h : List Act) (k : KeyMessage) (y : Keyed) (kept : Option ℕ) → IsKeying d (Sta sta) p b h y kept → m3_verdict d h p k ≡ before_key_data (under b y kept) k.fields k.octets (taken_by kept)
+m3_under d sta p b h k y kept x = rw (x.is, x.keeps, x.based.of.akm) refl
 
 -- as the frame was judged, so is its message
-pub refused_as : (akm other : Akm) (y : Keyed) (kept : Option ℕ) (f : KeyFields) (octets : List ℕ) (k : KeyMessage) (r : Result CarriedKey Reason) → akm ≡ other → k.fields ≡ f → k.octets ≡ octets → IsRefusedBefore (under akm y kept) f octets r → IsRefusedBefore (under other y kept) k.fields k.octets r
-refused_as akm other y kept f octets k r suite fields are is =
-    subst (λ (a : Akm). IsRefusedBefore (under a y kept) k.fields k.octets r) suite
-    (subst (λ (g : KeyFields). IsRefusedBefore (under akm y kept) g k.octets r) (sym fields)
-    (subst (λ (o : List ℕ). IsRefusedBefore (under akm y kept) f o r) (sym are) is))
+pub refused_as : (b : Base) (y : Keyed) (kept : Option ℕ) (f : KeyFields) (octets : List ℕ) (k : KeyMessage) (r : Result CarriedKey Reason) → k.fields ≡ f → k.octets ≡ octets → IsRefusedBefore (under b y kept) f octets r → IsRefusedBefore (under b y kept) k.fields k.octets r
+refused_as b y kept f octets k r fields are is =
+    subst (λ (g : KeyFields). IsRefusedBefore (under b y kept) g k.octets r) (sym fields) (subst (λ (o : List ℕ). IsRefusedBefore (under b y kept) f o r) (sym are) is)
 
-pub verified_as : (akm other : Akm) (y : Keyed) (kept : Option ℕ) (f : KeyFields) (octets : List ℕ) (k : KeyMessage) (r : Result CarriedKey Reason) → akm ≡ other → k.fields ≡ f → k.octets ≡ octets → IsVerified (under akm y kept) f octets r → IsVerified (under other y kept) k.fields k.octets r
-verified_as akm other y kept f octets k r suite fields are is =
-    subst (λ (a : Akm). IsVerified (under a y kept) k.fields k.octets r) suite
-    (subst (λ (g : KeyFields). IsVerified (under akm y kept) g k.octets r) (sym fields)
-    (subst (λ (o : List ℕ). IsVerified (under akm y kept) f o r) (sym are) is))
+pub verified_as : (b : Base) (y : Keyed) (kept : Option ℕ) (f : KeyFields) (octets : List ℕ) (k : KeyMessage) (r : Result CarriedKey Reason) → k.fields ≡ f → k.octets ≡ octets → IsVerified (under b y kept) f octets r → IsVerified (under b y kept) k.fields k.octets r
+verified_as b y kept f octets k r fields are is =
+    subst (λ (g : KeyFields). IsVerified (under b y kept) g k.octets r) (sym fields) (subst (λ (o : List ℕ). IsVerified (under b y kept) f o r) (sym are) is)
 
 pub high_by : (kept counter : ℕ) (o : Outcome) (b : Bool) → nat_lt kept counter ≡ b → (cond b o (Refused (reason.Counter kept)) ≡ Accepted) → kept < counter
 high_by kept counter o true is e = ltb-true kept counter is
 high_by kept counter o false is e = cc
 
 -- an M3 that comes so far has a counter above the kept one
-pub counter_high : (akm : Akm) (y : Keyed) (kept : ℕ) (f : KeyFields) (octets : List ℕ) → ((o : Outcome) → before_key_data (under akm y (Some kept)) f octets o ≡ o) → kept < f.counter
-counter_high akm y kept f octets comes = high_by kept f.counter _ (nat_lt kept f.counter) refl (comes Accepted)
+pub counter_high : (b : Base) (y : Keyed) (kept : ℕ) (f : KeyFields) (octets : List ℕ) → ((o : Outcome) → before_key_data (under b y (Some kept)) f octets o ≡ o) → kept < f.counter
+counter_high b y kept f octets comes = high_by kept f.counter _ (nat_lt kept f.counter) refl (comes Accepted)

@@ -10,3 +10,4 @@ pub mod GroupIds
 pub mod TakenM3
 pub mod TakenG1
 pub mod OwnKeys
+pub mod Basing

@@ -3,8 +3,6 @@ use Rattle.std.proofs.Common.{◌≡◌, ℕ, List, ◌∷◌, Option, Some, Non
 use Rattle.domain_base.specs.declared.names.Node.{Node}
 use Rattle.domain_base.specs.declared.names.Peer.TheVariants.{One}
 use Rattle.eapol_key.specs.declared.messages.Message.TheVariants.{M1, M3}
-use Rattle.key_hierarchy.specs.declared.inputs.Inputs.{Inputs}
-use Rattle.key_hierarchy.specs.declared.inputs.Ptk.{Ptk}
 use Rattle.run_journal.specs.declared.domain.Domain.{Domain}
 use Rattle.run_journal.specs.declared.acts.Kind.{Kind}
 use Rattle.run_journal.specs.declared.acts.Kind.TheVariants as kind
@@ -34,10 +32,10 @@ pub remembers_took : (p q : Node) (octets : List ℕ) (k : Kind) (o : Outcome) (
 remembers_took p q octets k o s ks h r = stands p (Took (Some q) octets k o s) ks h r refl (λ key id. refl)
 
 -- M1 was accepted
-pub remembers_replied : (d : Domain) (n p : Node) (octets : List ℕ) (i : Inputs) (q : Ptk) (counter : ℕ) (ks : List Kept) (h : List Act) → Remembers p ks h → Remembers p ks (add (replying_acts d n p octets i q counter) h)
-remembers_replied d n p octets i q counter ks h r =
+pub remembers_replied : (d : Domain) (n p : Node) (octets : List ℕ) (x : Derivation) (counter : ℕ) (fte : List ℕ) (ks : List Kept) (h : List Act) → Remembers p ks h → Remembers p ks (add (replying_acts d n p octets x counter fte) h)
+remembers_replied d n p octets x counter fte ks h r =
     let took : Act = Took (Some p) octets (kind.Key M1) Accepted None in
-    stands p (sent_m2 d n p (record { inputs = i; ptk = q }) counter) ks (Derived p i q ∷ took ∷ h) (stands p (Derived p i q) ks (took ∷ h) (remembers_took p p octets (kind.Key M1) Accepted None ks h r) refl (λ key id. refl)) refl (λ key id. refl)
+    stands p (sent_m2 d n p x counter fte) ks (Derived p x.inputs x.ptk ∷ took ∷ h) (stands p (Derived p x.inputs x.ptk) ks (took ∷ h) (remembers_took p p octets (kind.Key M1) Accepted None ks h r) refl (λ key id. refl)) refl (λ key id. refl)
 
 -- M3 was answered once more
 pub remembers_answered : (d : Domain) (n p : Node) (octets : List ℕ) (s : Seal) (x : Derivation) (counter : ℕ) (ks : List Kept) (h : List Act) → Remembers p ks h → Remembers p ks (add (answering_acts d n p octets s x counter) h)

@@ -14,16 +14,17 @@ use Rattle.run_journal.specs.declared.acts.Act.{Act}
 use Rattle.run_journal.specs.declared.acts.Act.TheVariants.{Took, Installed, Finished}
 use Rattle.run_journal.specs.declared.reply.Keyed.{Keyed}
 use Rattle.run_journal.specs.Acts.{Derivation, GroupKey}
-use Rattle.run_journal.specs.Questions.{attempt, since, derivation, session, add}
+use Rattle.run_journal.specs.Questions.{attempt, since, heard, derivation, session, add}
 use Rattle.domain_rules.specs.Frames.{sent_m4}
 use Rattle.domain_rules.specs.Replies.{key_by}
 use Rattle.domain_rules.specs.Asking.{by_connect, kept_counter, replay_counter, at_least}
 use Rattle.domain_rules.specs.GroupKeys.{give_by}
 use Rattle.domain_rules.proofs.Parts.{since_part, IsApart, same-refl, attempt_none, attempt_some, by_connect_more}
 use Rattle.run_journal.specs.GroupKinds as groups
-use Rattle.domain_rules.specs.Network.{root}
+use Rattle.domain_rules.specs.Network.{root_at}
+use Rattle.supplicant.specs.declared.base.Base.{Base}
 use Rattle.supplicant.specs.Stands.{IsUnderWay, IsHeld}
-use Rattle.supplicant.proofs.Standing.{some_part, derivation_part, at_least-greater}
+use Rattle.supplicant.proofs.Standing.{some_part, based_on, derivation_part, at_least-greater}
 
 -- ---- M3 accepted
 
@@ -47,14 +48,19 @@ counter_there : (d : Domain) (n p : Node) (octets : List ℕ) (s : Seal) (x : De
     → kept_counter p (sent_m4 d n p x counter ∷ Finished p x.inputs ∷ g ∷ Installed (One p) (Pairwise x.ptk.tk x.inputs) ∷ Took (Some p) octets (kind.Key M3) Accepted (Some s) ∷ part) ≡ at_least (replay_counter octets) (kept_counter p part)
 counter_there d n p octets s x g counter part apart = rw (apart.replies_none (kind.Key M3), apart.replies_none (kind.Key G1), same-refl p) refl
 
-pub held_finished : (d : Domain) (sta a : ℕ) (v octets : List ℕ) (s : Seal) (y : Keyed) (g : Act) (counter : ℕ) (h : List Act) → IsUnderWay d (Sta sta) (Ap a) v (Some y) h → IsApart (Ap a) g → replay_counter octets ≡ counter
-    → IsHeld d (Sta sta) (Ap a) y counter (add (finishing_acts d (Sta sta) (Ap a) octets s (key_by d (root d) (Sta sta) (Ap a) y) g counter) h)
-held_finished d sta a v octets s y g counter h u apart is =
-    let x : Derivation = key_by d (root d) (Sta sta) (Ap a) y in
+heard_there : (d : Domain) (n p : Node) (octets : List ℕ) (s : Seal) (x : Derivation) (g : Act) (counter : ℕ) (part : List Act) → IsApart p g
+    → heard p kind.AssocResp (sent_m4 d n p x counter ∷ Finished p x.inputs ∷ g ∷ Installed (One p) (Pairwise x.ptk.tk x.inputs) ∷ Took (Some p) octets (kind.Key M3) Accepted (Some s) ∷ part) ≡ heard p kind.AssocResp part
+heard_there d n p octets s x g counter part apart = rw (apart.accepts_none kind.AssocResp, same-refl p) refl
+
+pub held_finished : (d : Domain) (sta a : ℕ) (b : Base) (v octets : List ℕ) (s : Seal) (y : Keyed) (g : Act) (counter : ℕ) (h : List Act) → IsUnderWay d (Sta sta) (Ap a) b v (Some y) h → IsApart (Ap a) g → replay_counter octets ≡ counter
+    → IsHeld d (Sta sta) (Ap a) b y counter (add (finishing_acts d (Sta sta) (Ap a) octets s (key_by d (root_at d b.r0kh_id) (Sta sta) (Ap a) y) g counter) h)
+held_finished d sta a b v octets s y g counter h u apart is =
+    let x : Derivation = key_by d (root_at d b.r0kh_id) (Sta sta) (Ap a) y in
     let since_is = since_there d (Sta sta) (Ap a) octets s x g counter h u.part apart (since_part (Ap a) h u.part u.is) in
     record {
-      is = session_there d (Sta sta) (Ap a) octets s x g counter h apart ∙ derivation_part (Ap a) h u.part (key_by d (root d) (Sta sta) (Ap a) y) u.is u.keyed;
+      is = session_there d (Sta sta) (Ap a) octets s x g counter h apart ∙ derivation_part (Ap a) h u.part x u.is u.keyed;
       begun = ap by_connect since_is ∙ by_connect_more (Took (Some (Ap a)) octets (kind.Key M3) Accepted (Some s)) u.part (attempt_some (Ap a) h u.part u.is) ∙ u.begun;
+      based = based_on d (Sta sta) (Ap a) b u.part (since (Ap a) (add (finishing_acts d (Sta sta) (Ap a) octets s x g counter) h)) (ap (heard (Ap a) kind.AssocResp) since_is ∙ heard_there d (Sta sta) (Ap a) octets s x g counter u.part apart) u.based;
       keeps = ap (kept_counter (Ap a)) since_is ∙ counter_there d (Sta sta) (Ap a) octets s x g counter u.part apart ∙ rw (u.keeps, is) refl;
     }
 
@@ -71,13 +77,18 @@ counter_again : (d : Domain) (n p : Node) (octets : List ℕ) (s : Seal) (x : De
     → kept_counter p (since p (add (answering_acts d n p octets s x counter) h)) ≡ at_least (replay_counter octets) (kept_counter p (since p h))
 counter_again d n p octets s x counter h = rw (same-refl p) refl
 
-pub held_again : (d : Domain) (n p : Node) (octets : List ℕ) (s : Seal) (x : Derivation) (y : Keyed) (kept counter : ℕ) (h : List Act) → IsHeld d n p y kept h → replay_counter octets ≡ counter → kept < counter
-    → IsHeld d n p y counter (add (answering_acts d n p octets s x counter) h)
-held_again d n p octets s x y kept counter h l is high =
+heard_again : (d : Domain) (n p : Node) (octets : List ℕ) (s : Seal) (x : Derivation) (counter : ℕ) (h : List Act)
+    → heard p kind.AssocResp (since p (add (answering_acts d n p octets s x counter) h)) ≡ heard p kind.AssocResp (since p h)
+heard_again d n p octets s x counter h = refl
+
+pub held_again : (d : Domain) (n p : Node) (b : Base) (octets : List ℕ) (s : Seal) (x : Derivation) (y : Keyed) (kept counter : ℕ) (h : List Act) → IsHeld d n p b y kept h → replay_counter octets ≡ counter → kept < counter
+    → IsHeld d n p b y counter (add (answering_acts d n p octets s x counter) h)
+held_again d n p b octets s x y kept counter h l is high =
     let took : Act = Took (Some p) octets (kind.Key M3) Answered (Some s) in
     record {
       is = l.is;
       begun = by_connect_more took (since p h) (some_part (since p h) l.begun) ∙ l.begun;
+      based = based_on d n p b (since p h) (since p (add (answering_acts d n p octets s x counter) h)) (heard_again d n p octets s x counter h) l.based;
       keeps = counter_again d n p octets s x counter h ∙ rw (l.keeps, is) (at_least-greater kept counter high);
     }
 

@@ -1,5 +1,5 @@
 -- What acts that change nothing do to the histories that a supplicant stands for; and the parts of a history.
-use Rattle.std.proofs.Common.{◌≡◌, ℕ, ◌<◌, true, List, [], ◌∷◌, Option, Some, None, ap, subst, ◌∙◌, arith}
+use Rattle.std.proofs.Common.{◌≡◌, ℕ, ◌<◌, true, false, List, [], ◌∷◌, Option, Some, None, refl, sym, ap, subst, ◌∙◌, arith}
 use Rattle.std.specs.Prelude.{is_some}
 use Rattle.domain_base.specs.declared.names.Node.{Node}
 use Rattle.eapol_key.specs.declared.messages.Message.TheVariants.{M1, M3, G1}
@@ -13,21 +13,28 @@ use Rattle.run_journal.specs.declared.acts.Act.{Act}
 use Rattle.run_journal.specs.declared.acts.Act.TheVariants.{Took}
 use Rattle.run_journal.specs.declared.reply.Keyed.{Keyed}
 use Rattle.run_journal.specs.Acts.{Derivation}
-use Rattle.run_journal.specs.Questions.{attempt, since, derivation, or_else}
+use Rattle.run_journal.specs.Questions.{attempt, since, heard, derivation, or_else}
 use Rattle.domain_rules.specs.Asking.{by_connect, at_least}
 use Rattle.domain_rules.proofs.Parts.{Grows, Begins, Goes_on, grows, IsApart, apart-refused, IsCarried, GoesOn, goes_on, by_connect_more}
 use Rattle.supplicant.specs.declared.attempt.Attempt.{Attempt}
 use Rattle.supplicant.specs.declared.session.Session.{Session}
 use Rattle.supplicant.specs.State.{State}
-use Rattle.supplicant.specs.Stands.{SupplicantStands, HasAttempt, HasSession, IsUnderWay, IsHeld}
+use Rattle.supplicant.specs.declared.session.Session.TheVariants.{Connect, Ft}
+use Rattle.supplicant.specs.declared.base.Base.{Base}
+use Rattle.supplicant.specs.Stands.{SupplicantStands, HasAttempt, HasSession, Holds, IsUnderWay, IsHeld, IsTransferred, IsBased, Responds}
+use Rattle.key_hierarchy.specs.declared.inputs.Ptk.{Ptk}
 
 -- ---- an act that is not about the peer
+
+-- the base stands where the same association response was accepted
+pub based_on : (d : Domain) (n p : Node) (b : Base) (part more : List Act) → heard p kind.AssocResp more ≡ heard p kind.AssocResp part → IsBased d n p b part → IsBased d n p b more
+based_on d n p b part more same s = record { of = s.of; says = s.says; responds = subst (λ (o : Option (List ℕ)). Responds d.akm o s.says b) (sym same) s.responds }
 
 plainly : (p : Node) (e : Act) (h : List Act) → IsApart p e → GoesOn p h (e ∷ h)
 plainly p e h apart = goes_on p (e ∷ []) h (apart, tt)
 
-under_way_more : (d : Domain) (n p : Node) (v : List ℕ) (key : Option Keyed) (h : List Act) (e : Act) → IsApart p e → IsUnderWay d n p v key h → IsUnderWay d n p v key (e ∷ h)
-under_way_more d n p v key h e apart u =
+under_way_more : (d : Domain) (n p : Node) (b : Base) (v : List ℕ) (key : Option Keyed) (h : List Act) (e : Act) → IsApart p e → IsUnderWay d n p b v key h → IsUnderWay d n p b v key (e ∷ h)
+under_way_more d n p b v key h e apart u =
     let g : GoesOn p h (e ∷ h) = plainly p e h apart in
     let c : IsCarried p u.part (e ∷ h) = g.carries u.part u.is in
     record {
@@ -36,6 +43,7 @@ under_way_more d n p v key h e apart u =
       begun = c.begun ∙ u.begun;
       nonce = c.nonce v u.nonce;
       hears = ap is_some (c.hears kind.AssocResp) ∙ u.hears;
+      based = based_on d n p b u.part c.more (c.hears kind.AssocResp) u.based;
       keeps = rw (c.replies (kind.Key M3), c.replies (kind.Key G1)) u.keeps;
       asked = ap is_some (c.hears (kind.Key M1)) ∙ u.asked;
       keyed = c.derives ∙ u.keyed;
@@ -45,29 +53,46 @@ under_way_more d n p v key h e apart u =
 pub some_part : (part : List Act) → by_connect part ≡ true → part ≡ [] → ⊥
 some_part part begun none = cc (begun, ap by_connect none)
 
-held_more : (d : Domain) (n p : Node) (y : Keyed) (counter : ℕ) (h : List Act) (e : Act) → IsApart p e → IsHeld d n p y counter h → IsHeld d n p y counter (e ∷ h)
-held_more d n p y counter h e apart l =
+held_more : (d : Domain) (n p : Node) (b : Base) (y : Keyed) (counter : ℕ) (h : List Act) (e : Act) → IsApart p e → IsHeld d n p b y counter h → IsHeld d n p b y counter (e ∷ h)
+held_more d n p b y counter h e apart l =
     let g : GoesOn p h (e ∷ h) = plainly p e h apart in
     record {
       is = g.has ∙ l.is;
       begun = rw (apart.opens_none) (by_connect_more e (since p h) (some_part (since p h) l.begun) ∙ l.begun);
+      based = rw (apart.opens_none) (based_on d n p b (since p h) (e ∷ since p h) (rw (apart.accepts_none kind.AssocResp) refl) l.based);
       keeps = rw (apart.opens_none, apart.replies_none (kind.Key M3), apart.replies_none (kind.Key G1)) l.keeps;
     }
 
-attempt_stays : (d : Domain) (n p : Node) (a : Option Attempt) (h : List Act) (e : Act) → IsApart p e → HasAttempt d n p a h → HasAttempt d n p a (e ∷ h)
-attempt_stays d n p None h e apart none = (plainly p e h apart).none none
-attempt_stays d n p (Some a) h e apart u = under_way_more d n p a.snonce a.key h e apart u
+-- what began by fast transition goes on so
+transferred_more : (p : Node) (q : Ptk) (counter : Option ℕ) (h : List Act) (e : Act) → IsApart p e → IsTransferred p q counter h → IsTransferred p q counter (e ∷ h)
+transferred_more p q counter h e apart l =
+    let g : GoesOn p h (e ∷ h) = goes_on p (e ∷ []) h (apart, tt) in
+    record {
+      x = l.x;
+      is = g.has ∙ l.is;
+      key = l.key;
+      some = rw (apart.opens_none) (λ none. cc none);
+      begun = rw (apart.opens_none) (by_connect_more e (since p h) l.some ∙ l.begun);
+      keeps = rw (apart.opens_none, apart.replies_none (kind.Key M3), apart.replies_none (kind.Key G1)) l.keeps;
+    }
 
-session_stays : (d : Domain) (n p : Node) (x : Option Session) (h : List Act) (e : Act) → IsApart p e → HasSession d n p x h → HasSession d n p x (e ∷ h)
-session_stays d n p None h e apart none = (plainly p e h apart).has ∙ none
-session_stays d n p (Some x) h e apart l = held_more d n p x.key x.counter h e apart l
+attempt_stays : (d : Domain) (n p : Node) (b : Base) (a : Option Attempt) (h : List Act) (e : Act) → IsApart p e → HasAttempt d n p b a h → HasAttempt d n p b a (e ∷ h)
+attempt_stays d n p b None h e apart none = (plainly p e h apart).none none
+attempt_stays d n p b (Some a) h e apart u = under_way_more d n p b a.snonce a.key h e apart u
+
+holds_more : (d : Domain) (n p : Node) (b : Base) (x : Session) (h : List Act) (e : Act) → IsApart p e → Holds d n p b x h → Holds d n p b x (e ∷ h)
+holds_more d n p b (Connect key counter) h e apart l = held_more d n p b key counter h e apart l
+holds_more d n p b (Ft ptk counter) h e apart l = transferred_more p ptk counter h e apart l
+
+session_stays : (d : Domain) (n p : Node) (b : Base) (x : Option Session) (h : List Act) (e : Act) → IsApart p e → HasSession d n p b x h → HasSession d n p b x (e ∷ h)
+session_stays d n p b None h e apart none = (plainly p e h apart).has ∙ none
+session_stays d n p b (Some x) h e apart l = holds_more d n p b x h e apart l
 
 pub stands_more : (d : Domain) (n p : Node) (s : State) (h : List Act) (e : Act) → IsApart p e → SupplicantStands d n p s h → SupplicantStands d n p s (e ∷ h)
 stands_more d n p s h e apart st = record {
   ends = st.ends;
-  psk = st.psk;
-  attempt_is = attempt_stays d n p s.attempt h e apart st.attempt_is;
-  session_is = session_stays d n p s.session h e apart st.session_is;
+  attempt_is = attempt_stays d n p s.base s.attempt h e apart st.attempt_is;
+  session_is = session_stays d n p s.base s.session h e apart st.session_is;
 }
 
 -- a message of the peer was refused

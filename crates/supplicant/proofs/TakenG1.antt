@@ -2,6 +2,7 @@
 use Rattle.std.proofs.Common.{◌≡◌, ℕ, ◌+◌, ◌<◌, List, [], ◌∷◌, Option, Some, None, refl, sym, ap, subst, ◌∙◌, arith, inr}
 use Rattle.std.specs.Prelude.{nat_lt, ◌++◌, map, Result, Ok, Err}
 use Rattle.domain_base.specs.declared.names.Akm.{Akm}
+use Rattle.domain_base.specs.declared.names.Akm.TheVariants.{Psk, PskSha256, FtPsk}
 use Rattle.domain_base.specs.declared.names.Node.{Node}
 use Rattle.domain_base.specs.declared.names.Node.TheVariants.{Ap, Sta}
 use Rattle.eapol_key.specs.declared.frame.KeyFrame.{KeyFrame}
@@ -19,21 +20,21 @@ use Rattle.run_journal.specs.declared.acts.Seal.{Seal}
 use Rattle.run_journal.specs.declared.acts.Act.{Act}
 use Rattle.run_journal.specs.declared.acts.Act.TheVariants.{Took}
 use Rattle.run_journal.specs.declared.reply.Reply.{Reply}
-use Rattle.run_journal.specs.declared.reply.Keyed.{Keyed}
+use Rattle.key_hierarchy.specs.declared.inputs.Ptk.{Ptk}
 use Rattle.run_journal.specs.declared.reply.GtkNews.{GtkNews}
 use Rattle.run_journal.specs.Replies.{IsEmpty, IsWhole}
 use Rattle.run_journal.specs.Acts.{GroupKey, Derivation}
-use Rattle.run_journal.specs.Questions.{attempt, since, session, draws, all_replied, add}
+use Rattle.run_journal.specs.Questions.{attempt, since, heard, session, draws, all_replied, add}
 use Rattle.run_journal.specs.GroupKinds as groups
-use Rattle.domain_rules.specs.Network.{mac, peer_of, root}
+use Rattle.domain_rules.specs.Network.{mac, peer_of}
 use Rattle.domain_rules.specs.Frames.{sent_g2, frame_seal}
 use Rattle.domain_rules.specs.GroupKeys.{memory, give, find_key, rsc_in}
 use Rattle.domain_rules.specs.Asking.{by_connect, kept_counter, replay_counter, at_least, greatest}
 use Rattle.domain_rules.specs.Reading.{KeyMessage, Keyed as KeyedReading}
-use Rattle.domain_rules.specs.Replies.{key_by, IsMessageFrom}
+use Rattle.domain_rules.specs.Replies.{IsMessageFrom}
 use Rattle.domain_rules.specs.Facts.{Facts}
 use Rattle.domain_rules.specs.StationKeys.{KnowsM3, g1_verdict, g1_wrapped}
-use Rattle.domain_rules.specs.Verdict.{Knows, KnowsOf, and_then, first_verdict, key_verdict, verdict}
+use Rattle.domain_rules.specs.Verdict.{Knows, KnowsOf, KnowsResponse, and_then, first_verdict, key_verdict, verdict}
 use Rattle.domain_rules.specs.Rows.{TakeRow, seal_in, message_seal, refused_seal, By_g1, By_refusal}
 use Rattle.domain_rules.specs.Closing.{sender}
 use Rattle.domain_rules.specs.Here.{here}
@@ -47,20 +48,24 @@ use Rattle.supplicant.specs.declared.attempt.Attempt.{Attempt}
 use Rattle.supplicant.specs.declared.session.Session.{Session}
 use Rattle.supplicant.specs.declared.key_data.CarriedKey.{CarriedKey}
 use Rattle.supplicant.specs.State.{State, having, both}
-use Rattle.supplicant.specs.Stands.{SupplicantStands, HasAttempt, HasSession, IsHeld}
-use Rattle.supplicant.specs.KeyData.{packet_number_of, group_key, news_of}
-use Rattle.supplicant.specs.M3.{under}
-use Rattle.supplicant.specs.G1.{before_g1_key_data, IsVerifiedG1, IsG1RefusedBefore, IsG1}
+use Rattle.supplicant.specs.declared.base.Base.{Base}
+use Rattle.supplicant.specs.declared.session.Session.TheVariants.{Connect, Ft}
+use Rattle.supplicant.specs.Held.{ptk_of, kept_of, counted}
+use Rattle.supplicant.specs.Stands.{SupplicantStands, HasAttempt, HasSession, Holds, IsHeld, IsTransferred}
+use Rattle.supplicant.specs.KeyData.{packet_number_of, group_key, news_of, wrapped_by}
+use Rattle.domain_rules.specs.StationRows.{carried}
+use Rattle.rsn_elements.specs.Elements.{ElementFields}
+use Rattle.supplicant.specs.G1.{under_g1, before_g1_key_data, IsVerifiedG1, IsG1RefusedBefore, IsG1}
 use Rattle.supplicant.specs.Told.{IsSilent, verifies, renews}
 use Rattle.supplicant.specs.Exchange.{Renews, IsG1Refusal}
 use Rattle.supplicant.specs.Taken.{IsTaken, HaveGroupIds}
 use Rattle.supplicant.proofs.GroupIds.{carried_id, ids_given}
 use Rattle.supplicant.proofs.Telling.{steps_by, tells_silent, empty_silent, whole_silent}
-use Rattle.supplicant.proofs.Standing.{some_part, at_least-greater, stands_refused}
+use Rattle.supplicant.proofs.Standing.{some_part, based_on, at_least-greater, stands_refused}
 use Rattle.supplicant.proofs.Remembering.{remembers_took}
 use Rattle.supplicant.proofs.Sessions.{apart_give}
 use Rattle.supplicant.proofs.Keyings.{high_by}
-use Rattle.supplicant.proofs.G1Read.{g1_under}
+use Rattle.supplicant.proofs.G1Read.{IsSessionOf, session_of, g1_under}
 use Rattle.supplicant.proofs.TakenM1.{taken_refused}
 use Rattle.supplicant.proofs.TakenM3.{facts_of, knows_opened, news_act, group_act}
 
@@ -75,93 +80,113 @@ g1_none d h p k none = rw none refl
 pub g1_unawaited : (f : KeyFrame) (s : State) (ks : List Kept) (r : Reply) → IsEmpty r → s.session ≡ None → IsTaken G1 f (both s ks) (both s ks) (Refused reason.Unawaited) r
 g1_unawaited f s ks r empty none = taken_refused G1 f s ks reason.Unawaited r (empty_silent r empty) empty.verified
     (λ d first sta a octets k h st from is fields are. g1_is d first sta (Ap a) octets k h from is
-    ∙ g1_none d h (Ap a) k (subst (λ (x : Option Session). HasSession d (Sta sta) (Ap a) x h) none st.session_is))
+    ∙ g1_none d h (Ap a) k (subst (λ (x : Option Session). HasSession d (Sta sta) (Ap a) s.base x h) none st.session_is))
 
-held_there : (d : Domain) (n p : Node) (s : State) (x : Session) (h : List Act) → s.session ≡ Some x → SupplicantStands d n p s h → IsHeld d n p x.key x.counter h
-held_there d n p s x h is st = subst (λ (z : Option Session). HasSession d n p z h) is st.session_is
+held_there : (d : Domain) (n p : Node) (s : State) (x : Session) (h : List Act) → s.session ≡ Some x → SupplicantStands d n p s h → Holds d n p s.base x h
+held_there d n p s x h is st = subst (λ (z : Option Session). HasSession d n p s.base z h) is st.session_is
+
+there_is : (d : Domain) (n p : Node) (s : State) (x : Session) (h : List Act) → s.session ≡ Some x → SupplicantStands d n p s h → IsSessionOf p (ptk_of x) (kept_of x) h
+there_is d n p s x h is st = session_of d n p s.base x h (held_there d n p s x h is st)
 
 -- as the frame was judged, so is its message
-refused_as : (akm other : Akm) (y : Keyed) (kept : Option ℕ) (f : KeyFields) (octets : List ℕ) (k : KeyMessage) (r : Result CarriedKey Reason) → akm ≡ other → k.fields ≡ f → k.octets ≡ octets → IsG1RefusedBefore (under akm y kept) f octets r → IsG1RefusedBefore (under other y kept) k.fields k.octets r
-refused_as akm other y kept f octets k r suite fields are is =
-    subst (λ (a : Akm). IsG1RefusedBefore (under a y kept) k.fields k.octets r) suite
-    (subst (λ (g : KeyFields). IsG1RefusedBefore (under akm y kept) g k.octets r) (sym fields)
-    (subst (λ (o : List ℕ). IsG1RefusedBefore (under akm y kept) f o r) (sym are) is))
+refused_as : (akm other : Akm) (q : Ptk) (kept : Option ℕ) (f : KeyFields) (octets : List ℕ) (k : KeyMessage) (r : Result CarriedKey Reason) → akm ≡ other → k.fields ≡ f → k.octets ≡ octets → IsG1RefusedBefore (under_g1 akm q kept) f octets r → IsG1RefusedBefore (under_g1 other q kept) k.fields k.octets r
+refused_as akm other q kept f octets k r suite fields are is =
+    subst (λ (a : Akm). IsG1RefusedBefore (under_g1 a q kept) k.fields k.octets r) suite
+    (subst (λ (g : KeyFields). IsG1RefusedBefore (under_g1 akm q kept) g k.octets r) (sym fields)
+    (subst (λ (o : List ℕ). IsG1RefusedBefore (under_g1 akm q kept) f o r) (sym are) is))
 
-verified_as : (akm other : Akm) (y : Keyed) (kept : Option ℕ) (f : KeyFields) (octets : List ℕ) (k : KeyMessage) (r : Result CarriedKey Reason) → akm ≡ other → k.fields ≡ f → k.octets ≡ octets → IsVerifiedG1 (under akm y kept) f octets r → IsVerifiedG1 (under other y kept) k.fields k.octets r
-verified_as akm other y kept f octets k r suite fields are is =
-    subst (λ (a : Akm). IsVerifiedG1 (under a y kept) k.fields k.octets r) suite
-    (subst (λ (g : KeyFields). IsVerifiedG1 (under akm y kept) g k.octets r) (sym fields)
-    (subst (λ (o : List ℕ). IsVerifiedG1 (under akm y kept) f o r) (sym are) is))
+verified_as : (akm other : Akm) (q : Ptk) (kept : Option ℕ) (f : KeyFields) (octets : List ℕ) (k : KeyMessage) (r : Result CarriedKey Reason) → akm ≡ other → k.fields ≡ f → k.octets ≡ octets → IsVerifiedG1 (under_g1 akm q kept) f octets r → IsVerifiedG1 (under_g1 other q kept) k.fields k.octets r
+verified_as akm other q kept f octets k r suite fields are is =
+    subst (λ (a : Akm). IsVerifiedG1 (under_g1 a q kept) k.fields k.octets r) suite
+    (subst (λ (g : KeyFields). IsVerifiedG1 (under_g1 akm q kept) g k.octets r) (sym fields)
+    (subst (λ (o : List ℕ). IsVerifiedG1 (under_g1 akm q kept) f o r) (sym are) is))
 
 g1_refused : (f : KeyFrame) (s : State) (ks : List Kept) (x : Session) (why : Reason) (r : Reply) → s.session ≡ Some x → IsSilent r → r.verified ≡ None
-    → IsG1RefusedBefore (under s.ends.akm x.key (Some x.counter)) (fields_of f) f.octets.now (Err why) → IsTaken G1 f (both s ks) (both s ks) (Refused why) r
+    → IsG1RefusedBefore (under_g1 s.ends.akm (ptk_of x) (kept_of x)) (fields_of f) f.octets.now (Err why) → IsTaken G1 f (both s ks) (both s ks) (Refused why) r
 g1_refused f s ks x why r has silent plain judged = taken_refused G1 f s ks why r silent plain
     (λ d first sta a octets k h st from is fields are.
-    (let j : (o : Outcome) → before_g1_key_data (under d.akm x.key (Some x.counter)) k.fields k.octets o ≡ Refused why = refused_as s.ends.akm d.akm x.key (Some x.counter) (fields_of f) f.octets.now k (Err why) st.ends.akm fields are judged in
-    g1_is d first sta (Ap a) octets k h from is ∙ g1_under d (Sta sta) (Ap a) h k x.key x.counter (held_there d (Sta sta) (Ap a) s x h has st) ∙ j Accepted))
+    (let q = ptk_of x in
+    let kept = kept_of x in
+    let j : (o : Outcome) → before_g1_key_data (under_g1 d.akm q kept) k.fields k.octets o ≡ Refused why = refused_as s.ends.akm d.akm q kept (fields_of f) f.octets.now k (Err why) st.ends.akm fields are judged in
+    g1_is d first sta (Ap a) octets k h from is ∙ g1_under d (Ap a) h k q kept (there_is d (Sta sta) (Ap a) s x h has st) ∙ j Accepted))
 
 -- ---- what is known where its MIC verified
 
-knows_x : (d : Domain) (n p : Node) (h : List Act) (k : KeyMessage) (y : Keyed) (kept : ℕ) (facts : Facts) → IsHeld d n p y kept h → KnowsM3 y.ptk.kek k facts → (z : Derivation) → session p h ≡ Some z → KnowsM3 z.ptk.kek k facts
-knows_x d n p h k y kept facts held knows z is =
-    let same : key_by d (root d) n p y ≡ z = (let both = sym held.is ∙ is in cc) in
-    subst (λ (w : Derivation). KnowsM3 w.ptk.kek k facts) same knows
+knows_x : (p : Node) (h : List Act) (k : KeyMessage) (q : Ptk) (kept : Option ℕ) (facts : Facts) → IsSessionOf p q kept h → KnowsM3 q.kek k facts → (z : Derivation) → session p h ≡ Some z → KnowsM3 z.ptk.kek k facts
+knows_x p h k q kept facts l knows z is =
+    let same : l.x ≡ z = (let both = sym l.is ∙ is in cc) in
+    subst (λ (w : Ptk). KnowsM3 w.kek k facts) (sym l.key ∙ ap (λ (w : Derivation). w.ptk) same) knows
 
-knows_g1 : (d : Domain) (first sta : ℕ) (h : List Act) (p : Node) (octets : List ℕ) (k : KeyMessage) (y : Keyed) (kept : ℕ) (facts : Facts) → IsMessageFrom d (Sta sta) p octets k → k.message ≡ G1 → IsHeld d (Sta sta) p y kept h → KnowsM3 y.ptk.kek k facts
+-- G1 is not taken by the association response
+no_response_g1 : (akm : Akm) (h : List Act) (p : Node) (facts : Facts) → KnowsResponse akm h p G1 facts
+no_response_g1 Psk h p facts = tt
+no_response_g1 PskSha256 h p facts = tt
+no_response_g1 FtPsk h p facts = tt
+
+knows_g1 : (d : Domain) (first sta : ℕ) (h : List Act) (p : Node) (octets : List ℕ) (k : KeyMessage) (q : Ptk) (kept : Option ℕ) (facts : Facts) → IsMessageFrom d (Sta sta) p octets k → k.message ≡ G1 → IsSessionOf p q kept h → KnowsM3 q.kek k facts
     → Knows d first (Sta sta) h (KeyedReading k) facts
-knows_g1 d first sta h p octets k y kept facts from is held knows = λ so q peer.
+knows_g1 d first sta h p octets k q kept facts from is l knows = λ so other peer.
     (let mine : peer_of d (Sta sta) k.header.a2 ≡ Some p = from.from in
-    let same : p ≡ q = (let both = sym mine ∙ peer in cc) in
-    subst (λ (m : Message). KnowsOf d.akm h q m k facts) (sym is) (subst (λ (z : Node). (w : Derivation) → session z h ≡ Some w → KnowsM3 w.ptk.kek k facts) same (knows_x d (Sta sta) p h k y kept facts held knows)))
+    let same : p ≡ other = (let both = sym mine ∙ peer in cc) in (
+      subst (λ (m : Message). KnowsOf d.akm h other m k facts) (sym is) (subst (λ (z : Node). (w : Derivation) → session z h ≡ Some w → KnowsM3 w.ptk.kek k facts) same (knows_x p h k q kept facts l knows)),
+      subst (λ (m : Message). KnowsResponse d.akm h other m facts) (sym is) (no_response_g1 d.akm h other facts),
+    ))
 
-verdict_g1 : (d : Domain) (first : ℕ) (n : Node) (h : List Act) (k : KeyMessage) (facts : Facts) (o w : Outcome) → k.message ≡ G1 → first_verdict d first n h (KeyedReading k) ≡ o → g1_wrapped facts.unwrapped facts.data_ ≡ w
+verdict_g1 : (d : Domain) (first : ℕ) (n p : Node) (h : List Act) (k : KeyMessage) (facts : Facts) (o w : Outcome) → peer_of d n k.header.a2 ≡ Some p → k.message ≡ G1 → first_verdict d first n h (KeyedReading k) ≡ o → g1_wrapped facts.unwrapped facts.data_ ≡ w
     → verdict d first n h (KeyedReading k) facts ≡ and_then o w
-verdict_g1 d first n h k facts o w is comes wrapped = rw (comes, is, wrapped) refl
+verdict_g1 d first n p h k facts o w from is comes wrapped = rw (comes, from, is, wrapped) refl
 
-comes_g1 : (d : Domain) (first sta : ℕ) (p : Node) (octets : List ℕ) (k : KeyMessage) (h : List Act) (y : Keyed) (kept : ℕ) (r : Result CarriedKey Reason) → IsMessageFrom d (Sta sta) p octets k → k.message ≡ G1 → IsHeld d (Sta sta) p y kept h → IsVerifiedG1 (under d.akm y (Some kept)) k.fields k.octets r
+comes_g1 : (d : Domain) (first sta : ℕ) (p : Node) (octets : List ℕ) (k : KeyMessage) (h : List Act) (q : Ptk) (kept : Option ℕ) (r : Result CarriedKey Reason) → IsMessageFrom d (Sta sta) p octets k → k.message ≡ G1 → IsSessionOf p q kept h → IsVerifiedG1 (under_g1 d.akm q kept) k.fields k.octets r
     → first_verdict d first (Sta sta) h (KeyedReading k) ≡ Accepted
-comes_g1 d first sta p octets k h y kept r from is held v = g1_is d first sta p octets k h from is ∙ g1_under d (Sta sta) p h k y kept held ∙ v.comes Accepted
+comes_g1 d first sta p octets k h q kept r from is l v = g1_is d first sta p octets k h from is ∙ g1_under d p h k q kept l ∙ v.comes Accepted
 
-seal_g1 : (d : Domain) (sta : ℕ) (h : List Act) (p : Node) (octets : List ℕ) (k : KeyMessage) (y : Keyed) (kept : ℕ) → IsMessageFrom d (Sta sta) p octets k → k.message ≡ G1 → IsHeld d (Sta sta) p y kept h
-    → seal_in d (Sta sta) h (KeyedReading k) ≡ Some (frame_seal y.ptk.kck k.octets)
-seal_g1 d sta h p octets k y kept from is held =
+seal_g1 : (d : Domain) (sta : ℕ) (h : List Act) (p : Node) (octets : List ℕ) (k : KeyMessage) (q : Ptk) (kept : Option ℕ) → IsMessageFrom d (Sta sta) p octets k → k.message ≡ G1 → IsSessionOf p q kept h
+    → seal_in d (Sta sta) h (KeyedReading k) ≡ Some (frame_seal q.kck k.octets)
+seal_g1 d sta h p octets k q kept from is l =
     let mine : peer_of d (Sta sta) k.header.a2 ≡ Some p = from.from in
     ap (λ (m : Message). message_seal d (Sta sta) h k m (peer_of d (Sta sta) k.header.a2)) is
     ∙ ap (λ (o : Option Node). message_seal d (Sta sta) h k G1 o) mine
-    ∙ rw (held.is) refl
+    ∙ rw (l.is) (ap (λ (w : Ptk). Some (frame_seal w.kck k.octets)) l.key)
+
+-- what comes of its key data
+g1_said : (plain : Option (List ℕ)) (says : Option ElementFields) → g1_wrapped plain says ≡ wrapped_by None plain says
+g1_said None says = refl
+g1_said (Some octets) says = refl
 
 -- ---- refused after its MIC
 
-adds_sealed : (d : Domain) (first sta : ℕ) (p : Node) (octets : List ℕ) (k : KeyMessage) (h : List Act) (y : Keyed) (kept : ℕ) (why : Reason) → IsMessageFrom d (Sta sta) p octets k → k.message ≡ G1 → IsHeld d (Sta sta) p y kept h → IsVerifiedG1 (under d.akm y (Some kept)) k.fields k.octets (Err why)
-    → TakeRow (here d first (Sta sta)) h octets (Took (Some p) octets (kind.Key k.message) (Refused why) (Some (frame_seal y.ptk.kck k.octets)) ∷ [])
-adds_sealed d first sta p octets k h y kept why from is held v =
-    let comes = comes_g1 d first sta p octets k h y kept (Err why) from is held v in
-    let sealed : refused_seal d first (Sta sta) h (KeyedReading k) ≡ Some (frame_seal y.ptk.kck k.octets) =
-    sym (far_seal d first (Sta sta) h (KeyedReading k) Accepted comes refl) ∙ seal_g1 d sta h p octets k y kept from is held in
+adds_sealed : (d : Domain) (first sta : ℕ) (p : Node) (octets : List ℕ) (k : KeyMessage) (h : List Act) (q : Ptk) (kept : Option ℕ) (why : Reason) → IsMessageFrom d (Sta sta) p octets k → k.message ≡ G1 → IsSessionOf p q kept h → IsVerifiedG1 (under_g1 d.akm q kept) k.fields k.octets (Err why)
+    → TakeRow (here d first (Sta sta)) h octets (Took (Some p) octets (kind.Key k.message) (Refused why) (Some (frame_seal q.kck k.octets)) ∷ [])
+adds_sealed d first sta p octets k h q kept why from is l v =
+    let comes = comes_g1 d first sta p octets k h q kept (Err why) from is l v in
+    let facts : Facts = facts_of None v.opened in
+    let sealed : refused_seal d first (Sta sta) h (KeyedReading k) ≡ Some (frame_seal q.kck k.octets) =
+    sym (far_seal d first (Sta sta) h (KeyedReading k) Accepted comes refl) ∙ seal_g1 d sta h p octets k q kept from is l in
     record {
       r = KeyedReading k;
       reads = from.reads;
-      facts = facts_of v.opened;
-      knows = knows_g1 d first sta h p octets k y kept (facts_of v.opened) from is held (knows_opened None y.ptk.kek k (Err why) v.opened);
+      facts = facts;
+      knows = knows_g1 d first sta h p octets k q kept facts from is l (knows_opened None q.kek k None (Err why) v.opened);
       row = By_refusal (record {
         why = why;
-        refused = verdict_g1 d first (Sta sta) h k (facts_of v.opened) Accepted (Refused why) is comes v.opened.is;
-        says = ap (λ (o : Option Node). Took o octets (kind.Key k.message) (Refused why) (Some (frame_seal y.ptk.kck k.octets)) ∷ []) (sym from.from)
+        refused = verdict_g1 d first (Sta sta) p h k facts Accepted (Refused why) from.from is comes (g1_said v.opened.plain v.opened.says ∙ v.opened.is);
+        says = ap (λ (o : Option Node). Took o octets (kind.Key k.message) (Refused why) (Some (frame_seal q.kck k.octets)) ∷ []) (sym from.from)
             ∙ ap (λ (o : Option Seal). Took (sender d (Sta sta) (KeyedReading k)) octets (kind.Key k.message) (Refused why) o ∷ []) (sym sealed);
       });
     }
 
-g1_sealed : (f : KeyFrame) (s : State) (ks : List Kept) (x : Session) (why : Reason) (r : Reply) → s.session ≡ Some x → IsSilent r → r.verified ≡ Some x.key.ptk.kck
-    → IsVerifiedG1 (under s.ends.akm x.key (Some x.counter)) (fields_of f) f.octets.now (Err why) → IsTaken G1 f (both s ks) (both s ks) (Refused why) r
+g1_sealed : (f : KeyFrame) (s : State) (ks : List Kept) (x : Session) (why : Reason) (r : Reply) → s.session ≡ Some x → IsSilent r → r.verified ≡ Some (ptk_of x).kck
+    → IsVerifiedG1 (under_g1 s.ends.akm (ptk_of x) (kept_of x)) (fields_of f) f.octets.now (Err why) → IsTaken G1 f (both s ks) (both s ks) (Refused why) r
 g1_sealed f s ks x why r has silent seal verified = record {
   steps = λ d first sta a octets k h st remembers from is fields are.
-      (let y = x.key in
-      let v : IsVerifiedG1 (under d.akm y (Some x.counter)) k.fields k.octets (Err why) = verified_as s.ends.akm d.akm y (Some x.counter) (fields_of f) f.octets.now k (Err why) st.ends.akm fields are verified in
-      steps_by d first (Sta sta) (Ap a) octets k (both s ks) (Refused why) r h (Took (Some (Ap a)) octets (kind.Key k.message) (Refused why) (Some (frame_seal y.ptk.kck k.octets)) ∷ [])
-      (verifies (Some y.ptk.kck)) (tells_silent (Ap a) r (Some y.ptk.kck) silent seal) tt refl
-      (adds_sealed d first sta (Ap a) octets k h y x.counter why from is (held_there d (Sta sta) (Ap a) s x h has st) v)
-      (stands_refused d (Sta sta) (Ap a) s octets (kind.Key k.message) why (Some (frame_seal y.ptk.kck k.octets)) h st)
-      (remembers_took (Ap a) (Ap a) octets (kind.Key k.message) (Refused why) (Some (frame_seal y.ptk.kck k.octets)) ks h remembers));
+      (let q : Ptk = ptk_of x in
+      let kept : Option ℕ = kept_of x in
+      let v : IsVerifiedG1 (under_g1 d.akm q kept) k.fields k.octets (Err why) = verified_as s.ends.akm d.akm q kept (fields_of f) f.octets.now k (Err why) st.ends.akm fields are verified in
+      steps_by d first (Sta sta) (Ap a) octets k (both s ks) (Refused why) r h (Took (Some (Ap a)) octets (kind.Key k.message) (Refused why) (Some (frame_seal q.kck k.octets)) ∷ [])
+      (verifies (Some q.kck)) (tells_silent (Ap a) r (Some q.kck) silent seal) tt refl
+      (adds_sealed d first sta (Ap a) octets k h q kept why from is (there_is d (Sta sta) (Ap a) s x h has st) v)
+      (stands_refused d (Sta sta) (Ap a) s octets (kind.Key k.message) why (Some (frame_seal q.kck k.octets)) h st)
+      (remembers_took (Ap a) (Ap a) octets (kind.Key k.message) (Refused why) (Some (frame_seal q.kck k.octets)) ks h remembers));
   refused = λ w e. (refl, silent.installed);
   whole = whole_silent r silent;
   ends = (refl, refl);
@@ -169,12 +194,12 @@ g1_sealed f s ks x why r has silent seal verified = record {
 }
 
 refused_by_told : (f : KeyFrame) (s : State) (ks : List Kept) (x : Session) (why : Reason) (r : Reply) (v : Option (List ℕ)) → r.verified ≡ v → s.session ≡ Some x → IsSilent r
-    → IsG1 (under s.ends.akm x.key (Some x.counter)) (fields_of f) f.octets.now (Err why) v → IsTaken G1 f (both s ks) (both s ks) (Refused why) r
+    → IsG1 (under_g1 s.ends.akm (ptk_of x) (kept_of x)) (fields_of f) f.octets.now (Err why) v → IsTaken G1 f (both s ks) (both s ks) (Refused why) r
 refused_by_told f s ks x why r None plain has silent judged = g1_refused f s ks x why r has silent plain judged
 refused_by_told f s ks x why r (Some kck) seal has silent judged = g1_sealed f s ks x why r has silent (seal ∙ ap (λ (z : List ℕ). Some z) judged.0) judged.1
 
 -- as it was refused to a session
-pub g1_refusal : (f : KeyFrame) (s : State) (ks : List Kept) (x : Session) (why : Reason) (r : Reply) → s.session ≡ Some x → IsG1Refusal s.ends.akm x.key x.counter f why r → IsTaken G1 f (both s ks) (both s ks) (Refused why) r
+pub g1_refusal : (f : KeyFrame) (s : State) (ks : List Kept) (x : Session) (why : Reason) (r : Reply) → s.session ≡ Some x → IsG1Refusal s.ends.akm x f why r → IsTaken G1 f (both s ks) (both s ks) (Refused why) r
 g1_refusal f s ks x why r has refusal = refused_by_told f s ks x why r r.verified refl has refusal.1 refusal.0
 
 -- ---- accepted
@@ -188,25 +213,28 @@ renewing d n p octets k s x g act counter is news number =
     ap (λ (m : Message). Took (Some p) octets (kind.Key m) Accepted (Some s) ∷ g ∷ sent_g2 d n p x counter ∷ []) is
     ∙ ap (λ (a : Act). renewing_acts d n p octets s a x counter) news ∙ ap (renewing_acts d n p octets s act x) number
 
-adds_renewed : (d : Domain) (first sta : ℕ) (p : Node) (octets : List ℕ) (k : KeyMessage) (h : List Act) (y : Keyed) (kept : ℕ) (c : CarriedKey) → IsMessageFrom d (Sta sta) p octets k → k.message ≡ G1 → IsHeld d (Sta sta) p y kept h → IsVerifiedG1 (under d.akm y (Some kept)) k.fields k.octets (Ok c)
-    → TakeRow (here d first (Sta sta)) h octets (renewing_acts d (Sta sta) p octets (frame_seal y.ptk.kck k.octets) (give groups.Gtk p (mac d p) (group_key c) h) (key_by d (root d) (Sta sta) p y) k.fields.counter)
-adds_renewed d first sta p octets k h y kept c from is held v = record {
-  r = KeyedReading k;
-  reads = from.reads;
-  facts = facts_of v.opened;
-  knows = knows_g1 d first sta h p octets k y kept (facts_of v.opened) from is held (knows_opened None y.ptk.kek k (Ok c) v.opened);
-  row = By_g1 (record {
-    k = k;
-    is = refl;
-    message_is = is;
-    p = p;
-    from = from.from;
-    accepted = verdict_g1 d first (Sta sta) h k (facts_of v.opened) Accepted Accepted is (comes_g1 d first sta p octets k h y kept (Ok c) from is held v) v.opened.is.0;
-    x = key_by d (root d) (Sta sta) p y;
-    awaited = held.is;
-    says = ap (λ (g : GroupKey). renewing_acts d (Sta sta) p octets (frame_seal y.ptk.kck k.octets) (give groups.Gtk p (mac d p) g h) (key_by d (root d) (Sta sta) p y) k.fields.counter) (sym v.opened.is.1);
-  });
-}
+adds_renewed : (d : Domain) (first sta : ℕ) (p : Node) (octets : List ℕ) (k : KeyMessage) (h : List Act) (q : Ptk) (kept : Option ℕ) (c : CarriedKey) → IsMessageFrom d (Sta sta) p octets k → k.message ≡ G1 → (l : IsSessionOf p q kept h) → IsVerifiedG1 (under_g1 d.akm q kept) k.fields k.octets (Ok c)
+    → TakeRow (here d first (Sta sta)) h octets (renewing_acts d (Sta sta) p octets (frame_seal q.kck k.octets) (give groups.Gtk p (mac d p) (group_key c) h) l.x k.fields.counter)
+adds_renewed d first sta p octets k h q kept c from is l v =
+    let facts : Facts = facts_of None v.opened in
+    record {
+      r = KeyedReading k;
+      reads = from.reads;
+      facts = facts;
+      knows = knows_g1 d first sta h p octets k q kept facts from is l (knows_opened None q.kek k None (Ok c) v.opened);
+      row = By_g1 (record {
+        k = k;
+        is = refl;
+        message_is = is;
+        p = p;
+        from = from.from;
+        accepted = verdict_g1 d first (Sta sta) p h k facts Accepted Accepted from.from is (comes_g1 d first sta p octets k h q kept (Ok c) from is l v) (g1_said v.opened.plain v.opened.says ∙ v.opened.is.0);
+        x = l.x;
+        awaited = l.is;
+        says = ap (λ (g : GroupKey). renewing_acts d (Sta sta) p octets (frame_seal q.kck k.octets) (give groups.Gtk p (mac d p) g h) l.x k.fields.counter) (sym v.opened.is.1)
+            ∙ ap (λ (w : Ptk). renewing_acts d (Sta sta) p octets (frame_seal w.kck k.octets) (give groups.Gtk p (mac d p) (carried v.opened.says) h) l.x k.fields.counter) (sym l.key);
+      });
+    }
 
 -- the counter of a G1 is the greatest of both messages
 turned : (x c : ℕ) (o : Option ℕ) → at_least x (at_least c o) ≡ at_least c (at_least x o)
@@ -226,18 +254,42 @@ map_with : (xs ys : List (List ℕ)) (c : List ℕ) → greatest (map replay_cou
 map_with [] ys c = refl
 map_with (x ∷ xs) ys c = ap (at_least (replay_counter x)) (map_with xs ys c) ∙ turned (replay_counter x) (replay_counter c) (greatest (map replay_counter (xs ++ ys)))
 
-held_renewed : (d : Domain) (n p : Node) (octets : List ℕ) (s : Seal) (g : Act) (x : Derivation) (y : Keyed) (kept counter : ℕ) (h : List Act) → IsHeld d n p y kept h → IsApart p g → replay_counter octets ≡ counter → kept < counter
-    → IsHeld d n p y counter (add (renewing_acts d n p octets s g x counter) h)
-held_renewed d n p octets s g x y kept counter h l apart is high =
-    let took : Act = Took (Some p) octets (kind.Key G1) Accepted (Some s) in
+heard_renewed : (d : Domain) (n p : Node) (octets : List ℕ) (s : Seal) (g : Act) (x : Derivation) (counter : ℕ) (part : List Act) → IsApart p g
+    → heard p kind.AssocResp (sent_g2 d n p x counter ∷ g ∷ Took (Some p) octets (kind.Key G1) Accepted (Some s) ∷ part) ≡ heard p kind.AssocResp part
+heard_renewed d n p octets s g x counter part apart = rw (apart.accepts_none kind.AssocResp, same-refl p) refl
+
+counter_renewed : (d : Domain) (n p : Node) (octets : List ℕ) (s : Seal) (g : Act) (x : Derivation) (kept : Option ℕ) (counter : ℕ) (h : List Act) → IsApart p g → kept_counter p (since p h) ≡ kept → replay_counter octets ≡ counter → at_least counter kept ≡ Some counter
+    → kept_counter p (since p (add (renewing_acts d n p octets s g x counter) h)) ≡ Some counter
+counter_renewed d n p octets s g x kept counter h apart keeps is high =
+    ap (kept_counter p) (since_renewed d n p octets s g x counter h apart) ∙ kept_renewed d n p octets s g x counter (since p h) apart
+    ∙ map_with (all_replied p (kind.Key M3) (since p h)) (all_replied p (kind.Key G1) (since p h)) octets
+    ∙ ap (at_least (replay_counter octets)) keeps ∙ ap (λ (c : ℕ). at_least c kept) is ∙ high
+
+begun_renewed : (d : Domain) (n p : Node) (octets : List ℕ) (s : Seal) (g : Act) (x : Derivation) (counter : ℕ) (h : List Act) → IsApart p g → (since p h ≡ [] → ⊥) → by_connect (since p (add (renewing_acts d n p octets s g x counter) h)) ≡ by_connect (since p h)
+begun_renewed d n p octets s g x counter h apart some =
+    ap by_connect (since_renewed d n p octets s g x counter h apart) ∙ by_connect_more (Took (Some p) octets (kind.Key G1) Accepted (Some s)) (since p h) some
+
+none_there : (part more : List Act) (e : Act) → part ≡ e ∷ more → part ≡ [] → ⊥
+none_there part more e is none = cc (is, none)
+
+holds_renewed : (d : Domain) (n p : Node) (b : Base) (octets : List ℕ) (s : Seal) (g : Act) (x : Derivation) (old : Session) (counter : ℕ) (h : List Act) → Holds d n p b old h → IsApart p g → replay_counter octets ≡ counter → at_least counter (kept_of old) ≡ Some counter
+    → Holds d n p b (counted counter old) (add (renewing_acts d n p octets s g x counter) h)
+holds_renewed d n p b octets s g x (Connect y was) counter h l apart is high =
     let since_is = since_renewed d n p octets s g x counter h apart in
     record {
       is = rw (apart.finishes_none, apart.closes_none) l.is;
-      begun = ap by_connect since_is ∙ by_connect_more took (since p h) (some_part (since p h) l.begun) ∙ l.begun;
-      keeps = ap (kept_counter p) since_is ∙ kept_renewed d n p octets s g x counter (since p h) apart
-          ∙ map_with (all_replied p (kind.Key M3) (since p h)) (all_replied p (kind.Key G1) (since p h)) octets
-          ∙ ap (at_least (replay_counter octets)) l.keeps ∙ ap (λ (c : ℕ). at_least c (Some kept)) is ∙ at_least-greater kept counter high;
+      begun = begun_renewed d n p octets s g x counter h apart (some_part (since p h) l.begun) ∙ l.begun;
+      based = based_on d n p b (since p h) (since p (add (renewing_acts d n p octets s g x counter) h)) (ap (heard p kind.AssocResp) since_is ∙ heard_renewed d n p octets s g x counter (since p h) apart) l.based;
+      keeps = counter_renewed d n p octets s g x (Some was) counter h apart l.keeps is high;
     }
+holds_renewed d n p b octets s g x (Ft q was) counter h l apart is high = record {
+  x = l.x;
+  is = rw (apart.finishes_none, apart.closes_none) l.is;
+  key = l.key;
+  some = none_there (since p (add (renewing_acts d n p octets s g x counter) h)) (g ∷ Took (Some p) octets (kind.Key G1) Accepted (Some s) ∷ since p h) (sent_g2 d n p x counter) (since_renewed d n p octets s g x counter h apart);
+  begun = begun_renewed d n p octets s g x counter h apart l.some ∙ l.begun;
+  keeps = counter_renewed d n p octets s g x was counter h apart l.keeps is high;
+}
 
 none_renewed : (d : Domain) (n p : Node) (octets : List ℕ) (s : Seal) (g : Act) (x : Derivation) (counter : ℕ) (h : List Act) → IsApart p g → attempt p h ≡ None → attempt p (add (renewing_acts d n p octets s g x counter) h) ≡ None
 none_renewed d n p octets s g x counter h apart none =
@@ -252,47 +304,47 @@ remembers_renewed d n p octets s x g counter rsc ks h r numbered =
     gives p (mac d p) g rsc ks (took ∷ h) (remembers_took p p octets (kind.Key G1) Accepted (Some s) ks h r) (told_by_message p G1 octets (Some s) h (inr refl) ∙ numbered) in
     stands p (sent_g2 d n p x counter) (given g.key g.id rsc ks) (give groups.Gtk p (mac d p) g h ∷ took ∷ h) has refl (λ key id. refl)
 
-counter_high : (akm : Akm) (y : Keyed) (kept : ℕ) (f : KeyFields) (octets : List ℕ) → ((o : Outcome) → before_g1_key_data (under akm y (Some kept)) f octets o ≡ o) → kept < f.counter
-counter_high akm y kept f octets comes = high_by kept f.counter _ (nat_lt kept f.counter) refl (comes Accepted)
+-- a G1 that comes so far has a counter above the kept one, where one is kept
+counter_high : (akm : Akm) (q : Ptk) (kept : Option ℕ) (f : KeyFields) (octets : List ℕ) → ((o : Outcome) → before_g1_key_data (under_g1 akm q kept) f octets o ≡ o) → at_least f.counter kept ≡ Some f.counter
+counter_high akm q None f octets comes = refl
+counter_high akm q (Some kept) f octets comes = at_least-greater kept f.counter (high_by kept f.counter _ (nat_lt kept f.counter) refl (comes Accepted))
 
-stands_renewed : (d : Domain) (sta a : ℕ) (s : State) (old new : Session) (octets : List ℕ) (k : KeyMessage) (c : CarriedKey) (h : List Act) → SupplicantStands d (Sta sta) (Ap a) s h → s.attempt ≡ None → s.session ≡ Some old → IsMessageFrom d (Sta sta) (Ap a) octets k
-    → new ≡ record { key = old.key; counter = k.fields.counter } → ((o : Outcome) → before_g1_key_data (under d.akm old.key (Some old.counter)) k.fields k.octets o ≡ o)
-    → SupplicantStands d (Sta sta) (Ap a) (having s.attempt (Some new) s) (add (renewing_acts d (Sta sta) (Ap a) octets (frame_seal old.key.ptk.kck k.octets) (give groups.Gtk (Ap a) (mac d (Ap a)) (group_key c) h) (key_by d (root d) (Sta sta) (Ap a) old.key) k.fields.counter) h)
-stands_renewed d sta a s old new octets k c h st none has from is comes =
-    let l : IsHeld d (Sta sta) (Ap a) old.key old.counter h = held_there d (Sta sta) (Ap a) s old h has st in
-    let nowhere : attempt (Ap a) h ≡ None = subst (λ (x : Option Attempt). HasAttempt d (Sta sta) (Ap a) x h) none st.attempt_is in
-    let seal : Seal = frame_seal old.key.ptk.kck k.octets in
-    let x : Derivation = key_by d (root d) (Sta sta) (Ap a) old.key in
+stands_renewed : (d : Domain) (sta a : ℕ) (s : State) (old : Session) (octets : List ℕ) (k : KeyMessage) (x : Derivation) (c : CarriedKey) (h : List Act) → SupplicantStands d (Sta sta) (Ap a) s h → s.attempt ≡ None → s.session ≡ Some old → IsMessageFrom d (Sta sta) (Ap a) octets k
+    → ((o : Outcome) → before_g1_key_data (under_g1 d.akm (ptk_of old) (kept_of old)) k.fields k.octets o ≡ o)
+    → SupplicantStands d (Sta sta) (Ap a) (having s.attempt (Some (counted k.fields.counter old)) s) (add (renewing_acts d (Sta sta) (Ap a) octets (frame_seal (ptk_of old).kck k.octets) (give groups.Gtk (Ap a) (mac d (Ap a)) (group_key c) h) x k.fields.counter) h)
+stands_renewed d sta a s old octets k x c h st none has from comes =
+    let nowhere : attempt (Ap a) h ≡ None = subst (λ (o : Option Attempt). HasAttempt d (Sta sta) (Ap a) s.base o h) none st.attempt_is in
+    let seal : Seal = frame_seal (ptk_of old).kck k.octets in
     let g : Act = give groups.Gtk (Ap a) (mac d (Ap a)) (group_key c) h in
     let apart = apart_give (Ap a) (Ap a) (mac d (Ap a)) (group_key c) (find_key c.key (memory groups.Gtk (Ap a) h)) in
     let acts : List Act = renewing_acts d (Sta sta) (Ap a) octets seal g x k.fields.counter in
     record {
       ends = st.ends;
-      psk = st.psk;
-      attempt_is = subst (λ (o : Option Attempt). HasAttempt d (Sta sta) (Ap a) o (add acts h)) (sym none) (none_renewed d (Sta sta) (Ap a) octets seal g x k.fields.counter h apart nowhere);
-      session_is = subst (λ (z : Session). IsHeld d (Sta sta) (Ap a) z.key z.counter (add acts h)) (sym is)
-          (held_renewed d (Sta sta) (Ap a) octets seal g x old.key old.counter k.fields.counter h l apart (reads-counter d.akm octets k from.reads) (counter_high d.akm old.key old.counter k.fields k.octets comes));
+      attempt_is = subst (λ (o : Option Attempt). HasAttempt d (Sta sta) (Ap a) s.base o (add acts h)) (sym none) (none_renewed d (Sta sta) (Ap a) octets seal g x k.fields.counter h apart nowhere);
+      session_is = holds_renewed d (Sta sta) (Ap a) s.base octets seal g x old k.fields.counter h (held_there d (Sta sta) (Ap a) s old h has st) apart (reads-counter d.akm octets k from.reads) (counter_high d.akm (ptk_of old) (kept_of old) k.fields k.octets comes);
     }
 
 pub g1_renewed : (f : KeyFrame) (s : State) (old new : Session) (had has : List Kept) (r : Reply) → s.attempt ≡ None → s.session ≡ Some old → Renews s.ends f had has old new r → IsWhole r
     → IsTaken G1 f (both s had) (both (having s.attempt (Some new) s) has) Accepted r
 g1_renewed f s old new had has r none there done whole = record {
   steps = λ d first sta a octets k h st remembers from is fields are.
-      (let y = old.key in
+      (let q : Ptk = ptk_of old in
+      let kept : Option ℕ = kept_of old in
       let c = done.group in
       let g : GtkNews = news_of c (kept_id c.key had) in
-      let der : Derivation = key_by d (root d) (Sta sta) (Ap a) y in
-      let seal : Seal = frame_seal y.ptk.kck k.octets in
+      let l : IsSessionOf (Ap a) q kept h = there_is d (Sta sta) (Ap a) s old h there st in
+      let seal : Seal = frame_seal q.kck k.octets in
       let counter_is : f.counter ≡ k.fields.counter = ap (λ (x : KeyFields). x.counter) (sym fields) in
-      let v : IsVerifiedG1 (under d.akm y (Some old.counter)) k.fields k.octets (Ok c) = verified_as s.ends.akm d.akm y (Some old.counter) (fields_of f) f.octets.now k (Ok c) st.ends.akm fields are done.verified in
-      let acts : List Act = renewing_acts d (Sta sta) (Ap a) octets seal (give groups.Gtk (Ap a) (mac d (Ap a)) (group_key c) h) der k.fields.counter in
+      let made : counted k.fields.counter old ≡ new = ap (λ (n : ℕ). counted n old) (sym counter_is) ∙ sym done.is in
+      let v : IsVerifiedG1 (under_g1 d.akm q kept) k.fields k.octets (Ok c) = verified_as s.ends.akm d.akm q kept (fields_of f) f.octets.now k (Ok c) st.ends.akm fields are done.verified in
+      let acts : List Act = renewing_acts d (Sta sta) (Ap a) octets seal (give groups.Gtk (Ap a) (mac d (Ap a)) (group_key c) h) l.x k.fields.counter in
       steps_by d first (Sta sta) (Ap a) octets k (both (having s.attempt (Some new) s) has) Accepted r h acts
-      (renews y g (sent_g2 d (Sta sta) (Ap a) der f.counter ∷ [])) (done.tells d (Sta sta) (Ap a) der st.ends refl) tt
-      (renewing d (Sta sta) (Ap a) octets k seal der (news_act d (Ap a) g) (give groups.Gtk (Ap a) (mac d (Ap a)) (group_key c) h) f.counter is (group_act d (Ap a) c had g h remembers refl) counter_is)
-      (adds_renewed d first sta (Ap a) octets k h y old.counter c from is (held_there d (Sta sta) (Ap a) s old h there st) v)
-      (stands_renewed d sta a s old new octets k c h st none there from (done.is ∙ ap (λ (n : ℕ). record { key = old.key; counter = n }) counter_is) v.comes)
+      (renews q g (sent_g2 d (Sta sta) (Ap a) l.x f.counter ∷ [])) (done.tells d (Sta sta) (Ap a) l.x st.ends (sym l.key)) tt
+      (renewing d (Sta sta) (Ap a) octets k seal l.x (news_act d (Ap a) g) (give groups.Gtk (Ap a) (mac d (Ap a)) (group_key c) h) f.counter is (group_act d (Ap a) c had g h remembers refl) counter_is)
+      (adds_renewed d first sta (Ap a) octets k h q kept c from is l v)
+      (subst (λ (z : Session). SupplicantStands d (Sta sta) (Ap a) (having s.attempt (Some z) s) (add acts h)) made (stands_renewed d sta a s old octets k l.x c h st none there from v.comes))
       (subst (λ (ks : List Kept). Remembers (Ap a) ks (add acts h)) (sym done.memory)
-      (remembers_renewed d (Sta sta) (Ap a) octets seal der (group_key c) k.fields.counter (packet_number_of f.rsc) had h remembers
+      (remembers_renewed d (Sta sta) (Ap a) octets seal l.x (group_key c) k.fields.counter (packet_number_of f.rsc) had h remembers
       (reads-rsc d.akm octets k from.reads ∙ ap (λ (z : KeyFields). packet_number_of z.rsc) fields))));
   refused = λ w e. cc;
   whole = whole;

@@ -1,16 +1,20 @@
 -- Each way in which a supplicant takes M1, and messages that nothing awaits.
-use Rattle.std.proofs.Common.{◌+◌, ◌≡◌, ◌≢◌, ℕ, true, cond, List, [], ◌∷◌, Option, Some, None, refl, sym, ap, subst, ◌∙◌}
-use Rattle.std.specs.Prelude.{is_some, unwrap_or}
-use Rattle.domain_base.specs.declared.names.Akm.TheVariants.{FtPsk}
+use Rattle.std.proofs.Common.{◌+◌, ◌≡◌, ◌≢◌, ℕ, true, false, cond, List, [], ◌∷◌, Option, Some, None, refl, sym, ap, subst, ◌∙◌}
+use Rattle.std.specs.Prelude.{Bool, is_some, unwrap_or}
+use Rattle.domain_base.specs.declared.names.Akm.{Akm}
+use Rattle.domain_base.specs.declared.names.Akm.TheVariants.{Psk, PskSha256, FtPsk}
+use Rattle.rsn_elements.specs.Elements.{ElementFields}
+use Rattle.eapol_key.specs.Octets.{frame_octets}
+use Rattle.eapol_key.specs.Sealed.{sealed}
+use Rattle.eapol_key.specs.Sent.{sent_fields}
 use Rattle.domain_base.specs.declared.names.Node.{Node}
 use Rattle.domain_base.specs.declared.names.Node.TheVariants.{Ap, Sta}
 use Rattle.eapol_key.specs.declared.frame.KeyFrame.{KeyFrame}
 use Rattle.eapol_key.specs.declared.messages.Message.{Message}
-use Rattle.eapol_key.specs.declared.messages.Message.TheVariants.{M1, M3, G1}
+use Rattle.eapol_key.specs.declared.messages.Message.TheVariants.{M1, M2, M3, G1}
 use Rattle.eapol_key.specs.KeyFrame.{KeyFields}
 use Rattle.eapol_key.specs.Fields.{fields_of}
 use Rattle.key_hierarchy.specs.Keys.{ptk}
-use Rattle.key_hierarchy.specs.declared.inputs.Inputs.{Inputs}
 use Rattle.key_hierarchy.specs.declared.inputs.Ptk.{Ptk}
 use Rattle.run_journal.specs.declared.domain.Domain.{Domain}
 use Rattle.run_journal.specs.declared.acts.Kind.TheVariants as kind
@@ -24,18 +28,25 @@ use Rattle.run_journal.specs.declared.acts.Act.TheVariants.{Took, Derived}
 use Rattle.run_journal.specs.declared.reply.Reply.{Reply}
 use Rattle.run_journal.specs.declared.reply.Keyed.{Keyed}
 use Rattle.run_journal.specs.Replies.{IsEmpty, IsWhole}
-use Rattle.run_journal.specs.Questions.{since, draws, add}
-use Rattle.domain_rules.specs.Network.{inputs, root}
-use Rattle.domain_rules.specs.Frames.{sent_m2}
+use Rattle.run_journal.specs.Questions.{since, heard, draws, add}
+use Rattle.key_hierarchy.specs.declared.inputs.Inputs.{Inputs}
+use Rattle.domain_rules.specs.Network.{peer_of, inputs, Root, root_by, root_at}
+use Rattle.domain_rules.specs.Facts.{Facts}
+use Rattle.domain_rules.specs.AccessPointKeys.{IsRequested}
+use Rattle.domain_rules.specs.TransitionKeyData.{responded_fte, responded_r0kh_id}
+use Rattle.domain_rules.specs.Frames.{sent_sealed, sent_m2_key_data, sent_m2, keyed_by}
 use Rattle.domain_rules.specs.Reading.{KeyMessage, Keyed as KeyedReading}
 use Rattle.domain_rules.specs.Replies.{key_by, IsMessageFrom, inputs_by}
-use Rattle.domain_rules.specs.Verdict.{comes_so_far, ComesSoFar, KnowsOf, and_then, further, first_verdict, key_verdict}
-use Rattle.domain_rules.specs.Asking.{kept_counter, own}
+use Rattle.domain_rules.specs.Verdict.{comes_so_far, ComesSoFar, KnowsOf, KnowsResponse, and_then, further, first_verdict, key_verdict}
+use Rattle.domain_rules.specs.Asking.{by_connect, kept_counter, own}
 use Rattle.domain_rules.specs.StationKeys.{m1_verdict}
 use Rattle.domain_rules.specs.Rows.{TakeRow, seal_in, refused_seal, By_m1, By_refusal}
 use Rattle.domain_rules.specs.Closing.{sender}
 use Rattle.domain_rules.specs.Here.{here}
 use Rattle.domain_rules.proofs.Refused.{no_facts}
+use Rattle.frame_making.specs.Mobile.{Mobility}
+use Rattle.frame_making.specs.KeyData.{IsMobility}
+use Rattle.run_journal.specs.Acts.{Derivation}
 use Rattle.domain_rules.proofs.Effects.{IsTaken as GoesOnBy, replying_acts, has_replied}
 use Rattle.domain_rules.proofs.Verdicts.{unawaited-m1, m1-in}
 use Rattle.group_key.specs.Keys.{Kept}
@@ -45,12 +56,15 @@ use Rattle.domain_rules.proofs.Parts.{since_part}
 use Rattle.supplicant.specs.declared.attempt.Attempt.{Attempt}
 use Rattle.supplicant.specs.declared.session.Session.{Session}
 use Rattle.supplicant.specs.State.{State, having, both}
-use Rattle.supplicant.specs.Stands.{SupplicantStands, HasAttempt, HasSession, IsUnderWay}
+use Rattle.supplicant.specs.Stands.{SupplicantStands, HasAttempt, HasSession, IsUnderWay, Responds}
+use Rattle.supplicant.specs.Bases.{fte_in}
+use Rattle.supplicant.specs.declared.base.Base.{Base}
+use Rattle.supplicant.specs.declared.session.Session.TheVariants.{Connect, Ft}
 use Rattle.supplicant.specs.Told.{IsSilent, verifies, derives}
 use Rattle.supplicant.specs.Exchange.{Answers}
 use Rattle.supplicant.specs.Taken.{IsTaken}
 use Rattle.supplicant.proofs.Telling.{steps_by, tells_silent, empty_silent, whole_silent}
-use Rattle.supplicant.proofs.Standing.{stands_refused}
+use Rattle.supplicant.proofs.Standing.{based_on, stands_refused}
 use Rattle.supplicant.proofs.Remembering.{remembers_took, remembers_replied}
 
 -- ---- a refusal before the MIC
@@ -67,7 +81,7 @@ adds_refused d first sta p octets k h why from is = record {
   knows = λ so. absurd (subst ComesSoFar is so);
   row = By_refusal (record {
     why = why;
-    refused = ap (λ (o : Outcome). and_then o (further d.akm (KeyedReading k) no_facts)) is;
+    refused = ap (λ (o : Outcome). and_then o (further d first (Sta sta) h (KeyedReading k) no_facts)) is;
     says = ap (λ (f : Option Node). Took f octets (kind.Key k.message) (Refused why) None ∷ []) (sym from.from)
         ∙ ap (λ (s : Option Seal). Took (sender d (Sta sta) (KeyedReading k)) octets (kind.Key k.message) (Refused why) s ∷ []) (sym (unsealed d first sta h k why is));
   });
@@ -110,104 +124,155 @@ m1_is d first sta p octets k h from is = from.verdict_is first h ∙ ap (λ (x :
 
 pub m1_unawaited : (f : KeyFrame) (s : State) (ks : List Kept) (r : Reply) → IsEmpty r → s.attempt ≡ None → IsTaken M1 f (both s ks) (both s ks) (Refused reason.Unawaited) r
 m1_unawaited f s ks r empty none = taken_refused M1 f s ks reason.Unawaited r (empty_silent r empty) empty.verified
-    (λ d first sta a octets k h st from is fields are. m1_is d first sta (Ap a) octets k h from is ∙ unawaited-m1 h (Ap a) k (subst (λ (x : Option Attempt). HasAttempt d (Sta sta) (Ap a) x h) none st.attempt_is))
+    (λ d first sta a octets k h st from is fields are. m1_is d first sta (Ap a) octets k h from is ∙ unawaited-m1 h (Ap a) k (subst (λ (x : Option Attempt). HasAttempt d (Sta sta) (Ap a) s.base x h) none st.attempt_is))
 
 -- ---- M1 accepted
 
 -- the attempt goes on with that key
-under_way_replied : (d : Domain) (n p : Node) (v octets : List ℕ) (key : Option Keyed) (y : Keyed) (counter : ℕ) (h : List Act) → IsUnderWay d n p v key h
-    → IsUnderWay d n p v (Some y) (add (replying_acts d n p octets (inputs_by d (root d) n p y) y.ptk counter) h)
-under_way_replied d n p v octets key y counter h u =
-    let t = has_replied d n p octets (inputs_by d (root d) n p y) y.ptk counter h u.part u.is in
-    let g : GoesOnBy p u.part h (add (replying_acts d n p octets (inputs_by d (root d) n p y) y.ptk counter) h) = t.0 in
+under_way_replied : (d : Domain) (n p : Node) (b : Base) (v octets : List ℕ) (key : Option Keyed) (y : Keyed) (counter : ℕ) (fte : List ℕ) (h : List Act) → IsUnderWay d n p b v key h
+    → IsUnderWay d n p b v (Some y) (add (replying_acts d n p octets (key_by d (root_at d b.r0kh_id) n p y) counter fte) h)
+under_way_replied d n p b v octets key y counter fte h u =
+    let x : Derivation = key_by d (root_at d b.r0kh_id) n p y in
+    let t = has_replied d n p octets x counter fte h u.part u.is in
+    let g : GoesOnBy p u.part h (add (replying_acts d n p octets x counter fte) h) = t.0 in
     record {
       part = g.more;
       is = g.is;
       begun = g.begun ∙ u.begun;
       nonce = g.nonce v u.nonce;
       hears = ap is_some t.1 ∙ u.hears;
+      based = based_on d n p b u.part g.more t.1 u.based;
       keeps = g.counter ∙ u.keeps;
       asked = ap is_some t.2;
       keyed = t.3;
     }
 
+-- the facts are those of the association response
+abbrev responded_facts : Option ElementFields → Facts
+responded_facts says = record { requested = None; responded = says; unwrapped = None; data_ = None; pulled = None; opened = None }
+
+-- M1 has nothing more to be known
+plain_m1 : (akm : Akm) (h : List Act) (p : Node) (k : KeyMessage) (facts : Facts) → KnowsOf akm h p M1 k facts
+plain_m1 akm h p k facts = tt
+
+response_by : (akm : Akm) (h : List Act) (p : Node) (b : Base) (part : List Act) (says : Option ElementFields) → since p h ≡ part → Responds akm (heard p kind.AssocResp part) says b → KnowsResponse akm h p M1 (responded_facts says)
+response_by Psk h p b part says is responds = tt
+response_by PskSha256 h p b part says is responds = tt
+response_by FtPsk h p b part says is responds = subst (λ (l : List Act). IsRequested FtPsk (heard p kind.AssocResp l) says) (sym is) responds.0
+
+knows_m1 : (d : Domain) (h : List Act) (k : KeyMessage) (p q : Node) (says : Option ElementFields) → k.message ≡ M1 → p ≡ q → KnowsResponse d.akm h p M1 (responded_facts says)
+    → KnowsOf d.akm h q k.message k (responded_facts says) × KnowsResponse d.akm h q k.message (responded_facts says)
+knows_m1 d h k p q says is same knows = rw (is, ← same) (plain_m1 d.akm h p k (responded_facts says), knows)
+
+-- the R0KH-ID and the FTE of the response are those of the base
+id_by : (akm : Akm) (octets : Option (List ℕ)) (says : Option ElementFields) (b : Base) (d : Domain) → Responds akm octets says b → root_by akm d b.r0kh_id ≡ root_by akm d (responded_r0kh_id says)
+id_by Psk octets says b d responds = refl
+id_by PskSha256 octets says b d responds = refl
+id_by FtPsk octets says b d responds = ap (root_by FtPsk d) responds.2
+
+fte_by : (akm : Akm) (octets : Option (List ℕ)) (says : Option ElementFields) (b : Base) (d : Domain) (x : Derivation) → Responds akm octets says b
+    → sent_m2_key_data akm d x (fte_in b) ≡ sent_m2_key_data akm d x (unwrap_or (responded_fte says) [])
+fte_by Psk octets says b d x responds = refl
+fte_by PskSha256 octets says b d x responds = refl
+fte_by FtPsk octets says b d x responds = ap (sent_m2_key_data FtPsk d x) (sym (ap (λ (o : Option (List ℕ)). unwrap_or o []) responds.1))
+
+abbrev with_data : Domain → Node → Node → Derivation → ℕ → List ℕ → Act
+with_data d n p x counter data_ = sent_sealed d n p M2 x.ptk.kck (sealed d.akm x.ptk.kck (frame_octets (sent_fields M2 d.akm counter x.inputs.snonce 0 data_)))
+
+m2_by : (d : Domain) (n p : Node) (x : Derivation) (counter : ℕ) (octets : Option (List ℕ)) (says : Option ElementFields) (b : Base) → Responds d.akm octets says b
+    → sent_m2 d n p x counter (fte_in b) ≡ sent_m2 d n p x counter (unwrap_or (responded_fte says) [])
+m2_by d n p x counter octets says b responds = ap (with_data d n p x counter) (fte_by d.akm octets says b d x responds)
+
+accepted_m1 : (d : Domain) (first : ℕ) (n p : Node) (h : List Act) (k : KeyMessage) (facts : Facts) → k.message ≡ M1 → peer_of d n k.header.a2 ≡ Some p → first_verdict d first n h (KeyedReading k) ≡ Accepted
+    → and_then (first_verdict d first n h (KeyedReading k)) (further d first n h (KeyedReading k) facts) ≡ Accepted
+accepted_m1 d first n p h k facts is from accepted = rw (accepted, from, is) refl
+
 -- a session that there is beside an attempt would keep a counter of that attempt
 no_counter : (kept : Option ℕ) (counter : ℕ) → kept ≡ None → kept ≡ Some counter → ⊥
 no_counter kept counter none some = cc
 
-session_replied : (d : Domain) (n p : Node) (x : Option Session) (octets v : List ℕ) (key : Option Keyed) (i : Inputs) (q : Ptk) (counter : ℕ) (h : List Act) → IsUnderWay d n p v key h → HasSession d n p x h → HasSession d n p x (add (replying_acts d n p octets i q counter) h)
-session_replied d n p None octets v key i q counter h u none = none
-session_replied d n p (Some x) octets v key i q counter h u l = absurd (no_counter (kept_counter p (since p h)) x.counter (ap (kept_counter p) (since_part p h u.part u.is) ∙ u.keeps) l.keeps)
+both_ways : (b : Bool) → b ≡ true → b ≡ false → ⊥
+both_ways b is other = cc (is, other)
 
-knows_m1 : (d : Domain) (h : List Act) (k : KeyMessage) (p : Node) → k.message ≡ M1 → KnowsOf d.akm h p k.message k no_facts
-knows_m1 d h k p is = rw is tt
-
-accepted_m1 : (d : Domain) (first : ℕ) (n : Node) (h : List Act) (k : KeyMessage) → k.message ≡ M1 → first_verdict d first n h (KeyedReading k) ≡ Accepted
-    → and_then (first_verdict d first n h (KeyedReading k)) (further d.akm (KeyedReading k) no_facts) ≡ Accepted
-accepted_m1 d first n h k is accepted = rw (accepted, is) refl
+session_replied : (d : Domain) (n p : Node) (b : Base) (x : Option Session) (octets v : List ℕ) (key : Option Keyed) (z : Derivation) (counter : ℕ) (fte : List ℕ) (h : List Act) → IsUnderWay d n p b v key h → HasSession d n p b x h → HasSession d n p b x (add (replying_acts d n p octets z counter fte) h)
+session_replied d n p b None octets v key z counter fte h u none = none
+session_replied d n p b (Some (Connect y was)) octets v key z counter fte h u l = absurd (no_counter (kept_counter p (since p h)) was (ap (kept_counter p) (since_part p h u.part u.is) ∙ u.keeps) l.keeps)
+session_replied d n p b (Some (Ft q was)) octets v key z counter fte h u l = absurd (both_ways (by_connect (since p h)) (ap by_connect (since_part p h u.part u.is) ∙ u.begun) l.begun)
 
 -- the acts of the reply are those of the row
-replied : (d : Domain) (n p : Node) (octets : List ℕ) (k : KeyMessage) (i : Inputs) (q : Ptk) (counter : ℕ) → k.message ≡ M1 → counter ≡ k.fields.counter
-    → Took (Some p) octets (kind.Key k.message) Accepted None ∷ Derived p i q ∷ sent_m2 d n p (record { inputs = i; ptk = q }) counter ∷ [] ≡ replying_acts d n p octets i q k.fields.counter
-replied d n p octets k i q counter is same =
-    ap (λ (m : Message). Took (Some p) octets (kind.Key m) Accepted None ∷ Derived p i q ∷ sent_m2 d n p (record { inputs = i; ptk = q }) counter ∷ []) is
-    ∙ ap (λ (x : ℕ). Took (Some p) octets (kind.Key M1) Accepted None ∷ Derived p i q ∷ sent_m2 d n p (record { inputs = i; ptk = q }) x ∷ []) same
+replied : (d : Domain) (n p : Node) (octets : List ℕ) (k : KeyMessage) (z : Derivation) (counter : ℕ) (fte : List ℕ) → k.message ≡ M1 → counter ≡ k.fields.counter
+    → Took (Some p) octets (kind.Key k.message) Accepted None ∷ Derived p z.inputs z.ptk ∷ sent_m2 d n p z counter fte ∷ [] ≡ replying_acts d n p octets z k.fields.counter fte
+replied d n p octets k z counter fte is same =
+    ap (λ (m : Message). Took (Some p) octets (kind.Key m) Accepted None ∷ Derived p z.inputs z.ptk ∷ sent_m2 d n p z counter fte ∷ []) is
+    ∙ ap (λ (x : ℕ). Took (Some p) octets (kind.Key M1) Accepted None ∷ Derived p z.inputs z.ptk ∷ sent_m2 d n p z x fte ∷ []) same
 
 -- what the key is made of is what the attempt and M1 say
-made_of : (d : Domain) (sta : ℕ) (p : Node) (y : Keyed) (part : List Act) (v : List ℕ) (k : KeyMessage) → y.snonce ≡ v → own part ≡ v → y.anonce ≡ k.fields.nonce
-    → inputs_by d (root d) (Sta sta) p y ≡ inputs d (root d) (Sta sta) p (own part) k.fields.nonce
-made_of d sta p y part v k drawn mine theirs =
-    ap (λ (w : List ℕ). inputs d (root d) (Sta sta) p w y.anonce) (drawn ∙ sym mine) ∙ ap (λ (w : List ℕ). inputs d (root d) (Sta sta) p (own part) w) theirs
+made_of : (d : Domain) (q r : Root) (sta : ℕ) (p : Node) (y : Keyed) (part : List Act) (v : List ℕ) (k : KeyMessage) → q ≡ r → y.snonce ≡ v → own part ≡ v → y.anonce ≡ k.fields.nonce
+    → inputs_by d q (Sta sta) p y ≡ inputs d r (Sta sta) p (own part) k.fields.nonce
+made_of d q r sta p y part v k root_is drawn mine theirs =
+    ap (λ (z : Root). inputs d z (Sta sta) p y.snonce y.anonce) root_is ∙ ap (λ (w : List ℕ). inputs d r (Sta sta) p w y.anonce) (drawn ∙ sym mine) ∙ ap (λ (w : List ℕ). inputs d r (Sta sta) p (own part) w) theirs
 
-adds_replied : (d : Domain) (first sta : ℕ) (p : Node) (octets : List ℕ) (k : KeyMessage) (h : List Act) (v : List ℕ) (key : Option Keyed) (y : Keyed) → IsMessageFrom d (Sta sta) p octets k → k.message ≡ M1 → IsUnderWay d (Sta sta) p v key h
-    → y.snonce ≡ v → y.anonce ≡ k.fields.nonce → y.ptk ≡ ptk (inputs_by d (root d) (Sta sta) p y)
-    → TakeRow (here d first (Sta sta)) h octets (replying_acts d (Sta sta) p octets (inputs_by d (root d) (Sta sta) p y) y.ptk k.fields.counter)
-adds_replied d first sta p octets k h v key y from is u drawn theirs keyed =
+adds_replied : (d : Domain) (first sta : ℕ) (p : Node) (b : Base) (octets : List ℕ) (k : KeyMessage) (h : List Act) (v : List ℕ) (key : Option Keyed) (y : Keyed) → IsMessageFrom d (Sta sta) p octets k → k.message ≡ M1 → IsUnderWay d (Sta sta) p b v key h
+    → y.snonce ≡ v → y.anonce ≡ k.fields.nonce → y.ptk ≡ ptk (inputs_by d (root_at d b.r0kh_id) (Sta sta) p y)
+    → TakeRow (here d first (Sta sta)) h octets (replying_acts d (Sta sta) p octets (key_by d (root_at d b.r0kh_id) (Sta sta) p y) k.fields.counter (fte_in b))
+adds_replied d first sta p b octets k h v key y from is u drawn theirs keyed =
+    let says : Option ElementFields = u.based.says in
+    let facts : Facts = responded_facts says in
     let accepted : first_verdict d first (Sta sta) h (KeyedReading k) ≡ Accepted = m1_is d first sta p octets k h from is ∙ m1-in h p k u.part true None u.is u.begun u.hears (ap (kept_counter p) (since_part p h u.part u.is) ∙ u.keeps) in
     let mine : own u.part ≡ v = ap (λ (o : Option (List ℕ)). unwrap_or o []) u.nonce in
+    let i : Inputs = inputs_by d (root_at d b.r0kh_id) (Sta sta) p y in
     record {
       r = KeyedReading k;
       reads = from.reads;
-      facts = no_facts;
-      knows = λ so q peer. knows_m1 d h k q is;
+      facts = facts;
+      knows = λ so q peer. knows_m1 d h k p q says is (let mine_is : peer_of d (Sta sta) k.header.a2 ≡ Some p = from.from in let both = sym mine_is ∙ peer in cc) (response_by d.akm h p b u.part says (since_part p h u.part u.is) u.based.responds);
       row = By_m1 (record {
         k = k;
         is = refl;
         message_is = is;
         p = p;
         from = from.from;
-        accepted = accepted_m1 d first (Sta sta) h k is accepted;
+        accepted = accepted_m1 d first (Sta sta) p h k facts is from.from accepted;
         part = u.part;
         awaited = u.is;
-        i = inputs_by d (root d) (Sta sta) p y;
-        inputs_are = made_of d sta p y u.part v k drawn mine theirs;
-        says = ap (λ (q : Ptk). replying_acts d (Sta sta) p octets (inputs_by d (root d) (Sta sta) p y) q k.fields.counter) keyed;
+        i = i;
+        inputs_are = made_of d (root_at d b.r0kh_id) (root_at d (responded_r0kh_id says)) sta p y u.part v k (id_by d.akm (heard p kind.AssocResp u.part) says b d u.based.responds) drawn mine theirs;
+        says = ap (λ (q : Ptk). replying_acts d (Sta sta) p octets (record { inputs = i; ptk = q }) k.fields.counter (fte_in b)) keyed
+            ∙ ap (λ (m : Act). Took (Some p) octets (kind.Key M1) Accepted None ∷ Derived p i (ptk i) ∷ m ∷ []) (m2_by d (Sta sta) p (keyed_by i) k.fields.counter (heard p kind.AssocResp u.part) says b u.based.responds);
       });
     }
 
-pub m1_accepted : (f : KeyFrame) (s : State) (ks : List Kept) (old new : Attempt) (r : Reply) → s.ends.akm ≢ FtPsk → s.attempt ≡ Some old → Answers s.ends s.psk f old new r → IsWhole r
+-- names of keys do not go back to nonces
+pub mobile_by : (d : Domain) (n p : Node) (b : Base) (y : Keyed) (o : Option Mobility) → IsMobility d (inputs d (root_at d b.r0kh_id) n p [] []) (fte_in b) o → IsMobility d (inputs_by d (root_at d b.r0kh_id) n p y) (fte_in b) o
+mobile_by d (Ap a) p b y None is = is
+mobile_by d (Ap a) p b y (Some m) is = is
+mobile_by d (Sta s) p b y None is = is
+mobile_by d (Sta s) p b y (Some m) is = is
+
+pub m1_accepted : (f : KeyFrame) (s : State) (ks : List Kept) (old new : Attempt) (r : Reply) → s.attempt ≡ Some old → Answers s.ends s.base f old new r → IsWhole r
     → IsTaken M1 f (both s ks) (both (having (Some new) s.session s) ks) Accepted r
-m1_accepted f s ks old new r suite has answers whole = record {
+m1_accepted f s ks old new r has answers whole = record {
   steps = λ d first sta a octets k h st remembers from is fields are.
       (let y = answers.key in
-      let of : IsKeyOf s.ends s.psk y = is_key_of s.ends s.psk f.nonce old.snonce y answers.key_is in
-      let keyed : y.ptk ≡ ptk (inputs_by d (root d) (Sta sta) (Ap a) y) = key_is d (Sta sta) (Ap a) s.ends s.psk y st.ends st.psk suite of in
-      let u : IsUnderWay d (Sta sta) (Ap a) old.snonce old.key h = subst (λ (x : Option Attempt). HasAttempt d (Sta sta) (Ap a) x h) has st.attempt_is in
+      let b = s.base in
+      let u : IsUnderWay d (Sta sta) (Ap a) b old.snonce old.key h = subst (λ (x : Option Attempt). HasAttempt d (Sta sta) (Ap a) b x h) has st.attempt_is in
+      let of : IsKeyOf s.ends b.pmk y = is_key_of s.ends b.pmk f.nonce old.snonce y answers.key_is in
+      let keyed : y.ptk ≡ ptk (inputs_by d (root_at d b.r0kh_id) (Sta sta) (Ap a) y) = key_is d (root_at d b.r0kh_id) (Sta sta) (Ap a) s.ends b.pmk y st.ends u.based.of.pmk of in
       let drawn : y.snonce ≡ old.snonce = ap (λ (z : Keyed). z.snonce) answers.key_is in
       let nonce_is : y.anonce ≡ k.fields.nonce = ap (λ (z : Keyed). z.anonce) answers.key_is ∙ ap (λ (g : KeyFields). g.nonce) (sym fields) in
       let counter_is : f.counter ≡ k.fields.counter = ap (λ (g : KeyFields). g.counter) (sym fields) in
-      let acts : List Act = replying_acts d (Sta sta) (Ap a) octets (inputs_by d (root d) (Sta sta) (Ap a) y) y.ptk k.fields.counter in
+      let z : Derivation = key_by d (root_at d b.r0kh_id) (Sta sta) (Ap a) y in
+      let acts : List Act = replying_acts d (Sta sta) (Ap a) octets z k.fields.counter (fte_in b) in
       steps_by d first (Sta sta) (Ap a) octets k (both (having (Some new) s.session s) ks) Accepted r h acts
-      (derives y (sent_m2 d (Sta sta) (Ap a) (key_by d (root d) (Sta sta) (Ap a) y) f.counter ∷ [])) (answers.tells d (Sta sta) (Ap a) (key_by d (root d) (Sta sta) (Ap a) y) st.ends refl refl) tt
-      (replied d (Sta sta) (Ap a) octets k (inputs_by d (root d) (Sta sta) (Ap a) y) y.ptk f.counter is counter_is)
-      (adds_replied d first sta (Ap a) octets k h old.snonce old.key y from is u drawn nonce_is keyed)
+      (derives y (sent_m2 d (Sta sta) (Ap a) z f.counter (fte_in b) ∷ [])) (answers.tells d (Sta sta) (Ap a) z st.ends refl refl (mobile_by d (Sta sta) (Ap a) b y b.mobility u.based.of.mobility)) tt
+      (replied d (Sta sta) (Ap a) octets k z f.counter (fte_in b) is counter_is)
+      (adds_replied d first sta (Ap a) b octets k h old.snonce old.key y from is u drawn nonce_is keyed)
       (record {
         ends = st.ends;
-        psk = st.psk;
-        attempt_is = subst (λ (x : Attempt). IsUnderWay d (Sta sta) (Ap a) x.snonce x.key (add acts h)) (sym answers.is) (under_way_replied d (Sta sta) (Ap a) old.snonce octets old.key y k.fields.counter h u);
-        session_is = session_replied d (Sta sta) (Ap a) s.session octets old.snonce old.key (inputs_by d (root d) (Sta sta) (Ap a) y) y.ptk k.fields.counter h u st.session_is;
+        attempt_is = subst (λ (x : Attempt). IsUnderWay d (Sta sta) (Ap a) b x.snonce x.key (add acts h)) (sym answers.is) (under_way_replied d (Sta sta) (Ap a) b old.snonce octets old.key y k.fields.counter (fte_in b) h u);
+        session_is = session_replied d (Sta sta) (Ap a) b s.session octets old.snonce old.key z k.fields.counter (fte_in b) h u st.session_is;
       })
-      (remembers_replied d (Sta sta) (Ap a) octets (inputs_by d (root d) (Sta sta) (Ap a) y) y.ptk k.fields.counter ks h remembers));
+      (remembers_replied d (Sta sta) (Ap a) octets z k.fields.counter (fte_in b) ks h remembers));
   refused = λ w e. cc;
   whole = whole;
   ends = (refl, refl);

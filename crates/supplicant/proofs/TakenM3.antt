@@ -1,7 +1,8 @@
 -- Each way in which a supplicant takes M3.
 use Rattle.std.proofs.Common.{◌≡◌, ℕ, true, false, cond, List, [], ◌∷◌, Option, Some, None, refl, sym, ap, subst, ◌∙◌}
-use Rattle.std.specs.Prelude.{is_some, Result, Ok, Err}
+use Rattle.std.specs.Prelude.{Bool, is_some, Result, Ok, Err}
 use Rattle.domain_base.specs.declared.names.Akm.{Akm}
+use Rattle.domain_base.specs.declared.names.Akm.TheVariants.{Psk, PskSha256, FtPsk}
 use Rattle.domain_base.specs.declared.names.Node.{Node}
 use Rattle.domain_base.specs.declared.names.Node.TheVariants.{Ap, Sta}
 use Rattle.domain_base.specs.declared.names.Peer.TheVariants.{One}
@@ -25,15 +26,17 @@ use Rattle.run_journal.specs.declared.reply.Keyed.{Keyed}
 use Rattle.run_journal.specs.declared.reply.GtkNews.{GtkNews}
 use Rattle.run_journal.specs.Replies.{IsEmpty, IsWhole}
 use Rattle.run_journal.specs.Acts.{GroupKey}
-use Rattle.run_journal.specs.Questions.{attempt, add}
-use Rattle.domain_rules.specs.Network.{mac, peer_of, root}
+use Rattle.run_journal.specs.Questions.{attempt, since, heard, add}
+use Rattle.domain_rules.specs.Network.{mac, peer_of, root_at}
 use Rattle.domain_rules.specs.Frames.{sent_m4, frame_seal}
 use Rattle.domain_rules.specs.GroupKeys.{memory, give, give_by, find_key}
 use Rattle.domain_rules.specs.Reading.{KeyMessage, Keyed as KeyedReading}
-use Rattle.domain_rules.specs.Replies.{key_by, IsMessageFrom}
-use Rattle.domain_rules.specs.Facts.{Facts}
-use Rattle.domain_rules.specs.StationKeys.{Keying, KnowsM3, m3_keying, m3_wrapped}
-use Rattle.domain_rules.specs.Verdict.{comes_so_far, Knows, KnowsOf, and_then, first_verdict, verdict}
+use Rattle.domain_rules.specs.Replies.{key_by, inputs_by, IsMessageFrom}
+use Rattle.domain_rules.specs.Facts.{Facts, is_same}
+use Rattle.domain_rules.specs.StationKeys.{Keying, KnowsM3, m3_keying, m3_wrapped, is_group_key}
+use Rattle.domain_rules.specs.FastTransition.{r1_name}
+use Rattle.domain_rules.specs.TransitionKeyData.{is_domain, responded_fte, ft_m3_key_data, ft_m3_wrapped}
+use Rattle.domain_rules.specs.Verdict.{comes_so_far, Knows, KnowsOf, KnowsResponse, and_then, first_verdict, verdict, m3_further}
 use Rattle.domain_rules.specs.Rows.{TakeRow, seal_in, message_seal, refused_seal, By_m3, By_repeated_m3, By_refusal}
 use Rattle.domain_rules.specs.Closing.{sender}
 use Rattle.domain_rules.specs.Here.{here}
@@ -48,19 +51,30 @@ use Rattle.supplicant.specs.declared.attempt.Attempt.{Attempt}
 use Rattle.supplicant.specs.declared.session.Session.{Session}
 use Rattle.supplicant.specs.declared.key_data.CarriedKey.{CarriedKey}
 use Rattle.supplicant.specs.State.{State, having, both}
-use Rattle.supplicant.specs.Stands.{SupplicantStands, HasAttempt, HasSession, IsUnderWay, IsHeld}
-use Rattle.supplicant.specs.KeyData.{packet_number_of, group_key, news_of, IsOpened}
+use Rattle.supplicant.specs.Stands.{SupplicantStands, HasAttempt, HasSession, IsUnderWay, IsHeld, Holds, IsBased, Responds}
+use Rattle.supplicant.specs.Bases.{fte_in}
+use Rattle.supplicant.specs.declared.base.Base.{Base}
+use Rattle.supplicant.specs.declared.session.Session.TheVariants.{Connect, Ft}
+use Rattle.frame_making.specs.Mobile.{Mobility}
+use Rattle.frame_making.proofs.MobileData.{same_mobility}
+use Rattle.frame_making.specs.KeyData.{IsMobility}
+use Rattle.rsn_elements.specs.Transition.{MdeFields}
+use Rattle.rsn_elements.specs.Elements.{ElementFields}
+use Rattle.rsn_elements.specs.Sent.{rsne_octets}
+use Rattle.supplicant.specs.KeyData.{packet_number_of, group_key, news_of, has_mdid_by, mobile_said, m3_said, wrapped_by, IsOpened}
 use Rattle.supplicant.specs.M3.{under, before_key_data, IsVerified, IsRefusedBefore, IsM3}
 use Rattle.supplicant.specs.Told.{IsSilent, verifies, repeats, installs}
-use Rattle.supplicant.specs.Exchange.{Finishes, Repeats, IsRefusal}
+use Rattle.supplicant.specs.Exchange.{Finishes, Repeats, IsRefusal, IsRepeatRefusal}
+use Rattle.supplicant.specs.Held.{key_in}
 use Rattle.supplicant.specs.Taken.{IsTaken, HaveGroupIds}
 use Rattle.supplicant.proofs.GroupIds.{carried_id, ids_given}
 use Rattle.supplicant.proofs.Telling.{steps_by, tells_silent, empty_silent, whole_silent}
 use Rattle.supplicant.proofs.Standing.{stands_refused}
 use Rattle.supplicant.proofs.Remembering.{remembers_took, remembers_answered, remembers_finished}
-use Rattle.supplicant.proofs.Keyings.{IsKeying, IsKeyingAt, attempt_keying, session_keying_is, m3_is, m3_none, taken_by, m3_under, refused_as, verified_as, counter_high}
+use Rattle.supplicant.proofs.Keyings.{IsKeying, IsKeyingAt, attempt_keying, session_keying_is, transferred_keying, m3_is, m3_none, taken_by, m3_under, refused_as, verified_as, counter_high}
 use Rattle.supplicant.proofs.Sessions.{finishing_acts, apart_give, held_finished, none_finished, answering_acts, held_again, none_again}
-use Rattle.supplicant.proofs.TakenM1.{taken_refused}
+use Rattle.supplicant.proofs.TakenM1.{taken_refused, mobile_by}
+use Rattle.supplicant.proofs.KeyDataRead.{comes_of}
 
 -- ---- refused before its MIC
 
@@ -70,42 +84,113 @@ m3_unawaited f s ks r empty none = taken_refused M3 f s ks reason.Unawaited r (e
 
 -- the key that M3 is taken under, and in a session the counter that is kept
 abbrev pub AreKeyings : State → Keyed → Option ℕ → Type 0
-AreKeyings s y kept = (d : Domain) (n p : Node) (h : List Act) → SupplicantStands d n p s h → IsKeying d n p h y kept
+AreKeyings s y kept = (d : Domain) (n p : Node) (h : List Act) → SupplicantStands d n p s h → IsKeying d n p s.base h y kept
 
 m3_refused : (f : KeyFrame) (s : State) (ks : List Kept) (y : Keyed) (kept : Option ℕ) (why : Reason) (r : Reply) → IsSilent r → r.verified ≡ None → AreKeyings s y kept
-    → IsRefusedBefore (under s.ends.akm y kept) (fields_of f) f.octets.now (Err why) → IsTaken M3 f (both s ks) (both s ks) (Refused why) r
+    → IsRefusedBefore (under s.base y kept) (fields_of f) f.octets.now (Err why) → IsTaken M3 f (both s ks) (both s ks) (Refused why) r
 m3_refused f s ks y kept why r silent plain keying judged = taken_refused M3 f s ks why r silent plain
     (λ d first sta a octets k h st from is fields are.
-    (let j : (o : Outcome) → before_key_data (under d.akm y kept) k.fields k.octets o ≡ Refused why = refused_as s.ends.akm d.akm y kept (fields_of f) f.octets.now k (Err why) st.ends.akm fields are judged in
-    m3_is d first sta (Ap a) octets k h from is ∙ m3_under d sta (Ap a) h k y kept (keying d (Sta sta) (Ap a) h st) ∙ j (taken_by kept)))
+    (let j : (o : Outcome) → before_key_data (under s.base y kept) k.fields k.octets o ≡ Refused why = refused_as s.base y kept (fields_of f) f.octets.now k (Err why) fields are judged in
+    m3_is d first sta (Ap a) octets k h from is ∙ m3_under d sta (Ap a) s.base h k y kept (keying d (Sta sta) (Ap a) h st) ∙ j (taken_by kept)))
+
+-- ---- what comes of its key data
+
+-- what it says with suite 4, as the definitions have it
+domain_is : (d : Domain) (name fte : List ℕ) (o : Option MdeFields) → is_domain d o ≡ has_mdid_by (Some (record { name = name; mdid = d.mdid; fte = fte })) o
+domain_is d name fte None = refl
+domain_is d name fte (Some f) = refl
+
+said_mobile : (d : Domain) (name fte : List ℕ) (responded says : Option ElementFields) → responded_fte responded ≡ Some fte → ft_m3_key_data d name responded says ≡ mobile_said FtPsk (record { name = name; mdid = d.mdid; fte = fte }) says
+said_mobile d name fte responded None is = refl
+said_mobile d name fte responded (Some e) is =
+    let named : Bool = is_same e.rsne_octets (Some (rsne_octets FtPsk (Some name))) in
+    ap (λ (b : Bool). comes_of named b (is_same e.fte_octets (responded_fte responded)) (is_group_key e.gtk)) (domain_is d name fte e.mde)
+    ∙ ap (λ (o : Option (List ℕ)). comes_of named (has_mdid_by (Some (record { name = name; mdid = d.mdid; fte = fte })) e.mde) (is_same e.fte_octets o) (is_group_key e.gtk)) is
+
+-- and of its wrap
+abbrev wrapped_said : Akm → Option Mobility → Option (List ℕ) → Option ElementFields → Outcome
+wrapped_said akm o None says = Refused reason.Wrap
+wrapped_said akm o (Some plain) says = m3_said akm o says
+
+wrapped_is : (b : Base) (plain : Option (List ℕ)) (says : Option ElementFields) → wrapped_said b.akm b.mobility plain says ≡ wrapped_by (Some b) plain says
+wrapped_is b None says = refl
+wrapped_is b (Some plain) says = refl
+
+wrapped_mobile : (d : Domain) (name fte : List ℕ) (responded : Option ElementFields) (plain : Option (List ℕ)) (says : Option ElementFields) → responded_fte responded ≡ Some fte
+    → ft_m3_wrapped d name responded plain says ≡ wrapped_said FtPsk (Some (record { name = name; mdid = d.mdid; fte = fte })) plain says
+wrapped_mobile d name fte responded None says is = refl
+wrapped_mobile d name fte responded (Some plain) says is = said_mobile d name fte responded says is
+
+-- the base is that of the suite
+mobility_is : (d : Domain) (z : Derivation) (fte : List ℕ) (o : Option Mobility) → d.akm ≡ FtPsk → IsMobility d z.inputs fte o → o ≡ Some (record { name = r1_name z.inputs; mdid = d.mdid; fte = fte })
+mobility_is d z fte None suite is = absurd (is suite)
+mobility_is d z fte (Some m) suite is = ap (λ (x : Mobility). Some x) (same_mobility m (r1_name z.inputs) d.mdid fte is.1 is.2 is.3)
+
+none_mobile : (d : Domain) (z : Derivation) (fte : List ℕ) (o : Option Mobility) → (d.akm ≡ FtPsk → ⊥) → IsMobility d z.inputs fte o → o ≡ None
+none_mobile d z fte None suite is = refl
+none_mobile d z fte (Some m) suite is = absurd (suite is.0)
+
+abbrev pub m3_facts : Option ElementFields → Option (List ℕ) → Option ElementFields → Facts
+m3_facts responded plain says = record { requested = None; responded = responded; unwrapped = plain; data_ = says; pulled = None; opened = None }
+
+plain_wrapped : (akm : Akm) (plain : Option (List ℕ)) (says : Option ElementFields) → m3_wrapped akm plain says ≡ wrapped_said akm None plain says
+plain_wrapped akm None says = refl
+plain_wrapped akm (Some plain) says = refl
+
+further_by : (akm : Akm) (d : Domain) (y : Keying) (octets : Option (List ℕ)) (b : Base) (responded : Option ElementFields) (plain : Option (List ℕ)) (says : Option ElementFields) → d.akm ≡ akm → IsMobility d y.key.inputs (fte_in b) b.mobility → Responds akm octets responded b
+    → m3_further akm d (Some y) (m3_facts responded plain says) ≡ wrapped_said akm b.mobility plain says
+further_by Psk d y octets b responded plain says suite is responds =
+    plain_wrapped Psk plain says ∙ ap (λ (o : Option Mobility). wrapped_said Psk o plain says) (sym (none_mobile d y.key (fte_in b) b.mobility (λ e. cc (suite, e)) is))
+further_by PskSha256 d y octets b responded plain says suite is responds =
+    plain_wrapped PskSha256 plain says ∙ ap (λ (o : Option Mobility). wrapped_said PskSha256 o plain says) (sym (none_mobile d y.key (fte_in b) b.mobility (λ e. cc (suite, e)) is))
+further_by FtPsk d y octets b responded plain says suite is responds =
+    wrapped_mobile d (r1_name y.key.inputs) (fte_in b) responded plain says responds.1
+    ∙ ap (λ (o : Option Mobility). wrapped_said FtPsk o plain says) (sym (mobility_is d y.key (fte_in b) b.mobility suite is))
+
+further_is : (d : Domain) (n p : Node) (b : Base) (h : List Act) (y : Keyed) (kept : Option ℕ) (plain : Option (List ℕ)) (says : Option ElementFields) → (x : IsKeying d n p b h y kept)
+    → m3_further d.akm d (m3_keying p h) (m3_facts x.based.says plain says) ≡ wrapped_by (Some b) plain says
+further_is d n p b h y kept plain says x =
+    ap (λ (o : Option Keying). m3_further d.akm d o (m3_facts x.based.says plain says)) x.is
+    ∙ further_by d.akm d (record { key = key_by d (root_at d b.r0kh_id) n p y; is_session = is_some kept }) (heard p kind.AssocResp (since p h)) b x.based.says plain says refl (mobile_by d n p b y b.mobility x.based.of.mobility) x.based.responds
+    ∙ ap (λ (a : Akm). wrapped_said a b.mobility plain says) (sym x.based.of.akm)
+    ∙ wrapped_is b plain says
 
 -- ---- what is known where its MIC verified
 
-abbrev pub facts_of : {asked : Option Akm} {kek octets : List ℕ} {r : Result CarriedKey Reason} → IsOpened asked kek octets r → Facts
-facts_of o = record { requested = None; unwrapped = o.plain; data_ = o.says; opened = None }
+abbrev pub facts_of : {asked : Option Base} {kek octets : List ℕ} {r : Result CarriedKey Reason} → Option ElementFields → IsOpened asked kek octets r → Facts
+facts_of responded o = m3_facts responded o.plain o.says
 
-knows_y : (d : Domain) (n p : Node) (h : List Act) (k : KeyMessage) (y : Keyed) (kept : Option ℕ) (facts : Facts) → IsKeying d n p h y kept → KnowsM3 y.ptk.kek k facts → (z : Keying) → m3_keying p h ≡ Some z → KnowsM3 z.key.ptk.kek k facts
-knows_y d n p h k y kept facts x knows z is =
-    let same : record { key = key_by d (root d) n p y; is_session = is_some kept } ≡ z = (let both = sym x.is ∙ is in cc) in
+knows_y : (d : Domain) (n p : Node) (b : Base) (h : List Act) (k : KeyMessage) (y : Keyed) (kept : Option ℕ) (facts : Facts) → IsKeying d n p b h y kept → KnowsM3 y.ptk.kek k facts → (z : Keying) → m3_keying p h ≡ Some z → KnowsM3 z.key.ptk.kek k facts
+knows_y d n p b h k y kept facts x knows z is =
+    let same : record { key = key_by d (root_at d b.r0kh_id) n p y; is_session = is_some kept } ≡ z = (let both = sym x.is ∙ is in cc) in
     subst (λ (w : Keying). KnowsM3 w.key.ptk.kek k facts) same knows
 
-knows_m3 : (d : Domain) (first sta : ℕ) (h : List Act) (p : Node) (octets : List ℕ) (k : KeyMessage) (y : Keyed) (kept : Option ℕ) (facts : Facts) → IsMessageFrom d (Sta sta) p octets k → k.message ≡ M3 → IsKeying d (Sta sta) p h y kept → KnowsM3 y.ptk.kek k facts
+-- the association response
+response_m3 : (akm : Akm) (h : List Act) (p : Node) (b : Base) (facts : Facts) → Responds akm (heard p kind.AssocResp (since p h)) facts.responded b → KnowsResponse akm h p M3 facts
+response_m3 Psk h p b facts responds = tt
+response_m3 PskSha256 h p b facts responds = tt
+response_m3 FtPsk h p b facts responds = responds.0
+
+knows_m3 : (d : Domain) (first sta : ℕ) (h : List Act) (p : Node) (b : Base) (octets : List ℕ) (k : KeyMessage) (y : Keyed) (kept : Option ℕ) (facts : Facts) → IsMessageFrom d (Sta sta) p octets k → k.message ≡ M3 → (x : IsKeying d (Sta sta) p b h y kept) → facts.responded ≡ x.based.says → KnowsM3 y.ptk.kek k facts
     → Knows d first (Sta sta) h (KeyedReading k) facts
-knows_m3 d first sta h p octets k y kept facts from is x knows = λ so q peer.
+knows_m3 d first sta h p b octets k y kept facts from is x says knows = λ so q peer.
     (let mine : peer_of d (Sta sta) k.header.a2 ≡ Some p = from.from in
     let same : p ≡ q = (let both = sym mine ∙ peer in cc) in
-    subst (λ (m : Message). KnowsOf d.akm h q m k facts) (sym is) (subst (λ (z : Node). (w : Keying) → m3_keying z h ≡ Some w → KnowsM3 w.key.ptk.kek k facts) same (knows_y d (Sta sta) p h k y kept facts x knows)))
+    let responds : KnowsResponse d.akm h p M3 facts = response_m3 d.akm h p b facts (subst (λ (o : Option ElementFields). Responds d.akm (heard p kind.AssocResp (since p h)) o b) (sym says) x.based.responds) in (
+      subst (λ (m : Message). KnowsOf d.akm h q m k facts) (sym is) (subst (λ (z : Node). (w : Keying) → m3_keying z h ≡ Some w → KnowsM3 w.key.ptk.kek k facts) same (knows_y d (Sta sta) p b h k y kept facts x knows)),
+      subst (λ (m : Message). KnowsResponse d.akm h q m facts) (sym is) (subst (λ (z : Node). KnowsResponse d.akm h z M3 facts) same responds),
+    ))
 
-pub knows_opened : (asked : Option Akm) (kek : List ℕ) (k : KeyMessage) (r : Result CarriedKey Reason) (o : IsOpened asked kek k.fields.key_data r) → KnowsM3 kek k (facts_of o)
-knows_opened asked kek k r o = record { unwrapped = o.unwrapped; data_ = o.reads }
+pub knows_opened : (asked : Option Base) (kek : List ℕ) (k : KeyMessage) (responded : Option ElementFields) (r : Result CarriedKey Reason) (o : IsOpened asked kek k.fields.key_data r) → KnowsM3 kek k (facts_of responded o)
+knows_opened asked kek k responded r o = record { unwrapped = o.unwrapped; data_ = o.reads }
 
-verdict_m3 : (d : Domain) (first : ℕ) (n : Node) (h : List Act) (k : KeyMessage) (facts : Facts) (o w : Outcome) → k.message ≡ M3 → first_verdict d first n h (KeyedReading k) ≡ o → m3_wrapped d.akm facts.unwrapped facts.data_ ≡ w
+verdict_m3 : (d : Domain) (first : ℕ) (n p : Node) (h : List Act) (k : KeyMessage) (facts : Facts) (o w : Outcome) → peer_of d n k.header.a2 ≡ Some p → k.message ≡ M3 → first_verdict d first n h (KeyedReading k) ≡ o → m3_further d.akm d (m3_keying p h) facts ≡ w
     → verdict d first n h (KeyedReading k) facts ≡ and_then o w
-verdict_m3 d first n h k facts o w is comes wrapped = rw (comes, is, wrapped) refl
+verdict_m3 d first n p h k facts o w from is comes further = rw (comes, from, is) (ap (and_then o) further)
 
-comes_m3 : (d : Domain) (first sta : ℕ) (p : Node) (octets : List ℕ) (k : KeyMessage) (h : List Act) (y : Keyed) (kept : Option ℕ) (r : Result CarriedKey Reason) → IsMessageFrom d (Sta sta) p octets k → k.message ≡ M3 → IsKeying d (Sta sta) p h y kept → IsVerified (under d.akm y kept) k.fields k.octets r
+comes_m3 : (d : Domain) (first sta : ℕ) (p : Node) (b : Base) (octets : List ℕ) (k : KeyMessage) (h : List Act) (y : Keyed) (kept : Option ℕ) (r : Result CarriedKey Reason) → IsMessageFrom d (Sta sta) p octets k → k.message ≡ M3 → IsKeying d (Sta sta) p b h y kept → IsVerified (under b y kept) k.fields k.octets r
     → first_verdict d first (Sta sta) h (KeyedReading k) ≡ taken_by kept
-comes_m3 d first sta p octets k h y kept r from is x v = m3_is d first sta p octets k h from is ∙ m3_under d sta p h k y kept x ∙ v.comes (taken_by kept)
+comes_m3 d first sta p b octets k h y kept r from is x v = m3_is d first sta p octets k h from is ∙ m3_under d sta p b h k y kept x ∙ v.comes (taken_by kept)
 
 -- its key data refuses acceptance and answer alike
 refused_by : (kept : Option ℕ) (why : Reason) → and_then (taken_by kept) (Refused why) ≡ Refused why
@@ -116,9 +201,9 @@ taken_far : (kept : Option ℕ) → comes_so_far (taken_by kept) ≡ true
 taken_far None = refl
 taken_far (Some counter) = refl
 
-seal_m3 : (d : Domain) (sta : ℕ) (h : List Act) (p : Node) (octets : List ℕ) (k : KeyMessage) (y : Keyed) (kept : Option ℕ) → IsMessageFrom d (Sta sta) p octets k → k.message ≡ M3 → IsKeying d (Sta sta) p h y kept
+seal_m3 : (d : Domain) (sta : ℕ) (h : List Act) (p : Node) (b : Base) (octets : List ℕ) (k : KeyMessage) (y : Keyed) (kept : Option ℕ) → IsMessageFrom d (Sta sta) p octets k → k.message ≡ M3 → IsKeying d (Sta sta) p b h y kept
     → seal_in d (Sta sta) h (KeyedReading k) ≡ Some (frame_seal y.ptk.kck k.octets)
-seal_m3 d sta h p octets k y kept from is x =
+seal_m3 d sta h p b octets k y kept from is x =
     let mine : peer_of d (Sta sta) k.header.a2 ≡ Some p = from.from in
     ap (λ (m : Message). message_seal d (Sta sta) h k m (peer_of d (Sta sta) k.header.a2)) is
     ∙ ap (λ (o : Option Node). message_seal d (Sta sta) h k M3 o) mine
@@ -126,33 +211,35 @@ seal_m3 d sta h p octets k y kept from is x =
 
 -- ---- refused after its MIC
 
-adds_sealed : (d : Domain) (first sta : ℕ) (p : Node) (octets : List ℕ) (k : KeyMessage) (h : List Act) (y : Keyed) (kept : Option ℕ) (why : Reason) → IsMessageFrom d (Sta sta) p octets k → k.message ≡ M3 → IsKeying d (Sta sta) p h y kept → IsVerified (under d.akm y kept) k.fields k.octets (Err why)
+adds_sealed : (d : Domain) (first sta : ℕ) (p : Node) (b : Base) (octets : List ℕ) (k : KeyMessage) (h : List Act) (y : Keyed) (kept : Option ℕ) (why : Reason) → IsMessageFrom d (Sta sta) p octets k → k.message ≡ M3 → IsKeying d (Sta sta) p b h y kept → IsVerified (under b y kept) k.fields k.octets (Err why)
     → TakeRow (here d first (Sta sta)) h octets (Took (Some p) octets (kind.Key k.message) (Refused why) (Some (frame_seal y.ptk.kck k.octets)) ∷ [])
-adds_sealed d first sta p octets k h y kept why from is x v =
+adds_sealed d first sta p b octets k h y kept why from is x v =
+    let comes = comes_m3 d first sta p b octets k h y kept (Err why) from is x v in
+    let facts : Facts = facts_of x.based.says v.opened in
     let sealed : refused_seal d first (Sta sta) h (KeyedReading k) ≡ Some (frame_seal y.ptk.kck k.octets) =
-    sym (far_seal d first (Sta sta) h (KeyedReading k) (taken_by kept) (comes_m3 d first sta p octets k h y kept (Err why) from is x v) (taken_far kept)) ∙ seal_m3 d sta h p octets k y kept from is x in
+    sym (far_seal d first (Sta sta) h (KeyedReading k) (taken_by kept) comes (taken_far kept)) ∙ seal_m3 d sta h p b octets k y kept from is x in
     record {
       r = KeyedReading k;
       reads = from.reads;
-      facts = facts_of v.opened;
-      knows = knows_m3 d first sta h p octets k y kept (facts_of v.opened) from is x (knows_opened (Some d.akm) y.ptk.kek k (Err why) v.opened);
+      facts = facts;
+      knows = knows_m3 d first sta h p b octets k y kept facts from is x refl (knows_opened (Some b) y.ptk.kek k x.based.says (Err why) v.opened);
       row = By_refusal (record {
         why = why;
-        refused = verdict_m3 d first (Sta sta) h k (facts_of v.opened) (taken_by kept) (Refused why) is (comes_m3 d first sta p octets k h y kept (Err why) from is x v) v.opened.is ∙ refused_by kept why;
+        refused = verdict_m3 d first (Sta sta) p h k facts (taken_by kept) (Refused why) from.from is comes (further_is d (Sta sta) p b h y kept v.opened.plain v.opened.says x ∙ v.opened.is) ∙ refused_by kept why;
         says = ap (λ (o : Option Node). Took o octets (kind.Key k.message) (Refused why) (Some (frame_seal y.ptk.kck k.octets)) ∷ []) (sym from.from)
             ∙ ap (λ (o : Option Seal). Took (sender d (Sta sta) (KeyedReading k)) octets (kind.Key k.message) (Refused why) o ∷ []) (sym sealed);
       });
     }
 
 m3_sealed : (f : KeyFrame) (s : State) (ks : List Kept) (y : Keyed) (kept : Option ℕ) (why : Reason) (r : Reply) → IsSilent r → r.verified ≡ Some y.ptk.kck → AreKeyings s y kept
-    → IsVerified (under s.ends.akm y kept) (fields_of f) f.octets.now (Err why) → IsTaken M3 f (both s ks) (both s ks) (Refused why) r
+    → IsVerified (under s.base y kept) (fields_of f) f.octets.now (Err why) → IsTaken M3 f (both s ks) (both s ks) (Refused why) r
 m3_sealed f s ks y kept why r silent seal keying verified = record {
   steps = λ d first sta a octets k h st remembers from is fields are.
-      (let v : IsVerified (under d.akm y kept) k.fields k.octets (Err why) = verified_as s.ends.akm d.akm y kept (fields_of f) f.octets.now k (Err why) st.ends.akm fields are verified in
+      (let v : IsVerified (under s.base y kept) k.fields k.octets (Err why) = verified_as s.base y kept (fields_of f) f.octets.now k (Err why) fields are verified in
       let x = keying d (Sta sta) (Ap a) h st in
       steps_by d first (Sta sta) (Ap a) octets k (both s ks) (Refused why) r h (Took (Some (Ap a)) octets (kind.Key k.message) (Refused why) (Some (frame_seal y.ptk.kck k.octets)) ∷ [])
       (verifies (Some y.ptk.kck)) (tells_silent (Ap a) r (Some y.ptk.kck) silent seal) tt refl
-      (adds_sealed d first sta (Ap a) octets k h y kept why from is x v)
+      (adds_sealed d first sta (Ap a) s.base octets k h y kept why from is x v)
       (stands_refused d (Sta sta) (Ap a) s octets (kind.Key k.message) why (Some (frame_seal y.ptk.kck k.octets)) h st)
       (remembers_took (Ap a) (Ap a) octets (kind.Key k.message) (Refused why) (Some (frame_seal y.ptk.kck k.octets)) ks h remembers));
   refused = λ w e. (refl, silent.installed);
@@ -162,15 +249,22 @@ m3_sealed f s ks y kept why r silent seal keying verified = record {
 }
 
 refused_by_told : (f : KeyFrame) (s : State) (ks : List Kept) (y : Keyed) (kept : Option ℕ) (why : Reason) (r : Reply) (v : Option (List ℕ)) → r.verified ≡ v → IsSilent r → AreKeyings s y kept
-    → IsM3 (under s.ends.akm y kept) (fields_of f) f.octets.now (Err why) v → IsTaken M3 f (both s ks) (both s ks) (Refused why) r
+    → IsM3 (under s.base y kept) (fields_of f) f.octets.now (Err why) v → IsTaken M3 f (both s ks) (both s ks) (Refused why) r
 refused_by_told f s ks y kept why r None plain silent keying judged = m3_refused f s ks y kept why r silent plain keying judged
 refused_by_told f s ks y kept why r (Some kck) seal silent keying judged = m3_sealed f s ks y kept why r silent (seal ∙ ap (λ (x : List ℕ). Some x) judged.0) keying judged.1
 
 -- as it was refused to an attempt or a session
-pub m3_refusal : (f : KeyFrame) (s : State) (ks : List Kept) (key : Option Keyed) (kept : Option ℕ) (why : Reason) (r : Reply) → ((d : Domain) (n p : Node) (h : List Act) → SupplicantStands d n p s h → IsKeyingAt d n p h key kept)
-    → IsRefusal s.ends.akm key kept f why r → IsTaken M3 f (both s ks) (both s ks) (Refused why) r
+pub m3_refusal : (f : KeyFrame) (s : State) (ks : List Kept) (key : Option Keyed) (kept : Option ℕ) (why : Reason) (r : Reply) → ((d : Domain) (n p : Node) (h : List Act) → SupplicantStands d n p s h → IsKeyingAt d n p s.base h key kept)
+    → IsRefusal s.base key kept f why r → IsTaken M3 f (both s ks) (both s ks) (Refused why) r
 m3_refusal f s ks None kept why r keying refusal = subst (λ (w : Reason). IsTaken M3 f (both s ks) (both s ks) (Refused w) r) (sym refusal.0) (m3_unawaited f s ks r refusal.1 keying)
 m3_refusal f s ks (Some y) kept why r keying refusal = refused_by_told f s ks y kept why r r.verified refl refusal.1 keying refusal.0
+
+-- in a session
+pub m3_again_refusal : (f : KeyFrame) (s : State) (ks : List Kept) (x : Session) (why : Reason) (r : Reply) → s.attempt ≡ None → s.session ≡ Some x → IsRepeatRefusal s.base x f why r → IsTaken M3 f (both s ks) (both s ks) (Refused why) r
+m3_again_refusal f s ks (Connect y counter) why r none has refusal = m3_refusal f s ks (Some y) (Some counter) why r (λ d n p h st. session_keying_is d n p s.base s.attempt s.session y counter h none has st.attempt_is st.session_is) refusal
+m3_again_refusal f s ks (Ft q counter) why r none has refusal =
+    subst (λ (w : Reason). IsTaken M3 f (both s ks) (both s ks) (Refused w) r) (sym refusal.0)
+    (m3_unawaited f s ks r refusal.1 (λ d n p h st. transferred_keying d n p s.base s.attempt s.session q counter h none has st.attempt_is st.session_is))
 
 -- ---- accepted
 
@@ -193,68 +287,76 @@ finishing d n p octets k s x g act counter is same number =
     ∙ ap (λ (e : Act). finishing_acts d n p octets s x e counter) same
     ∙ ap (finishing_acts d n p octets s x act) number
 
-adds_finished : (d : Domain) (first sta : ℕ) (p : Node) (octets : List ℕ) (k : KeyMessage) (h : List Act) (y : Keyed) (c : CarriedKey) → IsMessageFrom d (Sta sta) p octets k → k.message ≡ M3 → IsKeying d (Sta sta) p h y None → IsVerified (under d.akm y None) k.fields k.octets (Ok c)
-    → TakeRow (here d first (Sta sta)) h octets (finishing_acts d (Sta sta) p octets (frame_seal y.ptk.kck k.octets) (key_by d (root d) (Sta sta) p y) (give groups.Gtk p (mac d p) (group_key c) h) k.fields.counter)
-adds_finished d first sta p octets k h y c from is x v = record {
-  r = KeyedReading k;
-  reads = from.reads;
-  facts = facts_of v.opened;
-  knows = knows_m3 d first sta h p octets k y None (facts_of v.opened) from is x (knows_opened (Some d.akm) y.ptk.kek k (Ok c) v.opened);
-  row = By_m3 (record {
-    k = k;
-    is = refl;
-    message_is = is;
-    p = p;
-    from = from.from;
-    accepted = verdict_m3 d first (Sta sta) h k (facts_of v.opened) Accepted Accepted is (comes_m3 d first sta p octets k h y None (Ok c) from is x v) v.opened.is.0;
-    y = record { key = key_by d (root d) (Sta sta) p y; is_session = false };
-    awaited = x.is;
-    says = ap (λ (z : GroupKey). finishing_acts d (Sta sta) p octets (frame_seal y.ptk.kck k.octets) (key_by d (root d) (Sta sta) p y) (give groups.Gtk p (mac d p) z h) k.fields.counter) (sym v.opened.is.1);
-  });
-}
+adds_finished : (d : Domain) (first sta : ℕ) (p : Node) (b : Base) (octets : List ℕ) (k : KeyMessage) (h : List Act) (y : Keyed) (c : CarriedKey) → IsMessageFrom d (Sta sta) p octets k → k.message ≡ M3 → IsKeying d (Sta sta) p b h y None → IsVerified (under b y None) k.fields k.octets (Ok c)
+    → TakeRow (here d first (Sta sta)) h octets (finishing_acts d (Sta sta) p octets (frame_seal y.ptk.kck k.octets) (key_by d (root_at d b.r0kh_id) (Sta sta) p y) (give groups.Gtk p (mac d p) (group_key c) h) k.fields.counter)
+adds_finished d first sta p b octets k h y c from is x v =
+    let facts : Facts = facts_of x.based.says v.opened in
+    let z : Derivation = key_by d (root_at d b.r0kh_id) (Sta sta) p y in
+    record {
+      r = KeyedReading k;
+      reads = from.reads;
+      facts = facts;
+      knows = knows_m3 d first sta h p b octets k y None facts from is x refl (knows_opened (Some b) y.ptk.kek k x.based.says (Ok c) v.opened);
+      row = By_m3 (record {
+        k = k;
+        is = refl;
+        message_is = is;
+        p = p;
+        from = from.from;
+        accepted = verdict_m3 d first (Sta sta) p h k facts Accepted Accepted from.from is (comes_m3 d first sta p b octets k h y None (Ok c) from is x v) (further_is d (Sta sta) p b h y None v.opened.plain v.opened.says x ∙ v.opened.is.0);
+        y = record { key = z; is_session = false };
+        awaited = x.is;
+        says = ap (λ (g : GroupKey). finishing_acts d (Sta sta) p octets (frame_seal y.ptk.kck k.octets) z (give groups.Gtk p (mac d p) g h) k.fields.counter) (sym v.opened.is.1);
+      });
+    }
 
-stands_finished : (d : Domain) (sta a : ℕ) (s : State) (old : Attempt) (octets : List ℕ) (k : KeyMessage) (x : Session) (c : CarriedKey) (h : List Act) → SupplicantStands d (Sta sta) (Ap a) s h → s.attempt ≡ Some old → old.key ≡ Some x.key → IsMessageFrom d (Sta sta) (Ap a) octets k → x.counter ≡ k.fields.counter
-    → SupplicantStands d (Sta sta) (Ap a) (having None (Some x) s)
-    (add (finishing_acts d (Sta sta) (Ap a) octets (frame_seal x.key.ptk.kck k.octets) (key_by d (root d) (Sta sta) (Ap a) x.key) (give groups.Gtk (Ap a) (mac d (Ap a)) (group_key c) h) k.fields.counter) h)
-stands_finished d sta a s old octets k x c h st is has from number =
-    let y = x.key in
-    let u : IsUnderWay d (Sta sta) (Ap a) old.snonce (Some y) h = subst (λ (o : Option Keyed). IsUnderWay d (Sta sta) (Ap a) old.snonce o h) has (subst (λ (o : Option Attempt). HasAttempt d (Sta sta) (Ap a) o h) is st.attempt_is) in
+stands_finished : (d : Domain) (sta a : ℕ) (s : State) (old : Attempt) (octets : List ℕ) (k : KeyMessage) (y : Keyed) (c : CarriedKey) (h : List Act) → SupplicantStands d (Sta sta) (Ap a) s h → s.attempt ≡ Some old → old.key ≡ Some y → IsMessageFrom d (Sta sta) (Ap a) octets k
+    → SupplicantStands d (Sta sta) (Ap a) (having None (Some (Connect y k.fields.counter)) s)
+    (add (finishing_acts d (Sta sta) (Ap a) octets (frame_seal y.ptk.kck k.octets) (key_by d (root_at d s.base.r0kh_id) (Sta sta) (Ap a) y) (give groups.Gtk (Ap a) (mac d (Ap a)) (group_key c) h) k.fields.counter) h)
+stands_finished d sta a s old octets k y c h st is has from =
+    let b = s.base in
+    let u : IsUnderWay d (Sta sta) (Ap a) b old.snonce (Some y) h = subst (λ (o : Option Keyed). IsUnderWay d (Sta sta) (Ap a) b old.snonce o h) has (subst (λ (o : Option Attempt). HasAttempt d (Sta sta) (Ap a) b o h) is st.attempt_is) in
     let g : Act = give groups.Gtk (Ap a) (mac d (Ap a)) (group_key c) h in
     let seal : Seal = frame_seal y.ptk.kck k.octets in
     record {
       ends = st.ends;
-      psk = st.psk;
-      attempt_is = none_finished d sta a octets seal (key_by d (root d) (Sta sta) (Ap a) y) g k.fields.counter h;
-      session_is = subst (λ (z : ℕ). IsHeld d (Sta sta) (Ap a) y z (add (finishing_acts d (Sta sta) (Ap a) octets seal (key_by d (root d) (Sta sta) (Ap a) y) g k.fields.counter) h)) (sym number)
-          (held_finished d sta a old.snonce octets seal y g k.fields.counter h u
-          (apart_give (Ap a) (Ap a) (mac d (Ap a)) (group_key c) (find_key c.key (memory groups.Gtk (Ap a) h))) (reads-counter d.akm octets k from.reads));
+      attempt_is = none_finished d sta a octets seal (key_by d (root_at d b.r0kh_id) (Sta sta) (Ap a) y) g k.fields.counter h;
+      session_is = held_finished d sta a b old.snonce octets seal y g k.fields.counter h u
+          (apart_give (Ap a) (Ap a) (mac d (Ap a)) (group_key c) (find_key c.key (memory groups.Gtk (Ap a) h))) (reads-counter d.akm octets k from.reads);
     }
 
-pub m3_finished : (f : KeyFrame) (s : State) (old : Attempt) (had has : List Kept) (x : Session) (r : Reply) → s.attempt ≡ Some old → old.key ≡ Some x.key → Finishes s.ends f had has x r → IsWhole r
+-- the key of a session that M3 made is that of the attempt
+own_key : (x : Session) (o : Option Keyed) (y : Keyed) (counter : ℕ) → x ≡ Connect y counter → o ≡ key_in x → o ≡ Some y
+own_key x o y counter is same = same ∙ ap key_in is
+
+pub m3_finished : (f : KeyFrame) (s : State) (old : Attempt) (had has : List Kept) (x : Session) (r : Reply) → s.attempt ≡ Some old → old.key ≡ key_in x → Finishes s.ends s.base f had has x r → IsWhole r
     → IsTaken M3 f (both s had) (both (having None (Some x) s) has) Accepted r
 m3_finished f s old had has x r is key done whole = record {
   steps = λ d first sta a octets k h st remembers from three fields are.
-      (let y = x.key in
+      (let y = done.key in
+      let b = s.base in
       let c = done.group in
+      let has_y : old.key ≡ Some y = own_key x old.key y f.counter done.is key in
       let g : GtkNews = news_of c (kept_id c.key had) in
-      let der : Derivation = key_by d (root d) (Sta sta) (Ap a) y in
+      let der : Derivation = key_by d (root_at d b.r0kh_id) (Sta sta) (Ap a) y in
       let seal : Seal = frame_seal y.ptk.kck k.octets in
       let counter_is : f.counter ≡ k.fields.counter = ap (λ (z : KeyFields). z.counter) (sym fields) in
-      let v : IsVerified (under d.akm y None) k.fields k.octets (Ok c) = verified_as s.ends.akm d.akm y None (fields_of f) f.octets.now k (Ok c) st.ends.akm fields are done.verified in
-      let keying = subst (λ (o : Option Keyed). IsKeyingAt d (Sta sta) (Ap a) h o None) key (attempt_keying d (Sta sta) (Ap a) s.attempt old h is st.attempt_is) in
+      let made : Connect y k.fields.counter ≡ x = ap (Connect y) (sym counter_is) ∙ sym done.is in
+      let v : IsVerified (under b y None) k.fields k.octets (Ok c) = verified_as b y None (fields_of f) f.octets.now k (Ok c) fields are done.verified in
+      let keying : IsKeying d (Sta sta) (Ap a) b h y None = subst (λ (o : Option Keyed). IsKeyingAt d (Sta sta) (Ap a) b h o None) has_y (attempt_keying d (Sta sta) (Ap a) b s.attempt old h is st.attempt_is) in
       let acts : List Act = finishing_acts d (Sta sta) (Ap a) octets seal der (give groups.Gtk (Ap a) (mac d (Ap a)) (group_key c) h) k.fields.counter in
       steps_by d first (Sta sta) (Ap a) octets k (both (having None (Some x) s) has) Accepted r h acts
-      (installs y g (sent_m4 d (Sta sta) (Ap a) der f.counter ∷ [])) (done.tells d (Sta sta) (Ap a) der st.ends refl) (refl, refl)
+      (installs y g (sent_m4 d (Sta sta) (Ap a) der f.counter ∷ [])) (done.tells d (Sta sta) (Ap a) der st.ends refl) (refl, ap key_in done.is)
       (finishing d (Sta sta) (Ap a) octets k seal der (news_act d (Ap a) g) (give groups.Gtk (Ap a) (mac d (Ap a)) (group_key c) h) f.counter three (group_act d (Ap a) c had g h remembers refl) counter_is)
-      (adds_finished d first sta (Ap a) octets k h y c from three keying v)
-      (stands_finished d sta a s old octets k x c h st is key from (done.counter_is ∙ counter_is))
+      (adds_finished d first sta (Ap a) b octets k h y c from three keying v)
+      (subst (λ (z : Session). SupplicantStands d (Sta sta) (Ap a) (having None (Some z) s) (add acts h)) made (stands_finished d sta a s old octets k y c h st is has_y from))
       (subst (λ (ks : List Kept). Remembers (Ap a) ks (add acts h)) (sym done.memory)
       (remembers_finished d (Sta sta) (Ap a) octets seal der (group_key c) k.fields.counter (packet_number_of f.rsc) had h remembers
       (reads-rsc d.akm octets k from.reads ∙ ap (λ (z : KeyFields). packet_number_of z.rsc) fields))));
   refused = λ w e. cc;
   whole = whole;
   ends = (refl, refl);
-  ids = λ ids. subst HaveGroupIds (sym done.memory) (ids_given done.group.key done.group.id (packet_number_of f.rsc) had (carried_id (Some s.ends.akm) done.verified.opened.plain done.verified.opened.says done.group done.verified.opened.is) ids);
+  ids = λ ids. subst HaveGroupIds (sym done.memory) (ids_given done.group.key done.group.id (packet_number_of f.rsc) had (carried_id (Some s.base) done.verified.opened.plain done.verified.opened.says done.group done.verified.opened.is) ids);
 }
 
 -- ---- answered once more
@@ -264,58 +366,63 @@ answering : (d : Domain) (n p : Node) (octets : List ℕ) (k : KeyMessage) (s : 
 answering d n p octets k s x counter is number =
     ap (λ (m : Message). Took (Some p) octets (kind.Key m) Answered (Some s) ∷ sent_m4 d n p x counter ∷ []) is ∙ ap (answering_acts d n p octets s x) number
 
-adds_answered : (d : Domain) (first sta : ℕ) (p : Node) (octets : List ℕ) (k : KeyMessage) (h : List Act) (y : Keyed) (was : ℕ) (c : CarriedKey) → IsMessageFrom d (Sta sta) p octets k → k.message ≡ M3 → IsKeying d (Sta sta) p h y (Some was) → IsVerified (under d.akm y (Some was)) k.fields k.octets (Ok c)
-    → TakeRow (here d first (Sta sta)) h octets (answering_acts d (Sta sta) p octets (frame_seal y.ptk.kck k.octets) (key_by d (root d) (Sta sta) p y) k.fields.counter)
-adds_answered d first sta p octets k h y was c from is x v = record {
-  r = KeyedReading k;
-  reads = from.reads;
-  facts = facts_of v.opened;
-  knows = knows_m3 d first sta h p octets k y (Some was) (facts_of v.opened) from is x (knows_opened (Some d.akm) y.ptk.kek k (Ok c) v.opened);
-  row = By_repeated_m3 (record {
-    k = k;
-    is = refl;
-    message_is = is;
-    p = p;
-    from = from.from;
-    answered = verdict_m3 d first (Sta sta) h k (facts_of v.opened) Answered Accepted is (comes_m3 d first sta p octets k h y (Some was) (Ok c) from is x v) v.opened.is.0;
-    y = record { key = key_by d (root d) (Sta sta) p y; is_session = true };
-    awaited = x.is;
-    says = refl;
-  });
-}
+adds_answered : (d : Domain) (first sta : ℕ) (p : Node) (b : Base) (octets : List ℕ) (k : KeyMessage) (h : List Act) (y : Keyed) (was : ℕ) (c : CarriedKey) → IsMessageFrom d (Sta sta) p octets k → k.message ≡ M3 → IsKeying d (Sta sta) p b h y (Some was) → IsVerified (under b y (Some was)) k.fields k.octets (Ok c)
+    → TakeRow (here d first (Sta sta)) h octets (answering_acts d (Sta sta) p octets (frame_seal y.ptk.kck k.octets) (key_by d (root_at d b.r0kh_id) (Sta sta) p y) k.fields.counter)
+adds_answered d first sta p b octets k h y was c from is x v =
+    let facts : Facts = facts_of x.based.says v.opened in
+    record {
+      r = KeyedReading k;
+      reads = from.reads;
+      facts = facts;
+      knows = knows_m3 d first sta h p b octets k y (Some was) facts from is x refl (knows_opened (Some b) y.ptk.kek k x.based.says (Ok c) v.opened);
+      row = By_repeated_m3 (record {
+        k = k;
+        is = refl;
+        message_is = is;
+        p = p;
+        from = from.from;
+        answered = verdict_m3 d first (Sta sta) p h k facts Answered Accepted from.from is (comes_m3 d first sta p b octets k h y (Some was) (Ok c) from is x v) (further_is d (Sta sta) p b h y (Some was) v.opened.plain v.opened.says x ∙ v.opened.is.0);
+        y = record { key = key_by d (root_at d b.r0kh_id) (Sta sta) p y; is_session = true };
+        awaited = x.is;
+        says = refl;
+      });
+    }
 
-stands_answered : (d : Domain) (sta : ℕ) (p : Node) (s : State) (old new : Session) (octets : List ℕ) (k : KeyMessage) (h : List Act) → SupplicantStands d (Sta sta) p s h → s.attempt ≡ None → s.session ≡ Some old → IsMessageFrom d (Sta sta) p octets k
-    → new ≡ record { key = old.key; counter = k.fields.counter } → ((o : Outcome) → before_key_data (under d.akm old.key (Some old.counter)) k.fields k.octets o ≡ o)
-    → SupplicantStands d (Sta sta) p (having s.attempt (Some new) s) (add (answering_acts d (Sta sta) p octets (frame_seal old.key.ptk.kck k.octets) (key_by d (root d) (Sta sta) p old.key) k.fields.counter) h)
-stands_answered d sta p s old new octets k h st none has from is comes =
-    let l : IsHeld d (Sta sta) p old.key old.counter h = subst (λ (x : Option Session). HasSession d (Sta sta) p x h) has st.session_is in
-    let nowhere : attempt p h ≡ None = subst (λ (x : Option Attempt). HasAttempt d (Sta sta) p x h) none st.attempt_is in
-    let seal : Seal = frame_seal old.key.ptk.kck k.octets in
-    let x : Derivation = key_by d (root d) (Sta sta) p old.key in
+stands_answered : (d : Domain) (sta : ℕ) (p : Node) (s : State) (y : Keyed) (was : ℕ) (octets : List ℕ) (k : KeyMessage) (h : List Act) → SupplicantStands d (Sta sta) p s h → s.attempt ≡ None → s.session ≡ Some (Connect y was) → IsMessageFrom d (Sta sta) p octets k
+    → ((o : Outcome) → before_key_data (under s.base y (Some was)) k.fields k.octets o ≡ o)
+    → SupplicantStands d (Sta sta) p (having s.attempt (Some (Connect y k.fields.counter)) s) (add (answering_acts d (Sta sta) p octets (frame_seal y.ptk.kck k.octets) (key_by d (root_at d s.base.r0kh_id) (Sta sta) p y) k.fields.counter) h)
+stands_answered d sta p s y was octets k h st none has from comes =
+    let b = s.base in
+    let l : IsHeld d (Sta sta) p b y was h = subst (λ (x : Option Session). HasSession d (Sta sta) p b x h) has st.session_is in
+    let nowhere : attempt p h ≡ None = subst (λ (x : Option Attempt). HasAttempt d (Sta sta) p b x h) none st.attempt_is in
+    let seal : Seal = frame_seal y.ptk.kck k.octets in
+    let x : Derivation = key_by d (root_at d b.r0kh_id) (Sta sta) p y in
     let acts : List Act = answering_acts d (Sta sta) p octets seal x k.fields.counter in
     record {
       ends = st.ends;
-      psk = st.psk;
-      attempt_is = subst (λ (o : Option Attempt). HasAttempt d (Sta sta) p o (add acts h)) (sym none) (none_again d (Sta sta) p octets seal x k.fields.counter h nowhere);
-      session_is = subst (λ (z : Session). IsHeld d (Sta sta) p z.key z.counter (add acts h)) (sym is)
-          (held_again d (Sta sta) p octets seal x old.key old.counter k.fields.counter h l (reads-counter d.akm octets k from.reads) (counter_high d.akm old.key old.counter k.fields k.octets comes));
+      attempt_is = subst (λ (o : Option Attempt). HasAttempt d (Sta sta) p b o (add acts h)) (sym none) (none_again d (Sta sta) p octets seal x k.fields.counter h nowhere);
+      session_is = held_again d (Sta sta) p b octets seal x y was k.fields.counter h l (reads-counter d.akm octets k from.reads) (counter_high b y was k.fields k.octets comes);
     }
 
-pub m3_answered : (f : KeyFrame) (s : State) (old new : Session) (ks : List Kept) (r : Reply) → s.attempt ≡ None → s.session ≡ Some old → Repeats s.ends f old new r → IsWhole r
+pub m3_answered : (f : KeyFrame) (s : State) (old new : Session) (ks : List Kept) (r : Reply) → s.attempt ≡ None → s.session ≡ Some old → Repeats s.ends s.base f old new r → IsWhole r
     → IsTaken M3 f (both s ks) (both (having s.attempt (Some new) s) ks) Answered r
 m3_answered f s old new ks r none has done whole = record {
   steps = λ d first sta a octets k h st remembers from is fields are.
-      (let y = old.key in
-      let der : Derivation = key_by d (root d) (Sta sta) (Ap a) y in
+      (let y = done.key in
+      let b = s.base in
+      let holds : s.session ≡ Some (Connect y done.was) = has ∙ ap (λ (z : Session). Some z) done.is_old in
+      let der : Derivation = key_by d (root_at d b.r0kh_id) (Sta sta) (Ap a) y in
       let seal : Seal = frame_seal y.ptk.kck k.octets in
       let counter_is : f.counter ≡ k.fields.counter = ap (λ (x : KeyFields). x.counter) (sym fields) in
-      let v : IsVerified (under d.akm y (Some old.counter)) k.fields k.octets (Ok done.group) = verified_as s.ends.akm d.akm y (Some old.counter) (fields_of f) f.octets.now k (Ok done.group) st.ends.akm fields are done.verified in
-      let x = session_keying_is d (Sta sta) (Ap a) s.attempt s.session old h none has st.attempt_is st.session_is in
-      steps_by d first (Sta sta) (Ap a) octets k (both (having s.attempt (Some new) s) ks) Answered r h (answering_acts d (Sta sta) (Ap a) octets seal der k.fields.counter)
+      let made : Connect y k.fields.counter ≡ new = ap (Connect y) (sym counter_is) ∙ sym done.is in
+      let v : IsVerified (under b y (Some done.was)) k.fields k.octets (Ok done.group) = verified_as b y (Some done.was) (fields_of f) f.octets.now k (Ok done.group) fields are done.verified in
+      let x : IsKeying d (Sta sta) (Ap a) b h y (Some done.was) = session_keying_is d (Sta sta) (Ap a) b s.attempt s.session y done.was h none holds st.attempt_is st.session_is in
+      let acts : List Act = answering_acts d (Sta sta) (Ap a) octets seal der k.fields.counter in
+      steps_by d first (Sta sta) (Ap a) octets k (both (having s.attempt (Some new) s) ks) Answered r h acts
       (repeats y (sent_m4 d (Sta sta) (Ap a) der f.counter ∷ [])) (done.tells d (Sta sta) (Ap a) der st.ends refl) tt
       (answering d (Sta sta) (Ap a) octets k seal der f.counter is counter_is)
-      (adds_answered d first sta (Ap a) octets k h y old.counter done.group from is x v)
-      (stands_answered d sta (Ap a) s old new octets k h st none has from (done.is ∙ ap (λ (c : ℕ). record { key = old.key; counter = c }) counter_is) v.comes)
+      (adds_answered d first sta (Ap a) b octets k h y done.was done.group from is x v)
+      (subst (λ (z : Session). SupplicantStands d (Sta sta) (Ap a) (having s.attempt (Some z) s) (add acts h)) made (stands_answered d sta (Ap a) s y done.was octets k h st none holds from v.comes))
       (remembers_answered d (Sta sta) (Ap a) octets seal der k.fields.counter ks h remembers));
   refused = λ w e. cc;
   whole = whole;

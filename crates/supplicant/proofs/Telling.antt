@@ -14,9 +14,10 @@ use Rattle.run_journal.specs.Replies.{IsEmpty, IsWhole}
 use Rattle.run_journal.specs.Questions.{add}
 use Rattle.domain_rules.specs.Frames.{frame_seal}
 use Rattle.domain_rules.specs.Reading.{KeyMessage}
-use Rattle.domain_rules.specs.Replies.{derived_acts, replaced_acts, installed_acts, gtk_acts, finished_acts, frame_acts, sent_acts, reply_acts, pair, taken_as}
+use Rattle.domain_rules.specs.Replies.{derived_acts, replaced_acts, installed_acts, gtk_acts, finished_acts, frame_acts, sent_acts, reply_acts, taken_as}
 use Rattle.domain_rules.specs.Rows.{TakeRow}
-use Rattle.domain_rules.specs.Network.{root}
+use Rattle.domain_rules.specs.Network.{Root, root_at}
+use Rattle.node_base.specs.Pairs.{pair_of, pair_at}
 use Rattle.domain_rules.specs.Here.{here}
 use Rattle.group_key.specs.Holds.{Remembers}
 use Rattle.supplicant.specs.State.{Both}
@@ -24,28 +25,28 @@ use Rattle.supplicant.specs.Stands.{SupplicantStands}
 use Rattle.supplicant.specs.Steps.{SupplicantSteps, IsUnder}
 use Rattle.supplicant.specs.Told.{Told, Tells, IsSilent, verifies}
 
-abbrev pub told_acts : Domain → Node → Node → List ℕ → KeyMessage → Outcome → Told → List Act
-told_acts d n p octets k outcome t =
+abbrev pub told_acts : Domain → Root → Node → Node → List ℕ → KeyMessage → Outcome → Told → List Act
+told_acts d q n p octets k outcome t =
     Took (Some p) octets (kind.Key k.message) outcome (option_map (λ kck. frame_seal kck k.octets) t.verified)
-    ∷ derived_acts d (root d) n p t.derived ++ replaced_acts p false t.installed ++ installed_acts d (root d) n p t.installed
-    ++ gtk_acts d p t.gtk ++ finished_acts d (root d) n p t.installed ++ t.sends
+    ∷ derived_acts d q n p t.derived ++ replaced_acts p false t.installed ++ installed_acts d q n p t.installed
+    ++ gtk_acts d p t.gtk ++ finished_acts d q n p t.installed ++ t.sends
 
 -- what it tells of, field by field
 abbrev told_with : Option (List ℕ) → Option Keyed → Option Keyed → Option GtkNews → List Act → Told
 told_with v y x g sends = record { verified = v; derived = y; installed = x; gtk = g; sends = sends }
 
-acts_told : (d : Domain) (n p : Node) (octets : List ℕ) (k : KeyMessage) (o : Outcome) (r : Reply) (t : Told) → Tells p r t → reply_acts (pair d n p) false (taken_as octets k o) r ≡ told_acts d n p octets k o t
-acts_told d n p octets k o r t tells =
-    ap (λ (w : Option (List ℕ)). told_acts d n p octets k o (told_with w r.derived r.installed r.gtk (sent_acts p r))) tells.verified_is
-    ∙ ap (λ (w : Option Keyed). told_acts d n p octets k o (told_with t.verified w r.installed r.gtk (sent_acts p r))) tells.derived_is
-    ∙ ap (λ (w : Option Keyed). told_acts d n p octets k o (told_with t.verified t.derived w r.gtk (sent_acts p r))) tells.installed_is
-    ∙ ap (λ (w : Option GtkNews). told_acts d n p octets k o (told_with t.verified t.derived t.installed w (sent_acts p r))) tells.gtk_is
-    ∙ ap (λ (w : List Act). told_acts d n p octets k o (told_with t.verified t.derived t.installed t.gtk w)) tells.sends_are
+acts_told : (d : Domain) (q : Root) (n p : Node) (octets : List ℕ) (k : KeyMessage) (o : Outcome) (r : Reply) (t : Told) → Tells p r t → reply_acts (pair_of d q n p) false (taken_as octets k o) r ≡ told_acts d q n p octets k o t
+acts_told d q n p octets k o r t tells =
+    ap (λ (w : Option (List ℕ)). told_acts d q n p octets k o (told_with w r.derived r.installed r.gtk (sent_acts p r))) tells.verified_is
+    ∙ ap (λ (w : Option Keyed). told_acts d q n p octets k o (told_with t.verified w r.installed r.gtk (sent_acts p r))) tells.derived_is
+    ∙ ap (λ (w : Option Keyed). told_acts d q n p octets k o (told_with t.verified t.derived w r.gtk (sent_acts p r))) tells.installed_is
+    ∙ ap (λ (w : Option GtkNews). told_acts d q n p octets k o (told_with t.verified t.derived t.installed w (sent_acts p r))) tells.gtk_is
+    ∙ ap (λ (w : List Act). told_acts d q n p octets k o (told_with t.verified t.derived t.installed t.gtk w)) tells.sends_are
 
-pub steps_by : (d : Domain) (first : ℕ) (n p : Node) (octets : List ℕ) (k : KeyMessage) (new : Both) (o : Outcome) (r : Reply) (h acts : List Act) (t : Told) → Tells p r t → IsUnder t.installed new.part → told_acts d n p octets k o t ≡ acts
+pub steps_by : (d : Domain) (first : ℕ) (n p : Node) (octets : List ℕ) (k : KeyMessage) (new : Both) (o : Outcome) (r : Reply) (h acts : List Act) (t : Told) → Tells p r t → IsUnder t.installed new.part → told_acts d (root_at d new.part.base.r0kh_id) n p octets k o t ≡ acts
     → TakeRow (here d first n) h octets acts → SupplicantStands d n p new.part (add acts h) → Remembers p new.keys (add acts h) → SupplicantSteps (here d first n) p (taken_as octets k o) new r h
 steps_by d first n p octets k new o r h acts t tells under are adds stands remembers =
-    let is : reply_acts (pair d n p) false (taken_as octets k o) r ≡ acts = acts_told d n p octets k o r t tells ∙ are in
+    let is : reply_acts (pair_at d new.part.base.r0kh_id n p) false (taken_as octets k o) r ≡ acts = acts_told d (root_at d new.part.base.r0kh_id) n p octets k o r t tells ∙ are in
     record {
       adds = subst (λ (l : List Act). TakeRow (here d first n) h octets l) (sym is) adds;
       stands = subst (λ (l : List Act). SupplicantStands d n p new.part (add l h)) (sym is) stands;

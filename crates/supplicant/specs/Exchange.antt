@@ -17,58 +17,73 @@ use Rattle.group_key.specs.Keys.{Kept, kept_id, given}
 use Rattle.node_base.specs.declared.ends.Ends.{Ends}
 use Rattle.node_base.specs.Ends.{AreEnds}
 use Rattle.node_base.specs.PairwiseKeys.{key_with}
+use Rattle.frame_making.specs.KeyData.{IsMobility}
 use Rattle.supplicant.specs.declared.attempt.Attempt.{Attempt}
 use Rattle.supplicant.specs.declared.session.Session.{Session}
+use Rattle.supplicant.specs.declared.session.Session.TheVariants.{Connect, Ft}
+use Rattle.supplicant.specs.declared.base.Base.{Base}
+use Rattle.supplicant.specs.Bases.{fte_in}
+use Rattle.supplicant.specs.Held.{ptk_of, kept_of, counted}
 use Rattle.supplicant.specs.declared.key_data.CarriedKey.{CarriedKey}
 use Rattle.supplicant.specs.KeyData.{packet_number_of, news_of}
 use Rattle.supplicant.specs.M3.{under, IsVerified, IsM3}
-use Rattle.supplicant.specs.G1.{IsVerifiedG1, IsG1}
+use Rattle.supplicant.specs.G1.{under_g1, IsVerifiedG1, IsG1}
 use Rattle.supplicant.specs.Told.{Tells, IsSilent, derives, repeats, installs, renews}
 
 -- M1 in an attempt: its key is derived, and M2 answers
-pub record Answers (l : Ends) (psk : List ℕ) (f : KeyFrame) (old new : Attempt) (r : Reply) : Type 0 where
+pub record Answers (l : Ends) (b : Base) (f : KeyFrame) (old new : Attempt) (r : Reply) : Type 0 where
   pub key : Keyed
-  pub key_is : key ≡ key_with l psk f.nonce old.snonce
+  pub key_is : key ≡ key_with l b.pmk f.nonce old.snonce
   pub is : new ≡ record { snonce = old.snonce; key = Some key }
   pub tells : (d : Domain) (n p : Node) (x : Derivation) → AreEnds d n p l → key.ptk ≡ x.ptk
-      → x.inputs.snonce ≡ key.snonce → Tells p r (derives key (sent_m2 d n p x f.counter ∷ []))
+      → x.inputs.snonce ≡ key.snonce → IsMobility d x.inputs (fte_in b) b.mobility
+      → Tells p r (derives key (sent_m2 d n p x f.counter (fte_in b) ∷ []))
 
 -- M3 made an attempt that session: its group key is given to the memory, both keys are installed, and
 -- M4 answers
-pub record Finishes (l : Ends) (f : KeyFrame) (had has : List Kept) (x : Session) (r : Reply) : Type 0 where
+pub record Finishes (l : Ends) (b : Base) (f : KeyFrame) (had has : List Kept) (x : Session) (r : Reply) : Type 0 where
+  pub key : Keyed
+  pub is : x ≡ Connect key f.counter
   pub group : CarriedKey
-  pub verified : IsVerified (under l.akm x.key None) (fields_of f) f.octets.now (Ok group)
-  pub counter_is : x.counter ≡ f.counter
+  pub verified : IsVerified (under b key None) (fields_of f) f.octets.now (Ok group)
   pub memory : has ≡ given group.key group.id (packet_number_of f.rsc) had
-  pub tells : (d : Domain) (n p : Node) (z : Derivation) → AreEnds d n p l → x.key.ptk ≡ z.ptk
+  pub tells : (d : Domain) (n p : Node) (z : Derivation) → AreEnds d n p l → key.ptk ≡ z.ptk
       → Tells p r
-      (installs x.key (news_of group (kept_id group.key had)) (sent_m4 d n p z f.counter ∷ []))
+      (installs key (news_of group (kept_id group.key had)) (sent_m4 d n p z f.counter ∷ []))
 
--- M3 once more in a session: M4 answers
-pub record Repeats (l : Ends) (f : KeyFrame) (old new : Session) (r : Reply) : Type 0 where
+-- M3 once more in a session of a four-way handshake: M4 answers
+pub record Repeats (l : Ends) (b : Base) (f : KeyFrame) (old new : Session) (r : Reply) : Type 0 where
+  pub key : Keyed
+  pub was : ℕ
+  pub is_old : old ≡ Connect key was
   pub group : CarriedKey
-  pub verified : IsVerified (under l.akm old.key (Some old.counter))
-      (fields_of f) f.octets.now (Ok group)
-  pub is : new ≡ record { key = old.key; counter = f.counter }
-  pub tells : (d : Domain) (n p : Node) (z : Derivation) → AreEnds d n p l → old.key.ptk ≡ z.ptk
-      → Tells p r (repeats old.key (sent_m4 d n p z f.counter ∷ []))
+  pub verified : IsVerified (under b key (Some was)) (fields_of f) f.octets.now (Ok group)
+  pub is : new ≡ Connect key f.counter
+  pub tells : (d : Domain) (n p : Node) (z : Derivation) → AreEnds d n p l → key.ptk ≡ z.ptk
+      → Tells p r (repeats key (sent_m4 d n p z f.counter ∷ []))
 
 -- M3 was refused, under that key with the counter that is kept, or as there is no key; nothing
 -- answers
-abbrev pub IsRefusal : Akm → Option Keyed → Option ℕ → KeyFrame → Reason → Reply → Type 0
-IsRefusal akm None kept f why r = (why ≡ Unawaited) × IsEmpty r
-IsRefusal akm (Some y) kept f why r =
-    IsM3 (under akm y kept) (fields_of f) f.octets.now (Err why) r.verified × IsSilent r
+abbrev pub IsRefusal : Base → Option Keyed → Option ℕ → KeyFrame → Reason → Reply → Type 0
+IsRefusal b None kept f why r = (why ≡ Unawaited) × IsEmpty r
+IsRefusal b (Some y) kept f why r =
+    IsM3 (under b y kept) (fields_of f) f.octets.now (Err why) r.verified × IsSilent r
+
+-- in a session of a fast transition it is not awaited
+abbrev pub IsRepeatRefusal : Base → Session → KeyFrame → Reason → Reply → Type 0
+IsRepeatRefusal b (Connect key counter) f why r = IsRefusal b (Some key) (Some counter) f why r
+IsRepeatRefusal b (Ft ptk counter) f why r = (why ≡ Unawaited) × IsEmpty r
 
 -- G1 in a session: its group key is given to the memory, and G2 answers
 pub record Renews (l : Ends) (f : KeyFrame) (had has : List Kept) (old new : Session) (r : Reply) : Type 0 where
   pub group : CarriedKey
-  pub verified : IsVerifiedG1 (under l.akm old.key (Some old.counter)) (fields_of f) f.octets.now (Ok group)
-  pub is : new ≡ record { key = old.key; counter = f.counter }
+  pub verified : IsVerifiedG1 (under_g1 l.akm (ptk_of old) (kept_of old)) (fields_of f) f.octets.now (Ok group)
+  pub is : new ≡ counted f.counter old
   pub memory : has ≡ given group.key group.id (packet_number_of f.rsc) had
-  pub tells : (d : Domain) (n p : Node) (z : Derivation) → AreEnds d n p l → old.key.ptk ≡ z.ptk
-      → Tells p r (renews old.key (news_of group (kept_id group.key had)) (sent_g2 d n p z f.counter ∷ []))
+  pub tells : (d : Domain) (n p : Node) (z : Derivation) → AreEnds d n p l → ptk_of old ≡ z.ptk
+      → Tells p r (renews (ptk_of old) (news_of group (kept_id group.key had)) (sent_g2 d n p z f.counter ∷ []))
 
--- G1 was refused under that key with the counter that is kept; nothing answers
-abbrev pub IsG1Refusal : Akm → Keyed → ℕ → KeyFrame → Reason → Reply → Type 0
-IsG1Refusal akm y kept f why r = IsG1 (under akm y (Some kept)) (fields_of f) f.octets.now (Err why) r.verified × IsSilent r
+-- G1 was refused under its key with the counter that is kept; nothing answers
+abbrev pub IsG1Refusal : Akm → Session → KeyFrame → Reason → Reply → Type 0
+IsG1Refusal akm x f why r =
+    IsG1 (under_g1 akm (ptk_of x) (kept_of x)) (fields_of f) f.octets.now (Err why) r.verified × IsSilent r

@@ -1,3 +1,5 @@
+pub mod Bases
+pub mod Held
 pub mod State
 pub mod Stands
 pub mod Steps

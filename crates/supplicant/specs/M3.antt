@@ -1,6 +1,5 @@
 -- What M3 is judged as (IEEE Std 802.11-2020, 12.7.6.4; the order of the checks is this project's choice).
 use Rattle.std.specs.Prelude.{◌≡◌, ℕ, ◌<◌, ◌≤◌, List, Option, Some, None, bytes_eq, if◌then◌else◌, Result, Ok, Err}
-use Rattle.domain_base.specs.declared.names.Akm.{Akm}
 use Rattle.mac_prf.specs.Mic.{mic}
 use Rattle.eapol_key.specs.KeyFrame.{KeyFields}
 use Rattle.run_journal.specs.declared.acts.Reason.{Reason}
@@ -9,6 +8,7 @@ use Rattle.run_journal.specs.declared.acts.Outcome.{Outcome}
 use Rattle.run_journal.specs.declared.acts.Outcome.TheVariants.{Refused}
 use Rattle.run_journal.specs.declared.reply.Keyed.{Keyed}
 use Rattle.domain_rules.specs.Asking.{above}
+use Rattle.supplicant.specs.declared.base.Base.{Base}
 use Rattle.supplicant.specs.declared.key_data.CarriedKey.{CarriedKey}
 use Rattle.supplicant.specs.KeyData.{IsOpened}
 
@@ -22,27 +22,27 @@ abbrev pub IsNotAbove : Option ℕ → ℕ → ℕ → Type 0
 IsNotAbove None counter was = ⊥
 IsNotAbove (Some kept) counter was = (was ≡ kept) × (counter ≤ kept)
 
--- what M3 is judged by: the suite, the key, and in a session the counter that is kept
+-- what M3 is judged by: the base of the attempt, the key, and in a session the counter that is kept
 pub record Under : Type 0 where
-  pub akm : Akm
+  pub base : Base
   pub key : Keyed
   pub kept : Option ℕ
 
-abbrev pub under : Akm → Keyed → Option ℕ → Under
-under akm y kept = record { akm = akm; key = y; kept = kept }
+abbrev pub under : Base → Keyed → Option ℕ → Under
+under b y kept = record { base = b; key = y; kept = kept }
 
 -- what comes of M3 with these fields and octets before its key data
 abbrev pub before_key_data : Under → KeyFields → List ℕ → Outcome → Outcome
 before_key_data u f octets then_ =
     above u.kept f.counter
     (if bytes_eq f.nonce u.key.anonce
-    then (if bytes_eq f.mic (mic u.akm u.key.ptk.kck octets) then then_ else Refused reason.Mic)
+    then (if bytes_eq f.mic (mic u.base.akm u.key.ptk.kck octets) then then_ else Refused reason.Mic)
     else Refused reason.Nonce)
 
 -- its MIC verified, and its key data is that
 pub record IsVerified (u : Under) (f : KeyFields) (octets : List ℕ) (r : Result CarriedKey Reason) : Type 0 where
   pub comes : (o : Outcome) → before_key_data u f octets o ≡ o
-  pub opened : IsOpened (Some u.akm) u.key.ptk.kek f.key_data r
+  pub opened : IsOpened (Some u.base) u.key.ptk.kek f.key_data r
 
 -- or it is refused before
 abbrev pub IsRefusedBefore : Under → KeyFields → List ℕ → Result CarriedKey Reason → Type 0

@@ -1,52 +1,89 @@
 -- Which histories a supplicant stands for (this project's choice; the exchange is that of IEEE Std
 -- 802.11-2020, 12.7.6).
-use Rattle.std.specs.Prelude.{◌≡◌, ℕ, true, List, Option, Some, None, option_map, is_some}
+use Rattle.std.specs.Prelude.{◌≡◌, ℕ, true, false, List, [], Option, Some, None, option_map, is_some}
+use Rattle.domain_base.specs.declared.names.Akm.{Akm}
+use Rattle.domain_base.specs.declared.names.Akm.TheVariants.{FtPsk}
 use Rattle.domain_base.specs.declared.names.Node.{Node}
+use Rattle.rsn_elements.specs.Elements.{ElementFields}
 use Rattle.eapol_key.specs.declared.messages.Message.TheVariants.{M1}
 use Rattle.run_journal.specs.declared.domain.Domain.{Domain}
 use Rattle.run_journal.specs.declared.acts.Kind.TheVariants.{AssocResp, Key}
 use Rattle.run_journal.specs.declared.acts.Act.{Act}
 use Rattle.run_journal.specs.declared.reply.Keyed.{Keyed}
-use Rattle.run_journal.specs.Questions.{attempt, since, own_nonce, derivation, session}
+use Rattle.run_journal.specs.Acts.{Derivation}
+use Rattle.run_journal.specs.Questions.{attempt, since, heard, own_nonce, derivation, session}
+use Rattle.key_hierarchy.specs.declared.inputs.Ptk.{Ptk}
 use Rattle.domain_rules.specs.Asking.{by_connect, has_heard, kept_counter}
 use Rattle.domain_rules.specs.Replies.{key_by}
-use Rattle.domain_rules.specs.Network.{root}
+use Rattle.domain_rules.specs.Network.{root_at}
+use Rattle.domain_rules.specs.AccessPointKeys.{IsRequested}
+use Rattle.domain_rules.specs.TransitionKeyData.{responded_fte, responded_r0kh_id}
 use Rattle.node_base.specs.Ends.{AreEnds}
+use Rattle.supplicant.specs.declared.base.Base.{Base}
 use Rattle.supplicant.specs.declared.attempt.Attempt.{Attempt}
 use Rattle.supplicant.specs.declared.session.Session.{Session}
+use Rattle.supplicant.specs.declared.session.Session.TheVariants.{Connect, Ft}
+use Rattle.supplicant.specs.Bases.{IsBaseOf, fte_in}
 use Rattle.supplicant.specs.State.{State}
+
+-- with suite 4 the association response said that FTE and that R0KH-ID
+abbrev pub Responds : Akm → Option (List ℕ) → Option ElementFields → Base → Type 0
+Responds FtPsk octets says b =
+    IsRequested FtPsk octets says × (responded_fte says ≡ Some (fte_in b)) × (b.r0kh_id ≡ responded_r0kh_id says)
+Responds _ octets says b = says ≡ None
+
+-- the base is that of the association whose history this part is
+pub record IsBased (d : Domain) (n p : Node) (b : Base) (part : List Act) : Type 0 where
+  pub of : IsBaseOf d n p (fte_in b) b
+  pub says : Option ElementFields
+  pub responds : Responds d.akm (heard p AssocResp part) says b
 
 -- the attempt is under way: it began by association, whose response was accepted, and in it no M3 and
 -- no G1 was accepted or answered
-pub record IsUnderWay (d : Domain) (n p : Node) (snonce : List ℕ) (key : Option Keyed) (h : List Act) : Type 0 where
+pub record IsUnderWay (d : Domain) (n p : Node) (b : Base) (snonce : List ℕ) (key : Option Keyed) (h : List Act) : Type 0 where
   pub part : List Act
   pub is : attempt p h ≡ Some part
   pub begun : by_connect part ≡ true
   pub nonce : own_nonce part ≡ Some snonce
   pub hears : has_heard p AssocResp part ≡ true
+  pub based : IsBased d n p b part
   pub keeps : kept_counter p part ≡ None
   pub asked : has_heard p (Key M1) part ≡ is_some key
-  pub keyed : derivation p part ≡ option_map (key_by d (root d) n p) key
+  pub keyed : derivation p part ≡ option_map (key_by d (root_at d b.r0kh_id) n p) key
 
 -- the session is held: it began by association
-pub record IsHeld (d : Domain) (n p : Node) (key : Keyed) (counter : ℕ) (h : List Act) : Type 0 where
-  pub is : session p h ≡ Some (key_by d (root d) n p key)
+pub record IsHeld (d : Domain) (n p : Node) (b : Base) (key : Keyed) (counter : ℕ) (h : List Act) : Type 0 where
+  pub is : session p h ≡ Some (key_by d (root_at d b.r0kh_id) n p key)
   pub begun : by_connect (since p h) ≡ true
+  pub based : IsBased d n p b (since p h)
   pub keeps : kept_counter p (since p h) ≡ Some counter
 
--- that attempt, or none
-abbrev pub HasAttempt : Domain → Node → Node → Option Attempt → List Act → Type 0
-HasAttempt d n p None h = attempt p h ≡ None
-HasAttempt d n p (Some a) h = IsUnderWay d n p a.snonce a.key h
+-- or by fast transition
+pub record IsTransferred (p : Node) (ptk : Ptk) (counter : Option ℕ) (h : List Act) : Type 0 where
+  pub x : Derivation
+  pub is : session p h ≡ Some x
+  pub key : x.ptk ≡ ptk
+  pub some : since p h ≡ [] → ⊥
+  pub begun : by_connect (since p h) ≡ false
+  pub keeps : kept_counter p (since p h) ≡ counter
 
--- that session, or none
-abbrev pub HasSession : Domain → Node → Node → Option Session → List Act → Type 0
-HasSession d n p None h = session p h ≡ None
-HasSession d n p (Some x) h = IsHeld d n p x.key x.counter h
+-- that attempt, or none
+abbrev pub HasAttempt : Domain → Node → Node → Base → Option Attempt → List Act → Type 0
+HasAttempt d n p b None h = attempt p h ≡ None
+HasAttempt d n p b (Some a) h = IsUnderWay d n p b a.snonce a.key h
+
+-- that session
+abbrev pub Holds : Domain → Node → Node → Base → Session → List Act → Type 0
+Holds d n p b (Connect key counter) h = IsHeld d n p b key counter h
+Holds d n p b (Ft ptk counter) h = IsTransferred p ptk counter h
+
+-- or none
+abbrev pub HasSession : Domain → Node → Node → Base → Option Session → List Act → Type 0
+HasSession d n p b None h = session p h ≡ None
+HasSession d n p b (Some x) h = Holds d n p b x h
 
 -- the supplicant of node n with its peer p stands for the history of n
 pub record SupplicantStands (d : Domain) (n p : Node) (s : State) (h : List Act) : Type 0 where
   pub ends : AreEnds d n p s.ends
-  pub psk : s.psk ≡ d.psk
-  pub attempt_is : HasAttempt d n p s.attempt h
-  pub session_is : HasSession d n p s.session h
+  pub attempt_is : HasAttempt d n p s.base s.attempt h
+  pub session_is : HasSession d n p s.base s.session h

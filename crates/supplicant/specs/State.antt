@@ -1,20 +1,21 @@
 -- What contracts see of a supplicant (this project's choice).
-use Rattle.std.specs.Prelude.{ℕ, List, Option}
+use Rattle.std.specs.Prelude.{List, Option}
 use Rattle.group_key.specs.Keys.{Kept}
 use Rattle.node_base.specs.declared.ends.Ends.{Ends}
+use Rattle.supplicant.specs.declared.base.Base.{Base}
 use Rattle.supplicant.specs.declared.attempt.Attempt.{Attempt}
 use Rattle.supplicant.specs.declared.session.Session.{Session}
 
--- the ends, the pre-shared key, and the attempt and the session that there are
+-- the ends, what attempts go back to, and the attempt and the session that there are
 pub record State : Type 0 where
   pub ends : Ends
-  pub psk : List ℕ
+  pub base : Base
   pub attempt : Option Attempt
   pub session : Option Session
 
 -- the same ends with that attempt and that session
 abbrev pub having : Option Attempt → Option Session → State → State
-having a x s = record { ends = s.ends; psk = s.psk; attempt = a; session = x }
+having a x s = record { ends = s.ends; base = s.base; attempt = a; session = x }
 
 -- a supplicant, and the group keys that are kept of its access point
 pub record Both : Type 0 where

@@ -1,30 +1,32 @@
 -- What a message does (this project's choice).
-use Rattle.std.specs.Prelude.{◌≡◌, false, List, Option, Some, None, option_map}
+use Rattle.std.specs.Prelude.{◌≡◌, ℕ, false, List, Option, Some, None, option_and_then}
 use Rattle.domain_base.specs.declared.names.Node.{Node}
 use Rattle.run_journal.specs.declared.acts.Act.{Act}
 use Rattle.run_journal.specs.declared.reply.Reply.{Reply}
 use Rattle.run_journal.specs.declared.reply.Keyed.{Keyed}
 use Rattle.run_journal.specs.Questions.{add}
-use Rattle.domain_rules.specs.Replies.{Taken, reply_acts, pair}
+use Rattle.domain_rules.specs.Replies.{Taken, reply_acts}
+use Rattle.node_base.specs.Pairs.{pair_at}
 use Rattle.domain_rules.specs.Rows.{TakeRow}
 use Rattle.domain_rules.specs.Here.{Here}
 use Rattle.group_key.specs.Holds.{Remembers}
+use Rattle.supplicant.specs.Held.{key_in}
 use Rattle.supplicant.specs.State.{State, Both}
 use Rattle.supplicant.specs.Stands.{SupplicantStands}
 
--- what the node adds as it takes a message of p
-abbrev pub told_by : Here → Node → Taken → Reply → List Act
-told_by w p t r = reply_acts (pair w.domain w.node p) false t r
+-- what the node adds as it takes a message of p, where keys go back to that R0KH-ID, which suites 2 and 6 do not look at
+abbrev pub told_by : Here → Node → List ℕ → Taken → Reply → List Act
+told_by w p id t r = reply_acts (pair_at w.domain id w.node p) false t r
 
 -- where a key was installed, the attempt became a session under that very key
 abbrev pub IsUnder : Option Keyed → State → Type 0
 IsUnder None s = Unit {0}
-IsUnder (Some y) s = (s.attempt ≡ None) × (option_map (λ x. x.key) s.session ≡ Some y)
+IsUnder (Some y) s = (s.attempt ≡ None) × (option_and_then key_in s.session ≡ Some y)
 
 -- For a history that supplicant and memory stand for, the message adds to it what outcome and reply
 -- say, and they then stand for the longer one.
 pub record SupplicantSteps (w : Here) (p : Node) (t : Taken) (new : Both) (r : Reply) (h : List Act) : Type 0 where
-  pub adds : TakeRow w h t.octets (told_by w p t r)
-  pub stands : SupplicantStands w.domain w.node p new.part (add (told_by w p t r) h)
-  pub remembers : Remembers p new.keys (add (told_by w p t r) h)
+  pub adds : TakeRow w h t.octets (told_by w p new.part.base.r0kh_id t r)
+  pub stands : SupplicantStands w.domain w.node p new.part (add (told_by w p new.part.base.r0kh_id t r) h)
+  pub remembers : Remembers p new.keys (add (told_by w p new.part.base.r0kh_id t r) h)
   pub under : IsUnder r.installed new.part

@@ -40,5 +40,5 @@ pub record IsTaken (message : Message) (f : KeyFrame) (old new : Both) (outcome 
   pub steps : AddsToAll message f old new outcome r
   pub refused : (why : Reason) → outcome ≡ Refused why → (new ≡ old) × (r.installed ≡ None)
   pub whole : IsWhole r
-  pub ends : (new.part.ends ≡ old.part.ends) × (new.part.psk ≡ old.part.psk)
+  pub ends : (new.part.ends ≡ old.part.ends) × (new.part.base ≡ old.part.base)
   pub ids : HaveGroupIds old.keys → HaveGroupIds new.keys

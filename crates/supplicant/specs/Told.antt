@@ -2,6 +2,7 @@
 use Rattle.std.specs.Prelude.{◌≡◌, ℕ, List, [], Option, Some, None}
 use Rattle.domain_base.specs.declared.names.Node.{Node}
 use Rattle.run_journal.specs.declared.acts.Act.{Act}
+use Rattle.key_hierarchy.specs.declared.inputs.Ptk.{Ptk}
 use Rattle.run_journal.specs.declared.reply.Reply.{Reply}
 use Rattle.run_journal.specs.declared.reply.Keyed.{Keyed}
 use Rattle.run_journal.specs.declared.reply.GtkNews.{GtkNews}
@@ -50,9 +51,9 @@ installs y gtk sends = record {
 }
 
 -- G1 verified under that key, and is answered; the group key is installed, or goes on
-abbrev pub renews : Keyed → GtkNews → List Act → Told
-renews y gtk sends =
-    record { verified = Some y.ptk.kck; derived = None; installed = None; gtk = Some gtk; sends = sends }
+abbrev pub renews : Ptk → GtkNews → List Act → Told
+renews q gtk sends =
+    record { verified = Some q.kck; derived = None; installed = None; gtk = Some gtk; sends = sends }
 
 -- the reply to p tells that
 pub record Tells (p : Node) (r : Reply) (t : Told) : Type 0 where

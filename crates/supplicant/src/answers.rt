@@ -1,6 +1,8 @@
 //! What a supplicant tells beside an outcome, written into replies. No memory is taken.
 
 ghost use Rattle.std.specs.Prelude.{◌≡◌, Some, [], ◌∷◌};
+ghost use Rattle.frame_making.specs.KeyData.{IsMobility};
+ghost use Rattle.supplicant.specs.Bases.{fte_in};
 ghost use Rattle.domain_base.specs.declared.names.Node.{Node as AnyNode};
 ghost use Rattle.run_journal.specs.declared.domain.Domain.{Domain as AnyDomain};
 ghost use Rattle.run_journal.specs.Replies.{IsEmpty, IsWhole};
@@ -11,21 +13,25 @@ ghost use Rattle.node_base.specs.Ends.{AreEnds};
 ghost use Rattle.supplicant.specs.KeyData.{news_of};
 ghost use Rattle.supplicant.specs.Told.{IsSilent, Tells, derives, repeats, installs, renews};
 
+use crate::base::Base;
 use crate::key_data::CarriedKey;
-use frame_making::{write_g2, write_m2, write_m4};
+use frame_making::{m2_key_data, write_g2, write_m2, write_m4};
 use group_key::GroupMemory;
+use key_hierarchy::Ptk;
 use node_base::Ends;
 use run_journal::{GtkNews, Keyed, Reply};
 
 /// The key was derived by M1: M2 is sent, with that counter.
-pub fn answer_m1(ends: &Ends, key: &Keyed, counter: u64, reply: &mut Reply)
+pub fn answer_m1(ends: &Ends, base: &Base, key: &Keyed, counter: u64, reply: &mut Reply)
     requires empty { IsEmpty reply.old }
     ensures tells { (d : AnyDomain) (n p : AnyNode) (x : Derivation) → AreEnds d n p ends.now
         → key.now.ptk ≡ x.ptk → x.inputs.snonce ≡ key.now.snonce
-        → Tells p reply.new (derives key.now (sent_m2 d n p x counter ∷ [])) }
+        → IsMobility d x.inputs (fte_in base.now) base.now.mobility
+        → Tells p reply.new (derives key.now (sent_m2 d n p x counter (fte_in base.now) ∷ [])) }
     ensures whole { IsWhole reply.new }
 {
-    write_m2(ends, key, counter, reply);
+    let key_data = m2_key_data(ends.akm, &base.mobility);
+    write_m2(ends, key, counter, key_data.as_slice(), reply);
     reply.derived = Some(*key);
 }
 
@@ -37,7 +43,8 @@ pub fn answer_m3(ends: &Ends, key: &Keyed, counter: u64, reply: &mut Reply)
         → key.now.ptk ≡ x.ptk → Tells p reply.new (repeats key.now (sent_m4 d n p x counter ∷ [])) }
     ensures whole { IsWhole reply.new }
 {
-    write_m4(ends, key, counter, reply);
+    let ptk = key.ptk;
+    write_m4(ends, &ptk, counter, reply);
 }
 
 /// M3 was accepted: M4 is sent, with that counter, and the keys are installed.
@@ -55,11 +62,11 @@ pub fn accept_m3(ends: &Ends, key: &Keyed, gtk: GtkNews, counter: u64, reply: &m
 }
 
 /// G1 was accepted: G2 is sent, with that counter, and the group key is installed or goes on.
-pub fn accept_g1(ends: &Ends, key: &Keyed, gtk: GtkNews, counter: u64, reply: &mut Reply)
+pub fn accept_g1(ends: &Ends, key: &Ptk, gtk: GtkNews, counter: u64, reply: &mut Reply)
     requires silent { IsSilent reply.old }
-    requires verified { reply.old.verified ≡ Some key.now.ptk.kck }
+    requires verified { reply.old.verified ≡ Some key.now.kck }
     ensures tells { (d : AnyDomain) (n p : AnyNode) (x : Derivation) → AreEnds d n p ends.now
-        → key.now.ptk ≡ x.ptk
+        → key.now ≡ x.ptk
         → Tells p reply.new (renews key.now gtk (sent_g2 d n p x counter ∷ [])) }
     ensures whole { IsWhole reply.new }
 {

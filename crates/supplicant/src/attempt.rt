@@ -1,12 +1,13 @@
 //! An attempt of a station with an access point, from the association on.
 
-ghost use Rattle.std.specs.Prelude.{◌≡◌, ◌≢◌, Some, None, IfOk, IfErr, OnErr};
-ghost use Rattle.domain_base.specs.declared.names.Akm.{Akm as AnyAkm};
+ghost use Rattle.std.specs.Prelude.{◌≡◌, Some, None, IfOk, IfErr, OnErr};
 ghost use Rattle.eapol_key.specs.Fields.{IsKeyFrame};
 ghost use Rattle.run_journal.specs.Replies.{IsEmpty, IsWhole};
 ghost use Rattle.supplicant.specs.Exchange.{Answers, Finishes, IsRefusal};
+ghost use Rattle.supplicant.specs.Held.{key_in};
 
 use crate::answers::{accept_m3, answer_m1, give};
+use crate::base::Base;
 use crate::key_data::packet_number;
 use crate::m3::judge_m3;
 use crate::session::Session;
@@ -33,21 +34,14 @@ impl Attempt {
     }
 
     /// M1: the key is derived, and M2 answers. No counter is kept before M3, so none is compared.
-    pub fn take_m1(
-        self,
-        ends: &Ends,
-        psk: &[u8; 32],
-        frame: &KeyFrame<'_>,
-        reply: &mut Reply,
-    ) -> Self
-        requires suite { ends.now.akm ≢ AnyAkm.FtPsk }
+    pub fn take_m1(self, ends: &Ends, base: &Base, frame: &KeyFrame<'_>, reply: &mut Reply) -> Self
         requires empty { IsEmpty reply.old }
-        ensures answers { Answers ends.now psk.now frame.now self result reply.new }
+        ensures answers { Answers ends.now base.now frame.now self result reply.new }
         ensures whole { IsWhole reply.new }
     {
         let (anonce, snonce) = (frame.nonce, self.snonce);
-        let key = pairwise_key(ends, psk, &anonce, &snonce);
-        answer_m1(ends, &key, frame.counter, reply);
+        let key = pairwise_key(ends, &base.pmk, &anonce, &snonce);
+        answer_m1(ends, base, &key, frame.counter, reply);
         Attempt {
             snonce,
             key: Some(key),
@@ -58,27 +52,28 @@ impl Attempt {
     pub fn take_m3(
         self,
         ends: &Ends,
+        base: &Base,
         frame: &KeyFrame<'_>,
         memory: &mut GroupMemory,
         reply: &mut Reply,
     ) -> Result<Session, Reason>
         requires frame { IsKeyFrame frame.now }
         requires empty { IsEmpty reply.old }
-        ensures key { IfOk result (λ x. self.key ≡ Some x.key) }
+        ensures key { IfOk result (λ x. self.key ≡ key_in x) }
         ensures finishes { IfOk result (λ x.
-            Finishes ends.now frame.now memory.old memory.new x reply.new) }
+            Finishes ends.now base.now frame.now memory.old memory.new x reply.new) }
         ensures refused { IfErr result (λ why.
-            IsRefusal ends.now.akm self.key None frame.now why reply.new) }
+            IsRefusal base.now self.key None frame.now why reply.new) }
         ensures kept { OnErr result (memory.new ≡ memory.old) }
         ensures whole { IsWhole reply.new }
     {
         let Some(key) = self.key else {
             return Err(Reason::Unawaited);
         };
-        let group = judge_m3(ends.akm, &key, None, frame, reply)?;
+        let group = judge_m3(base, &key, None, frame, reply)?;
         let counter = frame.counter;
         let gtk = give(memory, group, packet_number(frame.rsc));
         accept_m3(ends, &key, gtk, counter, reply);
-        Ok(Session { key, counter })
+        Ok(Session::Connect { key, counter })
     }
 }

@@ -2,7 +2,7 @@
 
 ghost use Rattle.eapol_key.specs.Fields.{fields_of, IsKeyFrame};
 ghost use Rattle.run_journal.specs.Replies.{IsEmpty};
-ghost use Rattle.supplicant.specs.M3.{under};
+ghost use Rattle.supplicant.specs.G1.{under_g1};
 ghost use Rattle.supplicant.specs.G1.{IsG1};
 ghost use Rattle.supplicant.specs.Told.{IsSilent};
 
@@ -10,27 +10,28 @@ use crate::key_data::{CarriedKey, open};
 use crate::m3::not_above;
 use domain_base::Akm;
 use eapol_key::{KeyFrame, verify};
-use run_journal::{Keyed, Reason, Reply};
+use key_hierarchy::Ptk;
+use run_journal::{Reason, Reply};
 
 /// Judges a G1 under that key, where its replay counter has to be above the kept one: its group key,
 /// or why it is refused. The KCK comes into the reply as soon as the MIC verified.
 pub fn judge_g1(
     akm: Akm,
-    key: &Keyed,
+    key: &Ptk,
     kept: Option<u64>,
     frame: &KeyFrame<'_>,
     reply: &mut Reply,
 ) -> Result<CarriedKey, Reason>
     requires frame { IsKeyFrame frame.now }
     requires empty { IsEmpty reply.old }
-    ensures judged { IsG1 (under akm key.now kept) (fields_of frame.now) frame.now.octets.now
+    ensures judged { IsG1 (under_g1 akm key.now kept) (fields_of frame.now) frame.now.octets.now
         result reply.new.verified }
     ensures silent { IsSilent reply.new }
 {
     if let Some(was) = not_above(kept, frame.counter) {
         return Err(Reason::Counter(was));
     }
-    let (kck, kek) = (key.ptk.kck, key.ptk.kek);
+    let (kck, kek) = (key.kck, key.kek);
     if !verify(frame, akm, &kck) {
         return Err(Reason::Mic);
     }

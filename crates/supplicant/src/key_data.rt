@@ -1,20 +1,23 @@
 //! Key data in its wrap, and the group key that it carries (IEEE Std 802.11-2020, 12.7.2). No memory
 //! is taken.
 
-ghost use Rattle.std.specs.Prelude.{◌≡◌, ◌≤◌, ◌↔◌, IsTrue, false, true, length};
+ghost use Rattle.std.specs.Prelude.{◌≡◌, ◌≤◌, Some, false, true, length};
 ghost use Rattle.std.specs.Prelude.{MatchOption, option_map, option_copied};
 ghost use Rattle.rsn_elements.specs.Fields.{gtk_kde_fields};
 ghost use Rattle.eapol_key.specs.Fields.{IsKeyFrame};
 ghost use Rattle.eapol_key.specs.KeyFrame.{SpellsKeyFrame, KeyFields};
 ghost use Rattle.domain_rules.specs.StationKeys.{is_group_key};
 ghost use Rattle.domain_rules.specs.StationRows.{carried_in};
-ghost use Rattle.supplicant.specs.KeyData.{packet_number_of, group_key, HasRsne, IsPlain, IsOpened};
+ghost use Rattle.rsn_elements.specs.Fields.{mde_fields, element_fields};
+ghost use Rattle.supplicant.specs.KeyData.{packet_number_of, group_key, has_rsne, has_mdid, has_fte};
+ghost use Rattle.domain_rules.specs.Facts.{is_same};
+ghost use Rattle.supplicant.specs.KeyData.{element_fault, IsPlain, IsOpened};
 
-use domain_base::{Akm, array_at, big_u16_at};
+use crate::base::Base;
+use domain_base::{array_at, big_u16_at};
 use eapol_key::{KEY_DATA_LEN_AT, KeyFrame, open_key_data};
-use frame_making::rsne;
-use node_base::is_same_rsne;
-use rsn_elements::{GtkKde, Within, read_elements};
+use frame_making::{named_rsne, rsne};
+use rsn_elements::{Elements, GtkKde, Mde, Within, read_elements};
 use run_journal::{KeyDataFault, Reason};
 
 // The octets of a group key.
@@ -51,27 +54,78 @@ fn key_of(found: Option<GtkKde<'_>>) -> Option<CarriedKey>
     })
 }
 
-// Whether the RSNE that is asked for was found, where one is.
-#[tactic(auto, using(crate::proofs::KeyDataRead::rsne_there, crate::proofs::KeyDataRead::rsne_unasked))]
-fn has_rsne(asked: Option<Akm>, found: Option<&[u8]>) -> bool
-    ensures { IsTrue result ↔ HasRsne asked (option_copied found.entry) }
+// Whether the octets were found, and are these.
+fn is_same(found: Option<&[u8]>, octets: &[u8]) -> bool
+    ensures { result ≡ is_same (option_copied found.entry) (Some octets.now) }
 {
-    match asked {
-        Some(akm) => is_same_rsne(found, &rsne(akm)),
-        None => true,
+    match found {
+        Some(found) => found == octets,
+        None => false,
     }
+}
+
+// Whether the RSNE that is asked for was found, where one is.
+fn has_rsne(asked: Option<&Base>, found: Option<&[u8]>) -> bool
+    ensures { result ≡ has_rsne (option_copied asked.entry) (option_copied found.entry) }
+{
+    let Some(base) = asked else { return true };
+    match &base.mobility {
+        None => is_same(found, &rsne(base.akm)),
+        Some(mobility) => is_same(found, &named_rsne(base.akm, mobility.name())),
+    }
+}
+
+// Whether the mobility domain that is asked for was found, where one is.
+fn has_mdid(asked: Option<&Base>, found: Option<Mde>) -> bool
+    ensures { result ≡ has_mdid (option_copied asked.entry) (option_map mde_fields found) }
+{
+    let Some(base) = asked else { return true };
+    let Some(mobility) = &base.mobility else {
+        return true;
+    };
+    match found {
+        Some(mde) => mde.mdid == mobility.mdid(),
+        None => false,
+    }
+}
+
+// Whether the FTE that is asked for was found, where one is.
+fn has_fte(asked: Option<&Base>, found: Option<&[u8]>) -> bool
+    ensures { result ≡ has_fte (option_copied asked.entry) (option_copied found.entry) }
+{
+    let Some(base) = asked else { return true };
+    let Some(mobility) = &base.mobility else {
+        return true;
+    };
+    is_same(found, mobility.fte())
+}
+
+// The first of the elements that is not the one that is asked for.
+fn element_fault(asked: Option<&Base>, elements: &Elements<'_>) -> Option<KeyDataFault>
+    ensures { result ≡ element_fault (option_copied asked.entry) (element_fields elements.now) }
+{
+    if !has_rsne(asked, elements.rsne_octets) {
+        return Some(KeyDataFault::Rsne);
+    }
+    if !has_mdid(asked, elements.mde) {
+        return Some(KeyDataFault::Mde);
+    }
+    if !has_fte(asked, elements.fte_octets) {
+        return Some(KeyDataFault::Fte);
+    }
+    None
 }
 
 // The group key that plain key data carries, or what is wrong with it.
 #[tactic(auto, using(crate::proofs::KeyDataRead::plain_unreadable))]
-fn carried(asked: Option<Akm>, plain: &[u8]) -> Result<CarriedKey, KeyDataFault>
-    ensures { IsPlain asked plain.now result }
+fn carried(asked: Option<&Base>, plain: &[u8]) -> Result<CarriedKey, KeyDataFault>
+    ensures { IsPlain (option_copied asked.entry) plain.now result }
 {
     let Ok(elements) = read_elements(plain, Within::KeyData) else {
         return Err(KeyDataFault::Unreadable);
     };
-    if !has_rsne(asked, elements.rsne_octets) {
-        return Err(KeyDataFault::Rsne);
+    if let Some(fault) = element_fault(asked, &elements) {
+        return Err(fault);
     }
     match key_of(elements.gtk) {
         Some(key) => Ok(key),
@@ -83,13 +137,13 @@ fn carried(asked: Option<Akm>, plain: &[u8]) -> Result<CarriedKey, KeyDataFault>
 // the slice.
 #[tactic(auto, using(crate::proofs::KeyDataRead::opened_not))]
 fn open_into(
-    asked: Option<Akm>,
+    asked: Option<&Base>,
     kek: &[u8; 16],
     key_data: &[u8],
     out: &mut [u8],
 ) -> Result<CarriedKey, Reason>
     requires { length key_data.now ≤ length out.old }
-    ensures { IsOpened asked kek.now key_data.now result }
+    ensures { IsOpened (option_copied asked.entry) kek.now key_data.now result }
 {
     let Ok(size) = open_key_data(kek, key_data, out) else {
         return Err(Reason::Wrap);
@@ -111,11 +165,16 @@ fn most_key_data(octets: &[u8]) -> usize
     usize::from(big_u16_at(octets, KEY_DATA_LEN_AT))
 }
 
-/// The group key that the wrapped key data of a frame carries, or why it is refused. Where a suite
-/// is given, its RSNE has to stand there, as this network sends it.
-pub fn open(asked: Option<Akm>, kek: &[u8; 16], frame: &KeyFrame<'_>) -> Result<CarriedKey, Reason>
+/// The group key that the wrapped key data of a frame carries, or why it is refused. In message 3 the
+/// RSNE has to stand there, as this network sends it; with suite 4 with PMKR1Name, beside the MDE and the
+/// FTE of the association response.
+pub fn open(
+    asked: Option<&Base>,
+    kek: &[u8; 16],
+    frame: &KeyFrame<'_>,
+) -> Result<CarriedKey, Reason>
     requires { IsKeyFrame frame.now }
-    ensures { IsOpened asked kek.now frame.now.key_data.now result }
+    ensures { IsOpened (option_copied asked.entry) kek.now frame.now.key_data.now result }
 {
     let key_data = frame.key_data;
     if key_data.len() > SHORT_KEY_DATA {
@@ -125,9 +184,13 @@ pub fn open(asked: Option<Akm>, kek: &[u8; 16], frame: &KeyFrame<'_>) -> Result<
 }
 
 // That of key data of any length. The buffer is large, so it stands apart.
-fn open_long(asked: Option<Akm>, kek: &[u8; 16], frame: &KeyFrame<'_>) -> Result<CarriedKey, Reason>
+fn open_long(
+    asked: Option<&Base>,
+    kek: &[u8; 16],
+    frame: &KeyFrame<'_>,
+) -> Result<CarriedKey, Reason>
     requires { IsKeyFrame frame.now }
-    ensures { IsOpened asked kek.now frame.now.key_data.now result }
+    ensures { IsOpened (option_copied asked.entry) kek.now frame.now.key_data.now result }
 {
     let (octets, key_data) = (frame.octets, frame.key_data);
     let mut buffer = [0; MOST_KEY_DATA];

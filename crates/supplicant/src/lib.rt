@@ -4,6 +4,7 @@
 
 mod answers;
 mod attempt;
+mod base;
 mod g1;
 mod key_data;
 mod m3;

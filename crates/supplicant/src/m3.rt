@@ -6,8 +6,8 @@ ghost use Rattle.run_journal.specs.Replies.{IsEmpty};
 ghost use Rattle.supplicant.specs.M3.{under, IsM3, IsAbove, IsNotAbove};
 ghost use Rattle.supplicant.specs.Told.{IsSilent};
 
+use crate::base::Base;
 use crate::key_data::{CarriedKey, open};
-use domain_base::Akm;
 use eapol_key::{KeyFrame, verify};
 use run_journal::{Keyed, Reason, Reply};
 
@@ -29,7 +29,7 @@ fn is_same_nonce(nonce: &[u8; 32], other: &[u8; 32]) -> bool
 /// Judges an M3 under that key, where its replay counter has to be above the kept one: its group
 /// key, or why it is refused. The KCK comes into the reply as soon as the MIC verified.
 pub fn judge_m3(
-    akm: Akm,
+    base: &Base,
     key: &Keyed,
     kept: Option<u64>,
     frame: &KeyFrame<'_>,
@@ -37,7 +37,7 @@ pub fn judge_m3(
 ) -> Result<CarriedKey, Reason>
     requires frame { IsKeyFrame frame.now }
     requires empty { IsEmpty reply.old }
-    ensures judged { IsM3 (under akm key.now kept) (fields_of frame.now) frame.now.octets.now
+    ensures judged { IsM3 (under base.now key.now kept) (fields_of frame.now) frame.now.octets.now
         result reply.new.verified }
     ensures silent { IsSilent reply.new }
 {
@@ -49,9 +49,9 @@ pub fn judge_m3(
         return Err(Reason::Nonce);
     }
     let (kck, kek) = (key.ptk.kck, key.ptk.kek);
-    if !verify(frame, akm, &kck) {
+    if !verify(frame, base.akm, &kck) {
         return Err(Reason::Mic);
     }
     reply.verified = Some(kck);
-    open(Some(akm), &kek, frame)
+    open(Some(base), &kek, frame)
 }

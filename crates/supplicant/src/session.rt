@@ -3,46 +3,96 @@
 ghost use Rattle.std.specs.Prelude.{◌≡◌, Some, IfOk, IfErr, OnErr};
 ghost use Rattle.eapol_key.specs.Fields.{IsKeyFrame};
 ghost use Rattle.run_journal.specs.Replies.{IsEmpty, IsWhole};
-ghost use Rattle.supplicant.specs.Exchange.{Repeats, Renews, IsRefusal, IsG1Refusal};
+ghost use Rattle.supplicant.specs.Held.{ptk_of, kept_of, counted};
+ghost use Rattle.supplicant.specs.Exchange.{Repeats, Renews, IsRepeatRefusal, IsG1Refusal};
 
 use crate::answers::{accept_g1, answer_m3, give};
+use crate::base::Base;
 use crate::g1::judge_g1;
 use crate::key_data::packet_number;
 use crate::m3::judge_m3;
 use eapol_key::KeyFrame;
 use group_key::GroupMemory;
+use key_hierarchy::Ptk;
 use node_base::Ends;
 use run_journal::{Keyed, Reason, Reply};
 
-/// A session: M3 was accepted.
+/// A session.
 #[derive(Clone, Copy)]
-pub struct Session {
-    /// The key.
-    pub key: Keyed,
-    /// The greatest replay counter of an M3 or G1 that was accepted or answered.
-    pub counter: u64,
+pub enum Session {
+    /// Of a four-way handshake, whose M3 was accepted.
+    Connect {
+        /// The key.
+        key: Keyed,
+        /// The greatest replay counter of an M3 or G1 that was accepted or answered.
+        counter: u64,
+    },
+    /// Of a fast transition.
+    Ft {
+        /// The key.
+        ptk: Ptk,
+        /// The greatest replay counter of a G1 that was accepted, where one was.
+        counter: Option<u64>,
+    },
 }
 
 impl Session {
-    /// M3 once more: M4 alone answers, and the counter is that of the message.
+    // Its key.
+    fn ptk(&self) -> Ptk
+        ensures { result ≡ ptk_of self.now }
+    {
+        match self {
+            Session::Connect { key, .. } => key.ptk,
+            Session::Ft { ptk, .. } => *ptk,
+        }
+    }
+
+    // The replay counter that is kept, where one is.
+    fn kept(&self) -> Option<u64>
+        ensures { result ≡ kept_of self.now }
+    {
+        match *self {
+            Session::Connect { counter, .. } => Some(counter),
+            Session::Ft { counter, .. } => counter,
+        }
+    }
+
+    // With that replay counter.
+    fn counted(self, counter: u64) -> Self
+        ensures { result ≡ counted counter self }
+    {
+        match self {
+            Session::Connect { key, .. } => Session::Connect { key, counter },
+            Session::Ft { ptk, .. } => Session::Ft {
+                ptk,
+                counter: Some(counter),
+            },
+        }
+    }
+
+    /// M3 once more: M4 alone answers, and the counter is that of the message. It is awaited in a session
+    /// of a four-way handshake alone.
     pub fn take_m3(
         self,
         ends: &Ends,
+        base: &Base,
         frame: &KeyFrame<'_>,
         reply: &mut Reply,
     ) -> Result<Self, Reason>
         requires frame { IsKeyFrame frame.now }
         requires empty { IsEmpty reply.old }
-        ensures repeats { IfOk result (λ x. Repeats ends.now frame.now self x reply.new) }
+        ensures repeats { IfOk result (λ x. Repeats ends.now base.now frame.now self x reply.new) }
         ensures refused { IfErr result (λ why.
-            IsRefusal ends.now.akm (Some self.key) (Some self.counter) frame.now why reply.new) }
+            IsRepeatRefusal base.now self frame.now why reply.new) }
         ensures whole { IsWhole reply.new }
     {
-        let key = self.key;
-        judge_m3(ends.akm, &key, Some(self.counter), frame, reply)?;
+        let Session::Connect { key, counter } = self else {
+            return Err(Reason::Unawaited);
+        };
+        judge_m3(base, &key, Some(counter), frame, reply)?;
         let counter = frame.counter;
         answer_m3(ends, &key, counter, reply);
-        Ok(Session { key, counter })
+        Ok(Session::Connect { key, counter })
     }
 
     /// G1: the group key is installed or goes on, G2 answers, and the counter is that of the message.
@@ -58,15 +108,15 @@ impl Session {
         ensures renews { IfOk result (λ x.
             Renews ends.now frame.now memory.old memory.new self x reply.new) }
         ensures refused { IfErr result (λ why.
-            IsG1Refusal ends.now.akm self.key self.counter frame.now why reply.new) }
+            IsG1Refusal ends.now.akm self frame.now why reply.new) }
         ensures kept { OnErr result (memory.new ≡ memory.old) }
         ensures whole { IsWhole reply.new }
     {
-        let key = self.key;
-        let group = judge_g1(ends.akm, &key, Some(self.counter), frame, reply)?;
+        let ptk = self.ptk();
+        let group = judge_g1(ends.akm, &ptk, self.kept(), frame, reply)?;
         let counter = frame.counter;
         let gtk = give(memory, group, packet_number(frame.rsc));
-        accept_g1(ends, &key, gtk, counter, reply);
-        Ok(Session { key, counter })
+        accept_g1(ends, &ptk, gtk, counter, reply);
+        Ok(self.counted(counter))
     }
 }

@@ -1,7 +1,8 @@
 //! A supplicant, and what each message does to it.
 
-ghost use Rattle.std.specs.Prelude.{◌≡◌, ◌≢◌, ◌<◌, List, None, length};
-ghost use Rattle.domain_base.specs.declared.names.Akm.{Akm as AnyAkm};
+ghost use Rattle.std.specs.Prelude.{◌≡◌, ◌≤◌, ◌<◌, List, None, length};
+ghost use Rattle.domain_rules.specs.Network.{InForm};
+ghost use Rattle.domain_base.specs.declared.names.Akm.TheVariants.{FtPsk};
 ghost use Rattle.domain_base.specs.declared.names.Node.TheVariants.{Ap, Sta};
 ghost use Rattle.eapol_key.specs.declared.messages.Message.TheVariants.{M1, M3, G1};
 ghost use Rattle.eapol_key.specs.Fields.{IsKeyFrame};
@@ -9,14 +10,17 @@ ghost use Rattle.run_journal.specs.Replies.{IsEmpty};
 ghost use Rattle.group_key.specs.Keys.{Kept};
 ghost use Rattle.node_base.specs.Ends.{AreEnds};
 ghost use Rattle.supplicant.specs.State.{both};
-ghost use Rattle.supplicant.specs.Starts.{begun};
+ghost use Rattle.supplicant.specs.Starts.{begun, held_at_first, fte_in_start};
+ghost use Rattle.supplicant.specs.Starts.{NamesHolderWhere, IsBaseAtFirst};
 ghost use Rattle.supplicant.specs.Taken.{IsTaken};
 
 use crate::attempt::Attempt;
+use crate::base::Base;
 use crate::session::Session;
 use domain_base::Node;
 use eapol_key::{KeyFrame, Message};
 use group_key::GroupMemory;
+use key_hierarchy::Ptk;
 use node_base::Ends;
 use run_journal::{Domain, Outcome, Reason, Reply};
 use std::marker::Model;
@@ -28,6 +32,13 @@ pub enum StaStart<'a> {
     Connect {
         /// The nonce that was drawn for the attempt.
         snonce: &'a [u8; 32],
+        /// With suite 4 the whole FTE of the response, from its id on: at most 257 octets. Else none.
+        fte: &'a [u8],
+    },
+    /// A fast transition installed that key.
+    Ft {
+        /// The key.
+        ptk: &'a Ptk,
     },
 }
 
@@ -35,7 +46,7 @@ pub enum StaStart<'a> {
 #[derive(Drop)]
 pub struct Supplicant {
     ends: Ends,
-    psk: [u8; 32],
+    base: Base,
     attempt: Option<Attempt>,
     session: Option<Session>,
 }
@@ -48,31 +59,40 @@ impl Model for Supplicant {
 
     ghost view = { λ s. record {
       ends = s.ends;
-      psk = s.psk;
+      base = s.base;
       attempt = s.attempt;
       session = s.session;
     } };
 
-    ghost invariant = { λ s. IsOwn s.ends s.psk s.attempt s.session };
+    ghost invariant = { λ s. IsOwn s.ends s.base s.attempt s.session };
 }
 
 impl Supplicant {
-    /// Of a station with an access point, by their places in the lists, suites 2 and 6.
+    /// The R0KH-ID of the association, with suite 4: what the keys that a reply tells of go back to.
+    pub fn r0kh_id(&self) -> &[u8]
+        ensures { result.now ≡ self.now.base.r0kh_id }
+    {
+        self.base.r0kh_id.as_slice()
+    }
+
+    /// Of a station with an access point, by their places in the lists.
     pub fn begin(domain: &Domain, sta: u16, ap: u16, start: StaStart<'_>) -> Self
-        requires suite { domain.now.akm ≢ AnyAkm.FtPsk }
+        requires form { InForm domain.now }
         requires sta { sta < length domain.now.stas }
         requires ap { ap < length domain.now.aps }
+        requires fte { length (fte_in_start start) ≤ 257 }
+        requires holder { domain.now.akm ≡ FtPsk → NamesHolderWhere start }
         ensures ends { AreEnds domain.now (Sta sta) (Ap ap) result.ends }
-        ensures psk { result.psk ≡ domain.now.psk }
+        ensures base { IsBaseAtFirst domain.now (Sta sta) (Ap ap) start.entry result.base }
         ensures attempt { result.attempt ≡ begun start.entry }
-        ensures session { result.session ≡ None }
+        ensures session { result.session ≡ held_at_first start.entry }
     {
         let ends = Ends::between(domain, Node::Sta(sta), Node::Ap(ap));
         Supplicant {
             ends,
-            psk: domain.psk,
+            base: first_base(domain, sta, ap, start),
             attempt: first_attempt(start),
-            session: None,
+            session: first_session(start),
         }
     }
 
@@ -119,7 +139,7 @@ impl Supplicant {
         let Some(attempt) = self.attempt else {
             return Outcome::Refused(Reason::Unawaited);
         };
-        self.attempt = Some(attempt.take_m1(&self.ends, &self.psk, frame, reply));
+        self.attempt = Some(attempt.take_m1(&self.ends, &self.base, frame, reply));
         Outcome::Accepted
     }
 
@@ -138,7 +158,7 @@ impl Supplicant {
         let Some(attempt) = self.attempt else {
             return self.take_m3_again(frame, reply);
         };
-        match attempt.take_m3(&self.ends, frame, memory, reply) {
+        match attempt.take_m3(&self.ends, &self.base, frame, memory, reply) {
             Ok(session) => {
                 self.attempt = None;
                 self.session = Some(session);
@@ -159,7 +179,7 @@ impl Supplicant {
         let Some(session) = self.session else {
             return Outcome::Refused(Reason::Unawaited);
         };
-        match session.take_m3(&self.ends, frame, reply) {
+        match session.take_m3(&self.ends, &self.base, frame, reply) {
             Ok(session) => {
                 self.session = Some(session);
                 Outcome::Answered
@@ -198,6 +218,35 @@ fn first_attempt(start: StaStart<'_>) -> Option<Attempt>
     ensures { result ≡ begun start.entry }
 {
     match start {
-        StaStart::Connect { snonce } => Some(Attempt::begin(*snonce)),
+        StaStart::Connect { snonce, .. } => Some(Attempt::begin(*snonce)),
+        StaStart::Ft { .. } => None,
+    }
+}
+
+// The session that it begins with.
+fn first_session(start: StaStart<'_>) -> Option<Session>
+    ensures { result ≡ held_at_first start.entry }
+{
+    match start {
+        StaStart::Connect { .. } => None,
+        StaStart::Ft { ptk } => Some(Session::Ft {
+            ptk: *ptk,
+            counter: None,
+        }),
+    }
+}
+
+// What its attempt goes back to.
+fn first_base(domain: &Domain, sta: u16, ap: u16, start: StaStart<'_>) -> Base
+    requires form { InForm domain.now }
+    requires sta { sta < length domain.now.stas }
+    requires ap { ap < length domain.now.aps }
+    requires fte { length (fte_in_start start) ≤ 257 }
+    requires holder { domain.now.akm ≡ FtPsk → NamesHolderWhere start }
+    ensures { IsBaseAtFirst domain.now (Sta sta) (Ap ap) start.entry result }
+{
+    match start {
+        StaStart::Connect { fte, .. } => Base::of(domain, sta, ap, fte),
+        StaStart::Ft { .. } => Base::none(domain.akm),
     }
 }

@@ -1,16 +1,11 @@
 //! The outside of this machine, with what no clause says: that frames go from one socket to
 //! another, and that seeds differ.
 
-use domain_base::{Air, Draws, Failed, Link, Node};
+use crate::outside::next_frame;
+use domain_base::{Air, Draws, Link, Node};
 use loopback::{MachineRandom, OsDraws, UdpAir};
 use std::cell::Cell;
 use std::net::Net;
-
-// What a link gives next, by a buffer of four octets that is filled up with zeros.
-fn next_frame<L: Link>(link: &mut L) -> Result<Option<[u8; 4]>, Failed> {
-    let mut buf = [0; 4];
-    Ok(link.poll(&mut buf)?.map(|_| buf))
-}
 
 // The link gives these frames one after the other.
 fn gives<L: Link>(link: &mut L, expected: &[Option<[u8; 4]>]) -> bool {

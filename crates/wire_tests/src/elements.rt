@@ -3,7 +3,7 @@
 ghost use Rattle.std.specs.Prelude.{◌≡◌, ℕ, ◌<◌, ◌≤◌, ◌++◌, length, take, drop};
 ghost use Rattle.rsn_elements.specs.Sent.{gtk_kde_octets, pad_octets};
 
-use domain_base::Akm;
+use domain_base::{Akm, put};
 use rsn_elements::{
     ElementFault, ElementWriter, Elements, Fte, GtkKde, Mde, Pmkids, Rsne, Suites, Within,
     WrappedGtk, read_elements,
@@ -23,16 +23,6 @@ const CCMP: [u8; 4] = [0x00, 0x0f, 0xac, 0x04];
 // The name of a key, and a key.
 const NAME: [u8; 16] = *b"0123456789abcdef";
 
-// The head, some zeros, and the tail.
-fn octets(alloc: Global, head: &[u8], zeros: u8, tail: &[u8]) -> Result<Vec<u8>, AllocError> {
-    let mut octets = Vec::from_slice(alloc, head)?;
-    for _ in 0..zeros {
-        octets.push(0)?;
-    }
-    octets.extend_from_slice(tail)?;
-    Ok(octets)
-}
-
 // The pieces, one behind the other.
 fn joined(alloc: Global, pieces: &[&[u8]]) -> Result<Vec<u8>, AllocError> {
     let mut octets = Vec::new(alloc);
@@ -48,6 +38,23 @@ fn fault(octets: &[u8], within: Within) -> Option<(usize, u8)> {
         Ok(_) => None,
         Err(fault) => Some((fault.place, fault.kind.code())),
     }
+}
+
+// The head, so many zeros and the tail have that fault, by its place and number, or none.
+fn have_fault(
+    head: &[u8],
+    zeros: u8,
+    tail: &[u8],
+    within: Within,
+    want: Option<(usize, u8)>,
+) -> bool {
+    if head.len() > 128 || tail.len() > 128 {
+        return false;
+    }
+    let mut octets = [0; 512];
+    let end = put(&mut octets, 0, head);
+    let end = put(&mut octets, end + usize::from(zeros), tail);
+    fault(&octets[..end], within) == want
 }
 
 // Head, zeros, tail, and the place and number of the fault.
@@ -148,19 +155,13 @@ const FAULTS: [Faulty; 36] = [
     (b"\xdd", 0, b"", 0, 1),
 ];
 
-fn check_fault(rt: &impl Abort, alloc: Global, row: &Faulty) {
-    let (head, zeros, tail, place, code) = *row;
-    let octets = octets(alloc, head, zeros, tail).expect(rt, "memory");
-    assert!(rt;
-        fault(&octets, Within::Body) == Some((place, code)),
-        "at {head:?}"
-    );
-}
-
 #[test]
 fn faults_of_a_frame_body(rt: HostRuntime) {
-    for row in &FAULTS {
-        check_fault(&rt, rt.alloc(), row);
+    for (head, zeros, tail, place, code) in &FAULTS {
+        assert!(rt;
+            have_fault(head, *zeros, tail, Within::Body, Some((*place, *code))),
+            "at {head:?}"
+        );
     }
 }
 
@@ -195,40 +196,58 @@ const PAIRS: [Pair; 12] = [
     (Within::Body, GTK, GTK, None),
 ];
 
-fn check_pair(rt: &impl Abort, alloc: Global, row: &Pair) {
-    let (within, first, second, want) = *row;
-    let octets = octets(alloc, first, 0, second).expect(rt, "memory");
-    assert!(rt; fault(&octets, within) == want, "at {first:?} {second:?}");
-}
-
 #[test]
 fn faults_of_two_elements(rt: HostRuntime) {
-    for row in &PAIRS {
-        check_pair(&rt, rt.alloc(), row);
+    for (within, first, second, want) in &PAIRS {
+        assert!(rt;
+            have_fault(first, 0, second, *within, *want),
+            "at {first:?} {second:?}"
+        );
     }
 }
 
-// The fixed part of an FTE, all zeros.
-const ZEROS: [u8; 82] = [0; 82];
-
-// The length of a second FTE, its subelements, and the place and number of the fault: a second one is a fault, also with
-// a repeated subelement, but not before a wrong one.
-const SECOND_FTES: [(u8, &[u8], usize, u8); 3] = [
-    (82, b"", 84, 4),
-    (88, b"\x03\x01a\x03\x01a", 84, 4),
-    (84, b"\x03\x00", 168, 5),
+// An FTE of zeros without subelements, the head of a second one behind it, 82 zeros, its subelements, and the place and number
+// of the fault: a second one is a fault, also with a repeated subelement, but not before a wrong one.
+const SECOND_FTES: [Faulty; 3] = [
+    (
+        b"\x37\x52\
+    \0\0\0\0\0\0\0\0\0\0\0\0\0\0\0\0\0\0\0\0\0\0\0\0\0\0\0\0\0\0\0\0\0\0\0\0\0\0\0\0\0\
+    \0\0\0\0\0\0\0\0\0\0\0\0\0\0\0\0\0\0\0\0\0\0\0\0\0\0\0\0\0\0\0\0\0\0\0\0\0\0\0\0\0\
+    \x37\x52",
+        82,
+        b"",
+        84,
+        4,
+    ),
+    (
+        b"\x37\x52\
+    \0\0\0\0\0\0\0\0\0\0\0\0\0\0\0\0\0\0\0\0\0\0\0\0\0\0\0\0\0\0\0\0\0\0\0\0\0\0\0\0\0\
+    \0\0\0\0\0\0\0\0\0\0\0\0\0\0\0\0\0\0\0\0\0\0\0\0\0\0\0\0\0\0\0\0\0\0\0\0\0\0\0\0\0\
+    \x37\x58",
+        82,
+        b"\x03\x01a\x03\x01a",
+        84,
+        4,
+    ),
+    (
+        b"\x37\x52\
+    \0\0\0\0\0\0\0\0\0\0\0\0\0\0\0\0\0\0\0\0\0\0\0\0\0\0\0\0\0\0\0\0\0\0\0\0\0\0\0\0\0\
+    \0\0\0\0\0\0\0\0\0\0\0\0\0\0\0\0\0\0\0\0\0\0\0\0\0\0\0\0\0\0\0\0\0\0\0\0\0\0\0\0\0\
+    \x37\x54",
+        82,
+        b"\x03\x00",
+        168,
+        5,
+    ),
 ];
-
-fn check_second_fte(rt: &impl Abort, alloc: Global, size: u8, tail: &[u8], want: (usize, u8)) {
-    let pieces: [&[u8]; 5] = [b"\x37\x52", &ZEROS, &[0x37, size], &ZEROS, tail];
-    let both = joined(alloc, &pieces).expect(rt, "memory");
-    assert!(rt; fault(&both, Within::Body) == Some(want), "at {tail:?}");
-}
 
 #[test]
 fn faults_of_a_second_fte(rt: HostRuntime) {
-    for (size, tail, place, code) in SECOND_FTES {
-        check_second_fte(&rt, rt.alloc(), size, tail, (place, code));
+    for (head, zeros, tail, place, code) in &SECOND_FTES {
+        assert!(rt;
+            have_fault(head, *zeros, tail, Within::Body, Some((*place, *code))),
+            "at {tail:?}"
+        );
     }
 }
 
@@ -249,15 +268,13 @@ const REQUEST_ENDS: [(&[u8], Option<(usize, u8)>); 3] = [
     ),
 ];
 
-fn check_request(rt: &impl Abort, alloc: Global, tail: &[u8], want: Option<(usize, u8)>) {
-    let request = octets(alloc, REQUEST, 50, tail).expect(rt, "memory");
-    assert!(rt; fault(&request, Within::Body) == want, "at {tail:?}");
-}
-
 #[test]
 fn an_altered_request_of_fast_transition(rt: HostRuntime) {
     for (tail, want) in REQUEST_ENDS {
-        check_request(&rt, rt.alloc(), tail, want);
+        assert!(rt;
+            have_fault(REQUEST, 50, tail, Within::Body, want),
+            "at {tail:?}"
+        );
     }
 }
 
@@ -274,32 +291,59 @@ const ORDERS: [[&[u8]; 5]; 2] = [
     [TIMEOUTS, FTE, GTK, MDE, RSNE],
 ];
 
-fn is_that_rsne(rsne: &Rsne<'_>) -> bool {
-    let pairwise = rsne.pairwise.map(|suites| suites.0);
-    let akms = rsne.akms.map(|suites| suites.0);
-    (rsne.version == 1 && rsne.group == Some(CCMP))
-        && (pairwise == Some(CCMP.as_slice()) && akms == Some(b"\x00\x0f\xac\x02".as_slice()))
-        && (rsne.capabilities == Some(12) && rsne.pmkids.is_none() && rsne.management.is_none())
+fn are(suites: Option<Suites<'_>>, octets: &[u8]) -> bool {
+    match suites {
+        Some(suites) => suites.0 == octets,
+        None => false,
+    }
 }
 
-fn is_that_mde(mde: &Mde) -> bool {
-    mde.mdid == [0xa1, 0xb2] && mde.capability == 0
+fn is_that_rsne(rsne: Option<Rsne<'_>>) -> bool {
+    match rsne {
+        Some(rsne) => {
+            (rsne.version == 1 && rsne.group == Some(CCMP))
+                && (are(rsne.pairwise, &CCMP) && are(rsne.akms, b"\x00\x0f\xac\x02"))
+                && (rsne.capabilities == Some(12) && rsne.pmkids.is_none())
+                && rsne.management.is_none()
+        }
+        None => false,
+    }
 }
 
-fn is_that_wrapped_gtk(gtk: &WrappedGtk<'_>) -> bool {
-    (gtk.information == 1 && gtk.key_length == 16)
-        && (gtk.rsc == *b"rsc01234" && gtk.wrapped == b"wr".as_slice())
+fn is_that_mde(mde: Option<Mde>) -> bool {
+    match mde {
+        Some(mde) => mde.mdid == [0xa1, 0xb2] && mde.capability == 0,
+        None => false,
+    }
 }
 
-fn is_that_fte(fte: &Fte<'_>) -> bool {
-    (fte.mic_control == [0, 3] && fte.mic == [0; 16])
-        && (fte.anonce == [0; 32] && fte.snonce == [0; 32])
-        && (fte.r1kh_id == Some(*b"abcdef") && fte.r0kh_id == Some(b"r0kh-1".as_slice()))
-        && fte.gtk.is_some_and(|gtk| is_that_wrapped_gtk(&gtk))
+fn is_that_wrapped_gtk(gtk: Option<WrappedGtk<'_>>) -> bool {
+    match gtk {
+        Some(gtk) => {
+            (gtk.information == 1 && gtk.key_length == 16)
+                && (gtk.rsc == *b"rsc01234" && gtk.wrapped == b"wr".as_slice())
+        }
+        None => false,
+    }
 }
 
-fn is_that_gtk(gtk: &GtkKde<'_>) -> bool {
-    gtk.id == 1 && !gtk.transmit && gtk.key == b"0123456789abcdef".as_slice()
+fn is_that_fte(fte: Option<Fte<'_>>) -> bool {
+    match fte {
+        Some(fte) => {
+            (fte.mic_control == [0, 3] && fte.mic == [0; 16])
+                && (fte.anonce == [0; 32] && fte.snonce == [0; 32])
+                && (fte.r1kh_id == Some(*b"abcdef") && fte.r0kh_id == Some(b"r0kh-1".as_slice()))
+                && is_that_wrapped_gtk(fte.gtk)
+        }
+        None => false,
+    }
+}
+
+fn is_that_gtk(gtk: Option<GtkKde<'_>>) -> bool {
+    match gtk {
+        Some(gtk) => gtk.id == 1 && !gtk.transmit && gtk.key == b"0123456789abcdef".as_slice(),
+        None => false,
+    }
 }
 
 fn are_those_octets(elements: &Elements<'_>) -> bool {
@@ -312,10 +356,8 @@ fn are_those_octets(elements: &Elements<'_>) -> bool {
 fn says_all(read: Result<Elements<'_>, ElementFault>) -> bool {
     match read {
         Ok(elements) => {
-            elements.rsne.is_some_and(|rsne| is_that_rsne(&rsne))
-                && elements.mde.is_some_and(|mde| is_that_mde(&mde))
-                && elements.fte.is_some_and(|fte| is_that_fte(&fte))
-                && elements.gtk.is_some_and(|gtk| is_that_gtk(&gtk))
+            (is_that_rsne(elements.rsne) && is_that_mde(elements.mde))
+                && (is_that_fte(elements.fte) && is_that_gtk(elements.gtk))
                 && (elements.deadline == Some(1000) && elements.lifetime == Some(86400))
                 && are_those_octets(&elements)
         }
@@ -378,13 +420,20 @@ const EARLY: [Early; 5] = [
 
 fn ends_early(rsne: &Rsne<'_>, row: &Early) -> bool {
     let (_, group, akms, capabilities, management) = *row;
-    (rsne.group == group && rsne.akms.map(|list| list.count()) == akms)
+    let count = match rsne.akms {
+        Some(list) => Some(list.count()),
+        None => None,
+    };
+    (rsne.group == group && count == akms)
         && (rsne.capabilities == capabilities && rsne.management == management)
 }
 
 fn is_read_as_it_ends(row: &Early) -> bool {
     match read_elements(row.0, Within::Body) {
-        Ok(elements) => elements.rsne.is_some_and(|rsne| ends_early(&rsne, row)),
+        Ok(elements) => match elements.rsne {
+            Some(rsne) => ends_early(&rsne, row),
+            None => false,
+        },
         Err(_) => false,
     }
 }
@@ -409,8 +458,8 @@ fn is_one(names: Pmkids<'_>) -> bool {
 
 #[test]
 fn members_of_lists(rt: HostRuntime) {
-    assert!(rt; are_two(Suites(b"\x00\x0f\xac\x04\x00\x0f\xac\x02")));
-    assert!(rt; is_one(Pmkids(&NAME)));
+    let suites = Suites(b"\x00\x0f\xac\x04\x00\x0f\xac\x02");
+    assert!(rt; are_two(suites) && is_one(Pmkids(&NAME)));
 }
 
 fn write_association(buffer: &mut [u8; 40]) -> usize {

@@ -7,9 +7,7 @@ use air_frame::{
     write_assoc_req, write_assoc_resp, write_eapol_data, write_ft_req, write_ft_resp, write_re_req,
     write_re_resp,
 };
-use domain_base::{Mac, Tid};
-use std::alloc::{AllocError, Global};
-use std::process::Abort;
+use domain_base::{Mac, Tid, put};
 
 const AP: Mac = Mac([2, 0, 0, 0, 0, 1]);
 
@@ -87,17 +85,6 @@ const FAULTS: [Faulty; 20] = [
     (b"\xd1\x00", 0, b"", Some(AirFault::Version)),
 ];
 
-// The octets at the front, as many zeros, and the octets behind them.
-fn joined(alloc: Global, front: &[u8], zeros: usize, back: &[u8]) -> Result<Vec<u8>, AllocError> {
-    let mut octets = Vec::new(alloc);
-    octets.extend_from_slice(front)?;
-    for _ in 0..zeros {
-        octets.push(0)?;
-    }
-    octets.extend_from_slice(back)?;
-    Ok(octets)
-}
-
 fn fault(octets: &[u8]) -> Option<AirFault> {
     match read(octets) {
         Ok(_) => None,
@@ -105,16 +92,23 @@ fn fault(octets: &[u8]) -> Option<AirFault> {
     }
 }
 
-fn check_fault(rt: &impl Abort, alloc: Global, row: &Faulty) {
+// The octets at the front, the zeros, and the octets behind them have that fault first, or none.
+fn has_fault(row: &Faulty) -> bool {
     let (front, zeros, back, want) = *row;
-    let octets = joined(alloc, front, zeros, back).expect(rt, "memory");
-    assert!(rt; fault(&octets) == want, "at {front:?} and {zeros} zeros");
+    if front.len() > 16 || zeros > 40 || back.len() > 8 {
+        return false;
+    }
+    let mut octets = [0; 64];
+    let end = put(&mut octets, 0, front);
+    let end = put(&mut octets, end + zeros, back);
+    fault(&octets[..end]) == want
 }
 
 #[test]
 fn first_fault_is_answered(rt: HostRuntime) {
     for row in &FAULTS {
-        check_fault(&rt, rt.alloc(), row);
+        let (front, zeros, _, _) = *row;
+        assert!(rt; has_fault(row), "at {front:?} and {zeros} zeros");
     }
 }
 
@@ -146,68 +140,43 @@ fn frames_are_written_as_they_were_read(rt: HostRuntime) {
     }
 }
 
-fn is_assoc_req(octets: &[u8]) -> bool {
-    match read(octets) {
-        Ok(AirFrame::AssocReq(request)) => {
+// A frame by its number in `FRAMES`, with its fields.
+fn has_fields(number: usize, octets: &[u8]) -> bool {
+    match (number, read(octets)) {
+        (0, Ok(AirFrame::AssocReq(request))) => {
             let header = request.header;
             (header.a1 == AP && header.a2 == STATION && header.a3 == AP)
                 && (request.capability == 0x11 && request.listen_interval == 10)
                 && request.elements == b"\0\x04IEEE".as_slice()
         }
-        _ => false,
-    }
-}
-
-fn is_assoc_resp(octets: &[u8]) -> bool {
-    match read(octets) {
-        Ok(AirFrame::AssocResp(response)) => response.status == 0 && response.aid == 0xc001,
-        _ => false,
-    }
-}
-
-fn is_re_req(octets: &[u8]) -> bool {
-    match read(octets) {
-        Ok(AirFrame::ReReq(request)) => request.current_ap == OTHER_AP,
-        _ => false,
-    }
-}
-
-fn is_re_resp(octets: &[u8]) -> bool {
-    match read(octets) {
-        Ok(AirFrame::ReResp(response)) => response.status == 53,
-        _ => false,
-    }
-}
-
-fn is_ft_req(octets: &[u8]) -> bool {
-    match read(octets) {
-        Ok(AirFrame::FtReq(request)) => request.elements == b"\x36\x03\xa1\xb2\0".as_slice(),
-        _ => false,
-    }
-}
-
-fn is_ft_resp(octets: &[u8]) -> bool {
-    match read(octets) {
-        Ok(AirFrame::FtResp(response)) => response.status == 53,
+        (1, Ok(AirFrame::AssocResp(response))) => response.status == 0 && response.aid == 0xc001,
+        (2, Ok(AirFrame::ReReq(request))) => request.current_ap == OTHER_AP,
+        (3, Ok(AirFrame::ReResp(response))) => response.status == 53,
+        (4, Ok(AirFrame::FtReq(request))) => request.elements == b"\x36\x03\xa1\xb2\0".as_slice(),
+        (5, Ok(AirFrame::FtResp(response))) => response.status == 53,
         _ => false,
     }
 }
 
 #[test]
 fn fields_are_read_from_their_places(rt: HostRuntime) {
-    assert!(rt; is_assoc_req(ASSOC_REQ));
-    assert!(rt; is_assoc_resp(ASSOC_RESP));
-    assert!(rt; is_re_req(RE_REQ));
-    assert!(rt; is_re_resp(RE_RESP));
-    assert!(rt; is_ft_req(FT_REQ));
-    assert!(rt; is_ft_resp(FT_RESP));
+    for number in 0..6 {
+        assert!(rt; has_fields(number, FRAMES[number]), "frame {number}");
+    }
+}
+
+fn is_5(tid: Option<Tid>) -> bool {
+    match tid {
+        Some(tid) => tid.number() == 5,
+        None => false,
+    }
 }
 
 fn is_eapol_of_tid_5(octets: &[u8]) -> bool {
     match read(octets) {
         Ok(AirFrame::Eapol(frame)) => {
             frame.direction == Direction::ToDs
-                && frame.tid.map(|tid| tid.number()) == Some(5)
+                && is_5(frame.tid)
                 && frame.body == b"\x02\x03\0\x5f".as_slice()
         }
         _ => false,
@@ -228,8 +197,7 @@ fn is_protected_without_tid(octets: &[u8]) -> bool {
 
 #[test]
 fn data_is_read_with_its_direction_and_tid(rt: HostRuntime) {
-    assert!(rt; is_eapol_of_tid_5(QOS_EAPOL));
-    assert!(rt; is_protected_without_tid(SEALED));
+    assert!(rt; is_eapol_of_tid_5(QOS_EAPOL) && is_protected_without_tid(SEALED));
 }
 
 // To how many octets the first message of a four-way handshake is cut, and the first fault.
@@ -324,8 +292,7 @@ fn headers_are_sent() -> bool {
 
 #[test]
 fn frames_are_sent_octet_by_octet(rt: HostRuntime) {
-    assert!(rt; requests_are_sent());
-    assert!(rt; responses_are_sent());
-    assert!(rt; data_is_sent());
-    assert!(rt; headers_are_sent());
+    assert!(rt;
+        (requests_are_sent() && responses_are_sent()) && (data_is_sent() && headers_are_sent())
+    );
 }

@@ -3,7 +3,8 @@
 ghost use Rattle.std.specs.Prelude.{◌≡◌, ◌≤◌, true, length};
 ghost use Rattle.key_holders.specs.Rows.{is_in};
 
-use domain_base::{Mac, Octets, put};
+use crate::keys::octets;
+use domain_base::{Mac, Octets};
 use holder_table::{Bound, HolderPass, SharedHolders};
 use key_hierarchy::{PmkR1, PullAnswer, PutAnswer, RevokeAnswer, ptk_from_r1};
 use key_holders::{HolderRow, Holders, ListHolders};
@@ -44,13 +45,6 @@ const KCK: u128 = 0x7900a9e91a5fe008096fb289f65f4c21;
 
 // The most pulls that wait for the other side.
 const PULLS: u64 = 20_000_000;
-
-fn joined(halves: [u128; 2]) -> [u8; 32] {
-    let mut out = [0; 32];
-    let end = put(&mut out, 0, &halves[0].to_be_bytes());
-    put(&mut out, end, &halves[1].to_be_bytes());
-    out
-}
 
 fn ids(rt: &impl Abort, alloc: Global, count: usize) -> Vec<Octets>
     ensures { length result.items ≡ count }
@@ -131,7 +125,7 @@ fn is_captured(answer: PullAnswer) -> bool {
     let PullAnswer::Found(r1) = answer else {
         return false;
     };
-    let ptk = ptk_from_r1(&r1, &joined(SNONCE), &joined(ANONCE), TARGET, STA);
+    let ptk = ptk_from_r1(&r1, &octets(SNONCE), &octets(ANONCE), TARGET, STA);
     r1.name == R1_NAME.to_be_bytes() && ptk.kck == KCK.to_be_bytes()
 }
 
@@ -139,7 +133,7 @@ fn is_captured(answer: PullAnswer) -> bool {
 fn gives_the_captured_key<H: Holders>(holders: &mut H) -> bool
     requires { is_in 0 (H.has holders.old) ≡ true }
 {
-    let psk = joined(PSK);
+    let psk = octets(PSK);
     let row = HolderRow::derive(&psk, b"wireshark-ft-psk", [1, 2], R0KH_IDS[0], STA);
     let name = row.name();
     let held = is_put(holders.put(0, row));

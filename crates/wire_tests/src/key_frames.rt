@@ -125,8 +125,7 @@ fn is_first_m1(akm: Akm, information: u8) -> bool {
 
 #[test]
 fn first_m1_is_written_octet_by_octet(rt: HostRuntime) {
-    assert!(rt; is_first_m1(Akm::Psk, 0x8a));
-    assert!(rt; is_first_m1(Akm::PskSha256, 0x8b));
+    assert!(rt; is_first_m1(Akm::Psk, 0x8a) && is_first_m1(Akm::PskSha256, 0x8b));
 }
 
 // The fields are those of the first M1.
@@ -251,23 +250,23 @@ fn arrives(message: Message, akm: Akm, key_data: &[u8]) -> bool
     used == 99 + key_data.len() && is_read_as(&out, message, akm, key_data)
 }
 
-fn carry(rt: &impl Abort, message: Message, key_data: &[u8])
+// With each suite.
+fn is_carried(message: Message, key_data: &[u8]) -> bool
     requires carried { IsSentWith message key_data.now }
     requires few { length key_data.now ≤ 56 }
 {
-    for akm in [Akm::Psk, Akm::PskSha256, Akm::FtPsk] {
-        assert!(rt; arrives(message, akm, key_data));
-    }
+    arrives(message, Akm::Psk, key_data)
+        && arrives(message, Akm::PskSha256, key_data)
+        && arrives(message, Akm::FtPsk, key_data)
 }
 
 #[test]
 fn each_message_is_written_classified_sealed_and_verified(rt: HostRuntime) {
-    carry(&rt, Message::M1, &[]);
-    carry(&rt, Message::M2, &[0x30; 22]);
-    carry(&rt, Message::M3, &[0xa5; 56]);
-    carry(&rt, Message::M4, &[]);
-    carry(&rt, Message::G1, &[0xa5; 32]);
-    carry(&rt, Message::G2, &[]);
+    assert!(rt;
+        (is_carried(Message::M1, &[]) && is_carried(Message::M2, &[0x30; 22]))
+            && (is_carried(Message::M3, &[0xa5; 56]) && is_carried(Message::M4, &[]))
+            && (is_carried(Message::G1, &[0xa5; 32]) && is_carried(Message::G2, &[]))
+    );
 }
 
 fn is_closed_to(plain: &[u8], wrapped: &[u8]) -> bool
@@ -300,11 +299,12 @@ fn goes_both_ways(plain: &[u8], wrapped: &[u8]) -> bool
 
 #[test]
 fn key_data_is_padded_wrapped_and_opened(rt: HostRuntime) {
-    assert!(rt; goes_both_ways(&M3_KEY_DATA, &M3_WRAPPED));
-    assert!(rt; goes_both_ways(&RISING[..183], &LONG_WRAPPED));
-    assert!(rt; goes_both_ways(&[], &EMPTY_WRAPPED));
-    assert!(rt; goes_both_ways(&M3_KEY_DATA[..8], &EIGHT_WRAPPED));
-    assert!(rt; goes_both_ways(&M3_KEY_DATA[..16], &SIXTEEN_WRAPPED));
+    assert!(rt;
+        (goes_both_ways(&M3_KEY_DATA, &M3_WRAPPED) && goes_both_ways(&RISING[..183], &LONG_WRAPPED))
+            && goes_both_ways(&[], &EMPTY_WRAPPED)
+            && goes_both_ways(&M3_KEY_DATA[..8], &EIGHT_WRAPPED)
+            && goes_both_ways(&M3_KEY_DATA[..16], &SIXTEEN_WRAPPED)
+    );
 }
 
 // The key data of M3 is opened with the padding that was put behind it.
@@ -325,13 +325,13 @@ fn is_refused(wrapped: &[u8]) -> bool
 
 #[test]
 fn what_wraps_no_key_data_is_refused(rt: HostRuntime) {
-    assert!(rt; is_opened_with_padding());
     let mut other = M3_WRAPPED;
     other[55] ^= 1;
-    assert!(rt; is_refused(&other));
-    assert!(rt; is_refused(&M3_WRAPPED[..8]));
-    assert!(rt; is_refused(&M3_WRAPPED[..23]));
-    assert!(rt; matches!(open_key_data(&KEK, &[], &mut []), Err(BadWrap)));
+    assert!(rt;
+        (is_opened_with_padding() && is_refused(&other))
+            && (is_refused(&M3_WRAPPED[..8]) && is_refused(&M3_WRAPPED[..23]))
+            && matches!(open_key_data(&KEK, &[], &mut []), Err(BadWrap))
+    );
 }
 
 #[test]

@@ -16,7 +16,6 @@ use std::test::*;
 type Halves = [u128; 2];
 
 // What a pairwise transient key is made of, and its KCK, KEK and TK.
-#[derive(Clone, Copy)]
 struct Handshake {
     akm: Akm,
     psk: Halves,
@@ -31,7 +30,6 @@ struct Handshake {
 }
 
 // The same with the names of both levels of the FT key hierarchy.
-#[derive(Clone, Copy)]
 struct Roam {
     handshake: Handshake,
     r0_name: u128,
@@ -39,7 +37,6 @@ struct Roam {
 }
 
 // The same with the keys of both levels and PTKName.
-#[derive(Clone, Copy)]
 struct Computed {
     roam: Roam,
     r0: Halves,
@@ -284,7 +281,8 @@ static COMPUTED: [Computed; 2] = [
     },
 ];
 
-fn octets(halves: Halves) -> [u8; 32] {
+/// The 32 octets of two numbers.
+pub fn octets(halves: [u128; 2]) -> [u8; 32] {
     let mut out = [0; 32];
     let end = put(&mut out, 0, &halves[0].to_be_bytes());
     put(&mut out, end, &halves[1].to_be_bytes());
@@ -301,8 +299,9 @@ fn parts(ptk: &Ptk) -> [u128; 3] {
 
 #[test]
 fn passphrases_give_their_keys(rt: HostRuntime) {
-    assert!(rt; psk_of(b"password", b"IEEE") == octets(STANDARD_PSK));
-    assert!(rt; psk_of(b"12345678", CAPTURED_SSID) == octets(CAPTURED_PSK));
+    let standard = psk_of(b"password", b"IEEE");
+    let captured = psk_of(b"12345678", CAPTURED_SSID);
+    assert!(rt; standard == octets(STANDARD_PSK) && captured == octets(CAPTURED_PSK));
 }
 
 fn octets_of(rt: &impl Abort, alloc: Global, octets: &[u8]) -> Octets

@@ -537,10 +537,10 @@ fn subkey_of(text: &[u8], last_block: &[u8; 16]) -> [u8; 16] {
 // That of a text of one block, and that of the empty text, whose block is its padding.
 #[test]
 fn subkeys_are_those_of_rfc_4493(rt: HostRuntime) {
-    assert!(rt; subkey_of(&COUNTED_KEY, &COUNTED_KEY) == WHOLE_SUBKEY);
     let mut padding = [0; 16];
     padding[0] = 0x80;
-    assert!(rt; subkey_of(&[], &padding) == PADDED_SUBKEY);
+    let whole = subkey_of(&COUNTED_KEY, &COUNTED_KEY);
+    assert!(rt; whole == WHOLE_SUBKEY && subkey_of(&[], &padding) == PADDED_SUBKEY);
 }
 
 // The MIC of a frame of that many octets, and of the same frame with that MIC in its field.

@@ -64,16 +64,16 @@ fn bodies_are_sealed_and_opened(rt: HostRuntime) {
     a_plain_text_has_one_body();
     a_body_has_one_plain_text();
     for frame in &FRAMES {
-        assert!(rt; is_sealed(frame));
-        assert!(rt; opens(frame.header, frame.body, frame.plain) == Some(frame.number));
+        let number = opens(frame.header, frame.body, frame.plain);
+        assert!(rt; is_sealed(frame) && number == Some(frame.number));
     }
 }
 
 // The first frame with another last octet of its body is not opened, and without the bit Retry it is opened.
 #[test]
 fn a_body_is_opened_where_its_seal_verifies(rt: HostRuntime) {
-    assert!(rt; opens(HEADER, FORGED, PLAIN) == None);
-    assert!(rt; opens(WITHOUT_RETRY, BODY, PLAIN) == Some(0xb503_9776_e70c));
+    let number = opens(WITHOUT_RETRY, BODY, PLAIN);
+    assert!(rt; opens(HEADER, FORGED, PLAIN) == None && number == Some(0xb503_9776_e70c));
 }
 
 // What a call of a guard is to give: the number of octets, or why it refuses.
@@ -124,8 +124,7 @@ fn is_spent_by_one_frame() -> bool {
 
 #[test]
 fn the_last_number_protects_one_frame(rt: HostRuntime) {
-    assert!(rt; is_without_key());
-    assert!(rt; is_spent_by_one_frame());
+    assert!(rt; is_without_key() && is_spent_by_one_frame());
 }
 
 // Protects `PLAIN` under a key of that role of which the packet numbers up to `used` were used.
@@ -173,9 +172,11 @@ fn is_carried(role: Role, other: Role, header: &[u8]) -> bool
 
 #[test]
 fn what_is_protected_is_opened_once(rt: HostRuntime) {
-    assert!(rt; is_carried(Role::Pairwise, Role::Group(1), HEADER));
-    assert!(rt; is_carried(Role::Group(3), Role::Group(2), HEADER));
-    assert!(rt; is_carried(Role::Group(2), Role::Pairwise, QOS_HEADER));
+    assert!(rt;
+        is_carried(Role::Pairwise, Role::Group(1), HEADER)
+            && is_carried(Role::Group(3), Role::Group(2), HEADER)
+            && is_carried(Role::Group(2), Role::Pairwise, QOS_HEADER)
+    );
 }
 
 // What the second of two bodies gives, under the two headers and a key of that role.
@@ -208,8 +209,9 @@ fn second_of_other_traffic(role: Role) -> Result<usize, GuardFault>
 
 #[test]
 fn traffic_has_counters_of_its_own_under_a_pairwise_key(rt: HostRuntime) {
-    assert!(rt; second_of_other_traffic(Role::Pairwise) == Ok(20));
-    assert!(rt; second_of_other_traffic(Role::Group(1)) == Err(GuardFault::Replayed(5)));
+    let pairwise = second_of_other_traffic(Role::Pairwise);
+    let group = second_of_other_traffic(Role::Group(1));
+    assert!(rt; pairwise == Ok(20) && group == Err(GuardFault::Replayed(5)));
 }
 
 // What a guard that took the packet number 3 gives for a frame of 26 octets of header and 18 of body.

@@ -4,7 +4,9 @@ use air_frame::AirFault;
 use domain_base::{Akm, Mac, MemSink, Node, Octets, Peer, Tid};
 use eapol_key::{FaultKind, FrameFault, Message};
 use journal_report::{SUMMARY_ROOM, line_fits, line_of, summary_of, write_lines};
-use key_hierarchy::{BoxedInputs, Inputs, SharedInputs};
+use key_hierarchy::{
+    BoxedInputs, Inputs, PmkR1, PullAnswer, PutAnswer, RevokeAnswer, SharedInputs,
+};
 use rsn_elements::{ElementFault, FaultKind as ElementFaultKind};
 use run_journal::{
     Act, Drawn, Entry, Key, KeyDataFault, Kind, Malformed, Outcome, Part, Premises, Reason, Start,
@@ -20,6 +22,11 @@ const STA: Node = Node::Sta(0);
 const BSSID: Mac = Mac([2, 0, 0, 0, 0, 1]);
 
 const GTK: [u8; 16] = [5; 16];
+
+const PMK_R1: PmkR1 = PmkR1 {
+    key: [8; 32],
+    name: [9; 16],
+};
 
 const ALL_HOLD: Premises = Premises {
     fresh: true,
@@ -48,7 +55,15 @@ idle s65536 no-session\n\
 idle s1 same-peer\n\
 idle a1 rekey-pending\n\
 idle a1 no-key\n\
-idle a1 spent\n";
+idle a1 spent\n\
+put a1 s1 held\n\
+put a1 s1 held-already\n\
+put a1 s2 full\n\
+look a1 s1 found\n\
+look a1 s1 no-holder\n\
+look a2 s1 absent\n\
+revoke a1 s1 revoked\n\
+revoke a2 s1 absent\n";
 
 // What the entries of `LINES` do, and a value drawn, which is not printed.
 #[derive(Clone, Copy)]
@@ -68,11 +83,14 @@ enum Does {
     GivesUp(Node, Message),
     Closes(Node, Part),
     Idles(Why),
+    Puts(Node, PutAnswer),
+    Looks(Node, PullAnswer),
+    Revokes(Node, RevokeAnswer),
 }
 
 use Does::{
-    Closes, Draws, Finishes, GivesUp, HandsUp, Idles, InstallsGroup, InstallsPairwise, Opens,
-    Resumes, Sends, Takes, Uses,
+    Closes, Draws, Finishes, GivesUp, HandsUp, Idles, InstallsGroup, InstallsPairwise, Looks,
+    Opens, Puts, Resumes, Revokes, Sends, Takes, Uses,
 };
 
 // Each with its node, and the number of a frame sent.
@@ -99,6 +117,14 @@ const ENTRIES: &[(Node, u64, Does)] = &[
     (AP, 0, Idles(Why::RekeyPending)),
     (AP, 0, Idles(Why::NoKey)),
     (AP, 0, Idles(Why::Spent)),
+    (AP, 0, Puts(STA, PutAnswer::Held)),
+    (AP, 0, Puts(STA, PutAnswer::HeldAlready)),
+    (AP, 0, Puts(Node::Sta(1), PutAnswer::Full)),
+    (AP, 0, Looks(STA, PullAnswer::Found(PMK_R1))),
+    (AP, 0, Looks(STA, PullAnswer::NoHolder)),
+    (Node::Ap(1), 0, Looks(STA, PullAnswer::Absent)),
+    (AP, 0, Revokes(STA, RevokeAnswer::Revoked)),
+    (Node::Ap(1), 0, Revokes(STA, RevokeAnswer::Absent)),
 ];
 
 const SUMMARY: &[u8] = b"end frames 2 accepted 1 answered 0 refused 0 ignored 0\n\
@@ -399,6 +425,34 @@ fn up(rt: &impl Abort, alloc: Global, peer: Node, id: u8, tid: u8, payload: &[u8
     }
 }
 
+// What a key holder was asked for, and how it answered.
+fn put(rt: &impl Abort, alloc: Global, sta: Node, answer: PutAnswer) -> Act {
+    Act::Put {
+        r0kh_id: octets(rt, alloc, b"r0kh-1"),
+        name: [7; 16],
+        sta,
+        answer,
+    }
+}
+
+fn looked(rt: &impl Abort, alloc: Global, sta: Node, answer: PullAnswer) -> Act {
+    Act::Looked {
+        r0kh_id: octets(rt, alloc, b"r0kh-1"),
+        name: [7; 16],
+        sta,
+        answer,
+    }
+}
+
+fn revoked(rt: &impl Abort, alloc: Global, sta: Node, answer: RevokeAnswer) -> Act {
+    Act::Revoked {
+        r0kh_id: octets(rt, alloc, b"r0kh-1"),
+        name: [7; 16],
+        sta,
+        answer,
+    }
+}
+
 fn act(rt: &impl Abort, alloc: Global, does: Does) -> Act {
     match does {
         Draws => Act::Drew {
@@ -416,6 +470,9 @@ fn act(rt: &impl Abort, alloc: Global, does: Does) -> Act {
         GivesUp(peer, message) => Act::GaveUp { peer, message },
         Closes(peer, part) => Act::Closed { peer, part },
         Idles(why) => Act::Idle { why },
+        Puts(sta, answer) => put(rt, alloc, sta, answer),
+        Looks(sta, answer) => looked(rt, alloc, sta, answer),
+        Revokes(sta, answer) => revoked(rt, alloc, sta, answer),
     }
 }
 

@@ -9,7 +9,7 @@ use domain_base::{Akm, Mac, NoMemory, Node, Octets, Peer, Tid};
 use frame_script::{LineFault, ScriptReader, Step};
 use rows::Says::{
     self, Alter, Ap, Connect, Cut, Deliver, Expire, Inject, Leave, Limit, Network, Nothing,
-    OutOfMemory, Rekey, Retry, Script, Send, Sta,
+    OutOfMemory, Rekey, Retry, Revoke, Roam, Script, Send, Sta,
 };
 use rows::{
     A1, ADDRESS, BOTH, BSSID, EVENT_LINES, FALTERING, FORMS, GROWING, HEADER, HEADER_LINES,
@@ -36,6 +36,7 @@ fn what_it_says(answer: Result<Step, LineFault>) -> Says {
 fn what_it_asks(event: &Event) -> Says {
     match event {
         Event::Connect { sta, ap } => Connect(*sta, *ap),
+        Event::Roam { sta, ap } => Roam(*sta, *ap),
         Event::Deliver { number, to } => Deliver(*number, *to),
         Event::Alter {
             number,
@@ -54,6 +55,7 @@ fn what_it_asks(event: &Event) -> Says {
             octets,
         } => Send(*from, *to, tid.map(Tid::number), octets.as_slice().len()),
         Event::Expire { ap, sta } => Expire(*ap, *sta),
+        Event::Revoke { ap, sta } => Revoke(*ap, *sta),
         Event::Leave { sta } => Leave(*sta),
     }
 }

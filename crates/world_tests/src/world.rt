@@ -12,6 +12,7 @@ mod outcomes;
 use cases::{CASES, CHANGED, COMING, Line, STARTED, THREE_FRAMES, Turn};
 use domain_base::{Akm, Mac, Node, Octets, Peer, Tid};
 use domain_world::World;
+use key_hierarchy::RevokeAnswer;
 use outcomes::come_to;
 use run_journal::{Act, Aps, Domain, Entry, Event, Journal, Outcome, Stas};
 use std::alloc::Global;
@@ -48,6 +49,7 @@ fn event(rt: &impl Abort, alloc: Global, turn: Turn) -> Event {
             octets: octets(rt, alloc, payload),
         },
         Turn::Expire => Event::Expire { ap: 0, sta: 0 },
+        Turn::Revoke => Event::Revoke { ap: 0, sta: 0 },
         Turn::Leave => Event::Leave { sta: 0 },
     }
 }
@@ -164,6 +166,8 @@ fn is_event_in(world: &World, event: &Event, journal: &Journal) -> bool
         Event::Connect { sta, ap } => {
             is_listed(domain, Node::Sta(*sta)) && is_listed(domain, Node::Ap(*ap))
         }
+        // With suite 4 alone, which these networks do not have.
+        Event::Roam { .. } => false,
         Event::Retry { ap, sta } => {
             is_listed(domain, Node::Ap(*ap)) && is_listed(domain, Node::Sta(*sta))
         }
@@ -195,7 +199,7 @@ fn is_event_in(world: &World, event: &Event, journal: &Journal) -> bool
                 && is_receiver(domain, *from, *to)
                 && is_payload(octets.as_slice())
         }
-        Event::Expire { ap, sta } => {
+        Event::Expire { ap, sta } | Event::Revoke { ap, sta } => {
             is_listed(domain, Node::Ap(*ap)) && is_listed(domain, Node::Sta(*sta))
         }
         Event::Leave { sta } => is_listed(domain, Node::Sta(*sta)),
@@ -249,6 +253,13 @@ fn verb(act: &Act) -> &'static str {
         Act::HandedUp { .. } => "handed up",
         Act::Finished { .. } => "finished",
         Act::GaveUp { .. } => "gave up",
+        Act::Put { .. } => "put",
+        Act::Looked { .. } => "looked",
+        Act::Revoked {
+            answer: RevokeAnswer::Absent,
+            ..
+        } => "absent",
+        Act::Revoked { .. } => "revoked",
         Act::Idle { .. } => "idle",
     }
 }

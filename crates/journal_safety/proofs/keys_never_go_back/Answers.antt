@@ -2,4 +2,4 @@ use Rattle.journal_safety.proofs.Order.{never_back_run}
 use Rattle.journal_safety.proofs.keys_never_go_back.Goals as goal
 
 pub returns : goal.returns
-returns c = λ d rounds j names explained fresh apart unforged. never_back_run d rounds j names explained fresh apart unforged
+returns c = never_back_run

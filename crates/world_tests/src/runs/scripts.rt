@@ -319,6 +319,7 @@ deliver 10 to a1
 rekey a1
 leave s1
 deliver 11 to s1
+revoke a1 s1
 expire a1 s1
 expire a1 s1
 leave s1
@@ -358,6 +359,7 @@ took a1 g2 refused unawaited
 sent 11 a1 s1 g1 163
 close s1 a1 session
 took s1 g1 refused unawaited
+revoke a1 s1 absent
 close a1 s1 session
 install a1 all gtk 1
 idle a1 nothing
@@ -794,7 +796,7 @@ pub(crate) const TEXTS: &[(Status, &str)] = &[
     (Status::NoMemory, "out of memory"),
     (
         Status::Script(65536, 0, Form::Event),
-        "line 65536: outside the grammar; the form is that of connect, deliver, alter, cut, inject, retry, rekey, send, expire or leave",
+        "line 65536: outside the grammar; the form is that of connect, deliver, alter, cut, inject, retry, rekey, send, expire, revoke or leave",
     ),
     (
         Status::Script(65537, 1, Form::Version),
@@ -802,11 +804,11 @@ pub(crate) const TEXTS: &[(Status, &str)] = &[
     ),
     (
         Status::Script(65538, 2, Form::Any),
-        "line 65538: no such word here; the form is that of ap, sta, connect, deliver, alter, cut, inject, retry, rekey, send, expire or leave",
+        "line 65538: no such word here; the form is that of ap, sta, connect, deliver, alter, cut, inject, retry, rekey, send, expire, revoke or leave",
     ),
     (
         Status::Script(65538, 2, Form::StaOrEvent),
-        "line 65538: no such word here; the form is that of sta, connect, deliver, alter, cut, inject, retry, rekey, send, expire or leave",
+        "line 65538: no such word here; the form is that of sta, connect, deliver, alter, cut, inject, retry, rekey, send, expire, revoke or leave",
     ),
     (
         Status::Script(65538, 2, Form::Key),
@@ -849,6 +851,10 @@ pub(crate) const TEXTS: &[(Status, &str)] = &[
         "line 65540: no such node, or a node of the other kind; the form is expire <ap> <sta>",
     ),
     (
+        Status::Script(65540, 4, Form::Revoke),
+        "line 65540: no such node, or a node of the other kind; the form is revoke <ap> <sta>",
+    ),
+    (
         Status::Script(65540, 4, Form::Leave),
         "line 65540: no such node, or a node of the other kind; the form is leave <sta>",
     ),
@@ -870,7 +876,7 @@ pub(crate) const TEXTS: &[(Status, &str)] = &[
     ),
     (
         Status::Script(65543, 7, Form::Event),
-        "line 65543: outside the grammar; the form is that of connect, deliver, alter, cut, inject, retry, rekey, send, expire or leave",
+        "line 65543: outside the grammar; the form is that of connect, deliver, alter, cut, inject, retry, rekey, send, expire, revoke or leave",
     ),
     (
         Status::Script(65544, 8, Form::Ap),

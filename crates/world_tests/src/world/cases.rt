@@ -28,6 +28,7 @@ pub(crate) enum Turn {
     // From whom, to whom, with which TID, and what.
     Send(Node, Peer, Option<u8>, &'static [u8]),
     Expire,
+    Revoke,
     Leave,
 }
 
@@ -89,11 +90,12 @@ pub(crate) const CASES: &[Case] = &[
         ],
     },
     Case {
-        shows: "new group keys, and what is dropped",
+        shows: "new group keys, a key that none holds, and what is dropped",
         turns: &[
             Turn::Rekey,
             Turn::Connect,
             Turn::Deliver(1, A1),
+            Turn::Revoke,
             Turn::Expire,
             Turn::Expire,
             Turn::Leave,
@@ -111,12 +113,13 @@ pub(crate) const CASES: &[Case] = &[
             (3, A1, 0, "drew"),
             (3, A1, 2, "sent"),
             (3, A1, 3, "sent"),
-            (4, A1, 0, "closed"),
-            (5, A1, 0, "idle"),
-            (6, S1, 0, "closed"),
-            (7, S1, 0, "idle"),
-            (8, A1, 0, "drew"),
-            (8, A1, 0, "installed"),
+            (4, A1, 0, "absent"),
+            (5, A1, 0, "closed"),
+            (6, A1, 0, "idle"),
+            (7, S1, 0, "closed"),
+            (8, S1, 0, "idle"),
+            (9, A1, 0, "drew"),
+            (9, A1, 0, "installed"),
         ],
     },
     Case {

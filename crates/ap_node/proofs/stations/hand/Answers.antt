@@ -1,8 +1,10 @@
-use Rattle.std.proofs.Common.{Bool, List, ◌++◌, refl, ap, ◌∙◌}
+use Rattle.std.proofs.Common.{Bool, List, [], ◌++◌, refl, ap, ◌∙◌}
 use Rattle.std.specs.Prelude.{is_some}
 use Rattle.domain_base.specs.declared.names.Node.TheVariants.{Sta}
 use Rattle.run_journal.specs.declared.acts.Act.{Act}
-use Rattle.domain_rules.specs.Replies.{reply_acts, pair, taken_as}
+use Rattle.domain_rules.specs.Network.{root_at}
+use Rattle.domain_rules.specs.Replies.{reply_acts, taken_as}
+use Rattle.node_base.specs.Pairs.{pair_at}
 use Rattle.frame_intake.specs.Views.{message_fields}
 use Rattle.act_memory.proofs.RepliedActs.{nothing_between}
 use Rattle.ap_node.proofs.InUse.{refused_key, same_station}
@@ -18,11 +20,11 @@ returns-clause-handed c =
     let outcome = c.step-outcome.result in
     let r = c.step-outcome.new.reply in
     let had = c.has_session-had_session.result in (
-      reply_acts (pair d n p) (is_some c.args.place.now.part.session) (taken_as octets k outcome) r,
-      c.add_reply.ensures.acts d n p octets k c.in_ok-room.ensures
-          ∙ ap (λ (l : List Act). c.reserve.new.self.acts ++ l) (nothing_between d n p had octets k outcome r c.nothing-between.result c.nothing-between.ensures.opened c.nothing-between.ensures.put)
-          ∙ ap (λ (l : List Act). l ++ reply_acts (pair d n p) had (taken_as octets k outcome) r) c.reserve.ensures.acts
-          ∙ ap (λ (b : Bool). c.args.out.now.acts ++ reply_acts (pair d n p) b (taken_as octets k outcome) r) c.has_session-had_session.ensures,
+      reply_acts (pair_at d [] n p) (is_some c.args.place.now.part.session) (taken_as octets k outcome) r,
+      c.add_reply.ensures.acts d [] n p octets k c.in_ok-room.ensures
+          ∙ ap (λ (l : List Act). c.reserve.new.self.acts ++ l) (nothing_between d (root_at d []) n p had octets k outcome r c.nothing-between.result c.nothing-between.ensures.opened c.nothing-between.ensures.put)
+          ∙ ap (λ (l : List Act). l ++ reply_acts (pair_at d [] n p) had (taken_as octets k outcome) r) c.reserve.ensures.acts
+          ∙ ap (λ (b : Bool). c.args.out.now.acts ++ reply_acts (pair_at d [] n p) b (taken_as octets k outcome) r) c.has_session-had_session.ensures,
       record {
         reply = r;
         says = refl;

@@ -19,6 +19,7 @@ returns-clause-writes c d n p ends =
       derived = old.derived;
       installed = old.installed;
       gtk = old.gtk;
+      looked = old.looked;
     }
     in
     between_sends d n p c.args.ends.now c.args.message c.args.sealed c.args.frame.now new ends own peer c.put_data-len.ensures.size c.put_data-len.ensures.octets refl refl

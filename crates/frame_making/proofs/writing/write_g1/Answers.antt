@@ -26,4 +26,4 @@ is_g1 d n p x counter rsc akm key g frame same derived is = rw (is, same, derive
 
 pub returns-clause-writes : goal.returns-clause-writes
 returns-clause-writes c d n p x ends derived =
-    c.write_frame.ensures.writes d n p ends ∙ ap (λ (a : Act). a ∷ []) (is_g1 d n p x c.args.counter c.args.rsc c.args.ends.now.akm c.args.key.now.ptk c.args.group.now _ ends.akm derived c.g1_frame-frame.ensures.frame)
+    c.write_frame.ensures.writes d n p ends ∙ ap (λ (a : Act). a ∷ []) (is_g1 d n p x c.args.counter c.args.rsc c.args.ends.now.akm c.args.key.now c.args.group.now _ ends.akm derived c.g1_frame-frame.ensures.frame)

@@ -12,5 +12,6 @@ returns c = record {
   counted = counting.counted;
   keys_given = keeping.keys_given;
   told = counting.told_by_message;
+  told_in_response = counting.told_by_response;
   keys_taken = keeping.keys_taken;
 }

@@ -3,18 +3,24 @@ use Rattle.std.proofs.Common.{◌≡◌, ℕ, List, [], ◌∷◌, ◌++◌, sym
 use Rattle.std.specs.Prelude.{codes}
 use Rattle.domain_base.specs.declared.names.Node.{Node}
 use Rattle.domain_base.specs.Names.{node_text, peer_text}
+use Rattle.key_hierarchy.specs.declared.answers.PullAnswer.{PullAnswer}
+use Rattle.key_hierarchy.specs.declared.answers.PullAnswer.TheVariants.{Found}
 use Rattle.run_journal.specs.declared.acts.Key.{Key}
 use Rattle.run_journal.specs.declared.acts.Key.TheVariants.{Pairwise, Group}
 use Rattle.run_journal.specs.declared.acts.Act.{Act}
-use Rattle.run_journal.specs.declared.acts.Act.TheVariants.{Drew, Derived, Sent, Took, Installed, Resumed, Used, HandedUp, Finished}
+use Rattle.run_journal.specs.declared.acts.Act.TheVariants.{Drew, Derived, Sent, Took, Installed, Resumed, Used, HandedUp, Finished, Looked}
 use Rattle.run_journal.specs.declared.acts.Entry.{Entry}
-use Rattle.run_journal.specs.Alike.{AlikeKeys, AlikeActs, AlikeEntries, AlikeJournals}
-use Rattle.run_journal.specs.Report.{key_text, words, act_line, line, lines}
+use Rattle.run_journal.specs.Alike.{AlikeKeys, AlikeAnswers, AlikeActs, AlikeEntries, AlikeJournals}
+use Rattle.run_journal.specs.Report.{key_text, pull_text, words, act_line, line, lines}
 use Rattle.run_journal.proofs.laws.lines_read_no_key.Goals as goal
 
 key_text_alike : (a b : Key) → AlikeKeys a b → key_text a ≡ key_text b
 key_text_alike (Pairwise tk i) b h = ap key_text (sym h.1.1)
 key_text_alike (Group gtk id bssid) b h = ap key_text (sym h.1)
+
+pull_text_alike : (a b : PullAnswer) → AlikeAnswers a b → pull_text a ≡ pull_text b
+pull_text_alike (Found k) b h = ap pull_text (sym h.1)
+pull_text_alike _ b h = ap pull_text (sym h)
 
 act_line_alike : (number : ℕ) (n : Node) (a b : Act) → AlikeActs a b → act_line number n a ≡ act_line number n b
 act_line_alike number n (Drew v) b h = ap (act_line number n) (sym h.1)
@@ -28,6 +34,8 @@ act_line_alike number n (Resumed p key) b h =
 act_line_alike number n (Used p key id pn octets) b h = ap (act_line number n) (sym h.1)
 act_line_alike number n (HandedUp p key id tid pn octets) b h = ap (act_line number n) (sym h.1)
 act_line_alike number n (Finished p i) b h = ap (act_line number n) (sym h.1)
+act_line_alike number n (Looked x m p answer) b h =
+    ap (λ (t : List ℕ). words (codes "look" ∷ node_text n ∷ node_text p ∷ t ∷ [])) (pull_text_alike answer h.0 h.1.0) ∙ ap (act_line number n) (sym h.1.1)
 act_line_alike number n _ b h = ap (act_line number n) (sym h)
 
 line_alike : (a b : Entry) → AlikeEntries a b → line a ≡ line b

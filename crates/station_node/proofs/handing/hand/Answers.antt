@@ -1,9 +1,13 @@
-use Rattle.std.proofs.Common.{false, List, ap, ◌∙◌, ◌++◌}
+use Rattle.std.proofs.Common.{◌≡◌, false, List, ℕ, sym, ap, subst, ◌∙◌, ◌++◌}
 use Rattle.domain_base.specs.declared.names.Node.TheVariants.{Ap}
 use Rattle.run_journal.specs.declared.acts.Act.{Act}
-use Rattle.domain_rules.specs.Replies.{reply_acts, pair, taken_as}
+use Rattle.domain_rules.specs.Network.{root_at}
+use Rattle.domain_rules.specs.Replies.{reply_acts, taken_as}
+use Rattle.node_base.specs.Pairs.{pair_at}
 use Rattle.frame_intake.specs.Views.{message_fields}
+use Rattle.act_memory.specs.Rooms.{IsRoom}
 use Rattle.act_memory.proofs.RepliedActs.{nothing_between}
+use Rattle.supplicant.specs.declared.base.Base.{Base}
 use Rattle.station_node.proofs.handing.hand.Goals as goal
 
 pub returns-clause-handed : goal.returns-clause-handed
@@ -14,11 +18,13 @@ returns-clause-handed c =
     let k = message_fields c.args.heard.now.message in
     let outcome = c.step-outcome.result in
     let reply = c.step-outcome.new.reply in
+    let id = c.step-outcome.new.self.base.r0kh_id in
+    let same : c.r0kh_id.result.now ≡ id = c.r0kh_id.ensures ∙ sym (ap (λ (b : Base). b.r0kh_id) c.step-outcome.ensures.ends.1) in
     record {
       reply = reply;
-      acts = c.add_reply.ensures.acts d n (Ap c.args.ap) octets k c.in_ok-room.ensures
-          ∙ ap (λ (l : List Act). c.reserve.new.self.acts ++ l) (nothing_between d n (Ap c.args.ap) false octets k outcome reply c.nothing-between.result c.nothing-between.ensures.opened c.nothing-between.ensures.put)
-          ∙ ap (λ (l : List Act). l ++ reply_acts (pair d n (Ap c.args.ap)) false (taken_as octets k outcome) reply) c.in_ok-reserve.ensures.acts;
+      acts = c.add_reply.ensures.acts d id n (Ap c.args.ap) octets k (subst (λ (i : List ℕ). IsRoom d i n (Ap c.args.ap) octets k c.in_ok-room.room) same c.in_ok-room.ensures)
+          ∙ ap (λ (l : List Act). c.reserve.new.self.acts ++ l) (nothing_between d (root_at d id) n (Ap c.args.ap) false octets k outcome reply c.nothing-between.result c.nothing-between.ensures.opened c.nothing-between.ensures.put)
+          ∙ ap (λ (l : List Act). l ++ reply_acts (pair_at d id n (Ap c.args.ap)) false (taken_as octets k outcome) reply) c.in_ok-reserve.ensures.acts;
       taken = c.step-outcome.ensures;
       installed = c.installed_key-installed.ensures;
     }

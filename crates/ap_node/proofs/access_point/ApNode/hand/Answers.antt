@@ -43,7 +43,7 @@ returns-clause-done c =
     } in
     let x = c.in_ok-outcome.ensures.handed in
     subst (λ (l : List Act). IsDone d (Take octets) old new (seen waited l outcome)) (sym x.1)
-    (takes_message d old new octets sta m outcome (station_at old.stations sta) q x.0 waited c.requires.frame beside
+    (takes_message d old new octets sta m outcome (station_at old.stations sta) q x.0 waited c.requires.suite c.requires.frame beside
     (λ why is.
     (let same = c.in_ok-outcome.ensures.refused why is in
     let still = ap (λ (l : List (Option Station)). station_at l sta) same in

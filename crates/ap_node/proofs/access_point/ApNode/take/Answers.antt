@@ -50,4 +50,4 @@ returns-in_default-clause-taken c =
     let waits = c.settle-in_default.new.out.acts in
     let managed = managed_from d c.args.here.node s.number c.args.octets.now (reading_of c.read-delivered.result) c.in-Managed.from c.in-Managed.frame c.in-Managed.elements c.read-delivered.ensures.reads c.in-Managed.ensures c.requires.node in
     if_settled c.settle-in_default.result (Refused reason.Unawaited) (λ outcome. Stays d s c.args.octets.now waited waits outcome) _ c.settle-in_default.ensures.outcome c.settle-in_default.ensures.acts
-    (λ waiting. takes_other_frame d s c.args.octets.now c.in-Managed.from c.in-Managed.frame c.in-Managed.elements c.in-Managed.frame.kind waited waits managed refl c.in_default.not-AssocReq waiting)
+    (λ waiting. takes_other_frame d s c.args.octets.now c.in-Managed.from c.in-Managed.frame c.in-Managed.elements c.in-Managed.frame.kind waited waits c.requires.suite managed refl c.in_default.not-AssocReq waiting)

@@ -8,7 +8,7 @@ returns-clause-sends c =
     let a = c.args.self.now in
     let counter : c.last_counter-counter.result + 1 ≡ suc (a.m1s + a.m3s) = omega (arith, c.last_counter-counter.ensures.sum) in
     record {
-      sends = λ d n p x ends key nonce. subst (λ (z : ℕ). SendsM3 c.args.ends.now c.args.agreement z c.send_m3.new.reply) counter c.send_m3.ensures.sends d n p x ends key nonce;
+      sends = λ d n p x ends key nonce data_. subst (λ (z : ℕ). SendsM3 c.args.ends.now c.args.agreement z c.send_m3.new.reply) counter c.send_m3.ensures.sends d n p x ends key nonce data_;
       next = record { low = omega (arith, c.last_counter-counter.ensures.sum); own = c.send_m3.ensures.addresses.0; peer = c.send_m3.ensures.addresses.1 };
     }
 

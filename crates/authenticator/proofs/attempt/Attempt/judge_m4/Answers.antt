@@ -1,4 +1,5 @@
-use Rattle.std.proofs.Common.{◌∙◌, refl, sym}
+use Rattle.std.proofs.Common.{◌∙◌, refl, sym, ap}
+use Rattle.run_journal.specs.declared.reply.Keyed.{Keyed}
 use Rattle.eapol_key.specs.Fields.{fields_of}
 use Rattle.authenticator.specs.Judged.{frame_of}
 use Rattle.authenticator.proofs.Deciding.{answers, forged_m4, verified_m4}
@@ -27,6 +28,7 @@ returns c = record {
   answered = answers c.args.self.now (fields_of c.args.frame.now) c.in-Some.agreement c.is_offered.result c.in-Some.is c.is_offered.ensures c.if-not-is_offered.false;
   mic_is = verified_m4 c.args.akm c.in-Some.agreement c.key-key.result.now c.args.frame.now.mic c.args.frame.now.octets.now c.verify.result c.key-key.ensures c.verify.ensures c.if-not-verify.false;
   key_is = c.key-key.ensures;
+  ptk_is = ap (λ (y : Keyed). y.ptk) c.key-key.ensures;
   last_is = c.last_counter-last.ensures.sum;
   fresh = record { place_is = refl; no_g1 = refl; unanswered = refl; low = c.last_counter-last.ensures.few };
   older = c.is_older-is_older.ensures;

@@ -1,19 +1,40 @@
-use Rattle.std.proofs.Common.{ℕ, List, [], ◌∷◌, ap, ◌∙◌}
+use Rattle.std.proofs.Common.{refl, sym, ap, subst, ◌∙◌}
+use Rattle.domain_base.specs.declared.names.Node.{Node}
 use Rattle.domain_base.specs.declared.names.Node.TheVariants.{Ap, Sta}
-use Rattle.domain_rules.specs.Frames.{sent_m1}
+use Rattle.authenticator.specs.declared.authenticator.ApStart.{ApStart}
+use Rattle.authenticator.specs.declared.authenticator.ApStart.TheVariants.{Connect, Ft}
+use Rattle.authenticator.specs.Starts.{first_acts}
+use Rattle.authenticator.specs.Begins.{StandsAtFirst}
+use Rattle.authenticator.specs.Groups.{transferred}
 use Rattle.authenticator.specs.Judged.{begun}
-use Rattle.authenticator.specs.Starts.{nonce_in, rsne_in}
-use Rattle.authenticator.proofs.Beginning.{begins}
+use Rattle.authenticator.specs.State.{State}
+use Rattle.authenticator.proofs.Beginning.{begins, transfers}
 use Rattle.authenticator.proofs.authenticator.Authenticator.begin.Goals as goal
 
-pub returns-clause-sends : goal.returns-clause-sends
-returns-clause-sends c =
+pub returns-in-Connect-clause-sends : goal.returns-in-Connect-clause-sends
+returns-in-Connect-clause-sends c =
     let d = c.args.domain.now in
-    let n = Ap c.args.ap in
-    let p = Sta c.args.sta in
-    c.begin-attempt.ensures.sends d n p c.between-ends.ensures.ends ∙ ap (λ (v : List ℕ). sent_m1 d n p 1 v ∷ []) c.parts_of.ensures.anonce
+    let n : Node = Ap c.args.ap in
+    let p : Node = Sta c.args.sta in
+    c.with_attempt.ensures.sends d n p c.between-ends.ensures.ends ∙ sym (ap (λ (z : ApStart). first_acts d n p z) c.in-Connect.is)
 
-pub returns-clause-stands : goal.returns-clause-stands
-returns-clause-stands c h session =
-    begins c.args.domain.now (Ap c.args.ap) (Sta c.args.sta) c.between-ends.result (nonce_in c.args.start) (rsne_in c.args.start) c.begin-attempt.result session c.between-ends.ensures.ends c.between-ends.ensures.whole
-    (c.begin-attempt.ensures.value ∙ ap (λ (v : List ℕ). begun v c.parts_of.result.1.now) c.parts_of.ensures.anonce ∙ ap (λ (v : List ℕ). begun (nonce_in c.args.start) v) c.parts_of.ensures.rsne) h
+pub returns-in-Connect-clause-stands : goal.returns-in-Connect-clause-stands
+returns-in-Connect-clause-stands c =
+    let d = c.args.domain.now in
+    let n : Node = Ap c.args.ap in
+    let p : Node = Sta c.args.sta in
+    let anonce = c.in-Connect.anonce in
+    let rsne = c.in-Connect.rsne in
+    subst (λ (z : ApStart). StandsAtFirst d n p z c.with_attempt.result) (sym c.in-Connect.is)
+    (subst (λ (s : State). StandsAtFirst d n p (Connect anonce rsne) s) (sym c.with_attempt.ensures.value)
+    (λ h session at held. begins d n p c.between-ends.result c.of-base.result anonce.now rsne.now (begun anonce.now rsne.now) session c.between-ends.ensures.ends c.of-base.ensures c.with_attempt.ensures.addresses refl h at held))
+
+pub returns-in-Ft-clause-stands : goal.returns-in-Ft-clause-stands
+returns-in-Ft-clause-stands c =
+    let d = c.args.domain.now in
+    let n : Node = Ap c.args.ap in
+    let p : Node = Sta c.args.sta in
+    let ptk = c.in-Ft.ptk in
+    subst (λ (z : ApStart). StandsAtFirst d n p z c.after_transition.result) (sym c.in-Ft.is)
+    (subst (λ (s : State). StandsAtFirst d n p (Ft ptk) s) (sym c.after_transition.ensures)
+    (λ h at. transfers d n p c.between-ends.result c.of-base.result ptk.now (transferred ptk.now) c.between-ends.ensures.ends c.of-base.ensures refl h at))

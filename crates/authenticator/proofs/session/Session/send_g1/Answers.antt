@@ -5,7 +5,7 @@ use Rattle.authenticator.specs.Groups.{sent_for, is_answered_for, asked}
 use Rattle.authenticator.specs.declared.session.Session.{Session}
 use Rattle.authenticator.proofs.session.Session.send_g1.Goals as goal
 
-same_session : (s : Session) (place last g1s : ℕ) (answered : Bool) → last ≡ suc s.last → g1s ≡ suc (sent_for place s) → answered ≡ is_answered_for place s → record { key = s.key; last = last; place = place; g1s = g1s; is_answered = answered } ≡ asked place s
+same_session : (s : Session) (place last g1s : ℕ) (answered : Bool) → last ≡ suc s.last → g1s ≡ suc (sent_for place s) → answered ≡ is_answered_for place s → record { ptk = s.ptk; last = last; place = place; g1s = g1s; is_answered = answered } ≡ asked place s
 same_session s place last g1s answered last_is g1s_is answered_is = rw (last_is, g1s_is, answered_is) refl
 
 pub returns-clause-asks : goal.returns-clause-asks

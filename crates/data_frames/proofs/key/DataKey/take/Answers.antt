@@ -1,4 +1,4 @@
-use Rattle.std.proofs.Common.{◌∙◌, ◌++◌, ◌∷◌, ℕ, List, [], Some, ap, sym, arith}
+use Rattle.std.proofs.Common.{◌∙◌, ◌++◌, ◌∷◌, ℕ, List, [], Some, ap, arith}
 use Rattle.ccmp_guard.specs.Ccmp.{packet_number}
 use Rattle.ccmp_guard.specs.Roles.{key_id, counter_of}
 use Rattle.ccmp_guard.specs.Held.{Held}

@@ -1,12 +1,10 @@
-use Rattle.std.proofs.Common.{◌≡◌, ◌≢◌, ◌⊎◌, [], sym, arith, length, List, ℕ, ap, subst, inl, inr, true, false}
+use Rattle.std.proofs.Common.{◌≡◌, ◌≢◌, ◌⊎◌, [], arith, length, List, ℕ, ap, subst, inl, inr, false}
 use Rattle.std.specs.Prelude.{◌==◌}
 use Rattle.std.proofs.lemmas.Bool.Decides.{nat_tests}
 use Rattle.std.proofs.lemmas.List.{nil_from_length}
-use Rattle.domain_cli.specs.declared.status.Found.{Found}
 use Rattle.domain_cli.specs.Script.{texts}
 use Rattle.domain_cli.specs.States.{TellsLine}
 use Rattle.domain_cli.specs.Stops.{StopsLine}
-use Rattle.domain_cli.specs.Story.{Tells}
 use Rattle.domain_cli.proofs.Sent.{Spells-more}
 use Rattle.domain_cli.proofs.Lines.{IsWhole-open, Tells-last}
 use Rattle.domain_cli.proofs.feeder.LineFeeder.finish.Goals.{else-is_empty-via-then-is_empty+else-self-gt0, else-is_empty-via-else-is_empty}

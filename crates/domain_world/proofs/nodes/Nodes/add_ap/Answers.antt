@@ -1,4 +1,4 @@
-use Rattle.std.proofs.Common.{◌≡◌, List, [], ◌∷◌, ◌++◌, suc, length, refl, arith, ap, subst, ◌∙◌, rules, length-append}
+use Rattle.std.proofs.Common.{◌≡◌, List, [], ◌∷◌, ◌++◌, length, refl, arith, ap, subst, ◌∙◌, rules, length-append}
 use Rattle.ap_node.specs.State.{State as ApState}
 use Rattle.run_journal.specs.Listing.{with_ap}
 use Rattle.domain_world.specs.State.{Nodes}

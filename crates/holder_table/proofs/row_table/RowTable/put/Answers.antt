@@ -1,5 +1,4 @@
-use Rattle.std.proofs.Common.{◌≡◌, ◌≤◌, ◌<◌, List, ℕ, length, true, false, sym, ap, ◌∙◌, subst, arith}
-use Rattle.key_hierarchy.specs.declared.answers.PutAnswer.TheVariants.{Held, HeldAlready, Full}
+use Rattle.std.proofs.Common.{◌≤◌, ◌<◌, List, ℕ, length, sym, ap, ◌∙◌, subst, arith}
 use Rattle.key_holders.specs.declared.rows.HolderRow.{HolderRow}
 use Rattle.key_holders.specs.Rows.{put_answer}
 use Rattle.key_holders.proofs.Lives.{put_again, put_full, put_held}

@@ -1,8 +1,8 @@
-use Rattle.std.proofs.Common.{◌≡◌, Bool, List, ℕ, ap, sym, ◌∙◌}
+use Rattle.std.proofs.Common.{Bool, List, ℕ, ap, sym, ◌∙◌}
 use Rattle.std.specs.Prelude.{slice_get, if◌then◌else◌}
 use Rattle.key_hierarchy.specs.declared.answers.RevokeAnswer.TheVariants.{Revoked, Absent}
 use Rattle.key_holders.specs.Rows.{revoke_answer}
-use Rattle.holder_table.specs.Histories.{HeldRow, live, held_at}
+use Rattle.holder_table.specs.Histories.{HeldRow, held_at}
 use Rattle.holder_table.specs.Words.{name_octets}
 use Rattle.holder_table.proofs.Knows.{did_on}
 use Rattle.holder_table.proofs.Spots.{spot_lives, spot_none}

@@ -2,7 +2,7 @@ use Rattle.std.proofs.Common.{◌≡◌, Some, sym, ◌∙◌, subst}
 use Rattle.std.specs.Prelude.{slice_get}
 use Rattle.atomic_table.specs.Table.{Me}
 use Rattle.holder_table.specs.declared.view.View.{View}
-use Rattle.holder_table.specs.Histories.{HeldRow, held_at}
+use Rattle.holder_table.specs.Histories.{held_at}
 use Rattle.holder_table.proofs.Pieces.{words_meet}
 use Rattle.holder_table.proofs.row_table.RowTable.row_words.Goals as goal
 

@@ -1,4 +1,4 @@
-use Rattle.std.proofs.Common.{◌≡◌, ℕ, List, ◌++◌, length, ◌∙◌, rules}
+use Rattle.std.proofs.Common.{◌≡◌, ◌++◌, length, ◌∙◌, rules}
 use Rattle.holder_table.proofs.Pieces.{key_parts}
 use Rattle.holder_table.proofs.words.RowWords.of_parts.Goals as goal
 

@@ -1,4 +1,4 @@
-use Rattle.std.proofs.Common.{◌≡◌, ◌<◌, length, set, ap, ◌∙◌, rules}
+use Rattle.std.proofs.Common.{◌<◌, length, set, ap, ◌∙◌, rules}
 use Rattle.key_holders.specs.declared.rows.HeldRow.{HeldRow}
 use Rattle.key_holders.proofs.Ending.{ended_next}
 use Rattle.key_holders.proofs.holder_rows.HolderRows.end.Goals as goal

@@ -1,5 +1,4 @@
-use Rattle.std.proofs.Common.{◌≡◌, ◌<◌, true, ℕ, List, [], length, get_or-set_same, refl, sym, ap, ◌∙◌, subst, arith, rules}
-use Rattle.key_hierarchy.specs.declared.answers.PutAnswer.{PutAnswer}
+use Rattle.std.proofs.Common.{◌≡◌, ◌<◌, true, ℕ, List, [], length, get_or-set_same, sym, ap, ◌∙◌, subst, arith, rules}
 use Rattle.key_holders.specs.declared.rows.HeldRow.{HeldRow}
 use Rattle.key_holders.specs.Rows.{is_in, put_answer, after_put}
 use Rattle.key_holders.specs.Listed.{Listed, below, rows_at}

@@ -1,7 +1,6 @@
-use Rattle.std.proofs.Common.{◌≡◌, ap, ◌∙◌, rules}
-use Rattle.domain_base.specs.declared.names.Mac.{Mac}
+use Rattle.std.proofs.Common.{ap, ◌∙◌}
 use Rattle.key_hierarchy.specs.declared.fast_transition.PmkR0.{PmkR0}
-use Rattle.key_hierarchy.specs.FastTransition.{pmk_r0, pmk_r0_name}
+use Rattle.key_hierarchy.specs.FastTransition.{pmk_r0}
 use Rattle.key_holders.specs.declared.rows.HolderRow.{HolderRow}
 use Rattle.key_holders.specs.Keys.{row_of, row_r1}
 use Rattle.key_holders.proofs.KeysOfRows.{r1-row_of}

@@ -1,4 +1,3 @@
-use Rattle.std.proofs.Common.{◌≡◌}
 use Rattle.key_holders.specs.Keys.{row_r1}
 use Rattle.key_holders.proofs.rows.HolderRow.r1.Goals as goal
 

@@ -1,7 +1,7 @@
 use Rattle.std.proofs.Common.{◌≡◌, Option, refl, sym, ap, subst, ◌∙◌}
 use Rattle.domain_base.specs.declared.names.Node.{Node}
 use Rattle.domain_base.specs.declared.names.Node.TheVariants.{Ap, Sta}
-use Rattle.domain_rules.specs.Replies.{IsMessageFrom, pair}
+use Rattle.domain_rules.specs.Replies.{IsMessageFrom}
 use Rattle.domain_rules.specs.Rows.{Take}
 use Rattle.std.specs.Prelude.{slice_set}
 use Rattle.ccmp_guard.specs.Held.{Held}
@@ -44,7 +44,7 @@ returns-in_ok-came-in-Some c =
     (subst (λ (k : Held). IsTaken d (Take m.octets.now) (turn s (held_state s c.in-Some.field-0.ap c.hand.new.supplicant k memories) c.args.out.now.acts c.hand.new.out.acts) came.outcome) (sym c.take_key.ensures)
     (handed-held d s c.in-Some.field-0 c.args.ap c.from.result m c.in-Some.field-0.supplicant c.hand.new.supplicant had c.hand.new.memory c.args.out.now.acts c.hand.new.out.acts c.in_ok-came-in-Some.came c.in-Some.is c.if-with-ap.true refl c.self.invariant.held
     (record { from = subst (λ (y : State). IsMessageFrom d (Sta y.number) (Ap c.args.ap) m.octets.now (message_fields m.message)) (sym c.self.view_is) c.requires.message; place_is = c.from.ensures; value = c.index_mut-kept.ensures.value })
-    (subst (λ (n : Node). IsHanded (pair d n (Ap c.args.ap)) m t c.in_ok-came-in-Some.came) node_is c.in_ok-came-in-Some.ensures.handed)))
+    (subst (λ (n : Node). IsHanded d n (Ap c.args.ap) m t c.in_ok-came-in-Some.came) node_is c.in_ok-came-in-Some.ensures.handed)))
 
 -- the station as it was, for one with that session
 abbrev as_was : (c : goal.After-refuse_message) → Option Session → State

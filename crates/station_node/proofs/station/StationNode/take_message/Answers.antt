@@ -3,7 +3,7 @@ use Rattle.domain_base.specs.declared.names.Node.{Node}
 use Rattle.domain_base.specs.declared.names.Node.TheVariants.{Ap, Sta}
 use Rattle.run_journal.specs.declared.acts.Outcome.TheVariants.{Refused}
 use Rattle.run_journal.specs.declared.acts.Reason.TheVariants as reason
-use Rattle.domain_rules.specs.Replies.{IsMessageFrom, pair}
+use Rattle.domain_rules.specs.Replies.{IsMessageFrom}
 use Rattle.domain_rules.specs.Rows.{Take}
 use Rattle.std.specs.Prelude.{slice_set}
 use Rattle.frame_intake.specs.Views.{message_fields}
@@ -65,7 +65,7 @@ returns-in-Some-installed c =
     subst (λ (y : State). IsTaken d (Take m.octets.now) (turn y new c.args.out.now.acts waits) came.outcome) c.self.view_is
     (handed-finished d s c.in-Some.field-0 c.finish.new.attempt c.finish.new.session c.args.ap c.from.result m c.in-Accepted.supplicant c.hand.new.supplicant c.in-Some-installed.tk had c.hand.new.memory c.args.out.now.acts waits came c.in-Some.is c.if-with-ap.true c.in-Accepted.is c.self.invariant.tried
     (record { from = subst (λ (y : State). IsMessageFrom d (Sta y.number) (Ap c.args.ap) m.octets.now (message_fields m.message)) (sym c.self.view_is) c.requires.message; place_is = c.from.ensures; value = c.index_mut-memory.ensures.value })
-    (subst (λ (n : Node). IsHanded (pair d n (Ap c.args.ap)) m t came) node_is c.in_ok-came-in-Accepted.ensures.handed) c.in-Some-installed.is done.0 done.1)
+    (subst (λ (n : Node). IsHanded d n (Ap c.args.ap) m t came) node_is c.in_ok-came-in-Accepted.ensures.handed) c.in-Some-installed.is done.0 done.1)
 
 pub returns-in_default-installed : goal.returns-in_default-installed
 returns-in_default-installed c =
@@ -80,7 +80,7 @@ returns-in_default-installed c =
     subst (λ (y : State). IsTaken d (Take m.octets.now) (turn y (tried_state s c.in-Some.field-0.ap c.hand.new.supplicant (slice_set s.memories c.from.result c.hand.new.memory)) c.args.out.now.acts waits) came.outcome) c.self.view_is
     (handed-tried d s c.in-Some.field-0 c.args.ap c.from.result m c.in-Accepted.supplicant c.hand.new.supplicant had c.hand.new.memory c.args.out.now.acts waits came c.in-Some.is c.if-with-ap.true c.in-Accepted.is c.self.invariant.tried
     (record { from = subst (λ (y : State). IsMessageFrom d (Sta y.number) (Ap c.args.ap) m.octets.now (message_fields m.message)) (sym c.self.view_is) c.requires.message; place_is = c.from.ensures; value = c.index_mut-memory.ensures.value })
-    (subst (λ (n : Node). IsHanded (pair d n (Ap c.args.ap)) m t came) node_is c.in_ok-came-in-Accepted.ensures.handed) c.in_default-installed.is)
+    (subst (λ (n : Node). IsHanded d n (Ap c.args.ap) m t came) node_is c.in_ok-came-in-Accepted.ensures.handed) c.in_default-installed.is)
 
 -- the station as it was, for one with that attempt
 abbrev as_was : (c : goal.After-take_in_session) → Option Attempt → State

@@ -5,6 +5,7 @@ use Rattle.run_journal.specs.declared.acts.Reason.TheVariants as reason
 use Rattle.run_journal.specs.declared.acts.Act.{Act}
 use Rattle.domain_rules.specs.Rows.{Take}
 use Rattle.node_base.specs.Ends.{AreEnds}
+use Rattle.supplicant.specs.Bases.{IsBaseOf}
 use Rattle.station_node.specs.State.{State, memory_at}
 use Rattle.station_node.specs.Parts.{IsNotRequested}
 use Rattle.station_node.specs.Steps.{turn}
@@ -25,16 +26,16 @@ returns-in_default c = λ b m kind_is status_is.
 pub returns-then-status-ne0 : goal.returns-then-status-ne0
 returns-then-status-ne0 c = λ b m kind_is status_is.
     takes_by c.args.here.domain.now (Take c.args.octets.now) (turn c.args.self.now c.args.self.now c.args.out.now.acts c.refuse-then-status-ne0.new.out.acts) c.refuse-then-status-ne0.result (Refused (reason.Status c.args.status)) _ c.refuse-then-status-ne0.ensures.outcome c.refuse-then-status-ne0.ensures.acts c.refuse-then-status-ne0.ensures.kept refl
-    (λ is. taken-response_status c.args.here.domain.now c.args.self.now c.args.ap _ c.args.octets.now b c.args.status c.args.out.now.acts c.refuse-then-status-ne0.new.out.acts m kind_is
+    (λ is. taken-response_status c.args.here.domain.now c.args.self.now c.args.ap _ c.args.octets.now b c.args.status c.args.out.now.acts c.refuse-then-status-ne0.new.out.acts c.requires.suite m kind_is
     (ap (λ (t : State). t.attempt) (sym c.self.view_is) ∙ c.in-Some.ensures) status_is c.if-status-ne0.true is)
 
 pub returns : goal.returns
 returns c = λ b m kind_is status_is.
-    taken-response c.args.here.domain.now c.args.self.now _ c.args.ap c.in-Some.snonce c.args.octets.now b c.begin-supplicant.result c.make_place.new.memories.items c.in_ok-act.act c.args.out.now.acts c.add.new.self.acts m kind_is
+    taken-response c.args.here.domain.now c.args.self.now _ c.args.ap c.in-Some.snonce c.args.octets.now b c.begin-supplicant.result c.make_place.new.memories.items c.in_ok-act.act c.args.out.now.acts c.add.new.self.acts c.requires.suite m kind_is
     (ap (λ (t : State). t.attempt) (sym c.self.view_is) ∙ c.in-Some.ensures) (status_is ∙ c.if-status-ne0.false)
     (record {
       ends = subst (λ (t : State). AreEnds c.args.here.domain.now (Sta t.number) (Ap c.args.ap) c.begin-supplicant.result.ends) c.self.view_is c.begin-supplicant.ensures.ends;
-      psk = c.begin-supplicant.ensures.psk;
+      base = subst (λ (t : State). IsBaseOf c.args.here.domain.now (Sta t.number) (Ap c.args.ap) [] c.begin-supplicant.result.base) c.self.view_is c.begin-supplicant.ensures.base;
       attempt_is = c.begin-supplicant.ensures.attempt;
       session_is = c.begin-supplicant.ensures.session;
     })

@@ -13,9 +13,10 @@ returns-clause-finishes c =
     let y = c.in-Some.key in
     let group = c.in_ok-group.group in
     record {
+      key = y;
+      is = refl;
       group = group;
-      verified = (agreed (under c.args.ends.now.akm y None) (fields_of c.args.frame.now) c.args.frame.now.octets.now group c.judge_m3.new.reply.verified c.in_ok-group.ensures.judged).1;
-      counter_is = refl;
+      verified = (agreed (under c.args.base.now y None) (fields_of c.args.frame.now) c.args.frame.now.octets.now group c.judge_m3.new.reply.verified c.in_ok-group.ensures.judged).1;
       memory = c.give-gtk.ensures.memory ∙ ap (λ (n : ℕ). given group.key group.id n c.args.memory.now) c.packet_number.ensures;
       tells = λ d n p z ends keyed. subst (λ (g : GtkNews). Tells p c.accept_m3.new.reply (installs y g (sent_m4 d n p z c.args.frame.now.counter ∷ []))) c.give-gtk.ensures.news (c.accept_m3.ensures.tells d n p z ends keyed);
     }

@@ -11,9 +11,8 @@ use Rattle.supplicant.proofs.supplicant.Supplicant.take_g1.Goals as goal
 
 pub invariant_of-self : goal.invariant_of-self
 invariant_of-self c = record {
-  suite = c.self.invariant.suite;
   tried = c.self.invariant.tried;
-  held = renewed_key c.self.inside.ends c.self.inside.psk c.args.frame.now c.args.memory.now c.take_g1.new.memory c.self.inside.session c.in-Some.session c.in-Ok.session c.take_g1.new.reply c.in-Some.is c.self.invariant.held c.in-Ok.ensures.renews;
+  held = renewed_key c.self.inside.ends c.self.inside.base c.args.frame.now c.args.memory.now c.take_g1.new.memory c.self.inside.session c.in-Some.session c.in-Ok.session c.take_g1.new.reply c.in-Some.is c.self.invariant.held c.in-Ok.ensures.renews;
   alone = inl (no_attempt c.self.inside.attempt c.self.inside.session c.in-Some.session c.in-Some.is c.self.invariant.alone);
 }
 

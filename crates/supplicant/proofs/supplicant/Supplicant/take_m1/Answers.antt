@@ -11,8 +11,7 @@ use Rattle.supplicant.proofs.supplicant.Supplicant.take_m1.Goals as goal
 
 pub invariant_of-self : goal.invariant_of-self
 invariant_of-self c = record {
-  suite = c.self.invariant.suite;
-  tried = answered_key c.self.inside.ends c.self.inside.psk c.args.frame.now c.in-Some.attempt c.take_m1.result c.take_m1.new.reply c.take_m1.ensures.answers;
+  tried = answered_key c.self.inside.ends c.self.inside.base c.args.frame.now c.in-Some.attempt c.take_m1.result c.take_m1.new.reply c.take_m1.ensures.answers;
   held = c.self.invariant.held;
   alone = inr (no_session c.self.inside.attempt c.in-Some.attempt c.self.inside.session c.in-Some.is c.self.invariant.alone);
 }
@@ -26,4 +25,4 @@ pub returns : goal.returns
 returns c = λ had.
     let s = the_view c.self.inside in
     subst (λ (t : State). IsTaken M1 c.args.frame.now (both t had) (both (having (Some c.take_m1.result) s.session s) had) Accepted c.take_m1.new.reply) c.self.view_is
-    (m1_accepted c.args.frame.now s had c.in-Some.attempt c.take_m1.result c.take_m1.new.reply c.self.invariant.suite c.in-Some.is c.take_m1.ensures.answers c.take_m1.ensures.whole)
+    (m1_accepted c.args.frame.now s had c.in-Some.attempt c.take_m1.result c.take_m1.new.reply c.in-Some.is c.take_m1.ensures.answers c.take_m1.ensures.whole)

@@ -6,14 +6,13 @@ use Rattle.supplicant.specs.State.{State, having, both}
 use Rattle.supplicant.specs.Taken.{IsTaken}
 use Rattle.supplicant.proofs.Keyings.{attempt_keying}
 use Rattle.supplicant.proofs.TakenM3.{m3_refusal, m3_finished}
-use Rattle.supplicant.proofs.OwnKeys.{tried_key}
+use Rattle.supplicant.proofs.OwnKeys.{finished_key}
 use Rattle.supplicant.proofs.supplicant.Supplicant.take_m3.Goals as goal
 
 pub invariant_of-self : goal.invariant_of-self
 invariant_of-self c = record {
-  suite = c.self.invariant.suite;
   tried = tt;
-  held = tried_key c.self.inside.ends c.self.inside.psk c.self.inside.attempt c.in-Some.attempt c.in-Ok.session.key c.in-Some.is c.in-Ok.ensures.key c.self.invariant.tried;
+  held = finished_key c.self.inside.ends c.self.inside.base c.self.inside.attempt c.in-Some.attempt c.in-Ok.session c.in-Some.is c.in-Ok.ensures.key c.self.invariant.tried;
   alone = inl refl;
 }
 
@@ -32,4 +31,4 @@ returns-in-Err c =
     subst (λ (t : State). IsTaken M3 c.args.frame.now (both t c.args.memory.now) (both t c.take_m3.new.memory) (Refused c.in-Err.why) c.take_m3.new.reply) c.self.view_is
     (subst (λ (ks : _). IsTaken M3 c.args.frame.now (both s c.args.memory.now) (both s ks) (Refused c.in-Err.why) c.take_m3.new.reply) (sym c.in-Err.ensures.kept)
     (m3_refusal c.args.frame.now s c.args.memory.now c.in-Some.attempt.key None c.in-Err.why c.take_m3.new.reply
-    (λ d n p h st. attempt_keying d n p c.self.inside.attempt c.in-Some.attempt h c.in-Some.is st.attempt_is) c.in-Err.ensures.refused))
+    (λ d n p h st. attempt_keying d n p s.base c.self.inside.attempt c.in-Some.attempt h c.in-Some.is st.attempt_is) c.in-Err.ensures.refused))

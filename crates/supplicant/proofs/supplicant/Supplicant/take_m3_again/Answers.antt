@@ -5,16 +5,15 @@ use Rattle.run_journal.specs.declared.acts.Reason.TheVariants as reason
 use Rattle.supplicant.specs.contracts.supplicant.Supplicant.{the_view}
 use Rattle.supplicant.specs.State.{State, having, both}
 use Rattle.supplicant.specs.Taken.{IsTaken}
-use Rattle.supplicant.proofs.Keyings.{session_keying_is, no_keying}
-use Rattle.supplicant.proofs.TakenM3.{m3_unawaited, m3_refusal, m3_answered}
+use Rattle.supplicant.proofs.Keyings.{no_keying}
+use Rattle.supplicant.proofs.TakenM3.{m3_unawaited, m3_again_refusal, m3_answered}
 use Rattle.supplicant.proofs.OwnKeys.{repeated_key}
 use Rattle.supplicant.proofs.supplicant.Supplicant.take_m3_again.Goals as goal
 
 pub invariant_of-self : goal.invariant_of-self
 invariant_of-self c = record {
-  suite = c.self.invariant.suite;
   tried = c.self.invariant.tried;
-  held = repeated_key c.self.inside.ends c.self.inside.psk c.args.frame.now c.self.inside.session c.in-Some.session c.in-Ok.session c.take_m3.new.reply c.in-Some.is c.self.invariant.held c.in-Ok.ensures.repeats;
+  held = repeated_key c.self.inside.ends c.self.inside.base c.args.frame.now c.self.inside.session c.in-Some.session c.in-Ok.session c.take_m3.new.reply c.in-Some.is c.self.invariant.held c.in-Ok.ensures.repeats;
   alone = inl (ap (λ (t : State). t.attempt) c.self.view_is ∙ c.requires.alone);
 }
 
@@ -23,7 +22,7 @@ returns-in_default c = λ had.
     let s = the_view c.self.inside in
     let alone = ap (λ (t : State). t.attempt) c.self.view_is ∙ c.requires.alone in
     subst (λ (t : State). IsTaken M3 c.args.frame.now (both t had) (both t had) (Refused reason.Unawaited) c.args.reply.now) c.self.view_is
-    (m3_unawaited c.args.frame.now s had c.args.reply.now c.requires.empty (λ d n p h st. no_keying d n p c.self.inside.attempt c.self.inside.session h alone c.in_default.is st.attempt_is st.session_is))
+    (m3_unawaited c.args.frame.now s had c.args.reply.now c.requires.empty (λ d n p h st. no_keying d n p s.base c.self.inside.attempt c.self.inside.session h alone c.in_default.is st.attempt_is st.session_is))
 
 pub returns-in-Ok : goal.returns-in-Ok
 returns-in-Ok c = λ had.
@@ -37,5 +36,4 @@ returns-in-Err c = λ had.
     let s = the_view c.self.inside in
     let alone = ap (λ (t : State). t.attempt) c.self.view_is ∙ c.requires.alone in
     subst (λ (t : State). IsTaken M3 c.args.frame.now (both t had) (both t had) (Refused c.in-Err.why) c.take_m3.new.reply) c.self.view_is
-    (m3_refusal c.args.frame.now s had (Some c.in-Some.session.key) (Some c.in-Some.session.counter) c.in-Err.why c.take_m3.new.reply
-    (λ d n p h st. session_keying_is d n p c.self.inside.attempt c.self.inside.session c.in-Some.session h alone c.in-Some.is st.attempt_is st.session_is) c.in-Err.ensures.refused)
+    (m3_again_refusal c.args.frame.now s had c.in-Some.session c.in-Err.why c.take_m3.new.reply alone c.in-Some.is c.in-Err.ensures.refused)

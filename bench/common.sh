@@ -1,0 +1,61 @@
+# What the scripts of this folder share; it is read by them, and does nothing by itself.
+set -eu
+cd "$(dirname "${BASH_SOURCE[0]}")/.."
+work=$(mktemp -d)
+trap 'rm -rf "$work"' EXIT
+
+# The program that `rt ci` proved and built. Where there is none, it says so and ends.
+built() { # CRATE
+    program=crates/$1/out/$1
+    if [ ! -x "$program" ]; then
+        echo "no program was built: \`rt ci\` does" >&2
+        exit 1
+    fi
+}
+
+# What `counted` counts: instructions, by callgrind of valgrind, and seconds of one processor where that is missing.
+if command -v valgrind > /dev/null; then unit=instructions; else unit=seconds; fi
+
+# The instructions, or else the seconds, of the program on an input. The profile goes to a file.
+counted() { # PROFILE INPUT RUNS WORDS..
+    local profile=$1 input=$2 runs=$3
+    shift 3
+    if [ "$unit" = instructions ]; then
+        valgrind --tool=callgrind --callgrind-out-file="$profile" "$program" "$@" < "$input" 2>&1 > /dev/null \
+            | sed -n 's/.*Collected : //p'
+    else
+        python3 - "$input" "$runs" "$program" "$@" <<'PY'
+import resource, subprocess, sys
+source, runs, words = sys.argv[1], int(sys.argv[2]), sys.argv[3:]
+for _ in range(runs):
+    subprocess.run(words, stdin=open(source), stdout=subprocess.DEVNULL, check=True)
+used = resource.getrusage(resource.RUSAGE_CHILDREN)
+print((used.ru_utime + used.ru_stime) / runs)
+PY
+    fi
+}
+
+# The cost of one: more of them less a few, over the difference of the two numbers.
+of_one() { # TEXT FEW MORE NUMBER
+    python3 -c "print('%s: %.6g $unit' % ('$1', ($3 - $2) / $4))"
+}
+
+# The dearest functions of a profile, where there is callgrind and the word is --profile.
+profile() { # WORD PROFILE ROWS TITLE
+    if [ "$1" = --profile ] && command -v callgrind_annotate > /dev/null; then
+        echo "== $4"
+        callgrind_annotate --threshold=99 "$2" \
+            | awk -v most="$3" '/ file:function/ { on = 1 } on { print } on && /%/ && ++rows == most { exit }'
+    fi
+}
+
+# The processor seconds and the greatest resident memory (KiB) of a program, its output to a file.
+measure() { # OUTPUT INPUT WORDS..
+    python3 - "$@" <<'PY'
+import resource, subprocess, sys
+out, source, words = sys.argv[1], sys.argv[2], sys.argv[3:]
+done = subprocess.run(words, stdin=open(source), stdout=open(out, "w"))
+used = resource.getrusage(resource.RUSAGE_CHILDREN)
+print("%.2f %d %d" % (used.ru_utime + used.ru_stime, used.ru_maxrss, done.returncode))
+PY
+}

@@ -1,0 +1,25 @@
+-- What the attempts of an authenticator go back to (IEEE Std 802.11-2020, 12.7.1.6 and 13.4.2).
+use Rattle.std.specs.Prelude.{◌≡◌, List, []}
+use Rattle.domain_base.specs.declared.names.Node.{Node}
+use Rattle.rsn_elements.specs.Sent.{fte_octets}
+use Rattle.run_journal.specs.declared.domain.Domain.{Domain}
+use Rattle.domain_rules.specs.Network.{Root, r0kh_id, root_at, inputs}
+use Rattle.domain_rules.specs.Replies.{Pair}
+use Rattle.node_base.specs.Pairs.{pair_of}
+use Rattle.domain_rules.specs.FastTransition.{assoc_fte}
+use Rattle.node_base.specs.PairwiseKeys.{pmk_of}
+use Rattle.frame_making.specs.KeyData.{IsMobility}
+use Rattle.authenticator.specs.declared.base.Base.{Base}
+
+-- what the keys of access point n go back to: with suite 4 it is the R0KH
+abbrev pub home : Domain → Node → Root
+home d n = root_at d (r0kh_id d n)
+
+-- with its station
+abbrev pub own_pair : Domain → Node → Node → Pair
+own_pair d n p = pair_of d (home d n) n p
+
+-- of access point n with its station p
+pub record IsBaseOf (d : Domain) (n p : Node) (b : Base) : Type 0 where
+  pub pmk : b.pmk ≡ pmk_of d (home d n) n p
+  pub mobility : IsMobility d (inputs d (home d n) n p [] []) (fte_octets (assoc_fte d n)) b.mobility

@@ -1,0 +1,66 @@
+-- The journal of a run is safe: its network has suite 2 or 6, so nothing that the safety of fast transition asks for is asked of it.
+use Rattle.std.proofs.Common.{◌≡◌, ℕ, Bool, List, [], subst, sym}
+use Rattle.domain_base.specs.declared.names.Akm.TheVariants.{FtPsk}
+use Rattle.run_journal.specs.declared.domain.Domain.{Domain}
+use Rattle.run_journal.specs.declared.domain.Event.{Event}
+use Rattle.run_journal.specs.declared.acts.Entry.{Entry}
+use Rattle.run_journal.specs.Premises.{Fresh, NoCollision, Unforged}
+use Rattle.run_journal.specs.Safe.{InstalledOnce, Joined, Once, Safe, Sourced, use_of, up_of}
+use Rattle.domain_rules.specs.Network.{InForm, IsNamed}
+use Rattle.domain_rules.specs.Explained.{Explained}
+use Rattle.domain_rules.specs.HeldRight.{HeldRight}
+use Rattle.journal_safety.specs.InOctets.{InOctets}
+use Rattle.frame_script.specs.Script.{Draft, AtVersion, AtSeed, AtSsid, AtPsk, AtAkm, AtNodes}
+use Rattle.domain_cli.specs.declared.status.Found.{Found}
+use Rattle.domain_cli.specs.declared.status.Found.TheVariants as found
+use Rattle.domain_cli.specs.declared.status.Stop.TheVariants as stop
+use Rattle.domain_cli.specs.Script.{IsJournal}
+use Rattle.domain_cli.specs.Story.{Tells}
+
+-- what the laws of safety say of one part of it
+abbrev pub Law : (List Entry → Type 0) → Type 0
+Law P =
+    (d : Domain) (rounds : List (List Event)) (j : List Entry) → (d.akm ≡ FtPsk → InOctets d) → (d.akm ≡ FtPsk → HeldRight d j) → IsNamed d → Explained d rounds j
+    → Fresh j → NoCollision j → Unforged j → P j
+
+-- and of all of them
+pub record Laws : Type 0 where
+  pub joins : Law Joined
+  pub installs : Law InstalledOnce
+  pub uses : Law (Once use_of)
+  pub sourced : Law Sourced
+  pub ups : Law (Once up_of)
+
+none_safe : Safe []
+none_safe = record { installed_once = tt; used_once = tt; joined = tt; handed_up_once = tt; sourced = tt }
+
+named : (d : Domain) → InForm d → IsNamed d
+named d form = record { aps = form.aps; stas = form.stas }
+
+empty_safe : (j : List Entry) → j ≡ [] → Safe j
+empty_safe j none = subst Safe (sym none) none_safe
+
+told_safe : (laws : Laws) (draft : Draft) (rounds : List (List Event)) (j : List Entry) → IsJournal draft rounds j → Fresh j → NoCollision j → Unforged j → Safe j
+told_safe laws (AtNodes d) rounds j told fresh apart unforged =
+    let octets : d.akm ≡ FtPsk → InOctets d = λ same. absurd (told.1 same) in
+    let held : d.akm ≡ FtPsk → HeldRight d j = λ same. absurd (told.1 same) in
+    let is = named d told.0 in
+    record {
+      installed_once = laws.installs d rounds j octets held is told.2 fresh apart unforged;
+      used_once = laws.uses d rounds j octets held is told.2 fresh apart unforged;
+      joined = laws.joins d rounds j octets held is told.2 fresh apart unforged;
+      handed_up_once = laws.ups d rounds j octets held is told.2 fresh apart unforged;
+      sourced = laws.sourced d rounds j octets held is told.2 fresh apart unforged;
+    }
+told_safe laws AtVersion rounds j told fresh apart unforged = empty_safe j told.1
+told_safe laws AtSeed rounds j told fresh apart unforged = empty_safe j told.1
+told_safe laws (AtSsid seed) rounds j told fresh apart unforged = empty_safe j told.1
+told_safe laws (AtPsk seed ssid) rounds j told fresh apart unforged = empty_safe j told.1
+told_safe laws (AtAkm seed ssid psk) rounds j told fresh apart unforged = empty_safe j told.1
+
+-- however the reading ended
+pub run_safe : (laws : Laws) (f : Found) (octets : List ℕ) (ended : Bool) (j : List Entry) → Tells f octets ended j → Fresh j → NoCollision j → Unforged j → Safe j
+run_safe laws found.Whole octets ended j t = told_safe laws t.draft t.rounds j t.explains.journal
+run_safe laws (found.Stopped (stop.Refused number refusal form)) octets ended j t = told_safe laws t.draft t.rounds j t.explains.journal
+run_safe laws (found.Stopped stop.NoMemory) octets ended j t = told_safe laws t.draft t.rounds j t.explains.journal
+run_safe laws found.ReadFault octets ended j t = told_safe laws t.draft t.rounds j t.explains.journal

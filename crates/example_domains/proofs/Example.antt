@@ -1,0 +1,167 @@
+-- The example in every network in form with suite 4.
+use Rattle.std.proofs.Common.{◌≡◌, ℕ, List, [], ◌∷◌, length, get_or, refl, sym, ap, subst, arith, inl, inr}
+use Rattle.std.specs.Prelude.{codes}
+use Rattle.domain_base.specs.Octets.{AreOctets}
+use Rattle.domain_base.specs.declared.names.Mac.{Mac}
+use Rattle.key_hierarchy.specs.Sizes.{IsSsid}
+use Rattle.domain_base.specs.declared.names.Akm.TheVariants.{FtPsk}
+use Rattle.domain_base.specs.declared.names.Akm.{Akm}
+use Rattle.domain_rules.specs.DataExample.{IsPayload}
+use Rattle.domain_rules.specs.Network.{InForm}
+use Rattle.run_journal.specs.declared.domain.Domain.{Domain}
+use Rattle.example_domains.proofs.AssociationRounds.{stage7}
+use Rattle.example_domains.proofs.RoamingActs as w
+use Rattle.example_domains.proofs.RoamingRounds.{stage13}
+use Rattle.example_domains.proofs.ServiceRounds.{stage17}
+use Rattle.example_domains.proofs.ReturnRounds.{stage22}
+use Rattle.example_domains.proofs.RevocationRounds.{stage25}
+use Rattle.example_domains.proofs.MobileData.{octets_few}
+use Rattle.example_domains.proofs.RoamingActs.{mobile}
+use Rattle.example_domains.proofs.Stages.{TimelyIsRight, at_sta, at_ap, at_to}
+use Rattle.example_domains.proofs.Trio.{IsTrio, trio}
+use Rattle.example_domains.specs.Roaming.{CanRoam, association, roaming, service, return, revocation, HasAssociation, HasRoaming, HasService, HasReturn, HasRevocation, pair}
+
+-- a network with suite 4
+abbrev with_suite : Domain → Akm → Domain
+with_suite d akm = record d { akm = akm }
+
+is_mobile : (d : Domain) → d.akm ≡ FtPsk → mobile d ≡ d
+is_mobile d is = ap (with_suite d) (sym is)
+
+module _ (law : TimelyIsRight) (c : Domain) (k l m : ℕ) (t : IsTrio (mobile c) k l m) where
+  associated : HasAssociation (mobile c) k m
+  associated =
+      let st = stage7 c k l m t in
+      record {
+        journal = st.journal;
+        explained = st.explained;
+        held = law (mobile c) st.journal st.right;
+        i = w.i c k l m;
+        of_first = refl;
+        station = at_sta (mobile c) k l m (association k m) _ _ _ _ st _ (inr (inr (inr (inl refl))));
+        access_point = at_ap (mobile c) k l m (association k m) _ _ _ _ st _ (inr (inr (inl refl)));
+        given = at_sta (mobile c) k l m (association k m) _ _ _ _ st _ (inr (inr (inl refl)));
+        put = at_ap (mobile c) k l m (association k m) _ _ _ _ st _ (inl refl);
+      }
+
+  roamed : HasRoaming (mobile c) k l m
+  roamed =
+      let st = stage13 c k l m t in
+      record {
+        journal = st.journal;
+        explained = st.explained;
+        held = law (mobile c) st.journal st.right;
+        looked = at_to (mobile c) k l m (roaming k l m) _ _ _ _ st _ (inr (inr (inr (inr (inr (inr (inr (inr (inr (inr (inl refl)))))))))));
+        i = w.i2 c k l m;
+        of_second = refl;
+        station = at_sta (mobile c) k l m (roaming k l m) _ _ _ _ st _ (inr (inr (inl refl)));
+        access_point = at_to (mobile c) k l m (roaming k l m) _ _ _ _ st _ (inr (inr (inr (inr (inl refl)))));
+        given = at_sta (mobile c) k l m (roaming k l m) _ _ _ _ st _ (inr (inl refl));
+        left = at_sta (mobile c) k l m (roaming k l m) _ _ _ _ st _ (inr (inr (inr (inl refl))));
+        request = w.octets9 c k l m;
+        seal = w.seal9 c k l m;
+        answered = at_to (mobile c) k l m (roaming k l m) _ _ _ _ st _ (inr (inl refl));
+        response = w.octets10 c k l m;
+        sent = st.were.1.0;
+        again = st.were.0;
+      }
+
+  -- with these payloads
+  module _ (up down : List ℕ) (up_is : IsPayload up) (down_is : IsPayload down) where
+    served : HasService (mobile c) k l m up down
+    served =
+        let st = stage17 c k l m t up down up_is down_is in
+        record {
+          journal = st.journal;
+          explained = st.explained;
+          held = law (mobile c) st.journal st.right;
+          i = w.i2 c k l m;
+          of_second = refl;
+          sent_up = at_sta (mobile c) k l m (service k l m up down) _ _ _ _ st _ (inr (inr (inr (inl refl))));
+          taken_up = at_to (mobile c) k l m (service k l m up down) _ _ _ _ st _ (inr (inr (inl refl)));
+          sent_down = at_to (mobile c) k l m (service k l m up down) _ _ _ _ st _ (inr (inl refl));
+          taken_down = at_sta (mobile c) k l m (service k l m up down) _ _ _ _ st _ (inl refl);
+        }
+
+    returned : HasReturn (mobile c) k l m up down
+    returned =
+        let st = stage22 c k l m t up down up_is down_is in
+        record {
+          journal = st.journal;
+          explained = st.explained;
+          held = law (mobile c) st.journal st.right;
+          looked = at_ap (mobile c) k l m (return k l m up down) _ _ _ _ st _ (inr (inr (inr (inr (inr (inr (inr (inr (inr (inl refl))))))))));
+          i = w.i3 c k l m;
+          of_third = refl;
+          station = at_sta (mobile c) k l m (return k l m up down) _ _ _ _ st _ (inr (inr (inl refl)));
+          access_point = at_ap (mobile c) k l m (return k l m up down) _ _ _ _ st _ (inr (inr (inl refl)));
+          replaced = at_ap (mobile c) k l m (return k l m up down) _ _ _ _ st _ (inr (inr (inr (inl refl))));
+          left = at_sta (mobile c) k l m (return k l m up down) _ _ _ _ st _ (inr (inr (inr (inl refl))));
+          resumed = at_sta (mobile c) k l m (return k l m up down) _ _ _ _ st _ (inr (inl refl));
+        }
+
+    ended : HasRevocation (mobile c) k l m up down
+    ended =
+        let st = stage25 c k l m t up down up_is down_is in
+        record {
+          journal = st.journal;
+          explained = st.explained;
+          held = law (mobile c) st.journal st.right;
+          revoked = at_ap (mobile c) k l m (revocation k l m up down) _ _ _ _ st _ (inl refl);
+          looked = at_to (mobile c) k l m (revocation k l m up down) _ _ _ _ st _ (inr (inl refl));
+          request = w.octets18 c k l m;
+          refused = at_to (mobile c) k l m (revocation k l m up down) _ _ _ _ st _ (inr (inr (inl refl)));
+        }
+
+-- of any network
+in_mobile : (d : Domain) (k l m : ℕ) → CanRoam d k l m → IsTrio (mobile d) k l m
+in_mobile d k l m can = subst (λ (x : Domain). IsTrio x k l m) (sym (is_mobile d can.suite)) (trio d k l m can.form can.whole can.octets can.mobile can.first can.second can.differ can.station)
+
+pub association_explained : TimelyIsRight → (d : Domain) (k l m : ℕ) → CanRoam d k l m → HasAssociation d k m
+association_explained law d k l m can = subst (λ (x : Domain). HasAssociation x k m) (is_mobile d can.suite) (associated law d k l m (in_mobile d k l m can))
+
+pub roaming_explained : TimelyIsRight → (d : Domain) (k l m : ℕ) → CanRoam d k l m → HasRoaming d k l m
+roaming_explained law d k l m can = subst (λ (x : Domain). HasRoaming x k l m) (is_mobile d can.suite) (roamed law d k l m (in_mobile d k l m can))
+
+pub service_explained : TimelyIsRight → (d : Domain) (k l m : ℕ) (up down : List ℕ) → CanRoam d k l m → IsPayload up → IsPayload down → HasService d k l m up down
+service_explained law d k l m up down can up_is down_is =
+    subst (λ (x : Domain). HasService x k l m up down) (is_mobile d can.suite) (served law d k l m (in_mobile d k l m can) up down up_is down_is)
+
+pub return_explained : TimelyIsRight → (d : Domain) (k l m : ℕ) (up down : List ℕ) → CanRoam d k l m → IsPayload up → IsPayload down → HasReturn d k l m up down
+return_explained law d k l m up down can up_is down_is =
+    subst (λ (x : Domain). HasReturn x k l m up down) (is_mobile d can.suite) (returned law d k l m (in_mobile d k l m can) up down up_is down_is)
+
+pub revocation_explained : TimelyIsRight → (d : Domain) (k l m : ℕ) (up down : List ℕ) → CanRoam d k l m → IsPayload up → IsPayload down → HasRevocation d k l m up down
+revocation_explained law d k l m up down can up_is down_is =
+    subst (λ (x : Domain). HasRevocation x k l m up down) (is_mobile d can.suite) (ended law d k l m (in_mobile d k l m can) up down up_is down_is)
+
+-- ---- there are such networks
+
+apart_ids : codes "r0kh-2" ≡ codes "r0kh-1" → ⊥
+apart_ids e = let last : 50 ≡ 49 = ap (λ (x : List ℕ). get_or x 5 0) e in omega (arith, last)
+
+pair-in_form : (seed ssid psk mdid : List ℕ) → IsSsid ssid → InForm (pair seed ssid psk mdid)
+pair-in_form seed ssid psk mdid is = record {
+  some = is.least;
+  few = is.most;
+  aps = (((λ e. cc), refl), omega arith, omega arith, ((λ e. cc (ap (λ (x : Mac). x.0) e)), tt), (apart_ids, tt), (((λ e. cc), refl), omega arith, omega arith, tt, tt, tt));
+  stas = (((λ e. cc), refl), record { no_ap = ((λ e. cc (ap (λ (x : Mac). x.0) e)), ((λ e. cc (ap (λ (x : Mac). x.0) e)), tt)); no_sta = tt }, tt);
+  few_aps = omega arith;
+  few_stas = omega arith;
+}
+
+pub pair-can_roam : (seed ssid psk mdid : List ℕ) → IsSsid ssid → length mdid ≡ 2 → AreOctets mdid → CanRoam (pair seed ssid psk mdid) 0 1 0
+pair-can_roam seed ssid psk mdid is two octets = record {
+  form = pair-in_form seed ssid psk mdid is;
+  suite = refl;
+  whole = record { aps = (refl, (refl, tt)); stas = (refl, tt) };
+  octets = record {
+    aps = (octets_few (0x02 ∷ 0 ∷ 0 ∷ 0 ∷ 0 ∷ 0x01 ∷ []) refl, (octets_few (0x02 ∷ 0 ∷ 0 ∷ 0 ∷ 0 ∷ 0x02 ∷ []) refl, tt));
+    stas = (octets_few (0x02 ∷ 0 ∷ 0 ∷ 0 ∷ 0 ∷ 0x11 ∷ []) refl, tt);
+  };
+  mobile = record { mdid = two; mdid_octets = octets; id_octets = (octets_few (codes "r0kh-1") refl, (octets_few (codes "r0kh-2") refl, tt)) };
+  first = omega arith;
+  second = omega arith;
+  differ = λ e. omega (arith, e);
+  station = omega arith;
+}

@@ -1,0 +1,345 @@
+-- The acts of the rounds of an example with suite 4, and the histories of a station and two access points after each.
+use Rattle.air_frame.specs.Sent.{assoc_req_octets, assoc_resp_octets, ft_req_octets, ft_resp_octets, re_req_octets, re_resp_octets}
+use Rattle.domain_base.specs.declared.names.Akm.TheVariants.{FtPsk}
+use Rattle.domain_base.specs.declared.names.Node.TheVariants.{Ap, Sta}
+use Rattle.domain_base.specs.declared.names.Node.{Node}
+use Rattle.domain_base.specs.declared.names.Peer.TheVariants.{One}
+use Rattle.domain_rules.specs.AccessPointRows.{start_acts}
+use Rattle.domain_rules.specs.FastTransition.{root_name, assoc_fte, fte_seal}
+use Rattle.domain_rules.specs.Frames.{assoc_req_elements, assoc_resp_elements, aid, in_data, m2_frame, sent_assoc_req, sent_assoc_resp, sent_m1, sent_m2, frame_seal, m3_frame, m4_frame, sent_m3, sent_m4, keyed_by}
+use Rattle.domain_rules.specs.Network.{address, mac, nonce, gtk, r0kh_id, Root, root_at, inputs}
+use Rattle.domain_rules.specs.TransitionFrames.{ft_req_elements, sent_ft_req, ft_resp_elements, sent_ft_resp, re_req_input, re_req_elements, sent_re_req, re_resp_fte, re_resp_input, re_resp_elements, sent_re_resp, sent_ft_refusal}
+use Rattle.eapol_key.specs.Octets.{frame_octets}
+use Rattle.eapol_key.specs.Sent.{sent_fields}
+use Rattle.eapol_key.specs.declared.messages.Message.TheVariants.{M1, M2, M3, M4}
+use Rattle.key_hierarchy.specs.FastTransition.{pmk_r0, pmk_r1}
+use Rattle.key_hierarchy.specs.Keys.{ptk}
+use Rattle.key_hierarchy.specs.declared.answers.PullAnswer.TheVariants.{Found, Absent}
+use Rattle.key_hierarchy.specs.declared.answers.PutAnswer.TheVariants.{Held}
+use Rattle.key_hierarchy.specs.declared.answers.RevokeAnswer.TheVariants as revoke
+use Rattle.key_hierarchy.specs.declared.fast_transition.PmkR1.{PmkR1}
+use Rattle.key_hierarchy.specs.declared.inputs.Inputs.{Inputs}
+use Rattle.rsn_elements.specs.Sent.{fte_octets}
+use Rattle.rsn_elements.specs.Transition.{FteFields}
+use Rattle.run_journal.specs.Acts.{Derivation, GroupKey}
+use Rattle.run_journal.specs.Questions.{add}
+use Rattle.run_journal.specs.declared.acts.Act.TheVariants.{Opened, Drew, Derived, Sent, Took, Installed, Resumed, Finished, Closed, Put, Looked, Revoked}
+use Rattle.run_journal.specs.declared.acts.Act.{Act}
+use Rattle.run_journal.specs.declared.acts.Drawn.TheVariants.{Nonce}
+use Rattle.run_journal.specs.declared.acts.Key.TheVariants.{Pairwise, Group}
+use Rattle.run_journal.specs.declared.acts.Kind.TheVariants as kind
+use Rattle.run_journal.specs.declared.acts.Outcome.TheVariants.{Accepted, Answered, Refused}
+use Rattle.run_journal.specs.declared.acts.Part.TheVariants.{Session}
+use Rattle.run_journal.specs.declared.acts.Reason.TheVariants as reason
+use Rattle.run_journal.specs.declared.acts.Seal.{Seal}
+use Rattle.run_journal.specs.declared.acts.Start.TheVariants as start
+use Rattle.run_journal.specs.declared.domain.Domain.{Domain}
+use Rattle.std.proofs.Common.{ℕ, List, [], ◌∷◌, Some, None}
+
+-- the network c with suite 4, station m, and the access points k and l
+abbrev pub mobile : Domain → Domain
+mobile c = record c { akm = FtPsk }
+
+module _ (c : Domain) (k l m : ℕ) where
+  abbrev pub d : Domain
+  d = mobile c
+
+  abbrev pub a : Node
+  a = Ap k
+
+  abbrev pub b : Node
+  b = Ap l
+
+  abbrev pub s : Node
+  s = Sta m
+
+  abbrev pub id : List ℕ
+  id = r0kh_id d a
+
+  abbrev pub root : Root
+  root = root_at d id
+
+  abbrev pub name : List ℕ
+  name = root_name d root s
+
+  -- ---- the association
+
+  abbrev pub snonce : List ℕ
+  snonce = nonce d s 0
+
+  abbrev pub anonce : List ℕ
+  anonce = nonce d a 1
+
+  abbrev pub i : Inputs
+  i = inputs d root s a snonce anonce
+
+  abbrev pub key : Derivation
+  key = record { inputs = i; ptk = ptk i }
+
+  abbrev pub g : GroupKey
+  g = record { key = gtk d a 0; id = 1 }
+
+  abbrev pub fte : List ℕ
+  fte = fte_octets (assoc_fte d a)
+
+  abbrev pub octets1 : List ℕ
+  octets1 = assoc_req_octets (address d a) (address d s) (address d a) (assoc_req_elements d)
+
+  abbrev pub octets2 : List ℕ
+  octets2 = assoc_resp_octets (address d s) (address d a) (address d a) 0 (aid s) (assoc_resp_elements d a)
+
+  abbrev pub octets3 : List ℕ
+  octets3 = in_data d a s (frame_octets (sent_fields M1 d.akm 1 anonce 0 []))
+
+  abbrev pub octets4 : List ℕ
+  octets4 = in_data d s a (m2_frame d (keyed_by i) 1 fte)
+
+  abbrev pub octets5 : List ℕ
+  octets5 = in_data d a s (m3_frame d a (keyed_by i) 2 g 0)
+
+  abbrev pub octets6 : List ℕ
+  octets6 = in_data d s a (m4_frame d (keyed_by i) 2)
+
+  abbrev pub seal4 : Seal
+  seal4 = frame_seal (ptk i).kck (m2_frame d (keyed_by i) 1 fte)
+
+  abbrev pub seal5 : Seal
+  seal5 = frame_seal (ptk i).kck (m3_frame d a (keyed_by i) 2 g 0)
+
+  abbrev pub seal6 : Seal
+  seal6 = frame_seal (ptk i).kck (m4_frame d (keyed_by i) 2)
+
+  abbrev pub acts1 : List Act
+  acts1 = Opened a start.Connect ∷ Drew (Nonce snonce) ∷ sent_assoc_req d s a ∷ []
+
+  abbrev pub acts2 : List Act
+  acts2 = Took (Some s) octets1 kind.AssocReq Accepted None ∷ Opened s start.Connect ∷ Drew (Nonce anonce) ∷ sent_assoc_resp d a s ∷ sent_m1 d a s 1 anonce ∷ []
+
+  abbrev pub acts3 : List Act
+  acts3 = Took (Some a) octets2 kind.AssocResp Accepted None ∷ []
+
+  abbrev pub acts4 : List Act
+  acts4 = Took (Some a) octets3 (kind.Key M1) Accepted None ∷ Derived a i (ptk i) ∷ sent_m2 d s a (keyed_by i) 1 fte ∷ []
+
+  abbrev pub acts5 : List Act
+  acts5 = Took (Some s) octets4 (kind.Key M2) Accepted (Some seal4) ∷ Derived s i (ptk i) ∷ sent_m3 d a s (keyed_by i) 2 g 0 ∷ []
+
+  abbrev pub acts6 : List Act
+  acts6 = Took (Some a) octets5 (kind.Key M3) Accepted (Some seal5) ∷ Installed (One a) (Pairwise (ptk i).tk i) ∷ Installed (One a) (Group g.key g.id (mac d a)) ∷ Finished a i ∷ sent_m4 d s a (keyed_by i) 2 ∷ []
+
+  abbrev pub acts7 : List Act
+  acts7 = Took (Some s) octets6 (kind.Key M4) Accepted (Some seal6) ∷ Installed (One s) (Pairwise (ptk i).tk i) ∷ Finished s i ∷ Put id name s Held ∷ []
+
+  abbrev pub sta1 : List Act
+  sta1 = add acts1 []
+
+  abbrev pub sta3 : List Act
+  sta3 = add acts3 sta1
+
+  abbrev pub sta4 : List Act
+  sta4 = add acts4 sta3
+
+  abbrev pub sta6 : List Act
+  sta6 = add acts6 sta4
+
+  abbrev pub ap0 : List Act
+  ap0 = add (start_acts d 0 a) []
+
+  abbrev pub to0 : List Act
+  to0 = add (start_acts d 0 b) []
+
+  abbrev pub ap2 : List Act
+  ap2 = add acts2 ap0
+
+  abbrev pub ap5 : List Act
+  ap5 = add acts5 ap2
+
+  abbrev pub ap7 : List Act
+  ap7 = add acts7 ap5
+
+  -- the parts of the access point's attempt
+  abbrev pub part2 : List Act
+  part2 = sent_m1 d a s 1 anonce ∷ sent_assoc_resp d a s ∷ Drew (Nonce anonce) ∷ Opened s start.Connect ∷ []
+
+  abbrev pub part5 : List Act
+  part5 = add acts5 part2
+
+  abbrev pub frames7 : List (List ℕ)
+  frames7 = octets6 ∷ octets5 ∷ octets4 ∷ octets3 ∷ octets2 ∷ octets1 ∷ []
+
+  -- ---- the fast transition to access point l
+
+  abbrev pub snonce2 : List ℕ
+  snonce2 = nonce d s 1
+
+  abbrev pub anonce2 : List ℕ
+  anonce2 = nonce d b 1
+
+  abbrev pub r1 : PmkR1
+  r1 = pmk_r1 (pmk_r0 d.psk d.ssid d.mdid id (mac d s)) (mac d b) (mac d s)
+
+  abbrev pub i2 : Inputs
+  i2 = inputs d root s b snonce2 anonce2
+
+  abbrev pub key2 : Derivation
+  key2 = record { inputs = i2; ptk = ptk i2 }
+
+  abbrev pub g2 : GroupKey
+  g2 = record { key = gtk d b 0; id = 1 }
+
+  abbrev pub fte2 : FteFields
+  fte2 = re_resp_fte d b key2 g2 0
+
+  abbrev pub octets7 : List ℕ
+  octets7 = ft_req_octets (address d b) (address d s) (address d b) (ft_req_elements d s root snonce2)
+
+  abbrev pub octets8 : List ℕ
+  octets8 = ft_resp_octets (address d s) (address d b) (address d b) 0 (ft_resp_elements d b name i2)
+
+  abbrev pub octets9 : List ℕ
+  octets9 = re_req_octets (address d b) (address d s) (address d b) (address d a) (re_req_elements d s b key2)
+
+  abbrev pub octets10 : List ℕ
+  octets10 = re_resp_octets (address d s) (address d b) (address d b) 0 (aid s) (re_resp_elements d b s r1.name key2 fte2)
+
+  abbrev pub seal9 : Seal
+  seal9 = fte_seal (ptk i2).kck (re_req_input d s b key2)
+
+  abbrev pub seal10 : Seal
+  seal10 = fte_seal (ptk i2).kck (re_resp_input d b s r1.name key2 fte2)
+
+  abbrev pub acts8 : List Act
+  acts8 = Opened b start.Roam ∷ Drew (Nonce snonce2) ∷ sent_ft_req d s b root snonce2 ∷ []
+
+  abbrev pub acts9 : List Act
+  acts9 = Took (Some s) octets7 kind.FtReq Accepted None ∷ Looked id name s (Found r1) ∷ Opened s start.Roam ∷ Drew (Nonce anonce2) ∷ Derived s i2 (ptk i2) ∷ sent_ft_resp d b s name i2 ∷ []
+
+  abbrev pub acts10 : List Act
+  acts10 = Took (Some b) octets8 kind.FtResp Accepted None ∷ Derived b i2 (ptk i2) ∷ sent_re_req d s b a (keyed_by i2) ∷ []
+
+  abbrev pub acts11 : List Act
+  acts11 = Took (Some s) octets9 kind.ReReq Accepted (Some seal9) ∷ Installed (One s) (Pairwise (ptk i2).tk i2) ∷ Finished s i2 ∷ sent_re_resp d b s r1.name key2 fte2 ∷ []
+
+  abbrev pub acts12 : List Act
+  acts12 = Took (Some s) octets9 kind.ReReq Answered (Some seal9) ∷ Sent (One s) kind.ReResp octets10 (Some seal10) ∷ []
+
+  abbrev pub acts13 : List Act
+  acts13 = Took (Some b) octets10 kind.ReResp Accepted (Some seal10) ∷ Closed a Session ∷ Installed (One b) (Pairwise (ptk i2).tk i2) ∷ Installed (One b) (Group g2.key g2.id (mac d b)) ∷ Finished b i2 ∷ []
+
+  abbrev pub asked2 : List Act
+  asked2 = add acts8 []
+
+  abbrev pub joined2 : List Act
+  joined2 = add acts10 asked2
+
+  abbrev pub part9 : List Act
+  part9 = sent_ft_resp d b s name i2 ∷ Derived s i2 (ptk i2) ∷ Drew (Nonce anonce2) ∷ Opened s start.Roam ∷ []
+
+  abbrev pub sta8 : List Act
+  sta8 = add acts8 sta6
+
+  abbrev pub sta10 : List Act
+  sta10 = add acts10 sta8
+
+  abbrev pub sta13 : List Act
+  sta13 = add acts13 sta10
+
+  abbrev pub to9 : List Act
+  to9 = add acts9 to0
+
+  abbrev pub to11 : List Act
+  to11 = add acts11 to9
+
+  abbrev pub to12 : List Act
+  to12 = add acts12 to11
+
+  abbrev pub frames13 : List (List ℕ)
+  frames13 = octets10 ∷ octets10 ∷ octets9 ∷ octets8 ∷ octets7 ∷ frames7
+
+  -- ---- the way back
+
+  abbrev pub snonce3 : List ℕ
+  snonce3 = nonce d s 2
+
+  abbrev pub anonce3 : List ℕ
+  anonce3 = nonce d a 2
+
+  abbrev pub r1_home : PmkR1
+  r1_home = pmk_r1 (pmk_r0 d.psk d.ssid d.mdid id (mac d s)) (mac d a) (mac d s)
+
+  abbrev pub i3 : Inputs
+  i3 = inputs d root s a snonce3 anonce3
+
+  abbrev pub key3 : Derivation
+  key3 = record { inputs = i3; ptk = ptk i3 }
+
+  abbrev pub fte3 : FteFields
+  fte3 = re_resp_fte d a key3 g 0
+
+  abbrev pub octets14 : List ℕ
+  octets14 = ft_req_octets (address d a) (address d s) (address d a) (ft_req_elements d s root snonce3)
+
+  abbrev pub octets15 : List ℕ
+  octets15 = ft_resp_octets (address d s) (address d a) (address d a) 0 (ft_resp_elements d a name i3)
+
+  abbrev pub octets16 : List ℕ
+  octets16 = re_req_octets (address d a) (address d s) (address d a) (address d b) (re_req_elements d s a key3)
+
+  abbrev pub octets17 : List ℕ
+  octets17 = re_resp_octets (address d s) (address d a) (address d a) 0 (aid s) (re_resp_elements d a s r1_home.name key3 fte3)
+
+  abbrev pub seal16 : Seal
+  seal16 = fte_seal (ptk i3).kck (re_req_input d s a key3)
+
+  abbrev pub seal17 : Seal
+  seal17 = fte_seal (ptk i3).kck (re_resp_input d a s r1_home.name key3 fte3)
+
+  abbrev pub acts18 : List Act
+  acts18 = Opened a start.Roam ∷ Drew (Nonce snonce3) ∷ sent_ft_req d s a root snonce3 ∷ []
+
+  abbrev pub acts19 : List Act
+  acts19 = Took (Some s) octets14 kind.FtReq Accepted None ∷ Looked id name s (Found r1_home) ∷ Opened s start.Roam ∷ Drew (Nonce anonce3) ∷ Derived s i3 (ptk i3) ∷ sent_ft_resp d a s name i3 ∷ []
+
+  abbrev pub acts20 : List Act
+  acts20 = Took (Some a) octets15 kind.FtResp Accepted None ∷ Derived a i3 (ptk i3) ∷ sent_re_req d s a b (keyed_by i3) ∷ []
+
+  abbrev pub acts21 : List Act
+  acts21 = Took (Some s) octets16 kind.ReReq Accepted (Some seal16) ∷ Closed s Session ∷ Installed (One s) (Pairwise (ptk i3).tk i3) ∷ Finished s i3 ∷ sent_re_resp d a s r1_home.name key3 fte3 ∷ []
+
+  abbrev pub acts22 : List Act
+  acts22 = Took (Some a) octets17 kind.ReResp Accepted (Some seal17) ∷ Closed b Session ∷ Installed (One a) (Pairwise (ptk i3).tk i3) ∷ Resumed a (Group g.key g.id (mac d a)) ∷ Finished a i3 ∷ []
+
+  abbrev pub asked3 : List Act
+  asked3 = add acts18 []
+
+  abbrev pub joined3 : List Act
+  joined3 = add acts20 asked3
+
+  abbrev pub part19 : List Act
+  part19 = sent_ft_resp d a s name i3 ∷ Derived s i3 (ptk i3) ∷ Drew (Nonce anonce3) ∷ Opened s start.Roam ∷ []
+
+  abbrev pub ap19 : List Act
+  ap19 = add acts19 ap7
+
+  abbrev pub ap21 : List Act
+  ap21 = add acts21 ap19
+
+  -- ---- the key that is revoked
+
+  abbrev pub snonce4 : List ℕ
+  snonce4 = nonce d s 3
+
+  abbrev pub octets18 : List ℕ
+  octets18 = ft_req_octets (address d b) (address d s) (address d b) (ft_req_elements d s root snonce4)
+
+  abbrev pub acts23 : List Act
+  acts23 = Revoked id name s revoke.Revoked ∷ []
+
+  abbrev pub acts24 : List Act
+  acts24 = Opened b start.Roam ∷ Drew (Nonce snonce4) ∷ sent_ft_req d s b root snonce4 ∷ []
+
+  abbrev pub acts25 : List Act
+  acts25 = Took (Some s) octets18 kind.FtReq (Refused reason.Name) None ∷ Looked id name s Absent ∷ sent_ft_refusal d b s 53 ∷ []
+
+  abbrev pub ap23 : List Act
+  ap23 = add acts23 ap21

@@ -1,0 +1,170 @@
+-- An association with suite 4, a fast transition over the air to another access point and back, and a key that is revoked.
+use Rattle.std.specs.Prelude.{◌≡◌, ◌≢◌, ℕ, ◌<◌, List, [], ◌∷◌, length, Some, None, codes}
+use Rattle.std.specs.List.{AllByRecursion}
+use Rattle.domain_base.specs.Octets.{AreOctets}
+use Rattle.domain_base.specs.declared.names.Akm.TheVariants.{FtPsk}
+use Rattle.domain_base.specs.declared.names.Node.TheVariants.{Ap, Sta}
+use Rattle.domain_base.specs.declared.names.Peer.TheVariants.{One}
+use Rattle.domain_rules.specs.DataExample.{HaveOctets}
+use Rattle.domain_rules.specs.Example.{AreWhole}
+use Rattle.domain_rules.specs.Explained.{WasSent, Explained}
+use Rattle.domain_rules.specs.FastTransition.{root_name}
+use Rattle.domain_rules.specs.HeldRight.{HeldRight}
+use Rattle.domain_rules.specs.Network.{mac, nonce, gtk, r0kh_id, root_at, inputs, InForm}
+use Rattle.key_hierarchy.specs.FastTransition.{pmk_r0, pmk_r1}
+use Rattle.key_hierarchy.specs.Keys.{ptk}
+use Rattle.key_hierarchy.specs.declared.answers.PullAnswer.TheVariants.{Found, Absent}
+use Rattle.key_hierarchy.specs.declared.answers.PutAnswer.TheVariants.{Held}
+use Rattle.key_hierarchy.specs.declared.answers.RevokeAnswer.TheVariants as revoke
+use Rattle.key_hierarchy.specs.declared.fast_transition.PmkR1.{PmkR1}
+use Rattle.key_hierarchy.specs.declared.inputs.Inputs.{Inputs}
+use Rattle.run_journal.specs.Premises.{In}
+use Rattle.run_journal.specs.Questions.{history}
+use Rattle.run_journal.specs.declared.acts.Act.TheVariants.{Closed, Took, Installed, Resumed, Used, HandedUp, Put, Looked, Revoked}
+use Rattle.run_journal.specs.declared.acts.Entry.{Entry}
+use Rattle.run_journal.specs.declared.acts.Key.TheVariants.{Pairwise, Group}
+use Rattle.run_journal.specs.declared.acts.Kind.TheVariants.{FtReq, ReReq}
+use Rattle.run_journal.specs.declared.acts.Outcome.TheVariants.{Answered, Refused}
+use Rattle.run_journal.specs.declared.acts.Part.TheVariants.{Session}
+use Rattle.run_journal.specs.declared.acts.Reason.TheVariants.{Name}
+use Rattle.run_journal.specs.declared.acts.Seal.{Seal}
+use Rattle.run_journal.specs.declared.domain.Domain.{Domain}
+use Rattle.run_journal.specs.declared.domain.Event.TheVariants.{Connect, Roam, Deliver, Send, Revoke}
+use Rattle.run_journal.specs.declared.domain.Event.{Event}
+use Rattle.run_journal.specs.declared.domain.ListedAp.{ListedAp}
+
+-- a mobility domain of two octets, and R0KH-IDs of octets
+pub record IsMobile (d : Domain) : Type 0 where
+  pub mdid : length d.mdid ≡ 2
+  pub mdid_octets : AreOctets d.mdid
+  pub id_octets : AllByRecursion (λ (a : ListedAp). AreOctets a.r0kh_id) d.aps
+
+-- access points k and l and station m of a network in form with suite 4, whose addresses have six octets
+pub record CanRoam (d : Domain) (k l m : ℕ) : Type 0 where
+  pub form : InForm d
+  pub suite : d.akm ≡ FtPsk
+  pub whole : AreWhole d
+  pub octets : HaveOctets d
+  pub mobile : IsMobile d
+  pub first : k < length d.aps
+  pub second : l < length d.aps
+  pub differ : k ≢ l
+  pub station : m < length d.stas
+
+-- PMKR0Name of a station whose first association was at an access point, and its PMK-R1 for an access point
+abbrev pub r0_name_at : Domain → ℕ → ℕ → List ℕ
+r0_name_at d k m = root_name d (root_at d (r0kh_id d (Ap k))) (Sta m)
+
+abbrev pub r1_at : Domain → ℕ → ℕ → ℕ → PmkR1
+r1_at d k m a = pmk_r1 (pmk_r0 d.psk d.ssid d.mdid (r0kh_id d (Ap k)) (mac d (Sta m))) (mac d (Ap a)) (mac d (Sta m))
+
+-- ---- the rounds, the last first
+
+-- station m asks access point k for association, and the messages up to M4 are accepted
+abbrev pub association : ℕ → ℕ → List (List Event)
+association k m =
+    (Deliver 6 (Ap k) ∷ []) ∷ (Deliver 5 (Sta m) ∷ []) ∷ (Deliver 4 (Ap k) ∷ []) ∷ (Deliver 3 (Sta m) ∷ []) ∷ (Deliver 2 (Sta m) ∷ []) ∷ (Deliver 1 (Ap k) ∷ []) ∷ (Connect m k ∷ []) ∷ []
+
+-- then it roams to access point l, where the reassociation request comes twice
+abbrev pub roaming : ℕ → ℕ → ℕ → List (List Event)
+roaming k l m =
+    (Deliver 10 (Sta m) ∷ []) ∷ (Deliver 9 (Ap l) ∷ []) ∷ (Deliver 9 (Ap l) ∷ []) ∷ (Deliver 8 (Sta m) ∷ []) ∷ (Deliver 7 (Ap l) ∷ []) ∷ (Roam m l ∷ []) ∷ association k m
+
+-- then it sends a payload with TID 5, and the access point sends it one
+abbrev pub service : ℕ → ℕ → ℕ → List ℕ → List ℕ → List (List Event)
+service k l m up down =
+    (Deliver 13 (Sta m) ∷ []) ∷ (Send (Ap l) (One (Sta m)) None down ∷ []) ∷ (Deliver 12 (Ap l) ∷ []) ∷ (Send (Sta m) (One (Ap l)) (Some 5) up ∷ []) ∷ roaming k l m
+
+-- then it roams back
+abbrev pub return : ℕ → ℕ → ℕ → List ℕ → List ℕ → List (List Event)
+return k l m up down =
+    (Deliver 17 (Sta m) ∷ []) ∷ (Deliver 16 (Ap k) ∷ []) ∷ (Deliver 15 (Sta m) ∷ []) ∷ (Deliver 14 (Ap k) ∷ []) ∷ (Roam m k ∷ []) ∷ service k l m up down
+
+-- then its key is revoked, and it roams to access point l once more
+abbrev pub revocation : ℕ → ℕ → ℕ → List ℕ → List ℕ → List (List Event)
+revocation k l m up down =
+    (Deliver 18 (Ap l) ∷ []) ∷ (Roam m l ∷ []) ∷ (Revoke k m ∷ []) ∷ return k l m up down
+
+-- ---- journals that they explain
+
+-- both install one pairwise key, the station the group key, and the access point puts the PMK-R0 with its key holder
+pub record HasAssociation (d : Domain) (k m : ℕ) : Type 0 where
+  pub journal : List Entry
+  pub explained : Explained d (association k m) journal
+  pub held : HeldRight d journal
+  pub i : Inputs
+  pub of_first : i ≡ inputs d (root_at d (r0kh_id d (Ap k))) (Sta m) (Ap k) (nonce d (Sta m) 0) (nonce d (Ap k) 1)
+  pub station : In (Installed (One (Ap k)) (Pairwise (ptk i).tk i)) (history (Sta m) journal)
+  pub access_point : In (Installed (One (Sta m)) (Pairwise (ptk i).tk i)) (history (Ap k) journal)
+  pub given : In (Installed (One (Ap k)) (Group (gtk d (Ap k) 0) 1 (mac d (Ap k)))) (history (Sta m) journal)
+  pub put : In (Put (r0kh_id d (Ap k)) (r0_name_at d k m) (Sta m) Held) (history (Ap k) journal)
+
+-- the other access point looks the key up and finds it, both install one pairwise key of it, the station the group key and leaves the
+-- first session, and the repeated request is answered with the octets of the first response: frames 10 and 11
+pub record HasRoaming (d : Domain) (k l m : ℕ) : Type 0 where
+  pub journal : List Entry
+  pub explained : Explained d (roaming k l m) journal
+  pub held : HeldRight d journal
+  pub looked : In (Looked (r0kh_id d (Ap k)) (r0_name_at d k m) (Sta m) (Found (r1_at d k m l))) (history (Ap l) journal)
+  pub i : Inputs
+  pub of_second : i ≡ inputs d (root_at d (r0kh_id d (Ap k))) (Sta m) (Ap l) (nonce d (Sta m) 1) (nonce d (Ap l) 1)
+  pub station : In (Installed (One (Ap l)) (Pairwise (ptk i).tk i)) (history (Sta m) journal)
+  pub access_point : In (Installed (One (Sta m)) (Pairwise (ptk i).tk i)) (history (Ap l) journal)
+  pub given : In (Installed (One (Ap l)) (Group (gtk d (Ap l) 0) 1 (mac d (Ap l)))) (history (Sta m) journal)
+  pub left : In (Closed (Ap k) Session) (history (Sta m) journal)
+  pub request : List ℕ
+  pub seal : Seal
+  pub answered : In (Took (Some (Sta m)) request ReReq Answered (Some seal)) (history (Ap l) journal)
+  pub response : List ℕ
+  pub sent : WasSent journal 14 10 response
+  pub again : WasSent journal 14 11 response
+
+-- each payload is sent under the first packet number of the key and handed up with it
+pub record HasService (d : Domain) (k l m : ℕ) (up down : List ℕ) : Type 0 where
+  pub journal : List Entry
+  pub explained : Explained d (service k l m up down) journal
+  pub held : HeldRight d journal
+  pub i : Inputs
+  pub of_second : i ≡ inputs d (root_at d (r0kh_id d (Ap k))) (Sta m) (Ap l) (nonce d (Sta m) 1) (nonce d (Ap l) 1)
+  pub sent_up : In (Used (One (Ap l)) (ptk i).tk 0 1 up) (history (Sta m) journal)
+  pub taken_up : In (HandedUp (Sta m) (ptk i).tk 0 5 1 up) (history (Ap l) journal)
+  pub sent_down : In (Used (One (Sta m)) (ptk i).tk 0 1 down) (history (Ap l) journal)
+  pub taken_down : In (HandedUp (Ap l) (ptk i).tk 0 0 1 down) (history (Sta m) journal)
+
+-- the first access point finds the key with its own holder, both install a new pairwise key of it, and the station resumes the group key
+pub record HasReturn (d : Domain) (k l m : ℕ) (up down : List ℕ) : Type 0 where
+  pub journal : List Entry
+  pub explained : Explained d (return k l m up down) journal
+  pub held : HeldRight d journal
+  pub looked : In (Looked (r0kh_id d (Ap k)) (r0_name_at d k m) (Sta m) (Found (r1_at d k m k))) (history (Ap k) journal)
+  pub i : Inputs
+  pub of_third : i ≡ inputs d (root_at d (r0kh_id d (Ap k))) (Sta m) (Ap k) (nonce d (Sta m) 2) (nonce d (Ap k) 2)
+  pub station : In (Installed (One (Ap k)) (Pairwise (ptk i).tk i)) (history (Sta m) journal)
+  pub access_point : In (Installed (One (Sta m)) (Pairwise (ptk i).tk i)) (history (Ap k) journal)
+  pub replaced : In (Closed (Sta m) Session) (history (Ap k) journal)
+  pub left : In (Closed (Ap l) Session) (history (Sta m) journal)
+  pub resumed : In (Resumed (Ap k) (Group (gtk d (Ap k) 0) 1 (mac d (Ap k)))) (history (Sta m) journal)
+
+-- the other access point looks the key up, finds it no longer, and refuses the request
+pub record HasRevocation (d : Domain) (k l m : ℕ) (up down : List ℕ) : Type 0 where
+  pub journal : List Entry
+  pub explained : Explained d (revocation k l m up down) journal
+  pub held : HeldRight d journal
+  pub revoked : In (Revoked (r0kh_id d (Ap k)) (r0_name_at d k m) (Sta m) revoke.Revoked) (history (Ap k) journal)
+  pub looked : In (Looked (r0kh_id d (Ap k)) (r0_name_at d k m) (Sta m) Absent) (history (Ap l) journal)
+  pub request : List ℕ
+  pub refused : In (Took (Some (Sta m)) request FtReq (Refused Name) None) (history (Ap l) journal)
+
+-- ---- a small network
+
+-- two access points and one station with suite 4, of any seed, name, pre-shared key and mobility domain
+abbrev pub pair : List ℕ → List ℕ → List ℕ → List ℕ → Domain
+pair seed ssid psk mdid = record {
+  seed = seed;
+  ssid = ssid;
+  psk = psk;
+  akm = FtPsk;
+  mdid = mdid;
+  aps = record { address = record { 0 = 0x02 ∷ 0 ∷ 0 ∷ 0 ∷ 0 ∷ 0x01 ∷ [] }; r0kh_id = codes "r0kh-1" } ∷ record { address = record { 0 = 0x02 ∷ 0 ∷ 0 ∷ 0 ∷ 0 ∷ 0x02 ∷ [] }; r0kh_id = codes "r0kh-2" } ∷ [];
+  stas = record { 0 = 0x02 ∷ 0 ∷ 0 ∷ 0 ∷ 0 ∷ 0x11 ∷ [] } ∷ [];
+}

@@ -1,0 +1,9 @@
+//! Examples of whole networks that inhabit the definitions of what nodes do.
+#![tactic(auto)]
+
+mod laws;
+
+pub use laws::{
+    association_is_explained, return_is_explained, revocation_is_explained, roaming_is_explained,
+    service_is_explained,
+};

@@ -1,0 +1,38 @@
+-- The key data of M2 and M3 as the rules have it.
+use Rattle.std.proofs.Common.{◌≡◌, ◌≢◌, ℕ, List, ◌++◌, Option, Some, None, refl, sym, ap, ◌∙◌}
+use Rattle.domain_base.specs.declared.names.Akm.{Akm}
+use Rattle.domain_base.specs.declared.names.Akm.TheVariants.{FtPsk}
+use Rattle.domain_base.specs.declared.names.Node.{Node}
+use Rattle.rsn_elements.specs.Sent.{rsne_octets, mde_octets, gtk_kde_octets, fte_octets}
+use Rattle.eapol_key.specs.KeyData.{padded}
+use Rattle.run_journal.specs.declared.domain.Domain.{Domain}
+use Rattle.run_journal.specs.Acts.{GroupKey, Derivation}
+use Rattle.domain_rules.specs.FastTransition.{r1_name, assoc_fte}
+use Rattle.domain_rules.specs.Frames.{timeouts, sent_m2_key_data, m3_key_data, m3_key_data_by}
+use Rattle.domain_rules.proofs.SuiteWords.{m2_data_suite, m3_data_suite}
+use Rattle.frame_making.specs.Mobile.{Mobility}
+use Rattle.frame_making.specs.KeyData.{m2_data, m3_data, IsMobility}
+
+-- by its parts
+abbrev mobility_of : List ℕ → List ℕ → List ℕ → Mobility
+mobility_of name mdid fte = record { name = name; mdid = mdid; fte = fte }
+
+pub same_mobility : (m : Mobility) (name mdid fte : List ℕ) → m.name ≡ name → m.mdid ≡ mdid → m.fte ≡ fte → m ≡ record { name = name; mdid = mdid; fte = fte }
+same_mobility m name mdid fte name_is mdid_is fte_is =
+    ap (λ (x : List ℕ). mobility_of x m.mdid m.fte) name_is ∙ ap (λ (x : List ℕ). mobility_of name x m.fte) mdid_is ∙ ap (λ (x : List ℕ). mobility_of name mdid x) fte_is
+
+pub m2_data_is : (d : Domain) (x : Derivation) (fte : List ℕ) (m : Option Mobility) → IsMobility d x.inputs fte m → m2_data d.akm m ≡ sent_m2_key_data d.akm d x fte
+m2_data_is d x fte None other = sym (m2_data_suite d.akm d x fte other)
+m2_data_is d x fte (Some m) is =
+    ap (λ (a : List ℕ). rsne_octets d.akm (Some a) ++ mde_octets m.mdid ++ m.fte) is.1
+    ∙ ap (λ (a : List ℕ). rsne_octets d.akm (Some (r1_name x.inputs)) ++ mde_octets a ++ m.fte) is.2
+    ∙ ap (λ (a : List ℕ). rsne_octets d.akm (Some (r1_name x.inputs)) ++ mde_octets d.mdid ++ a) is.3
+    ∙ sym (ap (λ (akm : Akm). sent_m2_key_data akm d x fte) is.0)
+
+pub m3_data_is : (d : Domain) (n : Node) (x : Derivation) (g : GroupKey) (m : Option Mobility) → IsMobility d x.inputs (fte_octets (assoc_fte d n)) m → padded (m3_data d.akm m g.id g.key) ≡ m3_key_data d n x g
+m3_data_is d n x g None other = sym (m3_data_suite d.akm d n x g other)
+m3_data_is d n x g (Some m) is =
+    ap (λ (a : List ℕ). padded (rsne_octets d.akm (Some a) ++ mde_octets m.mdid ++ gtk_kde_octets g.id g.key ++ m.fte ++ timeouts)) is.1
+    ∙ ap (λ (a : List ℕ). padded (rsne_octets d.akm (Some (r1_name x.inputs)) ++ mde_octets a ++ gtk_kde_octets g.id g.key ++ m.fte ++ timeouts)) is.2
+    ∙ ap (λ (a : List ℕ). padded (rsne_octets d.akm (Some (r1_name x.inputs)) ++ mde_octets d.mdid ++ gtk_kde_octets g.id g.key ++ a ++ timeouts)) is.3
+    ∙ sym (ap (λ (akm : Akm). m3_key_data_by akm d n x g) is.0)

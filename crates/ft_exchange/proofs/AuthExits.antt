@@ -1,0 +1,144 @@
+-- Each way in which an access point takes an authentication request.
+use Rattle.std.proofs.Common.{◌≡◌, ◌∙◌, ℕ, true, List, Option, Some, None, refl, sym, ap, subst, arith}
+use Rattle.std.specs.Prelude.{Result, Ok, Err}
+use Rattle.domain_base.specs.declared.names.Akm.TheVariants.{FtPsk}
+use Rattle.domain_base.specs.declared.names.Mac.{Mac}
+use Rattle.domain_base.specs.declared.names.Node.TheVariants.{Ap, Sta}
+use Rattle.key_hierarchy.specs.declared.answers.PullAnswer.{PullAnswer}
+use Rattle.rsn_elements.specs.Elements.{ElementFields}
+use Rattle.run_journal.specs.declared.domain.Domain.{Domain}
+use Rattle.run_journal.specs.declared.acts.Kind.{Kind}
+use Rattle.run_journal.specs.declared.acts.Kind.TheVariants as kind
+use Rattle.run_journal.specs.declared.acts.Reason.{Reason}
+use Rattle.run_journal.specs.declared.acts.Reason.TheVariants as reason
+use Rattle.run_journal.specs.declared.acts.Outcome.TheVariants.{Accepted, Answered, Refused}
+use Rattle.run_journal.specs.declared.reply.Reply.{Reply}
+use Rattle.run_journal.specs.Replies.{IsEmpty, IsWhole}
+use Rattle.domain_rules.specs.FastTransition.{single}
+use Rattle.domain_rules.specs.Network.{mac}
+use Rattle.domain_rules.specs.Rows.{refused_status}
+use Rattle.domain_rules.specs.TransitionKeys.{Asked, asked}
+use Rattle.ft_exchange.specs.Asking.{is_pending_repeated, unnamed_reason, IsLookedBy, IsLooked}
+use Rattle.ft_exchange.specs.Judged.{request_reason}
+use Rattle.ft_exchange.specs.Refusals.{RefusesAuthBy, RefusesAuth, AnswersPending}
+use Rattle.ft_exchange.specs.Sent.{Sends}
+use Rattle.ft_exchange.specs.State.{TargetState}
+use Rattle.ft_exchange.specs.Stands.{IsPlace}
+use Rattle.ft_exchange.specs.Exchange.{Begins}
+use Rattle.ft_exchange.specs.TargetSteps.{IsAuthTaken, LooksBy}
+use Rattle.ft_exchange.specs.declared.looking.Granted.{Granted}
+use Rattle.ft_exchange.specs.declared.place.Place.{Place}
+use Rattle.ft_exchange.proofs.StationAuths.{quiet_empty}
+use Rattle.ft_exchange.proofs.StationRows.{whole_quiet}
+use Rattle.ft_exchange.proofs.TargetAuths.{ok, Asks, IsKnownBy, auth_other, auth_elements, auth_unnamed, auth_unheld, auth_repeated, auth_granted}
+
+-- ---- what a refusal tells
+
+pub record Tells (old r : Reply) : Type 0 where
+  pub verified : r.verified ≡ old.verified
+  pub derived : r.derived ≡ old.derived
+  pub installed : r.installed ≡ old.installed
+  pub gtk : r.gtk ≡ old.gtk
+  pub looked : r.looked ≡ old.looked
+  pub whole : IsWhole r
+
+whole_none : (r : Reply) → r.len ≡ 0 → r.sealed ≡ None → IsWhole r
+whole_none r len sealed = record { few = omega (arith, len); sealed = λ kck some. (let none : None ≡ Some kck = sym sealed ∙ some in cc) }
+
+pub sends_tell : (octets : List ℕ) (k : Kind) (sealed : Option (List ℕ)) (old r : Reply) → Sends octets k sealed old r → Tells old r
+sends_tell octets k sealed old r s = record { verified = s.verified; derived = s.derived; installed = s.installed; gtk = s.gtk; looked = s.looked; whole = s.frame.whole }
+
+pub same_tells : (old r : Reply) → old.len ≡ 0 → old.sealed ≡ None → r ≡ old → Tells old r
+same_tells old r len sealed same = subst (λ (x : Reply). Tells old x) (sym same) (record { verified = refl; derived = refl; installed = refl; gtk = refl; looked = refl; whole = whole_none old len sealed })
+
+refusal_tells : (w : Place) (o : Option ℕ) (old r : Reply) → old.len ≡ 0 → old.sealed ≡ None → RefusesAuthBy w o old r → Tells old r
+refusal_tells w None old r len sealed same = same_tells old r len sealed same
+refusal_tells w (Some code) old r len sealed sends = sends_tell _ kind.FtResp None old r sends
+
+pub auth_tells : (w : Place) (why : Reason) (old r : Reply) → old.len ≡ 0 → old.sealed ≡ None → RefusesAuth w why old r → Tells old r
+auth_tells w why old r len sealed refuses = refusal_tells w (refused_status why) old r len sealed refuses
+
+-- ---- before a look
+
+pub exit_other : (d : Domain) (a sta : ℕ) (e : ElementFields) (anonce : Option (List ℕ)) (o : Option TargetState) (r : Reply) → (d.akm ≡ FtPsk → ⊥) → IsEmpty r → IsAuthTaken d a sta e anonce o o (Refused reason.Unawaited) r
+exit_other d a sta e anonce o r other empty = auth_other d a sta e anonce o r other (quiet_empty r empty) (whole_quiet None r (quiet_empty r empty))
+
+pub exit_elements : (d : Domain) (a sta : ℕ) (e : ElementFields) (anonce : Option (List ℕ)) (o : Option TargetState) (why : Reason) (w : Place) (old r : Reply) → d.akm ≡ FtPsk → request_reason d.mdid e ≡ Some why → IsPlace d (Ap a) (Sta sta) w → IsEmpty old
+    → RefusesAuth w why old r → IsAuthTaken d a sta e anonce o o (Refused why) r
+exit_elements d a sta e anonce o why w old r suite right at empty refuses =
+    let t : Tells old r = auth_tells w why old r empty.len empty.sealed refuses in
+    auth_elements d a sta e anonce o why w old r suite right at empty.len (t.derived ∙ empty.derived) (t.looked ∙ empty.looked) t.whole refuses
+
+pub exit_repeated : (d : Domain) (a sta : ℕ) (e : ElementFields) (anonce : Option (List ℕ)) (o : Option TargetState) (x : Asked) (old r : Reply) → d.akm ≡ FtPsk → request_reason d.mdid e ≡ None → asked e ≡ Some x → is_pending_repeated x o ≡ true → IsEmpty old
+    → AnswersPending o old r → IsAuthTaken d a sta e anonce o o Answered r
+exit_repeated d a sta e anonce None x old r suite right asks again empty answers = absurd cc
+exit_repeated d a sta e anonce (Some s) x old r suite right asks again empty answers =
+    auth_repeated d a sta e anonce s x r suite right asks again answers.frame (answers.derived ∙ empty.derived) (answers.looked ∙ empty.looked)
+
+-- ---- behind a look
+
+-- what is known of the R0KH-ID by what was answered
+abbrev pub Knowing : Domain → Asked → (List ℕ → PullAnswer → Type 0) → Type 0
+Knowing d x Answers = (name : List ℕ) (answer : PullAnswer) → Answers name answer → IsKnownBy d x.r0kh_id answer
+
+abbrev pub err : Reason → Result Granted Reason
+err why = Err why
+
+same_err : (y z : Reason) → err y ≡ err z → y ≡ z
+same_err y z is = cc
+
+never : (g : Granted) (why : Reason) → ok g ≡ err why → ⊥
+never g why is = cc
+
+pub exit_granted : (d : Domain) (a sta : ℕ) (e : ElementFields) (anonce : Option (List ℕ)) (o : Option TargetState) (x : Asked) (g : Granted) (w : Place) (t : TargetState) (Answers : List ℕ → PullAnswer → Type 0) (Same : Type 0) (old mid r : Reply) → Asks d e o x
+    → IsLooked d x anonce Answers Same old mid (Ok g) → Knowing d x Answers → IsPlace d (Ap a) (Sta sta) w → Begins w x g t mid r → IsAuthTaken d a sta e anonce o (Some t) Accepted r
+exit_granted d a sta e anonce o x g w t Answers Same old mid r k looked knows at begins = by (single x.names) refl looked.by_name
+  where
+    by : (n : Option (List ℕ)) → single x.names ≡ n → IsLookedBy d x anonce Answers Same old mid n (Ok g) → IsAuthTaken d a sta e anonce o (Some t) Accepted r
+    by None is u = absurd (never g (unnamed_reason d x.r0kh_id) u.is)
+    by (Some name) is i = auth_granted d a sta e anonce o x name i.answer g w t mid r k is (knows name i.answer i.answered) (sym i.is) at (ap (λ (z : Reply). z.looked) i.reply) begins
+
+pub exit_refused : (d : Domain) (a sta : ℕ) (e : ElementFields) (anonce : Option (List ℕ)) (o : Option TargetState) (x : Asked) (why : Reason) (w : Place) (Answers : List ℕ → PullAnswer → Type 0) (Same : Type 0) (old mid r : Reply) → Asks d e o x → IsEmpty old
+    → IsLooked d x anonce Answers Same old mid (Err why) → Knowing d x Answers → IsPlace d (Ap a) (Sta sta) w → RefusesAuth w why mid r → IsAuthTaken d a sta e anonce o o (Refused why) r
+exit_refused d a sta e anonce o x why w Answers Same old mid r k empty looked knows at refuses = by (single x.names) refl looked.by_name
+  where
+    by : (n : Option (List ℕ)) → single x.names ≡ n → IsLookedBy d x anonce Answers Same old mid n (Err why) → IsAuthTaken d a sta e anonce o o (Refused why) r
+    by None is u =
+        let len : mid.len ≡ 0 = ap (λ (z : Reply). z.len) u.reply ∙ empty.len in
+        let t : Tells mid r = auth_tells w why mid r len (ap (λ (z : Reply). z.sealed) u.reply ∙ empty.sealed) refuses in
+        let why_is : why ≡ unnamed_reason d x.r0kh_id = same_err why (unnamed_reason d x.r0kh_id) u.is in
+        subst (λ (y : Reason). IsAuthTaken d a sta e anonce o o (Refused y) r) (sym why_is)
+        (auth_unnamed d a sta e anonce o x w mid r k is at len (t.derived ∙ ap (λ (z : Reply). z.derived) u.reply ∙ empty.derived) (t.looked ∙ ap (λ (z : Reply). z.looked) u.reply ∙ empty.looked) t.whole
+        (subst (λ (y : Reason). RefusesAuth w y mid r) why_is refuses))
+    by (Some name) is i =
+        let len : mid.len ≡ 0 = ap (λ (z : Reply). z.len) i.reply ∙ empty.len in
+        let t : Tells mid r = auth_tells w why mid r len (ap (λ (z : Reply). z.sealed) i.reply ∙ empty.sealed) refuses in
+        auth_unheld d a sta e anonce o x name i.answer why w mid r k is (knows name i.answer i.answered) (sym i.is) at len (t.derived ∙ ap (λ (z : Reply). z.derived) i.reply ∙ empty.derived)
+        (t.looked ∙ ap (λ (z : Reply). z.looked) i.reply) t.whole refuses
+
+-- ---- what is told of a look
+
+pub exit_looks : (d : Domain) (a sta : ℕ) (e : ElementFields) (anonce : Option (List ℕ)) (x : Asked) (w : Place) (P : List ℕ → Mac → Mac → List ℕ → PullAnswer → Type 0) (Same : Type 0) (old mid r : Reply) (result : Result Granted Reason) → IsPlace d (Ap a) (Sta sta) w
+    → asked e ≡ Some x → IsEmpty old → IsLooked d x anonce (λ name answer. P x.r0kh_id w.own w.peer name answer) Same old mid result → r.looked ≡ mid.looked
+    → LooksBy e (λ id name answer. P id (mac d (Ap a)) (mac d (Sta sta)) name answer) Same r.looked
+exit_looks d a sta e anonce x w P Same old mid r result at asks empty looked told = by (single x.names) refl looked.by_name
+  where
+    by : (n : Option (List ℕ)) → single x.names ≡ n → IsLookedBy d x anonce (λ name answer. P x.r0kh_id w.own w.peer name answer) Same old mid n result
+        → LooksBy e (λ id name answer. P id (mac d (Ap a)) (mac d (Sta sta)) name answer) Same r.looked
+    by None is u = subst (λ (z : Option PullAnswer). LooksBy e (λ id name answer. P id (mac d (Ap a)) (mac d (Sta sta)) name answer) Same z) (sym (told ∙ ap (λ (z : Reply). z.looked) u.reply ∙ empty.looked)) u.same
+    by (Some name) is i =
+        subst (λ (z : Option PullAnswer). LooksBy e (λ id name answer. P id (mac d (Ap a)) (mac d (Sta sta)) name answer) Same z) (sym (told ∙ ap (λ (z : Reply). z.looked) i.reply)) (record {
+          a = x;
+          asks = asks;
+          name = name;
+          named = is;
+          answered = subst (λ (m : Mac). P x.r0kh_id m (mac d (Sta sta)) name i.answer) at.own (subst (λ (m : Mac). P x.r0kh_id w.own m name i.answer) at.peer i.answered);
+        })
+
+-- ---- nothing was looked up
+
+pub looks_none : (e : ElementFields) (A : List ℕ → List ℕ → PullAnswer → Type 0) (Same : Type 0) (z : Option PullAnswer) → z ≡ None → Same → LooksBy e A Same z
+looks_none e A Same z none same = subst (λ (y : Option PullAnswer). LooksBy e A Same y) (sym none) same
+
+pub looks_refused : (e : ElementFields) (A : List ℕ → List ℕ → PullAnswer → Type 0) (Same : Type 0) (w : Place) (why : Reason) (old r : Reply) → IsEmpty old → RefusesAuth w why old r → Same → LooksBy e A Same r.looked
+looks_refused e A Same w why old r empty refuses same = looks_none e A Same r.looked ((auth_tells w why old r empty.len empty.sealed refuses).looked ∙ empty.looked) same

@@ -1,0 +1,14 @@
+pub mod Elements
+pub mod Sent
+pub mod Tried
+pub mod Group
+pub mod Judged
+pub mod State
+pub mod Told
+pub mod Stands
+pub mod Asking
+pub mod Refusals
+pub mod Exchange
+pub mod Comes
+pub mod OriginatorSteps
+pub mod TargetSteps

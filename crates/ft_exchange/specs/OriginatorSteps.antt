@@ -1,0 +1,84 @@
+-- What a roam and the frames of an access point do, after every history that the originator stands for (this project's choice).
+use Rattle.std.specs.Prelude.{◌≡◌, ℕ, false, List, [], ◌∷◌, Some, None}
+use Rattle.domain_base.specs.declared.names.Node.{Node}
+use Rattle.domain_base.specs.declared.names.Node.TheVariants.{Ap, Sta}
+use Rattle.rsn_elements.specs.Elements.{ElementFields}
+use Rattle.run_journal.specs.declared.domain.Domain.{Domain}
+use Rattle.run_journal.specs.declared.acts.Kind.TheVariants as kind
+use Rattle.run_journal.specs.declared.acts.Reason.{Reason}
+use Rattle.run_journal.specs.declared.acts.Outcome.{Outcome}
+use Rattle.run_journal.specs.declared.acts.Outcome.TheVariants.{Refused}
+use Rattle.run_journal.specs.declared.acts.Act.{Act}
+use Rattle.run_journal.specs.declared.reply.Reply.{Reply}
+use Rattle.run_journal.specs.Replies.{IsWhole}
+use Rattle.run_journal.specs.Questions.{attempt, own_nonce, associated, add}
+use Rattle.run_journal.specs.Holders.{last_r0kh_id}
+use Rattle.domain_rules.specs.Network.{root_at}
+use Rattle.domain_rules.specs.Here.{Here, here}
+use Rattle.domain_rules.specs.Reading.{Management}
+use Rattle.domain_rules.specs.Asking.{by_connect, has_heard}
+use Rattle.domain_rules.specs.Rows.{TakeRow}
+use Rattle.domain_rules.specs.TransitionFrames.{sent_ft_req}
+use Rattle.group_key.specs.Holds.{Remembers}
+use Rattle.ft_exchange.specs.Comes.{IsManagementFrom}
+use Rattle.ft_exchange.specs.Exchange.{Both, IsQuiet}
+use Rattle.ft_exchange.specs.State.{OriginatorState}
+use Rattle.ft_exchange.specs.Stands.{OriginatorStands}
+use Rattle.ft_exchange.specs.Told.{came, transition_sent, auth_response_acts, reassoc_response_acts}
+
+-- an attempt with p began by fast transition, from the session with q, in which that nonce was drawn and nothing was heard
+pub record IsRoaming (p q : Node) (id snonce : List ℕ) (h : List Act) : Type 0 where
+  pub from : associated h ≡ Some q
+  pub r0kh_id : last_r0kh_id h ≡ id
+  pub part : List Act
+  pub is : attempt p h ≡ Some part
+  pub begun : by_connect part ≡ false
+  pub nonce : own_nonce part ≡ Some snonce
+  pub hears : has_heard p kind.FtResp part ≡ false
+
+-- the reply has the authentication request and nothing else, and the originator stands for the history with it
+pub record IsBegun (d : Domain) (n p q : Node) (id snonce : List ℕ) (s : OriginatorState) (r : Reply) : Type 0 where
+  pub sends : transition_sent d n p r ≡ sent_ft_req d n p (root_at d id) snonce ∷ []
+  pub stands : (h : List Act) → IsRoaming p q id snonce h → OriginatorStands d n p s (sent_ft_req d n p (root_at d id) snonce ∷ h)
+  pub whole : IsWhole r
+  pub verified : r.verified ≡ None
+  pub derived : r.derived ≡ None
+  pub installed : r.installed ≡ None
+  pub gtk : r.gtk ≡ None
+
+-- Behind the history h, these acts are what the octet string adds, and the originator then stands for the longer history.
+pub record Steps (w : Here) (p : Node) (octets : List ℕ) (acts : List Act) (new : OriginatorState) (h : List Act) : Type 0 where
+  pub adds : TakeRow w h octets acts
+  pub stands : OriginatorStands w.domain w.node p new (add acts h)
+
+-- an authentication response of that status takes the originator from old to new
+abbrev pub AuthStepsFrom : ℕ → ElementFields → OriginatorState → OriginatorState → Outcome → Reply → Type 0
+AuthStepsFrom status e old new outcome r =
+    (d : Domain) (first sta ap : ℕ) (octets : List ℕ) (b : Management) (h : List Act)
+    → OriginatorStands d (Sta sta) (Ap ap) old h → IsManagementFrom d (Sta sta) (Ap ap) octets b e
+    → b.kind ≡ kind.FtResp → b.status ≡ status
+    → Steps (here d first (Sta sta)) (Ap ap) octets (auth_response_acts d (root_at d old.r0kh_id) (Sta sta) (Ap ap) (came octets e outcome) r) new h
+
+-- a refusal changes nothing, and nothing answers it
+pub record IsAuthTaken (status : ℕ) (e : ElementFields) (old new : OriginatorState) (outcome : Outcome) (r : Reply) : Type 0 where
+  pub steps : AuthStepsFrom status e old new outcome r
+  pub refused : (why : Reason) → outcome ≡ Refused why → (new ≡ old) × IsQuiet None r
+  pub whole : IsWhole r
+
+-- and the memory for the group keys of that access point
+pub record BothStep (w : Here) (p : Node) (octets : List ℕ) (acts : List Act) (new : Both) (h : List Act) : Type 0 where
+  pub step : Steps w p octets acts new.part h
+  pub remembers : Remembers p new.keys (add acts h)
+
+abbrev pub ReassocStepsFrom : ℕ → ElementFields → Both → Both → Outcome → Reply → Type 0
+ReassocStepsFrom status e old new outcome r =
+    (d : Domain) (first sta ap : ℕ) (octets : List ℕ) (b : Management) (h : List Act)
+    → OriginatorStands d (Sta sta) (Ap ap) old.part h → Remembers (Ap ap) old.keys h → IsManagementFrom d (Sta sta) (Ap ap) octets b e
+    → b.kind ≡ kind.ReResp → b.status ≡ status
+    → BothStep (here d first (Sta sta)) (Ap ap) octets
+    (reassoc_response_acts d (root_at d old.part.r0kh_id) (Sta sta) (Ap ap) (associated h) (came octets e outcome) r) new h
+
+pub record IsReassocTaken (status : ℕ) (e : ElementFields) (old new : Both) (outcome : Outcome) (r : Reply) : Type 0 where
+  pub steps : ReassocStepsFrom status e old new outcome r
+  pub refused : (why : Reason) → outcome ≡ Refused why → (new ≡ old) × (r.len ≡ 0) × (r.installed ≡ None)
+  pub whole : IsWhole r

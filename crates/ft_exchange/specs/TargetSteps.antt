@@ -1,0 +1,100 @@
+-- What the frames of a station do, after every history that the target stands for (this project's choice).
+use Rattle.std.specs.Prelude.{◌≡◌, ℕ, Bool, true, false, List, [], Option, Some, None, is_some}
+use Rattle.domain_base.specs.declared.names.Node.{Node}
+use Rattle.domain_base.specs.declared.names.Node.TheVariants.{Ap, Sta}
+use Rattle.key_hierarchy.specs.declared.answers.PullAnswer.{PullAnswer}
+use Rattle.rsn_elements.specs.Elements.{ElementFields}
+use Rattle.run_journal.specs.declared.domain.Domain.{Domain}
+use Rattle.run_journal.specs.declared.acts.Kind.TheVariants as kind
+use Rattle.run_journal.specs.declared.acts.Reason.{Reason}
+use Rattle.run_journal.specs.declared.acts.Outcome.{Outcome}
+use Rattle.run_journal.specs.declared.acts.Outcome.TheVariants.{Refused}
+use Rattle.run_journal.specs.declared.acts.Act.{Act}
+use Rattle.run_journal.specs.declared.reply.Reply.{Reply}
+use Rattle.run_journal.specs.GroupKinds as groups
+use Rattle.run_journal.specs.Replies.{IsWhole}
+use Rattle.run_journal.specs.Questions.{attempt, session, group_keys, add}
+use Rattle.domain_rules.specs.Network.{Root, root_at}
+use Rattle.domain_rules.specs.FastTransition.{single}
+use Rattle.domain_rules.specs.GroupKeys.{newest_uses}
+use Rattle.domain_rules.specs.Here.{Here, here}
+use Rattle.domain_rules.specs.Reading.{Management}
+use Rattle.domain_rules.specs.Rows.{TakeRow}
+use Rattle.domain_rules.specs.TransitionKeys.{Asked, asked, Judged, judged}
+use Rattle.group_key.specs.declared.keys.GroupKey.{GroupKey}
+use Rattle.group_key.specs.Holds.{IsLast}
+use Rattle.ft_exchange.specs.Asking.{IsDrawn}
+use Rattle.ft_exchange.specs.Comes.{IsManagementFrom}
+use Rattle.ft_exchange.specs.State.{TargetState}
+use Rattle.ft_exchange.specs.Stands.{transition_of, TargetStands, PendingStands}
+use Rattle.ft_exchange.specs.Told.{came, auth_request_acts, reassoc_request_acts}
+use Rattle.ft_exchange.specs.Tried.{is_with}
+
+-- ---- authentication request
+
+-- what the keys go back to of which a request asks
+abbrev pub root_asked : Domain → Option Asked → Root
+root_asked d None = root_at d []
+root_asked d (Some a) = root_at d a.r0kh_id
+
+pub record AuthSteps (w : Here) (p : Node) (octets : List ℕ) (acts : List Act) (new : Option TargetState) (h : List Act) : Type 0 where
+  pub adds : TakeRow w h octets acts
+  pub stands : PendingStands w.domain w.node p new (add acts h)
+
+-- an authentication request takes the pending target from old to new, at an access point that draws that nonce next, if any
+abbrev pub AuthStepsFrom : Domain → ℕ → ℕ → ElementFields → Option (List ℕ) → Option TargetState → Option TargetState → Outcome → Reply → Type 0
+AuthStepsFrom d ap sta e anonce old new outcome r =
+    (first : ℕ) (octets : List ℕ) (b : Management) (h : List Act)
+    → PendingStands d (Ap ap) (Sta sta) old h → IsManagementFrom d (Ap ap) (Sta sta) octets b e
+    → b.kind ≡ kind.FtReq → IsDrawn d first (Ap ap) h anonce
+    → AuthSteps (here d first (Ap ap)) (Sta sta) octets
+    (auth_request_acts d (root_asked d (asked e)) (Ap ap) (Sta sta) (attempt (Sta sta) h) (came octets e outcome) r) new h
+
+pub record IsAuthTaken (d : Domain) (ap sta : ℕ) (e : ElementFields) (anonce : Option (List ℕ)) (old new : Option TargetState)
+    (outcome : Outcome) (r : Reply) : Type 0 where
+  pub steps : AuthStepsFrom d ap sta e anonce old new outcome r
+  pub refused : (why : Reason) → outcome ≡ Refused why → new ≡ old
+  pub whole : IsWhole r
+
+-- what was asked of key holders, and what they answered: the R0KH-ID and the one name that the request asks for
+pub record IsLook (e : ElementFields) (Answered : List ℕ → List ℕ → PullAnswer → Type 0) (answer : PullAnswer) : Type 0 where
+  pub a : Asked
+  pub asks : asked e ≡ Some a
+  pub name : List ℕ
+  pub named : single a.names ≡ Some name
+  pub answered : Answered a.r0kh_id name answer
+
+-- nothing was asked of them, and all is as it was; or one thing was
+abbrev pub LooksBy : ElementFields → (List ℕ → List ℕ → PullAnswer → Type 0) → Type 0 → Option PullAnswer → Type 0
+LooksBy e Answered Same None = Same
+LooksBy e Answered Same (Some answer) = IsLook e Answered answer
+
+-- ---- reassociation request
+
+-- the target by which a request is judged, where its FTE has the nonces of that; with other nonces, or without an FTE, it is judged by none
+abbrev pub judged_by : Domain → Node → Node → TargetState → Bool → Option Judged
+judged_by d n p s true = Some (record { by_ = transition_of d n p s; is_session = s.is_installed })
+judged_by d n p s false = None
+
+-- the target is the one that is meant, if one is
+pub record IsChosen (d : Domain) (n p : Node) (s : TargetState) (e : ElementFields) (h : List Act) : Type 0 where
+  pub stands : TargetStands d n p s h
+  pub by_this : judged p h e ≡ judged_by d n p s (is_with e s.key)
+
+pub record ReassocSteps (w : Here) (p : Node) (octets : List ℕ) (acts : List Act) (new : TargetState) (h : List Act) : Type 0 where
+  pub adds : TakeRow w h octets acts
+  pub stands : TargetStands w.domain w.node p new (add acts h)
+
+-- a reassociation request takes the target from old to new, at an access point that has that newest group key
+abbrev pub ReassocStepsFrom : ElementFields → GroupKey → ℕ → TargetState → TargetState → Outcome → Reply → Type 0
+ReassocStepsFrom e newest rsc old new outcome r =
+    (d : Domain) (first ap sta : ℕ) (octets : List ℕ) (b : Management) (h : List Act)
+    → IsChosen d (Ap ap) (Sta sta) old e h → IsManagementFrom d (Ap ap) (Sta sta) octets b e
+    → b.kind ≡ kind.ReReq → IsLast newest (group_keys groups.Gtk h) → newest_uses groups.Gtk h ≡ rsc
+    → ReassocSteps (here d first (Ap ap)) (Sta sta) octets
+    (reassoc_request_acts d (root_at d old.r0kh_id) (Ap ap) (Sta sta) (is_some (session (Sta sta) h)) (came octets e outcome) r) new h
+
+pub record IsReassocTaken (e : ElementFields) (newest : GroupKey) (rsc : ℕ) (old new : TargetState) (outcome : Outcome) (r : Reply) : Type 0 where
+  pub steps : ReassocStepsFrom e newest rsc old new outcome r
+  pub refused : (why : Reason) → outcome ≡ Refused why → (new ≡ old) × (r.installed ≡ None)
+  pub whole : IsWhole r

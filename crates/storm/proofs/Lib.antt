@@ -1,0 +1,3 @@
+pub mod Seeing
+pub mod Octets
+pub mod Listed

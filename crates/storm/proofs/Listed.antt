@@ -1,0 +1,29 @@
+-- The nodes of a storm listed one after the other.
+use Rattle.std.proofs.Common.{◌≡◌, ℕ, ◌+◌, List, [], ◌∷◌, ◌++◌, refl, ap, ◌∙◌, add-one}
+use Rattle.domain_base.specs.declared.names.Mac.{Mac}
+use Rattle.run_journal.specs.declared.domain.ListedAp.{ListedAp}
+use Rattle.storm.specs.Header.{ap_of, aps_to, sta_of, stas_to}
+
+pub aps-none : [] ≡ aps_to 0
+unfolding aps_to
+aps-none = refl
+
+aps-suc : (n : ℕ) → aps_to n ++ ap_of (n + 1) ∷ [] ≡ aps_to (n + 1)
+unfolding aps_to
+aps-suc n = rw add-one refl
+
+pub aps-more : (n : ℕ) (aps more : List ListedAp) → aps ≡ aps_to n → more ≡ aps ++ ap_of (n + 1) ∷ [] → more ≡ aps_to (n + 1)
+aps-more n aps more is grown = grown ∙ ap (λ (xs : List ListedAp). xs ++ ap_of (n + 1) ∷ []) is ∙ aps-suc n
+
+pub stas-none : [] ≡ stas_to 0
+unfolding stas_to
+stas-none = refl
+
+stas-suc : (n : ℕ) → stas_to n ++ sta_of (n + 1) ∷ [] ≡ stas_to (n + 1)
+unfolding stas_to
+stas-suc n = rw add-one refl
+
+pub stas-more : (n : ℕ) (stas more : List Mac) → stas ≡ stas_to n → more ≡ stas ++ sta_of (n + 1) ∷ [] → more ≡ stas_to (n + 1)
+stas-more n stas more is grown = grown ∙ ap (λ (xs : List Mac). xs ++ sta_of (n + 1) ∷ []) is ∙ stas-suc n
+
+pub ruleset listing = (aps-none, aps-more, stas-none, stas-more)

@@ -1,0 +1,5 @@
+pub mod Drawing
+pub mod Frames
+pub mod Events
+pub mod Header
+pub mod Course

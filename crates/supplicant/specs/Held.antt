@@ -1,0 +1,26 @@
+-- What a session has (this project's choice).
+use Rattle.std.specs.Prelude.{ℕ, Option, Some, None}
+use Rattle.key_hierarchy.specs.declared.inputs.Ptk.{Ptk}
+use Rattle.run_journal.specs.declared.reply.Keyed.{Keyed}
+use Rattle.supplicant.specs.declared.session.Session.{Session}
+use Rattle.supplicant.specs.declared.session.Session.TheVariants.{Connect, Ft}
+
+-- its key
+abbrev pub ptk_of : Session → Ptk
+ptk_of (Connect key counter) = key.ptk
+ptk_of (Ft ptk counter) = ptk
+
+-- the replay counter that is kept, where one is
+abbrev pub kept_of : Session → Option ℕ
+kept_of (Connect key counter) = Some counter
+kept_of (Ft ptk counter) = counter
+
+-- with that replay counter
+abbrev pub counted : ℕ → Session → Session
+counted counter (Connect key was) = Connect key counter
+counted counter (Ft ptk was) = Ft ptk (Some counter)
+
+-- the key with its nonces, in a session of a four-way handshake
+abbrev pub key_in : Session → Option Keyed
+key_in (Connect key counter) = Some key
+key_in (Ft ptk counter) = None
