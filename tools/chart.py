@@ -6,7 +6,8 @@
 
 A lane for each node, and a row for each event of the script, from the top. An arrow is a frame that came: solid as it was sent, in
 another colour where it came again, was altered or cut, or was injected from outside. A dotted arrow is a frame that never came. At the
-receiver stands what came of it; bars beside a lane are attempts and sessions, a diamond is a key that was installed.
+receiver stands what came of it; bars beside a lane are attempts and sessions, a diamond is a key that was installed. The events of a round
+stand between rows for its two lines, by access point, as in the report; they happen side by side.
 
 It needs Python's library alone. It knows the report lines of what is built, and ends with status 1 and the line where script and
 report do not fit together. docs/PROFILE.md has the grammar of both.
@@ -23,11 +24,27 @@ AFTER_TAKING = {
     ("m2", "accepted"): ["sent"],
     ("m3", "accepted"): ["install", "install|resume", "finish", "sent"],
     ("m3", "answered"): ["sent"],
-    ("m4", "accepted"): ["[close]", "install", "finish"],
+    ("m4", "accepted"): ["[close]", "install", "finish", "[put]"],
     ("g1", "accepted"): ["install|resume", "sent"],
     ("data", "accepted"): ["up"],
+    ("ft-req", "accepted"): ["look", "[close]", "open", "sent"],
+    ("ft-req", "answered"): ["sent"],
+    ("ft-req", "status"): ["sent"],
+    ("ft-req", "no-holder"): ["[look]", "sent"],
+    ("ft-req", "name"): ["[look]", "sent"],
+    ("ft-req", "spent"): ["look"],
+    ("ft-resp", "accepted"): ["sent"],
+    ("re-req", "accepted"): ["[close]", "install", "finish", "sent"],
+    ("re-req", "answered"): ["sent"],
+    ("re-req", "status"): ["sent"],
+    ("re-req", "name"): ["sent"],
+    ("re-resp", "accepted"): ["close", "install", "install|resume", "finish"],
 }
 CONNECT = ["[close]", "[close]", "open", "sent"]
+ROAM = ["[close]", "open", "sent"]
+AT_A_NODE = ("connect", "roam", "retry", "rekey", "send", "expire", "revoke", "leave")
+WITH_A_FRAME = ("deliver", "alter", "cut", "inject")
+BORDERS = ("round", "end")
 SUMMARY = ("end", "keys", "premises")
 
 
@@ -36,10 +53,13 @@ class Mismatch(Exception):
 
 
 class Event:
-    """An event of the script, or the start of an access point, with the report lines that came of it."""
+    """An event of the script, a line that begins or ends a round, or the start of an access point, with the report lines that came of it."""
 
     def __init__(self, line, words):
         self.line, self.words, self.acts = line, words, []
+
+    def is_border(self):
+        return self.words[0] in BORDERS
 
     def text(self):
         words = list(self.words)
@@ -60,8 +80,8 @@ def shortened(digits, most):
 
 
 def events_of(script):
-    """The events of a script, in order, and the nodes that it lists."""
-    events, nodes = [], {"ap": 0, "sta": 0}
+    """The events of a script, in the order of their report lines, and the nodes that it lists. A round that is left open is not run."""
+    events, nodes, begun = [], {"ap": 0, "sta": 0}, None
     for line, text in enumerate(script.split("\n"), 1):
         words = text.split(" ")
         if text == "" or text.startswith("#") or line == 1:
@@ -70,8 +90,15 @@ def events_of(script):
             nodes[words[0]] += 1
             if words[0] == "ap":
                 events.append(Event(line, ["start", "a%d" % nodes["ap"]]))
-        elif words[0] in ("connect", "deliver", "alter", "cut", "inject", "retry", "rekey", "send", "expire", "revoke", "leave"):
+        elif words[0] in AT_A_NODE + WITH_A_FRAME + BORDERS:
+            if words[0] == "end" and begun is not None:
+                events[begun:] = sorted(events[begun:], key=place_of)
+                begun = None
             events.append(Event(line, words))
+            if words[0] == "round":
+                begun = len(events)
+    if begun is not None:
+        del events[begun - 1:]
     listed = ["s%d" % (n + 1) for n in range(nodes["sta"])] + ["a%d" % (n + 1) for n in range(nodes["ap"])]
     return events, listed
 
@@ -81,10 +108,12 @@ def awaited(event, acts):
     word = event.words[0]
     if word == "start":
         return ["install"]
+    if word in BORDERS:
+        return []
     if acts[0][0] == "idle":
         return ["idle"]
-    if word == "connect":
-        return CONNECT
+    if word in ("connect", "roam"):
+        return CONNECT if word == "connect" else ROAM
     if word == "send":
         return ["used", "sent"]
     if word == "retry":
@@ -96,7 +125,8 @@ def awaited(event, acts):
     if word in ("expire", "leave"):
         ends = [act[:1] + act[1:2] + act[3:] for act in acts[:2]]
         both = [["close", event.words[1], part] for part in ("attempt", "session")]
-        return ["close", "close"] if ends == both and acts[0][2] == acts[1][2] else ["close"]
+        # A station that roams has its attempt and its session with different access points.
+        return ["close", "close"] if ends == both and (word == "leave" or acts[0][2] == acts[1][2]) else ["close"]
     if acts[0][0] != "took":
         raise Mismatch("a frame comes, and the report has `%s`" % " ".join(acts[0]))
     outcome = acts[0][4] if acts[0][3] == "refused" else acts[0][3]
@@ -136,10 +166,11 @@ class GroupKeys:
     def behind(self, event, lines):
         """The lines that come of the event behind those that are awaited of it: message 1 of the group-key handshake, where message 3
         carried an older group key, and the newest group key, where it comes into use."""
-        node, last, taken = node_of(event), event.acts[-1], []
-        if event.took() and event.took()[1] == "m4" and last[0] == "finish" and self.carried[node, last[2]] < self.drawn[node]:
+        node, taken = node_of(event), []
+        done = [act[2] for act in event.acts if act[0] == "finish"]
+        if event.took() and event.took()[1] == "m4" and done and self.carried[node, done[0]] < self.drawn[node]:
             taken = lines[:1]
-            if not taken or taken[0][0] != "sent" or taken[0][2:5] != [node, last[2], "g1"]:
+            if not taken or taken[0][0] != "sent" or taken[0][2:5] != [node, done[0], "g1"]:
                 raise Mismatch("script line %d (%s): awaited `sent` with g1" % (event.line, event.text()))
         rest = lines[len(taken):]
         if node in self.pending and rest and rest[0][:3] == ["install", node, "all"]:
@@ -148,8 +179,16 @@ class GroupKeys:
 
 
 def node_of(event):
-    """The node whose report lines come of the event."""
-    return event.words[1] if event.words[0] in ("start", "connect", "retry", "rekey", "send", "expire", "revoke", "leave") else node_at(event)
+    """The node whose report lines come of the event; none for a line that begins or ends a round."""
+    if event.is_border():
+        return None
+    return event.words[1] if event.words[0] in ("start",) + AT_A_NODE else node_at(event)
+
+
+def place_of(event):
+    """The place of an event of a round: that of its access point. Where a line of it is faulty the round is not run, and has no lines."""
+    number = node_of(event)[1:] if len(event.words) > 1 else ""
+    return int(number) if number.isdigit() else 0
 
 
 def node_at(event):
@@ -165,8 +204,9 @@ def pair(script, report):
     events, listed = events_of(script)
     lines = [line.split(" ") for line in report.splitlines()]
     place, keys = 0, GroupKeys()
-    for event in events:
-        if place == len(lines) or lines[place][0] in SUMMARY:
+    for number, event in enumerate(events):
+        if place == len(lines) or lines[place][0] in SUMMARY and not event.is_border():
+            del events[number:]
             break
         for word in awaited(event, lines[place:]):
             optional, words = word.startswith("["), word.strip("[]").split("|")
@@ -177,6 +217,8 @@ def pair(script, report):
             elif not optional:
                 raise Mismatch("script line %d (%s): awaited `%s`, the report has `%s` at line %d" % (
                     event.line, event.text(), word, " ".join(act), place + 1))
+        if event.is_border():
+            continue
         more = keys.behind(event, lines[place:])
         event.acts += more
         place += len(more)
@@ -210,7 +252,6 @@ class Chart:
 
     def __init__(self, script, report):
         self.events, listed, self.summary = pair(script, report)
-        self.events = [event for event in self.events if event.acts]
         self.frames, self.arrows, self.bars, seen = {}, [], [], set()
         self.keys = []
         for row, event in enumerate(self.events):
@@ -291,8 +332,10 @@ class Chart:
                 told.append("hands up %s" % shortened(act[6], 16))
             elif act[0] == "close":
                 told.append("%s with %s ends" % (act[3], act[2]))
-            elif act[0] == "revoke":
-                told.append("key of %s %s" % (act[2], act[3]))
+            elif act[0] in ("put", "revoke"):
+                told.append("key of %s %s" % (act[2], act[3].replace("-", " ")))
+            elif act[0] == "look":
+                told.append("looks for the key of %s: %s" % (act[2], act[3].replace("-", " ")))
             elif act[0] == "idle":
                 told.append("does nothing: %s" % act[2] if act[2] != "nothing" else "does nothing")
             else:
@@ -328,6 +371,7 @@ def put(line, place, text):
 
 def draw_arrow(line, start, end, label, dash, head):
     first, last = min(start, end) + 1, max(start, end) - 1
+    line += [" "] * (last + 1 - len(line))
     for place in range(first, last + 1):
         line[place] = dash[(place - first) % len(dash)]
     put(line, last if end > start else first, {True: ">", False: "<"}[end > start] if head is None else head)
@@ -345,6 +389,9 @@ def text_chart(chart):
     for row, event in enumerate(chart.events):
         line, arrow = lane_line(chart, row, left), chart.arrows[row]
         put(line, 0, texts[row])
+        if event.is_border():
+            out.append("".join(line))
+            continue
         if arrow is not None:
             end = left + WIDTH * chart.lanes.index(arrow.receiver)
             start = end - WIDTH // 2 if arrow.sender is None else left + WIDTH * chart.lanes.index(arrow.sender)
@@ -424,6 +471,8 @@ def svg_chart(chart, title):
     draw_frames(picture, chart, x_of, y_of)
     for row, event in enumerate(chart.events):
         picture.text(14, y_of[row] + 4, "%d  %s" % (event.line, event.text()), colour="#6b7280", size=11)
+        if event.is_border():
+            picture.line(script, y_of[row], width - 14, y_of[row], "#9ca3af", 'stroke-dasharray="6 4"')
         node = node_of(event)
         if node not in x_of:
             continue

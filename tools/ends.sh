@@ -73,9 +73,10 @@ refuses() { # LINES LINE TEXT WRITES
     (head -n "$1" "$work/header"; printf '%s\n' "$2") > "$work/script"
     ends 2 "line $(($1 + 1)): $3" "$4" "$work/script" replay
 }
-any="that of ap, sta, connect, deliver, alter, cut, inject, retry, rekey, send, expire, revoke or leave"
-later="that of sta, connect, deliver, alter, cut, inject, retry, rekey, send, expire, revoke or leave"
-events="that of connect, deliver, alter, cut, inject, retry, rekey, send, expire, revoke or leave"
+any="that of ap, sta, connect, roam with ft-psk, deliver, alter, cut, inject, retry, rekey, send, expire, revoke, leave or round"
+later="that of sta, connect, roam with ft-psk, deliver, alter, cut, inject, retry, rekey, send, expire, revoke, leave or round"
+events="that of connect, roam with ft-psk, deliver, alter, cut, inject, retry, rekey, send, expire, revoke, leave or round"
+within="that of deliver, alter, cut, inject, retry, rekey, send, expire, revoke or end"
 send="send <node> <node or all> <tid 0 to 15 or -> <digits>"
 key="passphrase <8 to 63 octets> or psk <64 digits>"
 refuses 0 "domain 2" "not the first line of a script; the form is domain 1" $none
@@ -85,11 +86,13 @@ refuses 2 "sid net" "no such word here; the form is ssid <1 to 32 octets>" $none
 refuses 3 "key 00" "no such word here; the form is $key" $none
 refuses 3 "psk 00" "wrong arguments; the form is psk <64 digits>" $none
 refuses 3 "passphrase 1234567" "wrong arguments; the form is passphrase <8 to 63 octets>" $none
-refuses 4 "akm ft-psk" "wrong arguments; the form is akm <psk or psk-sha256>" $none
+refuses 4 "akm wpa" "wrong arguments; the form is akm <psk, psk-sha256 or ft-psk>" $none
 refuses 5 "ap 0200000000aa" "wrong arguments; the form is ap <12 digits> <R0KH-ID of 1 to 48 octets>" $none
 refuses 5 "turn" "no such word here; the form is $any" $none
 refuses 6 "sta 0200000000aa" "address or R0KH-ID used before; the form is sta <12 digits>" "$work/started"
 refuses 7 "ap 0200000000cc r0kh-2" "no such word here; the form is $later" "$work/started"
+refuses 7 "end" "no such word here; the form is $later" "$work/started"
+refuses 7 "roam s1 a1" "no such word here; the form is $later" "$work/started"
 refuses 7 "conect s1 a1" "no such word here; the form is $later" "$work/started"
 refuses 7 "connect s2 a1" "no such node, or a node of the other kind; the form is connect <sta> <ap>" "$work/started"
 refuses 7 "retry s1 a1" "no such node, or a node of the other kind; the form is retry <ap> <sta>" "$work/started"
@@ -105,6 +108,13 @@ refuses 8 "deliver 1 too a1" "wrong arguments; the form is deliver <n> to <node>
 refuses 8 "alter 1 61 01 to a1" "place or length outside the frame; the form is alter <n> <place> <2 digits> to <node>" "$work/begun"
 refuses 8 "cut 1 62 to a1" "place or length outside the frame; the form is cut <n> <length> to <node>" "$work/begun"
 refuses 8 "sta 0200000000cc" "no such word here; the form is $events" "$work/begun"
+
+(head -n 7 "$work/header"; echo round; echo "rekey a1") > "$work/script"
+ends 2 "line 10: the script ends in a round; the form is end" "$work/started" "$work/script" replay
+(head -n 7 "$work/header"; echo round; echo "leave s1") > "$work/script"
+ends 2 "line 9: no such word here; the form is $within" "$work/started" "$work/script" replay
+(head -n 7 "$work/header"; echo round; printf 'rekey a1\n%.0s' {1..257}) > "$work/script"
+ends 8 "more than 256 events in a round" "$work/started" "$work/script" replay
 
 # A folder can be opened as standard input, and not read.
 ends 3 "the script could not be read" $none / replay

@@ -10,6 +10,8 @@ mod taking;
 
 pub use covered::append;
 pub use outbox::Outbox;
-pub use room::{Between, Room};
-pub use send_room::SendRoom;
+pub use room::{
+    Between, Room, add_derived, add_finished, add_group_key, add_installed, add_replaced, template,
+};
+pub use send_room::{Buffer, SendRoom};
 pub use taking::{settle, took};

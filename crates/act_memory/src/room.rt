@@ -34,9 +34,9 @@ fn cover(alloc: Global, frame: &[u8]) -> Result<Vec<u8>, NoMemory>
     Ok(octets)
 }
 
-// What the pairwise key of a node with its peer is made of, without nonces.
+/// What the pairwise key of a node with its peer is made of, without nonces.
 #[tactic(auto, using(crate::proofs::Templating::template_is))]
-fn template(here: Here<'_>, peer: Node, r0kh_id: &[u8]) -> Result<BoxedInputs, NoMemory>
+pub fn template(here: Here<'_>, peer: Node, r0kh_id: &[u8]) -> Result<BoxedInputs, NoMemory>
     requires listed { IsListed here.domain.now here.node }
     requires peer { IsPeerOf here.domain.now here.node peer }
     ensures { IfOk result (λ i. let d = here.entry.domain.now
@@ -64,8 +64,8 @@ fn seal_over(covered: Vec<u8>, room: BoxedSeal, key: Option<[u8; 16]>) -> Option
     }))
 }
 
-// The key was derived.
-fn add_derived(peer: Node, template: BoxedInputs, derived: Option<Keyed>, out: &mut Outbox)
+/// The key was derived.
+pub fn add_derived(peer: Node, template: BoxedInputs, derived: Option<Keyed>, out: &mut Outbox)
     requires { 0 < out.old.spare }
     ensures acts { (d : AnyDomain) (r : Root) (n : AnyNode) → IsTemplate d r n peer template
         → out.new.acts ≡ out.old.acts ++ derived_acts d r n peer derived }
@@ -79,8 +79,8 @@ fn add_derived(peer: Node, template: BoxedInputs, derived: Option<Keyed>, out: &
     });
 }
 
-// The session that was there is closed, where a key was installed.
-fn add_replaced(peer: Node, had_session: bool, installed: Option<Keyed>, out: &mut Outbox)
+/// The session that was there is closed, where a key was installed.
+pub fn add_replaced(peer: Node, had_session: bool, installed: Option<Keyed>, out: &mut Outbox)
     requires { 0 < out.old.spare }
     ensures acts { out.new.acts ≡ out.old.acts ++ replaced_acts peer had_session installed }
     ensures spare { out.old.spare ≤ out.new.spare + 1 }
@@ -95,8 +95,8 @@ fn add_replaced(peer: Node, had_session: bool, installed: Option<Keyed>, out: &m
     });
 }
 
-// The key was installed.
-fn add_installed(peer: Node, template: BoxedInputs, installed: Option<Keyed>, out: &mut Outbox)
+/// The key was installed.
+pub fn add_installed(peer: Node, template: BoxedInputs, installed: Option<Keyed>, out: &mut Outbox)
     requires { 0 < out.old.spare }
     ensures acts { (d : AnyDomain) (r : Root) (n : AnyNode) → IsTemplate d r n peer template
         → out.new.acts ≡ out.old.acts ++ installed_acts d r n peer installed }
@@ -111,8 +111,8 @@ fn add_installed(peer: Node, template: BoxedInputs, installed: Option<Keyed>, ou
     });
 }
 
-// The group key of that access point was installed, or taken into use again.
-fn add_group_key(peer: Node, bssid: Mac, gtk: Option<GtkNews>, out: &mut Outbox)
+/// The group key of that access point was installed, or taken into use again.
+pub fn add_group_key(peer: Node, bssid: Mac, gtk: Option<GtkNews>, out: &mut Outbox)
     requires { 0 < out.old.spare }
     ensures acts { (d : AnyDomain) → bssid ≡ mac d peer
         → out.new.acts ≡ out.old.acts ++ gtk_acts d peer gtk }
@@ -130,8 +130,8 @@ fn add_group_key(peer: Node, bssid: Mac, gtk: Option<GtkNews>, out: &mut Outbox)
     }
 }
 
-// The attempt became a session under the key that was installed.
-fn add_finished(peer: Node, template: BoxedInputs, installed: Option<Keyed>, out: &mut Outbox)
+/// The attempt became a session under the key that was installed.
+pub fn add_finished(peer: Node, template: BoxedInputs, installed: Option<Keyed>, out: &mut Outbox)
     requires { 0 < out.old.spare }
     ensures acts { (d : AnyDomain) (r : Root) (n : AnyNode) → IsTemplate d r n peer template
         → out.new.acts ≡ out.old.acts ++ finished_acts d r n peer installed }
@@ -249,8 +249,8 @@ impl Room {
     )
         requires room { 7 + length between.opened.items + length between.put.items ≤ out.old.spare }
         requires whole { IsWhole reply.now }
-        ensures acts { (d : AnyDomain) (id : List ℕ) (n p : AnyNode) (octets : List ℕ) (k : KeyMessage)
-            → IsRoom d id n p octets k self
+        ensures acts { (d : AnyDomain) (id : List ℕ) (n p : AnyNode) (octets : List ℕ)
+            (k : KeyMessage) → IsRoom d id n p octets k self
             → out.new.acts ≡ out.old.acts ++ replied_acts (pair_at d id n p) had_session
             (taken_as octets k outcome) reply.now (between_of between) }
         ensures spare { out.old.spare

@@ -16,9 +16,9 @@ use std::alloc::Global;
 // The octets before an EAPOL frame in a data frame.
 const EAPOL_FRONT: usize = 32;
 
-// Room for octets, without any.
+/// Room for the octets of a reply, without any.
 #[derive(Drop)]
-struct Buffer {
+pub struct Buffer {
     octets: Vec<u8>,
     ghost empty: { octets.items ≡ [] },
     ghost none: { vec_len octets ≡ 0 },
@@ -31,9 +31,9 @@ impl Buffer {
         Ok(Buffer { octets })
     }
 
-    // Room for so many octets: memory of that size where there is some more, and else all that was
-    // taken.
-    fn of_size(self, size: usize) -> Vec<u8>
+    /// Room for so many octets: memory of that size where there is some more, and else all that was
+    /// taken.
+    pub fn of_size(self, size: usize) -> Vec<u8>
         requires { size ≤ 512 }
         ensures empty { result.items ≡ [] }
         ensures none { vec_len result ≡ 0 }
@@ -46,8 +46,8 @@ impl Buffer {
         }
     }
 
-    // These octets.
-    fn filled(self, piece: &[u8]) -> Vec<u8>
+    /// These octets.
+    pub fn filled(self, piece: &[u8]) -> Vec<u8>
         requires { length piece.now ≤ 512 }
         ensures { result.items ≡ piece.now }
     {
@@ -70,9 +70,12 @@ impl Buffer {
 /// The memory that the act of sending the frame of a reply takes.
 #[derive(Drop)]
 pub struct SendRoom {
-    octets: Buffer,
-    covered: Buffer,
-    seal: BoxedSeal,
+    /// Room for the frame.
+    pub octets: Buffer,
+    /// Room for what its MIC covers.
+    pub covered: Buffer,
+    /// The memory for a seal.
+    pub seal: BoxedSeal,
 }
 
 impl SendRoom {

@@ -11,14 +11,15 @@ use Rattle.run_journal.specs.declared.acts.Seal.{Seal}
 use Rattle.run_journal.specs.declared.acts.Act.{Act}
 use Rattle.run_journal.specs.declared.acts.Act.TheVariants.{Took, HandedUp}
 use Rattle.run_journal.specs.Acts.{same_kind, accepted}
-use Rattle.run_journal.specs.Questions.{before_sent}
+use Rattle.run_journal.specs.Questions.{attempt, before_sent}
 use Rattle.domain_rules.specs.Asking.{replay_counter}
 use Rattle.authenticator.specs.Bases.{own_pair}
-use Rattle.domain_rules.proofs.Parts.{IsApart, same-refl, attempt_more, attempt_none, attempt_some, by_connect_more, own_nonce_more, heard_more, sent_more, derivation_more}
+use Rattle.domain_rules.proofs.Parts.{IsApart, same-refl, attempt_more, attempt_some, by_connect_more, own_nonce_more, heard_more, sent_more, derivation_more}
 use Rattle.authenticator.specs.State.{State as Part}
 use Rattle.authenticator.specs.Stands.{IsUnderWay, HasAttempt, AuthenticatorStands}
 use Rattle.authenticator.specs.declared.attempt.Attempt.{Attempt}
 use Rattle.authenticator.proofs.Handshaking.{counts_on}
+use Rattle.authenticator.proofs.Asking.{no_connect_more}
 use Rattle.authenticator.proofs.Standing.{agreed_on, session_on, stands_more, or_none}
 
 -- a frame of data is none of another kind
@@ -48,7 +49,7 @@ module _ (d : Domain) (n p : Node) (octets : List ℕ) (s : Option Seal) where
   }
 
   attempt_behind : (o : Option Attempt) (h : List Act) → HasAttempt d n p o h → HasAttempt d n p o (took ∷ h)
-  attempt_behind None h at = attempt_none p took h refl at
+  attempt_behind None h at = no_connect_more p took h (attempt p h) refl refl refl at
   attempt_behind (Some a) h at = under_way_behind a h at
 
   pub stands_behind : (x : Part) (h : List Act) → AuthenticatorStands d n p x h → AuthenticatorStands d n p x (took ∷ h)

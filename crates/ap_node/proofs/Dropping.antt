@@ -1,5 +1,5 @@
 -- What there is with a station is dropped.
-use Rattle.std.proofs.Common.{◌≡◌, ℕ, ◌+◌, ◌≤◌, Bool, true, false, List, ◌∷◌, ◌++◌, Option, Some, None, refl, sym, ap, subst, ◌∙◌}
+use Rattle.std.proofs.Common.{◌≡◌, ℕ, ◌+◌, ◌≤◌, Bool, true, false, List, length, ◌∷◌, ◌++◌, Option, Some, None, refl, sym, ap, subst, ◌∙◌}
 use Rattle.std.specs.Prelude.{is_some}
 use Rattle.std.specs.List.{AllByRecursion}
 use Rattle.domain_base.specs.declared.names.Node.{Node}
@@ -21,13 +21,20 @@ use Rattle.domain_rules.specs.Rows.{Expire, outcome_of}
 use Rattle.domain_rules.proofs.Parts.{same-refl, IsApart, apart-closed, apart-closed_session, apart-idle, attempt_ends, attempt_none}
 use Rattle.node_base.specs.Events.{seen}
 use Rattle.ap_node.specs.declared.station.Station.{Station}
-use Rattle.authenticator.proofs.Standing.{has_attempt, has_session}
-use Rattle.ap_node.specs.State.{State, station_at, attempt_in, session_in}
+use Rattle.authenticator.proofs.Standing.{has_session, no_connect}
+use Rattle.targets.specs.declared.moves.Moves.{Moves}
+use Rattle.targets.specs.State.{no_moves, moves_at}
+use Rattle.targets.specs.Stands.{HasMoves}
+use Rattle.targets.proofs.Beginning.{expired}
+use Rattle.ap_node.specs.State.{State, station_at, session_in}
+use Rattle.ap_node.specs.Moving.{has_any_attempt, IsMovedOn}
 use Rattle.ap_node.specs.Stands.{HasPart}
-use Rattle.ap_node.specs.Takes.{IsDone, expired_acts}
+use Rattle.ap_node.specs.Takes.{IsDone, IsBeside, expired_acts}
 use Rattle.ap_node.proofs.Others.{IsSameGroup, AllLeave, far_on}
-use Rattle.ap_node.proofs.Standing.{has_attempt_in, has_session_in, stands_with_one}
-use Rattle.ap_node.proofs.Messaging.{IsBeside}
+use Rattle.ap_node.proofs.Standing.{has_session_in, stands_with_one}
+use Rattle.ap_node.proofs.Attempts.{any_attempt}
+use Rattle.ap_node.proofs.Trimming.{moved_few}
+use Rattle.ap_node.proofs.Plain.{plain_expired}
 
 -- ---- the acts
 
@@ -37,9 +44,9 @@ by_history p None (Some x) = refl
 by_history p (Some part) None = refl
 by_history p (Some part) (Some x) = refl
 
-expired_is : (d : Domain) (n : Node) (sta : ℕ) (o : Option Station) (h : List Act) → HasPart d n sta o h → expired_acts (Sta sta) (is_some (attempt_in o)) (is_some (session_in o)) ≡ expire_acts (Sta sta) h
-expired_is d n sta o h at =
-    same_tests (sym (has_attempt d n (Sta sta) (attempt_in o) h (has_attempt_in d n sta o h at))) (sym (has_session d n (Sta sta) (session_in o) h (has_session_in d n sta o h at)))
+expired_is : (d : Domain) (n : Node) (sta : ℕ) (o : Option Station) (m : Moves) (h : List Act) → HasPart d n sta o h → HasMoves d n (Sta sta) m h → expired_acts (Sta sta) (has_any_attempt o m) (is_some (session_in o)) ≡ expire_acts (Sta sta) h
+expired_is d n sta o m h at moves =
+    same_tests (sym (any_attempt d n sta o m h at moves)) (sym (has_session d n (Sta sta) (session_in o) h (has_session_in d n sta o h at)))
     ∙ by_history (Sta sta) (attempt (Sta sta) h) (session (Sta sta) h)
   where
     same_tests : {a b c e : Bool} → a ≡ b → c ≡ e → expired_acts (Sta sta) a c ≡ expired_acts (Sta sta) b e
@@ -94,9 +101,9 @@ never_refused p false true o why_ is refused = cc (is, refused)
 never_refused p true false o why_ is refused = cc (is, refused)
 never_refused p true true o why_ is refused = cc (is, refused)
 
-pub drops : (d : Domain) (old new : State) (sta : ℕ) (a s : Bool) (waited waits : List Act) (outcome : Outcome) → IsBeside old new sta → a ≡ is_some (attempt_in (station_at old.stations sta)) → s ≡ is_some (session_in (station_at old.stations sta))
+pub drops : (d : Domain) (old new : State) (sta : ℕ) (a s : Bool) (waited waits : List Act) (outcome : Outcome) → IsBeside old new sta → IsMovedOn old.targets new.targets sta no_moves → a ≡ has_any_attempt (station_at old.stations sta) (moves_at old.targets sta) → s ≡ is_some (session_in (station_at old.stations sta))
     → station_at new.stations sta ≡ None → waits ≡ waited ++ expired_acts (Sta sta) a s → outcome ≡ outcome_of (expired_acts (Sta sta) a s) → IsDone d (Expire sta) old new (seen waited waits outcome)
-drops d old new sta a s waited waits outcome beside a_is s_is gone waiting came_is = record {
+drops d old new sta a s waited waits outcome beside moved a_is s_is gone waiting came_is = record {
   number = beside.number;
   does = λ first h stands.
       (let n = Ap old.number in
@@ -105,11 +112,13 @@ drops d old new sta a s waited waits outcome beside a_is s_is gone waiting came_
       let so_far = stands.so_far in
       let at = so_far.parts sta in
       let said = expired_acts p a s in
-      let has_a : is_some (attempt p h) ≡ a = has_attempt d n p (attempt_in o) h (has_attempt_in d n sta o h at) ∙ sym a_is in
+      let m = moves_at old.targets sta in
+      let has_a : is_some (attempt p h) ≡ a = any_attempt d n sta o m h at (so_far.moves.each sta) ∙ sym a_is in
       let has_s : is_some (session p h) ≡ s = has_session d n p (session_in o) h (has_session_in d n sta o h at) ∙ sym s_is in
+      let row_is : said ≡ expire_acts p h = both a_is s_is ∙ expired_is d n sta o m h at (so_far.moves.each sta) in
       record {
         acts = said;
-        row = both a_is s_is ∙ expired_is d n sta o h at;
+        row = row_is;
         waiting = waiting;
         came = came_is;
         stands = stands_with_one d first old new h (add said h) sta so_far (record {
@@ -121,10 +130,14 @@ drops d old new sta a s waited waits outcome beside a_is s_is gone waiting came_
           few = subst (λ (m : ℕ). m ≤ 65536) (sym beside.length_is) so_far.few;
           counted = beside.counts so_far.counted so_far.few;
           same_group = expired-group p a s h;
-          here = subst (λ (x : Option Station). HasPart d n sta x (add said h)) (sym gone) (no_attempt_left sta h a s has_a, no_session_left p h a s has_s);
+          here = subst (λ (x : Option Station). HasPart d n sta x (add said h)) (sym gone) (no_connect p (add said h) (no_attempt_left sta h a s has_a), no_session_left p h a s has_s);
           others = beside.others;
           goes = λ k other. far_on (Sta k) said h (expired-apart k p a s other) (expired-leaves (Sta k) p a s);
+          moves = subst (λ (z : Moves). HasMoves d n p z (add said h)) (sym moved.moved.here) (subst (λ (l : List Act). HasMoves d n p no_moves (add l h)) (sym row_is) (expired d n sta h));
+          few_moves = moved_few (length d.stas) old.targets new.targets sta no_moves moved so_far.moves.few (λ there. refl);
+          other_moves = moved.moved.others;
         });
+        marks = plain_expired p a s;
       });
   refused = λ why_ is. absurd (never_refused (Sta sta) a s outcome why_ came_is is);
 }

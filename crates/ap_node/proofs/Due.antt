@@ -1,8 +1,7 @@
 -- The switch to the newest group key, beside that of the rows.
-use Rattle.std.proofs.Common.{◌≡◌, ◌≢◌, ℕ, zero, suc, ◌<◌, ◌≤◌, Bool, true, false, cond, List, [], ◌∷◌, length, Option, Some, None, is_some, refl, sym, ap, subst, ◌∙◌, arith, inl, inr}
+use Rattle.std.proofs.Common.{◌≡◌, ℕ, zero, suc, ◌<◌, ◌≤◌, Bool, true, false, cond, List, [], ◌∷◌, length, Option, Some, None, is_some, refl, sym, ap, subst, ◌∙◌, arith, inl, inr}
 use Rattle.std.specs.Prelude.{◌==◌, ◌&&◌, ◌||◌, ◌⊎◌, ◌%◌, not, nat_lt}
 use Rattle.std.proofs.lemmas.Bool.{cases_Bool, eqb-true, eq-eqb, ltb-true, ltb-false}
-use Rattle.domain_base.specs.declared.names.Akm.TheVariants.{FtPsk}
 use Rattle.domain_base.specs.declared.names.Mac.{Mac}
 use Rattle.domain_base.specs.declared.names.Node.{Node}
 use Rattle.domain_base.specs.declared.names.Node.TheVariants.{Ap, Sta}
@@ -27,11 +26,12 @@ use Rattle.ap_node.specs.declared.station.Station.{Station}
 use Rattle.authenticator.proofs.Handshaking.{owes_is, owing_no_session}
 use Rattle.ap_node.specs.State.{State, station_at}
 use Rattle.ap_node.specs.Counts.{owes_part}
-use Rattle.ap_node.specs.Stands.{HasPart, StandsSoFar, IsSettled, AllConnect, Stands}
+use Rattle.ap_node.specs.Stands.{HasPart, StandsSoFar, IsSettled, Stands}
 use Rattle.ap_node.specs.Switching.{is_due, in_use as both_newest, unused, switched, due_acts}
 use Rattle.ap_node.proofs.Others.{AllLeave, far_on}
 use Rattle.ap_node.proofs.Owed.{owes_at, count_some, none_owes}
-use Rattle.ap_node.proofs.Standing.{part_on}
+use Rattle.targets.proofs.Passing.{moves_more, installed_passes}
+use Rattle.ap_node.proofs.Standing.{part_on, moves_on}
 
 -- ---- whether a session owes, by the count
 
@@ -151,6 +151,7 @@ due_so_far d first s h at due =
       few = at.few;
       counted = at.counted;
       parts = λ k. part_on d (Ap s.number) k (station_at s.stations k) h (act ∷ h) (far_on (Sta k) (act ∷ []) h (apart-all (Sta k) s.group.newest.key s.group.newest.id (mac d (Ap s.number)), tt) (leaves-all (Sta k) s.group.newest.key s.group.newest.id (mac d (Ap s.number)))) (at.parts k);
+      moves = moves_on d s.number s.targets h (act ∷ h) (λ k e n m has. moves_more e n (Sta k) m act h (installed_passes (Sta k) All _) has) at.moves;
     }
 
 quiet_settled : (s : State) → is_due s ≡ false → IsSettled s
@@ -161,12 +162,12 @@ quiet_settled s quiet = settled_by (s.group.newest.place == s.group.current.plac
     settled_by false true same none is = absurd (cc is)
     settled_by false false same none is = inr (not_zero s.owing none)
 
-pub stands_switched : (d : Domain) (first : ℕ) (s : State) (h : List Act) → StandsSoFar d first s h → (d.akm ≢ FtPsk → AllConnect h) → Stands d first (switched s) (add (due_acts d s) h)
-stands_switched d first s h at connects = by (is_due s) refl
+pub stands_switched : (d : Domain) (first : ℕ) (s : State) (h : List Act) → StandsSoFar d first s h → Stands d first (switched s) (add (due_acts d s) h)
+stands_switched d first s h at = by (is_due s) refl
   where
     by : (b : Bool) → is_due s ≡ b → Stands d first (switched s) (add (due_acts d s) h)
-    by true due = rw due (record { so_far = due_so_far d first s h at due; settled = inl refl; connects = λ suite. (tt, connects suite) })
-    by false quiet = rw quiet (record { so_far = at; settled = quiet_settled s quiet; connects = connects })
+    by true due = rw due (record { so_far = due_so_far d first s h at due; settled = inl refl })
+    by false quiet = rw quiet (record { so_far = at; settled = quiet_settled s quiet })
 
 -- ---- where no switch is to come
 

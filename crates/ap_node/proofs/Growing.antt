@@ -1,16 +1,19 @@
 -- The network grows: an access point of it stands for the same histories.
-use Rattle.std.proofs.Common.{ℕ, ◌<◌, List, length, Option, Some, None, ◌∙◌}
+use Rattle.std.proofs.Common.{ℕ, ◌<◌, List, length, Option, Some, None}
 use Rattle.domain_base.specs.declared.names.Node.{Node}
 use Rattle.domain_base.specs.declared.names.Node.TheVariants.{Ap, Sta}
+use Rattle.key_holders.specs.declared.rows.HeldRow.{HeldRow}
 use Rattle.run_journal.specs.declared.domain.Domain.{Domain}
 use Rattle.run_journal.specs.declared.acts.Act.{Act}
-use Rattle.domain_rules.specs.Network.{IsListed}
+use Rattle.domain_rules.specs.Network.{IsListed, IsNamed}
 use Rattle.node_base.specs.Growing.{Grows}
 use Rattle.node_base.proofs.Grown.{listed_grown}
 use Rattle.ap_node.specs.declared.station.Station.{Station}
 use Rattle.authenticator.proofs.Growing.{grown as authenticator_grown}
 use Rattle.ap_node.specs.State.{State, station_at}
-use Rattle.ap_node.specs.Stands.{HasPart, StandsSoFar, Stands}
+use Rattle.ap_node.specs.Stands.{HasPart, StandsSoFar, Stands, StandsWith}
+use Rattle.targets.proofs.Growing.{targets_grown}
+use Rattle.ap_node.proofs.GrowingRows.{rows_grown}
 
 part_grown : (d e : Domain) (n : Node) (sta : ℕ) (o : Option Station) (h : List Act) → Grows d e → IsListed d n → HasPart d n sta o h → HasPart e n sta o h
 part_grown d e n sta None h g here at = at
@@ -26,7 +29,11 @@ so_far_grown d e first s h g low stands = record {
   few = stands.few;
   counted = stands.counted;
   parts = λ sta. part_grown d e (Ap s.number) sta (station_at s.stations sta) h g low (stands.parts sta);
+  moves = targets_grown d e s.number s.targets h g low stands.moves;
 }
 
 pub grown : (d e : Domain) (first : ℕ) (s : State) (h : List Act) → Grows d e → s.number < length d.aps → Stands d first s h → Stands e first s h
-grown d e first s h g low stands = record { so_far = so_far_grown d e first s h g low stands.so_far; settled = stands.settled; connects = λ suite. stands.connects (λ same. suite (g.akm ∙ same)) }
+grown d e first s h g low stands = record { so_far = so_far_grown d e first s h g low stands.so_far; settled = stands.settled }
+
+pub grown_with : (d e : Domain) (first : ℕ) (s : State) (xs : List HeldRow) (h : List Act) → Grows d e → IsNamed e → s.number < length d.aps → StandsWith d first s xs h → StandsWith e first s xs h
+grown_with d e first s xs h g names low at = record { stands = grown d e first s h g low at.stands; rows = rows_grown d e (Ap s.number) g names xs h low at.rows }

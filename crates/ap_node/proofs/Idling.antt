@@ -29,6 +29,7 @@ takes_pending d s waited waits next waiting = stays d s Rekey (seen waited waits
   waiting = waiting;
   came = refl;
   stands = so_far_as_before d first s h (Idle why.RekeyPending ∷ h) (same-idle why.RekeyPending h) stands.so_far;
+  marks = ((tt, refl), tt);
 })
 
 -- no value is left to be drawn
@@ -39,4 +40,5 @@ takes_no_draw d s waited waits same spent waiting = stays d s Rekey (seen waited
   waiting = waiting;
   came = refl;
   stands = so_far_as_before d first s h (Idle why.Spent ∷ h) (same-idle why.Spent h) stands.so_far;
+  marks = ((tt, refl), tt);
 })

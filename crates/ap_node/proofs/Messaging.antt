@@ -1,7 +1,6 @@
 -- EAPOL-Key messages that the part with their station takes.
-use Rattle.std.proofs.Common.{◌≡◌, ◌≢◌, ℕ, ◌+◌, ◌<◌, ◌≤◌, ◌^◌, Bool, List, length, arith, [], ◌∷◌, ◌++◌, Option, Some, None, Result, Ok, Err, refl, sym, ap, subst, ◌∙◌}
-use Rattle.std.specs.Prelude.{◌-◌, is_some, IfOk, OnErr}
-use Rattle.domain_base.specs.declared.names.Node.{Node}
+use Rattle.std.proofs.Common.{◌≡◌, ◌≢◌, ℕ, ◌+◌, ◌<◌, ◌≤◌, ◌^◌, Bool, true, false, List, length, arith, [], ◌∷◌, ◌++◌, Option, Some, None, Result, Ok, Err, refl, sym, ap, subst, ◌∙◌}
+use Rattle.std.specs.Prelude.{◌-◌, is_some, IfOk}
 use Rattle.domain_base.specs.declared.names.Node.TheVariants.{Ap, Sta}
 use Rattle.run_journal.specs.declared.domain.Domain.{Domain}
 use Rattle.run_journal.specs.declared.acts.Kind.TheVariants as kind
@@ -13,55 +12,62 @@ use Rattle.run_journal.specs.declared.acts.Act.{Act}
 use Rattle.run_journal.specs.declared.acts.Act.TheVariants.{Took}
 use Rattle.run_journal.specs.Questions.{add, draws}
 use Rattle.domain_rules.specs.Here.{here}
-use Rattle.domain_rules.specs.Network.{draw_end, Root, root_at, r0kh_id}
+use Rattle.domain_rules.specs.Network.{draw_end, IsNamed, r0kh_id}
 use Rattle.domain_rules.specs.Reading.{Keyed, KeyMessage as MessageFields}
-use Rattle.domain_rules.proofs.SuiteWords.{root_suite, put_suite}
-use Rattle.domain_base.specs.declared.names.Akm.TheVariants.{FtPsk}
-use Rattle.domain_rules.specs.Replies.{IsMessageFrom, Between, Taken, taken_as, key_by, reply_acts, replied_acts}
-use Rattle.node_base.specs.Pairs.{pair_of, pair_at}
+use Rattle.domain_base.specs.declared.names.Akm.{Akm}
+use Rattle.domain_base.specs.declared.names.Akm.TheVariants.{Psk, PskSha256, FtPsk}
+use Rattle.key_holders.specs.declared.rows.HeldRow.{HeldRow}
+use Rattle.held_rows.specs.Knows.{KnowsRows}
+use Rattle.run_journal.specs.Replies.{IsEmpty}
+use Rattle.act_memory.specs.Rooms.{between_of}
+use Rattle.ap_node.specs.Putting.{puts, PutsWhere, IsReady}
+use Rattle.ap_node.specs.declared.ready.Ready.{Ready}
+use Rattle.ap_node.specs.Handed.{IsHandedOver}
+use Rattle.ap_node.proofs.Told.{put_only, put_is, rows_put, told_about, told_leaves_others, told_looks, told_rows, key_told}
+use Rattle.ap_node.proofs.Plain.{plain_rows}
+use Rattle.domain_rules.specs.Replies.{IsMessageFrom, Pair as Ends, Between, Taken, taken_as, replied_acts}
+use Rattle.node_base.specs.Pairs.{pair_at}
 use Rattle.run_journal.specs.declared.reply.Reply.{Reply}
-use Rattle.run_journal.specs.declared.reply.Keyed.{Keyed as KeyedAs}
-use Rattle.domain_rules.specs.Rows.{Take, TakeRow}
+use Rattle.domain_rules.specs.Rows.{Take}
 use Rattle.group_key.specs.declared.keys.GroupKey.{GroupKey}
 use Rattle.group_key.specs.Keys.{Pair}
 use Rattle.frame_intake.specs.declared.delivered.KeyMessage.{KeyMessage}
 use Rattle.frame_intake.specs.Views.{message_fields}
 use Rattle.node_base.specs.Events.{seen}
-use Rattle.act_memory.proofs.RepliedActs.{replied_about, about_draws, about_others}
+use Rattle.act_memory.proofs.RepliedActs.{about_draws, about_others}
 use Rattle.ap_node.specs.declared.station.Station.{Station}
-use Rattle.authenticator.specs.Judged.{frame_of}
-use Rattle.authenticator.specs.Taken.{given, put_for, told_acts, Comes}
-use Rattle.authenticator.specs.Bases.{home}
-use Rattle.authenticator.specs.Stands.{AuthenticatorStands}
+use Rattle.eapol_key.specs.declared.messages.Message.{Message}
+use Rattle.eapol_key.specs.declared.messages.Message.TheVariants.{M4}
+use Rattle.targets.specs.declared.moves.Moves.{Moves}
+use Rattle.targets.specs.State.{moves_at}
+use Rattle.targets.specs.Stands.{HasMoves}
+use Rattle.held_rows.specs.Looks.{NoLooks}
+use Rattle.authenticator.specs.Judged.{Frame, frame_of, is_final}
+use Rattle.authenticator.specs.State.{State as Part}
+use Rattle.authenticator.specs.Taken.{Given, given, told_acts, Comes, Installs}
+use Rattle.authenticator.specs.declared.attempt.Attempt.{Attempt}
 use Rattle.ccmp_guard.specs.Held.{Held}
-use Rattle.data_frames.proofs.RepliedKeys.{replied_leaves_others}
 use Rattle.ap_node.specs.declared.newest.NewestGroup.{NewestGroup}
 use Rattle.ap_node.specs.State.{State, station_at, newest_uses}
+use Rattle.ap_node.specs.State.{trimmed}
+use Rattle.ap_node.specs.Moving.{finished_moves, IsMovedTo, IsMovedOn}
+use Rattle.ap_node.proofs.ToldMoves.{told_moves}
+use Rattle.ap_node.proofs.Attempts.{none_pending}
+use Rattle.ap_node.proofs.Trimming.{moved_few, moved_on, moved_as, raw_at, same_targets}
 use Rattle.ap_node.specs.Counts.{owes_part, owing_count, recounted}
 use Rattle.ap_node.specs.Stands.{HasPart, StandsSoFar, Stands}
-use Rattle.ap_node.specs.Parts.{IsHanded, IsHandedAt}
-use Rattle.ap_node.specs.Takes.{Does, IsDone, IsKeyedAtAp}
+use Rattle.ap_node.specs.Parts.{IsHanded, IsHandedAt, is_final_at}
+use Rattle.ap_node.specs.Takes.{Does, RowsOn, IsDoneWith, IsBeside, IsKeyedAtAp}
 use Rattle.ap_node.proofs.Others.{about_group, far_on}
 use Rattle.ap_node.proofs.Owed.{bit, count_low, count_changed, recounted_is}
-use Rattle.ap_node.proofs.InUse.{key_replied}
 use Rattle.ap_node.proofs.Standing.{some_part, no_part, no_part_session, stands_with_one, uses_are}
 use Rattle.ap_node.proofs.Refusing.{does_quiet, unawaited_quiet, unawaited_message}
 
 message_from : (d : Domain) (a sta : ℕ) (octets : List ℕ) (message : KeyMessage) → IsKeyedAtAp d a octets (Sta sta) message → IsMessageFrom d (Ap a) (Sta sta) octets (message_fields message)
 message_from d a sta octets message w = record { reads = w.reads; from = w.judged.1; verdict_is = w.judged.4 }
 
--- what the access point was and is, beside its part with a station
-pub record IsBeside (old new : State) (sta : ℕ) : Type 0 where
-  pub number : new.number ≡ old.number
-  pub drawn : new.drawn ≡ old.drawn
-  pub group : new.group ≡ old.group
-  pub sending : new.sending ≡ old.sending
-  pub length_is : length new.stations ≡ length old.stations
-  pub counts : old.owing ≡ owing_count old.group.newest.place old.stations → length old.stations ≤ 65536 → new.owing ≡ owing_count old.group.newest.place new.stations
-  pub others : (k : ℕ) → k ≢ sta → station_at new.stations k ≡ station_at old.stations k
-
-abbrev pub the_state : ℕ → ℕ → Pair → Held → List (Option Station) → ℕ → State
-the_state number drawn group sending stations owing = record { number = number; drawn = drawn; group = group; sending = sending; stations = stations; owing = owing }
+abbrev pub the_state : ℕ → ℕ → Pair → Held → List (Option Station) → ℕ → List Moves → State
+the_state number drawn group sending stations owing targets = record { number = number; drawn = drawn; group = group; sending = sending; stations = stations; owing = owing; targets = targets }
 
 -- as the code recounts
 pub beside_count : (old new : State) (sta : ℕ) (owed owes : Bool) → ((k : ℕ) → k ≢ sta → station_at new.stations k ≡ station_at old.stations k)
@@ -81,50 +87,65 @@ pub owes_same : (g k : GroupKey) (o q : Option Station) → g ≡ k → o ≡ q 
 owes_same g k o q key part = rw (key, part) refl
 
 -- nothing is changed where the parts and the count are not
-pub kept_state : (number drawn m n : ℕ) (group : Pair) (sending : Held) (now was : List (Option Station)) → now ≡ was → m ≡ n
-    → the_state number drawn group sending now m ≡ the_state number drawn group sending was n
-kept_state number drawn m n group sending now was parts count = rw (parts, count) refl
+pub kept_state : (number drawn m n : ℕ) (group : Pair) (sending : Held) (now was : List (Option Station)) (targets : List Moves) → now ≡ was → m ≡ n
+    → the_state number drawn group sending now m targets ≡ the_state number drawn group sending was n targets
+kept_state number drawn m n group sending now was targets parts count = rw (parts, count) refl
 
--- ---- with suites 2 and 6 nothing is put with a key holder, and keys go back to no R0KH-ID
+-- what a message is, and what is ready for it
+pub record IsMet (d : Domain) (old new : State) (sta : ℕ) (octets : List ℕ) (message : KeyMessage) (xs ys : List HeldRow) (ready : Ready) : Type 0 where
+  pub keyed : IsKeyedAtAp d old.number octets (Sta sta) message
+  pub names : IsNamed d
+  pub listed : sta < length d.stas
+  pub ready_is : IsReady d old.number sta octets (message_fields message) (is_final_at (station_at old.stations sta) message.message (frame_of message.frame)) xs ys ready
+  pub beside : IsBeside old new sta
+  pub moves : IsMovedOn old.targets new.targets sta
+      (finished_moves (is_final_at (station_at old.stations sta) message.message (frame_of message.frame)) (moves_at old.targets sta))
 
-abbrev put_only : List Act → Between
-put_only g = record { opened = []; put = g }
+same_between : {o p : List Act} {g : List Act} → o ≡ [] → p ≡ g → record { opened = o; put = p } ≡ put_only g
+same_between e f = rw (e, f) refl
 
-told_same : (d : Domain) (n p : Node) (had : Bool) (octets : List ℕ) (k : MessageFields) (outcome : Outcome) (r : Reply) (h : List Act) → d.akm ≢ FtPsk
-    → told_acts d n p had octets k outcome r h ≡ reply_acts (pair_at d [] n p) had (taken_as octets k outcome) r
-told_same d n p had octets k outcome r h suite =
-    ap (λ (t : Root). replied_acts (pair_of d t n p) had (taken_as octets k outcome) r (put_only (put_for d n h p r.installed)))
-    (root_suite d.akm d (r0kh_id d n) suite ∙ sym (root_suite d.akm d [] suite))
-    ∙ ap (λ (g : List Act). replied_acts (pair_at d [] n p) had (taken_as octets k outcome) r (put_only g)) (none_put r.installed)
-  where
-    none_put : (y : Option KeyedAs) → put_for d n h p y ≡ []
-    none_put None = refl
-    none_put (Some y) = put_suite d.akm d n h p (key_by d (home d n) n p y) suite
+abbrev own_pair_at : Domain → ℕ → ℕ → Ends
+own_pair_at d a sta = pair_at d (r0kh_id d (Ap a)) (Ap a) (Sta sta)
+
+-- the last message of an attempt finds one
+final_attempt : (akm : Akm) (o : Option Attempt) (m : Message) (f : Frame) → is_final akm o m f ≡ true → is_some o ≡ true
+final_attempt akm (Some a) m f is = refl
+final_attempt akm None M4 f is = absurd (cc is)
+final_attempt akm None m f is = absurd (cc is)
+
+if_some : {A C : Type 0} (o : Option A) → ((x : A) → o ≡ Some x → C) → is_some o ≡ true → C
+if_some None then_ is = absurd (cc is)
+if_some (Some x) then_ is = then_ x refl
 
 -- the part took it
-handed : (d : Domain) (old new : State) (octets : List ℕ) (sta : ℕ) (message : KeyMessage) (outcome : Outcome) (a b : Station) (acts waited : List Act) → d.akm ≢ FtPsk → IsKeyedAtAp d old.number octets (Sta sta) message → IsBeside old new sta
+handed : (d : Domain) (old new : State) (octets : List ℕ) (sta : ℕ) (message : KeyMessage) (outcome : Outcome) (xs ys : List HeldRow) (ready : Ready) (a b : Station) (acts waited : List Act) → IsMet d old new sta octets message xs ys ready
     → station_at old.stations sta ≡ Some a → station_at new.stations sta ≡ Some b
-    → IsHanded (pair_at d [] (Ap old.number) (Sta sta)) (given message.message (frame_of message.frame) old.group.newest (newest_uses old)) (taken_as octets (message_fields message) outcome) a b acts
-    → (first : ℕ) (h : List Act) → Stands d first old h → Does (here d first (Ap old.number)) (Take octets) (StandsSoFar d first new) h (seen waited (waited ++ acts) outcome)
-handed d old new octets sta message outcome a b acts waited suite w beside was now x first h stands =
+    → IsHanded (own_pair_at d old.number sta) (given message.message (frame_of message.frame) old.group.newest (newest_uses old)) (taken_as octets (message_fields message) outcome) (between_of ready.between) a b acts
+    → (first : ℕ) (h : List Act) → Stands d first old h → KnowsRows d (Ap old.number) xs h
+    → Does (here d first (Ap old.number)) (Take octets) (StandsSoFar d first new) (RowsOn NoLooks d old.number ys h) h (seen waited (waited ++ acts) outcome)
+handed d old new octets sta message outcome xs ys ready a b acts waited met was now x first h stands known =
     let n = Ap old.number in
     let p = Sta sta in
     let k = message_fields message in
     let there = is_some a.part.session in
     let so_far = stands.so_far in
+    let beside = met.beside in
     let at = some_part d n sta (station_at old.stations sta) a h was (so_far.parts sta) in
     let come : Comes (here d first n) p (given message.message (frame_of message.frame) old.group.newest (newest_uses old)) octets k h =
-    record { from = message_from d old.number sta octets message w; message = refl; frame = refl; newest = so_far.group_is.newest; uses = uses_are d first old h so_far } in
+    record { from = message_from d old.number sta octets message met.keyed; message = refl; frame = refl; newest = so_far.group_is.newest; uses = uses_are d first old h so_far } in
     let steps = x.steps d first old.number sta octets k h at.1 come in
-    let said = reply_acts (pair_at d [] n p) there (taken_as octets k outcome) x.reply in
-    let same_acts : told_acts d n p there octets k outcome x.reply h ≡ said = told_same d n p there octets k outcome x.reply h suite in
-    let standing : AuthenticatorStands d n p b.part (add said h) =
-    subst (λ (l : List Act). AuthenticatorStands d n p b.part (add l h)) same_acts steps.stands in
-    let about = replied_about d (root_at d []) n p there octets k outcome x.reply in
+    let final = is_final_at (station_at old.stations sta) message.message (frame_of message.frame) in
+    let final_is : is_some x.reply.installed ≡ final = x.final ∙ sym (ap (λ (o : Option Station). is_final_at o message.message (frame_of message.frame)) was) in
+    let put = put_is d old.number sta xs ys ready.between.put.items h final x.reply.installed final_is met.ready_is.put known in
+    let said = told_acts d n p there octets k outcome x.reply h in
+    let said_is : acts ≡ said = x.says ∙ ap (λ (g : Between). replied_acts (own_pair_at d old.number sta) there (taken_as octets k outcome) x.reply g) (same_between met.ready_is.opened put) in
+    let about = told_about d n p there octets k outcome x.reply h in
+    let puts_row = λ (l : List Act) (was_known : KnowsRows d n xs l).
+    subst (λ (g : List Act). KnowsRows d n ys (add g l)) put (rows_put d old.number sta xs ys (puts d.akm final) ready.between.put.items l met.names met.listed met.ready_is.put was_known) in
     record {
       acts = said;
-      row = subst (λ (l : List Act). TakeRow (here d first n) h octets l) same_acts steps.adds;
-      waiting = ap (λ (l : List Act). waited ++ l) x.says;
+      row = steps.adds;
+      waiting = ap (λ (l : List Act). waited ++ l) said_is;
       came = refl;
       stands = stands_with_one d first old new h (add said h) sta so_far (record {
         number = beside.number;
@@ -136,50 +157,141 @@ handed d old new octets sta message outcome a b acts waited suite w beside was n
         counted = beside.counts so_far.counted so_far.few;
         same_group = about_group p said h about;
         here = subst (λ (o : Option Station). HasPart d n sta o (add said h)) (sym now)
-            (at.0, standing, key_replied d (root_at d []) n p there octets k outcome x.reply b.part a.key b.key h x.key x.installs standing.session_is at.2);
+            (at.0, steps.stands, key_told d n p there octets k outcome x.reply h b.part a.key b.key x.key x.installs steps.stands.session_is at.2);
         others = beside.others;
-        goes = λ i other. far_on (Sta i) said h (about_others p i said other about) (λ tk. replied_leaves_others d (root_at d []) n p (Sta i) tk there octets k outcome x.reply other);
+        goes = λ i other. far_on (Sta i) said h (about_others p i said other about) (λ tk. told_leaves_others d n p there octets k outcome x.reply h (Sta i) tk other);
+        moves = subst (λ (m : Moves). HasMoves d n p m (add said h)) (sym (met.moves.moved.here ∙ ap (λ (b : Bool). finished_moves b (moves_at old.targets sta)) (sym final_is)))
+            (told_moves d n sta there octets k outcome x.reply (moves_at old.targets sta) h
+            (λ some. none_pending d n p a.part.attempt (moves_at old.targets sta) h at.1.attempt_is (so_far.moves.each sta) (if_some x.reply.derived x.derives some))
+            (λ some. none_pending d n p a.part.attempt (moves_at old.targets sta) h at.1.attempt_is (so_far.moves.each sta)
+            (final_attempt a.part.ends.akm a.part.attempt message.message (frame_of message.frame) (sym x.final ∙ some)))
+            (so_far.moves.each sta));
+        few_moves = moved_few (length d.stas) old.targets new.targets sta _ met.moves so_far.moves.few (λ there. absurd (omega (arith, there, met.listed)));
+        other_moves = met.moves.moved.others;
       });
+      marks = (told_looks d n p there octets k outcome x.reply h, told_rows d n p there octets k outcome x.reply h xs ys puts_row known);
     }
 
--- without a part it is unawaited
-unhanded : (d : Domain) (s : State) (octets : List ℕ) (sta : ℕ) (message : KeyMessage) (waited : List Act) → IsKeyedAtAp d s.number octets (Sta sta) message → station_at s.stations sta ≡ None → (first : ℕ) (h : List Act) → Stands d first s h
-    → Does (here d first (Ap s.number)) (Take octets) (StandsSoFar d first s) h (seen waited (waited ++ Took (Some (Sta sta)) octets (kind.Key message.message) (Refused reason.Unawaited) None ∷ []) (Refused reason.Unawaited))
-unhanded d s octets sta message waited w none first h stands =
-    does_quiet d s octets (Keyed (message_fields message)) (Some (Sta sta)) (kind.Key message.message) reason.Unawaited waited first h stands w.reads (sym w.judged.1) refl (unawaited_quiet d (Ap s.number))
-    (w.judged.4 first h ∙ unawaited_message d (first + draws h) s.number h (Sta sta) (message_fields message) message.message (no_part d (Ap s.number) sta (station_at s.stations sta) h none (stands.so_far.parts sta))
-    (no_part_session d (Ap s.number) sta (station_at s.stations sta) h none (stands.so_far.parts sta)))
+-- without a part it is unawaited, and nothing is put
+unput : (b : Bool) (d : Domain) (a sta : ℕ) (xs ys : List HeldRow) (g : List Act) → b ≡ false → PutsWhere b d a sta xs ys g → (g ≡ []) × (ys ≡ xs)
+unput true d a sta xs ys g is w = absurd (cc is)
+unput false d a sta xs ys g is w = w
 
-pub takes_message : (d : Domain) (old new : State) (octets : List ℕ) (sta : ℕ) (message : KeyMessage) (outcome : Outcome) (o q : Option Station) (acts waited : List Act) → d.akm ≢ FtPsk → IsKeyedAtAp d old.number octets (Sta sta) message → IsBeside old new sta
-    → ((why : Reason) → outcome ≡ Refused why → new ≡ old) → station_at old.stations sta ≡ o → station_at new.stations sta ≡ q
-    → IsHandedAt (pair_at d [] (Ap old.number) (Sta sta)) (given message.message (frame_of message.frame) old.group.newest (newest_uses old)) (taken_as octets (message_fields message) outcome) o q acts
-    → IsDone d (Take octets) old new (seen waited (waited ++ acts) outcome)
-takes_message d old new octets sta message outcome None q acts waited suite w beside refused was now x =
-    subst (λ (s : State). IsDone d (Take octets) old s (seen waited (waited ++ acts) outcome)) (sym (refused reason.Unawaited x.1))
-    (subst (λ (z : Outcome). IsDone d (Take octets) old old (seen waited (waited ++ acts) z)) (sym x.1)
-    (subst (λ (l : List Act). IsDone d (Take octets) old old (seen waited (waited ++ l) (Refused reason.Unawaited))) (sym x.2)
-    (record { number = refl; does = λ first h stands. unhanded d old octets sta message waited w was first h stands; refused = λ why is. refl })))
-takes_message d old new octets sta message outcome (Some a) q acts waited suite w beside refused was now x = record {
-  number = beside.number;
-  does = handed d old new octets sta message outcome a x.0 acts waited suite w beside was (now ∙ x.1) x.2;
-  refused = refused;
+no_puts : (akm : Akm) → puts akm false ≡ false
+no_puts Psk = refl
+no_puts PskSha256 = refl
+no_puts FtPsk = refl
+
+none_replied : (w : Ends) (t : Taken) (r : Reply) → IsEmpty r → replied_acts w false t r (put_only []) ≡ Took (Some w.peer) t.octets (kind.Key t.message.message) t.outcome None ∷ []
+none_replied w t r e = rw (e.verified, e.derived, e.installed, e.gtk, e.len) refl
+
+empty_reply : (w : Ends) (t : Taken) (r : Reply) (b : Between) → IsEmpty r → b ≡ put_only [] → replied_acts w false t r b ≡ Took (Some w.peer) t.octets (kind.Key t.message.message) t.outcome None ∷ []
+empty_reply w t r b e none = ap (replied_acts w false t r) none ∙ none_replied w t r e
+
+unhanded : (d : Domain) (s : State) (octets : List ℕ) (sta : ℕ) (message : KeyMessage) (xs : List HeldRow) (waited : List Act) → IsKeyedAtAp d s.number octets (Sta sta) message → station_at s.stations sta ≡ None → (first : ℕ) (h : List Act) → Stands d first s h
+    → KnowsRows d (Ap s.number) xs h
+    → Does (here d first (Ap s.number)) (Take octets) (StandsSoFar d first s) (RowsOn NoLooks d s.number xs h) h (seen waited (waited ++ Took (Some (Sta sta)) octets (kind.Key message.message) (Refused reason.Unawaited) None ∷ []) (Refused reason.Unawaited))
+unhanded d s octets sta message xs waited w none first h stands known =
+    let x = does_quiet d s octets (Keyed (message_fields message)) (Some (Sta sta)) (kind.Key message.message) reason.Unawaited waited first h stands w.reads (sym w.judged.1) refl (unawaited_quiet d (Ap s.number))
+    (w.judged.4 first h ∙ unawaited_message d (first + draws h) s.number h (Sta sta) (message_fields message) message.message (no_part d (Ap s.number) sta (station_at s.stations sta) h none (stands.so_far.parts sta))
+    (no_part_session d (Ap s.number) sta (station_at s.stations sta) h none (stands.so_far.parts sta))) in
+    record { acts = x.acts; row = x.row; waiting = x.waiting; came = x.came; stands = x.stands; marks = plain_rows d s.number xs h x.acts x.marks known }
+
+unhanded_done : (d : Domain) (old new : State) (octets : List ℕ) (sta : ℕ) (message : KeyMessage) (outcome : Outcome) (xs ys : List HeldRow) (ready : Ready) (r : Reply) (acts waited : List Act) → IsMet d old new sta octets message xs ys ready
+    → ((why : Reason) → outcome ≡ Refused why → is_final_at (station_at old.stations sta) message.message (frame_of message.frame) ≡ false → new ≡ old) → station_at old.stations sta ≡ None → outcome ≡ Refused reason.Unawaited → IsEmpty r
+    → acts ≡ replied_acts (own_pair_at d old.number sta) false (taken_as octets (message_fields message) outcome) r (between_of ready.between)
+    → IsDoneWith d (Take octets) old new xs ys (seen waited (waited ++ acts) outcome)
+unhanded_done d old new octets sta message outcome xs ys ready r acts waited met refused was came e says =
+    let m = message.message in
+    let f = frame_of message.frame in
+    let last : is_final_at (station_at old.stations sta) m f ≡ false = ap (λ (o : Option Station). is_final_at o m f) was in
+    let none : puts d.akm (is_final_at (station_at old.stations sta) m f) ≡ false = ap (λ (o : Option Station). puts d.akm (is_final_at o m f)) was ∙ no_puts d.akm in
+    let put = unput (puts d.akm (is_final_at (station_at old.stations sta) m f)) d old.number sta xs ys ready.between.put.items none met.ready_is.put in
+    let acts_are : acts ≡ Took (Some (Sta sta)) octets (kind.Key m) (Refused reason.Unawaited) None ∷ [] =
+    says ∙ empty_reply (own_pair_at d old.number sta) (taken_as octets (message_fields message) outcome) r (between_of ready.between) e (same_between met.ready_is.opened put.0)
+    ∙ ap (λ (z : Outcome). Took (Some (Sta sta)) octets (kind.Key m) z None ∷ []) came in
+    subst (λ (s : State). IsDoneWith d (Take octets) old s xs ys (seen waited (waited ++ acts) outcome)) (sym (refused reason.Unawaited came last))
+    (subst (λ (z : Outcome). IsDoneWith d (Take octets) old old xs ys (seen waited (waited ++ acts) z)) (sym came)
+    (subst (λ (l : List Act). IsDoneWith d (Take octets) old old xs ys (seen waited (waited ++ l) (Refused reason.Unawaited))) (sym acts_are)
+    (subst (λ (zs : List HeldRow). IsDoneWith d (Take octets) old old xs zs (seen waited (waited ++ Took (Some (Sta sta)) octets (kind.Key m) (Refused reason.Unawaited) None ∷ []) (Refused reason.Unawaited))) (sym put.1)
+    (record { number = refl; does = λ first h stands known. unhanded d old octets sta message xs waited met.keyed was first h stands known; refused = λ why is. refl }))))
+
+-- a message that is refused is not the last
+not_final : (b : Bool) (a : Station) (new : Part) (outcome : Outcome) (r : Reply) (why : Reason) → is_some r.installed ≡ b → Installs outcome r new → outcome ≡ Refused why → b ≡ false
+not_final false a new outcome r why is installs refused = refl
+not_final true a new outcome r why is installs refused = if_some r.installed (λ y some. (let i = installs y some in absurd (cc (i.0, refused)))) is
+
+takes_by : (d : Domain) (old new : State) (octets : List ℕ) (sta : ℕ) (message : KeyMessage) (outcome : Outcome) (xs ys : List HeldRow) (ready : Ready) (o q : Option Station) (acts waited : List Act) → IsMet d old new sta octets message xs ys ready
+    → ((why : Reason) → outcome ≡ Refused why → is_final_at (station_at old.stations sta) message.message (frame_of message.frame) ≡ false → new ≡ old) → station_at old.stations sta ≡ o → station_at new.stations sta ≡ q
+    → IsHandedAt (own_pair_at d old.number sta) (given message.message (frame_of message.frame) old.group.newest (newest_uses old)) (taken_as octets (message_fields message) outcome) (between_of ready.between) o q acts
+    → IsDoneWith d (Take octets) old new xs ys (seen waited (waited ++ acts) outcome)
+takes_by d old new octets sta message outcome xs ys ready None q acts waited met refused was now x =
+    unhanded_done d old new octets sta message outcome xs ys ready x.2 acts waited met refused was x.1 x.3 x.4
+takes_by d old new octets sta message outcome xs ys ready (Some a) q acts waited met refused was now x = record {
+  number = met.beside.number;
+  does = λ first h stands known. handed d old new octets sta message outcome xs ys ready a x.0 acts waited met was (now ∙ x.1) x.2 first h stands known;
+  refused = λ why is. refused why is (not_final (is_final_at (station_at old.stations sta) message.message (frame_of message.frame)) a x.0.part outcome x.2.reply why
+      (x.2.final ∙ sym (ap (λ (o : Option Station). is_final_at o message.message (frame_of message.frame)) was)) x.2.installs is);
 }
+
+-- all was ready for it
+pub takes_message : (d : Domain) (old new : State) (octets : List ℕ) (sta : ℕ) (message : KeyMessage) (outcome : Outcome) (xs ys : List HeldRow) (ready : Ready) (waited waits : List Act) → IsMet d old new sta octets message xs ys ready
+    → ((why : Reason) → outcome ≡ Refused why → is_final_at (station_at old.stations sta) message.message (frame_of message.frame) ≡ false → new ≡ old) → IsHandedOver sta message ready old new (seen waited waits outcome) → IsDoneWith d (Take octets) old new xs ys (seen waited waits outcome)
+takes_message d old new octets sta message outcome xs ys ready waited waits met refused over =
+    let x = over d (r0kh_id d (Ap old.number)) (Ap old.number) (Sta sta) octets (message_fields message) met.ready_is.room in
+    subst (λ (l : List Act). IsDoneWith d (Take octets) old new xs ys (seen waited l outcome)) (sym x.1)
+    (takes_by d old new octets sta message outcome xs ys ready (station_at old.stations sta) (station_at new.stations sta) x.0 waited met refused refl refl x.2)
+
+-- and then, as it was the last of an attempt or not, the session is of no fast transition
+pub takes_finished : (d : Domain) (old mid : State) (raw now : List Moves) (octets : List ℕ) (sta : ℕ) (message : KeyMessage) (outcome : Outcome) (xs ys : List HeldRow) (ready : Ready) (waited waits : List Act) (final : Bool)
+    → final ≡ is_final_at (station_at old.stations sta) message.message (frame_of message.frame) → IsBeside old mid sta → mid.targets ≡ old.targets → trimmed raw ≡ mid.targets → IsMovedTo raw now sta (finished_moves final (moves_at raw sta))
+    → IsKeyedAtAp d old.number octets (Sta sta) message → IsNamed d
+    → IsReady d old.number sta octets (message_fields message) (is_final_at (station_at old.stations sta) message.message (frame_of message.frame)) xs ys ready
+    → ((why : Reason) → outcome ≡ Refused why → mid ≡ old) → IsHandedOver sta message ready old mid (seen waited waits outcome)
+    → IsDoneWith d (Take octets) old (record mid { targets = trimmed now }) xs ys (seen waited waits outcome)
+takes_finished d old mid raw now octets sta message outcome xs ys ready waited waits final final_is beside same are moved keyed names ready_is refused over =
+    let raw_is : trimmed raw ≡ old.targets = are ∙ same in
+    let here : finished_moves final (moves_at raw sta) ≡ finished_moves (is_final_at (station_at old.stations sta) message.message (frame_of message.frame)) (moves_at old.targets sta) = by final_is (raw_at raw old.targets sta raw_is) in
+    takes_message d old (record mid { targets = trimmed now }) octets sta message outcome xs ys ready waited waits
+    (record {
+      keyed = keyed;
+      names = names;
+      listed = keyed.judged.2;
+      ready_is = ready_is;
+      beside = record { number = beside.number; drawn = beside.drawn; group = beside.group; sending = beside.sending; length_is = beside.length_is; counts = beside.counts; others = beside.others };
+      moves = moved_as old.targets (trimmed now) sta _ _ here (moved_on raw now old.targets sta _ raw_is moved);
+    })
+    (λ why is last. as_before (refused why is)
+    (same_targets now raw old.targets sta raw_is (moved.here ∙ ap (λ (b : Bool). finished_moves b (moves_at raw sta)) (final_is ∙ last)) moved.others))
+    over
+  where
+    by : {b c : Bool} {m x : Moves} → b ≡ c → m ≡ x → finished_moves b m ≡ finished_moves c x
+    by f g = rw (f, g) refl
+
+    as_before : mid ≡ old → trimmed now ≡ old.targets → record mid { targets = trimmed now } ≡ old
+    as_before e f = ap (λ (s : State). record s { targets = trimmed now }) e ∙ ap (λ (l : List Moves). record old { targets = l }) f
 
 -- ---- as the code comes by them
 
-pub handed_as : (d : Domain) (n m : Node) (sta : ℕ) (k : KeyMessage) (g : NewestGroup) (newest : GroupKey) (uses : ℕ) (t : Taken) (o q new : Option Station) (acts : List Act) → n ≡ m → g.key ≡ newest → g.uses ≡ uses → o ≡ q
-    → IsHandedAt (pair_at d [] n (Sta sta)) (given k.message (frame_of k.frame) g.key g.uses) t o new acts → IsHandedAt (pair_at d [] m (Sta sta)) (given k.message (frame_of k.frame) newest uses) t q new acts
-handed_as d n m sta k g newest uses t o q new acts node group count here x =
-    subst (λ (z : Node). IsHandedAt (pair_at d [] z (Sta sta)) (given k.message (frame_of k.frame) newest uses) t q new acts) node
-    (subst (λ (z : ℕ). IsHandedAt (pair_at d [] n (Sta sta)) (given k.message (frame_of k.frame) newest z) t q new acts) count
-    (subst (λ (z : GroupKey). IsHandedAt (pair_at d [] n (Sta sta)) (given k.message (frame_of k.frame) z g.uses) t q new acts) group
-    (subst (λ (z : Option Station). IsHandedAt (pair_at d [] n (Sta sta)) (given k.message (frame_of k.frame) g.key g.uses) t z new acts) here x)))
+pub unhanded_at : (w : Ends) (x : Given) (t : Taken) (b : Between) (o q : Option Station) (acts : List Act) (r : Reply) → o ≡ None → q ≡ None → t.outcome ≡ Refused reason.Unawaited → IsEmpty r → acts ≡ replied_acts w false t r b → IsHandedAt w x t b o q acts
+unhanded_at w x t b o q acts r was now came e says =
+    subst (λ (z : Option Station). IsHandedAt w x t b z q acts) (sym was) (now, came, r, e, says)
+
+pub handed_at : (w : Ends) (x : Given) (t : Taken) (b : Between) (o q : Option Station) (a c : Station) (acts : List Act) → o ≡ Some a → q ≡ Some c → IsHanded w x t b a c acts → IsHandedAt w x t b o q acts
+handed_at w x t b o q a c acts was now is = subst (λ (z : Option Station). IsHandedAt w x t b z q acts) (sym was) (c, now, is)
+
+pub ready_as : (d : Domain) (a b sta : ℕ) (octets : List ℕ) (k : MessageFields) (final other : Bool) (xs ys : List HeldRow) (r : Ready) → a ≡ b → final ≡ other → IsReady d a sta octets k final xs ys r → IsReady d b sta octets k other xs ys r
+ready_as d a b sta octets k final other xs ys r number same w =
+    subst (λ (z : ℕ). IsReady d z sta octets k other xs ys r) number (subst (λ (z : Bool). IsReady d a sta octets k z xs ys r) same w)
+
+pub handed_as : (w : Ends) (m : Message) (f : Frame) (g : NewestGroup) (newest : GroupKey) (uses : ℕ) (t : Taken) (b : Between) (o q new : Option Station) (acts : List Act) → g.key ≡ newest → g.uses ≡ uses → o ≡ q
+    → IsHandedAt w (given m f g.key g.uses) t b o new acts → IsHandedAt w (given m f newest uses) t b q new acts
+handed_as w m f g newest uses t b o q new acts group count here x =
+    subst (λ (z : ℕ). IsHandedAt w (given m f newest z) t b q new acts) count
+    (subst (λ (z : GroupKey). IsHandedAt w (given m f z g.uses) t b q new acts) group
+    (subst (λ (z : Option Station). IsHandedAt w (given m f g.key g.uses) t b z new acts) here x))
 
 -- two facts of what came make a third
 pub if_both : {E : Type 0} (r : Result Outcome E) (P Q R : Outcome → Type 0) → IfOk r P → IfOk r Q → ((o : Outcome) → P o → Q o → R o) → IfOk r R
 if_both (Ok o) P Q R p q then_ = then_ o p q
 if_both (Err e) P Q R p q then_ = tt
-
-pub on_err : {E : Type 0} (r : Result Outcome E) (A B : Type 0) → OnErr r A → (A → B) → OnErr r B
-on_err (Ok o) A B a then_ = tt
-on_err (Err e) A B a then_ = then_ a

@@ -26,6 +26,9 @@ use Rattle.ccmp_guard.specs.Held.{Held}
 use Rattle.data_frames.specs.Holding.{HoldsPairwise, HoldsGroup, LeavesPairwise}
 use Rattle.data_frames.proofs.Standing.{others}
 use Rattle.authenticator.proofs.Standing.{IsOther, other_on}
+use Rattle.targets.specs.declared.moves.Moves.{Moves}
+use Rattle.targets.specs.Stands.{HasMoves}
+use Rattle.targets.proofs.Passing.{moves_apart}
 use Rattle.ap_node.specs.Keys.{HasKey}
 
 -- ---- the group keys
@@ -80,13 +83,18 @@ key_on p (Some x) (Some k) old new keep at = keep x.ptk.tk k at
 pub key_as : (p : Node) (o q : Option Derivation) (k : Option Held) (old new : List Act) → q ≡ o → KeepsKey p old new → HasKey p o k old → HasKey p q k new
 key_as p o q k old new same keep at = subst (λ (x : Option Derivation). HasKey p x k new) (sym same) (key_on p o k old new keep at)
 
+-- the fast transitions with p stand as they did
+abbrev pub KeepsMoves : Node → List Act → List Act → Type 0
+KeepsMoves p old new = (d : Domain) (n : Node) (m : Moves) → HasMoves d n p m old → HasMoves d n p m new
+
 -- from the one history to the other lead acts that are not about p
 pub record IsFar (p : Node) (old new : List Act) : Type 0 where
   pub other : IsOther p old new
   pub keeps_key : KeepsKey p old new
+  pub keeps_moves : KeepsMoves p old new
 
 pub far_on : (p : Node) (g h : List Act) → AllByRecursion (IsApart p) g → AllLeave p g → IsFar p h (add g h)
-far_on p g h apart leave = record { other = other_on p g h apart; keeps_key = keeps p g h leave }
+far_on p g h apart leave = record { other = other_on p g h apart; keeps_key = keeps p g h leave; keeps_moves = λ d n m has. moves_apart d n p m g h apart has }
 
 -- ---- a frame that was refused or ignored, or an event that did nothing
 

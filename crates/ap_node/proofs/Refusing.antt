@@ -1,6 +1,5 @@
 -- Frames that change nothing.
 use Rattle.std.proofs.Common.{◌+◌, ◌≡◌, ◌≢◌, ℕ, false, List, [], ◌∷◌, ◌++◌, Option, Some, None, refl, sym, ap, subst, ◌∙◌, inl, inr}
-use Rattle.domain_base.specs.declared.names.Akm.TheVariants.{FtPsk}
 use Rattle.domain_base.specs.declared.names.Node.{Node}
 use Rattle.domain_base.specs.declared.names.Node.TheVariants.{Ap, Sta}
 use Rattle.rsn_elements.specs.declared.reading.Elements.{Elements}
@@ -29,7 +28,6 @@ use Rattle.key_hierarchy.specs.declared.fast_transition.PmkR1.{PmkR1}
 use Rattle.domain_rules.specs.Closing.{sender}
 use Rattle.domain_rules.proofs.Effects.{refused_acts}
 use Rattle.domain_rules.proofs.Refused.{IsRefused, no_facts, refused_first}
-use Rattle.domain_rules.proofs.Verdicts.{unawaited-m2}
 use Rattle.frame_intake.specs.declared.delivered.Management.{Management as AnyFrame}
 use Rattle.frame_intake.specs.declared.delivered.KeyMessage.{KeyMessage as AnyMessage}
 use Rattle.frame_intake.specs.declared.delivered.SealedData.{SealedData}
@@ -38,24 +36,27 @@ use Rattle.frame_intake.specs.declared.judging.Judged.TheVariants as judged
 use Rattle.frame_intake.specs.Judging.{IsJudged, IsSilent, IsSettled}
 use Rattle.node_base.specs.Peers.{IsPeerOf}
 use Rattle.node_base.specs.Events.{Seen, seen}
+use Rattle.authenticator.specs.Stands.{IsNoConnect}
 use Rattle.authenticator.proofs.Handshaking.{owing_no_session}
+use Rattle.authenticator.proofs.Refusing.{unawaited_m2, unawaited_m4}
 use Rattle.ap_node.specs.State.{State}
-use Rattle.ap_node.specs.Stands.{StandsSoFar, Stands}
-use Rattle.ap_node.specs.Takes.{Does, IsTaken, IsManagedAtAp, IsRequest, IsKeyedAtAp, IsSealedAtAp}
+use Rattle.ap_node.specs.Stands.{AllPlain, StandsSoFar, Stands}
+use Rattle.ap_node.specs.Takes.{Does, IsTaken, IsManagedAtAp, IsRequestOf, IsKeyedAtAp, IsSealedAtAp}
 use Rattle.frame_intake.proofs.Silence.{silent_unawaited}
-use Rattle.ap_node.proofs.Connects.{other_kind}
+use Rattle.ap_node.proofs.Attempts.{other_kind}
 use Rattle.ap_node.proofs.Others.{same-refused, same-ignored}
 use Rattle.ap_node.proofs.Standing.{so_far_as_before}
+use Rattle.ap_node.proofs.Plain.{plain_response}
 use Rattle.ap_node.proofs.Ending.{settled_steps}
 
 -- it takes the frame, and is as it was
 abbrev pub Stays : Domain → State → List ℕ → List Act → List Act → Outcome → Type 0
 Stays d s octets waited waits outcome = IsTaken d (Take octets) s s (seen waited waits outcome)
 
-pub stays : (d : Domain) (s : State) (event : NodeEvent) (x : Seen) → ((first : ℕ) (h : List Act) → Stands d first s h → Does (here d first (Ap s.number)) event (StandsSoFar d first s) h x) → IsTaken d event s s x
+pub stays : (d : Domain) (s : State) (event : NodeEvent) (x : Seen) → ((first : ℕ) (h : List Act) → Stands d first s h → Does (here d first (Ap s.number)) event (StandsSoFar d first s) AllPlain h x) → IsTaken d event s s x
 stays d s event x does = record {
   number = refl;
-  steps = λ first h stands. settled_steps d first event s s x h refl stands.settled stands.connects (does first h stands);
+  steps = λ first h stands. settled_steps d first event s s x h refl stands.settled (does first h stands);
   refused = λ why is. refl;
 }
 
@@ -75,7 +76,7 @@ says_refused octets why from other k m s t answer look more from_is kind_is seal
 -- after that history
 does_refused : (d : Domain) (s : State) (octets : List ℕ) (r : Reading) (from : Option Node) (k : Kind) (why : Reason) (seal : Option Seal) (answer waited waits : List Act) (first : ℕ) (h : List Act) → Stands d first s h → Reads d.akm octets r
     → from ≡ sender d (Ap s.number) r → k ≡ kind_of r → answer ≡ response d (Ap s.number) from k why → Unasked s from r why → IsRefused d first (Ap s.number) h r why seal → waits ≡ waited ++ Took from octets k (Refused why) seal ∷ answer
-    → Does (here d first (Ap s.number)) (Take octets) (StandsSoFar d first s) h (seen waited waits (Refused why))
+    → Does (here d first (Ap s.number)) (Take octets) (StandsSoFar d first s) AllPlain h (seen waited waits (Refused why))
 does_refused d s octets r from k why seal answer waited waits first h stands reads from_is kind_is answer_is unasked w waiting =
     let n = Ap s.number in
     let look_is : refused_look n (sender d n r) r w.facts.pulled why ≡ [] = ap (λ (o : Option Node). refused_look n o r w.facts.pulled why) (sym from_is) ∙ unasked w.facts.pulled in
@@ -97,6 +98,7 @@ does_refused d s octets r from k why seal answer waited waits first h stands rea
       came = refl;
       stands = subst (λ (g : List Act). StandsSoFar d first s (add (Took from octets k (Refused why) seal ∷ g) h)) (sym answer_is)
           (so_far_as_before d first s h (add (refused_acts d (Ap s.number) from octets k why seal) h) (same-refused d (Ap s.number) from octets k why seal h) stands.so_far);
+      marks = ((tt, refl), subst (λ (g : List Act). AllPlain g) (sym answer_is) (plain_response d (Ap s.number) from k why));
     }
 
 pub takes_refused : (d : Domain) (s : State) (octets : List ℕ) (r : Reading) (from : Option Node) (k : Kind) (why : Reason) (seal : Option Seal) (answer waited waits : List Act) → Reads d.akm octets r
@@ -109,7 +111,7 @@ takes_refused d s octets r from k why seal answer waited waits reads from_is kin
 
 pub does_quiet : (d : Domain) (s : State) (octets : List ℕ) (r : Reading) (from : Option Node) (k : Kind) (why : Reason) (waited : List Act) (first : ℕ) (h : List Act) → Stands d first s h → Reads d.akm octets r
     → from ≡ sender d (Ap s.number) r → k ≡ kind_of r → IsSilent d (Ap s.number) why → first_verdict d first (Ap s.number) h r ≡ Refused why
-    → Does (here d first (Ap s.number)) (Take octets) (StandsSoFar d first s) h (seen waited (waited ++ Took from octets k (Refused why) None ∷ []) (Refused why))
+    → Does (here d first (Ap s.number)) (Take octets) (StandsSoFar d first s) AllPlain h (seen waited (waited ++ Took from octets k (Refused why) None ∷ []) (Refused why))
 does_quiet d s octets r from k why waited first h stands reads from_is kind_is quiet refused =
     does_refused d s octets r from k why None [] waited (waited ++ Took from octets k (Refused why) None ∷ []) first h stands reads from_is kind_is (sym (quiet.answer from k)) (quiet.look from r) (refused_first d first (Ap s.number) h r why refused) refl
 
@@ -137,6 +139,7 @@ takes_ignored d s octets r from waited waits reads from_is passed ignored waitin
   waiting = waiting ∙ ap (λ (act : Act). waited ++ act ∷ []) (cc (from_is ∙ ap (sender d (Ap s.number)) passed, ap kind_of passed));
   came = refl;
   stands = so_far_as_before d first s h (Took None octets kind.Ignored Ignored None ∷ h) (same-ignored octets h) stands.so_far;
+  marks = ((tt, refl), tt);
 })
 
 -- ---- judged with no question to the history
@@ -162,16 +165,16 @@ takes_settled d s octets r from k o n waited waits reads was number kind_is wait
 pub unawaited_quiet : (d : Domain) (n : Node) → IsSilent d n reason.Unawaited
 unawaited_quiet d n = silent_unawaited d n
 
-pub takes_other_frame : (d : Domain) (s : State) (octets : List ℕ) (from : Node) (frame : AnyFrame) (elements : Elements) (k : Kind) (waited waits : List Act) → d.akm ≢ FtPsk → IsManagedAtAp d s.number octets from frame elements → k ≡ frame.kind → (k ≡ kind.AssocReq → ⊥)
-    → waits ≡ waited ++ Took (Some from) octets k (Refused reason.Unawaited) None ∷ [] → Stays d s octets waited waits (Refused reason.Unawaited)
-takes_other_frame d s octets from frame elements k waited waits suite w is other waiting =
-    takes_quiet d s octets (Managed (management_fields frame) (element_fields elements)) (Some from) k reason.Unawaited waited waits w.reads (sym w.judged.1) is (unawaited_quiet d (Ap s.number))
-    (λ first h stands. w.judged.3 first h ∙ other_kind d (first + draws h) s.number h from frame.kind (management_fields frame) (element_fields elements) suite (stands.connects suite) (λ same. other (is ∙ same))) waiting
+pub takes_other : (d : Domain) (s : State) (octets : List ℕ) (from : Node) (frame : AnyFrame) (elements : Elements) (waited waits : List Act) → IsManagedAtAp d s.number octets from frame elements → frame.kind ≢ kind.AssocReq → frame.kind ≢ kind.FtReq → frame.kind ≢ kind.ReReq
+    → waits ≡ waited ++ Took (Some from) octets frame.kind (Refused reason.Unawaited) None ∷ [] → Stays d s octets waited waits (Refused reason.Unawaited)
+takes_other d s octets from frame elements waited waits w no_association no_auth no_reassociation waiting =
+    takes_quiet d s octets (Managed (management_fields frame) (element_fields elements)) (Some from) frame.kind reason.Unawaited waited waits w.reads (sym w.judged.1) refl (unawaited_quiet d (Ap s.number))
+    (λ first h stands. w.judged.3 first h ∙ other_kind d (first + draws h) s.number h from frame.kind (management_fields frame) (element_fields elements) no_association no_auth no_reassociation) waiting
 
--- an EAPOL-Key message is unawaited where there is no attempt and no session
-pub unawaited_message : (d : Domain) (drawn a : ℕ) (h : List Act) (p : Node) (k : KeyMessage) (m : Message) → attempt p h ≡ None → session p h ≡ None → key_verdict d drawn (Ap a) h p k m ≡ Refused reason.Unawaited
-unawaited_message d drawn a h p k M2 none no_session = unawaited-m2 d (Ap a) h p k none
-unawaited_message d drawn a h p k M4 none no_session = rw none refl
+-- an EAPOL-Key message is unawaited where there is neither an attempt by association nor a session
+pub unawaited_message : (d : Domain) (drawn a : ℕ) (h : List Act) (p : Node) (k : KeyMessage) (m : Message) → IsNoConnect (attempt p h) → session p h ≡ None → key_verdict d drawn (Ap a) h p k m ≡ Refused reason.Unawaited
+unawaited_message d drawn a h p k M2 none no_session = unawaited_m2 d (Ap a) h p k (attempt p h) none
+unawaited_message d drawn a h p k M4 none no_session = unawaited_m4 d p k (attempt p h) none
 unawaited_message d drawn a h p k G2 none no_session = ap (g2_verdict_by d h p k) (owing_no_session p h no_session)
 unawaited_message d drawn a h p k m none no_session = refl
 
@@ -204,5 +207,5 @@ is_station d n a from node peer = station_by from (subst (λ (x : Node). IsPeerO
     station_by (Ap k) peer = absurd peer
     station_by (Sta k) peer = refl
 
-pub request_from : (d : Domain) (a : ℕ) (octets : List ℕ) (from : Node) (station : ℕ) (frame : AnyFrame) (elements : Elements) → from ≡ Sta station → frame.kind ≡ kind.AssocReq → IsManagedAtAp d a octets from frame elements → IsRequest d a octets station elements
-request_from d a octets from station frame elements is kind_is managed = record { frame = frame; is = kind_is; managed = subst (λ (x : Node). IsManagedAtAp d a octets x frame elements) is managed }
+pub request_from : (d : Domain) (a : ℕ) (k : Kind) (octets : List ℕ) (from : Node) (station : ℕ) (frame : AnyFrame) (elements : Elements) → from ≡ Sta station → frame.kind ≡ k → IsManagedAtAp d a octets from frame elements → IsRequestOf k d a octets station elements
+request_from d a k octets from station frame elements is kind_is managed = record { frame = frame; is = kind_is; managed = subst (λ (x : Node). IsManagedAtAp d a octets x frame elements) is managed }

@@ -32,7 +32,7 @@ use Rattle.ccmp_guard.specs.Held.{Held}
 use Rattle.data_frames.specs.Holding.{HoldsGroup}
 use Rattle.data_frames.proofs.RepliedKeys.{sent_leaves}
 use Rattle.node_base.specs.Events.{seen}
-use Rattle.act_memory.proofs.RepliedActs.{IsAbout, sent_about, about_draws, about_others, sent_ends, ends_session}
+use Rattle.act_memory.proofs.RepliedActs.{IsAbout, all_joined, sent_about, about_draws, about_others, sent_ends, ends_session}
 use Rattle.domain_rules.specs.Replies.{sent_acts}
 use Rattle.ap_node.specs.Keys.{HasKey}
 use Rattle.ap_node.specs.declared.station.Station.{Station}
@@ -43,10 +43,15 @@ use Rattle.authenticator.proofs.Standing.{no_session}
 use Rattle.ap_node.specs.State.{State, station_at}
 use Rattle.ap_node.specs.Counts.{owing_count}
 use Rattle.ap_node.specs.Giving.{IsGivenIn, IsGivenAt, AreGiven}
-use Rattle.ap_node.specs.Stands.{HasPart, StandsSoFar, Stands}
+use Rattle.ap_node.specs.Stands.{AllPlain, HasPart, StandsSoFar, Stands}
 use Rattle.ap_node.specs.Takes.{Does, IsDone}
 use Rattle.ap_node.proofs.Others.{IsSameGroup, same_group, about_group, holds_on, in_use_on, AllLeave, keeps, key_as, far_on}
-use Rattle.ap_node.proofs.Standing.{part_on}
+use Rattle.ft_exchange.proofs.TargetStanding.{Passes}
+use Rattle.targets.specs.declared.moves.Moves.{Moves}
+use Rattle.targets.specs.Stands.{TargetsStand}
+use Rattle.targets.proofs.Passing.{moves_more, moves_add, drew_passes, sent_any_passes}
+use Rattle.ap_node.proofs.Standing.{moves_on, part_on}
+use Rattle.ap_node.proofs.Plain.{plain_sessions}
 use Rattle.ap_node.proofs.Repeating.{counts_low}
 
 -- ---- the G1 that were sent for the newest group key
@@ -267,6 +272,7 @@ pub record IsRenewed (d : Domain) (old new : State) (key : List ℕ) (waited wai
   pub sending : new.sending ≡ old.sending
   pub newest : new.group.newest ≡ placed (suc old.group.newest.place) key
   pub length_is : length new.stations ≡ length old.stations
+  pub targets : new.targets ≡ old.targets
   pub counted : new.owing ≡ owing_count new.group.newest.place new.stations
   pub given : length old.stations ≤ 65536
       → (acts : List Act) × (waits ≡ (waited ++ Drew (Gtk key) ∷ []) ++ acts) × AreGiven new.group.newest old.stations new.stations (length old.stations) acts
@@ -295,6 +301,16 @@ based d first old new key waited waits h w at = record {
   none = λ j. refl;
 }
 
+-- G1 begins and ends nothing
+session_pass : (p : Node) (d : Domain) (n q : Node) (h : List Act) (o : Option Derivation) → AllByRecursion (Passes p) (to_session d n q h o)
+session_pass p d n q h None = tt
+session_pass p d n q h (Some x) = (sent_any_passes p _ _ _ _, tt)
+
+sessions_pass : (p : Node) (d : Domain) (n : Node) (k : ℕ) (h : List Act) → AllByRecursion (Passes p) (to_sessions d n k h)
+sessions_pass p d n zero h = tt
+sessions_pass p d n (suc k) h =
+    all_joined (Passes p) (to_sessions d n k h) _ (sessions_pass p d n k h) (session_pass p d n (Sta k) (add (to_sessions d n k h) h) (session (Sta k) (add (to_sessions d n k h) h)))
+
 -- the access point behind all of it
 renewed_stands : (d : Domain) (first : ℕ) (old new : State) (key : List ℕ) (waited waits acts h : List Act) → IsRenewed d old new key waited waits → StandsSoFar d first old h
     → IsGivenTo d old.number old.stations new.stations (length old.stations) acts (Drew (Gtk key) ∷ h) → StandsSoFar d first new (add acts (Drew (Gtk key) ∷ h))
@@ -310,6 +326,11 @@ renewed_stands d first old new key waited waits acts h w at so =
       counted = w.counted;
       parts = λ j. subst (λ (a : ℕ). HasPart d (Ap a) j (station_at new.stations j) (add acts base)) (sym w.number)
           (parts_after d old.number old.stations new.stations acts base w.length_is so j);
+      moves = subst (λ (a : ℕ). TargetsStand d a new.targets (add acts base)) (sym w.number)
+          (subst (λ (l : List Moves). TargetsStand d old.number l (add acts base)) (sym w.targets)
+          (moves_on d old.number old.targets h (add acts base) (λ k e n m has. moves_add e n (Sta k) m acts base
+          (subst (λ (g : List Act). AllByRecursion (Passes (Sta k)) g) (sym so.says) (sessions_pass (Sta k) d (Ap old.number) (length old.stations) base))
+          (moves_more e n (Sta k) m (Drew (Gtk key)) h (drew_passes (Sta k) (Gtk key)) has)) at.moves));
     }
   where
     plus_suc : (n m : ℕ) → suc (n + m) ≡ n + suc m
@@ -324,7 +345,7 @@ row_acts d first a key acts h key_is acts_are =
     ap (λ (l : List Act). Drew (Gtk key) ∷ l) acts_are ∙ ap (λ (k : List ℕ). Drew (Gtk k) ∷ to_sessions d (Ap a) (length d.stas) (Drew (Gtk k) ∷ h)) key_is
 
 renews_does : (d : Domain) (old new : State) (key : List ℕ) (waited waits : List Act) → IsRenewed d old new key waited waits → (first : ℕ) (h : List Act) → Stands d first old h
-    → Does (here d first (Ap old.number)) Rekey (StandsSoFar d first new) h (seen waited waits Done)
+    → Does (here d first (Ap old.number)) Rekey (StandsSoFar d first new) AllPlain h (seen waited waits Done)
 renews_does d old new key waited waits w first h stands =
     let at = stands.so_far in
     let base = Drew (Gtk key) ∷ h in
@@ -339,6 +360,7 @@ renews_does d old new key waited waits w first h stands =
       waiting = gave.1 ∙ append_assoc waited (Drew (Gtk key) ∷ []) gave.0;
       came = refl;
       stands = renewed_stands d first old new key waited waits gave.0 h w at so;
+      marks = ((tt, refl), subst (λ (g : List Act). AllPlain g) (sym (so.says ∙ to_listed d old.number new.group.newest old.stations base is_base)) (plain_sessions d (Ap old.number) (length d.stas) base));
     }
 
 pub renews : (d : Domain) (old new : State) (key : List ℕ) (waited waits : List Act) → IsRenewed d old new key waited waits → IsDone d Rekey old new (seen waited waits Done)

@@ -1,5 +1,5 @@
 -- What is sent once more.
-use Rattle.std.proofs.Common.{◌≡◌, ℕ, ◌+◌, ◌<◌, ◌≤◌, ◌^◌, Bool, true, false, cond, List, [], ◌∷◌, ◌++◌, Option, Some, None, refl, sym, ap, subst, ◌∙◌, arith}
+use Rattle.std.proofs.Common.{◌≡◌, ℕ, ◌+◌, ◌<◌, ◌≤◌, ◌^◌, Bool, true, false, cond, List, length, [], ◌∷◌, ◌++◌, Option, Some, None, refl, sym, ap, subst, ◌∙◌, arith}
 use Rattle.std.specs.Prelude.{◌-◌, take, is_some, ◌==◌}
 use Rattle.std.specs.List.{AllByRecursion}
 use Rattle.domain_base.specs.declared.names.Node.{Node}
@@ -17,12 +17,12 @@ use Rattle.run_journal.specs.declared.acts.Act.TheVariants.{Closed, GaveUp, Idle
 use Rattle.run_journal.specs.declared.reply.Reply.{Reply}
 use Rattle.run_journal.specs.GroupKinds as groups
 use Rattle.run_journal.specs.Acts.{same, Derivation}
-use Rattle.run_journal.specs.Questions.{session, group_keys, draws, add}
+use Rattle.run_journal.specs.Questions.{attempt, session, group_keys, draws, add}
 use Rattle.domain_rules.specs.Here.{here}
 use Rattle.domain_rules.specs.Replies.{frame_acts, sent_acts}
 use Rattle.domain_rules.specs.Network.{draw_end}
 use Rattle.domain_rules.specs.Counters.{next_in_session}
-use Rattle.domain_rules.specs.AccessPointRows.{retry_acts, retry_session}
+use Rattle.domain_rules.specs.AccessPointRows.{retry_session}
 use Rattle.domain_rules.specs.Rows.{Retry, outcome_of}
 use Rattle.domain_rules.proofs.Parts.{IsApart, apart-closed, apart-closed_session, apart-idle}
 use Rattle.group_key.specs.declared.keys.GroupKey.{GroupKey}
@@ -38,16 +38,23 @@ use Rattle.authenticator.specs.declared.session.Session.{Session}
 use Rattle.authenticator.specs.declared.authenticator.Again.{Again}
 use Rattle.authenticator.specs.declared.authenticator.Again.TheVariants as again
 use Rattle.authenticator.proofs.Handshaking.{counts_newest, owing_no_session}
+use Rattle.authenticator.proofs.Asking.{no_retry}
 use Rattle.authenticator.proofs.Standing.{has_session}
 use Rattle.ap_node.specs.declared.newest.NewestGroup.{NewestGroup}
+use Rattle.targets.specs.declared.moves.Moves.{Moves}
+use Rattle.targets.specs.State.{moves_at}
+use Rattle.targets.specs.Stands.{HasMoves}
 use Rattle.ap_node.specs.State.{State, station_at, newest_uses}
+use Rattle.ap_node.specs.Moving.{given_up_moves, IsMovedOn}
+use Rattle.ap_node.proofs.ToldMoves.{again_moves, given_up_none}
+use Rattle.ap_node.proofs.Trimming.{moved_few, kept_few}
 use Rattle.ap_node.specs.Stands.{HasPart, StandsSoFar}
 use Rattle.ap_node.specs.Parts.{IsResent, IsResentAt}
-use Rattle.ap_node.specs.Takes.{IsDone}
+use Rattle.ap_node.specs.Takes.{IsDone, IsBeside}
 use Rattle.ap_node.proofs.Others.{IsSameGroup, about_group, far_on, same-idle}
 use Rattle.ap_node.proofs.InUse.{again_leaves, key_again}
 use Rattle.ap_node.proofs.Standing.{no_part, no_part_session, some_part, part_on, stands_with_one, uses_are}
-use Rattle.ap_node.proofs.Messaging.{IsBeside}
+use Rattle.ap_node.proofs.Plain.{plain_again}
 
 -- ---- what the acts of a retry leave
 
@@ -112,9 +119,14 @@ newest_group key uses = record { key = key; uses = uses }
 abbrev pub newest_of : State → NewestGroup
 newest_of s = newest_group s.group.newest (newest_uses s)
 
-resent : (d : Domain) (old new : State) (sta : ℕ) (a b : Station) (acts waited : List Act) (outcome : Outcome) → IsBeside old new sta → station_at old.stations sta ≡ Some a → station_at new.stations sta ≡ Some b → outcome ≡ outcome_of acts → IsResent sta (newest_of old) a b acts
+few_given_up : (d : Domain) (old new : State) (sta : ℕ) (outcome : Outcome) → IsMovedOn old.targets new.targets sta (given_up_moves outcome (moves_at old.targets sta)) → length old.targets ≤ length d.stas → length new.targets ≤ length d.stas
+few_given_up d old new sta outcome moved few =
+    moved_few (length d.stas) old.targets new.targets sta (given_up_moves outcome (moves_at old.targets sta)) moved few
+    (kept_few (length d.stas) old.targets sta (given_up_moves outcome (moves_at old.targets sta)) few (λ none. ap (given_up_moves outcome) none ∙ given_up_none outcome))
+
+resent : (d : Domain) (old new : State) (sta : ℕ) (a b : Station) (acts waited : List Act) (outcome : Outcome) → IsBeside old new sta → IsMovedOn old.targets new.targets sta (given_up_moves outcome (moves_at old.targets sta)) → station_at old.stations sta ≡ Some a → station_at new.stations sta ≡ Some b → outcome ≡ outcome_of acts → IsResent sta (newest_of old) a b acts
     → IsDone d (Retry sta) old new (seen waited (waited ++ acts) outcome)
-resent d old new sta a b acts waited outcome beside was now came_is x = record {
+resent d old new sta a b acts waited outcome beside moved was now came_is x = record {
   number = beside.number;
   does = λ first h stands.
       (let n = Ap old.number in
@@ -141,13 +153,18 @@ resent d old new sta a b acts waited outcome beside was now came_is x = record {
               (at.0, y.stands, key_again p (is_some b.part.session) x.came x.reply a.key b.key h x.key (has_session d n p b.part.session (add said h) y.stands.session_is) at.2);
           others = beside.others;
           goes = λ k other. far_on (Sta k) said h (again-apart k p x.came x.reply other) (again_leaves (Sta k) p x.came x.reply);
+          moves = subst (λ (m : Moves). HasMoves d n p m (add said h)) (sym (moved.moved.here ∙ ap (λ (o : Outcome). given_up_moves o (moves_at old.targets sta)) (came_is ∙ ap outcome_of x.says)))
+              (again_moves d n sta x.came x.reply (moves_at old.targets sta) h (sent_done p x.reply) y.adds (so_far.moves.each sta));
+          few_moves = few_given_up d old new sta outcome moved so_far.moves.few;
+          other_moves = moved.moved.others;
         });
+        marks = plain_again p x.came x.reply;
       });
   refused = λ why_ is. absurd (never_refused (Sta sta) x.came x.reply outcome why_ (came_is ∙ ap outcome_of x.says) is);
 }
 
-idle : (d : Domain) (old new : State) (sta : ℕ) (waited : List Act) → IsBeside old new sta → station_at old.stations sta ≡ None → station_at new.stations sta ≡ None → IsDone d (Retry sta) old new (seen waited (waited ++ Idle why.Nothing ∷ []) (IdleBy why.Nothing))
-idle d old new sta waited beside was now = record {
+idle : (d : Domain) (old new : State) (sta : ℕ) (waited : List Act) → IsBeside old new sta → IsMovedOn old.targets new.targets sta (moves_at old.targets sta) → station_at old.stations sta ≡ None → station_at new.stations sta ≡ None → IsDone d (Retry sta) old new (seen waited (waited ++ Idle why.Nothing ∷ []) (IdleBy why.Nothing))
+idle d old new sta waited beside moved was now = record {
   number = beside.number;
   does = λ first h stands.
       (let n = Ap old.number in
@@ -157,7 +174,7 @@ idle d old new sta waited beside was now = record {
       let same = same-idle why.Nothing h in
       record {
         acts = Idle why.Nothing ∷ [];
-        row = sym (ap (retry_acts d n h (Sta sta)) none ∙ ap (retry_session d n h (Sta sta)) unowed);
+        row = sym (no_retry d n (Sta sta) h (attempt (Sta sta) h) none ∙ ap (retry_session d n h (Sta sta)) unowed);
         waiting = refl;
         came = refl;
         stands = stands_with_one d first old new h (Idle why.Nothing ∷ h) sta so_far (record {
@@ -172,17 +189,21 @@ idle d old new sta waited beside was now = record {
           here = subst (λ (o : Option Station). HasPart d n sta o (Idle why.Nothing ∷ h)) (sym now) (part_on d n sta None h (Idle why.Nothing ∷ h) (same.each (Sta sta)) (subst (λ (o : Option Station). HasPart d n sta o h) was (so_far.parts sta)));
           others = beside.others;
           goes = λ k other. same.each (Sta k);
+          moves = subst (λ (m : Moves). HasMoves d n (Sta sta) m (Idle why.Nothing ∷ h)) (sym moved.moved.here) ((same.each (Sta sta)).keeps_moves d n (moves_at old.targets sta) (so_far.moves.each sta));
+          few_moves = few_given_up d old new sta (IdleBy why.Nothing) moved so_far.moves.few;
+          other_moves = moved.moved.others;
         });
+        marks = ((tt, refl), tt);
       });
   refused = λ why_ is. absurd (cc is);
 }
 
-pub retries : (d : Domain) (old new : State) (sta : ℕ) (o q : Option Station) (acts waited : List Act) (outcome : Outcome) → IsBeside old new sta → station_at old.stations sta ≡ o → station_at new.stations sta ≡ q → outcome ≡ outcome_of acts → IsResentAt sta (newest_of old) o q acts
+pub retries : (d : Domain) (old new : State) (sta : ℕ) (o q : Option Station) (acts waited : List Act) (outcome : Outcome) → IsBeside old new sta → IsMovedOn old.targets new.targets sta (given_up_moves outcome (moves_at old.targets sta)) → station_at old.stations sta ≡ o → station_at new.stations sta ≡ q → outcome ≡ outcome_of acts → IsResentAt sta (newest_of old) o q acts
     → IsDone d (Retry sta) old new (seen waited (waited ++ acts) outcome)
-retries d old new sta None q acts waited outcome beside was now came_is x =
+retries d old new sta None q acts waited outcome beside moved was now came_is x =
     subst (λ (g : List Act). IsDone d (Retry sta) old new (seen waited (waited ++ g) outcome)) (sym x.1)
-    (subst (λ (z : Outcome). IsDone d (Retry sta) old new (seen waited (waited ++ Idle why.Nothing ∷ []) z)) (sym (came_is ∙ ap outcome_of x.1)) (idle d old new sta waited beside was (now ∙ x.0)))
-retries d old new sta (Some a) q acts waited outcome beside was now came_is x = resent d old new sta a x.0 acts waited outcome beside was (now ∙ x.1) came_is x.2
+    (subst (λ (z : Outcome). IsDone d (Retry sta) old new (seen waited (waited ++ Idle why.Nothing ∷ []) z)) (sym (came_is ∙ ap outcome_of x.1)) (idle d old new sta waited beside (subst (λ (z : Outcome). IsMovedOn old.targets new.targets sta (given_up_moves z (moves_at old.targets sta))) (came_is ∙ ap outcome_of x.1) moved) was (now ∙ x.0)))
+retries d old new sta (Some a) q acts waited outcome beside moved was now came_is x = resent d old new sta a x.0 acts waited outcome beside moved was (now ∙ x.1) came_is x.2
 
 -- as the code comes by them
 pub newest_as : (g : NewestGroup) (s : State) → g.key ≡ s.group.newest → g.uses ≡ newest_uses s → g ≡ newest_of s

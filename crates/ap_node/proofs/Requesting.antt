@@ -1,8 +1,7 @@
 -- Association requests.
-use Rattle.std.proofs.Common.{◌≡◌, ◌≢◌, ℕ, ◌+◌, ◌<◌, ◌≤◌, Bool, true, false, List, [], ◌∷◌, ◌++◌, length, Option, Some, None, Result, Ok, Err, refl, sym, ap, subst, ◌∙◌, arith, inl, inr}
+use Rattle.std.proofs.Common.{◌≡◌, ℕ, ◌+◌, ◌<◌, ◌≤◌, Bool, true, false, List, [], ◌∷◌, ◌++◌, length, Option, Some, None, Result, Ok, Err, refl, sym, ap, subst, ◌∙◌, arith, inl, inr}
 use Rattle.std.specs.Prelude.{◌==◌, nat_lt, if◌then◌else◌, is_some, IfOk, OnOk}
 use Rattle.std.proofs.lemmas.Bool.{lt-ltb, le-ltb, cases_Bool, eqb-true, eq-eqb}
-use Rattle.domain_base.specs.declared.names.Akm.TheVariants.{FtPsk}
 use Rattle.domain_base.specs.declared.names.Node.{Node}
 use Rattle.domain_base.specs.declared.names.Node.TheVariants.{Ap, Sta}
 use Rattle.rsn_elements.specs.declared.framing.Within.TheVariants.{Body}
@@ -22,7 +21,7 @@ use Rattle.run_journal.specs.declared.acts.Outcome.TheVariants.{Accepted, Refuse
 use Rattle.run_journal.specs.declared.acts.Act.{Act}
 use Rattle.run_journal.specs.declared.acts.Act.TheVariants.{Opened, Closed, Drew, Took}
 use Rattle.run_journal.specs.Acts.{same}
-use Rattle.run_journal.specs.Questions.{attempt, session, draws, add}
+use Rattle.run_journal.specs.Questions.{or_else, attempt, session, draws, add}
 use Rattle.domain_rules.specs.Network.{nonce, draw_end}
 use Rattle.domain_rules.specs.Reading.{Management, Managed}
 use Rattle.domain_rules.specs.Frames.{sent_assoc_resp, sent_m1, sent_refusal}
@@ -38,7 +37,6 @@ use Rattle.domain_rules.proofs.Parts.{same-refl}
 use Rattle.domain_rules.proofs.Effects.{answer_acts, answer-add, heard-request, answer-apart, answer-draws}
 use Rattle.domain_rules.proofs.Refused.{no_facts, refused_first}
 use Rattle.domain_rules.proofs.Verdicts.{accepted-rsne}
-use Rattle.domain_rules.proofs.SuiteWords.{mobility_suite}
 use Rattle.frame_intake.specs.declared.delivered.Management.{Management as AnyFrame}
 use Rattle.frame_intake.specs.Views.{management_fields}
 use Rattle.node_base.specs.Events.{seen}
@@ -46,21 +44,30 @@ use Rattle.authenticator.specs.State.{State as Part, with_session}
 use Rattle.authenticator.specs.Stands.{AuthenticatorStands}
 use Rattle.ap_node.specs.declared.station.Station.{Station}
 use Rattle.group_key.specs.Keys.{Pair}
-use Rattle.authenticator.specs.Stands.{Counts, HasAttempt}
+use Rattle.authenticator.specs.Stands.{Counts}
 use Rattle.authenticator.specs.Steps.{IsBegun}
-use Rattle.authenticator.specs.declared.attempt.Attempt.{Attempt}
 use Rattle.authenticator.specs.declared.session.Session.{Session}
 use Rattle.authenticator.proofs.Handshaking.{counts_on}
 use Rattle.authenticator.proofs.Standing.{session_on}
-use Rattle.ap_node.specs.State.{State, station_at, attempt_in, session_in, key_in}
+use Rattle.ft_exchange.proofs.TargetStanding.{took_passes}
+use Rattle.targets.specs.declared.moves.Moves.{Moves}
+use Rattle.targets.specs.State.{moves_at, without_pending}
+use Rattle.targets.specs.Stands.{HasMoves}
+use Rattle.targets.proofs.Beginning.{opened_connect, closed_attempt}
+use Rattle.targets.proofs.Passing.{moves_more, drew_passes, sent_any_passes}
+use Rattle.ap_node.specs.State.{State, station_at, session_in, key_in}
+use Rattle.ap_node.specs.Moving.{has_any_attempt}
 use Rattle.ap_node.specs.Counts.{owes_part}
 use Rattle.ap_node.specs.Stands.{HasPart, StandsSoFar, IsSettled}
-use Rattle.ap_node.specs.Takes.{IsTaken, IsManagedAtAp, IsRequest, Begins, BeginsWith, closed, associated_acts}
+use Rattle.ap_node.specs.Takes.{IsTaken, IsManagedAtAp, IsRequest, Begins, BeginsWith, closed, request_status, associated_acts}
 use Rattle.ap_node.proofs.Others.{IsSameGroup, AllLeave, keeps, key_as, far_on}
 use Rattle.ap_node.proofs.InUse.{has_key_in}
 use Rattle.ap_node.proofs.Owed.{owes_at, count_same}
+use Rattle.ap_node.proofs.Attempts.{any_attempt}
+use Rattle.ap_node.proofs.Trimming.{moved_few}
+use Rattle.ap_node.proofs.Plain.{plain_append, plain_closed}
 use Rattle.ap_node.proofs.Ending.{settled_steps}
-use Rattle.ap_node.proofs.Standing.{has_attempt_in, has_session_in, stands_with_one}
+use Rattle.ap_node.proofs.Standing.{has_session_in, stands_with_one}
 use Rattle.ap_node.proofs.Refusing.{Stays, takes_refused}
 
 -- ---- what comes of it
@@ -73,9 +80,29 @@ verdict_is d a octets station frame elements w is first h = w.judged.3 first h �
 unasked : (a : ℕ) (p : Node) (b : Management) (e : ElementFields) (why : Reason) → b.kind ≡ kind.AssocReq → (pulled : Option PmkR1) → refused_look (Ap a) (Some p) (Managed b e) pulled why ≡ []
 unasked a p b e why is pulled = ap (λ (k : Kind). look_of_kind k p e (look_answer why pulled)) is
 
+-- by the status, if any
+status_by : (o p : Option ℕ) (then_ : Outcome) → without_status o (without_status p then_) ≡ without_status (or_else o p) then_
+status_by None p then_ = refl
+status_by (Some code) p then_ = refl
+
+by_status : (d : Domain) (drawn : ℕ) (e : ElementFields) → assoc_req_verdict d drawn e ≡ without_status (request_status d e) (if nat_lt drawn draw_end then Accepted else Refused reason.Spent)
+by_status d drawn e = status_by (rsne_status d.akm e.rsne) (mobility_status d.akm d e.mde) (if nat_lt drawn draw_end then Accepted else Refused reason.Spent)
+
+by_draws : (d : Domain) (drawn : ℕ) (e : ElementFields) (b : Bool) → request_status d e ≡ None → nat_lt drawn draw_end ≡ b → assoc_req_verdict d drawn e ≡ (if b then Accepted else Refused reason.Spent)
+by_draws d drawn e b none low =
+    by_status d drawn e ∙ ap (λ (o : Option ℕ). without_status o (if nat_lt drawn draw_end then Accepted else Refused reason.Spent)) none ∙ ap (λ (x : Bool). if x then Accepted else Refused reason.Spent) low
+
+-- then the RSNE is one
+rsne_of : (d : Domain) (e : ElementFields) → request_status d e ≡ None → rsne_status d.akm e.rsne ≡ None
+rsne_of d e none = by (rsne_status d.akm e.rsne) (mobility_status d.akm d e.mde) none
+  where
+    by : (o p : Option ℕ) → or_else o p ≡ None → o ≡ None
+    by None p is = refl
+    by (Some code) p is = absurd (cc is)
+
 -- refused with a status
 pub takes_status : (d : Domain) (s : State) (octets : List ℕ) (station : ℕ) (elements : Elements) (status : ℕ) (n : Node) (waited waits : List Act) → IsRequest d s.number octets station elements
-    → rsne_status d.akm (element_fields elements).rsne ≡ Some status → n ≡ Ap s.number → waits ≡ waited ++ Took (Some (Sta station)) octets kind.AssocReq (Refused (reason.Status status)) None ∷ sent_refusal d n (Sta station) status ∷ []
+    → request_status d (element_fields elements) ≡ Some status → n ≡ Ap s.number → waits ≡ waited ++ Took (Some (Sta station)) octets kind.AssocReq (Refused (reason.Status status)) None ∷ sent_refusal d n (Sta station) status ∷ []
     → Stays d s octets waited waits (Refused (reason.Status status))
 takes_status d s octets station elements status n waited waits q status_is node waiting =
     let w = q.managed in
@@ -85,18 +112,14 @@ takes_status d s octets station elements status n waited waits q status_is node 
     takes_refused d s octets r (Some (Sta station)) kind.AssocReq (reason.Status status) None (sent_refusal d (Ap s.number) (Sta station) status ∷ []) waited waits w.reads (sym w.judged.1) (sym q.is) refl
     (unasked s.number (Sta station) b e (reason.Status status) q.is)
     (λ first h stands. refused_first d first (Ap s.number) h r (reason.Status status)
-    (verdict_is d s.number octets station q.frame elements w q.is first h ∙ ap (λ (o : Option ℕ). without_status o (without_status (mobility_status d.akm d e.mde) (if nat_lt (first + draws h) draw_end then Accepted else Refused reason.Spent))) status_is))
+    (verdict_is d s.number octets station q.frame elements w q.is first h ∙ by_status d (first + draws h) e ∙ ap (λ (o : Option ℕ). without_status o (if nat_lt (first + draws h) draw_end then Accepted else Refused reason.Spent)) status_is))
     (waiting ∙ ap (λ (x : Node). waited ++ Took (Some (Sta station)) octets kind.AssocReq (Refused (reason.Status status)) None ∷ sent_refusal d x (Sta station) status ∷ []) node)
 
--- with suites 2 and 6 there is no MDE to look at
-by_draws : (d : Domain) (drawn : ℕ) (e : ElementFields) (b : Bool) → d.akm ≢ FtPsk → rsne_status d.akm e.rsne ≡ None → nat_lt drawn draw_end ≡ b → assoc_req_verdict d drawn e ≡ (if b then Accepted else Refused reason.Spent)
-by_draws d drawn e b suite none low = rw (none, mobility_suite d.akm d e.mde suite, low) refl
-
 -- refused as the draws are at their end
-pub takes_spent : (d : Domain) (s : State) (octets : List ℕ) (station : ℕ) (elements : Elements) (waited waits : List Act) → d.akm ≢ FtPsk → IsRequest d s.number octets station elements
-    → rsne_status d.akm (element_fields elements).rsne ≡ None → draw_end ≤ s.drawn → waits ≡ waited ++ Took (Some (Sta station)) octets kind.AssocReq (Refused reason.Spent) None ∷ []
+pub takes_spent : (d : Domain) (s : State) (octets : List ℕ) (station : ℕ) (elements : Elements) (waited waits : List Act) → IsRequest d s.number octets station elements
+    → request_status d (element_fields elements) ≡ None → draw_end ≤ s.drawn → waits ≡ waited ++ Took (Some (Sta station)) octets kind.AssocReq (Refused reason.Spent) None ∷ []
     → Stays d s octets waited waits (Refused reason.Spent)
-takes_spent d s octets station elements waited waits suite q none spent waiting =
+takes_spent d s octets station elements waited waits q none spent waiting =
     let w = q.managed in
     let b = management_fields q.frame in
     let e = element_fields elements in
@@ -104,19 +127,19 @@ takes_spent d s octets station elements waited waits suite q none spent waiting 
     takes_refused d s octets r (Some (Sta station)) kind.AssocReq reason.Spent None [] waited waits w.reads (sym w.judged.1) (sym q.is) refl
     (unasked s.number (Sta station) b e reason.Spent q.is)
     (λ first h stands. refused_first d first (Ap s.number) h r reason.Spent
-    (verdict_is d s.number octets station q.frame elements w q.is first h ∙ by_draws d (first + draws h) e false suite none (le-ltb (first + draws h) draw_end (subst (λ (x : ℕ). draw_end ≤ x) stands.so_far.draws_are spent))))
+    (verdict_is d s.number octets station q.frame elements w q.is first h ∙ by_draws d (first + draws h) e false none (le-ltb (first + draws h) draw_end (subst (λ (x : ℕ). draw_end ≤ x) stands.so_far.draws_are spent))))
     waiting
 
 -- ---- accepted
 
 -- the acts are those of the history
-closed_is : (d : Domain) (n p : Node) (o : Option Attempt) (h : List Act) → HasAttempt d n p o h → closed p (is_some o) ≡ close_attempt p (attempt p h)
-closed_is d n p None h at = sym (ap (close_attempt p) at)
-closed_is d n p (Some a) h at = sym (ap (close_attempt p) at.is)
+closed_by : (p : Node) (b : Bool) (o : Option (List Act)) → is_some o ≡ b → closed p b ≡ close_attempt p o
+closed_by p b None is = ap (closed p) (sym is)
+closed_by p b (Some part) is = ap (closed p) (sym is)
 
-associated_is : (d : Domain) (first : ℕ) (n : Node) (sta : ℕ) (octets : List ℕ) (o : Option Station) (drawn : ℕ) (h : List Act) → HasPart d n sta o h → drawn ≡ first + draws h
-    → associated_acts d n (Sta sta) octets (is_some (attempt_in o)) (nonce d n drawn) ≡ answer_acts d n (Sta sta) octets (attempt (Sta sta) h) (next_nonce d first n h)
-associated_is d first n sta octets o drawn h at drawn_is = rw (closed_is d n (Sta sta) (attempt_in o) h (has_attempt_in d n sta o h at), drawn_is) refl
+associated_is : (d : Domain) (first : ℕ) (n : Node) (sta : ℕ) (octets : List ℕ) (o : Option Station) (m : Moves) (drawn : ℕ) (h : List Act) → HasPart d n sta o h → HasMoves d n (Sta sta) m h → drawn ≡ first + draws h
+    → associated_acts d n (Sta sta) octets (has_any_attempt o m) (nonce d n drawn) ≡ answer_acts d n (Sta sta) octets (attempt (Sta sta) h) (next_nonce d first n h)
+associated_is d first n sta octets o m drawn h at moves drawn_is = rw (closed_by (Sta sta) (has_any_attempt o m) (attempt (Sta sta) h) (any_attempt d n sta o m h at moves), drawn_is) refl
 
 -- the history before the Opened of the attempt that it begins
 abbrev before_opened : Node → List ℕ → Option (List Act) → List Act → List Act
@@ -218,6 +241,28 @@ begun_at d old new sta octets rsne h w o low said at =
       key_as p (session p h) (session p (add said h)) (key_in old_station) h (add said h) (answer-session d n p octets o v h) (keeps p said h (answer-leaves p d n p octets o v)) (has_key_in d n sta old_station h at),
     )
 
+-- an attempt by fast transition is at its end then
+begun_moves : (d : Domain) (n : Node) (sta : ℕ) (octets : List ℕ) (o : Option (List Act)) (v : List ℕ) (m : Moves) (h : List Act) → HasMoves d n (Sta sta) m h → HasMoves d n (Sta sta) (without_pending m) (add (answer_acts d n (Sta sta) octets o v) h)
+begun_moves d n sta octets o v m h has = by o
+  where
+    p : Node
+    p = Sta sta
+
+    took : List Act
+    took = Took (Some p) octets kind.AssocReq Accepted None ∷ h
+
+    heard : HasMoves d n p m took
+    heard = moves_more d n p m _ h (took_passes p (Some p) octets kind.AssocReq Accepted None) has
+
+    rest : (l : List Act) → HasMoves d n p (without_pending m) (Opened p Connect ∷ l) → HasMoves d n p (without_pending m) (sent_m1 d n p 1 v ∷ sent_assoc_resp d n p ∷ Drew (Nonce v) ∷ Opened p Connect ∷ l)
+    rest l at =
+        moves_more d n p (without_pending m) _ _ (sent_any_passes p _ _ _ _)
+        (moves_more d n p (without_pending m) _ _ (sent_any_passes p _ _ _ _) (moves_more d n p (without_pending m) _ _ (drew_passes p (Nonce v)) at))
+
+    by : (o : Option (List Act)) → HasMoves d n p (without_pending m) (add (answer_acts d n p octets o v) h)
+    by None = rest took (opened_connect d n p m took heard)
+    by (Some part) = rest (Closed p OfAttempt ∷ took) (opened_connect d n p (without_pending m) (Closed p OfAttempt ∷ took) (closed_attempt d n sta m took heard))
+
 -- no session owes more or less than before
 owes_kept : (d : Domain) (old new : State) (sta place : ℕ) (rsne : List ℕ) → BeginsWith d old new sta rsne → (k : ℕ) → owes_at place new.stations k ≡ owes_at place old.stations k
 owes_kept d old new sta place rsne w k = elim (cases_Bool (k == sta)) [
@@ -227,7 +272,7 @@ owes_kept d old new sta place rsne w k = elim (cases_Bool (k == sta)) [
 ]
 
 stands_associated : (d : Domain) (first : ℕ) (old new : State) (sta : ℕ) (octets rsne : List ℕ) (h : List Act) → sta < length d.stas → HasRsne d.akm octets (Some rsne) → old.drawn < draw_end → BeginsWith d old new sta rsne → StandsSoFar d first old h
-    → StandsSoFar d first new (add (associated_acts d (Ap old.number) (Sta sta) octets (is_some (attempt_in (station_at old.stations sta))) (nonce d (Ap old.number) old.drawn)) h)
+    → StandsSoFar d first new (add (associated_acts d (Ap old.number) (Sta sta) octets (has_any_attempt (station_at old.stations sta) (moves_at old.targets sta)) (nonce d (Ap old.number) old.drawn)) h)
 stands_associated d first old new sta octets rsne h low said room w stands =
     let n = Ap old.number in
     let p = Sta sta in
@@ -236,7 +281,8 @@ stands_associated d first old new sta octets rsne h low said room w stands =
     let o = attempt p h in
     let x = station_at old.stations sta in
     let place = old.group.newest.place in
-    let says = associated_is d first n sta octets x old.drawn h (stands.parts sta) stands.draws_are in
+    let m = moves_at old.targets sta in
+    let says = associated_is d first n sta octets x m old.drawn h (stands.parts sta) (stands.moves.each sta) stands.draws_are in
     subst (λ (g : List Act). StandsSoFar d first new (add g h)) (sym says)
     (stands_with_one d first old new h (add (answer_acts d n p octets o v) h) sta stands (record {
       number = w.number;
@@ -250,6 +296,9 @@ stands_associated d first old new sta octets rsne h low said room w stands =
       here = subst (λ (u : List ℕ). HasPart d n sta (station_at new.stations sta) (add (answer_acts d n p octets o u) h)) v_is (begun_at d old new sta octets rsne h w o low said (stands.parts sta));
       others = w.others;
       goes = λ k other. far_on (Sta k) (answer_acts d n p octets o v) h (answer-apart d n p octets o v k other) (answer-leaves (Sta k) d n p octets o v);
+      moves = subst (λ (z : Moves). HasMoves d n p z (add (answer_acts d n p octets o v) h)) (sym w.moves.moved.here) (begun_moves d n sta octets o v m h (stands.moves.each sta));
+      few_moves = moved_few (length d.stas) old.targets new.targets sta (without_pending m) w.moves stands.moves.few (λ there. absurd (omega (arith, low, there)));
+      other_moves = w.moves.moved.others;
     }))
 
 -- and no switch is to come
@@ -267,11 +316,11 @@ request_accepted d first a h b e kind_is is =
     ap (λ (o : Outcome). and_then o (further d first (Ap a) h (Managed b e) no_facts)) is
     ∙ ap (λ (o : Outcome). and_then Accepted o) (further_request d (first + draws h) a h b e (management_sender d (Ap a) b.header) kind_is)
 
-pub takes_associated : (d : Domain) (old new : State) (octets : List ℕ) (sta : ℕ) (elements : Elements) (rsne raw : List ℕ) (waited waits : List Act) → d.akm ≢ FtPsk → IsRequest d old.number octets sta elements
-    → rsne_status d.akm (element_fields elements).rsne ≡ None → old.drawn < draw_end → (element_fields elements).rsne_octets ≡ Some raw → rsne ≡ raw → BeginsWith d old new sta rsne
-    → waits ≡ waited ++ associated_acts d (Ap old.number) (Sta sta) octets (is_some (attempt_in (station_at old.stations sta))) (nonce d (Ap old.number) old.drawn)
+pub takes_associated : (d : Domain) (old new : State) (octets : List ℕ) (sta : ℕ) (elements : Elements) (rsne raw : List ℕ) (waited waits : List Act) → IsRequest d old.number octets sta elements
+    → request_status d (element_fields elements) ≡ None → old.drawn < draw_end → (element_fields elements).rsne_octets ≡ Some raw → rsne ≡ raw → BeginsWith d old new sta rsne
+    → waits ≡ waited ++ associated_acts d (Ap old.number) (Sta sta) octets (has_any_attempt (station_at old.stations sta) (moves_at old.targets sta)) (nonce d (Ap old.number) old.drawn)
     → IsTaken d (Take octets) old new (seen waited waits Accepted)
-takes_associated d old new octets sta elements rsne raw waited waits suite q none low raw_is rsne_is begun waiting = record {
+takes_associated d old new octets sta elements rsne raw waited waits q none low raw_is rsne_is begun waiting = record {
   number = begun.number;
   steps = λ first h stands.
       (let so_far = stands.so_far in
@@ -279,10 +328,11 @@ takes_associated d old new octets sta elements rsne raw waited waits suite q non
       let m = management_fields q.frame in
       let e = element_fields elements in
       let n = Ap old.number in
-      let accepted = verdict_is d old.number octets sta q.frame elements w q.is first h ∙ by_draws d (first + draws h) e true suite none (lt-ltb (first + draws h) draw_end (subst (λ (x : ℕ). x < draw_end) so_far.draws_are low)) in
-      settled_steps d first (Take octets) old new (seen waited waits Accepted) h begun.number (settled_still d old new sta rsne begun stands.settled) stands.connects
+      let had = has_any_attempt (station_at old.stations sta) (moves_at old.targets sta) in
+      let accepted = verdict_is d old.number octets sta q.frame elements w q.is first h ∙ by_draws d (first + draws h) e true none (lt-ltb (first + draws h) draw_end (subst (λ (x : ℕ). x < draw_end) so_far.draws_are low)) in
+      settled_steps d first (Take octets) old new (seen waited waits Accepted) h begun.number (settled_still d old new sta rsne begun stands.settled)
       (record {
-        acts = associated_acts d n (Sta sta) octets (is_some (attempt_in (station_at old.stations sta))) (nonce d n old.drawn);
+        acts = associated_acts d n (Sta sta) octets had (nonce d n old.drawn);
         row = record {
           r = Managed m e;
           reads = w.reads;
@@ -296,19 +346,20 @@ takes_associated d old new octets sta elements rsne raw waited waits suite q non
             p = Sta sta;
             from = w.judged.1;
             accepted = request_accepted d first old.number h m e q.is accepted;
-            says = associated_is d first n sta octets (station_at old.stations sta) old.drawn h (so_far.parts sta) so_far.draws_are;
+            says = associated_is d first n sta octets (station_at old.stations sta) (moves_at old.targets sta) old.drawn h (so_far.parts sta) (so_far.moves.each sta) so_far.draws_are;
           });
         };
         waiting = waiting;
         came = refl;
         stands = stands_associated d first old new sta octets rsne h w.judged.2 (e, ((m, w.reads), ap (λ (x : List ℕ). Some x) rsne_is ∙ sym raw_is)) low begun so_far;
+        marks = ((tt, refl), plain_append (closed (Sta sta) had) _ (plain_closed (Sta sta) had) ((tt, refl), ((tt, refl), ((tt, refl), ((tt, refl), tt)))));
       }));
   refused = λ why is. absurd (cc is);
 }
 
 -- with no status there are the octets of an RSNE
-pub some_rsne : (d : Domain) (a : ℕ) (octets : List ℕ) (station : ℕ) (elements : Elements) → IsRequest d a octets station elements → rsne_status d.akm (element_fields elements).rsne ≡ None → (element_fields elements).rsne_octets ≡ None → ⊥
-some_rsne d a octets station elements q none raw = cc ((accepted-rsne d.akm Body (management_fields q.frame).elements (element_fields elements) q.managed.reads.1 none).1, raw)
+pub some_rsne : (d : Domain) (a : ℕ) (octets : List ℕ) (station : ℕ) (elements : Elements) → IsRequest d a octets station elements → request_status d (element_fields elements) ≡ None → (element_fields elements).rsne_octets ≡ None → ⊥
+some_rsne d a octets station elements q none raw = cc ((accepted-rsne d.akm Body (management_fields q.frame).elements (element_fields elements) q.managed.reads.1 (rsne_of d (element_fields elements) none)).1, raw)
 
 -- ---- as the code comes by them
 

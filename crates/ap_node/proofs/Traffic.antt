@@ -52,12 +52,18 @@ use Rattle.ap_node.specs.State.{State, station_at, key_in, with_key}
 use Rattle.ap_node.specs.Counts.{owes_part}
 use Rattle.ap_node.specs.Stands.{HasPart, StandsSoFar, IsSettled}
 use Rattle.ap_node.specs.Takes.{IsTaken, IsSealedAtAp}
-use Rattle.ap_node.proofs.Others.{IsSameGroup, AllLeave, IsFar, far_on, same-idle, same-refused}
+use Rattle.ap_node.proofs.Others.{KeepsMoves, IsSameGroup, AllLeave, IsFar, far_on, same-idle, same-refused}
 use Rattle.ap_node.proofs.InUse.{has_key_in, sends_by}
 use Rattle.ap_node.proofs.Owed.{owes_at, count_same}
-use Rattle.ap_node.proofs.Standing.{part_on, so_far_as_before, stands_with_one}
+use Rattle.ap_node.proofs.Standing.{moves_on, part_on, so_far_as_before, stands_with_one}
 use Rattle.authenticator.proofs.Standing.{other_on, stands_on}
 use Rattle.frame_intake.proofs.Silence.{silent_no_key}
+use Rattle.ft_exchange.proofs.TargetStanding.{took_passes}
+use Rattle.targets.specs.declared.moves.Moves.{Moves}
+use Rattle.targets.specs.State.{moves_at}
+use Rattle.targets.specs.Stands.{HasMoves}
+use Rattle.targets.proofs.Passing.{moves_add, moves_apart, handed_up_passes}
+use Rattle.ap_node.proofs.Plain.{plain_data}
 use Rattle.ap_node.proofs.Ending.{settled_steps}
 use Rattle.ap_node.proofs.Refusing.{stays, does_quiet}
 use Rattle.ap_node.proofs.DataTaken.{apart-handed_up, stands_handed_up}
@@ -142,6 +148,7 @@ pub record IsRekeyed (old new : State) (sta : ℕ) (key : Option Held) : Type 0 
   pub sending : new.sending ≡ old.sending
   pub owing : new.owing ≡ old.owing
   pub length_is : length new.stations ≡ length old.stations
+  pub targets : new.targets ≡ old.targets
   pub is : station_at new.stations sta ≡ with_key key (station_at old.stations sta)
   pub others : (k : ℕ) → k ≢ sta → station_at new.stations k ≡ station_at old.stations k
 
@@ -162,8 +169,9 @@ settled_still old new sta key w (inr some) = inr (subst (λ (n : ℕ). 1 ≤ n) 
 
 -- it stands for the acts, where the part of the station and its key do
 rekeyed_stands : (d : Domain) (first : ℕ) (old new : State) (sta : ℕ) (key : Option Held) (acts h : List Act) → IsRekeyed old new sta key → StandsSoFar d first old h → draws (add acts h) ≡ draws h → IsSameGroup h (add acts h)
-    → HasPart d (Ap old.number) sta (with_key key (station_at old.stations sta)) (add acts h) → ((k : ℕ) → same (Sta k) (Sta sta) ≡ false → IsFar (Sta k) h (add acts h)) → StandsSoFar d first new (add acts h)
-rekeyed_stands d first old new sta key acts h w at draws_are group part far = stands_with_one d first old new h (add acts h) sta at (record {
+    → HasPart d (Ap old.number) sta (with_key key (station_at old.stations sta)) (add acts h) → ((k : ℕ) → same (Sta k) (Sta sta) ≡ false → IsFar (Sta k) h (add acts h))
+    → KeepsMoves (Sta sta) h (add acts h) → StandsSoFar d first new (add acts h)
+rekeyed_stands d first old new sta key acts h w at draws_are group part far keeps = stands_with_one d first old new h (add acts h) sta at (record {
   number = w.number;
   drawn = w.drawn ∙ at.draws_are ∙ ap (λ (m : ℕ). first + m) (sym draws_are);
   drawn_low = subst (λ (m : ℕ). m ≤ draw_end) (sym w.drawn) at.draws_low;
@@ -175,6 +183,9 @@ rekeyed_stands d first old new sta key acts h w at draws_are group part far = st
   here = subst (λ (o : Option Station). HasPart d (Ap old.number) sta o (add acts h)) (sym w.is) part;
   others = w.others;
   goes = far;
+  moves = subst (λ (l : List Moves). HasMoves d (Ap old.number) (Sta sta) (moves_at l sta) (add acts h)) (sym w.targets) (keeps d (Ap old.number) (moves_at old.targets sta) (at.moves.each sta));
+  few_moves = subst (λ (l : List Moves). length l ≤ length d.stas) (sym w.targets) at.moves.few;
+  other_moves = λ k other. ap (λ (l : List Moves). moves_at l k) w.targets;
 })
 
 -- ---- sent to a station
@@ -211,14 +222,16 @@ takes_sent d old new sta tid plain waited waits outcome w waiting came_is =
     record {
       number = w.number;
       steps = λ first h stands.
-          settled_steps d first (Send (One p) tid plain) old new (seen waited waits outcome) h w.number (settled_still old new sta (used_in (key_in o)) w stands.settled) stands.connects (record {
+          settled_steps d first (Send (One p) tid plain) old new (seen waited waits outcome) h w.number (settled_still old new sta (used_in (key_in o)) w stands.settled) (record {
             acts = acts;
             row = ap (send_acts_by d n (One p) tid plain) (sym (sends_by p (key_in o) h (has_key_in d n sta o h (stands.so_far.parts sta))));
             waiting = waiting;
             came = came_is;
             stands = rekeyed_stands d first old new sta (used_in (key_in o)) acts h w stands.so_far (sent-draws d n (One p) tid plain key h) (sent-group d n p tid plain key h)
                 (part_used d n sta tid plain o h (stands.so_far.parts sta))
-                (λ k other. far_on (Sta k) acts h (sent-apart (Sta k) d n (One p) tid plain key) (sent-leaves (Sta k) p d n tid plain key other));
+                (λ k other. far_on (Sta k) acts h (sent-apart (Sta k) d n (One p) tid plain key) (sent-leaves (Sta k) p d n tid plain key other))
+                (λ e m x has. moves_apart e m p x acts h (sent-apart p d n (One p) tid plain key) has);
+            marks = plain_data d n (One p) tid plain key;
           });
       refused = λ r is. absurd (sent-unrefused d n (One p) tid plain key r (sym came_is ∙ is));
     }
@@ -240,6 +253,7 @@ spent_stands d first s tid plain h at =
       few = at.few;
       counted = at.counted;
       parts = λ k. part_on d n k (station_at s.stations k) h (add acts h) (far_on (Sta k) acts h (sent-apart (Sta k) d n All tid plain key) (all-leaves (Sta k) d n tid plain key)) (at.parts k);
+      moves = moves_on d s.number s.targets h (add acts h) (λ k e m x has. moves_apart e m (Sta k) x acts h (sent-apart (Sta k) d n All tid plain key) has) at.moves;
     }
 
 pub takes_sent_all : (d : Domain) (old : State) (tid : Option ℕ) (plain : List ℕ) (waited waits : List Act) (outcome : Outcome)
@@ -253,12 +267,13 @@ takes_sent_all d old tid plain waited waits outcome waiting came_is =
     record {
       number = refl;
       steps = λ first h stands.
-          settled_steps d first (Send All tid plain) old new (seen waited waits outcome) h refl stands.settled stands.connects (record {
+          settled_steps d first (Send All tid plain) old new (seen waited waits outcome) h refl stands.settled (record {
             acts = acts;
             row = ap (send_acts_by d n All tid plain) (sym (group_sends old.sending h stands.so_far.sending_is));
             waiting = waiting;
             came = came_is;
             stands = spent_stands d first old tid plain h stands.so_far;
+            marks = plain_data d n All tid plain key;
           });
       refused = λ r is. absurd (sent-unrefused d n All tid plain key r (sym came_is ∙ is));
     }
@@ -314,6 +329,7 @@ takes_refused d s octets sta frame k why_ waited w is stopped =
       waiting = refl;
       came = refl;
       stands = so_far_as_before d first s h (add (refusal p octets r) h) (same-refused d n (Some p) octets kind.Data r None h) stands.so_far;
+      marks = ((tt, refl), tt);
     }))
 
 -- handed up
@@ -347,14 +363,16 @@ takes_handed_up d old new octets sta frame k m text waited w is rekeyed opened =
           let part = stands.so_far.parts sta in
           let key = subst (λ (z : Option Held). HasKey p (session p h) z h) is (has_key_in d n sta (station_at old.stations sta) h part) in
           let at = opens_at d first old.number octets p f k h key from in
-          settled_steps d first (Take octets) old new (seen waited (waited ++ acts) Accepted) h rekeyed.number (settled_still old new sta (Some m) rekeyed stands.settled) stands.connects (record {
+          settled_steps d first (Take octets) old new (seen waited (waited ++ acts) Accepted) h rekeyed.number (settled_still old new sta (Some m) rekeyed stands.settled) (record {
             acts = acts;
             row = handed_up_row (here d first n) h p octets f k from at.3 m text opened;
             waiting = refl;
             came = refl;
             stands = rekeyed_stands d first old new sta (Some m) acts h rekeyed stands.so_far refl (record { gtks_are = refl; switches_are = refl; uses_are = refl })
                 (part_taken d n sta octets f (station_at old.stations sta) k m text at.0 h is part at.1 (pairwise_taken p at.0.ptk.tk octets f k m text h at.2 opened))
-                (λ j other. far_on (Sta j) acts h (taken_apart (Sta j) p octets f k text other) (taken_leaves (Sta j) p octets f k text other));
+                (λ j other. far_on (Sta j) acts h (taken_apart (Sta j) p octets f k text other) (taken_leaves (Sta j) p octets f k text other))
+                (λ e i x has. moves_add e i p x acts h (took_passes p _ _ _ _ _, (handed_up_passes p _ _ _ _ _ _, tt)) has);
+            marks = ((tt, refl), ((tt, refl), tt));
           }));
       refused = λ why_ e. absurd (cc e);
     }

@@ -6,3 +6,7 @@ pub mod Stands
 pub mod Parts
 pub mod Giving
 pub mod Takes
+pub mod Putting
+pub mod Looking
+pub mod Moving
+pub mod Handed

@@ -1,14 +1,16 @@
 -- What contracts see of an access point (this project's choice).
-use Rattle.std.specs.Prelude.{◌==◌, ℕ, cond, List, Option, Some, None, slice_index_or}
+use Rattle.std.specs.Prelude.{◌==◌, ◌&&◌, not, ℕ, Bool, cond, List, [], ◌∷◌, Option, Some, None, is_some, slice_index_or}
 use Rattle.ccmp_guard.specs.Held.{Held}
 use Rattle.group_key.specs.Keys.{Pair}
 use Rattle.authenticator.specs.State.{State as Part, with_session}
 use Rattle.authenticator.specs.declared.attempt.Attempt.{Attempt}
 use Rattle.authenticator.specs.declared.session.Session.{Session}
+use Rattle.targets.specs.declared.moves.Moves.{Moves}
 use Rattle.ap_node.specs.declared.station.Station.{Station}
 
 -- its place among the access points, the number of its next draw, its group keys, the current one in use, what it has with the
--- stations by their numbers, as far as they came, and how many of their sessions owe a G2 for the newest group key
+-- stations by their numbers, as far as they came, how many of their sessions owe a G2 for the newest group key, and its fast
+-- transitions with the stations, as far as there are any
 pub record State : Type 0 where
   pub number : ℕ
   pub drawn : ℕ
@@ -16,6 +18,19 @@ pub record State : Type 0 where
   pub sending : Held
   pub stations : List (Option Station)
   pub owing : ℕ
+  pub targets : List Moves
+
+-- without the places behind that of the last station with which there is one
+abbrev pub are_none : Moves → Bool
+are_none m = not (is_some m.pending) && not (is_some m.held)
+
+abbrev pub in_front : Moves → List Moves → List Moves
+in_front m [] = cond (are_none m) [] (m ∷ [])
+in_front m (x ∷ xs) = m ∷ x ∷ xs
+
+abbrev pub trimmed : List Moves → List Moves
+trimmed [] = []
+trimmed (m ∷ ms) = in_front m (trimmed ms)
 
 -- what it has with a station
 abbrev pub station_at : List (Option Station) → ℕ → Option Station

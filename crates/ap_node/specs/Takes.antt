@@ -3,10 +3,13 @@ use Rattle.std.specs.Prelude.{◌≡◌, ◌≢◌, ◌+◌, ◌≤◌, ℕ, max
 use Rattle.domain_base.specs.declared.names.Node.{Node}
 use Rattle.domain_base.specs.declared.names.Node.TheVariants.{Ap, Sta}
 use Rattle.rsn_elements.specs.declared.reading.Elements.{Elements}
+use Rattle.rsn_elements.specs.Elements.{ElementFields}
 use Rattle.rsn_elements.specs.Fields.{element_fields}
+use Rattle.key_holders.specs.declared.rows.HeldRow.{HeldRow}
 use Rattle.run_journal.specs.declared.domain.Domain.{Domain}
 use Rattle.run_journal.specs.declared.acts.Start.TheVariants.{Connect}
 use Rattle.run_journal.specs.declared.acts.Drawn.TheVariants.{Nonce}
+use Rattle.run_journal.specs.declared.acts.Kind.{Kind}
 use Rattle.run_journal.specs.declared.acts.Kind.TheVariants as kind
 use Rattle.run_journal.specs.declared.acts.Part.TheVariants.{Attempt as OfAttempt, Session as OfSession}
 use Rattle.run_journal.specs.declared.acts.Why.TheVariants as why
@@ -14,9 +17,11 @@ use Rattle.run_journal.specs.declared.acts.Reason.{Reason}
 use Rattle.run_journal.specs.declared.acts.Outcome.TheVariants.{Accepted, Refused}
 use Rattle.run_journal.specs.declared.acts.Act.{Act}
 use Rattle.run_journal.specs.declared.acts.Act.TheVariants.{Closed, Took, Opened, Drew, Idle}
-use Rattle.run_journal.specs.Questions.{add}
+use Rattle.run_journal.specs.Questions.{or_else, add}
 use Rattle.domain_rules.specs.Here.{Here, here}
 use Rattle.domain_rules.specs.Network.{nonce}
+use Rattle.domain_rules.specs.Suites.{rsne_status}
+use Rattle.domain_rules.specs.FastTransition.{mobility_status}
 use Rattle.domain_rules.specs.Reading.{Managed, Keyed, Reads}
 use Rattle.domain_rules.specs.Frames.{sent_assoc_resp, sent_m1}
 use Rattle.domain_rules.specs.Rows.{NodeEvent, RowOf, outcome_of}
@@ -32,30 +37,73 @@ use Rattle.authenticator.specs.State.{State as Part, with_session}
 use Rattle.authenticator.specs.Steps.{IsBegun}
 use Rattle.authenticator.specs.Stands.{HasSession, AuthenticatorStands}
 use Rattle.authenticator.specs.declared.session.Session.{Session}
+use Rattle.ap_node.specs.Counts.{owing_count}
 use Rattle.ap_node.specs.State.{State, station_at, begun_beside}
-use Rattle.ap_node.specs.Stands.{StandsSoFar, Stands}
+use Rattle.held_rows.specs.Knows.{KnowsRows}
+use Rattle.ap_node.specs.Stands.{StandsSoFar, AllPlain, Stands}
+use Rattle.held_rows.specs.Looks.{NoLooks}
+use Rattle.ap_node.specs.Moving.{IsMovedOn}
+use Rattle.targets.specs.State.{moves_at, without_pending}
 
--- behind the history h these are the acts of the event itself, before the switch at its end
-pub record Does (w : Here) (event : NodeEvent) (StandsFor : List Act → Type 0) (h : List Act) (s : Seen) : Type 0 where
+-- behind the history h these are the acts of the event itself, before the switch at its end, and they are so marked
+pub record Does (w : Here) (event : NodeEvent) (StandsFor Marks : List Act → Type 0) (h : List Act) (s : Seen) : Type 0 where
   pub acts : List Act
   pub row : RowOf w h event acts
   pub waiting : s.waits ≡ s.waited ++ acts
   pub came : s.outcome ≡ outcome_of acts
   pub stands : StandsFor (add acts h)
+  pub marks : Marks acts
+
+-- and these with the switch
+pub record Marked (w : Here) (event : NodeEvent) (StandsFor Marks : List Act → Type 0) (h : List Act) (s : Seen) : Type 0 where
+  pub steps : Steps w event StandsFor h s
+  pub marks : Marks steps.acts
 
 -- it does what the event itself is, whichever history it stands for, and the switch may be to come
 pub record IsDone (d : Domain) (event : NodeEvent) (old new : State) (s : Seen) : Type 0 where
   pub number : new.number ≡ old.number
   pub does : (first : ℕ) (h : List Act) → Stands d first old h
-      → Does (here d first (Ap old.number)) event (StandsSoFar d first new) h s
+      → Does (here d first (Ap old.number)) event (StandsSoFar d first new) AllPlain h s
   pub refused : (why : Reason) → s.outcome ≡ Refused why → new ≡ old
+
+-- behind the acts these rows of the own key holder are those of the history, and so do they tell of key holders that were asked
+abbrev pub RowsOn : (List Act → Type 0) → Domain → ℕ → List HeldRow → List Act → List Act → Type 0
+RowsOn Looks d a ys h g = Looks g × KnowsRows d (Ap a) ys (add g h)
+
+-- with its own key holder, which has these rows before and those behind it; no key holder is asked
+pub record IsDoneWith (d : Domain) (event : NodeEvent) (old new : State) (xs ys : List HeldRow) (s : Seen) : Type 0 where
+  pub number : new.number ≡ old.number
+  pub does : (first : ℕ) (h : List Act) → Stands d first old h → KnowsRows d (Ap old.number) xs h
+      → Does (here d first (Ap old.number)) event (StandsSoFar d first new) (RowsOn NoLooks d old.number ys h) h s
+  pub refused : (why : Reason) → s.outcome ≡ Refused why → new ≡ old
+
+-- what the access point was and is, beside its part with a station and its fast transitions
+pub record IsBeside (old new : State) (sta : ℕ) : Type 0 where
+  pub number : new.number ≡ old.number
+  pub drawn : new.drawn ≡ old.drawn
+  pub group : new.group ≡ old.group
+  pub sending : new.sending ≡ old.sending
+  pub length_is : length new.stations ≡ length old.stations
+  pub counts : old.owing ≡ owing_count old.group.newest.place old.stations → length old.stations ≤ 65536 → new.owing ≡ owing_count old.group.newest.place new.stations
+  pub others : (k : ℕ) → k ≢ sta → station_at new.stations k ≡ station_at old.stations k
 
 -- it takes the event, whichever history it stands for, and a refusal leaves it
 pub record IsTaken (d : Domain) (event : NodeEvent) (old new : State) (s : Seen) : Type 0 where
   pub number : new.number ≡ old.number
   pub steps : (first : ℕ) (h : List Act) → Stands d first old h
-      → Steps (here d first (Ap old.number)) event (Stands d first new) h s
+      → Marked (here d first (Ap old.number)) event (Stands d first new) AllPlain h s
   pub refused : (why : Reason) → s.outcome ≡ Refused why → new ≡ old
+
+-- with its own key holder, which has these rows before and those behind it, and so telling of those that were asked
+pub record IsTakenWith (Looks : List Act → Type 0) (d : Domain) (event : NodeEvent) (old new : State) (xs ys : List HeldRow) (s : Seen) : Type 0 where
+  pub number : new.number ≡ old.number
+  pub steps : (first : ℕ) (h : List Act) → Stands d first old h → KnowsRows d (Ap old.number) xs h
+      → Marked (here d first (Ap old.number)) event (Stands d first new) (RowsOn Looks d old.number ys h) h s
+  pub refused : (why : Reason) → s.outcome ≡ Refused why → new ≡ old
+
+-- the status with which an association request is refused, where it is: that of its RSNE, and with suite 4 that of its MDE
+abbrev pub request_status : Domain → ElementFields → Option ℕ
+request_status d e = or_else (rsne_status d.akm e.rsne) (mobility_status d.akm d e.mde)
 
 -- the octets are a management frame for access point a from a node
 pub record IsManagedAtAp (d : Domain) (a : ℕ) (octets : List ℕ) (from : Node) (frame : Management)
@@ -64,11 +112,15 @@ pub record IsManagedAtAp (d : Domain) (a : ℕ) (octets : List ℕ) (from : Node
   pub judged : IsJudged d (Ap a) (Managed (management_fields frame) (element_fields elements))
       (judged.Managed from frame elements)
 
--- an association request of that station
-pub record IsRequest (d : Domain) (a : ℕ) (octets : List ℕ) (station : ℕ) (elements : Elements) : Type 0 where
+-- a request of that kind of that station
+pub record IsRequestOf (k : Kind) (d : Domain) (a : ℕ) (octets : List ℕ) (station : ℕ) (elements : Elements) : Type 0 where
   pub frame : Management
-  pub is : frame.kind ≡ kind.AssocReq
+  pub is : frame.kind ≡ k
   pub managed : IsManagedAtAp d a octets (Sta station) frame elements
+
+-- an association request
+abbrev pub IsRequest : Domain → ℕ → List ℕ → ℕ → Elements → Type 0
+IsRequest d a octets station elements = IsRequestOf kind.AssocReq d a octets station elements
 
 -- the octets are an EAPOL-Key message for access point a from a node
 pub record IsKeyedAtAp (d : Domain) (a : ℕ) (octets : List ℕ) (from : Node) (message : KeyMessage) : Type 0 where
@@ -100,6 +152,7 @@ pub record BeginsWith (d : Domain) (old new : State) (station : ℕ) (rsne : Lis
   pub is : station_at new.stations station ≡ Some (begun_beside (station_at old.stations station) part)
   pub begins : Begins d old.number station (nonce d (Ap old.number) old.drawn) rsne part
   pub others : (k : ℕ) → k ≢ station → station_at new.stations k ≡ station_at old.stations k
+  pub moves : IsMovedOn old.targets new.targets station (without_pending (moves_at old.targets station))
 
 -- The attempt that was there is closed: by whether the code has one, where `close_attempt` of the rows goes by what the history
 -- answers. The two are the same for a history that the access point stands for.

@@ -1,12 +1,16 @@
 //! An access point's state, and what each event does to it.
 
 ghost use Rattle.std.specs.Prelude.{◌≡◌, ◌≢◌, ◌<◌, ◌≤◌, ◌+◌, ◌^◌, ◌++◌, ℕ, List, [], length};
-ghost use Rattle.std.specs.Prelude.{false, IfOk, OnOk, OnErr, is_some, vec_len};
-ghost use Rattle.domain_base.specs.declared.names.Akm.{Akm as AnyAkm};
+ghost use Rattle.std.specs.Prelude.{true, false, IfOk, OnOk, OnErr, is_some, vec_len};
 ghost use Rattle.domain_base.specs.declared.names.Node.TheVariants.{Ap, Sta};
 ghost use Rattle.domain_base.specs.declared.names.Peer.TheVariants.{One, All};
+ghost use Rattle.eapol_key.specs.Fields.{IsKeyFrame};
+ghost use Rattle.key_holders.specs.Rows.{is_in};
+ghost use Rattle.rsn_elements.specs.Elements.{HasRaw};
+ghost use Rattle.rsn_elements.specs.Fields.{element_fields};
 ghost use Rattle.run_journal.specs.declared.acts.Act.{Act as AnyAct};
 ghost use Rattle.run_journal.specs.declared.acts.Reason.{Reason as AnyReason};
+ghost use Rattle.run_journal.specs.declared.acts.Kind.TheVariants as kind;
 ghost use Rattle.run_journal.specs.declared.acts.Outcome.TheVariants.{Accepted, Done, Refused};
 ghost use Rattle.run_journal.specs.declared.domain.Domain.{Domain as AnyDomain};
 ghost use Rattle.run_journal.specs.Questions.{add};
@@ -16,32 +20,51 @@ ghost use Rattle.domain_rules.specs.AccessPointRows.{start_acts};
 ghost use Rattle.domain_rules.specs.Rows.{Take, Retry, Rekey, Send, Expire, Revoke};
 ghost use Rattle.node_base.specs.Peers.{IsReceiverOf, most_payload};
 ghost use Rattle.node_base.specs.Events.{event_of, IsEventAt, Steps, seen};
-ghost use Rattle.ap_node.specs.State.{station_at, attempt_in, newest_uses};
+ghost use Rattle.ft_exchange.specs.Asking.{ids_of};
+ghost use Rattle.targets.specs.State.{moves_at};
+ghost use Rattle.ap_node.specs.State.{station_at, newest_uses};
 ghost use Rattle.ap_node.specs.Switching.{switched, due_acts, ended, end_acts};
-ghost use Rattle.ap_node.specs.Takes.{IsDone, IsTaken, IsRequest, IsKeyedAtAp, IsSealedAtAp};
-ghost use Rattle.ap_node.specs.Takes.{BeginsWith, associated_acts};
+ghost use Rattle.ap_node.specs.Putting.{LeavesOthers};
+ghost use Rattle.held_rows.specs.Looks.{NoLooks, AreLooked};
+ghost use Rattle.ap_node.specs.Looking.{AnsweredBy};
+ghost use Rattle.ap_node.specs.Moving.{has_any_attempt};
+ghost use Rattle.ap_node.specs.Takes.{IsDone, IsDoneWith, IsTaken, IsTakenWith, IsRequest};
+ghost use Rattle.ap_node.specs.Takes.{IsRequestOf, IsKeyedAtAp};
+ghost use Rattle.ap_node.specs.Takes.{BeginsWith, IsBeside, associated_acts};
+ghost use Rattle.ap_node.specs.Handed.{IsHandedOver};
 
-use crate::association::{Acceptance, close_attempt, open_attempt, prepare, refuse, whole_element};
+use crate::association::{
+    Acceptance, accept, close_attempt, open_attempt, refuse, request_status, whole_element,
+};
 use crate::counting::{owes, recounted};
 use crate::expiring::{add_dropped, drop_part};
 use crate::giving::{give_all, take_rooms};
+use crate::moving::{drop_finished, drop_given_up, drop_moves};
 use crate::newest::NewestGroup;
 use crate::protected::{send_to, take_data};
+use crate::putting::prepare;
+use crate::ready::Ready;
 use crate::retrying::idle;
 use crate::revoking::revoke;
 use crate::station::Station;
-use crate::stations::{begin, make_place, retry, take_message};
+use crate::stations::{begin, is_final, make_place, reserve_place, retry, take_message};
+use crate::transitions::{
+    begun_key, drawn_with, either, has_attempt, has_session, next_nonce, number_of,
+    replace_attempt, seat,
+};
 use act_memory::{Outbox, SendRoom, settle};
 use authenticator::{ApStart, Authenticator};
 use data_frames::DataKey;
 use domain_base::{NoMemory, Node, Peer, Tid};
-use frame_intake::{Heard, Judged, SealedData, judge, read};
+use frame_intake::{Heard, Judged, KeyMessage, judge, read};
 use group_key::GroupKeys;
-use node_base::{DRAW_END, Here, NodeEvent, address, gtk, nonce, rsne_status};
+use key_holders::Holders;
+use node_base::{DRAW_END, Here, NodeEvent, address, gtk, nonce};
 use rsn_elements::Elements;
-use run_journal::{Act, Domain, Drawn, Key, Kind, Outcome, Reason, Reply, Why};
+use run_journal::{Act, Domain, Drawn, Key, Keyed, Kind, Outcome, Reason, Reply, Why};
 use std::alloc::Global;
 use std::marker::Model;
+use targets::Targets;
 
 /// An access point of the domain.
 #[derive(Drop)]
@@ -54,11 +77,13 @@ pub struct ApNode {
     stations: Vec<Option<Station>>,
     // How many sessions owe a G2 for the newest group key.
     owing: u64,
+    // The fast transitions with stations.
+    targets: Targets,
 }
 
 impl Model for ApNode {
     ghost use Rattle.std.specs.Prelude.{◌<◌, ◌≤◌};
-    ghost use Rattle.ap_node.specs.State.{State};
+    ghost use Rattle.ap_node.specs.State.{State, trimmed};
 
     ghost Value = { State };
 
@@ -69,6 +94,7 @@ impl Model for ApNode {
       sending = s.sending;
       stations = s.stations.items;
       owing = s.owing;
+      targets = trimmed s.targets;
     } };
 
     ghost invariant = { λ s. (s.group.newest.id < 4) × (1 ≤ s.group.newest.id)
@@ -76,7 +102,7 @@ impl Model for ApNode {
 }
 
 impl ApNode {
-    ghost use Rattle.ap_node.specs.Stands.{Stands};
+    ghost use Rattle.ap_node.specs.Stands.{StandsWith};
 
     /// The access point as it starts: it draws its first group key and installs it. It begins to
     /// draw at that number.
@@ -90,7 +116,7 @@ impl ApNode {
         requires draw { first_draw < draw_end }
         requires listed { IsListed domain.now (Ap ap) }
         ensures number { IfOk result (λ node. node.number ≡ ap) }
-        ensures stands { IfOk result (λ node. Stands domain.now first_draw node
+        ensures stands { IfOk result (λ node. StandsWith domain.now first_draw node []
             (add (start_acts domain.now first_draw (Ap ap)) [])) }
         ensures acts { IfOk result (λ node. out.new.acts
             ≡ out.old.acts ++ start_acts domain.now first_draw (Ap ap)) }
@@ -119,30 +145,47 @@ impl ApNode {
             sending,
             stations: Vec::new(alloc),
             owing: 0,
+            targets: Targets::new(alloc),
         })
     }
 
-    /// Takes one event.
-    pub fn step(
+    /// Takes one event. Of the key holders it has its own at least.
+    #[tactic(auto, using(crate::proofs::Rows::if_with, crate::proofs::Rows::if_plain, crate::proofs::Rows::same_others))]
+    pub fn step<H: Holders>(
         &mut self,
         alloc: Global,
         domain: &Domain,
         event: NodeEvent<'_>,
+        holders: &mut H,
         out: &mut Outbox,
     ) -> Result<Outcome, NoMemory>
         requires form { InForm domain.now }
-        requires suite { domain.now.akm ≢ AnyAkm.FtPsk }
         requires listed { self.old.number < length domain.now.aps }
         requires event { IsEventAt domain.now (Ap self.old.number) (event_of event) }
+        requires has { is_in self.old.number (H.has holders.old) ≡ true }
+        requires ids { H.ids holders.old ≡ ids_of domain.now }
         ensures number { self.new.number ≡ self.old.number }
         ensures steps { IfOk result (λ outcome. (first : ℕ) (h : List AnyAct)
-            → Stands domain.now first self.old h
+            → StandsWith domain.now first self.old (H.rows holders.old self.old.number) h
             → Steps (here domain.now first (Ap self.old.number)) (event_of event.entry)
-            (Stands domain.now first self.new) h (seen out.old.acts out.new.acts outcome)) }
+            (StandsWith domain.now first self.new (H.rows holders.new self.old.number)) h
+            (seen out.old.acts out.new.acts outcome)) }
         ensures refused { IfOk result (λ outcome. (why : AnyReason) → outcome ≡ Refused why
             → self.new ≡ self.old) }
+        // where a key holder was asked, that is told
+        ensures looks { OnOk result ((first : ℕ) (h : List AnyAct)
+            → StandsWith domain.now first self.old (H.rows holders.old self.old.number) h
+            → (g : List AnyAct) → out.new.acts ≡ out.old.acts ++ g → AreLooked (AnsweredBy
+            (λ id name r1kh sta answer. H.pulls holders.old id name r1kh sta holders.new answer)
+            (H.ids holders.old) (H.has holders.old) (H.rows holders.old) domain.now
+            self.old.number) domain.now g) }
         ensures same { OnErr result (self.new ≡ self.old) }
+        ensures same_rows { OnErr result
+            (H.rows holders.new self.old.number ≡ H.rows holders.old self.old.number) }
         ensures kept { OnErr result (out.new.acts ≡ out.old.acts) }
+        ensures others { LeavesOthers self.old.number (H.ids holders.old) (H.ids holders.new)
+            (H.has holders.old) (H.has holders.new) (H.rows holders.old) (H.rows holders.new) }
+        ensures no_less { H.no_less holders.old holders.new }
     {
         let node = Node::Ap(self.number);
         let here = Here {
@@ -151,13 +194,13 @@ impl ApNode {
             node,
         };
         match event {
-            NodeEvent::Take(octets) => self.take(here, octets, out),
+            NodeEvent::Take(octets) => self.take(here, octets, holders, out),
             NodeEvent::Retry(station) => self.retry(here, station, out),
             NodeEvent::Rekey => self.rekey(here, out),
             NodeEvent::Send(to, Some(tid), payload) => self.send(here, to, Some(tid), payload, out),
             NodeEvent::Send(to, None, payload) => self.send(here, to, None, payload, out),
             NodeEvent::Expire(station) => self.expire(here, station, out),
-            NodeEvent::Revoke(station) => self.revoke(here, station, out),
+            NodeEvent::Revoke(station) => self.revoke(here, station, holders, out),
             NodeEvent::Connect(_) | NodeEvent::Roam(_) | NodeEvent::Leave => unreachable!(),
         }
     }
@@ -220,15 +263,32 @@ impl ApNode {
     }
 
     // Takes the octets of a frame.
-    fn take(&mut self, here: Here<'_>, octets: &[u8], out: &mut Outbox) -> Result<Outcome, NoMemory>
+    #[tactic(auto, using(crate::proofs::Rows::if_same, crate::proofs::Rows::same_others))]
+    fn take<H: Holders>(
+        &mut self,
+        here: Here<'_>,
+        octets: &[u8],
+        holders: &mut H,
+        out: &mut Outbox,
+    ) -> Result<Outcome, NoMemory>
         requires node { here.node ≡ Ap self.old.number }
         requires form { InForm here.domain.now }
-        requires suite { here.domain.now.akm ≢ AnyAkm.FtPsk }
         requires listed { self.old.number < length here.domain.now.aps }
-        ensures taken { IfOk result (λ outcome. IsTaken here.entry.domain.now (Take octets.now)
-            self.old self.new (seen out.old.acts out.new.acts outcome)) }
+        requires has { is_in self.old.number (H.has holders.old) ≡ true }
+        requires ids { H.ids holders.old ≡ ids_of here.domain.now }
+        ensures taken { IfOk result (λ outcome. IsTakenWith (AreLooked (AnsweredBy
+            (λ id name r1kh sta answer. H.pulls holders.old id name r1kh sta holders.new answer)
+            (H.ids holders.old) (H.has holders.old) (H.rows holders.old) here.entry.domain.now
+            self.old.number) here.entry.domain.now) here.entry.domain.now (Take octets.now)
+            self.old self.new (H.rows holders.old self.old.number)
+            (H.rows holders.new self.old.number) (seen out.old.acts out.new.acts outcome)) }
         ensures same { OnErr result (self.new ≡ self.old) }
+        ensures same_rows { OnErr result
+            (H.rows holders.new self.old.number ≡ H.rows holders.old self.old.number) }
         ensures kept { OnErr result (out.new.acts ≡ out.old.acts) }
+        ensures others { LeavesOthers self.old.number (H.ids holders.old) (H.ids holders.new)
+            (H.has holders.old) (H.has holders.new) (H.rows holders.old) (H.rows holders.new) }
+        ensures no_less { H.no_less holders.old holders.new }
     {
         let delivered = read(here.domain.akm, octets);
         match judge(here.domain, here.node, &delivered) {
@@ -239,6 +299,10 @@ impl ApNode {
                 Kind::AssocReq => {
                     self.take_request(here, number_of(from), octets, &elements, out)
                 }
+                Kind::FtReq => {
+                    self.take_auth(here, number_of(from), octets, &elements, holders, out)
+                }
+                Kind::ReReq => { self.take_reassoc(here, number_of(from), octets, &elements, out) }
                 kind => {
                     let outcome = Outcome::Refused(Reason::Unawaited);
                     settle(here.alloc, Some(from), octets, kind, outcome, out)
@@ -246,12 +310,136 @@ impl ApNode {
             },
             Judged::Keyed(from, message) => {
                 let heard = Heard { octets, message };
-                self.take_keyed(here, number_of(from), &heard, out)
+                self.take_keyed(here, number_of(from), &heard, holders, out)
             }
+            // no session owes more or less because of it
             Judged::Sealed(from, frame) => {
-                self.take_sealed(here, number_of(from), octets, &frame, out)
+                let station = number_of(from);
+                take_data(&mut self.stations, here.alloc, station, octets, &frame, out)
             }
         }
+    }
+
+    // Takes an authentication request of a station, by which a fast transition begins. No session
+    // owes more or less because of it.
+    fn take_auth<H: Holders>(
+        &mut self,
+        here: Here<'_>,
+        station: u16,
+        octets: &[u8],
+        elements: &Elements<'_>,
+        holders: &mut H,
+        out: &mut Outbox,
+    ) -> Result<Outcome, NoMemory>
+        requires node { here.node ≡ Ap self.old.number }
+        requires form { InForm here.domain.now }
+        requires listed { self.old.number < length here.domain.now.aps }
+        requires has { is_in self.old.number (H.has holders.old) ≡ true }
+        requires ids { H.ids holders.old ≡ ids_of here.domain.now }
+        requires raw { HasRaw (element_fields elements.now) }
+        requires frame { IsRequestOf kind.FtReq here.domain.now self.old.number octets.now station
+            elements.now }
+        ensures taken { IfOk result (λ outcome. IsTakenWith (AreLooked (AnsweredBy
+            (λ id name r1kh sta answer. H.pulls holders.old id name r1kh sta holders.new answer)
+            (H.ids holders.old) (H.has holders.old) (H.rows holders.old) here.entry.domain.now
+            self.old.number) here.entry.domain.now) here.entry.domain.now (Take octets.now)
+            self.old self.new (H.rows holders.old self.old.number)
+            (H.rows holders.new self.old.number) (seen out.old.acts out.new.acts outcome)) }
+        ensures same { OnErr result (self.new ≡ self.old) }
+        ensures same_rows { OnErr result
+            (H.rows holders.new self.old.number ≡ H.rows holders.old self.old.number) }
+        ensures kept { OnErr result (out.new.acts ≡ out.old.acts) }
+        ensures others { LeavesOthers self.old.number (H.ids holders.old) (H.ids holders.new)
+            (H.has holders.old) (H.has holders.new) (H.rows holders.old) (H.rows holders.new) }
+        ensures no_less { H.no_less holders.old holders.new }
+    {
+        let anonce = next_nonce(here, self.drawn);
+        let is_pending = self.targets.is_pending(station);
+        let had_attempt = either(has_attempt(&self.stations, station), is_pending);
+        let taken = self.targets.take_auth(
+            here,
+            self.number,
+            station,
+            octets,
+            elements,
+            had_attempt,
+            anonce.as_ref(),
+            holders,
+            out,
+        )?;
+        let key = begun_key(taken);
+        replace_attempt(&mut self.stations, station, key);
+        self.drawn = drawn_with(self.drawn, key);
+        Ok(taken.outcome)
+    }
+
+    // Takes a reassociation request of a station, by which a fast transition ends.
+    fn take_reassoc(
+        &mut self,
+        here: Here<'_>,
+        station: u16,
+        octets: &[u8],
+        elements: &Elements<'_>,
+        out: &mut Outbox,
+    ) -> Result<Outcome, NoMemory>
+        requires node { here.node ≡ Ap self.old.number }
+        requires form { InForm here.domain.now }
+        requires listed { self.old.number < length here.domain.now.aps }
+        requires raw { HasRaw (element_fields elements.now) }
+        requires frame { IsRequestOf kind.ReReq here.domain.now self.old.number octets.now station
+            elements.now }
+        ensures taken { IfOk result (λ outcome. IsTaken here.entry.domain.now (Take octets.now)
+            self.old self.new (seen out.old.acts out.new.acts outcome)) }
+        ensures same { OnErr result (self.new ≡ self.old) }
+        ensures kept { OnErr result (out.new.acts ≡ out.old.acts) }
+    {
+        let outcome = self.move_over(here, station, octets, elements, out)?;
+        Ok(self.end(here, outcome, out))
+    }
+
+    // The fast transition with a station takes a reassociation request of it. Where a key is
+    // installed the session with it has come of that. The switch is to come, and there is room for
+    // it.
+    fn move_over(
+        &mut self,
+        here: Here<'_>,
+        station: u16,
+        octets: &[u8],
+        elements: &Elements<'_>,
+        out: &mut Outbox,
+    ) -> Result<Outcome, NoMemory>
+        requires node { here.node ≡ Ap self.old.number }
+        requires form { InForm here.domain.now }
+        requires listed { self.old.number < length here.domain.now.aps }
+        requires raw { HasRaw (element_fields elements.now) }
+        requires frame { IsRequestOf kind.ReReq here.domain.now self.old.number octets.now station
+            elements.now }
+        ensures done { IfOk result (λ outcome. IsDone here.entry.domain.now (Take octets.now)
+            self.old self.new (seen out.old.acts out.new.acts outcome)) }
+        ensures number { self.new.number ≡ self.old.number }
+        ensures same { OnErr result (self.new ≡ self.old) }
+        ensures kept { OnErr result (out.new.acts ≡ out.old.acts) }
+        ensures room { OnOk result (1 ≤ out.new.spare) }
+    {
+        reserve_place(&mut self.stations, station)?;
+        let NewestGroup { key: newest, uses } = self.newest();
+        let taken = self.targets.take_reassoc(
+            here,
+            self.number,
+            station,
+            octets,
+            elements,
+            &newest,
+            uses,
+            has_session(&self.stations, station),
+            out,
+        )?;
+        if let Some(Keyed { ptk, .. }) = begun_key(taken) {
+            let (domain, number) = (here.domain, self.number);
+            let stations = &mut self.stations;
+            self.owing = seat(stations, domain, number, station, &ptk, &newest, self.owing);
+        }
+        Ok(taken.outcome)
     }
 
     // Takes an association request of a station.
@@ -265,7 +453,6 @@ impl ApNode {
     ) -> Result<Outcome, NoMemory>
         requires node { here.node ≡ Ap self.old.number }
         requires form { InForm here.domain.now }
-        requires suite { here.domain.now.akm ≢ AnyAkm.FtPsk }
         requires listed { self.old.number < length here.domain.now.aps }
         requires frame { IsRequest here.domain.now self.old.number octets.now station elements.now }
         ensures taken { IfOk result (λ outcome. IsTaken here.entry.domain.now (Take octets.now)
@@ -273,7 +460,7 @@ impl ApNode {
         ensures same { OnErr result (self.new ≡ self.old) }
         ensures kept { OnErr result (out.new.acts ≡ out.old.acts) }
     {
-        if let Some(status) = rsne_status(here.domain.akm, elements.rsne) {
+        if let Some(status) = request_status(here.domain, elements) {
             return refuse(here, station, octets, status, out);
         }
         if self.drawn >= DRAW_END {
@@ -298,7 +485,6 @@ impl ApNode {
     ) -> Result<Outcome, NoMemory>
         requires node { here.node ≡ Ap self.old.number }
         requires form { InForm here.domain.now }
-        requires suite { here.domain.now.akm ≢ AnyAkm.FtPsk }
         requires listed { self.old.number < length here.domain.now.aps }
         requires station { station < length here.domain.now.stas }
         requires draw { self.old.drawn < draw_end }
@@ -308,7 +494,8 @@ impl ApNode {
             (BeginsWith here.entry.domain.now self.old self.new station rsne.now) }
         ensures acts { OnOk result (out.new.acts ≡ out.old.acts
             ++ associated_acts here.entry.domain.now (Ap self.old.number) (Sta station) octets.now
-            (is_some (attempt_in (station_at self.old.stations station)))
+            (has_any_attempt (station_at self.old.stations station)
+            (moves_at self.old.targets station))
             (nonce here.entry.domain.now (Ap self.old.number) self.old.drawn)) }
         ensures same { OnErr result (self.new ≡ self.old) }
         ensures kept { OnErr result (out.new.acts ≡ out.old.acts) }
@@ -317,7 +504,7 @@ impl ApNode {
             taken,
             response,
             room,
-        } = prepare(here, station, octets)?;
+        } = accept(here, station, octets)?;
         out.reserve(6)?;
         make_place(&mut self.stations, station)?;
         let anonce = nonce(here.domain, here.node, self.drawn);
@@ -328,8 +515,10 @@ impl ApNode {
         let mut reply = Reply::empty();
         let part = Authenticator::begin(here.domain, self.number, station, start, &mut reply);
         let had_attempt = begin(&mut self.stations, station, part);
+        let was_pending = self.targets.close_pending(station);
+        let had_any = either(had_attempt, was_pending);
         out.add(taken);
-        close_attempt(had_attempt, station, out);
+        close_attempt(had_any, station, out);
         open_attempt(station, anonce, response, out);
         room.add_sent(Node::Sta(station), &reply, out);
         self.drawn += 1;
@@ -337,80 +526,102 @@ impl ApNode {
     }
 
     // Takes an EAPOL-Key message of a station: it is for the part with it.
-    fn take_keyed(
+    fn take_keyed<H: Holders>(
         &mut self,
         here: Here<'_>,
         station: u16,
         heard: &Heard<'_>,
+        holders: &mut H,
         out: &mut Outbox,
     ) -> Result<Outcome, NoMemory>
         requires node { here.node ≡ Ap self.old.number }
-        requires suite { here.domain.now.akm ≢ AnyAkm.FtPsk }
+        requires form { InForm here.domain.now }
         requires listed { self.old.number < length here.domain.now.aps }
+        requires has { is_in self.old.number (H.has holders.old) ≡ true }
         requires frame { IsKeyedAtAp here.domain.now self.old.number heard.now.octets.now
             (Sta station) heard.now.message }
-        ensures taken { IfOk result (λ outcome. IsTaken here.entry.domain.now
-            (Take heard.now.octets.now) self.old self.new
-            (seen out.old.acts out.new.acts outcome)) }
+        ensures taken { IfOk result (λ outcome. IsTakenWith NoLooks here.entry.domain.now
+            (Take heard.now.octets.now) self.old self.new (H.rows holders.old self.old.number)
+            (H.rows holders.new self.old.number) (seen out.old.acts out.new.acts outcome)) }
         ensures same { OnErr result (self.new ≡ self.old) }
+        ensures same_rows { OnErr result
+            (H.rows holders.new self.old.number ≡ H.rows holders.old self.old.number) }
         ensures kept { OnErr result (out.new.acts ≡ out.old.acts) }
+        ensures others { LeavesOthers self.old.number (H.ids holders.old) (H.ids holders.new)
+            (H.has holders.old) (H.has holders.new) (H.rows holders.old) (H.rows holders.new) }
+        ensures no_less { H.no_less holders.old holders.new }
     {
-        let outcome = self.hand(here, station, heard, out)?;
+        let outcome = self.hand(here, station, heard, holders, out)?;
         Ok(self.end(here, outcome, out))
     }
 
-    // The part with a station takes an EAPOL-Key message of it. The switch is to come, and there is
-    // room for it.
-    fn hand(
+    // The part with a station takes an EAPOL-Key message of it, where all memory is taken and a row put
+    // first. The switch is to come, and there is room for it.
+    fn hand<H: Holders>(
         &mut self,
         here: Here<'_>,
         station: u16,
         heard: &Heard<'_>,
+        holders: &mut H,
         out: &mut Outbox,
     ) -> Result<Outcome, NoMemory>
         requires node { here.node ≡ Ap self.old.number }
-        requires suite { here.domain.now.akm ≢ AnyAkm.FtPsk }
+        requires form { InForm here.domain.now }
         requires listed { self.old.number < length here.domain.now.aps }
+        requires has { is_in self.old.number (H.has holders.old) ≡ true }
         requires frame { IsKeyedAtAp here.domain.now self.old.number heard.now.octets.now
             (Sta station) heard.now.message }
-        ensures done { IfOk result (λ outcome. IsDone here.entry.domain.now
-            (Take heard.now.octets.now) self.old self.new
-            (seen out.old.acts out.new.acts outcome)) }
+        ensures done { IfOk result (λ outcome. IsDoneWith here.entry.domain.now
+            (Take heard.now.octets.now) self.old self.new (H.rows holders.old self.old.number)
+            (H.rows holders.new self.old.number) (seen out.old.acts out.new.acts outcome)) }
         ensures number { self.new.number ≡ self.old.number }
         ensures same { OnErr result (self.new ≡ self.old) }
+        ensures same_rows { OnErr result
+            (H.rows holders.new self.old.number ≡ H.rows holders.old self.old.number) }
         ensures kept { OnErr result (out.new.acts ≡ out.old.acts) }
         ensures room { OnOk result (1 ≤ out.new.spare) }
+        ensures others { LeavesOthers self.old.number (H.ids holders.old) (H.ids holders.new)
+            (H.has holders.old) (H.has holders.new) (H.rows holders.old) (H.rows holders.new) }
+        ensures no_less { H.no_less holders.old holders.new }
     {
-        let newest = self.newest();
-        let owed = owes(&self.stations, station, &newest.key);
-        let outcome = take_message(&mut self.stations, here, station, heard, &newest, out)?;
-        let owes = owes(&self.stations, station, &newest.key);
-        self.owing = recounted(self.owing, owed, owes);
+        out.reserve(9)?;
+        let number = self.number;
+        let message = &heard.message;
+        let is_final = is_final(&self.stations, station, message);
+        let ready = prepare(here, number, station, heard, is_final, holders)?;
+        let outcome = self.hand_ready(station, message, ready, out);
+        drop_finished(&mut self.targets, station, is_final);
         Ok(outcome)
     }
 
-    // Takes protected data of a station: it is under the key of the session with it. No session owes
-    // more or less because of it.
-    fn take_sealed(
+    // As all is ready. Takes no memory.
+    fn hand_ready(
         &mut self,
-        here: Here<'_>,
         station: u16,
-        octets: &[u8],
-        frame: &SealedData<'_>,
+        message: &KeyMessage<'_>,
+        ready: Ready,
         out: &mut Outbox,
-    ) -> Result<Outcome, NoMemory>
-        requires node { here.node ≡ Ap self.old.number }
-        requires frame { IsSealedAtAp here.domain.now self.old.number octets.now (Sta station)
-            frame.now }
-        ensures taken { IfOk result (λ outcome. IsTaken here.entry.domain.now (Take octets.now)
-            self.old self.new (seen out.old.acts out.new.acts outcome)) }
-        ensures same { OnErr result (self.new ≡ self.old) }
-        ensures kept { OnErr result (out.new.acts ≡ out.old.acts) }
+    ) -> Outcome
+        requires frame { IsKeyFrame message.now.frame }
+        requires room { 8 + length ready.between.opened.items + length ready.between.put.items
+            ≤ out.old.spare }
+        ensures handed { IsHandedOver station message.now ready self.old self.new
+            (seen out.old.acts out.new.acts result) }
+        ensures beside { IsBeside self.old self.new station }
+        ensures moves { self.new.targets ≡ self.old.targets }
+        ensures refused { (why : AnyReason) → result ≡ Refused why → self.new ≡ self.old }
+        ensures room { 1 ≤ out.new.spare }
     {
-        take_data(&mut self.stations, here.alloc, station, octets, frame, out)
+        let newest = self.newest();
+        let owed = owes(&self.stations, station, &newest.key);
+        let outcome = take_message(&mut self.stations, station, message, &newest, ready, out);
+        let owes = owes(&self.stations, station, &newest.key);
+        self.owing = recounted(self.owing, owed, owes);
+        outcome
     }
 
-    // Sends a payload to a station, or to all. No session owes more or less because of it.
+    // Sends a payload to a station, under the key of the session with it, or to all, under the
+    // current group key. No session owes more or less because of it.
     fn send(
         &mut self,
         here: Here<'_>,
@@ -430,51 +641,11 @@ impl ApNode {
         ensures kept { OnErr result (out.new.acts ≡ out.old.acts) }
     {
         match to {
-            Peer::One(peer) => self.send_to_one(here, number_of(peer), tid, payload, out),
-            Peer::All => self.send_to_all(here, tid, payload, out),
+            Peer::One(peer) => {
+                send_to(&mut self.stations, here, number_of(peer), tid, payload, out)
+            }
+            Peer::All => self.sending.send(here, Peer::All, tid, payload, out),
         }
-    }
-
-    // Sends a payload to a station, under the key of the session with it.
-    fn send_to_one(
-        &mut self,
-        here: Here<'_>,
-        station: u16,
-        tid: Option<Tid>,
-        payload: &[u8],
-        out: &mut Outbox,
-    ) -> Result<Outcome, NoMemory>
-        requires node { here.node ≡ Ap self.old.number }
-        requires listed { self.old.number < length here.domain.now.aps }
-        requires station { station < length here.domain.now.stas }
-        requires short { length payload.now ≤ most_payload }
-        ensures taken { IfOk result (λ outcome. IsTaken here.entry.domain.now
-            (Send (One (Sta station)) tid payload.now) self.old self.new
-            (seen out.old.acts out.new.acts outcome)) }
-        ensures same { OnErr result (self.new ≡ self.old) }
-        ensures kept { OnErr result (out.new.acts ≡ out.old.acts) }
-    {
-        send_to(&mut self.stations, here, station, tid, payload, out)
-    }
-
-    // Sends a payload to all, under the current group key.
-    fn send_to_all(
-        &mut self,
-        here: Here<'_>,
-        tid: Option<Tid>,
-        payload: &[u8],
-        out: &mut Outbox,
-    ) -> Result<Outcome, NoMemory>
-        requires node { here.node ≡ Ap self.old.number }
-        requires listed { self.old.number < length here.domain.now.aps }
-        requires short { length payload.now ≤ most_payload }
-        ensures taken { IfOk result (λ outcome. IsTaken here.entry.domain.now
-            (Send All tid payload.now) self.old self.new
-            (seen out.old.acts out.new.acts outcome)) }
-        ensures same { OnErr result (self.new ≡ self.old) }
-        ensures kept { OnErr result (out.new.acts ≡ out.old.acts) }
-    {
-        self.sending.send(here, Peer::All, tid, payload, out)
     }
 
     // Sends once more what waits for an answer of the station.
@@ -510,6 +681,7 @@ impl ApNode {
         let outcome = retry(&mut self.stations, here.alloc, station, &newest, out)?;
         let owes = owes(&self.stations, station, &newest.key);
         self.owing = recounted(self.owing, owed, owes);
+        drop_given_up(&mut self.targets, station, outcome);
         Ok(outcome)
     }
 
@@ -544,20 +716,36 @@ impl ApNode {
         let newest = self.group.newest();
         let owed = owes(&self.stations, station, &newest);
         let (had_attempt, had_session) = drop_part(&mut self.stations, station);
+        let was_pending = drop_moves(&mut self.targets, station);
+        let had_any = either(had_attempt, was_pending);
         self.owing = recounted(self.owing, owed, false);
-        add_dropped(station, had_attempt, had_session, out)
+        add_dropped(station, had_any, had_session, out)
     }
 
-    // Revokes the key of a station: with suites 2 and 6 there is none.
-    fn revoke(&self, here: Here<'_>, station: u16, out: &mut Outbox) -> Result<Outcome, NoMemory>
+    // Revokes the key of a station.
+    fn revoke<H: Holders>(
+        &self,
+        here: Here<'_>,
+        station: u16,
+        holders: &mut H,
+        out: &mut Outbox,
+    ) -> Result<Outcome, NoMemory>
         requires form { InForm here.domain.now }
-        requires suite { here.domain.now.akm ≢ AnyAkm.FtPsk }
         requires listed { self.now.number < length here.domain.now.aps }
-        ensures taken { IfOk result (λ outcome. IsTaken here.entry.domain.now (Revoke station)
-            self.now self.now (seen out.old.acts out.new.acts outcome)) }
+        requires station { station < length here.domain.now.stas }
+        requires has { is_in self.now.number (H.has holders.old) ≡ true }
+        ensures taken { IfOk result (λ outcome. IsTakenWith NoLooks here.entry.domain.now
+            (Revoke station)
+            self.now self.now (H.rows holders.old self.now.number)
+            (H.rows holders.new self.now.number) (seen out.old.acts out.new.acts outcome)) }
+        ensures same_rows { OnErr result
+            (H.rows holders.new self.now.number ≡ H.rows holders.old self.now.number) }
         ensures kept { OnErr result (out.new.acts ≡ out.old.acts) }
+        ensures others { LeavesOthers self.now.number (H.ids holders.old) (H.ids holders.new)
+            (H.has holders.old) (H.has holders.new) (H.rows holders.old) (H.rows holders.new) }
+        ensures no_less { H.no_less holders.old holders.new }
     {
-        revoke(here, self.number, station, out)
+        revoke(here, self.number, station, holders, out)
     }
 
     // Draws a new group key and gives it to each session.
@@ -606,16 +794,5 @@ impl ApNode {
         });
         let newest = self.group.newest();
         self.owing = give_all(&mut self.stations, &newest, rooms, out);
-    }
-}
-
-// The number of a station.
-fn number_of(peer: Node) -> u16
-    requires { is_ap peer ≡ false }
-    ensures { peer ≡ Sta result }
-{
-    match peer {
-        Node::Sta(number) => number,
-        Node::Ap(_) => unreachable!(),
     }
 }

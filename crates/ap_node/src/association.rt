@@ -1,8 +1,9 @@
 //! Association requests at an access point.
 
 ghost use Rattle.std.specs.Prelude.{◌≡◌, ◌≤◌, ◌+◌, [], ◌∷◌, ◌++◌, true, length, slice_index, Some};
-ghost use Rattle.std.specs.Prelude.{None, IfOk, OnOk, OnErr};
+ghost use Rattle.std.specs.Prelude.{None, IfOk, OnOk, OnErr, option_map};
 ghost use Rattle.domain_base.specs.declared.names.Node.TheVariants.{Sta};
+ghost use Rattle.rsn_elements.specs.Fields.{mde_fields, element_fields};
 ghost use Rattle.run_journal.specs.declared.acts.Act.TheVariants.{Took, Opened, Drew};
 ghost use Rattle.run_journal.specs.declared.acts.Reason.TheVariants as reason;
 ghost use Rattle.run_journal.specs.declared.acts.Kind.TheVariants as kind;
@@ -10,14 +11,55 @@ ghost use Rattle.run_journal.specs.declared.acts.Start.TheVariants.{Connect};
 ghost use Rattle.run_journal.specs.declared.acts.Drawn.TheVariants.{Nonce};
 ghost use Rattle.run_journal.specs.declared.acts.Outcome.TheVariants.{Accepted, Refused};
 ghost use Rattle.domain_rules.specs.Network.{InForm, IsListed, is_ap};
+ghost use Rattle.domain_rules.specs.FastTransition.{mde_status, mobility_status};
 ghost use Rattle.domain_rules.specs.Frames.{sent_assoc_resp, sent_refusal};
-ghost use Rattle.ap_node.specs.Takes.{closed};
+ghost use Rattle.ap_node.specs.Takes.{closed, request_status};
 
 use act_memory::{Outbox, SendRoom, took};
-use domain_base::{NoMemory, Node};
+use domain_base::{Akm, NoMemory, Node};
 use frame_making::{assoc_resp, refusal};
-use node_base::Here;
-use run_journal::{Act, Drawn, Kind, Outcome, Part, Reason, Start};
+use node_base::{Here, rsne_status};
+use rsn_elements::{Elements, Mde};
+use run_journal::{Act, Domain, Drawn, Kind, Outcome, Part, Reason, Start};
+
+// The status of a mobility domain element that is missing or of another domain
+// (IEEE Std 802.11-2020, 9.4.1.9).
+const INVALID_MDE: u16 = 54;
+
+// The status with which an MDE is refused, if it is.
+fn mde_status(domain: &Domain, mde: Option<Mde>) -> Option<u16>
+    ensures { result ≡ mde_status domain.now (option_map mde_fields mde) }
+{
+    let Some(mde) = mde else {
+        return Some(INVALID_MDE);
+    };
+    if mde.mdid == domain.mdid {
+        None
+    } else {
+        Some(INVALID_MDE)
+    }
+}
+
+// And with suite 4 alone.
+fn mobility_status(domain: &Domain, mde: Option<Mde>) -> Option<u16>
+    ensures { result ≡ mobility_status domain.now.akm domain.now (option_map mde_fields mde) }
+{
+    match domain.akm {
+        Akm::Psk | Akm::PskSha256 => None,
+        Akm::FtPsk => mde_status(domain, mde),
+    }
+}
+
+/// The status with which an association request is refused, if it is: by its RSNE, and with suite 4 by
+/// its MDE (IEEE Std 802.11-2020, 13.4.2).
+pub fn request_status(domain: &Domain, elements: &Elements<'_>) -> Option<u16>
+    ensures { result ≡ request_status domain.now (element_fields elements.now) }
+{
+    match rsne_status(domain.akm, elements.rsne) {
+        Some(status) => Some(status),
+        None => mobility_status(domain, elements.mde),
+    }
+}
 
 /// Refuses an association request of a station with a status.
 pub fn refuse(
@@ -101,7 +143,7 @@ pub struct Acceptance {
 }
 
 /// Prepares the acceptance of an association request of a station.
-pub fn prepare(here: Here<'_>, station: u16, octets: &[u8]) -> Result<Acceptance, NoMemory>
+pub fn accept(here: Here<'_>, station: u16, octets: &[u8]) -> Result<Acceptance, NoMemory>
     requires form { InForm here.domain.now }
     requires ap { IsListed here.domain.now here.node }
     requires is_ap { is_ap here.node ≡ true }

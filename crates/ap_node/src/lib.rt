@@ -7,12 +7,16 @@ mod counting;
 mod expiring;
 mod giving;
 mod laws;
+mod moving;
 mod newest;
 mod protected;
+mod putting;
+mod ready;
 mod retrying;
 mod revoking;
 mod station;
 mod stations;
+mod transitions;
 
 pub use access_point::ApNode;
 pub use laws::stands_as_the_network_grows;

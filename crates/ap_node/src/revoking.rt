@@ -1,36 +1,101 @@
 //! An access point is to have the key of a station revoked.
 
-ghost use Rattle.std.specs.Prelude.{◌≡◌, ◌++◌, [], ◌∷◌, replicate, IfOk, OnOk, OnErr};
+ghost use Rattle.std.specs.Prelude.{◌≡◌, ◌++◌, [], ◌∷◌, true, replicate, IfOk, OnOk, OnErr};
+ghost use Rattle.domain_base.specs.declared.names.Akm.TheVariants.{FtPsk};
 ghost use Rattle.domain_base.specs.declared.names.Node.TheVariants.{Ap, Sta};
 ghost use Rattle.key_hierarchy.specs.declared.answers.RevokeAnswer.TheVariants.{Absent};
+ghost use Rattle.key_holders.specs.Rows.{is_in};
 ghost use Rattle.run_journal.specs.declared.acts.Act.TheVariants.{Revoked};
 ghost use Rattle.run_journal.specs.declared.acts.Outcome.TheVariants.{Done};
 ghost use Rattle.domain_rules.specs.Network.{InForm, IsListed, r0kh_id};
+ghost use Rattle.ap_node.specs.Putting.{Revokes, RevokesWhere, LeavesOthers};
 
 use act_memory::Outbox;
-use domain_base::{NoMemory, Node, Octets};
-use key_hierarchy::RevokeAnswer;
-use node_base::{Here, r0kh_id};
+use domain_base::{Akm, NoMemory, Node, Octets};
+use key_hierarchy::{PmkR0, RevokeAnswer};
+use key_holders::Holders;
+use node_base::{Here, address, r0kh_id};
 use run_journal::{Act, Outcome};
 
-/// Revokes the key of a station at the key holder of that access point, where that holds none, as
-/// with suites 2 and 6: the name is 16 zero octets.
-pub fn revoke(here: Here<'_>, ap: u16, station: u16, out: &mut Outbox) -> Result<Outcome, NoMemory>
+// With suite 4 the row is that of the PMK-R0 of the station (IEEE Std 802.11-2020, 12.7.1.6.3). Takes
+// no memory.
+fn revoke_row<H: Holders>(
+    here: Here<'_>,
+    ap: u16,
+    station: u16,
+    id: Vec<u8>,
+    holders: &mut H,
+) -> Act
     requires form { InForm here.domain.now }
-    requires listed { IsListed here.domain.now (Ap ap) }
-    ensures outcome { IfOk result (λ came. came ≡ Done) }
-    ensures acts { OnOk result (out.new.acts ≡ out.old.acts
-        ++ Revoked (r0kh_id here.entry.domain.now (Ap ap)) (replicate 16 0) (Sta station) Absent
-        ∷ []) }
-    ensures kept { OnErr result (out.new.acts ≡ out.old.acts) }
+    requires ap { IsListed here.domain.now (Ap ap) }
+    requires station { IsListed here.domain.now (Sta station) }
+    requires id { id.items ≡ r0kh_id here.domain.now (Ap ap) }
+    requires has { is_in ap (H.has holders.old) ≡ true }
+    ensures revoked { Revokes here.entry.domain.now ap station (H.rows holders.old ap)
+        (H.rows holders.new ap) result }
+    ensures others { LeavesOthers ap (H.ids holders.old) (H.ids holders.new) (H.has holders.old)
+        (H.has holders.new) (H.rows holders.old) (H.rows holders.new) }
+    ensures no_less { H.no_less holders.old holders.new }
 {
-    let id = Vec::from_slice(here.alloc, r0kh_id(here.domain, ap))?;
-    out.reserve(1)?;
-    out.add(Act::Revoked {
+    let domain = here.domain;
+    let sta = address(domain, Node::Sta(station));
+    let r0kh_id = r0kh_id(domain, ap);
+    let r0 = PmkR0::derive(
+        &domain.psk,
+        domain.ssid.as_slice(),
+        domain.mdid,
+        r0kh_id,
+        sta,
+    );
+    let name = r0.name();
+    let answer = holders.revoke(ap, &name);
+    Act::Revoked {
+        r0kh_id: Octets(id),
+        name,
+        sta: Node::Sta(station),
+        answer,
+    }
+}
+
+// With suites 2 and 6 the key holder holds none: the name is 16 zero octets.
+fn revoke_none(station: u16, id: Vec<u8>) -> Act
+    ensures { result ≡ Revoked id.items (replicate 16 0) (Sta station) Absent }
+{
+    Act::Revoked {
         r0kh_id: Octets(id),
         name: [0; 16],
         sta: Node::Sta(station),
         answer: RevokeAnswer::Absent,
-    });
+    }
+}
+
+/// Revokes the key of a station at the key holder of that access point, with suite 4 by the name of its
+/// PMK-R0.
+pub fn revoke<H: Holders>(
+    here: Here<'_>,
+    ap: u16,
+    station: u16,
+    holders: &mut H,
+    out: &mut Outbox,
+) -> Result<Outcome, NoMemory>
+    requires form { InForm here.domain.now }
+    requires ap { IsListed here.domain.now (Ap ap) }
+    requires station { IsListed here.domain.now (Sta station) }
+    requires has { is_in ap (H.has holders.old) ≡ true }
+    ensures outcome { IfOk result (λ came. came ≡ Done) }
+    ensures acts { OnOk result (RevokesWhere here.entry.domain.now.akm here.entry.domain.now ap
+        station (H.rows holders.old ap) (H.rows holders.new ap) out.old.acts out.new.acts) }
+    ensures same { OnErr result (H.rows holders.new ap ≡ H.rows holders.old ap) }
+    ensures kept { OnErr result (out.new.acts ≡ out.old.acts) }
+    ensures others { LeavesOthers ap (H.ids holders.old) (H.ids holders.new) (H.has holders.old)
+        (H.has holders.new) (H.rows holders.old) (H.rows holders.new) }
+    ensures no_less { H.no_less holders.old holders.new }
+{
+    let id = Vec::from_slice(here.alloc, r0kh_id(here.domain, ap))?;
+    out.reserve(1)?;
+    match here.domain.akm {
+        Akm::FtPsk => out.add(revoke_row(here, ap, station, id, holders)),
+        Akm::Psk | Akm::PskSha256 => out.add(revoke_none(station, id)),
+    }
     Ok(Outcome::Done)
 }

@@ -1,37 +1,62 @@
 //! What an access point has with stations: a part by the number of each, as far as they came.
 
-ghost use Rattle.std.specs.Prelude.{◌≡◌, ◌≢◌, ◌<◌, ◌≤◌, ◌^◌, ◌++◌, [], ◌∷◌, ℕ, List, Some, None};
-ghost use Rattle.std.specs.Prelude.{IfOk, OnOk, OnErr, vec_len, length, is_some, max};
-ghost use Rattle.domain_base.specs.declared.names.Akm.TheVariants.{FtPsk};
-ghost use Rattle.domain_base.specs.declared.names.Node.TheVariants.{Sta};
+ghost use Rattle.std.specs.Prelude.{◌≡◌, ◌≢◌, ◌<◌, ◌≤◌, ◌+◌, ◌^◌, ◌++◌, ℕ, List, Some, None};
+ghost use Rattle.std.specs.Prelude.{false, IfOk, OnOk, OnErr, vec_len, length, is_some, max};
+ghost use Rattle.std.specs.Vec.{vec_capacity};
+ghost use Rattle.domain_base.specs.declared.names.Node.{Node as AnyNode};
 ghost use Rattle.eapol_key.specs.Fields.{IsKeyFrame};
 ghost use Rattle.run_journal.specs.declared.acts.Act.{Act as AnyAct};
-ghost use Rattle.run_journal.specs.declared.acts.Act.TheVariants.{Took};
-ghost use Rattle.run_journal.specs.declared.acts.Kind.TheVariants as kind;
 ghost use Rattle.run_journal.specs.declared.acts.Outcome.TheVariants.{Refused};
 ghost use Rattle.run_journal.specs.declared.acts.Reason.TheVariants as reason;
 ghost use Rattle.run_journal.specs.declared.acts.Reason.{Reason as AnyReason};
-ghost use Rattle.domain_rules.specs.Network.{IsListed};
-ghost use Rattle.domain_rules.specs.Replies.{taken_as};
+ghost use Rattle.run_journal.specs.declared.domain.Domain.{Domain as AnyDomain};
+ghost use Rattle.run_journal.specs.declared.reply.Reply.{Reply as AnyReply};
+ghost use Rattle.run_journal.specs.Replies.{IsEmpty};
+ghost use Rattle.domain_rules.specs.Reading.{KeyMessage as KeyFields};
+ghost use Rattle.domain_rules.specs.Replies.{taken_as, replied_acts};
 ghost use Rattle.domain_rules.specs.Rows.{outcome_of};
-ghost use Rattle.frame_intake.specs.Views.{message_fields};
+ghost use Rattle.act_memory.specs.Rooms.{IsRoom, between_of};
 ghost use Rattle.node_base.specs.Pairs.{pair_at};
-ghost use Rattle.node_base.specs.Peers.{IsPeerOf};
 ghost use Rattle.authenticator.specs.Judged.{frame_of};
 ghost use Rattle.authenticator.specs.Taken.{given};
 ghost use Rattle.ap_node.specs.State.{station_at, attempt_in, begun_beside};
-ghost use Rattle.ap_node.specs.Parts.{IsHanded, IsHandedAt, IsResent, IsResentAt};
+ghost use Rattle.ap_node.specs.Parts.{IsHanded, IsHandedAt, is_final_at, IsResent, IsResentAt};
 
 use crate::newest::NewestGroup;
+use crate::ready::Ready;
 use crate::retrying::{add_again, idle};
 use crate::station::{Station, drop_key, put_key};
-use act_memory::{Between, Outbox, Room, SendRoom, took};
+use act_memory::{Outbox, SendRoom};
 use authenticator::Authenticator;
-use domain_base::{NoMemory, Node};
-use frame_intake::Heard;
-use node_base::Here;
-use run_journal::{Kind, Outcome, Reason, Reply, Why};
+use domain_base::NoMemory;
+use frame_intake::KeyMessage;
+use run_journal::{Outcome, Reason, Reply, Why};
 use std::alloc::Global;
+
+/// Takes the memory of a place for the station of that number.
+pub fn reserve_place(stations: &mut Vec<Option<Station>>, station: u16) -> Result<(), NoMemory>
+    ensures room { OnOk result (station < vec_capacity stations.new) }
+    ensures same { stations.new.items ≡ stations.old.items }
+{
+    let places = usize::from(station) + 1;
+    if places > stations.len() {
+        stations.reserve(places - stations.len())?;
+    }
+    Ok(())
+}
+
+/// Makes a place for the station of that number, where there is memory for it. Takes none.
+pub fn fill_places(stations: &mut Vec<Option<Station>>, station: u16)
+    requires room { station < vec_capacity stations.old }
+    ensures place { station < vec_len stations.new }
+    ensures few { length stations.new.items ≤ max (length stations.old.items) 65536 }
+    ensures same { (k : ℕ) → station_at stations.new.items k ≡ station_at stations.old.items k }
+{
+    let places = usize::from(station) + 1;
+    while stations.len() < places {
+        stations.push_reserved(None);
+    }
+}
 
 /// Makes a place for the station of that number.
 pub fn make_place(stations: &mut Vec<Option<Station>>, station: u16) -> Result<(), NoMemory>
@@ -40,14 +65,8 @@ pub fn make_place(stations: &mut Vec<Option<Station>>, station: u16) -> Result<(
     ensures same { (k : ℕ) → station_at stations.new.items k ≡ station_at stations.old.items k }
     ensures err { OnErr result (stations.new.items ≡ stations.old.items) }
 {
-    let places = usize::from(station) + 1;
-    if places <= stations.len() {
-        return Ok(());
-    }
-    stations.reserve(places - stations.len())?;
-    while stations.len() < places {
-        stations.push_reserved(None);
-    }
+    reserve_place(stations, station)?;
+    fill_places(stations, station);
     Ok(())
 }
 
@@ -87,108 +106,104 @@ pub fn begin(stations: &mut Vec<Option<Station>>, station: u16, part: Authentica
     replace(&mut stations[usize::from(station)], part)
 }
 
+/// Whether an EAPOL-Key message of a station is the last of the attempt with it.
+pub fn is_final(stations: &Vec<Option<Station>>, station: u16, message: &KeyMessage<'_>) -> bool
+    requires { IsKeyFrame message.now.frame }
+    ensures { result ≡ is_final_at (station_at stations.now.items station) message.now.message
+        (frame_of message.now.frame) }
+{
+    match stations.get(usize::from(station)) {
+        Some(Some(place)) => place.part.is_final(message.message, &message.frame),
+        _ => false,
+    }
+}
+
 // The part with a station takes an EAPOL-Key message of it, by the newest group key. A pairwise key
 // that it installs is in use from then on.
 fn hand(
-    here: Here<'_>,
-    station: u16,
-    heard: &Heard<'_>,
     place: &mut Station,
+    message: &KeyMessage<'_>,
     newest: &NewestGroup,
+    ready: Ready,
     out: &mut Outbox,
-) -> Result<Outcome, NoMemory>
-    requires suite { here.domain.now.akm ≢ FtPsk }
-    requires listed { IsListed here.domain.now here.node }
-    requires peer { IsPeerOf here.domain.now here.node (Sta station) }
-    requires frame { IsKeyFrame heard.now.message.frame }
+) -> Outcome
+    requires frame { IsKeyFrame message.now.frame }
     requires id { newest.now.key.id < 4 }
     requires uses { newest.now.uses < 2 ^ 48 }
-    ensures handed { IfOk result (λ outcome. (acts : List AnyAct)
+    requires room { 8 + length ready.between.opened.items + length ready.between.put.items
+        ≤ out.old.spare }
+    ensures handed { (d : AnyDomain) (id : List ℕ) (n p : AnyNode) (octets : List ℕ)
+        (k : KeyFields) → IsRoom d id n p octets k ready.room → (acts : List AnyAct)
         × (out.new.acts ≡ out.old.acts ++ acts)
-        × IsHanded (pair_at here.entry.domain.now [] here.entry.node (Sta station))
-        (given heard.now.message.message (frame_of heard.now.message.frame)
-        newest.now.key newest.now.uses)
-        (taken_as heard.now.octets.now (message_fields heard.now.message) outcome)
-        place.old place.new acts) }
-    ensures same { OnErr result (place.new ≡ place.old) }
-    ensures kept { OnErr result (out.new.acts ≡ out.old.acts) }
-    ensures room { OnOk result (1 ≤ out.new.spare) }
+        × IsHanded (pair_at d id n p) (given message.now.message (frame_of message.now.frame)
+        newest.now.key newest.now.uses) (taken_as octets k result) (between_of ready.between)
+        place.old place.new acts }
+    ensures refused { (why : AnyReason) → result ≡ Refused why → place.new ≡ place.old }
+    ensures room { 1 ≤ out.new.spare }
 {
-    let message = &heard.message;
-    let room = Room::take(here, Node::Sta(station), &[], heard)?;
-    out.reserve(8)?;
+    let Ready { room, between } = ready;
     let part = &mut place.part;
     let had_session = part.has_session();
     let (group, uses) = (newest.key, newest.uses);
     let mut reply = Reply::empty();
     let outcome = part.step(message.message, &message.frame, &group, uses, &mut reply);
     put_key(&mut place.key, reply.installed);
-    let between = Between::nothing(here.alloc);
     room.add_reply(outcome, had_session, &reply, between, out);
-    Ok(outcome)
+    outcome
 }
 
 // An EAPOL-Key message of a station that the access point has no part with.
-fn unawaited(
-    here: Here<'_>,
-    station: u16,
-    heard: &Heard<'_>,
-    out: &mut Outbox,
-) -> Result<Outcome, NoMemory>
-    ensures outcome { IfOk result (λ came. came ≡ Refused reason.Unawaited) }
-    ensures acts { OnOk result (out.new.acts ≡ out.old.acts
-        ++ Took (Some (Sta station)) heard.now.octets.now
-        (kind.Key heard.now.message.message) (Refused reason.Unawaited) None ∷ []) }
-    ensures kept { OnErr result (out.new.acts ≡ out.old.acts) }
-    ensures room { OnOk result (1 ≤ out.new.spare) }
+fn unawaited(ready: Ready, out: &mut Outbox) -> Outcome
+    requires room { 8 + length ready.between.opened.items + length ready.between.put.items
+        ≤ out.old.spare }
+    ensures outcome { result ≡ Refused reason.Unawaited }
+    ensures acts { (d : AnyDomain) (id : List ℕ) (n p : AnyNode) (octets : List ℕ)
+        (k : KeyFields) → IsRoom d id n p octets k ready.room → (r : AnyReply) × IsEmpty r
+        × (out.new.acts ≡ out.old.acts ++ replied_acts (pair_at d id n p) false
+        (taken_as octets k result) r (between_of ready.between)) }
+    ensures room { 1 ≤ out.new.spare }
 {
-    let from = Some(Node::Sta(station));
-    let kind = Kind::Key(heard.message.message);
+    let Ready { room, between } = ready;
     let outcome = Outcome::Refused(Reason::Unawaited);
-    let taken = took(here.alloc, from, heard.octets, kind, outcome, None)?;
-    out.reserve(2)?;
-    out.add(taken);
-    Ok(outcome)
+    let reply = Reply::empty();
+    room.add_reply(outcome, false, &reply, between, out);
+    outcome
 }
 
 /// The part with a station takes an EAPOL-Key message of it, by the newest group key. There is room
-/// for one more act then. Without a part the message is unawaited.
+/// for one more act then. Without a part the message is unawaited. Takes no memory.
 pub fn take_message(
     stations: &mut Vec<Option<Station>>,
-    here: Here<'_>,
     station: u16,
-    heard: &Heard<'_>,
+    message: &KeyMessage<'_>,
     newest: &NewestGroup,
+    ready: Ready,
     out: &mut Outbox,
-) -> Result<Outcome, NoMemory>
-    requires suite { here.domain.now.akm ≢ FtPsk }
-    requires listed { IsListed here.domain.now here.node }
-    requires peer { IsPeerOf here.domain.now here.node (Sta station) }
-    requires frame { IsKeyFrame heard.now.message.frame }
+) -> Outcome
+    requires frame { IsKeyFrame message.now.frame }
     requires id { newest.now.key.id < 4 }
     requires uses { newest.now.uses < 2 ^ 48 }
-    ensures handed { IfOk result (λ outcome. (acts : List AnyAct)
+    requires room { 8 + length ready.between.opened.items + length ready.between.put.items
+        ≤ out.old.spare }
+    ensures handed { (d : AnyDomain) (id : List ℕ) (n p : AnyNode) (octets : List ℕ)
+        (k : KeyFields) → IsRoom d id n p octets k ready.room → (acts : List AnyAct)
         × (out.new.acts ≡ out.old.acts ++ acts)
-        × IsHandedAt (pair_at here.entry.domain.now [] here.entry.node (Sta station))
-        (given heard.now.message.message (frame_of heard.now.message.frame)
-        newest.now.key newest.now.uses)
-        (taken_as heard.now.octets.now (message_fields heard.now.message) outcome)
-        (station_at stations.old.items station) (station_at stations.new.items station) acts) }
+        × IsHandedAt (pair_at d id n p) (given message.now.message (frame_of message.now.frame)
+        newest.now.key newest.now.uses) (taken_as octets k result) (between_of ready.between)
+        (station_at stations.old.items station) (station_at stations.new.items station) acts }
     ensures length { length stations.new.items ≡ length stations.old.items }
     ensures others { (k : ℕ) → k ≢ station
         → station_at stations.new.items k ≡ station_at stations.old.items k }
-    ensures refused { IfOk result (λ outcome. (why : AnyReason) → outcome ≡ Refused why
-        → stations.new.items ≡ stations.old.items) }
-    ensures same { OnErr result (stations.new.items ≡ stations.old.items) }
-    ensures kept { OnErr result (out.new.acts ≡ out.old.acts) }
-    ensures room { OnOk result (1 ≤ out.new.spare) }
+    ensures refused { (why : AnyReason) → result ≡ Refused why
+        → stations.new.items ≡ stations.old.items }
+    ensures room { 1 ≤ out.new.spare }
 {
     let Some(place) = stations.get_mut(usize::from(station)) else {
-        return unawaited(here, station, heard, out);
+        return unawaited(ready, out);
     };
     match place {
-        Some(place) => hand(here, station, heard, place, newest, out),
-        None => unawaited(here, station, heard, out),
+        Some(place) => hand(place, message, newest, ready, out),
+        None => unawaited(ready, out),
     }
 }
 

@@ -23,7 +23,7 @@ use Rattle.domain_rules.specs.Asking.{offered, replay_counter}
 use Rattle.domain_rules.specs.Counters.{sent_count, next_in_session}
 use Rattle.domain_rules.specs.GroupKeys.{newest_uses}
 use Rattle.domain_rules.specs.Owing.{owing}
-use Rattle.domain_rules.specs.AccessPointRows.{g1_to, again_or_close, retry_acts}
+use Rattle.domain_rules.specs.AccessPointRows.{g1_to, again_or_close, retry_session, retry_acts}
 use Rattle.domain_rules.proofs.Parts.{same-refl, attempt_more, attempt_none, attempt_some, by_connect_more, own_nonce_more, heard_more, sent_more, derivation_more, apart-idle}
 use Rattle.group_key.specs.declared.keys.GroupKey.{GroupKey}
 use Rattle.group_key.specs.Holds.{IsLast, carried}
@@ -31,7 +31,7 @@ use Rattle.group_key.proofs.Drawing.{last_newest}
 use Rattle.authenticator.specs.Counters.{counters}
 use Rattle.authenticator.specs.Groups.{sent_for, owes, Asks}
 use Rattle.authenticator.specs.State.{State}
-use Rattle.authenticator.specs.Stands.{IsUnderWay, HasAttempt, CountsAt, IsHeld, AuthenticatorStands}
+use Rattle.authenticator.specs.Stands.{IsUnderWay, IsNoConnect, HasAttempt, CountsAt, IsHeld, AuthenticatorStands}
 use Rattle.authenticator.specs.Taken.{Newest, RetriesFrom, GivesFrom}
 use Rattle.authenticator.specs.declared.authenticator.Again.{Again}
 use Rattle.authenticator.specs.declared.authenticator.Again.TheVariants as again
@@ -40,7 +40,7 @@ use Rattle.authenticator.specs.declared.session.Session.{Session}
 use Rattle.authenticator.proofs.Addresses.{own_address, peer_address}
 use Rattle.authenticator.proofs.Counting.{count_is}
 use Rattle.authenticator.proofs.Handshaking.{counts_newest, counts_asked, owing_none, owing_some, owing_no_session}
-use Rattle.authenticator.proofs.Standing.{or_none, agreed_on, stands_more, no_attempt, no_session, held}
+use Rattle.authenticator.proofs.Standing.{or_none, agreed_on, stands_more, no_connect, no_attempt, no_session, held}
 
 -- ---- acts that leave an attempt, though they are about the peer
 
@@ -71,8 +71,13 @@ under_way_quiet d n p a e h quiet at = record {
   rsne = at.rsne;
 }
 
+pub no_connect_more : (p : Node) (e : Act) (h : List Act) (o : Option (List Act)) → opens p e ≡ false → ends p e ≡ false → attempt p h ≡ o → IsNoConnect o → IsNoConnect (attempt p (e ∷ h))
+no_connect_more p e h None opens_none ends_none is at = no_connect p (e ∷ h) (attempt_none p e h opens_none is)
+no_connect_more p e h (Some part) opens_none ends_none is at =
+    subst (λ (o : Option (List Act)). IsNoConnect o) (sym (attempt_more p e h part opens_none ends_none is)) (by_connect_more e part (attempt_some p h part is) ∙ at)
+
 pub attempt_quiet : (d : Domain) (n p : Node) (o : Option Attempt) (e : Act) (h : List Act) → IsQuiet p e → HasAttempt d n p o h → HasAttempt d n p o (e ∷ h)
-attempt_quiet d n p None e h quiet at = attempt_none p e h quiet.opens_none at
+attempt_quiet d n p None e h quiet at = no_connect_more p e h (attempt p h) quiet.opens_none quiet.ends_none refl at
 attempt_quiet d n p (Some a) e h quiet at = under_way_quiet d n p a e h quiet at
 
 quiet_g1 : (p : Node) (octets : List ℕ) (v : Option Seal) → IsQuiet p (Sent (One p) (kind.Key G1) octets v)
@@ -118,11 +123,15 @@ close_few p sends n act is few = rw (is, lt-ltb n 4 few) refl
 close_many : (p : Node) (sends n : ℕ) (act : Act) → sends ≡ n → 4 ≤ n → again_or_close p sends act ≡ GaveUp p G1 ∷ Closed p OfSession ∷ []
 close_many p sends n act is many = rw (is, le-ltb n 4 many) refl
 
-retry_owed : (d : Domain) (n p : Node) (x : Derivation) (h : List Act) → attempt p h ≡ None → owing groups.Gtk p h ≡ Some x → retry_acts d n h p (attempt p h) ≡ again_or_close p (sent_count p G1 (handshake groups.Gtk p h)) (g1_to d n p h x)
-retry_owed d n p x h none is = rw (none, is) refl
+pub no_retry : (d : Domain) (n p : Node) (h : List Act) (o : Option (List Act)) → IsNoConnect o → retry_acts d n h p o ≡ retry_session d n h p (owing groups.Gtk p h)
+no_retry d n p h None at = refl
+no_retry d n p h (Some part) at = rw at refl
 
-retry_idle : (d : Domain) (n p : Node) (h : List Act) → attempt p h ≡ None → owing groups.Gtk p h ≡ None → retry_acts d n h p (attempt p h) ≡ Idle why.Nothing ∷ []
-retry_idle d n p h none is = rw (none, is) refl
+retry_owed : (d : Domain) (n p : Node) (x : Derivation) (h : List Act) → IsNoConnect (attempt p h) → owing groups.Gtk p h ≡ Some x → retry_acts d n h p (attempt p h) ≡ again_or_close p (sent_count p G1 (handshake groups.Gtk p h)) (g1_to d n p h x)
+retry_owed d n p x h none is = no_retry d n p h (attempt p h) none ∙ ap (retry_session d n h p) is
+
+retry_idle : (d : Domain) (n p : Node) (h : List Act) → IsNoConnect (attempt p h) → owing groups.Gtk p h ≡ None → retry_acts d n h p (attempt p h) ≡ Idle why.Nothing ∷ []
+retry_idle d n p h none is = no_retry d n p h (attempt p h) none ∙ ap (retry_session d n h p) is
 
 pub retries_asked : (s : State) (t u : Session) (g : GroupKey) (rsc : ℕ) (r : Reply) → s.attempt ≡ None → s.session ≡ Some t → owes g.place t ≡ true → leb 4 (sent_for g.place t) ≡ false → AsksIf s g rsc t u r
     → RetriesFrom s (record s { session = Some u }) g rsc again.Sent r
@@ -156,7 +165,8 @@ retries_session_given_up s t g rsc r none some owed many = λ d a sta h stands w
     let x = at.x in
     let counts = counts_newest p t g h w.newest at.counts in
     let unbegun = no_attempt d n p s.attempt h none stands.attempt_is in
-    let gone : attempt p (Closed p OfSession ∷ GaveUp p G1 ∷ h) ≡ None = attempt_none p (Closed p OfSession) (GaveUp p G1 ∷ h) refl (attempt_none p (GaveUp p G1) h refl unbegun) in
+    let given_up : IsNoConnect (attempt p (GaveUp p G1 ∷ h)) = no_connect_more p (GaveUp p G1) h (attempt p h) refl refl refl unbegun in
+    let gone : IsNoConnect (attempt p (Closed p OfSession ∷ GaveUp p G1 ∷ h)) = no_connect_more p (Closed p OfSession) (GaveUp p G1 ∷ h) (attempt p (GaveUp p G1 ∷ h)) refl refl refl given_up in
     record {
       adds = retry_owed d n p x h unbegun (owing_some p t g.place x h counts owed at.is)
           ∙ close_many p (sent_count p G1 (handshake groups.Gtk p h)) (sent_for g.place t) (g1_to d n p h x) (count_is p G1 (handshake groups.Gtk p h) counts.before (sent_for g.place t) counts.offers) (leb-true 4 (sent_for g.place t) many);

@@ -24,7 +24,7 @@ use Rattle.authenticator.specs.declared.session.Session.{Session}
 use Rattle.authenticator.proofs.Addresses.{own_address, peer_address}
 use Rattle.authenticator.proofs.Counting.{replay_plain}
 use Rattle.authenticator.proofs.Handshaking.{counts_on, counts_transferred}
-use Rattle.authenticator.proofs.Standing.{session_on}
+use Rattle.authenticator.proofs.Standing.{session_on, no_connect}
 use Rattle.authenticator.proofs.Agreeing.{cons_is}
 
 is_begun : (d : Domain) (n p : Node) (anonce rsne : List ℕ) (h : List Act) → IsAddress (address d n) → IsAddress (address d p) → IsBegun d p anonce rsne h → IsUnderWay d n p (begun anonce rsne) (sent_m1 d n p 1 anonce ∷ h)
@@ -63,7 +63,7 @@ pub transfers : (d : Domain) (n p : Node) (l : Ends) (b : Base) (q : Ptk) (s : S
 transfers d n p l b q s ends base is h at = record {
   ends = ends;
   base = base;
-  attempt_is = at.none;
+  attempt_is = no_connect p h at.none;
   session_is = subst (λ (x : Session). IsHeld d n p x h) (sym is)
       (record { x = at.x; is = at.is; key = at.key; counts = record { place = at.newest.place; here = counts_transferred p q at.newest h at.last at.next at.quiet } });
 }

@@ -16,7 +16,6 @@ use Rattle.run_journal.specs.declared.acts.Key.TheVariants.{Pairwise}
 use Rattle.run_journal.specs.declared.acts.Part.TheVariants.{Session as OfSession}
 use Rattle.run_journal.specs.declared.acts.Reason.{Reason}
 use Rattle.run_journal.specs.declared.acts.Reason.TheVariants as reason
-use Rattle.run_journal.specs.declared.acts.Outcome.{Outcome}
 use Rattle.run_journal.specs.declared.acts.Outcome.TheVariants.{Accepted, Refused}
 use Rattle.run_journal.specs.declared.acts.Act.{Act}
 use Rattle.run_journal.specs.declared.acts.Act.TheVariants.{Took, Closed, Installed, Finished}
@@ -59,7 +58,7 @@ use Rattle.authenticator.specs.declared.attempt.Attempt.{Attempt}
 use Rattle.authenticator.specs.declared.attempt.Finish.{Finish}
 use Rattle.authenticator.specs.declared.session.Session.{Session}
 use Rattle.authenticator.proofs.Counting.{last_is}
-use Rattle.authenticator.proofs.Standing.{or_none, other_on, stands_on, under_way, has_session}
+use Rattle.authenticator.proofs.Standing.{or_none, other_on, stands_on, no_connect, under_way, has_session}
 use Rattle.authenticator.proofs.Replying.{put_by, finish_took, nothing_sent}
 use Rattle.authenticator.proofs.Refusing.{refused_as}
 use Rattle.authenticator.proofs.Verified.{same_mic, unresponded_m4, further_none}
@@ -361,7 +360,7 @@ finished_m4 d first a sta octets k s t x u g rsc r h come stands at w told =
     let held_now = begun_session d n p octets k (session p h) y x.session g h at.part at.is at.begun derived_is held_by (next_is d n p t h at ∙ sym (ap suc w.last_is)) come.newest w.fresh in
     let past = after d n p octets k y (session p h) h in
     let begun_now : AuthenticatorStands d n p (record s { attempt = None; session = Some x.session }) (installed_after d n p octets k y (session p h) h) =
-    record { ends = stands.ends; base = stands.base; attempt_is = left d n sta octets k (session p h) y h; session_is = held_now } in
+    record { ends = stands.ends; base = stands.base; attempt_is = no_connect p (installed_after d n p octets k y (session p h) h) (left d n sta octets k (session p h) y h); session_is = held_now } in
     let stands_now : AuthenticatorStands d n p (record s { attempt = None; session = Some x.session }) past = stands_put d n p octets k (session p h) y (record s { attempt = None; session = Some x.session }) h begun_now in
     let has_now = session_put d n p octets k (session p h) y h ∙ session_after d n p octets k (session p h) y h derived_is in
     let end = ends_by d a sta octets k s x u g rsc r h x.is_older told.asks w.fresh come.newest come.uses (older_is d n p t w.y g at.part h key come.newest ∙ sym w.older) has_now held_by stands_now.session_is.counts stands_now in

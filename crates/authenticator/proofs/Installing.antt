@@ -1,8 +1,7 @@
 -- The key that a message installs is that of the session.
-use Rattle.std.proofs.Common.{◌≡◌, ℕ, Bool, true, false, Option, Some, None, refl, sym, ap, ◌∙◌}
+use Rattle.std.proofs.Common.{◌≡◌, ℕ, Bool, true, false, Some, refl, ap, ◌∙◌}
 use Rattle.node_base.specs.declared.ends.Ends.{Ends}
 use Rattle.group_key.specs.declared.keys.GroupKey.{GroupKey}
-use Rattle.run_journal.specs.declared.acts.Outcome.{Outcome}
 use Rattle.run_journal.specs.declared.acts.Outcome.TheVariants.{Accepted}
 use Rattle.run_journal.specs.declared.reply.Keyed.{Keyed}
 use Rattle.run_journal.specs.declared.reply.Reply.{Reply}

@@ -8,7 +8,6 @@ use Rattle.rsn_elements.specs.Elements.{ElementFields, SpellsElements}
 use Rattle.rsn_elements.specs.Faults.{HasElementFault}
 use Rattle.run_journal.specs.declared.acts.KeyDataFault.TheVariants.{Unreadable, Rsne}
 use Rattle.run_journal.specs.declared.acts.Reason.TheVariants as reason
-use Rattle.run_journal.specs.declared.acts.Outcome.{Outcome}
 use Rattle.run_journal.specs.declared.acts.Outcome.TheVariants.{Accepted, Refused}
 use Rattle.domain_rules.specs.Facts.{is_same}
 use Rattle.domain_rules.proofs.Peers.{not_same}

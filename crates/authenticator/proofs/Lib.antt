@@ -1,6 +1,7 @@
 pub mod KeyData
 pub mod Counting
 pub mod Deciding
+pub mod Final
 pub mod Addresses
 pub mod Handshaking
 pub mod Standing
@@ -17,3 +18,4 @@ pub mod Retrying
 pub mod Installing
 pub mod Beginning
 pub mod Growing
+pub mod ToldWords

@@ -1,17 +1,17 @@
 -- Messages that change nothing.
 use Rattle.std.proofs.Common.{◌+◌, ◌≡◌, ℕ, List, [], ◌∷◌, ◌++◌, Option, Some, None, refl, sym, ap, subst, ◌∙◌}
-use Rattle.std.specs.Prelude.{is_some}
+use Rattle.std.specs.Prelude.{is_some, not, ◌||◌, if◌then◌else◌}
 use Rattle.domain_base.specs.declared.names.Node.{Node}
 use Rattle.domain_base.specs.declared.names.Node.TheVariants.{Ap, Sta}
 use Rattle.eapol_key.specs.declared.messages.Message.{Message}
-use Rattle.eapol_key.specs.declared.messages.Message.TheVariants.{M2, M4, G2}
+use Rattle.eapol_key.specs.declared.messages.Message.TheVariants.{M1, M2, M4, G2}
 use Rattle.run_journal.specs.declared.domain.Domain.{Domain}
 use Rattle.run_journal.specs.declared.acts.Kind.{Kind}
 use Rattle.run_journal.specs.declared.acts.Kind.TheVariants as kind
 use Rattle.run_journal.specs.declared.acts.Reason.{Reason}
 use Rattle.run_journal.specs.declared.acts.Reason.TheVariants as reason
 use Rattle.run_journal.specs.declared.acts.Outcome.{Outcome}
-use Rattle.run_journal.specs.declared.acts.Outcome.TheVariants.{Refused}
+use Rattle.run_journal.specs.declared.acts.Outcome.TheVariants.{Accepted, Refused}
 use Rattle.run_journal.specs.declared.acts.Seal.{Seal}
 use Rattle.run_journal.specs.declared.acts.Act.{Act}
 use Rattle.run_journal.specs.declared.acts.Act.TheVariants.{Took}
@@ -24,7 +24,10 @@ use Rattle.group_key.specs.declared.keys.GroupKey.{GroupKey}
 use Rattle.domain_rules.specs.Here.{here}
 use Rattle.domain_rules.specs.Reading.{KeyMessage, Keyed as KeyedReading}
 use Rattle.domain_rules.specs.Replies.{IsMessageFrom}
-use Rattle.domain_rules.specs.AccessPointKeys.{m4_verdict}
+use Rattle.key_hierarchy.specs.Keys.{ptk}
+use Rattle.domain_rules.specs.Network.{r0kh_id, root_at, inputs}
+use Rattle.domain_rules.specs.Asking.{by_connect, offered, has_heard, own, in_attempt, among, verified}
+use Rattle.domain_rules.specs.AccessPointKeys.{m4_keying, m4_verdict_by}
 use Rattle.domain_rules.specs.Verdict.{key_verdict}
 use Rattle.domain_rules.specs.Rows.{By_refusal, refused_seal, response}
 use Rattle.domain_rules.specs.TransitionRows.{refused_look}
@@ -32,9 +35,8 @@ use Rattle.key_hierarchy.specs.declared.fast_transition.PmkR1.{PmkR1}
 use Rattle.domain_rules.specs.Closing.{sender}
 use Rattle.domain_rules.proofs.Parts.{apart-refused}
 use Rattle.domain_rules.proofs.Refused.{IsRefused, refused_first}
-use Rattle.domain_rules.proofs.Verdicts.{unawaited-m2}
 use Rattle.authenticator.specs.State.{State}
-use Rattle.authenticator.specs.Stands.{AuthenticatorStands}
+use Rattle.authenticator.specs.Stands.{IsNoConnect, AuthenticatorStands}
 use Rattle.authenticator.specs.Steps.{Steps}
 use Rattle.authenticator.specs.Taken.{Given, given, frame_in, told_acts, StepsFrom}
 use Rattle.authenticator.specs.Judged.{Frame}
@@ -94,20 +96,29 @@ refused_as s x m why r named e refused = λ d first a sta octets k h stands w.
     steps_quiet d first a (Sta sta) octets k s why r h w.from stands e
     (ap (λ (y : Message). key_verdict d (first + draws h) (Ap a) h (Sta sta) k y) (w.message ∙ named) ∙ refused d (first + draws h) a sta k h stands w.frame w.newest)
 
--- ---- without an attempt nothing is awaited
+-- ---- without an attempt by association nothing is awaited
+
+pub unawaited_m2 : (d : Domain) (n : Node) (h : List Act) (p : Node) (k : KeyMessage) (o : Option (List Act)) → IsNoConnect o
+    → in_attempt o (λ part. (
+    if not (by_connect part) || has_heard p (kind.Key M2) part then Refused reason.Unawaited
+    else among (offered p M1 part) k.fields.counter
+    (verified d.akm (ptk (inputs d (root_at d (r0kh_id d n)) n p (own part) k.fields.nonce)).kck k Accepted))) ≡ Refused reason.Unawaited
+unawaited_m2 d n h p k None at = refl
+unawaited_m2 d n h p k (Some part) at = rw at refl
 
 pub no_m2 : (s : State) (f : Frame) (newest : GroupKey) (rsc : ℕ) (r : Reply) → s.attempt ≡ None → IsEmpty r → StepsFrom s s (given M2 f newest rsc) (Refused reason.Unawaited) r
 no_m2 s f newest rsc r none e =
     refused_as s (given M2 f newest rsc) M2 reason.Unawaited r refl e
-    (λ d drawn a sta k h stands same newest. unawaited-m2 d (Ap a) h (Sta sta) k (no_attempt d (Ap a) (Sta sta) s.attempt h none stands.attempt_is))
+    (λ d drawn a sta k h stands same newest. unawaited_m2 d (Ap a) h (Sta sta) k (attempt (Sta sta) h) (no_attempt d (Ap a) (Sta sta) s.attempt h none stands.attempt_is))
 
-unawaited-m4 : (d : Domain) (h : List Act) (p : Node) (k : KeyMessage) → attempt p h ≡ None → m4_verdict d h p k ≡ Refused reason.Unawaited
-unawaited-m4 d h p k none = rw none refl
+pub unawaited_m4 : (d : Domain) (p : Node) (k : KeyMessage) (o : Option (List Act)) → IsNoConnect o → in_attempt o (λ part. m4_verdict_by d p k part (m4_keying p part)) ≡ Refused reason.Unawaited
+unawaited_m4 d p k None at = refl
+unawaited_m4 d p k (Some part) at = rw at refl
 
 pub no_m4 : (s : State) (f : Frame) (newest : GroupKey) (rsc : ℕ) (r : Reply) → s.attempt ≡ None → IsEmpty r → StepsFrom s s (given M4 f newest rsc) (Refused reason.Unawaited) r
 no_m4 s f newest rsc r none e =
     refused_as s (given M4 f newest rsc) M4 reason.Unawaited r refl e
-    (λ d drawn a sta k h stands same newest. unawaited-m4 d h (Sta sta) k (no_attempt d (Ap a) (Sta sta) s.attempt h none stands.attempt_is))
+    (λ d drawn a sta k h stands same newest. unawaited_m4 d (Sta sta) k (attempt (Sta sta) h) (no_attempt d (Ap a) (Sta sta) s.attempt h none stands.attempt_is))
 
 -- ---- other messages are unawaited
 

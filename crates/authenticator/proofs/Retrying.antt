@@ -44,7 +44,7 @@ use Rattle.authenticator.specs.declared.session.Session.{Session}
 use Rattle.authenticator.proofs.Addresses.{own_address, peer_address}
 use Rattle.authenticator.proofs.Counting.{count_is, replay_plain}
 use Rattle.authenticator.proofs.Handshaking.{counts_on}
-use Rattle.authenticator.proofs.Standing.{agreed_on, session_on}
+use Rattle.authenticator.proofs.Standing.{agreed_on, session_on, no_connect}
 use Rattle.authenticator.proofs.Agreeing.{m3_counter, none_sent, some_sent, cons_is, next_of}
 use Rattle.authenticator.proofs.Verified.{IsOn, on_by}
 
@@ -228,7 +228,7 @@ retries_given_up s t m g rsc r is by = λ d a sta h stands w.
       stands = record {
         ends = on.ends;
         base = on.base;
-        attempt_is = given_none sta m h;
+        attempt_is = no_connect p (Closed p OfAttempt ∷ GaveUp p m ∷ h) (given_none sta m h);
         session_is = session_on d (Ap a) p s.session h (Closed p OfAttempt ∷ GaveUp p m ∷ h) refl (counts_given p m h) stands.session_is;
       };
     }))

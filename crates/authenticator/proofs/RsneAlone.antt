@@ -1,5 +1,5 @@
 -- The RSNE of an association request, read alone, says what it says in the request.
-use Rattle.std.proofs.Common.{◌≡◌, ℕ, List, [], ◌∷◌, ◌++◌, length, Option, Some, None, refl, sym, ap, ◌∙◌}
+use Rattle.std.proofs.Common.{◌≡◌, ℕ, List, [], ◌∷◌, ◌++◌, length, Option, Some, None, refl, sym, ◌∙◌}
 use Rattle.std.proofs.lemmas.List.{append-nil}
 use Rattle.domain_base.specs.declared.names.Akm.{Akm}
 use Rattle.rsn_elements.specs.declared.framing.Within.TheVariants.{Body}

@@ -1,5 +1,5 @@
 -- How an authenticator goes on to stand for a history with more acts that are not about its peer.
-use Rattle.std.proofs.Common.{◌≡◌, ℕ, List, [], ◌∷◌, Option, Some, None, map, refl, ap, subst, ◌∙◌}
+use Rattle.std.proofs.Common.{◌≡◌, ℕ, true≢false, false, List, [], ◌∷◌, Option, Some, None, map, refl, sym, ap, subst, ◌∙◌}
 use Rattle.std.specs.Prelude.{is_some}
 use Rattle.std.specs.List.{AllByRecursion}
 use Rattle.domain_base.specs.declared.names.Node.{Node}
@@ -14,7 +14,7 @@ use Rattle.authenticator.specs.Bases.{own_pair}
 use Rattle.domain_rules.proofs.Parts.{IsApart, GoesOn, goes_on}
 use Rattle.authenticator.specs.Agreed.{Agreed}
 use Rattle.authenticator.specs.State.{State}
-use Rattle.authenticator.specs.Stands.{IsAgreed, IsUnderWay, Counts, IsHeld, HasAttempt, HasSession, AuthenticatorStands}
+use Rattle.authenticator.specs.Stands.{IsAgreed, IsUnderWay, Counts, IsHeld, IsNoConnect, IsByConnect, HasAttempt, HasSession, AuthenticatorStands}
 use Rattle.authenticator.specs.declared.attempt.Attempt.{Attempt}
 use Rattle.authenticator.specs.declared.session.Session.{Session}
 use Rattle.authenticator.proofs.Handshaking.{counts_apart}
@@ -76,8 +76,20 @@ under_way_on d n p a old new other at =
       rsne = at.rsne;
     }
 
+pub no_connect : (p : Node) (h : List Act) → attempt p h ≡ None → IsNoConnect (attempt p h)
+no_connect p h none = subst (λ (o : Option (List Act)). IsNoConnect o) (sym none) tt
+
+no_connect_by : (p : Node) (old new : List Act) (o : Option (List Act)) → GoesOn p old new → attempt p old ≡ o → IsNoConnect o → IsNoConnect (attempt p new)
+no_connect_by p old new None goes is at = no_connect p new (goes.none is)
+no_connect_by p old new (Some part) goes is at =
+    let c = goes.carries part is in
+    subst (λ (o : Option (List Act)). IsNoConnect o) (sym c.is) (c.begun ∙ at)
+
+pub no_connect_on : (p : Node) (old new : List Act) → GoesOn p old new → IsNoConnect (attempt p old) → IsNoConnect (attempt p new)
+no_connect_on p old new goes at = no_connect_by p old new (attempt p old) goes refl at
+
 attempt_on : (d : Domain) (n p : Node) (o : Option Attempt) (old new : List Act) → IsOther p old new → HasAttempt d n p o old → HasAttempt d n p o new
-attempt_on d n p None old new other at = other.goes.none at
+attempt_on d n p None old new other at = no_connect_on p old new other.goes at
 attempt_on d n p (Some a) old new other at = under_way_on d n p a old new other at
 
 -- a session stays where its key and its counters do
@@ -99,15 +111,20 @@ stands_more d n p s e h apart = stands_on d n p s h (e ∷ h) (other_on p (e ∷
 
 -- ---- what there is, by whether there is
 
-pub no_attempt : (d : Domain) (n p : Node) (o : Option Attempt) (h : List Act) → o ≡ None → HasAttempt d n p o h → attempt p h ≡ None
+pub no_attempt : (d : Domain) (n p : Node) (o : Option Attempt) (h : List Act) → o ≡ None → HasAttempt d n p o h → IsNoConnect (attempt p h)
 no_attempt d n p o h none at = subst (λ (x : Option Attempt). HasAttempt d n p x h) none at
 
 pub under_way : (d : Domain) (n p : Node) (o : Option Attempt) (a : Attempt) (h : List Act) → o ≡ Some a → HasAttempt d n p o h → IsUnderWay d n p a h
 under_way d n p o a h is at = subst (λ (x : Option Attempt). HasAttempt d n p x h) is at
 
-pub has_attempt : (d : Domain) (n p : Node) (o : Option Attempt) (h : List Act) → HasAttempt d n p o h → is_some (attempt p h) ≡ is_some o
-has_attempt d n p None h at = rw at refl
-has_attempt d n p (Some a) h at = rw at.is refl
+-- where each attempt begins by association
+none_either : (o : Option (List Act)) → IsNoConnect o → IsByConnect o → is_some o ≡ false
+none_either None at other = refl
+none_either (Some part) at other = absurd (true≢false (sym other ∙ at))
+
+pub has_attempt : (d : Domain) (n p : Node) (o : Option Attempt) (h : List Act) → HasAttempt d n p o h → IsByConnect (attempt p h) → is_some (attempt p h) ≡ is_some o
+has_attempt d n p None h at other = none_either (attempt p h) at other
+has_attempt d n p (Some a) h at other = rw at.is refl
 
 pub no_session : (d : Domain) (n p : Node) (o : Option Session) (h : List Act) → o ≡ None → HasSession d n p o h → session p h ≡ None
 no_session d n p o h none at = subst (λ (x : Option Session). HasSession d n p x h) none at

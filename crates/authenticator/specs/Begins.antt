@@ -1,5 +1,5 @@
 -- For which histories an authenticator stands as it begins (this project's choice).
-use Rattle.std.specs.Prelude.{◌≡◌, ℕ, List, [], ◌∷◌, Option, Some, None}
+use Rattle.std.specs.Prelude.{◌≡◌, List, [], ◌∷◌, Option, Some, None}
 use Rattle.domain_base.specs.declared.names.Node.{Node}
 use Rattle.key_hierarchy.specs.declared.inputs.Ptk.{Ptk}
 use Rattle.run_journal.specs.declared.domain.Domain.{Domain}

@@ -1,6 +1,6 @@
 -- How the messages of an attempt are judged, and how it goes on (IEEE Std 802.11-2020, 12.7.6.3, 12.7.6.5 and 12.7.6.6; the order
 -- of the checks, and how often a message is sent, are this project's choice).
-use Rattle.std.specs.Prelude.{◌≡◌, ◌<◌, ◌≤◌, ◌+◌, ◌^◌, ◌==◌, ℕ, suc, true, false, List, Option, Some, None, is_some, nat_lt, ◌⊎◌}
+use Rattle.std.specs.Prelude.{◌≡◌, ◌<◌, ◌≤◌, ◌+◌, ◌^◌, ◌==◌, ◌&&◌, ℕ, suc, Bool, true, false, List, Option, Some, None, is_some, nat_lt, bytes_eq, ◌⊎◌}
 use Rattle.std.specs.List.{list_any}
 use Rattle.domain_base.specs.declared.names.Akm.{Akm}
 use Rattle.air_frame.specs.Sent.{IsAddress}
@@ -10,6 +10,7 @@ use Rattle.eapol_key.specs.Fields.{fields_of}
 use Rattle.eapol_key.specs.declared.frame.KeyFrame.{KeyFrame}
 use Rattle.eapol_key.specs.declared.messages.Message.{Message}
 use Rattle.eapol_key.specs.declared.messages.Message.TheVariants.{M1, M3}
+use Rattle.eapol_key.specs.declared.messages.Message.TheVariants as messages
 use Rattle.run_journal.specs.declared.acts.KeyDataFault.{KeyDataFault}
 use Rattle.run_journal.specs.declared.acts.Reason.{Reason}
 use Rattle.run_journal.specs.declared.acts.Reason.TheVariants as reason
@@ -154,6 +155,21 @@ IsRefusedM4 akm a f _ = ⊥
 abbrev pub IsM4 : Akm → GroupKey → Attempt → Frame → M4 → Type 0
 IsM4 akm newest a f (m4.Refused why back) = (back ≡ a) × IsRefusedM4 akm a f why
 IsM4 akm newest a f (m4.Finished x) = IsFinish akm newest a f x
+
+-- an M4 becomes the last message of the attempt: its counter is one of those of the M3, and its MIC verifies
+abbrev pub is_final_by : Akm → Attempt → Frame → Option Agreed → Bool
+is_final_by akm a f None = false
+is_final_by akm a f (Some y) =
+    list_any (λ c. c == f.fields.counter) (counters a.m1s a.m3s) && bytes_eq f.fields.mic (mic akm y.key.ptk.kck f.octets)
+
+abbrev pub is_final_m4 : Akm → Option Attempt → Frame → Bool
+is_final_m4 akm None f = false
+is_final_m4 akm (Some a) f = is_final_by akm a f a.agreed
+
+-- the message is such an M4
+abbrev pub is_final : Akm → Option Attempt → Message → Frame → Bool
+is_final akm o messages.M4 f = is_final_m4 akm o f
+is_final akm o _ f = false
 
 -- ---- once more
 

@@ -1,6 +1,6 @@
 -- Which histories an authenticator stands for (this project's choice; the exchange is that of IEEE Std 802.11-2020, 12.7.6, its
 -- replay counters those of 12.7.2).
-use Rattle.std.specs.Prelude.{◌≡◌, ◌≤◌, ◌+◌, ◌*◌, ℕ, suc, true, List, length, Option, Some, None, is_some}
+use Rattle.std.specs.Prelude.{◌≡◌, ◌≤◌, ◌+◌, ◌*◌, ℕ, suc, true, false, List, length, Option, Some, None, is_some}
 use Rattle.domain_base.specs.declared.names.Node.{Node}
 use Rattle.eapol_key.specs.declared.messages.Message.TheVariants.{M1, M2, M3, G1, G2}
 use Rattle.run_journal.specs.declared.domain.Domain.{Domain}
@@ -82,9 +82,19 @@ pub record IsHeld (d : Domain) (n p : Node) (s : Session) (h : List Act) : Type 
   pub key : x.ptk ≡ s.ptk
   pub counts : Counts p s h
 
--- there is that attempt, or none
+-- there is no attempt by association: there is none, or it began by fast transition
+abbrev pub IsNoConnect : Option (List Act) → Type 0
+IsNoConnect None = Unit {0}
+IsNoConnect (Some part) = by_connect part ≡ false
+
+-- an attempt that there is began by association
+abbrev pub IsByConnect : Option (List Act) → Type 0
+IsByConnect None = Unit {0}
+IsByConnect (Some part) = by_connect part ≡ true
+
+-- there is that attempt by association, or none
 abbrev pub HasAttempt : Domain → Node → Node → Option Attempt → List Act → Type 0
-HasAttempt d n p None h = attempt p h ≡ None
+HasAttempt d n p None h = IsNoConnect (attempt p h)
 HasAttempt d n p (Some a) h = IsUnderWay d n p a h
 
 -- and that session, or none

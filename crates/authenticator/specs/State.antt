@@ -1,5 +1,5 @@
 -- What contracts see of an authenticator (this project's choice).
-use Rattle.std.specs.Prelude.{Option}
+use Rattle.std.specs.Prelude.{Option, None}
 use Rattle.node_base.specs.declared.ends.Ends.{Ends}
 use Rattle.authenticator.specs.declared.base.Base.{Base}
 use Rattle.authenticator.specs.declared.attempt.Attempt.{Attempt}
@@ -20,3 +20,7 @@ beginning ends base attempt session =
 -- with that session
 abbrev pub with_session : Option Session → State → State
 with_session session s = record s { session = session }
+
+-- without its attempt
+abbrev pub without_attempt : State → State
+without_attempt s = record s { attempt = None }

@@ -1,5 +1,5 @@
 -- What a message and sending once more do, after every history that the authenticator stands for (this project's choice).
-use Rattle.std.specs.Prelude.{◌≡◌, ◌<◌, ◌-◌, ◌^◌, ℕ, Bool, List, [], Option, Some, None, is_some}
+use Rattle.std.specs.Prelude.{◌≡◌, ◌<◌, ◌-◌, ◌^◌, ℕ, Bool, true, List, [], Option, Some, None, is_some}
 use Rattle.domain_base.specs.declared.names.Node.{Node}
 use Rattle.domain_base.specs.declared.names.Node.TheVariants.{Ap, Sta}
 use Rattle.eapol_key.specs.declared.messages.Message.{Message}
@@ -72,6 +72,10 @@ StepsFrom old new x outcome r =
 -- a key is installed by a message that is accepted alone, and is then the key of the session
 abbrev pub Installs : Outcome → Reply → State → Type 0
 Installs outcome r new = (y : Keyed) → r.installed ≡ Some y → (outcome ≡ Accepted) × (s : Session) × (new.session ≡ Some s) × (s.ptk ≡ y.ptk)
+
+-- a key is derived in an attempt alone
+abbrev pub Derives : State → Reply → Type 0
+Derives old r = (y : Keyed) → r.derived ≡ Some y → is_some old.attempt ≡ true
 
 -- behind the history h this is the newest group key, so many packet numbers were used under it, and where there is a session with p
 -- its replay counters have not come to their end

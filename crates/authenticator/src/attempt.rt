@@ -96,7 +96,7 @@ impl Attempt {
     ghost use Rattle.authenticator.specs.Sends.{SendsM1};
     ghost use Rattle.authenticator.specs.Judged.{frame_of, begun, answered, IsM2, TellsDerived};
     ghost use Rattle.authenticator.specs.Judged.{Answers, IsM4, IsFinish, IsRefusedM4};
-    ghost use Rattle.authenticator.specs.Judged.{IsAgain, IsInVain};
+    ghost use Rattle.authenticator.specs.Judged.{is_final_by, IsAgain, IsInVain};
 
     /// Begins an attempt, and writes its first M1 (IEEE Std 802.11-2020, 12.7.6.2). Nothing of what
     /// was in the reply stays.
@@ -156,6 +156,21 @@ impl Attempt {
         reply.derived = Some(key);
         self.m3s = 1;
         self.agreed = Some(agreement);
+    }
+
+    /// Whether the attempt becomes a session by an M4 of the station, as [`Attempt::finish`] finds.
+    pub fn is_final(&self, akm: Akm, frame: &KeyFrame<'_>) -> bool
+        requires { IsKeyFrame frame.now }
+        ensures { result ≡ is_final_by akm self.now (frame_of frame.now) self.now.agreed }
+    {
+        let Some(agreement) = &self.agreed else {
+            return false;
+        };
+        if !is_offered(frame.counter, self.m1s, self.m3s) {
+            return false;
+        }
+        let key = agreement.key();
+        verify(frame, akm, &key.ptk.kck)
     }
 
     // Judges an M4 of the station: the session that the attempt becomes, or why it is refused.

@@ -96,13 +96,14 @@ impl Model for Authenticator {
 }
 
 impl Authenticator {
-    ghost use Rattle.authenticator.specs.State.{beginning, with_session};
+    ghost use Rattle.authenticator.specs.State.{beginning, with_session, without_attempt};
     ghost use Rattle.authenticator.specs.Steps.{IsNamed};
     ghost use Rattle.authenticator.specs.Begins.{StandsAtFirst};
-    ghost use Rattle.authenticator.specs.Judged.{begun, frame_of};
+    ghost use Rattle.authenticator.specs.Judged.{begun, frame_of, is_final_m4, is_final};
     ghost use Rattle.authenticator.specs.Sends.{SendsM1};
     ghost use Rattle.authenticator.specs.Groups.{owes_in, transferred};
-    ghost use Rattle.authenticator.specs.Taken.{given, StepsFrom, Installs, RetriesFrom, GivesFrom};
+    ghost use Rattle.authenticator.specs.Taken.{given, StepsFrom, Installs, Derives};
+    ghost use Rattle.authenticator.specs.Taken.{RetriesFrom, GivesFrom};
 
     /// Begins with an attempt, and sends M1 with replay counter 1 (IEEE Std 802.11-2020, 12.7.6.2); or
     /// with the session that a fast transition installed, and sends nothing. The reply has M1 or nothing,
@@ -183,6 +184,13 @@ impl Authenticator {
         self.session = older.session;
     }
 
+    /// The attempt is at its end, where there is one. The session goes on.
+    pub fn close_attempt(&mut self)
+        ensures { self.new ≡ without_attempt self.old }
+    {
+        self.attempt = None;
+    }
+
     /// Whether there is an attempt.
     pub fn has_attempt(&self) -> bool
         ensures { result ≡ is_some self.now.attempt }
@@ -195,6 +203,23 @@ impl Authenticator {
         ensures { result ≡ is_some self.now.session }
     {
         self.session.is_some()
+    }
+
+    /// Whether that message of the station is the last of the attempt, by which it becomes a session:
+    /// [`Authenticator::step`] accepts it and installs the key. By every other message it installs
+    /// none.
+    pub fn is_final(&self, message: Message, frame: &KeyFrame<'_>) -> bool
+        requires { IsKeyFrame frame.now }
+        ensures { result
+            ≡ is_final self.now.ends.akm self.now.attempt message (frame_of frame.now) }
+    {
+        match message {
+            Message::M4 => match &self.attempt {
+                Some(attempt) => attempt.is_final(self.ends.akm, frame),
+                None => false,
+            },
+            _ => false,
+        }
     }
 
     /// Whether the session owes a G2 for that group key.
@@ -224,6 +249,8 @@ impl Authenticator {
             (given messages.M2 (frame_of frame.now) newest.now rsc) result reply.new }
         ensures refused { (why : AnyReason) → result ≡ Refused why → self.new ≡ self.old }
         ensures installs { Installs result reply.new self.new }
+        ensures derives { Derives self.old reply.new }
+        ensures none { reply.new.installed ≡ None }
         ensures fits { IsWhole reply.new }
     {
         let Some(attempt) = &mut self.attempt else {
@@ -260,6 +287,9 @@ impl Authenticator {
             (given messages.M4 (frame_of frame.now) newest.now rsc) result reply.new }
         ensures refused { (why : AnyReason) → result ≡ Refused why → self.new ≡ self.old }
         ensures installs { Installs result reply.new self.new }
+        ensures derives { Derives self.old reply.new }
+        ensures is_final { is_some reply.new.installed
+            ≡ is_final_m4 self.old.ends.akm self.old.attempt (frame_of frame.now) }
         ensures fits { IsWhole reply.new }
     {
         let Some(attempt) = self.attempt.take() else {
@@ -286,6 +316,8 @@ impl Authenticator {
             (given messages.G2 (frame_of frame.now) newest.now rsc) result reply.new }
         ensures refused { (why : AnyReason) → result ≡ Refused why → self.new ≡ self.old }
         ensures installs { Installs result reply.new self.new }
+        ensures derives { Derives self.old reply.new }
+        ensures none { reply.new.installed ≡ None }
         ensures fits { IsWhole reply.new }
     {
         let Some(session) = &mut self.session else {
@@ -320,6 +352,9 @@ impl Authenticator {
             (given message (frame_of frame.now) newest.now rsc) result reply.new }
         ensures refused { (why : AnyReason) → result ≡ Refused why → self.new ≡ self.old }
         ensures installs { Installs result reply.new self.new }
+        ensures derives { Derives self.old reply.new }
+        ensures is_final { is_some reply.new.installed
+            ≡ is_final self.old.ends.akm self.old.attempt message (frame_of frame.now) }
         ensures whole { IsWhole reply.new }
     {
         *reply = Reply::empty();

@@ -18,8 +18,9 @@ use run_journal::{Reason, Reply};
 /// How often G1 is sent in a session for one group key at most.
 const MOST_SENDS: u8 = 4;
 
-/// A session: what an attempt becomes by M4, or a fast transition by its reassociation. It counts the handshake for one group key, the newest
-/// as it began or as G1 was sent last; for a newer one there was none yet.
+/// A session: what an attempt becomes by M4, or a fast transition by its reassociation. It counts the
+/// handshake for one group key, the newest as it began or as G1 was sent last; for a newer one there
+/// was none yet.
 #[derive(Drop)]
 pub struct Session {
     /// The key that was installed.
@@ -35,6 +36,10 @@ pub struct Session {
 }
 
 impl Session {
+    ghost use Rattle.authenticator.specs.Groups.{sent_for, is_answered_for, owes, replied_to};
+    ghost use Rattle.authenticator.specs.Groups.{transferred};
+    ghost use Rattle.authenticator.specs.Groups.{Asks, IsG2, IsRefusedG2};
+
     /// A session of that key as a fast transition installs it: nothing was sent in it.
     pub fn transferred(ptk: Ptk) -> Self
         ensures { result ≡ transferred ptk }
@@ -47,10 +52,6 @@ impl Session {
             is_answered: false,
         }
     }
-
-    ghost use Rattle.authenticator.specs.Groups.{sent_for, is_answered_for, owes, replied_to};
-    ghost use Rattle.authenticator.specs.Groups.{transferred};
-    ghost use Rattle.authenticator.specs.Groups.{Asks, IsG2, IsRefusedG2};
 
     // How many G1 were sent for that group key.
     fn sent_for(&self, group: &GroupKey) -> u8

@@ -2,46 +2,45 @@
 use Rattle.std.proofs.Common.{◌≡◌, ◌≢◌, ℕ, ◌<◌, ◌≤◌, Bool, List, [], ◌∷◌, ◌++◌, length, inl, inr, refl, sym, ap, subst, ◌∙◌, append_assoc, arith}
 use Rattle.std.proofs.lemmas.List.{append-nil, length-append}
 use Rattle.std.proofs.lemmas.Bool.{cases_lt}
-use Rattle.run_journal.specs.declared.domain.Event.{Event}
 use Rattle.run_journal.specs.declared.acts.Entry.{Entry}
-use Rattle.frame_script.specs.Script.{Fault, Draft, Said, said_after}
-use Rattle.domain_cli.specs.Script.{rounds_with, Says, Refuses, Spells, NoFeed, most_lines, most_octets, without_return, joined, texts, AreLines, IsClosed, IsOpen, IsScript, Ends, HasFault, point_of}
+use Rattle.frame_script.specs.Script.{Fault, Draft, Said, said_after, end_fault}
+use Rattle.domain_cli.specs.Script.{Rounds, rounds_with, Says, Refuses, Spells, NoFeed, most_lines, most_octets, without_return, joined, texts, AreLines, IsClosed, IsOpen, IsScript, Ends, HasFault, point_of}
 
 -- ---- what a line tells
 
 -- the same network and the same rounds
-abbrev pub AreSame : Draft → List (List Event) → Draft → List (List Event) → Type 0
+abbrev pub AreSame : Draft → Rounds → Draft → Rounds → Type 0
 AreSame d rounds e others = (d ≡ e) × (rounds ≡ others)
 
-one_meaning : (j : List Entry) (line : List ℕ) (before x y : Draft) (earlier r s : List (List Event)) → Says j line before earlier x r → Says j line before earlier y s → AreSame x r y s
+one_meaning : (j : List Entry) (line : List ℕ) (before x y : Draft) (earlier r s : Rounds) → Says j line before earlier x r → Says j line before earlier y s → AreSame x r y s
 one_meaning j line before x y earlier r s p q =
     let said : p.said ≡ q.said = cc (p.says, q.says) in
-    (p.draft_is ∙ ap (λ (z : Said). said_after before z) said ∙ sym q.draft_is, p.rounds_are ∙ ap (λ (z : Said). rounds_with earlier z) said ∙ sym q.rounds_are)
+    (p.draft_is ∙ ap (λ (z : Said). said_after before z) said ∙ sym q.draft_is, p.rounds_are ∙ ap (λ (z : Said). rounds_with before earlier z) said ∙ sym q.rounds_are)
 
 -- a line is not both taken and refused
-taken_or_refused : (j : List Entry) (line : List ℕ) (before draft : Draft) (earlier rounds : List (List Event)) (fault : Fault) → Says j line before earlier draft rounds → Refuses j line before earlier fault → ⊥
+taken_or_refused : (j : List Entry) (line : List ℕ) (before draft : Draft) (earlier rounds : Rounds) (fault : Fault) → Says j line before earlier draft rounds → Refuses j line before earlier fault → ⊥
 taken_or_refused j line before draft earlier rounds fault p q = cc (p.says, q.says)
 
 -- and is refused for one fault
-one_refusal : (j : List Entry) (line : List ℕ) (draft : Draft) (rounds : List (List Event)) (fault other : Fault) → Refuses j line draft rounds fault → Refuses j line draft rounds other → fault ≡ other
+one_refusal : (j : List Entry) (line : List ℕ) (draft : Draft) (rounds : Rounds) (fault other : Fault) → Refuses j line draft rounds fault → Refuses j line draft rounds other → fault ≡ other
 one_refusal j line draft rounds fault other p q = cc (p.says, q.says)
 
-pub one_telling : (j : List Entry) (lines : List (List ℕ)) (x y : Draft) (r s : List (List Event)) → Spells j lines x r → Spells j lines y s → AreSame x r y s
+pub one_telling : (j : List Entry) (lines : List (List ℕ)) (x y : Draft) (r s : Rounds) → Spells j lines x r → Spells j lines y s → AreSame x r y s
 unfolding Spells
 one_telling j [] x y r s p q = (p.0 ∙ sym q.0, p.1 ∙ sym q.1)
 one_telling j (line ∷ lines) x y r s (before, (earlier, (p, says))) (before', (earlier', (q, says'))) =
     let same = one_telling j lines before before' earlier earlier' p q in
-    one_meaning j line before' x y earlier' r s (subst (λ (e : List (List Event)). Says j line before' e x r) same.1 (subst (λ (b : Draft). Says j line b earlier x r) same.0 says)) says'
+    one_meaning j line before' x y earlier' r s (subst (λ (e : Rounds). Says j line before' e x r) same.1 (subst (λ (b : Draft). Says j line b earlier x r) same.0 says)) says'
 
 -- a line that is taken behind lines that told this is not refused there
-not_taken : (j : List Entry) (said : List (List ℕ)) (line : List ℕ) (before draft : Draft) (earlier rounds : List (List Event)) (fault : Fault) → Spells j said before earlier → Spells j (line ∷ said) draft rounds → Refuses j line before earlier fault → ⊥
+not_taken : (j : List Entry) (said : List (List ℕ)) (line : List ℕ) (before draft : Draft) (earlier rounds : Rounds) (fault : Fault) → Spells j said before earlier → Spells j (line ∷ said) draft rounds → Refuses j line before earlier fault → ⊥
 unfolding Spells
 not_taken j said line before draft earlier rounds fault p (b, (e, (q, says))) refuses =
     let one = one_telling j said b before e earlier q p in
-    let taken = subst (λ (x : List (List Event)). Says j line before x draft rounds) one.1 (subst (λ (x : Draft). Says j line x e draft rounds) one.0 says) in
+    let taken = subst (λ (x : Rounds). Says j line before x draft rounds) one.1 (subst (λ (x : Draft). Says j line x e draft rounds) one.0 says) in
     taken_or_refused j line before draft earlier rounds fault taken refuses
 
-before_last : (j : List Entry) (line : List ℕ) (said : List (List ℕ)) (draft : Draft) (rounds : List (List Event)) → Spells j (line ∷ said) draft rounds → (before : Draft) × ((earlier : List (List Event)) × Spells j said before earlier)
+before_last : (j : List Entry) (line : List ℕ) (said : List (List ℕ)) (draft : Draft) (rounds : Rounds) → Spells j (line ∷ said) draft rounds → (before : Draft) × ((earlier : Rounds) × Spells j said before earlier)
 unfolding Spells
 before_last j line said draft rounds (before, (earlier, (spelled, says))) = (before, (earlier, spelled))
 
@@ -92,7 +91,7 @@ record Next (j : List Entry) (good other : List (List ℕ)) (rest : List ℕ) : 
   none : NoFeed line
   short : length line ≤ most_octets
   few : length good < most_lines
-  told : (draft : Draft) (rounds : List (List Event)) → Spells j (texts other) draft rounds → (d : Draft) × ((r : List (List Event)) × Spells j (without_return line ∷ texts good) d r)
+  told : (draft : Draft) (rounds : Rounds) → Spells j (texts other) draft rounds → (d : Draft) × ((r : Rounds) × Spells j (without_return line ∷ texts good) d r)
 
 next_line : (j : List Entry) (good other : List (List ℕ)) (rest more : List ℕ) → AreLines good → AreLines other → length good < length other → joined good ++ rest ≡ joined other ++ more → Next j good other rest
 unfolding AreLines
@@ -129,7 +128,7 @@ same_next j ended good other line after text none (inl feed) n =
 same_next j ended good other line after text none (inr last) n =
     absurd (no_feed line n.line n.behind none (sym (append-nil line) ∙ sym (ap (λ (w : List ℕ). line ++ w) last.1.0) ∙ n.is))
 
-fault_or_next : (j : List Entry) (octets : List ℕ) (ended : Bool) (good other : List (List ℕ)) (before draft : Draft) (earlier rounds : List (List Event)) (fault : Fault) → (f : HasFault octets ended good (point_of j before earlier) fault) → Spells j (texts good) before earlier
+fault_or_next : (j : List Entry) (octets : List ℕ) (ended : Bool) (good other : List (List ℕ)) (before draft : Draft) (earlier rounds : Rounds) (fault : Fault) → (f : HasFault octets ended good (point_of j before earlier) fault) → Spells j (texts good) before earlier
     → Next j good other (f.line ++ f.after) → Spells j (texts other) draft rounds → ⊥
 fault_or_next j octets ended good other before draft earlier rounds fault f spelled n told =
     elim f.wrong [
@@ -144,7 +143,7 @@ fault_or_next j octets ended good other before draft earlier rounds fault f spel
     ]
 
 -- nothing is left for a fault behind whole lines
-nothing_left : (j : List Entry) (octets : List ℕ) (ended : Bool) (good : List (List ℕ)) (before : Draft) (earlier : List (List Event)) (fault : Fault) → (f : HasFault octets ended good (point_of j before earlier) fault) → good ≢ [] → f.line ++ f.after ≡ [] → ⊥
+nothing_left : (j : List Entry) (octets : List ℕ) (ended : Bool) (good : List (List ℕ)) (before : Draft) (earlier : Rounds) (fault : Fault) → (f : HasFault octets ended good (point_of j before earlier) fault) → good ≢ [] → f.line ++ f.after ≡ [] → ⊥
 nothing_left j octets ended good before earlier fault f some none =
     let no_octets : length (f.line ++ f.after) ≡ 0 = ap (λ (w : List ℕ). length w) none in
     elim f.wrong [
@@ -170,7 +169,7 @@ no_rest (x ∷ good) lines rest p q n e =
           absurd (omega (arith, ap (λ (w : List ℕ). length w) none.0, length-append x (10 ∷ rest)))
     ]
 
-fault_or_closed : (j : List Entry) (octets : List ℕ) (ended : Bool) (good : List (List ℕ)) (before : Draft) (earlier : List (List Event)) (fault : Fault) (said : List (List ℕ)) (draft : Draft) (rounds : List (List Event)) → HasFault octets ended good (point_of j before earlier) fault
+fault_or_closed : (j : List Entry) (octets : List ℕ) (ended : Bool) (good : List (List ℕ)) (before : Draft) (earlier : Rounds) (fault : Fault) (said : List (List ℕ)) (draft : Draft) (rounds : Rounds) → HasFault octets ended good (point_of j before earlier) fault
     → Spells j (texts good) before earlier → IsClosed octets said → Spells j said draft rounds → ⊥
 fault_or_closed j octets ended good before earlier fault said draft rounds f spelled s told =
     let same = sym f.begins.whole ∙ s.begins.whole in
@@ -183,7 +182,7 @@ fault_or_closed j octets ended good before earlier fault said draft rounds f spe
     ]
 
 -- a fault in the last line, which has no line feed and is taken
-fault_or_last : (j : List Entry) (octets : List ℕ) (ended : Bool) (good : List (List ℕ)) (before : Draft) (earlier : List (List Event)) (fault : Fault) (last : List ℕ) (draft : Draft) (rounds : List (List Event)) → (f : HasFault octets ended good (point_of j before earlier) fault)
+fault_or_last : (j : List Entry) (octets : List ℕ) (ended : Bool) (good : List (List ℕ)) (before : Draft) (earlier : Rounds) (fault : Fault) (last : List ℕ) (draft : Draft) (rounds : Rounds) → (f : HasFault octets ended good (point_of j before earlier) fault)
     → Spells j (texts good) before earlier → f.line ++ f.after ≡ last → NoFeed last → length last ≤ most_octets → length good < most_lines → Spells j (last ∷ texts good) draft rounds → ⊥
 fault_or_last j octets ended good before earlier fault last draft rounds f spelled same none short few told =
     elim f.wrong [
@@ -199,7 +198,7 @@ fault_or_last j octets ended good before earlier fault last draft rounds f spell
       ]
     ]
 
-fault_or_open : (j : List Entry) (octets : List ℕ) (ended : Bool) (good : List (List ℕ)) (before : Draft) (earlier : List (List Event)) (fault : Fault) (said : List (List ℕ)) (draft : Draft) (rounds : List (List Event)) → HasFault octets ended good (point_of j before earlier) fault
+fault_or_open : (j : List Entry) (octets : List ℕ) (ended : Bool) (good : List (List ℕ)) (before : Draft) (earlier : Rounds) (fault : Fault) (said : List (List ℕ)) (draft : Draft) (rounds : Rounds) → HasFault octets ended good (point_of j before earlier) fault
     → Spells j (texts good) before earlier → IsOpen octets said → Spells j said draft rounds → ⊥
 fault_or_open j octets ended good before earlier fault said draft rounds f spelled s told =
     let same = sym f.begins.whole ∙ s.begins.whole in
@@ -219,7 +218,7 @@ fault_or_open j octets ended good before earlier fault said draft rounds f spell
       ]
     ]
 
-pub fault_or_script : (j : List Entry) (octets : List ℕ) (ended : Bool) (good said : List (List ℕ)) (before draft : Draft) (earlier rounds : List (List Event)) (fault : Fault) → HasFault octets ended good (point_of j before earlier) fault → Spells j (texts good) before earlier
+pub fault_or_script : (j : List Entry) (octets : List ℕ) (ended : Bool) (good said : List (List ℕ)) (before draft : Draft) (earlier rounds : Rounds) (fault : Fault) → HasFault octets ended good (point_of j before earlier) fault → Spells j (texts good) before earlier
     → IsScript octets said → Spells j said draft rounds → ⊥
 fault_or_script j octets ended good said before draft earlier rounds fault f spelled (inl s) told = fault_or_closed j octets ended good before earlier fault said draft rounds f spelled s told
 fault_or_script j octets ended good said before draft earlier rounds fault f spelled (inr s) told = fault_or_open j octets ended good before earlier fault said draft rounds f spelled s told
@@ -273,7 +272,7 @@ one_text ended over good lines line after text other more words none nothing sam
     last.1.1.0 ∙ sym (append-nil line) ∙ sym (ap (λ (w : List ℕ). line ++ w) last.1.0) ∙ same ∙ ap (λ (w : List ℕ). other ++ w) end.1.0 ∙ append-nil other ∙ sym end.1.1.0
 
 -- behind the same lines
-one_fault : (j : List Entry) (octets : List ℕ) (ended over : Bool) (good : List (List ℕ)) (draft : Draft) (rounds : List (List Event)) (fault other : Fault) → (f : HasFault octets ended good (point_of j draft rounds) fault) → (g : HasFault octets over good (point_of j draft rounds) other)
+one_fault : (j : List Entry) (octets : List ℕ) (ended over : Bool) (good : List (List ℕ)) (draft : Draft) (rounds : Rounds) (fault other : Fault) → (f : HasFault octets ended good (point_of j draft rounds) fault) → (g : HasFault octets over good (point_of j draft rounds) other)
     → f.line ++ f.after ≡ g.line ++ g.after → fault ≡ other
 one_fault j octets ended over good draft rounds fault other f g same =
     elim f.wrong [
@@ -299,13 +298,13 @@ one_fault j octets ended over good draft rounds fault other f g same =
     ]
 
 -- two faults of the same octets
-record AreFaults (j : List Entry) (octets : List ℕ) (ended over : Bool) (good lines : List (List ℕ)) (before draft : Draft) (earlier rounds : List (List Event)) (fault other : Fault) : Type 0 where
+record AreFaults (j : List Entry) (octets : List ℕ) (ended over : Bool) (good lines : List (List ℕ)) (before draft : Draft) (earlier rounds : Rounds) (fault other : Fault) : Type 0 where
   f : HasFault octets ended good (point_of j before earlier) fault
   spelled : Spells j (texts good) before earlier
   g : HasFault octets over lines (point_of j draft rounds) other
   told : Spells j (texts lines) draft rounds
 
-same_place : (j : List Entry) (octets : List ℕ) (ended over : Bool) (good lines : List (List ℕ)) (before draft : Draft) (earlier rounds : List (List Event)) (fault other : Fault) → (a : AreFaults j octets ended over good lines before draft earlier rounds fault other)
+same_place : (j : List Entry) (octets : List ℕ) (ended over : Bool) (good lines : List (List ℕ)) (before draft : Draft) (earlier rounds : Rounds) (fault other : Fault) → (a : AreFaults j octets ended over good lines before draft earlier rounds fault other)
     → (good ≡ lines) × (a.f.line ++ a.f.after ≡ a.g.line ++ a.g.after)
 same_place j octets ended over good lines before draft earlier rounds fault other a =
     let same : joined good ++ (a.f.line ++ a.f.after) ≡ joined lines ++ (a.g.line ++ a.g.after) = sym a.f.begins.whole ∙ a.g.begins.whole in
@@ -320,14 +319,14 @@ same_place j octets ended over good lines before draft earlier rounds fault othe
     ]
 
 -- a fault behind lines that tell this, behind the same lines
-moved : (j : List Entry) (octets : List ℕ) (ended : Bool) (good lines : List (List ℕ)) (before draft : Draft) (earlier rounds : List (List Event)) (fault : Fault) → lines ≡ good → draft ≡ before → rounds ≡ earlier → (g : HasFault octets ended lines (point_of j draft rounds) fault)
+moved : (j : List Entry) (octets : List ℕ) (ended : Bool) (good lines : List (List ℕ)) (before draft : Draft) (earlier rounds : Rounds) (fault : Fault) → lines ≡ good → draft ≡ before → rounds ≡ earlier → (g : HasFault octets ended lines (point_of j draft rounds) fault)
     → (h : HasFault octets ended good (point_of j before earlier) fault) × ((h.line ≡ g.line) × (h.after ≡ g.after))
 moved j octets ended good lines before draft earlier rounds fault same network asked g =
     let to_good = subst (λ (l : List (List ℕ)). (h : HasFault octets ended l (point_of j draft rounds) fault) × ((h.line ≡ g.line) × (h.after ≡ g.after))) same (g, (refl, refl)) in
     let to_network = subst (λ (x : Draft). (h : HasFault octets ended good (point_of j x rounds) fault) × ((h.line ≡ g.line) × (h.after ≡ g.after))) network to_good in
-    subst (λ (x : List (List Event)). (h : HasFault octets ended good (point_of j before x) fault) × ((h.line ≡ g.line) × (h.after ≡ g.after))) asked to_network
+    subst (λ (x : Rounds). (h : HasFault octets ended good (point_of j before x) fault) × ((h.line ≡ g.line) × (h.after ≡ g.after))) asked to_network
 
-pub one_place : (j : List Entry) (octets : List ℕ) (ended over : Bool) (good lines : List (List ℕ)) (before draft : Draft) (earlier rounds : List (List Event)) (fault other : Fault) → HasFault octets ended good (point_of j before earlier) fault → Spells j (texts good) before earlier
+pub one_place : (j : List Entry) (octets : List ℕ) (ended over : Bool) (good lines : List (List ℕ)) (before draft : Draft) (earlier rounds : Rounds) (fault other : Fault) → HasFault octets ended good (point_of j before earlier) fault → Spells j (texts good) before earlier
     → HasFault octets over lines (point_of j draft rounds) other → Spells j (texts lines) draft rounds → (good ≡ lines) × (fault ≡ other)
 one_place j octets ended over good lines before draft earlier rounds fault other f spelled g told =
     let place = same_place j octets ended over good lines before draft earlier rounds fault other (record { f = f; spelled = spelled; g = g; told = told }) in
@@ -335,3 +334,9 @@ one_place j octets ended over good lines before draft earlier rounds fault other
     let here = moved j octets over good lines before draft earlier rounds other (sym place.0) tells.0 tells.1 g in
     let octets_there : g.line ++ g.after ≡ here.0.line ++ here.0.after = cc (here.1.0, here.1.1) in
     (place.0, one_fault j octets ended over good before earlier fault other f here.0 (place.1 ∙ octets_there))
+
+-- a script may end where its octets do, or not, for one cause
+pub one_end : (j : List Entry) (octets : List ℕ) (said lines : List (List ℕ)) (one other : Draft) (rounds others : Rounds) → IsScript octets said → Spells j said one rounds → IsScript octets lines → Spells j lines other others → end_fault one ≡ end_fault other
+one_end j octets said lines one other rounds others is spelled also told =
+    let same = one_script octets said lines is also in
+    ap (λ (x : Draft). end_fault x) (one_telling j lines one other rounds others (subst (λ (l : List (List ℕ)). Spells j l one rounds) same spelled) told).0

@@ -1,10 +1,10 @@
--- Behind the header no line says that the script goes on otherwise.
+-- Behind the header, and in a round, no line says that the script goes on otherwise.
 use Rattle.std.proofs.Common.{◌≡◌, ◌==◌, ◌&&◌, ℕ, Bool, true, false, if◌then◌else◌, List, length, Result, Ok, Err, subst, bytes_eq, codes}
-use Rattle.std.specs.Prelude.{nat_le}
+use Rattle.std.specs.Prelude.{nat_le, nat_lt}
 use Rattle.domain_base.specs.declared.names.Mac.{Mac}
 use Rattle.run_journal.specs.declared.domain.Domain.{Domain}
 use Rattle.frame_script.specs.Tokens.{split_word, is_text, first_word}
-use Rattle.frame_script.specs.Script.{◌>>=◌, need, Fault, Draft, AtNodes, Said, Goes, arguments, is_used, is_used_id, address_of, new_ap, ap_line, new_sta, sta_line, event_of, event_line, body_line, is_passed_over, line_says}
+use Rattle.frame_script.specs.Script.{◌>>=◌, need, Fault, Draft, AtNodes, InRound, Said, Goes, arguments, is_used, is_used_id, address_of, new_ap, ap_line, new_sta, sta_line, event_of, event_line, part_line, body_line, inner_line, is_passed_over, is_border, line_says}
 
 -- it is refused, or says something else
 abbrev IsOther : Result Said Fault → Type 0
@@ -39,19 +39,34 @@ sta_line_other d text = behind (address_of text) _ (λ address. new_sta_other d 
 
 event_line_other : (d : Domain) (sizes word text : List ℕ) → IsOther (event_line d sizes word text)
 unfolding event_line
-event_line_other d sizes word text = behind (event_of d sizes word text) _ (λ event. either (nat_le (length sizes) 65535) _ _ tt tt)
+event_line_other d sizes word text = behind (event_of d false sizes word text) _ (λ event. either (nat_le (length sizes) 65535) _ _ tt tt)
 
 body_line_other : (d : Domain) (rounds : ℕ) (sizes word text : List ℕ) → IsOther (body_line d rounds sizes word text)
 unfolding body_line
 body_line_other d rounds sizes word text =
     either (bytes_eq word (codes "ap")) _ _ (either (length d.stas == 0 && rounds == 0) _ _ (ap_line_other d text) tt)
-    (either (bytes_eq word (codes "sta")) _ _ (either (rounds == 0) _ _ (sta_line_other d text) tt) (event_line_other d sizes word text))
+    (either (bytes_eq word (codes "sta")) _ _ (either (rounds == 0) _ _ (sta_line_other d text) tt) (either (bytes_eq word (codes "round")) _ _ tt (event_line_other d sizes word text)))
 
-passed_over : (b : Bool) (d : Domain) (r : Result Said Fault) (next : Draft) → IsOther r → (if b then Ok (Goes (AtNodes d)) else r) ≡ Ok (Goes next) → next ≡ AtNodes d
-passed_over true d r next other is = cc
-passed_over false d r next other is = absurd (subst IsOther is other)
+part_line_other : (d : Domain) (count : ℕ) (sizes word text : List ℕ) → IsOther (part_line d count sizes word text)
+unfolding part_line
+part_line_other d count sizes word text = behind (event_of d true sizes word text) _ (λ event. either (nat_lt count 256) _ _ tt tt)
+
+inner_line_other : (d : Domain) (count : ℕ) (sizes word text : List ℕ) → IsOther (inner_line d count sizes word text)
+unfolding inner_line
+inner_line_other d count sizes word text = either (bytes_eq word (codes "end")) _ _ tt (part_line_other d count sizes word text)
+
+passed_over : (b : Bool) (draft : Draft) (r : Result Said Fault) (next : Draft) → IsOther r → (if b then Ok (Goes draft) else r) ≡ Ok (Goes next) → next ≡ draft
+passed_over true draft r next other is = cc
+passed_over false draft r next other is = absurd (subst IsOther is other)
 
 pub same_network : (d : Domain) (rounds : ℕ) (sizes line : List ℕ) (next : Draft) → line_says (AtNodes d) rounds sizes line ≡ Ok (Goes next) → next ≡ AtNodes d
 unfolding line_says
 same_network d rounds sizes line next is =
-    passed_over (is_passed_over line) d (body_line d rounds sizes (first_word line).0 (first_word line).1) next (body_line_other d rounds sizes (first_word line).0 (first_word line).1) is
+    passed_over (is_passed_over line) (AtNodes d) _ next
+    (either (is_border (AtNodes d) line) _ _ (either (nat_le (length sizes) 65535) _ _ tt tt) (body_line_other d rounds sizes (first_word line).0 (first_word line).1)) is
+
+pub same_round : (d : Domain) (count rounds : ℕ) (sizes line : List ℕ) (next : Draft) → line_says (InRound d count) rounds sizes line ≡ Ok (Goes next) → next ≡ InRound d count
+unfolding line_says
+same_round d count rounds sizes line next is =
+    passed_over (is_passed_over line) (InRound d count) _ next
+    (either (is_border (InRound d count) line) _ _ tt (inner_line_other d count sizes (first_word line).0 (first_word line).1)) is

@@ -11,11 +11,11 @@ use Rattle.run_journal.specs.declared.domain.Event.{Event}
 use Rattle.run_journal.specs.declared.acts.Act.{Act}
 use Rattle.run_journal.specs.declared.acts.Entry.{Entry}
 use Rattle.domain_rules.specs.AccessPointRows.{start_acts}
-use Rattle.domain_rules.specs.Explained.{number_of, push, Step, started}
+use Rattle.domain_rules.specs.Explained.{number_of, push, Step, Follows, started}
 use Rattle.domain_rules.proofs.Journals.{at_one}
 use Rattle.run_journal.specs.Listing.{with_ap}
 use Rattle.domain_world.proofs.Begun.{started_ap}
-use Rattle.frame_script.specs.Headers.{Reading, HasSeen, HasSeenAll}
+use Rattle.frame_script.specs.Headers.{Reading, HasSeen}
 
 -- the new journal has the old one behind what is later, and has sent no frame more in the rounds up to that number
 pub record Grows (rounds : ℕ) (old new : List Entry) : Type 0 where
@@ -45,6 +45,20 @@ Grows-step d rounds round event j k step later =
       same = λ m few. ap (sizes_before m) s.is ∙ same-push m round s.node s.acts j (omega (arith, few, later));
     }
 
+-- and again
+Grows-more : (rounds : ℕ) (i j k : List Entry) → Grows rounds i j → Grows rounds j k → Grows rounds i k
+Grows-more rounds i j k first then_ = record {
+  later = then_.later ++ first.later;
+  is = then_.is ∙ ap (λ (past : List Entry). then_.later ++ past) first.is ∙ sym (append_assoc then_.later first.later i);
+  same = λ m few. then_.same m few ∙ first.same m few;
+}
+
+-- the events of a later round
+pub Grows-follows : (d : Domain) (rounds round : ℕ) (events : List Event) (j k : List Entry) → Follows d round events j k → rounds < round → Grows rounds j k
+Grows-follows d rounds round [] j k follows later = Grows-same rounds j k follows
+Grows-follows d rounds round (event ∷ events) j k (mid, (step, rest)) later =
+    Grows-more rounds j mid k (Grows-step d rounds round event j mid step later) (Grows-follows d rounds round events mid k rest later)
+
 -- an access point starts, which sends nothing
 pub Grows-started : (d e : Domain) (rounds : ℕ) (address : Mac) (id : List ℕ) (j k : List Entry) → e ≡ with_ap d address id → j ≡ started d (length d.aps) → k ≡ started e (length e.aps) → Grows rounds j k
 Grows-started d e rounds address id j k network before after =
@@ -57,6 +71,12 @@ Grows-started d e rounds address id j k network before after =
       same = λ m few. ap (sizes_before m) (after ∙ sym is) ∙ same-quiet m 0 (Ap (length d.aps)) acts j (refl, (refl, tt));
     }
 
--- a reader that has seen all of it has seen the front of what it grows to
-pub HasSeen-more : (r : Reading) (rounds : ℕ) (j k : List Entry) → HasSeenAll r j → Grows rounds j k → HasSeen r k
-HasSeen-more r rounds j k all more = record { later = more.later; earlier = j; is = more.is; seen = all.seen; sizes = all.sizes }
+-- a reader that has seen its front has seen the front of what it grows to
+pub HasSeen-more : (r : Reading) (rounds : ℕ) (j k : List Entry) → HasSeen r j → Grows rounds j k → HasSeen r k
+HasSeen-more r rounds j k has more = record {
+  later = more.later ++ has.later;
+  earlier = has.earlier;
+  is = more.is ∙ ap (λ (past : List Entry). more.later ++ past) has.is ∙ sym (append_assoc more.later has.later has.earlier);
+  seen = has.seen;
+  sizes = has.sizes;
+}

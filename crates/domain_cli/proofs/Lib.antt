@@ -4,6 +4,7 @@ pub mod Networks
 pub mod Sent
 pub mod Growing
 pub mod Steps
+pub mod Telling
 pub mod Taking
 pub mod Lines
 pub mod Words

@@ -3,7 +3,6 @@ use Rattle.std.proofs.Common.{◌≡◌, ◌≢◌, ℕ, suc, ◌+◌, ◌*◌, 
 use Rattle.std.proofs.lemmas.List.{append-nil, length-append, length-drop, take-append-drop, drop_more}
 use Rattle.std.proofs.lemmas.Bool.{false≢true}
 use Rattle.std.specs.Io.KnownBytes.{Consumes, Keeps}
-use Rattle.run_journal.specs.declared.domain.Event.{Event}
 use Rattle.run_journal.specs.declared.acts.Entry.{Entry}
 use Rattle.frame_script.specs.declared.forms.Form.{Form}
 use Rattle.frame_script.specs.declared.refusal.Refusal.TheVariants.{LongLine, ManyLines}
@@ -14,11 +13,12 @@ use Rattle.frame_script.specs.Script.{Fault, Draft, AtVersion, line_says}
 use Rattle.domain_cli.specs.declared.state.ScriptState.{ScriptState}
 use Rattle.domain_cli.specs.declared.status.Stop.{Stop}
 use Rattle.domain_cli.specs.declared.status.Stop.TheVariants as stops
-use Rattle.domain_cli.specs.Script.{IsJournal, sizes_before, Says, Refuses, Spells, NoFeed, most_lines, most_octets, too_many, without_return, joined, texts, AreLines, Begins, Ends, IsWrong, HasFault, HasForm, Point, point_of}
+use Rattle.domain_cli.specs.Script.{Rounds, no_rounds, IsJournal, sizes_before, Says, Refuses, Spells, NoFeed, most_lines, most_octets, too_many, without_return, joined, texts, AreLines, Begins, IsScript, Ends, IsWrong, HasFault, HasForm, Point, point_of}
 use Rattle.frame_script.specs.declared.refusal.Untaken.TheVariants as untaken
 use Rattle.domain_cli.specs.States.{RefusesLine, Stands}
-use Rattle.domain_cli.specs.Stops.{Stopped, StopsLine}
-use Rattle.domain_cli.specs.Story.{Explains, IsWhole, IsFaulty, IsPrefix, StoppedBy, Tells, most_read}
+use Rattle.domain_cli.specs.Stops.{EndsAt, Stopped, StopsLine}
+use Rattle.domain_cli.specs.Story.{Explains, IsFaulty, IsPrefix, StoppedBy, Tells, most_read}
+use Rattle.domain_cli.specs.declared.status.Found.{Found}
 use Rattle.domain_cli.specs.declared.status.Found.TheVariants as founds
 
 -- ---- octets and lines
@@ -54,7 +54,7 @@ length-read octets good rest b short few =
 
 -- ---- faults
 
-pub Spells-line : (j : List Entry) (line : List ℕ) (said : List (List ℕ)) (before draft : Draft) (earlier rounds : List (List Event)) → Spells j said before earlier → Says j line before earlier draft rounds → Spells j (line ∷ said) draft rounds
+pub Spells-line : (j : List Entry) (line : List ℕ) (said : List (List ℕ)) (before draft : Draft) (earlier rounds : Rounds) → Spells j said before earlier → Says j line before earlier draft rounds → Spells j (line ∷ said) draft rounds
 unfolding Spells
 Spells-line j line said before draft earlier rounds spelled says = (before, (earlier, (spelled, says)))
 
@@ -74,7 +74,7 @@ abbrev wrong_more : (more : List ℕ) (ended : Bool) (good : List (List ℕ)) (l
 wrong_more more ended good line after p fault (inl long) = inl long
 wrong_more more ended good line after p fault (inr w) = inr (IsWrong-more more ended good line after p fault w)
 
-form_more : (more : List ℕ) (ended : Bool) (good : List (List ℕ)) (line after : List ℕ) (p : Point) (fault : Fault) (form : Form) (draft : Draft) (rounds : List (List Event)) {A : Type 0} (wrong : A ⊎ IsWrong false good line after p fault) → HasForm form draft rounds wrong
+form_more : (more : List ℕ) (ended : Bool) (good : List (List ℕ)) (line after : List ℕ) (p : Point) (fault : Fault) (form : Form) (draft : Draft) (rounds : Rounds) {A : Type 0} (wrong : A ⊎ IsWrong false good line after p fault) → HasForm form draft rounds wrong
     → HasForm form draft rounds (wrong_more more ended good line after p fault wrong)
 unfolding IsWrong-more
 form_more more ended good line after p fault form draft rounds (inl long) has = tt
@@ -116,8 +116,8 @@ Stopped-more most bound stops.NoMemory octets more j few p = record {
 }
 
 -- an octet too many
-pub Stopped-long : (octets : List ℕ) (octet lines : ℕ) (form : Form) (good : List (List ℕ)) (line : List ℕ) (draft : Draft) (rounds : List (List Event)) (j : List Entry) → Begins octets good line → NoFeed (line ++ octet ∷ []) → most_octets ≤ length line → lines ≡ length good
-    → Spells j (texts good) draft rounds → IsJournal draft rounds j → Stopped 1 (stops.Refused (suc lines) LongLine form) (octets ++ octet ∷ []) j
+pub Stopped-long : (octets : List ℕ) (octet lines : ℕ) (form : Form) (good : List (List ℕ)) (line : List ℕ) (draft : Draft) (rounds : Rounds) (j : List Entry) → Begins octets good line → NoFeed (line ++ octet ∷ []) → most_octets ≤ length line → lines ≡ length good
+    → Spells j (texts good) draft rounds → IsJournal draft rounds.run j → Stopped 1 (stops.Refused (suc lines) LongLine form) (octets ++ octet ∷ []) j
 Stopped-long octets octet lines form good line draft rounds j b none long count spelled journal = record {
   good = good;
   draft = draft;
@@ -141,8 +141,8 @@ record IsAt (whole : List ℕ) (ended : Bool) (good : List (List ℕ)) (line aft
   ends : Ends ended good line after text
   short : length line ≤ most_octets
 
-faulty : (fault : Fault) (form : Form) (number lines : ℕ) (whole : List ℕ) (ended : Bool) (good : List (List ℕ)) (line after text : List ℕ) (draft : Draft) (rounds : List (List Event)) (j : List Entry) → IsAt whole ended good line after text → lines ≡ length good
-    → number ≡ suc lines → form ≡ form_of draft (length rounds) text → ((fault ≡ too_many) × (most_lines ≤ lines)) ⊎ ((lines < most_lines) × Refuses j text draft rounds fault) → Explains (texts good) draft rounds j → IsFaulty fault form number whole ended j
+faulty : (fault : Fault) (form : Form) (number lines : ℕ) (whole : List ℕ) (ended : Bool) (good : List (List ℕ)) (line after text : List ℕ) (draft : Draft) (rounds : Rounds) (j : List Entry) → IsAt whole ended good line after text → lines ≡ length good
+    → number ≡ suc lines → form ≡ form_of draft (length rounds.run) text → ((fault ≡ too_many) × (most_lines ≤ lines)) ⊎ ((lines < most_lines) × Refuses j text draft rounds fault) → Explains (texts good) draft rounds j → IsFaulty fault form number whole ended j
 faulty fault form number lines whole ended good line after text draft rounds j at count next asked why explains = record {
   good = good;
   draft = draft;
@@ -164,7 +164,7 @@ faulty fault form number lines whole ended good line after text draft rounds j a
   explains = explains;
 }
 
-stopped_at : (most : ℕ) (stop : Stop) (lines : ℕ) (whole : List ℕ) (ended : Bool) (good : List (List ℕ)) (line after text : List ℕ) (draft : Draft) (rounds : List (List Event)) (j : List Entry) → IsAt whole ended good line after text → lines ≡ length good
+stopped_at : (most : ℕ) (stop : Stop) (lines : ℕ) (whole : List ℕ) (ended : Bool) (good : List (List ℕ)) (line after text : List ℕ) (draft : Draft) (rounds : Rounds) (j : List Entry) → IsAt whole ended good line after text → lines ≡ length good
     → length after ≤ most → StopsLine stop j lines text draft rounds → Explains (texts good) draft rounds j → StoppedBy most stop whole ended j
 stopped_at most (stops.Refused number refusal form) lines whole ended good line after text draft rounds j at count near why explains =
     faulty (fault_of refusal) form number lines whole ended good line after text draft rounds j at count why.0 why.1.0 why.1.1 explains
@@ -182,19 +182,19 @@ stopped_at most stops.NoMemory lines whole ended good line after text draft roun
 }
 
 -- a line that is refused, and one too many
-pub refused-line : (s : ScriptState) (j : List Entry) (lines : ℕ) (line : List ℕ) (draft : Draft) (rounds : List (List Event)) (refusal : Refusal) → RefusesLine (untaken.Refused refusal) s j line draft rounds → lines < most_lines
+pub refused-line : (s : ScriptState) (j : List Entry) (lines : ℕ) (line : List ℕ) (draft : Draft) (rounds : Rounds) (refusal : Refusal) → RefusesLine (untaken.Refused refusal) s j line draft rounds → lines < most_lines
     → StopsLine (stops.Refused (suc lines) refusal (form_of s.reader.draft s.reader.rounds line)) j lines line draft rounds
 refused-line s j lines line draft rounds refusal (why, (same, count)) few = (refl, (rw (same, count) refl, inr (few, why)))
 
-pub many-lines : (s : ScriptState) (j : List Entry) (lines : ℕ) (line : List ℕ) (draft : Draft) (rounds : List (List Event)) → Stands s draft rounds j → most_lines ≤ lines
+pub many-lines : (s : ScriptState) (j : List Entry) (lines : ℕ) (line : List ℕ) (draft : Draft) (rounds : Rounds) → Stands s draft rounds j → most_lines ≤ lines
     → StopsLine (stops.Refused (suc lines) ManyLines (form_of s.reader.draft s.reader.rounds line)) j lines line draft rounds
 many-lines s j lines line draft rounds stands many = (refl, (rw (stands.draft_is, stands.rounds_are) refl, inl (refl, many)))
 
 pub ruleset stopping = (refused-line, many-lines)
 
 -- before a line feed
-pub Stopped-line : (stop : Stop) (lines : ℕ) (octets : List ℕ) (good : List (List ℕ)) (line : List ℕ) (draft : Draft) (rounds : List (List Event)) (j k : List Entry) → Begins octets good line → NoFeed line → length line ≤ most_octets → lines ≡ length good
-    → Spells j (texts good) draft rounds → IsJournal draft rounds j → StopsLine stop j lines (without_return line) draft rounds → k ≡ j → Stopped 1 stop (octets ++ 10 ∷ []) k
+pub Stopped-line : (stop : Stop) (lines : ℕ) (octets : List ℕ) (good : List (List ℕ)) (line : List ℕ) (draft : Draft) (rounds : Rounds) (j k : List Entry) → Begins octets good line → NoFeed line → length line ≤ most_octets → lines ≡ length good
+    → Spells j (texts good) draft rounds → IsJournal draft rounds.run j → StopsLine stop j lines (without_return line) draft rounds → k ≡ j → Stopped 1 stop (octets ++ 10 ∷ []) k
 Stopped-line stop lines octets good line draft rounds j k b none short count spelled journal stops same =
     let at : IsAt (octets ++ 10 ∷ []) false good line (10 ∷ []) (without_return line) = record {
       begins = Begins-more octets (10 ∷ []) good line b;
@@ -206,8 +206,8 @@ Stopped-line stop lines octets good line draft rounds j k b none short count spe
     (stopped_at 1 stop lines (octets ++ 10 ∷ []) false good line (10 ∷ []) (without_return line) draft rounds j at count (omega arith) stops (record { spelled = spelled; journal = journal }))
 
 -- at the end of the source
-pub Tells-last : (stop : Stop) (lines : ℕ) (octets : List ℕ) (good : List (List ℕ)) (line : List ℕ) (draft : Draft) (rounds : List (List Event)) (j k : List Entry) → Begins octets good line → NoFeed line → length line ≤ most_octets → lines ≡ length good
-    → (line ≢ []) ⊎ (good ≡ []) → Spells j (texts good) draft rounds → IsJournal draft rounds j → StopsLine stop j lines line draft rounds → k ≡ j → Tells (founds.Stopped stop) octets true k
+pub Tells-last : (stop : Stop) (lines : ℕ) (octets : List ℕ) (good : List (List ℕ)) (line : List ℕ) (draft : Draft) (rounds : Rounds) (j k : List Entry) → Begins octets good line → NoFeed line → length line ≤ most_octets → lines ≡ length good
+    → (line ≢ []) ⊎ (good ≡ []) → Spells j (texts good) draft rounds → IsJournal draft rounds.run j → StopsLine stop j lines line draft rounds → k ≡ j → Tells (founds.Stopped stop) octets true k
 Tells-last stop lines octets good line draft rounds j k b none short count some spelled journal stops same =
     let at : IsAt octets true good line [] line = record {
       begins = subst (λ (w : List ℕ). Begins octets good w) (sym (append-nil line)) b;
@@ -221,52 +221,70 @@ Tells-last stop lines octets good line draft rounds j k b none short count some 
 -- ---- whole scripts
 
 -- the last line has its line feed
-pub IsWhole-closed : (octets : List ℕ) (good : List (List ℕ)) (line : List ℕ) (draft : Draft) (rounds : List (List Event)) (j : List Entry) → Begins octets good line → line ≡ [] → 0 < length good → Spells j (texts good) draft rounds → IsJournal draft rounds j
-    → IsWhole octets true j
-IsWhole-closed octets good line draft rounds j b closed some spelled journal = record {
-  script = texts good;
-  draft = draft;
-  rounds = rounds;
-  is = inl (record {
-    lines = good;
-    begins = subst (λ (w : List ℕ). Begins octets good w) closed b;
-    some = λ none. omega (arith, some, ap (λ (g : List (List ℕ)). length g) none);
-    says = refl;
-  });
-  end = refl;
-  explains = record { spelled = spelled; journal = journal };
-}
+pub IsScript-closed : (octets : List ℕ) (good : List (List ℕ)) (line : List ℕ) → Begins octets good line → line ≡ [] → 0 < length good → IsScript octets (texts good)
+IsScript-closed octets good line b closed some = inl (record {
+  lines = good;
+  begins = subst (λ (w : List ℕ). Begins octets good w) closed b;
+  some = λ none. omega (arith, some, ap (λ (g : List (List ℕ)). length g) none);
+  says = refl;
+})
 
 -- an empty source says nothing that can be taken
-nothing_first : (j : List Entry) (good : List (List ℕ)) (before draft : Draft) (earlier rounds : List (List Event)) → good ≡ [] → Spells j (texts good) before earlier → Says j [] before earlier draft rounds → ⊥
+nothing_first : (j : List Entry) (good : List (List ℕ)) (before draft : Draft) (earlier rounds : Rounds) → good ≡ [] → Spells j (texts good) before earlier → Says j [] before earlier draft rounds → ⊥
 unfolding Spells line_says
 nothing_first j [] before draft earlier rounds none spelled says =
-    let first = subst (λ (x : Draft). line_says x (length earlier) (sizes_before (length earlier) j) [] ≡ Ok says.said) spelled.0 says.says in cc
+    let first = subst (λ (x : Draft). line_says x (length earlier.run) (sizes_before (length earlier.run) j) [] ≡ Ok says.said) spelled.0 says.says in cc
 nothing_first j (line ∷ good) before draft earlier rounds none spelled says = cc
 
 -- or lacks it
-pub IsWhole-open : (octets : List ℕ) (good : List (List ℕ)) (line : List ℕ) (before draft : Draft) (earlier rounds : List (List Event)) (j : List Entry) → Begins octets good line → NoFeed line → length line ≤ most_octets → length good < most_lines
-    → (line ≢ []) ⊎ (good ≡ []) → Spells j (texts good) before earlier → Says j line before earlier draft rounds → IsJournal draft rounds j → IsWhole octets true j
-IsWhole-open octets good line before draft earlier rounds j b none short few some spelled says journal = record {
-  script = line ∷ texts good;
+pub IsScript-open : (octets : List ℕ) (good : List (List ℕ)) (line : List ℕ) (before draft : Draft) (earlier rounds : Rounds) (j : List Entry) → Begins octets good line → NoFeed line → length line ≤ most_octets → length good < most_lines
+    → (line ≢ []) ⊎ (good ≡ []) → Spells j (texts good) before earlier → Says j line before earlier draft rounds → IsScript octets (line ∷ texts good)
+IsScript-open octets good line before draft earlier rounds j b none short few some spelled says = inr (record {
+  lines = good;
+  last = line;
+  begins = b;
+  some = elim some [
+    | inl some_octets ↦ some_octets
+    | inr first ↦ λ empty. nothing_first j good before draft earlier rounds first spelled (subst (λ (w : List ℕ). Says j w before earlier draft rounds) empty says)
+  ];
+  line = none;
+  short = short;
+  few = few;
+  says = refl;
+})
+
+-- there are as many texts as lines
+pub length-texts : (lines : List (List ℕ)) → length (texts lines) ≡ length lines
+length-texts [] = refl
+length-texts (line ∷ lines) = ap suc (length-texts lines)
+
+-- the end of the source behind a whole script
+pub Tells-end : (found : Found) (lines : ℕ) (octets : List ℕ) (script : List (List ℕ)) (draft : Draft) (rounds : Rounds) (j : List Entry) → EndsAt found lines draft → lines ≡ length script → IsScript octets script → Spells j script draft rounds
+    → IsJournal draft rounds.run j → Tells found octets true j
+Tells-end founds.Whole lines octets script draft rounds j end count is spelled journal = record {
+  script = script;
   draft = draft;
   rounds = rounds;
-  is = inr (record {
-    lines = good;
-    last = line;
-    begins = b;
-    some = elim some [
-      | inl some_octets ↦ some_octets
-      | inr first ↦ λ empty. nothing_first j good before draft earlier rounds first spelled (subst (λ (w : List ℕ). Says j w before earlier draft rounds) empty says)
-    ];
-    line = none;
-    short = short;
-    few = few;
-    says = refl;
-  });
+  is = is;
   end = refl;
-  explains = record { spelled = Spells-line j line (texts good) before draft earlier rounds spelled says; journal = journal };
+  closed = end;
+  explains = record { spelled = spelled; journal = journal };
 }
+Tells-end (founds.Unended number refusal) lines octets script draft rounds j end count is spelled journal = record {
+  script = script;
+  draft = draft;
+  rounds = rounds;
+  is = is;
+  end = refl;
+  fault_is = end.1;
+  number_is = end.0 ∙ ap suc count;
+  explains = record { spelled = spelled; journal = journal };
+}
+Tells-end (founds.Stopped stop) lines octets script draft rounds j end count is spelled journal = absurd end
+Tells-end founds.ReadFault lines octets script draft rounds j end count is spelled journal = absurd end
+
+pub not_read : (found : Found) (lines : ℕ) (draft : Draft) → EndsAt found lines draft → found ≢ founds.ReadFault
+not_read found lines draft end fault = subst (λ (f : Found). EndsAt f lines draft) fault end
 
 -- the octets around the one at a place
 around : (before octets : List ℕ) (i octet : ℕ) → i < length octets → get_or octets i 0 ≡ octet → ((before ++ take i octets) ++ octet ∷ []) ++ drop (i + 1) octets ≡ before ++ octets
@@ -289,7 +307,7 @@ nothing_yet j empty = record {
   line = [];
   after = [];
   draft = AtVersion;
-  rounds = [];
+  rounds = no_rounds;
   begins = record { whole = refl; each = tt };
   open_line = tt;
   short = omega arith;

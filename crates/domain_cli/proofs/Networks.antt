@@ -12,7 +12,7 @@ use Rattle.run_journal.specs.Listing.{with_ap, with_sta}
 use Rattle.frame_script.specs.Script.{is_single}
 use Rattle.frame_script.specs.Headers.{IsNetwork, CanListAp, CanListSta}
 
-all_push : {A : Type 0} (P : A → Type 0) (xs : List A) (x : A) → AllByRecursion P xs → P x → AllByRecursion P (xs ++ x ∷ [])
+pub all_push : {A : Type 0} (P : A → Type 0) (xs : List A) (x : A) → AllByRecursion P xs → P x → AllByRecursion P (xs ++ x ∷ [])
 all_push P [] x all here = (here, tt)
 all_push P (y ∷ xs) x all here = (all.0, all_push P xs x all.1 here)
 

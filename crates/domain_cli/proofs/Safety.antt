@@ -1,4 +1,4 @@
--- The journal of a run is safe: its network has suite 2 or 6, so nothing that the safety of fast transition asks for is asked of it.
+-- The journal of a run is safe.
 use Rattle.std.proofs.Common.{◌≡◌, ℕ, Bool, List, [], subst, sym}
 use Rattle.domain_base.specs.declared.names.Akm.TheVariants.{FtPsk}
 use Rattle.run_journal.specs.declared.domain.Domain.{Domain}
@@ -9,12 +9,12 @@ use Rattle.run_journal.specs.Safe.{InstalledOnce, Joined, Once, Safe, Sourced, u
 use Rattle.domain_rules.specs.Network.{InForm, IsNamed}
 use Rattle.domain_rules.specs.Explained.{Explained}
 use Rattle.domain_rules.specs.HeldRight.{HeldRight}
-use Rattle.journal_safety.specs.InOctets.{InOctets}
-use Rattle.frame_script.specs.Script.{Draft, AtVersion, AtSeed, AtSsid, AtPsk, AtAkm, AtNodes}
+use Rattle.domain_rules.specs.InOctets.{InOctets}
+use Rattle.frame_script.specs.Script.{Draft, AtVersion, AtSeed, AtSsid, AtPsk, AtAkm, AtMdid, AtNodes, InRound}
 use Rattle.domain_cli.specs.declared.status.Found.{Found}
 use Rattle.domain_cli.specs.declared.status.Found.TheVariants as found
 use Rattle.domain_cli.specs.declared.status.Stop.TheVariants as stop
-use Rattle.domain_cli.specs.Script.{IsJournal}
+use Rattle.domain_cli.specs.Script.{IsRun, IsJournal}
 use Rattle.domain_cli.specs.Story.{Tells}
 
 -- what the laws of safety say of one part of it
@@ -40,27 +40,33 @@ named d form = record { aps = form.aps; stas = form.stas }
 empty_safe : (j : List Entry) → j ≡ [] → Safe j
 empty_safe j none = subst Safe (sym none) none_safe
 
-told_safe : (laws : Laws) (draft : Draft) (rounds : List (List Event)) (j : List Entry) → IsJournal draft rounds j → Fresh j → NoCollision j → Unforged j → Safe j
-told_safe laws (AtNodes d) rounds j told fresh apart unforged =
-    let octets : d.akm ≡ FtPsk → InOctets d = λ same. absurd (told.1 same) in
-    let held : d.akm ≡ FtPsk → HeldRight d j = λ same. absurd (told.1 same) in
-    let is = named d told.0 in
+run_safely : (laws : Laws) (d : Domain) (run : List (List Event)) (j : List Entry) → IsRun d run j → Fresh j → NoCollision j → Unforged j → Safe j
+run_safely laws d run j told fresh apart unforged =
+    let octets : d.akm ≡ FtPsk → InOctets d = λ same. told.octets in
+    let held : d.akm ≡ FtPsk → HeldRight d j = λ same. told.held in
+    let is = named d told.form in
     record {
-      installed_once = laws.installs d rounds j octets held is told.2 fresh apart unforged;
-      used_once = laws.uses d rounds j octets held is told.2 fresh apart unforged;
-      joined = laws.joins d rounds j octets held is told.2 fresh apart unforged;
-      handed_up_once = laws.ups d rounds j octets held is told.2 fresh apart unforged;
-      sourced = laws.sourced d rounds j octets held is told.2 fresh apart unforged;
+      installed_once = laws.installs d run j octets held is told.explained fresh apart unforged;
+      used_once = laws.uses d run j octets held is told.explained fresh apart unforged;
+      joined = laws.joins d run j octets held is told.explained fresh apart unforged;
+      handed_up_once = laws.ups d run j octets held is told.explained fresh apart unforged;
+      sourced = laws.sourced d run j octets held is told.explained fresh apart unforged;
     }
-told_safe laws AtVersion rounds j told fresh apart unforged = empty_safe j told.1
-told_safe laws AtSeed rounds j told fresh apart unforged = empty_safe j told.1
-told_safe laws (AtSsid seed) rounds j told fresh apart unforged = empty_safe j told.1
-told_safe laws (AtPsk seed ssid) rounds j told fresh apart unforged = empty_safe j told.1
-told_safe laws (AtAkm seed ssid psk) rounds j told fresh apart unforged = empty_safe j told.1
+
+told_safe : (laws : Laws) (draft : Draft) (run : List (List Event)) (j : List Entry) → IsJournal draft run j → Fresh j → NoCollision j → Unforged j → Safe j
+told_safe laws (AtNodes d) run j told fresh apart unforged = run_safely laws d run j told fresh apart unforged
+told_safe laws (InRound d count) run j told fresh apart unforged = run_safely laws d run j told fresh apart unforged
+told_safe laws AtVersion run j told fresh apart unforged = empty_safe j told.1
+told_safe laws AtSeed run j told fresh apart unforged = empty_safe j told.1
+told_safe laws (AtSsid seed) run j told fresh apart unforged = empty_safe j told.1
+told_safe laws (AtPsk seed ssid) run j told fresh apart unforged = empty_safe j told.1
+told_safe laws (AtAkm seed ssid psk) run j told fresh apart unforged = empty_safe j told.1
+told_safe laws (AtMdid seed ssid psk) run j told fresh apart unforged = empty_safe j told.1
 
 -- however the reading ended
 pub run_safe : (laws : Laws) (f : Found) (octets : List ℕ) (ended : Bool) (j : List Entry) → Tells f octets ended j → Fresh j → NoCollision j → Unforged j → Safe j
-run_safe laws found.Whole octets ended j t = told_safe laws t.draft t.rounds j t.explains.journal
-run_safe laws (found.Stopped (stop.Refused number refusal form)) octets ended j t = told_safe laws t.draft t.rounds j t.explains.journal
-run_safe laws (found.Stopped stop.NoMemory) octets ended j t = told_safe laws t.draft t.rounds j t.explains.journal
-run_safe laws found.ReadFault octets ended j t = told_safe laws t.draft t.rounds j t.explains.journal
+run_safe laws found.Whole octets ended j t = told_safe laws t.draft t.rounds.run j t.explains.journal
+run_safe laws (found.Stopped (stop.Refused number refusal form)) octets ended j t = told_safe laws t.draft t.rounds.run j t.explains.journal
+run_safe laws (found.Stopped stop.NoMemory) octets ended j t = told_safe laws t.draft t.rounds.run j t.explains.journal
+run_safe laws (found.Unended number refusal) octets ended j t = told_safe laws t.draft t.rounds.run j t.explains.journal
+run_safe laws found.ReadFault octets ended j t = told_safe laws t.draft t.rounds.run j t.explains.journal

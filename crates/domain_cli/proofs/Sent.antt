@@ -1,20 +1,19 @@
 -- The frames that a journal has sent in the rounds up to some number.
-use Rattle.std.proofs.Common.{◌≡◌, ℕ, ◌<◌, ◌≤◌, Bool, true, false, cond, nat_le, List, [], ◌∷◌, ◌++◌, length, Option, None, Some, Ok, refl, sym, ap, subst, ◌∙◌, arith}
+use Rattle.std.proofs.Common.{◌≡◌, ℕ, ◌<◌, ◌≤◌, Bool, true, false, if◌then◌else◌, cond, nat_le, List, [], ◌∷◌, ◌++◌, length, Option, None, Some, Ok, refl, sym, ap, subst, ◌∙◌, arith}
 use Rattle.std.specs.List.{AllByRecursion}
 use Rattle.std.proofs.lemmas.Bool.{le-leb, lt-leb}
 use Rattle.std.proofs.lemmas.List.{append-nil}
 use Rattle.domain_base.specs.declared.names.Node.{Node}
 use Rattle.run_journal.specs.declared.domain.Domain.{Domain}
-use Rattle.run_journal.specs.declared.domain.Event.{Event}
 use Rattle.run_journal.specs.declared.acts.Act.{Act}
 use Rattle.run_journal.specs.declared.acts.Entry.{Entry}
 use Rattle.domain_rules.specs.Explained.{number_of, push}
 use Rattle.domain_world.specs.State.{State}
 use Rattle.domain_world.specs.Owning.{IsPast}
-use Rattle.frame_script.specs.Script.{Draft, line_says, Said, Goes, ListsAp, ListsSta, Asks}
+use Rattle.frame_script.specs.Script.{Draft, line_says, is_within, Said, Goes, ListsAp, ListsSta, Asks, BeginsRound, EndsRound}
 use Rattle.frame_script.specs.Headers.{Reading, size_sent, sizes_of}
-use Rattle.domain_cli.specs.Script.{sizes_before, rounds_with, Says, Spells}
-use Rattle.domain_cli.specs.States.{IsWorldOf, HasSame}
+use Rattle.domain_cli.specs.Script.{Rounds, sizes_before, with_round, with_waiting, rounds_with, Says, Spells}
+use Rattle.domain_cli.specs.States.{Waiting, IsWorldOf, HasSame}
 
 -- ---- all frames
 
@@ -31,10 +30,10 @@ unfolding sizes_before sizes_of
 sizes_none rounds = refl
 
 -- before a line: those of the rounds so far
-pub sizes_so_far : (world : Option State) (r : Reading) (j : List Entry) (rounds : ℕ) → IsWorldOf world r j → r.rounds ≡ rounds → sizes_before rounds j ≡ sizes_of j
-sizes_so_far None r j rounds is count = subst (λ (x : List Entry). sizes_before rounds x ≡ sizes_of x) (sym is.no_entries) (sizes_none rounds)
-sizes_so_far (Some w) r j rounds is count =
-    subst (λ (n : ℕ). sizes_before n j ≡ sizes_of j) (sym is.rounds ∙ count) (sizes_all w.domain w.rounds j is.own.past)
+pub sizes_so_far : (world : Option State) (waiting : Waiting) (r : Reading) (j : List Entry) (rounds : ℕ) → IsWorldOf world waiting r j → r.rounds ≡ rounds → sizes_before rounds j ≡ sizes_of j
+sizes_so_far None waiting r j rounds is count = subst (λ (x : List Entry). sizes_before rounds x ≡ sizes_of x) (sym is.no_entries) (sizes_none rounds)
+sizes_so_far (Some w) waiting r j rounds is count =
+    subst (λ (n : ℕ). sizes_before n j ≡ sizes_of j) (sym is.rounds ∙ count) (sizes_all w.domain w.rounds j is.own.placed.past)
 
 -- ---- a journal that grows
 
@@ -72,24 +71,31 @@ same-quiet rounds round n (act ∷ g) past quiet =
 
 -- ---- what the lines told stays told
 
-no_fewer : (earlier : List (List Event)) (said : Said) → length earlier ≤ length (rounds_with earlier said)
-no_fewer earlier (Goes next) = omega arith
-no_fewer earlier (ListsAp address id) = omega arith
-no_fewer earlier (ListsSta address) = omega arith
-no_fewer earlier (Asks event) = omega arith
+fewer_by : (b : Bool) (n : ℕ) (x y : Rounds) → n ≤ length x.run → n ≤ length y.run → n ≤ length (if b then x else y).run
+fewer_by true n x y p q = p
+fewer_by false n x y p q = q
 
-Says-more : (j k : List Entry) (line : List ℕ) (before draft : Draft) (earlier rounds : List (List Event)) → HasSame (length earlier) j k → Says j line before earlier draft rounds → Says k line before earlier draft rounds
+no_fewer : (before : Draft) (earlier : Rounds) (said : Said) → length earlier.run ≤ length (rounds_with before earlier said).run
+no_fewer before earlier (Goes next) = omega arith
+no_fewer before earlier (ListsAp address id) = omega arith
+no_fewer before earlier (ListsSta address) = omega arith
+no_fewer before earlier (Asks event) =
+    fewer_by (is_within before) (length earlier.run) (with_waiting earlier (earlier.waiting ++ event ∷ [])) (with_round earlier (event ∷ [])) (omega arith) (omega arith)
+no_fewer before earlier BeginsRound = omega arith
+no_fewer before earlier EndsRound = omega arith
+
+Says-more : (j k : List Entry) (line : List ℕ) (before draft : Draft) (earlier rounds : Rounds) → HasSame (length earlier.run) j k → Says j line before earlier draft rounds → Says k line before earlier draft rounds
 Says-more j k line before draft earlier rounds same s = record {
   said = s.said;
-  says = subst (λ (sizes : List ℕ). line_says before (length earlier) sizes line ≡ Ok s.said) (sym (same (length earlier) (omega arith))) s.says;
+  says = subst (λ (sizes : List ℕ). line_says before (length earlier.run) sizes line ≡ Ok s.said) (sym (same (length earlier.run) (omega arith))) s.says;
   draft_is = s.draft_is;
   rounds_are = s.rounds_are;
 }
 
-pub Spells-more : (j k : List Entry) (lines : List (List ℕ)) (draft : Draft) (rounds : List (List Event)) → HasSame (length rounds) j k → Spells j lines draft rounds → Spells k lines draft rounds
+pub Spells-more : (j k : List Entry) (lines : List (List ℕ)) (draft : Draft) (rounds : Rounds) → HasSame (length rounds.run) j k → Spells j lines draft rounds → Spells k lines draft rounds
 unfolding Spells
 Spells-more j k [] draft rounds same told = told
 Spells-more j k (line ∷ lines) draft rounds same (before, (earlier, (told, says))) =
-    let few : length earlier ≤ length rounds = omega (arith, no_fewer earlier says.said, ap (λ (x : List (List Event)). length x) says.rounds_are) in
-    let so_far : HasSame (length earlier) j k = λ m low. same m (omega (arith, low, few)) in
+    let few : length earlier.run ≤ length rounds.run = omega (arith, no_fewer before earlier says.said, ap (λ (x : Rounds). length x.run) says.rounds_are) in
+    let so_far : HasSame (length earlier.run) j k = λ m low. same m (omega (arith, low, few)) in
     (before, (earlier, (Spells-more j k lines before earlier so_far told, Says-more j k line before draft earlier rounds so_far says)))

@@ -116,16 +116,16 @@ receiver d (Sta k) (One (Ap i)) is = is
 receiver d (Sta k) (One (Sta i)) is = absurd is
 
 number_low : (w : State) (j : List Entry) (number size : ℕ) → Owns w j → IsSized (sizes_of j) number size → number ≤ length w.frames
-number_low w j number size own s = omega (arith, s.sent, sizes_count j, own.count)
+number_low w j number size own s = omega (arith, s.sent, sizes_count j, own.placed.count)
 
 pub event_in : (w : State) (j : List Entry) (e : Event) → Owns w j → CanHappen w.domain (sizes_of j) e → IsEventIn w.domain (length w.frames) j e
 event_in w j (Connect s a) own can = can
 event_in w j (Roam s a) own can = can
 event_in w j (Deliver number to) own can = (can.1.some, number_low w j number 0 own can.1, listed w.domain to can.0)
 event_in w j (Alter number place mask to) own can =
-    (can.1.some, number_low w j number (suc place) own can.1, listed w.domain to can.0, sized_octets j number (suc place) own.numbered can.1)
+    (can.1.some, number_low w j number (suc place) own can.1, listed w.domain to can.0, sized_octets j number (suc place) own.placed.numbered can.1)
 event_in w j (Cut number size to) own can =
-    (can.1.some, number_low w j number size own can.1, listed w.domain to can.0, sized_octets j number size own.numbered can.1)
+    (can.1.some, number_low w j number size own can.1, listed w.domain to can.0, sized_octets j number size own.placed.numbered can.1)
 event_in w j (Inject to octets) own can = listed w.domain to can
 event_in w j (Retry a s) own can = can
 event_in w j (Rekey a) own can = can

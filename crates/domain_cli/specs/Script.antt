@@ -2,12 +2,14 @@
 use Rattle.std.specs.Prelude.{◌≡◌, ◌≢◌, ◌⊎◌, ℕ, ◌<◌, ◌≤◌, ◌-◌, ◌==◌, ◌&&◌, nat_lt, nat_le, cond, if◌then◌else◌, Bool, true, List, [], ◌∷◌, ◌++◌, length, take, map, slice_index, Ok, Err}
 use Rattle.std.proofs.Common.{inl, inr}
 use Rattle.std.specs.List.{AllByRecursion}
-use Rattle.domain_base.specs.declared.names.Akm.TheVariants.{FtPsk}
+use Rattle.run_journal.specs.declared.domain.Domain.{Domain}
 use Rattle.run_journal.specs.declared.domain.Event.{Event}
 use Rattle.run_journal.specs.declared.acts.Entry.{Entry}
 use Rattle.domain_rules.specs.Network.{InForm}
 use Rattle.domain_rules.specs.Explained.{Explained}
-use Rattle.frame_script.specs.Script.{Fault, Past, Draft, AtVersion, AtNodes, Said, Asks, line_says, said_after}
+use Rattle.domain_rules.specs.HeldRight.{HeldRight}
+use Rattle.domain_rules.specs.InOctets.{InOctets}
+use Rattle.frame_script.specs.Script.{Fault, Past, Draft, AtVersion, AtNodes, InRound, Said, Asks, EndsRound, is_within, line_says, said_after}
 use Rattle.frame_script.specs.Headers.{size_sent}
 use Rattle.frame_script.specs.declared.forms.Form.{Form}
 use Rattle.frame_script.specs.Forms.{form_of}
@@ -15,38 +17,65 @@ use Rattle.frame_script.specs.Forms.{form_of}
 -- what the lines so far have told: what the script has said, from the end of its header on the network with the nodes listed
 -- so far, together with the rounds asked for so far
 
--- the network is in form, of suite 2 or 6, and the rounds explain this journal; before the header is whole there are none
+-- the rounds that are to be run, and the events of the round that is open, which are not run before its end. The events of a
+-- round are as their lines stand, the first first
+pub record Rounds : Type 0 where
+  pub run : List (List Event)
+  pub waiting : List Event
+
+abbrev pub no_rounds : Rounds
+no_rounds = record { run = []; waiting = [] }
+
+-- the journal of these rounds: the network is in form and of octets, the definitions explain the journal, and key holders
+-- answered rightly
+pub record IsRun (d : Domain) (rounds : List (List Event)) (j : List Entry) : Type 0 where
+  pub form : InForm d
+  pub octets : InOctets d
+  pub explained : Explained d rounds j
+  pub held : HeldRight d j
+
+-- what was run is the rounds that have ended; before the header is whole there are none
 abbrev pub IsJournal : Draft → List (List Event) → List Entry → Type 0
-IsJournal (AtNodes d) rounds j = InForm d × (d.akm ≢ FtPsk) × Explained d rounds j
-IsJournal draft rounds j = (rounds ≡ []) × (j ≡ [])
+IsJournal (AtNodes d) run j = IsRun d run j
+IsJournal (InRound d count) run j = IsRun d run j
+IsJournal draft run j = (run ≡ []) × (j ≡ [])
 
 -- the sizes of the frames that the journal j of the run has sent in the rounds up to that number, in order
 unfoldable pub sizes_before : ℕ → List Entry → List ℕ
 sizes_before rounds [] = []
 sizes_before rounds (e ∷ past) = cond (nat_le e.round rounds) (sizes_before rounds past ++ size_sent e.act) (sizes_before rounds past)
 
--- the rounds with what a line asks for: an event is a round by itself
-abbrev pub rounds_with : List (List Event) → Said → List (List Event)
-rounds_with rounds (Asks event) = (event ∷ []) ∷ rounds
-rounds_with rounds said = rounds
+-- the rounds with what a line asks for: an event is a round by itself, but in a round it waits; what waits is one round, run
+-- at its end, whatever events it has
+abbrev pub with_round : Rounds → List Event → Rounds
+with_round rounds events = record { run = events ∷ rounds.run; waiting = rounds.waiting }
+
+abbrev pub with_waiting : Rounds → List Event → Rounds
+with_waiting rounds events = record { run = rounds.run; waiting = events }
+
+abbrev pub rounds_with : Draft → Rounds → Said → Rounds
+rounds_with draft rounds (Asks event) =
+    if is_within draft then with_waiting rounds (rounds.waiting ++ event ∷ []) else with_round rounds (event ∷ [])
+rounds_with draft rounds EndsRound = with_waiting (with_round rounds rounds.waiting) []
+rounds_with draft rounds said = rounds
 
 -- what one more line tells after what the lines before it told: the frames that it may name are those that j has sent in the
--- rounds before it, whatever j says of later ones
-pub record Says (j : List Entry) (line : List ℕ) (before : Draft) (earlier : List (List Event)) (draft : Draft) (rounds : List (List Event)) : Type 0 where
+-- rounds before it, and before the round that is open, whatever j says of later ones
+pub record Says (j : List Entry) (line : List ℕ) (before : Draft) (earlier : Rounds) (draft : Draft) (rounds : Rounds) : Type 0 where
   pub said : Said
-  pub says : line_says before (length earlier) (sizes_before (length earlier) j) line ≡ Ok said
+  pub says : line_says before (length earlier.run) (sizes_before (length earlier.run) j) line ≡ Ok said
   pub draft_is : draft ≡ said_after before said
-  pub rounds_are : rounds ≡ rounds_with earlier said
+  pub rounds_are : rounds ≡ rounds_with before earlier said
 
 -- the line is refused there, for that fault
-pub record Refuses (j : List Entry) (line : List ℕ) (draft : Draft) (rounds : List (List Event)) (fault : Fault) : Type 0 where
-  pub says : line_says draft (length rounds) (sizes_before (length rounds) j) line ≡ Err fault
+pub record Refuses (j : List Entry) (line : List ℕ) (draft : Draft) (rounds : Rounds) (fault : Fault) : Type 0 where
+  pub says : line_says draft (length rounds.run) (sizes_before (length rounds.run) j) line ≡ Err fault
 
 -- the lines, the last first, tell this: one journal judges them all
-unfoldable pub Spells : List Entry → List (List ℕ) → Draft → List (List Event) → Type 0
-Spells j [] draft rounds = (draft ≡ AtVersion) × (rounds ≡ [])
+unfoldable pub Spells : List Entry → List (List ℕ) → Draft → Rounds → Type 0
+Spells j [] draft rounds = (draft ≡ AtVersion) × (rounds ≡ no_rounds)
 Spells j (line ∷ lines) draft rounds =
-    (before : Draft) × ((earlier : List (List Event)) × (Spells j lines before earlier × Says j line before earlier draft rounds))
+    (before : Draft) × ((earlier : Rounds) × (Spells j lines before earlier × Says j line before earlier draft rounds))
 
 -- ---- lines in octets
 
@@ -115,9 +144,9 @@ IsScript octets said = IsClosed octets said ⊎ IsOpen octets said
 pub record Point : Type 0 where
   pub journal : List Entry
   pub draft : Draft
-  pub rounds : List (List Event)
+  pub rounds : Rounds
 
-abbrev pub point_of : List Entry → Draft → List (List Event) → Point
+abbrev pub point_of : List Entry → Draft → Rounds → Point
 point_of j draft rounds = record { journal = j; draft = draft; rounds = rounds }
 
 -- the line behind the good ones is at its end, and says this: before a line feed, or at the end of the source, where an empty
@@ -136,9 +165,9 @@ pub record IsWrong (ended : Bool) (good : List (List ℕ)) (line after : List �
 
 -- the form that it should have had, by its words; with octets behind the limit it is not at its end
 abbrev pub HasForm : {A : Type 0} {ended : Bool} {good : List (List ℕ)} {line after : List ℕ} {p : Point} {fault : Fault}
-    → Form → Draft → List (List Event) → A ⊎ IsWrong ended good line after p fault → Type 0
+    → Form → Draft → Rounds → A ⊎ IsWrong ended good line after p fault → Type 0
 HasForm form draft rounds (inl long) = Unit {0}
-HasForm form draft rounds (inr w) = form ≡ form_of draft (length rounds) w.text
+HasForm form draft rounds (inr w) = form ≡ form_of draft (length rounds.run) w.text
 
 -- the line behind the good ones, which stands there, is the first that is wrong
 pub record HasFault (octets : List ℕ) (ended : Bool) (good : List (List ℕ)) (p : Point) (fault : Fault) : Type 0 where

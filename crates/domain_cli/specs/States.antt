@@ -1,53 +1,86 @@
 -- What the state of a script stands for, and what a line does to it.
-use Rattle.std.specs.Prelude.{◌≡◌, ◌≢◌, ℕ, suc, ◌+◌, ◌^◌, ◌<◌, ◌≤◌, List, [], length, Option, None, Some}
+use Rattle.std.specs.Prelude.{◌≡◌, ℕ, suc, ◌+◌, ◌^◌, ◌<◌, ◌≤◌, ◌++◌, List, [], ◌∷◌, length, Option, None, Some}
+use Rattle.std.specs.Global.{Global}
+use Rattle.std.specs.declared.vec.Vec.{Vec}
 use Rattle.run_journal.specs.declared.domain.Domain.{Domain}
 use Rattle.run_journal.specs.declared.domain.Event.{Event}
 use Rattle.run_journal.specs.declared.acts.Entry.{Entry}
 use Rattle.domain_rules.specs.Network.{InForm}
-use Rattle.domain_rules.specs.Explained.{Step, started}
+use Rattle.domain_rules.specs.Explained.{Step, Follows, started}
+use Rattle.domain_rules.specs.Rounds.{by_nodes}
 use Rattle.run_journal.specs.Listing.{with_ap, with_sta}
 use Rattle.domain_world.specs.State.{State}
-use Rattle.domain_world.specs.Owning.{Owns, IsEventIn}
-use Rattle.frame_script.specs.Script.{Draft, AtNodes}
-use Rattle.frame_script.specs.Headers.{Reading, HasSeen, IsNetwork}
+use Rattle.domain_world.specs.Owning.{Owns, IsEventIn, AreEventsIn}
+use Rattle.frame_script.specs.Script.{Draft, AtNodes, InRound}
+use Rattle.frame_script.specs.Headers.{Reading, HasSeen, IsNetwork, sizes_of}
 use Rattle.frame_script.specs.declared.reader.Step.{Step as Asked}
 use Rattle.frame_script.specs.declared.reader.Step.TheVariants as step
 use Rattle.frame_script.specs.declared.refusal.Untaken.{Untaken}
 use Rattle.frame_script.specs.declared.refusal.Untaken.TheVariants.{Refused, NoMemory}
 use Rattle.frame_script.specs.Refusals.{fault_of}
 use Rattle.domain_cli.specs.declared.state.ScriptState.{ScriptState}
-use Rattle.domain_cli.specs.Script.{IsJournal, sizes_before, Says, Refuses}
+use Rattle.domain_cli.specs.Script.{Rounds, IsJournal, sizes_before, Says, Refuses}
 
 -- ---- a state
 
+-- the events of the round that is open, if one is
+abbrev pub Waiting : Type 0
+Waiting = Option (Vec Event Global)
+
+abbrev pub events_of : Waiting → List Event
+events_of None = []
+events_of (Some events) = events.items
+
+-- the header is not whole
+abbrev pub IsHeader : Draft → Type 0
+IsHeader (AtNodes d) = ⊥
+IsHeader (InRound d count) = ⊥
+IsHeader draft = Unit {0}
+
+-- so many events wait, each of which can happen now, and the journal has not grown since their round began
+pub record Wait (w : State) (d : Domain) (count : ℕ) (events : List Event) (sizes : List ℕ) (j : List Entry) : Type 0 where
+  pub network : d ≡ w.domain
+  pub count_is : length events ≡ count
+  pub few : count ≤ 256
+  pub each : AreEventsIn w.domain (length w.frames) j events
+  pub same : sizes ≡ sizes_of j
+
+-- the script is on the network of the world, in a round with the events that it has so far
+abbrev pub IsAt : Draft → State → Waiting → List ℕ → List Entry → Type 0
+IsAt (AtNodes d) w waiting sizes j = (d ≡ w.domain) × (waiting ≡ None)
+IsAt (InRound d count) w (Some events) sizes j = Wait w d count events.items sizes j
+IsAt draft w waiting sizes j = ⊥
+
 -- the world is that of the lines so far, and the journal is its own; before any event nodes have started
-pub record IsOwn (w : State) (r : Reading) (j : List Entry) : Type 0 where
-  pub network : r.draft ≡ AtNodes w.domain
+pub record IsOwn (w : State) (waiting : Waiting) (r : Reading) (j : List Entry) : Type 0 where
+  pub at : IsAt r.draft w waiting r.sizes j
   pub rounds : r.rounds ≡ w.rounds
   pub own : Owns w j
   pub first : w.rounds ≡ 0 → j ≡ started w.domain (length w.domain.aps)
 
 -- or the header is not whole, and nothing was asked for
-pub record IsNone (r : Reading) (j : List Entry) : Type 0 where
-  pub due : (d : Domain) → r.draft ≢ AtNodes d
+pub record IsNone (waiting : Waiting) (r : Reading) (j : List Entry) : Type 0 where
+  pub due : IsHeader r.draft
   pub no_rounds : r.rounds ≡ 0
   pub no_entries : j ≡ []
+  pub no_events : waiting ≡ None
 
-abbrev pub IsWorldOf : Option State → Reading → List Entry → Type 0
-IsWorldOf None r j = IsNone r j
-IsWorldOf (Some w) r j = IsOwn w r j
+abbrev pub IsWorldOf : Option State → Waiting → Reading → List Entry → Type 0
+IsWorldOf None waiting r j = IsNone waiting r j
+IsWorldOf (Some w) waiting r j = IsOwn w waiting r j
 
 -- one more line can come after so many
 pub record IsReady (s : ScriptState) (lines : ℕ) (j : List Entry) : Type 0 where
   pub seen : HasSeen s.reader j
   pub few : s.reader.rounds ≤ lines
-  pub world_is : IsWorldOf s.world s.reader j
+  pub world_is : IsWorldOf s.world s.waiting s.reader j
 
 -- the state stands for what the lines so far told, and the journal is theirs
-pub record Stands (s : ScriptState) (draft : Draft) (rounds : List (List Event)) (j : List Entry) : Type 0 where
+pub record Stands (s : ScriptState) (draft : Draft) (rounds : Rounds) (j : List Entry) : Type 0 where
   pub draft_is : s.reader.draft ≡ draft
-  pub rounds_are : s.reader.rounds ≡ length rounds
-  pub journal : IsJournal draft rounds j
+  pub rounds_are : s.reader.rounds ≡ length rounds.run
+  pub events_are : events_of s.waiting ≡ rounds.waiting
+  pub journal : IsJournal draft rounds.run j
 
 -- ---- what a step does
 
@@ -69,13 +102,30 @@ IsBegun draft step.Network None = ⊥
 IsBegun draft step.Network (Some w) = IsNewWorld w draft
 IsBegun draft asked world = ⊥
 
+-- an event can be run, or in a round it waits
+abbrev pub CanAsk : State → Waiting → List Entry → Event → Type 0
+CanAsk w None j event = (w.rounds + 1 < 2 ^ 64) × IsEventIn w.domain (length w.frames) j event
+CanAsk w (Some events) j event = Unit {0}
+
+-- a round is open, and those that wait can be run
+pub record CanRunAll (w : State) (j : List Entry) (events : List Event) : Type 0 where
+  pub each : AreEventsIn w.domain (length w.frames) j events
+  pub few_events : length events ≤ 256
+  pub few : w.rounds + 1 < 2 ^ 64
+
+abbrev pub CanEnd : State → Waiting → List Entry → Type 0
+CanEnd w None j = ⊥
+CanEnd w (Some events) j = CanRunAll w j events.items
+
 -- behind the header, where no line tells of a network
-abbrev pub CanDo : State → List Entry → Asked → Type 0
-CanDo w j step.Nothing = Unit {0}
-CanDo w j (step.Ap address r0kh_id) = (w.rounds ≡ 0) × InForm (with_ap w.domain address r0kh_id)
-CanDo w j (step.Sta address) = (w.rounds ≡ 0) × InForm (with_sta w.domain address)
-CanDo w j (step.Event event) = (w.rounds + 1 < 2 ^ 64) × IsEventIn w.domain (length w.frames) j event
-CanDo w j step.Network = ⊥
+abbrev pub CanDo : State → Waiting → List Entry → Asked → Type 0
+CanDo w waiting j step.Nothing = Unit {0}
+CanDo w waiting j (step.Ap address r0kh_id) = (w.rounds ≡ 0) × InForm (with_ap w.domain address r0kh_id)
+CanDo w waiting j (step.Sta address) = (w.rounds ≡ 0) × InForm (with_sta w.domain address)
+CanDo w waiting j (step.Event event) = CanAsk w waiting j event
+CanDo w waiting j step.Round = Unit {0}
+CanDo w waiting j step.End = CanEnd w waiting j
+CanDo w waiting j step.Network = ⊥
 
 -- the world and the journal stay
 abbrev pub Stays : State → State → List Entry → List Entry → Type 0
@@ -87,28 +137,52 @@ pub record Lists (w v : State) (d : Domain) (j k : List Entry) : Type 0 where
   pub rounds : v.rounds ≡ w.rounds
   pub begins : j ≡ started w.domain (length w.domain.aps) → k ≡ started v.domain (length v.domain.aps)
 
--- one more round
+-- one more round, of one event
 pub record Runs (w v : State) (event : Event) (j k : List Entry) : Type 0 where
   pub network : v.domain ≡ w.domain
   pub rounds : v.rounds ≡ suc w.rounds
   pub goes : Step w.domain (suc w.rounds) event j k
 
-abbrev pub Did : State → State → List Entry → List Entry → Asked → Type 0
-Did w v j k step.Nothing = Stays w v j k
-Did w v j k (step.Ap address r0kh_id) = Lists w v (with_ap w.domain address r0kh_id) j k
-Did w v j k (step.Sta address) = Lists w v (with_sta w.domain address) j k × (k ≡ j)
-Did w v j k (step.Event event) = Runs w v event j k
-Did w v j k step.Network = ⊥
+-- or of these
+pub record RunsAll (w v : State) (events : List Event) (j k : List Entry) : Type 0 where
+  pub network : v.domain ≡ w.domain
+  pub rounds : v.rounds ≡ suc w.rounds
+  pub goes : Follows w.domain (suc w.rounds) (by_nodes events) j k
+
+-- an event was run, or in a round it waits behind those before
+abbrev pub DidAsk : State → State → Waiting → Waiting → Event → List Entry → List Entry → Type 0
+DidAsk w v None None event j k = Runs w v event j k
+DidAsk w v (Some old) (Some new) event j k = Stays w v j k × (new.items ≡ old.items ++ event ∷ [])
+DidAsk w v old new event j k = ⊥
+
+-- a round is open, without events
+abbrev pub HasBegun : Waiting → Type 0
+HasBegun None = ⊥
+HasBegun (Some events) = events.items ≡ []
+
+-- those that waited were run
+abbrev pub DidEnd : State → State → Waiting → Waiting → List Entry → List Entry → Type 0
+DidEnd w v (Some events) None j k = RunsAll w v events.items j k
+DidEnd w v old new j k = ⊥
+
+abbrev pub Did : State → State → Waiting → Waiting → List Entry → List Entry → Asked → Type 0
+Did w v old new j k step.Nothing = Stays w v j k × (new ≡ old)
+Did w v old new j k (step.Ap address r0kh_id) = Lists w v (with_ap w.domain address r0kh_id) j k × (new ≡ old)
+Did w v old new j k (step.Sta address) = Lists w v (with_sta w.domain address) j k × ((k ≡ j) × (new ≡ old))
+Did w v old new j k (step.Event event) = DidAsk w v old new event j k
+Did w v old new j k step.Round = Stays w v j k × HasBegun new
+Did w v old new j k step.End = DidEnd w v old new j k
+Did w v old new j k step.Network = ⊥
 
 -- either way
-abbrev pub CanRun : Option State → Draft → List Entry → Asked → Type 0
-CanRun None draft j asked = CanBegin draft asked
-CanRun (Some w) draft j asked = Owns w j × CanDo w j asked
+abbrev pub CanRun : Option State → Waiting → Draft → List Entry → Asked → Type 0
+CanRun None waiting draft j asked = CanBegin draft asked
+CanRun (Some w) waiting draft j asked = Owns w j × CanDo w waiting j asked
 
-abbrev pub DidRun : Option State → Option State → Draft → List Entry → List Entry → Asked → Type 0
-DidRun None world draft j k asked = IsBegun draft asked world × (k ≡ j)
-DidRun (Some w) None draft j k asked = ⊥
-DidRun (Some w) (Some v) draft j k asked = Owns v k × Did w v j k asked
+abbrev pub DidRun : Option State → Option State → Waiting → Waiting → Draft → List Entry → List Entry → Asked → Type 0
+DidRun None world old new draft j k asked = IsBegun draft asked world × ((k ≡ j) × (new ≡ old))
+DidRun (Some w) None old new draft j k asked = ⊥
+DidRun (Some w) (Some v) old new draft j k asked = Owns v k × Did w v old new j k asked
 
 -- ---- what a line does
 
@@ -117,15 +191,15 @@ abbrev pub HasSame : ℕ → List Entry → List Entry → Type 0
 HasSame rounds j k = (m : ℕ) → m ≤ rounds → sizes_before m k ≡ sizes_before m j
 
 -- it is taken after what the lines before it told
-pub record TellsLine (line : List ℕ) (before : Draft) (earlier : List (List Event)) (s : ScriptState) (j k : List Entry) : Type 0 where
+pub record TellsLine (line : List ℕ) (before : Draft) (earlier : Rounds) (s : ScriptState) (j k : List Entry) : Type 0 where
   pub draft : Draft
-  pub rounds : List (List Event)
-  pub same : HasSame (length earlier) j k
+  pub rounds : Rounds
+  pub same : HasSame (length earlier.run) j k
   pub says : Says k line before earlier draft rounds
   pub stands : Stands s draft rounds k
 
 -- or refused there, and then nothing is told by it
-abbrev pub RefusesLine : Untaken → ScriptState → List Entry → List ℕ → Draft → List (List Event) → Type 0
+abbrev pub RefusesLine : Untaken → ScriptState → List Entry → List ℕ → Draft → Rounds → Type 0
 RefusesLine (Refused refusal) s j line draft rounds =
-    Refuses j line draft rounds (fault_of refusal) × ((s.reader.draft ≡ draft) × (s.reader.rounds ≡ length rounds))
+    Refuses j line draft rounds (fault_of refusal) × ((s.reader.draft ≡ draft) × (s.reader.rounds ≡ length rounds.run))
 RefusesLine NoMemory s j line draft rounds = Unit {0}

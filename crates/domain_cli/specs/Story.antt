@@ -1,12 +1,12 @@
 -- What a whole run did: the journal by the octets read, and the octets written by the journal.
-use Rattle.std.specs.Prelude.{◌≡◌, ◌≤◌, ℕ, suc, List, Bool, true, Option, length, ◌++◌}
+use Rattle.std.specs.Prelude.{◌≡◌, ◌≤◌, ℕ, suc, List, Bool, true, Option, None, Some, length, ◌++◌}
 use Rattle.std.specs.Io.KnownBytes.{Consumes, IsAtEnd, Appends}
 use Rattle.domain_base.specs.Causes.{AppendsPart}
-use Rattle.run_journal.specs.declared.domain.Event.{Event}
 use Rattle.run_journal.specs.declared.acts.Entry.{Entry}
 use Rattle.run_journal.specs.Report.{lines, IsReport}
-use Rattle.frame_script.specs.Script.{Draft, Fault}
+use Rattle.frame_script.specs.Script.{Draft, Fault, end_fault}
 use Rattle.frame_script.specs.declared.forms.Form.{Form}
+use Rattle.frame_script.specs.declared.forms.Form.TheVariants.{End}
 use Rattle.frame_script.specs.declared.reader.LineFault.{LineFault}
 use Rattle.frame_script.specs.declared.reader.LineFault.TheVariants as numbered
 use Rattle.frame_script.specs.Refusals.{answer_of, fault_of}
@@ -16,20 +16,34 @@ use Rattle.domain_cli.specs.declared.status.Stop.{Stop}
 use Rattle.domain_cli.specs.declared.status.Stop.TheVariants as stop
 use Rattle.domain_cli.specs.declared.status.Status.{Status}
 use Rattle.domain_cli.specs.declared.status.Status.TheVariants.{Done, Usage, Script, Limit, ReadFault, WriteFault, NoMemory}
-use Rattle.domain_cli.specs.Script.{Spells, IsJournal, NoFeed, Begins, IsScript, HasFault, HasForm, point_of, most_octets, texts}
+use Rattle.domain_cli.specs.Script.{Rounds, Spells, IsJournal, NoFeed, Begins, IsScript, HasFault, HasForm, point_of, most_octets, texts}
 
--- the lines tell these rounds, by the journal, and the journal is theirs
-pub record Explains (lines : List (List ℕ)) (draft : Draft) (rounds : List (List Event)) (j : List Entry) : Type 0 where
+-- the lines tell these rounds, by the journal, and the journal is that of the rounds that are to be run: of a round that is
+-- open nothing was run
+pub record Explains (lines : List (List ℕ)) (draft : Draft) (rounds : Rounds) (j : List Entry) : Type 0 where
   pub spelled : Spells j lines draft rounds
-  pub journal : IsJournal draft rounds j
+  pub journal : IsJournal draft rounds.run j
 
--- the whole script was read, and told the journal
+-- the whole script was read, may end there, and told the journal
 pub record IsWhole (octets : List ℕ) (ended : Bool) (j : List Entry) : Type 0 where
   pub script : List (List ℕ)
   pub draft : Draft
-  pub rounds : List (List Event)
+  pub rounds : Rounds
   pub is : IsScript octets script
   pub end : ended ≡ true
+  pub closed : end_fault draft ≡ None
+  pub explains : Explains script draft rounds j
+
+-- the whole script was read, but may not end there, for that fault, which stands at the line behind its last one; its lines told
+-- the journal
+pub record IsUnended (fault : Fault) (number : ℕ) (octets : List ℕ) (ended : Bool) (j : List Entry) : Type 0 where
+  pub script : List (List ℕ)
+  pub draft : Draft
+  pub rounds : Rounds
+  pub is : IsScript octets script
+  pub end : ended ≡ true
+  pub fault_is : end_fault draft ≡ Some fault
+  pub number_is : number ≡ suc (length script)
   pub explains : Explains script draft rounds j
 
 -- the script has its first fault in the line of that number, which should have had that form, and the lines before it told the
@@ -37,7 +51,7 @@ pub record IsWhole (octets : List ℕ) (ended : Bool) (j : List Entry) : Type 0 
 pub record IsFaulty (fault : Fault) (form : Form) (number : ℕ) (octets : List ℕ) (ended : Bool) (j : List Entry) : Type 0 where
   pub good : List (List ℕ)
   pub draft : Draft
-  pub rounds : List (List Event)
+  pub rounds : Rounds
   pub number_is : number ≡ suc (length good)
   pub is : HasFault octets ended good (point_of j draft rounds) fault
   pub expected : HasForm form draft rounds is.wrong
@@ -48,7 +62,7 @@ pub record IsCut (octets : List ℕ) (j : List Entry) : Type 0 where
   pub good : List (List ℕ)
   pub rest : List ℕ
   pub draft : Draft
-  pub rounds : List (List Event)
+  pub rounds : Rounds
   pub begins : Begins octets good rest
   pub open_line : NoFeed rest
   pub short : length rest ≤ most_octets
@@ -65,7 +79,7 @@ pub record IsPrefix (most : ℕ) (octets : List ℕ) (j : List Entry) : Type 0 w
   pub line : List ℕ
   pub after : List ℕ
   pub draft : Draft
-  pub rounds : List (List Event)
+  pub rounds : Rounds
   pub begins : Begins octets good (line ++ after)
   pub open_line : NoFeed line
   pub short : length line ≤ most_octets
@@ -81,9 +95,11 @@ StoppedBy most stop.NoMemory octets ended j = IsPrefix most octets j
 abbrev pub Tells : Found → List ℕ → Bool → List Entry → Type 0
 Tells found.Whole octets ended j = IsWhole octets ended j
 Tells (found.Stopped stop) octets ended j = StoppedBy most_read stop octets ended j
+Tells (found.Unended number refusal) octets ended j = IsUnended (fault_of refusal) number octets ended j
 Tells found.ReadFault octets ended j = IsCut octets j
 
--- the status when all went out that was to be written: which line goes past a limit is not told
+-- the status when all went out that was to be written: which line goes past a limit is not told, and what a round lacks that is
+-- open is its end
 abbrev pub status_by : ℕ → Form → LineFault → Status
 status_by number form (numbered.Script reason) = Script number reason form
 status_by number form (numbered.Limit which) = Limit which
@@ -93,6 +109,7 @@ abbrev pub status_of : Found → Status
 status_of found.Whole = Done
 status_of (found.Stopped (stop.Refused number refusal form)) = status_by number form (answer_of (fault_of refusal))
 status_of (found.Stopped stop.NoMemory) = NoMemory
+status_of (found.Unended number refusal) = status_by number End (answer_of (fault_of refusal))
 status_of found.ReadFault = ReadFault
 
 -- the text that is to be written: with the whole script the report, else the lines alone

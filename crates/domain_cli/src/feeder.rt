@@ -2,18 +2,17 @@
 
 ghost use Rattle.std.specs.Prelude.{◌≡◌, ◌≢◌, ◌≤◌, ◌+◌, ◌<◌, ◌++◌, ◌∷◌, [], suc, ℕ, List, MatchResult, OnOk, OnErr, vec_len, vec_capacity, length, IfOk, true};
 ghost use Rattle.run_journal.specs.declared.acts.Entry.{Entry as AnyEntry};
-ghost use Rattle.run_journal.specs.declared.domain.Event.{Event as AnyEvent};
 ghost use Rattle.frame_script.specs.Forms.{form_of};
 ghost use Rattle.frame_script.specs.Script.{Draft};
-ghost use Rattle.domain_cli.specs.Script.{without_return};
+ghost use Rattle.domain_cli.specs.Script.{Rounds, without_return};
 ghost use Rattle.domain_cli.specs.States.{Stands, IsReady, TellsLine};
-ghost use Rattle.domain_cli.specs.Stops.{Stopped, StopsLine};
+ghost use Rattle.domain_cli.specs.Stops.{EndsAt, Stopped, StopsLine};
 ghost use Rattle.domain_cli.specs.Story.{Tells, most_read};
 
 use crate::state::ScriptState;
 use crate::status::{Found, Stop};
 use domain_base::NoMemory;
-use frame_script::{Refusal, Untaken};
+use frame_script::{Refusal, ScriptReader, Untaken};
 use run_journal::Journal;
 use std::alloc::Global;
 
@@ -72,7 +71,7 @@ fn take_line(
     requires count { lines ≤ 65536 }
     ensures ready { OnOk result (IsReady state.new (suc lines) journal.new.entries) }
     ensures few { OnOk result (lines < 65536) }
-    ensures told { (draft : Draft) (rounds : List (List AnyEvent))
+    ensures told { (draft : Draft) (rounds : Rounds)
         → Stands state.old draft rounds journal.old.entries → MatchResult result
         (λ _. TellsLine line.now draft rounds state.new journal.old.entries journal.new.entries)
         (λ stop. StopsLine stop journal.old.entries lines line.now draft rounds) }
@@ -85,6 +84,18 @@ fn take_line(
         Ok(()) => Ok(()),
         Err(Untaken::Refused(refusal)) => Err(refused(state, lines, line, refusal)),
         Err(Untaken::NoMemory) => Err(Stop::NoMemory),
+    }
+}
+
+// How the reading ends at the end of the source, behind so many lines: a round that is open there
+// lacks its end.
+fn ended(reader: &ScriptReader, lines: u64) -> Found
+    requires { lines ≤ 65536 }
+    ensures { EndsAt result lines reader.now.draft }
+{
+    match reader.close() {
+        Ok(()) => Found::Whole,
+        Err(refusal) => Found::Unended(lines + 1, refusal),
     }
 }
 
@@ -164,7 +175,8 @@ impl LineFeeder {
         Ok(())
     }
 
-    /// Ends the script. An open line counts as a line, and so does an empty source.
+    /// Ends the script. An open line counts as a line, and so does an empty source. The events of a
+    /// round that is open are not run.
     pub fn finish(&mut self, alloc: Global, journal: &mut Journal) -> Found
         requires { IsReady self.old.state self.old.lines journal.old.entries }
         ensures told { (octets : List ℕ) → Reached self.old octets journal.old.entries
@@ -172,10 +184,10 @@ impl LineFeeder {
         ensures not_read { result ≢ Found.ReadFault }
     {
         if self.line.is_empty() && self.lines > 0 {
-            return Found::Whole;
+            return ended(&self.state.reader, self.lines);
         }
         match take_line(&mut self.state, alloc, self.lines, &self.line, journal) {
-            Ok(()) => Found::Whole,
+            Ok(()) => ended(&self.state.reader, self.lines + 1),
             Err(stop) => Found::Stopped(stop),
         }
     }

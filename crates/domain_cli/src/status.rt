@@ -23,6 +23,9 @@ pub enum Found {
     Whole,
     /// It was read no further.
     Stopped(Stop),
+    /// The source was read to its end, and every line was taken, but the script may not end there,
+    /// for this cause, which stands at the line of this number, from 1, behind the last one.
+    Unended(u64, Refusal),
     /// The source failed.
     ReadFault,
 }
@@ -56,14 +59,16 @@ pub enum Status {
     /// The line of this number, from 1, is the first that is outside the grammar, for this reason:
     /// 1 it is the first and not `domain 1`; 2 no such word in this place; 3 the number or form of
     /// its arguments; 4 a node that is not listed or of the other kind; 5 a frame that was not
-    /// sent; 6 a place or length outside the frame; 8 an address or R0KH-ID used before; 9 a draw
-    /// of the seed. It should have had that form. All events before it were run, and their lines
+    /// sent; 6 a place or length outside the frame; 7 it is the one behind the last one, and a
+    /// round is open; 8 an address or R0KH-ID used before; 9 a draw of the seed. It should have had
+    /// that form. All events before it were run, but those of a round that is open, and their lines
     /// were written.
     #[error("line {0}: {reason}; the form is {form}", reason = reason_text(*.1), form = .2.text())]
     Script(u64, u8, Form),
     /// The first line that cannot be taken goes past this limit: 1 lines of a script; 2 octets of a
     /// line; 3 octets of an injected frame; 4 frames sent; 5 access points; 6 stations; 7 octets of a
-    /// payload. All events before it were run, and their lines were written.
+    /// payload; 8 events in a round. All events before it were run, but those of a round that is
+    /// open, and their lines were written.
     #[error("{limit}", limit = limit_text(*.0))]
     Limit(u8),
     /// The source failed.

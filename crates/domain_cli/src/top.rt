@@ -45,6 +45,7 @@ fn status(found: Found) -> Status
         Found::Whole => Status::Done,
         Found::Stopped(Stop::Refused(number, refusal, form)) => refused(number, refusal, form),
         Found::Stopped(Stop::NoMemory) => Status::NoMemory,
+        Found::Unended(number, refusal) => refused(number, refusal, Form::End),
         Found::ReadFault => Status::ReadFault,
     }
 }
@@ -88,7 +89,9 @@ fn write_text<K: Sink>(sink: &mut K, journal: &Journal, found: Found) -> Result<
 {
     match found {
         Found::Whole => write_whole(sink, journal),
-        Found::Stopped(_) | Found::ReadFault => write_lines(journal.entries(), sink),
+        Found::Stopped(_) | Found::Unended(..) | Found::ReadFault => {
+            write_lines(journal.entries(), sink)
+        }
     }
 }
 
@@ -157,11 +160,12 @@ pub fn run<R: Threads + Sync, S: Source, K: Sink, A: Air, D: Draws>(
     ensures air { (A.told air.new ≡ A.told air.old) × (A.faults air.new ≡ A.faults air.old) }
     ensures draws { (D.last draws.new ≡ D.last draws.old)
         × (D.faults draws.new ≡ D.faults draws.old) }
-    // The journal is that of the octets read, and the octets written are its report.
+    // The journal is that of the rounds that the octets read spell, of which each has its end, and
+    // key holders answered rightly in it; the octets written are its report.
     ensures ran { result ≢ Status.Usage → Runs (S.left source.old) (S.left source.new)
         (K.out sink.old) (K.out sink.new) result journal.new.entries }
     // Where what is drawn is fresh, derived keys do not collide, and every MIC that verified was
-    // made by a holder of its key, the run was safe.
+    // made by a holder of its key, the run was safe, of whatever suite its network is.
     ensures safe { Fresh journal.new.entries → NoCollision journal.new.entries
         → Unforged journal.new.entries → Safe journal.new.entries }
     ensures read_fault { result ≡ Status.ReadFault →

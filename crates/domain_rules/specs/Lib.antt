@@ -1,4 +1,5 @@
 pub mod Network
+pub mod InOctets
 pub mod Here
 pub mod Reading
 pub mod Frames

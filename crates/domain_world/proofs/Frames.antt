@@ -7,7 +7,7 @@ use Rattle.run_journal.specs.declared.acts.Entry.{Entry}
 use Rattle.domain_rules.specs.Explained.{altered, WasSent}
 use Rattle.domain_rules.proofs.Journals as rules
 use Rattle.domain_world.specs.State.{State}
-use Rattle.domain_world.specs.Owning.{IsNumbered, HasOctets, Owns}
+use Rattle.domain_world.specs.Owning.{IsNumbered, HasOctets, Places}
 
 -- ---- no two frames have one number
 
@@ -24,7 +24,7 @@ pub same_frame : (j : List Entry) (round other number : ℕ) (x y : List ℕ) �
 same_frame j round other number x y is sent too =
     rules.one_frame j (round + other) number x y (to_rules j is) (sent_before j round (round + other) number x (omega arith) sent) (sent_before j other (round + other) number y (omega arith) too)
 
-pub long_enough : (w : State) (j : List Entry) (round number size : ℕ) (octets : List ℕ) → Owns w j → HasOctets j number size → WasSent j round number octets → size ≤ length octets
+pub long_enough : (w : State) (j : List Entry) (round number size : ℕ) (octets : List ℕ) → Places w j → HasOctets j number size → WasSent j round number octets → size ≤ length octets
 long_enough w j round number size octets own has sent =
     omega (arith, has.long, ap (λ (l : List ℕ). length l) (same_frame j has.round round number has.octets octets own.numbered has.sent sent))
 

@@ -6,3 +6,6 @@ pub mod Few
 pub mod Owned
 pub mod Begun
 pub mod Frames
+pub mod Ordered
+pub mod Waits
+pub mod Played

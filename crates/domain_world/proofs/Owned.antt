@@ -1,11 +1,10 @@
 -- Journals that are a world's own, and stay so.
-use Rattle.std.proofs.Common.{◌≡◌, ◌≢◌, ℕ, suc, ◌<◌, ◌≤◌, ◌-◌, true, List, [], ◌∷◌, length, reverse, Some, Option, refl, sym, ap, subst, ◌∙◌, arith, length-append}
+use Rattle.std.proofs.Common.{◌≡◌, ℕ, suc, ◌<◌, ◌≤◌, ◌-◌, true, List, [], ◌∷◌, ◌++◌, length, reverse, Some, Option, refl, sym, ap, subst, ◌∙◌, arith, length-append}
 use Rattle.std.specs.Prelude.{slice_get, slice_index_or}
 use Rattle.std.specs.List.{AllByRecursion}
 use Rattle.std.proofs.lemmas.List.{length-reverse}
 use Rattle.std.proofs.lemmas.Option.{slice_get_within, slice_get_read}
-use Rattle.domain_base.specs.declared.names.Akm.{Akm}
-use Rattle.domain_base.specs.declared.names.Akm.TheVariants.{FtPsk}
+use Rattle.domain_base.specs.Octets.{AreOctets}
 use Rattle.domain_base.specs.declared.names.Mac.{Mac}
 use Rattle.domain_base.specs.declared.names.Node.{Node}
 use Rattle.domain_base.specs.declared.names.Node.TheVariants.{Ap, Sta}
@@ -19,41 +18,106 @@ use Rattle.run_journal.specs.declared.acts.Act.TheVariants.{Sent}
 use Rattle.run_journal.specs.declared.acts.Entry.{Entry}
 use Rattle.run_journal.specs.Acts.{is_sent}
 use Rattle.run_journal.specs.Questions.{history}
+use Rattle.air_frame.specs.Sent.{IsAddress}
+use Rattle.run_journal.specs.declared.domain.ListedAp.{ListedAp}
 use Rattle.domain_rules.specs.Network.{InForm, IsListed}
+use Rattle.domain_rules.specs.InOctets.{InOctets}
+use Rattle.domain_rules.specs.AccessPointRows.{start_acts}
+use Rattle.held_rows.specs.Looks.{NoLooks, AreRight}
+use Rattle.held_rows.proofs.Looks.{right_unlooked, right_quiet}
+use Rattle.held_rows.proofs.NoLooks.{start_no_looks}
 use Rattle.domain_rules.specs.Rows.{NodeEvent}
 use Rattle.domain_rules.specs.Explained.{push, HappensAt, Step, WasSent}
 use Rattle.domain_rules.proofs.Journals.{step_at}
 use Rattle.run_journal.specs.Listing.{with_ap, with_sta}
 use Rattle.domain_world.specs.State.{State, Nodes}
-use Rattle.domain_world.specs.Owning.{AreListed, Stand, IsPast, IsNumbered, places, nodes_of, Owns}
+use Rattle.domain_world.specs.Owning.{AreListed, Stand, IsPast, IsNumbered, places, nodes_of, Places, HoldNone, Owns}
 use Rattle.domain_world.specs.Acting.{Acted}
 use Rattle.domain_world.proofs.Placed.{places_count, numbered_push, Placed, placed, all_in}
 use Rattle.domain_world.proofs.Standing.{past_push, past_more, nothing_yet}
 
+-- ---- what a larger network has is of octets
+
+all_last : {A : Type 0} (P : A → Type 0) (xs : List A) (x : A) → AllByRecursion P xs → P x → AllByRecursion P (xs ++ x ∷ [])
+all_last P [] x all last = (last, tt)
+all_last P (y ∷ xs) x all last = (all.0, all_last P xs x all.1 last)
+
+octets_ap : (d : Domain) (address : Mac) (r0kh_id : List ℕ) → InOctets d → IsAddress address.0 → AreOctets address.0 → AreOctets r0kh_id → InOctets (with_ap d address r0kh_id)
+octets_ap d address r0kh_id in_d size in_address in_id =
+    let x : ListedAp = record { address = address; r0kh_id = r0kh_id } in
+    record {
+      mdid = in_d.mdid;
+      ap_sizes = all_last (λ (a : ListedAp). IsAddress a.address.0) d.aps x in_d.ap_sizes size;
+      sta_sizes = in_d.sta_sizes;
+      mdid_octets = in_d.mdid_octets;
+      ap_octets = all_last (λ (a : ListedAp). AreOctets a.address.0) d.aps x in_d.ap_octets in_address;
+      sta_octets = in_d.sta_octets;
+      id_octets = all_last (λ (a : ListedAp). AreOctets a.r0kh_id) d.aps x in_d.id_octets in_id;
+    }
+
+octets_sta : (d : Domain) (address : Mac) → InOctets d → IsAddress address.0 → AreOctets address.0 → InOctets (with_sta d address)
+octets_sta d address in_d size in_address = record {
+  mdid = in_d.mdid;
+  ap_sizes = in_d.ap_sizes;
+  sta_sizes = all_last (λ (m : Mac). IsAddress m.0) d.stas address in_d.sta_sizes size;
+  mdid_octets = in_d.mdid_octets;
+  ap_octets = in_d.ap_octets;
+  sta_octets = all_last (λ (m : Mac). AreOctets m.0) d.stas address in_d.sta_octets in_address;
+  id_octets = in_d.id_octets;
+}
+
+pub octets_none : (d : Domain) → d.aps ≡ [] → d.stas ≡ [] → length d.mdid ≡ 2 → AreOctets d.mdid → InOctets d
+octets_none d no_aps no_stas size in_mdid = record {
+  mdid = size;
+  ap_sizes = subst (AllByRecursion (λ (a : ListedAp). IsAddress a.address.0)) (sym no_aps) tt;
+  sta_sizes = subst (AllByRecursion (λ (m : Mac). IsAddress m.0)) (sym no_stas) tt;
+  mdid_octets = in_mdid;
+  ap_octets = subst (AllByRecursion (λ (a : ListedAp). AreOctets a.address.0)) (sym no_aps) tt;
+  sta_octets = subst (AllByRecursion (λ (m : Mac). AreOctets m.0)) (sym no_stas) tt;
+  id_octets = subst (AllByRecursion (λ (a : ListedAp). AreOctets a.r0kh_id)) (sym no_aps) tt;
+}
+
+pub right_none : (d : Domain) → AreRight d []
+unfolding AreRight
+right_none d = tt
+
+-- of all rounds up to one, and up to a later one
+pub all_low : (rounds later : ℕ) (j : List Entry) → rounds ≤ later → AllByRecursion (λ (e : Entry). e.round ≤ rounds) j → AllByRecursion (λ (e : Entry). e.round ≤ later) j
+all_low rounds later [] low all = tt
+all_low rounds later (e ∷ past) low all = (omega (arith, all.0, low), all_low rounds later past low all.1)
+
 -- ---- acts are put on the journal
 
-pub own_push : (old new : State) (round : ℕ) (node : Node) (acts : List Act) (j k : List Entry) → Owns old j → k ≡ push round node acts j
-    → InForm new.domain → new.domain.akm ≡ old.domain.akm → ((n : Node) → IsListed old.domain n → IsListed new.domain n) → IsListed new.domain node
-    → old.rounds ≤ new.rounds → round ≤ new.rounds → new.frames ≡ places k → AreListed (nodes_of new) → Stand (nodes_of new) (push round node acts j) → Owns new k
-own_push old new round node acts j k own is form akm more listed later low noted all stand = record {
-  form = form;
-  suite = subst (λ (x : Akm). x ≢ FtPsk) (sym akm) own.suite;
+pub up_to : (d : Domain) (rounds : ℕ) (j : List Entry) → AllByRecursion (IsPast d rounds) j → AllByRecursion (λ (e : Entry). e.round ≤ rounds) j
+up_to d rounds [] all = tt
+up_to d rounds (e ∷ past) all = (all.0.round, up_to d rounds past all.1)
+
+pub placed_push : (old new : State) (round : ℕ) (node : Node) (acts : List Act) (j k : List Entry) → Places old j → k ≡ push round node acts j
+    → ((n : Node) → IsListed old.domain n → IsListed new.domain n) → IsListed new.domain node → old.rounds ≤ new.rounds → round ≤ new.rounds → new.frames ≡ places k → Places new k
+placed_push old new round node acts j k held is more listed later low noted = record {
   count = ap length noted ∙ places_count k;
-  listed = all;
-  stand = subst (Stand (nodes_of new)) (sym is) stand;
-  numbered = subst IsNumbered (sym is) (numbered_push round node acts j own.numbered);
+  numbered = subst IsNumbered (sym is) (numbered_push round node acts j held.numbered);
   places = noted;
   past = subst (AllByRecursion (IsPast new.domain new.rounds)) (sym is)
-      (past_push new.domain new.rounds round node acts j low listed (past_more old.domain new.domain old.rounds new.rounds j later more own.past));
+      (past_push new.domain new.rounds round node acts j low listed (past_more old.domain new.domain old.rounds new.rounds j later more held.past));
 }
 
 -- ---- one event
 
 pub own_event : (old new : State) (node : Node) (at : NodeEvent) (acts : List Act) (j k : List Entry) → Owns old j → IsListed old.domain node
-    → Acted node at j (nodes_of old) (nodes_of new) acts → AreListed (nodes_of new) → new.domain ≡ old.domain → new.rounds ≡ suc old.rounds → new.frames ≡ places k → k ≡ push (suc old.rounds) node acts j → Owns new k
-own_event old new node at acts j k own listed acted all domain rounds noted is =
-    own_push old new (suc old.rounds) node acts j k own is (subst InForm (sym domain) own.form) (ap (λ (d : Domain). d.akm) domain) (λ n l. subst (λ (d : Domain). IsListed d n) (sym domain) l)
-    (subst (λ (d : Domain). IsListed d node) (sym domain) listed) (omega arith) (omega arith) noted all (acted.stand (suc old.rounds))
+    → Acted node at j (nodes_of old) (nodes_of new) acts → AreListed (nodes_of new) → new.domain ≡ old.domain → new.rounds ≡ suc old.rounds → new.usable ≡ old.usable → new.frames ≡ places k → k ≡ push (suc old.rounds) node acts j → Owns new k
+own_event old new node at acts j k own listed acted all domain rounds usable noted is = record {
+  usable = usable ∙ own.usable;
+  form = subst InForm (sym domain) own.form;
+  octets = subst InOctets (sym domain) own.octets;
+  listed = all;
+  stand = subst (Stand (nodes_of new)) (sym is) (acted.stand (suc old.rounds));
+  placed = placed_push old new (suc old.rounds) node acts j k own.placed is (λ n l. subst (λ (d : Domain). IsListed d n) (sym domain) l) (subst (λ (d : Domain). IsListed d node) (sym domain) listed)
+      (omega (arith, rounds)) (omega (arith, rounds)) noted;
+  right = subst (λ (d : Domain). AreRight d k) (sym domain) (subst (AreRight old.domain) (sym is)
+      (acted.right (suc old.rounds) (omega arith) (all_low old.rounds (suc old.rounds) j (omega arith) (up_to old.domain old.rounds j own.placed.past)) own.right));
+  quiet = λ none. absurd (omega (arith, none, rounds));
+}
 
 pub step_event : (old : State) (new : Nodes) (event : Event) (node : Node) (at : NodeEvent) (acts : List Act) (j k : List Entry) → HappensAt event j (suc old.rounds) node at → Acted node at j (nodes_of old) new acts
     → k ≡ push (suc old.rounds) node acts j → Step old.domain (suc old.rounds) event j k
@@ -73,29 +137,53 @@ more_stas d address (Sta k) l = omega (arith, length-append d.stas (address ∷ 
 unlisted : (n : ℕ) → (n < n → ⊥)
 unlisted n low = omega arith
 
+-- in round 0 nothing is looked up
+no_looks_yet : (d e : Domain) (rounds : ℕ) (j : List Entry) → rounds ≡ 0 → AllByRecursion (IsPast d rounds) j → AreRight d j → AreRight e j
+no_looks_yet d e rounds j none past right = right_quiet d e j (subst (λ n. AllByRecursion (λ (m : Entry). m.round ≤ n) j) none (up_to d rounds j past)) right
+
 -- an access point, which starts
-pub own_ap : (old new : State) (address : Mac) (r0kh_id : List ℕ) (node : Node) (acts : List Act) (j k : List Entry) → Owns old j → InForm (with_ap old.domain address r0kh_id) → node ≡ Ap (length old.domain.aps)
-    → new.domain ≡ with_ap old.domain address r0kh_id → new.rounds ≡ old.rounds → new.frames ≡ places k → k ≡ push 0 node acts j → AreListed (nodes_of new)
-    → ((i : List Entry) → Stand (nodes_of old) i → history node i ≡ [] → Stand (nodes_of new) (push 0 node acts i)) → Owns new k
-own_ap old new address r0kh_id node acts j k own form at domain rounds noted is all stand =
-    let none : history node j ≡ [] = subst (λ (n : Node). history n j ≡ []) (sym at) (nothing_yet old.domain old.rounds (Ap (length old.domain.aps)) j own.past (unlisted (length old.domain.aps))) in
+pub own_ap : (old new : State) (address : Mac) (r0kh_id : List ℕ) (node : Node) (acts : List Act) (j k : List Entry) → Owns old j → old.rounds ≡ 0 → InForm (with_ap old.domain address r0kh_id) → IsAddress address.0 → AreOctets address.0 → AreOctets r0kh_id → node ≡ Ap (length old.domain.aps)
+    → new.domain ≡ with_ap old.domain address r0kh_id → acts ≡ start_acts new.domain 0 node → new.rounds ≡ old.rounds → new.usable ≡ old.usable → new.frames ≡ places k → k ≡ push 0 node acts j → AreListed (nodes_of new) → HoldNone new.rows
+    → ((i : List Entry) → Stand (nodes_of old) i → HoldNone old.rows → history node i ≡ [] → Stand (nodes_of new) (push 0 node acts i)) → Owns new k
+own_ap old new address r0kh_id node acts j k own first form size in_address in_id at domain starts rounds usable noted is all none_held stand =
+    let none : history node j ≡ [] = subst (λ (n : Node). history n j ≡ []) (sym at) (nothing_yet old.domain old.rounds (Ap (length old.domain.aps)) j own.placed.past (unlisted (length old.domain.aps))) in
     let last : IsListed (with_ap old.domain address r0kh_id) (Ap (length old.domain.aps)) = omega (arith, length-append old.domain.aps (record { address = address; r0kh_id = r0kh_id } ∷ [])) in
-    own_push old new 0 node acts j k own is (subst InForm (sym domain) form) (ap (λ (d : Domain). d.akm) domain) (λ n l. subst (λ (d : Domain). IsListed d n) (sym domain) (more_aps old.domain address r0kh_id n l))
-    (subst (λ (n : Node). IsListed new.domain n) (sym at) (subst (λ (d : Domain). IsListed d (Ap (length old.domain.aps))) (sym domain) last)) (omega arith) (omega arith) noted all (stand j own.stand none)
+    let quiet : NoLooks acts = subst NoLooks (sym starts) (subst (λ (n : Node). NoLooks (start_acts new.domain 0 n)) (sym at) (start_no_looks new.domain 0 (length old.domain.aps)).0) in
+    let low : AllByRecursion (λ (m : Entry). m.round ≤ 0) j = subst (λ n. AllByRecursion (λ (m : Entry). m.round ≤ n) j) first (up_to old.domain old.rounds j own.placed.past) in
+    record {
+      usable = usable ∙ own.usable;
+      form = subst InForm (sym domain) form;
+      octets = subst InOctets (sym domain) (octets_ap old.domain address r0kh_id own.octets size in_address in_id);
+      listed = all;
+      stand = subst (Stand (nodes_of new)) (sym is) (stand j own.stand (own.quiet first) none);
+      placed = placed_push old new 0 node acts j k own.placed is (λ n l. subst (λ (d : Domain). IsListed d n) (sym domain) (more_aps old.domain address r0kh_id n l))
+          (subst (λ (n : Node). IsListed new.domain n) (sym at) (subst (λ (d : Domain). IsListed d (Ap (length old.domain.aps))) (sym domain) last)) (omega (arith, rounds)) (omega arith) noted;
+      right = subst (AreRight new.domain) (sym is) (right_unlooked new.domain 0 node acts j quiet low (no_looks_yet old.domain new.domain old.rounds j first own.placed.past own.right));
+      quiet = λ still. none_held;
+    }
 
 -- a station, which does nothing
-pub own_sta : (old new : State) (address : Mac) (j : List Entry) → Owns old j → InForm (with_sta old.domain address) → new.domain ≡ with_sta old.domain address → new.rounds ≡ old.rounds → new.frames ≡ old.frames → AreListed (nodes_of new)
-    → ((i : List Entry) → Stand (nodes_of old) i → history (Sta (length old.domain.stas)) i ≡ [] → Stand (nodes_of new) i) → Owns new j
-own_sta old new address j own form domain rounds frames all stand =
+pub own_sta : (old new : State) (address : Mac) (j : List Entry) → Owns old j → old.rounds ≡ 0 → InForm (with_sta old.domain address) → IsAddress address.0 → AreOctets address.0 → new.domain ≡ with_sta old.domain address → new.rounds ≡ old.rounds → new.usable ≡ old.usable → new.frames ≡ old.frames
+    → new.rows ≡ old.rows → AreListed (nodes_of new) → ((i : List Entry) → Stand (nodes_of old) i → history (Sta (length old.domain.stas)) i ≡ [] → Stand (nodes_of new) i) → Owns new j
+own_sta old new address j own first form size in_address domain rounds usable frames held all stand =
     let n = length old.domain.stas in
-    let none = nothing_yet old.domain old.rounds (Sta n) j own.past (unlisted n) in
+    let none = nothing_yet old.domain old.rounds (Sta n) j own.placed.past (unlisted n) in
     let last : IsListed (with_sta old.domain address) (Sta n) = omega (arith, length-append old.domain.stas (address ∷ [])) in
-    own_push old new 0 (Sta n) [] j j own refl (subst InForm (sym domain) form) (ap (λ (d : Domain). d.akm) domain) (λ m l. subst (λ (d : Domain). IsListed d m) (sym domain) (more_stas old.domain address m l))
-    (subst (λ (d : Domain). IsListed d (Sta n)) (sym domain) last) (omega arith) (omega arith) (frames ∙ own.places) all (stand j own.stand none)
+    record {
+      usable = usable ∙ own.usable;
+      form = subst InForm (sym domain) form;
+      octets = subst InOctets (sym domain) (octets_sta old.domain address own.octets size in_address);
+      listed = all;
+      stand = stand j own.stand none;
+      placed = placed_push old new 0 (Sta n) [] j j own.placed refl (λ m l. subst (λ (d : Domain). IsListed d m) (sym domain) (more_stas old.domain address m l))
+          (subst (λ (d : Domain). IsListed d (Sta n)) (sym domain) last) (omega (arith, rounds)) (omega arith) (frames ∙ own.placed.places);
+      right = no_looks_yet old.domain new.domain old.rounds j first own.placed.past own.right;
+      quiet = λ still. subst HoldNone (sym held) (own.quiet first);
+    }
 
 -- ---- a frame by its number
 
-pub frame_at : (w : State) (j : List Entry) (number place : ℕ) → Owns w j → 1 ≤ number → number ≤ length w.frames → place ≡ slice_index_or w.frames (number - 1) place → Placed j number place
+pub frame_at : (w : State) (j : List Entry) (number place : ℕ) → Places w j → 1 ≤ number → number ≤ length w.frames → place ≡ slice_index_or w.frames (number - 1) place → Placed j number place
 frame_at w j number place own some sent at =
     let read : slice_get w.frames (number - 1) ≡ Some place = slice_get_read w.frames (length w.frames) (number - 1) place refl (omega arith) at in
     let there = placed j (number - 1) place own.numbered (subst (λ (l : List ℕ). slice_get l (number - 1) ≡ Some place) own.places read) in
@@ -116,7 +204,7 @@ pub not_other : (a : Act) → is_sent a ≡ true → ((p : Peer) (k : Kind) (o :
 not_other (Sent p k o s) is other = other p k o s refl
 not_other _ is other = cc
 
-pub was_sent : (w : State) (j : List Entry) (number place : ℕ) (e : Entry) (peer : Peer) (kind : Kind) (octets : List ℕ) (seal : Option Seal) → Owns w j → Placed j number place → slice_get (reverse j) place ≡ Some e
+pub was_sent : (w : State) (j : List Entry) (number place : ℕ) (e : Entry) (peer : Peer) (kind : Kind) (octets : List ℕ) (seal : Option Seal) → Places w j → Placed j number place → slice_get (reverse j) place ≡ Some e
     → e.act ≡ Sent peer kind octets seal → WasSent j (suc w.rounds) number octets
 was_sent w j number place e peer kind octets seal own p at act =
     let same = same_entry j number place e p at in

@@ -1,3 +1,4 @@
 pub mod State
 pub mod Owning
+pub mod Waiting
 pub mod Acting

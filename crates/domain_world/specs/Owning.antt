@@ -1,5 +1,5 @@
 -- Which journals are a world's own. Journals and histories are NEWEST FIRST.
-use Rattle.std.specs.Prelude.{◌≡◌, ◌≢◌, ℕ, suc, ◌<◌, ◌≤◌, cond, List, [], ◌∷◌, ◌++◌, length, slice_get, Some}
+use Rattle.std.specs.Prelude.{◌≡◌, ℕ, suc, ◌<◌, ◌≤◌, true, cond, List, [], ◌∷◌, ◌++◌, length, slice_get, Some}
 use Rattle.std.specs.List.{AllByRecursion}
 use Rattle.domain_base.specs.declared.names.Akm.TheVariants.{FtPsk}
 use Rattle.domain_base.specs.declared.names.Node.TheVariants.{Ap, Sta}
@@ -9,13 +9,18 @@ use Rattle.run_journal.specs.declared.domain.Event.TheVariants.{Connect, Roam, D
 use Rattle.run_journal.specs.declared.acts.Entry.{Entry}
 use Rattle.run_journal.specs.Acts.{is_sent}
 use Rattle.run_journal.specs.Questions.{history}
-use Rattle.domain_rules.specs.Network.{InForm, IsListed}
+use Rattle.key_holders.specs.declared.rows.HeldRow.{HeldRow}
+use Rattle.key_holders.specs.Listed.{rows_at}
+use Rattle.domain_rules.specs.Network.{InForm, IsListed, is_ap}
+use Rattle.domain_rules.specs.InOctets.{InOctets}
+use Rattle.domain_rules.specs.Rounds.{node_of}
 use Rattle.domain_rules.specs.Explained.{frames, number_of, WasSent}
 use Rattle.node_base.specs.Peers.{IsReceiverOf, most_payload}
 use Rattle.station_node.specs.State.{State as StationState}
 use Rattle.station_node.specs.Stands.{Stands as StationStands}
 use Rattle.ap_node.specs.State.{State as ApState}
-use Rattle.ap_node.specs.Stands.{Stands as ApStands}
+use Rattle.ap_node.specs.Stands.{StandsWith as ApStands}
+use Rattle.held_rows.specs.Looks.{AreRight}
 use Rattle.domain_world.specs.State.{State, Nodes}
 
 -- the frame of that number was sent, and has so many octets at least
@@ -63,21 +68,37 @@ pub record AreListed (n : Nodes) : Type 0 where
   pub aps : (k : ℕ) (s : ApState) → slice_get n.aps k ≡ Some s → s.number ≡ k
   pub stas : (k : ℕ) (s : StationState) → slice_get n.stas k ≡ Some s → s.number ≡ k
 
--- each stands for its part of the journal
+-- each stands for its part of the journal, an access point with the rows of its key holder
 pub record Stand (n : Nodes) (j : List Entry) : Type 0 where
-  pub aps : (k : ℕ) (s : ApState) → slice_get n.aps k ≡ Some s → ApStands n.domain 0 s (history (Ap k) j)
+  pub aps : (k : ℕ) (s : ApState) → slice_get n.aps k ≡ Some s → ApStands n.domain 0 s (rows_at n.rows k) (history (Ap k) j)
   pub stas : (k : ℕ) (s : StationState) → slice_get n.stas k ≡ Some s → StationStands n.domain 0 s (history (Sta k) j)
 
 abbrev pub nodes_of : State → Nodes
-nodes_of w = record { domain = w.domain; aps = w.aps; stas = w.stas }
+nodes_of w = record { domain = w.domain; aps = w.aps; stas = w.stas; rows = w.rows }
 
--- the world stands for the journal: each node for its part of it
-pub record Owns (w : State) (j : List Entry) : Type 0 where
-  pub form : InForm w.domain
-  pub suite : w.domain.akm ≢ FtPsk
+-- the places of the world's frames are those of the journal, of so many rounds at most
+pub record Places (w : State) (j : List Entry) : Type 0 where
   pub count : length w.frames ≡ frames j
-  pub listed : AreListed (nodes_of w)
-  pub stand : Stand (nodes_of w) j
   pub numbered : IsNumbered j
   pub places : w.frames ≡ places j
   pub past : AllByRecursion (IsPast w.domain w.rounds) j
+
+-- no key holder has rows
+abbrev pub HoldNone : List (List HeldRow) → Type 0
+HoldNone rows = AllByRecursion (λ (xs : List HeldRow). xs ≡ []) rows
+
+-- The world stands for the journal: each node for its part of it, and looks were answered rightly. Before the first round no key
+-- holder has rows.
+pub record Owns (w : State) (j : List Entry) : Type 0 where
+  pub usable : w.usable ≡ true
+  pub form : InForm w.domain
+  pub octets : InOctets w.domain
+  pub listed : AreListed (nodes_of w)
+  pub stand : Stand (nodes_of w) j
+  pub placed : Places w j
+  pub right : AreRight w.domain j
+  pub quiet : w.rounds ≡ 0 → HoldNone w.rows
+
+-- of a round: each event may happen before it, at an access point
+abbrev pub AreEventsIn : Domain → ℕ → List Entry → List Event → Type 0
+AreEventsIn d sent j events = AllByRecursion (λ (event : Event). IsEventIn d sent j event × (is_ap (node_of event) ≡ true)) events

@@ -1,20 +1,30 @@
 -- What contracts see of a world.
-use Rattle.std.specs.Prelude.{ℕ, List}
+use Rattle.std.specs.Prelude.{ℕ, zero, suc, Bool, List, [], ◌∷◌, ◌++◌}
+use Rattle.key_holders.specs.declared.rows.HeldRow.{HeldRow}
+use Rattle.key_holders.specs.Listed.{Listed, rows_at}
 use Rattle.run_journal.specs.declared.domain.Domain.{Domain}
 use Rattle.station_node.specs.State.{State as StationState}
 use Rattle.ap_node.specs.State.{State as ApState}
 
--- the network, its nodes, where in the journal each frame stands that was sent (counted from 0 in the order of pushing, the
--- first frame first), and how many rounds were run
+-- the network, its nodes, the rows of each access point's key holder, where in the journal each frame stands that was sent (counted from 0
+-- in the order of pushing, the first frame first), how many rounds were run, and whether no round wanted memory
 pub record State : Type 0 where
   pub domain : Domain
   pub aps : List ApState
   pub stas : List StationState
+  pub rows : List (List HeldRow)
   pub frames : List ℕ
   pub rounds : ℕ
+  pub usable : Bool
 
--- of these, the network and its nodes
+-- of these, the network, its nodes and the rows
 pub record Nodes : Type 0 where
   pub domain : Domain
   pub aps : List ApState
   pub stas : List StationState
+  pub rows : List (List HeldRow)
+
+-- the rows of the first so many
+abbrev pub rows_below : ℕ → Listed → List (List HeldRow)
+rows_below zero h = []
+rows_below (suc k) h = rows_below k h ++ rows_at h.rows k ∷ []

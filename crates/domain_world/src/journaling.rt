@@ -4,7 +4,9 @@ ghost use Rattle.std.specs.Prelude.{◌≡◌, ◌≤◌, ◌<◌, ◌+◌, suc,
 ghost use Rattle.run_journal.specs.Acts.{is_sent};
 ghost use Rattle.domain_rules.specs.Explained.{number_of, push};
 ghost use Rattle.domain_world.specs.Owning.{places};
+ghost use Rattle.domain_world.specs.Waiting.{joined, waiting};
 
+use crate::part::Part;
 use act_memory::Outbox;
 use domain_base::Node;
 use run_journal::{Act, Entry, Journal};
@@ -69,8 +71,30 @@ pub(crate) fn journal_acts(
     ensures entries { journal.new.entries ≡ push round node out.old.acts journal.old.entries }
     ensures noted { frames.new.items ≡ places journal.new.entries }
     ensures out { out.new.acts ≡ [] }
+    ensures room { journal.old.spare ≤ journal.new.spare + length out.old.acts }
+    ensures length { vec_len frames.new ≤ vec_len frames.old + length out.old.acts }
+    ensures capacity { vec_capacity frames.old ≤ vec_capacity frames.new }
 {
     while let Some(act) = out.pop() {
         journal_act(round, node, act, frames, journal);
+    }
+}
+
+/// What waits of the parts of a round, one after the other. Takes no memory.
+pub(crate) fn journal_parts(
+    round: u64,
+    parts: Vec<Part>,
+    frames: &mut Vec<usize>,
+    journal: &mut Journal,
+)
+    requires room { waiting parts.items ≤ journal.old.spare }
+    requires places { vec_len frames.old + waiting parts.items ≤ vec_capacity frames.old }
+    requires noted { frames.old.items ≡ places journal.old.entries }
+    ensures entries { journal.new.entries ≡ joined round parts.items journal.old.entries }
+    ensures noted { frames.new.items ≡ places journal.new.entries }
+{
+    for part in parts {
+        let Part { node, mut out } = part;
+        journal_acts(round, node, &mut out, frames, journal);
     }
 }

@@ -4,6 +4,8 @@
 mod handing;
 mod journaling;
 mod nodes;
+mod ordering;
+mod part;
 mod world;
 
 pub use world::World;

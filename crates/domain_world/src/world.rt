@@ -1,15 +1,20 @@
 //! The world: its nodes, the frames sent and the rounds run.
 
-ghost use Rattle.std.specs.Prelude.{◌≡◌, ◌≢◌, ◌≤◌, ◌<◌, ◌+◌, ◌^◌, suc, ℕ, List, [], length, take, IfOk, OnOk, OnErr};
-ghost use Rattle.domain_base.specs.declared.names.Akm.{Akm as AnyAkm};
+ghost use Rattle.std.specs.Prelude.{◌≡◌, ◌≢◌, ◌≤◌, ◌<◌, ◌+◌, ◌^◌, suc, ℕ, List, [], length, take, map, false, IfOk, OnOk, OnErr};
+ghost use Rattle.domain_base.specs.Octets.{AreOctets};
+ghost use Rattle.air_frame.specs.Sent.{IsAddress};
 ghost use Rattle.run_journal.specs.declared.acts.Entry.{Entry};
 ghost use Rattle.domain_rules.specs.Network.{InForm, IsListed};
-ghost use Rattle.domain_rules.specs.Explained.{HappensAt, Step, WasSent, started};
+ghost use Rattle.domain_rules.specs.Explained.{HappensAt, Step, Follows, WasSent, started};
+ghost use Rattle.domain_rules.specs.Rounds.{by_nodes};
+ghost use Rattle.held_rows.specs.Looks.{AreRight};
 ghost use Rattle.node_base.specs.Events.{event_of, IsEventAt};
 ghost use Rattle.run_journal.specs.Listing.{with_ap, with_sta};
 
-use crate::journaling::journal_acts;
+use crate::journaling::{journal_acts, journal_parts};
 use crate::nodes::Nodes;
+use crate::ordering::in_order;
+use crate::part::Part;
 use act_memory::Outbox;
 use domain_base::{Mac, NoMemory, Node, Octets};
 use node_base::NodeEvent;
@@ -27,6 +32,7 @@ pub struct World {
     rounds: u64,
     // empty between events
     out: Outbox,
+    usable: bool,
 }
 
 impl Model for World {
@@ -39,27 +45,51 @@ impl Model for World {
       domain = w.nodes.domain;
       aps = w.nodes.aps;
       stas = w.nodes.stas;
+      rows = w.nodes.rows;
       frames = w.frames.items;
       rounds = w.rounds;
+      usable = w.usable;
     } };
 
     ghost invariant = { λ w. w.out.acts ≡ [] };
 }
 
+// Two octets are so many.
+fn pair(mdid: &[u8; 2])
+    ensures size { length mdid.now ≡ 2 }
+    ensures octets { AreOctets mdid.now }
+{
+    octets(mdid);
+}
+
+// An address has six octets.
+fn six(address: &[u8; 6])
+    ensures size { IsAddress address.now }
+    ensures octets { AreOctets address.now }
+{
+    octets(address);
+}
+
+// Octets are below 256.
+fn octets(octets: &[u8])
+    ensures { AreOctets octets.now }
+{}
+
 impl World {
-    ghost use Rattle.domain_world.specs.Owning.{Owns, HasOctets, IsEventIn};
-    ghost use Rattle.domain_world.specs.Acting.{IsAltered, IsChanged};
+    ghost use Rattle.domain_world.specs.Owning.{Owns, Places, AreListed, Stand, nodes_of, HasOctets, IsEventIn, AreEventsIn};
+    ghost use Rattle.domain_world.specs.Acting.{IsAltered, IsChanged, IsPlayed, Played};
+    ghost use Rattle.domain_world.specs.Waiting.{AreShort};
 
     /// A world of that network, in which no node is listed yet, and which is in form.
     pub fn start(alloc: Global, domain: &Domain) -> Result<Self, NoMemory>
         requires form { InForm domain.now }
-        requires suite { domain.now.akm ≢ AnyAkm.FtPsk }
         requires no_aps { domain.now.aps ≡ [] }
         requires no_stas { domain.now.stas ≡ [] }
         ensures domain { IfOk result (λ w. w.domain ≡ domain.now) }
         ensures rounds { IfOk result (λ w. w.rounds ≡ 0) }
         ensures own { IfOk result (λ w. Owns w []) }
     {
+        pair(&domain.mdid);
         let nodes = Nodes::new(alloc, domain)?;
         Ok(World {
             alloc,
@@ -67,6 +97,7 @@ impl World {
             frames: Vec::new(alloc),
             rounds: 0,
             out: Outbox::new(alloc),
+            usable: true,
         })
     }
 
@@ -91,6 +122,8 @@ impl World {
         ensures same { OnErr result (self.new ≡ self.old) }
         ensures kept { OnErr result (journal.new.entries ≡ journal.old.entries) }
     {
+        six(&address.0);
+        octets(r0kh_id.as_slice());
         let most = self.nodes.most_acts();
         journal.reserve(most)?;
         self.frames.reserve(most)?;
@@ -113,6 +146,7 @@ impl World {
             → j ≡ started self.new.domain (length self.new.domain.aps)) }
         ensures same { OnErr result (self.new ≡ self.old) }
     {
+        six(&address.0);
         self.nodes.add_station(self.alloc, address)?;
         Ok(())
     }
@@ -146,9 +180,89 @@ impl World {
         Ok(())
     }
 
+    /// A round: its events, each at an access point, come by their access points, in order, and those of
+    /// one as they are listed; what one sends comes behind the round. There are at most 256. The journal
+    /// is this world's own, and each event might come by itself.
+    ///
+    /// Where memory is wanted the journal is as before, and the world is of no use any longer.
+    pub fn round(&mut self, events: &[Event], journal: &mut Journal) -> Result<(), NoMemory>
+        requires own { Owns self.old journal.old.entries }
+        requires events { AreEventsIn self.old.domain (length self.old.frames) journal.old.entries
+            events.now }
+        requires few_events { length events.now ≤ 256 }
+        requires few { self.old.rounds + 1 < 2 ^ 64 }
+        ensures steps { OnOk result (Follows self.old.domain (suc self.old.rounds)
+            (by_nodes events.now) journal.old.entries journal.new.entries) }
+        ensures rounds { OnOk result (self.new.rounds ≡ suc self.old.rounds) }
+        ensures domain { self.new.domain ≡ self.old.domain }
+        ensures own { OnOk result (Owns self.new journal.new.entries) }
+        ensures kept { OnErr result (journal.new.entries ≡ journal.old.entries) }
+        ensures unusable { OnErr result (self.new.usable ≡ false) }
+    {
+        self.usable = false;
+        let order = in_order(self.alloc, self.nodes.count_aps(), events)?;
+        let parts = self.play(order.as_slice(), journal)?;
+        let most = self.nodes.most_acts() * parts.len();
+        journal.reserve(most)?;
+        self.frames.reserve(most)?;
+        let round = self.rounds + 1;
+        journal_parts(round, parts, &mut self.frames, journal);
+        self.rounds = round;
+        self.usable = true;
+        Ok(())
+    }
+
+    // The events of a round one after the other: what each adds waits.
+    fn play(&mut self, events: &[&Event], journal: &Journal) -> Result<Vec<Part>, NoMemory>
+        requires listed { AreListed (nodes_of self.old) }
+        requires form { InForm self.old.domain }
+        requires stand { Stand (nodes_of self.old) journal.now.entries }
+        requires placed { Places self.old journal.now.entries }
+        requires right { AreRight self.old.domain journal.now.entries }
+        requires events { AreEventsIn self.old.domain (length self.old.frames) journal.now.entries
+            (map (λ e. e.now) events.now) }
+        ensures played { IfOk result (λ parts. Played (suc self.old.rounds)
+            (map (λ e. e.now) events.now) journal.now.entries (nodes_of self.old)
+            (nodes_of self.new) parts.items) }
+        ensures short { IfOk result (λ parts. AreShort (8 + length self.old.stas) parts.items) }
+        ensures listed { AreListed (nodes_of self.new) }
+        ensures domain { self.new.domain ≡ self.old.domain }
+        ensures frames { self.new.frames ≡ self.old.frames }
+        ensures rounds { self.new.rounds ≡ self.old.rounds }
+        ensures usable { self.new.usable ≡ self.old.usable }
+    {
+        let mut parts = Vec::new(self.alloc);
+        for event in events {
+            parts.push(self.play_one(event, journal)?)?;
+        }
+        Ok(parts)
+    }
+
+    // One event of a round: what it adds waits.
+    fn play_one(&mut self, event: &Event, journal: &Journal) -> Result<Part, NoMemory>
+        requires form { InForm self.old.domain }
+        requires listed { AreListed (nodes_of self.old) }
+        requires placed { Places self.old journal.now.entries }
+        requires event { IsEventIn self.old.domain (length self.old.frames) journal.now.entries
+            event.now }
+        ensures acts { IfOk result (λ part. IsPlayed (suc self.old.rounds) event.now
+            journal.now.entries (nodes_of self.old) (nodes_of self.new) part) }
+        ensures listed { AreListed (nodes_of self.new) }
+        ensures domain { self.new.domain ≡ self.old.domain }
+        ensures frames { self.new.frames ≡ self.old.frames }
+        ensures rounds { self.new.rounds ≡ self.old.rounds }
+        ensures usable { self.new.usable ≡ self.old.usable }
+    {
+        let changed = self.changed(event, journal)?;
+        let (node, at_node) = self.at_node(event, journal, changed.as_slice());
+        let mut out = Outbox::new(self.alloc);
+        self.nodes.step(self.alloc, node, &at_node, &mut out)?;
+        Ok(Part { node, out })
+    }
+
     // The octets that come by an event that changes one; none by any other.
     fn changed(&self, event: &Event, journal: &Journal) -> Result<Vec<u8>, NoMemory>
-        requires own { Owns self.now journal.now.entries }
+        requires placed { Places self.now journal.now.entries }
         requires event { IsEventIn self.now.domain (length self.now.frames) journal.now.entries
             event.now }
         ensures { IfOk result
@@ -173,14 +287,14 @@ impl World {
         mask: u8,
         journal: &Journal,
     ) -> Result<Vec<u8>, NoMemory>
-        requires own { Owns self.now journal.now.entries }
+        requires placed { Places self.now journal.now.entries }
         requires some { 1 ≤ number }
         requires sent { number ≤ length self.now.frames }
         requires long { HasOctets journal.now.entries number (suc place) }
         ensures { IfOk result
             (λ v. IsAltered journal.now.entries (suc self.now.rounds) number place mask v.items) }
     {
-        let frame = self.frame(number, journal);
+        let frame = self.octets(number, journal);
         let mut octets = Vec::from_slice(self.alloc, frame)?;
         octets[place] ^= mask;
         Ok(octets)
@@ -188,7 +302,7 @@ impl World {
 
     // The first octets of a frame.
     fn front<'a>(&self, number: u64, size: usize, journal: &'a Journal) -> &'a [u8]
-        requires own { Owns self.now journal.now.entries }
+        requires placed { Places self.now journal.now.entries }
         requires some { 1 ≤ number }
         requires sent { number ≤ length self.now.frames }
         requires long { HasOctets journal.now.entries number size }
@@ -196,7 +310,7 @@ impl World {
             (WasSent journal.now.entries (suc self.now.rounds) number octets
             × (result.now ≡ take size octets)) }
     {
-        let frame = self.frame(number, journal);
+        let frame = self.octets(number, journal);
         &frame[..size]
     }
 
@@ -207,7 +321,7 @@ impl World {
         journal: &'a Journal,
         changed: &'a [u8],
     ) -> (Node, NodeEvent<'a>)
-        requires own { Owns self.now journal.now.entries }
+        requires placed { Places self.now journal.now.entries }
         requires event { IsEventIn self.now.domain (length self.now.frames) journal.now.entries
             event.now }
         requires changed { IsChanged event.now journal.now.entries (suc self.now.rounds)
@@ -220,7 +334,7 @@ impl World {
         match event {
             Event::Connect { sta, ap } => (Node::Sta(*sta), NodeEvent::Connect(*ap)),
             Event::Roam { sta, ap } => (Node::Sta(*sta), NodeEvent::Roam(*ap)),
-            Event::Deliver { number, to } => (*to, NodeEvent::Take(self.frame(*number, journal))),
+            Event::Deliver { number, to } => (*to, NodeEvent::Take(self.octets(*number, journal))),
             Event::Alter { to, .. } => (*to, NodeEvent::Take(changed)),
             Event::Cut { number, size, to } => {
                 (*to, NodeEvent::Take(self.front(*number, *size, journal)))
@@ -247,6 +361,16 @@ impl World {
         requires sent { number ≤ length self.now.frames }
         ensures { WasSent journal.now.entries (suc self.now.rounds) number result.now }
     {
+        self.octets(number, journal)
+    }
+
+    // The octets of the frame of that number.
+    fn octets<'a>(&self, number: u64, journal: &'a Journal) -> &'a [u8]
+        requires placed { Places self.now journal.now.entries }
+        requires some { 1 ≤ number }
+        requires sent { number ≤ length self.now.frames }
+        ensures { WasSent journal.now.entries (suc self.now.rounds) number result.now }
+    {
         let place = self.frames[(number - 1) as usize];
         match &journal.at(place).act {
             Act::Sent { octets, .. } => octets.as_slice(),
@@ -266,6 +390,13 @@ impl World {
         ensures { result ≡ self.now.rounds }
     {
         self.rounds
+    }
+
+    /// Whether no round wanted memory.
+    pub fn usable(&self) -> bool
+        ensures { result ≡ self.now.usable }
+    {
+        self.usable
     }
 
     /// The network: the header and the nodes listed so far.

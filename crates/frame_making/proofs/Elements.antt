@@ -8,7 +8,7 @@ use Rattle.domain_base.specs.declared.names.Node.{Node}
 use Rattle.rsn_elements.specs.Transition.{FteFields}
 use Rattle.rsn_elements.specs.Sent.{ssid_octets, rates_octets, rsne_octets, mde_octets, subelement_octets, fte_body, fte_octets}
 use Rattle.run_journal.specs.declared.domain.Domain.{Domain}
-use Rattle.domain_rules.specs.Network.{mac, address, r0kh_id}
+use Rattle.domain_rules.specs.Network.{mac, r0kh_id}
 use Rattle.domain_rules.specs.FastTransition.{plain_fte, no_nonce, assoc_fte}
 use Rattle.domain_rules.specs.Frames.{assoc_req_elements_by, assoc_req_elements, assoc_resp_elements_by, assoc_resp_elements}
 use Rattle.domain_rules.proofs.SuiteWords.{request_suite, response_suite}

@@ -1,12 +1,12 @@
 -- A reader that is given line after line, while the journal grows.
-use Rattle.std.proofs.Common.{◌≡◌, ℕ, ◌+◌, ◌≤◌, List, [], ◌∷◌, Result, Ok, Err, OnOk, OnErr, refl, sym, ap, arith}
+use Rattle.std.proofs.Common.{◌≡◌, ℕ, suc, ◌+◌, ◌≤◌, Bool, true, false, if◌then◌else◌, List, [], ◌∷◌, Result, Ok, Err, OnOk, OnErr, refl, sym, ap, arith}
 use Rattle.std.proofs.lemmas.List.{append-nil}
 use Rattle.run_journal.specs.declared.acts.Entry.{Entry}
 use Rattle.frame_script.specs.declared.reader.LineFault.{LineFault}
 use Rattle.frame_script.specs.declared.reader.LineFault.TheVariants as answered
 use Rattle.frame_script.specs.declared.reader.Step.{Step}
-use Rattle.frame_script.specs.Script.{Said, Goes, ListsAp, ListsSta, Asks, rounds_after}
-use Rattle.frame_script.specs.Headers.{Reading, HasSeen, HasSeenAll, TakesLine, sizes_of}
+use Rattle.frame_script.specs.Script.{Draft, AtVersion, AtSeed, AtSsid, AtPsk, AtAkm, AtMdid, AtNodes, InRound, Said, Goes, ListsAp, ListsSta, Asks, BeginsRound, EndsRound, is_within, rounds_after}
+use Rattle.frame_script.specs.Headers.{Reading, HasSeen, HasSeenAll, HasSeenBy, TakesLine, sizes_of}
 
 -- before its first line it has seen nothing
 pub HasSeen-start : (r : Reading) (j : List Entry) → r.seen ≡ 0 → r.sizes ≡ [] → HasSeen r j
@@ -26,20 +26,37 @@ HasSeen-push r e j h = record {
   sizes = h.sizes;
 }
 
--- after a line, taken or not
-pub HasSeen-after : (r : Reading) (j : List Entry) (answer : Result Step LineFault) → OnOk answer (HasSeenAll r j) → OnErr answer (HasSeen r j) → HasSeen r j
-HasSeen-after r j (Ok s) all kept = HasSeen-all r j all
-HasSeen-after r j (Err fault) all kept = kept
+-- in a round it has seen no more than before
+pub HasSeen-by : (draft : Draft) (r : Reading) (j : List Entry) → HasSeenBy draft r j → HasSeen r j
+HasSeen-by AtVersion r j by = HasSeen-all r j by
+HasSeen-by AtSeed r j by = HasSeen-all r j by
+HasSeen-by (AtSsid seed) r j by = HasSeen-all r j by
+HasSeen-by (AtPsk seed ssid) r j by = HasSeen-all r j by
+HasSeen-by (AtAkm seed ssid psk) r j by = HasSeen-all r j by
+HasSeen-by (AtMdid seed ssid psk) r j by = HasSeen-all r j by
+HasSeen-by (AtNodes d) r j by = HasSeen-all r j by
+HasSeen-by (InRound d count) r j by = by
 
-one_more : (rounds : ℕ) (said : Said) → rounds_after rounds said ≤ rounds + 1
-one_more rounds (Goes next) = omega arith
-one_more rounds (ListsAp address r0kh_id) = omega arith
-one_more rounds (ListsSta address) = omega arith
-one_more rounds (Asks event) = omega arith
+-- after a line, taken or not
+pub HasSeen-after : (draft : Draft) (r : Reading) (j : List Entry) (answer : Result Step LineFault) → OnOk answer (HasSeenBy draft r j) → OnErr answer (HasSeen r j) → HasSeen r j
+HasSeen-after draft r j (Ok s) by kept = HasSeen-by draft r j by
+HasSeen-after draft r j (Err fault) by kept = kept
+
+at_most : (within : Bool) (rounds : ℕ) → (if within then rounds else suc rounds) ≤ rounds + 1
+at_most true rounds = omega arith
+at_most false rounds = omega arith
+
+one_more : (draft : Draft) (rounds : ℕ) (said : Said) → rounds_after draft rounds said ≤ rounds + 1
+one_more draft rounds (Goes next) = omega arith
+one_more draft rounds (ListsAp address r0kh_id) = omega arith
+one_more draft rounds (ListsSta address) = omega arith
+one_more draft rounds (Asks event) = at_most (is_within draft) rounds
+one_more draft rounds BeginsRound = omega arith
+one_more draft rounds EndsRound = omega arith
 
 -- a line asks for one round at most
 pub rounds-after : (old new : Reading) (sizes line : List ℕ) (answer : Result Step LineFault) → TakesLine old new sizes line answer → new.rounds ≤ old.rounds + 1
-rounds-after old new sizes line (Ok s) t = omega (arith, one_more old.rounds t.0, t.1.1.1.0)
+rounds-after old new sizes line (Ok s) t = omega (arith, one_more old.draft old.rounds t.0, t.1.1.1.0)
 rounds-after old new sizes line (Err (answered.Script reason)) t = omega (arith, t.1.1)
 rounds-after old new sizes line (Err (answered.Limit limit)) t = omega (arith, t.1.1)
 rounds-after old new sizes line (Err answered.NoMemory) t = omega (arith, t.1)

@@ -6,3 +6,5 @@ pub mod Injected
 pub mod Seeing
 pub mod Feeding
 pub mod Numbering
+pub mod Joining
+pub mod Within

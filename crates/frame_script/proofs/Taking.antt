@@ -1,13 +1,15 @@
 -- A line that is taken, by its exits.
-use Rattle.std.proofs.Common.{◌≡◌, ◌≢◌, ℕ, true, false, List, Result, Ok, Err, refl, sym, subst}
+use Rattle.std.proofs.Common.{◌≡◌, ◌≢◌, ℕ, Bool, true, false, if◌then◌else◌, List, Result, Ok, Err, OnOk, refl, sym, ap, subst, ◌∙◌}
+use Rattle.std.proofs.lemmas.Bool.{false≢true}
 use Rattle.run_journal.specs.declared.domain.Domain.{Domain}
+use Rattle.run_journal.specs.declared.acts.Entry.{Entry}
 use Rattle.frame_script.specs.declared.refusal.Untaken.{Untaken}
 use Rattle.frame_script.specs.declared.refusal.Untaken.TheVariants as untaken
 use Rattle.frame_script.specs.declared.reader.Step.{Step}
 use Rattle.frame_script.specs.declared.reader.Step.TheVariants as step
-use Rattle.frame_script.specs.Script.{◌>>=◌, Fault, word_, Draft, AtVersion, AtSeed, AtSsid, AtPsk, AtAkm, AtNodes, Said, Goes, header_line, is_passed_over, line_says}
-use Rattle.frame_script.specs.Headers.{IsHeaderStep}
-use Rattle.frame_script.specs.Sentences.{Takes, TakesHeader, words_say}
+use Rattle.frame_script.specs.Script.{◌>>=◌, Fault, word_, Draft, AtVersion, AtSeed, AtSsid, AtPsk, AtAkm, AtMdid, AtNodes, InRound, Said, Goes, ListsAp, ListsSta, Asks, BeginsRound, EndsRound, header_line, body_line, inner_line, is_passed_over, is_border, border_line, is_within, line_says, said_after, rounds_after}
+use Rattle.frame_script.specs.Headers.{Reading, HasSeenBy, IsHeaderStep, TakesStep, HasRead, ReadsLine}
+use Rattle.frame_script.specs.Sentences.{Takes, TakesHeader, rounds_with, seeing, words_say}
 use Rattle.frame_script.specs.Tokens.{first_word}
 
 pub went : (old new : Draft) (rounds : ℕ) (sizes : List ℕ) (meant : Result Said Fault) → meant ≡ Ok (Goes new) → IsHeaderStep old new → Takes old new rounds sizes meant (Ok step.Nothing)
@@ -28,6 +30,8 @@ header old new rounds sizes word text (Ok step.Network) t =
 header old new rounds sizes word text (Ok (step.Ap address r0kh_id)) t = absurd t
 header old new rounds sizes word text (Ok (step.Sta address)) t = absurd t
 header old new rounds sizes word text (Ok (step.Event event)) t = absurd t
+header old new rounds sizes word text (Ok step.Round) t = absurd t
+header old new rounds sizes word text (Ok step.End) t = absurd t
 header old new rounds sizes word text (Err (untaken.Refused refusal)) t = (rw t.0 refl, t.1)
 header old new rounds sizes word text (Err untaken.NoMemory) t = t
 
@@ -39,20 +43,97 @@ passed AtSeed rounds sizes line later e = went AtSeed AtSeed rounds sizes _ (rw 
 passed (AtSsid seed) rounds sizes line later e = went (AtSsid seed) (AtSsid seed) rounds sizes _ (rw e refl) tt
 passed (AtPsk seed ssid) rounds sizes line later e = went (AtPsk seed ssid) (AtPsk seed ssid) rounds sizes _ (rw e refl) tt
 passed (AtAkm seed ssid psk) rounds sizes line later e = went (AtAkm seed ssid psk) (AtAkm seed ssid psk) rounds sizes _ (rw e refl) tt
+passed (AtMdid seed ssid psk) rounds sizes line later e = went (AtMdid seed ssid psk) (AtMdid seed ssid psk) rounds sizes _ (rw e refl) tt
 passed (AtNodes d) rounds sizes line later e = went (AtNodes d) (AtNodes d) rounds sizes _ (rw e refl) refl
+passed (InRound d count) rounds sizes line later e = went (InRound d count) (InRound d count) rounds sizes _ (rw e refl) refl
+
+-- the second and the third of three
+second : (p b : Bool) (x y z : Result Said Fault) → p ≡ false → b ≡ true → (if p then x else if b then y else z) ≡ y
+second true b x y z e f = absurd (false≢true (sym e))
+second false true x y z e f = refl
+second false false x y z e f = absurd (false≢true f)
+
+third : (p b : Bool) (x y z : Result Said Fault) → p ≡ false → b ≡ false → (if p then x else if b then y else z) ≡ z
+third true b x y z e f = absurd (false≢true (sym e))
+third false true x y z e f = absurd (false≢true (sym f))
+third false false x y z e f = refl
+
+-- one that begins or ends a round
+by_border : (draft : Draft) (rounds : ℕ) (sizes line : List ℕ) → is_passed_over line ≡ false → is_border draft line ≡ true → line_says draft rounds sizes line ≡ border_line draft sizes
+unfolding line_says
+by_border AtVersion rounds sizes line e b = absurd (false≢true b)
+by_border AtSeed rounds sizes line e b = absurd (false≢true b)
+by_border (AtSsid seed) rounds sizes line e b = absurd (false≢true b)
+by_border (AtPsk seed ssid) rounds sizes line e b = absurd (false≢true b)
+by_border (AtAkm seed ssid psk) rounds sizes line e b = absurd (false≢true b)
+by_border (AtMdid seed ssid psk) rounds sizes line e b = absurd (false≢true b)
+by_border (AtNodes d) rounds sizes line e b = second (is_passed_over line) (is_border (AtNodes d) line) _ _ _ e b
+by_border (InRound d count) rounds sizes line e b = second (is_passed_over line) (is_border (InRound d count) line) _ _ _ e b
+
+pub bordered : (draft new : Draft) (rounds : ℕ) (sizes line : List ℕ) (answer : Result Step Untaken) → is_passed_over line ≡ false → is_border draft line ≡ true
+    → ((r : ℕ) → Takes draft new r sizes (border_line draft sizes) answer) → Takes draft new rounds sizes (line_says draft rounds sizes line) answer
+bordered draft new rounds sizes line answer e b t =
+    subst (λ (meant : Result Said Fault). Takes draft new rounds sizes meant answer) (sym (by_border draft rounds sizes line e b)) (t rounds)
 
 -- and one that is not
-by_words : (draft : Draft) (rounds : ℕ) (sizes line word text : List ℕ) → draft ≢ AtVersion → is_passed_over line ≡ false → first_word line ≡ (word, text) → line_says draft rounds sizes line ≡ words_say draft rounds sizes word text
+by_words : (draft : Draft) (rounds : ℕ) (sizes line word text : List ℕ) → draft ≢ AtVersion → is_passed_over line ≡ false → is_border draft line ≡ false → first_word line ≡ (word, text)
+    → line_says draft rounds sizes line ≡ words_say draft rounds sizes word text
 unfolding line_says
-by_words AtVersion rounds sizes line word text later e is = absurd (later refl)
-by_words AtSeed rounds sizes line word text later e is = rw (e, is) refl
-by_words (AtSsid seed) rounds sizes line word text later e is = rw (e, is) refl
-by_words (AtPsk seed ssid) rounds sizes line word text later e is = rw (e, is) refl
-by_words (AtAkm seed ssid psk) rounds sizes line word text later e is = rw (e, is) refl
-by_words (AtNodes d) rounds sizes line word text later e is = rw (e, is) refl
+by_words AtVersion rounds sizes line word text later e b is = absurd (later refl)
+by_words AtSeed rounds sizes line word text later e b is = rw (e, is) refl
+by_words (AtSsid seed) rounds sizes line word text later e b is = rw (e, is) refl
+by_words (AtPsk seed ssid) rounds sizes line word text later e b is = rw (e, is) refl
+by_words (AtAkm seed ssid psk) rounds sizes line word text later e b is = rw (e, is) refl
+by_words (AtMdid seed ssid psk) rounds sizes line word text later e b is = rw (e, is) refl
+by_words (AtNodes d) rounds sizes line word text later e b is =
+    third (is_passed_over line) (is_border (AtNodes d) line) _ _ _ e b ∙ ap (λ (w : List ℕ × List ℕ). body_line d rounds sizes w.0 w.1) is
+by_words (InRound d count) rounds sizes line word text later e b is =
+    third (is_passed_over line) (is_border (InRound d count) line) _ _ _ e b ∙ ap (λ (w : List ℕ × List ℕ). inner_line d count sizes w.0 w.1) is
 
-pub worded : (draft new : Draft) (rounds : ℕ) (sizes line word text : List ℕ) (answer : Result Step Untaken) → draft ≢ AtVersion → is_passed_over line ≡ false → first_word line ≡ (word, text)
+pub worded : (draft new : Draft) (rounds : ℕ) (sizes line word text : List ℕ) (answer : Result Step Untaken) → draft ≢ AtVersion → is_passed_over line ≡ false → is_border draft line ≡ false → first_word line ≡ (word, text)
     → Takes draft new rounds sizes (words_say draft rounds sizes word text) answer → Takes draft new rounds sizes (line_says draft rounds sizes line) answer
-worded draft new rounds sizes line word text answer later e is t =
-    let same = by_words draft rounds sizes line word text later e is in
+worded draft new rounds sizes line word text answer later e b is t =
+    let same = by_words draft rounds sizes line word text later e b is in
     subst (λ (meant : Result Said Fault). Takes draft new rounds sizes meant answer) (sym same) t
+
+pub ruleset later = (passed, bordered, worded)
+
+-- ---- what the reader keeps
+
+told : (old new : Reading) (sizes line : List ℕ) (s : Step) (said other : Said) → line_says old.draft old.rounds sizes line ≡ Ok said → new.draft ≡ said_after old.draft said
+    → TakesStep old.draft new.draft old.rounds sizes (line_says old.draft old.rounds sizes line) s → line_says old.draft old.rounds sizes line ≡ Ok other → new.rounds ≡ rounds_after old.draft old.rounds other
+    → HasRead old new sizes line s
+told old new sizes line s said other says draft takes means rounds =
+    let same : other ≡ said = cc (means, says) in
+    (said, (says, (draft, (rounds ∙ ap (λ (x : Said). rounds_after old.draft old.rounds x) same, takes))))
+
+answered : (old new : Reading) (sizes line : List ℕ) (answer : Result Step Untaken) → Takes old.draft new.draft old.rounds sizes (line_says old.draft old.rounds sizes line) answer
+    → new.rounds ≡ rounds_with (is_within old.draft) old.rounds answer → ReadsLine old new sizes line answer
+answered old new sizes line (Ok step.Nothing) (said, (says, (draft, takes))) rounds = told old new sizes line step.Nothing said (Goes new.draft) says draft takes takes.0 rounds
+answered old new sizes line (Ok step.Network) (said, (says, (draft, takes))) rounds = told old new sizes line step.Network said (Goes new.draft) says draft takes takes.1.0 rounds
+answered old new sizes line (Ok (step.Ap a id)) (said, (says, (draft, takes))) rounds = told old new sizes line (step.Ap a id) said (ListsAp a id) says draft takes takes.1.0 rounds
+answered old new sizes line (Ok (step.Sta a)) (said, (says, (draft, takes))) rounds = told old new sizes line (step.Sta a) said (ListsSta a) says draft takes takes.1.0 rounds
+answered old new sizes line (Ok (step.Event e)) (said, (says, (draft, takes))) rounds = told old new sizes line (step.Event e) said (Asks e) says draft takes takes.0 rounds
+answered old new sizes line (Ok step.Round) (said, (says, (draft, takes))) rounds = told old new sizes line step.Round said BeginsRound says draft takes takes.1.0 rounds
+answered old new sizes line (Ok step.End) (said, (says, (draft, takes))) rounds = told old new sizes line step.End said EndsRound says draft takes takes.1.1.0 rounds
+answered old new sizes line (Err (untaken.Refused refusal)) t rounds = (t.0, (t.1, rounds))
+answered old new sizes line (Err untaken.NoMemory) t rounds = (t, rounds)
+
+pub reads : (old new : Reading) (seen sizes line : List ℕ) (answer : Result Step Untaken) → Takes old.draft new.draft old.rounds seen (line_says old.draft old.rounds seen line) answer
+    → new.rounds ≡ rounds_with (is_within old.draft) old.rounds answer → seen ≡ sizes → ReadsLine old new sizes line answer
+reads old new seen sizes line answer takes rounds same =
+    answered old new sizes line answer (subst (λ (x : List ℕ). Takes old.draft new.draft old.rounds x (line_says old.draft old.rounds x line) answer) same takes) rounds
+
+seen_by : (draft : Draft) (r : Reading) (j : List Entry) → HasSeenBy draft (seeing r.seen r.sizes) j → HasSeenBy draft r j
+seen_by AtVersion r j by = record { seen = by.seen; sizes = by.sizes }
+seen_by AtSeed r j by = record { seen = by.seen; sizes = by.sizes }
+seen_by (AtSsid seed) r j by = record { seen = by.seen; sizes = by.sizes }
+seen_by (AtPsk seed ssid) r j by = record { seen = by.seen; sizes = by.sizes }
+seen_by (AtAkm seed ssid psk) r j by = record { seen = by.seen; sizes = by.sizes }
+seen_by (AtMdid seed ssid psk) r j by = record { seen = by.seen; sizes = by.sizes }
+seen_by (AtNodes d) r j by = record { seen = by.seen; sizes = by.sizes }
+seen_by (InRound d count) r j by = record { later = by.later; earlier = by.earlier; is = by.is; seen = by.seen; sizes = by.sizes }
+
+pub seen_on : (draft : Draft) (r : Reading) (j : List Entry) (answer : Result Step Untaken) → HasSeenBy draft (seeing r.seen r.sizes) j → OnOk answer (HasSeenBy draft r j)
+seen_on draft r j (Ok s) by = seen_by draft r j by
+seen_on draft r j (Err untaken) by = tt

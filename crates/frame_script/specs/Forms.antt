@@ -2,9 +2,9 @@
 use Rattle.std.specs.Prelude.{ℕ, ◌==◌, ◌&&◌, if◌then◌else◌, List, length, bytes_eq, codes}
 use Rattle.run_journal.specs.declared.domain.Domain.{Domain}
 use Rattle.frame_script.specs.declared.forms.Form.{Form}
-use Rattle.frame_script.specs.declared.forms.Form.TheVariants.{Version, Seed, Ssid, Key, Passphrase, Psk, Akm, Ap, Sta, Connect, Deliver, Alter, Cut, Inject, Retry, Rekey, Send, Expire, Revoke, Leave, Any, StaOrEvent, Event}
+use Rattle.frame_script.specs.declared.forms.Form.TheVariants.{Version, Seed, Ssid, Key, Passphrase, Psk, Akm, Mdid, Ap, Sta, Connect, Roam, Deliver, Alter, Cut, Inject, Retry, Rekey, Send, Expire, Revoke, Leave, Round, End, Any, StaOrEvent, Event, EventInRound}
 use Rattle.frame_script.specs.Tokens.{first_word}
-use Rattle.frame_script.specs.Script.{Draft, AtVersion, AtSeed, AtSsid, AtPsk, AtAkm, AtNodes}
+use Rattle.frame_script.specs.Script.{Draft, AtVersion, AtSeed, AtSsid, AtPsk, AtAkm, AtMdid, AtNodes, InRound, is_transition}
 
 -- as it is written: in angles what stands in its place, where digits are hexadecimal and n, place and length are numbers
 abbrev pub form_text : Form → List ℕ
@@ -14,10 +14,12 @@ form_text Ssid = codes "ssid <1 to 32 octets>"
 form_text Key = codes "passphrase <8 to 63 octets> or psk <64 digits>"
 form_text Passphrase = codes "passphrase <8 to 63 octets>"
 form_text Psk = codes "psk <64 digits>"
-form_text Akm = codes "akm <psk or psk-sha256>"
+form_text Akm = codes "akm <psk, psk-sha256 or ft-psk>"
+form_text Mdid = codes "mdid <4 digits>"
 form_text Ap = codes "ap <12 digits> <R0KH-ID of 1 to 48 octets>"
 form_text Sta = codes "sta <12 digits>"
 form_text Connect = codes "connect <sta> <ap>"
+form_text Roam = codes "roam <sta> <ap>"
 form_text Deliver = codes "deliver <n> to <node>"
 form_text Alter = codes "alter <n> <place> <2 digits> to <node>"
 form_text Cut = codes "cut <n> <length> to <node>"
@@ -28,9 +30,12 @@ form_text Send = codes "send <node> <node or all> <tid 0 to 15 or -> <digits>"
 form_text Expire = codes "expire <ap> <sta>"
 form_text Revoke = codes "revoke <ap> <sta>"
 form_text Leave = codes "leave <sta>"
-form_text Any = codes "that of ap, sta, connect, deliver, alter, cut, inject, retry, rekey, send, expire, revoke or leave"
-form_text StaOrEvent = codes "that of sta, connect, deliver, alter, cut, inject, retry, rekey, send, expire, revoke or leave"
-form_text Event = codes "that of connect, deliver, alter, cut, inject, retry, rekey, send, expire, revoke or leave"
+form_text Round = codes "round"
+form_text End = codes "end"
+form_text Any = codes "that of ap, sta, connect, roam with ft-psk, deliver, alter, cut, inject, retry, rekey, send, expire, revoke, leave or round"
+form_text StaOrEvent = codes "that of sta, connect, roam with ft-psk, deliver, alter, cut, inject, retry, rekey, send, expire, revoke, leave or round"
+form_text Event = codes "that of connect, roam with ft-psk, deliver, alter, cut, inject, retry, rekey, send, expire, revoke, leave or round"
+form_text EventInRound = codes "that of deliver, alter, cut, inject, retry, rekey, send, expire, revoke or end"
 
 -- the line that tells the pre-shared key, by its first word
 abbrev pub key_form : List ℕ → Form
@@ -48,22 +53,28 @@ frame_form word other =
     else if bytes_eq word (codes "inject") then Inject
     else other
 
--- a line for an access point's or a station's sessions, by its first word
+-- a line for an access point's sessions, by its first word
 abbrev pub session_form : List ℕ → Form → Form
 session_form word other =
-    if bytes_eq word (codes "rekey") then Rekey
+    if bytes_eq word (codes "retry") then Retry
+    else if bytes_eq word (codes "rekey") then Rekey
     else if bytes_eq word (codes "send") then Send
     else if bytes_eq word (codes "expire") then Expire
     else if bytes_eq word (codes "revoke") then Revoke
-    else if bytes_eq word (codes "leave") then Leave
     else other
 
--- a line that asks for an event, by its first word
-abbrev pub event_form : List ℕ → Form → Form
-event_form word other =
+-- a line that asks for an event, by its first word, and that of a round
+abbrev pub event_form : Domain → List ℕ → Form → Form
+event_form d word other =
     if bytes_eq word (codes "connect") then Connect
-    else if bytes_eq word (codes "retry") then Retry
+    else if bytes_eq word (codes "leave") then Leave
+    else if bytes_eq word (codes "round") then Round
+    else if bytes_eq word (codes "roam") then (if is_transition d.akm then Roam else other)
     else frame_form word (session_form word other)
+
+-- a line in a round, by its first word
+abbrev pub inner_form : List ℕ → Form
+inner_form word = if bytes_eq word (codes "end") then End else frame_form word (session_form word EventInRound)
 
 -- whatever may stand there: access points are listed before stations, and both before any event
 abbrev pub late_form : Domain → ℕ → Form
@@ -74,7 +85,7 @@ abbrev pub body_form : Domain → ℕ → List ℕ → Form
 body_form d rounds word =
     if bytes_eq word (codes "ap") then (if length d.stas == 0 && rounds == 0 then Ap else late_form d rounds)
     else if bytes_eq word (codes "sta") then (if rounds == 0 then Sta else late_form d rounds)
-    else event_form word (late_form d rounds)
+    else event_form d word (late_form d rounds)
 
 -- after a script has said so much, when so many rounds were run
 abbrev pub form_of : Draft → ℕ → List ℕ → Form
@@ -83,4 +94,6 @@ form_of AtSeed rounds line = Seed
 form_of (AtSsid seed) rounds line = Ssid
 form_of (AtPsk seed ssid) rounds line = key_form (first_word line).0
 form_of (AtAkm seed ssid psk) rounds line = Akm
+form_of (AtMdid seed ssid psk) rounds line = Mdid
 form_of (AtNodes d) rounds line = body_form d rounds (first_word line).0
+form_of (InRound d count) rounds line = inner_form (first_word line).0

@@ -21,7 +21,7 @@ use Rattle.frame_script.specs.declared.refusal.Untaken.TheVariants.{Refused, NoM
 use Rattle.frame_script.specs.declared.reader.Step.{Step}
 use Rattle.frame_script.specs.declared.reader.Step.TheVariants as step
 use Rattle.frame_script.specs.Refusals.{fault_of}
-use Rattle.frame_script.specs.Script.{Fault, Outside, Past, Draft, AtNodes, Said, Goes, ListsAp, ListsSta, Asks, line_says, said_after, rounds_after, is_single, size_of}
+use Rattle.frame_script.specs.Script.{Fault, Outside, Past, Draft, AtNodes, InRound, Said, Goes, ListsAp, ListsSta, Asks, BeginsRound, EndsRound, line_says, said_after, rounds_after, is_single, size_of}
 
 -- ---- a reader
 
@@ -55,17 +55,30 @@ pub record HasSeenAll (r : Reading) (j : List Entry) : Type 0 where
   pub seen : r.seen ≡ length j
   pub sizes : r.sizes ≡ sizes_of j
 
+-- the sizes of the frames that a line may name: in a round those that were seen before it, whatever was sent since
+abbrev pub sizes_by : Draft → List ℕ → List ℕ → List ℕ
+sizes_by (InRound d count) seen all = seen
+sizes_by draft seen all = all
+
+abbrev pub sizes_named : Reading → List Entry → List ℕ
+sizes_named r j = sizes_by r.draft r.sizes (sizes_of j)
+
+-- behind a line the reader has seen all of the journal; in a round it sees no more than before
+abbrev pub HasSeenBy : Draft → Reading → List Entry → Type 0
+HasSeenBy (InRound d count) r j = HasSeen r j
+HasSeenBy draft r j = HasSeenAll r j
+
 -- ---- what a line says, as an answer
 
 abbrev pub IsHeaderStep : Draft → Draft → Type 0
 IsHeaderStep old (AtNodes d) = old ≡ AtNodes d
+IsHeaderStep old (InRound d count) = old ≡ InRound d count
 IsHeaderStep old new = Unit {0}
 
 -- the network of a header, without nodes: its SSID has 1 to 32 octets
 pub record IsNetwork (d : Domain) : Type 0 where
   pub some : 1 ≤ length d.ssid
   pub few : length d.ssid ≤ 32
-  pub suite : d.akm ≢ FtPsk
   pub no_aps : d.aps ≡ []
   pub no_stas : d.stas ≡ []
 
@@ -122,19 +135,41 @@ CanHappen d sizes (Expire a s) = (a < length d.aps) × (s < length d.stas)
 CanHappen d sizes (Revoke a s) = (a < length d.aps) × (s < length d.stas)
 CanHappen d sizes (Leave s) = s < length d.stas
 
+-- the event is one at an access point, so that it can stand in a round
+abbrev pub IsAtAp : Event → Type 0
+IsAtAp (Deliver number (Ap k)) = Unit {0}
+IsAtAp (Alter number place mask (Ap k)) = Unit {0}
+IsAtAp (Cut number size (Ap k)) = Unit {0}
+IsAtAp (Inject (Ap k) octets) = Unit {0}
+IsAtAp (Send (Ap k) to tid octets) = Unit {0}
+IsAtAp (Retry a s) = Unit {0}
+IsAtAp (Rekey a) = Unit {0}
+IsAtAp (Expire a s) = Unit {0}
+IsAtAp (Revoke a s) = Unit {0}
+IsAtAp event = ⊥
+
+-- an event that is a round by itself, where so few frames were sent that they have numbers, or one in the open round, which
+-- has less than 256 so far
+abbrev pub CanAskFor : Draft → List ℕ → Event → Type 0
+CanAskFor (AtNodes d) sizes event = CanHappen d sizes event × (length sizes ≤ 65535)
+CanAskFor (InRound d count) sizes event = CanHappen d sizes event × (IsAtAp event × (count < 256))
+CanAskFor draft sizes event = ⊥
+
 -- what a step says, and what can be done with it; the header is whole with one line only, so with `Network` it was not before
 abbrev pub TakesStep : Draft → Draft → ℕ → List ℕ → Result Said Fault → Step → Type 0
 TakesStep old new rounds sizes says step.Nothing = (says ≡ Ok (Goes new)) × IsHeaderStep old new
 TakesStep old new rounds sizes says step.Network = (d : Domain) × ((says ≡ Ok (Goes new)) × ((new ≡ AtNodes d) × (IsNetwork d × ((e : Domain) → old ≢ AtNodes e))))
 TakesStep old new rounds sizes says (step.Ap a id) = (d : Domain) × ((says ≡ Ok (ListsAp a id)) × ((old ≡ AtNodes d) × (CanListAp d a id × ((d.stas ≡ []) × (rounds ≡ 0)))))
 TakesStep old new rounds sizes says (step.Sta a) = (d : Domain) × ((says ≡ Ok (ListsSta a)) × ((old ≡ AtNodes d) × (CanListSta d a × (rounds ≡ 0))))
-TakesStep old new rounds sizes says (step.Event e) = (d : Domain) × ((says ≡ Ok (Asks e)) × ((old ≡ AtNodes d) × (CanHappen d sizes e × (length sizes ≤ 65535))))
+TakesStep old new rounds sizes says (step.Event e) = (says ≡ Ok (Asks e)) × CanAskFor old sizes e
+TakesStep old new rounds sizes says step.Round = (d : Domain) × ((says ≡ Ok BeginsRound) × ((old ≡ AtNodes d) × (length sizes ≤ 65535)))
+TakesStep old new rounds sizes says step.End = (d : Domain) × ((count : ℕ) × ((says ≡ Ok EndsRound) × (old ≡ InRound d count)))
 
 -- the line is taken, and what it says is said now
 abbrev pub HasRead : Reading → Reading → List ℕ → List ℕ → Step → Type 0
 HasRead old new sizes line s =
     (said : Said) × ((line_says old.draft old.rounds sizes line ≡ Ok said) × ((new.draft ≡ said_after old.draft said)
-    × ((new.rounds ≡ rounds_after old.rounds said) × TakesStep old.draft new.draft old.rounds sizes (line_says old.draft old.rounds sizes line) s)))
+    × ((new.rounds ≡ rounds_after old.draft old.rounds said) × TakesStep old.draft new.draft old.rounds sizes (line_says old.draft old.rounds sizes line) s)))
 
 -- or it is refused for its fault, and nothing is said by it
 abbrev pub ReadsLine : Reading → Reading → List ℕ → List ℕ → Result Step Untaken → Type 0
@@ -153,4 +188,5 @@ TakesLine old new sizes line (Err answered.NoMemory) = (new.draft ≡ old.draft)
 -- the network, once the header is whole
 abbrev pub IsDomain : Draft → Option Domain → Type 0
 IsDomain (AtNodes d) o = o ≡ Some d
+IsDomain (InRound d count) o = o ≡ Some d
 IsDomain draft o = o ≡ None

@@ -3,10 +3,10 @@ use Rattle.std.specs.Prelude.{ℕ, ◌==◌, if◌then◌else◌, List, codes, O
 use Rattle.frame_script.specs.declared.reader.LineFault.{LineFault}
 use Rattle.frame_script.specs.declared.reader.LineFault.TheVariants as answered
 use Rattle.frame_script.specs.declared.refusal.Refusal.{Refusal}
-use Rattle.frame_script.specs.declared.refusal.Refusal.TheVariants.{Version, Word, Arguments, Node, Frame, Place, Duplicate, Mode, ManyLines, LongLine, LongFrame, ManyFrames, ManyAps, ManyStas, LongPayload}
+use Rattle.frame_script.specs.declared.refusal.Refusal.TheVariants.{Version, Word, Arguments, Node, Frame, Place, Unclosed, Duplicate, Mode, ManyLines, LongLine, LongFrame, ManyFrames, ManyAps, ManyStas, LongPayload, ManyEvents}
 use Rattle.frame_script.specs.declared.refusal.Untaken.{Untaken}
 use Rattle.frame_script.specs.declared.refusal.Untaken.TheVariants as untaken
-use Rattle.frame_script.specs.Script.{Fault, Outside, Past, version_, word_, arguments, node_, frame_, place_, duplicate, mode, many_lines, long_line, long_frame, many_frames, many_aps, many_stas, long_payload}
+use Rattle.frame_script.specs.Script.{Fault, Outside, Past, version_, word_, arguments, node_, frame_, place_, unclosed, duplicate, mode, many_lines, long_line, long_frame, many_frames, many_aps, many_stas, long_payload, many_events}
 
 abbrev pub fault_of : Refusal → Fault
 fault_of Version = version_
@@ -15,6 +15,7 @@ fault_of Arguments = arguments
 fault_of Node = node_
 fault_of Frame = frame_
 fault_of Place = place_
+fault_of Unclosed = unclosed
 fault_of Duplicate = duplicate
 fault_of Mode = mode
 fault_of ManyLines = many_lines
@@ -24,6 +25,7 @@ fault_of ManyFrames = many_frames
 fault_of ManyAps = many_aps
 fault_of ManyStas = many_stas
 fault_of LongPayload = long_payload
+fault_of ManyEvents = many_events
 
 abbrev pub answer_of : Fault → LineFault
 answer_of (Outside reason) = answered.Script reason
@@ -41,6 +43,7 @@ refusal_text Arguments = codes "wrong arguments"
 refusal_text Node = codes "no such node, or a node of the other kind"
 refusal_text Frame = codes "no such frame was sent"
 refusal_text Place = codes "place or length outside the frame"
+refusal_text Unclosed = codes "the script ends in a round"
 refusal_text Duplicate = codes "address or R0KH-ID used before"
 refusal_text Mode = codes "the seed is drawn in a live run only"
 refusal_text ManyLines = codes "more than 65536 lines"
@@ -50,6 +53,7 @@ refusal_text ManyFrames = codes "more than 65535 frames sent"
 refusal_text ManyAps = codes "more than 16 access points"
 refusal_text ManyStas = codes "more than 64 stations"
 refusal_text LongPayload = codes "a payload of more than 2304 octets"
+refusal_text ManyEvents = codes "more than 256 events in a round"
 
 -- by the number of a reason, and of a limit
 abbrev pub reason_of : ℕ → Option Refusal
@@ -60,6 +64,7 @@ reason_of reason =
     else if reason == 4 then Some Node
     else if reason == 5 then Some Frame
     else if reason == 6 then Some Place
+    else if reason == 7 then Some Unclosed
     else if reason == 8 then Some Duplicate
     else if reason == 9 then Some Mode
     else None
@@ -73,4 +78,5 @@ limit_of limit =
     else if limit == 5 then Some ManyAps
     else if limit == 6 then Some ManyStas
     else if limit == 7 then Some LongPayload
+    else if limit == 8 then Some ManyEvents
     else None

@@ -1,8 +1,8 @@
 -- What the lines of a script say (this project's choice).
-use Rattle.std.specs.Prelude.{ℕ, suc, ◌%◌, ◌-◌, ◌==◌, ◌&&◌, not, Bool, true, nat_lt, nat_le, if◌then◌else◌, List, [], ◌∷◌, length, slice_index, bytes_eq, codes, Option, None, Some, option_map, option_and_then, Result, Ok, Err}
+use Rattle.std.specs.Prelude.{ℕ, suc, ◌%◌, ◌-◌, ◌==◌, ◌&&◌, not, Bool, true, false, nat_lt, nat_le, if◌then◌else◌, List, [], ◌∷◌, length, slice_index, bytes_eq, codes, Option, None, Some, option_map, option_and_then, Result, Ok, Err}
 use Rattle.std.specs.List.{list_any}
 use Rattle.domain_base.specs.declared.names.Akm.{Akm}
-use Rattle.domain_base.specs.declared.names.Akm.TheVariants.{Psk, PskSha256}
+use Rattle.domain_base.specs.declared.names.Akm.TheVariants.{Psk, PskSha256, FtPsk}
 use Rattle.domain_base.specs.declared.names.Mac.{Mac}
 use Rattle.domain_base.specs.declared.names.Node.{Node}
 use Rattle.domain_base.specs.declared.names.Node.TheVariants.{Ap, Sta}
@@ -13,7 +13,7 @@ use Rattle.run_journal.specs.declared.domain.Domain.{Domain}
 use Rattle.run_journal.specs.Listing.{with_ap, with_sta}
 use Rattle.run_journal.specs.declared.domain.ListedAp.{ListedAp}
 use Rattle.run_journal.specs.declared.domain.Event.{Event}
-use Rattle.run_journal.specs.declared.domain.Event.TheVariants.{Connect, Deliver, Alter, Cut, Inject, Retry, Rekey, Send, Expire, Revoke, Leave}
+use Rattle.run_journal.specs.declared.domain.Event.TheVariants.{Connect, Roam, Deliver, Alter, Cut, Inject, Retry, Rekey, Send, Expire, Revoke, Leave}
 use Rattle.frame_script.specs.Tokens.{NodeWord, PeerWord, ToAll, ToOne, behind, split_word, first_word, hex_octets, some_octets, number_of_digits, node_word, peer_word, tid_word, is_text}
 
 -- ---- why a line is refused
@@ -24,8 +24,9 @@ pub data Fault : Type 0 where
   Past : (limit : ℕ) → Fault
 
 -- the reasons: not `domain 1` in line 1; no such word in this place; the number or form of the arguments; a node that is not
--- listed or of the other kind; a frame that was not sent; a place or length outside the frame; an address or R0KH-ID used
--- before; a draw of the seed, which only a live run has
+-- listed, of the other kind, or a station to whom or from whom nothing goes in a round; a frame that was not sent, or not
+-- before the round; a place or length outside the frame; a round that is open at the script's end; an address or R0KH-ID
+-- used before; a draw of the seed, which only a live run has
 abbrev pub version_ : Fault
 version_ = Outside 1
 
@@ -44,14 +45,17 @@ frame_ = Outside 5
 abbrev pub place_ : Fault
 place_ = Outside 6
 
+abbrev pub unclosed : Fault
+unclosed = Outside 7
+
 abbrev pub duplicate : Fault
 duplicate = Outside 8
 
 abbrev pub mode : Fault
 mode = Outside 9
 
--- the limits: lines of a script; octets of a line; octets of an injected frame; frames sent before the line of an event; access
--- points; stations; octets of a payload
+-- the limits: lines of a script; octets of a line; octets of an injected frame; frames sent before the line of an event or the
+-- begin of a round; access points; stations; octets of a payload; events in a round
 abbrev pub many_lines : Fault
 many_lines = Past 1
 
@@ -73,6 +77,9 @@ many_stas = Past 6
 abbrev pub long_payload : Fault
 long_payload = Past 7
 
+abbrev pub many_events : Fault
+many_events = Past 8
+
 -- the second form with what the first one gave, or the fault of the first
 infixl 10 ◌>>=◌
 abbrev pub ◌>>=◌ : {A B : Type 0} → Result A Fault → (A → Result B Fault) → Result B Fault
@@ -86,14 +93,17 @@ need fault (Some a) = Ok a
 
 -- ---- the header
 
--- what a script has said so far: which line of the header is due, and from its end on the network with the nodes listed
+-- what a script has said so far: which line of the header is due, and from its end on the network with the nodes listed; in a
+-- round how many events it has so far
 pub data Draft : Type 0 where
   AtVersion : Draft
   AtSeed : Draft
   AtSsid : (seed : List ℕ) → Draft
   AtPsk : (seed ssid : List ℕ) → Draft
   AtAkm : (seed ssid psk : List ℕ) → Draft
+  AtMdid : (seed ssid psk : List ℕ) → Draft
   AtNodes : Domain → Draft
+  InRound : Domain → (count : ℕ) → Draft
 
 -- 64 hexadecimal digits, or `draw`, which only a live run has
 unfoldable pub seed_of : List ℕ → Result (List ℕ) Fault
@@ -119,19 +129,36 @@ unfoldable pub akm_of : List ℕ → Result Akm Fault
 akm_of text =
     if bytes_eq text (codes "psk") then Ok Psk
     else if bytes_eq text (codes "psk-sha256") then Ok PskSha256
+    else if bytes_eq text (codes "ft-psk") then Ok FtPsk
     else Err arguments
 
+-- the mobility domain: four hexadecimal digits (IEEE Std 802.11-2020, 9.4.2.46)
+unfoldable pub mdid_of : List ℕ → Result (List ℕ) Fault
+mdid_of text = need arguments (hex_octets 2 text)
+
+-- whether the suite is that of fast transition
+abbrev pub is_transition : Akm → Bool
+is_transition FtPsk = true
+is_transition Psk = false
+is_transition PskSha256 = false
+
 -- the network of a header, without nodes
-abbrev pub new_network : List ℕ → List ℕ → List ℕ → Akm → Domain
-new_network seed ssid psk akm = record {
+abbrev pub new_network : List ℕ → List ℕ → List ℕ → Akm → List ℕ → Domain
+new_network seed ssid psk akm mdid = record {
   seed = seed;
   ssid = ssid;
   psk = psk;
   akm = akm;
-  mdid = 0 ∷ 0 ∷ [];
+  mdid = mdid;
   aps = [];
   stas = [];
 }
+
+-- with the suite the header is whole; with that of fast transition once the mobility domain is told
+abbrev pub after_suite : List ℕ → List ℕ → List ℕ → Akm → Draft
+after_suite seed ssid psk FtPsk = AtMdid seed ssid psk
+after_suite seed ssid psk Psk = AtNodes (new_network seed ssid psk Psk (0 ∷ 0 ∷ []))
+after_suite seed ssid psk PskSha256 = AtNodes (new_network seed ssid psk PskSha256 (0 ∷ 0 ∷ []))
 
 -- ---- the nodes
 
@@ -165,6 +192,8 @@ pub data Said : Type 0 where
   ListsAp : (address : Mac) (r0kh_id : List ℕ) → Said
   ListsSta : (address : Mac) → Said
   Asks : Event → Said
+  BeginsRound : Said
+  EndsRound : Said
 
 -- `ap`, an address, and an R0KH-ID of 1 to 48 octets with codes from 33 to 126
 unfoldable pub new_ap : Domain → Mac → List ℕ → Result Said Fault
@@ -207,6 +236,10 @@ listed_sta d w = if w.is_ap then None else place_in (length d.stas) w.number
 unfoldable pub listed : Domain → NodeWord → Option Node
 listed d w = if w.is_ap then option_map Ap (listed_ap d w) else option_map Sta (listed_sta d w)
 
+-- a listed node that takes a frame or sends a payload: in a round an access point alone
+unfoldable pub event_node : Bool → Domain → NodeWord → Option Node
+event_node within d w = if w.is_ap then listed d w else if within then None else listed d w
+
 -- the size of the frame of that number, from 1, out of the sizes of the frames that were sent, in order
 unfoldable pub size_of : List ℕ → ℕ → Option ℕ
 size_of sizes number =
@@ -226,6 +259,16 @@ connect_line d text = do
   ap ← need node_ (listed_ap d a)
   Ok (Connect sta ap)
 
+-- `roam`, a station and an access point
+unfoldable pub roam_line : Domain → List ℕ → Result Event Fault
+roam_line d text = do
+  words ← need arguments (split_word text)
+  s ← need arguments (node_word words.0)
+  a ← need arguments (node_word words.1)
+  sta ← need node_ (listed_sta d s)
+  ap ← need node_ (listed_ap d a)
+  Ok (Roam sta ap)
+
 -- `retry`, an access point and a station
 unfoldable pub retry_line : Domain → List ℕ → Result Event Fault
 retry_line d text = do
@@ -237,18 +280,18 @@ retry_line d text = do
   Ok (Retry ap sta)
 
 -- `deliver`, the number of a frame that was sent, `to` and a node
-unfoldable pub deliver_line : Domain → List ℕ → List ℕ → Result Event Fault
-deliver_line d sizes text = do
+unfoldable pub deliver_line : Domain → Bool → List ℕ → List ℕ → Result Event Fault
+deliver_line d within sizes text = do
   words ← need arguments (split_word text)
   number ← need arguments (number_of_digits words.0)
   w ← need arguments (to_word words.1)
-  to ← need node_ (listed d w)
+  to ← need node_ (event_node within d w)
   size ← need frame_ (size_of sizes number)
   Ok (Deliver number to)
 
 -- `alter`, the number of a frame that was sent, the place of one of its octets, from 0, two hexadecimal digits, `to` and a node
-unfoldable pub alter_line : Domain → List ℕ → List ℕ → Result Event Fault
-alter_line d sizes text = do
+unfoldable pub alter_line : Domain → Bool → List ℕ → List ℕ → Result Event Fault
+alter_line d within sizes text = do
   words ← need arguments (split_word text)
   number ← need arguments (number_of_digits words.0)
   more ← need arguments (split_word words.1)
@@ -256,19 +299,19 @@ alter_line d sizes text = do
   last ← need arguments (split_word more.1)
   mask ← need arguments (hex_octets 1 last.0)
   w ← need arguments (to_word last.1)
-  to ← need node_ (listed d w)
+  to ← need node_ (event_node within d w)
   size ← need frame_ (size_of sizes number)
   if nat_lt place size then Ok (Alter number place (slice_index mask 0) to) else Err place_
 
 -- `cut`, the number of a frame that was sent, how many of its octets come, `to` and a node
-unfoldable pub cut_line : Domain → List ℕ → List ℕ → Result Event Fault
-cut_line d sizes text = do
+unfoldable pub cut_line : Domain → Bool → List ℕ → List ℕ → Result Event Fault
+cut_line d within sizes text = do
   words ← need arguments (split_word text)
   number ← need arguments (number_of_digits words.0)
   more ← need arguments (split_word words.1)
   count ← need arguments (number_of_digits more.0)
   w ← need arguments (to_word more.1)
-  to ← need node_ (listed d w)
+  to ← need node_ (event_node within d w)
   size ← need frame_ (size_of sizes number)
   if nat_le count size then Ok (Cut number count to) else Err place_
 
@@ -287,12 +330,12 @@ abbrev pub payload_octets : List ℕ → Result (List ℕ) Fault
 payload_octets text = octets_within 2304 long_payload text
 
 -- `inject`, a node and octets, at most 2400
-unfoldable pub inject_line : Domain → List ℕ → Result Event Fault
-inject_line d text = do
+unfoldable pub inject_line : Domain → Bool → List ℕ → Result Event Fault
+inject_line d within text = do
   words ← need arguments (split_word text)
   w ← need arguments (node_word words.0)
   octets ← frame_octets words.1
-  to ← need node_ (listed d w)
+  to ← need node_ (event_node within d w)
   Ok (Inject to octets)
 
 -- `rekey`, and an access point
@@ -310,26 +353,26 @@ receiver_by d (Sta k) ToAll = None
 receiver_by d (Sta k) (ToOne w) = option_map (λ a. One (Ap a)) (listed_ap d w)
 
 -- `send`, a node, and to whom: a node or `all`; then a traffic identifier or `-`, and a payload of at most 2304 octets
-unfoldable pub send_payload : Domain → NodeWord → PeerWord → Option ℕ → List ℕ → Result Event Fault
-send_payload d f t tid text = do
+unfoldable pub send_payload : Domain → Bool → NodeWord → PeerWord → Option ℕ → List ℕ → Result Event Fault
+send_payload d within f t tid text = do
   octets ← payload_octets text
-  from ← need node_ (listed d f)
+  from ← need node_ (event_node within d f)
   to ← need node_ (receiver_by d from t)
   Ok (Send from to tid octets)
 
-unfoldable pub send_between : Domain → NodeWord → PeerWord → List ℕ → Result Event Fault
-send_between d f t text = do
+unfoldable pub send_between : Domain → Bool → NodeWord → PeerWord → List ℕ → Result Event Fault
+send_between d within f t text = do
   words ← need arguments (split_word text)
   tid ← need arguments (tid_word words.0)
-  send_payload d f t tid words.1
+  send_payload d within f t tid words.1
 
-unfoldable pub send_line : Domain → List ℕ → Result Event Fault
-send_line d text = do
+unfoldable pub send_line : Domain → Bool → List ℕ → Result Event Fault
+send_line d within text = do
   words ← need arguments (split_word text)
   f ← need arguments (node_word words.0)
   more ← need arguments (split_word words.1)
   t ← need arguments (peer_word more.0)
-  send_between d f t more.1
+  send_between d within f t more.1
 
 -- `expire`, an access point and a station
 unfoldable pub expire_line : Domain → List ℕ → Result Event Fault
@@ -358,32 +401,45 @@ leave_line d text = do
   sta ← need node_ (listed_sta d s)
   Ok (Leave sta)
 
--- an event of an access point's or a station's sessions, by its first word
-unfoldable pub session_event_of : Domain → List ℕ → List ℕ → Result Event Fault
-session_event_of d word text =
+-- an event that a station begins, by its first word; `roam` has a meaning with the suite of fast transition alone
+unfoldable pub station_event_of : Domain → List ℕ → List ℕ → Result Event Fault
+station_event_of d word text =
+    if bytes_eq word (codes "connect") then connect_line d text
+    else if bytes_eq word (codes "leave") then leave_line d text
+    else if bytes_eq word (codes "roam") then (if is_transition d.akm then roam_line d text else Err word_)
+    else Err word_
+
+-- an event of an access point's or a station's sessions, by its first word; in a round no station begins one
+unfoldable pub session_event_of : Domain → Bool → List ℕ → List ℕ → Result Event Fault
+session_event_of d within word text =
     if bytes_eq word (codes "rekey") then rekey_line d text
     else if bytes_eq word (codes "expire") then expire_line d text
     else if bytes_eq word (codes "revoke") then revoke_line d text
-    else if bytes_eq word (codes "leave") then leave_line d text
-    else Err word_
+    else if within then Err word_
+    else station_event_of d word text
 
--- an event by its first word
-unfoldable pub event_of : Domain → List ℕ → List ℕ → List ℕ → Result Event Fault
-event_of d sizes word text =
-    if bytes_eq word (codes "connect") then connect_line d text
-    else if bytes_eq word (codes "deliver") then deliver_line d sizes text
-    else if bytes_eq word (codes "alter") then alter_line d sizes text
-    else if bytes_eq word (codes "cut") then cut_line d sizes text
-    else if bytes_eq word (codes "inject") then inject_line d text
+-- an event by its first word, within a round or not
+unfoldable pub event_of : Domain → Bool → List ℕ → List ℕ → List ℕ → Result Event Fault
+event_of d within sizes word text =
+    if bytes_eq word (codes "deliver") then deliver_line d within sizes text
+    else if bytes_eq word (codes "alter") then alter_line d within sizes text
+    else if bytes_eq word (codes "cut") then cut_line d within sizes text
+    else if bytes_eq word (codes "inject") then inject_line d within text
     else if bytes_eq word (codes "retry") then retry_line d text
-    else if bytes_eq word (codes "send") then send_line d text
-    else session_event_of d word text
+    else if bytes_eq word (codes "send") then send_line d within text
+    else session_event_of d within word text
 
--- an event, where no more frames were sent than a run can number
+-- an event that is a round by itself, where no more frames were sent than a run can number
 unfoldable pub event_line : Domain → List ℕ → List ℕ → List ℕ → Result Said Fault
 event_line d sizes word text = do
-  event ← event_of d sizes word text
+  event ← event_of d false sizes word text
   if nat_le (length sizes) 65535 then Ok (Asks event) else Err many_frames
+
+-- an event in a round that has so many, where it is not one too many
+unfoldable pub part_line : Domain → ℕ → List ℕ → List ℕ → List ℕ → Result Said Fault
+part_line d count sizes word text = do
+  event ← event_of d true sizes word text
+  if nat_lt count 256 then Ok (Asks event) else Err many_events
 
 -- ---- a line
 
@@ -398,26 +454,59 @@ header_line AtSeed word text = if bytes_eq word (codes "seed") then seed_of text
 header_line (AtSsid seed) word text = if bytes_eq word (codes "ssid") then ssid_of text >>= (λ ssid. Ok (AtPsk seed ssid)) else Err word_
 header_line (AtPsk seed ssid) word text = psk_of ssid word text >>= (λ psk. Ok (AtAkm seed ssid psk))
 header_line (AtAkm seed ssid psk) word text =
-    if bytes_eq word (codes "akm") then akm_of text >>= (λ akm. Ok (AtNodes (new_network seed ssid psk akm))) else Err word_
+    if bytes_eq word (codes "akm") then akm_of text >>= (λ akm. Ok (after_suite seed ssid psk akm)) else Err word_
+header_line (AtMdid seed ssid psk) word text =
+    if bytes_eq word (codes "mdid") then mdid_of text >>= (λ mdid. Ok (AtNodes (new_network seed ssid psk FtPsk mdid))) else Err word_
 header_line draft word text = Err word_
 
--- a line behind the header: access points are listed before stations, and both before any event
+-- a line behind the header, outside rounds: access points are listed before stations, and both before any round; behind
+-- `round` stands nothing
 unfoldable pub body_line : Domain → ℕ → List ℕ → List ℕ → List ℕ → Result Said Fault
 body_line d rounds sizes word text =
     if bytes_eq word (codes "ap") then (if length d.stas == 0 && rounds == 0 then ap_line d text else Err word_)
     else if bytes_eq word (codes "sta") then (if rounds == 0 then sta_line d text else Err word_)
+    else if bytes_eq word (codes "round") then Err arguments
     else event_line d sizes word text
 
+-- a line in a round that has so many events; behind `end` stands nothing
+unfoldable pub inner_line : Domain → ℕ → List ℕ → List ℕ → List ℕ → Result Said Fault
+inner_line d count sizes word text =
+    if bytes_eq word (codes "end") then Err arguments
+    else part_line d count sizes word text
+
+-- the line that begins a round, or ends the one that is open
+abbrev pub is_border : Draft → List ℕ → Bool
+is_border (AtNodes d) line = bytes_eq line (codes "round")
+is_border (InRound d count) line = bytes_eq line (codes "end")
+is_border draft line = false
+
+-- a round begins where no more frames were sent than a run can number
+abbrev pub border_line : Draft → List ℕ → Result Said Fault
+border_line (AtNodes d) sizes = if nat_le (length sizes) 65535 then Ok BeginsRound else Err many_frames
+border_line (InRound d count) sizes = Ok EndsRound
+border_line draft sizes = Err word_
+
 -- what a line without its end says, after a script has said so much, when so many rounds were run and frames of these sizes
--- sent
+-- sent; in a round these are those that were sent before it
 unfoldable pub line_says : Draft → ℕ → List ℕ → List ℕ → Result Said Fault
 line_says AtVersion rounds sizes line = if bytes_eq line (codes "domain 1") then Ok (Goes AtSeed) else Err version_
 line_says (AtNodes d) rounds sizes line =
     if is_passed_over line then Ok (Goes (AtNodes d)) else
+    if is_border (AtNodes d) line then border_line (AtNodes d) sizes else
     body_line d rounds sizes (first_word line).0 (first_word line).1
+line_says (InRound d count) rounds sizes line =
+    if is_passed_over line then Ok (Goes (InRound d count)) else
+    if is_border (InRound d count) line then border_line (InRound d count) sizes else
+    inner_line d count sizes (first_word line).0 (first_word line).1
 line_says draft rounds sizes line =
     if is_passed_over line then Ok (Goes draft) else
     header_line draft (first_word line).0 (first_word line).1 >>= (λ next. Ok (Goes next))
+
+-- why the script may not end there: no line came, or a round is open
+abbrev pub end_fault : Draft → Option Fault
+end_fault AtVersion = Some version_
+end_fault (InRound d count) = Some unclosed
+end_fault draft = None
 
 -- ---- what the lines together have said
 
@@ -425,13 +514,35 @@ abbrev pub listing : Draft → (Domain → Domain) → Draft
 listing (AtNodes d) f = AtNodes (f d)
 listing draft f = draft
 
+-- a round has one event more
+abbrev pub with_event : Draft → Draft
+with_event (InRound d count) = InRound d (suc count)
+with_event draft = draft
+
+-- a round is open, without events
+abbrev pub begun : Draft → Draft
+begun (AtNodes d) = InRound d 0
+begun draft = draft
+
+-- and closed
+abbrev pub ended : Draft → Draft
+ended (InRound d count) = AtNodes d
+ended draft = draft
+
 abbrev pub said_after : Draft → Said → Draft
 said_after draft (Goes next) = next
 said_after draft (ListsAp address r0kh_id) = listing draft (λ d. with_ap d address r0kh_id)
 said_after draft (ListsSta address) = listing draft (λ d. with_sta d address)
-said_after draft (Asks event) = draft
+said_after draft (Asks event) = with_event draft
+said_after draft BeginsRound = begun draft
+said_after draft EndsRound = ended draft
 
--- each event is a round by itself
-abbrev pub rounds_after : ℕ → Said → ℕ
-rounds_after rounds (Asks event) = suc rounds
-rounds_after rounds said = rounds
+abbrev pub is_within : Draft → Bool
+is_within (InRound d count) = true
+is_within draft = false
+
+-- an event outside a round is one by itself, and a round counts once it ends, whatever events it has
+abbrev pub rounds_after : Draft → ℕ → Said → ℕ
+rounds_after draft rounds (Asks event) = if is_within draft then rounds else suc rounds
+rounds_after draft rounds EndsRound = suc rounds
+rounds_after draft rounds said = rounds

@@ -1,5 +1,5 @@
 -- What the code keeps of a line between its words and its step.
-use Rattle.std.specs.Prelude.{◌≡◌, ℕ, suc, ◌≤◌, ◌&&◌, Bool, true, false, nat_le, IsTrue, List, [], length, unwrap_or, is_some, Result, Ok, Err, MatchResult}
+use Rattle.std.specs.Prelude.{◌≡◌, ℕ, suc, ◌<◌, ◌≤◌, ◌&&◌, Bool, true, false, nat_le, if◌then◌else◌, IsTrue, List, [], length, unwrap_or, is_some, Result, Ok, Err, MatchResult}
 use Rattle.run_journal.specs.declared.domain.Domain.{Domain}
 use Rattle.run_journal.specs.declared.domain.Event.{Event}
 use Rattle.run_journal.specs.declared.domain.Event.TheVariants.{Inject, Send}
@@ -9,7 +9,7 @@ use Rattle.frame_script.specs.declared.refusal.Refusal.{Refusal}
 use Rattle.frame_script.specs.declared.refusal.Untaken.{Untaken}
 use Rattle.frame_script.specs.declared.refusal.Untaken.TheVariants as untaken
 use Rattle.frame_script.specs.declared.header.Due.{Due}
-use Rattle.frame_script.specs.declared.header.Due.TheVariants.{Nodes}
+use Rattle.frame_script.specs.declared.header.Due.TheVariants.{Nodes, Round}
 use Rattle.frame_script.specs.declared.tokens.NodeName.{NodeName}
 use Rattle.frame_script.specs.declared.tokens.NodeName.TheVariants.{Ap, Sta}
 use Rattle.frame_script.specs.declared.tokens.PeerName.{PeerName}
@@ -21,8 +21,8 @@ use Rattle.frame_script.specs.declared.body.Sentence.TheVariants as says
 use Rattle.frame_script.specs.Due.{is_fit}
 use Rattle.frame_script.specs.Refusals.{fault_of}
 use Rattle.frame_script.specs.Tokens.{NodeWord, PeerWord, ToAll, ToOne, named, hex_value}
-use Rattle.frame_script.specs.Script.{Fault, ◌>>=◌, Draft, AtVersion, AtNodes, Said, Goes, ListsAp, ListsSta, Asks, header_line, body_line, said_after}
-use Rattle.frame_script.specs.Headers.{Reading, CanListAp, CanListSta, CanHappen, IsHeaderStep, IsListedIn, IsNetwork, TakesStep}
+use Rattle.frame_script.specs.Script.{Fault, ◌>>=◌, Draft, AtVersion, AtNodes, InRound, Said, Goes, ListsAp, ListsSta, Asks, header_line, body_line, inner_line, said_after}
+use Rattle.frame_script.specs.Headers.{Reading, CanListAp, CanListSta, CanHappen, IsAtAp, IsHeaderStep, IsListedIn, IsNetwork, TakesStep}
 
 -- what is found is what is meant
 abbrev pub TellsBy : {A B : Type 0} → (A → B) → Result A Refusal → Result B Fault → Type 0
@@ -68,18 +68,24 @@ CanSay d rounds sizes (says.Ap address r0kh_id) = CanListAp d address r0kh_id.no
 CanSay d rounds sizes (says.Sta address) = CanListSta d address × (rounds ≡ 0)
 CanSay d rounds sizes (says.Asks a) = CanAsk d sizes a × (length sizes ≤ 65535)
 
+-- in a round that has so many events
+abbrev pub CanJoin : Domain → ℕ → List ℕ → Asked → Type 0
+CanJoin d count sizes a = CanHappen d sizes (event_of a) × (IsAtAp (event_of a) × (count < 256))
+
 -- ---- what is kept
 
 -- so few nodes are listed that a number of 16 bits counts them
 abbrev pub is_few : Domain → Bool
 is_few d = nat_le (length d.aps) 16 && nat_le (length d.stas) 64
 
-abbrev pub is_counted : Due → Bool
-is_counted (Nodes domain) = is_few domain
-is_counted due = true
+-- and a round has 256 events at most
+abbrev pub IsCounted : Due → Type 0
+IsCounted (Nodes domain) = IsTrue (is_few domain)
+IsCounted (Round domain count) = IsTrue (is_few domain) × (count ≤ 256)
+IsCounted due = Unit {0}
 
 abbrev pub IsKept : Due → Type 0
-IsKept due = IsTrue (is_fit due) × IsTrue (is_counted due)
+IsKept due = IsTrue (is_fit due) × IsCounted due
 
 -- ---- a line that is taken
 
@@ -92,6 +98,7 @@ Takes old new rounds sizes meant (Err untaken.NoMemory) = new ≡ old
 -- what a line says that is not passed over, by its first word and what stands behind it
 abbrev pub words_say : Draft → ℕ → List ℕ → List ℕ → List ℕ → Result Said Fault
 words_say (AtNodes d) rounds sizes word text = body_line d rounds sizes word text
+words_say (InRound d count) rounds sizes word text = inner_line d count sizes word text
 words_say draft rounds sizes word text = header_line draft word text >>= (λ next. Ok (Goes next))
 
 -- a line of the header is
@@ -102,10 +109,11 @@ TakesHeader old new word text (Ok _) = ⊥
 TakesHeader old new word text (Err (untaken.Refused refusal)) = (header_line old word text ≡ Err (fault_of refusal)) × (new ≡ old)
 TakesHeader old new word text (Err untaken.NoMemory) = new ≡ old
 
--- rounds after a line
-abbrev pub rounds_with : ℕ → Result Step Untaken → ℕ
-rounds_with rounds (Ok (step.Event event)) = suc rounds
-rounds_with rounds answer = rounds
+-- rounds after a line, in a round or not
+abbrev pub rounds_with : Bool → ℕ → Result Step Untaken → ℕ
+rounds_with within rounds (Ok (step.Event event)) = if within then rounds else suc rounds
+rounds_with within rounds (Ok step.End) = suc rounds
+rounds_with within rounds answer = rounds
 
 -- what is kept of the journal, as a reading
 abbrev pub seeing : ℕ → List ℕ → Reading

@@ -1,15 +1,15 @@
 //! The lines behind a header.
 
-ghost use Rattle.std.specs.Prelude.{◌≡◌, ◌==◌, ◌&&◌, ◌<◌, ℕ, List, length, Err, if◌then◌else◌, IfOk, IsTrue, MatchResult};
+ghost use Rattle.std.specs.Prelude.{◌≡◌, ◌==◌, ◌&&◌, ◌<◌, ◌≤◌, ℕ, List, length, Err, if◌then◌else◌, IfOk, IsTrue, MatchResult};
 ghost use Rattle.frame_script.specs.declared.refusal.Untaken.TheVariants as untaken;
 ghost use Rattle.frame_script.specs.declared.reader.Step.TheVariants as steps;
 ghost use Rattle.frame_script.specs.Due.{draft_of};
 ghost use Rattle.frame_script.specs.Headers.{CanListSta};
 ghost use Rattle.run_journal.specs.Listing.{with_ap, with_sta};
-ghost use Rattle.frame_script.specs.Script.{AtNodes, ListsSta, ap_line, body_line, sta_line, word_};
-ghost use Rattle.frame_script.specs.Sentences.{CanAsk, CanSay, IsKept, Takes, TellsBy, event_of, is_few, octets_of, said_of};
+ghost use Rattle.frame_script.specs.Script.{Asks, AtNodes, InRound, ListsSta, ap_line, body_line, inner_line, sta_line, word_};
+ghost use Rattle.frame_script.specs.Sentences.{CanAsk, CanJoin, CanSay, IsKept, Takes, TellsBy, event_of, is_few, octets_of, said_of};
 
-use crate::events::{Asked, event_line};
+use crate::events::{Asked, event_line, part_line};
 use crate::header::{Due, Taken};
 use crate::nodes::{ap_line, sta_line};
 use crate::reader::Step;
@@ -75,6 +75,8 @@ fn body_line<'a>(
         early_ap(domain, rounds, text)
     } else if word == b"sta".as_slice() {
         Ok(Sentence::Sta(early_sta(domain, rounds, text)?))
+    } else if word == b"round".as_slice() {
+        Err(Refusal::Arguments)
     } else {
         Ok(Sentence::Asks(event_line(domain, sizes, word, text)?))
     }
@@ -180,5 +182,53 @@ pub(crate) fn take_body(
             (Due::Nodes { domain }, event.map(Step::Event))
         }
         Err(refusal) => (Due::Nodes { domain }, Err(Untaken::Refused(refusal))),
+    }
+}
+
+// What the line in a round asks for, by its first word and what stands behind it.
+#[tactic(auto, unfolding(crate::specs::Script::inner_line))]
+fn inner_line<'a>(
+    domain: &Domain,
+    count: u64,
+    sizes: &[usize],
+    word: &[u8],
+    text: &'a [u8],
+) -> Result<Asked<'a>, Refusal>
+    requires { IsTrue (is_few domain.now) }
+    ensures can { IfOk result (CanJoin domain.now count sizes.now) }
+    ensures says { TellsBy (λ a. Asks (event_of a)) result
+        (inner_line domain.now count sizes.now word.now text.now) }
+{
+    if word == b"end".as_slice() {
+        Err(Refusal::Arguments)
+    } else {
+        part_line(domain, count, sizes, word, text)
+    }
+}
+
+/// Takes a line in a round that has so many events, by its first word and what stands behind it.
+pub(crate) fn take_inner(
+    domain: Domain,
+    alloc: Global,
+    count: u64,
+    sizes: &[usize],
+    word: &[u8],
+    text: &[u8],
+) -> Taken
+    requires few { IsTrue (is_few domain) }
+    requires room { count ≤ 256 }
+    ensures kept { IsKept result.0 }
+    ensures takes { (rounds : ℕ) → Takes (InRound domain count) (draft_of result.0) rounds sizes.now
+        (inner_line domain count sizes.now word.now text.now) result.1 }
+{
+    match inner_line(&domain, count, sizes, word, text) {
+        Ok(asked) => match make_event(alloc, asked) {
+            Ok(event) => {
+                let count = count + 1;
+                (Due::Round { domain, count }, Ok(Step::Event(event)))
+            }
+            Err(untaken) => (Due::Round { domain, count }, Err(untaken)),
+        },
+        Err(refusal) => (Due::Round { domain, count }, Err(Untaken::Refused(refusal))),
     }
 }

@@ -1,19 +1,21 @@
 //! The lines that ask for events.
 
-ghost use Rattle.std.specs.Prelude.{◌≡◌, false, bytes_eq, ◌<◌, ◌≤◌, ℕ, List, codes, length, is_some, nat_le, nat_lt, if◌then◌else◌, Some, Ok, Err, IfOk, IfSome, IsTrue, option_map};
+ghost use Rattle.std.specs.Prelude.{◌≡◌, true, false, bytes_eq, ◌<◌, ◌≤◌, ℕ, List, codes, length, is_some, nat_le, nat_lt, if◌then◌else◌, Some, Ok, Err, IfOk, IfSome, IsTrue, option_map};
+ghost use Rattle.run_journal.specs.declared.domain.Domain.{Domain as AnyDomain};
 ghost use Rattle.run_journal.specs.declared.domain.Event.TheVariants as asks;
+ghost use Rattle.domain_base.specs.declared.names.Akm.TheVariants.{FtPsk};
 ghost use Rattle.frame_script.specs.Tokens.{hex_value, number_of_digits, split_word};
 ghost use Rattle.frame_script.specs.Headers.{CanHappen, IsListedIn, IsReceiverIn, IsSized};
 ghost use Rattle.frame_script.specs.Refusals.{fault_of};
-ghost use Rattle.frame_script.specs.Script.{Asks, alter_line, connect_line, cut_line, deliver_line, event_line, event_of, frame_octets, inject_line, listed, listed_ap, listed_sta, need, node_, frame_, place_, ◌>>=◌ as ◌>>=ᴿ◌, place_in, expire_line, leave_line, octets_within, receiver_by, rekey_line, retry_line, revoke_line, send_between, send_line, send_payload, session_event_of, size_of, to_word};
-ghost use Rattle.frame_script.specs.Sentences.{CanAsk, Tells, TellsBy, event_of as event_asked, is_few, name_of, octets_of, peer_of};
+ghost use Rattle.frame_script.specs.Script.{Asks, alter_line, connect_line, cut_line, deliver_line, event_line, event_node, event_of, frame_octets, inject_line, is_transition, listed, listed_ap, listed_sta, need, node_, frame_, place_, ◌>>=◌ as ◌>>=ᴿ◌, place_in, expire_line, leave_line, octets_within, part_line, receiver_by, rekey_line, retry_line, revoke_line, roam_line, send_between, send_line, send_payload, session_event_of, size_of, station_event_of, to_word, word_};
+ghost use Rattle.frame_script.specs.Sentences.{CanAsk, CanJoin, Tells, TellsBy, event_of as event_asked, is_few, name_of, octets_of, peer_of};
 
 use crate::refusal::Refusal;
 use crate::tokens::{
     NodeName, PeerName, behind, hex_octets, is_octets, node_name, number_of_digits, peer_name,
     split_word, tid_of,
 };
-use domain_base::{Node, Peer, Tid};
+use domain_base::{Akm, Node, Peer, Tid};
 use run_journal::{Domain, Event};
 
 /// What is asked for, before memory is taken for it.
@@ -33,8 +35,11 @@ const MOST_OCTETS: usize = 2400;
 // The most octets of a payload.
 const MOST_PAYLOAD: usize = 2304;
 
-// The most frames that are sent before an event.
-const MOST_FRAMES: usize = 65535;
+/// The most frames that are sent before an event or a round.
+pub(crate) const MOST_FRAMES: usize = 65535;
+
+// The most events in a round.
+const MOST_EVENTS: u64 = 256;
 
 // The place from 0 of the number from 1, where so many are listed.
 #[tactic(auto, unfolding(crate::specs::Script::place_in))]
@@ -89,6 +94,19 @@ fn listed(domain: &Domain, name: NodeName) -> Option<Node>
     }
 }
 
+// A listed node that takes a frame or sends a payload, within a round or not.
+#[tactic(auto, unfolding(crate::specs::Script::event_node))]
+fn event_node(domain: &Domain, within: bool, name: NodeName) -> Option<Node>
+    requires { IsTrue (is_few domain.now) }
+    ensures inside { IfSome result (IsListedIn domain.now) }
+    ensures value { result ≡ event_node within domain.now (name_of name) }
+{
+    match name {
+        NodeName::Ap(_) => listed(domain, name),
+        NodeName::Sta(_) => { if within { None } else { listed(domain, name) } }
+    }
+}
+
 // The size of the frame of that number, from 1.
 #[tactic(auto, unfolding(crate::specs::Script::size_of))]
 fn size_of(sizes: &[usize], number: u64) -> Option<usize>
@@ -137,6 +155,34 @@ fn connect_line(domain: &Domain, text: &[u8]) -> Result<Event, Refusal>
     connect(domain, sta, ap)
 }
 
+// A station begins an attempt by fast transition with an access point, by their names.
+fn roam(domain: &Domain, sta: NodeName, ap: NodeName) -> Result<Event, Refusal>
+    requires few { IsTrue (is_few domain.now) }
+    requires suite { domain.now.akm ≡ FtPsk }
+    ensures can { (sizes : List ℕ) → IfOk result (CanHappen domain.now sizes) }
+    ensures says { Tells result
+        (need node_ (listed_sta domain.now (name_of sta)) >>=ᴿ (λ s.
+        need node_ (listed_ap domain.now (name_of ap)) >>=ᴿ (λ a. Ok (asks.Roam s a)))) }
+{
+    let sta = listed_sta(domain, sta).ok_or(Refusal::Node)?;
+    let ap = listed_ap(domain, ap).ok_or(Refusal::Node)?;
+    Ok(Event::Roam { sta, ap })
+}
+
+// A station begins an attempt by fast transition with an access point.
+#[tactic(auto, unfolding(crate::specs::Script::roam_line))]
+fn roam_line(domain: &Domain, text: &[u8]) -> Result<Event, Refusal>
+    requires few { IsTrue (is_few domain.now) }
+    requires suite { domain.now.akm ≡ FtPsk }
+    ensures can { (sizes : List ℕ) → IfOk result (CanHappen domain.now sizes) }
+    ensures says { Tells result (roam_line domain.now text.now) }
+{
+    let (first, second) = split_word(text).ok_or(Refusal::Arguments)?;
+    let sta = node_name(first).ok_or(Refusal::Arguments)?;
+    let ap = node_name(second).ok_or(Refusal::Arguments)?;
+    roam(domain, sta, ap)
+}
+
 // An access point sends a station once more what it waits to have answered, by their names.
 fn retry(domain: &Domain, ap: NodeName, sta: NodeName) -> Result<Event, Refusal>
     requires { IsTrue (is_few domain.now) }
@@ -164,29 +210,40 @@ fn retry_line(domain: &Domain, text: &[u8]) -> Result<Event, Refusal>
 }
 
 // A frame that was sent comes to a node, by its number and the node's name.
-fn deliver(domain: &Domain, sizes: &[usize], number: u64, name: NodeName) -> Result<Event, Refusal>
+fn deliver(
+    domain: &Domain,
+    within: bool,
+    sizes: &[usize],
+    number: u64,
+    name: NodeName,
+) -> Result<Event, Refusal>
     requires { IsTrue (is_few domain.now) }
     ensures can { IfOk result (CanHappen domain.now sizes.now) }
     ensures says { Tells result
-        (need node_ (listed domain.now (name_of name)) >>=ᴿ (λ to.
+        (need node_ (event_node within domain.now (name_of name)) >>=ᴿ (λ to.
         need frame_ (size_of sizes.now number) >>=ᴿ (λ _. Ok (asks.Deliver number to)))) }
 {
-    let to = listed(domain, name).ok_or(Refusal::Node)?;
+    let to = event_node(domain, within, name).ok_or(Refusal::Node)?;
     size_of(sizes, number).ok_or(Refusal::Frame)?;
     Ok(Event::Deliver { number, to })
 }
 
 // A frame that was sent comes to a node.
 #[tactic(auto, unfolding(crate::specs::Script::deliver_line))]
-fn deliver_line(domain: &Domain, sizes: &[usize], text: &[u8]) -> Result<Event, Refusal>
+fn deliver_line(
+    domain: &Domain,
+    within: bool,
+    sizes: &[usize],
+    text: &[u8],
+) -> Result<Event, Refusal>
     requires { IsTrue (is_few domain.now) }
     ensures can { IfOk result (CanHappen domain.now sizes.now) }
-    ensures says { Tells result (deliver_line domain.now sizes.now text.now) }
+    ensures says { Tells result (deliver_line domain.now within sizes.now text.now) }
 {
     let (number, rest) = split_word(text).ok_or(Refusal::Arguments)?;
     let number = number_of_digits(number).ok_or(Refusal::Arguments)?;
     let name = to_name(rest).ok_or(Refusal::Arguments)?;
-    deliver(domain, sizes, number, name)
+    deliver(domain, within, sizes, number, name)
 }
 
 // Whether a frame of that size has an octet at that place.
@@ -196,23 +253,13 @@ fn has_place(place: u64, size: usize) -> bool
     place < size as u64
 }
 
-// A frame that was sent comes to a node with one octet changed, by numbers and the node's name.
-fn alter(
-    domain: &Domain,
-    sizes: &[usize],
-    number: u64,
-    place: u64,
-    mask: u8,
-    name: NodeName,
-) -> Result<Event, Refusal>
-    requires { IsTrue (is_few domain.now) }
-    ensures can { IfOk result (CanHappen domain.now sizes.now) }
+// A frame that was sent comes to a node with one octet changed, by numbers and the node.
+fn alter(sizes: &[usize], number: u64, place: u64, mask: u8, to: Node) -> Result<Event, Refusal>
+    ensures can { (d : AnyDomain) → IsListedIn d to → IfOk result (CanHappen d sizes.now) }
     ensures says { Tells result
-        (need node_ (listed domain.now (name_of name)) >>=ᴿ (λ to.
-        need frame_ (size_of sizes.now number) >>=ᴿ (λ size.
-        if nat_lt place size then Ok (asks.Alter number place mask to) else Err place_))) }
+        (need frame_ (size_of sizes.now number) >>=ᴿ (λ size.
+        if nat_lt place size then Ok (asks.Alter number place mask to) else Err place_)) }
 {
-    let to = listed(domain, name).ok_or(Refusal::Node)?;
     let size = size_of(sizes, number).ok_or(Refusal::Frame)?;
     if !has_place(place, size) {
         return Err(Refusal::Place);
@@ -231,6 +278,7 @@ fn alter(
 #[tactic(auto, unfolding(crate::specs::Script::alter_line))]
 fn alter_octet(
     domain: &Domain,
+    within: bool,
     sizes: &[usize],
     number: u64,
     place: u64,
@@ -241,44 +289,52 @@ fn alter_octet(
     ensures says { (line word rest second : List ℕ) → split_word line ≡ Some (word, rest)
         → number_of_digits word ≡ Some number → split_word rest ≡ Some (second, text.now)
         → number_of_digits second ≡ Some place
-        → Tells result (alter_line domain.now sizes.now line) }
+        → Tells result (alter_line domain.now within sizes.now line) }
 {
     let (mask, rest) = split_word(text).ok_or(Refusal::Arguments)?;
     let mask: [u8; 1] = hex_octets(mask).ok_or(Refusal::Arguments)?;
     let name = to_name(rest).ok_or(Refusal::Arguments)?;
-    alter(domain, sizes, number, place, mask[0], name)
+    let to = event_node(domain, within, name).ok_or(Refusal::Node)?;
+    alter(sizes, number, place, mask[0], to)
 }
 
 // A frame that was sent comes to a node with one octet changed, by its number and what stands
 // behind that in the line.
 #[tactic(auto, unfolding(crate::specs::Script::alter_line))]
-fn alter_frame(domain: &Domain, sizes: &[usize], number: u64, text: &[u8]) -> Result<Event, Refusal>
+fn alter_frame(
+    domain: &Domain,
+    within: bool,
+    sizes: &[usize],
+    number: u64,
+    text: &[u8],
+) -> Result<Event, Refusal>
     requires { IsTrue (is_few domain.now) }
     ensures can { IfOk result (CanHappen domain.now sizes.now) }
     ensures says { (line word : List ℕ) → split_word line ≡ Some (word, text.now)
         → number_of_digits word ≡ Some number
-        → Tells result (alter_line domain.now sizes.now line) }
+        → Tells result (alter_line domain.now within sizes.now line) }
 {
     let (place, rest) = split_word(text).ok_or(Refusal::Arguments)?;
     let place = number_of_digits(place).ok_or(Refusal::Arguments)?;
-    alter_octet(domain, sizes, number, place, rest)
+    alter_octet(domain, within, sizes, number, place, rest)
 }
 
 // A frame that was sent comes to a node with one octet changed.
 #[tactic(auto, unfolding(crate::specs::Script::alter_line))]
-fn alter_line(domain: &Domain, sizes: &[usize], text: &[u8]) -> Result<Event, Refusal>
+fn alter_line(domain: &Domain, within: bool, sizes: &[usize], text: &[u8]) -> Result<Event, Refusal>
     requires { IsTrue (is_few domain.now) }
     ensures can { IfOk result (CanHappen domain.now sizes.now) }
-    ensures says { Tells result (alter_line domain.now sizes.now text.now) }
+    ensures says { Tells result (alter_line domain.now within sizes.now text.now) }
 {
     let (number, rest) = split_word(text).ok_or(Refusal::Arguments)?;
     let number = number_of_digits(number).ok_or(Refusal::Arguments)?;
-    alter_frame(domain, sizes, number, rest)
+    alter_frame(domain, within, sizes, number, rest)
 }
 
 // The first octets of a frame that was sent come to a node, by numbers and the node's name.
 fn cut(
     domain: &Domain,
+    within: bool,
     sizes: &[usize],
     number: u64,
     count: u64,
@@ -287,11 +343,11 @@ fn cut(
     requires { IsTrue (is_few domain.now) }
     ensures can { IfOk result (CanHappen domain.now sizes.now) }
     ensures says { Tells result
-        (need node_ (listed domain.now (name_of name)) >>=ᴿ (λ to.
+        (need node_ (event_node within domain.now (name_of name)) >>=ᴿ (λ to.
         need frame_ (size_of sizes.now number) >>=ᴿ (λ size.
         if nat_le count size then Ok (asks.Cut number count to) else Err place_))) }
 {
-    let to = listed(domain, name).ok_or(Refusal::Node)?;
+    let to = event_node(domain, within, name).ok_or(Refusal::Node)?;
     let whole = size_of(sizes, number).ok_or(Refusal::Frame)?;
     let size = count as usize;
     if size <= whole {
@@ -304,29 +360,35 @@ fn cut(
 // The first octets of a frame that was sent come to a node, by its number and what stands behind
 // that in the line.
 #[tactic(auto, unfolding(crate::specs::Script::cut_line))]
-fn cut_frame(domain: &Domain, sizes: &[usize], number: u64, text: &[u8]) -> Result<Event, Refusal>
+fn cut_frame(
+    domain: &Domain,
+    within: bool,
+    sizes: &[usize],
+    number: u64,
+    text: &[u8],
+) -> Result<Event, Refusal>
     requires { IsTrue (is_few domain.now) }
     ensures can { IfOk result (CanHappen domain.now sizes.now) }
     ensures says { (line word : List ℕ) → split_word line ≡ Some (word, text.now)
         → number_of_digits word ≡ Some number
-        → Tells result (cut_line domain.now sizes.now line) }
+        → Tells result (cut_line domain.now within sizes.now line) }
 {
     let (count, rest) = split_word(text).ok_or(Refusal::Arguments)?;
     let count = number_of_digits(count).ok_or(Refusal::Arguments)?;
     let name = to_name(rest).ok_or(Refusal::Arguments)?;
-    cut(domain, sizes, number, count, name)
+    cut(domain, within, sizes, number, count, name)
 }
 
 // The first octets of a frame that was sent come to a node.
 #[tactic(auto, unfolding(crate::specs::Script::cut_line))]
-fn cut_line(domain: &Domain, sizes: &[usize], text: &[u8]) -> Result<Event, Refusal>
+fn cut_line(domain: &Domain, within: bool, sizes: &[usize], text: &[u8]) -> Result<Event, Refusal>
     requires { IsTrue (is_few domain.now) }
     ensures can { IfOk result (CanHappen domain.now sizes.now) }
-    ensures says { Tells result (cut_line domain.now sizes.now text.now) }
+    ensures says { Tells result (cut_line domain.now within sizes.now text.now) }
 {
     let (number, rest) = split_word(text).ok_or(Refusal::Arguments)?;
     let number = number_of_digits(number).ok_or(Refusal::Arguments)?;
-    cut_frame(domain, sizes, number, rest)
+    cut_frame(domain, within, sizes, number, rest)
 }
 
 // Octets, at most so many, or they are refused as too many.
@@ -347,28 +409,34 @@ fn octets_within(most: usize, many: Refusal, text: &[u8]) -> Result<(), Refusal>
 }
 
 // Octets come to a node, by its name and their digits.
-fn inject<'a>(domain: &Domain, name: NodeName, digits: &'a [u8]) -> Result<Asked<'a>, Refusal>
+fn inject<'a>(
+    domain: &Domain,
+    within: bool,
+    name: NodeName,
+    digits: &'a [u8],
+) -> Result<Asked<'a>, Refusal>
     requires { IsTrue (is_few domain.now) }
     ensures can { (sizes : List ℕ) → IfOk result (CanAsk domain.now sizes) }
     ensures says { TellsBy event_asked result
         (frame_octets digits.now >>=ᴿ (λ octets.
-        need node_ (listed domain.now (name_of name)) >>=ᴿ (λ to. Ok (asks.Inject to octets)))) }
+        need node_ (event_node within domain.now (name_of name)) >>=ᴿ (λ to.
+        Ok (asks.Inject to octets)))) }
 {
     octets_within(MOST_OCTETS, Refusal::LongFrame, digits)?;
-    let to = listed(domain, name).ok_or(Refusal::Node)?;
+    let to = event_node(domain, within, name).ok_or(Refusal::Node)?;
     Ok(Asked::Inject(to, digits))
 }
 
 // Octets come to a node.
 #[tactic(auto, unfolding(crate::specs::Script::inject_line))]
-fn inject_line<'a>(domain: &Domain, text: &'a [u8]) -> Result<Asked<'a>, Refusal>
+fn inject_line<'a>(domain: &Domain, within: bool, text: &'a [u8]) -> Result<Asked<'a>, Refusal>
     requires { IsTrue (is_few domain.now) }
     ensures can { (sizes : List ℕ) → IfOk result (CanAsk domain.now sizes) }
-    ensures says { TellsBy event_asked result (inject_line domain.now text.now) }
+    ensures says { TellsBy event_asked result (inject_line domain.now within text.now) }
 {
     let (word, digits) = split_word(text).ok_or(Refusal::Arguments)?;
     let name = node_name(word).ok_or(Refusal::Arguments)?;
-    inject(domain, name, digits)
+    inject(domain, within, name, digits)
 }
 
 // To whom the node sends, by the name.
@@ -390,6 +458,7 @@ fn receiver_of(domain: &Domain, from: Node, name: PeerName) -> Option<Peer>
 #[tactic(auto, unfolding(crate::specs::Script::send_payload))]
 fn send_payload<'a>(
     domain: &Domain,
+    within: bool,
     from: NodeName,
     to: PeerName,
     tid: Option<Tid>,
@@ -398,10 +467,10 @@ fn send_payload<'a>(
     requires { IsTrue (is_few domain.now) }
     ensures can { (sizes : List ℕ) → IfOk result (CanAsk domain.now sizes) }
     ensures says { TellsBy event_asked result
-        (send_payload domain.now (name_of from) (peer_of to) tid digits.now) }
+        (send_payload domain.now within (name_of from) (peer_of to) tid digits.now) }
 {
     octets_within(MOST_PAYLOAD, Refusal::LongPayload, digits)?;
-    let from = listed(domain, from).ok_or(Refusal::Node)?;
+    let from = event_node(domain, within, from).ok_or(Refusal::Node)?;
     let to = receiver_of(domain, from, to).ok_or(Refusal::Node)?;
     Ok(Asked::Send(from, to, tid, digits))
 }
@@ -410,6 +479,7 @@ fn send_payload<'a>(
 #[tactic(auto, unfolding(crate::specs::Script::send_between))]
 fn send_between<'a>(
     domain: &Domain,
+    within: bool,
     from: NodeName,
     to: PeerName,
     text: &'a [u8],
@@ -417,25 +487,25 @@ fn send_between<'a>(
     requires { IsTrue (is_few domain.now) }
     ensures can { (sizes : List ℕ) → IfOk result (CanAsk domain.now sizes) }
     ensures says { TellsBy event_asked result
-        (send_between domain.now (name_of from) (peer_of to) text.now) }
+        (send_between domain.now within (name_of from) (peer_of to) text.now) }
 {
     let (word, digits) = split_word(text).ok_or(Refusal::Arguments)?;
     let tid = tid_of(word).ok_or(Refusal::Arguments)?;
-    send_payload(domain, from, to, tid, digits)
+    send_payload(domain, within, from, to, tid, digits)
 }
 
 // A node sends a payload.
 #[tactic(auto, unfolding(crate::specs::Script::send_line))]
-fn send_line<'a>(domain: &Domain, text: &'a [u8]) -> Result<Asked<'a>, Refusal>
+fn send_line<'a>(domain: &Domain, within: bool, text: &'a [u8]) -> Result<Asked<'a>, Refusal>
     requires { IsTrue (is_few domain.now) }
     ensures can { (sizes : List ℕ) → IfOk result (CanAsk domain.now sizes) }
-    ensures says { TellsBy event_asked result (send_line domain.now text.now) }
+    ensures says { TellsBy event_asked result (send_line domain.now within text.now) }
 {
     let (first, rest) = split_word(text).ok_or(Refusal::Arguments)?;
     let from = node_name(first).ok_or(Refusal::Arguments)?;
     let (second, rest) = split_word(rest).ok_or(Refusal::Arguments)?;
     let to = peer_name(second).ok_or(Refusal::Arguments)?;
-    send_between(domain, from, to, rest)
+    send_between(domain, within, from, to, rest)
 }
 
 // An access point draws a new group key.
@@ -514,12 +584,48 @@ fn leave_line(domain: &Domain, text: &[u8]) -> Result<Event, Refusal>
     Ok(Event::Leave { sta })
 }
 
-// An event of an access point's or a station's sessions, by its first word.
-#[tactic(auto, unfolding(crate::specs::Script::session_event_of))]
-fn session_event_of(domain: &Domain, word: &[u8], text: &[u8]) -> Result<Event, Refusal>
+// A station begins an attempt by fast transition, where the suite has that.
+fn transition(domain: &Domain, text: &[u8]) -> Result<Event, Refusal>
     requires { IsTrue (is_few domain.now) }
     ensures can { (sizes : List ℕ) → IfOk result (CanHappen domain.now sizes) }
-    ensures says { Tells result (session_event_of domain.now word.now text.now) }
+    ensures says { Tells result
+        (if is_transition domain.now.akm then roam_line domain.now text.now else Err word_) }
+{
+    match domain.akm {
+        Akm::FtPsk => roam_line(domain, text),
+        Akm::Psk | Akm::PskSha256 => Err(Refusal::Word),
+    }
+}
+
+// An event that a station begins, by its first word.
+#[tactic(auto, unfolding(crate::specs::Script::station_event_of))]
+fn station_event_of(domain: &Domain, word: &[u8], text: &[u8]) -> Result<Event, Refusal>
+    requires { IsTrue (is_few domain.now) }
+    ensures can { (sizes : List ℕ) → IfOk result (CanHappen domain.now sizes) }
+    ensures says { Tells result (station_event_of domain.now word.now text.now) }
+{
+    if word == b"connect".as_slice() {
+        connect_line(domain, text)
+    } else if word == b"leave".as_slice() {
+        leave_line(domain, text)
+    } else if word == b"roam".as_slice() {
+        transition(domain, text)
+    } else {
+        Err(Refusal::Word)
+    }
+}
+
+// An event of an access point's or a station's sessions, by its first word.
+#[tactic(auto, unfolding(crate::specs::Script::session_event_of))]
+fn session_event_of(
+    domain: &Domain,
+    within: bool,
+    word: &[u8],
+    text: &[u8],
+) -> Result<Event, Refusal>
+    requires { IsTrue (is_few domain.now) }
+    ensures can { (sizes : List ℕ) → IfOk result (CanHappen domain.now sizes) }
+    ensures says { Tells result (session_event_of domain.now within word.now text.now) }
 {
     if word == b"rekey".as_slice() {
         rekey_line(domain, text)
@@ -527,10 +633,10 @@ fn session_event_of(domain: &Domain, word: &[u8], text: &[u8]) -> Result<Event, 
         expire_line(domain, text)
     } else if word == b"revoke".as_slice() {
         revoke_line(domain, text)
-    } else if word == b"leave".as_slice() {
-        leave_line(domain, text)
-    } else {
+    } else if within {
         Err(Refusal::Word)
+    } else {
+        station_event_of(domain, word, text)
     }
 }
 
@@ -538,25 +644,25 @@ fn session_event_of(domain: &Domain, word: &[u8], text: &[u8]) -> Result<Event, 
 #[tactic(auto, unfolding(crate::specs::Script::event_of))]
 fn other_event_of(
     domain: &Domain,
+    within: bool,
     sizes: &[usize],
     word: &[u8],
     text: &[u8],
 ) -> Result<Event, Refusal>
     requires few { IsTrue (is_few domain.now) }
-    requires no_connect { bytes_eq word.now (codes "connect") ≡ false }
     requires no_deliver { bytes_eq word.now (codes "deliver") ≡ false }
     requires no_alter { bytes_eq word.now (codes "alter") ≡ false }
     requires no_inject { bytes_eq word.now (codes "inject") ≡ false }
     requires no_send { bytes_eq word.now (codes "send") ≡ false }
     ensures can { IfOk result (CanHappen domain.now sizes.now) }
-    ensures says { Tells result (event_of domain.now sizes.now word.now text.now) }
+    ensures says { Tells result (event_of domain.now within sizes.now word.now text.now) }
 {
     if word == b"cut".as_slice() {
-        cut_line(domain, sizes, text)
+        cut_line(domain, within, sizes, text)
     } else if word == b"retry".as_slice() {
         retry_line(domain, text)
     } else {
-        session_event_of(domain, word, text)
+        session_event_of(domain, within, word, text)
     }
 }
 
@@ -564,6 +670,7 @@ fn other_event_of(
 #[tactic(auto, unfolding(crate::specs::Script::event_of))]
 fn small_event_of(
     domain: &Domain,
+    within: bool,
     sizes: &[usize],
     word: &[u8],
     text: &[u8],
@@ -572,42 +679,42 @@ fn small_event_of(
     requires no_inject { bytes_eq word.now (codes "inject") ≡ false }
     requires no_send { bytes_eq word.now (codes "send") ≡ false }
     ensures can { IfOk result (CanHappen domain.now sizes.now) }
-    ensures says { Tells result (event_of domain.now sizes.now word.now text.now) }
+    ensures says { Tells result (event_of domain.now within sizes.now word.now text.now) }
 {
-    if word == b"connect".as_slice() {
-        connect_line(domain, text)
-    } else if word == b"deliver".as_slice() {
-        deliver_line(domain, sizes, text)
+    if word == b"deliver".as_slice() {
+        deliver_line(domain, within, sizes, text)
     } else if word == b"alter".as_slice() {
-        alter_line(domain, sizes, text)
+        alter_line(domain, within, sizes, text)
     } else {
-        other_event_of(domain, sizes, word, text)
+        other_event_of(domain, within, sizes, word, text)
     }
 }
 
-// An event by its first word.
+// An event by its first word, within a round or not.
 #[tactic(auto, unfolding(crate::specs::Script::event_of))]
 fn event_of<'a>(
     domain: &Domain,
+    within: bool,
     sizes: &[usize],
     word: &[u8],
     text: &'a [u8],
 ) -> Result<Asked<'a>, Refusal>
     requires { IsTrue (is_few domain.now) }
     ensures can { IfOk result (λ a. CanAsk domain.now sizes.now a) }
-    ensures says { TellsBy event_asked result (event_of domain.now sizes.now word.now text.now) }
+    ensures says { TellsBy event_asked result
+        (event_of domain.now within sizes.now word.now text.now) }
 {
     if word == b"inject".as_slice() {
-        inject_line(domain, text)
+        inject_line(domain, within, text)
     } else if word == b"send".as_slice() {
-        send_line(domain, text)
+        send_line(domain, within, text)
     } else {
-        let event = small_event_of(domain, sizes, word, text)?;
+        let event = small_event_of(domain, within, sizes, word, text)?;
         Ok(Asked::Event(event))
     }
 }
 
-/// An event, where no more frames were sent than a run can number.
+/// An event that is a round by itself, where no more frames were sent than a run can number.
 #[tactic(auto, unfolding(crate::specs::Script::event_line))]
 pub(crate) fn event_line<'a>(
     domain: &Domain,
@@ -620,10 +727,32 @@ pub(crate) fn event_line<'a>(
     ensures says { TellsBy (λ a. Asks (event_asked a)) result
         (event_line domain.now sizes.now word.now text.now) }
 {
-    let asked = event_of(domain, sizes, word, text)?;
+    let asked = event_of(domain, false, sizes, word, text)?;
     if sizes.len() <= MOST_FRAMES {
         Ok(asked)
     } else {
         Err(Refusal::ManyFrames)
+    }
+}
+
+/// An event in a round that has so many, where it is not one too many.
+#[tactic(auto, using(crate::proofs::Joining::can_join), unfolding(crate::specs::Script::part_line))]
+pub(crate) fn part_line<'a>(
+    domain: &Domain,
+    count: u64,
+    sizes: &[usize],
+    word: &[u8],
+    text: &'a [u8],
+) -> Result<Asked<'a>, Refusal>
+    requires { IsTrue (is_few domain.now) }
+    ensures can { IfOk result (CanJoin domain.now count sizes.now) }
+    ensures says { TellsBy (λ a. Asks (event_asked a)) result
+        (part_line domain.now count sizes.now word.now text.now) }
+{
+    let asked = event_of(domain, true, sizes, word, text)?;
+    if count < MOST_EVENTS {
+        Ok(asked)
+    } else {
+        Err(Refusal::ManyEvents)
     }
 }

@@ -1,11 +1,14 @@
 //! The forms of a script's lines.
 
-ghost use Rattle.std.specs.Prelude.{◌≡◌};
+ghost use Rattle.std.specs.Prelude.{◌≡◌, if◌then◌else◌};
+ghost use Rattle.frame_script.specs.declared.forms.Form.TheVariants as forms;
 ghost use Rattle.frame_script.specs.Due.{draft_of};
-ghost use Rattle.frame_script.specs.Forms.{body_form, event_form, form_of, form_text, frame_form, key_form, late_form, session_form};
+ghost use Rattle.frame_script.specs.Script.{is_transition};
+ghost use Rattle.frame_script.specs.Forms.{body_form, event_form, form_of, form_text, frame_form, inner_form, key_form, late_form, session_form};
 
 use crate::header::Due;
 use crate::tokens::first_word;
+use domain_base::Akm;
 use run_journal::Domain;
 
 /// The form that a line should have had.
@@ -25,12 +28,16 @@ pub enum Form {
     Psk,
     /// The suite.
     Akm,
+    /// The mobility domain.
+    Mdid,
     /// An access point.
     Ap,
     /// A station.
     Sta,
-    /// An event that a station begins.
+    /// A station that begins an attempt by association.
     Connect,
+    /// A station that begins an attempt by fast transition.
+    Roam,
     /// A frame that comes.
     Deliver,
     /// A frame that comes with an octet changed.
@@ -51,12 +58,18 @@ pub enum Form {
     Revoke,
     /// A station that drops what it has.
     Leave,
-    /// An access point, a station or an event.
+    /// The begin of a round.
+    Round,
+    /// The end of a round.
+    End,
+    /// An access point, a station, an event or a round.
     Any,
-    /// A station or an event.
+    /// A station, an event or a round.
     StaOrEvent,
-    /// An event.
+    /// An event or a round.
     Event,
+    /// An event in a round, or the end of the round.
+    EventInRound,
 }
 
 impl Form {
@@ -71,10 +84,12 @@ impl Form {
             Form::Key => "passphrase <8 to 63 octets> or psk <64 digits>",
             Form::Passphrase => "passphrase <8 to 63 octets>",
             Form::Psk => "psk <64 digits>",
-            Form::Akm => "akm <psk or psk-sha256>",
+            Form::Akm => "akm <psk, psk-sha256 or ft-psk>",
+            Form::Mdid => "mdid <4 digits>",
             Form::Ap => "ap <12 digits> <R0KH-ID of 1 to 48 octets>",
             Form::Sta => "sta <12 digits>",
             Form::Connect => "connect <sta> <ap>",
+            Form::Roam => "roam <sta> <ap>",
             Form::Deliver => "deliver <n> to <node>",
             Form::Alter => "alter <n> <place> <2 digits> to <node>",
             Form::Cut => "cut <n> <length> to <node>",
@@ -85,14 +100,19 @@ impl Form {
             Form::Expire => "expire <ap> <sta>",
             Form::Revoke => "revoke <ap> <sta>",
             Form::Leave => "leave <sta>",
+            Form::Round => "round",
+            Form::End => "end",
             Form::Any => {
-                "that of ap, sta, connect, deliver, alter, cut, inject, retry, rekey, send, expire, revoke or leave"
+                "that of ap, sta, connect, roam with ft-psk, deliver, alter, cut, inject, retry, rekey, send, expire, revoke, leave or round"
             }
             Form::StaOrEvent => {
-                "that of sta, connect, deliver, alter, cut, inject, retry, rekey, send, expire, revoke or leave"
+                "that of sta, connect, roam with ft-psk, deliver, alter, cut, inject, retry, rekey, send, expire, revoke, leave or round"
             }
             Form::Event => {
-                "that of connect, deliver, alter, cut, inject, retry, rekey, send, expire, revoke or leave"
+                "that of connect, roam with ft-psk, deliver, alter, cut, inject, retry, rekey, send, expire, revoke, leave or round"
+            }
+            Form::EventInRound => {
+                "that of deliver, alter, cut, inject, retry, rekey, send, expire, revoke or end"
             }
         }
     }
@@ -128,12 +148,14 @@ fn frame_form(word: &[u8], other: Form) -> Form
     }
 }
 
-// The form of a line for an access point's or a station's sessions, by its first word; for another
-// word the other one.
+// The form of a line for an access point's sessions, by its first word; for another word the other
+// one.
 fn session_form(word: &[u8], other: Form) -> Form
     ensures { result ≡ session_form word.now other }
 {
-    if word == b"rekey".as_slice() {
+    if word == b"retry".as_slice() {
+        Form::Retry
+    } else if word == b"rekey".as_slice() {
         Form::Rekey
     } else if word == b"send".as_slice() {
         Form::Send
@@ -141,23 +163,48 @@ fn session_form(word: &[u8], other: Form) -> Form
         Form::Expire
     } else if word == b"revoke".as_slice() {
         Form::Revoke
-    } else if word == b"leave".as_slice() {
-        Form::Leave
     } else {
         other
     }
 }
 
-// The form of a line that asks for an event, by its first word; for another word the other one.
-fn event_form(word: &[u8], other: Form) -> Form
-    ensures { result ≡ event_form word.now other }
+// The form of the line by which a station begins a fast transition, where the suite has that; for
+// another suite the other one.
+fn roam_form(domain: &Domain, other: Form) -> Form
+    ensures { result ≡ (if is_transition domain.now.akm then forms.Roam else other) }
+{
+    match domain.akm {
+        Akm::FtPsk => Form::Roam,
+        Akm::Psk | Akm::PskSha256 => other,
+    }
+}
+
+// The form of a line that asks for an event or begins a round, by its first word; for another word
+// the other one.
+fn event_form(domain: &Domain, word: &[u8], other: Form) -> Form
+    ensures { result ≡ event_form domain.now word.now other }
 {
     if word == b"connect".as_slice() {
         Form::Connect
-    } else if word == b"retry".as_slice() {
-        Form::Retry
+    } else if word == b"leave".as_slice() {
+        Form::Leave
+    } else if word == b"round".as_slice() {
+        Form::Round
+    } else if word == b"roam".as_slice() {
+        roam_form(domain, other)
     } else {
         frame_form(word, session_form(word, other))
+    }
+}
+
+// The form of a line in a round, by its first word.
+fn inner_form(word: &[u8]) -> Form
+    ensures { result ≡ inner_form word.now }
+{
+    if word == b"end".as_slice() {
+        Form::End
+    } else {
+        frame_form(word, session_form(word, Form::EventInRound))
     }
 }
 
@@ -190,7 +237,7 @@ fn body_form(domain: &Domain, rounds: u64, word: &[u8]) -> Form
     } else if word == b"sta".as_slice() {
         if rounds == 0 { Form::Sta } else { late }
     } else {
-        event_form(word, late)
+        event_form(domain, word, late)
     }
 }
 
@@ -205,6 +252,8 @@ pub(crate) fn form_of(due: &Due, rounds: u64, line: &[u8]) -> Form
         Due::Ssid { .. } => Form::Ssid,
         Due::Psk { .. } => key_form(word),
         Due::Akm { .. } => Form::Akm,
+        Due::Mdid { .. } => Form::Mdid,
         Due::Nodes { domain } => body_form(domain, rounds, word),
+        Due::Round { .. } => inner_form(word),
     }
 }

@@ -1,9 +1,9 @@
 //! The lines of a header.
 
-ghost use Rattle.std.specs.Prelude.{◌≡◌, ◌≢◌, ◌≤◌, ℕ, List, length, IfOk};
+ghost use Rattle.std.specs.Prelude.{◌≡◌, ◌≤◌, ℕ, List, length, IfOk};
 ghost use Rattle.domain_base.specs.declared.names.Akm.TheVariants.{FtPsk};
 ghost use Rattle.frame_script.specs.Due.{draft_of};
-ghost use Rattle.frame_script.specs.Script.{AtAkm, AtNodes, AtPsk, AtSeed, AtSsid, header_line, new_network, psk_of};
+ghost use Rattle.frame_script.specs.Script.{AtAkm, AtMdid, AtNodes, AtPsk, AtSeed, AtSsid, after_suite, header_line, new_network, psk_of};
 ghost use Rattle.frame_script.specs.Sentences.{IsKept, TakesHeader, Tells, TellsBy};
 
 use crate::reader::Step;
@@ -42,10 +42,26 @@ pub(crate) enum Due {
         /// The pre-shared key.
         psk: [u8; 32],
     },
+    /// The mobility domain, with the suite of fast transition.
+    Mdid {
+        /// The seed.
+        seed: [u8; 32],
+        /// The SSID.
+        ssid: Octets,
+        /// The pre-shared key.
+        psk: [u8; 32],
+    },
     /// None: the header is whole.
     Nodes {
         /// The network, with the nodes listed so far.
         domain: Domain,
+    },
+    /// None: a round is open.
+    Round {
+        /// The network.
+        domain: Domain,
+        /// How many events the round has so far: at most 256.
+        count: u64,
     },
 }
 
@@ -145,9 +161,7 @@ pub(crate) fn take_psk(seed: [u8; 32], ssid: Octets, word: &[u8], text: &[u8]) -
 // The suite by its name, behind its word.
 #[tactic(auto, unfolding(crate::specs::Script::header_line, crate::specs::Script::akm_of))]
 fn akm_line(word: &[u8], text: &[u8]) -> Result<Akm, Refusal>
-    ensures suite { IfOk result (λ akm. akm ≢ FtPsk) }
-    ensures says { (seed ssid psk : List ℕ) → TellsBy
-        (λ akm. AtNodes (new_network seed ssid psk akm)) result
+    ensures { (seed ssid psk : List ℕ) → TellsBy (λ akm. after_suite seed ssid psk akm) result
         (header_line (AtAkm seed ssid psk) word.now text.now) }
 {
     if word != b"akm".as_slice() {
@@ -156,27 +170,37 @@ fn akm_line(word: &[u8], text: &[u8]) -> Result<Akm, Refusal>
         Ok(Akm::Psk)
     } else if text == b"psk-sha256".as_slice() {
         Ok(Akm::PskSha256)
+    } else if text == b"ft-psk".as_slice() {
+        Ok(Akm::FtPsk)
     } else {
         Err(Refusal::Arguments)
     }
 }
 
 // The network of a header, without nodes.
-fn new_network(seed: [u8; 32], ssid: Octets, psk: [u8; 32], akm: Akm, alloc: Global) -> Domain
-    ensures { result ≡ new_network seed ssid psk akm }
+fn new_network(
+    seed: [u8; 32],
+    ssid: Octets,
+    psk: [u8; 32],
+    akm: Akm,
+    mdid: [u8; 2],
+    alloc: Global,
+) -> Domain
+    ensures { result ≡ new_network seed ssid psk akm mdid }
 {
     Domain {
         seed,
         ssid,
         psk,
         akm,
-        mdid: [0, 0],
+        mdid,
         aps: Aps(Vec::new(alloc)),
         stas: Stas(Vec::new(alloc)),
     }
 }
 
-/// Takes the suite, and makes the network with it.
+/// Takes the suite. The network is made with it, but with that of fast transition once the mobility
+/// domain is told.
 pub(crate) fn take_akm(
     seed: [u8; 32],
     ssid: Octets,
@@ -191,10 +215,54 @@ pub(crate) fn take_akm(
         word.now text.now result.1 }
 {
     match akm_line(word, text) {
-        Ok(akm) => {
-            let domain = new_network(seed, ssid, psk, akm, alloc);
+        Ok(Akm::Psk) => {
+            let domain = new_network(seed, ssid, psk, Akm::Psk, [0, 0], alloc);
             (Due::Nodes { domain }, Ok(Step::Network))
         }
+        Ok(Akm::PskSha256) => {
+            let domain = new_network(seed, ssid, psk, Akm::PskSha256, [0, 0], alloc);
+            (Due::Nodes { domain }, Ok(Step::Network))
+        }
+        Ok(Akm::FtPsk) => (Due::Mdid { seed, ssid, psk }, Ok(Step::Nothing)),
         Err(refusal) => (Due::Akm { seed, ssid, psk }, Err(Untaken::Refused(refusal))),
+    }
+}
+
+// The mobility domain in four hexadecimal digits, behind its word.
+#[tactic(auto, unfolding(crate::specs::Script::header_line, crate::specs::Script::mdid_of))]
+fn mdid_line(word: &[u8], text: &[u8]) -> Result<[u8; 2], Refusal>
+    ensures { (seed ssid psk : List ℕ) → TellsBy
+        (λ mdid. AtNodes (new_network seed ssid psk FtPsk mdid)) result
+        (header_line (AtMdid seed ssid psk) word.now text.now) }
+{
+    if word != b"mdid".as_slice() {
+        return Err(Refusal::Word);
+    }
+    hex_octets(text).ok_or(Refusal::Arguments)
+}
+
+/// Takes the mobility domain, and makes the network with it.
+pub(crate) fn take_mdid(
+    seed: [u8; 32],
+    ssid: Octets,
+    psk: [u8; 32],
+    alloc: Global,
+    word: &[u8],
+    text: &[u8],
+) -> Taken
+    requires { (1 ≤ length ssid) × (length ssid ≤ 32) }
+    ensures kept { IsKept result.0 }
+    ensures takes { TakesHeader (AtMdid seed ssid psk) (draft_of result.0)
+        word.now text.now result.1 }
+{
+    match mdid_line(word, text) {
+        Ok(mdid) => {
+            let domain = new_network(seed, ssid, psk, Akm::FtPsk, mdid, alloc);
+            (Due::Nodes { domain }, Ok(Step::Network))
+        }
+        Err(refusal) => (
+            Due::Mdid { seed, ssid, psk },
+            Err(Untaken::Refused(refusal)),
+        ),
     }
 }

@@ -2,11 +2,12 @@
 
 ghost use Rattle.std.specs.Prelude.{◌≡◌, ◌≢◌, ◌<◌, ◌^◌, ℕ, List};
 ghost use Rattle.frame_script.specs.Due.{draft_of};
-ghost use Rattle.frame_script.specs.Script.{AtVersion, is_passed_over, line_says};
+ghost use Rattle.frame_script.specs.Script.{AtVersion, border_line, is_border, is_passed_over, is_within, line_says};
 ghost use Rattle.frame_script.specs.Sentences.{IsKept, Takes, rounds_with, words_say};
 
-use crate::body::take_body;
-use crate::header::{Due, Taken, take_akm, take_psk, take_seed, take_ssid};
+use crate::body::{take_body, take_inner};
+use crate::events::MOST_FRAMES;
+use crate::header::{Due, Taken, take_akm, take_mdid, take_psk, take_seed, take_ssid};
 use crate::reader::Step;
 use crate::refusal::{Refusal, Untaken};
 use crate::tokens::first_word;
@@ -57,12 +58,48 @@ fn take_words(
         Due::Ssid { seed } => take_ssid(seed, alloc, word, text),
         Due::Psk { seed, ssid } => take_psk(seed, ssid, word, text),
         Due::Akm { seed, ssid, psk } => take_akm(seed, ssid, psk, alloc, word, text),
+        Due::Mdid { seed, ssid, psk } => take_mdid(seed, ssid, psk, alloc, word, text),
         Due::Nodes { domain } => take_body(domain, alloc, rounds, sizes, word, text),
+        Due::Round { domain, count } => take_inner(domain, alloc, count, sizes, word, text),
+    }
+}
+
+// Whether the line begins a round, or ends the one that is open.
+fn is_border(due: &Due, line: &[u8]) -> bool
+    ensures { result ≡ is_border (draft_of due.now) line.now }
+{
+    match due {
+        Due::Nodes { .. } => line == b"round".as_slice(),
+        Due::Round { .. } => line == b"end".as_slice(),
+        _ => false,
+    }
+}
+
+// Begins a round, or ends the one that is open.
+fn take_border(due: Due, sizes: &[usize]) -> Taken
+    requires { IsKept due }
+    ensures kept { IsKept result.0 }
+    ensures takes { (rounds : ℕ) → Takes (draft_of due) (draft_of result.0) rounds sizes.now
+        (border_line (draft_of due) sizes.now) result.1 }
+{
+    match due {
+        Due::Nodes { domain } => {
+            if sizes.len() <= MOST_FRAMES {
+                (Due::Round { domain, count: 0 }, Ok(Step::Round))
+            } else {
+                (
+                    Due::Nodes { domain },
+                    Err(Untaken::Refused(Refusal::ManyFrames)),
+                )
+            }
+        }
+        Due::Round { domain, .. } => (Due::Nodes { domain }, Ok(Step::End)),
+        due => (due, Err(Untaken::Refused(Refusal::Word))),
     }
 }
 
 // Takes a line behind the first one.
-#[tactic(auto, using(crate::proofs::Taking::passed, crate::proofs::Taking::worded))]
+#[tactic(auto, using(crate::proofs::Taking::later))]
 fn take_later(due: Due, alloc: Global, rounds: u64, sizes: &[usize], line: &[u8]) -> Taken
     requires kept { IsKept due }
     requires later { draft_of due ≢ AtVersion }
@@ -72,6 +109,9 @@ fn take_later(due: Due, alloc: Global, rounds: u64, sizes: &[usize], line: &[u8]
 {
     if is_passed_over(line) {
         return (due, Ok(Step::Nothing));
+    }
+    if is_border(&due, line) {
+        return take_border(due, sizes);
     }
     let (word, text) = first_word(line);
     take_words(due, alloc, rounds, sizes, word, text)
@@ -91,13 +131,21 @@ pub(crate) fn take_line(due: Due, alloc: Global, rounds: u64, sizes: &[usize], l
     }
 }
 
-/// How many rounds were asked for with this answer.
-pub(crate) fn rounds_with(rounds: u64, answer: &Result<Step, Untaken>) -> u64
+/// Whether a round is open.
+pub(crate) fn is_within(due: &Due) -> bool
+    ensures { result ≡ is_within (draft_of due.now) }
+{
+    matches!(due, Due::Round { .. })
+}
+
+/// How many rounds were asked for with this answer, within a round or not.
+pub(crate) fn rounds_with(within: bool, rounds: u64, answer: &Result<Step, Untaken>) -> u64
     requires { rounds < 2 ^ 63 }
-    ensures { result ≡ rounds_with rounds answer.now }
+    ensures { result ≡ rounds_with within rounds answer.now }
 {
     match answer {
-        Ok(Step::Event(_)) => rounds + 1,
+        Ok(Step::Event(_)) => { if within { rounds } else { rounds + 1 } }
+        Ok(Step::End) => rounds + 1,
         _ => rounds,
     }
 }

@@ -1,13 +1,13 @@
 //! The reader, and what it answers.
 
-ghost use Rattle.std.specs.Prelude.{◌≡◌, ◌<◌, ◌^◌, [], OnErr, OnOk, option_map};
+ghost use Rattle.std.specs.Prelude.{◌≡◌, ◌<◌, ◌^◌, [], None, Some, MatchResult, OnErr, OnOk, option_map};
 ghost use Rattle.run_journal.specs.declared.domain.Domain.{Domain as AnyDomain};
 
 use crate::forms::{Form, form_of};
 use crate::header::Due;
-use crate::lines::{rounds_with, take_line};
-use crate::refusal::Untaken;
-use crate::seen::see;
+use crate::lines::{is_within, rounds_with, take_line};
+use crate::refusal::{Refusal, Untaken};
+use crate::seen::see_by;
 use domain_base::{Mac, Octets};
 use run_journal::{Domain, Event, Journal};
 use std::alloc::Global;
@@ -19,11 +19,12 @@ use std::mem::replace;
 pub enum LineFault {
     /// The line is outside the grammar, for that reason: 1 it is the first and not `domain 1`; 2 no
     /// such word in this place; 3 the number or form of its arguments; 4 a node that is not listed
-    /// or of the other kind; 5 a frame that was not sent; 6 a place or length outside the frame; 8
-    /// an address or R0KH-ID used before; 9 a draw of the seed.
+    /// or of the other kind; 5 a frame that was not sent; 6 a place or length outside the frame; 7 a
+    /// round that is open at the script's end; 8 an address or R0KH-ID used before; 9 a draw of the
+    /// seed.
     Script(u8),
     /// It goes past that limit: 3 octets of an injected frame; 4 frames sent; 5 access points; 6
-    /// stations; 7 octets of a payload.
+    /// stations; 7 octets of a payload; 8 events in a round.
     Limit(u8),
     /// Memory ran out.
     NoMemory,
@@ -48,8 +49,12 @@ pub enum Step {
         /// Its address.
         address: Mac,
     },
-    /// Asks for an event.
+    /// Asks for an event. Outside a round it is one by itself.
     Event(Event),
+    /// A round begins. The events behind it are run with its end.
+    Round,
+    /// The round ends that is open.
+    End,
 }
 
 /// Reads a script line by line.
@@ -80,9 +85,10 @@ impl Model for ScriptReader {
 
 impl ScriptReader {
     ghost use Rattle.std.specs.Prelude.{length, ℕ, List};
-    ghost use Rattle.frame_script.specs.Script.{AtVersion, AtNodes};
+    ghost use Rattle.frame_script.specs.Script.{AtVersion, end_fault};
+    ghost use Rattle.frame_script.specs.Refusals.{answer_of, fault_of};
     ghost use Rattle.frame_script.specs.Forms.{form_of};
-    ghost use Rattle.frame_script.specs.Headers.{HasSeen, HasSeenAll, IsDomain, ReadsLine, TakesLine, sizes_of};
+    ghost use Rattle.frame_script.specs.Headers.{HasSeen, HasSeenBy, IsDomain, ReadsLine, TakesLine, sizes_named};
 
     /// Before the first line.
     pub fn start(alloc: Global) -> Self
@@ -97,21 +103,26 @@ impl ScriptReader {
     }
 
     /// Takes the next line, without its end. The journal has grown at its end alone since the line
-    /// before.
+    /// before. In a round the frames that the journal has sent since it began are not seen.
+    #[tactic(auto, using(crate::proofs::Taking::reads, crate::proofs::Taking::seen_on))]
     pub fn take(&mut self, alloc: Global, line: &[u8], journal: &Journal) -> Result<Step, Untaken>
         requires seen { HasSeen self.old journal.now.entries }
         requires few { self.old.rounds < 2 ^ 63 }
-        ensures takes { ReadsLine self.old self.new (sizes_of journal.now.entries) line.now result }
-        ensures seen { OnOk result (HasSeenAll self.new journal.now.entries) }
+        ensures takes { ReadsLine self.old self.new (sizes_named self.old journal.now.entries)
+            line.now result }
+        ensures seen { OnOk result (HasSeenBy self.old.draft self.new journal.now.entries) }
+        ensures sizes { OnOk result
+            (self.new.sizes ≡ sizes_named self.old journal.now.entries) }
         ensures kept { OnErr result (HasSeen self.new journal.now.entries) }
     {
-        if see(&mut self.seen, &mut self.sizes, journal).is_err() {
+        if see_by(&self.due, &mut self.seen, &mut self.sizes, journal).is_err() {
             return Err(Untaken::NoMemory);
         }
+        let within = is_within(&self.due);
         let due = replace(&mut self.due, Due::Version);
         let (due, answer) = take_line(due, alloc, self.rounds, &self.sizes, line);
         self.due = due;
-        self.rounds = rounds_with(self.rounds, &answer);
+        self.rounds = rounds_with(within, self.rounds, &answer);
         answer
     }
 
@@ -120,13 +131,38 @@ impl ScriptReader {
     pub fn line(&mut self, alloc: Global, line: &[u8], journal: &Journal) -> Result<Step, LineFault>
         requires seen { HasSeen self.old journal.now.entries }
         requires few { self.old.rounds < 2 ^ 63 }
-        ensures takes { TakesLine self.old self.new (sizes_of journal.now.entries) line.now result }
-        ensures seen { OnOk result (HasSeenAll self.new journal.now.entries) }
+        ensures takes { TakesLine self.old self.new (sizes_named self.old journal.now.entries)
+            line.now result }
+        ensures seen { OnOk result (HasSeenBy self.old.draft self.new journal.now.entries) }
         ensures kept { OnErr result (HasSeen self.new journal.now.entries) }
     {
         match self.take(alloc, line, journal) {
             Ok(step) => Ok(step),
             Err(untaken) => Err(untaken.into()),
+        }
+    }
+
+    /// Ends the script: it may end behind any line outside a round, and has one line at least.
+    pub fn close(&self) -> Result<(), Refusal>
+        ensures { MatchResult result (λ _. end_fault self.now.draft ≡ None)
+            (λ refusal. end_fault self.now.draft ≡ Some (fault_of refusal)) }
+    {
+        match &self.due {
+            Due::Version => Err(Refusal::Version),
+            Due::Round { .. } => Err(Refusal::Unclosed),
+            _ => Ok(()),
+        }
+    }
+
+    /// Ends the script as `close` does, and tells by number why it may not end: 1 no line came, 7 a
+    /// round is open.
+    pub fn finish(&self) -> Result<(), LineFault>
+        ensures { MatchResult result (λ _. end_fault self.now.draft ≡ None)
+            (λ fault. option_map answer_of (end_fault self.now.draft) ≡ Some fault) }
+    {
+        match self.close() {
+            Ok(()) => Ok(()),
+            Err(refusal) => Err(refusal.into()),
         }
     }
 
@@ -143,6 +179,7 @@ impl ScriptReader {
     {
         match &self.due {
             Due::Nodes { domain } => Some(domain),
+            Due::Round { domain, .. } => Some(domain),
             _ => None,
         }
     }

@@ -15,12 +15,15 @@ pub enum Refusal {
     Word,
     /// The number or form of the arguments.
     Arguments,
-    /// A node that is not listed or of the other kind.
+    /// A node that is not listed or of the other kind, or in a round a station that takes a frame or
+    /// sends a payload.
     Node,
-    /// A frame that was not sent.
+    /// A frame that was not sent; in a round, one that was not sent before it.
     Frame,
     /// A place or length outside the frame.
     Place,
+    /// A round that is open at the script's end.
+    Unclosed,
     /// An address or R0KH-ID used before.
     Duplicate,
     /// A draw of the seed, which only a live run has.
@@ -31,7 +34,7 @@ pub enum Refusal {
     LongLine,
     /// Too many octets for a frame.
     LongFrame,
-    /// Too many frames sent before an event.
+    /// Too many frames sent before an event or a round.
     ManyFrames,
     /// Too many access points.
     ManyAps,
@@ -39,6 +42,8 @@ pub enum Refusal {
     ManyStas,
     /// Too many octets for a payload.
     LongPayload,
+    /// Too many events in a round.
+    ManyEvents,
 }
 
 impl Refusal {
@@ -53,6 +58,7 @@ impl Refusal {
             Refusal::Node => "no such node, or a node of the other kind",
             Refusal::Frame => "no such frame was sent",
             Refusal::Place => "place or length outside the frame",
+            Refusal::Unclosed => "the script ends in a round",
             Refusal::Duplicate => "address or R0KH-ID used before",
             Refusal::Mode => "the seed is drawn in a live run only",
             Refusal::ManyLines => "more than 65536 lines",
@@ -62,6 +68,7 @@ impl Refusal {
             Refusal::ManyAps => "more than 16 access points",
             Refusal::ManyStas => "more than 64 stations",
             Refusal::LongPayload => "a payload of more than 2304 octets",
+            Refusal::ManyEvents => "more than 256 events in a round",
         }
     }
 
@@ -76,6 +83,7 @@ impl Refusal {
             4 => Some(Refusal::Node),
             5 => Some(Refusal::Frame),
             6 => Some(Refusal::Place),
+            7 => Some(Refusal::Unclosed),
             8 => Some(Refusal::Duplicate),
             9 => Some(Refusal::Mode),
             _ => None,
@@ -94,6 +102,7 @@ impl Refusal {
             5 => Some(Refusal::ManyAps),
             6 => Some(Refusal::ManyStas),
             7 => Some(Refusal::LongPayload),
+            8 => Some(Refusal::ManyEvents),
             _ => None,
         }
     }
@@ -122,6 +131,7 @@ impl From<Refusal> for LineFault {
             Refusal::Node => LineFault::Script(4),
             Refusal::Frame => LineFault::Script(5),
             Refusal::Place => LineFault::Script(6),
+            Refusal::Unclosed => LineFault::Script(7),
             Refusal::Duplicate => LineFault::Script(8),
             Refusal::Mode => LineFault::Script(9),
             Refusal::ManyLines => LineFault::Limit(1),
@@ -131,6 +141,7 @@ impl From<Refusal> for LineFault {
             Refusal::ManyAps => LineFault::Limit(5),
             Refusal::ManyStas => LineFault::Limit(6),
             Refusal::LongPayload => LineFault::Limit(7),
+            Refusal::ManyEvents => LineFault::Limit(8),
         }
     }
 }

@@ -1,6 +1,6 @@
 -- A station takes a reassociation response.
-use Rattle.std.proofs.Common.{◌≡◌, ◌∙◌, ℕ, true, false, List, [], ◌∷◌, ◌++◌, Option, Some, None, refl, sym, ap, subst}
-use Rattle.std.specs.Prelude.{◌==◌, ◌&&◌, Bool, Result, Ok, Err}
+use Rattle.std.proofs.Common.{◌≡◌, ◌∙◌, inl, inr, ℕ, true, false, List, [], ◌∷◌, ◌++◌, length, Option, Some, None, refl, sym, ap, subst}
+use Rattle.std.specs.Prelude.{◌==◌, ◌&&◌, not, Bool, Result, Ok, Err}
 use Rattle.domain_base.specs.declared.names.Node.{Node}
 use Rattle.domain_base.specs.declared.names.Node.TheVariants.{Ap, Sta}
 use Rattle.domain_base.specs.declared.names.Peer.TheVariants.{One}
@@ -29,7 +29,7 @@ use Rattle.domain_rules.specs.Closing.{close_associated}
 use Rattle.domain_rules.specs.Reading.{Management, Managed}
 use Rattle.domain_rules.specs.Facts.{Facts}
 use Rattle.domain_rules.specs.GroupKeys.{give, give_by, told, rsc_in_response}
-use Rattle.domain_rules.specs.FastTransition.{to_unwrap, gtk_in, is_wrapped_gtk, counts_three, names_both, is_named}
+use Rattle.domain_rules.specs.FastTransition.{to_unwrap, gtk_in, gtk_id, is_wrapped_gtk, counts_three, names_both, is_named}
 use Rattle.domain_rules.specs.TransitionKeys.{re_resp_keying, re_resp_covered, re_resp_seal, KnowsGtk}
 use Rattle.domain_rules.specs.TransitionRows.{carried_by}
 use Rattle.domain_rules.specs.Verdict.{Knows, KnowsManaged, first_verdict}
@@ -48,7 +48,7 @@ use Rattle.ft_exchange.specs.Judged.{Wanted, status_first, unless, outcome_by, r
 use Rattle.ft_exchange.specs.State.{OriginatorState}
 use Rattle.ft_exchange.specs.Stands.{OriginatorStands}
 use Rattle.ft_exchange.specs.Exchange.{wanted_by, at_stage, response_tried, IsQuiet, IsTriedFirst, IsResponse, Both, both, Finishes}
-use Rattle.ft_exchange.specs.OriginatorSteps.{IsReassocTaken}
+use Rattle.ft_exchange.specs.OriginatorSteps.{IsUnder, IsReassocTaken}
 use Rattle.ft_exchange.specs.Told.{came, taken_seal, reassoc_response_acts}
 use Rattle.ft_exchange.specs.Tried.{tried_reason, verified_key}
 use Rattle.ft_exchange.specs.declared.group.CarriedKey.{CarriedKey}
@@ -95,6 +95,8 @@ reassoc_refused status e s ks why v r q refuses = record {
       });
   refused = λ w is. (refl, q.len, q.installed);
   whole = whole_quiet v r q;
+  under = subst (λ (o : Option Keyed). IsUnder o s) (sym q.installed) tt;
+  keys = inl refl;
 }
 
 none_sealed : (c : Option (List ℕ)) → taken_seal c None ≡ None
@@ -331,6 +333,20 @@ accepts_by status e s t c r i = by (tried_reason (response_tried s t.key status 
     by (Some why) tries is = absurd cc
     by None tries j = record { right = tries; judged = j }
 
+-- the key id of the group key that it carries
+wrapped_id : (g : WrappedGtkFields) → is_wrapped_gtk (Some g) ≡ true → (gtk_id g == 0) ≡ false
+wrapped_id g is = by (g.key_length == 16) (length g.wrapped == 24) (gtk_id g == 0) is
+  where
+    by : (a b c : Bool) → (a && b && not c) ≡ true → c ≡ false
+    by true true false is = refl
+    by true true true is = absurd cc
+    by true false c is = absurd cc
+    by false b c is = absurd cc
+
+carried_id : (o : Option WrappedGtkFields) (plain : Option (List ℕ)) (c : CarriedKey) → is_wrapped_gtk o ≡ true → carried_by o plain ≡ group_key c → (c.id == 0) ≡ false
+carried_id None plain c wraps is = absurd cc
+carried_id (Some g) plain c wraps is = subst (λ (i : ℕ). (i == 0) ≡ false) (ap (λ (x : GroupKey). x.id) is) (wrapped_id g wraps)
+
 whole_before : (v : Option (List ℕ)) (y : Keyed) (g : GtkNews) (before r : Reply) → IsQuiet v before → r ≡ record before { installed = Some y; gtk = Some g } → IsWhole r
 whole_before v y g before r quiet is = subst (λ (x : Reply). IsWhole x) (sym is) (record { few = (whole_quiet v before quiet).few; sealed = (whole_quiet v before quiet).sealed })
 
@@ -368,4 +384,7 @@ reassoc_accepted status e s t c ks new before r at i f = record {
       });
   refused = λ w is. absurd cc;
   whole = whole_before (verified_key t.key (response_tried s t.key status e)) t.key (news_of c (kept_id c.key ks)) before r i.quiet f.reply;
+  under = subst (λ (x : Reply). IsUnder x.installed s) (sym f.reply) (t, at, refl);
+  keys = (let k : Accepts status e s t c = accepts_by status e s t c before i in
+      inr (c.key, c.id, c.rsc, f.keys, carried_id (gtk_in e.fte) (plain_of k.judged.opened) c (accepted_carries (wanted_by s t.name) status e k.judged.opened k.judged.group.0) k.judged.group.1));
 }

@@ -53,7 +53,7 @@ use Rattle.ft_exchange.specs.Sent.{HasFrame}
 use Rattle.ft_exchange.specs.State.{TargetState}
 use Rattle.ft_exchange.specs.Stands.{transition_of, IsPlace, IsPending, IsHeldOrPending, PendingStands}
 use Rattle.ft_exchange.specs.Exchange.{key_granted, granting_octets, target_granted, Begins, IsQuiet}
-use Rattle.ft_exchange.specs.TargetSteps.{root_asked, IsAuthTaken}
+use Rattle.ft_exchange.specs.TargetSteps.{root_asked, HasBegun, IsAuthTaken}
 use Rattle.ft_exchange.specs.Told.{came, transition_sent, begun_acts, auth_request_acts}
 use Rattle.ft_exchange.specs.declared.looking.Granted.{Granted}
 use Rattle.ft_exchange.specs.declared.place.Place.{Place}
@@ -157,6 +157,7 @@ auth_refused d a sta e anonce o why looked w old r at none derived look whole an
         stands = subst (λ (l : List Act). PendingStands d n p o (add l h)) acts (refusal_stands d n p o octets e why looked h st);
       });
   refused = λ y is. refl;
+  begun = subst (λ (z : Option Keyed). HasBegun z o o) (sym derived) refl;
   whole = whole;
 }
 
@@ -333,6 +334,7 @@ auth_repeated d a sta e anonce s x r suite right asks again f derived look = rec
             (pending_stands_more d n p (Some s) says (took ∷ h) (sent_passes p p kind.FtResp s.stored None) (pending_stands_more d n p (Some s) took h (took_passes p (Some p) octets kind.FtReq Answered None) st));
       });
   refused = λ w is. absurd cc;
+  begun = subst (λ (z : Option Keyed). HasBegun z (Some s) (Some s)) (sym derived) refl;
   whole = f.whole;
 }
   where
@@ -477,6 +479,7 @@ auth_granted d a sta e anonce o x name answer g w t old r k named known grants a
             (subst (λ (z : TargetState). PendingStands d n p (Some z) (add (row (key_granted w x g).ptk (plain ∷ [])) h)) (sym f.is) (granted_stands d a sta (attempt p h) octets w x g h k.suite at));
       });
   refused = λ y is. absurd cc;
+  begun = subst (λ (z : Option Keyed). HasBegun z o (Some t)) (sym f.derived) (t, refl, ap (λ (z : TargetState). z.key) f.is);
   whole = f.sends.whole;
 }
   where

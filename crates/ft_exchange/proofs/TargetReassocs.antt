@@ -52,7 +52,7 @@ use Rattle.ft_exchange.specs.Sent.{HasFrame}
 use Rattle.ft_exchange.specs.State.{TargetState}
 use Rattle.ft_exchange.specs.Stands.{transition_of, IsPending, IsHeld, IsHeldOrPending, TargetStands}
 use Rattle.ft_exchange.specs.Exchange.{wanted_at, request_between, request_tried, installing_octets, target_installed, Installs, IsQuiet}
-use Rattle.ft_exchange.specs.TargetSteps.{judged_by, IsChosen, IsReassocTaken}
+use Rattle.ft_exchange.specs.TargetSteps.{judged_by, IsChosen, HasInstalled, IsReassocTaken}
 use Rattle.ft_exchange.specs.Told.{came, taken_seal, sent_seal, transition_sent, reassoc_request_acts}
 use Rattle.ft_exchange.specs.Tried.{input_of, is_with, tried_reason, verified_key}
 use Rattle.ft_exchange.specs.declared.mic.Tried.{Tried}
@@ -89,7 +89,7 @@ refusal_acts : (d : Domain) (root : Root) (n p : Node) (had : Bool) (octets : Li
 refusal_acts d root n p true octets e why v r verified installed sends = acts_are d root n p true octets e (Refused why) v None (response_by d n p kind.ReReq (refused_status why)) r verified installed sends
 refusal_acts d root n p false octets e why v r verified installed sends = acts_are d root n p false octets e (Refused why) v None (response_by d n p kind.ReReq (refused_status why)) r verified installed sends
 
-adds_refusal : (d : Domain) (first a sta : ℕ) (octets : List ℕ) (b : Management) (e : ElementFields) (h : List Act) (why : Reason) (s : Option Seal) → IsManagementFrom d (Ap a) (Sta sta) octets b e → b.kind ≡ kind.ReReq
+pub adds_refusal : (d : Domain) (first a sta : ℕ) (octets : List ℕ) (b : Management) (e : ElementFields) (h : List Act) (why : Reason) (s : Option Seal) → IsManagementFrom d (Ap a) (Sta sta) octets b e → b.kind ≡ kind.ReReq
     → IsRefused d first (Ap a) h (Managed b e) why s → TakeRow (here d first (Ap a)) h octets (Took (Some (Sta sta)) octets kind.ReReq (Refused why) s ∷ response_by d (Ap a) (Sta sta) kind.ReReq (refused_status why))
 adds_refusal d first a sta octets b e h why s from is f = record {
   r = Managed b e;
@@ -131,6 +131,7 @@ refused e g rsc s why v old r none verified installed whole answers refuses = re
         stands = subst (λ (l : List Act). TargetStands d n p s (add l h)) acts (response_stands d n p s (refused_status why) (Took (Some p) octets kind.ReReq (Refused why) seal ∷ h) took);
       });
   refused = λ w is. (refl, installed);
+  became = subst (λ (z : Option Keyed). HasInstalled z s s) (sym installed) refl;
   whole = whole;
 }
 
@@ -283,6 +284,7 @@ reassoc_answered e g rsc s r right accepts held verified installed f = record {
         stands = subst (λ (l : List Act). TargetStands d n p s (add l h)) acts (target_more d n p s says (took ∷ h) (sent_passes p p kind.ReResp _ _) (target_more d n p s took h (took_passes p (Some p) octets kind.ReReq Answered seal) c.stands));
       });
   refused = λ w is. absurd cc;
+  became = subst (λ (z : Option Keyed). HasInstalled z s s) (sym installed) refl;
   whole = f.whole;
 }
 
@@ -385,5 +387,7 @@ reassoc_accepted e g rsc s t old r right accepts pends verified f = record {
         stands = subst (λ (l : List Act). TargetStands d n p t (add l h)) acts (subst (λ (z : TargetState). TargetStands d n p z (add (row seal (plain ∷ [])) h)) (sym f.is) (installed_stands d a sta (session p h) octets seal s g rsc h pends c.stands));
       });
   refused = λ w is. absurd cc;
+  became = subst (λ (z : Option Keyed). HasInstalled z s t) (sym f.installed)
+      (pends, ap (λ (z : TargetState). z.is_installed) f.is, ap (λ (z : TargetState). z.key) f.is);
   whole = f.sends.whole;
 }

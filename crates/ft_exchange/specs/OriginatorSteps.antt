@@ -1,5 +1,5 @@
 -- What a roam and the frames of an access point do, after every history that the originator stands for (this project's choice).
-use Rattle.std.specs.Prelude.{◌≡◌, ℕ, false, List, [], ◌∷◌, Some, None}
+use Rattle.std.specs.Prelude.{◌≡◌, ◌⊎◌, ℕ, ◌==◌, false, List, [], ◌∷◌, Option, Some, None}
 use Rattle.domain_base.specs.declared.names.Node.{Node}
 use Rattle.domain_base.specs.declared.names.Node.TheVariants.{Ap, Sta}
 use Rattle.rsn_elements.specs.Elements.{ElementFields}
@@ -10,6 +10,7 @@ use Rattle.run_journal.specs.declared.acts.Outcome.{Outcome}
 use Rattle.run_journal.specs.declared.acts.Outcome.TheVariants.{Refused}
 use Rattle.run_journal.specs.declared.acts.Act.{Act}
 use Rattle.run_journal.specs.declared.reply.Reply.{Reply}
+use Rattle.run_journal.specs.declared.reply.Keyed.{Keyed}
 use Rattle.run_journal.specs.Replies.{IsWhole}
 use Rattle.run_journal.specs.Questions.{attempt, own_nonce, associated, add}
 use Rattle.run_journal.specs.Holders.{last_r0kh_id}
@@ -19,10 +20,13 @@ use Rattle.domain_rules.specs.Reading.{Management}
 use Rattle.domain_rules.specs.Asking.{by_connect, has_heard}
 use Rattle.domain_rules.specs.Rows.{TakeRow}
 use Rattle.domain_rules.specs.TransitionFrames.{sent_ft_req}
+use Rattle.group_key.specs.Keys.{Kept, given}
 use Rattle.group_key.specs.Holds.{Remembers}
 use Rattle.ft_exchange.specs.Comes.{IsManagementFrom}
 use Rattle.ft_exchange.specs.Exchange.{Both, IsQuiet}
 use Rattle.ft_exchange.specs.State.{OriginatorState}
+use Rattle.ft_exchange.specs.declared.originator.Stage.TheVariants as stage
+use Rattle.ft_exchange.specs.declared.originator.Transit.{Transit}
 use Rattle.ft_exchange.specs.Stands.{OriginatorStands}
 use Rattle.ft_exchange.specs.Told.{came, transition_sent, auth_response_acts, reassoc_response_acts}
 
@@ -78,7 +82,18 @@ ReassocStepsFrom status e old new outcome r =
     → BothStep (here d first (Sta sta)) (Ap ap) octets
     (reassoc_response_acts d (root_at d old.part.r0kh_id) (Sta sta) (Ap ap) (associated h) (came octets e outcome) r) new h
 
+-- a key that is installed is that of the attempt
+abbrev pub IsUnder : Option Keyed → OriginatorState → Type 0
+IsUnder None s = Unit {0}
+IsUnder (Some y) s = (t : Transit) × (s.stage ≡ stage.Keyed t) × (t.key ≡ y)
+
+-- the group keys are those that were kept, or one was given, under a key id other than 0, which is that of pairwise keys
+abbrev pub AreGiven : List Kept → List Kept → Type 0
+AreGiven old new = (new ≡ old) ⊎ ((key : List ℕ) × (id : ℕ) × (rsc : ℕ) × (new ≡ given key id rsc old) × ((id == 0) ≡ false))
+
 pub record IsReassocTaken (status : ℕ) (e : ElementFields) (old new : Both) (outcome : Outcome) (r : Reply) : Type 0 where
   pub steps : ReassocStepsFrom status e old new outcome r
   pub refused : (why : Reason) → outcome ≡ Refused why → (new ≡ old) × (r.len ≡ 0) × (r.installed ≡ None)
   pub whole : IsWhole r
+  pub under : IsUnder r.installed old.part
+  pub keys : AreGiven old.keys new.keys

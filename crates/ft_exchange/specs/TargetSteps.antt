@@ -11,6 +11,7 @@ use Rattle.run_journal.specs.declared.acts.Outcome.{Outcome}
 use Rattle.run_journal.specs.declared.acts.Outcome.TheVariants.{Refused}
 use Rattle.run_journal.specs.declared.acts.Act.{Act}
 use Rattle.run_journal.specs.declared.reply.Reply.{Reply}
+use Rattle.run_journal.specs.declared.reply.Keyed.{Keyed}
 use Rattle.run_journal.specs.GroupKinds as groups
 use Rattle.run_journal.specs.Replies.{IsWhole}
 use Rattle.run_journal.specs.Questions.{attempt, session, group_keys, add}
@@ -50,10 +51,16 @@ AuthStepsFrom d ap sta e anonce old new outcome r =
     → AuthSteps (here d first (Ap ap)) (Sta sta) octets
     (auth_request_acts d (root_asked d (asked e)) (Ap ap) (Sta sta) (attempt (Sta sta) h) (came octets e outcome) r) new h
 
+-- where a key is derived it is that of a new attempt; else the pending target is as it was
+abbrev pub HasBegun : Option Keyed → Option TargetState → Option TargetState → Type 0
+HasBegun None old new = new ≡ old
+HasBegun (Some y) old new = (s : TargetState) × (new ≡ Some s) × (s.key ≡ y)
+
 pub record IsAuthTaken (d : Domain) (ap sta : ℕ) (e : ElementFields) (anonce : Option (List ℕ)) (old new : Option TargetState)
     (outcome : Outcome) (r : Reply) : Type 0 where
   pub steps : AuthStepsFrom d ap sta e anonce old new outcome r
   pub refused : (why : Reason) → outcome ≡ Refused why → new ≡ old
+  pub begun : HasBegun r.derived old new
   pub whole : IsWhole r
 
 -- what was asked of key holders, and what they answered: the R0KH-ID and the one name that the request asks for
@@ -94,7 +101,13 @@ ReassocStepsFrom e newest rsc old new outcome r =
     → ReassocSteps (here d first (Ap ap)) (Sta sta) octets
     (reassoc_request_acts d (root_at d old.r0kh_id) (Ap ap) (Sta sta) (is_some (session (Sta sta) h)) (came octets e outcome) r) new h
 
+-- where a key is installed it is that of an attempt, which is a session's from then on; else the target is as it was
+abbrev pub HasInstalled : Option Keyed → TargetState → TargetState → Type 0
+HasInstalled None old new = new ≡ old
+HasInstalled (Some y) old new = (old.is_installed ≡ false) × (new.is_installed ≡ true) × (new.key ≡ y)
+
 pub record IsReassocTaken (e : ElementFields) (newest : GroupKey) (rsc : ℕ) (old new : TargetState) (outcome : Outcome) (r : Reply) : Type 0 where
   pub steps : ReassocStepsFrom e newest rsc old new outcome r
   pub refused : (why : Reason) → outcome ≡ Refused why → (new ≡ old) × (r.installed ≡ None)
+  pub became : HasInstalled r.installed old new
   pub whole : IsWhole r

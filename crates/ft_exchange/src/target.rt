@@ -229,7 +229,8 @@ impl Target {
     // A new attempt, whose key is derived, and whose response is sent.
     fn begin(place: Place, asked: &Asked<'_>, granted: &Granted, reply: &mut Reply) -> Self
         requires { IsR0khId asked.now.r0kh_id.now }
-        ensures begins { Begins place (asked_fields asked.now) granted.now result reply.old reply.new }
+        ensures begins { Begins place (asked_fields asked.now) granted.now result reply.old
+            reply.new }
     {
         let r1 = granted.r1;
         let (anonce, snonce) = (granted.anonce, asked.snonce);
@@ -258,6 +259,13 @@ impl Target {
             is_installed: false,
             stored: sent_in(reply),
         }
+    }
+
+    /// The R0KH-ID of the key holder to which the keys go back.
+    pub fn r0kh_id(&self) -> &[u8]
+        ensures { result.now ≡ self.now.r0kh_id }
+    {
+        self.r0kh_id.as_slice()
     }
 
     /// Whether the FTE has the nonces of this attempt or session: of a pending attempt and a

@@ -9,7 +9,7 @@ use Rattle.run_journal.specs.Safe.{use_of, up_of, InstalledOnce, Once, Joined, S
 use Rattle.domain_rules.specs.Network.{IsNamed}
 use Rattle.domain_rules.specs.Explained.{Explained}
 use Rattle.domain_rules.specs.HeldRight.{HeldRight}
-use Rattle.journal_safety.specs.InOctets.{InOctets}
+use Rattle.domain_rules.specs.InOctets.{InOctets}
 use Rattle.journal_safety.proofs.Runs.{run_sound}
 use Rattle.journal_safety.proofs.Places.{Good}
 use Rattle.journal_safety.proofs.Joining.{joined}

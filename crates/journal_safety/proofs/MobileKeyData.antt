@@ -38,7 +38,7 @@ use Rattle.domain_rules.specs.StationRows.{carried}
 use Rattle.domain_rules.proofs.KeyOctets.{octets-bytes, octets-kek}
 use Rattle.domain_rules.proofs.CarriedKey.{IsGroupKey}
 use Rattle.domain_rules.proofs.Peers.{listed-address, listed-octets}
-use Rattle.journal_safety.specs.InOctets.{InOctets}
+use Rattle.domain_rules.specs.InOctets.{InOctets}
 
 -- ---- the names of keys
 

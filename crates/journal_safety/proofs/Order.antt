@@ -18,7 +18,7 @@ use Rattle.run_journal.specs.Premises.{In, Fresh, NoCollision, Unforged}
 use Rattle.domain_rules.specs.Network.{IsNamed}
 use Rattle.domain_rules.specs.Explained.{Explained}
 use Rattle.domain_rules.specs.HeldRight.{HeldRight}
-use Rattle.journal_safety.specs.InOctets.{InOctets}
+use Rattle.domain_rules.specs.InOctets.{InOctets}
 use Rattle.journal_safety.specs.NeverBack.{DrawnBefore, installed_from, NeverBack}
 use Rattle.journal_safety.proofs.Ends.{Tail, tail_refl, tail_in, history_tail}
 use Rattle.journal_safety.proofs.Legal.{LegalGroup, Legal}

@@ -56,7 +56,7 @@ use Rattle.domain_rules.specs.Here.{here}
 use Rattle.domain_rules.proofs.Parts.{same-true, same-refl, same-false, Grows, Begins, Goes_on, grows, since_part, attempt_more, attempt_some, by_connect_more, in_part, own_nonce_more}
 use Rattle.domain_rules.proofs.OneOutcome.{and_accepted}
 use Rattle.domain_rules.proofs.Peers.{listed-address}
-use Rattle.journal_safety.specs.InOctets.{InOctets}
+use Rattle.domain_rules.specs.InOctets.{InOctets}
 use Rattle.journal_safety.proofs.Ends.{Tail, tail_refl, tail_trans, tail_rest, tail_in}
 use Rattle.journal_safety.proofs.CoversFte.{fte_number, CoversFte, number_fte, took_fte, fte_raw, fte_nonces, fte_holder}
 use Rattle.journal_safety.proofs.Legal.{Of_fte, nonce_of, own_address, peer_address, AreCommon, LegalKind, derives, Alive, Verified, Built, CarriesM3, Carries, Of_response, LegalSealed, With_mic, With_ccm, In_response, Given, By_m3, LegalOpened, LegalLook, Legal, LegalHistory, verified_more}

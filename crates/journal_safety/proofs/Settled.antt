@@ -20,7 +20,7 @@ use Rattle.run_journal.specs.Acts.{same, is_same_attempt, opens, ends, key_drawn
 use Rattle.run_journal.specs.Questions.{attempt, own_nonce, listed, group_keys, switches, add}
 use Rattle.domain_base.specs.declared.names.Akm.TheVariants.{FtPsk}
 use Rattle.domain_rules.specs.Network.{is_ap, IsNamed, IsListed}
-use Rattle.journal_safety.specs.InOctets.{InOctets}
+use Rattle.domain_rules.specs.InOctets.{InOctets}
 use Rattle.domain_rules.proofs.Parts.{same-true, same-refl, Grows, Begins, Goes_on, grows, attempt_ends, own_nonce_more, add_append}
 use Rattle.journal_safety.proofs.Legal.{gives, Uninstalled, HasDrawn, LegalOpened, Legal, Chain}
 use Rattle.journal_safety.proofs.Histories.{opens-is, has_drawn_more}

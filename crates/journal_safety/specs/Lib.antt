@@ -1,2 +1,1 @@
-pub mod InOctets
 pub mod NeverBack

@@ -21,7 +21,7 @@ ghost use Rattle.run_journal.specs.Safe.{InstalledOnce, Joined, Once, Sourced, u
 ghost use Rattle.domain_rules.specs.Network.{IsNamed};
 ghost use Rattle.domain_rules.specs.Explained.{Explained};
 ghost use Rattle.domain_rules.specs.HeldRight.{HeldRight};
-ghost use Rattle.journal_safety.specs.InOctets.{InOctets};
+ghost use Rattle.domain_rules.specs.InOctets.{InOctets};
 ghost use Rattle.journal_safety.specs.NeverBack.{NeverBack};
 
 /// An accepted final message joins equal derivations: whoever accepts one has the inputs of a derivation that its peer made before.

@@ -9,7 +9,7 @@ use Rattle.air_frame.specs.declared.frame.Direction.{Direction}
 use Rattle.air_frame.specs.declared.frame.Direction.TheVariants.{ToDs, FromDs}
 use Rattle.key_hierarchy.specs.declared.inputs.Inputs.{Inputs}
 use Rattle.key_hierarchy.specs.declared.inputs.Ptk.{Ptk}
-use Rattle.key_hierarchy.specs.FastTransition.{pmk_r0, pmk_r1, ft_ptk}
+use Rattle.key_hierarchy.specs.FastTransition.{ft_ptk}
 use Rattle.key_hierarchy.specs.Keys.{pairwise_ptk, ptk}
 use Rattle.key_hierarchy.proofs.Suites.{ptk-pairwise, ptk-ft}
 use Rattle.run_journal.specs.declared.domain.Domain.{Domain}

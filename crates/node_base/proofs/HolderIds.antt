@@ -1,5 +1,5 @@
 -- The R0KH-IDs of a network in form.
-use Rattle.std.proofs.Common.{◌≡◌, ℕ, zero, suc, ◌<◌, List, [], ◌∷◌, length, Some, arith}
+use Rattle.std.proofs.Common.{ℕ, zero, suc, ◌<◌, List, [], ◌∷◌, length, arith}
 use Rattle.std.specs.Prelude.{slice_get, option_map, unwrap_or}
 use Rattle.domain_base.specs.declared.names.Node.TheVariants.{Ap}
 use Rattle.key_hierarchy.specs.Sizes.{IsR0khId}

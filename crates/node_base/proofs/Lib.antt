@@ -1,3 +1,4 @@
 pub mod EndsKeys
 pub mod Grown
 pub mod HolderIds
+pub mod PairWords

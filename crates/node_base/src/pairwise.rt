@@ -30,8 +30,8 @@ pub enum Pmk {
 fn pmk_r1(domain: &Domain, ap: Mac, sta: Mac, r0kh_id: &[u8]) -> PmkR1
     requires ssid { IsSsid domain.now.ssid }
     requires id { IsR0khId r0kh_id.now }
-    ensures { result ≡ pmk_r1 (pmk_r0 domain.now.psk domain.now.ssid domain.now.mdid r0kh_id.now sta)
-        ap sta }
+    ensures { let d = domain.now
+        in result ≡ pmk_r1 (pmk_r0 d.psk d.ssid d.mdid r0kh_id.now sta) ap sta }
 {
     PmkR0::derive(
         &domain.psk,

@@ -1,18 +1,19 @@
 //! The steps of a scenario, and whether the acts of a node are those of its step.
 
 use crate::air_frames::Keys;
+use crate::mobility_vectors::{PMK_R0_NAME, PMK_R1};
 use crate::protected_frames::Data;
-use crate::vectors::A1_ADDRESS;
+use crate::vectors::{A1_ADDRESS, A2, A2_ADDRESS, S1};
 use act_memory::Outbox;
-use domain_base::{NoMemory, Node, Peer, Tid};
+use domain_base::{Mac, NoMemory, Node, Peer, Tid};
 use eapol_key::Message;
-use key_hierarchy::{Ptk, SharedInputs};
+use key_hierarchy::{Ptk, PullAnswer, PutAnswer, RevokeAnswer, SharedInputs};
 use run_journal::{Act, BoxedSeal, Drawn, Key, Kind, Outcome, Part, Start, Why};
 
 /// An event at a node, by the number of the other node.
-#[derive(Clone, Copy)]
 pub enum Event {
     Connect(u16),
+    Roam(u16),
     Take(&'static [u8]),
     /// The octets of that frame.
     TakeData(&'static Data),
@@ -22,13 +23,15 @@ pub enum Event {
     Send(u16, Option<u8>, &'static [u8]),
     SendAll(Option<u8>, &'static [u8]),
     Expire(u16),
+    Revoke(u16),
     Leave,
 }
 
 /// An act as it is to be. What is taken has the octets that came and the outcome of the step.
-#[derive(Clone, Copy)]
 pub enum Expected {
     Opened(Node),
+    /// By fast transition.
+    Roamed(Node),
     Closed(Node, Part),
     Drew(Drawn),
     Derived(Node, &'static Keys),
@@ -36,13 +39,21 @@ pub enum Expected {
     Sent(Node, Kind, &'static [u8]),
     /// With a MIC under the KCK.
     SentSealed(Node, Kind, &'static [u8], &'static Keys),
+    /// A frame of reassociation with a MIC in its FTE under the KCK.
+    SentMoving(Node, Kind, &'static [u8], &'static Keys),
     /// Its MIC was not verified.
     Took(Option<Node>, Kind),
     /// Its MIC verified under the KCK.
     TookSealed(Node, Kind, &'static Keys),
+    /// A frame of reassociation, whose MIC verified under the KCK.
+    TookMoving(Node, Kind, &'static Keys),
     Pairwise(Node, &'static Keys),
     /// A group key of A1, with its key id.
     Group(Peer, [u8; 16], u8),
+    /// And of A2.
+    GroupOfA2([u8; 16], u8),
+    /// And of A2, at itself.
+    OwnGroupOfA2([u8; 16], u8),
     /// The same.
     Resumed(Node, [u8; 16], u8),
     Used(Peer, &'static Data),
@@ -51,12 +62,19 @@ pub enum Expected {
     TookData(Node, &'static Data),
     HandedUp(Node, &'static Data),
     Finished(Node, &'static Keys),
+    /// The holder of A1 was given the PMK-R0 of S1, and holds it.
+    Put,
+    /// It was asked for the PMK-R1 of S1 at A2, and gave it.
+    Found,
+    /// It was asked for the same, and has no such row.
+    Absent,
+    /// It was told to hold the PMK-R0 of S1 no longer, and does not.
+    Revoked,
     GaveUp(Node, Message),
     Idle(Why),
 }
 
 /// An event at a node, what comes of it, and the acts.
-#[derive(Clone, Copy)]
 pub struct Step {
     pub shows: &'static str,
     pub event: Event,
@@ -75,30 +93,64 @@ fn is_covered(covered: &[u8], frame: &[u8]) -> bool {
         && &covered[98..] == &frame[129..]
 }
 
-fn is_sealed(seal: &Option<BoxedSeal>, frame: &[u8], keys: &Keys) -> bool {
-    match seal {
-        Some(seal) => {
-            let seal = seal.seal();
-            seal.key == keys.ptk.kck && is_covered(seal.octets.as_slice(), frame)
-        }
-        None => false,
-    }
+// Where the RSNE of a reassociation request in the network "IEEE" begins, and of a response.
+const IN_REQUEST: usize = 46;
+
+const IN_RESPONSE: usize = 36;
+
+// What the MIC of a frame of reassociation covers: the form, both addresses, the number of the frame, and from its RSNE on the frame
+// with zeros in its MIC field, which stands 49 octets behind.
+fn is_covered_moving(covered: &[u8], frame: &[u8], keys: &Keys) -> bool {
+    let (number, at) = match frame.first() {
+        Some(0x20) => (5, IN_REQUEST),
+        _ => (6, IN_RESPONSE),
+    };
+    frame.len() >= at + 65
+        && covered.len() == frame.len() - at + 14
+        && covered[0] == 2
+        && &covered[1..7] == keys.spa.0.as_slice()
+        && &covered[7..13] == keys.aa.0.as_slice()
+        && covered[13] == number
+        && &covered[14..63] == &frame[at..at + 49]
+        && &covered[63..79] == [0; 16].as_slice()
+        && &covered[79..] == &frame[at + 65..]
 }
 
-// It covers what it is to cover, under the key.
-fn is_data_seal(seal: &Option<BoxedSeal>, data: &Data) -> bool {
-    match seal {
-        Some(seal) => {
+// What is to be sealed.
+#[derive(Clone, Copy)]
+enum Sealed<'a> {
+    No,
+    // A MIC under the KCK.
+    Mic(&'a Keys),
+    // A MIC in an FTE under the KCK.
+    Fte(&'a Keys),
+    // By CCM, with what it covers and its key.
+    Ccm(&'a Data),
+}
+
+// The seal of these octets is that one, under its key, or there is none.
+fn is_sealed(seal: &Option<BoxedSeal>, octets: &[u8], sealed: Sealed<'_>) -> bool {
+    match (seal, sealed) {
+        (None, Sealed::No) => true,
+        (Some(seal), Sealed::Mic(keys)) => {
+            let seal = seal.seal();
+            seal.key == keys.ptk.kck && is_covered(seal.octets.as_slice(), octets)
+        }
+        (Some(seal), Sealed::Fte(keys)) => {
+            let seal = seal.seal();
+            seal.key == keys.ptk.kck && is_covered_moving(seal.octets.as_slice(), octets, keys)
+        }
+        (Some(seal), Sealed::Ccm(data)) => {
             let seal = seal.seal();
             seal.key == data.key && seal.octets.as_slice() == data.sealed
         }
-        None => false,
+        _ => false,
     }
 }
 
-fn is_opened(act: &Act, node: Node) -> bool {
+fn is_opened(act: &Act, node: Node, by: Start) -> bool {
     match act {
-        Act::Opened { peer, start } => *peer == node && *start == Start::Connect,
+        Act::Opened { peer, start } => *peer == node && *start == by,
         _ => false,
     }
 }
@@ -119,7 +171,9 @@ fn is_drawn(act: &Act, wanted: Drawn) -> bool {
 
 fn are_inputs(inputs: &SharedInputs, keys: &Keys) -> bool {
     let inputs = inputs.inputs();
-    inputs.anonce == keys.anonce && inputs.snonce == keys.snonce
+    (inputs.anonce == keys.anonce && inputs.snonce == keys.snonce)
+        && (inputs.aa == keys.aa && inputs.spa == keys.spa)
+        && inputs.ssid.as_slice() == b"IEEE".as_slice()
 }
 
 fn is_ptk(ptk: &Ptk, keys: &Keys) -> bool {
@@ -135,7 +189,7 @@ fn is_derived(act: &Act, node: Node, keys: &Keys) -> bool {
     }
 }
 
-fn is_sent(act: &Act, node: Node, what: Kind, frame: &[u8], keys: Option<&Keys>) -> bool {
+fn is_sent(act: &Act, to: Peer, what: Kind, frame: &[u8], sealed: Sealed<'_>) -> bool {
     match act {
         Act::Sent {
             peer,
@@ -143,19 +197,12 @@ fn is_sent(act: &Act, node: Node, what: Kind, frame: &[u8], keys: Option<&Keys>)
             octets,
             seal,
         } => {
-            *peer == Peer::One(node)
+            *peer == to
                 && *kind == what
                 && octets.as_slice() == frame
-                && is_sealed_or_not(seal, frame, keys)
+                && is_sealed(seal, frame, sealed)
         }
         _ => false,
-    }
-}
-
-fn is_sealed_or_not(seal: &Option<BoxedSeal>, frame: &[u8], keys: Option<&Keys>) -> bool {
-    match keys {
-        Some(keys) => is_sealed(seal, frame, keys),
-        None => seal.is_none(),
     }
 }
 
@@ -165,7 +212,7 @@ fn is_taken(
     what: Kind,
     came: &[u8],
     told: Outcome,
-    keys: Option<&Keys>,
+    sealed: Sealed<'_>,
 ) -> bool {
     match act {
         Act::Took {
@@ -179,7 +226,7 @@ fn is_taken(
                 && *kind == what
                 && *outcome == told
                 && octets.as_slice() == came
-                && is_sealed_or_not(seal, came, keys)
+                && is_sealed(seal, came, sealed)
         }
         _ => false,
     }
@@ -199,42 +246,6 @@ fn is_used(act: &Act, with: Peer, data: &Data) -> bool {
                 && *id == data.id
                 && *number == data.number
                 && octets.as_slice() == data.payload
-        }
-        _ => false,
-    }
-}
-
-fn is_sent_data(act: &Act, to: Peer, data: &Data) -> bool {
-    match act {
-        Act::Sent {
-            peer,
-            kind,
-            octets,
-            seal,
-        } => {
-            *peer == to
-                && *kind == Kind::Data
-                && octets.as_slice() == data.octets
-                && is_data_seal(seal, data)
-        }
-        _ => false,
-    }
-}
-
-fn is_data_taken(act: &Act, node: Node, data: &Data, told: Outcome) -> bool {
-    match act {
-        Act::Took {
-            from,
-            octets,
-            kind,
-            outcome,
-            seal,
-        } => {
-            *from == Some(node)
-                && *kind == Kind::Data
-                && *outcome == told
-                && octets.as_slice() == data.octets
-                && is_data_seal(seal, data)
         }
         _ => false,
     }
@@ -271,23 +282,23 @@ fn is_pairwise(act: &Act, node: Node, keys: &Keys) -> bool {
     }
 }
 
-fn is_group_key(key: &Key, wanted: [u8; 16], number: u8) -> bool {
+fn is_group_key(key: &Key, of: Mac, wanted: [u8; 16], number: u8) -> bool {
     match key {
-        Key::Group { gtk, id, bssid } => *gtk == wanted && *id == number && *bssid == A1_ADDRESS,
+        Key::Group { gtk, id, bssid } => *gtk == wanted && *id == number && *bssid == of,
         Key::Pairwise { .. } => false,
     }
 }
 
-fn is_group(act: &Act, with: Peer, gtk: [u8; 16], id: u8) -> bool {
+fn is_group(act: &Act, with: Peer, of: Mac, gtk: [u8; 16], id: u8) -> bool {
     match act {
-        Act::Installed { peer, key } => *peer == with && is_group_key(key, gtk, id),
+        Act::Installed { peer, key } => *peer == with && is_group_key(key, of, gtk, id),
         _ => false,
     }
 }
 
 fn is_resumed(act: &Act, node: Node, gtk: [u8; 16], id: u8) -> bool {
     match act {
-        Act::Resumed { peer, key } => *peer == node && is_group_key(key, gtk, id),
+        Act::Resumed { peer, key } => *peer == node && is_group_key(key, A1_ADDRESS, gtk, id),
         _ => false,
     }
 }
@@ -295,6 +306,59 @@ fn is_resumed(act: &Act, node: Node, gtk: [u8; 16], id: u8) -> bool {
 fn is_finished(act: &Act, node: Node, keys: &Keys) -> bool {
     match act {
         Act::Finished { peer, inputs } => *peer == node && are_inputs(inputs, keys),
+        _ => false,
+    }
+}
+
+// The row is that of S1 at A1.
+fn is_row(r0kh_id: &[u8], name: &[u8; 16], sta: Node) -> bool {
+    r0kh_id == b"r0kh-1".as_slice() && *name == PMK_R0_NAME && sta == S1
+}
+
+fn is_put(act: &Act) -> bool {
+    match act {
+        Act::Put {
+            r0kh_id,
+            name,
+            sta,
+            answer: PutAnswer::Held,
+        } => is_row(r0kh_id.as_slice(), name, *sta),
+        _ => false,
+    }
+}
+
+fn is_found(act: &Act) -> bool {
+    match act {
+        Act::Looked {
+            r0kh_id,
+            name,
+            sta,
+            answer: PullAnswer::Found(r1),
+        } => is_row(r0kh_id.as_slice(), name, *sta) && r1.key == PMK_R1,
+        _ => false,
+    }
+}
+
+fn is_absent(act: &Act) -> bool {
+    match act {
+        Act::Looked {
+            r0kh_id,
+            name,
+            sta,
+            answer: PullAnswer::Absent,
+        } => is_row(r0kh_id.as_slice(), name, *sta),
+        _ => false,
+    }
+}
+
+fn is_revoked(act: &Act) -> bool {
+    match act {
+        Act::Revoked {
+            r0kh_id,
+            name,
+            sta,
+            answer: RevokeAnswer::Revoked,
+        } => is_row(r0kh_id.as_slice(), name, *sta),
         _ => false,
     }
 }
@@ -314,34 +378,60 @@ fn is_idle(act: &Act, reason: Why) -> bool {
 }
 
 // The act is as it is to be, where these octets came and that came of them.
-fn is(act: &Act, expected: Expected, came: &[u8], told: Outcome) -> bool {
-    match expected {
-        Expected::Opened(node) => is_opened(act, node),
+fn is(act: &Act, expected: &Expected, came: &[u8], told: Outcome) -> bool {
+    match *expected {
+        Expected::Opened(node) => is_opened(act, node, Start::Connect),
+        Expected::Roamed(node) => is_opened(act, node, Start::Roam),
         Expected::Closed(node, part) => is_closed(act, node, part),
         Expected::Drew(value) => is_drawn(act, value),
         Expected::Derived(node, keys) => is_derived(act, node, keys),
-        Expected::Sent(node, kind, frame) => is_sent(act, node, kind, frame, None),
-        Expected::SentSealed(node, kind, frame, keys) => {
-            is_sent(act, node, kind, frame, Some(keys))
+        Expected::Sent(node, kind, frame) => {
+            is_sent(act, Peer::One(node), kind, frame, Sealed::No)
         }
-        Expected::Took(node, kind) => is_taken(act, node, kind, came, told, None),
+        Expected::SentSealed(node, kind, frame, keys) => {
+            is_sent(act, Peer::One(node), kind, frame, Sealed::Mic(keys))
+        }
+        Expected::SentMoving(node, kind, frame, keys) => {
+            is_sent(act, Peer::One(node), kind, frame, Sealed::Fte(keys))
+        }
+        Expected::Took(node, kind) => is_taken(act, node, kind, came, told, Sealed::No),
         Expected::TookSealed(node, kind, keys) => {
-            is_taken(act, Some(node), kind, came, told, Some(keys))
+            is_taken(act, Some(node), kind, came, told, Sealed::Mic(keys))
+        }
+        Expected::TookMoving(node, kind, keys) => {
+            is_taken(act, Some(node), kind, came, told, Sealed::Fte(keys))
         }
         Expected::Pairwise(node, keys) => is_pairwise(act, node, keys),
-        Expected::Group(peer, gtk, id) => is_group(act, peer, gtk, id),
+        Expected::Group(peer, gtk, id) => is_group(act, peer, A1_ADDRESS, gtk, id),
+        Expected::GroupOfA2(gtk, id) => is_group(act, Peer::One(A2), A2_ADDRESS, gtk, id),
+        Expected::OwnGroupOfA2(gtk, id) => is_group(act, Peer::All, A2_ADDRESS, gtk, id),
         Expected::Resumed(node, gtk, id) => is_resumed(act, node, gtk, id),
         Expected::Used(peer, data) => is_used(act, peer, data),
-        Expected::SentData(peer, data) => is_sent_data(act, peer, data),
-        Expected::TookData(node, data) => is_data_taken(act, node, data, told),
+        Expected::SentData(peer, data) => {
+            is_sent(act, peer, Kind::Data, data.octets, Sealed::Ccm(data))
+        }
+        Expected::TookData(node, data) => {
+            is_taken(
+                act,
+                Some(node),
+                Kind::Data,
+                data.octets,
+                told,
+                Sealed::Ccm(data),
+            )
+        }
         Expected::HandedUp(node, data) => is_handed_up(act, node, data),
         Expected::Finished(node, keys) => is_finished(act, node, keys),
+        Expected::Put => is_put(act),
+        Expected::Found => is_found(act),
+        Expected::Absent => is_absent(act),
+        Expected::Revoked => is_revoked(act),
         Expected::GaveUp(node, message) => is_given_up(act, node, message),
         Expected::Idle(why) => is_idle(act, why),
     }
 }
 
-fn is_next(act: &Option<Act>, expected: Option<Expected>, came: &[u8], told: Outcome) -> bool {
+fn is_next(act: &Option<Act>, expected: Option<&Expected>, came: &[u8], told: Outcome) -> bool {
     match (act, expected) {
         (Some(act), Some(expected)) => is(act, expected, came, told),
         (None, None) => true,
@@ -350,14 +440,14 @@ fn is_next(act: &Option<Act>, expected: Option<Expected>, came: &[u8], told: Out
 }
 
 // The next act, which is dropped, is as it is to be, or there is none and none is to be.
-fn comes(act: Option<Act>, expected: Option<Expected>, came: &[u8], told: Outcome) -> bool {
+fn comes(act: Option<Act>, expected: Option<&Expected>, came: &[u8], told: Outcome) -> bool {
     is_next(&act, expected, came, told)
 }
 
 /// These acts come, and no more, where these octets came and that came of them.
 pub fn come(out: &mut Outbox, acts: &[Expected], came: &[u8], told: Outcome) -> bool {
     for expected in acts {
-        if !comes(out.pop(), Some(*expected), came, told) {
+        if !comes(out.pop(), Some(expected), came, told) {
             return false;
         }
     }

@@ -4,46 +4,58 @@
 //! apart from this project.
 
 use crate::vectors::{
-    ANONCE, CROSSED_PTK, NEXT_ANONCE, NEXT_PTK, NEXT_SNONCE, OTHER_PTK, OTHER_SNONCE, PTK,
-    SHA256_PTK, SNONCE,
+    A1_ADDRESS, ANONCE, CROSSED_PTK, NEXT_ANONCE, NEXT_PTK, NEXT_SNONCE, OTHER_PTK, OTHER_SNONCE,
+    PTK, S1_ADDRESS, S2_ADDRESS, SHA256_PTK, SNONCE,
 };
+use domain_base::Mac;
 use key_hierarchy::Ptk;
 
-/// A pairwise key of A1 with a station, and the nonces that it is derived from.
-#[derive(Clone, Copy)]
+/// A pairwise key of an access point with a station, and the nonces and the addresses that it is derived from.
 pub struct Keys {
     pub anonce: [u8; 32],
     pub snonce: [u8; 32],
+    pub aa: Mac,
+    pub spa: Mac,
     pub ptk: Ptk,
 }
 
 pub const KEYS: Keys = Keys {
     anonce: ANONCE,
     snonce: SNONCE,
+    aa: A1_ADDRESS,
+    spa: S1_ADDRESS,
     ptk: PTK,
 };
 
 pub const CROSSED_KEYS: Keys = Keys {
     anonce: NEXT_ANONCE,
     snonce: SNONCE,
+    aa: A1_ADDRESS,
+    spa: S1_ADDRESS,
     ptk: CROSSED_PTK,
 };
 
 pub const NEXT_KEYS: Keys = Keys {
     anonce: NEXT_ANONCE,
     snonce: NEXT_SNONCE,
+    aa: A1_ADDRESS,
+    spa: S1_ADDRESS,
     ptk: NEXT_PTK,
 };
 
 pub const OTHER_KEYS: Keys = Keys {
     anonce: NEXT_ANONCE,
     snonce: OTHER_SNONCE,
+    aa: A1_ADDRESS,
+    spa: S2_ADDRESS,
     ptk: OTHER_PTK,
 };
 
 pub const KEYS_OF_SUITE_6: Keys = Keys {
     anonce: ANONCE,
     snonce: SNONCE,
+    aa: A1_ADDRESS,
+    spa: S1_ADDRESS,
     ptk: SHA256_PTK,
 };
 

@@ -20,7 +20,6 @@ use std::alloc::Global;
 use std::process::Abort;
 
 // What M3 carries under a key: the key, the RSC, and the RSNE and a group key under its KEK.
-#[derive(Clone, Copy)]
 struct Keys {
     ptk: Ptk,
     rsc: u64,
@@ -49,7 +48,6 @@ const SHA256: Keys = Keys {
 };
 
 // The newest group key, and the count of packet numbers that were used under it.
-#[derive(Clone, Copy)]
 struct Newest {
     key: GroupKey,
     rsc: u64,
@@ -74,7 +72,6 @@ const SECOND_GROUP: Newest = Newest {
 };
 
 // What comes, or what is called.
-#[derive(Clone, Copy)]
 enum Given {
     // M2 with this counter, this MIC and this key data.
     M2(u64, [u8; 16], &'static [u8]),
@@ -87,14 +84,12 @@ enum Given {
 }
 
 // What comes of it.
-#[derive(Clone, Copy)]
 enum Came {
     Took(Outcome),
     Retried(Retried),
 }
 
 // What the reply is to say.
-#[derive(Clone, Copy)]
 enum Want {
     Nothing,
     // M1 with this counter.
@@ -110,7 +105,6 @@ enum Want {
     GivenUp(Message),
 }
 
-#[derive(Clone, Copy)]
 struct Step {
     shows: &'static str,
     given: Given,
@@ -126,7 +120,7 @@ fn is_same(retried: Retried, wanted: Retried) -> bool {
     }
 }
 
-fn keyed(keys: Keys) -> Keyed {
+fn keyed(keys: &Keys) -> Keyed {
     Keyed {
         ptk: keys.ptk,
         anonce: ANONCE,
@@ -140,7 +134,7 @@ fn sends_m3(
     alloc: Global,
     suite: &Suite,
     reply: &Reply,
-    keys: Keys,
+    keys: &Keys,
     counter: u64,
     mic: [u8; 16],
 ) -> bool {
@@ -159,33 +153,33 @@ fn has(
 }
 
 // The reply is as it is to be.
-fn is(rt: &impl Abort, alloc: Global, suite: &Suite, reply: &Reply, want: Want) -> bool {
+fn is(rt: &impl Abort, alloc: Global, suite: &Suite, reply: &Reply, want: &Want) -> bool {
     match want {
         Want::Nothing => is_silent(reply) && has(reply, None, None, None),
         Want::M1(counter) => {
-            let frame = m1(suite, counter, ANONCE);
+            let frame = m1(suite, *counter, ANONCE);
             has(reply, None, None, None) && sends(rt, alloc, reply, Message::M1, None, &frame)
         }
         Want::Verified(keys) => is_silent(reply) && has(reply, Some(keys.ptk.kck), None, None),
         Want::Derived(keys, counter, mic) => {
             has(reply, Some(keys.ptk.kck), Some(keyed(keys)), None)
-                && sends_m3(rt, alloc, suite, reply, keys, counter, mic)
+                && sends_m3(rt, alloc, suite, reply, keys, *counter, *mic)
         }
         Want::M3(keys, counter, mic) => {
-            has(reply, None, None, None) && sends_m3(rt, alloc, suite, reply, keys, counter, mic)
+            has(reply, None, None, None) && sends_m3(rt, alloc, suite, reply, keys, *counter, *mic)
         }
         Want::Installed(keys) => {
             is_silent(reply) && has(reply, Some(keys.ptk.kck), None, Some(keyed(keys)))
         }
         Want::GivenUp(message) => {
-            is_silent(reply) && reply.kind == Kind::Key(message) && has(reply, None, None, None)
+            is_silent(reply) && reply.kind == Kind::Key(*message) && has(reply, None, None, None)
         }
     }
 }
 
 // The message and the frame that come; of a retry neither is looked at.
-fn frame_of(suite: &Suite, given: Given) -> (Message, Frame) {
-    match given {
+fn frame_of(suite: &Suite, given: &Given) -> (Message, Frame) {
+    match *given {
         Given::M2(counter, mic, rsne) => (Message::M2, m2(suite, counter, SNONCE, mic, rsne)),
         Given::M4(counter, mic) => (Message::M4, m4(suite, counter, mic)),
         Given::As(message) => (message, m4(suite, 2, suite.m4)),
@@ -231,7 +225,7 @@ fn is_right(
             is_same(authenticator.retry(&newest.key, newest.rsc, reply), retried)
         },
         Came::Took(outcome) => {
-            let (message, frame) = frame_of(suite, step.given);
+            let (message, frame) = frame_of(suite, &step.given);
             let came = on_air(rt, alloc, &frame);
             outcome_of(authenticator, message, &came, newest, reply) == Some(outcome)
         }
@@ -251,7 +245,7 @@ fn try_step(
     requires packet_number { newest.now.rsc < 2 ^ 48 }
 {
     let is_right = is_right(rt, alloc, suite, authenticator, newest, reply, step)
-        && is(rt, alloc, suite, reply, step.wants);
+        && is(rt, alloc, suite, reply, &step.wants);
     assert!(rt; is_right, "{}", step.shows);
 }
 
@@ -299,7 +293,7 @@ fn try_steps(rt: &impl Abort, alloc: Global, suite: &Suite, newest: &Newest, ste
 {
     let mut reply = used();
     let mut authenticator = begun(rt, alloc, suite, &mut reply);
-    assert!(rt; reply.len == 131 && is(rt, alloc, suite, &reply, Want::M1(1)));
+    assert!(rt; reply.len == 131 && is(rt, alloc, suite, &reply, &Want::M1(1)));
     for step in steps {
         try_step(
             rt,

@@ -20,7 +20,6 @@ use std::process::Abort;
 type Pieces = (&'static [u8], usize, &'static [u8]);
 
 // What a frame is judged as, without what it carries.
-#[derive(Clone, Copy)]
 enum Told {
     Ignored,
     Refused(Option<Node>, Reason),
@@ -30,20 +29,19 @@ enum Told {
 }
 
 // It is judged so.
-fn is_told(judged: &Judged<'_>, told: Told) -> bool {
+fn is_told(judged: &Judged<'_>, told: &Told) -> bool {
     match (told, judged) {
         (Told::Ignored, Judged::Settled(None, Outcome::Ignored)) => true,
         (Told::Refused(sender, reason), Judged::Settled(from, Outcome::Refused(why))) => {
-            *from == sender && *why == reason
+            *from == *sender && *why == *reason
         }
-        (Told::Managed(sender), Judged::Managed(from, _, _)) => *from == sender,
-        (Told::Keyed(sender), Judged::Keyed(from, _)) => *from == sender,
-        (Told::Sealed(sender), Judged::Sealed(from, _)) => *from == sender,
+        (Told::Managed(sender), Judged::Managed(from, _, _)) => *from == *sender,
+        (Told::Keyed(sender), Judged::Keyed(from, _)) => *from == *sender,
+        (Told::Sealed(sender), Judged::Sealed(from, _)) => *from == *sender,
         _ => false,
     }
 }
 
-#[derive(Clone, Copy)]
 struct Case {
     shows: &'static str,
     node: Node,
@@ -76,7 +74,7 @@ fn is_judged(domain: &Domain, case: &Case, octets: &[u8]) -> bool
     let node = listed(domain, case.node);
     node == case.node
         && delivered.kind() == case.kind
-        && is_told(&judge(domain, node, &delivered), case.told)
+        && is_told(&judge(domain, node, &delivered), &case.told)
 }
 
 fn try_case(rt: &impl Abort, alloc: Global, domain: &Domain, case: &Case)

@@ -202,7 +202,6 @@ fn second_message(rt: HostRuntime) {
 }
 
 // What a message 3 has of its own: the suite, the RSC field, the MIC and the key data.
-#[derive(Clone, Copy)]
 struct ThirdMessage {
     suite: Suite,
     rsc: [u8; 8],
@@ -294,7 +293,6 @@ fn fourth_message(rt: HostRuntime) {
 
 // What a message 1 of the group key handshake has of its own: the suite, the key information, the group key, the fields of the
 // replay counter and of the RSC, the MIC and the key data.
-#[derive(Clone, Copy)]
 struct GroupMessage {
     suite: Suite,
     information: &'static [u8],
@@ -385,7 +383,6 @@ fn first_message_of_the_group_key_handshake(rt: HostRuntime) {
 
 // What a message 2 of the group key handshake has of its own: the suite, the key information, the field of the replay counter,
 // and the MIC.
-#[derive(Clone, Copy)]
 struct GroupAnswer {
     suite: Suite,
     information: &'static [u8],

@@ -1,5 +1,5 @@
-//! Suite 4: the association of the first station with the first access point, octet by octet, and sessions that a fast transition
-//! installed.
+//! Suite 4: the association of the first station with the first access point, octet by octet, and
+//! sessions that a fast transition installed.
 
 ghost use Rattle.std.specs.Prelude.{◌≡◌, ◌≤◌, ◌<◌, length, MatchOption};
 ghost use Rattle.domain_rules.specs.Network.{InForm};

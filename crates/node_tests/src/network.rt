@@ -3,9 +3,12 @@
 ghost use Rattle.std.specs.Prelude.{◌≡◌, IfOk, length};
 ghost use Rattle.domain_base.specs.declared.names.Akm.{Akm as AnyAkm};
 ghost use Rattle.domain_rules.specs.Network.{InForm};
+ghost use Rattle.ft_exchange.specs.Asking.{ids_of};
+ghost use Rattle.key_holders.specs.Listed.{none_held};
 
 use crate::vectors::{PSK, SEED};
 use domain_base::{Akm, Mac, NoMemory, Octets};
+use key_holders::ListHolders;
 use run_journal::{Aps, Domain, ListedAp, Stas};
 use std::alloc::Global;
 use std::process::Abort;
@@ -60,4 +63,24 @@ pub fn mobile_network(rt: &impl Abort, alloc: Global) -> Domain
     ensures stas { length result.stas ≡ 2 }
 {
     made(alloc, Akm::FtPsk, [0xa1, 0xb2]).expect(rt, "memory")
+}
+
+// The R0KH-IDs of a network, in order.
+fn ids(alloc: Global, domain: &Domain) -> Result<Vec<Octets>, NoMemory>
+    ensures { IfOk result (λ ids. ids.items ≡ ids_of domain.now) }
+{
+    let mut ids = Vec::with_capacity(alloc, domain.aps.0.len())?;
+    for ap in domain.aps.0.iter() {
+        ids.push(octets(alloc, ap.r0kh_id.as_slice())?)?;
+    }
+    Ok(ids)
+}
+
+/// The key holders of the access points of a network, with no rows.
+pub fn holders(rt: &impl Abort, alloc: Global, domain: &Domain) -> ListHolders
+    requires { length domain.now.aps ≡ 2 }
+    ensures { result ≡ none_held (ids_of domain.now) }
+{
+    let ids = ids(alloc, domain).expect(rt, "memory");
+    ListHolders::new(alloc, ids).expect(rt, "memory")
 }

@@ -5,6 +5,8 @@ ghost use Rattle.run_journal.specs.Replies.{IsWhole};
 ghost use Rattle.domain_rules.specs.Network.{IsListed};
 ghost use Rattle.node_base.specs.Peers.{IsPeerOf};
 
+use crate::acts::{Expected, come};
+use crate::air_frames::Keys;
 use crate::network::network;
 use crate::vectors::{A1, A1_ADDRESS, ANONCE, GTK, S1, S1_ADDRESS, SNONCE};
 use act_memory::{Between, Outbox, Room, SendRoom, settle};
@@ -12,37 +14,57 @@ use air_frame::{Direction, Header};
 use domain_base::{Akm, Node, Peer};
 use eapol_key::{KeyFrame, Message};
 use frame_intake::{Heard, KeyMessage};
-use key_hierarchy::{Ptk, SharedInputs};
+use key_hierarchy::Ptk;
 use node_base::Here;
 use run_journal::{
-    Act, BoxedSeal, Domain, GtkNews, Key, Keyed, Kind, Outcome, Part, REPLY_LEN, Reason, Reply, Why,
+    Act, Domain, GtkNews, Keyed, Kind, Outcome, Part, REPLY_LEN, Reason, Reply, Why,
 };
 use std::alloc::Global;
 use std::process::Abort;
 
+const PTK: Ptk = Ptk {
+    kck: [1; 16],
+    kek: [2; 16],
+    tk: [3; 16],
+};
+
 const KEYED: Keyed = Keyed {
-    ptk: Ptk {
-        kck: [1; 16],
-        kek: [2; 16],
-        tk: [3; 16],
-    },
+    ptk: PTK,
     anonce: ANONCE,
     snonce: SNONCE,
+};
+
+// The key that was derived, and whose KCK verified the MIC.
+const KEYS: Keys = Keys {
+    anonce: ANONCE,
+    snonce: SNONCE,
+    aa: A1_ADDRESS,
+    spa: S1_ADDRESS,
+    ptk: PTK,
+};
+
+// With the key under which the reply's frame is sealed, which is another one.
+const SEALING: Keys = Keys {
+    anonce: ANONCE,
+    snonce: SNONCE,
+    aa: A1_ADDRESS,
+    spa: S1_ADDRESS,
+    ptk: Ptk {
+        kck: [2; 16],
+        kek: [0; 16],
+        tk: [0; 16],
+    },
 };
 
 // The octets that come: 32 before an EAPOL frame of 99, all 7.
 const CAME: [u8; 131] = [7; 131];
 
 // The octets of the reply's frame.
-const SENT: [u8; 131] = [9; 131];
+const SENT: &[u8] = &[9; 131];
 
-// What a MIC covers of an EAPOL frame of 99 octets that are all that.
-fn is_covered(octets: &[u8], octet: u8) -> bool {
-    let mut covered = [octet; 100];
-    covered[0] = 1;
-    covered[82..98].copy_from_slice(&[0; 16]);
-    octets == covered.as_slice()
-}
+const M3: Kind = Kind::Key(Message::M3);
+
+const M4: Kind = Kind::Key(Message::M4);
 
 // A sealed frame of 131 octets, all 9; a key that was derived and installed; and a group key.
 fn full(resumed: bool) -> Reply
@@ -51,7 +73,7 @@ fn full(resumed: bool) -> Reply
     let mut reply = Reply::empty();
     reply.octets = [9; REPLY_LEN];
     reply.len = 131;
-    reply.kind = Kind::Key(Message::M4);
+    reply.kind = M4;
     reply.sealed = Some(KEYED.ptk.kek);
     reply.verified = Some(KEYED.ptk.kck);
     reply.derived = Some(KEYED);
@@ -65,192 +87,6 @@ fn full(resumed: bool) -> Reply
     reply
 }
 
-// The inputs are those of the key between the station and the access point.
-fn are_inputs(inputs: &SharedInputs) -> bool {
-    let inputs = inputs.inputs();
-    inputs.anonce == ANONCE
-        && inputs.snonce == SNONCE
-        && inputs.aa == A1_ADDRESS
-        && inputs.spa == S1_ADDRESS
-        && inputs.ssid.as_slice() == b"IEEE".as_slice()
-}
-
-// The seal is of a frame whose octets are all that, under that key.
-fn is_seal(seal: &Option<BoxedSeal>, octet: u8, key: [u8; 16]) -> bool {
-    match seal {
-        Some(seal) => {
-            let seal = seal.seal();
-            seal.key == key && is_covered(seal.octets.as_slice(), octet)
-        }
-        None => false,
-    }
-}
-
-// The message was taken from the peer, and its MIC verified or not.
-fn is_took(act: &Act, peer: Node, told: Outcome, is_verified: bool) -> bool {
-    match act {
-        Act::Took {
-            from,
-            octets,
-            kind,
-            outcome,
-            seal,
-        } => {
-            let is_sealed = if is_verified {
-                is_seal(seal, 7, KEYED.ptk.kck)
-            } else {
-                seal.is_none()
-            };
-            is_sealed
-                && *from == Some(peer)
-                && octets.as_slice() == CAME.as_slice()
-                && *kind == Kind::Key(Message::M3)
-                && *outcome == told
-        }
-        _ => false,
-    }
-}
-
-// The act is that of taking these octets.
-fn takes(act: &Act, expected: &[u8]) -> bool {
-    match act {
-        Act::Took { octets, .. } => octets.as_slice() == expected,
-        _ => false,
-    }
-}
-
-fn is_derived(act: &Act, wanted: Node) -> bool {
-    match act {
-        Act::Derived { peer, inputs, ptk } => {
-            *peer == wanted && are_inputs(inputs) && *ptk == KEYED.ptk
-        }
-        _ => false,
-    }
-}
-
-fn is_pairwise(key: &Key) -> bool {
-    match key {
-        Key::Pairwise { tk, inputs } => *tk == KEYED.ptk.tk && are_inputs(inputs),
-        Key::Group { .. } => false,
-    }
-}
-
-fn is_group(key: &Key) -> bool {
-    match key {
-        Key::Group { gtk, id, bssid } => *gtk == GTK && *id == 2 && *bssid == A1_ADDRESS,
-        Key::Pairwise { .. } => false,
-    }
-}
-
-fn is_installed(act: &Act, wanted: Node) -> bool {
-    match act {
-        Act::Installed { peer, key } => *peer == Peer::One(wanted) && is_pairwise(key),
-        _ => false,
-    }
-}
-
-fn is_group_installed(act: &Act, wanted: Node) -> bool {
-    match act {
-        Act::Installed { peer, key } => *peer == Peer::One(wanted) && is_group(key),
-        _ => false,
-    }
-}
-
-fn is_group_resumed(act: &Act, wanted: Node) -> bool {
-    match act {
-        Act::Resumed { peer, key } => *peer == wanted && is_group(key),
-        _ => false,
-    }
-}
-
-fn is_closed(act: &Act, wanted: Node) -> bool {
-    match act {
-        Act::Closed { peer, part } => *peer == wanted && *part == Part::Session,
-        _ => false,
-    }
-}
-
-fn is_finished(act: &Act, wanted: Node) -> bool {
-    match act {
-        Act::Finished { peer, inputs } => *peer == wanted && are_inputs(inputs),
-        _ => false,
-    }
-}
-
-fn is_sent(act: &Act, wanted: Node) -> bool {
-    match act {
-        Act::Sent {
-            peer,
-            kind,
-            octets,
-            seal,
-        } => {
-            *peer == Peer::One(wanted)
-                && *kind == Kind::Key(Message::M4)
-                && octets.as_slice() == SENT.as_slice()
-                && is_seal(seal, 9, KEYED.ptk.kek)
-        }
-        _ => false,
-    }
-}
-
-// What an act is to be, beside the peer.
-#[derive(Clone, Copy)]
-enum Want {
-    Took(Outcome, bool),
-    Derived,
-    Closed,
-    Installed,
-    Group,
-    Resumed,
-    Finished,
-    Sent,
-    // These octets were taken.
-    Octets(&'static [u8]),
-    Idle,
-    // There is no act.
-    None,
-}
-
-fn is(act: &Act, peer: Node, want: Want) -> bool {
-    match want {
-        Want::Took(outcome, is_verified) => is_took(act, peer, outcome, is_verified),
-        Want::Derived => is_derived(act, peer),
-        Want::Closed => is_closed(act, peer),
-        Want::Installed => is_installed(act, peer),
-        Want::Group => is_group_installed(act, peer),
-        Want::Resumed => is_group_resumed(act, peer),
-        Want::Finished => is_finished(act, peer),
-        Want::Sent => is_sent(act, peer),
-        Want::Octets(octets) => takes(act, octets),
-        Want::Idle => matches!(act, Act::Idle { why: Why::Nothing }),
-        Want::None => false,
-    }
-}
-
-// The act is as it is to be.
-fn is_wanted(act: &Option<Act>, peer: Node, want: Want) -> bool {
-    match act {
-        Some(act) => is(act, peer, want),
-        None => matches!(want, Want::None),
-    }
-}
-
-// The first act that waits is as it is to be.
-fn next_is(outbox: &mut Outbox, peer: Node, want: Want) -> bool {
-    is_wanted(&outbox.pop(), peer, want)
-}
-
-// These acts wait, and no more.
-fn waits(outbox: &mut Outbox, peer: Node, wants: &[Want]) -> bool {
-    for want in wants {
-        if !next_is(outbox, peer, *want) {
-            return false;
-        }
-    }
-    next_is(outbox, peer, Want::None)
-}
-
 // A frame of data that is ignored is settled.
 fn settles(alloc: Global, outbox: &mut Outbox) -> bool {
     let node = Some(A1);
@@ -260,16 +96,18 @@ fn settles(alloc: Global, outbox: &mut Outbox) -> bool {
     }
 }
 
-const TAKEN: [Want; 2] = [Want::Octets(b"frame"), Want::Idle];
+const TAKEN: [Expected; 2] = [
+    Expected::Took(Some(A1), Kind::Data),
+    Expected::Idle(Why::Nothing),
+];
 
 #[test]
 fn acts_come_in_order(rt: HostRuntime) {
     let mut outbox = Outbox::new(rt.alloc());
-    assert!(rt; next_is(&mut outbox, A1, Want::None));
-    assert!(rt; settles(rt.alloc(), &mut outbox));
+    assert!(rt; come(&mut outbox, &[], b"", Outcome::Done) && settles(rt.alloc(), &mut outbox));
     outbox.reserve(1).expect(&rt, "memory");
     outbox.add(Act::Idle { why: Why::Nothing });
-    assert!(rt; waits(&mut outbox, A1, &TAKEN));
+    assert!(rt; come(&mut outbox, &TAKEN, b"frame", Outcome::Ignored));
 }
 
 // No acts, and room for those of a reply.
@@ -346,14 +184,14 @@ fn at_the_station(
     room.add_reply(outcome, had_session, reply, between, outbox);
 }
 
-const ALL: [Want; 7] = [
-    Want::Took(Outcome::Accepted, true),
-    Want::Derived,
-    Want::Closed,
-    Want::Installed,
-    Want::Group,
-    Want::Finished,
-    Want::Sent,
+const ALL: [Expected; 7] = [
+    Expected::TookSealed(A1, M3, &KEYS),
+    Expected::Derived(A1, &KEYS),
+    Expected::Closed(A1, Part::Session),
+    Expected::Pairwise(A1, &KEYS),
+    Expected::Group(Peer::One(A1), GTK, 2),
+    Expected::Finished(A1, &KEYS),
+    Expected::SentSealed(A1, M4, SENT, &SEALING),
 ];
 
 #[test]
@@ -368,16 +206,16 @@ fn all_that_a_reply_may_bring(rt: HostRuntime) {
         &reply,
         &mut outbox,
     );
-    assert!(rt; waits(&mut outbox, A1, &ALL));
+    assert!(rt; come(&mut outbox, &ALL, &CAME, Outcome::Accepted));
 }
 
-const AGAIN: [Want; 6] = [
-    Want::Took(Outcome::Answered, true),
-    Want::Derived,
-    Want::Installed,
-    Want::Resumed,
-    Want::Finished,
-    Want::Sent,
+const AGAIN: [Expected; 6] = [
+    Expected::TookSealed(A1, M3, &KEYS),
+    Expected::Derived(A1, &KEYS),
+    Expected::Pairwise(A1, &KEYS),
+    Expected::Resumed(A1, GTK, 2),
+    Expected::Finished(A1, &KEYS),
+    Expected::SentSealed(A1, M4, SENT, &SEALING),
 ];
 
 #[test]
@@ -392,7 +230,7 @@ fn a_key_taken_into_use_again_without_session(rt: HostRuntime) {
         &reply,
         &mut outbox,
     );
-    assert!(rt; waits(&mut outbox, A1, &AGAIN));
+    assert!(rt; come(&mut outbox, &AGAIN, &CAME, Outcome::Answered));
 }
 
 const REFUSED: Outcome = Outcome::Refused(Reason::Unawaited);
@@ -401,7 +239,7 @@ const REFUSED: Outcome = Outcome::Refused(Reason::Unawaited);
 fn an_empty_reply(rt: HostRuntime) {
     let mut outbox = roomy_outbox(&rt, rt.alloc());
     at_the_station(&rt, rt.alloc(), REFUSED, true, &Reply::empty(), &mut outbox);
-    assert!(rt; waits(&mut outbox, A1, &[Want::Took(REFUSED, false)]));
+    assert!(rt; come(&mut outbox, &[Expected::Took(Some(A1), M3)], &CAME, REFUSED));
 }
 
 // A reply at the access point.
@@ -416,13 +254,13 @@ fn at_the_access_point(rt: &impl Abort, alloc: Global, outbox: &mut Outbox)
     room.add_reply(Outcome::Accepted, true, &reply, between, outbox);
 }
 
-const DERIVED: [Want; 2] = [Want::Took(Outcome::Accepted, false), Want::Derived];
+const DERIVED: [Expected; 2] = [Expected::Took(Some(S1), M3), Expected::Derived(S1, &KEYS)];
 
 #[test]
 fn inputs_at_the_access_point(rt: HostRuntime) {
     let mut outbox = roomy_outbox(&rt, rt.alloc());
     at_the_access_point(&rt, rt.alloc(), &mut outbox);
-    assert!(rt; waits(&mut outbox, S1, &DERIVED));
+    assert!(rt; come(&mut outbox, &DERIVED, &CAME, Outcome::Accepted));
 }
 
 // A reply's frame is sent to the access point.
@@ -440,10 +278,12 @@ fn is_sent_to_it(alloc: Global, reply: &Reply, outbox: &mut Outbox) -> bool
     }
 }
 
+const UNASKED: [Expected; 1] = [Expected::SentSealed(A1, M4, SENT, &SEALING)];
+
 #[test]
 fn what_is_sent_unasked(rt: HostRuntime) {
     let mut outbox = roomy_outbox(&rt, rt.alloc());
-    assert!(rt; is_sent_to_it(rt.alloc(), &Reply::empty(), &mut outbox));
-    assert!(rt; is_sent_to_it(rt.alloc(), &full(true), &mut outbox));
-    assert!(rt; waits(&mut outbox, A1, &[Want::Sent]));
+    let is_taken = is_sent_to_it(rt.alloc(), &Reply::empty(), &mut outbox)
+        && is_sent_to_it(rt.alloc(), &full(true), &mut outbox);
+    assert!(rt; is_taken && come(&mut outbox, &UNASKED, b"", Outcome::Done));
 }

@@ -5,7 +5,6 @@ use crate::vectors::{CROSSED_TK, GTK, NEXT_GTK, TK};
 
 /// A frame of protected data: its octets, what its seal covers behind its form, and what they were made of. The TID is that of
 /// the counter that it is held against.
-#[derive(Clone, Copy)]
 pub struct Data {
     pub octets: &'static [u8],
     pub sealed: &'static [u8],

@@ -1,15 +1,15 @@
 //! The station S1, event by event.
 
-ghost use Rattle.std.specs.Prelude.{◌≡◌, ◌≢◌, ◌<◌, length};
-ghost use Rattle.domain_base.specs.declared.names.Akm.{Akm as AnyAkm};
+ghost use Rattle.std.specs.Prelude.{◌≡◌, ◌<◌, length};
 ghost use Rattle.domain_rules.specs.Network.{InForm, draw_end};
 
 mod association;
 mod handshakes;
 mod protected;
+mod transition;
 
 use crate::acts::{Event, Step, come_of, is_outcome, tid_of};
-use crate::network::network;
+use crate::network::{mobile_network, network};
 use act_memory::Outbox;
 use domain_base::{Akm, Node, Peer};
 use node_base::NodeEvent;
@@ -27,7 +27,6 @@ fn steps(
     step: &Step,
 ) -> bool
     requires form { InForm domain.now }
-    requires akm { domain.now.akm ≢ AnyAkm.FtPsk }
     requires aps { length domain.now.aps ≡ 2 }
     requires stas { length domain.now.stas ≡ 2 }
     requires node { node.old.number ≡ 0 }
@@ -35,6 +34,7 @@ fn steps(
 {
     let event = match step.event {
         Event::Connect(ap) => NodeEvent::Connect(ap % 2),
+        Event::Roam(ap) if domain.akm == Akm::FtPsk => NodeEvent::Roam(ap % 2),
         Event::Take(octets) => NodeEvent::Take(octets),
         Event::TakeData(data) => NodeEvent::Take(data.octets),
         Event::Send(ap, tid, payload) if payload.len() <= 2304 => {
@@ -56,7 +56,6 @@ fn follow(
     scenario: &[Step],
 )
     requires form { InForm domain.now }
-    requires akm { domain.now.akm ≢ AnyAkm.FtPsk }
     requires aps { length domain.now.aps ≡ 2 }
     requires stas { length domain.now.stas ≡ 2 }
     requires node { node.old.number ≡ 0 }
@@ -109,4 +108,30 @@ fn a_station_answers_m3(rt: HostRuntime) {
 #[test]
 fn a_station_sends_and_takes_data(rt: HostRuntime) {
     try_steps(&rt, rt.alloc(), 0, protected::PAYLOADS);
+}
+
+// The same in the mobility domain.
+fn try_mobile_steps(rt: &impl Abort, alloc: Global, first: u64, scenario: &[Step])
+    requires { first < draw_end }
+{
+    let domain = mobile_network(rt, alloc);
+    let mut node = StationNode::start(alloc, 0, first);
+    let mut out = Outbox::new(alloc);
+    follow(rt, alloc, &domain, &mut node, &mut out, scenario);
+}
+
+#[test]
+fn a_station_roams(rt: HostRuntime) {
+    try_mobile_steps(&rt, rt.alloc(), 0, transition::ROAMING);
+}
+
+#[test]
+fn a_station_leaves_a_fast_transition(rt: HostRuntime) {
+    try_mobile_steps(&rt, rt.alloc(), 0, transition::LEAVING);
+}
+
+#[test]
+fn no_fast_transition_of_a_station_at_the_end_of_draws(rt: HostRuntime) {
+    let last = 1_152_921_504_606_846_975;
+    try_mobile_steps(&rt, rt.alloc(), last, transition::SPENT);
 }

@@ -7,22 +7,21 @@ ghost use Rattle.domain_rules.specs.Network.{InForm};
 
 use crate::frames::{Frame, g1, g2, is_silent, m1, m3, on_air, sends, tells};
 use crate::network::network;
+use crate::supplicant_part::{is_gtk, outcome_of};
 use crate::vectors::{
     ANONCE, G1_KEY_DATA, G1_KEY_DATA_OF_ID_1, G1_MIC, G2_MIC, GTK, NEXT_GTK, SECOND_G1_MIC,
     SECOND_G2_MIC, SHA256_G1_KEY_DATA, SHA256_G1_KEY_DATA_OF_ID_1, SHA256_G1_MIC, SHA256_G2_MIC,
     SHA256_SECOND_G1_MIC, SHA256_SECOND_G2_MIC, SNONCE, SUITE_2, SUITE_6, Suite,
 };
 use eapol_key::Message;
-use frame_intake::{Delivered, read};
 use group_key::GroupMemory;
-use run_journal::{Domain, GtkNews, Outcome, Reason, Reply};
+use run_journal::{Domain, Outcome, Reason, Reply};
 use std::alloc::Global;
 use std::process::Abort;
 use supplicant::{StaStart, Supplicant};
 
 // What a suite has of its own: the key information of G1 and G2, and the MICs and key data of G1 and the MICs of G2, with
 // counter 3 and with counter 4.
-#[derive(Clone, Copy)]
 struct Group {
     suite: Suite,
     information: [&'static [u8]; 2],
@@ -57,7 +56,6 @@ const GROUP_6: Group = Group {
 };
 
 // What comes.
-#[derive(Clone, Copy)]
 enum Given {
     M1,
     // With counter 2 and with counter 3.
@@ -70,7 +68,6 @@ enum Given {
 }
 
 // What the reply is to tell.
-#[derive(Clone, Copy)]
 enum Told {
     // That of the four-way handshake is compared elsewhere.
     Any,
@@ -81,7 +78,6 @@ enum Told {
     Resumed,
 }
 
-#[derive(Clone, Copy)]
 struct Step {
     shows: &'static str,
     given: Given,
@@ -90,26 +86,18 @@ struct Step {
 }
 
 // What comes.
-fn frame_of(group: &Group, given: Given) -> Frame {
+fn frame_of(group: &Group, given: &Given) -> Frame {
     let suite = &group.suite;
     let information = group.information[0];
     match given {
         Given::M1 => m1(suite, 1, ANONCE),
         Given::M3 => m3(suite, 2, ANONCE, 0, suite.m3, suite.key_data),
         Given::SecondM3 => m3(suite, 3, ANONCE, 0, suite.second_m3, suite.key_data),
-        Given::G1(counter) => g1(information, counter, 0, group.g1, group.key_data),
+        Given::G1(counter) => g1(information, *counter, 0, group.g1, group.key_data),
         Given::SecondG1 => {
             let rsc = 0x0605_0403_0201;
             g1(information, 4, rsc, group.second_g1, group.second_key_data)
         }
-    }
-}
-
-// That group key came.
-fn is_gtk(found: Option<GtkNews>, resumed: bool, id: u8, key: [u8; 16]) -> bool {
-    match found {
-        Some(news) => news.resumed == resumed && news.id == id && news.key == key,
-        None => false,
     }
 }
 
@@ -128,7 +116,7 @@ fn is_answered(
 }
 
 // The reply tells that.
-fn is_told(rt: &impl Abort, alloc: Global, group: &Group, reply: &Reply, told: Told) -> bool {
+fn is_told(rt: &impl Abort, alloc: Global, group: &Group, reply: &Reply, told: &Told) -> bool {
     let information = group.information[1];
     match told {
         Told::Any => true,
@@ -146,22 +134,6 @@ fn is_told(rt: &impl Abort, alloc: Global, group: &Group, reply: &Reply, told: T
     }
 }
 
-// The outcome of a message that comes so, where it is one.
-fn outcome_of(
-    group: &Group,
-    came: &[u8],
-    supplicant: &mut Supplicant,
-    memory: &mut GroupMemory,
-    reply: &mut Reply,
-) -> Option<Outcome> {
-    match read(group.suite.akm, came) {
-        Delivered::Keyed(message) => {
-            Some(supplicant.step(message.message, &message.frame, memory, reply))
-        }
-        _ => None,
-    }
-}
-
 fn try_step(
     rt: &impl Abort,
     alloc: Global,
@@ -171,9 +143,9 @@ fn try_step(
     reply: &mut Reply,
     step: &Step,
 ) {
-    let came = on_air(rt, alloc, &frame_of(group, step.given));
-    let outcome = outcome_of(group, &came, supplicant, memory, reply);
-    let is_right = outcome == Some(step.outcome) && is_told(rt, alloc, group, reply, step.told);
+    let came = on_air(rt, alloc, &frame_of(group, &step.given));
+    let outcome = outcome_of(group.suite.akm, &came, supplicant, memory, reply);
+    let is_right = outcome == Some(step.outcome) && is_told(rt, alloc, group, reply, &step.told);
     assert!(rt; is_right, "{}", step.shows);
 }
 

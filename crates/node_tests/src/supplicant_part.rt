@@ -53,7 +53,6 @@ enum Mic {
 }
 
 // What comes.
-#[derive(Clone, Copy)]
 enum Given {
     // With this counter and this nonce.
     M1(u64, [u8; 32]),
@@ -64,7 +63,6 @@ enum Given {
 }
 
 // What the reply is to tell.
-#[derive(Clone, Copy)]
 enum Told {
     Nothing,
     // The MIC verified under the first key.
@@ -77,7 +75,6 @@ enum Told {
     Again,
 }
 
-#[derive(Clone, Copy)]
 struct Step {
     shows: &'static str,
     given: Given,
@@ -121,8 +118,8 @@ fn key_data_of(suite: &Suite, key_data: KeyData) -> &'static [u8] {
 }
 
 // What comes.
-fn frame_of(suite: &Suite, given: Given) -> Frame {
-    match given {
+fn frame_of(suite: &Suite, given: &Given) -> Frame {
+    match *given {
         Given::M1(counter, anonce) => m1(suite, counter, anonce),
         Given::M2 => m2(suite, 1, SNONCE, suite.m2, suite.rsne),
         Given::M3(counter, anonce, mic, key_data) => {
@@ -150,10 +147,10 @@ fn m4_under(suite: &Suite, key: Key) -> Frame {
     }
 }
 
-// The group key came with key id 1, resumed or not.
-fn is_gtk(found: Option<GtkNews>, resumed: bool) -> bool {
+/// That group key came, resumed or not.
+pub fn is_gtk(found: Option<GtkNews>, resumed: bool, id: u8, key: [u8; 16]) -> bool {
     match found {
-        Some(news) => news.resumed == resumed && news.id == 1 && news.key == GTK,
+        Some(news) => news.resumed == resumed && news.id == id && news.key == key,
         None => false,
     }
 }
@@ -190,7 +187,7 @@ fn installs(
 ) -> bool {
     let under = keyed(suite, key);
     tells(reply, Some(under.ptk.kck), None, Some(under))
-        && is_gtk(reply.gtk, resumed)
+        && is_gtk(reply.gtk, resumed, 1, GTK)
         && reply.len == 131
         && sends(
             rt,
@@ -203,9 +200,9 @@ fn installs(
 }
 
 // The reply tells that.
-fn is_told(rt: &impl Abort, alloc: Global, suite: &Suite, reply: &Reply, told: Told) -> bool {
+fn is_told(rt: &impl Abort, alloc: Global, suite: &Suite, reply: &Reply, told: &Told) -> bool {
     let kck = Some(suite.keys.kck);
-    match told {
+    match *told {
         Told::Nothing => is_silent(reply) && installs_nothing(reply, None),
         Told::Verified => is_silent(reply) && installs_nothing(reply, kck),
         Told::Derived(key) => derives(rt, alloc, suite, reply, key),
@@ -217,8 +214,8 @@ fn is_told(rt: &impl Abort, alloc: Global, suite: &Suite, reply: &Reply, told: T
     }
 }
 
-// The outcome of a message that comes so, where it is one.
-fn outcome_of(
+/// The outcome of a message that comes so, where it is one.
+pub fn outcome_of(
     akm: Akm,
     came: &[u8],
     supplicant: &mut Supplicant,
@@ -242,9 +239,9 @@ fn try_step(
     reply: &mut Reply,
     step: &Step,
 ) {
-    let came = on_air(rt, alloc, &frame_of(suite, step.given));
+    let came = on_air(rt, alloc, &frame_of(suite, &step.given));
     let outcome = outcome_of(suite.akm, &came, supplicant, memory, reply);
-    let is_right = outcome == Some(step.outcome) && is_told(rt, alloc, suite, reply, step.told);
+    let is_right = outcome == Some(step.outcome) && is_told(rt, alloc, suite, reply, &step.told);
     assert!(rt; is_right, "{}", step.shows);
 }
 

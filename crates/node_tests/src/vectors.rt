@@ -230,7 +230,6 @@ pub const SHA256_SECOND_M4_MIC: [u8; 16] =
 
 /// What a suite has of its own: the key information of the four messages and the RSNE; the keys of `ANONCE` and `SNONCE`, of
 /// `NEXT_ANONCE` and `SNONCE` (crossed), and of `NEXT_ANONCE` and `NEXT_SNONCE`; MICs as for suite 2 above; and key data.
-#[derive(Clone, Copy)]
 pub struct Suite {
     pub akm: Akm,
     pub information: [&'static [u8]; 4],

@@ -1,5 +1,5 @@
 -- What single acts do to the questions that a station stands for.
-use Rattle.std.proofs.Common.{◌≡◌, ℕ, true, false, List, Option, None, refl}
+use Rattle.std.proofs.Common.{◌≡◌, ℕ, true, false, List, ◌∷◌, Option, None, refl}
 use Rattle.domain_base.specs.declared.names.Node.{Node}
 use Rattle.run_journal.specs.declared.acts.Kind.{Kind}
 use Rattle.run_journal.specs.declared.acts.Reason.{Reason}
@@ -10,6 +10,7 @@ use Rattle.run_journal.specs.declared.acts.Act.{Act}
 use Rattle.run_journal.specs.declared.acts.Act.TheVariants.{Took, Idle}
 use Rattle.run_journal.specs.Acts.{given_from}
 use Rattle.run_journal.specs.Questions.{is_draw}
+use Rattle.run_journal.specs.Holders.{last_r0kh_id}
 use Rattle.data_frames.specs.Holding.{LeavesPairwise}
 use Rattle.domain_rules.specs.GroupKeys.{got_by}
 use Rattle.domain_rules.proofs.Parts.{IsApart, apart-refused, apart-ignored, apart-idle, leaves_pending, leaves_associated}
@@ -24,6 +25,7 @@ pub record IsPlainAct (e : Act) : Type 0 where
   pub gives : (p : Node) → given_from groups.Gtk p e ≡ None
   pub gets : (p : Node) (key : List ℕ) (id heard before : ℕ) → got_by groups.Gtk p key id e heard before ≡ before
   pub leaves : (p : Node) (tk : List ℕ) → LeavesPairwise p tk e
+  pub holder : (h : List Act) → last_r0kh_id (e ∷ h) ≡ last_r0kh_id h
 
 pub plain-refused : (from : Option Node) (octets : List ℕ) (k : Kind) (why : Reason) (s : Option Seal) → IsPlainAct (Took from octets k (Refused why) s)
 plain-refused from octets k why s = record {
@@ -34,6 +36,7 @@ plain-refused from octets k why s = record {
   gives = λ p. refl;
   gets = λ p key id heard before. refl;
   leaves = λ p tk. record { used = λ h. refl; got = λ tid h. refl };
+  holder = λ h. refl;
 }
 
 pub plain-ignored : (from : Option Node) (octets : List ℕ) (k : Kind) (s : Option Seal) → IsPlainAct (Took from octets k Ignored s)
@@ -45,6 +48,7 @@ plain-ignored from octets k s = record {
   gives = λ p. refl;
   gets = λ p key id heard before. refl;
   leaves = λ p tk. record { used = λ h. refl; got = λ tid h. refl };
+  holder = λ h. refl;
 }
 
 pub plain-idle : (w : Why) → IsPlainAct (Idle w)
@@ -56,4 +60,5 @@ plain-idle w = record {
   gives = λ p. refl;
   gets = λ p key id heard before. refl;
   leaves = λ p tk. record { used = λ h. refl; got = λ tid h. refl };
+  holder = λ h. refl;
 }

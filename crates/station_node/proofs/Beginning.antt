@@ -1,13 +1,9 @@
 -- What a station stands for as it has asked for association, and as that was accepted.
-use Rattle.std.proofs.Common.{◌≡◌, ◌≢◌, inl, inr, ℕ, ◌<◌, ◌+◌, true, false, List, [], ◌∷◌, length, Option, Some, None, refl, sym, ap, subst, ◌∙◌, arith}
+use Rattle.std.proofs.Common.{◌≡◌, ◌≢◌, inl, inr, ℕ, ◌<◌, ◌+◌, true, false, List, ◌∷◌, length, Option, Some, None, refl, sym, ap, subst, ◌∙◌, arith}
 use Rattle.std.proofs.lemmas.Bool.{ne_eqb, cases_Bool}
-use Rattle.std.specs.Prelude.{option_map, unwrap_or}
-use Rattle.domain_base.specs.declared.names.Akm.{Akm}
-use Rattle.domain_base.specs.declared.names.Akm.TheVariants.{Psk, PskSha256, FtPsk}
 use Rattle.domain_base.specs.declared.names.Node.{Node}
 use Rattle.domain_base.specs.declared.names.Node.TheVariants.{Ap, Sta}
 use Rattle.eapol_key.specs.declared.messages.Message.TheVariants.{M1}
-use Rattle.key_hierarchy.specs.declared.inputs.Inputs.{Inputs}
 use Rattle.run_journal.specs.declared.domain.Domain.{Domain}
 use Rattle.run_journal.specs.declared.acts.Part.TheVariants.{Session as OfSession}
 use Rattle.run_journal.specs.declared.acts.Kind.TheVariants as kind
@@ -15,12 +11,9 @@ use Rattle.run_journal.specs.declared.acts.Outcome.TheVariants as outcome
 use Rattle.run_journal.specs.declared.acts.Act.{Act}
 use Rattle.run_journal.specs.declared.acts.Act.TheVariants.{Closed, Took}
 use Rattle.run_journal.specs.Acts.{same}
-use Rattle.run_journal.specs.Questions.{session, heard, pending, associated, given, add}
+use Rattle.run_journal.specs.Questions.{heard, session, pending, associated, given, add}
 use Rattle.domain_rules.specs.GroupKeys.{got}
-use Rattle.domain_rules.specs.Network.{root_at, inputs}
 use Rattle.domain_rules.specs.Closing.{close_associated}
-use Rattle.frame_making.specs.Mobile.{Mobility}
-use Rattle.frame_making.specs.KeyData.{IsMobility}
 use Rattle.domain_rules.proofs.Parts.{attempt_none, attempt_more, attempt_some, by_connect_more, own_nonce_more, same-refl}
 use Rattle.domain_rules.proofs.Effects.{IsBegun, begun-counter, begun-silent, asking_acts, has_asked, asked-pending, asked-associated, asked-others, asked-draws, associated_acts}
 use Rattle.run_journal.specs.GroupKinds as groups
@@ -33,15 +26,16 @@ use Rattle.supplicant.specs.declared.session.Session.{Session as SupplicantSessi
 use Rattle.supplicant.specs.State.{State as Supplicant}
 use Rattle.supplicant.specs.Taken.{HaveGroupIds}
 use Rattle.supplicant.specs.declared.base.Base.{Base}
-use Rattle.supplicant.specs.Bases.{IsBaseOf}
-use Rattle.supplicant.specs.Stands.{SupplicantStands, IsUnderWay, IsBased, Responds}
+use Rattle.supplicant.specs.Bases.{IsBaseOf, fte_in}
+use Rattle.supplicant.specs.Stands.{SupplicantStands, IsUnderWay, Responds}
+use Rattle.rsn_elements.specs.Elements.{ElementFields}
 use Rattle.supplicant.specs.Stands.{HasAttempt as HasSupplicantAttempt, HasSession as HasSupplicantSession}
 use Rattle.station_node.specs.declared.attempt.Association.TheVariants.{Requested, Accepted}
 use Rattle.station_node.specs.declared.session.Session.{Session}
 use Rattle.station_node.specs.State.{State, memory_at}
 use Rattle.station_node.specs.Parts.{peer_of_attempt, peer_of_session, IsElsewhere}
-use Rattle.station_node.specs.Stands.{Stands, IsRequested, HasSession}
-use Rattle.station_node.proofs.Standing.{nobody, no_attempt, no_session_beside, requested_is}
+use Rattle.station_node.specs.Stands.{Stands, IsRequested, NamesHolder, HasSession}
+use Rattle.station_node.proofs.Standing.{nobody, no_attempt, no_session_beside, requested_is, holder_on}
 
 -- ---- it asks an access point for association
 
@@ -84,7 +78,7 @@ no_session_left d first s h n a v p st =
     asked-session d n (pending h) (associated h) a v h (Ap p) ∙ left_session d first s h p (associated h) st (sym st.associated_is)
 
 abbrev pub asked_state : State → ℕ → List ℕ → State
-asked_state s a v = record { number = s.number; drawn = s.drawn + 1; attempt = Some (record { ap = a; association = Requested v }); session = None; memories = s.memories }
+asked_state s a v = record { number = s.number; drawn = s.drawn + 1; attempt = Some (record { ap = a; association = Requested v }); session = None; memories = s.memories; r0kh_id = s.r0kh_id }
 
 pub stands-asked : (d : Domain) (first : ℕ) (s : State) (h : List Act) (n : Node) (a : ℕ) (v : List ℕ) → Stands d first s h → a < length d.aps
     → Stands d first (asked_state s a v) (add (asking_acts d n (pending h) (associated h) a v) h)
@@ -113,76 +107,73 @@ stands-asked d first s h n a v st low =
       no_session = λ p other. no_session_left d first s h n a v p st;
       remembers = λ p. remembers_on (Ap p) (memory_at s.memories p) h _ (asked-given d n (pending h) (associated h) a v h (Ap p)) (λ key id. asked-got d n (pending h) (associated h) a v h (Ap p) key id) (st.remembers p);
       ids = st.ids;
+      holder = λ suite. tt;
     }
 
 -- ---- the access point accepts it
 
--- with suites 2 and 6 the response says nothing of a mobility domain
-says_nothing : (akm : Akm) (o : Option (List ℕ)) (b : Base) → akm ≢ FtPsk → Responds akm o None b
-says_nothing Psk o b suite = refl
-says_nothing PskSha256 o b suite = refl
-says_nothing FtPsk o b suite = absurd (suite refl)
+-- what its attempt goes back to is as the response says
+pub record IsBasedOn (d : Domain) (n p : Node) (octets : List ℕ) (b : Base) : Type 0 where
+  pub of : IsBaseOf d n p (fte_in b) b
+  pub says : Option ElementFields
+  pub responds : Responds d.akm (Some octets) says b
 
-no_fte : (d : Domain) (i : Inputs) (o : Option Mobility) → IsMobility d i [] o → unwrap_or (option_map (λ (m : Mobility). m.fte) o) [] ≡ []
-no_fte d i None is = refl
-no_fte d i (Some m) is = is.3
-
-based-associated : (d : Domain) (n p : Node) (b : Base) (part : List Act) → d.akm ≢ FtPsk → IsBaseOf d n p [] b → IsBased d n p b part
-based-associated d n p b part suite base = record {
-  of = subst (λ (fte : List ℕ). IsBaseOf d n p fte b) (sym (no_fte d (inputs d (root_at d b.r0kh_id) n p [] []) b.mobility base.mobility)) base;
-  says = None;
-  responds = says_nothing d.akm (heard p kind.AssocResp part) b suite;
-}
-
-under_way-associated : (d : Domain) (n : Node) (p : ℕ) (b : Base) (v octets : List ℕ) (h : List Act) → d.akm ≢ FtPsk → IsBaseOf d n (Ap p) [] b → IsRequested (Ap p) v h → IsUnderWay d n (Ap p) b v None (add (associated_acts (Ap p) octets) h)
-under_way-associated d n p b v octets h suite base u = record {
-  part = Took (Some (Ap p)) octets kind.AssocResp outcome.Accepted None ∷ u.part;
-  is = attempt_more (Ap p) (Took (Some (Ap p)) octets kind.AssocResp outcome.Accepted None) h u.part refl refl u.is;
-  begun = by_connect_more (Took (Some (Ap p)) octets kind.AssocResp outcome.Accepted None) u.part (attempt_some (Ap p) h u.part u.is) ∙ u.begun;
-  nonce = own_nonce_more (Took (Some (Ap p)) octets kind.AssocResp outcome.Accepted None) u.part v u.nonce;
-  hears = rw (same-refl (Ap p)) refl;
-  based = based-associated d n (Ap p) b (Took (Some (Ap p)) octets kind.AssocResp outcome.Accepted None ∷ u.part) suite base;
-  keeps = rw (same-refl (Ap p)) u.keeps;
-  asked = rw (same-refl (Ap p)) u.asked;
-  keyed = u.keyed;
-}
+under_way-associated : (d : Domain) (n : Node) (p : ℕ) (b : Base) (v octets : List ℕ) (h : List Act) → IsBasedOn d n (Ap p) octets b → IsRequested (Ap p) v h → IsUnderWay d n (Ap p) b v None (add (associated_acts (Ap p) octets) h)
+under_way-associated d n p b v octets h of u =
+    let took : Act = Took (Some (Ap p)) octets kind.AssocResp outcome.Accepted None in
+    record {
+      part = took ∷ u.part;
+      is = attempt_more (Ap p) took h u.part refl refl u.is;
+      begun = by_connect_more took u.part (attempt_some (Ap p) h u.part u.is) ∙ u.begun;
+      nonce = own_nonce_more took u.part v u.nonce;
+      hears = rw (same-refl (Ap p)) refl;
+      based = record { of = of.of; says = of.says; responds = subst (λ (o : Option (List ℕ)). Responds d.akm o of.says b) (sym (there p octets u.part)) of.responds };
+      keeps = rw (same-refl (Ap p)) u.keeps;
+      asked = rw (same-refl (Ap p)) u.asked;
+      keyed = u.keyed;
+    }
+  where
+    there : (p : ℕ) (octets : List ℕ) (part : List Act) → heard (Ap p) kind.AssocResp (Took (Some (Ap p)) octets kind.AssocResp outcome.Accepted None ∷ part) ≡ Some octets
+    there p octets part = rw (same-refl (Ap p)) refl
 
 -- the supplicant has begun
-pub record HasBegun (d : Domain) (n p : Node) (v : List ℕ) (x : Supplicant) : Type 0 where
+pub record HasBegun (d : Domain) (n p : Node) (v octets : List ℕ) (x : Supplicant) : Type 0 where
   pub ends : AreEnds d n p x.ends
-  pub base : IsBaseOf d n p [] x.base
+  pub based : IsBasedOn d n p octets x.base
   pub attempt_is : x.attempt ≡ Some (record { snonce = v; key = None })
   pub session_is : x.session ≡ None
+  pub names : NamesHolder d x.base.r0kh_id
 
-stands-begun : (d : Domain) (n : Node) (p : ℕ) (v octets : List ℕ) (x : Supplicant) (h : List Act) → d.akm ≢ FtPsk → HasBegun d n (Ap p) v x → IsRequested (Ap p) v h → session (Ap p) h ≡ None → SupplicantStands d n (Ap p) x (add (associated_acts (Ap p) octets) h)
-stands-begun d n p v octets x h suite b u silent =
+stands-begun : (d : Domain) (n : Node) (p : ℕ) (v octets : List ℕ) (x : Supplicant) (h : List Act) → HasBegun d n (Ap p) v octets x → IsRequested (Ap p) v h → session (Ap p) h ≡ None → SupplicantStands d n (Ap p) x (add (associated_acts (Ap p) octets) h)
+stands-begun d n p v octets x h b u silent =
     let l : List Act = add (associated_acts (Ap p) octets) h in
     record {
       ends = b.ends;
-      attempt_is = subst (λ (o : Option SupplicantAttempt). HasSupplicantAttempt d n (Ap p) x.base o l) (sym b.attempt_is) (under_way-associated d n p x.base v octets h suite b.base u);
+      attempt_is = subst (λ (o : Option SupplicantAttempt). HasSupplicantAttempt d n (Ap p) x.base o l) (sym b.attempt_is) (under_way-associated d n p x.base v octets h b.based u);
       session_is = subst (λ (o : Option SupplicantSession). HasSupplicantSession d n (Ap p) x.base o l) (sym b.session_is) silent;
     }
 
 -- with a supplicant that has begun, and one place more in memory
 abbrev pub associated_state : State → ℕ → Supplicant → List (List Kept) → State
-associated_state s p x memories = record { number = s.number; drawn = s.drawn; attempt = Some (record { ap = p; association = Accepted x }); session = s.session; memories = memories }
+associated_state s p x memories = record { number = s.number; drawn = s.drawn; attempt = Some (record { ap = p; association = Accepted x }); session = s.session; memories = memories; r0kh_id = s.r0kh_id }
 
-pub stands-associated : (d : Domain) (first : ℕ) (s : State) (h : List Act) (p : ℕ) (v octets : List ℕ) (x : Supplicant) (memories : List (List Kept)) → d.akm ≢ FtPsk → Stands d first s h → s.attempt ≡ Some (record { ap = p; association = Requested v })
-    → HasBegun d (Sta s.number) (Ap p) v x → ((k : ℕ) → memory_at memories k ≡ memory_at s.memories k)
+pub stands-associated : (d : Domain) (first : ℕ) (s : State) (h : List Act) (p : ℕ) (v octets : List ℕ) (x : Supplicant) (memories : List (List Kept)) → Stands d first s h → s.attempt ≡ Some (record { ap = p; association = Requested v })
+    → HasBegun d (Sta s.number) (Ap p) v octets x → ((k : ℕ) → memory_at memories k ≡ memory_at s.memories k)
     → Stands d first (associated_state s p x memories) (add (associated_acts (Ap p) octets) h)
-stands-associated d first s h p v octets x memories suite st is b same_memory =
+stands-associated d first s h p v octets x memories st is b same_memory =
     let r = requested_is d first s h p v st is in
-    let none = no_session_beside d first s h _ st is in
+    let none = no_session_beside d first s h p v st is in
     let took : Act = Took (Some (Ap p)) octets kind.AssocResp outcome.Accepted None in
     record {
       draws_are = st.draws_are;
       pending_is = st.pending_is ∙ ap peer_of_attempt is;
       associated_is = st.associated_is;
       alone = none;
-      attempt_is = (r.0, stands-begun d (Sta s.number) p v octets x h suite b r.1 (st.no_session p (nobody (peer_of_session s.session) p (ap peer_of_session none))));
+      attempt_is = (r.0, record { stands = stands-begun d (Sta s.number) p v octets x h b r.1 (st.no_session p (nobody (peer_of_session s.session) p (ap peer_of_session none))); names = b.names });
       session_is = subst (λ (o : Option Session). HasSession d (Sta s.number) o (took ∷ h)) (sym none) tt;
       no_attempt = λ q other. attempt_none (Ap q) took h refl (st.no_attempt q (λ e. other (sym (ap peer_of_attempt is) ∙ e)));
       no_session = λ q other. st.no_session q other;
       remembers = λ q. remembers_on (Ap q) (memory_at memories q) h _ refl (λ key id. refl) (subst (λ (ks : List Kept). Remembers (Ap q) ks h) (sym (same_memory q)) (st.remembers q));
       ids = λ q. subst HaveGroupIds (sym (same_memory q)) (st.ids q);
+      holder = λ suite. holder_on s.session s.r0kh_id h (took ∷ h) refl (st.holder suite);
     }

@@ -1,10 +1,12 @@
 -- Acts of protected data beside what a station stands for in a session: the handshakes go on, and its keys may change.
-use Rattle.std.proofs.Common.{◌≡◌, ◌∙◌, ℕ, Bool, true, false, cond, List, [], ◌∷◌, Option, Some, None, refl, sym, ap, subst, arith}
+use Rattle.std.proofs.Common.{◌≡◌, ◌≢◌, ◌∙◌, ℕ, Bool, true, false, cond, List, [], ◌∷◌, Option, Some, None, refl, sym, ap, subst, arith}
 use Rattle.std.specs.Prelude.{is_some}
 use Rattle.std.specs.List.{AllByRecursion}
+use Rattle.std.proofs.lemmas.Bool.{ne_eqb}
 use Rattle.domain_base.specs.declared.names.Node.{Node}
 use Rattle.domain_base.specs.declared.names.Node.TheVariants.{Ap, Sta}
 use Rattle.domain_base.specs.declared.names.Peer.{Peer}
+use Rattle.domain_base.specs.declared.names.Peer.TheVariants.{One}
 use Rattle.eapol_key.specs.declared.messages.Message.TheVariants.{M1, M3, G1}
 use Rattle.run_journal.specs.declared.domain.Domain.{Domain}
 use Rattle.run_journal.specs.declared.acts.Kind.{Kind}
@@ -16,29 +18,29 @@ use Rattle.run_journal.specs.declared.acts.Act.{Act}
 use Rattle.run_journal.specs.declared.acts.Act.TheVariants.{Took, Used, Sent, HandedUp, Idle}
 use Rattle.run_journal.specs.declared.reply.Keyed.{Keyed}
 use Rattle.run_journal.specs.GroupKinds as groups
-use Rattle.run_journal.specs.Acts.{same_kind, is_from, opens, ends, accepted, replied, derived, finishes, closes, given_from, Derivation}
-use Rattle.run_journal.specs.Questions.{attempt, since, session, pending, associated, is_draw, draws, add}
-use Rattle.domain_rules.proofs.Parts.{attempt_more, attempt_none, attempt_some, by_connect_more, own_nonce_more, heard_more, derivation_more, session_more, draws_more, leaves_pending, pending_more, leaves_associated, associated_more}
+use Rattle.run_journal.specs.Acts.{same, same_kind, is_from, opens, ends, accepted, replied, derived, finishes, closes, given_from, Derivation}
+use Rattle.run_journal.specs.Questions.{attempt, session, pending, associated, is_draw, draws, add}
+use Rattle.run_journal.specs.Holders.{last_r0kh_id}
+use Rattle.domain_rules.proofs.Parts.{apart-took, apart-sent, apart-idle, attempt_more, attempt_none, attempt_some, by_connect_more, own_nonce_more, heard_more, derivation_more, session_more, draws_more, leaves_pending, pending_more, leaves_associated, associated_more}
 use Rattle.ccmp_guard.specs.Held.{Held}
 use Rattle.data_frames.specs.Holding.{HoldsPairwise}
 use Rattle.group_key.specs.Keys.{Kept}
 use Rattle.group_key.specs.Holds.{Remembers}
 use Rattle.supplicant.specs.declared.attempt.Attempt.{Attempt as SupplicantAttempt}
-use Rattle.supplicant.specs.declared.session.Session.{Session as SupplicantSession}
-use Rattle.supplicant.specs.State.{State as Supplicant}
-use Rattle.supplicant.specs.declared.session.Session.TheVariants.{Connect, Ft}
 use Rattle.supplicant.specs.declared.base.Base.{Base}
-use Rattle.key_hierarchy.specs.declared.inputs.Ptk.{Ptk}
-use Rattle.supplicant.specs.Stands.{SupplicantStands, IsUnderWay, IsHeld, IsTransferred, Holds}
-use Rattle.supplicant.specs.Stands.{HasAttempt as HasSupplicantAttempt, HasSession as HasSupplicantSession}
+use Rattle.supplicant.specs.State.{State as Supplicant}
+use Rattle.supplicant.specs.Stands.{SupplicantStands, IsUnderWay}
+use Rattle.supplicant.specs.Stands.{HasAttempt as HasSupplicantAttempt}
 use Rattle.supplicant.specs.Taken.{HaveGroupIds}
-use Rattle.supplicant.proofs.Standing.{based_on, some_part}
-use Rattle.station_node.specs.declared.attempt.Attempt.{Attempt}
+use Rattle.supplicant.proofs.Standing.{based_on}
+use Rattle.station_node.specs.declared.session.Session.{Session}
 use Rattle.station_node.specs.State.{State, memory_at}
-use Rattle.station_node.specs.Parts.{peer_of_session, IsAlone}
-use Rattle.station_node.specs.Stands.{Stands, HasAttempt}
-use Rattle.station_node.proofs.Handed.{held_state}
-use Rattle.station_node.proofs.Standing.{no_attempt_beside, held_is}
+use Rattle.station_node.specs.Parts.{peer_of_session}
+use Rattle.station_node.specs.Stands.{Stands, IsHolder}
+use Rattle.station_node.proofs.Underway.{IsBesideMove}
+use Rattle.station_node.proofs.Sessions.{IsMild, session_on}
+use Rattle.station_node.proofs.Handed.{held_state, attempt_beside}
+use Rattle.station_node.proofs.Standing.{beside_again, held_is}
 
 -- ---- the acts
 
@@ -55,6 +57,7 @@ pub record IsQuietAct (e : Act) : Type 0 where
   pub pending : leaves_pending e ≡ true
   pub associated : leaves_associated e ≡ true
   pub gives : (p : Node) → given_from groups.Gtk p e ≡ None
+  pub holder : (h : List Act) → last_r0kh_id (e ∷ h) ≡ last_r0kh_id h
 
 no_octets : (b c : Bool) (octets : List ℕ) → c ≡ false → cond {A = Option (List ℕ)} b (cond c (Some octets) None) None ≡ None
 no_octets true c octets other = rw other refl
@@ -73,6 +76,7 @@ quiet-took from octets s = record {
   pending = refl;
   associated = refl;
   gives = λ p. refl;
+  holder = λ h. refl;
 }
 
 quiet-handed_up : (q : Node) (key : List ℕ) (id tid number : ℕ) (plain : List ℕ) → IsQuietAct (HandedUp q key id tid number plain)
@@ -88,6 +92,7 @@ quiet-handed_up q key id tid number plain = record {
   pending = refl;
   associated = refl;
   gives = λ p. refl;
+  holder = λ h. refl;
 }
 
 quiet-used : (q : Peer) (key : List ℕ) (id number : ℕ) (plain : List ℕ) → IsQuietAct (Used q key id number plain)
@@ -103,6 +108,7 @@ quiet-used q key id number plain = record {
   pending = refl;
   associated = refl;
   gives = λ p. refl;
+  holder = λ h. refl;
 }
 
 quiet-sent : (q : Peer) (k : Kind) (octets : List ℕ) (s : Option Seal) → IsQuietAct (Sent q k octets s)
@@ -118,6 +124,7 @@ quiet-sent q k octets s = record {
   pending = refl;
   associated = refl;
   gives = λ p. refl;
+  holder = λ h. refl;
 }
 
 quiet-idle : (w : Why) → IsQuietAct (Idle w)
@@ -133,19 +140,11 @@ quiet-idle w = record {
   pending = refl;
   associated = refl;
   gives = λ p. refl;
+  holder = λ h. refl;
 }
 
 abbrev pub AreQuiet : List Act → Type 0
 AreQuiet g = AllByRecursion IsQuietAct g
-
-pub quiet-taken : (from : Option Node) (octets : List ℕ) (s : Option Seal) (q : Node) (key : List ℕ) (id tid number : ℕ) (plain : List ℕ) → AreQuiet (Took from octets kind.Data Accepted s ∷ HandedUp q key id tid number plain ∷ [])
-quiet-taken from octets s q key id tid number plain = (quiet-took from octets s, (quiet-handed_up q key id tid number plain, tt))
-
-pub quiet-sending : (q : Peer) (key : List ℕ) (id number : ℕ) (plain octets : List ℕ) (s : Option Seal) → AreQuiet (Used q key id number plain ∷ Sent q kind.Data octets s ∷ [])
-quiet-sending q key id number plain octets s = (quiet-used q key id number plain, (quiet-sent q kind.Data octets s, tt))
-
-pub quiet-nothing : (w : Why) → AreQuiet (Idle w ∷ [])
-quiet-nothing w = (quiet-idle w, tt)
 
 -- ---- what is asked
 
@@ -184,43 +183,77 @@ under_way_on d n p b v key h e q u = record {
   keyed = derivation_more p e u.part (q.derives_none p) ∙ u.keyed;
 }
 
-held_on : (d : Domain) (n p : Node) (b : Base) (y : Keyed) (counter : ℕ) (h : List Act) (e : Act) → IsQuietAct e → IsHeld d n p b y counter h → IsHeld d n p b y counter (e ∷ h)
-held_on d n p b y counter h e q l = record {
-  is = session_more p e h (q.finishes_none p) (q.closes_none p) ∙ l.is;
-  begun = rw (q.opens_none p) (by_connect_more e (since p h) (some_part (since p h) l.begun) ∙ l.begun);
-  based = rw (q.opens_none p) (based_on d n p b (since p h) (e ∷ since p h) (heard_more p kind.AssocResp e (since p h) (q.accepts_none p kind.AssocResp refl)) l.based);
-  keeps = rw (q.opens_none p, q.replies_none p (kind.Key M3) refl, q.replies_none p (kind.Key G1) refl) l.keeps;
+mild : (p : Node) (e : Act) → IsQuietAct e → IsMild p e
+mild p e q = record {
+  opens_none = q.opens_none p;
+  finishes_none = q.finishes_none p;
+  closes_none = q.closes_none p;
+  responds_none = q.accepts_none p kind.AssocResp refl;
+  third_none = q.replies_none p (kind.Key M3) refl;
+  group_none = q.replies_none p (kind.Key G1) refl;
 }
-
-transferred_on : (p : Node) (k : Ptk) (counter : Option ℕ) (h : List Act) (e : Act) → IsQuietAct e → IsTransferred p k counter h → IsTransferred p k counter (e ∷ h)
-transferred_on p k counter h e q l = record {
-  x = l.x;
-  is = session_more p e h (q.finishes_none p) (q.closes_none p) ∙ l.is;
-  key = l.key;
-  some = rw (q.opens_none p) (λ none. cc none);
-  begun = rw (q.opens_none p) (by_connect_more e (since p h) l.some ∙ l.begun);
-  keeps = rw (q.opens_none p, q.replies_none p (kind.Key M3) refl, q.replies_none p (kind.Key G1) refl) l.keeps;
-}
-
-holds_on : (d : Domain) (n p : Node) (b : Base) (x : SupplicantSession) (h : List Act) (e : Act) → IsQuietAct e → Holds d n p b x h → Holds d n p b x (e ∷ h)
-holds_on d n p b (Connect key counter) h e q l = held_on d n p b key counter h e q l
-holds_on d n p b (Ft ptk counter) h e q l = transferred_on p ptk counter h e q l
 
 attempt_on : (d : Domain) (n p : Node) (b : Base) (a : Option SupplicantAttempt) (h : List Act) (e : Act) → IsQuietAct e → HasSupplicantAttempt d n p b a h → HasSupplicantAttempt d n p b a (e ∷ h)
 attempt_on d n p b None h e q none = attempt_none p e h (q.opens_none p) none
 attempt_on d n p b (Some a) h e q u = under_way_on d n p b a.snonce a.key h e q u
-
-session_on : (d : Domain) (n p : Node) (b : Base) (x : Option SupplicantSession) (h : List Act) (e : Act) → IsQuietAct e → HasSupplicantSession d n p b x h → HasSupplicantSession d n p b x (e ∷ h)
-session_on d n p b None h e q none = session_more p e h (q.finishes_none p) (q.closes_none p) ∙ none
-session_on d n p b (Some x) h e q l = holds_on d n p b x h e q l
 
 quiet-supplicant : (d : Domain) (n p : Node) (s : Supplicant) (g h : List Act) → AreQuiet g → SupplicantStands d n p s h → SupplicantStands d n p s (add g h)
 quiet-supplicant d n p s [] h q st = st
 quiet-supplicant d n p s (e ∷ g) h q st = quiet-supplicant d n p s g (e ∷ h) q.1 (record {
   ends = st.ends;
   attempt_is = attempt_on d n p s.base s.attempt h e q.0 st.attempt_is;
-  session_is = session_on d n p s.base s.session h e q.0 st.session_is;
+  session_is = session_on d n p s.base s.session h e (mild p e q.0) st.session_is;
 })
+
+-- ---- a fast transition
+
+quiet-holder : (g h : List Act) → AreQuiet g → last_r0kh_id (add g h) ≡ last_r0kh_id h
+quiet-holder [] h q = refl
+quiet-holder (e ∷ g) h q = quiet-holder g (e ∷ h) q.1 ∙ q.0.holder h
+
+-- the acts are about access point a, where its frames stand for something
+pub record AreOf (a : ℕ) (g : List Act) : Type 0 where
+  pub quiet : AreQuiet g
+  pub beside : (p : ℕ) → p ≢ a → AllByRecursion (IsBesideMove (Ap p)) g
+
+-- a quiet act that is no frame of p, and none to p, is beside a fast transition to p
+beside_took : (p a : Node) (octets : List ℕ) (s : Option Seal) → same p a ≡ false → IsBesideMove p (Took (Some a) octets kind.Data Accepted s)
+beside_took p a octets s other = record { apart = apart-took p (Some a) octets kind.Data Accepted s other; associated = refl; holder = λ h. refl }
+
+beside_handed_up : (p q : Node) (key : List ℕ) (id tid number : ℕ) (plain : List ℕ) → IsBesideMove p (HandedUp q key id tid number plain)
+beside_handed_up p q key id tid number plain = record {
+  apart = record { opens_none = refl; ends_none = refl; accepts_none = λ k. refl; replies_none = λ k. refl; sends_none = λ m. refl; derives_none = refl; finishes_none = refl; closes_none = refl };
+  associated = refl;
+  holder = λ h. refl;
+}
+
+beside_used : (p : Node) (q : Peer) (key : List ℕ) (id number : ℕ) (plain : List ℕ) → IsBesideMove p (Used q key id number plain)
+beside_used p q key id number plain = record {
+  apart = record { opens_none = refl; ends_none = refl; accepts_none = λ k. refl; replies_none = λ k. refl; sends_none = λ m. refl; derives_none = refl; finishes_none = refl; closes_none = refl };
+  associated = refl;
+  holder = λ h. refl;
+}
+
+beside_sent : (p a : Node) (octets : List ℕ) (s : Option Seal) → same p a ≡ false → IsBesideMove p (Sent (One a) kind.Data octets s)
+beside_sent p a octets s other = record { apart = apart-sent p a kind.Data octets s other; associated = refl; holder = λ h. refl }
+
+beside_idle : (p : Node) (w : Why) → IsBesideMove p (Idle w)
+beside_idle p w = record { apart = apart-idle p w; associated = refl; holder = λ h. refl }
+
+pub quiet-taken : (a : ℕ) (octets : List ℕ) (s : Option Seal) (q : Node) (key : List ℕ) (id tid number : ℕ) (plain : List ℕ) → AreOf a (Took (Some (Ap a)) octets kind.Data Accepted s ∷ HandedUp q key id tid number plain ∷ [])
+quiet-taken a octets s q key id tid number plain = record {
+  quiet = (quiet-took (Some (Ap a)) octets s, (quiet-handed_up q key id tid number plain, tt));
+  beside = λ p other. (beside_took (Ap p) (Ap a) octets s (ne_eqb p a other), (beside_handed_up (Ap p) q key id tid number plain, tt));
+}
+
+pub quiet-sending : (a : ℕ) (key : List ℕ) (id number : ℕ) (plain octets : List ℕ) (s : Option Seal) → AreOf a (Used (One (Ap a)) key id number plain ∷ Sent (One (Ap a)) kind.Data octets s ∷ [])
+quiet-sending a key id number plain octets s = record {
+  quiet = (quiet-used (One (Ap a)) key id number plain, (quiet-sent (One (Ap a)) kind.Data octets s, tt));
+  beside = λ p other. (beside_used (Ap p) (One (Ap a)) key id number plain, (beside_sent (Ap p) (Ap a) octets s (ne_eqb p a other), tt));
+}
+
+pub quiet-nothing : (a : ℕ) (w : Why) → AreOf a (Idle w ∷ [])
+quiet-nothing a w = record { quiet = (quiet-idle w, tt); beside = λ p other. (beside_idle (Ap p) w, tt) }
 
 -- ---- the station
 
@@ -233,17 +266,18 @@ pub record AreKept (memories : List (List Kept)) (l : List Act) : Type 0 where
   pub remembers : (p : ℕ) → Remembers (Ap p) (memory_at memories p) l
   pub ids : (p : ℕ) → HaveGroupIds (memory_at memories p)
 
-pub stands-quiet : (d : Domain) (first : ℕ) (s : State) (g h : List Act) (a : ℕ) (x : Supplicant) (k new : Held) (memories : List (List Kept)) → Stands d first s h → s.session ≡ Some (record { ap = a; supplicant = x; key = k }) → AreQuiet g
+pub stands-quiet : (d : Domain) (first : ℕ) (s : State) (g h : List Act) (a : ℕ) (x : Supplicant) (k new : Held) (memories : List (List Kept)) → Stands d first s h → s.session ≡ Some (record { ap = a; supplicant = x; key = k }) → AreOf a g
     → HoldsOn a k new g h → AreKept memories (add g h) → Stands d first (held_state s a x new memories) (add g h)
-stands-quiet d first s g h a x k new memories st is q holds kept =
-    let alone = no_attempt_beside d first s h _ st is in
+stands-quiet d first s g h a x k new memories st is of holds kept =
+    let q = of.quiet in
     let place = held_is d first s h a x k st is in
+    let z : Session = record { ap = a; supplicant = x; key = k } in
     record {
       draws_are = omega (arith, st.draws_are, quiet-draws g h q);
       pending_is = quiet-pending g h q ∙ st.pending_is;
       associated_is = quiet-associated g h q ∙ st.associated_is ∙ ap peer_of_session is;
-      alone = subst (λ (o : Option Attempt). IsAlone o (Some (record { ap = a; supplicant = x; key = new }))) (sym alone) tt;
-      attempt_is = subst (λ (o : Option Attempt). HasAttempt d (Sta s.number) o (add g h)) (sym alone) tt;
+      alone = beside_again s.attempt s.session z (record { ap = a; supplicant = x; key = new }) is refl st.alone;
+      attempt_is = attempt_beside d (Sta s.number) s.attempt s.session z g h is st.alone of.beside st.attempt_is;
       session_is = record {
         listed = place.listed;
         stands = quiet-supplicant d (Sta s.number) (Ap a) x g h q place.stands;
@@ -253,4 +287,5 @@ stands-quiet d first s g h a x k new memories st is q holds kept =
       no_session = λ p other. quiet-session (Ap p) g h q ∙ st.no_session p (λ e. other (sym (ap peer_of_session is) ∙ e));
       remembers = kept.remembers;
       ids = kept.ids;
+      holder = λ suite. (let held = subst (λ (o : Option Session). IsHolder o s.r0kh_id h) is (st.holder suite) in (quiet-holder g h q ∙ held.0, held.1));
     }

@@ -12,7 +12,7 @@ use Rattle.run_journal.specs.Acts.{same, GroupKey, Derivation}
 use Rattle.run_journal.specs.Questions.{session}
 use Rattle.domain_rules.specs.Here.{Here}
 use Rattle.domain_rules.specs.GroupKeys.{memory, is_key, got}
-use Rattle.domain_rules.specs.PacketNumbers.{OpenKey, find_id}
+use Rattle.domain_rules.specs.PacketNumbers.{find_id}
 use Rattle.domain_rules.specs.DataVerdict.{is_for_group, opened_by}
 use Rattle.act_memory.proofs.RepliedActs.{remembers_on}
 use Rattle.frame_intake.specs.SealedFields.{SealedFields}
@@ -112,9 +112,6 @@ pub group_nothing : (n p : Node) (f : SealedFields) (ks : List Kept) (h : List A
 group_nothing n p f ks h x is group r none =
     let nothing : find_id (key_id_in f.body) (memory groups.Gtk p h) ≡ None = found_there p (key_id_in f.body) ks h r ∙ ap (option_map key_of) none in
     rw (is, group, nothing) refl
-
-abbrev open_with : List ℕ → ℕ → ℕ → OpenKey
-open_with key id kept = record { key = key; id = id; tid = 0; kept = kept }
 
 pub group_opens : (w : Here) (h : List Act) (p : Node) (f : SealedFields) (k : Kept) (ks : List Kept) (x : Derivation) → session p h ≡ Some x → is_for_group w.node f.header ≡ true → Remembers p ks h → found (key_id_in f.body) ks ≡ Some k
     → OpensBy w h p f (kept_key k.key k.id k.counter)

@@ -70,7 +70,7 @@ left-got (Some q) (Some r) h p key id = refl
 
 -- its memories stay, and so does what it drew
 abbrev pub left_state : State → State
-left_state s = record { number = s.number; drawn = s.drawn; attempt = None; session = None; memories = s.memories }
+left_state s = record { number = s.number; drawn = s.drawn; attempt = None; session = None; memories = s.memories; r0kh_id = s.r0kh_id }
 
 stands-left : (d : Domain) (first : ℕ) (s : State) (h : List Act) → Stands d first s h → Stands d first (left_state s) (add (left_acts (pending h) (associated h)) h)
 stands-left d first s h st =
@@ -87,6 +87,7 @@ stands-left d first s h st =
       no_session = λ p other. left-session (pending h) (associated h) h (Ap p) ∙ left_session d first s h p (associated h) st (sym st.associated_is);
       remembers = λ p. remembers_on (Ap p) (memory_at s.memories p) h l (left-given (pending h) (associated h) h (Ap p)) (λ key id. left-got (pending h) (associated h) h (Ap p) key id) (st.remembers p);
       ids = st.ids;
+      holder = λ suite. tt;
     }
 
 left-done : (a : Option Attempt) (x : Option Session) → has_neither a x ≡ false → (left_acts (peer_of_attempt a) (peer_of_session x) ≡ or_nothing (left_acts (peer_of_attempt a) (peer_of_session x))) × (Done ≡ outcome_of (left_acts (peer_of_attempt a) (peer_of_session x)))

@@ -1,5 +1,7 @@
 pub mod Acts
+pub mod Underway
 pub mod Standing
+pub mod Sessions
 pub mod Beginning
 pub mod Handed
 pub mod Verdicts
@@ -16,3 +18,8 @@ pub mod Counters
 pub mod Traffic
 pub mod GroupTaken
 pub mod Protected
+pub mod RoamRows
+pub mod Arriving
+pub mod Moved
+pub mod Responding
+pub mod Reached

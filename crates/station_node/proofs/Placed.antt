@@ -13,14 +13,14 @@ use Rattle.run_journal.specs.declared.acts.Act.TheVariants.{Took}
 use Rattle.domain_rules.specs.Replies.{IsMessageFrom}
 use Rattle.domain_rules.specs.Rows.{NodeEvent, Take}
 use Rattle.ccmp_guard.specs.Held.{Held}
-use Rattle.data_frames.specs.Holding.{fresh_key, key_after}
+use Rattle.data_frames.specs.Holding.{fresh_key}
 use Rattle.group_key.specs.Keys.{Kept}
 use Rattle.frame_intake.specs.declared.delivered.Heard.{Heard}
 use Rattle.frame_intake.specs.Views.{message_fields}
 use Rattle.supplicant.specs.State.{State as Supplicant, both}
 use Rattle.station_node.specs.declared.attempt.Attempt.{Attempt}
 use Rattle.station_node.specs.declared.attempt.Association.{Association}
-use Rattle.station_node.specs.declared.attempt.Association.TheVariants.{Requested, Accepted}
+use Rattle.station_node.specs.declared.attempt.Association.TheVariants.{Requested, Accepted, Moving}
 use Rattle.station_node.specs.declared.session.Session.{Session}
 use Rattle.station_node.specs.declared.handing.Came.{Came}
 use Rattle.station_node.specs.State.{State, memory_at, HasPlace, HasPlaceTried, HasPlaceHeld, HavePlaces}
@@ -36,6 +36,7 @@ use Rattle.station_node.proofs.Taken.{takes_by, taken-nowhere, handed_by, taken-
 place_stays : (a : ℕ) (x : Association) (had has : List (List Kept)) → length had ≤ length has → HasPlace a x had → HasPlace a x has
 place_stays a (Requested v) had has more place = tt
 place_stays a (Accepted s) had has more place = omega (arith, more, place)
+place_stays a (Moving o) had has more place = omega (arith, more, place)
 
 tried_stays : (o : Option Attempt) (had has : List (List Kept)) → length had ≤ length has → HasPlaceTried o had → HasPlaceTried o has
 tried_stays None had has more place = tt
@@ -97,15 +98,15 @@ pub left-tried : (s : State) (a : Attempt) (i : ℕ) (old new : Supplicant) (had
 left-tried s a i old new had has is there same kept value =
     ap (λ (y : Supplicant). tried_state s a.ap y (slice_set s.memories i has)) same
     ∙ ap (tried_state s a.ap old) (same_memories s.memories i had has kept value)
-    ∙ ap (λ (x : Association). record { number = s.number; drawn = s.drawn; attempt = Some (record { ap = a.ap; association = x }); session = s.session; memories = s.memories }) (sym there)
-    ∙ ap (λ (o : Option Attempt). record { number = s.number; drawn = s.drawn; attempt = o; session = s.session; memories = s.memories }) (sym is)
+    ∙ ap (λ (x : Association). record { number = s.number; drawn = s.drawn; attempt = Some (record { ap = a.ap; association = x }); session = s.session; memories = s.memories; r0kh_id = s.r0kh_id }) (sym there)
+    ∙ ap (λ (o : Option Attempt). record { number = s.number; drawn = s.drawn; attempt = o; session = s.session; memories = s.memories; r0kh_id = s.r0kh_id }) (sym is)
 
 pub left-held : (s : State) (x : Session) (i : ℕ) (old new : Supplicant) (had has : List Kept) → s.session ≡ Some x → x.supplicant ≡ old → new ≡ old → has ≡ had → had ≡ slice_index_or s.memories i had
     → held_state s x.ap new x.key (slice_set s.memories i has) ≡ s
 left-held s x i old new had has is there same kept value =
     ap (λ (y : Supplicant). held_state s x.ap y x.key (slice_set s.memories i has)) (same ∙ sym there)
     ∙ ap (held_state s x.ap x.supplicant x.key) (same_memories s.memories i had has kept value)
-    ∙ ap (λ (o : Option Session). record { number = s.number; drawn = s.drawn; attempt = s.attempt; session = o; memories = s.memories }) (sym is)
+    ∙ ap (λ (o : Option Session). record { number = s.number; drawn = s.drawn; attempt = s.attempt; session = o; memories = s.memories; r0kh_id = s.r0kh_id }) (sym is)
 
 -- ---- with it
 
@@ -135,33 +136,30 @@ handed-tried d s a p i m old new had has waited waits came is here there place b
     (taken-tried d s p m (slice_set s.memories p has) (handing (both old had) (both new has) waited waits) came (is ∙ whole_attempt a p (Accepted old) here there)
     (handed_by d s p m had has old new waited waits b.from low (kept_there s.memories i p had b.place_is low b.value)) x goes_on))
 
-pub handed-finished : (d : Domain) (s : State) (a : Attempt) (b : Option Attempt) (y : Option Session) (p i : ℕ) (m : Heard) (old new : Supplicant) (tk : List ℕ) (had has : List Kept) (waited waits : List Act) (came : Came) → s.attempt ≡ Some a → a.ap ≡ p → a.association ≡ Accepted old
-    → HasPlaceTried s.attempt s.memories → IsFor d s p i m had → IsHanded d (Sta s.number) (Ap p) m (handing (both old had) (both new has) waited waits) came → came.installed ≡ Some tk
+pub handed-finished : (d : Domain) (s : State) (a : Attempt) (b : Option Attempt) (y : Option Session) (p i : ℕ) (m : Heard) (old new : Supplicant) (tk id : List ℕ) (had has : List Kept) (waited waits : List Act) (came : Came) → s.attempt ≡ Some a → a.ap ≡ p → a.association ≡ Accepted old
+    → HasPlaceTried s.attempt s.memories → IsFor d s p i m had → IsHanded d (Sta s.number) (Ap p) m (handing (both old had) (both new has) waited waits) came → came.installed ≡ Some tk → (length new.base.r0kh_id ≤ 48 → id ≡ new.base.r0kh_id)
     → b ≡ None → y ≡ Some (record { ap = a.ap; supplicant = new; key = fresh_key tk })
-    → IsTaken d (Take m.octets.now) (turn s (record { number = s.number; drawn = s.drawn; attempt = b; session = y; memories = slice_set s.memories i has }) waited waits) came.outcome
-handed-finished d s a b y p i m old new tk had has waited waits came is here there place f x done none one =
+    → IsTaken d (Take m.octets.now) (turn s (record { number = s.number; drawn = s.drawn; attempt = b; session = y; memories = slice_set s.memories i has; r0kh_id = id }) waited waits) came.outcome
+handed-finished d s a b y p i m old new tk id had has waited waits came is here there place f x done kept none one =
     let low : p < length s.memories = subst (λ (q : ℕ). q < length s.memories) here (accepted_place s.attempt a old s.memories is there place) in
-    let new_state : Option Attempt → Option Session → ℕ → State = λ o z j. record { number = s.number; drawn = s.drawn; attempt = o; session = z; memories = slice_set s.memories j has } in
+    let new_state : Option Attempt → Option Session → ℕ → State = λ o z j. record { number = s.number; drawn = s.drawn; attempt = o; session = z; memories = slice_set s.memories j has; r0kh_id = id } in
     subst (λ (o : Option Attempt). IsTaken d (Take m.octets.now) (turn s (new_state o y i) waited waits) came.outcome) (sym none)
     (subst (λ (z : Option Session). IsTaken d (Take m.octets.now) (turn s (new_state None z i) waited waits) came.outcome) (sym (one ∙ ap (λ (q : ℕ). Some (record { ap = q; supplicant = new; key = fresh_key tk })) here))
     (subst (λ (j : ℕ). IsTaken d (Take m.octets.now) (turn s (new_state None (Some (record { ap = p; supplicant = new; key = fresh_key tk })) j) waited waits) came.outcome) (sym f.place_is)
-    (taken-finished d s p m tk (slice_set s.memories p has) (handing (both old had) (both new has) waited waits) came (is ∙ whole_attempt a p (Accepted old) here there)
-    (handed_by d s p m had has old new waited waits f.from low (kept_there s.memories i p had f.place_is low f.value)) x done)))
+    (taken-finished d s p m tk id (slice_set s.memories p has) (handing (both old had) (both new has) waited waits) came (is ∙ whole_attempt a p (Accepted old) here there)
+    (handed_by d s p m had has old new waited waits f.from low (kept_there s.memories i p had f.place_is low f.value)) x done kept)))
 
 pub handed-held : (d : Domain) (s : State) (z : Session) (p i : ℕ) (m : Heard) (old new : Supplicant) (had has : List Kept) (waited waits : List Act) (came : Came) → s.session ≡ Some z → z.ap ≡ p → z.supplicant ≡ old
     → HasPlaceHeld s.session s.memories → IsFor d s p i m had → IsHanded d (Sta s.number) (Ap p) m (handing (both old had) (both new has) waited waits) came
-    → IsTaken d (Take m.octets.now) (turn s (held_state s z.ap new (key_after z.key came.installed) (slice_set s.memories i has)) waited waits) came.outcome
+    → IsTaken d (Take m.octets.now) (turn s (held_state s z.ap new z.key (slice_set s.memories i has)) waited waits) came.outcome
 handed-held d s z p i m old new had has waited waits came is here there place b x =
     let low : p < length s.memories = subst (λ (q : ℕ). q < length s.memories) here (held_place s.session z s.memories is place) in
-    subst (λ (q : ℕ). IsTaken d (Take m.octets.now) (turn s (held_state s q new (key_after z.key came.installed) (slice_set s.memories i has)) waited waits) came.outcome) (sym here)
-    (subst (λ (j : ℕ). IsTaken d (Take m.octets.now) (turn s (held_state s p new (key_after z.key came.installed) (slice_set s.memories j has)) waited waits) came.outcome) (sym b.place_is)
+    subst (λ (q : ℕ). IsTaken d (Take m.octets.now) (turn s (held_state s q new z.key (slice_set s.memories i has)) waited waits) came.outcome) (sym here)
+    (subst (λ (j : ℕ). IsTaken d (Take m.octets.now) (turn s (held_state s p new z.key (slice_set s.memories j has)) waited waits) came.outcome) (sym b.place_is)
     (taken-held d s p m z.key (slice_set s.memories p has) (handing (both old had) (both new has) waited waits) came (is ∙ whole_session z p old here there)
     (handed_by d s p m had has old new waited waits b.from low (kept_there s.memories i p had b.place_is low b.value)) x))
 
 -- ---- where there is nothing with the access point
-
-pub no_attempt_there : (o : Option Attempt) (p : ℕ) → o ≡ None → IsElsewhere (peer_of_attempt o) p
-no_attempt_there o p none = nobody (peer_of_attempt o) p (ap peer_of_attempt none)
 
 pub no_session_there : (o : Option Session) (p : ℕ) → o ≡ None → IsElsewhere (peer_of_session o) p
 no_session_there o p none = nobody (peer_of_session o) p (ap peer_of_session none)

@@ -39,7 +39,7 @@ session_with : (s : State) (z : Session) (p : ℕ) → s.session ≡ Some z → 
 session_with s z p is here = is ∙ ap (λ (q : ℕ). in_session q z.supplicant z.key) here
 
 held_again : (s : State) (z : Session) → s.session ≡ Some z → held_state s z.ap z.supplicant z.key s.memories ≡ s
-held_again s z is = ap (λ (o : Option Session). record { number = s.number; drawn = s.drawn; attempt = s.attempt; session = o; memories = s.memories }) (sym is)
+held_again s z is = ap (λ (o : Option Session). record { number = s.number; drawn = s.drawn; attempt = s.attempt; session = o; memories = s.memories; r0kh_id = s.r0kh_id }) (sym is)
 
 -- ---- sent
 

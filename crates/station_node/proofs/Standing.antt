@@ -1,5 +1,5 @@
 -- What a station stands for behind an act that changes nothing of what is asked, and what it has not.
-use Rattle.std.proofs.Common.{◌≡◌, ℕ, ◌<◌, List, [], ◌∷◌, length, Option, Some, None, refl, ap, subst, ◌∙◌, arith}
+use Rattle.std.proofs.Common.{◌≡◌, ◌≢◌, ℕ, ◌<◌, List, [], ◌∷◌, length, Option, Some, None, refl, sym, ap, subst, ◌∙◌, arith}
 use Rattle.std.specs.Prelude.{is_some}
 use Rattle.domain_base.specs.declared.names.Node.{Node}
 use Rattle.domain_base.specs.declared.names.Node.TheVariants.{Ap, Sta}
@@ -20,16 +20,18 @@ use Rattle.group_key.specs.Keys.{Kept}
 use Rattle.group_key.specs.Holds.{Remembers}
 use Rattle.act_memory.proofs.RepliedActs.{remembers_on}
 use Rattle.supplicant.specs.State.{State as Supplicant}
-use Rattle.supplicant.specs.Stands.{SupplicantStands}
 use Rattle.supplicant.proofs.Standing.{stands_more}
+use Rattle.run_journal.specs.Holders.{last_r0kh_id}
+use Rattle.ft_exchange.specs.State.{OriginatorState}
 use Rattle.station_node.specs.declared.attempt.Attempt.{Attempt}
 use Rattle.station_node.specs.declared.attempt.Association.{Association}
-use Rattle.station_node.specs.declared.attempt.Association.TheVariants.{Requested, Accepted}
+use Rattle.station_node.specs.declared.attempt.Association.TheVariants.{Requested, Accepted, Moving}
 use Rattle.station_node.specs.declared.session.Session.{Session}
 use Rattle.station_node.specs.State.{State}
-use Rattle.station_node.specs.Parts.{peer_of_attempt, IsElsewhere, IsAlone}
-use Rattle.station_node.specs.Stands.{Stands, IsRequested, HasAssociation, HasAttempt, HasSession, IsKeyed, IsIn}
+use Rattle.station_node.specs.Parts.{peer_of_attempt, IsElsewhere, IsBeside, IsAlone}
+use Rattle.station_node.specs.Stands.{Stands, IsRequested, IsAssociated, IsMoving, IsHolder, HasAssociation, HasAttempt, HasSession, IsKeyed, IsIn}
 use Rattle.station_node.proofs.Acts.{IsPlainAct}
+use Rattle.station_node.proofs.Underway.{IsBesideMove, moving_more}
 
 -- ---- an act that changes nothing of what is asked
 
@@ -51,9 +53,13 @@ requested_more p v h e plain u =
       keyed = c.derives ∙ u.keyed;
     }
 
+beside_plain : (p : Node) (e : Act) → IsPlainAct e → IsBesideMove p e
+beside_plain p e plain = record { apart = plain.apart p; associated = plain.associated; holder = plain.holder }
+
 association_more : (d : Domain) (n : Node) (a : ℕ) (x : Association) (h : List Act) (e : Act) → IsPlainAct e → HasAssociation d n a x h → HasAssociation d n a x (e ∷ h)
 association_more d n a (Requested v) h e plain st = requested_more (Ap a) v h e plain st
-association_more d n a (Accepted s) h e plain st = stands_more d n (Ap a) s h e (plain.apart (Ap a)) st
+association_more d n a (Accepted s) h e plain st = record { stands = stands_more d n (Ap a) s h e (plain.apart (Ap a)) st.stands; names = st.names }
+association_more d n a (Moving o) h e plain st = moving_more d n a o e h (beside_plain (Ap a) e plain) st
 
 attempt_stays : (d : Domain) (n : Node) (o : Option Attempt) (h : List Act) (e : Act) → IsPlainAct e → HasAttempt d n o h → HasAttempt d n o (e ∷ h)
 attempt_stays d n None h e plain st = tt
@@ -77,6 +83,11 @@ session_stays d n (Some x) h e plain st = record {
 remembers_more : (p : Node) (ks : List Kept) (h : List Act) (e : Act) → IsPlainAct e → Remembers p ks h → Remembers p ks (e ∷ h)
 remembers_more p ks h e plain = remembers_on p ks h (e ∷ h) (ap (λ (o : Option GroupKey). listed o (given groups.Gtk p h)) (plain.gives p)) (λ key id. plain.gets p key id (told groups.Gtk p h) (got groups.Gtk p key id h))
 
+-- the R0KH-ID of the session, where no final message was accepted
+pub holder_on : (o : Option Session) (id : List ℕ) (h l : List Act) → last_r0kh_id l ≡ last_r0kh_id h → IsHolder o id h → IsHolder o id l
+holder_on None id h l same has = tt
+holder_on (Some x) id h l same has = (same ∙ has.0, has.1)
+
 pub stands-plain : (d : Domain) (first : ℕ) (s : State) (h : List Act) (e : Act) → IsPlainAct e → Stands d first s h → Stands d first s (e ∷ h)
 stands-plain d first s h e plain st = record {
   draws_are = omega (arith, st.draws_are, draws_more e h plain.no_draw);
@@ -89,6 +100,7 @@ stands-plain d first s h e plain st = record {
   no_session = λ p other. (plainly (Ap p) e h plain).has ∙ st.no_session p other;
   remembers = λ p. remembers_more (Ap p) _ h e plain (st.remembers p);
   ids = st.ids;
+  holder = λ suite. holder_on s.session s.r0kh_id h (e ∷ h) (plain.holder h) (st.holder suite);
 }
 
 -- ---- where nobody is pending there is no attempt
@@ -120,23 +132,48 @@ not_here a p other is = other (same_number a p is)
 pub no_attempt : (d : Domain) (first : ℕ) (s : State) (h : List Act) (p : ℕ) → Stands d first s h → peer_of_attempt s.attempt ≡ None → attempt (Ap p) h ≡ None
 no_attempt d first s h p st none = st.no_attempt p (nobody (peer_of_attempt s.attempt) p none)
 
--- beside an attempt there is no session
-pub no_session_beside : (d : Domain) (first : ℕ) (s : State) (h : List Act) (a : Attempt) → Stands d first s h → s.attempt ≡ Some a → s.session ≡ None
-no_session_beside d first s h a st is = subst (λ (o : Option Attempt). IsAlone o s.session) is st.alone
+-- beside an attempt by association there is no session
+pub no_session_beside : (d : Domain) (first : ℕ) (s : State) (h : List Act) (p : ℕ) (v : List ℕ) → Stands d first s h → s.attempt ≡ Some (record { ap = p; association = Requested v }) → s.session ≡ None
+no_session_beside d first s h p v st is = subst (λ (o : Option Attempt). IsAlone o s.session) is st.alone
 
--- and beside a session no attempt
-pub no_attempt_beside : (d : Domain) (first : ℕ) (s : State) (h : List Act) (x : Session) → Stands d first s h → s.session ≡ Some x → s.attempt ≡ None
-no_attempt_beside d first s h x st is = alone_by s.attempt s.session x st.alone is
+pub no_session_accepted : (d : Domain) (first : ℕ) (s : State) (h : List Act) (p : ℕ) (x : Supplicant) → Stands d first s h → s.attempt ≡ Some (record { ap = p; association = Accepted x }) → s.session ≡ None
+no_session_accepted d first s h p x st is = subst (λ (o : Option Attempt). IsAlone o s.session) is st.alone
+
+-- beside a fast transition there is one with another access point
+pub session_left : (d : Domain) (first : ℕ) (s : State) (h : List Act) (p : ℕ) (o : OriginatorState) → Stands d first s h → s.attempt ≡ Some (record { ap = p; association = Moving o }) → (z : Session) × (s.session ≡ Some z) × (z.ap ≢ p)
+session_left d first s h p o st is = subst (λ (a : Option Attempt). IsAlone a s.session) is st.alone
+
+-- what an attempt is beside a session: none, or a fast transition to another access point
+beside_by : (a : Attempt) (x : Association) (o : Option Session) (z : Session) → a.association ≡ x → o ≡ Some z → IsBeside a.ap x o → (z.ap ≢ a.ap) × ((y : OriginatorState) × (x ≡ Moving y))
+beside_by a (Requested v) o z is there none = absurd (cc (none, there))
+beside_by a (Accepted s) o z is there none = absurd (cc (none, there))
+beside_by a (Moving y) o z is there beside =
+    let one : beside.0 ≡ z = cc (beside.1, there) in
+    (subst (λ (w : Session). w.ap ≢ a.ap) one beside.2, (y, refl))
+
+-- the attempt beside a session stays beside the same with other parts
+pub beside_again : (a : Option Attempt) (o : Option Session) (z w : Session) → o ≡ Some z → w.ap ≡ z.ap → IsAlone a o → IsAlone a (Some w)
+beside_again None o z w is same alone = tt
+beside_again (Some a) o z w is same alone =
+    let b = beside_by a a.association o z refl is alone in
+    subst (λ (x : Association). IsBeside a.ap x (Some w)) (sym b.1.1) (w, refl, (λ e. b.0 (sym same ∙ e)))
+
+-- and none is with its access point
+pub nothing_with : (d : Domain) (first : ℕ) (s : State) (h : List Act) (z : Session) → Stands d first s h → s.session ≡ Some z → attempt (Ap z.ap) h ≡ None
+nothing_with d first s h z st is = st.no_attempt z.ap (by s.attempt st.alone)
   where
-    alone_by : (a : Option Attempt) (o : Option Session) (x : Session) → IsAlone a o → o ≡ Some x → a ≡ None
-    alone_by None o x alone is = refl
-    alone_by (Some a) o x alone is = cc
+    by : (a : Option Attempt) → IsAlone a s.session → IsElsewhere (peer_of_attempt a) z.ap
+    by None alone = nobody (peer_of_attempt None) z.ap refl
+    by (Some a) alone = not_here a.ap z.ap (λ e. (beside_by a a.association s.session z refl is alone).0 (sym e))
 
 pub requested_is : (d : Domain) (first : ℕ) (s : State) (h : List Act) (p : ℕ) (v : List ℕ) → Stands d first s h → s.attempt ≡ Some (record { ap = p; association = Requested v }) → (p < length d.aps) × IsRequested (Ap p) v h
 requested_is d first s h p v st is = subst (λ (o : Option Attempt). HasAttempt d (Sta s.number) o h) is st.attempt_is
 
-pub accepted_is : (d : Domain) (first : ℕ) (s : State) (h : List Act) (p : ℕ) (x : Supplicant) → Stands d first s h → s.attempt ≡ Some (record { ap = p; association = Accepted x }) → (p < length d.aps) × SupplicantStands d (Sta s.number) (Ap p) x h
+pub accepted_is : (d : Domain) (first : ℕ) (s : State) (h : List Act) (p : ℕ) (x : Supplicant) → Stands d first s h → s.attempt ≡ Some (record { ap = p; association = Accepted x }) → (p < length d.aps) × IsAssociated d (Sta s.number) p x h
 accepted_is d first s h p x st is = subst (λ (o : Option Attempt). HasAttempt d (Sta s.number) o h) is st.attempt_is
+
+pub moving_is : (d : Domain) (first : ℕ) (s : State) (h : List Act) (p : ℕ) (o : OriginatorState) → Stands d first s h → s.attempt ≡ Some (record { ap = p; association = Moving o }) → (p < length d.aps) × IsMoving d (Sta s.number) p o h
+moving_is d first s h p o st is = subst (λ (a : Option Attempt). HasAttempt d (Sta s.number) a h) is st.attempt_is
 
 pub held_is : (d : Domain) (first : ℕ) (s : State) (h : List Act) (p : ℕ) (x : Supplicant) (k : Held) → Stands d first s h → s.session ≡ Some (record { ap = p; supplicant = x; key = k }) → IsIn d (Sta s.number) p x k h
 held_is d first s h p x k st is = subst (λ (o : Option Session). HasSession d (Sta s.number) o h) is st.session_is

@@ -2,10 +2,9 @@
 use Rattle.std.proofs.Common.{◌+◌, ◌≡◌, ◌≢◌, inl, inr, true, false, ℕ, ◌<◌, ◌≤◌, List, [], ◌∷◌, ◌++◌, length, Option, Some, None, refl, sym, ap, subst, ◌∙◌}
 use Rattle.std.specs.Prelude.{Result, Ok, Err, IfOk, OnOk, OnErr, option_map, slice_set}
 use Rattle.std.proofs.lemmas.List.{get_or-set_same, get_or-set_other, set-get_or}
-use Rattle.std.proofs.lemmas.Bool.{ne_eqb}
-use Rattle.domain_base.specs.declared.names.Akm.TheVariants.{FtPsk}
 use Rattle.domain_base.specs.declared.names.Node.{Node}
 use Rattle.domain_base.specs.declared.names.Node.TheVariants.{Ap, Sta}
+use Rattle.rsn_elements.specs.Elements.{ElementFields}
 use Rattle.run_journal.specs.declared.domain.Domain.{Domain}
 use Rattle.run_journal.specs.declared.acts.Start.TheVariants.{Connect}
 use Rattle.run_journal.specs.declared.acts.Drawn.TheVariants.{Nonce}
@@ -25,37 +24,38 @@ use Rattle.domain_rules.specs.Here.{here}
 use Rattle.domain_rules.specs.Network.{nonce, draw_end}
 use Rattle.domain_rules.specs.Frames.{sent_assoc_req}
 use Rattle.domain_rules.specs.Reading.{Management, KeyMessage, Reading, PassedOver, Managed, Keyed, Reads, kind_of}
-use Rattle.domain_rules.specs.Replies.{IsMessageFrom, reply_acts, taken_as}
+use Rattle.domain_rules.specs.Replies.{IsMessageFrom, taken_as}
 use Rattle.domain_rules.specs.Verdict.{first_verdict, key_verdict}
-use Rattle.domain_rules.specs.Associating.{assoc_resp_verdict}
+use Rattle.domain_rules.specs.Associating.{management_verdict}
 use Rattle.domain_rules.specs.Rows.{NodeEvent, Take, Begin, Leave}
 use Rattle.domain_rules.specs.Closing.{close_pending, close_associated, sender}
 use Rattle.domain_rules.proofs.Switching.{station_adds}
 use Rattle.ccmp_guard.specs.Held.{Held}
-use Rattle.data_frames.specs.Holding.{key_after}
 use Rattle.group_key.specs.Keys.{Kept}
 use Rattle.group_key.specs.Holds.{Remembers}
 use Rattle.frame_intake.specs.declared.delivered.Heard.{Heard}
 use Rattle.frame_intake.specs.Views.{message_fields}
 use Rattle.frame_intake.specs.Judging.{IsSettled}
 use Rattle.node_base.specs.Events.{Steps, seen}
-use Rattle.node_base.specs.Pairs.{pair_at}
 use Rattle.supplicant.specs.State.{State as Supplicant, Both, both}
 use Rattle.supplicant.specs.Stands.{SupplicantStands}
 use Rattle.supplicant.specs.Steps.{SupplicantSteps}
 use Rattle.supplicant.specs.Taken.{HaveGroupIds}
+use Rattle.ft_exchange.specs.State.{OriginatorState}
+use Rattle.ft_exchange.specs.Comes.{IsManagementFrom}
+use Rattle.station_node.specs.Responses.{response_outcome}
 use Rattle.station_node.specs.declared.attempt.Attempt.{Attempt}
 use Rattle.station_node.specs.declared.attempt.Association.TheVariants as association
 use Rattle.station_node.specs.declared.session.Session.{Session}
 use Rattle.station_node.specs.declared.handing.Came.{Came}
 use Rattle.station_node.specs.State.{State, memory_at}
-use Rattle.station_node.specs.Parts.{peer_of_attempt, peer_of_session, has_neither, IsElsewhere, IsNotRequested}
+use Rattle.station_node.specs.Parts.{peer_of_attempt, peer_of_session, has_neither, IsElsewhere, IsNotRequested, IsNotMoving}
 use Rattle.station_node.specs.Stands.{Stands}
-use Rattle.station_node.specs.Steps.{IsTaken, Turn, turn, Takes, IsManagementFrom}
+use Rattle.station_node.specs.Steps.{IsTaken, Turn, turn, Takes}
 use Rattle.station_node.specs.Handed.{Handing, handing, IsHanded}
 use Rattle.station_node.proofs.Beginning.{HasBegun, asked_state, associated_state}
-use Rattle.station_node.proofs.Handed.{IsOnly, tried_state, finished_state, held_state, stands-tried, stands-finished, stands-held}
-use Rattle.station_node.proofs.Verdicts.{response-unawaited, response-awaited, message-nowhere, message-requested, management-other}
+use Rattle.station_node.proofs.Handed.{IsOnly, told_acts, tried_state, finished_state, held_state, stands-tried, stands-finished, stands-held}
+use Rattle.station_node.proofs.Verdicts.{response-unawaited, response-awaited, message-nowhere, message-requested, message-roamed, management-other, auth-unawaited, reassoc-unawaited}
 use Rattle.station_node.proofs.Standing.{accepted_is, held_is}
 use Rattle.station_node.proofs.Asking.{steps-spent, steps-asked}
 use Rattle.station_node.proofs.Leaving.{left_state, steps-nothing, steps-left}
@@ -180,40 +180,56 @@ taken-settled d s octets r from outcome waited waits reads from_is verdict_is (i
 
 -- ---- it takes a management frame of an access point
 
-pub taken-other_management : (d : Domain) (s : State) (p : ℕ) (octets : List ℕ) (b : Management) (k : Kind) (waited waits : List Act) → IsManagementFrom d s.number p octets b → b.kind ≡ k → b.kind ≢ kind.AssocResp
+-- what comes of it by its kind
+pub kind_verdict : (d : Domain) (first sta : ℕ) (h : List Act) (p : ℕ) (octets : List ℕ) (b : Management) (e : ElementFields) (k : Kind) → IsManagementFrom d (Sta sta) (Ap p) octets b e → b.kind ≡ k
+    → first_verdict d first (Sta sta) h (Managed b e) ≡ management_verdict d (first + draws h) (Sta sta) h (Ap p) k b e
+kind_verdict d first sta h p octets b e k m kind_is = m.verdict_is first h ∙ ap (λ (x : Kind). management_verdict d (first + draws h) (Sta sta) h (Ap p) x b e) kind_is
+
+pub taken-refused_kind : (d : Domain) (s : State) (p : ℕ) (octets : List ℕ) (b : Management) (e : ElementFields) (k : Kind) (w : Reason) (waited waits : List Act) → IsManagementFrom d (Sta s.number) (Ap p) octets b e → b.kind ≡ k
+    → ((first : ℕ) (h : List Act) → Stands d first s h → management_verdict d (first + draws h) (Sta s.number) h (Ap p) k b e ≡ Refused w)
+    → waits ≡ waited ++ Took (Some (Ap p)) octets k (Refused w) None ∷ [] → IsTaken d (Take octets) (turn s s waited waits) (Refused w)
+taken-refused_kind d s p octets b e k w waited waits m kind_is refuses is =
+    taken-refused d s octets (Managed b e) (Some (Ap p)) k w waited waits m.reads (λ first h st. kind_verdict d first s.number h p octets b e k m kind_is ∙ refuses first h st) m.from kind_is is
+
+pub taken-other_management : (d : Domain) (s : State) (p : ℕ) (octets : List ℕ) (b : Management) (e : ElementFields) (k : Kind) (waited waits : List Act) → IsManagementFrom d (Sta s.number) (Ap p) octets b e → b.kind ≡ k
+    → k ≢ kind.AssocResp → k ≢ kind.FtResp → k ≢ kind.ReResp
     → waits ≡ waited ++ Took (Some (Ap p)) octets k (Refused reason.Unawaited) None ∷ [] → IsTaken d (Take octets) (turn s s waited waits) (Refused reason.Unawaited)
-taken-other_management d s p octets b k waited waits m kind_is other is =
-    taken-refused d s octets (Managed b m.e) (Some (Ap p)) k reason.Unawaited waited waits m.reads
-    (λ first h st. m.verdict_is first h ∙ management-other d first s h p b.kind b m.e st other) m.from kind_is is
+taken-other_management d s p octets b e k waited waits m kind_is one two three is =
+    taken-refused_kind d s p octets b e k reason.Unawaited waited waits m kind_is (λ first h st. management-other d first s h p k b e one two three) is
 
--- what comes of a response
-response_is : (d : Domain) (first sta : ℕ) (h : List Act) (p : ℕ) (octets : List ℕ) (b : Management) (m : IsManagementFrom d sta p octets b) → b.kind ≡ kind.AssocResp
-    → first_verdict d first (Sta sta) h (Managed b m.e) ≡ assoc_resp_verdict d h (Ap p) b m.e
-response_is d first sta h p octets b m kind_is = m.verdict_is first h ∙ rw kind_is refl
-
-pub taken-response_unawaited : (d : Domain) (s : State) (p : ℕ) (octets : List ℕ) (b : Management) (waited waits : List Act) → IsManagementFrom d s.number p octets b → b.kind ≡ kind.AssocResp → IsNotRequested s.attempt p
+pub taken-response_unawaited : (d : Domain) (s : State) (p : ℕ) (octets : List ℕ) (b : Management) (e : ElementFields) (waited waits : List Act) → IsManagementFrom d (Sta s.number) (Ap p) octets b e → b.kind ≡ kind.AssocResp → IsNotRequested s.attempt p
     → waits ≡ waited ++ Took (Some (Ap p)) octets kind.AssocResp (Refused reason.Unawaited) None ∷ [] → IsTaken d (Take octets) (turn s s waited waits) (Refused reason.Unawaited)
-taken-response_unawaited d s p octets b waited waits m kind_is none is =
-    taken-refused d s octets (Managed b m.e) (Some (Ap p)) kind.AssocResp reason.Unawaited waited waits m.reads
-    (λ first h st. response_is d first s.number h p octets b m kind_is ∙ response-unawaited d first s h p b m.e st none) m.from kind_is is
+taken-response_unawaited d s p octets b e waited waits m kind_is none is =
+    taken-refused_kind d s p octets b e kind.AssocResp reason.Unawaited waited waits m kind_is (λ first h st. response-unawaited d first s h p b e st none) is
 
-pub taken-response_status : (d : Domain) (s : State) (p : ℕ) (v octets : List ℕ) (b : Management) (status : ℕ) (waited waits : List Act) → d.akm ≢ FtPsk → IsManagementFrom d s.number p octets b → b.kind ≡ kind.AssocResp
-    → s.attempt ≡ Some (record { ap = p; association = association.Requested v }) → b.status ≡ status → status ≢ 0
-    → waits ≡ waited ++ Took (Some (Ap p)) octets kind.AssocResp (Refused (reason.Status status)) None ∷ [] → IsTaken d (Take octets) (turn s s waited waits) (Refused (reason.Status status))
-taken-response_status d s p v octets b status waited waits suite m kind_is has status_is other is =
-    let unlike = ne_eqb status 0 other in
-    taken-refused d s octets (Managed b m.e) (Some (Ap p)) kind.AssocResp (reason.Status status) waited waits m.reads
-    (λ first h st. response_is d first s.number h p octets b m kind_is ∙ response-awaited d first s h p v b m.e suite st has ∙ rw (status_is, unlike) refl) m.from kind_is is
+pub taken-response_fault : (d : Domain) (s : State) (p : ℕ) (v octets : List ℕ) (b : Management) (e : ElementFields) (w : Reason) (waited waits : List Act) → IsManagementFrom d (Sta s.number) (Ap p) octets b e → b.kind ≡ kind.AssocResp
+    → s.attempt ≡ Some (record { ap = p; association = association.Requested v }) → Refused w ≡ response_outcome d p b.status e
+    → waits ≡ waited ++ Took (Some (Ap p)) octets kind.AssocResp (Refused w) None ∷ [] → IsTaken d (Take octets) (turn s s waited waits) (Refused w)
+taken-response_fault d s p v octets b e w waited waits m kind_is has refuses is =
+    taken-refused_kind d s p octets b e kind.AssocResp w waited waits m kind_is (λ first h st. response-awaited d first s h p v b e st has ∙ sym refuses) is
 
-pub taken-response : (d : Domain) (s new : State) (p : ℕ) (v octets : List ℕ) (b : Management) (x : Supplicant) (memories : List (List Kept)) (act : Act) (waited waits : List Act) → d.akm ≢ FtPsk → IsManagementFrom d s.number p octets b → b.kind ≡ kind.AssocResp
-    → s.attempt ≡ Some (record { ap = p; association = association.Requested v }) → b.status ≡ 0 → HasBegun d (Sta s.number) (Ap p) v x → ((k : ℕ) → memory_at memories k ≡ memory_at s.memories k)
+pub taken-response : (d : Domain) (s new : State) (p : ℕ) (v octets : List ℕ) (b : Management) (e : ElementFields) (x : Supplicant) (memories : List (List Kept)) (act : Act) (waited waits : List Act) → IsManagementFrom d (Sta s.number) (Ap p) octets b e
+    → b.kind ≡ kind.AssocResp → s.attempt ≡ Some (record { ap = p; association = association.Requested v }) → Accepted ≡ response_outcome d p b.status e → HasBegun d (Sta s.number) (Ap p) v octets x
+    → ((k : ℕ) → memory_at memories k ≡ memory_at s.memories k)
     → new ≡ associated_state s p x memories → act ≡ Took (Some (Ap p)) octets kind.AssocResp Accepted None → waits ≡ waited ++ act ∷ [] → IsTaken d (Take octets) (turn s new waited waits) Accepted
-taken-response d s new p v octets b x memories act waited waits suite m kind_is has status begun same_memory new_is act_is is = subst (λ (t : State). IsTaken d (Take octets) (turn s t waited waits) Accepted) (sym new_is) (record {
+taken-response d s new p v octets b e x memories act waited waits m kind_is has accepts begun same_memory new_is act_is is = subst (λ (t : State). IsTaken d (Take octets) (turn s t waited waits) Accepted) (sym new_is) (record {
   number = refl;
   steps = λ first h st. subst (λ (w : List Act). Steps (here d first (Sta s.number)) (Take octets) (Stands d first (associated_state s p x memories)) h (seen waited w Accepted)) (sym (is ∙ ap (λ (y : Act). waited ++ y ∷ []) act_is))
-      (steps-associated d first s h octets b m.e p v x memories waited suite st has begun same_memory m.reads m.from kind_is status (response_is d first s.number h p octets b m kind_is));
-  refused = λ y e. cc;
+      (steps-associated d first s h octets b e p v x memories waited st has begun same_memory m.reads m.from kind_is (sym accepts) (kind_verdict d first s.number h p octets b e kind.AssocResp m kind_is));
+  refused = λ y f. cc;
 })
+
+-- ---- frames of a fast transition that nothing awaits
+
+pub taken-auth_unawaited : (d : Domain) (s : State) (p : ℕ) (octets : List ℕ) (b : Management) (e : ElementFields) (waited waits : List Act) → IsManagementFrom d (Sta s.number) (Ap p) octets b e → b.kind ≡ kind.FtResp → IsNotMoving s.attempt p
+    → waits ≡ waited ++ Took (Some (Ap p)) octets kind.FtResp (Refused reason.Unawaited) None ∷ [] → IsTaken d (Take octets) (turn s s waited waits) (Refused reason.Unawaited)
+taken-auth_unawaited d s p octets b e waited waits m kind_is none is =
+    taken-refused_kind d s p octets b e kind.FtResp reason.Unawaited waited waits m kind_is (λ first h st. auth-unawaited d first s h p b e st none) is
+
+pub taken-reassoc_unawaited : (d : Domain) (s : State) (p : ℕ) (octets : List ℕ) (b : Management) (e : ElementFields) (waited waits : List Act) → IsManagementFrom d (Sta s.number) (Ap p) octets b e → b.kind ≡ kind.ReResp → IsNotMoving s.attempt p
+    → waits ≡ waited ++ Took (Some (Ap p)) octets kind.ReResp (Refused reason.Unawaited) None ∷ [] → IsTaken d (Take octets) (turn s s waited waits) (Refused reason.Unawaited)
+taken-reassoc_unawaited d s p octets b e waited waits m kind_is none is =
+    taken-refused_kind d s p octets b e kind.ReResp reason.Unawaited waited waits m kind_is (λ first h st. reassoc-unawaited d first s h p b e st none) is
 
 -- ---- it takes an EAPOL-Key message of an access point with which there is nothing
 
@@ -236,6 +252,13 @@ pub taken-requested : (d : Domain) (s : State) (p : ℕ) (v octets : List ℕ) (
     → waits ≡ waited ++ Took (Some (Ap p)) octets (kind.Key k.message) (Refused reason.Unawaited) None ∷ [] → IsTaken d (Take octets) (turn s s waited waits) (Refused reason.Unawaited)
 taken-requested d s p v octets k waited waits f has is =
     taken-unawaited d s p octets k waited waits f (λ first h st. message-requested d first s h p v k k.message st has) is
+
+-- and of one to which a fast transition is under way
+pub taken-roamed : (d : Domain) (s : State) (p : ℕ) (o : OriginatorState) (octets : List ℕ) (k : KeyMessage) (waited waits : List Act) → IsMessageFrom d (Sta s.number) (Ap p) octets k
+    → s.attempt ≡ Some (record { ap = p; association = association.Moving o })
+    → waits ≡ waited ++ Took (Some (Ap p)) octets (kind.Key k.message) (Refused reason.Unawaited) None ∷ [] → IsTaken d (Take octets) (turn s s waited waits) (Refused reason.Unawaited)
+taken-roamed d s p o octets k waited waits f has is =
+    taken-unawaited d s p octets k waited waits f (λ first h st. message-roamed d first s h p o k k.message st has) is
 
 -- ---- it hands it to a supplicant
 
@@ -274,15 +297,17 @@ ids-behind d s p m has t came first h b x st = subst HaveGroupIds b.has_is (x.ta
 -- what the station adds, with the supplicant where it is then
 steps-handed : (d : Domain) (s new : State) (p : ℕ) (m : Heard) (t : Handing) (came : Came) (first : ℕ) (h : List Act) (has : List (List Kept)) → (x : IsHanded d (Sta s.number) (Ap p) m t came)
     → SupplicantSteps (here d first (Sta s.number)) (Ap p) (taken_as m.octets.now (message_fields m.message) came.outcome) (both t.new.part (memory_at has p)) x.reply h
-    → Stands d first new (add (reply_acts (pair_at d t.new.part.base.r0kh_id (Sta s.number) (Ap p)) false (taken_as m.octets.now (message_fields m.message) came.outcome) x.reply) h)
+    → Stands d first new (add (told_acts d t.new.part.base.r0kh_id (Sta s.number) p (taken_as m.octets.now (message_fields m.message) came.outcome) x.reply) h)
     → Steps (here d first (Sta s.number)) (Take m.octets.now) (Stands d first new) h (seen t.waited t.waits came.outcome)
-steps-handed d s new p m t came first h has x steps stands = record {
-  acts = reply_acts (pair_at d t.new.part.base.r0kh_id (Sta s.number) (Ap p)) false (taken_as m.octets.now (message_fields m.message) came.outcome) x.reply;
-  adds = station_adds d first s.number h (Take m.octets.now) (reply_acts (pair_at d t.new.part.base.r0kh_id (Sta s.number) (Ap p)) false (taken_as m.octets.now (message_fields m.message) came.outcome) x.reply) steps.adds;
-  waiting = x.acts;
-  came = refl;
-  stands = stands;
-}
+steps-handed d s new p m t came first h has x steps stands =
+    let acts : List ℕ → List Act = λ id. told_acts d id (Sta s.number) p (taken_as m.octets.now (message_fields m.message) came.outcome) x.reply in
+    record {
+      acts = acts t.new.part.base.r0kh_id;
+      adds = station_adds d first s.number h (Take m.octets.now) (acts t.new.part.base.r0kh_id) steps.adds;
+      waiting = x.acts;
+      came = refl;
+      stands = stands;
+    }
 
 -- a refusal leaves supplicant and memories
 left_by : (d : Domain) (s : State) (p : ℕ) (m : Heard) (has : List (List Kept)) (t : Handing) (came : Came) (w : Reason) → IsHandedBy d s p m has t → IsHanded d (Sta s.number) (Ap p) m t came → came.outcome ≡ Refused w → (t.new.part ≡ t.old.part) × (has ≡ s.memories)
@@ -308,43 +333,41 @@ taken-tried d s p m has t came is b x goes_on = record {
   number = refl;
   steps = λ first h st. (
       let place = accepted_is d first s h p t.old.part st is in
-      let steps = steps-supplicant d s p m has t came first h b x place.1 (st.remembers p) in
+      let steps = steps-supplicant d s p m has t came first h b x place.1.stands (st.remembers p) in
       steps-handed d s (tried_state s p t.new.part has) p m t came first h has x steps
-      (stands-tried d first s h p (taken_as m.octets.now (message_fields m.message) came.outcome) x.reply t.old.part t.new.part has st is place.0 (not_installed x.reply.installed (sym x.installed ∙ goes_on)) b.only (ids-behind d s p m has t came first h b x st) steps));
+      (stands-tried d first s h p (taken_as m.octets.now (message_fields m.message) came.outcome) x.reply t.old.part t.new.part has st is x.taken.ends.1 (not_installed x.reply.installed (sym x.installed ∙ goes_on)) b.only (ids-behind d s p m has t came first h b x st) steps));
   refused = λ w e. (let l = left_by d s p m has t came w b x e in
       ap (λ (y : Supplicant). tried_state s p y has) l.0 ∙ ap (tried_state s p t.old.part) l.1
-      ∙ ap (λ (o : Option Attempt). record { number = s.number; drawn = s.drawn; attempt = o; session = s.session; memories = s.memories }) (sym is));
+      ∙ ap (λ (o : Option Attempt). record { number = s.number; drawn = s.drawn; attempt = o; session = s.session; memories = s.memories; r0kh_id = s.r0kh_id }) (sym is));
 }
 
 -- that becomes a session
-pub taken-finished : (d : Domain) (s : State) (p : ℕ) (m : Heard) (tk : List ℕ) (has : List (List Kept)) (t : Handing) (came : Came) → s.attempt ≡ Some (record { ap = p; association = association.Accepted t.old.part }) → IsHandedBy d s p m has t
-    → IsHanded d (Sta s.number) (Ap p) m t came → came.installed ≡ Some tk → IsTaken d (Take m.octets.now) (turn s (finished_state s p t.new.part tk has) t.waited t.waits) came.outcome
-taken-finished d s p m tk has t came is b x done = record {
+pub taken-finished : (d : Domain) (s : State) (p : ℕ) (m : Heard) (tk id : List ℕ) (has : List (List Kept)) (t : Handing) (came : Came) → s.attempt ≡ Some (record { ap = p; association = association.Accepted t.old.part }) → IsHandedBy d s p m has t
+    → IsHanded d (Sta s.number) (Ap p) m t came → came.installed ≡ Some tk → (length t.new.part.base.r0kh_id ≤ 48 → id ≡ t.new.part.base.r0kh_id)
+    → IsTaken d (Take m.octets.now) (turn s (finished_state s p t.new.part tk id has) t.waited t.waits) came.outcome
+taken-finished d s p m tk id has t came is b x done kept = record {
   number = refl;
   steps = λ first h st. (
       let place = accepted_is d first s h p t.old.part st is in
-      let steps = steps-supplicant d s p m has t came first h b x place.1 (st.remembers p) in
+      let steps = steps-supplicant d s p m has t came first h b x place.1.stands (st.remembers p) in
       let y = installed_there x.reply.installed tk (sym x.installed ∙ done) in
-      steps-handed d s (finished_state s p t.new.part tk has) p m t came first h has x steps
-      (subst (λ (z : List ℕ). Stands d first (finished_state s p t.new.part z has) (add (reply_acts (pair_at d t.new.part.base.r0kh_id (Sta s.number) (Ap p)) false (taken_as m.octets.now (message_fields m.message) came.outcome) x.reply) h)) y.1.1
-      (stands-finished d first s h p (taken_as m.octets.now (message_fields m.message) came.outcome) x.reply y.0 t.old.part t.new.part has st is place.0 y.1.0 b.only (ids-behind d s p m has t came first h b x st) steps)));
+      steps-handed d s (finished_state s p t.new.part tk id has) p m t came first h has x steps
+      (subst (λ (z : List ℕ). Stands d first (finished_state s p t.new.part z id has) (add (told_acts d t.new.part.base.r0kh_id (Sta s.number) p (taken_as m.octets.now (message_fields m.message) came.outcome) x.reply) h)) y.1.1
+      (stands-finished d first s h p (taken_as m.octets.now (message_fields m.message) came.outcome) x.reply y.0 t.old.part t.new.part id has st is x.taken.ends.1 kept y.1.0 b.only (ids-behind d s p m has t came first h b x st) steps)));
   refused = λ w e. absurd (not_both x.reply.installed (installed_there x.reply.installed tk (sym x.installed ∙ done)).0 (x.taken.refused w e).1 (installed_there x.reply.installed tk (sym x.installed ∙ done)).1.0);
 }
 
 -- or in a session
 pub taken-held : (d : Domain) (s : State) (p : ℕ) (m : Heard) (k : Held) (has : List (List Kept)) (t : Handing) (came : Came) → s.session ≡ Some (record { ap = p; supplicant = t.old.part; key = k }) → IsHandedBy d s p m has t
-    → IsHanded d (Sta s.number) (Ap p) m t came → IsTaken d (Take m.octets.now) (turn s (held_state s p t.new.part (key_after k came.installed) has) t.waited t.waits) came.outcome
+    → IsHanded d (Sta s.number) (Ap p) m t came → IsTaken d (Take m.octets.now) (turn s (held_state s p t.new.part k has) t.waited t.waits) came.outcome
 taken-held d s p m k has t came is b x = record {
   number = refl;
   steps = λ first h st. (
       let place = held_is d first s h p t.old.part k st is in
       let steps = steps-supplicant d s p m has t came first h b x place.stands (st.remembers p) in
-      steps-handed d s (held_state s p t.new.part (key_after k came.installed) has) p m t came first h has x steps
-      (subst (λ (o : Option (List ℕ)). Stands d first (held_state s p t.new.part (key_after k o) has) (add (reply_acts (pair_at d t.new.part.base.r0kh_id (Sta s.number) (Ap p)) false (taken_as m.octets.now (message_fields m.message) came.outcome) x.reply) h)) (sym x.installed)
-      (stands-held d first s h p (taken_as m.octets.now (message_fields m.message) came.outcome) x.reply t.old.part t.new.part k has st is place.listed b.only (ids-behind d s p m has t came first h b x st) steps)));
+      steps-handed d s (held_state s p t.new.part k has) p m t came first h has x steps
+      (stands-held d first s h p (taken_as m.octets.now (message_fields m.message) came.outcome) x.reply t.old.part t.new.part k has st is b.only (ids-behind d s p m has t came first h b x st) steps));
   refused = λ w e. (let l = left_by d s p m has t came w b x e in
-      let none : came.installed ≡ None = x.installed ∙ ap (option_map (λ (y : PairwiseKey). y.ptk.tk)) (x.taken.refused w e).1 in
-      ap (λ (o : Option (List ℕ)). held_state s p t.new.part (key_after k o) has) none
-      ∙ ap (λ (y : Supplicant). held_state s p y k has) l.0 ∙ ap (held_state s p t.old.part k) l.1
-      ∙ ap (λ (o : Option Session). record { number = s.number; drawn = s.drawn; attempt = s.attempt; session = o; memories = s.memories }) (sym is));
+      ap (λ (y : Supplicant). held_state s p y k has) l.0 ∙ ap (held_state s p t.old.part k) l.1
+      ∙ ap (λ (o : Option Session). record { number = s.number; drawn = s.drawn; attempt = s.attempt; session = o; memories = s.memories; r0kh_id = s.r0kh_id }) (sym is));
 }

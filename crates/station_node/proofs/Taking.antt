@@ -1,6 +1,5 @@
 -- A station takes a frame: the acts of each row, and what it stands for behind them.
-use Rattle.std.proofs.Common.{◌≡◌, ◌≢◌, ℕ, ◌+◌, List, [], ◌∷◌, ◌++◌, Option, Some, None, refl, sym, ap, subst, ◌∙◌}
-use Rattle.domain_base.specs.declared.names.Akm.TheVariants.{FtPsk}
+use Rattle.std.proofs.Common.{◌≡◌, ℕ, ◌+◌, List, [], ◌∷◌, ◌++◌, Option, Some, None, refl, sym, ap, subst, ◌∙◌}
 use Rattle.domain_base.specs.declared.names.Node.{Node}
 use Rattle.domain_base.specs.declared.names.Node.TheVariants.{Ap, Sta}
 use Rattle.rsn_elements.specs.Elements.{ElementFields}
@@ -27,6 +26,7 @@ use Rattle.node_base.specs.Events.{Steps, seen}
 use Rattle.supplicant.specs.State.{State as Supplicant}
 use Rattle.station_node.specs.declared.attempt.Association.TheVariants.{Requested}
 use Rattle.station_node.specs.State.{State, memory_at}
+use Rattle.station_node.specs.Responses.{response_outcome}
 use Rattle.station_node.specs.Stands.{Stands}
 use Rattle.station_node.proofs.Acts.{plain-refused, plain-ignored}
 use Rattle.station_node.proofs.Standing.{stands-plain}
@@ -75,13 +75,13 @@ response_accepted d first sta h b e kind_is is =
     ∙ ap (λ (o : Outcome). and_then Accepted o) (further_response d (first + draws h) sta h b e (management_sender d (Sta sta) b.header) kind_is)
 
 pub steps-associated : (d : Domain) (first : ℕ) (s : State) (h : List Act) (octets : List ℕ) (b : Management) (e : ElementFields) (p : ℕ) (v : List ℕ) (x : Supplicant) (memories : List (List Kept)) (waited : List Act)
-    → d.akm ≢ FtPsk → Stands d first s h → s.attempt ≡ Some (record { ap = p; association = Requested v })
-    → HasBegun d (Sta s.number) (Ap p) v x → ((k : ℕ) → memory_at memories k ≡ memory_at s.memories k)
-    → Reads d.akm octets (Managed b e) → sender d (Sta s.number) (Managed b e) ≡ Some (Ap p) → b.kind ≡ kind.AssocResp → b.status ≡ 0
+    → Stands d first s h → s.attempt ≡ Some (record { ap = p; association = Requested v })
+    → HasBegun d (Sta s.number) (Ap p) v octets x → ((k : ℕ) → memory_at memories k ≡ memory_at s.memories k)
+    → Reads d.akm octets (Managed b e) → sender d (Sta s.number) (Managed b e) ≡ Some (Ap p) → b.kind ≡ kind.AssocResp → response_outcome d p b.status e ≡ Accepted
     → first_verdict d first (Sta s.number) h (Managed b e) ≡ assoc_resp_verdict d h (Ap p) b e
     → Steps (here d first (Sta s.number)) (Take octets) (Stands d first (associated_state s p x memories)) h (seen waited (waited ++ associated_acts (Ap p) octets) Accepted)
-steps-associated d first s h octets b e p v x memories waited suite st is begun same_memory reads from kind_is status verdict_is =
-    let accepted : first_verdict d first (Sta s.number) h (Managed b e) ≡ Accepted = verdict_is ∙ response-awaited d first s h p v b e suite st is ∙ rw status refl in
+steps-associated d first s h octets b e p v x memories waited st is begun same_memory reads from kind_is accepts verdict_is =
+    let accepted : first_verdict d first (Sta s.number) h (Managed b e) ≡ Accepted = verdict_is ∙ response-awaited d first s h p v b e st is ∙ accepts in
     record {
       acts = associated_acts (Ap p) octets;
       adds = station_adds d first s.number h (Take octets) (associated_acts (Ap p) octets) (record {
@@ -93,5 +93,5 @@ steps-associated d first s h octets b e p v x memories waited suite st is begun 
       });
       waiting = refl;
       came = refl;
-      stands = stands-associated d first s h p v octets x memories suite st is begun same_memory;
+      stands = stands-associated d first s h p v octets x memories st is begun same_memory;
     }

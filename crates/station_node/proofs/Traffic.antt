@@ -53,7 +53,7 @@ use Rattle.station_node.specs.Stands.{Stands}
 use Rattle.station_node.specs.Steps.{IsTaken, turn, IsDataFrom}
 use Rattle.station_node.specs.GroupData.{counters_after, IsGroupTaken, Without, Under}
 use Rattle.station_node.proofs.Acts.{plain-refused, plain-idle}
-use Rattle.station_node.proofs.Carrying.{AreQuiet, quiet-taken, quiet-sending, quiet-nothing, HoldsOn, AreKept, stands-quiet}
+use Rattle.station_node.proofs.Carrying.{AreOf, quiet-taken, quiet-sending, quiet-nothing, HoldsOn, AreKept, stands-quiet}
 use Rattle.station_node.proofs.Counters.{found_group_id, ids_taken, remembers_beside, remembers_far, remembers_taken, leaves_group, group_nothing, group_opens}
 use Rattle.station_node.proofs.Handed.{held_state}
 use Rattle.station_node.proofs.Standing.{stands-plain, held_is}
@@ -70,7 +70,7 @@ in_session p x k = Some (record { ap = p; supplicant = x; key = k })
 
 -- the station as it was
 held_same : (s : State) (p : ℕ) (x : Supplicant) (k : Held) → s.session ≡ in_session p x k → held_state s p x k s.memories ≡ s
-held_same s p x k is = ap (λ (o : Option Session). record { number = s.number; drawn = s.drawn; attempt = s.attempt; session = o; memories = s.memories }) (sym is)
+held_same s p x k is = ap (λ (o : Option Session). record { number = s.number; drawn = s.drawn; attempt = s.attempt; session = o; memories = s.memories; r0kh_id = s.r0kh_id }) (sym is)
 
 -- ---- it is sent
 
@@ -88,8 +88,8 @@ by_sent P d sta p tid plain k sends spent = by (nat_lt k.used last_number)
     by true = sends
     by false = spent
 
-sent-quiet : (d : Domain) (sta p : ℕ) (tid : Option ℕ) (plain : List ℕ) (k : Held) → AreQuiet (under_acts d sta p tid plain k)
-sent-quiet d sta p tid plain k = by_sent AreQuiet d sta p tid plain k (quiet-sending (One (Ap p)) k.key (key_id k.role) (suc k.used) plain _ _) (quiet-nothing why.Spent)
+sent-quiet : (d : Domain) (sta p : ℕ) (tid : Option ℕ) (plain : List ℕ) (k : Held) → AreOf p (under_acts d sta p tid plain k)
+sent-quiet d sta p tid plain k = by_sent (AreOf p) d sta p tid plain k (quiet-sending p k.key (key_id k.role) (suc k.used) plain _ _) (quiet-nothing p why.Spent)
 
 sent-remembers : (d : Domain) (sta p q : ℕ) (tid : Option ℕ) (plain : List ℕ) (k : Held) (ks : List Kept) (h : List Act) → Remembers (Ap q) ks h → Remembers (Ap q) ks (add (under_acts d sta p tid plain k) h)
 sent-remembers d sta p q tid plain k ks h r =
@@ -208,7 +208,7 @@ opened_under d s p octets f x k key new after plain memories waited is m whole o
         (handed_up_row (here d first (Sta s.number)) h (Ap p) octets f key (data_of d first s.number p octets f h m whole) (opens first h st) after plain o);
     waiting = refl;
     came = refl;
-    stands = stands-quiet d first s (taken_acts (Ap p) octets f key plain) h p x k new memories st is (quiet-taken (Some (Ap p)) octets _ (Ap p) key.key (key_id key.role) (counter_of key.role f.header.octets) (packet_number f.body) plain) (holds first h st)
+    stands = stands-quiet d first s (taken_acts (Ap p) octets f key plain) h p x k new memories st is (quiet-taken p octets _ (Ap p) key.key (key_id key.role) (counter_of key.role f.header.octets) (packet_number f.body) plain) (holds first h st)
         (kept first h st);
   });
   refused = λ w e. absurd (cc e);

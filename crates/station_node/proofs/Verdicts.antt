@@ -1,8 +1,6 @@
 -- What comes of frames at a station, by the association that it has.
-use Rattle.std.proofs.Common.{◌∙◌, ◌+◌, ◌≡◌, ◌≢◌, inl, inr, ℕ, true, false, List, Option, Some, None, refl, ap, subst}
-use Rattle.std.specs.Prelude.{if◌then◌else◌, ◌==◌}
+use Rattle.std.proofs.Common.{◌∙◌, ◌+◌, ◌≡◌, ◌≢◌, inl, inr, ℕ, Bool, true, false, List, Option, Some, None, refl, sym, ap, subst}
 use Rattle.std.proofs.lemmas.Bool.Decides.{eqb_tells}
-use Rattle.domain_base.specs.declared.names.Akm.TheVariants.{FtPsk}
 use Rattle.domain_base.specs.declared.names.Node.{Node}
 use Rattle.domain_base.specs.declared.names.Node.TheVariants.{Ap, Sta}
 use Rattle.rsn_elements.specs.Elements.{ElementFields}
@@ -12,40 +10,88 @@ use Rattle.run_journal.specs.declared.domain.Domain.{Domain}
 use Rattle.run_journal.specs.declared.acts.Kind.{Kind}
 use Rattle.run_journal.specs.declared.acts.Kind.TheVariants as kind
 use Rattle.run_journal.specs.declared.acts.Reason.TheVariants as reason
-use Rattle.run_journal.specs.declared.acts.Outcome.{Outcome}
 use Rattle.run_journal.specs.declared.acts.Outcome.TheVariants as outcome
 use Rattle.run_journal.specs.declared.acts.Act.{Act}
 use Rattle.run_journal.specs.Questions.{attempt, session, draws}
 use Rattle.domain_rules.specs.Reading.{Management, KeyMessage}
 use Rattle.domain_rules.specs.Associating.{assoc_resp_verdict, management_verdict}
 use Rattle.domain_rules.specs.Verdict.{key_verdict}
-use Rattle.domain_rules.specs.StationKeys.{m3_keying}
+use Rattle.domain_rules.specs.StationKeys.{m1_verdict, m3_keying}
 use Rattle.domain_rules.proofs.Verdicts.{unawaited-assoc_resp, unawaited-m1, assoc_resp-in, m1-in}
 use Rattle.domain_rules.proofs.Parts.{since_part}
 use Rattle.domain_rules.specs.Asking.{by_connect, kept_counter}
 use Rattle.domain_rules.specs.TransitionKeys.{ft_resp_verdict, re_resp_verdict}
-use Rattle.domain_rules.proofs.SuiteWords.{fields_suite}
 use Rattle.supplicant.specs.declared.attempt.Attempt.{Attempt as SupplicantAttempt}
 use Rattle.supplicant.specs.declared.base.Base.{Base}
 use Rattle.supplicant.specs.Stands.{HasAttempt as HasSupplicantAttempt}
 use Rattle.supplicant.proofs.Keyings.{m3_none, nowhere_keying}
+use Rattle.ft_exchange.specs.State.{OriginatorState}
+use Rattle.ft_exchange.specs.declared.originator.Stage.{Stage}
+use Rattle.ft_exchange.specs.declared.originator.Stage.TheVariants as stage
+use Rattle.ft_exchange.specs.Stands.{HasStage, OriginatorStands}
 use Rattle.station_node.specs.declared.attempt.Attempt.{Attempt}
 use Rattle.station_node.specs.declared.attempt.Association.{Association}
-use Rattle.station_node.specs.declared.attempt.Association.TheVariants.{Requested, Accepted}
+use Rattle.station_node.specs.declared.attempt.Association.TheVariants.{Requested, Accepted, Moving}
+use Rattle.station_node.specs.declared.session.Session.{Session}
+use Rattle.station_node.specs.Responses.{response_outcome}
 use Rattle.station_node.specs.State.{State}
-use Rattle.station_node.specs.Parts.{peer_of_attempt, peer_of_session, IsElsewhere, IsNotRequested}
+use Rattle.station_node.specs.Parts.{peer_of_attempt, peer_of_session, IsElsewhere, IsNotRequested, IsNotMoving}
 use Rattle.station_node.specs.Stands.{Stands, IsRequested, HasAssociation, HasAttempt}
-use Rattle.station_node.proofs.Standing.{nobody, not_here, no_session_beside, requested_is}
+use Rattle.station_node.proofs.Standing.{nobody, not_here, no_session_beside, session_left, requested_is, moving_is}
+
+-- ---- parts of the history
+
+same_part : {c : Bool} (o : Option (List Act)) (a b : List Act) → o ≡ Some a → by_connect a ≡ c → o ≡ Some b → by_connect b ≡ c
+same_part {c = c} o a b is begun was = let one : a ≡ b = cc (is, was) in subst (λ (x : List Act). by_connect x ≡ c) one begun
+
+none_begun : (o : Option (List Act)) (b : List Act) → o ≡ None → o ≡ Some b → by_connect b ≡ true
+none_begun o b none is = absurd (cc (none, is))
+
+-- ---- where a fast transition is under way
+
+moving_stage : (d : Domain) (n p : Node) (o : OriginatorState) (x : Stage) (h part : List Act) → HasStage d n p o x h → attempt p h ≡ Some part → by_connect part ≡ false
+moving_stage d n p o stage.Asked h part u is = same_part (attempt p h) u.part part u.is u.begun is
+moving_stage d n p o (stage.Keyed t) h part u is = same_part (attempt p h) u.part part u.is u.begun is
+moving_stage d n p o stage.Done h part none is = absurd (cc (none, is))
+
+moving_begun : (d : Domain) (n p : Node) (o : OriginatorState) (h part : List Act) → OriginatorStands d n p o h → attempt p h ≡ Some part → by_connect part ≡ false
+moving_begun d n p o h part st is = moving_stage d n p o o.stage h part st.stage_is is
+
+-- nothing of an association is awaited
+abbrev IsRoamed : Node → List Act → Type 0
+IsRoamed p h = (part : List Act) → attempt p h ≡ Some part → by_connect part ≡ false
+
+response_roamed : (d : Domain) (p : Node) (h : List Act) (b : Management) (e : ElementFields) → IsRoamed p h → assoc_resp_verdict d h p b e ≡ outcome.Refused reason.Unawaited
+response_roamed d p h b e begun = by (attempt p h) refl
+  where
+    by : (o : Option (List Act)) → attempt p h ≡ o → assoc_resp_verdict d h p b e ≡ outcome.Refused reason.Unawaited
+    by None is = unawaited-assoc_resp d h p b e is
+    by (Some part) is = rw (is, begun part is) refl
+
+m1_roamed : (p : Node) (h : List Act) (k : KeyMessage) → IsRoamed p h → m1_verdict h p k ≡ outcome.Refused reason.Unawaited
+m1_roamed p h k begun = by (attempt p h) refl
+  where
+    by : (o : Option (List Act)) → attempt p h ≡ o → m1_verdict h p k ≡ outcome.Refused reason.Unawaited
+    by None is = unawaited-m1 h p k is
+    by (Some part) is = rw (is, begun part is) refl
+
+m3_roamed : (p : Node) (h : List Act) → IsRoamed p h → session p h ≡ None → m3_keying p h ≡ None
+m3_roamed p h begun silent = by (attempt p h) refl
+  where
+    by : (o : Option (List Act)) → attempt p h ≡ o → m3_keying p h ≡ None
+    by None is = nowhere_keying p h is silent
+    by (Some part) is = let whole = since_part p h part is in rw (is, begun part is, whole, begun part is) refl
 
 -- ---- an association response that is not waited for
 
-tried_response : (d : Domain) (n : Node) (a : ℕ) (z : Base) (o : Option SupplicantAttempt) (h : List Act) (b : Management) (e : ElementFields) → HasSupplicantAttempt d n (Ap a) z o h → assoc_resp_verdict d h (Ap a) b e ≡ outcome.Refused reason.Unawaited
-tried_response d n a z None h b e none = unawaited-assoc_resp d h (Ap a) b e none
-tried_response d n a z (Some x) h b e st = assoc_resp-in d h (Ap a) b e st.part true st.is st.begun st.hears
+tried_response : (d : Domain) (n : Node) (a : ℕ) (y : Base) (o : Option SupplicantAttempt) (h : List Act) (b : Management) (e : ElementFields) → HasSupplicantAttempt d n (Ap a) y o h → assoc_resp_verdict d h (Ap a) b e ≡ outcome.Refused reason.Unawaited
+tried_response d n a y None h b e none = unawaited-assoc_resp d h (Ap a) b e none
+tried_response d n a y (Some x) h b e st = assoc_resp-in d h (Ap a) b e st.part true st.is st.begun st.hears
 
 response_at : (d : Domain) (n : Node) (a : ℕ) (x : Association) (h : List Act) (b : Management) (e : ElementFields) → HasAssociation d n a x h → ((v : List ℕ) → x ≡ Requested v → ⊥) → assoc_resp_verdict d h (Ap a) b e ≡ outcome.Refused reason.Unawaited
 response_at d n a (Requested v) h b e has other = absurd (other v refl)
-response_at d n a (Accepted s) h b e has other = tried_response d n a s.base s.attempt h b e has.attempt_is
+response_at d n a (Accepted s) h b e has other = tried_response d n a s.base s.attempt h b e has.stands.attempt_is
+response_at d n a (Moving o) h b e has other = response_roamed d (Ap a) h b e (λ part is. moving_begun d n (Ap a) o h part has.stands is)
 
 not_there : (a : Attempt) (p : ℕ) → a.ap ≡ p → IsNotRequested (Some a) p → (v : List ℕ) → a.association ≡ Requested v → ⊥
 not_there a p here other v is = other v (whole a p v here is)
@@ -64,14 +110,11 @@ response_by d n (Some a) h p b e has alone other = elim (eqb_tells a.ap p) [
 pub response-unawaited : (d : Domain) (first : ℕ) (s : State) (h : List Act) (p : ℕ) (b : Management) (e : ElementFields) → Stands d first s h → IsNotRequested s.attempt p → assoc_resp_verdict d h (Ap p) b e ≡ outcome.Refused reason.Unawaited
 response-unawaited d first s h p b e st other = response_by d (Sta s.number) s.attempt h p b e st.attempt_is (st.no_attempt p) other
 
--- and one that is, with suites 2 and 6
-
-pub response-awaited : (d : Domain) (first : ℕ) (s : State) (h : List Act) (p : ℕ) (v : List ℕ) (b : Management) (e : ElementFields) → d.akm ≢ FtPsk → Stands d first s h → s.attempt ≡ Some (record { ap = p; association = Requested v })
-    → assoc_resp_verdict d h (Ap p) b e ≡ (if b.status == 0 then outcome.Accepted else outcome.Refused (reason.Status b.status))
-response-awaited d first s h p v b e suite st is =
-    let r = requested_is d first s h p v st is in
-    assoc_resp-in d h (Ap p) b e r.1.part false r.1.is r.1.begun r.1.hears
-    ∙ ap (λ (o : Outcome). if b.status == 0 then o else outcome.Refused (reason.Status b.status)) (fields_suite d.akm d (Ap p) e suite)
+-- and one that is
+pub response-awaited : (d : Domain) (first : ℕ) (s : State) (h : List Act) (p : ℕ) (v : List ℕ) (b : Management) (e : ElementFields) → Stands d first s h → s.attempt ≡ Some (record { ap = p; association = Requested v })
+    → assoc_resp_verdict d h (Ap p) b e ≡ response_outcome d p b.status e
+response-awaited d first s h p v b e st is =
+    let r = requested_is d first s h p v st is in assoc_resp-in d h (Ap p) b e r.1.part false r.1.is r.1.begun r.1.hears
 
 -- ---- an EAPOL-Key message of an access point with which there is neither attempt nor session
 
@@ -99,51 +142,68 @@ message_requested d drawn s h p v k _ r silent = refl
 pub message-requested : (d : Domain) (first : ℕ) (s : State) (h : List Act) (p : ℕ) (v : List ℕ) (k : KeyMessage) (m : Message) → Stands d first s h → s.attempt ≡ Some (record { ap = p; association = Requested v })
     → key_verdict d (first + draws h) (Sta s.number) h (Ap p) k m ≡ outcome.Refused reason.Unawaited
 message-requested d first s h p v k m st is =
-    let alone = nobody (peer_of_session s.session) p (ap peer_of_session (no_session_beside d first s h _ st is)) in
+    let alone = nobody (peer_of_session s.session) p (ap peer_of_session (no_session_beside d first s h p v st is)) in
     message_requested d (first + draws h) s.number h (Ap p) v k m (requested_is d first s h p v st is).1 (st.no_session p alone)
+
+-- and of one to which a fast transition is under way
+message_roamed : (d : Domain) (drawn s : ℕ) (h : List Act) (p : Node) (k : KeyMessage) (m : Message) → IsRoamed p h → session p h ≡ None → key_verdict d drawn (Sta s) h p k m ≡ outcome.Refused reason.Unawaited
+message_roamed d drawn s h p k M1 begun silent = m1_roamed p h k begun
+message_roamed d drawn s h p k M3 begun silent = m3_none d p h k (m3_roamed p h begun silent)
+message_roamed d drawn s h p k G1 begun silent = rw silent refl
+message_roamed d drawn s h p k _ begun silent = refl
+
+pub message-roamed : (d : Domain) (first : ℕ) (s : State) (h : List Act) (p : ℕ) (o : OriginatorState) (k : KeyMessage) (m : Message) → Stands d first s h → s.attempt ≡ Some (record { ap = p; association = Moving o })
+    → key_verdict d (first + draws h) (Sta s.number) h (Ap p) k m ≡ outcome.Refused reason.Unawaited
+message-roamed d first s h p o k m st is =
+    let left = session_left d first s h p o st is in
+    message_roamed d (first + draws h) s.number h (Ap p) k m (λ part there. moving_begun d (Sta s.number) (Ap p) o h part (moving_is d first s h p o st is).1.stands there)
+    (st.no_session p (λ e. left.2 (same_peer left.0 p (sym (ap peer_of_session left.1) ∙ e))))
+  where
+    same_peer : (z : Session) (p : ℕ) → peer_of_session (Some z) ≡ Some (Ap p) → z.ap ≡ p
+    same_peer z p is = cc
 
 -- ---- management frames of other kinds
 
+pub management-other : (d : Domain) (first : ℕ) (s : State) (h : List Act) (p : ℕ) (k : Kind) (b : Management) (e : ElementFields) → k ≢ kind.AssocResp → k ≢ kind.FtResp → k ≢ kind.ReResp
+    → management_verdict d (first + draws h) (Sta s.number) h (Ap p) k b e ≡ outcome.Refused reason.Unawaited
+management-other d first s h p kind.AssocResp b e one two three = absurd (one refl)
+management-other d first s h p kind.FtResp b e one two three = absurd (two refl)
+management-other d first s h p kind.ReResp b e one two three = absurd (three refl)
+management-other d first s h p _ b e one two three = refl
+
+-- ---- frames of a fast transition where none is under way
+
+tried_begun : (d : Domain) (n : Node) (a : ℕ) (y : Base) (o : Option SupplicantAttempt) (h part : List Act) → HasSupplicantAttempt d n (Ap a) y o h → attempt (Ap a) h ≡ Some part → by_connect part ≡ true
+tried_begun d n a y None h part none is = absurd (cc (none, is))
+tried_begun d n a y (Some x) h part st is = same_part (attempt (Ap a) h) st.part part st.is st.begun is
+
 -- each attempt began by association
-same_begun : (o : Option (List Act)) (a b : List Act) → o ≡ Some a → by_connect a ≡ true → o ≡ Some b → by_connect b ≡ true
-same_begun o a b is begun was = let one : a ≡ b = cc (is, was) in subst (λ (x : List Act). by_connect x ≡ true) one begun
+association_begun : (d : Domain) (n : Node) (a : ℕ) (x : Association) (h part : List Act) → HasAssociation d n a x h → ((o : OriginatorState) → x ≡ Moving o → ⊥) → attempt (Ap a) h ≡ Some part → by_connect part ≡ true
+association_begun d n a (Requested v) h part has other is = same_part (attempt (Ap a) h) has.part part has.is has.begun is
+association_begun d n a (Accepted s) h part has other is = tried_begun d n a s.base s.attempt h part has.stands.attempt_is is
+association_begun d n a (Moving o) h part has other is = absurd (other o refl)
 
-none_begun : (o : Option (List Act)) (b : List Act) → o ≡ None → o ≡ Some b → by_connect b ≡ true
-none_begun o b none is = absurd (cc (none, is))
+not_moving : (a : Attempt) (p : ℕ) → a.ap ≡ p → IsNotMoving (Some a) p → (o : OriginatorState) → a.association ≡ Moving o → ⊥
+not_moving a p here other o is = other o (ap (λ (q : ℕ). Some (record { ap = q; association = a.association })) here ∙ ap (λ (x : Association). Some (record { ap = p; association = x })) is)
 
-tried_begun : (d : Domain) (n : Node) (a : ℕ) (z : Base) (o : Option SupplicantAttempt) (h part : List Act) → HasSupplicantAttempt d n (Ap a) z o h → attempt (Ap a) h ≡ Some part → by_connect part ≡ true
-tried_begun d n a z None h part none is = none_begun (attempt (Ap a) h) part none is
-tried_begun d n a z (Some x) h part st is = same_begun (attempt (Ap a) h) st.part part st.is st.begun is
-
-association_begun : (d : Domain) (n : Node) (a : ℕ) (x : Association) (h part : List Act) → HasAssociation d n a x h → attempt (Ap a) h ≡ Some part → by_connect part ≡ true
-association_begun d n a (Requested v) h part has is = same_begun (attempt (Ap a) h) has.part part has.is has.begun is
-association_begun d n a (Accepted s) h part has is = tried_begun d n a s.base s.attempt h part has.attempt_is is
-
-attempt_begun : (d : Domain) (n : Node) (o : Option Attempt) (h : List Act) (p : ℕ) (part : List Act) → HasAttempt d n o h → (IsElsewhere (peer_of_attempt o) p → attempt (Ap p) h ≡ None) → attempt (Ap p) h ≡ Some part → by_connect part ≡ true
-attempt_begun d n None h p part has alone is = none_begun (attempt (Ap p) h) part (alone (nobody None p refl)) is
-attempt_begun d n (Some a) h p part has alone is = elim (eqb_tells a.ap p) [
-  | inl here ↦ association_begun d n p a.association h part (subst (λ (x : ℕ). HasAssociation d n x a.association h) here.1 has.1) is
+attempt_begun : (d : Domain) (n : Node) (o : Option Attempt) (h : List Act) (p : ℕ) (part : List Act) → HasAttempt d n o h → (IsElsewhere (peer_of_attempt o) p → attempt (Ap p) h ≡ None) → IsNotMoving o p → attempt (Ap p) h ≡ Some part → by_connect part ≡ true
+attempt_begun d n None h p part has alone other is = none_begun (attempt (Ap p) h) part (alone (nobody None p refl)) is
+attempt_begun d n (Some a) h p part has alone other is = elim (eqb_tells a.ap p) [
+  | inl here ↦ association_begun d n p a.association h part (subst (λ (x : ℕ). HasAssociation d n x a.association h) here.1 has.1) (not_moving a p here.1 other) is
   | inr there ↦ none_begun (attempt (Ap p) h) part (alone (not_here a.ap p there.1)) is
 ]
 
 -- so nothing of a fast transition is awaited
-ft_resp_unawaited : (d : Domain) (n : Node) (h : List Act) (p : Node) (b : Management) (e : ElementFields) → ((part : List Act) → attempt p h ≡ Some part → by_connect part ≡ true) → ft_resp_verdict d n h p b e ≡ outcome.Refused reason.Unawaited
-ft_resp_unawaited d n h p b e begun = by (attempt p h) refl
+pub auth-unawaited : (d : Domain) (first : ℕ) (s : State) (h : List Act) (p : ℕ) (b : Management) (e : ElementFields) → Stands d first s h → IsNotMoving s.attempt p → ft_resp_verdict d (Sta s.number) h (Ap p) b e ≡ outcome.Refused reason.Unawaited
+auth-unawaited d first s h p b e st other = by (attempt (Ap p) h) refl
   where
-    by : (o : Option (List Act)) → attempt p h ≡ o → ft_resp_verdict d n h p b e ≡ outcome.Refused reason.Unawaited
+    by : (o : Option (List Act)) → attempt (Ap p) h ≡ o → ft_resp_verdict d (Sta s.number) h (Ap p) b e ≡ outcome.Refused reason.Unawaited
     by None is = rw is refl
-    by (Some part) is = rw (is, begun part is) refl
+    by (Some part) is = let begun = attempt_begun d (Sta s.number) s.attempt h p part st.attempt_is (st.no_attempt p) other is in rw (is, begun) refl
 
-re_resp_unawaited : (d : Domain) (n : Node) (h : List Act) (p : Node) (b : Management) (e : ElementFields) → ((part : List Act) → attempt p h ≡ Some part → by_connect part ≡ true) → re_resp_verdict d n h p b e ≡ outcome.Refused reason.Unawaited
-re_resp_unawaited d n h p b e begun = by (attempt p h) refl
+pub reassoc-unawaited : (d : Domain) (first : ℕ) (s : State) (h : List Act) (p : ℕ) (b : Management) (e : ElementFields) → Stands d first s h → IsNotMoving s.attempt p → re_resp_verdict d (Sta s.number) h (Ap p) b e ≡ outcome.Refused reason.Unawaited
+reassoc-unawaited d first s h p b e st other = by (attempt (Ap p) h) refl
   where
-    by : (o : Option (List Act)) → attempt p h ≡ o → re_resp_verdict d n h p b e ≡ outcome.Refused reason.Unawaited
+    by : (o : Option (List Act)) → attempt (Ap p) h ≡ o → re_resp_verdict d (Sta s.number) h (Ap p) b e ≡ outcome.Refused reason.Unawaited
     by None is = rw is refl
-    by (Some part) is = rw (is, begun part is) refl
-
-pub management-other : (d : Domain) (first : ℕ) (s : State) (h : List Act) (p : ℕ) (k : Kind) (b : Management) (e : ElementFields) → Stands d first s h → k ≢ kind.AssocResp
-    → management_verdict d (first + draws h) (Sta s.number) h (Ap p) k b e ≡ outcome.Refused reason.Unawaited
-management-other d first s h p kind.AssocResp b e st other = absurd (other refl)
-management-other d first s h p kind.FtResp b e st other = ft_resp_unawaited d (Sta s.number) h (Ap p) b e (λ part is. attempt_begun d (Sta s.number) s.attempt h p part st.attempt_is (st.no_attempt p) is)
-management-other d first s h p kind.ReResp b e st other = re_resp_unawaited d (Sta s.number) h (Ap p) b e (λ part is. attempt_begun d (Sta s.number) s.attempt h p part st.attempt_is (st.no_attempt p) is)
-management-other d first s h p _ b e st other = refl
+    by (Some part) is = let begun = attempt_begun d (Sta s.number) s.attempt h p part st.attempt_is (st.no_attempt p) other is in rw (is, begun) refl

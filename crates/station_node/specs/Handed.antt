@@ -23,12 +23,10 @@ pub record Handing : Type 0 where
 abbrev pub handing : Both → Both → List Act → List Act → Handing
 handing old new waited waits = record { old = old; new = new; waited = waited; waits = waits }
 
--- of p at node n: the acts are those of the supplicant's reply, and an installed key makes an attempt a
--- session
+-- the acts are those of the supplicant's reply, and an installed key makes an attempt a session
 pub record IsHanded (d : Domain) (n p : Node) (m : Heard) (t : Handing) (came : Came) : Type 0 where
   pub reply : Reply
-  pub acts : t.waits ≡ t.waited
-      ++ reply_acts (pair_at d t.new.part.base.r0kh_id n p) false
+  pub acts : t.waits ≡ t.waited ++ reply_acts (pair_at d t.new.part.base.r0kh_id n p) false
       (taken_as m.octets.now (message_fields m.message) came.outcome) reply
   pub taken : IsTakenBySupplicant m.message.message m.message.frame t.old t.new came.outcome reply
   pub installed : came.installed ≡ option_map (λ (y : Keyed). y.ptk.tk) reply.installed

@@ -4,3 +4,6 @@ pub mod Stands
 pub mod Steps
 pub mod GroupData
 pub mod Handed
+pub mod Moved
+pub mod Responses
+pub mod Transferred

@@ -3,26 +3,30 @@ use Rattle.std.specs.Prelude.{ℕ, ◌<◌, List, [], length, Option, Some, None
 use Rattle.group_key.specs.Keys.{Kept}
 use Rattle.station_node.specs.declared.attempt.Attempt.{Attempt}
 use Rattle.station_node.specs.declared.attempt.Association.{Association}
-use Rattle.station_node.specs.declared.attempt.Association.TheVariants.{Requested, Accepted}
+use Rattle.station_node.specs.declared.attempt.Association.TheVariants.{Requested, Accepted, Moving}
 use Rattle.station_node.specs.declared.session.Session.{Session}
 
--- its place among the stations, the number of its next draw, its attempt, its session, and the
--- group keys that it keeps by the numbers of the access points, as far as they came
+-- its place among the stations, the number of its next draw, its attempt, its session, the group keys
+-- that it keeps by the numbers of the access points, as far as they came, and with suite 4 the R0KH-ID
+-- of its last four-way handshake
 pub record State : Type 0 where
   pub number : ℕ
   pub drawn : ℕ
   pub attempt : Option Attempt
   pub session : Option Session
   pub memories : List (List Kept)
+  pub r0kh_id : List ℕ
 
 -- the group keys kept of an access point
 abbrev pub memory_at : List (List Kept) → ℕ → List Kept
 memory_at memories p = slice_index_or memories p []
 
--- an access point that accepted an association has a place among the memories
+-- an access point that accepted an association, or to which there is a fast transition, has a place
+-- among the memories
 abbrev pub HasPlace : ℕ → Association → List (List Kept) → Type 0
 HasPlace ap (Requested snonce) memories = Unit {0}
 HasPlace ap (Accepted s) memories = ap < length memories
+HasPlace ap (Moving o) memories = ap < length memories
 
 abbrev pub HasPlaceTried : Option Attempt → List (List Kept) → Type 0
 HasPlaceTried None memories = Unit {0}

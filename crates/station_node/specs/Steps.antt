@@ -1,19 +1,16 @@
 -- What a station does on one event, and what its functions are given (this project's choice).
-use Rattle.std.specs.Prelude.{◌+◌, ◌≡◌, ℕ, List, Some, Result, MatchResult}
+use Rattle.std.specs.Prelude.{◌≡◌, ℕ, List, Some, Result, MatchResult}
 use Rattle.domain_base.specs.declared.names.Node.TheVariants.{Ap, Sta}
-use Rattle.rsn_elements.specs.Elements.{ElementFields}
 use Rattle.run_journal.specs.declared.domain.Domain.{Domain}
 use Rattle.run_journal.specs.declared.acts.Reason.{Reason}
 use Rattle.run_journal.specs.declared.acts.Outcome.{Outcome}
 use Rattle.run_journal.specs.declared.acts.Outcome.TheVariants.{Refused}
 use Rattle.run_journal.specs.declared.acts.Act.{Act}
-use Rattle.run_journal.specs.Questions.{draws}
 use Rattle.domain_rules.specs.Here.{here}
-use Rattle.domain_rules.specs.Reading.{Management, Managed, Reads}
+use Rattle.domain_rules.specs.Reading.{Reads}
 use Rattle.domain_rules.specs.Rows.{NodeEvent}
 use Rattle.domain_rules.specs.Closing.{sender}
 use Rattle.domain_rules.specs.Verdict.{first_verdict}
-use Rattle.domain_rules.specs.Associating.{management_verdict}
 use Rattle.domain_rules.specs.DataVerdict.{data_verdict}
 use Rattle.frame_intake.specs.SealedFields.{SealedFields, sealed_reading}
 use Rattle.node_base.specs.Events.{Steps, seen}
@@ -45,14 +42,6 @@ IsLeft t = (t.new ≡ t.old) × (t.waits ≡ t.waited)
 -- it takes the event, or does nothing where there is no memory
 abbrev pub Takes : {E : Type 0} → Domain → NodeEvent → Turn → Result Outcome E → Type 0
 Takes d event t result = MatchResult result (IsTaken d event t) (λ e. IsLeft t)
-
--- the octets are a management frame for the station from that access point
-pub record IsManagementFrom (d : Domain) (sta ap : ℕ) (octets : List ℕ) (b : Management) : Type 0 where
-  pub e : ElementFields
-  pub reads : Reads d.akm octets (Managed b e)
-  pub from : sender d (Sta sta) (Managed b e) ≡ Some (Ap ap)
-  pub verdict_is : (first : ℕ) (h : List Act) → first_verdict d first (Sta sta) h (Managed b e)
-      ≡ management_verdict d (first + draws h) (Sta sta) h (Ap ap) b.kind b e
 
 -- the octets are that protected data for the station from that access point
 pub record IsDataFrom (d : Domain) (sta ap : ℕ) (octets : List ℕ) (f : SealedFields) : Type 0 where

@@ -1,13 +1,18 @@
 //! The attempt of a station.
 
-ghost use Rattle.std.specs.Prelude.{◌≡◌, ◌<◌, ◌≤◌, ◌+◌, ◌++◌, ℕ, Some, None, MatchOption};
+ghost use Rattle.std.specs.Prelude.{◌≡◌, ◌<◌, ◌≤◌, ◌+◌, ◌++◌, ◌∷◌, [], ℕ, Some, None, MatchOption};
+ghost use Rattle.domain_base.specs.declared.names.Node.TheVariants.{Ap};
+ghost use Rattle.run_journal.specs.declared.acts.Act.TheVariants.{Opened, Drew};
+ghost use Rattle.run_journal.specs.declared.acts.Drawn.TheVariants.{Nonce};
+ghost use Rattle.run_journal.specs.declared.acts.Start.TheVariants.{Roam};
 ghost use Rattle.domain_rules.specs.Closing.{close_pending};
 
 use crate::session::Session;
 use act_memory::Outbox;
 use data_frames::DataKey;
 use domain_base::Node;
-use run_journal::{Act, Part};
+use ft_exchange::Originator;
+use run_journal::{Act, Drawn, Part, Start};
 use supplicant::Supplicant;
 
 /// How far the association of an attempt is.
@@ -17,6 +22,8 @@ pub enum Association {
     Requested([u8; 32]),
     /// It was accepted, and the four-way handshake goes on.
     Accepted(Supplicant),
+    /// A fast transition goes on, from the session with another access point.
+    Moving(Originator),
 }
 
 /// An attempt of a station.
@@ -61,6 +68,22 @@ impl Attempt {
                 part: Part::Attempt,
             });
         }
+    }
+
+    /// The beginning of a fast transition to that access point, with that nonce.
+    pub fn roam(ap: u16, snonce: [u8; 32], out: &mut Outbox)
+        requires { 2 ≤ out.old.spare }
+        ensures acts { out.new.acts ≡ out.old.acts
+            ++ Opened (Ap ap) Roam ∷ Drew (Nonce snonce) ∷ [] }
+        ensures spare { out.old.spare ≤ out.new.spare + 2 }
+    {
+        out.add(Act::Opened {
+            peer: Node::Ap(ap),
+            start: Start::Roam,
+        });
+        out.add(Act::Drew {
+            value: Drawn::Nonce(snonce),
+        });
     }
 
     /// The attempt, in which M3 was accepted, becomes the session under that key.

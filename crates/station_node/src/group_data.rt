@@ -16,7 +16,8 @@ use group_key::GroupMemory;
 use run_journal::{Kind, Outcome, Reason};
 use std::alloc::Global;
 
-/// Takes protected data for a group from that access point, under the later of the keys with its key id that are kept of it.
+/// Takes protected data for a group from that access point, under the later of the keys with its
+/// key id that are kept of it.
 pub fn take_group(
     alloc: Global,
     ap: u16,

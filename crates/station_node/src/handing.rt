@@ -1,6 +1,6 @@
 //! A message handed to a supplicant.
 
-ghost use Rattle.std.specs.Prelude.{◌≡◌, ◌<◌, length, option_map, IfOk, OnErr};
+ghost use Rattle.std.specs.Prelude.{◌≡◌, ◌≤◌, length, option_map, IfOk, OnErr};
 ghost use Rattle.run_journal.specs.declared.reply.Keyed.{Keyed as AnyKeyed};
 ghost use Rattle.domain_base.specs.declared.names.Node.TheVariants.{Ap};
 ghost use Rattle.eapol_key.specs.Fields.{IsKeyFrame};
@@ -10,7 +10,7 @@ ghost use Rattle.supplicant.specs.State.{both};
 ghost use Rattle.station_node.specs.Handed.{IsHanded, handing};
 
 use act_memory::{Between, Outbox, Room};
-use domain_base::{NoMemory, Node};
+use domain_base::{NoMemory, Node, ShortOctets};
 use frame_intake::Heard;
 use group_key::GroupMemory;
 use node_base::Here;
@@ -66,4 +66,15 @@ fn installed_key(reply: &Reply) -> Option<[u8; 16]>
     };
     let tk = key.ptk.tk;
     Some(tk)
+}
+
+/// The R0KH-ID of a supplicant's association, which has one with suite 4.
+pub fn holder_of(supplicant: &Supplicant) -> ShortOctets<48>
+    ensures { length supplicant.now.base.r0kh_id ≤ 48 → result ≡ supplicant.now.base.r0kh_id }
+{
+    let id = supplicant.r0kh_id();
+    if id.len() > 48 {
+        return ShortOctets::of(&[]);
+    }
+    ShortOctets::of(id)
 }

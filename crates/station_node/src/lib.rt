@@ -5,8 +5,12 @@ mod attempt;
 mod group_data;
 mod handing;
 mod laws;
+mod managed;
 mod memories;
+mod moving;
 mod refusing;
+mod responses;
+mod roaming;
 mod session;
 mod station;
 

@@ -1,13 +1,15 @@
 //! The session of a station.
 
-ghost use Rattle.std.specs.Prelude.{◌≡◌, ◌<◌, ◌≤◌, ◌+◌, ◌++◌};
+ghost use Rattle.std.specs.Prelude.{◌≡◌, ◌<◌, ◌≤◌, ◌+◌, ◌++◌, length};
+ghost use Rattle.domain_rules.specs.Network.{InForm};
 ghost use Rattle.domain_rules.specs.Closing.{close_associated};
 
 use act_memory::Outbox;
 use data_frames::DataKey;
 use domain_base::Node;
-use run_journal::{Act, Part};
-use supplicant::Supplicant;
+use key_hierarchy::Ptk;
+use run_journal::{Act, Domain, Part};
+use supplicant::{StaStart, Supplicant};
 
 /// A session of a station.
 #[derive(Drop)]
@@ -21,15 +23,37 @@ pub struct Session {
 }
 
 impl Session {
-    ghost use Rattle.data_frames.specs.Holding.{key_after};
+    ghost use Rattle.data_frames.specs.Holding.{fresh_key};
     ghost use Rattle.station_node.specs.Parts.{peer_of_session};
+    ghost use Rattle.station_node.specs.Transferred.{IsTransferredTo};
 
-    /// A key that was installed takes the place of the one before.
-    pub fn take_key(key: &mut DataKey, installed: Option<[u8; 16]>)
-        ensures { key.new ≡ key_after key.old installed }
+    /// The session that a fast transition made, of that station with that access point, under that
+    /// key.
+    pub fn transferred(domain: &Domain, sta: u16, ap: u16, ptk: &Ptk) -> Self
+        requires form { InForm domain.now }
+        requires sta { sta < length domain.now.stas }
+        requires ap { ap < length domain.now.aps }
+        ensures ap { result.ap ≡ ap }
+        ensures begun { IsTransferredTo domain.now sta ap ptk.now result.supplicant }
+        ensures key { result.key ≡ fresh_key ptk.now.tk }
     {
-        if let Some(tk) = installed {
-            *key = DataKey::pairwise(&tk);
+        let start = StaStart::Ft { ptk };
+        let supplicant = Supplicant::begin(domain, sta, ap, start);
+        let key = DataKey::pairwise(&ptk.tk);
+        Session {
+            ap,
+            supplicant,
+            key,
+        }
+    }
+
+    /// The access point of the session, where there is one.
+    pub fn peer(session: &Option<Session>) -> Option<Node>
+        ensures { result ≡ peer_of_session session.now }
+    {
+        match session {
+            Some(session) => Some(Node::Ap(session.ap)),
+            None => None,
         }
     }
 

@@ -1,45 +1,54 @@
 //! A station's state, and what each event does to it.
 
-ghost use Rattle.std.specs.Prelude.{true, ◌≡◌, ◌≢◌, ◌<◌, ◌≤◌, ◌+◌, ◌++◌, ℕ, List, [], length, IfOk, OnErr};
+ghost use Rattle.std.specs.Prelude.{Ok, true, ◌≡◌, ◌<◌, ◌≤◌, ◌+◌, ◌++◌, ℕ, List, [], length, IfOk, OnErr};
 ghost use Rattle.domain_base.specs.declared.names.Akm.{Akm as AnyAkm};
 ghost use Rattle.domain_base.specs.declared.names.Node.TheVariants.{Ap, Sta};
 ghost use Rattle.domain_base.specs.declared.names.Peer.TheVariants.{One};
 ghost use Rattle.eapol_key.specs.Fields.{IsKeyFrame};
 ghost use Rattle.run_journal.specs.declared.acts.Act.{Act as AnyAct};
-ghost use Rattle.run_journal.specs.declared.acts.Kind.TheVariants.{AssocResp};
+ghost use Rattle.run_journal.specs.declared.acts.Kind.TheVariants.{AssocResp, FtResp, ReResp};
+ghost use Rattle.rsn_elements.specs.Elements.{HasRaw};
+ghost use Rattle.rsn_elements.specs.Fields.{element_fields};
+ghost use Rattle.ft_exchange.specs.Comes.{IsManagementFrom};
 ghost use Rattle.run_journal.specs.declared.acts.Reason.{Reason as AnyReason};
 ghost use Rattle.run_journal.specs.declared.acts.Outcome.TheVariants.{Refused};
 ghost use Rattle.run_journal.specs.declared.domain.Domain.{Domain as AnyDomain};
 ghost use Rattle.domain_rules.specs.Here.{here};
 ghost use Rattle.domain_rules.specs.Network.{InForm, is_ap, draw_end};
-ghost use Rattle.domain_rules.specs.Reading.{Management as ManagementFields};
 ghost use Rattle.domain_rules.specs.Replies.{IsMessageFrom};
 ghost use Rattle.domain_rules.specs.Closing.{close_associated, close_pending};
-ghost use Rattle.domain_rules.specs.Rows.{Begin, Leave, Send, Take};
+ghost use Rattle.domain_rules.specs.Rows.{Begin, Roam, Leave, Send, Take};
 ghost use Rattle.frame_intake.specs.SealedFields.{IsSealedData};
 ghost use Rattle.frame_intake.specs.Views.{management_fields, message_fields, sealed_fields};
 ghost use Rattle.node_base.specs.Events.{event_of, IsEventAt, Steps, seen};
 ghost use Rattle.node_base.specs.Peers.{IsReceiverOf, most_payload};
-ghost use Rattle.station_node.specs.Parts.{peer_of_attempt, peer_of_session, has_neither, IsElsewhere};
+ghost use Rattle.station_node.specs.Parts.{peer_of_attempt, peer_of_session, has_neither, roams_from};
+ghost use Rattle.station_node.specs.Parts.{IsElsewhere};
 ghost use Rattle.station_node.specs.Stands.{Stands};
-ghost use Rattle.station_node.specs.Steps.{Takes, turn, IsManagementFrom, IsDataFrom};
+ghost use Rattle.station_node.specs.Steps.{Takes, turn, IsDataFrom};
 
 use crate::attempt::{Association, Attempt};
 use crate::group_data::take_group;
-use crate::handing::hand;
+use crate::handing::{hand, holder_of};
+use crate::managed::Managed;
 use crate::memories::make_place;
+use crate::moving::{Way, answer, arrive};
 use crate::refusing::{refuse, refuse_message};
+use crate::responses::{response_fault, response_fte};
+use crate::roaming::{can_roam, idle, roams_from};
 use crate::session::Session;
 use act_memory::{Outbox, settle, took};
-use domain_base::{NoMemory, Node, Peer, Tid};
-use frame_intake::{Heard, Judged, Management, SealedData, is_group, judge, read};
+use domain_base::{NoMemory, Node, Peer, ShortOctets, Tid};
+use frame_intake::{Heard, Judged, SealedData, is_group, judge, read};
 use frame_making::assoc_req;
+use ft_exchange::Originator;
 use group_key::GroupMemory;
 use node_base::{DRAW_END, Here, NodeEvent, nonce};
-use run_journal::{Act, Domain, Drawn, Kind, Outcome, Reason, Start, Why};
+use run_journal::{Act, Domain, Drawn, Kind, Outcome, Reason, Reply, Start, Why};
 use std::alloc::Global;
 use std::marker::Model;
 use supplicant::{StaStart, Supplicant};
+use transition_acts::TransitionSend;
 
 /// A station of the domain.
 #[derive(Drop)]
@@ -49,6 +58,8 @@ pub struct StationNode {
     attempt: Option<Attempt>,
     session: Option<Session>,
     memories: Vec<GroupMemory>,
+    // With suite 4 the R0KH-ID of the last four-way handshake.
+    r0kh_id: ShortOctets<48>,
 }
 
 impl Model for StationNode {
@@ -62,6 +73,7 @@ impl Model for StationNode {
       attempt = s.attempt;
       session = s.session;
       memories = s.memories.items;
+      r0kh_id = s.r0kh_id;
     } };
 
     ghost invariant = { λ s. HavePlaces s.attempt s.session s.memories.items };
@@ -80,6 +92,7 @@ impl StationNode {
             attempt: None,
             session: None,
             memories: Vec::new(alloc),
+            r0kh_id: ShortOctets::of(&[]),
         }
     }
 
@@ -92,7 +105,6 @@ impl StationNode {
         out: &mut Outbox,
     ) -> Result<Outcome, NoMemory>
         requires form { InForm domain.now }
-        requires suite { domain.now.akm ≢ AnyAkm.FtPsk }
         requires listed { self.old.number < length domain.now.stas }
         requires event { IsEventAt domain.now (Sta self.old.number) (event_of event) }
         ensures number { self.new.number ≡ self.old.number }
@@ -116,7 +128,7 @@ impl StationNode {
             NodeEvent::Send(to, Some(tid), payload) => self.send(here, to, Some(tid), payload, out),
             NodeEvent::Send(to, None, payload) => self.send(here, to, None, payload, out),
             NodeEvent::Leave => self.leave(out),
-            NodeEvent::Roam(_) => unreachable!(),
+            NodeEvent::Roam(ap) => self.roam(here, ap, out),
             NodeEvent::Retry(_) => unreachable!(),
             NodeEvent::Rekey => unreachable!(),
             NodeEvent::Expire(_) => unreachable!(),
@@ -127,7 +139,6 @@ impl StationNode {
     // Takes a frame that was delivered.
     fn take(&mut self, here: Here<'_>, octets: &[u8], out: &mut Outbox) -> Result<Outcome, NoMemory>
         requires form { InForm here.domain.now }
-        requires suite { here.domain.now.akm ≢ AnyAkm.FtPsk }
         requires listed { self.old.number < length here.domain.now.stas }
         requires node { here.node ≡ Sta self.old.number }
         ensures { Takes here.entry.domain.now (Take octets.now)
@@ -138,8 +149,13 @@ impl StationNode {
             Judged::Settled(from, outcome) => {
                 settle(here.alloc, from, octets, delivered.kind(), outcome, out)
             }
-            Judged::Managed(from, frame, _) => {
-                self.take_management(here, number_of(from), octets, &frame, out)
+            Judged::Managed(from, frame, elements) => {
+                let managed = Managed {
+                    octets,
+                    frame,
+                    elements,
+                };
+                self.take_management(here, number_of(from), &managed, out)
             }
             Judged::Keyed(from, message) => {
                 self.take_message(here, number_of(from), &Heard { octets, message }, out)
@@ -160,9 +176,7 @@ impl StationNode {
             (turn self.old self.new out.old.acts out.new.acts) result }
     {
         if self.drawn >= DRAW_END {
-            out.reserve(1)?;
-            out.add(Act::Idle { why: Why::Spent });
-            return Ok(Outcome::Idle(Why::Spent));
+            return idle(Why::Spent, out);
         }
         let request = assoc_req(here, ap)?;
         out.reserve(5)?;
@@ -185,6 +199,63 @@ impl StationNode {
         Ok(Outcome::Done)
     }
 
+    // Begins a fast transition to that access point, or does nothing: without a session, where it is
+    // with that access point, or where the last draw was made.
+    fn roam(&mut self, here: Here<'_>, ap: u16, out: &mut Outbox) -> Result<Outcome, NoMemory>
+        requires form { InForm here.domain.now }
+        requires suite { here.domain.now.akm ≡ AnyAkm.FtPsk }
+        requires listed { self.old.number < length here.domain.now.stas }
+        requires node { here.node ≡ Sta self.old.number }
+        requires ap { ap < length here.domain.now.aps }
+        ensures { Takes here.entry.domain.now (Roam ap)
+            (turn self.old self.new out.old.acts out.new.acts) result }
+    {
+        match roams_from(&self.session, ap, self.drawn) {
+            Ok(current) => self.roam_from(here, ap, current, out),
+            Err(why) => idle(why, out),
+        }
+    }
+
+    // From the session with the access point `current`, which is listed, under an R0KH-ID.
+    fn roam_from(
+        &mut self,
+        here: Here<'_>,
+        ap: u16,
+        current: u16,
+        out: &mut Outbox,
+    ) -> Result<Outcome, NoMemory>
+        requires form { InForm here.domain.now }
+        requires suite { here.domain.now.akm ≡ AnyAkm.FtPsk }
+        requires listed { self.old.number < length here.domain.now.stas }
+        requires node { here.node ≡ Sta self.old.number }
+        requires ap { ap < length here.domain.now.aps }
+        requires from { roams_from self.old.session ap self.old.drawn ≡ Ok current }
+        ensures { Takes here.entry.domain.now (Roam ap)
+            (turn self.old self.new out.old.acts out.new.acts) result }
+    {
+        let r0kh_id = self.r0kh_id.as_slice();
+        if !can_roam(here.domain, current, r0kh_id) {
+            return idle(Why::NoSession, out);
+        }
+        let send = TransitionSend::take(here, Node::Ap(ap))?;
+        out.reserve(4)?;
+        make_place(&mut self.memories, ap)?;
+        let number = self.drawn;
+        let snonce = nonce(here.domain, here.node, number);
+        let mut reply = Reply::empty();
+        let (domain, sta) = (here.domain, self.number);
+        let originator = Originator::roam(domain, sta, ap, current, r0kh_id, &snonce, &mut reply);
+        Attempt::leave(&self.attempt, out);
+        Attempt::roam(ap, snonce, out);
+        send.add_sent(&reply, out);
+        self.drawn = number + 1;
+        self.attempt = Some(Attempt {
+            ap,
+            association: Association::Moving(originator),
+        });
+        Ok(Outcome::Done)
+    }
+
     // Drops the attempt and the session, or does nothing where there is neither. What is kept of
     // group keys stays.
     fn leave(&mut self, out: &mut Outbox) -> Result<Outcome, NoMemory>
@@ -203,8 +274,8 @@ impl StationNode {
         Ok(Outcome::Done)
     }
 
-    // Sends a payload under the key of the session with that access point, or does nothing where there is
-    // none.
+    // Sends a payload under the key of the session with that access point, or does nothing where
+    // there is none.
     fn send(
         &mut self,
         here: Here<'_>,
@@ -231,8 +302,8 @@ impl StationNode {
         }
     }
 
-    // Protected data of that access point: for the station alone it is under the key of the session with
-    // it, and for a group under one of the group keys that are kept of it.
+    // Protected data of that access point: for the station alone it is under the key of the session
+    // with it, and for a group under one of the group keys that are kept of it.
     fn take_data(
         &mut self,
         alloc: Global,
@@ -263,22 +334,25 @@ impl StationNode {
         &mut self,
         here: Here<'_>,
         ap: u16,
-        octets: &[u8],
-        frame: &Management<'_>,
+        managed: &Managed<'_>,
         out: &mut Outbox,
     ) -> Result<Outcome, NoMemory>
         requires form { InForm here.domain.now }
-        requires suite { here.domain.now.akm ≢ AnyAkm.FtPsk }
         requires listed { self.old.number < length here.domain.now.stas }
+        requires node { here.node ≡ Sta self.old.number }
         requires ap { ap < length here.domain.now.aps }
-        requires managed { IsManagementFrom here.domain.now self.old.number ap octets.now
-            (management_fields frame.now) }
-        ensures { Takes here.entry.domain.now (Take octets.now)
+        requires raw { HasRaw (element_fields managed.now.elements) }
+        requires managed { IsManagementFrom here.domain.now (Sta self.old.number) (Ap ap)
+            managed.now.octets.now (management_fields managed.now.frame)
+            (element_fields managed.now.elements) }
+        ensures { Takes here.entry.domain.now (Take managed.now.octets.now)
             (turn self.old self.new out.old.acts out.new.acts) result }
     {
-        match frame.kind {
-            Kind::AssocResp => self.take_response(here, ap, octets, frame.status, out),
-            kind => refuse(here.alloc, ap, octets, kind, Reason::Unawaited, out),
+        match managed.frame.kind {
+            Kind::AssocResp => self.take_response(here, ap, managed, out),
+            Kind::FtResp => self.take_auth(here, ap, managed, out),
+            Kind::ReResp => self.take_reassoc(here, ap, managed, out),
+            kind => refuse(here.alloc, ap, managed.octets, kind, Reason::Unawaited, out),
         }
     }
 
@@ -287,35 +361,37 @@ impl StationNode {
         &mut self,
         here: Here<'_>,
         ap: u16,
-        octets: &[u8],
-        status: u16,
+        managed: &Managed<'_>,
         out: &mut Outbox,
     ) -> Result<Outcome, NoMemory>
         requires form { InForm here.domain.now }
-        requires suite { here.domain.now.akm ≢ AnyAkm.FtPsk }
         requires listed { self.old.number < length here.domain.now.stas }
         requires ap { ap < length here.domain.now.aps }
-        ensures { (b : ManagementFields)
-            → IsManagementFrom here.entry.domain.now self.old.number ap octets.now b
-            → b.kind ≡ AssocResp → b.status ≡ status
-            → Takes here.entry.domain.now (Take octets.now)
+        requires raw { HasRaw (element_fields managed.now.elements) }
+        requires managed { IsManagementFrom here.domain.now (Sta self.old.number) (Ap ap)
+            managed.now.octets.now (management_fields managed.now.frame)
+            (element_fields managed.now.elements) }
+        requires kind { managed.now.frame.kind ≡ AssocResp }
+        ensures { Takes here.entry.domain.now (Take managed.now.octets.now)
             (turn self.old self.new out.old.acts out.new.acts) result }
     {
+        let (octets, elements) = (managed.octets, managed.elements);
         let kind = Kind::AssocResp;
         let Some(snonce) = Attempt::requested(&self.attempt, ap) else {
             return refuse(here.alloc, ap, octets, kind, Reason::Unawaited, out);
         };
-        if status != 0 {
-            return refuse(here.alloc, ap, octets, kind, Reason::Status(status), out);
+        if let Some(why) = response_fault(here.domain, ap, managed.frame.status, &elements) {
+            return refuse(here.alloc, ap, octets, kind, why, out);
         }
         let from = Some(Node::Ap(ap));
         let act = took(here.alloc, from, octets, kind, Outcome::Accepted, None)?;
         out.reserve(1)?;
         make_place(&mut self.memories, ap)?;
         out.add(act);
+        let fte = response_fte(here.domain.akm, &elements);
         let start = StaStart::Connect {
             snonce: &snonce,
-            fte: &[],
+            fte,
         };
         let supplicant = Supplicant::begin(here.domain, self.number, ap, start);
         self.attempt = Some(Attempt {
@@ -323,6 +399,93 @@ impl StationNode {
             association: Association::Accepted(supplicant),
         });
         Ok(Outcome::Accepted)
+    }
+
+    // An authentication response of that access point.
+    fn take_auth(
+        &mut self,
+        here: Here<'_>,
+        ap: u16,
+        managed: &Managed<'_>,
+        out: &mut Outbox,
+    ) -> Result<Outcome, NoMemory>
+        requires form { InForm here.domain.now }
+        requires listed { self.old.number < length here.domain.now.stas }
+        requires node { here.node ≡ Sta self.old.number }
+        requires ap { ap < length here.domain.now.aps }
+        requires managed { IsManagementFrom here.domain.now (Sta self.old.number) (Ap ap)
+            managed.now.octets.now (management_fields managed.now.frame)
+            (element_fields managed.now.elements) }
+        requires kind { managed.now.frame.kind ≡ FtResp }
+        ensures { Takes here.entry.domain.now (Take managed.now.octets.now)
+            (turn self.old self.new out.old.acts out.new.acts) result }
+    {
+        let (octets, kind) = (managed.octets, Kind::FtResp);
+        match &mut self.attempt {
+            Some(
+                Attempt {
+                    ap: with,
+                    association,
+                },
+            ) if *with == ap => match association {
+                Association::Moving(originator) => {
+                    let r0kh_id = self.r0kh_id.as_slice();
+                    let left = Session::peer(&self.session);
+                    let way = Way { ap, r0kh_id, left };
+                    answer(here, way, managed, originator, out)
+                }
+                _ => refuse(here.alloc, ap, octets, kind, Reason::Unawaited, out),
+            },
+            _ => refuse(here.alloc, ap, octets, kind, Reason::Unawaited, out),
+        }
+    }
+
+    // A reassociation response of that access point. The attempt becomes a session in place of the
+    // one that there is.
+    fn take_reassoc(
+        &mut self,
+        here: Here<'_>,
+        ap: u16,
+        managed: &Managed<'_>,
+        out: &mut Outbox,
+    ) -> Result<Outcome, NoMemory>
+        requires form { InForm here.domain.now }
+        requires listed { self.old.number < length here.domain.now.stas }
+        requires node { here.node ≡ Sta self.old.number }
+        requires ap { ap < length here.domain.now.aps }
+        requires raw { HasRaw (element_fields managed.now.elements) }
+        requires managed { IsManagementFrom here.domain.now (Sta self.old.number) (Ap ap)
+            managed.now.octets.now (management_fields managed.now.frame)
+            (element_fields managed.now.elements) }
+        requires kind { managed.now.frame.kind ≡ ReResp }
+        ensures { Takes here.entry.domain.now (Take managed.now.octets.now)
+            (turn self.old self.new out.old.acts out.new.acts) result }
+    {
+        let (octets, kind) = (managed.octets, Kind::ReResp);
+        match &mut self.attempt {
+            Some(
+                Attempt {
+                    ap: with,
+                    association,
+                },
+            ) if *with == ap => match association {
+                Association::Moving(originator) => {
+                    let r0kh_id = self.r0kh_id.as_slice();
+                    let left = Session::peer(&self.session);
+                    let way = Way { ap, r0kh_id, left };
+                    let kept = &mut self.memories[usize::from(ap)];
+                    let came = arrive(here, way, managed, originator, kept, out)?;
+                    if let Some(key) = came.installed {
+                        let session = Session::transferred(here.domain, self.number, ap, &key.ptk);
+                        self.attempt = None;
+                        self.session = Some(session);
+                    }
+                    Ok(came.outcome)
+                }
+                _ => refuse(here.alloc, ap, octets, kind, Reason::Unawaited, out),
+            },
+            _ => refuse(here.alloc, ap, octets, kind, Reason::Unawaited, out),
+        }
     }
 
     // An EAPOL-Key message of that access point goes to the attempt with it, else to the session.
@@ -350,10 +513,12 @@ impl StationNode {
                 },
             ) if *with == ap => match association {
                 Association::Requested(_) => refuse_message(here.alloc, ap, heard, out),
+                Association::Moving(_) => refuse_message(here.alloc, ap, heard, out),
                 Association::Accepted(supplicant) => {
                     let memory = &mut self.memories[usize::from(ap)];
                     let came = hand(here, ap, heard, supplicant, memory, out)?;
                     if let Some(tk) = came.installed {
+                        self.r0kh_id = holder_of(supplicant);
                         Attempt::finish(&mut self.attempt, &mut self.session, &tk);
                     }
                     Ok(came.outcome)
@@ -386,12 +551,11 @@ impl StationNode {
                 Session {
                     ap: with,
                     supplicant,
-                    key,
+                    ..
                 },
             ) if *with == ap => {
                 let kept = &mut self.memories[usize::from(ap)];
                 let came = hand(here, ap, heard, supplicant, kept, out)?;
-                Session::take_key(key, came.installed);
                 Ok(came.outcome)
             }
             _ => refuse_message(here.alloc, ap, heard, out),

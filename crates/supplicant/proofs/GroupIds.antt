@@ -1,6 +1,6 @@
 -- The key ids of group keys: an accepted one is other than 0.
-use Rattle.std.proofs.Common.{◌≡◌, ℕ, Bool, true, false, cond, List, [], ◌∷◌, Option, Some, None, refl, sym, ap, subst, ◌∙◌}
-use Rattle.std.specs.Prelude.{◌==◌, not, ◌&&◌, bytes_eq, max, take, length, if◌then◌else◌, Result, Ok, Err}
+use Rattle.std.proofs.Common.{◌≡◌, ℕ, Bool, true, false, cond, List, [], ◌∷◌, Option, Some, None, refl, ap, subst}
+use Rattle.std.specs.Prelude.{◌==◌, not, ◌&&◌, bytes_eq, max, take, length, if◌then◌else◌, Ok}
 use Rattle.domain_base.specs.declared.names.Akm.{Akm}
 use Rattle.rsn_elements.specs.Elements.{ElementFields}
 use Rattle.rsn_elements.specs.KeyData.{GtkKdeFields}
@@ -13,10 +13,10 @@ use Rattle.run_journal.specs.declared.acts.Outcome.TheVariants.{Accepted, Refuse
 use Rattle.run_journal.specs.Acts.{GroupKey}
 use Rattle.domain_rules.specs.Facts.{is_same}
 use Rattle.domain_rules.specs.StationKeys.{is_group_key}
-use Rattle.domain_rules.specs.StationRows.{carried_in, carried}
+use Rattle.domain_rules.specs.StationRows.{carried_in}
 use Rattle.group_key.specs.Keys.{Kept, has_key, raised, given}
 use Rattle.supplicant.specs.declared.key_data.CarriedKey.{CarriedKey}
-use Rattle.supplicant.specs.KeyData.{group_key, has_mdid_by, m3_said, wrapped_by, IsWrappedSaid}
+use Rattle.supplicant.specs.KeyData.{group_key, has_mdid_by, m3_said, IsWrappedSaid}
 use Rattle.supplicant.specs.declared.base.Base.{Base}
 use Rattle.frame_making.specs.Mobile.{Mobility}
 use Rattle.supplicant.specs.Taken.{HaveGroupIds}

@@ -1,5 +1,5 @@
 -- What acts that change nothing do to the histories that a supplicant stands for; and the parts of a history.
-use Rattle.std.proofs.Common.{◌≡◌, ℕ, ◌<◌, true, false, List, [], ◌∷◌, Option, Some, None, refl, sym, ap, subst, ◌∙◌, arith}
+use Rattle.std.proofs.Common.{◌≡◌, ℕ, ◌<◌, true, List, [], ◌∷◌, Option, Some, None, refl, sym, ap, subst, ◌∙◌, arith}
 use Rattle.std.specs.Prelude.{is_some}
 use Rattle.domain_base.specs.declared.names.Node.{Node}
 use Rattle.eapol_key.specs.declared.messages.Message.TheVariants.{M1, M3, G1}

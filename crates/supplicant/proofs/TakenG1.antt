@@ -1,5 +1,5 @@
 -- Each way in which a supplicant takes G1.
-use Rattle.std.proofs.Common.{◌≡◌, ℕ, ◌+◌, ◌<◌, List, [], ◌∷◌, Option, Some, None, refl, sym, ap, subst, ◌∙◌, arith, inr}
+use Rattle.std.proofs.Common.{◌≡◌, ℕ, ◌+◌, List, [], ◌∷◌, Option, Some, None, refl, sym, ap, subst, ◌∙◌, arith, inr}
 use Rattle.std.specs.Prelude.{nat_lt, ◌++◌, map, Result, Ok, Err}
 use Rattle.domain_base.specs.declared.names.Akm.{Akm}
 use Rattle.domain_base.specs.declared.names.Akm.TheVariants.{Psk, PskSha256, FtPsk}
@@ -51,7 +51,7 @@ use Rattle.supplicant.specs.State.{State, having, both}
 use Rattle.supplicant.specs.declared.base.Base.{Base}
 use Rattle.supplicant.specs.declared.session.Session.TheVariants.{Connect, Ft}
 use Rattle.supplicant.specs.Held.{ptk_of, kept_of, counted}
-use Rattle.supplicant.specs.Stands.{SupplicantStands, HasAttempt, HasSession, Holds, IsHeld, IsTransferred}
+use Rattle.supplicant.specs.Stands.{SupplicantStands, HasAttempt, HasSession, Holds}
 use Rattle.supplicant.specs.KeyData.{packet_number_of, group_key, news_of, wrapped_by}
 use Rattle.domain_rules.specs.StationRows.{carried}
 use Rattle.rsn_elements.specs.Elements.{ElementFields}

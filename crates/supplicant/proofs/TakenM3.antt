@@ -31,7 +31,7 @@ use Rattle.domain_rules.specs.Network.{mac, peer_of, root_at}
 use Rattle.domain_rules.specs.Frames.{sent_m4, frame_seal}
 use Rattle.domain_rules.specs.GroupKeys.{memory, give, give_by, find_key}
 use Rattle.domain_rules.specs.Reading.{KeyMessage, Keyed as KeyedReading}
-use Rattle.domain_rules.specs.Replies.{key_by, inputs_by, IsMessageFrom}
+use Rattle.domain_rules.specs.Replies.{key_by, IsMessageFrom}
 use Rattle.domain_rules.specs.Facts.{Facts, is_same}
 use Rattle.domain_rules.specs.StationKeys.{Keying, KnowsM3, m3_keying, m3_wrapped, is_group_key}
 use Rattle.domain_rules.specs.FastTransition.{r1_name}
@@ -51,7 +51,7 @@ use Rattle.supplicant.specs.declared.attempt.Attempt.{Attempt}
 use Rattle.supplicant.specs.declared.session.Session.{Session}
 use Rattle.supplicant.specs.declared.key_data.CarriedKey.{CarriedKey}
 use Rattle.supplicant.specs.State.{State, having, both}
-use Rattle.supplicant.specs.Stands.{SupplicantStands, HasAttempt, HasSession, IsUnderWay, IsHeld, Holds, IsBased, Responds}
+use Rattle.supplicant.specs.Stands.{SupplicantStands, HasAttempt, HasSession, IsUnderWay, IsHeld, Responds}
 use Rattle.supplicant.specs.Bases.{fte_in}
 use Rattle.supplicant.specs.declared.base.Base.{Base}
 use Rattle.supplicant.specs.declared.session.Session.TheVariants.{Connect, Ft}
@@ -329,6 +329,9 @@ stands_finished d sta a s old octets k y c h st is has from =
 own_key : (x : Session) (o : Option Keyed) (y : Keyed) (counter : ℕ) → x ≡ Connect y counter → o ≡ key_in x → o ≡ Some y
 own_key x o y counter is same = same ∙ ap key_in is
 
+there : (p : Node) (h part : List Act) → attempt p h ≡ Some part → attempt p h ≡ None → ⊥
+there p h part is none = cc
+
 pub m3_finished : (f : KeyFrame) (s : State) (old : Attempt) (had has : List Kept) (x : Session) (r : Reply) → s.attempt ≡ Some old → old.key ≡ key_in x → Finishes s.ends s.base f had has x r → IsWhole r
     → IsTaken M3 f (both s had) (both (having None (Some x) s) has) Accepted r
 m3_finished f s old had has x r is key done whole = record {
@@ -346,7 +349,7 @@ m3_finished f s old had has x r is key done whole = record {
       let keying : IsKeying d (Sta sta) (Ap a) b h y None = subst (λ (o : Option Keyed). IsKeyingAt d (Sta sta) (Ap a) b h o None) has_y (attempt_keying d (Sta sta) (Ap a) b s.attempt old h is st.attempt_is) in
       let acts : List Act = finishing_acts d (Sta sta) (Ap a) octets seal der (give groups.Gtk (Ap a) (mac d (Ap a)) (group_key c) h) k.fields.counter in
       steps_by d first (Sta sta) (Ap a) octets k (both (having None (Some x) s) has) Accepted r h acts
-      (installs y g (sent_m4 d (Sta sta) (Ap a) der f.counter ∷ [])) (done.tells d (Sta sta) (Ap a) der st.ends refl) (refl, ap key_in done.is)
+      (installs y g (sent_m4 d (Sta sta) (Ap a) der f.counter ∷ [])) (done.tells d (Sta sta) (Ap a) der st.ends refl) (there (Ap a) h (subst (λ (o : Option Attempt). HasAttempt d (Sta sta) (Ap a) b o h) is st.attempt_is).part (subst (λ (o : Option Attempt). HasAttempt d (Sta sta) (Ap a) b o h) is st.attempt_is).is, refl, ap key_in done.is)
       (finishing d (Sta sta) (Ap a) octets k seal der (news_act d (Ap a) g) (give groups.Gtk (Ap a) (mac d (Ap a)) (group_key c) h) f.counter three (group_act d (Ap a) c had g h remembers refl) counter_is)
       (adds_finished d first sta (Ap a) b octets k h y c from three keying v)
       (subst (λ (z : Session). SupplicantStands d (Sta sta) (Ap a) (having None (Some z) s) (add acts h)) made (stands_finished d sta a s old octets k y c h st is has_y from))

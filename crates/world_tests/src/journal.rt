@@ -1,6 +1,7 @@
 //! Hand-made journals, and which premises of safety hold of them.
 
-use domain_base::{Akm, Mac, Node, Octets, Peer};
+use crate::world::octets;
+use domain_base::{Akm, Mac, Node, Peer};
 use key_hierarchy::{BoxedInputs, Inputs, Ptk, SharedInputs};
 use run_journal::{Act, BoxedSeal, Drawn, Entry, Journal, Kind, Outcome, Premises, Seal};
 use std::alloc::Global;
@@ -13,7 +14,6 @@ const A2: Node = Node::Ap(1);
 const S1: Node = Node::Sta(0);
 
 // What an entry does. An octet stands for a whole value made of it.
-#[derive(Clone, Copy)]
 enum Does {
     Nonce(u8),
     Gtk(u8),
@@ -62,10 +62,6 @@ const FORGED: Premises = Premises {
     no_collision: true,
     unforged: false,
 };
-
-fn octets(rt: &impl Abort, alloc: Global, of: &[u8]) -> Octets {
-    Octets(Vec::from_slice(alloc, of).expect(rt, "memory"))
-}
 
 fn inputs(rt: &impl Abort, alloc: Global, akm: Akm, of: [u8; 4]) -> SharedInputs {
     let [aa, spa, anonce, snonce] = of;
@@ -126,8 +122,8 @@ fn took(rt: &impl Abort, alloc: Global, seal: Option<BoxedSeal>) -> Act {
     }
 }
 
-fn act(rt: &impl Abort, alloc: Global, does: Does) -> Act {
-    match does {
+fn act(rt: &impl Abort, alloc: Global, does: &Does) -> Act {
+    match *does {
         Nonce(octet) => drew(Drawn::Nonce([octet; 32])),
         Gtk(octet) => drew(Drawn::Gtk([octet; 16])),
         Derives(akm, of, kck, tk) => derived(rt, alloc, akm, of, kck, tk),
@@ -137,23 +133,24 @@ fn act(rt: &impl Abort, alloc: Global, does: Does) -> Act {
     }
 }
 
-fn entry(rt: &impl Abort, alloc: Global, (round, node, does): (u64, Node, Does)) -> Entry {
+fn entry(rt: &impl Abort, alloc: Global, of: &(u64, Node, Does)) -> Entry {
+    let (round, node, does) = of;
     Entry {
-        round,
-        node,
+        round: *round,
+        node: *node,
         number: 0,
         act: act(rt, alloc, does),
     }
 }
 
-fn push(rt: &impl Abort, alloc: Global, journal: &mut Journal, of: (u64, Node, Does)) {
+fn push(rt: &impl Abort, alloc: Global, journal: &mut Journal, of: &(u64, Node, Does)) {
     journal.push(entry(rt, alloc, of)).expect(rt, "memory");
 }
 
 fn journal_of(rt: &impl Abort, alloc: Global, entries: &[(u64, Node, Does)]) -> Journal {
     let mut journal = Journal::new(alloc);
     for of in entries {
-        push(rt, alloc, &mut journal, *of);
+        push(rt, alloc, &mut journal, of);
     }
     journal
 }
@@ -369,9 +366,9 @@ fn is_in_order(journal: &Journal) -> bool {
 // The first one where there is room, the others where there may be none.
 fn push_three(rt: &impl Abort, alloc: Global, journal: &mut Journal) {
     journal.reserve(1).expect(rt, "memory");
-    journal.add(entry(rt, alloc, (5, A1, Nonce(1))));
-    push(rt, alloc, journal, (6, S1, Nonce(2)));
-    push(rt, alloc, journal, (7, A2, Nonce(3)));
+    journal.add(entry(rt, alloc, &(5, A1, Nonce(1))));
+    push(rt, alloc, journal, &(6, S1, Nonce(2)));
+    push(rt, alloc, journal, &(7, A2, Nonce(3)));
 }
 
 #[test]
@@ -402,7 +399,7 @@ fn push_both(rt: &impl Abort, alloc: Global, journal: &mut Journal, number: u16)
         rt,
         alloc,
         journal,
-        (1, S1, Derives(Akm::Psk, [1, 2, 1, 2], 3, 4)),
+        &(1, S1, Derives(Akm::Psk, [1, 2, 1, 2], 3, 4)),
     );
 }
 
@@ -420,20 +417,24 @@ fn is_with(
     rt: &impl Abort,
     alloc: Global,
     journal: &mut Journal,
-    of: (u64, Node, Does),
+    of: &(u64, Node, Does),
     wanted: Premises,
 ) -> bool {
     push(rt, alloc, journal, of);
     are(journal.premises(), wanted)
 }
 
+const REPEATED: (u64, Node, Does) = (2, S1, Nonce(0));
+
+const OTHER: (u64, Node, Does) = (2, S1, Derives(Akm::Psk, [1, 2, 1, 3], 3, 4));
+
 #[test]
 fn premises_of_a_long_journal(rt: HostRuntime) {
     let mut journal = long_journal(&rt, rt.alloc(), 2_000);
-    assert!(rt; are(journal.premises(), ALL));
-    let repeated = (2, S1, Nonce(0));
-    assert!(rt; is_with(&rt, rt.alloc(), &mut journal, repeated, NOT_FRESH));
-    let other = (2, S1, Derives(Akm::Psk, [1, 2, 1, 3], 3, 4));
     let both = NOT_FRESH_AND_COLLISION;
-    assert!(rt; is_with(&rt, rt.alloc(), &mut journal, other, both));
+    let is_right = are(journal.premises(), ALL)
+        && is_with(&rt, rt.alloc(), &mut journal, &REPEATED, NOT_FRESH)
+        && is_with(&rt, rt.alloc(), &mut journal, &OTHER, both);
+    drop(journal);
+    assert!(rt; is_right);
 }

@@ -1,5 +1,6 @@
 //! Worked lines of a report, and a sink that fails.
 
+use crate::world::octets;
 use air_frame::AirFault;
 use domain_base::{Akm, Mac, MemSink, Node, Octets, Peer, Tid};
 use eapol_key::{FaultKind, FrameFault, Message};
@@ -66,7 +67,6 @@ revoke a1 s1 revoked\n\
 revoke a2 s1 absent\n";
 
 // What the entries of `LINES` do, and a value drawn, which is not printed.
-#[derive(Clone, Copy)]
 enum Does {
     Draws,
     InstallsGroup(Peer),
@@ -337,10 +337,6 @@ const MALFORMED: &[(Kind, Outcome, &str)] = &[
     ),
 ];
 
-fn octets(rt: &impl Abort, alloc: Global, of: &[u8]) -> Octets {
-    Octets(Vec::from_slice(alloc, of).expect(rt, "memory"))
-}
-
 fn inputs(rt: &impl Abort, alloc: Global) -> SharedInputs {
     let inputs = Inputs {
         akm: Akm::Psk,
@@ -453,8 +449,8 @@ fn revoked(rt: &impl Abort, alloc: Global, sta: Node, answer: RevokeAnswer) -> A
     }
 }
 
-fn act(rt: &impl Abort, alloc: Global, does: Does) -> Act {
-    match does {
+fn act(rt: &impl Abort, alloc: Global, does: &Does) -> Act {
+    match *does {
         Draws => Act::Drew {
             value: Drawn::Gtk(GTK),
         },
@@ -485,20 +481,16 @@ fn entry(node: Node, number: u64, act: Act) -> Entry {
     }
 }
 
-fn add(
-    rt: &impl Abort,
-    alloc: Global,
-    entries: &mut Vec<Entry>,
-    (node, number, does): (Node, u64, Does),
-) {
-    let entry = entry(node, number, act(rt, alloc, does));
+fn add(rt: &impl Abort, alloc: Global, entries: &mut Vec<Entry>, of: &(Node, u64, Does)) {
+    let (node, number, does) = of;
+    let entry = entry(*node, *number, act(rt, alloc, does));
     entries.push(entry).expect(rt, "memory");
 }
 
 fn entries_of(rt: &impl Abort, alloc: Global, all: &[(Node, u64, Does)]) -> Vec<Entry> {
     let mut entries = Vec::new(alloc);
     for of in all {
-        add(rt, alloc, &mut entries, *of);
+        add(rt, alloc, &mut entries, of);
     }
     entries
 }
@@ -526,9 +518,11 @@ fn is_summary(entries: &[Entry], text: &[u8]) -> bool {
 #[test]
 fn each_kind_of_act_has_its_line(rt: HostRuntime) {
     let entries = entries_of(&rt, rt.alloc(), ENTRIES);
-    assert!(rt; is_written(&rt, rt.alloc(), &entries, 1000, true, LINES));
-    assert!(rt; is_written(&rt, rt.alloc(), &entries, 100, false, &LINES[..100]));
-    assert!(rt; is_summary(&entries, SUMMARY));
+    let is_right = is_written(&rt, rt.alloc(), &entries, 1000, true, LINES)
+        && is_written(&rt, rt.alloc(), &entries, 100, false, &LINES[..100])
+        && is_summary(&entries, SUMMARY);
+    drop(entries);
+    assert!(rt; is_right);
 }
 
 #[test]
@@ -546,15 +540,16 @@ fn long_line(rt: &impl Abort, alloc: Global, count: usize) -> Vec<u8> {
     line
 }
 
+const LONG_ENTRY: &[(Node, u64, Does)] = &[(STA, 0, HandsUp(AP, 1, 0, &[0xa7; 1000]))];
+
 #[test]
 fn a_long_payload_goes_out_in_pieces(rt: HostRuntime) {
-    let entries = entries_of(
-        &rt,
-        rt.alloc(),
-        &[(STA, 0, HandsUp(AP, 1, 0, &[0xa7; 1000]))],
-    );
+    let entries = entries_of(&rt, rt.alloc(), LONG_ENTRY);
     let line = long_line(&rt, rt.alloc(), 1000);
-    assert!(rt; is_written(&rt, rt.alloc(), &entries, 3000, true, &line));
+    let is_right = is_written(&rt, rt.alloc(), &entries, 3000, true, &line);
+    drop(entries);
+    drop(line);
+    assert!(rt; is_right);
 }
 
 // The entry's line fits in 128 octets, and is the text.

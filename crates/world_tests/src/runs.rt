@@ -2,18 +2,28 @@
 
 ghost use Rattle.std.specs.Prelude.{Some};
 
+mod full;
+mod refused;
+mod rounds;
 mod scripts;
+mod texts;
+mod transitions;
 
 use domain_base::{Failed, MemSink, MemSource, Source, SteadyAir, SteadyDraws};
 use domain_cli::{Status, run};
+use full::{ASSOCIATION, ASSOCIATION_REPORT, FULL, FULL_REPORT};
+use refused::{REFUSED, REFUSED_AT_FIRST, UNAWAITED};
+use rounds::{LONG_ROUNDS, NODES, ROUND_FAULTS, ROUNDS};
 use run_journal::Journal;
 use scripts::{
     CARRIED, CARRIED_REPORT, FRAMES, HANDSHAKE, LONG_LINES, LONG_SCRIPTS, NETWORK, NETWORKS,
-    OPEN_LINES, PASSPHRASE, READ_FAULTS, REPORT, SCRIPTS, TEXTS, WORDS, WRITE_FAULTS,
+    OPEN_LINES, PASSPHRASE, READ_FAULTS, REPORT, SCRIPTS, WORDS, WRITE_FAULTS,
 };
 use std::alloc::Global;
 use std::process::Abort;
 use std::thread::Threads;
+use texts::TEXTS;
+use transitions::{ASSOCIATED, BEGUN, BEGUN_WITH_TWO, TRANSITIONS};
 
 const REPLAY: &[&str] = &["replay"];
 
@@ -114,7 +124,7 @@ fn ends<R: Threads + Sync + Abort>(
     written: &[u8],
 ) -> bool {
     let mut source = source_of(rt, alloc, octets, NEVER);
-    let mut sink = sink_of(rt, alloc, 6000, NEVER);
+    let mut sink = sink_of(rt, alloc, 40000, NEVER);
     replays(rt, alloc, &mut source, &mut sink, status, written)
 }
 
@@ -131,12 +141,16 @@ fn is_reported<R: Threads + Sync + Abort>(
     ends(rt, alloc, script, status, report.as_bytes())
 }
 
-#[test]
-fn scripts_and_their_reports(rt: HostRuntime) {
-    for (front, scripts, status, report) in SCRIPTS {
+// Each of the scripts of each row ends so, with that report.
+fn try_scripts<R: Threads + Sync + Abort>(
+    rt: &R,
+    alloc: Global,
+    rows: &[(&str, &str, Status, &str)],
+) {
+    for (front, scripts, status, report) in rows {
         for behind in scripts.split('|') {
             assert!(rt;
-                is_reported(&rt, rt.alloc(), front, behind, *status, report),
+                is_reported(rt, alloc, front, behind, *status, report),
                 "{front}{behind}"
             );
         }
@@ -144,11 +158,95 @@ fn scripts_and_their_reports(rt: HostRuntime) {
 }
 
 #[test]
-fn frames_out_of_order(rt: HostRuntime) {
-    for (shows, events, report) in FRAMES {
+fn scripts_and_their_reports(rt: HostRuntime) {
+    try_scripts(&rt, rt.alloc(), SCRIPTS);
+}
+
+// Lines behind the front of a script, and what is reported of them behind that of the front, which is run to its end.
+fn is_reported_behind<R: Threads + Sync + Abort>(
+    rt: &R,
+    alloc: Global,
+    front: (&str, &str),
+    lines: &str,
+    report: &str,
+) -> bool {
+    let script = joined(rt, alloc, front.0, lines);
+    let written = joined(rt, alloc, front.1, report);
+    ends(rt, alloc, script, Status::Done, &written)
+}
+
+// Each of the rows tells what it shows, lines behind that front, and their report.
+fn try_rows<R: Threads + Sync + Abort>(
+    rt: &R,
+    alloc: Global,
+    front: (&str, &str),
+    rows: &[(&str, &str, &str)],
+) {
+    for (shows, lines, report) in rows {
         assert!(rt;
-            is_reported(&rt, rt.alloc(), NETWORK, events, Status::Done, report),
+            is_reported_behind(rt, alloc, front, lines, report),
             "{shows}"
+        );
+    }
+}
+
+#[test]
+fn frames_out_of_order(rt: HostRuntime) {
+    try_rows(&rt, rt.alloc(), (NETWORK, ""), FRAMES);
+}
+
+#[test]
+fn fast_transitions(rt: HostRuntime) {
+    try_rows(&rt, rt.alloc(), ASSOCIATED, TRANSITIONS);
+}
+
+#[test]
+fn frames_of_fast_transitions_that_are_refused(rt: HostRuntime) {
+    try_rows(&rt, rt.alloc(), ASSOCIATED, REFUSED);
+    try_rows(&rt, rt.alloc(), BEGUN, REFUSED_AT_FIRST);
+    try_rows(&rt, rt.alloc(), (NETWORK, ""), UNAWAITED);
+}
+
+#[test]
+fn rounds_of_events(rt: HostRuntime) {
+    try_rows(&rt, rt.alloc(), BEGUN_WITH_TWO, ROUNDS);
+    try_scripts(&rt, rt.alloc(), ROUND_FAULTS);
+}
+
+// What stands in front, and behind it a text so many times and another text.
+fn repeated(rt: &impl Abort, front: Vec<u8>, text: &str, count: usize, behind: &str) -> Vec<u8> {
+    let mut octets = front;
+    for _ in 0..count {
+        add(rt, &mut octets, text);
+    }
+    add(rt, &mut octets, behind);
+    octets
+}
+
+// A round of so many octets that come, and this behind them, ends so, and the report tells of so many of them, and this.
+fn is_long_round<R: Threads + Sync + Abort>(
+    rt: &R,
+    alloc: Global,
+    count: usize,
+    behind: &str,
+    status: Status,
+    told: usize,
+    end: &str,
+) -> bool {
+    let front = joined(rt, alloc, NODES, "round\n");
+    let script = repeated(rt, front, "inject a1 00\n", count, behind);
+    let started = joined(rt, alloc, "install a1 all gtk 1\n", "");
+    let line = "took a1 unread refused malformed 1 1 1\n";
+    let report = repeated(rt, started, line, told, end);
+    ends(rt, alloc, script, status, &report)
+}
+
+#[test]
+fn no_more_than_256_events_in_a_round(rt: HostRuntime) {
+    for (count, behind, status, told, end) in LONG_ROUNDS {
+        assert!(rt;
+            is_long_round(&rt, rt.alloc(), *count, behind, *status, *told, end),
+            "{count}{behind}"
         );
     }
 }
@@ -293,7 +391,7 @@ fn lines_that_are_open_as_the_source_fails(rt: HostRuntime) {
 }
 
 fn add_ap(rt: &impl Abort, alloc: Global, script: &mut Vec<u8>, number: u8) {
-    let line = format!(in alloc; "ap 0200000001{number:02x} {number}\n").expect(rt, "memory");
+    let line = format!(in alloc; "ap 0200000001{number:02x} r0kh-{number}\n").expect(rt, "memory");
     add(rt, script, &line);
 }
 
@@ -302,9 +400,9 @@ fn add_sta(rt: &impl Abort, alloc: Global, script: &mut Vec<u8>, number: u8) {
     add(rt, script, &line);
 }
 
-// A header, and behind it so many access points and stations.
-fn network_of(rt: &impl Abort, alloc: Global, aps: u8, stas: u8) -> Vec<u8> {
-    let mut script = joined(rt, alloc, PASSPHRASE, "password\nakm psk\n");
+// A header with that suite, and behind it so many access points and stations.
+fn network_of(rt: &impl Abort, alloc: Global, suite: &str, aps: u8, stas: u8) -> Vec<u8> {
+    let mut script = joined(rt, alloc, PASSPHRASE, suite);
     for number in 0..aps {
         add_ap(rt, alloc, &mut script, number);
     }
@@ -340,7 +438,7 @@ fn is_network<R: Threads + Sync + Abort>(
     end: &str,
 ) -> bool {
     let report = starts(rt, alloc, started, end);
-    let script = network_of(rt, alloc, aps, stas);
+    let script = network_of(rt, alloc, "password\nakm psk\n", aps, stas);
     ends(rt, alloc, script, status, &report)
 }
 
@@ -352,6 +450,53 @@ fn many_nodes(rt: HostRuntime) {
             "{aps}, {stas}"
         );
     }
+}
+
+// A number of a station, or of one of the frames behind so many, in decimal.
+fn add_number(rt: &impl Abort, alloc: Global, octets: &mut Vec<u8>, number: usize) {
+    let digits = format!(in alloc; "{number}").expect(rt, "memory");
+    add(rt, octets, &digits);
+}
+
+// A text of the association of a station, behind so many frames.
+fn add_association(
+    rt: &impl Abort,
+    alloc: Global,
+    octets: &mut Vec<u8>,
+    text: &str,
+    sta: usize,
+    frames: usize,
+) {
+    for octet in text.as_bytes() {
+        match *octet {
+            b'#' => add_number(rt, alloc, octets, sta),
+            letter @ b'A'..=b'F' => {
+                let place = usize::from(letter.saturating_sub(b'@'));
+                add_number(rt, alloc, octets, frames.saturating_add(place));
+            }
+            other => octets.push(other).expect(rt, "memory"),
+        }
+    }
+}
+
+// What stands in front, and behind it that text for each of 64 stations, whose associations have six frames each, and an end.
+fn associations(rt: &impl Abort, alloc: Global, front: Vec<u8>, text: &str, end: &str) -> Vec<u8> {
+    let mut octets = front;
+    for sta in 0..64usize {
+        add_association(rt, alloc, &mut octets, text, sta + 1, sta * 6);
+    }
+    add(rt, &mut octets, end);
+    octets
+}
+
+#[test]
+fn key_holder_has_64_rows(rt: HostRuntime) {
+    let suite = "password\nakm ft-psk\nmdid a1b2\n";
+    let network = network_of(&rt, rt.alloc(), suite, 2, 64);
+    let script = associations(&rt, rt.alloc(), network, ASSOCIATION, FULL);
+    let started = starts(&rt, rt.alloc(), 2, "");
+    let report = associations(&rt, rt.alloc(), started, ASSOCIATION_REPORT, FULL_REPORT);
+    assert!(rt; ends(&rt, rt.alloc(), script, Status::Done, &report));
 }
 
 // A script whose last line has this front and so many digits 0 ends so, and writes this.

@@ -8,13 +8,14 @@ mod rows;
 use domain_base::{Akm, Mac, NoMemory, Node, Octets, Peer, Tid};
 use frame_script::{LineFault, ScriptReader, Step};
 use rows::Says::{
-    self, Alter, Ap, Connect, Cut, Deliver, Expire, Inject, Leave, Limit, Network, Nothing,
-    OutOfMemory, Rekey, Retry, Revoke, Roam, Script, Send, Sta,
+    self, Alter, Ap, Connect, Cut, Deliver, End, Expire, Inject, Leave, Limit, Network, Nothing,
+    OutOfMemory, Rekey, Retry, Revoke, Roam, Round, Script, Send, Sta,
 };
 use rows::{
-    A1, ADDRESS, BOTH, BSSID, EVENT_LINES, FALTERING, FORMS, GROWING, HEADER, HEADER_LINES,
-    LATE_LINES, LONG_LINES, LONG_PSK, MORE_APS, MORE_STAS, NO_NODE, NODE_LINES, PSK, S1, SEED,
-    SIZES,
+    A1, ADDRESS, BOTH, BSSID, EMPTY_ROUND, ENDS, EVENT_LINES, FALTERING, FORMS, FT_FALTERING,
+    FT_FORMS, FT_HEADER, FULL_ROUND, GROWING, GROWING_IN_ROUND, HEADER, HEADER_LINES, LAST_ROUND,
+    LATE_LINES, LONG_LINES, LONG_PSK, LONG_ROUND_LINES, MDID, MDID_LINES, MORE_APS, MORE_STAS,
+    NO_NODE, NODE_LINES, OPEN, PSK, ROAM_LINES, ROUND_LINES, ROUNDS, S1, SEED, SIZES,
 };
 use run_journal::{Act, Domain, Entry, Event, Journal, Kind, Start};
 use std::alloc::Global;
@@ -27,9 +28,18 @@ fn what_it_says(answer: Result<Step, LineFault>) -> Says {
         Ok(Step::Ap { address, r0kh_id }) => Ap(address, r0kh_id.as_slice().len()),
         Ok(Step::Sta { address }) => Sta(address),
         Ok(Step::Event(event)) => what_it_asks(&event),
+        Ok(Step::Round) => Round,
+        Ok(Step::End) => End,
         Err(LineFault::Script(reason)) => Script(reason),
         Err(LineFault::Limit(limit)) => Limit(limit),
         Err(LineFault::NoMemory) => OutOfMemory,
+    }
+}
+
+fn number_of(tid: Option<Tid>) -> Option<u8> {
+    match tid {
+        Some(tid) => Some(tid.number()),
+        None => None,
     }
 }
 
@@ -53,7 +63,7 @@ fn what_it_asks(event: &Event) -> Says {
             to,
             tid,
             octets,
-        } => Send(*from, *to, tid.map(Tid::number), octets.as_slice().len()),
+        } => Send(*from, *to, number_of(*tid), octets.as_slice().len()),
         Event::Expire { ap, sta } => Expire(*ap, *sta),
         Event::Revoke { ap, sta } => Revoke(*ap, *sta),
         Event::Leave { sta } => Leave(*sta),
@@ -259,6 +269,41 @@ fn a_refused_line_leaves_the_header_as_it_was(rt: HostRuntime) {
     drop(journal);
 }
 
+#[test]
+fn lines_behind_the_suite_of_fast_transition(rt: HostRuntime) {
+    let journal = Journal::new(rt.alloc());
+    for (count, want, lines) in MDID_LINES {
+        assert!(rt; *count <= 6);
+        ask_each(
+            &rt,
+            rt.alloc(),
+            &FT_HEADER[..*count],
+            NO_NODE,
+            &journal,
+            lines,
+            *want,
+        );
+    }
+}
+
+fn is_of_a_mobility_domain(network: Option<&Domain>) -> bool {
+    match network {
+        Some(network) => network.akm == Akm::FtPsk && network.mdid == MDID,
+        None => false,
+    }
+}
+
+#[test]
+#[tactic(auto, using(frame_script::proofs::Feeding::feeding))]
+fn the_mobility_domain_makes_the_header_whole(rt: HostRuntime) {
+    let journal = Journal::new(rt.alloc());
+    let mut reader = ScriptReader::start(rt.alloc());
+    play(&rt, rt.alloc(), &mut reader, FT_FALTERING, &journal);
+    assert!(rt; is_of_a_mobility_domain(reader.domain()));
+    drop(reader);
+    drop(journal);
+}
+
 fn has_the_nodes(network: &Domain) -> bool {
     match network.aps.0.as_slice() {
         [ap] => {
@@ -313,14 +358,14 @@ fn key_of(rt: &impl Abort, alloc: Global, ssid: &[u8], passphrase: &[u8]) -> [u8
 
 #[test]
 fn a_passphrase_gives_the_key(rt: HostRuntime) {
-    assert!(rt; key_of(&rt, rt.alloc(), b"ssid IEEE", b"passphrase password") == PSK);
+    let short = key_of(&rt, rt.alloc(), b"ssid IEEE", b"passphrase password");
     let long = key_of(
         &rt,
         rt.alloc(),
         b"ssid ThisIsASSID",
         b"passphrase ThisIsAPassword",
     );
-    assert!(rt; long == LONG_PSK);
+    assert!(rt; short == PSK && long == LONG_PSK);
 }
 
 #[test]
@@ -394,6 +439,95 @@ fn lines_that_ask_for_events(rt: HostRuntime) {
     drop(journal);
 }
 
+#[test]
+fn lines_of_a_station_that_roams(rt: HostRuntime) {
+    let journal = Journal::new(rt.alloc());
+    for (want, lines) in ROAM_LINES {
+        ask_each(&rt, rt.alloc(), FT_HEADER, BOTH, &journal, lines, *want);
+    }
+}
+
+#[test]
+fn lines_in_a_round(rt: HostRuntime) {
+    let journal = journal_of(&rt, rt.alloc(), SIZES);
+    for (want, lines) in ROUND_LINES {
+        ask_each(&rt, rt.alloc(), FT_HEADER, OPEN, &journal, lines, *want);
+    }
+    drop(journal);
+}
+
+// Each of these lines says what stands beside it behind both nodes.
+fn play_behind_both(rt: &impl Abort, alloc: Global, rows: &[(&[u8], Says)], journal: &Journal) {
+    let mut reader = reader_behind(rt, alloc, HEADER, BOTH, journal);
+    play(rt, alloc, &mut reader, rows, journal);
+    drop(reader);
+}
+
+#[test]
+fn rounds_begin_and_end(rt: HostRuntime) {
+    let journal = Journal::new(rt.alloc());
+    play_behind_both(&rt, rt.alloc(), ROUNDS, &journal);
+    play_behind_both(&rt, rt.alloc(), EMPTY_ROUND, &journal);
+    drop(journal);
+}
+
+// The reader takes an event of a round that has so many.
+fn join(rt: &impl Abort, alloc: Global, reader: &mut ScriptReader, number: u16, journal: &Journal)
+    requires seen { HasSeen reader.old journal.now.entries }
+    requires few { reader.old.rounds < 2 ^ 62 }
+    ensures seen { HasSeen reader.new journal.now.entries }
+    ensures few { reader.new.rounds ≤ reader.old.rounds + 1 }
+{
+    assert!(rt;
+        tell(alloc, reader, b"rekey a1", journal) == Rekey(0),
+        "{number}"
+    );
+}
+
+#[test]
+fn no_more_than_256_events_in_a_round(rt: HostRuntime) {
+    let journal = Journal::new(rt.alloc());
+    let mut reader = reader_behind(&rt, rt.alloc(), HEADER, OPEN, &journal);
+    for number in 0..256u16 {
+        join(&rt, rt.alloc(), &mut reader, number, &journal);
+    }
+    play(&rt, rt.alloc(), &mut reader, FULL_ROUND, &journal);
+    drop(reader);
+    drop(journal);
+}
+
+fn what_the_end_says(answer: Result<(), LineFault>) -> Says {
+    match answer {
+        Ok(()) => Nothing,
+        Err(LineFault::Script(reason)) => Script(reason),
+        Err(LineFault::Limit(limit)) => Limit(limit),
+        Err(LineFault::NoMemory) => OutOfMemory,
+    }
+}
+
+// What the end of a script says behind these lines.
+fn end_behind(rt: &impl Abort, alloc: Global, header: &[&[u8]], nodes: &[&[u8]]) -> Says
+    requires { length header.now + length nodes.now < 2 ^ 32 }
+{
+    let journal = Journal::new(alloc);
+    let reader = reader_behind(rt, alloc, header, nodes, &journal);
+    let says = what_the_end_says(reader.finish());
+    drop(reader);
+    drop(journal);
+    says
+}
+
+#[test]
+fn ends_of_scripts(rt: HostRuntime) {
+    for (count, nodes, want) in ENDS {
+        assert!(rt; *count <= 6 && nodes.len() <= 10);
+        assert!(rt;
+            end_behind(&rt, rt.alloc(), &FT_HEADER[..*count], nodes) == *want,
+            "{count}"
+        );
+    }
+}
+
 // That front of a line, so many times two digits and what stands behind them.
 fn long_line(alloc: Global, front: &[u8], count: usize, end: &[u8]) -> Result<Vec<u8>, NoMemory> {
     let mut line = Vec::from_slice(alloc, front)?;
@@ -404,13 +538,40 @@ fn long_line(alloc: Global, front: &[u8], count: usize, end: &[u8]) -> Result<Ve
     Ok(line)
 }
 
+// So long a line says that.
+fn long_line_says(
+    rt: &impl Abort,
+    alloc: Global,
+    front: &[u8],
+    count: usize,
+    end: &[u8],
+    want: Says,
+) -> bool {
+    let line = long_line(alloc, front, count, end).expect(rt, "memory");
+    let journal = Journal::new(alloc);
+    let says = ask(rt, alloc, HEADER, BOTH, &journal, &line);
+    drop(journal);
+    drop(line);
+    says == want
+}
+
 #[test]
 fn long_frames_and_payloads(rt: HostRuntime) {
-    let journal = Journal::new(rt.alloc());
     for (front, count, end, want) in LONG_LINES {
+        assert!(rt;
+            long_line_says(&rt, rt.alloc(), front, *count, end, *want),
+            "{front:?}, {count}"
+        );
+    }
+}
+
+#[test]
+fn long_frames_and_payloads_in_a_round(rt: HostRuntime) {
+    let journal = Journal::new(rt.alloc());
+    for (front, count, end, want) in LONG_ROUND_LINES {
         let line = long_line(rt.alloc(), front, *count, end).expect(&rt, "memory");
         assert!(rt;
-            ask(&rt, rt.alloc(), HEADER, BOTH, &journal, &line) == *want,
+            ask(&rt, rt.alloc(), HEADER, OPEN, &journal, &line) == *want,
             "{front:?}, {count}"
         );
     }
@@ -445,6 +606,17 @@ fn forms_of_lines(rt: HostRuntime) {
     }
 }
 
+#[test]
+fn forms_of_lines_with_fast_transition(rt: HostRuntime) {
+    for (count, nodes, line, text) in FT_FORMS {
+        assert!(rt; *count <= 6 && nodes.len() <= 10);
+        assert!(rt;
+            form_text(&rt, rt.alloc(), &FT_HEADER[..*count], nodes, line) == *text,
+            "{line}"
+        );
+    }
+}
+
 fn has_octets(answer: Result<Step, LineFault>, frame: &[u8]) -> bool {
     match &answer {
         Ok(Step::Event(Event::Inject { octets, .. } | Event::Send { octets, .. })) => {
@@ -454,33 +626,49 @@ fn has_octets(answer: Result<Step, LineFault>, frame: &[u8]) -> bool {
     }
 }
 
-#[test]
-fn octets_are_as_they_stand(rt: HostRuntime) {
-    let lines: [&[u8]; 2] = [b"inject a1 00Ff5a", b"send a1 all 5 00Ff5a"];
-    let journal = Journal::new(rt.alloc());
-    for line in lines {
-        let mut reader = reader_behind(&rt, rt.alloc(), HEADER, BOTH, &journal);
-        let answer = reader.line(rt.alloc(), line, &journal);
-        assert!(rt; has_octets(answer, &[0, 0xff, 0x5a]), "{line:?}");
-        drop(reader);
-    }
+// The line carries these octets.
+fn carries(rt: &impl Abort, alloc: Global, line: &[u8], octets: &[u8]) -> bool {
+    let journal = Journal::new(alloc);
+    let mut reader = reader_behind(rt, alloc, HEADER, BOTH, &journal);
+    let is_right = has_octets(reader.line(alloc, line, &journal), octets);
+    drop(reader);
     drop(journal);
+    is_right
 }
 
 #[test]
-fn frames_are_seen_as_they_are_sent(rt: HostRuntime) {
-    let mut journal = Journal::new(rt.alloc());
-    let mut reader = reader_behind(&rt, rt.alloc(), HEADER, BOTH, &journal);
-    assert!(rt; GROWING.len() <= 100);
-    for (size, line, want) in GROWING {
-        send(&rt, rt.alloc(), &mut journal, *size);
+fn octets_are_as_they_stand(rt: HostRuntime) {
+    let octets = [0, 0xff, 0x5a];
+    assert!(rt;
+        carries(&rt, rt.alloc(), b"inject a1 00Ff5a", &octets)
+            && carries(&rt, rt.alloc(), b"send a1 all 5 00Ff5a", &octets)
+    );
+}
+
+// Each of the lines says what stands beside it, once a frame of that size was sent.
+fn grow(rt: &impl Abort, alloc: Global, rows: &[(usize, &[u8], Says)]) {
+    let mut journal = Journal::new(alloc);
+    let mut reader = reader_behind(rt, alloc, HEADER, BOTH, &journal);
+    assert!(rt; rows.len() <= 100);
+    for (size, line, want) in rows {
+        send(rt, alloc, &mut journal, *size);
         assert!(rt;
-            tell(rt.alloc(), &mut reader, line, &journal) == *want,
+            tell(alloc, &mut reader, line, &journal) == *want,
             "{line:?}"
         );
     }
     drop(reader);
     drop(journal);
+}
+
+#[test]
+fn frames_are_seen_as_they_are_sent(rt: HostRuntime) {
+    grow(&rt, rt.alloc(), GROWING);
+}
+
+#[test]
+fn no_frame_is_seen_in_the_round_in_which_it_is_sent(rt: HostRuntime) {
+    grow(&rt, rt.alloc(), GROWING_IN_ROUND);
 }
 
 fn long_journal(rt: &impl Abort, alloc: Global) -> Journal {
@@ -494,6 +682,7 @@ fn long_journal(rt: &impl Abort, alloc: Global) -> Journal {
 #[test]
 fn no_event_behind_more_frames_than_have_numbers(rt: HostRuntime) {
     let mut journal = long_journal(&rt, rt.alloc());
+    play_behind_both(&rt, rt.alloc(), LAST_ROUND, &journal);
     let mut reader = reader_behind(&rt, rt.alloc(), HEADER, BOTH, &journal);
     let last = tell(rt.alloc(), &mut reader, b"deliver 65535 to a1", &journal);
     assert!(rt; last == Deliver(65535, A1));

@@ -9,7 +9,7 @@ ghost use Rattle.node_base.specs.Peers.{IsReceiverOf, most_payload};
 mod cases;
 mod outcomes;
 
-use cases::{CASES, CHANGED, COMING, Line, STARTED, THREE_FRAMES, Turn};
+use cases::{CASES, CHANGED, COMING, Line, SECOND_ROUND, STARTED, THREE_FRAMES, Turn};
 use domain_base::{Akm, Mac, Node, Octets, Peer, Tid};
 use domain_world::World;
 use key_hierarchy::RevokeAnswer;
@@ -18,14 +18,14 @@ use run_journal::{Act, Aps, Domain, Entry, Event, Journal, Outcome, Stas};
 use std::alloc::Global;
 use std::process::Abort;
 
-fn octets(rt: &impl Abort, alloc: Global, of: &[u8]) -> Octets
+pub(crate) fn octets(rt: &impl Abort, alloc: Global, of: &[u8]) -> Octets
     ensures { result ≡ of.now }
 {
     Octets(Vec::from_slice(alloc, of).expect(rt, "memory"))
 }
 
-fn event(rt: &impl Abort, alloc: Global, turn: Turn) -> Event {
-    match turn {
+fn event(rt: &impl Abort, alloc: Global, turn: &Turn) -> Event {
+    match *turn {
         Turn::Connect => Event::Connect { sta: 0, ap: 0 },
         Turn::ConnectTo(sta, ap) => Event::Connect { sta, ap },
         Turn::Deliver(number, to) => Event::Deliver { number, to },
@@ -218,7 +218,7 @@ fn take(rt: &impl Abort, nodes: &mut World, event: &Event, journal: &mut Journal
 }
 
 // The event of a turn happens.
-fn happen(rt: &impl Abort, alloc: Global, nodes: &mut World, turn: Turn, journal: &mut Journal)
+fn happen(rt: &impl Abort, alloc: Global, nodes: &mut World, turn: &Turn, journal: &mut Journal)
     requires { Owns nodes.old journal.old.entries }
     ensures { Owns nodes.new journal.new.entries }
 {
@@ -231,7 +231,7 @@ fn play(rt: &impl Abort, alloc: Global, nodes: &mut World, turns: &[Turn], journ
     ensures { Owns nodes.new journal.new.entries }
 {
     for turn in turns {
-        happen(rt, alloc, nodes, *turn, journal);
+        happen(rt, alloc, nodes, turn, journal);
     }
 }
 
@@ -390,6 +390,21 @@ fn events_and_what_they_add(rt: HostRuntime) {
             case.shows
         );
     }
+}
+
+// A round without events is one: what comes behind it is in the second round.
+fn is_counted(rt: &impl Abort, alloc: Global) -> bool {
+    let mut journal = Journal::new(alloc);
+    let mut nodes = two_nodes(rt, alloc, &mut journal);
+    assert!(rt; nodes.rounds() < 1000);
+    nodes.round(&[], &mut journal).expect(rt, "memory");
+    play(rt, alloc, &mut nodes, &[Turn::Connect], &mut journal);
+    nodes.rounds() == 2 && has_lines(&journal, SECOND_ROUND)
+}
+
+#[test]
+fn round_without_events_counts(rt: HostRuntime) {
+    assert!(rt; is_counted(&rt, rt.alloc()));
 }
 
 #[test]

@@ -11,7 +11,6 @@ const TO_A1: Peer = Peer::One(A1);
 const TO_S1: Peer = Peer::One(S1);
 
 // An event with the first access point and the first station, where it says no others.
-#[derive(Clone, Copy)]
 pub(crate) enum Turn {
     Connect,
     // That station asks that access point, both by their numbers.
@@ -37,6 +36,13 @@ pub(crate) type Line = (u64, Node, u64, &'static str);
 
 // What round 0 journals.
 pub(crate) const STARTED: [Line; 2] = [(0, A1, 0, "drew"), (0, A1, 0, "installed")];
+
+// A station that connects in the second round.
+pub(crate) const SECOND_ROUND: &[Line] = &[
+    (2, S1, 0, "opened"),
+    (2, S1, 0, "drew"),
+    (2, S1, 1, "sent"),
+];
 
 // What turns add to the journal.
 pub(crate) struct Case {

@@ -1,4 +1,4 @@
-use Rattle.domain_cli.proofs.Faults.{fault_or_script, one_place, one_script, one_telling}
+use Rattle.domain_cli.proofs.Faults.{fault_or_script, one_end, one_place, one_script, one_telling}
 use Rattle.domain_cli.proofs.laws.one_fault.Goals as goal
 
 pub returns-clause-script : goal.returns-clause-script
@@ -12,3 +12,6 @@ returns-clause-lines c = one_script
 
 pub returns-clause-told : goal.returns-clause-told
 returns-clause-told c = one_telling
+
+pub returns-clause-end : goal.returns-clause-end
+returns-clause-end c = one_end

@@ -8,6 +8,8 @@ abbrev pub invariant-loop-act : goal.invariant-loop-act
 invariant-loop-act l =
     (push l.round l.node l.out.acts l.journal.entries ≡ push l.initial.round l.initial.node l.initial.out.acts l.initial.journal.entries)
     × (l.frames.items ≡ places l.journal.entries) × (length l.out.acts ≤ l.journal.spare) × (vec_len l.frames + length l.out.acts ≤ vec_capacity l.frames)
+    × (l.initial.journal.spare + length l.out.acts ≤ l.journal.spare + length l.initial.out.acts)
+    × (vec_len l.frames + length l.out.acts ≤ vec_len l.initial.frames + length l.initial.out.acts) × (vec_capacity l.initial.frames ≤ vec_capacity l.frames)
 
 abbrev pub decreases-loop-act : goal.decreases-loop-act
 decreases-loop-act l = length l.out.acts

@@ -12,3 +12,9 @@ returns-in-Psk-clause-takes c = rw c.in-Psk.is (header _ _ c.args.rounds c.args.
 
 pub returns-in-Akm-clause-takes : goal.returns-in-Akm-clause-takes
 returns-in-Akm-clause-takes c = rw c.in-Akm.is (header _ _ c.args.rounds c.args.sizes.now c.args.word.now c.args.text.now c.take_akm.result.1 c.take_akm.ensures.takes)
+
+pub returns-in-Mdid-clause-takes : goal.returns-in-Mdid-clause-takes
+returns-in-Mdid-clause-takes c = rw c.in-Mdid.is (header _ _ c.args.rounds c.args.sizes.now c.args.word.now c.args.text.now c.take_mdid.result.1 c.take_mdid.ensures.takes)
+
+pub returns-in-Round-clause-takes : goal.returns-in-Round-clause-takes
+returns-in-Round-clause-takes c = rw c.in-Round.is (c.take_inner.ensures.takes c.args.rounds)

@@ -6,7 +6,7 @@ use Rattle.node_base.specs.Events.{seen}
 use Rattle.group_key.specs.declared.keys.GroupKey.{GroupKey}
 use Rattle.group_key.specs.Keys.{placed}
 use Rattle.ap_node.specs.declared.station.Station.{Station}
-use Rattle.ap_node.specs.State.{State}
+use Rattle.ap_node.specs.State.{State, trimmed}
 use Rattle.ap_node.specs.Counts.{owing_count}
 use Rattle.ap_node.specs.Takes.{IsDone}
 use Rattle.ap_node.proofs.Messaging.{the_state}
@@ -22,7 +22,7 @@ returns-clause-done c =
     let old = c.args.self.now in
     let gave = c.give_all-self-inside in
     let key = c.gtk-gtk.result in
-    let new : State = the_state c.self.inside.number (c.self.inside.drawn + 1) c.rekey.new.self c.self.inside.sending gave.new.stations gave.result in
+    let new : State = the_state c.self.inside.number (c.self.inside.drawn + 1) c.rekey.new.self c.self.inside.sending gave.new.stations gave.result (trimmed c.self.inside.targets) in
     let drawn_is = ap (λ (s : State). s.drawn) c.self.view_is in
     let parts_are = c.deref_mut.ensures.value ∙ ap (λ (s : State). s.stations) c.self.view_is in
     let newest_is = ap (λ (s : State). s.group.newest.place) c.self.view_is in
@@ -38,9 +38,10 @@ returns-clause-done c =
       newest = if_in_use c.rekey.result (c.rekey.new.self.newest ≡ placed (suc c.self.inside.group.newest.place) key) (c.rekey.new.self.newest ≡ c.self.inside.group.newest) in_use c.rekey.ensures.newest c.rekey.ensures.pending
           ∙ ap (λ (n : ℕ). placed (suc n) key) newest_is;
       length_is = gave.ensures.length ∙ ap (λ (l : List (Option Station)). length l) parts_are;
+      targets = ap (λ (s : State). s.targets) c.self.view_is;
       counted = gave.ensures.owing ∙ ap (λ (g : GroupKey). owing_count g.place gave.new.stations) c.newest-newest.ensures;
       given = given_as c.newest-newest.result c.rekey.new.self.newest c.deref_mut.result.now old.stations gave.new.stations c.add.new.self.acts _ gave.new.out.acts c.newest-newest.ensures parts_are c.add.ensures.acts gave.ensures.given;
     } in
-    subst (λ (l : List (Option Station)). IsDone d Rekey old (the_state c.self.inside.number (c.self.inside.drawn + 1) c.rekey.new.self c.self.inside.sending l gave.result) (seen c.args.out.now.acts gave.new.out.acts Done))
+    subst (λ (l : List (Option Station)). IsDone d Rekey old (the_state c.self.inside.number (c.self.inside.drawn + 1) c.rekey.new.self c.self.inside.sending l gave.result (trimmed c.self.inside.targets)) (seen c.args.out.now.acts gave.new.out.acts Done))
     (sym (with_items_is c.self.inside.stations gave.new.stations (gave.ensures.length ∙ c.deref_mut.ensures.len)))
     (renews d old new key c.args.out.now.acts gave.new.out.acts renewed)

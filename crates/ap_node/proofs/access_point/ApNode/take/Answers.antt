@@ -1,53 +1,116 @@
-use Rattle.std.proofs.Common.{refl, subst}
+use Rattle.std.proofs.Common.{subst, ◌≡◌, length, Option, refl, ap, ◌∙◌}
 use Rattle.domain_base.specs.declared.names.Node.{Node}
+use Rattle.domain_rules.specs.Rows.{Take}
 use Rattle.run_journal.specs.declared.acts.Outcome.TheVariants.{Refused}
 use Rattle.run_journal.specs.declared.acts.Reason.TheVariants as reason
-use Rattle.frame_intake.specs.Views.{reading_of}
+use Rattle.frame_intake.specs.Views.{reading_of, sealed_fields}
 use Rattle.act_memory.proofs.Returning.{if_settled}
-use Rattle.ap_node.specs.Takes.{IsKeyedAtAp, IsSealedAtAp}
-use Rattle.ap_node.proofs.Refusing.{Stays, takes_settled, takes_other_frame, managed_from, keyed_from, sealed_from, request_from}
+use Rattle.ap_node.specs.Takes.{IsKeyedAtAp, IsSealedAtAp, IsTaken}
+use Rattle.run_journal.specs.declared.acts.Kind.TheVariants as kind
+use Rattle.ap_node.proofs.Refusing.{Stays, takes_settled, takes_other, managed_from, keyed_from, sealed_from, request_from}
+use Rattle.ap_node.proofs.Rows.{if_same, if_none}
 use Rattle.ap_node.proofs.access_point.ApNode.take.Goals as goal
+use Rattle.domain_base.specs.declared.names.Node.TheVariants.{Sta}
+use Rattle.node_base.specs.Events.{seen}
+use Rattle.ap_node.specs.Keys.{IsTakenUnder}
+use Rattle.ap_node.specs.State.{State, station_at, key_in, with_key, trimmed}
+use Rattle.ap_node.specs.declared.station.Station.{Station}
+use Rattle.ap_node.proofs.Messaging.{the_state, kept_state, if_both}
+use Rattle.ap_node.proofs.Traffic.{IsRekeyed, takes_data}
 
 pub take_request-requires-clause-frame : goal.take_request-requires-clause-frame
-take_request-requires-clause-frame c =
+take_request-requires-clause-frame over c =
     let d = c.args.here.domain.now in
     let a = c.args.self.now.number in
     let octets = c.args.octets.now in
-    request_from d a octets c.in-Managed.from c.number_of.result c.in-Managed.frame c.in-Managed.elements c.number_of.ensures c.in-AssocReq.is
+    request_from d a kind.AssocReq octets c.in-Managed.from c.number_of.result c.in-Managed.frame c.in-Managed.elements c.number_of.ensures c.in-AssocReq.is
+    (managed_from d c.args.here.node a octets (reading_of c.read-delivered.result) c.in-Managed.from c.in-Managed.frame c.in-Managed.elements c.read-delivered.ensures.reads c.in-Managed.ensures c.requires.node)
+
+pub take_auth-requires-clause-frame : goal.take_auth-requires-clause-frame
+take_auth-requires-clause-frame over c =
+    let d = c.args.here.domain.now in
+    let a = c.args.self.now.number in
+    let octets = c.args.octets.now in
+    request_from d a kind.FtReq octets c.in-Managed.from c.number_of-in-FtReq.result c.in-Managed.frame c.in-Managed.elements c.number_of-in-FtReq.ensures c.in-FtReq.is
+    (managed_from d c.args.here.node a octets (reading_of c.read-delivered.result) c.in-Managed.from c.in-Managed.frame c.in-Managed.elements c.read-delivered.ensures.reads c.in-Managed.ensures c.requires.node)
+
+pub take_reassoc-requires-clause-frame : goal.take_reassoc-requires-clause-frame
+take_reassoc-requires-clause-frame over c =
+    let d = c.args.here.domain.now in
+    let a = c.args.self.now.number in
+    let octets = c.args.octets.now in
+    request_from d a kind.ReReq octets c.in-Managed.from c.number_of-in-ReReq.result c.in-Managed.frame c.in-Managed.elements c.number_of-in-ReReq.ensures c.in-ReReq.is
     (managed_from d c.args.here.node a octets (reading_of c.read-delivered.result) c.in-Managed.from c.in-Managed.frame c.in-Managed.elements c.read-delivered.ensures.reads c.in-Managed.ensures c.requires.node)
 
 pub take_keyed-requires-clause-frame : goal.take_keyed-requires-clause-frame
-take_keyed-requires-clause-frame c =
+take_keyed-requires-clause-frame over c =
     let d = c.args.here.domain.now in
     let a = c.args.self.now.number in
     let octets = c.args.octets.now in
     subst (λ (q : Node). IsKeyedAtAp d a octets q c.in-Keyed.message) c.number_of-in-Keyed.ensures
     (keyed_from d c.args.here.node a octets (reading_of c.read-delivered.result) c.in-Keyed.from c.in-Keyed.message c.read-delivered.ensures.reads c.in-Keyed.ensures c.requires.node)
 
-pub take_sealed-requires-clause-frame : goal.take_sealed-requires-clause-frame
-take_sealed-requires-clause-frame c =
-    let d = c.args.here.domain.now in
-    let a = c.args.self.now.number in
-    let octets = c.args.octets.now in
-    subst (λ (q : Node). IsSealedAtAp d a octets q c.in-Sealed.frame) c.number_of-in-Sealed.ensures
-    (sealed_from d c.args.here.node a octets (reading_of c.read-delivered.result) c.in-Sealed.from c.in-Sealed.frame c.read-delivered.ensures.reads c.in-Sealed.ensures c.requires.node)
-
 pub returns-in-Settled-clause-taken : goal.returns-in-Settled-clause-taken
-returns-in-Settled-clause-taken c =
+returns-in-Settled-clause-taken over c =
     let d = c.args.here.domain.now in
     let s = c.args.self.now in
     let waited = c.args.out.now.acts in
     let waits = c.settle.new.out.acts in
-    if_settled c.settle.result c.in-Settled.outcome (λ outcome. Stays d s c.args.octets.now waited waits outcome) _ c.settle.ensures.outcome c.settle.ensures.acts
+    if_same c.settle.result _ d (Take c.args.octets.now) s s _ waited waits
+    (if_settled c.settle.result c.in-Settled.outcome (λ outcome. Stays d s c.args.octets.now waited waits outcome) _ c.settle.ensures.outcome c.settle.ensures.acts
     (λ waiting. takes_settled d s c.args.octets.now (reading_of c.read-delivered.result) c.in-Settled.from c.kind.result c.in-Settled.outcome c.args.here.node waited waits c.read-delivered.ensures.reads c.in-Settled.ensures
-    c.requires.node c.kind.ensures waiting)
+    c.requires.node c.kind.ensures waiting))
 
 pub returns-in_default-clause-taken : goal.returns-in_default-clause-taken
-returns-in_default-clause-taken c =
+returns-in_default-clause-taken over c =
     let d = c.args.here.domain.now in
     let s = c.args.self.now in
     let waited = c.args.out.now.acts in
     let waits = c.settle-in_default.new.out.acts in
-    let managed = managed_from d c.args.here.node s.number c.args.octets.now (reading_of c.read-delivered.result) c.in-Managed.from c.in-Managed.frame c.in-Managed.elements c.read-delivered.ensures.reads c.in-Managed.ensures c.requires.node in
-    if_settled c.settle-in_default.result (Refused reason.Unawaited) (λ outcome. Stays d s c.args.octets.now waited waits outcome) _ c.settle-in_default.ensures.outcome c.settle-in_default.ensures.acts
-    (λ waiting. takes_other_frame d s c.args.octets.now c.in-Managed.from c.in-Managed.frame c.in-Managed.elements c.in-Managed.frame.kind waited waits c.requires.suite managed refl c.in_default.not-AssocReq waiting)
+    if_same c.settle-in_default.result _ d (Take c.args.octets.now) s s _ waited waits
+    (if_settled c.settle-in_default.result (Refused reason.Unawaited) (λ outcome. Stays d s c.args.octets.now waited waits outcome) _ c.settle-in_default.ensures.outcome c.settle-in_default.ensures.acts
+    (λ waiting. takes_other d s c.args.octets.now c.in-Managed.from c.in-Managed.frame c.in-Managed.elements waited waits
+    (managed_from d c.args.here.node s.number c.args.octets.now (reading_of c.read-delivered.result) c.in-Managed.from c.in-Managed.frame c.in-Managed.elements c.read-delivered.ensures.reads c.in-Managed.ensures c.requires.node)
+    c.in_default.not-AssocReq c.in_default.not-FtReq c.in_default.not-ReReq waiting))
+
+pub returns-in-AssocReq-clause-taken : goal.returns-in-AssocReq-clause-taken
+returns-in-AssocReq-clause-taken over c =
+    if_same c.take_request.result _ c.args.here.domain.now (Take c.args.octets.now) c.args.self.now c.take_request.new.self _ c.args.out.now.acts c.take_request.new.out.acts c.take_request.ensures.taken
+
+pub returns-in-ReReq-clause-taken : goal.returns-in-ReReq-clause-taken
+returns-in-ReReq-clause-taken over c =
+    if_same c.take_reassoc.result _ c.args.here.domain.now (Take c.args.octets.now) c.args.self.now c.take_reassoc.new.self _ c.args.out.now.acts c.take_reassoc.new.out.acts c.take_reassoc.ensures.taken
+
+pub returns-in-Keyed-clause-taken : goal.returns-in-Keyed-clause-taken
+returns-in-Keyed-clause-taken over c =
+    if_none c.take_keyed.result _ c.args.here.domain.now (Take c.args.octets.now) c.args.self.now c.take_keyed.new.self _ _ c.args.out.now.acts c.take_keyed.new.out.acts c.take_keyed.ensures.taken
+
+pub returns-in-Sealed-clause-taken : goal.returns-in-Sealed-clause-taken
+returns-in-Sealed-clause-taken over c =
+    let d = c.args.here.domain.now in
+    let octets = c.args.octets.now in
+    let sta = c.number_of-station.result in
+    let old = c.args.self.now in
+    let waited = c.args.out.now.acts in
+    let waits = c.take_data.new.out.acts in
+    let was : station_at c.self.inside.stations.items sta ≡ station_at old.stations sta = ap (λ (s : State). station_at s.stations sta) c.self.view_is in
+    let new : State = the_state c.self.inside.number c.self.inside.drawn c.self.inside.group c.self.inside.sending c.take_data.new.stations.items c.self.inside.owing (trimmed c.self.inside.targets) in
+    let q = key_in (station_at new.stations sta) in
+    let rekeyed : IsRekeyed old new sta q = record {
+      number = ap (λ (s : State). s.number) c.self.view_is;
+      drawn = ap (λ (s : State). s.drawn) c.self.view_is;
+      group = ap (λ (s : State). s.group) c.self.view_is;
+      sending = ap (λ (s : State). s.sending) c.self.view_is;
+      owing = ap (λ (s : State). s.owing) c.self.view_is;
+      length_is = c.take_data.ensures.length ∙ ap (λ (s : State). length s.stations) c.self.view_is;
+      targets = ap (λ (s : State). s.targets) c.self.view_is;
+      is = c.take_data.ensures.part ∙ ap (with_key q) was;
+      others = λ k other. c.take_data.ensures.others k other ∙ ap (λ (s : State). station_at s.stations k) c.self.view_is;
+    } in
+    let frame_is : IsSealedAtAp d old.number octets (Sta sta) c.in-Sealed.frame = subst (λ (q : Node). IsSealedAtAp d old.number octets q c.in-Sealed.frame) c.number_of-station.ensures
+    (sealed_from d c.args.here.node old.number octets (reading_of c.read-delivered.result) c.in-Sealed.from c.in-Sealed.frame c.read-delivered.ensures.reads c.in-Sealed.ensures c.requires.node) in
+    if_same c.take_data.result _ d (Take octets) old new _ waited waits
+    (if_both c.take_data.result _ _ (λ outcome. IsTaken d (Take octets) old new (seen waited waits outcome)) c.take_data.ensures.taken c.take_data.ensures.refused
+    (λ outcome x refused. takes_data d old new octets sta c.in-Sealed.frame waited waits outcome frame_is rekeyed
+    (λ why is. kept_state c.self.inside.number c.self.inside.drawn c.self.inside.owing c.self.inside.owing c.self.inside.group c.self.inside.sending new.stations c.self.inside.stations.items (trimmed c.self.inside.targets) (refused why is) refl ∙ c.self.view_is)
+    (subst (λ (o : Option Station). IsTakenUnder (Sta sta) octets (sealed_fields c.in-Sealed.frame) (key_in o) q (seen waited waits outcome)) was x)))

@@ -26,7 +26,7 @@ returns-then-self-ge-DRAW_END-clause-taken c =
     let waited = c.args.out.now.acts in
     let waits = c.settle.new.out.acts in
     if_settled c.settle.result (Refused reason.Spent) (λ outcome. Stays d c.args.self.now c.args.octets.now waited waits outcome) _ c.settle.ensures.outcome c.settle.ensures.acts
-    (λ waiting. takes_spent d c.args.self.now c.args.octets.now c.args.station c.args.elements.now waited waits c.requires.suite c.requires.frame
+    (λ waiting. takes_spent d c.args.self.now c.args.octets.now c.args.station c.args.elements.now waited waits c.requires.frame
     (sym c.in_default.ensures) (subst (λ (n : ℕ). draw_end ≤ n) (ap (λ (s : State). s.drawn) c.self.view_is) c.if-self-ge-DRAW_END.true) waiting)
 
 pub returns-clause-taken : goal.returns-clause-taken
@@ -37,5 +37,5 @@ returns-clause-taken c =
     let waited = c.args.out.now.acts in
     let waits = c.associate.new.out.acts in
     if_begun c.associate.result Accepted (λ outcome. IsTaken d (Take c.args.octets.now) old new (seen waited waits outcome)) _ _ c.associate.ensures.outcome c.associate.ensures.begun c.associate.ensures.acts
-    (λ now waiting. takes_associated d old new c.args.octets.now c.args.station c.args.elements.now c.whole_element.result.now c.in-Some-rsne_octets.rsne.now waited waits c.requires.suite c.requires.frame
+    (λ now waiting. takes_associated d old new c.args.octets.now c.args.station c.args.elements.now c.whole_element.result.now c.in-Some-rsne_octets.rsne.now waited waits c.requires.frame
     (sym c.in_default.ensures) (subst (λ (n : ℕ). n < draw_end) (ap (λ (s : State). s.drawn) c.self.view_is) c.if-self-ge-DRAW_END.false) (ap option_copied c.in-Some-rsne_octets.is) c.whole_element.ensures.same now waiting)

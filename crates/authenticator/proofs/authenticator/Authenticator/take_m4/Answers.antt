@@ -2,11 +2,13 @@ use Rattle.std.proofs.Common.{◌≡◌, Option, Some, None, refl, sym, ap, ◌�
 use Rattle.eapol_key.specs.declared.messages.Message.TheVariants.{M4}
 use Rattle.run_journal.specs.declared.acts.Outcome.TheVariants.{Accepted, Refused}
 use Rattle.run_journal.specs.declared.acts.Reason.TheVariants as reason
-use Rattle.authenticator.specs.Judged.{frame_of}
+use Rattle.std.specs.Prelude.{is_some}
+use Rattle.authenticator.specs.Judged.{frame_of, is_final_m4}
 use Rattle.run_journal.specs.declared.reply.Keyed.{Keyed}
 use Rattle.authenticator.specs.State.{State}
 use Rattle.authenticator.specs.Taken.{given}
 use Rattle.authenticator.specs.declared.attempt.Attempt.{Attempt}
+use Rattle.authenticator.proofs.Final.{final_finished, final_refused}
 use Rattle.authenticator.proofs.Refusing.{no_m4, steps_to}
 use Rattle.authenticator.proofs.Finishing.{takes_refused_m4, takes_finished}
 use Rattle.authenticator.proofs.Installing.{installs_finished}
@@ -44,3 +46,23 @@ returns-in-Finished-clause-installs c =
     let s : State = record { ends = c.self.inside.ends; base = c.self.inside.base; attempt = c.take.new.self; session = Some u } in
     installs_finished c.self.inside.ends c.args.newest.now c.args.rsc c.in-Finished.finish u c.install-session.new.reply s
     (c.in-Finished.ensures.ptk_is ∙ ap (λ (y : Keyed). y.ptk) (sym c.in-Finished.ensures.key_is)) c.install-session.ensures.installed refl
+
+pub returns-in_default-clause-is_final : goal.returns-in_default-clause-is_final
+returns-in_default-clause-is_final c =
+    let none : c.self.inside.attempt ≡ None = sym c.take.ensures.value ∙ c.in_default.is in
+    rw (← c.self.view_is)
+    (ap (λ (o : Option Keyed). is_some o) c.requires.empty.installed ∙ ap (λ (o : Option Attempt). is_final_m4 c.self.inside.ends.akm o (frame_of c.args.frame.now)) (sym none))
+
+pub returns-in-Refused-clause-is_final : goal.returns-in-Refused-clause-is_final
+returns-in-Refused-clause-is_final c =
+    let some : c.self.inside.attempt ≡ Some c.in-Some.attempt = sym c.take.ensures.value ∙ c.in-Some.is in
+    rw (← c.self.view_is)
+    (ap (λ (o : Option Keyed). is_some o) c.requires.empty.installed
+    ∙ sym (ap (λ (o : Option Attempt). is_final_m4 c.self.inside.ends.akm o (frame_of c.args.frame.now)) some ∙ final_refused c.self.inside.ends.akm c.in-Some.attempt (frame_of c.args.frame.now) c.in-Refused.why c.in-Refused.ensures.1))
+
+pub returns-in-Finished-clause-is_final : goal.returns-in-Finished-clause-is_final
+returns-in-Finished-clause-is_final c =
+    let some : c.self.inside.attempt ≡ Some c.in-Some.attempt = sym c.take.ensures.value ∙ c.in-Some.is in
+    rw (← c.self.view_is)
+    (ap (λ (o : Option Keyed). is_some o) c.install-session.ensures.installed.installed
+    ∙ sym (ap (λ (o : Option Attempt). is_final_m4 c.self.inside.ends.akm o (frame_of c.args.frame.now)) some ∙ final_finished c.self.inside.ends.akm c.in-Some.attempt (frame_of c.args.frame.now) c.args.newest.now c.in-Finished.finish c.in-Finished.ensures))

@@ -1,5 +1,5 @@
 use Rattle.std.proofs.Common.{[], refl, sym}
-use Rattle.domain_cli.specs.Script.{Spells, joined, AreLines}
+use Rattle.domain_cli.specs.Script.{no_rounds, Spells, joined, AreLines}
 use Rattle.frame_script.specs.Script.{AtVersion}
 use Rattle.domain_cli.proofs.feeder.LineFeeder.new.Goals as goal
 
@@ -8,7 +8,7 @@ unfolding Spells joined AreLines
 returns-clause-reached c = record {
   good = [];
   draft = AtVersion;
-  rounds = [];
+  rounds = no_rounds;
   begins = record { whole = sym c.in_ok-line.ensures.items; each = tt };
   open_line = rw c.in_ok-line.ensures.items tt;
   count = refl;

@@ -1,11 +1,12 @@
 use Rattle.std.proofs.Common.{◌≡◌, List, [], length, ap, subst, ◌∙◌}
+use Rattle.domain_base.specs.Octets.{AreOctets}
 use Rattle.domain_base.specs.declared.names.Node.TheVariants.{Ap}
 use Rattle.run_journal.specs.declared.acts.Entry.{Entry}
 use Rattle.run_journal.specs.Questions.{history}
 use Rattle.domain_rules.specs.Explained.{push}
 use Rattle.run_journal.specs.Listing.{with_ap}
 use Rattle.domain_world.specs.State.{State}
-use Rattle.domain_world.specs.Owning.{Stand, nodes_of}
+use Rattle.domain_world.specs.Owning.{Stand, HoldNone, nodes_of}
 use Rattle.domain_world.proofs.Owned.{own_ap}
 use Rattle.domain_world.proofs.Begun.{started_ap}
 use Rattle.domain_world.proofs.world.World.add_ap.Goals as goal
@@ -18,9 +19,9 @@ returns-clause-own c =
     let at = c.in_ok-node.ensures.node ∙ ap (λ (w : State). Ap (length w.domain.aps)) c.self.view_is in
     let domain = c.in_ok-node.ensures.domain ∙ ap (λ (w : State). with_ap w.domain c.args.address c.args.r0kh_id) c.self.view_is in
     let is = c.journal_acts.ensures.entries ∙ ap (push 0 node acts) c.in_ok-reserve.ensures.entries in
-    let stand = subst (λ (w : State). (i : List Entry) → Stand (nodes_of w) i → history node i ≡ [] → Stand new (push 0 node acts i)) c.self.view_is c.in_ok-node.ensures.stand in
-    own_ap c.args.self.now _ c.args.address c.args.r0kh_id node acts c.args.journal.now.entries c.journal_acts.new.journal.entries c.requires.own c.requires.form at domain
-    (ap (λ (w : State). w.rounds) c.self.view_is) c.journal_acts.ensures.noted is c.add_ap.ensures.listed stand
+    let stand = subst (λ (w : State). (i : List Entry) → Stand (nodes_of w) i → HoldNone w.rows → history node i ≡ [] → Stand new (push 0 node acts i)) c.self.view_is c.in_ok-node.ensures.stand in
+    own_ap c.args.self.now _ c.args.address c.args.r0kh_id node acts c.args.journal.now.entries c.journal_acts.new.journal.entries c.requires.own c.requires.first c.requires.form c.six.ensures.size c.six.ensures.octets (subst AreOctets c.as_slice.ensures c.octets.ensures) at domain
+    c.in_ok-node.ensures.acts (ap (λ (w : State). w.rounds) c.self.view_is) (ap (λ (w : State). w.usable) c.self.view_is) c.journal_acts.ensures.noted is c.add_ap.ensures.listed c.in_ok-node.ensures.quiet stand
 
 pub returns-clause-started : goal.returns-clause-started
 returns-clause-started c =

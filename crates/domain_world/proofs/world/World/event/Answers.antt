@@ -58,4 +58,4 @@ returns-clause-own c =
     let round : c.self.inside.rounds + 1 ≡ suc c.args.self.now.rounds = omega arith in
     let is = c.journal_acts.ensures.entries ∙ ap (push (c.self.inside.rounds + 1) node acts) c.in_ok-reserve.ensures.entries ∙ ap (λ (r : ℕ). push r node acts j) round in
     own_event c.args.self.now _ node at acts j c.journal_acts.new.journal.entries c.requires.own listed (acted j c.requires.own.stand) c.step.ensures.listed
-    (c.step.ensures.domain ∙ ap (λ (w : State). w.domain) c.self.view_is) round c.journal_acts.ensures.noted is
+    (c.step.ensures.domain ∙ ap (λ (w : State). w.domain) c.self.view_is) round (ap (λ (w : State). w.usable) c.self.view_is) c.journal_acts.ensures.noted is

@@ -1,9 +1,10 @@
 use Rattle.std.proofs.Common.{refl}
 use Rattle.domain_rules.specs.Rows.{Take}
-use Rattle.frame_intake.specs.Views.{reading_of}
+use Rattle.rsn_elements.specs.Fields.{element_fields}
+use Rattle.frame_intake.specs.Views.{reading_of, management_fields}
 use Rattle.station_node.specs.Steps.{turn}
 use Rattle.station_node.proofs.Taken.{takes_by}
-use Rattle.station_node.proofs.Judged.{judged-managed, judged-keyed, judged-sealed, judged-settled, judged-ap, judged-listed}
+use Rattle.station_node.proofs.Judged.{judged-managed, judged-raw, judged-keyed, judged-sealed, judged-settled, judged-ap, judged-listed}
 use Rattle.station_node.proofs.station.StationNode.take.Goals as goal
 
 pub number_of-requires : goal.number_of-requires
@@ -20,11 +21,15 @@ take_message-requires-clause-ap c = judged-listed c.args.here.domain.now c.args.
 
 pub take_management-requires-clause-managed : goal.take_management-requires-clause-managed
 take_management-requires-clause-managed c =
-    judged-managed c.args.here.domain.now c.args.here.node c.args.self.now.number c.number_of.result c.args.octets.now (reading_of c.read-delivered.result) c.in-Managed.frame c.in-Managed.field-2 c.in-Managed.from c.in-Managed.ensures c.read-delivered.ensures.reads c.number_of.ensures c.requires.node
+    judged-managed c.args.here.domain.now c.args.here.node c.args.self.now.number c.number_of.result c.args.octets.now (reading_of c.read-delivered.result) c.in-Managed.frame c.in-Managed.elements c.in-Managed.from c.in-Managed.ensures c.read-delivered.ensures.reads c.number_of.ensures c.requires.node
 
 pub take_message-requires-clause-message : goal.take_message-requires-clause-message
 take_message-requires-clause-message c =
     judged-keyed c.args.here.domain.now c.args.here.node c.args.self.now.number c.number_of-in-Keyed.result c.args.octets.now (reading_of c.read-delivered.result) c.in-Keyed.message c.in-Keyed.from c.in-Keyed.ensures c.read-delivered.ensures.reads c.number_of-in-Keyed.ensures c.requires.node
+
+pub take_management-requires-clause-raw : goal.take_management-requires-clause-raw
+take_management-requires-clause-raw c =
+    judged-raw c.read-delivered.result (management_fields c.in-Managed.frame) (element_fields c.in-Managed.elements) c.read-delivered.ensures.whole c.in-Managed.ensures.0
 
 pub returns-in-Settled : goal.returns-in-Settled
 returns-in-Settled c =

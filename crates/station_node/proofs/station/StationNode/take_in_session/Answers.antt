@@ -4,7 +4,6 @@ use Rattle.domain_base.specs.declared.names.Node.TheVariants.{Ap, Sta}
 use Rattle.domain_rules.specs.Replies.{IsMessageFrom}
 use Rattle.domain_rules.specs.Rows.{Take}
 use Rattle.std.specs.Prelude.{slice_set}
-use Rattle.ccmp_guard.specs.Held.{Held}
 use Rattle.frame_intake.specs.Views.{message_fields}
 use Rattle.supplicant.specs.State.{both}
 use Rattle.station_node.specs.declared.session.Session.{Session}
@@ -40,15 +39,14 @@ returns-in_ok-came-in-Some c =
     let t = handing (both c.in-Some.field-0.supplicant had) (both c.hand.new.supplicant c.hand.new.memory) c.args.out.now.acts c.hand.new.out.acts in
     let node_is : c.args.here.node ≡ Sta s.number = c.requires.node ∙ ap (λ (y : State). Sta y.number) (sym c.self.view_is) in
     let came = c.in_ok-came-in-Some.came in
-    subst (λ (y : State). IsTaken d (Take m.octets.now) (turn y (held_state s c.in-Some.field-0.ap c.hand.new.supplicant c.take_key.new.key memories) c.args.out.now.acts c.hand.new.out.acts) came.outcome) c.self.view_is
-    (subst (λ (k : Held). IsTaken d (Take m.octets.now) (turn s (held_state s c.in-Some.field-0.ap c.hand.new.supplicant k memories) c.args.out.now.acts c.hand.new.out.acts) came.outcome) (sym c.take_key.ensures)
+    subst (λ (y : State). IsTaken d (Take m.octets.now) (turn y (held_state s c.in-Some.field-0.ap c.hand.new.supplicant c.in-Some.field-0.key memories) c.args.out.now.acts c.hand.new.out.acts) came.outcome) c.self.view_is
     (handed-held d s c.in-Some.field-0 c.args.ap c.from.result m c.in-Some.field-0.supplicant c.hand.new.supplicant had c.hand.new.memory c.args.out.now.acts c.hand.new.out.acts c.in_ok-came-in-Some.came c.in-Some.is c.if-with-ap.true refl c.self.invariant.held
     (record { from = subst (λ (y : State). IsMessageFrom d (Sta y.number) (Ap c.args.ap) m.octets.now (message_fields m.message)) (sym c.self.view_is) c.requires.message; place_is = c.from.ensures; value = c.index_mut-kept.ensures.value })
-    (subst (λ (n : Node). IsHanded d n (Ap c.args.ap) m t c.in_ok-came-in-Some.came) node_is c.in_ok-came-in-Some.ensures.handed)))
+    (subst (λ (n : Node). IsHanded d n (Ap c.args.ap) m t c.in_ok-came-in-Some.came) node_is c.in_ok-came-in-Some.ensures.handed))
 
 -- the station as it was, for one with that session
 abbrev as_was : (c : goal.After-refuse_message) → Option Session → State
-as_was c o = the_view (record { number = c.self.inside.number; drawn = c.self.inside.drawn; attempt = c.self.inside.attempt; session = o; memories = c.self.inside.memories })
+as_was c o = the_view (record { number = c.self.inside.number; drawn = c.self.inside.drawn; attempt = c.self.inside.attempt; session = o; memories = c.self.inside.memories; r0kh_id = c.self.inside.r0kh_id })
 
 nowhere : (c : goal.After-refuse_message) → c.in_default.self ≡ c.args.self.now → IsElsewhere (peer_of_session c.self.inside.session) c.args.ap → Takes c.args.here.domain.now (Take c.args.heard.now.octets.now) (turn c.args.self.now c.in_default.self c.args.out.now.acts c.refuse_message.new.out.acts) c.refuse_message.result
 nowhere c same held =

@@ -10,14 +10,14 @@ use Rattle.frame_intake.specs.Views.{message_fields}
 use Rattle.supplicant.specs.State.{both}
 use Rattle.data_frames.specs.Holding.{fresh_key}
 use Rattle.station_node.specs.declared.attempt.Attempt.{Attempt}
-use Rattle.station_node.specs.declared.attempt.Association.TheVariants.{Requested}
+use Rattle.station_node.specs.declared.attempt.Association.TheVariants.{Requested, Moving}
 use Rattle.station_node.specs.State.{State}
 use Rattle.station_node.specs.Steps.{IsTaken, Takes, turn}
 use Rattle.station_node.specs.Handed.{IsHanded, handing}
 use Rattle.station_node.specs.contracts.station.StationNode.{the_view}
 use Rattle.station_node.proofs.Handed.{tried_state}
 use Rattle.station_node.proofs.Placed.{whole_attempt, takes_nothing, left-tried, tried_places, finished_places, handed-tried, handed-finished, takes_same_old}
-use Rattle.station_node.proofs.Taken.{takes_by, taken-requested}
+use Rattle.station_node.proofs.Taken.{takes_by, taken-requested, taken-roamed}
 use Rattle.station_node.proofs.station.StationNode.take_message.Goals.{in_default-via-in-Some+else-with-ap, in_default-via-in_default}
 use Rattle.station_node.proofs.station.StationNode.take_message.Goals as goal
 
@@ -45,10 +45,22 @@ returns-in-Requested c =
     let s = c.args.self.now in
     let waits = c.refuse_message.new.out.acts in
     let there = ap (λ (t : State). t.attempt) (sym c.self.view_is) ∙ c.in-Some.is ∙ whole_attempt c.in-Some.field-0 c.args.ap (Requested c.in-Requested.field-0) c.if-with-ap.true c.in-Requested.is in
-    let same = ap (λ (o : Option Attempt). the_view (record { number = c.self.inside.number; drawn = c.self.inside.drawn; attempt = o; session = c.self.inside.session; memories = c.self.inside.memories })) (sym c.in-Some.is) ∙ c.self.view_is in
+    let same = ap (λ (o : Option Attempt). the_view (record { number = c.self.inside.number; drawn = c.self.inside.drawn; attempt = o; session = c.self.inside.session; memories = c.self.inside.memories; r0kh_id = c.self.inside.r0kh_id })) (sym c.in-Some.is) ∙ c.self.view_is in
     subst (λ (t : State). Takes d (Take m.octets.now) (turn s t c.args.out.now.acts waits) c.refuse_message.result) (sym same)
     (takes_by d (Take m.octets.now) (turn s s c.args.out.now.acts waits) c.refuse_message.result (Refused reason.Unawaited) _ c.refuse_message.ensures.outcome c.refuse_message.ensures.acts c.refuse_message.ensures.kept refl
     (λ is. taken-requested d s c.args.ap c.in-Requested.field-0 m.octets.now (message_fields m.message) c.args.out.now.acts waits c.requires.message there is))
+
+pub returns-in-Moving : goal.returns-in-Moving
+returns-in-Moving c =
+    let d = c.args.here.domain.now in
+    let m = c.args.heard.now in
+    let s = c.args.self.now in
+    let waits = c.refuse_message-in-Moving.new.out.acts in
+    let there = ap (λ (t : State). t.attempt) (sym c.self.view_is) ∙ c.in-Some.is ∙ whole_attempt c.in-Some.field-0 c.args.ap (Moving c.in-Moving.field-0) c.if-with-ap.true c.in-Moving.is in
+    let same = ap (λ (o : Option Attempt). the_view (record { number = c.self.inside.number; drawn = c.self.inside.drawn; attempt = o; session = c.self.inside.session; memories = c.self.inside.memories; r0kh_id = c.self.inside.r0kh_id })) (sym c.in-Some.is) ∙ c.self.view_is in
+    subst (λ (t : State). Takes d (Take m.octets.now) (turn s t c.args.out.now.acts waits) c.refuse_message-in-Moving.result) (sym same)
+    (takes_by d (Take m.octets.now) (turn s s c.args.out.now.acts waits) c.refuse_message-in-Moving.result (Refused reason.Unawaited) _ c.refuse_message-in-Moving.ensures.outcome c.refuse_message-in-Moving.ensures.acts c.refuse_message-in-Moving.ensures.kept refl
+    (λ is. taken-roamed d s c.args.ap c.in-Moving.field-0 m.octets.now (message_fields m.message) c.args.out.now.acts waits c.requires.message there is))
 
 pub returns-in-Some-installed : goal.returns-in-Some-installed
 returns-in-Some-installed c =
@@ -61,11 +73,11 @@ returns-in-Some-installed c =
     let t = handing (both c.in-Accepted.supplicant had) (both c.hand.new.supplicant c.hand.new.memory) c.args.out.now.acts waits in
     let node_is : c.args.here.node ≡ Sta s.number = c.requires.node ∙ ap (λ (y : State). Sta y.number) (sym c.self.view_is) in
     let done = c.finish.ensures c.in-Some.field-0.ap c.hand.new.supplicant refl in
-    let new : State = record { number = s.number; drawn = s.drawn; attempt = c.finish.new.attempt; session = c.finish.new.session; memories = slice_set s.memories c.from.result c.hand.new.memory } in
+    let new : State = record { number = s.number; drawn = s.drawn; attempt = c.finish.new.attempt; session = c.finish.new.session; memories = slice_set s.memories c.from.result c.hand.new.memory; r0kh_id = c.holder_of-self-inside.result } in
     subst (λ (y : State). IsTaken d (Take m.octets.now) (turn y new c.args.out.now.acts waits) came.outcome) c.self.view_is
-    (handed-finished d s c.in-Some.field-0 c.finish.new.attempt c.finish.new.session c.args.ap c.from.result m c.in-Accepted.supplicant c.hand.new.supplicant c.in-Some-installed.tk had c.hand.new.memory c.args.out.now.acts waits came c.in-Some.is c.if-with-ap.true c.in-Accepted.is c.self.invariant.tried
+    (handed-finished d s c.in-Some.field-0 c.finish.new.attempt c.finish.new.session c.args.ap c.from.result m c.in-Accepted.supplicant c.hand.new.supplicant c.in-Some-installed.tk c.holder_of-self-inside.result had c.hand.new.memory c.args.out.now.acts waits came c.in-Some.is c.if-with-ap.true c.in-Accepted.is c.self.invariant.tried
     (record { from = subst (λ (y : State). IsMessageFrom d (Sta y.number) (Ap c.args.ap) m.octets.now (message_fields m.message)) (sym c.self.view_is) c.requires.message; place_is = c.from.ensures; value = c.index_mut-memory.ensures.value })
-    (subst (λ (n : Node). IsHanded d n (Ap c.args.ap) m t came) node_is c.in_ok-came-in-Accepted.ensures.handed) c.in-Some-installed.is done.0 done.1)
+    (subst (λ (n : Node). IsHanded d n (Ap c.args.ap) m t came) node_is c.in_ok-came-in-Accepted.ensures.handed) c.in-Some-installed.is c.holder_of-self-inside.ensures done.0 done.1)
 
 pub returns-in_default-installed : goal.returns-in_default-installed
 returns-in_default-installed c =
@@ -84,7 +96,7 @@ returns-in_default-installed c =
 
 -- the station as it was, for one with that attempt
 abbrev as_was : (c : goal.After-take_in_session) → Option Attempt → State
-as_was c o = the_view (record { number = c.self.inside.number; drawn = c.self.inside.drawn; attempt = o; session = c.self.inside.session; memories = c.self.inside.memories })
+as_was c o = the_view (record { number = c.self.inside.number; drawn = c.self.inside.drawn; attempt = o; session = c.self.inside.session; memories = c.self.inside.memories; r0kh_id = c.self.inside.r0kh_id })
 
 elsewhere : (c : goal.After-take_in_session) → c.in_default.self ≡ c.args.self.now
     → Takes c.args.here.domain.now (Take c.args.heard.now.octets.now) (turn c.args.self.now c.take_in_session.new.self c.args.out.now.acts c.take_in_session.new.out.acts) c.take_in_session.result

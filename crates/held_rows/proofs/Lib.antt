@@ -1,0 +1,6 @@
+pub mod Putting
+pub mod Revoking
+pub mod Leaving
+pub mod Pulling
+pub mod Looks
+pub mod NoLooks

@@ -1,0 +1,89 @@
+use Rattle.std.proofs.Common.{◌≡◌, Option, refl, sym, ap, subst, ◌∙◌}
+use Rattle.std.specs.Prelude.{slice_set}
+use Rattle.domain_base.specs.declared.names.Node.{Node}
+use Rattle.domain_base.specs.declared.names.Node.TheVariants.{Ap, Sta}
+use Rattle.rsn_elements.specs.Fields.{element_fields}
+use Rattle.domain_rules.specs.Rows.{Take}
+use Rattle.frame_intake.specs.Views.{management_fields}
+use Rattle.ft_exchange.specs.Comes.{IsManagementFrom}
+use Rattle.ft_exchange.specs.Exchange.{both}
+use Rattle.station_node.specs.declared.attempt.Attempt.{Attempt}
+use Rattle.station_node.specs.declared.moving.Way.{Way}
+use Rattle.station_node.specs.State.{State}
+use Rattle.station_node.specs.Moved.{IsArrived, move}
+use Rattle.station_node.specs.Parts.{IsNotMoving}
+use Rattle.station_node.specs.Steps.{IsTaken, Takes, turn}
+use Rattle.station_node.specs.contracts.station.StationNode.{the_view}
+use Rattle.station_node.proofs.Arriving.{moving_state}
+use Rattle.station_node.proofs.Reached.{none_moving, other_moving, not_moving, refused-reassoc, with_session, handed-moving, handed-arrived}
+use Rattle.station_node.proofs.station.StationNode.take_reassoc.Goals.{in_default-via-in-Some+else-with-ap, in_default-via-in_default}
+use Rattle.station_node.proofs.station.StationNode.take_reassoc.Goals as goal
+
+pub returns-in-Some-installed : goal.returns-in-Some-installed
+returns-in-Some-installed c =
+    let d = c.args.here.domain.now in
+    let s = the_view c.self.inside in
+    let m = c.args.managed.now in
+    let waited = c.args.out.now.acts in
+    let waits = c.arrive.new.out.acts in
+    let came = c.in_ok-came-in-Moving.came in
+    let had = c.index_mut-kept.result.now in
+    let way : Way = record { ap = c.args.ap; r0kh_id = c.as_slice-r0kh_id.result; left = c.peer-left.result } in
+    let t = move (both c.in-Moving.originator had) (both c.arrive.new.originator c.arrive.new.memory) waited waits in
+    let node_is : c.args.here.node ≡ Sta s.number = c.requires.node ∙ ap (λ (y : State). Sta y.number) (sym c.self.view_is) in
+    subst (λ (y : State). IsTaken d (Take m.octets.now) (turn y (with_session s c.transferred-session.result (slice_set s.memories c.from.result c.arrive.new.memory)) waited waits) came.outcome) c.self.view_is
+    (handed-arrived d s c.in-Some.field-0 c.args.ap c.from.result way m c.in-Moving.originator c.arrive.new.originator c.transferred-session.result c.in-Some-installed.key had c.arrive.new.memory waited waits came c.in-Some.is c.if-with-ap.true c.in-Moving.is
+    (record { place = c.self.invariant.tried; place_is = c.from.ensures; value = c.index_mut-kept.ensures.value })
+    (record {
+      from = subst (λ (y : State). IsManagementFrom d (Sta y.number) (Ap c.args.ap) m.octets.now (management_fields m.frame) (element_fields m.elements)) (sym c.self.view_is) c.requires.managed;
+      ap_is = refl;
+      id_is = c.as_slice-r0kh_id.ensures;
+      left_is = c.peer-left.ensures;
+    })
+    c.requires.kind (subst (λ (n : Node). IsArrived d n way m t came) node_is c.in_ok-came-in-Moving.ensures.arrived) c.in-Some-installed.is c.transferred-session.ensures.ap c.transferred-session.ensures.begun c.transferred-session.ensures.key)
+
+pub returns-in_default-installed : goal.returns-in_default-installed
+returns-in_default-installed c =
+    let d = c.args.here.domain.now in
+    let s = the_view c.self.inside in
+    let m = c.args.managed.now in
+    let waited = c.args.out.now.acts in
+    let waits = c.arrive.new.out.acts in
+    let came = c.in_ok-came-in-Moving.came in
+    let had = c.index_mut-kept.result.now in
+    let way : Way = record { ap = c.args.ap; r0kh_id = c.as_slice-r0kh_id.result; left = c.peer-left.result } in
+    let t = move (both c.in-Moving.originator had) (both c.arrive.new.originator c.arrive.new.memory) waited waits in
+    let node_is : c.args.here.node ≡ Sta s.number = c.requires.node ∙ ap (λ (y : State). Sta y.number) (sym c.self.view_is) in
+    subst (λ (y : State). IsTaken d (Take m.octets.now) (turn y (moving_state s c.in-Some.field-0.ap c.arrive.new.originator (slice_set s.memories c.from.result c.arrive.new.memory)) waited waits) came.outcome) c.self.view_is
+    (handed-moving d s c.in-Some.field-0 c.args.ap c.from.result way m c.in-Moving.originator c.arrive.new.originator had c.arrive.new.memory waited waits came c.in-Some.is c.if-with-ap.true c.in-Moving.is
+    (record { place = c.self.invariant.tried; place_is = c.from.ensures; value = c.index_mut-kept.ensures.value })
+    (record {
+      from = subst (λ (y : State). IsManagementFrom d (Sta y.number) (Ap c.args.ap) m.octets.now (management_fields m.frame) (element_fields m.elements)) (sym c.self.view_is) c.requires.managed;
+      ap_is = refl;
+      id_is = c.as_slice-r0kh_id.ensures;
+      left_is = c.peer-left.ensures;
+    })
+    c.requires.kind (subst (λ (n : Node). IsArrived d n way m t came) node_is c.in_ok-came-in-Moving.ensures.arrived) c.in_default-installed.is)
+
+pub returns-in_default-association : goal.returns-in_default-association
+returns-in_default-association c =
+    let same = ap (λ (o : Option Attempt). the_view (record { number = c.self.inside.number; drawn = c.self.inside.drawn; attempt = o; session = c.self.inside.session; memories = c.self.inside.memories; r0kh_id = c.self.inside.r0kh_id })) (sym c.in-Some.is) ∙ c.self.view_is in
+    refused-reassoc c.args.here.domain.now c.args.self.now _ c.args.ap c.args.managed.now c.args.out.now.acts c.refuse.new.out.acts c.refuse.result same c.requires.managed c.requires.kind
+    (subst (λ (t : State). IsNotMoving t.attempt c.args.ap) c.self.view_is (not_moving c.self.inside.attempt c.in-Some.field-0 c.args.ap c.in-Some.is c.in_default-association.not-Moving))
+    c.refuse.ensures.outcome c.refuse.ensures.acts c.refuse.ensures.kept
+
+-- the station as it was, for one with that attempt
+abbrev as_was : (c : goal.After-refuse-in_default) → Option Attempt → State
+as_was c o = the_view (record { number = c.self.inside.number; drawn = c.self.inside.drawn; attempt = o; session = c.self.inside.session; memories = c.self.inside.memories; r0kh_id = c.self.inside.r0kh_id })
+
+nowhere : (c : goal.After-refuse-in_default) → c.in_default.self ≡ c.args.self.now → IsNotMoving c.self.inside.attempt c.args.ap
+    → Takes c.args.here.domain.now (Take c.args.managed.now.octets.now) (turn c.args.self.now c.in_default.self c.args.out.now.acts c.refuse-in_default.new.out.acts) c.refuse-in_default.result
+nowhere c same other =
+    refused-reassoc c.args.here.domain.now c.args.self.now c.in_default.self c.args.ap c.args.managed.now c.args.out.now.acts c.refuse-in_default.new.out.acts c.refuse-in_default.result same c.requires.managed c.requires.kind
+    (subst (λ (t : State). IsNotMoving t.attempt c.args.ap) c.self.view_is other) c.refuse-in_default.ensures.outcome c.refuse-in_default.ensures.acts c.refuse-in_default.ensures.kept
+
+pub returns-in_default : goal.returns-in_default
+returns-in_default c = elim c.in_default.branch [
+  | in_default-via-in-Some+else-with-ap w ↦ nowhere c (w.self-is ∙ ap (as_was c) (sym w.in-Some.is) ∙ c.self.view_is) (other_moving c.self.inside.attempt w.in-Some.field-0 c.args.ap w.in-Some.is w.if-with-ap.false)
+  | in_default-via-in_default w ↦ nowhere c (w.self-is ∙ c.self.view_is) (none_moving c.self.inside.attempt c.args.ap w.in_default.is)
+]

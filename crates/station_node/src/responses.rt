@@ -1,0 +1,133 @@
+//! Association responses by what they say.
+
+ghost use Rattle.std.specs.Prelude.{◌≡◌, ◌<◌, ◌≤◌, ◌+◌, length, slice_index, Some, is_some, option_map};
+ghost use Rattle.std.specs.Option.{option_copied};
+ghost use Rattle.domain_base.specs.declared.names.Akm.TheVariants.{FtPsk};
+ghost use Rattle.domain_base.specs.declared.names.Node.TheVariants.{Ap};
+ghost use Rattle.rsn_elements.specs.Elements.{HasRaw};
+ghost use Rattle.rsn_elements.specs.Fields.{fte_fields, mde_fields, element_fields};
+ghost use Rattle.domain_rules.specs.Facts.{is_same};
+ghost use Rattle.domain_rules.specs.Associating.{response_fields};
+ghost use Rattle.domain_rules.specs.FastTransition.{mde_status, names_r1kh};
+ghost use Rattle.station_node.specs.Responses.{outcome_by, response_outcome, fte_with};
+
+use domain_base::{Akm, Mac, Node};
+use node_base::address;
+use rsn_elements::{Elements, Fte, Mde};
+use run_journal::{Domain, Reason};
+
+// The status of a mobility domain element that is missing or of another domain, and of an FTE that
+// is missing or other (IEEE Std 802.11-2020, 9.4.1.9).
+const INVALID_MDE: u16 = 54;
+
+const INVALID_FTE: u16 = 55;
+
+// The status with which an MDE is refused, if it is.
+fn mde_status(domain: &Domain, mde: Option<Mde>) -> Option<u16>
+    ensures { result ≡ mde_status domain.now (option_map mde_fields mde) }
+{
+    let Some(mde) = mde else {
+        return Some(INVALID_MDE);
+    };
+    if mde.mdid == domain.mdid {
+        None
+    } else {
+        Some(INVALID_MDE)
+    }
+}
+
+// Whether the address is there, and is this one.
+fn is_same_id(found: Option<[u8; 6]>, id: [u8; 6]) -> bool
+    ensures { result ≡ is_same found (Some id) }
+{
+    match found {
+        Some(found) => found == id,
+        None => false,
+    }
+}
+
+// Whether there is an R0KH-ID.
+fn is_there(found: Option<&[u8]>) -> bool
+    ensures { result ≡ is_some (option_copied found.entry) }
+{
+    match found {
+        Some(_) => true,
+        None => false,
+    }
+}
+
+// Whether the FTE names that R1KH-ID, and some R0KH-ID.
+fn names_r1kh(bssid: Mac, fte: Option<Fte<'_>>) -> bool
+    ensures { result ≡ names_r1kh bssid.0 (option_map fte_fields fte.entry) }
+{
+    let Some(fte) = fte else { return false };
+    is_same_id(fte.r1kh_id, bssid.0) && is_there(fte.r0kh_id)
+}
+
+// Why the elements of an association response of that access point are refused with suite 4, if
+// they are.
+fn mobile_fault(domain: &Domain, ap: u16, elements: &Elements<'_>) -> Option<Reason>
+    requires { ap < length domain.now.aps }
+    ensures { outcome_by result
+        ≡ response_fields FtPsk domain.now (Ap ap) (element_fields elements.now) }
+{
+    if let Some(code) = mde_status(domain, elements.mde) {
+        return Some(Reason::Status(code));
+    }
+    if !names_r1kh(address(domain, Node::Ap(ap)), elements.fte) {
+        return Some(Reason::Status(INVALID_FTE));
+    }
+    None
+}
+
+/// Why an association response of that access point, which is awaited, is refused, if it is
+/// (IEEE Std 802.11-2020, 11.3.5.2 and 13.4.2).
+pub fn response_fault(
+    domain: &Domain,
+    ap: u16,
+    status: u16,
+    elements: &Elements<'_>,
+) -> Option<Reason>
+    requires { ap < length domain.now.aps }
+    ensures { outcome_by result
+        ≡ response_outcome domain.now ap status (element_fields elements.now) }
+{
+    if status != 0 {
+        return Some(Reason::Status(status));
+    }
+    match domain.akm {
+        Akm::FtPsk => mobile_fault(domain, ap, elements),
+        Akm::Psk => None,
+        Akm::PskSha256 => None,
+    }
+}
+
+// An element whose second octet is the length of its body, as it is: so it has at most 257 octets
+// (IEEE Std 802.11-2020, 9.4.2.1).
+fn whole_element(element: &[u8]) -> &[u8]
+    requires some { 2 ≤ length element.now }
+    requires framed { length element.now ≡ slice_index element.now 1 + 2 }
+    ensures same { result.now ≡ element.now }
+    ensures few { length result.now ≤ 257 }
+{
+    let body = usize::from(element[1]);
+    let (whole, _) = element.split_at(body + 2);
+    whole
+}
+
+/// The FTE of an association response with suite 4, as a whole element, and with the others
+/// nothing.
+pub fn response_fte<'a>(akm: Akm, elements: &Elements<'a>) -> &'a [u8]
+    requires { HasRaw (element_fields elements.now) }
+    ensures fte { result.now ≡ fte_with akm (element_fields elements.now) }
+    ensures few { length result.now ≤ 257 }
+{
+    match akm {
+        Akm::FtPsk => match elements.fte_octets {
+            Some(fte) => whole_element(fte),
+            None => &[],
+        },
+        Akm::Psk => &[],
+        Akm::PskSha256 => &[],
+    }
+}

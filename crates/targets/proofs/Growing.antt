@@ -1,0 +1,118 @@
+-- The network grows: the fast transitions of an access point stand for the same histories.
+use Rattle.std.proofs.Common.{◌≡◌, ◌∙◌, ℕ, ◌<◌, ◌≤◌, Bool, true, false, List, Option, Some, None, length, refl, sym, ap, subst, arith, length-append}
+use Rattle.std.specs.Prelude.{nat_lt}
+use Rattle.std.proofs.lemmas.Bool.{ltb-true, ltb-false}
+use Rattle.std.proofs.lemmas.List.{get_or_past}
+use Rattle.domain_base.specs.declared.names.Mac.{Mac}
+use Rattle.domain_base.specs.declared.names.Node.TheVariants.{Ap, Sta}
+use Rattle.key_hierarchy.specs.declared.inputs.Inputs.{Inputs}
+use Rattle.key_hierarchy.specs.declared.inputs.Ptk.{Ptk}
+use Rattle.run_journal.specs.declared.domain.Domain.{Domain}
+use Rattle.run_journal.specs.declared.acts.Kind.TheVariants as kind
+use Rattle.run_journal.specs.declared.acts.Seal.{Seal}
+use Rattle.run_journal.specs.declared.acts.Act.{Act}
+use Rattle.run_journal.specs.declared.reply.Keyed.{Keyed}
+use Rattle.run_journal.specs.Acts.{Derivation}
+use Rattle.run_journal.specs.Holders.{Stored}
+use Rattle.domain_rules.specs.Network.{IsListed, address, Root, root_at}
+use Rattle.domain_rules.specs.FastTransition.{fte_seal, response_number}
+use Rattle.domain_rules.specs.Replies.{key_by}
+use Rattle.domain_rules.specs.TransitionKeys.{Transition}
+use Rattle.node_base.specs.Growing.{Grows}
+use Rattle.node_base.proofs.Grown.{mac_grown, root_grown, inputs_of_grown}
+use Rattle.ft_exchange.specs.Sent.{covered_in}
+use Rattle.ft_exchange.specs.State.{TargetState}
+use Rattle.ft_exchange.specs.Stands.{transition_of, IsPlace, IsHeldOrPending, TargetStands, PendingStands}
+use Rattle.ft_exchange.specs.Told.{sent_seal}
+use Rattle.ft_exchange.specs.declared.place.Place.{Place}
+use Rattle.targets.specs.declared.moves.Moves.{Moves}
+use Rattle.targets.specs.State.{no_moves, moves_at}
+use Rattle.targets.specs.Stands.{HeldStands, HasMoves, TargetsStand}
+
+abbrev derivation_as : Ptk → Inputs → Derivation
+derivation_as k i = record { inputs = i; ptk = k }
+
+abbrev transition_as : TargetState → Derivation → Transition
+transition_as s x = record { key = x; asked = s.asked; r1_name = s.name }
+
+key_grown : (d e : Domain) (a sta : ℕ) (id : List ℕ) (y : Keyed) → Grows d e → IsListed d (Ap a) → IsListed d (Sta sta) → key_by e (root_at e id) (Ap a) (Sta sta) y ≡ key_by d (root_at d id) (Ap a) (Sta sta) y
+key_grown d e a sta id y g here there =
+    ap (λ (r : Root). key_by e r (Ap a) (Sta sta) y) (root_grown d e id g)
+    ∙ ap (λ (i : Inputs). derivation_as y.ptk i) (inputs_of_grown d e (root_at d id) (Ap a) (Sta sta) y.anonce y.snonce g here there)
+
+transition_grown : (d e : Domain) (a sta : ℕ) (s : TargetState) → Grows d e → IsListed d (Ap a) → IsListed d (Sta sta) → transition_of d (Ap a) (Sta sta) s ≡ transition_of e (Ap a) (Sta sta) s
+transition_grown d e a sta s g here there = sym (ap (λ (x : Derivation). transition_as s x) (key_grown d e a sta s.r0kh_id s.key g here there))
+
+place_grown : (d e : Domain) (a sta : ℕ) (w : Place) → Grows d e → IsListed d (Ap a) → IsListed d (Sta sta) → IsPlace d (Ap a) (Sta sta) w → IsPlace e (Ap a) (Sta sta) w
+place_grown d e a sta w g here there at = record {
+  own = at.own ∙ sym (mac_grown d e (Ap a) g here);
+  peer = at.peer ∙ sym (mac_grown d e (Sta sta) g there);
+  aid_is = at.aid_is;
+  mdid = at.mdid ∙ sym g.mdid;
+}
+
+seal_grown : (d e : Domain) (a sta : ℕ) (kck octets : List ℕ) → Grows d e → IsListed d (Ap a) → IsListed d (Sta sta)
+    → sent_seal d (Ap a) (Sta sta) kind.ReResp (Some kck) octets ≡ sent_seal e (Ap a) (Sta sta) kind.ReResp (Some kck) octets
+seal_grown d e a sta kck octets g here there =
+    ap (λ (m : Mac). Some (fte_seal kck (covered_in m.0 (address d (Ap a)) response_number 36 octets))) (sym (mac_grown d e (Sta sta) g there))
+    ∙ ap (λ (m : Mac). Some (fte_seal kck (covered_in (address e (Sta sta)) m.0 response_number 36 octets))) (sym (mac_grown d e (Ap a) g here))
+
+abbrev stored_as : List ℕ → Option Seal → Option Stored
+stored_as octets seal = Some (record { octets = octets; seal = seal })
+
+holds_grown : (d e : Domain) (a sta : ℕ) (s : TargetState) (b : Bool) (h : List Act) → Grows d e → IsListed d (Ap a) → IsListed d (Sta sta) → IsHeldOrPending b d (Ap a) (Sta sta) s h → IsHeldOrPending b e (Ap a) (Sta sta) s h
+holds_grown d e a sta s false h g here there i = record {
+  is = i.is ∙ ap (λ (t : Transition). Some t) (transition_grown d e a sta s g here there);
+  part = i.part;
+  awaited = i.awaited;
+  stored = i.stored;
+}
+holds_grown d e a sta s true h g here there i = record {
+  is = i.is ∙ ap (λ (t : Transition). Some t) (transition_grown d e a sta s g here there);
+  stored = i.stored ∙ ap (λ (x : Option Seal). stored_as s.stored x) (seal_grown d e a sta s.key.ptk.kck s.stored g here there);
+}
+
+target_grown : (d e : Domain) (a sta : ℕ) (s : TargetState) (h : List Act) → Grows d e → IsListed d (Ap a) → IsListed d (Sta sta) → TargetStands d (Ap a) (Sta sta) s h → TargetStands e (Ap a) (Sta sta) s h
+target_grown d e a sta s h g here there st = record {
+  suite = g.akm ∙ st.suite;
+  place = place_grown d e a sta s.place g here there st.place;
+  holds = holds_grown d e a sta s s.is_installed h g here there st.holds;
+}
+
+pending_grown : (d e : Domain) (a sta : ℕ) (o : Option TargetState) (h : List Act) → Grows d e → IsListed d (Ap a) → IsListed d (Sta sta) → PendingStands d (Ap a) (Sta sta) o h → PendingStands e (Ap a) (Sta sta) o h
+pending_grown d e a sta None h g here there st = st
+pending_grown d e a sta (Some s) h g here there st = (st.0, target_grown d e a sta s h g here there st.1)
+
+held_grown : (d e : Domain) (a sta : ℕ) (o : Option TargetState) (h : List Act) → Grows d e → IsListed d (Ap a) → IsListed d (Sta sta) → HeldStands d (Ap a) (Sta sta) o h → HeldStands e (Ap a) (Sta sta) o h
+held_grown d e a sta None h g here there st = st
+held_grown d e a sta (Some s) h g here there st = (st.0, target_grown d e a sta s h g here there st.1)
+
+pub moves_grown : (d e : Domain) (a sta : ℕ) (m : Moves) (h : List Act) → Grows d e → IsListed d (Ap a) → IsListed d (Sta sta) → HasMoves d (Ap a) (Sta sta) m h → HasMoves e (Ap a) (Sta sta) m h
+moves_grown d e a sta m h g here there has = record {
+  pending = pending_grown d e a sta m.pending h g here there has.pending;
+  held = held_grown d e a sta m.held h g here there has.held;
+  other = has.other;
+}
+
+-- where there is none the network does not matter
+none_grown : (d e : Domain) (a sta : ℕ) (m : Moves) (h : List Act) → m ≡ no_moves → HasMoves d (Ap a) (Sta sta) m h → HasMoves e (Ap a) (Sta sta) m h
+none_grown d e a sta m h none has =
+    let old : HasMoves d (Ap a) (Sta sta) no_moves h = subst (λ (x : Moves). HasMoves d (Ap a) (Sta sta) x h) none has in
+    subst (λ (x : Moves). HasMoves e (Ap a) (Sta sta) x h) (sym none) (record { pending = old.pending; held = old.held; other = old.other })
+
+low_listed : (d : Domain) (targets : List Moves) (sta : ℕ) → length targets ≤ length d.stas → sta < length targets → sta < length d.stas
+low_listed d targets sta few low = omega (arith, few, low)
+
+each_grown : (d e : Domain) (a : ℕ) (targets : List Moves) (h : List Act) (sta : ℕ) (b : Bool) → Grows d e → a < length d.aps → length targets ≤ length d.stas → HasMoves d (Ap a) (Sta sta) (moves_at targets sta) h → nat_lt sta (length targets) ≡ b
+    → HasMoves e (Ap a) (Sta sta) (moves_at targets sta) h
+each_grown d e a targets h sta true g here few has is = moves_grown d e a sta (moves_at targets sta) h g here (low_listed d targets sta few (ltb-true sta (length targets) is)) has
+each_grown d e a targets h sta false g here few has is = none_grown d e a sta (moves_at targets sta) h (get_or_past targets sta no_moves (ltb-false sta (length targets) is)) has
+
+few_grown : (d e : Domain) (n : ℕ) → Grows d e → n ≤ length d.stas → n ≤ length e.stas
+few_grown d e n g few = omega (arith, few, ap (λ (l : List Mac). length l) g.stas, length-append d.stas g.more_stas)
+
+pub targets_grown : (d e : Domain) (a : ℕ) (targets : List Moves) (h : List Act) → Grows d e → a < length d.aps → TargetsStand d a targets h → TargetsStand e a targets h
+targets_grown d e a targets h g here st = record {
+  few = few_grown d e (length targets) g st.few;
+  each = λ sta. each_grown d e a targets h sta (nat_lt sta (length targets)) g here st.few (st.each sta) refl;
+}

@@ -1,0 +1,144 @@
+//! The requests of a station in a fast transition.
+
+ghost use Rattle.std.specs.Prelude.{◌≡◌, ◌≤◌, ◌<◌, ◌++◌, ℕ, List, Some, None, true};
+ghost use Rattle.std.specs.Prelude.{length, is_some, IfOk, OnOk, OnErr};
+ghost use Rattle.std.specs.Option.{option_copied};
+ghost use Rattle.domain_base.specs.declared.names.Node.TheVariants.{Ap, Sta};
+ghost use Rattle.key_holders.specs.Rows.{is_in};
+ghost use Rattle.key_holders.specs.Pulls.{Answers, IsNamed};
+ghost use Rattle.rsn_elements.specs.Elements.{HasRaw};
+ghost use Rattle.rsn_elements.specs.Fields.{element_fields};
+ghost use Rattle.run_journal.specs.declared.domain.Domain.{Domain as AnyDomain};
+ghost use Rattle.domain_rules.specs.Network.{InForm, mac, root_at};
+ghost use Rattle.domain_rules.specs.TransitionKeys.{asked};
+ghost use Rattle.ft_exchange.specs.Asking.{ids_of};
+ghost use Rattle.ft_exchange.specs.TargetSteps.{root_asked, LooksBy};
+ghost use Rattle.targets.specs.Steps.{request, AuthTaken, ReassocTaken};
+
+use crate::moves::Moves;
+use crate::taken::Taken;
+use act_memory::Outbox;
+use domain_base::{NoMemory, Node};
+use ft_exchange::Target;
+use group_key::GroupKey;
+use key_holders::Holders;
+use mac_prf::Reassociation;
+use node_base::Here;
+use rsn_elements::Elements;
+use run_journal::Reply;
+use transition_acts::TransitionRoom;
+
+// The R0KH-ID that an authentication request asks for, and no octets where it asks for nothing.
+fn asked_id<'a>(elements: &Elements<'a>) -> &'a [u8]
+    ensures { (d : AnyDomain) → root_asked d (asked (element_fields elements.now))
+        ≡ root_at d result.now }
+{
+    let Some(fte) = elements.fte else { return &[] };
+    match fte.r0kh_id {
+        Some(r0kh_id) => r0kh_id,
+        None => &[],
+    }
+}
+
+/// An access point takes an authentication request of a station, with these octets and elements. It
+/// had an attempt with the station or not, of whatever kind, and `anonce` is the nonce that it draws
+/// next, if it can draw one more. There is room for one more act then.
+#[tactic(auto, using(crate::proofs::Authing::auth_whole))]
+pub fn take_auth<H: Holders>(
+    moves: &mut Moves,
+    here: Here<'_>,
+    ap: u16,
+    station: u16,
+    octets: &[u8],
+    elements: &Elements<'_>,
+    had_attempt: bool,
+    anonce: Option<&[u8; 32]>,
+    holders: &mut H,
+    out: &mut Outbox,
+) -> Result<Taken, NoMemory>
+    requires form { InForm here.domain.now }
+    requires node { here.node ≡ Ap ap }
+    requires ap { ap < length here.domain.now.aps }
+    requires sta { station < length here.domain.now.stas }
+    requires raw { HasRaw (element_fields elements.now) }
+    requires ids { H.ids holders.old ≡ ids_of here.domain.now }
+    ensures taken { IfOk result (λ taken. AuthTaken (request here.entry.domain.now ap station
+        octets.now (element_fields elements.now)) (option_copied anonce.entry) had_attempt
+        (LooksBy (element_fields elements.now)
+        (λ id name answer. H.pulls holders.old id name (mac here.entry.domain.now (Ap ap))
+        (mac here.entry.domain.now (Sta station)) holders.new answer
+        × Answers (H.ids holders.old) (H.has holders.old) (H.rows holders.old) id name
+        (mac here.entry.domain.now (Ap ap)) (mac here.entry.domain.now (Sta station)) answer
+        × IsNamed name (mac here.entry.domain.now (Ap ap))
+        (mac here.entry.domain.now (Sta station)) answer)
+        (holders.new ≡ holders.old)) out.old.acts out.new.acts moves.old moves.new taken) }
+    ensures same { OnErr result (moves.new ≡ moves.old) }
+    ensures unasked { OnErr result (holders.new ≡ holders.old) }
+    ensures kept { OnErr result (out.new.acts ≡ out.old.acts) }
+    ensures room { OnOk result (1 ≤ out.new.spare) }
+    ensures rows { (r : ℕ) → is_in r (H.has holders.old) ≡ true
+        → H.rows holders.new r ≡ H.rows holders.old r }
+    ensures ids { H.ids holders.new ≡ H.ids holders.old }
+    ensures still_has { H.has holders.new ≡ H.has holders.old }
+    ensures no_less { H.no_less holders.old holders.new }
+{
+    let sta = Node::Sta(station);
+    let frame = Reassociation::Request;
+    let room = TransitionRoom::take(here, sta, octets, elements, frame, asked_id(elements))?;
+    out.reserve(8)?;
+    let mut reply = Reply::empty();
+    let pending = &mut moves.pending;
+    let outcome = Target::on_auth(
+        pending,
+        here.domain,
+        ap,
+        station,
+        elements,
+        anonce,
+        holders,
+        &mut reply,
+    );
+    room.add_auth_request(outcome, had_attempt, &reply, out);
+    let key = reply.derived;
+    Ok(Taken { outcome, key })
+}
+
+/// An access point takes a reassociation request of a station, with these octets and elements. It
+/// had a session with the station or not; `newest` is its newest group key, and `rsc` the count of
+/// packet numbers used under that. There is room for one more act then.
+#[tactic(auto, using(crate::proofs::Reassociating::moved_whole))]
+pub fn take_reassoc(
+    moves: &mut Moves,
+    here: Here<'_>,
+    ap: u16,
+    station: u16,
+    octets: &[u8],
+    elements: &Elements<'_>,
+    newest: &GroupKey,
+    rsc: u64,
+    had_session: bool,
+    out: &mut Outbox,
+) -> Result<Taken, NoMemory>
+    requires form { InForm here.domain.now }
+    requires node { here.node ≡ Ap ap }
+    requires ap { ap < length here.domain.now.aps }
+    requires sta { station < length here.domain.now.stas }
+    requires raw { HasRaw (element_fields elements.now) }
+    ensures taken { IfOk result (λ taken. ReassocTaken (request here.entry.domain.now ap station
+        octets.now (element_fields elements.now)) newest.now rsc had_session out.old.acts
+        out.new.acts moves.old moves.new taken) }
+    ensures same { OnErr result (moves.new ≡ moves.old) }
+    ensures kept { OnErr result (out.new.acts ≡ out.old.acts) }
+    ensures room { OnOk result (1 ≤ out.new.spare) }
+{
+    let sta = Node::Sta(station);
+    let frame = Reassociation::Request;
+    let r0kh_id = moves.r0kh_id(elements);
+    let room = TransitionRoom::take(here, sta, octets, elements, frame, r0kh_id)?;
+    out.reserve(6)?;
+    let mut reply = Reply::empty();
+    let outcome = moves.on_reassoc(elements, newest, rsc, &mut reply);
+    room.add_reassoc_request(outcome, had_session, &reply, out);
+    let key = reply.installed;
+    Ok(Taken { outcome, key })
+}

@@ -1,0 +1,5 @@
+pub mod Parting
+pub mod Sealing
+pub mod Asking
+pub mod Rooming
+pub mod Chaining

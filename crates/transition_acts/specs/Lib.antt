@@ -1,0 +1,4 @@
+pub mod Sizes
+pub mod Seals
+pub mod Looks
+pub mod Rooms
