@@ -59,3 +59,22 @@ used = resource.getrusage(resource.RUSAGE_CHILDREN)
 print("%.2f %d %d" % (used.ru_utime + used.ru_stime, used.ru_maxrss, done.returncode))
 PY
 }
+
+# Replays a quarter, a half and the whole of the largest script, and prints how long each took and how much memory. CHECK gets the
+# report and the counts that stand beside the script; it ends with a status other than 0 where the report is not as it should be,
+# and else prints what was replayed. Of the whole script `report` and `seconds` stand from then on.
+replays() { # CHECK
+    local part memory status counts what lines
+    report=$work/report
+    echo "processors: $(nproc)"
+    for part in quarter half whole; do
+        read -r seconds memory status < <(measure "$report" "$work/$part" "$program" replay)
+        [ "$status" = 0 ] || { echo "the replay of $part ended with status $status" >&2; exit 1; }
+        read -r -a counts < "$work/$part.count"
+        what=$("$1" "$report" "${counts[@]}")
+        lines=$(wc -l < "$work/$part")
+        echo "seconds, $lines lines: $seconds (whole replay with $what, processor time)"
+        echo "memory, $lines lines: $((memory / 1024)) MiB (greatest resident size)"
+    done
+    tail -3 "$report"
+}

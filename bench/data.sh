@@ -73,16 +73,13 @@ handed_up() { # REPORT PAYLOADS
     fi
 }
 
-echo "processors: $(nproc)"
-for part in quarter half whole; do
-    read -r seconds memory status < <(measure "$work/report" "$work/$part" "$program" replay)
-    [ "$status" = 0 ] || { echo "the replay of $part ended with status $status" >&2; exit 1; }
-    read -r payloads < "$work/$part.count"
-    handed_up "$work/report" "$payloads"
-    echo "seconds, $(wc -l < "$work/$part") lines: $seconds (whole replay with $payloads payloads of 1500 octets, processor time)"
-    echo "memory, $(wc -l < "$work/$part") lines: $((memory / 1024)) MiB (greatest resident size)"
-done
-tail -3 "$work/report"
+# It says what was replayed.
+sent() { # REPORT PAYLOADS
+    handed_up "$1" "$2"
+    echo "$2 payloads of 1500 octets"
+}
+
+replays sent
 
 # A script of a handshake and that many payloads behind it.
 script() { # SUITE PAYLOADS

@@ -69,16 +69,13 @@ in_use() { # REPORT REKEYS
     fi
 }
 
-echo "processors: $(nproc)"
-for part in quarter half whole; do
-    read -r seconds memory status < <(measure "$work/report" "$work/$part" "$program" replay)
-    [ "$status" = 0 ] || { echo "the replay of $part ended with status $status" >&2; exit 1; }
-    read -r rekeys < "$work/$part.count"
-    in_use "$work/report" "$rekeys"
-    echo "seconds, $(wc -l < "$work/$part") lines: $seconds (whole replay with $rekeys new group keys for 64 stations each, processor time)"
-    echo "memory, $(wc -l < "$work/$part") lines: $((memory / 1024)) MiB (greatest resident size)"
-done
-tail -3 "$work/report"
+# It says what was replayed.
+rekeyed() { # REPORT REKEYS
+    in_use "$1" "$2"
+    echo "$2 new group keys for 64 stations each"
+}
+
+replays rekeyed
 
 # A script of a handshake and that many group-key handshakes behind it.
 script() { # SUITE HANDSHAKES

@@ -12,7 +12,7 @@
 source "$(dirname "$0")/common.sh"
 built kehtrop
 
-# The scripts of the replay, with how many associations and roams and how many payloads each has.
+# The scripts of the replay, with how many sessions, payloads and roams each has: a session begins by an association or a roam.
 python3 - "$work" <<'PY'
 import sys
 LINES, STATIONS, POINTS = 65536, 64, 16
@@ -73,7 +73,7 @@ for name, lines in (("quarter", LINES // 4), ("half", LINES // 2), ("whole", LIN
         turn += 1
     script.out += ["# one more line"] * (lines - len(script.out))
     open("%s/%s" % (sys.argv[1], name), "w").write("\n".join(script.out) + "\n")
-    open("%s/%s.count" % (sys.argv[1], name), "w").write("%d %d %d\n" % (turn, script.sessions, script.payloads))
+    open("%s/%s.count" % (sys.argv[1], name), "w").write("%d %d %d\n" % (script.sessions, script.payloads, turn))
 PY
 
 # It ends where one of the sessions did not begin at both ends, or one of the payloads was not handed up.
@@ -84,16 +84,13 @@ went_well() { # REPORT SESSIONS PAYLOADS
     fi
 }
 
-echo "processors: $(nproc)"
-for part in quarter half whole; do
-    read -r seconds memory status < <(measure "$work/report" "$work/$part" "$program" replay)
-    [ "$status" = 0 ] || { echo "the replay of $part ended with status $status" >&2; exit 1; }
-    read -r roams sessions payloads < "$work/$part.count"
-    went_well "$work/report" "$sessions" "$payloads"
-    echo "seconds, $(wc -l < "$work/$part") lines: $seconds (whole replay with $roams roams and $payloads payloads, processor time)"
-    echo "memory, $(wc -l < "$work/$part") lines: $((memory / 1024)) MiB (greatest resident size)"
-done
-tail -3 "$work/report"
+# It says what was replayed.
+roamed() { # REPORT SESSIONS PAYLOADS ROAMS
+    went_well "$1" "$2" "$3"
+    echo "$4 roams and $3 payloads"
+}
+
+replays roamed
 
 # A script of an association and that many roams behind it, there and back.
 script() { # ROAMS

@@ -38,8 +38,11 @@ judge() { # NUMBER SAYS WRITES ENDED NAME
 stored=crates/kehtrop
 none=/dev/null
 usage="usage: kehtrop replay < SCRIPT
+       kehtrop storm NUMBER
 
   replay    runs the script on standard input, and writes its report to standard output
+  storm     runs 2000 events that the number makes, from 0 to 4294967295 in one to ten digits,
+            and writes the summary of their report to standard output
 
 The program ends with
   0  done
@@ -63,6 +66,15 @@ ends 1 "$usage" $none $none
 ends 1 "$usage" $none $none frob
 ends 1 "$usage" $none $none replay replay
 ends 1 "$usage" $none $none $'\xff'
+for words in "storm" "storm x" "storm -1" "storm 4294967296" "storm 00000000001" "storm 0 0" "live 20000" "--help" "-h" "help" "--version" "-V"; do
+    # shellcheck disable=SC2086
+    ends 1 "$usage" $none $none $words
+done
+
+# A storm writes its summary alone, whatever is on standard input.
+printf 'end frames 745 accepted 395 answered 8 refused 743 ignored 0\nkeys installed 88 resumed 2 used 52 handed-up 4\npremises fresh yes no-collision yes unforged yes\n' > "$work/storm"
+ends 0 "" "$work/storm" $none storm 0
+ends 0 "" "$work/storm" "$stored/stdin" storm 0000000000
 
 # The lines before the one at fault, and what they write.
 printf 'domain 1\nseed %064x\nssid net\npassphrase password\nakm psk\nap 0200000000aa r0kh-1\nsta 0200000000bb\n' 7 > "$work/header"

@@ -46,6 +46,7 @@ module _ (d : Domain) (n p : Node) (octets : List ℕ) (s : Option Seal) where
     request = at.request;
     heard_last = heard_more p kind.AssocReq took h (not_data p kind.AssocReq octets s refl) ∙ at.heard_last;
     rsne = at.rsne;
+    base = at.base;
   }
 
   attempt_behind : (o : Option Attempt) (h : List Act) → HasAttempt d n p o h → HasAttempt d n p o (took ∷ h)
@@ -55,7 +56,6 @@ module _ (d : Domain) (n p : Node) (octets : List ℕ) (s : Option Seal) where
   pub stands_behind : (x : Part) (h : List Act) → AuthenticatorStands d n p x h → AuthenticatorStands d n p x (took ∷ h)
   stands_behind x h at = record {
     ends = at.ends;
-    base = at.base;
     attempt_is = attempt_behind x.attempt h at.attempt_is;
     session_is = session_on d n p x.session h (took ∷ h) refl (λ t counts. counts_on p t took h refl refl refl (not_data p (kind.Key G2) octets s refl) counts) at.session_is;
   }

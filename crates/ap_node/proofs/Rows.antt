@@ -15,7 +15,7 @@ use Rattle.node_base.specs.Events.{Steps, Seen, seen}
 use Rattle.held_rows.specs.Knows.{KnowsRows}
 use Rattle.ap_node.specs.State.{State}
 use Rattle.ap_node.specs.Stands.{StandsWith}
-use Rattle.ap_node.specs.Putting.{LeavesOthers}
+use Rattle.ap_node.specs.Putting.{LeavesOthers, Stays}
 use Rattle.ap_node.specs.Takes.{IsTaken, IsTakenWith}
 use Rattle.held_rows.specs.Looks.{NoLooks, AreLooked}
 use Rattle.ap_node.proofs.Plain.{plain_looks, plain_rows}
@@ -101,4 +101,4 @@ if_event r Looks d event other old new xs ys waited waits same w =
 
 -- the holders are as they were
 pub same_others : (a : ℕ) (ids : List (List ℕ)) (has : List ℕ) (rows : ℕ → List HeldRow) → LeavesOthers a ids ids has has rows rows
-same_others a ids has rows = record { ids = refl; still_has = refl; others = λ r other in_has. refl }
+same_others a ids has rows = record { ids = refl; still_has = refl; others = λ r other in_has. refl; one = Stays refl }

@@ -103,6 +103,7 @@ under_way_calm d n p a e h x at = record {
   request = at.request;
   heard_last = heard_more p kind.AssocReq e h x.quiet.requests_none ∙ at.heard_last;
   rsne = at.rsne;
+  base = at.base;
 }
 
 -- an act that neither begins nor ends an attempt with p
@@ -136,7 +137,6 @@ attempt_goes_on d n p (Some a) g h all at = under_way_on d n p a g h all at
 pub stands_calm : (d : Domain) (n p : Node) (s : Part) (g h : List Act) → AllByRecursion (IsCalm p) g → AuthenticatorStands d n p s h → AuthenticatorStands d n p s (add g h)
 stands_calm d n p s g h all at = record {
   ends = at.ends;
-  base = at.base;
   attempt_is = attempt_goes_on d n p s.attempt g h all at.attempt_is;
   session_is = session_goes_on d n p s.session g h (calm_quiet p g all) at.session_is;
 }
@@ -155,7 +155,6 @@ part_calm d n sta (Some x) g h all leave at = (
 pub stands_quiet : (d : Domain) (n p : Node) (s : Part) (g h : List Act) → AllByRecursion (IsQuiet p) g → IsNoConnect (attempt p (add g h)) → AuthenticatorStands d n p s h → AuthenticatorStands d n p (without_attempt s) (add g h)
 stands_quiet d n p s g h all none at = record {
   ends = at.ends;
-  base = at.base;
   attempt_is = none;
   session_is = session_goes_on d n p s.session g h all at.session_is;
 }

@@ -59,8 +59,15 @@ RevokesWhere FtPsk d a sta old new waited waits = (act : Act) × (waits ≡ wait
 RevokesWhere akm d a sta old new waited waits =
     (waits ≡ waited ++ Revoked (r0kh_id d (Ap a)) (replicate 16 0) (Sta sta) Absent ∷ []) × (new ≡ old)
 
--- of the key holders that one has, those beside that of a stay as they are, and one has the same
+-- a row was put or those of one PMKR0Name revoked, or rows stay as they are
+pub data OneMove (old new : List HeldRow) : Type 0 where
+  Stays : new ≡ old → OneMove old new
+  PutsOne : (row : HolderRow) (answer : PutAnswer) → new ≡ after_put row answer old → OneMove old new
+  EndsOne : (name : List ℕ) (answer : RevokeAnswer) → new ≡ after_revoke name answer old → OneMove old new
+
+-- of the key holders that one has, those beside that of a stay as they are, which moves once at most, and one has the same
 pub record LeavesOthers (a : ℕ) (ids_old ids_new : List (List ℕ)) (has_old has_new : List ℕ) (old new : ℕ → List HeldRow) : Type 0 where
   pub ids : ids_new ≡ ids_old
   pub still_has : has_new ≡ has_old
   pub others : (r : ℕ) → r ≢ a → is_in r has_old ≡ true → new r ≡ old r
+  pub one : OneMove (old a) (new a)

@@ -93,4 +93,5 @@ has_agreed d n p octets s y a h l m low at none key uses data_ =
       request = at.request;
       heard_last = rw (same-refl p) at.heard_last;
       rsne = at.rsne;
+      base = at.base;
     }

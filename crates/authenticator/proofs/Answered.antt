@@ -149,7 +149,6 @@ answered_g2 d first a p octets k s t g rsc r h come stands some w e =
       stands = subst (λ (z : List Act). AuthenticatorStands d n p (record s { session = Some (replied_to t) }) (add z h)) (sym acts)
           (record {
             ends = stands.ends;
-            base = stands.base;
             attempt_is = attempt_quiet d n p s.attempt took h (quiet_g2 p octets seal) stands.attempt_is;
             session_is = record { x = x; is = at.is; key = at.key; counts = record { place = g.place; here = counts_answered p octets seal t g.place h w.offered.owed counts } };
           });

@@ -37,7 +37,6 @@ use Rattle.eapol_key.specs.KeyData.{padded}
 use Rattle.frame_making.specs.Mobile.{Mobility}
 use Rattle.frame_making.specs.KeyData.{m3_data, IsMobility}
 use Rattle.frame_making.proofs.MobileData.{m3_data_is}
-use Rattle.authenticator.specs.declared.base.Base.{Base}
 use Rattle.authenticator.specs.Bases.{home}
 use Rattle.domain_rules.specs.Reading.{KeyMessage, Keyed as KeyedReading}
 use Rattle.domain_rules.specs.Replies.{IsMessageFrom, inputs_by, key_by}
@@ -67,19 +66,19 @@ first_is d first a p octets k h from is = from.verdict_is first h ∙ ap (λ (m 
 
 -- ---- refused before its MIC verified
 
-pub takes_refused_m2 : (s : State) (t : Attempt) (f : Frame) (newest : GroupKey) (rsc : ℕ) (why : Reason) (r : Reply) → s.attempt ≡ Some t → IsRefusedM2 s.ends s.base t f why → IsEmpty r
+pub takes_refused_m2 : (s : State) (t : Attempt) (f : Frame) (newest : GroupKey) (rsc : ℕ) (why : Reason) (r : Reply) → s.attempt ≡ Some t → IsRefusedM2 s.ends t f why → IsEmpty r
     → StepsFrom s s (given M2 f newest rsc) (Refused why) r
 takes_refused_m2 s t f newest rsc why r is by e =
     refused_as s (given M2 f newest rsc) M2 why r refl e
-    (λ d drawn a sta k h stands same newest. refused_m2 d a (Sta sta) s t h k why (on_by d a (Sta sta) s t h is stands) (subst (λ (x : Frame). IsRefusedM2 s.ends s.base t x why) (sym same) by))
+    (λ d drawn a sta k h stands same newest. refused_m2 d a (Sta sta) s t h k why (on_by d a (Sta sta) s t h is stands) (subst (λ (x : Frame). IsRefusedM2 s.ends t x why) (sym same) by))
 
 -- ---- refused by its key data
 
 other_m2 : (d : Domain) (first a : ℕ) (p : Node) (octets : List ℕ) (k : KeyMessage) (s : State) (t : Attempt) (y : Keyed) (fault : KeyDataFault) (r : Reply) (h : List Act) → IsMessageFrom d (Ap a) p octets k → k.message ≡ M2
-    → AuthenticatorStands d (Ap a) p s h → IsOn d a p s t h → IsVerified s.ends s.base t (frame_in k) y (Some fault) → IsEmpty r
+    → AuthenticatorStands d (Ap a) p s h → IsOn d a p s t h → IsVerified s.ends t (frame_in k) y (Some fault) → IsEmpty r
     → Steps (here d first (Ap a)) p octets (told_acts d (Ap a) p (is_some s.session) octets k (Refused (reason.KeyData fault)) (record r { verified = Some y.ptk.kck }) h) s h
 other_m2 d first a p octets k s t y fault r h from is stands on w e =
-    let facts = told d (Ap a) p s.base t h k (Some fault) on.base on.trial w.key_data in
+    let facts = told d (Ap a) p t h k (Some fault) on.trial w.key_data in
     let accepted = first_is d first a p octets k h from is ∙ accepted_m2 d a p s t h k y (Some fault) on w in
     steps_refused d first a p octets k s (reason.KeyData fault) (Some (frame_seal y.ptk.kck k.octets)) (record r { verified = Some y.ptk.kck }) h from stands
     (only_took d (Ap a) p (is_some s.session) octets k (Refused (reason.KeyData fault)) (record r { verified = Some y.ptk.kck }) (Some y.ptk.kck) h e.len refl e.derived e.installed e.gtk)
@@ -90,10 +89,10 @@ other_m2 d first a p octets k s t y fault r h from is stands on w e =
       seal_is = seal_by d a p s t h k y (Some fault) on w is from.from ∙ far_seal d first (Ap a) h (KeyedReading k) Accepted accepted refl;
     })
 
-pub takes_other_m2 : (s : State) (t : Attempt) (f : Frame) (newest : GroupKey) (rsc : ℕ) (fault : KeyDataFault) (y : Keyed) (r : Reply) → s.attempt ≡ Some t → IsVerified s.ends s.base t f y (Some fault) → IsEmpty r
+pub takes_other_m2 : (s : State) (t : Attempt) (f : Frame) (newest : GroupKey) (rsc : ℕ) (fault : KeyDataFault) (y : Keyed) (r : Reply) → s.attempt ≡ Some t → IsVerified s.ends t f y (Some fault) → IsEmpty r
     → StepsFrom s s (given M2 f newest rsc) (Refused (reason.KeyData fault)) (record r { verified = Some y.ptk.kck })
 takes_other_m2 s t f newest rsc fault y r is by e = λ d first a sta octets k h stands w.
-    other_m2 d first a (Sta sta) octets k s t y fault r h w.from w.message stands (on_by d a (Sta sta) s t h is stands) (subst (λ (x : Frame). IsVerified s.ends s.base t x y (Some fault)) (sym w.frame) by) e
+    other_m2 d first a (Sta sta) octets k s t y fault r h w.from w.message stands (on_by d a (Sta sta) s t h is stands) (subst (λ (x : Frame). IsVerified s.ends t x y (Some fault)) (sym w.frame) by) e
 
 -- ---- accepted
 
@@ -115,12 +114,12 @@ session_agreed : (d : Domain) (n p : Node) (octets : List ℕ) (s : Option Seal)
 session_agreed d n p octets s y counter o h at = session_on d n p o h (agreed_after d n p octets s y counter h) refl (counts_agreed d n p octets s y counter h) at
 
 -- names of keys do not go back to nonces
-mobile_by : (d : Domain) (a : ℕ) (p : Node) (b : Base) (y : Keyed) (o : Option Mobility) → IsMobility d (inputs d (home d (Ap a)) (Ap a) p [] []) (fte_octets (assoc_fte d (Ap a))) o → IsMobility d (inputs_by d (home d (Ap a)) (Ap a) p y) (fte_octets (assoc_fte d (Ap a))) o
-mobile_by d a p b y None is = is
-mobile_by d a p b y (Some m) is = is
+mobile_by : (d : Domain) (a : ℕ) (p : Node) (y : Keyed) (o : Option Mobility) → IsMobility d (inputs d (home d (Ap a)) (Ap a) p [] []) (fte_octets (assoc_fte d (Ap a))) o → IsMobility d (inputs_by d (home d (Ap a)) (Ap a) p y) (fte_octets (assoc_fte d (Ap a))) o
+mobile_by d a p y None is = is
+mobile_by d a p y (Some m) is = is
 
 agreed_m2 : (d : Domain) (first a : ℕ) (p : Node) (octets : List ℕ) (k : KeyMessage) (s : State) (t : Attempt) (y : Agreed) (r : Reply) (h : List Act) → Comes (here d first (Ap a)) p (given M2 (frame_in k) y.group y.rsc) octets k h
-    → AuthenticatorStands d (Ap a) p s h → IsOn d a p s t h → IsVerified s.ends s.base t (frame_in k) y.key None → Answers s.ends t y r → TellsDerived y.key r → y.plain ≡ m3_data s.ends.akm s.base.mobility y.group.id y.group.key
+    → AuthenticatorStands d (Ap a) p s h → IsOn d a p s t h → IsVerified s.ends t (frame_in k) y.key None → Answers s.ends t y r → TellsDerived y.key r → y.plain ≡ m3_data s.ends.akm t.base.mobility y.group.id y.group.key
     → Steps (here d first (Ap a)) p octets (told_acts d (Ap a) p (is_some s.session) octets k Accepted r h) (record s { attempt = Some (answered y t) }) h
 agreed_m2 d first a p octets k s t y r h come stands on w sends told_keys plain =
     let n = Ap a in
@@ -129,9 +128,9 @@ agreed_m2 d first a p octets k s t y r h come stands on w sends told_keys plain 
     let i = inputs_by d (home d n) n p y.key in
     let counter = suc (t.m1s + t.m3s) in
     let x = key_by d (home d n) n p y.key in
-    let data_ : padded y.plain ≡ m3_key_data d n x (carried y.group) = ap padded plain ∙ ap (λ (akm : Akm). padded (m3_data akm s.base.mobility y.group.id y.group.key)) on.ends.akm ∙ m3_data_is d n x (carried y.group) s.base.mobility (mobile_by d a p s.base y.key s.base.mobility on.base.mobility) in
+    let data_ : padded y.plain ≡ m3_key_data d n x (carried y.group) = ap padded plain ∙ ap (λ (akm : Akm). padded (m3_data akm t.base.mobility y.group.id y.group.key)) on.ends.akm ∙ m3_data_is d n x (carried y.group) t.base.mobility (mobile_by d a p y.key t.base.mobility on.trial.base.mobility) in
     let ptk_is = key_by_m2 d a p s t h k y.key None on w in
-    let facts = told d n p s.base t h k None on.base on.trial w.key_data in
+    let facts = told d n p t h k None on.trial w.key_data in
     let accepted = first_is d first a p octets k h from is ∙ accepted_m2 d a p s t h k y.key None on w in
     let seal = Some (frame_seal y.key.ptk.kck k.octets) in
     let acts = answer_took d n p (is_some s.session) octets k M2 Accepted r y.key (sent_m3 d n p (key_by d (home d n) n p y.key) counter (carried y.group) y.rsc) h is told_keys (sends.sends d n p x on.ends refl refl data_) in
@@ -157,7 +156,6 @@ agreed_m2 d first a p octets k s t y r h come stands on w sends told_keys plain 
       };
       stands = record {
         ends = on.ends;
-        base = on.base;
         attempt_is = subst (λ (x : List Act). IsUnderWay d n p (answered y t) (add x h)) (sym acts)
             (has_agreed d n p octets seal y t h (own_address d n p s.ends on.ends sends.next.own) (peer_address d n p s.ends on.ends sends.next.peer) sends.next.low on.trial w.awaited.none come.newest come.uses data_);
         session_is = subst (λ (x : List Act). HasSession d n p s.session (add x h)) (sym acts) (session_agreed d n p octets seal y counter s.session h stands.session_is);
@@ -168,7 +166,7 @@ agreed_m2 d first a p octets k s t y r h come stands on w sends told_keys plain 
 come_by : (d : Domain) (first a : ℕ) (p : Node) (f : Frame) (g : GroupKey) (rsc : ℕ) (octets : List ℕ) (k : KeyMessage) (h : List Act) → Comes (here d first (Ap a)) p (given M2 f g rsc) octets k h → Comes (here d first (Ap a)) p (given M2 (frame_in k) g rsc) octets k h
 come_by d first a p f g rsc octets k h w = record { from = w.from; message = w.message; frame = refl; newest = w.newest; uses = w.uses }
 
-pub takes_agreed : (s : State) (t : Attempt) (f : Frame) (y : Agreed) (r : Reply) → s.attempt ≡ Some t → IsVerified s.ends s.base t f y.key None → Answers s.ends t y r → TellsDerived y.key r → y.plain ≡ m3_data s.ends.akm s.base.mobility y.group.id y.group.key
+pub takes_agreed : (s : State) (t : Attempt) (f : Frame) (y : Agreed) (r : Reply) → s.attempt ≡ Some t → IsVerified s.ends t f y.key None → Answers s.ends t y r → TellsDerived y.key r → y.plain ≡ m3_data s.ends.akm t.base.mobility y.group.id y.group.key
     → StepsFrom s (record s { attempt = Some (answered y t) }) (given M2 f y.group y.rsc) Accepted r
 takes_agreed s t f y r is by sends told_keys plain = λ d first a sta octets k h stands w.
-    agreed_m2 d first a (Sta sta) octets k s t y r h (come_by d first a (Sta sta) f y.group y.rsc octets k h w) stands (on_by d a (Sta sta) s t h is stands) (subst (λ (x : Frame). IsVerified s.ends s.base t x y.key None) (sym w.frame) by) sends told_keys plain
+    agreed_m2 d first a (Sta sta) octets k s t y r h (come_by d first a (Sta sta) f y.group y.rsc octets k h w) stands (on_by d a (Sta sta) s t h is stands) (subst (λ (x : Frame). IsVerified s.ends t x y.key None) (sym w.frame) by) sends told_keys plain

@@ -69,6 +69,7 @@ under_way_quiet d n p a e h quiet at = record {
   request = at.request;
   heard_last = heard_more p kind.AssocReq e h quiet.no_request ∙ at.heard_last;
   rsne = at.rsne;
+  base = at.base;
 }
 
 pub no_connect_more : (p : Node) (e : Act) (h : List Act) (o : Option (List Act)) → opens p e ≡ false → ends p e ≡ false → attempt p h ≡ o → IsNoConnect o → IsNoConnect (attempt p (e ∷ h))
@@ -102,7 +103,6 @@ stands_asked d a p s t u g rsc r x h stands is key counts few w =
     let more = counts_asked d n p x g rsc t h (own_address d n p s.ends stands.ends w.own) (peer_address d n p s.ends stands.ends w.peer) w.low few counts in
     record {
       ends = stands.ends;
-      base = stands.base;
       attempt_is = attempt_quiet d n p s.attempt g1 h (quiet_g1 p _ _) stands.attempt_is;
       session_is = subst (λ (z : Session). IsHeld d n p z (g1 ∷ h)) (sym w.now) (record { x = x; is = is; key = key; counts = record { place = g.place; here = more } });
     }
@@ -172,7 +172,6 @@ retries_session_given_up s t g rsc r none some owed many = λ d a sta h stands w
           ∙ close_many p (sent_count p G1 (handshake groups.Gtk p h)) (sent_for g.place t) (g1_to d n p h x) (count_is p G1 (handshake groups.Gtk p h) counts.before (sent_for g.place t) counts.offers) (leb-true 4 (sent_for g.place t) many);
       stands = record {
         ends = stands.ends;
-        base = stands.base;
         attempt_is = subst (λ (o : Option Attempt). HasAttempt d n p o (Closed p OfSession ∷ GaveUp p G1 ∷ h)) (sym none) gone;
         session_is = closed_session p h;
       };

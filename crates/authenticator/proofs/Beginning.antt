@@ -27,8 +27,8 @@ use Rattle.authenticator.proofs.Handshaking.{counts_on, counts_transferred}
 use Rattle.authenticator.proofs.Standing.{session_on, no_connect}
 use Rattle.authenticator.proofs.Agreeing.{cons_is}
 
-is_begun : (d : Domain) (n p : Node) (anonce rsne : List ℕ) (h : List Act) → IsAddress (address d n) → IsAddress (address d p) → IsBegun d p anonce rsne h → IsUnderWay d n p (begun anonce rsne) (sent_m1 d n p 1 anonce ∷ h)
-is_begun d n p anonce rsne h l m b =
+is_begun : (d : Domain) (n p : Node) (base : Base) (anonce rsne : List ℕ) (h : List Act) → IsBaseOf d n p base → IsAddress (address d n) → IsAddress (address d p) → IsBegun d p anonce rsne h → IsUnderWay d n p (begun base anonce rsne) (sent_m1 d n p 1 anonce ∷ h)
+is_begun d n p base anonce rsne h base_is l m b =
     let m1 = sent_m1 d n p 1 anonce in
     record {
       part = m1 ∷ b.part;
@@ -42,27 +42,26 @@ is_begun d n p anonce rsne h l m b =
       request = b.request;
       heard_last = b.heard_last;
       rsne = b.has_rsne;
+      base = base_is;
     }
 
 counts_begun : (d : Domain) (n p : Node) (anonce : List ℕ) (h : List Act) (s : Session) → Counts p s h → Counts p s (sent_m1 d n p 1 anonce ∷ h)
 counts_begun d n p anonce h s at = counts_on p s (sent_m1 d n p 1 anonce) h refl refl (rw (same-refl p) refl) refl at
 
 -- beside that session
-pub begins : (d : Domain) (n p : Node) (l : Ends) (b : Base) (anonce rsne : List ℕ) (a : Attempt) (o : Option Session) → AreEnds d n p l → IsBaseOf d n p b → IsAddress l.own.0 × IsAddress l.peer.0 → a ≡ begun anonce rsne → (h : List Act) → IsBegun d p anonce rsne h → HasSession d n p o h
-    → AuthenticatorStands d n p (record { ends = l; base = b; attempt = Some a; session = o }) (sent_m1 d n p 1 anonce ∷ h)
+pub begins : (d : Domain) (n p : Node) (l : Ends) (b : Base) (anonce rsne : List ℕ) (a : Attempt) (o : Option Session) → AreEnds d n p l → IsBaseOf d n p b → IsAddress l.own.0 × IsAddress l.peer.0 → a ≡ begun b anonce rsne → (h : List Act) → IsBegun d p anonce rsne h → HasSession d n p o h
+    → AuthenticatorStands d n p (record { ends = l; attempt = Some a; session = o }) (sent_m1 d n p 1 anonce ∷ h)
 begins d n p l b anonce rsne a o ends base addresses is h at has = record {
   ends = ends;
-  base = base;
-  attempt_is = subst (λ (x : Attempt). IsUnderWay d n p x (sent_m1 d n p 1 anonce ∷ h)) (sym is) (is_begun d n p anonce rsne h (own_address d n p l ends addresses.0) (peer_address d n p l ends addresses.1) at);
+  attempt_is = subst (λ (x : Attempt). IsUnderWay d n p x (sent_m1 d n p 1 anonce ∷ h)) (sym is) (is_begun d n p b anonce rsne h base (own_address d n p l ends addresses.0) (peer_address d n p l ends addresses.1) at);
   session_is = session_on d n p o h (sent_m1 d n p 1 anonce ∷ h) refl (counts_begun d n p anonce h) has;
 }
 
 -- by fast transition
-pub transfers : (d : Domain) (n p : Node) (l : Ends) (b : Base) (q : Ptk) (s : Session) → AreEnds d n p l → IsBaseOf d n p b → s ≡ transferred q → (h : List Act) → IsTransferred p q h
-    → AuthenticatorStands d n p (record { ends = l; base = b; attempt = None; session = Some s }) h
-transfers d n p l b q s ends base is h at = record {
+pub transfers : (d : Domain) (n p : Node) (l : Ends) (q : Ptk) (s : Session) → AreEnds d n p l → s ≡ transferred q → (h : List Act) → IsTransferred p q h
+    → AuthenticatorStands d n p (record { ends = l; attempt = None; session = Some s }) h
+transfers d n p l q s ends is h at = record {
   ends = ends;
-  base = base;
   attempt_is = no_connect p h at.none;
   session_is = subst (λ (x : Session). IsHeld d n p x h) (sym is)
       (record { x = at.x; is = at.is; key = at.key; counts = record { place = at.newest.place; here = counts_transferred p q at.newest h at.last at.next at.quiet } });

@@ -11,7 +11,6 @@ use Rattle.node_base.specs.declared.ends.Ends.{Ends}
 use Rattle.authenticator.specs.Agreed.{Agreed}
 use Rattle.authenticator.specs.Counters.{counters}
 use Rattle.frame_making.specs.Mobile.{Mobility}
-use Rattle.authenticator.specs.declared.base.Base.{Base}
 use Rattle.authenticator.specs.KeyData.{IsKeyDataOf}
 use Rattle.authenticator.specs.declared.attempt.Attempt.{Attempt}
 use Rattle.node_base.specs.PairwiseKeys.{key_with}
@@ -37,19 +36,19 @@ key_data_as m rsne octets o fault is by = subst (λ (x : Option KeyDataFault). I
 pub awaits : (a : Attempt) (f : KeyFields) (some offer : Bool) → some ≡ is_some a.agreed → some ≡ false → offer ≡ list_any (λ c. c == f.counter) (counters 0 a.m1s) → offer ≡ true → IsAwaited a f
 awaits a f some offer some_is none offer_is one = record { none = none_by a.agreed (sym some_is ∙ none); offer = sym offer_is ∙ one }
 
-pub forged : (l : Ends) (e : Base) (a : Attempt) (f : Frame) (y : Keyed) (b : Bool) → IsAwaited a f.fields → y ≡ key_with l e.pmk a.anonce f.fields.nonce → (IsTrue b ↔ (f.fields.mic ≡ mic l.akm y.ptk.kck f.octets)) → b ≡ false → IsForged l e a f
-forged l e a f y b awaited key by is = record {
+pub forged : (l : Ends) (a : Attempt) (f : Frame) (y : Keyed) (b : Bool) → IsAwaited a f.fields → y ≡ key_with l a.base.pmk a.anonce f.fields.nonce → (IsTrue b ↔ (f.fields.mic ≡ mic l.akm y.ptk.kck f.octets)) → b ≡ false → IsForged l a f
+forged l a f y b awaited key by is = record {
   awaited = awaited;
-  other = not_same l.akm y.ptk.kck (key_with l e.pmk a.anonce f.fields.nonce).ptk.kck f.fields.mic f.octets b (ap (λ (x : Keyed). x.ptk.kck) key) by is;
+  other = not_same l.akm y.ptk.kck (key_with l a.base.pmk a.anonce f.fields.nonce).ptk.kck f.fields.mic f.octets b (ap (λ (x : Keyed). x.ptk.kck) key) by is;
 }
 
-pub verifies : (l : Ends) (e : Base) (a : Attempt) (f : Frame) (y : Keyed) (b : Bool) (rsne : List ℕ) (o fault : Option KeyDataFault) → IsAwaited a f.fields → y ≡ key_with l e.pmk a.anonce f.fields.nonce
-    → (IsTrue b ↔ (f.fields.mic ≡ mic l.akm y.ptk.kck f.octets)) → b ≡ true → rsne ≡ a.rsne → o ≡ fault → IsKeyDataOf e.mobility rsne f.fields.key_data o → IsVerified l e a f y fault
-verifies l e a f y b rsne o fault awaited key by is raw fault_is key_data = record {
+pub verifies : (l : Ends) (a : Attempt) (f : Frame) (y : Keyed) (b : Bool) (rsne : List ℕ) (o fault : Option KeyDataFault) → IsAwaited a f.fields → y ≡ key_with l a.base.pmk a.anonce f.fields.nonce
+    → (IsTrue b ↔ (f.fields.mic ≡ mic l.akm y.ptk.kck f.octets)) → b ≡ true → rsne ≡ a.rsne → o ≡ fault → IsKeyDataOf a.base.mobility rsne f.fields.key_data o → IsVerified l a f y fault
+verifies l a f y b rsne o fault awaited key by is raw fault_is key_data = record {
   awaited = awaited;
-  mic_is = is_same l.akm y.ptk.kck (key_with l e.pmk a.anonce f.fields.nonce).ptk.kck f.fields.mic f.octets b (ap (λ (x : Keyed). x.ptk.kck) key) by is;
+  mic_is = is_same l.akm y.ptk.kck (key_with l a.base.pmk a.anonce f.fields.nonce).ptk.kck f.fields.mic f.octets b (ap (λ (x : Keyed). x.ptk.kck) key) by is;
   key = key;
-  key_data = subst (λ (x : List ℕ). IsKeyDataOf e.mobility x f.fields.key_data fault) raw (key_data_as e.mobility rsne f.fields.key_data o fault fault_is key_data);
+  key_data = subst (λ (x : List ℕ). IsKeyDataOf a.base.mobility x f.fields.key_data fault) raw (key_data_as a.base.mobility rsne f.fields.key_data o fault fault_is key_data);
 }
 
 -- an M4

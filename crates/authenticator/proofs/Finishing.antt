@@ -360,7 +360,7 @@ finished_m4 d first a sta octets k s t x u g rsc r h come stands at w told =
     let held_now = begun_session d n p octets k (session p h) y x.session g h at.part at.is at.begun derived_is held_by (next_is d n p t h at ∙ sym (ap suc w.last_is)) come.newest w.fresh in
     let past = after d n p octets k y (session p h) h in
     let begun_now : AuthenticatorStands d n p (record s { attempt = None; session = Some x.session }) (installed_after d n p octets k y (session p h) h) =
-    record { ends = stands.ends; base = stands.base; attempt_is = no_connect p (installed_after d n p octets k y (session p h) h) (left d n sta octets k (session p h) y h); session_is = held_now } in
+    record { ends = stands.ends; attempt_is = no_connect p (installed_after d n p octets k y (session p h) h) (left d n sta octets k (session p h) y h); session_is = held_now } in
     let stands_now : AuthenticatorStands d n p (record s { attempt = None; session = Some x.session }) past = stands_put d n p octets k (session p h) y (record s { attempt = None; session = Some x.session }) h begun_now in
     let has_now = session_put d n p octets k (session p h) y h ∙ session_after d n p octets k (session p h) y h derived_is in
     let end = ends_by d a sta octets k s x u g rsc r h x.is_older told.asks w.fresh come.newest come.uses (older_is d n p t w.y g at.part h key come.newest ∙ sym w.older) has_now held_by stands_now.session_is.counts stands_now in

@@ -118,6 +118,7 @@ attempt_grown d e n p (Some a) h g here there at = record {
   request = at.request;
   heard_last = at.heard_last;
   rsne = subst (λ (k : Akm). HasRsne k at.request (Some a.rsne)) (sym g.akm) at.rsne;
+  base = base_grown d e n p a.base g here there at.base;
 }
 
 session_grown : (d e : Domain) (n p : Node) (o : Option Session) (h : List Act) → Grows d e → IsListed d n → IsListed d p → HasSession d n p o h → HasSession e n p o h
@@ -127,7 +128,6 @@ session_grown d e n p (Some s) h g here there at = record { x = at.x; is = at.is
 pub grown : (d e : Domain) (n p : Node) (s : State) (h : List Act) → Grows d e → IsListed d n → IsListed d p → AuthenticatorStands d n p s h → AuthenticatorStands e n p s h
 grown d e n p s h g here there at = record {
   ends = ends_grown d e n p s.ends g here there at.ends;
-  base = base_grown d e n p s.base g here there at.base;
   attempt_is = attempt_grown d e n p s.attempt h g here there at.attempt_is;
   session_is = session_grown d e n p s.session h g here there at.session_is;
 }

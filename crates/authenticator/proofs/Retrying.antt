@@ -100,6 +100,7 @@ sent_one d n p h a octets at none counter =
       request = at.request;
       heard_last = at.heard_last;
       rsne = at.rsne;
+      base = at.base;
     }
   where
     low : a.m3s ≡ 0 → suc (a.m1s + a.m3s) ≡ suc (0 + a.m1s)
@@ -128,6 +129,7 @@ sent_three d n p h a y octets s at is has counter =
       request = at.request;
       heard_last = at.heard_last;
       rsne = at.rsne;
+      base = at.base;
     }
 
 -- ---- sent once more
@@ -155,7 +157,6 @@ retries_m1 d a p s t b r h stands on w =
       adds = retry_m1 d n p h t on.trial w.none ∙ again_few p M1 (sent_count p M1 on.trial.part) t.m1s m1 (count_is p M1 on.trial.part 0 t.m1s on.trial.m1_offers) w.few ∙ sym sends;
       stands = record {
         ends = on.ends;
-        base = on.base;
         attempt_is = subst (λ (g : List Act). IsUnderWay d n p b (add g h)) (sym sends) (subst (λ (x : Attempt). IsUnderWay d n p x (m1 ∷ h)) (sym w.now) goes);
         session_is = subst (λ (g : List Act). HasSession d n p s.session (add g h)) (sym sends) (session_on d n p s.session h (m1 ∷ h) refl (counts_m1 p octets None h) stands.session_is);
       };
@@ -178,7 +179,6 @@ retries_m3 d a p s t b r h stands on w =
           ∙ again_few p M3 (sent_count p M3 on.trial.part) t.m3s m3 (count_is p M3 on.trial.part t.m1s t.m3s on.trial.m3_offers) w.few ∙ sym sends;
       stands = record {
         ends = on.ends;
-        base = on.base;
         attempt_is = subst (λ (g : List Act). IsUnderWay d n p b (add g h)) (sym sends) (subst (λ (z : Attempt). IsUnderWay d n p z (m3 ∷ h)) (sym w.now) goes);
         session_is = subst (λ (g : List Act). HasSession d n p s.session (add g h)) (sym sends)
             (session_on d n p s.session h (m3 ∷ h) refl (counts_m3 p (in_data d n p frame) (Some (frame_seal x.ptk.kck frame)) h) stands.session_is);
@@ -227,7 +227,6 @@ retries_given_up s t m g rsc r is by = λ d a sta h stands w.
       adds = given_acts d (Ap a) p h t m on.trial by;
       stands = record {
         ends = on.ends;
-        base = on.base;
         attempt_is = no_connect p (Closed p OfAttempt ∷ GaveUp p m ∷ h) (given_none sta m h);
         session_is = session_on d (Ap a) p s.session h (Closed p OfAttempt ∷ GaveUp p m ∷ h) refl (counts_given p m h) stands.session_is;
       };

@@ -74,6 +74,7 @@ under_way_on d n p a old new other at =
       request = at.request;
       heard_last = other.goes.hears kind.AssocReq ∙ at.heard_last;
       rsne = at.rsne;
+      base = at.base;
     }
 
 pub no_connect : (p : Node) (h : List Act) → attempt p h ≡ None → IsNoConnect (attempt p h)
@@ -100,7 +101,6 @@ session_on d n p (Some s) old new has counts at = record { x = at.x; is = has �
 pub stands_on : (d : Domain) (n p : Node) (s : State) (old new : List Act) → IsOther p old new → AuthenticatorStands d n p s old → AuthenticatorStands d n p s new
 stands_on d n p s old new other at = record {
   ends = at.ends;
-  base = at.base;
   attempt_is = attempt_on d n p s.attempt old new other at.attempt_is;
   session_is = session_on d n p s.session old new other.goes.has other.counts at.session_is;
 }

@@ -46,8 +46,7 @@ use Rattle.authenticator.specs.Counters.{counters}
 use Rattle.frame_making.specs.Mobile.{Mobility}
 use Rattle.frame_making.proofs.MobileData.{same_mobility}
 use Rattle.frame_making.specs.KeyData.{IsMobility}
-use Rattle.authenticator.specs.declared.base.Base.{Base}
-use Rattle.authenticator.specs.Bases.{home, IsBaseOf}
+use Rattle.authenticator.specs.Bases.{home}
 use Rattle.authenticator.specs.KeyData.{key_data_outcome, is_named_by, has_mdid, mobile_fault, mobile_data, SaysKeyData, IsKeyDataOf}
 use Rattle.authenticator.proofs.RsneAlone.{rsne_alone}
 use Rattle.authenticator.specs.State.{State}
@@ -63,15 +62,14 @@ use Rattle.authenticator.proofs.Standing.{under_way}
 -- the attempt of an access point's authenticator is under way
 pub record IsOn (d : Domain) (a : ℕ) (p : Node) (s : State) (t : Attempt) (h : List Act) : Type 0 where
   pub ends : AreEnds d (Ap a) p s.ends
-  pub base : IsBaseOf d (Ap a) p s.base
   pub trial : IsUnderWay d (Ap a) p t h
 
 pub on_by : (d : Domain) (a : ℕ) (p : Node) (s : State) (t : Attempt) (h : List Act) → s.attempt ≡ Some t → AuthenticatorStands d (Ap a) p s h → IsOn d a p s t h
-on_by d a p s t h is stands = record { ends = stands.ends; base = stands.base; trial = under_way d (Ap a) p s.attempt t h is stands.attempt_is }
+on_by d a p s t h is stands = record { ends = stands.ends; trial = under_way d (Ap a) p s.attempt t h is stands.attempt_is }
 
 -- the key that both sides derive
-kck_is : (d : Domain) (a : ℕ) (p : Node) (s : State) (t : Attempt) (snonce : List ℕ) (h : List Act) → IsOn d a p s t h → (key_with s.ends s.base.pmk t.anonce snonce).ptk.kck ≡ (ptk (inputs d (home d (Ap a)) (Ap a) p t.anonce snonce)).kck
-kck_is d a p s t snonce h on = ap (λ (x : Ptk). x.kck) (key_is d (home d (Ap a)) (Ap a) p s.ends s.base.pmk (key_with s.ends s.base.pmk t.anonce snonce) on.ends on.base.pmk refl)
+kck_is : (d : Domain) (a : ℕ) (p : Node) (s : State) (t : Attempt) (snonce : List ℕ) (h : List Act) → IsOn d a p s t h → (key_with s.ends t.base.pmk t.anonce snonce).ptk.kck ≡ (ptk (inputs d (home d (Ap a)) (Ap a) p t.anonce snonce)).kck
+kck_is d a p s t snonce h on = ap (λ (x : Ptk). x.kck) (key_is d (home d (Ap a)) (Ap a) p s.ends t.base.pmk (key_with s.ends t.base.pmk t.anonce snonce) on.ends on.trial.base.pmk refl)
 
 pub same_mic : {x y : Akm} {u v : List ℕ} (octets : List ℕ) → x ≡ y → u ≡ v → mic x u octets ≡ mic y v octets
 same_mic octets e f = rw (e, f) refl
@@ -91,13 +89,13 @@ counted_m2 d a p s t h k last on w =
     m2_by d a p s t h k on w.none ∙ among-none (counters 0 t.m1s) k.fields.counter (verified d.akm (ptk (inputs d (home d (Ap a)) (Ap a) p t.anonce k.fields.nonce)).kck k Accepted) w.offer
     ∙ ap (λ (x : ℕ). Refused (reason.Counter x)) (last_first t.m1s ∙ sym w.is)
 
-forged_m2 : (d : Domain) (a : ℕ) (p : Node) (s : State) (t : Attempt) (h : List Act) (k : KeyMessage) → IsOn d a p s t h → IsForged s.ends s.base t (frame_in k) → m2_verdict d (Ap a) h p k ≡ Refused reason.Mic
+forged_m2 : (d : Domain) (a : ℕ) (p : Node) (s : State) (t : Attempt) (h : List Act) (k : KeyMessage) → IsOn d a p s t h → IsForged s.ends t (frame_in k) → m2_verdict d (Ap a) h p k ≡ Refused reason.Mic
 forged_m2 d a p s t h k on w =
     m2_by d a p s t h k on w.awaited.none
     ∙ among-one (counters 0 t.m1s) k.fields.counter (verified d.akm (ptk (inputs d (home d (Ap a)) (Ap a) p t.anonce k.fields.nonce)).kck k Accepted) w.awaited.offer
     ∙ verified-other d.akm (ptk (inputs d (home d (Ap a)) (Ap a) p t.anonce k.fields.nonce)).kck k Accepted (λ same. w.other (same ∙ sym (same_mic k.octets on.ends.akm (kck_is d a p s t k.fields.nonce h on))))
 
-pub refused_m2 : (d : Domain) (a : ℕ) (p : Node) (s : State) (t : Attempt) (h : List Act) (k : KeyMessage) (why : Reason) → IsOn d a p s t h → IsRefusedM2 s.ends s.base t (frame_in k) why
+pub refused_m2 : (d : Domain) (a : ℕ) (p : Node) (s : State) (t : Attempt) (h : List Act) (k : KeyMessage) (why : Reason) → IsOn d a p s t h → IsRefusedM2 s.ends t (frame_in k) why
     → m2_verdict d (Ap a) h p k ≡ Refused why
 refused_m2 d a p s t h k reason.Unawaited on w = answered_m2 d a p s t h k on w
 refused_m2 d a p s t h k (reason.Counter last) on w = counted_m2 d a p s t h k last on w
@@ -106,7 +104,7 @@ refused_m2 d a p s t h k why on w = absurd w
 
 -- ---- its MIC verified
 
-pub accepted_m2 : (d : Domain) (a : ℕ) (p : Node) (s : State) (t : Attempt) (h : List Act) (k : KeyMessage) (y : Keyed) (fault : Option KeyDataFault) → IsOn d a p s t h → IsVerified s.ends s.base t (frame_in k) y fault
+pub accepted_m2 : (d : Domain) (a : ℕ) (p : Node) (s : State) (t : Attempt) (h : List Act) (k : KeyMessage) (y : Keyed) (fault : Option KeyDataFault) → IsOn d a p s t h → IsVerified s.ends t (frame_in k) y fault
     → m2_verdict d (Ap a) h p k ≡ Accepted
 accepted_m2 d a p s t h k y fault on w =
     m2_by d a p s t h k on w.awaited.none
@@ -114,11 +112,11 @@ accepted_m2 d a p s t h k y fault on w =
     ∙ verified-same d.akm (ptk (inputs d (home d (Ap a)) (Ap a) p t.anonce k.fields.nonce)).kck k Accepted (w.mic_is ∙ same_mic k.octets on.ends.akm (kck_is d a p s t k.fields.nonce h on))
 
 -- the key of the reply
-pub key_by_m2 : (d : Domain) (a : ℕ) (p : Node) (s : State) (t : Attempt) (h : List Act) (k : KeyMessage) (y : Keyed) (fault : Option KeyDataFault) → IsOn d a p s t h → IsVerified s.ends s.base t (frame_in k) y fault
+pub key_by_m2 : (d : Domain) (a : ℕ) (p : Node) (s : State) (t : Attempt) (h : List Act) (k : KeyMessage) (y : Keyed) (fault : Option KeyDataFault) → IsOn d a p s t h → IsVerified s.ends t (frame_in k) y fault
     → y.ptk ≡ ptk (inputs_by d (home d (Ap a)) (Ap a) p y)
-key_by_m2 d a p s t h k y fault on w = key_is d (home d (Ap a)) (Ap a) p s.ends s.base.pmk y on.ends on.base.pmk (is_key_of s.ends s.base.pmk t.anonce k.fields.nonce y w.key)
+key_by_m2 d a p s t h k y fault on w = key_is d (home d (Ap a)) (Ap a) p s.ends t.base.pmk y on.ends on.trial.base.pmk (is_key_of s.ends t.base.pmk t.anonce k.fields.nonce y w.key)
 
-pub inputs_of_m2 : (d : Domain) (a : ℕ) (p : Node) (s : State) (t : Attempt) (h : List Act) (k : KeyMessage) (y : Keyed) (fault : Option KeyDataFault) (on : IsOn d a p s t h) → IsVerified s.ends s.base t (frame_in k) y fault
+pub inputs_of_m2 : (d : Domain) (a : ℕ) (p : Node) (s : State) (t : Attempt) (h : List Act) (k : KeyMessage) (y : Keyed) (fault : Option KeyDataFault) (on : IsOn d a p s t h) → IsVerified s.ends t (frame_in k) y fault
     → inputs_by d (home d (Ap a)) (Ap a) p y ≡ inputs d (home d (Ap a)) (Ap a) p (own on.trial.part) k.fields.nonce
 inputs_of_m2 d a p s t h k y fault on w =
     ap (inputs_by d (home d (Ap a)) (Ap a) p) w.key ∙ sym (ap (λ (o : Option (List ℕ)). inputs d (home d (Ap a)) (Ap a) p (unwrap_or o []) k.fields.nonce) on.trial.nonce)
@@ -174,14 +172,14 @@ said_by d n p (Some m) rsne e says fault mobile is f spelled same says_is =
     ap (λ (x : Mobility). mobile_data x e.rsne says) (sym m_is) ∙ ap (λ (x : Option RsneFields). mobile_data m x says) (sym same) ∙ says_is f spelled
     )
 
-pub told : (d : Domain) (n p : Node) (b : Base) (t : Attempt) (h : List Act) (k : KeyMessage) (fault : Option KeyDataFault) → IsBaseOf d n p b → IsUnderWay d n p t h → IsKeyDataOf b.mobility t.rsne k.fields.key_data fault → IsTold d n p h k fault
-told d n p b t h k fault base at says =
+pub told : (d : Domain) (n p : Node) (t : Attempt) (h : List Act) (k : KeyMessage) (fault : Option KeyDataFault) → IsUnderWay d n p t h → IsKeyDataOf t.base.mobility t.rsne k.fields.key_data fault → IsTold d n p h k fault
+told d n p t h k fault at says =
     let e : ElementFields = at.rsne.0 in
     let alone = rsne_alone d.akm at.request e t.rsne at.rsne.1.0 at.rsne.1.1 in
     record {
       facts = m2_facts e says.says;
       knows = record { requested = subst (λ (x : Option (List ℕ)). IsRequested d.akm x (Some e)) (sym at.heard_last) at.rsne.1.0; data_ = says.reads };
-      outcome = said_by d n p b.mobility t.rsne e says.says fault base.mobility at.rsne.1.1 alone.0 alone.1.0 alone.1.1 says.is;
+      outcome = said_by d n p t.base.mobility t.rsne e says.says fault at.base.mobility at.rsne.1.1 alone.0 alone.1.0 alone.1.1 says.is;
     }
 
 -- M2, M4 and G2 are not taken by an association response
@@ -228,7 +226,7 @@ further_none d first n p h k accepted from =
     ∙ ap (λ (q : Option Node). and_then Accepted (further_from q (λ (z : Node). key_further d n h z k.message no_facts))) from
 
 -- what was sealed
-pub seal_by : (d : Domain) (a : ℕ) (p : Node) (s : State) (t : Attempt) (h : List Act) (k : KeyMessage) (y : Keyed) (fault : Option KeyDataFault) (on : IsOn d a p s t h) → IsVerified s.ends s.base t (frame_in k) y fault
+pub seal_by : (d : Domain) (a : ℕ) (p : Node) (s : State) (t : Attempt) (h : List Act) (k : KeyMessage) (y : Keyed) (fault : Option KeyDataFault) (on : IsOn d a p s t h) → IsVerified s.ends t (frame_in k) y fault
     → k.message ≡ M2 → sender d (Ap a) (KeyedReading k) ≡ Some p → Some (frame_seal y.ptk.kck k.octets) ≡ seal_in d (Ap a) h (KeyedReading k)
 seal_by d a p s t h k y fault on w is from =
     ap (λ (x : Ptk). Some (frame_seal x.kck k.octets)) (key_by_m2 d a p s t h k y fault on w) ∙ ap (λ (x : Inputs). Some (frame_seal (ptk x).kck k.octets)) (inputs_of_m2 d a p s t h k y fault on w)

@@ -1,4 +1,4 @@
--- What the attempts of an authenticator go back to (IEEE Std 802.11-2020, 12.7.1.6 and 13.4.2).
+-- What an attempt of an authenticator goes back to (IEEE Std 802.11-2020, 12.7.1.6 and 13.4.2).
 use Rattle.std.specs.Prelude.{◌≡◌, []}
 use Rattle.domain_base.specs.declared.names.Node.{Node}
 use Rattle.rsn_elements.specs.Sent.{fte_octets}

@@ -43,8 +43,8 @@ frame_of f = record { fields = fields_of f; octets = f.octets.now }
 -- ---- how an attempt begins and goes on
 
 -- its first M1 was sent
-abbrev pub begun : List ℕ → List ℕ → Attempt
-begun anonce rsne = record { anonce = anonce; rsne = rsne; m1s = 1; m3s = 0; agreed = None }
+abbrev pub begun : Base → List ℕ → List ℕ → Attempt
+begun base anonce rsne = record { base = base; anonce = anonce; rsne = rsne; m1s = 1; m3s = 0; agreed = None }
 
 -- M2 was accepted, and the first M3 was sent
 abbrev pub answered : Agreed → Attempt → Attempt
@@ -73,29 +73,29 @@ pub record IsCounted (a : Attempt) (f : KeyFields) (last : ℕ) : Type 0 where
   pub is : last ≡ a.m1s
 
 -- the MIC of an M2 verifies under the key of both nonces
-abbrev pub Verifies : Ends → Base → Attempt → Frame → Type 0
-Verifies l b a f = f.fields.mic ≡ mic l.akm (key_with l b.pmk a.anonce f.fields.nonce).ptk.kck f.octets
+abbrev pub Verifies : Ends → Attempt → Frame → Type 0
+Verifies l a f = f.fields.mic ≡ mic l.akm (key_with l a.base.pmk a.anonce f.fields.nonce).ptk.kck f.octets
 
-pub record IsForged (l : Ends) (b : Base) (a : Attempt) (f : Frame) : Type 0 where
+pub record IsForged (l : Ends) (a : Attempt) (f : Frame) : Type 0 where
   pub awaited : IsAwaited a f.fields
-  pub other : Verifies l b a f → ⊥
+  pub other : Verifies l a f → ⊥
 
-pub record IsVerified (l : Ends) (b : Base) (a : Attempt) (f : Frame) (y : Keyed) (fault : Option KeyDataFault) : Type 0 where
+pub record IsVerified (l : Ends) (a : Attempt) (f : Frame) (y : Keyed) (fault : Option KeyDataFault) : Type 0 where
   pub awaited : IsAwaited a f.fields
-  pub mic_is : Verifies l b a f
-  pub key : y ≡ key_with l b.pmk a.anonce f.fields.nonce
-  pub key_data : IsKeyDataOf b.mobility a.rsne f.fields.key_data fault
+  pub mic_is : Verifies l a f
+  pub key : y ≡ key_with l a.base.pmk a.anonce f.fields.nonce
+  pub key_data : IsKeyDataOf a.base.mobility a.rsne f.fields.key_data fault
 
-abbrev pub IsRefusedM2 : Ends → Base → Attempt → Frame → Reason → Type 0
-IsRefusedM2 l b a f reason.Unawaited = is_some a.agreed ≡ true
-IsRefusedM2 l b a f (reason.Counter last) = IsCounted a f.fields last
-IsRefusedM2 l b a f reason.Mic = IsForged l b a f
-IsRefusedM2 l b a f _ = ⊥
+abbrev pub IsRefusedM2 : Ends → Attempt → Frame → Reason → Type 0
+IsRefusedM2 l a f reason.Unawaited = is_some a.agreed ≡ true
+IsRefusedM2 l a f (reason.Counter last) = IsCounted a f.fields last
+IsRefusedM2 l a f reason.Mic = IsForged l a f
+IsRefusedM2 l a f _ = ⊥
 
-abbrev pub IsM2 : Ends → Base → Attempt → Frame → M2 → Type 0
-IsM2 l b a f (m2.Refused why) = IsRefusedM2 l b a f why
-IsM2 l b a f (m2.Other fault y) = IsVerified l b a f y (Some fault)
-IsM2 l b a f (m2.Agreed y) = IsVerified l b a f y None
+abbrev pub IsM2 : Ends → Attempt → Frame → M2 → Type 0
+IsM2 l a f (m2.Refused why) = IsRefusedM2 l a f why
+IsM2 l a f (m2.Other fault y) = IsVerified l a f y (Some fault)
+IsM2 l a f (m2.Agreed y) = IsVerified l a f y None
 
 -- the reply says that the key was derived, under which the frame verified, and nothing else of keys
 pub record TellsDerived (y : Keyed) (r : Reply) : Type 0 where

@@ -56,6 +56,7 @@ pub record IsUnderWay (d : Domain) (n p : Node) (a : Attempt) (h : List Act) : T
   pub request : List ℕ
   pub heard_last : last_request p h ≡ Some request
   pub rsne : HasRsne d.akm request (Some a.rsne)
+  pub base : IsBaseOf d n p a.base
 
 -- the replay counters of a session, and its handshake for the newest group key, which has that place in the order of drawing
 pub record CountsAt (p : Node) (s : Session) (place : ℕ) (h : List Act) : Type 0 where
@@ -105,6 +106,5 @@ HasSession d n p (Some s) h = IsHeld d n p s h
 -- the authenticator of node n with its peer p stands for the history of n
 pub record AuthenticatorStands (d : Domain) (n p : Node) (s : State) (h : List Act) : Type 0 where
   pub ends : AreEnds d n p s.ends
-  pub base : IsBaseOf d n p s.base
   pub attempt_is : HasAttempt d n p s.attempt h
   pub session_is : HasSession d n p s.session h

@@ -1,21 +1,19 @@
 -- What contracts see of an authenticator (this project's choice).
 use Rattle.std.specs.Prelude.{Option, None}
 use Rattle.node_base.specs.declared.ends.Ends.{Ends}
-use Rattle.authenticator.specs.declared.base.Base.{Base}
 use Rattle.authenticator.specs.declared.attempt.Attempt.{Attempt}
 use Rattle.authenticator.specs.declared.session.Session.{Session}
 
--- the ends, what attempts go back to, and the attempt and the session with the peer, where there is one
+-- the ends, and the attempt and the session with the peer, where there is one
 pub record State : Type 0 where
   pub ends : Ends
-  pub base : Base
   pub attempt : Option Attempt
   pub session : Option Session
 
 -- of these
-abbrev pub beginning : Ends → Base → Option Attempt → Option Session → State
-beginning ends base attempt session =
-    record { ends = ends; base = base; attempt = attempt; session = session }
+abbrev pub beginning : Ends → Option Attempt → Option Session → State
+beginning ends attempt session =
+    record { ends = ends; attempt = attempt; session = session }
 
 -- with that session
 abbrev pub with_session : Option Session → State → State

@@ -4,6 +4,7 @@ ghost use Rattle.std.specs.Prelude.{◌≡◌, ◌≤◌, ◌<◌, ◌+◌, ◌^
 ghost use Rattle.air_frame.specs.Sent.{IsAddress};
 ghost use Rattle.eapol_key.specs.Fields.{IsKeyFrame};
 ghost use Rattle.run_journal.specs.Replies.{IsEmpty, IsWhole};
+ghost use Rattle.frame_making.specs.KeyData.{m3_data};
 ghost use Rattle.frame_making.specs.Replied.{TellsNothing};
 
 use crate::agreement::Agreement;
@@ -13,7 +14,7 @@ use crate::m2::{M2, key_data_fault};
 use crate::session::Session;
 use domain_base::{Akm, ShortOctets};
 use eapol_key::{KeyFrame, Message, verify};
-use frame_making::write_m1;
+use frame_making::{MOST_M3_DATA, m3_key_data, write_m1};
 use group_key::GroupKey;
 use node_base::{Ends, pairwise_key};
 use run_journal::{Keyed, Reason, Reply};
@@ -31,6 +32,8 @@ const MOST_RSNE: usize = 257;
 /// An attempt, from its association request on.
 #[derive(Drop)]
 pub struct Attempt {
+    /// What it goes back to.
+    pub base: Base,
     /// The nonce that was drawn for it.
     pub anonce: [u8; 32],
     /// The RSNE of the association request.
@@ -100,9 +103,9 @@ impl Attempt {
 
     /// Begins an attempt, and writes its first M1 (IEEE Std 802.11-2020, 12.7.6.2). Nothing of what
     /// was in the reply stays.
-    pub fn begin(ends: &Ends, anonce: &[u8; 32], rsne: &[u8], reply: &mut Reply) -> Self
+    pub fn begin(ends: &Ends, base: Base, anonce: &[u8; 32], rsne: &[u8], reply: &mut Reply) -> Self
         requires { length rsne.now ≤ 257 }
-        ensures value { result ≡ begun anonce.now rsne.now }
+        ensures value { result ≡ begun base anonce.now rsne.now }
         ensures sends { SendsM1 ends.now 1 anonce.now reply.new }
         ensures told { TellsNothing reply.new }
         ensures fits { IsWhole reply.new }
@@ -111,6 +114,7 @@ impl Attempt {
         *reply = Reply::empty();
         write_m1(ends, FIRST_COUNTER, anonce, reply);
         Attempt {
+            base,
             anonce: *anonce,
             rsne: ShortOctets::of(rsne),
             m1s: 1,
@@ -120,9 +124,9 @@ impl Attempt {
     }
 
     /// Judges an M2 of the station.
-    pub fn judge_m2(&self, ends: &Ends, base: &Base, frame: &KeyFrame<'_>) -> M2
+    pub fn judge_m2(&self, ends: &Ends, frame: &KeyFrame<'_>) -> M2
         requires frame { IsKeyFrame frame.now }
-        ensures { IsM2 ends.now base.now self.now (frame_of frame.now) result }
+        ensures { IsM2 ends.now self.now (frame_of frame.now) result }
     {
         if self.agreed.is_some() {
             return M2::Refused(Reason::Unawaited);
@@ -130,14 +134,24 @@ impl Attempt {
         if !is_offered(frame.counter, 0, self.m1s) {
             return M2::Refused(Reason::Counter(u64::from(self.m1s)));
         }
-        let key = pairwise_key(ends, &base.pmk, &self.anonce, &frame.nonce);
+        let key = pairwise_key(ends, &self.base.pmk, &self.anonce, &frame.nonce);
         if !verify(frame, ends.akm, &key.ptk.kck) {
             return M2::Refused(Reason::Mic);
         }
-        match key_data_fault(&base.mobility, self.rsne.as_slice(), frame.key_data) {
+        match key_data_fault(&self.base.mobility, self.rsne.as_slice(), frame.key_data) {
             Some(fault) => M2::Other(fault, key),
             None => M2::Agreed(key),
         }
+    }
+
+    /// The key data of M3 with that group key, before padding and wrap (IEEE Std 802.11-2020,
+    /// 12.7.6.4).
+    pub fn m3_key_data(&self, akm: Akm, group: &GroupKey) -> ShortOctets<MOST_M3_DATA>
+        requires { group.now.id < 4 }
+        ensures octets { result ≡ m3_data akm self.now.base.mobility group.now.id group.now.key }
+        ensures few { length result ≤ MOST_M3_DATA }
+    {
+        m3_key_data(akm, &self.base.mobility, group.id, &group.key)
     }
 
     /// An M2 was accepted, under whose key it verified: it is answered with M3

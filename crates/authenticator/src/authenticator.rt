@@ -23,7 +23,6 @@ use crate::m2::M2;
 use crate::session::Session;
 use domain_base::Node;
 use eapol_key::{KeyFrame, Message};
-use frame_making::m3_key_data;
 use group_key::GroupKey;
 use key_hierarchy::Ptk;
 use node_base::Ends;
@@ -77,7 +76,6 @@ pub enum Retried {
 #[derive(Drop)]
 pub struct Authenticator {
     ends: Ends,
-    base: Base,
     attempt: Option<Attempt>,
     session: Option<Session>,
 }
@@ -89,7 +87,6 @@ impl Model for Authenticator {
 
     ghost view = { λ s. record {
       ends = s.ends;
-      base = s.base;
       attempt = s.attempt;
       session = s.session;
     } };
@@ -129,14 +126,14 @@ impl Authenticator {
         ensures whole { IsWhole reply.new }
     {
         let ends = Ends::between(domain, Node::Ap(ap), Node::Sta(sta));
-        let base = Base::of(domain, ap, sta);
         match start {
             ApStart::Connect { anonce, rsne } => {
+                let base = Base::of(domain, ap, sta);
                 Authenticator::with_attempt(ends, base, anonce, rsne, reply)
             }
             ApStart::Ft { ptk } => {
                 *reply = Reply::empty();
-                Authenticator::after_transition(ends, base, ptk)
+                Authenticator::after_transition(ends, ptk)
             }
         }
     }
@@ -150,28 +147,26 @@ impl Authenticator {
         reply: &mut Reply,
     ) -> Authenticator
         requires { length rsne.now ≤ 257 }
-        ensures value { result ≡ beginning ends base (Some (begun anonce.now rsne.now)) None }
+        ensures value { result ≡ beginning ends (Some (begun base anonce.now rsne.now)) None }
         ensures sends { SendsM1 ends 1 anonce.now reply.new }
         ensures told { TellsNothing reply.new }
         ensures whole { IsWhole reply.new }
         ensures addresses { IsAddress ends.own.0 × IsAddress ends.peer.0 }
     {
-        let attempt = Attempt::begin(&ends, anonce, rsne, reply);
+        let attempt = Attempt::begin(&ends, base, anonce, rsne, reply);
         Authenticator {
             ends,
-            base,
             attempt: Some(attempt),
             session: None,
         }
     }
 
     // With the session that a fast transition installed.
-    fn after_transition(ends: Ends, base: Base, ptk: &Ptk) -> Authenticator
-        ensures { result ≡ beginning ends base None (Some (transferred ptk.now)) }
+    fn after_transition(ends: Ends, ptk: &Ptk) -> Authenticator
+        ensures { result ≡ beginning ends None (Some (transferred ptk.now)) }
     {
         Authenticator {
             ends,
-            base,
             attempt: None,
             session: Some(Session::transferred(*ptk)),
         }
@@ -256,7 +251,7 @@ impl Authenticator {
         let Some(attempt) = &mut self.attempt else {
             return Outcome::Refused(Reason::Unawaited);
         };
-        let key = match attempt.judge_m2(&self.ends, &self.base, frame) {
+        let key = match attempt.judge_m2(&self.ends, frame) {
             M2::Refused(why) => return Outcome::Refused(why),
             M2::Other(fault, key) => {
                 reply.verified = Some(key.ptk.kck);
@@ -264,7 +259,7 @@ impl Authenticator {
             }
             M2::Agreed(key) => key,
         };
-        let plain = m3_key_data(self.ends.akm, &self.base.mobility, newest.id, &newest.key);
+        let plain = attempt.m3_key_data(self.ends.akm, newest);
         let agreement = Agreement::of(&key, newest, rsc, plain);
         attempt.answer_m2(&self.ends, agreement, reply);
         Outcome::Accepted

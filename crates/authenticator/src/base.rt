@@ -1,4 +1,4 @@
-//! What the attempts of an authenticator go back to.
+//! What an attempt of an authenticator goes back to.
 
 ghost use Rattle.std.specs.Prelude.{◌<◌, length};
 ghost use Rattle.domain_base.specs.declared.names.Node.TheVariants.{Ap, Sta};
@@ -10,7 +10,7 @@ use frame_making::{Mobility, association_fte};
 use node_base::{Pmk, r0kh_id};
 use run_journal::Domain;
 
-/// What the attempts of an authenticator go back to.
+/// What an attempt of an authenticator goes back to.
 #[derive(Drop)]
 pub struct Base {
     /// The pre-shared key, with suite 4 the PMK-R1.

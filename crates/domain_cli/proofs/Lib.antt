@@ -7,7 +7,11 @@ pub mod Steps
 pub mod Telling
 pub mod Taking
 pub mod Lines
-pub mod Words
 pub mod Out
 pub mod Faults
 pub mod Safety
+pub mod Drawn
+pub mod Nodes
+pub mod Courses
+pub mod Stormed
+pub mod Unbegun

@@ -37,10 +37,10 @@ none_safe = record { installed_once = tt; used_once = tt; joined = tt; handed_up
 named : (d : Domain) → InForm d → IsNamed d
 named d form = record { aps = form.aps; stas = form.stas }
 
-empty_safe : (j : List Entry) → j ≡ [] → Safe j
+pub empty_safe : (j : List Entry) → j ≡ [] → Safe j
 empty_safe j none = subst Safe (sym none) none_safe
 
-run_safely : (laws : Laws) (d : Domain) (run : List (List Event)) (j : List Entry) → IsRun d run j → Fresh j → NoCollision j → Unforged j → Safe j
+pub run_safely : (laws : Laws) (d : Domain) (run : List (List Event)) (j : List Entry) → IsRun d run j → Fresh j → NoCollision j → Unforged j → Safe j
 run_safely laws d run j told fresh apart unforged =
     let octets : d.akm ≡ FtPsk → InOctets d = λ same. told.octets in
     let held : d.akm ≡ FtPsk → HeldRight d j = λ same. told.held in

@@ -4,3 +4,6 @@ pub mod States
 pub mod Stops
 pub mod Feeders
 pub mod Ends
+pub mod Storms
+pub mod Courses
+pub mod Words

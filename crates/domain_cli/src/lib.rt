@@ -8,6 +8,7 @@ mod program;
 mod reading;
 mod state;
 mod status;
+mod storming;
 mod top;
 
 pub use adapters::{StdinSource, StdoutSink};

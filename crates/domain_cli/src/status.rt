@@ -32,8 +32,11 @@ pub enum Found {
 
 // What is written to standard error for words that are no command.
 const USAGE: &str = "usage: kehtrop replay < SCRIPT
+       kehtrop storm NUMBER
 
   replay    runs the script on standard input, and writes its report to standard output
+  storm     runs 2000 events that the number makes, from 0 to 4294967295 in one to ten digits,
+            and writes the summary of their report to standard output
 
 The program ends with
   0  done

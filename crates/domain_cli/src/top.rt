@@ -1,6 +1,6 @@
 //! The top call.
 
-ghost use Rattle.std.specs.Prelude.{◌≡◌, ◌≢◌, ◌∷◌, [], ℕ, List, map, codes, IsTrue, ◌↔◌, reverse, MatchResult, OnOk, OnErr};
+ghost use Rattle.std.specs.Prelude.{◌≡◌, ◌≢◌, ◌⊎◌, [], ℕ, List, map, reverse, MatchResult, OnOk, OnErr};
 ghost use Rattle.std.specs.Io.KnownBytes.{Appends};
 ghost use Rattle.domain_base.specs.Causes.{Rose, HasCause, AppendsPart};
 ghost use Rattle.run_journal.specs.Report.{summary, IsReport};
@@ -9,22 +9,21 @@ ghost use Rattle.run_journal.specs.Safe.{Safe};
 ghost use Rattle.frame_script.specs.Refusals.{answer_of, fault_of};
 ghost use Rattle.domain_cli.specs.Story.{Runs, Reports, IsText, status_by, status_of};
 ghost use Rattle.domain_cli.specs.Ends.{IsAnswered};
+ghost use Rattle.domain_cli.specs.Storms.{IsSummary, StormReports, Storms};
+ghost use Rattle.domain_cli.specs.Words.{AskNothing, AskReplay, AskStorm};
 
 use crate::reading::replay;
 use crate::status::{Found, Status, Stop};
+use crate::storming::run_storm;
+use command_words::{Command, read_words};
 use domain_base::{Air, Draws, Failed, Sink, Source, write_all};
 use frame_script::{Form, LineFault, Refusal};
+use held_rows::answers_at_the_moment_are_right;
 use journal_report::{SUMMARY_ROOM, summary_of, write_lines};
 use journal_safety::{hands_up_once, installs_once, joins, uses_once};
 use run_journal::{Entry, Journal, Premises};
 use std::alloc::Global;
 use std::thread::Threads;
-
-fn is_replay(words: &[&str]) -> bool
-    ensures { IsTrue result ↔ (map (λ w. w.now) words.now ≡ codes "replay" ∷ []) }
-{
-    words.len() == 1 && words[0] == "replay"
-}
 
 // How a run ends at the line of that number, which is refused.
 fn refused(number: u64, refusal: Refusal, form: Form) -> Status
@@ -113,6 +112,39 @@ fn report<K: Sink>(sink: &mut K, journal: &Journal, found: Found) -> Status
     }
 }
 
+// Writes the summary of a storm. Takes no memory.
+fn write_storm<K: Sink>(sink: &mut K, journal: &Journal) -> Result<(), Failed>
+    ensures written { (text : List ℕ) × IsSummary journal.now.entries text × MatchResult result
+        (λ _. Appends (K.out sink.old) (K.out sink.new) text)
+        (λ _. AppendsPart (K.out sink.old) (K.out sink.new) text) }
+    ensures cause { HasCause (K.faults sink.old) (K.faults sink.new) result }
+    ensures unfailed { OnOk result (K.faults sink.new ≡ K.faults sink.old) }
+{
+    let entries = journal.entries();
+    let premises = journal.premises();
+    write_summary(sink, entries, premises)
+}
+
+// Runs the storm of that number, and writes its summary.
+fn stormed<K: Sink>(alloc: Global, number: u32, sink: &mut K, journal: &mut Journal) -> Status
+    requires { journal.old.entries ≡ [] }
+    ensures reports { StormReports number result journal.new.entries
+        (K.out sink.old) (K.out sink.new) }
+    ensures write_fault { result ≡ Status.WriteFault →
+        Rose (K.faults sink.old) (K.faults sink.new) }
+    ensures write_told { K.faults sink.new ≢ K.faults sink.old → result ≡ Status.WriteFault }
+    ensures asked { result ≢ Status.Usage }
+    ensures unread { result ≢ Status.ReadFault }
+{
+    let Ok(()) = run_storm(alloc, number, journal) else {
+        return Status::NoMemory;
+    };
+    let Ok(()) = write_storm(sink, journal) else {
+        return Status::WriteFault;
+    };
+    Status::Done
+}
+
 // Runs the script on the source, and reports what happened.
 fn replayed<S: Source, K: Sink>(
     alloc: Global,
@@ -138,7 +170,9 @@ fn replayed<S: Source, K: Sink>(
 
 /// Runs the command of the words, and reports what happened.
 ///
-/// `replay` runs the script on the source.
+/// `replay` runs the script on the source. `storm` with a number below 2^32, in one to ten decimal
+/// digits, runs the storm of that number, and writes its summary alone. Reading the words may want
+/// memory, and then nothing is run.
 pub fn run<R: Threads + Sync, S: Source, K: Sink, A: Air, D: Draws>(
     _rt: &R,
     alloc: Global,
@@ -150,20 +184,30 @@ pub fn run<R: Threads + Sync, S: Source, K: Sink, A: Air, D: Draws>(
     journal: &mut Journal,
 ) -> Status
     requires { journal.old.entries ≡ [] }
-    // The words are not those of a command, and then nothing is read or written, and no call fails.
-    ensures usage { (result ≡ Status.Usage) ↔ (map (λ w. w.now) words.now ≢ codes "replay" ∷ []) }
-    ensures untouched { result ≡ Status.Usage → (S.left source.new ≡ S.left source.old)
-        × (K.out sink.new ≡ K.out sink.old) × (journal.new.entries ≡ []) }
-    ensures unfailed { result ≡ Status.Usage → (S.faults source.new ≡ S.faults source.old)
-        × (K.faults sink.new ≡ K.faults sink.old) }
-    // A replay draws nothing, and attaches no link.
+    // Where the words ask for neither command nothing is read or written, and no call fails, also
+    // where memory was wanted for reading them.
+    ensures usage { result ≡ Status.Usage → AskNothing (map (λ w. w.now) words.now) }
+    ensures told { AskNothing (map (λ w. w.now) words.now)
+        → (result ≡ Status.Usage) ⊎ (result ≡ Status.NoMemory) }
+    ensures untouched { AskNothing (map (λ w. w.now) words.now)
+        → (S.left source.new ≡ S.left source.old) × (K.out sink.new ≡ K.out sink.old)
+        × (journal.new.entries ≡ []) }
+    ensures unfailed { AskNothing (map (λ w. w.now) words.now)
+        → (S.faults source.new ≡ S.faults source.old) × (K.faults sink.new ≡ K.faults sink.old) }
+    // Neither command draws or attaches a link.
     ensures air { (A.told air.new ≡ A.told air.old) × (A.faults air.new ≡ A.faults air.old) }
     ensures draws { (D.last draws.new ≡ D.last draws.old)
         × (D.faults draws.new ≡ D.faults draws.old) }
-    // The journal is that of the rounds that the octets read spell, of which each has its end, and
-    // key holders answered rightly in it; the octets written are its report.
-    ensures ran { result ≢ Status.Usage → Runs (S.left source.old) (S.left source.new)
-        (K.out sink.old) (K.out sink.new) result journal.new.entries }
+    // The journal of a replay is that of the rounds that the octets read spell, of which each has
+    // its end, and key holders answered rightly in it; the octets written are its report.
+    ensures ran { AskReplay (map (λ w. w.now) words.now) → Runs (S.left source.old)
+        (S.left source.new) (K.out sink.old) (K.out sink.new) result journal.new.entries }
+    // The journal of a storm is that of its events, each a round by itself, in its network, or of a
+    // front of them where memory was wanted, and key holders answered rightly in it. The octets
+    // written are its summary. The source is not read.
+    ensures stormed { (number : ℕ) → AskStorm (map (λ w. w.now) words.now) number
+        → Storms number (S.left source.old) (S.left source.new) (K.out sink.old) (K.out sink.new)
+        result journal.new.entries × (S.faults source.new ≡ S.faults source.old) }
     // Where what is drawn is fresh, derived keys do not collide, and every MIC that verified was
     // made by a holder of its key, the run was safe, of whatever suite its network is.
     ensures safe { Fresh journal.new.entries → NoCollision journal.new.entries
@@ -177,18 +221,23 @@ pub fn run<R: Threads + Sync, S: Source, K: Sink, A: Air, D: Draws>(
     ensures write_told { K.faults sink.new ≢ K.faults sink.old → result ≡ Status.WriteFault }
     ensures read_told { S.faults source.new ≢ S.faults source.old
         → ¬ Rose (K.faults sink.old) (K.faults sink.new) → result ≡ Status.ReadFault }
-    // Where neither source nor sink failed, a run that was asked for is done, has a fault of its
-    // script, goes past a limit, or lacks memory.
-    ensures complete { map (λ w. w.now) words.now ≡ codes "replay" ∷ []
+    // Where neither source nor sink failed, a replay is done, has a fault of its script, goes past a
+    // limit, or lacks memory. (A storm ends as done, with a fault of the sink, or for want of memory.)
+    ensures complete { AskReplay (map (λ w. w.now) words.now)
         → ¬ Rose (S.faults source.old) (S.faults source.new)
         → ¬ Rose (K.faults sink.old) (K.faults sink.new) → IsAnswered result }
 {
-    if !is_replay(words) {
-        return Status::Usage;
-    }
     joins();
     installs_once();
     uses_once();
     hands_up_once();
-    replayed(alloc, source, sink, journal)
+    answers_at_the_moment_are_right();
+    let Ok(command) = read_words(alloc, words) else {
+        return Status::NoMemory;
+    };
+    match command {
+        Some(Command::Replay) => replayed(alloc, source, sink, journal),
+        Some(Command::Storm { number }) => stormed(alloc, number, sink, journal),
+        Some(Command::Live { .. }) | None => Status::Usage,
+    }
 }

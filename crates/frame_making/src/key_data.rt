@@ -201,7 +201,8 @@ fn mobile_m3_data(
 ) -> ShortOctets<MOST_M3_DATA>
     requires { id < 4 }
     ensures octets { result ≡ rsne_octets akm (Some mobility.now.name)
-        ++ mde_octets mobility.now.mdid ++ gtk_kde_octets id key.now ++ mobility.now.fte ++ timeouts }
+        ++ mde_octets mobility.now.mdid ++ gtk_kde_octets id key.now ++ mobility.now.fte
+        ++ timeouts }
     ensures few { length result ≤ MOST_M3_DATA }
 {
     let front = mobile_front(akm, mobility, id, key);

@@ -253,7 +253,8 @@ fn put_sealed_request(
         (sealed_of key.now.ptk.kck side.entry.own side.entry.peer 5 name.now side.entry.mdid f) }
     ensures sizes { let f = counted side.entry.peer.0 key.now side.entry.r0kh_id.now None
         in AreSized name.now side.entry.mdid
-        (cmac key.now.ptk.kck (input_between side.entry.own side.entry.peer 5 name.now side.entry.mdid f)) }
+        (cmac key.now.ptk.kck
+        (input_between side.entry.own side.entry.peer 5 name.now side.entry.mdid f)) }
     ensures few { result ≤ MOST_ELEMENTS }
     ensures some { 101 ≤ result }
 {
@@ -281,12 +282,14 @@ pub fn send_re_req(
     requires id { IsR0khId side.r0kh_id.now }
     requires ssid { IsSsid ssid.now }
     ensures sends { let f = counted side.entry.peer.0 key.now side.entry.r0kh_id.now None
-        in let z = sealed_of key.now.ptk.kck side.entry.own side.entry.peer 5 name.now side.entry.mdid f
+        in let z = sealed_of key.now.ptk.kck side.entry.own side.entry.peer 5 name.now
+        side.entry.mdid f
         in let e = re_req_elements_of ssid.now name.now side.entry.mdid z
         in Sends (re_req_octets side.entry.peer.0 side.entry.own.0 side.entry.peer.0 current.0 e)
         kind.ReReq (Some key.now.ptk.kck) reply.old reply.new }
     ensures covers { let f = counted side.entry.peer.0 key.now side.entry.r0kh_id.now None
-        in let z = sealed_of key.now.ptk.kck side.entry.own side.entry.peer 5 name.now side.entry.mdid f
+        in let z = sealed_of key.now.ptk.kck side.entry.own side.entry.peer 5 name.now
+        side.entry.mdid f
         in let e = re_req_elements_of ssid.now name.now side.entry.mdid z
         in covered_in side.entry.own.0 side.entry.peer.0 5 (42 + length ssid.now)
         (re_req_octets side.entry.peer.0 side.entry.own.0 side.entry.peer.0 current.0 e)
@@ -328,7 +331,8 @@ fn put_sealed_response(
     ensures sizes { let g = Some (wrapped_gtk_fields gtk.entry)
         in let f = counted side.entry.own.0 key.now side.entry.r0kh_id.now g
         in AreSized name.now side.entry.mdid
-        (cmac key.now.ptk.kck (input_between side.entry.peer side.entry.own 6 name.now side.entry.mdid f)) }
+        (cmac key.now.ptk.kck
+        (input_between side.entry.peer side.entry.own 6 name.now side.entry.mdid f)) }
     ensures few { result ≤ MOST_ELEMENTS }
     ensures some { 101 ≤ result }
 {
@@ -357,13 +361,15 @@ pub fn send_re_resp(
     requires gtk { length gtk.wrapped.now ≤ 24 }
     ensures sends { let g = Some (wrapped_gtk_fields gtk.entry)
         in let f = counted side.entry.own.0 key.now side.entry.r0kh_id.now g
-        in let z = sealed_of key.now.ptk.kck side.entry.peer side.entry.own 6 name.now side.entry.mdid f
+        in let z = sealed_of key.now.ptk.kck side.entry.peer side.entry.own 6 name.now
+        side.entry.mdid f
         in let e = re_resp_elements_of name.now side.entry.mdid z
         in Sends (re_resp_octets side.entry.peer.0 side.entry.own.0 side.entry.own.0 0 aid e)
         kind.ReResp (Some key.now.ptk.kck) reply.old reply.new }
     ensures covers { let g = Some (wrapped_gtk_fields gtk.entry)
         in let f = counted side.entry.own.0 key.now side.entry.r0kh_id.now g
-        in let z = sealed_of key.now.ptk.kck side.entry.peer side.entry.own 6 name.now side.entry.mdid f
+        in let z = sealed_of key.now.ptk.kck side.entry.peer side.entry.own 6 name.now
+        side.entry.mdid f
         in let e = re_resp_elements_of name.now side.entry.mdid z
         in covered_in side.entry.peer.0 side.entry.own.0 6 36
         (re_resp_octets side.entry.peer.0 side.entry.own.0 side.entry.own.0 0 aid e)

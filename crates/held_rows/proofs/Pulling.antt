@@ -97,18 +97,25 @@ right_key d n row r1kh sta own is =
     ap (λ (x : HolderRow). row_r1 x r1kh) (own.2 ∙ ap (own_row d n) here) ∙ r1-row_of (own_r0 d n sta) sta r1kh
 
 module _ (d : Domain) (n : Node) (xs : List HeldRow) (past : List Entry) (l : Looking) (k : ℕ) where
-  stood : k < length d.stas → l.sta ≡ Sta k → KnowsRows d n xs (history n past) → stands_here n l.name l.sta past ≡ list_any (is_match l.name (mac d l.sta)) xs
+  -- a row stands exactly where one of them matches
+  abbrev pub StandsBy : Type 0
+  StandsBy = stands_here n l.name l.sta past ≡ list_any (is_match l.name (mac d l.sta)) xs
+
+  pub stood : k < length d.stas → l.sta ≡ Sta k → KnowsRows d n xs (history n past) → StandsBy
   stood low is at =
       stands_there n l.name l.sta past
       ∙ (ap (λ (p : Node). stands_in l.name p (history n past)) is ∙ (at.last l.name k ∙ (sym (at.station_is l.name k low) ∙ ap (λ (p : Node). list_any (is_match l.name (mac d p)) xs) (sym is))))
 
-  pub answers_by_rows : (answer : PullAnswer) → k < length d.stas → l.sta ≡ Sta k → KnowsRows d n xs (history n past) → MayPull xs l.name (mac d l.node) (mac d l.sta) answer → AnswersAt n l answer past × GivesRightKey d (r0kh_id d n) l answer
-  answers_by_rows (Found r1) low is at m = (
-    stood low is at ∙ one_matches l.name (mac d l.sta) xs m.0 m.1 m.2 m.3,
-    m.4 ∙ right_key d n m.1 (mac d l.node) (mac d l.sta) (own_at d n xs m.0 (live m.1) at.own m.2) m.3.1,
+  answers_by_stood : (answer : PullAnswer) → StandsBy → AllByRecursion (IsOwn d n) xs → MayPull xs l.name (mac d l.node) (mac d l.sta) answer → AnswersAt n l answer past × GivesRightKey d (r0kh_id d n) l answer
+  answers_by_stood (Found r1) at own m = (
+    at ∙ one_matches l.name (mac d l.sta) xs m.0 m.1 m.2 m.3,
+    m.4 ∙ right_key d n m.1 (mac d l.node) (mac d l.sta) (own_at d n xs m.0 (live m.1) own m.2) m.3.1,
   )
-  answers_by_rows Absent low is at m = (stood low is at ∙ none_matches l.name (mac d l.sta) xs m, tt)
-  answers_by_rows NoHolder low is at m = absurd m
+  answers_by_stood Absent at own m = (at ∙ none_matches l.name (mac d l.sta) xs m, tt)
+  answers_by_stood NoHolder at own m = absurd m
+
+  pub answers_by_rows : (answer : PullAnswer) → k < length d.stas → l.sta ≡ Sta k → KnowsRows d n xs (history n past) → MayPull xs l.name (mac d l.node) (mac d l.sta) answer → AnswersAt n l answer past × GivesRightKey d (r0kh_id d n) l answer
+  answers_by_rows answer low is at m = answers_by_stood answer (stood low is at) at.own m
 
 -- ---- the access point that has an R0KH-ID
 
@@ -157,22 +164,26 @@ id_of_holder : (d : Domain) (r : ℕ) (a : ListedAp) → slice_get d.aps r ≡ S
 id_of_holder d r a is = ap (λ (o : Option ListedAp). unwrap_or (option_map (λ (x : ListedAp). x.r0kh_id) o) []) is
 
 module _ (d : Domain) (has : List ℕ) (rows : ℕ → List HeldRow) (past : List Entry) (l : Looking) (k r : ℕ) (id : List ℕ) where
-  by_one : (answer : PullAnswer) (s : ℕ) → IsNamed d → k < length d.stas → l.sta ≡ Sta k → holder_of d id ≡ Some (Ap r) → is_in r has ≡ true → KnowsRows d (Ap r) (rows r) (history (Ap r) past)
+  by_one : (answer : PullAnswer) (s : ℕ) → IsNamed d → holder_of d id ≡ Some (Ap r) → is_in r has ≡ true → StandsBy d (Ap r) (rows r) past l k → AllByRecursion (IsOwn d (Ap r)) (rows r)
       → slice_get (ids d.aps) s ≡ Some id → (is_in s has ≡ true → MayPull (rows s) l.name (mac d l.node) (mac d l.sta) answer) → AnswersAt (Ap r) l answer past × GivesRightKey d id l answer
-  by_one answer s names low is holds in_has at there may =
+  by_one answer s names holds in_has at own there may =
       let a = holder_is d id r holds in
       let here : slice_get (ids d.aps) r ≡ Some id = listed_id d.aps r a.0 a.1 ∙ ap (λ (x : List ℕ). Some x) a.2 in
       let same : s ≡ r = one_place d.aps names.aps s r id there here in
-      let w = answers_by_rows d (Ap r) (rows r) past l k answer low is at (subst (λ (x : ℕ). is_in x has ≡ true → MayPull (rows x) l.name (mac d l.node) (mac d l.sta) answer) same may in_has) in
+      let w = answers_by_stood d (Ap r) (rows r) past l k answer at own (subst (λ (x : ℕ). is_in x has ≡ true → MayPull (rows x) l.name (mac d l.node) (mac d l.sta) answer) same may in_has) in
       (w.0, subst (λ (x : List ℕ). GivesRightKey d x l answer) (id_of_holder d r a.0 a.1 ∙ a.2) w.1)
+
+  pub answers_as_stood : (answer : PullAnswer) → IsNamed d → holder_of d id ≡ Some (Ap r) → is_in r has ≡ true → StandsBy d (Ap r) (rows r) past l k → AllByRecursion (IsOwn d (Ap r)) (rows r)
+      → Answers (ids d.aps) has rows id l.name (mac d l.node) (mac d l.sta) answer → AnswersAt (Ap r) l answer past × GivesRightKey d id l answer
+  answers_as_stood (Found r1) names holds in_has at own w = by_one (Found r1) w.0 names holds in_has at own w.1 w.2
+  answers_as_stood Absent names holds in_has at own w = by_one Absent w.0 names holds in_has at own w.1 w.2
+  answers_as_stood NoHolder names holds in_has at own w =
+      let a = holder_is d id r holds in
+      absurd (w r (listed_id d.aps r a.0 a.1 ∙ ap (λ (x : List ℕ). Some x) a.2))
 
   pub answers_by_holder : (answer : PullAnswer) → IsNamed d → k < length d.stas → l.sta ≡ Sta k → holder_of d id ≡ Some (Ap r) → is_in r has ≡ true → KnowsRows d (Ap r) (rows r) (history (Ap r) past)
       → Answers (ids d.aps) has rows id l.name (mac d l.node) (mac d l.sta) answer → AnswersAt (Ap r) l answer past × GivesRightKey d id l answer
-  answers_by_holder (Found r1) names low is holds in_has at w = by_one (Found r1) w.0 names low is holds in_has at w.1 w.2
-  answers_by_holder Absent names low is holds in_has at w = by_one Absent w.0 names low is holds in_has at w.1 w.2
-  answers_by_holder NoHolder names low is holds in_has at w =
-      let a = holder_is d id r holds in
-      absurd (w r (listed_id d.aps r a.0 a.1 ∙ ap (λ (x : List ℕ). Some x) a.2))
+  answers_by_holder answer names low is holds in_has at w = answers_as_stood answer names holds in_has (stood d (Ap r) (rows r) past l k low is at) at.own w
 
 unlisted : (d : Domain) (id : List ℕ) (s : ℕ) → holder_of d id ≡ None → slice_get (ids d.aps) s ≡ Some id → ⊥
 unlisted d id s none there =

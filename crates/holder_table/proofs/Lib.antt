@@ -2,6 +2,7 @@ pub mod Growth
 pub mod Pieces
 pub mod Places
 pub mod Views
+pub mod Lasting
 pub mod Loads
 pub mod Stores
 pub mod Passes

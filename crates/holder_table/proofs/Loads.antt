@@ -1,5 +1,6 @@
 -- Loads keep the rule.
 use Rattle.std.proofs.Common.{◌≡◌, ℕ, ◌<◌, true, false, true≢false, List, [], ◌∷◌, ◌++◌, set, get_or, refl, sym, ap, ◌∙◌, subst, ⊎_elim, arith}
+use Rattle.std.specs.Prelude.{All}
 use Rattle.std.proofs.lemmas.List.{set-get_or}
 use mathlib.Core.Option.{some, none}
 use lib.ListN.{get_elem?}
@@ -12,9 +13,10 @@ use Rattle.holder_table.proofs.Growth.{follows_grows}
 use Rattle.holder_table.specs.declared.view.View.{View}
 use Rattle.holder_table.specs.declared.view.Load.{Load}
 use Rattle.holder_table.specs.Words.{state_word, state_of, octets_in, piece, Shows}
-use Rattle.holder_table.specs.Rule.{is_in, Owns, Fits, Kept}
+use Rattle.holder_table.specs.Rule.{is_in, Owns, Lasts, Fits, Kept}
 use Rattle.holder_table.specs.Steps.{load_of, Sees, Looked, Settled, ReadWord}
 use Rattle.holder_table.proofs.Places.{one_state}
+use Rattle.holder_table.proofs.Lasting.{look_lasts}
 use Rattle.holder_table.proofs.Views.{is_in-append, alone_after, fits_after}
 
 -- what a pass knows once it has seen the history as it is
@@ -32,13 +34,14 @@ seen_owns log loads r v s o =
     (λ (e : false ≡ true). absurd (true≢false (sym e)))
     o
 
-seen_fits : (aps : ℕ) (words : List ℕ) (log : List HolderEvent) (loads : List Load) (r : ℕ) (v : View) → Fits aps words log v → Fits aps words log (seen_now log loads r v)
-seen_fits aps words log loads r v f = record {
+seen_fits : (aps : ℕ) (words : List ℕ) (log : List HolderEvent) (loads : List Load) (r : ℕ) (v : View) → All (Lasts log) loads → Fits aps words log v → Fits aps words log (seen_now log loads r v)
+seen_fits aps words log loads r v last f = record {
   seen = ([], refl);
   told = (log, nil_end log);
   own = λ s e. refl;
   brought = λ s e. absurd (true≢false (sym e));
   listed = λ s o. f.listed s (seen_owns log loads r v s o);
+  loads = last;
   short = omega arith;
   draft = λ k m e. absurd (cc);
 }
@@ -63,6 +66,7 @@ sees aps words log loads r v f = record {
   has = refl;
   own = λ s e. f.own s e;
   brought = λ s e. f.brought s e;
+  loads = f.loads;
   settled = (refl, refl);
 }
 
@@ -72,11 +76,12 @@ looks aps slots id word r j me small is s h homes at range =
     let f = h.fits id v at in
     let n : ℕ = get_or s.words word 0 in
     let loads = load_of r j n ∷ v.loads in
+    let states : n ≡ state_of (held_at r h.log) j = subst (λ (k : ℕ). get_or s.words k 0 ≡ state_of (held_at r h.log) j) (sym is) (h.shows.states r j small) in
     let w = seen_now h.log loads r v in (
       w,
       keeps,
       tt,
-      kept_same aps s h id word v w at (seen_fits aps s.words h.log loads r v f) (seen_owns h.log loads r v),
+      kept_same aps s h id word v w at (seen_fits aps s.words h.log loads r v (look_lasts h.log r j n v.loads states f.loads) f) (seen_owns h.log loads r v),
       λ r' j' small' is'.
           let one = one_state r r' j j' small small' (sym is ∙ is') in (
             sees aps s.words h.log loads r v f,
@@ -93,7 +98,7 @@ settles aps slots id word me s h homes at range =
     let v = me.0 in
     let f = h.fits id v at in
     let w = seen_now h.log v.loads v.gives v in
-    (w, keeps, tt, kept_same aps s h id word v w at (seen_fits aps s.words h.log v.loads v.gives v f) (seen_owns h.log v.loads v.gives v), (sees aps s.words h.log v.loads v.gives v f, refl, refl))
+    (w, keeps, tt, kept_same aps s h id word v w at (seen_fits aps s.words h.log v.loads v.gives v f.loads f) (seen_owns h.log v.loads v.gives v), (sees aps s.words h.log v.loads v.gives v f, refl, refl))
 
 pub reads : (aps slots id word : ℕ) (me : Me (Unit {0}) View) → Allows (Kept aps) slots id me word (λ n. n) (ReadWord (step slots word 0 0 none) me)
 reads aps slots id word me s h homes at range =

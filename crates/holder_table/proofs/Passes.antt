@@ -1,13 +1,14 @@
 -- Splits and joins keep the rule.
 use Rattle.std.proofs.Common.{◌≡◌, ◌≢◌, ◌⊎◌, ℕ, zero, suc, eqb, Bool, true, false, cond, true≢false, List, [], ◌∷◌, ◌++◌, length, set, refl, sym, ap, ◌∙◌, subst, inl, inr, ⊎_elim, arith}
 use Rattle.std.proofs.Common.{eqb-true}
+use Rattle.std.proofs.lemmas.List.Elements.{All-append}
 use mathlib.Core.Option.{some, some-injective, some-ne-none}
 use lib.ListN.{get_elem?}
 use Rattle.atomic_table.specs.Table.{Splits, Joins}
 use Rattle.atomic_table.proofs.Lists.{at_set}
 use Rattle.holder_table.specs.declared.history.HolderEvent.{HolderEvent}
 use Rattle.holder_table.specs.declared.view.View.{View}
-use Rattle.holder_table.specs.Rule.{is_in, Owns, Fits, Kept}
+use Rattle.holder_table.specs.Rule.{is_in, Owns, Lasts, Fits, Kept}
 use Rattle.holder_table.specs.Steps.{without, kept_part, given_part, united, nobody}
 use Rattle.holder_table.proofs.Views.{alone_after, fits_after}
 use Rattle.holder_table.proofs.Loads.{nil_end}
@@ -55,6 +56,7 @@ left_fits aps words log v f = record {
   own = λ r e. f.own r (in_without r v.gives v.has e).0;
   brought = f.brought;
   listed = λ r o. f.listed r (left_owns v r o);
+  loads = f.loads;
   short = omega arith;
   draft = λ k m e. absurd (cc);
 }
@@ -66,6 +68,7 @@ right_fits aps words log v has f = record {
   own = λ r e. f.own r (right_owns v r has (inl e)).1;
   brought = λ r e. no e;
   listed = λ r o. f.listed r (inl (right_owns v r has o).1);
+  loads = f.loads;
   short = omega arith;
   draft = λ k m e. absurd (cc);
 }
@@ -111,7 +114,7 @@ joins aps id v other w s h at ne there = record {
   shows = h.shows;
   fits = fits_after aps s.words h.log (set s.views id (united v w)) other nobody
       (λ j u apart e. fits_after aps s.words h.log s.views id (united v w) (λ i x _ e'. h.fits i x e') both j u e)
-      (record { seen = (h.log, nil_end h.log); told = (h.log, nil_end h.log); own = λ r e. no e; brought = λ r e. no e; listed = λ r o. absurd (none_own r o); short = omega arith; draft = λ k m e. absurd (cc) });
+      (record { seen = (h.log, nil_end h.log); told = (h.log, nil_end h.log); own = λ r e. no e; brought = λ r e. no e; listed = λ r o. absurd (none_own r o); loads = λ k d less. absurd (omega (arith, less)); short = omega arith; draft = λ k m e. absurd (cc) });
   alone = λ a b x y r ea eb ox oy.
       let p = origin a x r ea ox in
       let q = origin b y r eb oy in
@@ -141,6 +144,7 @@ joins aps id v other w s h at ne there = record {
           own = f.own;
           brought = g.own;
           listed = λ r o. ⊎_elim (λ (e : is_in r v.has ≡ true). f.listed r (inl e)) (λ (e : is_in r w.has ≡ true). g.listed r (inl e)) o;
+          loads = All-append (Lasts h.log) w.loads v.loads g.loads f.loads;
           short = omega arith;
           draft = λ k m e. absurd (cc);
         }

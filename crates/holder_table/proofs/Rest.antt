@@ -6,7 +6,7 @@ use Rattle.key_holders.proofs.Listing.{in_below}
 use Rattle.holder_table.specs.declared.history.HolderEvent.{HolderEvent}
 use Rattle.holder_table.specs.declared.view.View.{View}
 use Rattle.holder_table.specs.Histories.{HeldRow, is_in, held_at, NoTwins}
-use Rattle.holder_table.specs.Rule.{first_view}
+use Rattle.holder_table.specs.Rule.{first_view, LoadsLast}
 use Rattle.holder_table.specs.Knowledge.{NoLess, Gave, TookIn}
 use Rattle.holder_table.specs.Pass.{IsAtRest}
 use Rattle.holder_table.proofs.Views.{is_in-append}
@@ -18,34 +18,38 @@ rest_first aps id me size is = record {
   settled = ap (λ (m : Me (Unit {0}) View). m.0.brought) is;
   listed = λ r h. let low = in_below r aps (ap (λ (m : Me (Unit {0}) View). is_in r m.0.has) (sym is) ∙ h) in omega (arith, low, size);
   twins = λ r h. subst (λ (m : Me (Unit {0}) View). NoTwins (held_at r m.0.seen)) (sym is) (λ i j p q e. absurd (cc));
+  lasting = subst (λ (m : Me (Unit {0}) View). LoadsLast m.0) (sym is) (λ k d h. absurd (omega (arith, h)));
 }
 
 -- a call that leaves the pass its access points
-pub rest_after : (id new : TableId) (me now : Me (Unit {0}) View) → new ≡ id → now.1 ≡ me.1 → NoLess me.0 now.0 → now.0.brought ≡ [] → ((s : ℕ) → is_in s now.0.has ≡ true → NoTwins (held_at s now.0.seen)) → IsAtRest id me → IsAtRest new now
-rest_after id new me now same slots less settled twins rest = record {
+pub rest_after : (id new : TableId) (me now : Me (Unit {0}) View) → new ≡ id → now.1 ≡ me.1 → NoLess me.0 now.0 → now.0.brought ≡ [] → ((s : ℕ) → is_in s now.0.has ≡ true → NoTwins (held_at s now.0.seen)) → LoadsLast now.0 → IsAtRest id me → IsAtRest new now
+rest_after id new me now same slots less settled twins lasting rest = record {
   free = slots ∙ rest.free;
   settled = settled;
   listed = λ s h. subst (λ (z : TableId). 512 * s + 512 < z.words) (sym same) (rest.listed s (ap (λ (xs : List ℕ). is_in s xs) (sym less.has) ∙ h));
   twins = twins;
+  lasting = lasting;
 }
 
-pub rest_gave : (r : ℕ) (id new : TableId) (me now : Me (Unit {0}) View) (given : View) → new ≡ id → now.1 ≡ me.1 → Gave r me.0 now.0 given → IsAtRest id me → IsAtRest new now
-rest_gave r id new me now given same slots g rest = record {
+pub rest_gave : (r : ℕ) (id new : TableId) (me now : Me (Unit {0}) View) (given : View) → new ≡ id → now.1 ≡ me.1 → Gave r me.0 now.0 given → LoadsLast now.0 → IsAtRest id me → IsAtRest new now
+rest_gave r id new me now given same slots g lasting rest = record {
   free = slots ∙ rest.free;
   settled = g.settled.0;
   listed = λ s h. subst (λ (z : TableId). 512 * s + 512 < z.words) (sym same) (rest.listed s (before s h));
   twins = λ s h. subst (λ (ps : List HeldRow). NoTwins ps) (sym (g.own s (before s h))) (rest.twins s (before s h));
+  lasting = lasting;
 }
   where
     before : (s : ℕ) → is_in s now.0.has ≡ true → is_in s me.0.has ≡ true
     before s h = (in_without s r me.0.has (ap (λ (xs : List ℕ). is_in s xs) (sym g.has) ∙ h)).0
 
-pub rest_given : (r : ℕ) (id new : TableId) (me they now : Me (Unit {0}) View) → new ≡ id → they.1 ≡ [] → Gave r me.0 now.0 they.0 → is_in r me.0.has ≡ true → IsAtRest id me → IsAtRest new they
-rest_given r id new me they now same free g has rest = record {
+pub rest_given : (r : ℕ) (id new : TableId) (me they now : Me (Unit {0}) View) → new ≡ id → they.1 ≡ [] → Gave r me.0 now.0 they.0 → is_in r me.0.has ≡ true → LoadsLast they.0 → IsAtRest id me → IsAtRest new they
+rest_given r id new me they now same free g has lasting rest = record {
   free = free;
   settled = g.settled.1;
   listed = λ s h. subst (λ (z : TableId). 512 * s + 512 < z.words) (sym same) (rest.listed s (before s h));
   twins = λ s h. subst (λ (l : List HolderEvent). NoTwins (held_at s l)) (sym g.alike.0) (subst (λ (ps : List HeldRow). NoTwins ps) (sym (g.own s (before s h))) (rest.twins s (before s h)));
+  lasting = lasting;
 }
   where
     only : (s : ℕ) → is_in s (r ∷ []) ≡ true → r ≡ s
@@ -58,8 +62,8 @@ rest_given r id new me they now same free g has rest = record {
     before : (s : ℕ) → is_in s they.0.has ≡ true → is_in s me.0.has ≡ true
     before s h = subst (λ (x : ℕ). is_in x me.0.has ≡ true) (only s (ap (λ (xs : List ℕ). is_in s xs) (sym g.given_has) ∙ h)) has
 
-pub rest_took : (id new other : TableId) (me now they : Me (Unit {0}) View) → new ≡ id → other ≡ id → now.1 ≡ me.1 → TookIn me.0 they.0 now.0 → IsAtRest id me → IsAtRest other they → IsAtRest new now
-rest_took id new other me now they same others slots t rest theirs = record {
+pub rest_took : (id new other : TableId) (me now they : Me (Unit {0}) View) → new ≡ id → other ≡ id → now.1 ≡ me.1 → TookIn me.0 they.0 now.0 → LoadsLast now.0 → IsAtRest id me → IsAtRest other they → IsAtRest new now
+rest_took id new other me now they same others slots t lasting rest theirs = record {
   free = slots ∙ rest.free;
   settled = t.settled;
   listed = λ s h. subst (λ (z : TableId). 512 * s + 512 < z.words) (sym same)
@@ -71,6 +75,7 @@ rest_took id new other me now they same others slots t rest theirs = record {
       (λ (a : is_in s me.0.has ≡ true). subst (λ (ps : List HeldRow). NoTwins ps) (sym (t.own s a)) (rest.twins s a))
       (λ (b : is_in s they.0.has ≡ true). subst (λ (ps : List HeldRow). NoTwins ps) (sym (t.others s b)) (theirs.twins s b))
       (whose s h);
+  lasting = lasting;
 }
   where
     whose : (s : ℕ) → is_in s now.0.has ≡ true → (is_in s me.0.has ≡ true) ⊎ (is_in s they.0.has ≡ true)

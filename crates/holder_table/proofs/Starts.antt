@@ -22,6 +22,7 @@ first_fits aps words = record {
   told = ([], refl);
   own = λ r e. refl;
   brought = λ r e. absurd (true≢false (sym e));
+  loads = λ k d h. absurd (omega (arith, h));
   listed = λ r o. ⊎_elim (λ (e : is_in r (below aps) ≡ true). in_below r aps e) (λ (e : false ≡ true). absurd (true≢false (sym e))) o;
   short = omega arith;
   draft = λ k n e. absurd (cc);

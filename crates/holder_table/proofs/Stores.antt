@@ -21,6 +21,7 @@ use Rattle.holder_table.specs.Rule.{is_in, Owns, Fits, Kept}
 use Rattle.holder_table.specs.Steps.{drafted, GoesOn, Wrote, Adds, Published, Ended}
 use Rattle.holder_table.proofs.Places.{one_state, one_data, state_data, state_row, state_more, state_last, get_more, length-ended, state_ended, state_at_end, get_ended}
 use Rattle.holder_table.proofs.Loads.{nil_end}
+use Rattle.holder_table.proofs.Lasting.{all_last_on}
 use Rattle.holder_table.proofs.Views.{alone_after, fits_after}
 use Rattle.holder_table.proofs.Pieces.{piece_back}
 
@@ -63,6 +64,7 @@ draft_others aps words log r k n u small few apart f = record {
   own = f.own;
   brought = f.brought;
   listed = f.listed;
+  loads = f.loads;
   short = f.short;
   draft = λ i m e.
       let d = f.draft i m e in
@@ -82,6 +84,7 @@ draft_mine aps words log r k n v within small few has on f = record {
   own = f.own;
   brought = f.brought;
   listed = f.listed;
+  loads = f.loads;
   short = subst (λ (l : ℕ). l ≤ 7) (sym (length-draft v.draft k n on.0)) (omega arith);
   draft = λ i m e. (has, small, ⊎_elim (λ (a : (i < k) × (slice_get v.draft i ≡ Some m)). before i m a) (λ (b : (i ≡ k) × (n ≡ m)). here i m b) (draft_get v.draft k n i m on.0 e));
 }
@@ -208,6 +211,7 @@ others_after aps words now log r e u other stay apart f = record {
   own = λ s has. other s (λ is. apart (inl (subst (λ (x : ℕ). is_in x u.has ≡ true) (sym is) has))) ∙ f.own s has;
   brought = λ s has. other s (λ is. apart (inr (subst (λ (x : ℕ). is_in x u.brought ≡ true) (sym is) has))) ∙ f.brought s has;
   listed = f.listed;
+  loads = all_last_on log (e ∷ log) u.loads (e ∷ [], refl) f.loads;
   short = f.short;
   draft = λ i m d.
       let was = f.draft i m d in
@@ -227,6 +231,7 @@ added_fits aps words now log e v f = record {
   own = λ s has. refl;
   brought = λ s has. absurd (true≢false (sym has));
   listed = λ s o. f.listed s (added_owns e log v s o);
+  loads = all_last_on log (e ∷ log) v.loads (e ∷ [], refl) f.loads;
   short = omega arith;
   draft = λ i m d. absurd (cc);
 }

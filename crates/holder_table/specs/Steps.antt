@@ -1,5 +1,5 @@
 -- What each step tells the pass that takes it.
-use Rattle.std.specs.Prelude.{◌≡◌, ℕ, ◌<◌, ◌≤◌, ◌==◌, if◌then◌else◌, true, List, [], ◌∷◌, ◌++◌, length, take, Some, slice_get}
+use Rattle.std.specs.Prelude.{◌≡◌, ℕ, ◌<◌, ◌≤◌, ◌==◌, if◌then◌else◌, true, List, [], ◌∷◌, ◌++◌, length, All, take, Some, slice_get}
 use Rattle.atomic_table.specs.Table.{Step, Me}
 use Rattle.holder_table.specs.declared.words.RowWords.{RowWords}
 use Rattle.holder_table.specs.declared.history.HolderEvent.{HolderEvent}
@@ -7,18 +7,21 @@ use Rattle.holder_table.specs.declared.history.HolderEvent.TheVariants.{Put, Rev
 use Rattle.holder_table.specs.Histories.{HeldRow, is_in, held_at, Follows}
 use Rattle.holder_table.specs.declared.view.View.{View}
 use Rattle.holder_table.specs.declared.view.Load.{Load}
+use Rattle.holder_table.specs.Rule.{Lasts}
 use Rattle.holder_table.specs.Words.{state_word, data_word, octets_in, piece, state_of, row_words, row_of}
 
 abbrev pub load_of : ℕ → ℕ → ℕ → Load
 load_of r j n = record { ap = r; place = j; state = n }
 
--- The history is seen as it is now: it goes on from all that was seen or told, with nothing new at the pass's own access points.
+-- The history is seen as it is now: it goes on from all that was seen or told, with nothing new at the pass's own access
+-- points, and what lasts of the loads that the pass lists is so in it.
 pub record Sees (v w : View) : Type 0 where
   pub seen : Follows v.seen w.seen
   pub told : Follows v.told w.seen
   pub has : w.has ≡ v.has ++ v.brought
   pub own : (r : ℕ) → is_in r v.has ≡ true → held_at r w.seen ≡ held_at r v.seen
   pub brought : (r : ℕ) → is_in r v.brought ≡ true → held_at r w.seen ≡ held_at r v.told
+  pub loads : All (Lasts w.seen) v.loads
   pub settled : (w.brought ≡ []) × (w.told ≡ [])
 
 -- The state word of a row was loaded: it is as the history that is now seen says.

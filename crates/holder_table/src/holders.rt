@@ -4,7 +4,7 @@ ghost use Rattle.std.specs.Prelude.{◌≡◌, ◌≢◌, ◌≤◌, ℕ, true, 
 ghost use Rattle.key_holders.specs.Rows.{is_in, put_answer, after_put, revoke_answer, after_revoke};
 ghost use Rattle.key_holders.specs.Pulls.{Answers, IsNamed};
 ghost use Rattle.holder_table.specs.Histories.{held_at};
-ghost use Rattle.holder_table.specs.Rule.{first_view};
+ghost use Rattle.holder_table.specs.Rule.{first_view, LoadsLast};
 ghost use Rattle.holder_table.specs.Knowledge.{NoLess, Pulled, AfterPut, AfterRevoke, Gave, TookIn};
 
 use crate::row_table::RowTable;
@@ -74,6 +74,7 @@ impl SharedHolders {
         ensures others { (r : ℕ) → r ≢ r0kh → is_in r pass.old.knows.has ≡ true →
             held_at r pass.new.knows.seen ≡ held_at r pass.old.knows.seen }
         ensures no_less { NoLess pass.old.knows pass.new.knows }
+        ensures lasting { LoadsLast pass.new.knows }
     {
         self.rows.put(&mut pass.seat, r0kh as usize, &row)
     }
@@ -103,8 +104,11 @@ impl SharedHolders {
             r0kh_id.now name.now r1kh sta result }
         ensures named { IsNamed name.now r1kh sta result }
         ensures no_less { NoLess pass.old.knows pass.new.knows }
+        ensures lasting { LoadsLast pass.new.knows }
     {
         let Some(r0kh) = self.holder_of(r0kh_id) else {
+            // A look at the pass, which is as it was, for what lasts of its loads.
+            let _ = &pass.seat;
             return PullAnswer::NoHolder;
         };
         self.rows.pull(&mut pass.seat, r0kh, name, r1kh, sta)
@@ -122,6 +126,7 @@ impl SharedHolders {
         ensures others { (r : ℕ) → r ≢ r0kh → is_in r pass.old.knows.has ≡ true →
             held_at r pass.new.knows.seen ≡ held_at r pass.old.knows.seen }
         ensures no_less { NoLess pass.old.knows pass.new.knows }
+        ensures lasting { LoadsLast pass.new.knows }
     {
         self.rows.revoke(&mut pass.seat, r0kh as usize, name)
     }
@@ -132,6 +137,7 @@ impl SharedHolders {
         requires has { is_in ap pass.old.knows.has ≡ true }
         ensures pass { (pass.new.table ≡ pass.old.table) × (result.table ≡ pass.old.table) }
         ensures gave { Gave ap pass.old.knows pass.new.knows result.knows }
+        ensures lasting { (LoadsLast pass.new.knows) × (LoadsLast result.knows) }
     {
         let seat = self.rows.split(&mut pass.seat, ap as usize);
         HolderPass { seat }
@@ -142,6 +148,7 @@ impl SharedHolders {
         requires pass { (pass.old.table ≡ self.now.table) × (other.table ≡ self.now.table) }
         ensures pass { pass.new.table ≡ pass.old.table }
         ensures took_in { TookIn pass.old.knows other.knows pass.new.knows }
+        ensures lasting { LoadsLast pass.new.knows }
     {
         let HolderPass { seat } = other;
         self.rows.join(&mut pass.seat, seat);

@@ -7,7 +7,7 @@ ghost use Rattle.key_holders.specs.Rows.{is_in, live, put_answer, revoke_answer}
 ghost use Rattle.holder_table.specs.declared.history.HolderEvent.TheVariants.{Put, Revoke};
 ghost use Rattle.holder_table.specs.Histories.{held_at};
 ghost use Rattle.holder_table.specs.Words.{octets_in, piece, state_of, row_of, row_words, name_octets};
-ghost use Rattle.holder_table.specs.Rule.{first_view};
+ghost use Rattle.holder_table.specs.Rule.{first_view, LoadsLast};
 ghost use Rattle.holder_table.specs.Steps.{Adds, GoesOn, load_of, drafted, written};
 ghost use Rattle.holder_table.specs.Knowledge.{NoLess, KnowsMore, Finds, PullsAt, AfterPut, AfterRevoke, Gave, TookIn};
 ghost use Rattle.holder_table.specs.Scans.{Asked, Spotted};
@@ -62,6 +62,7 @@ impl RowTable {
         ensures load { seat.new.me.0.loads ≡ load_of ap place result ∷ seat.old.me.0.loads }
         ensures gives { seat.new.me.0.gives ≡ ap }
         ensures room { length (held_at ap seat.new.me.0.seen) ≤ 64 }
+        ensures lasting { LoadsLast seat.new.me.0 }
     {
         self.table
             .shared
@@ -163,6 +164,7 @@ impl RowTable {
         ensures pass { (seat.new.table_id ≡ seat.old.table_id) × (seat.new.me.1 ≡ seat.old.me.1) }
         ensures more { KnowsMore seat.old.me.0 seat.new.me.0 }
         ensures spot { Spotted ap (name_octets name) sta seat.old.me.0 seat.new.me.0 result }
+        ensures lasting { LoadsLast seat.old.me.0 → LoadsLast seat.new.me.0 }
     {
         for place in 0..ROWS {
             let state = self.look_at(seat, ap, place);
@@ -253,6 +255,7 @@ impl RowTable {
         ensures pass { (seat.new.table_id ≡ seat.old.table_id) × (seat.new.me.1 ≡ seat.old.me.1) }
         ensures answer { result ≡ put_answer row.now.name (held_at ap seat.old.me.0.seen) }
         ensures effect { AfterPut ap row.now seat.old.me.0 seat.new.me.0 result }
+        ensures lasting { LoadsLast seat.old.me.0 → LoadsLast seat.new.me.0 }
     {
         let words = RowWords::of(row);
         match self.scan(seat, ap, words.name, None) {
@@ -275,6 +278,7 @@ impl RowTable {
         ensures pass { (seat.new.table_id ≡ seat.old.table_id) × (seat.new.me.1 ≡ seat.old.me.1) }
         ensures more { KnowsMore seat.old.me.0 seat.new.me.0 }
         ensures finds { Finds ap name.now sta seat.old.me.0 seat.new.me.0 result }
+        ensures lasting { LoadsLast seat.old.me.0 → LoadsLast seat.new.me.0 }
     {
         match self.scan(seat, ap, NameWords::of(name), Some(sta)) {
             Spot::Live(place) => {
@@ -300,6 +304,7 @@ impl RowTable {
         ensures pass { (seat.new.table_id ≡ seat.old.table_id) × (seat.new.me.1 ≡ seat.old.me.1) }
         ensures more { KnowsMore seat.old.me.0 seat.new.me.0 }
         ensures pulls { PullsAt ap name.now r1kh sta seat.old.me.0 seat.new.me.0 result }
+        ensures lasting { LoadsLast seat.old.me.0 → LoadsLast seat.new.me.0 }
     {
         match self.find(seat, ap, name, sta) {
             Some(row) => PullAnswer::Found(row.r1(r1kh)),
@@ -316,6 +321,7 @@ impl RowTable {
         ensures pass { (seat.new.table_id ≡ seat.old.table_id) × (seat.new.me.1 ≡ seat.old.me.1) }
         ensures answer { result ≡ revoke_answer name.now (held_at ap seat.old.me.0.seen) }
         ensures effect { AfterRevoke ap name.now seat.old.me.0 seat.new.me.0 result }
+        ensures lasting { LoadsLast seat.old.me.0 → LoadsLast seat.new.me.0 }
     {
         match self.scan(seat, ap, NameWords::of(name), None) {
             Spot::Live(place) => {
@@ -335,6 +341,7 @@ impl RowTable {
         ensures pass { (seat.new.table_id ≡ seat.old.table_id) × (seat.new.me.1 ≡ seat.old.me.1) }
         ensures given_pass { (result.table_id ≡ seat.old.table_id) × (result.me.1 ≡ []) }
         ensures gave { Gave ap seat.old.me.0 seat.new.me.0 result.me.0 }
+        ensures lasting { (LoadsLast seat.new.me.0) × (LoadsLast result.me.0) }
     {
         self.look_at(seat, ap, 0);
         self.table.shared.split_seat::<Hand>(seat)
@@ -347,6 +354,7 @@ impl RowTable {
         requires other_free { other.me.1 ≡ [] }
         ensures pass { (seat.new.table_id ≡ seat.old.table_id) × (seat.new.me.1 ≡ seat.old.me.1) }
         ensures took_in { TookIn seat.old.me.0 other.me.0 seat.new.me.0 }
+        ensures lasting { LoadsLast seat.new.me.0 }
     {
         self.table.shared.join_seat::<Unite>(seat, other);
         self.table.shared.load::<Settles>(seat, 0);

@@ -1,5 +1,5 @@
 -- The events of a storm (this project's choice). Of what an event names, each is drawn in the order of the lines.
-use Rattle.std.specs.Prelude.{ℕ, ◌+◌, ◌-◌, ◌==◌, min, max, nat_le, if◌then◌else◌, Some, None, List, codes, length}
+use Rattle.std.specs.Prelude.{ℕ, ◌+◌, ◌-◌, ◌==◌, Bool, min, nat_le, nat_lt, if◌then◌else◌, Some, None, List, codes, length}
 use Rattle.domain_base.specs.declared.names.Node.{Node}
 use Rattle.domain_base.specs.declared.names.Node.TheVariants.{Ap, Sta}
 use Rattle.domain_base.specs.declared.names.Peer.{Peer}
@@ -23,12 +23,21 @@ connect = sta_and_ap (λ sta ap. given (Connect sta ap))
 unfoldable pub roam : Draws Event
 roam = sta_and_ap (λ sta ap. given (Roam sta ap))
 
--- to whom a frame comes: to whom it was sent, and where that is all, to a station
-unfoldable pub receiver : Peer → Draws Node
-receiver (One node) = given node
-receiver All = do
+-- the node is one of the storm's
+abbrev pub is_listed : Node → Bool
+is_listed (Ap k) = nat_lt k 4
+is_listed (Sta k) = nat_lt k 8
+
+-- a station
+abbrev pub any_sta : Draws Node
+any_sta = do
   sta ← next 8
   given (Sta sta)
+
+-- to whom a frame comes: to whom it was sent, and where that is all, to a station; nodes of the storm send to no others
+unfoldable pub receiver : Peer → Draws Node
+receiver (One node) = if is_listed node then given node else any_sta
+receiver All = any_sta
 
 -- the number of one of the last eight frames
 unfoldable pub late_number : List Frame → Draws ℕ
@@ -48,13 +57,17 @@ deliver frames number = do
   to ← receiver (frame_at frames number).to
   given (Deliver number to)
 
--- or with one octet changed; a frame has at least one
-unfoldable pub alter : List Frame → ℕ → Draws Event
-alter frames number = do
-  place ← next (max (frame_at frames number).size 1)
+-- or with one octet changed; nodes send no frame without octets, which would come as it was sent
+abbrev pub alter_octet : Frame → ℕ → Draws Event
+alter_octet frame number = do
+  place ← next frame.size
   more ← next 255
-  to ← receiver (frame_at frames number).to
+  to ← receiver frame.to
   given (Alter number place (1 + more) to)
+
+unfoldable pub alter : List Frame → ℕ → Draws Event
+alter frames number =
+    if (frame_at frames number).size == 0 then deliver frames number else alter_octet (frame_at frames number) number
 
 unfoldable pub retry : Draws Event
 retry = sta_and_ap (λ sta ap. given (Retry ap sta))

@@ -2,7 +2,7 @@
 
 ghost use Rattle.std.specs.Prelude.{◌≡◌, ◌≢◌, ◌<◌, ◌≤◌, [], ◌∷◌, length, IfOk, OnOk};
 ghost use Rattle.storm.specs.Drawing.{after, drawn};
-ghost use Rattle.storm.specs.Events.{alter, any_number, connect, deliver, event_by, event_of, late_number, other, other_of, receiver, rekey, retry, roam, send, send_of};
+ghost use Rattle.storm.specs.Events.{alter, any_number, any_sta, connect, deliver, event_by, event_of, is_listed, late_number, other, other_of, receiver, rekey, retry, roam, send, send_of};
 ghost use Rattle.storm.specs.Frames.{frame_at};
 ghost use Rattle.run_journal.specs.declared.domain.Event.TheVariants as sends;
 
@@ -52,6 +52,24 @@ fn roam(generator: &mut Generator) -> Event
     Event::Roam { sta, ap }
 }
 
+// Whether a node is one of the storm's.
+fn is_listed(node: Node) -> bool
+    ensures { result ≡ is_listed node }
+{
+    match node {
+        Node::Ap(ap) => ap < APS,
+        Node::Sta(sta) => sta < STAS,
+    }
+}
+
+// A station.
+fn any_sta(generator: &mut Generator) -> Node
+    ensures value { result ≡ (any_sta generator.old).0 }
+    ensures state { generator.new ≡ (any_sta generator.old).1 }
+{
+    Node::Sta(generator.place(STAS))
+}
+
 // To whom a frame comes that was sent to this one.
 #[tactic(auto, unfolding(crate::specs::Events::receiver))]
 fn receiver(generator: &mut Generator, peer: Peer) -> Node
@@ -59,8 +77,14 @@ fn receiver(generator: &mut Generator, peer: Peer) -> Node
     ensures state { generator.new ≡ (receiver peer generator.old).1 }
 {
     match peer {
-        Peer::One(node) => node,
-        Peer::All => Node::Sta(generator.place(STAS)),
+        Peer::One(node) => {
+            if is_listed(node) {
+                node
+            } else {
+                any_sta(generator)
+            }
+        }
+        Peer::All => any_sta(generator),
     }
 }
 
@@ -113,7 +137,7 @@ fn deliver(generator: &mut Generator, frames: &[Frame], number: u64) -> Event
     }
 }
 
-// The frame of that number comes with one octet changed.
+// The frame of that number comes with one octet changed, or without octets as it was sent.
 #[tactic(auto, unfolding(crate::specs::Events::alter))]
 fn alter(generator: &mut Generator, frames: &[Frame], number: u64) -> Event
     requires some { 1 ≤ number }
@@ -122,7 +146,10 @@ fn alter(generator: &mut Generator, frames: &[Frame], number: u64) -> Event
     ensures state { generator.new ≡ (alter frames.now number generator.old).1 }
 {
     let frame = frame_at(frames, number);
-    let place = generator.next(frame.size.max(1) as u64) as usize;
+    if frame.size == 0 {
+        return deliver(generator, frames, number);
+    }
+    let place = generator.next(frame.size as u64) as usize;
     let mask = 1 + generator.next(255) as u8;
     let to = receiver(generator, frame.to);
     Event::Alter {

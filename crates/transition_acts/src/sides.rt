@@ -90,7 +90,8 @@ impl Side {
         frame: Reassociation,
         elements: &Elements<'a>,
     ) -> Option<FteCovered<'a>>
-        ensures { option_map input_of result ≡ came_covered self frame (element_fields elements.now) }
+        ensures { option_map input_of result
+            ≡ came_covered self frame (element_fields elements.now) }
     {
         let Some(rsne) = elements.rsne_octets else {
             return None;

@@ -300,7 +300,7 @@ fn see_each_other<R: Threads + Sync>(
 }
 
 #[test]
-fn two_threads_see_each_others_rows(rt: HostRuntime) {
+fn shared_rows(rt: HostRuntime) {
     let two = ids(&rt, rt.alloc(), 2);
     let (holders, mut first) = SharedHolders::start(rt.alloc(), two).expect(&rt, "memory");
     let second = holders.split(&mut first, 1);

@@ -28,3 +28,5 @@ mod packet_numbers;
 mod protected_bodies;
 #[cfg(test)]
 mod vectors;
+#[cfg(test)]
+mod words;

@@ -6,6 +6,7 @@ mod full;
 mod refused;
 mod rounds;
 mod scripts;
+mod storms;
 mod texts;
 mod transitions;
 
@@ -22,6 +23,7 @@ use scripts::{
 use std::alloc::Global;
 use std::process::Abort;
 use std::thread::Threads;
+use storms::SUMMARIES;
 use texts::TEXTS;
 use transitions::{ASSOCIATED, BEGUN, BEGUN_WITH_TWO, TRANSITIONS};
 
@@ -333,6 +335,26 @@ fn is_no_command<R: Threads + Sync + Abort>(rt: &R, alloc: Global, words: &[&str
 fn words_that_are_no_command(rt: HostRuntime) {
     for words in WORDS {
         assert!(rt; is_no_command(&rt, rt.alloc(), words), "{words:?}");
+    }
+}
+
+// These words, over a source that fails at once, end as done and write this.
+fn is_storm<R: Threads + Sync + Abort>(
+    rt: &R,
+    alloc: Global,
+    words: &[&str],
+    summary: &str,
+) -> bool {
+    let mut source = source_of(rt, alloc, Vec::new(alloc), 1);
+    let mut sink = sink_of(rt, alloc, 400, NEVER);
+    let status = ended(rt, alloc, words, &mut source, &mut sink);
+    status == Status::Done && sink.written() == summary.as_bytes()
+}
+
+#[test]
+fn storms_and_their_summaries(rt: HostRuntime) {
+    for (words, summary) in SUMMARIES {
+        assert!(rt; is_storm(&rt, rt.alloc(), words, summary), "{words:?}");
     }
 }
 

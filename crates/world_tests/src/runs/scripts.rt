@@ -693,11 +693,26 @@ pub(crate) const WRITE_FAULTS: &[(&str, usize, u64, usize)] = &[
 // Words that are no command.
 pub(crate) const WORDS: &[&[&str]] = &[
     &[],
-    &["frob"],
-    &["live", "80"],
-    &["storm", "x"],
-    &["replay", "more"],
+    &["x"],
+    &["replay", "x"],
     &["Replay"],
+    &["storm"],
+    &["storm", "x"],
+    &["storm", ""],
+    &["storm", "-1"],
+    &["storm", "+1"],
+    &["storm", "4294967296"],
+    &["storm", "00000000001"],
+    &["storm", "1", "2"],
+    &["Storm", "1"],
+    &["live"],
+    &["live", "80"],
+    &["live", "1024"],
+    &["--help"],
+    &["help"],
+    &["help", "storm"],
+    &["storm", "--help"],
+    &["--version"],
 ];
 
 // Scripts of so many lines, the first with `domain 1` and the others with a comment of one octet, of a comment of so many octets

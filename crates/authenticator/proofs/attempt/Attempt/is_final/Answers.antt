@@ -1,4 +1,3 @@
-use Rattle.std.proofs.Common.{◌∙◌, sym}
 use Rattle.eapol_key.specs.Fields.{fields_of}
 use Rattle.authenticator.specs.Judged.{frame_of}
 use Rattle.authenticator.proofs.Deciding.{answers}

@@ -27,7 +27,7 @@ returns-in-Connect-clause-stands c =
     let rsne = c.in-Connect.rsne in
     subst (λ (z : ApStart). StandsAtFirst d n p z c.with_attempt.result) (sym c.in-Connect.is)
     (subst (λ (s : State). StandsAtFirst d n p (Connect anonce rsne) s) (sym c.with_attempt.ensures.value)
-    (λ h session at held. begins d n p c.between-ends.result c.of-base.result anonce.now rsne.now (begun anonce.now rsne.now) session c.between-ends.ensures.ends c.of-base.ensures c.with_attempt.ensures.addresses refl h at held))
+    (λ h session at held. begins d n p c.between-ends.result c.of-base.result anonce.now rsne.now (begun c.of-base.result anonce.now rsne.now) session c.between-ends.ensures.ends c.of-base.ensures c.with_attempt.ensures.addresses refl h at held))
 
 pub returns-in-Ft-clause-stands : goal.returns-in-Ft-clause-stands
 returns-in-Ft-clause-stands c =
@@ -37,4 +37,4 @@ returns-in-Ft-clause-stands c =
     let ptk = c.in-Ft.ptk in
     subst (λ (z : ApStart). StandsAtFirst d n p z c.after_transition.result) (sym c.in-Ft.is)
     (subst (λ (s : State). StandsAtFirst d n p (Ft ptk) s) (sym c.after_transition.ensures)
-    (λ h at. transfers d n p c.between-ends.result c.of-base.result ptk.now (transferred ptk.now) c.between-ends.ensures.ends c.of-base.ensures refl h at))
+    (λ h at. transfers d n p c.between-ends.result ptk.now (transferred ptk.now) c.between-ends.ensures.ends refl h at))

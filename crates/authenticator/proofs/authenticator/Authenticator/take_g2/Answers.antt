@@ -12,12 +12,12 @@ use Rattle.authenticator.proofs.authenticator.Authenticator.take_g2.Goals as goa
 
 pub returns-in_default-clause-steps : goal.returns-in_default-clause-steps
 returns-in_default-clause-steps c rsc =
-    let s : State = record { ends = c.self.inside.ends; base = c.self.inside.base; attempt = c.self.inside.attempt; session = c.self.inside.session } in
+    let s : State = record { ends = c.self.inside.ends; attempt = c.self.inside.attempt; session = c.self.inside.session } in
     rw (← c.self.view_is) (no_g2 s (frame_of c.args.frame.now) c.args.newest.now rsc c.args.reply.now c.in_default.is c.requires.empty)
 
 pub returns-in-Err-clause-steps : goal.returns-in-Err-clause-steps
 returns-in-Err-clause-steps c rsc =
-    let s : State = record { ends = c.self.inside.ends; base = c.self.inside.base; attempt = c.self.inside.attempt; session = c.self.inside.session } in
+    let s : State = record { ends = c.self.inside.ends; attempt = c.self.inside.attempt; session = c.self.inside.session } in
     rw (← c.self.view_is)
     (steps_to s s (record s { session = Some c.in-Some.session }) (given G2 (frame_of c.args.frame.now) c.args.newest.now rsc) (Refused c.in-Err.why) c.args.reply.now
     (ap (λ (o : Option Session). record s { session = o }) c.in-Some.is)
@@ -25,7 +25,7 @@ returns-in-Err-clause-steps c rsc =
 
 pub returns-clause-steps : goal.returns-clause-steps
 returns-clause-steps c rsc =
-    let s : State = record { ends = c.self.inside.ends; base = c.self.inside.base; attempt = c.self.inside.attempt; session = c.self.inside.session } in
+    let s : State = record { ends = c.self.inside.ends; attempt = c.self.inside.attempt; session = c.self.inside.session } in
     let t = c.in-Some.session in
     rw (← c.self.view_is)
     (steps_to s (record s { session = Some (replied_to t) }) (record s { session = Some c.answer.new.self }) (given G2 (frame_of c.args.frame.now) c.args.newest.now rsc) Accepted (record c.args.reply.now { verified = Some t.ptk.kck })

@@ -13,12 +13,12 @@ use Rattle.authenticator.proofs.authenticator.Authenticator.take_m2.Goals as goa
 
 pub returns-in_default-clause-steps : goal.returns-in_default-clause-steps
 returns-in_default-clause-steps c =
-    let s : State = record { ends = c.self.inside.ends; base = c.self.inside.base; attempt = c.self.inside.attempt; session = c.self.inside.session } in
+    let s : State = record { ends = c.self.inside.ends; attempt = c.self.inside.attempt; session = c.self.inside.session } in
     rw (← c.self.view_is) (no_m2 s (frame_of c.args.frame.now) c.args.newest.now c.args.rsc c.args.reply.now c.in_default.is c.requires.empty)
 
 pub returns-in-Refused-clause-steps : goal.returns-in-Refused-clause-steps
 returns-in-Refused-clause-steps c =
-    let s : State = record { ends = c.self.inside.ends; base = c.self.inside.base; attempt = c.self.inside.attempt; session = c.self.inside.session } in
+    let s : State = record { ends = c.self.inside.ends; attempt = c.self.inside.attempt; session = c.self.inside.session } in
     rw (← c.self.view_is)
     (steps_to s s (record s { attempt = Some c.in-Some.attempt }) (given M2 (frame_of c.args.frame.now) c.args.newest.now c.args.rsc) (Refused c.in-Refused.why) c.args.reply.now
     (ap (λ (o : Option Attempt). record s { attempt = o }) c.in-Some.is)
@@ -26,7 +26,7 @@ returns-in-Refused-clause-steps c =
 
 pub returns-in-Other-clause-steps : goal.returns-in-Other-clause-steps
 returns-in-Other-clause-steps c =
-    let s : State = record { ends = c.self.inside.ends; base = c.self.inside.base; attempt = c.self.inside.attempt; session = c.self.inside.session } in
+    let s : State = record { ends = c.self.inside.ends; attempt = c.self.inside.attempt; session = c.self.inside.session } in
     rw (← c.self.view_is)
     (steps_to s s (record s { attempt = Some c.in-Some.attempt }) (given M2 (frame_of c.args.frame.now) c.args.newest.now c.args.rsc) (Refused (reason.KeyData c.in-Other.fault)) (record c.args.reply.now { verified = Some c.in-Other.key.ptk.kck })
     (ap (λ (o : Option Attempt). record s { attempt = o }) c.in-Some.is)
@@ -34,7 +34,7 @@ returns-in-Other-clause-steps c =
 
 pub returns-clause-steps : goal.returns-clause-steps
 returns-clause-steps c =
-    let s : State = record { ends = c.self.inside.ends; base = c.self.inside.base; attempt = c.self.inside.attempt; session = c.self.inside.session } in
+    let s : State = record { ends = c.self.inside.ends; attempt = c.self.inside.attempt; session = c.self.inside.session } in
     let a = c.in-Some.attempt in
     let y : Agreed = record { key = c.in-Agreed.key; group = c.args.newest.now; rsc = c.args.rsc; plain = c.m3_key_data-plain.result } in
     let r = c.answer_m2.new.reply in

@@ -16,7 +16,7 @@ use Rattle.authenticator.proofs.authenticator.Authenticator.take_m4.Goals as goa
 
 pub returns-in_default-clause-steps : goal.returns-in_default-clause-steps
 returns-in_default-clause-steps c =
-    let s : State = record { ends = c.self.inside.ends; base = c.self.inside.base; attempt = c.self.inside.attempt; session = c.self.inside.session } in
+    let s : State = record { ends = c.self.inside.ends; attempt = c.self.inside.attempt; session = c.self.inside.session } in
     let none : s.attempt ≡ None = sym c.take.ensures.value ∙ c.in_default.is in
     rw (← c.self.view_is)
     (steps_to s s (record s { attempt = c.take.new.self }) (given M4 (frame_of c.args.frame.now) c.args.newest.now c.args.rsc) (Refused reason.Unawaited) c.args.reply.now
@@ -24,7 +24,7 @@ returns-in_default-clause-steps c =
 
 pub returns-in-Refused-clause-steps : goal.returns-in-Refused-clause-steps
 returns-in-Refused-clause-steps c =
-    let s : State = record { ends = c.self.inside.ends; base = c.self.inside.base; attempt = c.self.inside.attempt; session = c.self.inside.session } in
+    let s : State = record { ends = c.self.inside.ends; attempt = c.self.inside.attempt; session = c.self.inside.session } in
     let some : s.attempt ≡ Some c.in-Some.attempt = sym c.take.ensures.value ∙ c.in-Some.is in
     rw (← c.self.view_is)
     (steps_to s s (record s { attempt = Some c.in-Refused.attempt }) (given M4 (frame_of c.args.frame.now) c.args.newest.now c.args.rsc) (Refused c.in-Refused.why) c.args.reply.now
@@ -33,7 +33,7 @@ returns-in-Refused-clause-steps c =
 
 pub returns-in-Finished-clause-steps : goal.returns-in-Finished-clause-steps
 returns-in-Finished-clause-steps c =
-    let s : State = record { ends = c.self.inside.ends; base = c.self.inside.base; attempt = c.self.inside.attempt; session = c.self.inside.session } in
+    let s : State = record { ends = c.self.inside.ends; attempt = c.self.inside.attempt; session = c.self.inside.session } in
     let u = c.install-session.result in
     rw (← c.self.view_is)
     (steps_to s (record s { attempt = None; session = Some u }) (record s { attempt = c.take.new.self; session = Some u }) (given M4 (frame_of c.args.frame.now) c.args.newest.now c.args.rsc) Accepted c.install-session.new.reply
@@ -43,7 +43,7 @@ returns-in-Finished-clause-steps c =
 pub returns-in-Finished-clause-installs : goal.returns-in-Finished-clause-installs
 returns-in-Finished-clause-installs c =
     let u = c.install-session.result in
-    let s : State = record { ends = c.self.inside.ends; base = c.self.inside.base; attempt = c.take.new.self; session = Some u } in
+    let s : State = record { ends = c.self.inside.ends; attempt = c.take.new.self; session = Some u } in
     installs_finished c.self.inside.ends c.args.newest.now c.args.rsc c.in-Finished.finish u c.install-session.new.reply s
     (c.in-Finished.ensures.ptk_is ∙ ap (λ (y : Keyed). y.ptk) (sym c.in-Finished.ensures.key_is)) c.install-session.ensures.installed refl
 

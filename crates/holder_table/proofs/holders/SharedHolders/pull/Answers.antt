@@ -23,6 +23,7 @@ invariant_of-pass c =
     let now = c.pull.new.seat.me in
     rest_after c.pass.inside.seat.table_id c.pull.new.seat.table_id me now c.pull.ensures.pass.0 c.pull.ensures.pass.1 (no_less-more me.0 now.0 c.pull.ensures.more) c.pull.ensures.more.settled
     (more_twins me.0 now.0 c.pull.ensures.more c.pass.invariant.twins)
+    (c.pull.ensures.lasting c.pass.invariant.lasting)
     c.pass.invariant
 
 pub returns-clause-pulled : goal.returns-clause-pulled
@@ -53,3 +54,6 @@ returns-in_default-clause-own c =
 
 pub returns-in_default-clause-no_less : goal.returns-in_default-clause-no_less
 returns-in_default-clause-no_less c = no_less_same _
+
+pub returns-clause-lasting : goal.returns-clause-lasting
+returns-clause-lasting c = c.pull.ensures.lasting c.pass.invariant.lasting

@@ -18,6 +18,7 @@ invariant_of-pass c =
     let less = put_knows c.args.r0kh c.args.row me.0 now.0 c.put.result c.put.ensures.effect in
     rest_after c.pass.inside.seat.table_id c.put.new.seat.table_id me now c.put.ensures.pass.0 c.put.ensures.pass.1 less.0 less.1
     (put_twins c.args.r0kh c.args.row me.0 now.0 c.put.result (has c) c.put.ensures.effect c.put.ensures.answer c.pass.invariant.twins)
+    (c.put.ensures.lasting c.pass.invariant.lasting)
     c.pass.invariant
 
 pub returns-clause-rows : goal.returns-clause-rows
@@ -36,3 +37,6 @@ pub returns-clause-no_less : goal.returns-clause-no_less
 returns-clause-no_less c =
     let w = c.put.new.seat.me.0 in
     subst (λ (p : Pass). NoLess p.knows w) c.pass.view_is (put_knows c.args.r0kh c.args.row c.pass.inside.seat.me.0 w c.put.result c.put.ensures.effect).0
+
+pub returns-clause-lasting : goal.returns-clause-lasting
+returns-clause-lasting c = c.put.ensures.lasting c.pass.invariant.lasting

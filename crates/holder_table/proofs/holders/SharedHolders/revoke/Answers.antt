@@ -18,6 +18,7 @@ invariant_of-pass c =
     let less = revoke_knows c.args.r0kh c.args.name.now me.0 now.0 c.revoke.result c.revoke.ensures.effect in
     rest_after c.pass.inside.seat.table_id c.revoke.new.seat.table_id me now c.revoke.ensures.pass.0 c.revoke.ensures.pass.1 less.0 less.1
     (revoke_twins c.args.r0kh c.args.name.now me.0 now.0 c.revoke.result (has c) c.revoke.ensures.effect c.pass.invariant.twins)
+    (c.revoke.ensures.lasting c.pass.invariant.lasting)
     c.pass.invariant
 
 pub returns-clause-rows : goal.returns-clause-rows
@@ -36,3 +37,6 @@ pub returns-clause-no_less : goal.returns-clause-no_less
 returns-clause-no_less c =
     let w = c.revoke.new.seat.me.0 in
     subst (λ (p : Pass). NoLess p.knows w) c.pass.view_is (revoke_knows c.args.r0kh c.args.name.now c.pass.inside.seat.me.0 w c.revoke.result c.revoke.ensures.effect).0
+
+pub returns-clause-lasting : goal.returns-clause-lasting
+returns-clause-lasting c = c.revoke.ensures.lasting c.pass.invariant.lasting

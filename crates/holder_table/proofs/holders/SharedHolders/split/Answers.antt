@@ -5,9 +5,12 @@ use Rattle.holder_table.proofs.Rest.{rest_gave, rest_given}
 use Rattle.holder_table.proofs.holders.SharedHolders.split.Goals as goal
 
 pub invariant_of-pass : goal.invariant_of-pass
-invariant_of-pass c = rest_gave c.args.ap c.pass.inside.seat.table_id c.split-seat.new.seat.table_id c.pass.inside.seat.me c.split-seat.new.seat.me c.split-seat.result.me.0 c.split-seat.ensures.pass.0 c.split-seat.ensures.pass.1 c.split-seat.ensures.gave c.pass.invariant
+invariant_of-pass c = rest_gave c.args.ap c.pass.inside.seat.table_id c.split-seat.new.seat.table_id c.pass.inside.seat.me c.split-seat.new.seat.me c.split-seat.result.me.0 c.split-seat.ensures.pass.0 c.split-seat.ensures.pass.1 c.split-seat.ensures.gave c.split-seat.ensures.lasting.0 c.pass.invariant
 
 pub invariant_of-result : goal.invariant_of-result
 invariant_of-result c =
     let has : is_in c.args.ap c.pass.inside.seat.me.0.has ≡ true = subst (λ (p : Pass). is_in c.args.ap p.knows.has ≡ true) (sym c.pass.view_is) c.requires.has in
-    rest_given c.args.ap c.pass.inside.seat.table_id c.split-seat.result.table_id c.pass.inside.seat.me c.split-seat.result.me c.split-seat.new.seat.me c.split-seat.ensures.given_pass.0 c.split-seat.ensures.given_pass.1 c.split-seat.ensures.gave has c.pass.invariant
+    rest_given c.args.ap c.pass.inside.seat.table_id c.split-seat.result.table_id c.pass.inside.seat.me c.split-seat.result.me c.split-seat.new.seat.me c.split-seat.ensures.given_pass.0 c.split-seat.ensures.given_pass.1 c.split-seat.ensures.gave has c.split-seat.ensures.lasting.1 c.pass.invariant
+
+pub returns-clause-lasting : goal.returns-clause-lasting
+returns-clause-lasting c = c.split-seat.ensures.lasting

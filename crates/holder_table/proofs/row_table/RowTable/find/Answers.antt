@@ -3,6 +3,7 @@ use Rattle.key_holders.specs.declared.rows.HolderRow.{HolderRow}
 use Rattle.holder_table.specs.declared.view.View.{View}
 use Rattle.holder_table.specs.Histories.{live}
 use Rattle.holder_table.specs.Words.{name_octets}
+use Rattle.holder_table.specs.Rule.{LoadsLast}
 use Rattle.holder_table.specs.Knowledge.{KnowsMore, Finds}
 use Rattle.holder_table.proofs.Spots.{finds_row, finds_none}
 use Rattle.holder_table.proofs.row_table.RowTable.find.Goals as goal
@@ -29,3 +30,6 @@ returns-in-Free-clause-finds c =
     let w = c.scan.new.seat.me.0 in
     subst (λ (n : List ℕ). Finds c.args.ap n c.args.sta c.args.seat.now.me.0 w None) c.of.ensures
     (finds_none c.args.ap (name_octets c.of.result) c.args.sta c.args.seat.now.me.0 w c.in-Free.field-0 c.in-Free.ensures.spot)
+
+pub returns-in-Live-clause-lasting : goal.returns-in-Live-clause-lasting
+returns-in-Live-clause-lasting c = λ last. subst (λ (x : View). LoadsLast x) (sym (ap (λ m. m.0) c.row_words-words.ensures.pass.1)) (c.in-Live.ensures.lasting last)

@@ -4,6 +4,7 @@ use Rattle.holder_table.specs.Knowledge.{TookIn}
 use Rattle.holder_table.specs.Steps.{Sees, united}
 use Rattle.holder_table.proofs.Passes.{joins}
 use Rattle.holder_table.proofs.Loads.{settles}
+use Rattle.holder_table.proofs.Lasting.{settled_lasts}
 use Rattle.holder_table.proofs.row_table.RowTable.join.Goals as goal
 
 took_in : (v other u w : View) → u ≡ united v other → Sees u w → w.loads ≡ u.loads → TookIn v other w
@@ -27,3 +28,6 @@ load-requires c =
 
 pub returns-clause-took_in : goal.returns-clause-took_in
 returns-clause-took_in c = took_in c.args.seat.now.me.0 c.args.other.me.0 c.join_seat.new.seat.me.0 c.load.new.seat.me.0 (ap (λ m. m.0) c.join_seat.ensures.2) c.load.ensures.2.0 c.load.ensures.2.1
+
+pub returns-clause-lasting : goal.returns-clause-lasting
+returns-clause-lasting c = settled_lasts c.join_seat.new.seat.me.0 c.load.new.seat.me.0 c.load.ensures.2.0 c.load.ensures.2.1

@@ -7,6 +7,7 @@ use Rattle.holder_table.specs.Histories.{held_at}
 use Rattle.holder_table.specs.Words.{name_octets}
 use Rattle.holder_table.specs.Knowledge.{Did}
 use Rattle.holder_table.proofs.Knows.{did_on}
+use Rattle.holder_table.proofs.Lasting.{added_lasts}
 use Rattle.holder_table.proofs.Spots.{spot_lives, spot_none, spot_length}
 use Rattle.holder_table.proofs.row_table.RowTable.put.Goals as goal
 
@@ -41,3 +42,6 @@ returns-else-place-ge-ROWS-clause-answer c =
 pub returns-else-place-ge-ROWS-clause-effect : goal.returns-else-place-ge-ROWS-clause-effect
 returns-else-place-ge-ROWS-clause-effect c =
     subst (λ (row : HolderRow). Did (Put c.args.ap row) c.args.seat.now.me.0 c.append.new.seat.me.0) c.of-words.ensures (did_on _ _ _ _ c.in-Free.ensures.more c.append.ensures.adds)
+
+pub returns-else-place-ge-ROWS-clause-lasting : goal.returns-else-place-ge-ROWS-clause-lasting
+returns-else-place-ge-ROWS-clause-lasting c = λ last. added_lasts _ _ _ c.append.ensures.adds (c.in-Free.ensures.lasting last)

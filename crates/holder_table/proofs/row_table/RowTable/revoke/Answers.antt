@@ -5,6 +5,7 @@ use Rattle.key_holders.specs.Rows.{revoke_answer}
 use Rattle.holder_table.specs.Histories.{HeldRow, held_at}
 use Rattle.holder_table.specs.Words.{name_octets}
 use Rattle.holder_table.proofs.Knows.{did_on}
+use Rattle.holder_table.proofs.Lasting.{added_lasts}
 use Rattle.holder_table.proofs.Spots.{spot_lives, spot_none}
 use Rattle.holder_table.proofs.row_table.RowTable.revoke.Goals as goal
 
@@ -27,3 +28,6 @@ returns-in-Free-clause-answer c =
     let v = c.args.seat.now.me.0 in
     let none = spot_none r (name_octets c.of.result) v c.scan.new.seat.me.0 c.in-Free.ensures.more c.requires.has c.in-Free.field-0 c.in-Free.ensures.spot in
     ap (λ (b : Bool). if b then Revoked else Absent) (sym none) ∙ ap (λ (n : List ℕ). revoke_answer n (held_at r v.seen)) c.of.ensures
+
+pub returns-in-Live-clause-lasting : goal.returns-in-Live-clause-lasting
+returns-in-Live-clause-lasting c = λ last. added_lasts _ _ _ c.end_row.ensures.adds (c.in-Live.ensures.lasting last)

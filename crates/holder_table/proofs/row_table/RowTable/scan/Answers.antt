@@ -2,6 +2,7 @@ use Rattle.std.proofs.Common.{◌≡◌, ◌+◌, ◌≤◌, ℕ, ◌∷◌, tru
 use Rattle.holder_table.specs.Histories.{live, held_at}
 use Rattle.holder_table.proofs.Growth.{follows_grows}
 use Rattle.holder_table.specs.declared.view.View.{View}
+use Rattle.holder_table.specs.Rule.{LoadsLast}
 use Rattle.holder_table.specs.Steps.{load_of}
 use Rattle.holder_table.specs.Knowledge.{KnowsMore, LastLoad}
 use Rattle.holder_table.specs.Words.{name_octets}
@@ -30,6 +31,9 @@ returns-then-state-eq0-clause-spot c =
       λ _. last_load c.args.seat.now.me.0 v w (load_of c.args.ap n 0) c.loop-place.invariant.2 (told.load ∙ ap (λ (s : ℕ). load_of c.args.ap n s ∷ v.loads) c.if-state-eq0.true),
     )
 
+pub returns-then-state-eq0-clause-lasting : goal.returns-then-state-eq0-clause-lasting
+returns-then-state-eq0-clause-lasting c = λ _. c.look_at-state.ensures.lasting
+
 pub returns-then-is_asked-clause-more : goal.returns-then-is_asked-clause-more
 returns-then-is_asked-clause-more c = subst (λ (me : View). KnowsMore c.args.seat.now.me.0 me) (sym (ap (λ m. m.0) c.is_asked.ensures.pass.1)) (more_on _ _ _ c.loop-place.invariant.2 c.look_at-state.ensures.more)
 
@@ -45,6 +49,9 @@ returns-then-is_asked-clause-spot c =
       (row.0, ap (λ (x : View). Rattle.std.specs.Prelude.slice_get (held_at c.args.ap x.seen) n) same ∙ row.1, (c.is_asked.ensures.asked (live row.0) row.1).0 c.if-is_asked.true),
       subst (λ (x : View). LastLoad (load_of c.args.ap n 1) c.args.seat.now.me.0 x) (sym same) (last_load c.args.seat.now.me.0 v w (load_of c.args.ap n 1) c.loop-place.invariant.2 (told.load ∙ ap (λ (s : ℕ). load_of c.args.ap n s ∷ v.loads) c.if-state-eq1.true)),
     )
+
+pub returns-then-is_asked-clause-lasting : goal.returns-then-is_asked-clause-lasting
+returns-then-is_asked-clause-lasting c = λ _. subst (λ (u : View). LoadsLast u) (sym (ap (λ m. m.0) c.is_asked.ensures.pass.1)) c.look_at-state.ensures.lasting
 
 pub loop-place-preserved : goal.loop-place-preserved
 loop-place-preserved c =
@@ -64,6 +71,7 @@ loop-place-preserved c =
             subst (λ (u : View). KnowsMore c.args.seat.now.me.0 u) (sym same) more,
             subst (λ (u : View). Passed Is (n + 1) (held_at c.args.ap u.seen)) (sym same) (passed_more Is n c.look_at-state.result qs told.state c.if-state-eq0.false (λ one p e asked. true≢false (sym ((x.is_asked.ensures.asked p e).1 asked) ∙ x.if-is_asked.false)) passed),
             λ _. subst (λ (u : View). length (held_at c.args.ap u.seen) ≤ 64) (sym same) told.room,
+            λ _. subst (λ (u : View). LoadsLast u) (sym same) told.lasting,
           ))
       | else-state-eq1-via-else-state-eq1 x ↦
           (let same : c.else-state-eq1.seat.me.0 ≡ w = ap (λ s. s.me.0) x.seat-is in (
@@ -72,6 +80,7 @@ loop-place-preserved c =
             subst (λ (u : View). KnowsMore c.args.seat.now.me.0 u) (sym same) more,
             subst (λ (u : View). Passed Is (n + 1) (held_at c.args.ap u.seen)) (sym same) (passed_more Is n c.look_at-state.result qs told.state c.if-state-eq0.false (λ one p e asked. absurd (x.if-state-eq1.false one)) passed),
             λ _. subst (λ (u : View). length (held_at c.args.ap u.seen) ≤ 64) (sym same) told.room,
+            λ _. subst (λ (u : View). LoadsLast u) (sym same) told.lasting,
           ))
     ]
 
@@ -84,3 +93,6 @@ returns-clause-spot c =
     let room = c.loop-place.invariant.4 (omega (arith, past)) in
     let passed = c.loop-place.invariant.3 in
     (passed_all Is n ps (omega (arith, room, past)) passed, omega (arith, room, passed.0, past), omega arith, λ h. absurd (omega (arith, h)))
+
+pub returns-clause-lasting : goal.returns-clause-lasting
+returns-clause-lasting c = c.loop-place.invariant.5

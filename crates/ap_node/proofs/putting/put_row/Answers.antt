@@ -1,0 +1,14 @@
+use Rattle.std.proofs.Common.{rules}
+use Rattle.ap_node.specs.Putting.{puts, Puts, PutsWhere, LeavesOthers, PutsOne}
+use Rattle.ap_node.proofs.putting.put_row.Goals as goal
+
+-- src/putting.rt:22:1
+pub returns-in_default : goal.returns-in_default
+returns-in_default g c =
+    let w = c.put-answer.ensures in
+    record {
+      put = search rules;
+      kept = tt;
+      others = record { ids = w.ids; still_has = w.still_has; others = w.others; one = PutsOne c.derive-row.result c.put-answer.result w.rows };
+      no_less = w.no_less;
+    }

@@ -1,0 +1,92 @@
+//! What the words of the command line ask for.
+//!
+//! The command line is a simple one of `clap`, of three subcommands: `replay`, `live <port>` and
+//! `storm <number>`. Words that `clap` does not take for one of them, its help and version words
+//! among them, are no command, and neither are those with a number out of range.
+#![tactic(auto)]
+
+mod laws;
+mod line;
+mod numbers;
+
+ghost use Rattle.std.specs.Prelude.{◌≡◌, IfOk, option_and_then, option_map, codes, map};
+ghost use Rattle.clap.specs.Words.{first_value, found_of, rows_of, subcommand_rows_of};
+ghost use Rattle.command_words.specs.Words.{asked, command_of, port_number, storm_number};
+
+use crate::line::command_line;
+use crate::numbers::{port_number, storm_number};
+use clap::ArgMatches;
+use clap::error::ErrorKind;
+use domain_base::NoMemory;
+pub use laws::words_are_told;
+use std::alloc::Global;
+
+/// A command of the command line.
+#[derive(Clone, Copy)]
+pub enum Command {
+    /// `replay`: run the script on the standard input.
+    Replay,
+    /// `live <port>`: run the script with frames on sockets of this machine.
+    Live {
+        /// The first of the ports, from 1024 to 65000.
+        port: u16,
+    },
+    /// `storm <number>`: run a storm.
+    Storm {
+        /// The number that the storm is made from.
+        number: u32,
+    },
+}
+
+// What `live` asks for.
+fn live_command(values: &ArgMatches) -> Option<Command>
+    ensures { result ≡ option_map Command.Live
+        (option_and_then port_number (first_value (found_of values.now) (codes "port"))) }
+{
+    let port = port_number(values.get_str("port")?.as_bytes())?;
+    Some(Command::Live { port })
+}
+
+// What `storm` asks for.
+fn storm_command(values: &ArgMatches) -> Option<Command>
+    ensures { result ≡ option_map Command.Storm
+        (option_and_then storm_number (first_value (found_of values.now) (codes "number"))) }
+{
+    let number = storm_number(values.get_str("number")?.as_bytes())?;
+    Some(Command::Storm { number })
+}
+
+// What the subcommand of that name asks for.
+fn asked(name: &str, values: &ArgMatches) -> Option<Command>
+    ensures { result ≡ asked (name.now, rows_of (found_of values.now)) }
+{
+    match name {
+        "replay" => Some(Command::Replay),
+        "live" => live_command(values),
+        "storm" => storm_command(values),
+        _ => None,
+    }
+}
+
+// What the subcommand that was met asks for.
+fn met(matches: &ArgMatches) -> Option<Command>
+    ensures { result ≡ option_and_then asked (subcommand_rows_of matches.now) }
+{
+    let (name, values) = matches.subcommand()?;
+    asked(name, values)
+}
+
+/// The command that the words behind the program's name ask for, or `None` where they are no
+/// command. The port and the number are one to ten decimal digits; leading zeros are allowed.
+pub fn read_words(alloc: Global, words: &[&str]) -> Result<Option<Command>, NoMemory>
+    ensures { IfOk result (λ c. c ≡ command_of (map (λ w. w.now) words.now)) }
+{
+    let line = command_line(alloc)?;
+    match line.try_get_matches_from(words) {
+        Ok(matches) => Ok(met(&matches)),
+        Err(error) => match error.kind() {
+            ErrorKind::OutOfMemory => Err(NoMemory),
+            _ => Ok(None),
+        },
+    }
+}

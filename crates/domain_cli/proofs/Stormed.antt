@@ -1,0 +1,18 @@
+-- The journal of a storm is safe, however it ended.
+use Rattle.std.proofs.Common.{ℕ, List, Option}
+use Rattle.run_journal.specs.declared.acts.Entry.{Entry}
+use Rattle.run_journal.specs.Premises.{Fresh, NoCollision, Unforged}
+use Rattle.run_journal.specs.Safe.{Safe}
+use Rattle.domain_cli.specs.declared.status.Status.{Status}
+use Rattle.domain_cli.specs.declared.status.Status.TheVariants.{Done, Usage, Script, Limit, ReadFault, WriteFault, NoMemory}
+use Rattle.domain_cli.specs.Storms.{StormReports}
+use Rattle.domain_cli.proofs.Safety.{Laws, run_safely}
+
+pub storm_safe : (laws : Laws) (number : ℕ) (status : Status) (j : List Entry) (old new : Option (List ℕ)) → StormReports number status j old new → Fresh j → NoCollision j → Unforged j → Safe j
+storm_safe laws number Done j old new r = run_safely laws _ _ j r.0
+storm_safe laws number WriteFault j old new r = run_safely laws _ _ j r.0
+storm_safe laws number NoMemory j old new r = run_safely laws _ _ j r.0.journal
+storm_safe laws number Usage j old new r = absurd r
+storm_safe laws number ReadFault j old new r = absurd r
+storm_safe laws number (Script line reason form) j old new r = absurd r
+storm_safe laws number (Limit which) j old new r = absurd r
