@@ -1,14 +1,14 @@
 #!/usr/bin/env bash
 # How the program ends between its real streams: the number that it exits with, the whole of what it writes to standard output, and
 # the line on standard error. It prints the cases that are wrong and a last line with counts; its status is 0 where none is wrong.
-# It runs the program that `rt ci` or `rt run` proved and built, and does nothing where there is none. Run it from anywhere in the
-# repository.
+# It runs the program that `rt ci` or `rt run` proved and built (or the one named by KEHTROP, as an unproved build), and does nothing
+# where there is none. Run it from anywhere in the repository.
 set -eu
 cd "$(dirname "$0")/.."
 work=$(mktemp -d)
 trap 'rm -rf "$work"' EXIT
 
-program=crates/kehtrop/out/kehtrop
+program=${KEHTROP:-crates/kehtrop/out/kehtrop}
 if [ ! -x "$program" ]; then
     echo "skipped: no program was built"
     exit 0
@@ -38,9 +38,12 @@ judge() { # NUMBER SAYS WRITES ENDED NAME
 stored=crates/kehtrop
 none=/dev/null
 usage="usage: kehtrop replay < SCRIPT
+       kehtrop live PORT < SCRIPT
        kehtrop storm NUMBER
 
   replay    runs the script on standard input, and writes its report to standard output
+  live      runs it with frames on UDP sockets of this machine, from that port on, from 1024 to
+            65000 in one to ten digits
   storm     runs 2000 events that the number makes, from 0 to 4294967295 in one to ten digits,
             and writes the summary of their report to standard output
 
@@ -51,6 +54,8 @@ The program ends with
   3  the script could not be read
   4  the report could not be written
   5  out of memory
+  6  a socket failed
+  7  the seed could not be drawn
   8  a line of the script goes past a limit
 
 Example:
@@ -66,7 +71,7 @@ ends 1 "$usage" $none $none
 ends 1 "$usage" $none $none frob
 ends 1 "$usage" $none $none replay replay
 ends 1 "$usage" $none $none $'\xff'
-for words in "storm" "storm x" "storm -1" "storm 4294967296" "storm 00000000001" "storm 0 0" "live 20000" "--help" "-h" "help" "--version" "-V"; do
+for words in "storm" "storm x" "storm -1" "storm 4294967296" "storm 00000000001" "storm 0 0" "live" "live x" "live -1" "live 80" "live 1023" "live 65001" "live 00000020000" "live 20000 20000" "--help" "-h" "help" "--version" "-V"; do
     # shellcheck disable=SC2086
     ends 1 "$usage" $none $none $words
 done
@@ -92,7 +97,7 @@ within="that of deliver, alter, cut, inject, retry, rekey, send, expire, revoke 
 send="send <node> <node or all> <tid 0 to 15 or -> <digits>"
 key="passphrase <8 to 63 octets> or psk <64 digits>"
 refuses 0 "domain 2" "not the first line of a script; the form is domain 1" $none
-refuses 1 "seed draw" "the seed is drawn in a live run only; the form is seed <64 digits>" $none
+refuses 1 "seed draw" "no such line in this kind of run; the form is seed <64 digits>" $none
 refuses 1 "seed 00" "wrong arguments; the form is seed <64 digits>" $none
 refuses 2 "sid net" "no such word here; the form is ssid <1 to 32 octets>" $none
 refuses 3 "key 00" "no such word here; the form is $key" $none
@@ -100,7 +105,7 @@ refuses 3 "psk 00" "wrong arguments; the form is psk <64 digits>" $none
 refuses 3 "passphrase 1234567" "wrong arguments; the form is passphrase <8 to 63 octets>" $none
 refuses 4 "akm wpa" "wrong arguments; the form is akm <psk, psk-sha256 or ft-psk>" $none
 refuses 5 "ap 0200000000aa" "wrong arguments; the form is ap <12 digits> <R0KH-ID of 1 to 48 octets>" $none
-refuses 5 "turn" "no such word here; the form is $any" $none
+refuses 5 "turn" "no such line in this kind of run; the form is $any" $none
 refuses 6 "sta 0200000000aa" "address or R0KH-ID used before; the form is sta <12 digits>" "$work/started"
 refuses 7 "ap 0200000000cc r0kh-2" "no such word here; the form is $later" "$work/started"
 refuses 7 "end" "no such word here; the form is $later" "$work/started"
@@ -146,11 +151,69 @@ ends 8 "more than 64 stations" "$work/started" "$work/many" replay
 ends 8 "more than 65536 lines" $none "$work/many" replay
 
 # A device that takes no octet; what it got is not looked at.
-if [ -c /dev/full ]; then
-    ended=0
-    "$program" replay < "$stored/stdin" > /dev/full 2> "$work/said" || ended=$?
+fills() { # SCRIPT WORDS..
+    local script=$1 ended=0
+    shift
+    "$program" "$@" < "$script" > /dev/full 2> "$work/said" || ended=$?
     : > "$work/written"
-    judge 4 "the report could not be written" $none "$ended" "replay to a full device"
+    judge 4 "the report could not be written" $none "$ended" "$* to a full device"
+}
+if [ -c /dev/full ]; then fills "$stored/stdin" replay; fi
+
+# Live runs. Two ports that nobody has, as far as this machine tells.
+is_taken() { # PORT
+    grep -qi "^ *[0-9]*: \(0100007F\|00000000\):$(printf %04X "$1") " /proc/net/udp 2> /dev/null
+}
+port=$((20000 + RANDOM % 10000))
+while is_taken "$port" || is_taken $((port + 1)); do port=$((port + 2)); done
+
+# Lines that open no port: those that a live run refuses, and those that have their meaning in it alone.
+refuses_live() { # LINES LINE TEXT
+    (head -n "$1" "$work/header"; printf '%s\n' "$2") > "$work/script"
+    ends 2 "line $(($1 + 1)): $3" $none "$work/script" live "$port"
+}
+live_any="that of ap, sta, connect, roam with ft-psk, inject, retry, rekey, send, expire, revoke, leave, round or turn"
+refuses_live 1 "seed drawn" "wrong arguments; the form is seed <64 digits or draw>"
+refuses_live 5 "frob" "no such word here; the form is $live_any"
+refuses_live 5 "turn 1" "wrong arguments; the form is turn"
+for line in "deliver 1 to a1" "alter 1 0 01 to a1" "cut 1 1 to a1"; do
+    refuses_live 5 "$line" "no such line in this kind of run; the form is $live_any"
+done
+ends 0 "" "$work/nothing" "$work/least" live "$port"
+ends 0 "" "$work/nothing" "$work/least" live "00000$port"
+ends 3 "the script could not be read" $none / live "$port"
+
+# Two nodes at their ports, which have nothing to take in a turn; the same with a seed that is drawn.
+printf 'install a1 all gtk 1\nend frames 0 accepted 0 answered 0 refused 0 ignored 0\nkeys installed 1 resumed 0 used 0 handed-up 0\npremises fresh yes no-collision yes unforged yes\n' > "$work/quiet"
+(head -n 7 "$work/header"; echo turn) > "$work/turn"
+ends 0 "" "$work/quiet" "$work/turn" live "$port"
+sed 's/^seed .*/seed draw/' "$work/turn" > "$work/draw"
+ends 0 "" "$work/quiet" "$work/draw" live "$port"
+ends 2 "line 2: no such line in this kind of run; the form is seed <64 digits>" $none "$work/draw" replay
+(cat "$work/turn"; echo round; echo turn) > "$work/script"
+ends 2 "line 10: no such word here; the form is that of inject, retry, rekey, send, expire, revoke or end" "$work/started" "$work/script" live "$port"
+if [ -c /dev/full ]; then fills "$work/turn" live "$port"; fi
+
+# While another live run has the ports, the first node cannot be attached.
+if [ -r /proc/net/udp ]; then
+    mkfifo "$work/lines"
+    "$program" live "$port" < "$work/lines" > "$work/first" 2>&1 &
+    holder=$!
+    exec 9> "$work/lines"
+    cat "$work/turn" >&9
+    for _ in {1..600}; do
+        if is_taken $((port + 1)); then break; fi
+        sleep 0.05
+    done
+    ends 6 "a socket could not be opened, or a frame not be sent or taken" "$work/started" "$work/turn" live "$port"
+    exec 9>&-
+    ended=0
+    wait "$holder" || ended=$?
+    cp "$work/first" "$work/written"
+    : > "$work/said"
+    judge 0 "" "$work/quiet" "$ended" "live, beside another live run"
+    # Its end left the ports to the next one.
+    ends 0 "" "$work/quiet" "$work/turn" live "$port"
 fi
 
 echo "cases $((right + wrong)) wrong $wrong"

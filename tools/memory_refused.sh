@@ -1,6 +1,6 @@
 #!/usr/bin/env bash
-# What the program does where memory is refused. Each script of `examples/` is replayed once for each request for memory that its
-# replay makes, and that request is refused; and once more for each, refused together with all that come after it. Each run has to
+# What the program does where memory is refused. Each script of `examples/` that is no live run is replayed once for each request for
+# memory that its replay makes, and that request is refused; and once more for each, refused together with all that come after it. Each run has to
 # end with status 5 (out of memory) and a front of the report that ample memory gives, or with the status and the whole report of
 # ample memory. Octets are compared. It prints what is wrong, and a line for each script; its status is 0 where nothing is wrong.
 #
@@ -86,6 +86,7 @@ refusing() { # FIRST LAST SCRIPT
 }
 
 for script in examples/*.txt; do
+    case "$script" in examples/live_*) continue ;; esac
     ample=0
     LD_PRELOAD="$work/refuse.so" REQUESTS="$work/count" "$program" replay < "$script" > "$work/ample" 2> "$work/said" || ample=$?
     whole=$(wc -c < "$work/ample")

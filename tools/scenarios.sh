@@ -1,8 +1,9 @@
 #!/usr/bin/env bash
-# The example scripts and their reports: each `examples/NAME.txt` is replayed and has to give exactly `examples/NAME.report`, with
-# number 0 and nothing on standard error. Where Python is there, `tools/chart.py` has to make a chart of each, as text and as SVG that
-# an XML parser reads, and the chart in `docs/` has to be the one that it makes. A report that differs is shown as a diff. The last
-# line has counts; the status is 0 where nothing is wrong.
+# The example scripts and their reports: each `examples/NAME.txt` is replayed, or where its name begins with `live_` run over sockets of
+# this machine, and has to give exactly `examples/NAME.report`, with number 0 and nothing on standard error. Where Python is there,
+# `tools/chart.py` has to make a chart of each one that is replayed, as text and as SVG that an XML parser reads, and the chart in `docs/`
+# has to be the one that it makes. A report that differs is shown as a diff. The last line has counts; the status is 0 where nothing is
+# wrong.
 # It runs the program that `rt ci` or `rt run` proved and built (or the one named by KEHTROP, as an unproved build), and does nothing
 # where there is none. Run it from anywhere in the repository.
 set -eu
@@ -24,13 +25,23 @@ says() { # TEXT
     echo "$1"
 }
 
-replays() { # NAME
-    local ended=0
-    "$program" replay < "examples/$1.txt" > "$work/written" 2> "$work/said" || ended=$?
+# The first of four ports that nobody has, as far as this machine tells.
+are_taken() { # PORT
+    local some
+    some=$(printf '%04X\|%04X\|%04X\|%04X' "$1" $(($1 + 1)) $(($1 + 2)) $(($1 + 3)))
+    grep -qi "^ *[0-9]*: \(0100007F\|00000000\):\($some\) " /proc/net/udp 2> /dev/null
+}
+port=$((20000 + RANDOM % 10000))
+while are_taken "$port"; do port=$((port + 4)); done
+
+runs() { # NAME WORDS..
+    local name=$1 ended=0
+    shift
+    "$program" "$@" < "examples/$name.txt" > "$work/written" 2> "$work/said" || ended=$?
     if [ "$ended" != 0 ] || [ -s "$work/said" ]; then
-        says "examples/$1.txt: ended with $ended: $(cat "$work/said")"
+        says "examples/$name.txt: ended with $ended: $(cat "$work/said")"
     fi
-    diff -u "examples/$1.report" "$work/written" || says "examples/$1.txt: the report differs"
+    diff -u "examples/$name.report" "$work/written" || says "examples/$name.txt: the report differs"
 }
 
 charts() { # NAME
@@ -49,8 +60,13 @@ for script in examples/*.txt; do
         says "examples/$name.txt: has no report"
         continue
     fi
-    replays "$name"
-    if [ -n "$python" ]; then charts "$name"; fi
+    case "$name" in
+        live_*) runs "$name" live "$port" ;;
+        *)
+            runs "$name" replay
+            if [ -n "$python" ]; then charts "$name"; fi
+            ;;
+    esac
 done
 for report in examples/*.report; do
     [ -e "${report%.report}.txt" ] || says "$report: has no script"

@@ -22,6 +22,7 @@ use Rattle.domain_rules.specs.Network.{draw_end, gtk}
 use Rattle.domain_rules.specs.Here.{here}
 use Rattle.domain_rules.specs.Rows.{Rekey}
 use Rattle.domain_rules.specs.Asking.{offered, replay_counter}
+use Rattle.domain_rules.specs.Counters.{sent_count}
 use Rattle.domain_rules.specs.AccessPointRows.{to_session, to_sessions, rekey_acts, Renews}
 use Rattle.domain_rules.proofs.Parts.{apart-drew, is_same, sent_more, add_append}
 use Rattle.group_key.specs.declared.keys.GroupKey.{GroupKey}
@@ -39,6 +40,7 @@ use Rattle.ap_node.specs.declared.station.Station.{Station}
 use Rattle.authenticator.specs.Stands.{AuthenticatorStands}
 use Rattle.authenticator.specs.Taken.{Newest}
 use Rattle.authenticator.specs.declared.session.Session.{Session}
+use Rattle.authenticator.proofs.Counting.{count_is}
 use Rattle.authenticator.proofs.Standing.{no_session}
 use Rattle.ap_node.specs.State.{State, station_at}
 use Rattle.ap_node.specs.Counts.{owing_count}
@@ -103,12 +105,16 @@ not_one d a k q one mid is none at = record {
   here = subst (λ (l : List Act). HasPart d (Ap a) k q (add l mid)) (sym is) at;
 }
 
+-- none was sent
+few_of : (p : Node) (part : List Act) → offered p G1 part ≡ [] → sent_count p G1 part < 4
+few_of p part none = omega (arith, count_is p G1 part 0 0 none)
+
 one_in : (d : Domain) (a k : ℕ) (g : GroupKey) (x y : Station) (o : Option Session) (one mid : List Act) → x.part.session ≡ o → IsNew g k mid → HasPart d (Ap a) k (Some x) mid → IsGivenIn k g o x y one → IsOne d a k (Some y) one mid
 one_in d a k g x y None one mid is new at given =
     not_one d a k (Some y) one mid given.1 (no_session d (Ap a) (Sta k) x.part.session mid is at.1.session_is)
     (subst (λ (z : Station). HasPart d (Ap a) k (Some z) mid) (sym given.0) at)
 one_in d a k g x y (Some s) one mid is new at given =
-    let gives = given.gives d a k mid at.1 (the_newest d a k g x mid new at.1) new.none in
+    let gives = given.gives d a k mid at.1 (the_newest d a k g x mid new at.1) in
     let said = sent_acts (Sta k) given.reply in
     let key = key_as (Sta k) (session (Sta k) mid) (session (Sta k) (add said mid)) x.key mid (add said mid) (ends_session (Sta k) said mid (sent_ends (Sta k) given.reply))
     (keeps (Sta k) said mid (λ tk. sent_leaves (Sta k) (Sta k) tk given.reply)) at.2 in
@@ -117,7 +123,7 @@ one_in d a k g x y (Some s) one mid is new at given =
       about = subst (λ (l : List Act). AllByRecursion (IsAbout (Sta k)) l) (sym given.says) (sent_about (Sta k) given.reply);
       leaves = λ q. subst (λ (l : List Act). AllLeave q l) (sym given.says) (λ tk. sent_leaves (Sta k) q tk given.reply);
       here = subst (λ (l : List Act). HasPart d (Ap a) k (Some y) (add l mid)) (sym given.says)
-          (at.0, gives.stands, subst (λ (m : Option Held). HasKey (Sta k) (session (Sta k) (add said mid)) m (add said mid)) (sym given.key) key);
+          (at.0, gives.stands (few_of (Sta k) (handshake groups.Gtk (Sta k) mid) new.none), subst (λ (m : Option Held). HasKey (Sta k) (session (Sta k) (add said mid)) m (add said mid)) (sym given.key) key);
     }
 
 one_at : (d : Domain) (a k : ℕ) (g : GroupKey) (o q : Option Station) (one mid : List Act) → IsNew g k mid → HasPart d (Ap a) k o mid → IsGivenAt k g o q one → IsOne d a k q one mid

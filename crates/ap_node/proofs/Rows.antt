@@ -1,10 +1,13 @@
 -- How the rows of the own key holder go on with what an event does.
 use Rattle.std.proofs.Common.{◌≡◌, ◌∙◌, ◌++◌, ℕ, List, Result, Ok, Err, refl, sym, subst, inl}
-use Rattle.std.specs.Prelude.{IfOk, OnOk}
+use Rattle.std.specs.Prelude.{IfOk, OnOk, OnErr}
 use Rattle.std.proofs.lemmas.List.{append_cancel_left}
 use Rattle.domain_base.specs.declared.names.Node.TheVariants.{Ap}
 use Rattle.key_hierarchy.specs.declared.answers.PullAnswer.{PullAnswer}
+use Rattle.key_hierarchy.specs.declared.answers.PutAnswer.{PutAnswer}
+use Rattle.key_hierarchy.specs.declared.answers.RevokeAnswer.{RevokeAnswer}
 use Rattle.key_holders.specs.declared.rows.HeldRow.{HeldRow}
+use Rattle.key_holders.specs.declared.rows.HolderRow.{HolderRow}
 use Rattle.run_journal.specs.declared.domain.Domain.{Domain}
 use Rattle.run_journal.specs.declared.acts.Outcome.{Outcome}
 use Rattle.run_journal.specs.declared.acts.Act.{Act}
@@ -15,7 +18,7 @@ use Rattle.node_base.specs.Events.{Steps, Seen, seen}
 use Rattle.held_rows.specs.Knows.{KnowsRows}
 use Rattle.ap_node.specs.State.{State}
 use Rattle.ap_node.specs.Stands.{StandsWith}
-use Rattle.ap_node.specs.Putting.{LeavesOthers, Stays}
+use Rattle.ap_node.specs.Putting.{LeavesOthers, Stays, OneChange}
 use Rattle.ap_node.specs.Takes.{IsTaken, IsTakenWith}
 use Rattle.held_rows.specs.Looks.{NoLooks, AreLooked}
 use Rattle.ap_node.proofs.Plain.{plain_looks, plain_rows}
@@ -98,6 +101,19 @@ pub if_event : {E : Type 0} (r : Result Outcome E) (Looks : List Act → Type 0)
 if_event r Looks d event other old new xs ys waited waits same w =
     subst (λ (e : NodeEvent). IfOk r (λ o. (first : ℕ) (h : List Act) → StandsWith d first old xs h → Steps (here d first (Ap old.number)) e (StandsWith d first new ys) h (seen waited waits o))) (sym same)
     (if_with r Looks d event old new xs ys waited waits w)
+
+-- whatever is told, that is so
+pub if_change : {A E : Type 0} (r : Result A E) (C : Type 0) (waited waits : List Act) → C → OnOk r ((g : List Act) → waits ≡ waited ++ g → NoLooks g → C)
+if_change (Ok o) C waited waits at = λ g is none. at
+if_change (Err e) C waited waits at = tt
+
+pub err_change : {A E : Type 0} (r : Result A E) (C : Type 0) → C → OnErr r C
+err_change (Ok o) C at = tt
+err_change (Err e) C at = at
+
+-- by another name of the access point
+pub change_at : (H : Type 0) (P : H → ℕ → HolderRow → H → PutAnswer → Type 0) (R : H → ℕ → List ℕ → H → RevokeAnswer → Type 0) (a b : ℕ) (old new : H) → a ≡ b → OneChange H P R a old new → OneChange H P R b old new
+change_at H P R a b old new is change = subst (λ (k : ℕ). OneChange H P R k old new) is change
 
 -- the holders are as they were
 pub same_others : (a : ℕ) (ids : List (List ℕ)) (has : List ℕ) (rows : ℕ → List HeldRow) → LeavesOthers a ids ids has has rows rows

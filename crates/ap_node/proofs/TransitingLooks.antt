@@ -1,10 +1,12 @@
 -- Which of the acts of requests of fast transition tell of a key holder that was asked.
-use Rattle.std.specs.Prelude.{◌==◌}
-use Rattle.std.proofs.Common.{◌≡◌, ◌∙◌, ℕ, ◌<◌, Bool, true, false, cond, List, [], ◌∷◌, length, take, Option, Some, None, refl, ap, subst, inr}
+use Rattle.std.specs.Prelude.{◌==◌, is_some}
+use Rattle.std.proofs.Common.{◌≡◌, ◌∙◌, ℕ, ◌<◌, Bool, true, false, cond, List, [], ◌∷◌, ◌++◌, length, take, Option, Some, None, refl, sym, ap, subst, inr}
+use Rattle.std.proofs.lemmas.List.{append_cancel_left}
 use Rattle.std.specs.List.{AllByRecursion}
 use Rattle.domain_base.specs.declared.names.Node.{Node}
-use Rattle.domain_base.specs.declared.names.Node.TheVariants.{Sta}
+use Rattle.domain_base.specs.declared.names.Node.TheVariants.{Ap, Sta}
 use Rattle.key_hierarchy.specs.declared.answers.PullAnswer.{PullAnswer}
+use Rattle.rsn_elements.specs.Elements.{ElementFields}
 use Rattle.run_journal.specs.declared.domain.Domain.{Domain}
 use Rattle.run_journal.specs.declared.acts.Act.{Act}
 use Rattle.run_journal.specs.declared.acts.Act.TheVariants.{Looked}
@@ -17,8 +19,11 @@ use Rattle.domain_rules.specs.TransitionKeys.{Asked, asked}
 use Rattle.domain_rules.specs.TransitionRows.{looked_by, looked_for}
 use Rattle.act_memory.proofs.RepliedActs.{all_joined}
 use Rattle.held_rows.specs.Looks.{IsNoLook, NoLooks, IsLookOf, AreLooked}
-use Rattle.ft_exchange.specs.Told.{Came, sent_octets, transition_sent, begun_acts, auth_request_acts, reassoc_request_acts}
+use Rattle.ft_exchange.specs.Told.{Came, came, sent_octets, transition_sent, begun_acts, auth_request_acts, reassoc_request_acts}
 use Rattle.ft_exchange.specs.TargetSteps.{LooksBy}
+use Rattle.targets.specs.declared.moves.Moves.{Moves}
+use Rattle.targets.specs.declared.taken.Taken.{Taken}
+use Rattle.targets.specs.Steps.{Request, AuthTaken}
 use Rattle.ap_node.proofs.TransitingKeys.{auth_rows}
 
 -- ---- acts that tell of none
@@ -123,3 +128,38 @@ module _ (Answered : List ℕ → List ℕ → ℕ → PullAnswer → Type 0) (d
   pub auth_looked : (Same : Type 0) (root : Root) (n : Node) (sta : ℕ) (part : Option (List Act)) (t : Came) (r : Reply) → sta < length d.stas → LooksBy t.fields (λ id name said. Answered id name sta said) Same r.looked
       → AreLooked Answered d (auth_request_acts d root n (Sta sta) part t r)
   auth_looked Same root n sta part t r low looks = inr (auth_rows d root n (Sta sta) part t r, auth_looks Same root n sta part t r low looks)
+
+-- ---- where no look is told of
+
+part_of : (had : Bool) → (part : Option (List Act)) × (is_some part ≡ had)
+part_of true = (Some [], refl)
+part_of false = (None, refl)
+
+all_first : (P : Act → Type 0) (xs ys : List Act) → AllByRecursion P (xs ++ ys) → AllByRecursion P xs
+all_first P [] ys all = tt
+all_first P (x ∷ xs) ys all = (all.0, all_first P xs ys all.1)
+
+-- none was made
+unlooked : (Same : Type 0) (Answered : List ℕ → List ℕ → PullAnswer → Type 0) (p : Node) (e : ElementFields) (o : Option PullAnswer) → LooksBy e Answered Same o → NoLooks (looked_for p (asked e) o) → Same
+unlooked Same Answered p e None looks none = looks
+unlooked Same Answered p e (Some answer) looks none =
+    let at : NoLooks (looked_by p looks.a (single looks.a.names) (Some answer)) = subst (λ (x : Option Asked). NoLooks (looked_for p x (Some answer))) looks.asks none in
+    let here : NoLooks (looked_by p looks.a (Some looks.name) (Some answer)) = subst (λ (x : Option (List ℕ)). NoLooks (looked_by p looks.a x (Some answer))) looks.named at in
+    absurd here.0
+
+auth_unlooked : (Same : Type 0) (Answered : List ℕ → List ℕ → PullAnswer → Type 0) (d : Domain) (root : Root) (n p : Node) (part : Option (List Act)) (t : Came) (r : Reply) → LooksBy t.fields Answered Same r.looked
+    → NoLooks (auth_request_acts d root n p part t r) → Same
+auth_unlooked Same Answered d root n p part t r looks none =
+    let looked = looked_for p (asked t.fields) r.looked in
+    let begun = begun_acts p part r.derived in
+    let derived = derived_acts d root n p r.derived in
+    unlooked Same Answered p t.fields r.looked looks
+    (all_first IsNoLook looked begun (all_first IsNoLook (looked ++ begun) derived (all_first IsNoLook ((looked ++ begun) ++ derived) (transition_sent d n p r) none.1)))
+
+pub taken_unlooked : (q : Request) (anonce : Option (List ℕ)) (had : Bool) (Same : Type 0) (Answered : List ℕ → List ℕ → PullAnswer → Type 0) (before after : List Act) (old new : Moves) (t : Taken)
+    → AuthTaken q anonce had (LooksBy q.fields Answered Same) before after old new t → (g : List Act) → after ≡ before ++ g → NoLooks g → Same
+taken_unlooked q anonce had Same Answered before after old new t x g is none =
+    let part = part_of had in
+    let same : x.acts ≡ g = append_cancel_left before x.acts g (sym x.adds ∙ is) in
+    auth_unlooked Same Answered q.domain _ (Ap q.ap) (Sta q.sta) part.0 (came q.octets q.fields t.outcome) x.reply x.looks
+    (subst NoLooks (sym same ∙ x.moves.says part.0 part.1) none)

@@ -65,6 +65,14 @@ pub data OneMove (old new : List HeldRow) : Type 0 where
   PutsOne : (row : HolderRow) (answer : PutAnswer) → new ≡ after_put row answer old → OneMove old new
   EndsOne : (name : List ℕ) (answer : RevokeAnswer) → new ≡ after_revoke name answer old → OneMove old new
 
+-- with the key holder of an access point a row was put, or that of a PMKR0Name revoked, or nothing was done with key holders: in each
+-- case none was asked
+pub data OneChange (H : Type 0) (PutsAt : H → ℕ → HolderRow → H → PutAnswer → Type 0) (RevokesAt : H → ℕ → List ℕ → H → RevokeAnswer → Type 0)
+    (a : ℕ) (old new : H) : Type 0 where
+  Unchanged : new ≡ old → OneChange H PutsAt RevokesAt a old new
+  WithPut : (row : HolderRow) (answer : PutAnswer) → PutsAt old a row new answer → OneChange H PutsAt RevokesAt a old new
+  WithRevoke : (name : List ℕ) (answer : RevokeAnswer) → RevokesAt old a name new answer → OneChange H PutsAt RevokesAt a old new
+
 -- of the key holders that one has, those beside that of a stay as they are, which moves once at most, and one has the same
 pub record LeavesOthers (a : ℕ) (ids_old ids_new : List (List ℕ)) (has_old has_new : List ℕ) (old new : ℕ → List HeldRow) : Type 0 where
   pub ids : ids_new ≡ ids_old

@@ -24,7 +24,7 @@ ghost use Rattle.ft_exchange.specs.Asking.{ids_of};
 ghost use Rattle.targets.specs.State.{moves_at};
 ghost use Rattle.ap_node.specs.State.{station_at, newest_uses};
 ghost use Rattle.ap_node.specs.Switching.{switched, due_acts, ended, end_acts};
-ghost use Rattle.ap_node.specs.Putting.{LeavesOthers};
+ghost use Rattle.ap_node.specs.Putting.{LeavesOthers, OneChange};
 ghost use Rattle.held_rows.specs.Looks.{NoLooks, AreLooked};
 ghost use Rattle.ap_node.specs.Looking.{AnsweredBy};
 ghost use Rattle.ap_node.specs.Moving.{has_any_attempt};
@@ -185,6 +185,11 @@ impl ApNode {
         ensures kept { OnErr result (out.new.acts ≡ out.old.acts) }
         ensures others { LeavesOthers self.old.number (H.ids holders.old) (H.ids holders.new)
             (H.has holders.old) (H.has holders.new) (H.rows holders.old) (H.rows holders.new) }
+        // where none is told to have been asked, none was
+        ensures unasked { OnOk result ((g : List AnyAct) → out.new.acts ≡ out.old.acts ++ g
+            → NoLooks g → OneChange H H.puts H.revokes self.old.number holders.old holders.new) }
+        ensures change { OnErr result
+            (OneChange H H.puts H.revokes self.old.number holders.old holders.new) }
         ensures no_less { H.no_less holders.old holders.new }
     {
         let node = Node::Ap(self.number);
@@ -288,6 +293,10 @@ impl ApNode {
         ensures kept { OnErr result (out.new.acts ≡ out.old.acts) }
         ensures others { LeavesOthers self.old.number (H.ids holders.old) (H.ids holders.new)
             (H.has holders.old) (H.has holders.new) (H.rows holders.old) (H.rows holders.new) }
+        ensures unasked { OnOk result ((g : List AnyAct) → out.new.acts ≡ out.old.acts ++ g
+            → NoLooks g → OneChange H H.puts H.revokes self.old.number holders.old holders.new) }
+        ensures change { OnErr result
+            (OneChange H H.puts H.revokes self.old.number holders.old holders.new) }
         ensures no_less { H.no_less holders.old holders.new }
     {
         let delivered = read(here.domain.akm, octets);
@@ -351,6 +360,10 @@ impl ApNode {
         ensures kept { OnErr result (out.new.acts ≡ out.old.acts) }
         ensures others { LeavesOthers self.old.number (H.ids holders.old) (H.ids holders.new)
             (H.has holders.old) (H.has holders.new) (H.rows holders.old) (H.rows holders.new) }
+        ensures unasked { OnOk result ((g : List AnyAct) → out.new.acts ≡ out.old.acts ++ g
+            → NoLooks g → OneChange H H.puts H.revokes self.old.number holders.old holders.new) }
+        ensures change { OnErr result
+            (OneChange H H.puts H.revokes self.old.number holders.old holders.new) }
         ensures no_less { H.no_less holders.old holders.new }
     {
         let anonce = next_nonce(here, self.drawn);
@@ -549,6 +562,7 @@ impl ApNode {
         ensures kept { OnErr result (out.new.acts ≡ out.old.acts) }
         ensures others { LeavesOthers self.old.number (H.ids holders.old) (H.ids holders.new)
             (H.has holders.old) (H.has holders.new) (H.rows holders.old) (H.rows holders.new) }
+        ensures change { OneChange H H.puts H.revokes self.old.number holders.old holders.new }
         ensures no_less { H.no_less holders.old holders.new }
     {
         let outcome = self.hand(here, station, heard, holders, out)?;
@@ -582,6 +596,7 @@ impl ApNode {
         ensures room { OnOk result (1 ≤ out.new.spare) }
         ensures others { LeavesOthers self.old.number (H.ids holders.old) (H.ids holders.new)
             (H.has holders.old) (H.has holders.new) (H.rows holders.old) (H.rows holders.new) }
+        ensures change { OneChange H H.puts H.revokes self.old.number holders.old holders.new }
         ensures no_less { H.no_less holders.old holders.new }
     {
         out.reserve(9)?;
@@ -743,6 +758,7 @@ impl ApNode {
         ensures kept { OnErr result (out.new.acts ≡ out.old.acts) }
         ensures others { LeavesOthers self.now.number (H.ids holders.old) (H.ids holders.new)
             (H.has holders.old) (H.has holders.new) (H.rows holders.old) (H.rows holders.new) }
+        ensures change { OneChange H H.puts H.revokes self.now.number holders.old holders.new }
         ensures no_less { H.no_less holders.old holders.new }
     {
         revoke(here, self.number, station, holders, out)

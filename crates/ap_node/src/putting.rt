@@ -6,7 +6,7 @@ ghost use Rattle.domain_base.specs.declared.names.Node.TheVariants.{Ap, Sta};
 ghost use Rattle.key_holders.specs.Rows.{is_in};
 ghost use Rattle.domain_rules.specs.Network.{InForm, IsListed};
 ghost use Rattle.frame_intake.specs.Views.{message_fields};
-ghost use Rattle.ap_node.specs.Putting.{puts, Puts, PutsWhere, IsReady, LeavesOthers};
+ghost use Rattle.ap_node.specs.Putting.{puts, Puts, PutsWhere, IsReady, LeavesOthers, OneChange};
 
 use crate::ready::Ready;
 use act_memory::{Between, Room};
@@ -34,6 +34,7 @@ fn put_row<H: Holders>(
     ensures kept { OnErr result (H.rows holders.new ap ≡ H.rows holders.old ap) }
     ensures others { LeavesOthers ap (H.ids holders.old) (H.ids holders.new) (H.has holders.old)
         (H.has holders.new) (H.rows holders.old) (H.rows holders.new) }
+    ensures change { OneChange H H.puts H.revokes ap holders.old holders.new }
     ensures no_less { H.no_less holders.old holders.new }
 {
     let domain = here.domain;
@@ -84,6 +85,7 @@ fn between<H: Holders>(
     ensures kept { OnErr result (H.rows holders.new ap ≡ H.rows holders.old ap) }
     ensures others { LeavesOthers ap (H.ids holders.old) (H.ids holders.new) (H.has holders.old)
         (H.has holders.new) (H.rows holders.old) (H.rows holders.new) }
+    ensures change { OneChange H H.puts H.revokes ap holders.old holders.new }
     ensures no_less { H.no_less holders.old holders.new }
 {
     let mut between = Between::nothing(here.alloc);
@@ -119,6 +121,7 @@ pub fn prepare<H: Holders>(
     ensures kept { OnErr result (H.rows holders.new ap ≡ H.rows holders.old ap) }
     ensures others { LeavesOthers ap (H.ids holders.old) (H.ids holders.new) (H.has holders.old)
         (H.has holders.new) (H.rows holders.old) (H.rows holders.new) }
+    ensures change { OneChange H H.puts H.revokes ap holders.old holders.new }
     ensures no_less { H.no_less holders.old holders.new }
 {
     let peer = Node::Sta(station);

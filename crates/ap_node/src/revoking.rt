@@ -8,7 +8,7 @@ ghost use Rattle.key_holders.specs.Rows.{is_in};
 ghost use Rattle.run_journal.specs.declared.acts.Act.TheVariants.{Revoked};
 ghost use Rattle.run_journal.specs.declared.acts.Outcome.TheVariants.{Done};
 ghost use Rattle.domain_rules.specs.Network.{InForm, IsListed, r0kh_id};
-ghost use Rattle.ap_node.specs.Putting.{Revokes, RevokesWhere, LeavesOthers};
+ghost use Rattle.ap_node.specs.Putting.{Revokes, RevokesWhere, LeavesOthers, OneChange};
 
 use act_memory::Outbox;
 use domain_base::{Akm, NoMemory, Node, Octets};
@@ -35,6 +35,7 @@ fn revoke_row<H: Holders>(
         (H.rows holders.new ap) result }
     ensures others { LeavesOthers ap (H.ids holders.old) (H.ids holders.new) (H.has holders.old)
         (H.has holders.new) (H.rows holders.old) (H.rows holders.new) }
+    ensures change { OneChange H H.puts H.revokes ap holders.old holders.new }
     ensures no_less { H.no_less holders.old holders.new }
 {
     let domain = here.domain;
@@ -89,6 +90,7 @@ pub fn revoke<H: Holders>(
     ensures kept { OnErr result (out.new.acts ≡ out.old.acts) }
     ensures others { LeavesOthers ap (H.ids holders.old) (H.ids holders.new) (H.has holders.old)
         (H.has holders.new) (H.rows holders.old) (H.rows holders.new) }
+    ensures change { OneChange H H.puts H.revokes ap holders.old holders.new }
     ensures no_less { H.no_less holders.old holders.new }
 {
     let id = Vec::from_slice(here.alloc, r0kh_id(here.domain, ap))?;

@@ -19,7 +19,7 @@ use Rattle.run_journal.specs.Acts.{Derivation, GroupKey as Carried, opens, ends,
 use Rattle.run_journal.specs.Questions.{attempt, session, before_sent, group_keys, handshake, add}
 use Rattle.domain_rules.specs.Frames.{sent_g1}
 use Rattle.authenticator.specs.Bases.{own_pair}
-use Rattle.domain_rules.specs.Asking.{offered, replay_counter}
+use Rattle.domain_rules.specs.Asking.{replay_counter}
 use Rattle.domain_rules.specs.Counters.{sent_count, next_in_session}
 use Rattle.domain_rules.specs.GroupKeys.{newest_uses}
 use Rattle.domain_rules.specs.Owing.{owing}
@@ -28,8 +28,7 @@ use Rattle.domain_rules.proofs.Parts.{same-refl, attempt_more, attempt_none, att
 use Rattle.group_key.specs.declared.keys.GroupKey.{GroupKey}
 use Rattle.group_key.specs.Holds.{IsLast, carried}
 use Rattle.group_key.proofs.Drawing.{last_newest}
-use Rattle.authenticator.specs.Counters.{counters}
-use Rattle.authenticator.specs.Groups.{sent_for, owes, Asks}
+use Rattle.authenticator.specs.Groups.{sent_for, owes, SendsG1, Asks}
 use Rattle.authenticator.specs.State.{State}
 use Rattle.authenticator.specs.Stands.{IsUnderWay, IsNoConnect, HasAttempt, CountsAt, IsHeld, AuthenticatorStands}
 use Rattle.authenticator.specs.Taken.{Newest, RetriesFrom, GivesFrom}
@@ -195,24 +194,21 @@ retries_unowed s t g rsc r none some unowed =
 
 -- ---- a group key was drawn
 
-none_offered : (p : Node) (part : List Act) (before n : ℕ) → offered p G1 part ≡ counters before n → offered p G1 part ≡ [] → n ≡ 0
-none_offered p part before n offers none = sym (count_is p G1 part before n offers) ∙ count_is p G1 part 0 0 none
-
-pub gives_asked : (s : State) (t u : Session) (g : GroupKey) (rsc : ℕ) (r : Reply) → s.session ≡ Some t → AsksIf s g rsc t u r → GivesFrom s (record s { session = Some u }) g rsc r
-gives_asked s t u g rsc r some asks = λ d a sta h stands w none.
+pub gives_asked : (s : State) (t u : Session) (g : GroupKey) (rsc : ℕ) (r : Reply) → s.session ≡ Some t → (suc t.last < 2 ^ 64 → SendsG1 s.ends t.ptk (suc t.last) g rsc r) → AsksIf s g rsc t u r → GivesFrom s (record s { session = Some u }) g rsc r
+gives_asked s t u g rsc r some sends_if asks = λ d a sta h stands w.
     (let n = Ap a in
     let p = Sta sta in
     let at = held d n p s.session t h some stands.session_is in
     let x = at.x in
     let counts = counts_newest p t g h w.newest at.counts in
-    let less : sent_for g.place t < 4 = omega (arith, none_offered p (handshake groups.Gtk p h) counts.before (sent_for g.place t) counts.offers none) in
-    let asked_by = asks (low_by p t x g rsc h w at.is counts.next) less in
-    let sends = asked_by.sends d n p x stands.ends (sym at.key) in
+    let low = low_by p t x g rsc h w at.is counts.next in
+    let sends = sends_if low d n p x stands.ends (sym at.key) in
+    let is_few : sent_count p G1 (handshake groups.Gtk p h) < 4 → sent_for g.place t < 4 = λ few. omega (arith, few, count_is p G1 (handshake groups.Gtk p h) counts.before (sent_for g.place t) counts.offers) in
     record {
       x = x;
       has = at.is;
       adds = ap (λ (e : Act). e ∷ []) (g1_is d n p x g rsc t.last h w.newest w.uses counts.next) ∙ sym sends;
-      stands = subst (λ (acts : List Act). AuthenticatorStands d n p (record s { session = Some u }) (add acts h)) (sym sends) (stands_asked d a p s t u g rsc r x h stands at.is at.key counts less asked_by);
+      stands = λ few. subst (λ (acts : List Act). AuthenticatorStands d n p (record s { session = Some u }) (add acts h)) (sym sends) (stands_asked d a p s t u g rsc r x h stands at.is at.key counts (is_few few) (asks low (is_few few)));
     })
 
 -- by another name of what the authenticator is then

@@ -1,6 +1,6 @@
 -- What begins an attempt, and what messages and retries do (this project's choice; that an attempt is given up is IEEE Std
 -- 802.11-2020, 12.7.6.6).
-use Rattle.std.specs.Prelude.{◌≡◌, ℕ, true, false, List, [], ◌∷◌, Some, None}
+use Rattle.std.specs.Prelude.{◌≡◌, ◌<◌, ℕ, true, false, List, [], ◌∷◌, Some, None}
 use Rattle.domain_base.specs.declared.names.Node.{Node}
 use Rattle.eapol_key.specs.declared.messages.Message.{Message}
 use Rattle.eapol_key.specs.declared.messages.Message.TheVariants.{M1, M2, M3, G1}
@@ -13,12 +13,14 @@ use Rattle.run_journal.specs.declared.acts.Why.TheVariants as why
 use Rattle.run_journal.specs.declared.acts.Act.{Act}
 use Rattle.run_journal.specs.declared.acts.Act.TheVariants.{Closed, GaveUp, Idle}
 use Rattle.run_journal.specs.declared.reply.Reply.{Reply}
-use Rattle.run_journal.specs.Questions.{add, attempt, session, own_nonce, before_sent}
+use Rattle.run_journal.specs.Questions.{add, attempt, session, own_nonce, before_sent, handshake}
+use Rattle.run_journal.specs.GroupKinds as groups
 use Rattle.run_journal.specs.Acts.{Derivation}
 use Rattle.domain_rules.specs.Replies.{Pair, sent_acts}
 use Rattle.domain_rules.specs.Rows.{TakeRow}
 use Rattle.domain_rules.specs.AccessPointRows.{retry_acts, g1_to}
 use Rattle.domain_rules.specs.Asking.{by_connect, offered, has_heard}
+use Rattle.domain_rules.specs.Counters.{sent_count}
 use Rattle.domain_rules.specs.AccessPointKeys.{HasRsne, request as last_request}
 use Rattle.domain_rules.specs.Here.{Here}
 use Rattle.authenticator.specs.State.{State}
@@ -63,12 +65,13 @@ pub record Retries (w : Pair) (acts : List Act) (new : State) (h : List Act) : T
   pub adds : retry_acts w.domain w.node h w.peer (attempt w.peer h) ≡ acts
   pub stands : AuthenticatorStands w.domain w.node w.peer new (add acts h)
 
--- Behind the history h, they are G1 to the session, and the authenticator then stands for the longer history.
+-- Behind the history h, they are G1 to the session. Where it was sent less than four times for the newest group key the authenticator
+-- then stands for the longer history.
 pub record Gives (w : Pair) (acts : List Act) (new : State) (h : List Act) : Type 0 where
   pub x : Derivation
   pub has : session w.peer h ≡ Some x
   pub adds : g1_to w.domain w.node w.peer h x ∷ [] ≡ acts
-  pub stands : AuthenticatorStands w.domain w.node w.peer new (add acts h)
+  pub stands : sent_count w.peer G1 (handshake groups.Gtk w.peer h) < 4 → AuthenticatorStands w.domain w.node w.peer new (add acts h)
 
 -- what came of sending once more, where a kind names the message that was sent in vain
 abbrev pub IsNamed : Again → Retried → Kind → Type 0

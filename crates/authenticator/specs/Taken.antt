@@ -3,20 +3,18 @@ use Rattle.std.specs.Prelude.{◌≡◌, ◌<◌, ◌-◌, ◌^◌, ℕ, Bool, t
 use Rattle.domain_base.specs.declared.names.Node.{Node}
 use Rattle.domain_base.specs.declared.names.Node.TheVariants.{Ap, Sta}
 use Rattle.eapol_key.specs.declared.messages.Message.{Message}
-use Rattle.eapol_key.specs.declared.messages.Message.TheVariants.{G1}
 use Rattle.run_journal.specs.declared.domain.Domain.{Domain}
 use Rattle.run_journal.specs.declared.acts.Outcome.{Outcome}
 use Rattle.run_journal.specs.declared.acts.Outcome.TheVariants.{Accepted}
 use Rattle.run_journal.specs.declared.acts.Act.{Act}
 use Rattle.run_journal.specs.declared.reply.Keyed.{Keyed}
 use Rattle.run_journal.specs.declared.reply.Reply.{Reply}
-use Rattle.run_journal.specs.Questions.{session, group_keys, handshake}
+use Rattle.run_journal.specs.Questions.{session, group_keys}
 use Rattle.run_journal.specs.Acts.{Derivation}
 use Rattle.run_journal.specs.GroupKinds as groups
 use Rattle.domain_rules.specs.GroupKeys.{newest_uses}
 use Rattle.domain_rules.specs.Here.{Here, here}
 use Rattle.domain_rules.specs.Reading.{KeyMessage}
-use Rattle.domain_rules.specs.Asking.{offered}
 use Rattle.domain_rules.specs.Counters.{next_in_session}
 use Rattle.domain_rules.specs.Replies.{IsMessageFrom, key_by, replied_acts, sent_acts, pair, taken_as}
 use Rattle.domain_rules.specs.KeyHolders.{put_acts}
@@ -90,9 +88,8 @@ RetriesFrom old new g rsc came r =
     (d : Domain) (ap sta : ℕ) (h : List Act) → AuthenticatorStands d (Ap ap) (Sta sta) old h → Newest (Sta sta) g rsc h
     → Retries (pair d (Ap ap) (Sta sta)) (again_acts (Sta sta) came r) new h
 
--- and sending G1 for a group key for which none was sent yet
+-- and sending G1 in a session
 abbrev pub GivesFrom : State → State → GroupKey → ℕ → Reply → Type 0
 GivesFrom old new g rsc r =
     (d : Domain) (ap sta : ℕ) (h : List Act) → AuthenticatorStands d (Ap ap) (Sta sta) old h → Newest (Sta sta) g rsc h
-    → offered (Sta sta) G1 (handshake groups.Gtk (Sta sta) h) ≡ []
     → Gives (pair d (Ap ap) (Sta sta)) (sent_acts (Sta sta) r) new h

@@ -435,9 +435,8 @@ impl Authenticator {
         }
     }
 
-    /// Sends G1 in the session: the newest group key was drawn, and none was sent for it yet. Of
-    /// that key so many packet numbers were used (IEEE Std 802.11-2020, 12.7.7.2). The reply has G1
-    /// and nothing else, whatever was in it.
+    /// Sends G1 in the session, with the newest group key, of which so many packet numbers were used
+    /// (IEEE Std 802.11-2020, 12.7.7.2). The reply has G1 and nothing else, whatever was in it.
     pub fn group(&mut self, newest: &GroupKey, rsc: u64, reply: &mut Reply)
         requires session { is_some self.old.session ≡ true }
         requires id { newest.now.id < 4 }

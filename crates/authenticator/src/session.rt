@@ -38,7 +38,7 @@ pub struct Session {
 impl Session {
     ghost use Rattle.authenticator.specs.Groups.{sent_for, is_answered_for, owes, replied_to};
     ghost use Rattle.authenticator.specs.Groups.{transferred};
-    ghost use Rattle.authenticator.specs.Groups.{Asks, IsG2, IsRefusedG2};
+    ghost use Rattle.authenticator.specs.Groups.{SendsG1, Asks, IsG2, IsRefusedG2};
 
     /// A session of that key as a fast transition installs it: nothing was sent in it.
     pub fn transferred(ptk: Ptk) -> Self
@@ -125,6 +125,8 @@ impl Session {
     pub fn send_g1(&mut self, ends: &Ends, group: &GroupKey, rsc: u64, reply: &mut Reply)
         requires id { group.now.id < 4 }
         requires packet_number { rsc < 2 ^ 48 }
+        ensures sends { suc self.old.last < 2 ^ 64
+            → SendsG1 ends.now self.old.ptk (suc self.old.last) group.now rsc reply.new }
         ensures asks { suc self.old.last < 2 ^ 64 → sent_for group.now.place self.old < 4
             → Asks ends.now group.now rsc self.old self.new reply.new }
         ensures keeps { Keeps reply.old reply.new }

@@ -9,11 +9,11 @@ use Rattle.run_journal.specs.declared.domain.Event.{Event}
 use Rattle.run_journal.specs.declared.acts.Act.{Act}
 use Rattle.run_journal.specs.declared.acts.Act.TheVariants.{Sent}
 use Rattle.run_journal.specs.declared.acts.Entry.{Entry}
+use Rattle.domain_rules.specs.HeldRight.{AnsweredInTime}
 use Rattle.domain_rules.specs.Network.{InForm}
 use Rattle.domain_rules.specs.InOctets.{InOctets}
 use Rattle.domain_rules.specs.Explained.{Explained, Step, number_of, push}
 use Rattle.domain_rules.proofs.Journals.{at_one, explained_event}
-use Rattle.held_rows.specs.Looks.{AreRight}
 use Rattle.domain_world.specs.State.{State}
 use Rattle.domain_world.specs.Owning.{Owns, IsPast, IsEventIn}
 use Rattle.frame_script.specs.Headers.{CanHappen, size_sent, sizes_of}
@@ -149,7 +149,7 @@ under_way_so_far s w j n u count = record {
   form = subst InForm u.network_is u.own.form;
   octets = subst InOctets u.network_is u.own.octets;
   explained = subst (λ (m : ℕ). Explained (network s.number 4 8) (rounds_of (storm s.number j m)) j) count u.explained;
-  right = subst (λ (d : Domain). AreRight d j) u.network_is u.own.right;
+  right = subst (λ (d : Domain). AnsweredInTime d j) u.network_is u.own.right;
 }
 
 pub under_way_front : (s : Course) (w : State) (j k : List Entry) → IsUnderWay s w j → w.rounds ≤ all_events → k ≡ j → IsFrontSoFar s.number k

@@ -1,48 +1,129 @@
 -- The octets of a script fall into lines in one way, and what the lines tell is one thing.
-use Rattle.std.proofs.Common.{◌≡◌, ◌≢◌, ℕ, ◌<◌, ◌≤◌, Bool, List, [], ◌∷◌, ◌++◌, length, inl, inr, refl, sym, ap, subst, ◌∙◌, append_assoc, arith}
+use Rattle.std.proofs.Common.{◌≡◌, ◌≢◌, ℕ, ◌<◌, ◌≤◌, Bool, List, [], ◌∷◌, ◌++◌, drop, length, Option, Some, None, inl, inr, refl, sym, ap, subst, ◌∙◌, append_assoc, arith}
 use Rattle.std.proofs.lemmas.List.{append-nil, length-append}
 use Rattle.std.proofs.lemmas.Bool.{cases_lt}
+use Rattle.std.proofs.Math.Seq.{drop-append_seam}
 use Rattle.run_journal.specs.declared.acts.Entry.{Entry}
-use Rattle.frame_script.specs.Script.{Fault, Draft, Said, said_after, end_fault}
-use Rattle.domain_cli.specs.Script.{Rounds, rounds_with, Says, Refuses, Spells, NoFeed, most_lines, most_octets, without_return, joined, texts, AreLines, IsClosed, IsOpen, IsScript, Ends, HasFault, point_of}
+use Rattle.domain_links.specs.Turns.{Delivery}
+use Rattle.frame_script.specs.Script.{Fault, Draft, AtSsid, end_fault}
+use Rattle.frame_script.specs.Live.{Heard, Plain, Draws, Turns}
+use Rattle.frame_script.specs.declared.reader.Mode.{Mode}
+use Rattle.frame_script.specs.declared.reader.Mode.TheVariants.{Replay}
+use Rattle.domain_cli.specs.Script.{Rounds, with_seed, with_turn, Means, Says, IsOf, Refuses, Spells, NoFeed, most_lines, most_octets, without_return, joined, texts, AreLines, IsClosed, IsOpen, IsScript, Ends, HasFault, point_of}
+use Rattle.domain_cli.proofs.Early.{of_before}
 
 -- ---- what a line tells
+
+-- what judges the lines: a kind of run, a journal, a seed, and turns
+pub record Judge : Type 0 where
+  pub mode : Mode
+  pub journal : List Entry
+  pub seed : Option (List ℕ)
+  pub turns : List (List Delivery)
+
+abbrev judge : Mode → List Entry → Option (List ℕ) → List (List Delivery) → Judge
+judge m j seed turns = record { mode = m; journal = j; seed = seed; turns = turns }
+
+nobody : Judge
+nobody = judge Replay [] None []
+
+-- what came from outside by a line is of that seed and these turns
+abbrev Gives : Judge → Rounds → Type 0
+Gives k rounds = IsOf k.seed k.turns rounds
+
+-- the lines tell this by them
+record Told (k : Judge) (lines : List (List ℕ)) (draft : Draft) (rounds : Rounds) : Type 0 where
+  spelled : Spells k.mode k.journal lines draft rounds
+  gives : Gives k rounds
 
 -- the same network and the same rounds
 abbrev pub AreSame : Draft → Rounds → Draft → Rounds → Type 0
 AreSame d rounds e others = (d ≡ e) × (rounds ≡ others)
 
-one_meaning : (j : List Entry) (line : List ℕ) (before x y : Draft) (earlier r s : Rounds) → Says j line before earlier x r → Says j line before earlier y s → AreSame x r y s
-one_meaning j line before x y earlier r s p q =
+one_seed : (seed : Option (List ℕ)) (turns : List (List Delivery)) (earlier rounds : Rounds) (drawn : List ℕ) → rounds ≡ with_seed earlier drawn → IsOf seed turns rounds → Some drawn ≡ seed
+one_seed seed turns earlier rounds drawn is gives =
+    let here : rounds.drawn ≡ Some drawn = ap (λ (r : Rounds). r.drawn) is in
+    elim gives.drawn [
+      | inl none ↦ absurd cc
+      | inr same ↦ sym here ∙ same
+    ]
+
+same_seed : (one other : List ℕ) (seed : Option (List ℕ)) → Some one ≡ seed → Some other ≡ seed → one ≡ other
+same_seed one other seed p q = cc (p, q)
+
+-- the last of turns in front of the same ones
+last_turn : (later others past turns : List (List Delivery)) (one other : List Delivery) → later ++ one ∷ past ≡ turns → others ++ other ∷ past ≡ turns → one ≡ other
+last_turn later others past turns one other p q =
+    let same : length later ≡ length others = omega (arith, ap (λ (t : List (List Delivery)). length t) p, ap (λ (t : List (List Delivery)). length t) q, length-append later (one ∷ past), length-append others (other ∷ past)) in
+    let both : one ∷ past ≡ other ∷ past =
+    sym (drop-append_seam later (one ∷ past)) ∙ ap (λ (t : List (List Delivery)). drop (length later) t) (p ∙ sym q) ∙ ap (λ (n : ℕ). drop n (others ++ other ∷ past)) same ∙ drop-append_seam others (other ∷ past) in
+    cc
+
+one_turn : (seed : Option (List ℕ)) (turns : List (List Delivery)) (earlier r s : Rounds) (one other : List Delivery) → r ≡ with_turn earlier one → s ≡ with_turn earlier other → IsOf seed turns r → IsOf seed turns s → one ≡ other
+one_turn seed turns earlier r s one other p q x y =
+    last_turn x.later y.later earlier.turns turns one other (ap (λ (t : Rounds). x.later ++ t.turns) (sym p) ∙ x.first) (ap (λ (t : Rounds). y.later ++ t.turns) (sym q) ∙ y.first)
+
+-- what a line says has one meaning
+same_meaning : (k : Judge) (said : Heard) (before x y : Draft) (earlier r s : Rounds) → Means said before earlier x r → Means said before earlier y s → Gives k r → Gives k s → AreSame x r y s
+same_meaning k (Plain said) before x y earlier r s p q of_r of_s = (p.0 ∙ sym q.0, p.1 ∙ sym q.1)
+same_meaning k Draws before x y earlier r s p q of_r of_s =
+    let same = same_seed p.0 q.0 k.seed (one_seed k.seed k.turns earlier r p.0 p.1.1 of_r) (one_seed k.seed k.turns earlier s q.0 q.1.1 of_s) in
+    (p.1.0 ∙ ap AtSsid same ∙ sym q.1.0, p.1.1 ∙ ap (λ (z : List ℕ). with_seed earlier z) same ∙ sym q.1.1)
+same_meaning k Turns before x y earlier r s p q of_r of_s =
+    let same = one_turn k.seed k.turns earlier r s p.0 q.0 p.1.1.1 q.1.1.1 of_r of_s in
+    (p.1.1.0 ∙ sym q.1.1.0, p.1.1.1 ∙ ap (λ (z : List Delivery). with_turn earlier z) same ∙ sym q.1.1.1)
+
+one_meaning : (k : Judge) (line : List ℕ) (before x y : Draft) (earlier r s : Rounds) → Says k.mode k.journal line before earlier x r → Says k.mode k.journal line before earlier y s → Gives k r → Gives k s → AreSame x r y s
+one_meaning k line before x y earlier r s p q of_r of_s =
     let said : p.said ≡ q.said = cc (p.says, q.says) in
-    (p.draft_is ∙ ap (λ (z : Said). said_after before z) said ∙ sym q.draft_is, p.rounds_are ∙ ap (λ (z : Said). rounds_with before earlier z) said ∙ sym q.rounds_are)
+    same_meaning k q.said before x y earlier r s (subst (λ (z : Heard). Means z before earlier x r) said p.means) q.means of_r of_s
 
 -- a line is not both taken and refused
-taken_or_refused : (j : List Entry) (line : List ℕ) (before draft : Draft) (earlier rounds : Rounds) (fault : Fault) → Says j line before earlier draft rounds → Refuses j line before earlier fault → ⊥
-taken_or_refused j line before draft earlier rounds fault p q = cc (p.says, q.says)
+taken_or_refused : (k : Judge) (line : List ℕ) (before draft : Draft) (earlier rounds : Rounds) (fault : Fault) → Says k.mode k.journal line before earlier draft rounds → Refuses k.mode k.journal line before earlier fault → ⊥
+taken_or_refused k line before draft earlier rounds fault p q = cc (p.says, q.says)
 
 -- and is refused for one fault
-one_refusal : (j : List Entry) (line : List ℕ) (draft : Draft) (rounds : Rounds) (fault other : Fault) → Refuses j line draft rounds fault → Refuses j line draft rounds other → fault ≡ other
-one_refusal j line draft rounds fault other p q = cc (p.says, q.says)
+one_refusal : (k : Judge) (line : List ℕ) (draft : Draft) (rounds : Rounds) (fault other : Fault) → Refuses k.mode k.journal line draft rounds fault → Refuses k.mode k.journal line draft rounds other → fault ≡ other
+one_refusal k line draft rounds fault other p q = cc (p.says, q.says)
 
-pub one_telling : (j : List Entry) (lines : List (List ℕ)) (x y : Draft) (r s : Rounds) → Spells j lines x r → Spells j lines y s → AreSame x r y s
+one_told : (k : Judge) (lines : List (List ℕ)) (x y : Draft) (r s : Rounds) → Spells k.mode k.journal lines x r → Gives k r → Spells k.mode k.journal lines y s → Gives k s → AreSame x r y s
 unfolding Spells
-one_telling j [] x y r s p q = (p.0 ∙ sym q.0, p.1 ∙ sym q.1)
-one_telling j (line ∷ lines) x y r s (before, (earlier, (p, says))) (before', (earlier', (q, says'))) =
-    let same = one_telling j lines before before' earlier earlier' p q in
-    one_meaning j line before' x y earlier' r s (subst (λ (e : Rounds). Says j line before' e x r) same.1 (subst (λ (b : Draft). Says j line b earlier x r) same.0 says)) says'
+one_told k [] x y r s p of_r q of_s = (p.0 ∙ sym q.0, p.1 ∙ sym q.1)
+one_told k (line ∷ lines) x y r s (before, (earlier, (p, says))) of_r (before', (earlier', (q, says'))) of_s =
+    let first = of_before k.mode k.journal k.seed k.turns lines line before x earlier r p says of_r in
+    let second = of_before k.mode k.journal k.seed k.turns lines line before' y earlier' s q says' of_s in
+    let same = one_told k lines before before' earlier earlier' p first q second in
+    one_meaning k line before' x y earlier' r s (subst (λ (e : Rounds). Says k.mode k.journal line before' e x r) same.1 (subst (λ (b : Draft). Says k.mode k.journal line b earlier x r) same.0 says)) says' of_r of_s
+
+one_telling : (k : Judge) (lines : List (List ℕ)) (x y : Draft) (r s : Rounds) → Told k lines x r → Told k lines y s → AreSame x r y s
+one_telling k lines x y r s p q = one_told k lines x y r s p.spelled p.gives q.spelled q.gives
+
+-- the lines before a line
+record Before (k : Judge) (line : List ℕ) (said : List (List ℕ)) (draft : Draft) (rounds : Rounds) : Type 0 where
+  draft_ : Draft
+  rounds_ : Rounds
+  told : Told k said draft_ rounds_
+  says : Says k.mode k.journal line draft_ rounds_ draft rounds
+
+line_before : (k : Judge) (line : List ℕ) (said : List (List ℕ)) (draft : Draft) (rounds : Rounds) → Spells k.mode k.journal (line ∷ said) draft rounds → Gives k rounds → Before k line said draft rounds
+unfolding Spells
+line_before k line said draft rounds (before, (earlier, (p, says))) gives = record {
+  draft_ = before;
+  rounds_ = earlier;
+  told = record { spelled = p; gives = of_before k.mode k.journal k.seed k.turns said line before draft earlier rounds p says gives };
+  says = says;
+}
 
 -- a line that is taken behind lines that told this is not refused there
-not_taken : (j : List Entry) (said : List (List ℕ)) (line : List ℕ) (before draft : Draft) (earlier rounds : Rounds) (fault : Fault) → Spells j said before earlier → Spells j (line ∷ said) draft rounds → Refuses j line before earlier fault → ⊥
-unfolding Spells
-not_taken j said line before draft earlier rounds fault p (b, (e, (q, says))) refuses =
-    let one = one_telling j said b before e earlier q p in
-    let taken = subst (λ (x : Rounds). Says j line before x draft rounds) one.1 (subst (λ (x : Draft). Says j line x e draft rounds) one.0 says) in
-    taken_or_refused j line before draft earlier rounds fault taken refuses
+not_taken : (k : Judge) (said : List (List ℕ)) (line : List ℕ) (before draft : Draft) (earlier rounds : Rounds) (fault : Fault) → Told k said before earlier → Told k (line ∷ said) draft rounds → Refuses k.mode k.journal line before earlier fault → ⊥
+not_taken k said line before draft earlier rounds fault p q refuses =
+    let b = line_before k line said draft rounds q.spelled q.gives in
+    let one = one_telling k said b.draft_ before b.rounds_ earlier b.told p in
+    let taken = subst (λ (x : Rounds). Says k.mode k.journal line before x draft rounds) one.1 (subst (λ (x : Draft). Says k.mode k.journal line x b.rounds_ draft rounds) one.0 b.says) in
+    taken_or_refused k line before draft earlier rounds fault taken refuses
 
-before_last : (j : List Entry) (line : List ℕ) (said : List (List ℕ)) (draft : Draft) (rounds : Rounds) → Spells j (line ∷ said) draft rounds → (before : Draft) × ((earlier : Rounds) × Spells j said before earlier)
-unfolding Spells
-before_last j line said draft rounds (before, (earlier, (spelled, says))) = (before, (earlier, spelled))
+before_last : (k : Judge) (line : List ℕ) (said : List (List ℕ)) (draft : Draft) (rounds : Rounds) → Told k (line ∷ said) draft rounds → (before : Draft) × ((earlier : Rounds) × Told k said before earlier)
+before_last k line said draft rounds t = (let b = line_before k line said draft rounds t.spelled t.gives in (b.draft_, (b.rounds_, b.told)))
 
 -- ---- lines in octets
 
@@ -84,28 +165,28 @@ same_lines (x ∷ good) (y ∷ other) rest more p q n e =
     (cc (same.0, lines.0), lines.1)
 
 -- the next line behind the good ones is whole, within the limits, and where the lines tell something it is taken
-record Next (j : List Entry) (good other : List (List ℕ)) (rest : List ℕ) : Type 0 where
+record Next (k : Judge) (good other : List (List ℕ)) (rest : List ℕ) : Type 0 where
   line : List ℕ
   behind : List ℕ
   is : rest ≡ line ++ 10 ∷ behind
   none : NoFeed line
   short : length line ≤ most_octets
   few : length good < most_lines
-  told : (draft : Draft) (rounds : Rounds) → Spells j (texts other) draft rounds → (d : Draft) × ((r : Rounds) × Spells j (without_return line ∷ texts good) d r)
+  told : (draft : Draft) (rounds : Rounds) → Told k (texts other) draft rounds → (d : Draft) × ((r : Rounds) × Told k (without_return line ∷ texts good) d r)
 
-next_line : (j : List Entry) (good other : List (List ℕ)) (rest more : List ℕ) → AreLines good → AreLines other → length good < length other → joined good ++ rest ≡ joined other ++ more → Next j good other rest
+next_line : (k : Judge) (good other : List (List ℕ)) (rest more : List ℕ) → AreLines good → AreLines other → length good < length other → joined good ++ rest ≡ joined other ++ more → Next k good other rest
 unfolding AreLines
-next_line j good [] rest more p q n e = absurd (omega (arith, n))
-next_line j good (y ∷ other) rest more p q n e =
+next_line k good [] rest more p q n e = absurd (omega (arith, n))
+next_line k good (y ∷ other) rest more p q n e =
     elim (cases_lt (length good) (length other)) [
-      | inl longer ↦ let next = next_line j good other rest (y ++ 10 ∷ more) p q.3 longer (e ∙ joined_step y other more) in record {
+      | inl longer ↦ let next = next_line k good other rest (y ++ 10 ∷ more) p q.3 longer (e ∙ joined_step y other more) in record {
         line = next.line;
         behind = next.behind;
         is = next.is;
         none = next.none;
         short = next.short;
         few = next.few;
-        told = λ draft rounds s. (let before = before_last j (without_return y) (texts other) draft rounds s in next.told before.0 before.1.0 before.1.1);
+        told = λ draft rounds s. (let before = before_last k (without_return y) (texts other) draft rounds s in next.told before.0 before.1.0 before.1.1);
       }
       | inr last ↦ let same = same_lines good other rest (y ++ 10 ∷ more) p q.3 (omega (arith, n, last)) (e ∙ joined_step y other more) in record {
         line = y;
@@ -114,37 +195,37 @@ next_line j good (y ∷ other) rest more p q n e =
         none = q.0;
         short = q.1;
         few = omega (arith, q.2, ap (λ (l : List (List ℕ)). length l) same.0);
-        told = λ draft rounds s. (draft, (rounds, subst (λ (l : List (List ℕ)). Spells j (without_return y ∷ texts l) draft rounds) (sym same.0) s));
+        told = λ draft rounds s. (draft, (rounds, subst (λ (l : List (List ℕ)). Told k (without_return y ∷ texts l) draft rounds) (sym same.0) s));
       }
     ]
 
 -- ---- a fault, and a line that is taken
 
 -- where a line is at its end and the next one is whole, it is that one
-same_next : (j : List Entry) (ended : Bool) (good other : List (List ℕ)) (line after text : List ℕ) → NoFeed line → Ends ended good line after text → (n : Next j good other (line ++ after)) → text ≡ without_return n.line
-same_next j ended good other line after text none (inl feed) n =
+same_next : (k : Judge) (ended : Bool) (good other : List (List ℕ)) (line after text : List ℕ) → NoFeed line → Ends ended good line after text → (n : Next k good other (line ++ after)) → text ≡ without_return n.line
+same_next k ended good other line after text none (inl feed) n =
     let same = cut_line line n.line feed.0.0 n.behind none n.none (sym (ap (λ (w : List ℕ). line ++ w) feed.0.1) ∙ n.is) in
     feed.1 ∙ ap without_return same.0
-same_next j ended good other line after text none (inr last) n =
+same_next k ended good other line after text none (inr last) n =
     absurd (no_feed line n.line n.behind none (sym (append-nil line) ∙ sym (ap (λ (w : List ℕ). line ++ w) last.1.0) ∙ n.is))
 
-fault_or_next : (j : List Entry) (octets : List ℕ) (ended : Bool) (good other : List (List ℕ)) (before draft : Draft) (earlier rounds : Rounds) (fault : Fault) → (f : HasFault octets ended good (point_of j before earlier) fault) → Spells j (texts good) before earlier
-    → Next j good other (f.line ++ f.after) → Spells j (texts other) draft rounds → ⊥
-fault_or_next j octets ended good other before draft earlier rounds fault f spelled n told =
+fault_or_next : (k : Judge) (octets : List ℕ) (ended : Bool) (good other : List (List ℕ)) (before draft : Draft) (earlier rounds : Rounds) (fault : Fault) → (f : HasFault octets ended good (point_of k.mode k.journal before earlier) fault) → Told k (texts good) before earlier
+    → Next k good other (f.line ++ f.after) → Told k (texts other) draft rounds → ⊥
+fault_or_next k octets ended good other before draft earlier rounds fault f spelled n told =
     elim f.wrong [
       | inl long ↦ omega (arith, long.1, n.short, short_line f.line n.line f.after n.behind f.open_line n.is)
       | inr w ↦ elim w.why [
         | inl many ↦ omega (arith, many.1, n.few)
         | inr why ↦
-            let text = same_next j ended good other f.line f.after w.text f.open_line w.ends n in
+            let text = same_next k ended good other f.line f.after w.text f.open_line w.ends n in
             let next = n.told draft rounds told in
-            not_taken j (texts good) (without_return n.line) before next.0 earlier next.1.0 fault spelled next.1.1 (subst (λ (t : List ℕ). Refuses j t before earlier fault) text why.1)
+            not_taken k (texts good) (without_return n.line) before next.0 earlier next.1.0 fault spelled next.1.1 (subst (λ (t : List ℕ). Refuses k.mode k.journal t before earlier fault) text why.1)
       ]
     ]
 
 -- nothing is left for a fault behind whole lines
-nothing_left : (j : List Entry) (octets : List ℕ) (ended : Bool) (good : List (List ℕ)) (before : Draft) (earlier : Rounds) (fault : Fault) → (f : HasFault octets ended good (point_of j before earlier) fault) → good ≢ [] → f.line ++ f.after ≡ [] → ⊥
-nothing_left j octets ended good before earlier fault f some none =
+nothing_left : (k : Judge) (octets : List ℕ) (ended : Bool) (good : List (List ℕ)) (before : Draft) (earlier : Rounds) (fault : Fault) → (f : HasFault octets ended good (point_of k.mode k.journal before earlier) fault) → good ≢ [] → f.line ++ f.after ≡ [] → ⊥
+nothing_left k octets ended good before earlier fault f some none =
     let no_octets : length (f.line ++ f.after) ≡ 0 = ap (λ (w : List ℕ). length w) none in
     elim f.wrong [
       | inl long ↦ omega (arith, long.1, no_octets, length-append f.line f.after)
@@ -169,22 +250,22 @@ no_rest (x ∷ good) lines rest p q n e =
           absurd (omega (arith, ap (λ (w : List ℕ). length w) none.0, length-append x (10 ∷ rest)))
     ]
 
-fault_or_closed : (j : List Entry) (octets : List ℕ) (ended : Bool) (good : List (List ℕ)) (before : Draft) (earlier : Rounds) (fault : Fault) (said : List (List ℕ)) (draft : Draft) (rounds : Rounds) → HasFault octets ended good (point_of j before earlier) fault
-    → Spells j (texts good) before earlier → IsClosed octets said → Spells j said draft rounds → ⊥
-fault_or_closed j octets ended good before earlier fault said draft rounds f spelled s told =
+fault_or_closed : (k : Judge) (octets : List ℕ) (ended : Bool) (good : List (List ℕ)) (before : Draft) (earlier : Rounds) (fault : Fault) (said : List (List ℕ)) (draft : Draft) (rounds : Rounds) → HasFault octets ended good (point_of k.mode k.journal before earlier) fault
+    → Told k (texts good) before earlier → IsClosed octets said → Told k said draft rounds → ⊥
+fault_or_closed k octets ended good before earlier fault said draft rounds f spelled s told =
     let same = sym f.begins.whole ∙ s.begins.whole in
     elim (cases_lt (length good) (length s.lines)) [
-      | inl longer ↦ fault_or_next j octets ended good s.lines before draft earlier rounds fault f spelled (next_line j good s.lines (f.line ++ f.after) [] f.begins.each s.begins.each longer same)
-          (subst (λ (l : List (List ℕ)). Spells j l draft rounds) s.says told)
+      | inl longer ↦ fault_or_next k octets ended good s.lines before draft earlier rounds fault f spelled (next_line k good s.lines (f.line ++ f.after) [] f.begins.each s.begins.each longer same)
+          (subst (λ (l : List (List ℕ)). Told k l draft rounds) s.says told)
       | inr fewer ↦
           let none = no_rest good s.lines (f.line ++ f.after) f.begins.each s.begins.each fewer same in
-          nothing_left j octets ended good before earlier fault f (λ empty. s.some (sym none.1 ∙ empty)) none.0
+          nothing_left k octets ended good before earlier fault f (λ empty. s.some (sym none.1 ∙ empty)) none.0
     ]
 
 -- a fault in the last line, which has no line feed and is taken
-fault_or_last : (j : List Entry) (octets : List ℕ) (ended : Bool) (good : List (List ℕ)) (before : Draft) (earlier : Rounds) (fault : Fault) (last : List ℕ) (draft : Draft) (rounds : Rounds) → (f : HasFault octets ended good (point_of j before earlier) fault)
-    → Spells j (texts good) before earlier → f.line ++ f.after ≡ last → NoFeed last → length last ≤ most_octets → length good < most_lines → Spells j (last ∷ texts good) draft rounds → ⊥
-fault_or_last j octets ended good before earlier fault last draft rounds f spelled same none short few told =
+fault_or_last : (k : Judge) (octets : List ℕ) (ended : Bool) (good : List (List ℕ)) (before : Draft) (earlier : Rounds) (fault : Fault) (last : List ℕ) (draft : Draft) (rounds : Rounds) → (f : HasFault octets ended good (point_of k.mode k.journal before earlier) fault)
+    → Told k (texts good) before earlier → f.line ++ f.after ≡ last → NoFeed last → length last ≤ most_octets → length good < most_lines → Told k (last ∷ texts good) draft rounds → ⊥
+fault_or_last k octets ended good before earlier fault last draft rounds f spelled same none short few told =
     elim f.wrong [
       | inl long ↦ omega (arith, long.1, short, ap (λ (w : List ℕ). length w) same, length-append f.line f.after)
       | inr w ↦ elim w.ends [
@@ -193,35 +274,35 @@ fault_or_last j octets ended good before earlier fault last draft rounds f spell
           | inl many ↦ omega (arith, many.1, few)
           | inr why ↦
               let text : w.text ≡ last = end.1.1.0 ∙ sym (append-nil f.line) ∙ sym (ap (λ (x : List ℕ). f.line ++ x) end.1.0) ∙ same in
-              not_taken j (texts good) last before draft earlier rounds fault spelled told (subst (λ (t : List ℕ). Refuses j t before earlier fault) text why.1)
+              not_taken k (texts good) last before draft earlier rounds fault spelled told (subst (λ (t : List ℕ). Refuses k.mode k.journal t before earlier fault) text why.1)
         ]
       ]
     ]
 
-fault_or_open : (j : List Entry) (octets : List ℕ) (ended : Bool) (good : List (List ℕ)) (before : Draft) (earlier : Rounds) (fault : Fault) (said : List (List ℕ)) (draft : Draft) (rounds : Rounds) → HasFault octets ended good (point_of j before earlier) fault
-    → Spells j (texts good) before earlier → IsOpen octets said → Spells j said draft rounds → ⊥
-fault_or_open j octets ended good before earlier fault said draft rounds f spelled s told =
+fault_or_open : (k : Judge) (octets : List ℕ) (ended : Bool) (good : List (List ℕ)) (before : Draft) (earlier : Rounds) (fault : Fault) (said : List (List ℕ)) (draft : Draft) (rounds : Rounds) → HasFault octets ended good (point_of k.mode k.journal before earlier) fault
+    → Told k (texts good) before earlier → IsOpen octets said → Told k said draft rounds → ⊥
+fault_or_open k octets ended good before earlier fault said draft rounds f spelled s told =
     let same = sym f.begins.whole ∙ s.begins.whole in
-    let told_last = subst (λ (l : List (List ℕ)). Spells j l draft rounds) s.says told in
+    let told_last = subst (λ (l : List (List ℕ)). Told k l draft rounds) s.says told in
     elim (cases_lt (length good) (length s.lines)) [
       | inl longer ↦
-          let front = before_last j s.last (texts s.lines) draft rounds told_last in
-          fault_or_next j octets ended good s.lines before front.0 earlier front.1.0 fault f spelled (next_line j good s.lines (f.line ++ f.after) s.last f.begins.each s.begins.each longer same) front.1.1
+          let front = before_last k s.last (texts s.lines) draft rounds told_last in
+          fault_or_next k octets ended good s.lines before front.0 earlier front.1.0 fault f spelled (next_line k good s.lines (f.line ++ f.after) s.last f.begins.each s.begins.each longer same) front.1.1
       | inr fewer ↦ elim (cases_lt (length s.lines) (length good)) [
         | inl longer ↦
-            let next = next_line j s.lines good s.last (f.line ++ f.after) s.begins.each f.begins.each longer (sym same) in
+            let next = next_line k s.lines good s.last (f.line ++ f.after) s.begins.each f.begins.each longer (sym same) in
             no_feed s.last next.line next.behind s.line next.is
         | inr also ↦
             let lines = same_lines good s.lines (f.line ++ f.after) s.last f.begins.each s.begins.each (omega (arith, fewer, also)) same in
-            fault_or_last j octets ended good before earlier fault s.last draft rounds f spelled lines.1 s.line s.short (omega (arith, s.few, ap (λ (l : List (List ℕ)). length l) lines.0))
-            (subst (λ (l : List (List ℕ)). Spells j (s.last ∷ texts l) draft rounds) (sym lines.0) told_last)
+            fault_or_last k octets ended good before earlier fault s.last draft rounds f spelled lines.1 s.line s.short (omega (arith, s.few, ap (λ (l : List (List ℕ)). length l) lines.0))
+            (subst (λ (l : List (List ℕ)). Told k (s.last ∷ texts l) draft rounds) (sym lines.0) told_last)
       ]
     ]
 
-pub fault_or_script : (j : List Entry) (octets : List ℕ) (ended : Bool) (good said : List (List ℕ)) (before draft : Draft) (earlier rounds : Rounds) (fault : Fault) → HasFault octets ended good (point_of j before earlier) fault → Spells j (texts good) before earlier
-    → IsScript octets said → Spells j said draft rounds → ⊥
-fault_or_script j octets ended good said before draft earlier rounds fault f spelled (inl s) told = fault_or_closed j octets ended good before earlier fault said draft rounds f spelled s told
-fault_or_script j octets ended good said before draft earlier rounds fault f spelled (inr s) told = fault_or_open j octets ended good before earlier fault said draft rounds f spelled s told
+fault_or_told : (k : Judge) (octets : List ℕ) (ended : Bool) (good said : List (List ℕ)) (before draft : Draft) (earlier rounds : Rounds) (fault : Fault) → HasFault octets ended good (point_of k.mode k.journal before earlier) fault → Told k (texts good) before earlier
+    → IsScript octets said → Told k said draft rounds → ⊥
+fault_or_told k octets ended good said before draft earlier rounds fault f spelled (inl s) told = fault_or_closed k octets ended good before earlier fault said draft rounds f spelled s told
+fault_or_told k octets ended good said before draft earlier rounds fault f spelled (inr s) told = fault_or_open k octets ended good before earlier fault said draft rounds f spelled s told
 
 -- ---- one list of lines
 
@@ -229,9 +310,9 @@ fault_or_script j octets ended good said before draft earlier rounds fault f spe
 same_rest : (good other : List (List ℕ)) (rest more : List ℕ) → AreLines good → AreLines other → NoFeed rest → NoFeed more → joined good ++ rest ≡ joined other ++ more → (good ≡ other) × (rest ≡ more)
 same_rest good other rest more p q none nothing same =
     elim (cases_lt (length good) (length other)) [
-      | inl longer ↦ let next = next_line [] good other rest more p q longer same in absurd (no_feed rest next.line next.behind none next.is)
+      | inl longer ↦ let next = next_line nobody good other rest more p q longer same in absurd (no_feed rest next.line next.behind none next.is)
       | inr few ↦ elim (cases_lt (length other) (length good)) [
-        | inl longer ↦ let next = next_line [] other good more rest q p longer (sym same) in absurd (no_feed more next.line next.behind nothing next.is)
+        | inl longer ↦ let next = next_line nobody other good more rest q p longer (sym same) in absurd (no_feed more next.line next.behind nothing next.is)
         | inr also ↦ same_lines good other rest more p q (omega (arith, few, also)) same
       ]
     ]
@@ -272,9 +353,9 @@ one_text ended over good lines line after text other more words none nothing sam
     last.1.1.0 ∙ sym (append-nil line) ∙ sym (ap (λ (w : List ℕ). line ++ w) last.1.0) ∙ same ∙ ap (λ (w : List ℕ). other ++ w) end.1.0 ∙ append-nil other ∙ sym end.1.1.0
 
 -- behind the same lines
-one_fault : (j : List Entry) (octets : List ℕ) (ended over : Bool) (good : List (List ℕ)) (draft : Draft) (rounds : Rounds) (fault other : Fault) → (f : HasFault octets ended good (point_of j draft rounds) fault) → (g : HasFault octets over good (point_of j draft rounds) other)
+one_fault : (k : Judge) (octets : List ℕ) (ended over : Bool) (good : List (List ℕ)) (draft : Draft) (rounds : Rounds) (fault other : Fault) → (f : HasFault octets ended good (point_of k.mode k.journal draft rounds) fault) → (g : HasFault octets over good (point_of k.mode k.journal draft rounds) other)
     → f.line ++ f.after ≡ g.line ++ g.after → fault ≡ other
-one_fault j octets ended over good draft rounds fault other f g same =
+one_fault k octets ended over good draft rounds fault other f g same =
     elim f.wrong [
       | inl long ↦ elim g.wrong [
         | inl long_too ↦ long.0 ∙ sym long_too.0
@@ -291,52 +372,74 @@ one_fault j octets ended over good draft rounds fault other f g same =
             | inl many ↦ absurd (omega (arith, many.1, why.0))
             | inr why_too ↦
                 let text = one_text ended over good good f.line f.after w.text g.line g.after v.text f.open_line g.open_line same w.ends v.ends in
-                one_refusal j v.text draft rounds fault other (subst (λ (t : List ℕ). Refuses j t draft rounds fault) text why.1) why_too.1
+                one_refusal k v.text draft rounds fault other (subst (λ (t : List ℕ). Refuses k.mode k.journal t draft rounds fault) text why.1) why_too.1
           ]
         ]
       ]
     ]
 
 -- two faults of the same octets
-record AreFaults (j : List Entry) (octets : List ℕ) (ended over : Bool) (good lines : List (List ℕ)) (before draft : Draft) (earlier rounds : Rounds) (fault other : Fault) : Type 0 where
-  f : HasFault octets ended good (point_of j before earlier) fault
-  spelled : Spells j (texts good) before earlier
-  g : HasFault octets over lines (point_of j draft rounds) other
-  told : Spells j (texts lines) draft rounds
+record AreFaults (k : Judge) (octets : List ℕ) (ended over : Bool) (good lines : List (List ℕ)) (before draft : Draft) (earlier rounds : Rounds) (fault other : Fault) : Type 0 where
+  f : HasFault octets ended good (point_of k.mode k.journal before earlier) fault
+  spelled : Told k (texts good) before earlier
+  g : HasFault octets over lines (point_of k.mode k.journal draft rounds) other
+  told : Told k (texts lines) draft rounds
 
-same_place : (j : List Entry) (octets : List ℕ) (ended over : Bool) (good lines : List (List ℕ)) (before draft : Draft) (earlier rounds : Rounds) (fault other : Fault) → (a : AreFaults j octets ended over good lines before draft earlier rounds fault other)
+same_place : (k : Judge) (octets : List ℕ) (ended over : Bool) (good lines : List (List ℕ)) (before draft : Draft) (earlier rounds : Rounds) (fault other : Fault) → (a : AreFaults k octets ended over good lines before draft earlier rounds fault other)
     → (good ≡ lines) × (a.f.line ++ a.f.after ≡ a.g.line ++ a.g.after)
-same_place j octets ended over good lines before draft earlier rounds fault other a =
+same_place k octets ended over good lines before draft earlier rounds fault other a =
     let same : joined good ++ (a.f.line ++ a.f.after) ≡ joined lines ++ (a.g.line ++ a.g.after) = sym a.f.begins.whole ∙ a.g.begins.whole in
     elim (cases_lt (length good) (length lines)) [
-      | inl longer ↦ absurd (fault_or_next j octets ended good lines before draft earlier rounds fault a.f a.spelled
-          (next_line j good lines (a.f.line ++ a.f.after) (a.g.line ++ a.g.after) a.f.begins.each a.g.begins.each longer same) a.told)
+      | inl longer ↦ absurd (fault_or_next k octets ended good lines before draft earlier rounds fault a.f a.spelled
+          (next_line k good lines (a.f.line ++ a.f.after) (a.g.line ++ a.g.after) a.f.begins.each a.g.begins.each longer same) a.told)
       | inr few ↦ elim (cases_lt (length lines) (length good)) [
-        | inl longer ↦ absurd (fault_or_next j octets over lines good draft before rounds earlier other a.g a.told
-            (next_line j lines good (a.g.line ++ a.g.after) (a.f.line ++ a.f.after) a.g.begins.each a.f.begins.each longer (sym same)) a.spelled)
+        | inl longer ↦ absurd (fault_or_next k octets over lines good draft before rounds earlier other a.g a.told
+            (next_line k lines good (a.g.line ++ a.g.after) (a.f.line ++ a.f.after) a.g.begins.each a.f.begins.each longer (sym same)) a.spelled)
         | inr also ↦ same_lines good lines (a.f.line ++ a.f.after) (a.g.line ++ a.g.after) a.f.begins.each a.g.begins.each (omega (arith, few, also)) same
       ]
     ]
 
 -- a fault behind lines that tell this, behind the same lines
-moved : (j : List Entry) (octets : List ℕ) (ended : Bool) (good lines : List (List ℕ)) (before draft : Draft) (earlier rounds : Rounds) (fault : Fault) → lines ≡ good → draft ≡ before → rounds ≡ earlier → (g : HasFault octets ended lines (point_of j draft rounds) fault)
-    → (h : HasFault octets ended good (point_of j before earlier) fault) × ((h.line ≡ g.line) × (h.after ≡ g.after))
-moved j octets ended good lines before draft earlier rounds fault same network asked g =
-    let to_good = subst (λ (l : List (List ℕ)). (h : HasFault octets ended l (point_of j draft rounds) fault) × ((h.line ≡ g.line) × (h.after ≡ g.after))) same (g, (refl, refl)) in
-    let to_network = subst (λ (x : Draft). (h : HasFault octets ended good (point_of j x rounds) fault) × ((h.line ≡ g.line) × (h.after ≡ g.after))) network to_good in
-    subst (λ (x : Rounds). (h : HasFault octets ended good (point_of j before x) fault) × ((h.line ≡ g.line) × (h.after ≡ g.after))) asked to_network
+moved : (k : Judge) (octets : List ℕ) (ended : Bool) (good lines : List (List ℕ)) (before draft : Draft) (earlier rounds : Rounds) (fault : Fault) → lines ≡ good → draft ≡ before → rounds ≡ earlier → (g : HasFault octets ended lines (point_of k.mode k.journal draft rounds) fault)
+    → (h : HasFault octets ended good (point_of k.mode k.journal before earlier) fault) × ((h.line ≡ g.line) × (h.after ≡ g.after))
+moved k octets ended good lines before draft earlier rounds fault same network asked g =
+    let to_good = subst (λ (l : List (List ℕ)). (h : HasFault octets ended l (point_of k.mode k.journal draft rounds) fault) × ((h.line ≡ g.line) × (h.after ≡ g.after))) same (g, (refl, refl)) in
+    let to_network = subst (λ (x : Draft). (h : HasFault octets ended good (point_of k.mode k.journal x rounds) fault) × ((h.line ≡ g.line) × (h.after ≡ g.after))) network to_good in
+    subst (λ (x : Rounds). (h : HasFault octets ended good (point_of k.mode k.journal before x) fault) × ((h.line ≡ g.line) × (h.after ≡ g.after))) asked to_network
 
-pub one_place : (j : List Entry) (octets : List ℕ) (ended over : Bool) (good lines : List (List ℕ)) (before draft : Draft) (earlier rounds : Rounds) (fault other : Fault) → HasFault octets ended good (point_of j before earlier) fault → Spells j (texts good) before earlier
-    → HasFault octets over lines (point_of j draft rounds) other → Spells j (texts lines) draft rounds → (good ≡ lines) × (fault ≡ other)
-one_place j octets ended over good lines before draft earlier rounds fault other f spelled g told =
-    let place = same_place j octets ended over good lines before draft earlier rounds fault other (record { f = f; spelled = spelled; g = g; told = told }) in
-    let tells = one_telling j (texts good) draft before rounds earlier (subst (λ (l : List (List ℕ)). Spells j (texts l) draft rounds) (sym place.0) told) spelled in
-    let here = moved j octets over good lines before draft earlier rounds other (sym place.0) tells.0 tells.1 g in
+place_of_one : (k : Judge) (octets : List ℕ) (ended over : Bool) (good lines : List (List ℕ)) (before draft : Draft) (earlier rounds : Rounds) (fault other : Fault) → HasFault octets ended good (point_of k.mode k.journal before earlier) fault → Told k (texts good) before earlier
+    → HasFault octets over lines (point_of k.mode k.journal draft rounds) other → Told k (texts lines) draft rounds → (good ≡ lines) × (fault ≡ other)
+place_of_one k octets ended over good lines before draft earlier rounds fault other f spelled g told =
+    let place = same_place k octets ended over good lines before draft earlier rounds fault other (record { f = f; spelled = spelled; g = g; told = told }) in
+    let tells = one_telling k (texts good) draft before rounds earlier (subst (λ (l : List (List ℕ)). Told k (texts l) draft rounds) (sym place.0) told) spelled in
+    let here = moved k octets over good lines before draft earlier rounds other (sym place.0) tells.0 tells.1 g in
     let octets_there : g.line ++ g.after ≡ here.0.line ++ here.0.after = cc (here.1.0, here.1.1) in
-    (place.0, one_fault j octets ended over good before earlier fault other f here.0 (place.1 ∙ octets_there))
+    (place.0, one_fault k octets ended over good before earlier fault other f here.0 (place.1 ∙ octets_there))
 
 -- a script may end where its octets do, or not, for one cause
-pub one_end : (j : List Entry) (octets : List ℕ) (said lines : List (List ℕ)) (one other : Draft) (rounds others : Rounds) → IsScript octets said → Spells j said one rounds → IsScript octets lines → Spells j lines other others → end_fault one ≡ end_fault other
-one_end j octets said lines one other rounds others is spelled also told =
+end_of_one : (k : Judge) (octets : List ℕ) (said lines : List (List ℕ)) (one other : Draft) (rounds others : Rounds) → IsScript octets said → Told k said one rounds → IsScript octets lines → Told k lines other others → end_fault one ≡ end_fault other
+end_of_one k octets said lines one other rounds others is spelled also told =
     let same = one_script octets said lines is also in
-    ap (λ (x : Draft). end_fault x) (one_telling j lines one other rounds others (subst (λ (l : List (List ℕ)). Spells j l one rounds) same spelled) told).0
+    ap (λ (x : Draft). end_fault x) (one_telling k lines one other rounds others (subst (λ (l : List (List ℕ)). Told k l one rounds) same spelled) told).0
+
+-- ---- the laws
+
+pub fault_or_script : (m : Mode) (j : List Entry) (seed : Option (List ℕ)) (turns : List (List Delivery)) (octets : List ℕ) (ended : Bool) (good said : List (List ℕ)) (before draft : Draft) (earlier rounds : Rounds) (fault : Fault)
+    → HasFault octets ended good (point_of m j before earlier) fault → Spells m j (texts good) before earlier → IsOf seed turns earlier → IsScript octets said → Spells m j said draft rounds → IsOf seed turns rounds → ⊥
+fault_or_script m j seed turns octets ended good said before draft earlier rounds fault f spelled gives s told given =
+    fault_or_told (judge m j seed turns) octets ended good said before draft earlier rounds fault f (record { spelled = spelled; gives = gives }) s (record { spelled = told; gives = given })
+
+pub one_place : (m : Mode) (j : List Entry) (seed : Option (List ℕ)) (turns : List (List Delivery)) (octets : List ℕ) (ended over : Bool) (good lines : List (List ℕ)) (before draft : Draft) (earlier rounds : Rounds) (fault other : Fault)
+    → HasFault octets ended good (point_of m j before earlier) fault → Spells m j (texts good) before earlier → IsOf seed turns earlier → HasFault octets over lines (point_of m j draft rounds) other → Spells m j (texts lines) draft rounds → IsOf seed turns rounds
+    → (good ≡ lines) × (fault ≡ other)
+one_place m j seed turns octets ended over good lines before draft earlier rounds fault other f spelled gives g told given =
+    place_of_one (judge m j seed turns) octets ended over good lines before draft earlier rounds fault other f (record { spelled = spelled; gives = gives }) g (record { spelled = told; gives = given })
+
+pub one_account : (m : Mode) (j : List Entry) (seed : Option (List ℕ)) (turns : List (List Delivery)) (said : List (List ℕ)) (one other : Draft) (rounds others : Rounds)
+    → Spells m j said one rounds → IsOf seed turns rounds → Spells m j said other others → IsOf seed turns others → (one ≡ other) × (rounds ≡ others)
+one_account m j seed turns said one other rounds others p gives q given = one_told (judge m j seed turns) said one other rounds others p gives q given
+
+pub one_end : (m : Mode) (j : List Entry) (seed : Option (List ℕ)) (turns : List (List Delivery)) (octets : List ℕ) (said lines : List (List ℕ)) (one other : Draft) (rounds others : Rounds)
+    → IsScript octets said → Spells m j said one rounds → IsOf seed turns rounds → IsScript octets lines → Spells m j lines other others → IsOf seed turns others → end_fault one ≡ end_fault other
+one_end m j seed turns octets said lines one other rounds others is spelled gives also told given =
+    end_of_one (judge m j seed turns) octets said lines one other rounds others is (record { spelled = spelled; gives = gives }) also (record { spelled = told; gives = given })

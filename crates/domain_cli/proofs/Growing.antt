@@ -46,7 +46,7 @@ Grows-step d rounds round event j k step later =
     }
 
 -- and again
-Grows-more : (rounds : ℕ) (i j k : List Entry) → Grows rounds i j → Grows rounds j k → Grows rounds i k
+pub Grows-more : (rounds : ℕ) (i j k : List Entry) → Grows rounds i j → Grows rounds j k → Grows rounds i k
 Grows-more rounds i j k first then_ = record {
   later = then_.later ++ first.later;
   is = then_.is ∙ ap (λ (past : List Entry). then_.later ++ past) first.is ∙ sym (append_assoc then_.later first.later i);

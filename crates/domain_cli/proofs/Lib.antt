@@ -5,9 +5,17 @@ pub mod Sent
 pub mod Growing
 pub mod Steps
 pub mod Telling
+pub mod Meeting
 pub mod Taking
+pub mod Outside
+pub mod Answering
 pub mod Lines
+pub mod Blamed
+pub mod Closing
+pub mod Coming
+pub mod Returned
 pub mod Out
+pub mod Early
 pub mod Faults
 pub mod Safety
 pub mod Drawn
@@ -15,3 +23,6 @@ pub mod Nodes
 pub mod Courses
 pub mod Stormed
 pub mod Unbegun
+pub mod Turned
+pub mod Linked
+pub mod Followed

@@ -3,23 +3,30 @@ use Rattle.std.proofs.Common.{◌≡◌, ◌≢◌, ℕ, suc, ◌+◌, ◌*◌, 
 use Rattle.std.proofs.lemmas.List.{append-nil, length-append, length-drop, take-append-drop, drop_more}
 use Rattle.std.proofs.lemmas.Bool.{false≢true}
 use Rattle.std.specs.Io.KnownBytes.{Consumes, Keeps}
+use Rattle.domain_base.specs.Told.{LinkStory}
 use Rattle.run_journal.specs.declared.acts.Entry.{Entry}
 use Rattle.frame_script.specs.declared.forms.Form.{Form}
 use Rattle.frame_script.specs.declared.refusal.Refusal.TheVariants.{LongLine, ManyLines}
 use Rattle.frame_script.specs.declared.refusal.Refusal.{Refusal}
-use Rattle.frame_script.specs.Forms.{form_of}
+use Rattle.frame_script.specs.declared.reader.Mode.{Mode}
+use Rattle.frame_script.specs.declared.reader.Mode.TheVariants.{Replay, Live}
+use Rattle.frame_script.specs.Forms.{form_in}
+use Rattle.frame_script.specs.Live.{Heard, own_says}
 use Rattle.frame_script.specs.Refusals.{fault_of}
 use Rattle.frame_script.specs.Script.{Fault, Draft, AtVersion, line_says}
+use Rattle.domain_base.specs.declared.outside.LinkError.{LinkError}
 use Rattle.domain_cli.specs.declared.state.ScriptState.{ScriptState}
 use Rattle.domain_cli.specs.declared.status.Stop.{Stop}
 use Rattle.domain_cli.specs.declared.status.Stop.TheVariants as stops
-use Rattle.domain_cli.specs.Script.{Rounds, no_rounds, IsJournal, sizes_before, Says, Refuses, Spells, NoFeed, most_lines, most_octets, too_many, without_return, joined, texts, AreLines, Begins, IsScript, Ends, IsWrong, HasFault, HasForm, Point, point_of}
-use Rattle.frame_script.specs.declared.refusal.Untaken.TheVariants as untaken
-use Rattle.domain_cli.specs.States.{RefusesLine, Stands}
-use Rattle.domain_cli.specs.Stops.{EndsAt, Stopped, StopsLine}
-use Rattle.domain_cli.specs.Story.{Explains, IsFaulty, IsPrefix, StoppedBy, Tells, most_read}
+use Rattle.domain_cli.specs.declared.status.Undone.TheVariants as undone
+use Rattle.domain_cli.specs.Outer.{Outer, IsMet}
+use Rattle.domain_cli.specs.Script.{Rounds, no_rounds, sizes_before, says_in, Says, Refuses, Spells, NoFeed, most_lines, most_octets, too_many, without_return, joined, texts, AreLines, Begins, IsScript, Ends, IsWrong, HasFault, HasForm, Point, point_of}
+use Rattle.domain_cli.specs.States.{BreaksLine, FailsToDraw, LeavesLine, Stands}
+use Rattle.domain_cli.specs.Stops.{Closes, EndsAt, Halts, MetBy, Stopped, StopsLine}
+use Rattle.domain_cli.specs.Story.{Explains, IsFaulty, IsLast, IsPrefix, StoppedBy, most_read}
 use Rattle.domain_cli.specs.declared.status.Found.{Found}
 use Rattle.domain_cli.specs.declared.status.Found.TheVariants as founds
+use Rattle.domain_cli.proofs.Sent.{Spells-more}
 
 -- ---- octets and lines
 
@@ -54,18 +61,19 @@ length-read octets good rest b short few =
 
 -- ---- faults
 
-pub Spells-line : (j : List Entry) (line : List ℕ) (said : List (List ℕ)) (before draft : Draft) (earlier rounds : Rounds) → Spells j said before earlier → Says j line before earlier draft rounds → Spells j (line ∷ said) draft rounds
+pub Spells-line : (m : Mode) (j : List Entry) (line : List ℕ) (said : List (List ℕ)) (before draft : Draft) (earlier rounds : Rounds) → Spells m j said before earlier → Says m j line before earlier draft rounds → Spells m j (line ∷ said) draft rounds
 unfolding Spells
-Spells-line j line said before draft earlier rounds spelled says = (before, (earlier, (spelled, says)))
+Spells-line m j line said before draft earlier rounds spelled says = (before, (earlier, (spelled, says)))
 
--- whatever comes after a fault
+-- whatever comes after a line that is at its end
+Ends-more : (more : List ℕ) (ended : Bool) (good : List (List ℕ)) (line after text : List ℕ) → Ends false good line after text → Ends ended good line (after ++ more) text
+Ends-more more ended good line after text (inl feed) = inl ((feed.0.0 ++ more, ap (λ (x : List ℕ). x ++ more) feed.0.1), feed.1)
+Ends-more more ended good line after text (inr last) = absurd (false≢true last.0)
+
 IsWrong-more : (more : List ℕ) (ended : Bool) (good : List (List ℕ)) (line after : List ℕ) (p : Point) (fault : Fault) → IsWrong false good line after p fault → IsWrong ended good line (after ++ more) p fault
 IsWrong-more more ended good line after p fault w = record {
   text = w.text;
-  ends = elim w.ends [
-    | inl feed ↦ inl ((feed.0.0 ++ more, ap (λ (x : List ℕ). x ++ more) feed.0.1), feed.1)
-    | inr last ↦ absurd (false≢true last.0)
-  ];
+  ends = Ends-more more ended good line after w.text w.ends;
   short = w.short;
   why = w.why;
 }
@@ -74,54 +82,78 @@ abbrev wrong_more : (more : List ℕ) (ended : Bool) (good : List (List ℕ)) (l
 wrong_more more ended good line after p fault (inl long) = inl long
 wrong_more more ended good line after p fault (inr w) = inr (IsWrong-more more ended good line after p fault w)
 
-form_more : (more : List ℕ) (ended : Bool) (good : List (List ℕ)) (line after : List ℕ) (p : Point) (fault : Fault) (form : Form) (draft : Draft) (rounds : Rounds) {A : Type 0} (wrong : A ⊎ IsWrong false good line after p fault) → HasForm form draft rounds wrong
-    → HasForm form draft rounds (wrong_more more ended good line after p fault wrong)
+form_more : (more : List ℕ) (ended : Bool) (good : List (List ℕ)) (line after : List ℕ) (p : Point) (fault : Fault) (form : Form) {A : Type 0} (wrong : A ⊎ IsWrong false good line after p fault) → HasForm form wrong
+    → HasForm form (wrong_more more ended good line after p fault wrong)
 unfolding IsWrong-more
-form_more more ended good line after p fault form draft rounds (inl long) has = tt
-form_more more ended good line after p fault form draft rounds (inr w) has = has
+form_more more ended good line after p fault form (inl long) has = tt
+form_more more ended good line after p fault form (inr w) has = has
+
+begins_more : (octets more : List ℕ) (good : List (List ℕ)) (line after : List ℕ) → Begins octets good (line ++ after) → Begins (octets ++ more) good (line ++ (after ++ more))
+begins_more octets more good line after b = subst (λ (w : List ℕ). Begins (octets ++ more) good w) (append_assoc line after more) (Begins-more octets more good (line ++ after) b)
 
 abbrev HasFault-more : (octets more : List ℕ) (ended : Bool) (good : List (List ℕ)) (p : Point) (fault : Fault) → HasFault octets false good p fault → HasFault (octets ++ more) ended good p fault
 HasFault-more octets more ended good p fault f = record {
   line = f.line;
   after = f.after ++ more;
-  begins = subst (λ (w : List ℕ). Begins (octets ++ more) good w) (append_assoc f.line f.after more) (Begins-more octets more good (f.line ++ f.after) f.begins);
+  begins = begins_more octets more good f.line f.after f.begins;
   open_line = f.open_line;
   wrong = wrong_more more ended good f.line f.after p fault f.wrong;
 }
 
-IsFaulty-more : (fault : Fault) (form : Form) (number : ℕ) (octets more : List ℕ) (j : List Entry) → IsFaulty fault form number octets false j → IsFaulty fault form number (octets ++ more) false j
-IsFaulty-more fault form number octets more j f = record {
+IsFaulty-more : (fault : Fault) (form : Form) (number : ℕ) (octets more : List ℕ) (p : Point) → IsFaulty fault form number octets false p → IsFaulty fault form number (octets ++ more) false p
+IsFaulty-more fault form number octets more p f = record {
   good = f.good;
-  draft = f.draft;
-  rounds = f.rounds;
   number_is = f.number_is;
-  is = HasFault-more octets more false f.good (point_of j f.draft f.rounds) fault f.is;
-  expected = form_more more false f.good f.is.line f.is.after (point_of j f.draft f.rounds) fault form f.draft f.rounds f.is.wrong f.expected;
+  is = HasFault-more octets more false f.good p fault f.is;
+  expected = form_more more false f.good f.is.line f.is.after p fault form f.is.wrong f.expected;
   explains = f.explains;
 }
 
-Stopped-more : (most bound : ℕ) (stop : Stop) (octets more : List ℕ) (j : List Entry) → most + length more ≤ bound → Stopped most stop octets j → Stopped bound stop (octets ++ more) j
-Stopped-more most bound (stops.Refused number refusal form) octets more j few f = IsFaulty-more (fault_of refusal) form number octets more j f
-Stopped-more most bound stops.NoMemory octets more j few p = record {
-  good = p.good;
-  line = p.line;
-  after = p.after ++ more;
-  draft = p.draft;
-  rounds = p.rounds;
-  begins = subst (λ (w : List ℕ). Begins (octets ++ more) p.good w) (append_assoc p.line p.after more) (Begins-more octets more p.good (p.line ++ p.after) p.begins);
-  open_line = p.open_line;
-  short = p.short;
-  near = omega (arith, few, p.near, length-append p.after more);
-  explains = p.explains;
+IsLast-more : (most bound : ℕ) (octets more : List ℕ) (good : List (List ℕ)) (text : List ℕ) (p : Point) → most + length more ≤ bound → IsLast most octets false good text p → IsLast bound (octets ++ more) false good text p
+IsLast-more most bound octets more good text p few l = record {
+  line = l.line;
+  after = l.after ++ more;
+  live = l.live;
+  begins = begins_more octets more good l.line l.after l.begins;
+  open_line = l.open_line;
+  ends = Ends-more more false good l.line l.after text l.ends;
+  short = l.short;
+  few = l.few;
+  near = omega (arith, few, l.near, length-append l.after more);
+}
+
+Stopped-more : (most bound : ℕ) (stop : Stop) (octets more : List ℕ) (p : Point) → most + length more ≤ bound → Stopped most stop octets p → Stopped bound stop (octets ++ more) p
+Stopped-more most bound (stops.Refused number refusal form) octets more p few f = IsFaulty-more (fault_of refusal) form number octets more p f
+Stopped-more most bound stops.NoMemory octets more p few f = record {
+  good = f.good;
+  line = f.line;
+  after = f.after ++ more;
+  begins = begins_more octets more f.good f.line f.after f.begins;
+  open_line = f.open_line;
+  short = f.short;
+  near = omega (arith, few, f.near, length-append f.after more);
+  explains = f.explains;
+}
+Stopped-more most bound stops.DrawFault octets more p few f = record {
+  good = f.good;
+  text = f.text;
+  last = IsLast-more most bound octets more f.good f.text p few f.last;
+  asks = f.asks;
+  none = f.none;
+  explains = f.explains;
+}
+Stopped-more most bound (stops.Broken error) octets more p few f = record {
+  good = f.good;
+  text = f.text;
+  last = IsLast-more most bound octets more f.good f.text p few f.last;
+  explains = f.explains;
 }
 
 -- an octet too many
-pub Stopped-long : (octets : List ℕ) (octet lines : ℕ) (form : Form) (good : List (List ℕ)) (line : List ℕ) (draft : Draft) (rounds : Rounds) (j : List Entry) → Begins octets good line → NoFeed (line ++ octet ∷ []) → most_octets ≤ length line → lines ≡ length good
-    → Spells j (texts good) draft rounds → IsJournal draft rounds.run j → Stopped 1 (stops.Refused (suc lines) LongLine form) (octets ++ octet ∷ []) j
-Stopped-long octets octet lines form good line draft rounds j b none long count spelled journal = record {
+pub Stopped-long : (octets : List ℕ) (octet lines : ℕ) (form : Form) (good : List (List ℕ)) (line : List ℕ) (p : Point) → Begins octets good line → NoFeed (line ++ octet ∷ []) → most_octets ≤ length line → lines ≡ length good
+    → Explains (texts good) p → Stopped 1 (stops.Refused (suc lines) LongLine form) (octets ++ octet ∷ []) p
+Stopped-long octets octet lines form good line p b none long count explains = record {
   good = good;
-  draft = draft;
-  rounds = rounds;
   number_is = ap suc count;
   is = record {
     line = line ++ octet ∷ [];
@@ -131,7 +163,7 @@ Stopped-long octets octet lines form good line draft rounds j b none long count 
     wrong = inl (refl, omega (arith, long, length-append line (octet ∷ [])));
   };
   expected = tt;
-  explains = record { spelled = spelled; journal = journal };
+  explains = explains;
 }
 
 -- a line stopped it: where it ends, and what it says
@@ -141,12 +173,10 @@ record IsAt (whole : List ℕ) (ended : Bool) (good : List (List ℕ)) (line aft
   ends : Ends ended good line after text
   short : length line ≤ most_octets
 
-faulty : (fault : Fault) (form : Form) (number lines : ℕ) (whole : List ℕ) (ended : Bool) (good : List (List ℕ)) (line after text : List ℕ) (draft : Draft) (rounds : Rounds) (j : List Entry) → IsAt whole ended good line after text → lines ≡ length good
-    → number ≡ suc lines → form ≡ form_of draft (length rounds.run) text → ((fault ≡ too_many) × (most_lines ≤ lines)) ⊎ ((lines < most_lines) × Refuses j text draft rounds fault) → Explains (texts good) draft rounds j → IsFaulty fault form number whole ended j
-faulty fault form number lines whole ended good line after text draft rounds j at count next asked why explains = record {
+faulty : (fault : Fault) (form : Form) (number lines : ℕ) (whole : List ℕ) (ended : Bool) (good : List (List ℕ)) (line after text : List ℕ) (p : Point) → IsAt whole ended good line after text → lines ≡ length good
+    → number ≡ suc lines → form ≡ form_in p.mode p.draft p.rounds.asked text → ((fault ≡ too_many) × (most_lines ≤ lines)) ⊎ ((lines < most_lines) × Refuses p.mode p.journal text p.draft p.rounds fault) → Explains (texts good) p → IsFaulty fault form number whole ended p
+faulty fault form number lines whole ended good line after text p at count next asked why explains = record {
   good = good;
-  draft = draft;
-  rounds = rounds;
   number_is = next ∙ ap suc count;
   is = record {
     line = line;
@@ -157,66 +187,147 @@ faulty fault form number lines whole ended good line after text draft rounds j a
       text = text;
       ends = at.ends;
       short = at.short;
-      why = subst (λ (n : ℕ). ((fault ≡ too_many) × (most_lines ≤ n)) ⊎ ((n < most_lines) × Refuses j text draft rounds fault)) count why;
+      why = subst (λ (n : ℕ). ((fault ≡ too_many) × (most_lines ≤ n)) ⊎ ((n < most_lines) × Refuses p.mode p.journal text p.draft p.rounds fault)) count why;
     });
   };
   expected = asked;
   explains = explains;
 }
 
-stopped_at : (most : ℕ) (stop : Stop) (lines : ℕ) (whole : List ℕ) (ended : Bool) (good : List (List ℕ)) (line after text : List ℕ) (draft : Draft) (rounds : Rounds) (j : List Entry) → IsAt whole ended good line after text → lines ≡ length good
-    → length after ≤ most → StopsLine stop j lines text draft rounds → Explains (texts good) draft rounds j → StoppedBy most stop whole ended j
-stopped_at most (stops.Refused number refusal form) lines whole ended good line after text draft rounds j at count near why explains =
-    faulty (fault_of refusal) form number lines whole ended good line after text draft rounds j at count why.0 why.1.0 why.1.1 explains
-stopped_at most stops.NoMemory lines whole ended good line after text draft rounds j at count near stops explains = record {
-  good = good;
+last_line : (most lines : ℕ) (whole : List ℕ) (ended : Bool) (good : List (List ℕ)) (line after text : List ℕ) (p : Point) → IsAt whole ended good line after text → p.mode ≡ Live → lines < most_lines → lines ≡ length good → length after ≤ most
+    → IsLast most whole ended good text p
+last_line most lines whole ended good line after text p at live few count near = record {
   line = line;
   after = after;
-  draft = draft;
-  rounds = rounds;
+  live = live;
   begins = at.begins;
   open_line = at.open_line;
+  ends = at.ends;
   short = at.short;
+  few = omega (arith, few, count);
   near = near;
-  explains = explains;
 }
 
--- a line that is refused, and one too many
-pub refused-line : (s : ScriptState) (j : List Entry) (lines : ℕ) (line : List ℕ) (draft : Draft) (rounds : Rounds) (refusal : Refusal) → RefusesLine (untaken.Refused refusal) s j line draft rounds → lines < most_lines
-    → StopsLine (stops.Refused (suc lines) refusal (form_of s.reader.draft s.reader.rounds line)) j lines line draft rounds
-refused-line s j lines line draft rounds refusal (why, (same, count)) few = (refl, (rw (same, count) refl, inr (few, why)))
+-- the reading stopped there, whether or not the source ended
+record HaltsBy {L : Type 0} (told : L → Option LinkStory) (first o : Outer L) (m : Mode) (most : ℕ) (stop : Stop) (octets : List ℕ) (ended : Bool) (j : List Entry) : Type 0 where
+  draft : Draft
+  rounds : Rounds
+  stopped : StoppedBy most stop octets ended (point_of m j draft rounds)
+  met : MetBy stop told first o m draft rounds j
 
-pub many-lines : (s : ScriptState) (j : List Entry) (lines : ℕ) (line : List ℕ) (draft : Draft) (rounds : Rounds) → Stands s draft rounds j → most_lines ≤ lines
-    → StopsLine (stops.Refused (suc lines) ManyLines (form_of s.reader.draft s.reader.rounds line)) j lines line draft rounds
-many-lines s j lines line draft rounds stands many = (refl, (rw (stands.draft_is, stands.rounds_are) refl, inl (refl, many)))
+-- and all is as it was
+halts_same : {L : Type 0} (told : L → Option LinkStory) (first old new : Outer L) (m : Mode) (most : ℕ) (stop : Stop) (octets : List ℕ) (ended : Bool) (j k : List Entry) → k ≡ j → new ≡ old → HaltsBy told first old m most stop octets ended j
+    → HaltsBy told first new m most stop octets ended k
+halts_same told first old new m most stop octets ended j k same outside h =
+    subst (λ (x : List Entry). HaltsBy told first new m most stop octets ended x) (sym same) (subst (λ (o : Outer _). HaltsBy told first o m most stop octets ended j) (sym outside) h)
 
-pub ruleset stopping = (refused-line, many-lines)
+stopped_at : {L : Type 0} (told : L → Option LinkStory) (first old new : Outer L) (m : Mode) (most : ℕ) (stop : Stop) (lines : ℕ) (whole : List ℕ) (ended : Bool) (good : List (List ℕ)) (line after text : List ℕ) (draft : Draft) (rounds : Rounds) (j k : List Entry)
+    → IsAt whole ended good line after text → lines ≡ length good → length after ≤ most → StopsLine stop told first old new m lines text draft rounds j k → Explains (texts good) (point_of m j draft rounds) → IsMet told first old m draft rounds j
+    → HaltsBy told first new m most stop whole ended k
+stopped_at told first old new m most (stops.Refused number refusal form) lines whole ended good line after text draft rounds j k at count near why explains met =
+    halts_same told first old new m most (stops.Refused number refusal form) whole ended j k why.1.1.1.0 why.1.1.1.1 (record {
+      draft = draft;
+      rounds = rounds;
+      stopped = faulty (fault_of refusal) form number lines whole ended good line after text (point_of m j draft rounds) at count why.0 why.1.0 why.1.1.0 explains;
+      met = met;
+    })
+stopped_at told first old new m most stops.NoMemory lines whole ended good line after text draft rounds j k at count near why explains met =
+    halts_same told first old new m most stops.NoMemory whole ended j k why.0 why.1 (record {
+      draft = draft;
+      rounds = rounds;
+      stopped = record { good = good; line = line; after = after; begins = at.begins; open_line = at.open_line; short = at.short; near = near; explains = explains };
+      met = met;
+    })
+stopped_at told first old new m most stops.DrawFault lines whole ended good line after text draft rounds j k at count near why explains met =
+    halts_same told first old new m most stops.DrawFault whole ended j k why.1.0.kept why.1.1 (record {
+      draft = draft;
+      rounds = rounds;
+      stopped = record {
+        good = good;
+        text = text;
+        last = last_line most lines whole ended good line after text (point_of m j draft rounds) at why.1.0.live why.0 count near;
+        asks = why.1.0.asks;
+        none = why.1.0.none;
+        explains = explains;
+      };
+      met = met;
+    })
+stopped_at told first old new m most (stops.Broken error) lines whole ended good line after text draft rounds j k at count near why explains met =
+    let b = why.1 in
+    record {
+      draft = b.draft;
+      rounds = b.rounds;
+      stopped = record {
+        good = good;
+        text = text;
+        last = last_line most lines whole ended good line after text (point_of m k b.draft b.rounds) at b.live why.0 count near;
+        explains = record { spelled = Spells-line m k text (texts good) draft b.draft rounds b.rounds (Spells-more m j k (texts good) draft rounds b.same explains.spelled) b.says; journal = b.journal };
+      };
+      met = b.met;
+    }
+
+-- ---- what a line that was not done stops
+
+form_there : (m n : Mode) (old draft : Draft) (a b : ℕ) (line : List ℕ) → m ≡ n → old ≡ draft → a ≡ b → form_in m old a line ≡ form_in n draft b line
+form_there m n old draft a b line kind same count = rw (kind, same, count) refl
+
+-- one that is refused, and one too many
+pub refused-line : {L : Type 0} (told : L → Option LinkStory) (first old new : Outer L) (s : ScriptState) (m : Mode) (j k : List Entry) (lines : ℕ) (line : List ℕ) (draft : Draft) (rounds : Rounds) (refusal : Refusal)
+    → LeavesLine (undone.Refused refusal) told first old new s line draft rounds j k → s.reader.mode ≡ m → lines < most_lines
+    → StopsLine (stops.Refused (suc lines) refusal (form_in s.reader.mode s.reader.draft s.reader.rounds line)) told first old new m lines line draft rounds j k
+refused-line told first old new s m j k lines line draft rounds refusal leaves kind few = (
+  refl,
+  (
+    form_there s.reader.mode m s.reader.draft draft s.reader.rounds rounds.asked line kind leaves.1.0 leaves.1.1.0,
+    (inr (few, subst (λ (n : Mode). Refuses n j line draft rounds (fault_of refusal)) kind leaves.0), leaves.1.1.1),
+  ),
+)
+
+pub many-lines : {L : Type 0} (told : L → Option LinkStory) (first o : Outer L) (s : ScriptState) (j : List Entry) (lines : ℕ) (line : List ℕ) (draft : Draft) (rounds : Rounds) → Stands s draft rounds j → most_lines ≤ lines
+    → StopsLine (stops.Refused (suc lines) ManyLines (form_in s.reader.mode s.reader.draft s.reader.rounds line)) told first o o s.reader.mode lines line draft rounds j j
+many-lines told first o s j lines line draft rounds stands many =
+    (refl, (form_there s.reader.mode s.reader.mode s.reader.draft draft s.reader.rounds rounds.asked line refl stands.draft_is stands.rounds_are, (inl (refl, many), (refl, refl))))
+
+-- one whose seed could not be drawn, and one that was broken
+pub undrawn-line : {L : Type 0} (told : L → Option LinkStory) (first old new : Outer L) (s : ScriptState) (m : Mode) (j k : List Entry) (lines : ℕ) (line : List ℕ) (draft : Draft) (rounds : Rounds)
+    → LeavesLine undone.DrawFault told first old new s line draft rounds j k → s.reader.mode ≡ m → lines < most_lines → StopsLine stops.DrawFault told first old new m lines line draft rounds j k
+undrawn-line told first old new s m j k lines line draft rounds leaves kind few = (few, (subst (λ (n : Mode). FailsToDraw n line draft rounds j k) kind leaves.0, leaves.1))
+
+pub broken-line : {L : Type 0} (told : L → Option LinkStory) (first old new : Outer L) (s : ScriptState) (m : Mode) (j k : List Entry) (lines : ℕ) (line : List ℕ) (draft : Draft) (rounds : Rounds) (error : LinkError)
+    → LeavesLine (undone.Broken error) told first old new s line draft rounds j k → s.reader.mode ≡ m → lines < most_lines → StopsLine (stops.Broken error) told first old new m lines line draft rounds j k
+broken-line told first old new s m j k lines line draft rounds error leaves kind few = (few, subst (λ (n : Mode). BreaksLine told first new n line draft rounds j k) kind leaves)
+
+pub ruleset stopping = (refused-line, many-lines, undrawn-line, broken-line)
+
+-- ---- where a line stops the reading
 
 -- before a line feed
-pub Stopped-line : (stop : Stop) (lines : ℕ) (octets : List ℕ) (good : List (List ℕ)) (line : List ℕ) (draft : Draft) (rounds : Rounds) (j k : List Entry) → Begins octets good line → NoFeed line → length line ≤ most_octets → lines ≡ length good
-    → Spells j (texts good) draft rounds → IsJournal draft rounds.run j → StopsLine stop j lines (without_return line) draft rounds → k ≡ j → Stopped 1 stop (octets ++ 10 ∷ []) k
-Stopped-line stop lines octets good line draft rounds j k b none short count spelled journal stops same =
+pub Halts-line : {L : Type 0} (told : L → Option LinkStory) (first old new : Outer L) (m : Mode) (stop : Stop) (lines : ℕ) (octets : List ℕ) (good : List (List ℕ)) (line : List ℕ) (draft : Draft) (rounds : Rounds) (j k : List Entry)
+    → Begins octets good line → NoFeed line → length line ≤ most_octets → lines ≡ length good → Explains (texts good) (point_of m j draft rounds) → IsMet told first old m draft rounds j → StopsLine stop told first old new m lines (without_return line) draft rounds j k
+    → Halts told first new m 1 stop (octets ++ 10 ∷ []) k
+Halts-line told first old new m stop lines octets good line draft rounds j k b none short count explains met why =
     let at : IsAt (octets ++ 10 ∷ []) false good line (10 ∷ []) (without_return line) = record {
       begins = Begins-more octets (10 ∷ []) good line b;
       open_line = none;
       ends = inl (([], refl), refl);
       short = short;
     } in
-    subst (λ (x : List Entry). Stopped 1 stop (octets ++ 10 ∷ []) x) (sym same)
-    (stopped_at 1 stop lines (octets ++ 10 ∷ []) false good line (10 ∷ []) (without_return line) draft rounds j at count (omega arith) stops (record { spelled = spelled; journal = journal }))
+    let h = stopped_at told first old new m 1 stop lines (octets ++ 10 ∷ []) false good line (10 ∷ []) (without_return line) draft rounds j k at count (omega arith) why explains met in
+    record { draft = h.draft; rounds = h.rounds; stopped = h.stopped; met = h.met }
 
 -- at the end of the source
-pub Tells-last : (stop : Stop) (lines : ℕ) (octets : List ℕ) (good : List (List ℕ)) (line : List ℕ) (draft : Draft) (rounds : Rounds) (j k : List Entry) → Begins octets good line → NoFeed line → length line ≤ most_octets → lines ≡ length good
-    → (line ≢ []) ⊎ (good ≡ []) → Spells j (texts good) draft rounds → IsJournal draft rounds.run j → StopsLine stop j lines line draft rounds → k ≡ j → Tells (founds.Stopped stop) octets true k
-Tells-last stop lines octets good line draft rounds j k b none short count some spelled journal stops same =
+pub Closes-last : {L : Type 0} (told : L → Option LinkStory) (first old new : Outer L) (m : Mode) (stop : Stop) (lines : ℕ) (octets : List ℕ) (good : List (List ℕ)) (line : List ℕ) (draft : Draft) (rounds : Rounds) (j k : List Entry)
+    → Begins octets good line → NoFeed line → length line ≤ most_octets → lines ≡ length good → (line ≢ []) ⊎ (good ≡ []) → Explains (texts good) (point_of m j draft rounds) → IsMet told first old m draft rounds j
+    → StopsLine stop told first old new m lines line draft rounds j k → Closes told first new m (founds.Stopped stop) octets true k
+Closes-last told first old new m stop lines octets good line draft rounds j k b none short count some explains met why =
     let at : IsAt octets true good line [] line = record {
       begins = subst (λ (w : List ℕ). Begins octets good w) (sym (append-nil line)) b;
       open_line = none;
       ends = inr (refl, (refl, (refl, some)));
       short = short;
     } in
-    subst (λ (x : List Entry). StoppedBy most_read stop octets true x) (sym same)
-    (stopped_at most_read stop lines octets true good line [] line draft rounds j at count (omega arith) stops (record { spelled = spelled; journal = journal }))
+    let h = stopped_at told first old new m most_read stop lines octets true good line [] line draft rounds j k at count (omega arith) why explains met in
+    record { draft = h.draft; rounds = h.rounds; tells = h.stopped; met = h.met }
 
 -- ---- whole scripts
 
@@ -230,22 +341,27 @@ IsScript-closed octets good line b closed some = inl (record {
 })
 
 -- an empty source says nothing that can be taken
-nothing_first : (j : List Entry) (good : List (List ℕ)) (before draft : Draft) (earlier rounds : Rounds) → good ≡ [] → Spells j (texts good) before earlier → Says j [] before earlier draft rounds → ⊥
-unfolding Spells line_says
-nothing_first j [] before draft earlier rounds none spelled says =
-    let first = subst (λ (x : Draft). line_says x (length earlier.run) (sizes_before (length earlier.run) j) [] ≡ Ok says.said) spelled.0 says.says in cc
-nothing_first j (line ∷ good) before draft earlier rounds none spelled says = cc
+no_empty : (m : Mode) (n : ℕ) (sizes : List ℕ) (said : Heard) → says_in m AtVersion n sizes [] ≡ Ok said → ⊥
+unfolding line_says own_says
+no_empty Replay n sizes said says = cc
+no_empty Live n sizes said says = cc
+
+nothing_first : (m : Mode) (j : List Entry) (good : List (List ℕ)) (before draft : Draft) (earlier rounds : Rounds) → good ≡ [] → Spells m j (texts good) before earlier → Says m j [] before earlier draft rounds → ⊥
+unfolding Spells
+nothing_first m j [] before draft earlier rounds none spelled says =
+    no_empty m earlier.asked (sizes_before (length earlier.run) j) says.said (subst (λ (x : Draft). says_in m x earlier.asked (sizes_before (length earlier.run) j) [] ≡ Ok says.said) spelled.0 says.says)
+nothing_first m j (line ∷ good) before draft earlier rounds none spelled says = cc
 
 -- or lacks it
-pub IsScript-open : (octets : List ℕ) (good : List (List ℕ)) (line : List ℕ) (before draft : Draft) (earlier rounds : Rounds) (j : List Entry) → Begins octets good line → NoFeed line → length line ≤ most_octets → length good < most_lines
-    → (line ≢ []) ⊎ (good ≡ []) → Spells j (texts good) before earlier → Says j line before earlier draft rounds → IsScript octets (line ∷ texts good)
-IsScript-open octets good line before draft earlier rounds j b none short few some spelled says = inr (record {
+pub IsScript-open : (m : Mode) (octets : List ℕ) (good : List (List ℕ)) (line : List ℕ) (before draft : Draft) (earlier rounds : Rounds) (j : List Entry) → Begins octets good line → NoFeed line → length line ≤ most_octets → length good < most_lines
+    → (line ≢ []) ⊎ (good ≡ []) → Spells m j (texts good) before earlier → Says m j line before earlier draft rounds → IsScript octets (line ∷ texts good)
+IsScript-open m octets good line before draft earlier rounds j b none short few some spelled says = inr (record {
   lines = good;
   last = line;
   begins = b;
   some = elim some [
     | inl some_octets ↦ some_octets
-    | inr first ↦ λ empty. nothing_first j good before draft earlier rounds first spelled (subst (λ (w : List ℕ). Says j w before earlier draft rounds) empty says)
+    | inr first ↦ λ empty. nothing_first m j good before draft earlier rounds first spelled (subst (λ (w : List ℕ). Says m j w before earlier draft rounds) empty says)
   ];
   line = none;
   short = short;
@@ -259,29 +375,22 @@ length-texts [] = refl
 length-texts (line ∷ lines) = ap suc (length-texts lines)
 
 -- the end of the source behind a whole script
-pub Tells-end : (found : Found) (lines : ℕ) (octets : List ℕ) (script : List (List ℕ)) (draft : Draft) (rounds : Rounds) (j : List Entry) → EndsAt found lines draft → lines ≡ length script → IsScript octets script → Spells j script draft rounds
-    → IsJournal draft rounds.run j → Tells found octets true j
-Tells-end founds.Whole lines octets script draft rounds j end count is spelled journal = record {
-  script = script;
+pub Closes-end : {L : Type 0} (told : L → Option LinkStory) (first o : Outer L) (m : Mode) (found : Found) (lines : ℕ) (octets : List ℕ) (script : List (List ℕ)) (draft : Draft) (rounds : Rounds) (j : List Entry)
+    → EndsAt found lines draft → lines ≡ length script → IsScript octets script → Explains script (point_of m j draft rounds) → IsMet told first o m draft rounds j → Closes told first o m found octets true j
+Closes-end told first o m founds.Whole lines octets script draft rounds j end count is explains met = record {
   draft = draft;
   rounds = rounds;
-  is = is;
-  end = refl;
-  closed = end;
-  explains = record { spelled = spelled; journal = journal };
+  tells = record { script = script; is = is; end = refl; closed = end; explains = explains };
+  met = met;
 }
-Tells-end (founds.Unended number refusal) lines octets script draft rounds j end count is spelled journal = record {
-  script = script;
+Closes-end told first o m (founds.Unended number refusal) lines octets script draft rounds j end count is explains met = record {
   draft = draft;
   rounds = rounds;
-  is = is;
-  end = refl;
-  fault_is = end.1;
-  number_is = end.0 ∙ ap suc count;
-  explains = record { spelled = spelled; journal = journal };
+  tells = record { script = script; is = is; end = refl; fault_is = end.1; number_is = end.0 ∙ ap suc count; explains = explains };
+  met = met;
 }
-Tells-end (founds.Stopped stop) lines octets script draft rounds j end count is spelled journal = absurd end
-Tells-end founds.ReadFault lines octets script draft rounds j end count is spelled journal = absurd end
+Closes-end told first o m (founds.Stopped stop) lines octets script draft rounds j end count is explains met = absurd end
+Closes-end told first o m founds.ReadFault lines octets script draft rounds j end count is explains met = absurd end
 
 pub not_read : (found : Found) (lines : ℕ) (draft : Draft) → EndsAt found lines draft → found ≢ founds.ReadFault
 not_read found lines draft end fault = subst (λ (f : Found). EndsAt f lines draft) fault end
@@ -293,21 +402,28 @@ around before octets i octet within is =
     ∙ ap (λ (w : List ℕ). before ++ (take i octets ++ w)) (ap (λ (o : ℕ). o ∷ drop (i + 1) octets) (sym is) ∙ sym (drop_more octets i 0 within))
     ∙ ap (λ (w : List ℕ). before ++ w) (take-append-drop i octets)
 
-pub Stopped-around : (most : ℕ) (stop : Stop) (before octets : List ℕ) (i octet : ℕ) (j : List Entry) → i < length octets → length octets ≤ most → get_or octets i 0 ≡ octet → Stopped 1 stop ((before ++ take i octets) ++ octet ∷ []) j
-    → Stopped most stop (before ++ octets) j
-Stopped-around most stop before octets i octet j within few is s =
-    subst (λ (w : List ℕ). Stopped most stop w j) (around before octets i octet within is)
-    (Stopped-more 1 most stop ((before ++ take i octets) ++ octet ∷ []) (drop (i + 1) octets) j (omega (arith, length-drop {A = ℕ}, within, few)) s)
+Stopped-around : (most : ℕ) (stop : Stop) (before octets : List ℕ) (i octet : ℕ) (p : Point) → i < length octets → length octets ≤ most → get_or octets i 0 ≡ octet → Stopped 1 stop ((before ++ take i octets) ++ octet ∷ []) p
+    → Stopped most stop (before ++ octets) p
+Stopped-around most stop before octets i octet p within few is s =
+    subst (λ (w : List ℕ). Stopped most stop w p) (around before octets i octet within is)
+    (Stopped-more 1 most stop ((before ++ take i octets) ++ octet ∷ []) (drop (i + 1) octets) p (omega (arith, length-drop {A = ℕ}, within, few)) s)
+
+pub Halts-around : {L : Type 0} (told : L → Option LinkStory) (first o : Outer L) (m : Mode) (most : ℕ) (stop : Stop) (before octets : List ℕ) (i octet : ℕ) (j : List Entry) → i < length octets → length octets ≤ most → get_or octets i 0 ≡ octet
+    → Halts told first o m 1 stop ((before ++ take i octets) ++ octet ∷ []) j → Halts told first o m most stop (before ++ octets) j
+Halts-around told first o m most stop before octets i octet j within few is h = record {
+  draft = h.draft;
+  rounds = h.rounds;
+  stopped = Stopped-around most stop before octets i octet (point_of m j h.draft h.rounds) within few is h.stopped;
+  met = h.met;
+}
 
 -- before any octet
-pub nothing_yet : (j : List Entry) → j ≡ [] → IsPrefix most_read [] j
+pub nothing_yet : (m : Mode) (j : List Entry) → j ≡ [] → IsPrefix most_read [] (point_of m j AtVersion no_rounds)
 unfolding Spells joined AreLines
-nothing_yet j empty = record {
+nothing_yet m j empty = record {
   good = [];
   line = [];
   after = [];
-  draft = AtVersion;
-  rounds = no_rounds;
   begins = record { whole = refl; each = tt };
   open_line = tt;
   short = omega arith;

@@ -9,11 +9,11 @@ use Rattle.run_journal.specs.declared.domain.Domain.{Domain}
 use Rattle.run_journal.specs.declared.domain.ListedAp.{ListedAp}
 use Rattle.run_journal.specs.declared.acts.Entry.{Entry}
 use Rattle.run_journal.specs.Listing.{with_ap, with_sta}
+use Rattle.domain_rules.specs.HeldRight.{AnsweredInTime}
 use Rattle.domain_rules.specs.Network.{InForm}
 use Rattle.domain_rules.specs.Explained.{Explained, started}
 use Rattle.domain_rules.specs.InOctets.{InOctets}
 use Rattle.domain_rules.proofs.Journals.{explained_start, started_none}
-use Rattle.held_rows.specs.Looks.{AreRight}
 use Rattle.domain_world.specs.State.{State}
 use Rattle.domain_world.specs.Owning.{Owns}
 use Rattle.frame_script.specs.Script.{is_single}
@@ -259,9 +259,8 @@ explained_listing number aps stas j starts =
     let first = subst (λ (x : List Entry). Explained d [] x) (sym starts) (explained_start d) in
     subst (λ (es : List Rattle.run_journal.specs.declared.domain.Event.Event). Explained d (rounds_of es) j) (sym (no_events number j)) first
 
-nothing_right : (d : Domain) → AreRight d []
-unfolding AreRight
-nothing_right d = tt
+nothing_right : (d : Domain) → AnsweredInTime d []
+nothing_right d later past e id name p answer cut look = absurd (omega (arith, ap (λ (x : List Entry). length x) cut, length-append later (e ∷ past)))
 
 pub nothing_so_far : (number : ℕ) (j : List Entry) → j ≡ [] → IsFrontSoFar number j
 nothing_so_far number j none = record {
@@ -277,7 +276,7 @@ nothing_so_far number j none = record {
     form = bare_form number;
     octets = bare_octets number;
     explained = explained_listing number 0 0 j (none ∙ sym (started_none (network number 0 0)) ∙ ap (started (network number 0 0)) (sym (length-aps 0)));
-    right = subst (λ (x : List Entry). AreRight (network number 0 0) x) (sym none) (nothing_right (network number 0 0));
+    right = subst (λ (x : List Entry). AnsweredInTime (network number 0 0) x) (sym none) (nothing_right (network number 0 0));
   };
 }
 
@@ -289,7 +288,7 @@ listing_so_far number aps stas w j l = record {
   form = subst InForm l.network_is l.own.form;
   octets = subst InOctets l.network_is l.own.octets;
   explained = explained_listing number aps stas j (starts_there number aps stas w j l);
-  right = subst (λ (d : Domain). AreRight d j) l.network_is l.own.right;
+  right = subst (λ (d : Domain). AnsweredInTime d j) l.network_is l.own.right;
 }
 
 pub listing_front : (number aps stas : ℕ) (w : State) (j k : List Entry) → aps ≤ 4 → stas ≤ 8 → (stas ≢ 0 → aps ≡ 4) → k ≡ j → IsListing number aps stas w j → IsFrontSoFar number k

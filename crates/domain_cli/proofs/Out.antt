@@ -6,7 +6,17 @@ use Rattle.frame_script.specs.declared.refusal.Refusal.{Refusal}
 use Rattle.domain_cli.specs.declared.status.Found.{Found}
 use Rattle.domain_cli.specs.declared.status.Found.TheVariants as founds
 use Rattle.domain_cli.specs.declared.status.Stop.{Stop}
-use Rattle.domain_cli.specs.Story.{IsText}
+use Rattle.domain_base.specs.declared.outside.LinkError.TheVariants as link
+use Rattle.frame_script.specs.declared.forms.Form.{Form}
+use Rattle.frame_script.specs.declared.forms.Form.TheVariants.{End}
+use Rattle.frame_script.specs.declared.reader.LineFault.{LineFault}
+use Rattle.frame_script.specs.declared.reader.LineFault.TheVariants as numbered
+use Rattle.frame_script.specs.Refusals.{answer_of, fault_of}
+use Rattle.domain_cli.specs.declared.status.Status.TheVariants.{LinkFault, DrawFault}
+use Rattle.domain_cli.specs.declared.status.Stop.TheVariants as stops
+use Rattle.domain_cli.specs.Outer.{OnLinks, OnDraws}
+use Rattle.domain_cli.specs.Stops.{found_blame}
+use Rattle.domain_cli.specs.Story.{IsText, status_by, status_of}
 
 -- without the whole script the text is of the lines alone
 abbrev pub IsNotWhole : Found → Type 0
@@ -24,3 +34,56 @@ either_way (Err x) P Q ok err = err
 pub behind_it : {A E : Type 0} (r : Result A E) (P Q R S : Type 0) → (P → R) → (Q → S) → OnOk r P → OnErr r Q → MatchResult r (λ _. R) (λ _. S)
 behind_it (Ok x) P Q R S f g ok err = f ok
 behind_it (Err x) P Q R S f g ok err = g err
+
+-- ---- the statuses of links and of draws
+
+-- a line that is refused gives neither
+no_link : (number : ℕ) (form : Form) (fault : LineFault) → status_by number form fault ≡ LinkFault → ⊥
+no_link number form (numbered.Script reason) e = cc
+no_link number form (numbered.Limit which) e = cc
+no_link number form numbered.NoMemory e = cc
+
+no_draw : (number : ℕ) (form : Form) (fault : LineFault) → status_by number form fault ≡ DrawFault → ⊥
+no_draw number form (numbered.Script reason) e = cc
+no_draw number form (numbered.Limit which) e = cc
+no_draw number form numbered.NoMemory e = cc
+
+pub link_blamed : (found : Found) → status_of found ≡ LinkFault → found_blame found ≡ OnLinks
+link_blamed founds.Whole e = absurd cc
+link_blamed (founds.Stopped (stops.Refused number refusal form)) e = absurd (no_link number form (answer_of (fault_of refusal)) e)
+link_blamed (founds.Stopped stops.NoMemory) e = absurd cc
+link_blamed (founds.Stopped stops.DrawFault) e = absurd cc
+link_blamed (founds.Stopped (stops.Broken link.Failed)) e = refl
+link_blamed (founds.Stopped (stops.Broken link.NoMemory)) e = absurd cc
+link_blamed (founds.Unended number refusal) e = absurd (no_link number End (answer_of (fault_of refusal)) e)
+link_blamed founds.ReadFault e = absurd cc
+
+pub draw_blamed : (found : Found) → status_of found ≡ DrawFault → found_blame found ≡ OnDraws
+draw_blamed founds.Whole e = absurd cc
+draw_blamed (founds.Stopped (stops.Refused number refusal form)) e = absurd (no_draw number form (answer_of (fault_of refusal)) e)
+draw_blamed (founds.Stopped stops.NoMemory) e = absurd cc
+draw_blamed (founds.Stopped stops.DrawFault) e = refl
+draw_blamed (founds.Stopped (stops.Broken link.Failed)) e = absurd cc
+draw_blamed (founds.Stopped (stops.Broken link.NoMemory)) e = absurd cc
+draw_blamed (founds.Unended number refusal) e = absurd (no_draw number End (answer_of (fault_of refusal)) e)
+draw_blamed founds.ReadFault e = absurd cc
+
+pub blamed_link : (found : Found) → found_blame found ≡ OnLinks → status_of found ≡ LinkFault
+blamed_link founds.Whole e = absurd cc
+blamed_link (founds.Stopped (stops.Refused number refusal form)) e = absurd cc
+blamed_link (founds.Stopped stops.NoMemory) e = absurd cc
+blamed_link (founds.Stopped stops.DrawFault) e = absurd cc
+blamed_link (founds.Stopped (stops.Broken link.Failed)) e = refl
+blamed_link (founds.Stopped (stops.Broken link.NoMemory)) e = absurd cc
+blamed_link (founds.Unended number refusal) e = absurd cc
+blamed_link founds.ReadFault e = absurd cc
+
+pub blamed_draw : (found : Found) → found_blame found ≡ OnDraws → status_of found ≡ DrawFault
+blamed_draw founds.Whole e = absurd cc
+blamed_draw (founds.Stopped (stops.Refused number refusal form)) e = absurd cc
+blamed_draw (founds.Stopped stops.NoMemory) e = absurd cc
+blamed_draw (founds.Stopped stops.DrawFault) e = refl
+blamed_draw (founds.Stopped (stops.Broken link.Failed)) e = absurd cc
+blamed_draw (founds.Stopped (stops.Broken link.NoMemory)) e = absurd cc
+blamed_draw (founds.Unended number refusal) e = absurd cc
+blamed_draw founds.ReadFault e = absurd cc

@@ -14,7 +14,7 @@ use Rattle.frame_script.specs.Script.{Draft, AtVersion, AtSeed, AtSsid, AtPsk, A
 use Rattle.domain_cli.specs.declared.status.Found.{Found}
 use Rattle.domain_cli.specs.declared.status.Found.TheVariants as found
 use Rattle.domain_cli.specs.declared.status.Stop.TheVariants as stop
-use Rattle.domain_cli.specs.Script.{IsRun, IsJournal}
+use Rattle.domain_cli.specs.Script.{IsRun, IsJournal, Point}
 use Rattle.domain_cli.specs.Story.{Tells}
 
 -- what the laws of safety say of one part of it
@@ -64,9 +64,11 @@ told_safe laws (AtAkm seed ssid psk) run j told fresh apart unforged = empty_saf
 told_safe laws (AtMdid seed ssid psk) run j told fresh apart unforged = empty_safe j told.1
 
 -- however the reading ended
-pub run_safe : (laws : Laws) (f : Found) (octets : List ℕ) (ended : Bool) (j : List Entry) → Tells f octets ended j → Fresh j → NoCollision j → Unforged j → Safe j
-run_safe laws found.Whole octets ended j t = told_safe laws t.draft t.rounds.run j t.explains.journal
-run_safe laws (found.Stopped (stop.Refused number refusal form)) octets ended j t = told_safe laws t.draft t.rounds.run j t.explains.journal
-run_safe laws (found.Stopped stop.NoMemory) octets ended j t = told_safe laws t.draft t.rounds.run j t.explains.journal
-run_safe laws (found.Unended number refusal) octets ended j t = told_safe laws t.draft t.rounds.run j t.explains.journal
-run_safe laws found.ReadFault octets ended j t = told_safe laws t.draft t.rounds.run j t.explains.journal
+pub run_safe : (laws : Laws) (f : Found) (octets : List ℕ) (ended : Bool) (p : Point) → Tells f octets ended p → Fresh p.journal → NoCollision p.journal → Unforged p.journal → Safe p.journal
+run_safe laws found.Whole octets ended p t = told_safe laws p.draft p.rounds.run p.journal t.explains.journal
+run_safe laws (found.Stopped (stop.Refused number refusal form)) octets ended p t = told_safe laws p.draft p.rounds.run p.journal t.explains.journal
+run_safe laws (found.Stopped stop.NoMemory) octets ended p t = told_safe laws p.draft p.rounds.run p.journal t.explains.journal
+run_safe laws (found.Stopped stop.DrawFault) octets ended p t = told_safe laws p.draft p.rounds.run p.journal t.explains.journal
+run_safe laws (found.Stopped (stop.Broken error)) octets ended p t = told_safe laws p.draft p.rounds.run p.journal t.explains.journal
+run_safe laws (found.Unended number refusal) octets ended p t = told_safe laws p.draft p.rounds.run p.journal t.explains.journal
+run_safe laws found.ReadFault octets ended p t = told_safe laws p.draft p.rounds.run p.journal t.explains.journal

@@ -5,15 +5,20 @@ use Rattle.std.proofs.lemmas.Bool.{le-leb, lt-leb}
 use Rattle.std.proofs.lemmas.List.{append-nil}
 use Rattle.domain_base.specs.declared.names.Node.{Node}
 use Rattle.run_journal.specs.declared.domain.Domain.{Domain}
+use Rattle.run_journal.specs.declared.domain.Event.{Event}
+use Rattle.run_journal.specs.declared.domain.Event.TheVariants.{Inject}
 use Rattle.run_journal.specs.declared.acts.Act.{Act}
 use Rattle.run_journal.specs.declared.acts.Entry.{Entry}
 use Rattle.domain_rules.specs.Explained.{number_of, push}
 use Rattle.domain_world.specs.State.{State}
 use Rattle.domain_world.specs.Owning.{IsPast}
-use Rattle.frame_script.specs.Script.{Draft, line_says, is_within, Said, Goes, ListsAp, ListsSta, Asks, BeginsRound, EndsRound}
+use Rattle.frame_script.specs.Script.{Draft, is_within, Said, Goes, ListsAp, ListsSta, Asks, BeginsRound, EndsRound}
 use Rattle.frame_script.specs.Headers.{Reading, size_sent, sizes_of}
-use Rattle.domain_cli.specs.Script.{Rounds, sizes_before, with_round, with_waiting, rounds_with, Says, Spells}
-use Rattle.domain_cli.specs.States.{Waiting, IsWorldOf, HasSame}
+use Rattle.frame_script.specs.Live.{Heard, Plain, Draws, Turns}
+use Rattle.frame_script.specs.declared.reader.Mode.{Mode}
+use Rattle.domain_links.specs.Turns.{Delivery}
+use Rattle.domain_cli.specs.Script.{Rounds, sizes_before, with_round, with_waiting, with_deliveries, rounds_with, Means, Says, Spells, says_in}
+use Rattle.domain_cli.specs.States.{Waiting, IsWorldOf, HasSame, run_count}
 
 -- ---- all frames
 
@@ -30,10 +35,10 @@ unfolding sizes_before sizes_of
 sizes_none rounds = refl
 
 -- before a line: those of the rounds so far
-pub sizes_so_far : (world : Option State) (waiting : Waiting) (r : Reading) (j : List Entry) (rounds : ℕ) → IsWorldOf world waiting r j → r.rounds ≡ rounds → sizes_before rounds j ≡ sizes_of j
+pub sizes_so_far : (world : Option State) (waiting : Waiting) (r : Reading) (j : List Entry) (rounds : ℕ) → IsWorldOf world waiting r j → run_count world ≡ rounds → sizes_before rounds j ≡ sizes_of j
 sizes_so_far None waiting r j rounds is count = subst (λ (x : List Entry). sizes_before rounds x ≡ sizes_of x) (sym is.no_entries) (sizes_none rounds)
 sizes_so_far (Some w) waiting r j rounds is count =
-    subst (λ (n : ℕ). sizes_before n j ≡ sizes_of j) (sym is.rounds ∙ count) (sizes_all w.domain w.rounds j is.own.placed.past)
+    subst (λ (n : ℕ). sizes_before n j ≡ sizes_of j) count (sizes_all w.domain w.rounds j is.own.placed.past)
 
 -- ---- a journal that grows
 
@@ -84,18 +89,28 @@ no_fewer before earlier (Asks event) =
 no_fewer before earlier BeginsRound = omega arith
 no_fewer before earlier EndsRound = omega arith
 
-Says-more : (j k : List Entry) (line : List ℕ) (before draft : Draft) (earlier rounds : Rounds) → HasSame (length earlier.run) j k → Says j line before earlier draft rounds → Says k line before earlier draft rounds
-Says-more j k line before draft earlier rounds same s = record {
+-- deliveries of a turn are rounds behind those before
+no_fewer_taken : (given : List Delivery) (run : List (List Event)) → length run ≤ length (with_deliveries given run)
+unfolding with_deliveries
+no_fewer_taken [] run = omega arith
+no_fewer_taken (first ∷ given) run = omega (arith, no_fewer_taken given ((Inject first.node first.octets ∷ []) ∷ run))
+
+no_fewer_meant : (said : Heard) (before draft : Draft) (earlier rounds : Rounds) → Means said before earlier draft rounds → length earlier.run ≤ length rounds.run
+no_fewer_meant (Plain said) before draft earlier rounds means = omega (arith, no_fewer before earlier said, ap (λ (x : Rounds). length x.run) means.1)
+no_fewer_meant Draws before draft earlier rounds (seed, (is, same)) = omega (arith, ap (λ (x : Rounds). length x.run) same)
+no_fewer_meant Turns before draft earlier rounds (given, (turn, (is, same))) = omega (arith, no_fewer_taken given earlier.run, ap (λ (x : Rounds). length x.run) same)
+
+Says-more : (m : Mode) (j k : List Entry) (line : List ℕ) (before draft : Draft) (earlier rounds : Rounds) → HasSame (length earlier.run) j k → Says m j line before earlier draft rounds → Says m k line before earlier draft rounds
+Says-more m j k line before draft earlier rounds same s = record {
   said = s.said;
-  says = subst (λ (sizes : List ℕ). line_says before (length earlier.run) sizes line ≡ Ok s.said) (sym (same (length earlier.run) (omega arith))) s.says;
-  draft_is = s.draft_is;
-  rounds_are = s.rounds_are;
+  says = subst (λ (sizes : List ℕ). says_in m before earlier.asked sizes line ≡ Ok s.said) (sym (same (length earlier.run) (omega arith))) s.says;
+  means = s.means;
 }
 
-pub Spells-more : (j k : List Entry) (lines : List (List ℕ)) (draft : Draft) (rounds : Rounds) → HasSame (length rounds.run) j k → Spells j lines draft rounds → Spells k lines draft rounds
+pub Spells-more : (m : Mode) (j k : List Entry) (lines : List (List ℕ)) (draft : Draft) (rounds : Rounds) → HasSame (length rounds.run) j k → Spells m j lines draft rounds → Spells m k lines draft rounds
 unfolding Spells
-Spells-more j k [] draft rounds same told = told
-Spells-more j k (line ∷ lines) draft rounds same (before, (earlier, (told, says))) =
-    let few : length earlier.run ≤ length rounds.run = omega (arith, no_fewer before earlier says.said, ap (λ (x : Rounds). length x.run) says.rounds_are) in
-    let so_far : HasSame (length earlier.run) j k = λ m low. same m (omega (arith, low, few)) in
-    (before, (earlier, (Spells-more j k lines before earlier so_far told, Says-more j k line before draft earlier rounds so_far says)))
+Spells-more m j k [] draft rounds same told = told
+Spells-more m j k (line ∷ lines) draft rounds same (before, (earlier, (told, says))) =
+    let few : length earlier.run ≤ length rounds.run = no_fewer_meant says.said before draft earlier rounds says.means in
+    let so_far : HasSame (length earlier.run) j k = λ n low. same n (omega (arith, low, few)) in
+    (before, (earlier, (Spells-more m j k lines before earlier so_far told, Says-more m j k line before draft earlier rounds so_far says)))

@@ -17,7 +17,7 @@ use Rattle.frame_script.specs.Script.{Fault, Draft, AtVersion, AtSeed, AtSsid, A
 use Rattle.frame_script.specs.Headers.{Reading, IsNetwork, IsDomain, IsHeaderStep, CanHappen, CanAskFor, IsAtAp, TakesStep, HasRead, sizes_by, sizes_named, sizes_of}
 use Rattle.frame_script.specs.declared.reader.Step.{Step as Asked}
 use Rattle.frame_script.specs.declared.reader.Step.TheVariants as step
-use Rattle.domain_cli.specs.States.{Waiting, IsHeader, Wait, IsAt, IsOwn, IsNone, IsWorldOf, CanBegin, CanAsk, CanEnd, CanDo, CanRun, Stays, Lists, DidAsk, HasBegun, DidEnd, Did, DidRun}
+use Rattle.domain_cli.specs.States.{Waiting, IsHeader, Wait, IsAt, IsOwn, IsNone, IsWorldOf, CanBegin, CanAsk, CanEnd, CanDo, CanRun, Stays, Lists, DidAsk, HasBegun, DidEnd, Did, DidRun, run_count}
 use Rattle.domain_cli.proofs.Goings.{same_network, same_round}
 use Rattle.domain_cli.proofs.Growing.{Grows, Grows-same, Grows-step, Grows-follows, Grows-started}
 use Rattle.domain_cli.proofs.Networks.{all_push, InForm-ap, InForm-sta}
@@ -118,6 +118,8 @@ begins old new rounds sizes says (step.Sta address) due takes = no_nodes old tak
 begins old new rounds sizes says (step.Event event) due takes = no_asking old sizes event due takes.1
 begins old new rounds sizes says step.Round due takes = no_nodes old takes.0 due takes.1.1.0
 begins old new rounds sizes says step.End due takes = no_round old takes.0 takes.1.0 due takes.1.1.1
+begins old new rounds sizes says step.Draw due takes = absurd takes
+begins old new rounds sizes says step.Turn due takes = absurd takes
 
 -- behind the header no line tells of a network
 no_network : (old new : Draft) (d : Domain) (w : State) (a : Waiting) (seen sizes line : List ℕ) (rounds : ℕ) (j : List Entry) → IsAt old w a seen j → line_says old rounds sizes line ≡ Ok (Goes new) → new ≡ AtNodes d → ((e : Domain) → old ≢ AtNodes e) → ⊥
@@ -138,21 +140,27 @@ can_end : (d : Domain) (count : ℕ) (w : State) (a : Waiting) (seen : List ℕ)
 can_end d count w None seen j at few = absurd at
 can_end d count w (Some events) seen j at few = record { each = at.each; few_events = omega (arith, at.count_is, at.few); few = few }
 
-goes_on : (w : State) (a : Waiting) (r : Reading) (new : Draft) (line : List ℕ) (j : List Entry) (asked : Asked) → IsOwn w a r j → r.rounds + 1 < 2 ^ 64 → TakesStep r.draft new r.rounds (sizes_of j) (line_says r.draft r.rounds (sizes_of j) line) asked → CanDo w a j asked
+-- where no round was asked for none was run
+pub none_run : (w : State) (a : Waiting) (r : Reading) (j : List Entry) → IsOwn w a r j → r.rounds ≡ 0 → w.rounds ≡ 0
+none_run w a r j own none = omega (arith, own.rounds, none)
+
+goes_on : (w : State) (a : Waiting) (r : Reading) (new : Draft) (line : List ℕ) (j : List Entry) (asked : Asked) → IsOwn w a r j → r.rounds ≤ 65536 → TakesStep r.draft new r.rounds (sizes_of j) (line_says r.draft r.rounds (sizes_of j) line) asked → CanDo w a j asked
 goes_on w a r new line j step.Nothing own few takes = tt
 goes_on w a r new line j step.Network own few takes = no_network r.draft new takes.0 w a r.sizes (sizes_of j) line r.rounds j own.at takes.1.0 takes.1.1.0 takes.1.1.1.1
 goes_on w a r new line j (step.Ap address id) own few (d, (said, (old, (can, (no_stas, first))))) =
     let same = (outside r.draft d w a r.sizes j own.at old).0 in
-    (sym own.rounds ∙ first, subst (λ (x : Domain). InForm (with_ap x address id)) same (InForm-ap d address id (subst InForm (sym same) own.own.form) can))
+    (none_run w a r j own first, subst (λ (x : Domain). InForm (with_ap x address id)) same (InForm-ap d address id (subst InForm (sym same) own.own.form) can))
 goes_on w a r new line j (step.Sta address) own few (d, (said, (old, (can, first)))) =
     let same = (outside r.draft d w a r.sizes j own.at old).0 in
-    (sym own.rounds ∙ first, subst (λ (x : Domain). InForm (with_sta x address)) same (InForm-sta d address (subst InForm (sym same) own.own.form) can))
+    (none_run w a r j own first, subst (λ (x : Domain). InForm (with_sta x address)) same (InForm-sta d address (subst InForm (sym same) own.own.form) can))
 goes_on w a r new line j (step.Event event) own few takes = can_ask r.draft w a r.sizes j event own.own own.at (omega (arith, own.rounds, few)) takes.1
 goes_on w a r new line j step.Round own few takes = tt
 goes_on w a r new line j step.End own few takes =
     can_end takes.0 takes.1.0 w a r.sizes j (within r.draft takes.0 takes.1.0 w a r.sizes j own.at takes.1.1.1) (omega (arith, own.rounds, few))
+goes_on w a r new line j step.Draw own few takes = absurd takes
+goes_on w a r new line j step.Turn own few takes = absurd takes
 
-pub can_run : (r s : Reading) (world : Option State) (a : Waiting) (line : List ℕ) (j : List Entry) (asked : Asked) → IsWorldOf world a r j → r.rounds + 1 < 2 ^ 64 → HasRead r s (sizes_of j) line asked → CanRun world a s.draft j asked
+pub can_run : (r s : Reading) (world : Option State) (a : Waiting) (line : List ℕ) (j : List Entry) (asked : Asked) → IsWorldOf world a r j → r.rounds ≤ 65536 → HasRead r s (sizes_of j) line asked → CanRun world a s.draft j asked
 can_run r s None a line j asked is few read = begins r.draft s.draft r.rounds (sizes_of j) _ asked is.due read.1.1.1.1
 can_run r s (Some w) a line j asked is few read = (is.own, goes_on w a r s.draft line j asked is few read.1.1.1.1)
 
@@ -169,19 +177,21 @@ grows_end w v None b rounds j k count did = absurd did
 grows_end w v (Some old) None rounds j k count did = Grows-follows w.domain rounds (suc w.rounds) (by_nodes old.items) j k did.goes (omega (arith, count))
 grows_end w v (Some old) (Some new) rounds j k count did = absurd did
 
-grows_own : (w v : State) (a b : Waiting) (r : Reading) (new : Draft) (j k : List Entry) (says : Result Said Fault) (asked : Asked) → IsOwn w a r j → TakesStep r.draft new r.rounds (sizes_of j) says asked → Did w v a b j k asked → Grows r.rounds j k
-grows_own w v a b r new j k says step.Nothing own takes did = Grows-same r.rounds j k did.0.1
+grows_own : (w v : State) (a b : Waiting) (r : Reading) (new : Draft) (j k : List Entry) (says : Result Said Fault) (asked : Asked) → IsOwn w a r j → TakesStep r.draft new r.rounds (sizes_of j) says asked → Did w v a b j k asked → Grows w.rounds j k
+grows_own w v a b r new j k says step.Nothing own takes did = Grows-same w.rounds j k did.0.1
 grows_own w v a b r new j k says step.Network own takes did = absurd did
 grows_own w v a b r new j k says (step.Ap address id) own takes did =
-    let before = own.first (sym own.rounds ∙ takes.1.1.1.1.1) in
-    Grows-started w.domain v.domain r.rounds address id j k did.0.network before (did.0.begins before)
-grows_own w v a b r new j k says (step.Sta address) own takes did = Grows-same r.rounds j k did.1.0
-grows_own w v a b r new j k says (step.Event event) own takes did = grows_ask w v a b event r.rounds j k own.rounds did
-grows_own w v a b r new j k says step.Round own takes did = Grows-same r.rounds j k did.0.1
-grows_own w v a b r new j k says step.End own takes did = grows_end w v a b r.rounds j k own.rounds did
+    let before = own.first (none_run w a r j own takes.1.1.1.1.1) in
+    Grows-started w.domain v.domain w.rounds address id j k did.0.network before (did.0.begins before)
+grows_own w v a b r new j k says (step.Sta address) own takes did = Grows-same w.rounds j k did.1.0
+grows_own w v a b r new j k says (step.Event event) own takes did = grows_ask w v a b event w.rounds j k refl did
+grows_own w v a b r new j k says step.Round own takes did = Grows-same w.rounds j k did.0.1
+grows_own w v a b r new j k says step.End own takes did = grows_end w v a b w.rounds j k refl did
+grows_own w v a b r new j k says step.Draw own takes did = absurd did
+grows_own w v a b r new j k says step.Turn own takes did = absurd did
 
-pub grows : (r s : Reading) (world v : Option State) (a b : Waiting) (j k : List Entry) (line : List ℕ) (asked : Asked) → IsWorldOf world a r j → HasRead r s (sizes_of j) line asked → DidRun world v a b s.draft j k asked → Grows r.rounds j k
-grows r s None v a b j k line asked is read did = Grows-same r.rounds j k did.1.0
+pub grows : (r s : Reading) (world v : Option State) (a b : Waiting) (j k : List Entry) (line : List ℕ) (asked : Asked) → IsWorldOf world a r j → HasRead r s (sizes_of j) line asked → DidRun world v a b s.draft j k asked → Grows (run_count world) j k
+grows r s None v a b j k line asked is read did = Grows-same 0 j k did.1.0
 grows r s (Some w) None a b j k line asked is read did = absurd did
 grows r s (Some w) (Some v) a b j k line asked is read did = grows_own w v a b r s.draft j k _ asked is read.1.1.1.1 did.1
 
@@ -230,7 +240,7 @@ begun r s (Some w) a b line j k step.Network is read sizes did =
     let none : w.domain.aps ≡ [] = ap (λ (x : Domain). x.aps) (sym same) ∙ network.no_aps in
     record {
       at = subst (λ (x : Draft). IsAt x w b s.sizes k) (sym did.0.network) (refl, did.1.1 ∙ is.no_events);
-      rounds = t.rounds_are ∙ is.no_rounds ∙ sym did.0.none;
+      rounds = omega (arith, did.0.none);
       own = subst (λ (x : List Entry). Owns w x) (sym (did.1.0 ∙ is.no_entries)) did.0.own;
       first = λ zero. did.1.0 ∙ is.no_entries ∙ sym (started_none w.domain) ∙ ap (λ (aps : List ListedAp). started w.domain (length aps)) (sym none);
     }
@@ -239,6 +249,8 @@ begun r s v a b line j k (step.Sta address) is read sizes did = absurd did.0
 begun r s v a b line j k (step.Event event) is read sizes did = absurd did.0
 begun r s v a b line j k step.Round is read sizes did = absurd did.0
 begun r s v a b line j k step.End is read sizes did = absurd did.0
+begun r s v a b line j k step.Draw is read sizes did = absurd did.0
+begun r s v a b line j k step.Turn is read sizes did = absurd did.0
 
 -- the world, its journal and what waits are as before
 unmoved : (w v : State) (a b : Waiting) (s : Reading) (j k : List Entry) → IsOwn w b s j → Stays w v j k → IsOwn v b s k
@@ -260,13 +272,13 @@ stays : (w v : State) (a b : Waiting) (r s : Reading) (j k : List Entry) → IsO
 stays w v a b r s j k own draft rounds sizes same waits =
     let again : IsAt s.draft w a s.sizes j = subst (λ (x : Draft). IsAt x w a s.sizes j) (sym draft) (at_again r.draft w a r.sizes s.sizes j own.at sizes) in
     unmoved w v a b s j k
-    (record { at = subst (λ (x : Waiting). IsAt s.draft w x s.sizes j) (sym waits) again; rounds = rounds ∙ own.rounds; own = own.own; first = own.first }) same
+    (record { at = subst (λ (x : Waiting). IsAt s.draft w x s.sizes j) (sym waits) again; rounds = omega (arith, rounds, own.rounds); own = own.own; first = own.first }) same
 
 -- a line that lists a node
 listed : (w v : State) (a b : Waiting) (r s : Reading) (d : Domain) (j k : List Entry) → IsOwn w a r j → a ≡ None → s.draft ≡ AtNodes d → s.rounds ≡ r.rounds → Owns v k → Lists w v d j k → b ≡ a → IsOwn v b s k
 listed w v a b r s d j k own none draft rounds new lists waits = record {
   at = subst (λ (x : Draft). IsAt x v b s.sizes k) (sym draft) (sym lists.network, waits ∙ none);
-  rounds = rounds ∙ own.rounds ∙ sym lists.rounds;
+  rounds = omega (arith, rounds, own.rounds, lists.rounds);
   own = new;
   first = λ zero. lists.begins (own.first (sym lists.rounds ∙ zero));
 }
@@ -313,20 +325,23 @@ asked_for (AtSsid seed) w v a b r s event j k at own can after rounds sizes new 
 asked_for (AtPsk seed ssid) w v a b r s event j k at own can after rounds sizes new did = absurd at
 asked_for (AtAkm seed ssid psk) w v a b r s event j k at own can after rounds sizes new did = absurd at
 asked_for (AtMdid seed ssid psk) w v a b r s event j k at own can after rounds sizes new did = absurd at
-asked_for (AtNodes d) w v None None r s event j k at own can after rounds sizes new did = record {
-  at = subst (λ (x : Draft). IsAt x v None s.sizes k) (sym after) (at.0 ∙ sym did.network, refl);
-  rounds = rounds ∙ ap suc own.rounds ∙ sym did.rounds;
-  own = new;
-  first = λ zero. absurd (omega (arith, zero, did.rounds));
-}
+asked_for (AtNodes d) w v None None r s event j k at own can after rounds sizes new did =
+    let next : s.rounds ≡ suc r.rounds = rounds in
+    record {
+      at = subst (λ (x : Draft). IsAt x v None s.sizes k) (sym after) (at.0 ∙ sym did.network, refl);
+      rounds = omega (arith, next, own.rounds, did.rounds);
+      own = new;
+      first = λ zero. absurd (omega (arith, zero, did.rounds));
+    }
 asked_for (AtNodes d) w v None (Some more) r s event j k at own can after rounds sizes new did = absurd did
 asked_for (AtNodes d) w v (Some events) b r s event j k at own can after rounds sizes new did = let some : Some events ≡ None = at.1 in absurd cc
 asked_for (InRound d count) w v None b r s event j k at own can after rounds sizes new did = absurd at
 asked_for (InRound d count) w v (Some events) None r s event j k at own can after rounds sizes new did = absurd did
 asked_for (InRound d count) w v (Some events) (Some more) r s event j k at own can after rounds sizes new did =
+    let same : s.rounds ≡ r.rounds = rounds in
     unmoved w v (Some events) (Some more) s j k (record {
       at = subst (λ (x : Draft). IsAt x w (Some more) s.sizes j) (sym after) (one_waits w d count events.items more.items event r.sizes s.sizes j own.own at can did.1 sizes);
-      rounds = rounds ∙ own.rounds;
+      rounds = omega (arith, same, own.rounds);
       own = own.own;
       first = own.first;
     }) did.0
@@ -343,7 +358,7 @@ round_begun w v a (Some events) r s d j k own network draft rounds sizes same ne
       same = sizes;
     } in
     unmoved w v a (Some events) s j k
-    (record { at = subst (λ (x : Draft). IsAt x w (Some events) s.sizes j) (sym draft) wait; rounds = rounds ∙ own.rounds; own = own.own; first = own.first }) same
+    (record { at = subst (λ (x : Draft). IsAt x w (Some events) s.sizes j) (sym draft) wait; rounds = omega (arith, rounds, own.rounds); own = own.own; first = own.first }) same
 
 -- and one that ends it
 round_ended : (w v : State) (a b : Waiting) (r s : Reading) (d : Domain) (count : ℕ) (j k : List Entry) → IsOwn w a r j → IsAt (InRound d count) w a r.sizes j → s.draft ≡ AtNodes d → s.rounds ≡ suc r.rounds → Owns v k → DidEnd w v a b j k → IsOwn v b s k
@@ -351,7 +366,7 @@ round_ended w v None b r s d count j k own at draft rounds new did = absurd did
 round_ended w v (Some events) (Some more) r s d count j k own at draft rounds new did = absurd did
 round_ended w v (Some events) None r s d count j k own at draft rounds new did = record {
   at = subst (λ (x : Draft). IsAt x v None s.sizes k) (sym draft) (at.network ∙ sym did.network, refl);
-  rounds = rounds ∙ ap suc own.rounds ∙ sym did.rounds;
+  rounds = omega (arith, rounds, own.rounds, did.rounds);
   own = new;
   first = λ zero. absurd (omega (arith, zero, did.rounds));
 }
@@ -362,6 +377,8 @@ owned w v a b r s line j k step.Nothing own read sizes new did =
     let t = taken r s j line step.Nothing (Goes s.draft) read sizes says in
     stays w v a b r s j k own (same_draft r.draft s.draft w a r.sizes (sizes_of j) line r.rounds j own.at says) t.rounds_are sizes did.0 did.1
 owned w v a b r s line j k step.Network own read sizes new did = absurd did
+owned w v a b r s line j k step.Draw own read sizes new did = absurd did
+owned w v a b r s line j k step.Turn own read sizes new did = absurd did
 owned w v a b r s line j k (step.Ap address id) own read sizes new did =
     let (d, (says, (old, more))) = read.1.1.1.1 in
     let t = taken r s j line (step.Ap address id) (ListsAp address id) read sizes says in

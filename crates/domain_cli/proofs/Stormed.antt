@@ -4,7 +4,7 @@ use Rattle.run_journal.specs.declared.acts.Entry.{Entry}
 use Rattle.run_journal.specs.Premises.{Fresh, NoCollision, Unforged}
 use Rattle.run_journal.specs.Safe.{Safe}
 use Rattle.domain_cli.specs.declared.status.Status.{Status}
-use Rattle.domain_cli.specs.declared.status.Status.TheVariants.{Done, Usage, Script, Limit, ReadFault, WriteFault, NoMemory}
+use Rattle.domain_cli.specs.declared.status.Status.TheVariants.{Done, Usage, Script, Limit, ReadFault, WriteFault, NoMemory, LinkFault, DrawFault}
 use Rattle.domain_cli.specs.Storms.{StormReports}
 use Rattle.domain_cli.proofs.Safety.{Laws, run_safely}
 
@@ -16,3 +16,5 @@ storm_safe laws number Usage j old new r = absurd r
 storm_safe laws number ReadFault j old new r = absurd r
 storm_safe laws number (Script line reason form) j old new r = absurd r
 storm_safe laws number (Limit which) j old new r = absurd r
+storm_safe laws number LinkFault j old new r = absurd r
+storm_safe laws number DrawFault j old new r = absurd r

@@ -1,10 +1,10 @@
 -- A storm under way, beside its world and the journal.
 use Rattle.std.specs.Prelude.{◌≡◌, ◌≢◌, ℕ, ◌≤◌, List, length}
 use Rattle.run_journal.specs.declared.acts.Entry.{Entry}
+use Rattle.domain_rules.specs.HeldRight.{AnsweredInTime}
 use Rattle.domain_rules.specs.Network.{InForm}
 use Rattle.domain_rules.specs.Explained.{Explained, started}
 use Rattle.domain_rules.specs.InOctets.{InOctets}
-use Rattle.held_rows.specs.Looks.{AreRight}
 use Rattle.domain_world.specs.State.{State}
 use Rattle.domain_world.specs.Owning.{Owns}
 use Rattle.storm.specs.Header.{begun}
@@ -26,12 +26,12 @@ pub record IsUnderWay (s : Course) (w : State) (j : List Entry) : Type 0 where
   pub state_is : s.state ≡ (events_from j w.rounds (begun s.number)).1
   pub explained : Explained (network s.number 4 8) (rounds_of (storm s.number j w.rounds)) j
 
--- so much of the storm was run, and looks were answered rightly as the journal stood
+-- so much of the storm was run, and each look was answered rightly at some moment of its round
 pub record IsSoFar (number aps stas events : ℕ) (j : List Entry) : Type 0 where
   pub form : InForm (network number aps stas)
   pub octets : InOctets (network number aps stas)
   pub explained : Explained (network number aps stas) (rounds_of (storm number j events)) j
-  pub right : AreRight (network number aps stas) j
+  pub right : AnsweredInTime (network number aps stas) j
 
 -- a front of it
 pub record IsFrontSoFar (number : ℕ) (j : List Entry) : Type 0 where

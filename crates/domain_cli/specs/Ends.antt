@@ -4,7 +4,7 @@ use Rattle.domain_base.specs.declared.outside.NoMemory.{NoMemory as WantOfMemory
 use Rattle.frame_script.specs.declared.refusal.Refusal.{Refusal}
 use Rattle.frame_script.specs.Refusals.{limit_of, reason_of, refusal_text}
 use Rattle.domain_cli.specs.declared.status.Status.{Status}
-use Rattle.domain_cli.specs.declared.status.Status.TheVariants.{Done, Usage, Script, Limit, ReadFault, WriteFault, NoMemory}
+use Rattle.domain_cli.specs.declared.status.Status.TheVariants.{Done, Usage, Script, Limit, ReadFault, WriteFault, NoMemory, LinkFault, DrawFault}
 
 -- done, a fault of the script, a limit that it passes, or want of memory
 abbrev pub IsAnswered : Status → Type 0
@@ -22,6 +22,8 @@ exit_number (Script number reason form) = 2
 exit_number ReadFault = 3
 exit_number WriteFault = 4
 exit_number NoMemory = 5
+exit_number LinkFault = 6
+exit_number DrawFault = 7
 exit_number (Limit which) = 8
 
 -- where memory may run out before anything is run

@@ -1,7 +1,11 @@
 pub mod Script
 pub mod Story
+pub mod Outer
+pub mod Lives
 pub mod States
 pub mod Stops
+pub mod Turning
+pub mod Ran
 pub mod Feeders
 pub mod Ends
 pub mod Storms

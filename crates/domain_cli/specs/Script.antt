@@ -1,30 +1,40 @@
--- Which rounds the octets of a script spell. Lists of lines and of rounds are NEWEST FIRST.
-use Rattle.std.specs.Prelude.{◌≡◌, ◌≢◌, ◌⊎◌, ℕ, ◌<◌, ◌≤◌, ◌-◌, ◌==◌, ◌&&◌, nat_lt, nat_le, cond, if◌then◌else◌, Bool, true, List, [], ◌∷◌, ◌++◌, length, take, map, slice_index, Ok, Err}
+-- Which rounds the octets of a script spell. Lists of lines, of rounds and of turns are NEWEST FIRST.
+use Rattle.std.specs.Prelude.{◌≡◌, ◌≢◌, ◌⊎◌, ℕ, suc, ◌<◌, ◌≤◌, ◌-◌, ◌==◌, ◌&&◌, nat_lt, nat_le, cond, if◌then◌else◌, Bool, true, List, [], ◌∷◌, ◌++◌, length, take, map, slice_index, Option, None, Some, Result, Ok, Err}
 use Rattle.std.proofs.Common.{inl, inr}
 use Rattle.std.specs.List.{AllByRecursion}
 use Rattle.run_journal.specs.declared.domain.Domain.{Domain}
 use Rattle.run_journal.specs.declared.domain.Event.{Event}
+use Rattle.run_journal.specs.declared.domain.Event.TheVariants.{Inject}
 use Rattle.run_journal.specs.declared.acts.Entry.{Entry}
 use Rattle.domain_rules.specs.Network.{InForm}
 use Rattle.domain_rules.specs.Explained.{Explained}
 use Rattle.domain_rules.specs.HeldRight.{HeldRight}
 use Rattle.domain_rules.specs.InOctets.{InOctets}
-use Rattle.frame_script.specs.Script.{Fault, Past, Draft, AtVersion, AtNodes, InRound, Said, Asks, EndsRound, is_within, line_says, said_after}
+use Rattle.domain_links.specs.NodeOrder.{count}
+use Rattle.domain_links.specs.Turns.{Delivery, in_order}
+use Rattle.frame_script.specs.Script.{Fault, Past, Draft, AtVersion, AtSsid, AtNodes, InRound, Said, Asks, EndsRound, is_within, line_says, said_after}
+use Rattle.frame_script.specs.Live.{Heard, Plain, Draws, Turns, live_says, plain}
 use Rattle.frame_script.specs.Headers.{size_sent}
 use Rattle.frame_script.specs.declared.forms.Form.{Form}
-use Rattle.frame_script.specs.Forms.{form_of}
+use Rattle.frame_script.specs.declared.reader.Mode.{Mode}
+use Rattle.frame_script.specs.declared.reader.Mode.TheVariants.{Replay, Live}
+use Rattle.frame_script.specs.Forms.{form_in}
 
 -- what the lines so far have told: what the script has said, from the end of its header on the network with the nodes listed
 -- so far, together with the rounds asked for so far
 
--- the rounds that are to be run, and the events of the round that is open, which are not run before its end. The events of a
--- round are as their lines stand, the first first
+-- the rounds that are to be run, and the events of the round that is open, which are not run before its end; how many lines
+-- asked for rounds; and what came from outside by these lines: the seed that was drawn, where one was, and of each turn what
+-- nodes took of their links. The events of a round are as their lines stand, the first first, and so are those of a turn
 pub record Rounds : Type 0 where
   pub run : List (List Event)
   pub waiting : List Event
+  pub asked : ℕ
+  pub drawn : Option (List ℕ)
+  pub turns : List (List Delivery)
 
 abbrev pub no_rounds : Rounds
-no_rounds = record { run = []; waiting = [] }
+no_rounds = record { run = []; waiting = []; asked = 0; drawn = None; turns = [] }
 
 -- the journal of these rounds: the network is in form and of octets, the definitions explain the journal, and key holders
 -- answered rightly
@@ -48,10 +58,10 @@ sizes_before rounds (e ∷ past) = cond (nat_le e.round rounds) (sizes_before ro
 -- the rounds with what a line asks for: an event is a round by itself, but in a round it waits; what waits is one round, run
 -- at its end, whatever events it has
 abbrev pub with_round : Rounds → List Event → Rounds
-with_round rounds events = record { run = events ∷ rounds.run; waiting = rounds.waiting }
+with_round rounds events = record rounds { run = events ∷ rounds.run; asked = suc rounds.asked }
 
 abbrev pub with_waiting : Rounds → List Event → Rounds
-with_waiting rounds events = record { run = rounds.run; waiting = events }
+with_waiting rounds events = record rounds { waiting = events }
 
 abbrev pub rounds_with : Draft → Rounds → Said → Rounds
 rounds_with draft rounds (Asks event) =
@@ -59,23 +69,70 @@ rounds_with draft rounds (Asks event) =
 rounds_with draft rounds EndsRound = with_waiting (with_round rounds rounds.waiting) []
 rounds_with draft rounds said = rounds
 
+-- ---- what comes from outside, in a live run
+
+-- what nodes take of their links in a turn: in node order, and up to 16 frames each
+pub record IsTurn (d : Domain) (given : List Delivery) : Type 0 where
+  pub heard : ℕ → List (List ℕ)
+  pub few : (i : ℕ) → length (heard i) ≤ 16
+  pub order : given ≡ in_order d heard (count d)
+
+-- each delivery is a round by itself, behind those before it
+unfoldable pub with_deliveries : List Delivery → List (List Event) → List (List Event)
+with_deliveries [] run = run
+with_deliveries (first ∷ given) run = with_deliveries given ((Inject first.node first.octets ∷ []) ∷ run)
+
+-- the rounds with a turn that gave these. Its line counts once, whatever came in it
+abbrev pub with_turn : Rounds → List Delivery → Rounds
+with_turn rounds given =
+    record rounds { run = with_deliveries given rounds.run; asked = suc rounds.asked; turns = given ∷ rounds.turns }
+
+-- and with a seed that was drawn
+abbrev pub with_seed : Rounds → List ℕ → Rounds
+with_seed rounds seed = record rounds { drawn = Some seed }
+
+-- a turn stands outside rounds
+abbrev pub IsTurnAt : Draft → List Delivery → Type 0
+IsTurnAt (AtNodes d) given = IsTurn d given
+IsTurnAt draft given = ⊥
+
+-- ---- what a line tells
+
+-- what it says, by the kind of the run
+abbrev pub says_in : Mode → Draft → ℕ → List ℕ → List ℕ → Result Heard Fault
+says_in Replay draft asked sizes line = plain (line_says draft asked sizes line)
+says_in Live draft asked sizes line = live_says draft asked sizes line
+
+-- what a line tells that says this, after what the lines before it told: `seed draw` tells the seed that was drawn, which is
+-- some one, and `turn` what nodes took, which is some of the lists that a turn can give
+abbrev pub Means : Heard → Draft → Rounds → Draft → Rounds → Type 0
+Means (Plain said) before earlier draft rounds = (draft ≡ said_after before said) × (rounds ≡ rounds_with before earlier said)
+Means Draws before earlier draft rounds = (seed : List ℕ) × ((draft ≡ AtSsid seed) × (rounds ≡ with_seed earlier seed))
+Means Turns before earlier draft rounds =
+    (given : List Delivery) × (IsTurnAt before given × ((draft ≡ before) × (rounds ≡ with_turn earlier given)))
+
 -- what one more line tells after what the lines before it told: the frames that it may name are those that j has sent in the
 -- rounds before it, and before the round that is open, whatever j says of later ones
-pub record Says (j : List Entry) (line : List ℕ) (before : Draft) (earlier : Rounds) (draft : Draft) (rounds : Rounds) : Type 0 where
-  pub said : Said
-  pub says : line_says before (length earlier.run) (sizes_before (length earlier.run) j) line ≡ Ok said
-  pub draft_is : draft ≡ said_after before said
-  pub rounds_are : rounds ≡ rounds_with before earlier said
+pub record Says (m : Mode) (j : List Entry) (line : List ℕ) (before : Draft) (earlier : Rounds) (draft : Draft) (rounds : Rounds) : Type 0 where
+  pub said : Heard
+  pub says : says_in m before earlier.asked (sizes_before (length earlier.run) j) line ≡ Ok said
+  pub means : Means said before earlier draft rounds
+
+-- what came from outside by the lines so far is of that seed, and the first of these turns
+pub record IsOf (seed : Option (List ℕ)) (turns : List (List Delivery)) (rounds : Rounds) : Type 0 where
+  pub drawn : (rounds.drawn ≡ None) ⊎ (rounds.drawn ≡ seed)
+  pub later : List (List Delivery)
+  pub first : later ++ rounds.turns ≡ turns
 
 -- the line is refused there, for that fault
-pub record Refuses (j : List Entry) (line : List ℕ) (draft : Draft) (rounds : Rounds) (fault : Fault) : Type 0 where
-  pub says : line_says draft (length rounds.run) (sizes_before (length rounds.run) j) line ≡ Err fault
+pub record Refuses (m : Mode) (j : List Entry) (line : List ℕ) (draft : Draft) (rounds : Rounds) (fault : Fault) : Type 0 where
+  pub says : says_in m draft rounds.asked (sizes_before (length rounds.run) j) line ≡ Err fault
 
 -- the lines, the last first, tell this: one journal judges them all
-unfoldable pub Spells : List Entry → List (List ℕ) → Draft → Rounds → Type 0
-Spells j [] draft rounds = (draft ≡ AtVersion) × (rounds ≡ no_rounds)
-Spells j (line ∷ lines) draft rounds =
-    (before : Draft) × ((earlier : Rounds) × (Spells j lines before earlier × Says j line before earlier draft rounds))
+unfoldable pub Spells : Mode → List Entry → List (List ℕ) → Draft → Rounds → Type 0
+Spells m j [] draft rounds = (draft ≡ AtVersion) × (rounds ≡ no_rounds)
+Spells m j (line ∷ lines) draft rounds =
+    (before : Draft) × ((earlier : Rounds) × (Spells m j lines before earlier × Says m j line before earlier draft rounds))
 
 -- ---- lines in octets
 
@@ -140,14 +197,15 @@ pub record IsOpen (octets : List ℕ) (said : List (List ℕ)) : Type 0 where
 abbrev pub IsScript : List ℕ → List (List ℕ) → Type 0
 IsScript octets said = IsClosed octets said ⊎ IsOpen octets said
 
--- where a line stands: the journal that judges it, and what the lines before it told
+-- where a line stands: the kind of the run, the journal that judges it, and what the lines before it told
 pub record Point : Type 0 where
+  pub mode : Mode
   pub journal : List Entry
   pub draft : Draft
   pub rounds : Rounds
 
-abbrev pub point_of : List Entry → Draft → Rounds → Point
-point_of j draft rounds = record { journal = j; draft = draft; rounds = rounds }
+abbrev pub point_of : Mode → List Entry → Draft → Rounds → Point
+point_of m j draft rounds = record { mode = m; journal = j; draft = draft; rounds = rounds }
 
 -- the line behind the good ones is at its end, and says this: before a line feed, or at the end of the source, where an empty
 -- one is a line only if it is the first
@@ -161,13 +219,13 @@ pub record IsWrong (ended : Bool) (good : List (List ℕ)) (line after : List �
   pub text : List ℕ
   pub ends : Ends ended good line after text
   pub short : length line ≤ most_octets
-  pub why : ((fault ≡ too_many) × (most_lines ≤ length good)) ⊎ ((length good < most_lines) × Refuses p.journal text p.draft p.rounds fault)
+  pub why : ((fault ≡ too_many) × (most_lines ≤ length good)) ⊎ ((length good < most_lines) × Refuses p.mode p.journal text p.draft p.rounds fault)
 
 -- the form that it should have had, by its words; with octets behind the limit it is not at its end
 abbrev pub HasForm : {A : Type 0} {ended : Bool} {good : List (List ℕ)} {line after : List ℕ} {p : Point} {fault : Fault}
-    → Form → Draft → Rounds → A ⊎ IsWrong ended good line after p fault → Type 0
-HasForm form draft rounds (inl long) = Unit {0}
-HasForm form draft rounds (inr w) = form ≡ form_of draft (length rounds.run) w.text
+    → Form → A ⊎ IsWrong ended good line after p fault → Type 0
+HasForm form (inl long) = Unit {0}
+HasForm {A} {ended} {good} {line} {after} {p} {fault} form (inr w) = form ≡ form_in p.mode p.draft p.rounds.asked w.text
 
 -- the line behind the good ones, which stands there, is the first that is wrong
 pub record HasFault (octets : List ℕ) (ended : Bool) (good : List (List ℕ)) (p : Point) (fault : Fault) : Type 0 where

@@ -1,5 +1,5 @@
 -- What the state of a script stands for, and what a line does to it.
-use Rattle.std.specs.Prelude.{◌≡◌, ℕ, suc, ◌+◌, ◌^◌, ◌<◌, ◌≤◌, ◌++◌, List, [], ◌∷◌, length, Option, None, Some}
+use Rattle.std.specs.Prelude.{◌≡◌, ℕ, suc, ◌+◌, ◌*◌, ◌^◌, ◌<◌, ◌≤◌, ◌++◌, List, [], ◌∷◌, length, Option, None, Some, Ok}
 use Rattle.std.specs.Global.{Global}
 use Rattle.std.specs.declared.vec.Vec.{Vec}
 use Rattle.run_journal.specs.declared.domain.Domain.{Domain}
@@ -11,15 +11,20 @@ use Rattle.domain_rules.specs.Rounds.{by_nodes}
 use Rattle.run_journal.specs.Listing.{with_ap, with_sta}
 use Rattle.domain_world.specs.State.{State}
 use Rattle.domain_world.specs.Owning.{Owns, IsEventIn, AreEventsIn}
+use Rattle.domain_base.specs.Told.{LinkStory}
 use Rattle.frame_script.specs.Script.{Draft, AtNodes, InRound}
+use Rattle.frame_script.specs.Live.{Draws}
 use Rattle.frame_script.specs.Headers.{Reading, HasSeen, IsNetwork, sizes_of}
+use Rattle.frame_script.specs.declared.reader.Mode.{Mode}
+use Rattle.frame_script.specs.declared.reader.Mode.TheVariants.{Live}
 use Rattle.frame_script.specs.declared.reader.Step.{Step as Asked}
 use Rattle.frame_script.specs.declared.reader.Step.TheVariants as step
-use Rattle.frame_script.specs.declared.refusal.Untaken.{Untaken}
-use Rattle.frame_script.specs.declared.refusal.Untaken.TheVariants.{Refused, NoMemory}
 use Rattle.frame_script.specs.Refusals.{fault_of}
 use Rattle.domain_cli.specs.declared.state.ScriptState.{ScriptState}
-use Rattle.domain_cli.specs.Script.{Rounds, IsJournal, sizes_before, Says, Refuses}
+use Rattle.domain_cli.specs.declared.status.Undone.{Undone}
+use Rattle.domain_cli.specs.declared.status.Undone.TheVariants.{Refused, NoMemory, DrawFault, Broken}
+use Rattle.domain_cli.specs.Script.{Rounds, IsJournal, sizes_before, Says, Refuses, says_in}
+use Rattle.domain_cli.specs.Outer.{Outer, IsMet, IsMetPart, links_due}
 
 -- ---- a state
 
@@ -51,10 +56,14 @@ IsAt (AtNodes d) w waiting sizes j = (d ≡ w.domain) × (waiting ≡ None)
 IsAt (InRound d count) w (Some events) sizes j = Wait w d count events.items sizes j
 IsAt draft w waiting sizes j = ⊥
 
+-- a line asks for so many rounds at most: in a turn each of at most 80 nodes takes at most 16 frames
+abbrev pub most_rounds : ℕ
+most_rounds = 1280
+
 -- the world is that of the lines so far, and the journal is its own; before any event nodes have started
 pub record IsOwn (w : State) (waiting : Waiting) (r : Reading) (j : List Entry) : Type 0 where
   pub at : IsAt r.draft w waiting r.sizes j
-  pub rounds : r.rounds ≡ w.rounds
+  pub rounds : w.rounds ≤ most_rounds * r.rounds
   pub own : Owns w j
   pub first : w.rounds ≡ 0 → j ≡ started w.domain (length w.domain.aps)
 
@@ -69,8 +78,15 @@ abbrev pub IsWorldOf : Option State → Waiting → Reading → List Entry → T
 IsWorldOf None waiting r j = IsNone waiting r j
 IsWorldOf (Some w) waiting r j = IsOwn w waiting r j
 
--- one more line can come after so many
-pub record IsReady (s : ScriptState) (lines : ℕ) (j : List Entry) : Type 0 where
+-- how many rounds were run in it
+abbrev pub run_count : Option State → ℕ
+run_count None = 0
+run_count (Some w) = w.rounds
+
+-- one more line can come after so many, where there are so many links
+pub record IsReady (s : ScriptState) (links lines : ℕ) (j : List Entry) : Type 0 where
+  pub mode_is : s.mode ≡ s.reader.mode
+  pub links_are : links ≡ links_due s.reader.mode s.world
   pub seen : HasSeen s.reader j
   pub few : s.reader.rounds ≤ lines
   pub world_is : IsWorldOf s.world s.waiting s.reader j
@@ -78,8 +94,10 @@ pub record IsReady (s : ScriptState) (lines : ℕ) (j : List Entry) : Type 0 whe
 -- the state stands for what the lines so far told, and the journal is theirs
 pub record Stands (s : ScriptState) (draft : Draft) (rounds : Rounds) (j : List Entry) : Type 0 where
   pub draft_is : s.reader.draft ≡ draft
-  pub rounds_are : s.reader.rounds ≡ length rounds.run
+  pub rounds_are : s.reader.rounds ≡ rounds.asked
+  pub run_is : run_count s.world ≡ length rounds.run
   pub events_are : events_of s.waiting ≡ rounds.waiting
+  pub few_turns : length rounds.turns ≤ rounds.asked
   pub journal : IsJournal draft rounds.run j
 
 -- ---- what a step does
@@ -126,6 +144,13 @@ CanDo w waiting j (step.Event event) = CanAsk w waiting j event
 CanDo w waiting j step.Round = Unit {0}
 CanDo w waiting j step.End = CanEnd w waiting j
 CanDo w waiting j step.Network = ⊥
+CanDo w waiting j step.Draw = ⊥
+CanDo w waiting j step.Turn = ⊥
+
+-- an access point is listed where nodes have started, and nothing else was journaled
+abbrev pub CanList : Option State → List Entry → Asked → Type 0
+CanList (Some w) j (step.Ap address r0kh_id) = j ≡ started w.domain (length w.domain.aps)
+CanList world j asked = Unit {0}
 
 -- the world and the journal stay
 abbrev pub Stays : State → State → List Entry → List Entry → Type 0
@@ -173,6 +198,8 @@ Did w v old new j k (step.Event event) = DidAsk w v old new event j k
 Did w v old new j k step.Round = Stays w v j k × HasBegun new
 Did w v old new j k step.End = DidEnd w v old new j k
 Did w v old new j k step.Network = ⊥
+Did w v old new j k step.Draw = ⊥
+Did w v old new j k step.Turn = ⊥
 
 -- either way
 abbrev pub CanRun : Option State → Waiting → Draft → List Entry → Asked → Type 0
@@ -190,16 +217,37 @@ DidRun (Some w) (Some v) old new draft j k asked = Owns v k × Did w v old new j
 abbrev pub HasSame : ℕ → List Entry → List Entry → Type 0
 HasSame rounds j k = (m : ℕ) → m ≤ rounds → sizes_before m k ≡ sizes_before m j
 
--- it is taken after what the lines before it told
-pub record TellsLine (line : List ℕ) (before : Draft) (earlier : Rounds) (s : ScriptState) (j k : List Entry) : Type 0 where
+-- it is taken after what the lines before it told, and done
+pub record TellsLine {L : Type 0} (told : L → Option LinkStory) (first o : Outer L) (line : List ℕ) (before : Draft) (earlier : Rounds) (s : ScriptState) (j k : List Entry) : Type 0 where
   pub draft : Draft
   pub rounds : Rounds
   pub same : HasSame (length earlier.run) j k
-  pub says : Says k line before earlier draft rounds
+  pub says : Says s.reader.mode k line before earlier draft rounds
   pub stands : Stands s draft rounds k
+  pub met : IsMet told first o s.reader.mode draft rounds k
 
--- or refused there, and then nothing is told by it
-abbrev pub RefusesLine : Untaken → ScriptState → List Entry → List ℕ → Draft → Rounds → Type 0
-RefusesLine (Refused refusal) s j line draft rounds =
-    Refuses j line draft rounds (fault_of refusal) × ((s.reader.draft ≡ draft) × (s.reader.rounds ≡ length rounds.run))
-RefusesLine NoMemory s j line draft rounds = Unit {0}
+-- a line was done, in part or before a call failed or wanted memory: what it told, and how the outside was met
+pub record BreaksLine {L : Type 0} (told : L → Option LinkStory) (first o : Outer L) (m : Mode) (line : List ℕ) (before : Draft) (earlier : Rounds) (j k : List Entry) : Type 0 where
+  pub draft : Draft
+  pub rounds : Rounds
+  pub live : m ≡ Live
+  pub same : HasSame (length earlier.run) j k
+  pub says : Says m k line before earlier draft rounds
+  pub journal : IsJournal draft rounds.run k
+  pub met : IsMetPart told first o draft rounds k
+
+-- the seed could not be drawn, and all is as it was
+pub record FailsToDraw (m : Mode) (line : List ℕ) (draft : Draft) (rounds : Rounds) (j k : List Entry) : Type 0 where
+  pub live : m ≡ Live
+  pub asks : says_in m draft rounds.asked (sizes_before (length rounds.run) j) line ≡ Ok Draws
+  pub none : j ≡ []
+  pub kept : k ≡ j
+
+-- or refused there, and then nothing is told by it; or it is not done, or in part alone. The journal, and the outside, are as they
+-- were but where it was done in part
+abbrev pub LeavesLine : {L : Type 0} → Undone → (L → Option LinkStory) → Outer L → Outer L → Outer L → ScriptState → List ℕ → Draft → Rounds → List Entry → List Entry → Type 0
+LeavesLine (Refused refusal) told first old new s line draft rounds j k =
+    Refuses s.reader.mode j line draft rounds (fault_of refusal) × ((s.reader.draft ≡ draft) × ((s.reader.rounds ≡ rounds.asked) × ((k ≡ j) × (new ≡ old))))
+LeavesLine NoMemory told first old new s line draft rounds j k = (k ≡ j) × (new ≡ old)
+LeavesLine DrawFault told first old new s line draft rounds j k = FailsToDraw s.reader.mode line draft rounds j k × (new ≡ old)
+LeavesLine (Broken error) told first old new s line draft rounds j k = BreaksLine told first new s.reader.mode line draft rounds j k

@@ -10,7 +10,7 @@ use Rattle.run_journal.specs.Report.{Decides, summary}
 use Rattle.storm.specs.Header.{domain_of, aps_to, stas_to}
 use Rattle.storm.specs.Course.{storm}
 use Rattle.domain_cli.specs.declared.status.Status.{Status}
-use Rattle.domain_cli.specs.declared.status.Status.TheVariants.{Done, Usage, Script, Limit, ReadFault, WriteFault, NoMemory}
+use Rattle.domain_cli.specs.declared.status.Status.TheVariants.{Done, Usage, Script, Limit, ReadFault, WriteFault, NoMemory, LinkFault, DrawFault}
 use Rattle.domain_cli.specs.Script.{IsRun}
 
 -- the network of the storm of that number with its first so many access points and stations
@@ -67,6 +67,8 @@ StormReports number Usage j old new = ⊥
 StormReports number ReadFault j old new = ⊥
 StormReports number (Script line reason form) j old new = ⊥
 StormReports number (Limit which) j old new = ⊥
+StormReports number LinkFault j old new = ⊥
+StormReports number DrawFault j old new = ⊥
 
 -- a storm that was asked for: the source is not read
 pub record Storms (number : ℕ) (left_old left_new out_old out_new : Option (List ℕ)) (status : Status) (j : List Entry) : Type 0 where

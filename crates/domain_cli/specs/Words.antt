@@ -1,5 +1,5 @@
 -- What the words of the command line ask the program for.
-use Rattle.std.specs.Prelude.{◌≡◌, ◌⊎◌, ℕ, List, None, Some}
+use Rattle.std.specs.Prelude.{◌≡◌, ℕ, List, None, Some}
 use Rattle.command_words.specs.declared.Command.TheVariants.{Live, Replay, Storm}
 use Rattle.command_words.specs.Words.{command_of}
 
@@ -7,10 +7,14 @@ use Rattle.command_words.specs.Words.{command_of}
 abbrev pub AskReplay : List (List ℕ) → Type 0
 AskReplay words = command_of words ≡ Some Replay
 
+-- a live run, with that first port
+abbrev pub AskLive : List (List ℕ) → ℕ → Type 0
+AskLive words port = command_of words ≡ Some (Live port)
+
 -- the storm of that number
 abbrev pub AskStorm : List (List ℕ) → ℕ → Type 0
 AskStorm words number = command_of words ≡ Some (Storm number)
 
--- neither: they are no command, or one that is not run here
+-- they are no command
 abbrev pub AskNothing : List (List ℕ) → Type 0
-AskNothing words = (command_of words ≡ None) ⊎ ((port : ℕ) × (command_of words ≡ Some (Live port)))
+AskNothing words = command_of words ≡ None

@@ -2,19 +2,23 @@
 
 ghost use Rattle.std.specs.Prelude.{◌≡◌, ◌≢◌, ◌≤◌, ◌+◌, ◌<◌, ◌++◌, ◌∷◌, [], suc, ℕ, List, MatchResult, OnOk, OnErr, vec_len, vec_capacity, length, IfOk, true};
 ghost use Rattle.run_journal.specs.declared.acts.Entry.{Entry as AnyEntry};
-ghost use Rattle.frame_script.specs.Forms.{form_of};
-ghost use Rattle.frame_script.specs.Script.{Draft};
-ghost use Rattle.domain_cli.specs.Script.{Rounds, without_return};
+ghost use Rattle.frame_script.specs.Forms.{form_in};
+ghost use Rattle.frame_script.specs.Script.{Draft, AtVersion};
+ghost use Rattle.domain_cli.specs.Outer.{Outer, IsBlamed, IsMet, Nobody, outer};
+ghost use Rattle.domain_cli.specs.Script.{Rounds, no_rounds, point_of, without_return};
 ghost use Rattle.domain_cli.specs.States.{Stands, IsReady, TellsLine};
-ghost use Rattle.domain_cli.specs.Stops.{EndsAt, Stopped, StopsLine};
-ghost use Rattle.domain_cli.specs.Story.{Tells, most_read};
+ghost use Rattle.domain_cli.specs.Stops.{Closes, EndsAt, Halts, IsRefusal, Stopped, StopsLine, found_blame, stop_blame};
+ghost use Rattle.domain_cli.specs.Story.{most_read};
 
+use crate::host::Host;
 use crate::state::ScriptState;
-use crate::status::{Found, Stop};
-use domain_base::NoMemory;
-use frame_script::{Refusal, ScriptReader, Untaken};
+use crate::status::{Found, Stop, Undone};
+use domain_base::{Air, Draws, NoMemory};
+use domain_world::Gate;
+use frame_script::{Mode, Refusal, ScriptReader};
 use run_journal::Journal;
 use std::alloc::Global;
+use std::thread::Threads;
 
 // A script has at most so many lines.
 const MOST_LINES: u64 = 65_536;
@@ -53,37 +57,57 @@ fn without_return(line: &[u8]) -> &[u8]
 fn refused(state: &ScriptState, lines: u64, line: &[u8], refusal: Refusal) -> Stop
     requires { lines ≤ 65536 }
     ensures { result ≡ Stop.Refused (suc lines) refusal
-        (form_of state.now.reader.draft state.now.reader.rounds line.now) }
+        (form_in state.now.reader.mode state.now.reader.draft state.now.reader.rounds line.now) }
 {
     Stop::Refused(lines + 1, refusal, state.reader.form(line))
 }
 
-// Takes a line, without its end, behind so many others. At an error the journal is as before.
+// Takes a line, without its end, behind so many others, and does what it asks for.
 #[tactic(auto, using(crate::proofs::Lines::stopping))]
-fn take_line(
+fn take_line<R: Threads + Sync, A: Air, D: Draws, G: Gate + Sync>(
     state: &mut ScriptState,
-    alloc: Global,
+    host: &Host<'_, R, G>,
     lines: u64,
     line: &[u8],
+    air: &mut A,
+    draws: &mut D,
+    links: &mut Vec<A::L>,
     journal: &mut Journal,
 ) -> Result<(), Stop>
-    requires ready { IsReady state.old lines journal.old.entries }
+    requires ready { IsReady state.old (length links.old.items) lines journal.old.entries }
     requires count { lines ≤ 65536 }
-    ensures ready { OnOk result (IsReady state.new (suc lines) journal.new.entries) }
+    ensures ready { OnOk result (IsReady state.new (length links.new.items) (suc lines)
+        journal.new.entries) }
     ensures few { OnOk result (lines < 65536) }
-    ensures told { (draft : Draft) (rounds : Rounds)
-        → Stands state.old draft rounds journal.old.entries → MatchResult result
-        (λ _. TellsLine line.now draft rounds state.new journal.old.entries journal.new.entries)
-        (λ stop. StopsLine stop journal.old.entries lines line.now draft rounds) }
-    ensures kept { OnErr result (journal.new.entries ≡ journal.old.entries) }
+    ensures mode { state.new.reader.mode ≡ state.old.reader.mode }
+    ensures told { (draft : Draft) (rounds : Rounds) (first : Outer A.L)
+        → Stands state.old draft rounds journal.old.entries
+        → IsMet A.L.told first (outer links.old.items (A.told air.old) (D.last draws.old))
+        state.old.reader.mode draft rounds journal.old.entries
+        → MatchResult result
+        (λ _. TellsLine A.L.told first
+        (outer links.new.items (A.told air.new) (D.last draws.new))
+        line.now draft rounds state.new journal.old.entries journal.new.entries)
+        (λ stop. StopsLine stop A.L.told first
+        (outer links.old.items (A.told air.old) (D.last draws.old))
+        (outer links.new.items (A.told air.new) (D.last draws.new))
+        state.old.reader.mode lines line.now draft rounds
+        journal.old.entries journal.new.entries) }
+    ensures blamed { MatchResult result
+        (λ _. IsBlamed A.L.faults Nobody links.old.items links.new.items
+        (A.faults air.old) (A.faults air.new) (D.faults draws.old) (D.faults draws.new))
+        (λ stop. IsBlamed A.L.faults (stop_blame stop) links.old.items links.new.items
+        (A.faults air.old) (A.faults air.new) (D.faults draws.old) (D.faults draws.new)) }
 {
     if lines >= MOST_LINES {
         return Err(refused(state, lines, line, Refusal::ManyLines));
     }
-    match state.take(alloc, line, journal) {
+    match state.take(host, line, air, draws, links, journal) {
         Ok(()) => Ok(()),
-        Err(Untaken::Refused(refusal)) => Err(refused(state, lines, line, refusal)),
-        Err(Untaken::NoMemory) => Err(Stop::NoMemory),
+        Err(Undone::Refused(refusal)) => Err(refused(state, lines, line, refusal)),
+        Err(Undone::NoMemory) => Err(Stop::NoMemory),
+        Err(Undone::DrawFault) => Err(Stop::DrawFault),
+        Err(Undone::Broken(error)) => Err(Stop::Broken(error)),
     }
 }
 
@@ -100,18 +124,19 @@ fn ended(reader: &ScriptReader, lines: u64) -> Found
 }
 
 impl LineFeeder {
-    ghost use Rattle.domain_cli.specs.Feeders.{Reached};
+    ghost use Rattle.domain_cli.specs.Feeders.{HasCome, Reached};
 
-    /// Before the first octet.
-    pub fn new(alloc: Global) -> Result<Self, NoMemory>
-        ensures ready { IfOk result (λ s. IsReady s.state s.lines []) }
-        ensures reached { IfOk result (λ s. Reached s [] []) }
+    /// Before the first octet of a script of a run of that kind.
+    pub fn new(alloc: Global, mode: Mode) -> Result<Self, NoMemory>
+        ensures ready { IfOk result (λ s. IsReady s.state 0 s.lines []) }
+        ensures mode { IfOk result (λ s. s.state.reader.mode ≡ mode) }
+        ensures come { IfOk result (λ s. HasCome s [] AtVersion no_rounds []) }
     {
         let line = Vec::with_capacity(alloc, MOST_OCTETS)?;
         Ok(LineFeeder {
             line,
             lines: 0,
-            state: ScriptState::start(alloc),
+            state: ScriptState::start(alloc, mode),
         })
     }
 
@@ -119,9 +144,12 @@ impl LineFeeder {
     fn add(&mut self, octet: u8) -> Result<(), Stop>
         requires { octet ≢ 10 }
         ensures same { (self.new.lines ≡ self.old.lines) × (self.new.state ≡ self.old.state) }
-        ensures reached { (octets : List ℕ) (j : List AnyEntry) → Reached self.old octets j →
-            MatchResult result (λ _. Reached self.new (octets ++ octet ∷ []) j)
-            (λ stop. Stopped 1 stop (octets ++ octet ∷ []) j) }
+        ensures come { (octets : List ℕ) (draft : Draft) (rounds : Rounds) (j : List AnyEntry)
+            → HasCome self.old octets draft rounds j → MatchResult result
+            (λ _. HasCome self.new (octets ++ octet ∷ []) draft rounds j)
+            (λ stop. Stopped 1 stop (octets ++ octet ∷ [])
+            (point_of self.old.state.reader.mode j draft rounds)) }
+        ensures refused { MatchResult result (λ _. Unit {0}) (λ stop. IsRefusal stop) }
     {
         if self.line.len() >= MOST_OCTETS {
             return Err(refused(&self.state, self.lines, &self.line, Refusal::LongLine));
@@ -130,63 +158,168 @@ impl LineFeeder {
         Ok(())
     }
 
-    // Ends the open line, and does what it asks for. At an error the journal is as before.
-    fn end_line(&mut self, alloc: Global, journal: &mut Journal) -> Result<(), Stop>
-        requires { IsReady self.old.state self.old.lines journal.old.entries }
-        ensures ready { OnOk result (IsReady self.new.state self.new.lines journal.new.entries) }
-        ensures reached { (octets : List ℕ) → Reached self.old octets journal.old.entries →
-            MatchResult result (λ _. Reached self.new (octets ++ 10 ∷ []) journal.new.entries)
-            (λ stop. Stopped 1 stop (octets ++ 10 ∷ []) journal.new.entries) }
+    // Ends the open line, and does what it asks for.
+    fn end_line<R: Threads + Sync, A: Air, D: Draws, G: Gate + Sync>(
+        &mut self,
+        host: &Host<'_, R, G>,
+        air: &mut A,
+        draws: &mut D,
+        links: &mut Vec<A::L>,
+        journal: &mut Journal,
+    ) -> Result<(), Stop>
+        requires { IsReady self.old.state (length links.old.items) self.old.lines
+            journal.old.entries }
+        ensures ready { OnOk result (IsReady self.new.state (length links.new.items) self.new.lines
+            journal.new.entries) }
+        ensures mode { self.new.state.reader.mode ≡ self.old.state.reader.mode }
+        ensures reached { (first : Outer A.L) (before : List ℕ)
+            → Reached A.L.told first (outer links.old.items (A.told air.old) (D.last draws.old))
+            self.old before journal.old.entries → MatchResult result
+            (λ _. Reached A.L.told first
+            (outer links.new.items (A.told air.new) (D.last draws.new))
+            self.new (before ++ 10 ∷ []) journal.new.entries)
+            (λ stop. Halts A.L.told first
+            (outer links.new.items (A.told air.new) (D.last draws.new))
+            self.old.state.reader.mode 1 stop (before ++ 10 ∷ []) journal.new.entries) }
+        ensures blamed { MatchResult result
+            (λ _. IsBlamed A.L.faults Nobody links.old.items links.new.items
+            (A.faults air.old) (A.faults air.new) (D.faults draws.old) (D.faults draws.new))
+            (λ stop. IsBlamed A.L.faults (stop_blame stop) links.old.items links.new.items
+            (A.faults air.old) (A.faults air.new) (D.faults draws.old) (D.faults draws.new)) }
     {
         let text = without_return(&self.line);
-        take_line(&mut self.state, alloc, self.lines, text, journal)?;
-        self.lines += 1;
-        self.line.clear();
-        Ok(())
+        let taken = take_line(
+            &mut self.state,
+            host,
+            self.lines,
+            text,
+            air,
+            draws,
+            links,
+            journal,
+        );
+        match taken {
+            Ok(()) => {
+                self.lines += 1;
+                self.line.clear();
+                Ok(())
+            }
+            Err(stop) => Err(stop),
+        }
     }
 
     // Takes an octet.
-    fn take(&mut self, alloc: Global, octet: u8, journal: &mut Journal) -> Result<(), Stop>
-        requires { IsReady self.old.state self.old.lines journal.old.entries }
-        ensures ready { OnOk result (IsReady self.new.state self.new.lines journal.new.entries) }
-        ensures reached { (before : List ℕ) → Reached self.old before journal.old.entries →
-            MatchResult result (λ _. Reached self.new (before ++ octet ∷ []) journal.new.entries)
-            (λ stop. Stopped 1 stop (before ++ octet ∷ []) journal.new.entries) }
+    fn take<R: Threads + Sync, A: Air, D: Draws, G: Gate + Sync>(
+        &mut self,
+        host: &Host<'_, R, G>,
+        octet: u8,
+        air: &mut A,
+        draws: &mut D,
+        links: &mut Vec<A::L>,
+        journal: &mut Journal,
+    ) -> Result<(), Stop>
+        requires { IsReady self.old.state (length links.old.items) self.old.lines
+            journal.old.entries }
+        ensures ready { OnOk result (IsReady self.new.state (length links.new.items) self.new.lines
+            journal.new.entries) }
+        ensures mode { self.new.state.reader.mode ≡ self.old.state.reader.mode }
+        ensures reached { (first : Outer A.L) (before : List ℕ)
+            → Reached A.L.told first (outer links.old.items (A.told air.old) (D.last draws.old))
+            self.old before journal.old.entries → MatchResult result
+            (λ _. Reached A.L.told first
+            (outer links.new.items (A.told air.new) (D.last draws.new))
+            self.new (before ++ octet ∷ []) journal.new.entries)
+            (λ stop. Halts A.L.told first
+            (outer links.new.items (A.told air.new) (D.last draws.new))
+            self.old.state.reader.mode 1 stop (before ++ octet ∷ []) journal.new.entries) }
+        ensures blamed { MatchResult result
+            (λ _. IsBlamed A.L.faults Nobody links.old.items links.new.items
+            (A.faults air.old) (A.faults air.new) (D.faults draws.old) (D.faults draws.new))
+            (λ stop. IsBlamed A.L.faults (stop_blame stop) links.old.items links.new.items
+            (A.faults air.old) (A.faults air.new) (D.faults draws.old) (D.faults draws.new)) }
     {
         if octet == b'\n' {
-            self.end_line(alloc, journal)
+            self.end_line(host, air, draws, links, journal)
         } else {
             self.add(octet)
         }
     }
 
-    /// Takes the octets of one read.
-    pub fn feed(&mut self, alloc: Global, octets: &[u8], journal: &mut Journal) -> Result<(), Stop>
-        requires ready { IsReady self.old.state self.old.lines journal.old.entries }
+    /// Takes the octets of one read. A line is run as soon as its end was read.
+    pub fn feed<R: Threads + Sync, A: Air, D: Draws, G: Gate + Sync>(
+        &mut self,
+        host: &Host<'_, R, G>,
+        octets: &[u8],
+        air: &mut A,
+        draws: &mut D,
+        links: &mut Vec<A::L>,
+        journal: &mut Journal,
+    ) -> Result<(), Stop>
+        requires ready { IsReady self.old.state (length links.old.items) self.old.lines
+            journal.old.entries }
         requires few { length octets.now ≤ most_read }
-        ensures ready { OnOk result (IsReady self.new.state self.new.lines journal.new.entries) }
-        ensures reached { (before : List ℕ) → Reached self.old before journal.old.entries →
-            MatchResult result (λ _. Reached self.new (before ++ octets.now) journal.new.entries)
-            (λ stop. Stopped most_read stop (before ++ octets.now) journal.new.entries) }
+        ensures ready { OnOk result (IsReady self.new.state (length links.new.items) self.new.lines
+            journal.new.entries) }
+        ensures mode { self.new.state.reader.mode ≡ self.old.state.reader.mode }
+        ensures reached { (first : Outer A.L) (before : List ℕ)
+            → Reached A.L.told first (outer links.old.items (A.told air.old) (D.last draws.old))
+            self.old before journal.old.entries → MatchResult result
+            (λ _. Reached A.L.told first
+            (outer links.new.items (A.told air.new) (D.last draws.new))
+            self.new (before ++ octets.now) journal.new.entries)
+            (λ stop. Halts A.L.told first
+            (outer links.new.items (A.told air.new) (D.last draws.new))
+            self.old.state.reader.mode most_read stop (before ++ octets.now) journal.new.entries) }
+        ensures blamed { MatchResult result
+            (λ _. IsBlamed A.L.faults Nobody links.old.items links.new.items
+            (A.faults air.old) (A.faults air.new) (D.faults draws.old) (D.faults draws.new))
+            (λ stop. IsBlamed A.L.faults (stop_blame stop) links.old.items links.new.items
+            (A.faults air.old) (A.faults air.new) (D.faults draws.old) (D.faults draws.new)) }
     {
         for octet in octets {
-            self.take(alloc, *octet, journal)?;
+            match self.take(host, *octet, air, draws, links, journal) {
+                Ok(()) => {}
+                Err(stop) => return Err(stop),
+            }
         }
         Ok(())
     }
 
     /// Ends the script. An open line counts as a line, and so does an empty source. The events of a
     /// round that is open are not run.
-    pub fn finish(&mut self, alloc: Global, journal: &mut Journal) -> Found
-        requires { IsReady self.old.state self.old.lines journal.old.entries }
-        ensures told { (octets : List ℕ) → Reached self.old octets journal.old.entries
-            → Tells result octets true journal.new.entries }
+    pub fn finish<R: Threads + Sync, A: Air, D: Draws, G: Gate + Sync>(
+        &mut self,
+        host: &Host<'_, R, G>,
+        air: &mut A,
+        draws: &mut D,
+        links: &mut Vec<A::L>,
+        journal: &mut Journal,
+    ) -> Found
+        requires { IsReady self.old.state (length links.old.items) self.old.lines
+            journal.old.entries }
+        ensures told { (first : Outer A.L) (octets : List ℕ)
+            → Reached A.L.told first (outer links.old.items (A.told air.old) (D.last draws.old))
+            self.old octets journal.old.entries
+            → Closes A.L.told first (outer links.new.items (A.told air.new) (D.last draws.new))
+            self.old.state.reader.mode result octets true journal.new.entries }
         ensures not_read { result ≢ Found.ReadFault }
+        ensures blamed { IsBlamed A.L.faults (found_blame result) links.old.items links.new.items
+            (A.faults air.old) (A.faults air.new) (D.faults draws.old) (D.faults draws.new) }
     {
         if self.line.is_empty() && self.lines > 0 {
             return ended(&self.state.reader, self.lines);
         }
-        match take_line(&mut self.state, alloc, self.lines, &self.line, journal) {
+        let taken = take_line(
+            &mut self.state,
+            host,
+            self.lines,
+            &self.line,
+            air,
+            draws,
+            links,
+            journal,
+        );
+        match taken {
             Ok(()) => ended(&self.state.reader, self.lines + 1),
             Err(stop) => Found::Stopped(stop),
         }

@@ -1,16 +1,21 @@
 //! What the program does between its streams.
 
-ghost use Rattle.std.specs.Prelude.{◌≡◌, ◌≢◌};
+ghost use Rattle.std.specs.Prelude.{◌≡◌, ◌≢◌, ℕ, Some};
 ghost use Rattle.domain_cli.specs.Ends.{exit_number, or_no_memory};
 
 use crate::adapters::{StdinSource, StdoutSink};
 use crate::status::Status;
 use crate::top::run;
-use domain_base::{NoMemory, SteadyAir, SteadyDraws};
+use command_words::{Command, read_words};
+use domain_base::NoMemory;
+use loopback::{MachineRandom, OsDraws, UdpAir};
 use run_journal::Journal;
 use std::alloc::AllocGlobal;
+use std::cell::Cell;
 use std::env::{self, Env};
 use std::io::{self, ErrorKind, Read, Write};
+use std::net::Net;
+use std::random::RandomSource;
 use std::thread::Threads;
 
 /// The number that the program exits with.
@@ -24,6 +29,8 @@ pub fn exit_number(status: Status) -> u8
         Status::ReadFault => 3,
         Status::WriteFault => 4,
         Status::NoMemory => 5,
+        Status::LinkFault => 6,
+        Status::DrawFault => 7,
         Status::Limit(_) => 8,
     }
 }
@@ -57,13 +64,23 @@ fn words_of<R: Env + AllocGlobal>(rt: &R) -> io::Result<Vec<String>> {
     Ok(words)
 }
 
-// Runs the command of the words between two streams.
-fn run_between<R: Threads + Sync + AllocGlobal, I: Read + Drop, O: Write + Drop>(
-    rt: &R,
-    owned: &[String],
-    input: I,
-    output: O,
-) -> Result<Status, NoMemory> {
+// The first port of a live run. No other run opens one.
+fn first_port(asked: Option<Command>) -> u16
+    ensures { (port : ℕ) → asked ≡ Some (Command.Live port) → result ≡ port }
+{
+    match asked {
+        Some(Command::Live { port }) => port,
+        Some(Command::Replay) | Some(Command::Storm { .. }) | None => 0,
+    }
+}
+
+// Runs the command of the words between two streams, over sockets of this machine and with its
+// random source.
+fn run_between<
+    R: Threads + Sync + Net + RandomSource + AllocGlobal,
+    I: Read + Drop,
+    O: Write + Drop,
+>(rt: &R, owned: &[String], input: I, output: O) -> Result<Status, NoMemory> {
     let alloc = rt.alloc();
     let Ok(words) = owned
         .iter()
@@ -72,12 +89,14 @@ fn run_between<R: Threads + Sync + AllocGlobal, I: Read + Drop, O: Write + Drop>
     else {
         return Err(NoMemory);
     };
-    let Ok(mut air) = SteadyAir::new(alloc, Vec::new(alloc)) else {
+    let Ok(asked) = read_words(alloc, &words) else {
         return Err(NoMemory);
     };
+    let access_points = Cell::new(0);
+    let mut air = UdpAir::new(rt, first_port(asked), &access_points);
+    let mut draws = OsDraws::new(MachineRandom::new(rt));
     let mut source = StdinSource::new(input);
     let mut sink = StdoutSink::new(output);
-    let mut draws = SteadyDraws::new([0; 32]);
     let mut journal = Journal::new(alloc);
     Ok(run(
         rt,
@@ -91,13 +110,14 @@ fn run_between<R: Threads + Sync + AllocGlobal, I: Read + Drop, O: Write + Drop>
     ))
 }
 
-/// Runs the command that the program's words say between two streams, as `run` does. Where the
-/// words cannot be read or memory runs out before, nothing is run.
-pub fn command<R: Threads + Sync + Env + AllocGlobal, I: Read + Drop, O: Write + Drop>(
-    rt: &R,
-    input: I,
-    output: O,
-) -> Status {
+/// Runs the command that the program's words say between two streams, as `run` does; a live run
+/// over UDP sockets of this machine, from the port on that the words say, and with seeds from its
+/// random source. Where the words cannot be read or memory runs out before, nothing is run.
+pub fn command<
+    R: Threads + Sync + Net + RandomSource + Env + AllocGlobal,
+    I: Read + Drop,
+    O: Write + Drop,
+>(rt: &R, input: I, output: O) -> Status {
     match words_of(rt) {
         Ok(words) => or_no_memory(run_between(rt, &words, input, output)),
         Err(error) => unread(error.kind()),

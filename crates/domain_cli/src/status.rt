@@ -3,8 +3,23 @@
 ghost use Rattle.std.specs.Prelude.{◌≡◌};
 ghost use Rattle.domain_cli.specs.Ends.{limit_text, reason_text};
 
+use domain_base::LinkError;
 use frame_script::{Form, Refusal};
 use thiserror::Error;
+
+/// Why a line was not done, or not wholly.
+#[derive(Clone, Copy)]
+pub enum Undone {
+    /// It is not taken, for this cause.
+    Refused(Refusal),
+    /// Memory ran out before anything was done.
+    NoMemory,
+    /// The seed could not be drawn that it asks for.
+    DrawFault,
+    /// What it asks for was done, of a turn a part; then the air or a link failed, or memory ran out
+    /// for a frame to be sent or taken.
+    Broken(LinkError),
+}
 
 /// Why a script is read no further.
 #[derive(Clone, Copy)]
@@ -14,6 +29,11 @@ pub enum Stop {
     Refused(u64, Refusal, Form),
     /// Memory ran out.
     NoMemory,
+    /// The seed could not be drawn.
+    DrawFault,
+    /// The air or a link failed, or memory ran out there, behind what the last line asked for, of a
+    /// turn behind a part.
+    Broken(LinkError),
 }
 
 /// How the reading of a script ended.
@@ -32,9 +52,12 @@ pub enum Found {
 
 // What is written to standard error for words that are no command.
 const USAGE: &str = "usage: kehtrop replay < SCRIPT
+       kehtrop live PORT < SCRIPT
        kehtrop storm NUMBER
 
   replay    runs the script on standard input, and writes its report to standard output
+  live      runs it with frames on UDP sockets of this machine, from that port on, from 1024 to
+            65000 in one to ten digits
   storm     runs 2000 events that the number makes, from 0 to 4294967295 in one to ten digits,
             and writes the summary of their report to standard output
 
@@ -45,6 +68,8 @@ The program ends with
   3  the script could not be read
   4  the report could not be written
   5  out of memory
+  6  a socket failed
+  7  the seed could not be drawn
   8  a line of the script goes past a limit
 
 Example:
@@ -63,7 +88,7 @@ pub enum Status {
     /// 1 it is the first and not `domain 1`; 2 no such word in this place; 3 the number or form of
     /// its arguments; 4 a node that is not listed or of the other kind; 5 a frame that was not
     /// sent; 6 a place or length outside the frame; 7 it is the one behind the last one, and a
-    /// round is open; 8 an address or R0KH-ID used before; 9 a draw of the seed. It should have had
+    /// round is open; 8 an address or R0KH-ID used before; 9 a line of the other kind of run. It should have had
     /// that form. All events before it were run, but those of a round that is open, and their lines
     /// were written.
     #[error("line {0}: {reason}; the form is {form}", reason = reason_text(*.1), form = .2.text())]
@@ -83,6 +108,13 @@ pub enum Status {
     /// Memory ran out.
     #[error("out of memory")]
     NoMemory,
+    /// The air or a link failed, in a live run. What was asked for before that call was run, and its
+    /// lines were written.
+    #[error("a socket could not be opened, or a frame not be sent or taken")]
+    LinkFault,
+    /// The seed could not be drawn, in a live run. Nothing was run.
+    #[error("the seed could not be drawn")]
+    DrawFault,
 }
 
 // A reason in words, by its number.

@@ -8,8 +8,8 @@ ghost use Rattle.domain_cli.specs.Courses.{IsFrontSoFar, IsListing, IsSoFar, IsU
 ghost use Rattle.domain_cli.specs.Storms.{IsStormFront, IsWholeStorm, all_events};
 
 use domain_base::{Mac, NoMemory, Octets};
+use domain_rules::looks_are_right;
 use domain_world::World;
-use held_rows::answers_at_the_moment_are_right;
 use run_journal::{Aps, Domain, Journal, ListedAp, Stas};
 use std::alloc::Global;
 use storm::{EVENTS, Storm};
@@ -209,7 +209,7 @@ pub fn run_storm(alloc: Global, number: u32, journal: &mut Journal) -> Result<()
     ensures whole { OnOk result (IsWholeStorm number journal.new.entries) }
     ensures front { OnErr result (IsStormFront number journal.new.entries) }
 {
-    answers_at_the_moment_are_right();
+    looks_are_right();
     let mut storm = Storm::new(alloc, number);
     let Ok(mut world) = assemble(alloc, &storm, journal) else {
         return Err(NoMemory);

@@ -10,15 +10,20 @@ ghost use Rattle.frame_script.specs.Refusals.{answer_of, fault_of};
 ghost use Rattle.domain_cli.specs.Story.{Runs, Reports, IsText, status_by, status_of};
 ghost use Rattle.domain_cli.specs.Ends.{IsAnswered};
 ghost use Rattle.domain_cli.specs.Storms.{IsSummary, StormReports, Storms};
-ghost use Rattle.domain_cli.specs.Words.{AskNothing, AskReplay, AskStorm};
+ghost use Rattle.domain_cli.specs.Lives.{Lives};
+ghost use Rattle.domain_cli.specs.Outer.{OnDraws, OnLinks};
+ghost use Rattle.domain_cli.specs.Stops.{found_blame};
+ghost use Rattle.domain_cli.specs.Words.{AskLive, AskNothing, AskReplay, AskStorm};
 
-use crate::reading::replay;
+use crate::host::Host;
+use crate::reading::{live, replay};
 use crate::status::{Found, Status, Stop};
 use crate::storming::run_storm;
 use command_words::{Command, read_words};
-use domain_base::{Air, Draws, Failed, Sink, Source, write_all};
+use domain_base::{Air, Draws, Failed, LinkError, Sink, Source, write_all};
+use domain_rules::looks_are_right;
+use domain_world::{Gate, Unbarred};
 use frame_script::{Form, LineFault, Refusal};
-use held_rows::answers_at_the_moment_are_right;
 use journal_report::{SUMMARY_ROOM, summary_of, write_lines};
 use journal_safety::{hands_up_once, installs_once, joins, uses_once};
 use run_journal::{Entry, Journal, Premises};
@@ -44,6 +49,9 @@ fn status(found: Found) -> Status
         Found::Whole => Status::Done,
         Found::Stopped(Stop::Refused(number, refusal, form)) => refused(number, refusal, form),
         Found::Stopped(Stop::NoMemory) => Status::NoMemory,
+        Found::Stopped(Stop::DrawFault) => Status::DrawFault,
+        Found::Stopped(Stop::Broken(LinkError::Failed)) => Status::LinkFault,
+        Found::Stopped(Stop::Broken(LinkError::NoMemory)) => Status::NoMemory,
         Found::Unended(number, refusal) => refused(number, refusal, Form::End),
         Found::ReadFault => Status::ReadFault,
     }
@@ -105,6 +113,12 @@ fn report<K: Sink>(sink: &mut K, journal: &Journal, found: Found) -> Status
     ensures read_told { found ≡ Found.ReadFault
         → ¬ Rose (K.faults sink.old) (K.faults sink.new) → result ≡ Status.ReadFault }
     ensures asked { result ≢ Status.Usage }
+    ensures link_fault { result ≡ Status.LinkFault → found_blame found ≡ OnLinks }
+    ensures draw_fault { result ≡ Status.DrawFault → found_blame found ≡ OnDraws }
+    ensures link_told { found_blame found ≡ OnLinks
+        → ¬ Rose (K.faults sink.old) (K.faults sink.new) → result ≡ Status.LinkFault }
+    ensures draw_told { found_blame found ≡ OnDraws
+        → ¬ Rose (K.faults sink.old) (K.faults sink.new) → result ≡ Status.DrawFault }
 {
     match write_text(sink, journal, found) {
         Ok(()) => status(found),
@@ -146,8 +160,8 @@ fn stormed<K: Sink>(alloc: Global, number: u32, sink: &mut K, journal: &mut Jour
 }
 
 // Runs the script on the source, and reports what happened.
-fn replayed<S: Source, K: Sink>(
-    alloc: Global,
+fn replayed<R: Threads + Sync, S: Source, K: Sink, G: Gate + Sync>(
+    host: &Host<'_, R, G>,
     source: &mut S,
     sink: &mut K,
     journal: &mut Journal,
@@ -164,17 +178,56 @@ fn replayed<S: Source, K: Sink>(
     ensures read_told { S.faults source.new ≢ S.faults source.old
         → ¬ Rose (K.faults sink.old) (K.faults sink.new) → result ≡ Status.ReadFault }
 {
-    let found = replay(alloc, source, journal);
+    let found = replay(host, source, journal);
+    report(sink, journal, found)
+}
+
+// Runs the script on the source with frames by the links of that air, and reports what happened.
+fn lived<R: Threads + Sync, S: Source, K: Sink, A: Air, D: Draws, G: Gate + Sync>(
+    host: &Host<'_, R, G>,
+    source: &mut S,
+    sink: &mut K,
+    air: &mut A,
+    draws: &mut D,
+    journal: &mut Journal,
+) -> Status
+    requires { journal.old.entries ≡ [] }
+    ensures asked { result ≢ Status.Usage }
+    ensures lived { Lives (S.left source.old) (S.left source.new) (K.out sink.old) (K.out sink.new)
+        (A.told air.old) (A.told air.new) (D.last draws.old) (D.last draws.new)
+        result journal.new.entries }
+    ensures read_fault { result ≡ Status.ReadFault →
+        Rose (S.faults source.old) (S.faults source.new) }
+    ensures write_fault { result ≡ Status.WriteFault →
+        Rose (K.faults sink.old) (K.faults sink.new) }
+    ensures link_fault { result ≡ Status.LinkFault → Rose (A.faults air.old) (A.faults air.new) }
+    ensures draw_fault { result ≡ Status.DrawFault
+        → Rose (D.faults draws.old) (D.faults draws.new) }
+    ensures write_told { K.faults sink.new ≢ K.faults sink.old → result ≡ Status.WriteFault }
+    ensures read_told { S.faults source.new ≢ S.faults source.old
+        → ¬ Rose (K.faults sink.old) (K.faults sink.new) → result ≡ Status.ReadFault }
+    ensures link_told { A.faults air.new ≢ A.faults air.old
+        → ¬ Rose (K.faults sink.old) (K.faults sink.new) → result ≡ Status.LinkFault }
+    ensures draw_told { D.faults draws.new ≢ D.faults draws.old
+        → ¬ Rose (K.faults sink.old) (K.faults sink.new) → result ≡ Status.DrawFault }
+{
+    let found = live(host, source, air, draws, journal);
     report(sink, journal, found)
 }
 
 /// Runs the command of the words, and reports what happened.
 ///
-/// `replay` runs the script on the source. `storm` with a number below 2^32, in one to ten decimal
+/// `replay` runs the script on the source. `live` with a port from 1024 to 65000, in one to ten
+/// decimal digits, runs it with frames by the links of the air, to which each node is attached behind
+/// its line; a line is run as soon as it was read, and however the run ends all links that were
+/// attached are taken back, in the order of their nodes. `storm` with a number below 2^32, in one to ten decimal
 /// digits, runs the storm of that number, and writes its summary alone. Reading the words may want
 /// memory, and then nothing is run.
+///
+/// The access points of a round take their events side by side, each on a thread of its own where
+/// one can be started.
 pub fn run<R: Threads + Sync, S: Source, K: Sink, A: Air, D: Draws>(
-    _rt: &R,
+    rt: &R,
     alloc: Global,
     words: &[&str],
     source: &mut S,
@@ -184,7 +237,7 @@ pub fn run<R: Threads + Sync, S: Source, K: Sink, A: Air, D: Draws>(
     journal: &mut Journal,
 ) -> Status
     requires { journal.old.entries ≡ [] }
-    // Where the words ask for neither command nothing is read or written, and no call fails, also
+    // Where the words ask for no command nothing is read or written, and no call fails, also
     // where memory was wanted for reading them.
     ensures usage { result ≡ Status.Usage → AskNothing (map (λ w. w.now) words.now) }
     ensures told { AskNothing (map (λ w. w.now) words.now)
@@ -194,14 +247,26 @@ pub fn run<R: Threads + Sync, S: Source, K: Sink, A: Air, D: Draws>(
         × (journal.new.entries ≡ []) }
     ensures unfailed { AskNothing (map (λ w. w.now) words.now)
         → (S.faults source.new ≡ S.faults source.old) × (K.faults sink.new ≡ K.faults sink.old) }
-    // Neither command draws or attaches a link.
-    ensures air { (A.told air.new ≡ A.told air.old) × (A.faults air.new ≡ A.faults air.old) }
-    ensures draws { (D.last draws.new ≡ D.last draws.old)
-        × (D.faults draws.new ≡ D.faults draws.old) }
+    // But a live run no command draws or attaches a link.
+    ensures air { ((port : ℕ) → ¬ AskLive (map (λ w. w.now) words.now) port)
+        → (A.told air.new ≡ A.told air.old) × (A.faults air.new ≡ A.faults air.old) }
+    ensures draws { ((port : ℕ) → ¬ AskLive (map (λ w. w.now) words.now) port)
+        → (D.last draws.new ≡ D.last draws.old) × (D.faults draws.new ≡ D.faults draws.old) }
     // The journal of a replay is that of the rounds that the octets read spell, of which each has
     // its end, and key holders answered rightly in it; the octets written are its report.
     ensures ran { AskReplay (map (λ w. w.now) words.now) → Runs (S.left source.old)
         (S.left source.new) (K.out sink.old) (K.out sink.new) result journal.new.entries }
+    // The journal of a live run is that of the rounds that the octets read spell, with the seed that
+    // was drawn and what nodes took of their links in each turn, up to 16 frames each in their order;
+    // each event and each frame taken is a round by itself. The octets written are its report. Where
+    // the air tells, each turn took what the links had in front, and the links taken back, which are
+    // those of all nodes in their order, were sent what their nodes sent, in order, each frame to
+    // whom its address 1 names; where a link failed or memory was wanted over a frame, one common
+    // front of it.
+    ensures lived { (port : ℕ) → AskLive (map (λ w. w.now) words.now) port
+        → Lives (S.left source.old) (S.left source.new) (K.out sink.old) (K.out sink.new)
+        (A.told air.old) (A.told air.new) (D.last draws.old) (D.last draws.new)
+        result journal.new.entries }
     // The journal of a storm is that of its events, each a round by itself, in its network, or of a
     // front of them where memory was wanted, and key holders answered rightly in it. The octets
     // written are its summary. The source is not read.
@@ -216,28 +281,115 @@ pub fn run<R: Threads + Sync, S: Source, K: Sink, A: Air, D: Draws>(
         Rose (S.faults source.old) (S.faults source.new) }
     ensures write_fault { result ≡ Status.WriteFault →
         Rose (K.faults sink.old) (K.faults sink.new) }
+    ensures link_fault { result ≡ Status.LinkFault → Rose (A.faults air.old) (A.faults air.new) }
+    ensures draw_fault { result ≡ Status.DrawFault
+        → Rose (D.faults draws.old) (D.faults draws.new) }
     // A fault that happened is told: where the sink's count is not what it was, whatever else was
     // found, and where the source's is not and the sink did not fail.
     ensures write_told { K.faults sink.new ≢ K.faults sink.old → result ≡ Status.WriteFault }
     ensures read_told { S.faults source.new ≢ S.faults source.old
         → ¬ Rose (K.faults sink.old) (K.faults sink.new) → result ≡ Status.ReadFault }
+    ensures link_told { A.faults air.new ≢ A.faults air.old
+        → ¬ Rose (K.faults sink.old) (K.faults sink.new) → result ≡ Status.LinkFault }
+    ensures draw_told { D.faults draws.new ≢ D.faults draws.old
+        → ¬ Rose (K.faults sink.old) (K.faults sink.new) → result ≡ Status.DrawFault }
     // Where neither source nor sink failed, a replay is done, has a fault of its script, goes past a
     // limit, or lacks memory. (A storm ends as done, with a fault of the sink, or for want of memory.)
     ensures complete { AskReplay (map (λ w. w.now) words.now)
         → ¬ Rose (S.faults source.old) (S.faults source.new)
         → ¬ Rose (K.faults sink.old) (K.faults sink.new) → IsAnswered result }
+    // And where neither the air nor the draws did, a live run.
+    ensures live_complete { (port : ℕ) → AskLive (map (λ w. w.now) words.now) port
+        → ¬ Rose (S.faults source.old) (S.faults source.new)
+        → ¬ Rose (K.faults sink.old) (K.faults sink.new)
+        → ¬ Rose (A.faults air.old) (A.faults air.new)
+        → ¬ Rose (D.faults draws.old) (D.faults draws.new) → IsAnswered result }
+{
+    run_with(
+        rt, alloc, words, source, sink, air, draws, journal, &Unbarred,
+    )
+}
+
+/// Runs the command of the words as `run` does. In each round that a script ends, every access point
+/// that has events in it passes the gate once, before the first of them. An event outside a round
+/// passes none, and neither does one of a storm, or a frame that a node takes of its link. What `run`
+/// promises holds for every gate.
+pub fn run_with<R: Threads + Sync, S: Source, K: Sink, A: Air, D: Draws, G: Gate + Sync>(
+    rt: &R,
+    alloc: Global,
+    words: &[&str],
+    source: &mut S,
+    sink: &mut K,
+    air: &mut A,
+    draws: &mut D,
+    journal: &mut Journal,
+    gate: &G,
+) -> Status
+    requires { journal.old.entries ≡ [] }
+    ensures usage { result ≡ Status.Usage → AskNothing (map (λ w. w.now) words.now) }
+    ensures told { AskNothing (map (λ w. w.now) words.now)
+        → (result ≡ Status.Usage) ⊎ (result ≡ Status.NoMemory) }
+    ensures untouched { AskNothing (map (λ w. w.now) words.now)
+        → (S.left source.new ≡ S.left source.old) × (K.out sink.new ≡ K.out sink.old)
+        × (journal.new.entries ≡ []) }
+    ensures unfailed { AskNothing (map (λ w. w.now) words.now)
+        → (S.faults source.new ≡ S.faults source.old) × (K.faults sink.new ≡ K.faults sink.old) }
+    ensures air { ((port : ℕ) → ¬ AskLive (map (λ w. w.now) words.now) port)
+        → (A.told air.new ≡ A.told air.old) × (A.faults air.new ≡ A.faults air.old) }
+    ensures draws { ((port : ℕ) → ¬ AskLive (map (λ w. w.now) words.now) port)
+        → (D.last draws.new ≡ D.last draws.old) × (D.faults draws.new ≡ D.faults draws.old) }
+    ensures ran { AskReplay (map (λ w. w.now) words.now) → Runs (S.left source.old)
+        (S.left source.new) (K.out sink.old) (K.out sink.new) result journal.new.entries }
+    ensures lived { (port : ℕ) → AskLive (map (λ w. w.now) words.now) port
+        → Lives (S.left source.old) (S.left source.new) (K.out sink.old) (K.out sink.new)
+        (A.told air.old) (A.told air.new) (D.last draws.old) (D.last draws.new)
+        result journal.new.entries }
+    ensures stormed { (number : ℕ) → AskStorm (map (λ w. w.now) words.now) number
+        → Storms number (S.left source.old) (S.left source.new) (K.out sink.old) (K.out sink.new)
+        result journal.new.entries × (S.faults source.new ≡ S.faults source.old) }
+    ensures safe { Fresh journal.new.entries → NoCollision journal.new.entries
+        → Unforged journal.new.entries → Safe journal.new.entries }
+    ensures read_fault { result ≡ Status.ReadFault →
+        Rose (S.faults source.old) (S.faults source.new) }
+    ensures write_fault { result ≡ Status.WriteFault →
+        Rose (K.faults sink.old) (K.faults sink.new) }
+    ensures link_fault { result ≡ Status.LinkFault → Rose (A.faults air.old) (A.faults air.new) }
+    ensures draw_fault { result ≡ Status.DrawFault
+        → Rose (D.faults draws.old) (D.faults draws.new) }
+    ensures write_told { K.faults sink.new ≢ K.faults sink.old → result ≡ Status.WriteFault }
+    ensures read_told { S.faults source.new ≢ S.faults source.old
+        → ¬ Rose (K.faults sink.old) (K.faults sink.new) → result ≡ Status.ReadFault }
+    ensures link_told { A.faults air.new ≢ A.faults air.old
+        → ¬ Rose (K.faults sink.old) (K.faults sink.new) → result ≡ Status.LinkFault }
+    ensures draw_told { D.faults draws.new ≢ D.faults draws.old
+        → ¬ Rose (K.faults sink.old) (K.faults sink.new) → result ≡ Status.DrawFault }
+    ensures complete { AskReplay (map (λ w. w.now) words.now)
+        → ¬ Rose (S.faults source.old) (S.faults source.new)
+        → ¬ Rose (K.faults sink.old) (K.faults sink.new) → IsAnswered result }
+    ensures live_complete { (port : ℕ) → AskLive (map (λ w. w.now) words.now) port
+        → ¬ Rose (S.faults source.old) (S.faults source.new)
+        → ¬ Rose (K.faults sink.old) (K.faults sink.new)
+        → ¬ Rose (A.faults air.old) (A.faults air.new)
+        → ¬ Rose (D.faults draws.old) (D.faults draws.new) → IsAnswered result }
 {
     joins();
     installs_once();
     uses_once();
     hands_up_once();
-    answers_at_the_moment_are_right();
+    looks_are_right();
     let Ok(command) = read_words(alloc, words) else {
         return Status::NoMemory;
     };
     match command {
-        Some(Command::Replay) => replayed(alloc, source, sink, journal),
+        Some(Command::Replay) => {
+            let host = Host { rt, alloc, gate };
+            replayed(&host, source, sink, journal)
+        }
         Some(Command::Storm { number }) => stormed(alloc, number, sink, journal),
-        Some(Command::Live { .. }) | None => Status::Usage,
+        Some(Command::Live { .. }) => {
+            let host = Host { rt, alloc, gate };
+            lived(&host, source, sink, air, draws, journal)
+        }
+        None => Status::Usage,
     }
 }

@@ -9,3 +9,10 @@ pub mod Frames
 pub mod Ordered
 pub mod Waits
 pub mod Played
+pub mod Between
+pub mod Moments
+pub mod Workers
+pub mod Rounds
+pub mod Pulled
+pub mod Running
+pub mod Turning

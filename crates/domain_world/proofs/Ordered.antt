@@ -1,8 +1,7 @@
 -- The events of a round by the access points at which they are.
-use Rattle.std.proofs.Common.{◌≡◌, ℕ, zero, suc, ◌<◌, ◌≤◌, ◌+◌, Bool, true, false, cond, List, [], ◌∷◌, ◌++◌, length, take, map, refl, sym, ap, ◌∙◌, arith, ◌⊎◌, inl, inr}
-use Rattle.std.specs.Prelude.{slice_index_or, nat_le}
+use Rattle.std.proofs.Common.{◌≡◌, ℕ, zero, suc, ◌<◌, ◌≤◌, Bool, true, false, cond, List, [], ◌∷◌, ◌++◌, refl, sym, ap, ◌∙◌, arith, ◌⊎◌, inl, inr}
+use Rattle.std.specs.Prelude.{nat_le}
 use Rattle.std.specs.List.{AllByRecursion}
-use Rattle.std.proofs.lemmas.List.{map-append, append_assoc}
 use Rattle.std.proofs.lemmas.Bool.{le-leb}
 use Rattle.std.proofs.lemmas.Bool.Decides.{leb_tells}
 use Rattle.domain_base.specs.declared.names.Node.{Node}
@@ -12,46 +11,6 @@ use Rattle.run_journal.specs.Acts.{same}
 use Rattle.domain_rules.specs.Rounds.{node_of, is_not_behind, put_in, by_nodes}
 use Rattle.domain_rules.proofs.Parts.{same-refl, same-other, same-true}
 use Rattle.domain_world.specs.Waiting.{events_at, events_below, AreAtAps}
-
--- ---- one event more
-
-at_by : (b : Bool) (e x : Event) (xs ys : List Event) → ys ≡ xs ++ x ∷ [] → cond b (e ∷ ys) ys ≡ cond b (e ∷ xs) xs ++ x ∷ []
-at_by true e x xs ys is = ap (λ (l : List Event). e ∷ l) is
-at_by false e x xs ys is = is
-
-at_same : (b : Bool) (e : Event) (xs ys : List Event) → ys ≡ xs → cond b (e ∷ ys) ys ≡ cond b (e ∷ xs) xs
-at_same true e xs ys is = ap (λ (l : List Event). e ∷ l) is
-at_same false e xs ys is = is
-
-first_at : (b c : Bool) (e x : Event) → b ≡ c → e ≡ x → cond b (e ∷ []) [] ≡ cond c (x ∷ []) []
-first_at true true e x same_ is = ap (λ (y : Event). y ∷ []) is
-first_at false false e x same_ is = refl
-first_at true false e x same_ is = absurd (cc same_)
-first_at false true e x same_ is = absurd (cc same_)
-
-here_next : (k : ℕ) (es : List Event) (i : ℕ) (x : Event) → i < length es → x ≡ slice_index_or es i x → same (Ap k) (node_of x) ≡ true → events_at k (take (suc i) es) ≡ events_at k (take i es) ++ x ∷ []
-here_next k [] i x low is here = absurd (omega arith)
-here_next k (e ∷ es) zero x low is here = first_at (same (Ap k) (node_of e)) true e x (ap (λ (y : Event). same (Ap k) (node_of y)) (sym is) ∙ here) (sym is)
-here_next k (e ∷ es) (suc i) x low is here = at_by (same (Ap k) (node_of e)) e x (events_at k (take i es)) (events_at k (take (suc i) es)) (here_next k es i x (omega arith) is here)
-
-other_next : (k : ℕ) (es : List Event) (i : ℕ) (x : Event) → i < length es → x ≡ slice_index_or es i x → same (Ap k) (node_of x) ≡ false → events_at k (take (suc i) es) ≡ events_at k (take i es)
-other_next k [] i x low is here = absurd (omega arith)
-other_next k (e ∷ es) zero x low is here = first_at (same (Ap k) (node_of e)) false e x (ap (λ (y : Event). same (Ap k) (node_of y)) (sym is) ∙ here) (sym is)
-other_next k (e ∷ es) (suc i) x low is here = at_same (same (Ap k) (node_of e)) e (events_at k (take i es)) (events_at k (take (suc i) es)) (other_next k es i x (omega arith) is here)
-
-next_is : (k : ℕ) (es : List Event) (i : ℕ) → events_at k (take (i + 1) es) ≡ events_at k (take (suc i) es)
-next_is k es i = let e : i + 1 ≡ suc i = omega arith in ap (λ n. events_at k (take n es)) e
-
-pub at_here : (k : ℕ) (es : List Event) (i : ℕ) (x : Event) → i < length es → x ≡ slice_index_or es i x → same (Ap k) (node_of x) ≡ true → events_at k (take (i + 1) es) ≡ events_at k (take i es) ++ x ∷ []
-at_here k es i x low is here = next_is k es i ∙ here_next k es i x low is here
-
-pub at_other : (k : ℕ) (es : List Event) (i : ℕ) (x : Event) → i < length es → x ≡ slice_index_or es i x → same (Ap k) (node_of x) ≡ false → events_at k (take (i + 1) es) ≡ events_at k (take i es)
-at_other k es i x low is here = next_is k es i ∙ other_next k es i x low is here
-
--- as the list that is looked at is pushed to
-pub pushed : {A B : Type 0} (f : A → B) (new old : List A) (x : A) (front mid more : List B) → new ≡ old ++ x ∷ [] → map f old ≡ front ++ mid → more ≡ mid ++ f x ∷ [] → map f new ≡ front ++ more
-pushed f new old x front mid more is before behind =
-    ap (map f) is ∙ map-append f old (x ∷ []) ∙ ap (λ l. l ++ f x ∷ []) before ∙ append_assoc front mid (f x ∷ []) ∙ ap (λ l. front ++ l) (sym behind)
 
 -- ---- they are in order
 

@@ -23,15 +23,16 @@ use Rattle.run_journal.specs.declared.domain.ListedAp.{ListedAp}
 use Rattle.domain_rules.specs.Network.{InForm, IsListed}
 use Rattle.domain_rules.specs.InOctets.{InOctets}
 use Rattle.domain_rules.specs.AccessPointRows.{start_acts}
-use Rattle.held_rows.specs.Looks.{NoLooks, AreRight}
-use Rattle.held_rows.proofs.Looks.{right_unlooked, right_quiet}
+use Rattle.domain_rules.specs.HeldRight.{AnsweredInTime}
+use Rattle.held_rows.specs.Looks.{NoLooks}
+use Rattle.domain_world.proofs.Moments.{held_unasked, unasked_push}
 use Rattle.held_rows.proofs.NoLooks.{start_no_looks}
 use Rattle.domain_rules.specs.Rows.{NodeEvent}
 use Rattle.domain_rules.specs.Explained.{push, HappensAt, Step, WasSent}
 use Rattle.domain_rules.proofs.Journals.{step_at}
 use Rattle.run_journal.specs.Listing.{with_ap, with_sta}
 use Rattle.domain_world.specs.State.{State, Nodes}
-use Rattle.domain_world.specs.Owning.{AreListed, Stand, IsPast, IsNumbered, places, nodes_of, Places, HoldNone, Owns}
+use Rattle.domain_world.specs.Owning.{AreListed, Stand, IsPast, IsNumbered, places, nodes_of, Places, HoldNone, AskNone, Owns}
 use Rattle.domain_world.specs.Acting.{Acted}
 use Rattle.domain_world.proofs.Placed.{places_count, numbered_push, Placed, placed, all_in}
 use Rattle.domain_world.proofs.Standing.{past_push, past_more, nothing_yet}
@@ -77,9 +78,8 @@ octets_none d no_aps no_stas size in_mdid = record {
   id_octets = subst (AllByRecursion (λ (a : ListedAp). AreOctets a.r0kh_id)) (sym no_aps) tt;
 }
 
-pub right_none : (d : Domain) → AreRight d []
-unfolding AreRight
-right_none d = tt
+pub right_none : (d : Domain) → AnsweredInTime d []
+right_none d = held_unasked d [] tt
 
 -- of all rounds up to one, and up to a later one
 pub all_low : (rounds later : ℕ) (j : List Entry) → rounds ≤ later → AllByRecursion (λ (e : Entry). e.round ≤ rounds) j → AllByRecursion (λ (e : Entry). e.round ≤ later) j
@@ -114,9 +114,10 @@ own_event old new node at acts j k own listed acted all domain rounds usable not
   stand = subst (Stand (nodes_of new)) (sym is) (acted.stand (suc old.rounds));
   placed = placed_push old new (suc old.rounds) node acts j k own.placed is (λ n l. subst (λ (d : Domain). IsListed d n) (sym domain) l) (subst (λ (d : Domain). IsListed d node) (sym domain) listed)
       (omega (arith, rounds)) (omega (arith, rounds)) noted;
-  right = subst (λ (d : Domain). AreRight d k) (sym domain) (subst (AreRight old.domain) (sym is)
-      (acted.right (suc old.rounds) (omega arith) (all_low old.rounds (suc old.rounds) j (omega arith) (up_to old.domain old.rounds j own.placed.past)) own.right));
+  right = subst (λ (d : Domain). AnsweredInTime d k) (sym domain) (subst (AnsweredInTime old.domain) (sym is)
+      (acted.right (suc old.rounds) (all_low old.rounds (suc old.rounds) j (omega arith) (up_to old.domain old.rounds j own.placed.past)) own.right));
   quiet = λ none. absurd (omega (arith, none, rounds));
+  asked = λ none. absurd (omega (arith, none, rounds));
 }
 
 pub step_event : (old : State) (new : Nodes) (event : Event) (node : Node) (at : NodeEvent) (acts : List Act) (j k : List Entry) → HappensAt event j (suc old.rounds) node at → Acted node at j (nodes_of old) new acts
@@ -137,10 +138,6 @@ more_stas d address (Sta k) l = omega (arith, length-append d.stas (address ∷ 
 unlisted : (n : ℕ) → (n < n → ⊥)
 unlisted n low = omega arith
 
--- in round 0 nothing is looked up
-no_looks_yet : (d e : Domain) (rounds : ℕ) (j : List Entry) → rounds ≡ 0 → AllByRecursion (IsPast d rounds) j → AreRight d j → AreRight e j
-no_looks_yet d e rounds j none past right = right_quiet d e j (subst (λ n. AllByRecursion (λ (m : Entry). m.round ≤ n) j) none (up_to d rounds j past)) right
-
 -- an access point, which starts
 pub own_ap : (old new : State) (address : Mac) (r0kh_id : List ℕ) (node : Node) (acts : List Act) (j k : List Entry) → Owns old j → old.rounds ≡ 0 → InForm (with_ap old.domain address r0kh_id) → IsAddress address.0 → AreOctets address.0 → AreOctets r0kh_id → node ≡ Ap (length old.domain.aps)
     → new.domain ≡ with_ap old.domain address r0kh_id → acts ≡ start_acts new.domain 0 node → new.rounds ≡ old.rounds → new.usable ≡ old.usable → new.frames ≡ places k → k ≡ push 0 node acts j → AreListed (nodes_of new) → HoldNone new.rows
@@ -149,7 +146,7 @@ own_ap old new address r0kh_id node acts j k own first form size in_address in_i
     let none : history node j ≡ [] = subst (λ (n : Node). history n j ≡ []) (sym at) (nothing_yet old.domain old.rounds (Ap (length old.domain.aps)) j own.placed.past (unlisted (length old.domain.aps))) in
     let last : IsListed (with_ap old.domain address r0kh_id) (Ap (length old.domain.aps)) = omega (arith, length-append old.domain.aps (record { address = address; r0kh_id = r0kh_id } ∷ [])) in
     let quiet : NoLooks acts = subst NoLooks (sym starts) (subst (λ (n : Node). NoLooks (start_acts new.domain 0 n)) (sym at) (start_no_looks new.domain 0 (length old.domain.aps)).0) in
-    let low : AllByRecursion (λ (m : Entry). m.round ≤ 0) j = subst (λ n. AllByRecursion (λ (m : Entry). m.round ≤ n) j) first (up_to old.domain old.rounds j own.placed.past) in
+    let asked : AskNone k = subst AskNone (sym is) (unasked_push 0 node acts j quiet (own.asked first)) in
     record {
       usable = usable ∙ own.usable;
       form = subst InForm (sym domain) form;
@@ -158,8 +155,9 @@ own_ap old new address r0kh_id node acts j k own first form size in_address in_i
       stand = subst (Stand (nodes_of new)) (sym is) (stand j own.stand (own.quiet first) none);
       placed = placed_push old new 0 node acts j k own.placed is (λ n l. subst (λ (d : Domain). IsListed d n) (sym domain) (more_aps old.domain address r0kh_id n l))
           (subst (λ (n : Node). IsListed new.domain n) (sym at) (subst (λ (d : Domain). IsListed d (Ap (length old.domain.aps))) (sym domain) last)) (omega (arith, rounds)) (omega arith) noted;
-      right = subst (AreRight new.domain) (sym is) (right_unlooked new.domain 0 node acts j quiet low (no_looks_yet old.domain new.domain old.rounds j first own.placed.past own.right));
+      right = held_unasked new.domain k asked;
       quiet = λ still. none_held;
+      asked = λ still. asked;
     }
 
 -- a station, which does nothing
@@ -177,8 +175,9 @@ own_sta old new address j own first form size in_address domain rounds usable fr
       stand = stand j own.stand none;
       placed = placed_push old new 0 (Sta n) [] j j own.placed refl (λ m l. subst (λ (d : Domain). IsListed d m) (sym domain) (more_stas old.domain address m l))
           (subst (λ (d : Domain). IsListed d (Sta n)) (sym domain) last) (omega (arith, rounds)) (omega arith) (frames ∙ own.placed.places);
-      right = no_looks_yet old.domain new.domain old.rounds j first own.placed.past own.right;
+      right = held_unasked new.domain j (own.asked first);
       quiet = λ still. subst HoldNone (sym held) (own.quiet first);
+      asked = λ still. own.asked first;
     }
 
 -- ---- a frame by its number

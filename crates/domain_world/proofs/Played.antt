@@ -1,5 +1,5 @@
 -- The events of a round one after the other.
-use Rattle.std.proofs.Common.{◌≡◌, ℕ, zero, suc, cond, Bool, false, ◌<◌, ◌≤◌, ◌+◌, ◌*◌, inr, true, List, [], ◌∷◌, ◌++◌, length, take, map, refl, sym, ap, subst, ◌∙◌, arith}
+use Rattle.std.proofs.Common.{◌≡◌, ℕ, zero, suc, ◌<◌, ◌≤◌, ◌+◌, ◌*◌, inr, true, List, [], ◌∷◌, ◌++◌, length, take, map, refl, sym, ap, subst, ◌∙◌, arith}
 use native.Mathlib.Numerals.{unary_clauses}
 use Rattle.std.specs.Prelude.{slice_index_or}
 use Rattle.std.proofs.lemmas.List.{map-append}
@@ -12,29 +12,22 @@ use Rattle.run_journal.specs.declared.domain.Event.TheVariants.{Connect, Roam, D
 use Rattle.run_journal.specs.declared.acts.Act.{Act}
 use Rattle.run_journal.specs.declared.acts.Entry.{Entry}
 use Rattle.run_journal.specs.Premises.{In}
-use Rattle.run_journal.specs.Questions.{history}
 use Rattle.domain_rules.specs.Network.{InForm, IsListed, is_ap}
-use Rattle.domain_rules.specs.Rounds.{node_of, is_not_behind, put_in, by_nodes}
+use Rattle.domain_rules.specs.Rounds.{node_of}
 use Rattle.domain_rules.specs.InOctets.{InOctets}
 use Rattle.domain_rules.specs.Here.{here}
-use Rattle.domain_rules.specs.Rows.{NodeEvent, Adds}
-use Rattle.domain_rules.specs.Explained.{push, number_of, WasSent, HappensAt, Step, Follows}
-use Rattle.domain_rules.proofs.Journals.{step_at, follows_more}
-use Rattle.held_rows.specs.Looks.{AreRight}
+use Rattle.domain_rules.specs.Rows.{NodeEvent}
+use Rattle.domain_rules.specs.Explained.{push, number_of, WasSent, HappensAt}
+use Rattle.domain_rules.specs.HeldRight.{AnsweredInTime}
 use Rattle.domain_world.specs.declared.part.Part.{Part}
-use Rattle.domain_world.specs.State.{State, Nodes}
+use Rattle.domain_world.specs.State.{State}
 use Rattle.domain_world.specs.Owning.{AreListed, Stand, IsPast, IsNumbered, places, nodes_of, IsEventIn, AreEventsIn, Owns}
 use Rattle.domain_world.specs.Waiting.{joined, waiting, AreShort, AreAtAps}
-use Rattle.domain_world.specs.Acting.{IsPlayed, Played}
-use Rattle.domain_world.proofs.Few.{few}
+use Rattle.domain_world.specs.Acting.{Played}
 use Rattle.domain_world.proofs.Placed.{places_count, numbered_push}
 use Rattle.domain_world.proofs.Standing.{past_push, past_more}
 
--- ---- one part more
-
-pub joined_last : (round : ℕ) (part : Part) (parts : List Part) (j : List Entry) → joined round (parts ++ part ∷ []) j ≡ push round part.node part.out.acts (joined round parts j)
-joined_last round part [] j = refl
-joined_last round part (x ∷ parts) j = joined_last round part parts (push round x.node x.out.acts j)
+-- ---- parts put on a journal
 
 in_push : (e : Entry) (round : ℕ) (n : Node) (g : List Act) (j : List Entry) → In e j → In e (push round n g j)
 in_push e round n [] j there = there
@@ -48,7 +41,7 @@ in_joined e round (part ∷ parts) j there = in_joined e round parts (push round
 sent_joined : (round number : ℕ) (octets : List ℕ) (at : ℕ) (parts : List Part) (j : List Entry) → WasSent j round number octets → WasSent (joined at parts j) round number octets
 sent_joined round number octets at parts j sent = record { entry = sent.entry; there = in_joined sent.entry at parts j sent.there; earlier = sent.earlier; is = sent.is; act = sent.act }
 
-happens_joined : (event : Event) (round : ℕ) (n : Node) (here : NodeEvent) (at : ℕ) (parts : List Part) (j : List Entry) → HappensAt event j round n here → HappensAt event (joined at parts j) round n here
+pub happens_joined : (event : Event) (round : ℕ) (n : Node) (here : NodeEvent) (at : ℕ) (parts : List Part) (j : List Entry) → HappensAt event j round n here → HappensAt event (joined at parts j) round n here
 happens_joined (Connect s a) round n here at parts j is = is
 happens_joined (Roam s a) round n here at parts j is = is
 happens_joined (Deliver number to) round n here at parts j is = (is.0, (sent_joined round number is.0 at parts j is.1.0, is.1.1))
@@ -62,52 +55,13 @@ happens_joined (Expire a s) round n here at parts j is = is
 happens_joined (Revoke a s) round n here at parts j is = is
 happens_joined (Leave s) round n here at parts j is = is
 
-low_push : (round : ℕ) (n : Node) (g : List Act) (j : List Entry) → AllByRecursion (λ (e : Entry). e.round ≤ round) j → AllByRecursion (λ (e : Entry). e.round ≤ round) (push round n g j)
+pub low_push : (round : ℕ) (n : Node) (g : List Act) (j : List Entry) → AllByRecursion (λ (e : Entry). e.round ≤ round) j → AllByRecursion (λ (e : Entry). e.round ≤ round) (push round n g j)
 low_push round n [] j low = low
 low_push round n (act ∷ g) j low = low_push round n g (record { round = round; node = n; number = number_of act j; act = act } ∷ j) (omega arith, low)
 
-low_joined : (round : ℕ) (parts : List Part) (j : List Entry) → AllByRecursion (λ (e : Entry). e.round ≤ round) j → AllByRecursion (λ (e : Entry). e.round ≤ round) (joined round parts j)
+pub low_joined : (round : ℕ) (parts : List Part) (j : List Entry) → AllByRecursion (λ (e : Entry). e.round ≤ round) j → AllByRecursion (λ (e : Entry). e.round ≤ round) (joined round parts j)
 low_joined round [] j low = low
 low_joined round (part ∷ parts) j low = low_joined round parts (push round part.node part.out.acts j) (low_push round part.node part.out.acts j low)
-
-parts_last : (P : Part → Type 0) (parts : List Part) (part : Part) → AllByRecursion P parts → P part → AllByRecursion P (parts ++ part ∷ [])
-parts_last P [] part all last = (last, tt)
-parts_last P (x ∷ parts) part all last = (all.0, parts_last P parts part all.1 last)
-
-pub short_last : (most : ℕ) (parts : List Part) (part : Part) → AreShort most parts → length part.out.acts ≤ most → AreShort most (parts ++ part ∷ [])
-short_last most parts part all last = parts_last (λ (x : Part). length x.out.acts ≤ most) parts part all last
-
-pub none_played : (round : ℕ) (j : List Entry) (nodes : Nodes) → Stand nodes j → AreRight nodes.domain j → Played round [] j nodes nodes []
-none_played round j nodes stand right = record { follows = refl; stand = stand; right = right; listed = tt; domain = refl; count = refl }
-
-module _ (round : ℕ) (events : List Event) (event : Event) (j : List Entry) (old mid new : Nodes) (parts : List Part) (part : Part) where
-  step_more : Played round events j old mid parts → IsPlayed round event j mid new part → Step old.domain round event (joined round parts j) (push round part.node part.out.acts (joined round parts j))
-  step_more before one =
-      let acted = one.acted (joined round parts j) before.stand in
-      step_at old.domain round event (joined round parts j) (push round part.node part.out.acts (joined round parts j)) (record {
-        node = part.node;
-        at_node = one.at;
-        happens = happens_joined event round part.node one.at round parts j one.happens;
-        acts = part.out.acts;
-        group = subst (λ (d : Domain). Adds (here d 0 part.node) (history part.node (joined round parts j)) one.at part.out.acts) before.domain acted.adds;
-        is = refl;
-      })
-
-  pub played_more : 1 ≤ round → AllByRecursion (λ (e : Entry). e.round ≤ round) j → new.domain ≡ mid.domain → length new.stas ≡ length mid.stas → Played round events j old mid parts → IsPlayed round event j mid new part
-      → Played round (events ++ event ∷ []) j old new (parts ++ part ∷ [])
-  played_more behind low domain count before one =
-      let acted = one.acted (joined round parts j) before.stand in
-      let last = sym (joined_last round part parts j) in
-      let right = subst (λ (d : Domain). AreRight d (joined round parts j) → AreRight d (push round part.node part.out.acts (joined round parts j))) before.domain
-      (acted.right round behind (low_joined round parts j low)) in
-      record {
-        follows = subst (Follows old.domain round (events ++ event ∷ []) j) last (follows_more old.domain round events event j (joined round parts j) (push round part.node part.out.acts (joined round parts j)) before.follows (step_more before one));
-        stand = subst (Stand new) last (acted.stand round);
-        right = subst (AreRight old.domain) last (right before.right);
-        listed = parts_last (λ (x : Part). IsListed old.domain x.node) parts part before.listed (subst (λ (d : Domain). IsListed d part.node) before.domain one.listed);
-        domain = domain ∙ before.domain;
-        count = count ∙ before.count;
-      }
 
 -- ---- how many acts wait
 
@@ -149,13 +103,14 @@ own_round old new events parts j k own played all rounds usable noted is =
             (subst (λ r. AllByRecursion (IsPast new.domain r) (joined (suc old.rounds) parts j)) (sym rounds)
             (subst (λ (d : Domain). AllByRecursion (IsPast d (suc old.rounds)) (joined (suc old.rounds) parts j)) (sym domain) placed.1));
       };
-      right = subst (λ (d : Domain). AreRight d k) (sym domain) (subst (AreRight old.domain) (sym is) played.right);
+      right = subst (λ (d : Domain). AnsweredInTime d k) (sym domain) (subst (AnsweredInTime old.domain) (sym is) played.right);
       quiet = λ none. absurd (omega (arith, none, rounds));
+      asked = λ none. absurd (omega (arith, none, rounds));
     }
 
 -- ---- the events of a round
 
-listed_at : (d : Domain) (sent : ℕ) (j : List Entry) (event : Event) → IsEventIn d sent j event → IsListed d (node_of event)
+pub listed_at : (d : Domain) (sent : ℕ) (j : List Entry) (event : Event) → IsEventIn d sent j event → IsListed d (node_of event)
 listed_at d sent j (Connect s a) is = is.0
 listed_at d sent j (Roam s a) is = is.0
 listed_at d sent j (Deliver number to) is = is.2
@@ -177,32 +132,10 @@ pub at_aps : (d : Domain) (sent : ℕ) (j : List Entry) (events : List Event) �
 at_aps d sent j [] all = tt
 at_aps d sent j (event ∷ events) all = (ap_of d (node_of event) all.0.1 (listed_at d sent j event all.0.0), at_aps d sent j events all.1)
 
-put_all_by : (P : Event → Type 0) (b : Bool) (e x : Event) (xs ys : List Event) → P e → P x → AllByRecursion P xs → AllByRecursion P ys → AllByRecursion P (cond b (e ∷ x ∷ xs) (x ∷ ys))
-put_all_by P true e x xs ys one first rest later = (one, (first, rest))
-put_all_by P false e x xs ys one first rest later = (first, later)
-
-put_all : (P : Event → Type 0) (e : Event) (es : List Event) → P e → AllByRecursion P es → AllByRecursion P (put_in e es)
-put_all P e [] one all = (one, tt)
-put_all P e (x ∷ es) one all = put_all_by P (is_not_behind (node_of e) (node_of x)) e x es (put_in e es) one all.0 all.1 (put_all P e es one all.1)
-
-all_by_nodes : (P : Event → Type 0) (es : List Event) → AllByRecursion P es → AllByRecursion P (by_nodes es)
-all_by_nodes P [] all = tt
-all_by_nodes P (e ∷ es) all = put_all P e (by_nodes es) all.0 (all_by_nodes P es all.1)
-
-pub events_in_order : (d : Domain) (sent : ℕ) (j : List Entry) (events order : List Event) → order ≡ by_nodes events → AreEventsIn d sent j events → AreEventsIn d sent j order
-events_in_order d sent j events order is all =
-    subst (AreEventsIn d sent j) (sym is) (all_by_nodes (λ (event : Event). IsEventIn d sent j event × (is_ap (node_of event) ≡ true)) events all)
-
 pub event_in : (d : Domain) (sent : ℕ) (j : List Entry) (events : List Event) (i : ℕ) (event : Event) → i < length events → event ≡ slice_index_or events i event → AreEventsIn d sent j events → IsEventIn d sent j event
 event_in d sent j [] i event low is all = absurd (omega arith)
 event_in d sent j (x ∷ events) zero event low is all = subst (IsEventIn d sent j) (sym is) all.0.0
 event_in d sent j (x ∷ events) (suc i) event low is all = event_in d sent j events i event (omega arith) is all.1
-
--- an event has few acts
-pub short_one : (round : ℕ) (event : Event) (j i : List Entry) (old new : Nodes) (part : Part) → AreListed old → Stand old i → IsPlayed round event j old new part → length part.out.acts ≤ 8 + length old.stas
-short_one round event j i old new part listed stand one =
-    let acted = one.acted i stand in
-    omega (arith, few old.domain 0 part.node (history part.node i) one.at part.out.acts acted.adds, listed.count_stas)
 
 -- ---- the events behind references
 
@@ -211,7 +144,7 @@ index_map f [] i x low is = absurd (omega arith)
 index_map f (y ∷ xs) zero x low is = ap f is
 index_map f (y ∷ xs) (suc i) x low is = index_map f xs i x (omega arith) is
 
-next_taken : {A : Type 0} (xs : List A) (i : ℕ) (x : A) → i < length xs → x ≡ slice_index_or xs i x → take (suc i) xs ≡ take i xs ++ x ∷ []
+pub next_taken : {A : Type 0} (xs : List A) (i : ℕ) (x : A) → i < length xs → x ≡ slice_index_or xs i x → take (suc i) xs ≡ take i xs ++ x ∷ []
 next_taken [] i x low is = absurd (omega arith)
 next_taken (y ∷ xs) zero x low is = ap (λ z. z ∷ []) (sym is)
 next_taken (y ∷ xs) (suc i) x low is = ap (λ l. y ∷ l) (next_taken xs i x (omega arith) is)

@@ -6,7 +6,9 @@ use Rattle.std.proofs.lemmas.Bool.{cases_lt}
 use Rattle.std.proofs.lemmas.List.{length-set, append-nil}
 use Rattle.std.proofs.lemmas.Option.{slice_get_within, slice_get_read}
 use Rattle.key_holders.specs.declared.rows.HeldRow.{HeldRow}
-use Rattle.key_holders.specs.Listed.{Listed, none_held, rows_at}
+use Rattle.key_holders.specs.Listed.{rows_at}
+use Rattle.holder_table.specs.declared.history.HolderEvent.{HolderEvent}
+use Rattle.holder_table.specs.Histories.{held_at}
 use Rattle.domain_rules.specs.Network.{IsNamed, IsListed}
 use Rattle.domain_base.specs.declared.names.Node.{Node}
 use Rattle.domain_base.specs.declared.names.Node.TheVariants.{Ap, Sta}
@@ -39,7 +41,7 @@ with_station_node n k s = record { domain = n.domain; aps = n.aps; stas = slice_
 
 -- ---- a node takes an event
 
-other_ap : (a b : ℕ) → (a ≡ b → ⊥) → same (Ap a) (Ap b) ≡ false
+pub other_ap : (a b : ℕ) → (a ≡ b → ⊥) → same (Ap a) (Ap b) ≡ false
 other_ap a b other = same-other (Ap a) (Ap b) (λ (e : Ap a ≡ Ap b). other (cc e))
 
 other_sta : (a b : ℕ) → (a ≡ b → ⊥) → same (Sta a) (Sta b) ≡ false
@@ -220,38 +222,33 @@ at_last : (l : List (List HeldRow)) (xs : List HeldRow) → rows_at (l ++ xs ∷
 at_last [] xs = refl
 at_last (ys ∷ l) xs = at_last l xs
 
-count_below : (n : ℕ) (h : Listed) → length (rows_below n h) ≡ n
-count_below zero h = refl
-count_below (suc n) h = omega (arith, length-append (rows_below n h) (rows_at h.rows n ∷ []), count_below n h)
+count_below : (n : ℕ) (seen : List HolderEvent) → length (rows_below n seen) ≡ n
+count_below zero seen = refl
+count_below (suc n) seen = omega (arith, length-append (rows_below n seen) (held_at n seen ∷ []), count_below n seen)
 
-pub below_at : (n k : ℕ) (h : Listed) → k < n → rows_at (rows_below n h) k ≡ rows_at h.rows k
-below_at zero k h low = absurd (omega arith)
-below_at (suc n) k h low = elim (cases_lt k n) [
-  | inl less ↦ at_push (rows_below n h) (rows_at h.rows n) k (omega (arith, less, count_below n h)) ∙ below_at n k h less
+pub below_at : (n k : ℕ) (seen : List HolderEvent) → k < n → rows_at (rows_below n seen) k ≡ held_at k seen
+below_at zero k seen low = absurd (omega arith)
+below_at (suc n) k seen low = elim (cases_lt k n) [
+  | inl less ↦ at_push (rows_below n seen) (held_at n seen) k (omega (arith, less, count_below n seen)) ∙ below_at n k seen less
   | inr more ↦
       let is : k ≡ n = omega (arith, more) in
-      let last : rows_at (rows_below n h ++ rows_at h.rows n ∷ []) k ≡ rows_at h.rows n = ap (rows_at (rows_below n h ++ rows_at h.rows n ∷ [])) (is ∙ sym (count_below n h)) ∙ at_last (rows_below n h) (rows_at h.rows n) in
-      last ∙ ap (rows_at h.rows) (sym is)
+      let last : rows_at (rows_below n seen ++ held_at n seen ∷ []) k ≡ held_at n seen = ap (rows_at (rows_below n seen ++ held_at n seen ∷ [])) (is ∙ sym (count_below n seen)) ∙ at_last (rows_below n seen) (held_at n seen) in
+      last ∙ ap (λ i. held_at i seen) (sym is)
 ]
 
-pub below_same : (n : ℕ) (g h : Listed) → ((k : ℕ) → k < n → rows_at g.rows k ≡ rows_at h.rows k) → rows_below n g ≡ rows_below n h
-below_same zero g h same_ = refl
-below_same (suc n) g h same_ =
-    ap (λ (l : List (List HeldRow)). l ++ rows_at g.rows n ∷ []) (below_same n g h (λ k low. same_ k (omega (arith, low))))
-    ∙ ap (λ (xs : List HeldRow). rows_below n h ++ xs ∷ []) (same_ n (omega arith))
+pub below_same : (n : ℕ) (old new : List HolderEvent) → ((k : ℕ) → k < n → held_at k new ≡ held_at k old) → rows_below n new ≡ rows_below n old
+below_same zero old new same_ = refl
+below_same (suc n) old new same_ =
+    ap (λ (l : List (List HeldRow)). l ++ held_at n new ∷ []) (below_same n old new (λ k low. same_ k (omega (arith, low))))
+    ∙ ap (λ (xs : List HeldRow). rows_below n old ++ xs ∷ []) (same_ n (omega arith))
 
 none_last : (l : List (List HeldRow)) (xs : List HeldRow) → HoldNone l → xs ≡ [] → HoldNone (l ++ xs ∷ [])
 none_last [] xs none last = (last, tt)
 none_last (ys ∷ l) xs none last = (none.0, none_last l xs none.1 last)
 
-none_replicate : (ids : List (List ℕ)) (k : ℕ) → rows_at (none_held ids).rows k ≡ []
-none_replicate [] k = refl
-none_replicate (id ∷ ids) zero = refl
-none_replicate (id ∷ ids) (suc k) = none_replicate ids k
-
-pub none_below : (n : ℕ) (h : Listed) (ids : List (List ℕ)) → h ≡ none_held ids → HoldNone (rows_below n h)
-none_below zero h ids is = tt
-none_below (suc n) h ids is = none_last (rows_below n h) (rows_at h.rows n) (none_below n h ids is) (ap (λ (g : Listed). rows_at g.rows n) is ∙ none_replicate ids n)
+pub none_below : (n : ℕ) → HoldNone (rows_below n [])
+none_below zero = tt
+none_below (suc n) = none_last (rows_below n []) [] (none_below n) refl
 
 -- ---- entries of listed nodes
 

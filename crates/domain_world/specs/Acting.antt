@@ -1,5 +1,5 @@
 -- What an event at a node does. For the code alone: no public contract speaks of it.
-use Rattle.std.specs.Prelude.{◌≡◌, ◌≤◌, ℕ, List, length}
+use Rattle.std.specs.Prelude.{◌≡◌, ◌≤◌, ◌+◌, ℕ, List, length}
 use Rattle.std.specs.List.{AllByRecursion}
 use Rattle.domain_base.specs.declared.names.Node.{Node}
 use Rattle.run_journal.specs.declared.domain.Event.{Event}
@@ -9,19 +9,19 @@ use Rattle.run_journal.specs.declared.acts.Entry.{Entry}
 use Rattle.run_journal.specs.Questions.{history}
 use Rattle.domain_rules.specs.Network.{IsListed}
 use Rattle.domain_rules.specs.Rows.{NodeEvent, Adds}
-use Rattle.domain_rules.specs.Explained.{push, altered, HappensAt, Follows, WasSent}
+use Rattle.domain_rules.specs.Explained.{push, altered, Follows, WasSent}
 use Rattle.domain_rules.specs.Here.{here}
-use Rattle.held_rows.specs.Looks.{AreRight}
+use Rattle.domain_rules.specs.HeldRight.{AnsweredInTime}
 use Rattle.domain_world.specs.declared.part.Part.{Part}
 use Rattle.domain_world.specs.State.{Nodes}
 use Rattle.domain_world.specs.Owning.{Stand}
-use Rattle.domain_world.specs.Waiting.{joined}
+use Rattle.domain_world.specs.Waiting.{joined, AreShort}
 
--- after that journal the node does these acts, the nodes stand for the journal with them, and looks are answered rightly
+-- after that journal the node does these acts, the nodes stand for the journal with them, and key holders answered rightly
 pub record Acted (node : Node) (event : NodeEvent) (j : List Entry) (old new : Nodes) (acts : List Act) : Type 0 where
   pub adds : Adds (here old.domain 0 node) (history node j) event acts
   pub stand : (round : ℕ) → Stand new (push round node acts j)
-  pub right : (round : ℕ) → 1 ≤ round → AllByRecursion (λ (e : Entry). e.round ≤ round) j → AreRight old.domain j → AreRight old.domain (push round node acts j)
+  pub right : (round : ℕ) → AllByRecursion (λ (e : Entry). e.round ≤ round) j → AnsweredInTime old.domain j → AnsweredInTime old.domain (push round node acts j)
 
 -- these are the octets of the frame of that number with one changed
 abbrev pub IsAltered : List Entry → ℕ → ℕ → ℕ → ℕ → List ℕ → Type 0
@@ -32,18 +32,12 @@ abbrev pub IsChanged : Event → List Entry → ℕ → List ℕ → Type 0
 IsChanged (Alter number place mask to) j round changed = IsAltered j round number place mask changed
 IsChanged event j round changed = Unit {0}
 
--- one event did
-pub record IsPlayed (round : ℕ) (event : Event) (j : List Entry) (old new : Nodes) (part : Part) : Type 0 where
-  pub at : NodeEvent
-  pub happens : HappensAt event j round part.node at
-  pub acted : (i : List Entry) → Stand old i → Acted part.node at i old new part.out.acts
-  pub listed : IsListed old.domain part.node
-
 -- events one after the other took the nodes from old to new, and this waits of them
 pub record Played (round : ℕ) (events : List Event) (j : List Entry) (old new : Nodes) (parts : List Part) : Type 0 where
   pub follows : Follows old.domain round events j (joined round parts j)
   pub stand : Stand new (joined round parts j)
-  pub right : AreRight old.domain (joined round parts j)
+  pub right : AnsweredInTime old.domain (joined round parts j)
   pub listed : AllByRecursion (λ (part : Part). IsListed old.domain part.node) parts
   pub domain : new.domain ≡ old.domain
   pub count : length new.stas ≡ length old.stas
+  pub short : AreShort (8 + length old.stas) parts

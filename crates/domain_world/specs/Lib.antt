@@ -2,3 +2,6 @@ pub mod State
 pub mod Owning
 pub mod Waiting
 pub mod Acting
+pub mod Holding
+pub mod Working
+pub mod Comings

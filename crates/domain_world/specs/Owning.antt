@@ -20,7 +20,8 @@ use Rattle.station_node.specs.State.{State as StationState}
 use Rattle.station_node.specs.Stands.{Stands as StationStands}
 use Rattle.ap_node.specs.State.{State as ApState}
 use Rattle.ap_node.specs.Stands.{StandsWith as ApStands}
-use Rattle.held_rows.specs.Looks.{AreRight}
+use Rattle.held_rows.specs.Looks.{IsNoLook}
+use Rattle.domain_rules.specs.HeldRight.{AnsweredInTime}
 use Rattle.domain_world.specs.State.{State, Nodes}
 
 -- the frame of that number was sent, and has so many octets at least
@@ -87,8 +88,12 @@ pub record Places (w : State) (j : List Entry) : Type 0 where
 abbrev pub HoldNone : List (List HeldRow) → Type 0
 HoldNone rows = AllByRecursion (λ (xs : List HeldRow). xs ≡ []) rows
 
--- The world stands for the journal: each node for its part of it, and looks were answered rightly. Before the first round no key
--- holder has rows.
+-- no key holder was asked
+abbrev pub AskNone : List Entry → Type 0
+AskNone j = AllByRecursion (λ (e : Entry). IsNoLook e.act) j
+
+-- The world stands for the journal: each node for its part of it, and key holders answered rightly. Before the first round they have no
+-- rows, and none was asked.
 pub record Owns (w : State) (j : List Entry) : Type 0 where
   pub usable : w.usable ≡ true
   pub form : InForm w.domain
@@ -96,8 +101,9 @@ pub record Owns (w : State) (j : List Entry) : Type 0 where
   pub listed : AreListed (nodes_of w)
   pub stand : Stand (nodes_of w) j
   pub placed : Places w j
-  pub right : AreRight w.domain j
+  pub right : AnsweredInTime w.domain j
   pub quiet : w.rounds ≡ 0 → HoldNone w.rows
+  pub asked : w.rounds ≡ 0 → AskNone j
 
 -- of a round: each event may happen before it, at an access point
 abbrev pub AreEventsIn : Domain → ℕ → List Entry → List Event → Type 0

@@ -1,7 +1,8 @@
 -- What contracts see of a world.
 use Rattle.std.specs.Prelude.{ℕ, zero, suc, Bool, List, [], ◌∷◌, ◌++◌}
 use Rattle.key_holders.specs.declared.rows.HeldRow.{HeldRow}
-use Rattle.key_holders.specs.Listed.{Listed, rows_at}
+use Rattle.holder_table.specs.declared.history.HolderEvent.{HolderEvent}
+use Rattle.holder_table.specs.Histories.{held_at}
 use Rattle.run_journal.specs.declared.domain.Domain.{Domain}
 use Rattle.station_node.specs.State.{State as StationState}
 use Rattle.ap_node.specs.State.{State as ApState}
@@ -24,7 +25,7 @@ pub record Nodes : Type 0 where
   pub stas : List StationState
   pub rows : List (List HeldRow)
 
--- the rows of the first so many
-abbrev pub rows_below : ℕ → Listed → List (List HeldRow)
-rows_below zero h = []
-rows_below (suc k) h = rows_below k h ++ rows_at h.rows k ∷ []
+-- the rows of the first so many access points, as a history leaves them
+abbrev pub rows_below : ℕ → List HolderEvent → List (List HeldRow)
+rows_below zero seen = []
+rows_below (suc k) seen = rows_below k seen ++ held_at k seen ∷ []

@@ -1,62 +1,66 @@
 //! An event handed to its node.
 
-ghost use Rattle.std.specs.Prelude.{◌≡◌, ◌<◌, ◌++◌, true, ℕ, List, length, IfOk, OnOk, OnErr};
+ghost use Rattle.std.specs.Prelude.{◌≡◌, ◌≢◌, ◌<◌, ◌++◌, true, [], ℕ, List, length, IfOk, OnOk, OnErr};
 ghost use Rattle.domain_base.specs.declared.names.Node.TheVariants.{Ap as ApOf, Sta as StaOf};
 ghost use Rattle.run_journal.specs.declared.acts.Act.{Act as AnyAct};
 ghost use Rattle.domain_rules.specs.Here.{here};
 ghost use Rattle.domain_rules.specs.Network.{InForm};
 ghost use Rattle.node_base.specs.Events.{event_of, IsEventAt, Steps, seen};
 ghost use Rattle.key_holders.specs.Rows.{is_in};
-ghost use Rattle.key_holders.specs.Listed.{below, rows_at, Pulled};
 ghost use Rattle.ft_exchange.specs.Asking.{ids_of};
 ghost use Rattle.held_rows.specs.Looks.{AreLooked};
+ghost use Rattle.holder_table.specs.Histories.{held_at};
+ghost use Rattle.holder_table.specs.Relations.{KnowsNoLess};
 ghost use Rattle.ap_node.specs.Looking.{AnsweredBy};
 ghost use Rattle.ap_node.specs.Putting.{LeavesOthers};
 ghost use Rattle.ap_node.specs.Stands.{StandsWith as ApStands};
 ghost use Rattle.station_node.specs.Stands.{Stands as StationStands};
+ghost use Rattle.domain_world.specs.Working.{Turned};
 
+use crate::shared::Shared;
 use act_memory::Outbox;
 use ap_node::ApNode;
 use domain_base::NoMemory;
-use key_holders::ListHolders;
+use holder_table::Bound;
+use key_holders::Holders;
 use node_base::NodeEvent;
 use run_journal::{Domain, Outcome};
 use station_node::StationNode;
 use std::alloc::Global;
 
-/// One event at an access point, which has these key holders.
-pub(crate) fn step_ap(
+// One event at an access point, which has these key holders.
+fn step_ap<H: Holders>(
     ap: &mut ApNode,
     alloc: Global,
     domain: &Domain,
     event: &NodeEvent<'_>,
-    holders: &mut ListHolders,
+    holders: &mut H,
     out: &mut Outbox,
 ) -> Result<Outcome, NoMemory>
     requires form { InForm domain.now }
     requires listed { ap.old.number < length domain.now.aps }
     requires event { IsEventAt domain.now (ApOf ap.old.number) (event_of event.now) }
-    requires ids { holders.old.ids ≡ ids_of domain.now }
-    requires has { is_in ap.old.number (below (length holders.old.ids)) ≡ true }
+    requires ids { H.ids holders.old ≡ ids_of domain.now }
+    requires has { is_in ap.old.number (H.has holders.old) ≡ true }
     ensures number { ap.new.number ≡ ap.old.number }
     ensures steps { IfOk result (λ outcome. (first : ℕ) (h : List AnyAct)
-        → ApStands domain.now first ap.old (rows_at holders.old.rows ap.old.number) h
+        → ApStands domain.now first ap.old (H.rows holders.old ap.old.number) h
         → Steps (here domain.now first (ApOf ap.old.number)) (event_of event.now)
-        (ApStands domain.now first ap.new (rows_at holders.new.rows ap.old.number)) h
+        (ApStands domain.now first ap.new (H.rows holders.new ap.old.number)) h
         (seen out.old.acts out.new.acts outcome)) }
     ensures looks { OnOk result ((first : ℕ) (h : List AnyAct)
-        → ApStands domain.now first ap.old (rows_at holders.old.rows ap.old.number) h
+        → ApStands domain.now first ap.old (H.rows holders.old ap.old.number) h
         → (g : List AnyAct) → out.new.acts ≡ out.old.acts ++ g → AreLooked (AnsweredBy
-        (λ id name r1kh sta answer. Pulled holders.old id name r1kh sta answer
-        × (holders.new ≡ holders.old)) holders.old.ids (below (length holders.old.ids))
-        (rows_at holders.old.rows) domain.now ap.old.number) domain.now g) }
+        (λ id name r1kh sta answer. H.pulls holders.old id name r1kh sta holders.new answer)
+        (H.ids holders.old) (H.has holders.old) (H.rows holders.old) domain.now
+        ap.old.number) domain.now g) }
     ensures same { OnErr result (ap.new ≡ ap.old) }
-    ensures same_rows { OnErr result (rows_at holders.new.rows ap.old.number
-        ≡ rows_at holders.old.rows ap.old.number) }
+    ensures same_rows { OnErr result
+        (H.rows holders.new ap.old.number ≡ H.rows holders.old ap.old.number) }
     ensures kept { OnErr result (out.new.acts ≡ out.old.acts) }
-    ensures others { LeavesOthers ap.old.number holders.old.ids holders.new.ids
-        (below (length holders.old.ids)) (below (length holders.new.ids))
-        (rows_at holders.old.rows) (rows_at holders.new.rows) }
+    ensures others { LeavesOthers ap.old.number (H.ids holders.old) (H.ids holders.new)
+        (H.has holders.old) (H.has holders.new) (H.rows holders.old) (H.rows holders.new) }
+    ensures no_less { H.no_less holders.old holders.new }
 {
     match *event {
         NodeEvent::Take(octets) => ap.step(alloc, domain, NodeEvent::Take(octets), holders, out),
@@ -79,6 +83,72 @@ pub(crate) fn step_ap(
         NodeEvent::Revoke(sta) => ap.step(alloc, domain, NodeEvent::Revoke(sta), holders, out),
         NodeEvent::Connect(_) | NodeEvent::Roam(_) | NodeEvent::Leave => unreachable!(),
     }
+}
+
+/// One event at an access point, by a pass that has it. What it does is put in the empty outbox.
+pub(crate) fn turn(
+    ap: &mut ApNode,
+    alloc: Global,
+    domain: &Domain,
+    event: &NodeEvent<'_>,
+    holders: &mut Bound<'_>,
+    out: &mut Outbox,
+) -> Result<(), NoMemory>
+    requires form { InForm domain.now }
+    requires listed { ap.old.number < length domain.now.aps }
+    requires event { IsEventAt domain.now (ApOf ap.old.number) (event_of event.now) }
+    requires ids { holders.old.table.now.ids ≡ ids_of domain.now }
+    requires has { is_in ap.old.number holders.old.pass.knows.has ≡ true }
+    requires waiting { out.old.acts ≡ [] }
+    ensures number { ap.new.number ≡ ap.old.number }
+    ensures turned { OnOk result (Turned domain.now ap.old.number (event_of event.now) ap.old
+        ap.new holders.old.pass.knows.seen holders.new.pass.knows.seen out.new.acts) }
+    ensures same { OnErr result (ap.new ≡ ap.old) }
+    ensures same_rows { OnErr result (held_at ap.old.number holders.new.pass.knows.seen
+        ≡ held_at ap.old.number holders.old.pass.knows.seen) }
+    ensures kept { OnErr result (out.new.acts ≡ []) }
+    ensures others { (r : ℕ) → r ≢ ap.old.number
+        → is_in r holders.old.pass.knows.has ≡ true
+        → held_at r holders.new.pass.knows.seen ≡ held_at r holders.old.pass.knows.seen }
+    ensures no_less { KnowsNoLess holders.old.table.now holders.old.pass holders.new.table.now
+        holders.new.pass }
+{
+    step_ap(ap, alloc, domain, event, holders, out)?;
+    Ok(())
+}
+
+/// One event at an access point, by the pass that has all.
+pub(crate) fn turn_alone(
+    ap: &mut ApNode,
+    alloc: Global,
+    domain: &Domain,
+    event: &NodeEvent<'_>,
+    shared: Shared,
+    out: &mut Outbox,
+) -> (Shared, Result<(), NoMemory>)
+    requires form { InForm domain.now }
+    requires listed { ap.old.number < length domain.now.aps }
+    requires event { IsEventAt domain.now (ApOf ap.old.number) (event_of event.now) }
+    requires ids { shared.table.ids ≡ ids_of domain.now }
+    requires has { is_in ap.old.number shared.pass.knows.has ≡ true }
+    requires waiting { out.old.acts ≡ [] }
+    ensures number { ap.new.number ≡ ap.old.number }
+    ensures turned { OnOk result.1 (Turned domain.now ap.old.number (event_of event.now) ap.old
+        ap.new shared.pass.knows.seen result.0.pass.knows.seen out.new.acts) }
+    ensures same { OnErr result.1 (ap.new ≡ ap.old) }
+    ensures same_rows { OnErr result.1 (held_at ap.old.number result.0.pass.knows.seen
+        ≡ held_at ap.old.number shared.pass.knows.seen) }
+    ensures kept { OnErr result.1 (out.new.acts ≡ []) }
+    ensures others { (r : ℕ) → r ≢ ap.old.number → is_in r shared.pass.knows.has ≡ true
+        → held_at r result.0.pass.knows.seen ≡ held_at r shared.pass.knows.seen }
+    ensures still { (result.0.table.ids ≡ shared.table.ids)
+        × (result.0.pass.knows.has ≡ shared.pass.knows.has) }
+{
+    let Shared { table, pass } = shared;
+    let mut holders = Bound::new(&table, pass);
+    let done = turn(ap, alloc, domain, event, &mut holders, out);
+    let pass = holders.into_pass();
+    (Shared { table, pass }, done)
 }
 
 /// One event at a station.

@@ -1,30 +1,35 @@
 //! The network and its nodes.
 
-ghost use Rattle.std.specs.Prelude.{◌≡◌, ◌≢◌, ◌<◌, ◌≤◌, ◌+◌, ℕ, List, [], ◌∷◌, ◌++◌, length, IfOk, OnOk, OnErr};
+ghost use Rattle.std.specs.Prelude.{◌≡◌, ◌<◌, ◌≤◌, ◌+◌, ℕ, List, [], ◌∷◌, ◌++◌, length, map, IfOk, OnOk, OnErr};
+ghost use Rattle.std.specs.List.{AllByRecursion};
 ghost use Rattle.domain_base.specs.declared.names.Node.TheVariants.{Ap as ApOf, Sta as StaOf};
 ghost use Rattle.run_journal.specs.declared.domain.ListedAp.{ListedAp as Listed};
 ghost use Rattle.run_journal.specs.declared.acts.Entry.{Entry};
-ghost use Rattle.run_journal.specs.Questions.{history, add};
-ghost use Rattle.key_holders.specs.Listed.{none_held};
+ghost use Rattle.run_journal.specs.Questions.{history};
 ghost use Rattle.domain_rules.specs.Network.{InForm, IsListed};
 ghost use Rattle.domain_rules.specs.AccessPointRows.{start_acts};
 ghost use Rattle.domain_rules.specs.Explained.{push};
 ghost use Rattle.node_base.specs.Events.{event_of, IsEventAt};
-ghost use Rattle.ft_exchange.specs.Asking.{ids_of};
-ghost use Rattle.ap_node.specs.Stands.{StandsWith as ApStands};
+ghost use Rattle.domain_rules.specs.HeldRight.{AnsweredInTime};
 ghost use Rattle.run_journal.specs.Listing.{with_ap, with_sta};
-ghost use Rattle.domain_world.specs.State.{Nodes as AllNodes};
 
-use crate::handing::{step_ap, step_station};
+use crate::by_ap::Round;
+use crate::gate::Gate;
+use crate::handing::{step_station, turn_alone};
+use crate::held::held;
+use crate::part::Part;
+use crate::shared::Shared;
+use crate::working::{Ran, Turn, run};
 use act_memory::Outbox;
 use ap_node::ApNode;
 use domain_base::{Mac, NoMemory, Node, Octets};
-use key_holders::ListHolders;
 use node_base::NodeEvent;
 use run_journal::{Aps, Domain, ListedAp, Stas};
 use station_node::StationNode;
 use std::alloc::Global;
 use std::marker::Model;
+use std::mem;
+use std::thread::Threads;
 
 /// The network and its nodes.
 #[derive(Drop)]
@@ -32,13 +37,14 @@ pub(crate) struct Nodes {
     domain: Domain,
     aps: Vec<ApNode>,
     stas: Vec<StationNode>,
-    holders: ListHolders,
+    // made at the first event
+    holders: Option<Shared>,
 }
 
 impl Model for Nodes {
-    ghost use Rattle.std.specs.Prelude.{◌≡◌, length};
-    ghost use Rattle.ft_exchange.specs.Asking.{ids_of};
+    ghost use Rattle.std.specs.Prelude.{length};
     ghost use Rattle.domain_world.specs.State.{Nodes as Kept, rows_below};
+    ghost use Rattle.domain_world.specs.Holding.{seen_of, HoldersFit};
     ghost use Rattle.domain_world.specs.Owning.{AreListed};
 
     ghost Value = { Kept };
@@ -47,15 +53,15 @@ impl Model for Nodes {
       domain = n.domain;
       aps = n.aps.items;
       stas = n.stas.items;
-      rows = rows_below (length n.aps.items) n.holders;
+      rows = rows_below (length n.aps.items) (seen_of n.holders);
     } };
 
     ghost invariant = { λ n. AreListed (record {
       domain = n.domain;
       aps = n.aps.items;
       stas = n.stas.items;
-      rows = rows_below (length n.aps.items) n.holders;
-    }) × (n.holders.ids ≡ ids_of n.domain) };
+      rows = rows_below (length n.aps.items) (seen_of n.holders);
+    }) × HoldersFit n.domain n.holders };
 }
 
 // One more listed access point.
@@ -84,49 +90,11 @@ fn unlist_ap(aps: &mut Aps)
     let _last = aps.0.pop();
 }
 
-// The R0KH-ID of an access point, once more.
-fn copied(alloc: Global, r0kh_id: &Octets) -> Result<Octets, NoMemory>
-    ensures { IfOk result (λ id. id ≡ r0kh_id.now) }
-{
-    Ok(Octets(Vec::from_slice(alloc, r0kh_id.as_slice())?))
-}
-
-// The R0KH-IDs of a network, in order.
-fn ids(alloc: Global, domain: &Domain) -> Result<Vec<Octets>, NoMemory>
-    ensures { IfOk result (λ ids. ids.items ≡ ids_of domain.now) }
-{
-    let mut ids = Vec::with_capacity(alloc, domain.aps.0.len())?;
-    for ap in domain.aps.0.iter() {
-        ids.push(copied(alloc, &ap.r0kh_id)?)?;
-    }
-    Ok(ids)
-}
-
-// The access point of that number as it starts, and key holders without rows for the network.
-fn started(
-    alloc: Global,
-    domain: &Domain,
-    number: u16,
-    out: &mut Outbox,
-) -> Result<(ApNode, ListHolders), NoMemory>
-    requires form { InForm domain.now }
-    requires listed { IsListed domain.now (ApOf number) }
-    ensures number { IfOk result (λ made. made.0.number ≡ number) }
-    ensures stands { IfOk result (λ made. ApStands domain.now 0 made.0 []
-        (add (start_acts domain.now 0 (ApOf number)) [])) }
-    ensures holders { IfOk result (λ made. made.1 ≡ none_held (ids_of domain.now)) }
-    ensures acts { OnOk result (out.new.acts
-        ≡ out.old.acts ++ start_acts domain.now 0 (ApOf number)) }
-    ensures kept { OnErr result (out.new.acts ≡ out.old.acts) }
-{
-    let holders = ListHolders::new(alloc, ids(alloc, domain)?)?;
-    let node = ApNode::start(alloc, domain, number, 0, out)?;
-    Ok((node, holders))
-}
-
 impl Nodes {
     ghost use Rattle.domain_world.specs.Owning.{AreListed, Stand, HoldNone};
-    ghost use Rattle.domain_world.specs.Acting.{Acted};
+    ghost use Rattle.domain_world.specs.Acting.{Acted, Played};
+    ghost use Rattle.domain_world.specs.Waiting.{events_below};
+    ghost use Rattle.domain_world.specs.Working.{IsFor, IsTurn};
 
     /// The network with that header, and no nodes.
     pub(crate) fn new(alloc: Global, header: &Domain) -> Result<Self, NoMemory>
@@ -138,7 +106,6 @@ impl Nodes {
         ensures quiet { IfOk result (λ n. n.rows ≡ []) }
     {
         let ssid = Vec::from_slice(alloc, header.ssid.0.as_slice())?;
-        let holders = ListHolders::new(alloc, Vec::new(alloc))?;
         Ok(Nodes {
             domain: Domain {
                 seed: header.seed,
@@ -151,7 +118,7 @@ impl Nodes {
             },
             aps: Vec::new(alloc),
             stas: Vec::new(alloc),
-            holders,
+            holders: None,
         })
     }
 
@@ -186,10 +153,10 @@ impl Nodes {
         let number = self.aps.len() as u16;
         self.aps.reserve(1)?;
         list_ap(&mut self.domain.aps, ListedAp { address, r0kh_id })?;
-        match started(alloc, &self.domain, number, out) {
-            Ok((node, holders)) => {
+        match ApNode::start(alloc, &self.domain, number, 0, out) {
+            Ok(node) => {
                 self.aps.push_reserved(node);
-                self.holders = holders;
+                self.holders = None;
                 Ok(Node::Ap(number))
             }
             Err(error) => {
@@ -254,16 +221,52 @@ impl Nodes {
         ensures same { OnErr result (self.new ≡ self.old) }
         ensures kept { OnErr result (out.new.acts ≡ []) }
     {
+        let shared = held(alloc, &self.domain, &mut self.holders)?;
         match node {
             Node::Ap(number) => {
                 let ap = &mut self.aps[usize::from(number)];
-                step_ap(ap, alloc, &self.domain, event, &mut self.holders, out)?;
+                let (shared, done) = turn_alone(ap, alloc, &self.domain, event, shared, out);
+                self.holders = Some(shared);
+                done
             }
             Node::Sta(number) => {
+                self.holders = Some(shared);
                 let station = &mut self.stas[usize::from(number)];
                 step_station(station, alloc, &self.domain, event, out)?;
+                Ok(())
             }
         }
-        Ok(())
+    }
+
+    /// The events of a round, each at an access point: a worker for each access point that has some, all
+    /// side by side. What each adds waits, by access points.
+    pub(crate) fn round<R: Threads + Sync, G: Gate + Sync>(
+        &mut self,
+        rt: &R,
+        alloc: Global,
+        gate: &G,
+        turns: &[Turn<'_>],
+    ) -> Result<Vec<Part>, NoMemory>
+        requires form { InForm self.old.domain }
+        requires turns { AllByRecursion (IsFor self.old.domain) turns.now }
+        ensures played { IfOk result (λ parts. (round : ℕ) (j : List Entry) → Stand self.old j
+            → AllByRecursion (λ (e : Entry). e.round ≤ round) j → AnsweredInTime self.old.domain j
+            → AllByRecursion (IsTurn self.old.domain j round) turns.now
+            → Played round (events_below (length self.old.domain.aps)
+            (map (λ t. t.event.now) turns.now)) j self.old self.new parts.items) }
+        ensures domain { self.new.domain ≡ self.old.domain }
+        ensures listed { AreListed self.new }
+    {
+        let Shared { table, pass } = held(alloc, &self.domain, &mut self.holders)?;
+        let aps = mem::replace(&mut self.aps, Vec::new(alloc));
+        let round = Round {
+            alloc,
+            domain: &self.domain,
+            turns,
+        };
+        let Ran { aps, pass, parts } = run(rt, alloc, &table, &round, gate, aps, pass);
+        self.aps = aps;
+        self.holders = Some(Shared { table, pass });
+        parts
     }
 }

@@ -1,17 +1,18 @@
-//! In which order the events of a round come.
+//! At which nodes events are, and what they are there.
 
-ghost use Rattle.std.specs.Prelude.{◌≡◌, ◌++◌, IfOk, OnOk, map};
+ghost use Rattle.std.specs.Prelude.{◌≡◌};
 ghost use Rattle.domain_base.specs.declared.names.Node.TheVariants.{Ap as ApOf};
 ghost use Rattle.run_journal.specs.Acts.{same};
-ghost use Rattle.domain_rules.specs.Rounds.{node_of, by_nodes};
-ghost use Rattle.domain_world.specs.Waiting.{events_at, AreAtAps};
+ghost use Rattle.domain_rules.specs.Rounds.{node_of};
+ghost use Rattle.node_base.specs.Events.{event_of};
+ghost use Rattle.domain_world.specs.Comings.{event_at};
 
-use domain_base::{NoMemory, Node};
+use domain_base::Node;
+use node_base::NodeEvent;
 use run_journal::Event;
-use std::alloc::Global;
 
-// The node at which an event is.
-fn node_of(event: &Event) -> Node
+/// The node at which an event is.
+pub(crate) fn node_of(event: &Event) -> Node
     ensures { result ≡ node_of event.now }
 {
     match event {
@@ -30,8 +31,8 @@ fn node_of(event: &Event) -> Node
     }
 }
 
-// Whether it is at that access point.
-fn is_at(event: &Event, ap: u16) -> bool
+/// Whether it is at that access point.
+pub(crate) fn is_at(event: &Event, ap: u16) -> bool
     ensures { result ≡ same (ApOf ap) (node_of event.now) }
 {
     match node_of(event) {
@@ -40,31 +41,26 @@ fn is_at(event: &Event, ap: u16) -> bool
     }
 }
 
-// The events of one access point, as they are listed, behind those before.
-fn add_events<'a>(events: &'a [Event], ap: u16, order: &mut Vec<&'a Event>) -> Result<(), NoMemory>
-    ensures { OnOk result (map (λ e. e.now) order.new.items
-        ≡ map (λ e. e.now) order.old.items ++ events_at ap events.now) }
+/// What an event is at its node, where these octets come by it.
+pub(crate) fn node_event<'a>(event: &'a Event, comes: &'a [u8]) -> NodeEvent<'a>
+    ensures { event_of result ≡ event_at event.now comes.now }
 {
-    for event in events {
-        if is_at(event, ap) {
-            order.push(event)?;
+    match event {
+        Event::Connect { ap, .. } => NodeEvent::Connect(*ap),
+        Event::Roam { ap, .. } => NodeEvent::Roam(*ap),
+        Event::Deliver { .. } | Event::Alter { .. } | Event::Cut { .. } | Event::Inject { .. } => {
+            NodeEvent::Take(comes)
         }
+        Event::Retry { sta, .. } => NodeEvent::Retry(*sta),
+        Event::Rekey { .. } => NodeEvent::Rekey,
+        Event::Send {
+            to,
+            tid,
+            octets,
+            ..
+        } => NodeEvent::Send(*to, *tid, octets.as_slice()),
+        Event::Expire { sta, .. } => NodeEvent::Expire(*sta),
+        Event::Revoke { sta, .. } => NodeEvent::Revoke(*sta),
+        Event::Leave { .. } => NodeEvent::Leave,
     }
-    Ok(())
-}
-
-/// The events by their access points, of which there are so many, those of each as they are listed.
-pub(crate) fn in_order<'a>(
-    alloc: Global,
-    aps: u16,
-    events: &'a [Event],
-) -> Result<Vec<&'a Event>, NoMemory>
-    requires { AreAtAps aps events.now }
-    ensures { IfOk result (λ order. map (λ e. e.now) order.items ≡ by_nodes events.now) }
-{
-    let mut order = Vec::new(alloc);
-    for ap in 0..aps {
-        add_events(events, ap, &mut order)?;
-    }
-    Ok(order)
 }

@@ -1,26 +1,30 @@
 //! The world: its nodes, the frames sent and the rounds run.
 
-ghost use Rattle.std.specs.Prelude.{◌≡◌, ◌≢◌, ◌≤◌, ◌<◌, ◌+◌, ◌^◌, suc, ℕ, List, [], length, take, map, false, IfOk, OnOk, OnErr};
+ghost use Rattle.std.specs.Prelude.{◌≡◌, ◌≤◌, ◌<◌, ◌+◌, ◌^◌, suc, ℕ, List, [], length, take, map, false, IfOk, OnOk, OnErr};
+ghost use Rattle.std.specs.List.{AllByRecursion};
 ghost use Rattle.domain_base.specs.Octets.{AreOctets};
 ghost use Rattle.air_frame.specs.Sent.{IsAddress};
 ghost use Rattle.run_journal.specs.declared.acts.Entry.{Entry};
 ghost use Rattle.domain_rules.specs.Network.{InForm, IsListed};
 ghost use Rattle.domain_rules.specs.Explained.{HappensAt, Step, Follows, WasSent, started};
-ghost use Rattle.domain_rules.specs.Rounds.{by_nodes};
-ghost use Rattle.held_rows.specs.Looks.{AreRight};
+ghost use Rattle.domain_rules.specs.Rounds.{node_of, by_nodes};
+ghost use Rattle.domain_rules.specs.HeldRight.{AnsweredInTime};
 ghost use Rattle.node_base.specs.Events.{event_of, IsEventAt};
 ghost use Rattle.run_journal.specs.Listing.{with_ap, with_sta};
 
+use crate::gate::{Gate, Unbarred};
 use crate::journaling::{journal_acts, journal_parts};
 use crate::nodes::Nodes;
-use crate::ordering::in_order;
+use crate::ordering::{node_event, node_of};
 use crate::part::Part;
+use crate::working::Turn;
 use act_memory::Outbox;
 use domain_base::{Mac, NoMemory, Node, Octets};
 use node_base::NodeEvent;
 use run_journal::{Act, Domain, Event, Journal};
 use std::alloc::Global;
 use std::marker::Model;
+use std::thread::Threads;
 
 /// A domain whose access points and stations take one event at a time.
 #[derive(Drop)]
@@ -54,6 +58,13 @@ impl Model for World {
     ghost invariant = { λ w. w.out.acts ≡ [] };
 }
 
+// An event of a round, and the octets that come by it where it changes one.
+#[derive(Drop)]
+struct Coming<'a> {
+    event: &'a Event,
+    changed: Vec<u8>,
+}
+
 // Two octets are so many.
 fn pair(mdid: &[u8; 2])
     ensures size { length mdid.now ≡ 2 }
@@ -77,8 +88,10 @@ fn octets(octets: &[u8])
 
 impl World {
     ghost use Rattle.domain_world.specs.Owning.{Owns, Places, AreListed, Stand, nodes_of, HasOctets, IsEventIn, AreEventsIn};
-    ghost use Rattle.domain_world.specs.Acting.{IsAltered, IsChanged, IsPlayed, Played};
-    ghost use Rattle.domain_world.specs.Waiting.{AreShort};
+    ghost use Rattle.domain_world.specs.Acting.{IsAltered, IsChanged, Played};
+    ghost use Rattle.domain_world.specs.Waiting.{events_below};
+    ghost use Rattle.domain_world.specs.Comings.{event_at};
+    ghost use Rattle.domain_world.specs.Working.{IsComing, IsTurn};
 
     /// A world of that network, in which no node is listed yet, and which is in form.
     pub fn start(alloc: Global, domain: &Domain) -> Result<Self, NoMemory>
@@ -180,12 +193,45 @@ impl World {
         Ok(())
     }
 
-    /// A round: its events, each at an access point, come by their access points, in order, and those of
-    /// one as they are listed; what one sends comes behind the round. There are at most 256. The journal
-    /// is this world's own, and each event might come by itself.
+    /// A round: its events, each at an access point, side by side. There are at most 256. The journal is
+    /// this world's own, and each event might come by itself.
+    ///
+    /// Each access point that has events has a worker, which takes them as they are listed. However the
+    /// workers interleave, the round stands in the journal by access points, in order: what one sends
+    /// comes behind the round, and what it asks of another's key holder is answered by what that had at
+    /// some moment of the round. Where a thread cannot be started this one does its work.
     ///
     /// Where memory is wanted the journal is as before, and the world is of no use any longer.
-    pub fn round(&mut self, events: &[Event], journal: &mut Journal) -> Result<(), NoMemory>
+    pub fn round<R: Threads + Sync>(
+        &mut self,
+        rt: &R,
+        events: &[Event],
+        journal: &mut Journal,
+    ) -> Result<(), NoMemory>
+        requires own { Owns self.old journal.old.entries }
+        requires events { AreEventsIn self.old.domain (length self.old.frames) journal.old.entries
+            events.now }
+        requires few_events { length events.now ≤ 256 }
+        requires few { self.old.rounds + 1 < 2 ^ 64 }
+        ensures steps { OnOk result (Follows self.old.domain (suc self.old.rounds)
+            (by_nodes events.now) journal.old.entries journal.new.entries) }
+        ensures rounds { OnOk result (self.new.rounds ≡ suc self.old.rounds) }
+        ensures domain { self.new.domain ≡ self.old.domain }
+        ensures own { OnOk result (Owns self.new journal.new.entries) }
+        ensures kept { OnErr result (journal.new.entries ≡ journal.old.entries) }
+        ensures unusable { OnErr result (self.new.usable ≡ false) }
+    {
+        self.round_with(rt, events, journal, &Unbarred)
+    }
+
+    /// A round, in which each worker passes the gate once, before its first event.
+    pub fn round_with<R: Threads + Sync, G: Gate + Sync>(
+        &mut self,
+        rt: &R,
+        events: &[Event],
+        journal: &mut Journal,
+        gate: &G,
+    ) -> Result<(), NoMemory>
         requires own { Owns self.old journal.old.entries }
         requires events { AreEventsIn self.old.domain (length self.old.frames) journal.old.entries
             events.now }
@@ -200,8 +246,7 @@ impl World {
         ensures unusable { OnErr result (self.new.usable ≡ false) }
     {
         self.usable = false;
-        let order = in_order(self.alloc, self.nodes.count_aps(), events)?;
-        let parts = self.play(order.as_slice(), journal)?;
+        let parts = self.play(rt, events, journal, gate)?;
         let most = self.nodes.most_acts() * parts.len();
         journal.reserve(most)?;
         self.frames.reserve(most)?;
@@ -212,52 +257,79 @@ impl World {
         Ok(())
     }
 
-    // The events of a round one after the other: what each adds waits.
-    fn play(&mut self, events: &[&Event], journal: &Journal) -> Result<Vec<Part>, NoMemory>
+    // The events of a round: what each adds waits, by access points.
+    fn play<R: Threads + Sync, G: Gate + Sync>(
+        &mut self,
+        rt: &R,
+        events: &[Event],
+        journal: &Journal,
+        gate: &G,
+    ) -> Result<Vec<Part>, NoMemory>
         requires listed { AreListed (nodes_of self.old) }
         requires form { InForm self.old.domain }
         requires stand { Stand (nodes_of self.old) journal.now.entries }
         requires placed { Places self.old journal.now.entries }
-        requires right { AreRight self.old.domain journal.now.entries }
+        requires right { AnsweredInTime self.old.domain journal.now.entries }
         requires events { AreEventsIn self.old.domain (length self.old.frames) journal.now.entries
-            (map (λ e. e.now) events.now) }
+            events.now }
         ensures played { IfOk result (λ parts. Played (suc self.old.rounds)
-            (map (λ e. e.now) events.now) journal.now.entries (nodes_of self.old)
-            (nodes_of self.new) parts.items) }
-        ensures short { IfOk result (λ parts. AreShort (8 + length self.old.stas) parts.items) }
+            (events_below (length self.old.domain.aps) events.now) journal.now.entries
+            (nodes_of self.old) (nodes_of self.new) parts.items) }
         ensures listed { AreListed (nodes_of self.new) }
         ensures domain { self.new.domain ≡ self.old.domain }
         ensures frames { self.new.frames ≡ self.old.frames }
         ensures rounds { self.new.rounds ≡ self.old.rounds }
         ensures usable { self.new.usable ≡ self.old.usable }
     {
-        let mut parts = Vec::new(self.alloc);
-        for event in events {
-            parts.push(self.play_one(event, journal)?)?;
-        }
-        Ok(parts)
+        let comings = self.comings(events, journal)?;
+        let turns = self.turns(comings.as_slice(), journal)?;
+        self.nodes.round(rt, self.alloc, gate, turns.as_slice())
     }
 
-    // One event of a round: what it adds waits.
-    fn play_one(&mut self, event: &Event, journal: &Journal) -> Result<Part, NoMemory>
-        requires form { InForm self.old.domain }
-        requires listed { AreListed (nodes_of self.old) }
-        requires placed { Places self.old journal.now.entries }
-        requires event { IsEventIn self.old.domain (length self.old.frames) journal.now.entries
-            event.now }
-        ensures acts { IfOk result (λ part. IsPlayed (suc self.old.rounds) event.now
-            journal.now.entries (nodes_of self.old) (nodes_of self.new) part) }
-        ensures listed { AreListed (nodes_of self.new) }
-        ensures domain { self.new.domain ≡ self.old.domain }
-        ensures frames { self.new.frames ≡ self.old.frames }
-        ensures rounds { self.new.rounds ≡ self.old.rounds }
-        ensures usable { self.new.usable ≡ self.old.usable }
+    // The events, each with the octets that it changes.
+    fn comings<'a>(
+        &self,
+        events: &'a [Event],
+        journal: &Journal,
+    ) -> Result<Vec<Coming<'a>>, NoMemory>
+        requires placed { Places self.now journal.now.entries }
+        requires events { AreEventsIn self.now.domain (length self.now.frames) journal.now.entries
+            events.now }
+        ensures events { IfOk result (λ v. map (λ c. c.event.now) v.items ≡ events.now) }
+        ensures changed { IfOk result (λ v. AllByRecursion (IsComing journal.now.entries
+            (suc self.now.rounds)) v.items) }
     {
-        let changed = self.changed(event, journal)?;
-        let (node, at_node) = self.at_node(event, journal, changed.as_slice());
-        let mut out = Outbox::new(self.alloc);
-        self.nodes.step(self.alloc, node, &at_node, &mut out)?;
-        Ok(Part { node, out })
+        let mut comings = Vec::new(self.alloc);
+        for event in events {
+            let changed = self.changed(event, journal)?;
+            comings.push(Coming { event, changed })?;
+        }
+        Ok(comings)
+    }
+
+    // What the events are at their access points.
+    fn turns<'a>(
+        &self,
+        comings: &'a [Coming<'a>],
+        journal: &'a Journal,
+    ) -> Result<Vec<Turn<'a>>, NoMemory>
+        requires placed { Places self.now journal.now.entries }
+        requires events { AreEventsIn self.now.domain (length self.now.frames) journal.now.entries
+            (map (λ c. c.event.now) comings.now) }
+        requires changed { AllByRecursion (IsComing journal.now.entries (suc self.now.rounds))
+            comings.now }
+        ensures events { IfOk result (λ v. map (λ t. t.event.now) v.items
+            ≡ map (λ c. c.event.now) comings.now) }
+        ensures turns { IfOk result (λ v. AllByRecursion (IsTurn self.now.domain
+            journal.now.entries (suc self.now.rounds)) v.items) }
+    {
+        let mut turns = Vec::new(self.alloc);
+        for coming in comings {
+            let event = coming.event;
+            let comes = self.comes(event, journal, coming.changed.as_slice());
+            turns.push(Turn { event, comes })?;
+        }
+        Ok(turns)
     }
 
     // The octets that come by an event that changes one; none by any other.
@@ -314,6 +386,25 @@ impl World {
         &frame[..size]
     }
 
+    // The octets that come by an event; none by one that takes none.
+    fn comes<'a>(&self, event: &'a Event, journal: &'a Journal, changed: &'a [u8]) -> &'a [u8]
+        requires placed { Places self.now journal.now.entries }
+        requires event { IsEventIn self.now.domain (length self.now.frames) journal.now.entries
+            event.now }
+        requires changed { IsChanged event.now journal.now.entries (suc self.now.rounds)
+            changed.now }
+        ensures { HappensAt event.now journal.now.entries (suc self.now.rounds)
+            (node_of event.now) (event_at event.now result.now) }
+    {
+        match event {
+            Event::Deliver { number, .. } => self.octets(*number, journal),
+            Event::Alter { .. } => changed,
+            Event::Cut { number, size, .. } => self.front(*number, *size, journal),
+            Event::Inject { octets, .. } => octets.as_slice(),
+            _ => &[],
+        }
+    }
+
     // What the event is in the next round, and at which node.
     fn at_node<'a>(
         &self,
@@ -331,27 +422,8 @@ impl World {
         ensures listed { IsListed self.now.domain result.0 }
         ensures event { IsEventAt self.now.domain result.0 (event_of result.1) }
     {
-        match event {
-            Event::Connect { sta, ap } => (Node::Sta(*sta), NodeEvent::Connect(*ap)),
-            Event::Roam { sta, ap } => (Node::Sta(*sta), NodeEvent::Roam(*ap)),
-            Event::Deliver { number, to } => (*to, NodeEvent::Take(self.octets(*number, journal))),
-            Event::Alter { to, .. } => (*to, NodeEvent::Take(changed)),
-            Event::Cut { number, size, to } => {
-                (*to, NodeEvent::Take(self.front(*number, *size, journal)))
-            }
-            Event::Inject { to, octets } => (*to, NodeEvent::Take(octets.as_slice())),
-            Event::Retry { ap, sta } => (Node::Ap(*ap), NodeEvent::Retry(*sta)),
-            Event::Rekey { ap } => (Node::Ap(*ap), NodeEvent::Rekey),
-            Event::Send {
-                from,
-                to,
-                tid,
-                octets,
-            } => (*from, NodeEvent::Send(*to, *tid, octets.as_slice())),
-            Event::Expire { ap, sta } => (Node::Ap(*ap), NodeEvent::Expire(*sta)),
-            Event::Revoke { ap, sta } => (Node::Ap(*ap), NodeEvent::Revoke(*sta)),
-            Event::Leave { sta } => (Node::Sta(*sta), NodeEvent::Leave),
-        }
+        let comes = self.comes(event, journal, changed);
+        (node_of(event), node_event(event, comes))
     }
 
     /// The octets of the frame of that number, from 1. The journal is this world's own, and the frame was sent.

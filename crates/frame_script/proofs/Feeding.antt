@@ -1,12 +1,15 @@
 -- A reader that is given line after line, while the journal grows.
-use Rattle.std.proofs.Common.{◌≡◌, ℕ, suc, ◌+◌, ◌≤◌, Bool, true, false, if◌then◌else◌, List, [], ◌∷◌, Result, Ok, Err, OnOk, OnErr, refl, sym, ap, arith}
+use Rattle.std.proofs.Common.{◌≡◌, ℕ, suc, ◌+◌, ◌≤◌, Bool, true, false, if◌then◌else◌, List, [], ◌∷◌, Result, Ok, Err, OnOk, OnErr, refl, sym, ap, ◌∙◌, arith}
 use Rattle.std.proofs.lemmas.List.{append-nil}
 use Rattle.run_journal.specs.declared.acts.Entry.{Entry}
 use Rattle.frame_script.specs.declared.reader.LineFault.{LineFault}
 use Rattle.frame_script.specs.declared.reader.LineFault.TheVariants as answered
+use Rattle.frame_script.specs.declared.reader.Mode.{Mode}
+use Rattle.frame_script.specs.declared.reader.Mode.TheVariants.{Replay, Live}
 use Rattle.frame_script.specs.declared.reader.Step.{Step}
+use Rattle.frame_script.specs.declared.reader.Step.TheVariants as step
 use Rattle.frame_script.specs.Script.{Draft, AtVersion, AtSeed, AtSsid, AtPsk, AtAkm, AtMdid, AtNodes, InRound, Said, Goes, ListsAp, ListsSta, Asks, BeginsRound, EndsRound, is_within, rounds_after}
-use Rattle.frame_script.specs.Headers.{Reading, HasSeen, HasSeenAll, HasSeenBy, TakesLine, sizes_of}
+use Rattle.frame_script.specs.Headers.{Reading, HasSeen, HasSeenAll, HasSeenBy, TakesIn, TakesLine, TakesLive, sizes_of}
 
 -- before its first line it has seen nothing
 pub HasSeen-start : (r : Reading) (j : List Entry) → r.seen ≡ 0 → r.sizes ≡ [] → HasSeen r j
@@ -54,11 +57,35 @@ one_more draft rounds (Asks event) = at_most (is_within draft) rounds
 one_more draft rounds BeginsRound = omega arith
 one_more draft rounds EndsRound = omega arith
 
--- a line asks for one round at most
-pub rounds-after : (old new : Reading) (sizes line : List ℕ) (answer : Result Step LineFault) → TakesLine old new sizes line answer → new.rounds ≤ old.rounds + 1
-rounds-after old new sizes line (Ok s) t = omega (arith, one_more old.draft old.rounds t.0, t.1.1.1.0)
-rounds-after old new sizes line (Err (answered.Script reason)) t = omega (arith, t.1.1)
-rounds-after old new sizes line (Err (answered.Limit limit)) t = omega (arith, t.1.1)
-rounds-after old new sizes line (Err answered.NoMemory) t = omega (arith, t.1)
+-- a line asks for one round at most: in a replay
+asks_one : (old new : Reading) (sizes line : List ℕ) (answer : Result Step LineFault) → TakesLine old new sizes line answer → new.rounds ≤ old.rounds + 1
+asks_one old new sizes line (Ok s) t = omega (arith, one_more old.draft old.rounds t.0, t.1.1.1.0)
+asks_one old new sizes line (Err (answered.Script reason)) t = omega (arith, t.1.1)
+asks_one old new sizes line (Err (answered.Limit limit)) t = omega (arith, t.1.1)
+asks_one old new sizes line (Err answered.NoMemory) t = omega (arith, t.1)
+
+-- in a live run
+turns_one : (old new : Reading) (sizes line : List ℕ) (answer : Result Step LineFault) → TakesLive old new sizes line answer → new.rounds ≤ old.rounds + 1
+turns_one old new sizes line (Ok step.Nothing) t = asks_one old new sizes line (Ok step.Nothing) t.1
+turns_one old new sizes line (Ok step.Draw) t = omega (arith, t.1.1.1)
+turns_one old new sizes line (Ok step.Network) t = asks_one old new sizes line (Ok step.Network) t.1
+turns_one old new sizes line (Ok (step.Ap a id)) t = asks_one old new sizes line (Ok (step.Ap a id)) t.1
+turns_one old new sizes line (Ok (step.Sta a)) t = asks_one old new sizes line (Ok (step.Sta a)) t.1
+turns_one old new sizes line (Ok (step.Event event)) t = asks_one old new sizes line (Ok (step.Event event)) t.1
+turns_one old new sizes line (Ok step.Round) t = asks_one old new sizes line (Ok step.Round) t.1
+turns_one old new sizes line (Ok step.End) t = asks_one old new sizes line (Ok step.End) t.1
+turns_one old new sizes line (Ok step.Turn) (d, (says, (at, (few, (same, rounds))))) = omega (arith, rounds)
+turns_one old new sizes line (Err (answered.Script reason)) t = omega (arith, t.1.1)
+turns_one old new sizes line (Err (answered.Limit limit)) t = omega (arith, t.1.1)
+turns_one old new sizes line (Err answered.NoMemory) t = omega (arith, t.1)
+
+pub rounds-after : (mode : Mode) (old new : Reading) (sizes line : List ℕ) (answer : Result Step LineFault) → TakesIn mode old new sizes line answer → new.rounds ≤ old.rounds + 1
+rounds-after Replay old new sizes line answer t = asks_one old new sizes line answer t
+rounds-after Live old new sizes line answer t = turns_one old new sizes line answer t
+
+-- where the seed is to be drawn it is due
+pub draws-due : (mode : Mode) (old new : Reading) (sizes line : List ℕ) → TakesIn mode old new sizes line (Ok step.Draw) → new.draft ≡ AtSeed
+draws-due Replay old new sizes line t = absurd t.1.1.1.1
+draws-due Live old new sizes line t = t.1.1.0 ∙ t.1.0
 
 pub ruleset feeding = (HasSeen-start, HasSeen-push, HasSeen-after, rounds-after)

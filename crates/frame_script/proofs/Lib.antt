@@ -2,6 +2,7 @@ pub mod Hexed
 pub mod Numbered
 pub mod Freed
 pub mod Taking
+pub mod Living
 pub mod Injected
 pub mod Seeing
 pub mod Feeding

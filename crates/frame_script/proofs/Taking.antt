@@ -32,6 +32,8 @@ header old new rounds sizes word text (Ok (step.Sta address)) t = absurd t
 header old new rounds sizes word text (Ok (step.Event event)) t = absurd t
 header old new rounds sizes word text (Ok step.Round) t = absurd t
 header old new rounds sizes word text (Ok step.End) t = absurd t
+header old new rounds sizes word text (Ok step.Draw) t = absurd t
+header old new rounds sizes word text (Ok step.Turn) t = absurd t
 header old new rounds sizes word text (Err (untaken.Refused refusal)) t = (rw t.0 refl, t.1)
 header old new rounds sizes word text (Err untaken.NoMemory) t = t
 
@@ -107,7 +109,7 @@ told old new sizes line s said other says draft takes means rounds =
     let same : other ≡ said = cc (means, says) in
     (said, (says, (draft, (rounds ∙ ap (λ (x : Said). rounds_after old.draft old.rounds x) same, takes))))
 
-answered : (old new : Reading) (sizes line : List ℕ) (answer : Result Step Untaken) → Takes old.draft new.draft old.rounds sizes (line_says old.draft old.rounds sizes line) answer
+pub answered : (old new : Reading) (sizes line : List ℕ) (answer : Result Step Untaken) → Takes old.draft new.draft old.rounds sizes (line_says old.draft old.rounds sizes line) answer
     → new.rounds ≡ rounds_with (is_within old.draft) old.rounds answer → ReadsLine old new sizes line answer
 answered old new sizes line (Ok step.Nothing) (said, (says, (draft, takes))) rounds = told old new sizes line step.Nothing said (Goes new.draft) says draft takes takes.0 rounds
 answered old new sizes line (Ok step.Network) (said, (says, (draft, takes))) rounds = told old new sizes line step.Network said (Goes new.draft) says draft takes takes.1.0 rounds
@@ -116,13 +118,10 @@ answered old new sizes line (Ok (step.Sta a)) (said, (says, (draft, takes))) rou
 answered old new sizes line (Ok (step.Event e)) (said, (says, (draft, takes))) rounds = told old new sizes line (step.Event e) said (Asks e) says draft takes takes.0 rounds
 answered old new sizes line (Ok step.Round) (said, (says, (draft, takes))) rounds = told old new sizes line step.Round said BeginsRound says draft takes takes.1.0 rounds
 answered old new sizes line (Ok step.End) (said, (says, (draft, takes))) rounds = told old new sizes line step.End said EndsRound says draft takes takes.1.1.0 rounds
+answered old new sizes line (Ok step.Draw) (said, (says, (draft, takes))) rounds = absurd takes
+answered old new sizes line (Ok step.Turn) (said, (says, (draft, takes))) rounds = absurd takes
 answered old new sizes line (Err (untaken.Refused refusal)) t rounds = (t.0, (t.1, rounds))
 answered old new sizes line (Err untaken.NoMemory) t rounds = (t, rounds)
-
-pub reads : (old new : Reading) (seen sizes line : List ℕ) (answer : Result Step Untaken) → Takes old.draft new.draft old.rounds seen (line_says old.draft old.rounds seen line) answer
-    → new.rounds ≡ rounds_with (is_within old.draft) old.rounds answer → seen ≡ sizes → ReadsLine old new sizes line answer
-reads old new seen sizes line answer takes rounds same =
-    answered old new sizes line answer (subst (λ (x : List ℕ). Takes old.draft new.draft old.rounds x (line_says old.draft old.rounds x line) answer) same takes) rounds
 
 seen_by : (draft : Draft) (r : Reading) (j : List Entry) → HasSeenBy draft (seeing r.seen r.sizes) j → HasSeenBy draft r j
 seen_by AtVersion r j by = record { seen = by.seen; sizes = by.sizes }

@@ -1,10 +1,13 @@
 -- The form that a line should have had (this project's choice).
-use Rattle.std.specs.Prelude.{ℕ, ◌==◌, ◌&&◌, if◌then◌else◌, List, length, bytes_eq, codes}
+use Rattle.std.specs.Prelude.{ℕ, ◌==◌, ◌&&◌, if◌then◌else◌, Bool, false, List, [], length, bytes_eq, codes}
 use Rattle.run_journal.specs.declared.domain.Domain.{Domain}
 use Rattle.frame_script.specs.declared.forms.Form.{Form}
-use Rattle.frame_script.specs.declared.forms.Form.TheVariants.{Version, Seed, Ssid, Key, Passphrase, Psk, Akm, Mdid, Ap, Sta, Connect, Roam, Deliver, Alter, Cut, Inject, Retry, Rekey, Send, Expire, Revoke, Leave, Round, End, Any, StaOrEvent, Event, EventInRound}
+use Rattle.frame_script.specs.declared.forms.Form.TheVariants.{Version, Seed, Ssid, Key, Passphrase, Psk, Akm, Mdid, Ap, Sta, Connect, Roam, Deliver, Alter, Cut, Inject, Retry, Rekey, Send, Expire, Revoke, Leave, Round, End, Any, StaOrEvent, Event, EventInRound, Turn, LiveSeed, LiveAny, LiveStaOrEvent, LiveEvent, LiveEventInRound}
+use Rattle.frame_script.specs.declared.reader.Mode.{Mode}
+use Rattle.frame_script.specs.declared.reader.Mode.TheVariants.{Replay, Live}
 use Rattle.frame_script.specs.Tokens.{first_word}
 use Rattle.frame_script.specs.Script.{Draft, AtVersion, AtSeed, AtSsid, AtPsk, AtAkm, AtMdid, AtNodes, InRound, is_transition}
+use Rattle.frame_script.specs.Live.{brings}
 
 -- as it is written: in angles what stands in its place, where digits are hexadecimal and n, place and length are numbers
 abbrev pub form_text : Form → List ℕ
@@ -36,6 +39,12 @@ form_text Any = codes "that of ap, sta, connect, roam with ft-psk, deliver, alte
 form_text StaOrEvent = codes "that of sta, connect, roam with ft-psk, deliver, alter, cut, inject, retry, rekey, send, expire, revoke, leave or round"
 form_text Event = codes "that of connect, roam with ft-psk, deliver, alter, cut, inject, retry, rekey, send, expire, revoke, leave or round"
 form_text EventInRound = codes "that of deliver, alter, cut, inject, retry, rekey, send, expire, revoke or end"
+form_text Turn = codes "turn"
+form_text LiveSeed = codes "seed <64 digits or draw>"
+form_text LiveAny = codes "that of ap, sta, connect, roam with ft-psk, inject, retry, rekey, send, expire, revoke, leave, round or turn"
+form_text LiveStaOrEvent = codes "that of sta, connect, roam with ft-psk, inject, retry, rekey, send, expire, revoke, leave, round or turn"
+form_text LiveEvent = codes "that of connect, roam with ft-psk, inject, retry, rekey, send, expire, revoke, leave, round or turn"
+form_text LiveEventInRound = codes "that of inject, retry, rekey, send, expire, revoke or end"
 
 -- the line that tells the pre-shared key, by its first word
 abbrev pub key_form : List ℕ → Form
@@ -87,7 +96,7 @@ body_form d rounds word =
     else if bytes_eq word (codes "sta") then (if rounds == 0 then Sta else late_form d rounds)
     else event_form d word (late_form d rounds)
 
--- after a script has said so much, when so many rounds were run
+-- after a script has said so much, when so many rounds were run; in a replay
 abbrev pub form_of : Draft → ℕ → List ℕ → Form
 form_of AtVersion rounds line = Version
 form_of AtSeed rounds line = Seed
@@ -97,3 +106,28 @@ form_of (AtAkm seed ssid psk) rounds line = Akm
 form_of (AtMdid seed ssid psk) rounds line = Mdid
 form_of (AtNodes d) rounds line = body_form d rounds (first_word line).0
 form_of (InRound d count) rounds line = inner_form (first_word line).0
+
+-- the form in a live run, for one in a replay
+abbrev pub live_form : Form → Form
+live_form Seed = LiveSeed
+live_form Any = LiveAny
+live_form StaOrEvent = LiveStaOrEvent
+live_form Event = LiveEvent
+live_form EventInRound = LiveEventInRound
+live_form form = form
+
+abbrev pub is_turn : Draft → List ℕ → Bool
+is_turn (AtNodes d) word = bytes_eq word (codes "turn")
+is_turn draft word = false
+
+-- a line that brings a frame which was sent may not stand there, whatever its first word
+abbrev pub form_live : Draft → ℕ → List ℕ → List ℕ → Form
+form_live draft rounds line word =
+    if is_turn draft word then Turn
+    else if brings word then live_form (form_of draft rounds [])
+    else live_form (form_of draft rounds line)
+
+-- by the kind of the run
+abbrev pub form_in : Mode → Draft → ℕ → List ℕ → Form
+form_in Replay draft rounds line = form_of draft rounds line
+form_in Live draft rounds line = form_live draft rounds line (first_word line).0

@@ -18,16 +18,20 @@ use Rattle.frame_script.specs.declared.reader.LineFault.{LineFault}
 use Rattle.frame_script.specs.declared.reader.LineFault.TheVariants as answered
 use Rattle.frame_script.specs.declared.refusal.Untaken.{Untaken}
 use Rattle.frame_script.specs.declared.refusal.Untaken.TheVariants.{Refused, NoMemory}
+use Rattle.frame_script.specs.declared.reader.Mode.{Mode}
+use Rattle.frame_script.specs.declared.reader.Mode.TheVariants.{Replay, Live}
 use Rattle.frame_script.specs.declared.reader.Step.{Step}
 use Rattle.frame_script.specs.declared.reader.Step.TheVariants as step
 use Rattle.frame_script.specs.Refusals.{fault_of}
-use Rattle.frame_script.specs.Script.{Fault, Outside, Past, Draft, AtNodes, InRound, Said, Goes, ListsAp, ListsSta, Asks, BeginsRound, EndsRound, line_says, said_after, rounds_after, is_single, size_of}
+use Rattle.frame_script.specs.Script.{Fault, Outside, Past, Draft, AtSeed, AtNodes, InRound, Said, Goes, ListsAp, ListsSta, Asks, BeginsRound, EndsRound, line_says, said_after, rounds_after, is_single, size_of}
+use Rattle.frame_script.specs.Live.{Draws, Turns, plain, live_says}
 
 -- ---- a reader
 
--- what contracts see of one: what the script has said, how many rounds it asked for, and of the journal so far how many
+-- what contracts see of one: the kind of the run, what the script has said, how many rounds it asked for, and of the journal so far how many
 -- entries it has seen and the sizes of the frames sent in these, in order
 pub record Reading : Type 0 where
+  pub mode : Mode
   pub draft : Draft
   pub rounds : ℕ
   pub seen : ℕ
@@ -164,6 +168,8 @@ TakesStep old new rounds sizes says (step.Sta a) = (d : Domain) × ((says ≡ Ok
 TakesStep old new rounds sizes says (step.Event e) = (says ≡ Ok (Asks e)) × CanAskFor old sizes e
 TakesStep old new rounds sizes says step.Round = (d : Domain) × ((says ≡ Ok BeginsRound) × ((old ≡ AtNodes d) × (length sizes ≤ 65535)))
 TakesStep old new rounds sizes says step.End = (d : Domain) × ((count : ℕ) × ((says ≡ Ok EndsRound) × (old ≡ InRound d count)))
+TakesStep old new rounds sizes says step.Draw = ⊥
+TakesStep old new rounds sizes says step.Turn = ⊥
 
 -- the line is taken, and what it says is said now
 abbrev pub HasRead : Reading → Reading → List ℕ → List ℕ → Step → Type 0
@@ -171,12 +177,32 @@ HasRead old new sizes line s =
     (said : Said) × ((line_says old.draft old.rounds sizes line ≡ Ok said) × ((new.draft ≡ said_after old.draft said)
     × ((new.rounds ≡ rounds_after old.draft old.rounds said) × TakesStep old.draft new.draft old.rounds sizes (line_says old.draft old.rounds sizes line) s)))
 
--- or it is refused for its fault, and nothing is said by it
+-- or it is refused for its fault, and nothing is said by it; in a replay
 abbrev pub ReadsLine : Reading → Reading → List ℕ → List ℕ → Result Step Untaken → Type 0
 ReadsLine old new sizes line (Ok s) = HasRead old new sizes line s
 ReadsLine old new sizes line (Err (Refused refusal)) =
     (line_says old.draft old.rounds sizes line ≡ Err (fault_of refusal)) × ((new.draft ≡ old.draft) × (new.rounds ≡ old.rounds))
 ReadsLine old new sizes line (Err NoMemory) = (new.draft ≡ old.draft) × (new.rounds ≡ old.rounds)
+
+-- in a live run the line is one that draws the seed, which is due from then on as before, or one in which nodes take the frames
+-- of their links, which counts as one round, or it says what it says in a replay
+abbrev pub HasHeard : Reading → Reading → List ℕ → List ℕ → Step → Type 0
+HasHeard old new sizes line step.Draw =
+    (live_says old.draft old.rounds sizes line ≡ Ok Draws) × ((old.draft ≡ AtSeed) × ((new.draft ≡ old.draft) × (new.rounds ≡ old.rounds)))
+HasHeard old new sizes line step.Turn =
+    (d : Domain) × ((live_says old.draft old.rounds sizes line ≡ Ok Turns) × ((old.draft ≡ AtNodes d) × ((length sizes ≤ 65535) × ((new.draft ≡ old.draft) × (new.rounds ≡ suc old.rounds)))))
+HasHeard old new sizes line s = (live_says old.draft old.rounds sizes line ≡ plain (line_says old.draft old.rounds sizes line)) × HasRead old new sizes line s
+
+abbrev pub HearsLine : Reading → Reading → List ℕ → List ℕ → Result Step Untaken → Type 0
+HearsLine old new sizes line (Ok s) = HasHeard old new sizes line s
+HearsLine old new sizes line (Err (Refused refusal)) =
+    (live_says old.draft old.rounds sizes line ≡ Err (fault_of refusal)) × ((new.draft ≡ old.draft) × (new.rounds ≡ old.rounds))
+HearsLine old new sizes line (Err NoMemory) = (new.draft ≡ old.draft) × (new.rounds ≡ old.rounds)
+
+-- by the kind of the run
+abbrev pub ReadsIn : Mode → Reading → Reading → List ℕ → List ℕ → Result Step Untaken → Type 0
+ReadsIn Replay old new sizes line answer = ReadsLine old new sizes line answer
+ReadsIn Live old new sizes line answer = HearsLine old new sizes line answer
 
 -- the same by numbers
 abbrev pub TakesLine : Reading → Reading → List ℕ → List ℕ → Result Step LineFault → Type 0
@@ -184,6 +210,16 @@ TakesLine old new sizes line (Ok s) = HasRead old new sizes line s
 TakesLine old new sizes line (Err (answered.Script reason)) = (line_says old.draft old.rounds sizes line ≡ Err (Outside reason)) × ((new.draft ≡ old.draft) × (new.rounds ≡ old.rounds))
 TakesLine old new sizes line (Err (answered.Limit limit)) = (line_says old.draft old.rounds sizes line ≡ Err (Past limit)) × ((new.draft ≡ old.draft) × (new.rounds ≡ old.rounds))
 TakesLine old new sizes line (Err answered.NoMemory) = (new.draft ≡ old.draft) × (new.rounds ≡ old.rounds)
+
+abbrev pub TakesLive : Reading → Reading → List ℕ → List ℕ → Result Step LineFault → Type 0
+TakesLive old new sizes line (Ok s) = HasHeard old new sizes line s
+TakesLive old new sizes line (Err (answered.Script reason)) = (live_says old.draft old.rounds sizes line ≡ Err (Outside reason)) × ((new.draft ≡ old.draft) × (new.rounds ≡ old.rounds))
+TakesLive old new sizes line (Err (answered.Limit limit)) = (live_says old.draft old.rounds sizes line ≡ Err (Past limit)) × ((new.draft ≡ old.draft) × (new.rounds ≡ old.rounds))
+TakesLive old new sizes line (Err answered.NoMemory) = (new.draft ≡ old.draft) × (new.rounds ≡ old.rounds)
+
+abbrev pub TakesIn : Mode → Reading → Reading → List ℕ → List ℕ → Result Step LineFault → Type 0
+TakesIn Replay old new sizes line answer = TakesLine old new sizes line answer
+TakesIn Live old new sizes line answer = TakesLive old new sizes line answer
 
 -- the network, once the header is whole
 abbrev pub IsDomain : Draft → Option Domain → Type 0

@@ -26,7 +26,8 @@ pub data Fault : Type 0 where
 -- the reasons: not `domain 1` in line 1; no such word in this place; the number or form of the arguments; a node that is not
 -- listed, of the other kind, or a station to whom or from whom nothing goes in a round; a frame that was not sent, or not
 -- before the round; a place or length outside the frame; a round that is open at the script's end; an address or R0KH-ID
--- used before; a draw of the seed, which only a live run has
+-- used before; a line of the other kind of run: only a live run has `seed draw` and `turn`, only a replay `deliver`, `alter`
+-- and `cut`
 abbrev pub version_ : Fault
 version_ = Outside 1
 
@@ -401,12 +402,14 @@ leave_line d text = do
   sta ← need node_ (listed_sta d s)
   Ok (Leave sta)
 
--- an event that a station begins, by its first word; `roam` has a meaning with the suite of fast transition alone
+-- an event that a station begins, by its first word; `roam` has a meaning with the suite of fast transition alone, and `turn`
+-- in a live run alone
 unfoldable pub station_event_of : Domain → List ℕ → List ℕ → Result Event Fault
 station_event_of d word text =
     if bytes_eq word (codes "connect") then connect_line d text
     else if bytes_eq word (codes "leave") then leave_line d text
     else if bytes_eq word (codes "roam") then (if is_transition d.akm then roam_line d text else Err word_)
+    else if bytes_eq word (codes "turn") then Err mode
     else Err word_
 
 -- an event of an access point's or a station's sessions, by its first word; in a round no station begins one

@@ -3,6 +3,8 @@ use Rattle.std.specs.Prelude.{◌≡◌, ℕ, suc, ◌<◌, ◌≤◌, ◌&&◌,
 use Rattle.run_journal.specs.declared.domain.Domain.{Domain}
 use Rattle.run_journal.specs.declared.domain.Event.{Event}
 use Rattle.run_journal.specs.declared.domain.Event.TheVariants.{Inject, Send}
+use Rattle.frame_script.specs.declared.reader.Mode.{Mode}
+use Rattle.frame_script.specs.declared.reader.Mode.TheVariants.{Replay, Live}
 use Rattle.frame_script.specs.declared.reader.Step.{Step}
 use Rattle.frame_script.specs.declared.reader.Step.TheVariants as step
 use Rattle.frame_script.specs.declared.refusal.Refusal.{Refusal}
@@ -14,6 +16,8 @@ use Rattle.frame_script.specs.declared.tokens.NodeName.{NodeName}
 use Rattle.frame_script.specs.declared.tokens.NodeName.TheVariants.{Ap, Sta}
 use Rattle.frame_script.specs.declared.tokens.PeerName.{PeerName}
 use Rattle.frame_script.specs.declared.tokens.PeerName.TheVariants as peers
+use Rattle.frame_script.specs.declared.live.Own.{Own}
+use Rattle.frame_script.specs.declared.live.Own.TheVariants as owns
 use Rattle.frame_script.specs.declared.events.Asked.{Asked}
 use Rattle.frame_script.specs.declared.events.Asked.TheVariants as asked
 use Rattle.frame_script.specs.declared.body.Sentence.{Sentence}
@@ -21,7 +25,8 @@ use Rattle.frame_script.specs.declared.body.Sentence.TheVariants as says
 use Rattle.frame_script.specs.Due.{is_fit}
 use Rattle.frame_script.specs.Refusals.{fault_of}
 use Rattle.frame_script.specs.Tokens.{NodeWord, PeerWord, ToAll, ToOne, named, hex_value}
-use Rattle.frame_script.specs.Script.{Fault, ◌>>=◌, Draft, AtVersion, AtNodes, InRound, Said, Goes, ListsAp, ListsSta, Asks, header_line, body_line, inner_line, said_after}
+use Rattle.frame_script.specs.Script.{Fault, ◌>>=◌, Draft, AtVersion, AtSeed, AtNodes, InRound, Said, Goes, ListsAp, ListsSta, Asks, header_line, body_line, inner_line, line_says, said_after}
+use Rattle.frame_script.specs.Live.{Heard, Draws, Turns, plain, live_says}
 use Rattle.frame_script.specs.Headers.{Reading, CanListAp, CanListSta, CanHappen, IsAtAp, IsHeaderStep, IsListedIn, IsNetwork, TakesStep}
 
 -- what is found is what is meant
@@ -95,6 +100,25 @@ Takes old new rounds sizes meant (Ok s) = (said : Said) × ((meant ≡ Ok said) 
 Takes old new rounds sizes meant (Err (untaken.Refused refusal)) = (meant ≡ Err (fault_of refusal)) × (new ≡ old)
 Takes old new rounds sizes meant (Err untaken.NoMemory) = new ≡ old
 
+-- what a line says that a live run has alone
+abbrev pub heard_of : Own → Result Heard Fault
+heard_of owns.Draw = Ok Draws
+heard_of owns.Turn = Ok Turns
+heard_of (owns.Refused refusal) = Err (fault_of refusal)
+
+-- in a live run
+abbrev pub TakesHeard : Draft → Draft → ℕ → List ℕ → List ℕ → Result Step Untaken → Type 0
+TakesHeard old new rounds sizes line (Ok step.Draw) = (live_says old rounds sizes line ≡ Ok Draws) × ((old ≡ AtSeed) × (new ≡ old))
+TakesHeard old new rounds sizes line (Ok step.Turn) = (d : Domain) × ((live_says old rounds sizes line ≡ Ok Turns) × ((old ≡ AtNodes d) × ((length sizes ≤ 65535) × (new ≡ old))))
+TakesHeard old new rounds sizes line (Ok s) = (live_says old rounds sizes line ≡ plain (line_says old rounds sizes line)) × Takes old new rounds sizes (line_says old rounds sizes line) (Ok s)
+TakesHeard old new rounds sizes line (Err (untaken.Refused refusal)) = (live_says old rounds sizes line ≡ Err (fault_of refusal)) × (new ≡ old)
+TakesHeard old new rounds sizes line (Err untaken.NoMemory) = new ≡ old
+
+-- by the kind of the run
+abbrev pub TakesBy : Mode → Draft → Draft → ℕ → List ℕ → List ℕ → Result Step Untaken → Type 0
+TakesBy Replay old new rounds sizes line answer = Takes old new rounds sizes (line_says old rounds sizes line) answer
+TakesBy Live old new rounds sizes line answer = TakesHeard old new rounds sizes line answer
+
 -- what a line says that is not passed over, by its first word and what stands behind it
 abbrev pub words_say : Draft → ℕ → List ℕ → List ℕ → List ℕ → Result Said Fault
 words_say (AtNodes d) rounds sizes word text = body_line d rounds sizes word text
@@ -113,8 +137,9 @@ TakesHeader old new word text (Err untaken.NoMemory) = new ≡ old
 abbrev pub rounds_with : Bool → ℕ → Result Step Untaken → ℕ
 rounds_with within rounds (Ok (step.Event event)) = if within then rounds else suc rounds
 rounds_with within rounds (Ok step.End) = suc rounds
+rounds_with within rounds (Ok step.Turn) = suc rounds
 rounds_with within rounds answer = rounds
 
 -- what is kept of the journal, as a reading
 abbrev pub seeing : ℕ → List ℕ → Reading
-seeing seen sizes = record { draft = AtVersion; rounds = 0; seen = seen; sizes = sizes }
+seeing seen sizes = record { mode = Replay; draft = AtVersion; rounds = 0; seen = seen; sizes = sizes }

@@ -597,7 +597,7 @@ fn transition(domain: &Domain, text: &[u8]) -> Result<Event, Refusal>
     }
 }
 
-// An event that a station begins, by its first word.
+// An event that a station begins, by its first word; a turn is one of a live run alone.
 #[tactic(auto, unfolding(crate::specs::Script::station_event_of))]
 fn station_event_of(domain: &Domain, word: &[u8], text: &[u8]) -> Result<Event, Refusal>
     requires { IsTrue (is_few domain.now) }
@@ -610,6 +610,8 @@ fn station_event_of(domain: &Domain, word: &[u8], text: &[u8]) -> Result<Event, 
         leave_line(domain, text)
     } else if word == b"roam".as_slice() {
         transition(domain, text)
+    } else if word == b"turn".as_slice() {
+        Err(Refusal::Mode)
     } else {
         Err(Refusal::Word)
     }

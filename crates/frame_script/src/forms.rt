@@ -4,9 +4,11 @@ ghost use Rattle.std.specs.Prelude.{◌≡◌, if◌then◌else◌};
 ghost use Rattle.frame_script.specs.declared.forms.Form.TheVariants as forms;
 ghost use Rattle.frame_script.specs.Due.{draft_of};
 ghost use Rattle.frame_script.specs.Script.{is_transition};
-ghost use Rattle.frame_script.specs.Forms.{body_form, event_form, form_of, form_text, frame_form, inner_form, key_form, late_form, session_form};
+ghost use Rattle.frame_script.specs.Forms.{body_form, event_form, form_in, form_live, form_of, form_text, frame_form, inner_form, is_turn, key_form, late_form, live_form, session_form};
 
 use crate::header::Due;
+use crate::live::brings;
+use crate::reader::Mode;
 use crate::tokens::first_word;
 use domain_base::Akm;
 use run_journal::Domain;
@@ -70,6 +72,18 @@ pub enum Form {
     Event,
     /// An event in a round, or the end of the round.
     EventInRound,
+    /// Nodes that take the frames of their links, in a live run.
+    Turn,
+    /// The seed, or its draw, in a live run.
+    LiveSeed,
+    /// An access point, a station, an event, a turn or a round, in a live run.
+    LiveAny,
+    /// A station, an event, a turn or a round, in a live run.
+    LiveStaOrEvent,
+    /// An event, a turn or a round, in a live run.
+    LiveEvent,
+    /// An event in a round, or the end of the round, in a live run.
+    LiveEventInRound,
 }
 
 impl Form {
@@ -113,6 +127,20 @@ impl Form {
             }
             Form::EventInRound => {
                 "that of deliver, alter, cut, inject, retry, rekey, send, expire, revoke or end"
+            }
+            Form::Turn => "turn",
+            Form::LiveSeed => "seed <64 digits or draw>",
+            Form::LiveAny => {
+                "that of ap, sta, connect, roam with ft-psk, inject, retry, rekey, send, expire, revoke, leave, round or turn"
+            }
+            Form::LiveStaOrEvent => {
+                "that of sta, connect, roam with ft-psk, inject, retry, rekey, send, expire, revoke, leave, round or turn"
+            }
+            Form::LiveEvent => {
+                "that of connect, roam with ft-psk, inject, retry, rekey, send, expire, revoke, leave, round or turn"
+            }
+            Form::LiveEventInRound => {
+                "that of inject, retry, rekey, send, expire, revoke or end"
             }
         }
     }
@@ -241,8 +269,8 @@ fn body_form(domain: &Domain, rounds: u64, word: &[u8]) -> Form
     }
 }
 
-/// The form that the line should have had, where so many rounds were asked for.
-pub(crate) fn form_of(due: &Due, rounds: u64, line: &[u8]) -> Form
+// The form that the line should have had in a replay, where so many rounds were asked for.
+fn form_of(due: &Due, rounds: u64, line: &[u8]) -> Form
     ensures { result ≡ form_of (draft_of due.now) rounds line.now }
 {
     let (word, _) = first_word(line);
@@ -255,5 +283,56 @@ pub(crate) fn form_of(due: &Due, rounds: u64, line: &[u8]) -> Form
         Due::Mdid { .. } => Form::Mdid,
         Due::Nodes { domain } => body_form(domain, rounds, word),
         Due::Round { .. } => inner_form(word),
+    }
+}
+
+// The form in a live run, for one in a replay.
+fn live_form(form: Form) -> Form
+    ensures { result ≡ live_form form }
+{
+    match form {
+        Form::Seed => Form::LiveSeed,
+        Form::Any => Form::LiveAny,
+        Form::StaOrEvent => Form::LiveStaOrEvent,
+        Form::Event => Form::LiveEvent,
+        Form::EventInRound => Form::LiveEventInRound,
+        form => form,
+    }
+}
+
+// Whether the first word is that of a turn, where one may stand in a live run.
+fn is_turn(due: &Due, word: &[u8]) -> bool
+    ensures { result ≡ is_turn (draft_of due.now) word.now }
+{
+    match due {
+        Due::Nodes { .. } => word == b"turn".as_slice(),
+        _ => false,
+    }
+}
+
+// The form that the line with that first word should have had in a live run.
+fn form_live(due: &Due, rounds: u64, line: &[u8], word: &[u8]) -> Form
+    ensures { result ≡ form_live (draft_of due.now) rounds line.now word.now }
+{
+    if is_turn(due, word) {
+        Form::Turn
+    } else if brings(word) {
+        live_form(form_of(due, rounds, b"".as_slice()))
+    } else {
+        live_form(form_of(due, rounds, line))
+    }
+}
+
+/// The form that the line should have had in a run of that kind, where so many rounds were asked
+/// for.
+pub(crate) fn form_in(mode: Mode, due: &Due, rounds: u64, line: &[u8]) -> Form
+    ensures { result ≡ form_in mode (draft_of due.now) rounds line.now }
+{
+    match mode {
+        Mode::Replay => form_of(due, rounds, line),
+        Mode::Live => {
+            let (word, _) = first_word(line);
+            form_live(due, rounds, line, word)
+        }
     }
 }

@@ -1,7 +1,9 @@
 //! The lines of a script, read one by one.
 //!
 //! A script has a header, the nodes and the events of a run, a line for each; `ScriptReader` says
-//! of each line what it means after the lines before it, or why it is refused.
+//! of each line what it means after the lines before it, or why it is refused. A script is one of a
+//! replay, in which frames that were sent come by its lines, or of a live run, in which nodes take
+//! the frames of their links.
 #![tactic(auto)]
 
 mod body;
@@ -9,6 +11,7 @@ mod events;
 mod forms;
 mod header;
 mod lines;
+mod live;
 mod nodes;
 mod reader;
 mod refusal;
@@ -16,5 +19,5 @@ mod seen;
 mod tokens;
 
 pub use forms::Form;
-pub use reader::{LineFault, ScriptReader, Step};
+pub use reader::{LineFault, Mode, ScriptReader, Step};
 pub use refusal::{Refusal, Untaken};

@@ -117,7 +117,7 @@ fn take_later(due: Due, alloc: Global, rounds: u64, sizes: &[usize], line: &[u8]
     take_words(due, alloc, rounds, sizes, word, text)
 }
 
-/// Takes the next line, where so many rounds were asked for and frames of these sizes sent. Where
+/// Takes the next line in a replay, where so many rounds were asked for and frames of these sizes sent. Where
 /// it is refused the same one is due.
 pub(crate) fn take_line(due: Due, alloc: Global, rounds: u64, sizes: &[usize], line: &[u8]) -> Taken
     requires { IsKept due }
@@ -146,6 +146,7 @@ pub(crate) fn rounds_with(within: bool, rounds: u64, answer: &Result<Step, Untak
     match answer {
         Ok(Step::Event(_)) => { if within { rounds } else { rounds + 1 } }
         Ok(Step::End) => rounds + 1,
+        Ok(Step::Turn) => rounds + 1,
         _ => rounds,
     }
 }

@@ -3,9 +3,10 @@
 ghost use Rattle.std.specs.Prelude.{◌≡◌, ◌<◌, ◌^◌, [], None, Some, MatchResult, OnErr, OnOk, option_map};
 ghost use Rattle.run_journal.specs.declared.domain.Domain.{Domain as AnyDomain};
 
-use crate::forms::{Form, form_of};
+use crate::forms::{Form, form_in};
 use crate::header::Due;
-use crate::lines::{is_within, rounds_with, take_line};
+use crate::lines::{is_within, rounds_with};
+use crate::live::take_by;
 use crate::refusal::{Refusal, Untaken};
 use crate::seen::see_by;
 use domain_base::{Mac, Octets};
@@ -14,14 +15,23 @@ use std::alloc::Global;
 use std::marker::Model;
 use std::mem::replace;
 
+/// The kind of a run.
+#[derive(Clone, Copy)]
+pub enum Mode {
+    /// Frames that were sent come by lines.
+    Replay,
+    /// Nodes take the frames of their links. The seed may be drawn.
+    Live,
+}
+
 /// Why a line is not taken, by number. The reader has said nothing by it.
 #[derive(Clone, Copy)]
 pub enum LineFault {
     /// The line is outside the grammar, for that reason: 1 it is the first and not `domain 1`; 2 no
     /// such word in this place; 3 the number or form of its arguments; 4 a node that is not listed
     /// or of the other kind; 5 a frame that was not sent; 6 a place or length outside the frame; 7 a
-    /// round that is open at the script's end; 8 an address or R0KH-ID used before; 9 a draw of the
-    /// seed.
+    /// round that is open at the script's end; 8 an address or R0KH-ID used before; 9 a line of the
+    /// other kind of run.
     Script(u8),
     /// It goes past that limit: 3 octets of an injected frame; 4 frames sent; 5 access points; 6
     /// stations; 7 octets of a payload; 8 events in a round.
@@ -35,6 +45,8 @@ pub enum LineFault {
 pub enum Step {
     /// Nothing to be done: a line of the header, or one that is passed over.
     Nothing,
+    /// The seed is to be drawn, in a live run alone. It is due until `drawn` is told of it.
+    Draw,
     /// The header is whole with this line.
     Network,
     /// Lists an access point.
@@ -55,11 +67,14 @@ pub enum Step {
     Round,
     /// The round ends that is open.
     End,
+    /// Nodes take the frames of their links, in a live run alone. The reader counts it as one round.
+    Turn,
 }
 
 /// Reads a script line by line.
 #[derive(Drop)]
 pub struct ScriptReader {
+    mode: Mode,
     due: Due,
     rounds: u64,
     seen: usize,
@@ -74,6 +89,7 @@ impl Model for ScriptReader {
     ghost Value = { Reading };
 
     ghost view = { λ r. record {
+      mode = r.mode;
       draft = draft_of r.due;
       rounds = r.rounds;
       seen = r.seen;
@@ -85,16 +101,18 @@ impl Model for ScriptReader {
 
 impl ScriptReader {
     ghost use Rattle.std.specs.Prelude.{length, ℕ, List};
-    ghost use Rattle.frame_script.specs.Script.{AtVersion, end_fault};
+    ghost use Rattle.frame_script.specs.Script.{AtSeed, AtSsid, AtVersion, end_fault};
     ghost use Rattle.frame_script.specs.Refusals.{answer_of, fault_of};
-    ghost use Rattle.frame_script.specs.Forms.{form_of};
-    ghost use Rattle.frame_script.specs.Headers.{HasSeen, HasSeenBy, IsDomain, ReadsLine, TakesLine, sizes_named};
+    ghost use Rattle.frame_script.specs.Forms.{form_in};
+    ghost use Rattle.frame_script.specs.Headers.{HasSeen, HasSeenBy, IsDomain, ReadsIn, TakesIn, sizes_named};
 
-    /// Before the first line.
-    pub fn start(alloc: Global) -> Self
-        ensures { result ≡ record { draft = AtVersion; rounds = 0; seen = 0; sizes = [] } }
+    /// Before the first line of a script of a run of that kind.
+    pub fn start(alloc: Global, mode: Mode) -> Self
+        ensures { result
+            ≡ record { mode = mode; draft = AtVersion; rounds = 0; seen = 0; sizes = [] } }
     {
         ScriptReader {
+            mode,
             due: Due::Version,
             rounds: 0,
             seen: 0,
@@ -104,12 +122,13 @@ impl ScriptReader {
 
     /// Takes the next line, without its end. The journal has grown at its end alone since the line
     /// before. In a round the frames that the journal has sent since it began are not seen.
-    #[tactic(auto, using(crate::proofs::Taking::reads, crate::proofs::Taking::seen_on))]
+    #[tactic(auto, using(crate::proofs::Living::reads, crate::proofs::Taking::seen_on))]
     pub fn take(&mut self, alloc: Global, line: &[u8], journal: &Journal) -> Result<Step, Untaken>
         requires seen { HasSeen self.old journal.now.entries }
         requires few { self.old.rounds < 2 ^ 63 }
-        ensures takes { ReadsLine self.old self.new (sizes_named self.old journal.now.entries)
-            line.now result }
+        ensures takes { ReadsIn self.old.mode self.old self.new
+            (sizes_named self.old journal.now.entries) line.now result }
+        ensures mode { self.new.mode ≡ self.old.mode }
         ensures seen { OnOk result (HasSeenBy self.old.draft self.new journal.now.entries) }
         ensures sizes { OnOk result
             (self.new.sizes ≡ sizes_named self.old journal.now.entries) }
@@ -120,19 +139,20 @@ impl ScriptReader {
         }
         let within = is_within(&self.due);
         let due = replace(&mut self.due, Due::Version);
-        let (due, answer) = take_line(due, alloc, self.rounds, &self.sizes, line);
+        let (due, answer) = take_by(self.mode, due, alloc, self.rounds, &self.sizes, line);
         self.due = due;
         self.rounds = rounds_with(within, self.rounds, &answer);
         answer
     }
 
     /// Takes the next line as `take` does, and tells by number why it is not taken.
-    #[tactic(auto, using(crate::proofs::Numbering::by_number))]
+    #[tactic(auto, using(crate::proofs::Numbering::numbering))]
     pub fn line(&mut self, alloc: Global, line: &[u8], journal: &Journal) -> Result<Step, LineFault>
         requires seen { HasSeen self.old journal.now.entries }
         requires few { self.old.rounds < 2 ^ 63 }
-        ensures takes { TakesLine self.old self.new (sizes_named self.old journal.now.entries)
-            line.now result }
+        ensures takes { TakesIn self.old.mode self.old self.new
+            (sizes_named self.old journal.now.entries) line.now result }
+        ensures mode { self.new.mode ≡ self.old.mode }
         ensures seen { OnOk result (HasSeenBy self.old.draft self.new journal.now.entries) }
         ensures kept { OnErr result (HasSeen self.new journal.now.entries) }
     {
@@ -140,6 +160,21 @@ impl ScriptReader {
             Ok(step) => Ok(step),
             Err(untaken) => Err(untaken.into()),
         }
+    }
+
+    /// Tells the seed, 32 octets, that a line asked to be drawn.
+    pub fn drawn(&mut self, seed: [u8; 32])
+        requires live { self.old.mode ≡ Mode.Live }
+        requires due { self.old.draft ≡ AtSeed }
+        ensures { self.new ≡ record {
+          mode = self.old.mode;
+          draft = AtSsid seed;
+          rounds = self.old.rounds;
+          seen = self.old.seen;
+          sizes = self.old.sizes;
+        } }
+    {
+        self.due = Due::Ssid { seed };
     }
 
     /// Ends the script: it may end behind any line outside a round, and has one line at least.
@@ -168,9 +203,9 @@ impl ScriptReader {
 
     /// The form that this line should have had, where it was not taken.
     pub fn form(&self, line: &[u8]) -> Form
-        ensures { result ≡ form_of self.now.draft self.now.rounds line.now }
+        ensures { result ≡ form_in self.now.mode self.now.draft self.now.rounds line.now }
     {
-        form_of(&self.due, self.rounds, line)
+        form_in(self.mode, &self.due, self.rounds, line)
     }
 
     /// The network with the nodes listed so far, once the header is whole.

@@ -26,7 +26,8 @@ pub enum Refusal {
     Unclosed,
     /// An address or R0KH-ID used before.
     Duplicate,
-    /// A draw of the seed, which only a live run has.
+    /// A line of the other kind of run: only a live run has `seed draw` and `turn`, only a replay
+    /// has `deliver`, `alter` and `cut`.
     Mode,
     /// More lines than a script may have. The reader of a line does not count them.
     ManyLines,
@@ -60,7 +61,7 @@ impl Refusal {
             Refusal::Place => "place or length outside the frame",
             Refusal::Unclosed => "the script ends in a round",
             Refusal::Duplicate => "address or R0KH-ID used before",
-            Refusal::Mode => "the seed is drawn in a live run only",
+            Refusal::Mode => "no such line in this kind of run",
             Refusal::ManyLines => "more than 65536 lines",
             Refusal::LongLine => "a line of more than 8192 octets",
             Refusal::LongFrame => "an injected frame of more than 2400 octets",

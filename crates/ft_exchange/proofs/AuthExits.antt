@@ -26,6 +26,7 @@ use Rattle.ft_exchange.specs.State.{TargetState}
 use Rattle.ft_exchange.specs.Stands.{IsPlace}
 use Rattle.ft_exchange.specs.Exchange.{Begins}
 use Rattle.ft_exchange.specs.TargetSteps.{IsAuthTaken, LooksBy}
+use Rattle.ft_exchange.specs.Topics.{TellsOnly, auth_request_topics}
 use Rattle.ft_exchange.specs.declared.looking.Granted.{Granted}
 use Rattle.ft_exchange.specs.declared.place.Place.{Place}
 use Rattle.ft_exchange.proofs.StationAuths.{quiet_empty}
@@ -35,6 +36,7 @@ use Rattle.ft_exchange.proofs.TargetAuths.{ok, Asks, IsKnownBy, auth_other, auth
 -- ---- what a refusal tells
 
 pub record Tells (old r : Reply) : Type 0 where
+  pub sealed : r.sealed ≡ None
   pub verified : r.verified ≡ old.verified
   pub derived : r.derived ≡ old.derived
   pub installed : r.installed ≡ old.installed
@@ -45,18 +47,39 @@ pub record Tells (old r : Reply) : Type 0 where
 whole_none : (r : Reply) → r.len ≡ 0 → r.sealed ≡ None → IsWhole r
 whole_none r len sealed = record { few = omega (arith, len); sealed = λ kck some. (let none : None ≡ Some kck = sym sealed ∙ some in cc) }
 
-pub sends_tell : (octets : List ℕ) (k : Kind) (sealed : Option (List ℕ)) (old r : Reply) → Sends octets k sealed old r → Tells old r
-sends_tell octets k sealed old r s = record { verified = s.verified; derived = s.derived; installed = s.installed; gtk = s.gtk; looked = s.looked; whole = s.frame.whole }
+pub sends_tell : (octets : List ℕ) (k : Kind) (old r : Reply) → Sends octets k None old r → Tells old r
+sends_tell octets k old r s = record { sealed = s.frame.sealed_is; verified = s.verified; derived = s.derived; installed = s.installed; gtk = s.gtk; looked = s.looked; whole = s.frame.whole }
 
 pub same_tells : (old r : Reply) → old.len ≡ 0 → old.sealed ≡ None → r ≡ old → Tells old r
-same_tells old r len sealed same = subst (λ (x : Reply). Tells old x) (sym same) (record { verified = refl; derived = refl; installed = refl; gtk = refl; looked = refl; whole = whole_none old len sealed })
+same_tells old r len sealed same = subst (λ (x : Reply). Tells old x) (sym same) (record { sealed = sealed; verified = refl; derived = refl; installed = refl; gtk = refl; looked = refl; whole = whole_none old len sealed })
 
 refusal_tells : (w : Place) (o : Option ℕ) (old r : Reply) → old.len ≡ 0 → old.sealed ≡ None → RefusesAuthBy w o old r → Tells old r
 refusal_tells w None old r len sealed same = same_tells old r len sealed same
-refusal_tells w (Some code) old r len sealed sends = sends_tell _ kind.FtResp None old r sends
+refusal_tells w (Some code) old r len sealed sends = sends_tell _ kind.FtResp old r sends
 
 pub auth_tells : (w : Place) (why : Reason) (old r : Reply) → old.len ≡ 0 → old.sealed ≡ None → RefusesAuth w why old r → Tells old r
 auth_tells w why old r len sealed refuses = refusal_tells w (refused_status why) old r len sealed refuses
+
+-- a reply that told of nothing but a look
+pub record MayLook (r : Reply) : Type 0 where
+  pub verified : r.verified ≡ None
+  pub derived : r.derived ≡ None
+  pub installed : r.installed ≡ None
+  pub gtk : r.gtk ≡ None
+
+may_look : (r : Reply) → IsEmpty r → MayLook r
+may_look r e = record { verified = e.verified; derived = e.derived; installed = e.installed; gtk = e.gtk }
+
+refusal_only : (why : Reason) (old r : Reply) → MayLook old → Tells old r → TellsOnly (auth_request_topics (Refused why)) r
+refusal_only why old r m t = record {
+  frame = tt;
+  sealed = t.sealed;
+  verified = t.verified ∙ m.verified;
+  derived = t.derived ∙ m.derived;
+  installed = t.installed ∙ m.installed;
+  gtk = t.gtk ∙ m.gtk;
+  looked = tt;
+}
 
 -- ---- before a look
 
@@ -67,13 +90,21 @@ pub exit_elements : (d : Domain) (a sta : ℕ) (e : ElementFields) (anonce : Opt
     → RefusesAuth w why old r → IsAuthTaken d a sta e anonce o o (Refused why) r
 exit_elements d a sta e anonce o why w old r suite right at empty refuses =
     let t : Tells old r = auth_tells w why old r empty.len empty.sealed refuses in
-    auth_elements d a sta e anonce o why w old r suite right at empty.len (t.derived ∙ empty.derived) (t.looked ∙ empty.looked) t.whole refuses
+    auth_elements d a sta e anonce o why w old r suite right at empty.len (refusal_only why old r (may_look old empty) t) (t.looked ∙ empty.looked) t.whole refuses
 
 pub exit_repeated : (d : Domain) (a sta : ℕ) (e : ElementFields) (anonce : Option (List ℕ)) (o : Option TargetState) (x : Asked) (old r : Reply) → d.akm ≡ FtPsk → request_reason d.mdid e ≡ None → asked e ≡ Some x → is_pending_repeated x o ≡ true → IsEmpty old
     → AnswersPending o old r → IsAuthTaken d a sta e anonce o o Answered r
 exit_repeated d a sta e anonce None x old r suite right asks again empty answers = absurd cc
 exit_repeated d a sta e anonce (Some s) x old r suite right asks again empty answers =
-    auth_repeated d a sta e anonce s x r suite right asks again answers.frame (answers.derived ∙ empty.derived) (answers.looked ∙ empty.looked)
+    auth_repeated d a sta e anonce s x r suite right asks again answers.frame (record {
+      frame = tt;
+      sealed = answers.frame.sealed_is;
+      verified = answers.verified ∙ empty.verified;
+      derived = answers.derived ∙ empty.derived;
+      installed = answers.installed ∙ empty.installed;
+      gtk = answers.gtk ∙ empty.gtk;
+      looked = answers.looked ∙ empty.looked;
+    })
 
 -- ---- behind a look
 
@@ -90,13 +121,27 @@ same_err y z is = cc
 never : (g : Granted) (why : Reason) → ok g ≡ err why → ⊥
 never g why is = cc
 
-pub exit_granted : (d : Domain) (a sta : ℕ) (e : ElementFields) (anonce : Option (List ℕ)) (o : Option TargetState) (x : Asked) (g : Granted) (w : Place) (t : TargetState) (Answers : List ℕ → PullAnswer → Type 0) (Same : Type 0) (old mid r : Reply) → Asks d e o x
+looked_may : (old mid : Reply) (answer : PullAnswer) → IsEmpty old → mid ≡ record old { looked = Some answer } → MayLook mid
+looked_may old mid answer empty is = subst (λ (z : Reply). MayLook z) (sym is) (record { verified = empty.verified; derived = empty.derived; installed = empty.installed; gtk = empty.gtk })
+
+begins_only : (w : Place) (x : Asked) (g : Granted) (t : TargetState) (old r : Reply) → MayLook old → Begins w x g t old r → TellsOnly (auth_request_topics Accepted) r
+begins_only w x g t old r m f = record {
+  frame = tt;
+  sealed = f.sends.sealed_is;
+  verified = f.verified ∙ m.verified;
+  derived = tt;
+  installed = f.installed ∙ m.installed;
+  gtk = f.gtk ∙ m.gtk;
+  looked = tt;
+}
+
+pub exit_granted : (d : Domain) (a sta : ℕ) (e : ElementFields) (anonce : Option (List ℕ)) (o : Option TargetState) (x : Asked) (g : Granted) (w : Place) (t : TargetState) (Answers : List ℕ → PullAnswer → Type 0) (Same : Type 0) (old mid r : Reply) → Asks d e o x → IsEmpty old
     → IsLooked d x anonce Answers Same old mid (Ok g) → Knowing d x Answers → IsPlace d (Ap a) (Sta sta) w → Begins w x g t mid r → IsAuthTaken d a sta e anonce o (Some t) Accepted r
-exit_granted d a sta e anonce o x g w t Answers Same old mid r k looked knows at begins = by (single x.names) refl looked.by_name
+exit_granted d a sta e anonce o x g w t Answers Same old mid r k empty looked knows at begins = by (single x.names) refl looked.by_name
   where
     by : (n : Option (List ℕ)) → single x.names ≡ n → IsLookedBy d x anonce Answers Same old mid n (Ok g) → IsAuthTaken d a sta e anonce o (Some t) Accepted r
     by None is u = absurd (never g (unnamed_reason d x.r0kh_id) u.is)
-    by (Some name) is i = auth_granted d a sta e anonce o x name i.answer g w t mid r k is (knows name i.answer i.answered) (sym i.is) at (ap (λ (z : Reply). z.looked) i.reply) begins
+    by (Some name) is i = auth_granted d a sta e anonce o x name i.answer g w t mid r k is (knows name i.answer i.answered) (sym i.is) at (ap (λ (z : Reply). z.looked) i.reply) (begins_only w x g t mid r (looked_may old mid i.answer empty i.reply) begins) begins
 
 pub exit_refused : (d : Domain) (a sta : ℕ) (e : ElementFields) (anonce : Option (List ℕ)) (o : Option TargetState) (x : Asked) (why : Reason) (w : Place) (Answers : List ℕ → PullAnswer → Type 0) (Same : Type 0) (old mid r : Reply) → Asks d e o x → IsEmpty old
     → IsLooked d x anonce Answers Same old mid (Err why) → Knowing d x Answers → IsPlace d (Ap a) (Sta sta) w → RefusesAuth w why mid r → IsAuthTaken d a sta e anonce o o (Refused why) r
@@ -108,12 +153,12 @@ exit_refused d a sta e anonce o x why w Answers Same old mid r k empty looked kn
         let t : Tells mid r = auth_tells w why mid r len (ap (λ (z : Reply). z.sealed) u.reply ∙ empty.sealed) refuses in
         let why_is : why ≡ unnamed_reason d x.r0kh_id = same_err why (unnamed_reason d x.r0kh_id) u.is in
         subst (λ (y : Reason). IsAuthTaken d a sta e anonce o o (Refused y) r) (sym why_is)
-        (auth_unnamed d a sta e anonce o x w mid r k is at len (t.derived ∙ ap (λ (z : Reply). z.derived) u.reply ∙ empty.derived) (t.looked ∙ ap (λ (z : Reply). z.looked) u.reply ∙ empty.looked) t.whole
+        (auth_unnamed d a sta e anonce o x w mid r k is at len (refusal_only (unnamed_reason d x.r0kh_id) mid r (subst (λ (z : Reply). MayLook z) (sym u.reply) (may_look old empty)) t) (t.looked ∙ ap (λ (z : Reply). z.looked) u.reply ∙ empty.looked) t.whole
         (subst (λ (y : Reason). RefusesAuth w y mid r) why_is refuses))
     by (Some name) is i =
         let len : mid.len ≡ 0 = ap (λ (z : Reply). z.len) i.reply ∙ empty.len in
         let t : Tells mid r = auth_tells w why mid r len (ap (λ (z : Reply). z.sealed) i.reply ∙ empty.sealed) refuses in
-        auth_unheld d a sta e anonce o x name i.answer why w mid r k is (knows name i.answer i.answered) (sym i.is) at len (t.derived ∙ ap (λ (z : Reply). z.derived) i.reply ∙ empty.derived)
+        auth_unheld d a sta e anonce o x name i.answer why w mid r k is (knows name i.answer i.answered) (sym i.is) at len (refusal_only why mid r (looked_may old mid i.answer empty i.reply) t)
         (t.looked ∙ ap (λ (z : Reply). z.looked) i.reply) t.whole refuses
 
 -- ---- what is told of a look

@@ -47,7 +47,7 @@ fault_is e s x f y wants is has = sym (is ∙ ap (λ (z : Wanted). reassociation
 
 refusal_tells : (w : Place) (o : Option ℕ) (old r : Reply) → old.len ≡ 0 → old.sealed ≡ None → RefusesReassocBy w o old r → Tells old r
 refusal_tells w None old r len sealed same = same_tells old r len sealed same
-refusal_tells w (Some code) old r len sealed sends = sends_tell _ kind.ReResp None old r sends
+refusal_tells w (Some code) old r len sealed sends = sends_tell _ kind.ReResp old r sends
 
 pub exit_elements : (e : ElementFields) (g : GroupKey) (rsc : ℕ) (s v : TargetState) (k : Option (List ℕ)) (why : Reason) (old r : Reply) → Passed s e k → v ≡ s → reassociation_reason (wanted_at s) e true ≡ Some why → IsEmpty old
     → RefusesReassoc v.place why (record old { verified = k }) r → IsReassocTaken e g rsc s s (Refused why) r
@@ -55,15 +55,17 @@ exit_elements e g rsc s v k why old r p same refuses empty answers =
     let mid : Reply = record old { verified = k } in
     let answers_s : RefusesReassoc s.place why mid r = subst (λ (y : TargetState). RefusesReassoc y.place why mid r) same answers in
     let t : Tells mid r = refusal_tells s.place (refused_status why) mid r empty.len empty.sealed answers_s in
-    reassoc_refused e g rsc s why mid r p.right refuses empty.len (t.verified ∙ p.verified) (t.installed ∙ empty.installed) t.whole answers_s
+    reassoc_refused e g rsc s why mid r p.right refuses empty.len (t.verified ∙ p.verified) (record { frame = tt; sealed = t.sealed; verified = tt; derived = t.derived ∙ empty.derived; installed = t.installed ∙ empty.installed; gtk = t.gtk ∙ empty.gtk; looked = t.looked ∙ empty.looked }) t.whole answers_s
 
 pub exit_held : (e : ElementFields) (g : GroupKey) (rsc : ℕ) (s v : TargetState) (k : Option (List ℕ)) (old r : Reply) → Passed s e k → v ≡ s → reassociation_reason (wanted_at s) e true ≡ None → v.is_installed ≡ true → IsEmpty old
     → Sends s.stored kind.ReResp (Some v.key.ptk.kck) (record old { verified = k }) r → IsReassocTaken e g rsc s s Answered r
 exit_held e g rsc s v k old r p same accepts held empty sends =
-    reassoc_answered e g rsc s r p.right accepts (ap (λ (y : TargetState). y.is_installed) (sym same) ∙ held) (sends.verified ∙ p.verified) (sends.installed ∙ empty.installed)
+    reassoc_answered e g rsc s r p.right accepts (ap (λ (y : TargetState). y.is_installed) (sym same) ∙ held) (sends.verified ∙ p.verified)
+    (record { frame = tt; sealed = tt; verified = tt; derived = sends.derived ∙ empty.derived; installed = sends.installed ∙ empty.installed; gtk = sends.gtk ∙ empty.gtk; looked = sends.looked ∙ empty.looked })
     (subst (λ (y : TargetState). HasFrame s.stored kind.ReResp (Some y.key.ptk.kck) r) same sends.frame)
 
-pub exit_pends : (e : ElementFields) (g : GroupKey) (rsc : ℕ) (s v t : TargetState) (k : Option (List ℕ)) (old r : Reply) → Passed s e k → v ≡ s → reassociation_reason (wanted_at s) e true ≡ None → v.is_installed ≡ false
+pub exit_pends : (e : ElementFields) (g : GroupKey) (rsc : ℕ) (s v t : TargetState) (k : Option (List ℕ)) (old r : Reply) → Passed s e k → v ≡ s → reassociation_reason (wanted_at s) e true ≡ None → v.is_installed ≡ false → IsEmpty old
     → Installs g rsc s t (record old { verified = k }) r → IsReassocTaken e g rsc s t Accepted r
-exit_pends e g rsc s v t k old r p same accepts pends f =
-    reassoc_accepted e g rsc s t (record old { verified = k }) r p.right accepts (ap (λ (y : TargetState). y.is_installed) (sym same) ∙ pends) p.verified f
+exit_pends e g rsc s v t k old r p same accepts pends empty f =
+    reassoc_accepted e g rsc s t (record old { verified = k }) r p.right accepts (ap (λ (y : TargetState). y.is_installed) (sym same) ∙ pends) p.verified
+    (record { frame = tt; sealed = tt; verified = tt; derived = f.derived ∙ empty.derived; installed = tt; gtk = f.gtk ∙ empty.gtk; looked = f.looked ∙ empty.looked }) f

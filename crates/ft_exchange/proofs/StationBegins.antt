@@ -93,9 +93,14 @@ pub begins : (d : Domain) (sta a q : ℕ) (id snonce : List ℕ) (s : Originator
 begins d sta a q id snonce s old r suite is empty sends = subst (λ (x : OriginatorState). IsBegun d (Sta sta) (Ap a) (Ap q) id snonce x r) (sym is) (record {
   sends = asking_is d sta a (begun_state d sta a q id snonce) r (is_of d sta a q id snonce suite) (subst (λ (x : OriginatorState). HasFrame (asking_octets x) kind.FtReq None r) is sends.frame);
   stands = λ h u. begun_stands d sta a q id snonce h suite u;
+  tells = record {
+    frame = tt;
+    sealed = sends.frame.sealed_is;
+    verified = sends.verified ∙ empty.verified;
+    derived = sends.derived ∙ empty.derived;
+    installed = sends.installed ∙ empty.installed;
+    gtk = sends.gtk ∙ empty.gtk;
+    looked = sends.looked ∙ empty.looked;
+  };
   whole = sends.frame.whole;
-  verified = sends.verified ∙ empty.verified;
-  derived = sends.derived ∙ empty.derived;
-  installed = sends.installed ∙ empty.installed;
-  gtk = sends.gtk ∙ empty.gtk;
 })

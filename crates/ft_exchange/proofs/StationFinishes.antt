@@ -50,12 +50,14 @@ use Rattle.ft_exchange.specs.Stands.{OriginatorStands}
 use Rattle.ft_exchange.specs.Exchange.{wanted_by, at_stage, response_tried, IsQuiet, IsTriedFirst, IsResponse, Both, both, Finishes}
 use Rattle.ft_exchange.specs.OriginatorSteps.{IsUnder, IsReassocTaken}
 use Rattle.ft_exchange.specs.Told.{came, taken_seal, reassoc_response_acts}
+use Rattle.ft_exchange.specs.Topics.{TellsOnly, reassoc_response_topics, response_verified}
 use Rattle.ft_exchange.specs.Tried.{tried_reason, verified_key}
 use Rattle.ft_exchange.specs.declared.group.CarriedKey.{CarriedKey}
 use Rattle.ft_exchange.specs.declared.group.Opened.{Opened}
 use Rattle.ft_exchange.specs.declared.group.Opened.TheVariants.{Nothing, Bad, Plain}
 use Rattle.ft_exchange.specs.declared.mic.Tried.{Tried}
 use Rattle.ft_exchange.specs.declared.mic.Tried.TheVariants as tries
+use Rattle.ft_exchange.specs.declared.originator.Stage.{Stage}
 use Rattle.ft_exchange.specs.declared.originator.Stage.TheVariants as stage
 use Rattle.ft_exchange.specs.declared.originator.Transit.{Transit}
 use Rattle.ft_exchange.proofs.StationFrames.{root_is}
@@ -80,9 +82,9 @@ RefusesReassoc status e s why v =
     (d : Domain) (first sta a : ℕ) (octets : List ℕ) (b : Management) (h : List Act) → OriginatorStands d (Sta sta) (Ap a) s h → IsManagementFrom d (Sta sta) (Ap a) octets b e
     → b.kind ≡ kind.ReResp → b.status ≡ status → IsRefused d first (Sta sta) h (Managed b e) why (taken_seal (re_resp_covered d (Sta sta) (Ap a) e) v)
 
-pub reassoc_refused : (status : ℕ) (e : ElementFields) (s : OriginatorState) (ks : List Kept) (why : Reason) (v : Option (List ℕ)) (r : Reply) → IsQuiet v r → RefusesReassoc status e s why v
+pub reassoc_refused : (status : ℕ) (e : ElementFields) (s : OriginatorState) (ks : List Kept) (why : Reason) (v : Option (List ℕ)) (r : Reply) → IsQuiet v r → v ≡ response_verified s s.stage status e → RefusesReassoc status e s why v
     → IsReassocTaken status e (both s ks) (both s ks) (Refused why) r
-reassoc_refused status e s ks why v r q refuses = record {
+reassoc_refused status e s ks why v r q verified refuses = record {
   steps = λ d first sta a octets b h st remembers from is has.
       (let seal : Option Seal = taken_seal (re_resp_covered d (Sta sta) (Ap a) e) v in
       let acts = sym (quiet_acts d (root_at d s.r0kh_id) (Sta sta) (Ap a) (associated h) octets e why v r q) in
@@ -94,6 +96,8 @@ reassoc_refused status e s ks why v r q refuses = record {
         remembers = subst (λ (l : List Act). Remembers (Ap a) ks (add l h)) acts (remembers_refused (Ap a) (Ap a) octets kind.ReResp why seal ks h remembers);
       });
   refused = λ w is. (refl, q.len, q.installed);
+  tells = record { frame = q.len; sealed = q.sealed; verified = tt; derived = q.derived; installed = q.installed; gtk = q.gtk; looked = q.looked };
+  verified = q.verified ∙ verified;
   whole = whole_quiet v r q;
   under = subst (λ (o : Option Keyed). IsUnder o s) (sym q.installed) tt;
   keys = inl refl;
@@ -103,10 +107,15 @@ none_sealed : (c : Option (List ℕ)) → taken_seal c None ≡ None
 none_sealed None = refl
 none_sealed (Some input) = refl
 
+none_verified : (s : OriginatorState) (x : Stage) (status : ℕ) (e : ElementFields) → ((t : Transit) → x ≡ stage.Keyed t → ⊥) → None ≡ response_verified s x status e
+none_verified s stage.Asked status e other = refl
+none_verified s (stage.Keyed t) status e other = absurd (other t refl)
+none_verified s stage.Done status e other = refl
+
 -- no key was derived yet
 pub reassoc_unawaited : (status : ℕ) (e : ElementFields) (s : OriginatorState) (ks : List Kept) (r : Reply) → IsQuiet None r → ((t : Transit) → s.stage ≡ stage.Keyed t → ⊥)
     → IsReassocTaken status e (both s ks) (both s ks) (Refused reason.Unawaited) r
-reassoc_unawaited status e s ks r q other = reassoc_refused status e s ks reason.Unawaited None r q
+reassoc_unawaited status e s ks r q other = reassoc_refused status e s ks reason.Unawaited None r q (none_verified s s.stage status e other)
     (λ d first sta a octets b h st from is has.
     subst (λ (x : Option Seal). IsRefused d first (Sta sta) h (Managed b e) reason.Unawaited x) (sym (none_sealed (re_resp_covered d (Sta sta) (Ap a) e)))
     (refused_first d first (Sta sta) h (Managed b e) reason.Unawaited (first_kind d first (Sta sta) (Ap a) octets b e h kind.ReResp from is ∙ resp_none d sta a s h b e st other)))
@@ -173,15 +182,19 @@ err why = Err why
 same_err : (x y : Reason) → err x ≡ err y → x ≡ y
 same_err x y is = cc
 
+-- the KCK under which it verified, where a key was derived
+verified_at : (status : ℕ) (e : ElementFields) (s : OriginatorState) (t : Transit) → s.stage ≡ stage.Keyed t → verified_key t.key (response_tried s t.key status e) ≡ response_verified s s.stage status e
+verified_at status e s t at = sym (ap (λ (x : Stage). response_verified s x status e) at)
+
 -- each refusal
 pub reassoc_judged : (status : ℕ) (e : ElementFields) (s : OriginatorState) (t : Transit) (ks : List Kept) (why : Reason) (r : Reply) → s.stage ≡ stage.Keyed t → IsResponse s t status e r (Err why)
     → IsReassocTaken status e (both s ks) (both s ks) (Refused why) r
 reassoc_judged status e s t ks why r at i = by (tried_reason (response_tried s t.key status e)) refl i.judged
   where
     by : (o : Option Reason) → tried_reason (response_tried s t.key status e) ≡ o → IsTriedFirst o (IsJudged (wanted_by s t.name) t.key.ptk.kek status e) (Err why) → IsReassocTaken status e (both s ks) (both s ks) (Refused why) r
-    by (Some w) tries is = reassoc_refused status e s ks why (verified_key t.key (response_tried s t.key status e)) r i.quiet
+    by (Some w) tries is = reassoc_refused status e s ks why (verified_key t.key (response_tried s t.key status e)) r i.quiet (verified_at status e s t at)
         (refuses_tried status e s t why at (tries ∙ ap (λ (y : Reason). Some y) (sym (same_err why w is))))
-    by None tries j = reassoc_refused status e s ks why (verified_key t.key (response_tried s t.key status e)) r i.quiet (refuses_behind status e s t j.opened why at tries j.is j.group)
+    by None tries j = reassoc_refused status e s ks why (verified_key t.key (response_tried s t.key status e)) r i.quiet (verified_at status e s t at) (refuses_behind status e s t j.opened why at tries j.is j.group)
 
 -- ---- acceptance
 
@@ -350,6 +363,11 @@ carried_id (Some g) plain c wraps is = subst (λ (i : ℕ). (i == 0) ≡ false) 
 whole_before : (v : Option (List ℕ)) (y : Keyed) (g : GtkNews) (before r : Reply) → IsQuiet v before → r ≡ record before { installed = Some y; gtk = Some g } → IsWhole r
 whole_before v y g before r quiet is = subst (λ (x : Reply). IsWhole x) (sym is) (record { few = (whole_quiet v before quiet).few; sealed = (whole_quiet v before quiet).sealed })
 
+-- what it tells, once the keys are told of
+tells_before : (v : Option (List ℕ)) (y : Keyed) (g : GtkNews) (before r : Reply) → IsQuiet v before → r ≡ record before { installed = Some y; gtk = Some g } → TellsOnly (reassoc_response_topics Accepted) r × (r.verified ≡ v)
+tells_before v y g before r quiet is = subst (λ (x : Reply). TellsOnly (reassoc_response_topics Accepted) x × (x.verified ≡ v)) (sym is)
+    (record { frame = quiet.len; sealed = quiet.sealed; verified = tt; derived = quiet.derived; installed = tt; gtk = tt; looked = quiet.looked }, quiet.verified)
+
 pub reassoc_accepted : (status : ℕ) (e : ElementFields) (s : OriginatorState) (t : Transit) (c : CarriedKey) (ks : List Kept) (new : Both) (before r : Reply) → s.stage ≡ stage.Keyed t → IsResponse s t status e before (Ok c)
     → Finishes t c (both s ks) new before r → IsReassocTaken status e (both s ks) new Accepted r
 reassoc_accepted status e s t c ks new before r at i f = record {
@@ -383,6 +401,8 @@ reassoc_accepted status e s t c ks new before r at i f = record {
             (remembers_finished d (Sta sta) p (associated h) octets seal x (group_key c) c.rsc ks h remembers numbered g refl)));
       });
   refused = λ w is. absurd cc;
+  tells = (tells_before (verified_key t.key (response_tried s t.key status e)) t.key (news_of c (kept_id c.key ks)) before r i.quiet f.reply).0;
+  verified = (tells_before (verified_key t.key (response_tried s t.key status e)) t.key (news_of c (kept_id c.key ks)) before r i.quiet f.reply).1 ∙ verified_at status e s t at;
   whole = whole_before (verified_key t.key (response_tried s t.key status e)) t.key (news_of c (kept_id c.key ks)) before r i.quiet f.reply;
   under = subst (λ (x : Reply). IsUnder x.installed s) (sym f.reply) (t, at, refl);
   keys = (let k : Accepts status e s t c = accepts_by status e s t c before i in

@@ -154,5 +154,6 @@ auth_accepted status e s t f r at has right g = record {
             (subst (λ (x : OriginatorState). OriginatorStands d (Sta sta) (Ap a) x (add (going_acts d (Sta sta) (Ap a) u.q octets (inputs_in d sta a s f.anonce)) h)) (sym g.is) (stands_keyed d sta a u.q s f.anonce octets h st u));
       });
   refused = λ w is. absurd cc;
+  tells = record { frame = tt; sealed = tt; verified = g.verified; derived = tt; installed = g.installed; gtk = g.gtk; looked = g.looked };
   whole = g.sends.whole;
 }

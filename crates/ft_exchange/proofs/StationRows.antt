@@ -142,5 +142,6 @@ auth_refused status e s why r q refuses = record {
         stands = subst (λ (l : List Act). OriginatorStands d (Sta sta) (Ap a) s (add l h)) acts (stands_refused d (Sta sta) (Ap a) s octets kind.FtResp why None h st);
       });
   refused = λ w is. (refl, q);
+  tells = record { frame = q.len; sealed = q.sealed; verified = q.verified; derived = q.derived; installed = q.installed; gtk = q.gtk; looked = q.looked };
   whole = whole_quiet None r q;
 }

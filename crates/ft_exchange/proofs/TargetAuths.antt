@@ -54,6 +54,7 @@ use Rattle.ft_exchange.specs.State.{TargetState}
 use Rattle.ft_exchange.specs.Stands.{transition_of, IsPlace, IsPending, IsHeldOrPending, PendingStands}
 use Rattle.ft_exchange.specs.Exchange.{key_granted, granting_octets, target_granted, Begins, IsQuiet}
 use Rattle.ft_exchange.specs.TargetSteps.{root_asked, HasBegun, IsAuthTaken}
+use Rattle.ft_exchange.specs.Topics.{TellsOnly, auth_request_topics}
 use Rattle.ft_exchange.specs.Told.{came, transition_sent, begun_acts, auth_request_acts}
 use Rattle.ft_exchange.specs.declared.looking.Granted.{Granted}
 use Rattle.ft_exchange.specs.declared.place.Place.{Place}
@@ -144,12 +145,12 @@ RefusesIt d a sta e anonce o why looked =
     → IsRefusedWith d first (Ap a) (Sta sta) h b e why looked
 
 auth_refused : (d : Domain) (a sta : ℕ) (e : ElementFields) (anonce : Option (List ℕ)) (o : Option TargetState) (why : Reason) (looked : Option PullAnswer) (w : Place) (old r : Reply) → IsPlace d (Ap a) (Sta sta) w
-    → old.len ≡ 0 → r.derived ≡ None → r.looked ≡ looked → IsWhole r → RefusesAuth w why old r → RefusesIt d a sta e anonce o why looked → IsAuthTaken d a sta e anonce o o (Refused why) r
-auth_refused d a sta e anonce o why looked w old r at none derived look whole answers refuses = record {
+    → old.len ≡ 0 → TellsOnly (auth_request_topics (Refused why)) r → r.looked ≡ looked → IsWhole r → RefusesAuth w why old r → RefusesIt d a sta e anonce o why looked → IsAuthTaken d a sta e anonce o o (Refused why) r
+auth_refused d a sta e anonce o why looked w old r at none tells look whole answers refuses = record {
   steps = λ first octets b h st from is drawn.
       (let n : Node = Ap a in
       let p : Node = Sta sta in
-      let acts = sym (refusal_acts d (root_asked d (asked e)) n p (attempt p h) octets e why r derived (auth_refusal d n p w why old r at none answers)
+      let acts = sym (refusal_acts d (root_asked d (asked e)) n p (attempt p h) octets e why r tells.derived (auth_refusal d n p w why old r at none answers)
       ∙ ap (λ (z : Option PullAnswer). Took (Some p) octets kind.FtReq (Refused why) None ∷ looked_for p (asked e) z ++ response_by d n p kind.FtReq (refused_status why)) look)
       in
       record {
@@ -157,7 +158,8 @@ auth_refused d a sta e anonce o why looked w old r at none derived look whole an
         stands = subst (λ (l : List Act). PendingStands d n p o (add l h)) acts (refusal_stands d n p o octets e why looked h st);
       });
   refused = λ y is. refl;
-  begun = subst (λ (z : Option Keyed). HasBegun z o o) (sym derived) refl;
+  tells = tells;
+  begun = subst (λ (z : Option Keyed). HasBegun z o o) (sym tells.derived) refl;
   whole = whole;
 }
 
@@ -198,15 +200,18 @@ status_only mdid e why is = by (elements_status mdid e) (is_some (asked e)) is
     by None true is = absurd cc
 
 pub auth_elements : (d : Domain) (a sta : ℕ) (e : ElementFields) (anonce : Option (List ℕ)) (o : Option TargetState) (why : Reason) (w : Place) (old r : Reply) → d.akm ≡ FtPsk → request_reason d.mdid e ≡ Some why → IsPlace d (Ap a) (Sta sta) w
-    → old.len ≡ 0 → r.derived ≡ None → r.looked ≡ None → IsWhole r → RefusesAuth w why old r → IsAuthTaken d a sta e anonce o o (Refused why) r
-auth_elements d a sta e anonce o why w old r suite right at none derived look whole answers = auth_refused d a sta e anonce o why None w old r at none derived look whole answers
+    → old.len ≡ 0 → TellsOnly (auth_request_topics (Refused why)) r → r.looked ≡ None → IsWhole r → RefusesAuth w why old r → IsAuthTaken d a sta e anonce o o (Refused why) r
+auth_elements d a sta e anonce o why w old r suite right at none tells look whole answers = auth_refused d a sta e anonce o why None w old r at none tells look whole answers
     (λ first octets b h st from is drawn. refused_early d first a sta octets b e h why from is (req_refused d h (Sta sta) e why suite right) (ap (λ (z : Option PullAnswer). looked_for (Sta sta) (asked e) z) (sym (status_only d.mdid e why right))))
+
+quiet_tells : (r : Reply) → IsQuiet None r → TellsOnly (auth_request_topics (Refused reason.Unawaited)) r
+quiet_tells r q = record { frame = tt; sealed = q.sealed; verified = q.verified; derived = q.derived; installed = q.installed; gtk = q.gtk; looked = tt }
 
 -- with another suite
 pub auth_other : (d : Domain) (a sta : ℕ) (e : ElementFields) (anonce : Option (List ℕ)) (o : Option TargetState) (r : Reply) → (d.akm ≡ FtPsk → ⊥) → IsQuiet None r → IsWhole r
     → IsAuthTaken d a sta e anonce o o (Refused reason.Unawaited) r
 auth_other d a sta e anonce o r other q whole = auth_refused d a sta e anonce o reason.Unawaited None
-    (record { own = mac d (Ap a); peer = mac d (Sta sta); aid = aid (Sta sta); mdid = d.mdid }) r r (record { own = refl; peer = refl; aid_is = refl; mdid = refl }) q.len q.derived q.looked whole refl
+    (record { own = mac d (Ap a); peer = mac d (Sta sta); aid = aid (Sta sta); mdid = d.mdid }) r r (record { own = refl; peer = refl; aid_is = refl; mdid = refl }) q.len (quiet_tells r q) q.looked whole refl
     (λ first octets b h st from is drawn. refused_early d first a sta octets b e h reason.Unawaited from is (other_suite d.akm d (transition (Sta sta) h) e other) refl)
 
 -- a request that asks for that, and repeats none
@@ -228,8 +233,8 @@ unnamed_look : (p : Node) (e : ElementFields) (x : Asked) (z : Option PullAnswer
 unnamed_look p e x z asks none = rw (asks, none) refl
 
 pub auth_unnamed : (d : Domain) (a sta : ℕ) (e : ElementFields) (anonce : Option (List ℕ)) (o : Option TargetState) (x : Asked) (w : Place) (old r : Reply) → Asks d e o x → single x.names ≡ None → IsPlace d (Ap a) (Sta sta) w
-    → old.len ≡ 0 → r.derived ≡ None → r.looked ≡ None → IsWhole r → RefusesAuth w (unnamed_reason d x.r0kh_id) old r → IsAuthTaken d a sta e anonce o o (Refused (unnamed_reason d x.r0kh_id)) r
-auth_unnamed d a sta e anonce o x w old r k unnamed at none derived look whole answers = auth_refused d a sta e anonce o (unnamed_reason d x.r0kh_id) None w old r at none derived look whole answers
+    → old.len ≡ 0 → TellsOnly (auth_request_topics (Refused (unnamed_reason d x.r0kh_id))) r → r.looked ≡ None → IsWhole r → RefusesAuth w (unnamed_reason d x.r0kh_id) old r → IsAuthTaken d a sta e anonce o o (Refused (unnamed_reason d x.r0kh_id)) r
+auth_unnamed d a sta e anonce o x w old r k unnamed at none tells look whole answers = auth_refused d a sta e anonce o (unnamed_reason d x.r0kh_id) None w old r at none tells look whole answers
     (λ first octets b h st from is drawn. refused_early d first a sta octets b e h (unnamed_reason d x.r0kh_id) from is
     (judged_as_asked d a sta e o x h k st ∙ unnamed_judged (is_some (holder_of d x.r0kh_id)) (single x.names) unnamed)
     (unnamed_look (Sta sta) e x (look_answer (unnamed_reason d x.r0kh_id) None) k.asks unnamed))
@@ -275,9 +280,9 @@ refused_late d first a sta octets b e h o x name k why answer y named known st f
 -- each refusal by an answer
 pub auth_unheld : (d : Domain) (a sta : ℕ) (e : ElementFields) (anonce : Option (List ℕ)) (o : Option TargetState) (x : Asked) (name : List ℕ) (answer : PullAnswer) (why : Reason) (w : Place) (old r : Reply) → Asks d e o x → single x.names ≡ Some name
     → IsKnownBy d x.r0kh_id answer → granted_by answer name anonce ≡ Err why → IsPlace d (Ap a) (Sta sta) w
-    → old.len ≡ 0 → r.derived ≡ None → r.looked ≡ Some answer → IsWhole r → RefusesAuth w why old r → IsAuthTaken d a sta e anonce o o (Refused why) r
-auth_unheld d a sta e anonce o x name answer why w old r k named known grants at none derived look whole answers =
-    auth_refused d a sta e anonce o why (Some answer) w old r at none derived look whole answers (by answer anonce known grants)
+    → old.len ≡ 0 → TellsOnly (auth_request_topics (Refused why)) r → r.looked ≡ Some answer → IsWhole r → RefusesAuth w why old r → IsAuthTaken d a sta e anonce o o (Refused why) r
+auth_unheld d a sta e anonce o x name answer why w old r k named known grants at none tells look whole answers =
+    auth_refused d a sta e anonce o why (Some answer) w old r at none tells look whole answers (by answer anonce known grants)
   where
     by : (y : PullAnswer) (v : Option (List ℕ)) → IsKnownBy d x.r0kh_id y → granted_by y name v ≡ Err why → RefusesIt d a sta e v o why (Some y)
     by NoHolder v unknown grants first octets b h st from is drawn = subst (λ (z : Reason). IsRefusedWith d first (Ap a) (Sta sta) h b e z (Some NoHolder)) (let same : reason.NoHolder ≡ why = cc in same)
@@ -298,8 +303,8 @@ auth_unheld d a sta e anonce o x name answer why w old r k named known grants at
 -- ---- a repeated request is answered
 
 pub auth_repeated : (d : Domain) (a sta : ℕ) (e : ElementFields) (anonce : Option (List ℕ)) (s : TargetState) (x : Asked) (r : Reply) → d.akm ≡ FtPsk → request_reason d.mdid e ≡ None → asked e ≡ Some x → is_pending_repeated x (Some s) ≡ true
-    → HasFrame s.stored kind.FtResp None r → r.derived ≡ None → r.looked ≡ None → IsAuthTaken d a sta e anonce (Some s) (Some s) Answered r
-auth_repeated d a sta e anonce s x r suite right asks again f derived look = record {
+    → HasFrame s.stored kind.FtResp None r → TellsOnly (auth_request_topics Answered) r → IsAuthTaken d a sta e anonce (Some s) (Some s) Answered r
+auth_repeated d a sta e anonce s x r suite right asks again f tells = record {
   steps = λ first octets b h st from is drawn.
       (let n : Node = Ap a in
       let p : Node = Sta sta in
@@ -308,7 +313,7 @@ auth_repeated d a sta e anonce s x r suite right asks again f derived look = rec
       let took : Act = Took (Some p) octets kind.FtReq Answered None in
       let says : Act = Sent (One p) kind.FtResp s.stored None in
       let acts : took ∷ says ∷ [] ≡ auth_request_acts d (root_asked d (asked e)) n p (attempt p h) (came octets e Answered) r =
-      sym (answering_is d (root_asked d (asked e)) n p (attempt p h) octets e s r f derived look)
+      sym (answering_is d (root_asked d (asked e)) n p (attempt p h) octets e s r f tells.derived tells.looked)
       in
       record {
         adds = subst (λ (l : List Act). TakeRow (here d first n) h octets l) acts (record {
@@ -334,7 +339,8 @@ auth_repeated d a sta e anonce s x r suite right asks again f derived look = rec
             (pending_stands_more d n p (Some s) says (took ∷ h) (sent_passes p p kind.FtResp s.stored None) (pending_stands_more d n p (Some s) took h (took_passes p (Some p) octets kind.FtReq Answered None) st));
       });
   refused = λ w is. absurd cc;
-  begun = subst (λ (z : Option Keyed). HasBegun z (Some s) (Some s)) (sym derived) refl;
+  tells = tells;
+  begun = subst (λ (z : Option Keyed). HasBegun z (Some s) (Some s)) (sym tells.derived) refl;
   whole = f.whole;
 }
   where
@@ -434,8 +440,8 @@ drawn_some : (d : Domain) (first : ℕ) (n : Node) (h : List Act) (anonce : Opti
 drawn_some d first n h anonce v is drawn = subst (λ (z : Option (List ℕ)). IsDrawn d first n h z) is drawn
 
 pub auth_granted : (d : Domain) (a sta : ℕ) (e : ElementFields) (anonce : Option (List ℕ)) (o : Option TargetState) (x : Asked) (name : List ℕ) (answer : PullAnswer) (g : Granted) (w : Place) (t : TargetState) (old r : Reply) → Asks d e o x → single x.names ≡ Some name
-    → IsKnownBy d x.r0kh_id answer → granted_by answer name anonce ≡ Ok g → IsPlace d (Ap a) (Sta sta) w → old.looked ≡ Some answer → Begins w x g t old r → IsAuthTaken d a sta e anonce o (Some t) Accepted r
-auth_granted d a sta e anonce o x name answer g w t old r k named known grants at look f = record {
+    → IsKnownBy d x.r0kh_id answer → granted_by answer name anonce ≡ Ok g → IsPlace d (Ap a) (Sta sta) w → old.looked ≡ Some answer → TellsOnly (auth_request_topics Accepted) r → Begins w x g t old r → IsAuthTaken d a sta e anonce o (Some t) Accepted r
+auth_granted d a sta e anonce o x name answer g w t old r k named known grants at look tells f = record {
   steps = λ first octets b h st from is drawn.
       (let n : Node = Ap a in
       let p : Node = Sta sta in
@@ -479,6 +485,7 @@ auth_granted d a sta e anonce o x name answer g w t old r k named known grants a
             (subst (λ (z : TargetState). PendingStands d n p (Some z) (add (row (key_granted w x g).ptk (plain ∷ [])) h)) (sym f.is) (granted_stands d a sta (attempt p h) octets w x g h k.suite at));
       });
   refused = λ y is. absurd cc;
+  tells = tells;
   begun = subst (λ (z : Option Keyed). HasBegun z o (Some t)) (sym f.derived) (t, refl, ap (λ (z : TargetState). z.key) f.is);
   whole = f.sends.whole;
 }

@@ -53,6 +53,7 @@ use Rattle.ft_exchange.specs.State.{TargetState}
 use Rattle.ft_exchange.specs.Stands.{transition_of, IsPending, IsHeld, IsHeldOrPending, TargetStands}
 use Rattle.ft_exchange.specs.Exchange.{wanted_at, request_between, request_tried, installing_octets, target_installed, Installs, IsQuiet}
 use Rattle.ft_exchange.specs.TargetSteps.{judged_by, IsChosen, HasInstalled, IsReassocTaken}
+use Rattle.ft_exchange.specs.Topics.{TellsOnly, reassoc_request_topics, request_verified}
 use Rattle.ft_exchange.specs.Told.{came, taken_seal, sent_seal, transition_sent, reassoc_request_acts}
 use Rattle.ft_exchange.specs.Tried.{input_of, is_with, tried_reason, verified_key}
 use Rattle.ft_exchange.specs.declared.mic.Tried.{Tried}
@@ -117,21 +118,23 @@ RefusesIt e s why v =
     (d : Domain) (first a sta : ℕ) (octets : List ℕ) (b : Management) (h : List Act) → IsChosen d (Ap a) (Sta sta) s e h → IsManagementFrom d (Ap a) (Sta sta) octets b e
     → b.kind ≡ kind.ReReq → IsRefused d first (Ap a) h (Managed b e) why (taken_seal (re_req_covered d (Ap a) (Sta sta) e) v)
 
-refused : (e : ElementFields) (g : AnyKey) (rsc : ℕ) (s : TargetState) (why : Reason) (v : Option (List ℕ)) (old r : Reply) → old.len ≡ 0 → r.verified ≡ v → r.installed ≡ None → IsWhole r → RefusesReassoc s.place why old r → RefusesIt e s why v
+refused : (e : ElementFields) (g : AnyKey) (rsc : ℕ) (s : TargetState) (why : Reason) (v : Option (List ℕ)) (old r : Reply) → old.len ≡ 0 → r.verified ≡ v → v ≡ request_verified s e → TellsOnly (reassoc_request_topics (Refused why)) r → IsWhole r → RefusesReassoc s.place why old r → RefusesIt e s why v
     → IsReassocTaken e g rsc s s (Refused why) r
-refused e g rsc s why v old r none verified installed whole answers refuses = record {
+refused e g rsc s why v old r none verified tried tells whole answers refuses = record {
   steps = λ d first a sta octets b h c from is last uses.
       (let n : Node = Ap a in
       let p : Node = Sta sta in
       let seal : Option Seal = taken_seal (re_req_covered d n p e) v in
-      let acts = sym (refusal_acts d (root_at d s.r0kh_id) n p (is_some (session p h)) octets e why v r verified installed (reassoc_refusal d n p s.place why old r c.stands.place none answers)) in
+      let acts = sym (refusal_acts d (root_at d s.r0kh_id) n p (is_some (session p h)) octets e why v r verified tells.installed (reassoc_refusal d n p s.place why old r c.stands.place none answers)) in
       let took : TargetStands d n p s (Took (Some p) octets kind.ReReq (Refused why) seal ∷ h) = target_more d n p s (Took (Some p) octets kind.ReReq (Refused why) seal) h (took_passes p (Some p) octets kind.ReReq (Refused why) seal) c.stands in
       record {
         adds = subst (λ (l : List Act). TakeRow (here d first n) h octets l) acts (adds_refusal d first a sta octets b e h why seal from is (refuses d first a sta octets b h c from is));
         stands = subst (λ (l : List Act). TargetStands d n p s (add l h)) acts (response_stands d n p s (refused_status why) (Took (Some p) octets kind.ReReq (Refused why) seal ∷ h) took);
       });
-  refused = λ w is. (refl, installed);
-  became = subst (λ (z : Option Keyed). HasInstalled z s s) (sym installed) refl;
+  refused = λ w is. (refl, tells.installed);
+  tells = tells;
+  verified = verified ∙ tried;
+  became = subst (λ (z : Option Keyed). HasInstalled z s s) (sym tells.installed) refl;
   whole = whole;
 }
 
@@ -156,7 +159,8 @@ whole_none : (r : Reply) → r.len ≡ 0 → r.sealed ≡ None → IsWhole r
 whole_none r len sealed = record { few = omega (arith, len); sealed = λ kck some. (let none : None ≡ Some kck = sym sealed ∙ some in cc) }
 
 pub reassoc_tried : (e : ElementFields) (g : AnyKey) (rsc : ℕ) (s : TargetState) (why : Reason) (r : Reply) → tried_reason (request_tried s e) ≡ Some why → IsQuiet None r → IsReassocTaken e g rsc s s (Refused why) r
-reassoc_tried e g rsc s why r tries q = refused e g rsc s why None r r q.len q.verified q.installed (whole_none r q.len q.sealed)
+reassoc_tried e g rsc s why r tries q = refused e g rsc s why None r r q.len q.verified (sym (no_key s.key (request_tried s e) why tries))
+    (record { frame = tt; sealed = q.sealed; verified = tt; derived = q.derived; installed = q.installed; gtk = q.gtk; looked = q.looked }) (whole_none r q.len q.sealed)
     (subst (λ (o : Option ℕ). RefusesReassocBy s.place o r r) (sym (unanswered_why (request_tried s e) why tries)) refl)
     (λ d first a sta octets b h c from is.
     subst (λ (x : Option Seal). IsRefused d first (Ap a) h (Managed b e) why x) (sym (none_sealed (re_req_covered d (Ap a) (Sta sta) e)))
@@ -203,9 +207,9 @@ refuses_behind e s why right is_refused d first a sta octets b h c from is =
 
 -- by what stands behind
 pub reassoc_refused : (e : ElementFields) (g : AnyKey) (rsc : ℕ) (s : TargetState) (why : Reason) (old r : Reply) → tried_reason (request_tried s e) ≡ None → reassociation_reason (wanted_at s) e true ≡ Some why
-    → old.len ≡ 0 → r.verified ≡ verified_key s.key (request_tried s e) → r.installed ≡ None → IsWhole r → RefusesReassoc s.place why old r → IsReassocTaken e g rsc s s (Refused why) r
-reassoc_refused e g rsc s why old r right is none verified installed whole answers =
-    refused e g rsc s why (verified_key s.key (request_tried s e)) old r none verified installed whole answers (refuses_behind e s why right is)
+    → old.len ≡ 0 → r.verified ≡ verified_key s.key (request_tried s e) → TellsOnly (reassoc_request_topics (Refused why)) r → IsWhole r → RefusesReassoc s.place why old r → IsReassocTaken e g rsc s s (Refused why) r
+reassoc_refused e g rsc s why old r right is none verified tells whole answers =
+    refused e g rsc s why (verified_key s.key (request_tried s e)) old r none verified refl tells whole answers (refuses_behind e s why right is)
 
 -- ---- acceptance, and an answer
 
@@ -250,8 +254,8 @@ answering_acts d n p true octets e s v r verified installed f = acts_are d (root
 answering_acts d n p false octets e s v r verified installed f = acts_are d (root_at d s.r0kh_id) n p false octets e Answered v None _ r verified installed (frame_sent d n p s.stored kind.ReResp (Some s.key.ptk.kck) r f)
 
 pub reassoc_answered : (e : ElementFields) (g : AnyKey) (rsc : ℕ) (s : TargetState) (r : Reply) → tried_reason (request_tried s e) ≡ None → reassociation_reason (wanted_at s) e true ≡ None → s.is_installed ≡ true
-    → r.verified ≡ verified_key s.key (request_tried s e) → r.installed ≡ None → HasFrame s.stored kind.ReResp (Some s.key.ptk.kck) r → IsReassocTaken e g rsc s s Answered r
-reassoc_answered e g rsc s r right accepts held verified installed f = record {
+    → r.verified ≡ verified_key s.key (request_tried s e) → TellsOnly (reassoc_request_topics Answered) r → HasFrame s.stored kind.ReResp (Some s.key.ptk.kck) r → IsReassocTaken e g rsc s s Answered r
+reassoc_answered e g rsc s r right accepts held verified tells f = record {
   steps = λ d first a sta octets b h c from is last uses.
       (let n : Node = Ap a in
       let p : Node = Sta sta in
@@ -260,7 +264,7 @@ reassoc_answered e g rsc s r right accepts held verified installed f = record {
       let i : IsHeld d n p s h = subst (λ (x : Bool). IsHeldOrPending x d n p s h) held c.stands.holds in
       let says : Act = Sent (One p) kind.ReResp s.stored (sent_seal d n p kind.ReResp (Some s.key.ptk.kck) s.stored) in
       let took : Act = Took (Some p) octets kind.ReReq Answered seal in
-      let acts = sym (answering_acts d n p (is_some (session p h)) octets e s v r verified installed f) in
+      let acts = sym (answering_acts d n p (is_some (session p h)) octets e s v r verified tells.installed f) in
       record {
         adds = subst (λ (l : List Act). TakeRow (here d first n) h octets l) acts (record {
           r = Managed b e;
@@ -284,7 +288,9 @@ reassoc_answered e g rsc s r right accepts held verified installed f = record {
         stands = subst (λ (l : List Act). TargetStands d n p s (add l h)) acts (target_more d n p s says (took ∷ h) (sent_passes p p kind.ReResp _ _) (target_more d n p s took h (took_passes p (Some p) octets kind.ReReq Answered seal) c.stands));
       });
   refused = λ w is. absurd cc;
-  became = subst (λ (z : Option Keyed). HasInstalled z s s) (sym installed) refl;
+  tells = tells;
+  verified = verified;
+  became = subst (λ (z : Option Keyed). HasInstalled z s s) (sym tells.installed) refl;
   whole = f.whole;
 }
 
@@ -346,8 +352,8 @@ installed_stands d a sta o octets seal s g rsc h pends st = by o
     }
 
 pub reassoc_accepted : (e : ElementFields) (g : AnyKey) (rsc : ℕ) (s t : TargetState) (old r : Reply) → tried_reason (request_tried s e) ≡ None → reassociation_reason (wanted_at s) e true ≡ None → s.is_installed ≡ false
-    → old.verified ≡ verified_key s.key (request_tried s e) → Installs g rsc s t old r → IsReassocTaken e g rsc s t Accepted r
-reassoc_accepted e g rsc s t old r right accepts pends verified f = record {
+    → old.verified ≡ verified_key s.key (request_tried s e) → TellsOnly (reassoc_request_topics Accepted) r → Installs g rsc s t old r → IsReassocTaken e g rsc s t Accepted r
+reassoc_accepted e g rsc s t old r right accepts pends verified tells f = record {
   steps = λ d first a sta octets b h c from is last uses.
       (let n : Node = Ap a in
       let p : Node = Sta sta in
@@ -387,6 +393,8 @@ reassoc_accepted e g rsc s t old r right accepts pends verified f = record {
         stands = subst (λ (l : List Act). TargetStands d n p t (add l h)) acts (subst (λ (z : TargetState). TargetStands d n p z (add (row seal (plain ∷ [])) h)) (sym f.is) (installed_stands d a sta (session p h) octets seal s g rsc h pends c.stands));
       });
   refused = λ w is. absurd cc;
+  tells = tells;
+  verified = f.verified ∙ verified;
   became = subst (λ (z : Option Keyed). HasInstalled z s t) (sym f.installed)
       (pends, ap (λ (z : TargetState). z.is_installed) f.is, ap (λ (z : TargetState). z.key) f.is);
   whole = f.sends.whole;

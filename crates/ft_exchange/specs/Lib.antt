@@ -9,6 +9,7 @@ pub mod Stands
 pub mod Asking
 pub mod Refusals
 pub mod Exchange
+pub mod Topics
 pub mod Comes
 pub mod OriginatorSteps
 pub mod TargetSteps

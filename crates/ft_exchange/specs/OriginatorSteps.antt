@@ -1,5 +1,5 @@
 -- What a roam and the frames of an access point do, after every history that the originator stands for (this project's choice).
-use Rattle.std.specs.Prelude.{◌≡◌, ◌⊎◌, ℕ, ◌==◌, false, List, [], ◌∷◌, Option, Some, None}
+use Rattle.std.specs.Prelude.{◌≡◌, ◌⊎◌, ℕ, ◌==◌, true, false, List, [], ◌∷◌, Option, Some, None}
 use Rattle.domain_base.specs.declared.names.Node.{Node}
 use Rattle.domain_base.specs.declared.names.Node.TheVariants.{Ap, Sta}
 use Rattle.rsn_elements.specs.Elements.{ElementFields}
@@ -29,6 +29,7 @@ use Rattle.ft_exchange.specs.declared.originator.Stage.TheVariants as stage
 use Rattle.ft_exchange.specs.declared.originator.Transit.{Transit}
 use Rattle.ft_exchange.specs.Stands.{OriginatorStands}
 use Rattle.ft_exchange.specs.Told.{came, transition_sent, auth_response_acts, reassoc_response_acts}
+use Rattle.ft_exchange.specs.Topics.{TellsOnly, only_frame, auth_response_topics, reassoc_response_topics, response_verified}
 
 -- an attempt with p began by fast transition, from the session with q, in which that nonce was drawn and nothing was heard
 pub record IsRoaming (p q : Node) (id snonce : List ℕ) (h : List Act) : Type 0 where
@@ -44,11 +45,8 @@ pub record IsRoaming (p q : Node) (id snonce : List ℕ) (h : List Act) : Type 0
 pub record IsBegun (d : Domain) (n p q : Node) (id snonce : List ℕ) (s : OriginatorState) (r : Reply) : Type 0 where
   pub sends : transition_sent d n p r ≡ sent_ft_req d n p (root_at d id) snonce ∷ []
   pub stands : (h : List Act) → IsRoaming p q id snonce h → OriginatorStands d n p s (sent_ft_req d n p (root_at d id) snonce ∷ h)
+  pub tells : TellsOnly (only_frame true) r
   pub whole : IsWhole r
-  pub verified : r.verified ≡ None
-  pub derived : r.derived ≡ None
-  pub installed : r.installed ≡ None
-  pub gtk : r.gtk ≡ None
 
 -- Behind the history h, these acts are what the octet string adds, and the originator then stands for the longer history.
 pub record Steps (w : Here) (p : Node) (octets : List ℕ) (acts : List Act) (new : OriginatorState) (h : List Act) : Type 0 where
@@ -67,6 +65,7 @@ AuthStepsFrom status e old new outcome r =
 pub record IsAuthTaken (status : ℕ) (e : ElementFields) (old new : OriginatorState) (outcome : Outcome) (r : Reply) : Type 0 where
   pub steps : AuthStepsFrom status e old new outcome r
   pub refused : (why : Reason) → outcome ≡ Refused why → (new ≡ old) × IsQuiet None r
+  pub tells : TellsOnly (auth_response_topics outcome) r
   pub whole : IsWhole r
 
 -- and the memory for the group keys of that access point
@@ -94,6 +93,8 @@ AreGiven old new = (new ≡ old) ⊎ ((key : List ℕ) × (id : ℕ) × (rsc : �
 pub record IsReassocTaken (status : ℕ) (e : ElementFields) (old new : Both) (outcome : Outcome) (r : Reply) : Type 0 where
   pub steps : ReassocStepsFrom status e old new outcome r
   pub refused : (why : Reason) → outcome ≡ Refused why → (new ≡ old) × (r.len ≡ 0) × (r.installed ≡ None)
+  pub tells : TellsOnly (reassoc_response_topics outcome) r
+  pub verified : r.verified ≡ response_verified old.part old.part.stage status e
   pub whole : IsWhole r
   pub under : IsUnder r.installed old.part
   pub keys : AreGiven old.keys new.keys

@@ -29,6 +29,7 @@ use Rattle.ft_exchange.specs.Comes.{IsManagementFrom}
 use Rattle.ft_exchange.specs.State.{TargetState}
 use Rattle.ft_exchange.specs.Stands.{transition_of, TargetStands, PendingStands}
 use Rattle.ft_exchange.specs.Told.{came, auth_request_acts, reassoc_request_acts}
+use Rattle.ft_exchange.specs.Topics.{TellsOnly, auth_request_topics, reassoc_request_topics, request_verified}
 use Rattle.ft_exchange.specs.Tried.{is_with}
 
 -- ---- authentication request
@@ -60,6 +61,7 @@ pub record IsAuthTaken (d : Domain) (ap sta : ℕ) (e : ElementFields) (anonce :
     (outcome : Outcome) (r : Reply) : Type 0 where
   pub steps : AuthStepsFrom d ap sta e anonce old new outcome r
   pub refused : (why : Reason) → outcome ≡ Refused why → new ≡ old
+  pub tells : TellsOnly (auth_request_topics outcome) r
   pub begun : HasBegun r.derived old new
   pub whole : IsWhole r
 
@@ -109,5 +111,7 @@ HasInstalled (Some y) old new = (old.is_installed ≡ false) × (new.is_installe
 pub record IsReassocTaken (e : ElementFields) (newest : GroupKey) (rsc : ℕ) (old new : TargetState) (outcome : Outcome) (r : Reply) : Type 0 where
   pub steps : ReassocStepsFrom e newest rsc old new outcome r
   pub refused : (why : Reason) → outcome ≡ Refused why → (new ≡ old) × (r.installed ≡ None)
+  pub tells : TellsOnly (reassoc_request_topics outcome) r
+  pub verified : r.verified ≡ request_verified old e
   pub became : HasInstalled r.installed old new
   pub whole : IsWhole r

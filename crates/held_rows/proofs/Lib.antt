@@ -2,5 +2,4 @@ pub mod Putting
 pub mod Revoking
 pub mod Leaving
 pub mod Pulling
-pub mod Looks
 pub mod NoLooks

@@ -21,11 +21,8 @@ ghost use Rattle.run_journal.specs.Holders.{row, rows};
 ghost use Rattle.run_journal.specs.Questions.{add, history};
 ghost use Rattle.domain_rules.specs.Network.{IsNamed, mac, r0kh_id, holder_of};
 ghost use Rattle.domain_rules.specs.KeyHolders.{put_answer, revoke_answer};
-ghost use Rattle.domain_rules.specs.HeldRight.{Looking, AnswersAt, GivesRightKey, HeldRight};
+ghost use Rattle.domain_rules.specs.HeldRight.{Looking, AnswersAt, GivesRightKey};
 ghost use Rattle.held_rows.specs.Knows.{own_row, KnowsRows, LeaveRows};
-ghost use Rattle.held_rows.specs.Looks.{AreRight};
-
-use domain_rules::looks_are_right;
 
 /// A key holder without rows is that of an access point that did nothing yet.
 pub fn no_rows_at_first()
@@ -79,11 +76,3 @@ pub fn answers_are_right()
         → Answers (map (λ (a : ListedAp). a.r0kh_id) d.aps) has rows id l.name (mac d l.node)
         (mac d l.sta) answer → answer ≡ NoHolder }
 {}
-
-/// Where the rounds of a journal are in order, and each look is answered by what the holder that is asked had just then, and with
-/// the right key, the key holders answered rightly.
-pub fn answers_at_the_moment_are_right()
-    ensures { (d : Domain) (j : List Entry) → AreRight d j → HeldRight d j }
-{
-    looks_are_right();
-}

@@ -3,17 +3,30 @@ use Rattle.std.specs.Prelude.{◌≡◌, ℕ, List, [], ◌++◌, refl}
 use Rattle.std.proofs.Common.{sym, ap, ◌∙◌, append_assoc}
 use Rattle.domain_base.specs.declared.names.Mac.{Mac}
 use Rattle.key_hierarchy.specs.declared.answers.PullAnswer.{PullAnswer}
+use Rattle.key_hierarchy.specs.declared.answers.PutAnswer.{PutAnswer}
+use Rattle.key_hierarchy.specs.declared.answers.RevokeAnswer.{RevokeAnswer}
+use Rattle.key_holders.specs.declared.rows.HolderRow.{HolderRow}
 use Rattle.holder_table.specs.declared.history.HolderEvent.{HolderEvent}
 use Rattle.holder_table.specs.declared.view.View.{View}
 use Rattle.holder_table.specs.declared.view.Load.{Load}
 use Rattle.holder_table.specs.Histories.{Follows}
 use Rattle.holder_table.specs.Pass.{Holders, Pass}
-use Rattle.holder_table.specs.Knowledge.{NoLess, Pulled}
+use Rattle.holder_table.specs.Knowledge.{NoLess, Pulled, AfterPut, AfterRevoke}
 
 -- A pull at the same holders, by the pass as it was and as it is.
 pub record Pulls (h : Holders) (p : Pass) (r0kh_id name : List ℕ) (r1kh sta : Mac) (k : Holders) (q : Pass) (answer : PullAnswer) : Type 0 where
   pub holders : k ≡ h
   pub pulled : Pulled h.ids r0kh_id name r1kh sta p.knows q.knows answer
+
+-- A put at the same holders, by the pass as it was and as it is.
+pub record Puts (h : Holders) (p : Pass) (r0kh : ℕ) (row : HolderRow) (k : Holders) (q : Pass) (answer : PutAnswer) : Type 0 where
+  pub holders : k ≡ h
+  pub effect : AfterPut r0kh row p.knows q.knows answer
+
+-- A revocation at the same holders, by the pass as it was and as it is.
+pub record Revokes (h : Holders) (p : Pass) (r0kh : ℕ) (name : List ℕ) (k : Holders) (q : Pass) (answer : RevokeAnswer) : Type 0 where
+  pub holders : k ≡ h
+  pub effect : AfterRevoke r0kh name p.knows q.knows answer
 
 -- The same table and access points, and each row, revocation and load that was known.
 pub record KnowsNoLess (h : Holders) (p : Pass) (k : Holders) (q : Pass) : Type 0 where

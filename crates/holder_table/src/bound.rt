@@ -34,7 +34,8 @@ impl<'a> Bound<'a> {
 
 impl<'a> Holders for Bound<'a> {
     ghost use Rattle.holder_table.specs.Histories.{held_at};
-    ghost use Rattle.holder_table.specs.Relations.{Pulls, KnowsNoLess, no_less_here, no_less_then};
+    ghost use Rattle.holder_table.specs.Relations.{Pulls, Puts, Revokes, KnowsNoLess};
+    ghost use Rattle.holder_table.specs.Relations.{no_less_here, no_less_then};
 
     ghost ids = { λ b. b.table.now.ids };
 
@@ -44,6 +45,15 @@ impl<'a> Holders for Bound<'a> {
 
     ghost pulls = { λ b id name r1kh sta c answer.
         Pulls b.table.now b.pass id name r1kh sta c.table.now c.pass answer };
+
+    ghost puts = { λ b r0kh row c answer.
+        Puts b.table.now b.pass r0kh row c.table.now c.pass answer };
+
+    ghost revokes = { λ b r0kh name c answer.
+        Revokes b.table.now b.pass r0kh name c.table.now c.pass answer };
+
+    // Memory is never wanted.
+    ghost wants = { ⊥ };
 
     ghost no_less = { λ b c. KnowsNoLess b.table.now b.pass c.table.now c.pass };
 

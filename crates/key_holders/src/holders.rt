@@ -3,7 +3,10 @@
 ghost use Rattle.std.specs.Prelude.{◌≡◌, ◌≢◌, ℕ, List, true};
 ghost use Rattle.domain_base.specs.declared.names.Mac.{Mac};
 ghost use Rattle.key_hierarchy.specs.declared.answers.PullAnswer.{PullAnswer};
+ghost use Rattle.key_hierarchy.specs.declared.answers.PutAnswer.{PutAnswer};
+ghost use Rattle.key_hierarchy.specs.declared.answers.RevokeAnswer.{RevokeAnswer};
 ghost use Rattle.key_holders.specs.declared.rows.HeldRow.{HeldRow};
+ghost use Rattle.key_holders.specs.declared.rows.HolderRow.{HolderRow};
 ghost use Rattle.key_holders.specs.Rows.{is_in, put_answer, after_put, revoke_answer, after_revoke};
 ghost use Rattle.key_holders.specs.Pulls.{Answers, IsNamed};
 
@@ -27,6 +30,16 @@ pub trait Holders {
     // after it, and its answer, by what the access point asked held at one moment of the pull.
     ghost pulls: { Self → List ℕ → List ℕ → Mac → Mac → Self → PullAnswer → Type 0 };
 
+    // The holders before a put of a row at an access point, the holders after it, and its answer.
+    ghost puts: { Self → ℕ → HolderRow → Self → PutAnswer → Type 0 };
+
+    // The holders before a revocation by a PMKR0Name at an access point, the holders after it, and
+    // its answer.
+    ghost revokes: { Self → ℕ → List ℕ → Self → RevokeAnswer → Type 0 };
+
+    // What is so where memory was wanted to put a row: nothing can be where none ever is.
+    ghost wants: { Type 0 };
+
     // The second know all that the first did.
     ghost no_less: { Self → Self → Type 0 };
 
@@ -36,6 +49,8 @@ pub trait Holders {
         requires has { is_in r0kh (has self.old) ≡ true }
         ensures answer { result ≢ PutAnswer.NoMemory →
             result ≡ put_answer row.name (rows self.old r0kh) }
+        ensures wants { result ≡ PutAnswer.NoMemory → wants }
+        ensures puts { puts self.old r0kh row self.new result }
         ensures rows { rows self.new r0kh ≡ after_put row result (rows self.old r0kh) }
         ensures others { (r : ℕ) → r ≢ r0kh → is_in r (has self.old) ≡ true →
             rows self.new r ≡ rows self.old r }
@@ -59,6 +74,7 @@ pub trait Holders {
     fn revoke(&mut self, r0kh: u16, name: &[u8; 16]) -> RevokeAnswer
         requires has { is_in r0kh (has self.old) ≡ true }
         ensures answer { result ≡ revoke_answer name.now (rows self.old r0kh) }
+        ensures revokes { revokes self.old r0kh name.now self.new result }
         ensures rows { rows self.new r0kh ≡ after_revoke name.now result (rows self.old r0kh) }
         ensures others { (r : ℕ) → r ≢ r0kh → is_in r (has self.old) ≡ true →
             rows self.new r ≡ rows self.old r }

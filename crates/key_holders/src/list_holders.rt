@@ -52,7 +52,7 @@ impl ListHolders {
 
 impl Holders for ListHolders {
     ghost use Rattle.std.specs.Prelude.{◌≡◌, ⊤, length};
-    ghost use Rattle.key_holders.specs.Listed.{below, rows_at, Pulled};
+    ghost use Rattle.key_holders.specs.Listed.{below, rows_at, Pulled, PutAt, RevokedAt};
 
     ghost ids = { λ h. h.ids };
 
@@ -61,6 +61,12 @@ impl Holders for ListHolders {
     ghost rows = { λ h r. rows_at h.rows r };
 
     ghost pulls = { λ g id name r1kh sta h answer. Pulled g id name r1kh sta answer × (h ≡ g) };
+
+    ghost puts = { PutAt };
+
+    ghost revokes = { RevokedAt };
+
+    ghost wants = { ⊤ };
 
     ghost no_less = { λ _ _. ⊤ };
 

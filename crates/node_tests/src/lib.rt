@@ -20,6 +20,8 @@ mod group_frames;
 #[cfg(test)]
 mod group_keys;
 #[cfg(test)]
+mod links;
+#[cfg(test)]
 mod mobility;
 #[cfg(test)]
 mod mobility_vectors;

@@ -3,6 +3,8 @@
 ghost use Rattle.std.specs.Prelude.{Some};
 
 mod full;
+mod live;
+mod meeting;
 mod refused;
 mod rounds;
 mod scripts;
@@ -10,11 +12,16 @@ mod storms;
 mod texts;
 mod transitions;
 
-use domain_base::{Failed, MemSink, MemSource, Source, SteadyAir, SteadyDraws};
-use domain_cli::{Status, run};
+use domain_base::{
+    Failed, LinkPlan, MemAir, MemDraws, MemSink, MemSource, NoMemory, Node, Octets, Source,
+    SteadyAir, SteadyDraws, SteadyLink,
+};
+use domain_cli::{Gate, Status, run, run_with};
 use full::{ASSOCIATION, ASSOCIATION_REPORT, FULL, FULL_REPORT};
+use live::{CASES, Case, FRAME};
+use meeting::Meeting;
 use refused::{REFUSED, REFUSED_AT_FIRST, UNAWAITED};
-use rounds::{LONG_ROUNDS, NODES, ROUND_FAULTS, ROUNDS};
+use rounds::{ABSENT, CROSSING, FOUND, LONG_ROUNDS, LOOKED_FOR, NODES, ROUND_FAULTS, ROUNDS};
 use run_journal::Journal;
 use scripts::{
     CARRIED, CARRIED_REPORT, FRAMES, HANDSHAKE, LONG_LINES, LONG_SCRIPTS, NETWORK, NETWORKS,
@@ -102,6 +109,30 @@ fn ended<R: Threads + Sync + Abort, S: Source>(
         &mut air,
         &mut draws,
         &mut journal,
+    )
+}
+
+// Runs a replay of that source to that sink, its rounds by that gate.
+fn ended_by<R: Threads + Sync + Abort, G: Gate + Sync>(
+    rt: &R,
+    alloc: Global,
+    source: &mut MemSource,
+    sink: &mut MemSink,
+    gate: &G,
+) -> Status {
+    let mut air = SteadyAir::new(alloc, Vec::new(alloc)).expect(rt, "memory");
+    let mut draws = SteadyDraws::new([0; 32]);
+    let mut journal = Journal::new(alloc);
+    run_with(
+        rt,
+        alloc,
+        REPLAY,
+        source,
+        sink,
+        &mut air,
+        &mut draws,
+        &mut journal,
+        gate,
     )
 }
 
@@ -213,6 +244,71 @@ fn frames_of_fast_transitions_that_are_refused(rt: HostRuntime) {
 fn rounds_of_events(rt: HostRuntime) {
     try_rows(&rt, rt.alloc(), BEGUN_WITH_TWO, ROUNDS);
     try_scripts(&rt, rt.alloc(), ROUND_FAULTS);
+}
+
+// A script of those octets is run to its end, and writes what has that front and one of the two answers behind it.
+fn is_answered<R: Threads + Sync + Abort>(
+    rt: &R,
+    alloc: Global,
+    script: Vec<u8>,
+    front: &[u8],
+) -> bool {
+    let mut source = source_of(rt, alloc, script, NEVER);
+    let mut sink = sink_of(rt, alloc, 40000, NEVER);
+    let status = ended(rt, alloc, REPLAY, &mut source, &mut sink);
+    let written = sink.written();
+    status == Status::Done
+        && written.starts_with(front)
+        && (written.ends_with(FOUND.as_bytes())
+            && written.len() == front.len().saturating_add(FOUND.len())
+            || written.ends_with(ABSENT.as_bytes())
+                && written.len() == front.len().saturating_add(ABSENT.len()))
+}
+
+// The same of lines behind those nodes, and what is reported before the answer.
+fn is_looked_for<R: Threads + Sync + Abort>(
+    rt: &R,
+    alloc: Global,
+    lines: &str,
+    report: &str,
+) -> bool {
+    let script = joined(rt, alloc, BEGUN.0, lines);
+    let front = joined(rt, alloc, BEGUN.1, report);
+    is_answered(rt, alloc, script, &front)
+}
+
+#[test]
+fn rows_that_change_in_the_round_of_a_look(rt: HostRuntime) {
+    for (shows, lines, report) in LOOKED_FOR {
+        assert!(rt; is_looked_for(&rt, rt.alloc(), lines, report), "{shows}");
+    }
+}
+
+// The access points of a round of that script meet at a gate, and it writes that, as by any gate.
+fn is_met<R: Threads + Sync + Abort>(
+    rt: &R,
+    alloc: Global,
+    script: Vec<u8>,
+    written: &[u8],
+) -> bool {
+    let mut source = source_of(rt, alloc, script, NEVER);
+    let mut sink = sink_of(rt, alloc, 40000, NEVER);
+    let meeting = Meeting::new();
+    let status = ended_by(rt, alloc, &mut source, &mut sink, &meeting);
+    status == Status::Done && sink.written() == written && meeting.is_held()
+}
+
+// The same of the two access points that each ask the other for a key in one round.
+fn meet<R: Threads + Sync + Abort>(rt: &R, alloc: Global) -> bool {
+    let (_, lines, report) = CROSSING;
+    let script = joined(rt, alloc, BEGUN_WITH_TWO.0, lines);
+    let written = joined(rt, alloc, BEGUN_WITH_TWO.1, report);
+    is_met(rt, alloc, script, &written)
+}
+
+#[test]
+fn round_gate(rt: HostRuntime) {
+    assert!(rt; meet(&rt, rt.alloc()));
 }
 
 // What stands in front, and behind it a text so many times and another text.
@@ -355,6 +451,72 @@ fn is_storm<R: Threads + Sync + Abort>(
 fn storms_and_their_summaries(rt: HostRuntime) {
     for (words, summary) in SUMMARIES {
         assert!(rt; is_storm(&rt, rt.alloc(), words, summary), "{words:?}");
+    }
+}
+
+// What is handed in for the link of a node, to which the frame comes so often.
+fn plan(alloc: Global, node: Node, count: usize, failing: &[u64]) -> Result<LinkPlan, NoMemory> {
+    let mut frames = Vec::new(alloc);
+    for _ in 0..count {
+        frames.push(Octets(FRAME.to_vec(alloc)?))?;
+    }
+    Ok(LinkPlan::new(node, frames, failing.to_vec(alloc)?))
+}
+
+// The air of a live run.
+fn air_of(alloc: Global, case: &Case) -> Result<MemAir, NoMemory> {
+    let mut plans = Vec::new(alloc);
+    plans.push(plan(alloc, Node::Ap(0), case.frames[0], case.links[0])?)?;
+    plans.push(plan(alloc, Node::Sta(0), case.frames[1], case.links[1])?)?;
+    MemAir::new(alloc, plans, case.attach.to_vec(alloc)?)
+}
+
+// Frames of so many octets went by the link, in order.
+fn has_sent(link: &SteadyLink, sizes: &[usize]) -> bool {
+    link.sent().len() == sizes.len()
+        && link
+            .sent()
+            .iter()
+            .zip(sizes)
+            .all(|(frame, size)| frame.octets.as_slice().len() == *size)
+}
+
+// The links were taken back, and frames of so many octets went by them.
+fn have_sent(air: &MemAir, sent: &[&[usize]]) -> bool {
+    air.returned().len() == sent.len()
+        && air
+            .returned()
+            .iter()
+            .zip(sent)
+            .all(|(link, sizes)| has_sent(link, *sizes))
+}
+
+// The live run ends so, and writes and sends this.
+fn is_live<R: Threads + Sync + Abort>(rt: &R, alloc: Global, case: &Case) -> bool {
+    let mut source = source_of(rt, alloc, joined(rt, alloc, case.script, ""), NEVER);
+    let mut sink = sink_of(rt, alloc, 2000, NEVER);
+    let mut air = air_of(alloc, case).expect(rt, "memory");
+    let failing = case.draws.to_vec(alloc).expect(rt, "memory");
+    let mut draws = MemDraws::new([7; 32], failing);
+    let mut journal = Journal::new(alloc);
+    let words = &["live", "20000"];
+    let status = run(
+        rt,
+        alloc,
+        words,
+        &mut source,
+        &mut sink,
+        &mut air,
+        &mut draws,
+        &mut journal,
+    );
+    status == case.status && sink.written() == case.report.as_bytes() && have_sent(&air, case.sent)
+}
+
+#[test]
+fn live_runs(rt: HostRuntime) {
+    for case in &CASES {
+        assert!(rt; is_live(&rt, rt.alloc(), case), "{}", case.shows);
     }
 }
 

@@ -1,15 +1,19 @@
 //! What lines of a script say.
 
-ghost use Rattle.std.specs.Prelude.{◌+◌, ◌<◌, ◌≤◌, ◌^◌, length};
+ghost use Rattle.std.specs.Prelude.{◌≡◌, ◌+◌, ◌<◌, ◌≤◌, ◌^◌, length};
 ghost use Rattle.frame_script.specs.Headers.{HasSeen, Reading};
 
+mod live;
+mod live_rows;
 mod rows;
 
 use domain_base::{Akm, Mac, NoMemory, Node, Octets, Peer, Tid};
-use frame_script::{LineFault, ScriptReader, Step};
+use frame_script::{LineFault, Mode, ScriptReader, Step};
+use live::play_live;
+use live_rows::{LAST_TURN, LATE_TURN};
 use rows::Says::{
-    self, Alter, Ap, Connect, Cut, Deliver, End, Expire, Inject, Leave, Limit, Network, Nothing,
-    OutOfMemory, Rekey, Retry, Revoke, Roam, Round, Script, Send, Sta,
+    self, Alter, Ap, Connect, Cut, Deliver, Draw, End, Expire, Inject, Leave, Limit, Network,
+    Nothing, OutOfMemory, Rekey, Retry, Revoke, Roam, Round, Script, Send, Sta, Turn,
 };
 use rows::{
     A1, ADDRESS, BOTH, BSSID, EMPTY_ROUND, ENDS, EVENT_LINES, FALTERING, FORMS, FT_FALTERING,
@@ -24,12 +28,14 @@ use std::process::Abort;
 fn what_it_says(answer: Result<Step, LineFault>) -> Says {
     match answer {
         Ok(Step::Nothing) => Nothing,
+        Ok(Step::Draw) => Draw,
         Ok(Step::Network) => Network,
         Ok(Step::Ap { address, r0kh_id }) => Ap(address, r0kh_id.as_slice().len()),
         Ok(Step::Sta { address }) => Sta(address),
         Ok(Step::Event(event)) => what_it_asks(&event),
         Ok(Step::Round) => Round,
         Ok(Step::End) => End,
+        Ok(Step::Turn) => Turn,
         Err(LineFault::Script(reason)) => Script(reason),
         Err(LineFault::Limit(limit)) => Limit(limit),
         Err(LineFault::NoMemory) => OutOfMemory,
@@ -76,6 +82,7 @@ fn tell(alloc: Global, reader: &mut ScriptReader, line: &[u8], journal: &Journal
     requires seen { HasSeen reader.old journal.now.entries }
     requires few { reader.old.rounds < 2 ^ 63 }
     ensures seen { HasSeen reader.new journal.now.entries }
+    ensures mode { reader.new.mode ≡ reader.old.mode }
     ensures few { reader.new.rounds ≤ reader.old.rounds + 1 }
 {
     what_it_says(reader.line(alloc, line, journal))
@@ -96,6 +103,7 @@ fn take(
     requires seen { HasSeen reader.old journal.now.entries }
     requires few { reader.old.rounds + length lines.now < 2 ^ 62 }
     ensures seen { HasSeen reader.new journal.now.entries }
+    ensures mode { reader.new.mode ≡ reader.old.mode }
     ensures few { reader.new.rounds ≤ reader.old.rounds + length lines.now }
 {
     for line in lines {
@@ -103,8 +111,28 @@ fn take(
     }
 }
 
-// A reader that took these lines.
+// A reader that took these lines in a run of that kind.
 #[tactic(auto, using(frame_script::proofs::Feeding::feeding))]
+fn reader_in(
+    rt: &impl Abort,
+    alloc: Global,
+    mode: Mode,
+    header: &[&[u8]],
+    nodes: &[&[u8]],
+    journal: &Journal,
+) -> ScriptReader
+    requires { length header.now + length nodes.now < 2 ^ 32 }
+    ensures seen { HasSeen result journal.now.entries }
+    ensures mode { result.mode ≡ mode }
+    ensures few { result.rounds < 2 ^ 32 }
+{
+    let mut reader = ScriptReader::start(alloc, mode);
+    take(rt, alloc, &mut reader, header, journal);
+    take(rt, alloc, &mut reader, nodes, journal);
+    reader
+}
+
+// The same in a replay.
 fn reader_behind(
     rt: &impl Abort,
     alloc: Global,
@@ -116,10 +144,7 @@ fn reader_behind(
     ensures seen { HasSeen result journal.now.entries }
     ensures few { result.rounds < 2 ^ 32 }
 {
-    let mut reader = ScriptReader::start(alloc);
-    take(rt, alloc, &mut reader, header, journal);
-    take(rt, alloc, &mut reader, nodes, journal);
-    reader
+    reader_in(rt, alloc, Mode::Replay, header, nodes, journal)
 }
 
 // What the line says behind these lines, and behind the frames that a journal has sent.
@@ -261,7 +286,7 @@ fn is_as_before(network: Option<&Domain>) -> bool {
 #[tactic(auto, using(frame_script::proofs::Feeding::feeding))]
 fn a_refused_line_leaves_the_header_as_it_was(rt: HostRuntime) {
     let journal = Journal::new(rt.alloc());
-    let mut reader = ScriptReader::start(rt.alloc());
+    let mut reader = ScriptReader::start(rt.alloc(), Mode::Replay);
     assert!(rt; reader.domain().is_none());
     play(&rt, rt.alloc(), &mut reader, FALTERING, &journal);
     assert!(rt; is_as_before(reader.domain()));
@@ -297,7 +322,7 @@ fn is_of_a_mobility_domain(network: Option<&Domain>) -> bool {
 #[tactic(auto, using(frame_script::proofs::Feeding::feeding))]
 fn the_mobility_domain_makes_the_header_whole(rt: HostRuntime) {
     let journal = Journal::new(rt.alloc());
-    let mut reader = ScriptReader::start(rt.alloc());
+    let mut reader = ScriptReader::start(rt.alloc(), Mode::Replay);
     play(&rt, rt.alloc(), &mut reader, FT_FALTERING, &journal);
     assert!(rt; is_of_a_mobility_domain(reader.domain()));
     drop(reader);
@@ -683,11 +708,13 @@ fn long_journal(rt: &impl Abort, alloc: Global) -> Journal {
 fn no_event_behind_more_frames_than_have_numbers(rt: HostRuntime) {
     let mut journal = long_journal(&rt, rt.alloc());
     play_behind_both(&rt, rt.alloc(), LAST_ROUND, &journal);
+    play_live(&rt, rt.alloc(), BOTH, LAST_TURN, &journal);
     let mut reader = reader_behind(&rt, rt.alloc(), HEADER, BOTH, &journal);
     let last = tell(rt.alloc(), &mut reader, b"deliver 65535 to a1", &journal);
     assert!(rt; last == Deliver(65535, A1));
     send_empty(&rt, rt.alloc(), &mut journal);
     play(&rt, rt.alloc(), &mut reader, LATE_LINES, &journal);
+    play_live(&rt, rt.alloc(), BOTH, LATE_TURN, &journal);
     drop(reader);
     drop(journal);
 }

@@ -17,6 +17,7 @@ use outcomes::come_to;
 use run_journal::{Act, Aps, Domain, Entry, Event, Journal, Outcome, Stas};
 use std::alloc::Global;
 use std::process::Abort;
+use std::thread::Threads;
 
 pub(crate) fn octets(rt: &impl Abort, alloc: Global, of: &[u8]) -> Octets
     ensures { result ≡ of.now }
@@ -393,11 +394,11 @@ fn events_and_what_they_add(rt: HostRuntime) {
 }
 
 // A round without events is one: what comes behind it is in the second round.
-fn is_counted(rt: &impl Abort, alloc: Global) -> bool {
+fn is_counted<R: Abort + Threads + Sync>(rt: &R, alloc: Global) -> bool {
     let mut journal = Journal::new(alloc);
     let mut nodes = two_nodes(rt, alloc, &mut journal);
     assert!(rt; nodes.rounds() < 1000);
-    nodes.round(&[], &mut journal).expect(rt, "memory");
+    nodes.round(rt, &[], &mut journal).expect(rt, "memory");
     play(rt, alloc, &mut nodes, &[Turn::Connect], &mut journal);
     nodes.rounds() == 2 && has_lines(&journal, SECOND_ROUND)
 }

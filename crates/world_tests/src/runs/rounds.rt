@@ -3,8 +3,192 @@
 use domain_cli::Status;
 use frame_script::Form;
 
+/// Behind two access points and two stations: each station asks the access point of the other for a fast transition, both in one round.
+pub(crate) const CROSSING: (&str, &str, &str) = (
+    "two stations that change places in one round",
+    "connect s1 a1
+deliver 1 to a1
+deliver 2 to s1
+deliver 3 to s1
+deliver 4 to a1
+deliver 5 to s1
+deliver 6 to a1
+connect s2 a2
+deliver 7 to a2
+deliver 8 to s2
+deliver 9 to s2
+deliver 10 to a2
+deliver 11 to s2
+deliver 12 to a2
+roam s1 a2
+roam s2 a1
+round
+deliver 14 to a1
+deliver 13 to a2
+end
+",
+    "open s1 a1 connect
+sent 1 s1 a1 assoc-req 67
+took a1 assoc-req accepted
+open a1 s1 connect
+sent 2 a1 s1 assoc-resp 141
+sent 3 a1 s1 m1 131
+took s1 assoc-resp accepted
+took s1 m1 accepted
+sent 4 s1 a1 m2 276
+took a1 m2 accepted
+sent 5 a1 s1 m3 323
+took s1 m3 accepted
+install s1 a1 ptk
+install s1 a1 gtk 1
+finish s1 a1
+sent 6 s1 a1 m4 131
+took a1 m4 accepted
+install a1 s1 ptk
+finish a1 s1
+put a1 s1 held
+open s2 a2 connect
+sent 7 s2 a2 assoc-req 67
+took a2 assoc-req accepted
+open a2 s2 connect
+sent 8 a2 s2 assoc-resp 141
+sent 9 a2 s2 m1 131
+took s2 assoc-resp accepted
+took s2 m1 accepted
+sent 10 s2 a2 m2 276
+took a2 m2 accepted
+sent 11 a2 s2 m3 323
+took s2 m3 accepted
+install s2 a2 ptk
+install s2 a2 gtk 1
+finish s2 a2
+sent 12 s2 a2 m4 131
+took a2 m4 accepted
+install a2 s2 ptk
+finish a2 s2
+put a2 s2 held
+open s1 a2 roam
+sent 13 s1 a2 ft-req 167
+open s2 a1 roam
+sent 14 s2 a1 ft-req 167
+took a1 ft-req accepted
+look a1 s2 found
+open a1 s2 roam
+sent 15 a1 s2 ft-resp 175
+took a2 ft-req accepted
+look a2 s1 found
+open a2 s1 roam
+sent 16 a2 s1 ft-resp 175
+end frames 16 accepted 14 answered 0 refused 0 ignored 0
+keys installed 8 resumed 0 used 0 handed-up 0
+premises fresh yes no-collision yes unforged yes
+",
+);
+
+/// The answer of a key holder to a look, as it stands in a report to the end of that: a row is there, and none is.
+pub(crate) const FOUND: &str = "took a2 ft-req accepted
+look a2 s1 found
+open a2 s1 roam
+sent 8 a2 s1 ft-resp 175
+end frames 8 accepted 7 answered 0 refused 0 ignored 0
+keys installed 5 resumed 0 used 0 handed-up 0
+premises fresh yes no-collision yes unforged yes
+";
+
+pub(crate) const ABSENT: &str = "took a2 ft-req refused name
+look a2 s1 absent
+sent 8 a2 s1 ft-resp 30
+end frames 8 accepted 6 answered 0 refused 1 ignored 0
+keys installed 5 resumed 0 used 0 handed-up 0
+premises fresh yes no-collision yes unforged yes
+";
+
+/// Rounds in which an access point asks another's key holder, and that has a row more or less: what is shown, the lines, and what is
+/// reported before the answer, which may be that of either moment.
+pub(crate) const LOOKED_FOR: &[(&str, &str, &str)] = &[
+    (
+        "a row that is revoked in the round in which it is looked for",
+        "connect s1 a1
+deliver 1 to a1
+deliver 2 to s1
+deliver 3 to s1
+deliver 4 to a1
+deliver 5 to s1
+deliver 6 to a1
+roam s1 a2
+round
+deliver 7 to a2
+revoke a1 s1
+end
+",
+        "open s1 a1 connect
+sent 1 s1 a1 assoc-req 67
+took a1 assoc-req accepted
+open a1 s1 connect
+sent 2 a1 s1 assoc-resp 141
+sent 3 a1 s1 m1 131
+took s1 assoc-resp accepted
+took s1 m1 accepted
+sent 4 s1 a1 m2 276
+took a1 m2 accepted
+sent 5 a1 s1 m3 323
+took s1 m3 accepted
+install s1 a1 ptk
+install s1 a1 gtk 1
+finish s1 a1
+sent 6 s1 a1 m4 131
+took a1 m4 accepted
+install a1 s1 ptk
+finish a1 s1
+put a1 s1 held
+open s1 a2 roam
+sent 7 s1 a2 ft-req 167
+revoke a1 s1 revoked
+",
+    ),
+    (
+        "a row that is put in the round in which it is looked for",
+        "connect s1 a1
+deliver 1 to a1
+deliver 2 to s1
+deliver 3 to s1
+deliver 4 to a1
+deliver 5 to s1
+roam s1 a2
+round
+deliver 7 to a2
+deliver 6 to a1
+end
+",
+        "open s1 a1 connect
+sent 1 s1 a1 assoc-req 67
+took a1 assoc-req accepted
+open a1 s1 connect
+sent 2 a1 s1 assoc-resp 141
+sent 3 a1 s1 m1 131
+took s1 assoc-resp accepted
+took s1 m1 accepted
+sent 4 s1 a1 m2 276
+took a1 m2 accepted
+sent 5 a1 s1 m3 323
+took s1 m3 accepted
+install s1 a1 ptk
+install s1 a1 gtk 1
+finish s1 a1
+sent 6 s1 a1 m4 131
+open s1 a2 roam
+sent 7 s1 a2 ft-req 167
+took a1 m4 accepted
+install a1 s1 ptk
+finish a1 s1
+put a1 s1 held
+",
+    ),
+];
+
 /// Behind two access points and two stations: what is shown, the lines, and what is reported of them.
 pub(crate) const ROUNDS: &[(&str, &str, &str)] = &[
+    CROSSING,
     (
         "a round at two access points: entries and numbers of frames come by access point",
         "connect s1 a1

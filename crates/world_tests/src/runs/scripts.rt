@@ -128,6 +128,12 @@ pub(crate) const SCRIPTS: &[(&str, &str, Status, &str)] = &[
     ),
     (
         NETWORK,
+        "turn\n|turn x\n",
+        Status::Script(8, 9, Form::StaOrEvent),
+        STARTED,
+    ),
+    (
+        NETWORK,
         "connect s1\n",
         Status::Script(8, 3, Form::Connect),
         STARTED,
@@ -707,7 +713,8 @@ pub(crate) const WORDS: &[&[&str]] = &[
     &["Storm", "1"],
     &["live"],
     &["live", "80"],
-    &["live", "1024"],
+    &["live", "1023"],
+    &["live", "65001"],
     &["--help"],
     &["help"],
     &["help", "storm"],

@@ -11,6 +11,23 @@ pub(crate) const TEXTS: &[(Status, &str)] = &[
     (Status::WriteFault, "the report could not be written"),
     (Status::NoMemory, "out of memory"),
     (
+        Status::LinkFault,
+        "a socket could not be opened, or a frame not be sent or taken",
+    ),
+    (Status::DrawFault, "the seed could not be drawn"),
+    (
+        Status::Script(65536, 3, Form::LiveSeed),
+        "line 65536: wrong arguments; the form is seed <64 digits or draw>",
+    ),
+    (
+        Status::Script(65536, 3, Form::Turn),
+        "line 65536: wrong arguments; the form is turn",
+    ),
+    (
+        Status::Script(65536, 9, Form::LiveEventInRound),
+        "line 65536: no such line in this kind of run; the form is that of inject, retry, rekey, send, expire, revoke or end",
+    ),
+    (
         Status::Script(65536, 0, Form::Event),
         "line 65536: outside the grammar; the form is that of connect, roam with ft-psk, deliver, alter, cut, inject, retry, rekey, send, expire, revoke, leave or round",
     ),
@@ -104,7 +121,7 @@ pub(crate) const TEXTS: &[(Status, &str)] = &[
     ),
     (
         Status::Script(65545, 9, Form::Seed),
-        "line 65545: the seed is drawn in a live run only; the form is seed <64 digits>",
+        "line 65545: no such line in this kind of run; the form is seed <64 digits>",
     ),
     (Status::Limit(0), "past a limit"),
     (Status::Limit(1), "more than 65536 lines"),
@@ -122,9 +139,12 @@ pub(crate) const TEXTS: &[(Status, &str)] = &[
 
 // What stands on standard error for words that are no command.
 const USAGE: &str = "usage: kehtrop replay < SCRIPT
+       kehtrop live PORT < SCRIPT
        kehtrop storm NUMBER
 
   replay    runs the script on standard input, and writes its report to standard output
+  live      runs it with frames on UDP sockets of this machine, from that port on, from 1024 to
+            65000 in one to ten digits
   storm     runs 2000 events that the number makes, from 0 to 4294967295 in one to ten digits,
             and writes the summary of their report to standard output
 
@@ -135,6 +155,8 @@ The program ends with
   3  the script could not be read
   4  the report could not be written
   5  out of memory
+  6  a socket failed
+  7  the seed could not be drawn
   8  a line of the script goes past a limit
 
 Example:

@@ -621,25 +621,6 @@ premises fresh yes no-collision yes unforged yes
 ",
     ),
     (
-        "a row that is revoked in the round in which it is looked for",
-        "roam s1 a2
-round
-deliver 7 to a2
-revoke a1 s1
-end
-",
-        "open s1 a2 roam
-sent 7 s1 a2 ft-req 167
-revoke a1 s1 revoked
-took a2 ft-req refused name
-look a2 s1 absent
-sent 8 a2 s1 ft-resp 30
-end frames 8 accepted 6 answered 0 refused 1 ignored 0
-keys installed 5 resumed 0 used 0 handed-up 0
-premises fresh yes no-collision yes unforged yes
-",
-    ),
-    (
         "G1 once more, behind data under its key: the kept counter stays",
         "rekey a1
 retry a1 s1

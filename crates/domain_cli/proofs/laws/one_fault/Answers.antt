@@ -1,4 +1,4 @@
-use Rattle.domain_cli.proofs.Faults.{fault_or_script, one_end, one_place, one_script, one_telling}
+use Rattle.domain_cli.proofs.Faults.{fault_or_script, one_account, one_end, one_place, one_script}
 use Rattle.domain_cli.proofs.laws.one_fault.Goals as goal
 
 pub returns-clause-script : goal.returns-clause-script
@@ -11,7 +11,7 @@ pub returns-clause-lines : goal.returns-clause-lines
 returns-clause-lines c = one_script
 
 pub returns-clause-told : goal.returns-clause-told
-returns-clause-told c = one_telling
+returns-clause-told c = one_account
 
 pub returns-clause-end : goal.returns-clause-end
 returns-clause-end c = one_end

@@ -14,3 +14,7 @@ pub returns-in-Ok-event-clause-under_way : goal.returns-in-Ok-event-clause-under
 returns-in-Ok-event-clause-under_way c =
     under_way_more c.args.storm.now c.event.new.self c.args.world.now c.event-2.new.self c.in-Ok.event c.args.journal.now.entries c.event-2.new.journal.entries c.requires.under_way c.in-Ok.ensures.event c.in-Ok.ensures.state c.in-Ok.ensures.seen c.event.ensures.number
     c.in-Ok-event.ensures.step c.in-Ok-event.ensures.rounds c.event-2.ensures.domain c.event-2.ensures.own
+
+pub returns-clause-front : goal.returns-clause-front
+returns-clause-front c =
+    under_way_front c.args.storm.now c.args.world.now c.args.journal.now.entries c.event-2.new.journal.entries c.requires.under_way (omega (arith, c.requires.few)) c.in-Err.ensures.kept

@@ -10,6 +10,7 @@ use Rattle.ap_node.specs.Parts.{is_final_at}
 use Rattle.ap_node.specs.State.{State, station_at, trimmed}
 use Rattle.ap_node.specs.Takes.{IsDoneWith}
 use Rattle.ap_node.proofs.Messaging.{takes_finished, ready_as}
+use Rattle.ap_node.proofs.Rows.{change_at}
 use Rattle.ap_node.proofs.access_point.ApNode.hand.Goals as goal
 
 pub returns-clause-done : goal.returns-clause-done
@@ -37,3 +38,9 @@ returns-clause-done over c =
 
 pub returns-in_err-reserve-clause-no_less : goal.returns-in_err-reserve-clause-no_less
 returns-in_err-reserve-clause-no_less over c = over.met.H.Holders.same c.args.holders.now
+
+pub returns-in_err-ready-clause-change : goal.returns-in_err-ready-clause-change
+returns-in_err-ready-clause-change over c = change_at _ _ _ c.self.inside.number c.args.self.now.number _ _ (ap (λ (t : State). t.number) c.self.view_is) c.prepare.ensures.change
+
+pub returns-clause-change : goal.returns-clause-change
+returns-clause-change over c = change_at _ _ _ c.self.inside.number c.args.self.now.number _ _ (ap (λ (t : State). t.number) c.self.view_is) c.prepare.ensures.change

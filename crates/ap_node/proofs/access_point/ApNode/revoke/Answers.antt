@@ -7,6 +7,7 @@ use Rattle.held_rows.specs.Looks.{NoLooks}
 use Rattle.ap_node.specs.State.{State}
 use Rattle.ap_node.specs.Takes.{IsTakenWith}
 use Rattle.ap_node.proofs.RevokedKeys.{takes_revoked}
+use Rattle.ap_node.proofs.Rows.{change_at}
 use Rattle.ap_node.proofs.access_point.ApNode.revoke.Goals as goal
 
 pub returns-clause-taken : goal.returns-clause-taken
@@ -21,3 +22,6 @@ returns-clause-taken over c =
     if_settled c.revoke.result Done (λ outcome. IsTakenWith NoLooks d (Revoke c.args.station) s s (before s.number) (after s.number) (seen waited waits outcome)) _ c.revoke.ensures.outcome c.revoke.ensures.acts
     (λ w. subst (λ (k : ℕ). IsTakenWith NoLooks d (Revoke c.args.station) s s (before k) (after k) (seen waited waits Done)) number
     (takes_revoked d s c.self.inside.number c.args.station (before c.self.inside.number) (after c.self.inside.number) waited waits number w))
+
+pub returns-clause-change : goal.returns-clause-change
+returns-clause-change over c = change_at _ _ _ c.self.inside.number c.args.self.now.number _ _ (ap (λ (t : State). t.number) c.self.view_is) c.revoke.ensures.change

@@ -1,7 +1,8 @@
-use Rattle.std.proofs.Common.{ap}
+use Rattle.std.proofs.Common.{refl, ap}
 use Rattle.domain_rules.specs.Rows.{Take, Retry, Rekey, Send, Expire, Revoke}
 use Rattle.node_base.specs.Events.{event_of}
-use Rattle.ap_node.proofs.Rows.{if_event, if_looks, if_plain_looks, if_none_looks}
+use Rattle.ap_node.specs.Putting.{Unchanged}
+use Rattle.ap_node.proofs.Rows.{if_change, err_change, if_event, if_looks, if_plain_looks, if_none_looks}
 use Rattle.ap_node.proofs.access_point.ApNode.step.Goals as goal
 
 pub returns-in-Take-clause-steps : goal.returns-in-Take-clause-steps
@@ -39,3 +40,45 @@ returns-in-Revoke-clause-steps g c =
 pub returns-in-Revoke-clause-looks : goal.returns-in-Revoke-clause-looks
 returns-in-Revoke-clause-looks g c =
     if_none_looks c.revoke.result _ c.args.domain.now (Revoke _) c.args.self.now c.args.self.now _ _ c.args.out.now.acts c.revoke.new.out.acts c.revoke.ensures.taken
+
+pub returns-in-Take-clause-unasked : goal.returns-in-Take-clause-unasked
+returns-in-Take-clause-unasked g c = c.take.ensures.unasked
+
+pub returns-in-Take-clause-change : goal.returns-in-Take-clause-change
+returns-in-Take-clause-change g c = c.take.ensures.change
+
+pub returns-in-Retry-clause-unasked : goal.returns-in-Retry-clause-unasked
+returns-in-Retry-clause-unasked g c = if_change c.retry.result _ _ _ (Unchanged refl)
+
+pub returns-in-Retry-clause-change : goal.returns-in-Retry-clause-change
+returns-in-Retry-clause-change g c = err_change c.retry.result _ (Unchanged refl)
+
+pub returns-in-Rekey-clause-unasked : goal.returns-in-Rekey-clause-unasked
+returns-in-Rekey-clause-unasked g c = if_change c.rekey.result _ _ _ (Unchanged refl)
+
+pub returns-in-Rekey-clause-change : goal.returns-in-Rekey-clause-change
+returns-in-Rekey-clause-change g c = err_change c.rekey.result _ (Unchanged refl)
+
+pub returns-in-Send-default-Some-default-clause-unasked : goal.returns-in-Send-default-Some-default-clause-unasked
+returns-in-Send-default-Some-default-clause-unasked g c = if_change c.send.result _ _ _ (Unchanged refl)
+
+pub returns-in-Send-default-Some-default-clause-change : goal.returns-in-Send-default-Some-default-clause-change
+returns-in-Send-default-Some-default-clause-change g c = err_change c.send.result _ (Unchanged refl)
+
+pub returns-in-Send-default-None-default-clause-unasked : goal.returns-in-Send-default-None-default-clause-unasked
+returns-in-Send-default-None-default-clause-unasked g c = if_change c.send-in-Send-default-None-default.result _ _ _ (Unchanged refl)
+
+pub returns-in-Send-default-None-default-clause-change : goal.returns-in-Send-default-None-default-clause-change
+returns-in-Send-default-None-default-clause-change g c = err_change c.send-in-Send-default-None-default.result _ (Unchanged refl)
+
+pub returns-in-Expire-clause-unasked : goal.returns-in-Expire-clause-unasked
+returns-in-Expire-clause-unasked g c = if_change c.expire.result _ _ _ (Unchanged refl)
+
+pub returns-in-Expire-clause-change : goal.returns-in-Expire-clause-change
+returns-in-Expire-clause-change g c = err_change c.expire.result _ (Unchanged refl)
+
+pub returns-in-Revoke-clause-unasked : goal.returns-in-Revoke-clause-unasked
+returns-in-Revoke-clause-unasked g c = if_change c.revoke.result _ _ _ c.revoke.ensures.change
+
+pub returns-in-Revoke-clause-change : goal.returns-in-Revoke-clause-change
+returns-in-Revoke-clause-change g c = err_change c.revoke.result _ c.revoke.ensures.change

@@ -8,7 +8,8 @@ use Rattle.act_memory.proofs.Returning.{if_settled}
 use Rattle.ap_node.specs.Takes.{IsKeyedAtAp, IsSealedAtAp, IsTaken}
 use Rattle.run_journal.specs.declared.acts.Kind.TheVariants as kind
 use Rattle.ap_node.proofs.Refusing.{Stays, takes_settled, takes_other, managed_from, keyed_from, sealed_from, request_from}
-use Rattle.ap_node.proofs.Rows.{if_same, if_none}
+use Rattle.ap_node.specs.Putting.{Unchanged}
+use Rattle.ap_node.proofs.Rows.{if_same, if_none, if_change, err_change}
 use Rattle.ap_node.proofs.access_point.ApNode.take.Goals as goal
 use Rattle.domain_base.specs.declared.names.Node.TheVariants.{Sta}
 use Rattle.node_base.specs.Events.{seen}
@@ -114,3 +115,45 @@ returns-in-Sealed-clause-taken over c =
     (λ outcome x refused. takes_data d old new octets sta c.in-Sealed.frame waited waits outcome frame_is rekeyed
     (λ why is. kept_state c.self.inside.number c.self.inside.drawn c.self.inside.owing c.self.inside.owing c.self.inside.group c.self.inside.sending new.stations c.self.inside.stations.items (trimmed c.self.inside.targets) (refused why is) refl ∙ c.self.view_is)
     (subst (λ (o : Option Station). IsTakenUnder (Sta sta) octets (sealed_fields c.in-Sealed.frame) (key_in o) q (seen waited waits outcome)) was x)))
+
+pub returns-in-Settled-clause-unasked : goal.returns-in-Settled-clause-unasked
+returns-in-Settled-clause-unasked over c = if_change c.settle.result _ _ _ (Unchanged refl)
+
+pub returns-in-Settled-clause-change : goal.returns-in-Settled-clause-change
+returns-in-Settled-clause-change over c = err_change c.settle.result _ (Unchanged refl)
+
+pub returns-in_default-clause-unasked : goal.returns-in_default-clause-unasked
+returns-in_default-clause-unasked over c = if_change c.settle-in_default.result _ _ _ (Unchanged refl)
+
+pub returns-in_default-clause-change : goal.returns-in_default-clause-change
+returns-in_default-clause-change over c = err_change c.settle-in_default.result _ (Unchanged refl)
+
+pub returns-in-AssocReq-clause-unasked : goal.returns-in-AssocReq-clause-unasked
+returns-in-AssocReq-clause-unasked over c = if_change c.take_request.result _ _ _ (Unchanged refl)
+
+pub returns-in-AssocReq-clause-change : goal.returns-in-AssocReq-clause-change
+returns-in-AssocReq-clause-change over c = err_change c.take_request.result _ (Unchanged refl)
+
+pub returns-in-FtReq-clause-unasked : goal.returns-in-FtReq-clause-unasked
+returns-in-FtReq-clause-unasked over c = c.take_auth.ensures.unasked
+
+pub returns-in-FtReq-clause-change : goal.returns-in-FtReq-clause-change
+returns-in-FtReq-clause-change over c = c.take_auth.ensures.change
+
+pub returns-in-ReReq-clause-unasked : goal.returns-in-ReReq-clause-unasked
+returns-in-ReReq-clause-unasked over c = if_change c.take_reassoc.result _ _ _ (Unchanged refl)
+
+pub returns-in-ReReq-clause-change : goal.returns-in-ReReq-clause-change
+returns-in-ReReq-clause-change over c = err_change c.take_reassoc.result _ (Unchanged refl)
+
+pub returns-in-Keyed-clause-unasked : goal.returns-in-Keyed-clause-unasked
+returns-in-Keyed-clause-unasked over c = if_change c.take_keyed.result _ _ _ c.take_keyed.ensures.change
+
+pub returns-in-Keyed-clause-change : goal.returns-in-Keyed-clause-change
+returns-in-Keyed-clause-change over c = err_change c.take_keyed.result _ c.take_keyed.ensures.change
+
+pub returns-in-Sealed-clause-unasked : goal.returns-in-Sealed-clause-unasked
+returns-in-Sealed-clause-unasked over c = if_change c.take_data.result _ _ _ (Unchanged refl)
+
+pub returns-in-Sealed-clause-change : goal.returns-in-Sealed-clause-change
+returns-in-Sealed-clause-change over c = err_change c.take_data.result _ (Unchanged refl)

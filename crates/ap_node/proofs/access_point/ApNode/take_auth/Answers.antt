@@ -21,9 +21,11 @@ use Rattle.ap_node.specs.declared.station.Station.{Station}
 use Rattle.ap_node.specs.State.{State, station_at, attempt_in, trimmed}
 use Rattle.ap_node.specs.Looking.{AnsweredBy}
 use Rattle.ap_node.specs.Moving.{has_any_attempt, next_drawn, begun_key, drawn_for, attempt_over}
+use Rattle.ap_node.specs.Putting.{Unchanged}
 use Rattle.ap_node.specs.Takes.{IsTakenWith}
 use Rattle.ap_node.proofs.Messaging.{the_state}
 use Rattle.ap_node.proofs.Transits.{IsAuthed, takes_auth, auth_less, auth_refused, no_key, err_of}
+use Rattle.ap_node.proofs.TransitingLooks.{taken_unlooked}
 use Rattle.ap_node.proofs.Trimming.{moved_on, raw_at, any_as, same_targets}
 use Rattle.ap_node.proofs.access_point.ApNode.take_auth.Goals as goal
 
@@ -34,6 +36,14 @@ returns-in_err-taken-clause-same over c =
     (ap (λ (l : List Moves). the_state c.self.inside.number c.self.inside.drawn c.self.inside.group c.self.inside.sending c.self.inside.stations.items c.self.inside.owing l)
     (same_targets c.take_auth.new.self raw (trimmed raw) c.args.station refl c.in_err-taken.ensures.same c.take_auth.ensures.others)
     ∙ c.self.view_is)
+
+pub returns-in_err-taken-clause-change : goal.returns-in_err-taken-clause-change
+returns-in_err-taken-clause-change over c = err_of c.from_residual.result _ (Unchanged c.in_err-taken.ensures.unasked)
+
+pub returns-clause-unasked : goal.returns-clause-unasked
+returns-clause-unasked over c = λ g is none. Unchanged
+    (taken_unlooked (request c.args.here.domain.now c.self.inside.number c.args.station c.args.octets.now (element_fields c.args.elements.now)) (option_copied c.as_ref.result) c.either-had_attempt.result _ _
+    c.args.out.now.acts c.take_auth.new.out.acts (moves_at c.self.inside.targets c.args.station) (moves_at c.take_auth.new.self c.args.station) c.in_ok-taken.taken c.in_ok-taken.ensures.taken g is none)
 
 pub returns-clause-taken : goal.returns-clause-taken
 returns-clause-taken over c =

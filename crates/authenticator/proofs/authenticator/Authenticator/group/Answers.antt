@@ -5,4 +5,4 @@ use Rattle.authenticator.proofs.authenticator.Authenticator.group.Goals as goal
 pub returns-clause-gives : goal.returns-clause-gives
 returns-clause-gives c =
     let s : State = record { ends = c.self.inside.ends; attempt = c.self.inside.attempt; session = c.self.inside.session } in
-    rw (← c.self.view_is) (gives_asked s c.in-Some.session c.send_g1.new.self c.args.newest.now c.args.rsc c.send_g1.new.reply c.in-Some.is c.send_g1.ensures.asks)
+    rw (← c.self.view_is) (gives_asked s c.in-Some.session c.send_g1.new.self c.args.newest.now c.args.rsc c.send_g1.new.reply c.in-Some.is c.send_g1.ensures.sends c.send_g1.ensures.asks)

@@ -1,35 +1,28 @@
-use Rattle.std.proofs.Common.{◌++◌, ◌∷◌, ◌∙◌, [], ℕ, List, ap, sym, subst, arith}
-use Rattle.domain_cli.specs.Script.{Begins, texts, without_return}
+use Rattle.std.proofs.Common.{◌∙◌, ℕ, List, ap, subst, arith}
+use Rattle.domain_cli.specs.Outer.{outer}
+use Rattle.domain_cli.specs.Script.{without_return}
 use Rattle.domain_cli.specs.States.{TellsLine}
 use Rattle.domain_cli.specs.Stops.{StopsLine}
-use Rattle.std.proofs.lemmas.Result.{err_from_is_err_and}
-use Rattle.domain_cli.proofs.Sent.{Spells-more}
-use Rattle.domain_cli.proofs.Lines.{Begins-line, Spells-line, Stopped-line}
+use Rattle.domain_cli.proofs.Coming.{halts_line, reached_line}
 use Rattle.domain_cli.proofs.feeder.LineFeeder.end_line.Goals as goal
 
-pub returns-in_err-take_line-clause-reached : goal.returns-in_err-take_line-clause-reached
-returns-in_err-take_line-clause-reached c octets r =
+pub returns-in-Ok-clause-reached : goal.returns-in-Ok-clause-reached
+returns-in-Ok-clause-reached g c first octets r =
     let s = c.args.self.now in
+    let j = c.args.journal.now.entries in
+    let k = c.take_line-taken.new.journal.entries in
+    let o = outer c.take_line-taken.new.links.items (g.A.Air.told c.take_line-taken.new.air) (g.D.Draws.last c.take_line-taken.new.draws) in
     let text = c.without_return-text.ensures ∙ ap without_return c.deref.ensures.value in
-    let stops = subst (λ (w : List ℕ). StopsLine c.in_err-take_line.field-0.0 c.args.journal.now.entries s.lines w r.draft r.rounds) text (c.in_err-take_line.ensures.told r.draft r.rounds r.stands) in
-    let p = err_from_is_err_and c.from_residual.result c.from_residual.ensures.1 in
-    rw (p.1, p.2) (Stopped-line c.in_err-take_line.field-0.0 s.lines octets r.good s.line.items r.draft r.rounds c.args.journal.now.entries c.take_line.new.journal.entries r.begins r.open_line (omega (arith, s.short, s.line.ok.0)) r.count r.spelled r.stands.journal stops
-    c.in_err-take_line.ensures.kept)
+    let told = subst (λ (w : List ℕ). TellsLine g.A.L.Link.told first o w r.draft r.rounds c.take_line-taken.new.state j k) text (c.in-Ok.ensures.told r.draft r.rounds first r.come.stands r.met) in
+    reached_line g.A.L.Link.told first o s _ octets r.draft r.rounds j k r.come (omega (arith, s.short, s.line.ok.0)) c.in-Ok.ensures.few c.clear.ensures.items (omega arith) c.take_line-taken.ensures.mode told
 
-pub returns-clause-reached : goal.returns-clause-reached
-returns-clause-reached c octets r =
+pub returns-in-Err-clause-reached : goal.returns-in-Err-clause-reached
+returns-in-Err-clause-reached g c first octets r =
     let s = c.args.self.now in
+    let j = c.args.journal.now.entries in
+    let k = c.take_line-taken.new.journal.entries in
+    let old = outer c.args.links.now.items (g.A.Air.told c.args.air.now) (g.D.Draws.last c.args.draws.now) in
+    let new = outer c.take_line-taken.new.links.items (g.A.Air.told c.take_line-taken.new.air) (g.D.Draws.last c.take_line-taken.new.draws) in
     let text = c.without_return-text.ensures ∙ ap without_return c.deref.ensures.value in
-    let told = subst (λ (w : List ℕ). TellsLine w r.draft r.rounds c.take_line.new.state c.args.journal.now.entries c.take_line.new.journal.entries) text (c.in_ok-take_line.ensures.told r.draft r.rounds r.stands) in
-    record {
-      good = s.line.items ∷ r.good;
-      draft = told.draft;
-      rounds = told.rounds;
-      begins = subst (λ (w : List ℕ). Begins (octets ++ 10 ∷ []) (s.line.items ∷ r.good) w) (sym c.clear.ensures.items)
-          (Begins-line octets r.good s.line.items r.begins r.open_line (omega (arith, s.short, s.line.ok.0)) (omega (arith, r.count, c.in_ok-take_line.ensures.few)));
-      open_line = rw c.clear.ensures.items tt;
-      count = omega (arith, r.count);
-      spelled = Spells-line c.take_line.new.journal.entries (without_return s.line.items) (texts r.good) r.draft told.draft r.rounds told.rounds
-          (Spells-more c.args.journal.now.entries c.take_line.new.journal.entries (texts r.good) r.draft r.rounds told.same r.spelled) told.says;
-      stands = told.stands;
-    }
+    let stops = subst (λ (w : List ℕ). StopsLine c.in-Err.stop g.A.L.Link.told first old new s.state.reader.mode s.lines w r.draft r.rounds j k) text (c.in-Err.ensures.told r.draft r.rounds first r.come.stands r.met) in
+    halts_line g.A.L.Link.told first old new s c.in-Err.stop octets r.draft r.rounds j k r.come r.met (omega (arith, s.short, s.line.ok.0)) stops

@@ -2,7 +2,9 @@ use Rattle.std.proofs.Common.{◌≡◌, List, [], refl, sym, ap, subst, ◌∙�
 use Rattle.std.specs.List.{AllByRecursion}
 use Rattle.key_holders.specs.declared.rows.HeldRow.{HeldRow}
 use Rattle.domain_rules.specs.InOctets.{InOctets}
+use Rattle.run_journal.specs.declared.domain.Domain.{Domain}
 use Rattle.domain_rules.specs.Network.{InForm}
+use Rattle.domain_rules.specs.HeldRight.{AnsweredInTime}
 use Rattle.domain_world.proofs.Placed.{places_none, numbered_none}
 use Rattle.domain_world.proofs.Owned.{octets_none, right_none}
 use Rattle.domain_world.proofs.world.World.start.Goals as goal
@@ -22,6 +24,7 @@ returns-clause-own c =
         places = c.new-2.ensures.items ∙ sym places_none;
         past = tt;
       };
-      right = right_none _;
+      right = subst (λ (d : Domain). AnsweredInTime d []) (sym nodes.domain) (right_none c.args.domain.now);
       quiet = λ first. subst (AllByRecursion (λ (xs : List HeldRow). xs ≡ [])) (sym nodes.quiet) tt;
+      asked = λ first. tt;
     }

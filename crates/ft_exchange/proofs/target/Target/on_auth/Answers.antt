@@ -32,7 +32,7 @@ returns-in-Ok-look-clause-taken g c =
     let k : Asks c.args.domain.now (element_fields c.args.elements.now) c.args.pending.now (asked_fields c.in-Ok.asked) =
     record { suite = c.in-FtPsk.is; right = q.0; asks = q.1; fresh = sym c.repeats.ensures ∙ c.if-repeats.false }
     in
-    exit_granted c.args.domain.now c.args.ap c.args.sta (element_fields c.args.elements.now) (option_copied c.args.anonce) c.args.pending.now (asked_fields c.in-Ok.asked) c.in-Ok-look.granted c.of-place.result c.begin.result _ _ c.empty.result c.look.new.reply c.begin.new.reply k c.in-Ok-look.ensures.looked
+    exit_granted c.args.domain.now c.args.ap c.args.sta (element_fields c.args.elements.now) (option_copied c.args.anonce) c.args.pending.now (asked_fields c.in-Ok.asked) c.in-Ok-look.granted c.of-place.result c.begin.result _ _ c.empty.result c.look.new.reply c.begin.new.reply k c.empty.ensures c.in-Ok-look.ensures.looked
     (λ name answer y.
     known_by c.args.domain.now (g.H.Holders.ids c.args.holders.now) c.in-Ok.asked.r0kh_id.now
     (λ (r : ℕ) (z : PullAnswer). is_in r (g.H.Holders.has c.args.holders.now) ≡ true → MayPull (g.H.Holders.rows c.args.holders.now r) name c.of-place.result.own c.of-place.result.peer z) answer c.requires.ids y.1)

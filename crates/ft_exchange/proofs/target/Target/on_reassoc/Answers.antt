@@ -45,4 +45,4 @@ returns c =
     in
     exit_pends (element_fields c.args.elements.now) c.args.newest.now c.args.rsc c.args.self.now (the_view c.self.inside) c.install.new.self c.kck-reply.result c.empty.result c.install.new.reply p c.self.view_is
     (fault_is (element_fields c.args.elements.now) c.args.self.now (wanted c.expects.result) c.reassociation_fault.result None c.expects.ensures c.reassociation_fault.ensures c.in_default-reassociation_fault.is)
-    c.if-self.false c.install.ensures
+    c.if-self.false c.empty.ensures c.install.ensures

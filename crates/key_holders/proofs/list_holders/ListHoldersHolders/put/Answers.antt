@@ -1,4 +1,4 @@
-use Rattle.std.proofs.Common.{◌≡◌, ◌<◌, true, ℕ, List, [], length, get_or-set_same, sym, ap, ◌∙◌, subst, arith, rules}
+use Rattle.std.proofs.Common.{◌≡◌, ◌<◌, true, ℕ, List, [], length, get_or-set_same, get_or-set_other, sym, ap, ◌∙◌, subst, arith, rules}
 use Rattle.key_holders.specs.declared.rows.HeldRow.{HeldRow}
 use Rattle.key_holders.specs.Rows.{is_in, put_answer, after_put}
 use Rattle.key_holders.specs.Listed.{Listed, below, rows_at}
@@ -31,3 +31,12 @@ returns-clause-rows c =
     get_or-set_same rows c.args.r0kh c.put.new.self [] low
     ∙ (c.put.ensures.rows
     ∙ ap (λ (x : List HeldRow). after_put c.args.row c.put.result x) (rows_here rows c.args.r0kh c.index_mut.result.now low c.index_mut.ensures.value ∙ ap (λ (h : Listed). rows_at h.rows c.args.r0kh) c.self.view_is))
+
+pub returns-clause-puts : goal.returns-clause-puts
+returns-clause-puts c =
+    let rows = c.self.inside.holders.items in
+    record {
+      ids = ap (λ (h : Listed). h.ids) c.self.view_is;
+      here = returns-clause-rows c;
+      others = λ s other. get_or-set_other rows c.args.r0kh s c.put.new.self [] other ∙ ap (λ (h : Listed). rows_at h.rows s) c.self.view_is;
+    }

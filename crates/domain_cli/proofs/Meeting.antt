@@ -1,0 +1,416 @@
+-- How the outside is met by a line of both kinds of run: a link is attached, or frames are sent.
+use Rattle.std.proofs.Common.{◌≡◌, ℕ, zero, suc, ◌<◌, ◌+◌, ◌*◌, ◌⊎◌, List, [], ◌∷◌, ◌++◌, length, length-append, drop, Option, Some, None, Result, Ok, Err, refl, sym, ap, subst, ◌∙◌, append_assoc, inl, inr, arith}
+use Rattle.std.specs.Prelude.{reverse}
+use Rattle.std.specs.List.{AllByRecursion}
+use Rattle.std.proofs.lemmas.List.{append-nil, reverse-append}
+use Rattle.std.proofs.lemmas.Grind.{common_steps}
+use Rattle.domain_base.specs.declared.names.Mac.{Mac}
+use Rattle.domain_base.specs.declared.names.Node.{Node}
+use Rattle.domain_base.specs.declared.names.Node.TheVariants.{Ap}
+use Rattle.domain_base.specs.declared.radio.SentFrame.{SentFrame}
+use Rattle.domain_base.specs.declared.outside.LinkError.{LinkError}
+use Rattle.domain_base.specs.Told.{LinkStory, AirStory}
+use Rattle.run_journal.specs.declared.domain.Domain.{Domain}
+use Rattle.run_journal.specs.declared.domain.ListedAp.{ListedAp}
+use Rattle.run_journal.specs.declared.domain.Event.{Event}
+use Rattle.run_journal.specs.declared.acts.Act.{Act}
+use Rattle.run_journal.specs.declared.acts.Entry.{Entry}
+use Rattle.run_journal.specs.Listing.{with_ap, with_sta}
+use Rattle.domain_rules.specs.AccessPointRows.{start_acts}
+use Rattle.domain_rules.specs.Explained.{started, push, number_of}
+use Rattle.domain_world.specs.State.{State}
+use Rattle.domain_links.specs.NodeOrder.{count, node_at, place_of}
+use Rattle.domain_links.specs.Sends.{Send, sends, sends_of, sends_by, sent_by, frames_out, frame_sent}
+use Rattle.domain_links.specs.Telling.{Tell}
+use Rattle.domain_links.specs.Attached.{Attached, frames_at}
+use Rattle.domain_links.specs.Turns.{Delivery}
+use Rattle.domain_links.proofs.OnePoll.{Tell-left}
+use Rattle.domain_links.proofs.Going.{Tell-same, sends-two}
+use Rattle.frame_script.specs.Script.{Draft, AtVersion, AtSeed, AtSsid, AtPsk, AtAkm, AtMdid, AtNodes, InRound, Said, Fault}
+use Rattle.frame_script.specs.Headers.{Reading, TakesStep, HasRead, IsNetwork, sizes_of}
+use Rattle.frame_script.specs.declared.reader.Mode.{Mode}
+use Rattle.frame_script.specs.declared.reader.Mode.TheVariants.{Replay, Live}
+use Rattle.frame_script.specs.declared.reader.Step.{Step as Asked}
+use Rattle.frame_script.specs.declared.reader.Step.TheVariants as step
+use Rattle.domain_cli.specs.Outer.{Outer, AreHeard, IsHeardPart, left_behind, sends_for, HasLinks, IsLinked, IsLinkedPart, IsUnlinked, IsLinkedAt, IsLinkedPartAt, links_due}
+use Rattle.domain_cli.specs.States.{Waiting, IsHeader, IsAt, IsOwn, IsWorldOf, IsBegun, DidAsk, DidEnd, Did, DidRun, run_count}
+use Rattle.domain_cli.specs.Turning.{Carries, GoesOut}
+use Rattle.domain_cli.proofs.Growing.{Grows}
+use Rattle.domain_cli.proofs.Steps.{none_run, outside}
+use Rattle.domain_cli.proofs.Turned.{sends_more}
+
+-- ---- drafts and networks
+
+-- the script is behind its header, on that network
+abbrev pub IsIn : Draft → Domain → Type 0
+IsIn (AtNodes d) e = d ≡ e
+IsIn (InRound d n) e = d ≡ e
+IsIn draft e = ⊥
+
+pub is_in : (draft : Draft) (w : State) (a : Waiting) (sizes : List ℕ) (j : List Entry) → IsAt draft w a sizes j → IsIn draft w.domain
+is_in AtVersion w a sizes j at = absurd at
+is_in AtSeed w a sizes j at = absurd at
+is_in (AtSsid seed) w a sizes j at = absurd at
+is_in (AtPsk seed ssid) w a sizes j at = absurd at
+is_in (AtAkm seed ssid psk) w a sizes j at = absurd at
+is_in (AtMdid seed ssid psk) w a sizes j at = absurd at
+is_in (AtNodes d) w a sizes j at = at.0
+is_in (InRound d n) w None sizes j at = absurd at
+is_in (InRound d n) w (Some events) sizes j at = at.network
+
+-- its links, from the draft
+pub linked_in : {L : Type 0} (told : L → Option LinkStory) (draft : Draft) (d : Domain) (start : AirStory) (o : Outer L) (turns : List (List Delivery)) (j : List Entry) → IsIn draft d → IsLinkedAt told draft start o turns j → IsLinked told d start o turns j
+linked_in told AtVersion d start o turns j is l = absurd is
+linked_in told AtSeed d start o turns j is l = absurd is
+linked_in told (AtSsid seed) d start o turns j is l = absurd is
+linked_in told (AtPsk seed ssid) d start o turns j is l = absurd is
+linked_in told (AtAkm seed ssid psk) d start o turns j is l = absurd is
+linked_in told (AtMdid seed ssid psk) d start o turns j is l = absurd is
+linked_in told (AtNodes e) d start o turns j is l = subst (λ (x : Domain). IsLinked told x start o turns j) is l
+linked_in told (InRound e n) d start o turns j is l = subst (λ (x : Domain). IsLinked told x start o turns j) is l
+
+-- and for it
+pub linked_out : {L : Type 0} (told : L → Option LinkStory) (draft : Draft) (d : Domain) (start : AirStory) (o : Outer L) (turns : List (List Delivery)) (j : List Entry) → IsIn draft d → IsLinked told d start o turns j → IsLinkedAt told draft start o turns j
+linked_out told AtVersion d start o turns j is l = absurd is
+linked_out told AtSeed d start o turns j is l = absurd is
+linked_out told (AtSsid seed) d start o turns j is l = absurd is
+linked_out told (AtPsk seed ssid) d start o turns j is l = absurd is
+linked_out told (AtAkm seed ssid psk) d start o turns j is l = absurd is
+linked_out told (AtMdid seed ssid psk) d start o turns j is l = absurd is
+linked_out told (AtNodes e) d start o turns j is l = subst (λ (x : Domain). IsLinked told x start o turns j) (sym is) l
+linked_out told (InRound e n) d start o turns j is l = subst (λ (x : Domain). IsLinked told x start o turns j) (sym is) l
+
+pub part_out : {L : Type 0} (told : L → Option LinkStory) (draft : Draft) (d : Domain) (start : AirStory) (o : Outer L) (turns : List (List Delivery)) (j : List Entry) → IsIn draft d → IsLinkedPart told d start o turns j → IsLinkedPartAt told draft start o turns j
+part_out told AtVersion d start o turns j is l = absurd is
+part_out told AtSeed d start o turns j is l = absurd is
+part_out told (AtSsid seed) d start o turns j is l = absurd is
+part_out told (AtPsk seed ssid) d start o turns j is l = absurd is
+part_out told (AtAkm seed ssid psk) d start o turns j is l = absurd is
+part_out told (AtMdid seed ssid psk) d start o turns j is l = absurd is
+part_out told (AtNodes e) d start o turns j is l = subst (λ (x : Domain). IsLinkedPart told x start o turns j) (sym is) l
+part_out told (InRound e n) d start o turns j is l = subst (λ (x : Domain). IsLinkedPart told x start o turns j) (sym is) l
+
+-- before the header is whole
+pub unlinked_in : {L : Type 0} (told : L → Option LinkStory) (draft : Draft) (start : AirStory) (o : Outer L) (turns : List (List Delivery)) (j : List Entry) → IsHeader draft → IsLinkedAt told draft start o turns j → IsUnlinked start o turns
+unlinked_in told AtVersion start o turns j due l = l
+unlinked_in told AtSeed start o turns j due l = l
+unlinked_in told (AtSsid seed) start o turns j due l = l
+unlinked_in told (AtPsk seed ssid) start o turns j due l = l
+unlinked_in told (AtAkm seed ssid psk) start o turns j due l = l
+unlinked_in told (AtMdid seed ssid psk) start o turns j due l = l
+unlinked_in told (AtNodes d) start o turns j due l = absurd due
+unlinked_in told (InRound d n) start o turns j due l = absurd due
+
+pub unlinked_out : {L : Type 0} (told : L → Option LinkStory) (draft : Draft) (start : AirStory) (o : Outer L) (turns : List (List Delivery)) (j : List Entry) → IsHeader draft → IsUnlinked start o turns → IsLinkedAt told draft start o turns j
+unlinked_out told AtVersion start o turns j due l = l
+unlinked_out told AtSeed start o turns j due l = l
+unlinked_out told (AtSsid seed) start o turns j due l = l
+unlinked_out told (AtPsk seed ssid) start o turns j due l = l
+unlinked_out told (AtAkm seed ssid psk) start o turns j due l = l
+unlinked_out told (AtMdid seed ssid psk) start o turns j due l = l
+unlinked_out told (AtNodes d) start o turns j due l = absurd due
+unlinked_out told (InRound d n) start o turns j due l = absurd due
+
+-- ---- what a line does to the network
+
+-- it lists one node, before any round: the journal is that of nodes that have started, and those before stand where they stood
+pub record ListsOne (w v : State) (r : Reading) (j k : List Entry) : Type 0 where
+  pub none : r.rounds ≡ 0
+  pub before : j ≡ started w.domain (length w.domain.aps)
+  pub after : k ≡ started v.domain (length v.domain.aps)
+  pub one : count v.domain ≡ count w.domain + 1
+  pub nodes : (i : ℕ) → i < count w.domain → node_at v.domain i ≡ node_at w.domain i
+
+-- access points stand before stations, of which there are none
+low_ap : (d : Domain) (i : ℕ) → i < length d.aps → node_at d i ≡ Ap i
+low_ap d i h = grind (arith, common_steps)
+
+one_ap : (d e : Domain) (address : Mac) (id : List ℕ) → e ≡ with_ap d address id → count e ≡ count d + 1
+one_ap d e address id is =
+    let a : ListedAp = record { address = address; r0kh_id = id } in
+    omega (arith, ap (λ (x : Domain). length x.aps) is, ap (λ (x : Domain). length x.stas) is, length-append d.aps (a ∷ []))
+
+nodes_ap : (d e : Domain) (address : Mac) (id : List ℕ) (i : ℕ) → e ≡ with_ap d address id → d.stas ≡ [] → i < count d → node_at e i ≡ node_at d i
+nodes_ap d e address id i is none h =
+    let a : ListedAp = record { address = address; r0kh_id = id } in
+    let low : i < length d.aps = omega (arith, h, ap (λ (x : List Mac). length x) none) in
+    let also : i < length e.aps = omega (arith, low, ap (λ (x : Domain). length x.aps) is, length-append d.aps (a ∷ [])) in
+    low_ap e i also ∙ sym (low_ap d i low)
+
+one_sta : (d e : Domain) (address : Mac) → e ≡ with_sta d address → count e ≡ count d + 1
+one_sta d e address is =
+    omega (arith, ap (λ (x : Domain). length x.aps) is, ap (λ (x : Domain). length x.stas) is, length-append d.stas (address ∷ []))
+
+nodes_sta : (d e : Domain) (address : Mac) (i : ℕ) → e ≡ with_sta d address → node_at e i ≡ node_at d i
+nodes_sta d e address i is = ap (λ (x : Domain). node_at x i) is
+
+nodes_ask : (w v : State) (a b : Waiting) (event : Event) (j k : List Entry) → DidAsk w v a b event j k → v.domain ≡ w.domain
+nodes_ask w v None None event j k did = did.network
+nodes_ask w v None (Some new) event j k did = absurd did
+nodes_ask w v (Some old) None event j k did = absurd did
+nodes_ask w v (Some old) (Some new) event j k did = ap (λ (x : State). x.domain) did.0.0
+
+nodes_end : (w v : State) (a b : Waiting) (j k : List Entry) → DidEnd w v a b j k → v.domain ≡ w.domain
+nodes_end w v None b j k did = absurd did
+nodes_end w v (Some old) None j k did = did.network
+nodes_end w v (Some old) (Some new) j k did = absurd did
+
+-- or it leaves the network as it was
+pub nodes_then : (w v : State) (a b : Waiting) (r : Reading) (new : Draft) (j k : List Entry) (says : Result Said Fault) (asked : Asked) → IsOwn w a r j → TakesStep r.draft new r.rounds (sizes_of j) says asked → Did w v a b j k asked → (v.domain ≡ w.domain) ⊎ ListsOne w v r j k
+nodes_then w v a b r new j k says step.Nothing own takes did = inl (ap (λ (x : State). x.domain) did.0.0)
+nodes_then w v a b r new j k says step.Network own takes did = absurd did
+nodes_then w v a b r new j k says (step.Ap address id) own (d, (said, (old, (can, (no_stas, first))))) did =
+    let same = (outside r.draft d w a r.sizes j own.at old).0 in
+    let before = own.first (none_run w a r j own first) in
+    inr (record {
+      none = first;
+      before = before;
+      after = did.0.begins before;
+      one = one_ap w.domain v.domain address id did.0.network;
+      nodes = λ i h. nodes_ap w.domain v.domain address id i did.0.network (ap (λ (x : Domain). x.stas) (sym same) ∙ no_stas) h;
+    })
+nodes_then w v a b r new j k says (step.Sta address) own (d, (said, (old, (can, first)))) did =
+    let before = own.first (none_run w a r j own first) in
+    inr (record {
+      none = first;
+      before = before;
+      after = did.0.begins before;
+      one = one_sta w.domain v.domain address did.0.network;
+      nodes = λ i h. nodes_sta w.domain v.domain address i did.0.network;
+    })
+nodes_then w v a b r new j k says (step.Event event) own takes did = inl (nodes_ask w v a b event j k did)
+nodes_then w v a b r new j k says step.Round own takes did = inl (ap (λ (x : State). x.domain) did.0.0)
+nodes_then w v a b r new j k says step.End own takes did = inl (nodes_end w v a b j k did)
+nodes_then w v a b r new j k says step.Draw own takes did = absurd did
+nodes_then w v a b r new j k says step.Turn own takes did = absurd did
+
+-- the world of a network that the header told
+pub record IsFirst (v : State) : Type 0 where
+  pub none : count v.domain ≡ 0
+  pub no_rounds : v.rounds ≡ 0
+
+no_count : (d : Domain) → IsNetwork d → count d ≡ 0
+no_count d network = omega (arith, ap (λ (x : List ListedAp). length x) network.no_aps, ap (λ (x : List Mac). length x) network.no_stas)
+
+pub first_then : (r : Reading) (new : Draft) (v : State) (j : List Entry) (says : Result Said Fault) (asked : Asked) → TakesStep r.draft new r.rounds (sizes_of j) says asked → IsBegun new asked (Some v) → IsFirst v
+first_then r new v j says step.Nothing takes begun = let e : Some v ≡ None = begun in absurd cc
+first_then r new v j says step.Network takes begun =
+    let both : AtNodes takes.0 ≡ AtNodes v.domain = sym takes.1.1.0 ∙ begun.network in
+    let same : takes.0 ≡ v.domain = cc in
+    record { none = ap count (sym same) ∙ no_count takes.0 takes.1.1.1.0; no_rounds = begun.none }
+first_then r new v j says (step.Ap address id) takes begun = absurd begun
+first_then r new v j says (step.Sta address) takes begun = absurd begun
+first_then r new v j says (step.Event event) takes begun = absurd begun
+first_then r new v j says step.Round takes begun = absurd begun
+first_then r new v j says step.End takes begun = absurd begun
+first_then r new v j says step.Draw takes begun = absurd begun
+first_then r new v j says step.Turn takes begun = absurd begun
+
+-- ---- links by the answer
+
+-- all went out, or a front of it
+abbrev pub LinkedBy : {L T : Type 0} → (L → Option LinkStory) → Domain → AirStory → Outer L → List (List Delivery) → List Entry → Result T LinkError → Type 0
+LinkedBy told d start o turns k (Ok x) = IsLinked told d start o turns k
+LinkedBy told d start o turns k (Err error) = IsLinkedPart told d start o turns k
+
+abbrev pub LinkedAtBy : {L T : Type 0} → (L → Option LinkStory) → Draft → AirStory → Outer L → List (List Delivery) → List Entry → Result T LinkError → Type 0
+LinkedAtBy told draft start o turns k (Ok x) = IsLinkedAt told draft start o turns k
+LinkedAtBy told draft start o turns k (Err error) = IsLinkedPartAt told draft start o turns k
+
+by_out : {L T : Type 0} (told : L → Option LinkStory) (draft : Draft) (d : Domain) (start : AirStory) (o : Outer L) (turns : List (List Delivery)) (k : List Entry) (result : Result T LinkError) → IsIn draft d → LinkedBy told d start o turns k result → LinkedAtBy told draft start o turns k result
+by_out told draft d start o turns k (Ok x) is l = linked_out told draft d start o turns k is l
+by_out told draft d start o turns k (Err error) is l = part_out told draft d start o turns k is l
+
+pub heard_part : (d : Domain) (frames : ℕ → List (List ℕ)) (turns : List (List Delivery)) → AreHeard d frames turns → IsHeardPart d frames turns
+unfolding AreHeard
+heard_part d frames [] heard = tt
+heard_part d frames (given ∷ turns) heard = (heard.0, ([], append-nil given ∙ heard.1))
+
+pub heard_none : (d : Domain) (frames : ℕ → List (List ℕ)) (turns : List (List Delivery)) → turns ≡ [] → AreHeard d frames turns
+unfolding AreHeard
+heard_none d frames [] none = tt
+heard_none d frames (given ∷ turns) none = absurd cc
+
+-- as many links, of the same air
+pub same_links : (d : Domain) (start : AirStory) (n m : ℕ) (air other : Option AirStory) → m ≡ n → other ≡ air → HasLinks d start n air → HasLinks d start m other
+same_links d start n m air other links same was =
+    subst (λ (x : ℕ). HasLinks d start x other) (sym links) (subst (λ (x : Option AirStory). HasLinks d start n x) (sym same) was)
+
+-- ---- frames are sent
+
+linked_sent : {L T : Type 0} (told : L → Option LinkStory) (d : Domain) (rounds : ℕ) (start : AirStory) (old new : Outer L) (turns : List (List Delivery)) (j k : List Entry) (result : Result T LinkError) → Grows rounds j k → IsLinked told d start old turns j → Carries told d (length j) k old new result
+    → LinkedBy told d start new turns k result
+linked_sent told d rounds start old new turns j k (Ok x) more was c =
+    let out = c.sends_out (omega (arith, was.all)) in
+    record {
+      all = out.len ∙ was.all;
+      attached = same_links d start (length old.links) (length new.links) old.air new.air out.len out.air was.attached;
+      heard = was.heard;
+      tell = Tell-same told d new.links (left_behind (frames_at d start) (length turns)) _ (sends_for d k) (sends_more d rounds j k (drop (length j) (reverse k)) more refl)
+          (out.sent (left_behind (frames_at d start) (length turns)) (sends_for d j) was.tell);
+    }
+linked_sent told d rounds start old new turns j k (Err error) more was c =
+    let out = c.sends_out (omega (arith, was.all)) in
+    let news : List Send = sends d (drop (length j) (reverse k)) in
+    let part : (front rest : List Send) × (front ++ rest ≡ news) × Tell told d new.links (left_behind (frames_at d start) (length turns)) (sends_for d j ++ front) =
+    out.sent (left_behind (frames_at d start) (length turns)) (sends_for d j) was.tell in
+    record {
+      most = omega (arith, out.len, was.all);
+      all = omega (arith, out.len, was.all);
+      attached = same_links d start (length old.links) (length new.links) old.air new.air out.len out.air was.attached;
+      heard = heard_part d (frames_at d start) turns was.heard;
+      part = record {
+        front = sends_for d j ++ part.0;
+        rest = part.1;
+        left = left_behind (frames_at d start) (length turns);
+        whole = append_assoc (sends_for d j) part.0 part.1 ∙ ap (λ (w : List Send). sends_for d j ++ w) part.2 ∙ sends_more d rounds j k (drop (length j) (reverse k)) more refl;
+        tell = part.3;
+      };
+    }
+
+-- ---- a node is attached
+
+-- an entry that sends nothing
+one_quiet : (d : Domain) (e : Entry) (past : List Entry) → sends_of d e ≡ [] → sends_for d past ≡ [] → sends_for d (e ∷ past) ≡ []
+one_quiet d e past quiet none =
+    sym (sends-two d (reverse past) (e ∷ []) (reverse (e ∷ past)) (reverse-append (e ∷ []) past)) ∙ ap (λ (w : List Send). w ++ sends d (e ∷ [])) none ∙ ap (λ (w : List Send). w ++ []) quiet
+
+push_quiet : (d : Domain) (n : Node) (acts : List Act) (past : List Entry) → AllByRecursion (λ (act : Act). frame_sent act ≡ None) acts → sends_for d past ≡ [] → sends_for d (push 0 n acts past) ≡ []
+push_quiet d n [] past quiet none = none
+push_quiet d n (act ∷ g) past quiet none =
+    let e : Entry = record { round = 0; node = n; number = number_of act past; act = act } in
+    push_quiet d n g (e ∷ past) quiet.1 (one_quiet d e past (ap (λ (o : Option (List ℕ)). sends_by (place_of d n) (frames_out d o)) quiet.0) none)
+
+-- nodes that start send nothing
+started_sends : (d e : Domain) (n : ℕ) → sends_for e (started d n) ≡ []
+unfolding started
+started_sends d e zero = refl
+started_sends d e (suc n) = push_quiet e (Ap n) (start_acts d 0 (Ap n)) (started d n) (refl, (refl, tt)) (started_sends d e n)
+
+start_quiet : (d e : Domain) (n : ℕ) (j : List Entry) → j ≡ started d n → sends_for e j ≡ []
+start_quiet d e n j is = ap (λ (w : List Entry). sends_for e w) is ∙ started_sends d e n
+
+-- no turn took any
+none_left : (frames : List (List ℕ)) (turns : List (List Delivery)) → turns ≡ [] → drop (16 * length turns) frames ≡ frames
+none_left frames [] none = refl
+none_left frames (given ∷ turns) none = absurd cc
+
+abbrev story : Node → List SentFrame → List (List ℕ) → LinkStory
+story node sent left = record { node = node; sent = sent; left = left }
+
+same_story : (n m : Node) (s t : List SentFrame) (x y : List (List ℕ)) → n ≡ m → s ≡ t → x ≡ y → story n s x ≡ story m t y
+same_story n m s t x y node sent left = ap (λ (z : Node). story z s x) node ∙ ap (λ (z : List SentFrame). story m z x) sent ∙ ap (λ (z : List (List ℕ)). story m t z) left
+
+-- the links so far are attached ones of the network with one more
+attached_was : {L : Type 0} (told : L → Option LinkStory) (d e : Domain) (start : AirStory) (old : Outer L) (turns : List (List Delivery)) (j : List Entry) → ((i : ℕ) → i < count d → node_at e i ≡ node_at d i) → turns ≡ [] → sends_for d j ≡ [] → IsLinked told d start old turns j
+    → Attached told e start old.links old.air
+attached_was told d e start old turns j nodes none quiet was = record {
+  now = was.attached.now;
+  is = was.attached.is;
+  frames = λ node behind. was.attached.others node (λ i h same. behind i h (nodes i (omega (arith, h, was.all)) ∙ same));
+  returned = was.attached.returned;
+  tell = record {
+    each = λ i l h. (let node : node_at d i ≡ node_at e i = sym (nodes i (omega (arith, h, was.all))) in
+        was.tell.each i l h ∙ ap Some (same_story (node_at d i) (node_at e i) (sent_by i (sends_for d j)) (sent_by i []) (left_behind (frames_at d start) (length turns) i) (frames_at e start i)
+        node (ap (sent_by i) quiet) (none_left (frames_at d start i) turns none ∙ ap start.frames node)));
+  };
+}
+
+linked_attached : {L T : Type 0} (told : L → Option LinkStory) (w v : State) (r : Reading) (start : AirStory) (old new : Outer L) (turns : List (List Delivery)) (j k : List Entry) (result : Result T LinkError) → ListsOne w v r j k → turns ≡ [] → IsLinked told w.domain start old turns j
+    → Carries told v.domain (length j) k old new result → LinkedBy told v.domain start new turns k result
+linked_attached told w v r start old new turns j k (Ok x) one none was c =
+    let a = c.attaches (omega (arith, was.all, one.one)) in
+    let more : length new.links ≡ length old.links + 1 = a.more in
+    let now = a.attached start (attached_was told w.domain v.domain start old turns j one.nodes none (start_quiet w.domain w.domain (length w.domain.aps) j one.before) was) in
+    let quiet = start_quiet v.domain v.domain (length v.domain.aps) k one.after in
+    record {
+      all = omega (arith, more, was.all, one.one);
+      attached = record { now = now.now; is = now.is; others = now.frames; returned = now.returned };
+      heard = heard_none v.domain (frames_at v.domain start) turns none;
+      tell = Tell-left told v.domain new.links (frames_at v.domain start) (left_behind (frames_at v.domain start) (length turns)) (sends_for v.domain k) (λ i h. sym (none_left (frames_at v.domain start i) turns none))
+          (Tell-same told v.domain new.links (frames_at v.domain start) [] (sends_for v.domain k) (sym quiet) now.tell);
+    }
+linked_attached told w v r start old new turns j k (Err error) one none was c =
+    let a = c.attaches (omega (arith, was.all, one.one)) in
+    let same : new.links ≡ old.links = a.same in
+    let long : length new.links ≡ length old.links = ap (λ (l : List _). length l) same in
+    let now = a.attached start (attached_was told w.domain v.domain start old turns j one.nodes none (start_quiet w.domain w.domain (length w.domain.aps) j one.before) was) in
+    record {
+      most = omega (arith, long, was.all, one.one);
+      all = omega (arith, long, was.all, one.one);
+      attached = record { now = now.now; is = now.is; others = now.frames; returned = now.returned };
+      heard = heard_part v.domain (frames_at v.domain start) turns (heard_none v.domain (frames_at v.domain start) turns none);
+      part = record {
+        front = [];
+        rest = [];
+        left = frames_at v.domain start;
+        whole = sym (start_quiet v.domain v.domain (length v.domain.aps) k one.after);
+        tell = now.tell;
+      };
+    }
+
+-- ---- the header is whole
+
+linked_first : {L T : Type 0} (told : L → Option LinkStory) (v : State) (start : AirStory) (old new : Outer L) (turns : List (List Delivery)) (j k : List Entry) (result : Result T LinkError) → IsFirst v → k ≡ [] → IsUnlinked start old turns → Carries told v.domain (length j) k old new result
+    → LinkedBy told v.domain start new turns k result
+linked_first told v start old new turns j k (Ok x) first empty was c =
+    let out = c.sends_out (omega (arith, first.none)) in
+    let none : length new.links ≡ 0 = out.len ∙ ap (λ (l : List _). length l) was.none in
+    record {
+      all = none ∙ sym first.none;
+      attached = record { now = start; is = out.air ∙ was.same; others = λ node behind. refl; returned = refl };
+      heard = heard_none v.domain (frames_at v.domain start) turns was.no_turns;
+      tell = record { each = λ i l h. absurd (omega (arith, h, none)) };
+    }
+linked_first told v start old new turns j k (Err error) first empty was c =
+    let out = c.sends_out (omega (arith, first.none)) in
+    let none : length new.links ≡ 0 = out.len ∙ ap (λ (l : List _). length l) was.none in
+    record {
+      most = omega (arith, none);
+      all = omega (arith, none, first.none);
+      attached = record { now = start; is = out.air ∙ was.same; others = λ node behind. refl; returned = refl };
+      heard = heard_part v.domain (frames_at v.domain start) turns (heard_none v.domain (frames_at v.domain start) turns was.no_turns);
+      part = record {
+        front = [];
+        rest = [];
+        left = frames_at v.domain start;
+        whole = sym (ap (λ (w : List Entry). sends_for v.domain w) empty);
+        tell = record { each = λ i l h. absurd (omega (arith, h, none)) };
+      };
+    }
+
+-- ---- all of it
+
+-- how links are met behind a line
+pub linked_line : {L T : Type 0} (told : L → Option LinkStory) (r s : Reading) (world v : Option State) (a b : Waiting) (start : AirStory) (old new : Outer L) (turns : List (List Delivery)) (line : List ℕ) (j k : List Entry) (asked : Asked) (result : Result T LinkError)
+    → IsWorldOf world a r j → HasRead r s (sizes_of j) line asked → DidRun world v a b s.draft j k asked → IsWorldOf v b s k → (r.rounds ≡ 0 → turns ≡ []) → Grows (run_count world) j k → GoesOut told Live v (length j) k old new result → IsLinkedAt told r.draft start old turns j
+    → LinkedAtBy told s.draft start new turns k result
+linked_line told r s None None a b start old new turns line j k asked (Ok x) is read did after none more goes l =
+    unlinked_out told s.draft start new turns k after.due (subst (λ (o : Outer _). IsUnlinked start o turns) (sym goes.0) (unlinked_in told r.draft start old turns j is.due l))
+linked_line told r s None None a b start old new turns line j k asked (Err error) is read did after none more goes l = absurd goes.1
+linked_line told r s None (Some v) a b start old new turns line j k asked result is read did after none more goes l =
+    by_out told s.draft v.domain start new turns k result (is_in s.draft v b s.sizes k after.at)
+    (linked_first told v start old new turns j k result (first_then r s.draft v j _ asked read.1.1.1.1 did.0) (did.1.0 ∙ is.no_entries) (unlinked_in told r.draft start old turns j is.due l) goes)
+linked_line told r s (Some w) None a b start old new turns line j k asked result is read did after none more goes l = absurd did
+linked_line told r s (Some w) (Some v) a b start old new turns line j k asked result is read did after none more goes l =
+    let was = linked_in told r.draft w.domain start old turns j (is_in r.draft w a r.sizes j is.at) l in
+    by_out told s.draft v.domain start new turns k result (is_in s.draft v b s.sizes k after.at) (elim (nodes_then w v a b r s.draft j k _ asked is read.1.1.1.1 did.1) [
+      | inl same ↦ subst (λ (x : Domain). LinkedBy told x start new turns k result) (sym same)
+          (linked_sent told w.domain w.rounds start old new turns j k result more was (subst (λ (x : Domain). Carries told x (length j) k old new result) same goes))
+      | inr one ↦ linked_attached told w v r start old new turns j k result one (none one.none) was goes
+    ])
+
+-- how many links there are then
+pub links_then : {L T : Type 0} (told : L → Option LinkStory) (m : Mode) (r s : Reading) (world v : Option State) (a b : Waiting) (old new : Outer L) (line : List ℕ) (j k : List Entry) (asked : Asked) (x : T) → length old.links ≡ links_due m world
+    → IsWorldOf world a r j → HasRead r s (sizes_of j) line asked → DidRun world v a b s.draft j k asked → GoesOut {L = L} {T = T} told m v (length j) k old new (Ok x) → length new.links ≡ links_due m v
+links_then told Replay r s world v a b old new line j k asked x due is read did goes = ap (λ (o : Outer _). length o.links) goes.0 ∙ due
+links_then told Live r s None None a b old new line j k asked x due is read did goes = ap (λ (o : Outer _). length o.links) goes.0 ∙ due
+links_then told Live r s None (Some v) a b old new line j k asked x due is read did goes =
+    let first = first_then r s.draft v j _ asked read.1.1.1.1 did.0 in
+    (goes.sends_out (omega (arith, first.none))).len ∙ due ∙ sym first.none
+links_then told Live r s (Some w) None a b old new line j k asked x due is read did goes = absurd did
+links_then told Live r s (Some w) (Some v) a b old new line j k asked x due is read did goes =
+    elim (nodes_then w v a b r s.draft j k _ asked is read.1.1.1.1 did.1) [
+      | inl same ↦ (goes.sends_out (omega (arith, due, ap count same))).len ∙ due ∙ ap count (sym same)
+      | inr one ↦ let more : length new.links ≡ length old.links + 1 = (goes.attaches (omega (arith, due, one.one))).more in omega (arith, more, due, one.one)
+    ]

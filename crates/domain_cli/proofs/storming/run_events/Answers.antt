@@ -1,0 +1,12 @@
+use Rattle.std.proofs.Common.{◌≡◌, ℕ, subst, arith}
+use Rattle.domain_cli.specs.Courses.{IsSoFar}
+use Rattle.domain_cli.specs.Storms.{all_events}
+use Rattle.domain_cli.proofs.Courses.{under_way_so_far}
+use Rattle.domain_cli.proofs.storming.run_events.Goals as goal
+
+pub returns-clause-whole : goal.returns-clause-whole
+returns-clause-whole c =
+    let w = c.loop-count.world in
+    let j = c.loop-count.journal.entries in
+    let all : w.rounds ≡ all_events = omega (arith, c.loop-count.invariant.rounds, c.loop-count.auto.count-end, c.loop-count-test.false) in
+    subst (λ (n : ℕ). IsSoFar n 4 8 all_events j) c.loop-count.invariant.number_is (under_way_so_far c.loop-count.storm w j all_events c.loop-count.invariant.under_way all)

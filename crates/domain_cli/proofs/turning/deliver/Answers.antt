@@ -1,0 +1,45 @@
+use Rattle.std.proofs.Common.{◌≡◌, ℕ, List, ◌++◌, drop, refl, ap, subst, ◌∙◌, arith}
+use Rattle.std.specs.Prelude.{reverse}
+use Rattle.run_journal.specs.declared.domain.Domain.{Domain}
+use Rattle.domain_links.specs.NodeOrder.{node_at}
+use Rattle.domain_links.specs.Sends.{Send, sends}
+use Rattle.domain_links.specs.Telling.{Tell}
+use Rattle.domain_links.proofs.Taking.{delivers_none, delivers_ok, delivers_err}
+use Rattle.domain_cli.specs.Turning.{IsTaken, sent_by_then, stage}
+use Rattle.domain_cli.proofs.Turned.{same_stage, step_longer, step_sends, taken_round}
+use Rattle.domain_cli.proofs.turning.deliver.Goals as goal
+
+pub returns-in_default-clause-delivers : goal.returns-in_default-clause-delivers
+returns-in_default-clause-delivers g c = delivers_none g.L.Link.told c.args.world.now.domain IsTaken (sent_by_then c.args.world.now.domain) c.args.place c.args.octets.now _ _ _ _ refl
+
+pub returns-in_default-event-clause-delivers : goal.returns-in_default-event-clause-delivers
+returns-in_default-event-clause-delivers g c =
+    delivers_none g.L.Link.told c.args.world.now.domain IsTaken (sent_by_then c.args.world.now.domain) c.args.place c.args.octets.now _ _ _ _ (same_stage _ _ _ _ c.in_default-event.ensures.same c.in_default-event.ensures.kept)
+
+pub news-requires : goal.news-requires
+news-requires g c = omega (arith, c.len-from.ensures, step_longer c.args.world.now.domain c.args.world.now.rounds _ c.args.journal.now.entries c.event.new.journal.entries c.in-Ok-event.ensures.step)
+
+pub returns-in-Ok-send_entries-clause-delivers : goal.returns-in-Ok-send_entries-clause-delivers
+returns-in-Ok-send_entries-clause-delivers g c =
+    let w = c.args.world.now in
+    let j = c.args.journal.now.entries in
+    let k = c.event.new.journal.entries in
+    let news = c.news.result.now in
+    let out = subst (λ (d : Domain). (left : ℕ → List (List ℕ)) (b : List Send) → Tell g.L.Link.told d c.args.links.now.items left b → Tell g.L.Link.told d c.send_entries.new.links.items left (b ++ sends d news))
+    (c.domain-2.ensures ∙ c.in-Ok-event.ensures.domain) c.in-Ok-send_entries.ensures.sent in
+    delivers_ok g.L.Link.told w.domain IsTaken (sent_by_then w.domain) c.args.place c.args.octets.now _ _ (stage w j) (stage c.event.new.self k) (sends w.domain news) _
+    (taken_round w c.event.new.self _ c.node_at-to.result c.args.octets.now c.in-Ok.octets j k (c.node_at-to.ensures ∙ ap (λ (d : Domain). node_at d c.args.place) c.domain.ensures) c.in-Ok.ensures c.in-Ok-event.ensures.domain c.in-Ok-event.ensures.rounds c.in-Ok-event.ensures.step)
+    (step_sends w.domain w.rounds _ j k news c.in-Ok-event.ensures.step (c.news.ensures ∙ ap (λ (n : ℕ). drop n (reverse k)) c.len-from.ensures)) out
+
+pub returns-clause-delivers : goal.returns-clause-delivers
+returns-clause-delivers g c =
+    let w = c.args.world.now in
+    let j = c.args.journal.now.entries in
+    let k = c.event.new.journal.entries in
+    let news = c.news.result.now in
+    let out = subst (λ (d : Domain). (left : ℕ → List (List ℕ)) (b : List Send) → Tell g.L.Link.told d c.args.links.now.items left b
+    → (front rest : List Send) × (front ++ rest ≡ sends d news) × Tell g.L.Link.told d c.send_entries.new.links.items left (b ++ front))
+    (c.domain-2.ensures ∙ c.in-Ok-event.ensures.domain) c.in-Err.ensures.sent in
+    delivers_err g.L.Link.told w.domain IsTaken (sent_by_then w.domain) c.args.place c.args.octets.now _ _ (stage w j) (stage c.event.new.self k) (sends w.domain news) _
+    (taken_round w c.event.new.self _ c.node_at-to.result c.args.octets.now c.in-Ok.octets j k (c.node_at-to.ensures ∙ ap (λ (d : Domain). node_at d c.args.place) c.domain.ensures) c.in-Ok.ensures c.in-Ok-event.ensures.domain c.in-Ok-event.ensures.rounds c.in-Ok-event.ensures.step)
+    (step_sends w.domain w.rounds _ j k news c.in-Ok-event.ensures.step (c.news.ensures ∙ ap (λ (n : ℕ). drop n (reverse k)) c.len-from.ensures)) out

@@ -1,0 +1,23 @@
+use Rattle.domain_links.proofs.Taking.{takes_ok, takes_err, takes_none, takes_fault, some_of, none_of}
+use Rattle.domain_cli.specs.Turning.{IsTaken, sent_by_then}
+use Rattle.domain_cli.proofs.turning.take_next.Goals as goal
+
+pub returns-in-Ok-clause-takes : goal.returns-in-Ok-clause-takes
+returns-in-Ok-clause-takes g c =
+    let d = c.args.world.now.domain in
+    takes_ok g.L.Link.told d IsTaken (sent_by_then d) _ _ _ _ _ _ _ _ _ (λ left tell. some_of _ _ _ _ c.in-Ok-Some.field-0-is (c.in-Ok-Some.ensures.polled d left _ tell)) c.in-Ok.ensures.delivers
+
+pub returns-in-Err-deliver-clause-takes : goal.returns-in-Err-deliver-clause-takes
+returns-in-Err-deliver-clause-takes g c =
+    let d = c.args.world.now.domain in
+    takes_err g.L.Link.told d IsTaken (sent_by_then d) _ _ _ _ _ _ _ _ _ (λ left tell. some_of _ _ _ _ c.in-Ok-Some.field-0-is (c.in-Ok-Some.ensures.polled d left _ tell)) c.in-Err-deliver.ensures.delivers
+
+pub returns-in-Ok-None-clause-takes : goal.returns-in-Ok-None-clause-takes
+returns-in-Ok-None-clause-takes g c =
+    let d = c.args.world.now.domain in
+    takes_none g.L.Link.told d IsTaken (sent_by_then d) _ _ _ _ _ (λ left tell. none_of _ _ _ c.in-Ok-None.field-0-is (c.in-Ok-None.ensures.polled d left _ tell))
+
+pub returns-in-Err-clause-takes : goal.returns-in-Err-clause-takes
+returns-in-Err-clause-takes g c =
+    let d = c.args.world.now.domain in
+    takes_fault g.L.Link.told d IsTaken (sent_by_then d) _ _ _ _ _ (λ left tell. c.in-Err.ensures.polled d left _ tell)

@@ -1,0 +1,7 @@
+pub mod Attachment
+pub mod Going
+pub mod OnePoll
+pub mod Returned
+pub mod Taking
+pub mod Turning
+pub mod Unfailed

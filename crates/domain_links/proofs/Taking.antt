@@ -1,0 +1,270 @@
+-- Deliveries to one node put together, each a frame that its link gave.
+use Rattle.std.proofs.Common.{◌≡◌, ◌≢◌, ℕ, ◌+◌, ◌-◌, ◌≤◌, ◌==◌, ◌⊎◌, List, [], ◌∷◌, ◌++◌, length, take, drop, Option, Some, None, Ok, Err, refl, sym, ap, subst, ◌∙◌, append_assoc, arith, true, false, inl, inr}
+use Rattle.std.proofs.lemmas.Grind.{common_steps}
+use Rattle.std.proofs.lemmas.List.{append-nil, map-append, length-append, drop-drop}
+use Rattle.std.proofs.lemmas.Bool.Decides.{eqb_tells}
+use Rattle.std.proofs.Math.Seq.{take-add, take-nil, drop-nil}
+use Rattle.std.specs.Prelude.{MatchOption}
+use Rattle.domain_base.specs.declared.names.Node.{Node}
+use Rattle.domain_base.specs.Told.{LinkStory}
+use Rattle.run_journal.specs.declared.domain.Domain.{Domain}
+use Rattle.domain_links.specs.NodeOrder.{node_at}
+use Rattle.domain_links.specs.Sends.{Send}
+use Rattle.domain_links.specs.Telling.{Tell, TellPart, Polled, left_after}
+use Rattle.domain_links.specs.Turns.{Delivery, Rounds, Delivers, Takes, TookAll, TookPart, of_node, cut}
+use Rattle.domain_links.proofs.Going.{Tell-same}
+use Rattle.domain_links.proofs.OnePoll.{Tell-left, left_own, left_other}
+
+pub some_of : {A : Type 0} (P : Type 0) (Q : A → Type 0) (o : Option A) (x : A) → o ≡ Some x → MatchOption o P Q → Q x
+some_of P Q o x e h = subst (λ (w : Option _). MatchOption w P Q) e h
+
+pub none_of : {A : Type 0} (P : Type 0) (Q : A → Type 0) (o : Option A) → o ≡ None → MatchOption o P Q → P
+none_of P Q o e h = subst (λ (w : Option _). MatchOption w P Q) e h
+
+-- ---- rounds
+
+pub Rounds-none : {S : Type 0} (Round : Node → List ℕ → S → S → Type 0) (before after : S) → after ≡ before → Rounds Round [] before after
+unfolding Rounds
+Rounds-none Round before after e = e
+
+pub Rounds-one : {S : Type 0} (Round : Node → List ℕ → S → S → Type 0) (node : Node) (octets : List ℕ) (before after : S) → Round node octets before after → Rounds Round (of_node node (octets ∷ [])) before after
+unfolding Rounds
+Rounds-one Round node octets before after h = record { mid = after; round = h; rest = refl }
+
+pub Rounds-two : {S : Type 0} (Round : Node → List ℕ → S → S → Type 0) (xs ys : List Delivery) (before mid after : S) → Rounds Round xs before mid → Rounds Round ys mid after → Rounds Round (xs ++ ys) before after
+unfolding Rounds
+Rounds-two Round [] ys before mid after h k = subst (λ (s : _). Rounds Round ys s after) h k
+Rounds-two Round (x ∷ xs) ys before mid after h k = record { mid = h.mid; round = h.round; rest = Rounds-two Round xs ys h.mid mid after h.rest k }
+
+pub Rounds-same : {S : Type 0} (Round : Node → List ℕ → S → S → Type 0) (xs ys : List Delivery) (before after : S) → xs ≡ ys → Rounds Round xs before after → Rounds Round ys before after
+Rounds-same Round xs ys before after e h = subst (λ (w : List Delivery). Rounds Round w before after) e h
+
+pub of_two : (node : Node) (xs ys : List (List ℕ)) → of_node node (xs ++ ys) ≡ of_node node xs ++ of_node node ys
+of_two node xs ys = map-append _ xs ys
+
+-- ---- one delivery
+
+-- a node that took nothing, for want of memory
+pub delivers_none : {S L T E : Type 0} (told : L → Option LinkStory) (d : Domain) (Round : Node → List ℕ → S → S → Type 0) (all : S → List Send) (place : ℕ) (octets : List ℕ) (links : List L) (before after : S) (e : E) → after ≡ before → Delivers {S = S} {L = L} {T = T} {E = E} told d Round all place octets links links before after (Err e)
+delivers_none told d Round all place octets links before after e same = record {
+  given = [];
+  few = inr refl;
+  rounds = Rounds-none Round before after same;
+  tells = λ left tell. record { front = all after; rest = []; left = left; whole = append-nil (all after); tell = Tell-same told d links left _ _ (ap all (sym same)) tell };
+}
+
+-- one that took the octets, and all that it sent went out
+pub delivers_ok : {S L T E : Type 0} (told : L → Option LinkStory) (d : Domain) (Round : Node → List ℕ → S → S → Type 0) (all : S → List Send) (place : ℕ) (octets : List ℕ) (links_old links_new : List L) (before after : S) (news : List Send) (x : T) → Round (node_at d place) octets before after → all before ++ news ≡ all after → ((left : ℕ → List (List ℕ)) (b : List Send) → Tell told d links_old left b → Tell told d links_new left (b ++ news)) → Delivers {S = S} {L = L} {T = T} {E = E} told d Round all place octets links_old links_new before after (Ok x)
+delivers_ok told d Round all place octets links_old links_new before after news x round is out = record {
+  given = octets ∷ [];
+  few = inl refl;
+  rounds = Rounds-one Round (node_at d place) octets before after round;
+  tells = λ left tell. (refl, Tell-same told d links_new left _ _ is (out left (all before) tell));
+}
+
+-- or a front of it
+pub delivers_err : {S L T E : Type 0} (told : L → Option LinkStory) (d : Domain) (Round : Node → List ℕ → S → S → Type 0) (all : S → List Send) (place : ℕ) (octets : List ℕ) (links_old links_new : List L) (before after : S) (news : List Send) (x : E) → Round (node_at d place) octets before after → all before ++ news ≡ all after → ((left : ℕ → List (List ℕ)) (b : List Send) → Tell told d links_old left b → (front rest : List Send) × (front ++ rest ≡ news) × Tell told d links_new left (b ++ front)) → Delivers {S = S} {L = L} {T = T} {E = E} told d Round all place octets links_old links_new before after (Err x)
+delivers_err told d Round all place octets links_old links_new before after news x round is out = record {
+  given = octets ∷ [];
+  few = inl refl;
+  rounds = Rounds-one Round (node_at d place) octets before after round;
+  tells = λ left tell.
+      let o = out left (all before) tell in
+      record {
+        front = all before ++ o.0;
+        rest = o.1;
+        left = left;
+        whole = append_assoc (all before) o.0 o.1 ∙ ap (λ (w : List Send). all before ++ w) o.2 ∙ is;
+        tell = o.3;
+      };
+}
+
+-- ---- one poll
+
+-- a frame that came, as it is taken
+came : {L : Type 0} (told : L → Option LinkStory) (d : Domain) (links : List L) (place : ℕ) (left : ℕ → List (List ℕ)) (all : List Send) (octets : List ℕ) → Polled told d links place left all octets → octets ∷ [] ≡ cut (take 1 (left place))
+came told d links place left all octets p = ap (λ (w : List ℕ). w ∷ []) p.octets_are ∙ sym (ap cut p.first)
+
+few_one : (given : List (List ℕ)) (octets : List ℕ) → (given ≡ octets ∷ []) ⊎ (given ≡ []) → length given ≤ 1
+few_one given octets = elim [ inl e ↦ omega (arith, ap length e) | inr e ↦ omega (arith, ap length e) ]
+
+pub takes_ok : {S L E T F V : Type 0} (told : L → Option LinkStory) (d : Domain) (Round : Node → List ℕ → S → S → Type 0) (all : S → List Send) (place : ℕ) (octets : List ℕ) (links_old links_mid links_new : List L) (before after : S) (x : V) (y : T) → ((left : ℕ → List (List ℕ)) → Tell told d links_old left (all before) → Polled told d links_mid place left (all before) octets) → Delivers {S = S} {L = L} {T = T} {E = E} told d Round all place octets links_mid links_new before after (Ok y) → Takes {S = S} {L = L} {T = V} {E = F} told d Round all place 1 links_old links_new before after (Ok x)
+takes_ok told d Round all place octets links_old links_mid links_new before after x y polled v = record {
+  given = v.given;
+  few = few_one v.given octets v.few;
+  rounds = v.rounds;
+  tells = λ left tell.
+      let p = polled left tell in
+      let t = v.tells (left_after left place 1) p.tell in
+      record { all_of = t.0 ∙ came told d links_mid place left (all before) octets p; tell = t.1 };
+}
+
+took_part : {S L : Type 0} (told : L → Option LinkStory) (d : Domain) (all : S → List Send) (place : ℕ) (octets : List ℕ) (links_mid links_new : List L) (before after : S) (left : ℕ → List (List ℕ)) (given : List (List ℕ)) → Polled told d links_mid place left (all before) octets → TellPart told d links_new (all after) → (given ≡ octets ∷ []) ⊎ (given ≡ []) → TookPart told d all place 1 links_new after left given
+took_part told d all place octets links_mid links_new before after left given p part = elim [
+  | inl e ↦ record { rest = []; whole = append-nil given ∙ e ∙ came told d links_mid place left (all before) octets p; part = part }
+  | inr e ↦ record { rest = octets ∷ []; whole = ap (λ (w : List (List ℕ)). w ++ octets ∷ []) e ∙ came told d links_mid place left (all before) octets p; part = part }
+]
+
+pub takes_err : {S L E T F V : Type 0} (told : L → Option LinkStory) (d : Domain) (Round : Node → List ℕ → S → S → Type 0) (all : S → List Send) (place : ℕ) (octets : List ℕ) (links_old links_mid links_new : List L) (before after : S) (x : F) (y : E) → ((left : ℕ → List (List ℕ)) → Tell told d links_old left (all before) → Polled told d links_mid place left (all before) octets) → Delivers {S = S} {L = L} {T = T} {E = E} told d Round all place octets links_mid links_new before after (Err y) → Takes {S = S} {L = L} {T = V} {E = F} told d Round all place 1 links_old links_new before after (Err x)
+takes_err told d Round all place octets links_old links_mid links_new before after x y polled v = record {
+  given = v.given;
+  few = few_one v.given octets v.few;
+  rounds = v.rounds;
+  tells = λ left tell.
+      let p = polled left tell in
+      took_part told d all place octets links_mid links_new before after left v.given p (v.tells (left_after left place 1) p.tell) v.few;
+}
+
+-- a link that has none left stays as it is
+left_empty : (left : ℕ → List (List ℕ)) (p n i : ℕ) → drop n (left p) ≡ left p → left i ≡ left_after left p n i
+left_empty left p n i e =
+    let cases : ((i == p) ≡ true) × (i ≡ p) ⊎ ((i == p) ≡ false) × (i ≢ p) → left i ≡ left_after left p n i =
+    elim [ inl at ↦ rw at.1 (sym (left_own left p n ∙ e)) | inr apart ↦ sym (left_other left p n i apart.1) ]
+    in cases (eqb_tells i p)
+
+pub takes_none : {S L F V : Type 0} (told : L → Option LinkStory) (d : Domain) (Round : Node → List ℕ → S → S → Type 0) (all : S → List Send) (place : ℕ) (links_old links_new : List L) (before : S) (x : V) → ((left : ℕ → List (List ℕ)) → Tell told d links_old left (all before) → (left place ≡ []) × Tell told d links_new left (all before)) → Takes {S = S} {L = L} {T = V} {E = F} told d Round all place 1 links_old links_new before before (Ok x)
+takes_none told d Round all place links_old links_new before x none = record {
+  given = [];
+  few = omega arith;
+  rounds = Rounds-none Round before before refl;
+  tells = λ left tell.
+      let n = none left tell in
+      record {
+        all_of = sym (ap (λ (w : List (List ℕ)). cut (take 1 w)) n.0);
+        tell = Tell-left told d links_new left (left_after left place 1) (all before) (λ i within. left_empty left place 1 i (ap (drop 1) n.0 ∙ sym n.0)) n.1;
+      };
+}
+
+pub takes_fault : {S L F V : Type 0} (told : L → Option LinkStory) (d : Domain) (Round : Node → List ℕ → S → S → Type 0) (all : S → List Send) (place : ℕ) (links_old links_new : List L) (before : S) (x : F) → ((left : ℕ → List (List ℕ)) → Tell told d links_old left (all before) → Tell told d links_new left (all before)) → Takes {S = S} {L = L} {T = V} {E = F} told d Round all place 1 links_old links_new before before (Err x)
+takes_fault told d Round all place links_old links_new before x kept = record {
+  given = [];
+  few = omega arith;
+  rounds = Rounds-none Round before before refl;
+  tells = λ left tell. record {
+    rest = cut (take 1 (left place));
+    whole = refl;
+    part = record { front = all before; rest = []; left = left; whole = append-nil (all before); tell = kept left tell };
+  };
+}
+
+-- ---- up to so many polls of one link
+
+cut_two : (n m : ℕ) (frames : List (List ℕ)) → cut (take n frames) ++ cut (take m (drop n frames)) ≡ cut (take (n + m) frames)
+cut_two n m frames = sym (ap cut (take-add n m frames) ∙ map-append _ (take n frames) (take m (drop n frames)))
+
+after_two : (left : ℕ → List (List ℕ)) (p n m i : ℕ) → left_after (left_after left p n) p m i ≡ left_after left p (n + m) i
+after_two left p n m i =
+    let cases : ((i == p) ≡ true) × (i ≡ p) ⊎ ((i == p) ≡ false) × (i ≢ p) → left_after (left_after left p n) p m i ≡ left_after left p (n + m) i =
+    elim [
+      | inl at ↦ rw at.1 (left_own (left_after left p n) p m ∙ ap (drop m) (left_own left p n) ∙ drop-drop m n (left p) ∙ sym (left_own left p (n + m)))
+      | inr apart ↦ left_other (left_after left p n) p m i apart.1 ∙ left_other left p n i apart.1 ∙ sym (left_other left p (n + m) i apart.1)
+    ] in cases (eqb_tells i p)
+
+after_zero : (left : ℕ → List (List ℕ)) (p i : ℕ) → left_after left p 0 i ≡ left i
+after_zero left p i = grind (arith, common_steps)
+
+-- nothing was taken yet
+pub Takes-start : {S L E T : Type 0} (told : L → Option LinkStory) (d : Domain) (Round : Node → List ℕ → S → S → Type 0) (all : S → List Send) (p : ℕ) (links : List L) (before : S) (x : T) → Takes {S = S} {L = L} {T = T} {E = E} told d Round all p 0 links links before before (Ok x)
+Takes-start told d Round all p links before x = record {
+  given = [];
+  few = omega arith;
+  rounds = Rounds-none Round before before refl;
+  tells = λ left tell. record { all_of = refl; tell = Tell-left told d links left (left_after left p 0) (all before) (λ i within. sym (after_zero left p i)) tell };
+}
+
+more_all : {S L : Type 0} (told : L → Option LinkStory) (d : Domain) (all : S → List Send) (p n m : ℕ) (links : List L) (after : S) (left : ℕ → List (List ℕ)) (xs ys : List (List ℕ)) → xs ≡ cut (take n (left p)) → TookAll told d all p m links after (left_after left p n) ys → TookAll told d all p (n + m) links after left (xs ++ ys)
+more_all told d all p n m links after left xs ys e t = record {
+  all_of = ap (λ (w : List (List ℕ)). w ++ ys) e ∙ ap (λ (w : List (List ℕ)). cut (take n (left p)) ++ w) (t.all_of ∙ ap (λ (w : List (List ℕ)). cut (take m w)) (left_own left p n)) ∙ cut_two n m (left p);
+  tell = Tell-left told d links (left_after (left_after left p n) p m) (left_after left p (n + m)) (all after) (λ i within. after_two left p n m i) t.tell;
+}
+
+more_part : {S L : Type 0} (told : L → Option LinkStory) (d : Domain) (all : S → List Send) (p n m : ℕ) (links : List L) (after : S) (left : ℕ → List (List ℕ)) (xs ys : List (List ℕ)) → xs ≡ cut (take n (left p)) → TookPart told d all p m links after (left_after left p n) ys → TookPart told d all p (n + m) links after left (xs ++ ys)
+more_part told d all p n m links after left xs ys e t = record {
+  rest = t.rest;
+  whole = append_assoc xs ys t.rest ∙ ap (λ (w : List (List ℕ)). w ++ (ys ++ t.rest)) e ∙ ap (λ (w : List (List ℕ)). cut (take n (left p)) ++ w) (t.whole ∙ ap (λ (w : List (List ℕ)). cut (take m w)) (left_own left p n)) ∙ cut_two n m (left p);
+  part = t.part;
+}
+
+rounds_more : {S : Type 0} (Round : Node → List ℕ → S → S → Type 0) (node : Node) (xs ys : List (List ℕ)) (before mid after : S) → Rounds Round (of_node node xs) before mid → Rounds Round (of_node node ys) mid after → Rounds Round (of_node node (xs ++ ys)) before after
+rounds_more Round node xs ys before mid after h k = Rounds-same Round _ _ before after (sym (of_two node xs ys)) (Rounds-two Round (of_node node xs) (of_node node ys) before mid after h k)
+
+-- so many more were taken
+pub Takes-more : {S L E F G T U V : Type 0} (told : L → Option LinkStory) (d : Domain) (Round : Node → List ℕ → S → S → Type 0) (all : S → List Send) (p n m : ℕ) (links_old links_mid links_new : List L) (before mid after : S) (x : T) (y : U) (z : V) → Takes {S = S} {L = L} {T = T} {E = E} told d Round all p n links_old links_mid before mid (Ok x) → Takes {S = S} {L = L} {T = U} {E = F} told d Round all p m links_mid links_new mid after (Ok y) → Takes {S = S} {L = L} {T = V} {E = G} told d Round all p (n + m) links_old links_new before after (Ok z)
+Takes-more told d Round all p n m links_old links_mid links_new before mid after x y z a b = record {
+  given = a.given ++ b.given;
+  few = omega (arith, a.few, b.few, length-append a.given b.given);
+  rounds = rounds_more Round (node_at d p) a.given b.given before mid after a.rounds b.rounds;
+  tells = λ left tell.
+      let t = a.tells left tell in
+      more_all told d all p n m links_new after left a.given b.given t.all_of (b.tells (left_after left p n) t.tell);
+}
+
+-- or a part of so many more
+pub Takes-stop : {S L E F G T U V : Type 0} (told : L → Option LinkStory) (d : Domain) (Round : Node → List ℕ → S → S → Type 0) (all : S → List Send) (p n m : ℕ) (links_old links_mid links_new : List L) (before mid after : S) (x : T) (y : F) (z : G) → Takes {S = S} {L = L} {T = T} {E = E} told d Round all p n links_old links_mid before mid (Ok x) → Takes {S = S} {L = L} {T = U} {E = F} told d Round all p m links_mid links_new mid after (Err y) → Takes {S = S} {L = L} {T = V} {E = G} told d Round all p (n + m) links_old links_new before after (Err z)
+Takes-stop told d Round all p n m links_old links_mid links_new before mid after x y z a b = record {
+  given = a.given ++ b.given;
+  few = omega (arith, a.few, b.few, length-append a.given b.given);
+  rounds = rounds_more Round (node_at d p) a.given b.given before mid after a.rounds b.rounds;
+  tells = λ left tell.
+      let t = a.tells left tell in
+      more_part told d all p n m links_new after left a.given b.given t.all_of (b.tells (left_after left p n) t.tell);
+}
+
+pub split : (n m : ℕ) → n ≤ m → n + (m - n) ≡ m
+split n m h = omega (arith, h)
+
+take_past : (n m : ℕ) (frames : List (List ℕ)) → n ≤ m → drop n frames ≡ [] → take n frames ≡ take m frames
+take_past n m frames h e =
+    sym (append-nil (take n frames))
+    ∙ ap (λ (w : List (List ℕ)). take n frames ++ w) (sym (ap (take (m - n)) e ∙ take-nil (m - n)))
+    ∙ sym (take-add n (m - n) frames) ∙ ap (λ (k : ℕ). take k frames) (split n m h)
+
+drop_past : (n m : ℕ) (frames : List (List ℕ)) → n ≤ m → drop n frames ≡ [] → drop n frames ≡ drop m frames
+drop_past n m frames h e =
+    e ∙ sym (ap (drop (m - n)) e ∙ drop-nil (m - n)) ∙ drop-drop (m - n) n frames ∙ ap (λ (k : ℕ). drop k frames) (split n m h)
+
+after_past : (left : ℕ → List (List ℕ)) (p n m i : ℕ) → n ≤ m → drop n (left p) ≡ [] → left_after left p n i ≡ left_after left p m i
+after_past left p n m i h e =
+    let cases : ((i == p) ≡ true) × (i ≡ p) ⊎ ((i == p) ≡ false) × (i ≢ p) → left_after left p n i ≡ left_after left p m i =
+    elim [
+      | inl at ↦ rw at.1 (left_own left p n ∙ drop_past n m (left p) h e ∙ sym (left_own left p m))
+      | inr apart ↦ left_other left p n i apart.1 ∙ sym (left_other left p m i apart.1)
+    ] in cases (eqb_tells i p)
+
+-- none are left, so any more were taken
+pub Takes-past : {S L E F T V : Type 0} (told : L → Option LinkStory) (d : Domain) (Round : Node → List ℕ → S → S → Type 0) (all : S → List Send) (p n m : ℕ) (links_old links_new : List L) (before after : S) (x : T) (y : V) → n ≤ m → ((left : ℕ → List (List ℕ)) → Tell told d links_old left (all before) → drop n (left p) ≡ []) → Takes {S = S} {L = L} {T = T} {E = E} told d Round all p n links_old links_new before after (Ok x) → Takes {S = S} {L = L} {T = V} {E = F} told d Round all p m links_old links_new before after (Ok y)
+Takes-past told d Round all p n m links_old links_new before after x y h none a = record {
+  given = a.given;
+  few = omega (arith, a.few, h);
+  rounds = a.rounds;
+  tells = λ left tell.
+      let t = a.tells left tell in
+      let e = none left tell in
+      record {
+        all_of = t.all_of ∙ ap cut (take_past n m (left p) h e);
+        tell = Tell-left told d links_new (left_after left p n) (left_after left p m) (all after) (λ i within. after_past left p n m i h e) t.tell;
+      };
+}
+
+-- a part of so many is a part of more
+pub Takes-wide : {S L E F T V : Type 0} (told : L → Option LinkStory) (d : Domain) (Round : Node → List ℕ → S → S → Type 0) (all : S → List Send) (p n m : ℕ) (links_old links_new : List L) (before after : S) (x : E) (y : F) → n ≤ m → Takes {S = S} {L = L} {T = T} {E = E} told d Round all p n links_old links_new before after (Err x) → Takes {S = S} {L = L} {T = V} {E = F} told d Round all p m links_old links_new before after (Err y)
+Takes-wide told d Round all p n m links_old links_new before after x y h a = record {
+  given = a.given;
+  few = omega (arith, a.few, h);
+  rounds = a.rounds;
+  tells = λ left tell.
+      let t = a.tells left tell in
+      let more = cut (take (m - n) (drop n (left p))) in
+      record {
+        rest = t.rest ++ more;
+        whole = sym (append_assoc a.given t.rest more) ∙ ap (λ (w : List (List ℕ)). w ++ more) t.whole ∙ cut_two n (m - n) (left p) ∙ ap (λ (k : ℕ). cut (take k (left p))) (split n m h);
+        part = t.part;
+      };
+}
+
+pub none_left : (left : ℕ → List (List ℕ)) (p n : ℕ) → left_after left p n p ≡ [] → drop (n + 1) (left p) ≡ []
+none_left left p n e = sym (drop-drop 1 n (left p)) ∙ ap (drop 1) (sym (left_own left p n) ∙ e)
+
+-- so many is that many
+pub Takes-same : {S L E F T V : Type 0} (told : L → Option LinkStory) (d : Domain) (Round : Node → List ℕ → S → S → Type 0) (all : S → List Send) (p n m : ℕ) (links_old links_new : List L) (before after : S) (x : T) (y : V) → n ≡ m → Takes {S = S} {L = L} {T = T} {E = E} told d Round all p n links_old links_new before after (Ok x) → Takes {S = S} {L = L} {T = V} {E = F} told d Round all p m links_old links_new before after (Ok y)
+Takes-same told d Round all p n m links_old links_new before after x y e a = rw (← e) (record { given = a.given; few = a.few; rounds = a.rounds; tells = a.tells })

@@ -1,0 +1,186 @@
+-- Nodes that take what their links give, one after another.
+use Rattle.std.proofs.Common.{◌≡◌, ◌≢◌, ℕ, zero, suc, add-one, ◌+◌, ◌-◌, ◌<◌, ◌≤◌, ◌==◌, ◌⊎◌, List, [], ◌++◌, length, take, drop, Option, Ok, Err, refl, sym, ap, ◌∙◌, append_assoc, arith, true, false, inl, inr}
+use Rattle.std.specs.Prelude.{if◌then◌else◌, nat_lt}
+use Rattle.std.proofs.lemmas.Grind.{common_steps}
+use Rattle.std.proofs.lemmas.List.{append-nil}
+use Rattle.std.proofs.lemmas.Bool.Decides.{eqb_tells}
+use Rattle.std.proofs.lemmas.Bool.{cases_lt}
+use Rattle.domain_base.specs.declared.names.Node.{Node}
+use Rattle.domain_base.specs.Told.{LinkStory}
+use Rattle.run_journal.specs.declared.domain.Domain.{Domain}
+use Rattle.domain_links.specs.NodeOrder.{node_at}
+use Rattle.domain_links.specs.Sends.{Send}
+use Rattle.domain_links.specs.Telling.{left_after}
+use Rattle.domain_links.specs.Turns.{Delivery, Takes, TakesTurn, of_node, cut, left_past, in_order, heard_of, turn_of}
+use Rattle.domain_links.proofs.OnePoll.{Tell-left, left_own, left_other}
+use Rattle.domain_links.proofs.Taking.{Rounds-none, Rounds-two, of_two, split}
+
+-- ---- deliveries in node order
+
+order_more : (d : Domain) (heard : ℕ → List (List ℕ)) (n : ℕ) → in_order d heard (n + 1) ≡ in_order d heard n ++ of_node (node_at d n) (heard n)
+unfolding in_order
+order_more d heard n = rw add-one refl
+
+order_none : (d : Domain) (heard : ℕ → List (List ℕ)) → in_order d heard 0 ≡ []
+unfolding in_order
+order_none d heard = refl
+
+front_by : (d : Domain) (heard : ℕ → List (List ℕ)) (n k : ℕ) → (rest : List Delivery) × (in_order d heard n ++ rest ≡ in_order d heard (n + k))
+front_by d heard n zero = ([], append-nil (in_order d heard n) ∙ ap (in_order d heard) (omega arith))
+front_by d heard n (suc k) =
+    let more = front_by d heard n k in
+    let last : List Delivery = of_node (node_at d (n + k)) (heard (n + k)) in
+    let next : n + k + 1 ≡ n + suc k = omega arith in
+    (more.0 ++ last, sym (append_assoc (in_order d heard n) more.0 last) ∙ ap (λ (w : List Delivery). w ++ last) more.1 ∙ sym (order_more d heard (n + k)) ∙ ap (in_order d heard) next)
+
+-- what the first places take is a front of what more take
+order_front : (d : Domain) (heard : ℕ → List (List ℕ)) (n m : ℕ) → n ≤ m → (rest : List Delivery) × (in_order d heard n ++ rest ≡ in_order d heard m)
+order_front d heard n m h =
+    let f = front_by d heard n (m - n) in
+    (f.0, f.1 ∙ ap (in_order d heard) (split n m h))
+
+-- it is told by what these places give
+order_same : (d : Domain) (heard other : ℕ → List (List ℕ)) (n : ℕ) → ((i : ℕ) → i < n → heard i ≡ other i) → in_order d heard n ≡ in_order d other n
+unfolding in_order
+order_same d heard other zero same = refl
+order_same d heard other (suc n) same =
+    ap (λ (w : List Delivery). w ++ of_node (node_at d n) (heard n)) (order_same d heard other n (λ i h. same i (omega (arith, h))))
+    ∙ ap (λ (w : List (List ℕ)). in_order d other n ++ of_node (node_at d n) w) (same n (omega arith))
+
+-- places that give nothing add nothing
+order_past_by : (d : Domain) (heard : ℕ → List (List ℕ)) (n k : ℕ) → ((i : ℕ) → n ≤ i → heard i ≡ []) → in_order d heard (n + k) ≡ in_order d heard n
+order_past_by d heard n zero none = ap (in_order d heard) (omega arith)
+order_past_by d heard n (suc k) none =
+    let next : n + suc k ≡ n + k + 1 = omega arith in
+    ap (in_order d heard) next ∙ order_more d heard (n + k)
+    ∙ ap (λ (w : List (List ℕ)). in_order d heard (n + k) ++ of_node (node_at d (n + k)) w) (none (n + k) (omega arith))
+    ∙ append-nil (in_order d heard (n + k)) ∙ order_past_by d heard n k none
+
+order_past : (d : Domain) (heard : ℕ → List (List ℕ)) (n m : ℕ) → n ≤ m → ((i : ℕ) → n ≤ i → heard i ≡ []) → in_order d heard m ≡ in_order d heard n
+order_past d heard n m h none = sym (ap (in_order d heard) (split n m h)) ∙ order_past_by d heard n (m - n) none
+
+-- what the first places gave, what the next gave, and nothing behind
+abbrev heard_with : (ℕ → List (List ℕ)) → ℕ → List (List ℕ) → ℕ → List (List ℕ)
+heard_with heard n given i = if nat_lt i n then heard i else if i == n then given else []
+
+with_below : (heard : ℕ → List (List ℕ)) (n : ℕ) (given : List (List ℕ)) (i : ℕ) → i < n → heard i ≡ heard_with heard n given i
+with_below heard n given i h = grind (arith, common_steps)
+
+with_own : (heard : ℕ → List (List ℕ)) (n : ℕ) (given : List (List ℕ)) → heard_with heard n given n ≡ given
+with_own heard n given = grind (arith, common_steps)
+
+with_above : (heard : ℕ → List (List ℕ)) (n : ℕ) (given : List (List ℕ)) (i : ℕ) → n + 1 ≤ i → heard_with heard n given i ≡ []
+with_above heard n given i h = grind (arith, common_steps)
+
+with_few : (heard : ℕ → List (List ℕ)) (n : ℕ) (given : List (List ℕ)) (i : ℕ) → ((i : ℕ) → length (heard i) ≤ 16) → length given ≤ 16 → length (heard_with heard n given i) ≤ 16
+with_few heard n given i few one =
+    let sides : (i < n) ⊎ (n ≤ i) → length (heard_with heard n given i) ≤ 16 =
+    elim [
+      | inl below ↦ rw (← with_below heard n given i below) (few i)
+      | inr above ↦
+          let ends : ((i == n) ≡ true) × (i ≡ n) ⊎ ((i == n) ≡ false) × (i ≢ n) → length (heard_with heard n given i) ≤ 16 =
+          elim [
+            | inl at ↦ rw at.1 (rw (with_own heard n given) one)
+            | inr apart ↦ rw (with_above heard n given i (grind (arith, common_steps))) (omega arith)
+          ] in ends (eqb_tells i n)
+    ] in sides (cases_lt i n)
+
+with_order : (d : Domain) (heard : ℕ → List (List ℕ)) (n : ℕ) (given : List (List ℕ)) → in_order d heard n ++ of_node (node_at d n) given ≡ in_order d (heard_with heard n given) (n + 1)
+with_order d heard n given =
+    ap (λ (w : List Delivery). w ++ of_node (node_at d n) given) (order_same d heard (heard_with heard n given) n (λ i h. with_below heard n given i h))
+    ∙ ap (λ (w : List (List ℕ)). in_order d (heard_with heard n given) n ++ of_node (node_at d n) w) (sym (with_own heard n given))
+    ∙ sym (order_more d (heard_with heard n given) n)
+
+-- ---- what is left
+
+past_own : (left : ℕ → List (List ℕ)) (n : ℕ) → left_past left n n ≡ left n
+past_own left n = grind (arith, common_steps)
+
+past_zero : (left : ℕ → List (List ℕ)) (i : ℕ) → left i ≡ left_past left 0 i
+past_zero left i = grind (arith, common_steps)
+
+pub past_below : (left : ℕ → List (List ℕ)) (n i : ℕ) → i < n → left_past left n i ≡ drop 16 (left i)
+past_below left n i h = grind (arith, common_steps)
+
+past_above : (left : ℕ → List (List ℕ)) (n i : ℕ) → n ≤ i → left_past left n i ≡ left i
+past_above left n i h = grind (arith, common_steps)
+
+past_more : (left : ℕ → List (List ℕ)) (n i : ℕ) → left_after (left_past left n) n 16 i ≡ left_past left (n + 1) i
+past_more left n i =
+    let cases : ((i == n) ≡ true) × (i ≡ n) ⊎ ((i == n) ≡ false) × (i ≢ n) → left_after (left_past left n) n 16 i ≡ left_past left (n + 1) i =
+    elim [
+      | inl at ↦ rw at.1 (left_own (left_past left n) n 16 ∙ ap (drop 16) (past_own left n) ∙ sym (past_below left (n + 1) n (omega arith)))
+      | inr apart ↦
+          let sides : (i < n) ⊎ (n ≤ i) → left_past left n i ≡ left_past left (n + 1) i =
+          elim [
+            | inl below ↦ past_below left n i below ∙ sym (past_below left (n + 1) i (omega (arith, below)))
+            | inr above ↦ past_above left n i above ∙ sym (past_above left (n + 1) i (grind (arith, common_steps)))
+          ] in left_other (left_past left n) n 16 i apart.1 ∙ sides (cases_lt i n)
+    ] in cases (eqb_tells i n)
+
+-- what a place has in front is as at the turn's beginning
+own_part : (left : ℕ → List (List ℕ)) (n : ℕ) → cut (take 16 (left_past left n n)) ≡ heard_of left n
+own_part left n = ap (λ (w : List (List ℕ)). cut (take 16 w)) (past_own left n)
+
+-- ---- steps of a turn
+
+-- no place took any
+pub TakesTurn-start : {S L E T : Type 0} (told : L → Option LinkStory) (d : Domain) (Round : Node → List ℕ → S → S → Type 0) (all : S → List Send) (links : List L) (before : S) (x : T) → TakesTurn {S = S} {L = L} {T = T} {E = E} told d Round all 0 links links before before (Ok x)
+TakesTurn-start told d Round all links before x = record {
+  given = [];
+  heard = λ i. [];
+  few = λ i. omega arith;
+  order = sym (order_none d (λ i. []));
+  rounds = Rounds-none Round before before refl;
+  tells = λ left tell. record { all_of = sym (order_none d (heard_of left)); tell = Tell-left told d links left (left_past left 0) (all before) (λ i within. past_zero left i) tell };
+}
+
+-- the next place took all of its frames
+pub TakesTurn-more : {S L E F G T U V : Type 0} (told : L → Option LinkStory) (d : Domain) (Round : Node → List ℕ → S → S → Type 0) (all : S → List Send) (n : ℕ) (links_old links_mid links_new : List L) (before mid after : S) (x : T) (y : U) (z : V) → TakesTurn {S = S} {L = L} {T = T} {E = E} told d Round all n links_old links_mid before mid (Ok x) → Takes {S = S} {L = L} {T = U} {E = F} told d Round all n 16 links_mid links_new mid after (Ok y) → TakesTurn {S = S} {L = L} {T = V} {E = G} told d Round all (n + 1) links_old links_new before after (Ok z)
+TakesTurn-more told d Round all n links_old links_mid links_new before mid after x y z a b = record {
+  given = a.given ++ of_node (node_at d n) b.given;
+  heard = heard_with a.heard n b.given;
+  few = λ i. with_few a.heard n b.given i a.few b.few;
+  order = ap (λ (w : List Delivery). w ++ of_node (node_at d n) b.given) a.order ∙ with_order d a.heard n b.given;
+  rounds = Rounds-two Round a.given (of_node (node_at d n) b.given) before mid after a.rounds b.rounds;
+  tells = λ left tell.
+      let t = a.tells left tell in
+      let u = b.tells (left_past left n) t.tell in
+      record {
+        all_of = ap (λ (w : List Delivery). w ++ of_node (node_at d n) b.given) t.all_of
+            ∙ ap (λ (w : List (List ℕ)). turn_of d left n ++ of_node (node_at d n) w) (u.all_of ∙ own_part left n)
+            ∙ sym (order_more d (heard_of left) n);
+        tell = Tell-left told d links_new (left_after (left_past left n) n 16) (left_past left (n + 1)) (all after) (λ i within. past_more left n i) u.tell;
+      };
+}
+
+-- or a part of them, and no more places took any
+pub TakesTurn-stop : {S L E F G T U V : Type 0} (told : L → Option LinkStory) (d : Domain) (Round : Node → List ℕ → S → S → Type 0) (all : S → List Send) (n m : ℕ) (links_old links_mid links_new : List L) (before mid after : S) (x : T) (y : F) (z : G) → n < m → TakesTurn {S = S} {L = L} {T = T} {E = E} told d Round all n links_old links_mid before mid (Ok x) → Takes {S = S} {L = L} {T = U} {E = F} told d Round all n 16 links_mid links_new mid after (Err y) → TakesTurn {S = S} {L = L} {T = V} {E = G} told d Round all m links_old links_new before after (Err z)
+TakesTurn-stop told d Round all n m links_old links_mid links_new before mid after x y z h a b = record {
+  given = a.given ++ of_node (node_at d n) b.given;
+  heard = heard_with a.heard n b.given;
+  few = λ i. with_few a.heard n b.given i a.few b.few;
+  order = ap (λ (w : List Delivery). w ++ of_node (node_at d n) b.given) a.order ∙ with_order d a.heard n b.given
+      ∙ sym (order_past d (heard_with a.heard n b.given) (n + 1) m (omega (arith, h)) (λ i above. with_above a.heard n b.given i above));
+  rounds = Rounds-two Round a.given (of_node (node_at d n) b.given) before mid after a.rounds b.rounds;
+  tells = λ left tell.
+      let t = a.tells left tell in
+      let u = b.tells (left_past left n) t.tell in
+      let f = order_front d (heard_of left) (n + 1) m (omega (arith, h)) in
+      let own : List Delivery = of_node (node_at d n) b.given in
+      let lost : List Delivery = of_node (node_at d n) u.rest in
+      let here : own ++ lost ≡ of_node (node_at d n) (heard_of left n) =
+      sym (of_two (node_at d n) b.given u.rest) ∙ ap (of_node (node_at d n)) (u.whole ∙ own_part left n) in
+      record {
+        rest = lost ++ f.0;
+        whole = append_assoc a.given own (lost ++ f.0)
+            ∙ ap (λ (w : List Delivery). w ++ (own ++ (lost ++ f.0))) t.all_of
+            ∙ ap (λ (w : List Delivery). turn_of d left n ++ w) (sym (append_assoc own lost f.0) ∙ ap (λ (w : List Delivery). w ++ f.0) here)
+            ∙ sym (append_assoc (turn_of d left n) (of_node (node_at d n) (heard_of left n)) f.0)
+            ∙ ap (λ (w : List Delivery). w ++ f.0) (sym (order_more d (heard_of left) n)) ∙ f.1;
+        part = u.part;
+      };
+}
+
+pub TakesTurn-same : {S L E F T V : Type 0} (told : L → Option LinkStory) (d : Domain) (Round : Node → List ℕ → S → S → Type 0) (all : S → List Send) (n m : ℕ) (links_old links_new : List L) (before after : S) (x : T) (y : V) → n ≡ m → TakesTurn {S = S} {L = L} {T = T} {E = E} told d Round all n links_old links_new before after (Ok x) → TakesTurn {S = S} {L = L} {T = V} {E = F} told d Round all m links_old links_new before after (Ok y)
+TakesTurn-same told d Round all n m links_old links_new before after x y e a = rw (← e) (record { given = a.given; heard = a.heard; few = a.few; order = a.order; rounds = a.rounds; tells = a.tells })

@@ -1,0 +1,32 @@
+-- Links attached in the order of nodes, and taken back (this project's choice).
+use Rattle.std.specs.Prelude.{◌≡◌, ◌≢◌, ℕ, ◌<◌, List, [], ◌++◌, map, length, Option, Some}
+use Rattle.domain_base.specs.declared.names.Node.{Node}
+use Rattle.domain_base.specs.Told.{LinkStory, AirStory}
+use Rattle.run_journal.specs.declared.domain.Domain.{Domain}
+use Rattle.domain_links.specs.NodeOrder.{node_at}
+use Rattle.domain_links.specs.Telling.{Tell}
+
+-- the frames for the node at each place
+abbrev pub frames_at : Domain → AirStory → ℕ → List (List ℕ)
+frames_at d air i = air.frames (node_at d i)
+
+-- none of the first places is this node's
+abbrev pub IsBehind : Domain → ℕ → Node → Type 0
+IsBehind d places node = (i : ℕ) → i < places → node_at d i ≢ node
+
+-- the nodes of the first places were attached: nothing was sent by their links, which have all frames that the air had for them at
+-- the start, and the air has those of the others and the same links taken back
+pub record Attached {L : Type 0} (told : L → Option LinkStory) (d : Domain) (start : AirStory) (links : List L) (air : Option AirStory) : Type 0 where
+  pub now : AirStory
+  pub is : air ≡ Some now
+  pub frames : (node : Node) → IsBehind d (length links) node → now.frames node ≡ start.frames node
+  pub returned : now.returned ≡ start.returned
+  pub tell : Tell told d links (frames_at d start) []
+
+-- links were taken back, in order: where the air still tells, it told before, and their stories stand at the end of those taken back
+pub record TakenBack {L : Type 0} (told : L → Option LinkStory) (links : List L) (old : Option AirStory) (now : AirStory) : Type 0 where
+  pub was : AirStory
+  pub ended : List LinkStory
+  pub is : old ≡ Some was
+  pub returned : now.returned ≡ was.returned ++ ended
+  pub stories : map told links ≡ map (λ (s : LinkStory). Some s) ended

@@ -1,0 +1,5 @@
+pub mod NodeOrder
+pub mod Sends
+pub mod Telling
+pub mod Attached
+pub mod Turns

@@ -1,0 +1,61 @@
+-- What the links of a network tell, in the order of its nodes, and how often they failed (this project's choice).
+use Rattle.std.specs.Prelude.{◌≡◌, ℕ, ◌<◌, List, [], ◌∷◌, ◌++◌, ◌==◌, Option, Some, if◌then◌else◌, map, length, take, drop, slice_index_or, Result, MatchResult, MatchOption}
+use Rattle.domain_base.specs.Told.{LinkStory}
+use Rattle.run_journal.specs.declared.domain.Domain.{Domain}
+use Rattle.domain_links.specs.NodeOrder.{node_at}
+use Rattle.domain_links.specs.Sends.{Send, sent_by}
+
+-- the link at a place: its node's, by which its frames among these went, and which has that left
+abbrev pub story_at : Domain → (ℕ → List (List ℕ)) → List Send → ℕ → LinkStory
+story_at d left all i = record { node = node_at d i; sent = sent_by i all; left = left i }
+
+-- so tell all the links
+pub record Tell {L : Type 0} (told : L → Option LinkStory) (d : Domain) (links : List L) (left : ℕ → List (List ℕ)) (all : List Send) : Type 0 where
+  pub each : (i : ℕ) (l : L) → i < length links → told (slice_index_or links i l) ≡ Some (story_at d left all i)
+
+-- what links tell after these sends: all of them went out, or at an error a front
+abbrev pub TellFront : {L T E : Type 0} → (L → Option LinkStory) → Domain → List L → (ℕ → List (List ℕ)) → List Send → List Send → Result T E → Type 0
+TellFront told d links left before more result =
+    MatchResult result
+    (λ _. Tell told d links left (before ++ more))
+    (λ _. (front rest : List Send) × (front ++ rest ≡ more) × Tell told d links left (before ++ front))
+
+-- a front of these sends went out
+pub record TellPart {L : Type 0} (told : L → Option LinkStory) (d : Domain) (links : List L) (all : List Send) : Type 0 where
+  pub front : List Send
+  pub rest : List Send
+  pub left : ℕ → List (List ℕ)
+  pub whole : front ++ rest ≡ all
+  pub tell : Tell told d links left front
+
+-- one of the links has failed
+pub record HasFailed {L : Type 0} (faults : L → ℕ) (links : List L) : Type 0 where
+  pub place : ℕ
+  pub within : place < length links
+  pub failed : (l : L) → 0 < faults (slice_index_or links place l)
+
+-- none of them has
+pub record NoneFailed {L : Type 0} (faults : L → ℕ) (links : List L) : Type 0 where
+  pub each : (i : ℕ) (l : L) → i < length links → faults (slice_index_or links i l) ≡ 0
+
+-- as many links, and each has failed as often as before
+abbrev pub SameFaults : {L : Type 0} → (L → ℕ) → List L → List L → Type 0
+SameFaults faults old new = map faults new ≡ map faults old
+
+-- what the links have left once that place took some
+abbrev pub left_after : (ℕ → List (List ℕ)) → ℕ → ℕ → ℕ → List (List ℕ)
+left_after left place n i = if i == place then drop n (left i) else left i
+
+-- the link at a place gave a frame, which stands in the octets, cut to 2,400
+pub record Polled {L : Type 0} (told : L → Option LinkStory) (d : Domain) (links : List L) (place : ℕ) (left : ℕ → List (List ℕ)) (all : List Send) (octets : List ℕ) : Type 0 where
+  pub frame : List ℕ
+  pub first : take 1 (left place) ≡ frame ∷ []
+  pub octets_are : octets ≡ take 2400 frame
+  pub tell : Tell told d links (left_after left place 1) all
+
+-- it gave a frame, whose octets stand in the buffer's front, or none, as it had none; or it failed, and all is as it was
+abbrev pub Polls : {L E : Type 0} → (L → Option LinkStory) → Domain → List L → ℕ → (ℕ → List (List ℕ)) → List Send → Result (Option ℕ) E → List ℕ → Type 0
+Polls told d links place left all result buf =
+    MatchResult result
+    (λ given. MatchOption given ((left place ≡ []) × Tell told d links left all) (λ size. Polled told d links place left all (take size buf)))
+    (λ _. Tell told d links left all)

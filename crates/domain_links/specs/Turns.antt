@@ -1,0 +1,96 @@
+-- What the nodes of a network take of their links in a turn, whatever the round of one delivery does (this project's choice).
+use Rattle.std.specs.Prelude.{◌≡◌, ℕ, zero, suc, ◌≤◌, List, [], ◌∷◌, ◌++◌, ◌⊎◌, Option, if◌then◌else◌, nat_lt, map, length, take, drop, Result, MatchResult}
+use Rattle.domain_base.specs.declared.names.Node.{Node}
+use Rattle.domain_base.specs.Told.{LinkStory}
+use Rattle.run_journal.specs.declared.domain.Domain.{Domain}
+use Rattle.domain_links.specs.NodeOrder.{node_at}
+use Rattle.domain_links.specs.Sends.{Send}
+use Rattle.domain_links.specs.Telling.{Tell, TellPart, left_after}
+
+-- a frame that a node takes
+pub record Delivery : Type 0 where
+  pub node : Node
+  pub octets : List ℕ
+
+abbrev pub of_node : Node → List (List ℕ) → List Delivery
+of_node node given = map (λ (octets : List ℕ). record { node = node; octets = octets }) given
+
+-- the first of these is a round, in which that node takes those octets, and the rest follow
+pub record RoundFirst {S : Type 0} (Round : Node → List ℕ → S → S → Type 0) (first : Delivery) (Rest : S → Type 0) (before : S) : Type 0 where
+  pub mid : S
+  pub round : Round first.node first.octets before mid
+  pub rest : Rest mid
+
+-- each of these is a round, one after another
+unfoldable pub Rounds : {S : Type 0} → (Node → List ℕ → S → S → Type 0) → List Delivery → S → S → Type 0
+Rounds Round [] before after = after ≡ before
+Rounds Round (first ∷ given) before after = RoundFirst Round first (λ mid. Rounds Round given mid after) before
+
+-- frames as they are taken: the first octets of each
+abbrev pub cut : List (List ℕ) → List (List ℕ)
+cut frames = map (take 2400) frames
+
+-- what the links have left once the nodes of the first places took theirs in a turn
+abbrev pub left_past : (ℕ → List (List ℕ)) → ℕ → ℕ → List (List ℕ)
+left_past left places i = if nat_lt i places then drop 16 (left i) else left i
+
+-- what the nodes of the first places take, in order, where the link at each place gives these
+unfoldable pub in_order : Domain → (ℕ → List (List ℕ)) → ℕ → List Delivery
+in_order d heard zero = []
+in_order d heard (suc n) = in_order d heard n ++ of_node (node_at d n) (heard n)
+
+-- in a turn a link that has so many left gives up to 16 of them
+abbrev pub heard_of : (ℕ → List (List ℕ)) → ℕ → List (List ℕ)
+heard_of left i = cut (take 16 (left i))
+
+abbrev pub turn_of : Domain → (ℕ → List (List ℕ)) → ℕ → List Delivery
+turn_of d left n = in_order d (heard_of left) n
+
+-- a node took these octets in a round, or none, and what it sent went out, or at an error a front of it; `all` is what was sent so
+-- far
+pub record Delivers {S L T E : Type 0} (told : L → Option LinkStory) (d : Domain) (Round : Node → List ℕ → S → S → Type 0) (all : S → List Send) (place : ℕ) (octets : List ℕ) (links_old links_new : List L) (before after : S) (result : Result T E) : Type 0 where
+  pub given : List (List ℕ)
+  pub few : (given ≡ octets ∷ []) ⊎ (given ≡ [])
+  pub rounds : Rounds Round (of_node (node_at d place) given) before after
+  pub tells : (left : ℕ → List (List ℕ)) → Tell told d links_old left (all before)
+      → MatchResult result (λ _. (given ≡ octets ∷ []) × Tell told d links_new left (all after)) (λ _. TellPart told d links_new (all after))
+
+-- a node took all of these frames, each cut
+pub record TookAll {S L : Type 0} (told : L → Option LinkStory) (d : Domain) (all : S → List Send) (place n : ℕ) (links : List L) (after : S) (left : ℕ → List (List ℕ)) (given : List (List ℕ)) : Type 0 where
+  pub all_of : given ≡ cut (take n (left place))
+  pub tell : Tell told d links (left_after left place n) (all after)
+
+-- or a front of them
+pub record TookPart {S L : Type 0} (told : L → Option LinkStory) (d : Domain) (all : S → List Send) (place n : ℕ) (links : List L) (after : S) (left : ℕ → List (List ℕ)) (given : List (List ℕ)) : Type 0 where
+  pub rest : List (List ℕ)
+  pub whole : given ++ rest ≡ cut (take n (left place))
+  pub part : TellPart told d links (all after)
+
+-- the node at a place took up to n frames of its link
+pub record Takes {S L T E : Type 0} (told : L → Option LinkStory) (d : Domain) (Round : Node → List ℕ → S → S → Type 0) (all : S → List Send) (place n : ℕ) (links_old links_new : List L) (before after : S) (result : Result T E) : Type 0 where
+  pub given : List (List ℕ)
+  pub few : length given ≤ n
+  pub rounds : Rounds Round (of_node (node_at d place) given) before after
+  pub tells : (left : ℕ → List (List ℕ)) → Tell told d links_old left (all before)
+      → MatchResult result (λ _. TookAll told d all place n links_new after left given) (λ _. TookPart told d all place n links_new after left given)
+
+-- what the nodes of the first places take in a turn, all of it or a front
+pub record TurnAll {S L : Type 0} (told : L → Option LinkStory) (d : Domain) (all : S → List Send) (places : ℕ) (links : List L) (after : S) (left : ℕ → List (List ℕ)) (given : List Delivery) : Type 0 where
+  pub all_of : given ≡ turn_of d left places
+  pub tell : Tell told d links (left_past left places) (all after)
+
+pub record TurnPart {S L : Type 0} (told : L → Option LinkStory) (d : Domain) (all : S → List Send) (places : ℕ) (links : List L) (after : S) (left : ℕ → List (List ℕ)) (given : List Delivery) : Type 0 where
+  pub rest : List Delivery
+  pub whole : given ++ rest ≡ turn_of d left places
+  pub part : TellPart told d links (all after)
+
+-- the nodes of the first places took frames of their links, in node order and up to 16 each, whether or not these tell; where they
+-- tell, what they had in front
+pub record TakesTurn {S L T E : Type 0} (told : L → Option LinkStory) (d : Domain) (Round : Node → List ℕ → S → S → Type 0) (all : S → List Send) (places : ℕ) (links_old links_new : List L) (before after : S) (result : Result T E) : Type 0 where
+  pub given : List Delivery
+  pub heard : ℕ → List (List ℕ)
+  pub few : (i : ℕ) → length (heard i) ≤ 16
+  pub order : given ≡ in_order d heard places
+  pub rounds : Rounds Round given before after
+  pub tells : (left : ℕ → List (List ℕ)) → Tell told d links_old left (all before)
+      → MatchResult result (λ _. TurnAll told d all places links_new after left given) (λ _. TurnPart told d all places links_new after left given)

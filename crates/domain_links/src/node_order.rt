@@ -1,0 +1,100 @@
+//! The order of nodes, and whom a frame is for.
+
+ghost use Rattle.std.specs.Prelude.{◌≡◌, ◌<◌, ◌≤◌, length, position, bytes_eq};
+ghost use Rattle.domain_base.specs.declared.names.Mac.{Mac as AnyMac};
+ghost use Rattle.run_journal.specs.declared.domain.ListedAp.{ListedAp as AnyAp};
+ghost use Rattle.domain_links.specs.NodeOrder.{count, node_at, place_of, is_group_address, with_address, receiver_of};
+
+use domain_base::{Mac, Node, array_at};
+use run_journal::{Domain, ListedAp};
+
+/// Whom a frame is for.
+#[derive(Clone, Copy)]
+pub(crate) enum Receiver {
+    /// Every station, in order.
+    Stations,
+    /// One node.
+    One(Node),
+    /// No listed node.
+    Nobody,
+}
+
+/// The node at a place: access points, then stations, from 0.
+pub fn node_at(domain: &Domain, place: usize) -> Node
+    requires within { place < count domain.now }
+    requires aps { length domain.now.aps ≤ 65536 }
+    requires stas { length domain.now.stas ≤ 65536 }
+    ensures { result ≡ node_at domain.now place }
+{
+    let aps = domain.aps.0.len();
+    if place < aps {
+        Node::Ap(place as u16)
+    } else {
+        Node::Sta((place - aps) as u16)
+    }
+}
+
+/// Where a listed node stands in that order.
+pub(crate) fn place_of(domain: &Domain, node: Node) -> usize
+    requires aps { length domain.now.aps ≤ 65536 }
+    ensures { result ≡ place_of domain.now node }
+{
+    match node {
+        Node::Ap(number) => usize::from(number),
+        Node::Sta(number) => domain.aps.0.len() + usize::from(number),
+    }
+}
+
+// Whether it is the address of a group.
+fn is_group_address(address: Mac) -> bool
+    ensures { result ≡ is_group_address address.0 }
+{
+    address.0[0] % 2 == 1
+}
+
+// The place of the first access point that has this address.
+fn place_of_ap(aps: &[ListedAp], address: Mac) -> Option<usize>
+    ensures { result ≡ position (λ (a : AnyAp). bytes_eq a.address.0 address.0) aps.now }
+{
+    aps.iter().position(|ap| ap.address.0 == address.0)
+}
+
+// The place of the first station that has this address.
+fn place_of_sta(stas: &[Mac], address: Mac) -> Option<usize>
+    ensures { result ≡ position (λ (m : AnyMac). bytes_eq m.0 address.0) stas.now }
+{
+    stas.iter().position(|sta| sta.0 == address.0)
+}
+
+// The node that has this address.
+fn with_address(domain: &Domain, address: Mac) -> Receiver
+    requires aps { length domain.now.aps ≤ 65536 }
+    requires stas { length domain.now.stas ≤ 65536 }
+    ensures { result ≡ with_address domain.now address.0 }
+{
+    let ap = place_of_ap(&domain.aps.0, address);
+    let sta = place_of_sta(&domain.stas.0, address);
+    match (ap, sta) {
+        (Some(place), _) => Receiver::One(Node::Ap(place as u16)),
+        (None, Some(place)) => Receiver::One(Node::Sta(place as u16)),
+        (None, None) => Receiver::Nobody,
+    }
+}
+
+/// Whom address 1 of a frame names (IEEE Std 802.11-2020, 9.2.4.3.4): a group's every station, else
+/// the node that has it.
+pub(crate) fn receiver_of(domain: &Domain, octets: &[u8]) -> Receiver
+    requires aps { length domain.now.aps ≤ 65536 }
+    requires stas { length domain.now.stas ≤ 65536 }
+    ensures { result ≡ receiver_of domain.now octets.now }
+{
+    if octets.len() < 10 {
+        return Receiver::Nobody;
+    }
+    let address = Mac(array_at(octets, 4));
+    if is_group_address(address) {
+        Receiver::Stations
+    } else {
+        with_address(domain, address)
+    }
+}

@@ -1,0 +1,7 @@
+use Rattle.std.proofs.Common.{◌≡◌, map, take}
+use Rattle.run_journal.specs.declared.domain.ListedAp.{ListedAp}
+use Rattle.domain_world.proofs.held.ids.Given as goal
+
+-- those of the access points so far
+abbrev pub invariant-loop-ap : goal.invariant-loop-ap
+invariant-loop-ap l = l.ids.items ≡ map (λ (a : ListedAp). a.r0kh_id) (take l.ap-index l.domain.aps)

@@ -1,0 +1,66 @@
+use Rattle.std.proofs.Common.{◌≡◌, ◌+◌, ◌*◌, suc, List, length, refl, sym, ap, subst, ◌∙◌, arith, rules}
+use Rattle.run_journal.specs.declared.domain.Event.{Event}
+use Rattle.domain_rules.specs.Explained.{Follows}
+use Rattle.domain_rules.specs.HeldRight.{AnsweredInTime}
+use Rattle.domain_world.specs.State.{State}
+use Rattle.domain_world.specs.Owning.{AreListed, AreEventsIn, nodes_of}
+use Rattle.domain_world.specs.Waiting.{joined, events_below}
+use Rattle.domain_world.specs.Acting.{Played}
+use Rattle.domain_world.proofs.Ordered.{in_order}
+use Rattle.domain_world.proofs.Played.{at_aps, own_round, waiting_short}
+use Rattle.domain_world.proofs.world.World.round_with.Goals as goal
+
+pub play-requires-clause-events : goal.play-requires-clause-events
+play-requires-clause-events g c = λ κs bounds. subst (λ (w : State). AreEventsIn w.domain (length w.frames) c.args.journal.now.entries c.args.events.now) (sym c.self.view_is) c.requires.events
+
+pub play-requires-clause-right : goal.play-requires-clause-right
+play-requires-clause-right g c = λ κs bounds. subst (λ (w : State). AnsweredInTime w.domain c.args.journal.now.entries) (sym c.self.view_is) c.requires.own.right
+
+pub journal_parts-requires-clause-room : goal.journal_parts-requires-clause-room
+journal_parts-requires-clause-room g c =
+    let parts = c.in_ok-parts.parts.items in
+    let stas = length c.self.inside.nodes.stas in
+    let short = waiting_short (8 + stas) parts c.in_ok-parts.ensures.played.short in
+    let acts : c.most_acts.result ≡ 8 + stas = c.most_acts.ensures ∙ ap (λ n. 8 + n) (ap (λ (w : State). length w.stas) c.self-2.view_is ∙ c.in_ok-parts.ensures.played.count) in
+    let count : c.len.result ≡ length parts = search rules in
+    let most : (8 + stas) * length parts ≡ c.most_acts.result * c.len.result = ap (λ n. n * length parts) (sym acts) ∙ ap (λ n. c.most_acts.result * n) (sym count) in
+    omega (arith, short, most, c.in_ok-reserve.ensures.spare)
+
+pub journal_parts-requires-clause-places : goal.journal_parts-requires-clause-places
+journal_parts-requires-clause-places g c =
+    let parts = c.in_ok-parts.parts.items in
+    let stas = length c.self.inside.nodes.stas in
+    let short = waiting_short (8 + stas) parts c.in_ok-parts.ensures.played.short in
+    let acts : c.most_acts.result ≡ 8 + stas = c.most_acts.ensures ∙ ap (λ n. 8 + n) (ap (λ (w : State). length w.stas) c.self-2.view_is ∙ c.in_ok-parts.ensures.played.count) in
+    let count : c.len.result ≡ length parts = search rules in
+    let most : (8 + stas) * length parts ≡ c.most_acts.result * c.len.result = ap (λ n. n * length parts) (sym acts) ∙ ap (λ n. c.most_acts.result * n) (sym count) in
+    omega (arith, short, most, c.in_ok-reserve-2.ensures.ok)
+
+pub returns-clause-steps : goal.returns-clause-steps
+returns-clause-steps g c =
+    let old = c.args.self.now in
+    let j = c.args.journal.now.entries in
+    let parts = c.in_ok-parts.parts.items in
+    let events = c.args.events.now in
+    let rounds : c.self.inside.rounds ≡ old.rounds = ap (λ (w : State). w.rounds) c.self.view_is in
+    let later : c.self-2.inside.rounds ≡ c.self.inside.rounds = ap (λ (w : State). w.rounds) c.self-2.view_is ∙ c.in_ok-parts.ensures.rounds in
+    let round : c.self-2.inside.rounds + 1 ≡ suc old.rounds = omega (arith, rounds, later) in
+    let order = in_order (length old.domain.aps) events (at_aps old.domain (length old.frames) j events c.requires.events) in
+    let played = subst (λ (w : State). Played (suc w.rounds) (events_below (length w.domain.aps) events) j (nodes_of w) (nodes_of c.play.new.self) parts) c.self.view_is c.in_ok-parts.ensures.played in
+    let is = c.journal_parts.ensures.entries ∙ ap (joined (c.self-2.inside.rounds + 1) parts) c.in_ok-reserve.ensures.entries ∙ ap (λ r. joined r parts j) round in
+    subst (Follows old.domain (suc old.rounds) _ j) (sym is) (subst (λ (es : List Event). Follows old.domain (suc old.rounds) es j (joined (suc old.rounds) parts j)) order played.follows)
+
+pub returns-clause-own : goal.returns-clause-own
+returns-clause-own g c =
+    let old = c.args.self.now in
+    let j = c.args.journal.now.entries in
+    let parts = c.in_ok-parts.parts.items in
+    let events = events_below (length old.domain.aps) c.args.events.now in
+    let rounds : c.self.inside.rounds ≡ old.rounds = ap (λ (w : State). w.rounds) c.self.view_is in
+    let later : c.self-2.inside.rounds ≡ c.self.inside.rounds = ap (λ (w : State). w.rounds) c.self-2.view_is ∙ c.in_ok-parts.ensures.rounds in
+    let round : c.self-2.inside.rounds + 1 ≡ suc old.rounds = omega (arith, rounds, later) in
+    let played = subst (λ (w : State). Played (suc w.rounds) (events_below (length w.domain.aps) c.args.events.now) j (nodes_of w) (nodes_of c.play.new.self) parts) c.self.view_is c.in_ok-parts.ensures.played in
+    let stood = subst (λ (w : State). Played (suc old.rounds) events j (nodes_of old) (nodes_of w) parts) (sym c.self-2.view_is) played in
+    let listed = subst (λ (w : State). AreListed (nodes_of w)) (sym c.self-2.view_is) c.in_ok-parts.ensures.listed in
+    let is = c.journal_parts.ensures.entries ∙ ap (joined (c.self-2.inside.rounds + 1) parts) c.in_ok-reserve.ensures.entries ∙ ap (λ r. joined r parts j) round in
+    own_round old _ events parts j c.journal_parts.new.journal.entries c.requires.own stood listed round refl c.journal_parts.ensures.noted is

@@ -1,0 +1,70 @@
+//! What is to be done, and what came of it.
+
+ghost use Rattle.std.specs.Prelude.{◌≡◌, ◌+◌, ◌*◌, ◌≤◌};
+
+/// Pulls of some threads at access points with some rows.
+#[derive(Clone, Copy)]
+pub struct Work {
+    /// 1, 2, or else 4.
+    pub threads: u8,
+    /// The rows of each access point.
+    pub rows: u8,
+    /// The pulls of each thread.
+    pub pulls: u32,
+    /// Whether names are asked for that are held.
+    pub held: bool,
+}
+
+/// The threads and the rows that are tried where no words name them.
+pub const TABLE: [(u8, u8); 6] = [(1, 4), (2, 4), (4, 4), (1, 64), (2, 64), (4, 64)];
+
+impl Work {
+    /// The threads, the rows, the pulls, and `absent` where names are asked for that are not held.
+    pub fn of_words(words: &[String]) -> Option<Work> {
+        if words.len() < 3 {
+            return None;
+        }
+        let threads = words[0].parse::<u8>().ok()?;
+        let rows = words[1].parse::<u8>().ok()?;
+        let pulls = words[2].parse::<u32>().ok()?;
+        let held = words.len() == 3 || words[3].as_str() != "absent";
+        Some(Work {
+            threads,
+            rows,
+            pulls,
+            held,
+        })
+    }
+
+    /// How many pulls all threads do together.
+    pub fn asked(&self) -> u64 {
+        let threads = match self.threads {
+            1 => 1,
+            2 => 2,
+            _ => 4,
+        };
+        threads * u64::from(self.pulls)
+    }
+}
+
+/// What was found.
+#[derive(Clone, Copy)]
+pub struct Pulled {
+    /// How many keys.
+    pub found: u64,
+    /// The sum of an octet of each, so that each key has to be made.
+    pub sum: u8,
+}
+
+impl Pulled {
+    /// What both found.
+    pub fn with(self, other: Pulled) -> Pulled
+        requires { self.found + other.found ≤ 4 * 4294967295 }
+        ensures { result.found ≡ self.found + other.found }
+    {
+        Pulled {
+            found: self.found + other.found,
+            sum: self.sum.wrapping_add(other.sum),
+        }
+    }
+}
