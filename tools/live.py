@@ -196,6 +196,10 @@ class Run:
         else:
             self.waiting[node].append("cut 1 0 to %s" % node)
 
+    def elsewhere(self, node, octets):
+        """A datagram to the node's port at another address of the loopback, where it does not listen."""
+        self.outside.sendto(octets, ("127.0.0.2", self.ports[node]))
+
     def again(self, number, node):
         """The octets of a frame that was sent, once more and from outside, where they were seen."""
         octets = next((octets for told, _, _, octets in self.frames(replayed(self.lines)) if told == number), None)
@@ -276,6 +280,7 @@ LONG = association_request((b"\xdd\xff" + b"\xa5" * 255) * 10)
 def psk():
     run = Run("psk", 1, 2)
     yield run
+    run.elsewhere("a1", b"\x00")
     # Before anything was sent: of 20 frames without sense a turn takes 16, and the next one 4.
     for place in range(20):
         run.foreign("a1", bytes([place]))

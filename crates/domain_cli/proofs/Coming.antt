@@ -1,7 +1,8 @@
 -- What a feeder stands for behind an octet, and how a reading ends behind it.
-use Rattle.std.proofs.Common.{◌≡◌, ◌≢◌, ℕ, ◌+◌, ◌<◌, ◌≤◌, List, [], ◌∷◌, ◌++◌, length, take, get_or, append_assoc, Option, Result, Ok, Err, ◌⊎◌, sym, ap, subst, ◌∙◌, true, arith}
+use Rattle.std.proofs.Common.{◌≡◌, ◌≢◌, ℕ, ◌+◌, ◌-◌, ◌<◌, ◌≤◌, List, [], ◌∷◌, ◌++◌, length, take, drop, get_or, append_assoc, Option, Result, Ok, Err, ◌⊎◌, sym, ap, subst, ◌∙◌, true, arith}
 use Rattle.std.specs.Prelude.{MatchResult, OnOk}
 use Rattle.std.proofs.lemmas.List.{take_all, take_more}
+use Rattle.std.proofs.Math.Seq.{take-add}
 use Rattle.domain_base.specs.Told.{LinkStory}
 use Rattle.domain_base.specs.declared.outside.LinkError.{LinkError}
 use Rattle.domain_base.specs.declared.outside.LinkError.TheVariants as link
@@ -52,7 +53,7 @@ pub halts_line : {L : Type 0} (told : L → Option LinkStory) (first old new : O
 halts_line told first old new s stop octets draft rounds j k come met short why =
     Halts-line told first old new s.state.reader.mode stop s.lines octets come.good s.line.items draft rounds j k come.begins come.open_line short come.count (record { spelled = come.spelled; journal = come.stands.journal }) met why
 
--- ---- behind another octet
+-- ---- behind more octets of a line
 
 halts_refused : {L : Type 0} (told : L → Option LinkStory) (first o : Outer L) (m : Mode) (most : ℕ) (stop : Stop) (octets : List ℕ) (draft : Draft) (rounds : Rounds) (j : List Entry) → IsRefusal stop → Stopped most stop octets (point_of m j draft rounds) → IsMet told first o m draft rounds j
     → Halts told first o m most stop octets j
@@ -61,18 +62,18 @@ halts_refused told first o m most stops.NoMemory octets draft rounds j is stoppe
 halts_refused told first o m most stops.DrawFault octets draft rounds j is stopped met = absurd is
 halts_refused told first o m most (stops.Broken error) octets draft rounds j is stopped met = absurd is
 
-pub reached_octet : {L T : Type 0} (told : L → Option LinkStory) (first o : Outer L) (s t : LineFeeder) (octets : List ℕ) (octet : ℕ) (j : List Entry) (result : Result T Stop) → Reached told first o s octets j → t.state ≡ s.state
-    → ((draft : Draft) (rounds : Rounds) → HasCome s octets draft rounds j → MatchResult result (λ _. HasCome t (octets ++ octet ∷ []) draft rounds j) (λ stop. Stopped 1 stop (octets ++ octet ∷ []) (point_of s.state.reader.mode j draft rounds)))
+pub reached_more : {L T : Type 0} (told : L → Option LinkStory) (first o : Outer L) (s t : LineFeeder) (octets more : List ℕ) (j : List Entry) (result : Result T Stop) → Reached told first o s octets j → t.state ≡ s.state
+    → ((draft : Draft) (rounds : Rounds) → HasCome s octets draft rounds j → MatchResult result (λ _. HasCome t (octets ++ more) draft rounds j) (λ stop. Stopped 1 stop (octets ++ more) (point_of s.state.reader.mode j draft rounds)))
     → MatchResult result (λ _. Unit {0}) (λ stop. IsRefusal stop)
-    → MatchResult result (λ _. Reached told first o t (octets ++ octet ∷ []) j) (λ stop. Halts told first o s.state.reader.mode 1 stop (octets ++ octet ∷ []) j)
-reached_octet told first o s t octets octet j (Ok x) r same come refused = record {
+    → MatchResult result (λ _. Reached told first o t (octets ++ more) j) (λ stop. Halts told first o s.state.reader.mode 1 stop (octets ++ more) j)
+reached_more told first o s t octets more j (Ok x) r same come refused = record {
   draft = r.draft;
   rounds = r.rounds;
   come = come r.draft r.rounds r.come;
   met = subst (λ (m : Mode). IsMet told first o m r.draft r.rounds j) (ap (λ (x : ScriptState). x.reader.mode) (sym same)) r.met;
 }
-reached_octet told first o s t octets octet j (Err stop) r same come refused =
-    halts_refused told first o s.state.reader.mode 1 stop (octets ++ octet ∷ []) r.draft r.rounds j refused (come r.draft r.rounds r.come) r.met
+reached_more told first o s t octets more j (Err stop) r same come refused =
+    halts_refused told first o s.state.reader.mode 1 stop (octets ++ more) r.draft r.rounds j refused (come r.draft r.rounds r.come) r.met
 
 unblamed_refusal : {L : Type 0} (faults : L → ℕ) (stop : Stop) (links : List L) (air draws : ℕ) → IsRefusal stop → IsBlamed faults (stop_blame stop) links links air air draws draws
 unblamed_refusal faults (stops.Refused number refusal form) links air draws is = unblamed faults links air draws
@@ -80,15 +81,15 @@ unblamed_refusal faults stops.NoMemory links air draws is = absurd is
 unblamed_refusal faults stops.DrawFault links air draws is = absurd is
 unblamed_refusal faults (stops.Broken error) links air draws is = absurd is
 
-pub unblamed_octet : {L T : Type 0} (faults : L → ℕ) (links : List L) (air draws : ℕ) (result : Result T Stop) → MatchResult result (λ _. Unit {0}) (λ stop. IsRefusal stop)
+pub unblamed_more : {L T : Type 0} (faults : L → ℕ) (links : List L) (air draws : ℕ) (result : Result T Stop) → MatchResult result (λ _. Unit {0}) (λ stop. IsRefusal stop)
     → MatchResult result (λ _. IsBlamed faults Nobody links links air air draws draws) (λ stop. IsBlamed faults (stop_blame stop) links links air air draws draws)
-unblamed_octet faults links air draws (Ok x) refused = unblamed faults links air draws
-unblamed_octet faults links air draws (Err stop) refused = unblamed_refusal faults stop links air draws refused
+unblamed_more faults links air draws (Ok x) refused = unblamed faults links air draws
+unblamed_more faults links air draws (Err stop) refused = unblamed_refusal faults stop links air draws refused
 
-pub ready_octet : {T : Type 0} (s t : LineFeeder) (links : ℕ) (j : List Entry) (result : Result T Stop) → IsReady s.state links s.lines j → t.state ≡ s.state → t.lines ≡ s.lines → OnOk result (IsReady t.state links t.lines j)
-ready_octet s t links j (Ok x) ready state lines =
+pub ready_more : {T : Type 0} (s t : LineFeeder) (links : ℕ) (j : List Entry) (result : Result T Stop) → IsReady s.state links s.lines j → t.state ≡ s.state → t.lines ≡ s.lines → OnOk result (IsReady t.state links t.lines j)
+ready_more s t links j (Ok x) ready state lines =
     subst (λ (x : ScriptState). IsReady x links t.lines j) (sym state) (subst (λ (n : ℕ). IsReady s.state links n j) (sym lines) ready)
-ready_octet s t links j (Err stop) ready state lines = tt
+ready_more s t links j (Err stop) ready state lines = tt
 
 -- ---- at the end of the source
 
@@ -124,9 +125,19 @@ blamed_stop faults link.NoMemory old new a b c d is = is
 -- ---- a read
 
 -- one more octet of it
-pub one_further : (before octets : List ℕ) (i : ℕ) → i < length octets → (before ++ take i octets) ++ get_or octets i 0 ∷ [] ≡ before ++ take (i + 1) octets
+one_further : (before octets : List ℕ) (i : ℕ) → i < length octets → (before ++ take i octets) ++ get_or octets i 0 ∷ [] ≡ before ++ take (i + 1) octets
 one_further before octets i within =
     append_assoc before (take i octets) (get_or octets i 0 ∷ []) ∙ ap (λ (w : List ℕ). before ++ w) (sym (take_more octets i 0 within))
+
+-- a line feed more
+pub feed_further : (before octets : List ℕ) (i : ℕ) → i < length octets → get_or octets i 0 ≡ 10 → (before ++ take i octets) ++ 10 ∷ [] ≡ before ++ take (i + 1) octets
+feed_further before octets i within is = ap (λ (o : ℕ). (before ++ take i octets) ++ o ∷ []) (sym is) ∙ one_further before octets i within
+
+-- a piece of it more
+pub piece_further : (before octets : List ℕ) (i k : ℕ) → i ≤ k → (before ++ take i octets) ++ take (k - i) (drop i octets) ≡ before ++ take k octets
+piece_further before octets i k on =
+    append_assoc before (take i octets) (take (k - i) (drop i octets))
+    ∙ ap (λ (w : List ℕ). before ++ w) (sym (take-add i (k - i) octets) ∙ (let whole : i + (k - i) ≡ k = omega (arith, on) in ap (λ (n : ℕ). take n octets) whole))
 
 -- all of them
 pub all_further : (before octets : List ℕ) (i : ℕ) → length octets ≤ i → before ++ take i octets ≡ before ++ octets

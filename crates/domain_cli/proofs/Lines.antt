@@ -1,6 +1,6 @@
 -- Octets of a script as lines, and what stops its reading.
-use Rattle.std.proofs.Common.{◌≡◌, ◌≢◌, ℕ, suc, ◌+◌, ◌*◌, ◌<◌, ◌≤◌, Bool, true, false, get_or, take, drop, List, [], ◌∷◌, ◌++◌, length, Option, Some, None, Ok, ◌⊎◌, refl, sym, ap, subst, ◌∙◌, append_assoc, inl, inr, arith}
-use Rattle.std.proofs.lemmas.List.{append-nil, length-append, length-drop, take-append-drop, drop_more}
+use Rattle.std.proofs.Common.{◌≡◌, ◌≢◌, ℕ, suc, ◌+◌, ◌-◌, ◌*◌, ◌<◌, ◌≤◌, Bool, true, false, get_or, take, drop, List, [], ◌∷◌, ◌++◌, length, Option, Some, None, Ok, ◌⊎◌, refl, sym, ap, subst, ◌∙◌, append_assoc, inl, inr, arith}
+use Rattle.std.proofs.lemmas.List.{append-nil, get_or-drop, length-append, length-drop, take-append-drop, take_more}
 use Rattle.std.proofs.lemmas.Bool.{false≢true}
 use Rattle.std.specs.Io.KnownBytes.{Consumes, Keeps}
 use Rattle.domain_base.specs.Told.{LinkStory}
@@ -44,9 +44,18 @@ Begins-line octets good line b none short few = record {
   each = (none, short, few, b.each);
 }
 
-pub NoFeed-more : (line : List ℕ) (octet : ℕ) → NoFeed line → octet ≢ 10 → NoFeed (line ++ octet ∷ [])
-NoFeed-more [] octet none other = (other, tt)
-NoFeed-more (o ∷ line) octet none other = (none.0, NoFeed-more line octet none.1 other)
+pub NoFeed-append : (line more : List ℕ) → NoFeed line → NoFeed more → NoFeed (line ++ more)
+NoFeed-append [] more none other = other
+NoFeed-append (o ∷ line) more none other = (none.0, NoFeed-append line more none.1 other)
+
+-- from a place on to the end of a line so far, and one octet more
+pub NoFeed-further : (octets : List ℕ) (at end : ℕ) → at ≤ end → end < length octets → NoFeed (take (end - at) (drop at octets)) → get_or octets end 0 ≢ 10 → NoFeed (take (end + 1 - at) (drop at octets))
+NoFeed-further octets at end on within none other =
+    let place : at + (end - at) ≡ end = omega (arith, on) in
+    let more : end + 1 - at ≡ (end - at) + 1 = omega (arith, on) in
+    let is : get_or (drop at octets) (end - at) 0 ≡ get_or octets end 0 = get_or-drop at octets (end - at) 0 ∙ ap (λ (n : ℕ). get_or octets n 0) place in
+    subst (λ (w : List ℕ). NoFeed w) (sym (ap (λ (n : ℕ). take n (drop at octets)) more ∙ take_more (drop at octets) (end - at) 0 (omega (arith, length-drop at octets, within, on))))
+    (NoFeed-append (take (end - at) (drop at octets)) (get_or (drop at octets) (end - at) 0 ∷ []) none (subst (λ (o : ℕ). NoFeed (o ∷ [])) (sym is) (other, tt)))
 
 -- no more octets than the limits allow
 length-joined : (lines : List (List ℕ)) → AreLines lines → length (joined lines) ≤ 8193 * length lines
@@ -149,18 +158,18 @@ Stopped-more most bound (stops.Broken error) octets more p few f = record {
   explains = f.explains;
 }
 
--- an octet too many
-pub Stopped-long : (octets : List ℕ) (octet lines : ℕ) (form : Form) (good : List (List ℕ)) (line : List ℕ) (p : Point) → Begins octets good line → NoFeed (line ++ octet ∷ []) → most_octets ≤ length line → lines ≡ length good
-    → Explains (texts good) p → Stopped 1 (stops.Refused (suc lines) LongLine form) (octets ++ octet ∷ []) p
-Stopped-long octets octet lines form good line p b none long count explains = record {
+-- octets too many
+pub Stopped-long : (octets more : List ℕ) (lines : ℕ) (form : Form) (good : List (List ℕ)) (line : List ℕ) (p : Point) → Begins octets good line → NoFeed (line ++ more) → most_octets < length line + length more → lines ≡ length good
+    → Explains (texts good) p → Stopped 1 (stops.Refused (suc lines) LongLine form) (octets ++ more) p
+Stopped-long octets more lines form good line p b none long count explains = record {
   good = good;
   number_is = ap suc count;
   is = record {
-    line = line ++ octet ∷ [];
+    line = line ++ more;
     after = [];
-    begins = subst (λ (w : List ℕ). Begins (octets ++ octet ∷ []) good w) (sym (append-nil (line ++ octet ∷ []))) (Begins-more octets (octet ∷ []) good line b);
+    begins = subst (λ (w : List ℕ). Begins (octets ++ more) good w) (sym (append-nil (line ++ more))) (Begins-more octets more good line b);
     open_line = none;
-    wrong = inl (refl, omega (arith, long, length-append line (octet ∷ [])));
+    wrong = inl (refl, omega (arith, long, length-append line more));
   };
   expected = tt;
   explains = explains;
@@ -395,25 +404,18 @@ Closes-end told first o m founds.ReadFault lines octets script draft rounds j en
 pub not_read : (found : Found) (lines : ℕ) (draft : Draft) → EndsAt found lines draft → found ≢ founds.ReadFault
 not_read found lines draft end fault = subst (λ (f : Found). EndsAt f lines draft) fault end
 
--- the octets around the one at a place
-around : (before octets : List ℕ) (i octet : ℕ) → i < length octets → get_or octets i 0 ≡ octet → ((before ++ take i octets) ++ octet ∷ []) ++ drop (i + 1) octets ≡ before ++ octets
-around before octets i octet within is =
-    append_assoc (before ++ take i octets) (octet ∷ []) (drop (i + 1) octets) ∙ append_assoc before (take i octets) (octet ∷ drop (i + 1) octets)
-    ∙ ap (λ (w : List ℕ). before ++ (take i octets ++ w)) (ap (λ (o : ℕ). o ∷ drop (i + 1) octets) (sym is) ∙ sym (drop_more octets i 0 within))
-    ∙ ap (λ (w : List ℕ). before ++ w) (take-append-drop i octets)
+-- behind a front of the octets that were read
+Stopped-behind : (most : ℕ) (stop : Stop) (before octets : List ℕ) (i : ℕ) (p : Point) → 0 < i → i ≤ length octets → length octets ≤ most → Stopped 1 stop (before ++ take i octets) p → Stopped most stop (before ++ octets) p
+Stopped-behind most stop before octets i p some within few s =
+    subst (λ (w : List ℕ). Stopped most stop w p) (append_assoc before (take i octets) (drop i octets) ∙ ap (λ (w : List ℕ). before ++ w) (take-append-drop i octets))
+    (Stopped-more 1 most stop (before ++ take i octets) (drop i octets) p (omega (arith, length-drop {A = ℕ}, some, within, few)) s)
 
-Stopped-around : (most : ℕ) (stop : Stop) (before octets : List ℕ) (i octet : ℕ) (p : Point) → i < length octets → length octets ≤ most → get_or octets i 0 ≡ octet → Stopped 1 stop ((before ++ take i octets) ++ octet ∷ []) p
-    → Stopped most stop (before ++ octets) p
-Stopped-around most stop before octets i octet p within few is s =
-    subst (λ (w : List ℕ). Stopped most stop w p) (around before octets i octet within is)
-    (Stopped-more 1 most stop ((before ++ take i octets) ++ octet ∷ []) (drop (i + 1) octets) p (omega (arith, length-drop {A = ℕ}, within, few)) s)
-
-pub Halts-around : {L : Type 0} (told : L → Option LinkStory) (first o : Outer L) (m : Mode) (most : ℕ) (stop : Stop) (before octets : List ℕ) (i octet : ℕ) (j : List Entry) → i < length octets → length octets ≤ most → get_or octets i 0 ≡ octet
-    → Halts told first o m 1 stop ((before ++ take i octets) ++ octet ∷ []) j → Halts told first o m most stop (before ++ octets) j
-Halts-around told first o m most stop before octets i octet j within few is h = record {
+pub Halts-behind : {L : Type 0} (told : L → Option LinkStory) (first o : Outer L) (m : Mode) (most : ℕ) (stop : Stop) (before octets : List ℕ) (i : ℕ) (j : List Entry) → 0 < i → i ≤ length octets → length octets ≤ most
+    → Halts told first o m 1 stop (before ++ take i octets) j → Halts told first o m most stop (before ++ octets) j
+Halts-behind told first o m most stop before octets i j some within few h = record {
   draft = h.draft;
   rounds = h.rounds;
-  stopped = Stopped-around most stop before octets i octet (point_of m j h.draft h.rounds) within few is h.stopped;
+  stopped = Stopped-behind most stop before octets i (point_of m j h.draft h.rounds) some within few h.stopped;
   met = h.met;
 }
 

@@ -1,5 +1,5 @@
 -- How the outside is met by a line of both kinds of run: a link is attached, or frames are sent.
-use Rattle.std.proofs.Common.{◌≡◌, ℕ, zero, suc, ◌<◌, ◌+◌, ◌*◌, ◌⊎◌, List, [], ◌∷◌, ◌++◌, length, length-append, drop, Option, Some, None, Result, Ok, Err, refl, sym, ap, subst, ◌∙◌, append_assoc, inl, inr, arith}
+use Rattle.std.proofs.Common.{◌≡◌, ℕ, zero, suc, ◌<◌, ◌+◌, ◌*◌, ◌⊎◌, Bool, true, false, List, [], ◌∷◌, ◌++◌, length, length-append, drop, Option, Some, None, Result, Ok, Err, refl, sym, ap, subst, ◌∙◌, append_assoc, inl, inr, arith}
 use Rattle.std.specs.Prelude.{reverse}
 use Rattle.std.specs.List.{AllByRecursion}
 use Rattle.std.proofs.lemmas.List.{append-nil, reverse-append}
@@ -26,13 +26,14 @@ use Rattle.domain_links.specs.Attached.{Attached, frames_at}
 use Rattle.domain_links.specs.Turns.{Delivery}
 use Rattle.domain_links.proofs.OnePoll.{Tell-left}
 use Rattle.domain_links.proofs.Going.{Tell-same, sends-two}
-use Rattle.frame_script.specs.Script.{Draft, AtVersion, AtSeed, AtSsid, AtPsk, AtAkm, AtMdid, AtNodes, InRound, Said, Fault}
+use Rattle.frame_script.specs.Script.{Draft, AtVersion, AtSeed, AtSsid, AtPsk, AtAkm, AtMdid, AtNodes, InRound, Said, ListsAp, ListsSta, Fault, rounds_after}
 use Rattle.frame_script.specs.Headers.{Reading, TakesStep, HasRead, IsNetwork, sizes_of}
 use Rattle.frame_script.specs.declared.reader.Mode.{Mode}
 use Rattle.frame_script.specs.declared.reader.Mode.TheVariants.{Replay, Live}
 use Rattle.frame_script.specs.declared.reader.Step.{Step as Asked}
 use Rattle.frame_script.specs.declared.reader.Step.TheVariants as step
-use Rattle.domain_cli.specs.Outer.{Outer, AreHeard, IsHeardPart, left_behind, sends_for, HasLinks, IsLinked, IsLinkedPart, IsUnlinked, IsLinkedAt, IsLinkedPartAt, links_due}
+use Rattle.domain_cli.specs.Script.{Rounds}
+use Rattle.domain_cli.specs.Outer.{Outer, AreHeard, IsHeardPart, IsHeardBy, left_behind, sends_for, HasLinks, IsLinked, IsLinkedPart, IsUnlinked, IsLinkedAt, IsLinkedPartAt, links_due}
 use Rattle.domain_cli.specs.States.{Waiting, IsHeader, IsAt, IsOwn, IsWorldOf, IsBegun, DidAsk, DidEnd, Did, DidRun, run_count}
 use Rattle.domain_cli.specs.Turning.{Carries, GoesOut}
 use Rattle.domain_cli.proofs.Growing.{Grows}
@@ -80,15 +81,15 @@ linked_out told (AtMdid seed ssid psk) d start o turns j is l = absurd is
 linked_out told (AtNodes e) d start o turns j is l = subst (λ (x : Domain). IsLinked told x start o turns j) (sym is) l
 linked_out told (InRound e n) d start o turns j is l = subst (λ (x : Domain). IsLinked told x start o turns j) (sym is) l
 
-pub part_out : {L : Type 0} (told : L → Option LinkStory) (draft : Draft) (d : Domain) (start : AirStory) (o : Outer L) (turns : List (List Delivery)) (j : List Entry) → IsIn draft d → IsLinkedPart told d start o turns j → IsLinkedPartAt told draft start o turns j
-part_out told AtVersion d start o turns j is l = absurd is
-part_out told AtSeed d start o turns j is l = absurd is
-part_out told (AtSsid seed) d start o turns j is l = absurd is
-part_out told (AtPsk seed ssid) d start o turns j is l = absurd is
-part_out told (AtAkm seed ssid psk) d start o turns j is l = absurd is
-part_out told (AtMdid seed ssid psk) d start o turns j is l = absurd is
-part_out told (AtNodes e) d start o turns j is l = subst (λ (x : Domain). IsLinkedPart told x start o turns j) (sym is) l
-part_out told (InRound e n) d start o turns j is l = subst (λ (x : Domain). IsLinkedPart told x start o turns j) (sym is) l
+pub part_out : {L : Type 0} (told : L → Option LinkStory) (draft : Draft) (d : Domain) (start : AirStory) (o : Outer L) (rounds : Rounds) (j : List Entry) → IsIn draft d → IsLinkedPart told d start o rounds j → IsLinkedPartAt told draft start o rounds j
+part_out told AtVersion d start o rounds j is l = absurd is
+part_out told AtSeed d start o rounds j is l = absurd is
+part_out told (AtSsid seed) d start o rounds j is l = absurd is
+part_out told (AtPsk seed ssid) d start o rounds j is l = absurd is
+part_out told (AtAkm seed ssid psk) d start o rounds j is l = absurd is
+part_out told (AtMdid seed ssid psk) d start o rounds j is l = absurd is
+part_out told (AtNodes e) d start o rounds j is l = subst (λ (x : Domain). IsLinkedPart told x start o rounds j) (sym is) l
+part_out told (InRound e n) d start o rounds j is l = subst (λ (x : Domain). IsLinkedPart told x start o rounds j) (sym is) l
 
 -- before the header is whole
 pub unlinked_in : {L : Type 0} (told : L → Option LinkStory) (draft : Draft) (start : AirStory) (o : Outer L) (turns : List (List Delivery)) (j : List Entry) → IsHeader draft → IsLinkedAt told draft start o turns j → IsUnlinked start o turns
@@ -114,8 +115,9 @@ unlinked_out told (InRound d n) start o turns j due l = absurd due
 -- ---- what a line does to the network
 
 -- it lists one node, before any round: the journal is that of nodes that have started, and those before stand where they stood
-pub record ListsOne (w v : State) (r : Reading) (j k : List Entry) : Type 0 where
+pub record ListsOne (w v : State) (r s : Reading) (j k : List Entry) : Type 0 where
   pub none : r.rounds ≡ 0
+  pub still : s.rounds ≡ 0
   pub before : j ≡ started w.domain (length w.domain.aps)
   pub after : k ≡ started v.domain (length v.domain.aps)
   pub one : count v.domain ≡ count w.domain + 1
@@ -155,34 +157,43 @@ nodes_end w v None b j k did = absurd did
 nodes_end w v (Some old) None j k did = did.network
 nodes_end w v (Some old) (Some new) j k did = absurd did
 
+-- a line that asks for no rounds
+still_listing : (draft : Draft) (n m : ℕ) (says : Result Said Fault) (said listed : Said) → rounds_after draft n listed ≡ n → says ≡ Ok said → says ≡ Ok listed → m ≡ rounds_after draft n said → m ≡ n
+still_listing draft n m says said listed none is lists asked =
+    let same : said ≡ listed = cc (is, lists) in
+    asked ∙ ap (rounds_after draft n) same ∙ none
+
 -- or it leaves the network as it was
-pub nodes_then : (w v : State) (a b : Waiting) (r : Reading) (new : Draft) (j k : List Entry) (says : Result Said Fault) (asked : Asked) → IsOwn w a r j → TakesStep r.draft new r.rounds (sizes_of j) says asked → Did w v a b j k asked → (v.domain ≡ w.domain) ⊎ ListsOne w v r j k
-nodes_then w v a b r new j k says step.Nothing own takes did = inl (ap (λ (x : State). x.domain) did.0.0)
-nodes_then w v a b r new j k says step.Network own takes did = absurd did
-nodes_then w v a b r new j k says (step.Ap address id) own (d, (said, (old, (can, (no_stas, first))))) did =
+pub nodes_then : (w v : State) (a b : Waiting) (r s : Reading) (j k : List Entry) (says : Result Said Fault) (said : Said) (asked : Asked) → IsOwn w a r j → says ≡ Ok said → s.rounds ≡ rounds_after r.draft r.rounds said → TakesStep r.draft s.draft r.rounds (sizes_of j) says asked → Did w v a b j k asked
+    → (v.domain ≡ w.domain) ⊎ ListsOne w v r s j k
+nodes_then w v a b r s j k says said step.Nothing own is count_ takes did = inl (ap (λ (x : State). x.domain) did.0.0)
+nodes_then w v a b r s j k says said step.Network own is count_ takes did = absurd did
+nodes_then w v a b r s j k says said (step.Ap address id) own is count_ (d, (lists, (old, (can, (no_stas, first))))) did =
     let same = (outside r.draft d w a r.sizes j own.at old).0 in
     let before = own.first (none_run w a r j own first) in
     inr (record {
       none = first;
+      still = still_listing r.draft r.rounds s.rounds says said (ListsAp address id) refl is lists count_ ∙ first;
       before = before;
       after = did.0.begins before;
       one = one_ap w.domain v.domain address id did.0.network;
       nodes = λ i h. nodes_ap w.domain v.domain address id i did.0.network (ap (λ (x : Domain). x.stas) (sym same) ∙ no_stas) h;
     })
-nodes_then w v a b r new j k says (step.Sta address) own (d, (said, (old, (can, first)))) did =
+nodes_then w v a b r s j k says said (step.Sta address) own is count_ (d, (lists, (old, (can, first)))) did =
     let before = own.first (none_run w a r j own first) in
     inr (record {
       none = first;
+      still = still_listing r.draft r.rounds s.rounds says said (ListsSta address) refl is lists count_ ∙ first;
       before = before;
       after = did.0.begins before;
       one = one_sta w.domain v.domain address did.0.network;
       nodes = λ i h. nodes_sta w.domain v.domain address i did.0.network;
     })
-nodes_then w v a b r new j k says (step.Event event) own takes did = inl (nodes_ask w v a b event j k did)
-nodes_then w v a b r new j k says step.Round own takes did = inl (ap (λ (x : State). x.domain) did.0.0)
-nodes_then w v a b r new j k says step.End own takes did = inl (nodes_end w v a b j k did)
-nodes_then w v a b r new j k says step.Draw own takes did = absurd did
-nodes_then w v a b r new j k says step.Turn own takes did = absurd did
+nodes_then w v a b r s j k says said (step.Event event) own is count_ takes did = inl (nodes_ask w v a b event j k did)
+nodes_then w v a b r s j k says said step.Round own is count_ takes did = inl (ap (λ (x : State). x.domain) did.0.0)
+nodes_then w v a b r s j k says said step.End own is count_ takes did = inl (nodes_end w v a b j k did)
+nodes_then w v a b r s j k says said step.Draw own is count_ takes did = absurd did
+nodes_then w v a b r s j k says said step.Turn own is count_ takes did = absurd did
 
 -- the world of a network that the header told
 pub record IsFirst (v : State) : Type 0 where
@@ -209,22 +220,27 @@ first_then r new v j says step.Turn takes begun = absurd begun
 -- ---- links by the answer
 
 -- all went out, or a front of it
-abbrev pub LinkedBy : {L T : Type 0} → (L → Option LinkStory) → Domain → AirStory → Outer L → List (List Delivery) → List Entry → Result T LinkError → Type 0
-LinkedBy told d start o turns k (Ok x) = IsLinked told d start o turns k
-LinkedBy told d start o turns k (Err error) = IsLinkedPart told d start o turns k
+abbrev pub LinkedBy : {L T : Type 0} → (L → Option LinkStory) → Domain → AirStory → Outer L → Rounds → List Entry → Result T LinkError → Type 0
+LinkedBy told d start o rounds k (Ok x) = IsLinked told d start o rounds.turns k
+LinkedBy told d start o rounds k (Err error) = IsLinkedPart told d start o rounds k
 
-abbrev pub LinkedAtBy : {L T : Type 0} → (L → Option LinkStory) → Draft → AirStory → Outer L → List (List Delivery) → List Entry → Result T LinkError → Type 0
-LinkedAtBy told draft start o turns k (Ok x) = IsLinkedAt told draft start o turns k
-LinkedAtBy told draft start o turns k (Err error) = IsLinkedPartAt told draft start o turns k
+abbrev pub LinkedAtBy : {L T : Type 0} → (L → Option LinkStory) → Draft → AirStory → Outer L → Rounds → List Entry → Result T LinkError → Type 0
+LinkedAtBy told draft start o rounds k (Ok x) = IsLinkedAt told draft start o rounds.turns k
+LinkedAtBy told draft start o rounds k (Err error) = IsLinkedPartAt told draft start o rounds k
 
-by_out : {L T : Type 0} (told : L → Option LinkStory) (draft : Draft) (d : Domain) (start : AirStory) (o : Outer L) (turns : List (List Delivery)) (k : List Entry) (result : Result T LinkError) → IsIn draft d → LinkedBy told d start o turns k result → LinkedAtBy told draft start o turns k result
-by_out told draft d start o turns k (Ok x) is l = linked_out told draft d start o turns k is l
-by_out told draft d start o turns k (Err error) is l = part_out told draft d start o turns k is l
+by_out : {L T : Type 0} (told : L → Option LinkStory) (draft : Draft) (d : Domain) (start : AirStory) (o : Outer L) (rounds : Rounds) (k : List Entry) (result : Result T LinkError) → IsIn draft d → LinkedBy told d start o rounds k result → LinkedAtBy told draft start o rounds k result
+by_out told draft d start o rounds k (Ok x) is l = linked_out told draft d start o rounds.turns k is l
+by_out told draft d start o rounds k (Err error) is l = part_out told draft d start o rounds k is l
 
 pub heard_part : (d : Domain) (frames : ℕ → List (List ℕ)) (turns : List (List Delivery)) → AreHeard d frames turns → IsHeardPart d frames turns
 unfolding AreHeard
 heard_part d frames [] heard = tt
 heard_part d frames (given ∷ turns) heard = (heard.0, ([], append-nil given ∙ heard.1))
+
+-- and by the line
+heard_by : (turned : Bool) (d : Domain) (frames : ℕ → List (List ℕ)) (turns : List (List Delivery)) → AreHeard d frames turns → IsHeardBy turned d frames turns
+heard_by true d frames turns heard = heard_part d frames turns heard
+heard_by false d frames turns heard = heard
 
 pub heard_none : (d : Domain) (frames : ℕ → List (List ℕ)) (turns : List (List Delivery)) → turns ≡ [] → AreHeard d frames turns
 unfolding AreHeard
@@ -238,32 +254,31 @@ same_links d start n m air other links same was =
 
 -- ---- frames are sent
 
-linked_sent : {L T : Type 0} (told : L → Option LinkStory) (d : Domain) (rounds : ℕ) (start : AirStory) (old new : Outer L) (turns : List (List Delivery)) (j k : List Entry) (result : Result T LinkError) → Grows rounds j k → IsLinked told d start old turns j → Carries told d (length j) k old new result
-    → LinkedBy told d start new turns k result
-linked_sent told d rounds start old new turns j k (Ok x) more was c =
+linked_sent : {L T : Type 0} (told : L → Option LinkStory) (d : Domain) (run : ℕ) (start : AirStory) (old new : Outer L) (rounds : Rounds) (j k : List Entry) (result : Result T LinkError) → Grows run j k → IsLinked told d start old rounds.turns j → Carries told d (length j) k old new result
+    → LinkedBy told d start new rounds k result
+linked_sent told d run start old new rounds j k (Ok x) more was c =
     let out = c.sends_out (omega (arith, was.all)) in
     record {
       all = out.len ∙ was.all;
       attached = same_links d start (length old.links) (length new.links) old.air new.air out.len out.air was.attached;
       heard = was.heard;
-      tell = Tell-same told d new.links (left_behind (frames_at d start) (length turns)) _ (sends_for d k) (sends_more d rounds j k (drop (length j) (reverse k)) more refl)
-          (out.sent (left_behind (frames_at d start) (length turns)) (sends_for d j) was.tell);
+      tell = Tell-same told d new.links (left_behind (frames_at d start) (length rounds.turns)) _ (sends_for d k) (sends_more d run j k (drop (length j) (reverse k)) more refl)
+          (out.sent (left_behind (frames_at d start) (length rounds.turns)) (sends_for d j) was.tell);
     }
-linked_sent told d rounds start old new turns j k (Err error) more was c =
+linked_sent told d run start old new rounds j k (Err error) more was c =
     let out = c.sends_out (omega (arith, was.all)) in
     let news : List Send = sends d (drop (length j) (reverse k)) in
-    let part : (front rest : List Send) × (front ++ rest ≡ news) × Tell told d new.links (left_behind (frames_at d start) (length turns)) (sends_for d j ++ front) =
-    out.sent (left_behind (frames_at d start) (length turns)) (sends_for d j) was.tell in
+    let part : (front rest : List Send) × (front ++ rest ≡ news) × Tell told d new.links (left_behind (frames_at d start) (length rounds.turns)) (sends_for d j ++ front) =
+    out.sent (left_behind (frames_at d start) (length rounds.turns)) (sends_for d j) was.tell in
     record {
-      most = omega (arith, out.len, was.all);
-      all = omega (arith, out.len, was.all);
+      all = inl (out.len ∙ was.all);
       attached = same_links d start (length old.links) (length new.links) old.air new.air out.len out.air was.attached;
-      heard = heard_part d (frames_at d start) turns was.heard;
+      heard = heard_by rounds.turned d (frames_at d start) rounds.turns was.heard;
       part = record {
         front = sends_for d j ++ part.0;
         rest = part.1;
-        left = left_behind (frames_at d start) (length turns);
-        whole = append_assoc (sends_for d j) part.0 part.1 ∙ ap (λ (w : List Send). sends_for d j ++ w) part.2 ∙ sends_more d rounds j k (drop (length j) (reverse k)) more refl;
+        left = left_behind (frames_at d start) (length rounds.turns);
+        whole = append_assoc (sends_for d j) part.0 part.1 ∙ ap (λ (w : List Send). sends_for d j ++ w) part.2 ∙ sends_more d run j k (drop (length j) (reverse k)) more refl;
         tell = part.3;
       };
     }
@@ -316,30 +331,29 @@ attached_was told d e start old turns j nodes none quiet was = record {
   };
 }
 
-linked_attached : {L T : Type 0} (told : L → Option LinkStory) (w v : State) (r : Reading) (start : AirStory) (old new : Outer L) (turns : List (List Delivery)) (j k : List Entry) (result : Result T LinkError) → ListsOne w v r j k → turns ≡ [] → IsLinked told w.domain start old turns j
-    → Carries told v.domain (length j) k old new result → LinkedBy told v.domain start new turns k result
-linked_attached told w v r start old new turns j k (Ok x) one none was c =
+linked_attached : {L T : Type 0} (told : L → Option LinkStory) (w v : State) (r s : Reading) (start : AirStory) (old new : Outer L) (rounds : Rounds) (j k : List Entry) (result : Result T LinkError) → ListsOne w v r s j k → rounds.asked ≡ s.rounds → rounds.turns ≡ [] → IsLinked told w.domain start old rounds.turns j
+    → Carries told v.domain (length j) k old new result → LinkedBy told v.domain start new rounds k result
+linked_attached told w v r s start old new rounds j k (Ok x) one asked none was c =
     let a = c.attaches (omega (arith, was.all, one.one)) in
     let more : length new.links ≡ length old.links + 1 = a.more in
-    let now = a.attached start (attached_was told w.domain v.domain start old turns j one.nodes none (start_quiet w.domain w.domain (length w.domain.aps) j one.before) was) in
+    let now = a.attached start (attached_was told w.domain v.domain start old rounds.turns j one.nodes none (start_quiet w.domain w.domain (length w.domain.aps) j one.before) was) in
     let quiet = start_quiet v.domain v.domain (length v.domain.aps) k one.after in
     record {
       all = omega (arith, more, was.all, one.one);
       attached = record { now = now.now; is = now.is; others = now.frames; returned = now.returned };
-      heard = heard_none v.domain (frames_at v.domain start) turns none;
-      tell = Tell-left told v.domain new.links (frames_at v.domain start) (left_behind (frames_at v.domain start) (length turns)) (sends_for v.domain k) (λ i h. sym (none_left (frames_at v.domain start i) turns none))
+      heard = heard_none v.domain (frames_at v.domain start) rounds.turns none;
+      tell = Tell-left told v.domain new.links (frames_at v.domain start) (left_behind (frames_at v.domain start) (length rounds.turns)) (sends_for v.domain k) (λ i h. sym (none_left (frames_at v.domain start i) rounds.turns none))
           (Tell-same told v.domain new.links (frames_at v.domain start) [] (sends_for v.domain k) (sym quiet) now.tell);
     }
-linked_attached told w v r start old new turns j k (Err error) one none was c =
+linked_attached told w v r s start old new rounds j k (Err error) one asked none was c =
     let a = c.attaches (omega (arith, was.all, one.one)) in
     let same : new.links ≡ old.links = a.same in
     let long : length new.links ≡ length old.links = ap (λ (l : List _). length l) same in
-    let now = a.attached start (attached_was told w.domain v.domain start old turns j one.nodes none (start_quiet w.domain w.domain (length w.domain.aps) j one.before) was) in
+    let now = a.attached start (attached_was told w.domain v.domain start old rounds.turns j one.nodes none (start_quiet w.domain w.domain (length w.domain.aps) j one.before) was) in
     record {
-      most = omega (arith, long, was.all, one.one);
-      all = omega (arith, long, was.all, one.one);
+      all = inr (asked ∙ one.still, omega (arith, long, was.all, one.one));
       attached = record { now = now.now; is = now.is; others = now.frames; returned = now.returned };
-      heard = heard_part v.domain (frames_at v.domain start) turns (heard_none v.domain (frames_at v.domain start) turns none);
+      heard = heard_by rounds.turned v.domain (frames_at v.domain start) rounds.turns (heard_none v.domain (frames_at v.domain start) rounds.turns none);
       part = record {
         front = [];
         rest = [];
@@ -351,25 +365,24 @@ linked_attached told w v r start old new turns j k (Err error) one none was c =
 
 -- ---- the header is whole
 
-linked_first : {L T : Type 0} (told : L → Option LinkStory) (v : State) (start : AirStory) (old new : Outer L) (turns : List (List Delivery)) (j k : List Entry) (result : Result T LinkError) → IsFirst v → k ≡ [] → IsUnlinked start old turns → Carries told v.domain (length j) k old new result
-    → LinkedBy told v.domain start new turns k result
-linked_first told v start old new turns j k (Ok x) first empty was c =
+linked_first : {L T : Type 0} (told : L → Option LinkStory) (v : State) (start : AirStory) (old new : Outer L) (rounds : Rounds) (j k : List Entry) (result : Result T LinkError) → IsFirst v → k ≡ [] → IsUnlinked start old rounds.turns → Carries told v.domain (length j) k old new result
+    → LinkedBy told v.domain start new rounds k result
+linked_first told v start old new rounds j k (Ok x) first empty was c =
     let out = c.sends_out (omega (arith, first.none)) in
     let none : length new.links ≡ 0 = out.len ∙ ap (λ (l : List _). length l) was.none in
     record {
       all = none ∙ sym first.none;
       attached = record { now = start; is = out.air ∙ was.same; others = λ node behind. refl; returned = refl };
-      heard = heard_none v.domain (frames_at v.domain start) turns was.no_turns;
+      heard = heard_none v.domain (frames_at v.domain start) rounds.turns was.no_turns;
       tell = record { each = λ i l h. absurd (omega (arith, h, none)) };
     }
-linked_first told v start old new turns j k (Err error) first empty was c =
+linked_first told v start old new rounds j k (Err error) first empty was c =
     let out = c.sends_out (omega (arith, first.none)) in
     let none : length new.links ≡ 0 = out.len ∙ ap (λ (l : List _). length l) was.none in
     record {
-      most = omega (arith, none);
-      all = omega (arith, none, first.none);
+      all = inl (none ∙ sym first.none);
       attached = record { now = start; is = out.air ∙ was.same; others = λ node behind. refl; returned = refl };
-      heard = heard_part v.domain (frames_at v.domain start) turns (heard_none v.domain (frames_at v.domain start) turns was.no_turns);
+      heard = heard_by rounds.turned v.domain (frames_at v.domain start) rounds.turns (heard_none v.domain (frames_at v.domain start) rounds.turns was.no_turns);
       part = record {
         front = [];
         rest = [];
@@ -382,22 +395,22 @@ linked_first told v start old new turns j k (Err error) first empty was c =
 -- ---- all of it
 
 -- how links are met behind a line
-pub linked_line : {L T : Type 0} (told : L → Option LinkStory) (r s : Reading) (world v : Option State) (a b : Waiting) (start : AirStory) (old new : Outer L) (turns : List (List Delivery)) (line : List ℕ) (j k : List Entry) (asked : Asked) (result : Result T LinkError)
-    → IsWorldOf world a r j → HasRead r s (sizes_of j) line asked → DidRun world v a b s.draft j k asked → IsWorldOf v b s k → (r.rounds ≡ 0 → turns ≡ []) → Grows (run_count world) j k → GoesOut told Live v (length j) k old new result → IsLinkedAt told r.draft start old turns j
-    → LinkedAtBy told s.draft start new turns k result
-linked_line told r s None None a b start old new turns line j k asked (Ok x) is read did after none more goes l =
-    unlinked_out told s.draft start new turns k after.due (subst (λ (o : Outer _). IsUnlinked start o turns) (sym goes.0) (unlinked_in told r.draft start old turns j is.due l))
-linked_line told r s None None a b start old new turns line j k asked (Err error) is read did after none more goes l = absurd goes.1
-linked_line told r s None (Some v) a b start old new turns line j k asked result is read did after none more goes l =
-    by_out told s.draft v.domain start new turns k result (is_in s.draft v b s.sizes k after.at)
-    (linked_first told v start old new turns j k result (first_then r s.draft v j _ asked read.1.1.1.1 did.0) (did.1.0 ∙ is.no_entries) (unlinked_in told r.draft start old turns j is.due l) goes)
-linked_line told r s (Some w) None a b start old new turns line j k asked result is read did after none more goes l = absurd did
-linked_line told r s (Some w) (Some v) a b start old new turns line j k asked result is read did after none more goes l =
-    let was = linked_in told r.draft w.domain start old turns j (is_in r.draft w a r.sizes j is.at) l in
-    by_out told s.draft v.domain start new turns k result (is_in s.draft v b s.sizes k after.at) (elim (nodes_then w v a b r s.draft j k _ asked is read.1.1.1.1 did.1) [
-      | inl same ↦ subst (λ (x : Domain). LinkedBy told x start new turns k result) (sym same)
-          (linked_sent told w.domain w.rounds start old new turns j k result more was (subst (λ (x : Domain). Carries told x (length j) k old new result) same goes))
-      | inr one ↦ linked_attached told w v r start old new turns j k result one (none one.none) was goes
+pub linked_line : {L T : Type 0} (told : L → Option LinkStory) (r s : Reading) (world v : Option State) (a b : Waiting) (start : AirStory) (old new : Outer L) (rounds : Rounds) (line : List ℕ) (j k : List Entry) (asked : Asked) (result : Result T LinkError)
+    → IsWorldOf world a r j → HasRead r s (sizes_of j) line asked → DidRun world v a b s.draft j k asked → IsWorldOf v b s k → rounds.asked ≡ s.rounds → (r.rounds ≡ 0 → rounds.turns ≡ []) → Grows (run_count world) j k → GoesOut told Live v (length j) k old new result → IsLinkedAt told r.draft start old rounds.turns j
+    → LinkedAtBy told s.draft start new rounds k result
+linked_line told r s None None a b start old new rounds line j k asked (Ok x) is read did after count_ none more goes l =
+    unlinked_out told s.draft start new rounds.turns k after.due (subst (λ (o : Outer _). IsUnlinked start o rounds.turns) (sym goes.0) (unlinked_in told r.draft start old rounds.turns j is.due l))
+linked_line told r s None None a b start old new rounds line j k asked (Err error) is read did after count_ none more goes l = absurd goes.1
+linked_line told r s None (Some v) a b start old new rounds line j k asked result is read did after count_ none more goes l =
+    by_out told s.draft v.domain start new rounds k result (is_in s.draft v b s.sizes k after.at)
+    (linked_first told v start old new rounds j k result (first_then r s.draft v j _ asked read.1.1.1.1 did.0) (did.1.0 ∙ is.no_entries) (unlinked_in told r.draft start old rounds.turns j is.due l) goes)
+linked_line told r s (Some w) None a b start old new rounds line j k asked result is read did after count_ none more goes l = absurd did
+linked_line told r s (Some w) (Some v) a b start old new rounds line j k asked result is read did after count_ none more goes l =
+    let was = linked_in told r.draft w.domain start old rounds.turns j (is_in r.draft w a r.sizes j is.at) l in
+    by_out told s.draft v.domain start new rounds k result (is_in s.draft v b s.sizes k after.at) (elim (nodes_then w v a b r s j k _ read.0 asked is read.1.0 read.1.1.1.0 read.1.1.1.1 did.1) [
+      | inl same ↦ subst (λ (x : Domain). LinkedBy told x start new rounds k result) (sym same)
+          (linked_sent told w.domain w.rounds start old new rounds j k result more was (subst (λ (x : Domain). Carries told x (length j) k old new result) same goes))
+      | inr one ↦ linked_attached told w v r s start old new rounds j k result one count_ (none one.none) was goes
     ])
 
 -- how many links there are then
@@ -410,7 +423,7 @@ links_then told Live r s None (Some v) a b old new line j k asked x due is read 
     (goes.sends_out (omega (arith, first.none))).len ∙ due ∙ sym first.none
 links_then told Live r s (Some w) None a b old new line j k asked x due is read did goes = absurd did
 links_then told Live r s (Some w) (Some v) a b old new line j k asked x due is read did goes =
-    elim (nodes_then w v a b r s.draft j k _ asked is read.1.1.1.1 did.1) [
+    elim (nodes_then w v a b r s j k _ read.0 asked is read.1.0 read.1.1.1.0 read.1.1.1.1 did.1) [
       | inl same ↦ (goes.sends_out (omega (arith, due, ap count same))).len ∙ due ∙ ap count (sym same)
       | inr one ↦ let more : length new.links ≡ length old.links + 1 = (goes.attaches (omega (arith, due, one.one))).more in omega (arith, more, due, one.one)
     ]

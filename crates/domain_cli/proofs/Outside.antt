@@ -1,5 +1,5 @@
 -- Lines by which something comes from outside: a seed that is drawn, and what nodes take in a turn.
-use Rattle.std.proofs.Common.{◌≡◌, ◌≢◌, ℕ, suc, ◌≤◌, ◌+◌, ◌*◌, List, [], ◌∷◌, length, drop, Option, Some, None, Result, Ok, Err, refl, sym, ap, subst, ◌∙◌, arith}
+use Rattle.std.proofs.Common.{◌≡◌, ◌≢◌, ℕ, suc, ◌≤◌, ◌+◌, ◌*◌, List, [], ◌∷◌, length, drop, Option, Some, None, Result, Ok, Err, refl, sym, ap, subst, ◌∙◌, inl, arith}
 use Rattle.std.specs.Prelude.{OnOk, OnErr, MatchResult}
 use Rattle.std.proofs.lemmas.List.{drop-drop}
 use Rattle.domain_base.specs.Causes.{Rose}
@@ -417,16 +417,15 @@ linked_turn told faults w v start old new turns j k x air did was =
           (λ i h. past_below left (count d) i (omega (arith, h, long, was.all)) ∙ next_left (frames i) (length turns)) all.tell;
     }
 
-linked_turn_part : {L T : Type 0} (told : L → Option LinkStory) (faults : L → ℕ) (w v : State) (start : AirStory) (old new : Outer L) (turns : List (List Delivery)) (j k : List Entry) (error : LinkError) → new.air ≡ old.air → (did : DidTurn {L = L} {T = T} told faults old.links new.links (stage w j) (stage v k) (Err error))
-    → IsLinked told w.domain start old turns j → IsLinkedPart told w.domain start new (did.takes.given ∷ turns) k
-linked_turn_part told faults w v start old new turns j k error air did was =
+linked_turn_part : {L T : Type 0} (told : L → Option LinkStory) (faults : L → ℕ) (w v : State) (start : AirStory) (old new : Outer L) (rounds : Rounds) (j k : List Entry) (error : LinkError) → new.air ≡ old.air → (did : DidTurn {L = L} {T = T} told faults old.links new.links (stage w j) (stage v k) (Err error))
+    → IsLinked told w.domain start old rounds.turns j → IsLinkedPart told w.domain start new (with_turn rounds did.takes.given) k
+linked_turn_part told faults w v start old new rounds j k error air did was =
     let d = w.domain in
-    let left = left_behind (frames_at d start) (length turns) in
+    let left = left_behind (frames_at d start) (length rounds.turns) in
     let part = did.takes.tells left was.tell in
     let long : length new.links ≡ length old.links = did.laid.len in
     record {
-      most = omega (arith, long, was.all);
-      all = omega (arith, long, was.all);
+      all = inl (long ∙ was.all);
       attached = same_links d start (length old.links) (length new.links) old.air new.air long air was.attached;
       heard = (was.heard, (part.rest, part.whole));
       part = part.part;
@@ -464,7 +463,7 @@ breaks_turn told faults rightly first s t old new line draft rounds j k error ai
       journal = more.stands.journal;
       met = record {
         drawn = same_last first.last old.last new.last rounds.drawn last met.drawn;
-        linked = λ start is. linked_turn_part told faults l.w l.v start old new rounds.turns j k error air l.did (subst (λ (d : Draft). IsLinkedAt told d start old rounds.turns j) more.at (met.linked l.live start is));
+        linked = λ start is. linked_turn_part told faults l.w l.v start old new rounds j k error air l.did (subst (λ (d : Draft). IsLinkedAt told d start old rounds.turns j) more.at (met.linked l.live start is));
       };
     }
 

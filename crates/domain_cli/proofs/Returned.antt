@@ -1,7 +1,8 @@
 -- What the links of a live run were sent and gave, once they are taken back.
-use Rattle.std.proofs.Common.{◌≡◌, ℕ, List, [], ◌++◌, length, Option, Some, refl, sym, ap, ◌∙◌, arith}
+use Rattle.std.proofs.Common.{◌≡◌, ℕ, List, [], ◌++◌, length, Option, Some, refl, sym, ap, subst, ◌∙◌}
 use Rattle.std.proofs.lemmas.List.{append-nil, nil_from_length}
 use Rattle.domain_base.specs.Told.{LinkStory, AirStory}
+use Rattle.domain_links.specs.NodeOrder.{count}
 use Rattle.domain_links.specs.Attached.{TakenBack}
 use Rattle.domain_links.specs.Turns.{Delivery}
 use Rattle.domain_links.proofs.Returned.{Tell-ended, len_ended}
@@ -13,7 +14,7 @@ use Rattle.domain_cli.specs.declared.status.Found.{Found}
 use Rattle.domain_cli.specs.declared.status.Found.TheVariants as found
 use Rattle.domain_cli.specs.declared.status.Stop.TheVariants as stop
 use Rattle.domain_cli.specs.Script.{Rounds, no_rounds}
-use Rattle.domain_cli.specs.Outer.{outer, IsLinked, IsLinkedPart, IsUnlinked, IsLinkedAt, IsLinkedPartAt, IsMet, IsMetPart}
+use Rattle.domain_cli.specs.Outer.{outer, AllButNew, IsLinked, IsLinkedPart, IsUnlinked, IsLinkedAt, IsLinkedPartAt, IsMet, IsMetPart}
 use Rattle.domain_cli.specs.Stops.{MetBefore}
 use Rattle.domain_cli.specs.Lives.{AreEnded, AreEndedPart, EndsAll, EndsPart, EndsBy, GaveBack, Meets}
 
@@ -37,17 +38,16 @@ all_ended told d start now links air last turns j l t = record {
   };
 }
 
-part_ended : {L : Type 0} (told : L → Option LinkStory) (d : Domain) (start now : AirStory) (links : List L) (air : Option AirStory) (last : Option (List ℕ)) (turns : List (List Delivery)) (j : List Entry)
-    → IsLinkedPart told d start (outer links air last) turns j → (t : TakenBack told links air now) → Came start air (AreEndedPart d start turns j t.ended)
-part_ended told d start now links air last turns j l t =
+part_ended : {L : Type 0} (told : L → Option LinkStory) (d : Domain) (start now : AirStory) (links : List L) (air : Option AirStory) (last : Option (List ℕ)) (rounds : Rounds) (j : List Entry)
+    → IsLinkedPart told d start (outer links air last) rounds j → (t : TakenBack told links air now) → Came start air (AreEndedPart d start rounds j t.ended)
+part_ended told d start now links air last rounds j l t =
     let len = len_ended told links t.ended t.stories in
     record {
       mid = l.attached.now;
       is = l.attached.is;
       returned = l.attached.returned;
       ends = record {
-        most = omega (arith, len, l.most);
-        all = omega (arith, len, l.all);
+        all = subst (λ (n : ℕ). AllButNew rounds.asked (count d) n) (sym len) l.all;
         heard = l.heard;
         part = record {
           front = l.part.front;
@@ -80,20 +80,20 @@ came_all told (AtPsk seed ssid) start now links air last turns j l t = none_ende
 came_all told (AtAkm seed ssid psk) start now links air last turns j l t = none_ended told start now links air last turns l t
 came_all told (AtMdid seed ssid psk) start now links air last turns j l t = none_ended told start now links air last turns l t
 
-came_part : {L : Type 0} (told : L → Option LinkStory) (draft : Draft) (start now : AirStory) (links : List L) (air : Option AirStory) (last : Option (List ℕ)) (turns : List (List Delivery)) (j : List Entry)
-    → IsLinkedPartAt told draft start (outer links air last) turns j → (t : TakenBack told links air now) → Came start air (EndsPart draft start turns j t.ended)
-came_part told (AtNodes d) start now links air last turns j l t = part_ended told d start now links air last turns j l t
-came_part told (InRound d n) start now links air last turns j l t = part_ended told d start now links air last turns j l t
-came_part told AtVersion start now links air last turns j l t = absurd l
-came_part told AtSeed start now links air last turns j l t = absurd l
-came_part told (AtSsid seed) start now links air last turns j l t = absurd l
-came_part told (AtPsk seed ssid) start now links air last turns j l t = absurd l
-came_part told (AtAkm seed ssid psk) start now links air last turns j l t = absurd l
-came_part told (AtMdid seed ssid psk) start now links air last turns j l t = absurd l
+came_part : {L : Type 0} (told : L → Option LinkStory) (draft : Draft) (start now : AirStory) (links : List L) (air : Option AirStory) (last : Option (List ℕ)) (rounds : Rounds) (j : List Entry)
+    → IsLinkedPartAt told draft start (outer links air last) rounds j → (t : TakenBack told links air now) → Came start air (EndsPart draft start rounds j t.ended)
+came_part told (AtNodes d) start now links air last rounds j l t = part_ended told d start now links air last rounds j l t
+came_part told (InRound d n) start now links air last rounds j l t = part_ended told d start now links air last rounds j l t
+came_part told AtVersion start now links air last rounds j l t = absurd l
+came_part told AtSeed start now links air last rounds j l t = absurd l
+came_part told (AtSsid seed) start now links air last rounds j l t = absurd l
+came_part told (AtPsk seed ssid) start now links air last rounds j l t = absurd l
+came_part told (AtAkm seed ssid psk) start now links air last rounds j l t = absurd l
+came_part told (AtMdid seed ssid psk) start now links air last rounds j l t = absurd l
 
-gave : {L : Type 0} (told : L → Option LinkStory) (found_ : Found) (draft : Draft) (start now : AirStory) (links : List L) (air : Option AirStory) (turns : List (List Delivery)) (j : List Entry)
-    → (t : TakenBack told links air now) → Came start air (EndsBy found_ draft start turns j t.ended) → GaveBack found_ draft turns j start now
-gave told found_ draft start now links air turns j t c =
+gave : {L : Type 0} (told : L → Option LinkStory) (found_ : Found) (draft : Draft) (start now : AirStory) (links : List L) (air : Option AirStory) (rounds : Rounds) (j : List Entry)
+    → (t : TakenBack told links air now) → Came start air (EndsBy found_ draft start rounds j t.ended) → GaveBack found_ draft rounds j start now
+gave told found_ draft start now links air rounds j t c =
     let same : t.was ≡ c.mid = cc (t.is, c.is) in
     record {
       ended = t.ended;
@@ -112,39 +112,39 @@ whole_met told draft rounds links old mid new last_old last_new j m back start n
 
 part_met : {L : Type 0} (told : L → Option LinkStory) (draft : Draft) (rounds : Rounds) (links : List L) (old mid new : Option AirStory) (last_old last_new : Option (List ℕ)) (j : List Entry)
     → IsMetPart told (outer [] old last_old) (outer links mid last_new) draft rounds j → (back : AreBack told links mid new) → (start now : AirStory) → old ≡ Some start → (e : new ≡ Some now)
-    → Came start mid (EndsPart draft start rounds.turns j (back now e).ended)
-part_met told draft rounds links old mid new last_old last_new j m back start now is e = came_part told draft start now links mid last_new rounds.turns j (m.linked start is) (back now e)
+    → Came start mid (EndsPart draft start rounds j (back now e).ended)
+part_met told draft rounds links old mid new last_old last_new j m back start now is e = came_part told draft start now links mid last_new rounds j (m.linked start is) (back now e)
 
 -- however the reading ended
 pub meets : {L : Type 0} (told : L → Option LinkStory) (found_ : Found) (draft : Draft) (rounds : Rounds) (links : List L) (old mid new : Option AirStory) (last_old last_new : Option (List ℕ)) (j : List Entry)
     → MetBefore found_ told (outer [] old last_old) (outer links mid last_new) Live draft rounds j → AreBack told links mid new → Meets found_ draft rounds old new last_old last_new j
 meets told found.Whole draft rounds links old mid new last_old last_new j m back = record {
   drawn = m.drawn;
-  linked = λ start now is e. gave told found.Whole draft start now links mid rounds.turns j (back now e) (whole_met told draft rounds links old mid new last_old last_new j m back start now is e);
+  linked = λ start now is e. gave told found.Whole draft start now links mid rounds j (back now e) (whole_met told draft rounds links old mid new last_old last_new j m back start now is e);
 }
 meets told (found.Unended number refusal) draft rounds links old mid new last_old last_new j m back = record {
   drawn = m.drawn;
-  linked = λ start now is e. gave told (found.Unended number refusal) draft start now links mid rounds.turns j (back now e) (whole_met told draft rounds links old mid new last_old last_new j m back start now is e);
+  linked = λ start now is e. gave told (found.Unended number refusal) draft start now links mid rounds j (back now e) (whole_met told draft rounds links old mid new last_old last_new j m back start now is e);
 }
 meets told found.ReadFault draft rounds links old mid new last_old last_new j m back = record {
   drawn = m.drawn;
-  linked = λ start now is e. gave told found.ReadFault draft start now links mid rounds.turns j (back now e) (whole_met told draft rounds links old mid new last_old last_new j m back start now is e);
+  linked = λ start now is e. gave told found.ReadFault draft start now links mid rounds j (back now e) (whole_met told draft rounds links old mid new last_old last_new j m back start now is e);
 }
 meets told (found.Stopped (stop.Refused number refusal form)) draft rounds links old mid new last_old last_new j m back = record {
   drawn = m.drawn;
-  linked = λ start now is e. gave told (found.Stopped (stop.Refused number refusal form)) draft start now links mid rounds.turns j (back now e) (whole_met told draft rounds links old mid new last_old last_new j m back start now is e);
+  linked = λ start now is e. gave told (found.Stopped (stop.Refused number refusal form)) draft start now links mid rounds j (back now e) (whole_met told draft rounds links old mid new last_old last_new j m back start now is e);
 }
 meets told (found.Stopped stop.NoMemory) draft rounds links old mid new last_old last_new j m back = record {
   drawn = m.drawn;
-  linked = λ start now is e. gave told (found.Stopped stop.NoMemory) draft start now links mid rounds.turns j (back now e) (whole_met told draft rounds links old mid new last_old last_new j m back start now is e);
+  linked = λ start now is e. gave told (found.Stopped stop.NoMemory) draft start now links mid rounds j (back now e) (whole_met told draft rounds links old mid new last_old last_new j m back start now is e);
 }
 meets told (found.Stopped stop.DrawFault) draft rounds links old mid new last_old last_new j m back = record {
   drawn = m.drawn;
-  linked = λ start now is e. gave told (found.Stopped stop.DrawFault) draft start now links mid rounds.turns j (back now e) (whole_met told draft rounds links old mid new last_old last_new j m back start now is e);
+  linked = λ start now is e. gave told (found.Stopped stop.DrawFault) draft start now links mid rounds j (back now e) (whole_met told draft rounds links old mid new last_old last_new j m back start now is e);
 }
 meets told (found.Stopped (stop.Broken error)) draft rounds links old mid new last_old last_new j m back = record {
   drawn = m.drawn;
-  linked = λ start now is e. gave told (found.Stopped (stop.Broken error)) draft start now links mid rounds.turns j (back now e) (part_met told draft rounds links old mid new last_old last_new j m back start now is e);
+  linked = λ start now is e. gave told (found.Stopped (stop.Broken error)) draft start now links mid rounds j (back now e) (part_met told draft rounds links old mid new last_old last_new j m back start now is e);
 }
 
 -- nothing was read, and nothing asked for

@@ -21,7 +21,7 @@ use Rattle.frame_script.specs.declared.reader.Step.TheVariants as step
 use Rattle.domain_cli.specs.declared.state.ScriptState.{ScriptState}
 use Rattle.domain_cli.specs.declared.status.Undone.TheVariants as undone
 use Rattle.domain_cli.specs.Script.{Rounds, no_rounds, IsJournal, Refuses, Says, sizes_before, rounds_with, says_in}
-use Rattle.domain_cli.specs.Outer.{Outer, outer, IsDrawn, IsMet, IsLinkedAt, IsLinkedPartAt, links_due}
+use Rattle.domain_cli.specs.Outer.{Outer, outer, IsDrawn, IsMet, IsLinkedAt, links_due}
 use Rattle.domain_cli.specs.Ran.{HasDone}
 use Rattle.domain_cli.specs.States.{IsWorldOf, IsReady, Stands, HasSame, CanRun, DidRun, TellsLine, BreaksLine, LeavesLine, run_count}
 use Rattle.domain_cli.specs.Turning.{Carries, GoesOut}
@@ -276,15 +276,17 @@ none_turned [] n m few same none = refl
 none_turned (given ∷ turns) n m few same none = absurd (omega (arith, few, same, none))
 
 -- how the outside is met behind it
-linked_then : {L T : Type 0} (told : L → Option LinkStory) (first : Outer L) (s t : ScriptState) (old new : Outer L) (line : List ℕ) (draft : Draft) (rounds : Rounds) (j k : List Entry) (asked : Asked) (result : Result T LinkError) (start : AirStory)
-    → IsReady s (length old.links) 65536 j → Stands s draft rounds j → IsMet told first old s.reader.mode draft rounds j → LineDone told s t old new line j k asked result → s.reader.mode ≡ Live → first.air ≡ Some start → LinkedAtBy told t.reader.draft start new rounds.turns k result
-linked_then told first s t old new line draft rounds j k asked result start ready stands met l live is =
-    let after = after_line told s t old new line j k asked result ready.world_is l in
-    linked_line told s.reader t.reader s.world t.world s.waiting t.waiting start old new rounds.turns line j k asked result ready.world_is l.reads.read l.did after
-    (λ none. none_turned rounds.turns rounds.asked s.reader.rounds stands.few_turns stands.rounds_are none)
+linked_then : {L T : Type 0} (told : L → Option LinkStory) (first : Outer L) (s t : ScriptState) (old new : Outer L) (line : List ℕ) (draft : Draft) (rounds : Rounds) (j k : List Entry) (asked : Asked) (result : Result T LinkError) (start : AirStory) (after : Rounds)
+    → IsReady s (length old.links) 65536 j → Stands s draft rounds j → IsMet told first old s.reader.mode draft rounds j → LineDone told s t old new line j k asked result → Telling s t line draft rounds j k after → s.reader.mode ≡ Live → first.air ≡ Some start
+    → LinkedAtBy told t.reader.draft start new after k result
+linked_then told first s t old new line draft rounds j k asked result start after ready stands met l more live is =
+    let world = after_line told s t old new line j k asked result ready.world_is l in
+    linked_line told s.reader t.reader s.world t.world s.waiting t.waiting start old new after line j k asked result ready.world_is l.reads.read l.did world (sym more.stands.rounds_are)
+    (λ none. more.turns ∙ none_turned rounds.turns rounds.asked s.reader.rounds stands.few_turns stands.rounds_are none)
     (grows s.reader t.reader s.world t.world s.waiting t.waiting j k line asked ready.world_is l.reads.read l.did)
     (subst (λ (m : Mode). GoesOut told m t.world (length j) k old new result) (ready.mode_is ∙ live) l.goes)
-    (subst (λ (d : Draft). IsLinkedAt told d start old rounds.turns j) (sym stands.draft_is) (met.linked live start is))
+    (subst (λ (w : List (List Delivery)). IsLinkedAt told s.reader.draft start old w j) (sym more.turns)
+    (subst (λ (d : Draft). IsLinkedAt told d start old rounds.turns j) (sym stands.draft_is) (met.linked live start is)))
 
 drawn_then : (before old new drawn other : Option (List ℕ)) → other ≡ drawn → new ≡ old → IsDrawn drawn before old → IsDrawn other before new
 drawn_then before old new drawn other same last is =
@@ -303,8 +305,7 @@ tells_line told rightly first s t old new line draft rounds j k asked x last rea
       stands = more.stands;
       met = record {
         drawn = drawn_then first.last old.last new.last rounds.drawn after.drawn more.drawn last met.drawn;
-        linked = λ live start is. subst (λ (w : List (List Delivery)). IsLinkedAt told t.reader.draft start new w k) (sym more.turns)
-            (linked_then told first s t old new line draft rounds j k asked (Ok x) start ready stands met l (sym l.reader_mode ∙ live) is);
+        linked = λ live start is. linked_then told first s t old new line draft rounds j k asked (Ok x) start after ready stands met l more (sym l.reader_mode ∙ live) is;
       };
     }
 
@@ -328,7 +329,6 @@ breaks_line {L} {T} told rightly first s t old new line draft rounds j k asked e
       journal = more.stands.journal;
       met = record {
         drawn = drawn_then first.last old.last new.last rounds.drawn after.drawn more.drawn last met.drawn;
-        linked = λ start is. subst (λ (w : List (List Delivery)). IsLinkedPartAt told t.reader.draft start new w k) (sym more.turns)
-            (linked_then told first s t old new line draft rounds j k asked (Err error) start ready stands met l live is);
+        linked = λ start is. linked_then told first s t old new line draft rounds j k asked (Err error) start after ready stands met l more live is;
       };
     }

@@ -1,5 +1,5 @@
 -- What a whole live run did: as a replay, and what its links were sent and gave.
-use Rattle.std.specs.Prelude.{◌≡◌, ℕ, ◌+◌, ◌≤◌, List, [], ◌++◌, length, Option, Some}
+use Rattle.std.specs.Prelude.{◌≡◌, ℕ, List, [], ◌++◌, length, Option, Some}
 use Rattle.domain_base.specs.Told.{LinkStory, AirStory}
 use Rattle.run_journal.specs.declared.domain.Domain.{Domain}
 use Rattle.run_journal.specs.declared.acts.Entry.{Entry}
@@ -15,7 +15,7 @@ use Rattle.domain_cli.specs.declared.status.Stop.TheVariants.{Broken}
 use Rattle.domain_cli.specs.declared.status.Status.{Status}
 use Rattle.domain_cli.specs.Script.{Rounds}
 use Rattle.domain_cli.specs.Story.{RunsIn}
-use Rattle.domain_cli.specs.Outer.{IsDrawn, AreHeard, IsHeardPart, left_behind, sends_for}
+use Rattle.domain_cli.specs.Outer.{IsDrawn, AreHeard, IsHeardBy, AllButNew, left_behind, sends_for}
 
 -- a link that was taken back tells its story
 abbrev pub itself : LinkStory → Option LinkStory
@@ -28,12 +28,12 @@ pub record AreEnded (d : Domain) (start : AirStory) (turns : List (List Delivery
   pub heard : AreHeard d (frames_at d start) turns
   pub tell : Tell itself d ended (left_behind (frames_at d start) (length turns)) (sends_for d j)
 
--- behind a call that failed or wanted memory: those of all nodes, or of all but the last one, for which no link was attached; they
--- have sent one common front of it, and the last turn took a front of what it would
-pub record AreEndedPart (d : Domain) (start : AirStory) (turns : List (List Delivery)) (j : List Entry) (ended : List LinkStory) : Type 0 where
-  pub most : length ended ≤ count d
-  pub all : count d ≤ length ended + 1
-  pub heard : IsHeardPart d (frames_at d start) turns
+-- behind a call that failed or wanted memory: those of all nodes, but for the last one where no link was attached behind its own
+-- line, before any line asked for rounds; they have sent one common front of it; and turns took what they would, but for the last
+-- one where its own line is the one that broke, which took a front
+pub record AreEndedPart (d : Domain) (start : AirStory) (rounds : Rounds) (j : List Entry) (ended : List LinkStory) : Type 0 where
+  pub all : AllButNew rounds.asked (count d) (length ended)
+  pub heard : IsHeardBy rounds.turned d (frames_at d start) rounds.turns
   pub part : TellPart itself d ended (sends_for d j)
 
 -- by what the lines have said: before the header is whole no link was attached
@@ -42,26 +42,26 @@ EndsAll (AtNodes d) start turns j ended = AreEnded d start turns j ended
 EndsAll (InRound d n) start turns j ended = AreEnded d start turns j ended
 EndsAll draft start turns j ended = (ended ≡ []) × (turns ≡ [])
 
-abbrev pub EndsPart : Draft → AirStory → List (List Delivery) → List Entry → List LinkStory → Type 0
-EndsPart (AtNodes d) start turns j ended = AreEndedPart d start turns j ended
-EndsPart (InRound d n) start turns j ended = AreEndedPart d start turns j ended
-EndsPart draft start turns j ended = ⊥
+abbrev pub EndsPart : Draft → AirStory → Rounds → List Entry → List LinkStory → Type 0
+EndsPart (AtNodes d) start rounds j ended = AreEndedPart d start rounds j ended
+EndsPart (InRound d n) start rounds j ended = AreEndedPart d start rounds j ended
+EndsPart draft start rounds j ended = ⊥
 
 -- and by how the reading ended
-abbrev pub EndsBy : Found → Draft → AirStory → List (List Delivery) → List Entry → List LinkStory → Type 0
-EndsBy (Stopped (Broken error)) draft start turns j ended = EndsPart draft start turns j ended
-EndsBy found draft start turns j ended = EndsAll draft start turns j ended
+abbrev pub EndsBy : Found → Draft → AirStory → Rounds → List Entry → List LinkStory → Type 0
+EndsBy (Stopped (Broken error)) draft start rounds j ended = EndsPart draft start rounds j ended
+EndsBy found draft start rounds j ended = EndsAll draft start rounds.turns j ended
 
 -- where the air tells, at first and at the end, its links stand at the end of those taken back
-pub record GaveBack (found_ : Found) (draft : Draft) (turns : List (List Delivery)) (j : List Entry) (start now : AirStory) : Type 0 where
+pub record GaveBack (found_ : Found) (draft : Draft) (rounds : Rounds) (j : List Entry) (start now : AirStory) : Type 0 where
   pub ended : List LinkStory
   pub returned : now.returned ≡ start.returned ++ ended
-  pub ends : EndsBy found_ draft start turns j ended
+  pub ends : EndsBy found_ draft start rounds j ended
 
 -- the seed of `seed draw` is the one that was drawn, and the links were sent what their nodes sent and gave what turns took
 pub record Meets (found_ : Found) (draft : Draft) (rounds : Rounds) (air_old air_new : Option AirStory) (last_old last_new : Option (List ℕ)) (j : List Entry) : Type 0 where
   pub drawn : IsDrawn rounds.drawn last_old last_new
-  pub linked : (start now : AirStory) → air_old ≡ Some start → air_new ≡ Some now → GaveBack found_ draft rounds.turns j start now
+  pub linked : (start now : AirStory) → air_old ≡ Some start → air_new ≡ Some now → GaveBack found_ draft rounds j start now
 
 -- a live run that was asked for. One list of turns goes for all of it
 pub record Lives (left_old left_new out_old out_new : Option (List ℕ)) (air_old air_new : Option AirStory) (last_old last_new : Option (List ℕ)) (status : Status) (j : List Entry) : Type 0 where

@@ -1,5 +1,5 @@
 -- What the outside of a live run was asked for: seeds, links, and frames. Lists of turns are NEWEST FIRST.
-use Rattle.std.specs.Prelude.{◌≡◌, ◌≢◌, ◌⊎◌, ℕ, ◌+◌, ◌*◌, ◌≤◌, List, [], ◌∷◌, ◌++◌, length, drop, reverse, Option, Some, None}
+use Rattle.std.specs.Prelude.{◌≡◌, ◌≢◌, ◌⊎◌, ℕ, ◌+◌, ◌*◌, ◌≤◌, Bool, true, false, List, [], ◌∷◌, ◌++◌, length, drop, reverse, Option, Some, None}
 use Rattle.domain_base.specs.Causes.{Rose}
 use Rattle.domain_base.specs.Told.{LinkStory, AirStory}
 use Rattle.domain_base.specs.declared.names.Node.{Node}
@@ -56,7 +56,16 @@ IsHeardPart d frames [] = Unit {0}
 IsHeardPart d frames (given ∷ turns) =
     AreHeard d frames turns × ((rest : List Delivery) × (given ++ rest ≡ turn_of d (left_behind frames (length turns)) (count d)))
 
+-- only where the line that broke is a turn was a front of the last turn taken
+abbrev pub IsHeardBy : Bool → Domain → (ℕ → List (List ℕ)) → List (List Delivery) → Type 0
+IsHeardBy true d frames turns = IsHeardPart d frames turns
+IsHeardBy false d frames turns = AreHeard d frames turns
+
 -- ---- links
+
+-- all nodes have a link; or no line has asked for rounds yet, and the last node has none: its own line is the one that broke
+abbrev pub AllButNew : ℕ → ℕ → ℕ → Type 0
+AllButNew asked nodes links = (links ≡ nodes) ⊎ ((asked ≡ 0) × (links + 1 ≡ nodes))
 
 -- what goes out for a journal, which has its last entry first
 abbrev pub sends_for : Domain → List Entry → List Send
@@ -76,12 +85,11 @@ pub record IsLinked {L : Type 0} (told : L → Option LinkStory) (d : Domain) (s
   pub heard : AreHeard d (frames_at d start) turns
   pub tell : Tell told d o.links (left_behind (frames_at d start) (length turns)) (sends_for d j)
 
--- behind a call that failed or wanted memory: a front of it, one for all links. The last node may have none
-pub record IsLinkedPart {L : Type 0} (told : L → Option LinkStory) (d : Domain) (start : AirStory) (o : Outer L) (turns : List (List Delivery)) (j : List Entry) : Type 0 where
-  pub most : length o.links ≤ count d
-  pub all : count d ≤ length o.links + 1
+-- behind a call that failed or wanted memory: a front of it, one for all links. A node whose own line broke has none
+pub record IsLinkedPart {L : Type 0} (told : L → Option LinkStory) (d : Domain) (start : AirStory) (o : Outer L) (rounds : Rounds) (j : List Entry) : Type 0 where
+  pub all : AllButNew rounds.asked (count d) (length o.links)
   pub attached : HasLinks d start (length o.links) o.air
-  pub heard : IsHeardPart d (frames_at d start) turns
+  pub heard : IsHeardBy rounds.turned d (frames_at d start) rounds.turns
   pub part : TellPart told d o.links (sends_for d j)
 
 -- before the header is whole there are no links
@@ -95,10 +103,10 @@ IsLinkedAt told (AtNodes d) start o turns j = IsLinked told d start o turns j
 IsLinkedAt told (InRound d n) start o turns j = IsLinked told d start o turns j
 IsLinkedAt told draft start o turns j = IsUnlinked start o turns
 
-abbrev pub IsLinkedPartAt : {L : Type 0} → (L → Option LinkStory) → Draft → AirStory → Outer L → List (List Delivery) → List Entry → Type 0
-IsLinkedPartAt told (AtNodes d) start o turns j = IsLinkedPart told d start o turns j
-IsLinkedPartAt told (InRound d n) start o turns j = IsLinkedPart told d start o turns j
-IsLinkedPartAt told draft start o turns j = ⊥
+abbrev pub IsLinkedPartAt : {L : Type 0} → (L → Option LinkStory) → Draft → AirStory → Outer L → Rounds → List Entry → Type 0
+IsLinkedPartAt told (AtNodes d) start o rounds j = IsLinkedPart told d start o rounds j
+IsLinkedPartAt told (InRound d n) start o rounds j = IsLinkedPart told d start o rounds j
+IsLinkedPartAt told draft start o rounds j = ⊥
 
 -- ---- all of it
 
@@ -110,7 +118,7 @@ pub record IsMet {L : Type 0} (told : L → Option LinkStory) (first o : Outer L
 
 pub record IsMetPart {L : Type 0} (told : L → Option LinkStory) (first o : Outer L) (draft : Draft) (rounds : Rounds) (j : List Entry) : Type 0 where
   pub drawn : IsDrawn rounds.drawn first.last o.last
-  pub linked : (start : AirStory) → first.air ≡ Some start → IsLinkedPartAt told draft start o rounds.turns j
+  pub linked : (start : AirStory) → first.air ≡ Some start → IsLinkedPartAt told draft start o rounds j
 
 -- how many links there are: in a live run one for each node of the world
 abbrev pub links_due : Mode → Option State → ℕ

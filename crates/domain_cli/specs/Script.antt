@@ -1,5 +1,5 @@
 -- Which rounds the octets of a script spell. Lists of lines, of rounds and of turns are NEWEST FIRST.
-use Rattle.std.specs.Prelude.{◌≡◌, ◌≢◌, ◌⊎◌, ℕ, suc, ◌<◌, ◌≤◌, ◌-◌, ◌==◌, ◌&&◌, nat_lt, nat_le, cond, if◌then◌else◌, Bool, true, List, [], ◌∷◌, ◌++◌, length, take, map, slice_index, Option, None, Some, Result, Ok, Err}
+use Rattle.std.specs.Prelude.{◌≡◌, ◌≢◌, ◌⊎◌, ℕ, suc, ◌<◌, ◌≤◌, ◌-◌, ◌==◌, ◌&&◌, nat_lt, nat_le, cond, if◌then◌else◌, Bool, true, false, List, [], ◌∷◌, ◌++◌, length, take, map, slice_index, Option, None, Some, Result, Ok, Err}
 use Rattle.std.proofs.Common.{inl, inr}
 use Rattle.std.specs.List.{AllByRecursion}
 use Rattle.run_journal.specs.declared.domain.Domain.{Domain}
@@ -24,17 +24,19 @@ use Rattle.frame_script.specs.Forms.{form_in}
 -- so far, together with the rounds asked for so far
 
 -- the rounds that are to be run, and the events of the round that is open, which are not run before its end; how many lines
--- asked for rounds; and what came from outside by these lines: the seed that was drawn, where one was, and of each turn what
--- nodes took of their links. The events of a round are as their lines stand, the first first, and so are those of a turn
+-- asked for rounds, and whether the last one that did was a turn; and what came from outside by these lines: the seed that was
+-- drawn, where one was, and of each turn what nodes took of their links. The events of a round are as their lines stand, the first
+-- first, and so are those of a turn
 pub record Rounds : Type 0 where
   pub run : List (List Event)
   pub waiting : List Event
   pub asked : ℕ
+  pub turned : Bool
   pub drawn : Option (List ℕ)
   pub turns : List (List Delivery)
 
 abbrev pub no_rounds : Rounds
-no_rounds = record { run = []; waiting = []; asked = 0; drawn = None; turns = [] }
+no_rounds = record { run = []; waiting = []; asked = 0; turned = false; drawn = None; turns = [] }
 
 -- the journal of these rounds: the network is in form and of octets, the definitions explain the journal, and key holders
 -- answered rightly
@@ -58,7 +60,7 @@ sizes_before rounds (e ∷ past) = cond (nat_le e.round rounds) (sizes_before ro
 -- the rounds with what a line asks for: an event is a round by itself, but in a round it waits; what waits is one round, run
 -- at its end, whatever events it has
 abbrev pub with_round : Rounds → List Event → Rounds
-with_round rounds events = record rounds { run = events ∷ rounds.run; asked = suc rounds.asked }
+with_round rounds events = record rounds { run = events ∷ rounds.run; asked = suc rounds.asked; turned = false }
 
 abbrev pub with_waiting : Rounds → List Event → Rounds
 with_waiting rounds events = record rounds { waiting = events }
@@ -85,7 +87,7 @@ with_deliveries (first ∷ given) run = with_deliveries given ((Inject first.nod
 -- the rounds with a turn that gave these. Its line counts once, whatever came in it
 abbrev pub with_turn : Rounds → List Delivery → Rounds
 with_turn rounds given =
-    record rounds { run = with_deliveries given rounds.run; asked = suc rounds.asked; turns = given ∷ rounds.turns }
+    record rounds { run = with_deliveries given rounds.run; asked = suc rounds.asked; turned = true; turns = given ∷ rounds.turns }
 
 -- and with a seed that was drawn
 abbrev pub with_seed : Rounds → List ℕ → Rounds

@@ -1,11 +1,11 @@
 //! A script, octet by octet.
 
-ghost use Rattle.std.specs.Prelude.{◌≡◌, ◌≢◌, ◌≤◌, ◌+◌, ◌<◌, ◌++◌, ◌∷◌, [], suc, ℕ, List, MatchResult, OnOk, OnErr, vec_len, vec_capacity, length, IfOk, true};
+ghost use Rattle.std.specs.Prelude.{◌≡◌, ◌≢◌, ◌≤◌, ◌+◌, ◌-◌, ◌<◌, ◌++◌, ◌∷◌, [], take, drop, get_or, suc, ℕ, List, MatchResult, OnOk, OnErr, vec_len, vec_capacity, length, IfOk, true};
 ghost use Rattle.run_journal.specs.declared.acts.Entry.{Entry as AnyEntry};
 ghost use Rattle.frame_script.specs.Forms.{form_in};
 ghost use Rattle.frame_script.specs.Script.{Draft, AtVersion};
 ghost use Rattle.domain_cli.specs.Outer.{Outer, IsBlamed, IsMet, Nobody, outer};
-ghost use Rattle.domain_cli.specs.Script.{Rounds, no_rounds, point_of, without_return};
+ghost use Rattle.domain_cli.specs.Script.{NoFeed, Rounds, no_rounds, point_of, without_return};
 ghost use Rattle.domain_cli.specs.States.{Stands, IsReady, TellsLine};
 ghost use Rattle.domain_cli.specs.Stops.{Closes, EndsAt, Halts, IsRefusal, Stopped, StopsLine, found_blame, stop_blame};
 ghost use Rattle.domain_cli.specs.Story.{most_read};
@@ -123,6 +123,20 @@ fn ended(reader: &ScriptReader, lines: u64) -> Found
     }
 }
 
+// Where the octets of a line end that go on at a place: before the next line feed, or at the end.
+fn line_end(octets: &[u8], at: usize) -> usize
+    requires { at ≤ length octets.now }
+    ensures order { (at ≤ result) × (result ≤ length octets.now) }
+    ensures open_line { NoFeed (take (result - at) (drop at octets.now)) }
+    ensures onward { at < length octets.now → get_or octets.now at 0 ≢ 10 → at < result }
+{
+    let mut end = at;
+    while end < octets.len() && octets[end] != b'\n' {
+        end += 1;
+    }
+    end
+}
+
 impl LineFeeder {
     ghost use Rattle.domain_cli.specs.Feeders.{HasCome, Reached};
 
@@ -140,22 +154,24 @@ impl LineFeeder {
         })
     }
 
-    // Takes an octet of the open line.
-    fn add(&mut self, octet: u8) -> Result<(), Stop>
-        requires { octet ≢ 10 }
+    // Takes octets of the open line, of which none is a line feed.
+    fn add(&mut self, octets: &[u8]) -> Result<(), Stop>
+        requires { NoFeed octets.now }
         ensures same { (self.new.lines ≡ self.old.lines) × (self.new.state ≡ self.old.state) }
-        ensures come { (octets : List ℕ) (draft : Draft) (rounds : Rounds) (j : List AnyEntry)
-            → HasCome self.old octets draft rounds j → MatchResult result
-            (λ _. HasCome self.new (octets ++ octet ∷ []) draft rounds j)
-            (λ stop. Stopped 1 stop (octets ++ octet ∷ [])
+        ensures come { (before : List ℕ) (draft : Draft) (rounds : Rounds) (j : List AnyEntry)
+            → HasCome self.old before draft rounds j → MatchResult result
+            (λ _. HasCome self.new (before ++ octets.now) draft rounds j)
+            (λ stop. Stopped 1 stop (before ++ octets.now)
             (point_of self.old.state.reader.mode j draft rounds)) }
         ensures refused { MatchResult result (λ _. Unit {0}) (λ stop. IsRefusal stop) }
     {
-        if self.line.len() >= MOST_OCTETS {
+        if octets.len() > MOST_OCTETS - self.line.len() {
             return Err(refused(&self.state, self.lines, &self.line, Refusal::LongLine));
         }
-        self.line.push_reserved(octet);
-        Ok(())
+        match self.line.extend_from_slice(octets) {
+            Ok(()) => Ok(()),
+            Err(_) => unreachable!(),
+        }
     }
 
     // Ends the open line, and does what it asks for.
@@ -208,43 +224,6 @@ impl LineFeeder {
         }
     }
 
-    // Takes an octet.
-    fn take<R: Threads + Sync, A: Air, D: Draws, G: Gate + Sync>(
-        &mut self,
-        host: &Host<'_, R, G>,
-        octet: u8,
-        air: &mut A,
-        draws: &mut D,
-        links: &mut Vec<A::L>,
-        journal: &mut Journal,
-    ) -> Result<(), Stop>
-        requires { IsReady self.old.state (length links.old.items) self.old.lines
-            journal.old.entries }
-        ensures ready { OnOk result (IsReady self.new.state (length links.new.items) self.new.lines
-            journal.new.entries) }
-        ensures mode { self.new.state.reader.mode ≡ self.old.state.reader.mode }
-        ensures reached { (first : Outer A.L) (before : List ℕ)
-            → Reached A.L.told first (outer links.old.items (A.told air.old) (D.last draws.old))
-            self.old before journal.old.entries → MatchResult result
-            (λ _. Reached A.L.told first
-            (outer links.new.items (A.told air.new) (D.last draws.new))
-            self.new (before ++ octet ∷ []) journal.new.entries)
-            (λ stop. Halts A.L.told first
-            (outer links.new.items (A.told air.new) (D.last draws.new))
-            self.old.state.reader.mode 1 stop (before ++ octet ∷ []) journal.new.entries) }
-        ensures blamed { MatchResult result
-            (λ _. IsBlamed A.L.faults Nobody links.old.items links.new.items
-            (A.faults air.old) (A.faults air.new) (D.faults draws.old) (D.faults draws.new))
-            (λ stop. IsBlamed A.L.faults (stop_blame stop) links.old.items links.new.items
-            (A.faults air.old) (A.faults air.new) (D.faults draws.old) (D.faults draws.new)) }
-    {
-        if octet == b'\n' {
-            self.end_line(host, air, draws, links, journal)
-        } else {
-            self.add(octet)
-        }
-    }
-
     /// Takes the octets of one read. A line is run as soon as its end was read.
     pub fn feed<R: Threads + Sync, A: Air, D: Draws, G: Gate + Sync>(
         &mut self,
@@ -276,10 +255,19 @@ impl LineFeeder {
             (λ stop. IsBlamed A.L.faults (stop_blame stop) links.old.items links.new.items
             (A.faults air.old) (A.faults air.new) (D.faults draws.old) (D.faults draws.new)) }
     {
-        for octet in octets {
-            match self.take(host, *octet, air, draws, links, journal) {
-                Ok(()) => {}
-                Err(stop) => return Err(stop),
+        let mut at = 0;
+        while at < octets.len() {
+            if octets[at] == b'\n' {
+                match self.end_line(host, air, draws, links, journal) {
+                    Ok(()) => at += 1,
+                    Err(stop) => return Err(stop),
+                }
+            } else {
+                let end = line_end(octets, at);
+                match self.add(&octets[at..end]) {
+                    Ok(()) => at = end,
+                    Err(stop) => return Err(stop),
+                }
             }
         }
         Ok(())

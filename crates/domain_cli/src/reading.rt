@@ -137,8 +137,8 @@ pub fn replay<R: Threads + Sync, S: Source, G: Gate + Sync>(
     )
 }
 
-/// Reads a script to its end, and runs it with frames by the links of that air. However it ends, all
-/// links that were attached are given back, in the order of their nodes.
+/// Reads a script to its end, and runs it with frames by the links of that air. However it ends,
+/// all links that were attached are given back, in the order of their nodes.
 pub fn live<R: Threads + Sync, S: Source, A: Air, D: Draws, G: Gate + Sync>(
     host: &Host<'_, R, G>,
     source: &mut S,

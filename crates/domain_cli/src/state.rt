@@ -261,8 +261,10 @@ impl ScriptState {
         journal: &mut Journal,
     ) -> Result<(), Undone>
         requires { IsReady self.old (length links.old.items) 65536 journal.old.entries }
-        ensures ready { (lines : ℕ) → IsReady self.old (length links.old.items) lines journal.old.entries
-            → OnOk result (IsReady self.new (length links.new.items) (suc lines) journal.new.entries) }
+        ensures ready { (lines : ℕ)
+            → IsReady self.old (length links.old.items) lines journal.old.entries
+            → OnOk result (IsReady self.new (length links.new.items) (suc lines)
+            journal.new.entries) }
         ensures mode { self.new.reader.mode ≡ self.old.reader.mode }
         ensures told { (draft : Draft) (rounds : Rounds) (first : Outer A.L)
             → Stands self.old draft rounds journal.old.entries

@@ -16,8 +16,8 @@ pub enum Undone {
     NoMemory,
     /// The seed could not be drawn that it asks for.
     DrawFault,
-    /// What it asks for was done, of a turn a part; then the air or a link failed, or memory ran out
-    /// for a frame to be sent or taken.
+    /// What it asks for was done, of a turn a part; then the air or a link failed, or memory ran
+    /// out for a frame to be sent or taken.
     Broken(LinkError),
 }
 
@@ -88,14 +88,14 @@ pub enum Status {
     /// 1 it is the first and not `domain 1`; 2 no such word in this place; 3 the number or form of
     /// its arguments; 4 a node that is not listed or of the other kind; 5 a frame that was not
     /// sent; 6 a place or length outside the frame; 7 it is the one behind the last one, and a
-    /// round is open; 8 an address or R0KH-ID used before; 9 a line of the other kind of run. It should have had
-    /// that form. All events before it were run, but those of a round that is open, and their lines
-    /// were written.
+    /// round is open; 8 an address or R0KH-ID used before; 9 a line of the other kind of run. It
+    /// should have had that form. All events before it were run, but those of a round that is open,
+    /// and their lines were written.
     #[error("line {0}: {reason}; the form is {form}", reason = reason_text(*.1), form = .2.text())]
     Script(u64, u8, Form),
     /// The first line that cannot be taken goes past this limit: 1 lines of a script; 2 octets of a
-    /// line; 3 octets of an injected frame; 4 frames sent; 5 access points; 6 stations; 7 octets of a
-    /// payload; 8 events in a round. All events before it were run, but those of a round that is
+    /// line; 3 octets of an injected frame; 4 frames sent; 5 access points; 6 stations; 7 octets of
+    /// a payload; 8 events in a round. All events before it were run, but those of a round that is
     /// open, and their lines were written.
     #[error("{limit}", limit = limit_text(*.0))]
     Limit(u8),
@@ -108,8 +108,8 @@ pub enum Status {
     /// Memory ran out.
     #[error("out of memory")]
     NoMemory,
-    /// The air or a link failed, in a live run. What was asked for before that call was run, and its
-    /// lines were written.
+    /// The air or a link failed, in a live run. What was asked for before that call was run, and
+    /// its lines were written.
     #[error("a socket could not be opened, or a frame not be sent or taken")]
     LinkFault,
     /// The seed could not be drawn, in a live run. Nothing was run.

@@ -218,11 +218,11 @@ fn lived<R: Threads + Sync, S: Source, K: Sink, A: Air, D: Draws, G: Gate + Sync
 /// Runs the command of the words, and reports what happened.
 ///
 /// `replay` runs the script on the source. `live` with a port from 1024 to 65000, in one to ten
-/// decimal digits, runs it with frames by the links of the air, to which each node is attached behind
-/// its line; a line is run as soon as it was read, and however the run ends all links that were
-/// attached are taken back, in the order of their nodes. `storm` with a number below 2^32, in one to ten decimal
-/// digits, runs the storm of that number, and writes its summary alone. Reading the words may want
-/// memory, and then nothing is run.
+/// decimal digits, runs it with frames by the links of the air, to which each node is attached
+/// behind its line; a line is run as soon as it was read, and however the run ends all links that
+/// were attached are taken back, in the order of their nodes. `storm` with a number below 2^32,
+/// in one to ten decimal digits, runs the storm of that number, and writes its summary alone.
+/// Reading the words may want memory, and then nothing is run.
 ///
 /// The access points of a round take their events side by side, each on a thread of its own where
 /// one can be started.
@@ -247,7 +247,7 @@ pub fn run<R: Threads + Sync, S: Source, K: Sink, A: Air, D: Draws>(
         × (journal.new.entries ≡ []) }
     ensures unfailed { AskNothing (map (λ w. w.now) words.now)
         → (S.faults source.new ≡ S.faults source.old) × (K.faults sink.new ≡ K.faults sink.old) }
-    // But a live run no command draws or attaches a link.
+    // No command but a live run draws or attaches a link.
     ensures air { ((port : ℕ) → ¬ AskLive (map (λ w. w.now) words.now) port)
         → (A.told air.new ≡ A.told air.old) × (A.faults air.new ≡ A.faults air.old) }
     ensures draws { ((port : ℕ) → ¬ AskLive (map (λ w. w.now) words.now) port)
@@ -256,13 +256,15 @@ pub fn run<R: Threads + Sync, S: Source, K: Sink, A: Air, D: Draws>(
     // its end, and key holders answered rightly in it; the octets written are its report.
     ensures ran { AskReplay (map (λ w. w.now) words.now) → Runs (S.left source.old)
         (S.left source.new) (K.out sink.old) (K.out sink.new) result journal.new.entries }
-    // The journal of a live run is that of the rounds that the octets read spell, with the seed that
-    // was drawn and what nodes took of their links in each turn, up to 16 frames each in their order;
-    // each event and each frame taken is a round by itself. The octets written are its report. Where
-    // the air tells, each turn took what the links had in front, and the links taken back, which are
-    // those of all nodes in their order, were sent what their nodes sent, in order, each frame to
-    // whom its address 1 names; where a link failed or memory was wanted over a frame, one common
-    // front of it.
+    // The journal of a live run is that of the rounds that the octets read spell, with the seed
+    // that was drawn and what nodes took of their links in each turn, up to 16 frames each in
+    // their order; each event and each frame taken is a round by itself. The octets written are
+    // its report. Where the air tells, each turn took what the links had in front, but for the
+    // last one where a call failed, or memory was wanted, in it, which took a front of that; and
+    // the links taken back, which are those of all nodes in their order, but for a node whose
+    // link could not be attached, whose line is the last, were sent what their nodes sent, in
+    // order, each frame to whom its address 1 names; where a link failed or memory was wanted
+    // over a frame, one common front of it.
     ensures lived { (port : ℕ) → AskLive (map (λ w. w.now) words.now) port
         → Lives (S.left source.old) (S.left source.new) (K.out sink.old) (K.out sink.new)
         (A.told air.old) (A.told air.new) (D.last draws.old) (D.last draws.new)
@@ -293,8 +295,9 @@ pub fn run<R: Threads + Sync, S: Source, K: Sink, A: Air, D: Draws>(
         → ¬ Rose (K.faults sink.old) (K.faults sink.new) → result ≡ Status.LinkFault }
     ensures draw_told { D.faults draws.new ≢ D.faults draws.old
         → ¬ Rose (K.faults sink.old) (K.faults sink.new) → result ≡ Status.DrawFault }
-    // Where neither source nor sink failed, a replay is done, has a fault of its script, goes past a
-    // limit, or lacks memory. (A storm ends as done, with a fault of the sink, or for want of memory.)
+    // Where neither source nor sink failed, a replay is done, has a fault of its script, goes past
+    // a limit, or lacks memory. (A storm ends as done, with a fault of the sink, or for want of
+    // memory.)
     ensures complete { AskReplay (map (λ w. w.now) words.now)
         → ¬ Rose (S.faults source.old) (S.faults source.new)
         → ¬ Rose (K.faults sink.old) (K.faults sink.new) → IsAnswered result }
@@ -310,10 +313,10 @@ pub fn run<R: Threads + Sync, S: Source, K: Sink, A: Air, D: Draws>(
     )
 }
 
-/// Runs the command of the words as `run` does. In each round that a script ends, every access point
-/// that has events in it passes the gate once, before the first of them. An event outside a round
-/// passes none, and neither does one of a storm, or a frame that a node takes of its link. What `run`
-/// promises holds for every gate.
+/// Runs the command of the words as `run` does. In each round that a script ends, every access
+/// point that has events in it passes the gate once, before the first of them. An event outside a
+/// round passes none, and neither does one of a storm, or a frame that a node takes of its link.
+/// What `run` promises holds for every gate.
 pub fn run_with<R: Threads + Sync, S: Source, K: Sink, A: Air, D: Draws, G: Gate + Sync>(
     rt: &R,
     alloc: Global,

@@ -29,7 +29,8 @@ fn number(act: &Act, place: usize, frames: &mut Vec<usize>) -> u64
     }
 }
 
-// One act: a frame sent has the next frame's number, and its place is noted; every other act has number 0.
+// One act: a frame sent has the next frame's number, and its place is noted; every other act has
+// number 0.
 fn journal_act(round: u64, node: Node, act: Act, frames: &mut Vec<usize>, journal: &mut Journal)
     requires room { 0 < journal.old.spare }
     requires places { vec_len frames.old < vec_capacity frames.old }

@@ -238,8 +238,8 @@ impl Nodes {
         }
     }
 
-    /// The events of a round, each at an access point: a worker for each access point that has some, all
-    /// side by side. What each adds waits, by access points.
+    /// The events of a round, each at an access point: a worker for each access point that has
+    /// some, all side by side. What each adds waits, by access points.
     pub(crate) fn round<R: Threads + Sync, G: Gate + Sync>(
         &mut self,
         rt: &R,

@@ -27,8 +27,8 @@ pub(crate) struct Turn<'a> {
 
 /// What is done in a round, access point by access point.
 ///
-/// A trait, so that what is run in another thread captures a type parameter: of a captured type that
-/// names a lifetime the caller of `join` would learn nothing.
+/// A trait, so that what is run in another thread captures a type parameter: of a captured type
+/// that names a lifetime the caller of `join` would learn nothing.
 pub(crate) trait Acts {
     ghost use Rattle.std.specs.Prelude.{◌≡◌, ◌<◌, true, false, [], List, length, IfOk};
     ghost use Rattle.run_journal.specs.declared.domain.Domain.{Domain};
@@ -72,7 +72,8 @@ struct Worked {
     parts: Result<Vec<Part>, NoMemory>,
 }
 
-/// What the workers of access points hand back: these, a pass that has them, and what they did, by access points.
+/// What the workers of access points hand back: these, a pass that has them, and what they did, by
+/// access points.
 #[derive(Drop)]
 pub(crate) struct Ran {
     /// The access points.
@@ -156,7 +157,8 @@ fn gathered(table: &SharedHolders, ran: Ran, worked: Worked) -> Ran
     }
 }
 
-/// The workers of these access points, side by side. They are the first ones, in order, and the pass has them.
+/// The workers of these access points, side by side. They are the first ones, in order, and the
+/// pass has them.
 pub(crate) fn run<R: Threads + Sync, W: Acts + Sync, G: Gate + Sync>(
     rt: &R,
     alloc: Global,

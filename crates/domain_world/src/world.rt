@@ -164,9 +164,9 @@ impl World {
         Ok(())
     }
 
-    /// One event, a round by itself. The journal is this world's own; the event names listed nodes of the right kinds and a
-    /// frame that was sent. An octet that is changed, and octets that are kept, are the frame's. A payload has at most 2304
-    /// octets.
+    /// One event, a round by itself. The journal is this world's own; the event names listed nodes
+    /// of the right kinds and a frame that was sent. An octet that is changed, and octets that are
+    /// kept, are the frame's. A payload has at most 2304 octets.
     pub fn event(&mut self, event: &Event, journal: &mut Journal) -> Result<(), NoMemory>
         requires own { Owns self.old journal.old.entries }
         requires event { IsEventIn self.old.domain (length self.old.frames) journal.old.entries
@@ -193,13 +193,14 @@ impl World {
         Ok(())
     }
 
-    /// A round: its events, each at an access point, side by side. There are at most 256. The journal is
-    /// this world's own, and each event might come by itself.
+    /// A round: its events, each at an access point, side by side. There are at most 256. The
+    /// journal is this world's own, and each event might come by itself.
     ///
-    /// Each access point that has events has a worker, which takes them as they are listed. However the
-    /// workers interleave, the round stands in the journal by access points, in order: what one sends
-    /// comes behind the round, and what it asks of another's key holder is answered by what that had at
-    /// some moment of the round. Where a thread cannot be started this one does its work.
+    /// Each access point that has events has a worker, which takes them as they are listed. However
+    /// the workers interleave, the round stands in the journal by access points, in order: what one
+    /// sends comes behind the round, and what it asks of another's key holder is answered by what
+    /// that had at some moment of the round. Where a thread cannot be started this one does its
+    /// work.
     ///
     /// Where memory is wanted the journal is as before, and the world is of no use any longer.
     pub fn round<R: Threads + Sync>(
@@ -426,7 +427,8 @@ impl World {
         (node_of(event), node_event(event, comes))
     }
 
-    /// The octets of the frame of that number, from 1. The journal is this world's own, and the frame was sent.
+    /// The octets of the frame of that number, from 1. The journal is this world's own, and the
+    /// frame was sent.
     pub fn frame<'a>(&self, number: u64, journal: &'a Journal) -> &'a [u8]
         requires own { Owns self.now journal.now.entries }
         requires some { 1 ≤ number }

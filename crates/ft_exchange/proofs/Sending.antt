@@ -8,8 +8,9 @@ use Rattle.run_journal.specs.declared.acts.Kind.{Kind}
 use Rattle.run_journal.specs.declared.acts.Kind.TheVariants as kind
 use Rattle.run_journal.specs.declared.acts.Reason.{Reason}
 use Rattle.rsn_elements.specs.Elements.{ElementFields}
-use Rattle.key_hierarchy.specs.FastTransition.{pmk_r0_name}
+use Rattle.key_hierarchy.specs.FastTransition.{pmk_r0_name, pmk_r1, pmk_r1_of}
 use Rattle.key_hierarchy.specs.declared.fast_transition.PmkR0.{PmkR0}
+use Rattle.key_hierarchy.specs.declared.fast_transition.PmkR1.{PmkR1}
 use Rattle.ft_exchange.specs.Judged.{Wanted, auth_response_reason}
 use Rattle.run_journal.specs.declared.reply.Reply.{Reply}
 use Rattle.run_journal.specs.Replies.{IsEmpty}
@@ -18,7 +19,7 @@ use Rattle.domain_rules.specs.FastTransition.{request_number, response_number}
 use Rattle.group_key.specs.declared.keys.GroupKey.{GroupKey}
 use Rattle.ft_exchange.specs.Sent.{covered_in, input_between, counted, sealed_of, re_req_elements_of, re_resp_elements_of, HasFrame, Sends}
 use Rattle.ft_exchange.specs.State.{OriginatorState, TargetState}
-use Rattle.ft_exchange.specs.Exchange.{at_stage, wanted_by, transit_in, request_octets, IsRequesting, GoesOn}
+use Rattle.ft_exchange.specs.Exchange.{at_stage, wanted_by, r1_in, transit_in, request_octets, IsRequesting, GoesOn}
 use Rattle.ft_exchange.specs.declared.originator.Transit.{Transit}
 use Rattle.ft_exchange.specs.declared.originator.Stage.TheVariants as stage
 
@@ -61,6 +62,13 @@ requests s t own peer current ssid mdid id old new own_is peer_is current_is ssi
     (subst (λ (m : Mac). Requests t s.own s.peer m ssid mdid id old new) current_is
     (subst (λ (m : Mac). Requests t s.own m current ssid mdid id old new) peer_is
     (subst (λ (m : Mac). Requests t m peer current ssid mdid id old new) own_is r)))))
+
+-- the PMK-R1, from the name that was kept
+pub r1_is : (s : OriginatorState) (r0 : PmkR0) (name : List ℕ) (peer own : Mac) (x : PmkR1) → x ≡ pmk_r1_of r0.key name peer own → name ≡ pmk_r0_name s.r0 → r0 ≡ s.r0 → peer ≡ s.peer → own ≡ s.own → x ≡ r1_in s
+unfolding pmk_r1
+r1_is s r0 name peer own x is named r0_is peer_is own_is =
+    is ∙ ap (λ (k : PmkR0). pmk_r1_of k.key name peer own) r0_is ∙ ap (λ (n : List ℕ). pmk_r1_of s.r0.key n peer own) named
+    ∙ ap (λ (m : Mac). pmk_r1_of s.r0.key (pmk_r0_name s.r0) m own) peer_is ∙ ap (λ (m : Mac). pmk_r1_of s.r0.key (pmk_r0_name s.r0) s.peer m) own_is
 
 -- an authentication response is refused for that, or for nothing
 pub reason_is : (s : OriginatorState) (x : Wanted) (name snonce : List ℕ) (r0 : PmkR0) (status : ℕ) (e : ElementFields) (o : Option Reason) → o ≡ auth_response_reason x snonce status e → x ≡ wanted_by s name → name ≡ pmk_r0_name r0

@@ -1,7 +1,8 @@
 -- What contracts see of the parts of a fast transition (this project's choice).
-use Rattle.std.specs.Prelude.{◌≤◌, ℕ, Bool, List, length}
+use Rattle.std.specs.Prelude.{◌≡◌, ◌≤◌, ℕ, Bool, List, length}
 use Rattle.domain_base.specs.declared.names.Mac.{Mac}
 use Rattle.key_hierarchy.specs.declared.fast_transition.PmkR0.{PmkR0}
+use Rattle.key_hierarchy.specs.FastTransition.{pmk_r0_name}
 use Rattle.key_hierarchy.specs.Sizes.{IsSsid, IsR0khId}
 use Rattle.run_journal.specs.declared.reply.Keyed.{Keyed}
 use Rattle.ft_exchange.specs.declared.originator.Stage.{Stage}
@@ -20,9 +21,9 @@ pub record OriginatorState : Type 0 where
   pub snonce : List ℕ
   pub stage : Stage
 
--- its SSID and R0KH-ID have their sizes
-abbrev pub IsOriginator : List ℕ → List ℕ → Type 0
-IsOriginator ssid id = IsSsid ssid × IsR0khId id
+-- its SSID and R0KH-ID have their sizes, and its PMKR0Name is that of its PMK-R0
+abbrev pub IsOriginator : List ℕ → List ℕ → PmkR0 → List ℕ → Type 0
+IsOriginator ssid id r0 r0_name = IsSsid ssid × IsR0khId id × (r0_name ≡ pmk_r0_name r0)
 
 -- an access point's attempt or session: where, by which R0KH-ID, PMKR0Name as it was asked for, PMKR1Name, the key, whether it is
 -- installed, and the last response

@@ -52,6 +52,7 @@ pub struct Originator {
     mdid: [u8; 2],
     r0kh_id: ShortOctets<48>,
     r0: PmkR0,
+    r0_name: [u8; 16],
     snonce: [u8; 32],
     stage: Stage,
 }
@@ -74,7 +75,7 @@ impl Model for Originator {
       stage = s.stage;
     } };
 
-    ghost invariant = { λ s. IsOriginator s.ssid s.r0kh_id };
+    ghost invariant = { λ s. IsOriginator s.ssid s.r0kh_id s.r0 s.r0_name };
 }
 
 impl Originator {
@@ -82,6 +83,7 @@ impl Originator {
     ghost use Rattle.ft_exchange.specs.Sent.{Sends, HasFrame};
     ghost use Rattle.ft_exchange.specs.Exchange.{asking_octets, wanted_by, r1_in, transit_in};
     ghost use Rattle.ft_exchange.specs.Exchange.{IsRequesting, request_octets, GoesOn, response_between};
+    ghost use Rattle.key_hierarchy.specs.FastTransition.{pmk_r0_name};
     ghost use Rattle.ft_exchange.specs.Exchange.{response_tried, IsResponse, both, Finishes};
     ghost use Rattle.ft_exchange.specs.OriginatorSteps.{IsBegun, IsAuthTaken, IsReassocTaken};
     ghost use Rattle.run_journal.specs.declared.acts.Kind.TheVariants as kind;
@@ -110,6 +112,7 @@ impl Originator {
         *reply = Reply::empty();
         let own = address(domain, Node::Sta(sta));
         let (ssid, id) = (domain.ssid.as_slice(), r0kh_id);
+        let r0 = PmkR0::derive(&domain.psk, ssid, domain.mdid, id, own);
         let originator = Originator {
             own,
             peer: address(domain, Node::Ap(ap)),
@@ -117,7 +120,8 @@ impl Originator {
             ssid: ShortOctets::of(ssid),
             mdid: domain.mdid,
             r0kh_id: ShortOctets::of(id),
-            r0: PmkR0::derive(&domain.psk, ssid, domain.mdid, id, own),
+            r0,
+            r0_name: r0.name(),
             snonce: *snonce,
             stage: Stage::Asked,
         };
@@ -147,7 +151,7 @@ impl Originator {
         requires { IsEmpty reply.old }
         ensures { Sends (asking_octets self.now) kind.FtReq None reply.old reply.new }
     {
-        send_ft_req(self.side(), &self.r0.name(), &self.snonce, reply);
+        send_ft_req(self.side(), &self.r0_name(), &self.snonce, reply);
     }
 
     // What a frame has to say that carries that name.
@@ -163,11 +167,18 @@ impl Originator {
         }
     }
 
+    // PMKR0Name, which was made as the attempt began.
+    fn r0_name(&self) -> [u8; 16]
+        ensures { result ≡ pmk_r0_name self.now.r0 }
+    {
+        self.r0_name
+    }
+
     // The PMK-R1 at the access point.
     fn r1(&self) -> PmkR1
         ensures { result ≡ r1_in self.now }
     {
-        self.r0.r1(self.peer, self.own)
+        PmkR1::of(&self.r0.key, &self.r0_name(), self.peer, self.own)
     }
 
     // The key of that ANonce.
@@ -199,7 +210,7 @@ impl Originator {
         let Stage::Asked = self.stage else {
             return Outcome::Refused(Reason::Unawaited);
         };
-        let expected = self.expects(self.r0.name());
+        let expected = self.expects(self.r0_name());
         if let Some(why) = auth_response_fault(&expected, &self.snonce, status, elements) {
             return Outcome::Refused(why);
         }

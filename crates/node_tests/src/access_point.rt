@@ -110,20 +110,40 @@ fn follow(
 // An access point: its number, the number from which it draws, and what it does as it starts.
 type Starting = (u16, u64, &'static [Expected]);
 
-const FIRST: Starting = (0, 0, START);
+const FIRST: &Starting = &(0, 0, START);
 
-const LAST_FIRST: Starting = (0, LAST, LAST_START);
+const LAST_FIRST: &Starting = &(0, LAST, LAST_START);
 
-const SECOND: Starting = (1, 0, START_OF_A2);
+const SECOND: &Starting = &(1, 0, START_OF_A2);
 
-const LAST_SECOND: Starting = (1, LAST, LAST_START_OF_A2);
+const LAST_SECOND: &Starting = &(1, LAST, LAST_START_OF_A2);
+
+// An access point starts so.
+fn started(
+    rt: &impl Abort,
+    alloc: Global,
+    domain: &Domain,
+    starting: &Starting,
+    out: &mut Outbox,
+) -> ApNode
+    requires form { InForm domain.now }
+    requires aps { length domain.now.aps ≡ 2 }
+    requires stas { length domain.now.stas ≡ 2 }
+    ensures { result.number < 2 }
+{
+    let (number, first, acts) = starting;
+    assert!(rt; *number < 2 && *first <= LAST);
+    let node = ApNode::start(alloc, domain, *number, *first, out).expect(rt, "memory");
+    assert!(rt; come(out, acts, b"", Outcome::Done));
+    node
+}
 
 // An access point starts so and takes these steps, where the key holders are those.
 fn start_and_follow(
     rt: &impl Abort,
     alloc: Global,
     domain: &Domain,
-    starting: Starting,
+    starting: &Starting,
     holders: &mut ListHolders,
     scenario: &[Step],
 )
@@ -133,16 +153,13 @@ fn start_and_follow(
     requires ids { holders.old.ids ≡ ids_of domain.now }
     ensures ids { holders.new.ids ≡ ids_of domain.now }
 {
-    let (number, first, acts) = starting;
-    assert!(rt; number < 2 && first <= LAST);
     let mut out = Outbox::new(alloc);
-    let mut node = ApNode::start(alloc, domain, number, first, &mut out).expect(rt, "memory");
-    assert!(rt; come(&mut out, acts, b"", Outcome::Done));
+    let mut node = started(rt, alloc, domain, starting, &mut out);
     follow(rt, alloc, domain, &mut node, holders, &mut out, scenario);
 }
 
 // An access point starts so and takes these steps.
-fn try_steps(rt: &impl Abort, alloc: Global, akm: Akm, starting: Starting, scenario: &[Step]) {
+fn try_steps(rt: &impl Abort, alloc: Global, akm: Akm, starting: &Starting, scenario: &[Step]) {
     let domain = network(rt, alloc, akm);
     let mut holders = holders(rt, alloc, &domain);
     start_and_follow(rt, alloc, &domain, starting, &mut holders, scenario);
@@ -153,7 +170,7 @@ fn try_transition(
     rt: &impl Abort,
     alloc: Global,
     first: &[Step],
-    starting: Starting,
+    starting: &Starting,
     scenario: &[Step],
 ) {
     let domain = mobile_network(rt, alloc);

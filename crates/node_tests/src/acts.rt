@@ -1,6 +1,7 @@
 //! The steps of a scenario, and whether the acts of a node are those of its step.
 
 use crate::air_frames::Keys;
+use crate::frames::is_joined;
 use crate::mobility_vectors::{PMK_R0_NAME, PMK_R1};
 use crate::protected_frames::Data;
 use crate::vectors::{A1_ADDRESS, A2, A2_ADDRESS, S1};
@@ -82,38 +83,48 @@ pub struct Step {
     pub acts: &'static [Expected],
 }
 
-// What the MIC of the EAPOL-Key frame in a data frame covers: the form, and the frame with zeros in its MIC field. It stands
-// behind 32 octets, and its MIC field in its octets 81 to 96.
-fn is_covered(covered: &[u8], frame: &[u8]) -> bool {
-    frame.len() >= 129
-        && covered.len() == frame.len() - 31
-        && covered[0] == 1
-        && &covered[1..82] == &frame[32..113]
-        && &covered[82..98] == [0; 16].as_slice()
-        && &covered[98..] == &frame[129..]
+// The octets of a MIC field that is not filled in.
+const NO_MIC: &[u8] = &[0; 16];
+
+// The octets are those of the frame with zeros in its MIC field, which stands at that place.
+fn is_unsealed(octets: &[u8], frame: &[u8], at: usize) -> bool {
+    let (front, behind) = frame.split_at(at.min(frame.len()));
+    let (mic, end) = behind.split_at(behind.len().min(16));
+    mic.len() == 16 && is_joined(octets, &[front, NO_MIC, end])
 }
 
-// Where the RSNE of a reassociation request in the network "IEEE" begins, and of a response.
-const IN_REQUEST: usize = 46;
+// The form of what the MIC of an EAPOL-Key frame covers.
+const OF_A_KEY_FRAME: &[u8] = &[1];
 
-const IN_RESPONSE: usize = 36;
+// What the MIC of the EAPOL-Key frame in a data frame covers: the form, and the frame with zeros in its MIC field. It stands
+// behind 32 octets, and its MIC field behind 81 of it.
+fn is_covered(covered: &[u8], frame: &[u8]) -> bool {
+    let (_, behind) = frame.split_at(frame.len().min(32));
+    match covered.strip_prefix(OF_A_KEY_FRAME) {
+        Some(octets) => is_unsealed(octets, behind, 81),
+        None => false,
+    }
+}
+
+// The form of what the MIC in a frame of reassociation covers.
+const OF_REASSOCIATION: &[u8] = &[2];
+
+// The number of a reassociation request in a fast transition, and where its RSNE begins in the network "IEEE"; and those of a response.
+const IN_REQUEST: (&[u8], usize) = (&[5], 46);
+
+const IN_RESPONSE: (&[u8], usize) = (&[6], 36);
 
 // What the MIC of a frame of reassociation covers: the form, both addresses, the number of the frame, and from its RSNE on the frame
 // with zeros in its MIC field, which stands 49 octets behind.
 fn is_covered_moving(covered: &[u8], frame: &[u8], keys: &Keys) -> bool {
     let (number, at) = match frame.first() {
-        Some(0x20) => (5, IN_REQUEST),
-        _ => (6, IN_RESPONSE),
+        Some(0x20) => IN_REQUEST,
+        _ => IN_RESPONSE,
     };
-    frame.len() >= at + 65
-        && covered.len() == frame.len() - at + 14
-        && covered[0] == 2
-        && &covered[1..7] == keys.spa.0.as_slice()
-        && &covered[7..13] == keys.aa.0.as_slice()
-        && covered[13] == number
-        && &covered[14..63] == &frame[at..at + 49]
-        && &covered[63..79] == [0; 16].as_slice()
-        && &covered[79..] == &frame[at + 65..]
+    let (_, behind) = frame.split_at(at.min(frame.len()));
+    let (front, octets) = covered.split_at(covered.len().min(14));
+    let (spa, aa) = (keys.spa.0.as_slice(), keys.aa.0.as_slice());
+    is_joined(front, &[OF_REASSOCIATION, spa, aa, number]) && is_unsealed(octets, behind, 49)
 }
 
 // What is to be sealed.
@@ -377,14 +388,9 @@ fn is_idle(act: &Act, reason: Why) -> bool {
     }
 }
 
-// The act is as it is to be, where these octets came and that came of them.
-fn is(act: &Act, expected: &Expected, came: &[u8], told: Outcome) -> bool {
+// The act tells of a frame as it is to be, where these octets came and that came of them.
+fn is_of_a_frame(act: &Act, expected: &Expected, came: &[u8], told: Outcome) -> bool {
     match *expected {
-        Expected::Opened(node) => is_opened(act, node, Start::Connect),
-        Expected::Roamed(node) => is_opened(act, node, Start::Roam),
-        Expected::Closed(node, part) => is_closed(act, node, part),
-        Expected::Drew(value) => is_drawn(act, value),
-        Expected::Derived(node, keys) => is_derived(act, node, keys),
         Expected::Sent(node, kind, frame) => {
             is_sent(act, Peer::One(node), kind, frame, Sealed::No)
         }
@@ -394,21 +400,15 @@ fn is(act: &Act, expected: &Expected, came: &[u8], told: Outcome) -> bool {
         Expected::SentMoving(node, kind, frame, keys) => {
             is_sent(act, Peer::One(node), kind, frame, Sealed::Fte(keys))
         }
+        Expected::SentData(peer, data) => {
+            is_sent(act, peer, Kind::Data, data.octets, Sealed::Ccm(data))
+        }
         Expected::Took(node, kind) => is_taken(act, node, kind, came, told, Sealed::No),
         Expected::TookSealed(node, kind, keys) => {
             is_taken(act, Some(node), kind, came, told, Sealed::Mic(keys))
         }
         Expected::TookMoving(node, kind, keys) => {
             is_taken(act, Some(node), kind, came, told, Sealed::Fte(keys))
-        }
-        Expected::Pairwise(node, keys) => is_pairwise(act, node, keys),
-        Expected::Group(peer, gtk, id) => is_group(act, peer, A1_ADDRESS, gtk, id),
-        Expected::GroupOfA2(gtk, id) => is_group(act, Peer::One(A2), A2_ADDRESS, gtk, id),
-        Expected::OwnGroupOfA2(gtk, id) => is_group(act, Peer::All, A2_ADDRESS, gtk, id),
-        Expected::Resumed(node, gtk, id) => is_resumed(act, node, gtk, id),
-        Expected::Used(peer, data) => is_used(act, peer, data),
-        Expected::SentData(peer, data) => {
-            is_sent(act, peer, Kind::Data, data.octets, Sealed::Ccm(data))
         }
         Expected::TookData(node, data) => {
             is_taken(
@@ -420,14 +420,40 @@ fn is(act: &Act, expected: &Expected, came: &[u8], told: Outcome) -> bool {
                 Sealed::Ccm(data),
             )
         }
+        _ => false,
+    }
+}
+
+// The act tells of a key as it is to be.
+fn is_of_a_key(act: &Act, expected: &Expected) -> bool {
+    match *expected {
+        Expected::Drew(value) => is_drawn(act, value),
+        Expected::Derived(node, keys) => is_derived(act, node, keys),
+        Expected::Pairwise(node, keys) => is_pairwise(act, node, keys),
+        Expected::Group(peer, gtk, id) => is_group(act, peer, A1_ADDRESS, gtk, id),
+        Expected::GroupOfA2(gtk, id) => is_group(act, Peer::One(A2), A2_ADDRESS, gtk, id),
+        Expected::OwnGroupOfA2(gtk, id) => is_group(act, Peer::All, A2_ADDRESS, gtk, id),
+        Expected::Resumed(node, gtk, id) => is_resumed(act, node, gtk, id),
+        Expected::Used(peer, data) => is_used(act, peer, data),
         Expected::HandedUp(node, data) => is_handed_up(act, node, data),
         Expected::Finished(node, keys) => is_finished(act, node, keys),
+        _ => false,
+    }
+}
+
+// The act is as it is to be, where these octets came and that came of them.
+fn is(act: &Act, expected: &Expected, came: &[u8], told: Outcome) -> bool {
+    match *expected {
+        Expected::Opened(node) => is_opened(act, node, Start::Connect),
+        Expected::Roamed(node) => is_opened(act, node, Start::Roam),
+        Expected::Closed(node, part) => is_closed(act, node, part),
         Expected::Put => is_put(act),
         Expected::Found => is_found(act),
         Expected::Absent => is_absent(act),
         Expected::Revoked => is_revoked(act),
         Expected::GaveUp(node, message) => is_given_up(act, node, message),
         Expected::Idle(why) => is_idle(act, why),
+        _ => is_of_a_key(act, expected) || is_of_a_frame(act, expected, came, told),
     }
 }
 
@@ -441,7 +467,9 @@ fn is_next(act: &Option<Act>, expected: Option<&Expected>, came: &[u8], told: Ou
 
 // The next act, which is dropped, is as it is to be, or there is none and none is to be.
 fn comes(act: Option<Act>, expected: Option<&Expected>, came: &[u8], told: Outcome) -> bool {
-    is_next(&act, expected, came, told)
+    let is_right = is_next(&act, expected, came, told);
+    drop(act);
+    is_right
 }
 
 /// These acts come, and no more, where these octets came and that came of them.

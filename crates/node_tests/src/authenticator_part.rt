@@ -53,7 +53,7 @@ struct Newest {
     rsc: u64,
 }
 
-const FIRST_GROUP: Newest = Newest {
+const FIRST_GROUP: &Newest = &Newest {
     key: GroupKey {
         place: 0,
         id: 1,
@@ -62,7 +62,7 @@ const FIRST_GROUP: Newest = Newest {
     rsc: 0,
 };
 
-const SECOND_GROUP: Newest = Newest {
+const SECOND_GROUP: &Newest = &Newest {
     key: GroupKey {
         place: 1,
         id: 2,
@@ -152,27 +152,43 @@ fn has(
     tells(reply, verified, derived, installed) && reply.gtk.is_none()
 }
 
+fn has_nothing(reply: &Reply) -> bool {
+    has(reply, None, None, None)
+}
+
+fn has_verified(reply: &Reply, keys: &Keys) -> bool {
+    has(reply, Some(keys.ptk.kck), None, None)
+}
+
+fn has_derived(reply: &Reply, keys: &Keys) -> bool {
+    has(reply, Some(keys.ptk.kck), Some(keyed(keys)), None)
+}
+
+fn has_installed(reply: &Reply, keys: &Keys) -> bool {
+    has(reply, Some(keys.ptk.kck), None, Some(keyed(keys)))
+}
+
+// The reply sends M1 with this counter.
+fn sends_m1(rt: &impl Abort, alloc: Global, suite: &Suite, reply: &Reply, counter: u64) -> bool {
+    let frame = m1(suite, counter, ANONCE);
+    sends(rt, alloc, reply, Message::M1, None, &frame)
+}
+
 // The reply is as it is to be.
 fn is(rt: &impl Abort, alloc: Global, suite: &Suite, reply: &Reply, want: &Want) -> bool {
     match want {
-        Want::Nothing => is_silent(reply) && has(reply, None, None, None),
-        Want::M1(counter) => {
-            let frame = m1(suite, *counter, ANONCE);
-            has(reply, None, None, None) && sends(rt, alloc, reply, Message::M1, None, &frame)
-        }
-        Want::Verified(keys) => is_silent(reply) && has(reply, Some(keys.ptk.kck), None, None),
+        Want::Nothing => is_silent(reply) && has_nothing(reply),
+        Want::M1(counter) => has_nothing(reply) && sends_m1(rt, alloc, suite, reply, *counter),
+        Want::Verified(keys) => is_silent(reply) && has_verified(reply, keys),
         Want::Derived(keys, counter, mic) => {
-            has(reply, Some(keys.ptk.kck), Some(keyed(keys)), None)
-                && sends_m3(rt, alloc, suite, reply, keys, *counter, *mic)
+            has_derived(reply, keys) && sends_m3(rt, alloc, suite, reply, keys, *counter, *mic)
         }
         Want::M3(keys, counter, mic) => {
-            has(reply, None, None, None) && sends_m3(rt, alloc, suite, reply, keys, *counter, *mic)
+            has_nothing(reply) && sends_m3(rt, alloc, suite, reply, keys, *counter, *mic)
         }
-        Want::Installed(keys) => {
-            is_silent(reply) && has(reply, Some(keys.ptk.kck), None, Some(keyed(keys)))
-        }
+        Want::Installed(keys) => is_silent(reply) && has_installed(reply, keys),
         Want::GivenUp(message) => {
-            is_silent(reply) && reply.kind == Kind::Key(*message) && has(reply, None, None, None)
+            is_silent(reply) && reply.kind == Kind::Key(*message) && has_nothing(reply)
         }
     }
 }
@@ -324,7 +340,7 @@ const NO_RSNE: &[u8] =
     b"\xdd\x14\x01\0\0\x0f\xac\x04\x01\0\0\x0f\xac\x04\x01\0\0\x0f\xac\x02\x0c\0";
 
 // M2 and M4 in their order, with what is refused before and behind them.
-const HANDSHAKE: [Step; 19] = [
+const HANDSHAKE: &[Step] = &[
     Step {
         shows: "M4 before M2",
         given: Given::M4(2, M4_MIC),
@@ -462,11 +478,11 @@ const HANDSHAKE: [Step; 19] = [
 
 #[test]
 fn m4_installs_the_key(rt: HostRuntime) {
-    try_steps(&rt, rt.alloc(), &SUITE_2, &FIRST_GROUP, &HANDSHAKE);
+    try_steps(&rt, rt.alloc(), SUITE_2, FIRST_GROUP, HANDSHAKE);
 }
 
 // M1 is sent four times.
-const FIRST_MESSAGES: [Step; 8] = [
+const FIRST_MESSAGES: &[Step] = &[
     Step {
         shows: "M1 a second time",
         given: Given::Retry,
@@ -523,11 +539,11 @@ const FIRST_MESSAGES: [Step; 8] = [
 
 #[test]
 fn first_message_is_sent_four_times(rt: HostRuntime) {
-    try_steps(&rt, rt.alloc(), &SUITE_2, &FIRST_GROUP, &FIRST_MESSAGES);
+    try_steps(&rt, rt.alloc(), SUITE_2, FIRST_GROUP, FIRST_MESSAGES);
 }
 
 // M3 is sent four times behind two M1, each time with the group key and the RSC of the first.
-const THIRD_MESSAGES: [Step; 9] = [
+const THIRD_MESSAGES: &[Step] = &[
     Step {
         shows: "M1 a second time",
         given: Given::Retry,
@@ -602,11 +618,11 @@ const THIRD_MESSAGES: [Step; 9] = [
 
 #[test]
 fn third_message_is_sent_four_times(rt: HostRuntime) {
-    try_steps(&rt, rt.alloc(), &SUITE_2, &SECOND_GROUP, &THIRD_MESSAGES);
+    try_steps(&rt, rt.alloc(), SUITE_2, SECOND_GROUP, THIRD_MESSAGES);
 }
 
 // M2 of the second M1, and M4 of the first of two M3.
-const SECOND_MESSAGES: [Step; 4] = [
+const SECOND_MESSAGES: &[Step] = &[
     Step {
         shows: "M1 a second time",
         given: Given::Retry,
@@ -639,11 +655,11 @@ const SECOND_MESSAGES: [Step; 4] = [
 
 #[test]
 fn m4_of_the_first_m3_is_accepted(rt: HostRuntime) {
-    try_steps(&rt, rt.alloc(), &SUITE_2, &FIRST_GROUP, &SECOND_MESSAGES);
+    try_steps(&rt, rt.alloc(), SUITE_2, FIRST_GROUP, SECOND_MESSAGES);
 }
 
 // AKM suite 6.
-const SHA256_HANDSHAKE: [Step; 7] = [
+const SHA256_HANDSHAKE: &[Step] = &[
     Step {
         shows: "M2 under the MIC of the other suite",
         given: Given::M2(1, M2_MIC, SHA256_RSNE),
@@ -694,5 +710,5 @@ const SHA256_HANDSHAKE: [Step; 7] = [
 
 #[test]
 fn m4_installs_the_key_of_suite_6(rt: HostRuntime) {
-    try_steps(&rt, rt.alloc(), &SUITE_6, &FIRST_GROUP, &SHA256_HANDSHAKE);
+    try_steps(&rt, rt.alloc(), SUITE_6, FIRST_GROUP, SHA256_HANDSHAKE);
 }

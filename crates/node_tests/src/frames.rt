@@ -3,20 +3,16 @@
 use crate::vectors::{FROM_AP, Suite, TO_AP};
 use eapol_key::Message;
 use run_journal::{Keyed, Kind, REPLY_LEN, Reply};
-use std::alloc::{AllocError, Global};
+use std::alloc::Global;
 use std::process::Abort;
-
-fn made(alloc: Global, pieces: &[&[u8]]) -> Result<Vec<u8>, AllocError> {
-    let mut octets = Vec::new(alloc);
-    for piece in pieces {
-        octets.extend_from_slice(piece)?;
-    }
-    Ok(octets)
-}
 
 /// The pieces, one behind the other.
 pub fn joined(rt: &impl Abort, alloc: Global, pieces: &[&[u8]]) -> Vec<u8> {
-    made(alloc, pieces).expect(rt, "memory")
+    let mut octets = Vec::new(alloc);
+    for piece in pieces {
+        octets.extend_from_slice(piece).expect(rt, "memory");
+    }
+    octets
 }
 
 /// The octets are the pieces, one behind the other.
@@ -144,6 +140,15 @@ pub fn g2(information: &'static [u8], counter: u64, mic: [u8; 16]) -> Frame {
     }
 }
 
+// The version and the type of an EAPOL frame, the descriptor type of an EAPOL-Key frame, its EAPOL-Key IV and its reserved field.
+const VERSION_AND_TYPE: &[u8] = b"\x02\x03";
+
+const DESCRIPTOR: &[u8] = b"\x02";
+
+const IV: &[u8] = &[0; 16];
+
+const RESERVED: &[u8] = &[0; 8];
+
 /// The octets of the frame on the air.
 pub fn on_air(rt: &impl Abort, alloc: Global, frame: &Frame) -> Vec<u8> {
     let size = (frame.key_data.len() % 65_536) as u16;
@@ -156,16 +161,16 @@ pub fn on_air(rt: &impl Abort, alloc: Global, frame: &Frame) -> Vec<u8> {
     let key_data_size = size.to_be_bytes();
     let pieces = [
         frame.header,
-        b"\x02\x03",
+        VERSION_AND_TYPE,
         &body_size,
-        b"\x02",
+        DESCRIPTOR,
         frame.information,
         &key_length,
         &counter,
         &nonce,
-        &[0; 16],
+        IV,
         &rsc,
-        &[0; 8],
+        RESERVED,
         &mic,
         &key_data_size,
         frame.key_data,

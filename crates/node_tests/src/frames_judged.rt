@@ -19,6 +19,8 @@ use std::process::Abort;
 // The octets at the front, as many zeros of ninety, and the octets behind them.
 type Pieces = (&'static [u8], usize, &'static [u8]);
 
+const NINETY_ZEROS: &[u8] = &[0; 90];
+
 // What a frame is judged as, without what it carries.
 enum Told {
     Ignored,
@@ -83,7 +85,7 @@ fn try_case(rt: &impl Abort, alloc: Global, domain: &Domain, case: &Case)
     requires stas { length domain.now.stas ≡ 2 }
 {
     let (front, zeros, behind) = case.octets;
-    let (middle, _) = [0; 90].split_at(zeros.min(90));
+    let (middle, _) = NINETY_ZEROS.split_at(zeros.min(90));
     let octets = joined(rt, alloc, &[front, middle, behind]);
     assert!(rt; is_judged(domain, case, &octets), "{}", case.shows);
 }
@@ -96,7 +98,7 @@ fn try_cases(rt: &impl Abort, alloc: Global, cases: &[Case]) {
 }
 
 // Octets that are no frame of the profile.
-const UNREAD: [Case; 3] = [
+const UNREAD: &[Case] = &[
     Case {
         shows: "one octet",
         node: A1,
@@ -122,11 +124,11 @@ const UNREAD: [Case; 3] = [
 
 #[test]
 fn no_frame_is_refused_as_its_reader_says(rt: HostRuntime) {
-    try_cases(&rt, rt.alloc(), &UNREAD);
+    try_cases(&rt, rt.alloc(), UNREAD);
 }
 
 // Management frames.
-const MANAGED: [Case; 10] = [
+const MANAGED: &[Case] = &[
     Case {
         shows: "an association request",
         node: A1,
@@ -247,11 +249,11 @@ const MANAGED: [Case; 10] = [
 
 #[test]
 fn management_is_for_its_receiver_from_a_peer(rt: HostRuntime) {
-    try_cases(&rt, rt.alloc(), &MANAGED);
+    try_cases(&rt, rt.alloc(), MANAGED);
 }
 
 // EAPOL-Key frames.
-const KEYED: [Case; 9] = [
+const KEYED: &[Case] = &[
     Case {
         shows: "a body of three octets",
         node: A1,
@@ -361,11 +363,11 @@ const KEYED: [Case; 9] = [
 
 #[test]
 fn messages_go_one_way(rt: HostRuntime) {
-    try_cases(&rt, rt.alloc(), &KEYED);
+    try_cases(&rt, rt.alloc(), KEYED);
 }
 
 // Protected data.
-const SEALED: [Case; 7] = [
+const SEALED: &[Case] = &[
     Case {
         shows: "to a station",
         node: S1,
@@ -447,7 +449,7 @@ const SEALED: [Case; 7] = [
 
 #[test]
 fn protected_data_is_for_its_receiver_from_a_peer(rt: HostRuntime) {
-    try_cases(&rt, rt.alloc(), &SEALED);
+    try_cases(&rt, rt.alloc(), SEALED);
 }
 
 // The address of the node is found, and the node by it at its peer.
@@ -484,7 +486,7 @@ fn nodes_are_found_by_their_addresses(rt: HostRuntime) {
     assert!(rt; are_apart(&domain));
 }
 
-const RSNES: [(&[u8], Option<u16>); 10] = [
+static RSNES: [(&[u8], Option<u16>); 10] = [
     (b"\0\x04IEEE", Some(41)),
     (
         b"\x30\x14\x01\0\0\x0f\xac\x04\x01\0\0\x0f\xac\x04\x01\0\0\x0f\xac\x02\x0c\0",
@@ -530,7 +532,7 @@ fn has_status(octets: &[u8], wanted: Option<u16>) -> bool {
 
 #[test]
 fn suites_are_those_of_the_network(rt: HostRuntime) {
-    for (octets, status) in RSNES {
-        assert!(rt; has_status(octets, status), "{octets:?}");
+    for (octets, status) in &RSNES {
+        assert!(rt; has_status(octets, *status), "{octets:?}");
     }
 }

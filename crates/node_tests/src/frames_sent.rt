@@ -8,10 +8,11 @@ use crate::frames::{is_joined, sent};
 use crate::network::network;
 use crate::vectors::{
     A1, ANONCE, FROM_AP, G1_KEY_DATA, G1_KEY_DATA_OF_ID_1, G1_MIC, G2_MIC, GTK, KEY_DATA,
-    KEY_DATA_OF_ID_2, M3_MIC, NEXT_GTK, REFUSAL, REQUEST, RESPONSE, RESPONSE_TO_S2, S1, S2,
-    SECOND_G1_MIC, SECOND_G2_MIC, SHA256_G1_KEY_DATA, SHA256_G1_KEY_DATA_OF_ID_1, SHA256_G1_MIC,
-    SHA256_G2_MIC, SHA256_KEY_DATA, SHA256_M3_MIC, SHA256_SECOND_G1_MIC, SHA256_SECOND_G2_MIC,
-    SNONCE, SUITE_2, SUITE_6, Suite, TO_AP,
+    KEY_DATA_OF_ID_2, M2_MIC, M3_MIC, M4_MIC, NEXT_GTK, REFUSAL, REQUEST, RESPONSE, RESPONSE_TO_S2,
+    RSNE, S1, S2, SECOND_G1_MIC, SECOND_G2_MIC, SHA256_G1_KEY_DATA, SHA256_G1_KEY_DATA_OF_ID_1,
+    SHA256_G1_MIC, SHA256_G2_MIC, SHA256_KEY_DATA, SHA256_M2_MIC, SHA256_M3_MIC, SHA256_M4_MIC,
+    SHA256_RSNE, SHA256_SECOND_G1_MIC, SHA256_SECOND_G2_MIC, SNONCE, SUITE_2, SUITE_6, Suite,
+    TO_AP,
 };
 use domain_base::{Akm, NoMemory, Node, Peer};
 use eapol_key::Message;
@@ -25,17 +26,26 @@ use run_journal::{Act, Domain, Keyed, Kind, Reply};
 use std::alloc::Global;
 use std::process::Abort;
 
-const SUITES: [Suite; 2] = [SUITE_2, SUITE_6];
+// What the access point and the station draw.
+const ANONCE_OF_A1: &[u8; 32] = &ANONCE;
 
-// The replay counters 1 and 2.
+const GTK_OF_A1: &[u8; 16] = &GTK;
+
+// The replay counters 1 to 4.
 const FIRST: &[u8] = b"\0\0\0\0\0\0\0\x01";
 
 const SECOND: &[u8] = b"\0\0\0\0\0\0\0\x02";
 
-// The replay counters 3 and 4.
-const THIRD_COUNTER: &[u8] = b"\0\0\0\0\0\0\0\x03";
+const THIRD: &[u8] = b"\0\0\0\0\0\0\0\x03";
 
-const FOURTH_COUNTER: &[u8] = b"\0\0\0\0\0\0\0\x04";
+const FOURTH: &[u8] = b"\0\0\0\0\0\0\0\x04";
+
+// The field of the RSC behind 0x0605_0403_0201 packet numbers.
+const RSC: &[u8] = &[1, 2, 3, 4, 5, 6, 0, 0];
+
+// The octets of a message, in pieces: the header, what is before the key information, that, the key length, the replay counter, the
+// nonce, IV to reserved octets, the MIC, and the length of the key data with these.
+type Pieces = &'static [&'static [u8]];
 
 fn is_drawn(domain: &Domain) -> bool
     requires form { InForm domain.now }
@@ -68,11 +78,18 @@ fn sends(act: &Act, to: Node, what: Kind, expected: &[u8]) -> bool {
 }
 
 // The act was made, and is that of sending these octets so.
-fn is_sent(made: Result<Act, NoMemory>, to: Node, what: Kind, expected: &[u8]) -> bool {
-    match &made {
+fn is_made(made: &Result<Act, NoMemory>, to: Node, what: Kind, expected: &[u8]) -> bool {
+    match made {
         Ok(act) => sends(act, to, what, expected),
         Err(_) => false,
     }
+}
+
+// The same, and it is dropped.
+fn is_sent(made: Result<Act, NoMemory>, to: Node, what: Kind, expected: &[u8]) -> bool {
+    let is_right = is_made(&made, to, what, expected);
+    drop(made);
+    is_right
 }
 
 fn are_sent(alloc: Global, domain: &Domain) -> bool
@@ -150,298 +167,355 @@ fn is_written(
         && is_joined(sent(reply), pieces)
 }
 
-fn first(rt: &impl Abort, alloc: Global, suite: &Suite) {
+const M1: Pieces = &[
+    FROM_AP,
+    b"\x02\x03\x00\x5f\x02",
+    b"\x00\x8a",
+    b"\x00\x10",
+    FIRST,
+    &ANONCE,
+    &[0; 50],
+];
+
+const SHA256_M1: Pieces = &[
+    FROM_AP,
+    b"\x02\x03\x00\x5f\x02",
+    b"\x00\x8b",
+    b"\x00\x10",
+    FIRST,
+    &ANONCE,
+    &[0; 50],
+];
+
+fn is_first(rt: &impl Abort, alloc: Global, suite: &Suite, pieces: &[&[u8]]) -> bool {
     let ends = ends_at_the_access_point(rt, alloc, suite);
     let mut reply = verified();
-    write_m1(&ends, 1, &ANONCE, &mut reply);
-    let pieces = [
-        FROM_AP,
-        b"\x02\x03\x00\x5f\x02",
-        suite.information[0],
-        b"\x00\x10",
-        FIRST,
-        &ANONCE,
-        &[0; 50],
-    ];
-    assert!(rt; is_written(&reply, Message::M1, None, 131, &pieces));
+    write_m1(&ends, 1, ANONCE_OF_A1, &mut reply);
+    is_written(&reply, Message::M1, None, 131, pieces)
 }
 
 #[test]
 fn first_message(rt: HostRuntime) {
-    for suite in &SUITES {
-        first(&rt, rt.alloc(), suite);
-    }
+    assert!(rt; is_first(&rt, rt.alloc(), SUITE_2, M1));
+    assert!(rt; is_first(&rt, rt.alloc(), SUITE_6, SHA256_M1));
 }
 
-fn second(rt: &impl Abort, alloc: Global, suite: &Suite) {
+const M2: Pieces = &[
+    TO_AP,
+    b"\x02\x03\x00\x75\x02",
+    b"\x01\x0a",
+    b"\x00\x00",
+    FIRST,
+    &SNONCE,
+    &[0; 32],
+    &M2_MIC,
+    b"\x00\x16",
+    RSNE,
+];
+
+const SHA256_M2: Pieces = &[
+    TO_AP,
+    b"\x02\x03\x00\x75\x02",
+    b"\x01\x0b",
+    b"\x00\x00",
+    FIRST,
+    &SNONCE,
+    &[0; 32],
+    &SHA256_M2_MIC,
+    b"\x00\x16",
+    SHA256_RSNE,
+];
+
+fn is_second(rt: &impl Abort, alloc: Global, suite: &Suite, pieces: &[&[u8]]) -> bool {
     let ends = ends_at_the_station(rt, alloc, suite);
     let mut reply = verified();
     let key_data = m2_key_data(suite.akm, &None);
     write_m2(&ends, &keyed(suite), 1, key_data.as_slice(), &mut reply);
-    let mic = suite.m2;
-    let pieces = [
-        TO_AP,
-        b"\x02\x03\x00\x75\x02",
-        suite.information[1],
-        b"\x00\x00",
-        FIRST,
-        &SNONCE,
-        &[0; 32],
-        &mic,
-        b"\x00\x16",
-        suite.rsne,
-    ];
-    assert!(rt; is_written(&reply, Message::M2, Some(suite.keys.kck), 153, &pieces));
+    is_written(&reply, Message::M2, Some(suite.keys.kck), 153, pieces)
 }
 
 #[test]
 fn second_message(rt: HostRuntime) {
-    for suite in &SUITES {
-        second(&rt, rt.alloc(), suite);
-    }
+    assert!(rt; is_second(&rt, rt.alloc(), SUITE_2, M2));
+    assert!(rt; is_second(&rt, rt.alloc(), SUITE_6, SHA256_M2));
 }
 
-// What a message 3 has of its own: the suite, the RSC field, the MIC and the key data.
-struct ThirdMessage {
-    suite: Suite,
-    rsc: [u8; 8],
-    mic: [u8; 16],
-    key_data: &'static [u8],
-}
+const M3: Pieces = &[
+    FROM_AP,
+    b"\x02\x03\x00\x97\x02",
+    b"\x13\xca",
+    b"\x00\x10",
+    SECOND,
+    &ANONCE,
+    &[0; 16],
+    &[0; 8],
+    &[0; 8],
+    &M3_MIC,
+    b"\x00\x38",
+    KEY_DATA,
+];
 
-const THIRD: ThirdMessage = ThirdMessage {
-    suite: SUITE_2,
-    rsc: [0; 8],
-    mic: M3_MIC,
-    key_data: KEY_DATA,
-};
+const LATER_M3: Pieces = &[
+    FROM_AP,
+    b"\x02\x03\x00\x97\x02",
+    b"\x13\xca",
+    b"\x00\x10",
+    SECOND,
+    &ANONCE,
+    &[0; 16],
+    RSC,
+    &[0; 8],
+    b"\x03\xb9\x65\x40\x56\x9b\x97\x6d\x0a\x93\x76\x20\x9a\xef\x7b\xbc",
+    b"\x00\x38",
+    KEY_DATA_OF_ID_2,
+];
 
-const LATER_THIRD: ThirdMessage = ThirdMessage {
-    suite: SUITE_2,
-    rsc: [1, 2, 3, 4, 5, 6, 0, 0],
-    mic: *b"\x03\xb9\x65\x40\x56\x9b\x97\x6d\x0a\x93\x76\x20\x9a\xef\x7b\xbc",
-    key_data: KEY_DATA_OF_ID_2,
-};
-
-const SHA256_THIRD: ThirdMessage = ThirdMessage {
-    suite: SUITE_6,
-    rsc: [0; 8],
-    mic: SHA256_M3_MIC,
-    key_data: SHA256_KEY_DATA,
-};
+const SHA256_M3: Pieces = &[
+    FROM_AP,
+    b"\x02\x03\x00\x97\x02",
+    b"\x13\xcb",
+    b"\x00\x10",
+    SECOND,
+    &ANONCE,
+    &[0; 16],
+    &[0; 8],
+    &[0; 8],
+    &SHA256_M3_MIC,
+    b"\x00\x38",
+    SHA256_KEY_DATA,
+];
 
 // With the key of that id and that count of packet numbers.
-fn third(rt: &impl Abort, alloc: Global, id: u8, rsc: u64, has: &ThirdMessage)
+fn is_third(
+    rt: &impl Abort,
+    alloc: Global,
+    suite: &Suite,
+    id: u8,
+    rsc: u64,
+    pieces: &[&[u8]],
+) -> bool
     requires id { id < 4 }
     requires packet_number { rsc < 2 ^ 48 }
 {
-    let suite = &has.suite;
     let ends = ends_at_the_access_point(rt, alloc, suite);
-    let plain = m3_key_data(suite.akm, &None, id, &GTK);
+    let plain = m3_key_data(suite.akm, &None, id, GTK_OF_A1);
     let mut reply = verified();
     write_m3(&ends, &keyed(suite), 2, plain.as_slice(), rsc, &mut reply);
-    let rsc_field = has.rsc;
-    let mic = has.mic;
-    let pieces = [
-        FROM_AP,
-        b"\x02\x03\x00\x97\x02",
-        suite.information[2],
-        b"\x00\x10",
-        SECOND,
-        &ANONCE,
-        &[0; 16],
-        &rsc_field,
-        &[0; 8],
-        &mic,
-        b"\x00\x38",
-        has.key_data,
-    ];
-    assert!(rt; is_written(&reply, Message::M3, Some(suite.keys.kck), 187, &pieces));
+    is_written(&reply, Message::M3, Some(suite.keys.kck), 187, pieces)
 }
 
 #[test]
 fn third_message(rt: HostRuntime) {
-    third(&rt, rt.alloc(), 1, 0, &THIRD);
-    third(&rt, rt.alloc(), 2, 0x0605_0403_0201, &LATER_THIRD);
-    third(&rt, rt.alloc(), 1, 0, &SHA256_THIRD);
+    let later = 0x0605_0403_0201;
+    assert!(rt; is_third(&rt, rt.alloc(), SUITE_2, 1, 0, M3));
+    assert!(rt; is_third(&rt, rt.alloc(), SUITE_2, 2, later, LATER_M3));
+    assert!(rt; is_third(&rt, rt.alloc(), SUITE_6, 1, 0, SHA256_M3));
 }
 
-fn fourth(rt: &impl Abort, alloc: Global, suite: &Suite) {
+const M4: Pieces = &[
+    TO_AP,
+    b"\x02\x03\x00\x5f\x02",
+    b"\x03\x0a",
+    b"\x00\x00",
+    SECOND,
+    &[0; 64],
+    &M4_MIC,
+    b"\x00\x00",
+];
+
+const SHA256_M4: Pieces = &[
+    TO_AP,
+    b"\x02\x03\x00\x5f\x02",
+    b"\x03\x0b",
+    b"\x00\x00",
+    SECOND,
+    &[0; 64],
+    &SHA256_M4_MIC,
+    b"\x00\x00",
+];
+
+fn is_fourth(rt: &impl Abort, alloc: Global, suite: &Suite, pieces: &[&[u8]]) -> bool {
     let ends = ends_at_the_station(rt, alloc, suite);
     let mut reply = verified();
-    write_m4(&ends, &keyed(suite).ptk, 2, &mut reply);
-    let mic = suite.m4;
-    let pieces = [
-        TO_AP,
-        b"\x02\x03\x00\x5f\x02",
-        suite.information[3],
-        b"\x00\x00",
-        SECOND,
-        &[0; 64],
-        &mic,
-        b"\x00\x00",
-    ];
-    assert!(rt; is_written(&reply, Message::M4, Some(suite.keys.kck), 131, &pieces));
+    write_m4(&ends, &suite.keys, 2, &mut reply);
+    is_written(&reply, Message::M4, Some(suite.keys.kck), 131, pieces)
 }
 
 #[test]
 fn fourth_message(rt: HostRuntime) {
-    for suite in &SUITES {
-        fourth(&rt, rt.alloc(), suite);
-    }
+    assert!(rt; is_fourth(&rt, rt.alloc(), SUITE_2, M4));
+    assert!(rt; is_fourth(&rt, rt.alloc(), SUITE_6, SHA256_M4));
 }
 
-// What a message 1 of the group key handshake has of its own: the suite, the key information, the group key, the fields of the
-// replay counter and of the RSC, the MIC and the key data.
-struct GroupMessage {
-    suite: Suite,
-    information: &'static [u8],
-    key: [u8; 16],
-    counter: &'static [u8],
-    rsc: [u8; 8],
-    mic: [u8; 16],
-    key_data: &'static [u8],
-}
+const G1: Pieces = &[
+    FROM_AP,
+    b"\x02\x03\x00\x7f\x02",
+    b"\x13\x82",
+    b"\x00\x00",
+    THIRD,
+    &[0; 48],
+    &[0; 8],
+    &[0; 8],
+    &G1_MIC,
+    b"\x00\x20",
+    G1_KEY_DATA,
+];
 
-const G1: GroupMessage = GroupMessage {
-    suite: SUITE_2,
-    information: b"\x13\x82",
-    key: NEXT_GTK,
-    counter: THIRD_COUNTER,
-    rsc: [0; 8],
-    mic: G1_MIC,
-    key_data: G1_KEY_DATA,
-};
+const LATER_G1: Pieces = &[
+    FROM_AP,
+    b"\x02\x03\x00\x7f\x02",
+    b"\x13\x82",
+    b"\x00\x00",
+    FOURTH,
+    &[0; 48],
+    RSC,
+    &[0; 8],
+    &SECOND_G1_MIC,
+    b"\x00\x20",
+    G1_KEY_DATA_OF_ID_1,
+];
 
-const LATER_G1: GroupMessage = GroupMessage {
-    suite: SUITE_2,
-    information: b"\x13\x82",
-    key: GTK,
-    counter: FOURTH_COUNTER,
-    rsc: [1, 2, 3, 4, 5, 6, 0, 0],
-    mic: SECOND_G1_MIC,
-    key_data: G1_KEY_DATA_OF_ID_1,
-};
+const SHA256_G1: Pieces = &[
+    FROM_AP,
+    b"\x02\x03\x00\x7f\x02",
+    b"\x13\x83",
+    b"\x00\x00",
+    THIRD,
+    &[0; 48],
+    &[0; 8],
+    &[0; 8],
+    &SHA256_G1_MIC,
+    b"\x00\x20",
+    SHA256_G1_KEY_DATA,
+];
 
-const SHA256_G1: GroupMessage = GroupMessage {
-    suite: SUITE_6,
-    information: b"\x13\x83",
-    key: NEXT_GTK,
-    counter: THIRD_COUNTER,
-    rsc: [0; 8],
-    mic: SHA256_G1_MIC,
-    key_data: SHA256_G1_KEY_DATA,
-};
+const SHA256_LATER_G1: Pieces = &[
+    FROM_AP,
+    b"\x02\x03\x00\x7f\x02",
+    b"\x13\x83",
+    b"\x00\x00",
+    FOURTH,
+    &[0; 48],
+    RSC,
+    &[0; 8],
+    &SHA256_SECOND_G1_MIC,
+    b"\x00\x20",
+    SHA256_G1_KEY_DATA_OF_ID_1,
+];
 
-const SHA256_LATER_G1: GroupMessage = GroupMessage {
-    suite: SUITE_6,
-    information: b"\x13\x83",
-    key: GTK,
-    counter: FOURTH_COUNTER,
-    rsc: [1, 2, 3, 4, 5, 6, 0, 0],
-    mic: SHA256_SECOND_G1_MIC,
-    key_data: SHA256_G1_KEY_DATA_OF_ID_1,
-};
-
-// With that replay counter, and the key under that id with that count of packet numbers.
-fn group_first(rt: &impl Abort, alloc: Global, counter: u64, id: u8, rsc: u64, has: &GroupMessage)
-    requires id { id < 4 }
+// With that replay counter, and the group key under that id with that count of packet numbers.
+fn is_group_first(
+    rt: &impl Abort,
+    alloc: Global,
+    suite: &Suite,
+    counter: u64,
+    group: &GroupKey,
+    rsc: u64,
+    pieces: &[&[u8]],
+) -> bool
+    requires id { group.now.id < 4 }
     requires packet_number { rsc < 2 ^ 48 }
 {
-    let suite = &has.suite;
     let ends = ends_at_the_access_point(rt, alloc, suite);
-    let place = 0;
-    let key = has.key;
-    let group = GroupKey { place, id, key };
     let mut reply = verified();
-    write_g1(&ends, &keyed(suite).ptk, counter, &group, rsc, &mut reply);
-    let rsc_field = has.rsc;
-    let mic = has.mic;
-    let pieces = [
-        FROM_AP,
-        b"\x02\x03\x00\x7f\x02",
-        has.information,
-        b"\x00\x00",
-        has.counter,
-        &[0; 48],
-        &rsc_field,
-        &[0; 8],
-        &mic,
-        b"\x00\x20",
-        has.key_data,
-    ];
-    assert!(rt; is_written(&reply, Message::G1, Some(suite.keys.kck), 163, &pieces));
+    write_g1(&ends, &suite.keys, counter, group, rsc, &mut reply);
+    is_written(&reply, Message::G1, Some(suite.keys.kck), 163, pieces)
 }
+
+// The third group key, and the first one once more.
+const NEXT_GROUP: &GroupKey = &GroupKey {
+    place: 0,
+    id: 2,
+    key: NEXT_GTK,
+};
+
+const LATER_GROUP: &GroupKey = &GroupKey {
+    place: 0,
+    id: 1,
+    key: GTK,
+};
 
 #[test]
 fn first_message_of_the_group_key_handshake(rt: HostRuntime) {
-    group_first(&rt, rt.alloc(), 3, 2, 0, &G1);
-    group_first(&rt, rt.alloc(), 4, 1, 0x0605_0403_0201, &LATER_G1);
-    group_first(&rt, rt.alloc(), 3, 2, 0, &SHA256_G1);
-    group_first(&rt, rt.alloc(), 4, 1, 0x0605_0403_0201, &SHA256_LATER_G1);
+    let later = 0x0605_0403_0201;
+    assert!(rt; is_group_first(&rt, rt.alloc(), SUITE_2, 3, NEXT_GROUP, 0, G1));
+    assert!(rt; is_group_first(&rt, rt.alloc(), SUITE_2, 4, LATER_GROUP, later, LATER_G1));
+    assert!(rt; is_group_first(&rt, rt.alloc(), SUITE_6, 3, NEXT_GROUP, 0, SHA256_G1));
+    assert!(rt;
+        is_group_first(
+            &rt,
+            rt.alloc(),
+            SUITE_6,
+            4,
+            LATER_GROUP,
+            later,
+            SHA256_LATER_G1
+        )
+    );
 }
 
-// What a message 2 of the group key handshake has of its own: the suite, the key information, the field of the replay counter,
-// and the MIC.
-struct GroupAnswer {
-    suite: Suite,
-    information: &'static [u8],
-    counter: &'static [u8],
-    mic: [u8; 16],
-}
+const G2: Pieces = &[
+    TO_AP,
+    b"\x02\x03\x00\x5f\x02",
+    b"\x03\x02",
+    b"\x00\x00",
+    THIRD,
+    &[0; 64],
+    &G2_MIC,
+    b"\x00\x00",
+];
 
-const G2: GroupAnswer = GroupAnswer {
-    suite: SUITE_2,
-    information: b"\x03\x02",
-    counter: THIRD_COUNTER,
-    mic: G2_MIC,
-};
+const LATER_G2: Pieces = &[
+    TO_AP,
+    b"\x02\x03\x00\x5f\x02",
+    b"\x03\x02",
+    b"\x00\x00",
+    FOURTH,
+    &[0; 64],
+    &SECOND_G2_MIC,
+    b"\x00\x00",
+];
 
-const LATER_G2: GroupAnswer = GroupAnswer {
-    suite: SUITE_2,
-    information: b"\x03\x02",
-    counter: FOURTH_COUNTER,
-    mic: SECOND_G2_MIC,
-};
+const SHA256_G2: Pieces = &[
+    TO_AP,
+    b"\x02\x03\x00\x5f\x02",
+    b"\x03\x03",
+    b"\x00\x00",
+    THIRD,
+    &[0; 64],
+    &SHA256_G2_MIC,
+    b"\x00\x00",
+];
 
-const SHA256_G2: GroupAnswer = GroupAnswer {
-    suite: SUITE_6,
-    information: b"\x03\x03",
-    counter: THIRD_COUNTER,
-    mic: SHA256_G2_MIC,
-};
-
-const SHA256_LATER_G2: GroupAnswer = GroupAnswer {
-    suite: SUITE_6,
-    information: b"\x03\x03",
-    counter: FOURTH_COUNTER,
-    mic: SHA256_SECOND_G2_MIC,
-};
+const SHA256_LATER_G2: Pieces = &[
+    TO_AP,
+    b"\x02\x03\x00\x5f\x02",
+    b"\x03\x03",
+    b"\x00\x00",
+    FOURTH,
+    &[0; 64],
+    &SHA256_SECOND_G2_MIC,
+    b"\x00\x00",
+];
 
 // With that replay counter.
-fn group_second(rt: &impl Abort, alloc: Global, counter: u64, has: &GroupAnswer) {
-    let suite = &has.suite;
+fn is_group_second(
+    rt: &impl Abort,
+    alloc: Global,
+    suite: &Suite,
+    counter: u64,
+    pieces: &[&[u8]],
+) -> bool {
     let ends = ends_at_the_station(rt, alloc, suite);
     let mut reply = verified();
-    write_g2(&ends, &keyed(suite).ptk, counter, &mut reply);
-    let mic = has.mic;
-    let pieces = [
-        TO_AP,
-        b"\x02\x03\x00\x5f\x02",
-        has.information,
-        b"\x00\x00",
-        has.counter,
-        &[0; 64],
-        &mic,
-        b"\x00\x00",
-    ];
-    assert!(rt; is_written(&reply, Message::G2, Some(suite.keys.kck), 131, &pieces));
+    write_g2(&ends, &suite.keys, counter, &mut reply);
+    is_written(&reply, Message::G2, Some(suite.keys.kck), 131, pieces)
 }
 
 #[test]
 fn second_message_of_the_group_key_handshake(rt: HostRuntime) {
-    group_second(&rt, rt.alloc(), 3, &G2);
-    group_second(&rt, rt.alloc(), 4, &LATER_G2);
-    group_second(&rt, rt.alloc(), 3, &SHA256_G2);
-    group_second(&rt, rt.alloc(), 4, &SHA256_LATER_G2);
+    assert!(rt; is_group_second(&rt, rt.alloc(), SUITE_2, 3, G2));
+    assert!(rt; is_group_second(&rt, rt.alloc(), SUITE_2, 4, LATER_G2));
+    assert!(rt; is_group_second(&rt, rt.alloc(), SUITE_6, 3, SHA256_G2));
+    assert!(rt; is_group_second(&rt, rt.alloc(), SUITE_6, 4, SHA256_LATER_G2));
 }

@@ -1,4 +1,4 @@
-//! Tests of the public calls of nodes and their parts.
+//! Tests of the public calls of nodes, their parts and their links.
 #![tactic(auto)]
 
 #[cfg(test)]

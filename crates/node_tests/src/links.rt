@@ -4,15 +4,13 @@
 ghost use Rattle.std.specs.Prelude.{◌≡◌, length};
 
 use crate::network::network;
-use domain_base::{
-    Akm, LinkError, LinkPlan, MemAir, MemLink, NoMemory, Node, Octets, Peer, SteadyLink,
-};
+use domain_base::{Akm, LinkError, LinkPlan, MemAir, MemLink, Node, Octets, Peer, SteadyLink};
 use domain_links::{attach_next, give_back, poll, send_entries};
 use run_journal::{Act, Domain, Entry, Kind, Why};
 use std::alloc::Global;
 use std::process::Abort;
 
-const NODES: [Node; 4] = [Node::Ap(0), Node::Ap(1), Node::Sta(0), Node::Sta(1)];
+static NODES: [Node; 4] = [Node::Ap(0), Node::Ap(1), Node::Sta(0), Node::Sta(1)];
 
 // To the first station, to the second access point, to all, to an address that nobody has, and a
 // frame that ends within address 1.
@@ -27,7 +25,7 @@ const TO_NOBODY: &[u8] = &[0xd4, 0, 0, 0, 2, 0, 0, 0, 0, 9];
 const SHORT: &[u8] = &[0xd4, 0, 0, 0, 255, 255, 255, 255, 255];
 
 // What the nodes sent, in order.
-const SENT: [(Node, &[u8]); 7] = [
+static SENT: [(Node, &[u8]); 7] = [
     (Node::Ap(0), TO_STATION),
     (Node::Sta(1), TO_ACCESS_POINT),
     (Node::Ap(1), TO_ALL),
@@ -38,7 +36,7 @@ const SENT: [(Node, &[u8]); 7] = [
 ];
 
 // What goes out of it by each link.
-const BY_LINK: [&[(Node, &[u8])]; 4] = [
+const BY_LINK: &[&[(Node, &[u8])]] = &[
     &[
         (Node::Sta(0), TO_STATION),
         (Node::Sta(0), TO_ALL),
@@ -54,7 +52,7 @@ const BY_LINK: [&[(Node, &[u8])]; 4] = [
 ];
 
 // And where the second send of the second access point fails.
-const BEFORE_THE_FAULT: [&[(Node, &[u8])]; 4] = [
+const BEFORE_THE_FAULT: &[&[(Node, &[u8])]] = &[
     &[(Node::Sta(0), TO_STATION)],
     &[(Node::Sta(0), TO_ALL)],
     &[],
@@ -70,18 +68,18 @@ struct Case {
     sent: &'static [&'static [(Node, &'static [u8])]],
 }
 
-const CASES: [Case; 3] = [
+static CASES: [Case; 3] = [
     Case {
         attach: &[],
         links: [&[]; 4],
         fails: false,
-        sent: &BY_LINK,
+        sent: BY_LINK,
     },
     Case {
         attach: &[],
         links: [&[], &[1], &[], &[]],
         fails: true,
-        sent: &BEFORE_THE_FAULT,
+        sent: BEFORE_THE_FAULT,
     },
     Case {
         attach: &[2],
@@ -92,19 +90,18 @@ const CASES: [Case; 3] = [
 ];
 
 // A frame that a node sent.
-fn sent(alloc: Global, node: Node, frame: &[u8]) -> Result<Entry, NoMemory> {
-    let octets = Octets(frame.to_vec(alloc)?);
-    Ok(Entry {
+fn sent(rt: &impl Abort, alloc: Global, node: Node, frame: &[u8]) -> Entry {
+    Entry {
         round: 1,
         node,
         number: 1,
         act: Act::Sent {
             peer: Peer::All,
             kind: Kind::Data,
-            octets,
+            octets: Octets(frame.to_vec(alloc).expect(rt, "memory")),
             seal: None,
         },
-    })
+    }
 }
 
 // An act that sends nothing.
@@ -117,45 +114,62 @@ fn idle() -> Entry {
     }
 }
 
-fn push(alloc: Global, entries: &mut Vec<Entry>, node: Node, frame: &[u8]) -> Result<(), NoMemory> {
-    entries.push(sent(alloc, node, frame)?)?;
-    Ok(())
+fn push(rt: &impl Abort, entries: &mut Vec<Entry>, entry: Entry) {
+    entries.push(entry).expect(rt, "memory");
 }
 
 // An act that sends nothing, and the frames of the table.
-fn entries(alloc: Global) -> Result<Vec<Entry>, NoMemory> {
+fn entries(rt: &impl Abort, alloc: Global) -> Vec<Entry> {
     let mut entries = Vec::new(alloc);
-    entries.push(idle())?;
-    for (node, frame) in SENT {
-        push(alloc, &mut entries, node, frame)?;
+    push(rt, &mut entries, idle());
+    for (node, frame) in &SENT {
+        push(rt, &mut entries, sent(rt, alloc, *node, frame));
     }
-    Ok(entries)
+    entries
 }
 
 // A frame of three octets, and one of 2,401.
-fn frames(alloc: Global) -> Result<Vec<Octets>, NoMemory> {
+const WAITING: &[&[u8]] = &[&[1, 2, 3], &[5; 2401]];
+
+fn push_frame(rt: &impl Abort, alloc: Global, frames: &mut Vec<Octets>, frame: &[u8]) {
+    let octets = Octets(frame.to_vec(alloc).expect(rt, "memory"));
+    frames.push(octets).expect(rt, "memory");
+}
+
+fn frames(rt: &impl Abort, alloc: Global) -> Vec<Octets> {
     let mut frames = Vec::new(alloc);
-    frames.push(Octets([1, 2, 3].to_vec(alloc)?))?;
-    frames.push(Octets([5; 2401].to_vec(alloc)?))?;
-    Ok(frames)
+    for frame in WAITING {
+        push_frame(rt, alloc, &mut frames, frame);
+    }
+    frames
 }
 
 // What is handed in for the link of a node. The second station has two frames.
-fn plan(alloc: Global, node: Node, failing: &[u64]) -> Result<LinkPlan, NoMemory> {
+fn plan(rt: &impl Abort, alloc: Global, node: Node, failing: &[u64]) -> LinkPlan {
     let waiting = match node {
-        Node::Sta(1) => frames(alloc)?,
+        Node::Sta(1) => frames(rt, alloc),
         _ => Vec::new(alloc),
     };
-    Ok(LinkPlan::new(node, waiting, failing.to_vec(alloc)?))
+    LinkPlan::new(node, waiting, failing.to_vec(alloc).expect(rt, "memory"))
+}
+
+fn push_plan(rt: &impl Abort, plans: &mut Vec<LinkPlan>, plan: LinkPlan) {
+    plans.push(plan).expect(rt, "memory");
+}
+
+// What is handed in for the links of the four nodes.
+fn plans(rt: &impl Abort, alloc: Global, links: &[&[u64]; 4]) -> Vec<LinkPlan> {
+    let mut plans = Vec::new(alloc);
+    for (node, failing) in NODES.iter().zip(links) {
+        push_plan(rt, &mut plans, plan(rt, alloc, *node, failing));
+    }
+    plans
 }
 
 // An air of four nodes some of whose calls of `attach` fail; and so do those calls of each link.
-fn air(alloc: Global, attach: &[u64], links: [&[u64]; 4]) -> Result<MemAir, NoMemory> {
-    let mut plans = Vec::new(alloc);
-    for place in 0..4usize {
-        plans.push(plan(alloc, NODES[place], links[place])?)?;
-    }
-    MemAir::new(alloc, plans, attach.to_vec(alloc)?)
+fn air(rt: &impl Abort, alloc: Global, attach: &[u64], links: &[&[u64]; 4]) -> MemAir {
+    let failing = attach.to_vec(alloc).expect(rt, "memory");
+    MemAir::new(alloc, plans(rt, alloc, links), failing).expect(rt, "memory")
 }
 
 // Attaches the nodes in order, up to a failing call.
@@ -226,33 +240,44 @@ fn ends_so(ended: Result<(), LinkError>, fails: bool) -> bool {
     }
 }
 
-fn check(rt: &impl Abort, alloc: Global, domain: &Domain, entries: &[Entry], case: &Case)
+// The calls of the case fail, and the frames went out that go before.
+fn is_sent(rt: &impl Abort, alloc: Global, domain: &Domain, entries: &[Entry], case: &Case) -> bool
     requires aps { length domain.now.aps ≡ 2 }
     requires stas { length domain.now.stas ≡ 2 }
 {
-    let mut air = air(alloc, case.attach, case.links).expect(rt, "memory");
+    let mut air = air(rt, alloc, case.attach, &case.links);
     let ended = sends(alloc, &mut air, domain, entries);
-    assert!(rt; ends_so(ended, case.fails) && have_sent(&air, case.sent));
+    let is_right = ends_so(ended, case.fails) && have_sent(&air, case.sent);
+    drop(air);
+    is_right
+}
+
+fn try_cases(rt: &impl Abort, alloc: Global, entries: &[Entry]) {
+    let domain = network(rt, alloc, Akm::Psk);
+    for case in &CASES {
+        assert!(rt; is_sent(rt, alloc, &domain, entries, case));
+    }
+    drop(domain);
 }
 
 #[test]
 fn frames_go_to_the_nodes_that_they_name(rt: HostRuntime) {
-    let domain = network(&rt, rt.alloc(), Akm::Psk);
-    let entries = entries(rt.alloc()).expect(&rt, "memory");
-    for case in &CASES {
-        check(&rt, rt.alloc(), &domain, &entries, case);
-    }
+    let entries = entries(&rt, rt.alloc());
+    try_cases(&rt, rt.alloc(), &entries);
+    drop(entries);
 }
 
-// The link of the second station fails, and then gives three octets, 2,400 of more, and none.
+// What the link of the second station gives behind a call that fails: three octets, 2,400 of more, and none.
+const SIZES: &[Option<usize>] = &[Some(3), Some(2400), None];
+
 fn gives_two(links: &mut Vec<MemLink>, buf: &mut [u8]) -> bool
     requires { length buf.old ≡ 2400 }
 {
     if links.len() != 4 || poll(links, 3, buf).is_ok() {
         return false;
     }
-    for size in [Some(3), Some(2400), None] {
-        if poll(links, 3, buf) != Ok(size) {
+    for size in SIZES {
+        if poll(links, 3, buf) != Ok(*size) {
             return false;
         }
     }
@@ -271,9 +296,15 @@ fn are_cut(alloc: Global, air: &mut MemAir, domain: &Domain) -> bool
     is_right
 }
 
+// The first call of the last link fails.
+const LAST_FAILS: &[&[u64]; 4] = &[&[], &[], &[], &[0]];
+
 #[test]
 fn frames_come_cut_to_the_buffer(rt: HostRuntime) {
     let domain = network(&rt, rt.alloc(), Akm::Psk);
-    let mut air = air(rt.alloc(), &[], [&[], &[], &[], &[0]]).expect(&rt, "memory");
-    assert!(rt; are_cut(rt.alloc(), &mut air, &domain));
+    let mut air = air(&rt, rt.alloc(), &[], LAST_FAILS);
+    let is_right = are_cut(rt.alloc(), &mut air, &domain);
+    drop(air);
+    drop(domain);
+    assert!(rt; is_right);
 }

@@ -29,24 +29,31 @@ use supplicant::{StaStart, Supplicant};
 const RSNE: &[u8] = b"\x30\x14\x01\0\0\x0f\xac\x04\x01\0\0\x0f\xac\x04\x01\0\0\x0f\xac\x04\x0c\0";
 
 // The first group key of the first access point.
-const GROUP: GroupKey = GroupKey {
+const GROUP: &GroupKey = &GroupKey {
     place: 0,
     id: 1,
     key: GTK,
 };
 
 // And of the second.
-const GROUP_OF_A2: GroupKey = GroupKey {
+const GROUP_OF_A2: &GroupKey = &GroupKey {
     place: 0,
     id: 1,
     key: GTK_OF_A2,
 };
 
-fn sends(made: Result<Act, NoMemory>, expected: &[u8]) -> bool {
-    match &made {
+fn is_made(made: &Result<Act, NoMemory>, expected: &[u8]) -> bool {
+    match made {
         Ok(Act::Sent { octets, .. }) => octets.as_slice() == expected,
         _ => false,
     }
+}
+
+// The act was made, and is that of sending these octets; it is dropped.
+fn sends(made: Result<Act, NoMemory>, expected: &[u8]) -> bool {
+    let is_right = is_made(&made, expected);
+    drop(made);
+    is_right
 }
 
 fn are_sent(alloc: Global, domain: &Domain) -> bool
@@ -142,98 +149,180 @@ fn associated(domain: &Domain) -> Option<Supplicant>
     Some(Supplicant::begin(domain, 0, 0, start))
 }
 
-// The station: M2 answers M1, and M4 answers M3, which installs the keys.
-#[test]
-fn station_ends_the_handshake(rt: HostRuntime) {
-    let domain = mobile_network(&rt, rt.alloc());
-    let mut supplicant = associated(&domain).expect(&rt, "an FTE");
-    let mut memory = GroupMemory::empty();
-    let mut reply = Reply::empty();
-    assert!(rt; hears(&mut supplicant, M1, &mut memory, &mut reply) == Some(Outcome::Accepted));
-    assert!(rt; sent(&reply) == M2);
-    for (octets, fault) in &STATION_REFUSES {
-        assert!(rt;
-            is_refused(
-                hears(&mut supplicant, octets, &mut memory, &mut reply),
-                *fault
-            )
-        );
-    }
-    assert!(rt; hears(&mut supplicant, M3, &mut memory, &mut reply) == Some(Outcome::Accepted));
-    assert!(rt; sent(&reply) == M4);
-    assert!(rt; reply.installed.is_some_and(|key| key.ptk == PTK));
-    assert!(rt; memory.id_of(&GTK) == Some(1));
-    assert!(rt; supplicant.r0kh_id() == b"r0kh-1".as_slice());
+// The frame that comes is accepted at the station, and answered so.
+fn is_heard(
+    supplicant: &mut Supplicant,
+    octets: &[u8],
+    memory: &mut GroupMemory,
+    reply: &mut Reply,
+    answer: &[u8],
+) -> bool {
+    hears(supplicant, octets, memory, reply) == Some(Outcome::Accepted) && sent(reply) == answer
 }
 
-const STATION_REFUSES: [(&[u8], KeyDataFault); 4] = [
+// The frame that comes is accepted at the access point, and answered so.
+fn is_taken(
+    authenticator: &mut Authenticator,
+    octets: &[u8],
+    newest: &GroupKey,
+    reply: &mut Reply,
+    answer: &[u8],
+) -> bool
+    requires { newest.now.id < 4 }
+{
+    takes(authenticator, octets, newest, reply) == Some(Outcome::Accepted) && sent(reply) == answer
+}
+
+// The key of the association was installed.
+fn is_installed(reply: &Reply) -> bool {
+    match reply.installed {
+        Some(key) => key.ptk == PTK,
+        None => false,
+    }
+}
+
+const STATION_REFUSES: &[(&[u8], KeyDataFault)] = &[
     (M3_WITHOUT_THE_NAME, KeyDataFault::Rsne),
     (M3_WITHOUT_MDE, KeyDataFault::Mde),
     (M3_WITH_ANOTHER_FTE, KeyDataFault::Fte),
     (M3_WITHOUT_GTK, KeyDataFault::Gtk),
 ];
 
-// The access point: M3 answers M2, and M4 installs the key.
+fn station_refuses(
+    supplicant: &mut Supplicant,
+    memory: &mut GroupMemory,
+    reply: &mut Reply,
+) -> bool {
+    for (octets, fault) in STATION_REFUSES {
+        if !is_refused(hears(supplicant, octets, memory, reply), *fault) {
+            return false;
+        }
+    }
+    true
+}
+
+// M4 answers M3.
+fn station_ends(supplicant: &mut Supplicant, memory: &mut GroupMemory, reply: &mut Reply) -> bool {
+    is_heard(supplicant, M3, memory, reply, M4)
+        && is_installed(reply)
+        && memory.id_of(&GTK) == Some(1)
+        && supplicant.r0kh_id() == b"r0kh-1".as_slice()
+}
+
+// The station: M2 answers M1, and M4 answers M3, which installs the keys.
 #[test]
-fn access_point_ends_the_handshake(rt: HostRuntime) {
+fn station_ends_the_handshake(rt: HostRuntime) {
     let domain = mobile_network(&rt, rt.alloc());
+    let mut supplicant = associated(&domain).expect(&rt, "an FTE");
+    drop(domain);
+    let mut memory = GroupMemory::empty();
     let mut reply = Reply::empty();
+    assert!(rt; is_heard(&mut supplicant, M1, &mut memory, &mut reply, M2));
+    assert!(rt; station_refuses(&mut supplicant, &mut memory, &mut reply));
+    assert!(rt; station_ends(&mut supplicant, &mut memory, &mut reply));
+}
+
+// The first access point begins an association, with M1.
+fn begun(rt: &impl Abort, alloc: Global, reply: &mut Reply) -> Authenticator {
+    let domain = mobile_network(rt, alloc);
     let start = ApStart::Connect {
         anonce: &ANONCE,
         rsne: RSNE,
     };
-    let mut authenticator = Authenticator::begin(&domain, 0, 0, start, &mut reply);
-    assert!(rt; sent(&reply) == M1);
-    for (octets, fault) in &ACCESS_POINT_REFUSES {
-        assert!(rt;
-            is_refused(
-                takes(&mut authenticator, octets, &GROUP, &mut reply),
-                *fault
-            )
-        );
-    }
-    assert!(rt; takes(&mut authenticator, M2, &GROUP, &mut reply) == Some(Outcome::Accepted));
-    assert!(rt; sent(&reply) == M3);
-    assert!(rt; takes(&mut authenticator, M4, &GROUP, &mut reply) == Some(Outcome::Accepted));
-    assert!(rt; reply.installed.is_some_and(|key| key.ptk == PTK));
+    Authenticator::begin(&domain, 0, 0, start, reply)
 }
 
-const ACCESS_POINT_REFUSES: [(&[u8], KeyDataFault); 3] = [
+const ACCESS_POINT_REFUSES: &[(&[u8], KeyDataFault)] = &[
     (M2_WITH_ANOTHER_NAME, KeyDataFault::Rsne),
     (M2_OF_ANOTHER_DOMAIN, KeyDataFault::Mde),
     (M2_WITH_ANOTHER_FTE, KeyDataFault::Fte),
 ];
 
-// At the access point the first G1 has counter 1.
+fn access_point_refuses(authenticator: &mut Authenticator, reply: &mut Reply) -> bool {
+    for (octets, fault) in ACCESS_POINT_REFUSES {
+        if !is_refused(takes(authenticator, octets, GROUP, reply), *fault) {
+            return false;
+        }
+    }
+    true
+}
+
+// M4 is not answered.
+fn access_point_ends(authenticator: &mut Authenticator, reply: &mut Reply) -> bool {
+    is_taken(authenticator, M2, GROUP, reply, M3)
+        && takes(authenticator, M4, GROUP, reply) == Some(Outcome::Accepted)
+        && is_installed(reply)
+}
+
+// The access point: M3 answers M2, and M4 installs the key.
 #[test]
-fn access_point_begins_in_the_session_of_a_transition(rt: HostRuntime) {
-    let domain = mobile_network(&rt, rt.alloc());
+fn access_point_ends_the_handshake(rt: HostRuntime) {
     let mut reply = Reply::empty();
+    let mut authenticator = begun(&rt, rt.alloc(), &mut reply);
+    assert!(rt; sent(&reply) == M1);
+    assert!(rt; access_point_refuses(&mut authenticator, &mut reply));
+    assert!(rt; access_point_ends(&mut authenticator, &mut reply));
+}
+
+// The second access point begins in the session of a transition.
+fn moved(rt: &impl Abort, alloc: Global, reply: &mut Reply) -> Authenticator {
+    let domain = mobile_network(rt, alloc);
     let start = ApStart::Ft {
         ptk: &TRANSITION_PTK,
     };
-    let mut authenticator = Authenticator::begin(&domain, 1, 0, start, &mut reply);
-    assert!(rt; is_silent(&reply) && authenticator.has_session() && !authenticator.has_attempt());
-    authenticator.group(&GROUP_OF_A2, 0, &mut reply);
-    assert!(rt; sent(&reply) == G1);
-    assert!(rt; takes(&mut authenticator, G2, &GROUP_OF_A2, &mut reply) == Some(Outcome::Accepted));
+    Authenticator::begin(&domain, 1, 0, start, reply)
+}
+
+// It has a session and no attempt, sends nothing before G1, and accepts G2.
+fn is_given(authenticator: &mut Authenticator, reply: &mut Reply) -> bool {
+    if !is_silent(reply) || !authenticator.has_session() || authenticator.has_attempt() {
+        return false;
+    }
+    authenticator.group(GROUP_OF_A2, 0, reply);
+    sent(reply) == G1 && takes(authenticator, G2, GROUP_OF_A2, reply) == Some(Outcome::Accepted)
+}
+
+// At the access point the first G1 has counter 1.
+#[test]
+fn access_point_begins_in_the_session_of_a_transition(rt: HostRuntime) {
+    let mut reply = Reply::empty();
+    let mut authenticator = moved(&rt, rt.alloc(), &mut reply);
+    assert!(rt; is_given(&mut authenticator, &mut reply));
+}
+
+// The station begins in it.
+fn station_moved(rt: &impl Abort, alloc: Global) -> Supplicant {
+    let domain = mobile_network(rt, alloc);
+    let start = StaStart::Ft {
+        ptk: &TRANSITION_PTK,
+    };
+    Supplicant::begin(&domain, 0, 1, start)
+}
+
+const UNAWAITED: Outcome = Outcome::Refused(Reason::Unawaited);
+
+// M3 is not awaited.
+fn is_unawaited(supplicant: &mut Supplicant, memory: &mut GroupMemory, reply: &mut Reply) -> bool {
+    hears(supplicant, M3, memory, reply) == Some(UNAWAITED)
+}
+
+// G1 is answered once.
+fn is_answered_once(
+    supplicant: &mut Supplicant,
+    memory: &mut GroupMemory,
+    reply: &mut Reply,
+) -> bool {
+    is_heard(supplicant, G1, memory, reply, G2)
+        && hears(supplicant, G1, memory, reply) == Some(Outcome::Refused(Reason::Counter(1)))
 }
 
 // At the station no counter is kept before it, and M3 is not awaited.
 #[test]
 fn station_begins_in_the_session_of_a_transition(rt: HostRuntime) {
-    let domain = mobile_network(&rt, rt.alloc());
     let mut memory = GroupMemory::empty();
     let mut reply = Reply::empty();
-    let start = StaStart::Ft {
-        ptk: &TRANSITION_PTK,
-    };
-    let mut supplicant = Supplicant::begin(&domain, 0, 1, start);
-    let unawaited = Some(Outcome::Refused(Reason::Unawaited));
-    assert!(rt; hears(&mut supplicant, M3, &mut memory, &mut reply) == unawaited);
-    assert!(rt; hears(&mut supplicant, G1, &mut memory, &mut reply) == Some(Outcome::Accepted));
-    assert!(rt; sent(&reply) == G2);
-    let kept = Some(Outcome::Refused(Reason::Counter(1)));
-    assert!(rt; hears(&mut supplicant, G1, &mut memory, &mut reply) == kept);
-    assert!(rt; hears(&mut supplicant, M3, &mut memory, &mut reply) == unawaited);
+    let mut supplicant = station_moved(&rt, rt.alloc());
+    assert!(rt; is_unawaited(&mut supplicant, &mut memory, &mut reply));
+    assert!(rt; is_answered_once(&mut supplicant, &mut memory, &mut reply));
+    assert!(rt; is_unawaited(&mut supplicant, &mut memory, &mut reply));
 }

@@ -1,48 +1,48 @@
 //! The test network.
 
-ghost use Rattle.std.specs.Prelude.{◌≡◌, IfOk, length};
+ghost use Rattle.std.specs.Prelude.{◌≡◌, length};
 ghost use Rattle.domain_base.specs.declared.names.Akm.{Akm as AnyAkm};
 ghost use Rattle.domain_rules.specs.Network.{InForm};
 ghost use Rattle.ft_exchange.specs.Asking.{ids_of};
 ghost use Rattle.key_holders.specs.Listed.{none_held};
 
 use crate::vectors::{PSK, SEED};
-use domain_base::{Akm, Mac, NoMemory, Octets};
+use domain_base::{Akm, Mac, Octets};
 use key_holders::ListHolders;
 use run_journal::{Aps, Domain, ListedAp, Stas};
 use std::alloc::Global;
 use std::process::Abort;
 
-fn octets(alloc: Global, of: &[u8]) -> Result<Octets, NoMemory>
-    ensures { IfOk result (λ o. o ≡ of.now) }
+fn octets(rt: &impl Abort, alloc: Global, of: &[u8]) -> Octets
+    ensures { result ≡ of.now }
 {
-    Ok(Octets(Vec::from_slice(alloc, of)?))
+    Octets(Vec::from_slice(alloc, of).expect(rt, "memory"))
 }
 
-fn made(alloc: Global, akm: Akm, mdid: [u8; 2]) -> Result<Domain, NoMemory>
-    ensures form { IfOk result (λ d. InForm d) }
-    ensures akm { IfOk result (λ d. d.akm ≡ akm) }
-    ensures aps { IfOk result (λ d. length d.aps ≡ 2) }
-    ensures stas { IfOk result (λ d. length d.stas ≡ 2) }
+fn made(rt: &impl Abort, alloc: Global, akm: Akm, mdid: [u8; 2]) -> Domain
+    ensures form { InForm result }
+    ensures akm { result.akm ≡ akm }
+    ensures aps { length result.aps ≡ 2 }
+    ensures stas { length result.stas ≡ 2 }
 {
     let first = ListedAp {
         address: Mac([2, 0, 0, 0, 0, 1]),
-        r0kh_id: octets(alloc, b"r0kh-1")?,
+        r0kh_id: octets(rt, alloc, b"r0kh-1"),
     };
     let second = ListedAp {
         address: Mac([2, 0, 0, 0, 0, 2]),
-        r0kh_id: octets(alloc, b"r0kh-2")?,
+        r0kh_id: octets(rt, alloc, b"r0kh-2"),
     };
     let stas = [Mac([2, 0, 0, 0, 0, 0x11]), Mac([2, 0, 0, 0, 0, 0x12])];
-    Ok(Domain {
+    Domain {
         seed: SEED,
-        ssid: octets(alloc, b"IEEE")?,
+        ssid: octets(rt, alloc, b"IEEE"),
         psk: PSK,
         akm,
         mdid,
-        aps: Aps(Vec::from_array(alloc, [first, second])?),
-        stas: Stas(Vec::from_array(alloc, stas)?),
-    })
+        aps: Aps(Vec::from_array(alloc, [first, second]).expect(rt, "memory")),
+        stas: Stas(Vec::from_array(alloc, stas).expect(rt, "memory")),
+    }
 }
 
 /// The test network with that suite: two access points and two stations.
@@ -52,7 +52,7 @@ pub fn network(rt: &impl Abort, alloc: Global, akm: Akm) -> Domain
     ensures aps { length result.aps ≡ 2 }
     ensures stas { length result.stas ≡ 2 }
 {
-    made(alloc, akm, [0, 0]).expect(rt, "memory")
+    made(rt, alloc, akm, [0, 0])
 }
 
 /// With suite 4 and the mobility domain a1b2.
@@ -62,18 +62,19 @@ pub fn mobile_network(rt: &impl Abort, alloc: Global) -> Domain
     ensures aps { length result.aps ≡ 2 }
     ensures stas { length result.stas ≡ 2 }
 {
-    made(alloc, Akm::FtPsk, [0xa1, 0xb2]).expect(rt, "memory")
+    made(rt, alloc, Akm::FtPsk, [0xa1, 0xb2])
 }
 
 // The R0KH-IDs of a network, in order.
-fn ids(alloc: Global, domain: &Domain) -> Result<Vec<Octets>, NoMemory>
-    ensures { IfOk result (λ ids. ids.items ≡ ids_of domain.now) }
+fn ids(rt: &impl Abort, alloc: Global, domain: &Domain) -> Vec<Octets>
+    ensures { result.items ≡ ids_of domain.now }
 {
-    let mut ids = Vec::with_capacity(alloc, domain.aps.0.len())?;
+    let mut ids = Vec::new(alloc);
     for ap in domain.aps.0.iter() {
-        ids.push(octets(alloc, ap.r0kh_id.as_slice())?)?;
+        let id = octets(rt, alloc, ap.r0kh_id.as_slice());
+        ids.push(id).expect(rt, "memory");
     }
-    Ok(ids)
+    ids
 }
 
 /// The key holders of the access points of a network, with no rows.
@@ -81,6 +82,6 @@ pub fn holders(rt: &impl Abort, alloc: Global, domain: &Domain) -> ListHolders
     requires { length domain.now.aps ≡ 2 }
     ensures { result ≡ none_held (ids_of domain.now) }
 {
-    let ids = ids(alloc, domain).expect(rt, "memory");
+    let ids = ids(rt, alloc, domain);
     ListHolders::new(alloc, ids).expect(rt, "memory")
 }

@@ -57,7 +57,7 @@ const SEALING: Keys = Keys {
 };
 
 // The octets that come: 32 before an EAPOL frame of 99, all 7.
-const CAME: [u8; 131] = [7; 131];
+const CAME: &[u8] = &[7; 131];
 
 // The octets of the reply's frame.
 const SENT: &[u8] = &[9; 131];
@@ -96,7 +96,7 @@ fn settles(alloc: Global, outbox: &mut Outbox) -> bool {
     }
 }
 
-const TAKEN: [Expected; 2] = [
+const TAKEN: &[Expected] = &[
     Expected::Took(Some(A1), Kind::Data),
     Expected::Idle(Why::Nothing),
 ];
@@ -107,7 +107,7 @@ fn acts_come_in_order(rt: HostRuntime) {
     assert!(rt; come(&mut outbox, &[], b"", Outcome::Done) && settles(rt.alloc(), &mut outbox));
     outbox.reserve(1).expect(&rt, "memory");
     outbox.add(Act::Idle { why: Why::Nothing });
-    assert!(rt; come(&mut outbox, &TAKEN, b"frame", Outcome::Ignored));
+    assert!(rt; come(&mut outbox, TAKEN, b"frame", Outcome::Ignored));
 }
 
 // No acts, and room for those of a reply.
@@ -131,7 +131,7 @@ fn room_at(rt: &impl Abort, alloc: Global, domain: &Domain, node: Node, peer: No
     };
     let (header, frame) = CAME.split_at(32);
     let heard = Heard {
-        octets: &CAME,
+        octets: CAME,
         message: message_3(header, frame),
     };
     Room::take(here, peer, &[], &heard).expect(rt, "memory")
@@ -166,6 +166,26 @@ fn message_3<'a>(header: &'a [u8], frame: &'a [u8]) -> KeyMessage<'a> {
     }
 }
 
+// What a reply to M3 brings is added at the node.
+fn add(
+    rt: &impl Abort,
+    alloc: Global,
+    domain: &Domain,
+    ends: (Node, Node),
+    outcome: Outcome,
+    had_session: bool,
+    reply: &Reply,
+    outbox: &mut Outbox,
+)
+    requires listed { IsListed domain.now ends.0 }
+    requires peer { IsPeerOf domain.now ends.0 ends.1 }
+    requires room { 7 ≤ outbox.old.spare }
+    requires whole { IsWhole reply.now }
+{
+    let room = room_at(rt, alloc, domain, ends.0, ends.1);
+    room.add_reply(outcome, had_session, reply, Between::nothing(alloc), outbox);
+}
+
 // A reply to M3 at the station.
 fn at_the_station(
     rt: &impl Abort,
@@ -179,12 +199,20 @@ fn at_the_station(
     requires whole { IsWhole reply.now }
 {
     let domain = network(rt, alloc, Akm::Psk);
-    let room = room_at(rt, alloc, &domain, S1, A1);
-    let between = Between::nothing(alloc);
-    room.add_reply(outcome, had_session, reply, between, outbox);
+    let ends = (S1, A1);
+    add(
+        rt,
+        alloc,
+        &domain,
+        ends,
+        outcome,
+        had_session,
+        reply,
+        outbox,
+    );
 }
 
-const ALL: [Expected; 7] = [
+const ALL: &[Expected] = &[
     Expected::TookSealed(A1, M3, &KEYS),
     Expected::Derived(A1, &KEYS),
     Expected::Closed(A1, Part::Session),
@@ -206,10 +234,10 @@ fn all_that_a_reply_may_bring(rt: HostRuntime) {
         &reply,
         &mut outbox,
     );
-    assert!(rt; come(&mut outbox, &ALL, &CAME, Outcome::Accepted));
+    assert!(rt; come(&mut outbox, ALL, CAME, Outcome::Accepted));
 }
 
-const AGAIN: [Expected; 6] = [
+const AGAIN: &[Expected] = &[
     Expected::TookSealed(A1, M3, &KEYS),
     Expected::Derived(A1, &KEYS),
     Expected::Pairwise(A1, &KEYS),
@@ -230,16 +258,18 @@ fn a_key_taken_into_use_again_without_session(rt: HostRuntime) {
         &reply,
         &mut outbox,
     );
-    assert!(rt; come(&mut outbox, &AGAIN, &CAME, Outcome::Answered));
+    assert!(rt; come(&mut outbox, AGAIN, CAME, Outcome::Answered));
 }
 
 const REFUSED: Outcome = Outcome::Refused(Reason::Unawaited);
+
+const REFUSED_M3: &[Expected] = &[Expected::Took(Some(A1), M3)];
 
 #[test]
 fn an_empty_reply(rt: HostRuntime) {
     let mut outbox = roomy_outbox(&rt, rt.alloc());
     at_the_station(&rt, rt.alloc(), REFUSED, true, &Reply::empty(), &mut outbox);
-    assert!(rt; come(&mut outbox, &[Expected::Took(Some(A1), M3)], &CAME, REFUSED));
+    assert!(rt; come(&mut outbox, REFUSED_M3, CAME, REFUSED));
 }
 
 // A reply at the access point.
@@ -247,20 +277,28 @@ fn at_the_access_point(rt: &impl Abort, alloc: Global, outbox: &mut Outbox)
     requires room { 7 ≤ outbox.old.spare }
 {
     let domain = network(rt, alloc, Akm::Psk);
-    let room = room_at(rt, alloc, &domain, A1, S1);
     let mut reply = Reply::empty();
     reply.derived = Some(KEYED);
-    let between = Between::nothing(alloc);
-    room.add_reply(Outcome::Accepted, true, &reply, between, outbox);
+    let ends = (A1, S1);
+    add(
+        rt,
+        alloc,
+        &domain,
+        ends,
+        Outcome::Accepted,
+        true,
+        &reply,
+        outbox,
+    );
 }
 
-const DERIVED: [Expected; 2] = [Expected::Took(Some(S1), M3), Expected::Derived(S1, &KEYS)];
+const DERIVED: &[Expected] = &[Expected::Took(Some(S1), M3), Expected::Derived(S1, &KEYS)];
 
 #[test]
 fn inputs_at_the_access_point(rt: HostRuntime) {
     let mut outbox = roomy_outbox(&rt, rt.alloc());
     at_the_access_point(&rt, rt.alloc(), &mut outbox);
-    assert!(rt; come(&mut outbox, &DERIVED, &CAME, Outcome::Accepted));
+    assert!(rt; come(&mut outbox, DERIVED, CAME, Outcome::Accepted));
 }
 
 // A reply's frame is sent to the access point.
@@ -278,12 +316,12 @@ fn is_sent_to_it(alloc: Global, reply: &Reply, outbox: &mut Outbox) -> bool
     }
 }
 
-const UNASKED: [Expected; 1] = [Expected::SentSealed(A1, M4, SENT, &SEALING)];
+const UNASKED: &[Expected] = &[Expected::SentSealed(A1, M4, SENT, &SEALING)];
 
 #[test]
 fn what_is_sent_unasked(rt: HostRuntime) {
     let mut outbox = roomy_outbox(&rt, rt.alloc());
     let is_taken = is_sent_to_it(rt.alloc(), &Reply::empty(), &mut outbox)
         && is_sent_to_it(rt.alloc(), &full(true), &mut outbox);
-    assert!(rt; is_taken && come(&mut outbox, &UNASKED, b"", Outcome::Done));
+    assert!(rt; is_taken && come(&mut outbox, UNASKED, b"", Outcome::Done));
 }

@@ -23,7 +23,7 @@ use supplicant::{StaStart, Supplicant};
 // What a suite has of its own: the key information of G1 and G2, and the MICs and key data of G1 and the MICs of G2, with
 // counter 3 and with counter 4.
 struct Group {
-    suite: Suite,
+    suite: &'static Suite,
     information: [&'static [u8]; 2],
     g1: [u8; 16],
     second_g1: [u8; 16],
@@ -33,7 +33,7 @@ struct Group {
     second_g2: [u8; 16],
 }
 
-const GROUP_2: Group = Group {
+const GROUP_2: &Group = &Group {
     suite: SUITE_2,
     information: [b"\x13\x82", b"\x03\x02"],
     g1: G1_MIC,
@@ -44,7 +44,7 @@ const GROUP_2: Group = Group {
     second_g2: SECOND_G2_MIC,
 };
 
-const GROUP_6: Group = Group {
+const GROUP_6: &Group = &Group {
     suite: SUITE_6,
     information: [b"\x13\x83", b"\x03\x03"],
     g1: SHA256_G1_MIC,
@@ -87,7 +87,7 @@ struct Step {
 
 // What comes.
 fn frame_of(group: &Group, given: &Given) -> Frame {
-    let suite = &group.suite;
+    let suite = group.suite;
     let information = group.information[0];
     match given {
         Given::M1 => m1(suite, 1, ANONCE),
@@ -167,7 +167,7 @@ fn try_steps(
 const UNAWAITED: Outcome = Outcome::Refused(Reason::Unawaited);
 
 // G1 is not awaited before M3.
-const IN_AN_ATTEMPT: [Step; 4] = [
+const IN_AN_ATTEMPT: &[Step] = &[
     Step {
         shows: "G1 before M1",
         given: Given::G1(3),
@@ -195,7 +195,7 @@ const IN_AN_ATTEMPT: [Step; 4] = [
 ];
 
 // Each G1 moves the counter on, for M3 as well.
-const IN_A_SESSION: [Step; 8] = [
+const IN_A_SESSION: &[Step] = &[
     Step {
         shows: "G1 with the counter of M3",
         given: Given::G1(2),
@@ -246,7 +246,7 @@ const IN_A_SESSION: [Step; 8] = [
     },
 ];
 
-const RETIRED: [Step; 1] = [Step {
+const RETIRED: &[Step] = &[Step {
     shows: "G1 when retired",
     given: Given::SecondG1,
     outcome: UNAWAITED,
@@ -269,10 +269,10 @@ fn session(rt: &impl Abort, alloc: Global, group: &Group, domain: &Domain, memor
             fte: &[],
         },
     );
-    try_steps(rt, alloc, group, &mut supplicant, memory, &IN_AN_ATTEMPT);
-    try_steps(rt, alloc, group, &mut supplicant, memory, &IN_A_SESSION);
+    try_steps(rt, alloc, group, &mut supplicant, memory, IN_AN_ATTEMPT);
+    try_steps(rt, alloc, group, &mut supplicant, memory, IN_A_SESSION);
     supplicant.retire();
-    try_steps(rt, alloc, group, &mut supplicant, memory, &RETIRED);
+    try_steps(rt, alloc, group, &mut supplicant, memory, RETIRED);
 }
 
 // Both keys are kept, each under the key id that it was installed with.
@@ -281,7 +281,7 @@ fn keeps_both(memory: &GroupMemory) -> bool {
 }
 
 fn renewals(rt: &impl Abort, alloc: Global, group: &Group)
-    requires { group.now.suite.akm ≢ AnyAkm.FtPsk }
+    requires { group.now.suite.now.akm ≢ AnyAkm.FtPsk }
 {
     let domain = network(rt, alloc, group.suite.akm);
     let mut memory = GroupMemory::empty();
@@ -291,10 +291,10 @@ fn renewals(rt: &impl Abort, alloc: Global, group: &Group)
 
 #[test]
 fn new_group_keys_of_suite_2(rt: HostRuntime) {
-    renewals(&rt, rt.alloc(), &GROUP_2);
+    renewals(&rt, rt.alloc(), GROUP_2);
 }
 
 #[test]
 fn new_group_keys_of_suite_6(rt: HostRuntime) {
-    renewals(&rt, rt.alloc(), &GROUP_6);
+    renewals(&rt, rt.alloc(), GROUP_6);
 }

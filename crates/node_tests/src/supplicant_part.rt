@@ -263,7 +263,7 @@ fn try_steps(
 const UNAWAITED: Outcome = Outcome::Refused(Reason::Unawaited);
 
 // Up to the key: a forged M1, and then the right one.
-const BEFORE_M3: [Step; 5] = [
+const BEFORE_M3: &[Step] = &[
     Step {
         shows: "M3 before M1",
         given: Given::M3(2, ANONCE, Mic::Right, KeyData::Whole),
@@ -297,7 +297,7 @@ const BEFORE_M3: [Step; 5] = [
 ];
 
 // M3 refused for each reason, and then accepted under the key of the last M1.
-const BY_M3: [Step; 5] = [
+const BY_M3: &[Step] = &[
     Step {
         shows: "M3 with another ANonce",
         given: Given::M3(2, NEXT_ANONCE, Mic::OfNextAnonce, KeyData::Whole),
@@ -331,7 +331,7 @@ const BY_M3: [Step; 5] = [
 ];
 
 // M3 once more.
-const IN_A_SESSION: [Step; 8] = [
+const IN_A_SESSION: &[Step] = &[
     Step {
         shows: "M3 with the same counter",
         given: Given::M3(2, ANONCE, Mic::Right, KeyData::Whole),
@@ -382,7 +382,7 @@ const IN_A_SESSION: [Step; 8] = [
     },
 ];
 
-const RETIRED: [Step; 4] = [
+const RETIRED: &[Step] = &[
     Step {
         shows: "M1 when retired",
         given: Given::M1(4, ANONCE),
@@ -410,7 +410,7 @@ const RETIRED: [Step; 4] = [
 ];
 
 // The next attempt, whose M3 brings the same group key under another key id.
-const NEXT_ATTEMPT: [Step; 2] = [
+const NEXT_ATTEMPT: &[Step] = &[
     Step {
         shows: "the next M1",
         given: Given::M1(1, NEXT_ANONCE),
@@ -449,11 +449,11 @@ fn first_session(
     requires stas { length domain.now.stas ≡ 2 }
 {
     let mut supplicant = begun(domain, &SNONCE);
-    try_steps(rt, alloc, suite, &mut supplicant, memory, &BEFORE_M3);
-    try_steps(rt, alloc, suite, &mut supplicant, memory, &BY_M3);
-    try_steps(rt, alloc, suite, &mut supplicant, memory, &IN_A_SESSION);
+    try_steps(rt, alloc, suite, &mut supplicant, memory, BEFORE_M3);
+    try_steps(rt, alloc, suite, &mut supplicant, memory, BY_M3);
+    try_steps(rt, alloc, suite, &mut supplicant, memory, IN_A_SESSION);
     supplicant.retire();
-    try_steps(rt, alloc, suite, &mut supplicant, memory, &RETIRED);
+    try_steps(rt, alloc, suite, &mut supplicant, memory, RETIRED);
 }
 
 fn next_session(
@@ -469,7 +469,7 @@ fn next_session(
     requires stas { length domain.now.stas ≡ 2 }
 {
     let mut supplicant = begun(domain, &NEXT_SNONCE);
-    try_steps(rt, alloc, suite, &mut supplicant, memory, &NEXT_ATTEMPT);
+    try_steps(rt, alloc, suite, &mut supplicant, memory, NEXT_ATTEMPT);
 }
 
 // A whole handshake, the end of its session, and another.
@@ -485,10 +485,10 @@ fn handshakes(rt: &impl Abort, alloc: Global, suite: &Suite)
 
 #[test]
 fn handshakes_of_suite_2(rt: HostRuntime) {
-    handshakes(&rt, rt.alloc(), &SUITE_2);
+    handshakes(&rt, rt.alloc(), SUITE_2);
 }
 
 #[test]
 fn handshakes_of_suite_6(rt: HostRuntime) {
-    handshakes(&rt, rt.alloc(), &SUITE_6);
+    handshakes(&rt, rt.alloc(), SUITE_6);
 }

@@ -42,8 +42,8 @@ const KEK: [u8; 16] = *b"\xda\x99\x59\x8e\x21\x35\xd1\xfe\x83\x13\x6c\xfc\xa4\xa
 const TK: [u8; 16] = *b"\x36\x8c\x55\xae\x70\x87\xcf\x09\x0e\x73\xd5\x5f\xc3\xb0\xfe\x3a";
 
 /// The authentication request of the first station to the second access point, with its second nonce.
-pub const FT_REQ: [u8; 167] =
-    *b"\xb0\x00\x00\x00\x02\x00\x00\x00\x00\x02\x02\x00\x00\x00\x00\x11\x02\x00\x00\x00\x00\
+pub const FT_REQ: &[u8; 167] =
+    b"\xb0\x00\x00\x00\x02\x00\x00\x00\x00\x02\x02\x00\x00\x00\x00\x11\x02\x00\x00\x00\x00\
     \x02\x00\x00\x02\x00\x01\x00\x00\x00\x30\x26\x01\x00\x00\x0f\xac\x04\x01\x00\x00\x0f\
     \xac\x04\x01\x00\x00\x0f\xac\x04\x0c\x00\x01\x00\x7e\x45\xb7\x54\xc0\x98\x12\x2c\x02\
     \xd3\xa8\xfa\xe5\xff\x53\xcc\x36\x03\xa1\xb2\x00\x37\x5a\x00\x00\x00\x00\x00\x00\x00\
@@ -53,8 +53,8 @@ pub const FT_REQ: [u8; 167] =
     \xa0\xc4\xfd\x6f\xe3\xe8\xfc\x06\xd2\x4a\xf5\xa8\x03\x06\x72\x30\x6b\x68\x2d\x31";
 
 /// The authentication response.
-pub const FT_RESP: [u8; 175] =
-    *b"\xb0\x00\x00\x00\x02\x00\x00\x00\x00\x11\x02\x00\x00\x00\x00\x02\x02\x00\x00\x00\x00\
+pub const FT_RESP: &[u8; 175] =
+    b"\xb0\x00\x00\x00\x02\x00\x00\x00\x00\x11\x02\x00\x00\x00\x00\x02\x02\x00\x00\x00\x00\
     \x02\x00\x00\x02\x00\x02\x00\x00\x00\x30\x26\x01\x00\x00\x0f\xac\x04\x01\x00\x00\x0f\
     \xac\x04\x01\x00\x00\x0f\xac\x04\x0c\x00\x01\x00\x7e\x45\xb7\x54\xc0\x98\x12\x2c\x02\
     \xd3\xa8\xfa\xe5\xff\x53\xcc\x36\x03\xa1\xb2\x00\x37\x62\x00\x00\x00\x00\x00\x00\x00\
@@ -65,8 +65,8 @@ pub const FT_RESP: [u8; 175] =
     \x06\x72\x30\x6b\x68\x2d\x31";
 
 /// The reassociation request.
-pub const RE_REQ: [u8; 191] =
-    *b"\x20\x00\x00\x00\x02\x00\x00\x00\x00\x02\x02\x00\x00\x00\x00\x11\x02\x00\x00\x00\x00\
+pub const RE_REQ: &[u8; 191] =
+    b"\x20\x00\x00\x00\x02\x00\x00\x00\x00\x02\x02\x00\x00\x00\x00\x11\x02\x00\x00\x00\x00\
     \x02\x00\x00\x11\x00\x0a\x00\x02\x00\x00\x00\x00\x01\x00\x04\x49\x45\x45\x45\x01\x04\
     \x82\x84\x8b\x96\x30\x26\x01\x00\x00\x0f\xac\x04\x01\x00\x00\x0f\xac\x04\x01\x00\x00\
     \x0f\xac\x04\x0c\x00\x01\x00\xc9\xba\x96\xe5\x43\x80\x18\xb1\xde\x09\x79\xd6\xe6\x56\
@@ -78,8 +78,8 @@ pub const RE_REQ: [u8; 191] =
     \x2d\x31";
 
 /// The reassociation response.
-pub const RE_RESP: [u8; 218] =
-    *b"\x30\x00\x00\x00\x02\x00\x00\x00\x00\x11\x02\x00\x00\x00\x00\x02\x02\x00\x00\x00\x00\
+pub const RE_RESP: &[u8; 218] =
+    b"\x30\x00\x00\x00\x02\x00\x00\x00\x00\x11\x02\x00\x00\x00\x00\x02\x02\x00\x00\x00\x00\
     \x02\x00\x00\x11\x00\x00\x00\x01\xc0\x01\x04\x82\x84\x8b\x96\x30\x26\x01\x00\x00\x0f\
     \xac\x04\x01\x00\x00\x0f\xac\x04\x01\x00\x00\x0f\xac\x04\x0c\x00\x01\x00\xc9\xba\x96\
     \xe5\x43\x80\x18\xb1\xde\x09\x79\xd6\xe6\x56\xce\x71\x36\x03\xa1\xb2\x00\x37\x87\x00\
@@ -94,7 +94,7 @@ pub const RE_RESP: [u8; 218] =
 const STA: Mac = Mac([2, 0, 0, 0, 0, 0x11]);
 
 // The newest group key of the second access point.
-const NEWEST: GroupKey = GroupKey {
+const NEWEST: &GroupKey = &GroupKey {
     place: 0,
     id: 1,
     key: GTK,
@@ -189,7 +189,7 @@ fn is_key(key: Option<Keyed>) -> bool {
 // What the station's part answers to the authentication response.
 fn requests(station: &mut Originator, response: &Elements<'_>, reply: &mut Reply) -> bool {
     station.on_auth(0, response, reply) == Outcome::Accepted
-        && sends(reply, Kind::ReReq, Some(KCK), &RE_REQ)
+        && sends(reply, Kind::ReReq, Some(KCK), RE_REQ)
         && is_key(reply.derived)
 }
 
@@ -213,11 +213,12 @@ fn moves(
 fn a_station_moves_octet_by_octet(rt: HostRuntime) {
     let domain = network(&rt, rt.alloc());
     let mut reply = Reply::empty();
-    let mut memory = GroupMemory::empty();
     let mut station = Originator::roam(&domain, 0, 1, 0, b"r0kh-1", &SNONCE, &mut reply);
-    let auth = elements(&rt, &FT_RESP, FRONT);
-    let reassoc = elements(&rt, &RE_RESP, FRONT);
-    let is_right = sends(&reply, Kind::FtReq, None, &FT_REQ)
+    drop(domain);
+    let auth = elements(&rt, FT_RESP, FRONT);
+    let reassoc = elements(&rt, RE_RESP, FRONT);
+    let mut memory = GroupMemory::empty();
+    let is_right = sends(&reply, Kind::FtReq, None, FT_REQ)
         && requests(&mut station, &auth, &mut reply)
         && moves(&mut station, &reassoc, &mut memory, &mut reply);
     assert!(rt; is_right);
@@ -239,43 +240,66 @@ fn grants(
 {
     let anonce = Some(&ANONCE);
     Target::on_auth(pending, domain, 1, 0, request, anonce, holders, reply) == Outcome::Accepted
-        && sends(reply, Kind::FtResp, None, &FT_RESP)
-        && matches!(reply.looked, Some(PullAnswer::Found(_)))
-        && is_key(reply.derived)
+        && is_granted(reply)
         && Target::on_auth(pending, domain, 1, 0, request, anonce, holders, reply)
             == Outcome::Answered
-        && sends(reply, Kind::FtResp, None, &FT_RESP)
-        && reply.looked.is_none()
-        && reply.derived.is_none()
+        && is_granted_again(reply)
+}
+
+fn is_granted(reply: &Reply) -> bool {
+    sends(reply, Kind::FtResp, None, FT_RESP)
+        && matches!(reply.looked, Some(PullAnswer::Found(_)))
+        && is_key(reply.derived)
+}
+
+fn is_granted_again(reply: &Reply) -> bool {
+    sends(reply, Kind::FtResp, None, FT_RESP) && reply.looked.is_none() && reply.derived.is_none()
 }
 
 // And to the reassociation request, first and once more.
 fn installs(target: &mut Target, request: &Elements<'_>, reply: &mut Reply) -> bool
     requires { HasRaw (element_fields request.now) }
 {
-    target.on_reassoc(request, &NEWEST, 0, reply) == Outcome::Accepted
-        && sends(reply, Kind::ReResp, Some(KCK), &RE_RESP)
+    target.on_reassoc(request, NEWEST, 0, reply) == Outcome::Accepted
+        && sends(reply, Kind::ReResp, Some(KCK), RE_RESP)
         && is_key(reply.installed)
         && reply.verified == Some(KCK)
-        && target.on_reassoc(request, &NEWEST, 7, reply) == Outcome::Answered
-        && sends(reply, Kind::ReResp, Some(KCK), &RE_RESP)
+        && target.on_reassoc(request, NEWEST, 7, reply) == Outcome::Answered
+        && sends(reply, Kind::ReResp, Some(KCK), RE_RESP)
         && reply.installed.is_none()
+}
+
+// The access point's part answers both requests, and is dropped.
+fn answers(
+    domain: &Domain,
+    auth: &Elements<'_>,
+    reassoc: &Elements<'_>,
+    holders: &mut ListHolders,
+) -> bool
+    requires form { InForm domain.now }
+    requires aps { length domain.now.aps ≡ 2 }
+    requires stas { length domain.now.stas ≡ 1 }
+    requires raw { HasRaw (element_fields auth.now) }
+    requires raw_reassoc { HasRaw (element_fields reassoc.now) }
+    requires ids { holders.old.ids ≡ ids_of domain.now }
+{
+    let mut reply = Reply::empty();
+    let mut pending = None;
+    let is_granted = grants(&mut pending, domain, auth, holders, &mut reply);
+    let is_installed = match &mut pending {
+        Some(target) => installs(target, reassoc, &mut reply),
+        None => false,
+    };
+    is_granted && is_installed && Target::expire(&mut pending) && pending.is_none()
 }
 
 #[test]
 fn an_access_point_answers_octet_by_octet(rt: HostRuntime) {
     let domain = network(&rt, rt.alloc());
     let mut holders = holders(&rt, rt.alloc());
-    let mut reply = Reply::empty();
-    let mut pending = None;
-    let auth = elements(&rt, &FT_REQ, FRONT);
-    let reassoc = elements(&rt, &RE_REQ, REQUEST_FRONT);
-    let is_granted = grants(&mut pending, &domain, &auth, &mut holders, &mut reply);
-    let is_installed = match &mut pending {
-        Some(target) => installs(target, &reassoc, &mut reply),
-        None => false,
-    };
-    assert!(rt; is_granted && is_installed && Target::expire(&mut pending) && pending.is_none());
+    let auth = elements(&rt, FT_REQ, FRONT);
+    let reassoc = elements(&rt, RE_REQ, REQUEST_FRONT);
+    assert!(rt; answers(&domain, &auth, &reassoc, &mut holders));
 }
 
 // A request that is refused, by its octets.
@@ -291,7 +315,7 @@ struct Refusal<'a> {
     status: Option<u8>,
 }
 
-const REFUSALS: [Refusal<'static>; 6] = [
+static REFUSALS: [Refusal<'static>; 6] = [
     Refusal {
         shows: "another AKM",
         at: 49,
@@ -342,19 +366,27 @@ const REFUSALS: [Refusal<'static>; 6] = [
     },
 ];
 
+// The reply is a response with that status alone, or there is none.
+fn has_status(reply: &Reply, status: Option<u8>) -> bool {
+    match status {
+        Some(status) => reply.len == 30 && reply.octets[28] == status && reply.octets[29] == 0,
+        None => reply.len == 0,
+    }
+}
+
 // The request is refused so, and answered with its status alone.
-fn is_refused(rt: &impl Abort, alloc: Global, domain: &Domain, refusal: &Refusal<'_>) -> bool
+fn is_refused(
+    domain: &Domain,
+    request: &Elements<'_>,
+    holders: &mut ListHolders,
+    refusal: &Refusal<'_>,
+) -> bool
     requires form { InForm domain.now }
     requires aps { length domain.now.aps ≡ 2 }
     requires stas { length domain.now.stas ≡ 1 }
-    requires ids { ids_of domain.now ≡ codes "r0kh-1" ∷ codes "r0kh-2" ∷ [] }
+    requires raw { HasRaw (element_fields request.now) }
+    requires ids { holders.old.ids ≡ ids_of domain.now }
 {
-    let mut frame = FT_REQ;
-    if let Some(octet) = frame.get_mut(refusal.at) {
-        *octet ^= refusal.by;
-    }
-    let mut holders = holders(rt, alloc);
-    let request = elements(rt, &frame, FRONT);
     let mut reply = Reply::empty();
     let mut pending = None;
     let anonce = if refusal.draws { Some(&ANONCE) } else { None };
@@ -363,23 +395,35 @@ fn is_refused(rt: &impl Abort, alloc: Global, domain: &Domain, refusal: &Refusal
         domain,
         1,
         0,
-        &request,
+        request,
         anonce,
-        &mut holders,
+        holders,
         &mut reply,
     );
-    let is_answered = match refusal.status {
-        Some(status) => reply.len == 30 && reply.octets[28] == status && reply.octets[29] == 0,
-        None => reply.len == 0,
-    };
-    outcome == refusal.outcome && is_answered && pending.is_none()
+    outcome == refusal.outcome && has_status(&reply, refusal.status) && pending.is_none()
+}
+
+// That of the row is.
+fn try_refusal(rt: &impl Abort, alloc: Global, domain: &Domain, refusal: &Refusal<'_>)
+    requires form { InForm domain.now }
+    requires aps { length domain.now.aps ≡ 2 }
+    requires stas { length domain.now.stas ≡ 1 }
+    requires ids { ids_of domain.now ≡ codes "r0kh-1" ∷ codes "r0kh-2" ∷ [] }
+{
+    let mut frame = *FT_REQ;
+    if let Some(octet) = frame.get_mut(refusal.at) {
+        *octet ^= refusal.by;
+    }
+    let request = elements(rt, &frame, FRONT);
+    let mut holders = holders(rt, alloc);
+    let is_right = is_refused(domain, &request, &mut holders, refusal);
+    assert!(rt; is_right, "{}", refusal.shows);
 }
 
 #[test]
 fn requests_are_refused_by_their_status(rt: HostRuntime) {
     let domain = network(&rt, rt.alloc());
     for refusal in &REFUSALS {
-        let is_right = is_refused(&rt, rt.alloc(), &domain, refusal);
-        assert!(rt; is_right, "{}", refusal.shows);
+        try_refusal(&rt, rt.alloc(), &domain, refusal);
     }
 }

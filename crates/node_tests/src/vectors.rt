@@ -255,7 +255,7 @@ pub struct Suite {
     pub next_key_data: &'static [u8],
 }
 
-pub const SUITE_2: Suite = Suite {
+pub const SUITE_2: &Suite = &Suite {
     akm: Akm::Psk,
     information: [b"\x00\x8a", b"\x01\x0a", b"\x13\xca", b"\x03\x0a"],
     rsne: RSNE,
@@ -280,7 +280,7 @@ pub const SUITE_2: Suite = Suite {
     next_key_data: NEXT_KEY_DATA,
 };
 
-pub const SUITE_6: Suite = Suite {
+pub const SUITE_6: &Suite = &Suite {
     akm: Akm::PskSha256,
     information: [b"\x00\x8b", b"\x01\x0b", b"\x13\xcb", b"\x03\x0b"],
     rsne: SHA256_RSNE,

@@ -54,7 +54,10 @@ fn a_frame_goes_between_two_sockets(rt: HostRuntime) {
 
 fn differ<D: Draws>(draws: &mut D) -> bool {
     match (draws.seed(), draws.seed()) {
-        (Ok(first), Ok(second)) => first != second,
+        (Ok(first), Ok(second)) => {
+            let (one, two) = (first.split_at(16), second.split_at(16));
+            one.0 != two.0 && one.1 != two.1
+        }
         _ => false,
     }
 }

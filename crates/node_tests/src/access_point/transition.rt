@@ -68,7 +68,7 @@ const LAST_MESSAGE: Step = Step {
 
 const UNKNOWN: Step = Step {
     shows: "a reassociation request that nothing awaits",
-    event: Event::Take(&RE_REQ),
+    event: Event::Take(RE_REQ),
     outcome: Outcome::Refused(Reason::Unawaited),
     acts: &[Took(Some(S1), Kind::ReReq)],
 };
@@ -94,7 +94,7 @@ pub const TAKEN: &[Step] = &[
     UNKNOWN,
     Step {
         shows: "the authentication request",
-        event: Event::Take(&FT_REQ),
+        event: Event::Take(FT_REQ),
         outcome: Outcome::Accepted,
         acts: &[
             Took(Some(S1), Kind::FtReq),
@@ -102,7 +102,7 @@ pub const TAKEN: &[Step] = &[
             Roamed(S1),
             Drew(Drawn::Nonce(ANONCE_OF_A2)),
             Derived(S1, &MOVED_KEYS),
-            Sent(S1, Kind::FtResp, &FT_RESP),
+            Sent(S1, Kind::FtResp, FT_RESP),
         ],
     },
     Step {
@@ -113,31 +113,28 @@ pub const TAKEN: &[Step] = &[
     },
     Step {
         shows: "the authentication request again is answered without a look",
-        event: Event::Take(&FT_REQ),
+        event: Event::Take(FT_REQ),
         outcome: Outcome::Answered,
-        acts: &[
-            Took(Some(S1), Kind::FtReq),
-            Sent(S1, Kind::FtResp, &FT_RESP),
-        ],
+        acts: &[Took(Some(S1), Kind::FtReq), Sent(S1, Kind::FtResp, FT_RESP)],
     },
     Step {
         shows: "the reassociation request installs the key",
-        event: Event::Take(&RE_REQ),
+        event: Event::Take(RE_REQ),
         outcome: Outcome::Accepted,
         acts: &[
             TookMoving(S1, Kind::ReReq, &MOVED_KEYS),
             Pairwise(S1, &MOVED_KEYS),
             Finished(S1, &MOVED_KEYS),
-            SentMoving(S1, Kind::ReResp, &RE_RESP, &MOVED_KEYS),
+            SentMoving(S1, Kind::ReResp, RE_RESP, &MOVED_KEYS),
         ],
     },
     Step {
         shows: "the reassociation request again is answered, and installs nothing",
-        event: Event::Take(&RE_REQ),
+        event: Event::Take(RE_REQ),
         outcome: Outcome::Answered,
         acts: &[
             TookMoving(S1, Kind::ReReq, &MOVED_KEYS),
-            SentMoving(S1, Kind::ReResp, &RE_RESP, &MOVED_KEYS),
+            SentMoving(S1, Kind::ReResp, RE_RESP, &MOVED_KEYS),
         ],
     },
     Step {
@@ -153,7 +150,7 @@ pub const TAKEN: &[Step] = &[
 pub const ABSENT: &[Step] = &[
     Step {
         shows: "an authentication request with the name of a revoked row",
-        event: Event::Take(&FT_REQ),
+        event: Event::Take(FT_REQ),
         outcome: Outcome::Refused(Reason::Name),
         acts: &[
             Took(Some(S1), Kind::FtReq),
@@ -168,7 +165,7 @@ pub const ABSENT: &[Step] = &[
 pub const SPENT: &[Step] = &[
     Step {
         shows: "an authentication request at the end of draws",
-        event: Event::Take(&FT_REQ),
+        event: Event::Take(FT_REQ),
         outcome: Outcome::Refused(Reason::Spent),
         acts: &[Took(Some(S1), Kind::FtReq), Found],
     },

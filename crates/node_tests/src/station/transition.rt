@@ -110,7 +110,7 @@ pub const ROAMING: &[Step] = &[
     },
     Step {
         shows: "an authentication response that nothing awaits",
-        event: Event::Take(&FT_RESP),
+        event: Event::Take(FT_RESP),
         outcome: Outcome::Refused(Reason::Unawaited),
         acts: &[Took(Some(A2), Kind::FtResp)],
     },
@@ -121,12 +121,12 @@ pub const ROAMING: &[Step] = &[
         acts: &[
             Roamed(A2),
             Drew(Drawn::Nonce(NEXT_SNONCE)),
-            Sent(A2, Kind::FtReq, &FT_REQ),
+            Sent(A2, Kind::FtReq, FT_REQ),
         ],
     },
     Step {
         shows: "a reassociation response before the authentication response",
-        event: Event::Take(&RE_RESP),
+        event: Event::Take(RE_RESP),
         outcome: Outcome::Refused(Reason::Unawaited),
         acts: &[Took(Some(A2), Kind::ReResp)],
     },
@@ -138,23 +138,23 @@ pub const ROAMING: &[Step] = &[
     },
     Step {
         shows: "the authentication response",
-        event: Event::Take(&FT_RESP),
+        event: Event::Take(FT_RESP),
         outcome: Outcome::Accepted,
         acts: &[
             Took(Some(A2), Kind::FtResp),
             Derived(A2, &MOVED_KEYS),
-            SentMoving(A2, Kind::ReReq, &RE_REQ, &MOVED_KEYS),
+            SentMoving(A2, Kind::ReReq, RE_REQ, &MOVED_KEYS),
         ],
     },
     Step {
         shows: "the authentication response again",
-        event: Event::Take(&FT_RESP),
+        event: Event::Take(FT_RESP),
         outcome: Outcome::Refused(Reason::Unawaited),
         acts: &[Took(Some(A2), Kind::FtResp)],
     },
     Step {
         shows: "the reassociation response",
-        event: Event::Take(&RE_RESP),
+        event: Event::Take(RE_RESP),
         outcome: Outcome::Accepted,
         acts: &[
             TookMoving(A2, Kind::ReResp, &MOVED_KEYS),
@@ -166,7 +166,7 @@ pub const ROAMING: &[Step] = &[
     },
     Step {
         shows: "the reassociation response again",
-        event: Event::Take(&RE_RESP),
+        event: Event::Take(RE_RESP),
         outcome: Outcome::Refused(Reason::Unawaited),
         acts: &[Took(Some(A2), Kind::ReResp)],
     },
@@ -263,7 +263,7 @@ pub const LEAVING: &[Step] = &[
         acts: &[
             Roamed(A2),
             Drew(Drawn::Nonce(NEXT_SNONCE)),
-            Sent(A2, Kind::FtReq, &FT_REQ),
+            Sent(A2, Kind::FtReq, FT_REQ),
         ],
     },
     Step {
@@ -274,7 +274,7 @@ pub const LEAVING: &[Step] = &[
     },
     Step {
         shows: "an authentication response afterwards",
-        event: Event::Take(&FT_RESP),
+        event: Event::Take(FT_RESP),
         outcome: Outcome::Refused(Reason::Unawaited),
         acts: &[Took(Some(A2), Kind::FtResp)],
     },

@@ -4,4 +4,4 @@ use Rattle.node_tests.proofs.network.ids.Given as goal
 
 -- those of the access points so far
 abbrev pub invariant-loop-ap : goal.invariant-loop-ap
-invariant-loop-ap l = l.ids.items ≡ map (λ (a : ListedAp). a.r0kh_id) (take l.ap-index l.domain.aps)
+invariant-loop-ap g l = l.ids.items ≡ map (λ (a : ListedAp). a.r0kh_id) (take l.ap-index l.domain.aps)
