@@ -26,6 +26,7 @@ cat > "$work/refuse.c" <<'C'
 #include <fcntl.h>
 #include <stdio.h>
 #include <stdlib.h>
+#include <sys/syscall.h>
 #include <unistd.h>
 
 extern void *__libc_malloc(size_t size);
@@ -40,20 +41,27 @@ __attribute__((constructor)) static void begin(void) {
     count = 0;
 }
 
-__attribute__((destructor)) static void end(void) {
+static void tell(void) {
     const char *name = getenv("REQUESTS");
     char text[32];
     int file = name ? open(name, O_WRONLY | O_CREAT | O_TRUNC, 0600) : -1;
     if (file >= 0) {
         int size = snprintf(text, sizeof text, "%lu\n", count);
-        if (write(file, text, (size_t)size) != size) _exit(99);
+        if (write(file, text, (size_t)size) != size) syscall(SYS_exit_group, 99);
         close(file);
     }
 }
 
+/* The program ends by this call, and runs no destructors. */
+void _exit(int status) {
+    tell();
+    for (;;) syscall(SYS_exit_group, status);
+}
+
+/* Requests come from several threads where a round has several access points. */
 static int refused(void) {
-    count++;
-    if (first && first <= count && count <= last) {
+    unsigned long number = __atomic_add_fetch(&count, 1, __ATOMIC_SEQ_CST);
+    if (first && first <= number && number <= last) {
         errno = ENOMEM;
         return 1;
     }
