@@ -6,7 +6,7 @@
 #
 # It runs the program that `rt ci` or `rt run` proved and built, with a small library in front of the C library that counts and
 # refuses (malloc and realloc), so it wants a C compiler; where either is missing it does nothing. Run it from anywhere in the
-# repository. It takes about half a minute.
+# repository. It takes some ten minutes.
 set -eu
 cd "$(dirname "$0")/.."
 program=$PWD/crates/kehtrop/out/kehtrop
