@@ -6,36 +6,50 @@
 Read are README.md and docs/. What stands in code quotes is a name of the repository where it has one of these forms:
 
     crates/.., docs/.., examples/.., tools/.., bench/..   a file or folder; an example is named without its ending
-    CRATE/src/FILE.rt:NAME                                a function or type of that file
-    CRATE/specs/FILE.NAME                                 a definition of that file
+    CRATE/src/FILE.rt:NAME                                what that file declares: a function, type, constant, module, variant
+    CRATE/specs/FILE.NAME                                 what that file defines: with a signature, or as a record or data
     CRATE/proofs/FILE, CRATE/must-fail/EDIT               a file of proofs, an edit
-    CRATE::CALL.CLAUSE, CRATE::TYPE::CALL.CLAUSE          a call, and a clause of it
+    CRATE::CALL.CLAUSE, CRATE::TYPE::CALL.CLAUSE          a call that the crate declares, and a clause of it
 
 In docs/PROVED.md each section is of the crates that its heading names: a bracket with nothing but names in it has clauses or
-calls (small letters) and definitions (a capital) of them. Every other name there has to be a word of their code or definitions.
+calls (small letters), types and definitions (a capital) of them, or fields. Every other name there has to be a word of their code or
+of definitions.
+
+In a table of docs/DEFINITIONS.md the first column has FILE.NAME, or NAME of the file before it, of the crate that the row begins
+with or else the heading. Where a crate fills the first column, the second has files of its definitions, and names of the file before.
+
+Every other name, of words joined by `::`, `.` or `/`, has to consist of words of one crate, or of the tools or benches; comments
+have none. Where a bullet has crates in front of its first colon, or a row in its first column, it has to be a crate that it names.
+Left out is what has other signs or spaces (a line, an expression), or is written by pairs of hexadecimal digits alone.
 
 It prints each name that is not there with its place, and a last line with counts; its status is 0 where all are there.
 """
 
+import functools
 import os
 import re
 import sys
 
 ROOT = os.path.join(os.path.dirname(os.path.abspath(__file__)), "..")
 CRATES = sorted(os.listdir(os.path.join(ROOT, "crates")))
-TEXTS = {}
+OTHERS = ["crates.txt", "HANDLES", "tools", "bench", ".ci"]
 
 
+@functools.cache
 def text_of(path):
-    if path not in TEXTS:
-        with open(os.path.join(ROOT, path), encoding="utf-8") as file:
-            TEXTS[path] = file.read()
-    return TEXTS[path]
+    """A file's text, of code without comments."""
+    with open(os.path.join(ROOT, path), encoding="utf-8") as file:
+        text = file.read()
+    comment = {".rt": r"//.*", ".antt": r"(?<!\S)--.*", ".sh": r"(?<!\S)#.*", ".py": r"(?<!\S)#.*"}.get(os.path.splitext(path)[1])
+    return re.sub(comment, "", text) if comment else text
 
 
+@functools.cache
 def files(folder, ending):
-    found = []
-    for place, _, names in os.walk(os.path.join(ROOT, folder)):
+    """The files in a folder with that ending, or a file alone; what a gate or Python built is left out."""
+    found = [folder] if os.path.isfile(os.path.join(ROOT, folder)) else []
+    for place, below, names in os.walk(os.path.join(ROOT, folder)):
+        below[:] = [name for name in below if name not in ("out", "__pycache__")]
         found += [os.path.relpath(os.path.join(place, name), ROOT) for name in names if name.endswith(ending)]
     return found
 
@@ -44,28 +58,40 @@ def is_there(path):
     return os.path.exists(os.path.join(ROOT, path))
 
 
-def has_word(text, word):
-    return re.search(r"(?<![\w-])%s(?![\w-])" % re.escape(word), text) is not None
+@functools.cache
+def words(folder):
+    """The words of the files in a folder, or of a file, and of their paths."""
+    found = set()
+    for path in files(folder, ""):
+        found.update(re.findall(r"[\w-]+", text_of(path)), re.findall(r"[\w-]+", path), [os.path.basename(path)])
+    return found
 
 
-def is_declared(text, name):
-    return re.search(r"\b(fn|struct|enum|trait|const|type|mod)\s+%s\b" % re.escape(name), text) is not None
+@functools.cache
+def declared(path):
+    """What a file of code declares."""
+    text = text_of(path)
+    found = set(re.findall(r"\b(?:fn|struct|enum|trait|const|static|type|mod)\s+(\w+)", text))
+    for _, body in re.findall(r"^( *)(?:pub(?:\([^)]*\))? )?enum [^\n;]*\{\n(.*?)^\1\}", text, re.M | re.S):
+        found.update(re.findall(r"^\s*([A-Z]\w*)", body, re.M))
+    return found
 
 
-def has_clause(text, call, clause):
-    """Whether a function of that name has the clause: it stands between its `fn` and the next one."""
-    for match in re.finditer(r"\bfn %s\b" % re.escape(call), text):
-        rest = text[match.end():]
-        after = re.search(r"\bfn \w", rest)
-        contract = rest[:after.start()] if after else rest
-        if re.search(r"\b(ensures|requires) %s \{" % re.escape(clause), contract):
-            return True
-    return False
+@functools.cache
+def clauses(path):
+    """The clauses in a file of code, each with its function: it stands between that `fn` and the next one."""
+    found, call = set(), None
+    for name, clause in re.findall(r"\bfn (\w+)|\b(?:ensures|requires) ([\w-]+) \{", text_of(path)):
+        call = name or call
+        found.add((call, clause))
+    return found
 
 
-def defines(text, name):
-    return re.search(r"\b(abbrev|record|data|unfoldable|pub)\b[^\n]*(?<![\w-])%s(?![\w-])" % re.escape(name), text) is not None or re.search(
-        r"^\s+(pub\s+)?%s\s*:" % re.escape(name), text, re.M) is not None
+@functools.cache
+def defined(path, margin=""):
+    """What a file of definitions defines in lines with that margin: where there is one, fields and constructors."""
+    form = r"^%s(?:(?:abbrev|unfoldable|pub) )*(?:(?:record|data) ([\w-]+)|([\w-]+)\s+:(?!\S))"
+    return {name for pair in re.findall(form % margin, text_of(path), re.M) for name in pair if name}
 
 
 def wrong_path(span):
@@ -76,15 +102,13 @@ def wrong_path(span):
         path = "crates/%s/%s" % (crate, path)
         if not is_there(path):
             return "no such file"
-        if name and not is_declared(text_of(path), name) and not has_word(text_of(path), name):
-            return "no such function or type in that file"
-        return None
+        return None if not name or name in declared(path) else "not declared in that file"
     if crate in CRATES and rest.startswith("specs/"):
         path, _, name = re.sub(r"\.antt$", "", rest).partition(".")
         path = "crates/%s/%s.antt" % (crate, path)
         if not is_there(path):
             return "no such file"
-        return None if not name or defines(text_of(path), name) else "no such definition in that file"
+        return None if not name or name in defined(path) else "no such definition in that file"
     if crate in CRATES:
         path = "crates/%s" % span
         return None if any(is_there(path + end) for end in ("", ".antt", ".edit")) else "no such file"
@@ -98,11 +122,11 @@ def wrong_call(span):
     crate, rest = span.split("::", 1)
     path, _, clause = rest.partition(".")
     names = path.split("::")
-    texts = [text_of(path) for path in files("crates/%s/src" % crate, ".rt")]
+    code = files("crates/%s/src" % crate, ".rt")
     for name in names:
-        if not any(is_declared(text, name) or has_word(text, name) for text in texts):
-            return "no `%s` in the code of that crate" % name
-    if clause and not any(has_clause(text, names[-1], clause) for text in texts):
+        if not any(name in declared(path) for path in code):
+            return "`%s` is not declared in that crate" % name
+    if clause and not any((names[-1], clause) in clauses(path) for path in code):
         return "no such clause of that call"
     return None
 
@@ -112,55 +136,93 @@ def wrong_in(crates, span, is_bracket):
     name = re.split(r"::|\.", span)[-1].strip("()")
     if not re.fullmatch(r"[A-Za-z][\w-]*", name):
         return None
-    code = [text_of(path) for crate in crates for path in files("crates/%s/src" % crate, ".rt")]
-    specs = [text_of(path) for path in files("crates", ".antt") if "/specs/" in path]
-    if is_bracket and name[0].islower():
-        clause = re.compile(r"\b(ensures|requires) %s \{" % re.escape(name))
-        if any(clause.search(text) or re.search(r"\bfn %s\b" % re.escape(name), text) for text in code):
-            return None
-        own = [text_of(path) for crate in crates for path in files("crates/%s/specs" % crate, ".antt")]
-        return None if any(defines(text, name) for text in own) else "no such clause, call or definition in %s" % ", ".join(crates)
+    is_small = name[0].islower()
+    code = [path for crate in crates for path in files("crates/%s/src" % crate, ".rt")]
+    specs = [path for crate in (crates if is_small else CRATES) for path in files("crates/%s/specs" % crate, ".antt")]
     if is_bracket:
-        return None if any(defines(text, name) for text in specs) else "no such definition"
-    if name in CRATES or any(has_word(text, name) for text in code + specs):
-        return None
-    return "no such word in %s" % ", ".join(crates)
+        is_code = any(any(name in pair for pair in clauses(path)) if is_small else name in declared(path) for path in code)
+        is_known = is_code or any(name in defined(path) or name in defined(path, " +") for path in specs)
+        return None if is_known else "no such clause, call, type or definition in %s" % ", ".join(crates)
+    folders = ["crates/%s/src" % crate for crate in crates] + ["crates/%s/specs" % crate for crate in CRATES]
+    return None if name in CRATES or any(name in words(folder) for folder in folders) else "no such word in %s" % ", ".join(crates)
+
+
+def wrong_word(crates, span):
+    """What is wrong with a name in a bullet or row of these crates, or None."""
+    folders = ["crates/%s" % crate for crate in crates or CRATES] + ([] if crates else OTHERS)
+    parts = re.split(r"::|/|\.(?!(?:antt|rt|py|sh|txt|md)$)", span)
+    is_known = any(all(part in words(folder) for part in parts) for folder in folders)
+    return None if is_known else "no such word in %s" % (", ".join(crates) or "the repository")
+
+
+def wrong_in_table(crates, row):
+    """What is wrong with each definition in a row of DEFINITIONS.md, or None, by its place in the row."""
+    wrong, path, cells = {}, None, row.split("|")
+    has_files = cells[1].strip(" `") in CRATES
+    for match in SPAN.finditer("|".join(cells[:3 if has_files else 2])):
+        file, _, name = match.group(1).rpartition(".")
+        if match.start() == 2 and name in CRATES:
+            crates = [name]
+            continue
+        folder = "crates/%s/specs/" % "".join(crates[:1])
+        if has_files and is_there(folder + name + ".antt"):
+            file, name = name, ""
+        path = folder + file + ".antt" if file else path
+        is_known = path is not None and is_there(path) and (not name or name in defined(path))
+        wrong[match.start()] = None if is_known else "no such definition in %s" % (path or "any file")
+    return wrong
 
 
 SPAN = re.compile(r"`([^`\n]+)`")
-PATH = re.compile(r"^(?:%s|crates|docs|examples|tools|bench|\.ci)/[\w./:<>{},*'-]*$" % "|".join(CRATES))
+PATH = re.compile(r"^(?:%s|crates|docs|examples|tools|bench|\.ci)/[\w./:,'-]*$" % "|".join(CRATES))
 CALL = re.compile(r"^(?:%s)::[\w:]+(?:\.\w+)?$" % "|".join(CRATES))
+WORD = re.compile(r"^(?!(?:[0-9a-f]{2})+$)[A-Za-z_][\w-]*(?:(?:::|[./])[A-Za-z_][\w-]*)*$")
 # The same forms with a crate that is not there.
 OTHER = re.compile(r"^[a-z]\w*(?:/(?:src|specs|proofs|must-fail)/[\w./:-]+|::\w[\w:]*(?:\.\w+)?)$")
+# A heading, a row of a table, a bullet or another paragraph.
+BLOCK = re.compile(r"^[^\n].*(?:\n(?!\n|#|\||\s*- ).*)*", re.M)
+
+
+def crates_in(text):
+    """The crates that a text names, also in front of a path or a call."""
+    return [crate for crate in (re.split(r"::|/", span)[0] for span in SPAN.findall(text)) if crate in CRATES]
 
 
 def check(name, report):
-    count, crates = 0, []
-    text = text_of(name)
-    plain = re.sub(r"^```.*?^```", lambda match: "\n" * match.group(0).count("\n"), text, flags=re.M | re.S)
-    brackets = {match.start(1) + found.start() for match in re.finditer(r"\(((?:`[^`\n]+`(?:,|\s|and)*)+)\)", plain)
-                for found in SPAN.finditer(match.group(1))}
-    headings = [(match.start(), [span for span in SPAN.findall(match.group(0)) if span in CRATES])
-                for match in re.finditer(r"^#+ .*$", plain, re.M)]
-    for match in SPAN.finditer(plain):
-        span, line = match.group(1), plain.count("\n", 0, match.start()) + 1
-        wrong = None
-        if "/out/" in span:
-            continue
-        if PATH.match(span) and not re.search(r"[<>{}*]|NAME|CRATE|FILE", span):
-            wrong, count = wrong_path(span), count + 1
-        elif CALL.match(span):
-            wrong, count = wrong_call(span), count + 1
-        elif OTHER.match(span):
-            wrong, count = "no such crate", count + 1
-        elif name == "docs/PROVED.md" and re.match(r"^#+ [^:]*$", plain[plain.rfind("\n", 0, match.start()) + 1:match.end()]):
-            wrong, count = (None if span in CRATES else "no such crate"), count + 1
-        elif name == "docs/PROVED.md":
-            crates = ([found for place, found in headings if place <= match.start()] or [[]])[-1]
-            if crates:
-                wrong, count = wrong_in(crates, span, match.start() in brackets), count + 1
-        if wrong is not None:
-            report("%s:%d: `%s`: %s" % (name, line, span, wrong))
+    count, section = 0, []
+    plain = re.sub(r"^```.*?^```", lambda match: "\n" * match.group(0).count("\n"), text_of(name), flags=re.M | re.S)
+    for block in BLOCK.finditer(plain):
+        text = block.group(0)
+        is_heading = text.startswith("#")
+        section = crates_in(text) if is_heading else section
+        front = re.match(r"\s*- [^.;]*?:(?=\s)|\|[^|]*", text)
+        crates = crates_in(text) if front and crates_in(front.group(0)) else []
+        brackets = {match.start(1) + found.start() for match in re.finditer(r"\(((?:`[^`\n]+`(?:,|\s|and)*)+)\)", text)
+                    for found in SPAN.finditer(match.group(1))}
+        table = wrong_in_table(section, text) if name == "docs/DEFINITIONS.md" and text.startswith("| ") else {}
+        for match in SPAN.finditer(text):
+            span, wrong = match.group(1), None
+            if "/out/" in span or re.search(r"[<>{}*]|\b(?:CRATE|FILE|NAME|CALL)\b", span):
+                continue
+            count += 1
+            if PATH.match(span):
+                wrong = wrong_path(span)
+            elif CALL.match(span):
+                wrong = wrong_call(span)
+            elif OTHER.match(span):
+                wrong = "no such crate"
+            elif is_heading and name in ("docs/PROVED.md", "docs/DEFINITIONS.md") and not re.search(r"[:(]", text[:match.start()]):
+                wrong = None if span in CRATES else "no such crate"
+            elif match.start() in table:
+                wrong = table[match.start()]
+            elif name == "docs/PROVED.md" and section:
+                wrong = wrong_in(section, span, match.start() in brackets)
+            elif WORD.match(span):
+                wrong = wrong_word(crates, span)
+            else:
+                count -= 1
+            if wrong is not None:
+                report("%s:%d: `%s`: %s" % (name, plain.count("\n", 0, block.start() + match.start()) + 1, span, wrong))
     return count
 
 

@@ -147,7 +147,7 @@ pub fn add_finished(peer: Node, template: BoxedInputs, installed: Option<Keyed>,
 /// Acts of a node that take their place among those of a reply, which does not tell of them.
 #[derive(Drop)]
 pub struct Between {
-    /// Right after the frame was taken: a look at key holders, or what the frame opens.
+    /// Right after the frame was taken. No node puts an act there.
     pub opened: Vec<Act>,
     /// Right before a frame is sent: what is put with key holders.
     pub put: Vec<Act>,
@@ -201,8 +201,8 @@ impl Room {
     ghost use Rattle.frame_intake.specs.Views.{message_fields};
     ghost use Rattle.act_memory.specs.Rooms.{IsRoom, between_of};
 
-    /// Takes it, for the node that stands here and takes that message of its peer, with suite 4 by the
-    /// R0KH-ID that their keys go back to, which the other suites do not look at.
+    /// Takes it, for the node that stands here and takes that message of its peer, with suite 4 by
+    /// the R0KH-ID that their keys go back to, which the other suites do not look at.
     pub fn take(
         here: Here<'_>,
         peer: Node,

@@ -1,5 +1,5 @@
-//! The tables of the cipher: of octets, and of what an octet adds to its column, as a word. A word has
-//! the four octets of a column, the one of the first row in its highest bits.
+//! The tables of the cipher: of octets, and of what an octet adds to its column, as a word. A word
+//! has the four octets of a column, the one of the first row in its highest bits.
 
 /// The substitution of each octet (FIPS 197, 5.1.1, Table 4).
 pub static SUBSTITUTION: [u8; 256] = [

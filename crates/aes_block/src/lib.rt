@@ -17,8 +17,8 @@ use constants::{
 };
 use std::marker::Model;
 
-/// The keys of the rounds of AES-128 under one key (FIPS 197). Contracts see the key, as the list of
-/// its 16 octets.
+/// The keys of the rounds of AES-128 under one key (FIPS 197). Contracts see the key, as the list
+/// of its 16 octets.
 #[derive(Drop)]
 pub struct Aes128 {
     round_keys: [[u32; 4]; 11],
@@ -81,9 +81,9 @@ impl Aes128 {
     }
 }
 
-/// Encryption and decryption under one key undo each other: what a block is encrypted to is decrypted
-/// to that block alone, and each block is decrypted to some block, which is encrypted to it. The call
-/// does nothing: its contract is the law.
+/// Encryption and decryption under one key undo each other: what a block is encrypted to is
+/// decrypted to that block alone, and each block is decrypted to some block, which is encrypted to
+/// it. The call does nothing: its contract is the law.
 pub fn decryption_undoes_encryption()
     ensures undone { (key plain : List ℕ) → AreOctets key → IsBlock plain
         → Decrypts key (cipher key plain) plain }
@@ -129,8 +129,8 @@ fn added(state: [u32; 4], key: [u32; 4]) -> [u32; 4]
     ]
 }
 
-// The column that SUBBYTES and MIXCOLUMNS make of the first octet of a, the second of b, the third of c
-// and the fourth of d (FIPS 197, 5.1.1 and 5.1.3).
+// The column that SUBBYTES and MIXCOLUMNS make of the first octet of a, the second of b, the third
+// of c and the fourth of d (FIPS 197, 5.1.1 and 5.1.3).
 fn mixed_column(a: u32, b: u32, c: u32, d: u32) -> u32
     ensures { result ≡ mixed_word (sub_octet (a / 2 ^ 24)) (sub_octet (b / 2 ^ 16 % 256))
         (sub_octet (c / 2 ^ 8 % 256)) (sub_octet (d % 256)) }
@@ -141,8 +141,8 @@ fn mixed_column(a: u32, b: u32, c: u32, d: u32) -> u32
         ^ MIXED_FOURTH[(d & 0xff) as usize]
 }
 
-// The column that SUBBYTES makes of the first octet of a, the second of b, the third of c and the fourth
-// of d (FIPS 197, 5.1.1).
+// The column that SUBBYTES makes of the first octet of a, the second of b, the third of c and the
+// fourth of d (FIPS 197, 5.1.1).
 fn substituted_column(a: u32, b: u32, c: u32, d: u32) -> u32
     ensures { result
         ≡ substituted_word (a / 2 ^ 24) (b / 2 ^ 16 % 256) (c / 2 ^ 8 % 256) (d % 256) }
@@ -155,8 +155,8 @@ fn substituted_column(a: u32, b: u32, c: u32, d: u32) -> u32
     ])
 }
 
-// The column that INVMIXCOLUMNS makes of the octets that are substituted to the first octet of a, the
-// second of b, the third of c and the fourth of d (FIPS 197, 5.3.2 and 5.3.3).
+// The column that INVMIXCOLUMNS makes of the octets that are substituted to the first octet of a,
+// the second of b, the third of c and the fourth of d (FIPS 197, 5.3.2 and 5.3.3).
 fn unmixed_column(a: u32, b: u32, c: u32, d: u32) -> u32
     ensures { (e f g h : ℕ) → e < 256 → f < 256 → g < 256 → h < 256
         → sub_octet e ≡ a / 2 ^ 24 → sub_octet f ≡ b / 2 ^ 16 % 256 → sub_octet g ≡ c / 2 ^ 8 % 256
@@ -168,8 +168,8 @@ fn unmixed_column(a: u32, b: u32, c: u32, d: u32) -> u32
         ^ UNMIXED_FOURTH[(d & 0xff) as usize]
 }
 
-// The column of the octets that are substituted to the first octet of a, the second of b, the third of c
-// and the fourth of d (FIPS 197, 5.3.2).
+// The column of the octets that are substituted to the first octet of a, the second of b, the third
+// of c and the fourth of d (FIPS 197, 5.3.2).
 fn unsubstituted_column(a: u32, b: u32, c: u32, d: u32) -> u32
     ensures { (e f g h : ℕ) → e < 256 → f < 256 → g < 256 → h < 256
         → sub_octet e ≡ a / 2 ^ 24 → sub_octet f ≡ b / 2 ^ 16 % 256 → sub_octet g ≡ c / 2 ^ 8 % 256
@@ -276,7 +276,8 @@ fn turned_word(word: u32) -> u32
     ])
 }
 
-// The keys of the rounds between the first and the last with their columns unmixed (FIPS 197, 5.3.5).
+// The keys of the rounds between the first and the last with their columns unmixed (FIPS 197,
+// 5.3.5).
 fn unmix_keys(round_keys: &[[u32; 4]; 11]) -> [[u32; 4]; 9]
     ensures { (k : List ℕ) → IsBlock k
         → ((n : ℕ) → n < 11 → slice_index_or round_keys.now n [] ≡ columns (round_key k n))

@@ -10,7 +10,8 @@ use crate::control::{
 };
 use crate::frame::AirFault;
 
-/// The LLC and SNAP header before an EAPOL frame in data (RFC 1042, with the type 88-8E of IEEE Std 802.1X).
+/// The LLC and SNAP header before an EAPOL frame in data (RFC 1042, with the type 88-8E of IEEE Std
+/// 802.1X).
 pub const EAPOL_LLC: [u8; 8] = [0xaa, 0xaa, 0x03, 0x00, 0x00, 0x00, 0x88, 0x8e];
 
 // How many octets of fixed fields a management frame has.

@@ -20,7 +20,8 @@ pub struct Header<'a> {
     pub a1: Mac,
     /// Address 2, the transmitter.
     pub a2: Mac,
-    /// Address 3: the BSSID, or in data to a distribution system its destination, or from one its source.
+    /// Address 3: the BSSID, or in data to a distribution system its destination, or from one its
+    /// source.
     pub a3: Mac,
 }
 
@@ -37,7 +38,8 @@ pub struct AssocReq<'a> {
     pub elements: &'a [u8],
 }
 
-/// A response to an association or reassociation request (IEEE Std 802.11-2020, 9.3.3.6 and 9.3.3.8).
+/// A response to an association or reassociation request (IEEE Std 802.11-2020, 9.3.3.6 and
+/// 9.3.3.8).
 #[derive(Clone, Copy)]
 pub struct AssocResp<'a> {
     /// The MAC header.
@@ -87,8 +89,8 @@ pub struct Data<'a> {
     pub direction: Direction,
     /// The traffic identifier, in QoS data alone.
     pub tid: Option<Tid>,
-    /// Of EAPOL data the octets behind the LLC and SNAP header, of protected data all behind the MAC header: the CCMP
-    /// header of 8 octets, the cipher text, and the MIC of 8 octets.
+    /// Of EAPOL data the octets behind the LLC and SNAP header, of protected data all behind the
+    /// MAC header: the CCMP header of 8 octets, the cipher text, and the MIC of 8 octets.
     pub body: &'a [u8],
 }
 
@@ -111,8 +113,8 @@ pub enum AirFrame<'a> {
     Eapol(Data<'a>),
     /// Data under CCMP, sealed as it came.
     Protected(Data<'a>),
-    /// Anything else of version 0: other types and subtypes, and authentication that is no message of a fast
-    /// transition.
+    /// Anything else of version 0: other types and subtypes, and authentication that is no message
+    /// of a fast transition.
     Ignored,
 }
 
@@ -140,15 +142,17 @@ impl<'a> AirFrame<'a> {
 /// Why octets are no frame of the profile.
 #[derive(Clone, Copy, PartialEq, Eq)]
 pub enum AirFault {
-    /// Fewer octets than the Frame Control field or the header has. The place is the number of octets.
+    /// Fewer octets than the Frame Control field or the header has. The place is the number of
+    /// octets.
     Short(usize),
     /// A protocol version other than 0.
     Version,
-    /// Outside the profile: 8 the bits To DS and From DS, 10 more fragments, 14 protected management, 15 an HT Control
-    /// field, 16 a fragment number, 17 an A-MSDU, 18 data that is neither protected nor EAPOL, 20 a protected body
-    /// without ExtIV.
+    /// Outside the profile: 8 the bits To DS and From DS, 10 more fragments, 14 protected
+    /// management, 15 an HT Control field, 16 a fragment number, 17 an A-MSDU, 18 data that is
+    /// neither protected nor EAPOL, 20 a protected body without ExtIV.
     OutOfProfile(u8),
-    /// A body shorter than its fixed fields, or than the CCMP header and MIC. The place is the length of the header.
+    /// A body shorter than its fixed fields, or than the CCMP header and MIC. The place is the
+    /// length of the header.
     Body(usize),
 }
 

@@ -9,8 +9,8 @@ ghost use Rattle.air_frame.specs.Faults.{air_fault};
 ghost use Rattle.air_frame.specs.Spelled.{SpellsAir};
 ghost use Rattle.air_frame.specs.Sent.{air_octets, IsAddress, management_header_octets, data_header_octets, assoc_req_octets, assoc_resp_octets, re_req_octets, re_resp_octets, ft_req_octets, ft_resp_octets, eapol_data_octets, protected_data_octets, sent_header};
 
-/// Octets are a frame exactly where they have no fault, and then one frame alone. So a fault and a frame exclude each
-/// other, and one of them is always there.
+/// Octets are a frame exactly where they have no fault, and then one frame alone. So a fault and a
+/// frame exclude each other, and one of them is always there.
 pub fn one_frame_or_one_fault()
     ensures { (octets : List ℕ) (f : AirFields)
         → SpellsAir octets f ↔ ((air_fault octets ≡ None) × (f ≡ air_at octets)) }

@@ -175,8 +175,8 @@ fn frame_of(octets: &[u8]) -> AirFrame<'_>
     }
 }
 
-/// The frame that the octets are, or the first fault in reading order. The frame borrows the octets; no memory is
-/// taken.
+/// The frame that the octets are, or the first fault in reading order. The frame borrows the
+/// octets; no memory is taken.
 ///
 /// # Errors
 ///

@@ -54,8 +54,8 @@ fn plain_header(first: u8, second: u8, a1: Mac, a2: Mac, a3: Mac) -> [u8; 24]
     out
 }
 
-/// The header of a management frame as it is sent: no bit of the Frame Control field set but those of the subtype,
-/// duration and sequence control zero.
+/// The header of a management frame as it is sent: no bit of the Frame Control field set but those
+/// of the subtype, duration and sequence control zero.
 pub fn management_header(subtype: Subtype, a1: Mac, a2: Mac, a3: Mac) -> [u8; 24]
     ensures { result ≡ management_header_octets (subtype_number subtype) a1.0 a2.0 a3.0 }
 {
@@ -77,9 +77,9 @@ fn data_flags(direction: Direction, is_protected: bool) -> u8
     }
 }
 
-/// The header of a data frame as it is sent: the bit of its direction is set, that of protection if it is protected,
-/// and with a TID it is QoS data, of 26 octets in place of 24. Duration, sequence control and all
-/// else are zero. No memory is taken.
+/// The header of a data frame as it is sent: the bit of its direction is set, that of protection if
+/// it is protected, and with a TID it is QoS data, of 26 octets in place of 24. Duration, sequence
+/// control and all else are zero. No memory is taken.
 pub fn data_header(
     direction: Direction,
     is_protected: bool,
@@ -192,8 +192,8 @@ pub fn write_re_resp(
     )
 }
 
-/// Writes the first authentication frame of a fast transition to the front of `out`, and answers how many octets it
-/// takes.
+/// Writes the first authentication frame of a fast transition to the front of `out`, and answers
+/// how many octets it takes.
 pub fn write_ft_req(a1: Mac, a2: Mac, a3: Mac, elements: &[u8], out: &mut [u8]) -> usize
     requires { 30 + length elements.now ≤ length out.old }
     ensures size { result ≡ 30 + length elements.now }
@@ -205,8 +205,8 @@ pub fn write_ft_req(a1: Mac, a2: Mac, a3: Mac, elements: &[u8], out: &mut [u8]) 
     put_frame(out, &header, &three_numbers(FT_ALGORITHM, 1, 0), elements)
 }
 
-/// Writes the second authentication frame of a fast transition to the front of `out`, and answers how many octets it
-/// takes.
+/// Writes the second authentication frame of a fast transition to the front of `out`, and answers
+/// how many octets it takes.
 pub fn write_ft_resp(
     a1: Mac,
     a2: Mac,
@@ -230,7 +230,8 @@ pub fn write_ft_resp(
     )
 }
 
-/// Writes a data frame with an EAPOL frame to the front of `out`, and answers how many octets it takes.
+/// Writes a data frame with an EAPOL frame to the front of `out`, and answers how many octets it
+/// takes.
 pub fn write_eapol_data(
     direction: Direction,
     a1: Mac,

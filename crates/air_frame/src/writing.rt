@@ -139,11 +139,11 @@ fn put_octets(frame: &AirFrame<'_>, out: &mut [u8]) -> usize
     }
 }
 
-/// Writes the frame to the front of `out`, and answers how many octets it takes. What is behind them stays. No memory
-/// is taken.
+/// Writes the frame to the front of `out`, and answers how many octets it takes. What is behind
+/// them stays. No memory is taken.
 ///
-/// Some octets must be this frame, as they are where it was read, and it must not be `Ignored`. What is written is then
-/// read as the same frame.
+/// Some octets must be this frame, as they are where it was read, and it must not be `Ignored`.
+/// What is written is then read as the same frame.
 pub fn write(frame: &AirFrame<'_>, out: &mut [u8]) -> usize
     requires spelled { IsSpelled (fields_of frame.now) }
     requires kind { frame.now ≢ AirFrame.Ignored }

@@ -1,4 +1,4 @@
--- An access point revokes the key of a station: with suites 2 and 6 no key holder holds any.
+-- An access point revokes the key of a station; with suites 2 and 6 no key holder holds any.
 use Rattle.std.proofs.Common.{◌≡◌, ◌≢◌, ℕ, List, [], ◌∷◌, ◌++◌, replicate, refl, sym, ap, subst, ◌∙◌}
 use Rattle.domain_base.specs.declared.names.Akm.{Akm}
 use Rattle.domain_base.specs.declared.names.Akm.TheVariants.{Psk, PskSha256, FtPsk}

@@ -569,8 +569,8 @@ impl ApNode {
         Ok(self.end(here, outcome, out))
     }
 
-    // The part with a station takes an EAPOL-Key message of it, where all memory is taken and a row put
-    // first. The switch is to come, and there is room for it.
+    // The part with a station takes an EAPOL-Key message of it, where all memory is taken and a row
+    // put first. The switch is to come, and there is room for it.
     fn hand<H: Holders>(
         &mut self,
         here: Here<'_>,

@@ -50,8 +50,8 @@ fn mobility_status(domain: &Domain, mde: Option<Mde>) -> Option<u16>
     }
 }
 
-/// The status with which an association request is refused, if it is: by its RSNE, and with suite 4 by
-/// its MDE (IEEE Std 802.11-2020, 13.4.2).
+/// The status with which an association request is refused, if it is: by its RSNE, and with suite 4
+/// by its MDE (IEEE Std 802.11-2020, 13.4.2).
 pub fn request_status(domain: &Domain, elements: &Elements<'_>) -> Option<u16>
     ensures { result ≡ request_status domain.now (element_fields elements.now) }
 {

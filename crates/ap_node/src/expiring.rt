@@ -24,7 +24,8 @@ fn vacate(place: &mut Option<Station>) -> (bool, bool)
     }
 }
 
-/// Drops what there is with a station, and tells whether there was an attempt, and whether a session.
+/// Drops what there is with a station, and tells whether there was an attempt, and whether a
+/// session.
 pub fn drop_part(stations: &mut Vec<Option<Station>>, station: u16) -> (bool, bool)
     ensures attempt { result.0 ≡ is_some (attempt_in (station_at stations.old.items station)) }
     ensures session { result.1 ≡ is_some (session_in (station_at stations.old.items station)) }

@@ -17,8 +17,8 @@ use key_holders::{HolderRow, Holders};
 use node_base::{Here, address, r0kh_id};
 use run_journal::Act;
 
-// Puts the PMK-R0 of a station with the key holder of the access point (IEEE Std 802.11-2020, 13.2.2).
-// The memory for the act is taken first.
+// Puts the PMK-R0 of a station with the key holder of the access point (IEEE Std 802.11-2020,
+// 13.2.2). The memory for the act is taken first.
 fn put_row<H: Holders>(
     here: Here<'_>,
     ap: u16,
@@ -98,8 +98,8 @@ fn between<H: Holders>(
     Ok(between)
 }
 
-/// Makes ready what an access point needs to take that message of a station. Where it is the last of
-/// the attempt the PMK-R0 of the station is put, with suite 4; where memory runs out nothing is.
+/// Makes ready what an access point needs to take that message of a station. Where it is the last
+/// of the attempt the PMK-R0 of the station is put, with suite 4; where memory runs out nothing is.
 pub fn prepare<H: Holders>(
     here: Here<'_>,
     ap: u16,

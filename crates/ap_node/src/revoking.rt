@@ -17,8 +17,8 @@ use key_holders::Holders;
 use node_base::{Here, address, r0kh_id};
 use run_journal::{Act, Outcome};
 
-// With suite 4 the row is that of the PMK-R0 of the station (IEEE Std 802.11-2020, 12.7.1.6.3). Takes
-// no memory.
+// With suite 4 the row is that of the PMK-R0 of the station (IEEE Std 802.11-2020, 12.7.1.6.3).
+// Takes no memory.
 fn revoke_row<H: Holders>(
     here: Here<'_>,
     ap: u16,
@@ -70,8 +70,8 @@ fn revoke_none(station: u16, id: Vec<u8>) -> Act
     }
 }
 
-/// Revokes the key of a station at the key holder of that access point, with suite 4 by the name of its
-/// PMK-R0.
+/// Revokes the key of a station at the key holder of that access point, with suite 4 by the name of
+/// its PMK-R0.
 pub fn revoke<H: Holders>(
     here: Here<'_>,
     ap: u16,

@@ -91,8 +91,8 @@ fn replace(place: &mut Option<Station>, mut part: Authenticator) -> bool
 }
 
 /// From now on this is the part with the station of that number, which has a place. The session of
-/// the part that was there goes on in it, under its key; the attempt is at its end, and whether there
-/// was one is answered.
+/// the part that was there goes on in it, under its key; the attempt is at its end, and whether
+/// there was one is answered.
 pub fn begin(stations: &mut Vec<Option<Station>>, station: u16, part: Authenticator) -> bool
     requires place { station < vec_len stations.old }
     requires alone { part.session ≡ None }
@@ -234,8 +234,8 @@ fn send_again(
     Ok(add_again(station, came, room, &reply, out))
 }
 
-/// The part with a station sends once more what waits for an answer of it, where there is one. There
-/// is room for one more act then.
+/// The part with a station sends once more what waits for an answer of it, where there is one.
+/// There is room for one more act then.
 pub fn retry(
     stations: &mut Vec<Option<Station>>,
     alloc: Global,

@@ -12,8 +12,8 @@ use node_base::Ends;
 use run_journal::{Keyed, Reply};
 use std::marker::Model;
 
-/// The pairwise key, and the group key, the count of packet numbers and the whole key data that its M3
-/// carry.
+/// The pairwise key, and the group key, the count of packet numbers and the whole key data that its
+/// M3 carry.
 #[derive(Drop)]
 pub struct Agreement {
     key: Keyed,

@@ -51,7 +51,8 @@ pub enum ApStart<'a> {
 pub enum Again {
     /// M1 was sent once more, or from M2 on M3; or in a session G1.
     Sent,
-    /// The attempt is given up, or with G1 the session: that message was sent as often as it may be.
+    /// The attempt is given up, or with G1 the session: that message was sent as often as it may
+    /// be.
     GaveUp(Message),
     /// Nothing waits for an answer.
     Nothing,
@@ -70,9 +71,9 @@ pub enum Retried {
 }
 
 /// An access point's part with one station: an attempt, which is a four-way handshake
-/// (IEEE Std 802.11-2020, 12.7.6), and a session, where there is one. A new attempt may stand beside
-/// a session; it takes the session's place as it becomes one. In a session the station is given new
-/// group keys (12.7.7). It takes no memory.
+/// (IEEE Std 802.11-2020, 12.7.6), and a session, where there is one. A new attempt may stand
+/// beside a session; it takes the session's place as it becomes one. In a session the station is
+/// given new group keys (12.7.7). It takes no memory.
 #[derive(Drop)]
 pub struct Authenticator {
     ends: Ends,
@@ -102,9 +103,9 @@ impl Authenticator {
     ghost use Rattle.authenticator.specs.Taken.{given, StepsFrom, Installs, Derives};
     ghost use Rattle.authenticator.specs.Taken.{RetriesFrom, GivesFrom};
 
-    /// Begins with an attempt, and sends M1 with replay counter 1 (IEEE Std 802.11-2020, 12.7.6.2); or
-    /// with the session that a fast transition installed, and sends nothing. The reply has M1 or nothing,
-    /// whatever was in it.
+    /// Begins with an attempt, and sends M1 with replay counter 1 (IEEE Std 802.11-2020, 12.7.6.2);
+    /// or with the session that a fast transition installed, and sends nothing. The reply has M1 or
+    /// nothing, whatever was in it.
     pub fn begin(
         domain: &Domain,
         ap: u16,
@@ -118,8 +119,8 @@ impl Authenticator {
         requires rsne { length (rsne_in start) ≤ 257 }
         ensures sends { sent_acts (Sta sta) reply.new
             ≡ first_acts domain.now (Ap ap) (Sta sta) start.entry }
-        // after an association it stands for the history with M1, also beside the session of another
-        // part; after a fast transition for the history as it is
+        // after an association it stands for the history with M1, also beside the session of
+        // another part; after a fast transition for the history as it is
         ensures stands { StandsAtFirst domain.now (Ap ap) (Sta sta) start.entry result }
         ensures session { result.session ≡ held_at_first start.entry }
         ensures told { TellsNothing reply.new }
@@ -200,9 +201,9 @@ impl Authenticator {
         self.session.is_some()
     }
 
-    /// Whether that message of the station is the last of the attempt, by which it becomes a session:
-    /// [`Authenticator::step`] accepts it and installs the key. By every other message it installs
-    /// none.
+    /// Whether that message of the station is the last of the attempt, by which it becomes a
+    /// session: [`Authenticator::step`] accepts it and installs the key. By every other message it
+    /// installs none.
     pub fn is_final(&self, message: Message, frame: &KeyFrame<'_>) -> bool
         requires { IsKeyFrame frame.now }
         ensures { result
@@ -265,8 +266,8 @@ impl Authenticator {
         Outcome::Accepted
     }
 
-    // Takes message 4: where it is accepted, the session that the attempt becomes takes the place of
-    // the one there was. Where M3 carried an older group key than the newest, G1 follows.
+    // Takes message 4: where it is accepted, the session that the attempt becomes takes the place
+    // of the one there was. Where M3 carried an older group key than the newest, G1 follows.
     fn take_m4(
         &mut self,
         frame: &KeyFrame<'_>,
@@ -328,7 +329,8 @@ impl Authenticator {
     }
 
     /// Takes a message of the station. The newest group key and the count of packet numbers that
-    /// were used under it go into M3, and into G1 where an M4 answers an M3 with an older group key.
+    /// were used under it go into M3, and into G1 where an M4 answers an M3 with an older group
+    /// key.
     ///
     /// What is sent, derived and installed comes into the reply, whatever was in it. A refusal does
     /// not change the authenticator.
@@ -435,8 +437,9 @@ impl Authenticator {
         }
     }
 
-    /// Sends G1 in the session, with the newest group key, of which so many packet numbers were used
-    /// (IEEE Std 802.11-2020, 12.7.7.2). The reply has G1 and nothing else, whatever was in it.
+    /// Sends G1 in the session, with the newest group key, of which so many packet numbers were
+    /// used (IEEE Std 802.11-2020, 12.7.7.2). The reply has G1 and nothing else, whatever was in
+    /// it.
     pub fn group(&mut self, newest: &GroupKey, rsc: u64, reply: &mut Reply)
         requires session { is_some self.old.session ≡ true }
         requires id { newest.now.id < 4 }

@@ -1,5 +1,5 @@
-//! An access point's part of the four-way handshake and of the group key handshake with one station.
-//! It takes no memory.
+//! An access point's part of the four-way handshake and of the group key handshake with one
+//! station. It takes no memory.
 #![tactic(auto)]
 
 mod agreement;

@@ -1,4 +1,5 @@
-//! Message 2 of the four-way handshake at an access point (IEEE Std 802.11-2020, 12.7.6.3 and 13.4.2).
+//! Message 2 of the four-way handshake at an access point (IEEE Std 802.11-2020, 12.7.6.3 and
+//! 13.4.2).
 
 ghost use Rattle.std.specs.Prelude.{◌≡◌, option_map};
 ghost use Rattle.rsn_elements.specs.declared.framing.Within.TheVariants.{Body};
@@ -150,8 +151,8 @@ fn plain_fault(found: Option<&[u8]>, rsne: &[u8]) -> Option<KeyDataFault>
     }
 }
 
-/// What is wrong with the key data of an M2 by the RSNE of the association request, and with suite 4 by
-/// what that adds.
+/// What is wrong with the key data of an M2 by the RSNE of the association request, and with suite
+/// 4 by what that adds.
 pub fn key_data_fault(
     mobility: &Option<Mobility>,
     rsne: &[u8],

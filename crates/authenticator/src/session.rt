@@ -18,9 +18,9 @@ use run_journal::{Reason, Reply};
 /// How often G1 is sent in a session for one group key at most.
 const MOST_SENDS: u8 = 4;
 
-/// A session: what an attempt becomes by M4, or a fast transition by its reassociation. It counts the
-/// handshake for one group key, the newest as it began or as G1 was sent last; for a newer one there
-/// was none yet.
+/// A session: what an attempt becomes by M4, or a fast transition by its reassociation. It counts
+/// the handshake for one group key, the newest as it began or as G1 was sent last; for a newer one
+/// there was none yet.
 #[derive(Drop)]
 pub struct Session {
     /// The key that was installed.

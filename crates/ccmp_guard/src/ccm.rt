@@ -1,4 +1,5 @@
-//! CCM (RFC 3610) with AES-128, M = 8 and L = 2. The message authentication code and the key stream run in one pass.
+//! CCM (RFC 3610) with AES-128, M = 8 and L = 2. The message authentication code and the key stream
+//! run in one pass.
 
 ghost use Rattle.std.specs.Prelude.{◌≡◌, ◌∷◌, ◌<◌, ◌≤◌, ◌+◌, ◌-◌, ◌*◌, ◌^◌, ◌++◌, ℕ, List, length, take, drop, min, IsTrue};
 ghost use Rattle.std.specs.Int.{w16, to_be_bytes};
@@ -110,7 +111,8 @@ fn begin(key: &Aes128, nonce: &[u8; 13], aad: &[u8], len: u16) -> [u8; 16]
     )
 }
 
-// One block of a message, or what there is of it, is encrypted with its block of the key stream, and X goes on.
+// One block of a message, or what there is of it, is encrypted with its block of the key stream,
+// and X goes on.
 fn seal_block(key: &Aes128, x: &mut [u8; 16], stream: &[u8; 16], plain: &[u8], out: &mut [u8])
     requires few { length plain.now ≤ 16 }
     requires room { length out.old ≡ length plain.now }
@@ -207,8 +209,8 @@ pub fn seal(key: &Aes128, nonce: &[u8; 13], aad: &[u8], plain: &[u8], out: &mut 
     mic.copy_from_slice(&mic_of(key, nonce, last));
 }
 
-/// Opens a sealed message into `out`, and answers whether the authentication field is the one of what stands there: whether
-/// there is a plain text that is sealed to this.
+/// Opens a sealed message into `out`, and answers whether the authentication field is the one of
+/// what stands there: whether there is a plain text that is sealed to this.
 pub fn open(key: &Aes128, nonce: &[u8; 13], aad: &[u8], sealed: &[u8], out: &mut [u8]) -> bool
     requires some { 0 < length aad.now }
     requires few { length aad.now ≤ 30 }

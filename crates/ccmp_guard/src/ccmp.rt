@@ -1,4 +1,5 @@
-//! CCMP bodies (IEEE Std 802.11-2020, 12.5.3.2): CCMP header of 8 octets, encrypted payload, MIC of 8 octets.
+//! CCMP bodies (IEEE Std 802.11-2020, 12.5.3.2): CCMP header of 8 octets, encrypted payload, MIC of
+//! 8 octets.
 
 ghost use Rattle.std.specs.Prelude.{◌≡◌, ◌↔◌, ◌<◌, ◌≤◌, ◌+◌, ◌-◌, ◌*◌, ◌^◌, ◌++◌, ℕ, List, length, take, drop, IsTrue, IfOk, OnErr, IsOkAnd};
 ghost use Rattle.ccmp_guard.specs.Ccmp.{IsHeader, traffic_identifier, ccm_nonce, ccm_aad, ccmp_header, packet_number, key_id_in, ext_iv, Protected};
@@ -54,7 +55,8 @@ fn nonce_of(header: &[u8], pn: u64) -> [u8; 13]
     nonce
 }
 
-// Writes the additional authenticated data of a frame (IEEE Std 802.11-2020, 12.5.3.3.3), and gives how many octets they are.
+// Writes the additional authenticated data of a frame (IEEE Std 802.11-2020, 12.5.3.3.3), and gives
+// how many octets they are.
 fn aad_of(header: &[u8], aad: &mut [u8; 24]) -> usize
     requires { IsHeader header.now }
     ensures written { take result aad.new ≡ ccm_aad header.now }
@@ -71,8 +73,9 @@ fn aad_of(header: &[u8], aad: &mut [u8; 24]) -> usize
     }
 }
 
-/// What the seal of a frame covers before the plain text: the nonce of 13 octets and the additional authenticated data, 22 octets
-/// or in a QoS data frame 24 (IEEE Std 802.11-2020, 12.5.3.3.3 and 12.5.3.3.4). Takes no memory.
+/// What the seal of a frame covers before the plain text: the nonce of 13 octets and the additional
+/// authenticated data, 22 octets or in a QoS data frame 24 (IEEE Std 802.11-2020, 12.5.3.3.3 and
+/// 12.5.3.3.4). Takes no memory.
 pub fn sealed_front(header: &[u8], pn: u64) -> ShortOctets<MOST_FRONT>
     requires { IsHeader header.now }
     ensures octets { result ≡ ccm_nonce header.now pn ++ ccm_aad header.now }
@@ -200,9 +203,10 @@ pub fn open_with(
     }
 }
 
-/// Writes the CCMP body of a plain text of at most 65,535 octets into the front of `out`, and gives the number of octets
-/// written, 16 more. The header is the MAC header of the frame, of 24 or 26 octets, the key id is below 4, and the packet
-/// number has 48 bits (IEEE Std 802.11-2020, 12.5.3.3). Takes no memory.
+/// Writes the CCMP body of a plain text of at most 65,535 octets into the front of `out`, and gives
+/// the number of octets written, 16 more. The header is the MAC header of the frame, of 24 or 26
+/// octets, the key id is below 4, and the packet number has 48 bits (IEEE Std 802.11-2020,
+/// 12.5.3.3). Takes no memory.
 pub fn seal_body(
     tk: &[u8; 16],
     header: &[u8],
@@ -225,8 +229,9 @@ pub fn seal_body(
     seal_with(&Aes128::new(tk), header, key_id, pn, plain, out)
 }
 
-/// Writes the plain text of a CCMP body into the front of `out`, and gives its packet number and the number of octets written,
-/// 16 fewer than the body has. What stands in `out` after a refusal is of no use. Takes no memory.
+/// Writes the plain text of a CCMP body into the front of `out`, and gives its packet number and
+/// the number of octets written, 16 fewer than the body has. What stands in `out` after a refusal
+/// is of no use. Takes no memory.
 pub fn open_body(
     tk: &[u8; 16],
     header: &[u8],

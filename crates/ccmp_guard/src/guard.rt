@@ -1,5 +1,5 @@
-//! The guard of a temporal key: it uses each packet number once, and takes none twice (IEEE Std 802.11-2020, 12.5.3.3 and
-//! 12.5.3.4).
+//! The guard of a temporal key: it uses each packet number once, and takes none twice (IEEE Std
+//! 802.11-2020, 12.5.3.3 and 12.5.3.4).
 
 ghost use Rattle.std.specs.Prelude.{◌≡◌, ◌<◌, ◌≤◌, ◌+◌, ◌^◌, ℕ, suc, slice_index, List, Option, None, Some, length, take, drop, replicate, option_map, IfOk, IfErr, IfSome, OnErr, MatchResult};
 ghost use Rattle.replay_window.specs.Numbers.{last_number};
@@ -103,7 +103,8 @@ impl Installed {
         }
     }
 
-    // The counter and packet number of a body whose seal is to be tried, or why it is refused before.
+    // The counter and packet number of a body whose seal is to be tried, or why it is refused
+    // before.
     fn look(&self, header: &[u8], body: &[u8]) -> Result<(Tid, u64), GuardFault>
         requires { IsHeader header.now }
         ensures fault { MatchResult result
@@ -186,8 +187,9 @@ impl Installed {
     }
 }
 
-/// A temporal key in use, or none. Contracts see the role and octets of the key, the packet number used last under it, and for
-/// each traffic identifier the greatest that was taken. A group key has one receive counter: that of traffic identifier 0.
+/// A temporal key in use, or none. Contracts see the role and octets of the key, the packet number
+/// used last under it, and for each traffic identifier the greatest that was taken. A group key has
+/// one receive counter: that of traffic identifier 0.
 #[derive(Drop)]
 pub struct Guard {
     installed: Option<Installed>,
@@ -210,8 +212,8 @@ impl Guard {
         Guard { installed: None }
     }
 
-    /// A key is installed, of which the packet numbers up to `used` were used, and of which numbers up to `rsc` are taken no
-    /// more, whatever their traffic identifier.
+    /// A key is installed, of which the packet numbers up to `used` were used, and of which numbers
+    /// up to `rsc` are taken no more, whatever their traffic identifier.
     pub fn install(&mut self, tk: &[u8; 16], role: Role, used: u64, rsc: u64)
         requires empty { self.old ≡ None }
         requires number { used ≤ last_number }
@@ -238,9 +240,10 @@ impl Guard {
         }
     }
 
-    /// Protects a frame under the next packet number: writes its body into the front of `out`, and gives the number of octets
-    /// written, 16 more than the plain text has. The header is the MAC header of the frame, of 24 or 26 octets, and the plain
-    /// text has at most 65,535. `NoKey` comes first, then `Spent`, and after a refusal nothing is changed. Takes no memory.
+    /// Protects a frame under the next packet number: writes its body into the front of `out`, and
+    /// gives the number of octets written, 16 more than the plain text has. The header is the MAC
+    /// header of the frame, of 24 or 26 octets, and the plain text has at most 65,535. `NoKey`
+    /// comes first, then `Spent`, and after a refusal nothing is changed. Takes no memory.
     pub fn protect(
         &mut self,
         header: &[u8],
@@ -269,9 +272,10 @@ impl Guard {
         }
     }
 
-    /// Opens the body of a frame: writes its plain text into the front of `out`, and gives the number of octets written, 16 fewer
-    /// than the body has. The header is the MAC header of the frame, of 24 or 26 octets. Its packet number is taken. Of the
-    /// refusals `NoKey` comes first, then `Header`, `KeyId`, `Replayed` and `Seal`, and after each the guard is unchanged; what
+    /// Opens the body of a frame: writes its plain text into the front of `out`, and gives the
+    /// number of octets written, 16 fewer than the body has. The header is the MAC header of the
+    /// frame, of 24 or 26 octets. Its packet number is taken. Of the refusals `NoKey` comes first,
+    /// then `Header`, `KeyId`, `Replayed` and `Seal`, and after each the guard is unchanged; what
     /// stands in `out` then is of no use. Takes no memory.
     pub fn unprotect(
         &mut self,

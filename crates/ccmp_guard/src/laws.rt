@@ -5,9 +5,9 @@ ghost use Rattle.domain_base.specs.Octets.{AreOctets};
 ghost use Rattle.ccmp_guard.specs.Ccm.{Sealed};
 ghost use Rattle.ccmp_guard.specs.Ccmp.{Protected, AgreeBodies};
 
-/// Under one key, nonce and additional authenticated data a plain text is sealed to one list of octets, and in a frame with one
-/// header, key id and packet number it is carried by bodies that differ only where they are not looked at: in octet 2 and in bits
-/// 0 to 4 of octet 3.
+/// Under one key, nonce and additional authenticated data a plain text is sealed to one list of
+/// octets, and in a frame with one header, key id and packet number it is carried by bodies that
+/// differ only where they are not looked at: in octet 2 and in bits 0 to 4 of octet 3.
 pub fn a_plain_text_has_one_body()
     ensures sealed { (key nonce aad plain out other : List ℕ) → Sealed key nonce aad plain out
         → Sealed key nonce aad plain other → out ≡ other }
@@ -17,8 +17,9 @@ pub fn a_plain_text_has_one_body()
         → AgreeBodies body other }
 {}
 
-/// Under one key, nonce and additional authenticated data no two plain texts are sealed to one list of octets, and of a frame the
-/// header and body determine under one key the key id, the packet number and the plain text.
+/// Under one key, nonce and additional authenticated data no two plain texts are sealed to one list
+/// of octets, and of a frame the header and body determine under one key the key id, the packet
+/// number and the plain text.
 pub fn a_body_has_one_plain_text()
     ensures sealed { (key nonce aad plain other out : List ℕ) → Sealed key nonce aad plain out
         → Sealed key nonce aad other out → plain ≡ other }

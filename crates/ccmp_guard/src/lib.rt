@@ -1,5 +1,6 @@
-//! CCMP (IEEE Std 802.11-2020, 12.5.3): the bodies of protected data frames, sealed and opened with CCM (RFC 3610), and the guard
-//! of a temporal key, which uses each packet number once and takes none twice.
+//! CCMP (IEEE Std 802.11-2020, 12.5.3): the bodies of protected data frames, sealed and opened with
+//! CCM (RFC 3610), and the guard of a temporal key, which uses each packet number once and takes
+//! none twice.
 #![tactic(auto)]
 
 mod ccm;

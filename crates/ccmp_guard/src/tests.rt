@@ -30,7 +30,8 @@ fn is_sealed(v: &Vector) -> bool {
     &out[..end] == v.sealed
 }
 
-// The octets of the vector are opened to the plain text, and with their last octet changed they are not opened.
+// The octets of the vector are opened to the plain text, and with their last octet changed they are
+// not opened.
 fn is_opened(v: &Vector) -> bool {
     let len = v.sealed.len();
     if v.aad.len() == 0 || v.aad.len() > 30 || len < 8 || len > 64 {

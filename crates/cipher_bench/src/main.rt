@@ -1,5 +1,5 @@
-//! Does one piece of cryptographic work a number of times, so that its cost can be counted: the name of
-//! the work, the number, and for work on payloads their size, from 0 to 2,304 octets.
+//! Does one piece of cryptographic work a number of times, so that its cost can be counted: the
+//! name of the work, the number, and for work on payloads their size, from 0 to 2,304 octets.
 #![tactic(auto)]
 
 ghost use Rattle.std.specs.Prelude.{◌≤◌};
@@ -154,8 +154,8 @@ fn size_of(words: &[String]) -> usize
     }
 }
 
-// The work that the words name. The first octet of the result is the exit status, so that no part of
-// the work is left out.
+// The work that the words name. The first octet of the result is the exit status, so that no part
+// of the work is left out.
 fn run<R: Env + AllocGlobal>(rt: &R) -> u8 {
     let Ok(args) = env::args(rt) else {
         return 0;

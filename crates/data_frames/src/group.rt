@@ -19,7 +19,8 @@ use frame_intake::SealedData;
 use run_journal::{Act, Kind, Outcome};
 use std::alloc::Global;
 
-/// A group key that a station keeps of an access point: its octets, its key id and its receive counter.
+/// A group key that a station keeps of an access point: its octets, its key id and its receive
+/// counter.
 #[derive(Clone, Copy)]
 pub struct KeptKey {
     /// Its octets.
@@ -31,8 +32,8 @@ pub struct KeptKey {
 }
 
 impl KeptKey {
-    /// Takes protected data for a group from that access point, with the key id of the key: hands its payload up, or refuses it.
-    /// The counter is the caller's to move.
+    /// Takes protected data for a group from that access point, with the key id of the key: hands
+    /// its payload up, or refuses it. The counter is the caller's to move.
     pub fn take(
         &self,
         alloc: Global,

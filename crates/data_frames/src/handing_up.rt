@@ -18,7 +18,8 @@ use domain_base::{Node, Octets, Tid};
 use frame_intake::SealedData;
 use run_journal::{Act, Kind, Outcome, Reason, Seal};
 
-/// The key under which a frame was opened: its octets, its key id, and the TID of the receive counter.
+/// The key under which a frame was opened: its octets, its key id, and the TID of the receive
+/// counter.
 #[derive(Clone, Copy)]
 pub struct OpenedUnder {
     /// Its octets.

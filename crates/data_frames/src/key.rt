@@ -33,8 +33,8 @@ use std::marker::Model;
 // The broadcast address (IEEE Std 802.11-2020, 9.2.4.3).
 const BROADCAST: Mac = Mac([0xff; 6]);
 
-/// A temporal key in use at a node. Contracts see its role and octets, the packet number used last under it, and for each TID
-/// the greatest that was taken.
+/// A temporal key in use at a node. Contracts see its role and octets, the packet number used last
+/// under it, and for each TID the greatest that was taken.
 #[derive(Drop)]
 pub struct DataKey {
     tk: [u8; 16],
@@ -183,7 +183,8 @@ impl DataKey {
         Ok(Outcome::Done)
     }
 
-    /// Takes protected data from that node: hands its payload up, or refuses it, and then the key is unchanged.
+    /// Takes protected data from that node: hands its payload up, or refuses it, and then the key
+    /// is unchanged.
     pub fn take(
         &mut self,
         alloc: Global,

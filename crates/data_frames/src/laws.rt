@@ -1,5 +1,5 @@
-//! What keys in use stand for, and that what they come to is the row of the rules. The functions do nothing; their contracts are
-//! proved.
+//! What keys in use stand for, and that what they come to is the row of the rules. The functions do
+//! nothing; their contracts are proved.
 
 ghost use Rattle.std.specs.Prelude.{◌≡◌, ◌<◌, ◌≤◌, ℕ, true, false, suc, List, [], ◌∷◌, length, replicate, Option, Some, None};
 ghost use Rattle.std.specs.List.{AllByRecursion};
@@ -28,9 +28,10 @@ ghost use Rattle.data_frames.specs.Sending.{send_key_of};
 ghost use Rattle.data_frames.specs.Taking.{reason_of, refusal, taken_acts, IsOpenedTo, IsStoppedBy};
 ghost use Rattle.data_frames.specs.Rows.{IsDataFrom, OpensBy};
 
-/// A pairwise key in use stands for what a history gains: its installation, packet numbers used with the peer, payloads handed up
-/// from it, and acts that are about neither. By the rules a node sends to the peer, and opens what the peer sent to it alone,
-/// under the key of its session, so under this one.
+/// A pairwise key in use stands for what a history gains: its installation, packet numbers used
+/// with the peer, payloads handed up from it, and acts that are about neither. By the rules a node
+/// sends to the peer, and opens what the peer sent to it alone, under the key of its session, so
+/// under this one.
 pub fn pairwise_keys_stand()
     ensures installed { (p : Node) (tk : List ℕ) (i : Inputs) (h : List Act)
         → HoldsPairwise p tk
@@ -54,8 +55,9 @@ pub fn pairwise_keys_stand()
         → is_for_group w.node f.header ≡ false → OpensBy w h p f k }
 {}
 
-/// The current group key of an access point in use stands for what a history gains: the key made current, packet numbers used to
-/// all, and other acts. By the rules the access point sends to all under it.
+/// The current group key of an access point in use stands for what a history gains: the key made
+/// current, packet numbers used to all, and other acts. By the rules the access point sends to all
+/// under it.
 pub fn group_keys_in_use_stand()
     ensures made { (b : Mac) (key rest : List ℕ) (id : ℕ) (kept : List ℕ) (h : List Act)
         → current groups.Gtk (Installed All (Group key id b) ∷ h)

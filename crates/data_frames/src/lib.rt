@@ -1,5 +1,5 @@
-//! Protected data at a node (IEEE Std 802.11-2020, 12.5.3): the temporal keys in use, what is sent and what is taken under
-//! them, with the memory for the acts.
+//! Protected data at a node (IEEE Std 802.11-2020, 12.5.3): the temporal keys in use, what is sent
+//! and what is taken under them, with the memory for the acts.
 #![tactic(auto)]
 
 mod group;

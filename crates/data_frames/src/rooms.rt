@@ -41,7 +41,8 @@ pub fn behind_header(alloc: Global, header: &[u8], size: usize) -> Result<Vec<u8
     Ok(octets)
 }
 
-/// The form of the seal, and what the seal covers before the plain text, with room for as many octets as these.
+/// The form of the seal, and what the seal covers before the plain text, with room for as many
+/// octets as these.
 pub fn cover(alloc: Global, header: &[u8], pn: u64, plain: &[u8]) -> Result<Vec<u8>, NoMemory>
     requires header { IsHeader header.now }
     ensures items { IfOk result (λ octets. octets.items ≡ covered_front header.now pn) }

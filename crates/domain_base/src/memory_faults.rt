@@ -221,8 +221,8 @@ fn take_parts(plans: &mut Vec<LinkPlan>, node: Node) -> Option<LinkParts>
     }
 }
 
-/// An air in memory. Some of its calls of `attach` fail: those of the numbers that it was made with,
-/// from 0, and those for a node that was attached before, or for which nothing was handed in.
+/// An air in memory. Some of its calls of `attach` fail: those of the numbers that it was made
+/// with, from 0, and those for a node that was attached before, or for which nothing was handed in.
 ///
 /// A link taken back for which there is no room is dropped, and the air tells nothing from then on.
 #[derive(Drop)]

@@ -72,8 +72,8 @@ pub record Pair : Type 0 where
   pub node : Node
   pub peer : Node
 
--- acts of the node that the reply does not tell of: those right after it took the frame (a look at key holders, or what the frame
--- opens), and those right before it sends one (what it puts with key holders)
+-- acts of the node that the reply does not tell of: those right after it took the frame, of which no node has any, and those right
+-- before it sends one (what it puts with key holders)
 pub record Between : Type 0 where
   pub opened : List Act
   pub put : List Act

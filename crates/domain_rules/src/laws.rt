@@ -41,8 +41,8 @@ ghost use Rattle.domain_rules.specs.Example.{small, AreWhole, HasHandshake, HasR
 ghost use Rattle.domain_rules.specs.DataExample.{HaveOctets, Payloads, ArePayloads, HasExchange};
 ghost use Rattle.domain_rules.specs.Here.{here};
 
-/// Octets are one thing to a node at most, and so one outcome comes of them, by the history of the node and what a key holder gives
-/// alone.
+/// Octets are one thing to a node at most, and so one outcome comes of them, by the history of the
+/// node and what a key holder gives alone.
 pub fn one_reading()
     ensures reading { (akm : Akm) (octets : List ℕ) (r s : Reading) → Reads akm octets r
         → Reads akm octets s → r ≡ s }
@@ -53,9 +53,10 @@ pub fn one_reading()
         → verdict d first n h r f ≡ verdict d first n h s g }
 {}
 
-/// An event adds one group of acts to the history of a node at most, by what key holders answer where it asks one, and whatever octets
-/// read as, and at each begin of an attempt, by fast transition with suite 4, each repeat, each payload to be sent, each dropping of what
-/// there is, each revocation, and each new group key of an access point, there is one.
+/// An event adds one group of acts to the history of a node at most, by what key holders answer
+/// where it asks one, and whatever octets read as, and at each begin of an attempt, by fast
+/// transition with suite 4, each repeat, each payload to be sent, each dropping of what there is,
+/// each revocation, and each new group key of an access point, there is one.
 pub fn one_group()
     ensures one { (d : Domain) (first : ℕ) (n : Node) (h : List Act) (event : NodeEvent)
         (f g : List Act)
@@ -83,11 +84,13 @@ pub fn one_group()
         → (g : List Act) × Adds (here d first n) h Leave g }
 {}
 
-/// A node notes what a frame had sealed where the MIC of the frame, or its CCM seal, verified, and there alone. Whatever its history,
-/// a seal is noted of octets that came and read as an EAPOL-Key message with the MIC of its octets under the key of the seal, as a
-/// reassociation frame whose FTE has the MIC under it, or as protected data that opens under it. And it is noted wherever a frame with a
-/// MIC (all EAPOL-Key messages but M1, and both reassociation frames) is accepted or answered, or is refused for what its key data or its
-/// elements hold, and wherever data is accepted.
+/// A node notes what a frame had sealed where the MIC of the frame, or its CCM seal, verified, and
+/// there alone. Whatever its history, a seal is noted of octets that came and read as an EAPOL-Key
+/// message with the MIC of its octets under the key of the seal, as a reassociation frame whose FTE
+/// has the MIC under it, or as protected data that opens under it. And it is noted wherever a frame
+/// with a MIC (all EAPOL-Key messages but M1, and both reassociation frames) is accepted or
+/// answered, or is refused for what its key data or its elements hold, and wherever data is
+/// accepted.
 pub fn seals_are_verified()
     ensures verified { (d : Domain) (first : ℕ) (n : Node) (h : List Act) (event : NodeEvent)
         (g : List Act)
@@ -110,8 +113,8 @@ pub fn seals_are_verified()
         → (s : Seal) × In (Took (peer_of d n header.a2) octets Data Accepted (Some s)) g }
 {}
 
-/// A frame that is refused moves no receive counter, whatever its packet number: so no frame that was made without the key keeps
-/// a node from taking those that come after it.
+/// A frame that is refused moves no receive counter, whatever its packet number: so no frame that
+/// was made without the key keeps a node from taking those that come after it.
 pub fn refusals_move_no_counter()
     ensures pairwise { (d : Domain) (first : ℕ) (n : Node) (h : List Act) (octets : List ℕ)
         (why : Reason) (g : List Act)
@@ -131,25 +134,29 @@ pub fn one_journal()
         → Explained d rounds k → answers_in j ≡ answers_in k → j ≡ k }
 {}
 
-/// Where each look of a journal is answered by what the holder that is asked has at some moment of the round, and at the own access
-/// point just then, and with the right key, the key holders answered rightly.
+/// Where each look of a journal is answered by what the holder that is asked has at some moment of
+/// the round, and at the own access point just then, and with the right key, the key holders
+/// answered rightly.
 pub fn looks_are_right()
     ensures { (d : Domain) (j : List Entry) → AnsweredInTime d j → HeldRight d j }
 {}
 
-/// A session ends only as its station connects anew, takes a reassociation response whose MIC verified, or is told to leave, or as its
-/// access point accepts an M4 of a new attempt or a reassociation request, whose MIC verified, gives it up after four sends of G1 that
-/// brought no answer, or is told to drop what it has with the station: so no frame that was made without the key ends one.
+/// A session ends only as its station connects anew, takes a reassociation response whose MIC
+/// verified, or is told to leave, or as its access point accepts an M4 of a new attempt or a
+/// reassociation request, whose MIC verified, gives it up after four sends of G1 that brought no
+/// answer, or is told to drop what it has with the station: so no frame that was made without the
+/// key ends one.
 pub fn sessions_end_by_a_key()
     ensures { (d : Domain) (first : ℕ) (n : Node) (h : List Act) (event : NodeEvent) (g : List Act)
         (p : Node)
         → Adds (here d first n) h event g → In (Closed p Session) g → EndsRightly d event g p }
 {}
 
-/// The definitions are not about nothing: by them, in every network in form with suite 2 or 6, any station asks any access
-/// point for association, both end the four-way handshake with one pairwise key of the same inputs installed, and the
-/// station with the access point's group key, also where M3 is sent once more and answered once more; and both then begin a
-/// second attempt, each with a new nonce. And there are such networks.
+/// The definitions are not about nothing: by them, in every network in form with suite 2 or 6, any
+/// station asks any access point for association, both end the four-way handshake with one pairwise
+/// key of the same inputs installed, and the station with the access point's group key, also where
+/// M3 is sent once more and answered once more; and both then begin a second attempt, each with a
+/// new nonce. And there are such networks.
 pub fn handshake_is_explained()
     ensures whole { (d : Domain) (a s : ℕ) → InForm d → AreWhole d → d.akm ≢ FtPsk
         → a < length d.aps → s < length d.stas
@@ -158,18 +165,19 @@ pub fn handshake_is_explained()
         → InForm (small akm seed ssid psk) × AreWhole (small akm seed ssid psk) }
 {}
 
-/// Nor is the group key handshake: after such a handshake the access point, where the group keys that it draws differ, draws a new
-/// one, the station installs it by G1 and answers with G2, by which it becomes current; and as the station associates anew, it
-/// resumes that key.
+/// Nor is the group key handshake: after such a handshake the access point, where the group keys
+/// that it draws differ, draws a new one, the station installs it by G1 and answers with G2, by
+/// which it becomes current; and as the station associates anew, it resumes that key.
 pub fn renewal_is_explained()
     ensures { (d : Domain) (a s : ℕ) → InForm d → AreWhole d → d.akm ≢ FtPsk → a < length d.aps
         → s < length d.stas
         → gtk d (Ap a) 2 ≢ gtk d (Ap a) 0 → HasRenewal d a s }
 {}
 
-/// Nor is protected data: after such a handshake, in every such network whose addresses are octets, payloads of a station, of its
-/// access point for the station, and of the access point for all are each sent under the first packet number of their key and
-/// handed up with it; and a frame that comes once more is refused as replayed.
+/// Nor is protected data: after such a handshake, in every such network whose addresses are octets,
+/// payloads of a station, of its access point for the station, and of the access point for all are
+/// each sent under the first packet number of their key and handed up with it; and a frame that
+/// comes once more is refused as replayed.
 pub fn exchange_is_explained()
     ensures whole { (d : Domain) (a s : ℕ) (p : Payloads) → InForm d → AreWhole d → HaveOctets d
         → d.akm ≢ FtPsk → a < length d.aps → s < length d.stas → ArePayloads p

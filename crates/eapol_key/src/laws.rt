@@ -61,8 +61,8 @@ pub fn sealed_verifies()
         → mic akm kck (sealed akm kck frame) ≡ mic akm kck frame }
 {}
 
-/// Sixteen octets in its MIC field make a frame the one of the same fields with that MIC: this is what
-/// sealing does, and taking the MIC as zero.
+/// Sixteen octets in its MIC field make a frame the one of the same fields with that MIC: this is
+/// what sealing does, and taking the MIC as zero.
 pub fn mic_alone_changes()
     ensures { (octets code : List ℕ) (f : KeyFields) (used : ℕ)
         → SpellsKeyFrame octets f used → length code ≡ 16

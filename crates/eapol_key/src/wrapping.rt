@@ -50,8 +50,8 @@ pub fn close_key_data(kek: &[u8; 16], plain: &[u8], out: &mut [u8]) -> usize
 }
 
 /// Writes the key data that is wrapped to the input under a KEK into the front of `out`, with its
-/// padding, and gives the number of its octets (IEEE Std 802.11-2020, 12.7.2; RFC 3394). What stands
-/// there after a refusal is of no use. Takes no memory.
+/// padding, and gives the number of its octets (IEEE Std 802.11-2020, 12.7.2; RFC 3394). What
+/// stands there after a refusal is of no use. Takes no memory.
 pub fn open_key_data(kek: &[u8; 16], wrapped: &[u8], out: &mut [u8]) -> Result<usize, BadWrap>
     requires room { length wrapped.now - 8 ≤ length out.old }
     ensures end { IfOk result (λ end. end + 8 ≡ length wrapped.now) }

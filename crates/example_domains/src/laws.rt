@@ -1,8 +1,10 @@
-//! Laws that inhabit the definitions of fast transition. The functions do nothing; their contracts are proved.
+//! Laws that inhabit the definitions of fast transition. The functions do nothing; their contracts
+//! are proved.
 //!
-//! Each has the same premises: a network in form with suite 4 whose addresses have six octets and whose mobility domain has two, all
-//! of octets, as its R0KH-IDs are; two of its access points, and a station. The journal of each goes on from that of the one before,
-//! and in each key holders answer rightly.
+//! Each has the same premises: a network in form with suite 4 whose addresses have six octets and
+//! whose mobility domain has two, all of octets, as its R0KH-IDs are; two of its access points, and
+//! a station. The journal of each goes on from that of the one before, and in each key holders
+//! answer rightly.
 
 ghost use Rattle.std.specs.Prelude.{◌≡◌, ℕ, List, length};
 ghost use Rattle.domain_base.specs.Octets.{AreOctets};
@@ -13,9 +15,10 @@ ghost use Rattle.example_domains.specs.Roaming.{CanRoam, HasAssociation, HasRoam
 
 use domain_rules::looks_are_right;
 
-/// The definitions of fast transition are not about nothing: the station asks an access point for association (IEEE Std 802.11-2020,
-/// 13.4.2), both end the four-way handshake with one pairwise key of the same inputs installed, and the station with the access
-/// point's group key, and the access point puts the station's PMK-R0 with its key holder. And there are such networks.
+/// The definitions of fast transition are not about nothing: the station asks an access point for
+/// association (IEEE Std 802.11-2020, 13.4.2), both end the four-way handshake with one pairwise
+/// key of the same inputs installed, and the station with the access point's group key, and the
+/// access point puts the station's PMK-R0 with its key holder. And there are such networks.
 pub fn association_is_explained()
     ensures whole { (d : Domain) (k l m : ℕ) → CanRoam d k l m → HasAssociation d k m }
     ensures network { (seed ssid psk mdid : List ℕ) → IsSsid ssid → length mdid ≡ 2
@@ -24,17 +27,18 @@ pub fn association_is_explained()
     looks_are_right();
 }
 
-/// Then it roams to the other access point over the air (13.5.2), which looks its key up with the holder of the first and is given its
-/// PMK-R1: both install one pairwise key of it, of the nonces of the fast transition, and the station the other access point's group
-/// key, as it leaves its first session. The reassociation request comes once more, and is answered with the same octets.
+/// Then it roams to the other access point over the air (13.5.2), which looks its key up with the
+/// holder of the first and is given its PMK-R1: both install one pairwise key of it, of the nonces
+/// of the fast transition, and the station the other access point's group key, as it leaves its
+/// first session. The reassociation request comes once more, and is answered with the same octets.
 pub fn roaming_is_explained()
     ensures { (d : Domain) (k l m : ℕ) → CanRoam d k l m → HasRoaming d k l m }
 {
     looks_are_right();
 }
 
-/// Then a payload of the station and one of the other access point for it are each sent under the first packet number of that key and
-/// handed up with it.
+/// Then a payload of the station and one of the other access point for it are each sent under the
+/// first packet number of that key and handed up with it.
 pub fn service_is_explained()
     ensures { (d : Domain) (k l m : ℕ) (up down : List ℕ) → CanRoam d k l m → IsPayload up
         → IsPayload down → HasService d k l m up down }
@@ -42,8 +46,9 @@ pub fn service_is_explained()
     looks_are_right();
 }
 
-/// Then it roams back to the first access point, whose own holder has its key: both install a new pairwise key in place of the one of
-/// the association, and the station resumes the group key that it has of that access point.
+/// Then it roams back to the first access point, whose own holder has its key: both install a new
+/// pairwise key in place of the one of the association, and the station resumes the group key that
+/// it has of that access point.
 pub fn return_is_explained()
     ensures { (d : Domain) (k l m : ℕ) (up down : List ℕ) → CanRoam d k l m → IsPayload up
         → IsPayload down → HasReturn d k l m up down }
@@ -51,8 +56,8 @@ pub fn return_is_explained()
     looks_are_right();
 }
 
-/// Then the first access point revokes the key: where the station roams to the other one again, the look finds none, and the request
-/// is refused with status 53, an invalid PMKID (9.4.1.9).
+/// Then the first access point revokes the key: where the station roams to the other one again, the
+/// look finds none, and the request is refused with status 53, an invalid PMKID (9.4.1.9).
 pub fn revocation_is_explained()
     ensures { (d : Domain) (k l m : ℕ) (up down : List ℕ) → CanRoam d k l m → IsPayload up
         → IsPayload down → HasRevocation d k l m up down }

@@ -12,7 +12,8 @@ use std::marker::Model;
 // The octets of an RSNE without a PMKID list.
 const RSNE_LEN: usize = 22;
 
-// The octets of an element at most: its id, its length, and 255 more (IEEE Std 802.11-2020, 9.4.2.1).
+// The octets of an element at most: its id, its length, and 255 more (IEEE Std 802.11-2020,
+// 9.4.2.1).
 const MOST_ELEMENT: usize = 257;
 
 /// The octets of the key data of message 2 at most: an RSNE with one PMKID, an MDE and an FTE.
@@ -21,8 +22,8 @@ pub const MOST_M2_DATA: usize = 40 + 5 + MOST_ELEMENT;
 // The octets of an RSNE with one PMKID, an MDE and a GTK KDE.
 const MOST_FRONT: usize = 40 + 5 + 24;
 
-/// The octets of the key data of message 3 at most, before padding: of message 2, a GTK KDE, and two
-/// timeout intervals.
+/// The octets of the key data of message 3 at most, before padding: of message 2, a GTK KDE, and
+/// two timeout intervals.
 pub const MOST_M3_DATA: usize = MOST_M2_DATA + 24 + 14;
 
 /// What suite 4 adds to the key data of messages 2 and 3 (IEEE Std 802.11-2020, 13.4.2).
@@ -49,8 +50,8 @@ impl Model for Mobility {
 }
 
 impl Mobility {
-    /// Of PMKR1Name, the mobility domain, and the FTE of the association response, whole: at most 257
-    /// octets.
+    /// Of PMKR1Name, the mobility domain, and the FTE of the association response, whole: at most
+    /// 257 octets.
     pub fn of(name: &[u8; 16], mdid: [u8; 2], fte: &[u8]) -> Self
         requires { length fte.now ≤ 257 }
         ensures { result ≡ record { name = name.now; mdid = mdid; fte = fte.now } }
@@ -124,8 +125,8 @@ pub(crate) fn gtk_kde(id: u8, key: &[u8; 16]) -> [u8; 24]
     out
 }
 
-// The deadline of a reassociation and the lifetime of the key (IEEE Std 802.11-2020, 9.4.2.48): written,
-// and looked at by none.
+// The deadline of a reassociation and the lifetime of the key (IEEE Std 802.11-2020, 9.4.2.48):
+// written, and looked at by none.
 fn timeouts() -> [u8; 14]
     ensures { result ≡ timeouts }
 {
@@ -151,8 +152,8 @@ fn mobile_m2_data(akm: Akm, mobility: &Mobility) -> ShortOctets<MOST_M2_DATA>
     ShortOctets::of(octets)
 }
 
-/// The key data of message 2 (IEEE Std 802.11-2020, 12.7.6.3 and 13.4.2): the RSNE; with suite 4 with
-/// PMKR1Name, the MDE, and the FTE of the association response.
+/// The key data of message 2 (IEEE Std 802.11-2020, 12.7.6.3 and 13.4.2): the RSNE; with suite 4
+/// with PMKR1Name, the MDE, and the FTE of the association response.
 pub fn m2_key_data(akm: Akm, mobility: &Option<Mobility>) -> ShortOctets<MOST_M2_DATA>
     ensures octets { result ≡ m2_data akm mobility.now }
     ensures some { 0 < length result }
@@ -214,9 +215,9 @@ fn mobile_m3_data(
     ShortOctets::of(octets)
 }
 
-/// The key data of message 3 with a group key, before padding and wrap (IEEE Std 802.11-2020, 12.7.6.4
-/// and 13.4.2): the RSNE and the group key; with suite 4 the RSNE with PMKR1Name, the MDE, the group
-/// key, the FTE of the association response, and both timeout intervals.
+/// The key data of message 3 with a group key, before padding and wrap (IEEE Std 802.11-2020,
+/// 12.7.6.4 and 13.4.2): the RSNE and the group key; with suite 4 the RSNE with PMKR1Name, the MDE,
+/// the group key, the FTE of the association response, and both timeout intervals.
 pub fn m3_key_data(
     akm: Akm,
     mobility: &Option<Mobility>,

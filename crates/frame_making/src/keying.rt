@@ -77,8 +77,8 @@ pub(crate) struct Third {
     pub(crate) rsc: u64,
 }
 
-/// Message 3 with that key data, which comes under its wrap, at the front of `out`, and how many octets
-/// it takes (IEEE Std 802.11-2020, 12.7.6.4).
+/// Message 3 with that key data, which comes under its wrap, at the front of `out`, and how many
+/// octets it takes (IEEE Std 802.11-2020, 12.7.6.4).
 pub(crate) fn put_m3(
     akm: Akm,
     key: &Ptk,

@@ -32,8 +32,8 @@ const REQUEST_FRONT: usize = 28;
 
 const RESPONSE_FRONT: usize = 30;
 
-// The most octets that the elements of an association request take with suites 2 and 6, with suite 4,
-// those of the FTE of a response, and those of a response.
+// The most octets that the elements of an association request take with suites 2 and 6, with suite
+// 4, those of the FTE of a response, and those of a response.
 const MOST_PLAIN_ELEMENTS: usize = 62;
 
 const MOST_ELEMENTS: usize = MOST_PLAIN_ELEMENTS + 5;
@@ -63,8 +63,8 @@ fn rates() -> [u8; 6]
     out
 }
 
-// Writes the elements of an association request with suites 2 and 6 to the front of `out`, and answers
-// how many octets they take.
+// Writes the elements of an association request with suites 2 and 6 to the front of `out`, and
+// answers how many octets they take.
 fn put_plain_elements(domain: &Domain, out: &mut [u8]) -> usize
     requires ssid { IsSsid domain.now.ssid }
     requires room { MOST_ELEMENTS ≤ length out.old }
@@ -154,8 +154,8 @@ pub fn association_fte(domain: &Domain, ap: u16) -> ShortOctets<MOST_FTE>
     ShortOctets::of(octets)
 }
 
-// Writes the elements of an association response with suite 4 to the front of `out`, and answers how many
-// octets they take.
+// Writes the elements of an association response with suite 4 to the front of `out`, and answers
+// how many octets they take.
 #[tactic(auto, using(crate::proofs::Elements::mobility_answered))]
 fn put_response_mobility(domain: &Domain, ap: u16, out: &mut [u8]) -> usize
     requires form { InForm domain.now }
@@ -171,8 +171,8 @@ fn put_response_mobility(domain: &Domain, ap: u16, out: &mut [u8]) -> usize
     put(out, at, fte.as_slice())
 }
 
-// Writes the elements of an association response of that access point to the front of `out`, and answers
-// how many octets they take.
+// Writes the elements of an association response of that access point to the front of `out`, and
+// answers how many octets they take.
 #[tactic(auto, using(crate::proofs::Elements::plain_answered))]
 fn put_response_elements(domain: &Domain, ap: u16, out: &mut [u8]) -> usize
     requires form { InForm domain.now }

@@ -55,8 +55,8 @@ duplicate = Outside 8
 abbrev pub mode : Fault
 mode = Outside 9
 
--- the limits: lines of a script; octets of a line; octets of an injected frame; frames sent before the line of an event or the
--- begin of a round; access points; stations; octets of a payload; events in a round
+-- the limits: lines of a script; octets of a line; octets of an injected frame; frames sent before the line of an event, the
+-- begin of a round or a turn; access points; stations; octets of a payload; events in a round
 abbrev pub many_lines : Fault
 many_lines = Past 1
 

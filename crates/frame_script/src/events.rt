@@ -35,7 +35,7 @@ const MOST_OCTETS: usize = 2400;
 // The most octets of a payload.
 const MOST_PAYLOAD: usize = 2304;
 
-/// The most frames that are sent before an event or a round.
+/// The most frames that are sent before an event, a round or a turn.
 pub(crate) const MOST_FRAMES: usize = 65535;
 
 // The most events in a round.

@@ -117,8 +117,8 @@ fn take_later(due: Due, alloc: Global, rounds: u64, sizes: &[usize], line: &[u8]
     take_words(due, alloc, rounds, sizes, word, text)
 }
 
-/// Takes the next line in a replay, where so many rounds were asked for and frames of these sizes sent. Where
-/// it is refused the same one is due.
+/// Takes the next line in a replay, where so many rounds were asked for and frames of these sizes
+/// sent. Where it is refused the same one is due.
 pub(crate) fn take_line(due: Due, alloc: Global, rounds: u64, sizes: &[usize], line: &[u8]) -> Taken
     requires { IsKept due }
     ensures kept { IsKept result.0 }

@@ -29,9 +29,9 @@ pub enum Mode {
 pub enum LineFault {
     /// The line is outside the grammar, for that reason: 1 it is the first and not `domain 1`; 2 no
     /// such word in this place; 3 the number or form of its arguments; 4 a node that is not listed
-    /// or of the other kind; 5 a frame that was not sent; 6 a place or length outside the frame; 7 a
-    /// round that is open at the script's end; 8 an address or R0KH-ID used before; 9 a line of the
-    /// other kind of run.
+    /// or of the other kind; 5 a frame that was not sent; 6 a place or length outside the frame; 7
+    /// a round that is open at the script's end; 8 an address or R0KH-ID used before; 9 a line of
+    /// the other kind of run.
     Script(u8),
     /// It goes past that limit: 3 octets of an injected frame; 4 frames sent; 5 access points; 6
     /// stations; 7 octets of a payload; 8 events in a round.
@@ -67,7 +67,8 @@ pub enum Step {
     Round,
     /// The round ends that is open.
     End,
-    /// Nodes take the frames of their links, in a live run alone. The reader counts it as one round.
+    /// Nodes take the frames of their links, in a live run alone. The reader counts it as one
+    /// round.
     Turn,
 }
 

@@ -15,8 +15,8 @@ pub enum Refusal {
     Word,
     /// The number or form of the arguments.
     Arguments,
-    /// A node that is not listed or of the other kind, or in a round a station that takes a frame or
-    /// sends a payload.
+    /// A node that is not listed or of the other kind, or in a round a station that takes a frame
+    /// or sends a payload.
     Node,
     /// A frame that was not sent; in a round, one that was not sent before it.
     Frame,
@@ -35,7 +35,7 @@ pub enum Refusal {
     LongLine,
     /// Too many octets for a frame.
     LongFrame,
-    /// Too many frames sent before an event or a round.
+    /// Too many frames sent before an event, a round or a turn.
     ManyFrames,
     /// Too many access points.
     ManyAps,

@@ -74,8 +74,8 @@ pub fn auth_response_fault(
     response_fault(expected, elements)
 }
 
-/// Why a frame of reassociation is refused behind its MIC, if it is. A response has to carry a group
-/// key.
+/// Why a frame of reassociation is refused behind its MIC, if it is. A response has to carry a
+/// group key.
 pub fn reassociation_fault(
     expected: &Expected<'_>,
     elements: &Elements<'_>,

@@ -1,4 +1,5 @@
-//! Group keys under key wrap in the FTE of a reassociation response (IEEE Std 802.11-2020, 9.4.2.47).
+//! Group keys under key wrap in the FTE of a reassociation response (IEEE Std 802.11-2020,
+//! 9.4.2.47).
 
 ghost use Rattle.std.specs.Prelude.{◌≡◌, ◌<◌, ◌^◌, false, true, Some, None};
 ghost use Rattle.std.specs.Prelude.{length, option_map, is_some, MatchOption};

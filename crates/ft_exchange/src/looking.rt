@@ -53,7 +53,8 @@ fn unnamed(domain: &Domain, r0kh_id: &[u8]) -> Reason
     }
 }
 
-/// Asks the key holders, where the request asks for one name. What they answer comes into the reply.
+/// Asks the key holders, where the request asks for one name. What they answer comes into the
+/// reply.
 pub fn look<H: Holders>(
     place: Place,
     domain: &Domain,

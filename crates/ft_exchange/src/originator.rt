@@ -245,9 +245,9 @@ impl Originator {
     }
 
     /// Takes a reassociation response of the access point, by its status and what its elements say.
-    /// Where it is accepted the pairwise key is installed, and the group key is given to the memory,
-    /// which is of the group keys of that access point (IEEE Std 802.11-2020, 13.8.5). A refusal
-    /// changes neither the originator nor the memory.
+    /// Where it is accepted the pairwise key is installed, and the group key is given to the
+    /// memory, which is of the group keys of that access point (IEEE Std 802.11-2020, 13.8.5). A
+    /// refusal changes neither the originator nor the memory.
     pub fn on_reassoc(
         &mut self,
         status: u16,

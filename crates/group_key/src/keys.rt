@@ -76,7 +76,8 @@ impl GroupKeys {
         self.newest
     }
 
-    /// Whether the key drawn last is not in use yet: it is then the one drawn right after the key in use.
+    /// Whether the key drawn last is not in use yet: it is then the one drawn right after the key
+    /// in use.
     pub fn is_pending(&self) -> bool
         ensures pending { IsTrue result ↔ (self.now.newest.place ≡ suc self.now.current.place) }
         ensures in_use { IsFalse result ↔ (self.now.newest.place ≡ self.now.current.place) }
@@ -85,8 +86,8 @@ impl GroupKeys {
         !in_use
     }
 
-    /// One more key was drawn; it comes into use by `switch`. Refused exactly where the newest is not in use yet, and then
-    /// nothing is changed.
+    /// One more key was drawn; it comes into use by `switch`. Refused exactly where the newest is
+    /// not in use yet, and then nothing is changed.
     pub fn rekey(&mut self, next: [u8; 16]) -> Result<(), RekeyPending>
         requires { self.old.newest.place < 2 ^ 60 }
         ensures newest { MatchResult result

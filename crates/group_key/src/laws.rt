@@ -1,4 +1,5 @@
-//! What the calls do stands for what a history gains. The functions do nothing; their contracts are proved.
+//! What the calls do stands for what a history gains. The functions do nothing; their contracts are
+//! proved.
 
 ghost use Rattle.std.specs.Prelude.{◌≡◌, ℕ, ◌<◌, ◌==◌, nat_lt, if◌then◌else◌, suc, List, [], ◌∷◌, map, Option, None, Some, option_map};
 ghost use Rattle.std.specs.List.{AllByRecursion};
@@ -22,14 +23,16 @@ ghost use Rattle.group_key.specs.declared.keys.GroupKey.{GroupKey};
 ghost use Rattle.group_key.specs.Keys.{Pair, Kept, placed, kept_id, given, found, taken};
 ghost use Rattle.group_key.specs.Holds.{IsLast, Holds, LeavesGroupKeys, CarriesGroupKey, Remembers, carried, key_of, under};
 
-/// The keys of an access point stand for its history: after the first key was drawn and made current (`GroupKeys::new`),
-/// after one more was drawn (`rekey`), after the newest of the definitions was made current (`switch`), and after acts that
-/// neither draw a group key nor make one current.
+/// The keys of an access point stand for its history: after the first key was drawn and made
+/// current (`GroupKeys::new`), after one more was drawn (`rekey`), after the newest of the
+/// definitions was made current (`switch`), and after acts that neither draw a group key nor make
+/// one current.
 ///
-/// The key drawn last is the newest of the definitions, and it is in use (`is_pending` is false, `rekey` is not refused) exactly
-/// where the newest of the history is current. As many packet numbers as the history used to all were used under the newest, but
-/// none as long as it is not in use. A key drawn earlier is older where its number is less. Key ids are below 4, and a key's number
-/// is below the number of values drawn.
+/// The key drawn last is the newest of the definitions, and it is in use (`is_pending` is false,
+/// `rekey` is not refused) exactly where the newest of the history is current. As many packet
+/// numbers as the history used to all were used under the newest, but none as long as it is not in
+/// use. A key drawn earlier is older where its number is less. Key ids are below 4, and a key's
+/// number is below the number of values drawn.
 pub fn keys_stand()
     ensures started { (key : List ℕ) (h : List Act) → group_keys groups.Gtk h ≡ key ∷ []
         → switches groups.Gtk h ≡ key ∷ []
@@ -59,13 +62,15 @@ pub fn keys_stand()
         → k.place < draws h }
 {}
 
-/// The memory of a station stands for its history: at first, after a group key was given (`give`) with what was told of it as
-/// its RSC, after the payload of a packet number above the counter of the key found (`find`) was handed up and that number was
-/// taken (`take`), and after any act that installs no group key of that access point and changes no receive counter.
+/// The memory of a station stands for its history: at first, after a group key was given (`give`)
+/// with what was told of it as its RSC, after the payload of a packet number above the counter of
+/// the key found (`find`) was handed up and that number was taken (`take`), and after any act that
+/// installs no group key of that access point and changes no receive counter.
 ///
-/// A key is found in it as the definitions find it (`id_of`), and the counter that `find` gives is that of the history. Which
-/// keys it holds depends on what was given alone, whatever numbers come with it. An M3 and a G1 tell the number in their RSC
-/// field as they are accepted, and a reassociation response in the GTK subelement of its FTE.
+/// A key is found in it as the definitions find it (`id_of`), and the counter that `find` gives is
+/// that of the history. Which keys it holds depends on what was given alone, whatever numbers come
+/// with it. An M3 and a G1 tell the number in their RSC field as they are accepted, and a
+/// reassociation response in the GTK subelement of its FTE.
 pub fn memory_stands()
     ensures started { (p : Node) → Remembers p [] [] }
     ensures given { (p : Node) (b : Mac) (g : Carried) (rsc : ℕ) (ks : List Kept) (h : List Act)

@@ -22,8 +22,8 @@ struct Remembered {
     counter: u64,
 }
 
-/// The last two group keys that a station installed from one access point, each with its receive counter. Contracts see them
-/// as a list, the later first.
+/// The last two group keys that a station installed from one access point, each with its receive
+/// counter. Contracts see them as a list, the later first.
 #[derive(Drop)]
 pub struct GroupMemory {
     later: Option<Remembered>,
@@ -82,8 +82,9 @@ impl GroupMemory {
         None
     }
 
-    /// A key was given, with its RSC. A key that is kept goes on under the key id that it was installed with, its counter no
-    /// less than the RSC; a new one is kept with the RSC as its counter, and the earlier of two is forgotten.
+    /// A key was given, with its RSC. A key that is kept goes on under the key id that it was
+    /// installed with, its counter no less than the RSC; a new one is kept with the RSC as its
+    /// counter, and the earlier of two is forgotten.
     pub fn give(&mut self, key: &[u8; 16], id: u8, rsc: u64) -> Given
         ensures memory { self.new ≡ given key.now id rsc self.old }
         ensures what { result
@@ -129,7 +130,8 @@ impl GroupMemory {
         None
     }
 
-    /// Puts the counter of the key that `find` gives for that id to a greater number. Nothing is done where it gives none.
+    /// Puts the counter of the key that `find` gives for that id to a greater number. Nothing is
+    /// done where it gives none.
     pub fn take(&mut self, id: u8, number: u64)
         requires { IfSome (found id self.old) (λ k. k.counter < number) }
         ensures { self.new ≡ taken id number self.old }

@@ -35,8 +35,8 @@ pub fn acts_that_leave_rows()
         → KnowsRows d n xs h → KnowsRows d n xs (add g h) }
 {}
 
-/// What a key holder answers where the PMK-R0 of a listed station is put is what the history says, and the rows are those of
-/// the history still.
+/// What a key holder answers where the PMK-R0 of a listed station is put is what the history says,
+/// and the rows are those of the history still.
 pub fn put_is_told()
     ensures answer { (d : Domain) (n : Node) (xs : List HeldRow) (h : List Act) (name : List ℕ)
         → KnowsRows d n xs h → put_by name xs ≡ put_answer (row name h) (rows h) }
@@ -47,7 +47,8 @@ pub fn put_is_told()
         (Put id name (Sta k) answer ∷ h) }
 {}
 
-/// What a key holder answers where a row is revoked is what the history says, and the rows are those of the history still.
+/// What a key holder answers where a row is revoked is what the history says, and the rows are
+/// those of the history still.
 pub fn revocation_is_told()
     ensures answer { (d : Domain) (n : Node) (xs : List HeldRow) (h : List Act) (name : List ℕ)
         → KnowsRows d n xs h → revoke_by name xs ≡ revoke_answer (row name h) }
@@ -56,8 +57,9 @@ pub fn revocation_is_told()
         → KnowsRows d n (after_revoke name answer xs) (Revoked id name p answer ∷ h) }
 {}
 
-/// What a pull answers by the rows of an access point is right just then, where they are those of its history: a row is found
-/// exactly where one stands, and the PMK-R1 is that of its station, its R0KH and the access point that asks.
+/// What a pull answers by the rows of an access point is right just then, where they are those of
+/// its history: a row is found exactly where one stands, and the PMK-R1 is that of its station, its
+/// R0KH and the access point that asks.
 pub fn answers_are_right()
     ensures by_rows { (d : Domain) (n : Node) (xs : List HeldRow) (past : List Entry) (l : Looking)
         (k : ℕ) (answer : PullAnswer) → k < length d.stas → l.sta ≡ Sta k

@@ -12,8 +12,8 @@ use std::thread::{Threads, join};
 
 const R1KH: Mac = Mac([0x02, 0x00, 0x00, 0x00, 0x01, 0x00]);
 
-// Asks the access points by turns, and each for one of its rows after the other. Answers an octet of
-// the key and its name, where one is found: by a load of the row's state word in this call.
+// Asks the access points by turns, and each for one of its rows after the other. Answers an octet
+// of the key and its name, where one is found: by a load of the row's state word in this call.
 fn pull(
     holders: &SharedHolders,
     pass: &mut HolderPass,

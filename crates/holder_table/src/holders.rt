@@ -50,8 +50,8 @@ impl Model for HolderPass {
 }
 
 impl SharedHolders {
-    /// The holders of the access points with these R0KH-IDs, in order, with no row, and the pass that
-    /// has them all.
+    /// The holders of the access points with these R0KH-IDs, in order, with no row, and the pass
+    /// that has them all.
     pub fn start(alloc: Global, aps: Vec<Octets>) -> Result<(SharedHolders, HolderPass), NoMemory>
         requires { length aps.items ≤ 65536 }
         ensures { IfOk result (λ r.
@@ -86,8 +86,8 @@ impl SharedHolders {
         self.ids.iter().position(|id| id.as_slice() == r0kh_id)
     }
 
-    /// Asks the access point of an R0KH-ID, which the pass need not have, for the PMK-R1 that its live row
-    /// of a PMKR0Name and a station makes for an R1 key holder. Takes no memory.
+    /// Asks the access point of an R0KH-ID, which the pass need not have, for the PMK-R1 that its
+    /// live row of a PMKR0Name and a station makes for an R1 key holder. Takes no memory.
     pub fn pull(
         &self,
         pass: &mut HolderPass,

@@ -1,8 +1,8 @@
 //! The report of a run: the lines of its journal, and their summary.
 //!
-//! A report has a line for each printed act, in the order of the journal, and three lines of summary
-//! behind them. Each line is of words with a space between them, and ends with a line feed. Nothing
-//! of it takes memory.
+//! A report has a line for each printed act, in the order of the journal, and three lines of
+//! summary behind them. Each line is of words with a space between them, and ends with a line feed.
+//! Nothing of it takes memory.
 #![tactic(auto)]
 
 mod layout;

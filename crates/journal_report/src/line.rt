@@ -20,8 +20,8 @@ pub const LINE_ROOM: usize = 128;
 /// Room that is enough for the line of a payload handed up, as far as the payload.
 pub(crate) const UP_HEAD_ROOM: usize = 90;
 
-/// Whether the entry's line fits in so many octets for sure: it needs two for each octet of a payload
-/// that is handed up, and `LINE_ROOM` at most for all the rest.
+/// Whether the entry's line fits in so many octets for sure: it needs two for each octet of a
+/// payload that is handed up, and `LINE_ROOM` at most for all the rest.
 pub fn line_fits(entry: &Entry, room: usize) -> bool
     ensures { IsTrue result ↔ (room_of entry.now ≤ room) }
 {

@@ -16,8 +16,8 @@ const PIECE: usize = 448;
 // Room for a line with so long a payload.
 const BUFFER: usize = LINE_ROOM + 2 * PIECE;
 
-/// Writes the lines of the entries in order, each as [`line_of`] has it. Takes no memory: a line goes
-/// out at once, or in pieces where its payload is long.
+/// Writes the lines of the entries in order, each as [`line_of`] has it. Takes no memory: a line
+/// goes out at once, or in pieces where its payload is long.
 ///
 /// Where the sink fails, a part of the lines has gone out.
 pub fn write_lines<K: Sink>(entries: &[Entry], sink: &mut K) -> Result<(), Failed>

@@ -64,9 +64,9 @@ fn count_acts(entries: &[Entry]) -> Counts
     counts
 }
 
-/// Writes the summary of a journal with these entries, oldest first, to the front of `out`: how many
-/// frames were sent and what came of those taken, how many keys were installed, resumed and used,
-/// and which premises of safety hold. Answers its length. What stands behind it stays.
+/// Writes the summary of a journal with these entries, oldest first, to the front of `out`: how
+/// many frames were sent and what came of those taken, how many keys were installed, resumed and
+/// used, and which premises of safety hold. Answers its length. What stands behind it stays.
 pub fn summary_of(entries: &[Entry], premises: Premises, out: &mut [u8]) -> usize
     requires { SUMMARY_ROOM ≤ length out.old }
     ensures count { result ≡ length (summary (reverse entries.now) premises) }

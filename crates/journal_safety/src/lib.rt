@@ -1,14 +1,15 @@
-//! The safety theorem: what the definitions of nodes and the premises of a run give, one function for each part of it. The
-//! functions do nothing; their contracts are proved.
+//! The safety theorem: what the definitions of nodes and the premises of a run give, one function
+//! for each part of it. The functions do nothing; their contracts are proved.
 //!
-//! The premises of each are the same. Listed nodes have addresses of one node each, which differ; the definitions explain the
-//! journal; the values drawn are fresh; derived keys do not collide; and whatever verified was sealed by a holder of its key. With
-//! suite 4, what the network puts into frames of fast transition is of octets and of the sizes of their fields, and key holders
-//! answered rightly. Each part holds for any number of stations and access points, whatever frames come in whatever order, and
-//! however stations roam.
+//! The premises of each are the same. Listed nodes have addresses of one node each, which differ;
+//! the definitions explain the journal; the values drawn are fresh; derived keys do not collide;
+//! and whatever verified was sealed by a holder of its key. With suite 4, what the network puts
+//! into frames of fast transition is of octets and of the sizes of their fields, and key holders
+//! answered rightly. Each part holds for any number of stations and access points, whatever frames
+//! come in whatever order, and however stations roam.
 //!
-//! That addresses differ is needed: where two stations have one address, an access point that ends a handshake with the second
-//! of them takes it for the first.
+//! That addresses differ is needed: where two stations have one address, an access point that ends
+//! a handshake with the second of them takes it for the first.
 #![tactic(auto)]
 
 ghost use Rattle.std.specs.Prelude.{◌≡◌, List};
@@ -24,7 +25,8 @@ ghost use Rattle.domain_rules.specs.HeldRight.{HeldRight};
 ghost use Rattle.domain_rules.specs.InOctets.{InOctets};
 ghost use Rattle.journal_safety.specs.NeverBack.{NeverBack};
 
-/// An accepted final message joins equal derivations: whoever accepts one has the inputs of a derivation that its peer made before.
+/// An accepted final message joins equal derivations: whoever accepts one has the inputs of a
+/// derivation that its peer made before.
 pub fn joins()
     ensures { (d : Domain) (rounds : List (List Event)) (j : List Entry)
         → (d.akm ≡ FtPsk → InOctets d) → (d.akm ≡ FtPsk → HeldRight d j)
@@ -38,8 +40,9 @@ pub fn installs_once()
         → Explained d rounds j → Fresh j → NoCollision j → Unforged j → InstalledOnce j }
 {}
 
-/// The group keys that a station takes from one access point never go back in the order of drawing, over all its associations and
-/// whatever is repeated or comes late. So it is enough that it remembers the last of them.
+/// The group keys that a station takes from one access point never go back in the order of drawing,
+/// over all its associations and whatever is repeated or comes late. So it is enough that it
+/// remembers the last of them.
 pub fn keys_never_go_back()
     ensures { (d : Domain) (rounds : List (List Event)) (j : List Entry)
         → (d.akm ≡ FtPsk → InOctets d) → (d.akm ≡ FtPsk → HeldRight d j)
@@ -53,7 +56,8 @@ pub fn uses_once()
         → IsNamed d → Explained d rounds j → Fresh j → NoCollision j → Unforged j → Once use_of j }
 {}
 
-/// What a node hands up its peer used before, with that key, packet number and octets, and it hands it up once.
+/// What a node hands up its peer used before, with that key, packet number and octets, and it hands
+/// it up once.
 pub fn hands_up_once()
     ensures sourced { (d : Domain) (rounds : List (List Event)) (j : List Entry)
         → (d.akm ≡ FtPsk → InOctets d) → (d.akm ≡ FtPsk → HeldRight d j)

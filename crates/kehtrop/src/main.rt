@@ -1,5 +1,5 @@
-//! Runs a script of a domain of access points and stations from standard input, with frames in memory or
-//! on sockets of this machine, and prints what happened.
+//! Runs a script of a domain of access points and stations from standard input, with frames in
+//! memory or on sockets of this machine, and prints what happened.
 #![tactic(auto)]
 
 use domain_cli::{Status, command, exit_number};

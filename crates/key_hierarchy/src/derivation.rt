@@ -11,8 +11,8 @@ use crate::pairwise::pairwise_ptk;
 use domain_base::Akm;
 use mac_prf::pbkdf2;
 
-/// The pre-shared key of a passphrase, of 8 to 63 octets with codes 32 to 126, and an SSID of 1 to 32
-/// octets (IEEE Std 802.11-2020, J.4). Takes no memory.
+/// The pre-shared key of a passphrase, of 8 to 63 octets with codes 32 to 126, and an SSID of 1 to
+/// 32 octets (IEEE Std 802.11-2020, J.4). Takes no memory.
 pub fn psk_of(passphrase: &[u8], ssid: &[u8]) -> [u8; 32]
     ensures { result ≡ pbkdf2 passphrase.now ssid.now }
 {

@@ -71,8 +71,9 @@ fn put_r0_context(
 }
 
 impl PmkR0 {
-    /// The PMK-R0 of a pre-shared key, an SSID of 1 to 32 octets, a mobility domain, an R0 key holder
-    /// by its id of 1 to 48 octets, and a station (IEEE Std 802.11-2020, 12.7.1.6.3). Takes no memory.
+    /// The PMK-R0 of a pre-shared key, an SSID of 1 to 32 octets, a mobility domain, an R0 key
+    /// holder by its id of 1 to 48 octets, and a station (IEEE Std 802.11-2020, 12.7.1.6.3). Takes
+    /// no memory.
     pub fn derive(psk: &[u8; 32], ssid: &[u8], mdid: [u8; 2], r0kh_id: &[u8], sta: Mac) -> PmkR0
         requires ssid { IsSsid ssid.now }
         requires r0kh_id { IsR0khId r0kh_id.now }
@@ -130,8 +131,8 @@ fn r1_name(r0_name: &[u8; 16], r1kh: Mac, sta: Mac) -> [u8; 16]
 }
 
 impl PmkR1 {
-    /// The PMK-R1 that a PMK-R0, by its octets and its name, makes for an R1 key holder and the station
-    /// (IEEE Std 802.11-2020, 12.7.1.6.4). Takes no memory.
+    /// The PMK-R1 that a PMK-R0, by its octets and its name, makes for an R1 key holder and the
+    /// station (IEEE Std 802.11-2020, 12.7.1.6.4). Takes no memory.
     pub fn of(pmk_r0: &[u8; 32], pmk_r0_name: &[u8; 16], r1kh: Mac, sta: Mac) -> PmkR1
         ensures { result ≡ pmk_r1_of pmk_r0.now pmk_r0_name.now r1kh sta }
     {

@@ -34,7 +34,8 @@ pub struct HeldRow {
 
 impl HolderRow {
     /// The row of a pre-shared key, an SSID of 1 to 32 octets, a mobility domain, an R0 key holder
-    /// by its id of 1 to 48 octets, and a station (IEEE Std 802.11-2020, 12.7.1.6.3). Takes no memory.
+    /// by its id of 1 to 48 octets, and a station (IEEE Std 802.11-2020, 12.7.1.6.3). Takes no
+    /// memory.
     pub fn derive(psk: &[u8; 32], ssid: &[u8], mdid: [u8; 2], r0kh_id: &[u8], sta: Mac) -> HolderRow
         requires ssid { IsSsid ssid.now }
         requires r0kh_id { IsR0khId r0kh_id.now }

@@ -19,8 +19,8 @@ const INITIAL_VALUE: [u8; 8] = [0xa6; 8];
 // The length of the shortest input that can be unwrapped: A and two blocks.
 const SHORTEST: usize = 24;
 
-/// Wraps a plain text of whole blocks of 8 octets, at least two of them, into the front of `out`, and
-/// gives the number of octets written (RFC 3394, 2.2.1).
+/// Wraps a plain text of whole blocks of 8 octets, at least two of them, into the front of `out`,
+/// and gives the number of octets written (RFC 3394, 2.2.1).
 pub fn wrap(kek: &[u8; 16], plain: &[u8], out: &mut [u8]) -> usize
     requires whole_blocks { length plain.now % 8 ≡ 0 }
     requires two_blocks { 16 ≤ length plain.now }
@@ -49,8 +49,8 @@ pub fn wrap_in_place(kek: &[u8; 16], octets: &mut [u8])
     octets[..8].copy_from_slice(&check);
 }
 
-/// Writes the plain text that is wrapped to the input into the front of `out`, and gives the number of
-/// its octets (RFC 3394, 2.2.2). What stands there after a refusal is of no use.
+/// Writes the plain text that is wrapped to the input into the front of `out`, and gives the number
+/// of its octets (RFC 3394, 2.2.2). What stands there after a refusal is of no use.
 pub fn unwrap(kek: &[u8; 16], wrapped: &[u8], out: &mut [u8]) -> Result<usize, BadWrap>
     requires room { length wrapped.now - 8 ≤ length out.old }
     ensures end { IfOk result (λ end. end + 8 ≡ length wrapped.now) }

@@ -121,8 +121,8 @@ pub struct UdpAir<'a, R: Net + Drop> {
 }
 
 impl<'a, R: Net + Drop> UdpAir<'a, R> {
-    /// The air from that port on, by a handle of the network, as `&rt`. The count is to be 0, and is
-    /// this air's alone.
+    /// The air from that port on, by a handle of the network, as `&rt`. The count is to be 0, and
+    /// is this air's alone.
     pub fn new(net: R, first_port: u16, access_points: &'a Cell<u16>) -> Self
         ensures { ⟦<UdpAir<'a, R> as Air>⟧.faults result ≡ 0 }
     {

@@ -56,9 +56,9 @@ fn mic_cmac(kck: &[u8; 16], frame: &[u8]) -> [u8; 16]
     cmac.finalize()
 }
 
-/// The MIC of an EAPOL-Key frame by its AKM and KCK, over the whole frame of at least 99 octets with
-/// zeros in its MIC field, octets 81 to 96, whatever stands there (IEEE Std 802.11-2020, 12.7.2,
-/// 12.7.3). Takes no memory.
+/// The MIC of an EAPOL-Key frame by its AKM and KCK, over the whole frame of at least 99 octets
+/// with zeros in its MIC field, octets 81 to 96, whatever stands there (IEEE Std 802.11-2020,
+/// 12.7.2, 12.7.3). Takes no memory.
 pub fn mic(akm: Akm, kck: &[u8; 16], frame: &[u8]) -> [u8; 16]
     requires { 99 ≤ length frame.now }
     ensures { result ≡ mic akm kck.now frame.now }

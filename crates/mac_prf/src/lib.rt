@@ -1,5 +1,5 @@
-//! Keyed digests and what is made with them: HMAC, CMAC, the two functions that expand a key, PBKDF2,
-//! and the MICs of EAPOL-Key frames and of fast transition.
+//! Keyed digests and what is made with them: HMAC, CMAC, the two functions that expand a key,
+//! PBKDF2, and the MICs of EAPOL-Key frames and of fast transition.
 #![tactic(auto)]
 
 mod block_hash;

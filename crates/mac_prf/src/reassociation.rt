@@ -76,8 +76,8 @@ fn take_fte(state: &mut CmacState, fte: &[u8])
     state.update(behind);
 }
 
-/// The MIC under the KCK of what it covers, of which the FTE has at least 20 octets: those as far as
-/// the end of its MIC field (IEEE Std 802.11-2020, 13.8.4 and 13.8.5). Takes no memory.
+/// The MIC under the KCK of what it covers, of which the FTE has at least 20 octets: those as far
+/// as the end of its MIC field (IEEE Std 802.11-2020, 13.8.4 and 13.8.5). Takes no memory.
 pub fn fte_mic(kck: &[u8; 16], covered: &FteCovered<'_>) -> [u8; 16]
     requires { 20 ≤ length covered.now.fte.now }
     ensures { result ≡ fte_mic kck.now (input_of covered.now) }
@@ -100,8 +100,8 @@ pub fn fte_mic(kck: &[u8; 16], covered: &FteCovered<'_>) -> [u8; 16]
     state.finalize()
 }
 
-/// Whether the FTE has that MIC in its MIC field. What its MIC control says is not looked at, but is
-/// under the MIC. Takes no memory.
+/// Whether the FTE has that MIC in its MIC field. What its MIC control says is not looked at, but
+/// is under the MIC. Takes no memory.
 pub fn verify_fte_mic(kck: &[u8; 16], covered: &FteCovered<'_>) -> bool
     requires { 20 ≤ length covered.now.fte.now }
     ensures { IsTrue result ↔ (mic_field covered.now.fte.now

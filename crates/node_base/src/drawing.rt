@@ -52,8 +52,8 @@ pub fn gtk(domain: &Domain, node: Node, number: u64) -> [u8; 16]
     value
 }
 
-// The mobility domain that pairwise keys of the network are made of, and the R0KH-ID: with suite 4 its
-// own and that one, else neither.
+// The mobility domain that pairwise keys of the network are made of, and the R0KH-ID: with suite 4
+// its own and that one, else neither.
 #[tactic(auto, using(domain_rules::proofs::SuiteWords::root_suite))]
 fn root_of<'a>(domain: &Domain, r0kh_id: &'a [u8]) -> ([u8; 2], &'a [u8])
     ensures mdid { result.0 ≡ (root_at domain.now r0kh_id.now).mdid }
@@ -66,8 +66,9 @@ fn root_of<'a>(domain: &Domain, r0kh_id: &'a [u8]) -> ([u8; 2], &'a [u8])
     }
 }
 
-/// What the pairwise key of a node with its peer is made of, by its own nonce and the other's, and with
-/// suite 4 by the R0KH-ID of the station's first association, which the other suites do not look at.
+/// What the pairwise key of a node with its peer is made of, by its own nonce and the other's, and
+/// with suite 4 by the R0KH-ID of the station's first association, which the other suites do not
+/// look at.
 pub fn pairwise_inputs(
     here: Here<'_>,
     peer: Node,

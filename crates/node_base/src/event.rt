@@ -15,7 +15,8 @@ pub enum NodeEvent<'a> {
     Retry(u16),
     /// An access point draws a new group key and gives it to each session.
     Rekey,
-    /// A node sends that payload to its peer, or an access point to all, as QoS data where there is a TID.
+    /// A node sends that payload to its peer, or an access point to all, as QoS data where there is
+    /// a TID.
     Send(Peer, Option<Tid>, &'a [u8]),
     /// An access point drops what it has with that station.
     Expire(u16),

@@ -44,7 +44,8 @@ fn pmk_r1(domain: &Domain, ap: Mac, sta: Mac, r0kh_id: &[u8]) -> PmkR1
 }
 
 impl Pmk {
-    /// Of a node with its peer: with suite 4 by the R0KH-ID of the first association of the station.
+    /// Of a node with its peer: with suite 4 by the R0KH-ID of the first association of the
+    /// station.
     pub fn of(domain: &Domain, node: Node, peer: Node, r0kh_id: &[u8]) -> Self
         requires listed { IsListed domain.now node }
         requires peer { IsPeerOf domain.now node peer }

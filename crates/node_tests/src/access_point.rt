@@ -45,7 +45,8 @@ const LAST_START_OF_A2: &[Expected] = &[
 // The number of the last draw.
 const LAST: u64 = 1_152_921_504_606_846_975;
 
-// The outcome and the acts of the event are those of the step. No event of a station comes to an access point.
+// The outcome and the acts of the event are those of the step. No event of a station comes to an
+// access point.
 #[tactic(auto, using(key_holders::proofs::Listing::below_in))]
 fn steps(
     alloc: Global,
@@ -165,7 +166,8 @@ fn try_steps(rt: &impl Abort, alloc: Global, akm: Akm, starting: &Starting, scen
     start_and_follow(rt, alloc, &domain, starting, &mut holders, scenario);
 }
 
-// In the mobility domain the first access point takes these steps, and the second one starts so and takes those.
+// In the mobility domain the first access point takes these steps, and the second one starts so and
+// takes those.
 fn try_transition(
     rt: &impl Abort,
     alloc: Global,

@@ -96,8 +96,8 @@ fn is_unsealed(octets: &[u8], frame: &[u8], at: usize) -> bool {
 // The form of what the MIC of an EAPOL-Key frame covers.
 const OF_A_KEY_FRAME: &[u8] = &[1];
 
-// What the MIC of the EAPOL-Key frame in a data frame covers: the form, and the frame with zeros in its MIC field. It stands
-// behind 32 octets, and its MIC field behind 81 of it.
+// What the MIC of the EAPOL-Key frame in a data frame covers: the form, and the frame with zeros in
+// its MIC field. It stands behind 32 octets, and its MIC field behind 81 of it.
 fn is_covered(covered: &[u8], frame: &[u8]) -> bool {
     let (_, behind) = frame.split_at(frame.len().min(32));
     match covered.strip_prefix(OF_A_KEY_FRAME) {
@@ -109,13 +109,14 @@ fn is_covered(covered: &[u8], frame: &[u8]) -> bool {
 // The form of what the MIC in a frame of reassociation covers.
 const OF_REASSOCIATION: &[u8] = &[2];
 
-// The number of a reassociation request in a fast transition, and where its RSNE begins in the network "IEEE"; and those of a response.
+// The number of a reassociation request in a fast transition, and where its RSNE begins in the
+// network "IEEE"; and those of a response.
 const IN_REQUEST: (&[u8], usize) = (&[5], 46);
 
 const IN_RESPONSE: (&[u8], usize) = (&[6], 36);
 
-// What the MIC of a frame of reassociation covers: the form, both addresses, the number of the frame, and from its RSNE on the frame
-// with zeros in its MIC field, which stands 49 octets behind.
+// What the MIC of a frame of reassociation covers: the form, both addresses, the number of the
+// frame, and from its RSNE on the frame with zeros in its MIC field, which stands 49 octets behind.
 fn is_covered_moving(covered: &[u8], frame: &[u8], keys: &Keys) -> bool {
     let (number, at) = match frame.first() {
         Some(0x20) => IN_REQUEST,

@@ -1,6 +1,7 @@
-//! The air frames of scenarios, without FCS, and the pairwise keys under which their MICs are. The name of an EAPOL-Key frame has
-//! its message and its replay counter. Each stands in parts: the header, LLC and SNAP, and of the EAPOL-Key frame what is before
-//! its nonce, nonce, IV to reserved octets, MIC, key data (IEEE Std 802.11-2020, 12.7.2). MICs and wrapped key data were computed
+//! The air frames of scenarios, without FCS, and the pairwise keys under which their MICs are. The
+//! name of an EAPOL-Key frame has its message and its replay counter. Each stands in parts: the
+//! header, LLC and SNAP, and of the EAPOL-Key frame what is before its nonce, nonce, IV to reserved
+//! octets, MIC, key data (IEEE Std 802.11-2020, 12.7.2). MICs and wrapped key data were computed
 //! apart from this project.
 
 use crate::vectors::{
@@ -10,7 +11,8 @@ use crate::vectors::{
 use domain_base::Mac;
 use key_hierarchy::Ptk;
 
-/// A pairwise key of an access point with a station, and the nonces and the addresses that it is derived from.
+/// A pairwise key of an access point with a station, and the nonces and the addresses that it is
+/// derived from.
 pub struct Keys {
     pub anonce: [u8; 32],
     pub snonce: [u8; 32],

@@ -1,4 +1,5 @@
-//! One authenticator driven by frames made octet by octet: that of the first access point with the first station.
+//! One authenticator driven by frames made octet by octet: that of the first access point with the
+//! first station.
 
 ghost use Rattle.std.specs.Prelude.{◌≢◌, ◌<◌, ◌^◌};
 ghost use Rattle.domain_base.specs.declared.names.Akm.{Akm as AnyAkm};

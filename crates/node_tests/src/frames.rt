@@ -1,4 +1,5 @@
-//! EAPOL-Key frames in data frames between the first access point and the first station, made octet by octet.
+//! EAPOL-Key frames in data frames between the first access point and the first station, made octet
+//! by octet.
 
 use crate::vectors::{FROM_AP, Suite, TO_AP};
 use eapol_key::Message;
@@ -27,8 +28,9 @@ pub fn is_joined(octets: &[u8], pieces: &[&[u8]]) -> bool {
     rest.is_empty()
 }
 
-/// A message by the fields in which messages differ: the header of its data frame with what is before the EAPOL frame, the key
-/// information, the key length, the replay counter, the nonce, the RSC (a number of 48 bits), the MIC and the key data.
+/// A message by the fields in which messages differ: the header of its data frame with what is
+/// before the EAPOL frame, the key information, the key length, the replay counter, the nonce, the
+/// RSC (a number of 48 bits), the MIC and the key data.
 #[derive(Clone, Copy)]
 pub struct Frame {
     pub header: &'static [u8],
@@ -140,7 +142,8 @@ pub fn g2(information: &'static [u8], counter: u64, mic: [u8; 16]) -> Frame {
     }
 }
 
-// The version and the type of an EAPOL frame, the descriptor type of an EAPOL-Key frame, its EAPOL-Key IV and its reserved field.
+// The version and the type of an EAPOL frame, the descriptor type of an EAPOL-Key frame, its
+// EAPOL-Key IV and its reserved field.
 const VERSION_AND_TYPE: &[u8] = b"\x02\x03";
 
 const DESCRIPTOR: &[u8] = b"\x02";

@@ -1,5 +1,5 @@
-//! The frames that nodes send, octet by octet: of associations, and the messages of the four-way handshake and of the group key
-//! handshake with both suites.
+//! The frames that nodes send, octet by octet: of associations, and the messages of the four-way
+//! handshake and of the group key handshake with both suites.
 
 ghost use Rattle.std.specs.Prelude.{◌≡◌, ◌<◌, ◌^◌, length};
 ghost use Rattle.domain_rules.specs.Network.{InForm};
@@ -43,8 +43,9 @@ const FOURTH: &[u8] = b"\0\0\0\0\0\0\0\x04";
 // The field of the RSC behind 0x0605_0403_0201 packet numbers.
 const RSC: &[u8] = &[1, 2, 3, 4, 5, 6, 0, 0];
 
-// The octets of a message, in pieces: the header, what is before the key information, that, the key length, the replay counter, the
-// nonce, IV to reserved octets, the MIC, and the length of the key data with these.
+// The octets of a message, in pieces: the header, what is before the key information, that, the key
+// length, the replay counter, the nonce, IV to reserved octets, the MIC, and the length of the key
+// data with these.
 type Pieces = &'static [&'static [u8]];
 
 fn is_drawn(domain: &Domain) -> bool
@@ -152,7 +153,8 @@ fn is_kept(reply: &Reply) -> bool {
         && reply.gtk.is_none()
 }
 
-// The reply has that length, and sends these pieces as that message, sealed under that key; beside it is as it was.
+// The reply has that length, and sends these pieces as that message, sealed under that key; beside
+// it is as it was.
 fn is_written(
     reply: &Reply,
     message: Message,

@@ -1,5 +1,6 @@
-//! The frames of the group key handshake at A1, in the parts of `air_frames`. The name of a frame has its message and its replay
-//! counter. MICs and wrapped key data were computed apart from this project.
+//! The frames of the group key handshake at A1, in the parts of `air_frames`. The name of a frame
+//! has its message and its replay counter. MICs and wrapped key data were computed apart from this
+//! project.
 
 /// The group key that A1 draws fourth.
 pub const THIRD_GTK: [u8; 16] =

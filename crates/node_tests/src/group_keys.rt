@@ -7,7 +7,8 @@ fn is(found: GroupKey, place: u64, id: u8, octet: u8) -> bool {
     found.place == place && found.id == id && found.key == [octet; 16]
 }
 
-// The keys in use and drawn last are those of these numbers, and the latter is pending where they differ.
+// The keys in use and drawn last are those of these numbers, and the latter is pending where they
+// differ.
 fn are(keys: &GroupKeys, current: u64, newest: u64) -> bool {
     is_at(keys.current(), current)
         && is_at(keys.newest(), newest)

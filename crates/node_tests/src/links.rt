@@ -59,8 +59,8 @@ const BEFORE_THE_FAULT: &[&[(Node, &[u8])]] = &[
     &[(Node::Ap(1), TO_ACCESS_POINT)],
 ];
 
-// Which calls of `attach` and of each link fail, whether one of them is met, and what was sent by the
-// links that were attached.
+// Which calls of `attach` and of each link fail, whether one of them is met, and what was sent by
+// the links that were attached.
 struct Case {
     attach: &'static [u64],
     links: [&'static [u64]; 4],
@@ -267,7 +267,8 @@ fn frames_go_to_the_nodes_that_they_name(rt: HostRuntime) {
     drop(entries);
 }
 
-// What the link of the second station gives behind a call that fails: three octets, 2,400 of more, and none.
+// What the link of the second station gives behind a call that fails: three octets, 2,400 of more,
+// and none.
 const SIZES: &[Option<usize>] = &[Some(3), Some(2400), None];
 
 fn gives_two(links: &mut Vec<MemLink>, buf: &mut [u8]) -> bool

@@ -1,4 +1,5 @@
-//! Acts that wait, and come in their order: those of frames that were taken, of replies, and of what is sent unasked.
+//! Acts that wait, and come in their order: those of frames that were taken, of replies, and of
+//! what is sent unasked.
 
 ghost use Rattle.std.specs.Prelude.{◌≤◌, ◌+◌};
 ghost use Rattle.run_journal.specs.Replies.{IsWhole};

@@ -1,10 +1,10 @@
-//! Protected data of A1 with its stations, under the keys of the handshakes: bodies and what their seals cover were computed
-//! apart from this project.
+//! Protected data of A1 with its stations, under the keys of the handshakes: bodies and what their
+//! seals cover were computed apart from this project.
 
 use crate::vectors::{CROSSED_TK, GTK, NEXT_GTK, TK};
 
-/// A frame of protected data: its octets, what its seal covers behind its form, and what they were made of. The TID is that of
-/// the counter that it is held against.
+/// A frame of protected data: its octets, what its seal covers behind its form, and what they were
+/// made of. The TID is that of the counter that it is held against.
 pub struct Data {
     pub octets: &'static [u8],
     pub sealed: &'static [u8],

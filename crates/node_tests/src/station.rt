@@ -18,7 +18,8 @@ use station_node::StationNode;
 use std::alloc::Global;
 use std::process::Abort;
 
-// The outcome and the acts of the event are those of the step. No event of an access point comes to a station.
+// The outcome and the acts of the event are those of the step. No event of an access point comes to
+// a station.
 fn steps(
     alloc: Global,
     domain: &Domain,

@@ -1,5 +1,5 @@
-//! The group key handshake at a supplicant driven by frames made octet by octet, with both suites: that of the first station
-//! with the first access point.
+//! The group key handshake at a supplicant driven by frames made octet by octet, with both suites:
+//! that of the first station with the first access point.
 
 ghost use Rattle.std.specs.Prelude.{◌≡◌, ◌≢◌, length};
 ghost use Rattle.domain_base.specs.declared.names.Akm.{Akm as AnyAkm};
@@ -20,8 +20,8 @@ use std::alloc::Global;
 use std::process::Abort;
 use supplicant::{StaStart, Supplicant};
 
-// What a suite has of its own: the key information of G1 and G2, and the MICs and key data of G1 and the MICs of G2, with
-// counter 3 and with counter 4.
+// What a suite has of its own: the key information of G1 and G2, and the MICs and key data of G1
+// and the MICs of G2, with counter 3 and with counter 4.
 struct Group {
     suite: &'static Suite,
     information: [&'static [u8]; 2],

@@ -1,4 +1,5 @@
-//! A supplicant driven by frames made octet by octet, with both suites: that of the first station with the first access point.
+//! A supplicant driven by frames made octet by octet, with both suites: that of the first station
+//! with the first access point.
 
 ghost use Rattle.std.specs.Prelude.{◌≡◌, ◌≢◌, length};
 ghost use Rattle.domain_base.specs.declared.names.Akm.{Akm as AnyAkm};

@@ -1,6 +1,6 @@
-//! The parts of a fast transition from the first access point to the second one, octet by octet, and
-//! what is refused of it. The frames were made apart, by Python's hashlib and hmac and an AES, CMAC and
-//! key wrap written after FIPS 197, RFC 4493 and RFC 3394.
+//! The parts of a fast transition from the first access point to the second one, octet by octet,
+//! and what is refused of it. The frames were made apart, by Python's hashlib and hmac and an AES,
+//! CMAC and key wrap written after FIPS 197, RFC 4493 and RFC 3394.
 
 ghost use Rattle.std.specs.Prelude.{◌≡◌, ◌∷◌, [], codes, length};
 ghost use Rattle.domain_base.specs.declared.names.Akm.{Akm as AnyAkm};
@@ -41,7 +41,8 @@ const KEK: [u8; 16] = *b"\xda\x99\x59\x8e\x21\x35\xd1\xfe\x83\x13\x6c\xfc\xa4\xa
 
 const TK: [u8; 16] = *b"\x36\x8c\x55\xae\x70\x87\xcf\x09\x0e\x73\xd5\x5f\xc3\xb0\xfe\x3a";
 
-/// The authentication request of the first station to the second access point, with its second nonce.
+/// The authentication request of the first station to the second access point, with its second
+/// nonce.
 pub const FT_REQ: &[u8; 167] =
     b"\xb0\x00\x00\x00\x02\x00\x00\x00\x00\x02\x02\x00\x00\x00\x00\x11\x02\x00\x00\x00\x00\
     \x02\x00\x00\x02\x00\x01\x00\x00\x00\x30\x26\x01\x00\x00\x0f\xac\x04\x01\x00\x00\x0f\
@@ -100,7 +101,8 @@ const NEWEST: &GroupKey = &GroupKey {
     key: GTK,
 };
 
-// Where the elements of authentication frames and responses begin, and those of a reassociation request.
+// Where the elements of authentication frames and responses begin, and those of a reassociation
+// request.
 const FRONT: usize = 30;
 
 const REQUEST_FRONT: usize = 34;

@@ -1,6 +1,7 @@
-//! The test network "IEEE": the access points 02:00:00:00:00:01 and 02:00:00:00:00:02, and the stations 02:00:00:00:00:11 and
-//! 02:00:00:00:00:12. The pre-shared key is that of the passphrase "password", the seed 00 to 1f. Nonces, keys, MICs and
-//! wrapped key data were computed apart from this project.
+//! The test network "IEEE": the access points 02:00:00:00:00:01 and 02:00:00:00:00:02, and the
+//! stations 02:00:00:00:00:11 and 02:00:00:00:00:12. The pre-shared key is that of the passphrase
+//! "password", the seed 00 to 1f. Nonces, keys, MICs and wrapped key data were computed apart from
+//! this project.
 
 use domain_base::{Akm, Mac, Node};
 use key_hierarchy::Ptk;
@@ -89,15 +90,16 @@ pub const RESPONSE_TO_S2: &[u8] =
 
 pub const BEACON: &[u8] = b"\x80\0\0\0\xff\xff\xff\xff\xff\xff\x02\0\0\0\0\x01\x02\0\0\0\0\x01\0\0";
 
-// The headers of data frames of the first access point to the first station and back, with what is before their EAPOL frame.
+// The headers of data frames of the first access point to the first station and back, with what is
+// before their EAPOL frame.
 pub const FROM_AP: &[u8] =
     b"\x08\x02\0\0\x02\0\0\0\0\x11\x02\0\0\0\0\x01\x02\0\0\0\0\x01\0\0\xaa\xaa\x03\0\0\0\x88\x8e";
 
 pub const TO_AP: &[u8] =
     b"\x08\x01\0\0\x02\0\0\0\0\x01\x02\0\0\0\0\x11\x02\0\0\0\0\x01\0\0\xaa\xaa\x03\0\0\0\x88\x8e";
 
-// Suite 2: the pairwise key of `ANONCE` and `SNONCE`; key data under its KEK: the RSNE with `GTK` under key id 1, under key id
-// 2, and without a group key.
+// Suite 2: the pairwise key of `ANONCE` and `SNONCE`; key data under its KEK: the RSNE with `GTK`
+// under key id 1, under key id 2, and without a group key.
 // The temporal key of `PTK`.
 pub const TK: [u8; 16] = *b"\xbc\x28\x53\x36\xd8\x09\x6e\xec\x70\xcb\x1e\x6c\x2b\x05\xf3\x0a";
 
@@ -116,7 +118,8 @@ pub const KEY_DATA_OF_ID_2: &[u8] =
 pub const KEY_DATA_WITHOUT_GTK: &[u8] =
     b"\xa9\xbf\xa9\xbc\xec\xfc\x7a\xa2\x95\xb4\x58\xfa\xb5\x9b\x6c\xbe\x9c\xeb\x9b\x80\x05\x46\x67\x25\x29\x54\xfc\xbe\xde\x79\xf0\x71";
 
-// Under it the MICs of M2 with counter 1 and 2, of M3 with counter 2 and 3, and of M4 with counter 2 and 3.
+// Under it the MICs of M2 with counter 1 and 2, of M3 with counter 2 and 3, and of M4 with counter
+// 2 and 3.
 pub const M2_MIC: [u8; 16] = *b"\xfa\x5e\x0a\x12\x17\x03\x60\xb2\xbe\xd6\x37\x1c\x4d\x93\x65\xfb";
 
 pub const SECOND_M2_MIC: [u8; 16] =
@@ -132,8 +135,8 @@ pub const M4_MIC: [u8; 16] = *b"\x66\xa1\xc7\x4a\xb1\x1d\xff\x15\x2d\x13\x15\x06
 pub const SECOND_M4_MIC: [u8; 16] =
     *b"\x5d\xcd\x0e\x63\xe4\x31\xd2\x58\x23\x07\xb0\xb1\xf8\x71\x95\xe1";
 
-// Under it the MICs of M3 with `NEXT_ANONCE` and counter 2, of M3 with 24 zeros as key data and counter 2 and 3, and of M3 with
-// counter 2 without a group key.
+// Under it the MICs of M3 with `NEXT_ANONCE` and counter 2, of M3 with 24 zeros as key data and
+// counter 2 and 3, and of M3 with counter 2 without a group key.
 pub const M3_MIC_OF_NEXT_ANONCE: [u8; 16] =
     *b"\xec\xbf\xbf\xef\x3b\xa0\x01\xe5\x35\x4b\xd1\x6b\x6d\x01\x9c\xe9";
 
@@ -146,8 +149,8 @@ pub const SECOND_M3_MIC_NOT_WRAPPED: [u8; 16] =
 pub const M3_MIC_WITHOUT_GTK: [u8; 16] =
     *b"\x41\x75\x2e\xc6\xe5\xed\xdb\x46\x90\xe9\xa9\x59\xe8\x7a\x1c\xfa";
 
-// Suite 2: the pairwise key of `NEXT_ANONCE` and `SNONCE`; key data under its KEK: the RSNE with `GTK` under key id 1; and the
-// MICs of M2 with counter 1 and 2.
+// Suite 2: the pairwise key of `NEXT_ANONCE` and `SNONCE`; key data under its KEK: the RSNE with
+// `GTK` under key id 1; and the MICs of M2 with counter 1 and 2.
 // The temporal key of `CROSSED_PTK`.
 pub const CROSSED_TK: [u8; 16] =
     *b"\xfe\xd5\xd4\x6d\xea\x0b\x65\xd5\xa4\x83\xf6\x18\xed\x6a\xaf\x8a";
@@ -167,8 +170,8 @@ pub const CROSSED_M2_MIC: [u8; 16] =
 pub const CROSSED_SECOND_M2_MIC: [u8; 16] =
     *b"\x25\x11\xc5\x21\x69\x44\x04\xe8\x17\x00\xb7\xe7\x31\xe3\x0d\x94";
 
-// Suite 2: the pairwise key of `NEXT_ANONCE` and `NEXT_SNONCE`; key data under its KEK: the RSNE with `GTK` under key id 2; and
-// the MICs of M2 with counter 1, of M3 and of M4 with counter 2.
+// Suite 2: the pairwise key of `NEXT_ANONCE` and `NEXT_SNONCE`; key data under its KEK: the RSNE
+// with `GTK` under key id 2; and the MICs of M2 with counter 1, of M3 and of M4 with counter 2.
 pub const NEXT_PTK: Ptk = Ptk {
     kck: *b"\xbb\x6f\xd1\xa0\x34\x6d\xdd\xb0\x3b\x07\x6f\x66\x37\x28\xa9\x59",
     kek: *b"\x45\x75\xe7\x6a\xf5\x4a\xf2\x59\xa1\x3d\x94\x58\xab\xa7\x6c\x05",
@@ -187,8 +190,8 @@ pub const NEXT_M3_MIC: [u8; 16] =
 pub const NEXT_M4_MIC: [u8; 16] =
     *b"\x78\x24\x93\x73\xd6\x2d\xb2\xca\xdb\x7d\x21\xfb\xdd\x51\xfa\x3d";
 
-// Suite 2: the pairwise key of the second station, of `NEXT_ANONCE` and `OTHER_SNONCE`; key data under its KEK: the RSNE with
-// `GTK` under key id 1.
+// Suite 2: the pairwise key of the second station, of `NEXT_ANONCE` and `OTHER_SNONCE`; key data
+// under its KEK: the RSNE with `GTK` under key id 1.
 pub const OTHER_PTK: Ptk = Ptk {
     kck: *b"\x5d\x23\x68\xc5\x2b\xe4\xa3\xcb\x5d\x2b\x7d\xe2\xb5\x58\x09\x62",
     kek: *b"\xa8\x74\x2e\xe3\xf0\xd4\xc4\xf5\x6f\x1f\x21\x25\x62\x07\xad\x73",
@@ -198,8 +201,8 @@ pub const OTHER_PTK: Ptk = Ptk {
 pub const OTHER_KEY_DATA: &[u8] =
     b"\x3c\x2b\x12\xdb\xa8\xb6\xd4\xad\x4c\x5c\x13\xb4\x44\xca\x11\x76\xa8\x8a\x24\xe6\xda\xf1\x86\x57\x30\xce\x17\x11\xb0\x05\x32\x9c\xee\x88\xbf\xd0\xcc\x5b\xf2\x21\x17\xb3\xf9\x06\x15\x0a\x7b\xb2\x94\xbb\x4b\xc5\x8e\x62\xa6\xdc";
 
-// Suite 6: the pairwise key of `ANONCE` and `SNONCE`; key data under its KEK: the RSNE with `GTK` under key id 1, and without a
-// group key.
+// Suite 6: the pairwise key of `ANONCE` and `SNONCE`; key data under its KEK: the RSNE with `GTK`
+// under key id 1, and without a group key.
 pub const SHA256_PTK: Ptk = Ptk {
     kck: *b"\x13\x85\xf2\x1d\x25\x22\x90\xfc\x6e\x55\x9d\x22\x20\xba\xc8\xd6",
     kek: *b"\x97\x4b\x9b\x25\x54\x4b\x55\x76\xf8\xcd\x7f\x4d\x5c\x26\x98\x02",
@@ -212,7 +215,8 @@ pub const SHA256_KEY_DATA: &[u8] =
 pub const SHA256_KEY_DATA_WITHOUT_GTK: &[u8] =
     b"\x60\x6b\xf0\x7f\x7b\x4d\xef\x2b\x08\xda\x4c\xc6\xd9\x62\xa8\xbf\xeb\x35\x5a\x2f\x31\x8c\xe2\x27\xe1\x01\x97\x88\x10\x97\x00\x64";
 
-// Under it the MICs of M2 with counter 1, of M3 with counter 2 and 3, and of M4 with counter 2 and 3.
+// Under it the MICs of M2 with counter 1, of M3 with counter 2 and 3, and of M4 with counter 2 and
+// 3.
 pub const SHA256_M2_MIC: [u8; 16] =
     *b"\x04\x69\xba\x45\xec\x46\xe6\x2e\x58\xd9\xa4\xa6\xe3\x3e\x7a\x07";
 
@@ -228,8 +232,9 @@ pub const SHA256_M4_MIC: [u8; 16] =
 pub const SHA256_SECOND_M4_MIC: [u8; 16] =
     *b"\xb5\xe6\x6a\x6b\x3c\xb9\xfe\x90\xf0\x3a\x78\x33\xb6\x90\xa5\xb9";
 
-/// What a suite has of its own: the key information of the four messages and the RSNE; the keys of `ANONCE` and `SNONCE`, of
-/// `NEXT_ANONCE` and `SNONCE` (crossed), and of `NEXT_ANONCE` and `NEXT_SNONCE`; MICs as for suite 2 above; and key data.
+/// What a suite has of its own: the key information of the four messages and the RSNE; the keys of
+/// `ANONCE` and `SNONCE`, of `NEXT_ANONCE` and `SNONCE` (crossed), and of `NEXT_ANONCE` and
+/// `NEXT_SNONCE`; MICs as for suite 2 above; and key data.
 pub struct Suite {
     pub akm: Akm,
     pub information: [&'static [u8]; 4],
@@ -316,9 +321,10 @@ pub const SUITE_6: &Suite = &Suite {
 // The group key that the first access point draws third.
 pub const NEXT_GTK: [u8; 16] = *b"\xe6\xea\xc2\x34\x29\xdf\xc6\x45\x5e\xa2\x0f\x1e\xa2\xec\xa9\x4a";
 
-// The group key handshake under the pairwise key of `ANONCE` and `SNONCE`, with suite 2 and with suite 6: key data with
-// `NEXT_GTK` under key id 2, and with `GTK` under key id 1; the MIC of G1 with the former, RSC 0 and counter 3, and with the
-// latter, RSC 0x060504030201 and counter 4; and the MIC of G2 with counter 3 and 4.
+// The group key handshake under the pairwise key of `ANONCE` and `SNONCE`, with suite 2 and with
+// suite 6: key data with `NEXT_GTK` under key id 2, and with `GTK` under key id 1; the MIC of G1
+// with the former, RSC 0 and counter 3, and with the latter, RSC 0x060504030201 and counter 4; and
+// the MIC of G2 with counter 3 and 4.
 pub const G1_KEY_DATA: &[u8] =
     b"\xcf\xe9\xb3\x88\x1d\x95\x82\x3f\xf0\xe5\xbe\xe8\xce\x05\x27\xbb\xd4\xc0\xba\x6f\x53\xbf\x8a\x21\xef\x01\x88\xab\xf0\xd0\xb3\xd8";
 

@@ -10,8 +10,9 @@ use std::marker::Model;
 #[derive(Clone, Copy, PartialEq, Eq)]
 pub struct Replayed(pub u64);
 
-/// For each traffic identifier the greatest packet number that was taken, the replay counters of a pairwise key. Frames
-/// without a QoS Control field use that of traffic identifier 0. Contracts see the list of the 16 numbers.
+/// For each traffic identifier the greatest packet number that was taken, the replay counters of a
+/// pairwise key. Frames without a QoS Control field use that of traffic identifier 0. Contracts see
+/// the list of the 16 numbers.
 ///
 /// A group key has one counter: who keeps it passes traffic identifier 0 with every frame.
 #[derive(Drop)]
@@ -30,15 +31,16 @@ impl Model for RecvCounters {
 }
 
 impl RecvCounters {
-    /// As if that number were the last that was taken with each traffic identifier: the receive sequence counter (RSC) that
-    /// came with the key, or 0.
+    /// As if that number were the last that was taken with each traffic identifier: the receive
+    /// sequence counter (RSC) that came with the key, or 0.
     pub fn from(rsc: u64) -> Self
         ensures { result ≡ replicate 16 rsc }
     {
         RecvCounters { kept: [rsc; 16] }
     }
 
-    /// Whether a number may be taken. `Replayed` comes exactly where it is at most the one kept for the traffic identifier.
+    /// Whether a number may be taken. `Replayed` comes exactly where it is at most the one kept for
+    /// the traffic identifier.
     pub fn look(&self, tid: Tid, pn: u64) -> Result<(), Replayed>
         ensures fresh { MatchResult result (λ _. kept_for tid self.now < pn)
             (λ _. pn ≤ kept_for tid self.now) }
@@ -52,8 +54,8 @@ impl RecvCounters {
         }
     }
 
-    /// Takes a number that `look` does not refuse: it is the kept one of its traffic identifier from now on, and those of the
-    /// others stay.
+    /// Takes a number that `look` does not refuse: it is the kept one of its traffic identifier
+    /// from now on, and those of the others stay.
     pub fn take(&mut self, tid: Tid, pn: u64)
         requires { kept_for tid self.old < pn }
         ensures { self.new ≡ slice_set self.old tid pn }

@@ -12,7 +12,8 @@ pub const LAST_NUMBER: u64 = (1 << 48) - 1;
 #[derive(Clone, Copy, PartialEq, Eq)]
 pub struct Spent;
 
-/// The packet numbers of a key that were used, from 1 up to the last one used. Contracts see that number, 0 before the first.
+/// The packet numbers of a key that were used, from 1 up to the last one used. Contracts see that
+/// number, 0 before the first.
 #[derive(Drop)]
 pub struct SendCounter(u64);
 
@@ -44,7 +45,8 @@ impl SendCounter {
         self.0
     }
 
-    /// Uses the next number. `Spent` comes exactly where 2^48 - 1 was used, and then nothing is changed.
+    /// Uses the next number. `Spent` comes exactly where 2^48 - 1 was used, and then nothing is
+    /// changed.
     pub fn next(&mut self) -> Result<u64, Spent>
         ensures number { MatchResult result (λ n. n ≡ suc self.old) (λ _. self.old ≡ last_number) }
         ensures used { MatchResult result (λ n. self.new ≡ n) (λ _. self.new ≡ self.old) }

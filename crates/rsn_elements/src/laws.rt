@@ -25,8 +25,8 @@ pub fn one_reading()
         → SpellsElements within octets f → HasRaw f }
 {}
 
-/// Elements that are sent are spelled so, in any order without repeats, whatever elements that are passed over follow, and
-/// wherever the reading then ends.
+/// Elements that are sent are spelled so, in any order without repeats, whatever elements that are
+/// passed over follow, and wherever the reading then ends.
 pub fn sent_is_spelled()
     ensures { (within : Within) (ps : List Piece) (others : List Element) (rest : List ℕ)
         → AllByRecursion FitsPiece ps → AreApart ps → AllByRecursion (IsPassedOver within) others

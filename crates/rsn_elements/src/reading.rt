@@ -38,7 +38,8 @@ pub struct Elements<'a> {
     pub fte: Option<Fte<'a>>,
     /// The GTK KDE, which stands in key data alone.
     pub gtk: Option<GtkKde<'a>>,
-    /// The timeout interval of type 1: the reassociation deadline, in time units of 1024 microseconds.
+    /// The timeout interval of type 1: the reassociation deadline, in time units of 1024
+    /// microseconds.
     pub deadline: Option<u32>,
     /// The timeout interval of type 2: the lifetime of the key, in seconds.
     pub lifetime: Option<u32>,
@@ -255,12 +256,13 @@ fn gathered_from(bytes: &[u8], within: Within) -> Result<Elements<'_>, ElementFa
     }
 }
 
-/// Reads elements in any order, each kind at most once, and passes over those of other kinds. In key data the reading
-/// ends at `dd` with length 0, and at `dd` as the last octet.
+/// Reads elements in any order, each kind at most once, and passes over those of other kinds. In
+/// key data the reading ends at `dd` with length 0, and at `dd` as the last octet.
 ///
-/// The fault is the first in reading order; within one element Truncated, Version, Length, SubelementLength, Repeated.
-/// Its place is that of the id of the element in the octets given, and for a subelement of a wrong length, or a repeated
-/// one, that of the id of the subelement. Takes no memory.
+/// The fault is the first in reading order; within one element Truncated, Version, Length,
+/// SubelementLength, Repeated. Its place is that of the id of the element in the octets given, and
+/// for a subelement of a wrong length, or a repeated one, that of the id of the subelement. Takes
+/// no memory.
 pub fn read_elements(bytes: &[u8], within: Within) -> Result<Elements<'_>, ElementFault>
     // What is read is spelled so.
     ensures found { IfOk result (λ e. SpellsElements within bytes.now (element_fields e)) }

@@ -175,7 +175,8 @@ struct Leading<'a> {
     akms: Option<Suites<'a>>,
 }
 
-// The suites of group traffic, of pairwise traffic and of key management at the front, and the octets behind them.
+// The suites of group traffic, of pairwise traffic and of key management at the front, and the
+// octets behind them.
 fn leading_at(octets: &[u8]) -> Option<(Leading<'_>, &[u8])>
     ensures { MatchOption result (HasNoLeading octets.now) (λ r. Leads octets.now r.0 r.1.now) }
 {

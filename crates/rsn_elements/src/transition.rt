@@ -188,8 +188,9 @@ fn read_subelements(octets: &[u8]) -> Result<Subelements<'_>, usize>
     Ok(found)
 }
 
-/// An FTE that was read, and where the first subelement stands that is the second of its id, if there is one: then the
-/// body spells no FTE. Places are counted from the id of the FTE, two octets before its body.
+/// An FTE that was read, and where the first subelement stands that is the second of its id, if
+/// there is one: then the body spells no FTE. Places are counted from the id of the FTE, two octets
+/// before its body.
 #[derive(Clone, Copy)]
 pub(crate) struct FteRead<'a> {
     /// What the body says.
@@ -198,8 +199,8 @@ pub(crate) struct FteRead<'a> {
     pub repeated: Option<usize>,
 }
 
-/// Reads the body of an FTE, or answers its fault: Length, or SubelementLength at its place counted from the id of the
-/// FTE.
+/// Reads the body of an FTE, or answers its fault: Length, or SubelementLength at its place counted
+/// from the id of the FTE.
 pub(crate) fn read_fte(body: &[u8]) -> Result<FteRead<'_>, ElementFault>
     ensures { IsFteRead body.now result }
 {

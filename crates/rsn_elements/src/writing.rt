@@ -1,4 +1,5 @@
-//! Writing elements into the caller's octets, each with the fields and values that this project sends.
+//! Writing elements into the caller's octets, each with the fields and values that this project
+//! sends.
 
 ghost use Rattle.std.specs.Prelude.{◌≡◌, ◌≤◌, ◌<◌, ◌+◌, ◌++◌, ◌∷◌, [], length, take, drop, option_map, Some, IfSome};
 ghost use Rattle.std.specs.Option.{ForSome, option_copied};
@@ -15,7 +16,8 @@ use domain_base::{Akm, put};
 // Padding of key data, of any length that is needed.
 const PADDING: [u8; 16] = [0xdd, 0, 0, 0, 0, 0, 0, 0, 0, 0, 0, 0, 0, 0, 0, 0];
 
-/// Writes elements one after the other into octets of the caller's, from their front on. Takes no memory.
+/// Writes elements one after the other into octets of the caller's, from their front on. Takes no
+/// memory.
 ///
 /// Each call asks for room, and that lengths fit their fields.
 #[derive(Drop)]
@@ -68,8 +70,8 @@ impl<'a> ElementWriter<'a> {
         self.append(&[0x01, 4, 0x82, 0x84, 0x8b, 0x96]);
     }
 
-    /// An RSN element with CCMP-128 for pairwise and group traffic and this AKM, and with the name of a key, if one is
-    /// given (9.4.2.24).
+    /// An RSN element with CCMP-128 for pairwise and group traffic and this AKM, and with the name
+    /// of a key, if one is given (9.4.2.24).
     pub fn rsne(&mut self, akm: Akm, pmkid: Option<&[u8; 16]>)
         requires { HasRoom self.old (length (rsne_octets akm (option_copied pmkid))) }
         ensures written { Appends self.old self.new (rsne_octets akm (option_copied pmkid.entry)) }
@@ -104,8 +106,8 @@ impl<'a> ElementWriter<'a> {
         self.append(&[0]);
     }
 
-    /// A timeout interval of this type: 1 is the reassociation deadline in time units, 2 the lifetime of the key in
-    /// seconds (9.4.2.48).
+    /// A timeout interval of this type: 1 is the reassociation deadline in time units, 2 the
+    /// lifetime of the key in seconds (9.4.2.48).
     pub fn timeout(&mut self, kind: u8, value: u32)
         requires { HasRoom self.old (length (timeout_octets kind value)) }
         ensures written { Appends self.old self.new (timeout_octets kind value) }
@@ -115,7 +117,8 @@ impl<'a> ElementWriter<'a> {
         self.append(&value.to_le_bytes());
     }
 
-    /// A fast BSS transition element, with the subelements that it has in the order 1, 3, 2 (9.4.2.47).
+    /// A fast BSS transition element, with the subelements that it has in the order 1, 3, 2
+    /// (9.4.2.47).
     pub fn fte(&mut self, fte: &Fte<'_>)
         requires fits { length (fte_body (fte_fields fte.now)) ≤ 255 }
         requires r0kh_id { ForSome fte.now.r0kh_id
@@ -223,8 +226,8 @@ impl<'a> ElementWriter<'a> {
         self.append(key);
     }
 
-    /// Padding: `dd`, and then zeros, up to a multiple of 8 that is at least 16 (12.7.2). Nothing, where the octets written
-    /// are as many.
+    /// Padding: `dd`, and then zeros, up to a multiple of 8 that is at least 16 (12.7.2). Nothing,
+    /// where the octets written are as many.
     pub fn pad(&mut self)
         requires { HasRoom self.old (length (pad_octets (size self.old))) }
         ensures { Appends self.old self.new (pad_octets (size self.old)) }

@@ -94,7 +94,8 @@ pub enum Reason {
     Malformed(Malformed),
     /// A feature that this profile leaves out stands in the frame, by its code.
     OutOfProfile(u8),
-    /// The receiver address is another's, or the frame has the direction that the node itself sends.
+    /// The receiver address is another's, or the frame has the direction that the node itself
+    /// sends.
     NotForMe,
     /// The transmitter is no listed node of the other kind.
     UnknownPeer,
@@ -110,7 +111,8 @@ pub enum Reason {
     Wrap,
     /// The key data is not as it must be.
     KeyData(KeyDataFault),
-    /// An element is missing or other, by the status code of IEEE Std 802.11-2020, 9.4.1.9.
+    /// An element is missing or other, or a response has this status, which is not 0: a status code
+    /// of IEEE Std 802.11-2020, 9.4.1.9. That of a response goes before those of its elements.
     Status(u16),
     /// No access point has the R0KH-ID.
     NoHolder,
@@ -240,7 +242,8 @@ pub enum Act {
     },
     /// A frame came to the node.
     Took {
-        /// The listed node that its transmitter address names, where the frame was read and there is one.
+        /// The listed node that its transmitter address names, where the frame was read and there
+        /// is one.
         from: Option<Node>,
         /// The octets that came.
         octets: Octets,

@@ -120,8 +120,8 @@ pub enum Event {
         /// The access point, from 0.
         ap: u16,
     },
-    /// The node sends a payload: a station to an access point, or an access point to a station or to
-    /// all.
+    /// The node sends a payload: a station to an access point, or an access point to a station or
+    /// to all.
     Send {
         /// The node.
         from: Node,

@@ -1,5 +1,5 @@
-//! The acts of nodes and the journal of a run, which decides its premises; with them the definitions of the premises, of safety, and
-//! of the report's text.
+//! The acts of nodes and the journal of a run, which decides its premises; with them the
+//! definitions of the premises, of safety, and of the report's text.
 #![tactic(auto)]
 
 mod acts;

@@ -31,7 +31,8 @@ pub struct GtkNews {
 /// What a message, or the sending of one, comes to beside its outcome. It takes no memory.
 #[derive(Clone, Copy)]
 pub struct Reply {
-    /// The air frame to send, at the front. What stands behind its last octet is no part of it, and nothing is said of it.
+    /// The air frame to send, at the front. What stands behind its last octet is no part of it, and
+    /// nothing is said of it.
     pub octets: [u8; REPLY_LEN],
     /// How many octets it has: 0 where nothing is sent.
     pub len: usize,

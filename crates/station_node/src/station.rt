@@ -199,8 +199,8 @@ impl StationNode {
         Ok(Outcome::Done)
     }
 
-    // Begins a fast transition to that access point, or does nothing: without a session, where it is
-    // with that access point, or where the last draw was made.
+    // Begins a fast transition to that access point, or does nothing: without a session, where it
+    // is with that access point, or where the last draw was made.
     fn roam(&mut self, here: Here<'_>, ap: u16, out: &mut Outbox) -> Result<Outcome, NoMemory>
         requires form { InForm here.domain.now }
         requires suite { here.domain.now.akm ≡ AnyAkm.FtPsk }

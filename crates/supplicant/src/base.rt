@@ -76,8 +76,8 @@ impl Base {
         }
     }
 
-    /// Of a station with an access point, by the whole FTE of the association response, which suite 4
-    /// alone has.
+    /// Of a station with an access point, by the whole FTE of the association response, which suite
+    /// 4 alone has.
     pub fn of(domain: &Domain, sta: u16, ap: u16, fte: &[u8]) -> Self
         requires sta { sta < length domain.now.stas }
         requires ap { ap < length domain.now.aps }

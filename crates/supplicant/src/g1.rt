@@ -1,4 +1,5 @@
-//! Message 1 of the group key handshake judged (IEEE Std 802.11-2020, 12.7.7.2). No memory is taken.
+//! Message 1 of the group key handshake judged (IEEE Std 802.11-2020, 12.7.7.2). No memory is
+//! taken.
 
 ghost use Rattle.eapol_key.specs.Fields.{fields_of, IsKeyFrame};
 ghost use Rattle.run_journal.specs.Replies.{IsEmpty};
@@ -13,8 +14,8 @@ use eapol_key::{KeyFrame, verify};
 use key_hierarchy::Ptk;
 use run_journal::{Reason, Reply};
 
-/// Judges a G1 under that key, where its replay counter has to be above the kept one: its group key,
-/// or why it is refused. The KCK comes into the reply as soon as the MIC verified.
+/// Judges a G1 under that key, where its replay counter has to be above the kept one: its group
+/// key, or why it is refused. The KCK comes into the reply as soon as the MIC verified.
 pub fn judge_g1(
     akm: Akm,
     key: &Ptk,

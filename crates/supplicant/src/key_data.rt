@@ -1,5 +1,5 @@
-//! Key data in its wrap, and the group key that it carries (IEEE Std 802.11-2020, 12.7.2). No memory
-//! is taken.
+//! Key data in its wrap, and the group key that it carries (IEEE Std 802.11-2020, 12.7.2). No
+//! memory is taken.
 
 ghost use Rattle.std.specs.Prelude.{◌≡◌, ◌≤◌, Some, false, true, length};
 ghost use Rattle.std.specs.Prelude.{MatchOption, option_map, option_copied};
@@ -165,9 +165,9 @@ fn most_key_data(octets: &[u8]) -> usize
     usize::from(big_u16_at(octets, KEY_DATA_LEN_AT))
 }
 
-/// The group key that the wrapped key data of a frame carries, or why it is refused. In message 3 the
-/// RSNE has to stand there, as this network sends it; with suite 4 with PMKR1Name, beside the MDE and the
-/// FTE of the association response.
+/// The group key that the wrapped key data of a frame carries, or why it is refused. In message 3
+/// the RSNE has to stand there, as this network sends it; with suite 4 with PMKR1Name, beside the
+/// MDE and the FTE of the association response.
 pub fn open(
     asked: Option<&Base>,
     kek: &[u8; 16],

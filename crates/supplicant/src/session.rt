@@ -70,8 +70,8 @@ impl Session {
         }
     }
 
-    /// M3 once more: M4 alone answers, and the counter is that of the message. It is awaited in a session
-    /// of a four-way handshake alone.
+    /// M3 once more: M4 alone answers, and the counter is that of the message. It is awaited in a
+    /// session of a four-way handshake alone.
     pub fn take_m3(
         self,
         ends: &Ends,
@@ -95,7 +95,8 @@ impl Session {
         Ok(Session::Connect { key, counter })
     }
 
-    /// G1: the group key is installed or goes on, G2 answers, and the counter is that of the message.
+    /// G1: the group key is installed or goes on, G2 answers, and the counter is that of the
+    /// message.
     pub fn take_g1(
         self,
         ends: &Ends,

@@ -32,7 +32,8 @@ pub enum StaStart<'a> {
     Connect {
         /// The nonce that was drawn for the attempt.
         snonce: &'a [u8; 32],
-        /// With suite 4 the whole FTE of the response, from its id on: at most 257 octets. Else none.
+        /// With suite 4 the whole FTE of the response, from its id on: at most 257 octets. Else
+        /// none.
         fte: &'a [u8],
     },
     /// A fast transition installed that key.
@@ -68,7 +69,8 @@ impl Model for Supplicant {
 }
 
 impl Supplicant {
-    /// The R0KH-ID of the association, with suite 4: what the keys that a reply tells of go back to.
+    /// The R0KH-ID of the association, with suite 4: what the keys that a reply tells of go back
+    /// to.
     pub fn r0kh_id(&self) -> &[u8]
         ensures { result.now ≡ self.now.base.r0kh_id }
     {

@@ -41,8 +41,8 @@ fn asked_id<'a>(elements: &Elements<'a>) -> &'a [u8]
 }
 
 /// An access point takes an authentication request of a station, with these octets and elements. It
-/// had an attempt with the station or not, of whatever kind, and `anonce` is the nonce that it draws
-/// next, if it can draw one more. There is room for one more act then.
+/// had an attempt with the station or not, of whatever kind, and `anonce` is the nonce that it
+/// draws next, if it can draw one more. There is room for one more act then.
 #[tactic(auto, using(crate::proofs::Authing::auth_whole))]
 pub fn take_auth<H: Holders>(
     moves: &mut Moves,

@@ -111,10 +111,10 @@ impl Targets {
 
     /// Takes an authentication request of a station at access point number `ap`, by its octets and
     /// what its elements say. The access point had an attempt with the station or not, of whatever
-    /// kind; `anonce` is the nonce that it draws next, and `None` where it can draw none. Where a key
-    /// is derived an attempt by fast transition has taken the place of the one that there was, and
-    /// the nonce is drawn. There is room for one more act then
-    /// (IEEE Std 802.11-2020, 13.8.2 and 13.8.3).
+    /// kind; `anonce` is the nonce that it draws next, and `None` where it can draw none. Where a
+    /// key is derived an attempt by fast transition has taken the place of the one that there was,
+    /// and the nonce is drawn. There is room for one more act then (IEEE Std 802.11-2020, 13.8.2
+    /// and 13.8.3).
     ///
     /// Where memory is wanted nothing was done, and key holders were not asked.
     pub fn take_auth<H: Holders>(
@@ -174,11 +174,11 @@ impl Targets {
         )
     }
 
-    /// Takes a reassociation request of a station at access point number `ap`, by its octets and what
-    /// its elements say. The access point had a session with the station or not; `newest` is its
-    /// newest group key, and `rsc` the count of packet numbers used under that. Where a key is
-    /// installed the session has come of the attempt that was pending. There is room for one more act
-    /// then (IEEE Std 802.11-2020, 13.8.4 and 13.8.5).
+    /// Takes a reassociation request of a station at access point number `ap`, by its octets and
+    /// what its elements say. The access point had a session with the station or not; `newest` is
+    /// its newest group key, and `rsc` the count of packet numbers used under that. Where a key is
+    /// installed the session has come of the attempt that was pending. There is room for one more
+    /// act then (IEEE Std 802.11-2020, 13.8.4 and 13.8.5).
     ///
     /// Where memory is wanted nothing was done.
     pub fn take_reassoc(

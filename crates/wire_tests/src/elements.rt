@@ -69,7 +69,8 @@ const FAULTS: [Faulty; 36] = [
     (b"\x30\x05\x02\x00\x00\x0f\xac", 0, b"", 0, 3),
     (b"\x30\x01\x01", 0, b"", 0, 2),
     (b"\x30\x00", 0, b"", 0, 2),
-    // a count without its suites, with fewer, a count cut, capabilities cut, a name cut, a last suite cut
+    // a count without its suites, with fewer, a count cut, capabilities cut, a name cut, a last
+    // suite cut
     (b"\x30\x08\x01\x00\x00\x0f\xac\x04\x01\x00", 0, b"", 0, 2),
     (
         b"\x30\x0b\x01\x00\x00\x0f\xac\x04\x01\x00\x00\x0f\xac",
@@ -132,7 +133,8 @@ const FAULTS: [Faulty; 36] = [
     (b"\x37\x58", 82, b"\x03\x01a\x03\x01a", 87, 4),
     // a wrong length goes before a repetition, also where it stands behind
     (b"\x37\x5a", 82, b"\x03\x01a\x03\x01a\x01\x00", 90, 5),
-    // timeout intervals: truncated, short, long, a second one of a type, also of one that is passed over
+    // timeout intervals: truncated, short, long, a second one of a type, also of one that is passed
+    // over
     (b"\x38\x05\x01\x00\x00\x00", 0, b"", 0, 1),
     (b"\x38\x04\x01\x00\x00\x00", 0, b"", 0, 2),
     (b"\x38\x06\x01\x00\x00\x00\x00\x00", 0, b"", 0, 2),
@@ -172,7 +174,8 @@ const PAIRS: [Pair; 12] = [
     // a second RSNE, also one of another version
     (Within::Body, RSNE, RSNE, Some((22, 4))),
     (Within::Body, RSNE, b"\x30\x02\x02\x00", Some((22, 3))),
-    // key data: a GTK KDE that is truncated, short, or a second one; what ends the reading is no fault
+    // key data: a GTK KDE that is truncated, short, or a second one; what ends the reading is no
+    // fault
     (
         Within::KeyData,
         b"\xdd\x06\x00\x0f\xac\x01\x01",
@@ -206,8 +209,9 @@ fn faults_of_two_elements(rt: HostRuntime) {
     }
 }
 
-// An FTE of zeros without subelements, the head of a second one behind it, 82 zeros, its subelements, and the place and number
-// of the fault: a second one is a fault, also with a repeated subelement, but not before a wrong one.
+// An FTE of zeros without subelements, the head of a second one behind it, 82 zeros, its
+// subelements, and the place and number of the fault: a second one is a fault, also with a repeated
+// subelement, but not before a wrong one.
 const SECOND_FTES: [Faulty; 3] = [
     (
         b"\x37\x52\

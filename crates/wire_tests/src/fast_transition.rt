@@ -19,7 +19,8 @@ const MDID: [u8; 2] = [0xa1, 0xb2];
 
 const R0KH_ID: &[u8] = b"r0kh-1";
 
-// The names of the PMK-R0 and of the PMK-R1 at the second access point, and the nonces and the KCK of the transition.
+// The names of the PMK-R0 and of the PMK-R1 at the second access point, and the nonces and the KCK
+// of the transition.
 const R0_NAME: [u8; 16] = *b"\x7e\x45\xb7\x54\xc0\x98\x12\x2c\x02\xd3\xa8\xfa\xe5\xff\x53\xcc";
 
 const R1_NAME: [u8; 16] = *b"\xc9\xba\x96\xe5\x43\x80\x18\xb1\xde\x09\x79\xd6\xe6\x56\xce\x71";
@@ -105,7 +106,8 @@ const RE_RESP: [u8; 218] =
     \x00\x00\x00\x00\x00\x85\xfe\x59\x47\xf8\x80\x17\xa9\x8d\xc4\xda\x5e\x9c\x4b\x83\x1c\
     \xf9\xc4\x06\x5d\x17\xa7\x0f\x67";
 
-// The key data of message 3 at the first access point, with the name of its PMK-R1 and its group key; under the KEK; and the frame.
+// The key data of message 3 at the first access point, with the name of its PMK-R1 and its group
+// key; under the KEK; and the frame.
 const FIRST_R1_NAME: [u8; 16] =
     *b"\xa5\xad\x96\xa9\x3d\xa8\xfe\x02\xdc\xe2\x12\x8d\x0b\x61\xa6\x2d";
 
@@ -122,8 +124,8 @@ const MESSAGE_3: [u8; 184] =
     \x00\x00\x00\x00\x00\x00\x01\x06\x02\x00\x00\x00\x00\x01\x03\x06\x72\x30\x6b\x68\x2d\
     \x31\x38\x05\x01\xe8\x03\x00\x00\x38\x05\x02\x80\x51\x01\x00\xdd";
 
-// An RSNE with a management suite and octets behind it, and an FTE whose MIC control begins with 5, with a subelement that is
-// passed over and the others in another order; their MICs.
+// An RSNE with a management suite and octets behind it, and an FTE whose MIC control begins with 5,
+// with a subelement that is passed over and the others in another order; their MICs.
 const OTHER_RSNE: [u8; 46] =
     *b"\x30\x2c\x01\x00\x00\x0f\xac\x04\x01\x00\x00\x0f\xac\x04\x01\x00\x00\x0f\xac\x04\x8c\
     \x00\x01\x00\xc9\xba\x96\xe5\x43\x80\x18\xb1\xde\x09\x79\xd6\xe6\x56\xce\x71\x00\x0f\
@@ -367,8 +369,9 @@ fn altered_response(place: usize) -> [u8; 218] {
     octets
 }
 
-// Whether the MIC of the request verifies with one bit changed at a place, or behind the end with none. It does not cover the
-// capabilities and the current access point, the SSID, and the rates, in four places of which it is tried.
+// Whether the MIC of the request verifies with one bit changed at a place, or behind the end with
+// none. It does not cover the capabilities and the current access point, the SSID, and the rates,
+// in four places of which it is tried.
 fn is_covered_so(place: usize) -> bool {
     let verifies = is_verified(&altered_request(place));
     match place {

@@ -143,8 +143,8 @@ static HANDSHAKES: [Handshake; 3] = [
     },
 ];
 
-// One capture of a station that associates with an access point by the four-way handshake, and moves
-// to a second one by fast transition: names and keys are those of the devices that took part.
+// One capture of a station that associates with an access point by the four-way handshake, and
+// moves to a second one by fast transition: names and keys are those of the devices that took part.
 static CAPTURED: [Roam; 2] = [
     Roam {
         handshake: Handshake {

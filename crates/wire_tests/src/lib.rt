@@ -1,5 +1,5 @@
 //! Tests of the public calls of the crates below the journal: the outside, cryptography, frames,
-//! elements, keys.
+//! elements, keys, key holders, and the words of the command line.
 #![tactic(auto)]
 
 #[cfg(test)]

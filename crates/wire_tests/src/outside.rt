@@ -1,5 +1,5 @@
-//! The outside in memory, octet fields and names, with what no clause of them says: that calls succeed, and what is
-//! printed.
+//! The outside in memory, octet fields and names, with what no clause of them says: that calls
+//! succeed, and what is printed.
 
 use domain_base::{
     Air, Draws, Failed, Incoming, Link, LinkError, LinkPlan, MemAir, MemDraws, MemLink, MemSink,

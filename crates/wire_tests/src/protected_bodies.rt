@@ -46,7 +46,8 @@ fn is_sealed(frame: &Frame) -> bool {
     written == end && &out[..end] == frame.body
 }
 
-// What comes of a body, opened: its packet number and the number of octets of the plain text that is expected, or a refusal.
+// What comes of a body, opened: its packet number and the number of octets of the plain text that
+// is expected, or a refusal.
 fn opens(header: &[u8], body: &[u8], plain: &[u8]) -> Option<u64> {
     if !is_header(header) || body.len() < 16 || body.len() > 80 {
         return None;
@@ -69,7 +70,8 @@ fn bodies_are_sealed_and_opened(rt: HostRuntime) {
     }
 }
 
-// The first frame with another last octet of its body is not opened, and without the bit Retry it is opened.
+// The first frame with another last octet of its body is not opened, and without the bit Retry it
+// is opened.
 #[test]
 fn a_body_is_opened_where_its_seal_verifies(rt: HostRuntime) {
     let number = opens(WITHOUT_RETRY, BODY, PLAIN);
@@ -214,7 +216,8 @@ fn traffic_has_counters_of_its_own_under_a_pairwise_key(rt: HostRuntime) {
     assert!(rt; pairwise == Ok(20) && group == Err(GuardFault::Replayed(5)));
 }
 
-// What a guard that took the packet number 3 gives for a frame of 26 octets of header and 18 of body.
+// What a guard that took the packet number 3 gives for a frame of 26 octets of header and 18 of
+// body.
 fn answer(frame: &[u8; 44]) -> Result<usize, GuardFault> {
     let mut guard = Guard::empty();
     guard.install(&TK, Role::Pairwise, 0, 3);
@@ -225,7 +228,8 @@ fn answer(frame: &[u8; 44]) -> Result<usize, GuardFault> {
 // What is expected where that bit of the frame is changed.
 fn expected(octet: usize, bit: usize) -> Result<usize, GuardFault> {
     match (octet, bit) {
-        // Bits of the Frame Control field that are masked: of the subtype, Retry, Power Management, More Data, Protected Frame.
+        // Bits of the Frame Control field that are masked: of the subtype, Retry, Power Management,
+        // More Data, Protected Frame.
         (0, 4..=6) | (1, 3..=6) => Ok(2),
         // Duration, sequence number, and the QoS Control field behind the TID.
         (2 | 3 | 23 | 25, _) | (22 | 24, 4..=7) => Ok(2),
@@ -300,8 +304,8 @@ const QOS_HEADER: &[u8] =
 const SHORT_HEADER: &[u8] =
     b"\x88\x41\x00\x00\x02\x00\x00\x00\x00\x01\x02\x00\x00\x00\x00\x11\x02\x00\x00\x00\x00\x01\x30\x00\x05\x00";
 
-// The header of 26 octets, and behind it the body of two octets under the packet number 5, sealed by OpenSSL (`AESCCM` of Python's
-// `cryptography`).
+// The header of 26 octets, and behind it the body of two octets under the packet number 5, sealed
+// by OpenSSL (`AESCCM` of Python's `cryptography`).
 const SHORT_FRAME: [u8; 44] =
     *b"\x88\x41\x00\x00\x02\x00\x00\x00\x00\x01\x02\x00\x00\x00\x00\x11\x02\x00\x00\x00\x00\x01\x30\x00\x05\x00\x05\x00\x00\x20\x00\x00\x00\x00\xbe\x43\x9f\x32\x95\x98\x1c\xf8\x6c\x42";
 

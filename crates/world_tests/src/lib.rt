@@ -1,4 +1,5 @@
-//! Tests of the public calls around a whole run: the journal, its report, scripts, the world and the program's own call.
+//! Tests of the public calls around a whole run: the journal, its report, scripts, the world and
+//! the program's own call.
 #![tactic(auto)]
 
 #[cfg(test)]

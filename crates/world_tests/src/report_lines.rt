@@ -481,10 +481,13 @@ fn entry(node: Node, number: u64, act: Act) -> Entry {
     }
 }
 
+fn push(rt: &impl Abort, entries: &mut Vec<Entry>, entry: Entry) {
+    entries.push(entry).expect(rt, "memory");
+}
+
 fn add(rt: &impl Abort, alloc: Global, entries: &mut Vec<Entry>, of: &(Node, u64, Does)) {
     let (node, number, does) = of;
-    let entry = entry(*node, *number, act(rt, alloc, does));
-    entries.push(entry).expect(rt, "memory");
+    push(rt, entries, entry(*node, *number, act(rt, alloc, does)));
 }
 
 fn entries_of(rt: &impl Abort, alloc: Global, all: &[(Node, u64, Does)]) -> Vec<Entry> {
@@ -506,7 +509,9 @@ fn is_written(
 ) -> bool {
     let mut sink = MemSink::with_room(alloc, room, Vec::new(alloc)).expect(rt, "memory");
     let written = write_lines(entries, &mut sink);
-    written.is_ok() == is_all && sink.written() == text
+    let is_right = written.is_ok() == is_all && sink.written() == text;
+    drop(sink);
+    is_right
 }
 
 fn is_summary(entries: &[Entry], text: &[u8]) -> bool {
@@ -515,12 +520,18 @@ fn is_summary(entries: &[Entry], text: &[u8]) -> bool {
     &out[..count] == text
 }
 
+// The lines go to a sink that has room for them, as far as they do to one that has less, and are
+// summed up.
+fn are_lines(rt: &impl Abort, alloc: Global, entries: &[Entry]) -> bool {
+    is_written(rt, alloc, entries, 1000, true, LINES)
+        && is_written(rt, alloc, entries, 100, false, &LINES[..100])
+        && is_summary(entries, SUMMARY)
+}
+
 #[test]
 fn each_kind_of_act_has_its_line(rt: HostRuntime) {
     let entries = entries_of(&rt, rt.alloc(), ENTRIES);
-    let is_right = is_written(&rt, rt.alloc(), &entries, 1000, true, LINES)
-        && is_written(&rt, rt.alloc(), &entries, 100, false, &LINES[..100])
-        && is_summary(&entries, SUMMARY);
+    let is_right = are_lines(&rt, rt.alloc(), &entries);
     drop(entries);
     assert!(rt; is_right);
 }
@@ -553,7 +564,7 @@ fn a_long_payload_goes_out_in_pieces(rt: HostRuntime) {
 }
 
 // The entry's line fits in 128 octets, and is the text.
-fn is_line(entry: &Entry, text: &[u8]) -> bool {
+fn has_line(entry: &Entry, text: &[u8]) -> bool {
     if !line_fits(entry, 128) {
         return false;
     }
@@ -562,9 +573,15 @@ fn is_line(entry: &Entry, text: &[u8]) -> bool {
     &out[..count] == text
 }
 
+// The same of an entry that is dropped.
+fn is_line(entry: Entry, text: &str) -> bool {
+    let is_right = has_line(&entry, text.as_bytes());
+    drop(entry);
+    is_right
+}
+
 fn is_taken(rt: &impl Abort, alloc: Global, kind: Kind, outcome: Outcome, text: &str) -> bool {
-    let entry = entry(AP, 0, took(rt, alloc, kind, outcome));
-    is_line(&entry, text.as_bytes())
+    is_line(entry(AP, 0, took(rt, alloc, kind, outcome)), text)
 }
 
 fn check_taken(rt: &impl Abort, alloc: Global, rows: &[(Kind, Outcome, &str)]) {

@@ -13,28 +13,36 @@ mod texts;
 mod transitions;
 
 use domain_base::{
-    Failed, LinkPlan, MemAir, MemDraws, MemSink, MemSource, NoMemory, Node, Octets, Source,
-    SteadyAir, SteadyDraws, SteadyLink,
+    Failed, LinkPlan, MemAir, MemDraws, MemSink, MemSource, Node, Octets, Source, SteadyAir,
+    SteadyDraws, SteadyLink,
 };
 use domain_cli::{Gate, Status, run, run_with};
 use full::{ASSOCIATION, ASSOCIATION_REPORT, FULL, FULL_REPORT};
 use live::{CASES, Case, FRAME};
-use meeting::Meeting;
-use refused::{REFUSED, REFUSED_AT_FIRST, UNAWAITED};
-use rounds::{ABSENT, CROSSING, FOUND, LONG_ROUNDS, LOOKED_FOR, NODES, ROUND_FAULTS, ROUNDS};
+use meeting::{Counting, Meeting};
+use refused::{NAMES, REASSOCIATION, REFUSED_AT_FIRST, REQUESTS, UNAWAITED};
+use rounds::{
+    ABSENT, CROSSING, FOUND, LONG_ROUNDS, LOOKED_FOR, NODES, PASSES, ROUND_FAULTS, ROUNDS,
+};
 use run_journal::Journal;
 use scripts::{
-    CARRIED, CARRIED_REPORT, FRAMES, HANDSHAKE, LONG_LINES, LONG_SCRIPTS, NETWORK, NETWORKS,
-    OPEN_LINES, PASSPHRASE, READ_FAULTS, REPORT, SCRIPTS, WORDS, WRITE_FAULTS,
+    CARRIED, CARRIED_REPORT, DATA, GROUP_FRAMES, HANDSHAKE, LONG_LINES, LONG_SCRIPTS, NETWORK,
+    NETWORKS, OPEN_LINES, PAIRWISE_FRAMES, PASSPHRASE, READ_FAULTS, REPORT, SCRIPTS, WORDS,
+    WRITE_FAULTS,
 };
 use std::alloc::Global;
 use std::process::Abort;
 use std::thread::Threads;
 use storms::SUMMARIES;
-use texts::TEXTS;
-use transitions::{ASSOCIATED, BEGUN, BEGUN_WITH_TWO, TRANSITIONS};
+use texts::{TEXTS, TEXTS_OF_ARGUMENTS, TEXTS_OF_LINES};
+use transitions::{ASSOCIATED, BEGUN, BEGUN_WITH_TWO, BESIDE, NUMBERS, SESSIONS, TRANSITIONS};
+
+// The first seven lines of a script, behind which nothing is reported.
+const BARE: &(&str, &str) = &(NETWORK, "");
 
 const REPLAY: &[&str] = &["replay"];
+
+const LIVE: &[&str] = &["live", "20000"];
 
 // A number of no call.
 const NEVER: u64 = 9999;
@@ -89,6 +97,11 @@ impl Source for Trickle {
     }
 }
 
+// An air without nodes.
+fn no_air(rt: &impl Abort, alloc: Global) -> SteadyAir {
+    SteadyAir::new(alloc, Vec::new(alloc)).expect(rt, "memory")
+}
+
 // Runs the words on that source and that sink.
 fn ended<R: Threads + Sync + Abort, S: Source>(
     rt: &R,
@@ -97,7 +110,7 @@ fn ended<R: Threads + Sync + Abort, S: Source>(
     source: &mut S,
     sink: &mut MemSink,
 ) -> Status {
-    let mut air = SteadyAir::new(alloc, Vec::new(alloc)).expect(rt, "memory");
+    let mut air = no_air(rt, alloc);
     let mut draws = SteadyDraws::new([0; 32]);
     let mut journal = Journal::new(alloc);
     run(
@@ -120,7 +133,7 @@ fn ended_by<R: Threads + Sync + Abort, G: Gate + Sync>(
     sink: &mut MemSink,
     gate: &G,
 ) -> Status {
-    let mut air = SteadyAir::new(alloc, Vec::new(alloc)).expect(rt, "memory");
+    let mut air = no_air(rt, alloc);
     let mut draws = SteadyDraws::new([0; 32]);
     let mut journal = Journal::new(alloc);
     run_with(
@@ -195,11 +208,12 @@ fn scripts_and_their_reports(rt: HostRuntime) {
     try_scripts(&rt, rt.alloc(), SCRIPTS);
 }
 
-// Lines behind the front of a script, and what is reported of them behind that of the front, which is run to its end.
+// Lines behind the front of a script, and what is reported of them behind that of the front, which
+// is run to its end.
 fn is_reported_behind<R: Threads + Sync + Abort>(
     rt: &R,
     alloc: Global,
-    front: (&str, &str),
+    front: &(&str, &str),
     lines: &str,
     report: &str,
 ) -> bool {
@@ -212,7 +226,7 @@ fn is_reported_behind<R: Threads + Sync + Abort>(
 fn try_rows<R: Threads + Sync + Abort>(
     rt: &R,
     alloc: Global,
-    front: (&str, &str),
+    front: &(&str, &str),
     rows: &[(&str, &str, &str)],
 ) {
     for (shows, lines, report) in rows {
@@ -225,19 +239,26 @@ fn try_rows<R: Threads + Sync + Abort>(
 
 #[test]
 fn frames_out_of_order(rt: HostRuntime) {
-    try_rows(&rt, rt.alloc(), (NETWORK, ""), FRAMES);
+    try_rows(&rt, rt.alloc(), BARE, GROUP_FRAMES);
+    try_rows(&rt, rt.alloc(), BARE, PAIRWISE_FRAMES);
+    try_rows(&rt, rt.alloc(), BARE, DATA);
 }
 
 #[test]
 fn fast_transitions(rt: HostRuntime) {
     try_rows(&rt, rt.alloc(), ASSOCIATED, TRANSITIONS);
+    try_rows(&rt, rt.alloc(), ASSOCIATED, SESSIONS);
+    try_rows(&rt, rt.alloc(), ASSOCIATED, NUMBERS);
+    try_rows(&rt, rt.alloc(), ASSOCIATED, BESIDE);
 }
 
 #[test]
 fn frames_of_fast_transitions_that_are_refused(rt: HostRuntime) {
-    try_rows(&rt, rt.alloc(), ASSOCIATED, REFUSED);
+    try_rows(&rt, rt.alloc(), ASSOCIATED, REQUESTS);
+    try_rows(&rt, rt.alloc(), ASSOCIATED, NAMES);
+    try_rows(&rt, rt.alloc(), ASSOCIATED, REASSOCIATION);
     try_rows(&rt, rt.alloc(), BEGUN, REFUSED_AT_FIRST);
-    try_rows(&rt, rt.alloc(), (NETWORK, ""), UNAWAITED);
+    try_rows(&rt, rt.alloc(), BARE, UNAWAITED);
 }
 
 #[test]
@@ -246,7 +267,16 @@ fn rounds_of_events(rt: HostRuntime) {
     try_scripts(&rt, rt.alloc(), ROUND_FAULTS);
 }
 
-// A script of those octets is run to its end, and writes what has that front and one of the two answers behind it.
+// The octets are those of the front and the text behind it.
+fn is_joined(octets: &[u8], front: &[u8], text: &str) -> bool {
+    match octets.strip_prefix(front) {
+        Some(behind) => behind == text.as_bytes(),
+        None => false,
+    }
+}
+
+// A script of those octets is run to its end, and writes what has that front and one of the two
+// answers behind it.
 fn is_answered<R: Threads + Sync + Abort>(
     rt: &R,
     alloc: Global,
@@ -256,13 +286,11 @@ fn is_answered<R: Threads + Sync + Abort>(
     let mut source = source_of(rt, alloc, script, NEVER);
     let mut sink = sink_of(rt, alloc, 40000, NEVER);
     let status = ended(rt, alloc, REPLAY, &mut source, &mut sink);
-    let written = sink.written();
-    status == Status::Done
-        && written.starts_with(front)
-        && (written.ends_with(FOUND.as_bytes())
-            && written.len() == front.len().saturating_add(FOUND.len())
-            || written.ends_with(ABSENT.as_bytes())
-                && written.len() == front.len().saturating_add(ABSENT.len()))
+    status == Status::Done && has_answer(sink.written(), front)
+}
+
+fn has_answer(written: &[u8], front: &[u8]) -> bool {
+    is_joined(written, front, FOUND) || is_joined(written, front, ABSENT)
 }
 
 // The same of lines behind those nodes, and what is reported before the answer.
@@ -311,6 +339,29 @@ fn round_gate(rt: HostRuntime) {
     assert!(rt; meet(&rt, rt.alloc()));
 }
 
+// Behind two access points and two stations these lines are run to their end by a gate that each
+// access point passes so often.
+fn is_passed<R: Threads + Sync + Abort>(
+    rt: &R,
+    alloc: Global,
+    lines: &str,
+    passes: [u64; 2],
+) -> bool {
+    let mut source = source_of(rt, alloc, joined(rt, alloc, BEGUN_WITH_TWO.0, lines), NEVER);
+    let mut sink = sink_of(rt, alloc, 40000, NEVER);
+    let gate = Counting::new();
+    let status = ended_by(rt, alloc, &mut source, &mut sink, &gate);
+    status == Status::Done && gate.passes() == passes
+}
+
+// How often is tested alone, and not that an access point passes before its first event.
+#[test]
+fn gate_counts(rt: HostRuntime) {
+    for (lines, passes) in PASSES {
+        assert!(rt; is_passed(&rt, rt.alloc(), lines, *passes), "{lines}");
+    }
+}
+
 // What stands in front, and behind it a text so many times and another text.
 fn repeated(rt: &impl Abort, front: Vec<u8>, text: &str, count: usize, behind: &str) -> Vec<u8> {
     let mut octets = front;
@@ -321,7 +372,8 @@ fn repeated(rt: &impl Abort, front: Vec<u8>, text: &str, count: usize, behind: &
     octets
 }
 
-// A round of so many octets that come, and this behind them, ends so, and the report tells of so many of them, and this.
+// A round of so many octets that come, and this behind them, ends so, and the report tells of so
+// many of them, and this.
 fn is_long_round<R: Threads + Sync + Abort>(
     rt: &R,
     alloc: Global,
@@ -357,7 +409,8 @@ fn front_of_report(rt: &impl Abort, size: usize) -> &'static [u8] {
         .expect(rt, "the report is shorter")
 }
 
-// The handshake's script ends with a fault of the source, whose call of that number fails, and so many octets were written.
+// The handshake's script ends with a fault of the source, whose call of that number fails, and so
+// many octets were written.
 fn is_cut<R: Threads + Sync + Abort>(rt: &R, alloc: Global, call: u64, size: usize) -> bool {
     let source = source_of(rt, alloc, joined(rt, alloc, NETWORK, HANDSHAKE), call);
     let mut source = Trickle { source };
@@ -380,7 +433,8 @@ fn source_that_fails(rt: HostRuntime) {
     }
 }
 
-// The script ends with a fault of the sink, which had that room and whose call of that number fails, and took so many octets.
+// The script ends with a fault of the sink, which had that room and whose call of that number
+// fails, and took so many octets.
 fn is_full<R: Threads + Sync + Abort>(
     rt: &R,
     alloc: Global,
@@ -454,63 +508,113 @@ fn storms_and_their_summaries(rt: HostRuntime) {
     }
 }
 
-// What is handed in for the link of a node, to which the frame comes so often.
-fn plan(alloc: Global, node: Node, count: usize, failing: &[u64]) -> Result<LinkPlan, NoMemory> {
+fn push_frame(rt: &impl Abort, alloc: Global, frames: &mut Vec<Octets>) {
+    let octets = Octets(FRAME.to_vec(alloc).expect(rt, "memory"));
+    frames.push(octets).expect(rt, "memory");
+}
+
+// The frame, so often.
+fn frames_of(rt: &impl Abort, alloc: Global, count: usize) -> Vec<Octets> {
     let mut frames = Vec::new(alloc);
     for _ in 0..count {
-        frames.push(Octets(FRAME.to_vec(alloc)?))?;
+        push_frame(rt, alloc, &mut frames);
     }
-    Ok(LinkPlan::new(node, frames, failing.to_vec(alloc)?))
+    frames
+}
+
+// What is handed in for the link of a node, to which the frame comes so often.
+fn plan(rt: &impl Abort, alloc: Global, node: Node, count: usize, failing: &[u64]) -> LinkPlan {
+    let failing = failing.to_vec(alloc).expect(rt, "memory");
+    LinkPlan::new(node, frames_of(rt, alloc, count), failing)
+}
+
+fn push_plan(rt: &impl Abort, plans: &mut Vec<LinkPlan>, plan: LinkPlan) {
+    plans.push(plan).expect(rt, "memory");
+}
+
+fn plans_of(rt: &impl Abort, alloc: Global, case: &Case) -> Vec<LinkPlan> {
+    let mut plans = Vec::new(alloc);
+    let ap = plan(rt, alloc, Node::Ap(0), case.frames[0], case.links[0]);
+    push_plan(rt, &mut plans, ap);
+    let sta = plan(rt, alloc, Node::Sta(0), case.frames[1], case.links[1]);
+    push_plan(rt, &mut plans, sta);
+    plans
 }
 
 // The air of a live run.
-fn air_of(alloc: Global, case: &Case) -> Result<MemAir, NoMemory> {
-    let mut plans = Vec::new(alloc);
-    plans.push(plan(alloc, Node::Ap(0), case.frames[0], case.links[0])?)?;
-    plans.push(plan(alloc, Node::Sta(0), case.frames[1], case.links[1])?)?;
-    MemAir::new(alloc, plans, case.attach.to_vec(alloc)?)
+fn air_of(rt: &impl Abort, alloc: Global, case: &Case) -> MemAir {
+    let failing = case.attach.to_vec(alloc).expect(rt, "memory");
+    MemAir::new(alloc, plans_of(rt, alloc, case), failing).expect(rt, "memory")
 }
 
-// Frames of so many octets went by the link, in order.
-fn has_sent(link: &SteadyLink, sizes: &[usize]) -> bool {
-    link.sent().len() == sizes.len()
-        && link
-            .sent()
-            .iter()
-            .zip(sizes)
-            .all(|(frame, size)| frame.octets.as_slice().len() == *size)
+// The draws of a live run.
+fn draws_of(rt: &impl Abort, alloc: Global, case: &Case) -> MemDraws {
+    MemDraws::new([7; 32], case.draws.to_vec(alloc).expect(rt, "memory"))
 }
 
-// The links were taken back, and frames of so many octets went by them.
-fn have_sent(air: &MemAir, sent: &[&[usize]]) -> bool {
-    air.returned().len() == sent.len()
-        && air
-            .returned()
-            .iter()
-            .zip(sent)
-            .all(|(link, sizes)| has_sent(link, *sizes))
+// Frames of so many octets went by the link to these nodes, in order.
+fn has_sent(link: &SteadyLink, sent: &[(Node, usize)]) -> bool {
+    if link.sent().len() != sent.len() {
+        return false;
+    }
+    for (frame, (to, size)) in link.sent().iter().zip(sent) {
+        if frame.to != *to || frame.octets.as_slice().len() != *size {
+            return false;
+        }
+    }
+    true
+}
+
+// The links were taken back, and frames of so many octets went by them to these nodes.
+fn have_sent(air: &MemAir, sent: &[&[(Node, usize)]]) -> bool {
+    if air.returned().len() != sent.len() {
+        return false;
+    }
+    for (link, frames) in air.returned().iter().zip(sent) {
+        if !has_sent(link, *frames) {
+            return false;
+        }
+    }
+    true
+}
+
+// Runs the script of the case live, to that sink and over that air.
+fn ended_live<R: Threads + Sync + Abort>(
+    rt: &R,
+    alloc: Global,
+    case: &Case,
+    sink: &mut MemSink,
+    air: &mut MemAir,
+) -> Status {
+    let mut source = source_of(rt, alloc, joined(rt, alloc, case.script, ""), NEVER);
+    let mut draws = draws_of(rt, alloc, case);
+    let mut journal = Journal::new(alloc);
+    run(
+        rt,
+        alloc,
+        LIVE,
+        &mut source,
+        sink,
+        air,
+        &mut draws,
+        &mut journal,
+    )
+}
+
+// The run ended as the case tells, with what was written and sent.
+fn has_ended(status: Status, written: &[u8], air: &MemAir, case: &Case) -> bool {
+    status == case.status && written == case.report.as_bytes() && have_sent(air, case.sent)
 }
 
 // The live run ends so, and writes and sends this.
 fn is_live<R: Threads + Sync + Abort>(rt: &R, alloc: Global, case: &Case) -> bool {
-    let mut source = source_of(rt, alloc, joined(rt, alloc, case.script, ""), NEVER);
     let mut sink = sink_of(rt, alloc, 2000, NEVER);
-    let mut air = air_of(alloc, case).expect(rt, "memory");
-    let failing = case.draws.to_vec(alloc).expect(rt, "memory");
-    let mut draws = MemDraws::new([7; 32], failing);
-    let mut journal = Journal::new(alloc);
-    let words = &["live", "20000"];
-    let status = run(
-        rt,
-        alloc,
-        words,
-        &mut source,
-        &mut sink,
-        &mut air,
-        &mut draws,
-        &mut journal,
-    );
-    status == case.status && sink.written() == case.report.as_bytes() && have_sent(&air, case.sent)
+    let mut air = air_of(rt, alloc, case);
+    let status = ended_live(rt, alloc, case, &mut sink, &mut air);
+    let is_right = has_ended(status, sink.written(), &air, case);
+    drop(air);
+    drop(sink);
+    is_right
 }
 
 #[test]
@@ -555,7 +659,8 @@ fn long_lines_and_many_lines(rt: HostRuntime) {
     }
 }
 
-// A comment of so many octets in line 2, behind which the source fails: the script ends so, and writes nothing.
+// A comment of so many octets in line 2, behind which the source fails: the script ends so, and
+// writes nothing.
 fn is_left_open<R: Threads + Sync + Abort>(
     rt: &R,
     alloc: Global,
@@ -663,7 +768,8 @@ fn add_association(
     }
 }
 
-// What stands in front, and behind it that text for each of 64 stations, whose associations have six frames each, and an end.
+// What stands in front, and behind it that text for each of 64 stations, whose associations have
+// six frames each, and an end.
 fn associations(rt: &impl Abort, alloc: Global, front: Vec<u8>, text: &str, end: &str) -> Vec<u8> {
     let mut octets = front;
     for sta in 0..64usize {
@@ -734,9 +840,16 @@ fn has_text(rt: &impl Abort, alloc: Global, status: Status, text: &str) -> bool 
     said.as_str() == text
 }
 
+// Each status is told so.
+fn try_texts(rt: &impl Abort, alloc: Global, rows: &[(Status, &str)]) {
+    for (status, text) in rows {
+        assert!(rt; has_text(rt, alloc, *status, text), "{text}");
+    }
+}
+
 #[test]
 fn texts_of_statuses(rt: HostRuntime) {
-    for (status, text) in TEXTS {
-        assert!(rt; has_text(&rt, rt.alloc(), *status, text), "{text}");
-    }
+    try_texts(&rt, rt.alloc(), TEXTS);
+    try_texts(&rt, rt.alloc(), TEXTS_OF_LINES);
+    try_texts(&rt, rt.alloc(), TEXTS_OF_ARGUMENTS);
 }

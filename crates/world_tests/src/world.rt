@@ -1,4 +1,5 @@
-//! Worlds of access points and stations, event by event: what they journal, and the octets that come.
+//! Worlds of access points and stations, event by event: what they journal, and the octets that
+//! come.
 
 ghost use Rattle.std.specs.Prelude.{◌≡◌, ◌≢◌, ◌≤◌, ◌<◌, suc, [], length, IsTrue};
 ghost use Rattle.domain_base.specs.declared.names.Akm.{Akm as AnyAkm};
@@ -9,7 +10,10 @@ ghost use Rattle.node_base.specs.Peers.{IsReceiverOf, most_payload};
 mod cases;
 mod outcomes;
 
-use cases::{CASES, CHANGED, COMING, Line, SECOND_ROUND, STARTED, THREE_FRAMES, Turn};
+use cases::{
+    CHANGED, CHANGED_FRAMES, COMING, CONNECTS, Case, GROUP_KEYS, HANDSHAKE, Line, NEW_GROUP_KEY,
+    OLD_FRAMES, PAYLOADS, REPEATED, SECOND_ROUND, STARTED, THREE_FRAMES, Turn,
+};
 use domain_base::{Akm, Mac, Node, Octets, Peer, Tid};
 use domain_world::World;
 use key_hierarchy::RevokeAnswer;
@@ -272,17 +276,24 @@ fn is_line(entry: &Entry, line: &Line) -> bool {
         && verb(&entry.act) == line.3
 }
 
-// The journal has the entries of round 0 and these behind them, and no others.
-fn has_lines(journal: &Journal, lines: &[Line]) -> bool {
-    if journal.len() != STARTED.len() + lines.len() {
+// The entries are these, and no others.
+fn are_lines(entries: &[Entry], lines: &[Line]) -> bool {
+    if entries.len() != lines.len() {
         return false;
     }
-    for (entry, line) in journal.entries().iter().zip(STARTED.iter().chain(lines)) {
+    for (entry, line) in entries.iter().zip(lines) {
         if !is_line(entry, line) {
             return false;
         }
     }
     true
+}
+
+// The journal has the entries of round 0 and these behind them, and no others.
+fn has_lines(journal: &Journal, lines: &[Line]) -> bool {
+    let entries = journal.entries();
+    let (started, behind) = entries.split_at(entries.len().min(STARTED.len()));
+    are_lines(started, STARTED) && are_lines(behind, lines)
 }
 
 // The frame of that number was sent, and is these octets.
@@ -379,28 +390,57 @@ fn come(rt: &impl Abort, alloc: Global, turns: &[Turn], want: Want) -> bool {
     let mut journal = Journal::new(alloc);
     let mut nodes = two_nodes(rt, alloc, &mut journal);
     play(rt, alloc, &mut nodes, turns, &mut journal);
-    nodes.rounds() == turns.len() as u64 && is_found(&nodes, &journal, want)
+    let is_right = nodes.rounds() == turns.len() as u64 && is_found(&nodes, &journal, want);
+    drop(nodes);
+    drop(journal);
+    is_right
 }
 
-#[test]
-fn events_and_what_they_add(rt: HostRuntime) {
-    for case in CASES {
+// The turns of each case add its lines.
+fn try_cases(rt: &impl Abort, alloc: Global, cases: &[Case]) {
+    for case in cases {
         assert!(rt;
-            come(&rt, rt.alloc(), case.turns, Want::Lines(case.lines)),
+            come(rt, alloc, case.turns, Want::Lines(case.lines)),
             "{}",
             case.shows
         );
     }
 }
 
+#[test]
+fn events_and_what_they_add(rt: HostRuntime) {
+    try_cases(&rt, rt.alloc(), HANDSHAKE);
+    try_cases(&rt, rt.alloc(), GROUP_KEYS);
+    try_cases(&rt, rt.alloc(), PAYLOADS);
+    try_cases(&rt, rt.alloc(), NEW_GROUP_KEY);
+}
+
+#[test]
+fn repeated_and_changed_frames_and_what_they_add(rt: HostRuntime) {
+    try_cases(&rt, rt.alloc(), OLD_FRAMES);
+    try_cases(&rt, rt.alloc(), CHANGED_FRAMES);
+    try_cases(&rt, rt.alloc(), REPEATED);
+}
+
+// A round without events passes.
+fn pass_round<R: Abort + Threads + Sync>(rt: &R, nodes: &mut World, journal: &mut Journal)
+    requires { Owns nodes.old journal.old.entries }
+    ensures { Owns nodes.new journal.new.entries }
+{
+    assert!(rt; nodes.rounds() < 1000);
+    nodes.round(rt, &[], journal).expect(rt, "memory");
+}
+
 // A round without events is one: what comes behind it is in the second round.
 fn is_counted<R: Abort + Threads + Sync>(rt: &R, alloc: Global) -> bool {
     let mut journal = Journal::new(alloc);
     let mut nodes = two_nodes(rt, alloc, &mut journal);
-    assert!(rt; nodes.rounds() < 1000);
-    nodes.round(rt, &[], &mut journal).expect(rt, "memory");
-    play(rt, alloc, &mut nodes, &[Turn::Connect], &mut journal);
-    nodes.rounds() == 2 && has_lines(&journal, SECOND_ROUND)
+    pass_round(rt, &mut nodes, &mut journal);
+    play(rt, alloc, &mut nodes, CONNECTS, &mut journal);
+    let is_right = nodes.rounds() == 2 && has_lines(&journal, SECOND_ROUND);
+    drop(nodes);
+    drop(journal);
+    is_right
 }
 
 #[test]

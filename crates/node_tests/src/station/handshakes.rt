@@ -146,7 +146,8 @@ pub const HANDSHAKES: &[Step] = &[
     },
 ];
 
-/// A station that has nothing to leave, leaves a session, and comes back: what it kept of group keys goes on.
+/// A station that has nothing to leave, leaves a session, and comes back: what it kept of group
+/// keys goes on.
 pub const LEAVING: &[Step] = &[
     Step {
         shows: "nothing to leave",

@@ -1,4 +1,5 @@
-//! Protected data at a station: frames and what their seals cover were computed apart from this project.
+//! Protected data at a station: frames and what their seals cover were computed apart from this
+//! project.
 
 use crate::acts::Expected::{
     Closed, Derived, Drew, Finished, Group, HandedUp, Idle, Opened, Pairwise, Sent, SentData,

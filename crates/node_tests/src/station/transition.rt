@@ -56,7 +56,8 @@ const LAST_KEYS: Keys = Keys {
     ptk: LAST_PTK,
 };
 
-/// An association, a fast transition from its session, its frames over again, and the way back, on which the group key is resumed.
+/// An association, a fast transition from its session, its frames over again, and the way back, on
+/// which the group key is resumed.
 pub const ROAMING: &[Step] = &[
     Step {
         shows: "no fast transition without a session",

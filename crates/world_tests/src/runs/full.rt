@@ -1,6 +1,7 @@
 //! Associations of many stations, and a key holder that has no room.
 
-/// An association behind other frames: # is the number of the station, and A to F stand for those of its frames.
+/// An association behind other frames: # is the number of the station, and A to F stand for those
+/// of its frames.
 pub(crate) const ASSOCIATION: &str = "connect s# a1
 deliver A to a1
 deliver B to s#
@@ -33,8 +34,8 @@ finish a1 s#
 put a1 s# held
 ";
 
-/// Behind the associations of 64 stations the first one associates once more, its row is revoked, and it associates again: no row
-/// is left for it, for those that are revoked count.
+/// Behind the associations of 64 stations the first one associates once more, its row is revoked,
+/// and it associates again: no row is left for it, for those that are revoked count.
 pub(crate) const FULL: &str = "connect s1 a1
 deliver 385 to a1
 deliver 386 to s1

@@ -1,5 +1,6 @@
 //! Scripts of live runs.
 
+use domain_base::Node;
 use domain_cli::Status;
 use frame_script::Form;
 
@@ -21,16 +22,16 @@ pub(crate) struct Case {
     pub(crate) status: Status,
     /// What is written.
     pub(crate) report: &'static str,
-    /// How many octets the frames have that went by the links taken back, in order.
-    pub(crate) sent: &'static [&'static [usize]],
+    /// To whom frames went by the links taken back, in order, and how many octets they have.
+    pub(crate) sent: &'static [&'static [(Node, usize)]],
 }
 
 // The frame that comes: no node reads more of it than that it is none of theirs.
-pub(crate) const FRAME: [u8; 10] = [0xd4, 0, 0, 0, 2, 0, 0, 0, 0, 0x11];
+pub(crate) const FRAME: &[u8] = &[0xd4, 0, 0, 0, 2, 0, 0, 0, 0, 0x11];
 
 const NOTHING_FAILS: [&[u64]; 2] = [&[], &[]];
 
-pub(crate) const CASES: [Case; 8] = [
+pub(crate) static CASES: [Case; 8] = [
     Case {
         shows: "a turn",
         script: "domain 1
@@ -101,7 +102,7 @@ end frames 2 accepted 0 answered 0 refused 0 ignored 18
 keys installed 1 resumed 0 used 1 handed-up 0
 premises fresh yes no-collision yes unforged yes
 ",
-        sent: &[&[41], &[62]],
+        sent: &[&[(Node::Sta(0), 41)], &[(Node::Ap(0), 62)]],
     },
     Case {
         shows: "a send that fails",
@@ -224,6 +225,6 @@ deliver 1 to a1
 open s1 a1 connect
 sent 1 s1 a1 assoc-req 62
 ",
-        sent: &[&[], &[62]],
+        sent: &[&[], &[(Node::Ap(0), 62)]],
     },
 ];

@@ -1,4 +1,4 @@
-//! A gate at which the access points of a round wait for each other.
+//! Gates: one at which the access points of a round wait for each other, and one that counts.
 
 use domain_cli::Gate;
 use std::sync::atomic::{AtomicU64, Ordering};
@@ -49,5 +49,37 @@ impl Gate for Meeting {
             }
         }
         self.missed.store(1, Ordering::SeqCst);
+    }
+}
+
+/// A gate that counts how often each of two access points passes.
+#[derive(Drop)]
+pub(crate) struct Counting {
+    first: AtomicU64,
+    second: AtomicU64,
+}
+
+impl Counting {
+    /// A gate that none has passed.
+    pub(crate) fn new() -> Self {
+        Counting {
+            first: AtomicU64::new(0),
+            second: AtomicU64::new(0),
+        }
+    }
+
+    /// How often each passed.
+    pub(crate) fn passes(&self) -> [u64; 2] {
+        [
+            self.first.load(Ordering::SeqCst),
+            self.second.load(Ordering::SeqCst),
+        ]
+    }
+}
+
+impl Gate for Counting {
+    fn pass(&self, ap: u16) {
+        let own = if ap == 0 { &self.first } else { &self.second };
+        own.fetch_add(1, Ordering::SeqCst);
     }
 }

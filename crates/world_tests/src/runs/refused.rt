@@ -1,7 +1,7 @@
 //! Scripts of a mobility domain in which frames are refused.
 
 /// Behind the association: what is shown, the lines, and what is reported of them.
-pub(crate) const REFUSED: &[(&str, &str, &str)] = &[
+pub(crate) const REQUESTS: &[(&str, &str, &str)] = &[
     (
         "malformed elements of an authentication request (the length of the R0KH-ID, one octet cut)",
         "roam s1 a2
@@ -106,6 +106,10 @@ keys installed 5 resumed 0 used 0 handed-up 0
 premises fresh yes no-collision yes unforged yes
 ",
     ),
+];
+
+/// The same with names that are missing, and of responses.
+pub(crate) const NAMES: &[(&str, &str, &str)] = &[
     (
         "no name, and two of them, of an R0KH that is there and of one that is not",
         "roam s1 a2
@@ -227,6 +231,10 @@ keys installed 8 resumed 0 used 1 handed-up 1
 premises fresh yes no-collision yes unforged yes
 ",
     ),
+];
+
+/// The same of reassociation.
+pub(crate) const REASSOCIATION: &[(&str, &str, &str)] = &[
     (
         "reassociation requests with another ANonce, SNonce, MIC, count of elements, name, mobility domain, and another access point of the session, which is not looked at",
         "roam s1 a2

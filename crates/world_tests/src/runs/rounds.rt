@@ -3,10 +3,7 @@
 use domain_cli::Status;
 use frame_script::Form;
 
-/// Behind two access points and two stations: each station asks the access point of the other for a fast transition, both in one round.
-pub(crate) const CROSSING: (&str, &str, &str) = (
-    "two stations that change places in one round",
-    "connect s1 a1
+const CROSSING_LINES: &str = "connect s1 a1
 deliver 1 to a1
 deliver 2 to s1
 deliver 3 to s1
@@ -26,7 +23,13 @@ round
 deliver 14 to a1
 deliver 13 to a2
 end
-",
+";
+
+/// Behind two access points and two stations: each station asks the access point of the other for a
+/// fast transition, both in one round.
+pub(crate) const CROSSING: (&str, &str, &str) = (
+    "two stations that change places in one round",
+    CROSSING_LINES,
     "open s1 a1 connect
 sent 1 s1 a1 assoc-req 67
 took a1 assoc-req accepted
@@ -85,7 +88,29 @@ premises fresh yes no-collision yes unforged yes
 ",
 );
 
-/// The answer of a key holder to a look, as it stands in a report to the end of that: a row is there, and none is.
+/// Lines behind two access points and two stations, and how often each access point passes the
+/// gate: in a round of both, in one of the first alone, and without a round.
+pub(crate) const PASSES: &[(&str, [u64; 2])] = &[
+    (CROSSING_LINES, [1, 1]),
+    (
+        "connect s1 a1
+round
+deliver 1 to a1
+rekey a1
+end
+",
+        [1, 0],
+    ),
+    (
+        "connect s1 a1
+deliver 1 to a1
+",
+        [0, 0],
+    ),
+];
+
+/// The answer of a key holder to a look, as it stands in a report to the end of that: a row is
+/// there, and none is.
 pub(crate) const FOUND: &str = "took a2 ft-req accepted
 look a2 s1 found
 open a2 s1 roam
@@ -103,8 +128,8 @@ keys installed 5 resumed 0 used 0 handed-up 0
 premises fresh yes no-collision yes unforged yes
 ";
 
-/// Rounds in which an access point asks another's key holder, and that has a row more or less: what is shown, the lines, and what is
-/// reported before the answer, which may be that of either moment.
+/// Rounds in which an access point asks another's key holder, and that has a row more or less: what
+/// is shown, the lines, and what is reported before the answer, which may be that of either moment.
 pub(crate) const LOOKED_FOR: &[(&str, &str, &str)] = &[
     (
         "a row that is revoked in the round in which it is looked for",
@@ -186,7 +211,8 @@ put a1 s1 held
     ),
 ];
 
-/// Behind two access points and two stations: what is shown, the lines, and what is reported of them.
+/// Behind two access points and two stations: what is shown, the lines, and what is reported of
+/// them.
 pub(crate) const ROUNDS: &[(&str, &str, &str)] = &[
     CROSSING,
     (
@@ -273,8 +299,9 @@ const STARTED: &str = "install a1 all gtk 1\n";
 
 const CONNECTED: &str = "install a1 all gtk 1\nopen s1 a1 connect\nsent 1 s1 a1 assoc-req 62\n";
 
-/// The front of scripts, what stands behind it, with a bar between two, how they end and what they write: a round that is broken or left
-/// open is not run, and a frame that is sent in a round is not there in it.
+/// The front of scripts, what stands behind it, with a bar between two, how they end and what they
+/// write: a round that is broken or left open is not run, and a frame that is sent in a round is
+/// not there in it.
 pub(crate) const ROUND_FAULTS: &[(&str, &str, Status, &str)] = &[
     (
         NODES,
@@ -338,7 +365,8 @@ keys installed 1 resumed 0 used 0 handed-up 0
 premises fresh yes no-collision yes unforged yes
 ";
 
-/// Rounds of so many events and this behind them: how the script ends, of how many of the events is reported, and this behind that.
+/// Rounds of so many events and this behind them: how the script ends, of how many of the events is
+/// reported, and this behind that.
 pub(crate) const LONG_ROUNDS: &[(usize, &str, Status, usize, &str)] = &[
     (256, "end\n", Status::Done, 256, REFUSED),
     (257, "end\n", Status::Limit(8), 0, ""),

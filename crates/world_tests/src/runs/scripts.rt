@@ -93,7 +93,8 @@ deliver 5 to s1\r
 deliver 6 to a1\r
 ";
 
-// The fronts of scripts, what stands behind them, with a bar between two, how they end and what they write.
+// The fronts of scripts, what stands behind them, with a bar between two, how they end and what
+// they write.
 pub(crate) const SCRIPTS: &[(&str, &str, Status, &str)] = &[
     (NETWORK, HANDSHAKE, Status::Done, REPORT),
     (
@@ -196,9 +197,9 @@ pub(crate) const SCRIPTS: &[(&str, &str, Status, &str)] = &[
     (NETWORK, UNENDED, Status::Done, REPORT),
 ];
 
-// Scripts in which frames come again, late, changed, cut or from outside: what is shown, the lines behind the first seven, and the
-// report.
-pub(crate) const FRAMES: &[(&str, &str, &str)] = &[
+// Scripts in which frames come again, late, changed, cut or from outside: what is shown, the lines
+// behind the first seven, and the report.
+pub(crate) const GROUP_FRAMES: &[(&str, &str, &str)] = &[
     (
         "a new group key, whose messages come again",
         "connect s1 a1
@@ -375,6 +376,10 @@ keys installed 7 resumed 1 used 0 handed-up 0
 premises fresh yes no-collision yes unforged yes
 ",
     ),
+];
+
+// The same with messages of the four-way handshake.
+pub(crate) const PAIRWISE_FRAMES: &[(&str, &str, &str)] = &[
     (
         "M3 once more, and old frames",
         "connect s1 a1
@@ -562,6 +567,10 @@ keys installed 1 resumed 0 used 0 handed-up 0
 premises fresh yes no-collision yes unforged yes
 ",
     ),
+];
+
+// The same with data.
+pub(crate) const DATA: &[(&str, &str, &str)] = &[
     (
         "data altered, with no packet number, with another key id, as it was sent, and again",
         "connect s1 a1
@@ -683,12 +692,14 @@ keys installed 1 resumed 0 used 0 handed-up 0
 premises fresh yes no-collision yes unforged yes
 ";
 
-// How many octets of the report are written where the call of that number to the source fails. Calls give 75 octets each: the first
-// 140 octets of the script list the access point, the first 219 have four events, and 267 have all.
+// How many octets of the report are written where the call of that number to the source fails.
+// Calls give 75 octets each: the first 140 octets of the script list the access point, the first
+// 219 have four events, and 267 have all.
 pub(crate) const READ_FAULTS: &[(u64, usize)] = &[(0, 0), (1, 0), (2, 21), (3, 227), (4, 409)];
 
-// The lines behind the first seven, the room of a sink and the call to it that fails, and how many octets of the report it takes
-// before. The first line has 21 octets. A sink that fails takes the place of a fault of the script.
+// The lines behind the first seven, the room of a sink and the call to it that fails, and how many
+// octets of the report it takes before. The first line has 21 octets. A sink that fails takes the
+// place of a fault of the script.
 pub(crate) const WRITE_FAULTS: &[(&str, usize, u64, usize)] = &[
     (HANDSHAKE, 100, 99, 100),
     (HANDSHAKE, 1000, 0, 0),
@@ -722,8 +733,8 @@ pub(crate) const WORDS: &[&[&str]] = &[
     &["--version"],
 ];
 
-// Scripts of so many lines, the first with `domain 1` and the others with a comment of one octet, of a comment of so many octets
-// behind them and this text: how they end and what they write.
+// Scripts of so many lines, the first with `domain 1` and the others with a comment of one octet,
+// of a comment of so many octets behind them and this text: how they end and what they write.
 pub(crate) const LONG_SCRIPTS: &[(usize, usize, &str, Status, &str)] = &[
     (1, 8192, "", Status::Done, NOTHING),
     (1, 8192, "\n", Status::Done, NOTHING),
@@ -742,15 +753,15 @@ pub(crate) const LONG_SCRIPTS: &[(usize, usize, &str, Status, &str)] = &[
     (65536, 8193, "", Status::Limit(2), ""),
 ];
 
-// Comments of so many octets in line 2, behind which the source fails: a line of 8,193 octets is refused before, and one of 8,192
-// waits for its end.
+// Comments of so many octets in line 2, behind which the source fails: a line of 8,193 octets is
+// refused before, and one of 8,192 waits for its end.
 pub(crate) const OPEN_LINES: &[(usize, Status)] = &[
     (8193, Status::Limit(2)),
     (8192, Status::ReadFault),
 ];
 
-// Networks of so many access points and stations: how a script that lists them ends, how many access points start, and what is
-// reported behind that.
+// Networks of so many access points and stations: how a script that lists them ends, how many
+// access points start, and what is reported behind that.
 pub(crate) const NETWORKS: &[(u8, u8, Status, u8, &str)] = &[
     // as many as there may be
     (16, 64, Status::Done, 16, SIXTEEN),
@@ -789,7 +800,8 @@ pub(crate) const LONG_LINES: &[(&str, usize, Status, &str)] = &[
     ),
 ];
 
-// What stands behind a handshake and in front of 4608 digits in a script, and behind them; and the same in its report.
+// What stands behind a handshake and in front of 4608 digits in a script, and behind them; and the
+// same in its report.
 pub(crate) const CARRIED: (&str, &str) = (
     "send s1 a1 - ",
     "

@@ -15,6 +15,10 @@ pub(crate) const TEXTS: &[(Status, &str)] = &[
         "a socket could not be opened, or a frame not be sent or taken",
     ),
     (Status::DrawFault, "the seed could not be drawn"),
+];
+
+// And of lines that are refused.
+pub(crate) const TEXTS_OF_LINES: &[(Status, &str)] = &[
     (
         Status::Script(65536, 3, Form::LiveSeed),
         "line 65536: wrong arguments; the form is seed <64 digits or draw>",
@@ -67,6 +71,10 @@ pub(crate) const TEXTS: &[(Status, &str)] = &[
         Status::Script(65539, 3, Form::Inject),
         "line 65539: wrong arguments; the form is inject <node> <digits>",
     ),
+];
+
+// And of lines with words that name nothing, or what is not there.
+pub(crate) const TEXTS_OF_ARGUMENTS: &[(Status, &str)] = &[
     (
         Status::Script(65540, 4, Form::Connect),
         "line 65540: no such node, or a node of the other kind; the form is connect <sta> <ap>",

@@ -1,6 +1,7 @@
 //! Scripts of a mobility domain: associations and fast transitions.
 
-// The header of the mobility domain, two access points, a station, and its association with the first one.
+// The header of the mobility domain, two access points, a station, and its association with the
+// first one.
 const ASSOCIATION_OF_S1: &str = "domain 1
 seed 000102030405060708090a0b0c0d0e0f101112131415161718191a1b1c1d1e1f
 ssid IEEE
@@ -45,10 +46,10 @@ put a1 s1 held
 ";
 
 /// The station's association with the first access point, and what is reported of it.
-pub(crate) const ASSOCIATED: (&str, &str) = (ASSOCIATION_OF_S1, ITS_REPORT);
+pub(crate) const ASSOCIATED: &(&str, &str) = &(ASSOCIATION_OF_S1, ITS_REPORT);
 
 /// The nodes alone, and what is reported as they start.
-pub(crate) const BEGUN: (&str, &str) = (
+pub(crate) const BEGUN: &(&str, &str) = &(
     "domain 1
 seed 000102030405060708090a0b0c0d0e0f101112131415161718191a1b1c1d1e1f
 ssid IEEE
@@ -65,7 +66,7 @@ install a2 all gtk 1
 );
 
 /// The same with a station more.
-pub(crate) const BEGUN_WITH_TWO: (&str, &str) = (
+pub(crate) const BEGUN_WITH_TWO: &(&str, &str) = &(
     "domain 1
 seed 000102030405060708090a0b0c0d0e0f101112131415161718191a1b1c1d1e1f
 ssid IEEE
@@ -205,6 +206,10 @@ keys installed 5 resumed 0 used 0 handed-up 0
 premises fresh yes no-collision yes unforged yes
 ",
     ),
+];
+
+/// The same with sessions and attempts before and behind a fast transition.
+pub(crate) const SESSIONS: &[(&str, &str, &str)] = &[
     (
         "another association while the row is held",
         "connect s1 a1
@@ -363,6 +368,10 @@ keys installed 6 resumed 0 used 0 handed-up 0
 premises fresh yes no-collision yes unforged yes
 ",
     ),
+];
+
+/// The same with new group keys, packet numbers and frames over again.
+pub(crate) const NUMBERS: &[(&str, &str, &str)] = &[
     (
         "a group key that is new at the target",
         "rekey a2
@@ -517,6 +526,10 @@ keys installed 8 resumed 0 used 0 handed-up 0
 premises fresh yes no-collision yes unforged yes
 ",
     ),
+];
+
+/// The same with an attempt beside the session of a fast transition, and group keys in it.
+pub(crate) const BESIDE: &[(&str, &str, &str)] = &[
     (
         "an attempt beside the session of a fast transition: requests of both are taken, and its own takes the place of the session",
         "roam s1 a2

@@ -6,58 +6,37 @@ ghost use Rattle.frame_script.specs.declared.reader.Mode.TheVariants as modes;
 
 use super::live_rows::{BEHIND_DRAW, BY_KIND, LIVE_FORMS, TURNS};
 use super::rows::{HEADER, NO_NODE, ONE_AP, SEED, SIZES, Says};
-use super::{journal_of, play, reader_in, tell};
+use super::{ask_each, play, reader_in, try_forms};
 use frame_script::{Mode, ScriptReader, Step};
 use run_journal::{Domain, Journal};
 use std::alloc::Global;
 use std::process::Abort;
-
-// What the line says in a run of that kind behind these lines, and behind two frames.
-fn ask_in(
-    rt: &impl Abort,
-    alloc: Global,
-    mode: Mode,
-    header: &[&[u8]],
-    nodes: &[&[u8]],
-    line: &[u8],
-) -> Says
-    requires { length header.now + length nodes.now < 2 ^ 32 }
-{
-    let journal = journal_of(rt, alloc, SIZES);
-    let mut reader = reader_in(rt, alloc, mode, header, nodes, &journal);
-    let says = tell(alloc, &mut reader, line, &journal);
-    drop(reader);
-    drop(journal);
-    says
-}
-
-// Each of the lines of that text says this in a run of that kind.
-fn ask_each_in(
-    rt: &impl Abort,
-    alloc: Global,
-    mode: Mode,
-    header: &[&[u8]],
-    nodes: &[&[u8]],
-    lines: &str,
-    want: Says,
-)
-    requires { length header.now + length nodes.now < 2 ^ 32 }
-{
-    for line in lines.split('\n') {
-        assert!(rt;
-            ask_in(rt, alloc, mode, header, nodes, line.as_bytes()) == want,
-            "{line}"
-        );
-    }
-}
 
 #[test]
 fn lines_by_the_kind_of_run(rt: HostRuntime) {
     for (count, nodes, replay, live, lines) in BY_KIND {
         assert!(rt; *count <= 5 && nodes.len() <= 10);
         let header = &HEADER[..*count];
-        ask_each_in(&rt, rt.alloc(), Mode::Replay, header, nodes, lines, *replay);
-        ask_each_in(&rt, rt.alloc(), Mode::Live, header, nodes, lines, *live);
+        ask_each(
+            &rt,
+            rt.alloc(),
+            Mode::Replay,
+            header,
+            nodes,
+            SIZES,
+            lines,
+            *replay,
+        );
+        ask_each(
+            &rt,
+            rt.alloc(),
+            Mode::Live,
+            header,
+            nodes,
+            SIZES,
+            lines,
+            *live,
+        );
     }
 }
 
@@ -120,31 +99,7 @@ fn the_seed_that_is_drawn_is_that_of_the_network(rt: HostRuntime) {
     drop(journal);
 }
 
-// How the form of the line is written behind these lines of a live run.
-fn live_form_text(
-    rt: &impl Abort,
-    alloc: Global,
-    header: &[&[u8]],
-    nodes: &[&[u8]],
-    line: &str,
-) -> &'static str
-    requires { length header.now + length nodes.now < 2 ^ 32 }
-{
-    let journal = Journal::new(alloc);
-    let reader = reader_in(rt, alloc, Mode::Live, header, nodes, &journal);
-    let form = reader.form(line.as_bytes());
-    drop(reader);
-    drop(journal);
-    form.text()
-}
-
 #[test]
 fn forms_of_lines_of_a_live_run(rt: HostRuntime) {
-    for (count, nodes, line, text) in LIVE_FORMS {
-        assert!(rt; *count <= 5 && nodes.len() <= 10);
-        assert!(rt;
-            live_form_text(&rt, rt.alloc(), &HEADER[..*count], nodes, line) == *text,
-            "{line}"
-        );
-    }
+    try_forms(&rt, rt.alloc(), Mode::Live, HEADER, LIVE_FORMS);
 }

@@ -6,8 +6,8 @@ use super::rows::{
 };
 use domain_base::Peer;
 
-// Behind that many lines of `HEADER`, these nodes and two frames each of these lines says the one in
-// a replay and the other in a live run.
+// Behind that many lines of `HEADER`, these nodes and two frames each of these lines says the one
+// in a replay and the other in a live run.
 pub(super) const BY_KIND: &[(usize, &[&[u8]], Says, Says, &str)] = &[
     (
         0,
@@ -233,7 +233,8 @@ pub(super) const LATE_TURN: &[(&[u8], Says)] = &[
     (b"# turn", Nothing),
 ];
 
-// Behind that many lines of `HEADER` and these lines the form of a line of a live run is written so.
+// Behind that many lines of `HEADER` and these lines the form of a line of a live run is written
+// so.
 pub(super) const LIVE_FORMS: &[(usize, &[&[u8]], &str, &str)] = &[
     (0, NO_NODE, "turn", "domain 1"),
     (1, NO_NODE, "seed draw x", "seed <64 digits or draw>"),

@@ -1,4 +1,5 @@
-//! What comes of frames that are repeated, forged, cut and foreign, and of two stations that roam between two access points.
+//! What comes of frames that are repeated, forged, cut and foreign, and of two stations that roam
+//! between two access points.
 
 ghost use Rattle.std.specs.Prelude.{◌≡◌, []};
 ghost use Rattle.domain_world.specs.Owning.{Owns};
@@ -167,7 +168,8 @@ const CASES: &[Case] = &[
     },
 ];
 
-// Two stations at two access points: the first roams to the other access point and back, while the second is connected.
+// Two stations at two access points: the first roams to the other access point and back, while the
+// second is connected.
 const ROAMING: &Case = &Case {
     shows: "two stations at two access points",
     turns: &[
@@ -234,7 +236,8 @@ const ROAMING: &Case = &Case {
         ACCEPTED,
         ACCEPTED,
     ],
-    // two as the access points start, three in each of three handshakes, and two on the way back, where one is resumed
+    // two as the access points start, three in each of three handshakes, and two on the way back,
+    // where one is resumed
     installed: 13,
 };
 
@@ -268,7 +271,8 @@ fn are_outcomes(journal: &Journal, outcomes: &[Outcome]) -> bool {
     taken == outcomes.len()
 }
 
-// The frames that were taken came to these outcomes, so many keys were installed, what was drawn is fresh and no keys collide.
+// The frames that were taken came to these outcomes, so many keys were installed, what was drawn is
+// fresh and no keys collide.
 pub(crate) fn come_to(journal: &Journal, outcomes: &[Outcome], installed: usize) -> bool {
     let premises = journal.premises();
     are_outcomes(journal, outcomes)
@@ -317,7 +321,8 @@ fn four_nodes(rt: &impl Abort, alloc: Global, journal: &mut Journal) -> World
     nodes
 }
 
-// The case of the stations that roam goes as it tells, one group key is resumed, and no MIC was forged.
+// The case of the stations that roam goes as it tells, one group key is resumed, and no MIC was
+// forged.
 fn has_roamed(journal: &Journal) -> bool {
     come_to(journal, ROAMING.outcomes, ROAMING.installed)
         && counted(journal).1 == RESUMED
@@ -329,5 +334,8 @@ fn stations_that_roam(rt: HostRuntime) {
     let mut journal = Journal::new(rt.alloc());
     let mut nodes = four_nodes(&rt, rt.alloc(), &mut journal);
     play(&rt, rt.alloc(), &mut nodes, ROAMING.turns, &mut journal);
-    assert!(rt; has_roamed(&journal));
+    drop(nodes);
+    let is_right = has_roamed(&journal);
+    drop(journal);
+    assert!(rt; is_right);
 }
