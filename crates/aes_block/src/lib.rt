@@ -6,7 +6,8 @@ ghost use Rattle.domain_base.specs.Octets.{AreOctets};
 ghost use Rattle.aes_block.specs.Octets.{IsBlock, exclusive_or};
 ghost use Rattle.aes_block.specs.Field.{sub_octet};
 ghost use Rattle.aes_block.specs.State.{sub_octets, shift_rows, mix_columns};
-ghost use Rattle.aes_block.specs.Words.{word, columns, octets_of, substituted_word, mixed_word, unmixed_word, unmix_columns, IsExpanded};
+ghost use Rattle.aes_block.specs.Words.{word, columns, octets_of, substituted_word, mixed_word};
+ghost use Rattle.aes_block.specs.Words.{unmixed_word, unmix_columns, IsExpanded};
 ghost use Rattle.aes_block.specs.Cipher.{next_round_key, round_key, cipher, Decrypts};
 
 mod constants;

@@ -2,7 +2,9 @@
 
 ghost use Rattle.std.specs.Prelude.{◌≡◌, ◌<◌, ◌≤◌, ◌==◌, ◌||◌, nat_le, length};
 ghost use Rattle.std.specs.Int.{bit_at};
-ghost use Rattle.air_frame.specs.Control.{frame_control, protocol_version, frame_type, frame_subtype, fragment_number, is_management, is_data, is_qos, has_a_msdu, data_header_length};
+ghost use Rattle.air_frame.specs.Control.{frame_control, protocol_version, frame_type};
+ghost use Rattle.air_frame.specs.Control.{frame_subtype, fragment_number, is_management, is_data};
+ghost use Rattle.air_frame.specs.Control.{is_qos, has_a_msdu, data_header_length};
 
 use domain_base::little_u16_at;
 

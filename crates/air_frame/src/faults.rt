@@ -2,7 +2,8 @@
 
 ghost use Rattle.std.specs.Prelude.{◌≡◌, ◌≤◌, ◌+◌, ◌&&◌, ◌||◌, not, nat_lt, length};
 ghost use Rattle.air_frame.specs.Control.{is_to_ds, is_from_ds, data_header_length};
-ghost use Rattle.air_frame.specs.Faults.{fixed_length, management_fault, begins_eapol, has_ext_iv, body_fault, data_fault, air_fault};
+ghost use Rattle.air_frame.specs.Faults.{fixed_length, management_fault, begins_eapol, has_ext_iv};
+ghost use Rattle.air_frame.specs.Faults.{body_fault, data_fault, air_fault};
 
 use crate::control::{
     FROM_DS, HT_CONTROL, MORE_FRAGMENTS, PROTECTED, TO_DS, data_header_length, fragment,

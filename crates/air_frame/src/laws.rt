@@ -1,13 +1,19 @@
 //! Laws of the definitions. The functions do nothing; their contracts are proved.
 
-ghost use Rattle.std.specs.Prelude.{◌≡◌, ◌≢◌, ◌≤◌, ◌<◌, ◌^◌, ◌↔◌, ℕ, List, Option, None, Some, IfSome, false, true, length, slice_index};
+ghost use Rattle.std.specs.Prelude.{◌≡◌, ◌≢◌, ◌≤◌, ◌<◌, ◌^◌, ◌↔◌, ℕ, List, Option, None, Some};
+ghost use Rattle.std.specs.Prelude.{IfSome, false, true, length, slice_index};
 ghost use Rattle.std.specs.Int.{bit_at};
 ghost use Rattle.domain_base.specs.Octets.{AreOctets};
 ghost use Rattle.air_frame.specs.declared.frame.Direction.{Direction};
-ghost use Rattle.air_frame.specs.Fields.{AirFields, assoc_req, assoc_resp, ft_req, ft_resp, re_req, re_resp, eapol, protected, ignored, air_at};
+ghost use Rattle.air_frame.specs.Fields.{AirFields, assoc_req, assoc_resp, ft_req, ft_resp, re_req};
+ghost use Rattle.air_frame.specs.Fields.{re_resp, eapol, protected, ignored, air_at};
 ghost use Rattle.air_frame.specs.Faults.{air_fault};
 ghost use Rattle.air_frame.specs.Spelled.{SpellsAir};
-ghost use Rattle.air_frame.specs.Sent.{air_octets, IsAddress, management_header_octets, data_header_octets, assoc_req_octets, assoc_resp_octets, re_req_octets, re_resp_octets, ft_req_octets, ft_resp_octets, eapol_data_octets, protected_data_octets, sent_header};
+ghost use Rattle.air_frame.specs.Sent.{air_octets, IsAddress, management_header_octets};
+ghost use Rattle.air_frame.specs.Sent.{data_header_octets, assoc_req_octets, assoc_resp_octets};
+ghost use Rattle.air_frame.specs.Sent.{re_req_octets, re_resp_octets, ft_req_octets};
+ghost use Rattle.air_frame.specs.Sent.{ft_resp_octets, eapol_data_octets, protected_data_octets};
+ghost use Rattle.air_frame.specs.Sent.{sent_header};
 
 /// Octets are a frame exactly where they have no fault, and then one frame alone. So a fault and a
 /// frame exclude each other, and one of them is always there.

@@ -1,10 +1,13 @@
 //! Reading a frame from octets.
 
-ghost use Rattle.std.specs.Prelude.{◌≡◌, ◌≢◌, ◌≤◌, ◌+◌, Some, None, length, drop, MatchResult, IfOk, IsOkAnd};
+ghost use Rattle.std.specs.Prelude.{◌≡◌, ◌≢◌, ◌≤◌, ◌+◌, Some, None, length, drop, MatchResult};
+ghost use Rattle.std.specs.Prelude.{IfOk, IsOkAnd};
 ghost use Rattle.std.specs.Int.{w16};
 ghost use Rattle.domain_base.specs.Places.{little_endian_at};
 ghost use Rattle.air_frame.specs.Control.{frame_subtype, data_header_length};
-ghost use Rattle.air_frame.specs.Fields.{AirFields, header_at, assoc_req_at, re_req_at, direction_at, tid_at, authentication_at, management_at, data_at, air_at};
+ghost use Rattle.air_frame.specs.Fields.{AirFields, header_at, assoc_req_at, re_req_at};
+ghost use Rattle.air_frame.specs.Fields.{direction_at, tid_at, authentication_at, management_at};
+ghost use Rattle.air_frame.specs.Fields.{data_at, air_at};
 ghost use Rattle.air_frame.specs.Faults.{fixed_length, air_fault};
 ghost use Rattle.air_frame.specs.Spelled.{SpellsAir, IsSpelled};
 ghost use Rattle.air_frame.specs.Sent.{air_octets};

@@ -1,7 +1,11 @@
 //! Headers and frames as they are sent.
 
-ghost use Rattle.std.specs.Prelude.{◌≡◌, ◌≤◌, ◌+◌, ℕ, is_some, if◌then◌else◌, [], length, take, drop};
-ghost use Rattle.air_frame.specs.Sent.{data_flags, header_octets, management_header_octets, data_header_octets, assoc_req_octets, assoc_resp_octets, re_req_octets, re_resp_octets, ft_req_octets, ft_resp_octets, eapol_data_octets};
+ghost use Rattle.std.specs.Prelude.{◌≡◌, ◌≤◌, ◌+◌, ℕ, is_some, if◌then◌else◌, [], length, take};
+ghost use Rattle.std.specs.Prelude.{drop};
+ghost use Rattle.air_frame.specs.Sent.{data_flags, header_octets, management_header_octets};
+ghost use Rattle.air_frame.specs.Sent.{data_header_octets, assoc_req_octets, assoc_resp_octets};
+ghost use Rattle.air_frame.specs.Sent.{re_req_octets, re_resp_octets, ft_req_octets};
+ghost use Rattle.air_frame.specs.Sent.{ft_resp_octets, eapol_data_octets};
 ghost use Rattle.air_frame.specs.Subtypes.{subtype_number};
 
 use crate::faults::EAPOL_LLC;

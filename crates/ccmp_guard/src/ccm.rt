@@ -1,11 +1,13 @@
 //! CCM (RFC 3610) with AES-128, M = 8 and L = 2. The message authentication code and the key stream
 //! run in one pass.
 
-ghost use Rattle.std.specs.Prelude.{◌≡◌, ◌∷◌, ◌<◌, ◌≤◌, ◌+◌, ◌-◌, ◌*◌, ◌^◌, ◌++◌, ℕ, List, length, take, drop, min, IsTrue};
+ghost use Rattle.std.specs.Prelude.{◌≡◌, ◌∷◌, ◌<◌, ◌≤◌, ◌+◌, ◌-◌, ◌*◌, ◌^◌, ◌++◌, ℕ, List, length};
+ghost use Rattle.std.specs.Prelude.{take, drop, min, IsTrue};
 ghost use Rattle.std.specs.Int.{w16, to_be_bytes};
 ghost use Rattle.aes_block.specs.Octets.{exclusive_or};
 ghost use Rattle.aes_block.specs.Cipher.{cipher};
-ghost use Rattle.ccmp_guard.specs.Ccm.{filled, block_count, chained, chained_all, first_block, aad_octets, begun, encrypted, key_block, key_stream, Sealed};
+ghost use Rattle.ccmp_guard.specs.Ccm.{filled, block_count, chained, chained_all, first_block};
+ghost use Rattle.ccmp_guard.specs.Ccm.{aad_octets, begun, encrypted, key_block, key_stream, Sealed};
 
 use aes_block::Aes128;
 use domain_base::{array_at, put};

@@ -1,8 +1,10 @@
 //! CCMP bodies (IEEE Std 802.11-2020, 12.5.3.2): CCMP header of 8 octets, encrypted payload, MIC of
 //! 8 octets.
 
-ghost use Rattle.std.specs.Prelude.{◌≡◌, ◌↔◌, ◌<◌, ◌≤◌, ◌+◌, ◌-◌, ◌*◌, ◌^◌, ◌++◌, ℕ, List, length, take, drop, IsTrue, IfOk, OnErr, IsOkAnd};
-ghost use Rattle.ccmp_guard.specs.Ccmp.{IsHeader, traffic_identifier, ccm_nonce, ccm_aad, ccmp_header, packet_number, key_id_in, ext_iv, Protected};
+ghost use Rattle.std.specs.Prelude.{◌≡◌, ◌↔◌, ◌<◌, ◌≤◌, ◌+◌, ◌-◌, ◌*◌, ◌^◌, ◌++◌, ℕ, List, length};
+ghost use Rattle.std.specs.Prelude.{take, drop, IsTrue, IfOk, OnErr, IsOkAnd};
+ghost use Rattle.ccmp_guard.specs.Ccmp.{IsHeader, traffic_identifier, ccm_nonce, ccm_aad};
+ghost use Rattle.ccmp_guard.specs.Ccmp.{ccmp_header, packet_number, key_id_in, ext_iv, Protected};
 
 use crate::ccm::{MIC_LEN, open, seal};
 use aes_block::Aes128;

@@ -1,7 +1,9 @@
 //! The guard of a temporal key: it uses each packet number once, and takes none twice (IEEE Std
 //! 802.11-2020, 12.5.3.3 and 12.5.3.4).
 
-ghost use Rattle.std.specs.Prelude.{◌≡◌, ◌<◌, ◌≤◌, ◌+◌, ◌^◌, ℕ, suc, slice_index, List, Option, None, Some, length, take, drop, replicate, option_map, IfOk, IfErr, IfSome, OnErr, MatchResult};
+ghost use Rattle.std.specs.Prelude.{◌≡◌, ◌<◌, ◌≤◌, ◌+◌, ◌^◌, ℕ, suc, slice_index, List, Option};
+ghost use Rattle.std.specs.Prelude.{None, Some, length, take, drop, replicate, option_map, IfOk};
+ghost use Rattle.std.specs.Prelude.{IfErr, IfSome, OnErr, MatchResult};
 ghost use Rattle.replay_window.specs.Numbers.{last_number};
 ghost use Rattle.ccmp_guard.specs.Ccmp.{IsHeader, ccmp_header, packet_number, key_id_in, Protected};
 ghost use Rattle.ccmp_guard.specs.Roles.{key_id, IsRole, counter_of};
@@ -160,6 +162,8 @@ impl Installed {
         requires room { length body.now ≤ length out.old + 16 }
         ensures first { (e : GuardFault)
             → unprotect_fault (Some self.old) header.now body.now ≡ Some e → result ≡ Err e }
+        ensures unwritten { (e : GuardFault)
+            → unprotect_fault (Some self.old) header.now body.now ≡ Some e → out.new ≡ out.old }
         ensures opened { IfOk result (λ end.
             Protected self.old.key header.now (key_id self.old.role) (packet_number body.now)
             (take end out.new) body.now) }
@@ -275,8 +279,8 @@ impl Guard {
     /// Opens the body of a frame: writes its plain text into the front of `out`, and gives the
     /// number of octets written, 16 fewer than the body has. The header is the MAC header of the
     /// frame, of 24 or 26 octets. Its packet number is taken. Of the refusals `NoKey` comes first,
-    /// then `Header`, `KeyId`, `Replayed` and `Seal`, and after each the guard is unchanged; what
-    /// stands in `out` then is of no use. Takes no memory.
+    /// then `Header`, `KeyId`, `Replayed` and `Seal`, and after each the guard is unchanged. So is
+    /// `out` after all but `Seal`; what stands there after that is of no use. Takes no memory.
     pub fn unprotect(
         &mut self,
         header: &[u8],
@@ -288,6 +292,8 @@ impl Guard {
         // a refusal before the seal is tried
         ensures first { (e : GuardFault) → unprotect_fault self.old header.now body.now ≡ Some e
             → result ≡ Err e }
+        ensures unwritten { (e : GuardFault) → unprotect_fault self.old header.now body.now ≡ Some e
+            → out.new ≡ out.old }
         ensures opened { IfOk result (λ end. IfSome self.old (λ h.
             Protected h.key header.now (key_id h.role) (packet_number body.now) (take end out.new)
             body.now)) }

@@ -1,6 +1,7 @@
 //! A temporal key in use at a node.
 
-ghost use Rattle.std.specs.Prelude.{◌≡◌, ◌≤◌, ◌<◌, ◌+◌, ◌++◌, suc, length, replicate, IfOk, IfErr, OnOk, OnErr, vec_len};
+ghost use Rattle.std.specs.Prelude.{◌≡◌, ◌≤◌, ◌<◌, ◌+◌, ◌++◌, suc, length, replicate, IfOk, IfErr};
+ghost use Rattle.std.specs.Prelude.{OnOk, OnErr, vec_len};
 ghost use Rattle.std.specs.Vec.{vec_capacity};
 ghost use Rattle.replay_window.specs.Numbers.{last_number};
 ghost use Rattle.ccmp_guard.specs.declared.guard.Role.TheVariants.{Pairwise, Group};
@@ -15,7 +16,8 @@ ghost use Rattle.node_base.specs.Events.{seen};
 ghost use Rattle.frame_intake.specs.SealedFields.{IsSealedData};
 ghost use Rattle.frame_intake.specs.Views.{sealed_fields};
 ghost use Rattle.data_frames.specs.Sending.{send_key_of, used_once, outcome_under};
-ghost use Rattle.data_frames.specs.Taking.{reason_of, covered_front, taken_acts, IsOpenedTo, IsStoppedBy, IsOpenedUnder};
+ghost use Rattle.data_frames.specs.Taking.{reason_of, covered_front, taken_acts, IsOpenedTo};
+ghost use Rattle.data_frames.specs.Taking.{IsStoppedBy, IsOpenedUnder};
 
 use crate::handing_up::{OpenedUnder, add_opened, reason};
 use crate::rooms::{OVERHEAD, Plain, TakeRoom, behind_header, cover};

@@ -1,7 +1,8 @@
 //! What keys in use stand for, and that what they come to is the row of the rules. The functions do
 //! nothing; their contracts are proved.
 
-ghost use Rattle.std.specs.Prelude.{◌≡◌, ◌<◌, ◌≤◌, ℕ, true, false, suc, List, [], ◌∷◌, length, replicate, Option, Some, None};
+ghost use Rattle.std.specs.Prelude.{◌≡◌, ◌<◌, ◌≤◌, ℕ, true, false, suc, List, [], ◌∷◌, length};
+ghost use Rattle.std.specs.Prelude.{replicate, Option, Some, None};
 ghost use Rattle.std.specs.List.{AllByRecursion};
 ghost use Rattle.domain_base.specs.declared.names.Node.{Node};
 ghost use Rattle.domain_base.specs.declared.names.Peer.TheVariants.{One, All};

@@ -1,10 +1,12 @@
 //! Sources and sinks in memory: with a list of the calls that are to fail, and without.
 
-ghost use Rattle.std.specs.Prelude.{◌≡◌, ◌↔◌, ◌≤◌, ◌<◌, ◌+◌, ◌-◌, ◌++◌, ◌⊎◌, min, length, take, [], Ok, Some, IsTrue, OnOk, IfOk, IsErr, vec_len, vec_capacity};
+ghost use Rattle.std.specs.Prelude.{◌≡◌, ◌↔◌, ◌≤◌, ◌<◌, ◌+◌, ◌-◌, ◌++◌, ◌⊎◌, min, length, take, []};
+ghost use Rattle.std.specs.Prelude.{Ok, Some, IsTrue, OnOk, IfOk, IsErr, vec_len, vec_capacity};
 ghost use Rattle.std.specs.Io.{ReadsAtMost, WritesAtMost};
 ghost use Rattle.std.specs.Io.KnownBytes.{ReadConsumes, WriteAppends};
 ghost use Rattle.domain_base.specs.Causes.{HasCause};
-ghost use Rattle.domain_base.specs.Memory.{FailsNext, NoRoom, CountsCall, one_more, no_calls, after_call};
+ghost use Rattle.domain_base.specs.Memory.{FailsNext, NoRoom, CountsCall, one_more, no_calls};
+ghost use Rattle.domain_base.specs.Memory.{after_call};
 
 use crate::outside::{Failed, NoMemory, Sink, Source};
 use std::alloc::Global;

@@ -1,9 +1,13 @@
 //! An air with its links, and draws, in memory, some of whose calls fail.
 
-ghost use Rattle.std.specs.Prelude.{◌≡◌, ◌≢◌, ◌↔◌, ◌<◌, ◌≤◌, ◌⊎◌, ◌++◌, ◌∷◌, length, [], Ok, Err, Some, None, IsTrue, IsErr, OnOk, OnErr, IfOk, IfSome, true, false, vec_len, position};
+ghost use Rattle.std.specs.Prelude.{◌≡◌, ◌≢◌, ◌↔◌, ◌<◌, ◌≤◌, ◌⊎◌, ◌++◌, ◌∷◌, length, [], Ok, Err};
+ghost use Rattle.std.specs.Prelude.{Some, None, IsTrue, IsErr, OnOk, OnErr, IfOk, IfSome, true};
+ghost use Rattle.std.specs.Prelude.{false, vec_len, position};
 ghost use Rattle.domain_base.specs.Causes.{HasCause, HasLinkCause, HandsOn};
 ghost use Rattle.domain_base.specs.Told.{Sends, Gives, Attaches, TakesBack, new_link};
-ghost use Rattle.domain_base.specs.Memory.{FailsNext, CountsCall, CountsSend, no_calls, one_more, is_plan_of, parts_for, planned_link, SamePartsForOthers, faulty_story};
+ghost use Rattle.domain_base.specs.Memory.{FailsNext, CountsCall, CountsSend, no_calls, one_more};
+ghost use Rattle.domain_base.specs.Memory.{is_plan_of, parts_for, planned_link, SamePartsForOthers};
+ghost use Rattle.domain_base.specs.Memory.{faulty_story};
 ghost use Rattle.domain_base.specs.declared.outside.LinkError.TheVariants as error;
 
 use crate::memory::FailingCalls;

@@ -180,7 +180,8 @@ plain_inside before earlier (Goes next) = record { drawn = refl; turns = refl }
 plain_inside before earlier (ListsAp address id) = record { drawn = refl; turns = refl }
 plain_inside before earlier (ListsSta address) = record { drawn = refl; turns = refl }
 plain_inside before earlier (Asks event) =
-    either_inside earlier (is_within before) (with_waiting earlier (earlier.waiting ++ event ∷ [])) (with_round earlier (event ∷ [])) (record { drawn = refl; turns = refl }) (record { drawn = refl; turns = refl })
+    let is = either_inside earlier (is_within before) (with_waiting earlier (earlier.waiting ++ event ∷ [])) (with_round earlier (event ∷ [])) (record { drawn = refl; turns = refl }) (record { drawn = refl; turns = refl }) in
+    record { drawn = is.drawn; turns = is.turns }
 plain_inside before earlier BeginsRound = record { drawn = refl; turns = refl }
 plain_inside before earlier EndsRound = record { drawn = refl; turns = refl }
 

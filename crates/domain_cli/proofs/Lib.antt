@@ -3,6 +3,7 @@ pub mod Sizes
 pub mod Networks
 pub mod Sent
 pub mod Growing
+pub mod Cutting
 pub mod Steps
 pub mod Telling
 pub mod Meeting

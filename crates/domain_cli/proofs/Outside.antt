@@ -1,5 +1,5 @@
 -- Lines by which something comes from outside: a seed that is drawn, and what nodes take in a turn.
-use Rattle.std.proofs.Common.{◌≡◌, ◌≢◌, ℕ, suc, ◌≤◌, ◌+◌, ◌*◌, List, [], ◌∷◌, length, drop, Option, Some, None, Result, Ok, Err, refl, sym, ap, subst, ◌∙◌, inl, arith}
+use Rattle.std.proofs.Common.{◌≡◌, ◌≢◌, ℕ, suc, ◌≤◌, ◌+◌, ◌*◌, List, [], ◌∷◌, length, drop, Option, Some, None, Result, Ok, Err, refl, sym, ap, subst, ◌∙◌, arith}
 use Rattle.std.specs.Prelude.{OnOk, OnErr, MatchResult}
 use Rattle.std.proofs.lemmas.List.{drop-drop}
 use Rattle.domain_base.specs.Causes.{Rose}
@@ -39,6 +39,7 @@ use Rattle.domain_cli.proofs.Growing.{Grows, Grows-same, Grows-step, Grows-more,
 use Rattle.domain_cli.proofs.Steps.{named, outside}
 use Rattle.domain_cli.proofs.Telling.{Rightly}
 use Rattle.domain_cli.proofs.Linked.{blamed_sends}
+use Rattle.domain_cli.proofs.Cutting.{turn_cut}
 use Rattle.domain_cli.proofs.Meeting.{same_links}
 use Rattle.domain_cli.proofs.Taking.{Took, read_to, read_there}
 
@@ -418,17 +419,20 @@ linked_turn told faults w v start old new turns j k x air did was =
     }
 
 linked_turn_part : {L T : Type 0} (told : L → Option LinkStory) (faults : L → ℕ) (w v : State) (start : AirStory) (old new : Outer L) (rounds : Rounds) (j k : List Entry) (error : LinkError) → new.air ≡ old.air → (did : DidTurn {L = L} {T = T} told faults old.links new.links (stage w j) (stage v k) (Err error))
-    → IsLinked told w.domain start old rounds.turns j → IsLinkedPart told w.domain start new (with_turn rounds did.takes.given) k
-linked_turn_part told faults w v start old new rounds j k error air did was =
+    → v.rounds ≡ length (with_turn rounds did.takes.given).run → IsLinked told w.domain start old rounds.turns j → IsLinkedPart told w.domain start new (with_turn rounds did.takes.given) k
+linked_turn_part told faults w v start old new rounds j k error air did run was =
     let d = w.domain in
     let left = left_behind (frames_at d start) (length rounds.turns) in
     let part = did.takes.tells left was.tell in
     let long : length new.links ≡ length old.links = did.laid.len in
+    let cut = turn_cut told d new.links (with_turn rounds did.takes.given) v k (did.takes.given ≢ []) run refl (λ some. some) part.part in
     record {
-      all = inl (long ∙ was.all);
+      all = long ∙ was.all;
       attached = same_links d start (length old.links) (length new.links) old.air new.air long air was.attached;
       heard = (was.heard, (part.rest, part.whole));
-      part = part.part;
+      left = cut.0;
+      kept = tt;
+      part = cut.1;
     }
 
 same_last : (before old new drawn : Option (List ℕ)) → new ≡ old → IsDrawn drawn before old → IsDrawn drawn before new
@@ -463,7 +467,7 @@ breaks_turn told faults rightly first s t old new line draft rounds j k error ai
       journal = more.stands.journal;
       met = record {
         drawn = same_last first.last old.last new.last rounds.drawn last met.drawn;
-        linked = λ start is. linked_turn_part told faults l.w l.v start old new rounds j k error air l.did (subst (λ (d : Draft). IsLinkedAt told d start old rounds.turns j) more.at (met.linked l.live start is));
+        linked = λ start is. linked_turn_part told faults l.w l.v start old new rounds j k error air l.did (sym (ap run_count l.now) ∙ more.stands.run_is) (subst (λ (d : Draft). IsLinkedAt told d start old rounds.turns j) more.at (met.linked l.live start is));
       };
     }
 

@@ -20,7 +20,7 @@ use Rattle.frame_script.specs.declared.reader.Step.{Step as Asked}
 use Rattle.frame_script.specs.declared.reader.Step.TheVariants as step
 use Rattle.domain_cli.specs.declared.state.ScriptState.{ScriptState}
 use Rattle.domain_cli.specs.declared.status.Undone.TheVariants as undone
-use Rattle.domain_cli.specs.Script.{Rounds, no_rounds, IsJournal, Refuses, Says, sizes_before, rounds_with, says_in}
+use Rattle.domain_cli.specs.Script.{Rounds, no_rounds, IsJournal, Refuses, Says, sizes_before, rounds_with, last_of, says_in}
 use Rattle.domain_cli.specs.Outer.{Outer, outer, IsDrawn, IsMet, IsLinkedAt, links_due}
 use Rattle.domain_cli.specs.Ran.{HasDone}
 use Rattle.domain_cli.specs.States.{IsWorldOf, IsReady, Stands, HasSame, CanRun, DidRun, TellsLine, BreaksLine, LeavesLine, run_count}
@@ -277,11 +277,11 @@ none_turned (given ∷ turns) n m few same none = absurd (omega (arith, few, sam
 
 -- how the outside is met behind it
 linked_then : {L T : Type 0} (told : L → Option LinkStory) (first : Outer L) (s t : ScriptState) (old new : Outer L) (line : List ℕ) (draft : Draft) (rounds : Rounds) (j k : List Entry) (asked : Asked) (result : Result T LinkError) (start : AirStory) (after : Rounds)
-    → IsReady s (length old.links) 65536 j → Stands s draft rounds j → IsMet told first old s.reader.mode draft rounds j → LineDone told s t old new line j k asked result → Telling s t line draft rounds j k after → s.reader.mode ≡ Live → first.air ≡ Some start
+    → IsReady s (length old.links) 65536 j → Stands s draft rounds j → IsMet told first old s.reader.mode draft rounds j → (l : LineDone told s t old new line j k asked result) → Telling s t line draft rounds j k after → after.last ≡ last_of s.reader.draft l.reads.read.0 → s.reader.mode ≡ Live → first.air ≡ Some start
     → LinkedAtBy told t.reader.draft start new after k result
-linked_then told first s t old new line draft rounds j k asked result start after ready stands met l more live is =
+linked_then told first s t old new line draft rounds j k asked result start after ready stands met l more last live is =
     let world = after_line told s t old new line j k asked result ready.world_is l in
-    linked_line told s.reader t.reader s.world t.world s.waiting t.waiting start old new after line j k asked result ready.world_is l.reads.read l.did world (sym more.stands.rounds_are)
+    linked_line told s.reader t.reader s.world t.world s.waiting t.waiting start old new after line j k asked result ready.world_is l.reads.read l.did world last more.stands.run_is
     (λ none. more.turns ∙ none_turned rounds.turns rounds.asked s.reader.rounds stands.few_turns stands.rounds_are none)
     (grows s.reader t.reader s.world t.world s.waiting t.waiting j k line asked ready.world_is l.reads.read l.did)
     (subst (λ (m : Mode). GoesOut told m t.world (length j) k old new result) (ready.mode_is ∙ live) l.goes)
@@ -305,7 +305,7 @@ tells_line told rightly first s t old new line draft rounds j k asked x last rea
       stands = more.stands;
       met = record {
         drawn = drawn_then first.last old.last new.last rounds.drawn after.drawn more.drawn last met.drawn;
-        linked = λ live start is. linked_then told first s t old new line draft rounds j k asked (Ok x) start after ready stands met l more (sym l.reader_mode ∙ live) is;
+        linked = λ live start is. linked_then told first s t old new line draft rounds j k asked (Ok x) start after ready stands met l more refl (sym l.reader_mode ∙ live) is;
       };
     }
 
@@ -329,6 +329,6 @@ breaks_line {L} {T} told rightly first s t old new line draft rounds j k asked e
       journal = more.stands.journal;
       met = record {
         drawn = drawn_then first.last old.last new.last rounds.drawn after.drawn more.drawn last met.drawn;
-        linked = λ start is. linked_then told first s t old new line draft rounds j k asked (Err error) start after ready stands met l more live is;
+        linked = λ start is. linked_then told first s t old new line draft rounds j k asked (Err error) start after ready stands met l more refl live is;
       };
     }

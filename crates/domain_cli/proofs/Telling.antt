@@ -13,7 +13,7 @@ use Rattle.frame_script.specs.Script.{Fault, Draft, AtVersion, AtSeed, AtSsid, A
 use Rattle.frame_script.specs.Headers.{Reading, TakesStep, HasRead, sizes_of}
 use Rattle.frame_script.specs.declared.reader.Step.{Step as Asked}
 use Rattle.frame_script.specs.declared.reader.Step.TheVariants as step
-use Rattle.domain_cli.specs.Script.{Rounds, IsRun, IsJournal, with_round, with_waiting, rounds_with}
+use Rattle.domain_cli.specs.Script.{Rounds, Other, IsRun, IsJournal, with_round, with_waiting, rounds_with}
 use Rattle.domain_cli.specs.States.{Waiting, events_of, IsHeader, IsAt, IsOwn, IsNone, IsWorldOf, DidAsk, HasBegun, DidEnd, Did, DidRun, IsBegun, run_count}
 use Rattle.domain_cli.proofs.Steps.{one_saying, no_nodes, no_round, no_asking, none_run, outside}
 
@@ -197,7 +197,7 @@ same_turns draft rounds EndsRound = refl
 
 -- before the header is whole a line asks for no round
 none_asked : (r s : Reading) (says : Result Said Fault) (said : Said) (rounds : Rounds) (sizes : List ℕ) (asked : Asked) → IsHeader r.draft → says ≡ Ok said → TakesStep r.draft s.draft r.rounds sizes says asked
-    → rounds_with r.draft rounds said ≡ rounds
+    → rounds_with r.draft rounds said ≡ record rounds { last = Other }
 none_asked r s says said rounds sizes step.Nothing due is takes = ap (λ (x : Said). rounds_with r.draft rounds x) (one_saying says said (Goes s.draft) is takes.0)
 none_asked r s says said rounds sizes step.Network due is takes = ap (λ (x : Said). rounds_with r.draft rounds x) (one_saying says said (Goes s.draft) is takes.1.0)
 none_asked r s says said rounds sizes (step.Ap address id) due is takes = absurd (no_nodes r.draft takes.0 due takes.1.1.0)

@@ -1,5 +1,6 @@
 -- What the outside of a live run was asked for: seeds, links, and frames. Lists of turns are NEWEST FIRST.
-use Rattle.std.specs.Prelude.{◌≡◌, ◌≢◌, ◌⊎◌, ℕ, ◌+◌, ◌*◌, ◌≤◌, Bool, true, false, List, [], ◌∷◌, ◌++◌, length, drop, reverse, Option, Some, None}
+use Rattle.std.specs.Prelude.{◌≡◌, ◌≢◌, ◌⊎◌, ℕ, ◌+◌, ◌*◌, ◌≤◌, List, [], ◌∷◌, ◌++◌, length, drop, reverse, Option, Some, None}
+use Rattle.std.specs.List.{AllByRecursion}
 use Rattle.domain_base.specs.Causes.{Rose}
 use Rattle.domain_base.specs.Told.{LinkStory, AirStory}
 use Rattle.domain_base.specs.declared.names.Node.{Node}
@@ -7,7 +8,7 @@ use Rattle.run_journal.specs.declared.domain.Domain.{Domain}
 use Rattle.run_journal.specs.declared.acts.Entry.{Entry}
 use Rattle.domain_links.specs.NodeOrder.{count}
 use Rattle.domain_links.specs.Sends.{Send, sends}
-use Rattle.domain_links.specs.Telling.{Tell, TellPart, HasFailed, NoneFailed}
+use Rattle.domain_links.specs.Telling.{Tell, HasFailed, NoneFailed}
 use Rattle.domain_links.specs.Attached.{IsBehind, frames_at}
 use Rattle.domain_links.specs.Turns.{Delivery, turn_of}
 use Rattle.domain_world.specs.State.{State}
@@ -15,7 +16,7 @@ use Rattle.frame_script.specs.Script.{Draft, AtSsid, AtNodes, InRound}
 use Rattle.frame_script.specs.Headers.{Reading}
 use Rattle.frame_script.specs.declared.reader.Mode.{Mode}
 use Rattle.frame_script.specs.declared.reader.Mode.TheVariants.{Replay, Live}
-use Rattle.domain_cli.specs.Script.{Rounds}
+use Rattle.domain_cli.specs.Script.{Rounds, LastLine, Listed, Ran, Turned, Other}
 
 -- what contracts see of it: the links of the nodes so far, in node order, what the air tells, and the seed last given
 pub record Outer (L : Type 0) : Type 0 where
@@ -56,20 +57,52 @@ IsHeardPart d frames [] = Unit {0}
 IsHeardPart d frames (given ∷ turns) =
     AreHeard d frames turns × ((rest : List Delivery) × (given ++ rest ≡ turn_of d (left_behind frames (length turns)) (count d)))
 
--- only where the line that broke is a turn was a front of the last turn taken
-abbrev pub IsHeardBy : Bool → Domain → (ℕ → List (List ℕ)) → List (List Delivery) → Type 0
-IsHeardBy true d frames turns = IsHeardPart d frames turns
-IsHeardBy false d frames turns = AreHeard d frames turns
+-- only where the last line, which broke, is a turn was a front of the last turn taken
+abbrev pub IsHeardBy : LastLine → Domain → (ℕ → List (List ℕ)) → List (List Delivery) → Type 0
+IsHeardBy Turned d frames turns = IsHeardPart d frames turns
+IsHeardBy line d frames turns = AreHeard d frames turns
 
 -- ---- links
 
--- all nodes have a link; or no line has asked for rounds yet, and the last node has none: its own line is the one that broke
-abbrev pub AllButNew : ℕ → ℕ → ℕ → Type 0
-AllButNew asked nodes links = (links ≡ nodes) ⊎ ((asked ≡ 0) × (links + 1 ≡ nodes))
+-- behind a last line that broke all nodes have a link, but for the last one where that line listed it
+abbrev pub AllButNew : LastLine → ℕ → ℕ → Type 0
+AllButNew Listed nodes links = links + 1 ≡ nodes
+AllButNew line nodes links = links ≡ nodes
 
 -- what goes out for a journal, which has its last entry first
 abbrev pub sends_for : Domain → List Entry → List Send
 sends_for d j = sends d (reverse j)
+
+-- in the last turn nodes took frames
+abbrev pub TookSome : List (List Delivery) → Type 0
+TookSome [] = ⊥
+TookSome (given ∷ turns) = given ≢ []
+
+-- what did not go out behind a last line that broke: of the line of a node no frame, of that of a round one at least, and of a
+-- turn, where a frame may as well not have been taken, any, but none where the turn took nothing. No other line breaks
+abbrev pub Cuts : LastLine → List (List Delivery) → List Send → Type 0
+Cuts Listed turns rest = rest ≡ []
+Cuts Ran turns rest = rest ≢ []
+Cuts Turned turns rest = (rest ≡ []) ⊎ TookSome turns
+Cuts Other turns rest = ⊥
+
+-- what links have left behind a last line that broke: what they had before it, but for a turn, of which nothing is said
+abbrev pub IsLeft : LastLine → (ℕ → List (List ℕ)) → (ℕ → List (List ℕ)) → Type 0
+IsLeft Turned left due = Unit {0}
+IsLeft line left due = (i : ℕ) → left i ≡ due i
+
+-- behind a call that failed or wanted memory: all that goes out for earlier entries went out, and of what goes out for the later
+-- ones, all of the last round, a front
+pub record TellLast {L : Type 0} (told : L → Option LinkStory) (d : Domain) (links : List L) (rounds : Rounds) (j : List Entry) (left : ℕ → List (List ℕ)) : Type 0 where
+  pub late : List Entry
+  pub early : List Entry
+  pub whole : late ++ early ≡ j
+  pub last : AllByRecursion (λ (e : Entry). e.round ≡ length rounds.run) late
+  pub front : List Send
+  pub rest : List Send
+  pub parts : front ++ rest ≡ sends_for d late
+  pub cause : Cuts rounds.last rounds.turns rest
+  pub tell : Tell told d links left (sends_for d early ++ front)
 
 -- links of so many nodes, the first, were attached; the air has the frames of the others, and took no link back
 pub record HasLinks (d : Domain) (start : AirStory) (links : ℕ) (air : Option AirStory) : Type 0 where
@@ -85,12 +118,15 @@ pub record IsLinked {L : Type 0} (told : L → Option LinkStory) (d : Domain) (s
   pub heard : AreHeard d (frames_at d start) turns
   pub tell : Tell told d o.links (left_behind (frames_at d start) (length turns)) (sends_for d j)
 
--- behind a call that failed or wanted memory: a front of it, one for all links. A node whose own line broke has none
+-- behind a call that failed or wanted memory: of the last round a front, one for all links, and left is what no turn took, of which
+-- nothing is said where the last line is a turn. A node whose own line broke has none
 pub record IsLinkedPart {L : Type 0} (told : L → Option LinkStory) (d : Domain) (start : AirStory) (o : Outer L) (rounds : Rounds) (j : List Entry) : Type 0 where
-  pub all : AllButNew rounds.asked (count d) (length o.links)
+  pub all : AllButNew rounds.last (count d) (length o.links)
   pub attached : HasLinks d start (length o.links) o.air
-  pub heard : IsHeardBy rounds.turned d (frames_at d start) rounds.turns
-  pub part : TellPart told d o.links (sends_for d j)
+  pub heard : IsHeardBy rounds.last d (frames_at d start) rounds.turns
+  pub left : ℕ → List (List ℕ)
+  pub kept : IsLeft rounds.last left (left_behind (frames_at d start) (length rounds.turns))
+  pub part : TellLast told d o.links rounds j left
 
 -- before the header is whole there are no links
 pub record IsUnlinked {L : Type 0} (start : AirStory) (o : Outer L) (turns : List (List Delivery)) : Type 0 where

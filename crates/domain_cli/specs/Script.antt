@@ -1,5 +1,5 @@
 -- Which rounds the octets of a script spell. Lists of lines, of rounds and of turns are NEWEST FIRST.
-use Rattle.std.specs.Prelude.{◌≡◌, ◌≢◌, ◌⊎◌, ℕ, suc, ◌<◌, ◌≤◌, ◌-◌, ◌==◌, ◌&&◌, nat_lt, nat_le, cond, if◌then◌else◌, Bool, true, false, List, [], ◌∷◌, ◌++◌, length, take, map, slice_index, Option, None, Some, Result, Ok, Err}
+use Rattle.std.specs.Prelude.{◌≡◌, ◌≢◌, ◌⊎◌, ℕ, suc, ◌<◌, ◌≤◌, ◌-◌, ◌==◌, ◌&&◌, nat_lt, nat_le, cond, if◌then◌else◌, Bool, true, List, [], ◌∷◌, ◌++◌, length, take, map, slice_index, Option, None, Some, Result, Ok, Err}
 use Rattle.std.proofs.Common.{inl, inr}
 use Rattle.std.specs.List.{AllByRecursion}
 use Rattle.run_journal.specs.declared.domain.Domain.{Domain}
@@ -12,7 +12,7 @@ use Rattle.domain_rules.specs.HeldRight.{HeldRight}
 use Rattle.domain_rules.specs.InOctets.{InOctets}
 use Rattle.domain_links.specs.NodeOrder.{count}
 use Rattle.domain_links.specs.Turns.{Delivery, in_order}
-use Rattle.frame_script.specs.Script.{Fault, Past, Draft, AtVersion, AtSsid, AtNodes, InRound, Said, Asks, EndsRound, is_within, line_says, said_after}
+use Rattle.frame_script.specs.Script.{Fault, Past, Draft, AtVersion, AtSsid, AtNodes, InRound, Said, ListsAp, ListsSta, Asks, EndsRound, is_within, line_says, said_after}
 use Rattle.frame_script.specs.Live.{Heard, Plain, Draws, Turns, live_says, plain}
 use Rattle.frame_script.specs.Headers.{size_sent}
 use Rattle.frame_script.specs.declared.forms.Form.{Form}
@@ -23,20 +23,27 @@ use Rattle.frame_script.specs.Forms.{form_in}
 -- what the lines so far have told: what the script has said, from the end of its header on the network with the nodes listed
 -- so far, together with the rounds asked for so far
 
+-- what the last line was: it listed a node, it asked for a round that is run behind it, it was a turn, or none of these
+pub data LastLine : Type 0 where
+  Listed : LastLine
+  Ran : LastLine
+  Turned : LastLine
+  Other : LastLine
+
 -- the rounds that are to be run, and the events of the round that is open, which are not run before its end; how many lines
--- asked for rounds, and whether the last one that did was a turn; and what came from outside by these lines: the seed that was
--- drawn, where one was, and of each turn what nodes took of their links. The events of a round are as their lines stand, the first
--- first, and so are those of a turn
+-- asked for rounds, and what the last line was; and what came from outside by these lines: the seed that was drawn, where one
+-- was, and of each turn what nodes took of their links. The events of a round are as their lines stand, the first first, and so are
+-- those of a turn
 pub record Rounds : Type 0 where
   pub run : List (List Event)
   pub waiting : List Event
   pub asked : ℕ
-  pub turned : Bool
+  pub last : LastLine
   pub drawn : Option (List ℕ)
   pub turns : List (List Delivery)
 
 abbrev pub no_rounds : Rounds
-no_rounds = record { run = []; waiting = []; asked = 0; turned = false; drawn = None; turns = [] }
+no_rounds = record { run = []; waiting = []; asked = 0; last = Other; drawn = None; turns = [] }
 
 -- the journal of these rounds: the network is in form and of octets, the definitions explain the journal, and key holders
 -- answered rightly
@@ -60,16 +67,27 @@ sizes_before rounds (e ∷ past) = cond (nat_le e.round rounds) (sizes_before ro
 -- the rounds with what a line asks for: an event is a round by itself, but in a round it waits; what waits is one round, run
 -- at its end, whatever events it has
 abbrev pub with_round : Rounds → List Event → Rounds
-with_round rounds events = record rounds { run = events ∷ rounds.run; asked = suc rounds.asked; turned = false }
+with_round rounds events = record rounds { run = events ∷ rounds.run; asked = suc rounds.asked }
 
 abbrev pub with_waiting : Rounds → List Event → Rounds
 with_waiting rounds events = record rounds { waiting = events }
 
-abbrev pub rounds_with : Draft → Rounds → Said → Rounds
-rounds_with draft rounds (Asks event) =
+abbrev pub rounds_by : Draft → Rounds → Said → Rounds
+rounds_by draft rounds (Asks event) =
     if is_within draft then with_waiting rounds (rounds.waiting ++ event ∷ []) else with_round rounds (event ∷ [])
-rounds_with draft rounds EndsRound = with_waiting (with_round rounds rounds.waiting) []
-rounds_with draft rounds said = rounds
+rounds_by draft rounds EndsRound = with_waiting (with_round rounds rounds.waiting) []
+rounds_by draft rounds said = rounds
+
+-- and with what the line is
+abbrev pub last_of : Draft → Said → LastLine
+last_of draft (ListsAp address id) = Listed
+last_of draft (ListsSta address) = Listed
+last_of draft (Asks event) = if is_within draft then Other else Ran
+last_of draft EndsRound = Ran
+last_of draft said = Other
+
+abbrev pub rounds_with : Draft → Rounds → Said → Rounds
+rounds_with draft rounds said = record (rounds_by draft rounds said) { last = last_of draft said }
 
 -- ---- what comes from outside, in a live run
 
@@ -87,11 +105,11 @@ with_deliveries (first ∷ given) run = with_deliveries given ((Inject first.nod
 -- the rounds with a turn that gave these. Its line counts once, whatever came in it
 abbrev pub with_turn : Rounds → List Delivery → Rounds
 with_turn rounds given =
-    record rounds { run = with_deliveries given rounds.run; asked = suc rounds.asked; turned = true; turns = given ∷ rounds.turns }
+    record rounds { run = with_deliveries given rounds.run; asked = suc rounds.asked; last = Turned; turns = given ∷ rounds.turns }
 
 -- and with a seed that was drawn
 abbrev pub with_seed : Rounds → List ℕ → Rounds
-with_seed rounds seed = record rounds { drawn = Some seed }
+with_seed rounds seed = record rounds { last = Other; drawn = Some seed }
 
 -- a turn stands outside rounds
 abbrev pub IsTurnAt : Draft → List Delivery → Type 0

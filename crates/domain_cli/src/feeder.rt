@@ -1,13 +1,16 @@
 //! A script, octet by octet.
 
-ghost use Rattle.std.specs.Prelude.{◌≡◌, ◌≢◌, ◌≤◌, ◌+◌, ◌-◌, ◌<◌, ◌++◌, ◌∷◌, [], take, drop, get_or, suc, ℕ, List, MatchResult, OnOk, OnErr, vec_len, vec_capacity, length, IfOk, true};
+ghost use Rattle.std.specs.Prelude.{◌≡◌, ◌≢◌, ◌≤◌, ◌+◌, ◌-◌, ◌<◌, ◌++◌, ◌∷◌, [], take, drop};
+ghost use Rattle.std.specs.Prelude.{get_or, suc, ℕ, List, MatchResult, OnOk, OnErr, vec_len};
+ghost use Rattle.std.specs.Prelude.{vec_capacity, length, IfOk, true};
 ghost use Rattle.run_journal.specs.declared.acts.Entry.{Entry as AnyEntry};
 ghost use Rattle.frame_script.specs.Forms.{form_in};
 ghost use Rattle.frame_script.specs.Script.{Draft, AtVersion};
 ghost use Rattle.domain_cli.specs.Outer.{Outer, IsBlamed, IsMet, Nobody, outer};
 ghost use Rattle.domain_cli.specs.Script.{NoFeed, Rounds, no_rounds, point_of, without_return};
 ghost use Rattle.domain_cli.specs.States.{Stands, IsReady, TellsLine};
-ghost use Rattle.domain_cli.specs.Stops.{Closes, EndsAt, Halts, IsRefusal, Stopped, StopsLine, found_blame, stop_blame};
+ghost use Rattle.domain_cli.specs.Stops.{Closes, EndsAt, Halts, IsRefusal, Stopped, StopsLine};
+ghost use Rattle.domain_cli.specs.Stops.{found_blame, stop_blame};
 ghost use Rattle.domain_cli.specs.Story.{most_read};
 
 use crate::host::Host;

@@ -5,7 +5,8 @@ ghost use Rattle.run_journal.specs.declared.acts.Entry.{Entry};
 ghost use Rattle.domain_links.specs.Turns.{Delivery};
 ghost use Rattle.frame_script.specs.Script.{Draft, Fault, end_fault};
 ghost use Rattle.frame_script.specs.declared.reader.Mode.{Mode as RunKind};
-ghost use Rattle.domain_cli.specs.Script.{Rounds, Spells, IsOf, IsScript, HasFault, point_of, texts};
+ghost use Rattle.domain_cli.specs.Script.{Rounds, Spells, IsOf, IsScript, HasFault, point_of};
+ghost use Rattle.domain_cli.specs.Script.{texts};
 
 /// For each kind of run, each journal, each seed that was drawn and each list of turns: octets that
 /// are a whole script have no fault in a line, are one list of lines, and may end there or not, for

@@ -1,12 +1,15 @@
 //! What a line does: to the header, or to the domain behind it.
 
-ghost use Rattle.std.specs.Prelude.{◌≡◌, [], suc, length, ℕ, MatchResult, Err, None, IfOk, OnOk, OnErr};
+ghost use Rattle.std.specs.Prelude.{◌≡◌, [], suc, length, ℕ, MatchResult, Err, None, IfOk, OnOk};
+ghost use Rattle.std.specs.Prelude.{OnErr};
 ghost use Rattle.domain_base.specs.Causes.{Rose};
 ghost use Rattle.domain_world.specs.Owning.{Owns};
 ghost use Rattle.frame_script.specs.Script.{Draft, AtSeed, AtVersion};
 ghost use Rattle.domain_cli.specs.Outer.{Outer, IsBlamed, IsMet, IsTold, Nobody, links_due, outer};
 ghost use Rattle.domain_cli.specs.Script.{Rounds, no_rounds};
-ghost use Rattle.domain_cli.specs.States.{CanAsk, CanBegin, CanDo, CanEnd, CanList, CanRun, Did, DidAsk, DidEnd, DidRun, IsBegun, IsReady, LeavesLine, Stands, TellsLine};
+ghost use Rattle.domain_cli.specs.States.{CanAsk, CanBegin, CanDo, CanEnd, CanList, CanRun, Did};
+ghost use Rattle.domain_cli.specs.States.{DidAsk, DidEnd, DidRun, IsBegun, IsReady, LeavesLine};
+ghost use Rattle.domain_cli.specs.States.{Stands, TellsLine};
 ghost use Rattle.domain_cli.specs.Ran.{RanLine, ran_blame};
 ghost use Rattle.domain_cli.specs.Stops.{undone_blame};
 ghost use Rattle.domain_cli.specs.Turning.{CanTurn, DidTurnBy};

@@ -1,6 +1,7 @@
 //! The top call.
 
-ghost use Rattle.std.specs.Prelude.{◌≡◌, ◌≢◌, ◌⊎◌, [], ℕ, List, map, reverse, MatchResult, OnOk, OnErr};
+ghost use Rattle.std.specs.Prelude.{◌≡◌, ◌≢◌, ◌⊎◌, [], ℕ, List, map, reverse, MatchResult, OnOk};
+ghost use Rattle.std.specs.Prelude.{OnErr};
 ghost use Rattle.std.specs.Io.KnownBytes.{Appends};
 ghost use Rattle.domain_base.specs.Causes.{Rose, HasCause, AppendsPart};
 ghost use Rattle.run_journal.specs.Report.{summary, IsReport};
@@ -263,8 +264,10 @@ pub fn run<R: Threads + Sync, S: Source, K: Sink, A: Air, D: Draws>(
     // last one where a call failed, or memory was wanted, in it, which took a front of that; and
     // the links taken back, which are those of all nodes in their order, but for a node whose
     // link could not be attached, whose line is the last, were sent what their nodes sent, in
-    // order, each frame to whom its address 1 names; where a link failed or memory was wanted
-    // over a frame, one common front of it.
+    // order, each frame to whom its address 1 names; where a link failed or memory was wanted over
+    // a frame, all of the rounds before the last one, and one common front of what that one sent,
+    // which is not the whole where the last line is an event or the end of a round, and is where it
+    // is a turn that took nothing. What the air has for nodes that have no link stays.
     ensures lived { (port : ℕ) → AskLive (map (λ w. w.now) words.now) port
         → Lives (S.left source.old) (S.left source.new) (K.out sink.old) (K.out sink.new)
         (A.told air.old) (A.told air.new) (D.last draws.old) (D.last draws.new)

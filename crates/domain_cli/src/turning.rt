@@ -1,6 +1,7 @@
 //! A turn: each node takes what its link has for it, and answers.
 
-ghost use Rattle.std.specs.Prelude.{◌≡◌, ◌<◌, ◌≤◌, ◌+◌, ◌*◌, ◌^◌, ℕ, List, [], Ok, IfOk, false, length};
+ghost use Rattle.std.specs.Prelude.{◌≡◌, ◌<◌, ◌≤◌, ◌+◌, ◌*◌, ◌^◌, ℕ, List, [], Ok, IfOk, false};
+ghost use Rattle.std.specs.Prelude.{length};
 ghost use Rattle.domain_links.specs.NodeOrder.{count};
 ghost use Rattle.domain_links.specs.Sends.{Send};
 ghost use Rattle.domain_links.specs.Telling.{Tell};

@@ -51,6 +51,12 @@ stations_front n m h =
     let whole : n + (m - n) ≡ m = omega (arith, h) in
     (f.0, f.1 ∙ ap stations whole)
 
+-- behind the first stations the next one stands in more
+pub stations_next : (n m : ℕ) → n < m → (rest : List Node) × (stations n ++ Sta n ∷ rest ≡ stations m)
+stations_next n m h =
+    let f = stations_front (n + 1) m (omega (arith, h)) in
+    (f.0, sym (append_assoc (stations n) (Sta n ∷ []) f.0) ∙ ap (λ (w : List Node). w ++ f.0) (sym (stations_more n)) ∙ f.1)
+
 pub frames_two : (xs ys : List Node) (octets : List ℕ) → frames_to (xs ++ ys) octets ≡ frames_to xs octets ++ frames_to ys octets
 frames_two xs ys octets = map-append _ xs ys
 
@@ -63,6 +69,10 @@ all_more story n octets =
 pub all_none : (story : LinkStory) (octets : List ℕ) → after_frames story (frames_to (stations 0) octets) ≡ story
 unfolding stations
 all_none story octets = after_none story
+
+-- a list with an item has one
+pub has_item : {A : Type 0} (x : A) (xs : List A) → x ∷ xs ≢ []
+has_item x xs e = cc
 
 -- what one place sent among more
 pub sent_by-more : (i : ℕ) (before more : List Send) → sent_by i (before ++ more) ≡ sent_by i before ++ sent_by i more
@@ -87,6 +97,14 @@ story_own d left before p fs = ap (λ (w : List SentFrame). record (story_at d l
 
 story_other : (d : Domain) (left : ℕ → List (List ℕ)) (before : List Send) (i p : ℕ) (fs : List SentFrame) → i ≢ p → story_at d left before i ≡ story_at d left (before ++ sends_by p fs) i
 story_other d left before i p fs apart = ap (λ (w : List SentFrame). record (story_at d left before i) { sent = w }) (sym (append-nil (sent_by i before)) ∙ ap (λ (w : List SentFrame). sent_by i before ++ w) (sym (sent_by-other i p fs apart)) ∙ sym (sent_by-more i before (sends_by p fs)))
+
+pub some_sends : (p : ℕ) (fs : List SentFrame) → fs ≢ [] → sends_by p fs ≢ []
+some_sends p [] some e = some refl
+some_sends p (f ∷ fs) some e = has_item {A = Send} (record { by = p; frame = f }) (sends_by p fs) e
+
+pub some_with : (xs ys : List Send) → xs ≢ [] → xs ++ ys ≢ []
+some_with [] ys some e = some refl
+some_with (x ∷ xs) ys some e = has_item x (xs ++ ys) e
 
 -- the link at a place sent more, and the others are as they were
 pub Tell-set : {L : Type 0} (told : L → Option LinkStory) (d : Domain) (links : List L) (left : ℕ → List (List ℕ)) (before : List Send) (p : ℕ) (link : L) (fs : List SentFrame) → Tell told d links left before → told link ≡ Some (after_frames (story_at d left before p) fs) → Tell told d (set links p link) left (before ++ sends_by p fs)
@@ -114,7 +132,8 @@ TellFront-set told d links left before p link fs (Err x) tell e = (
   sends_by p e.0,
   sends_by p e.1,
   sym (map-append _ e.0 e.1) ∙ ap (sends_by p) e.2,
-  Tell-set told d links left before p link e.0 tell e.3,
+  some_sends p e.1 e.3,
+  Tell-set told d links left before p link e.0 tell e.4,
 )
 
 -- what goes out for an entry, by its node's place and the frame that it sent

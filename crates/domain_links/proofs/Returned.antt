@@ -11,7 +11,7 @@ use Rattle.domain_links.specs.Telling.{Tell, HasFailed, NoneFailed}
 use Rattle.domain_links.specs.Attached.{TakenBack}
 
 pub TakenBack-none : {L : Type 0} (told : L → Option LinkStory) (old : Option AirStory) (now : AirStory) → old ≡ Some now → TakenBack told [] old now
-TakenBack-none told old now e = record { was = now; ended = []; is = e; returned = sym (append-nil now.returned); stories = refl }
+TakenBack-none told old now e = record { was = now; ended = []; is = e; returned = sym (append-nil now.returned); frames = λ node. refl; stories = refl }
 
 pub TakenBack-more : {L : Type 0} (told : L → Option LinkStory) (links : List L) (link : L) (old mid new : Option AirStory) (now : AirStory) → ((was : AirStory) → mid ≡ Some was → TakenBack told links old was) → TakesBack mid new (told link) → new ≡ Some now → TakenBack told (links ++ link ∷ []) old now
 TakenBack-more told links link old mid new now before h e =
@@ -22,6 +22,7 @@ TakenBack-more told links link old mid new now before h e =
       ended = b.ended ++ t.1 ∷ [];
       is = b.is;
       returned = ap (λ (s : AirStory). s.returned) t.4 ∙ ap (λ (w : List LinkStory). w ++ t.1 ∷ []) b.returned ∙ append_assoc b.was.returned b.ended (t.1 ∷ []);
+      frames = λ node. ap (λ (s : AirStory). s.frames node) t.4 ∙ b.frames node;
       stories = map-append told links (link ∷ []) ∙ ap (λ (w : List (Option LinkStory)). w ++ told link ∷ []) b.stories ∙ ap (λ (w : Option LinkStory). map (λ (s : LinkStory). Some s) b.ended ++ w ∷ []) t.3 ∙ sym (map-append (λ (s : LinkStory). Some s) b.ended (t.1 ∷ []));
     }
 

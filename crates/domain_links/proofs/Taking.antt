@@ -10,9 +10,9 @@ use Rattle.domain_base.specs.Told.{LinkStory}
 use Rattle.run_journal.specs.declared.domain.Domain.{Domain}
 use Rattle.domain_links.specs.NodeOrder.{node_at}
 use Rattle.domain_links.specs.Sends.{Send}
-use Rattle.domain_links.specs.Telling.{Tell, TellPart, Polled, left_after}
-use Rattle.domain_links.specs.Turns.{Delivery, Rounds, Delivers, Takes, TookAll, TookPart, of_node, cut}
-use Rattle.domain_links.proofs.Going.{Tell-same}
+use Rattle.domain_links.specs.Telling.{Tell, Polled, left_after}
+use Rattle.domain_links.specs.Turns.{Delivery, Rounds, TellCut, Delivers, Takes, TookAll, TookPart, of_node, cut}
+use Rattle.domain_links.proofs.Going.{Tell-same, has_item}
 use Rattle.domain_links.proofs.OnePoll.{Tell-left, left_own, left_other}
 
 pub some_of : {A : Type 0} (P : Type 0) (Q : A → Type 0) (o : Option A) (x : A) → o ≡ Some x → MatchOption o P Q → Q x
@@ -50,7 +50,7 @@ delivers_none told d Round all place octets links before after e same = record {
   given = [];
   few = inr refl;
   rounds = Rounds-none Round before after same;
-  tells = λ left tell. record { front = all after; rest = []; left = left; whole = append-nil (all after); tell = Tell-same told d links left _ _ (ap all (sym same)) tell };
+  tells = λ left tell. inl (record { left = left; tell = Tell-same told d links left _ _ (ap all (sym same)) tell });
 }
 
 -- one that took the octets, and all that it sent went out
@@ -63,20 +63,28 @@ delivers_ok told d Round all place octets links_old links_new before after news 
 }
 
 -- or a front of it
-pub delivers_err : {S L T E : Type 0} (told : L → Option LinkStory) (d : Domain) (Round : Node → List ℕ → S → S → Type 0) (all : S → List Send) (place : ℕ) (octets : List ℕ) (links_old links_new : List L) (before after : S) (news : List Send) (x : E) → Round (node_at d place) octets before after → all before ++ news ≡ all after → ((left : ℕ → List (List ℕ)) (b : List Send) → Tell told d links_old left b → (front rest : List Send) × (front ++ rest ≡ news) × Tell told d links_new left (b ++ front)) → Delivers {S = S} {L = L} {T = T} {E = E} told d Round all place octets links_old links_new before after (Err x)
+pub delivers_err : {S L T E : Type 0} (told : L → Option LinkStory) (d : Domain) (Round : Node → List ℕ → S → S → Type 0) (all : S → List Send) (place : ℕ) (octets : List ℕ) (links_old links_new : List L) (before after : S) (news : List Send) (x : E) → Round (node_at d place) octets before after → all before ++ news ≡ all after → ((left : ℕ → List (List ℕ)) (b : List Send) → Tell told d links_old left b → (front rest : List Send) × (front ++ rest ≡ news) × (rest ≢ []) × Tell told d links_new left (b ++ front)) → Delivers {S = S} {L = L} {T = T} {E = E} told d Round all place octets links_old links_new before after (Err x)
 delivers_err told d Round all place octets links_old links_new before after news x round is out = record {
   given = octets ∷ [];
   few = inl refl;
   rounds = Rounds-one Round (node_at d place) octets before after round;
   tells = λ left tell.
       let o = out left (all before) tell in
-      record {
-        front = all before ++ o.0;
-        rest = o.1;
-        left = left;
-        whole = append_assoc (all before) o.0 o.1 ∙ ap (λ (w : List Send). all before ++ w) o.2 ∙ is;
-        tell = o.3;
-      };
+      inr (
+        has_item octets [],
+        record {
+          was = before;
+          node = node_at d place;
+          octets = octets;
+          round = round;
+          front = o.0;
+          rest = o.1;
+          whole = ap (λ (w : List Send). all before ++ w) o.2 ∙ is;
+          some = o.3;
+          left = left;
+          tell = o.4;
+        },
+      );
 }
 
 -- ---- one poll
@@ -99,8 +107,8 @@ takes_ok told d Round all place octets links_old links_mid links_new before afte
       record { all_of = t.0 ∙ came told d links_mid place left (all before) octets p; tell = t.1 };
 }
 
-took_part : {S L : Type 0} (told : L → Option LinkStory) (d : Domain) (all : S → List Send) (place : ℕ) (octets : List ℕ) (links_mid links_new : List L) (before after : S) (left : ℕ → List (List ℕ)) (given : List (List ℕ)) → Polled told d links_mid place left (all before) octets → TellPart told d links_new (all after) → (given ≡ octets ∷ []) ⊎ (given ≡ []) → TookPart told d all place 1 links_new after left given
-took_part told d all place octets links_mid links_new before after left given p part = elim [
+took_part : {S L : Type 0} (told : L → Option LinkStory) (d : Domain) (Round : Node → List ℕ → S → S → Type 0) (all : S → List Send) (place : ℕ) (octets : List ℕ) (links_mid links_new : List L) (before after : S) (left : ℕ → List (List ℕ)) (given : List (List ℕ)) → Polled told d links_mid place left (all before) octets → TellCut told d Round all links_new after (given ≢ []) → (given ≡ octets ∷ []) ⊎ (given ≡ []) → TookPart told d Round all place 1 links_new after left given
+took_part told d Round all place octets links_mid links_new before after left given p part = elim [
   | inl e ↦ record { rest = []; whole = append-nil given ∙ e ∙ came told d links_mid place left (all before) octets p; part = part }
   | inr e ↦ record { rest = octets ∷ []; whole = ap (λ (w : List (List ℕ)). w ++ octets ∷ []) e ∙ came told d links_mid place left (all before) octets p; part = part }
 ]
@@ -112,7 +120,7 @@ takes_err told d Round all place octets links_old links_mid links_new before aft
   rounds = v.rounds;
   tells = λ left tell.
       let p = polled left tell in
-      took_part told d all place octets links_mid links_new before after left v.given p (v.tells (left_after left place 1) p.tell) v.few;
+      took_part told d Round all place octets links_mid links_new before after left v.given p (v.tells (left_after left place 1) p.tell) v.few;
 }
 
 -- a link that has none left stays as it is
@@ -143,7 +151,7 @@ takes_fault told d Round all place links_old links_new before x kept = record {
   tells = λ left tell. record {
     rest = cut (take 1 (left place));
     whole = refl;
-    part = record { front = all before; rest = []; left = left; whole = append-nil (all before); tell = kept left tell };
+    part = inl (record { left = left; tell = kept left tell });
   };
 }
 
@@ -178,11 +186,30 @@ more_all told d all p n m links after left xs ys e t = record {
   tell = Tell-left told d links (left_after (left_after left p n) p m) (left_after left p (n + m)) (all after) (λ i within. after_two left p n m i) t.tell;
 }
 
-more_part : {S L : Type 0} (told : L → Option LinkStory) (d : Domain) (all : S → List Send) (p n m : ℕ) (links : List L) (after : S) (left : ℕ → List (List ℕ)) (xs ys : List (List ℕ)) → xs ≡ cut (take n (left p)) → TookPart told d all p m links after (left_after left p n) ys → TookPart told d all p (n + m) links after left (xs ++ ys)
-more_part told d all p n m links after left xs ys e t = record {
+-- some behind others are some
+some_behind : {A : Type 0} (xs ys : List A) → ys ≢ [] → xs ++ ys ≢ []
+some_behind [] ys some e = some e
+some_behind (x ∷ xs) ys some e = has_item x (xs ++ ys) e
+
+pub some_of_node : (node : Node) (given : List (List ℕ)) → given ≢ [] → of_node node given ≢ []
+some_of_node node [] some e = absurd (some refl)
+some_of_node node (octets ∷ given) some e = absurd cc
+
+-- where the second case asks for less
+cut_by : {S L : Type 0} (told : L → Option LinkStory) (d : Domain) (Round : Node → List ℕ → S → S → Type 0) (all : S → List Send) (links : List L) (after : S) (A B : Type 0) → (A → B) → TellCut told d Round all links after A → TellCut told d Round all links after B
+cut_by told d Round all links after A B less = elim [ inl whole ↦ inl whole | inr part ↦ inr (less part.0, part.1) ]
+
+pub cut_behind : {S L X : Type 0} (told : L → Option LinkStory) (d : Domain) (Round : Node → List ℕ → S → S → Type 0) (all : S → List Send) (links : List L) (after : S) (xs ys : List X) → TellCut told d Round all links after (ys ≢ []) → TellCut told d Round all links after (xs ++ ys ≢ [])
+cut_behind told d Round all links after xs ys = cut_by told d Round all links after (ys ≢ []) (xs ++ ys ≢ []) (some_behind xs ys)
+
+pub cut_node : {S L : Type 0} (told : L → Option LinkStory) (d : Domain) (Round : Node → List ℕ → S → S → Type 0) (all : S → List Send) (links : List L) (after : S) (node : Node) (given : List (List ℕ)) → TellCut told d Round all links after (given ≢ []) → TellCut told d Round all links after (of_node node given ≢ [])
+cut_node told d Round all links after node given = cut_by told d Round all links after (given ≢ []) (of_node node given ≢ []) (some_of_node node given)
+
+more_part : {S L : Type 0} (told : L → Option LinkStory) (d : Domain) (Round : Node → List ℕ → S → S → Type 0) (all : S → List Send) (p n m : ℕ) (links : List L) (after : S) (left : ℕ → List (List ℕ)) (xs ys : List (List ℕ)) → xs ≡ cut (take n (left p)) → TookPart told d Round all p m links after (left_after left p n) ys → TookPart told d Round all p (n + m) links after left (xs ++ ys)
+more_part told d Round all p n m links after left xs ys e t = record {
   rest = t.rest;
   whole = append_assoc xs ys t.rest ∙ ap (λ (w : List (List ℕ)). w ++ (ys ++ t.rest)) e ∙ ap (λ (w : List (List ℕ)). cut (take n (left p)) ++ w) (t.whole ∙ ap (λ (w : List (List ℕ)). cut (take m w)) (left_own left p n)) ∙ cut_two n m (left p);
-  part = t.part;
+  part = cut_behind told d Round all links after xs ys t.part;
 }
 
 rounds_more : {S : Type 0} (Round : Node → List ℕ → S → S → Type 0) (node : Node) (xs ys : List (List ℕ)) (before mid after : S) → Rounds Round (of_node node xs) before mid → Rounds Round (of_node node ys) mid after → Rounds Round (of_node node (xs ++ ys)) before after
@@ -207,7 +234,7 @@ Takes-stop told d Round all p n m links_old links_mid links_new before mid after
   rounds = rounds_more Round (node_at d p) a.given b.given before mid after a.rounds b.rounds;
   tells = λ left tell.
       let t = a.tells left tell in
-      more_part told d all p n m links_new after left a.given b.given t.all_of (b.tells (left_after left p n) t.tell);
+      more_part told d Round all p n m links_new after left a.given b.given t.all_of (b.tells (left_after left p n) t.tell);
 }
 
 pub split : (n m : ℕ) → n ≤ m → n + (m - n) ≡ m

@@ -13,7 +13,7 @@ use Rattle.domain_links.specs.Sends.{Send}
 use Rattle.domain_links.specs.Telling.{left_after}
 use Rattle.domain_links.specs.Turns.{Delivery, Takes, TakesTurn, of_node, cut, left_past, in_order, heard_of, turn_of}
 use Rattle.domain_links.proofs.OnePoll.{Tell-left, left_own, left_other}
-use Rattle.domain_links.proofs.Taking.{Rounds-none, Rounds-two, of_two, split}
+use Rattle.domain_links.proofs.Taking.{Rounds-none, Rounds-two, of_two, split, cut_behind, cut_node}
 
 -- ---- deliveries in node order
 
@@ -178,7 +178,7 @@ TakesTurn-stop told d Round all n m links_old links_mid links_new before mid aft
             ∙ ap (λ (w : List Delivery). turn_of d left n ++ w) (sym (append_assoc own lost f.0) ∙ ap (λ (w : List Delivery). w ++ f.0) here)
             ∙ sym (append_assoc (turn_of d left n) (of_node (node_at d n) (heard_of left n)) f.0)
             ∙ ap (λ (w : List Delivery). w ++ f.0) (sym (order_more d (heard_of left) n)) ∙ f.1;
-        part = u.part;
+        part = cut_behind told d Round all links_new after a.given own (cut_node told d Round all links_new after (node_at d n) b.given u.part);
       };
 }
 

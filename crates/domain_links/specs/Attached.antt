@@ -23,10 +23,12 @@ pub record Attached {L : Type 0} (told : L → Option LinkStory) (d : Domain) (s
   pub returned : now.returned ≡ start.returned
   pub tell : Tell told d links (frames_at d start) []
 
--- links were taken back, in order: where the air still tells, it told before, and their stories stand at the end of those taken back
+-- links were taken back, in order: where the air still tells, it told before, and their stories stand at the end of those taken back;
+-- what it has for nodes stays
 pub record TakenBack {L : Type 0} (told : L → Option LinkStory) (links : List L) (old : Option AirStory) (now : AirStory) : Type 0 where
   pub was : AirStory
   pub ended : List LinkStory
   pub is : old ≡ Some was
   pub returned : now.returned ≡ was.returned ++ ended
+  pub frames : (node : Node) → now.frames node ≡ was.frames node
   pub stories : map told links ≡ map (λ (s : LinkStory). Some s) ended

@@ -1,5 +1,5 @@
 -- Which frames go out for the entries of a journal, and by whose link (this project's choice).
-use Rattle.std.specs.Prelude.{◌≡◌, ℕ, List, [], ◌∷◌, ◌++◌, ◌==◌, Option, Some, None, if◌then◌else◌, map, flat_map, Result, MatchResult}
+use Rattle.std.specs.Prelude.{◌≡◌, ◌≢◌, ℕ, List, [], ◌∷◌, ◌++◌, ◌==◌, Option, Some, None, if◌then◌else◌, map, flat_map, Result, MatchResult}
 use Rattle.domain_base.specs.declared.names.Node.{Node}
 use Rattle.domain_base.specs.declared.radio.SentFrame.{SentFrame}
 use Rattle.domain_base.specs.Told.{LinkStory}
@@ -50,9 +50,9 @@ sent_by place all = flat_map (of_place place) all
 abbrev pub after_frames : LinkStory → List SentFrame → LinkStory
 after_frames story frames = record story { sent = story.sent ++ frames }
 
--- all of these frames went out by a link, or at an error a front of them
+-- all of these frames went out by a link, or at an error a front of them that is not the whole
 abbrev pub SendsFront : {T E : Type 0} → LinkStory → Option LinkStory → List SentFrame → Result T E → Type 0
 SendsFront story new frames result =
     MatchResult result
     (λ _. new ≡ Some (after_frames story frames))
-    (λ _. (front rest : List SentFrame) × (front ++ rest ≡ frames) × (new ≡ Some (after_frames story front)))
+    (λ _. (front rest : List SentFrame) × (front ++ rest ≡ frames) × (rest ≢ []) × (new ≡ Some (after_frames story front)))

@@ -1,5 +1,5 @@
 -- What the links of a network tell, in the order of its nodes, and how often they failed (this project's choice).
-use Rattle.std.specs.Prelude.{◌≡◌, ℕ, ◌<◌, List, [], ◌∷◌, ◌++◌, ◌==◌, Option, Some, if◌then◌else◌, map, length, take, drop, slice_index_or, Result, MatchResult, MatchOption}
+use Rattle.std.specs.Prelude.{◌≡◌, ◌≢◌, ℕ, ◌<◌, List, [], ◌∷◌, ◌++◌, ◌==◌, Option, Some, if◌then◌else◌, map, length, take, drop, slice_index_or, Result, MatchResult, MatchOption}
 use Rattle.domain_base.specs.Told.{LinkStory}
 use Rattle.run_journal.specs.declared.domain.Domain.{Domain}
 use Rattle.domain_links.specs.NodeOrder.{node_at}
@@ -13,20 +13,12 @@ story_at d left all i = record { node = node_at d i; sent = sent_by i all; left 
 pub record Tell {L : Type 0} (told : L → Option LinkStory) (d : Domain) (links : List L) (left : ℕ → List (List ℕ)) (all : List Send) : Type 0 where
   pub each : (i : ℕ) (l : L) → i < length links → told (slice_index_or links i l) ≡ Some (story_at d left all i)
 
--- what links tell after these sends: all of them went out, or at an error a front
+-- what links tell after these sends: all of them went out, or at an error a front that is not the whole
 abbrev pub TellFront : {L T E : Type 0} → (L → Option LinkStory) → Domain → List L → (ℕ → List (List ℕ)) → List Send → List Send → Result T E → Type 0
 TellFront told d links left before more result =
     MatchResult result
     (λ _. Tell told d links left (before ++ more))
-    (λ _. (front rest : List Send) × (front ++ rest ≡ more) × Tell told d links left (before ++ front))
-
--- a front of these sends went out
-pub record TellPart {L : Type 0} (told : L → Option LinkStory) (d : Domain) (links : List L) (all : List Send) : Type 0 where
-  pub front : List Send
-  pub rest : List Send
-  pub left : ℕ → List (List ℕ)
-  pub whole : front ++ rest ≡ all
-  pub tell : Tell told d links left front
+    (λ _. (front rest : List Send) × (front ++ rest ≡ more) × (rest ≢ []) × Tell told d links left (before ++ front))
 
 -- one of the links has failed
 pub record HasFailed {L : Type 0} (faults : L → ℕ) (links : List L) : Type 0 where

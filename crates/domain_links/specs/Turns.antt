@@ -1,11 +1,11 @@
 -- What the nodes of a network take of their links in a turn, whatever the round of one delivery does (this project's choice).
-use Rattle.std.specs.Prelude.{◌≡◌, ℕ, zero, suc, ◌≤◌, List, [], ◌∷◌, ◌++◌, ◌⊎◌, Option, if◌then◌else◌, nat_lt, map, length, take, drop, Result, MatchResult}
+use Rattle.std.specs.Prelude.{◌≡◌, ◌≢◌, ℕ, zero, suc, ◌≤◌, List, [], ◌∷◌, ◌++◌, ◌⊎◌, Option, if◌then◌else◌, nat_lt, map, length, take, drop, Result, MatchResult}
 use Rattle.domain_base.specs.declared.names.Node.{Node}
 use Rattle.domain_base.specs.Told.{LinkStory}
 use Rattle.run_journal.specs.declared.domain.Domain.{Domain}
 use Rattle.domain_links.specs.NodeOrder.{node_at}
 use Rattle.domain_links.specs.Sends.{Send}
-use Rattle.domain_links.specs.Telling.{Tell, TellPart, left_after}
+use Rattle.domain_links.specs.Telling.{Tell, left_after}
 
 -- a frame that a node takes
 pub record Delivery : Type 0 where
@@ -46,14 +46,35 @@ heard_of left i = cut (take 16 (left i))
 abbrev pub turn_of : Domain → (ℕ → List (List ℕ)) → ℕ → List Delivery
 turn_of d left n = in_order d (heard_of left) n
 
--- a node took these octets in a round, or none, and what it sent went out, or at an error a front of it; `all` is what was sent so
--- far
+-- no round is under way, and all that was sent went out; `all` is what was sent so far
+pub record TellWhole {S L : Type 0} (told : L → Option LinkStory) (d : Domain) (all : S → List Send) (links : List L) (after : S) : Type 0 where
+  pub left : ℕ → List (List ℕ)
+  pub tell : Tell told d links left (all after)
+
+-- of what the last round sent a front went out that is not the whole, and all that was sent before it
+pub record TellRound {S L : Type 0} (told : L → Option LinkStory) (d : Domain) (Round : Node → List ℕ → S → S → Type 0) (all : S → List Send) (links : List L) (after : S) : Type 0 where
+  pub was : S
+  pub node : Node
+  pub octets : List ℕ
+  pub round : Round node octets was after
+  pub front : List Send
+  pub rest : List Send
+  pub whole : all was ++ (front ++ rest) ≡ all after
+  pub some : rest ≢ []
+  pub left : ℕ → List (List ℕ)
+  pub tell : Tell told d links left (all was ++ front)
+
+-- either of them, and the second only where some were taken: else the last round is an earlier one
+abbrev pub TellCut : {S L : Type 0} → (L → Option LinkStory) → Domain → (Node → List ℕ → S → S → Type 0) → (S → List Send) → List L → S → Type 0 → Type 0
+TellCut told d Round all links after Took = TellWhole told d all links after ⊎ (Took × TellRound told d Round all links after)
+
+-- a node took these octets in a round, or none, and what it sent went out, or at an error a front of it
 pub record Delivers {S L T E : Type 0} (told : L → Option LinkStory) (d : Domain) (Round : Node → List ℕ → S → S → Type 0) (all : S → List Send) (place : ℕ) (octets : List ℕ) (links_old links_new : List L) (before after : S) (result : Result T E) : Type 0 where
   pub given : List (List ℕ)
   pub few : (given ≡ octets ∷ []) ⊎ (given ≡ [])
   pub rounds : Rounds Round (of_node (node_at d place) given) before after
   pub tells : (left : ℕ → List (List ℕ)) → Tell told d links_old left (all before)
-      → MatchResult result (λ _. (given ≡ octets ∷ []) × Tell told d links_new left (all after)) (λ _. TellPart told d links_new (all after))
+      → MatchResult result (λ _. (given ≡ octets ∷ []) × Tell told d links_new left (all after)) (λ _. TellCut told d Round all links_new after (given ≢ []))
 
 -- a node took all of these frames, each cut
 pub record TookAll {S L : Type 0} (told : L → Option LinkStory) (d : Domain) (all : S → List Send) (place n : ℕ) (links : List L) (after : S) (left : ℕ → List (List ℕ)) (given : List (List ℕ)) : Type 0 where
@@ -61,10 +82,10 @@ pub record TookAll {S L : Type 0} (told : L → Option LinkStory) (d : Domain) (
   pub tell : Tell told d links (left_after left place n) (all after)
 
 -- or a front of them
-pub record TookPart {S L : Type 0} (told : L → Option LinkStory) (d : Domain) (all : S → List Send) (place n : ℕ) (links : List L) (after : S) (left : ℕ → List (List ℕ)) (given : List (List ℕ)) : Type 0 where
+pub record TookPart {S L : Type 0} (told : L → Option LinkStory) (d : Domain) (Round : Node → List ℕ → S → S → Type 0) (all : S → List Send) (place n : ℕ) (links : List L) (after : S) (left : ℕ → List (List ℕ)) (given : List (List ℕ)) : Type 0 where
   pub rest : List (List ℕ)
   pub whole : given ++ rest ≡ cut (take n (left place))
-  pub part : TellPart told d links (all after)
+  pub part : TellCut told d Round all links after (given ≢ [])
 
 -- the node at a place took up to n frames of its link
 pub record Takes {S L T E : Type 0} (told : L → Option LinkStory) (d : Domain) (Round : Node → List ℕ → S → S → Type 0) (all : S → List Send) (place n : ℕ) (links_old links_new : List L) (before after : S) (result : Result T E) : Type 0 where
@@ -72,17 +93,17 @@ pub record Takes {S L T E : Type 0} (told : L → Option LinkStory) (d : Domain)
   pub few : length given ≤ n
   pub rounds : Rounds Round (of_node (node_at d place) given) before after
   pub tells : (left : ℕ → List (List ℕ)) → Tell told d links_old left (all before)
-      → MatchResult result (λ _. TookAll told d all place n links_new after left given) (λ _. TookPart told d all place n links_new after left given)
+      → MatchResult result (λ _. TookAll told d all place n links_new after left given) (λ _. TookPart told d Round all place n links_new after left given)
 
 -- what the nodes of the first places take in a turn, all of it or a front
 pub record TurnAll {S L : Type 0} (told : L → Option LinkStory) (d : Domain) (all : S → List Send) (places : ℕ) (links : List L) (after : S) (left : ℕ → List (List ℕ)) (given : List Delivery) : Type 0 where
   pub all_of : given ≡ turn_of d left places
   pub tell : Tell told d links (left_past left places) (all after)
 
-pub record TurnPart {S L : Type 0} (told : L → Option LinkStory) (d : Domain) (all : S → List Send) (places : ℕ) (links : List L) (after : S) (left : ℕ → List (List ℕ)) (given : List Delivery) : Type 0 where
+pub record TurnPart {S L : Type 0} (told : L → Option LinkStory) (d : Domain) (Round : Node → List ℕ → S → S → Type 0) (all : S → List Send) (places : ℕ) (links : List L) (after : S) (left : ℕ → List (List ℕ)) (given : List Delivery) : Type 0 where
   pub rest : List Delivery
   pub whole : given ++ rest ≡ turn_of d left places
-  pub part : TellPart told d links (all after)
+  pub part : TellCut told d Round all links after (given ≢ [])
 
 -- the nodes of the first places took frames of their links, in node order and up to 16 each, whether or not these tell; where they
 -- tell, what they had in front
@@ -93,4 +114,4 @@ pub record TakesTurn {S L T E : Type 0} (told : L → Option LinkStory) (d : Dom
   pub order : given ≡ in_order d heard places
   pub rounds : Rounds Round given before after
   pub tells : (left : ℕ → List (List ℕ)) → Tell told d links_old left (all before)
-      → MatchResult result (λ _. TurnAll told d all places links_new after left given) (λ _. TurnPart told d all places links_new after left given)
+      → MatchResult result (λ _. TurnAll told d all places links_new after left given) (λ _. TurnPart told d Round all places links_new after left given)

@@ -1,6 +1,7 @@
 //! Links of the nodes, attached and given back in their order.
 
-ghost use Rattle.std.specs.Prelude.{◌≡◌, ◌<◌, ◌≤◌, ◌+◌, ◌++◌, ◌∷◌, [], Some, Err, OnOk, OnErr, length, map};
+ghost use Rattle.std.specs.Prelude.{◌≡◌, ◌<◌, ◌≤◌, ◌+◌, ◌++◌, ◌∷◌, [], Some, Err, OnOk, OnErr};
+ghost use Rattle.std.specs.Prelude.{length, map};
 ghost use Rattle.domain_base.specs.Causes.{Rose, HasLinkCause};
 ghost use Rattle.domain_base.specs.Told.{AirStory};
 ghost use Rattle.domain_base.specs.declared.outside.LinkError.TheVariants as error;

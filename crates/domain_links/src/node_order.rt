@@ -3,7 +3,8 @@
 ghost use Rattle.std.specs.Prelude.{◌≡◌, ◌<◌, ◌≤◌, length, position, bytes_eq};
 ghost use Rattle.domain_base.specs.declared.names.Mac.{Mac as AnyMac};
 ghost use Rattle.run_journal.specs.declared.domain.ListedAp.{ListedAp as AnyAp};
-ghost use Rattle.domain_links.specs.NodeOrder.{count, node_at, place_of, is_group_address, with_address, receiver_of};
+ghost use Rattle.domain_links.specs.NodeOrder.{count, node_at, place_of, is_group_address};
+ghost use Rattle.domain_links.specs.NodeOrder.{with_address, receiver_of};
 
 use domain_base::{Mac, Node, array_at};
 use run_journal::{Domain, ListedAp};

@@ -6,7 +6,8 @@ ghost use Rattle.domain_base.specs.Causes.{HasLinkCause};
 ghost use Rattle.domain_base.specs.Told.{LinkStory};
 ghost use Rattle.domain_base.specs.declared.outside.LinkError.TheVariants as error;
 ghost use Rattle.domain_links.specs.NodeOrder.{stations, nodes_of, receiver_of};
-ghost use Rattle.domain_links.specs.Sends.{Send, SendsFront, frame_sent, frames_to, sends, sends_of};
+ghost use Rattle.domain_links.specs.Sends.{Send, SendsFront, frame_sent, frames_to, sends};
+ghost use Rattle.domain_links.specs.Sends.{sends_of};
 ghost use Rattle.domain_links.specs.Telling.{Tell, TellFront, HasFailed, SameFaults};
 
 use crate::node_order::{Receiver, place_of, receiver_of};
@@ -89,8 +90,8 @@ fn send_entry<L: Link + Drop>(
 /// group's (IEEE Std 802.11-2020, 9.2.4.3.4).
 ///
 /// The links stand in the order of nodes: access points, then stations. At an error a front of the
-/// frames has gone out. Failed says that a link's count of faults rose; after NoMemory every
-/// count is as it was.
+/// frames that is not the whole has gone out. Failed says that a link's count of faults rose;
+/// after NoMemory every count is as it was.
 pub fn send_entries<L: Link + Drop>(
     links: &mut Vec<L>,
     domain: &Domain,

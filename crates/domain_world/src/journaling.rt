@@ -1,6 +1,7 @@
 //! The acts of a node put on the journal.
 
-ghost use Rattle.std.specs.Prelude.{◌≡◌, ◌≤◌, ◌<◌, ◌+◌, suc, cond, [], ◌∷◌, ◌++◌, length, vec_len, vec_capacity};
+ghost use Rattle.std.specs.Prelude.{◌≡◌, ◌≤◌, ◌<◌, ◌+◌, suc, cond, [], ◌∷◌, ◌++◌, length, vec_len};
+ghost use Rattle.std.specs.Prelude.{vec_capacity};
 ghost use Rattle.run_journal.specs.Acts.{is_sent};
 ghost use Rattle.domain_rules.specs.Explained.{number_of, push};
 ghost use Rattle.domain_world.specs.Owning.{places};

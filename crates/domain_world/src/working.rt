@@ -1,11 +1,13 @@
 //! The workers of a round, side by side: one for each access point that has events.
 
-ghost use Rattle.std.specs.Prelude.{◌≡◌, ◌<◌, ◌≤◌, ◌+◌, true, ◌∷◌, [], ◌++◌, length, IfOk, IsOkAnd, vec_len, vec_capacity};
+ghost use Rattle.std.specs.Prelude.{◌≡◌, ◌<◌, ◌≤◌, ◌+◌, true, ◌∷◌, [], ◌++◌, length, IfOk, IsOkAnd};
+ghost use Rattle.std.specs.Prelude.{vec_len, vec_capacity};
 ghost use denote.Param.Send.{IsSync};
 ghost use Rattle.holder_table.specs.Knowledge.{NoLess, TookIn};
 ghost use Rattle.holder_table.specs.Rule.{is_in};
 ghost use Rattle.domain_world.specs.Holding.{HasBelow};
-ghost use Rattle.domain_world.specs.Working.{IsRound, turns_at, Worked as WorkedBy, AreNumbered, HandedBack, AllWorked};
+ghost use Rattle.domain_world.specs.Working.{IsRound, turns_at, Worked as WorkedBy, AreNumbered};
+ghost use Rattle.domain_world.specs.Working.{HandedBack, AllWorked};
 
 use crate::gate::Gate;
 use crate::part::Part;

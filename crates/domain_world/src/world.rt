@@ -1,6 +1,7 @@
 //! The world: its nodes, the frames sent and the rounds run.
 
-ghost use Rattle.std.specs.Prelude.{◌≡◌, ◌≤◌, ◌<◌, ◌+◌, ◌^◌, suc, ℕ, List, [], length, take, map, false, IfOk, OnOk, OnErr};
+ghost use Rattle.std.specs.Prelude.{◌≡◌, ◌≤◌, ◌<◌, ◌+◌, ◌^◌, suc, ℕ, List, [], length, take, map};
+ghost use Rattle.std.specs.Prelude.{false, IfOk, OnOk, OnErr};
 ghost use Rattle.std.specs.List.{AllByRecursion};
 ghost use Rattle.domain_base.specs.Octets.{AreOctets};
 ghost use Rattle.air_frame.specs.Sent.{IsAddress};
@@ -87,7 +88,8 @@ fn octets(octets: &[u8])
 {}
 
 impl World {
-    ghost use Rattle.domain_world.specs.Owning.{Owns, Places, AreListed, Stand, nodes_of, HasOctets, IsEventIn, AreEventsIn};
+    ghost use Rattle.domain_world.specs.Owning.{Owns, Places, AreListed, Stand, nodes_of};
+    ghost use Rattle.domain_world.specs.Owning.{HasOctets, IsEventIn, AreEventsIn};
     ghost use Rattle.domain_world.specs.Acting.{IsAltered, IsChanged, Played};
     ghost use Rattle.domain_world.specs.Waiting.{events_below};
     ghost use Rattle.domain_world.specs.Comings.{event_at};

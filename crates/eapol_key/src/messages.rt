@@ -2,7 +2,8 @@
 
 ghost use Rattle.std.specs.Prelude.{◌≡◌, ◌<◌, ◌↔◌, IsTrue, Some, None};
 ghost use Rattle.eapol_key.specs.Fields.{fields_of};
-ghost use Rattle.eapol_key.specs.Messages.{BitsFit, IsMessage, Meets, descriptor_version, has_bit, row, row_of};
+ghost use Rattle.eapol_key.specs.Messages.{BitsFit, IsMessage, Meets, descriptor_version, has_bit};
+ghost use Rattle.eapol_key.specs.Messages.{row, row_of};
 ghost use Rattle.eapol_key.specs.declared.messages.Message.{Message};
 
 use crate::frame::KeyFrame;

@@ -1,6 +1,7 @@
 //! Reading a frame from the front of octets.
 
-ghost use Rattle.std.specs.Prelude.{◌≡◌, ◌≤◌, ℕ, length, take, None, Some, MatchResult, IfOk, IsOkAnd};
+ghost use Rattle.std.specs.Prelude.{◌≡◌, ◌≤◌, ℕ, length, take, None, Some, MatchResult, IfOk};
+ghost use Rattle.std.specs.Prelude.{IsOkAnd};
 ghost use Rattle.eapol_key.specs.Bodies.{body_fault};
 ghost use Rattle.eapol_key.specs.Fields.{fields_of, IsKeyFrame};
 ghost use Rattle.eapol_key.specs.KeyFrame.{KeyFields, SpellsKeyFrame, key_frame_fault};

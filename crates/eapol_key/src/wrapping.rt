@@ -1,6 +1,7 @@
 //! Key data in its key wrap.
 
-ghost use Rattle.std.specs.Prelude.{◌≡◌, ◌≤◌, ◌+◌, ◌-◌, ℕ, List, length, take, drop, IfOk, OnErr, IsOkAnd};
+ghost use Rattle.std.specs.Prelude.{◌≡◌, ◌≤◌, ◌+◌, ◌-◌, ℕ, List, length, take, drop, IfOk, OnErr};
+ghost use Rattle.std.specs.Prelude.{IsOkAnd};
 ghost use Rattle.key_wrap.specs.KeyWrap.{Wraps};
 ghost use Rattle.domain_base.specs.Padding.{padding};
 ghost use Rattle.eapol_key.specs.KeyData.{padded, padded_length};

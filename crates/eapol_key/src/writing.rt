@@ -1,12 +1,14 @@
 //! Writing a message, with zeros for its MIC.
 
-ghost use Rattle.std.specs.Prelude.{◌≡◌, ℕ, ◌≤◌, ◌<◌, ◌+◌, ◌^◌, ◌++◌, ◌∷◌, [], List, length, take, drop};
+ghost use Rattle.std.specs.Prelude.{◌≡◌, ℕ, ◌≤◌, ◌<◌, ◌+◌, ◌^◌, ◌++◌, ◌∷◌, [], List, length, take};
+ghost use Rattle.std.specs.Prelude.{drop};
 ghost use Rattle.std.specs.Int.{w16, to_be_bytes};
 ghost use Rattle.eapol_key.specs.KeyFrame.{SpellsKeyFrame};
 ghost use Rattle.eapol_key.specs.Messages.{IsMessage, descriptor_version};
 ghost use Rattle.eapol_key.specs.Octets.{frame_octets};
 ghost use Rattle.eapol_key.specs.Parts.{front_octets, back_octets};
-ghost use Rattle.eapol_key.specs.Sent.{IsSentWith, rsc_octets, sent_bits, sent_fields, sent_key_length, sent_nonce, sent_rsc};
+ghost use Rattle.eapol_key.specs.Sent.{IsSentWith, rsc_octets, sent_bits, sent_fields};
+ghost use Rattle.eapol_key.specs.Sent.{sent_key_length, sent_nonce, sent_rsc};
 
 use crate::messages::{Message, descriptor_version};
 use domain_base::{Akm, put};

@@ -11,7 +11,8 @@ ghost use Rattle.domain_base.specs.Octets.{AreOctets};
 ghost use Rattle.key_hierarchy.specs.Sizes.{IsSsid};
 ghost use Rattle.run_journal.specs.declared.domain.Domain.{Domain};
 ghost use Rattle.domain_rules.specs.DataExample.{IsPayload};
-ghost use Rattle.example_domains.specs.Roaming.{CanRoam, HasAssociation, HasRoaming, HasService, HasReturn, HasRevocation, pair};
+ghost use Rattle.example_domains.specs.Roaming.{CanRoam, HasAssociation, HasRoaming, HasService};
+ghost use Rattle.example_domains.specs.Roaming.{HasReturn, HasRevocation, pair};
 
 use domain_rules::looks_are_right;
 

@@ -8,7 +8,8 @@ ghost use Rattle.domain_rules.specs.Network.{InForm, IsListed, bssid, direction,
 ghost use Rattle.domain_rules.specs.Reading.{Managed, Keyed};
 ghost use Rattle.domain_rules.specs.DataVerdict.{is_group};
 ghost use Rattle.domain_rules.specs.Verdict.{is_mine, is_mine_or_group, air_reason};
-ghost use Rattle.frame_intake.specs.Views.{management_fields, message_fields, sealed_fields, reading_of, IsWhole};
+ghost use Rattle.frame_intake.specs.Views.{management_fields, message_fields, sealed_fields};
+ghost use Rattle.frame_intake.specs.Views.{reading_of, IsWhole};
 ghost use Rattle.frame_intake.specs.SealedFields.{IsSealedData};
 ghost use Rattle.frame_intake.specs.Judging.{IsJudged};
 

@@ -1,13 +1,16 @@
 //! The lines behind a header.
 
-ghost use Rattle.std.specs.Prelude.{◌≡◌, ◌==◌, ◌&&◌, ◌<◌, ◌≤◌, ℕ, List, length, Err, if◌then◌else◌, IfOk, IsTrue, MatchResult};
+ghost use Rattle.std.specs.Prelude.{◌≡◌, ◌==◌, ◌&&◌, ◌<◌, ◌≤◌, ℕ, List, length, Err, if◌then◌else◌};
+ghost use Rattle.std.specs.Prelude.{IfOk, IsTrue, MatchResult};
 ghost use Rattle.frame_script.specs.declared.refusal.Untaken.TheVariants as untaken;
 ghost use Rattle.frame_script.specs.declared.reader.Step.TheVariants as steps;
 ghost use Rattle.frame_script.specs.Due.{draft_of};
 ghost use Rattle.frame_script.specs.Headers.{CanListSta};
 ghost use Rattle.run_journal.specs.Listing.{with_ap, with_sta};
-ghost use Rattle.frame_script.specs.Script.{Asks, AtNodes, InRound, ListsSta, ap_line, body_line, inner_line, sta_line, word_};
-ghost use Rattle.frame_script.specs.Sentences.{CanAsk, CanJoin, CanSay, IsKept, Takes, TellsBy, event_of, is_few, octets_of, said_of};
+ghost use Rattle.frame_script.specs.Script.{Asks, AtNodes, InRound, ListsSta, ap_line, body_line};
+ghost use Rattle.frame_script.specs.Script.{inner_line, sta_line, word_};
+ghost use Rattle.frame_script.specs.Sentences.{CanAsk, CanJoin, CanSay, IsKept, Takes, TellsBy};
+ghost use Rattle.frame_script.specs.Sentences.{event_of, is_few, octets_of, said_of};
 
 use crate::events::{Asked, event_line, part_line};
 use crate::header::{Due, Taken};

@@ -1,14 +1,26 @@
 //! The lines that ask for events.
 
-ghost use Rattle.std.specs.Prelude.{◌≡◌, true, false, bytes_eq, ◌<◌, ◌≤◌, ℕ, List, codes, length, is_some, nat_le, nat_lt, if◌then◌else◌, Some, Ok, Err, IfOk, IfSome, IsTrue, option_map};
+ghost use Rattle.std.specs.Prelude.{◌≡◌, true, false, bytes_eq, ◌<◌, ◌≤◌, ℕ, List, codes, length};
+ghost use Rattle.std.specs.Prelude.{is_some, nat_le, nat_lt, if◌then◌else◌, Some, Ok, Err, IfOk};
+ghost use Rattle.std.specs.Prelude.{IfSome, IsTrue, option_map};
 ghost use Rattle.run_journal.specs.declared.domain.Domain.{Domain as AnyDomain};
 ghost use Rattle.run_journal.specs.declared.domain.Event.TheVariants as asks;
 ghost use Rattle.domain_base.specs.declared.names.Akm.TheVariants.{FtPsk};
 ghost use Rattle.frame_script.specs.Tokens.{hex_value, number_of_digits, split_word};
 ghost use Rattle.frame_script.specs.Headers.{CanHappen, IsListedIn, IsReceiverIn, IsSized};
 ghost use Rattle.frame_script.specs.Refusals.{fault_of};
-ghost use Rattle.frame_script.specs.Script.{Asks, alter_line, connect_line, cut_line, deliver_line, event_line, event_node, event_of, frame_octets, inject_line, is_transition, listed, listed_ap, listed_sta, need, node_, frame_, place_, ◌>>=◌ as ◌>>=ᴿ◌, place_in, expire_line, leave_line, octets_within, part_line, receiver_by, rekey_line, retry_line, revoke_line, roam_line, send_between, send_line, send_payload, session_event_of, size_of, station_event_of, to_word, word_};
-ghost use Rattle.frame_script.specs.Sentences.{CanAsk, CanJoin, Tells, TellsBy, event_of as event_asked, is_few, name_of, octets_of, peer_of};
+ghost use Rattle.frame_script.specs.Script.{Asks, alter_line, connect_line, cut_line, deliver_line};
+ghost use Rattle.frame_script.specs.Script.{event_line, event_node, event_of, frame_octets};
+ghost use Rattle.frame_script.specs.Script.{inject_line, is_transition, listed, listed_ap};
+ghost use Rattle.frame_script.specs.Script.{listed_sta, need, node_, frame_, place_};
+ghost use Rattle.frame_script.specs.Script.{◌>>=◌ as ◌>>=ᴿ◌, place_in, expire_line, leave_line};
+ghost use Rattle.frame_script.specs.Script.{octets_within, part_line, receiver_by, rekey_line};
+ghost use Rattle.frame_script.specs.Script.{retry_line, revoke_line, roam_line, send_between};
+ghost use Rattle.frame_script.specs.Script.{send_line, send_payload, session_event_of, size_of};
+ghost use Rattle.frame_script.specs.Script.{station_event_of, to_word, word_};
+ghost use Rattle.frame_script.specs.Sentences.{CanAsk, CanJoin, Tells, TellsBy};
+ghost use Rattle.frame_script.specs.Sentences.{event_of as event_asked, is_few, name_of, octets_of};
+ghost use Rattle.frame_script.specs.Sentences.{peer_of};
 
 use crate::refusal::Refusal;
 use crate::tokens::{

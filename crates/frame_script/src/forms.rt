@@ -4,7 +4,9 @@ ghost use Rattle.std.specs.Prelude.{◌≡◌, if◌then◌else◌};
 ghost use Rattle.frame_script.specs.declared.forms.Form.TheVariants as forms;
 ghost use Rattle.frame_script.specs.Due.{draft_of};
 ghost use Rattle.frame_script.specs.Script.{is_transition};
-ghost use Rattle.frame_script.specs.Forms.{body_form, event_form, form_in, form_live, form_of, form_text, frame_form, inner_form, is_turn, key_form, late_form, live_form, session_form};
+ghost use Rattle.frame_script.specs.Forms.{body_form, event_form, form_in, form_live, form_of};
+ghost use Rattle.frame_script.specs.Forms.{form_text, frame_form, inner_form, is_turn, key_form};
+ghost use Rattle.frame_script.specs.Forms.{late_form, live_form, session_form};
 
 use crate::header::Due;
 use crate::live::brings;

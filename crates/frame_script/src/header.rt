@@ -3,7 +3,8 @@
 ghost use Rattle.std.specs.Prelude.{◌≡◌, ◌≤◌, ℕ, List, length, IfOk};
 ghost use Rattle.domain_base.specs.declared.names.Akm.TheVariants.{FtPsk};
 ghost use Rattle.frame_script.specs.Due.{draft_of};
-ghost use Rattle.frame_script.specs.Script.{AtAkm, AtMdid, AtNodes, AtPsk, AtSeed, AtSsid, after_suite, header_line, new_network, psk_of};
+ghost use Rattle.frame_script.specs.Script.{AtAkm, AtMdid, AtNodes, AtPsk, AtSeed, AtSsid};
+ghost use Rattle.frame_script.specs.Script.{after_suite, header_line, new_network, psk_of};
 ghost use Rattle.frame_script.specs.Sentences.{IsKept, TakesHeader, Tells, TellsBy};
 
 use crate::reader::Step;

@@ -2,7 +2,8 @@
 
 ghost use Rattle.std.specs.Prelude.{◌≡◌, ◌≢◌, ◌<◌, ◌^◌, ℕ, List};
 ghost use Rattle.frame_script.specs.Due.{draft_of};
-ghost use Rattle.frame_script.specs.Script.{AtVersion, border_line, is_border, is_passed_over, is_within, line_says};
+ghost use Rattle.frame_script.specs.Script.{AtVersion, border_line, is_border, is_passed_over};
+ghost use Rattle.frame_script.specs.Script.{is_within, line_says};
 ghost use Rattle.frame_script.specs.Sentences.{IsKept, Takes, rounds_with, words_say};
 
 use crate::body::{take_body, take_inner};

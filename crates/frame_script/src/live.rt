@@ -1,6 +1,7 @@
 //! The lines of a live run.
 
-ghost use Rattle.std.specs.Prelude.{◌≡◌, bytes_eq, codes, if◌then◌else◌, None, Some, Ok, option_map};
+ghost use Rattle.std.specs.Prelude.{◌≡◌, bytes_eq, codes, if◌then◌else◌, None, Some, Ok};
+ghost use Rattle.std.specs.Prelude.{option_map};
 ghost use Rattle.frame_script.specs.Due.{draft_of};
 ghost use Rattle.frame_script.specs.Live.{Draws, brings, own_line, own_says, own_word, turn_line};
 ghost use Rattle.frame_script.specs.Sentences.{IsKept, TakesBy, TakesHeard, heard_of};

@@ -5,7 +5,9 @@ ghost use Rattle.std.specs.List.{list_any};
 ghost use Rattle.domain_base.specs.declared.names.Mac.{Mac as AnyMac};
 ghost use Rattle.run_journal.specs.declared.domain.ListedAp.{ListedAp};
 ghost use Rattle.frame_script.specs.Headers.{CanListAp, CanListSta};
-ghost use Rattle.frame_script.specs.Script.{ListsAp, ListsSta, address_of, ap_line, is_same, is_single, is_used, is_used_id, new_ap, new_sta, sta_line};
+ghost use Rattle.frame_script.specs.Script.{ListsAp, ListsSta, address_of, ap_line, is_same};
+ghost use Rattle.frame_script.specs.Script.{is_single, is_used, is_used_id, new_ap, new_sta};
+ghost use Rattle.frame_script.specs.Script.{sta_line};
 ghost use Rattle.frame_script.specs.Sentences.{Tells, TellsBy};
 
 use crate::refusal::Refusal;

@@ -1,6 +1,7 @@
 //! The reader, and what it answers.
 
-ghost use Rattle.std.specs.Prelude.{◌≡◌, ◌<◌, ◌^◌, [], None, Some, MatchResult, OnErr, OnOk, option_map};
+ghost use Rattle.std.specs.Prelude.{◌≡◌, ◌<◌, ◌^◌, [], None, Some, MatchResult, OnErr, OnOk};
+ghost use Rattle.std.specs.Prelude.{option_map};
 ghost use Rattle.run_journal.specs.declared.domain.Domain.{Domain as AnyDomain};
 
 use crate::forms::{Form, form_in};
@@ -105,7 +106,8 @@ impl ScriptReader {
     ghost use Rattle.frame_script.specs.Script.{AtSeed, AtSsid, AtVersion, end_fault};
     ghost use Rattle.frame_script.specs.Refusals.{answer_of, fault_of};
     ghost use Rattle.frame_script.specs.Forms.{form_in};
-    ghost use Rattle.frame_script.specs.Headers.{HasSeen, HasSeenBy, IsDomain, ReadsIn, TakesIn, sizes_named};
+    ghost use Rattle.frame_script.specs.Headers.{HasSeen, HasSeenBy, IsDomain, ReadsIn, TakesIn};
+    ghost use Rattle.frame_script.specs.Headers.{sizes_named};
 
     /// Before the first line of a script of a run of that kind.
     pub fn start(alloc: Global, mode: Mode) -> Self

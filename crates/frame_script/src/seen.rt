@@ -2,7 +2,8 @@
 
 ghost use Rattle.std.specs.Prelude.{◌≡◌, ◌++◌, OnErr, OnOk};
 ghost use Rattle.frame_script.specs.Due.{draft_of};
-ghost use Rattle.frame_script.specs.Headers.{HasSeen, HasSeenAll, HasSeenBy, size_sent, sizes_by, sizes_of};
+ghost use Rattle.frame_script.specs.Headers.{HasSeen, HasSeenAll, HasSeenBy, size_sent, sizes_by};
+ghost use Rattle.frame_script.specs.Headers.{sizes_of};
 ghost use Rattle.frame_script.specs.Sentences.{seeing};
 
 use crate::header::Due;

@@ -1,9 +1,12 @@
 //! The words of a line.
 
-ghost use Rattle.std.specs.Prelude.{◌≡◌, ◌==◌, ◌&&◌, None, Some, Bool, MatchOption, nat_le, position, is_some, option_map};
+ghost use Rattle.std.specs.Prelude.{◌≡◌, ◌==◌, ◌&&◌, None, Some, Bool, MatchOption, nat_le};
+ghost use Rattle.std.specs.Prelude.{position, is_some, option_map};
 ghost use Rattle.std.specs.Char.{is_ascii_hexdigit};
 ghost use Rattle.std.specs.List.{list_all};
-ghost use Rattle.frame_script.specs.Tokens.{behind, first_word, hex_octets, is_text, named, node_word, number_of_digits, numbered, peer_word, some_octets, split_word, tid_number, tid_word};
+ghost use Rattle.frame_script.specs.Tokens.{behind, first_word, hex_octets, is_text, named};
+ghost use Rattle.frame_script.specs.Tokens.{node_word, number_of_digits, numbered, peer_word};
+ghost use Rattle.frame_script.specs.Tokens.{some_octets, split_word, tid_number, tid_word};
 ghost use Rattle.frame_script.specs.Sentences.{name_of, peer_of};
 
 use domain_base::Tid;

@@ -82,7 +82,8 @@ impl Originator {
     ghost use Rattle.ft_exchange.specs.Judged.{wanted};
     ghost use Rattle.ft_exchange.specs.Sent.{Sends, HasFrame};
     ghost use Rattle.ft_exchange.specs.Exchange.{asking_octets, wanted_by, r1_in, transit_in};
-    ghost use Rattle.ft_exchange.specs.Exchange.{IsRequesting, request_octets, GoesOn, response_between};
+    ghost use Rattle.ft_exchange.specs.Exchange.{IsRequesting, request_octets, GoesOn};
+    ghost use Rattle.ft_exchange.specs.Exchange.{response_between};
     ghost use Rattle.key_hierarchy.specs.FastTransition.{pmk_r0_name};
     ghost use Rattle.ft_exchange.specs.Exchange.{response_tried, IsResponse, both, Finishes};
     ghost use Rattle.ft_exchange.specs.OriginatorSteps.{IsBegun, IsAuthTaken, IsReassocTaken};

@@ -1,7 +1,8 @@
 //! What the calls do stands for what a history gains. The functions do nothing; their contracts are
 //! proved.
 
-ghost use Rattle.std.specs.Prelude.{◌≡◌, ℕ, ◌<◌, ◌==◌, nat_lt, if◌then◌else◌, suc, List, [], ◌∷◌, map, Option, None, Some, option_map};
+ghost use Rattle.std.specs.Prelude.{◌≡◌, ℕ, ◌<◌, ◌==◌, nat_lt, if◌then◌else◌, suc, List, [], ◌∷◌};
+ghost use Rattle.std.specs.Prelude.{map, Option, None, Some, option_map};
 ghost use Rattle.std.specs.List.{AllByRecursion};
 ghost use Rattle.domain_base.specs.declared.names.Mac.{Mac};
 ghost use Rattle.domain_base.specs.declared.names.Node.{Node};
@@ -17,11 +18,13 @@ ghost use Rattle.run_journal.specs.declared.acts.Act.TheVariants.{Drew, Took, In
 ghost use Rattle.run_journal.specs.Questions.{group_keys, switches, group_uses, draws, add};
 ghost use Rattle.run_journal.specs.Acts.{GroupKey as Carried, given_from};
 ghost use Rattle.run_journal.specs.GroupKinds as groups;
-ghost use Rattle.domain_rules.specs.GroupKeys.{newest, newest_uses, is_current, memory, find_key, give, told, rsc_in, rsc_in_response, got};
+ghost use Rattle.domain_rules.specs.GroupKeys.{newest, newest_uses, is_current, memory, find_key};
+ghost use Rattle.domain_rules.specs.GroupKeys.{give, told, rsc_in, rsc_in_response, got};
 ghost use Rattle.domain_rules.specs.Owing.{is_older};
 ghost use Rattle.group_key.specs.declared.keys.GroupKey.{GroupKey};
 ghost use Rattle.group_key.specs.Keys.{Pair, Kept, placed, kept_id, given, found, taken};
-ghost use Rattle.group_key.specs.Holds.{IsLast, Holds, LeavesGroupKeys, CarriesGroupKey, Remembers, carried, key_of, under};
+ghost use Rattle.group_key.specs.Holds.{IsLast, Holds, LeavesGroupKeys, CarriesGroupKey, Remembers};
+ghost use Rattle.group_key.specs.Holds.{carried, key_of, under};
 
 /// The keys of an access point stand for its history: after the first key was drawn and made
 /// current (`GroupKeys::new`), after one more was drawn (`rekey`), after the newest of the

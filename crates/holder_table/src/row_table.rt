@@ -1,15 +1,18 @@
 //! The rows of all access points in one table: single steps, and the calls that are made of them.
 
-ghost use Rattle.std.specs.Prelude.{◌≡◌, ◌+◌, ◌*◌, ◌<◌, ◌≤◌, ◌↔◌, ℕ, [], ◌∷◌, Option, Some, IfOk, IsTrue, slice_get, length, true};
+ghost use Rattle.std.specs.Prelude.{◌≡◌, ◌+◌, ◌*◌, ◌<◌, ◌≤◌, ◌↔◌, ℕ, [], ◌∷◌, Option, Some, IfOk};
+ghost use Rattle.std.specs.Prelude.{IsTrue, slice_get, length, true};
 ghost use Rattle.key_holders.specs.declared.rows.HolderRow.{HolderRow};
 ghost use Rattle.key_holders.specs.declared.rows.HeldRow.{HeldRow};
 ghost use Rattle.key_holders.specs.Rows.{is_in, live, put_answer, revoke_answer};
 ghost use Rattle.holder_table.specs.declared.history.HolderEvent.TheVariants.{Put, Revoke};
 ghost use Rattle.holder_table.specs.Histories.{held_at};
-ghost use Rattle.holder_table.specs.Words.{octets_in, piece, state_of, row_of, row_words, name_octets};
+ghost use Rattle.holder_table.specs.Words.{octets_in, piece, state_of, row_of, row_words};
+ghost use Rattle.holder_table.specs.Words.{name_octets};
 ghost use Rattle.holder_table.specs.Rule.{first_view, LoadsLast};
 ghost use Rattle.holder_table.specs.Steps.{Adds, GoesOn, load_of, drafted, written};
-ghost use Rattle.holder_table.specs.Knowledge.{NoLess, KnowsMore, Finds, PullsAt, AfterPut, AfterRevoke, Gave, TookIn};
+ghost use Rattle.holder_table.specs.Knowledge.{NoLess, KnowsMore, Finds, PullsAt, AfterPut};
+ghost use Rattle.holder_table.specs.Knowledge.{AfterRevoke, Gave, TookIn};
 ghost use Rattle.holder_table.specs.Scans.{Asked, Spotted};
 
 use crate::view::{

@@ -3,7 +3,8 @@
 ghost use Rattle.std.specs.Prelude.{◌≡◌, ◌≢◌, ◌≤◌, ◌+◌, decimal, length, MatchOption};
 ghost use Rattle.run_journal.specs.declared.acts.Malformed.{Malformed as AnyMalformed};
 ghost use Rattle.run_journal.specs.declared.acts.Reason.TheVariants as reasons;
-ghost use Rattle.run_journal.specs.Report.{air_fault_text, key_data_code, malformed_text, numbered, outcome_text, reason_text};
+ghost use Rattle.run_journal.specs.Report.{air_fault_text, key_data_code, malformed_text, numbered};
+ghost use Rattle.run_journal.specs.Report.{outcome_text, reason_text};
 ghost use Rattle.journal_report.specs.Writing.{Writes};
 
 use crate::pieces::{put_decimal, put_numbered};

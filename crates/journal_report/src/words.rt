@@ -1,7 +1,8 @@
 //! The words of the report.
 
 ghost use Rattle.std.specs.Prelude.{◌≡◌, ◌≤◌};
-ghost use Rattle.run_journal.specs.Report.{key_text, kind_text, message_text, part_text, pull_text, put_text, revoke_text, start_text, why_text, yes_no};
+ghost use Rattle.run_journal.specs.Report.{key_text, kind_text, message_text, part_text, pull_text};
+ghost use Rattle.run_journal.specs.Report.{put_text, revoke_text, start_text, why_text, yes_no};
 ghost use Rattle.journal_report.specs.Words.{word_room, word_text};
 
 use domain_base::{Node, Peer};

@@ -1,7 +1,8 @@
 //! The pairwise key hierarchy of AKM suites 2 and 6.
 
 ghost use Rattle.std.specs.Prelude.{◌≡◌, ◌≢◌, length, codes};
-ghost use Rattle.key_hierarchy.specs.Keys.{lesser, greater, pairwise_context, expansion, pairwise_ptk};
+ghost use Rattle.key_hierarchy.specs.Keys.{lesser, greater, pairwise_context, expansion};
+ghost use Rattle.key_hierarchy.specs.Keys.{pairwise_ptk};
 
 use crate::inputs::Ptk;
 use domain_base::{Akm, Mac, put};

@@ -1,7 +1,8 @@
 //! The rows of one access point.
 
 ghost use Rattle.std.specs.Prelude.{◌≡◌, ◌≢◌, [], position};
-ghost use Rattle.key_holders.specs.Rows.{holds_live, put_answer, after_put, ended_row, ended, revoke_answer, after_revoke};
+ghost use Rattle.key_holders.specs.Rows.{holds_live, put_answer, after_put, ended_row, ended};
+ghost use Rattle.key_holders.specs.Rows.{revoke_answer, after_revoke};
 ghost use Rattle.key_holders.specs.Pulls.{MayPull, is_match};
 
 use crate::rows::{HeldRow, HolderRow, ROWS};

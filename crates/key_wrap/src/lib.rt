@@ -1,7 +1,8 @@
 //! Key wrap (RFC 3394) under a key-encryption key of 128 bits.
 #![tactic(auto)]
 
-ghost use Rattle.std.specs.Prelude.{◌≡◌, ◌≤◌, ◌+◌, ◌-◌, ◌*◌, ◌/◌, ◌%◌, ℕ, List, ◌++◌, length, take, drop, IfOk, OnErr, IsOkAnd};
+ghost use Rattle.std.specs.Prelude.{◌≡◌, ◌≤◌, ◌+◌, ◌-◌, ◌*◌, ◌/◌, ◌%◌, ℕ, List, ◌++◌, length, take};
+ghost use Rattle.std.specs.Prelude.{drop, IfOk, OnErr, IsOkAnd};
 ghost use Rattle.domain_base.specs.Octets.{AreOctets};
 ghost use Rattle.aes_block.specs.Octets.{exclusive_or};
 ghost use Rattle.aes_block.specs.Cipher.{cipher};

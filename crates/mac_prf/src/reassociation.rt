@@ -2,7 +2,8 @@
 
 ghost use Rattle.std.specs.Prelude.{◌≡◌, ◌≤◌, ◌↔◌, ◌++◌, ℕ, List, IsTrue, length, take, drop};
 ghost use Rattle.mac_prf.specs.HoldsBlocks.{HoldsBlocks};
-ghost use Rattle.mac_prf.specs.FteMic.{transaction_number, mic_field, without_mic_field, input_of, fte_mic};
+ghost use Rattle.mac_prf.specs.FteMic.{transaction_number, mic_field, without_mic_field, input_of};
+ghost use Rattle.mac_prf.specs.FteMic.{fte_mic};
 
 use crate::chaining::CmacState;
 use domain_base::{Mac, array_at};

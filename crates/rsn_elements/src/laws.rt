@@ -7,7 +7,8 @@ ghost use Rattle.rsn_elements.specs.declared.faults.FaultKind.{FaultKind};
 ghost use Rattle.rsn_elements.specs.declared.framing.Within.TheVariants.{KeyData};
 ghost use Rattle.rsn_elements.specs.Framing.{Element, joined, EndsReading};
 ghost use Rattle.rsn_elements.specs.Sent.{pad_octets};
-ghost use Rattle.rsn_elements.specs.Pieces.{Piece, pieces_octets, FitsPiece, AreApart, said, IsPassedOver};
+ghost use Rattle.rsn_elements.specs.Pieces.{Piece, pieces_octets, FitsPiece, AreApart, said};
+ghost use Rattle.rsn_elements.specs.Pieces.{IsPassedOver};
 ghost use Rattle.rsn_elements.specs.Elements.{ElementFields, SpellsElements, HasRaw};
 ghost use Rattle.rsn_elements.specs.Faults.{HasElementFault};
 

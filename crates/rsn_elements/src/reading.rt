@@ -1,6 +1,7 @@
 //! Reading the elements of a frame body or of key data.
 
-ghost use Rattle.std.specs.Prelude.{◌≡◌, ◌<◌, ◌+◌, ◌^◌, ◌++◌, ◌∷◌, [], ℕ, List, IfOk, IsOkAnd, IfErr, OnOk, Err, IsTrue, false, slice_index_or};
+ghost use Rattle.std.specs.Prelude.{◌≡◌, ◌<◌, ◌+◌, ◌^◌, ◌++◌, ◌∷◌, [], ℕ, List, IfOk, IsOkAnd};
+ghost use Rattle.std.specs.Prelude.{IfErr, OnOk, Err, IsTrue, false, slice_index_or};
 ghost use Rattle.rsn_elements.specs.declared.faults.FaultKind.{FaultKind as AnyKind};
 ghost use Rattle.rsn_elements.specs.Framing.{Element, element_octets, EndsReading};
 ghost use Rattle.rsn_elements.specs.declared.framing.Within.TheVariants.{KeyData};

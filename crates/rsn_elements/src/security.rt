@@ -1,11 +1,13 @@
 //! The RSN element (IEEE Std 802.11-2020, 9.4.2.24).
 
-ghost use Rattle.std.specs.Prelude.{◌≡◌, ◌<◌, ◌≤◌, ◌+◌, ◌*◌, ◌/◌, ◌∷◌, ℕ, List, length, take, option_map, MatchOption, SomeIff};
+ghost use Rattle.std.specs.Prelude.{◌≡◌, ◌<◌, ◌≤◌, ◌+◌, ◌*◌, ◌/◌, ◌∷◌, ℕ, List, length, take};
+ghost use Rattle.std.specs.Prelude.{option_map, MatchOption, SomeIff};
 ghost use Rattle.std.specs.Int.{w16};
 ghost use Rattle.domain_base.specs.Places.{part, little_endian_at};
 ghost use Rattle.rsn_elements.specs.Rsne.{Field, IsSuite, IsNumber, IsList, SpellsRsne};
 ghost use Rattle.rsn_elements.specs.Fields.{rsne_fields};
-ghost use Rattle.rsn_elements.specs.RsneSteps.{IsBroken, HasNoFields, HasNoLeading, Leads, IsRsneRead};
+ghost use Rattle.rsn_elements.specs.RsneSteps.{IsBroken, HasNoFields, HasNoLeading, Leads};
+ghost use Rattle.rsn_elements.specs.RsneSteps.{IsRsneRead};
 
 use crate::faults::FaultKind;
 use domain_base::{array_at, little_u16_at};

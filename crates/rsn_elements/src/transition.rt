@@ -1,10 +1,13 @@
 //! Elements of fast transition (IEEE Std 802.11-2020, 9.4.2.46 to 9.4.2.48).
 
-ghost use Rattle.std.specs.Prelude.{◌≡◌, ◌≢◌, ◌<◌, ◌≤◌, ◌+◌, ◌++◌, ◌∷◌, ◌↔◌, IsTrue, false, [], ℕ, List, length, drop, filter, MatchOption, MatchResult};
+ghost use Rattle.std.specs.Prelude.{◌≡◌, ◌≢◌, ◌<◌, ◌≤◌, ◌+◌, ◌++◌, ◌∷◌, ◌↔◌, IsTrue, false, [], ℕ};
+ghost use Rattle.std.specs.Prelude.{List, length, drop, filter, MatchOption, MatchResult};
 ghost use Rattle.rsn_elements.specs.Framing.{Element, element_octets, joined};
 ghost use Rattle.rsn_elements.specs.Fields.{element_of, mde_fields, wrapped_gtk_fields, fte_fields};
-ghost use Rattle.rsn_elements.specs.Transition.{SpellsMde, SpellsTimeout, SpellsWrappedGtk, IsRight, has_id};
-ghost use Rattle.rsn_elements.specs.TransitionSteps.{Say, Reached, BeginsWrong, IsSubelementsRead, IsFteRead};
+ghost use Rattle.rsn_elements.specs.Transition.{SpellsMde, SpellsTimeout, SpellsWrappedGtk};
+ghost use Rattle.rsn_elements.specs.Transition.{IsRight, has_id};
+ghost use Rattle.rsn_elements.specs.TransitionSteps.{Say, Reached, BeginsWrong, IsSubelementsRead};
+ghost use Rattle.rsn_elements.specs.TransitionSteps.{IsFteRead};
 
 use crate::faults::{ElementFault, FaultKind};
 use crate::framing::{Found, Next, Within, next_element};

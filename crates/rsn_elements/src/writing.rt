@@ -1,13 +1,19 @@
 //! Writing elements into the caller's octets, each with the fields and values that this project
 //! sends.
 
-ghost use Rattle.std.specs.Prelude.{◌≡◌, ◌≤◌, ◌<◌, ◌+◌, ◌++◌, ◌∷◌, [], length, take, drop, option_map, Some, IfSome};
+ghost use Rattle.std.specs.Prelude.{◌≡◌, ◌≤◌, ◌<◌, ◌+◌, ◌++◌, ◌∷◌, [], length, take, drop};
+ghost use Rattle.std.specs.Prelude.{option_map, Some, IfSome};
 ghost use Rattle.std.specs.Option.{ForSome, option_copied};
 ghost use Rattle.std.specs.Int.{w16, to_le_bytes};
 ghost use Rattle.domain_base.specs.Padding.{padding};
 ghost use Rattle.rsn_elements.specs.Fields.{fte_fields, wrapped_gtk_fields};
-ghost use Rattle.rsn_elements.specs.Sent.{ssid_octets, rates_octets, akm_type, rsne_start, rsne_octets, mde_octets, fte_body, fte_octets, subelement_octets, wrapped_gtk_octets, wrapped_gtk_subelement, gtk_kde_octets, timeout_octets, pad_octets};
-ghost use Rattle.rsn_elements.specs.Pieces.{FitsPiece, FitsWrappedGtk, SentRsne, SentMde, SentFte, SentGtkKde, SentTimeout};
+ghost use Rattle.rsn_elements.specs.Sent.{ssid_octets, rates_octets, akm_type, rsne_start};
+ghost use Rattle.rsn_elements.specs.Sent.{rsne_octets, mde_octets, fte_body, fte_octets};
+ghost use Rattle.rsn_elements.specs.Sent.{subelement_octets, wrapped_gtk_octets};
+ghost use Rattle.rsn_elements.specs.Sent.{wrapped_gtk_subelement, gtk_kde_octets, timeout_octets};
+ghost use Rattle.rsn_elements.specs.Sent.{pad_octets};
+ghost use Rattle.rsn_elements.specs.Pieces.{FitsPiece, FitsWrappedGtk, SentRsne, SentMde, SentFte};
+ghost use Rattle.rsn_elements.specs.Pieces.{SentGtkKde, SentTimeout};
 ghost use Rattle.rsn_elements.specs.Writer.{size, octets, HasRoom, Appends};
 
 use crate::transition::{Fte, WrappedGtk};

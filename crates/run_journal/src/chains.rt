@@ -3,7 +3,8 @@
 //! An entry stands in the chain that a mix of some of its octets names, so entries that have those
 //! octets alike stand in one chain.
 
-ghost use Rattle.std.specs.Prelude.{◌≡◌, ◌≤◌, ◌<◌, ◌+◌, ℕ, List, [], ◌∷◌, ◌++◌, length, vec_len, Option, None, OnOk, IfSome, Some, slice_get};
+ghost use Rattle.std.specs.Prelude.{◌≡◌, ◌≤◌, ◌<◌, ◌+◌, ℕ, List, [], ◌∷◌, ◌++◌, length, vec_len};
+ghost use Rattle.std.specs.Prelude.{Option, None, OnOk, IfSome, Some, slice_get};
 ghost use Rattle.run_journal.specs.Chained.{Chained, IsLast, HasRoom};
 
 use domain_base::NoMemory;

@@ -1,11 +1,13 @@
 //! Finds earlier entries of a journal by their octets.
 
-ghost use Rattle.std.specs.Prelude.{◌≡◌, ◌<◌, ◌≤◌, ◌+◌, ◌↔◌, ℕ, IsTrue, List, [], ◌∷◌, ◌++◌, Some, OnOk, IfSome, vec_len};
+ghost use Rattle.std.specs.Prelude.{◌≡◌, ◌<◌, ◌≤◌, ◌+◌, ◌↔◌, ℕ, IsTrue, List, [], ◌∷◌, ◌++◌, Some};
+ghost use Rattle.std.specs.Prelude.{OnOk, IfSome, vec_len};
 ghost use Rattle.std.specs.Option.{option_copied};
 ghost use Rattle.run_journal.specs.declared.acts.Entry.{Entry};
 ghost use Rattle.run_journal.specs.Premises.{IsBefore};
 ghost use Rattle.run_journal.specs.Chained.{Chained};
-ghost use Rattle.run_journal.specs.Looking.{Fits, Finds, chain_asked, value_chain, kck_chain, chains_of, Indexed, IndexHasRoom};
+ghost use Rattle.run_journal.specs.Looking.{Fits, Finds, chain_asked, value_chain, kck_chain};
+ghost use Rattle.run_journal.specs.Looking.{chains_of, Indexed, IndexHasRoom};
 
 use crate::acts::{Act, Entry, Seal};
 use crate::chains::{CHAINS, Chains};
@@ -145,7 +147,7 @@ impl Index {
         self.kcks.add(kck_chain(&entry.act));
     }
 
-    /// The place of the last entry that the question fits.
+    /// The place of an entry that the question fits, where there is one.
     pub(crate) fn find(&self, entries: &[Entry], question: &Question<'_>) -> Option<usize>
         requires indexed { Indexed entries.now self.now }
         requires room { IndexHasRoom 1 self.now }

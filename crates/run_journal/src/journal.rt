@@ -1,6 +1,7 @@
 //! The journal of a run: its entries in order, with the premises of safety decided as they come.
 
-ghost use Rattle.std.specs.Prelude.{◌≡◌, ◌≤◌, ◌<◌, ◌+◌, ◌-◌, [], ◌∷◌, length, max, reverse, slice_get, Some, OnOk, OnErr, IsOk};
+ghost use Rattle.std.specs.Prelude.{◌≡◌, ◌≤◌, ◌<◌, ◌+◌, ◌-◌, [], ◌∷◌, length, max, reverse};
+ghost use Rattle.std.specs.Prelude.{slice_get, Some, OnOk, OnErr, IsOk};
 ghost use Rattle.run_journal.specs.Report.{Decides};
 
 use crate::acts::Entry;

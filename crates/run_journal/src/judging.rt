@@ -1,12 +1,14 @@
 //! Which premises hold of a journal with one more entry, where it is known which hold without it.
 
-ghost use Rattle.std.specs.Prelude.{◌≡◌, ◌<◌, ◌↔◌, ◌∷◌, List, reverse, length, IsTrue, Option, Some, OnSome, IfSome, All, MatchOption};
+ghost use Rattle.std.specs.Prelude.{◌≡◌, ◌<◌, ◌↔◌, ◌∷◌, List, reverse, length, IsTrue, Option};
+ghost use Rattle.std.specs.Prelude.{Some, OnSome, IfSome, All, MatchOption};
 ghost use Rattle.std.specs.Option.{option_copied};
 ghost use Rattle.std.specs.List.{HoldsAt};
 ghost use Rattle.run_journal.specs.declared.acts.Entry.{Entry};
 ghost use Rattle.run_journal.specs.Premises.{Fresh, NotDrawn, NoCollision, Unforged, seal_taken};
 ghost use Rattle.run_journal.specs.Report.{Decides};
-ghost use Rattle.run_journal.specs.Looking.{maker, temporal_key, confirmation_key, Fits, Agrees, AllAgree, IsSourced, Indexed, IndexHasRoom};
+ghost use Rattle.run_journal.specs.Looking.{maker, temporal_key, confirmation_key, Fits, Agrees};
+ghost use Rattle.run_journal.specs.Looking.{AllAgree, IsSourced, Indexed, IndexHasRoom};
 
 use crate::acts::{Act, Entry};
 use crate::index::{Index, Question};

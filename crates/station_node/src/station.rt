@@ -1,6 +1,7 @@
 //! A station's state, and what each event does to it.
 
-ghost use Rattle.std.specs.Prelude.{Ok, true, ◌≡◌, ◌<◌, ◌≤◌, ◌+◌, ◌++◌, ℕ, List, [], length, IfOk, OnErr};
+ghost use Rattle.std.specs.Prelude.{Ok, true, ◌≡◌, ◌<◌, ◌≤◌, ◌+◌, ◌++◌, ℕ, List, [], length, IfOk};
+ghost use Rattle.std.specs.Prelude.{OnErr};
 ghost use Rattle.domain_base.specs.declared.names.Akm.{Akm as AnyAkm};
 ghost use Rattle.domain_base.specs.declared.names.Node.TheVariants.{Ap, Sta};
 ghost use Rattle.domain_base.specs.declared.names.Peer.TheVariants.{One};
@@ -22,7 +23,8 @@ ghost use Rattle.frame_intake.specs.SealedFields.{IsSealedData};
 ghost use Rattle.frame_intake.specs.Views.{management_fields, message_fields, sealed_fields};
 ghost use Rattle.node_base.specs.Events.{event_of, IsEventAt, Steps, seen};
 ghost use Rattle.node_base.specs.Peers.{IsReceiverOf, most_payload};
-ghost use Rattle.station_node.specs.Parts.{peer_of_attempt, peer_of_session, has_neither, roams_from};
+ghost use Rattle.station_node.specs.Parts.{peer_of_attempt, peer_of_session, has_neither};
+ghost use Rattle.station_node.specs.Parts.{roams_from};
 ghost use Rattle.station_node.specs.Parts.{IsElsewhere};
 ghost use Rattle.station_node.specs.Stands.{Stands};
 ghost use Rattle.station_node.specs.Steps.{Takes, turn, IsDataFrom};

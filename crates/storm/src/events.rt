@@ -2,7 +2,9 @@
 
 ghost use Rattle.std.specs.Prelude.{◌≡◌, ◌≢◌, ◌<◌, ◌≤◌, [], ◌∷◌, length, IfOk, OnOk};
 ghost use Rattle.storm.specs.Drawing.{after, drawn};
-ghost use Rattle.storm.specs.Events.{alter, any_number, any_sta, connect, deliver, event_by, event_of, is_listed, late_number, other, other_of, receiver, rekey, retry, roam, send, send_of};
+ghost use Rattle.storm.specs.Events.{alter, any_number, any_sta, connect, deliver, event_by};
+ghost use Rattle.storm.specs.Events.{event_of, is_listed, late_number, other, other_of, receiver};
+ghost use Rattle.storm.specs.Events.{rekey, retry, roam, send, send_of};
 ghost use Rattle.storm.specs.Frames.{frame_at};
 ghost use Rattle.run_journal.specs.declared.domain.Event.TheVariants as sends;
 

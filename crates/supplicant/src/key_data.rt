@@ -9,7 +9,8 @@ ghost use Rattle.eapol_key.specs.KeyFrame.{SpellsKeyFrame, KeyFields};
 ghost use Rattle.domain_rules.specs.StationKeys.{is_group_key};
 ghost use Rattle.domain_rules.specs.StationRows.{carried_in};
 ghost use Rattle.rsn_elements.specs.Fields.{mde_fields, element_fields};
-ghost use Rattle.supplicant.specs.KeyData.{packet_number_of, group_key, has_rsne, has_mdid, has_fte};
+ghost use Rattle.supplicant.specs.KeyData.{packet_number_of, group_key, has_rsne, has_mdid};
+ghost use Rattle.supplicant.specs.KeyData.{has_fte};
 ghost use Rattle.domain_rules.specs.Facts.{is_same};
 ghost use Rattle.supplicant.specs.KeyData.{element_fault, IsPlain, IsOpened};
 

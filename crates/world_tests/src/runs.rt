@@ -18,7 +18,7 @@ use domain_base::{
 };
 use domain_cli::{Gate, Status, run, run_with};
 use full::{ASSOCIATION, ASSOCIATION_REPORT, FULL, FULL_REPORT};
-use live::{CASES, Case, FRAME};
+use live::{CASES, Case};
 use meeting::{Counting, Meeting};
 use refused::{NAMES, REASSOCIATION, REFUSED_AT_FIRST, REQUESTS, UNAWAITED};
 use rounds::{
@@ -508,24 +508,24 @@ fn storms_and_their_summaries(rt: HostRuntime) {
     }
 }
 
-fn push_frame(rt: &impl Abort, alloc: Global, frames: &mut Vec<Octets>) {
-    let octets = Octets(FRAME.to_vec(alloc).expect(rt, "memory"));
+fn push_frame(rt: &impl Abort, alloc: Global, frames: &mut Vec<Octets>, frame: &[u8]) {
+    let octets = Octets(frame.to_vec(alloc).expect(rt, "memory"));
     frames.push(octets).expect(rt, "memory");
 }
 
-// The frame, so often.
-fn frames_of(rt: &impl Abort, alloc: Global, count: usize) -> Vec<Octets> {
+// Frames with memory of their own.
+fn frames_of(rt: &impl Abort, alloc: Global, coming: &[&[u8]]) -> Vec<Octets> {
     let mut frames = Vec::new(alloc);
-    for _ in 0..count {
-        push_frame(rt, alloc, &mut frames);
+    for frame in coming {
+        push_frame(rt, alloc, &mut frames, *frame);
     }
     frames
 }
 
-// What is handed in for the link of a node, to which the frame comes so often.
-fn plan(rt: &impl Abort, alloc: Global, node: Node, count: usize, failing: &[u64]) -> LinkPlan {
+// What is handed in for the link of a node, to which these frames come.
+fn plan(rt: &impl Abort, alloc: Global, node: Node, coming: &[&[u8]], failing: &[u64]) -> LinkPlan {
     let failing = failing.to_vec(alloc).expect(rt, "memory");
-    LinkPlan::new(node, frames_of(rt, alloc, count), failing)
+    LinkPlan::new(node, frames_of(rt, alloc, coming), failing)
 }
 
 fn push_plan(rt: &impl Abort, plans: &mut Vec<LinkPlan>, plan: LinkPlan) {

@@ -10,8 +10,8 @@ pub(crate) struct Case {
     pub(crate) shows: &'static str,
     /// The script.
     pub(crate) script: &'static str,
-    /// How often an action frame comes by the link of the access point, and by that of the station.
-    pub(crate) frames: [usize; 2],
+    /// The frames that come by the link of the access point, and by that of the station.
+    pub(crate) frames: [&'static [&'static [u8]]; 2],
     /// Which calls of `attach` fail.
     pub(crate) attach: &'static [u64],
     /// And of each link.
@@ -26,12 +26,16 @@ pub(crate) struct Case {
     pub(crate) sent: &'static [&'static [(Node, usize)]],
 }
 
-// The frame that comes: no node reads more of it than that it is none of theirs.
-pub(crate) const FRAME: &[u8] = &[0xd4, 0, 0, 0, 2, 0, 0, 0, 0, 0x11];
+// A frame of which no node reads more than that it is none of theirs.
+const FRAME: &[u8] = &[0xd4, 0, 0, 0, 2, 0, 0, 0, 0, 0x11];
+
+// An association request of the station, for suite 2.
+const REQUEST: &[u8] =
+    b"\0\0\0\0\x02\0\0\0\0\x01\x02\0\0\0\0\x11\x02\0\0\0\0\x01\0\0\x11\0\x0a\0\0\x04IEEE\x01\x04\x82\x84\x8b\x96\x30\x14\x01\0\0\x0f\xac\x04\x01\0\0\x0f\xac\x04\x01\0\0\x0f\xac\x02\x0c\0";
 
 const NOTHING_FAILS: [&[u64]; 2] = [&[], &[]];
 
-pub(crate) static CASES: [Case; 8] = [
+pub(crate) static CASES: [Case; 9] = [
     Case {
         shows: "a turn",
         script: "domain 1
@@ -43,7 +47,7 @@ ap 020000000001 r0kh-1
 sta 020000000011
 turn
 ",
-        frames: [1, 0],
+        frames: [&[FRAME], &[]],
         attach: &[],
         links: NOTHING_FAILS,
         draws: &[],
@@ -70,7 +74,7 @@ turn
 send a1 all - 61
 turn
 turn",
-        frames: [17, 1],
+        frames: [&[FRAME; 17], &[FRAME]],
         attach: &[],
         links: NOTHING_FAILS,
         draws: &[],
@@ -116,7 +120,7 @@ sta 020000000011
 connect s1 a1
 turn
 ",
-        frames: [1, 0],
+        frames: [&[FRAME], &[]],
         attach: &[],
         links: [&[], &[0]],
         draws: &[],
@@ -124,6 +128,31 @@ turn
         report: "install a1 all gtk 1
 open s1 a1 connect
 sent 1 s1 a1 assoc-req 62
+",
+        sent: &[&[], &[]],
+    },
+    Case {
+        shows: "an answer that cannot be sent, with a frame behind it",
+        script: "domain 1
+seed 000102030405060708090a0b0c0d0e0f101112131415161718191a1b1c1d1e1f
+ssid IEEE
+psk f42c6fc52df0ebef9ebb4b90b38a5f902e83fe1b135a70e23aed762e9710a12e
+akm psk
+ap 020000000001 r0kh-1
+sta 020000000011
+turn
+rekey a1
+",
+        frames: [&[REQUEST, FRAME], &[]],
+        attach: &[],
+        links: [&[1], &[]],
+        draws: &[],
+        status: Status::LinkFault,
+        report: "install a1 all gtk 1
+took a1 assoc-req accepted
+open a1 s1 connect
+sent 1 a1 s1 assoc-resp 36
+sent 2 a1 s1 m1 131
 ",
         sent: &[&[], &[]],
     },
@@ -139,7 +168,7 @@ sta 020000000011
 turn
 connect s1 a1
 ",
-        frames: [1, 0],
+        frames: [&[FRAME], &[]],
         attach: &[],
         links: [&[], &[0]],
         draws: &[],
@@ -160,7 +189,7 @@ ap 020000000001 r0kh-1
 sta 020000000011
 turn
 ",
-        frames: [1, 0],
+        frames: [&[FRAME], &[]],
         attach: &[0],
         links: NOTHING_FAILS,
         draws: &[],
@@ -178,7 +207,7 @@ psk 000102030405060708090a0b0c0d0e0f101112131415161718191a1b1c1d1e1f
 akm psk
 ap 020000000001 r0kh-1
 ",
-        frames: [0, 0],
+        frames: [&[], &[]],
         attach: &[],
         links: NOTHING_FAILS,
         draws: &[],
@@ -196,7 +225,7 @@ premises fresh yes no-collision yes unforged yes
 seed draw
 ssid IEEE
 ",
-        frames: [0, 0],
+        frames: [&[], &[]],
         attach: &[],
         links: NOTHING_FAILS,
         draws: &[0],
@@ -216,7 +245,7 @@ sta 020000000011
 connect s1 a1
 deliver 1 to a1
 ",
-        frames: [0, 0],
+        frames: [&[], &[]],
         attach: &[],
         links: NOTHING_FAILS,
         draws: &[],

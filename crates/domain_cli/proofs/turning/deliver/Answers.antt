@@ -1,4 +1,4 @@
-use Rattle.std.proofs.Common.{◌≡◌, ℕ, List, ◌++◌, drop, refl, ap, subst, ◌∙◌, arith}
+use Rattle.std.proofs.Common.{◌≡◌, ◌≢◌, ℕ, List, [], ◌++◌, drop, refl, ap, subst, ◌∙◌, arith}
 use Rattle.std.specs.Prelude.{reverse}
 use Rattle.run_journal.specs.declared.domain.Domain.{Domain}
 use Rattle.domain_links.specs.NodeOrder.{node_at}
@@ -38,7 +38,7 @@ returns-clause-delivers g c =
     let k = c.event.new.journal.entries in
     let news = c.news.result.now in
     let out = subst (λ (d : Domain). (left : ℕ → List (List ℕ)) (b : List Send) → Tell g.L.Link.told d c.args.links.now.items left b
-    → (front rest : List Send) × (front ++ rest ≡ sends d news) × Tell g.L.Link.told d c.send_entries.new.links.items left (b ++ front))
+    → (front rest : List Send) × (front ++ rest ≡ sends d news) × (rest ≢ []) × Tell g.L.Link.told d c.send_entries.new.links.items left (b ++ front))
     (c.domain-2.ensures ∙ c.in-Ok-event.ensures.domain) c.in-Err.ensures.sent in
     delivers_err g.L.Link.told w.domain IsTaken (sent_by_then w.domain) c.args.place c.args.octets.now _ _ (stage w j) (stage c.event.new.self k) (sends w.domain news) _
     (taken_round w c.event.new.self _ c.node_at-to.result c.args.octets.now c.in-Ok.octets j k (c.node_at-to.ensures ∙ ap (λ (d : Domain). node_at d c.args.place) c.domain.ensures) c.in-Ok.ensures c.in-Ok-event.ensures.domain c.in-Ok-event.ensures.rounds c.in-Ok-event.ensures.step)

@@ -1,7 +1,7 @@
 use Rattle.std.proofs.Common.{◌≡◌, ◌<◌, suc, List, ap, ◌∙◌, arith, length, ◌++◌, take, drop, append_assoc}
 use Rattle.std.proofs.lemmas.List.{take_all}
 use Rattle.domain_links.specs.Sends.{Send, sends, sends_of}
-use Rattle.domain_links.proofs.Going.{Tell-same, sends-more, sends-cut, front_more}
+use Rattle.domain_links.proofs.Going.{Tell-same, sends-more, sends-cut, front_more, some_with}
 use Rattle.domain_links.proofs.sending.send_entries.Goals as goal
 
 pub returns-in-Err-clause-sent : goal.returns-in-Err-clause-sent
@@ -14,7 +14,8 @@ returns-in-Err-clause-sent g c left before tell =
       sends d (take i es) ++ cut.0,
       cut.1 ++ sends d (drop (suc i) es),
       front_more (sends d (take i es)) cut.0 cut.1 (sends_of d c.entry-item.result) (sends d (drop (suc i) es)) (sends d es) cut.2 (ap (λ (w : List Send). sends d (take i es) ++ (w ++ sends d (drop (suc i) es))) (ap (sends_of d) c.entry-item.is) ∙ sends-cut d es i c.entry-item.result within),
-      Tell-same _ d _ left _ _ (append_assoc before (sends d (take i es)) cut.0) cut.3,
+      some_with cut.1 (sends d (drop (suc i) es)) cut.3,
+      Tell-same _ d _ left _ _ (append_assoc before (sends d (take i es)) cut.0) cut.4,
     )
 
 pub loop-entry-preserved : goal.loop-entry-preserved
