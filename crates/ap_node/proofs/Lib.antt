@@ -16,6 +16,7 @@ pub mod Told
 pub mod ToldMoves
 pub mod Messaging
 pub mod Repeating
+pub mod Retried
 pub mod Dropping
 pub mod Idling
 pub mod RevokedKeys

@@ -363,23 +363,23 @@ some_rsne d a octets station elements q none raw = cc ((accepted-rsne d.akm Body
 
 -- ---- as the code comes by them
 
-joined : (old : List Act) (p : Node) (had : Bool) (t x y z m : Act) → (((old ++ t ∷ []) ++ closed p had) ++ x ∷ y ∷ z ∷ []) ++ m ∷ [] ≡ old ++ (t ∷ closed p had ++ x ∷ y ∷ z ∷ m ∷ [])
-joined [] p false t x y z m = refl
-joined [] p true t x y z m = refl
-joined (o ∷ os) p had t x y z m = ap (λ (l : List Act). o ∷ l) (joined os p had t x y z m)
+joined : (old : List Act) (p : Node) (had : Bool) (t x y z : Act) (sends : List Act) → (((old ++ t ∷ []) ++ closed p had) ++ x ∷ y ∷ z ∷ []) ++ sends ≡ old ++ (t ∷ closed p had ++ x ∷ y ∷ z ∷ sends)
+joined [] p false t x y z sends = refl
+joined [] p true t x y z sends = refl
+joined (o ∷ os) p had t x y z sends = ap (λ (l : List Act). o ∷ l) (joined os p had t x y z sends)
 
 -- the acts are added one by one
-pub associated_added : (d : Domain) (n p : Node) (octets : List ℕ) (had : Bool) (v : List ℕ) (t u : Act) (old spare first second third : List Act) (sends last : List Act) → spare ≡ old → first ≡ spare ++ t ∷ [] → second ≡ first ++ closed p had
-    → third ≡ second ++ Opened p Connect ∷ Drew (Nonce v) ∷ u ∷ [] → last ≡ third ++ sends → t ≡ Took (Some p) octets kind.AssocReq Accepted None → u ≡ sent_assoc_resp d n p → sends ≡ sent_m1 d n p 1 v ∷ []
+pub accepted_added : (old first second third last : List Act) (p : Node) (had : Bool) (t x y u : Act) (sends : List Act) → first ≡ old ++ t ∷ [] → second ≡ first ++ closed p had
+    → third ≡ second ++ x ∷ y ∷ u ∷ [] → last ≡ third ++ sends → last ≡ old ++ (t ∷ closed p had ++ x ∷ y ∷ u ∷ sends)
+accepted_added old first second third last p had t x y u sends one two three four =
+    four ∙ ap (λ (l : List Act). l ++ sends) (three ∙ ap (λ (l : List Act). l ++ x ∷ y ∷ u ∷ []) (two ∙ ap (λ (l : List Act). l ++ closed p had) one))
+    ∙ joined old p had t x y u sends
+
+-- and they are those of the acceptance
+pub associated_added : (d : Domain) (n p : Node) (octets : List ℕ) (had : Bool) (v : List ℕ) (t u : Act) (old spare sends last : List Act) → spare ≡ old → last ≡ spare ++ (t ∷ closed p had ++ Opened p Connect ∷ Drew (Nonce v) ∷ u ∷ sends)
+    → t ≡ Took (Some p) octets kind.AssocReq Accepted None → u ≡ sent_assoc_resp d n p → sends ≡ sent_m1 d n p 1 v ∷ []
     → last ≡ old ++ associated_acts d n p octets had v
-associated_added d n p octets had v t u old spare first second third sends last kept one two three four t_is u_is sends_are =
-    four ∙ ap (λ (l : List Act). third ++ l) sends_are
-    ∙ ap (λ (l : List Act). l ++ sent_m1 d n p 1 v ∷ []) (three ∙ ap (λ (l : List Act). l ++ Opened p Connect ∷ Drew (Nonce v) ∷ u ∷ []) (two ∙ ap (λ (l : List Act). l ++ closed p had) (one ∙ ap (λ (l : List Act). l ++ t ∷ []) kept)))
-    ∙ joined old p had t (Opened p Connect) (Drew (Nonce v)) u (sent_m1 d n p 1 v)
-    ∙ same_acts t_is u_is
-  where
-    same_acts : {a b c e : Act} → a ≡ b → c ≡ e → old ++ (a ∷ closed p had ++ Opened p Connect ∷ Drew (Nonce v) ∷ c ∷ sent_m1 d n p 1 v ∷ []) ≡ old ++ (b ∷ closed p had ++ Opened p Connect ∷ Drew (Nonce v) ∷ e ∷ sent_m1 d n p 1 v ∷ [])
-    same_acts i j = rw (i, j) refl
+associated_added d n p octets had v t u old spare sends last kept added t_is u_is sends_are = added ∙ rw (kept, t_is, u_is, sends_are) refl
 
 pub associated_same : (d : Domain) (n m p : Node) (octets : List ℕ) (had has : Bool) (v w : List ℕ) → n ≡ m → had ≡ has → v ≡ w → associated_acts d n p octets had v ≡ associated_acts d m p octets has w
 associated_same d n m p octets had has v w node had_is nonce_is = rw (node, had_is, nonce_is) refl

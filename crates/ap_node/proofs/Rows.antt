@@ -1,5 +1,5 @@
 -- How the rows of the own key holder go on with what an event does.
-use Rattle.std.proofs.Common.{◌≡◌, ◌∙◌, ◌++◌, ℕ, List, Result, Ok, Err, refl, sym, subst, inl}
+use Rattle.std.proofs.Common.{◌≡◌, ◌∙◌, ◌++◌, ℕ, List, Result, Ok, Err, refl, sym, ap, subst, inl}
 use Rattle.std.specs.Prelude.{IfOk, OnOk, OnErr}
 use Rattle.std.proofs.lemmas.List.{append_cancel_left}
 use Rattle.domain_base.specs.declared.names.Node.TheVariants.{Ap}
@@ -9,7 +9,9 @@ use Rattle.key_hierarchy.specs.declared.answers.RevokeAnswer.{RevokeAnswer}
 use Rattle.key_holders.specs.declared.rows.HeldRow.{HeldRow}
 use Rattle.key_holders.specs.declared.rows.HolderRow.{HolderRow}
 use Rattle.run_journal.specs.declared.domain.Domain.{Domain}
+use Rattle.run_journal.specs.declared.acts.Reason.{Reason}
 use Rattle.run_journal.specs.declared.acts.Outcome.{Outcome}
+use Rattle.run_journal.specs.declared.acts.Outcome.TheVariants.{Refused}
 use Rattle.run_journal.specs.declared.acts.Act.{Act}
 use Rattle.run_journal.specs.Questions.{add}
 use Rattle.domain_rules.specs.Here.{here}
@@ -101,6 +103,32 @@ pub if_event : {E : Type 0} (r : Result Outcome E) (Looks : List Act → Type 0)
 if_event r Looks d event other old new xs ys waited waits same w =
     subst (λ (e : NodeEvent). IfOk r (λ o. (first : ℕ) (h : List Act) → StandsWith d first old xs h → Steps (here d first (Ap old.number)) e (StandsWith d first new ys) h (seen waited waits o))) (sym same)
     (if_with r Looks d event old new xs ys waited waits w)
+
+-- and where no key holder is asked
+pub if_plain_event : {E : Type 0} (r : Result Outcome E) (d : Domain) (event other : NodeEvent) (old new : State) (xs : List HeldRow) (waited waits : List Act) → other ≡ event → IfOk r (λ o. IsTaken d event old new (seen waited waits o))
+    → IfOk r (λ o. (first : ℕ) (h : List Act) → StandsWith d first old xs h → Steps (here d first (Ap old.number)) other (StandsWith d first new xs) h (seen waited waits o))
+if_plain_event r d event other old new xs waited waits same w =
+    if_event r (AreLooked (λ id name k answer. ⊥) d) d event other old new xs xs waited waits same (if_same r (λ id name k answer. ⊥) d event old new xs waited waits w)
+
+-- the access point has the number that it had
+pub number_with : {E : Type 0} (r : Result Outcome E) (Looks : List Act → Type 0) (d : Domain) (event : NodeEvent) (old new : State) (xs ys : List HeldRow) (waited waits : List Act) → IfOk r (λ o. IsTakenWith Looks d event old new xs ys (seen waited waits o)) → OnErr r (new ≡ old)
+    → new.number ≡ old.number
+number_with (Ok o) Looks d event old new xs ys waited waits w same = w.number
+number_with (Err e) Looks d event old new xs ys waited waits w same = ap (λ (s : State). s.number) same
+
+pub number_plain : {E : Type 0} (r : Result Outcome E) (d : Domain) (event : NodeEvent) (old new : State) (waited waits : List Act) → IfOk r (λ o. IsTaken d event old new (seen waited waits o)) → OnErr r (new ≡ old) → new.number ≡ old.number
+number_plain (Ok o) d event old new waited waits w same = w.number
+number_plain (Err e) d event old new waited waits w same = ap (λ (s : State). s.number) same
+
+-- and a refusal leaves it as it was
+pub refused_with : {E : Type 0} (r : Result Outcome E) (Looks : List Act → Type 0) (d : Domain) (event : NodeEvent) (old new : State) (xs ys : List HeldRow) (waited waits : List Act) → IfOk r (λ o. IsTakenWith Looks d event old new xs ys (seen waited waits o))
+    → IfOk r (λ o. (why : Reason) → o ≡ Refused why → new ≡ old)
+refused_with (Ok o) Looks d event old new xs ys waited waits w = w.refused
+refused_with (Err e) Looks d event old new xs ys waited waits w = tt
+
+pub refused_plain : {E : Type 0} (r : Result Outcome E) (d : Domain) (event : NodeEvent) (old new : State) (waited waits : List Act) → IfOk r (λ o. IsTaken d event old new (seen waited waits o)) → IfOk r (λ o. (why : Reason) → o ≡ Refused why → new ≡ old)
+refused_plain (Ok o) d event old new waited waits w = w.refused
+refused_plain (Err e) d event old new waited waits w = tt
 
 -- whatever is told, that is so
 pub if_change : {A E : Type 0} (r : Result A E) (C : Type 0) (waited waits : List Act) → C → OnOk r ((g : List Act) → waits ≡ waited ++ g → NoLooks g → C)

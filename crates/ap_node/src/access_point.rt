@@ -34,7 +34,7 @@ ghost use Rattle.ap_node.specs.Takes.{BeginsWith, IsBeside, associated_acts};
 ghost use Rattle.ap_node.specs.Handed.{IsHandedOver};
 
 use crate::association::{
-    Acceptance, accept, close_attempt, open_attempt, refuse, request_status, whole_element,
+    accept, add_accepted, begin_attempt, refuse, request_status, whole_element,
 };
 use crate::counting::{owes, recounted};
 use crate::expiring::{add_dropped, drop_part};
@@ -47,13 +47,12 @@ use crate::ready::Ready;
 use crate::retrying::idle;
 use crate::revoking::revoke;
 use crate::station::Station;
-use crate::stations::{begin, is_final, make_place, reserve_place, retry, take_message};
+use crate::stations::{is_final, reserve_place, retry, take_message};
 use crate::transitions::{
     begun_key, drawn_with, either, has_attempt, has_session, next_nonce, number_of,
     replace_attempt, seat,
 };
 use act_memory::{Outbox, SendRoom, settle};
-use authenticator::{ApStart, Authenticator};
 use data_frames::DataKey;
 use domain_base::{NoMemory, Node, Peer, Tid};
 use frame_intake::{Heard, Judged, KeyMessage, judge, read};
@@ -513,27 +512,23 @@ impl ApNode {
         ensures same { OnErr result (self.new ≡ self.old) }
         ensures kept { OnErr result (out.new.acts ≡ out.old.acts) }
     {
-        let Acceptance {
-            taken,
-            response,
-            room,
-        } = accept(here, station, octets)?;
         out.reserve(6)?;
-        make_place(&mut self.stations, station)?;
+        reserve_place(&mut self.stations, station)?;
+        let acceptance = accept(here, station, octets)?;
         let anonce = nonce(here.domain, here.node, self.drawn);
-        let start = ApStart::Connect {
-            anonce: &anonce,
-            rsne,
-        };
         let mut reply = Reply::empty();
-        let part = Authenticator::begin(here.domain, self.number, station, start, &mut reply);
-        let had_attempt = begin(&mut self.stations, station, part);
+        let (domain, number) = (here.domain, self.number);
+        let stations = &mut self.stations;
+        let had = begin_attempt(stations, domain, number, station, &anonce, rsne, &mut reply);
         let was_pending = self.targets.close_pending(station);
-        let had_any = either(had_attempt, was_pending);
-        out.add(taken);
-        close_attempt(had_any, station, out);
-        open_attempt(station, anonce, response, out);
-        room.add_sent(Node::Sta(station), &reply, out);
+        add_accepted(
+            acceptance,
+            station,
+            either(had, was_pending),
+            anonce,
+            &reply,
+            out,
+        );
         self.drawn += 1;
         Ok(Outcome::Accepted)
     }

@@ -1,8 +1,9 @@
 //! Association requests at an access point.
 
 ghost use Rattle.std.specs.Prelude.{◌≡◌, ◌≤◌, ◌+◌, [], ◌∷◌, ◌++◌, true, length, slice_index, Some};
-ghost use Rattle.std.specs.Prelude.{None, IfOk, OnOk, OnErr, option_map};
-ghost use Rattle.domain_base.specs.declared.names.Node.TheVariants.{Sta};
+ghost use Rattle.std.specs.Prelude.{◌≢◌, ◌<◌, ℕ, None, IfOk, OnOk, OnErr, option_map, is_some, max};
+ghost use Rattle.std.specs.Vec.{vec_capacity};
+ghost use Rattle.domain_base.specs.declared.names.Node.TheVariants.{Ap, Sta};
 ghost use Rattle.rsn_elements.specs.Fields.{mde_fields, element_fields};
 ghost use Rattle.run_journal.specs.declared.acts.Act.TheVariants.{Took, Opened, Drew};
 ghost use Rattle.run_journal.specs.declared.acts.Reason.TheVariants as reason;
@@ -12,15 +13,22 @@ ghost use Rattle.run_journal.specs.declared.acts.Drawn.TheVariants.{Nonce};
 ghost use Rattle.run_journal.specs.declared.acts.Outcome.TheVariants.{Accepted, Refused};
 ghost use Rattle.domain_rules.specs.Network.{InForm, IsListed, is_ap};
 ghost use Rattle.domain_rules.specs.FastTransition.{mde_status, mobility_status};
-ghost use Rattle.domain_rules.specs.Frames.{sent_assoc_resp, sent_refusal};
-ghost use Rattle.ap_node.specs.Takes.{closed, request_status};
+ghost use Rattle.domain_rules.specs.Frames.{sent_assoc_resp, sent_m1, sent_refusal};
+ghost use Rattle.domain_rules.specs.Replies.{sent_acts};
+ghost use Rattle.run_journal.specs.Replies.{IsWhole};
+ghost use Rattle.authenticator.specs.State.{State as AnyPart};
+ghost use Rattle.ap_node.specs.State.{station_at, attempt_in, begun_beside};
+ghost use Rattle.ap_node.specs.Takes.{Begins, closed, request_status};
 
-use act_memory::{Outbox, SendRoom, took};
-use domain_base::{Akm, NoMemory, Node};
+use crate::station::Station;
+use crate::stations::{begin, fill_places};
+use act_memory::{Outbox, SendRoom};
+use authenticator::{ApStart, Authenticator};
+use domain_base::{Akm, NoMemory, Node, Octets};
 use frame_making::{assoc_resp, refusal};
 use node_base::{Here, rsne_status};
 use rsn_elements::{Elements, Mde};
-use run_journal::{Act, Domain, Drawn, Kind, Outcome, Part, Reason, Start};
+use run_journal::{Act, Domain, Drawn, Kind, Outcome, Part, Reason, Reply, Start};
 
 // The status of a mobility domain element that is missing or of another domain
 // (IEEE Std 802.11-2020, 9.4.1.9).
@@ -77,14 +85,26 @@ pub fn refuse(
         ∷ sent_refusal here.entry.domain.now here.entry.node (Sta station) status ∷ []) }
     ensures kept { OnErr result (out.new.acts ≡ out.old.acts) }
 {
-    let outcome = Outcome::Refused(Reason::Status(status));
-    let from = Some(Node::Sta(station));
-    let taken = took(here.alloc, from, octets, Kind::AssocReq, outcome, None)?;
-    let response = refusal(here, station, status)?;
     out.reserve(2)?;
-    out.add(taken);
+    let octets = Vec::from_slice(here.alloc, octets)?;
+    let response = refusal(here, station, status)?;
+    let outcome = Outcome::Refused(Reason::Status(status));
+    out.add(took_request(station, octets, outcome));
     out.add(response);
     Ok(outcome)
+}
+
+// An association request of these octets came, and that came of it.
+fn took_request(station: u16, octets: Vec<u8>, outcome: Outcome) -> Act
+    ensures { result ≡ Took (Some (Sta station)) octets.items kind.AssocReq outcome None }
+{
+    Act::Took {
+        from: Some(Node::Sta(station)),
+        octets: Octets(octets),
+        kind: Kind::AssocReq,
+        outcome,
+        seal: None,
+    }
 }
 
 /// An element whose second octet is the length of its body, as it is: so it has at most 257 octets
@@ -153,14 +173,92 @@ pub fn accept(here: Here<'_>, station: u16, octets: &[u8]) -> Result<Acceptance,
     ensures response { IfOk result (λ a. a.response
         ≡ sent_assoc_resp here.entry.domain.now here.entry.node (Sta station)) }
 {
-    let from = Some(Node::Sta(station));
-    let outcome = Outcome::Accepted;
-    let taken = took(here.alloc, from, octets, Kind::AssocReq, outcome, None)?;
-    let response = assoc_resp(here, station)?;
+    let octets = Vec::from_slice(here.alloc, octets)?;
     let room = SendRoom::take(here.alloc)?;
+    accept_with(here, station, octets, room)
+}
+
+// As its octets are copied and the memory for M1 is taken.
+fn accept_with(
+    here: Here<'_>,
+    station: u16,
+    octets: Vec<u8>,
+    room: SendRoom,
+) -> Result<Acceptance, NoMemory>
+    requires form { InForm here.domain.now }
+    requires ap { IsListed here.domain.now here.node }
+    requires is_ap { is_ap here.node ≡ true }
+    requires station { IsListed here.domain.now (Sta station) }
+    ensures taken { IfOk result (λ a. a.taken
+        ≡ Took (Some (Sta station)) octets.items kind.AssocReq Accepted None) }
+    ensures response { IfOk result (λ a. a.response
+        ≡ sent_assoc_resp here.entry.domain.now here.entry.node (Sta station)) }
+{
+    let response = assoc_resp(here, station)?;
     Ok(Acceptance {
-        taken,
+        taken: took_request(station, octets, Outcome::Accepted),
         response,
         room,
     })
+}
+
+/// Begins an attempt with a station, by that nonce and that RSNE, beside the session that there is
+/// with it. The attempt that there was is at its end, and whether there was one is answered. The
+/// reply has M1 then. Takes no memory.
+pub fn begin_attempt(
+    stations: &mut Vec<Option<Station>>,
+    domain: &Domain,
+    ap: u16,
+    station: u16,
+    anonce: &[u8; 32],
+    rsne: &[u8],
+    reply: &mut Reply,
+) -> bool
+    requires form { InForm domain.now }
+    requires ap { ap < length domain.now.aps }
+    requires station { station < length domain.now.stas }
+    requires room { station < vec_capacity stations.old }
+    requires rsne { length rsne.now ≤ 257 }
+    ensures had { result ≡ is_some (attempt_in (station_at stations.old.items station)) }
+    ensures begun { (part : AnyPart) × (station_at stations.new.items station
+        ≡ Some (begun_beside (station_at stations.old.items station) part))
+        × Begins domain.now ap station anonce.now rsne.now part }
+    ensures few { length stations.new.items ≤ max (length stations.old.items) 65536 }
+    ensures others { (k : ℕ) → k ≢ station
+        → station_at stations.new.items k ≡ station_at stations.old.items k }
+    ensures sends { sent_acts (Sta station) reply.new
+        ≡ sent_m1 domain.now (Ap ap) (Sta station) 1 anonce.now ∷ [] }
+    ensures whole { IsWhole reply.new }
+{
+    let start = ApStart::Connect { anonce, rsne };
+    let part = Authenticator::begin(domain, ap, station, start, reply);
+    fill_places(stations, station);
+    begin(stations, station, part)
+}
+
+/// Adds the acts of accepting an association request of a station: the attempt that there was, if
+/// any, is closed, and one begins by that nonce and by M1, which the reply has. Takes no memory.
+pub fn add_accepted(
+    acceptance: Acceptance,
+    station: u16,
+    had_attempt: bool,
+    anonce: [u8; 32],
+    reply: &Reply,
+    out: &mut Outbox,
+)
+    requires room { 6 ≤ out.old.spare }
+    requires whole { IsWhole reply.now }
+    ensures { out.new.acts ≡ out.old.acts ++ (acceptance.taken ∷ closed (Sta station) had_attempt
+        ++ Opened (Sta station) Connect ∷ Drew (Nonce anonce) ∷ acceptance.response
+        ∷ sent_acts (Sta station) reply.now) }
+{
+    let Acceptance {
+        taken,
+        response,
+        room,
+    } = acceptance;
+    out.add(taken);
+    close_attempt(had_attempt, station, out);
+    open_attempt(station, anonce, response, out);
+    room.add_sent(Node::Sta(station), reply, out);
 }

@@ -58,18 +58,6 @@ pub fn fill_places(stations: &mut Vec<Option<Station>>, station: u16)
     }
 }
 
-/// Makes a place for the station of that number.
-pub fn make_place(stations: &mut Vec<Option<Station>>, station: u16) -> Result<(), NoMemory>
-    ensures place { OnOk result (station < vec_len stations.new) }
-    ensures few { length stations.new.items ≤ max (length stations.old.items) 65536 }
-    ensures same { (k : ℕ) → station_at stations.new.items k ≡ station_at stations.old.items k }
-    ensures err { OnErr result (stations.new.items ≡ stations.old.items) }
-{
-    reserve_place(stations, station)?;
-    fill_places(stations, station);
-    Ok(())
-}
-
 // The part with a new attempt takes the place of the one there was.
 fn replace(place: &mut Option<Station>, mut part: Authenticator) -> bool
     requires { part.session ≡ None }

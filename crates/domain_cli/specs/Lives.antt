@@ -31,8 +31,8 @@ pub record AreEnded (d : Domain) (start : AirStory) (turns : List (List Delivery
 
 -- behind a call that failed or wanted memory: those of all nodes, but for the last one where the last line listed it, behind which no
 -- link was attached; they have sent all of the rounds before the last, and one common front of what that one sent; turns took what
--- they would, but for the last one where it is the last line, which took a front; and links have left what no turn took, of which
--- nothing is said where the last line is a turn
+-- they would, but for the last one where it is the last line, which took a front; and links have left what no turn took, or anything
+-- where the last line is a turn
 pub record AreEndedPart (d : Domain) (start : AirStory) (rounds : Rounds) (j : List Entry) (ended : List LinkStory) : Type 0 where
   pub all : AllButNew rounds.last (count d) (length ended)
   pub heard : IsHeardBy rounds.last d (frames_at d start) rounds.turns

@@ -79,7 +79,7 @@ TookSome [] = ⊥
 TookSome (given ∷ turns) = given ≢ []
 
 -- what did not go out behind a last line that broke: of the line of a node no frame, of that of a round one at least, and of a
--- turn, where a frame may as well not have been taken, any, but none where the turn took nothing. No other line breaks
+-- turn any, as it may be a frame that could not be taken, but none where the turn took nothing. No other line breaks
 abbrev pub Cuts : LastLine → List (List Delivery) → List Send → Type 0
 Cuts Listed turns rest = rest ≡ []
 Cuts Ran turns rest = rest ≢ []
@@ -92,7 +92,7 @@ IsLeft Turned left due = Unit {0}
 IsLeft line left due = (i : ℕ) → left i ≡ due i
 
 -- behind a call that failed or wanted memory: all that goes out for earlier entries went out, and of what goes out for the later
--- ones, all of the last round, a front
+-- ones, all of the last round, a front; and links have that left
 pub record TellLast {L : Type 0} (told : L → Option LinkStory) (d : Domain) (links : List L) (rounds : Rounds) (j : List Entry) (left : ℕ → List (List ℕ)) : Type 0 where
   pub late : List Entry
   pub early : List Entry
@@ -118,8 +118,8 @@ pub record IsLinked {L : Type 0} (told : L → Option LinkStory) (d : Domain) (s
   pub heard : AreHeard d (frames_at d start) turns
   pub tell : Tell told d o.links (left_behind (frames_at d start) (length turns)) (sends_for d j)
 
--- behind a call that failed or wanted memory: of the last round a front, one for all links, and left is what no turn took, of which
--- nothing is said where the last line is a turn. A node whose own line broke has none
+-- behind a call that failed or wanted memory: of the last round a front, one for all links, and they have left what no turn took, or
+-- anything where the last line is a turn. A node whose own line broke has no link
 pub record IsLinkedPart {L : Type 0} (told : L → Option LinkStory) (d : Domain) (start : AirStory) (o : Outer L) (rounds : Rounds) (j : List Entry) : Type 0 where
   pub all : AllButNew rounds.last (count d) (length o.links)
   pub attached : HasLinks d start (length o.links) o.air

@@ -265,9 +265,10 @@ pub fn run<R: Threads + Sync, S: Source, K: Sink, A: Air, D: Draws>(
     // the links taken back, which are those of all nodes in their order, but for a node whose
     // link could not be attached, whose line is the last, were sent what their nodes sent, in
     // order, each frame to whom its address 1 names; where a link failed or memory was wanted over
-    // a frame, all of the rounds before the last one, and one common front of what that one sent,
-    // which is not the whole where the last line is an event or the end of a round, and is where it
-    // is a turn that took nothing. What the air has for nodes that have no link stays.
+    // a frame, all of the rounds before the last one, and one common front of what that one sent:
+    // not the whole where the last line is an event or the end of a round, and the whole where it
+    // is a turn that took nothing. They have left what no turn took, of which nothing is said
+    // where a turn broke off. What the air has for nodes that have no link stays.
     ensures lived { (port : ℕ) → AskLive (map (λ w. w.now) words.now) port
         → Lives (S.left source.old) (S.left source.new) (K.out sink.old) (K.out sink.new)
         (A.told air.old) (A.told air.new) (D.last draws.old) (D.last draws.new)

@@ -64,7 +64,7 @@ pub record TellRound {S L : Type 0} (told : L → Option LinkStory) (d : Domain)
   pub left : ℕ → List (List ℕ)
   pub tell : Tell told d links left (all was ++ front)
 
--- either of them, and the second only where some were taken: else the last round is an earlier one
+-- either of them, and the second only where frames were taken, as else the last round was run before
 abbrev pub TellCut : {S L : Type 0} → (L → Option LinkStory) → Domain → (Node → List ℕ → S → S → Type 0) → (S → List Send) → List L → S → Type 0 → Type 0
 TellCut told d Round all links after Took = TellWhole told d all links after ⊎ (Took × TellRound told d Round all links after)
 

@@ -111,6 +111,7 @@ module _ (law : TimelyIsRight) (c : Domain) (k l m : ℕ) (t : IsTrio (mobile c)
           looked = at_to (mobile c) k l m (revocation k l m up down) _ _ _ _ st _ (inr (inl refl));
           request = w.octets18 c k l m;
           refused = at_to (mobile c) k l m (revocation k l m up down) _ _ _ _ st _ (inr (inr (inl refl)));
+          sent = at_to (mobile c) k l m (revocation k l m up down) _ _ _ _ st _ (inl refl);
         }
 
 -- of any network

@@ -1,6 +1,7 @@
 -- An association with suite 4, a fast transition over the air to another access point and back, and a key that is revoked.
 use Rattle.std.specs.Prelude.{◌≡◌, ◌≢◌, ℕ, ◌<◌, List, [], ◌∷◌, length, Some, None, codes}
 use Rattle.std.specs.List.{AllByRecursion}
+use Rattle.air_frame.specs.Sent.{ft_resp_octets}
 use Rattle.domain_base.specs.Octets.{AreOctets}
 use Rattle.domain_base.specs.declared.names.Akm.TheVariants.{FtPsk}
 use Rattle.domain_base.specs.declared.names.Node.TheVariants.{Ap, Sta}
@@ -10,7 +11,7 @@ use Rattle.domain_rules.specs.Example.{AreWhole}
 use Rattle.domain_rules.specs.Explained.{WasSent, Explained}
 use Rattle.domain_rules.specs.FastTransition.{root_name}
 use Rattle.domain_rules.specs.HeldRight.{HeldRight}
-use Rattle.domain_rules.specs.Network.{mac, nonce, gtk, r0kh_id, root_at, inputs, InForm}
+use Rattle.domain_rules.specs.Network.{mac, address, nonce, gtk, r0kh_id, root_at, inputs, InForm}
 use Rattle.key_hierarchy.specs.FastTransition.{pmk_r0, pmk_r1}
 use Rattle.key_hierarchy.specs.Keys.{ptk}
 use Rattle.key_hierarchy.specs.declared.answers.PullAnswer.TheVariants.{Found, Absent}
@@ -20,10 +21,10 @@ use Rattle.key_hierarchy.specs.declared.fast_transition.PmkR1.{PmkR1}
 use Rattle.key_hierarchy.specs.declared.inputs.Inputs.{Inputs}
 use Rattle.run_journal.specs.Premises.{In}
 use Rattle.run_journal.specs.Questions.{history}
-use Rattle.run_journal.specs.declared.acts.Act.TheVariants.{Closed, Took, Installed, Resumed, Used, HandedUp, Put, Looked, Revoked}
+use Rattle.run_journal.specs.declared.acts.Act.TheVariants.{Closed, Sent, Took, Installed, Resumed, Used, HandedUp, Put, Looked, Revoked}
 use Rattle.run_journal.specs.declared.acts.Entry.{Entry}
 use Rattle.run_journal.specs.declared.acts.Key.TheVariants.{Pairwise, Group}
-use Rattle.run_journal.specs.declared.acts.Kind.TheVariants.{FtReq, ReReq}
+use Rattle.run_journal.specs.declared.acts.Kind.TheVariants.{FtReq, FtResp, ReReq}
 use Rattle.run_journal.specs.declared.acts.Outcome.TheVariants.{Answered, Refused}
 use Rattle.run_journal.specs.declared.acts.Part.TheVariants.{Session}
 use Rattle.run_journal.specs.declared.acts.Reason.TheVariants.{Name}
@@ -145,7 +146,8 @@ pub record HasReturn (d : Domain) (k l m : ℕ) (up down : List ℕ) : Type 0 wh
   pub left : In (Closed (Ap l) Session) (history (Sta m) journal)
   pub resumed : In (Resumed (Ap k) (Group (gtk d (Ap k) 0) 1 (mac d (Ap k)))) (history (Sta m) journal)
 
--- the other access point looks the key up, finds it no longer, and refuses the request
+-- the first access point revokes the key, the other one looks it up and finds none, refuses the request for its name, and sends the
+-- station a response with status 53 and no elements
 pub record HasRevocation (d : Domain) (k l m : ℕ) (up down : List ℕ) : Type 0 where
   pub journal : List Entry
   pub explained : Explained d (revocation k l m up down) journal
@@ -154,6 +156,7 @@ pub record HasRevocation (d : Domain) (k l m : ℕ) (up down : List ℕ) : Type 
   pub looked : In (Looked (r0kh_id d (Ap k)) (r0_name_at d k m) (Sta m) Absent) (history (Ap l) journal)
   pub request : List ℕ
   pub refused : In (Took (Some (Sta m)) request FtReq (Refused Name) None) (history (Ap l) journal)
+  pub sent : In (Sent (One (Sta m)) FtResp (ft_resp_octets (address d (Sta m)) (address d (Ap l)) (address d (Ap l)) 53 []) None) (history (Ap l) journal)
 
 -- ---- a small network
 

@@ -144,6 +144,7 @@ impl<'a> Subelements<'a> {
         ensures kept { IsTrue result → (es : List Element) → Say es self.old
             → Say (es ++ element_of subelement.entry ∷ []) self.new }
         ensures repeated { self.new.repeated ≡ self.old.repeated }
+        ensures stays { result ≡ false → self.new ≡ self.old }
         ensures second { result ≡ false → (es : List Element) → Say es self.old
             → (1 ≤ subelement.entry.id) × (subelement.entry.id ≤ 3)
             × (filter (has_id subelement.entry.id) es ≢ []) }

@@ -47,8 +47,8 @@ pub fn hand(
     ensures kept { OnErr result (out.new.acts ≡ out.old.acts) }
 {
     let message = heard.message;
-    let room = Room::take(here, Node::Ap(ap), supplicant.r0kh_id(), heard)?;
     out.reserve(7)?;
+    let room = Room::take(here, Node::Ap(ap), supplicant.r0kh_id(), heard)?;
     let mut reply = Reply::empty();
     let outcome = supplicant.step(message.message, &message.frame, memory, &mut reply);
     let between = Between::nothing(here.alloc);

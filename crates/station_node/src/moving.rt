@@ -63,8 +63,8 @@ pub fn answer(
     let status = managed.frame.status;
     let peer = Node::Ap(way.ap);
     let frame = Reassociation::Response;
-    let room = TransitionRoom::take(here, peer, octets, &elements, frame, way.r0kh_id)?;
     out.reserve(3)?;
+    let room = TransitionRoom::take(here, peer, octets, &elements, frame, way.r0kh_id)?;
     let mut reply = Reply::empty();
     let outcome = originator.on_auth(status, &elements, &mut reply);
     room.add_auth_response(outcome, &reply, out);
@@ -96,8 +96,8 @@ pub fn arrive(
     let status = managed.frame.status;
     let peer = Node::Ap(way.ap);
     let frame = Reassociation::Response;
-    let room = TransitionRoom::take(here, peer, octets, &elements, frame, way.r0kh_id)?;
     out.reserve(5)?;
+    let room = TransitionRoom::take(here, peer, octets, &elements, frame, way.r0kh_id)?;
     let mut reply = Reply::empty();
     let outcome = originator.on_reassoc(status, &elements, memory, &mut reply);
     room.add_reassoc_response(outcome, way.left, &reply, out);

@@ -1,4 +1,5 @@
-use Rattle.std.proofs.Common.{◌≡◌, ◌∙◌, List, ℕ, Option, Some, None, Result, Ok, Err, refl, ap}
+use Rattle.std.proofs.Common.{◌≡◌, ◌≢◌, ◌∙◌, List, ℕ, Option, Some, None, Result, Ok, Err, refl, sym, ap, subst}
+use Rattle.std.proofs.lemmas.List.{length-set, get_or-set_other}
 use Rattle.std.specs.Prelude.{IfOk}
 use Rattle.domain_base.specs.declared.names.Node.{Node}
 use Rattle.domain_base.specs.declared.names.Node.TheVariants.{Sta}
@@ -13,7 +14,7 @@ use Rattle.node_base.specs.Events.{seen}
 use Rattle.data_frames.specs.Taking.{IsOpenedUnder, HandsUp, Refuses}
 use Rattle.ap_node.specs.Keys.{IsTakenUnder}
 use Rattle.ap_node.proofs.InUse.{the_station, same_station}
-use Rattle.ap_node.proofs.Places.{put_back}
+use Rattle.ap_node.proofs.Places.{put_back, same_back, err_back, err_at}
 use Rattle.ap_node.proofs.protected.take_data.Goals as goal
 
 -- what is refused leaves the key in use
@@ -30,6 +31,11 @@ if_kept : {E : Type 0} (r : Result Outcome E) (p : Node) (octets : List ℕ) (f 
 if_kept (Ok o) p octets f old new waited waits Q t then_ = λ why is. then_ (kept_key p octets f old new waited waits o why is t)
 if_kept (Err e) p octets f old new waited waits Q t then_ = tt
 
+-- whatever comes of it
+ok_at : {E : Type 0} (r : Result Outcome E) (P : Outcome → Type 0) → ((o : Outcome) → P o) → IfOk r P
+ok_at (Ok o) P at = at o
+ok_at (Err e) P at = tt
+
 pub returns-in-Some-place-clause-refused : goal.returns-in-Some-place-clause-refused
 returns-in-Some-place-clause-refused c =
     let items = c.args.stations.now.items in
@@ -37,3 +43,48 @@ returns-in-Some-place-clause-refused c =
     let key = c.take_under.new.key in
     if_kept c.take_under.result (Sta c.args.station) c.args.octets.now (sealed_fields c.args.frame.now) x.key key c.args.out.now.acts c.take_under.new.out.acts _ c.take_under.ensures.taken
     (λ same. put_back items c.from.result x (the_station x.part key) c.in-Some.place.now c.in-Some.ensures.value c.in-Some-place.is (same_station x x.part key refl same))
+
+pub returns-in_default-clause-length : goal.returns-in_default-clause-length
+returns-in_default-clause-length c = refl
+
+pub returns-in-None-clause-length : goal.returns-in-None-clause-length
+returns-in-None-clause-length c = length-set c.args.stations.now.items c.from.result c.in-Some.place.now
+
+pub returns-in-Some-place-clause-length : goal.returns-in-Some-place-clause-length
+returns-in-Some-place-clause-length c = length-set c.args.stations.now.items c.from.result (Some (the_station c.in-Some-place.field-0.part c.take_under.new.key))
+
+pub returns-in_default-clause-others : goal.returns-in_default-clause-others
+returns-in_default-clause-others c k other = refl
+
+pub returns-in-None-clause-others : goal.returns-in-None-clause-others
+returns-in-None-clause-others c k other = get_or-set_other c.args.stations.now.items c.from.result k c.in-Some.place.now None (subst (λ (n : ℕ). k ≢ n) (sym c.from.ensures) other)
+
+pub returns-in-Some-place-clause-others : goal.returns-in-Some-place-clause-others
+returns-in-Some-place-clause-others c k other = get_or-set_other c.args.stations.now.items c.from.result k (Some (the_station c.in-Some-place.field-0.part c.take_under.new.key)) None (subst (λ (n : ℕ). k ≢ n) (sym c.from.ensures) other)
+
+pub returns-in_default-clause-same : goal.returns-in_default-clause-same
+returns-in_default-clause-same c = err_at c.refuse.result _ refl
+
+pub returns-in-None-clause-same : goal.returns-in-None-clause-same
+returns-in-None-clause-same c = err_at c.refuse-in-None.result _ (same_back c.args.stations.now.items c.from.result c.in-Some.place.now c.in-Some.ensures.value)
+
+pub returns-in-Some-place-clause-same : goal.returns-in-Some-place-clause-same
+returns-in-Some-place-clause-same c =
+    let x = c.in-Some-place.field-0 in
+    let key = c.take_under.new.key in
+    err_back c.take_under.result _ _ (λ same. put_back c.args.stations.now.items c.from.result x (the_station x.part key) c.in-Some.place.now c.in-Some.ensures.value c.in-Some-place.is (same_station x x.part key refl same)) c.take_under.ensures.same
+
+pub returns-in_default-clause-kept : goal.returns-in_default-clause-kept
+returns-in_default-clause-kept c = c.refuse.ensures.kept
+
+pub returns-in-None-clause-kept : goal.returns-in-None-clause-kept
+returns-in-None-clause-kept c = c.refuse-in-None.ensures.kept
+
+pub returns-in-Some-place-clause-kept : goal.returns-in-Some-place-clause-kept
+returns-in-Some-place-clause-kept c = c.take_under.ensures.kept
+
+pub returns-in_default-clause-refused : goal.returns-in_default-clause-refused
+returns-in_default-clause-refused c = ok_at c.refuse.result _ (λ o why is. refl)
+
+pub returns-in-None-clause-refused : goal.returns-in-None-clause-refused
+returns-in-None-clause-refused c = ok_at c.refuse-in-None.result _ (λ o why is. same_back c.args.stations.now.items c.from.result c.in-Some.place.now c.in-Some.ensures.value)

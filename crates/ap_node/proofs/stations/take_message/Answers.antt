@@ -1,5 +1,6 @@
-use Rattle.std.proofs.Common.{◌≡◌, false, Some, None, refl, rules}
+use Rattle.std.proofs.Common.{◌≡◌, ◌≢◌, ℕ, false, Some, None, refl, sym, subst, rules}
 use Rattle.std.specs.Prelude.{slice_set}
+use Rattle.std.proofs.lemmas.List.{length-set, get_or-set_other}
 use Rattle.domain_rules.specs.Replies.{replied_acts, taken_as}
 use Rattle.node_base.specs.Pairs.{pair_at}
 use Rattle.act_memory.specs.Rooms.{between_of}
@@ -7,7 +8,7 @@ use Rattle.authenticator.specs.Judged.{frame_of}
 use Rattle.authenticator.specs.Taken.{given}
 use Rattle.ap_node.specs.State.{station_at}
 use Rattle.ap_node.proofs.Messaging.{unhanded_at, handed_at}
-use Rattle.ap_node.proofs.Places.{put_back}
+use Rattle.ap_node.proofs.Places.{put_back, same_back}
 use Rattle.ap_node.proofs.stations.take_message.Goals as goal
 
 pub returns-in_default-clause-handed : goal.returns-in_default-clause-handed
@@ -56,3 +57,36 @@ returns-in-Some-place-clause-handed c d id n p octets k room_is =
 pub returns-in-Some-place-clause-refused : goal.returns-in-Some-place-clause-refused
 returns-in-Some-place-clause-refused c why is =
     put_back c.args.stations.now.items c.from.result c.in-Some-place.place c.hand.new.place c.in-Some.place.now c.in-Some.ensures.value c.in-Some-place.is (c.hand.ensures.refused why is)
+
+pub returns-in_default-clause-length : goal.returns-in_default-clause-length
+returns-in_default-clause-length c = refl
+
+pub returns-in-None-clause-length : goal.returns-in-None-clause-length
+returns-in-None-clause-length c = length-set c.args.stations.now.items c.from.result c.in-Some.place.now
+
+pub returns-in-Some-place-clause-length : goal.returns-in-Some-place-clause-length
+returns-in-Some-place-clause-length c = length-set c.args.stations.now.items c.from.result (Some c.hand.new.place)
+
+pub returns-in_default-clause-others : goal.returns-in_default-clause-others
+returns-in_default-clause-others c k other = refl
+
+pub returns-in-None-clause-others : goal.returns-in-None-clause-others
+returns-in-None-clause-others c k other = get_or-set_other c.args.stations.now.items c.from.result k c.in-Some.place.now None (subst (λ (n : ℕ). k ≢ n) (sym c.from.ensures) other)
+
+pub returns-in-Some-place-clause-others : goal.returns-in-Some-place-clause-others
+returns-in-Some-place-clause-others c k other = get_or-set_other c.args.stations.now.items c.from.result k (Some c.hand.new.place) None (subst (λ (n : ℕ). k ≢ n) (sym c.from.ensures) other)
+
+pub returns-in_default-clause-refused : goal.returns-in_default-clause-refused
+returns-in_default-clause-refused c why is = refl
+
+pub returns-in-None-clause-refused : goal.returns-in-None-clause-refused
+returns-in-None-clause-refused c why is = same_back c.args.stations.now.items c.from.result c.in-Some.place.now c.in-Some.ensures.value
+
+pub returns-in_default-clause-room : goal.returns-in_default-clause-room
+returns-in_default-clause-room c = c.unawaited.ensures.room
+
+pub returns-in-None-clause-room : goal.returns-in-None-clause-room
+returns-in-None-clause-room c = c.unawaited-in-None.ensures.room
+
+pub returns-in-Some-place-clause-room : goal.returns-in-Some-place-clause-room
+returns-in-Some-place-clause-room c = c.hand.ensures.room

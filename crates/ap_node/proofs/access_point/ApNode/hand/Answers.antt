@@ -7,10 +7,11 @@ use Rattle.node_base.specs.Events.{seen}
 use Rattle.authenticator.specs.Judged.{frame_of}
 use Rattle.ap_node.specs.Handed.{IsHandedOver}
 use Rattle.ap_node.specs.Parts.{is_final_at}
+use Rattle.ap_node.specs.Putting.{LeavesOthers}
 use Rattle.ap_node.specs.State.{State, station_at, trimmed}
 use Rattle.ap_node.specs.Takes.{IsDoneWith}
 use Rattle.ap_node.proofs.Messaging.{takes_finished, ready_as}
-use Rattle.ap_node.proofs.Rows.{change_at}
+use Rattle.ap_node.proofs.Rows.{change_at, same_others}
 use Rattle.ap_node.proofs.access_point.ApNode.hand.Goals as goal
 
 pub returns-clause-done : goal.returns-clause-done
@@ -44,3 +45,20 @@ returns-in_err-ready-clause-change over c = change_at _ _ _ c.self.inside.number
 
 pub returns-clause-change : goal.returns-clause-change
 returns-clause-change over c = change_at _ _ _ c.self.inside.number c.args.self.now.number _ _ (ap (λ (t : State). t.number) c.self.view_is) c.prepare.ensures.change
+
+pub returns-in_err-reserve-clause-others : goal.returns-in_err-reserve-clause-others
+returns-in_err-reserve-clause-others over c = same_others _ _ _ _
+
+pub returns-in_err-ready-clause-others : goal.returns-in_err-ready-clause-others
+returns-in_err-ready-clause-others over c =
+    subst (λ (k : ℕ). LeavesOthers k (over.H.Holders.ids c.args.holders.now) (over.H.Holders.ids c.prepare.new.holders) (over.H.Holders.has c.args.holders.now) (over.H.Holders.has c.prepare.new.holders) (over.H.Holders.rows c.args.holders.now) (over.H.Holders.rows c.prepare.new.holders)) (ap (λ (t : State). t.number) c.self.view_is) c.prepare.ensures.others
+
+pub returns-in_err-ready-clause-no_less : goal.returns-in_err-ready-clause-no_less
+returns-in_err-ready-clause-no_less over c = c.prepare.ensures.no_less
+
+pub returns-clause-others : goal.returns-clause-others
+returns-clause-others over c =
+    subst (λ (k : ℕ). LeavesOthers k (over.H.Holders.ids c.args.holders.now) (over.H.Holders.ids c.prepare.new.holders) (over.H.Holders.has c.args.holders.now) (over.H.Holders.has c.prepare.new.holders) (over.H.Holders.rows c.args.holders.now) (over.H.Holders.rows c.prepare.new.holders)) (ap (λ (t : State). t.number) c.self.view_is) c.prepare.ensures.others
+
+pub returns-clause-no_less : goal.returns-clause-no_less
+returns-clause-no_less over c = c.prepare.ensures.no_less

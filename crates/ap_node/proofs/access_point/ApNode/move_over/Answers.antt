@@ -103,3 +103,12 @@ returns-in_default-clause-done c =
     (reassoc_as d c.self.inside.number old.number sta c.args.octets.now (element_fields c.args.elements.now) g.key g.uses c.has_session.result c.args.out.now.acts c.take_reassoc.new.out.acts (moves_at raw sta) (moves_at old.targets sta) (moves_at now sta) taken number
     (raw_at raw old.targets sta are) c.in_ok-taken.ensures.taken)
     (c.has_session.ensures ∙ ap (λ (o : Option Station). is_some (session_in o)) was) (c.newest-uses.ensures.key ∙ ap (λ (s : State). s.group.newest) c.self.view_is) (c.newest-uses.ensures.uses ∙ ap newest_uses c.self.view_is) w moved refused)
+
+pub returns-in_err-taken-clause-number : goal.returns-in_err-taken-clause-number
+returns-in_err-taken-clause-number c = ap (λ (s : State). s.number) c.self.view_is
+
+pub returns-in-Some-clause-number : goal.returns-in-Some-clause-number
+returns-in-Some-clause-number c = ap (λ (s : State). s.number) c.self.view_is
+
+pub returns-in_default-clause-number : goal.returns-in_default-clause-number
+returns-in_default-clause-number c = ap (λ (s : State). s.number) c.self.view_is

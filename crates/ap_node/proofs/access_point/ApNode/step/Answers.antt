@@ -2,7 +2,7 @@ use Rattle.std.proofs.Common.{refl, ap}
 use Rattle.domain_rules.specs.Rows.{Take, Retry, Rekey, Send, Expire, Revoke}
 use Rattle.node_base.specs.Events.{event_of}
 use Rattle.ap_node.specs.Putting.{Unchanged}
-use Rattle.ap_node.proofs.Rows.{if_change, err_change, if_event, if_looks, if_plain_looks, if_none_looks}
+use Rattle.ap_node.proofs.Rows.{if_change, err_change, if_event, if_looks, if_plain_looks, if_none_looks, if_plain_event, number_with, number_plain, refused_with, refused_plain, same_others}
 use Rattle.ap_node.proofs.access_point.ApNode.step.Goals as goal
 
 pub returns-in-Take-clause-steps : goal.returns-in-Take-clause-steps
@@ -82,3 +82,162 @@ returns-in-Revoke-clause-unasked g c = if_change c.revoke.result _ _ _ c.revoke.
 
 pub returns-in-Revoke-clause-change : goal.returns-in-Revoke-clause-change
 returns-in-Revoke-clause-change g c = err_change c.revoke.result _ c.revoke.ensures.change
+
+pub returns-in-Take-clause-number : goal.returns-in-Take-clause-number
+returns-in-Take-clause-number g c = number_with c.take.result _ c.args.domain.now (Take c.in-Take.octets.now) c.args.self.now c.take.new.self _ _ c.args.out.now.acts c.take.new.out.acts c.take.ensures.taken c.take.ensures.same
+
+pub returns-in-Take-clause-refused : goal.returns-in-Take-clause-refused
+returns-in-Take-clause-refused g c = refused_with c.take.result _ c.args.domain.now (Take c.in-Take.octets.now) c.args.self.now c.take.new.self _ _ c.args.out.now.acts c.take.new.out.acts c.take.ensures.taken
+
+pub returns-in-Take-clause-same : goal.returns-in-Take-clause-same
+returns-in-Take-clause-same g c = c.take.ensures.same
+
+pub returns-in-Take-clause-same_rows : goal.returns-in-Take-clause-same_rows
+returns-in-Take-clause-same_rows g c = c.take.ensures.same_rows
+
+pub returns-in-Take-clause-kept : goal.returns-in-Take-clause-kept
+returns-in-Take-clause-kept g c = c.take.ensures.kept
+
+pub returns-in-Take-clause-others : goal.returns-in-Take-clause-others
+returns-in-Take-clause-others g c = c.take.ensures.others
+
+pub returns-in-Take-clause-no_less : goal.returns-in-Take-clause-no_less
+returns-in-Take-clause-no_less g c = c.take.ensures.no_less
+
+pub returns-in-Retry-clause-number : goal.returns-in-Retry-clause-number
+returns-in-Retry-clause-number g c = number_plain c.retry.result c.args.domain.now (Retry _) c.args.self.now c.retry.new.self c.args.out.now.acts c.retry.new.out.acts c.retry.ensures.taken c.retry.ensures.same
+
+pub returns-in-Retry-clause-steps : goal.returns-in-Retry-clause-steps
+returns-in-Retry-clause-steps g c =
+    if_plain_event c.retry.result c.args.domain.now (Retry _) (event_of c.args.event) c.args.self.now c.retry.new.self _ c.args.out.now.acts c.retry.new.out.acts (ap event_of c.in-Retry.is) c.retry.ensures.taken
+
+pub returns-in-Retry-clause-refused : goal.returns-in-Retry-clause-refused
+returns-in-Retry-clause-refused g c = refused_plain c.retry.result c.args.domain.now (Retry _) c.args.self.now c.retry.new.self c.args.out.now.acts c.retry.new.out.acts c.retry.ensures.taken
+
+pub returns-in-Retry-clause-same : goal.returns-in-Retry-clause-same
+returns-in-Retry-clause-same g c = c.retry.ensures.same
+
+pub returns-in-Retry-clause-same_rows : goal.returns-in-Retry-clause-same_rows
+returns-in-Retry-clause-same_rows g c = err_change c.retry.result _ refl
+
+pub returns-in-Retry-clause-kept : goal.returns-in-Retry-clause-kept
+returns-in-Retry-clause-kept g c = c.retry.ensures.kept
+
+pub returns-in-Retry-clause-others : goal.returns-in-Retry-clause-others
+returns-in-Retry-clause-others g c = same_others _ _ _ _
+
+pub returns-in-Retry-clause-no_less : goal.returns-in-Retry-clause-no_less
+returns-in-Retry-clause-no_less g c = g.met.H.Holders.same c.args.holders.now
+
+pub returns-in-Rekey-clause-number : goal.returns-in-Rekey-clause-number
+returns-in-Rekey-clause-number g c = number_plain c.rekey.result c.args.domain.now Rekey c.args.self.now c.rekey.new.self c.args.out.now.acts c.rekey.new.out.acts c.rekey.ensures.taken c.rekey.ensures.same
+
+pub returns-in-Rekey-clause-steps : goal.returns-in-Rekey-clause-steps
+returns-in-Rekey-clause-steps g c =
+    if_plain_event c.rekey.result c.args.domain.now Rekey (event_of c.args.event) c.args.self.now c.rekey.new.self _ c.args.out.now.acts c.rekey.new.out.acts (ap event_of c.in-Rekey.is) c.rekey.ensures.taken
+
+pub returns-in-Rekey-clause-refused : goal.returns-in-Rekey-clause-refused
+returns-in-Rekey-clause-refused g c = refused_plain c.rekey.result c.args.domain.now Rekey c.args.self.now c.rekey.new.self c.args.out.now.acts c.rekey.new.out.acts c.rekey.ensures.taken
+
+pub returns-in-Rekey-clause-same : goal.returns-in-Rekey-clause-same
+returns-in-Rekey-clause-same g c = c.rekey.ensures.same
+
+pub returns-in-Rekey-clause-same_rows : goal.returns-in-Rekey-clause-same_rows
+returns-in-Rekey-clause-same_rows g c = err_change c.rekey.result _ refl
+
+pub returns-in-Rekey-clause-kept : goal.returns-in-Rekey-clause-kept
+returns-in-Rekey-clause-kept g c = c.rekey.ensures.kept
+
+pub returns-in-Rekey-clause-others : goal.returns-in-Rekey-clause-others
+returns-in-Rekey-clause-others g c = same_others _ _ _ _
+
+pub returns-in-Rekey-clause-no_less : goal.returns-in-Rekey-clause-no_less
+returns-in-Rekey-clause-no_less g c = g.met.H.Holders.same c.args.holders.now
+
+pub returns-in-Send-default-Some-default-clause-number : goal.returns-in-Send-default-Some-default-clause-number
+returns-in-Send-default-Some-default-clause-number g c = number_plain c.send.result c.args.domain.now (Send _ _ _) c.args.self.now c.send.new.self c.args.out.now.acts c.send.new.out.acts c.send.ensures.taken c.send.ensures.same
+
+pub returns-in-Send-default-Some-default-clause-refused : goal.returns-in-Send-default-Some-default-clause-refused
+returns-in-Send-default-Some-default-clause-refused g c = refused_plain c.send.result c.args.domain.now (Send _ _ _) c.args.self.now c.send.new.self c.args.out.now.acts c.send.new.out.acts c.send.ensures.taken
+
+pub returns-in-Send-default-Some-default-clause-same : goal.returns-in-Send-default-Some-default-clause-same
+returns-in-Send-default-Some-default-clause-same g c = c.send.ensures.same
+
+pub returns-in-Send-default-Some-default-clause-same_rows : goal.returns-in-Send-default-Some-default-clause-same_rows
+returns-in-Send-default-Some-default-clause-same_rows g c = err_change c.send.result _ refl
+
+pub returns-in-Send-default-Some-default-clause-kept : goal.returns-in-Send-default-Some-default-clause-kept
+returns-in-Send-default-Some-default-clause-kept g c = c.send.ensures.kept
+
+pub returns-in-Send-default-Some-default-clause-others : goal.returns-in-Send-default-Some-default-clause-others
+returns-in-Send-default-Some-default-clause-others g c = same_others _ _ _ _
+
+pub returns-in-Send-default-Some-default-clause-no_less : goal.returns-in-Send-default-Some-default-clause-no_less
+returns-in-Send-default-Some-default-clause-no_less g c = g.met.H.Holders.same c.args.holders.now
+
+pub returns-in-Send-default-None-default-clause-number : goal.returns-in-Send-default-None-default-clause-number
+returns-in-Send-default-None-default-clause-number g c = number_plain c.send-in-Send-default-None-default.result c.args.domain.now (Send _ _ _) c.args.self.now c.send-in-Send-default-None-default.new.self c.args.out.now.acts c.send-in-Send-default-None-default.new.out.acts c.send-in-Send-default-None-default.ensures.taken c.send-in-Send-default-None-default.ensures.same
+
+pub returns-in-Send-default-None-default-clause-refused : goal.returns-in-Send-default-None-default-clause-refused
+returns-in-Send-default-None-default-clause-refused g c = refused_plain c.send-in-Send-default-None-default.result c.args.domain.now (Send _ _ _) c.args.self.now c.send-in-Send-default-None-default.new.self c.args.out.now.acts c.send-in-Send-default-None-default.new.out.acts c.send-in-Send-default-None-default.ensures.taken
+
+pub returns-in-Send-default-None-default-clause-same : goal.returns-in-Send-default-None-default-clause-same
+returns-in-Send-default-None-default-clause-same g c = c.send-in-Send-default-None-default.ensures.same
+
+pub returns-in-Send-default-None-default-clause-same_rows : goal.returns-in-Send-default-None-default-clause-same_rows
+returns-in-Send-default-None-default-clause-same_rows g c = err_change c.send-in-Send-default-None-default.result _ refl
+
+pub returns-in-Send-default-None-default-clause-kept : goal.returns-in-Send-default-None-default-clause-kept
+returns-in-Send-default-None-default-clause-kept g c = c.send-in-Send-default-None-default.ensures.kept
+
+pub returns-in-Send-default-None-default-clause-others : goal.returns-in-Send-default-None-default-clause-others
+returns-in-Send-default-None-default-clause-others g c = same_others _ _ _ _
+
+pub returns-in-Send-default-None-default-clause-no_less : goal.returns-in-Send-default-None-default-clause-no_less
+returns-in-Send-default-None-default-clause-no_less g c = g.met.H.Holders.same c.args.holders.now
+
+pub returns-in-Expire-clause-number : goal.returns-in-Expire-clause-number
+returns-in-Expire-clause-number g c = number_plain c.expire.result c.args.domain.now (Expire _) c.args.self.now c.expire.new.self c.args.out.now.acts c.expire.new.out.acts c.expire.ensures.taken c.expire.ensures.same
+
+pub returns-in-Expire-clause-steps : goal.returns-in-Expire-clause-steps
+returns-in-Expire-clause-steps g c =
+    if_plain_event c.expire.result c.args.domain.now (Expire _) (event_of c.args.event) c.args.self.now c.expire.new.self _ c.args.out.now.acts c.expire.new.out.acts (ap event_of c.in-Expire.is) c.expire.ensures.taken
+
+pub returns-in-Expire-clause-refused : goal.returns-in-Expire-clause-refused
+returns-in-Expire-clause-refused g c = refused_plain c.expire.result c.args.domain.now (Expire _) c.args.self.now c.expire.new.self c.args.out.now.acts c.expire.new.out.acts c.expire.ensures.taken
+
+pub returns-in-Expire-clause-same : goal.returns-in-Expire-clause-same
+returns-in-Expire-clause-same g c = c.expire.ensures.same
+
+pub returns-in-Expire-clause-same_rows : goal.returns-in-Expire-clause-same_rows
+returns-in-Expire-clause-same_rows g c = err_change c.expire.result _ refl
+
+pub returns-in-Expire-clause-kept : goal.returns-in-Expire-clause-kept
+returns-in-Expire-clause-kept g c = c.expire.ensures.kept
+
+pub returns-in-Expire-clause-others : goal.returns-in-Expire-clause-others
+returns-in-Expire-clause-others g c = same_others _ _ _ _
+
+pub returns-in-Expire-clause-no_less : goal.returns-in-Expire-clause-no_less
+returns-in-Expire-clause-no_less g c = g.met.H.Holders.same c.args.holders.now
+
+pub returns-in-Revoke-clause-number : goal.returns-in-Revoke-clause-number
+returns-in-Revoke-clause-number g c = refl
+
+pub returns-in-Revoke-clause-refused : goal.returns-in-Revoke-clause-refused
+returns-in-Revoke-clause-refused g c = refused_with c.revoke.result _ c.args.domain.now (Revoke _) c.args.self.now c.args.self.now _ _ c.args.out.now.acts c.revoke.new.out.acts c.revoke.ensures.taken
+
+pub returns-in-Revoke-clause-same : goal.returns-in-Revoke-clause-same
+returns-in-Revoke-clause-same g c = err_change c.revoke.result _ refl
+
+pub returns-in-Revoke-clause-same_rows : goal.returns-in-Revoke-clause-same_rows
+returns-in-Revoke-clause-same_rows g c = c.revoke.ensures.same_rows
+
+pub returns-in-Revoke-clause-kept : goal.returns-in-Revoke-clause-kept
+returns-in-Revoke-clause-kept g c = c.revoke.ensures.kept
+
+pub returns-in-Revoke-clause-others : goal.returns-in-Revoke-clause-others
+returns-in-Revoke-clause-others g c = c.revoke.ensures.others
+
+pub returns-in-Revoke-clause-no_less : goal.returns-in-Revoke-clause-no_less
+returns-in-Revoke-clause-no_less g c = c.revoke.ensures.no_less

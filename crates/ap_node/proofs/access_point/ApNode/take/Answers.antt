@@ -9,7 +9,7 @@ use Rattle.ap_node.specs.Takes.{IsKeyedAtAp, IsSealedAtAp, IsTaken}
 use Rattle.run_journal.specs.declared.acts.Kind.TheVariants as kind
 use Rattle.ap_node.proofs.Refusing.{Stays, takes_settled, takes_other, managed_from, keyed_from, sealed_from, request_from}
 use Rattle.ap_node.specs.Putting.{Unchanged}
-use Rattle.ap_node.proofs.Rows.{if_same, if_none, if_change, err_change}
+use Rattle.ap_node.proofs.Rows.{if_same, if_none, if_change, err_change, same_others}
 use Rattle.ap_node.proofs.access_point.ApNode.take.Goals as goal
 use Rattle.domain_base.specs.declared.names.Node.TheVariants.{Sta}
 use Rattle.node_base.specs.Events.{seen}
@@ -157,3 +157,108 @@ returns-in-Sealed-clause-unasked over c = if_change c.take_data.result _ _ _ (Un
 
 pub returns-in-Sealed-clause-change : goal.returns-in-Sealed-clause-change
 returns-in-Sealed-clause-change over c = err_change c.take_data.result _ (Unchanged refl)
+
+pub returns-in-Settled-clause-same : goal.returns-in-Settled-clause-same
+returns-in-Settled-clause-same over c = err_change c.settle.result _ refl
+
+pub returns-in-Settled-clause-same_rows : goal.returns-in-Settled-clause-same_rows
+returns-in-Settled-clause-same_rows over c = err_change c.settle.result _ refl
+
+pub returns-in-Settled-clause-kept : goal.returns-in-Settled-clause-kept
+returns-in-Settled-clause-kept over c = c.settle.ensures.kept
+
+pub returns-in-Settled-clause-others : goal.returns-in-Settled-clause-others
+returns-in-Settled-clause-others over c = same_others _ _ _ _
+
+pub returns-in-Settled-clause-no_less : goal.returns-in-Settled-clause-no_less
+returns-in-Settled-clause-no_less over c = over.met.H.Holders.same c.args.holders.now
+
+pub returns-in_default-clause-same : goal.returns-in_default-clause-same
+returns-in_default-clause-same over c = err_change c.settle-in_default.result _ refl
+
+pub returns-in_default-clause-same_rows : goal.returns-in_default-clause-same_rows
+returns-in_default-clause-same_rows over c = err_change c.settle-in_default.result _ refl
+
+pub returns-in_default-clause-kept : goal.returns-in_default-clause-kept
+returns-in_default-clause-kept over c = c.settle-in_default.ensures.kept
+
+pub returns-in_default-clause-others : goal.returns-in_default-clause-others
+returns-in_default-clause-others over c = same_others _ _ _ _
+
+pub returns-in_default-clause-no_less : goal.returns-in_default-clause-no_less
+returns-in_default-clause-no_less over c = over.met.H.Holders.same c.args.holders.now
+
+pub returns-in-AssocReq-clause-same : goal.returns-in-AssocReq-clause-same
+returns-in-AssocReq-clause-same over c = c.take_request.ensures.same
+
+pub returns-in-AssocReq-clause-same_rows : goal.returns-in-AssocReq-clause-same_rows
+returns-in-AssocReq-clause-same_rows over c = err_change c.take_request.result _ refl
+
+pub returns-in-AssocReq-clause-kept : goal.returns-in-AssocReq-clause-kept
+returns-in-AssocReq-clause-kept over c = c.take_request.ensures.kept
+
+pub returns-in-AssocReq-clause-others : goal.returns-in-AssocReq-clause-others
+returns-in-AssocReq-clause-others over c = same_others _ _ _ _
+
+pub returns-in-AssocReq-clause-no_less : goal.returns-in-AssocReq-clause-no_less
+returns-in-AssocReq-clause-no_less over c = over.met.H.Holders.same c.args.holders.now
+
+pub returns-in-ReReq-clause-same : goal.returns-in-ReReq-clause-same
+returns-in-ReReq-clause-same over c = c.take_reassoc.ensures.same
+
+pub returns-in-ReReq-clause-same_rows : goal.returns-in-ReReq-clause-same_rows
+returns-in-ReReq-clause-same_rows over c = err_change c.take_reassoc.result _ refl
+
+pub returns-in-ReReq-clause-kept : goal.returns-in-ReReq-clause-kept
+returns-in-ReReq-clause-kept over c = c.take_reassoc.ensures.kept
+
+pub returns-in-ReReq-clause-others : goal.returns-in-ReReq-clause-others
+returns-in-ReReq-clause-others over c = same_others _ _ _ _
+
+pub returns-in-ReReq-clause-no_less : goal.returns-in-ReReq-clause-no_less
+returns-in-ReReq-clause-no_less over c = over.met.H.Holders.same c.args.holders.now
+
+pub returns-in-FtReq-clause-taken : goal.returns-in-FtReq-clause-taken
+returns-in-FtReq-clause-taken over c = c.take_auth.ensures.taken
+
+pub returns-in-FtReq-clause-same : goal.returns-in-FtReq-clause-same
+returns-in-FtReq-clause-same over c = c.take_auth.ensures.same
+
+pub returns-in-FtReq-clause-same_rows : goal.returns-in-FtReq-clause-same_rows
+returns-in-FtReq-clause-same_rows over c = c.take_auth.ensures.same_rows
+
+pub returns-in-FtReq-clause-kept : goal.returns-in-FtReq-clause-kept
+returns-in-FtReq-clause-kept over c = c.take_auth.ensures.kept
+
+pub returns-in-FtReq-clause-others : goal.returns-in-FtReq-clause-others
+returns-in-FtReq-clause-others over c = c.take_auth.ensures.others
+
+pub returns-in-FtReq-clause-no_less : goal.returns-in-FtReq-clause-no_less
+returns-in-FtReq-clause-no_less over c = c.take_auth.ensures.no_less
+
+pub returns-in-Keyed-clause-same : goal.returns-in-Keyed-clause-same
+returns-in-Keyed-clause-same over c = c.take_keyed.ensures.same
+
+pub returns-in-Keyed-clause-same_rows : goal.returns-in-Keyed-clause-same_rows
+returns-in-Keyed-clause-same_rows over c = c.take_keyed.ensures.same_rows
+
+pub returns-in-Keyed-clause-kept : goal.returns-in-Keyed-clause-kept
+returns-in-Keyed-clause-kept over c = c.take_keyed.ensures.kept
+
+pub returns-in-Keyed-clause-others : goal.returns-in-Keyed-clause-others
+returns-in-Keyed-clause-others over c = c.take_keyed.ensures.others
+
+pub returns-in-Keyed-clause-no_less : goal.returns-in-Keyed-clause-no_less
+returns-in-Keyed-clause-no_less over c = c.take_keyed.ensures.no_less
+
+pub returns-in-Sealed-clause-same_rows : goal.returns-in-Sealed-clause-same_rows
+returns-in-Sealed-clause-same_rows over c = err_change c.take_data.result _ refl
+
+pub returns-in-Sealed-clause-kept : goal.returns-in-Sealed-clause-kept
+returns-in-Sealed-clause-kept over c = c.take_data.ensures.kept
+
+pub returns-in-Sealed-clause-others : goal.returns-in-Sealed-clause-others
+returns-in-Sealed-clause-others over c = same_others _ _ _ _
+
+pub returns-in-Sealed-clause-no_less : goal.returns-in-Sealed-clause-no_less
+returns-in-Sealed-clause-no_less over c = over.met.H.Holders.same c.args.holders.now

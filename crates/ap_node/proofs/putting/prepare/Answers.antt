@@ -1,0 +1,38 @@
+use Rattle.std.proofs.Common.{refl}
+use Rattle.ap_node.specs.Putting.{Unchanged}
+use Rattle.ap_node.proofs.Places.{err_at}
+use Rattle.ap_node.proofs.Rows.{same_others}
+use Rattle.ap_node.proofs.putting.prepare.Goals as goal
+
+pub returns-in_err-room-clause-kept : goal.returns-in_err-room-clause-kept
+returns-in_err-room-clause-kept over c = err_at c.from_residual.result _ refl
+
+pub returns-in_err-room-clause-others : goal.returns-in_err-room-clause-others
+returns-in_err-room-clause-others over c = same_others _ _ _ _
+
+pub returns-in_err-room-clause-change : goal.returns-in_err-room-clause-change
+returns-in_err-room-clause-change over c = Unchanged refl
+
+pub returns-in_err-room-clause-no_less : goal.returns-in_err-room-clause-no_less
+returns-in_err-room-clause-no_less over c = over.met.H.Holders.same c.args.holders.now
+
+pub returns-in_err-between-clause-kept : goal.returns-in_err-between-clause-kept
+returns-in_err-between-clause-kept over c = err_at c.from_residual-in_err-between.result _ c.in_err-between.ensures.kept
+
+pub returns-in_err-between-clause-others : goal.returns-in_err-between-clause-others
+returns-in_err-between-clause-others over c = c.between.ensures.others
+
+pub returns-in_err-between-clause-change : goal.returns-in_err-between-clause-change
+returns-in_err-between-clause-change over c = c.between.ensures.change
+
+pub returns-in_err-between-clause-no_less : goal.returns-in_err-between-clause-no_less
+returns-in_err-between-clause-no_less over c = c.between.ensures.no_less
+
+pub returns-clause-others : goal.returns-clause-others
+returns-clause-others over c = c.between.ensures.others
+
+pub returns-clause-change : goal.returns-clause-change
+returns-clause-change over c = c.between.ensures.change
+
+pub returns-clause-no_less : goal.returns-clause-no_less
+returns-clause-no_less over c = c.between.ensures.no_less
