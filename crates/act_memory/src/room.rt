@@ -17,6 +17,7 @@ ghost use Rattle.act_memory.specs.Templates.{IsTemplate, with_nonces, seal_over}
 use crate::covered::{append_covered, covered_len};
 use crate::outbox::Outbox;
 use crate::send_room::SendRoom;
+use crate::taking::add_took;
 use domain_base::{Mac, NoMemory, Node, Octets, Peer};
 use eapol_key::Message;
 use frame_intake::Heard;
@@ -51,6 +52,59 @@ fn with_nonces(inputs: BoxedInputs, key: &Keyed) -> SharedInputs
     ensures { result ≡ with_nonces inputs key.now }
 {
     SharedInputs::of(inputs.with_nonces(&key.anonce, &key.snonce))
+}
+
+// The octets that came, what the MIC of their EAPOL frame covers, and the memory for a seal.
+#[derive(Drop)]
+struct Came {
+    taken: Vec<u8>,
+    covered: Vec<u8>,
+    seal: BoxedSeal,
+}
+
+// They, of that message.
+fn take_came(alloc: Global, heard: &Heard<'_>) -> Result<Came, NoMemory>
+    ensures taken { IfOk result (λ came. came.taken.items ≡ heard.now.octets.now) }
+    ensures covered { IfOk result (λ came. came.covered.items
+        ≡ 1 ∷ without_mic heard.now.message.frame.octets.now) }
+{
+    let taken = Vec::from_slice(alloc, heard.octets)?;
+    let covered = cover(alloc, heard.message.frame.octets)?;
+    let seal = BoxedSeal::room(alloc)?;
+    Ok(Came {
+        taken,
+        covered,
+        seal,
+    })
+}
+
+// What a pairwise key is made of, without nonces, for three acts.
+#[derive(Drop)]
+struct Templates {
+    derived: BoxedInputs,
+    installed: BoxedInputs,
+    finished: BoxedInputs,
+}
+
+// They, for the keys of a node with its peer.
+fn three_templates(here: Here<'_>, peer: Node, r0kh_id: &[u8]) -> Result<Templates, NoMemory>
+    requires listed { IsListed here.domain.now here.node }
+    requires peer { IsPeerOf here.domain.now here.node peer }
+    ensures derived { IfOk result (λ three. let d = here.entry.domain.now
+        in IsTemplate d (root_at d r0kh_id.now) here.entry.node peer three.derived) }
+    ensures installed { IfOk result (λ three. let d = here.entry.domain.now
+        in IsTemplate d (root_at d r0kh_id.now) here.entry.node peer three.installed) }
+    ensures finished { IfOk result (λ three. let d = here.entry.domain.now
+        in IsTemplate d (root_at d r0kh_id.now) here.entry.node peer three.finished) }
+{
+    let derived = template(here, peer, r0kh_id)?;
+    let installed = template(here, peer, r0kh_id)?;
+    let finished = template(here, peer, r0kh_id)?;
+    Ok(Templates {
+        derived,
+        installed,
+        finished,
+    })
 }
 
 // The octets under that key, where there is one, in that room for a seal.
@@ -214,14 +268,20 @@ impl Room {
         ensures { IfOk result (λ room. IsRoom here.entry.domain.now r0kh_id.now here.entry.node peer
             heard.now.octets.now (message_fields heard.now.message) room) }
     {
-        let address = address(here.domain, peer);
-        let taken = Vec::from_slice(here.alloc, heard.octets)?;
-        let covered = cover(here.alloc, heard.message.frame.octets)?;
-        let seal = BoxedSeal::room(here.alloc)?;
-        let derived = template(here, peer, r0kh_id)?;
-        let installed = template(here, peer, r0kh_id)?;
-        let finished = template(here, peer, r0kh_id)?;
+        let came = take_came(here.alloc, heard)?;
+        let templates = three_templates(here, peer, r0kh_id)?;
         let sent = SendRoom::take(here.alloc)?;
+        let address = address(here.domain, peer);
+        let Came {
+            taken,
+            covered,
+            seal,
+        } = came;
+        let Templates {
+            derived,
+            installed,
+            finished,
+        } = templates;
         Ok(Room {
             peer,
             address,
@@ -268,13 +328,8 @@ impl Room {
             finished,
             sent,
         } = self;
-        out.add(Act::Took {
-            from: Some(peer),
-            octets: Octets(taken),
-            kind: Kind::Key(message),
-            outcome,
-            seal: seal_over(covered, seal, reply.verified),
-        });
+        let seal = seal_over(covered, seal, reply.verified);
+        add_took(Some(peer), taken, Kind::Key(message), outcome, seal, out);
         add_all(between.opened, out);
         add_derived(peer, derived, reply.derived, out);
         add_replaced(peer, had_session, reply.installed, out);

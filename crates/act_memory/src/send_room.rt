@@ -1,10 +1,12 @@
 //! The memory that the act of sending a frame takes, taken before anything is done, and given back
 //! as far as the frame is shorter.
 
-ghost use Rattle.std.specs.Prelude.{◌≡◌, ◌≤◌, ◌<◌, ◌+◌, ◌++◌, [], ◌∷◌, length, vec_len};
+ghost use Rattle.std.specs.Prelude.{◌≡◌, ◌==◌, ◌≤◌, ◌<◌, ◌+◌, ◌++◌, ℕ, List, [], ◌∷◌, length};
+ghost use Rattle.std.specs.Prelude.{drop, not, Some, option_map, vec_len};
 ghost use Rattle.std.specs.Vec.{vec_capacity};
 ghost use Rattle.mac_prf.specs.Mic.{without_mic};
 ghost use Rattle.run_journal.specs.Replies.{IsWhole};
+ghost use Rattle.domain_rules.specs.Frames.{frame_seal};
 ghost use Rattle.domain_rules.specs.Replies.{sent_acts};
 
 use crate::covered::{append, append_covered, covered_len};
@@ -67,6 +69,39 @@ impl Buffer {
     }
 }
 
+// Has the reply a frame?
+fn has_frame(reply: &Reply) -> bool
+    ensures { result ≡ not (reply.now.len == 0) }
+{
+    reply.len != 0
+}
+
+// The EAPOL frame in a data frame.
+fn eapol_in(frame: &[u8]) -> &[u8]
+    requires { 32 ≤ length frame.now }
+    ensures octets { result.now ≡ drop 32 frame.now }
+    ensures len { length result.now + 32 ≡ length frame.now }
+{
+    let (_, eapol) = frame.split_at(EAPOL_FRONT);
+    eapol
+}
+
+// What is sealed in a frame by that key, where there is one, in the room for it.
+fn seal_by(
+    key: Option<[u8; 16]>,
+    covered: Buffer,
+    seal: BoxedSeal,
+    frame: &[u8],
+) -> Option<BoxedSeal>
+    requires few { length frame.now ≤ 512 }
+    requires sealed { (kck : List ℕ) → key ≡ Some kck → 131 ≤ length frame.now }
+    ensures { result ≡ option_map (λ kck. frame_seal kck (drop 32 frame.now)) key }
+{
+    let key = key?;
+    let octets = Octets(covered.covering(eapol_in(frame)));
+    Some(seal.filled(Seal { octets, key }))
+}
+
 /// The memory that the act of sending the frame of a reply takes.
 #[derive(Drop)]
 pub struct SendRoom {
@@ -100,7 +135,7 @@ impl SendRoom {
         ensures acts { out.new.acts ≡ out.old.acts ++ sent_acts peer reply.now }
         ensures spare { out.old.spare ≤ out.new.spare + 1 }
     {
-        if reply.len == 0 {
+        if !has_frame(reply) {
             return;
         }
         let SendRoom {
@@ -109,14 +144,7 @@ impl SendRoom {
             seal,
         } = self;
         let (frame, _) = reply.octets.split_at(reply.len);
-        let seal = match reply.sealed {
-            Some(key) => {
-                let (_, eapol) = frame.split_at(EAPOL_FRONT);
-                let octets = Octets(covered.covering(eapol));
-                Some(seal.filled(Seal { octets, key }))
-            }
-            None => None,
-        };
+        let seal = seal_by(reply.sealed, covered, seal, frame);
         let octets = Octets(octets.filled(frame));
         out.add(Act::Sent {
             peer: Peer::One(peer),

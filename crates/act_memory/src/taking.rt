@@ -1,6 +1,6 @@
 //! The act of taking a frame, alone or with others.
 
-ghost use Rattle.std.specs.Prelude.{◌≡◌, ◌++◌, [], ◌∷◌, None, IfOk, OnOk, OnErr};
+ghost use Rattle.std.specs.Prelude.{◌≡◌, ◌<◌, ◌≤◌, ◌+◌, ◌++◌, [], ◌∷◌, None, IfOk, OnOk, OnErr};
 ghost use Rattle.run_journal.specs.declared.acts.Act.TheVariants.{Took};
 
 use crate::outbox::Outbox;
@@ -29,6 +29,28 @@ pub fn took(
     })
 }
 
+/// A frame came to the node, whose octets are in memory, and there is room for the act.
+pub(crate) fn add_took(
+    from: Option<Node>,
+    octets: Vec<u8>,
+    kind: Kind,
+    outcome: Outcome,
+    seal: Option<BoxedSeal>,
+    out: &mut Outbox,
+)
+    requires { 0 < out.old.spare }
+    ensures acts { out.new.acts ≡ out.old.acts ++ Took from octets.items kind outcome seal ∷ [] }
+    ensures spare { out.old.spare ≤ out.new.spare + 1 }
+{
+    out.add(Act::Took {
+        from,
+        octets: Octets(octets),
+        kind,
+        outcome,
+        seal,
+    });
+}
+
 /// A frame came to the node, and this came of it: nothing is sealed in it, and nothing else is
 /// done.
 pub fn settle(
@@ -44,8 +66,8 @@ pub fn settle(
         (out.new.acts ≡ out.old.acts ++ Took from octets.now kind outcome None ∷ []) }
     ensures kept { OnErr result (out.new.acts ≡ out.old.acts) }
 {
-    let taken = took(alloc, from, octets, kind, outcome, None)?;
+    let octets = Vec::from_slice(alloc, octets)?;
     out.reserve(1)?;
-    out.add(taken);
+    add_took(from, octets, kind, outcome, None, out);
     Ok(outcome)
 }

@@ -9,7 +9,7 @@ mod laws;
 mod line;
 mod numbers;
 
-ghost use Rattle.std.specs.Prelude.{◌≡◌, IfOk, option_and_then, option_map, codes, map};
+ghost use Rattle.std.specs.Prelude.{◌≡◌, ◌≢◌, None, IfOk, option_and_then, option_map, codes, map};
 ghost use Rattle.clap.specs.Words.{first_value, found_of, rows_of, subcommand_rows_of};
 ghost use Rattle.command_words.specs.Words.{asked, command_of, port_number, storm_number};
 
@@ -76,6 +76,16 @@ fn met(matches: &ArgMatches) -> Option<Command>
     asked(name, values)
 }
 
+// What words that were refused ask for: no command, unless memory was wanting.
+fn refusal(kind: ErrorKind) -> Result<Option<Command>, NoMemory>
+    ensures { IfOk result (λ c. (c ≡ None) × (kind ≢ ErrorKind.OutOfMemory)) }
+{
+    match kind {
+        ErrorKind::OutOfMemory => Err(NoMemory),
+        _ => Ok(None),
+    }
+}
+
 /// The command that the words behind the program's name ask for, or `None` where they are no
 /// command. The port and the number are one to ten decimal digits; leading zeros are allowed.
 pub fn read_words(alloc: Global, words: &[&str]) -> Result<Option<Command>, NoMemory>
@@ -84,9 +94,6 @@ pub fn read_words(alloc: Global, words: &[&str]) -> Result<Option<Command>, NoMe
     let line = command_line(alloc)?;
     match line.try_get_matches_from(words) {
         Ok(matches) => Ok(met(&matches)),
-        Err(error) => match error.kind() {
-            ErrorKind::OutOfMemory => Err(NoMemory),
-            _ => Ok(None),
-        },
+        Err(error) => refusal(error.kind()),
     }
 }

@@ -1,25 +1,49 @@
 //! The command line, as `clap` reads it.
 
 ghost use Rattle.std.specs.Prelude.{◌≡◌, IfOk};
-ghost use Rattle.clap.specs.Words.{app_of};
-ghost use Rattle.command_words.specs.Words.{command_line};
+ghost use Rattle.clap.specs.Words.{app_of, new_app, new_rule, with_rule, with_subcommand};
+ghost use Rattle.command_words.specs.Words.{bare_line, command_line, needed, replay_line};
 
 use clap::{Arg, Command};
 use std::alloc::{AllocError, Global};
+
+// The command line without its subcommands, of which one is needed. The words do not begin with
+// the program's name.
+fn bare_line<'a>(alloc: Global) -> Command<'a>
+    ensures { app_of result ≡ bare_line }
+{
+    Command::new(alloc, "kehtrop")
+        .no_binary_name(true)
+        .subcommand_required(true)
+}
+
+// The command line with `replay` as its only subcommand.
+fn replay_line<'a>(alloc: Global) -> Result<Command<'a>, AllocError>
+    ensures { IfOk result (λ c. app_of c ≡ with_subcommand bare_line replay_line.top) }
+{
+    bare_line(alloc).subcommand(Command::new(alloc, "replay"))
+}
+
+// The line with one more subcommand at the end, of that name, which needs one word.
+fn added<'a>(
+    alloc: Global,
+    line: Command<'a>,
+    name: &'a str,
+    word: &'a str,
+) -> Result<Command<'a>, AllocError>
+    ensures { IfOk result (λ c. app_of c ≡ with_subcommand (app_of line.entry)
+        (with_rule (new_app name.now) (needed (new_rule word.now))).top) }
+{
+    let value = Arg::new(alloc, word).required(true);
+    let subcommand = Command::new(alloc, name).arg(value)?;
+    line.subcommand(subcommand)
+}
 
 /// The command line of three subcommands, without the program's name.
 pub fn command_line<'a>(alloc: Global) -> Result<Command<'a>, AllocError>
     ensures { IfOk result (λ c. app_of c ≡ command_line) }
 {
-    let port = Arg::new(alloc, "port").required(true);
-    let number = Arg::new(alloc, "number").required(true);
-    let replay = Command::new(alloc, "replay");
-    let live = Command::new(alloc, "live").arg(port)?;
-    let storm = Command::new(alloc, "storm").arg(number)?;
-    Command::new(alloc, "kehtrop")
-        .no_binary_name(true)
-        .subcommand_required(true)
-        .subcommand(replay)?
-        .subcommand(live)?
-        .subcommand(storm)
+    let first = replay_line(alloc)?;
+    let second = added(alloc, first, "live", "port")?;
+    added(alloc, second, "storm", "number")
 }

@@ -1,4 +1,5 @@
 mod Opening
+mod Sends
 pub mod DataRows
 pub mod Standing
 pub mod RepliedKeys

@@ -13,14 +13,13 @@ use Rattle.ccmp_guard.specs.Faults.{unprotect_fault}
 use Rattle.ccmp_guard.specs.Held.{Held, with_taken}
 use Rattle.data_frames.specs.Holding.{held_in}
 use Rattle.run_journal.specs.declared.acts.Kind.TheVariants.{Data}
-use Rattle.run_journal.specs.declared.acts.Reason.{Reason}
-use Rattle.run_journal.specs.declared.acts.Outcome.TheVariants.{Accepted, Refused}
+use Rattle.run_journal.specs.declared.acts.Outcome.TheVariants.{Accepted}
 use Rattle.run_journal.specs.declared.acts.Act.{Act}
 use Rattle.run_journal.specs.declared.acts.Act.TheVariants.{Took, HandedUp}
 use Rattle.domain_rules.specs.DataFrames.{data_seal}
 use Rattle.node_base.specs.Events.{seen}
 use Rattle.frame_intake.specs.SealedFields.{SealedFields}
-use Rattle.data_frames.specs.Taking.{reason_of, IsOpenedTo, IsStoppedBy, Before, Unsealed, IsOpenedUnder, HandsUp, Refuses}
+use Rattle.data_frames.specs.Taking.{IsOpenedTo, IsStoppedBy, Before, Unsealed, IsOpenedUnder, HandsUp}
 
 -- what was written over all of the front
 pub whole : (n : ℕ) (xs ys : List ℕ) → length xs ≡ n → take n (xs ++ ys) ≡ xs
@@ -31,11 +30,6 @@ pub handed_up : (p : Node) (octets taken : List ℕ) (f : SealedFields) (old new
     → waits ≡ mid ++ Took (Some p) taken Data Accepted (Some (data_seal tk f.header.octets (packet_number f.body) plain)) ∷ HandedUp p tk id tid (packet_number f.body) plain ∷ []
     → IsOpenedUnder p octets f old new (seen waited waits Accepted)
 handed_up p octets taken f old new plain waited mid waits tk id tid o same is key_is id_is tid_is w = HandsUp plain o refl (w ∙ rw (same, is, key_is, id_is, tid_is) refl)
-
-pub refused : (p : Node) (octets taken : List ℕ) (f : SealedFields) (old new : Held) (why : GuardFault) (reason : Reason) (waited mid waits : List Act) → IsStoppedBy f old why → new ≡ old → mid ≡ waited → taken ≡ octets → reason ≡ reason_of why
-    → waits ≡ mid ++ Took (Some p) taken Data (Refused reason) None ∷ [] → IsOpenedUnder p octets f old new (seen waited waits (Refused reason))
-refused p octets taken f old new why reason waited mid waits s unchanged same is told w =
-    Refuses why s unchanged (ap (λ (r : Reason). Refused r) told) (w ∙ rw (same, is, told) refl)
 
 -- nothing is refused before the seal is tried, where what came is no such refusal
 faultless : (R : GuardFault → Type 0) (o : Option GuardFault) → ((e : GuardFault) → o ≡ Some e → R e) → ((e : GuardFault) → R e → ⊥) → o ≡ None

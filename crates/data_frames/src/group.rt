@@ -1,6 +1,6 @@
 //! Protected data for a group of stations, taken under a group key that a station keeps.
 
-ghost use Rattle.std.specs.Prelude.{◌≡◌, ◌<◌, ◌+◌, length, IfOk, IfErr, OnOk, OnErr};
+ghost use Rattle.std.specs.Prelude.{◌≡◌, ◌<◌, ◌≤◌, ◌+◌, nat_le, length, IfOk, IfErr, OnOk, OnErr};
 ghost use Rattle.ccmp_guard.specs.Ccmp.{key_id_in, packet_number};
 ghost use Rattle.ccmp_guard.specs.Held.{Held as AnyHeld};
 ghost use Rattle.run_journal.specs.declared.acts.Outcome.TheVariants.{Accepted};
@@ -8,15 +8,16 @@ ghost use Rattle.node_base.specs.Events.{seen};
 ghost use Rattle.frame_intake.specs.SealedFields.{IsSealedData};
 ghost use Rattle.frame_intake.specs.Views.{sealed_fields};
 ghost use Rattle.data_frames.specs.Holding.{kept_key};
+ghost use Rattle.data_frames.specs.Rooms.{IsRoomFor};
 ghost use Rattle.data_frames.specs.Taking.{IsOpenedTo, IsStoppedBy, IsOpenedUnder};
 
-use crate::handing_up::{OpenedUnder, add_opened, reason};
+use crate::handing_up::{OpenedUnder, add_opened, add_refused};
 use crate::rooms::{Plain, TakeRoom};
 use act_memory::Outbox;
 use ccmp_guard::{GuardFault, open_body, packet_number};
-use domain_base::{NoMemory, Node, Octets, Tid};
+use domain_base::{NoMemory, Node, Tid};
 use frame_intake::SealedData;
-use run_journal::{Act, Kind, Outcome};
+use run_journal::Outcome;
 use std::alloc::Global;
 
 /// A group key that a station keeps of an access point: its octets, its key id and its receive
@@ -51,13 +52,34 @@ impl KeptKey {
             → self.now.counter < packet_number frame.now.body.now) }
         ensures kept { OnErr result (out.new.acts ≡ out.old.acts) }
     {
+        out.reserve(2)?;
+        let room = TakeRoom::take(alloc, octets, frame)?;
+        Ok(self.take_in(from, frame, room, out))
+    }
+
+    // Takes it, in that room.
+    fn take_in(
+        &self,
+        from: Node,
+        frame: &SealedData<'_>,
+        room: TakeRoom,
+        out: &mut Outbox,
+    ) -> Outcome
+        requires whole { IsSealedData (sealed_fields frame.now) }
+        requires id { key_id_in frame.now.body.now ≡ self.now.id }
+        requires room { IsRoomFor room.taken.items (sealed_fields frame.now) room }
+        requires spare { 2 ≤ out.old.spare }
+        ensures taken { (new : AnyHeld) × IsOpenedUnder from room.taken.items
+            (sealed_fields frame.now) (kept_key self.now.key self.now.id self.now.counter) new
+            (seen out.old.acts out.new.acts result) }
+        ensures above { result ≡ Accepted → self.now.counter < packet_number frame.now.body.now }
+    {
         let TakeRoom {
             taken,
             plain,
             covered,
             seal,
-        } = TakeRoom::take(alloc, octets, frame)?;
-        out.reserve(2)?;
+        } = room;
         let mut plain = plain;
         match self.open(frame, &mut plain) {
             Ok(()) => {
@@ -67,19 +89,9 @@ impl KeptKey {
                     seal,
                 };
                 add_opened(from, taken, frame, self.used_here(), opened, out);
-                Ok(Outcome::Accepted)
+                Outcome::Accepted
             }
-            Err(fault) => {
-                let outcome = Outcome::Refused(reason(fault));
-                out.add(Act::Took {
-                    from: Some(from),
-                    octets: Octets(taken),
-                    kind: Kind::Data,
-                    outcome,
-                    seal: None,
-                });
-                Ok(outcome)
-            }
+            Err(fault) => add_refused(from, taken, fault, out),
         }
     }
 
@@ -100,6 +112,13 @@ impl KeptKey {
         }
     }
 
+    // Was that packet number taken, or a greater one?
+    fn has_taken(&self, number: u64) -> bool
+        ensures { result ≡ nat_le number self.now.counter }
+    {
+        number <= self.counter
+    }
+
     // Opens the body of a frame, and writes its plain text.
     fn open(&self, frame: &SealedData<'_>, plain: &mut [u8]) -> Result<(), GuardFault>
         requires whole { IsSealedData (sealed_fields frame.now) }
@@ -112,7 +131,7 @@ impl KeptKey {
         ensures above { OnOk result (self.now.counter < packet_number frame.now.body.now) }
         ensures len { length plain.new ≡ length plain.old }
     {
-        if packet_number(frame.body) <= self.counter {
+        if self.has_taken(packet_number(frame.body)) {
             return Err(GuardFault::Replayed(self.counter));
         }
         let opened = open_body(&self.key, frame.header.octets, frame.body, plain);

@@ -1,15 +1,15 @@
 //! What is told of protected data that was opened, or refused.
 
-ghost use Rattle.std.specs.Prelude.{◌≡◌, ◌≤◌, ◌+◌, ◌++◌, [], ◌∷◌, Some, vec_len};
+ghost use Rattle.std.specs.Prelude.{◌≡◌, ◌≤◌, ◌<◌, ◌+◌, ◌++◌, [], ◌∷◌, Some, vec_len};
 ghost use Rattle.std.specs.Vec.{vec_capacity};
 ghost use Rattle.ccmp_guard.specs.Ccmp.{packet_number};
 ghost use Rattle.run_journal.specs.declared.acts.Kind.TheVariants.{Data as OfData};
-ghost use Rattle.run_journal.specs.declared.acts.Outcome.TheVariants.{Accepted};
+ghost use Rattle.run_journal.specs.declared.acts.Outcome.TheVariants.{Accepted, Refused};
 ghost use Rattle.run_journal.specs.declared.acts.Act.TheVariants.{Took, HandedUp};
 ghost use Rattle.domain_rules.specs.DataFrames.{data_seal};
 ghost use Rattle.frame_intake.specs.SealedFields.{IsSealedData};
 ghost use Rattle.frame_intake.specs.Views.{sealed_fields};
-ghost use Rattle.data_frames.specs.Taking.{reason_of, covered_front};
+ghost use Rattle.data_frames.specs.Taking.{reason_of, covered_front, refusal};
 
 use crate::rooms::Plain;
 use act_memory::{Outbox, append};
@@ -68,6 +68,7 @@ pub fn add_opened(
         seal,
     } = opened;
     let OpenedUnder { tk, id, tid } = key;
+    let number = packet_number(frame.body);
     let mut covered = covered;
     append(&mut covered, &plain);
     out.add(Act::Took {
@@ -85,7 +86,24 @@ pub fn add_opened(
         key: tk,
         id,
         tid,
-        number: packet_number(frame.body),
+        number,
         octets: Octets(plain),
     });
+}
+
+/// The frame was taken, and is refused for that fault.
+pub fn add_refused(from: Node, taken: Vec<u8>, fault: GuardFault, out: &mut Outbox) -> Outcome
+    requires { 0 < out.old.spare }
+    ensures outcome { result ≡ Refused (reason_of fault) }
+    ensures acts { out.new.acts ≡ out.old.acts ++ refusal from taken.items (reason_of fault) }
+{
+    let outcome = Outcome::Refused(reason(fault));
+    out.add(Act::Took {
+        from: Some(from),
+        octets: Octets(taken),
+        kind: Kind::Data,
+        outcome,
+        seal: None,
+    });
+    outcome
 }

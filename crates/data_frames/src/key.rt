@@ -1,34 +1,41 @@
 //! A temporal key in use at a node.
 
-ghost use Rattle.std.specs.Prelude.{◌≡◌, ◌≤◌, ◌<◌, ◌+◌, ◌++◌, suc, length, replicate, IfOk, IfErr};
-ghost use Rattle.std.specs.Prelude.{OnOk, OnErr, vec_len};
-ghost use Rattle.std.specs.Vec.{vec_capacity};
+ghost use Rattle.std.specs.Prelude.{◌≡◌, ◌≤◌, ◌<◌, ◌+◌, ◌++◌, suc, nat_lt, [], ◌∷◌, Some, length};
+ghost use Rattle.std.specs.Prelude.{replicate, IfOk, IfErr, OnOk, OnErr};
 ghost use Rattle.replay_window.specs.Numbers.{last_number};
 ghost use Rattle.ccmp_guard.specs.declared.guard.Role.TheVariants.{Pairwise, Group};
 ghost use Rattle.ccmp_guard.specs.Ccmp.{IsHeader, packet_number};
 ghost use Rattle.ccmp_guard.specs.Roles.{key_id, counter_of};
 ghost use Rattle.ccmp_guard.specs.Held.{with_next};
+ghost use Rattle.run_journal.specs.declared.acts.Kind.TheVariants.{Data as OfData};
+ghost use Rattle.run_journal.specs.declared.acts.Why.TheVariants as why;
+ghost use Rattle.run_journal.specs.declared.acts.Outcome.TheVariants as outcomes;
+ghost use Rattle.run_journal.specs.declared.acts.Outcome.TheVariants.{Done};
+ghost use Rattle.run_journal.specs.declared.acts.Act.TheVariants.{Idle, Used, Sent};
 ghost use Rattle.domain_rules.specs.Network.{IsListed};
-ghost use Rattle.domain_rules.specs.DataFrames.{data_header, data_body, receiver, bssid_with};
+ghost use Rattle.domain_rules.specs.DataFrames.{data_header, data_body, sent_data, receiver};
+ghost use Rattle.domain_rules.specs.DataFrames.{bssid_with};
 ghost use Rattle.domain_rules.specs.DataRows.{used_acts};
 ghost use Rattle.node_base.specs.Peers.{IsReceiverOf, most_payload};
 ghost use Rattle.node_base.specs.Events.{seen};
+ghost use Rattle.act_memory.specs.Templates.{seal_over};
 ghost use Rattle.frame_intake.specs.SealedFields.{IsSealedData};
 ghost use Rattle.frame_intake.specs.Views.{sealed_fields};
+ghost use Rattle.data_frames.specs.Rooms.{IsRoomFor};
 ghost use Rattle.data_frames.specs.Sending.{send_key_of, used_once, outcome_under};
 ghost use Rattle.data_frames.specs.Taking.{reason_of, covered_front, taken_acts, IsOpenedTo};
 ghost use Rattle.data_frames.specs.Taking.{IsStoppedBy, IsOpenedUnder};
 
-use crate::handing_up::{OpenedUnder, add_opened, reason};
-use crate::rooms::{OVERHEAD, Plain, TakeRoom, behind_header, cover};
-use act_memory::{Outbox, append};
+use crate::handing_up::{OpenedUnder, add_opened, add_refused};
+use crate::rooms::{Plain, SendRoom, TakeRoom};
+use act_memory::Outbox;
 use air_frame::data_header;
 use ccmp_guard::{Guard, GuardFault, Role, packet_number, traffic_identifier};
 use domain_base::{Mac, NoMemory, Node, Octets, Peer, ShortOctets, Tid};
 use frame_intake::SealedData;
 use node_base::{Here, address, direction};
 use replay_window::LAST_NUMBER;
-use run_journal::{Act, BoxedSeal, Kind, Outcome, Reason, Seal, Why};
+use run_journal::{Act, Kind, Outcome, Seal, Why};
 use std::alloc::Global;
 use std::marker::Model;
 
@@ -92,6 +99,17 @@ fn header_to(here: Here<'_>, to: Peer, tid: Option<Tid>) -> ShortOctets<26>
     data_header(way, true, tid, receiver(here, to), from, bssid(here, to))
 }
 
+// Nothing is done, since the last packet number was used.
+fn spent(out: &mut Outbox) -> Result<Outcome, NoMemory>
+    ensures acts { OnOk result (out.new.acts ≡ out.old.acts ++ Idle why.Spent ∷ []) }
+    ensures outcome { IfOk result (λ came. came ≡ outcomes.Idle why.Spent) }
+    ensures kept { OnErr result (out.new.acts ≡ out.old.acts) }
+{
+    out.reserve(1)?;
+    out.add(Act::Idle { why: Why::Spent });
+    Ok(Outcome::Idle(Why::Spent))
+}
+
 impl DataKey {
     /// A pairwise key as it is installed.
     pub fn pairwise(tk: &[u8; 16]) -> Self
@@ -150,26 +168,79 @@ impl DataKey {
         ensures same { OnErr result (self.new ≡ self.old) }
         ensures kept { OnErr result (out.new.acts ≡ out.old.acts) }
     {
-        let used = self.guard.used();
-        if used >= LAST_NUMBER {
-            out.reserve(1)?;
-            out.add(Act::Idle { why: Why::Spent });
-            return Ok(Outcome::Idle(Why::Spent));
+        if !self.has_next() {
+            return spent(out);
         }
+        self.send_next(here, to, tid, payload, out)
+    }
+
+    // Is there a packet number that was not used?
+    fn has_next(&self) -> bool
+        ensures { result ≡ nat_lt self.now.used last_number }
+    {
+        self.used() < LAST_NUMBER
+    }
+
+    // Sends a payload under the next packet number.
+    fn send_next(
+        &mut self,
+        here: Here<'_>,
+        to: Peer,
+        tid: Option<Tid>,
+        payload: &[u8],
+        out: &mut Outbox,
+    ) -> Result<Outcome, NoMemory>
+        requires listed { IsListed here.domain.now here.node }
+        requires receiver { IsReceiverOf here.domain.now here.node to }
+        requires short { length payload.now ≤ most_payload }
+        requires number { self.old.used < last_number }
+        ensures acts { OnOk result (out.new.acts ≡ out.old.acts
+            ++ Used to self.old.key (key_id self.old.role) (suc self.old.used) payload.now
+            ∷ sent_data here.entry.domain.now here.entry.node to tid self.old.key
+            (key_id self.old.role) (suc self.old.used) payload.now ∷ []) }
+        ensures outcome { IfOk result (λ came. came ≡ Done) }
+        ensures used { OnOk result (self.new ≡ with_next self.old) }
+        ensures same { OnErr result (self.new ≡ self.old) }
+        ensures kept { OnErr result (out.new.acts ≡ out.old.acts) }
+    {
         let header = header_to(here, to, tid);
         let header = header.as_slice();
-        let number = used + 1;
-        let plain = Vec::from_slice(here.alloc, payload)?;
-        let mut covered = cover(here.alloc, header, number, payload)?;
-        let mut frame = behind_header(here.alloc, header, payload.len() + OVERHEAD)?;
-        let seal = BoxedSeal::room(here.alloc)?;
+        let number = self.used() + 1;
         out.reserve(2)?;
-        append(&mut covered, payload);
+        let room = SendRoom::take(here.alloc, header, number, payload)?;
+        self.send_in(to, header, payload, room, out);
+        Ok(Outcome::Done)
+    }
+
+    // Sends it, in that room.
+    fn send_in(&mut self, to: Peer, header: &[u8], payload: &[u8], room: SendRoom, out: &mut Outbox)
+        requires header { IsHeader header.now }
+        requires number { self.old.used < last_number }
+        requires short { length payload.now ≤ most_payload }
+        requires frame { room.frame.items ≡ header.now ++ replicate (length payload.now + 16) 0 }
+        requires spare { 2 ≤ out.old.spare }
+        ensures acts { out.new.acts ≡ out.old.acts
+            ++ Used to self.old.key (key_id self.old.role) (suc self.old.used) room.plain.items
+            ∷ Sent to OfData (header.now ++ data_body self.old.key header.now
+            (key_id self.old.role) (suc self.old.used) payload.now)
+            (Some (seal_over room.covered.items self.old.key)) ∷ [] }
+        ensures used { self.new ≡ with_next self.old }
+    {
+        let SendRoom {
+            plain,
+            covered,
+            frame,
+            seal,
+        } = room;
+        let mut frame = frame;
+        let key = self.tk;
+        let id = self.key_id();
+        let number = self.used() + 1;
         self.protect(header, payload, &mut frame);
         out.add(Act::Used {
             peer: to,
-            key: self.tk,
-            id: self.key_id(),
+            key,
+            id,
             number,
             octets: Octets(plain),
         });
@@ -179,10 +250,9 @@ impl DataKey {
             octets: Octets(frame),
             seal: Some(seal.filled(Seal {
                 octets: Octets(covered),
-                key: self.tk,
+                key,
             })),
         });
-        Ok(Outcome::Done)
     }
 
     /// Takes protected data from that node: hands its payload up, or refuses it, and then the key
@@ -201,13 +271,31 @@ impl DataKey {
         ensures same { OnErr result (self.new ≡ self.old) }
         ensures kept { OnErr result (out.new.acts ≡ out.old.acts) }
     {
+        out.reserve(2)?;
+        let room = TakeRoom::take(alloc, octets, frame)?;
+        Ok(self.take_in(from, frame, room, out))
+    }
+
+    // Takes it, in that room.
+    fn take_in(
+        &mut self,
+        from: Node,
+        frame: &SealedData<'_>,
+        room: TakeRoom,
+        out: &mut Outbox,
+    ) -> Outcome
+        requires whole { IsSealedData (sealed_fields frame.now) }
+        requires room { IsRoomFor room.taken.items (sealed_fields frame.now) room }
+        requires spare { 2 ≤ out.old.spare }
+        ensures { IsOpenedUnder from room.taken.items (sealed_fields frame.now) self.old self.new
+            (seen out.old.acts out.new.acts result) }
+    {
         let TakeRoom {
             taken,
             plain,
             covered,
             seal,
-        } = TakeRoom::take(alloc, octets, frame)?;
-        out.reserve(2)?;
+        } = room;
         let mut plain = plain;
         match self.open(frame, &mut plain) {
             Ok(()) => {
@@ -218,19 +306,9 @@ impl DataKey {
                 };
                 let key = self.opened_under(frame.header.octets);
                 add_opened(from, taken, frame, key, opened, out);
-                Ok(Outcome::Accepted)
+                Outcome::Accepted
             }
-            Err(fault) => {
-                let outcome = Outcome::Refused(reason(fault));
-                out.add(Act::Took {
-                    from: Some(from),
-                    octets: Octets(taken),
-                    kind: Kind::Data,
-                    outcome,
-                    seal: None,
-                });
-                Ok(outcome)
-            }
+            Err(fault) => add_refused(from, taken, fault, out),
         }
     }
 
@@ -299,6 +377,7 @@ impl DataKey {
         requires frame { frame.old ≡ header.now ++ replicate (length payload.now + 16) 0 }
         ensures frame { frame.new ≡ header.now ++ data_body self.old.key header.now
             (key_id self.old.role) (suc self.old.used) payload.now }
+        ensures len { length frame.new ≡ length frame.old }
         ensures used { self.new ≡ with_next self.old }
     {
         let (_, body) = frame.split_at_mut(header.len());

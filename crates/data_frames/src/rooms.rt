@@ -57,6 +57,26 @@ pub fn cover(alloc: Global, header: &[u8], pn: u64, plain: &[u8]) -> Result<Vec<
     Ok(octets)
 }
 
+// What a seal of protected data is made of, before the plain text, with room for that, and the
+// memory for the seal.
+#[derive(Drop)]
+struct Sealing {
+    covered: Vec<u8>,
+    seal: BoxedSeal,
+}
+
+// They, for as many octets of plain text as these.
+fn seal_room(alloc: Global, header: &[u8], pn: u64, plain: &[u8]) -> Result<Sealing, NoMemory>
+    requires header { IsHeader header.now }
+    ensures items { IfOk result (λ room. room.covered.items ≡ covered_front header.now pn) }
+    ensures room { IfOk result
+        (λ room. vec_len room.covered + length plain.now ≤ vec_capacity room.covered) }
+{
+    let covered = cover(alloc, header, pn, plain)?;
+    let seal = BoxedSeal::room(alloc)?;
+    Ok(Sealing { covered, seal })
+}
+
 /// The memory for a payload that is handed up.
 #[derive(Drop)]
 pub struct Plain {
@@ -91,12 +111,54 @@ impl TakeRoom {
         let taken = Vec::from_slice(alloc, octets)?;
         let plain = zeros(alloc, size)?;
         let number = packet_number(frame.body);
-        let covered = cover(alloc, frame.header.octets, number, &plain)?;
-        let seal = BoxedSeal::room(alloc)?;
+        let sealing = seal_room(alloc, frame.header.octets, number, &plain)?;
+        let Sealing { covered, seal } = sealing;
         Ok(TakeRoom {
             taken,
             plain,
             covered,
+            seal,
+        })
+    }
+}
+
+/// The memory that the acts of sending protected data take.
+#[derive(Drop)]
+pub struct SendRoom {
+    /// The payload.
+    pub plain: Vec<u8>,
+    /// What the seal covers, behind its form.
+    pub covered: Vec<u8>,
+    /// The header, and as many zeros as the body has octets.
+    pub frame: Vec<u8>,
+    /// The memory for a seal.
+    pub seal: BoxedSeal,
+}
+
+impl SendRoom {
+    ghost use Rattle.ccmp_guard.specs.Ccmp.{sealed_octets};
+    ghost use Rattle.node_base.specs.Peers.{most_payload};
+
+    /// Takes it, for a frame with that header and packet number.
+    pub fn take(alloc: Global, header: &[u8], pn: u64, payload: &[u8]) -> Result<Self, NoMemory>
+        requires header { IsHeader header.now }
+        requires short { length payload.now ≤ most_payload }
+        ensures plain { IfOk result (λ room. room.plain.items ≡ payload.now) }
+        ensures covered { IfOk result
+            (λ room. room.covered.items ≡ 3 ∷ sealed_octets header.now pn payload.now) }
+        ensures frame { IfOk result
+            (λ room. room.frame.items ≡ header.now ++ replicate (length payload.now + 16) 0) }
+    {
+        let plain = Vec::from_slice(alloc, payload)?;
+        let frame = behind_header(alloc, header, payload.len() + OVERHEAD)?;
+        let sealing = seal_room(alloc, header, pn, payload)?;
+        let Sealing { covered, seal } = sealing;
+        let mut covered = covered;
+        append(&mut covered, payload);
+        Ok(SendRoom {
+            plain,
+            covered,
+            frame,
             seal,
         })
     }

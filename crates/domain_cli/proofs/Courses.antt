@@ -23,7 +23,7 @@ use Rattle.storm.specs.Events.{event_of}
 use Rattle.storm.specs.Header.{begun}
 use Rattle.storm.specs.Course.{Course, HasSeenAll, events_from, storm}
 use Rattle.domain_cli.specs.Storms.{all_events, network, rounds_of, IsStormFront, IsWholeStorm}
-use Rattle.domain_cli.specs.Courses.{IsListing, IsUnderWay, IsSoFar, IsFrontSoFar}
+use Rattle.domain_cli.specs.Courses.{IsListing, IsUnbegun, IsUnderWay, IsSoFar, IsFrontSoFar}
 use Rattle.domain_cli.specs.Script.{IsRun}
 use Rattle.domain_cli.proofs.Telling.{Rightly}
 use Rattle.domain_cli.proofs.Sizes.{event_in}
@@ -189,6 +189,9 @@ storm_front rightly number j f = record {
 -- of a storm before its first event
 abbrev pub First : ℕ → Course → Type 0
 First number s = s ≡ record { number = number; state = begun number; seen = 0; frames = [] }
+
+pub unbegun : (number : ℕ) (s : Course) → First number s → IsUnbegun s
+unbegun number s is = subst IsUnbegun (sym is) refl
 
 pub front_of : (rightly : Rightly) (number : ℕ) (s : Course) (j : List Entry) → First number s → IsFrontSoFar s.number j → IsStormFront number j
 front_of rightly number s j is f = storm_front rightly number j (subst (λ (x : Course). IsFrontSoFar x.number j) is f)

@@ -1,5 +1,6 @@
 -- What goes out at the end of a reading.
-use Rattle.std.proofs.Common.{◌≡◌, ℕ, List, ◌⊎◌, inl, inr, Result, Ok, Err, MatchResult, OnOk, OnErr, refl, sym, subst}
+use Rattle.std.proofs.Common.{◌≡◌, ℕ, List, ◌⊎◌, inl, inr, Option, Result, Ok, Err, MatchResult, OnOk, OnErr, refl, sym, subst}
+use Rattle.std.specs.Io.KnownBytes.{Appends}
 use Rattle.run_journal.specs.declared.acts.Entry.{Entry}
 use Rattle.run_journal.specs.Report.{lines}
 use Rattle.frame_script.specs.declared.refusal.Refusal.{Refusal}
@@ -12,11 +13,12 @@ use Rattle.frame_script.specs.declared.forms.Form.TheVariants.{End}
 use Rattle.frame_script.specs.declared.reader.LineFault.{LineFault}
 use Rattle.frame_script.specs.declared.reader.LineFault.TheVariants as numbered
 use Rattle.frame_script.specs.Refusals.{answer_of, fault_of}
-use Rattle.domain_cli.specs.declared.status.Status.TheVariants.{LinkFault, DrawFault}
+use Rattle.domain_cli.specs.declared.status.Status.TheVariants.{LinkFault, DrawFault, Usage, WriteFault}
+use Rattle.domain_cli.specs.declared.status.Status.TheVariants as status
 use Rattle.domain_cli.specs.declared.status.Stop.TheVariants as stops
 use Rattle.domain_cli.specs.Outer.{OnLinks, OnDraws}
 use Rattle.domain_cli.specs.Stops.{found_blame}
-use Rattle.domain_cli.specs.Story.{IsText, status_by, status_of}
+use Rattle.domain_cli.specs.Story.{IsText, Reports, status_by, status_of}
 
 -- without the whole script the text is of the lines alone
 abbrev pub IsNotWhole : Found → Type 0
@@ -87,3 +89,65 @@ blamed_draw (founds.Stopped (stops.Broken link.Failed)) e = absurd cc
 blamed_draw (founds.Stopped (stops.Broken link.NoMemory)) e = absurd cc
 blamed_draw (founds.Unended number refusal) e = absurd cc
 blamed_draw founds.ReadFault e = absurd cc
+
+-- ---- a reading whose text was all written
+
+no_write : (number : ℕ) (form : Form) (fault : LineFault) → status_by number form fault ≡ WriteFault → ⊥
+no_write number form (numbered.Script reason) e = cc
+no_write number form (numbered.Limit which) e = cc
+no_write number form numbered.NoMemory e = cc
+
+no_usage : (number : ℕ) (form : Form) (fault : LineFault) → status_by number form fault ≡ Usage → ⊥
+no_usage number form (numbered.Script reason) e = cc
+no_usage number form (numbered.Limit which) e = cc
+no_usage number form numbered.NoMemory e = cc
+
+no_read : (number : ℕ) (form : Form) (fault : LineFault) → status_by number form fault ≡ status.ReadFault → ⊥
+no_read number form (numbered.Script reason) e = cc
+no_read number form (numbered.Limit which) e = cc
+no_read number form numbered.NoMemory e = cc
+
+pub never_write : (found : Found) → status_of found ≡ WriteFault → ⊥
+never_write founds.Whole e = cc
+never_write (founds.Stopped (stops.Refused number refusal form)) e = no_write number form (answer_of (fault_of refusal)) e
+never_write (founds.Stopped stops.NoMemory) e = cc
+never_write (founds.Stopped stops.DrawFault) e = cc
+never_write (founds.Stopped (stops.Broken link.Failed)) e = cc
+never_write (founds.Stopped (stops.Broken link.NoMemory)) e = cc
+never_write (founds.Unended number refusal) e = no_write number End (answer_of (fault_of refusal)) e
+never_write founds.ReadFault e = cc
+
+pub never_usage : (found : Found) → status_of found ≡ Usage → ⊥
+never_usage founds.Whole e = cc
+never_usage (founds.Stopped (stops.Refused number refusal form)) e = no_usage number form (answer_of (fault_of refusal)) e
+never_usage (founds.Stopped stops.NoMemory) e = cc
+never_usage (founds.Stopped stops.DrawFault) e = cc
+never_usage (founds.Stopped (stops.Broken link.Failed)) e = cc
+never_usage (founds.Stopped (stops.Broken link.NoMemory)) e = cc
+never_usage (founds.Unended number refusal) e = no_usage number End (answer_of (fault_of refusal)) e
+never_usage founds.ReadFault e = cc
+
+pub read_alone : (found : Found) → status_of found ≡ status.ReadFault → found ≡ founds.ReadFault
+read_alone founds.Whole e = absurd cc
+read_alone (founds.Stopped (stops.Refused number refusal form)) e = absurd (no_read number form (answer_of (fault_of refusal)) e)
+read_alone (founds.Stopped stops.NoMemory) e = absurd cc
+read_alone (founds.Stopped stops.DrawFault) e = absurd cc
+read_alone (founds.Stopped (stops.Broken link.Failed)) e = absurd cc
+read_alone (founds.Stopped (stops.Broken link.NoMemory)) e = absurd cc
+read_alone (founds.Unended number refusal) e = absurd (no_read number End (answer_of (fault_of refusal)) e)
+read_alone founds.ReadFault e = refl
+
+reported_by : (found : Found) (number : ℕ) (form : Form) (fault : LineFault) (j : List Entry) (text : List ℕ) (old new : Option (List ℕ)) → status_of found ≡ status_by number form fault → Appends old new text → Reports found (status_by number form fault) j text old new
+reported_by found number form (numbered.Script reason) j text old new is out = (is, out)
+reported_by found number form (numbered.Limit which) j text old new is out = (is, out)
+reported_by found number form numbered.NoMemory j text old new is out = (is, out)
+
+pub reported : (found : Found) (j : List Entry) (text : List ℕ) (old new : Option (List ℕ)) → Appends old new text → Reports found (status_of found) j text old new
+reported founds.Whole j text old new out = (refl, out)
+reported (founds.Stopped (stops.Refused number refusal form)) j text old new out = reported_by (founds.Stopped (stops.Refused number refusal form)) number form (answer_of (fault_of refusal)) j text old new refl out
+reported (founds.Stopped stops.NoMemory) j text old new out = (refl, out)
+reported (founds.Stopped stops.DrawFault) j text old new out = (refl, out)
+reported (founds.Stopped (stops.Broken link.Failed)) j text old new out = (refl, out)
+reported (founds.Stopped (stops.Broken link.NoMemory)) j text old new out = (refl, out)
+reported (founds.Unended number refusal) j text old new out = reported_by (founds.Unended number refusal) number End (answer_of (fault_of refusal)) j text old new refl out
+reported founds.ReadFault j text old new out = (refl, out)

@@ -1,5 +1,5 @@
 -- A storm under way, beside its world and the journal.
-use Rattle.std.specs.Prelude.{◌≡◌, ◌≢◌, ℕ, ◌≤◌, List, length}
+use Rattle.std.specs.Prelude.{◌≡◌, ◌≢◌, ℕ, ◌≤◌, List, [], length}
 use Rattle.run_journal.specs.declared.acts.Entry.{Entry}
 use Rattle.domain_rules.specs.HeldRight.{AnsweredInTime}
 use Rattle.domain_rules.specs.Network.{InForm}
@@ -10,6 +10,10 @@ use Rattle.domain_world.specs.Owning.{Owns}
 use Rattle.storm.specs.Header.{begun}
 use Rattle.storm.specs.Course.{Course, HasSeen, events_from, storm}
 use Rattle.domain_cli.specs.Storms.{all_events, network, rounds_of}
+
+-- a storm before its first event
+abbrev pub IsUnbegun : Course → Type 0
+IsUnbegun s = s ≡ record { number = s.number; state = begun s.number; seen = 0; frames = [] }
 
 -- before any event: so many nodes are listed
 pub record IsListing (number aps stas : ℕ) (w : State) (j : List Entry) : Type 0 where

@@ -7,10 +7,10 @@ use crate::adapters::{StdinSource, StdoutSink};
 use crate::status::Status;
 use crate::top::run;
 use command_words::{Command, read_words};
-use domain_base::NoMemory;
+use domain_base::{NoMemory, Sink, Source};
 use loopback::{MachineRandom, OsDraws, UdpAir};
 use run_journal::Journal;
-use std::alloc::AllocGlobal;
+use std::alloc::{AllocGlobal, Global};
 use std::cell::Cell;
 use std::env::{self, Env};
 use std::io::{self, ErrorKind, Read, Write};
@@ -74,40 +74,70 @@ fn first_port(asked: Option<Command>) -> u16
     }
 }
 
-// Runs the command of the words between two streams, over sockets of this machine and with its
-// random source.
+// The words, as texts.
+fn texts(alloc: Global, owned: &[String]) -> Result<Vec<&str>, NoMemory> {
+    let mut words = Vec::new(alloc);
+    for word in owned {
+        match words.push(word.as_str()) {
+            Ok(()) => {}
+            Err(_) => return Err(NoMemory),
+        }
+    }
+    Ok(words)
+}
+
+// Runs the command of the words between a source and a sink, over sockets of this machine from
+// that port on and with its random source.
+fn run_over<R: Threads + Sync + Net + RandomSource + AllocGlobal, S: Source, K: Sink>(
+    rt: &R,
+    words: &[&str],
+    first_port: u16,
+    source: &mut S,
+    sink: &mut K,
+) -> Status {
+    let alloc = rt.alloc();
+    let access_points = Cell::new(0);
+    let mut air = UdpAir::new(rt, first_port, &access_points);
+    let mut draws = OsDraws::new(MachineRandom::new(rt));
+    let mut journal = Journal::new(alloc);
+    run(
+        rt,
+        alloc,
+        words,
+        source,
+        sink,
+        &mut air,
+        &mut draws,
+        &mut journal,
+    )
+}
+
+// Runs the command of the words between a source and a sink.
+fn run_words<R: Threads + Sync + Net + RandomSource + AllocGlobal, S: Source, K: Sink>(
+    rt: &R,
+    owned: &[String],
+    source: &mut S,
+    sink: &mut K,
+) -> Result<Status, NoMemory> {
+    let alloc = rt.alloc();
+    let Ok(words) = texts(alloc, owned) else {
+        return Err(NoMemory);
+    };
+    match read_words(alloc, &words) {
+        Ok(asked) => Ok(run_over(rt, &words, first_port(asked), source, sink)),
+        Err(_) => Err(NoMemory),
+    }
+}
+
+// Runs the command of the words between two streams.
 fn run_between<
     R: Threads + Sync + Net + RandomSource + AllocGlobal,
     I: Read + Drop,
     O: Write + Drop,
 >(rt: &R, owned: &[String], input: I, output: O) -> Result<Status, NoMemory> {
-    let alloc = rt.alloc();
-    let Ok(words) = owned
-        .iter()
-        .map(|word| word.as_str())
-        .collect::<Vec<&str>>(alloc)
-    else {
-        return Err(NoMemory);
-    };
-    let Ok(asked) = read_words(alloc, &words) else {
-        return Err(NoMemory);
-    };
-    let access_points = Cell::new(0);
-    let mut air = UdpAir::new(rt, first_port(asked), &access_points);
-    let mut draws = OsDraws::new(MachineRandom::new(rt));
     let mut source = StdinSource::new(input);
     let mut sink = StdoutSink::new(output);
-    let mut journal = Journal::new(alloc);
-    Ok(run(
-        rt,
-        alloc,
-        &words,
-        &mut source,
-        &mut sink,
-        &mut air,
-        &mut draws,
-        &mut journal,
-    ))
+    run_words(rt, owned, &mut source, &mut sink)
 }
 
 /// Runs the command that the program's words say between two streams, as `run` does; a live run

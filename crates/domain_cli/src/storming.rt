@@ -4,7 +4,7 @@ ghost use Rattle.std.specs.Prelude.{◌≡◌, ◌<◌, [], suc, length, slice_i
 ghost use Rattle.domain_base.specs.declared.names.Mac.{Mac as AnyMac};
 ghost use Rattle.run_journal.specs.declared.domain.ListedAp.{ListedAp as AnyAp};
 ghost use Rattle.storm.specs.Header.{domain_of};
-ghost use Rattle.domain_cli.specs.Courses.{IsFrontSoFar, IsListing, IsSoFar, IsUnderWay};
+ghost use Rattle.domain_cli.specs.Courses.{IsFrontSoFar, IsListing, IsSoFar, IsUnbegun, IsUnderWay};
 ghost use Rattle.domain_cli.specs.Storms.{IsStormFront, IsWholeStorm, all_events};
 
 use domain_base::{Mac, NoMemory, Octets};
@@ -36,9 +36,13 @@ fn begin(alloc: Global, storm: &Storm, domain: &Domain) -> Result<World, NoMemor
     requires { domain.now ≡ domain_of storm.now.number }
     ensures { IfOk result (λ w. IsListing storm.now.number 0 0 w []) }
 {
-    let header = header(alloc, domain)?;
-    let world = World::start(alloc, &header)?;
-    Ok(world)
+    let Ok(header) = header(alloc, domain) else {
+        return Err(NoMemory);
+    };
+    match World::start(alloc, &header) {
+        Ok(world) => Ok(world),
+        Err(_) => Err(NoMemory),
+    }
 }
 
 // The access point at that place.
@@ -185,22 +189,77 @@ fn run_events(
     Ok(())
 }
 
-// A storm before its first event, with all its nodes.
-#[tactic(auto, using(crate::proofs::Nodes::assembling))]
-fn assemble(alloc: Global, storm: &Storm, journal: &mut Journal) -> Result<World, NoMemory>
-    requires { journal.old.entries ≡ [] }
-    ensures listing { IfOk result (λ w. IsListing storm.now.number 4 8 w journal.new.entries) }
+// All nodes.
+fn list_nodes(
+    world: &mut World,
+    alloc: Global,
+    storm: &Storm,
+    domain: &Domain,
+    journal: &mut Journal,
+) -> Result<(), NoMemory>
+    requires network { domain.now ≡ domain_of storm.now.number }
+    requires listing { IsListing storm.now.number 0 0 world.old journal.old.entries }
+    ensures listing { OnOk result (IsListing storm.now.number 4 8 world.new journal.new.entries) }
     ensures front { OnErr result (IsFrontSoFar storm.now.number journal.new.entries) }
+{
+    match list_aps(world, alloc, storm, domain, journal) {
+        Ok(()) => list_stas(world, storm, domain, journal),
+        Err(_) => Err(NoMemory),
+    }
+}
+
+// Runs a storm in a world in which no node is listed yet.
+fn run_world(
+    world: &mut World,
+    alloc: Global,
+    storm: &mut Storm,
+    domain: &Domain,
+    journal: &mut Journal,
+) -> Result<(), NoMemory>
+    requires network { domain.now ≡ domain_of storm.old.number }
+    requires first { IsUnbegun storm.old }
+    requires listing { IsListing storm.old.number 0 0 world.old journal.old.entries }
+    ensures whole { OnOk result (IsSoFar storm.old.number 4 8 all_events journal.new.entries) }
+    ensures front { OnErr result (IsFrontSoFar storm.old.number journal.new.entries) }
+{
+    match list_nodes(world, alloc, storm, domain, journal) {
+        Ok(()) => run_events(world, alloc, storm, journal),
+        Err(_) => Err(NoMemory),
+    }
+}
+
+// Runs a storm in that network.
+#[tactic(auto, using(crate::proofs::Nodes::assembling))]
+fn run_in(
+    alloc: Global,
+    storm: &mut Storm,
+    domain: &Domain,
+    journal: &mut Journal,
+) -> Result<(), NoMemory>
+    requires network { domain.now ≡ domain_of storm.old.number }
+    requires first { IsUnbegun storm.old }
+    requires none { journal.old.entries ≡ [] }
+    ensures whole { OnOk result (IsSoFar storm.old.number 4 8 all_events journal.new.entries) }
+    ensures front { OnErr result (IsFrontSoFar storm.old.number journal.new.entries) }
+{
+    let Ok(mut world) = begin(alloc, storm, domain) else {
+        return Err(NoMemory);
+    };
+    run_world(&mut world, alloc, storm, domain, journal)
+}
+
+// Runs a storm that is before its first event.
+#[tactic(auto, using(crate::proofs::Nodes::assembling))]
+fn run_from(alloc: Global, storm: &mut Storm, journal: &mut Journal) -> Result<(), NoMemory>
+    requires first { IsUnbegun storm.old }
+    requires none { journal.old.entries ≡ [] }
+    ensures whole { OnOk result (IsSoFar storm.old.number 4 8 all_events journal.new.entries) }
+    ensures front { OnErr result (IsFrontSoFar storm.old.number journal.new.entries) }
 {
     let Ok(domain) = storm.domain(alloc) else {
         return Err(NoMemory);
     };
-    let Ok(mut world) = begin(alloc, storm, &domain) else {
-        return Err(NoMemory);
-    };
-    list_aps(&mut world, alloc, storm, &domain, journal)?;
-    list_stas(&mut world, storm, &domain, journal)?;
-    Ok(world)
+    run_in(alloc, storm, &domain, journal)
 }
 
 /// Runs the storm of that number, or where memory is wanted a front of it.
@@ -211,10 +270,7 @@ pub fn run_storm(alloc: Global, number: u32, journal: &mut Journal) -> Result<()
 {
     looks_are_right();
     let mut storm = Storm::new(alloc, number);
-    let Ok(mut world) = assemble(alloc, &storm, journal) else {
-        return Err(NoMemory);
-    };
-    match run_events(&mut world, alloc, &mut storm, journal) {
+    match run_from(alloc, &mut storm, journal) {
         Ok(()) => Ok(()),
         Err(_) => Err(NoMemory),
     }

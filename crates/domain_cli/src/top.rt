@@ -136,8 +136,7 @@ fn write_storm<K: Sink>(sink: &mut K, journal: &Journal) -> Result<(), Failed>
     ensures unfailed { OnOk result (K.faults sink.new ≡ K.faults sink.old) }
 {
     let entries = journal.entries();
-    let premises = journal.premises();
-    write_summary(sink, entries, premises)
+    write_summary(sink, entries, journal.premises())
 }
 
 // Runs the storm of that number, and writes its summary.

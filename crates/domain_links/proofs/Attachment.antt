@@ -1,7 +1,7 @@
 -- One more link attached, and networks with one more node.
-use Rattle.std.proofs.Common.{◌≡◌, ◌≢◌, ℕ, ◌<◌, ◌≤◌, ◌⊎◌, List, [], ◌∷◌, ◌++◌, length, Option, Some, refl, sym, ap, subst, ◌∙◌, arith, get_or, inl, inr}
+use Rattle.std.proofs.Common.{◌≡◌, ◌≢◌, ℕ, ◌<◌, ◌≤◌, ◌⊎◌, List, [], ◌∷◌, ◌++◌, length, Option, Some, refl, sym, ap, subst, ◌∙◌, arith, get_or, map, inl, inr}
 use Rattle.std.proofs.lemmas.Grind.{common_steps}
-use Rattle.std.proofs.lemmas.List.{length-append, get_or_push, get_or_append_left}
+use Rattle.std.proofs.lemmas.List.{length-append, map-append, get_or_push, get_or_append_left}
 use Rattle.std.proofs.lemmas.Bool.{cases_lt}
 use Rattle.domain_base.specs.declared.names.Mac.{Mac}
 use Rattle.domain_base.specs.declared.names.Node.{Node}
@@ -48,6 +48,15 @@ Attached-more told d start links link n node old new e is h a =
     let at : node ≡ node_at d (length links) = is ∙ ap (node_at d) e in
     let t = Attaches-told a.now new (node_at d (length links)) (told link) (subst (λ (m : Node). Attaches (Some a.now) new m (told link)) at (subst (λ (o : Option AirStory). Attaches o new node (told link)) a.is h)) in
     begun told d start a.now t.0 links link t.1 new t.2 t.3 t.4 a.frames a.returned a.tell
+
+-- the same of links that were kept, and then had one more behind them
+pub Attached-pushed : {L : Type 0} (told : L → Option LinkStory) (d : Domain) (start : AirStory) (links kept more : List L) (link : L) (node : Node) (old new : Option AirStory) → kept ≡ links → more ≡ kept ++ link ∷ [] → node ≡ node_at d (length kept) → Attaches old new node (told link) → Attached told d start links old → Attached told d start more new
+Attached-pushed told d start links kept more link node old new same push is h a =
+    subst (λ (w : List _). Attached told d start w new) (sym (push ∙ ap (λ (w : List _). w ++ link ∷ []) same)) (Attached-more told d start links link (length kept) node old new (ap length same) is h a)
+
+pub faults_pushed : {L : Type 0} (faults : L → ℕ) (links kept more : List L) (link : L) → kept ≡ links → more ≡ kept ++ link ∷ [] → faults link ≡ 0 → map faults more ≡ map faults links ++ 0 ∷ []
+faults_pushed faults links kept more link same push e =
+    ap (map faults) (push ∙ ap (λ (w : List _). w ++ link ∷ []) same) ∙ map-append faults links (link ∷ []) ∙ ap (λ (n : ℕ). map faults links ++ n ∷ []) e
 
 -- nothing changed
 pub Attached-same : {L : Type 0} (told : L → Option LinkStory) (d : Domain) (start : AirStory) (links : List L) (old new : Option AirStory) → new ≡ old → Attached told d start links old → Attached told d start links new

@@ -5,13 +5,23 @@ ghost use Rattle.std.specs.Prelude.{length, map};
 ghost use Rattle.domain_base.specs.Causes.{Rose, HasLinkCause};
 ghost use Rattle.domain_base.specs.Told.{AirStory};
 ghost use Rattle.domain_base.specs.declared.outside.LinkError.TheVariants as error;
-ghost use Rattle.domain_links.specs.NodeOrder.{count};
+ghost use Rattle.domain_links.specs.NodeOrder.{count, node_at};
 ghost use Rattle.domain_links.specs.Telling.{HasFailed, NoneFailed};
 ghost use Rattle.domain_links.specs.Attached.{Attached, TakenBack};
 
 use crate::node_order::node_at;
-use domain_base::{Air, LinkError};
+use domain_base::{Air, LinkError, Node};
 use run_journal::Domain;
+
+// The node behind those that have links.
+fn next_node<L: Drop>(domain: &Domain, links: &Vec<L>) -> Node
+    requires next { length links.now.items < count domain.now }
+    requires aps { length domain.now.aps ≤ 65536 }
+    requires stas { length domain.now.stas ≤ 65536 }
+    ensures { result ≡ node_at domain.now (length links.now.items) }
+{
+    node_at(domain, links.len())
+}
 
 /// Attaches the node behind those that have links, and puts its link behind theirs.
 ///
@@ -40,7 +50,7 @@ pub fn attach_next<A: Air>(
         Ok(()) => {}
         Err(_) => return Err(LinkError::NoMemory),
     }
-    match air.attach(node_at(domain, links.len())) {
+    match air.attach(next_node(domain, links)) {
         Ok(link) => {
             links.push_reserved(link);
             Ok(())

@@ -1,13 +1,20 @@
 -- The octets of a frame that was sent, changed or cut.
-use Rattle.std.proofs.Common.{◌≡◌, ℕ, zero, suc, ◌<◌, ◌≤◌, ◌+◌, List, [], ◌∷◌, ◌++◌, length, take, drop, refl, sym, ap, ◌∙◌, arith}
+use Rattle.std.proofs.Common.{◌≡◌, ℕ, zero, suc, ◌<◌, ◌≤◌, ◌+◌, List, [], ◌∷◌, ◌++◌, length, take, drop, refl, sym, ap, subst, ◌∙◌, arith}
 use Rattle.std.specs.Prelude.{slice_set, slice_index_or, slice_index, bit_xor}
 use Rattle.std.proofs.lemmas.List.{length-take-le}
 use Rattle.std.proofs.lemmas.Grind.{get_or_default_zero}
+use Rattle.domain_base.specs.declared.names.Node.{Node}
+use Rattle.run_journal.specs.declared.domain.Event.{Event}
+use Rattle.run_journal.specs.declared.domain.Event.TheVariants.{Alter}
 use Rattle.run_journal.specs.declared.acts.Entry.{Entry}
-use Rattle.domain_rules.specs.Explained.{altered, WasSent}
+use Rattle.domain_rules.specs.Explained.{altered, WasSent, HappensAt}
+use Rattle.domain_rules.specs.Rounds.{node_of}
+use Rattle.domain_rules.specs.Rows.{Take}
 use Rattle.domain_rules.proofs.Journals as rules
 use Rattle.domain_world.specs.State.{State}
 use Rattle.domain_world.specs.Owning.{IsNumbered, HasOctets, Places}
+use Rattle.domain_world.specs.Acting.{IsChanged}
+use Rattle.domain_world.specs.Comings.{event_at}
 
 -- ---- no two frames have one number
 
@@ -45,3 +52,8 @@ set_altered frame copy place mask x is low at =
 
 pub cut_length : (frame : List ℕ) (size : ℕ) → size ≤ length frame → size ≡ length (take size frame)
 cut_length frame size low = sym (length-take-le size frame low)
+
+-- ---- what comes by an event that changes an octet
+
+pub comes_changed : (event : Event) (j : List Entry) (round number place mask : ℕ) (to : Node) (changed : List ℕ) → event ≡ Alter number place mask to → IsChanged event j round changed → HappensAt event j round (node_of event) (event_at event changed)
+comes_changed event j round number place mask to changed is = subst (λ (e : Event). IsChanged e j round changed → HappensAt e j round (node_of e) (event_at e changed)) (sym is) (λ held. (held.0, (held.1.0, (refl, ap Take held.1.1))))

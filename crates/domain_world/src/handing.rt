@@ -29,6 +29,24 @@ use run_journal::{Domain, Outcome};
 use station_node::StationNode;
 use std::alloc::Global;
 
+// The same event once more, to be given away.
+fn once_more<'a>(event: &NodeEvent<'a>) -> NodeEvent<'a>
+    ensures { event_of result ≡ event_of event.now }
+{
+    match *event {
+        NodeEvent::Take(octets) => NodeEvent::Take(octets),
+        NodeEvent::Connect(ap) => NodeEvent::Connect(ap),
+        NodeEvent::Roam(ap) => NodeEvent::Roam(ap),
+        NodeEvent::Retry(sta) => NodeEvent::Retry(sta),
+        NodeEvent::Rekey => NodeEvent::Rekey,
+        NodeEvent::Send(to, Some(tid), payload) => NodeEvent::Send(to, Some(tid), payload),
+        NodeEvent::Send(to, None, payload) => NodeEvent::Send(to, None, payload),
+        NodeEvent::Expire(sta) => NodeEvent::Expire(sta),
+        NodeEvent::Revoke(sta) => NodeEvent::Revoke(sta),
+        NodeEvent::Leave => NodeEvent::Leave,
+    }
+}
+
 // One event at an access point, which has these key holders.
 fn step_ap<H: Holders>(
     ap: &mut ApNode,
@@ -64,25 +82,11 @@ fn step_ap<H: Holders>(
     ensures no_less { H.no_less holders.old holders.new }
 {
     match *event {
-        NodeEvent::Take(octets) => ap.step(alloc, domain, NodeEvent::Take(octets), holders, out),
-        NodeEvent::Retry(sta) => ap.step(alloc, domain, NodeEvent::Retry(sta), holders, out),
-        NodeEvent::Rekey => ap.step(alloc, domain, NodeEvent::Rekey, holders, out),
         NodeEvent::Send(to, Some(tid), payload) => {
             let event = NodeEvent::Send(to, Some(tid), payload);
             ap.step(alloc, domain, event, holders, out)
         }
-        NodeEvent::Send(to, None, payload) => {
-            ap.step(
-                alloc,
-                domain,
-                NodeEvent::Send(to, None, payload),
-                holders,
-                out,
-            )
-        }
-        NodeEvent::Expire(sta) => ap.step(alloc, domain, NodeEvent::Expire(sta), holders, out),
-        NodeEvent::Revoke(sta) => ap.step(alloc, domain, NodeEvent::Revoke(sta), holders, out),
-        NodeEvent::Connect(_) | NodeEvent::Roam(_) | NodeEvent::Leave => unreachable!(),
+        _ => ap.step(alloc, domain, once_more(event), holders, out),
     }
 }
 
@@ -173,17 +177,9 @@ pub(crate) fn step_station(
     ensures kept { OnErr result (out.new.acts ≡ out.old.acts) }
 {
     match *event {
-        NodeEvent::Take(octets) => station.step(alloc, domain, NodeEvent::Take(octets), out),
-        NodeEvent::Connect(ap) => station.step(alloc, domain, NodeEvent::Connect(ap), out),
-        NodeEvent::Roam(ap) => station.step(alloc, domain, NodeEvent::Roam(ap), out),
         NodeEvent::Send(to, Some(tid), payload) => {
             station.step(alloc, domain, NodeEvent::Send(to, Some(tid), payload), out)
         }
-        NodeEvent::Send(to, None, payload) => {
-            station.step(alloc, domain, NodeEvent::Send(to, None, payload), out)
-        }
-        NodeEvent::Leave => station.step(alloc, domain, NodeEvent::Leave, out),
-        NodeEvent::Retry(_) | NodeEvent::Rekey => unreachable!(),
-        NodeEvent::Expire(_) | NodeEvent::Revoke(_) => unreachable!(),
+        _ => station.step(alloc, domain, once_more(event), out),
     }
 }

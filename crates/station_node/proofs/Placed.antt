@@ -18,6 +18,7 @@ use Rattle.group_key.specs.Keys.{Kept}
 use Rattle.frame_intake.specs.declared.delivered.Heard.{Heard}
 use Rattle.frame_intake.specs.Views.{message_fields}
 use Rattle.supplicant.specs.State.{State as Supplicant, both}
+use Rattle.ft_exchange.specs.State.{OriginatorState}
 use Rattle.station_node.specs.declared.attempt.Attempt.{Attempt}
 use Rattle.station_node.specs.declared.attempt.Association.{Association}
 use Rattle.station_node.specs.declared.attempt.Association.TheVariants.{Requested, Accepted, Moving}
@@ -69,6 +70,24 @@ finished_places o b x y a old new k memories i ks is has places none there =
       tried = subst (λ (z : Option Attempt). HasPlaceTried z (slice_set memories i ks)) (sym none) tt;
       held = subst (λ (z : Option Session). HasPlaceHeld z (slice_set memories i ks)) (sym there) (omega (arith, more, low));
     }
+
+-- of the attempt whose originator took a reassociation response
+moving_place : (o : Option Attempt) (a : Attempt) (old : OriginatorState) (memories : List (List Kept)) → o ≡ Some a → a.association ≡ Moving old → HasPlaceTried o memories → a.ap < length memories
+moving_place o a old memories is has place = subst (λ (x : Association). HasPlace a.ap x memories) has (subst (λ (y : Option Attempt). HasPlaceTried y memories) is place)
+
+pub moving_places : (o : Option Attempt) (x : Option Session) (a : Attempt) (old new : OriginatorState) (memories : List (List Kept)) (i : ℕ) (ks : List Kept) → o ≡ Some a → a.association ≡ Moving old → HavePlaces o x memories
+    → HavePlaces (Some (record { ap = a.ap; association = Moving new })) x (slice_set memories i ks)
+moving_places o x a old new memories i ks is has places =
+    let more = same_length memories i ks in
+    let low = moving_place o a old memories is has places.tried in
+    record { tried = omega (arith, more, low); held = held_stays x memories (slice_set memories i ks) more places.held }
+
+pub arrived_places : (o : Option Attempt) (x : Option Session) (a : Attempt) (old : OriginatorState) (z : Session) (p : ℕ) (memories : List (List Kept)) (i : ℕ) (ks : List Kept) → o ≡ Some a → a.association ≡ Moving old → a.ap ≡ p → z.ap ≡ p → HavePlaces o x memories
+    → HavePlaces None (Some z) (slice_set memories i ks)
+arrived_places o x a old z p memories i ks is has here there places =
+    let more = same_length memories i ks in
+    let low = subst (λ (q : ℕ). q < length memories) (here ∙ sym there) (moving_place o a old memories is has places.tried) in
+    record { tried = tt; held = omega (arith, more, low) }
 
 -- and of such a session
 pub held_place : (o : Option Session) (x : Session) (memories : List (List Kept)) → o ≡ Some x → HasPlaceHeld o memories → x.ap < length memories

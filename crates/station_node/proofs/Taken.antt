@@ -78,6 +78,10 @@ pub takes_steps : {E : Type 0} (d : Domain) (event : NodeEvent) (t : Turn) (r : 
 takes_steps d event t (Ok came) taken = taken.steps
 takes_steps d event t (Err e) left = tt
 
+pub takes_event : {E : Type 0} (d : Domain) (event asked : NodeEvent) (t : Turn) (r : Result Outcome E) → asked ≡ event → Takes d event t r
+    → IfOk r (λ o. (first : ℕ) (h : List Act) → Stands d first t.old h → Steps (here d first (Sta t.old.number)) asked (Stands d first t.new) h (seen t.waited t.waits o))
+takes_event d event asked t r is taken = subst (λ (e : NodeEvent). IfOk r (λ o. (first : ℕ) (h : List Act) → Stands d first t.old h → Steps (here d first (Sta t.old.number)) e (Stands d first t.new) h (seen t.waited t.waits o))) (sym is) (takes_steps d event t r taken)
+
 pub takes_refused : {E : Type 0} (d : Domain) (event : NodeEvent) (t : Turn) (r : Result Outcome E) → Takes d event t r → IfOk r (λ o. (why : Reason) → o ≡ Refused why → t.new ≡ t.old)
 takes_refused d event t (Ok came) taken = taken.refused
 takes_refused d event t (Err e) left = tt

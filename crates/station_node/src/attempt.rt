@@ -4,7 +4,7 @@ ghost use Rattle.std.specs.Prelude.{◌≡◌, ◌<◌, ◌≤◌, ◌+◌, ◌+
 ghost use Rattle.domain_base.specs.declared.names.Node.TheVariants.{Ap};
 ghost use Rattle.run_journal.specs.declared.acts.Act.TheVariants.{Opened, Drew};
 ghost use Rattle.run_journal.specs.declared.acts.Drawn.TheVariants.{Nonce};
-ghost use Rattle.run_journal.specs.declared.acts.Start.TheVariants.{Roam};
+ghost use Rattle.run_journal.specs.declared.acts.Start.TheVariants.{Connect, Roam};
 ghost use Rattle.domain_rules.specs.Closing.{close_pending};
 
 use crate::session::Session;
@@ -68,6 +68,22 @@ impl Attempt {
                 part: Part::Attempt,
             });
         }
+    }
+
+    /// The beginning of an attempt with that access point, with that nonce.
+    pub fn connect(ap: u16, snonce: [u8; 32], out: &mut Outbox)
+        requires { 2 ≤ out.old.spare }
+        ensures acts { out.new.acts
+            ≡ (out.old.acts ++ Opened (Ap ap) Connect ∷ []) ++ Drew (Nonce snonce) ∷ [] }
+        ensures spare { out.old.spare ≤ out.new.spare + 2 }
+    {
+        out.add(Act::Opened {
+            peer: Node::Ap(ap),
+            start: Start::Connect,
+        });
+        out.add(Act::Drew {
+            value: Drawn::Nonce(snonce),
+        });
     }
 
     /// The beginning of a fast transition to that access point, with that nonce.

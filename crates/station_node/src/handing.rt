@@ -46,7 +46,7 @@ pub fn hand(
     ensures same { OnErr result ((supplicant.new ≡ supplicant.old) × (memory.new ≡ memory.old)) }
     ensures kept { OnErr result (out.new.acts ≡ out.old.acts) }
 {
-    let message = heard.message;
+    let message = &heard.message;
     out.reserve(7)?;
     let room = Room::take(here, Node::Ap(ap), supplicant.r0kh_id(), heard)?;
     let mut reply = Reply::empty();

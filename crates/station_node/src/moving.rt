@@ -59,14 +59,13 @@ pub fn answer(
     ensures same { OnErr result (originator.new ≡ originator.old) }
     ensures kept { OnErr result (out.new.acts ≡ out.old.acts) }
 {
-    let (octets, elements) = (managed.octets, managed.elements);
-    let status = managed.frame.status;
-    let peer = Node::Ap(way.ap);
+    let (octets, status) = (managed.octets, managed.frame.status);
+    let (peer, elements) = (Node::Ap(way.ap), &managed.elements);
     let frame = Reassociation::Response;
     out.reserve(3)?;
-    let room = TransitionRoom::take(here, peer, octets, &elements, frame, way.r0kh_id)?;
+    let room = TransitionRoom::take(here, peer, octets, elements, frame, way.r0kh_id)?;
     let mut reply = Reply::empty();
-    let outcome = originator.on_auth(status, &elements, &mut reply);
+    let outcome = originator.on_auth(status, elements, &mut reply);
     room.add_auth_response(outcome, &reply, out);
     Ok(outcome)
 }
@@ -92,14 +91,13 @@ pub fn arrive(
     ensures same { OnErr result ((originator.new ≡ originator.old) × (memory.new ≡ memory.old)) }
     ensures kept { OnErr result (out.new.acts ≡ out.old.acts) }
 {
-    let (octets, elements) = (managed.octets, managed.elements);
-    let status = managed.frame.status;
-    let peer = Node::Ap(way.ap);
+    let (octets, status) = (managed.octets, managed.frame.status);
+    let (peer, elements) = (Node::Ap(way.ap), &managed.elements);
     let frame = Reassociation::Response;
     out.reserve(5)?;
-    let room = TransitionRoom::take(here, peer, octets, &elements, frame, way.r0kh_id)?;
+    let room = TransitionRoom::take(here, peer, octets, elements, frame, way.r0kh_id)?;
     let mut reply = Reply::empty();
-    let outcome = originator.on_reassoc(status, &elements, memory, &mut reply);
+    let outcome = originator.on_reassoc(status, elements, memory, &mut reply);
     room.add_reassoc_response(outcome, way.left, &reply, out);
     let installed = reply.installed;
     Ok(Arrival { outcome, installed })

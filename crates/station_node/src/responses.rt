@@ -1,7 +1,7 @@
 //! Association responses by what they say.
 
 ghost use Rattle.std.specs.Prelude.{◌≡◌, ◌<◌, ◌≤◌, ◌+◌, length, slice_index, Some, is_some};
-ghost use Rattle.std.specs.Prelude.{option_map};
+ghost use Rattle.std.specs.Prelude.{option_map, ◌++◌, ◌∷◌, [], ℕ, None, OnOk, OnErr, vec_len};
 ghost use Rattle.std.specs.Option.{option_copied};
 ghost use Rattle.domain_base.specs.declared.names.Akm.TheVariants.{FtPsk};
 ghost use Rattle.domain_base.specs.declared.names.Node.TheVariants.{Ap};
@@ -10,12 +10,20 @@ ghost use Rattle.rsn_elements.specs.Fields.{fte_fields, mde_fields, element_fiel
 ghost use Rattle.domain_rules.specs.Facts.{is_same};
 ghost use Rattle.domain_rules.specs.Associating.{response_fields};
 ghost use Rattle.domain_rules.specs.FastTransition.{mde_status, names_r1kh};
+ghost use Rattle.run_journal.specs.declared.acts.Act.TheVariants.{Took};
+ghost use Rattle.run_journal.specs.declared.acts.Kind.TheVariants.{AssocResp};
+ghost use Rattle.run_journal.specs.declared.acts.Outcome.TheVariants.{Accepted};
+ghost use Rattle.station_node.specs.State.{memory_at};
 ghost use Rattle.station_node.specs.Responses.{outcome_by, response_outcome, fte_with};
 
-use domain_base::{Akm, Mac, Node};
+use crate::memories::make_place;
+use act_memory::Outbox;
+use domain_base::{Akm, Mac, NoMemory, Node, Octets};
+use group_key::GroupMemory;
 use node_base::address;
 use rsn_elements::{Elements, Fte, Mde};
-use run_journal::{Domain, Reason};
+use run_journal::{Act, Domain, Kind, Outcome, Reason};
+use std::alloc::Global;
 
 // The status of a mobility domain element that is missing or of another domain, and of an FTE that
 // is missing or other (IEEE Std 802.11-2020, 9.4.1.9).
@@ -114,6 +122,42 @@ fn whole_element(element: &[u8]) -> &[u8]
     let body = usize::from(element[1]);
     let (whole, _) = element.split_at(body + 2);
     whole
+}
+
+// An association response of that access point, of these octets, came and was accepted.
+fn took_response(ap: u16, octets: Vec<u8>) -> Act
+    ensures { result ≡ Took (Some (Ap ap)) octets.items AssocResp Accepted None }
+{
+    Act::Took {
+        from: Some(Node::Ap(ap)),
+        octets: Octets(octets),
+        kind: Kind::AssocResp,
+        outcome: Outcome::Accepted,
+        seal: None,
+    }
+}
+
+/// Makes a place for the access point, whose association response, these octets, is accepted.
+pub fn take_accepted(
+    alloc: Global,
+    ap: u16,
+    octets: &[u8],
+    memories: &mut Vec<GroupMemory>,
+    out: &mut Outbox,
+) -> Result<(), NoMemory>
+    ensures acts { OnOk result (out.new.acts ≡ out.old.acts
+        ++ Took (Some (Ap ap)) octets.now AssocResp Accepted None ∷ []) }
+    ensures kept { OnErr result (out.new.acts ≡ out.old.acts) }
+    ensures place { OnOk result (ap < vec_len memories.new) }
+    ensures same { (k : ℕ) → memory_at memories.new.items k ≡ memory_at memories.old.items k }
+    ensures more { length memories.old.items ≤ length memories.new.items }
+    ensures err { OnErr result (memories.new.items ≡ memories.old.items) }
+{
+    out.reserve(1)?;
+    let octets = Vec::from_slice(alloc, octets)?;
+    make_place(memories, ap)?;
+    out.add(took_response(ap, octets));
+    Ok(())
 }
 
 /// The FTE of an association response with suite 4, as a whole element, and with the others

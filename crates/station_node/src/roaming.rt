@@ -1,15 +1,35 @@
-//! Whether a station roams.
+//! Whether a station roams, and how it begins to.
 
-ghost use Rattle.std.specs.Prelude.{◌≡◌, ◌<◌, ◌≤◌, ◌++◌, ◌∷◌, [], IfOk, OnOk, OnErr, false, true};
+ghost use Rattle.std.specs.Prelude.{◌≡◌, ◌<◌, ◌≤◌, ◌++◌, ◌∷◌, [], IfOk, OnErr, false, true};
 ghost use Rattle.run_journal.specs.declared.acts.Act.TheVariants.{Idle};
 ghost use Rattle.run_journal.specs.declared.acts.Outcome.TheVariants.{Idle as IdleBy};
-ghost use Rattle.station_node.specs.Parts.{roams_from, CanRoam};
+ghost use Rattle.std.specs.Prelude.{ℕ, length, OnOk, vec_len};
+ghost use Rattle.domain_base.specs.declared.names.Akm.{Akm as AnyAkm};
+ghost use Rattle.domain_base.specs.declared.names.Node.TheVariants.{Ap, Sta};
+ghost use Rattle.run_journal.specs.declared.acts.Act.TheVariants.{Opened, Drew};
+ghost use Rattle.run_journal.specs.declared.acts.Drawn.TheVariants.{Nonce};
+ghost use Rattle.run_journal.specs.declared.acts.Start.TheVariants.{Roam};
+ghost use Rattle.run_journal.specs.declared.reply.Reply.{Reply};
+ghost use Rattle.key_hierarchy.specs.Sizes.{IsSsid};
+ghost use Rattle.domain_rules.specs.Closing.{close_pending};
+ghost use Rattle.domain_rules.specs.Network.{IsListed};
+ghost use Rattle.node_base.specs.Peers.{IsPeerOf};
+ghost use Rattle.ft_exchange.specs.OriginatorSteps.{IsBegun};
+ghost use Rattle.ft_exchange.specs.Told.{transition_sent};
+ghost use Rattle.transition_acts.specs.Rooms.{IsSendRoom};
+ghost use Rattle.station_node.specs.State.{memory_at};
+ghost use Rattle.station_node.specs.Parts.{peer_of_attempt, roams_from, CanRoam};
 
+use crate::attempt::Attempt;
+use crate::memories::make_place;
 use crate::session::Session;
 use act_memory::Outbox;
-use domain_base::NoMemory;
-use node_base::DRAW_END;
-use run_journal::{Act, Domain, Outcome, Why};
+use domain_base::{NoMemory, Node};
+use ft_exchange::Originator;
+use group_key::GroupMemory;
+use node_base::{DRAW_END, Here};
+use run_journal::{Act, Domain, Outcome, Reply, Why};
+use transition_acts::TransitionSend;
 
 // The octets of an R0KH-ID at most (IEEE Std 802.11-2020, 9.4.2.47).
 const MOST_R0KH_ID: usize = 48;
@@ -38,6 +58,85 @@ pub fn can_roam(domain: &Domain, current: u16, r0kh_id: &[u8]) -> bool
 {
     let listed = usize::from(current) < domain.aps.0.len();
     listed && !r0kh_id.is_empty() && r0kh_id.len() <= MOST_R0KH_ID
+}
+
+/// Takes the memory for a fast transition to that access point, and makes a place for it.
+pub fn reserve_transition(
+    here: Here<'_>,
+    ap: u16,
+    memories: &mut Vec<GroupMemory>,
+    out: &mut Outbox,
+) -> Result<TransitionSend, NoMemory>
+    requires listed { IsListed here.domain.now here.node }
+    requires peer { IsPeerOf here.domain.now here.node (Ap ap) }
+    requires ssid { IsSsid here.domain.now.ssid }
+    ensures room { IfOk result (λ send.
+        IsSendRoom here.entry.domain.now here.entry.node (Ap ap) send) }
+    ensures spare { OnOk result (4 ≤ out.new.spare) }
+    ensures acts { out.new.acts ≡ out.old.acts }
+    ensures place { OnOk result (ap < vec_len memories.new) }
+    ensures same { (k : ℕ) → memory_at memories.new.items k ≡ memory_at memories.old.items k }
+    ensures more { length memories.old.items ≤ length memories.new.items }
+    ensures err { OnErr result (memories.new.items ≡ memories.old.items) }
+{
+    out.reserve(4)?;
+    let send = TransitionSend::take(here, Node::Ap(ap))?;
+    make_place(memories, ap)?;
+    Ok(send)
+}
+
+/// A fast transition that a station begins.
+#[derive(Clone, Copy)]
+pub struct Transition<'a> {
+    /// The number of the station.
+    pub sta: u16,
+    /// The access point to which it leads.
+    pub ap: u16,
+    /// The access point of the session, from which it leads.
+    pub current: u16,
+    /// The R0KH-ID that its keys go back to.
+    pub r0kh_id: &'a [u8],
+    /// The SNonce drawn for it.
+    pub snonce: &'a [u8; 32],
+}
+
+impl Transition<'_> {
+    /// Ends the attempt, where there is one, and sends the authentication request.
+    pub fn begin(
+        &self,
+        domain: &Domain,
+        attempt: &Option<Attempt>,
+        send: TransitionSend,
+        out: &mut Outbox,
+    ) -> Originator
+        requires suite { domain.now.akm ≡ AnyAkm.FtPsk }
+        requires ssid { IsSsid domain.now.ssid }
+        requires sta { self.now.sta < length domain.now.stas }
+        requires ap { self.now.ap < length domain.now.aps }
+        requires can { CanRoam domain.now self.now.current self.now.r0kh_id.now }
+        requires room { IsSendRoom domain.now (Sta self.now.sta) (Ap self.now.ap) send }
+        requires spare { 4 ≤ out.old.spare }
+        ensures { (reply : Reply)
+            × IsBegun domain.now (Sta self.now.sta) (Ap self.now.ap) (Ap self.now.current)
+            self.now.r0kh_id.now self.now.snonce.now result reply
+            × (out.new.acts ≡ ((out.old.acts ++ close_pending (peer_of_attempt attempt.now))
+            ++ Opened (Ap self.now.ap) Roam ∷ Drew (Nonce self.now.snonce.now) ∷ [])
+            ++ transition_sent domain.now (Sta self.now.sta) (Ap self.now.ap) reply) }
+    {
+        let Transition {
+            sta,
+            ap,
+            current,
+            r0kh_id,
+            snonce,
+        } = *self;
+        let mut reply = Reply::empty();
+        let originator = Originator::roam(domain, sta, ap, current, r0kh_id, snonce, &mut reply);
+        Attempt::leave(attempt, out);
+        Attempt::roam(ap, *snonce, out);
+        send.add_sent(&reply, out);
+        originator
+    }
 }
 
 /// Nothing was done.

@@ -1,7 +1,7 @@
 //! A station's state, and what each event does to it.
 
-ghost use Rattle.std.specs.Prelude.{Ok, true, ◌≡◌, ◌<◌, ◌≤◌, ◌+◌, ◌++◌, ℕ, List, [], length, IfOk};
-ghost use Rattle.std.specs.Prelude.{OnErr};
+ghost use Rattle.std.specs.Prelude.{Ok, true, ◌≡◌, ◌<◌, ◌≤◌, ◌+◌, ◌++◌, ◌∷◌, ℕ, List, [], length};
+ghost use Rattle.std.specs.Prelude.{Some, IfOk, OnOk, OnErr};
 ghost use Rattle.domain_base.specs.declared.names.Akm.{Akm as AnyAkm};
 ghost use Rattle.domain_base.specs.declared.names.Node.TheVariants.{Ap, Sta};
 ghost use Rattle.domain_base.specs.declared.names.Peer.TheVariants.{One};
@@ -12,10 +12,15 @@ ghost use Rattle.rsn_elements.specs.Elements.{HasRaw};
 ghost use Rattle.rsn_elements.specs.Fields.{element_fields};
 ghost use Rattle.ft_exchange.specs.Comes.{IsManagementFrom};
 ghost use Rattle.run_journal.specs.declared.acts.Reason.{Reason as AnyReason};
-ghost use Rattle.run_journal.specs.declared.acts.Outcome.TheVariants.{Refused};
+ghost use Rattle.run_journal.specs.declared.acts.Outcome.TheVariants.{Accepted, Refused};
+ghost use Rattle.run_journal.specs.declared.acts.Act.TheVariants.{Opened, Drew};
+ghost use Rattle.run_journal.specs.declared.acts.Drawn.TheVariants.{Nonce};
+ghost use Rattle.run_journal.specs.declared.acts.Start.TheVariants.{Connect};
 ghost use Rattle.run_journal.specs.declared.domain.Domain.{Domain as AnyDomain};
 ghost use Rattle.domain_rules.specs.Here.{here};
-ghost use Rattle.domain_rules.specs.Network.{InForm, is_ap, draw_end};
+ghost use Rattle.key_hierarchy.specs.Sizes.{IsSsid};
+ghost use Rattle.domain_rules.specs.Frames.{sent_assoc_req};
+ghost use Rattle.domain_rules.specs.Network.{InForm, IsListed, is_ap, draw_end};
 ghost use Rattle.domain_rules.specs.Replies.{IsMessageFrom};
 ghost use Rattle.domain_rules.specs.Closing.{close_associated, close_pending};
 ghost use Rattle.domain_rules.specs.Rows.{Begin, Roam, Leave, Send, Take};
@@ -25,6 +30,8 @@ ghost use Rattle.node_base.specs.Events.{event_of, IsEventAt, Steps, seen};
 ghost use Rattle.node_base.specs.Peers.{IsReceiverOf, most_payload};
 ghost use Rattle.station_node.specs.Parts.{peer_of_attempt, peer_of_session, has_neither};
 ghost use Rattle.station_node.specs.Parts.{roams_from};
+ghost use Rattle.station_node.specs.Responses.{response_outcome};
+ghost use Rattle.station_node.specs.declared.attempt.Association.TheVariants.{Requested};
 ghost use Rattle.station_node.specs.Parts.{IsElsewhere};
 ghost use Rattle.station_node.specs.Stands.{Stands};
 ghost use Rattle.station_node.specs.Steps.{Takes, turn, IsDataFrom};
@@ -33,24 +40,21 @@ use crate::attempt::{Association, Attempt};
 use crate::group_data::take_group;
 use crate::handing::{hand, holder_of};
 use crate::managed::Managed;
-use crate::memories::make_place;
 use crate::moving::{Way, answer, arrive};
 use crate::refusing::{refuse, refuse_message};
-use crate::responses::{response_fault, response_fte};
-use crate::roaming::{can_roam, idle, roams_from};
+use crate::responses::{response_fault, response_fte, take_accepted};
+use crate::roaming::{Transition, can_roam, idle, reserve_transition, roams_from};
 use crate::session::Session;
-use act_memory::{Outbox, settle, took};
+use act_memory::{Outbox, settle};
 use domain_base::{NoMemory, Node, Peer, ShortOctets, Tid};
 use frame_intake::{Heard, Judged, SealedData, is_group, judge, read};
 use frame_making::assoc_req;
-use ft_exchange::Originator;
 use group_key::GroupMemory;
 use node_base::{DRAW_END, Here, NodeEvent, nonce};
-use run_journal::{Act, Domain, Drawn, Kind, Outcome, Reason, Reply, Start, Why};
+use run_journal::{Domain, Kind, Outcome, Reason, Why};
 use std::alloc::Global;
 use std::marker::Model;
 use supplicant::{StaStart, Supplicant};
-use transition_acts::TransitionSend;
 
 /// A station of the domain.
 #[derive(Drop)]
@@ -180,18 +184,8 @@ impl StationNode {
         if self.drawn >= DRAW_END {
             return idle(Why::Spent, out);
         }
-        let request = assoc_req(here, ap)?;
-        out.reserve(5)?;
         let snonce = nonce(here.domain, here.node, self.drawn);
-        close(&self.attempt, &self.session, out);
-        out.add(Act::Opened {
-            peer: Node::Ap(ap),
-            start: Start::Connect,
-        });
-        out.add(Act::Drew {
-            value: Drawn::Nonce(snonce),
-        });
-        out.add(request);
+        ask(here, ap, snonce, &self.attempt, &self.session, out)?;
         self.drawn += 1;
         self.attempt = Some(Attempt {
             ap,
@@ -239,17 +233,17 @@ impl StationNode {
         if !can_roam(here.domain, current, r0kh_id) {
             return idle(Why::NoSession, out);
         }
-        let send = TransitionSend::take(here, Node::Ap(ap))?;
-        out.reserve(4)?;
-        make_place(&mut self.memories, ap)?;
+        let send = reserve_transition(here, ap, &mut self.memories, out)?;
         let number = self.drawn;
         let snonce = nonce(here.domain, here.node, number);
-        let mut reply = Reply::empty();
-        let (domain, sta) = (here.domain, self.number);
-        let originator = Originator::roam(domain, sta, ap, current, r0kh_id, &snonce, &mut reply);
-        Attempt::leave(&self.attempt, out);
-        Attempt::roam(ap, snonce, out);
-        send.add_sent(&reply, out);
+        let transition = Transition {
+            sta: self.number,
+            ap,
+            current,
+            r0kh_id,
+            snonce: &snonce,
+        };
+        let originator = transition.begin(here.domain, &self.attempt, send, out);
         self.drawn = number + 1;
         self.attempt = Some(Attempt {
             ap,
@@ -265,9 +259,7 @@ impl StationNode {
             → Takes d Leave (turn self.old self.new out.old.acts out.new.acts) result }
     {
         if has_neither(&self.attempt, &self.session) {
-            out.reserve(1)?;
-            out.add(Act::Idle { why: Why::Nothing });
-            return Ok(Outcome::Idle(Why::Nothing));
+            return idle(Why::Nothing, out);
         }
         out.reserve(2)?;
         close(&self.attempt, &self.session, out);
@@ -296,11 +288,7 @@ impl StationNode {
         let with = receiver_number(here.domain, self.number, to);
         match &mut self.session {
             Some(Session { ap, key, .. }) if *ap == with => key.send(here, to, tid, payload, out),
-            _ => {
-                out.reserve(1)?;
-                out.add(Act::Idle { why: Why::NoKey });
-                Ok(Outcome::Idle(Why::NoKey))
-            }
+            _ => idle(Why::NoKey, out),
         }
     }
 
@@ -377,20 +365,44 @@ impl StationNode {
         ensures { Takes here.entry.domain.now (Take managed.now.octets.now)
             (turn self.old self.new out.old.acts out.new.acts) result }
     {
-        let (octets, elements) = (managed.octets, managed.elements);
-        let kind = Kind::AssocResp;
+        let (octets, kind) = (managed.octets, Kind::AssocResp);
         let Some(snonce) = Attempt::requested(&self.attempt, ap) else {
             return refuse(here.alloc, ap, octets, kind, Reason::Unawaited, out);
         };
-        if let Some(why) = response_fault(here.domain, ap, managed.frame.status, &elements) {
+        let status = managed.frame.status;
+        if let Some(why) = response_fault(here.domain, ap, status, &managed.elements) {
             return refuse(here.alloc, ap, octets, kind, why, out);
         }
-        let from = Some(Node::Ap(ap));
-        let act = took(here.alloc, from, octets, kind, Outcome::Accepted, None)?;
-        out.reserve(1)?;
-        make_place(&mut self.memories, ap)?;
-        out.add(act);
-        let fte = response_fte(here.domain.akm, &elements);
+        self.associate(here, ap, managed, snonce, out)
+    }
+
+    // An association response of that access point that is accepted, in the attempt under that
+    // nonce.
+    fn associate(
+        &mut self,
+        here: Here<'_>,
+        ap: u16,
+        managed: &Managed<'_>,
+        snonce: [u8; 32],
+        out: &mut Outbox,
+    ) -> Result<Outcome, NoMemory>
+        requires form { InForm here.domain.now }
+        requires listed { self.old.number < length here.domain.now.stas }
+        requires ap { ap < length here.domain.now.aps }
+        requires raw { HasRaw (element_fields managed.now.elements) }
+        requires managed { IsManagementFrom here.domain.now (Sta self.old.number) (Ap ap)
+            managed.now.octets.now (management_fields managed.now.frame)
+            (element_fields managed.now.elements) }
+        requires kind { managed.now.frame.kind ≡ AssocResp }
+        requires requested { self.old.attempt
+            ≡ Some (record { ap = ap; association = Requested snonce }) }
+        requires accepts { Accepted ≡ response_outcome here.domain.now ap
+            managed.now.frame.status (element_fields managed.now.elements) }
+        ensures { Takes here.entry.domain.now (Take managed.now.octets.now)
+            (turn self.old self.new out.old.acts out.new.acts) result }
+    {
+        take_accepted(here.alloc, ap, managed.octets, &mut self.memories, out)?;
+        let fte = response_fte(here.domain.akm, &managed.elements);
         let start = StaStart::Connect {
             snonce: &snonce,
             fte,
@@ -574,6 +586,34 @@ fn close(attempt: &Option<Attempt>, session: &Option<Session>, out: &mut Outbox)
 {
     Attempt::leave(attempt, out);
     Session::leave(session, out);
+}
+
+// Ends an attempt and a session, where there are any, and requests association of that access point
+// in an attempt under that nonce.
+fn ask(
+    here: Here<'_>,
+    ap: u16,
+    snonce: [u8; 32],
+    attempt: &Option<Attempt>,
+    session: &Option<Session>,
+    out: &mut Outbox,
+) -> Result<(), NoMemory>
+    requires ssid { IsSsid here.domain.now.ssid }
+    requires station { IsListed here.domain.now here.node }
+    requires ap { IsListed here.domain.now (Ap ap) }
+    ensures acts { OnOk result (out.new.acts
+        ≡ ((((out.old.acts ++ close_pending (peer_of_attempt attempt.now))
+        ++ close_associated (peer_of_session session.now)) ++ Opened (Ap ap) Connect ∷ [])
+        ++ Drew (Nonce snonce) ∷ [])
+        ++ sent_assoc_req here.entry.domain.now here.entry.node (Ap ap) ∷ []) }
+    ensures kept { OnErr result (out.new.acts ≡ out.old.acts) }
+{
+    out.reserve(5)?;
+    let request = assoc_req(here, ap)?;
+    close(attempt, session, out);
+    Attempt::connect(ap, snonce, out);
+    out.add(request);
+    Ok(())
 }
 
 // Whether there is neither an attempt nor a session.

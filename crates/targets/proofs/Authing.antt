@@ -31,7 +31,7 @@ use Rattle.ft_exchange.proofs.TargetStanding.{Passes, took_passes, sent_passes, 
 use Rattle.targets.specs.declared.moves.Moves.{Moves}
 use Rattle.targets.specs.declared.taken.Taken.{Taken}
 use Rattle.targets.specs.Stands.{HeldStands, IsOther}
-use Rattle.targets.specs.Steps.{Request, AuthMoves}
+use Rattle.targets.specs.Steps.{Request, AuthMoves, AuthTaken}
 use Rattle.targets.proofs.Passing.{Leaves, held_stands_add, other_add, all_leave, all_pass, pass_leave}
 
 -- ---- its acts
@@ -169,6 +169,21 @@ auth_moves q drawn_ had old new t r key held f = record {
 
     frame : Came
     frame = came q.octets q.fields t.outcome
+
+-- what came of it is told by that reply
+pub auth_taken : (q : Request) (drawn_ : Option (List ℕ)) (had : Bool) (Looks : Option PullAnswer → Type 0) (before mid after : List Act) (old new : Moves) (o : Outcome) (t : Taken) (r : Reply) → t.outcome ≡ o → t.key ≡ r.derived → mid ≡ before
+    → after ≡ mid ++ auth_request_acts q.domain (root_asked q.domain (asked q.fields)) (Ap q.ap) (Sta q.sta) (some_part had) (came q.octets q.fields t.outcome) r
+    → new.held ≡ old.held → IsAuthTaken q.domain q.ap q.sta q.fields drawn_ old.pending new.pending o r → Looks r.looked → AuthTaken q drawn_ had Looks before after old new t
+auth_taken q drawn_ had Looks before mid after old new o t r outcome key same adds held f looks = record {
+  reply = r;
+  acts = acts;
+  adds = adds ∙ ap (λ (l : List Act). l ++ acts) same;
+  moves = auth_moves q drawn_ had old new t r key held (subst (λ (x : Outcome). IsAuthTaken q.domain q.ap q.sta q.fields drawn_ old.pending new.pending x r) (sym outcome) f);
+  looks = looks;
+}
+  where
+    acts : List Act
+    acts = auth_request_acts q.domain (root_asked q.domain (asked q.fields)) (Ap q.ap) (Sta q.sta) (some_part had) (came q.octets q.fields t.outcome) r
 
 -- the reply is whole
 pub auth_whole : (d : Domain) (a sta : ℕ) (e : ElementFields) (v : Option (List ℕ)) (old new : Option TargetState) (o : Outcome) (r : Reply) → IsAuthTaken d a sta e v old new o r → IsWhole r

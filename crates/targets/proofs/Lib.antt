@@ -6,3 +6,4 @@ pub mod Reassociating
 pub mod Taking
 pub mod Others
 pub mod Growing
+pub mod Placing

@@ -44,7 +44,7 @@ use Rattle.targets.specs.declared.moves.Moves.{Moves}
 use Rattle.targets.specs.declared.taken.Taken.{Taken}
 use Rattle.targets.specs.State.{without_pending, means_held, meant, id_of}
 use Rattle.targets.specs.Stands.{HeldStands, IsOther, HasMoves}
-use Rattle.targets.specs.Steps.{Request, put_back, IsUnawaited, ByHeld, ByPending, IsMovedBy, IsMoved, HasMoved, ReassocMoves}
+use Rattle.targets.specs.Steps.{Request, put_back, IsUnawaited, ByHeld, ByPending, IsMovedBy, IsMoved, HasMoved, ReassocMoves, ReassocTaken}
 use Rattle.targets.proofs.Passing.{moves_add}
 use Rattle.targets.proofs.Beginning.{no_attempt}
 use Rattle.targets.proofs.Choosing.{chosen, none_meant}
@@ -242,6 +242,20 @@ reassoc_moves q newest rsc had old new t r key f = by (means_held q.fields old) 
     by : (b : Bool) → means_held q.fields old ≡ b → IsMovedBy b q.fields newest rsc old new t.outcome r → Says q newest rsc had old new t r
     by true is x = held_moves q newest rsc had old new t r old.held key (meant_is q.fields old true is) refl x.0 x.1
     by false is x = pending_moves q newest rsc had old new t r old.pending key (meant_is q.fields old false is) refl x
+
+-- what came of it is told by that reply
+pub reassoc_taken : (q : Request) (newest : GroupKey) (rsc : ℕ) (had : Bool) (before mid after : List Act) (old new : Moves) (o : Outcome) (t : Taken) (r : Reply) → t.outcome ≡ o → t.key ≡ r.installed → mid ≡ before
+    → after ≡ mid ++ reassoc_request_acts q.domain (root_at q.domain (id_of (meant q.fields old))) (Ap q.ap) (Sta q.sta) had (came q.octets q.fields t.outcome) r
+    → IsMoved q.fields newest rsc old new o r → ReassocTaken q newest rsc had before after old new t
+reassoc_taken q newest rsc had before mid after old new o t r outcome key same adds f = record {
+  reply = r;
+  acts = acts;
+  adds = adds ∙ ap (λ (l : List Act). l ++ acts) same;
+  moves = reassoc_moves q newest rsc had old new t r key (subst (λ (x : Outcome). IsMoved q.fields newest rsc old new x r) (sym outcome) f);
+}
+  where
+    acts : List Act
+    acts = reassoc_request_acts q.domain (root_at q.domain (id_of (meant q.fields old))) (Ap q.ap) (Sta q.sta) had (came q.octets q.fields t.outcome) r
 
 -- the reply is whole
 empty_whole : (r : Reply) → IsEmpty r → IsWhole r

@@ -1,5 +1,6 @@
 -- The memory for the acts of a request, by the access point and what the request asks for.
-use Rattle.std.proofs.Common.{◌≡◌, ℕ, List, sym, subst}
+use Rattle.std.proofs.Common.{◌≡◌, ℕ, List, Result, Ok, Err, sym, subst}
+use Rattle.std.specs.Prelude.{OnErr}
 use Rattle.domain_base.specs.declared.names.Node.{Node}
 use Rattle.domain_base.specs.declared.names.Node.TheVariants.{Ap, Sta}
 use Rattle.mac_prf.specs.declared.reassociation.Reassociation.TheVariants.{Request}
@@ -20,3 +21,8 @@ pub reassoc_room : (d : Domain) (a sta : ℕ) (n : Node) (octets : List ℕ) (e 
     → IsRoom d (root_at d id) n (Sta sta) octets e Request room → IsRoom d (root_at d other) (Ap a) (Sta sta) octets e Request room
 reassoc_room d a sta n octets e id other room at same is =
     subst (λ (x : List ℕ). IsRoom d (root_at d x) (Ap a) (Sta sta) octets e Request room) same (subst (λ (x : Node). IsRoom d (root_at d id) x (Sta sta) octets e Request room) at is)
+
+-- where memory was wanted, and else as well
+pub err_at : {A E : Type 0} (r : Result A E) (P : Type 0) → P → OnErr r P
+err_at (Ok x) P at = tt
+err_at (Err e) P at = at

@@ -1,18 +1,26 @@
 //! The requests of a station in a fast transition.
 
-ghost use Rattle.std.specs.Prelude.{◌≡◌, ◌≤◌, ◌<◌, ◌++◌, ℕ, List, Some, None, true};
+ghost use Rattle.std.specs.Prelude.{◌≡◌, ◌≤◌, ◌<◌, ◌+◌, ◌++◌, ℕ, List, Option, Some, None, true};
 ghost use Rattle.std.specs.Prelude.{length, is_some, IfOk, OnOk, OnErr};
 ghost use Rattle.std.specs.Option.{option_copied};
+ghost use Rattle.domain_base.specs.declared.names.Node.{Node as AnyNode};
 ghost use Rattle.domain_base.specs.declared.names.Node.TheVariants.{Ap, Sta};
+ghost use Rattle.key_hierarchy.specs.Sizes.{IsSsid};
 ghost use Rattle.key_holders.specs.Rows.{is_in};
 ghost use Rattle.key_holders.specs.Pulls.{Answers, IsNamed};
-ghost use Rattle.rsn_elements.specs.Elements.{HasRaw};
+ghost use Rattle.mac_prf.specs.declared.reassociation.Reassociation.TheVariants.{Request};
+ghost use Rattle.rsn_elements.specs.Elements.{ElementFields, HasRaw};
 ghost use Rattle.rsn_elements.specs.Fields.{element_fields};
 ghost use Rattle.run_journal.specs.declared.domain.Domain.{Domain as AnyDomain};
-ghost use Rattle.domain_rules.specs.Network.{InForm, mac, root_at};
+ghost use Rattle.run_journal.specs.declared.acts.Act.{Act as AnyAct};
+ghost use Rattle.run_journal.specs.Replies.{IsWhole};
+ghost use Rattle.domain_rules.specs.Network.{InForm, IsListed, Root, mac, root_at};
 ghost use Rattle.domain_rules.specs.TransitionKeys.{asked};
+ghost use Rattle.node_base.specs.Peers.{IsPeerOf};
 ghost use Rattle.ft_exchange.specs.Asking.{ids_of};
 ghost use Rattle.ft_exchange.specs.TargetSteps.{root_asked, LooksBy};
+ghost use Rattle.ft_exchange.specs.Told.{came, auth_request_acts, reassoc_request_acts};
+ghost use Rattle.transition_acts.specs.Rooms.{IsRoom};
 ghost use Rattle.targets.specs.Steps.{request, AuthTaken, ReassocTaken};
 
 use crate::moves::Moves;
@@ -25,7 +33,7 @@ use key_holders::Holders;
 use mac_prf::Reassociation;
 use node_base::Here;
 use rsn_elements::Elements;
-use run_journal::Reply;
+use run_journal::{Outcome, Reply};
 use transition_acts::TransitionRoom;
 
 // The R0KH-ID that an authentication request asks for, and no octets where it asks for nothing.
@@ -40,10 +48,81 @@ fn asked_id<'a>(elements: &Elements<'a>) -> &'a [u8]
     }
 }
 
+// Room for so many acts, and the memory for those of a request of that station, with these octets
+// and elements. The keys go back to that R0KH-ID with suite 4.
+fn prepare(
+    here: Here<'_>,
+    sta: Node,
+    octets: &[u8],
+    elements: &Elements<'_>,
+    r0kh_id: &[u8],
+    acts: usize,
+    out: &mut Outbox,
+) -> Result<TransitionRoom, NoMemory>
+    requires listed { IsListed here.domain.now here.node }
+    requires peer { IsPeerOf here.domain.now here.node sta }
+    requires ssid { IsSsid here.domain.now.ssid }
+    ensures taken { IfOk result (λ room. let d = here.entry.domain.now
+        in IsRoom d (root_at d r0kh_id.now) here.entry.node sta octets.now
+        (element_fields elements.now) Request room) }
+    ensures room { OnOk result (acts ≤ out.new.spare) }
+    ensures same { out.new.acts ≡ out.old.acts }
+{
+    out.reserve(acts)?;
+    let frame = Reassociation::Request;
+    TransitionRoom::take(here, sta, octets, elements, frame, r0kh_id)
+}
+
+// Adds the acts of an authentication request with that outcome and reply, where there was an
+// attempt or not, and tells what came of it.
+fn add_auth(
+    room: TransitionRoom,
+    outcome: Outcome,
+    had_attempt: bool,
+    reply: &Reply,
+    out: &mut Outbox,
+) -> Taken
+    requires room { 7 ≤ out.old.spare }
+    requires whole { IsWhole reply.now }
+    ensures acts { (d : AnyDomain) (root : Root) (n p : AnyNode) (octets : List ℕ)
+        (e : ElementFields) (part : Option (List AnyAct)) → IsRoom d root n p octets e Request room
+        → is_some part ≡ had_attempt → out.new.acts ≡ out.old.acts
+        ++ auth_request_acts d root n p part (came octets e result.outcome) reply.now }
+    ensures spare { out.old.spare ≤ out.new.spare + 7 }
+    ensures outcome { result.outcome ≡ outcome }
+    ensures key { result.key ≡ reply.now.derived }
+{
+    room.add_auth_request(outcome, had_attempt, reply, out);
+    let key = reply.derived;
+    Taken { outcome, key }
+}
+
+// Adds the acts of a reassociation request with that outcome and reply, where there was a session
+// or not, and tells what came of it.
+fn add_reassoc(
+    room: TransitionRoom,
+    outcome: Outcome,
+    had_session: bool,
+    reply: &Reply,
+    out: &mut Outbox,
+) -> Taken
+    requires room { 5 ≤ out.old.spare }
+    requires whole { IsWhole reply.now }
+    ensures acts { (d : AnyDomain) (root : Root) (n p : AnyNode) (octets : List ℕ)
+        (e : ElementFields) → IsRoom d root n p octets e Request room → out.new.acts ≡ out.old.acts
+        ++ reassoc_request_acts d root n p had_session (came octets e result.outcome) reply.now }
+    ensures spare { out.old.spare ≤ out.new.spare + 5 }
+    ensures outcome { result.outcome ≡ outcome }
+    ensures key { result.key ≡ reply.now.installed }
+{
+    room.add_reassoc_request(outcome, had_session, reply, out);
+    let key = reply.installed;
+    Taken { outcome, key }
+}
+
 /// An access point takes an authentication request of a station, with these octets and elements. It
 /// had an attempt with the station or not, of whatever kind, and `anonce` is the nonce that it
 /// draws next, if it can draw one more. There is room for one more act then.
-#[tactic(auto, using(crate::proofs::Authing::auth_whole))]
 pub fn take_auth<H: Holders>(
     moves: &mut Moves,
     here: Here<'_>,
@@ -83,9 +162,7 @@ pub fn take_auth<H: Holders>(
     ensures no_less { H.no_less holders.old holders.new }
 {
     let sta = Node::Sta(station);
-    let frame = Reassociation::Request;
-    let room = TransitionRoom::take(here, sta, octets, elements, frame, asked_id(elements))?;
-    out.reserve(8)?;
+    let room = prepare(here, sta, octets, elements, asked_id(elements), 8, out)?;
     let mut reply = Reply::empty();
     let pending = &mut moves.pending;
     let outcome = Target::on_auth(
@@ -98,15 +175,12 @@ pub fn take_auth<H: Holders>(
         holders,
         &mut reply,
     );
-    room.add_auth_request(outcome, had_attempt, &reply, out);
-    let key = reply.derived;
-    Ok(Taken { outcome, key })
+    Ok(add_auth(room, outcome, had_attempt, &reply, out))
 }
 
 /// An access point takes a reassociation request of a station, with these octets and elements. It
 /// had a session with the station or not; `newest` is its newest group key, and `rsc` the count of
 /// packet numbers used under that. There is room for one more act then.
-#[tactic(auto, using(crate::proofs::Reassociating::moved_whole))]
 pub fn take_reassoc(
     moves: &mut Moves,
     here: Here<'_>,
@@ -132,13 +206,8 @@ pub fn take_reassoc(
     ensures room { OnOk result (1 ≤ out.new.spare) }
 {
     let sta = Node::Sta(station);
-    let frame = Reassociation::Request;
-    let r0kh_id = moves.r0kh_id(elements);
-    let room = TransitionRoom::take(here, sta, octets, elements, frame, r0kh_id)?;
-    out.reserve(6)?;
+    let room = prepare(here, sta, octets, elements, moves.r0kh_id(elements), 6, out)?;
     let mut reply = Reply::empty();
     let outcome = moves.on_reassoc(elements, newest, rsc, &mut reply);
-    room.add_reassoc_request(outcome, had_session, &reply, out);
-    let key = reply.installed;
-    Ok(Taken { outcome, key })
+    Ok(add_reassoc(room, outcome, had_session, &reply, out))
 }

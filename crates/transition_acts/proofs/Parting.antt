@@ -1,5 +1,5 @@
 -- A frame of reassociation cut into what its MIC covers.
-use Rattle.std.proofs.Common.{◌≡◌, ◌∙◌, ◌+◌, ◌-◌, ◌≤◌, ℕ, List, length, take, drop, sym, ap, arith, length-drop, length-append, take-append-drop, drop-drop}
+use Rattle.std.proofs.Common.{◌≡◌, ◌∙◌, ◌+◌, ◌-◌, ◌≤◌, ◌++◌, ℕ, List, length, take, drop, sym, ap, arith, length-drop, length-append, take-append-drop, drop-drop, append_assoc}
 use Rattle.std.specs.Prelude.{min}
 use Rattle.std.proofs.lemmas.List.{take_min, drop_min}
 use Rattle.mac_prf.specs.FteMic.{fte_mic_input}
@@ -51,3 +51,11 @@ pub cut_few : (at : ℕ) (octets elements rsne behind mde fte : List ℕ) → el
     → 14 + length rsne + length mde + fte_size fte ≤ 512
 cut_few at octets elements rsne behind mde fte e r b m f low few =
     sum_few at (length octets) (length elements) (length rsne) (length mde) (length fte) (fte_size fte) (cut_len elements rsne behind mde fte r b m f) (ap length e ∙ length-drop at octets) (more_few (length fte)) low few
+
+-- ---- octets that are put one behind the other
+
+pub three_parts : (old a b c x y z : List ℕ) → x ≡ old ++ a → y ≡ x ++ b → z ≡ y ++ c → z ≡ old ++ (a ++ (b ++ c))
+three_parts old a b c x y z p q r = rw (r, q, p) (simp append_assoc)
+
+pub seven_parts : (old a b c d e f g t u v w x y z : List ℕ) → t ≡ old ++ a → u ≡ t ++ b → v ≡ u ++ c → w ≡ v ++ d → x ≡ w ++ e → y ≡ x ++ f → z ≡ y ++ g → z ≡ old ++ (a ++ (b ++ (c ++ (d ++ (e ++ (f ++ g))))))
+seven_parts old a b c d e f g t u v w x y z h i j k l m n = rw (n, m, l, k, j, i, h) (simp append_assoc)

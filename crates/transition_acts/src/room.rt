@@ -14,6 +14,7 @@ ghost use Rattle.node_base.specs.Peers.{IsPeerOf};
 ghost use Rattle.ft_exchange.specs.Told.{came, auth_request_acts, auth_response_acts};
 ghost use Rattle.ft_exchange.specs.Told.{reassoc_request_acts, reassoc_response_acts};
 ghost use Rattle.transition_acts.specs.Seals.{covered_by};
+ghost use Rattle.act_memory.specs.Templates.{IsTemplate};
 ghost use Rattle.transition_acts.specs.Rooms.{IsSendRoom, IsTakenRoom};
 
 use crate::looking::{Look, add_looked};
@@ -44,6 +45,45 @@ fn take_frame(
 {
     let parts = sent.side().covered(frame, elements);
     TakenRoom::take(alloc, octets, parts)
+}
+
+// The memory for sending the peer a frame, and for taking that frame of it.
+fn take_frames(
+    here: Here<'_>,
+    peer: Node,
+    octets: &[u8],
+    elements: &Elements<'_>,
+    frame: Reassociation,
+) -> Result<(TransitionSend, TakenRoom), NoMemory>
+    requires listed { IsListed here.domain.now here.node }
+    requires peer { IsPeerOf here.domain.now here.node peer }
+    requires ssid { IsSsid here.domain.now.ssid }
+    ensures sent { IfOk result (λ rooms. IsSendRoom here.entry.domain.now here.entry.node peer
+        rooms.0) }
+    ensures taken { IfOk result (λ rooms. IsTakenRoom octets.now (covered_by frame
+        here.entry.domain.now here.entry.node peer (element_fields elements.now)) rooms.1) }
+{
+    let sent = TransitionSend::take(here, peer)?;
+    let taken = take_frame(here.alloc, octets, elements, frame, &sent)?;
+    Ok((sent, taken))
+}
+
+// What the pairwise key with the peer is made of, without nonces, twice.
+fn templates(
+    here: Here<'_>,
+    peer: Node,
+    r0kh_id: &[u8],
+) -> Result<(BoxedInputs, BoxedInputs), NoMemory>
+    requires listed { IsListed here.domain.now here.node }
+    requires peer { IsPeerOf here.domain.now here.node peer }
+    ensures key { IfOk result (λ rooms. let d = here.entry.domain.now
+        in IsTemplate d (root_at d r0kh_id.now) here.entry.node peer rooms.0) }
+    ensures finished { IfOk result (λ rooms. let d = here.entry.domain.now
+        in IsTemplate d (root_at d r0kh_id.now) here.entry.node peer rooms.1) }
+{
+    let key = template(here, peer, r0kh_id)?;
+    let finished = template(here, peer, r0kh_id)?;
+    Ok((key, finished))
 }
 
 /// The memory that the acts of one frame of a fast transition take.
@@ -80,11 +120,9 @@ impl TransitionRoom {
             in IsRoom d (root_at d r0kh_id.now) here.entry.node peer octets.now
             (element_fields elements.now) frame room) }
     {
-        let sent = TransitionSend::take(here, peer)?;
-        let taken = take_frame(here.alloc, octets, elements, frame, &sent)?;
         let looked = Look::take(here.alloc, elements)?;
-        let key = template(here, peer, r0kh_id)?;
-        let finished = template(here, peer, r0kh_id)?;
+        let (sent, taken) = take_frames(here, peer, octets, elements, frame)?;
+        let (key, finished) = templates(here, peer, r0kh_id)?;
         Ok(TransitionRoom {
             peer,
             taken,

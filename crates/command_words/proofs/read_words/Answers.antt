@@ -1,4 +1,5 @@
 use Rattle.std.proofs.Common.{◌≡◌, ◌∙◌, [], true, map, ap, subst, option_and_then}
+use Rattle.std.proofs.lemmas.Result.{IfOk-weaker}
 use Rattle.clap.specs.Words.{App, HasKind, HasMatchesOf, fault_of, is_simple_and_free, subcommand_of, subcommand_rows_of}
 use Rattle.command_words.specs.Words.{asked, command_line, command_of}
 use Rattle.command_words.proofs.FromClap.{line_is_plain, line_is_simple, refused, taken}
@@ -14,10 +15,10 @@ returns-in-Ok c =
     (subst (λ (a : App). HasMatchesOf a words c.in-Ok.matches) c.in_ok-line.ensures c.in-Ok.ensures.matches line_is_simple).1 in
     c.met.ensures ∙ ap (option_and_then asked) found ∙ taken _ _ none
 
-pub returns : goal.returns
+pub returns-in-Err : goal.returns-in-Err
 unfolding command_of
-returns c =
+returns-in-Err c =
     let words = map (λ w. w.now) c.args.words.now in
     let some : HasKind (fault_of command_line words) c.in-Err.error =
     subst (λ (a : App). is_simple_and_free a ≡ true → HasKind (fault_of a words) c.in-Err.error) c.in_ok-line.ensures c.in-Err.ensures.kinds line_is_plain in
-    refused _ _ c.in-Err.error some (λ memory. c.in_default.not-OutOfMemory (c.kind.ensures ∙ memory))
+    IfOk-weaker c.refusal.result _ _ (λ r h. h.0 ∙ refused _ _ c.in-Err.error some (λ memory. h.1 (c.kind.ensures ∙ memory))) c.refusal.ensures

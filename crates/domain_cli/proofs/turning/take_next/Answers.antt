@@ -12,6 +12,9 @@ returns-in-Err-deliver-clause-takes g c =
     let d = c.args.world.now.domain in
     takes_err g.L.Link.told d IsTaken (sent_by_then d) _ _ _ _ _ _ _ _ _ (λ left tell. some_of _ _ _ _ c.in-Ok-Some.field-0-is (c.in-Ok-Some.ensures.polled d left _ tell)) c.in-Err-deliver.ensures.delivers
 
+pub returns-in-Err-deliver-clause-further : goal.returns-in-Err-deliver-clause-further
+returns-in-Err-deliver-clause-further g c = c.in-Err-deliver.ensures.further
+
 pub returns-in-Ok-None-clause-takes : goal.returns-in-Ok-None-clause-takes
 returns-in-Ok-None-clause-takes g c =
     let d = c.args.world.now.domain in

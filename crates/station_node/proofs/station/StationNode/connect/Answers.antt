@@ -1,7 +1,9 @@
-use Rattle.std.proofs.Common.{◌++◌, ◌≡◌, List, sym, ap, ◌∙◌, subst, arith, refl}
+use Rattle.std.proofs.Common.{◌++◌, ◌∷◌, [], ◌≡◌, sym, ap, ◌∙◌, subst, arith, refl}
 use Rattle.domain_base.specs.declared.names.Node.{Node}
 use Rattle.domain_base.specs.declared.names.Node.TheVariants.{Ap, Sta}
-use Rattle.run_journal.specs.declared.acts.Act.{Act as AnyAct}
+use Rattle.run_journal.specs.declared.acts.Act.TheVariants.{Opened, Drew}
+use Rattle.run_journal.specs.declared.acts.Drawn.TheVariants.{Nonce}
+use Rattle.run_journal.specs.declared.acts.Start.TheVariants.{Connect}
 use Rattle.run_journal.specs.declared.acts.Outcome.TheVariants.{Done, Idle as IdleBy}
 use Rattle.run_journal.specs.declared.acts.Why.TheVariants.{Spent}
 use Rattle.domain_rules.specs.Frames.{sent_assoc_req}
@@ -27,8 +29,12 @@ returns c =
     let d = c.args.here.domain.now in
     let s = the_view c.self.inside in
     let node_is : c.args.here.node ≡ Sta s.number = c.requires.node ∙ ap (λ (t : State). Sta t.number) (sym c.self.view_is) in
-    subst (λ (t : State). IsTaken d (Begin c.args.ap) (turn t (asked_state s c.args.ap c.nonce-snonce.result) c.args.out.now.acts c.add-3.new.self.acts) Done) c.self.view_is
-    (taken-asked d s _ c.args.ap c.nonce-snonce.result c.in_ok-request.request c.args.out.now.acts c.close.new.out.acts c.add.new.self.acts c.add-2.new.self.acts c.add-3.new.self.acts c.requires.ap (omega arith)
-    (c.nonce-snonce.ensures ∙ ap (λ (n : Node). nonce d n s.drawn) node_is) refl
-    (c.close.ensures.acts ∙ ap (λ (l : List AnyAct). (l ++ close_pending (peer_of_attempt s.attempt)) ++ close_associated (peer_of_session s.session)) c.in_ok-reserve.ensures.acts)
-    c.add.ensures.acts c.add-2.ensures.acts (c.in_ok-request.ensures ∙ ap (λ (n : Node). sent_assoc_req d n (Ap c.args.ap)) node_is) c.add-3.ensures.acts)
+    let v = c.nonce-snonce.result in
+    let request = sent_assoc_req d (Sta s.number) (Ap c.args.ap) in
+    let closed = (c.args.out.now.acts ++ close_pending (peer_of_attempt s.attempt)) ++ close_associated (peer_of_session s.session) in
+    let opened = closed ++ Opened (Ap c.args.ap) Connect ∷ [] in
+    let drew = opened ++ Drew (Nonce v) ∷ [] in
+    subst (λ (t : State). IsTaken d (Begin c.args.ap) (turn t (asked_state s c.args.ap v) c.args.out.now.acts c.ask.new.out.acts) Done) c.self.view_is
+    (taken-asked d s _ c.args.ap v request c.args.out.now.acts closed opened drew c.ask.new.out.acts c.requires.ap (omega arith)
+    (c.nonce-snonce.ensures ∙ ap (λ (n : Node). nonce d n s.drawn) node_is) refl refl refl refl refl
+    (c.in_ok-ask.ensures.acts ∙ ap (λ (n : Node). drew ++ sent_assoc_req d n (Ap c.args.ap) ∷ []) node_is))

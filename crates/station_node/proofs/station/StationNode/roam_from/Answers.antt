@@ -1,14 +1,18 @@
-use Rattle.std.proofs.Common.{◌≡◌, ◌++◌, List, refl, sym, ap, subst, ◌∙◌}
+use Rattle.std.proofs.Common.{◌≡◌, ◌++◌, ◌∷◌, [], List, refl, sym, ap, subst, ◌∙◌}
 use Rattle.std.specs.Prelude.{Ok}
 use Rattle.domain_base.specs.declared.names.Node.{Node}
 use Rattle.domain_base.specs.declared.names.Node.TheVariants.{Ap, Sta}
 use Rattle.run_journal.specs.declared.acts.Act.{Act}
+use Rattle.run_journal.specs.declared.acts.Act.TheVariants.{Opened, Drew}
+use Rattle.run_journal.specs.declared.acts.Drawn.TheVariants.{Nonce}
+use Rattle.run_journal.specs.declared.acts.Start.TheVariants.{Roam as ByRoam}
 use Rattle.run_journal.specs.declared.acts.Why.TheVariants as why
 use Rattle.run_journal.specs.declared.acts.Outcome.TheVariants.{Done, Idle as IdleBy}
 use Rattle.domain_rules.specs.Network.{nonce}
 use Rattle.domain_rules.specs.Rows.{Roam}
 use Rattle.domain_rules.specs.Closing.{close_pending}
 use Rattle.ft_exchange.specs.OriginatorSteps.{IsBegun}
+use Rattle.ft_exchange.specs.Told.{transition_sent}
 use Rattle.transition_acts.specs.Rooms.{IsSendRoom}
 use Rattle.station_node.specs.State.{State}
 use Rattle.station_node.specs.Parts.{peer_of_attempt, CanRoam, roams_from}
@@ -31,10 +35,20 @@ returns c =
     let d = c.args.here.domain.now in
     let s = the_view c.self.inside in
     let node_is : c.args.here.node ≡ Sta s.number = c.requires.node ∙ ap (λ (t : State). Sta t.number) (sym c.self.view_is) in
-    subst (λ (t : State). IsTaken d (Roam c.args.ap) (turn t (roamed_state s c.args.ap c.roam-originator.result c.make_place.new.memories.items) c.args.out.now.acts c.add_sent.new.out.acts) Done) c.self.view_is
-    (taken-roamed d s _ c.args.ap c.args.current c.nonce-snonce.result c.roam-originator.result c.roam-originator.new.reply c.make_place.new.memories.items c.args.out.now.acts c.leave.new.out.acts c.roam.new.out.acts c.add_sent.new.out.acts c.requires.suite c.requires.ap
+    let v = c.nonce-snonce.result in
+    let o = c.begin-originator.result in
+    let reply = c.begin-originator.ensures.0 in
+    let memories = c.reserve_transition.new.memories.items in
+    let closed = c.args.out.now.acts ++ close_pending (peer_of_attempt s.attempt) in
+    let opened = closed ++ Opened (Ap c.args.ap) ByRoam ∷ Drew (Nonce v) ∷ [] in
+    subst (λ (t : State). IsTaken d (Roam c.args.ap) (turn t (roamed_state s c.args.ap o memories) c.args.out.now.acts c.begin-originator.new.out.acts) Done) c.self.view_is
+    (taken-roamed d s _ c.args.ap c.args.current v o reply memories c.args.out.now.acts closed opened c.begin-originator.new.out.acts c.requires.suite c.requires.ap
     (subst (λ (t : State). roams_from t.session c.args.ap t.drawn ≡ Ok c.args.current) (sym c.self.view_is) c.requires.from)
     (c.nonce-snonce.ensures ∙ ap (λ (n : Node). nonce d n s.drawn) node_is)
-    (subst (λ (id : List _). IsBegun d (Sta s.number) (Ap c.args.ap) (Ap c.args.current) id c.nonce-snonce.result c.roam-originator.result c.roam-originator.new.reply) c.as_slice-r0kh_id.ensures c.roam-originator.ensures) c.make_place.ensures.same refl
-    (c.leave.ensures.acts ∙ ap (λ (l : List Act). l ++ close_pending (peer_of_attempt s.attempt)) c.in_ok-reserve.ensures.acts) c.roam.ensures.acts
-    (c.add_sent.ensures.acts d (Sta s.number) (Ap c.args.ap) (subst (λ (n : Node). IsSendRoom d n (Ap c.args.ap) c.in_ok-send.send) node_is c.in_ok-send.ensures)))
+    (subst (λ (id : List _). IsBegun d (Sta s.number) (Ap c.args.ap) (Ap c.args.current) id v o reply) c.as_slice-r0kh_id.ensures c.begin-originator.ensures.1) c.reserve_transition.ensures.same refl refl refl
+    (c.begin-originator.ensures.2 ∙ ap (λ (l : List Act). ((l ++ close_pending (peer_of_attempt s.attempt)) ++ Opened (Ap c.args.ap) ByRoam ∷ Drew (Nonce v) ∷ []) ++ transition_sent d (Sta s.number) (Ap c.args.ap) reply) c.reserve_transition.ensures.acts))
+
+pub begin-originator-requires-clause-room : goal.begin-originator-requires-clause-room
+begin-originator-requires-clause-room c =
+    let node_is : c.args.here.node ≡ Sta c.self.inside.number = c.requires.node ∙ ap (λ (t : State). Sta t.number) (sym c.self.view_is) in
+    subst (λ (n : Node). IsSendRoom c.args.here.domain.now n (Ap c.args.ap) c.in_ok-send.send) node_is c.in_ok-send.ensures.room

@@ -1,29 +1,90 @@
-use Rattle.domain_rules.specs.Rows.{Leave}
+use Rattle.std.proofs.Common.{ap}
+use Rattle.domain_rules.specs.Rows.{Begin, Roam, Take, Send, Leave}
+use Rattle.node_base.specs.Events.{event_of}
 use Rattle.station_node.specs.Steps.{turn}
-use Rattle.station_node.proofs.Taken.{takes_number, takes_steps, takes_refused, takes_same, takes_kept}
+use Rattle.station_node.proofs.Taken.{takes_number, takes_event, takes_refused, takes_same, takes_kept}
 use Rattle.station_node.proofs.station.StationNode.step.Goals as goal
 
+pub returns-in-Connect-clause-number : goal.returns-in-Connect-clause-number
+returns-in-Connect-clause-number c = takes_number c.args.domain.now (Begin c.in-Connect.ap) (turn c.args.self.now c.connect.new.self c.args.out.now.acts c.connect.new.out.acts) c.connect.result c.connect.ensures
+
+pub returns-in-Connect-clause-steps : goal.returns-in-Connect-clause-steps
+returns-in-Connect-clause-steps c = takes_event c.args.domain.now (Begin c.in-Connect.ap) (event_of c.args.event) (turn c.args.self.now c.connect.new.self c.args.out.now.acts c.connect.new.out.acts) c.connect.result (ap event_of c.in-Connect.is) c.connect.ensures
+
+pub returns-in-Connect-clause-refused : goal.returns-in-Connect-clause-refused
+returns-in-Connect-clause-refused c = takes_refused c.args.domain.now (Begin c.in-Connect.ap) (turn c.args.self.now c.connect.new.self c.args.out.now.acts c.connect.new.out.acts) c.connect.result c.connect.ensures
+
+pub returns-in-Connect-clause-same : goal.returns-in-Connect-clause-same
+returns-in-Connect-clause-same c = takes_same c.args.domain.now (Begin c.in-Connect.ap) (turn c.args.self.now c.connect.new.self c.args.out.now.acts c.connect.new.out.acts) c.connect.result c.connect.ensures
+
+pub returns-in-Connect-clause-kept : goal.returns-in-Connect-clause-kept
+returns-in-Connect-clause-kept c = takes_kept c.args.domain.now (Begin c.in-Connect.ap) (turn c.args.self.now c.connect.new.self c.args.out.now.acts c.connect.new.out.acts) c.connect.result c.connect.ensures
+
+pub returns-in-Take-clause-number : goal.returns-in-Take-clause-number
+returns-in-Take-clause-number c = takes_number c.args.domain.now (Take c.in-Take.octets.now) (turn c.args.self.now c.take.new.self c.args.out.now.acts c.take.new.out.acts) c.take.result c.take.ensures
+
+pub returns-in-Take-clause-steps : goal.returns-in-Take-clause-steps
+returns-in-Take-clause-steps c = takes_event c.args.domain.now (Take c.in-Take.octets.now) (event_of c.args.event) (turn c.args.self.now c.take.new.self c.args.out.now.acts c.take.new.out.acts) c.take.result (ap event_of c.in-Take.is) c.take.ensures
+
+pub returns-in-Take-clause-refused : goal.returns-in-Take-clause-refused
+returns-in-Take-clause-refused c = takes_refused c.args.domain.now (Take c.in-Take.octets.now) (turn c.args.self.now c.take.new.self c.args.out.now.acts c.take.new.out.acts) c.take.result c.take.ensures
+
+pub returns-in-Take-clause-same : goal.returns-in-Take-clause-same
+returns-in-Take-clause-same c = takes_same c.args.domain.now (Take c.in-Take.octets.now) (turn c.args.self.now c.take.new.self c.args.out.now.acts c.take.new.out.acts) c.take.result c.take.ensures
+
+pub returns-in-Take-clause-kept : goal.returns-in-Take-clause-kept
+returns-in-Take-clause-kept c = takes_kept c.args.domain.now (Take c.in-Take.octets.now) (turn c.args.self.now c.take.new.self c.args.out.now.acts c.take.new.out.acts) c.take.result c.take.ensures
+
+pub returns-in-Send-default-Some-default-clause-number : goal.returns-in-Send-default-Some-default-clause-number
+returns-in-Send-default-Some-default-clause-number c = takes_number c.args.domain.now (Send _ _ _) (turn c.args.self.now c.send.new.self c.args.out.now.acts c.send.new.out.acts) c.send.result c.send.ensures
+
+pub returns-in-Send-default-Some-default-clause-refused : goal.returns-in-Send-default-Some-default-clause-refused
+returns-in-Send-default-Some-default-clause-refused c = takes_refused c.args.domain.now (Send _ _ _) (turn c.args.self.now c.send.new.self c.args.out.now.acts c.send.new.out.acts) c.send.result c.send.ensures
+
+pub returns-in-Send-default-Some-default-clause-same : goal.returns-in-Send-default-Some-default-clause-same
+returns-in-Send-default-Some-default-clause-same c = takes_same c.args.domain.now (Send _ _ _) (turn c.args.self.now c.send.new.self c.args.out.now.acts c.send.new.out.acts) c.send.result c.send.ensures
+
+pub returns-in-Send-default-Some-default-clause-kept : goal.returns-in-Send-default-Some-default-clause-kept
+returns-in-Send-default-Some-default-clause-kept c = takes_kept c.args.domain.now (Send _ _ _) (turn c.args.self.now c.send.new.self c.args.out.now.acts c.send.new.out.acts) c.send.result c.send.ensures
+
+pub returns-in-Send-default-None-default-clause-number : goal.returns-in-Send-default-None-default-clause-number
+returns-in-Send-default-None-default-clause-number c = takes_number c.args.domain.now (Send _ _ _) (turn c.args.self.now c.send-in-Send-default-None-default.new.self c.args.out.now.acts c.send-in-Send-default-None-default.new.out.acts) c.send-in-Send-default-None-default.result c.send-in-Send-default-None-default.ensures
+
+pub returns-in-Send-default-None-default-clause-refused : goal.returns-in-Send-default-None-default-clause-refused
+returns-in-Send-default-None-default-clause-refused c = takes_refused c.args.domain.now (Send _ _ _) (turn c.args.self.now c.send-in-Send-default-None-default.new.self c.args.out.now.acts c.send-in-Send-default-None-default.new.out.acts) c.send-in-Send-default-None-default.result c.send-in-Send-default-None-default.ensures
+
+pub returns-in-Send-default-None-default-clause-same : goal.returns-in-Send-default-None-default-clause-same
+returns-in-Send-default-None-default-clause-same c = takes_same c.args.domain.now (Send _ _ _) (turn c.args.self.now c.send-in-Send-default-None-default.new.self c.args.out.now.acts c.send-in-Send-default-None-default.new.out.acts) c.send-in-Send-default-None-default.result c.send-in-Send-default-None-default.ensures
+
+pub returns-in-Send-default-None-default-clause-kept : goal.returns-in-Send-default-None-default-clause-kept
+returns-in-Send-default-None-default-clause-kept c = takes_kept c.args.domain.now (Send _ _ _) (turn c.args.self.now c.send-in-Send-default-None-default.new.self c.args.out.now.acts c.send-in-Send-default-None-default.new.out.acts) c.send-in-Send-default-None-default.result c.send-in-Send-default-None-default.ensures
+
 pub returns-in-Leave-clause-number : goal.returns-in-Leave-clause-number
-returns-in-Leave-clause-number c =
-    let d = c.args.domain.now in
-    takes_number d Leave (turn c.args.self.now c.leave.new.self c.args.out.now.acts c.leave.new.out.acts) c.leave.result (c.leave.ensures d)
+returns-in-Leave-clause-number c = takes_number c.args.domain.now Leave (turn c.args.self.now c.leave.new.self c.args.out.now.acts c.leave.new.out.acts) c.leave.result (c.leave.ensures c.args.domain.now)
 
 pub returns-in-Leave-clause-steps : goal.returns-in-Leave-clause-steps
-returns-in-Leave-clause-steps c =
-    let d = c.args.domain.now in
-    rw c.in-Leave.is (takes_steps d Leave (turn c.args.self.now c.leave.new.self c.args.out.now.acts c.leave.new.out.acts) c.leave.result (c.leave.ensures d))
+returns-in-Leave-clause-steps c = takes_event c.args.domain.now Leave (event_of c.args.event) (turn c.args.self.now c.leave.new.self c.args.out.now.acts c.leave.new.out.acts) c.leave.result (ap event_of c.in-Leave.is) (c.leave.ensures c.args.domain.now)
 
 pub returns-in-Leave-clause-refused : goal.returns-in-Leave-clause-refused
-returns-in-Leave-clause-refused c =
-    let d = c.args.domain.now in
-    takes_refused d Leave (turn c.args.self.now c.leave.new.self c.args.out.now.acts c.leave.new.out.acts) c.leave.result (c.leave.ensures d)
+returns-in-Leave-clause-refused c = takes_refused c.args.domain.now Leave (turn c.args.self.now c.leave.new.self c.args.out.now.acts c.leave.new.out.acts) c.leave.result (c.leave.ensures c.args.domain.now)
 
 pub returns-in-Leave-clause-same : goal.returns-in-Leave-clause-same
-returns-in-Leave-clause-same c =
-    let d = c.args.domain.now in
-    takes_same d Leave (turn c.args.self.now c.leave.new.self c.args.out.now.acts c.leave.new.out.acts) c.leave.result (c.leave.ensures d)
+returns-in-Leave-clause-same c = takes_same c.args.domain.now Leave (turn c.args.self.now c.leave.new.self c.args.out.now.acts c.leave.new.out.acts) c.leave.result (c.leave.ensures c.args.domain.now)
 
 pub returns-in-Leave-clause-kept : goal.returns-in-Leave-clause-kept
-returns-in-Leave-clause-kept c =
-    let d = c.args.domain.now in
-    takes_kept d Leave (turn c.args.self.now c.leave.new.self c.args.out.now.acts c.leave.new.out.acts) c.leave.result (c.leave.ensures d)
+returns-in-Leave-clause-kept c = takes_kept c.args.domain.now Leave (turn c.args.self.now c.leave.new.self c.args.out.now.acts c.leave.new.out.acts) c.leave.result (c.leave.ensures c.args.domain.now)
+
+pub returns-in-Roam-clause-number : goal.returns-in-Roam-clause-number
+returns-in-Roam-clause-number c = takes_number c.args.domain.now (Roam c.in-Roam.ap) (turn c.args.self.now c.roam.new.self c.args.out.now.acts c.roam.new.out.acts) c.roam.result c.roam.ensures
+
+pub returns-in-Roam-clause-steps : goal.returns-in-Roam-clause-steps
+returns-in-Roam-clause-steps c = takes_event c.args.domain.now (Roam c.in-Roam.ap) (event_of c.args.event) (turn c.args.self.now c.roam.new.self c.args.out.now.acts c.roam.new.out.acts) c.roam.result (ap event_of c.in-Roam.is) c.roam.ensures
+
+pub returns-in-Roam-clause-refused : goal.returns-in-Roam-clause-refused
+returns-in-Roam-clause-refused c = takes_refused c.args.domain.now (Roam c.in-Roam.ap) (turn c.args.self.now c.roam.new.self c.args.out.now.acts c.roam.new.out.acts) c.roam.result c.roam.ensures
+
+pub returns-in-Roam-clause-same : goal.returns-in-Roam-clause-same
+returns-in-Roam-clause-same c = takes_same c.args.domain.now (Roam c.in-Roam.ap) (turn c.args.self.now c.roam.new.self c.args.out.now.acts c.roam.new.out.acts) c.roam.result c.roam.ensures
+
+pub returns-in-Roam-clause-kept : goal.returns-in-Roam-clause-kept
+returns-in-Roam-clause-kept c = takes_kept c.args.domain.now (Roam c.in-Roam.ap) (turn c.args.self.now c.roam.new.self c.args.out.now.acts c.roam.new.out.acts) c.roam.result c.roam.ensures

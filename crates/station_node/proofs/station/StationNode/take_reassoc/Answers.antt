@@ -15,9 +15,18 @@ use Rattle.station_node.specs.Parts.{IsNotMoving}
 use Rattle.station_node.specs.Steps.{IsTaken, Takes, turn}
 use Rattle.station_node.specs.contracts.station.StationNode.{the_view}
 use Rattle.station_node.proofs.Arriving.{moving_state}
+use Rattle.station_node.proofs.Placed.{moving_places, arrived_places}
 use Rattle.station_node.proofs.Reached.{none_moving, other_moving, not_moving, refused-reassoc, with_session, handed-moving, handed-arrived}
 use Rattle.station_node.proofs.station.StationNode.take_reassoc.Goals.{in_default-via-in-Some+else-with-ap, in_default-via-in_default}
 use Rattle.station_node.proofs.station.StationNode.take_reassoc.Goals as goal
+
+pub invariant_of-self-in-Some-installed : goal.invariant_of-self-in-Some-installed
+invariant_of-self-in-Some-installed c =
+    arrived_places c.self.inside.attempt c.self.inside.session c.in-Some.field-0 c.in-Moving.originator c.transferred-session.result c.args.ap c.self.inside.memories.items c.from.result c.arrive.new.memory c.in-Some.is c.in-Moving.is c.if-with-ap.true c.transferred-session.ensures.ap c.self.invariant
+
+pub invariant_of-self-in_default-installed : goal.invariant_of-self-in_default-installed
+invariant_of-self-in_default-installed c =
+    moving_places c.self.inside.attempt c.self.inside.session c.in-Some.field-0 c.in-Moving.originator c.arrive.new.originator c.self.inside.memories.items c.from.result c.arrive.new.memory c.in-Some.is c.in-Moving.is c.self.invariant
 
 pub returns-in-Some-installed : goal.returns-in-Some-installed
 returns-in-Some-installed c =

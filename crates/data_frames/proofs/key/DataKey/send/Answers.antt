@@ -1,0 +1,23 @@
+use Rattle.std.proofs.Common.{◌≡◌, ◌∙◌, true, false, refl, sym}
+use Rattle.data_frames.proofs.Sends.{acts_by, outcome_by, used_by, always}
+use Rattle.data_frames.proofs.key.DataKey.send.Goals as goal
+
+pub returns-then-not-has_next-clause-acts : goal.returns-then-not-has_next-clause-acts
+returns-then-not-has_next-clause-acts c =
+    acts_by c.spent.result c.args.here.domain.now c.args.here.node c.args.to c.args.tid c.args.payload.now c.args.self.now false c.args.out.now.acts c.spent.new.out.acts (sym c.has_next.ensures ∙ c.if-not-has_next.true) c.spent.ensures.acts
+
+pub returns-then-not-has_next-clause-outcome : goal.returns-then-not-has_next-clause-outcome
+returns-then-not-has_next-clause-outcome c = outcome_by c.spent.result c.args.self.now false (sym c.has_next.ensures ∙ c.if-not-has_next.true) c.spent.ensures.outcome
+
+pub returns-then-not-has_next-clause-used : goal.returns-then-not-has_next-clause-used
+returns-then-not-has_next-clause-used c = used_by c.spent.result c.args.self.now c.args.self.now false (sym c.has_next.ensures ∙ c.if-not-has_next.true) (always c.spent.result (c.args.self.now ≡ c.args.self.now) refl)
+
+pub returns-clause-acts : goal.returns-clause-acts
+returns-clause-acts c =
+    acts_by c.send_next.result c.args.here.domain.now c.args.here.node c.args.to c.args.tid c.args.payload.now c.args.self.now true c.args.out.now.acts c.send_next.new.out.acts (sym c.has_next.ensures ∙ c.if-not-has_next.false) c.send_next.ensures.acts
+
+pub returns-clause-outcome : goal.returns-clause-outcome
+returns-clause-outcome c = outcome_by c.send_next.result c.args.self.now true (sym c.has_next.ensures ∙ c.if-not-has_next.false) c.send_next.ensures.outcome
+
+pub returns-clause-used : goal.returns-clause-used
+returns-clause-used c = used_by c.send_next.result c.args.self.now c.send_next.new.self true (sym c.has_next.ensures ∙ c.if-not-has_next.false) c.send_next.ensures.used
