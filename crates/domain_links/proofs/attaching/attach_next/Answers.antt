@@ -1,4 +1,4 @@
-use Rattle.std.proofs.Common.{List, sym, subst}
+use Rattle.std.proofs.Common.{List, sym, subst, rules}
 use Rattle.domain_links.specs.Attached.{Attached}
 use Rattle.domain_links.proofs.Attachment.{Attached-pushed, Attached-same, faults_pushed}
 use Rattle.domain_links.proofs.attaching.attach_next.Goals as goal
@@ -18,3 +18,9 @@ pub returns-in-Err-attach-clause-attached : goal.returns-in-Err-attach-clause-at
 returns-in-Err-attach-clause-attached g c start a =
     subst (λ (w : List _). Attached g.A.L.Link.told c.args.domain.now start w (g.A.Air.told c.attach.new.self)) (sym c.reserve.ensures.items)
     (Attached-same _ _ start _ _ _ c.in-Err-attach.ensures.kept a)
+
+pub returns-in-Err-attach-clause-cause : goal.returns-in-Err-attach-clause-cause
+returns-in-Err-attach-clause-cause g c = search rules
+
+pub returns-in-Err-attach-clause-untouched : goal.returns-in-Err-attach-clause-untouched
+returns-in-Err-attach-clause-untouched g c = search rules

@@ -1,4 +1,4 @@
-use Rattle.std.proofs.Common.{List, ℕ, refl, subst, arith}
+use Rattle.std.proofs.Common.{List, ℕ, refl, subst, arith, rules}
 use Rattle.std.proofs.lemmas.Result.{on_ok_weaker, on_err_weaker}
 use Rattle.std.specs.Io.KnownBytes.{Appends}
 use Rattle.domain_base.specs.Causes.{AppendsPart}
@@ -30,3 +30,9 @@ returns-clause-err g c =
     let is = long-line c.args.entry.now _ _ _ _ _ _ _ _ c.line_fits.result c.in-HandedUp.is c.as_slice.ensures (omega arith) c.if-line_fits.false c.line_fits.ensures in
     let head = subst (λ (w : List ℕ). Appends (g.K.Sink.out c.args.sink.now) (g.K.Sink.out c.write_all-2.new.sink) w) c.put_up_head-count.ensures.written.front c.in_ok-write_all.ensures.ok in
     on_err_weaker c.write_all-3.result (part-of_third _ _ _ _ _ _ _ _ is head c.in_ok-write_hex.ensures.ok) c.write_all-3.ensures.err
+
+pub returns-then-line_fits-clause-err : goal.returns-then-line_fits-clause-err
+returns-then-line_fits-clause-err g c = search rules
+
+pub returns-then-line_fits-clause-ok : goal.returns-then-line_fits-clause-ok
+returns-then-line_fits-clause-ok g c = search rules

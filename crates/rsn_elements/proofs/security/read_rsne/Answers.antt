@@ -7,3 +7,6 @@ pub returns-in-None : goal.returns-in-None
 returns-in-None c =
     let shape = begins c.args.body.now c.in-1.len_at_least (search rules) (search rules) in
     (λ other. other.1 (ap (λ (w : List ℕ). take 2 w) shape), λ f s. c.in-None.ensures f (subst (λ (w : List ℕ). SpellsRsne w f) shape s))
+
+pub returns-in-len2-up : goal.returns-in-len2-up
+returns-in-len2-up c = search rules

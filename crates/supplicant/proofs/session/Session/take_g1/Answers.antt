@@ -1,4 +1,4 @@
-use Rattle.std.proofs.Common.{◌≡◌, ℕ, ◌∷◌, [], Option, ap, subst, ◌∙◌}
+use Rattle.std.proofs.Common.{◌≡◌, ℕ, ◌∷◌, [], Option, ap, subst, ◌∙◌, rules}
 use Rattle.std.specs.Prelude.{Ok}
 use Rattle.key_hierarchy.specs.declared.inputs.Ptk.{Ptk}
 use Rattle.domain_rules.specs.Frames.{sent_g2}
@@ -27,3 +27,6 @@ returns-clause-renews c =
       tells = λ d n p z ends keyed. subst (λ (k : Ptk). Tells p c.accept_g1.new.reply (renews k (news_of group (kept_id group.key c.args.memory.now)) (sent_g2 d n p z c.args.frame.now.counter ∷ []))) same
           (subst (λ (g : GtkNews). Tells p c.accept_g1.new.reply (renews c.ptk-ptk.result g (sent_g2 d n p z c.args.frame.now.counter ∷ []))) c.give-gtk.ensures.news (c.accept_g1.ensures.tells d n p z ends (same ∙ keyed)));
     }
+
+pub returns-in_err-group-clause-refused : goal.returns-in_err-group-clause-refused
+returns-in_err-group-clause-refused c = search rules

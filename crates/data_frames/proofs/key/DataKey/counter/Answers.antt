@@ -1,0 +1,5 @@
+use Rattle.std.proofs.Common.{rules}
+use Rattle.data_frames.proofs.key.DataKey.counter.Goals as goal
+
+pub returns : goal.returns
+returns c = search rules

@@ -1,0 +1,8 @@
+use Rattle.std.proofs.Common.{rules}
+use Rattle.replay_window.proofs.sending.SendCounter.next.Goals as goal
+
+pub returns-clause-number : goal.returns-clause-number
+returns-clause-number c = search rules
+
+pub returns-then-self-eq-LAST_NUMBER-clause-number : goal.returns-then-self-eq-LAST_NUMBER-clause-number
+returns-then-self-eq-LAST_NUMBER-clause-number c = search rules

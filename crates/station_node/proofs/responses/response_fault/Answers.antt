@@ -1,0 +1,11 @@
+use Rattle.std.proofs.Common.{rules}
+use Rattle.station_node.proofs.responses.response_fault.Goals as goal
+
+pub returns-in-FtPsk : goal.returns-in-FtPsk
+returns-in-FtPsk c = search rules
+
+pub returns-in-Psk : goal.returns-in-Psk
+returns-in-Psk c = search rules
+
+pub returns-in-PskSha256 : goal.returns-in-PskSha256
+returns-in-PskSha256 c = search rules
