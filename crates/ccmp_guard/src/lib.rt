@@ -7,8 +7,6 @@ mod ccm;
 mod ccmp;
 mod guard;
 mod laws;
-#[cfg(test)]
-mod tests;
 
 pub use ccmp::{
     Seal, key_id_in, open_body, packet_number, seal_body, sealed_front, traffic_identifier,

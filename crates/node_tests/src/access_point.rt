@@ -13,7 +13,7 @@ mod transition;
 use crate::acts::Expected::{Drew, Group, OwnGroupOfA2};
 use crate::acts::{Event, Expected, Step, come, come_of, is_outcome, tid_of};
 use crate::mobility_vectors::{GTK_OF_A2, LAST_GTK_OF_A2};
-use crate::network::{holders, mobile_network, network};
+use crate::network::{holders, network};
 use crate::vectors::GTK;
 use act_memory::Outbox;
 use ap_node::ApNode;
@@ -82,7 +82,7 @@ fn steps(
     is_outcome(node.step(alloc, domain, event, holders, out), step.outcome) && come_of(out, step)
 }
 
-// The access point takes these steps.
+// The access point takes the steps of that scenario.
 fn follow(
     rt: &impl Abort,
     alloc: Global,
@@ -90,6 +90,7 @@ fn follow(
     node: &mut ApNode,
     holders: &mut ListHolders,
     out: &mut Outbox,
+    shows: &str,
     scenario: &[Step],
 )
     requires form { InForm domain.now }
@@ -102,7 +103,8 @@ fn follow(
     for step in scenario {
         assert!(rt;
             steps(alloc, domain, node, holders, out, step),
-            "{}",
+            "{}: {}",
+            shows,
             step.shows
         );
     }
@@ -139,14 +141,14 @@ fn started(
     node
 }
 
-// An access point starts so and takes these steps, where the key holders are those.
+// An access point starts so and takes these steps.
 fn start_and_follow(
     rt: &impl Abort,
     alloc: Global,
     domain: &Domain,
-    starting: &Starting,
     holders: &mut ListHolders,
-    scenario: &[Step],
+    shows: &str,
+    node: &(&Starting, &[Step]),
 )
     requires form { InForm domain.now }
     requires aps { length domain.now.aps ≡ 2 }
@@ -154,133 +156,202 @@ fn start_and_follow(
     requires ids { holders.old.ids ≡ ids_of domain.now }
     ensures ids { holders.new.ids ≡ ids_of domain.now }
 {
+    let (starting, steps) = node;
     let mut out = Outbox::new(alloc);
     let mut node = started(rt, alloc, domain, starting, &mut out);
-    follow(rt, alloc, domain, &mut node, holders, &mut out, scenario);
+    follow(
+        rt, alloc, domain, &mut node, holders, &mut out, shows, steps,
+    );
 }
 
-// An access point starts so and takes these steps.
-fn try_steps(rt: &impl Abort, alloc: Global, akm: Akm, starting: &Starting, scenario: &[Step]) {
-    let domain = network(rt, alloc, akm);
+// What a scenario shows, its suite, and its access points in turn, each with its steps.
+struct Scenario {
+    shows: &'static str,
+    akm: Akm,
+    nodes: &'static [(&'static Starting, &'static [Step])],
+}
+
+// The key holders are those of the network.
+fn try_scenario(rt: &impl Abort, alloc: Global, scenario: &Scenario) {
+    let domain = network(rt, alloc, scenario.akm);
     let mut holders = holders(rt, alloc, &domain);
-    start_and_follow(rt, alloc, &domain, starting, &mut holders, scenario);
+    for node in scenario.nodes {
+        start_and_follow(rt, alloc, &domain, &mut holders, scenario.shows, node);
+    }
 }
 
-// In the mobility domain the first access point takes these steps, and the second one starts so and
-// takes those.
-fn try_transition(
-    rt: &impl Abort,
-    alloc: Global,
-    first: &[Step],
-    starting: &Starting,
-    scenario: &[Step],
-) {
-    let domain = mobile_network(rt, alloc);
-    let mut holders = holders(rt, alloc, &domain);
-    start_and_follow(rt, alloc, &domain, FIRST, &mut holders, first);
-    start_and_follow(rt, alloc, &domain, starting, &mut holders, scenario);
+const STARTS: &Scenario = &Scenario {
+    shows: "first group key",
+    akm: Akm::Psk,
+    nodes: &[(FIRST, &[])],
+};
+
+const REQUESTS: &Scenario = &Scenario {
+    shows: "requests and second messages",
+    akm: Akm::Psk,
+    nodes: &[(FIRST, requests::REQUESTS)],
+};
+
+const FIRST_MESSAGES: &Scenario = &Scenario {
+    shows: "the first message is sent four times",
+    akm: Akm::Psk,
+    nodes: &[(FIRST, requests::FIRST_MESSAGES)],
+};
+
+const SPENT: &Scenario = &Scenario {
+    shows: "draws of an access point end",
+    akm: Akm::Psk,
+    nodes: &[(LAST_FIRST, requests::SPENT)],
+};
+
+const HANDSHAKES: &Scenario = &Scenario {
+    shows: "M4 finishes a handshake",
+    akm: Akm::Psk,
+    nodes: &[(FIRST, handshakes::HANDSHAKES)],
+};
+
+const HANDSHAKE_OF_SUITE_6: &Scenario = &Scenario {
+    shows: "M4 finishes a handshake of suite 6",
+    akm: Akm::PskSha256,
+    nodes: &[(FIRST, handshakes::HANDSHAKE_OF_SUITE_6)],
+};
+
+const STATIONS: &Scenario = &Scenario {
+    shows: "stations are kept apart",
+    akm: Akm::Psk,
+    nodes: &[(FIRST, handshakes::STATIONS)],
+};
+
+const DATA: &Scenario = &Scenario {
+    shows: "data goes under the keys in use",
+    akm: Akm::Psk,
+    nodes: &[(FIRST, protected::DATA)],
+};
+
+const TAKEN: &Scenario = &Scenario {
+    shows: "data of a station is taken once",
+    akm: Akm::Psk,
+    nodes: &[(FIRST, protected::TAKEN)],
+};
+
+const NEXT_KEY: &Scenario = &Scenario {
+    shows: "the next handshake brings a new key",
+    akm: Akm::Psk,
+    nodes: &[(FIRST, protected::NEXT_KEY)],
+};
+
+const GIVEN_UP: &Scenario = &Scenario {
+    shows: "the key goes with the session",
+    akm: Akm::Psk,
+    nodes: &[(FIRST, protected::GIVEN_UP)],
+};
+
+const ANSWERED: &Scenario = &Scenario {
+    shows: "a new group key waits for the answer",
+    akm: Akm::Psk,
+    nodes: &[(FIRST, rekeys::ANSWERED)],
+};
+
+const NO_ANSWER: &Scenario = &Scenario {
+    shows: "a session without an answer is given up",
+    akm: Akm::Psk,
+    nodes: &[(FIRST, rekeys::GIVEN_UP)],
+};
+
+const DROPPED: &Scenario = &Scenario {
+    shows: "a session that owes is dropped",
+    akm: Akm::Psk,
+    nodes: &[(FIRST, rekeys::DROPPED)],
+};
+
+const OLDER: &Scenario = &Scenario {
+    shows: "M4 for an older group key is followed by G1",
+    akm: Akm::Psk,
+    nodes: &[(FIRST, rekeys::OLDER)],
+};
+
+const BOTH: &Scenario = &Scenario {
+    shows: "a new group key waits for all answers",
+    akm: Akm::Psk,
+    nodes: &[(FIRST, rekeys::BOTH)],
+};
+
+const NO_DRAW: &Scenario = &Scenario {
+    shows: "no group key is drawn at the end of draws",
+    akm: Akm::Psk,
+    nodes: &[(LAST_FIRST, rekeys::SPENT)],
+};
+
+const TRANSITION: &Scenario = &Scenario {
+    shows: "fast transition to an access point",
+    akm: Akm::FtPsk,
+    nodes: &[(FIRST, transition::ASSOCIATED), (SECOND, transition::TAKEN)],
+};
+
+const REVOKED: &Scenario = &Scenario {
+    shows: "no fast transition with a revoked key",
+    akm: Akm::FtPsk,
+    nodes: &[(FIRST, transition::REVOKED), (SECOND, transition::ABSENT)],
+};
+
+const NO_NONCE: &Scenario = &Scenario {
+    shows: "no fast transition at the end of draws",
+    akm: Akm::FtPsk,
+    nodes: &[
+        (FIRST, transition::ASSOCIATED),
+        (LAST_SECOND, transition::SPENT),
+    ],
+};
+
+const REFUSED: &Scenario = &Scenario {
+    shows: "no fast transition by a request that is refused",
+    akm: Akm::FtPsk,
+    nodes: &[
+        (FIRST, transition::ASSOCIATED),
+        (SECOND, transition::REFUSED),
+    ],
+};
+
+const FAULTY: &Scenario = &Scenario {
+    shows: "messages 2 with other key data",
+    akm: Akm::FtPsk,
+    nodes: &[(FIRST, transition::FAULTY)],
+};
+
+#[test]
+fn requests_and_handshakes_at_an_access_point(rt: HostRuntime) {
+    try_scenario(&rt, rt.alloc(), STARTS);
+    try_scenario(&rt, rt.alloc(), REQUESTS);
+    try_scenario(&rt, rt.alloc(), FIRST_MESSAGES);
+    try_scenario(&rt, rt.alloc(), SPENT);
+    try_scenario(&rt, rt.alloc(), HANDSHAKES);
+    try_scenario(&rt, rt.alloc(), HANDSHAKE_OF_SUITE_6);
+    try_scenario(&rt, rt.alloc(), STATIONS);
 }
 
 #[test]
-fn first_group_key(rt: HostRuntime) {
-    try_steps(&rt, rt.alloc(), Akm::Psk, FIRST, &[]);
+fn data_at_an_access_point(rt: HostRuntime) {
+    try_scenario(&rt, rt.alloc(), DATA);
+    try_scenario(&rt, rt.alloc(), TAKEN);
+    try_scenario(&rt, rt.alloc(), NEXT_KEY);
+    try_scenario(&rt, rt.alloc(), GIVEN_UP);
 }
 
 #[test]
-fn requests_and_second_messages(rt: HostRuntime) {
-    try_steps(&rt, rt.alloc(), Akm::Psk, FIRST, requests::REQUESTS);
+fn new_group_keys_at_an_access_point(rt: HostRuntime) {
+    try_scenario(&rt, rt.alloc(), ANSWERED);
+    try_scenario(&rt, rt.alloc(), NO_ANSWER);
+    try_scenario(&rt, rt.alloc(), DROPPED);
+    try_scenario(&rt, rt.alloc(), OLDER);
+    try_scenario(&rt, rt.alloc(), BOTH);
+    try_scenario(&rt, rt.alloc(), NO_DRAW);
 }
 
 #[test]
-fn first_message_is_sent_four_times(rt: HostRuntime) {
-    try_steps(&rt, rt.alloc(), Akm::Psk, FIRST, requests::FIRST_MESSAGES);
-}
-
-#[test]
-fn draws_of_an_access_point_end(rt: HostRuntime) {
-    try_steps(&rt, rt.alloc(), Akm::Psk, LAST_FIRST, requests::SPENT);
-}
-
-#[test]
-fn m4_finishes_a_handshake(rt: HostRuntime) {
-    try_steps(&rt, rt.alloc(), Akm::Psk, FIRST, handshakes::HANDSHAKES);
-}
-
-#[test]
-fn m4_finishes_a_handshake_of_suite_6(rt: HostRuntime) {
-    let steps = handshakes::HANDSHAKE_OF_SUITE_6;
-    try_steps(&rt, rt.alloc(), Akm::PskSha256, FIRST, steps);
-}
-
-#[test]
-fn stations_are_kept_apart(rt: HostRuntime) {
-    try_steps(&rt, rt.alloc(), Akm::Psk, FIRST, handshakes::STATIONS);
-}
-
-#[test]
-fn data_goes_under_the_keys_in_use(rt: HostRuntime) {
-    try_steps(&rt, rt.alloc(), Akm::Psk, FIRST, protected::DATA);
-}
-
-#[test]
-fn data_of_a_station_is_taken_once(rt: HostRuntime) {
-    try_steps(&rt, rt.alloc(), Akm::Psk, FIRST, protected::TAKEN);
-}
-
-#[test]
-fn next_handshake_brings_a_new_key(rt: HostRuntime) {
-    try_steps(&rt, rt.alloc(), Akm::Psk, FIRST, protected::NEXT_KEY);
-}
-
-#[test]
-fn key_goes_with_the_session(rt: HostRuntime) {
-    try_steps(&rt, rt.alloc(), Akm::Psk, FIRST, protected::GIVEN_UP);
-}
-
-#[test]
-fn new_group_key_waits_for_the_answer(rt: HostRuntime) {
-    try_steps(&rt, rt.alloc(), Akm::Psk, FIRST, rekeys::ANSWERED);
-}
-
-#[test]
-fn session_without_an_answer_is_given_up(rt: HostRuntime) {
-    try_steps(&rt, rt.alloc(), Akm::Psk, FIRST, rekeys::GIVEN_UP);
-}
-
-#[test]
-fn session_that_owes_is_dropped(rt: HostRuntime) {
-    try_steps(&rt, rt.alloc(), Akm::Psk, FIRST, rekeys::DROPPED);
-}
-
-#[test]
-fn m4_for_an_older_group_key_is_followed_by_g1(rt: HostRuntime) {
-    try_steps(&rt, rt.alloc(), Akm::Psk, FIRST, rekeys::OLDER);
-}
-
-#[test]
-fn new_group_key_waits_for_all_answers(rt: HostRuntime) {
-    try_steps(&rt, rt.alloc(), Akm::Psk, FIRST, rekeys::BOTH);
-}
-
-#[test]
-fn no_group_key_is_drawn_at_the_end_of_draws(rt: HostRuntime) {
-    try_steps(&rt, rt.alloc(), Akm::Psk, LAST_FIRST, rekeys::SPENT);
-}
-
-#[test]
-fn fast_transition_to_an_access_point(rt: HostRuntime) {
-    let (first, then) = (transition::ASSOCIATED, transition::TAKEN);
-    try_transition(&rt, rt.alloc(), first, SECOND, then);
-}
-
-#[test]
-fn no_fast_transition_with_a_revoked_key(rt: HostRuntime) {
-    let (first, then) = (transition::REVOKED, transition::ABSENT);
-    try_transition(&rt, rt.alloc(), first, SECOND, then);
-}
-
-#[test]
-fn no_fast_transition_at_the_end_of_draws(rt: HostRuntime) {
-    let (first, then) = (transition::ASSOCIATED, transition::SPENT);
-    try_transition(&rt, rt.alloc(), first, LAST_SECOND, then);
+fn fast_transitions_to_an_access_point(rt: HostRuntime) {
+    try_scenario(&rt, rt.alloc(), TRANSITION);
+    try_scenario(&rt, rt.alloc(), REVOKED);
+    try_scenario(&rt, rt.alloc(), NO_NONCE);
+    try_scenario(&rt, rt.alloc(), REFUSED);
+    try_scenario(&rt, rt.alloc(), FAULTY);
 }

@@ -67,8 +67,10 @@ pub enum Expected {
     Put,
     /// It was asked for the PMK-R1 of S1 at A2, and gave it.
     Found,
-    /// It was asked for the same, and has no such row.
-    Absent,
+    /// It was asked for that of this PMKR0Name, and has no such row.
+    Absent([u8; 16]),
+    /// A holder of this R0KH-ID was to be asked, and there is none.
+    NoHolder(&'static [u8]),
     /// It was told to hold the PMK-R0 of S1 no longer, and does not.
     Revoked,
     GaveUp(Node, Message),
@@ -324,7 +326,11 @@ fn is_finished(act: &Act, node: Node, keys: &Keys) -> bool {
 
 // The row is that of S1 at A1.
 fn is_row(r0kh_id: &[u8], name: &[u8; 16], sta: Node) -> bool {
-    r0kh_id == b"r0kh-1".as_slice() && *name == PMK_R0_NAME && sta == S1
+    *name == PMK_R0_NAME && is_row_of(r0kh_id, sta)
+}
+
+fn is_row_of(r0kh_id: &[u8], sta: Node) -> bool {
+    r0kh_id == b"r0kh-1".as_slice() && sta == S1
 }
 
 fn is_put(act: &Act) -> bool {
@@ -351,14 +357,26 @@ fn is_found(act: &Act) -> bool {
     }
 }
 
-fn is_absent(act: &Act) -> bool {
+fn is_absent(act: &Act, wanted: [u8; 16]) -> bool {
     match act {
         Act::Looked {
             r0kh_id,
             name,
             sta,
             answer: PullAnswer::Absent,
-        } => is_row(r0kh_id.as_slice(), name, *sta),
+        } => *name == wanted && is_row_of(r0kh_id.as_slice(), *sta),
+        _ => false,
+    }
+}
+
+fn is_without_holder(act: &Act, wanted: &[u8]) -> bool {
+    match act {
+        Act::Looked {
+            r0kh_id,
+            name,
+            sta,
+            answer: PullAnswer::NoHolder,
+        } => r0kh_id.as_slice() == wanted && *name == PMK_R0_NAME && *sta == S1,
         _ => false,
     }
 }
@@ -450,7 +468,8 @@ fn is(act: &Act, expected: &Expected, came: &[u8], told: Outcome) -> bool {
         Expected::Closed(node, part) => is_closed(act, node, part),
         Expected::Put => is_put(act),
         Expected::Found => is_found(act),
-        Expected::Absent => is_absent(act),
+        Expected::Absent(name) => is_absent(act, name),
+        Expected::NoHolder(r0kh_id) => is_without_holder(act, r0kh_id),
         Expected::Revoked => is_revoked(act),
         Expected::GaveUp(node, message) => is_given_up(act, node, message),
         Expected::Idle(why) => is_idle(act, why),

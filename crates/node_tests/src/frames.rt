@@ -1,9 +1,7 @@
-//! EAPOL-Key frames in data frames between the first access point and the first station, made octet
-//! by octet.
+//! Octets in pieces, and what the reply of one part of a node tells.
 
-use crate::vectors::{FROM_AP, Suite, TO_AP};
 use eapol_key::Message;
-use run_journal::{Keyed, Kind, REPLY_LEN, Reply};
+use run_journal::{GtkNews, Keyed, Kind, REPLY_LEN, Reply};
 use std::alloc::Global;
 use std::process::Abort;
 
@@ -28,196 +26,61 @@ pub fn is_joined(octets: &[u8], pieces: &[&[u8]]) -> bool {
     rest.is_empty()
 }
 
-/// A message by the fields in which messages differ: the header of its data frame with what is
-/// before the EAPOL frame, the key information, the key length, the replay counter, the nonce, the
-/// RSC (a number of 48 bits), the MIC and the key data.
-#[derive(Clone, Copy)]
-pub struct Frame {
-    pub header: &'static [u8],
-    pub information: &'static [u8],
-    pub key_length: [u8; 2],
-    pub counter: u64,
-    pub nonce: [u8; 32],
-    pub rsc: u64,
-    pub mic: [u8; 16],
-    pub key_data: &'static [u8],
+/// What a reply sends.
+pub enum Sends {
+    Nothing,
+    /// Nothing; the reply names that kind.
+    NothingOf(Message),
+    /// That message, sealed under that key or not, in these octets.
+    Frame(Message, Option<[u8; 16]>, &'static [u8]),
 }
 
-pub fn m1(suite: &Suite, counter: u64, anonce: [u8; 32]) -> Frame {
-    Frame {
-        header: FROM_AP,
-        information: suite.information[0],
-        key_length: [0, 16],
-        counter,
-        nonce: anonce,
-        rsc: 0,
-        mic: [0; 16],
-        key_data: &[],
+/// What a reply tells: the key under which the MIC verified, the pairwise keys that were derived and
+/// installed, the group key that came, and what is sent.
+pub struct Told {
+    pub verified: Option<[u8; 16]>,
+    pub derived: Option<Keyed>,
+    pub installed: Option<Keyed>,
+    pub gtk: Option<GtkNews>,
+    pub sends: Sends,
+}
+
+pub const NOTHING: Told = Told {
+    verified: None,
+    derived: None,
+    installed: None,
+    gtk: None,
+    sends: Sends::Nothing,
+};
+
+fn is_sent(reply: &Reply, sends: &Sends) -> bool {
+    match *sends {
+        Sends::Nothing => reply.len == 0 && reply.sealed.is_none(),
+        Sends::NothingOf(message) => {
+            reply.len == 0 && reply.sealed.is_none() && reply.kind == Kind::Key(message)
+        }
+        Sends::Frame(message, sealed, octets) => {
+            let (front, _) = reply.octets.split_at(reply.len.min(REPLY_LEN));
+            reply.kind == Kind::Key(message) && reply.sealed == sealed && front == octets
+        }
     }
 }
 
-pub fn m2(
-    suite: &Suite,
-    counter: u64,
-    snonce: [u8; 32],
-    mic: [u8; 16],
-    rsne: &'static [u8],
-) -> Frame {
-    Frame {
-        header: TO_AP,
-        information: suite.information[1],
-        key_length: [0, 0],
-        counter,
-        nonce: snonce,
-        rsc: 0,
-        mic,
-        key_data: rsne,
+fn is_gtk(came: Option<GtkNews>, wanted: Option<GtkNews>) -> bool {
+    match (came, wanted) {
+        (Some(came), Some(wanted)) => {
+            came.resumed == wanted.resumed && came.id == wanted.id && came.key == wanted.key
+        }
+        (None, None) => true,
+        _ => false,
     }
 }
 
-pub fn m3(
-    suite: &Suite,
-    counter: u64,
-    anonce: [u8; 32],
-    rsc: u64,
-    mic: [u8; 16],
-    key_data: &'static [u8],
-) -> Frame {
-    Frame {
-        header: FROM_AP,
-        information: suite.information[2],
-        key_length: [0, 16],
-        counter,
-        nonce: anonce,
-        rsc,
-        mic,
-        key_data,
-    }
-}
-
-pub fn m4(suite: &Suite, counter: u64, mic: [u8; 16]) -> Frame {
-    Frame {
-        header: TO_AP,
-        information: suite.information[3],
-        key_length: [0, 0],
-        counter,
-        nonce: [0; 32],
-        rsc: 0,
-        mic,
-        key_data: &[],
-    }
-}
-
-/// G1 with that key information.
-pub fn g1(
-    information: &'static [u8],
-    counter: u64,
-    rsc: u64,
-    mic: [u8; 16],
-    key_data: &'static [u8],
-) -> Frame {
-    Frame {
-        header: FROM_AP,
-        information,
-        key_length: [0, 0],
-        counter,
-        nonce: [0; 32],
-        rsc,
-        mic,
-        key_data,
-    }
-}
-
-/// G2 with that key information.
-pub fn g2(information: &'static [u8], counter: u64, mic: [u8; 16]) -> Frame {
-    Frame {
-        header: TO_AP,
-        information,
-        key_length: [0, 0],
-        counter,
-        nonce: [0; 32],
-        rsc: 0,
-        mic,
-        key_data: &[],
-    }
-}
-
-// The version and the type of an EAPOL frame, the descriptor type of an EAPOL-Key frame, its
-// EAPOL-Key IV and its reserved field.
-const VERSION_AND_TYPE: &[u8] = b"\x02\x03";
-
-const DESCRIPTOR: &[u8] = b"\x02";
-
-const IV: &[u8] = &[0; 16];
-
-const RESERVED: &[u8] = &[0; 8];
-
-/// The octets of the frame on the air.
-pub fn on_air(rt: &impl Abort, alloc: Global, frame: &Frame) -> Vec<u8> {
-    let size = (frame.key_data.len() % 65_536) as u16;
-    let body_size = size.wrapping_add(95).to_be_bytes();
-    let key_length = frame.key_length;
-    let counter = frame.counter.to_be_bytes();
-    let nonce = frame.nonce;
-    let rsc = frame.rsc.to_le_bytes();
-    let mic = frame.mic;
-    let key_data_size = size.to_be_bytes();
-    let pieces = [
-        frame.header,
-        VERSION_AND_TYPE,
-        &body_size,
-        DESCRIPTOR,
-        frame.information,
-        &key_length,
-        &counter,
-        &nonce,
-        IV,
-        &rsc,
-        RESERVED,
-        &mic,
-        &key_data_size,
-        frame.key_data,
-    ];
-    joined(rt, alloc, &pieces)
-}
-
-// The octets are those of the frame on the air.
-fn is_on_air(rt: &impl Abort, alloc: Global, octets: &[u8], frame: &Frame) -> bool {
-    let expected = on_air(rt, alloc, frame);
-    octets == expected.as_slice()
-}
-
-/// The octets that the reply sends.
-pub fn sent(reply: &Reply) -> &[u8] {
-    let (front, _) = reply.octets.split_at(reply.len.min(REPLY_LEN));
-    front
-}
-
-/// The reply sends the frame as that message, sealed under that key.
-pub fn sends(
-    rt: &impl Abort,
-    alloc: Global,
-    reply: &Reply,
-    message: Message,
-    sealed: Option<[u8; 16]>,
-    frame: &Frame,
-) -> bool {
-    reply.kind == Kind::Key(message)
-        && reply.sealed == sealed
-        && is_on_air(rt, alloc, sent(reply), frame)
-}
-
-/// The reply sends nothing.
-pub fn is_silent(reply: &Reply) -> bool {
-    reply.len == 0 && reply.sealed.is_none()
-}
-
-/// The reply tells of these pairwise keys.
-pub fn tells(
-    reply: &Reply,
-    verified: Option<[u8; 16]>,
-    derived: Option<Keyed>,
-    installed: Option<Keyed>,
-) -> bool {
-    reply.verified == verified && reply.derived == derived && reply.installed == installed
+/// The reply tells that.
+pub fn is_told(reply: &Reply, told: &Told) -> bool {
+    reply.verified == told.verified
+        && reply.derived == told.derived
+        && reply.installed == told.installed
+        && is_gtk(reply.gtk, told.gtk)
+        && is_sent(reply, &told.sends)
 }

@@ -7,7 +7,7 @@ use crate::frames::joined;
 use crate::network::network;
 use crate::vectors::{A1, A1_ADDRESS, A2, A2_ADDRESS, S1, S1_ADDRESS, S2, S2_ADDRESS};
 use air_frame::AirFault;
-use domain_base::{Akm, Mac, Node};
+use domain_base::{Akm, Node};
 use eapol_key::{FaultKind, FrameFault, Message};
 use frame_intake::{Judged, judge, read};
 use node_base::{address, peer_of, rsne_status};
@@ -90,10 +90,13 @@ fn try_case(rt: &impl Abort, alloc: Global, domain: &Domain, case: &Case)
     assert!(rt; is_judged(domain, case, &octets), "{}", case.shows);
 }
 
-fn try_cases(rt: &impl Abort, alloc: Global, cases: &[Case]) {
-    let domain = network(rt, alloc, Akm::Psk);
+fn try_cases(rt: &impl Abort, alloc: Global, domain: &Domain, cases: &[Case])
+    requires form { InForm domain.now }
+    requires aps { length domain.now.aps ≡ 2 }
+    requires stas { length domain.now.stas ≡ 2 }
+{
     for case in cases {
-        try_case(rt, alloc, &domain, case);
+        try_case(rt, alloc, domain, case);
     }
 }
 
@@ -121,11 +124,6 @@ const UNREAD: &[Case] = &[
         told: Told::Ignored,
     },
 ];
-
-#[test]
-fn no_frame_is_refused_as_its_reader_says(rt: HostRuntime) {
-    try_cases(&rt, rt.alloc(), UNREAD);
-}
 
 // Management frames.
 const MANAGED: &[Case] = &[
@@ -247,11 +245,6 @@ const MANAGED: &[Case] = &[
     },
 ];
 
-#[test]
-fn management_is_for_its_receiver_from_a_peer(rt: HostRuntime) {
-    try_cases(&rt, rt.alloc(), MANAGED);
-}
-
 // EAPOL-Key frames.
 const KEYED: &[Case] = &[
     Case {
@@ -361,11 +354,6 @@ const KEYED: &[Case] = &[
     },
 ];
 
-#[test]
-fn messages_go_one_way(rt: HostRuntime) {
-    try_cases(&rt, rt.alloc(), KEYED);
-}
-
 // Protected data.
 const SEALED: &[Case] = &[
     Case {
@@ -448,42 +436,33 @@ const SEALED: &[Case] = &[
 ];
 
 #[test]
-fn protected_data_is_for_its_receiver_from_a_peer(rt: HostRuntime) {
-    try_cases(&rt, rt.alloc(), SEALED);
+fn frames_are_for_their_receivers_from_a_peer(rt: HostRuntime) {
+    let domain = network(&rt, rt.alloc(), Akm::Psk);
+    try_cases(&rt, rt.alloc(), &domain, UNREAD);
+    try_cases(&rt, rt.alloc(), &domain, MANAGED);
+    try_cases(&rt, rt.alloc(), &domain, KEYED);
+    try_cases(&rt, rt.alloc(), &domain, SEALED);
 }
 
-// The address of the node is found, and the node by it at its peer.
-fn is_found(domain: &Domain, node: Node, peer: Node, there: Mac) -> bool
-    requires form { InForm domain.now }
-    requires listed { IsListed domain.now peer }
-{
-    let found = address(domain, peer);
-    found == there && peer_of(domain, node, found) == Some(peer)
-}
-
+// The addresses of these nodes are found, and the nodes by them at their peers; neither an access
+// point is found by another's address, nor a station by another's.
 fn are_found(domain: &Domain) -> bool
     requires form { InForm domain.now }
     requires aps { length domain.now.aps ≡ 2 }
     requires stas { length domain.now.stas ≡ 2 }
 {
-    is_found(domain, A1, S1, S1_ADDRESS)
-        && is_found(domain, A1, S2, S2_ADDRESS)
-        && is_found(domain, S1, A1, A1_ADDRESS)
-        && is_found(domain, S2, A2, A2_ADDRESS)
-}
-
-// Neither an access point is found by another's address, nor a station by another's.
-fn are_apart(domain: &Domain) -> bool
-    requires form { InForm domain.now }
-{
-    peer_of(domain, A1, A2_ADDRESS).is_none() && peer_of(domain, S1, S2_ADDRESS).is_none()
+    (address(domain, S1) == S1_ADDRESS && peer_of(domain, A1, S1_ADDRESS) == Some(S1))
+        && (address(domain, S2) == S2_ADDRESS && peer_of(domain, A1, S2_ADDRESS) == Some(S2))
+        && (address(domain, A1) == A1_ADDRESS && peer_of(domain, S1, A1_ADDRESS) == Some(A1))
+        && (address(domain, A2) == A2_ADDRESS && peer_of(domain, S2, A2_ADDRESS) == Some(A2))
+        && peer_of(domain, A1, A2_ADDRESS).is_none()
+        && peer_of(domain, S1, S2_ADDRESS).is_none()
 }
 
 #[test]
 fn nodes_are_found_by_their_addresses(rt: HostRuntime) {
     let domain = network(&rt, rt.alloc(), Akm::Psk);
     assert!(rt; are_found(&domain));
-    assert!(rt; are_apart(&domain));
 }
 
 static RSNES: [(&[u8], Option<u16>); 10] = [

@@ -2,127 +2,150 @@
 
 use group_key::{Given, GroupKey, GroupKeys, GroupMemory, RekeyPending};
 
-// The key has that number in the order of drawing and that key id, and is made of that octet.
-fn is(found: GroupKey, place: u64, id: u8, octet: u8) -> bool {
+// What is called of the group keys of an access point, and what is told.
+enum Turn {
+    // The keys in use and drawn last are those of these numbers in the order of drawing, and the
+    // latter is pending where they differ.
+    Are(u64, u64),
+    // The key that is made of this octet is drawn.
+    Draws(u8),
+    // It is not drawn, since the newest is not in use yet.
+    Waits(u8),
+    // The newest comes into use.
+    Switches,
+}
+
+const TURNS: &[Turn] = &[
+    Turn::Are(0, 0),
+    Turn::Draws(11),
+    Turn::Are(0, 1),
+    Turn::Waits(12),
+    Turn::Are(0, 1),
+    Turn::Switches,
+    Turn::Are(1, 1),
+    Turn::Draws(12),
+    Turn::Are(1, 2),
+];
+
+// The key is that of this number: key ids take turns, and each key is made of an octet.
+fn is_at(found: GroupKey, place: u64) -> bool {
+    let (id, octet) = match place {
+        0 => (1, 10),
+        1 => (2, 11),
+        _ => (1, 12),
+    };
     found.place == place && found.id == id && found.key == [octet; 16]
 }
 
-// The keys in use and drawn last are those of these numbers, and the latter is pending where they
-// differ.
-fn are(keys: &GroupKeys, current: u64, newest: u64) -> bool {
-    is_at(keys.current(), current)
-        && is_at(keys.newest(), newest)
-        && keys.is_pending() == (current != newest)
-}
-
-// The key of that number.
-fn is_at(found: GroupKey, place: u64) -> bool {
-    match place {
-        0 => is(found, 0, 1, 10),
-        1 => is(found, 1, 2, 11),
-        _ => is(found, 2, 1, 12),
+fn takes_turn(keys: &mut GroupKeys, turn: &Turn) -> bool {
+    let has_room = keys.newest().place < 9;
+    match *turn {
+        Turn::Are(current, newest) => {
+            is_at(keys.current(), current)
+                && is_at(keys.newest(), newest)
+                && keys.is_pending() == (current != newest)
+        }
+        Turn::Draws(octet) => has_room && keys.rekey([octet; 16]).is_ok(),
+        Turn::Waits(octet) => { has_room && matches!(keys.rekey([octet; 16]), Err(RekeyPending)) }
+        Turn::Switches => {
+            keys.switch();
+            true
+        }
     }
-}
-
-// A key that is made of that octet is drawn.
-fn draws(keys: &mut GroupKeys, octet: u8) -> bool {
-    keys.newest().place < 9 && keys.rekey([octet; 16]).is_ok()
-}
-
-// It is not drawn, since the newest is not in use yet.
-fn is_pending(keys: &mut GroupKeys, octet: u8) -> bool {
-    keys.newest().place < 9 && matches!(keys.rekey([octet; 16]), Err(RekeyPending))
-}
-
-fn take_turns(keys: &mut GroupKeys) -> bool {
-    let are_drawn = are(keys, 0, 0) && draws(keys, 11) && are(keys, 0, 1);
-    let is_kept = is_pending(keys, 12) && are(keys, 0, 1);
-    keys.switch();
-    are_drawn && is_kept && are(keys, 1, 1) && draws(keys, 12) && are(keys, 1, 2)
 }
 
 #[test]
 fn keys_of_an_access_point_take_turns(rt: HostRuntime) {
     let mut keys = GroupKeys::new([10; 16]);
-    assert!(rt; take_turns(&mut keys));
-}
-
-// The key that is made of that octet was given, and is installed.
-fn installs(memory: &mut GroupMemory, octet: u8, id: u8, rsc: u64) -> bool {
-    matches!(memory.give(&[octet; 16], id, rsc), Given::Installed)
-}
-
-// The same, and it goes on.
-fn resumes(memory: &mut GroupMemory, octet: u8, id: u8, rsc: u64) -> bool {
-    matches!(memory.give(&[octet; 16], id, rsc), Given::Resumed)
-}
-
-// The key with that key id is made of that octet, and has that counter.
-fn finds(memory: &GroupMemory, id: u8, octet: u8, counter: u64) -> bool {
-    memory.find(id) == Some(([octet; 16], counter))
-}
-
-// The counter of the key with that key id goes up to that number.
-fn takes(memory: &mut GroupMemory, id: u8, number: u64) -> bool {
-    match memory.find(id) {
-        Some((_, counter)) if counter < number => {
-            memory.take(id, number);
-            true
-        }
-        _ => false,
+    for turn in TURNS {
+        assert!(rt; takes_turn(&mut keys, turn));
     }
 }
 
-// What a station does with two keys and a third.
-fn keeps_two(memory: &mut GroupMemory) -> bool {
-    memory.find(1).is_none()
-        && installs(memory, 10, 1, 5)
-        && installs(memory, 11, 2, 0)
-        && finds(memory, 1, 10, 5)
-        && finds(memory, 2, 11, 0)
-        && installs(memory, 12, 1, 9)
+// What is called of the group keys that a station keeps, each made of an octet, and what is told.
+enum Call {
+    // The key of this octet with this key id and this RSC is given, and installed.
+    Installs(u8, u8, u64),
+    // The same, and it goes on.
+    Resumes(u8, u8, u64),
+    // The key with this key id is made of this octet, and has this counter.
+    Finds(u8, u8, u64),
+    FindsNone(u8),
+    // The counter of the key with this key id goes up to this number.
+    Takes(u8, u64),
+    // The key of this octet has this key id, or is not kept.
+    HasId(u8, Option<u8>),
 }
 
-// The first is forgotten, and would be installed again.
-fn forgets_the_first(memory: &mut GroupMemory) -> bool {
-    finds(memory, 1, 12, 9)
-        && memory.id_of(&[10; 16]).is_none()
-        && installs(memory, 10, 1, 0)
-        && memory.id_of(&[11; 16]).is_none()
+// What these calls show, from no key on.
+struct Calls {
+    shows: &'static str,
+    calls: &'static [Call],
+}
+
+static MEMORIES: [Calls; 2] = [
+    Calls {
+        shows: "two keys are kept, and the first is forgotten, and would be installed again",
+        calls: &[
+            Call::FindsNone(1),
+            Call::Installs(10, 1, 5),
+            Call::Installs(11, 2, 0),
+            Call::Finds(1, 10, 5),
+            Call::Finds(2, 11, 0),
+            Call::Installs(12, 1, 9),
+            Call::Finds(1, 12, 9),
+            Call::HasId(10, None),
+            Call::Installs(10, 1, 0),
+            Call::HasId(11, None),
+        ],
+    },
+    Calls {
+        shows: "a kept key goes on: its counter only rises, and its key id stays",
+        calls: &[
+            Call::Installs(10, 1, 5),
+            Call::Takes(1, 8),
+            Call::Finds(1, 10, 8),
+            Call::Resumes(10, 1, 6),
+            Call::Finds(1, 10, 8),
+            Call::Installs(11, 2, 0),
+            Call::Resumes(10, 1, 12),
+            Call::Finds(1, 10, 12),
+            Call::Resumes(11, 3, 7),
+            Call::HasId(11, Some(2)),
+            Call::FindsNone(3),
+            Call::Takes(2, 9),
+            Call::Finds(2, 11, 9),
+        ],
+    },
+];
+
+fn tells(memory: &mut GroupMemory, call: &Call) -> bool {
+    match *call {
+        Call::Installs(octet, id, rsc) => {
+            matches!(memory.give(&[octet; 16], id, rsc), Given::Installed)
+        }
+        Call::Resumes(octet, id, rsc) => {
+            matches!(memory.give(&[octet; 16], id, rsc), Given::Resumed)
+        }
+        Call::Finds(id, octet, counter) => memory.find(id) == Some(([octet; 16], counter)),
+        Call::FindsNone(id) => memory.find(id).is_none(),
+        Call::HasId(octet, id) => memory.id_of(&[octet; 16]) == id,
+        Call::Takes(id, number) => match memory.find(id) {
+            Some((_, counter)) if counter < number => {
+                memory.take(id, number);
+                true
+            }
+            _ => false,
+        },
+    }
 }
 
 #[test]
-fn two_keys_are_kept(rt: HostRuntime) {
-    let mut memory = GroupMemory::empty();
-    assert!(rt; keeps_two(&mut memory) && forgets_the_first(&mut memory));
-}
-
-// An RSC below the counter does not lower it, and one above raises it.
-fn only_raises(memory: &mut GroupMemory) -> bool {
-    resumes(memory, 10, 1, 6)
-        && finds(memory, 1, 10, 8)
-        && installs(memory, 11, 2, 0)
-        && resumes(memory, 10, 1, 12)
-        && finds(memory, 1, 10, 12)
-}
-
-// The key id of a key that goes on stays that of its installation.
-fn keeps_its_key_id(memory: &mut GroupMemory) -> bool {
-    resumes(memory, 11, 3, 7) && memory.id_of(&[11; 16]) == Some(2) && memory.find(3).is_none()
-}
-
-fn goes_on(memory: &mut GroupMemory) -> bool {
-    installs(memory, 10, 1, 5)
-        && takes(memory, 1, 8)
-        && finds(memory, 1, 10, 8)
-        && only_raises(memory)
-        && keeps_its_key_id(memory)
-        && takes(memory, 2, 9)
-        && finds(memory, 2, 11, 9)
-}
-
-#[test]
-fn a_kept_key_goes_on(rt: HostRuntime) {
-    let mut memory = GroupMemory::empty();
-    assert!(rt; goes_on(&mut memory));
+fn kept_keys(rt: HostRuntime) {
+    for row in &MEMORIES {
+        let mut memory = GroupMemory::empty();
+        for call in row.calls {
+            assert!(rt; tells(&mut memory, call), "{}", row.shows);
+        }
+    }
 }

@@ -14,15 +14,11 @@ mod frames;
 #[cfg(test)]
 mod frames_judged;
 #[cfg(test)]
-mod frames_sent;
-#[cfg(test)]
 mod group_frames;
 #[cfg(test)]
 mod group_keys;
 #[cfg(test)]
 mod links;
-#[cfg(test)]
-mod mobility;
 #[cfg(test)]
 mod mobility_vectors;
 #[cfg(test)]
@@ -30,14 +26,16 @@ mod network;
 #[cfg(test)]
 mod outbox;
 #[cfg(test)]
+mod part_frames;
+#[cfg(test)]
 mod protected_frames;
 #[cfg(test)]
 mod station;
 #[cfg(test)]
-mod supplicant_group;
+mod storms;
 #[cfg(test)]
 mod supplicant_part;
 #[cfg(test)]
-mod transition_parts;
+mod transition_frames;
 #[cfg(test)]
 mod vectors;

@@ -1,7 +1,6 @@
 //! The test network.
 
 ghost use Rattle.std.specs.Prelude.{◌≡◌, length};
-ghost use Rattle.domain_base.specs.declared.names.Akm.{Akm as AnyAkm};
 ghost use Rattle.domain_rules.specs.Network.{InForm};
 ghost use Rattle.ft_exchange.specs.Asking.{ids_of};
 ghost use Rattle.key_holders.specs.Listed.{none_held};
@@ -19,12 +18,18 @@ fn octets(rt: &impl Abort, alloc: Global, of: &[u8]) -> Octets
     Octets(Vec::from_slice(alloc, of).expect(rt, "memory"))
 }
 
-fn made(rt: &impl Abort, alloc: Global, akm: Akm, mdid: [u8; 2]) -> Domain
+/// The test network with that suite: two access points and two stations, with suite 4 in the
+/// mobility domain a1b2.
+pub fn network(rt: &impl Abort, alloc: Global, akm: Akm) -> Domain
     ensures form { InForm result }
     ensures akm { result.akm ≡ akm }
     ensures aps { length result.aps ≡ 2 }
     ensures stas { length result.stas ≡ 2 }
 {
+    let mdid = match akm {
+        Akm::FtPsk => [0xa1, 0xb2],
+        _ => [0, 0],
+    };
     let first = ListedAp {
         address: Mac([2, 0, 0, 0, 0, 1]),
         r0kh_id: octets(rt, alloc, b"r0kh-1"),
@@ -43,26 +48,6 @@ fn made(rt: &impl Abort, alloc: Global, akm: Akm, mdid: [u8; 2]) -> Domain
         aps: Aps(Vec::from_array(alloc, [first, second]).expect(rt, "memory")),
         stas: Stas(Vec::from_array(alloc, stas).expect(rt, "memory")),
     }
-}
-
-/// The test network with that suite: two access points and two stations.
-pub fn network(rt: &impl Abort, alloc: Global, akm: Akm) -> Domain
-    ensures form { InForm result }
-    ensures akm { result.akm ≡ akm }
-    ensures aps { length result.aps ≡ 2 }
-    ensures stas { length result.stas ≡ 2 }
-{
-    made(rt, alloc, akm, [0, 0])
-}
-
-/// With suite 4 and the mobility domain a1b2.
-pub fn mobile_network(rt: &impl Abort, alloc: Global) -> Domain
-    ensures form { InForm result }
-    ensures akm { result.akm ≡ AnyAkm.FtPsk }
-    ensures aps { length result.aps ≡ 2 }
-    ensures stas { length result.stas ≡ 2 }
-{
-    made(rt, alloc, Akm::FtPsk, [0xa1, 0xb2])
 }
 
 // The R0KH-IDs of a network, in order.

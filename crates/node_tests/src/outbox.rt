@@ -1,9 +1,9 @@
 //! Acts that wait, and come in their order: those of frames that were taken, of replies, and of
 //! what is sent unasked.
 
-ghost use Rattle.std.specs.Prelude.{◌≤◌, ◌+◌};
+ghost use Rattle.std.specs.Prelude.{◌≡◌, ◌≤◌, ◌+◌, length};
 ghost use Rattle.run_journal.specs.Replies.{IsWhole};
-ghost use Rattle.domain_rules.specs.Network.{IsListed};
+ghost use Rattle.domain_rules.specs.Network.{InForm, IsListed};
 ghost use Rattle.node_base.specs.Peers.{IsPeerOf};
 
 use crate::acts::{Expected, come};
@@ -167,50 +167,21 @@ fn message_3<'a>(header: &'a [u8], frame: &'a [u8]) -> KeyMessage<'a> {
     }
 }
 
-// What a reply to M3 brings is added at the node.
-fn add(
-    rt: &impl Abort,
-    alloc: Global,
-    domain: &Domain,
-    ends: (Node, Node),
+// A reply to M3, what comes of it, whether there was a session, and the acts that it brings.
+struct Brought {
+    shows: &'static str,
+    reply: Filled,
     outcome: Outcome,
     had_session: bool,
-    reply: &Reply,
-    outbox: &mut Outbox,
-)
-    requires listed { IsListed domain.now ends.0 }
-    requires peer { IsPeerOf domain.now ends.0 ends.1 }
-    requires room { 7 ≤ outbox.old.spare }
-    requires whole { IsWhole reply.now }
-{
-    let room = room_at(rt, alloc, domain, ends.0, ends.1);
-    room.add_reply(outcome, had_session, reply, Between::nothing(alloc), outbox);
+    acts: &'static [Expected],
 }
 
-// A reply to M3 at the station.
-fn at_the_station(
-    rt: &impl Abort,
-    alloc: Global,
-    outcome: Outcome,
-    had_session: bool,
-    reply: &Reply,
-    outbox: &mut Outbox,
-)
-    requires room { 7 ≤ outbox.old.spare }
-    requires whole { IsWhole reply.now }
-{
-    let domain = network(rt, alloc, Akm::Psk);
-    let ends = (S1, A1);
-    add(
-        rt,
-        alloc,
-        &domain,
-        ends,
-        outcome,
-        had_session,
-        reply,
-        outbox,
-    );
+enum Filled {
+    // A sealed frame, a key that was derived and installed, and a group key, resumed or not.
+    Full(bool),
+    Empty,
+    // At the access point: a key that was derived.
+    Derived,
 }
 
 const ALL: &[Expected] = &[
@@ -223,21 +194,6 @@ const ALL: &[Expected] = &[
     Expected::SentSealed(A1, M4, SENT, &SEALING),
 ];
 
-#[test]
-fn all_that_a_reply_may_bring(rt: HostRuntime) {
-    let mut outbox = roomy_outbox(&rt, rt.alloc());
-    let reply = full(false);
-    at_the_station(
-        &rt,
-        rt.alloc(),
-        Outcome::Accepted,
-        true,
-        &reply,
-        &mut outbox,
-    );
-    assert!(rt; come(&mut outbox, ALL, CAME, Outcome::Accepted));
-}
-
 const AGAIN: &[Expected] = &[
     Expected::TookSealed(A1, M3, &KEYS),
     Expected::Derived(A1, &KEYS),
@@ -247,59 +203,98 @@ const AGAIN: &[Expected] = &[
     Expected::SentSealed(A1, M4, SENT, &SEALING),
 ];
 
-#[test]
-fn a_key_taken_into_use_again_without_session(rt: HostRuntime) {
-    let mut outbox = roomy_outbox(&rt, rt.alloc());
-    let reply = full(true);
-    at_the_station(
-        &rt,
-        rt.alloc(),
-        Outcome::Answered,
-        false,
-        &reply,
-        &mut outbox,
-    );
-    assert!(rt; come(&mut outbox, AGAIN, CAME, Outcome::Answered));
+const BROUGHT: &[Brought] = &[
+    Brought {
+        shows: "all that a reply may bring",
+        reply: Filled::Full(false),
+        outcome: Outcome::Accepted,
+        had_session: true,
+        acts: ALL,
+    },
+    Brought {
+        shows: "a key taken into use again without a session",
+        reply: Filled::Full(true),
+        outcome: Outcome::Answered,
+        had_session: false,
+        acts: AGAIN,
+    },
+    Brought {
+        shows: "an empty reply",
+        reply: Filled::Empty,
+        outcome: Outcome::Refused(Reason::Unawaited),
+        had_session: true,
+        acts: &[Expected::Took(Some(A1), M3)],
+    },
+    Brought {
+        shows: "inputs at the access point",
+        reply: Filled::Derived,
+        outcome: Outcome::Accepted,
+        had_session: true,
+        acts: &[Expected::Took(Some(S1), M3), Expected::Derived(S1, &KEYS)],
+    },
+];
+
+fn reply_of(filled: &Filled) -> Reply
+    ensures { IsWhole result }
+{
+    match *filled {
+        Filled::Full(resumed) => full(resumed),
+        Filled::Empty => Reply::empty(),
+        Filled::Derived => {
+            let mut reply = Reply::empty();
+            reply.derived = Some(KEYED);
+            reply
+        }
+    }
 }
 
-const REFUSED: Outcome = Outcome::Refused(Reason::Unawaited);
-
-const REFUSED_M3: &[Expected] = &[Expected::Took(Some(A1), M3)];
-
-#[test]
-fn an_empty_reply(rt: HostRuntime) {
-    let mut outbox = roomy_outbox(&rt, rt.alloc());
-    at_the_station(&rt, rt.alloc(), REFUSED, true, &Reply::empty(), &mut outbox);
-    assert!(rt; come(&mut outbox, REFUSED_M3, CAME, REFUSED));
-}
-
-// A reply at the access point.
-fn at_the_access_point(rt: &impl Abort, alloc: Global, outbox: &mut Outbox)
+// The acts come that the reply brings at its node.
+fn are_brought(
+    rt: &impl Abort,
+    alloc: Global,
+    domain: &Domain,
+    row: &Brought,
+    outbox: &mut Outbox,
+) -> bool
+    requires form { InForm domain.now }
+    requires aps { length domain.now.aps ≡ 2 }
+    requires stas { length domain.now.stas ≡ 2 }
     requires room { 7 ≤ outbox.old.spare }
 {
-    let domain = network(rt, alloc, Akm::Psk);
-    let mut reply = Reply::empty();
-    reply.derived = Some(KEYED);
-    let ends = (A1, S1);
-    add(
-        rt,
-        alloc,
-        &domain,
-        ends,
-        Outcome::Accepted,
-        true,
+    let room = match row.reply {
+        Filled::Derived => room_at(rt, alloc, domain, A1, S1),
+        _ => room_at(rt, alloc, domain, S1, A1),
+    };
+    let reply = reply_of(&row.reply);
+    room.add_reply(
+        row.outcome,
+        row.had_session,
         &reply,
+        Between::nothing(alloc),
         outbox,
+    );
+    come(outbox, row.acts, CAME, row.outcome)
+}
+
+fn try_brought(rt: &impl Abort, alloc: Global, domain: &Domain, row: &Brought)
+    requires form { InForm domain.now }
+    requires aps { length domain.now.aps ≡ 2 }
+    requires stas { length domain.now.stas ≡ 2 }
+{
+    let mut outbox = roomy_outbox(rt, alloc);
+    assert!(rt;
+        are_brought(rt, alloc, domain, row, &mut outbox),
+        "{}",
+        row.shows
     );
 }
 
-const DERIVED: &[Expected] = &[Expected::Took(Some(S1), M3), Expected::Derived(S1, &KEYS)];
-
 #[test]
-fn inputs_at_the_access_point(rt: HostRuntime) {
-    let mut outbox = roomy_outbox(&rt, rt.alloc());
-    at_the_access_point(&rt, rt.alloc(), &mut outbox);
-    assert!(rt; come(&mut outbox, DERIVED, CAME, Outcome::Accepted));
+fn what_a_reply_brings(rt: HostRuntime) {
+    let domain = network(&rt, rt.alloc(), Akm::Psk);
+    for row in BROUGHT {
+        try_brought(&rt, rt.alloc(), &domain, row);
+    }
 }
 
 // A reply's frame is sent to the access point.

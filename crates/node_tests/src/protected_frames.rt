@@ -1,6 +1,7 @@
 //! Protected data of A1 with its stations, under the keys of the handshakes: bodies and what their
 //! seals cover were computed apart from this project.
 
+use crate::mobility_vectors::GTK_OF_A2;
 use crate::vectors::{CROSSED_TK, GTK, NEXT_GTK, TK};
 
 /// A frame of protected data: its octets, what its seal covers behind its form, and what they were
@@ -200,3 +201,18 @@ pub const M3_2_WITH_RSC_1: &[u8] =
         \0\0\0\0\0\0\0\0\0\0\0\0\0\0\0\0\x01\0\0\0\0\0\0\0\0\0\0\0\0\0\0\0\
         \xf8\x90\x20\x4d\xb2\xf8\x55\x1e\x91\x11\x4f\x5b\x60\xe0\x71\x4b\
         \0\x38\xb0\x88\xb4\xd5\x38\x9a\x86\xcb\x27\xba\x99\xb7\x5e\x9a\xfb\x06\xc5\xc6\x1d\x9a\x3d\x3b\xd8\x35\x81\x2e\x6c\x60\xed\x75\xe8\xa4\x44\xc1\x32\x66\x9a\xfb\x57\x81\xf6\x8c\xce\x73\xc6\x0d\xd0\xd5\xfe\xeb\xd0\xa2\x1c\x18\x68\x2b";
+
+/// Of A2 to all stations, under its first group key.
+pub const ALL_OF_A2: Data = Data {
+    octets: b"\x08\x42\0\0\xff\xff\xff\xff\xff\xff\x02\0\0\0\0\x02\x02\0\0\0\0\x02\0\0\
+        \x01\0\0\x60\0\0\0\0\
+        \xb5\xe9\x1e\xae\xcd\x95\xc1\x3b\x9e\x04\x5e\x2c\xb2",
+    sealed: b"\x03\0\x02\0\0\0\0\x02\0\0\0\0\0\x01\
+        \x08\x42\xff\xff\xff\xff\xff\xff\x02\0\0\0\0\x02\x02\0\0\0\0\x02\0\0\
+        moved",
+    key: GTK_OF_A2,
+    id: 1,
+    tid: 0,
+    number: 1,
+    payload: b"moved",
+};

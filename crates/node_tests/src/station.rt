@@ -1,7 +1,7 @@
 //! The station S1, event by event.
 
-ghost use Rattle.std.specs.Prelude.{◌≡◌, ◌<◌, length};
-ghost use Rattle.domain_rules.specs.Network.{InForm, draw_end};
+ghost use Rattle.std.specs.Prelude.{◌≡◌, length};
+ghost use Rattle.domain_rules.specs.Network.{InForm};
 
 mod association;
 mod handshakes;
@@ -9,7 +9,7 @@ mod protected;
 mod transition;
 
 use crate::acts::{Event, Step, come_of, is_outcome, tid_of};
-use crate::network::{mobile_network, network};
+use crate::network::network;
 use act_memory::Outbox;
 use domain_base::{Akm, Node, Peer};
 use node_base::NodeEvent;
@@ -47,92 +47,125 @@ fn steps(
     is_outcome(node.step(alloc, domain, event, out), step.outcome) && come_of(out, step)
 }
 
-// The station takes these steps.
+// The station takes the steps of that scenario.
 fn follow(
     rt: &impl Abort,
     alloc: Global,
     domain: &Domain,
     node: &mut StationNode,
     out: &mut Outbox,
-    scenario: &[Step],
+    scenario: &Scenario,
 )
     requires form { InForm domain.now }
     requires aps { length domain.now.aps ≡ 2 }
     requires stas { length domain.now.stas ≡ 2 }
     requires node { node.old.number ≡ 0 }
 {
-    for step in scenario {
-        assert!(rt; steps(alloc, domain, node, out, step), "{}", step.shows);
+    for step in scenario.steps {
+        assert!(rt;
+            steps(alloc, domain, node, out, step),
+            "{}: {}",
+            scenario.shows,
+            step.shows
+        );
     }
 }
 
-// A station, which begins to draw at that number, takes these steps.
-fn try_steps(rt: &impl Abort, alloc: Global, first: u64, scenario: &[Step])
-    requires { first < draw_end }
-{
-    let domain = network(rt, alloc, Akm::Psk);
+// What a scenario shows, its suite, the number from which the station draws, and its steps.
+struct Scenario {
+    shows: &'static str,
+    akm: Akm,
+    first: u64,
+    steps: &'static [Step],
+}
+
+fn try_scenario(rt: &impl Abort, alloc: Global, scenario: &Scenario) {
+    let first = scenario.first.min(LAST);
+    let domain = network(rt, alloc, scenario.akm);
     let mut node = StationNode::start(alloc, 0, first);
     let mut out = Outbox::new(alloc);
     follow(rt, alloc, &domain, &mut node, &mut out, scenario);
 }
 
+// The number of the last draw.
+const LAST: u64 = 1_152_921_504_606_846_975;
+
+const FIRST_ASSOCIATION: &Scenario = &Scenario {
+    shows: "a station answers M1",
+    akm: Akm::Psk,
+    first: 0,
+    steps: association::FIRST_ASSOCIATION,
+};
+
+const TWO_ATTEMPTS: &Scenario = &Scenario {
+    shows: "a connect leaves the old attempt",
+    akm: Akm::Psk,
+    first: 0,
+    steps: association::TWO_ATTEMPTS,
+};
+
+const LEAVING: &Scenario = &Scenario {
+    shows: "a station leaves",
+    akm: Akm::Psk,
+    first: 0,
+    steps: handshakes::LEAVING,
+};
+
+const SPENT: &Scenario = &Scenario {
+    shows: "draws of a station end",
+    akm: Akm::Psk,
+    first: LAST,
+    steps: association::SPENT,
+};
+
+const HANDSHAKES: &Scenario = &Scenario {
+    shows: "a station answers M3",
+    akm: Akm::Psk,
+    first: 0,
+    steps: handshakes::HANDSHAKES,
+};
+
+const PAYLOADS: &Scenario = &Scenario {
+    shows: "a station sends and takes data",
+    akm: Akm::Psk,
+    first: 0,
+    steps: protected::PAYLOADS,
+};
+
+const ROAMING: &Scenario = &Scenario {
+    shows: "a station roams",
+    akm: Akm::FtPsk,
+    first: 0,
+    steps: transition::ROAMING,
+};
+
+const LEAVING_A_TRANSITION: &Scenario = &Scenario {
+    shows: "a station leaves a fast transition",
+    akm: Akm::FtPsk,
+    first: 0,
+    steps: transition::LEAVING,
+};
+
+const SPENT_BY_A_SESSION: &Scenario = &Scenario {
+    shows: "no fast transition of a station at the end of draws",
+    akm: Akm::FtPsk,
+    first: LAST,
+    steps: transition::SPENT,
+};
+
 #[test]
-fn a_station_answers_m1(rt: HostRuntime) {
-    try_steps(&rt, rt.alloc(), 0, association::FIRST_ASSOCIATION);
+fn associations_of_a_station(rt: HostRuntime) {
+    try_scenario(&rt, rt.alloc(), FIRST_ASSOCIATION);
+    try_scenario(&rt, rt.alloc(), TWO_ATTEMPTS);
+    try_scenario(&rt, rt.alloc(), LEAVING);
+    try_scenario(&rt, rt.alloc(), SPENT);
+    try_scenario(&rt, rt.alloc(), HANDSHAKES);
+    try_scenario(&rt, rt.alloc(), PAYLOADS);
 }
 
 #[test]
-fn connect_leaves_the_old_attempt(rt: HostRuntime) {
-    try_steps(&rt, rt.alloc(), 0, association::TWO_ATTEMPTS);
-}
-
-#[test]
-fn a_station_leaves(rt: HostRuntime) {
-    try_steps(&rt, rt.alloc(), 0, handshakes::LEAVING);
-}
-
-#[test]
-fn draws_of_a_station_end(rt: HostRuntime) {
-    try_steps(
-        &rt,
-        rt.alloc(),
-        1_152_921_504_606_846_975,
-        association::SPENT,
-    );
-}
-
-#[test]
-fn a_station_answers_m3(rt: HostRuntime) {
-    try_steps(&rt, rt.alloc(), 0, handshakes::HANDSHAKES);
-}
-
-#[test]
-fn a_station_sends_and_takes_data(rt: HostRuntime) {
-    try_steps(&rt, rt.alloc(), 0, protected::PAYLOADS);
-}
-
-// The same in the mobility domain.
-fn try_mobile_steps(rt: &impl Abort, alloc: Global, first: u64, scenario: &[Step])
-    requires { first < draw_end }
-{
-    let domain = mobile_network(rt, alloc);
-    let mut node = StationNode::start(alloc, 0, first);
-    let mut out = Outbox::new(alloc);
-    follow(rt, alloc, &domain, &mut node, &mut out, scenario);
-}
-
-#[test]
-fn a_station_roams(rt: HostRuntime) {
-    try_mobile_steps(&rt, rt.alloc(), 0, transition::ROAMING);
-}
-
-#[test]
-fn a_station_leaves_a_fast_transition(rt: HostRuntime) {
-    try_mobile_steps(&rt, rt.alloc(), 0, transition::LEAVING);
-}
-
-#[test]
-fn no_fast_transition_of_a_station_at_the_end_of_draws(rt: HostRuntime) {
-    let last = 1_152_921_504_606_846_975;
-    try_mobile_steps(&rt, rt.alloc(), last, transition::SPENT);
+fn fast_transitions_of_a_station(rt: HostRuntime) {
+    try_scenario(&rt, rt.alloc(), ROAMING);
+    try_scenario(&rt, rt.alloc(), LEAVING_A_TRANSITION);
+    try_scenario(&rt, rt.alloc(), SPENT_BY_A_SESSION);
 }

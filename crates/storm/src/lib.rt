@@ -9,6 +9,3 @@ mod seen;
 mod state;
 
 pub use state::{EVENTS, Storm};
-
-#[cfg(test)]
-mod tests;

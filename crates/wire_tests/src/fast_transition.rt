@@ -1,13 +1,14 @@
 //! Fast transition, octet by octet. The frames, the MICs and the key data were computed apart, with
 //! Python's hmac and hashlib and with an AES that gives the vectors of FIPS 197.
 
+use crate::elements::{is_that_fte, is_that_mde, names_one};
 use air_frame::{
     AirFrame, read, write_assoc_req, write_assoc_resp, write_ft_req, write_ft_resp, write_re_req,
     write_re_resp,
 };
-use domain_base::{Akm, Mac};
+use domain_base::{Akm, Mac, array_at, put};
 use mac_prf::{FteCovered, Reassociation, fte_mic, verify_fte_mic};
-use rsn_elements::{ElementWriter, Elements, Fte, Mde, Rsne, Within, WrappedGtk, read_elements};
+use rsn_elements::{ElementWriter, Elements, Fte, Within, WrappedGtk, read_elements};
 
 const FIRST_AP: Mac = Mac([2, 0, 0, 0, 0, 1]);
 
@@ -36,8 +37,8 @@ const SNONCE: [u8; 32] =
 const KCK: [u8; 16] = *b"\xd6\x7e\xb7\x3a\x8c\xca\x98\x89\x31\x19\x7c\xca\x40\xab\x87\x36";
 
 // The group key of the second access point, under the KEK.
-const WRAPPED: [u8; 24] =
-    *b"\x85\xfe\x59\x47\xf8\x80\x17\xa9\x8d\xc4\xda\x5e\x9c\x4b\x83\x1c\xf9\xc4\x06\x5d\x17\
+const WRAPPED: &[u8] =
+    b"\x85\xfe\x59\x47\xf8\x80\x17\xa9\x8d\xc4\xda\x5e\x9c\x4b\x83\x1c\xf9\xc4\x06\x5d\x17\
     \xa7\x0f\x67";
 
 // The MICs of the reassociation request and of the response.
@@ -175,6 +176,32 @@ const FT_RESP_FTE: Fte<'static> = Fte {
     r0kh_id: Some(R0KH_ID),
 };
 
+const RE_REQ_FTE: Fte<'static> = Fte {
+    mic_control: [0, 3],
+    mic: REQUEST_MIC,
+    anonce: ANONCE,
+    snonce: SNONCE,
+    r1kh_id: Some([2, 0, 0, 0, 0, 2]),
+    gtk: None,
+    r0kh_id: Some(R0KH_ID),
+};
+
+// That of the response, with the group key that was never used.
+const RE_RESP_FTE: Fte<'static> = Fte {
+    mic_control: [0, 3],
+    mic: RESPONSE_MIC,
+    anonce: ANONCE,
+    snonce: SNONCE,
+    r1kh_id: Some([2, 0, 0, 0, 0, 2]),
+    gtk: Some(WrappedGtk {
+        information: 1,
+        key_length: 16,
+        rsc: [0; 8],
+        wrapped: WRAPPED,
+    }),
+    r0kh_id: Some(R0KH_ID),
+};
+
 fn assoc_req_is_sent() -> bool {
     let mut elements = [0; 39];
     let mut writer = ElementWriter::over(&mut elements);
@@ -220,85 +247,46 @@ fn ft_resp_is_sent() -> bool {
     out == FT_RESP
 }
 
-// The elements of the reassociation request with a MIC over three of them.
-fn put_re_req_elements(mic: [u8; 16], out: &mut [u8; 157]) {
-    let fte = Fte {
-        mic_control: [0, 3],
-        mic,
-        anonce: ANONCE,
-        snonce: SNONCE,
-        r1kh_id: Some(SECOND_AP.0),
-        gtk: None,
-        r0kh_id: Some(R0KH_ID),
-    };
-    let mut writer = ElementWriter::over(out);
+fn re_req_is_sent() -> bool {
+    let mut elements = [0; 157];
+    let mut writer = ElementWriter::over(&mut elements);
     writer.ssid(b"IEEE");
     writer.rates();
     writer.rsne(Akm::FtPsk, Some(&R1_NAME));
     writer.mde(MDID);
-    writer.fte(&fte);
-}
-
-fn re_req_is_sent() -> bool {
-    let mut elements = [0; 157];
-    put_re_req_elements([0; 16], &mut elements);
-    let covered = FteCovered {
-        station: STATION,
-        bssid: SECOND_AP,
-        frame: Reassociation::Request,
-        rsne: &elements[12..52],
-        mde: &elements[52..57],
-        fte: &elements[57..],
-    };
-    let mic = fte_mic(&KCK, &covered);
-    put_re_req_elements(mic, &mut elements);
+    writer.fte(&RE_REQ_FTE);
     let mut out = [0; 191];
     write_re_req(SECOND_AP, STATION, SECOND_AP, FIRST_AP, &elements, &mut out);
-    mic == REQUEST_MIC && out == RE_REQ
-}
-
-// The elements of the response, with the group key that was never used.
-fn put_re_resp_elements(mic: [u8; 16], out: &mut [u8; 188]) {
-    let gtk = WrappedGtk {
-        information: 1,
-        key_length: 16,
-        rsc: [0; 8],
-        wrapped: &WRAPPED,
-    };
-    let fte = Fte {
-        mic_control: [0, 3],
-        mic,
-        anonce: ANONCE,
-        snonce: SNONCE,
-        r1kh_id: Some(SECOND_AP.0),
-        gtk: Some(gtk),
-        r0kh_id: Some(R0KH_ID),
-    };
-    let mut writer = ElementWriter::over(out);
-    writer.rates();
-    writer.rsne(Akm::FtPsk, Some(&R1_NAME));
-    writer.mde(MDID);
-    writer.fte(&fte);
+    out == RE_REQ
 }
 
 fn re_resp_is_sent() -> bool {
     let mut elements = [0; 188];
-    put_re_resp_elements([0; 16], &mut elements);
-    let covered = FteCovered {
-        station: STATION,
-        bssid: SECOND_AP,
-        frame: Reassociation::Response,
-        rsne: &elements[6..46],
-        mde: &elements[46..51],
-        fte: &elements[51..],
-    };
-    let mic = fte_mic(&KCK, &covered);
-    put_re_resp_elements(mic, &mut elements);
+    let mut writer = ElementWriter::over(&mut elements);
+    writer.rates();
+    writer.rsne(Akm::FtPsk, Some(&R1_NAME));
+    writer.mde(MDID);
+    writer.fte(&RE_RESP_FTE);
     let mut out = [0; 218];
     write_re_resp(
         STATION, SECOND_AP, SECOND_AP, 0, 0xc001, &elements, &mut out,
     );
-    mic == RESPONSE_MIC && out == RE_RESP
+    out == RE_RESP
+}
+
+// The key data of message 3: 183 octets, and one of padding.
+fn message_3_is_sent() -> bool {
+    let mut out = [0; 184];
+    let mut writer = ElementWriter::over(&mut out);
+    writer.rsne(Akm::FtPsk, Some(&FIRST_R1_NAME));
+    writer.mde(MDID);
+    writer.gtk_kde(1, &FIRST_GTK);
+    writer.fte(&ASSOC_FTE);
+    writer.timeout(1, 1000);
+    writer.timeout(2, 86400);
+    let len = writer.len();
+    writer.pad();
+    len == 183 && writer.len() == 184 && out == MESSAGE_3
 }
 
 #[test]
@@ -307,6 +295,7 @@ fn frames_are_sent_octet_by_octet(rt: HostRuntime) {
         (assoc_req_is_sent() && assoc_resp_is_sent())
             && (ft_req_is_sent() && ft_resp_is_sent())
             && (re_req_is_sent() && re_resp_is_sent())
+            && message_3_is_sent()
     );
 }
 
@@ -330,7 +319,9 @@ fn have_mic(elements: &[u8], station: Mac, bssid: Mac, frame: Reassociation) -> 
         mde,
         fte,
     };
-    fte.len() >= 20 && verify_fte_mic(&KCK, &covered)
+    fte.len() >= 20
+        && verify_fte_mic(&KCK, &covered)
+        && fte_mic(&KCK, &covered) == array_at::<16>(fte, 4)
 }
 
 // They are a reassociation request, or a response, of which the MIC verifies.
@@ -351,51 +342,27 @@ fn is_verified(octets: &[u8]) -> bool {
     }
 }
 
-// The request with one bit changed at a place.
-fn altered_request(place: usize) -> [u8; 191] {
-    let mut octets = RE_REQ;
-    if place < 191 {
-        octets[place] ^= 1;
+// The MIC of the octets verifies with one bit changed at a place, or behind the end with none.
+fn verifies_altered(octets: &[u8], place: usize) -> bool {
+    if octets.len() > 218 {
+        return false;
     }
-    octets
+    let mut altered = [0; 218];
+    let end = put(&mut altered, 0, octets);
+    if place < end {
+        altered[place] ^= 1;
+    }
+    is_verified(&altered[..end])
 }
 
-// The response with one bit changed at a place.
-fn altered_response(place: usize) -> [u8; 218] {
-    let mut octets = RE_RESP;
-    if place < 218 {
-        octets[place] ^= 1;
-    }
-    octets
-}
-
-// Whether the MIC of the request verifies with one bit changed at a place, or behind the end with
-// none. It does not cover the capabilities and the current access point, the SSID, and the rates,
-// in four places of which it is tried.
+// The MIC of the request does not cover the capabilities and the current access point, the SSID,
+// and the rates, in four places of which it is tried.
 fn is_covered_so(place: usize) -> bool {
-    let verifies = is_verified(&altered_request(place));
+    let verifies = verifies_altered(&RE_REQ, place);
     match place {
         24 | 30 | 37 | 45 | 191 => verifies,
         4..=15 | 46..=190 => !verifies,
         _ => true,
-    }
-}
-
-#[test]
-fn mic_covers_addresses_and_three_elements_of_a_request(rt: HostRuntime) {
-    for place in 4..192 {
-        assert!(rt; is_covered_so(place), "{place}");
-    }
-}
-
-// The same for the response, from its elements on.
-#[test]
-fn mic_covers_three_elements_of_a_response(rt: HostRuntime) {
-    for place in 36..219 {
-        assert!(rt;
-            is_verified(&altered_response(place)) == (place == 218),
-            "{place}"
-        );
     }
 }
 
@@ -412,55 +379,26 @@ fn is_mic_of_others(frame: Reassociation, mic: &[u8; 16]) -> bool {
     fte_mic(&KCK, &covered) == *mic && !verify_fte_mic(&KCK, &covered)
 }
 
+// In the response that is tried from its elements on.
 #[test]
-fn mic_is_over_whole_elements(rt: HostRuntime) {
+fn mic_covers_addresses_and_three_whole_elements(rt: HostRuntime) {
+    for place in 4..192 {
+        assert!(rt; is_covered_so(place), "{place} of the request");
+    }
+    for place in 36..219 {
+        let verifies = verifies_altered(&RE_RESP, place);
+        assert!(rt; verifies == (place == 218), "{place} of the response");
+    }
     assert!(rt;
         is_mic_of_others(Reassociation::Request, &OTHER_REQUEST_MIC)
             && is_mic_of_others(Reassociation::Response, &OTHER_RESPONSE_MIC)
     );
 }
 
-fn names_one(rsne: Option<Rsne<'_>>, name: &[u8; 16]) -> bool {
-    match rsne {
-        Some(rsne) => match rsne.pmkids {
-            Some(names) => names.count() == 1 && names.get(0) == Some(*name),
-            None => false,
-        },
-        None => false,
-    }
-}
-
-fn is_that_mde(mde: Option<Mde>) -> bool {
-    match mde {
-        Some(mde) => mde.mdid == MDID,
-        None => false,
-    }
-}
-
-fn is_that_gtk(gtk: Option<WrappedGtk<'_>>) -> bool {
-    match gtk {
-        Some(gtk) => {
-            (gtk.information == 1 && gtk.key_length == 16)
-                && (gtk.rsc == [0; 8] && gtk.wrapped == WRAPPED.as_slice())
-        }
-        None => false,
-    }
-}
-
-fn is_that_fte(fte: Option<Fte<'_>>) -> bool {
-    match fte {
-        Some(fte) => {
-            (fte.mic_control == [0, 3] && fte.mic == RESPONSE_MIC)
-                && (fte.anonce == ANONCE && fte.snonce == SNONCE)
-                && (fte.r1kh_id == Some(SECOND_AP.0) && fte.r0kh_id == Some(R0KH_ID))
-                && is_that_gtk(fte.gtk)
-        }
-        None => false,
-    }
-}
-
 fn says_response(elements: &Elements<'_>) -> bool {
-    names_one(elements.rsne, &R1_NAME) && is_that_mde(elements.mde) && is_that_fte(elements.fte)
+    names_one(elements.rsne, &R1_NAME)
+        && is_that_mde(elements.mde)
+        && is_that_fte(elements.fte, &RE_RESP_FTE)
 }
 
 fn is_read_as_response(octets: &[u8]) -> bool {
@@ -476,24 +414,4 @@ fn is_read_as_response(octets: &[u8]) -> bool {
 #[test]
 fn a_response_is_read_with_its_group_key(rt: HostRuntime) {
     assert!(rt; is_read_as_response(&RE_RESP));
-}
-
-// How many octets stand there before and behind the padding.
-fn put_message_3(out: &mut [u8; 184]) -> [usize; 2] {
-    let mut writer = ElementWriter::over(out);
-    writer.rsne(Akm::FtPsk, Some(&FIRST_R1_NAME));
-    writer.mde(MDID);
-    writer.gtk_kde(1, &FIRST_GTK);
-    writer.fte(&ASSOC_FTE);
-    writer.timeout(1, 1000);
-    writer.timeout(2, 86400);
-    let len = writer.len();
-    writer.pad();
-    [len, writer.len()]
-}
-
-#[test]
-fn key_data_of_message_3_octet_by_octet(rt: HostRuntime) {
-    let mut out = [0; 184];
-    assert!(rt; put_message_3(&mut out) == [183, 184] && out == MESSAGE_3);
 }

@@ -27,7 +27,9 @@ static FIRST_M1: [u8; 17] = [
 ];
 
 // The first octets, how many there are, the last one, and the kind and place of the fault.
-static FAULTS: [(&[u8], usize, u8, FaultKind, u8, usize); 7] = [
+type Faulty = (&'static [u8], usize, u8, FaultKind, u8, usize);
+
+static FAULTS: [Faulty; 7] = [
     (&[], 0, 0, FaultKind::Short, 1, 0),
     (&[0x02], 1, 0x02, FaultKind::Short, 1, 1),
     (&[0x04, 0x03, 0x00, 0x00], 4, 0, FaultKind::PacketType, 2, 0),
@@ -62,11 +64,11 @@ static KEK: [u8; 16] = [
     0x50, 0x51, 0x52, 0x53, 0x54, 0x55, 0x56, 0x57, 0x58, 0x59, 0x5a, 0x5b, 0x5c, 0x5d, 0x5e, 0x5f,
 ];
 
-// The RSNE and the GTK KDE of an M3 with 00-0F-AC:2.
-static M3_KEY_DATA: [u8; 46] = [
+// The RSNE and the GTK KDE of an M3 with 00-0F-AC:2, and two octets of padding.
+static M3_KEY_DATA: [u8; 48] = [
     0x30, 0x14, 0x01, 0x00, 0x00, 0x0f, 0xac, 0x04, 0x01, 0x00, 0x00, 0x0f, 0xac, 0x04, 0x01, 0x00,
     0x00, 0x0f, 0xac, 0x02, 0x0c, 0x00, 0xdd, 0x16, 0x00, 0x0f, 0xac, 0x01, 0x01, 0x00, 0xc0, 0xc1,
-    0xc2, 0xc3, 0xc4, 0xc5, 0xc6, 0xc7, 0xc8, 0xc9, 0xca, 0xcb, 0xcc, 0xcd, 0xce, 0xcf,
+    0xc2, 0xc3, 0xc4, 0xc5, 0xc6, 0xc7, 0xc8, 0xc9, 0xca, 0xcb, 0xcc, 0xcd, 0xce, 0xcf, 0xdd, 0x00,
 ];
 
 // What OpenSSL wraps padded key data to.
@@ -123,11 +125,6 @@ fn is_first_m1(akm: Akm, information: u8) -> bool {
     used == 99 && out == expected
 }
 
-#[test]
-fn first_m1_is_written_octet_by_octet(rt: HostRuntime) {
-    assert!(rt; is_first_m1(Akm::Psk, 0x8a) && is_first_m1(Akm::PskSha256, 0x8b));
-}
-
 // The fields are those of the first M1.
 fn tells_first_m1(frame: &KeyFrame<'_>) -> bool {
     frame.version == 2
@@ -139,8 +136,13 @@ fn tells_first_m1(frame: &KeyFrame<'_>) -> bool {
         && frame.octets.len() == 99
 }
 
-fn is_read_as_first_m1(octets: &[u8]) -> bool {
-    match read(octets) {
+// The first M1, with octets behind it that are not looked at.
+fn is_read_as_first_m1() -> bool {
+    let mut octets = [0; 102];
+    let at = put(&mut octets, 0, &FIRST_M1);
+    put(&mut octets, at, &NONCE);
+    put(&mut octets, 99, &[0xdd, 0xee, 0xff]);
+    match read(&octets) {
         Ok((frame, used)) => {
             used == 99
                 && tells_first_m1(&frame)
@@ -152,30 +154,15 @@ fn is_read_as_first_m1(octets: &[u8]) -> bool {
 }
 
 #[test]
-fn octets_behind_a_frame_are_not_looked_at(rt: HostRuntime) {
-    let mut octets = [0; 102];
-    let at = put(&mut octets, 0, &FIRST_M1);
-    put(&mut octets, at, &NONCE);
-    put(&mut octets, 99, &[0xdd, 0xee, 0xff]);
-    assert!(rt; is_read_as_first_m1(&octets));
-}
-
-fn has_fault(octets: &[u8], kind: FaultKind, code: u8, place: usize) -> bool {
-    match read(octets) {
-        Ok(_) => false,
-        Err(fault) => fault.place == place && fault.kind == kind && fault.kind.code() == code,
-    }
+fn first_m1_is_written_and_read_octet_by_octet(rt: HostRuntime) {
+    assert!(rt;
+        (is_first_m1(Akm::Psk, 0x8a) && is_first_m1(Akm::PskSha256, 0x8b)) && is_read_as_first_m1()
+    );
 }
 
 // The octets begin so, are zeros from there to the last one, and have that fault.
-fn begin_with_fault(
-    front: &[u8],
-    size: usize,
-    last: u8,
-    kind: FaultKind,
-    code: u8,
-    place: usize,
-) -> bool {
+fn has_fault(row: &Faulty) -> bool {
+    let (front, size, last, kind, code, place) = *row;
     let mut octets = [0; 99];
     if front.len() > size || size > 99 {
         return false;
@@ -184,16 +171,17 @@ fn begin_with_fault(
     if size > 0 {
         octets[size - 1] = last;
     }
-    has_fault(&octets[..size], kind, code, place)
+    match read(&octets[..size]) {
+        Ok(_) => false,
+        Err(fault) => fault.place == place && fault.kind == kind && fault.kind.code() == code,
+    }
 }
 
 #[test]
 fn faults_have_their_place_and_kind(rt: HostRuntime) {
-    for (front, size, last, kind, code, place) in &FAULTS {
-        assert!(rt;
-            begin_with_fault(front, *size, *last, *kind, *code, *place),
-            "{front:?}"
-        );
+    for row in &FAULTS {
+        let front = row.0;
+        assert!(rt; has_fault(row), "{front:?}");
     }
 }
 
@@ -297,25 +285,6 @@ fn goes_both_ways(plain: &[u8], wrapped: &[u8]) -> bool
     is_closed_to(plain, wrapped) && is_opened_to(wrapped, plain)
 }
 
-#[test]
-fn key_data_is_padded_wrapped_and_opened(rt: HostRuntime) {
-    assert!(rt;
-        (goes_both_ways(&M3_KEY_DATA, &M3_WRAPPED) && goes_both_ways(&RISING[..183], &LONG_WRAPPED))
-            && goes_both_ways(&[], &EMPTY_WRAPPED)
-            && goes_both_ways(&M3_KEY_DATA[..8], &EIGHT_WRAPPED)
-            && goes_both_ways(&M3_KEY_DATA[..16], &SIXTEEN_WRAPPED)
-    );
-}
-
-// The key data of M3 is opened with the padding that was put behind it.
-fn is_opened_with_padding() -> bool {
-    let mut out = [0; 48];
-    match open_key_data(&KEK, &M3_WRAPPED, &mut out) {
-        Ok(end) => end == 48 && array_at::<2>(&out, 46) == [0xdd, 0x00],
-        Err(BadWrap) => false,
-    }
-}
-
 fn is_refused(wrapped: &[u8]) -> bool
     requires { length wrapped.now ≤ 56 }
 {
@@ -324,13 +293,19 @@ fn is_refused(wrapped: &[u8]) -> bool
 }
 
 #[test]
-fn what_wraps_no_key_data_is_refused(rt: HostRuntime) {
+fn key_data_is_padded_wrapped_and_opened(rt: HostRuntime) {
+    assert!(rt;
+        (goes_both_ways(&M3_KEY_DATA[..46], &M3_WRAPPED) && is_opened_to(&M3_WRAPPED, &M3_KEY_DATA))
+            && (goes_both_ways(&RISING[..183], &LONG_WRAPPED)
+                && goes_both_ways(&[], &EMPTY_WRAPPED))
+            && goes_both_ways(&M3_KEY_DATA[..8], &EIGHT_WRAPPED)
+            && goes_both_ways(&M3_KEY_DATA[..16], &SIXTEEN_WRAPPED)
+    );
     let mut other = M3_WRAPPED;
     other[55] ^= 1;
     assert!(rt;
-        (is_opened_with_padding() && is_refused(&other))
+        (is_refused(&other) && matches!(open_key_data(&KEK, &[], &mut []), Err(BadWrap)))
             && (is_refused(&M3_WRAPPED[..8]) && is_refused(&M3_WRAPPED[..23]))
-            && matches!(open_key_data(&KEK, &[], &mut []), Err(BadWrap))
     );
 }
 

@@ -29,19 +29,19 @@ struct Handshake {
     ptk: [u128; 3],
 }
 
-// The same with the names of both levels of the FT key hierarchy.
+// The keys of both levels of the FT key hierarchy, and PTKName.
+struct Levels {
+    r0: Halves,
+    r1: Halves,
+    ptk_name: u128,
+}
+
+// A handshake with the names of both levels, and with their keys where they are known.
 struct Roam {
     handshake: Handshake,
     r0_name: u128,
     r1_name: u128,
-}
-
-// The same with the keys of both levels and PTKName.
-struct Computed {
-    roam: Roam,
-    r0: Halves,
-    r1: Halves,
-    ptk_name: u128,
+    levels: Option<Levels>,
 }
 
 // The key of the passphrase "password" and the SSID "IEEE" (IEEE Std 802.11-2020, J.4).
@@ -143,9 +143,9 @@ static HANDSHAKES: [Handshake; 3] = [
     },
 ];
 
-// One capture of a station that associates with an access point by the four-way handshake, and
+// First one capture of a station that associates with an access point by the four-way handshake, and
 // moves to a second one by fast transition: names and keys are those of the devices that took part.
-static CAPTURED: [Roam; 2] = [
+static ROAMS: [Roam; 4] = [
     Roam {
         handshake: Handshake {
             akm: Akm::FtPsk,
@@ -171,6 +171,7 @@ static CAPTURED: [Roam; 2] = [
         },
         r0_name: 0xccfb899605e2f69a58001b43662ad588,
         r1_name: 0x94a8eeb64f69df004cc5dc5e99c31ec0,
+        levels: None,
     },
     Roam {
         handshake: Handshake {
@@ -197,87 +198,85 @@ static CAPTURED: [Roam; 2] = [
         },
         r0_name: 0xccfb899605e2f69a58001b43662ad588,
         r1_name: 0x685b0e6bb2b369760656c4b3e5a3cfd0,
+        levels: None,
     },
-];
-
-// The keys were computed by another program, with Python's hmac and hashlib.
-static COMPUTED: [Computed; 2] = [
-    Computed {
-        roam: Roam {
-            handshake: Handshake {
-                akm: Akm::FtPsk,
-                psk: [
-                    0x000102030405060708090a0b0c0d0e0f,
-                    0x101112131415161718191a1b1c1d1e1f,
-                ],
-                ssid: b"IEEE",
-                mdid: [0xa1, 0xb2],
-                r0kh_id: b"r0kh-1",
-                aa: [0x02, 0x00, 0x00, 0x00, 0x00, 0x01],
-                spa: [0x02, 0x00, 0x00, 0x00, 0x00, 0x11],
-                anonce: [
-                    0x404142434445464748494a4b4c4d4e4f,
-                    0x505152535455565758595a5b5c5d5e5f,
-                ],
-                snonce: [
-                    0x808182838485868788898a8b8c8d8e8f,
-                    0x909192939495969798999a9b9c9d9e9f,
-                ],
-                ptk: [
-                    0xb92f0b8f8fa5e58920b67f5ae5a71433,
-                    0xb4d0de7ba89ddc3112075a73d4481110,
-                    0x853b4904431be6dd19f9f734710425e5,
-                ],
-            },
-            r0_name: 0x603989803659d93291dd156077a312d4,
-            r1_name: 0xeb73bcbd882aeb8d7fe62ce6fea220a9,
+    // These were computed by another program, with Python's hmac and hashlib.
+    Roam {
+        handshake: Handshake {
+            akm: Akm::FtPsk,
+            psk: [
+                0x000102030405060708090a0b0c0d0e0f,
+                0x101112131415161718191a1b1c1d1e1f,
+            ],
+            ssid: b"IEEE",
+            mdid: [0xa1, 0xb2],
+            r0kh_id: b"r0kh-1",
+            aa: [0x02, 0x00, 0x00, 0x00, 0x00, 0x01],
+            spa: [0x02, 0x00, 0x00, 0x00, 0x00, 0x11],
+            anonce: [
+                0x404142434445464748494a4b4c4d4e4f,
+                0x505152535455565758595a5b5c5d5e5f,
+            ],
+            snonce: [
+                0x808182838485868788898a8b8c8d8e8f,
+                0x909192939495969798999a9b9c9d9e9f,
+            ],
+            ptk: [
+                0xb92f0b8f8fa5e58920b67f5ae5a71433,
+                0xb4d0de7ba89ddc3112075a73d4481110,
+                0x853b4904431be6dd19f9f734710425e5,
+            ],
         },
-        r0: [
-            0xc8fc0ed6b503db8d5690db3b491a68c6,
-            0xf3e3ea7b66f16edb5acf6ab9f95adfb7,
-        ],
-        r1: [
-            0xb7d16c74e769baa444194fdac08f6efc,
-            0xf27c97af734bcd45705711208db3b3cd,
-        ],
-        ptk_name: 0x3ded84dc229f69d838af3f509cf6c8ac,
+        r0_name: 0x603989803659d93291dd156077a312d4,
+        r1_name: 0xeb73bcbd882aeb8d7fe62ce6fea220a9,
+        levels: Some(Levels {
+            r0: [
+                0xc8fc0ed6b503db8d5690db3b491a68c6,
+                0xf3e3ea7b66f16edb5acf6ab9f95adfb7,
+            ],
+            r1: [
+                0xb7d16c74e769baa444194fdac08f6efc,
+                0xf27c97af734bcd45705711208db3b3cd,
+            ],
+            ptk_name: 0x3ded84dc229f69d838af3f509cf6c8ac,
+        }),
     },
-    Computed {
-        roam: Roam {
-            handshake: Handshake {
-                akm: Akm::FtPsk,
-                psk: STANDARD_PSK,
-                ssid: LONG_SSID,
-                mdid: [0x00, 0x01],
-                r0kh_id: LONG_R0KH_ID,
-                aa: [0x02, 0x00, 0x00, 0x00, 0x00, 0x02],
-                spa: [0x02, 0x00, 0x00, 0x00, 0x00, 0x12],
-                anonce: [
-                    0xfffefdfcfbfaf9f8f7f6f5f4f3f2f1f0,
-                    0xefeeedecebeae9e8e7e6e5e4e3e2e1e0,
-                ],
-                snonce: [
-                    0x0104070a0d101316191c1f2225282b2e,
-                    0x3134373a3d404346494c4f5255585b5e,
-                ],
-                ptk: [
-                    0x316f1093674a818d23adc0d4ce005f7c,
-                    0x7586416572d2eb2bae2a67e69988e3e7,
-                    0xf72efce611753e78307e4d38e8d5e08b,
-                ],
-            },
-            r0_name: 0x6930962aef3504143b06f0a81bef9d0a,
-            r1_name: 0xb89951a04508c66f757979cb3424d472,
+    Roam {
+        handshake: Handshake {
+            akm: Akm::FtPsk,
+            psk: STANDARD_PSK,
+            ssid: LONG_SSID,
+            mdid: [0x00, 0x01],
+            r0kh_id: LONG_R0KH_ID,
+            aa: [0x02, 0x00, 0x00, 0x00, 0x00, 0x02],
+            spa: [0x02, 0x00, 0x00, 0x00, 0x00, 0x12],
+            anonce: [
+                0xfffefdfcfbfaf9f8f7f6f5f4f3f2f1f0,
+                0xefeeedecebeae9e8e7e6e5e4e3e2e1e0,
+            ],
+            snonce: [
+                0x0104070a0d101316191c1f2225282b2e,
+                0x3134373a3d404346494c4f5255585b5e,
+            ],
+            ptk: [
+                0x316f1093674a818d23adc0d4ce005f7c,
+                0x7586416572d2eb2bae2a67e69988e3e7,
+                0xf72efce611753e78307e4d38e8d5e08b,
+            ],
         },
-        r0: [
-            0x7bff68407a0ce30c3b16e69c1f9d5f31,
-            0xc1e071a48017740a5bd9d43577fa79e7,
-        ],
-        r1: [
-            0x256a87ef4ec39070029f40be01951423,
-            0xd247fabe39fa0d3e7979cf46062ed9ca,
-        ],
-        ptk_name: 0x123cb7632373f9c82ebf32c1a8bf141f,
+        r0_name: 0x6930962aef3504143b06f0a81bef9d0a,
+        r1_name: 0xb89951a04508c66f757979cb3424d472,
+        levels: Some(Levels {
+            r0: [
+                0x7bff68407a0ce30c3b16e69c1f9d5f31,
+                0xc1e071a48017740a5bd9d43577fa79e7,
+            ],
+            r1: [
+                0x256a87ef4ec39070029f40be01951423,
+                0xd247fabe39fa0d3e7979cf46062ed9ca,
+            ],
+            ptk_name: 0x123cb7632373f9c82ebf32c1a8bf141f,
+        }),
     },
 ];
 
@@ -304,7 +303,8 @@ fn passphrases_give_their_keys(rt: HostRuntime) {
     assert!(rt; standard == octets(STANDARD_PSK) && captured == octets(CAPTURED_PSK));
 }
 
-fn octets_of(rt: &impl Abort, alloc: Global, octets: &[u8]) -> Octets
+/// Octets in memory of their own.
+pub fn octets_of(rt: &impl Abort, alloc: Global, octets: &[u8]) -> Octets
     ensures { result ≡ octets.now }
 {
     Octets(Vec::from_slice(alloc, octets).expect(rt, "memory"))
@@ -351,7 +351,7 @@ fn is_pairwise(rt: &impl Abort, alloc: Global, h: &Handshake) -> bool {
 #[test]
 fn captured_handshakes_give_their_keys(rt: HostRuntime) {
     for h in &HANDSHAKES {
-        assert!(rt; is_pairwise(&rt, rt.alloc(), h));
+        assert!(rt; is_pairwise(&rt, rt.alloc(), h), "{:?}", h.ssid);
     }
 }
 
@@ -363,27 +363,30 @@ fn r0_of(h: &Handshake) -> PmkR0
     PmkR0::derive(&octets(h.psk), ssid, h.mdid, r0kh_id, Mac(h.spa))
 }
 
-fn r1_of(r0: &PmkR0, h: &Handshake) -> PmkR1 {
-    r0.r1(Mac(h.aa), Mac(h.spa))
+fn has_keys(levels: &Levels, r0: &PmkR0, r1: &PmkR1, name: [u8; 16]) -> bool {
+    (r0.key == octets(levels.r0) && r1.key == octets(levels.r1))
+        && name == levels.ptk_name.to_be_bytes()
 }
 
-// The key of the last level by its own function.
-fn is_last_level(r1: &PmkR1, h: &Handshake) -> bool {
-    let (anonce, snonce) = (octets(h.anonce), octets(h.snonce));
-    let ptk = ptk_from_r1(r1, &snonce, &anonce, Mac(h.aa), Mac(h.spa));
-    parts(&ptk) == h.ptk
-}
-
-// That key, and the names of both levels.
+// The names of both levels, the key of the last one by its own function, and the keys and PTKName
+// that are known.
 fn is_transition(roam: &Roam) -> bool
     requires ssid { IsSsid roam.now.handshake.ssid.now }
     requires r0kh_id { IsR0khId roam.now.handshake.r0kh_id.now }
 {
-    let r0 = r0_of(&roam.handshake);
-    let r1 = r1_of(&r0, &roam.handshake);
-    r0.name() == roam.r0_name.to_be_bytes()
-        && r1.name() == roam.r1_name.to_be_bytes()
-        && is_last_level(&r1, &roam.handshake)
+    let h = &roam.handshake;
+    let (aa, spa, anonce, snonce) = (Mac(h.aa), Mac(h.spa), octets(h.anonce), octets(h.snonce));
+    let r0 = r0_of(h);
+    let r1 = r0.r1(aa, spa);
+    let ptk = ptk_from_r1(&r1, &snonce, &anonce, aa, spa);
+    if parts(&ptk) != h.ptk || r0.name() != roam.r0_name.to_be_bytes() {
+        return false;
+    }
+    let is_known = match &roam.levels {
+        Some(levels) => has_keys(levels, &r0, &r1, ptk_name(&r1, &snonce, &anonce, aa, spa)),
+        None => true,
+    };
+    is_known && r1.name() == roam.r1_name.to_be_bytes()
 }
 
 // The same, and by the function for any suite.
@@ -396,40 +399,8 @@ fn roams(rt: &impl Abort, alloc: Global, roam: &Roam) -> bool {
 }
 
 #[test]
-fn captured_transition_gives_its_names_and_keys(rt: HostRuntime) {
-    for roam in &CAPTURED {
-        assert!(rt; roams(&rt, rt.alloc(), roam));
-    }
-}
-
-fn has_name(r1: &PmkR1, h: &Handshake, name: u128) -> bool {
-    let (anonce, snonce) = (octets(h.anonce), octets(h.snonce));
-    ptk_name(r1, &snonce, &anonce, Mac(h.aa), Mac(h.spa)) == name.to_be_bytes()
-}
-
-// The keys of both levels and PTKName.
-fn has_keys(computed: &Computed) -> bool
-    requires ssid { IsSsid computed.now.roam.handshake.ssid.now }
-    requires r0kh_id { IsR0khId computed.now.roam.handshake.r0kh_id.now }
-{
-    let r0 = r0_of(&computed.roam.handshake);
-    let r1 = r1_of(&r0, &computed.roam.handshake);
-    r0.key == octets(computed.r0)
-        && r1.key == octets(computed.r1)
-        && has_name(&r1, &computed.roam.handshake, computed.ptk_name)
-}
-
-fn is_computed(computed: &Computed) -> bool {
-    let (ssid, r0kh_id) = (
-        computed.roam.handshake.ssid,
-        computed.roam.handshake.r0kh_id,
-    );
-    (1..=32).contains(&ssid.len()) && (1..=48).contains(&r0kh_id.len()) && has_keys(computed)
-}
-
-#[test]
-fn ft_hierarchy_gives_the_keys_of_another_program(rt: HostRuntime) {
-    for computed in &COMPUTED {
-        assert!(rt; is_computed(computed) && roams(&rt, rt.alloc(), &computed.roam));
+fn transitions_give_their_names_and_keys(rt: HostRuntime) {
+    for roam in &ROAMS {
+        assert!(rt; roams(&rt, rt.alloc(), roam), "{:?}", roam.r0_name);
     }
 }

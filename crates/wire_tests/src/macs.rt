@@ -215,12 +215,13 @@ static LAST_DERIVED: [u8; 32] = [
     0x3f, 0x29, 0xd3, 0xd9, 0xf4, 0xc7, 0x54, 0xfd, 0x45, 0x92, 0xb9, 0xc4, 0xae, 0xb5, 0xdd, 0xfc,
 ];
 
-// A passphrase, an SSID, and the key (IEEE Std 802.11-2020, J.4).
-static PRE_SHARED: [(&[u8], &[u8], [u8; 32]); 3] = [
+// A passphrase, a salt, and the key or its front. In the first three the salt is an SSID (IEEE Std
+// 802.11-2020, J.4), the others are of RFC 6070, 2.
+static STRETCHED: [(&[u8], &[u8], &[u8]); 6] = [
     (
         b"password",
         b"IEEE",
-        [
+        &[
             0xf4, 0x2c, 0x6f, 0xc5, 0x2d, 0xf0, 0xeb, 0xef, 0x9e, 0xbb, 0x4b, 0x90, 0xb3, 0x8a,
             0x5f, 0x90, 0x2e, 0x83, 0xfe, 0x1b, 0x13, 0x5a, 0x70, 0xe2, 0x3a, 0xed, 0x76, 0x2e,
             0x97, 0x10, 0xa1, 0x2e,
@@ -229,7 +230,7 @@ static PRE_SHARED: [(&[u8], &[u8], [u8; 32]); 3] = [
     (
         b"ThisIsAPassword",
         b"ThisIsASSID",
-        [
+        &[
             0x0d, 0xc0, 0xd6, 0xeb, 0x90, 0x55, 0x5e, 0xd6, 0x41, 0x97, 0x56, 0xb9, 0xa1, 0x5e,
             0xc3, 0xe3, 0x20, 0x9b, 0x63, 0xdf, 0x70, 0x7d, 0xd5, 0x08, 0xd1, 0x45, 0x81, 0xf8,
             0x98, 0x27, 0x21, 0xaf,
@@ -238,16 +239,12 @@ static PRE_SHARED: [(&[u8], &[u8], [u8; 32]); 3] = [
     (
         b"aaaaaaaaaaaaaaaaaaaaaaaaaaaaaaaa",
         b"ZZZZZZZZZZZZZZZZZZZZZZZZZZZZZZZZ",
-        [
+        &[
             0xbe, 0xcb, 0x93, 0x86, 0x6b, 0xb8, 0xc3, 0x83, 0x2c, 0xb7, 0x77, 0xc2, 0xf5, 0x59,
             0x80, 0x7c, 0x8c, 0x59, 0xaf, 0xcb, 0x6e, 0xae, 0x73, 0x48, 0x85, 0x00, 0x13, 0x00,
             0xa9, 0x81, 0xcc, 0x62,
         ],
     ),
-];
-
-// A passphrase, a salt, and the front of the key (RFC 6070, 2).
-static STRETCHED: [(&[u8], &[u8], &[u8]); 3] = [
     (
         b"password",
         b"salt",
@@ -413,14 +410,10 @@ static MICS: [(Akm, usize, [u8; 16]); 5] = [
 ];
 
 #[test]
-fn hmac_sha1_gives_the_digests_of_rfc_2202(rt: HostRuntime) {
+fn hmac_gives_the_digests_of_rfc_2202_and_rfc_4231(rt: HostRuntime) {
     for (key, text, digest) in &SHA1_DIGESTS {
         assert!(rt; hmac_sha1(key, text) == *digest, "{text:?}");
     }
-}
-
-#[test]
-fn hmac_sha256_gives_the_digests_of_rfc_4231(rt: HostRuntime) {
     for (key, text, digest) in &SHA256_DIGESTS {
         assert!(rt; hmac_sha256(key, text) == *digest, "{text:?}");
     }
@@ -435,15 +428,8 @@ fn is_expanded(key: &[u8], context: &[u8], octets: &[u8; 64]) -> bool {
     whole == *octets && front == array_at::<24>(octets, 0)
 }
 
-#[test]
-fn prf_gives_the_octets_of_the_standard(rt: HostRuntime) {
-    for (key, context, octets) in &EXPANDED {
-        assert!(rt; is_expanded(key, context, octets), "{context:?}");
-    }
-}
-
-#[test]
-fn prf_counts_its_blocks_in_one_octet(rt: HostRuntime) {
+// The block of the last octets has the number 255.
+fn prf_counts_its_blocks_in_one_octet() -> bool {
     let mut octets = [0; 5120];
     prf(
         b"Jefe",
@@ -451,7 +437,15 @@ fn prf_counts_its_blocks_in_one_octet(rt: HostRuntime) {
         b"what do ya want for nothing?",
         &mut octets,
     );
-    assert!(rt; array_at::<20>(&octets, 5100) == LAST_EXPANDED);
+    array_at::<20>(&octets, 5100) == LAST_EXPANDED
+}
+
+#[test]
+fn prf_gives_the_octets_of_the_standard(rt: HostRuntime) {
+    for (key, context, octets) in &EXPANDED {
+        assert!(rt; is_expanded(key, context, octets), "{context:?}");
+    }
+    assert!(rt; prf_counts_its_blocks_in_one_octet());
 }
 
 fn is_derived(octets: &[u8]) -> bool {
@@ -464,25 +458,19 @@ fn is_derived(octets: &[u8]) -> bool {
     &*out == octets
 }
 
+// The last of the most octets that it gives.
+fn kdf_counts_its_bits_in_two_octets() -> bool {
+    let mut most = [0; 8191];
+    kdf(b"Jefe", b"label", b"context", &mut most);
+    array_at::<32>(&most, 8159) == LAST_DERIVED
+}
+
 #[test]
 fn kdf_agrees_with_another_program(rt: HostRuntime) {
     for octets in &DERIVED {
         assert!(rt; is_derived(octets), "{octets:?}");
     }
-}
-
-#[test]
-fn kdf_counts_its_bits_in_two_octets(rt: HostRuntime) {
-    let mut most = [0; 8191];
-    kdf(b"Jefe", b"label", b"context", &mut most);
-    assert!(rt; array_at::<32>(&most, 8159) == LAST_DERIVED);
-}
-
-#[test]
-fn pbkdf2_gives_the_keys_of_the_standard(rt: HostRuntime) {
-    for (passphrase, ssid, key) in &PRE_SHARED {
-        assert!(rt; pbkdf2(passphrase, ssid) == *key, "{passphrase:?}");
-    }
+    assert!(rt; kdf_counts_its_bits_in_two_octets());
 }
 
 fn is_stretched(passphrase: &[u8], salt: &[u8], front: &[u8]) -> bool {
@@ -490,28 +478,27 @@ fn is_stretched(passphrase: &[u8], salt: &[u8], front: &[u8]) -> bool {
     front.len() <= 32 && &key[..front.len()] == front
 }
 
-#[test]
-fn pbkdf2_gives_the_keys_of_rfc_6070(rt: HostRuntime) {
-    for (passphrase, salt, front) in &STRETCHED {
-        assert!(rt; is_stretched(passphrase, salt, front), "{passphrase:?}");
-    }
-}
-
-fn are_stretched(first: &[u8; 20], second: &[u8; 20]) -> bool {
-    let mut sum = *first;
+// One iteration is the HMAC of the salt and the number of the block, and each next that of the one
+// before it (RFC 8018, 5.2).
+fn iterations_are_hmac_sha1() -> bool {
+    let first = hmac_sha1(b"password", b"salt\0\0\0\x01");
+    let second = hmac_sha1(b"password", &first);
+    let mut sum = first;
     for i in 0..20 {
         sum[i] ^= second[i];
     }
-    *first == STRETCHED_ONCE && sum == STRETCHED_TWICE
+    first == STRETCHED_ONCE && sum == STRETCHED_TWICE
 }
 
-// One iteration is the HMAC of the salt and the number of the block, and each next that of the one
-// before it (RFC 8018, 5.2).
 #[test]
-fn iterations_of_rfc_6070_are_hmac_sha1(rt: HostRuntime) {
-    let first = hmac_sha1(b"password", b"salt\0\0\0\x01");
-    let second = hmac_sha1(b"password", &first);
-    assert!(rt; are_stretched(&first, &second));
+fn pbkdf2_gives_the_keys_of_the_standard_and_of_rfc_6070(rt: HostRuntime) {
+    for (passphrase, salt, front) in &STRETCHED {
+        assert!(rt;
+            is_stretched(passphrase, salt, front),
+            "{passphrase:?} {salt:?}"
+        );
+    }
+    assert!(rt; iterations_are_hmac_sha1());
 }
 
 fn has_code(size: usize, code: &[u8; 16]) -> bool {

@@ -1,15 +1,16 @@
 //! The outside in memory, octet fields and names, with what no clause of them says: that calls
 //! succeed, and what is printed.
 
+use crate::keys::octets_of;
 use domain_base::{
     Air, Draws, Failed, Incoming, Link, LinkError, LinkPlan, MemAir, MemDraws, MemLink, MemSink,
-    MemSource, NoMemory, Node, Octets, Peer, Sink, Source, SteadyAir, SteadyDraws, SteadyLink,
-    SteadySink, SteadySource, Tid, array_at, big_u16_at, little_u16_at, put, write_all,
+    MemSource, Node, Octets, Peer, Sink, Source, SteadyAir, SteadyDraws, SteadyLink, SteadySink,
+    SteadySource, Tid, array_at, big_u16_at, little_u16_at, put, write_all,
 };
 use std::alloc::Global;
 use std::process::Abort;
 
-const PRINTED: [(Peer, &str); 4] = [
+static PRINTED: [(Peer, &str); 4] = [
     (Peer::One(Node::Ap(0)), "a1"),
     (Peer::One(Node::Sta(63)), "s64"),
     (Peer::One(Node::Ap(65535)), "a65536"),
@@ -23,8 +24,8 @@ fn check_printed(rt: &impl Abort, alloc: Global, peer: Peer, text: &str) {
 
 #[test]
 fn nodes_print_from_one(rt: HostRuntime) {
-    for (peer, text) in PRINTED {
-        check_printed(&rt, rt.alloc(), peer, text);
+    for (peer, text) in &PRINTED {
+        check_printed(&rt, rt.alloc(), *peer, text);
     }
 }
 
@@ -37,17 +38,17 @@ fn are_read_and_written() -> bool {
         && little_u16_at(&octets, 1) == 0x0201
 }
 
-#[test]
-fn fields_are_read_and_written(rt: HostRuntime) {
-    assert!(rt; are_read_and_written());
+fn is_below_16(number: u8) -> bool {
+    match Tid::new(number) {
+        Some(tid) => tid.number() == number,
+        None => false,
+    }
 }
 
 #[test]
-fn traffic_identifiers_are_below_16(rt: HostRuntime) {
-    match Tid::new(15) {
-        Some(tid) => assert!(rt; tid.number() == 15 && Tid::new(16).is_none()),
-        None => assert!(rt; false),
-    }
+fn fields_are_read_and_written(rt: HostRuntime) {
+    assert!(rt; are_read_and_written());
+    assert!(rt; is_below_16(15) && Tid::new(16).is_none());
 }
 
 // What a source gives next, by a buffer of four octets that is filled up with zeros.
@@ -109,18 +110,25 @@ fn a_steady_sink_keeps_the_first_octets(rt: HostRuntime) {
     assert!(rt; takes(&mut sink, &[Ok(()), Ok(())]) && sink.kept().len() == 100);
 }
 
-fn two_frames(alloc: Global) -> Result<Vec<Octets>, NoMemory> {
+fn two_frames(rt: &impl Abort, alloc: Global) -> Vec<Octets> {
     let mut frames = Vec::new(alloc);
-    frames.push(Octets(b"one".to_vec(alloc)?))?;
-    frames.push(Octets(b"another".to_vec(alloc)?))?;
-    Ok(frames)
+    frames
+        .push(octets_of(rt, alloc, b"one"))
+        .expect(rt, "memory");
+    frames
+        .push(octets_of(rt, alloc, b"another"))
+        .expect(rt, "memory");
+    frames
 }
 
 // An air with two frames for the first access point.
-fn air_of_two(alloc: Global) -> Result<SteadyAir, NoMemory> {
+fn air_of_two(rt: &impl Abort, alloc: Global) -> SteadyAir {
     let mut incoming = Vec::new(alloc);
-    incoming.push(Incoming::new(Node::Ap(0), two_frames(alloc)?))?;
-    SteadyAir::new(alloc, incoming)
+    let frames = two_frames(rt, alloc);
+    incoming
+        .push(Incoming::new(Node::Ap(0), frames))
+        .expect(rt, "memory");
+    SteadyAir::new(alloc, incoming).expect(rt, "memory")
 }
 
 /// What a link gives next, by a buffer of four octets that is filled up with zeros.
@@ -153,7 +161,7 @@ fn sent_one_reply(links: &[SteadyLink]) -> bool {
 
 #[test]
 fn a_link_gives_and_keeps_frames(rt: HostRuntime) {
-    let mut air = air_of_two(rt.alloc()).expect(&rt, "memory");
+    let mut air = air_of_two(&rt, rt.alloc());
     let mut link = air.attach(Node::Ap(0)).expect(&rt, "a link");
     let is_right = gives_two_and_sends(&mut link);
     air.take_back(link);
@@ -174,7 +182,7 @@ fn is_taken_back(air: &mut SteadyAir, left: usize) -> bool {
 
 #[test]
 fn an_air_without_room_ceases_to_tell(rt: HostRuntime) {
-    let mut air = air_of_two(rt.alloc()).expect(&rt, "memory");
+    let mut air = air_of_two(&rt, rt.alloc());
     let first = is_taken_back(&mut air, 2) && air.tells();
     let second = is_taken_back(&mut air, 0) && !air.tells();
     assert!(rt; first && second);
@@ -202,7 +210,7 @@ fn fails_twice(link: &mut MemLink) -> bool {
 
 #[test]
 fn a_link_fails_where_it_was_told(rt: HostRuntime) {
-    let frames = two_frames(rt.alloc()).expect(&rt, "memory");
+    let frames = two_frames(&rt, rt.alloc());
     let failing = [1, 3].to_vec(rt.alloc()).expect(&rt, "memory");
     let mut link = MemLink::new(rt.alloc(), Node::Ap(0), frames, failing);
     assert!(rt; fails_twice(&mut link));
@@ -210,11 +218,13 @@ fn a_link_fails_where_it_was_told(rt: HostRuntime) {
 
 // An air with two frames for the first access point. The second call of `attach` fails, and so does
 // the first call of the link.
-fn failing_air(alloc: Global) -> Result<MemAir, NoMemory> {
-    let failing = [0].to_vec(alloc)?;
+fn failing_air(rt: &impl Abort, alloc: Global) -> MemAir {
+    let failing = [0].to_vec(alloc).expect(rt, "memory");
+    let plan = LinkPlan::new(Node::Ap(0), two_frames(rt, alloc), failing);
     let mut plans = Vec::new(alloc);
-    plans.push(LinkPlan::new(Node::Ap(0), two_frames(alloc)?, failing))?;
-    MemAir::new(alloc, plans, [1].to_vec(alloc)?)
+    plans.push(plan).expect(rt, "memory");
+    let failing = [1].to_vec(alloc).expect(rt, "memory");
+    MemAir::new(alloc, plans, failing).expect(rt, "memory")
 }
 
 // No link is given to a node: the first time because the call was to fail, then because the access
@@ -230,7 +240,7 @@ fn gives_no_more(air: &mut MemAir) -> bool {
 
 #[test]
 fn an_air_fails_where_it_was_told(rt: HostRuntime) {
-    let mut air = failing_air(rt.alloc()).expect(&rt, "memory");
+    let mut air = failing_air(&rt, rt.alloc());
     let mut link = air.attach(Node::Ap(0)).expect(&rt, "a link");
     let is_right = gives_no_more(&mut air)
         && next_frame(&mut link) == Err(Failed)
@@ -246,7 +256,7 @@ fn take_back_another(alloc: Global, air: &mut MemAir) {
 
 #[test]
 fn a_failing_air_without_room_ceases_to_tell(rt: HostRuntime) {
-    let mut air = failing_air(rt.alloc()).expect(&rt, "memory");
+    let mut air = failing_air(&rt, rt.alloc());
     take_back_another(rt.alloc(), &mut air);
     let tells = air.tells();
     take_back_another(rt.alloc(), &mut air);

@@ -3,7 +3,7 @@
 use command_words::{Command, read_words};
 
 // Words, and the command that they ask for.
-const ROWS: [(&[&str], Option<Command>); 31] = [
+static ROWS: [(&[&str], Option<Command>); 31] = [
     (&[], None),
     (&["x"], None),
     (&["Replay"], None),
@@ -40,12 +40,12 @@ const ROWS: [(&[&str], Option<Command>); 31] = [
     (&["--", "replay"], None),
 ];
 
-fn is_same(asked: Option<Command>, expected: Option<Command>) -> bool {
+fn is_same(asked: Option<Command>, expected: &Option<Command>) -> bool {
     match (asked, expected) {
         (None, None) | (Some(Command::Replay), Some(Command::Replay)) => true,
-        (Some(Command::Live { port }), Some(Command::Live { port: other })) => port == other,
+        (Some(Command::Live { port }), Some(Command::Live { port: other })) => port == *other,
         (Some(Command::Storm { number }), Some(Command::Storm { number: other })) => {
-            number == other
+            number == *other
         }
         _ => false,
     }
@@ -53,7 +53,7 @@ fn is_same(asked: Option<Command>, expected: Option<Command>) -> bool {
 
 #[test]
 fn words_ask_for_a_command(rt: HostRuntime) {
-    for (words, expected) in ROWS {
+    for (words, expected) in &ROWS {
         let asked = read_words(rt.alloc(), words).expect(&rt, "memory");
         assert!(rt; is_same(asked, expected), "{words:?}");
     }

@@ -352,32 +352,12 @@ fn inputs(rt: &impl Abort, alloc: Global) -> SharedInputs {
     SharedInputs::of(BoxedInputs::new(alloc, inputs).expect(rt, "memory"))
 }
 
-fn pairwise(rt: &impl Abort, alloc: Global) -> Key {
-    Key::Pairwise {
-        tk: [6; 16],
-        inputs: inputs(rt, alloc),
-    }
-}
-
 fn group() -> Key {
     Key::Group {
         gtk: GTK,
         id: 1,
         bssid: BSSID,
     }
-}
-
-fn installed(peer: Peer, key: Key) -> Act {
-    Act::Installed { peer, key }
-}
-
-fn resumed(peer: Node) -> Act {
-    Act::Resumed { peer, key: group() }
-}
-
-fn finished(rt: &impl Abort, alloc: Global, peer: Node) -> Act {
-    let inputs = inputs(rt, alloc);
-    Act::Finished { peer, inputs }
 }
 
 fn sent(rt: &impl Abort, alloc: Global, peer: Peer, kind: Kind, size: usize) -> Act {
@@ -454,10 +434,19 @@ fn act(rt: &impl Abort, alloc: Global, does: &Does) -> Act {
         Draws => Act::Drew {
             value: Drawn::Gtk(GTK),
         },
-        InstallsGroup(peer) => installed(peer, group()),
-        InstallsPairwise(peer) => installed(peer, pairwise(rt, alloc)),
-        Resumes(peer) => resumed(peer),
-        Finishes(peer) => finished(rt, alloc, peer),
+        InstallsGroup(peer) => Act::Installed { peer, key: group() },
+        InstallsPairwise(peer) => Act::Installed {
+            peer,
+            key: Key::Pairwise {
+                tk: [6; 16],
+                inputs: inputs(rt, alloc),
+            },
+        },
+        Resumes(peer) => Act::Resumed { peer, key: group() },
+        Finishes(peer) => Act::Finished {
+            peer,
+            inputs: inputs(rt, alloc),
+        },
         Sends(peer, kind, size) => sent(rt, alloc, peer, kind, size),
         Takes(kind, outcome) => took(rt, alloc, kind, outcome),
         Uses(peer, payload) => used(rt, alloc, peer, payload),
@@ -481,13 +470,11 @@ fn entry(node: Node, number: u64, act: Act) -> Entry {
     }
 }
 
-fn push(rt: &impl Abort, entries: &mut Vec<Entry>, entry: Entry) {
-    entries.push(entry).expect(rt, "memory");
-}
-
 fn add(rt: &impl Abort, alloc: Global, entries: &mut Vec<Entry>, of: &(Node, u64, Does)) {
     let (node, number, does) = of;
-    push(rt, entries, entry(*node, *number, act(rt, alloc, does)));
+    entries
+        .push(entry(*node, *number, act(rt, alloc, does)))
+        .expect(rt, "memory");
 }
 
 fn entries_of(rt: &impl Abort, alloc: Global, all: &[(Node, u64, Does)]) -> Vec<Entry> {
@@ -533,12 +520,7 @@ fn each_kind_of_act_has_its_line(rt: HostRuntime) {
     let entries = entries_of(&rt, rt.alloc(), ENTRIES);
     let is_right = are_lines(&rt, rt.alloc(), &entries);
     drop(entries);
-    assert!(rt; is_right);
-}
-
-#[test]
-fn the_summary_of_no_entries(rt: HostRuntime) {
-    assert!(rt; is_summary(&[], SUMMARY_OF_NONE));
+    assert!(rt; is_right && is_summary(&[], SUMMARY_OF_NONE));
 }
 
 // The line of a payload handed up, of so many octets `a7`.
@@ -573,15 +555,11 @@ fn has_line(entry: &Entry, text: &[u8]) -> bool {
     &out[..count] == text
 }
 
-// The same of an entry that is dropped.
-fn is_line(entry: Entry, text: &str) -> bool {
+fn is_taken(rt: &impl Abort, alloc: Global, kind: Kind, outcome: Outcome, text: &str) -> bool {
+    let entry = entry(AP, 0, took(rt, alloc, kind, outcome));
     let is_right = has_line(&entry, text.as_bytes());
     drop(entry);
     is_right
-}
-
-fn is_taken(rt: &impl Abort, alloc: Global, kind: Kind, outcome: Outcome, text: &str) -> bool {
-    is_line(entry(AP, 0, took(rt, alloc, kind, outcome)), text)
 }
 
 fn check_taken(rt: &impl Abort, alloc: Global, rows: &[(Kind, Outcome, &str)]) {
@@ -590,17 +568,10 @@ fn check_taken(rt: &impl Abort, alloc: Global, rows: &[(Kind, Outcome, &str)]) {
     }
 }
 
+// A refusal tells its reason, and one of a reader layer, place and fault.
 #[test]
 fn what_came_of_a_frame_stands_behind_its_kind(rt: HostRuntime) {
     check_taken(&rt, rt.alloc(), TAKEN);
-}
-
-#[test]
-fn a_refusal_tells_its_reason(rt: HostRuntime) {
     check_taken(&rt, rt.alloc(), REFUSED);
-}
-
-#[test]
-fn a_reader_s_refusal_tells_layer_place_and_fault(rt: HostRuntime) {
     check_taken(&rt, rt.alloc(), MALFORMED);
 }

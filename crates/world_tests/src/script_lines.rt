@@ -5,22 +5,26 @@ ghost use Rattle.frame_script.specs.Headers.{HasSeen, Reading};
 
 mod live;
 mod live_rows;
+mod plays;
 mod rows;
 
-use domain_base::{Akm, Mac, Node, Octets, Peer, Tid};
+use domain_base::{Mac, Node, Octets, Peer};
 use frame_script::{LineFault, Mode, ScriptReader, Step};
-use live::play_live;
-use live_rows::{LAST_TURN, LATE_TURN};
+use live_rows::{LAST_TURN, LATE_TURN, LIVE_FORMS, TURNS};
+use plays::{
+    APS, FALTERED, FT_FALTERED, LONG_KEYED, LONG_PASSPHRASE_HEADER, NO_CHARACTER, NO_LINE,
+    NO_NETWORK, PASSPHRASE_HEADER, REKEYS, STAS, Told, WHOLE, WITH_NODES,
+};
 use rows::Says::{
     self, Alter, Ap, Connect, Cut, Deliver, Draw, End, Expire, Inject, Leave, Limit, Network,
     Nothing, OutOfMemory, Rekey, Retry, Revoke, Roam, Round, Script, Send, Sta, Turn,
 };
 use rows::{
-    A1, ADDRESS, BOTH, BSSID, EMPTY_ROUND, ENDS, EVENT_FORMS, EVENT_LINES, FALTERING, FRAME_LINES,
-    FT_FALTERING, FT_FORMS, FT_HEADER, FULL_ROUND, GROWING, GROWING_IN_ROUND, HEADER, HEADER_FORMS,
-    HEADER_LINES, LAST_ROUND, LATE_LINES, LONG_LINES, LONG_PSK, LONG_ROUND_LINES, MDID, MDID_LINES,
-    MORE_APS, MORE_STAS, NO_FRAME, NO_NODE, NODE_LINES, OPEN, PSK, ROAM_LINES, ROUND_LINES, ROUNDS,
-    S1, SEED, SIZES,
+    A1, Ask, BOTH, CARRIED, EMPTY_ROUND, ENDS, EVENT_FORMS, EVENT_LINES, FALTERING, FRAME_LINES,
+    FT_FALTERING, FT_FORMS, FT_HEADER, FULL_ROUND, FormRow, GROWING, GROWING_IN_ROUND, HEADER,
+    HEADER_FORMS, HEADER_LINES, LAST_ROUND, LATE_LINES, LONG_LINES, MDID_LINES, MORE_APS,
+    MORE_STAS, NO_FRAME, NO_NODE, NODE_LINES, ONE_AP, OPEN, ROAM_LINES, ROUND_LINES, ROUNDS, S1,
+    SIZES,
 };
 use run_journal::{Act, Domain, Entry, Event, Journal, Kind, Start};
 use std::alloc::Global;
@@ -40,20 +44,6 @@ fn says(answer: &Result<Step, LineFault>) -> Says {
         Err(LineFault::Script(reason)) => Script(*reason),
         Err(LineFault::Limit(limit)) => Limit(*limit),
         Err(LineFault::NoMemory) => OutOfMemory,
-    }
-}
-
-// What an answer says, which is dropped.
-fn what_it_says(answer: Result<Step, LineFault>) -> Says {
-    let said = says(&answer);
-    drop(answer);
-    said
-}
-
-fn number_of(tid: Option<Tid>) -> Option<u8> {
-    match tid {
-        Some(tid) => Some(tid.number()),
-        None => None,
     }
 }
 
@@ -77,7 +67,13 @@ fn what_it_asks(event: &Event) -> Says {
             to,
             tid,
             octets,
-        } => Send(*from, *to, number_of(*tid), octets.as_slice().len()),
+        } => {
+            let tid = match tid {
+                Some(tid) => Some(tid.number()),
+                None => None,
+            };
+            Send(*from, *to, tid, octets.as_slice().len())
+        }
         Event::Expire { ap, sta } => Expire(*ap, *sta),
         Event::Revoke { ap, sta } => Revoke(*ap, *sta),
         Event::Leave { sta } => Leave(*sta),
@@ -93,11 +89,10 @@ fn tell(alloc: Global, reader: &mut ScriptReader, line: &[u8], journal: &Journal
     ensures mode { reader.new.mode ≡ reader.old.mode }
     ensures few { reader.new.rounds ≤ reader.old.rounds + 1 }
 {
-    what_it_says(reader.line(alloc, line, journal))
-}
-
-fn is_taken(says: Says) -> bool {
-    !matches!(says, Script(_) | Limit(_) | OutOfMemory)
+    let answer = reader.line(alloc, line, journal);
+    let said = says(&answer);
+    drop(answer);
+    said
 }
 
 // The reader takes each of these lines.
@@ -115,7 +110,8 @@ fn take(
     ensures few { reader.new.rounds ≤ reader.old.rounds + length lines.now }
 {
     for line in lines {
-        assert!(rt; is_taken(tell(alloc, reader, line, journal)));
+        let said = tell(alloc, reader, line, journal);
+        assert!(rt; !matches!(said, Script(_) | Limit(_) | OutOfMemory));
     }
 }
 
@@ -140,21 +136,6 @@ fn reader_in(
     reader
 }
 
-// The same in a replay.
-fn reader_behind(
-    rt: &impl Abort,
-    alloc: Global,
-    header: &[&[u8]],
-    nodes: &[&[u8]],
-    journal: &Journal,
-) -> ScriptReader
-    requires { length header.now + length nodes.now < 2 ^ 32 }
-    ensures seen { HasSeen result journal.now.entries }
-    ensures few { result.rounds < 2 ^ 32 }
-{
-    reader_in(rt, alloc, Mode::Replay, header, nodes, journal)
-}
-
 // Each of the lines says what stands beside it.
 fn play(
     rt: &impl Abort,
@@ -165,6 +146,8 @@ fn play(
 )
     requires seen { HasSeen reader.old journal.now.entries }
     requires few { reader.old.rounds < 2 ^ 62 }
+    ensures seen { HasSeen reader.new journal.now.entries }
+    ensures few { reader.new.rounds ≤ reader.old.rounds + length rows.now }
 {
     assert!(rt; rows.len() <= 1000);
     for (line, want) in rows {
@@ -266,286 +249,251 @@ fn ask_each(
     }
 }
 
-// Each of the lines of each row says the same in a replay behind that many lines of the header.
-fn ask_behind(rt: &impl Abort, alloc: Global, header: &[&[u8]], rows: &[(usize, Says, &str)]) {
-    for (count, want, lines) in rows {
-        assert!(rt; *count <= 6 && *count <= header.len());
+// Each of the lines of each row says the same in a replay behind that many lines of the header,
+// these nodes, and frames of these sizes.
+fn ask_rows(rt: &impl Abort, alloc: Global, header: &[&[u8]], sizes: &[usize], rows: &[Ask]) {
+    let mode = Mode::Replay;
+    for (count, nodes, want, lines) in rows {
+        assert!(rt; *count <= 6 && *count <= header.len() && nodes.len() <= 10);
         let front = &header[..*count];
-        ask_each(
-            rt,
-            alloc,
-            Mode::Replay,
-            front,
-            NO_NODE,
-            NO_FRAME,
-            lines,
-            *want,
-        );
-    }
-}
-
-// Each of the lines of each row says the same in a replay behind these nodes, and behind frames of
-// these sizes.
-fn ask_there(
-    rt: &impl Abort,
-    alloc: Global,
-    header: &[&[u8]],
-    nodes: &[&[u8]],
-    sizes: &[usize],
-    rows: &[(Says, &str)],
-)
-    requires { length header.now + length nodes.now < 2 ^ 32 }
-{
-    for (want, lines) in rows {
-        ask_each(rt, alloc, Mode::Replay, header, nodes, sizes, lines, *want);
+        ask_each(rt, alloc, mode, front, nodes, sizes, lines, *want);
     }
 }
 
 #[test]
-fn lines_of_a_header(rt: HostRuntime) {
-    ask_behind(&rt, rt.alloc(), HEADER, HEADER_LINES);
+fn lines_and_what_they_say(rt: HostRuntime) {
+    ask_rows(&rt, rt.alloc(), HEADER, NO_FRAME, HEADER_LINES);
+    ask_rows(&rt, rt.alloc(), FT_HEADER, NO_FRAME, MDID_LINES);
+    ask_rows(&rt, rt.alloc(), HEADER, NO_FRAME, NODE_LINES);
+    ask_rows(&rt, rt.alloc(), HEADER, SIZES, EVENT_LINES);
+    ask_rows(&rt, rt.alloc(), HEADER, SIZES, FRAME_LINES);
+    ask_rows(&rt, rt.alloc(), FT_HEADER, NO_FRAME, ROAM_LINES);
+    ask_rows(&rt, rt.alloc(), FT_HEADER, SIZES, ROUND_LINES);
 }
 
-fn is_as_before(network: Option<&Domain>) -> bool {
-    match network {
-        Some(network) => {
-            network.akm == Akm::PskSha256 && network.ssid.as_slice() == b"a".as_slice()
-        }
-        None => false,
-    }
+fn has_nodes(network: &Domain, told: &Told) -> bool {
+    let has_aps = match (network.aps.0.as_slice(), told.aps) {
+        ([], []) => true,
+        ([ap], [(address, id)]) => ap.address == *address && ap.r0kh_id.as_slice() == *id,
+        _ => false,
+    };
+    has_aps && network.stas.0.as_slice() == told.stas
 }
 
-#[test]
-#[tactic(auto, using(frame_script::proofs::Feeding::feeding))]
-fn a_refused_line_leaves_the_header_as_it_was(rt: HostRuntime) {
-    let journal = Journal::new(rt.alloc());
-    let mut reader = ScriptReader::start(rt.alloc(), Mode::Replay);
-    assert!(rt; reader.domain().is_none());
-    play(&rt, rt.alloc(), &mut reader, FALTERING, &journal);
-    assert!(rt; is_as_before(reader.domain()));
-    drop(reader);
-    drop(journal);
-}
-
-#[test]
-fn lines_behind_the_suite_of_fast_transition(rt: HostRuntime) {
-    ask_behind(&rt, rt.alloc(), FT_HEADER, MDID_LINES);
-}
-
-fn is_of_a_mobility_domain(network: Option<&Domain>) -> bool {
-    match network {
-        Some(network) => network.akm == Akm::FtPsk && network.mdid == MDID,
-        None => false,
-    }
-}
-
-#[test]
-#[tactic(auto, using(frame_script::proofs::Feeding::feeding))]
-fn the_mobility_domain_makes_the_header_whole(rt: HostRuntime) {
-    let journal = Journal::new(rt.alloc());
-    let mut reader = ScriptReader::start(rt.alloc(), Mode::Replay);
-    play(&rt, rt.alloc(), &mut reader, FT_FALTERING, &journal);
-    assert!(rt; is_of_a_mobility_domain(reader.domain()));
-    drop(reader);
-    drop(journal);
-}
-
-fn has_the_nodes(network: &Domain) -> bool {
-    match network.aps.0.as_slice() {
-        [ap] => {
-            ap.address == BSSID
-                && ap.r0kh_id.as_slice() == b"r0kh-1".as_slice()
-                && network.stas.0.as_slice() == [ADDRESS].as_slice()
+// The network is this one, or there is none, where that is told.
+fn is_told(network: Option<&Domain>, told: Option<&[Told]>) -> bool {
+    match (network, told) {
+        (_, None) | (None, Some([])) => true,
+        (Some(network), Some([told])) => {
+            network.seed == told.seed
+                && network.ssid.as_slice() == told.ssid
+                && network.psk == told.psk
+                && network.akm == told.akm
+                && network.mdid == told.mdid
+                && has_nodes(network, told)
         }
         _ => false,
     }
 }
 
-fn is_told(network: Option<&Domain>) -> bool {
-    match network {
-        Some(network) => {
-            network.seed == SEED
-                && network.ssid.as_slice() == b"IEEE".as_slice()
-                && network.psk == PSK
-                && network.akm == Akm::Psk
-                && network.mdid == [0, 0]
-                && has_the_nodes(network)
-        }
-        None => false,
-    }
-}
-
-#[test]
-fn a_script_tells_the_network(rt: HostRuntime) {
-    let journal = Journal::new(rt.alloc());
-    let reader = reader_behind(&rt, rt.alloc(), HEADER, BOTH, &journal);
-    assert!(rt; is_told(reader.domain()));
-    drop(reader);
-    drop(journal);
-}
-
-fn psk_of(network: Option<&Domain>) -> [u8; 32] {
-    match network {
-        Some(network) => network.psk,
-        None => [0; 32],
-    }
-}
-
-// The key that the passphrase gives in the network of that name.
-fn key_of(rt: &impl Abort, alloc: Global, ssid: &[u8], passphrase: &[u8]) -> [u8; 32] {
-    let journal = Journal::new(alloc);
-    let lines = [HEADER[0], HEADER[1], ssid, passphrase, b"akm psk"];
-    let reader = reader_behind(rt, alloc, &lines, NO_NODE, &journal);
-    let psk = psk_of(reader.domain());
-    drop(reader);
-    drop(journal);
-    psk
-}
-
-#[test]
-fn a_passphrase_gives_the_key(rt: HostRuntime) {
-    let short = key_of(&rt, rt.alloc(), b"ssid IEEE", b"passphrase password");
-    let long = key_of(
-        &rt,
-        rt.alloc(),
-        b"ssid ThisIsASSID",
-        b"passphrase ThisIsAPassword",
-    );
-    assert!(rt; short == PSK && long == LONG_PSK);
-}
-
-#[test]
-fn lines_that_list_nodes(rt: HostRuntime) {
-    for (nodes, want, lines) in NODE_LINES {
-        assert!(rt; nodes.len() <= 10);
-        let mode = Mode::Replay;
-        ask_each(&rt, rt.alloc(), mode, HEADER, nodes, NO_FRAME, lines, *want);
-    }
-}
-
-fn list_ap(rt: &impl Abort, alloc: Global, reader: &mut ScriptReader, number: u8, journal: &Journal)
-    requires seen { HasSeen reader.old journal.now.entries }
-    requires few { reader.old.rounds < 2 ^ 62 }
-    ensures seen { HasSeen reader.new journal.now.entries }
-    ensures few { reader.new.rounds ≤ reader.old.rounds + 1 }
-{
-    let line = format!(in alloc; "ap 0200000000{number:02x} r0kh-{number:02}").expect(rt, "memory");
-    let says = tell(alloc, reader, line.as_bytes(), journal);
-    drop(line);
-    assert!(rt; says == Ap(Mac([2, 0, 0, 0, 0, number]), 7));
-}
-
-#[test]
-fn no_more_than_sixteen_access_points(rt: HostRuntime) {
-    let journal = Journal::new(rt.alloc());
-    let mut reader = reader_behind(&rt, rt.alloc(), HEADER, NO_NODE, &journal);
-    for number in 0..16u8 {
-        list_ap(&rt, rt.alloc(), &mut reader, number, &journal);
-    }
-    play(&rt, rt.alloc(), &mut reader, MORE_APS, &journal);
-    drop(reader);
-    drop(journal);
-}
-
-fn list_sta(
+// Each of the lines of both tables says what stands beside it behind these, and the network is as
+// told.
+fn play_both(
     rt: &impl Abort,
     alloc: Global,
-    reader: &mut ScriptReader,
-    number: u8,
-    journal: &Journal,
-)
-    requires seen { HasSeen reader.old journal.now.entries }
-    requires few { reader.old.rounds < 2 ^ 62 }
-    ensures seen { HasSeen reader.new journal.now.entries }
-    ensures few { reader.new.rounds ≤ reader.old.rounds + 1 }
-{
-    let line = format!(in alloc; "sta 0200000000{number:02x}").expect(rt, "memory");
-    let says = tell(alloc, reader, line.as_bytes(), journal);
-    drop(line);
-    assert!(rt; says == Sta(Mac([2, 0, 0, 0, 0, number])));
-}
-
-#[test]
-fn no_more_than_sixty_four_stations(rt: HostRuntime) {
-    let journal = Journal::new(rt.alloc());
-    let mut reader = reader_behind(&rt, rt.alloc(), HEADER, NO_NODE, &journal);
-    for number in 0..64u8 {
-        list_sta(&rt, rt.alloc(), &mut reader, number, &journal);
-    }
-    play(&rt, rt.alloc(), &mut reader, MORE_STAS, &journal);
+    mode: Mode,
+    header: &[&[u8]],
+    nodes: &[&[u8]],
+    sizes: &[usize],
+    first: &[(&[u8], Says)],
+    lines: &[(&[u8], Says)],
+    told: Option<&[Told]>,
+) {
+    assert!(rt; header.len() <= 10 && nodes.len() <= 10 && first.len() <= 1000);
+    let journal = journal_of(rt, alloc, sizes);
+    let mut reader = reader_in(rt, alloc, mode, header, nodes, &journal);
+    play(rt, alloc, &mut reader, first, &journal);
+    play(rt, alloc, &mut reader, lines, &journal);
+    assert!(rt; is_told(reader.domain(), told), "{header:?}");
     drop(reader);
     drop(journal);
 }
 
 #[test]
-fn lines_that_ask_for_events(rt: HostRuntime) {
-    ask_there(&rt, rt.alloc(), HEADER, BOTH, SIZES, EVENT_LINES);
-    ask_there(&rt, rt.alloc(), HEADER, BOTH, SIZES, FRAME_LINES);
-}
-
-#[test]
-fn line_of_no_character(rt: HostRuntime) {
-    let said = ask(&rt, rt.alloc(), Mode::Replay, HEADER, BOTH, SIZES, b"\xff");
-    assert!(rt; said == Script(2));
-}
-
-#[test]
-fn lines_of_a_station_that_roams(rt: HostRuntime) {
-    ask_there(&rt, rt.alloc(), FT_HEADER, BOTH, NO_FRAME, ROAM_LINES);
-}
-
-#[test]
-fn lines_in_a_round(rt: HostRuntime) {
-    ask_there(&rt, rt.alloc(), FT_HEADER, OPEN, SIZES, ROUND_LINES);
-}
-
-// Each of these lines says what stands beside it behind both nodes.
-fn play_behind_both(rt: &impl Abort, alloc: Global, rows: &[(&[u8], Says)], journal: &Journal) {
-    let mut reader = reader_behind(rt, alloc, HEADER, BOTH, journal);
-    play(rt, alloc, &mut reader, rows, journal);
-    drop(reader);
-}
-
-#[test]
-fn rounds_begin_and_end(rt: HostRuntime) {
-    let journal = Journal::new(rt.alloc());
-    play_behind_both(&rt, rt.alloc(), ROUNDS, &journal);
-    play_behind_both(&rt, rt.alloc(), EMPTY_ROUND, &journal);
-    drop(journal);
-}
-
-// The reader takes an event of a round that has so many.
-fn join(rt: &impl Abort, alloc: Global, reader: &mut ScriptReader, number: u16, journal: &Journal)
-    requires seen { HasSeen reader.old journal.now.entries }
-    requires few { reader.old.rounds < 2 ^ 62 }
-    ensures seen { HasSeen reader.new journal.now.entries }
-    ensures few { reader.new.rounds ≤ reader.old.rounds + 1 }
-{
-    assert!(rt;
-        tell(alloc, reader, b"rekey a1", journal) == Rekey(0),
-        "{number}"
+fn networks_that_scripts_tell(rt: HostRuntime) {
+    // no network before a header
+    play_both(
+        &rt,
+        rt.alloc(),
+        Mode::Replay,
+        NO_NODE,
+        NO_NODE,
+        NO_FRAME,
+        NO_LINE,
+        NO_LINE,
+        Some(NO_NETWORK),
+    );
+    // a refused line leaves the header as it was
+    play_both(
+        &rt,
+        rt.alloc(),
+        Mode::Replay,
+        NO_NODE,
+        NO_NODE,
+        NO_FRAME,
+        NO_LINE,
+        FALTERING,
+        Some(FALTERED),
+    );
+    // the mobility domain makes the header whole
+    play_both(
+        &rt,
+        rt.alloc(),
+        Mode::Replay,
+        NO_NODE,
+        NO_NODE,
+        NO_FRAME,
+        NO_LINE,
+        FT_FALTERING,
+        Some(FT_FALTERED),
+    );
+    // a script tells the network
+    play_both(
+        &rt,
+        rt.alloc(),
+        Mode::Replay,
+        HEADER,
+        BOTH,
+        NO_FRAME,
+        NO_LINE,
+        NO_LINE,
+        Some(WITH_NODES),
+    );
+    // a passphrase gives the key
+    play_both(
+        &rt,
+        rt.alloc(),
+        Mode::Replay,
+        PASSPHRASE_HEADER,
+        NO_NODE,
+        NO_FRAME,
+        NO_LINE,
+        NO_LINE,
+        Some(WHOLE),
+    );
+    // a passphrase gives the key of another network
+    play_both(
+        &rt,
+        rt.alloc(),
+        Mode::Replay,
+        LONG_PASSPHRASE_HEADER,
+        NO_NODE,
+        NO_FRAME,
+        NO_LINE,
+        NO_LINE,
+        Some(LONG_KEYED),
     );
 }
 
 #[test]
-fn no_more_than_256_events_in_a_round(rt: HostRuntime) {
-    let journal = Journal::new(rt.alloc());
-    let mut reader = reader_behind(&rt, rt.alloc(), HEADER, OPEN, &journal);
-    for number in 0..256u16 {
-        join(&rt, rt.alloc(), &mut reader, number, &journal);
-    }
-    play(&rt, rt.alloc(), &mut reader, FULL_ROUND, &journal);
-    drop(reader);
-    drop(journal);
+fn lines_one_after_the_other(rt: HostRuntime) {
+    // no more than sixteen access points
+    play_both(
+        &rt,
+        rt.alloc(),
+        Mode::Replay,
+        HEADER,
+        NO_NODE,
+        NO_FRAME,
+        APS,
+        MORE_APS,
+        None,
+    );
+    // no more than sixty-four stations
+    play_both(
+        &rt,
+        rt.alloc(),
+        Mode::Replay,
+        HEADER,
+        NO_NODE,
+        NO_FRAME,
+        STAS,
+        MORE_STAS,
+        None,
+    );
+    // no more than 256 events in a round
+    play_both(
+        &rt,
+        rt.alloc(),
+        Mode::Replay,
+        HEADER,
+        OPEN,
+        NO_FRAME,
+        REKEYS,
+        FULL_ROUND,
+        None,
+    );
+    // a line of no character
+    play_both(
+        &rt,
+        rt.alloc(),
+        Mode::Replay,
+        HEADER,
+        BOTH,
+        SIZES,
+        NO_LINE,
+        NO_CHARACTER,
+        None,
+    );
+    // rounds begin and end
+    play_both(
+        &rt,
+        rt.alloc(),
+        Mode::Replay,
+        HEADER,
+        BOTH,
+        NO_FRAME,
+        NO_LINE,
+        ROUNDS,
+        None,
+    );
+    // a round without events
+    play_both(
+        &rt,
+        rt.alloc(),
+        Mode::Replay,
+        HEADER,
+        BOTH,
+        NO_FRAME,
+        NO_LINE,
+        EMPTY_ROUND,
+        None,
+    );
+    // turns stand behind nodes
+    play_both(
+        &rt,
+        rt.alloc(),
+        Mode::Live,
+        HEADER,
+        ONE_AP,
+        NO_FRAME,
+        NO_LINE,
+        TURNS,
+        None,
+    );
 }
 
-fn what_the_end_says(answer: Result<(), LineFault>) -> Says {
-    match answer {
-        Ok(()) => Nothing,
-        Err(LineFault::Script(reason)) => Script(reason),
-        Err(LineFault::Limit(limit)) => Limit(limit),
-        Err(LineFault::NoMemory) => OutOfMemory,
-    }
+// Each of these lines says what stands beside it in a run of that kind behind both nodes.
+fn play_behind_both(
+    rt: &impl Abort,
+    alloc: Global,
+    mode: Mode,
+    rows: &[(&[u8], Says)],
+    journal: &Journal,
+) {
+    let mut reader = reader_in(rt, alloc, mode, HEADER, BOTH, journal);
+    play(rt, alloc, &mut reader, rows, journal);
+    drop(reader);
 }
 
 // What the end of a script says behind these lines.
@@ -553,8 +501,13 @@ fn end_behind(rt: &impl Abort, alloc: Global, header: &[&[u8]], nodes: &[&[u8]])
     requires { length header.now + length nodes.now < 2 ^ 32 }
 {
     let journal = Journal::new(alloc);
-    let reader = reader_behind(rt, alloc, header, nodes, &journal);
-    let says = what_the_end_says(reader.finish());
+    let reader = reader_in(rt, alloc, Mode::Replay, header, nodes, &journal);
+    let says = match reader.finish() {
+        Ok(()) => Nothing,
+        Err(LineFault::Script(reason)) => Script(reason),
+        Err(LineFault::Limit(limit)) => Limit(limit),
+        Err(LineFault::NoMemory) => OutOfMemory,
+    };
     drop(reader);
     drop(journal);
     says
@@ -601,19 +554,10 @@ fn long_line_says(
 
 #[test]
 fn long_frames_and_payloads(rt: HostRuntime) {
-    for (front, count, end, want) in LONG_LINES {
+    for (nodes, front, count, end, want) in LONG_LINES {
+        assert!(rt; nodes.len() <= 10);
         assert!(rt;
-            long_line_says(&rt, rt.alloc(), BOTH, front, *count, end, *want),
-            "{front:?}, {count}"
-        );
-    }
-}
-
-#[test]
-fn long_frames_and_payloads_in_a_round(rt: HostRuntime) {
-    for (front, count, end, want) in LONG_ROUND_LINES {
-        assert!(rt;
-            long_line_says(&rt, rt.alloc(), OPEN, front, *count, end, *want),
+            long_line_says(&rt, rt.alloc(), nodes, front, *count, end, *want),
             "{front:?}, {count}"
         );
     }
@@ -640,13 +584,7 @@ fn form_text(
 
 // The form of the line of each row is written so behind that many lines of the header and these
 // nodes.
-fn try_forms(
-    rt: &impl Abort,
-    alloc: Global,
-    mode: Mode,
-    header: &[&[u8]],
-    rows: &[(usize, &[&[u8]], &str, &str)],
-) {
+fn try_forms(rt: &impl Abort, alloc: Global, mode: Mode, header: &[&[u8]], rows: &[FormRow]) {
     for (count, nodes, line, text) in rows {
         assert!(rt; *count <= 6 && *count <= header.len() && nodes.len() <= 10);
         let front = &header[..*count];
@@ -661,34 +599,22 @@ fn try_forms(
 fn forms_of_lines(rt: HostRuntime) {
     try_forms(&rt, rt.alloc(), Mode::Replay, HEADER, HEADER_FORMS);
     try_forms(&rt, rt.alloc(), Mode::Replay, HEADER, EVENT_FORMS);
-}
-
-#[test]
-fn forms_of_lines_with_fast_transition(rt: HostRuntime) {
     try_forms(&rt, rt.alloc(), Mode::Replay, FT_HEADER, FT_FORMS);
+    try_forms(&rt, rt.alloc(), Mode::Live, HEADER, LIVE_FORMS);
 }
 
-fn has_octets(answer: &Result<Step, LineFault>, frame: &[u8]) -> bool {
-    match answer {
+// The line carries these octets.
+fn carries(rt: &impl Abort, alloc: Global, line: &[u8], frame: &[u8]) -> bool {
+    let journal = Journal::new(alloc);
+    let mut reader = reader_in(rt, alloc, Mode::Replay, HEADER, BOTH, &journal);
+    let answer = reader.line(alloc, line, &journal);
+    let is_right = match &answer {
         Ok(Step::Event(Event::Inject { octets, .. } | Event::Send { octets, .. })) => {
             octets.as_slice() == frame
         }
         _ => false,
-    }
-}
-
-// An answer with these octets, which is dropped.
-fn is_with(answer: Result<Step, LineFault>, octets: &[u8]) -> bool {
-    let is_right = has_octets(&answer, octets);
+    };
     drop(answer);
-    is_right
-}
-
-// The line carries these octets.
-fn carries(rt: &impl Abort, alloc: Global, line: &[u8], octets: &[u8]) -> bool {
-    let journal = Journal::new(alloc);
-    let mut reader = reader_behind(rt, alloc, HEADER, BOTH, &journal);
-    let is_right = is_with(reader.line(alloc, line, &journal), octets);
     drop(reader);
     drop(journal);
     is_right
@@ -696,17 +622,15 @@ fn carries(rt: &impl Abort, alloc: Global, line: &[u8], octets: &[u8]) -> bool {
 
 #[test]
 fn octets_are_as_they_stand(rt: HostRuntime) {
-    let octets = [0, 0xff, 0x5a];
-    assert!(rt;
-        carries(&rt, rt.alloc(), b"inject a1 00Ff5a", &octets)
-            && carries(&rt, rt.alloc(), b"send a1 all 5 00Ff5a", &octets)
-    );
+    for (line, octets) in CARRIED {
+        assert!(rt; carries(&rt, rt.alloc(), line, octets), "{line:?}");
+    }
 }
 
 // Each of the lines says what stands beside it, once a frame of that size was sent.
 fn grow(rt: &impl Abort, alloc: Global, rows: &[(usize, &[u8], Says)]) {
     let mut journal = Journal::new(alloc);
-    let mut reader = reader_behind(rt, alloc, HEADER, BOTH, &journal);
+    let mut reader = reader_in(rt, alloc, Mode::Replay, HEADER, BOTH, &journal);
     assert!(rt; rows.len() <= 100);
     for (size, line, want) in rows {
         send(rt, alloc, &mut journal, *size);
@@ -719,13 +643,10 @@ fn grow(rt: &impl Abort, alloc: Global, rows: &[(usize, &[u8], Says)]) {
     drop(journal);
 }
 
+// No frame is seen in the round in which it is sent.
 #[test]
 fn frames_are_seen_as_they_are_sent(rt: HostRuntime) {
     grow(&rt, rt.alloc(), GROWING);
-}
-
-#[test]
-fn no_frame_is_seen_in_the_round_in_which_it_is_sent(rt: HostRuntime) {
     grow(&rt, rt.alloc(), GROWING_IN_ROUND);
 }
 
@@ -739,7 +660,7 @@ fn long_journal(rt: &impl Abort, alloc: Global) -> Journal {
 
 // The last frame that has a number is there for a reader, which takes no event behind one more.
 fn play_across(rt: &impl Abort, alloc: Global, journal: &mut Journal) {
-    let mut reader = reader_behind(rt, alloc, HEADER, BOTH, journal);
+    let mut reader = reader_in(rt, alloc, Mode::Replay, HEADER, BOTH, journal);
     let last = tell(alloc, &mut reader, b"deliver 65535 to a1", journal);
     send_empty(rt, alloc, journal);
     play(rt, alloc, &mut reader, LATE_LINES, journal);
@@ -750,9 +671,9 @@ fn play_across(rt: &impl Abort, alloc: Global, journal: &mut Journal) {
 #[test]
 fn no_event_behind_more_frames_than_have_numbers(rt: HostRuntime) {
     let mut journal = long_journal(&rt, rt.alloc());
-    play_behind_both(&rt, rt.alloc(), LAST_ROUND, &journal);
-    play_live(&rt, rt.alloc(), BOTH, LAST_TURN, &journal);
+    play_behind_both(&rt, rt.alloc(), Mode::Replay, LAST_ROUND, &journal);
+    play_behind_both(&rt, rt.alloc(), Mode::Live, LAST_TURN, &journal);
     play_across(&rt, rt.alloc(), &mut journal);
-    play_live(&rt, rt.alloc(), BOTH, LATE_TURN, &journal);
+    play_behind_both(&rt, rt.alloc(), Mode::Live, LATE_TURN, &journal);
     drop(journal);
 }

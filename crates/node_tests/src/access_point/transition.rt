@@ -1,16 +1,25 @@
 //! Association with suite 4, and fast transitions of the first station to the second access point.
 
 use crate::acts::Expected::{
-    Absent, Closed, Derived, Drew, Finished, Found, Idle, Opened, Pairwise, Put, Revoked, Roamed,
-    Sent, SentMoving, SentSealed, Took, TookMoving, TookSealed,
+    Absent, Closed, Derived, Drew, Finished, Found, Idle, NoHolder, Opened, Pairwise, Put, Revoked,
+    Roamed, Sent, SentData, SentMoving, SentSealed, Took, TookMoving, TookSealed, Used,
 };
 use crate::acts::{Event, Step};
 use crate::air_frames::Keys;
-use crate::mobility_vectors::{M1, M2, M3, M4, NO_ROW, PTK, REQUEST, RESPONSE, TRANSITION_PTK};
-use crate::transition_parts::{ANONCE as ANONCE_OF_A2, FT_REQ, FT_RESP, RE_REQ, RE_RESP};
+use crate::mobility_vectors::{
+    M1, M2, M2_OF_ANOTHER_DOMAIN, M2_WITH_ANOTHER_FTE, M2_WITH_ANOTHER_NAME, M3, M4, NO_ROW,
+    PMK_R0_NAME, PTK, REQUEST, RESPONSE, TRANSITION_PTK,
+};
+use crate::protected_frames::ALL_OF_A2;
+use crate::transition_frames::{
+    ANONCE as ANONCE_OF_A2, FT_REQ, FT_REQ_NO_R0KH_ID, FT_REQ_OTHER_AKM, FT_REQ_OTHER_DOMAIN,
+    FT_REQ_OTHER_NAME, FT_REQ_OTHER_R0KH_ID, FT_RESP, FT_RESP_28, FT_RESP_43, FT_RESP_54,
+    FT_RESP_55, RE_REQ, RE_RESP,
+};
 use crate::vectors::{A1_ADDRESS, A2_ADDRESS, ANONCE, NEXT_SNONCE, S1, S1_ADDRESS, SNONCE};
+use domain_base::Peer;
 use eapol_key::Message;
-use run_journal::{Drawn, Kind, Outcome, Part, Reason, Why};
+use run_journal::{Drawn, KeyDataFault, Kind, Outcome, Part, Reason, Why};
 
 // The key of the association.
 const KEYS: Keys = Keys {
@@ -76,6 +85,31 @@ const UNKNOWN: Step = Step {
 /// The first access point: an association.
 pub const ASSOCIATED: &[Step] = &[ASSOCIATION, SECOND_MESSAGE, LAST_MESSAGE];
 
+/// The same, with messages 2 that are refused for their key data.
+pub const FAULTY: &[Step] = &[
+    ASSOCIATION,
+    Step {
+        shows: "another PMKR1Name under a right MIC",
+        event: Event::Take(M2_WITH_ANOTHER_NAME),
+        outcome: Outcome::Refused(Reason::KeyData(KeyDataFault::Rsne)),
+        acts: &[TookSealed(S1, Kind::Key(Message::M2), &KEYS)],
+    },
+    Step {
+        shows: "another mobility domain",
+        event: Event::Take(M2_OF_ANOTHER_DOMAIN),
+        outcome: Outcome::Refused(Reason::KeyData(KeyDataFault::Mde)),
+        acts: &[TookSealed(S1, Kind::Key(Message::M2), &KEYS)],
+    },
+    Step {
+        shows: "another FTE",
+        event: Event::Take(M2_WITH_ANOTHER_FTE),
+        outcome: Outcome::Refused(Reason::KeyData(KeyDataFault::Fte)),
+        acts: &[TookSealed(S1, Kind::Key(Message::M2), &KEYS)],
+    },
+    SECOND_MESSAGE,
+    LAST_MESSAGE,
+];
+
 /// And its row is revoked.
 pub const REVOKED: &[Step] = &[
     ASSOCIATION,
@@ -129,7 +163,13 @@ pub const TAKEN: &[Step] = &[
         ],
     },
     Step {
-        shows: "the reassociation request again is answered, and installs nothing",
+        shows: "a payload to all",
+        event: Event::SendAll(None, b"moved"),
+        outcome: Outcome::Done,
+        acts: &[Used(Peer::All, &ALL_OF_A2), SentData(Peer::All, &ALL_OF_A2)],
+    },
+    Step {
+        shows: "the reassociation request again is answered as before, and installs nothing",
         event: Event::Take(RE_REQ),
         outcome: Outcome::Answered,
         acts: &[
@@ -154,7 +194,7 @@ pub const ABSENT: &[Step] = &[
         outcome: Outcome::Refused(Reason::Name),
         acts: &[
             Took(Some(S1), Kind::FtReq),
-            Absent,
+            Absent(PMK_R0_NAME),
             Sent(S1, Kind::FtResp, NO_ROW),
         ],
     },
@@ -168,6 +208,65 @@ pub const SPENT: &[Step] = &[
         event: Event::Take(FT_REQ),
         outcome: Outcome::Refused(Reason::Spent),
         acts: &[Took(Some(S1), Kind::FtReq), Found],
+    },
+    UNKNOWN,
+];
+
+// The name of the request with another one.
+const OTHER_NAME: [u8; 16] = *b"\x7f\x45\xb7\x54\xc0\x98\x12\x2c\x02\xd3\xa8\xfa\xe5\xff\x53\xcc";
+
+/// The second access point: requests that are refused, each answered with its status alone.
+pub const REFUSED: &[Step] = &[
+    Step {
+        shows: "another AKM",
+        event: Event::Take(FT_REQ_OTHER_AKM),
+        outcome: Outcome::Refused(Reason::Status(43)),
+        acts: &[
+            Took(Some(S1), Kind::FtReq),
+            Sent(S1, Kind::FtResp, FT_RESP_43),
+        ],
+    },
+    UNKNOWN,
+    Step {
+        shows: "another PMKR0Name",
+        event: Event::Take(FT_REQ_OTHER_NAME),
+        outcome: Outcome::Refused(Reason::Name),
+        acts: &[
+            Took(Some(S1), Kind::FtReq),
+            Absent(OTHER_NAME),
+            Sent(S1, Kind::FtResp, NO_ROW),
+        ],
+    },
+    UNKNOWN,
+    Step {
+        shows: "another mobility domain",
+        event: Event::Take(FT_REQ_OTHER_DOMAIN),
+        outcome: Outcome::Refused(Reason::Status(54)),
+        acts: &[
+            Took(Some(S1), Kind::FtReq),
+            Sent(S1, Kind::FtResp, FT_RESP_54),
+        ],
+    },
+    UNKNOWN,
+    Step {
+        shows: "no R0KH-ID",
+        event: Event::Take(FT_REQ_NO_R0KH_ID),
+        outcome: Outcome::Refused(Reason::Status(55)),
+        acts: &[
+            Took(Some(S1), Kind::FtReq),
+            Sent(S1, Kind::FtResp, FT_RESP_55),
+        ],
+    },
+    UNKNOWN,
+    Step {
+        shows: "an R0KH-ID of no access point",
+        event: Event::Take(FT_REQ_OTHER_R0KH_ID),
+        outcome: Outcome::Refused(Reason::NoHolder),
+        acts: &[
+            Took(Some(S1), Kind::FtReq),
+            NoHolder(b"r0kh-9"),
+            Sent(S1, Kind::FtResp, FT_RESP_28),
+        ],
     },
     UNKNOWN,
 ];

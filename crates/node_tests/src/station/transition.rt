@@ -1,24 +1,25 @@
 //! Fast transitions of a station from the first access point to the second.
 
 use crate::acts::Expected::{
-    Closed, Derived, Drew, Finished, Group, GroupOfA2, Idle, Opened, Pairwise, Resumed, Roamed,
-    Sent, SentMoving, SentSealed, Took, TookMoving, TookSealed,
+    Closed, Derived, Drew, Finished, Group, GroupOfA2, HandedUp, Idle, Opened, Pairwise, Resumed,
+    Roamed, Sent, SentMoving, SentSealed, Took, TookData, TookMoving, TookSealed,
 };
 use crate::acts::{Event, Step};
 use crate::air_frames::Keys;
 use crate::mobility_vectors::{
-    GTK_OF_A2, LAST_M2, LAST_M3, LAST_M4, LAST_PTK, M1, M2, M3, M4, PTK, REQUEST, RESPONSE,
-    RETURN_FT_REQ, RETURN_FT_RESP, RETURN_PTK, RETURN_RE_REQ, RETURN_RE_RESP, RETURN_SNONCE,
-    TRANSITION_PTK,
+    GTK_OF_A2, LAST_M2, LAST_M3, LAST_M4, LAST_PTK, M1, M2, M3, M3_WITH_ANOTHER_FTE,
+    M3_WITHOUT_GTK, M3_WITHOUT_MDE, M3_WITHOUT_THE_NAME, M4, PTK, REQUEST, RESPONSE, RETURN_FT_REQ,
+    RETURN_FT_RESP, RETURN_PTK, RETURN_RE_REQ, RETURN_RE_RESP, RETURN_SNONCE, TRANSITION_PTK,
 };
-use crate::transition_parts::{ANONCE as ANONCE_OF_A2, FT_REQ, FT_RESP, RE_REQ, RE_RESP};
+use crate::protected_frames::ALL_OF_A2;
+use crate::transition_frames::{ANONCE as ANONCE_OF_A2, FT_REQ, FT_RESP, RE_REQ, RE_RESP};
 use crate::vectors::{
     A1, A1_ADDRESS, A2, A2_ADDRESS, ANONCE, GTK, LAST_SNONCE, NEXT_ANONCE, NEXT_SNONCE, S1_ADDRESS,
     SNONCE,
 };
 use domain_base::Peer;
 use eapol_key::Message;
-use run_journal::{Drawn, Kind, Outcome, Part, Reason, Why};
+use run_journal::{Drawn, KeyDataFault, Kind, Outcome, Part, Reason, Why};
 
 // The key of the association.
 const KEYS: Keys = Keys {
@@ -90,6 +91,30 @@ pub const ROAMING: &[Step] = &[
             Derived(A1, &KEYS),
             SentSealed(A1, Kind::Key(Message::M2), M2, &KEYS),
         ],
+    },
+    Step {
+        shows: "M3 without the PMKR1Name, under a right MIC",
+        event: Event::Take(M3_WITHOUT_THE_NAME),
+        outcome: Outcome::Refused(Reason::KeyData(KeyDataFault::Rsne)),
+        acts: &[TookSealed(A1, Kind::Key(Message::M3), &KEYS)],
+    },
+    Step {
+        shows: "without an MDE",
+        event: Event::Take(M3_WITHOUT_MDE),
+        outcome: Outcome::Refused(Reason::KeyData(KeyDataFault::Mde)),
+        acts: &[TookSealed(A1, Kind::Key(Message::M3), &KEYS)],
+    },
+    Step {
+        shows: "with another FTE",
+        event: Event::Take(M3_WITH_ANOTHER_FTE),
+        outcome: Outcome::Refused(Reason::KeyData(KeyDataFault::Fte)),
+        acts: &[TookSealed(A1, Kind::Key(Message::M3), &KEYS)],
+    },
+    Step {
+        shows: "without a group key",
+        event: Event::Take(M3_WITHOUT_GTK),
+        outcome: Outcome::Refused(Reason::KeyData(KeyDataFault::Gtk)),
+        acts: &[TookSealed(A1, Kind::Key(Message::M3), &KEYS)],
     },
     Step {
         shows: "M3",
@@ -170,6 +195,12 @@ pub const ROAMING: &[Step] = &[
         event: Event::Take(RE_RESP),
         outcome: Outcome::Refused(Reason::Unawaited),
         acts: &[Took(Some(A2), Kind::ReResp)],
+    },
+    Step {
+        shows: "a payload to all of the second access point, with the first number",
+        event: Event::TakeData(&ALL_OF_A2),
+        outcome: Outcome::Accepted,
+        acts: &[TookData(A2, &ALL_OF_A2), HandedUp(A2, &ALL_OF_A2)],
     },
     Step {
         shows: "no fast transition to where it is",

@@ -4,11 +4,12 @@ ghost use Rattle.std.specs.Prelude.{◌≡◌, ◌+◌, ◌<◌, ◌^◌, length
 ghost use Rattle.frame_script.specs.Headers.{HasSeen};
 ghost use Rattle.frame_script.specs.declared.reader.Mode.TheVariants as modes;
 
-use super::live_rows::{BEHIND_DRAW, BY_KIND, LIVE_FORMS, TURNS};
-use super::rows::{HEADER, NO_NODE, ONE_AP, SEED, SIZES, Says};
-use super::{ask_each, play, reader_in, try_forms};
+use super::live_rows::{BEHIND_DRAW, BY_KIND};
+use super::plays::WHOLE;
+use super::rows::{HEADER, NO_NODE, SEED, SIZES};
+use super::{ask_each, is_told, play, reader_in};
 use frame_script::{Mode, ScriptReader, Step};
-use run_journal::{Domain, Journal};
+use run_journal::Journal;
 use std::alloc::Global;
 use std::process::Abort;
 
@@ -40,28 +41,6 @@ fn lines_by_the_kind_of_run(rt: HostRuntime) {
     }
 }
 
-// Each of these lines says what stands beside it behind these nodes in a live run.
-pub(super) fn play_live(
-    rt: &impl Abort,
-    alloc: Global,
-    nodes: &[&[u8]],
-    rows: &[(&[u8], Says)],
-    journal: &Journal,
-)
-    requires { length nodes.now < 2 ^ 16 }
-{
-    let mut reader = reader_in(rt, alloc, Mode::Live, HEADER, nodes, journal);
-    play(rt, alloc, &mut reader, rows, journal);
-    drop(reader);
-}
-
-#[test]
-fn turns_stand_behind_nodes(rt: HostRuntime) {
-    let journal = Journal::new(rt.alloc());
-    play_live(&rt, rt.alloc(), ONE_AP, TURNS, &journal);
-    drop(journal);
-}
-
 // The reader takes the draw of the seed, and is told of it.
 #[tactic(auto, using(frame_script::proofs::Feeding::feeding))]
 fn draw(rt: &impl Abort, alloc: Global, reader: &mut ScriptReader, journal: &Journal)
@@ -81,25 +60,13 @@ fn draw(rt: &impl Abort, alloc: Global, reader: &mut ScriptReader, journal: &Jou
     assert!(rt; is_drawn);
 }
 
-fn has_the_seed(network: Option<&Domain>) -> bool {
-    match network {
-        Some(network) => network.seed == SEED,
-        None => false,
-    }
-}
-
 #[test]
 fn the_seed_that_is_drawn_is_that_of_the_network(rt: HostRuntime) {
     let journal = Journal::new(rt.alloc());
     let mut reader = reader_in(&rt, rt.alloc(), Mode::Live, &HEADER[..1], NO_NODE, &journal);
     draw(&rt, rt.alloc(), &mut reader, &journal);
     play(&rt, rt.alloc(), &mut reader, BEHIND_DRAW, &journal);
-    assert!(rt; has_the_seed(reader.domain()));
+    assert!(rt; is_told(reader.domain(), Some(WHOLE)));
     drop(reader);
     drop(journal);
-}
-
-#[test]
-fn forms_of_lines_of_a_live_run(rt: HostRuntime) {
-    try_forms(&rt, rt.alloc(), Mode::Live, HEADER, LIVE_FORMS);
 }

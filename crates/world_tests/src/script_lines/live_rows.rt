@@ -2,7 +2,7 @@
 
 use super::rows::Says::{self, *};
 use super::rows::{
-    A1, ADDRESS, BOTH, NO_NODE, ONE_AP, ONE_ROUND, ONE_STA, OPEN, PSK_LINE, S1, SEED_LINE,
+    A1, ADDRESS, BOTH, FormRow, NO_NODE, ONE_AP, ONE_ROUND, ONE_STA, OPEN, PSK_LINE, S1, SEED_LINE,
 };
 use domain_base::Peer;
 
@@ -235,7 +235,7 @@ pub(super) const LATE_TURN: &[(&[u8], Says)] = &[
 
 // Behind that many lines of `HEADER` and these lines the form of a line of a live run is written
 // so.
-pub(super) const LIVE_FORMS: &[(usize, &[&[u8]], &str, &str)] = &[
+pub(super) const LIVE_FORMS: &[FormRow] = &[
     (0, NO_NODE, "turn", "domain 1"),
     (1, NO_NODE, "seed draw x", "seed <64 digits or draw>"),
     (2, NO_NODE, "turn", "ssid <1 to 32 octets>"),

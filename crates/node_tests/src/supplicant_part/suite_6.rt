@@ -1,0 +1,401 @@
+//! What a supplicant makes of frames with suite 6.
+
+use super::{Session, Start, Step, UNAWAITED};
+use crate::frames::{NOTHING, Sends, Told};
+use crate::vectors::{
+    ANONCE, GTK, NEXT_ANONCE, NEXT_GTK, NEXT_SNONCE, SHA256_CROSSED_KCK, SHA256_CROSSED_PTK,
+    SHA256_KCK, SHA256_NEXT_KCK, SHA256_NEXT_PTK, SHA256_PTK, SNONCE,
+};
+use crate::{air_frames, group_frames, part_frames};
+use eapol_key::Message;
+use run_journal::{GtkNews, KeyDataFault, Keyed, Outcome, Reason};
+
+// The keys of the first nonces of both; of the next ANonce and the first SNonce; and of the next
+// nonces of both.
+const FIRST: Keyed = Keyed {
+    ptk: SHA256_PTK,
+    anonce: ANONCE,
+    snonce: SNONCE,
+};
+
+const CROSSED: Keyed = Keyed {
+    ptk: SHA256_CROSSED_PTK,
+    anonce: NEXT_ANONCE,
+    snonce: SNONCE,
+};
+
+const NEXT: Keyed = Keyed {
+    ptk: SHA256_NEXT_PTK,
+    anonce: NEXT_ANONCE,
+    snonce: NEXT_SNONCE,
+};
+
+// The MIC verified under the first key.
+const VERIFIED: Told = Told {
+    verified: Some(SHA256_KCK),
+    derived: None,
+    installed: None,
+    gtk: None,
+    sends: Sends::Nothing,
+};
+
+// A key was derived, and M2 answers.
+const DERIVED: Told = Told {
+    verified: None,
+    derived: Some(FIRST),
+    installed: None,
+    gtk: None,
+    sends: Sends::Frame(Message::M2, Some(SHA256_KCK), air_frames::M2_1_OF_SUITE_6),
+};
+
+const FORGED: Told = Told {
+    verified: None,
+    derived: Some(CROSSED),
+    installed: None,
+    gtk: None,
+    sends: Sends::Frame(
+        Message::M2,
+        Some(SHA256_CROSSED_KCK),
+        part_frames::SHA256_CROSSED_M2_2,
+    ),
+};
+
+const NEXT_DERIVED: Told = Told {
+    verified: None,
+    derived: Some(NEXT),
+    installed: None,
+    gtk: None,
+    sends: Sends::Frame(
+        Message::M2,
+        Some(SHA256_NEXT_KCK),
+        part_frames::SHA256_NEXT_M2_1,
+    ),
+};
+
+// A key was installed, and M4 answers.
+const INSTALLED: Told = Told {
+    verified: Some(SHA256_KCK),
+    derived: None,
+    installed: Some(FIRST),
+    gtk: Some(GtkNews {
+        resumed: false,
+        id: 1,
+        key: GTK,
+    }),
+    sends: Sends::Frame(Message::M4, Some(SHA256_KCK), air_frames::M4_2_OF_SUITE_6),
+};
+
+const NEXT_INSTALLED: Told = Told {
+    verified: Some(SHA256_NEXT_KCK),
+    derived: None,
+    installed: Some(NEXT),
+    gtk: Some(GtkNews {
+        resumed: true,
+        id: 1,
+        key: GTK,
+    }),
+    sends: Sends::Frame(
+        Message::M4,
+        Some(SHA256_NEXT_KCK),
+        part_frames::SHA256_NEXT_M4_2,
+    ),
+};
+
+// M4 answers, and nothing is installed.
+const AGAIN: Told = Told {
+    verified: Some(SHA256_KCK),
+    derived: None,
+    installed: None,
+    gtk: None,
+    sends: Sends::Frame(Message::M4, Some(SHA256_KCK), part_frames::SHA256_M4_3),
+};
+
+// A group key was installed or resumed, and G2 answers.
+const RENEWED: Told = Told {
+    verified: Some(SHA256_KCK),
+    derived: None,
+    installed: None,
+    gtk: Some(GtkNews {
+        resumed: false,
+        id: 2,
+        key: NEXT_GTK,
+    }),
+    sends: Sends::Frame(Message::G2, Some(SHA256_KCK), part_frames::SHA256_G2_3),
+};
+
+const RESUMED: Told = Told {
+    verified: Some(SHA256_KCK),
+    derived: None,
+    installed: None,
+    gtk: Some(GtkNews {
+        resumed: true,
+        id: 1,
+        key: GTK,
+    }),
+    sends: Sends::Frame(Message::G2, Some(SHA256_KCK), part_frames::SHA256_G2_4),
+};
+
+// A forged M1 and the right one, M3 refused for each reason, and then accepted under the key of the last
+// M1, and M3 once more.
+const FIRST_SESSION: &[Step] = &[
+    Step {
+        shows: "M3 before M1",
+        came: air_frames::M3_2_OF_SUITE_6,
+        outcome: UNAWAITED,
+        told: NOTHING,
+    },
+    Step {
+        shows: "M2 in an attempt",
+        came: air_frames::M2_1_OF_SUITE_6,
+        outcome: UNAWAITED,
+        told: NOTHING,
+    },
+    Step {
+        shows: "M4 in an attempt",
+        came: air_frames::M4_2_OF_SUITE_6,
+        outcome: UNAWAITED,
+        told: NOTHING,
+    },
+    Step {
+        shows: "a forged M1",
+        came: part_frames::SHA256_FORGED_M1_2,
+        outcome: Outcome::Accepted,
+        told: FORGED,
+    },
+    Step {
+        shows: "the right M1",
+        came: air_frames::M1_1_OF_SUITE_6,
+        outcome: Outcome::Accepted,
+        told: DERIVED,
+    },
+    Step {
+        shows: "M3 with another ANonce",
+        came: part_frames::SHA256_M3_2_WITH_NEXT_ANONCE,
+        outcome: Outcome::Refused(Reason::Nonce),
+        told: NOTHING,
+    },
+    Step {
+        shows: "M3 with a wrong MIC",
+        came: part_frames::SHA256_M3_2_WITH_WRONG_MIC,
+        outcome: Outcome::Refused(Reason::Mic),
+        told: NOTHING,
+    },
+    Step {
+        shows: "M3 with key data that is no wrap",
+        came: part_frames::SHA256_M3_2_NOT_WRAPPED,
+        outcome: Outcome::Refused(Reason::Wrap),
+        told: VERIFIED,
+    },
+    Step {
+        shows: "M3 without a group key",
+        came: part_frames::SHA256_M3_2_WITHOUT_GTK,
+        outcome: Outcome::Refused(Reason::KeyData(KeyDataFault::Gtk)),
+        told: VERIFIED,
+    },
+    Step {
+        shows: "M3",
+        came: air_frames::M3_2_OF_SUITE_6,
+        outcome: Outcome::Accepted,
+        told: INSTALLED,
+    },
+    Step {
+        shows: "M3 with the same counter",
+        came: air_frames::M3_2_OF_SUITE_6,
+        outcome: Outcome::Refused(Reason::Counter(2)),
+        told: NOTHING,
+    },
+    Step {
+        shows: "M3 with an old counter",
+        came: part_frames::SHA256_M3_1,
+        outcome: Outcome::Refused(Reason::Counter(2)),
+        told: NOTHING,
+    },
+    Step {
+        shows: "M3 in the session with key data that is no wrap",
+        came: part_frames::SHA256_M3_3_NOT_WRAPPED,
+        outcome: Outcome::Refused(Reason::Wrap),
+        told: VERIFIED,
+    },
+    Step {
+        shows: "M3 again",
+        came: part_frames::SHA256_M3_3,
+        outcome: Outcome::Answered,
+        told: AGAIN,
+    },
+    Step {
+        shows: "M3 again with the same counter",
+        came: part_frames::SHA256_M3_3,
+        outcome: Outcome::Refused(Reason::Counter(3)),
+        told: NOTHING,
+    },
+    Step {
+        shows: "M1 in a session",
+        came: part_frames::SHA256_M1_4,
+        outcome: UNAWAITED,
+        told: NOTHING,
+    },
+    Step {
+        shows: "M2 in a session",
+        came: air_frames::M2_1_OF_SUITE_6,
+        outcome: UNAWAITED,
+        told: NOTHING,
+    },
+    Step {
+        shows: "M4 in a session",
+        came: air_frames::M4_2_OF_SUITE_6,
+        outcome: UNAWAITED,
+        told: NOTHING,
+    },
+];
+
+// Behind the end of the session.
+const RETIRED: &[Step] = &[
+    Step {
+        shows: "M1 when retired",
+        came: part_frames::SHA256_M1_4,
+        outcome: UNAWAITED,
+        told: NOTHING,
+    },
+    Step {
+        shows: "M2 when retired",
+        came: air_frames::M2_1_OF_SUITE_6,
+        outcome: UNAWAITED,
+        told: NOTHING,
+    },
+    Step {
+        shows: "M3 when retired",
+        came: part_frames::SHA256_M3_3,
+        outcome: UNAWAITED,
+        told: NOTHING,
+    },
+    Step {
+        shows: "M4 when retired",
+        came: air_frames::M4_2_OF_SUITE_6,
+        outcome: UNAWAITED,
+        told: NOTHING,
+    },
+];
+
+// The next attempt, whose M3 brings the same group key under another key id.
+const NEXT_ATTEMPT: &[Step] = &[
+    Step {
+        shows: "the next M1",
+        came: part_frames::SHA256_NEXT_M1_1,
+        outcome: Outcome::Accepted,
+        told: NEXT_DERIVED,
+    },
+    Step {
+        shows: "the next M3",
+        came: part_frames::SHA256_NEXT_M3_2,
+        outcome: Outcome::Accepted,
+        told: NEXT_INSTALLED,
+    },
+];
+
+/// A whole handshake, the end of its session, and another.
+pub const HANDSHAKES: &[Session] = &[
+    Session {
+        start: Start::Connect(&SNONCE),
+        steps: FIRST_SESSION,
+        retired: RETIRED,
+        kept: &[(GTK, 1)],
+    },
+    Session {
+        start: Start::Connect(&NEXT_SNONCE),
+        steps: NEXT_ATTEMPT,
+        retired: &[],
+        kept: &[(GTK, 1)],
+    },
+];
+
+// G1 is not awaited before M3, and each G1 moves the counter on, for M3 as well.
+const RENEWALS_STEPS: &[Step] = &[
+    Step {
+        shows: "G1 before M1",
+        came: part_frames::SHA256_G1_3,
+        outcome: UNAWAITED,
+        told: NOTHING,
+    },
+    Step {
+        shows: "M1",
+        came: air_frames::M1_1_OF_SUITE_6,
+        outcome: Outcome::Accepted,
+        told: DERIVED,
+    },
+    Step {
+        shows: "G1 before M3",
+        came: part_frames::SHA256_G1_3,
+        outcome: UNAWAITED,
+        told: NOTHING,
+    },
+    Step {
+        shows: "M3",
+        came: air_frames::M3_2_OF_SUITE_6,
+        outcome: Outcome::Accepted,
+        told: INSTALLED,
+    },
+    Step {
+        shows: "G1 with the counter of M3",
+        came: part_frames::SHA256_G1_2,
+        outcome: Outcome::Refused(Reason::Counter(2)),
+        told: NOTHING,
+    },
+    Step {
+        shows: "G1 with a wrong MIC",
+        came: part_frames::SHA256_G1_4_WITH_WRONG_MIC,
+        outcome: Outcome::Refused(Reason::Mic),
+        told: NOTHING,
+    },
+    Step {
+        shows: "G1",
+        came: part_frames::SHA256_G1_3,
+        outcome: Outcome::Accepted,
+        told: RENEWED,
+    },
+    Step {
+        shows: "G1 with the same counter",
+        came: part_frames::SHA256_G1_3,
+        outcome: Outcome::Refused(Reason::Counter(3)),
+        told: NOTHING,
+    },
+    Step {
+        shows: "M3 with the counter of G1",
+        came: part_frames::SHA256_M3_3,
+        outcome: Outcome::Refused(Reason::Counter(3)),
+        told: NOTHING,
+    },
+    Step {
+        shows: "G1 with a group key that is kept",
+        came: part_frames::SHA256_LATER_G1_4,
+        outcome: Outcome::Accepted,
+        told: RESUMED,
+    },
+    Step {
+        shows: "G1 with an old counter",
+        came: part_frames::SHA256_G1_3,
+        outcome: Outcome::Refused(Reason::Counter(4)),
+        told: NOTHING,
+    },
+    Step {
+        shows: "M1 behind G1",
+        came: air_frames::M1_1_OF_SUITE_6,
+        outcome: UNAWAITED,
+        told: NOTHING,
+    },
+];
+
+// G1 behind the end of the session.
+const GROUP_RETIRED: &[Step] = &[Step {
+    shows: "G1 when retired",
+    came: part_frames::SHA256_LATER_G1_4,
+    outcome: UNAWAITED,
+    told: NOTHING,
+}];
+
+/// New group keys in a session.
+pub const RENEWALS: &[Session] = &[Session {
+    start: Start::Connect(&SNONCE),
+    steps: RENEWALS_STEPS,
+    retired: GROUP_RETIRED,
+    kept: &[(GTK, 1), (NEXT_GTK, 2)],
+}];
