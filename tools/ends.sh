@@ -1,6 +1,7 @@
 #!/usr/bin/env bash
 # How the program ends between its real streams: the number that it exits with, the whole of what it writes to standard output, and
-# the line on standard error. It prints the cases that are wrong and a last line with counts; its status is 0 where none is wrong.
+# the line on standard error; at each limit of a script, too, and one past it. It prints the cases that are wrong and a last line with
+# counts; its status is 0 where none is wrong.
 # It runs the program that `rt ci` or `rt run` proved and built (or the one named by KEHTROP, as an unproved build), and does nothing
 # where there is none. Run it from anywhere in the repository.
 set -eu
@@ -130,25 +131,118 @@ refuses 8 "sta 0200000000cc" "no such word here; the form is $events" "$work/beg
 ends 2 "line 10: the script ends in a round; the form is end" "$work/started" "$work/script" replay
 (head -n 7 "$work/header"; echo round; echo "leave s1") > "$work/script"
 ends 2 "line 9: no such word here; the form is $within" "$work/started" "$work/script" replay
-(head -n 7 "$work/header"; echo round; printf 'rekey a1\n%.0s' {1..257}) > "$work/script"
-ends 8 "more than 256 events in a round" "$work/started" "$work/script" replay
 
 # A folder can be opened as standard input, and not read.
 ends 3 "the script could not be read" $none / replay
 
-(head -n 7 "$work/header"; printf '#%8192s\n' "") > "$work/long"
-ends 8 "a line of more than 8192 octets" "$work/started" "$work/long" replay
-(head -n 7 "$work/header"; printf 'inject a1 %04802d\n' 0) > "$work/long"
-ends 8 "an injected frame of more than 2400 octets" "$work/started" "$work/long" replay
-(head -n 7 "$work/header"; printf 'send a1 all - %04610d\n' 0) > "$work/long"
-ends 8 "a payload of more than 2304 octets" "$work/started" "$work/long" replay
-(head -n 5 "$work/header"; printf 'ap 0200000001%02x %d\n' $(for n in {1..17}; do echo $n $n; done)) > "$work/many"
-printf 'install a%d all gtk 1\n' {1..16} > "$work/sixteen"
-ends 8 "more than 16 access points" "$work/sixteen" "$work/many" replay
-(head -n 6 "$work/header"; printf 'sta 0200000002%02x\n' {1..65}) > "$work/many"
-ends 8 "more than 64 stations" "$work/started" "$work/many" replay
-(echo domain 1; printf '#\n%.0s' {1..65536}) > "$work/many"
-ends 8 "more than 65536 lines" $none "$work/many" replay
+# At each limit, and one past it. A text that stands so many times; what is wanted is told as to `ends`.
+times() { # NUMBER TEXT
+    # shellcheck disable=SC2046,SC2059
+    if [ "$1" -gt 0 ]; then printf "$2%.0s" $(seq "$1"); fi
+}
+summary() { # FRAMES ACCEPTED REFUSED INSTALLED RESUMED USED HANDED-UP
+    echo "end frames $1 accepted $2 answered 0 refused $3 ignored 0"
+    echo "keys installed $4 resumed $5 used $6 handed-up $7"
+    echo "premises fresh yes no-collision yes unforged yes"
+}
+
+# A round of so many events, and what stands behind them.
+round_of() { # NUMBER SAYS WRITES EVENTS BEHIND
+    (head -n 7 "$work/header"; echo round; times "$4" 'inject a1 00\n'; printf '%b' "$5") > "$work/script"
+    ends "$1" "$2" "$3" "$work/script" replay
+}
+(cat "$work/started"; times 256 'took a1 unread refused malformed 1 1 1\n'; summary 0 0 256 1 0 0 0) > "$work/round"
+round_of 0 "" "$work/round" 256 'end\n'
+round_of 2 "line 265: the script ends in a round; the form is end" "$work/started" 256 ''
+round_of 2 "line 265: no such word here; the form is $within" "$work/started" 256 'frob\n'
+round_of 8 "more than 256 events in a round" "$work/started" 257 'end\n'
+round_of 8 "more than 256 events in a round" "$work/started" 257 ''
+
+# So many lines, the first `domain 1` and the others comments, a comment of so many octets, and what stands behind it.
+commented() { # NUMBER SAYS LINES OCTETS BEHIND
+    local writes=$none
+    if [ "$1" = 0 ]; then writes=$work/nothing; fi
+    (echo "domain 1"; times $(($3 - 1)) '#\n'; times "$4" '#'; printf '%b' "$5") > "$work/script"
+    ends "$1" "$2" "$writes" "$work/script" replay
+}
+long="a line of more than 8192 octets"
+many="more than 65536 lines"
+no_word="no such word here; the form is seed <64 digits>"
+commented 0 "" 1 8192 ''
+commented 0 "" 1 8192 '\n'
+commented 0 "" 1 8191 '\r\n'
+commented 0 "" 1 8191 '\r'
+commented 8 "$long" 1 8193 ''
+commented 8 "$long" 1 8193 '\n'
+commented 8 "$long" 1 8192 '\r\n'
+commented 8 "$long" 1 8193 '\nfrob\n'
+commented 2 "line 3: $no_word" 1 8192 '\nfrob\n'
+commented 0 "" 65536 0 ''
+commented 8 "$many" 65536 1 ''
+commented 8 "$many" 65536 0 'frob\n'
+commented 8 "$many" 65537 0 ''
+commented 2 "line 65536: $no_word" 65535 0 'frob'
+commented 8 "$long" 65536 8193 ''
+
+# The front of a line, so many digits, and no line feed.
+digits() { # NUMBER SAYS WRITES FRONT DIGITS
+    (head -n 7 "$work/header"; printf '%s' "$4"; times "$5" 0) > "$work/script"
+    ends "$1" "$2" "$3" "$work/script" replay
+}
+(cat "$work/started"; echo "took a1 assoc-req refused not-for-me"; summary 0 0 1 1 0 0 0) > "$work/zeros"
+(cat "$work/started"; echo "used a1 all 1 1"; echo "sent 1 a1 all data 2344"; summary 1 0 0 1 0 1 0) > "$work/to_all"
+digits 0 "" "$work/zeros" "inject a1 " 4800
+digits 2 "line 8: wrong arguments; the form is inject <node> <digits>" "$work/started" "inject a1 " 4801
+digits 8 "an injected frame of more than 2400 octets" "$work/started" "inject a1 " 4802
+digits 0 "" "$work/to_all" "send a1 all - " 4608
+digits 2 "line 8: wrong arguments; the form is $send" "$work/started" "send a1 all - " 4609
+digits 8 "a payload of more than 2304 octets" "$work/started" "send a1 all - " 4610
+
+# So many access points and stations, of which so many access points start.
+nodes() { # APS STAS
+    # shellcheck disable=SC2046
+    printf 'ap 0200000001%02x r0kh-%d\n' $(for n in $(seq 0 $(($1 - 1))); do echo "$n $n"; done)
+    # shellcheck disable=SC2046
+    if [ "$2" -gt 0 ]; then printf 'sta 0200000002%02x\n' $(seq 0 $(($2 - 1))); fi
+}
+starts() { # APS
+    # shellcheck disable=SC2046
+    printf 'install a%d all gtk 1\n' $(seq "$1")
+}
+network() { # NUMBER SAYS WRITES APS STAS
+    (head -n 5 "$work/header"; nodes "$4" "$5") > "$work/script"
+    ends "$1" "$2" "$3" "$work/script" replay
+}
+starts 16 > "$work/sixteen"
+(starts 16; summary 0 0 0 16 0 0 0) > "$work/started_all"
+network 0 "" "$work/started_all" 16 64
+network 8 "more than 16 access points" "$work/sixteen" 17 0
+network 8 "more than 64 stations" "$work/started" 1 65
+
+# The longest payload behind a handshake, which is handed up.
+exchange='deliver 1 to a1\ndeliver 2 to s1\ndeliver 3 to s1\ndeliver 4 to a1\ndeliver 5 to s1\ndeliver 6 to a1\n'
+(cat "$work/header"; printf '%b' "$exchange"; printf 'send s1 a1 - '; times 4608 7; printf '\ndeliver 7 to a1\n') > "$work/script"
+(cat "$work/begun"; echo "took a1 assoc-req accepted
+open a1 s1 connect
+sent 2 a1 s1 assoc-resp 36
+sent 3 a1 s1 m1 131
+took s1 assoc-resp accepted
+took s1 m1 accepted
+sent 4 s1 a1 m2 153
+took a1 m2 accepted
+sent 5 a1 s1 m3 187
+took s1 m3 accepted
+install s1 a1 ptk
+install s1 a1 gtk 1
+finish s1 a1
+sent 6 s1 a1 m4 131
+took a1 m4 accepted
+install a1 s1 ptk
+finish a1 s1
+used s1 a1 0 1
+sent 7 s1 a1 data 2344
+took a1 data accepted"; printf 'up a1 s1 0 0 1 '; times 4608 7; echo; summary 7 7 0 4 0 1 1) > "$work/carried"
+ends 0 "" "$work/carried" "$work/script" replay
 
 # A device that takes no octet; what it got is not looked at.
 fills() { # SCRIPT WORDS..
