@@ -11,6 +11,7 @@ pub mod Plain
 pub mod Due
 pub mod Ending
 pub mod Refusing
+pub mod Listed
 pub mod Requesting
 pub mod Told
 pub mod ToldMoves

@@ -27,3 +27,5 @@ pub mod Unbegun
 pub mod Turned
 pub mod Linked
 pub mod Followed
+pub mod Ended
+pub mod Staying

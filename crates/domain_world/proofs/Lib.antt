@@ -16,3 +16,4 @@ pub mod Rounds
 pub mod Pulled
 pub mod Running
 pub mod Turning
+pub mod Stepping

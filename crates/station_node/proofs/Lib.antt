@@ -23,3 +23,4 @@ pub mod Arriving
 pub mod Moved
 pub mod Responding
 pub mod Reached
+pub mod Roamed

@@ -51,7 +51,7 @@ same_length : (xs : List (List Kept)) (i : ℕ) (ks : List Kept) → length xs �
 same_length xs i ks = omega (arith, length-set xs i ks)
 
 -- of the attempt whose supplicant took a message
-accepted_place : (o : Option Attempt) (a : Attempt) (old : Supplicant) (memories : List (List Kept)) → o ≡ Some a → a.association ≡ Accepted old → HasPlaceTried o memories → a.ap < length memories
+pub accepted_place : (o : Option Attempt) (a : Attempt) (old : Supplicant) (memories : List (List Kept)) → o ≡ Some a → a.association ≡ Accepted old → HasPlaceTried o memories → a.ap < length memories
 accepted_place o a old memories is has place = subst (λ (x : Association). HasPlace a.ap x memories) has (subst (λ (y : Option Attempt). HasPlaceTried y memories) is place)
 
 pub tried_places : (o : Option Attempt) (x : Option Session) (a : Attempt) (old new : Supplicant) (memories : List (List Kept)) (i : ℕ) (ks : List Kept) → o ≡ Some a → a.association ≡ Accepted old → HavePlaces o x memories
@@ -72,7 +72,7 @@ finished_places o b x y a old new k memories i ks is has places none there =
     }
 
 -- of the attempt whose originator took a reassociation response
-moving_place : (o : Option Attempt) (a : Attempt) (old : OriginatorState) (memories : List (List Kept)) → o ≡ Some a → a.association ≡ Moving old → HasPlaceTried o memories → a.ap < length memories
+pub moving_place : (o : Option Attempt) (a : Attempt) (old : OriginatorState) (memories : List (List Kept)) → o ≡ Some a → a.association ≡ Moving old → HasPlaceTried o memories → a.ap < length memories
 moving_place o a old memories is has place = subst (λ (x : Association). HasPlace a.ap x memories) has (subst (λ (y : Option Attempt). HasPlaceTried y memories) is place)
 
 pub moving_places : (o : Option Attempt) (x : Option Session) (a : Attempt) (old new : OriginatorState) (memories : List (List Kept)) (i : ℕ) (ks : List Kept) → o ≡ Some a → a.association ≡ Moving old → HavePlaces o x memories

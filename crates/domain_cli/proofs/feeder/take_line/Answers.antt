@@ -123,3 +123,9 @@ returns-in-Err-Broken-clause-blamed g c =
     let e = g.D.Draws.faults c.take.new.draws in
     let here = subst (λ (x : Undone). IsBlamed g.A.L.Link.faults (undone_blame x) old new a b d e) c.in-Err-Broken.field-0-is c.in-Err-Broken.ensures.blamed in
     blamed_stop g.A.L.Link.faults c.in-Err-Broken.error old new a b d e here
+
+pub returns-in-Ok-clause-told : goal.returns-in-Ok-clause-told
+returns-in-Ok-clause-told g c draft rounds first stands met = c.in-Ok.ensures.told draft rounds first stands met
+
+pub returns-in-Ok-clause-blamed : goal.returns-in-Ok-clause-blamed
+returns-in-Ok-clause-blamed g c = c.in-Ok.ensures.blamed

@@ -7,6 +7,7 @@ use Rattle.domain_links.specs.Telling.{Tell}
 use Rattle.domain_links.proofs.Taking.{delivers_none, delivers_ok, delivers_err}
 use Rattle.domain_cli.specs.Turning.{IsTaken, sent_by_then, stage}
 use Rattle.domain_cli.proofs.Turned.{same_stage, step_longer, step_sends, taken_round}
+use Rattle.domain_cli.proofs.Staying.{further_none, further_same, further_round, laid_unasked, sends_kept}
 use Rattle.domain_cli.proofs.turning.deliver.Goals as goal
 
 pub returns-in_default-clause-delivers : goal.returns-in_default-clause-delivers
@@ -43,3 +44,28 @@ returns-clause-delivers g c =
     delivers_err g.L.Link.told w.domain IsTaken (sent_by_then w.domain) c.args.place c.args.octets.now _ _ (stage w j) (stage c.event.new.self k) (sends w.domain news) _
     (taken_round w c.event.new.self _ c.node_at-to.result c.args.octets.now c.in-Ok.octets j k (c.node_at-to.ensures ∙ ap (λ (d : Domain). node_at d c.args.place) c.domain.ensures) c.in-Ok.ensures c.in-Ok-event.ensures.domain c.in-Ok-event.ensures.rounds c.in-Ok-event.ensures.step)
     (step_sends w.domain w.rounds _ j k news c.in-Ok-event.ensures.step (c.news.ensures ∙ ap (λ (n : ℕ). drop n (reverse k)) c.len-from.ensures)) out
+
+pub returns-in_default-clause-further : goal.returns-in_default-clause-further
+returns-in_default-clause-further g c = further_none 1 _ c.requires.own
+
+pub returns-in_default-clause-laid : goal.returns-in_default-clause-laid
+returns-in_default-clause-laid g c = laid_unasked g.L.Link.faults c.args.links.now.items
+
+pub returns-in_default-event-clause-further : goal.returns-in_default-event-clause-further
+returns-in_default-event-clause-further g c = further_same 1 _ _ _ _ c.event.ensures.domain c.in_default-event.ensures.same c.event.ensures.own
+
+pub returns-in_default-event-clause-laid : goal.returns-in_default-event-clause-laid
+returns-in_default-event-clause-laid g c = laid_unasked g.L.Link.faults c.args.links.now.items
+
+pub returns-in-Ok-send_entries-clause-further : goal.returns-in-Ok-send_entries-clause-further
+returns-in-Ok-send_entries-clause-further g c = further_round _ _ _ _ c.event.ensures.domain c.in-Ok-event.ensures.rounds c.event.ensures.own
+
+pub returns-clause-further : goal.returns-clause-further
+returns-clause-further g c = further_round _ _ _ _ c.event.ensures.domain c.in-Ok-event.ensures.rounds c.event.ensures.own
+
+pub returns-clause-laid : goal.returns-clause-laid
+returns-clause-laid g c = record {
+  len = c.send_entries.ensures.len;
+  failed = λ e. c.in-Err.ensures.cause e;
+  kept = λ h. sends_kept g.L.Link.faults _ _ c.in-Err.error c.in-Err.ensures.kept h;
+}

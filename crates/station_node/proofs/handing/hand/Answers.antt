@@ -1,4 +1,4 @@
-use Rattle.std.proofs.Common.{◌≡◌, false, List, ℕ, sym, ap, subst, ◌∙◌, ◌++◌}
+use Rattle.std.proofs.Common.{◌≡◌, length, arith, false, List, ℕ, sym, ap, subst, ◌∙◌, ◌++◌}
 use Rattle.domain_base.specs.declared.names.Node.TheVariants.{Ap}
 use Rattle.run_journal.specs.declared.acts.Act.{Act}
 use Rattle.domain_rules.specs.Network.{root_at}
@@ -28,3 +28,6 @@ returns-clause-handed c =
       taken = c.step-outcome.ensures;
       installed = c.installed_key-installed.ensures;
     }
+
+pub add_reply-requires-clause-room : goal.add_reply-requires-clause-room
+add_reply-requires-clause-room c = omega (arith, c.in_ok-reserve.ensures.spare, ap length c.nothing-between.ensures.opened, ap length c.nothing-between.ensures.put)

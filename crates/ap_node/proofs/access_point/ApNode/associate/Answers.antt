@@ -12,6 +12,7 @@ use Rattle.ap_node.specs.Moving.{has_any_attempt}
 use Rattle.ap_node.specs.State.{State, station_at, attempt_in, begun_beside, trimmed}
 use Rattle.ap_node.proofs.Trimming.{moved_on, moved_as, raw_at, any_as}
 use Rattle.ap_node.proofs.Requesting.{begins_as, associated_added, associated_same}
+use Rattle.ap_node.proofs.Listed.{ap_listed, number_listed}
 use Rattle.ap_node.proofs.access_point.ApNode.associate.Goals as goal
 
 pub returns-clause-begun : goal.returns-clause-begun
@@ -62,3 +63,12 @@ returns-clause-acts c =
     ∙ any_as (c.begin_attempt-had.ensures.had ∙ ap (λ (xs : List (Option Station)). is_some (attempt_in (station_at xs sta))) stations_are)
     (c.close_pending-was_pending.ensures.was ∙ ap (λ (m : Moves). is_some m.pending) (raw_at c.self.inside.targets old.targets sta (ap (λ (s : State). s.targets) c.self.view_is))))
     v_is)
+
+pub begin_attempt-had-requires-clause-ap : goal.begin_attempt-had-requires-clause-ap
+begin_attempt-had-requires-clause-ap c = number_listed c.args.here.domain.now _ c.args.self.now c.self.view_is c.requires.listed
+
+pub nonce-anonce-requires : goal.nonce-anonce-requires
+nonce-anonce-requires c = ap_listed c.args.here.domain.now c.args.here.node c.args.self.now.number c.requires.node c.requires.listed
+
+pub accept-requires-clause-ap : goal.accept-requires-clause-ap
+accept-requires-clause-ap c = ap_listed c.args.here.domain.now c.args.here.node c.args.self.now.number c.requires.node c.requires.listed

@@ -45,3 +45,6 @@ returns-clause-done c d =
     drops d old new sta c.either-had_any.result c.drop_part-had_attempt.result.1 waited c.add_dropped.new.out.acts c.add_dropped.result beside moved
     had_is (c.drop_part-had_attempt.ensures.session ∙ ap (λ (o : Option Station). is_some (session_in o)) was)
     c.drop_part-had_attempt.ensures.left c.add_dropped.ensures.acts c.add_dropped.ensures.outcome
+
+pub returns-clause-number : goal.returns-clause-number
+returns-clause-number c = ap (λ (s : State). s.number) c.self.view_is

@@ -12,6 +12,7 @@ use Rattle.ap_node.specs.State.{State, station_at, trimmed}
 use Rattle.ap_node.specs.Takes.{IsDoneWith}
 use Rattle.ap_node.proofs.Messaging.{takes_finished, ready_as}
 use Rattle.ap_node.proofs.Rows.{change_at, same_others}
+use Rattle.ap_node.proofs.Listed.{number_listed}
 use Rattle.ap_node.proofs.access_point.ApNode.hand.Goals as goal
 
 pub returns-clause-done : goal.returns-clause-done
@@ -62,3 +63,9 @@ returns-clause-others over c =
 
 pub returns-clause-no_less : goal.returns-clause-no_less
 returns-clause-no_less over c = c.prepare.ensures.no_less
+
+pub returns-clause-number : goal.returns-clause-number
+returns-clause-number over c = ap (λ (s : State). s.number) c.self-2.view_is ∙ c.hand_ready-outcome.ensures.beside.number
+
+pub prepare-requires-clause-ap : goal.prepare-requires-clause-ap
+prepare-requires-clause-ap over c = number_listed c.args.here.domain.now _ c.args.self.now c.self.view_is c.requires.listed

@@ -17,6 +17,7 @@ use Rattle.ap_node.specs.Takes.{IsDone}
 use Rattle.ap_node.proofs.Messaging.{the_state, owes_same, beside_count}
 use Rattle.ap_node.proofs.Transits.{IsSeatedBy, IsReplaced, takes_reassoc, reassoc_as, some_key, err_of}
 use Rattle.ap_node.proofs.Trimming.{moved_on, raw_at, same_targets}
+use Rattle.ap_node.proofs.Listed.{number_listed}
 use Rattle.ap_node.proofs.access_point.ApNode.move_over.Goals as goal
 
 pub returns-in_err-taken-clause-same : goal.returns-in_err-taken-clause-same
@@ -112,3 +113,9 @@ returns-in-Some-clause-number c = ap (λ (s : State). s.number) c.self.view_is
 
 pub returns-in_default-clause-number : goal.returns-in_default-clause-number
 returns-in_default-clause-number c = ap (λ (s : State). s.number) c.self.view_is
+
+pub seat-self-inside-requires-clause-ap : goal.seat-self-inside-requires-clause-ap
+seat-self-inside-requires-clause-ap c = number_listed c.args.here.domain.now _ c.args.self.now c.self.view_is c.requires.listed
+
+pub take_reassoc-requires-clause-ap : goal.take_reassoc-requires-clause-ap
+take_reassoc-requires-clause-ap c = number_listed c.args.here.domain.now _ c.args.self.now c.self.view_is c.requires.listed

@@ -46,3 +46,6 @@ returns-clause-done c =
     let x = c.in_ok-outcome.ensures.resent in
     subst (λ (l : List Act). IsDone d (Retry sta) old new (seen waited l outcome)) (sym x.1)
     (retries d old new sta (station_at old.stations sta) q x.0 waited outcome beside moved refl refl x.2 (resent_as sta g (newest_of old) _ (station_at old.stations sta) q x.0 same_newest was x.3))
+
+pub returns-clause-number : goal.returns-clause-number
+returns-clause-number c = ap (λ (s : State). s.number) c.self.view_is

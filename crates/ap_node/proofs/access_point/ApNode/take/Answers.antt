@@ -7,9 +7,10 @@ use Rattle.frame_intake.specs.Views.{reading_of, sealed_fields}
 use Rattle.act_memory.proofs.Returning.{if_settled}
 use Rattle.ap_node.specs.Takes.{IsKeyedAtAp, IsSealedAtAp, IsTaken}
 use Rattle.run_journal.specs.declared.acts.Kind.TheVariants as kind
-use Rattle.ap_node.proofs.Refusing.{Stays, takes_settled, takes_other, managed_from, keyed_from, sealed_from, request_from}
+use Rattle.ap_node.proofs.Refusing.{Stays, takes_settled, takes_other, managed_from, keyed_from, sealed_from, request_from, is_station}
 use Rattle.ap_node.specs.Putting.{Unchanged}
 use Rattle.ap_node.proofs.Rows.{if_same, if_none, if_change, err_change, same_others}
+use Rattle.ap_node.proofs.Listed.{ap_listed}
 use Rattle.ap_node.proofs.access_point.ApNode.take.Goals as goal
 use Rattle.domain_base.specs.declared.names.Node.TheVariants.{Sta}
 use Rattle.node_base.specs.Events.{seen}
@@ -262,3 +263,45 @@ returns-in-Sealed-clause-others over c = same_others _ _ _ _
 
 pub returns-in-Sealed-clause-no_less : goal.returns-in-Sealed-clause-no_less
 returns-in-Sealed-clause-no_less over c = over.met.H.Holders.same c.args.holders.now
+
+pub number_of-requires : goal.number_of-requires
+number_of-requires over c = is_station c.args.here.domain.now c.args.here.node c.args.self.now.number c.in-Managed.from c.requires.node c.in-Managed.ensures.2
+
+pub number_of-requires-in-FtReq : goal.number_of-requires-in-FtReq
+number_of-requires-in-FtReq over c = is_station c.args.here.domain.now c.args.here.node c.args.self.now.number c.in-Managed.from c.requires.node c.in-Managed.ensures.2
+
+pub number_of-requires-in-ReReq : goal.number_of-requires-in-ReReq
+number_of-requires-in-ReReq over c = is_station c.args.here.domain.now c.args.here.node c.args.self.now.number c.in-Managed.from c.requires.node c.in-Managed.ensures.2
+
+pub number_of-requires-in-Keyed : goal.number_of-requires-in-Keyed
+number_of-requires-in-Keyed over c = is_station c.args.here.domain.now c.args.here.node c.args.self.now.number c.in-Keyed.from c.requires.node c.in-Keyed.ensures.2
+
+pub number_of-station-requires : goal.number_of-station-requires
+number_of-station-requires over c = is_station c.args.here.domain.now c.args.here.node c.args.self.now.number c.in-Sealed.from c.requires.node c.in-Sealed.ensures.2
+
+pub judge-requires-clause-listed : goal.judge-requires-clause-listed
+judge-requires-clause-listed over c = ap_listed c.args.here.domain.now c.args.here.node c.args.self.now.number c.requires.node c.requires.listed
+
+pub take_auth-requires-clause-node : goal.take_auth-requires-clause-node
+take_auth-requires-clause-node over c = c.requires.node
+
+pub take_auth-requires-clause-listed : goal.take_auth-requires-clause-listed
+take_auth-requires-clause-listed over c = c.requires.listed
+
+pub take_reassoc-requires-clause-node : goal.take_reassoc-requires-clause-node
+take_reassoc-requires-clause-node over c = c.requires.node
+
+pub take_reassoc-requires-clause-listed : goal.take_reassoc-requires-clause-listed
+take_reassoc-requires-clause-listed over c = c.requires.listed
+
+pub take_keyed-requires-clause-node : goal.take_keyed-requires-clause-node
+take_keyed-requires-clause-node over c = c.requires.node
+
+pub take_keyed-requires-clause-listed : goal.take_keyed-requires-clause-listed
+take_keyed-requires-clause-listed over c = c.requires.listed
+
+pub take_request-requires-clause-node : goal.take_request-requires-clause-node
+take_request-requires-clause-node over c = c.requires.node
+
+pub take_request-requires-clause-listed : goal.take_request-requires-clause-listed
+take_request-requires-clause-listed over c = c.requires.listed

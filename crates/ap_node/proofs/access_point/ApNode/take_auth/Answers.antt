@@ -21,12 +21,13 @@ use Rattle.ap_node.specs.declared.station.Station.{Station}
 use Rattle.ap_node.specs.State.{State, station_at, attempt_in, trimmed}
 use Rattle.ap_node.specs.Looking.{AnsweredBy}
 use Rattle.ap_node.specs.Moving.{has_any_attempt, next_drawn, begun_key, drawn_for, attempt_over}
-use Rattle.ap_node.specs.Putting.{Unchanged}
+use Rattle.ap_node.specs.Putting.{Stays, Unchanged}
 use Rattle.ap_node.specs.Takes.{IsTakenWith}
 use Rattle.ap_node.proofs.Messaging.{the_state}
 use Rattle.ap_node.proofs.Transits.{IsAuthed, takes_auth, auth_less, auth_refused, no_key, err_of}
 use Rattle.ap_node.proofs.TransitingLooks.{taken_unlooked}
 use Rattle.ap_node.proofs.Trimming.{moved_on, raw_at, any_as, same_targets}
+use Rattle.ap_node.proofs.Listed.{ap_listed, number_listed}
 use Rattle.ap_node.proofs.access_point.ApNode.take_auth.Goals as goal
 
 pub returns-in_err-taken-clause-same : goal.returns-in_err-taken-clause-same
@@ -97,3 +98,17 @@ returns-clause-taken over c =
     as_before : {m n : ℕ} {xs ys : List (Option Station)} {ts us : List Moves} → m ≡ n → xs ≡ ys → ts ≡ us
         → the_state c.self.inside.number m c.self.inside.group c.self.inside.sending xs c.self.inside.owing ts ≡ the_state c.self.inside.number n c.self.inside.group c.self.inside.sending ys c.self.inside.owing us
     as_before f g h = rw (f, g, h) refl
+
+pub returns-clause-others : goal.returns-clause-others
+returns-clause-others over c = record {
+  ids = c.take_auth.ensures.ids;
+  still_has = c.take_auth.ensures.still_has;
+  others = λ r other in_has. c.take_auth.ensures.rows r in_has;
+  one = Stays (c.take_auth.ensures.rows c.args.self.now.number c.requires.has);
+}
+
+pub take_auth-requires-clause-ap : goal.take_auth-requires-clause-ap
+take_auth-requires-clause-ap over c = number_listed c.args.here.domain.now _ c.args.self.now c.self.view_is c.requires.listed
+
+pub next_nonce-anonce-requires : goal.next_nonce-anonce-requires
+next_nonce-anonce-requires over c = ap_listed c.args.here.domain.now c.args.here.node c.args.self.now.number c.requires.node c.requires.listed

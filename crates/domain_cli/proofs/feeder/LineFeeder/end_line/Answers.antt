@@ -1,7 +1,7 @@
-use Rattle.std.proofs.Common.{◌∙◌, ℕ, List, ap, subst, arith}
+use Rattle.std.proofs.Common.{◌∙◌, ℕ, List, ap, subst, arith, length}
 use Rattle.domain_cli.specs.Outer.{outer}
 use Rattle.domain_cli.specs.Script.{without_return}
-use Rattle.domain_cli.specs.States.{TellsLine}
+use Rattle.domain_cli.specs.States.{TellsLine, IsReady}
 use Rattle.domain_cli.specs.Stops.{StopsLine}
 use Rattle.domain_cli.proofs.Coming.{halts_line, reached_line}
 use Rattle.domain_cli.proofs.feeder.LineFeeder.end_line.Goals as goal
@@ -26,3 +26,6 @@ returns-in-Err-clause-reached g c first octets r =
     let text = c.without_return-text.ensures ∙ ap without_return c.deref.ensures.value in
     let stops = subst (λ (w : List ℕ). StopsLine c.in-Err.stop g.A.L.Link.told first old new s.state.reader.mode s.lines w r.draft r.rounds j k) text (c.in-Err.ensures.told r.draft r.rounds first r.come.stands r.met) in
     halts_line g.A.L.Link.told first old new s c.in-Err.stop octets r.draft r.rounds j k r.come r.met (omega (arith, s.short, s.line.ok.0)) stops
+
+pub returns-in-Ok-clause-ready : goal.returns-in-Ok-clause-ready
+returns-in-Ok-clause-ready g c = subst (λ (n : ℕ). IsReady c.take_line-taken.new.state (length c.take_line-taken.new.links.items) n c.take_line-taken.new.journal.entries) (omega arith) c.in-Ok.ensures.ready

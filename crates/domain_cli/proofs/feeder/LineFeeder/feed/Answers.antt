@@ -1,13 +1,14 @@
-use Rattle.std.proofs.Common.{◌++◌, ◌∙◌, ◌-◌, ◌+◌, ℕ, List, take, drop, Ok, Err, ap, subst, arith}
+use Rattle.std.proofs.Common.{◌++◌, ◌∙◌, ◌-◌, ◌+◌, ℕ, List, take, drop, Ok, Err, ap, subst, arith, refl, sym}
 use Rattle.frame_script.specs.declared.reader.Mode.{Mode}
 use Rattle.domain_cli.specs.declared.state.ScriptState.{ScriptState}
 use Rattle.domain_cli.specs.Feeders.{Reached}
 use Rattle.domain_cli.specs.Outer.{outer}
 use Rattle.domain_cli.specs.Stops.{Halts}
 use Rattle.domain_cli.specs.Story.{most_read}
-use Rattle.domain_cli.proofs.Blamed.{blame_more}
+use Rattle.domain_cli.proofs.Blamed.{blame_more, unblamed}
 use Rattle.domain_cli.proofs.Coming.{all_further, feed_further, piece_further, reached_more, ready_more}
 use Rattle.domain_cli.proofs.Lines.{Halts-behind}
+use Rattle.std.proofs.lemmas.List.{append-nil}
 use Rattle.domain_cli.proofs.feeder.LineFeeder.feed.Goals as goal
 
 pub loop-at-preserved-in-Ok : goal.loop-at-preserved-in-Ok
@@ -72,3 +73,14 @@ returns-clause-reached g c first before r =
     let o = outer c.loop-at.links.items (g.A.Air.told c.loop-at.air) (g.D.Draws.last c.loop-at.draws) in
     subst (λ (w : List ℕ). Reached g.A.L.Link.told first o c.loop-at.self w c.loop-at.journal.entries) (all_further before c.args.octets.now c.loop-at.at (omega (arith, c.loop-at-test.false)))
     (c.loop-at.invariant.reached first before r)
+
+pub loop-at-init : goal.loop-at-init
+loop-at-init g c =
+    let o = outer c.args.links.now.items (g.A.Air.told c.args.air.now) (g.D.Draws.last c.args.draws.now) in
+    record {
+      within = omega arith;
+      ready = c.requires.ready;
+      mode = refl;
+      reached = λ first before r. subst (λ (w : List ℕ). Reached g.A.L.Link.told first o c.args.self.now w c.args.journal.now.entries) (sym (append-nil before)) r;
+      blamed = unblamed g.A.L.Link.faults c.args.links.now.items (g.A.Air.faults c.args.air.now) (g.D.Draws.faults c.args.draws.now);
+    }

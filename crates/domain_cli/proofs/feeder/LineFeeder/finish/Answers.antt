@@ -1,12 +1,14 @@
-use Rattle.std.proofs.Common.{◌≡◌, ◌≢◌, ◌⊎◌, [], arith, length, List, ℕ, ap, subst, inl, inr, true, false}
+use Rattle.std.proofs.Common.{◌≡◌, ◌≢◌, ◌⊎◌, [], arith, length, List, ℕ, ap, subst, inl, inr, true, false, sym}
 use Rattle.std.specs.Prelude.{◌==◌}
 use Rattle.std.proofs.lemmas.Bool.Decides.{nat_tests}
 use Rattle.std.proofs.lemmas.List.{nil_from_length}
-use Rattle.domain_cli.specs.Outer.{outer}
+use Rattle.domain_cli.specs.Outer.{outer, Blame, IsBlamed}
 use Rattle.domain_cli.specs.States.{TellsLine}
 use Rattle.domain_cli.specs.Stops.{StopsLine}
 use Rattle.domain_cli.proofs.Coming.{closes_here, closes_last, closes_line}
 use Rattle.domain_cli.proofs.feeder.LineFeeder.finish.Goals.{else-is_empty-via-then-is_empty+else-self-gt0, else-is_empty-via-else-is_empty}
+use Rattle.domain_cli.proofs.Blamed.{unblamed}
+use Rattle.domain_cli.proofs.Ended.{ended_blame, ended_read}
 use Rattle.domain_cli.proofs.feeder.LineFeeder.finish.Goals as goal
 
 some_octets : (line : List ℕ) (n : ℕ) → n ≡ length line → false ≡ (n == 0) → line ≢ []
@@ -50,3 +52,19 @@ returns-in-Err-clause-told g c first octets r =
     ] in
     let stops = subst (λ (w : List ℕ). StopsLine c.in-Err.stop g.A.L.Link.told first old new s.state.reader.mode s.lines w r.draft r.rounds j k) c.deref.ensures.value (c.in-Err.ensures.told r.draft r.rounds first r.come.stands r.met) in
     closes_last g.A.L.Link.told first old new s c.in-Err.stop octets r.draft r.rounds j k r.come r.met (omega (arith, s.short, s.line.ok.0)) some stops
+
+pub returns-then-self-gt0-clause-blamed : goal.returns-then-self-gt0-clause-blamed
+returns-then-self-gt0-clause-blamed g c =
+    let links = c.args.links.now.items in
+    let air = g.A.Air.faults c.args.air.now in
+    let draws = g.D.Draws.faults c.args.draws.now in
+    subst (λ (b : Blame). IsBlamed g.A.L.Link.faults b links links air air draws draws) (sym (ended_blame c.ended.result _ _ c.ended.ensures)) (unblamed g.A.L.Link.faults links air draws)
+
+pub returns-in-Ok-clause-blamed : goal.returns-in-Ok-clause-blamed
+returns-in-Ok-clause-blamed g c =
+    let t = c.take_line-taken.new in
+    subst (λ (b : Blame). IsBlamed g.A.L.Link.faults b c.args.links.now.items t.links.items (g.A.Air.faults c.args.air.now) (g.A.Air.faults t.air) (g.D.Draws.faults c.args.draws.now) (g.D.Draws.faults t.draws))
+    (sym (ended_blame c.ended-in-Ok.result _ _ c.ended-in-Ok.ensures)) c.in-Ok.ensures.blamed
+
+pub returns-in-Ok-clause-not_read : goal.returns-in-Ok-clause-not_read
+returns-in-Ok-clause-not_read g c = ended_read c.ended-in-Ok.result _ _ c.ended-in-Ok.ensures

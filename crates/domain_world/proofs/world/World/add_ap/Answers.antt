@@ -1,4 +1,5 @@
-use Rattle.std.proofs.Common.{◌≡◌, List, [], length, ap, subst, ◌∙◌}
+use Rattle.std.proofs.Common.{◌≡◌, List, [], length, sym, ap, subst, ◌∙◌, arith}
+use Rattle.domain_rules.specs.Network.{InForm}
 use Rattle.domain_base.specs.Octets.{AreOctets}
 use Rattle.domain_base.specs.declared.names.Node.TheVariants.{Ap}
 use Rattle.run_journal.specs.declared.acts.Entry.{Entry}
@@ -6,7 +7,7 @@ use Rattle.run_journal.specs.Questions.{history}
 use Rattle.domain_rules.specs.Explained.{push}
 use Rattle.run_journal.specs.Listing.{with_ap}
 use Rattle.domain_world.specs.State.{State}
-use Rattle.domain_world.specs.Owning.{Stand, HoldNone, nodes_of}
+use Rattle.domain_world.specs.Owning.{Stand, HoldNone, nodes_of, places}
 use Rattle.domain_world.proofs.Owned.{own_ap}
 use Rattle.domain_world.proofs.Begun.{started_ap}
 use Rattle.domain_world.proofs.world.World.add_ap.Goals as goal
@@ -31,3 +32,25 @@ returns-clause-started c =
     let domain = c.in_ok-node.ensures.domain ∙ ap (λ (w : State). with_ap w.domain c.args.address c.args.r0kh_id) c.self.view_is in
     let is = c.journal_acts.ensures.entries ∙ ap (push 0 node acts) c.in_ok-reserve.ensures.entries in
     λ before. started_ap c.args.self.now.domain c.add_ap.new.self.domain c.args.address c.args.r0kh_id node acts c.args.journal.now.entries c.journal_acts.new.journal.entries domain at c.in_ok-node.ensures.acts is before
+
+pub add_ap-requires-clause-form : goal.add_ap-requires-clause-form
+add_ap-requires-clause-form c = subst (λ (w : State). InForm (with_ap w.domain c.args.address c.args.r0kh_id)) (sym c.self.view_is) c.requires.form
+
+pub returns-clause-rounds : goal.returns-clause-rounds
+returns-clause-rounds c = ap (λ (w : State). w.rounds) c.self.view_is
+
+pub returns-clause-domain : goal.returns-clause-domain
+returns-clause-domain c = c.in_ok-node.ensures.domain ∙ ap (λ (w : State). with_ap w.domain c.args.address c.args.r0kh_id) c.self.view_is
+
+pub journal_acts-requires-clause-noted : goal.journal_acts-requires-clause-noted
+journal_acts-requires-clause-noted c = c.reserve-2.ensures.items ∙ ap (λ (w : State). w.frames) c.self.view_is ∙ c.requires.own.placed.places ∙ ap places (sym c.in_ok-reserve.ensures.entries)
+
+pub journal_acts-requires-clause-room : goal.journal_acts-requires-clause-room
+journal_acts-requires-clause-room c =
+    let two : length c.add_ap.new.out.acts ≡ 2 = ap length c.in_ok-node.ensures.acts in
+    omega (arith, two, c.in_ok-reserve.ensures.spare)
+
+pub journal_acts-requires-clause-places : goal.journal_acts-requires-clause-places
+journal_acts-requires-clause-places c =
+    let two : length c.add_ap.new.out.acts ≡ 2 = ap length c.in_ok-node.ensures.acts in
+    omega (arith, two, c.in_ok-reserve-2.ensures.ok)

@@ -1,4 +1,5 @@
-use Rattle.std.proofs.Common.{◌∙◌, ◌++◌, [], ◌∷◌, suc, List, sym, ap}
+use Rattle.std.proofs.Common.{◌∙◌, ◌++◌, [], ◌∷◌, suc, List, sym, ap, arith}
+use Rattle.std.proofs.lemmas.List.{take_all}
 use Rattle.run_journal.specs.declared.domain.Event.{Event}
 use Rattle.domain_world.specs.Working.{IsComing}
 use Rattle.domain_world.proofs.Played.{event_in}
@@ -17,3 +18,6 @@ loop-event-preserved c =
       map_more (λ x. x.event.now) c.loop-event.comings.items _ _ pushed ∙ ap (λ (l : List Event). l ++ event ∷ []) held.0 ∙ sym (one_taken c.args.events.now c.loop-event.event-index event c.loop-event-test.true c.event-item.is),
       all_more (IsComing c.args.journal.now.entries (suc c.args.self.now.rounds)) c.loop-event.comings.items _ _ pushed held.1 c.in_ok-changed.ensures,
     )
+
+pub returns-clause-events : goal.returns-clause-events
+returns-clause-events c = c.loop-event.invariant.0 ∙ take_all c.loop-event.event-index c.args.events.now (omega (arith, c.loop-event-test.false))

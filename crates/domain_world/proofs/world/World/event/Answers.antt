@@ -2,13 +2,14 @@ use Rattle.std.proofs.Common.{◌≡◌, ◌+◌, suc, ℕ, List, sym, ap, subst
 use Rattle.run_journal.specs.declared.acts.Entry.{Entry}
 use Rattle.run_journal.specs.Questions.{history}
 use Rattle.node_base.specs.Events.{event_of}
-use Rattle.domain_rules.specs.Network.{IsListed}
+use Rattle.domain_rules.specs.Network.{InForm, IsListed}
 use Rattle.domain_rules.specs.Explained.{push, HappensAt}
 use Rattle.domain_world.specs.State.{State}
-use Rattle.domain_world.specs.Owning.{AreListed, Stand, nodes_of}
-use Rattle.domain_world.specs.Acting.{Acted}
+use Rattle.domain_world.specs.Owning.{AreListed, Stand, nodes_of, places}
+use Rattle.domain_world.specs.Acting.{Acted, IsChanged}
 use Rattle.domain_world.proofs.Few.{few}
 use Rattle.domain_world.proofs.Owned.{own_event, step_event}
+use Rattle.domain_world.proofs.Stepping.{on_err, world_before, own_before, placed_before, event_before}
 use Rattle.domain_world.proofs.world.World.event.Goals as goal
 
 pub journal_acts-requires-clause-room : goal.journal_acts-requires-clause-room
@@ -59,3 +60,52 @@ returns-clause-own c =
     let is = c.journal_acts.ensures.entries ∙ ap (push (c.self.inside.rounds + 1) node acts) c.in_ok-reserve.ensures.entries ∙ ap (λ (r : ℕ). push r node acts j) round in
     own_event c.args.self.now _ node at acts j c.journal_acts.new.journal.entries c.requires.own listed (acted j c.requires.own.stand) c.step.ensures.listed
     (c.step.ensures.domain ∙ ap (λ (w : State). w.domain) c.self.view_is) round (ap (λ (w : State). w.usable) c.self.view_is) c.journal_acts.ensures.noted is
+
+pub step-requires-clause-form : goal.step-requires-clause-form
+step-requires-clause-form c = subst (λ (w : State). InForm w.domain) (sym c.self.view_is) c.requires.own.form
+
+pub returns-clause-rounds : goal.returns-clause-rounds
+returns-clause-rounds c =
+    let rounds : c.self.inside.rounds ≡ c.args.self.now.rounds = ap (λ (w : State). w.rounds) c.self.view_is in
+    omega (arith, rounds)
+
+pub returns-clause-domain : goal.returns-clause-domain
+returns-clause-domain c = c.step.ensures.domain ∙ ap (λ (w : State). w.domain) c.self.view_is
+
+pub at_node-node-requires-clause-placed : goal.at_node-node-requires-clause-placed
+at_node-node-requires-clause-placed c =
+    let old : State = record { domain = c.self.inside.nodes.domain; aps = c.self.inside.nodes.aps; stas = c.self.inside.nodes.stas; rows = c.self.inside.nodes.rows; frames = c.self.inside.frames.items; rounds = c.self.inside.rounds; usable = c.self.inside.usable } in
+    placed_before old c.args.self.now c.reserve-2.new.self.items c.args.journal.now.entries c.reserve.new.self.entries c.self.view_is c.reserve-2.ensures.items c.in_ok-reserve.ensures.entries c.requires.own.placed
+
+pub at_node-node-requires-clause-event : goal.at_node-node-requires-clause-event
+at_node-node-requires-clause-event c =
+    let old : State = record { domain = c.self.inside.nodes.domain; aps = c.self.inside.nodes.aps; stas = c.self.inside.nodes.stas; rows = c.self.inside.nodes.rows; frames = c.self.inside.frames.items; rounds = c.self.inside.rounds; usable = c.self.inside.usable } in
+    event_before old c.args.self.now c.reserve-2.new.self.items c.args.journal.now.entries c.reserve.new.self.entries c.args.event.now c.self.view_is c.reserve-2.ensures.items c.in_ok-reserve.ensures.entries c.requires.event
+
+pub at_node-node-requires-clause-changed : goal.at_node-node-requires-clause-changed
+at_node-node-requires-clause-changed c =
+    let j = c.args.journal.now.entries in
+    subst (λ (i : List Entry). IsChanged c.args.event.now i (suc c.self.inside.rounds) c.as_slice.result.now) (sym c.in_ok-reserve.ensures.entries)
+    (subst (λ (w : State). IsChanged c.args.event.now j (suc w.rounds) c.as_slice.result.now) (sym c.self.view_is)
+    (subst (IsChanged c.args.event.now j (suc c.args.self.now.rounds)) (sym c.as_slice.ensures.value) c.in_ok-changed.ensures))
+
+pub journal_acts-requires-clause-noted : goal.journal_acts-requires-clause-noted
+journal_acts-requires-clause-noted c = c.reserve-2.ensures.items ∙ ap (λ (w : State). w.frames) c.self.view_is ∙ c.requires.own.placed.places ∙ ap places (sym c.in_ok-reserve.ensures.entries)
+
+pub returns-in_err-step-clause-own : goal.returns-in_err-step-clause-own
+returns-in_err-step-clause-own c =
+    let old : State = record { domain = c.self.inside.nodes.domain; aps = c.self.inside.nodes.aps; stas = c.self.inside.nodes.stas; rows = c.self.inside.nodes.rows; frames = c.self.inside.frames.items; rounds = c.self.inside.rounds; usable = c.self.inside.usable } in
+    own_before old c.args.self.now c.step.new.self c.reserve-2.new.self.items c.args.journal.now.entries c.reserve.new.self.entries c.self.view_is c.in_err-step.ensures.same c.reserve-2.ensures.items c.in_ok-reserve.ensures.entries c.requires.own
+
+pub returns-in_err-step-clause-same : goal.returns-in_err-step-clause-same
+returns-in_err-step-clause-same c =
+    let old : State = record { domain = c.self.inside.nodes.domain; aps = c.self.inside.nodes.aps; stas = c.self.inside.nodes.stas; rows = c.self.inside.nodes.rows; frames = c.self.inside.frames.items; rounds = c.self.inside.rounds; usable = c.self.inside.usable } in
+    on_err c.from_residual-in_err-step.result _ (world_before old c.args.self.now c.step.new.self c.reserve-2.new.self.items c.self.view_is c.in_err-step.ensures.same c.reserve-2.ensures.items)
+
+pub returns-in_err-step-clause-domain : goal.returns-in_err-step-clause-domain
+returns-in_err-step-clause-domain c = c.step.ensures.domain ∙ ap (λ (w : State). w.domain) c.self.view_is
+
+pub overflow_add-round : goal.overflow_add-round
+overflow_add-round c =
+    let rounds : c.self.inside.rounds ≡ c.args.self.now.rounds = ap (λ (w : State). w.rounds) c.self.view_is in
+    omega (arith, rounds, c.requires.few)

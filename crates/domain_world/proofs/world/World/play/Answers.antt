@@ -6,12 +6,13 @@ use Rattle.domain_rules.specs.HeldRight.{AnsweredInTime}
 use Rattle.domain_world.specs.declared.working.Turn.{Turn}
 use Rattle.domain_world.specs.declared.world.Coming.{Coming}
 use Rattle.domain_world.specs.State.{State}
-use Rattle.domain_world.specs.Owning.{Stand, nodes_of}
+use Rattle.domain_world.specs.Owning.{AreEventsIn, Stand, nodes_of}
 use Rattle.domain_world.specs.Waiting.{events_below}
 use Rattle.domain_world.specs.Acting.{Played}
-use Rattle.domain_world.specs.Working.{IsTurn}
+use Rattle.domain_world.specs.Working.{IsComing, IsTurn}
 use Rattle.domain_world.proofs.Owned.{up_to, all_low}
 use Rattle.domain_world.proofs.Running.{if_ok}
+use Rattle.domain_rules.specs.Network.{InForm}
 use Rattle.domain_world.proofs.world.World.play.Goals as goal
 
 suc_up : (n : ℕ) → n ≤ suc n
@@ -35,3 +36,23 @@ returns-clause-played g c =
     (λ parts w. subst (λ (es : List Event). Played (suc old.rounds) (events_below (length old.domain.aps) es) j (nodes_of old) c.round.new.self parts.items) events
     (w (suc old.rounds) j c.requires.stand up c.requires.right turns))
     played
+
+pub round-requires-clause-form : goal.round-requires-clause-form
+round-requires-clause-form g c = λ κs bounds. subst (λ (w : State). InForm w.domain) (sym c.self.view_is) c.requires.form
+
+pub returns-clause-rounds : goal.returns-clause-rounds
+returns-clause-rounds g c = ap (λ (w : State). w.rounds) c.self.view_is
+
+pub returns-clause-frames : goal.returns-clause-frames
+returns-clause-frames g c = ap (λ (w : State). w.frames) c.self.view_is
+
+pub returns-clause-usable : goal.returns-clause-usable
+returns-clause-usable g c = ap (λ (w : State). w.usable) c.self.view_is
+
+pub turns-requires-clause-events : goal.turns-requires-clause-events
+turns-requires-clause-events g c =
+    let events = ap (map (λ (x : Coming). x.event.now)) c.as_slice.ensures.value ∙ c.in_ok-comings.ensures.events in
+    subst (AreEventsIn c.args.self.now.domain (length c.args.self.now.frames) c.args.journal.now.entries) (sym events) c.requires.events
+
+pub turns-requires-clause-changed : goal.turns-requires-clause-changed
+turns-requires-clause-changed g c = subst (AllByRecursion (IsComing c.args.journal.now.entries (suc c.args.self.now.rounds))) (sym c.as_slice.ensures.value) c.in_ok-comings.ensures.changed

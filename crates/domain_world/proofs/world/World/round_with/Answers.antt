@@ -1,13 +1,15 @@
-use Rattle.std.proofs.Common.{◌≡◌, ◌+◌, ◌*◌, suc, List, length, refl, sym, ap, subst, ◌∙◌, arith, rules}
+use Rattle.std.proofs.Common.{◌≡◌, ◌+◌, ◌*◌, false, suc, List, length, refl, sym, ap, subst, ◌∙◌, arith, rules}
 use Rattle.run_journal.specs.declared.domain.Event.{Event}
 use Rattle.domain_rules.specs.Explained.{Follows}
 use Rattle.domain_rules.specs.HeldRight.{AnsweredInTime}
 use Rattle.domain_world.specs.State.{State}
-use Rattle.domain_world.specs.Owning.{AreListed, AreEventsIn, nodes_of}
+use Rattle.domain_world.specs.Owning.{AreListed, AreEventsIn, Stand, nodes_of}
 use Rattle.domain_world.specs.Waiting.{joined, events_below}
 use Rattle.domain_world.specs.Acting.{Played}
 use Rattle.domain_world.proofs.Ordered.{in_order}
 use Rattle.domain_world.proofs.Played.{at_aps, own_round, waiting_short}
+use Rattle.domain_rules.specs.Network.{InForm}
+use Rattle.domain_world.proofs.Stepping.{placed_unusable}
 use Rattle.domain_world.proofs.world.World.round_with.Goals as goal
 
 pub play-requires-clause-events : goal.play-requires-clause-events
@@ -64,3 +66,31 @@ returns-clause-own g c =
     let listed = subst (λ (w : State). AreListed (nodes_of w)) (sym c.self-2.view_is) c.in_ok-parts.ensures.listed in
     let is = c.journal_parts.ensures.entries ∙ ap (joined (c.self-2.inside.rounds + 1) parts) c.in_ok-reserve.ensures.entries ∙ ap (λ r. joined r parts j) round in
     own_round old _ events parts j c.journal_parts.new.journal.entries c.requires.own stood listed round refl c.journal_parts.ensures.noted is
+
+pub play-requires-clause-stand : goal.play-requires-clause-stand
+play-requires-clause-stand g c = λ κs bounds. subst (λ (w : State). Stand (nodes_of w) c.args.journal.now.entries) (sym c.self.view_is) c.requires.own.stand
+
+pub play-requires-clause-form : goal.play-requires-clause-form
+play-requires-clause-form g c = λ κs bounds. subst (λ (w : State). InForm w.domain) (sym c.self.view_is) c.requires.own.form
+
+pub returns-clause-rounds : goal.returns-clause-rounds
+returns-clause-rounds g c =
+    let old = c.args.self.now in
+    let rounds : c.self.inside.rounds ≡ old.rounds = ap (λ (w : State). w.rounds) c.self.view_is in
+    let later : c.self-2.inside.rounds ≡ c.self.inside.rounds = ap (λ (w : State). w.rounds) c.self-2.view_is ∙ c.in_ok-parts.ensures.rounds in
+    omega (arith, rounds, later)
+
+pub returns-clause-domain : goal.returns-clause-domain
+returns-clause-domain g c = ap (λ (w : State). w.domain) c.self-2.view_is ∙ c.in_ok-parts.ensures.domain ∙ ap (λ (w : State). w.domain) c.self.view_is
+
+pub play-requires-clause-placed : goal.play-requires-clause-placed
+play-requires-clause-placed g c =
+    let old : State = record { domain = c.self.inside.nodes.domain; aps = c.self.inside.nodes.aps; stas = c.self.inside.nodes.stas; rows = c.self.inside.nodes.rows; frames = c.self.inside.frames.items; rounds = c.self.inside.rounds; usable = c.self.inside.usable } in
+    λ κs bounds. placed_unusable old c.args.self.now false c.args.journal.now.entries c.self.view_is c.requires.own.placed
+
+pub overflow_add-round : goal.overflow_add-round
+overflow_add-round g c =
+    let old = c.args.self.now in
+    let rounds : c.self.inside.rounds ≡ old.rounds = ap (λ (w : State). w.rounds) c.self.view_is in
+    let later : c.self-2.inside.rounds ≡ c.self.inside.rounds = ap (λ (w : State). w.rounds) c.self-2.view_is ∙ c.in_ok-parts.ensures.rounds in
+    omega (arith, rounds, later, c.requires.few)

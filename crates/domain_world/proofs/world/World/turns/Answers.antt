@@ -1,9 +1,11 @@
-use Rattle.std.proofs.Common.{◌∙◌, ◌++◌, [], ◌∷◌, suc, List, map, sym, ap, length, arith}
-use Rattle.std.proofs.lemmas.List.{length-map}
+use Rattle.std.proofs.Common.{◌∙◌, ◌++◌, [], ◌∷◌, suc, List, map, sym, ap, subst, length, arith}
+use Rattle.std.proofs.lemmas.List.{length-map, take_all}
 use Rattle.run_journal.specs.declared.domain.Event.{Event}
-use Rattle.domain_world.specs.Working.{IsTurn}
+use Rattle.domain_world.specs.Working.{IsTurn, IsComing}
+use Rattle.domain_world.specs.Acting.{IsChanged}
+use Rattle.domain_world.specs.declared.world.Coming.{Coming}
 use Rattle.domain_world.proofs.Played.{event_in, listed_at, index_map, map_taken}
-use Rattle.domain_world.proofs.Turning.{map_more, all_more, comes_there}
+use Rattle.domain_world.proofs.Turning.{map_more, all_more, all_at, comes_there}
 use Rattle.domain_world.proofs.world.World.turns.Goals as goal
 
 pub comes-comes-requires-clause-event : goal.comes-comes-requires-clause-event
@@ -29,3 +31,13 @@ loop-coming-preserved c =
       map_more (λ t. t.event.now) c.loop-coming.turns.items _ _ pushed ∙ ap (λ (l : List Event). l ++ event ∷ []) held.0 ∙ sym (map_taken (λ x. x.event.now) comings i coming low c.coming-item.is),
       all_more (IsTurn d j (suc c.args.self.now.rounds)) c.loop-coming.turns.items _ _ pushed held.1 (c.comes-comes.ensures, (listed_at d sent j event within, comes_there d sent j event _ within)),
     )
+
+pub returns-clause-events : goal.returns-clause-events
+returns-clause-events c = c.loop-coming.invariant.0 ∙ ap (map (λ (x : Coming). x.event.now)) (take_all c.loop-coming.coming-index c.args.comings.now (omega (arith, c.loop-coming-test.false)))
+
+pub comes-comes-requires-clause-changed : goal.comes-comes-requires-clause-changed
+comes-comes-requires-clause-changed c =
+    let j = c.args.journal.now.entries in
+    let r = suc c.args.self.now.rounds in
+    subst (IsChanged c.coming-item.result.event.now j r) (sym c.as_slice.ensures.value)
+    (all_at (IsComing j r) c.args.comings.now c.loop-coming.coming-index c.coming-item.result c.requires.changed c.loop-coming-test.true c.coming-item.is)

@@ -1,18 +1,24 @@
-use Rattle.std.proofs.Common.{rules, List, refl, sym, ap, subst, ◌∙◌}
+use Rattle.std.proofs.Common.{◌<◌, ℕ, length, List, refl, sym, ap, subst, ◌∙◌}
 use Rattle.domain_base.specs.declared.names.Node.TheVariants.{Ap, Sta}
 use Rattle.rsn_elements.specs.Fields.{element_fields}
 use Rattle.frame_intake.specs.Views.{management_fields}
 use Rattle.node_base.specs.Ends.{AreEnds}
 use Rattle.supplicant.specs.Bases.{NamesHolder, IsBaseOf}
-use Rattle.station_node.specs.State.{State, memory_at}
+use Rattle.station_node.specs.State.{State, HavePlaces, memory_at}
 use Rattle.station_node.proofs.Beginning.{associated_state}
 use Rattle.station_node.proofs.Placed.{held_stays}
 use Rattle.station_node.proofs.Responding.{names_holder, based_on}
 use Rattle.station_node.proofs.Taken.{taken-response}
 use Rattle.station_node.proofs.station.StationNode.associate.Goals as goal
 
+pub invariant_of-self : goal.invariant_of-self
+invariant_of-self c = subst (λ (l : List _). HavePlaces c.self.inside.attempt c.self.inside.session l) (sym c.in_err-take_accepted.ensures.err) c.self.invariant
+
+pub begin-supplicant-requires-clause-sta : goal.begin-supplicant-requires-clause-sta
+begin-supplicant-requires-clause-sta c = subst (λ (t : State). t.number < length c.args.here.domain.now.stas) (sym c.self.view_is) c.requires.listed
+
 pub invariant_of-self-2 : goal.invariant_of-self-2
-invariant_of-self-2 c = record { tried = search rules; held = held_stays c.self.inside.session c.self.inside.memories.items c.take_accepted.new.memories.items c.take_accepted.ensures.more c.self.invariant.held }
+invariant_of-self-2 c = record { tried = subst (λ (n : ℕ). c.args.ap < n) c.take_accepted.new.memories.ok.0 c.in_ok-take_accepted.ensures.place; held = held_stays c.self.inside.session c.self.inside.memories.items c.take_accepted.new.memories.items c.take_accepted.ensures.more c.self.invariant.held }
 
 pub begin-supplicant-requires-clause-holder : goal.begin-supplicant-requires-clause-holder
 begin-supplicant-requires-clause-holder c =
@@ -41,3 +47,9 @@ returns c =
     (λ k. c.take_accepted.ensures.same k ∙ ap (λ (t : State). memory_at t.memories k) c.self.view_is)
     (ap (λ (t : State). associated_state t c.args.ap c.begin-supplicant.result c.take_accepted.new.memories.items) c.self.view_is)
     refl c.in_ok-take_accepted.ensures.acts
+
+pub begin-supplicant-requires-clause-form : goal.begin-supplicant-requires-clause-form
+begin-supplicant-requires-clause-form c = c.requires.form
+
+pub begin-supplicant-requires-clause-ap : goal.begin-supplicant-requires-clause-ap
+begin-supplicant-requires-clause-ap c = c.requires.ap

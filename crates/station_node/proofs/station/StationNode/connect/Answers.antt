@@ -7,7 +7,7 @@ use Rattle.run_journal.specs.declared.acts.Start.TheVariants.{Connect}
 use Rattle.run_journal.specs.declared.acts.Outcome.TheVariants.{Done, Idle as IdleBy}
 use Rattle.run_journal.specs.declared.acts.Why.TheVariants.{Spent}
 use Rattle.domain_rules.specs.Frames.{sent_assoc_req}
-use Rattle.domain_rules.specs.Network.{nonce}
+use Rattle.domain_rules.specs.Network.{nonce, IsListed}
 use Rattle.domain_rules.specs.Rows.{Begin}
 use Rattle.domain_rules.specs.Closing.{close_pending, close_associated}
 use Rattle.station_node.specs.State.{State}
@@ -38,3 +38,6 @@ returns c =
     (taken-asked d s _ c.args.ap v request c.args.out.now.acts closed opened drew c.ask.new.out.acts c.requires.ap (omega arith)
     (c.nonce-snonce.ensures ∙ ap (λ (n : Node). nonce d n s.drawn) node_is) refl refl refl refl refl
     (c.in_ok-ask.ensures.acts ∙ ap (λ (n : Node). drew ++ sent_assoc_req d n (Ap c.args.ap) ∷ []) node_is))
+
+pub ask-requires-clause-station : goal.ask-requires-clause-station
+ask-requires-clause-station c = subst (λ (n : Node). IsListed c.args.here.domain.now n) (sym c.requires.node) c.requires.listed

@@ -5,12 +5,12 @@ use Rattle.run_journal.specs.declared.acts.Why.TheVariants.{NoKey}
 use Rattle.run_journal.specs.declared.acts.Outcome.TheVariants.{Idle as IdleBy}
 use Rattle.domain_rules.specs.Rows.{Send}
 use Rattle.station_node.specs.declared.session.Session.{Session}
-use Rattle.station_node.specs.State.{State}
+use Rattle.station_node.specs.State.{State, HavePlaces}
 use Rattle.station_node.specs.Parts.{peer_of_session, IsElsewhere}
 use Rattle.station_node.specs.Steps.{Takes, turn}
 use Rattle.station_node.specs.contracts.station.StationNode.{the_view}
 use Rattle.station_node.proofs.Handed.{held_state}
-use Rattle.station_node.proofs.Placed.{no_session_there, other_session}
+use Rattle.station_node.proofs.Placed.{held_place, no_session_there, other_session}
 use Rattle.station_node.proofs.Taken.{takes_by}
 use Rattle.station_node.proofs.Protected.{takes-sent, not_sent, other_receiver, takes_named}
 use Rattle.station_node.proofs.station.StationNode.send.Goals.{in-Some, in_default, in_default-via-in-Some+else-ap-with, in_default-via-in_default}
@@ -45,4 +45,20 @@ returns c =
             | in_default-via-in-Some+else-ap-with v ↦ nothing (ap the_view v.self-inside-is ∙ ap (as_was c) (sym v.in-Some.is) ∙ c.self.view_is) (other_session c.self.inside.session v.in-Some.field-0 c.receiver_number-with.result v.in-Some.is v.if-ap-with.false)
             | in_default-via-in_default v ↦ nothing (ap the_view v.self-inside-is ∙ c.self.view_is) (no_session_there c.self.inside.session c.receiver_number-with.result v.in_default.is)
           ])
+    ]
+
+-- the places that such a station has
+abbrev places : State → Type 0
+places y = HavePlaces y.attempt y.session y.memories
+
+pub invariant_of-self : goal.invariant_of-self
+invariant_of-self c =
+    let with_session = λ (x : Option Session). HavePlaces c.self.inside.attempt x c.self.inside.memories.items in
+    elim c.match-self.branch [
+      | in-Some w ↦ subst places (sym (ap the_view w.self-inside-is))
+          (record { tried = c.self.invariant.tried; held = held_place c.self.inside.session w.in-Some.field-0 c.self.inside.memories.items w.in-Some.is c.self.invariant.held })
+      | in_default w ↦ subst places (sym (ap the_view w.self-inside-is)) (elim w.in_default.branch [
+        | in_default-via-in-Some+else-ap-with v ↦ subst places (sym (ap the_view v.self-inside-is)) (subst with_session v.in-Some.is c.self.invariant)
+        | in_default-via-in_default v ↦ subst places (sym (ap the_view v.self-inside-is)) c.self.invariant
+      ])
     ]

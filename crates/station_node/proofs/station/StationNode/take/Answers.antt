@@ -13,6 +13,9 @@ number_of-requires c = judged-ap c.args.here.domain.now c.args.here.node c.args.
 pub number_of-requires-in-Keyed : goal.number_of-requires-in-Keyed
 number_of-requires-in-Keyed c = judged-ap c.args.here.domain.now c.args.here.node c.args.self.now.number c.in-Keyed.from c.in-Keyed.ensures.2 c.requires.node
 
+pub number_of-requires-in-Sealed : goal.number_of-requires-in-Sealed
+number_of-requires-in-Sealed c = judged-ap c.args.here.domain.now c.args.here.node c.args.self.now.number c.in-Sealed.from c.in-Sealed.ensures.2 c.requires.node
+
 pub take_management-requires-clause-ap : goal.take_management-requires-clause-ap
 take_management-requires-clause-ap c = judged-listed c.args.here.domain.now c.args.here.node c.args.self.now.number c.number_of.result c.in-Managed.from c.in-Managed.ensures.2 c.number_of.ensures c.requires.node
 
@@ -42,3 +45,12 @@ returns-in-Sealed c =
     let p = c.number_of-in-Sealed.result in
     c.take_data.ensures d (judged-listed d c.args.here.node c.args.self.now.number p c.in-Sealed.from c.in-Sealed.ensures.2 c.number_of-in-Sealed.ensures c.requires.node)
     (judged-sealed d c.args.here.node c.args.self.now.number p c.args.octets.now (reading_of c.read-delivered.result) c.in-Sealed.frame c.in-Sealed.from c.in-Sealed.ensures c.read-delivered.ensures.reads c.number_of-in-Sealed.ensures c.requires.node)
+
+pub take_message-requires-clause-listed : goal.take_message-requires-clause-listed
+take_message-requires-clause-listed c = c.requires.listed
+
+pub take_message-requires-clause-node : goal.take_message-requires-clause-node
+take_message-requires-clause-node c = c.requires.node
+
+pub take_management-requires-clause-listed : goal.take_management-requires-clause-listed
+take_management-requires-clause-listed c = c.requires.listed

@@ -3,22 +3,31 @@ use Rattle.std.specs.Prelude.{IfOk}
 use Rattle.domain_base.specs.declared.names.Node.{Node}
 use Rattle.domain_base.specs.declared.names.Node.TheVariants.{Ap, Sta}
 use Rattle.rsn_elements.specs.Fields.{element_fields}
+use Rattle.domain_rules.specs.Network.{IsListed}
+use Rattle.node_base.specs.Peers.{IsPeerOf}
 use Rattle.domain_rules.specs.Rows.{Take}
 use Rattle.frame_intake.specs.Views.{management_fields}
 use Rattle.ft_exchange.specs.Comes.{IsManagementFrom}
 use Rattle.ft_exchange.specs.Exchange.{both}
 use Rattle.station_node.specs.declared.attempt.Attempt.{Attempt}
 use Rattle.station_node.specs.declared.moving.Way.{Way}
-use Rattle.station_node.specs.State.{State}
+use Rattle.station_node.specs.State.{State, HavePlaces}
 use Rattle.station_node.specs.Moved.{IsAnswered, move}
 use Rattle.station_node.specs.Parts.{IsNotMoving}
 use Rattle.station_node.specs.Steps.{Takes, turn}
 use Rattle.station_node.specs.contracts.station.StationNode.{the_view}
 use Rattle.station_node.proofs.Arriving.{moving_state}
+use Rattle.station_node.proofs.Placed.{moving_place}
 use Rattle.station_node.proofs.Protected.{takes_named}
 use Rattle.station_node.proofs.Reached.{none_moving, other_moving, not_moving, refused-auth, takes-answered}
 use Rattle.station_node.proofs.station.StationNode.take_auth.Goals.{in-Some+in-Moving, in-Some+in_default-association, in_default, in_default-via-in-Some+else-with-ap, in_default-via-in_default}
 use Rattle.station_node.proofs.station.StationNode.take_auth.Goals as goal
+
+pub answer-requires-clause-listed : goal.answer-requires-clause-listed
+answer-requires-clause-listed c = subst (λ (n : Node). IsListed c.args.here.domain.now n) (sym c.requires.node) c.requires.listed
+
+pub answer-requires-clause-peer : goal.answer-requires-clause-peer
+answer-requires-clause-peer c = subst (λ (n : Node). IsPeerOf c.args.here.domain.now n (Ap c.args.ap)) (sym c.requires.node) c.requires.ap
 
 -- the station as it was, for one with that attempt
 abbrev as_was : (c : goal.Joined-self) → Option Attempt → State
@@ -64,4 +73,21 @@ returns c =
             | in_default-via-in-Some+else-with-ap v ↦ nothing (ap the_view v.self-inside-is ∙ ap (as_was c) (sym v.in-Some.is) ∙ c.self.view_is) (other_moving c.self.inside.attempt v.in-Some.field-0 c.args.ap v.in-Some.is v.if-with-ap.false)
             | in_default-via-in_default v ↦ nothing (ap the_view v.self-inside-is ∙ c.self.view_is) (none_moving c.self.inside.attempt c.args.ap v.in_default.is)
           ])
+    ]
+
+-- the places that such a station has
+abbrev places : State → Type 0
+places y = HavePlaces y.attempt y.session y.memories
+
+pub invariant_of-self : goal.invariant_of-self
+invariant_of-self c =
+    let with_attempt = λ (o : Option Attempt). HavePlaces o c.self.inside.session c.self.inside.memories.items in
+    elim c.match-self.branch [
+      | in-Some+in-Moving w ↦ subst places (sym (ap the_view w.self-inside-is))
+          (record { tried = moving_place c.self.inside.attempt w.in-Some.field-0 w.in-Moving.originator c.self.inside.memories.items w.in-Some.is w.in-Moving.is c.self.invariant.tried; held = c.self.invariant.held })
+      | in-Some+in_default-association w ↦ subst places (sym (ap the_view w.self-inside-is)) (subst with_attempt w.in-Some.is c.self.invariant)
+      | in_default w ↦ subst places (sym (ap the_view w.self-inside-is)) (elim w.in_default.branch [
+        | in_default-via-in-Some+else-with-ap v ↦ subst places (sym (ap the_view v.self-inside-is)) (subst with_attempt v.in-Some.is c.self.invariant)
+        | in_default-via-in_default v ↦ subst places (sym (ap the_view v.self-inside-is)) c.self.invariant
+      ])
     ]

@@ -1,18 +1,31 @@
-use Rattle.std.proofs.Common.{◌≡◌, Option, sym, ap, subst, ◌∙◌}
+use Rattle.std.proofs.Common.{◌≡◌, Option, sym, ap, subst, ◌∙◌, arith}
 use Rattle.std.specs.Prelude.{slice_set}
 use Rattle.run_journal.specs.declared.domain.Domain.{Domain}
 use Rattle.domain_rules.specs.Rows.{Take}
 use Rattle.frame_intake.specs.Views.{sealed_fields}
 use Rattle.station_node.specs.declared.session.Session.{Session}
-use Rattle.station_node.specs.State.{State}
+use Rattle.station_node.specs.State.{State, HavePlaces}
 use Rattle.station_node.specs.Parts.{peer_of_session, IsElsewhere}
 use Rattle.station_node.specs.Steps.{Takes, turn, IsDataFrom}
 use Rattle.station_node.specs.contracts.station.StationNode.{the_view}
 use Rattle.station_node.proofs.Handed.{held_state}
-use Rattle.station_node.proofs.Placed.{no_session_there, other_session}
+use Rattle.station_node.proofs.Placed.{held_place, held_places, no_session_there, other_session}
 use Rattle.station_node.proofs.Protected.{takes-pairwise, takes-group, refused-no_session}
 use Rattle.station_node.proofs.station.StationNode.take_data.Goals.{in_default-via-in-Some+else-with-ap, in_default-via-in_default}
 use Rattle.station_node.proofs.station.StationNode.take_data.Goals as goal
+
+pub index_mut-kept-requires : goal.index_mut-kept-requires
+index_mut-kept-requires c = omega (arith, c.from.ensures, c.if-with-ap.true, held_place c.self.inside.session c.in-Some.field-0 c.self.inside.memories.items c.in-Some.is c.self.invariant.held)
+
+pub invariant_of-self-then-with-ap : goal.invariant_of-self-then-with-ap
+invariant_of-self-then-with-ap c = record { tried = c.self.invariant.tried; held = held_place c.self.inside.session c.in-Some.field-0 c.self.inside.memories.items c.in-Some.is c.self.invariant.held }
+
+pub invariant_of-self : goal.invariant_of-self
+invariant_of-self c =
+    held_places c.self.inside.attempt c.self.inside.session c.in-Some.field-0 _ _ c.self.inside.memories.items c.from.result c.take_group.new.memory c.in-Some.is c.self.invariant
+
+pub invariant_of-self-else-with-ap : goal.invariant_of-self-else-with-ap
+invariant_of-self-else-with-ap c = subst (λ (x : Option Session). HavePlaces c.self.inside.attempt x c.self.inside.memories.items) c.in-Some.is c.self.invariant
 
 pub returns-then-is_group : goal.returns-then-is_group
 returns-then-is_group c = λ d low m.

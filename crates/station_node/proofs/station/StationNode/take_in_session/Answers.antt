@@ -1,21 +1,29 @@
-use Rattle.std.proofs.Common.{◌≡◌, Option, refl, sym, ap, subst, ◌∙◌}
+use Rattle.std.proofs.Common.{◌≡◌, Option, refl, sym, ap, subst, ◌∙◌, arith}
 use Rattle.domain_base.specs.declared.names.Node.{Node}
 use Rattle.domain_base.specs.declared.names.Node.TheVariants.{Ap, Sta}
 use Rattle.domain_rules.specs.Replies.{IsMessageFrom}
+use Rattle.domain_rules.specs.Network.{IsListed}
+use Rattle.node_base.specs.Peers.{IsPeerOf}
 use Rattle.domain_rules.specs.Rows.{Take}
 use Rattle.std.specs.Prelude.{slice_set}
 use Rattle.frame_intake.specs.Views.{message_fields}
 use Rattle.supplicant.specs.State.{both}
 use Rattle.station_node.specs.declared.session.Session.{Session}
-use Rattle.station_node.specs.State.{State}
+use Rattle.station_node.specs.State.{State, HavePlaces}
 use Rattle.station_node.specs.Parts.{peer_of_session, IsElsewhere}
 use Rattle.station_node.specs.Steps.{IsTaken, Takes, turn}
 use Rattle.station_node.specs.Handed.{IsHanded, handing}
 use Rattle.station_node.specs.contracts.station.StationNode.{the_view}
 use Rattle.station_node.proofs.Handed.{held_state}
-use Rattle.station_node.proofs.Placed.{takes_nothing, left-held, held_places, handed-held, no_session_there, other_session, refused-nowhere}
+use Rattle.station_node.proofs.Placed.{takes_nothing, left-held, held_place, held_places, handed-held, no_session_there, other_session, refused-nowhere}
 use Rattle.station_node.proofs.station.StationNode.take_in_session.Goals.{in_default-via-in-Some+else-with-ap, in_default-via-in_default}
 use Rattle.station_node.proofs.station.StationNode.take_in_session.Goals as goal
+
+pub hand-requires-clause-listed : goal.hand-requires-clause-listed
+hand-requires-clause-listed c = subst (λ (n : Node). IsListed c.args.here.domain.now n) (sym c.requires.node) c.requires.listed
+
+pub hand-requires-clause-peer : goal.hand-requires-clause-peer
+hand-requires-clause-peer c = subst (λ (n : Node). IsPeerOf c.args.here.domain.now n (Ap c.args.ap)) (sym c.requires.node) c.requires.ap
 
 pub returns-in_err-came-in-Some : goal.returns-in_err-came-in-Some
 returns-in_err-came-in-Some c =
@@ -24,6 +32,16 @@ returns-in_err-came-in-Some c =
     takes_nothing c.args.here.domain.now (Take c.args.heard.now.octets.now) (turn c.args.self.now (held_state s c.in-Some.field-0.ap c.hand.new.supplicant c.in-Some.field-0.key (slice_set s.memories c.from.result c.hand.new.memory)) c.args.out.now.acts c.hand.new.out.acts) c.from_residual.result c.from_residual.ensures.0
     (left-held s c.in-Some.field-0 c.from.result c.in-Some.field-0.supplicant c.hand.new.supplicant c.index_mut-kept.result.now c.hand.new.memory c.in-Some.is refl same.0 same.1 c.index_mut-kept.ensures.value ∙ c.self.view_is)
     c.in_err-came-in-Some.ensures.kept
+
+pub index_mut-kept-requires : goal.index_mut-kept-requires
+index_mut-kept-requires c = omega (arith, c.from.ensures, c.if-with-ap.true, held_place c.self.inside.session c.in-Some.field-0 c.self.inside.memories.items c.in-Some.is c.self.invariant.held)
+
+pub invariant_of-self : goal.invariant_of-self
+invariant_of-self c =
+    held_places c.self.inside.attempt c.self.inside.session c.in-Some.field-0 c.hand.new.supplicant _ c.self.inside.memories.items c.from.result c.hand.new.memory c.in-Some.is c.self.invariant
+
+pub invariant_of-self-else-with-ap : goal.invariant_of-self-else-with-ap
+invariant_of-self-else-with-ap c = subst (λ (x : Option Session). HavePlaces c.self.inside.attempt x c.self.inside.memories.items) c.in-Some.is c.self.invariant
 
 pub invariant_of-self-then-with-ap : goal.invariant_of-self-then-with-ap
 invariant_of-self-then-with-ap c =

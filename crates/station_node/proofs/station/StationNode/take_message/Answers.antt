@@ -1,9 +1,11 @@
-use Rattle.std.proofs.Common.{◌≡◌, Option, refl, sym, ap, subst, ◌∙◌}
+use Rattle.std.proofs.Common.{◌≡◌, ◌<◌, length, Option, refl, sym, ap, subst, ◌∙◌, arith}
 use Rattle.domain_base.specs.declared.names.Node.{Node}
 use Rattle.domain_base.specs.declared.names.Node.TheVariants.{Ap, Sta}
 use Rattle.run_journal.specs.declared.acts.Outcome.TheVariants.{Refused}
 use Rattle.run_journal.specs.declared.acts.Reason.TheVariants as reason
 use Rattle.domain_rules.specs.Replies.{IsMessageFrom}
+use Rattle.domain_rules.specs.Network.{IsListed}
+use Rattle.node_base.specs.Peers.{IsPeerOf}
 use Rattle.domain_rules.specs.Rows.{Take}
 use Rattle.std.specs.Prelude.{slice_set}
 use Rattle.frame_intake.specs.Views.{message_fields}
@@ -11,15 +13,32 @@ use Rattle.supplicant.specs.State.{both}
 use Rattle.data_frames.specs.Holding.{fresh_key}
 use Rattle.station_node.specs.declared.attempt.Attempt.{Attempt}
 use Rattle.station_node.specs.declared.attempt.Association.TheVariants.{Requested, Moving}
-use Rattle.station_node.specs.State.{State}
+use Rattle.station_node.specs.State.{State, HavePlaces}
+use Rattle.station_node.specs.Parts.{peer_of_attempt, IsElsewhere}
 use Rattle.station_node.specs.Steps.{IsTaken, Takes, turn}
 use Rattle.station_node.specs.Handed.{IsHanded, handing}
 use Rattle.station_node.specs.contracts.station.StationNode.{the_view}
 use Rattle.station_node.proofs.Handed.{tried_state}
-use Rattle.station_node.proofs.Placed.{whole_attempt, takes_nothing, left-tried, tried_places, finished_places, handed-tried, handed-finished, takes_same_old}
+use Rattle.station_node.proofs.Roamed.{no_attempt_there, other_attempt}
+use Rattle.station_node.proofs.Placed.{accepted_place, whole_attempt, takes_nothing, left-tried, tried_places, finished_places, handed-tried, handed-finished, takes_same_old}
 use Rattle.station_node.proofs.Taken.{takes_by, taken-requested, taken-roamed}
 use Rattle.station_node.proofs.station.StationNode.take_message.Goals.{in_default-via-in-Some+else-with-ap, in_default-via-in_default}
 use Rattle.station_node.proofs.station.StationNode.take_message.Goals as goal
+
+pub index_mut-memory-requires : goal.index_mut-memory-requires
+index_mut-memory-requires c = omega (arith, c.from.ensures, c.if-with-ap.true, accepted_place c.self.inside.attempt c.in-Some.field-0 c.in-Accepted.supplicant c.self.inside.memories.items c.in-Some.is c.in-Accepted.is c.self.invariant.tried)
+
+pub hand-requires-clause-listed : goal.hand-requires-clause-listed
+hand-requires-clause-listed c = subst (λ (n : Node). IsListed c.args.here.domain.now n) (sym c.requires.node) c.requires.listed
+
+pub hand-requires-clause-peer : goal.hand-requires-clause-peer
+hand-requires-clause-peer c = subst (λ (n : Node). IsPeerOf c.args.here.domain.now n (Ap c.args.ap)) (sym c.requires.node) c.requires.ap
+
+pub invariant_of-self : goal.invariant_of-self
+invariant_of-self c = subst (λ (o : Option Attempt). HavePlaces o c.self.inside.session c.self.inside.memories.items) c.in-Some.is c.self.invariant
+
+pub invariant_of-self-in-Moving : goal.invariant_of-self-in-Moving
+invariant_of-self-in-Moving c = subst (λ (o : Option Attempt). HavePlaces o c.self.inside.session c.self.inside.memories.items) c.in-Some.is c.self.invariant
 
 pub returns-in_err-came-in-Accepted : goal.returns-in_err-came-in-Accepted
 returns-in_err-came-in-Accepted c =
@@ -28,6 +47,10 @@ returns-in_err-came-in-Accepted c =
     takes_nothing c.args.here.domain.now (Take c.args.heard.now.octets.now) (turn c.args.self.now (tried_state s c.in-Some.field-0.ap c.hand.new.supplicant (slice_set s.memories c.from.result c.hand.new.memory)) c.args.out.now.acts c.hand.new.out.acts) c.from_residual.result c.from_residual.ensures.0
     (left-tried s c.in-Some.field-0 c.from.result c.in-Accepted.supplicant c.hand.new.supplicant c.index_mut-memory.result.now c.hand.new.memory c.in-Some.is c.in-Accepted.is same.0 same.1 c.index_mut-memory.ensures.value ∙ c.self.view_is)
     c.in_err-came-in-Accepted.ensures.kept
+
+pub invariant_of-self-in_err-came-in-Accepted : goal.invariant_of-self-in_err-came-in-Accepted
+invariant_of-self-in_err-came-in-Accepted c =
+    tried_places c.self.inside.attempt c.self.inside.session c.in-Some.field-0 c.in-Accepted.supplicant c.hand.new.supplicant c.self.inside.memories.items c.from.result c.hand.new.memory c.in-Some.is c.in-Accepted.is c.self.invariant
 
 pub invariant_of-self-in-Some-installed : goal.invariant_of-self-in-Some-installed
 invariant_of-self-in-Some-installed c =
@@ -107,3 +130,31 @@ returns-in_default c = elim c.in_default.branch [
   | in_default-via-in-Some+else-with-ap w ↦ elsewhere c (w.self-is ∙ ap (as_was c) (sym w.in-Some.is) ∙ c.self.view_is)
   | in_default-via-in_default w ↦ elsewhere c (w.self-is ∙ c.self.view_is)
 ]
+
+-- the station that is handed on is the one that it was
+pub take_in_session-requires-clause-listed : goal.take_in_session-requires-clause-listed
+take_in_session-requires-clause-listed c = elim c.in_default.branch [
+  | in_default-via-in-Some+else-with-ap w ↦ subst (λ (t : State). t.number < length c.args.here.domain.now.stas) (sym (w.self-is ∙ ap (λ (o : Option Attempt). the_view (record { number = c.self.inside.number; drawn = c.self.inside.drawn; attempt = o; session = c.self.inside.session; memories = c.self.inside.memories; r0kh_id = c.self.inside.r0kh_id })) (sym w.in-Some.is) ∙ c.self.view_is)) c.requires.listed
+  | in_default-via-in_default w ↦ subst (λ (t : State). t.number < length c.args.here.domain.now.stas) (sym (w.self-is ∙ c.self.view_is)) c.requires.listed
+]
+
+pub take_in_session-requires-clause-node : goal.take_in_session-requires-clause-node
+take_in_session-requires-clause-node c = elim c.in_default.branch [
+  | in_default-via-in-Some+else-with-ap w ↦ subst (λ (t : State). c.args.here.node ≡ Sta t.number) (sym (w.self-is ∙ ap (λ (o : Option Attempt). the_view (record { number = c.self.inside.number; drawn = c.self.inside.drawn; attempt = o; session = c.self.inside.session; memories = c.self.inside.memories; r0kh_id = c.self.inside.r0kh_id })) (sym w.in-Some.is) ∙ c.self.view_is)) c.requires.node
+  | in_default-via-in_default w ↦ subst (λ (t : State). c.args.here.node ≡ Sta t.number) (sym (w.self-is ∙ c.self.view_is)) c.requires.node
+]
+
+pub take_in_session-requires-clause-message : goal.take_in_session-requires-clause-message
+take_in_session-requires-clause-message c = elim c.in_default.branch [
+  | in_default-via-in-Some+else-with-ap w ↦ subst (λ (t : State). IsMessageFrom c.args.here.domain.now (Sta t.number) (Ap c.args.ap) c.args.heard.now.octets.now (message_fields c.args.heard.now.message)) (sym (w.self-is ∙ ap (λ (o : Option Attempt). the_view (record { number = c.self.inside.number; drawn = c.self.inside.drawn; attempt = o; session = c.self.inside.session; memories = c.self.inside.memories; r0kh_id = c.self.inside.r0kh_id })) (sym w.in-Some.is) ∙ c.self.view_is)) c.requires.message
+  | in_default-via-in_default w ↦ subst (λ (t : State). IsMessageFrom c.args.here.domain.now (Sta t.number) (Ap c.args.ap) c.args.heard.now.octets.now (message_fields c.args.heard.now.message)) (sym (w.self-is ∙ c.self.view_is)) c.requires.message
+]
+
+pub take_in_session-requires-clause-elsewhere : goal.take_in_session-requires-clause-elsewhere
+take_in_session-requires-clause-elsewhere c = elim c.in_default.branch [
+  | in_default-via-in-Some+else-with-ap w ↦ subst (λ (t : State). IsElsewhere (peer_of_attempt t.attempt) c.args.ap) (sym (w.self-is ∙ ap (λ (o : Option Attempt). the_view (record { number = c.self.inside.number; drawn = c.self.inside.drawn; attempt = o; session = c.self.inside.session; memories = c.self.inside.memories; r0kh_id = c.self.inside.r0kh_id })) (sym w.in-Some.is))) (other_attempt c.self.inside.attempt w.in-Some.field-0 c.args.ap w.in-Some.is w.if-with-ap.false)
+  | in_default-via-in_default w ↦ subst (λ (t : State). IsElsewhere (peer_of_attempt t.attempt) c.args.ap) (sym w.self-is) (no_attempt_there c.self.inside.attempt c.args.ap w.in_default.is)
+]
+
+pub invariant_of-self-else-with-ap : goal.invariant_of-self-else-with-ap
+invariant_of-self-else-with-ap c = subst (λ (o : Option Attempt). HavePlaces o c.self.inside.session c.self.inside.memories.items) c.in-Some.is c.self.invariant

@@ -1,24 +1,60 @@
-use Rattle.std.proofs.Common.{◌≡◌, Option, refl, sym, ap, subst, ◌∙◌}
+use Rattle.std.proofs.Common.{◌≡◌, ◌<◌, length, Option, refl, sym, ap, subst, ◌∙◌, arith}
 use Rattle.std.specs.Prelude.{slice_set}
 use Rattle.domain_base.specs.declared.names.Node.{Node}
 use Rattle.domain_base.specs.declared.names.Node.TheVariants.{Ap, Sta}
 use Rattle.rsn_elements.specs.Fields.{element_fields}
+use Rattle.domain_rules.specs.Network.{IsListed}
+use Rattle.node_base.specs.Peers.{IsPeerOf}
 use Rattle.domain_rules.specs.Rows.{Take}
 use Rattle.frame_intake.specs.Views.{management_fields}
 use Rattle.ft_exchange.specs.Comes.{IsManagementFrom}
 use Rattle.ft_exchange.specs.Exchange.{both}
 use Rattle.station_node.specs.declared.attempt.Attempt.{Attempt}
 use Rattle.station_node.specs.declared.moving.Way.{Way}
-use Rattle.station_node.specs.State.{State}
+use Rattle.station_node.specs.State.{State, HavePlaces}
 use Rattle.station_node.specs.Moved.{IsArrived, move}
 use Rattle.station_node.specs.Parts.{IsNotMoving}
 use Rattle.station_node.specs.Steps.{IsTaken, Takes, turn}
 use Rattle.station_node.specs.contracts.station.StationNode.{the_view}
 use Rattle.station_node.proofs.Arriving.{moving_state}
-use Rattle.station_node.proofs.Placed.{moving_places, arrived_places}
+use Rattle.station_node.proofs.Placed.{moving_place, moving_places, arrived_places, takes_nothing}
+use Rattle.station_node.proofs.Roamed.{left-moving}
 use Rattle.station_node.proofs.Reached.{none_moving, other_moving, not_moving, refused-reassoc, with_session, handed-moving, handed-arrived}
 use Rattle.station_node.proofs.station.StationNode.take_reassoc.Goals.{in_default-via-in-Some+else-with-ap, in_default-via-in_default}
 use Rattle.station_node.proofs.station.StationNode.take_reassoc.Goals as goal
+
+pub arrive-requires-clause-listed : goal.arrive-requires-clause-listed
+arrive-requires-clause-listed c = subst (λ (n : Node). IsListed c.args.here.domain.now n) (sym c.requires.node) c.requires.listed
+
+pub arrive-requires-clause-peer : goal.arrive-requires-clause-peer
+arrive-requires-clause-peer c = subst (λ (n : Node). IsPeerOf c.args.here.domain.now n (Ap c.args.ap)) (sym c.requires.node) c.requires.ap
+
+pub transferred-session-requires-clause-ap : goal.transferred-session-requires-clause-ap
+transferred-session-requires-clause-ap c = c.requires.ap
+
+pub transferred-session-requires-clause-form : goal.transferred-session-requires-clause-form
+transferred-session-requires-clause-form c = c.requires.form
+
+pub index_mut-kept-requires : goal.index_mut-kept-requires
+index_mut-kept-requires c = omega (arith, c.from.ensures, c.if-with-ap.true, moving_place c.self.inside.attempt c.in-Some.field-0 c.in-Moving.originator c.self.inside.memories.items c.in-Some.is c.in-Moving.is c.self.invariant.tried)
+
+pub invariant_of-self-in_default-association : goal.invariant_of-self-in_default-association
+invariant_of-self-in_default-association c = subst (λ (o : Option Attempt). HavePlaces o c.self.inside.session c.self.inside.memories.items) c.in-Some.is c.self.invariant
+
+pub returns-in_err-came-in-Moving : goal.returns-in_err-came-in-Moving
+returns-in_err-came-in-Moving c =
+    let s = the_view c.self.inside in
+    let same = c.in_err-came-in-Moving.ensures.same in
+    takes_nothing c.args.here.domain.now (Take c.args.managed.now.octets.now) (turn c.args.self.now (moving_state s c.in-Some.field-0.ap c.arrive.new.originator (slice_set s.memories c.from.result c.arrive.new.memory)) c.args.out.now.acts c.arrive.new.out.acts) c.from_residual.result c.from_residual.ensures.0
+    (left-moving s c.in-Some.field-0 c.from.result c.in-Moving.originator c.arrive.new.originator c.index_mut-kept.result.now c.arrive.new.memory c.in-Some.is c.in-Moving.is same.0 same.1 c.index_mut-kept.ensures.value ∙ c.self.view_is)
+    c.in_err-came-in-Moving.ensures.kept
+
+pub invariant_of-self : goal.invariant_of-self
+invariant_of-self c =
+    moving_places c.self.inside.attempt c.self.inside.session c.in-Some.field-0 c.in-Moving.originator c.arrive.new.originator c.self.inside.memories.items c.from.result c.arrive.new.memory c.in-Some.is c.in-Moving.is c.self.invariant
+
+pub transferred-session-requires-clause-sta : goal.transferred-session-requires-clause-sta
+transferred-session-requires-clause-sta c = subst (λ (t : State). t.number < length c.args.here.domain.now.stas) (sym c.self.view_is) c.requires.listed
 
 pub invariant_of-self-in-Some-installed : goal.invariant_of-self-in-Some-installed
 invariant_of-self-in-Some-installed c =
@@ -96,3 +132,6 @@ returns-in_default c = elim c.in_default.branch [
   | in_default-via-in-Some+else-with-ap w ↦ nowhere c (w.self-is ∙ ap (as_was c) (sym w.in-Some.is) ∙ c.self.view_is) (other_moving c.self.inside.attempt w.in-Some.field-0 c.args.ap w.in-Some.is w.if-with-ap.false)
   | in_default-via-in_default w ↦ nowhere c (w.self-is ∙ c.self.view_is) (none_moving c.self.inside.attempt c.args.ap w.in_default.is)
 ]
+
+pub invariant_of-self-else-with-ap : goal.invariant_of-self-else-with-ap
+invariant_of-self-else-with-ap c = subst (λ (o : Option Attempt). HavePlaces o c.self.inside.session c.self.inside.memories.items) c.in-Some.is c.self.invariant
