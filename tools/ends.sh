@@ -2,6 +2,7 @@
 # How the program ends between its real streams: the number that it exits with, the whole of what it writes to standard output, and
 # the line on standard error; at each limit of a script, too, and one past it. It prints the cases that are wrong and a last line with
 # counts; its status is 0 where none is wrong.
+# Whole scripts with their reports, and lines that are refused, stand in the files of `tools/ends`.
 # It runs the program that `rt ci` or `rt run` proved and built (or the one named by KEHTROP, as an unproved build), and does nothing
 # where there is none. Run it from anywhere in the repository.
 set -eu
@@ -68,17 +69,39 @@ printf 'domain 1\n' > "$work/least"
 printf 'end frames 0 accepted 0 answered 0 refused 0 ignored 0\nkeys installed 0 resumed 0 used 0 handed-up 0\npremises fresh yes no-collision yes unforged yes\n' > "$work/nothing"
 ends 0 "" "$work/nothing" "$work/least" replay
 
-ends 1 "$usage" $none $none
-ends 1 "$usage" $none $none frob
-ends 1 "$usage" $none $none replay replay
-ends 1 "$usage" $none $none $'\xff'
-for words in "storm" "storm x" "storm -1" "storm 4294967296" "storm 00000000001" "storm 0 0" "live" "live x" "live -1" "live 80" "live 1023" "live 65001" "live 00000020000" "live 20000 20000" "--help" "-h" "help" "--version" "-V"; do
+# Words that are no command: nothing is written, and nothing read of what stands on standard input.
+passes_over() { # WORDS..
+    local ended=0
+    { "$program" "$@" > "$work/written" 2> "$work/said" || ended=$?; cat > "$work/unread"; } < "$stored/stdin"
+    if ! cmp -s "$stored/stdin" "$work/unread"; then ended="$ended, and read"; fi
+    judge 1 "$usage" $none "$ended" "$*"
+}
+passes_over
+passes_over $'\xff'
+passes_over storm ""
+for words in "frob" "x" "replay replay" "replay x" "Replay" "storm" "storm x" "storm -1" "storm +1" "storm 4294967296" "storm 00000000001" "storm 0 0" "storm 1 2" "Storm 1" "live" "live x" "live -1" "live 80" "live 1023" "live 65001" "live 00000020000" "live 20000 20000" "--help" "-h" "help" "help storm" "storm --help" "--version" "-V"; do
     # shellcheck disable=SC2086
-    ends 1 "$usage" $none $none $words
+    passes_over $words
 done
 
-# A storm writes its summary alone, whatever is on standard input.
-printf 'end frames 745 accepted 395 answered 8 refused 743 ignored 0\nkeys installed 88 resumed 2 used 52 handed-up 4\npremises fresh yes no-collision yes unforged yes\n' > "$work/storm"
+# A storm writes its summary alone, whatever is on standard input: here a folder, which cannot be read. The summaries are those that
+# another implementation makes.
+stormed() { # NUMBER FRAMES ACCEPTED ANSWERED REFUSED IGNORED INSTALLED RESUMED USED HANDED-UP
+    echo "end frames $2 accepted $3 answered $4 refused $5 ignored $6
+keys installed $7 resumed $8 used $9 handed-up ${10}
+premises fresh yes no-collision yes unforged yes" > "$work/storm"
+    ends 0 "" "$work/storm" / storm "$1"
+}
+stormed 1 737 367 3 756 0 104 1 62 3
+stormed 2 707 361 6 756 1 104 0 38 2
+stormed 3 778 406 1 714 1 137 0 46 3
+stormed 4 801 412 15 705 0 117 1 49 3
+stormed 5 739 364 7 718 0 127 1 58 2
+stormed 6 761 421 8 688 1 100 4 41 1
+stormed 7 794 432 7 667 1 70 1 47 2
+stormed 8 806 405 9 683 0 104 0 43 2
+stormed 9 794 408 9 694 0 105 2 43 1
+stormed 0 745 395 8 743 0 88 2 52 4
 ends 0 "" "$work/storm" $none storm 0
 ends 0 "" "$work/storm" "$stored/stdin" storm 0000000000
 
@@ -131,6 +154,51 @@ refuses 8 "sta 0200000000cc" "no such word here; the form is $events" "$work/beg
 ends 2 "line 10: the script ends in a round; the form is end" "$work/started" "$work/script" replay
 (head -n 7 "$work/header"; echo round; echo "leave s1") > "$work/script"
 ends 2 "line 9: no such word here; the form is $within" "$work/started" "$work/script" replay
+
+# Whole scripts behind a header, of lines with and without their ends.
+whole() { # NUMBER SAYS WRITES SCRIPT
+    printf '%b' "$4" > "$work/script"
+    ends "$1" "$2" "$3" "$work/script" replay
+}
+for script in '' '\n' '\r\n' 'domain 2\n' 'domain 1\r' 'domain 1\r\r\n'; do
+    whole 2 "line 1: not the first line of a script; the form is domain 1" $none "$script"
+done
+for script in '' '\n' '\r\n' '\n\n# a comment\n\r\n#'; do whole 0 "" "$work/nothing" "domain 1$script"; done
+ieee="domain 1\nseed 000102030405060708090a0b0c0d0e0f101112131415161718191a1b1c1d1e1f\nssid IEEE\n"
+for passphrase in 12345678 123456789012345678901234567890123456789012345678901234567890123; do
+    whole 0 "" "$work/nothing" "${ieee}passphrase $passphrase\n"
+done
+whole 2 "line 4: wrong arguments; the form is passphrase <8 to 63 octets>" $none "${ieee}passphrase 1234567890123456789012345678901234567890123456789012345678901234\n"
+psk="psk f42c6fc52df0ebef9ebb4b90b38a5f902e83fe1b135a70e23aed762e9710a12e\n"
+for lines in '' 'akm ft-psk\n' 'akm ft-psk\nmdid a1B2\n'; do whole 0 "" "$work/nothing" "$ieee$psk$lines"; done
+
+# The stored script without its last line feed; and with the other suite, its key, capital digits, a line more and carriage returns.
+head -c -1 "$stored/stdin" > "$work/script"
+ends 0 "" "$stored/stdout" "$work/script" replay
+sed -e '/^seed/{y/abcdef/ABCDEF/;s/^sEED/seed/;}' -e 's/^passphrase .*/psk f42c6fc52df0ebef9ebb4b90b38a5f902e83fe1b135a70e23aed762e9710a12e/' \
+    -e 's/^akm .*/akm psk-sha256/' -e 's/^sta /\n&/' "$stored/stdin" | sed 's/$/\r/' > "$work/script"
+ends 0 "" "$stored/stdout" "$work/script" replay
+
+# Lines behind both nodes, of which that one is refused.
+breaks() { # NUMBER-OF-LINE TEXT WRITES LINES
+    (head -n 7 "$work/header"; printf '%b' "$4") > "$work/script"
+    ends 2 "line $1: $2" "$3" "$work/script" replay
+}
+breaks 8 "wrong arguments; the form is connect <sta> <ap>" "$work/started" 'connect s1\n'
+breaks 8 "no such node, or a node of the other kind; the form is connect <sta> <ap>" "$work/started" 'connect a1 s1\n'
+breaks 8 "address or R0KH-ID used before; the form is sta <12 digits>" "$work/started" 'sta 0200000000bb\nconnect s1 a1\n'
+breaks 9 "no such frame was sent; the form is deliver <n> to <node>" "$work/begun" 'connect s1 a1\ndeliver 2 to a1\n'
+breaks 11 "place or length outside the frame; the form is cut <n> <length> to <node>" "$work/begun" 'connect s1 a1\n\n# one octet too many\ncut 1 62 to a1\n'
+for lines in 'round\n' 'round'; do breaks 9 "the script ends in a round; the form is end" "$work/started" "$lines"; done
+breaks 10 "no such node, or a node of the other kind; the form is rekey <ap>" "$work/started" 'round\nrekey a1\nrekey a2\nend\n'
+for lines in 'round\nconnect s1 a1\nend\n' 'round\nround\n' 'round\nleave s1\n'; do
+    breaks 9 "no such word here; the form is $within" "$work/started" "$lines"
+done
+breaks 10 "no such word here; the form is $events" "$work/started" 'round\nend\nsta 020000000012\n'
+breaks 10 "no such node, or a node of the other kind; the form is deliver <n> to <node>" "$work/begun" 'connect s1 a1\nround\ndeliver 1 to s1\n'
+breaks 11 "no such frame was sent; the form is deliver <n> to <node>" "$work/begun" 'connect s1 a1\nround\ndeliver 1 to a1\ndeliver 2 to a1\nend\n'
+breaks 11 "the script ends in a round; the form is end" "$work/begun" 'connect s1 a1\nround\ndeliver 1 to a1\n'
+breaks 8 "no such word here; the form is $later" "$work/started" '\xff\n'
 
 # A folder can be opened as standard input, and not read.
 ends 3 "the script could not be read" $none / replay
@@ -219,6 +287,42 @@ network 0 "" "$work/started_all" 16 64
 network 8 "more than 16 access points" "$work/sixteen" 17 0
 network 8 "more than 64 stations" "$work/started" 1 65
 
+# Lines behind as many access points, or stations, as there may be.
+many() { # NUMBER SAYS WRITES APS STAS LINES
+    (head -n 5 "$work/header"; nodes "$4" "$5"; printf '%b' "$6") > "$work/script"
+    ends "$1" "$2" "$3" "$work/script" replay
+}
+for line in 'ap fedcba987654 r0kh-16' 'ap 020000000101 r0kh-16' 'ap fedcba987654 r0kh-1'; do
+    many 8 "more than 16 access points" "$work/sixteen" 16 0 "$line\n"
+done
+for line in 'ap fedcba987654 r0kh 16' 'ap 010000000001 r0kh-16'; do
+    many 2 "line 22: wrong arguments; the form is ap <12 digits> <R0KH-ID of 1 to 48 octets>" "$work/sixteen" 16 0 "$line\n"
+done
+many 2 "line 22: address or R0KH-ID used before; the form is sta <12 digits>" "$work/sixteen" 16 0 'sta 02000000010f\n'
+(cat "$work/sixteen"; printf 'open s1 a16 connect\nsent 1 s1 a16 assoc-req 61\n') > "$work/last_begun"
+many 2 "line 24: no such word here; the form is $events" "$work/last_begun" 16 0 'sta 020000000011\nconnect s1 a16\nap fedcba987654 r0kh-16\n'
+many 2 "line 23: no such node, or a node of the other kind; the form is connect <sta> <ap>" "$work/sixteen" 16 0 'sta 020000000011\nconnect s1 a17\n'
+for line in 'sta fedcba987654' 'sta 020000000201'; do many 8 "more than 64 stations" "$work/started" 1 64 "$line\n"; done
+for line in 'sta 010000000001' 'sta 0200000000010'; do
+    many 2 "line 71: wrong arguments; the form is sta <12 digits>" "$work/started" 1 64 "$line\n"
+done
+(cat "$work/started"; echo "took s64 unread refused malformed 1 1 1") > "$work/last_took"
+many 2 "line 72: no such word here; the form is $events" "$work/last_took" 1 64 'inject s64 00\nsta fedcba987654\n'
+many 2 "line 71: no such node, or a node of the other kind; the form is inject <node> <digits>" "$work/started" 1 64 'inject s65 00\n'
+
+# Lines in a round that is full: others than events are taken or refused as ever.
+full() { # NUMBER SAYS WRITES LINES
+    (head -n 7 "$work/header"; echo round; times 256 'rekey a1\n'; printf '%b' "$4") > "$work/script"
+    ends "$1" "$2" "$3" "$work/script" replay
+}
+for line in 'rekey a1' 'inject a1 00'; do full 8 "more than 256 events in a round" "$work/started" "$line\n"; done
+full 2 "line 265: no such node, or a node of the other kind; the form is rekey <ap>" "$work/started" 'rekey a2\n'
+full 2 "line 265: wrong arguments; the form is rekey <ap>" "$work/started" 'rekey\n'
+full 2 "line 265: no such word here; the form is $within" "$work/started" 'connect s1 a1\n'
+full 2 "line 265: no such frame was sent; the form is deliver <n> to <node>" "$work/started" 'deliver 1 to a1\n'
+(cat "$work/started"; times 128 'install a1 all gtk 2\ninstall a1 all gtk 1\n'; echo "install a1 all gtk 2"; summary 0 0 0 258 0 0 0) > "$work/renewed"
+full 0 "" "$work/renewed" '# rekey a1\nend\nrekey a1\n'
+
 # The longest payload behind a handshake, which is handed up.
 exchange='deliver 1 to a1\ndeliver 2 to s1\ndeliver 3 to s1\ndeliver 4 to a1\ndeliver 5 to s1\ndeliver 6 to a1\n'
 (cat "$work/header"; printf '%b' "$exchange"; printf 'send s1 a1 - '; times 4608 7; printf '\ndeliver 7 to a1\n') > "$work/script"
@@ -244,6 +348,198 @@ sent 7 s1 a1 data 2344
 took a1 data accepted"; printf 'up a1 s1 0 0 1 '; times 4608 7; echo; summary 7 7 0 4 0 1 1) > "$work/carried"
 ends 0 "" "$work/carried" "$work/script" replay
 
+# The front of a line, so many octets, and what stands behind their digits: behind both nodes, or in a round.
+long_line() { # NUMBER SAYS WRITES LINES OCTETS BEHIND
+    (head -n 7 "$work/header"; printf '%b' "$4"; times "$5" 5A; printf '%s\n' "$6") > "$work/script"
+    ends "$1" "$2" "$3" "$work/script" replay
+}
+# It is too long, or refused with the text, in line 8 or 9.
+too_long() { # LINES OCTETS BEHIND
+    local limit="an injected frame of more than 2400 octets"
+    case "$1" in *send*) limit="a payload of more than 2304 octets" ;; esac
+    long_line 8 "$limit" "$work/started" "$1" "$2" "$3"
+}
+refused_long() { # TEXT LINES OCTETS BEHIND
+    local number=8
+    case "$2" in round*) number=9 ;; esac
+    long_line 2 "line $number: $1" "$work/started" "$2" "$3" "$4"
+}
+inject="the form is inject <node> <digits>"
+too_long 'inject s1 ' 2401 ''
+too_long 'inject s2 ' 2401 ''
+too_long 'inject s1 ' 4000 ''
+too_long 'round\ninject a1 ' 2401 ''
+too_long 'round\ninject s1 ' 2401 ''
+refused_long "wrong arguments; $inject" 'inject s1 ' 2400 5
+refused_long "wrong arguments; $inject" 'inject x1 ' 2401 ''
+refused_long "wrong arguments; $inject" 'inject s1 ' 2401 5
+refused_long "wrong arguments; $inject" 'inject s1 ' 2400 0g
+refused_long "no such node, or a node of the other kind; $inject" 'inject s2 ' 2400 ''
+refused_long "no such node, or a node of the other kind; $inject" 'round\ninject s1 ' 2400 ''
+for line in 'send s1 a1 - ' 'send a1 all 15 ' 'send a1 s2 - ' 'send s1 all - ' 'round\nsend s1 a1 - '; do too_long "$line" 2305 ''; done
+too_long 'send s1 a1 - ' 4000 ''
+for line in 'send s1 a1 16 ' 'send s1 x1 - ' 'send x1 a1 - '; do refused_long "wrong arguments; the form is $send" "$line" 2305 ''; done
+refused_long "wrong arguments; the form is $send" 'send s1 a1 - ' 2305 5
+refused_long "wrong arguments; the form is $send" 'send s1 a1 - ' 2304 0g
+refused_long "no such node, or a node of the other kind; the form is $send" 'send a1 s2 - ' 2304 ''
+refused_long "no such node, or a node of the other kind; the form is $send" 'round\nsend s1 a1 - ' 2304 ''
+
+# Lines of just so many octets: an EAPOL-Key frame whose 2364 octets end an injected frame of 2400, and one that would have one more; to
+# all with a TID; and in a round.
+framed() { # REPORT LENGTH FRONT BEHIND
+    (head -n 7 "$work/header"; printf '%binject a1 080100000200000000aa0200000000bb0200000000aa0000aaaa03000000888e0203%s02' "$3" "$2"
+        times 2363 00; printf '\n%b' "$4") > "$work/script"
+    (cat "$work/started"; echo "took a1 eapol refused malformed $1"; summary 0 0 1 1 0 0 0) > "$work/framed"
+    ends 0 "" "$work/framed" "$work/script" replay
+}
+framed "2 97 5" 093c '' ''
+framed "2 2 4" 093d '' ''
+framed "2 97 5" 093C 'round\n' 'end\n'
+(cat "$work/started"; echo "used a1 all 1 1"; echo "sent 1 a1 all data 2346"; summary 1 0 0 1 0 1 0) > "$work/to_all"
+long_line 0 "" "$work/to_all" 'send a1 all 15 ' 2304 ''
+long_line 0 "" "$work/to_all" 'send a1 all 15 ' 2303 00
+(head -n -7 "$work/carried"; echo "used a1 s1 0 1"; echo "sent 7 a1 s1 data 2344"; summary 7 6 0 4 0 1 0) > "$work/in_round"
+(cat "$work/header"; printf '%b' "$exchange"; printf 'round\nsend a1 s1 - '; times 2304 5A; printf '\nend\n') > "$work/script"
+ends 0 "" "$work/in_round" "$work/script" replay
+
+# What a payload carries is what stands in its line.
+(head -n -7 "$work/carried"; echo "used s1 a1 0 1"; echo "sent 7 s1 a1 data 45"; echo "took a1 data accepted"; echo "up a1 s1 0 5 1 00ff5a"
+    summary 7 7 0 4 0 1 1) > "$work/handed"
+(cat "$work/header"; printf '%b' "$exchange"; printf 'send s1 a1 5 00Ff5a\ndeliver 7 to a1\n') > "$work/script"
+ends 0 "" "$work/handed" "$work/script" replay
+
+# Associations of 64 stations, of which # is the number in the texts, and A to F those of their frames.
+associated() { # TEXT
+    awk -v text="$1" 'BEGIN {
+        for (sta = 0; sta < 64; sta++) {
+            line = text
+            gsub("#", sta + 1, line)
+            for (k = 1; k <= 6; k++) gsub(substr("ABCDEF", k, 1), sta * 6 + k, line)
+            print line
+        }
+    }'
+}
+
+# Behind them the first one associates once more, its row is revoked, and it associates again: no row is left for it, for those that are
+# revoked count.
+(printf '%b' "${ieee}passphrase password\nakm ft-psk\nmdid a1b2\n"; nodes 2 64
+    associated 'connect s# a1
+deliver A to a1
+deliver B to s#
+deliver C to s#
+deliver D to a1
+deliver E to s#
+deliver F to a1'
+    echo 'connect s1 a1
+deliver 385 to a1
+deliver 386 to s1
+deliver 387 to s1
+deliver 388 to a1
+deliver 389 to s1
+deliver 390 to a1
+revoke a1 s1
+connect s1 a1
+deliver 391 to a1
+deliver 392 to s1
+deliver 393 to s1
+deliver 394 to a1
+deliver 395 to s1
+deliver 396 to a1
+roam s1 a2
+deliver 397 to a2
+revoke a1 s2
+roam s2 a2
+deliver 399 to a2
+roam s3 a2
+deliver 401 to a2') > "$work/script"
+(starts 2
+    associated 'open s# a1 connect
+sent A s# a1 assoc-req 67
+took a1 assoc-req accepted
+open a1 s# connect
+sent B a1 s# assoc-resp 141
+sent C a1 s# m1 131
+took s# assoc-resp accepted
+took s# m1 accepted
+sent D s# a1 m2 276
+took a1 m2 accepted
+sent E a1 s# m3 323
+took s# m3 accepted
+install s# a1 ptk
+install s# a1 gtk 1
+finish s# a1
+sent F s# a1 m4 131
+took a1 m4 accepted
+install a1 s# ptk
+finish a1 s#
+put a1 s# held'
+    echo 'close s1 a1 session
+open s1 a1 connect
+sent 385 s1 a1 assoc-req 67
+took a1 assoc-req accepted
+open a1 s1 connect
+sent 386 a1 s1 assoc-resp 141
+sent 387 a1 s1 m1 131
+took s1 assoc-resp accepted
+took s1 m1 accepted
+sent 388 s1 a1 m2 276
+took a1 m2 accepted
+sent 389 a1 s1 m3 323
+took s1 m3 accepted
+install s1 a1 ptk
+resume s1 a1 gtk 1
+finish s1 a1
+sent 390 s1 a1 m4 131
+took a1 m4 accepted
+close a1 s1 session
+install a1 s1 ptk
+finish a1 s1
+put a1 s1 held-already
+revoke a1 s1 revoked
+close s1 a1 session
+open s1 a1 connect
+sent 391 s1 a1 assoc-req 67
+took a1 assoc-req accepted
+open a1 s1 connect
+sent 392 a1 s1 assoc-resp 141
+sent 393 a1 s1 m1 131
+took s1 assoc-resp accepted
+took s1 m1 accepted
+sent 394 s1 a1 m2 276
+took a1 m2 accepted
+sent 395 a1 s1 m3 323
+took s1 m3 accepted
+install s1 a1 ptk
+resume s1 a1 gtk 1
+finish s1 a1
+sent 396 s1 a1 m4 131
+took a1 m4 accepted
+close a1 s1 session
+install a1 s1 ptk
+finish a1 s1
+put a1 s1 full
+open s1 a2 roam
+sent 397 s1 a2 ft-req 167
+took a2 ft-req refused name
+look a2 s1 absent
+sent 398 a2 s1 ft-resp 30
+revoke a1 s2 revoked
+open s2 a2 roam
+sent 399 s2 a2 ft-req 167
+took a2 ft-req refused name
+look a2 s2 absent
+sent 400 a2 s2 ft-resp 30
+open s3 a2 roam
+sent 401 s3 a2 ft-req 167
+took a2 ft-req accepted
+look a2 s3 found
+open a2 s3 roam
+sent 402 a2 s3 ft-resp 175
+end frames 402 accepted 397 answered 0 refused 2 ignored 0
+keys installed 198 resumed 2 used 0 handed-up 0
+premises fresh yes no-collision yes unforged yes') > "$work/full"
+ends 0 "" "$work/full" "$work/script" replay
+
 # A device that takes no octet; what it got is not looked at.
 fills() { # SCRIPT WORDS..
     local script=$1 ended=0
@@ -260,6 +556,113 @@ is_taken() { # PORT
 }
 port=$((20000 + RANDOM % 10000))
 while is_taken "$port" || is_taken $((port + 1)); do port=$((port + 2)); done
+
+# Each case of the files `tools/ends/*.cases`: the lines behind `front` stand before those of each case, and their reports before its own,
+# which is one of those that `or` parts.
+mkdir "$work/cases"
+awk -v to="$work/cases/" '
+    function put(name, text) { printf "%s", text > (to n "." name); close(to n "." name) }
+    function done() {
+        if (title == "") return
+        put("title", title); put("lines", lines)
+        for (k = 1; k <= many; k++) put("report" k, reports[k])
+        title = ""
+    }
+    FNR == 1 { done(); part = "" }
+    /^$/ || (part == "" && /^#/) { next }
+    $0 == "front" { done(); front = report = ""; part = "front"; next }
+    /^case / { done(); n = sprintf("%03d", n + 1); title = substr($0, 6); lines = front; reports[many = 1] = report; part = "case"; next }
+    $0 == "reports" { part = part "s reports"; next }
+    $0 == "or" { reports[++many] = report; next }
+    part == "front" { front = front $0 "\n"; next }
+    part == "fronts reports" { report = report $0 "\n"; next }
+    part == "case" { lines = lines $0 "\n"; next }
+    { reports[many] = reports[many] $0 "\n" }
+    END { done() }
+' tools/ends/*.cases
+for lines in "$work"/cases/*.lines; do
+    ended=0
+    "$program" replay < "$lines" > "$work/written" 2> "$work/said" || ended=$?
+    report=${lines%lines}report1
+    for other in "${lines%lines}"report*; do
+        if cmp -s "$other" "$work/written"; then report=$other; fi
+    done
+    judge 0 "" "$report" "$ended" "$(cat "${lines%lines}title")"
+done
+
+# The fronts of refused lines, and what they write.
+mkdir "$work/fronts"
+stands() { # NAME LINES REPORT
+    printf '%b' "$2" > "$work/fronts/$1"
+    printf '%b' "$3" > "$work/fronts/$1 report"
+}
+seeded="domain 1\nseed 000102030405060708090a0b0c0d0e0f101112131415161718191a1b1c1d1e1f\n"
+whole_header="$ieee${psk}akm psk\n"
+ft="$ieee${psk}akm ft-psk\n"
+ap="ap 020000000001 r0kh-1\n"
+sta="sta 020000000011\n"
+first="install a1 all gtk 1\n"
+opened="${first}open s1 a1 connect\nsent 1 s1 a1 assoc-req 62\n"
+sent="${opened}used a1 all 1 1\nsent 2 a1 all data 45\n"
+stands 0 "" ""
+stands 1 "domain 1\n" ""
+stands 2 "$seeded" ""
+stands 3 "$ieee" ""
+stands 4 "$ieee$psk" ""
+stands header "$whole_header" ""
+stands ap "$whole_header\n$ap" "$first"
+stands sta "$whole_header$sta" ""
+stands both "$whole_header# nodes\n$ap\n#\n$sta# events\n" "$first"
+stands connected "$whole_header$ap${sta}connect s1 a1\n" "$opened"
+stands frames "$whole_header$ap${sta}connect s1 a1\nsend a1 all - 68656c6c6f\n" "$sent"
+stands open "$whole_header$ap${sta}connect s1 a1\nsend a1 all - 68656c6c6f\nround\n" "$sent"
+stands closed "$whole_header$ap${sta}round\nrekey a1\ninject a1 00\n\nend\n" "${first}install a1 all gtk 2\ntook a1 unread refused malformed 1 1 1\n"
+stands "empty round" "$whole_header$ap${sta}sta fedcba987654\nround\nend\n" "$first"
+stands turned "$whole_header${ap}turn\n" "$first"
+stands "turned round" "$whole_header${ap}turn\n# a round\nround\n" "$first"
+stands "ft 5" "$ft" ""
+stands "ft header" "${ft}mdid a1B2\n" ""
+stands "ft both" "${ft}mdid a1B2\n$ap$sta" "$first"
+stands "ft connected" "${ft}mdid a1B2\n$ap${sta}connect s1 a1\n" "${first}open s1 a1 connect\nsent 1 s1 a1 assoc-req 67\n"
+stands "ft open" "${ft}mdid a1B2\n$ap${sta}round\n" "$first"
+
+# What follows the last of their lines, and ends well.
+follows() { # FRONT LINES REPORT
+    { cat "$work/fronts/$1"; printf '%b' "$2"; } > "$work/script"
+    { cat "$work/fronts/$1 report"; printf '%b' "$3"; } > "$work/report"
+    ends 0 "" "$work/report" "$work/script" replay
+}
+follows closed 'connect s1 a1\nround\nend\ninject s1 00\n' \
+    "open s1 a1 connect\nsent 1 s1 a1 assoc-req 62\ntook s1 unread refused malformed 1 1 1\n$(summary 1 0 2 2 0 0 0)\n"
+follows closed '' "$(summary 0 0 1 2 0 0 0)\n"
+follows "empty round" 'inject s2 00\n' "took s2 unread refused malformed 1 1 1\n$(summary 0 0 1 1 0 0 0)\n"
+
+# Each refused line of that file, behind its front.
+kind='' place='' text=''
+while IFS= read -r line; do
+    case "$line" in
+        '= '*)
+            line=${line#= }
+            kind=${line%% *} place=${line#* } text=${line#*: }
+            place=${place%%:*}
+            ;;
+        *)
+            if [ -z "$kind" ] || [ -z "$line" ]; then continue; fi
+            { cat "$work/fronts/$place"; printf '%b\n' "$line"; } > "$work/script"
+            number=$(($(wc -l < "$work/fronts/$place") + 1))
+            ended=0 words=$kind
+            if [ "$kind" = live ]; then words="live $port"; fi
+            # shellcheck disable=SC2086
+            "$program" $words < "$work/script" > "$work/written" 2> "$work/said" || ended=$?
+            judge 2 "line $number: $text" "$work/fronts/$place report" "$ended" "$kind $place: $line"
+            ;;
+    esac
+done < tools/ends/refused_lines.txt
+
+# A live run with turns and a round between them.
+{ cat "$work/fronts/turned"; printf '# a round\nround\nrekey a1\nend\nturn\nturn\n'; } > "$work/script"
+(cat "$work/started"; echo "install a1 all gtk 2"; summary 0 0 0 2 0 0 0) > "$work/renewed"
+ends 0 "" "$work/renewed" "$work/script" live "$port"
 
 # Lines that open no port: those that a live run refuses, and those that have their meaning in it alone.
 refuses_live() { # LINES LINE TEXT

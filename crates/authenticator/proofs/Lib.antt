@@ -6,6 +6,7 @@ pub mod Addresses
 pub mod Handshaking
 pub mod Standing
 pub mod Replying
+mod Unchanging
 pub mod Refusing
 pub mod RsneAlone
 pub mod Verified

@@ -1,4 +1,5 @@
 mod Opening
+mod Lengths
 mod Sends
 pub mod DataRows
 pub mod Standing

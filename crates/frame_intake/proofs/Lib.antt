@@ -1,2 +1,3 @@
 mod SealedHeaders
 pub mod Silence
+mod Verdicts

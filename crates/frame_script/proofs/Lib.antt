@@ -9,3 +9,4 @@ pub mod Feeding
 pub mod Numbering
 pub mod Joining
 pub mod Within
+pub mod Saying

@@ -1,11 +1,14 @@
 -- Each way in which an access point takes an authentication request.
 use Rattle.std.proofs.Common.{◌≡◌, ◌∙◌, ℕ, true, List, Option, Some, None, refl, sym, ap, subst, arith}
-use Rattle.std.specs.Prelude.{Result, Ok, Err}
+use Rattle.std.specs.Prelude.{Result, Ok, Err, option_and_then}
 use Rattle.domain_base.specs.declared.names.Akm.TheVariants.{FtPsk}
 use Rattle.domain_base.specs.declared.names.Mac.{Mac}
 use Rattle.domain_base.specs.declared.names.Node.TheVariants.{Ap, Sta}
 use Rattle.key_hierarchy.specs.declared.answers.PullAnswer.{PullAnswer}
-use Rattle.rsn_elements.specs.Elements.{ElementFields}
+use Rattle.key_hierarchy.specs.Sizes.{IsR0khId}
+use Rattle.rsn_elements.specs.Framing.{Says}
+use Rattle.rsn_elements.specs.Transition.{FteFields, SpellsFte, SpellsR0khId, has_id}
+use Rattle.rsn_elements.specs.Elements.{ElementFields, HasRaw, IsRaw}
 use Rattle.run_journal.specs.declared.domain.Domain.{Domain}
 use Rattle.run_journal.specs.declared.acts.Kind.{Kind}
 use Rattle.run_journal.specs.declared.acts.Kind.TheVariants as kind
@@ -17,7 +20,7 @@ use Rattle.run_journal.specs.Replies.{IsEmpty, IsWhole}
 use Rattle.domain_rules.specs.FastTransition.{single}
 use Rattle.domain_rules.specs.Network.{mac}
 use Rattle.domain_rules.specs.Rows.{refused_status}
-use Rattle.domain_rules.specs.TransitionKeys.{Asked, asked}
+use Rattle.domain_rules.specs.TransitionKeys.{Asked, asked, asked_by}
 use Rattle.ft_exchange.specs.Asking.{is_pending_repeated, unnamed_reason, IsLookedBy, IsLooked}
 use Rattle.ft_exchange.specs.Judged.{request_reason}
 use Rattle.ft_exchange.specs.Refusals.{RefusesAuthBy, RefusesAuth, AnswersPending}
@@ -185,5 +188,41 @@ exit_looks d a sta e anonce x w P Same old mid r result at asks empty looked tol
 pub looks_none : (e : ElementFields) (A : List ℕ → List ℕ → PullAnswer → Type 0) (Same : Type 0) (z : Option PullAnswer) → z ≡ None → Same → LooksBy e A Same z
 looks_none e A Same z none same = subst (λ (y : Option PullAnswer). LooksBy e A Same y) (sym none) same
 
-pub looks_refused : (e : ElementFields) (A : List ℕ → List ℕ → PullAnswer → Type 0) (Same : Type 0) (w : Place) (why : Reason) (old r : Reply) → IsEmpty old → RefusesAuth w why old r → Same → LooksBy e A Same r.looked
-looks_refused e A Same w why old r empty refuses same = looks_none e A Same r.looked ((auth_tells w why old r empty.len empty.sealed refuses).looked ∙ empty.looked) same
+-- a response that goes out once more tells of the look that was told before
+pending_looked : (o : Option TargetState) (old r : Reply) → AnswersPending o old r → r.looked ≡ old.looked
+pending_looked None old r same = ap (λ (z : Reply). z.looked) same
+pending_looked (Some s) old r sends = sends.looked
+
+pub looks_repeated : (e : ElementFields) (A : List ℕ → List ℕ → PullAnswer → Type 0) (Same : Type 0) (o : Option TargetState) (old r : Reply) → IsEmpty old → AnswersPending o old r → Same → LooksBy e A Same r.looked
+looks_repeated e A Same o old r empty answers same = looks_none e A Same r.looked (pending_looked o old r answers ∙ empty.looked) same
+
+-- ---- what a look leaves, and what is asked for
+
+-- a look sends nothing
+pub looked_len : (d : Domain) (x : Asked) (anonce : Option (List ℕ)) (A : List ℕ → PullAnswer → Type 0) (Same : Type 0) (old mid : Reply) (result : Result Granted Reason) → IsLooked d x anonce A Same old mid result → old.len ≡ 0 → mid.len ≡ 0
+looked_len d x anonce A Same old mid result looked len = by (single x.names) looked.by_name
+  where
+    by : (n : Option (List ℕ)) → IsLookedBy d x anonce A Same old mid n result → mid.len ≡ 0
+    by None u = ap (λ (z : Reply). z.len) u.reply ∙ len
+    by (Some name) i = ap (λ (z : Reply). z.len) i.reply ∙ len
+
+id_fits : (body id : List ℕ) → SpellsR0khId body id → IsR0khId id
+id_fits body id (least, most, is) = subst (λ (z : List ℕ). IsR0khId z) (sym is) (record { least = least; most = most })
+
+same_asked : (y x : Asked) → Some y ≡ Some x → y ≡ x
+same_asked y x is = cc
+
+no_asked : (x : Asked) → None ≡ Some x → ⊥
+no_asked x is = cc
+
+asked_in : (fte : Option FteFields) (octets names : Option (List ℕ)) (x : Asked) → IsRaw 0x37 SpellsFte fte octets → asked_by fte (option_and_then (λ (f : FteFields). f.r0kh_id) fte) names ≡ Some x → IsR0khId x.r0kh_id
+asked_in None octets names x raw is = absurd (no_asked x is)
+asked_in (Some f) octets names x raw is = by f.r0kh_id raw.2.say.third is
+  where
+    by : (o : Option (List ℕ)) → Says (has_id 3) SpellsR0khId raw.2.subelements o → asked_by (Some f) o names ≡ Some x → IsR0khId x.r0kh_id
+    by None say is = absurd (no_asked x is)
+    by (Some id) say is = subst (λ (y : Asked). IsR0khId y.r0kh_id) (same_asked _ x is) (id_fits say.0.body id say.2)
+
+-- the R0KH-ID for which a request asks is one
+pub asked_id : (e : ElementFields) (x : Asked) → HasRaw e → asked e ≡ Some x → IsR0khId x.r0kh_id
+asked_id e x raw is = asked_in e.fte e.fte_octets _ x raw.fte is

@@ -74,10 +74,10 @@ address_front : (subtype : ℕ) (a1 a2 a3 : List ℕ) → length a1 ≡ 6 → le
 address_front subtype a1 a2 a3 l m n =
     omega (arith, length-append a1 (a2 ++ (a3 ++ 0 ∷ 0 ∷ [])), length-append a2 (a3 ++ 0 ∷ 0 ∷ []), length-append a3 (0 ∷ 0 ∷ []), l, m, n)
 
-rsne_len : (name : List ℕ) → length name ≡ 16 → length (rsne_octets FtPsk (Some name)) ≡ 40
+pub rsne_len : (name : List ℕ) → length name ≡ 16 → length (rsne_octets FtPsk (Some name)) ≡ 40
 rsne_len name l = omega (arith, l)
 
-mde_len : (mdid : List ℕ) → length mdid ≡ 2 → length (mde_octets mdid) ≡ 5
+pub mde_len : (mdid : List ℕ) → length mdid ≡ 2 → length (mde_octets mdid) ≡ 5
 mde_len mdid l = omega (arith, l, length-append mdid (0 ∷ []))
 
 input_free : (sta ap' : List ℕ) (number : ℕ) (rsne mde r1kh anonce snonce id : List ℕ) (gtk : Option WrappedGtkFields) (mic : List ℕ) → length mic ≡ 16

@@ -1,6 +1,7 @@
 pub mod Outcomes
 pub mod FramesSent
 pub mod Covers
+pub mod Written
 pub mod MicThere
 pub mod Unwrapping
 pub mod Trying

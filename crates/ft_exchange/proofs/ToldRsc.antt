@@ -58,16 +58,46 @@ ended : (rest : List ℕ) → EndsReading Body rest → rest ≡ []
 ended [] ends = refl
 ended (x ∷ rest) ends = absurd ends
 
+same_management : (m b : Management) → Some m ≡ Some b → m ≡ b
+same_management m b is = cc
+
+no_management : (b : Management) → None ≡ Some b → ⊥
+no_management b is = cc
+
+kind_at : (m b : Management) → Some m ≡ Some b → b.kind ≡ kind.ReResp → m.kind ≡ kind.ReResp
+kind_at m b is of = ap (λ (x : Management). x.kind) (same_management m b is) ∙ of
+
+-- no other frame is one
+not_assoc_req : kind.AssocReq ≡ kind.ReResp → ⊥
+not_assoc_req is = cc
+
+not_assoc_resp : kind.AssocResp ≡ kind.ReResp → ⊥
+not_assoc_resp is = cc
+
+not_ft_req : kind.FtReq ≡ kind.ReResp → ⊥
+not_ft_req is = cc
+
+not_ft_resp : kind.FtResp ≡ kind.ReResp → ⊥
+not_ft_resp is = cc
+
+not_re_req : kind.ReReq ≡ kind.ReResp → ⊥
+not_re_req is = cc
+
+abbrev elements_of : AirFields → List ℕ
+elements_of (re_resp header capability status aid elements) = elements
+elements_of frame = []
+
 elements_at : (frame : AirFields) (b : Management) (octets : List ℕ) → SpellsAir octets frame → management_of frame ≡ Some b → b.kind ≡ kind.ReResp → b.elements ≡ drop 30 octets
-elements_at (re_resp header capability status aid elements) b octets spelled is of = cc (is, spelled.0)
-elements_at (assoc_req header capability interval elements) b octets spelled is of = absurd (cc (is, of))
-elements_at (assoc_resp header capability status aid elements) b octets spelled is of = absurd (cc (is, of))
-elements_at (ft_req header status elements) b octets spelled is of = absurd (cc (is, of))
-elements_at (ft_resp header status elements) b octets spelled is of = absurd (cc (is, of))
-elements_at (re_req header capability interval current elements) b octets spelled is of = absurd (cc (is, of))
-elements_at (eapol header direction tid body) b octets spelled is of = absurd (cc is)
-elements_at (protected header direction tid body) b octets spelled is of = absurd (cc is)
-elements_at ignored b octets spelled is of = absurd (cc is)
+elements_at (re_resp header capability status aid elements) b octets spelled is of =
+    sym (ap (λ (x : Management). x.elements) (same_management _ b is)) ∙ ap elements_of spelled.0
+elements_at (assoc_req header capability interval elements) b octets spelled is of = absurd (not_assoc_req (kind_at _ b is of))
+elements_at (assoc_resp header capability status aid elements) b octets spelled is of = absurd (not_assoc_resp (kind_at _ b is of))
+elements_at (ft_req header status elements) b octets spelled is of = absurd (not_ft_req (kind_at _ b is of))
+elements_at (ft_resp header status elements) b octets spelled is of = absurd (not_ft_resp (kind_at _ b is of))
+elements_at (re_req header capability interval current elements) b octets spelled is of = absurd (not_re_req (kind_at _ b is of))
+elements_at (eapol header direction tid body) b octets spelled is of = absurd (no_management b is)
+elements_at (protected header direction tid body) b octets spelled is of = absurd (no_management b is)
+elements_at ignored b octets spelled is of = absurd (no_management b is)
 
 in_fte : (fte : Option FteFields) (g : WrappedGtkFields) → gtk_in fte ≡ Some g → (f : FteFields) × (fte ≡ Some f) × (f.gtk ≡ Some g)
 in_fte None g is = absurd (cc is)

@@ -202,7 +202,6 @@ impl Originator {
     /// say. Where it is accepted the key is derived, and the reassociation request sent
     /// (IEEE Std 802.11-2020, 13.8.3 and 13.8.4). What is sent and derived comes into the reply,
     /// whatever was in it. A refusal changes nothing.
-    #[tactic(auto, using(crate::proofs::StationAuths::auth_no_fte))]
     pub fn on_auth(&mut self, status: u16, elements: &Elements<'_>, reply: &mut Reply) -> Outcome
         ensures { IsAuthTaken status (element_fields elements.now) self.old self.new result
             reply.new }

@@ -133,7 +133,6 @@ impl Target {
     /// `anonce` is the nonce drawn for it, and `None` where no more can be drawn. What is looked
     /// up, derived and sent comes into the reply, whatever was in it. A refusal with a status is
     /// answered with that status, and changes no attempt.
-    #[tactic(auto, using(crate::proofs::AuthExits::looks_none, crate::proofs::AuthExits::looks_refused))]
     pub fn on_auth<H: Holders>(
         pending: &mut Option<Target>,
         domain: &Domain,

@@ -12,3 +12,4 @@ pub mod Spots
 pub mod Twins
 pub mod After
 pub mod Rest
+pub mod Drafts

@@ -1,9 +1,10 @@
 -- A row and the octets that its words hold.
-use Rattle.std.proofs.Common.{◌≡◌, ℕ, zero, suc, ◌+◌, ◌^◌, ◌<◌, List, ◌++◌, length, take, drop, refl, sym, ap, ◌∙◌, append_assoc, arith}
+use Rattle.std.proofs.Common.{◌≡◌, ℕ, zero, suc, ◌+◌, ◌^◌, ◌<◌, ◌≤◌, List, ◌∷◌, ◌++◌, length, take, drop, get_or, refl, sym, ap, subst, ◌∙◌, append_assoc, inl, inr, arith}
 use Rattle.std.specs.Prelude.{slice_index}
 use Rattle.std.specs.Int.{w64, to_be_bytes, from_be_bytes}
 use Rattle.std.proofs.lemmas.Nat.{from_be_bytes-to_be_bytes_8}
-use Rattle.std.proofs.lemmas.List.{take-append-drop, drop-drop, take_all, length-drop}
+use Rattle.std.proofs.lemmas.List.{take-append-drop, drop-drop, take_all, length-drop, get_or-take, get_or-drop, get_or_past}
+use Rattle.std.proofs.lemmas.Bool.{cases_lt}
 use Rattle.domain_base.specs.Places.{part}
 use Rattle.key_holders.specs.declared.rows.HolderRow.{HolderRow}
 use Rattle.holder_table.specs.declared.words.NameWords.{NameWords}
@@ -39,6 +40,42 @@ key_parts xs len =
     let rest = length-drop 24 xs in
     let last : part 24 8 xs ≡ drop 24 xs = take_all 8 (drop 24 xs) (omega (arith, rest, len)) in
     ap (λ (w : List ℕ). part 0 8 xs ++ part 8 8 xs ++ part 16 8 xs ++ w) last ∙ four_parts xs
+
+pub name_parts : (xs : List ℕ) → length xs ≡ 16 → part 0 8 xs ++ part 8 8 xs ≡ xs
+name_parts xs len =
+    let rest = length-drop 8 xs in
+    let last : part 8 8 xs ≡ drop 8 xs = take_all 8 (drop 8 xs) (omega (arith, rest, len)) in
+    ap (λ (w : List ℕ). part 0 8 xs ++ w) last ∙ take-append-drop 8 xs
+
+-- octets stay octets in a part
+pub part_small : (xs : List ℕ) (at : ℕ) → ((i : ℕ) → get_or xs i 0 < 256) → length (part at 8 xs) ≡ 8 → (i : ℕ) → get_or (part at 8 xs) i 0 < 256
+part_small xs at small len i = elim (cases_lt i 8) [
+  | inl lt ↦ subst (λ (n : ℕ). n < 256) (sym (get_or-take 8 (drop at xs) i 0 lt ∙ get_or-drop at xs i 0)) (small (at + i))
+  | inr ge ↦ subst (λ (n : ℕ). n < 256) (sym (get_or_past (part at 8 xs) i 0 (omega (arith, len, ge)))) (omega arith)
+]
+
+-- six octets behind two, in eight
+pub mac_whole : (n : ℕ) (xs ys : List ℕ) → length xs ≡ 8 → length ys ≡ 6 → n ≡ 2 + length ys → take n xs ≡ 0 ∷ 0 ∷ ys → xs ≡ 0 ∷ 0 ∷ ys
+mac_whole n xs ys len six end front = sym (take_all n xs (omega (arith, len, six, end))) ∙ front
+
+mac_small : (ys : List ℕ) → ((i : ℕ) → get_or ys i 0 < 256) → (i : ℕ) → get_or (0 ∷ 0 ∷ ys) i 0 < 256
+mac_small ys small zero = omega arith
+mac_small ys small (suc zero) = omega arith
+mac_small ys small (suc (suc i)) = small i
+
+pub whole_small : (xs ys : List ℕ) → xs ≡ 0 ∷ 0 ∷ ys → ((i : ℕ) → get_or ys i 0 < 256) → (i : ℕ) → get_or xs i 0 < 256
+whole_small xs ys whole small i = subst (λ (w : List ℕ). get_or w i 0 < 256) (sym whole) (mac_small ys small i)
+
+pub mac_part : (xs ys : List ℕ) → xs ≡ 0 ∷ 0 ∷ ys → length ys ≡ 6 → part 2 6 xs ≡ ys
+mac_part xs ys whole six = ap (λ (w : List ℕ). part 2 6 w) whole ∙ take_all 6 ys (omega (arith, six))
+
+-- octets that were put one after the other up to the end
+pub two_put : (a b : List ℕ) (m n : ℕ) (xs ys : List ℕ) → take m xs ≡ a → take n ys ≡ take m xs ++ b → length ys ≤ n → ys ≡ a ++ b
+two_put a b m n xs ys first second whole = sym (take_all n ys whole) ∙ (second ∙ ap (λ (w : List ℕ). w ++ b) first)
+
+pub four_put : (a b c d : List ℕ) (k l m n : ℕ) (vs ws xs ys : List ℕ) → take k vs ≡ a → take l ws ≡ take k vs ++ b → take m xs ≡ take l ws ++ c → take n ys ≡ take m xs ++ d → length ys ≤ n → ys ≡ a ++ b ++ c ++ d
+four_put a b c d k l m n vs ws xs ys first second third fourth whole =
+    sym (take_all n ys whole) ∙ (fourth ∙ ap (λ (w : List ℕ). w ++ d) (third ∙ ap (λ (w : List ℕ). w ++ c) (second ∙ ap (λ (w : List ℕ). w ++ b) first)))
 
 -- words that hold the octets of a row make it
 pub pieces_meet : (ws : List ℕ) (row : HolderRow) → ((k : ℕ) → k < 7 → octets_in k (slice_index ws k) ≡ piece row k) → row_of ws ≡ row

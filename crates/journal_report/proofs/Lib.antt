@@ -2,3 +2,4 @@ pub mod Texts
 pub mod Digits
 pub mod Journals
 pub mod Taken
+pub mod Putting

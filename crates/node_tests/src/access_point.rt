@@ -13,6 +13,7 @@ mod transition;
 use crate::acts::Expected::{Drew, Group, OwnGroupOfA2};
 use crate::acts::{Event, Expected, Step, come, come_of, is_outcome, tid_of};
 use crate::mobility_vectors::{GTK_OF_A2, LAST_GTK_OF_A2};
+use crate::named::{data_of, octets_of};
 use crate::network::{holders, network};
 use crate::vectors::GTK;
 use act_memory::Outbox;
@@ -65,8 +66,8 @@ fn steps(
     ensures ids { holders.new.ids ≡ ids_of domain.now }
 {
     let event = match step.event {
-        Event::Take(octets) => NodeEvent::Take(octets),
-        Event::TakeData(data) => NodeEvent::Take(data.octets),
+        Event::Take(frame) => NodeEvent::Take(octets_of(frame)),
+        Event::TakeData(frame) => NodeEvent::Take(data_of(frame).octets),
         Event::Retry(station) => NodeEvent::Retry(station % 2),
         Event::Rekey => NodeEvent::Rekey,
         Event::Send(station, tid, payload) if payload.len() <= 2304 => {

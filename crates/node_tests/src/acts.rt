@@ -3,6 +3,7 @@
 use crate::air_frames::Keys;
 use crate::frames::is_joined;
 use crate::mobility_vectors::{PMK_R0_NAME, PMK_R1};
+use crate::named::{Frame, PairKeys, Protected, data_of, keys_of, octets_of};
 use crate::protected_frames::Data;
 use crate::vectors::{A1_ADDRESS, A2, A2_ADDRESS, S1};
 use act_memory::Outbox;
@@ -15,9 +16,9 @@ use run_journal::{Act, BoxedSeal, Drawn, Key, Kind, Outcome, Part, Start, Why};
 pub enum Event {
     Connect(u16),
     Roam(u16),
-    Take(&'static [u8]),
+    Take(Frame),
     /// The octets of that frame.
-    TakeData(&'static Data),
+    TakeData(Protected),
     Retry(u16),
     Rekey,
     /// A payload to a node, with a TID or without.
@@ -35,20 +36,20 @@ pub enum Expected {
     Roamed(Node),
     Closed(Node, Part),
     Drew(Drawn),
-    Derived(Node, &'static Keys),
+    Derived(Node, PairKeys),
     /// Without a MIC.
-    Sent(Node, Kind, &'static [u8]),
+    Sent(Node, Kind, Frame),
     /// With a MIC under the KCK.
-    SentSealed(Node, Kind, &'static [u8], &'static Keys),
+    SentSealed(Node, Kind, Frame, PairKeys),
     /// A frame of reassociation with a MIC in its FTE under the KCK.
-    SentMoving(Node, Kind, &'static [u8], &'static Keys),
+    SentMoving(Node, Kind, Frame, PairKeys),
     /// Its MIC was not verified.
     Took(Option<Node>, Kind),
     /// Its MIC verified under the KCK.
-    TookSealed(Node, Kind, &'static Keys),
+    TookSealed(Node, Kind, PairKeys),
     /// A frame of reassociation, whose MIC verified under the KCK.
-    TookMoving(Node, Kind, &'static Keys),
-    Pairwise(Node, &'static Keys),
+    TookMoving(Node, Kind, PairKeys),
+    Pairwise(Node, PairKeys),
     /// A group key of A1, with its key id.
     Group(Peer, [u8; 16], u8),
     /// And of A2.
@@ -57,12 +58,12 @@ pub enum Expected {
     OwnGroupOfA2([u8; 16], u8),
     /// The same.
     Resumed(Node, [u8; 16], u8),
-    Used(Peer, &'static Data),
-    SentData(Peer, &'static Data),
+    Used(Peer, Protected),
+    SentData(Peer, Protected),
     /// It was opened.
-    TookData(Node, &'static Data),
-    HandedUp(Node, &'static Data),
-    Finished(Node, &'static Keys),
+    TookData(Node, Protected),
+    HandedUp(Node, Protected),
+    Finished(Node, PairKeys),
     /// The holder of A1 was given the PMK-R0 of S1, and holds it.
     Put,
     /// It was asked for the PMK-R1 of S1 at A2, and gave it.
@@ -132,30 +133,32 @@ fn is_covered_moving(covered: &[u8], frame: &[u8], keys: &Keys) -> bool {
 
 // What is to be sealed.
 #[derive(Clone, Copy)]
-enum Sealed<'a> {
+enum Sealed {
     No,
     // A MIC under the KCK.
-    Mic(&'a Keys),
+    Mic(PairKeys),
     // A MIC in an FTE under the KCK.
-    Fte(&'a Keys),
+    Fte(PairKeys),
     // By CCM, with what it covers and its key.
-    Ccm(&'a Data),
+    Ccm(Protected),
 }
 
 // The seal of these octets is that one, under its key, or there is none.
-fn is_sealed(seal: &Option<BoxedSeal>, octets: &[u8], sealed: Sealed<'_>) -> bool {
+fn is_sealed(seal: &Option<BoxedSeal>, octets: &[u8], sealed: Sealed) -> bool {
     match (seal, sealed) {
         (None, Sealed::No) => true,
-        (Some(seal), Sealed::Mic(keys)) => {
+        (Some(seal), Sealed::Mic(pair)) => {
             let seal = seal.seal();
-            seal.key == keys.ptk.kck && is_covered(seal.octets.as_slice(), octets)
+            seal.key == keys_of(pair).ptk.kck && is_covered(seal.octets.as_slice(), octets)
         }
-        (Some(seal), Sealed::Fte(keys)) => {
+        (Some(seal), Sealed::Fte(pair)) => {
             let seal = seal.seal();
+            let keys = keys_of(pair);
             seal.key == keys.ptk.kck && is_covered_moving(seal.octets.as_slice(), octets, keys)
         }
-        (Some(seal), Sealed::Ccm(data)) => {
+        (Some(seal), Sealed::Ccm(frame)) => {
             let seal = seal.seal();
+            let data = data_of(frame);
             seal.key == data.key && seal.octets.as_slice() == data.sealed
         }
         _ => false,
@@ -203,7 +206,7 @@ fn is_derived(act: &Act, node: Node, keys: &Keys) -> bool {
     }
 }
 
-fn is_sent(act: &Act, to: Peer, what: Kind, frame: &[u8], sealed: Sealed<'_>) -> bool {
+fn is_sent(act: &Act, to: Peer, what: Kind, frame: &[u8], sealed: Sealed) -> bool {
     match act {
         Act::Sent {
             peer,
@@ -226,7 +229,7 @@ fn is_taken(
     what: Kind,
     came: &[u8],
     told: Outcome,
-    sealed: Sealed<'_>,
+    sealed: Sealed,
 ) -> bool {
     match act {
         Act::Took {
@@ -411,33 +414,45 @@ fn is_idle(act: &Act, reason: Why) -> bool {
 fn is_of_a_frame(act: &Act, expected: &Expected, came: &[u8], told: Outcome) -> bool {
     match *expected {
         Expected::Sent(node, kind, frame) => {
-            is_sent(act, Peer::One(node), kind, frame, Sealed::No)
+            is_sent(act, Peer::One(node), kind, octets_of(frame), Sealed::No)
         }
-        Expected::SentSealed(node, kind, frame, keys) => {
-            is_sent(act, Peer::One(node), kind, frame, Sealed::Mic(keys))
+        Expected::SentSealed(node, kind, frame, pair) => {
+            is_sent(
+                act,
+                Peer::One(node),
+                kind,
+                octets_of(frame),
+                Sealed::Mic(pair),
+            )
         }
-        Expected::SentMoving(node, kind, frame, keys) => {
-            is_sent(act, Peer::One(node), kind, frame, Sealed::Fte(keys))
+        Expected::SentMoving(node, kind, frame, pair) => {
+            is_sent(
+                act,
+                Peer::One(node),
+                kind,
+                octets_of(frame),
+                Sealed::Fte(pair),
+            )
         }
-        Expected::SentData(peer, data) => {
-            is_sent(act, peer, Kind::Data, data.octets, Sealed::Ccm(data))
+        Expected::SentData(peer, frame) => {
+            is_sent(
+                act,
+                peer,
+                Kind::Data,
+                data_of(frame).octets,
+                Sealed::Ccm(frame),
+            )
         }
         Expected::Took(node, kind) => is_taken(act, node, kind, came, told, Sealed::No),
-        Expected::TookSealed(node, kind, keys) => {
-            is_taken(act, Some(node), kind, came, told, Sealed::Mic(keys))
+        Expected::TookSealed(node, kind, pair) => {
+            is_taken(act, Some(node), kind, came, told, Sealed::Mic(pair))
         }
-        Expected::TookMoving(node, kind, keys) => {
-            is_taken(act, Some(node), kind, came, told, Sealed::Fte(keys))
+        Expected::TookMoving(node, kind, pair) => {
+            is_taken(act, Some(node), kind, came, told, Sealed::Fte(pair))
         }
-        Expected::TookData(node, data) => {
-            is_taken(
-                act,
-                Some(node),
-                Kind::Data,
-                data.octets,
-                told,
-                Sealed::Ccm(data),
-            )
+        Expected::TookData(node, frame) => {
+            let came = data_of(frame).octets;
+            is_taken(act, Some(node), Kind::Data, came, told, Sealed::Ccm(frame))
         }
         _ => false,
     }
@@ -447,15 +462,15 @@ fn is_of_a_frame(act: &Act, expected: &Expected, came: &[u8], told: Outcome) -> 
 fn is_of_a_key(act: &Act, expected: &Expected) -> bool {
     match *expected {
         Expected::Drew(value) => is_drawn(act, value),
-        Expected::Derived(node, keys) => is_derived(act, node, keys),
-        Expected::Pairwise(node, keys) => is_pairwise(act, node, keys),
+        Expected::Derived(node, pair) => is_derived(act, node, keys_of(pair)),
+        Expected::Pairwise(node, pair) => is_pairwise(act, node, keys_of(pair)),
         Expected::Group(peer, gtk, id) => is_group(act, peer, A1_ADDRESS, gtk, id),
         Expected::GroupOfA2(gtk, id) => is_group(act, Peer::One(A2), A2_ADDRESS, gtk, id),
         Expected::OwnGroupOfA2(gtk, id) => is_group(act, Peer::All, A2_ADDRESS, gtk, id),
         Expected::Resumed(node, gtk, id) => is_resumed(act, node, gtk, id),
-        Expected::Used(peer, data) => is_used(act, peer, data),
-        Expected::HandedUp(node, data) => is_handed_up(act, node, data),
-        Expected::Finished(node, keys) => is_finished(act, node, keys),
+        Expected::Used(peer, frame) => is_used(act, peer, data_of(frame)),
+        Expected::HandedUp(node, frame) => is_handed_up(act, node, data_of(frame)),
+        Expected::Finished(node, pair) => is_finished(act, node, keys_of(pair)),
         _ => false,
     }
 }
@@ -505,8 +520,8 @@ pub fn come(out: &mut Outbox, acts: &[Expected], came: &[u8], told: Outcome) -> 
 /// The acts of the step come, and no more.
 pub fn come_of(out: &mut Outbox, step: &Step) -> bool {
     let came = match step.event {
-        Event::Take(octets) => octets,
-        Event::TakeData(data) => data.octets,
+        Event::Take(frame) => octets_of(frame),
+        Event::TakeData(frame) => data_of(frame).octets,
         _ => b"",
     };
     come(out, step.acts, came, step.outcome)

@@ -7,6 +7,7 @@ mod rows;
 
 use crate::frames::{NOTHING, Told, is_told};
 use crate::mobility_vectors::{GTK_OF_A2, TRANSITION_PTK};
+use crate::named::{Frame, octets_of};
 use crate::network::network;
 use crate::vectors::{ANONCE, FROM_AP, GTK, NEXT_GTK, RSNE, SHA256_RSNE, SNONCE};
 use authenticator::{ApStart, Authenticator, Retried};
@@ -78,7 +79,7 @@ const GROUP_OF_A2: &Newest = &Newest {
 // What comes or is called, and what comes of it.
 enum Given {
     // This frame, as that message.
-    Takes(Message, &'static [u8], Outcome),
+    Takes(Message, Frame, Outcome),
     // Sent once more.
     Retries(Retried),
     // The group key is given in the session.
@@ -111,9 +112,10 @@ fn comes(
         return false;
     }
     match *given {
-        Given::Takes(message, came, outcome) => {
-            let (_, octets) = came.split_at(came.len().min(FROM_AP.len()));
-            match read(octets) {
+        Given::Takes(message, frame, outcome) => {
+            let came = octets_of(frame);
+            let (_, behind) = came.split_at(came.len().min(FROM_AP.len()));
+            match read(behind) {
                 Ok((frame, _)) => authenticator.step(message, &frame, key, rsc, reply) == outcome,
                 Err(_) => false,
             }

@@ -1,5 +1,6 @@
 //! Octets in pieces, and what the reply of one part of a node tells.
 
+use crate::named::{Frame, octets_of};
 use eapol_key::Message;
 use run_journal::{GtkNews, Keyed, Kind, REPLY_LEN, Reply};
 use std::alloc::Global;
@@ -31,8 +32,8 @@ pub enum Sends {
     Nothing,
     /// Nothing; the reply names that kind.
     NothingOf(Message),
-    /// That message, sealed under that key or not, in these octets.
-    Frame(Message, Option<[u8; 16]>, &'static [u8]),
+    /// That message, sealed under that key or not, in the octets of that frame.
+    Frame(Message, Option<[u8; 16]>, Frame),
 }
 
 /// What a reply tells: the key under which the MIC verified, the pairwise keys that were derived and
@@ -59,9 +60,9 @@ fn is_sent(reply: &Reply, sends: &Sends) -> bool {
         Sends::NothingOf(message) => {
             reply.len == 0 && reply.sealed.is_none() && reply.kind == Kind::Key(message)
         }
-        Sends::Frame(message, sealed, octets) => {
+        Sends::Frame(message, sealed, frame) => {
             let (front, _) = reply.octets.split_at(reply.len.min(REPLY_LEN));
-            reply.kind == Kind::Key(message) && reply.sealed == sealed && front == octets
+            reply.kind == Kind::Key(message) && reply.sealed == sealed && front == octets_of(frame)
         }
     }
 }

@@ -22,6 +22,8 @@ mod links;
 #[cfg(test)]
 mod mobility_vectors;
 #[cfg(test)]
+mod named;
+#[cfg(test)]
 mod network;
 #[cfg(test)]
 mod outbox;

@@ -8,6 +8,7 @@ ghost use Rattle.node_base.specs.Peers.{IsPeerOf};
 
 use crate::acts::{Expected, come};
 use crate::air_frames::Keys;
+use crate::named::{Frame, PairKeys};
 use crate::network::network;
 use crate::vectors::{A1, A1_ADDRESS, ANONCE, GTK, S1, S1_ADDRESS, SNONCE};
 use act_memory::{Between, Outbox, Room, SendRoom, settle};
@@ -36,7 +37,7 @@ const KEYED: Keyed = Keyed {
 };
 
 // The key that was derived, and whose KCK verified the MIC.
-const KEYS: Keys = Keys {
+pub const KEYS: Keys = Keys {
     anonce: ANONCE,
     snonce: SNONCE,
     aa: A1_ADDRESS,
@@ -45,7 +46,7 @@ const KEYS: Keys = Keys {
 };
 
 // With the key under which the reply's frame is sealed, which is another one.
-const SEALING: Keys = Keys {
+pub const SEALING: Keys = Keys {
     anonce: ANONCE,
     snonce: SNONCE,
     aa: A1_ADDRESS,
@@ -61,7 +62,7 @@ const SEALING: Keys = Keys {
 const CAME: &[u8] = &[7; 131];
 
 // The octets of the reply's frame.
-const SENT: &[u8] = &[9; 131];
+pub const SENT: &[u8] = &[9; 131];
 
 const M3: Kind = Kind::Key(Message::M3);
 
@@ -185,22 +186,22 @@ enum Filled {
 }
 
 const ALL: &[Expected] = &[
-    Expected::TookSealed(A1, M3, &KEYS),
-    Expected::Derived(A1, &KEYS),
+    Expected::TookSealed(A1, M3, PairKeys::OfAReply),
+    Expected::Derived(A1, PairKeys::OfAReply),
     Expected::Closed(A1, Part::Session),
-    Expected::Pairwise(A1, &KEYS),
+    Expected::Pairwise(A1, PairKeys::OfAReply),
     Expected::Group(Peer::One(A1), GTK, 2),
-    Expected::Finished(A1, &KEYS),
-    Expected::SentSealed(A1, M4, SENT, &SEALING),
+    Expected::Finished(A1, PairKeys::OfAReply),
+    Expected::SentSealed(A1, M4, Frame::OfAReply, PairKeys::Sealing),
 ];
 
 const AGAIN: &[Expected] = &[
-    Expected::TookSealed(A1, M3, &KEYS),
-    Expected::Derived(A1, &KEYS),
-    Expected::Pairwise(A1, &KEYS),
+    Expected::TookSealed(A1, M3, PairKeys::OfAReply),
+    Expected::Derived(A1, PairKeys::OfAReply),
+    Expected::Pairwise(A1, PairKeys::OfAReply),
     Expected::Resumed(A1, GTK, 2),
-    Expected::Finished(A1, &KEYS),
-    Expected::SentSealed(A1, M4, SENT, &SEALING),
+    Expected::Finished(A1, PairKeys::OfAReply),
+    Expected::SentSealed(A1, M4, Frame::OfAReply, PairKeys::Sealing),
 ];
 
 const BROUGHT: &[Brought] = &[
@@ -230,7 +231,10 @@ const BROUGHT: &[Brought] = &[
         reply: Filled::Derived,
         outcome: Outcome::Accepted,
         had_session: true,
-        acts: &[Expected::Took(Some(S1), M3), Expected::Derived(S1, &KEYS)],
+        acts: &[
+            Expected::Took(Some(S1), M3),
+            Expected::Derived(S1, PairKeys::OfAReply),
+        ],
     },
 ];
 
@@ -312,7 +316,7 @@ fn is_sent_to_it(alloc: Global, reply: &Reply, outbox: &mut Outbox) -> bool
     }
 }
 
-const UNASKED: &[Expected] = &[Expected::SentSealed(A1, M4, SENT, &SEALING)];
+const UNASKED: &[Expected] = &[Expected::SentSealed(A1, M4, Frame::OfAReply, PairKeys::Sealing)];
 
 #[test]
 fn what_is_sent_unasked(rt: HostRuntime) {

@@ -9,6 +9,7 @@ mod protected;
 mod transition;
 
 use crate::acts::{Event, Step, come_of, is_outcome, tid_of};
+use crate::named::{data_of, octets_of};
 use crate::network::network;
 use act_memory::Outbox;
 use domain_base::{Akm, Node, Peer};
@@ -36,8 +37,8 @@ fn steps(
     let event = match step.event {
         Event::Connect(ap) => NodeEvent::Connect(ap % 2),
         Event::Roam(ap) if domain.akm == Akm::FtPsk => NodeEvent::Roam(ap % 2),
-        Event::Take(octets) => NodeEvent::Take(octets),
-        Event::TakeData(data) => NodeEvent::Take(data.octets),
+        Event::Take(frame) => NodeEvent::Take(octets_of(frame)),
+        Event::TakeData(frame) => NodeEvent::Take(data_of(frame).octets),
         Event::Send(ap, tid, payload) if payload.len() <= 2304 => {
             NodeEvent::Send(Peer::One(Node::Ap(ap % 2)), tid_of(tid), payload)
         }

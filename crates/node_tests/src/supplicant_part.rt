@@ -8,7 +8,8 @@ mod suite_2;
 mod suite_6;
 
 use crate::frames::{NOTHING, Sends, Told, is_told};
-use crate::mobility_vectors::{G1, G2, GTK_OF_A2, M3, TRANSITION_KCK, TRANSITION_PTK};
+use crate::mobility_vectors::{GTK_OF_A2, TRANSITION_KCK, TRANSITION_PTK};
+use crate::named::{Frame, octets_of};
 use crate::network::network;
 use domain_base::Akm;
 use eapol_key::Message;
@@ -22,7 +23,7 @@ use supplicant::{StaStart, Supplicant};
 // What comes, its outcome, and what the reply tells.
 struct Step {
     shows: &'static str,
-    came: &'static [u8],
+    came: Frame,
     outcome: Outcome,
     told: Told,
 }
@@ -52,7 +53,7 @@ fn is_right(
     reply: &mut Reply,
     step: &Step,
 ) -> bool {
-    match read(akm, step.came) {
+    match read(akm, octets_of(step.came)) {
         Delivered::Keyed(came) => {
             supplicant.step(came.message, &came.frame, memory, reply) == step.outcome
                 && is_told(reply, &step.told)
@@ -166,7 +167,7 @@ const GIVEN: Told = Told {
         id: 1,
         key: GTK_OF_A2,
     }),
-    sends: Sends::Frame(Message::G2, Some(TRANSITION_KCK), G2),
+    sends: Sends::Frame(Message::G2, Some(TRANSITION_KCK), Frame::FtG2),
 };
 
 // No counter is kept before the session of a fast transition, and M3 is not awaited in it.
@@ -175,25 +176,25 @@ const MOVED: &[Session] = &[Session {
     steps: &[
         Step {
             shows: "M3 before G1",
-            came: M3,
+            came: Frame::FtM3,
             outcome: UNAWAITED,
             told: NOTHING,
         },
         Step {
             shows: "G1",
-            came: G1,
+            came: Frame::FtG1,
             outcome: Outcome::Accepted,
             told: GIVEN,
         },
         Step {
             shows: "G1 again",
-            came: G1,
+            came: Frame::FtG1,
             outcome: Outcome::Refused(Reason::Counter(1)),
             told: NOTHING,
         },
         Step {
             shows: "M3 behind G1",
-            came: M3,
+            came: Frame::FtM3,
             outcome: UNAWAITED,
             told: NOTHING,
         },

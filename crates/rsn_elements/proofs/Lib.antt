@@ -9,3 +9,6 @@ pub mod SentSpelled
 pub mod Subelements
 pub mod Unique
 pub mod Walk
+pub mod Appending
+pub mod FieldsRead
+pub mod SubelementPlaces

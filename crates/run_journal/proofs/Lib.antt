@@ -4,3 +4,4 @@ pub mod Members
 pub mod Agreement
 pub mod Found
 pub mod Rooms
+pub mod Reversed

@@ -94,3 +94,8 @@ walk_ends q entries w k d h f = elim (cases_lt k w.below) [
   | inl lt ↦ w.last k lt (fits_place q entries k d h f)
   | inr ge ↦ w.above k d ge h f
 ]
+
+-- each turn leaves fewer
+pub fewer : (chains : List (Option ℕ)) (c i : ℕ) (place : Option ℕ) → IsLast chains c i place → left place < suc i
+fewer chains c i None h = omega arith
+fewer chains c i (Some j) h = let lt : j < i = h.0 in omega (arith, lt)

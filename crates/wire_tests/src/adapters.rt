@@ -1,29 +1,19 @@
 //! The outside of this machine, with what no clause says: that frames go from one socket to
 //! another, and that seeds differ.
 
-use crate::outside::next_frame;
+use crate::outside::gives;
 use domain_base::{Air, Draws, Link, Node};
 use loopback::{MachineRandom, OsDraws, UdpAir};
 use std::cell::Cell;
 use std::net::Net;
 
-// The link gives these frames one after the other.
-fn gives<L: Link>(link: &mut L, expected: &[Option<[u8; 4]>]) -> bool {
-    for frame in expected {
-        if next_frame(link) != Ok(*frame) {
-            return false;
-        }
-    }
-    true
-}
-
 // No frame comes before one is sent; then one goes each way, and one is cut to the buffer.
 fn carry_frames<L: Link>(ap: &mut L, station: &mut L) -> bool {
-    gives(ap, &[None])
+    gives(ap, &[Ok(None)])
         && ap.send(Node::Sta(0), b"beacon").is_ok()
         && station.send(Node::Ap(0), b"ok").is_ok()
-        && gives(station, &[Some(*b"beac"), None])
-        && gives(ap, &[Some(*b"ok\0\0"), None])
+        && gives(station, &[Ok(Some(*b"beac")), Ok(None)])
+        && gives(ap, &[Ok(Some(*b"ok\0\0")), Ok(None)])
 }
 
 // Whether two links from that port on carry frames, where both ports are free.

@@ -80,47 +80,37 @@ static WRAPPED_184: [u8; 192] = [
     0x17, 0xe2, 0x37, 0x6e, 0xbd, 0x0a, 0x25, 0xe7, 0xde, 0x11, 0x9b, 0x03, 0xf6, 0x02, 0xb7, 0x82,
 ];
 
-fn is_encrypted(key: &[u8; 16], plain: [u8; 16], block: [u8; 16]) -> bool {
-    let aes = Aes128::new(key);
-    aes.encrypt(plain) == block && aes.decrypt(block) == plain
-}
-
 #[test]
 fn blocks_are_encrypted_and_decrypted(rt: HostRuntime) {
     decryption_undoes_encryption();
     for (key, plain, block) in &ENCRYPTED {
-        assert!(rt; is_encrypted(key, *plain, *block), "{block:?}");
+        let aes = Aes128::new(key);
+        assert!(rt;
+            aes.encrypt(*plain) == *block && aes.decrypt(*block) == *plain,
+            "{block:?}"
+        );
     }
 }
 
-fn is_wrapped(kek: &[u8; 16], plain: &[u8], wrapped: &[u8]) -> bool
+// Wrapped from one slice to another, wrapped in place, and unwrapped.
+fn goes_both_ways(kek: &[u8; 16], plain: &[u8], wrapped: &[u8]) -> bool
     requires whole_blocks { length plain.now % 8 ≡ 0 }
     requires two_blocks { 16 ≤ length plain.now }
     requires short { length plain.now ≤ 184 }
+    requires wrapped { length wrapped.now ≡ length plain.now + 8 }
 {
-    let mut out = [0; 192];
-    let end = wrap(kek, plain, &mut out);
-    &out[..end] == wrapped
-}
-
-fn is_wrapped_in_place(kek: &[u8; 16], plain: &[u8], wrapped: &[u8]) -> bool
-    requires whole_blocks { length plain.now % 8 ≡ 0 }
-    requires two_blocks { 16 ≤ length plain.now }
-    requires short { length plain.now ≤ 184 }
-{
-    let mut out = [0; 192];
     let end = plain.len() + 8;
+    let mut out = [0; 192];
+    if wrap(kek, plain, &mut out) != end || &out[..end] != wrapped {
+        return false;
+    }
+    let mut out = [0; 192];
     out[8..end].copy_from_slice(plain);
     wrap_in_place(kek, &mut out[..end]);
-    &out[..end] == wrapped
-}
-
-fn is_unwrapped(kek: &[u8; 16], plain: &[u8], wrapped: &[u8]) -> bool
-    requires short { length wrapped.now ≤ 192 }
-{
+    let is_wrapped_in_place = &out[..end] == wrapped;
     let mut out = [0; 192];
     match unwrap(kek, wrapped, &mut out) {
-        Ok(end) => end == plain.len() && end <= 192 && &out[..end] == plain,
+        Ok(end) => is_wrapped_in_place && end == plain.len() && &out[..plain.len()] == plain,
         Err(BadWrap) => false,
     }
 }
@@ -132,19 +122,10 @@ fn is_refused(kek: &[u8; 16], wrapped: &[u8]) -> bool
     matches!(unwrap(kek, wrapped, &mut out), Err(BadWrap))
 }
 
-fn goes_both_ways(kek: &[u8; 16], plain: &[u8], wrapped: &[u8]) -> bool
-    requires whole_blocks { length plain.now % 8 ≡ 0 }
-    requires two_blocks { 16 ≤ length plain.now }
-    requires short { length plain.now ≤ 184 }
-    requires wrapped { length wrapped.now ≡ length plain.now + 8 }
-{
-    is_wrapped(kek, plain, wrapped)
-        && is_wrapped_in_place(kek, plain, wrapped)
-        && is_unwrapped(kek, plain, wrapped)
-}
-
+// The vector of RFC 3394, inputs that are refused, and plain texts of three and more blocks.
 #[test]
-fn vector_of_rfc_3394_and_refused_inputs(rt: HostRuntime) {
+fn keys_are_wrapped_and_unwrapped_or_refused(rt: HostRuntime) {
+    plain_text_is_unique();
     let mut other = STANDARD_WRAPPED;
     other[23] = 0xe4;
     assert!(rt;
@@ -153,11 +134,6 @@ fn vector_of_rfc_3394_and_refused_inputs(rt: HostRuntime) {
             && is_refused(&COUNTED_KEY, &STANDARD_WRAPPED[..8])
             && is_refused(&COUNTED_KEY, &STANDARD_WRAPPED[..23])
     );
-}
-
-#[test]
-fn plain_texts_of_three_and_more_blocks(rt: HostRuntime) {
-    plain_text_is_unique();
     assert!(rt;
         goes_both_ways(&STANDARD_KEY, &RISING[..24], &WRAPPED_24)
             && goes_both_ways(&STANDARD_KEY, &RISING[..32], &WRAPPED_32)

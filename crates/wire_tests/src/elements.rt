@@ -360,28 +360,20 @@ const SAID_FTE: Fte<'static> = Fte {
     r0kh_id: Some(b"r0kh-1"),
 };
 
-static ORDERS: [[&[u8]; 5]; 2] = [
-    [RSNE, MDE, GTK, FTE, TIMEOUTS],
-    [TIMEOUTS, FTE, GTK, MDE, RSNE],
-];
-
-fn are(suites: Option<Suites<'_>>, octets: &[u8]) -> bool {
-    match suites {
-        Some(suites) => suites.0 == octets,
-        None => false,
-    }
-}
+static PIECES: [&[u8]; 5] = [RSNE, MDE, GTK, FTE, TIMEOUTS];
 
 fn is_that_rsne(rsne: Option<Rsne<'_>>) -> bool {
-    match rsne {
-        Some(rsne) => {
-            (rsne.version == 1 && rsne.group == Some(CCMP))
-                && (are(rsne.pairwise, &CCMP) && are(rsne.akms, b"\x00\x0f\xac\x02"))
-                && (rsne.capabilities == Some(12) && rsne.pmkids.is_none())
-                && rsne.management.is_none()
-        }
-        None => false,
-    }
+    let Some(rsne) = rsne else {
+        return false;
+    };
+    let (Some(pairwise), Some(akms)) = (rsne.pairwise, rsne.akms) else {
+        return false;
+    };
+    (rsne.version == 1 && rsne.group == Some(CCMP))
+        && (pairwise.0 == b"\x00\x0f\xac\x04".as_slice()
+            && akms.0 == b"\x00\x0f\xac\x02".as_slice())
+        && (rsne.capabilities == Some(12) && rsne.pmkids.is_none())
+        && rsne.management.is_none()
 }
 
 /// The MDE has the mobility domain of the tests, and capability 0.
@@ -392,27 +384,19 @@ pub fn is_that_mde(mde: Option<Mde>) -> bool {
     }
 }
 
-fn is_that_wrapped_gtk(gtk: Option<WrappedGtk<'_>>, want: Option<WrappedGtk<'_>>) -> bool {
-    match (gtk, want) {
-        (Some(gtk), Some(want)) => {
-            (gtk.information == want.information && gtk.key_length == want.key_length)
-                && (gtk.rsc == want.rsc && gtk.wrapped == want.wrapped)
-        }
-        _ => false,
-    }
-}
-
 /// The FTE says what another does, which has a wrapped group key.
 pub fn is_that_fte(fte: Option<Fte<'_>>, want: &Fte<'_>) -> bool {
-    match fte {
-        Some(fte) => {
-            (fte.mic_control == want.mic_control && fte.mic == want.mic)
-                && (fte.anonce == want.anonce && fte.snonce == want.snonce)
-                && (fte.r1kh_id == want.r1kh_id && fte.r0kh_id == want.r0kh_id)
-                && is_that_wrapped_gtk(fte.gtk, want.gtk)
-        }
-        None => false,
-    }
+    let Some(fte) = fte else {
+        return false;
+    };
+    let (Some(gtk), Some(wanted)) = (fte.gtk, want.gtk) else {
+        return false;
+    };
+    (fte.mic_control == want.mic_control && fte.mic == want.mic)
+        && (fte.anonce == want.anonce && fte.snonce == want.snonce)
+        && (fte.r1kh_id == want.r1kh_id && fte.r0kh_id == want.r0kh_id)
+        && (gtk.information == wanted.information && gtk.key_length == wanted.key_length)
+        && (gtk.rsc == wanted.rsc && gtk.wrapped == wanted.wrapped)
 }
 
 /// The RSNE has this name of a key, and no other.
@@ -426,36 +410,32 @@ pub fn names_one(rsne: Option<Rsne<'_>>, name: &[u8; 16]) -> bool {
     }
 }
 
-fn is_that_gtk(gtk: Option<GtkKde<'_>>) -> bool {
-    match gtk {
-        Some(gtk) => gtk.id == 1 && !gtk.transmit && gtk.key == b"0123456789abcdef".as_slice(),
-        None => false,
-    }
-}
-
-fn are_those_octets(elements: &Elements<'_>) -> bool {
-    elements.rsne_octets == Some(RSNE)
-        && elements.mde_octets == Some(MDE)
-        && elements.fte_octets == Some(FTE)
-}
-
-// Everything that the elements of `ORDERS` say was read, and nothing else.
+// Everything that the pieces say was read, and nothing else.
 fn says_all(read: Result<Elements<'_>, ElementFault>) -> bool {
-    match read {
-        Ok(elements) => {
-            (is_that_rsne(elements.rsne) && is_that_mde(elements.mde))
-                && (is_that_fte(elements.fte, &SAID_FTE) && is_that_gtk(elements.gtk))
-                && (elements.deadline == Some(1000) && elements.lifetime == Some(86400))
-                && are_those_octets(&elements)
-        }
-        Err(_) => false,
-    }
+    let Ok(elements) = read else {
+        return false;
+    };
+    let Some(gtk) = elements.gtk else {
+        return false;
+    };
+    (is_that_rsne(elements.rsne) && is_that_mde(elements.mde))
+        && (is_that_fte(elements.fte, &SAID_FTE) && gtk.key == b"0123456789abcdef".as_slice())
+        && (gtk.id == 1 && !gtk.transmit)
+        && (elements.deadline == Some(1000) && elements.lifetime == Some(86400))
+        && (elements.rsne_octets == Some(PIECES[0]) && elements.mde_octets == Some(PIECES[1]))
+        && elements.fte_octets == Some(PIECES[3])
 }
 
-fn are_read(order: &[&[u8]; 5]) -> bool {
+// The pieces one after the other, or the last one first.
+fn are_read(is_reversed: bool) -> bool {
     let mut octets = [0; 512];
     let mut end = 0;
-    for piece in order {
+    for i in 0..5 {
+        let piece = if is_reversed {
+            PIECES[4 - i]
+        } else {
+            PIECES[i]
+        };
         if end > 256 || piece.len() > 256 {
             return false;
         }
@@ -466,9 +446,8 @@ fn are_read(order: &[&[u8]; 5]) -> bool {
 
 #[test]
 fn elements_in_any_order(rt: HostRuntime) {
-    for order in &ORDERS {
-        assert!(rt; are_read(order), "from {:?}", order[0]);
-    }
+    assert!(rt; are_read(false));
+    assert!(rt; are_read(true));
 }
 
 // An RSNE, its group suite, the number of its AKMs, its capabilities and its management suite.
@@ -512,8 +491,14 @@ static EARLY: [Early; 5] = [
     ),
 ];
 
-fn ends_early(rsne: &Rsne<'_>, row: &Early) -> bool {
-    let (_, group, akms, capabilities, management) = *row;
+fn is_read_as_it_ends(row: &Early) -> bool {
+    let (octets, group, akms, capabilities, management) = *row;
+    let Ok(elements) = read_elements(octets, Within::Body) else {
+        return false;
+    };
+    let Some(rsne) = elements.rsne else {
+        return false;
+    };
     let count = match rsne.akms {
         Some(list) => Some(list.count()),
         None => None,
@@ -522,35 +507,18 @@ fn ends_early(rsne: &Rsne<'_>, row: &Early) -> bool {
         && (rsne.capabilities == capabilities && rsne.management == management)
 }
 
-fn is_read_as_it_ends(row: &Early) -> bool {
-    match read_elements(row.0, Within::Body) {
-        Ok(elements) => match elements.rsne {
-            Some(rsne) => ends_early(&rsne, row),
-            None => false,
-        },
-        Err(_) => false,
-    }
-}
-
 #[test]
-fn rsn_elements_that_end_early(rt: HostRuntime) {
+fn rsn_elements_that_end_early_and_members_of_lists(rt: HostRuntime) {
     for row in &EARLY {
         let octets = row.0;
         assert!(rt; is_read_as_it_ends(row), "at {octets:?}");
     }
-}
-
-fn are_two(suites: Suites<'_>) -> bool {
-    suites.count() == 2
-        && suites.get(1) == Some([0x00, 0x0f, 0xac, 0x02])
-        && suites.get(2).is_none()
-}
-
-#[test]
-fn members_of_lists(rt: HostRuntime) {
-    let names = Pmkids(&NAME);
-    assert!(rt; are_two(Suites(b"\x00\x0f\xac\x04\x00\x0f\xac\x02")));
-    assert!(rt; names.count() == 1 && names.get(0) == Some(NAME));
+    let (names, suites) = (Pmkids(&NAME), Suites(b"\x00\x0f\xac\x04\x00\x0f\xac\x02"));
+    assert!(rt;
+        (names.count() == 1 && names.get(0) == Some(NAME))
+            && (suites.count() == 2 && suites.get(1) == Some([0x00, 0x0f, 0xac, 0x02]))
+            && suites.get(2).is_none()
+    );
 }
 
 fn association_is_written() -> bool {
@@ -580,11 +548,6 @@ fn group_key_data(out: &mut [u8], id: u8, key: &[u8; 16]) -> usize
 
 const GROUP_KEY_DATA: [u8; 26] = *b"\xdd\x16\x00\x0f\xac\x01\x02\x000123456789abcdef\xff\xff";
 
-fn group_key_data_is_written() -> bool {
-    let mut buffer = [0xff; 26];
-    group_key_data(&mut buffer, 2, b"0123456789abcdef") == 24 && buffer == GROUP_KEY_DATA
-}
-
 // 46 octets, and two of padding.
 fn message_3_is_written() -> bool {
     let mut buffer = [0xff; 50];
@@ -601,5 +564,8 @@ const MESSAGE_3: [u8; 50] =
 
 #[test]
 fn elements_are_written_octet_by_octet(rt: HostRuntime) {
-    assert!(rt; association_is_written() && group_key_data_is_written() && message_3_is_written());
+    let mut buffer = [0xff; 26];
+    let end = group_key_data(&mut buffer, 2, b"0123456789abcdef");
+    assert!(rt; end == 24 && buffer == GROUP_KEY_DATA);
+    assert!(rt; association_is_written() && message_3_is_written());
 }

@@ -8,7 +8,7 @@ use air_frame::{
 };
 use domain_base::{Akm, Mac, array_at, put};
 use mac_prf::{FteCovered, Reassociation, fte_mic, verify_fte_mic};
-use rsn_elements::{ElementWriter, Elements, Fte, Within, WrappedGtk, read_elements};
+use rsn_elements::{ElementWriter, Fte, Within, WrappedGtk, read_elements};
 
 const FIRST_AP: Mac = Mac([2, 0, 0, 0, 0, 1]);
 
@@ -355,17 +355,6 @@ fn verifies_altered(octets: &[u8], place: usize) -> bool {
     is_verified(&altered[..end])
 }
 
-// The MIC of the request does not cover the capabilities and the current access point, the SSID,
-// and the rates, in four places of which it is tried.
-fn is_covered_so(place: usize) -> bool {
-    let verifies = verifies_altered(&RE_REQ, place);
-    match place {
-        24 | 30 | 37 | 45 | 191 => verifies,
-        4..=15 | 46..=190 => !verifies,
-        _ => true,
-    }
-}
-
 // The MIC is that of elements as they came, with all that stands in them.
 fn is_mic_of_others(frame: Reassociation, mic: &[u8; 16]) -> bool {
     let covered = FteCovered {
@@ -379,11 +368,32 @@ fn is_mic_of_others(frame: Reassociation, mic: &[u8; 16]) -> bool {
     fte_mic(&KCK, &covered) == *mic && !verify_fte_mic(&KCK, &covered)
 }
 
-// In the response that is tried from its elements on.
+// The response is read with its group key.
+fn is_read_as_response(octets: &[u8]) -> bool {
+    let Ok(AirFrame::ReResp(f)) = read(octets) else {
+        return false;
+    };
+    let Ok(elements) = read_elements(f.elements, Within::Body) else {
+        return false;
+    };
+    (f.status == 0 && f.aid == 0xc001)
+        && (names_one(elements.rsne, &R1_NAME) && is_that_mde(elements.mde))
+        && is_that_fte(elements.fte, &RE_RESP_FTE)
+}
+
+// The MIC of the request does not cover the capabilities and the current access point, the SSID,
+// and the rates, in four places of which it is tried. In the response it is tried from its elements
+// on.
 #[test]
-fn mic_covers_addresses_and_three_whole_elements(rt: HostRuntime) {
+fn a_response_is_read_and_mics_cover_addresses_and_three_whole_elements(rt: HostRuntime) {
     for place in 4..192 {
-        assert!(rt; is_covered_so(place), "{place} of the request");
+        let verifies = verifies_altered(&RE_REQ, place);
+        let is_right = match place {
+            24 | 30 | 37 | 45 | 191 => verifies,
+            4..=15 | 46..=190 => !verifies,
+            _ => true,
+        };
+        assert!(rt; is_right, "{place} of the request");
     }
     for place in 36..219 {
         let verifies = verifies_altered(&RE_RESP, place);
@@ -393,25 +403,5 @@ fn mic_covers_addresses_and_three_whole_elements(rt: HostRuntime) {
         is_mic_of_others(Reassociation::Request, &OTHER_REQUEST_MIC)
             && is_mic_of_others(Reassociation::Response, &OTHER_RESPONSE_MIC)
     );
-}
-
-fn says_response(elements: &Elements<'_>) -> bool {
-    names_one(elements.rsne, &R1_NAME)
-        && is_that_mde(elements.mde)
-        && is_that_fte(elements.fte, &RE_RESP_FTE)
-}
-
-fn is_read_as_response(octets: &[u8]) -> bool {
-    match read(octets) {
-        Ok(AirFrame::ReResp(f)) => match read_elements(f.elements, Within::Body) {
-            Ok(elements) => f.status == 0 && f.aid == 0xc001 && says_response(&elements),
-            Err(_) => false,
-        },
-        _ => false,
-    }
-}
-
-#[test]
-fn a_response_is_read_with_its_group_key(rt: HostRuntime) {
     assert!(rt; is_read_as_response(&RE_RESP));
 }

@@ -3,9 +3,9 @@
 ghost use Rattle.std.specs.Prelude.{◌≤◌};
 
 use air_frame::{
-    AirFault, AirFrame, Data, Direction, Header, Subtype, data_header, management_header, read,
-    write, write_assoc_req, write_assoc_resp, write_eapol_data, write_ft_req, write_ft_resp,
-    write_re_req, write_re_resp,
+    AirFault, AirFrame, Data, Direction, Subtype, data_header, management_header, read, write,
+    write_assoc_req, write_assoc_resp, write_eapol_data, write_ft_req, write_ft_resp, write_re_req,
+    write_re_resp,
 };
 use domain_base::{Mac, Tid, put};
 
@@ -187,15 +187,12 @@ fn way(data: &Data<'_>) -> u16 {
     }
 }
 
-fn is_from_station(header: &Header<'_>) -> bool {
-    header.a1 == AP && header.a2 == STATION && header.a3 == AP
-}
-
 // A frame is of its kind, and has its numbers and octets.
 fn is_told(row: &Told) -> bool {
     let (octets, kind, first, second, behind) = *row;
     let told: (u8, u16, u16, &[u8]) = match read(octets) {
-        Ok(AirFrame::AssocReq(f)) if is_from_station(&f.header) => {
+        Ok(AirFrame::AssocReq(f))
+            if f.header.a1 == AP && f.header.a2 == STATION && f.header.a3 == AP => {
             (0, f.capability, f.listen_interval, f.elements)
         }
         Ok(AirFrame::AssocResp(f)) => (1, f.status, f.aid, f.elements),
@@ -210,14 +207,6 @@ fn is_told(row: &Told) -> bool {
         _ => return false,
     };
     (told.0 == kind && told.1 == first) && (told.2 == second && told.3 == behind)
-}
-
-#[test]
-fn frames_are_read_and_written_back(rt: HostRuntime) {
-    for row in &FRAMES {
-        let octets = row.0;
-        assert!(rt; is_told(row) && is_written_as_read(octets), "at {octets:?}");
-    }
 }
 
 const RATES: &[u8] = b"\x01\x04\x82\x84\x8b\x96";
@@ -237,22 +226,18 @@ fn send(number: usize, out: &mut [u8; 64]) -> usize
     }
 }
 
-fn is_sent(number: usize, octets: &[u8]) -> bool {
-    let mut out = [0; 64];
-    let len = send(number, &mut out);
-    &out[..len] == octets
-}
-
-fn headers_are_sent() -> bool {
+// The first seven are also written from their fields, and two headers alone.
+#[test]
+fn frames_are_read_and_written_back_and_sent_octet_by_octet(rt: HostRuntime) {
+    for number in 0..11 {
+        let row = &FRAMES[number];
+        let octets = row.0;
+        assert!(rt; is_told(row) && is_written_as_read(octets), "at {octets:?}");
+        let mut out = [0; 64];
+        let len = send(number, &mut out);
+        assert!(rt; number > 6 || &out[..len] == octets, "frame {number}");
+    }
     let data = data_header(Direction::ToDs, true, Tid::new(5), AP, STATION, AP);
     let management = management_header(Subtype::Authentication, AP, STATION, AP);
-    data.as_slice() == &QOS_SEALED[..26] && management.as_slice() == &FT_REQ[..24]
-}
-
-#[test]
-fn frames_are_sent_octet_by_octet(rt: HostRuntime) {
-    for number in 0..7 {
-        assert!(rt; is_sent(number, FRAMES[number].0), "frame {number}");
-    }
-    assert!(rt; headers_are_sent());
+    assert!(rt; data.as_slice() == &QOS_SEALED[..26] && management.as_slice() == &FT_REQ[..24]);
 }

@@ -78,14 +78,6 @@ fn is_found(answer: PullAnswer, r1: &PmkR1) -> bool {
     }
 }
 
-fn is_absent(answer: PullAnswer) -> bool {
-    matches!(answer, PullAnswer::Absent)
-}
-
-fn is_put(answer: PutAnswer) -> bool {
-    matches!(answer, PutAnswer::Held)
-}
-
 // Whether 64 rows of different names are held.
 fn fills<H: Holders>(holders: &mut H) -> bool
     requires { is_in 0 (H.has holders.old) ≡ true }
@@ -93,32 +85,28 @@ fn fills<H: Holders>(holders: &mut H) -> bool
 {
     let mut all = true;
     for number in 0..64 {
-        all &= is_put(holders.put(0, row(0, number)));
+        all &= matches!(holders.put(0, row(0, number)), PutAnswer::Held);
     }
     all
 }
 
 // Revoked rows have no room for others, and are found no more.
-fn counts_revoked_rows<H: Holders>(holders: &mut H) -> bool
-    requires { is_in 0 (H.has holders.old) ≡ true }
-{
-    let first = row(0, 0);
-    let revoked = matches!(holders.revoke(0, &first.name), RevokeAnswer::Revoked);
-    let gone = matches!(holders.revoke(0, &first.name), RevokeAnswer::Absent);
-    let full = matches!(holders.put(0, first), PutAnswer::Full);
-    let absent = is_absent(holders.pull(R0KH_IDS[0], &first.name, TARGET, STA));
-    revoked && gone && full && absent
-}
-
 fn meets_each_answer<H: Holders>(holders: &mut H) -> bool
     requires { is_in 0 (H.has holders.old) ≡ true }
 {
+    let first = row(0, 0);
     let filled = fills(holders);
-    let again = matches!(holders.put(0, row(0, 0)), PutAnswer::HeldAlready);
+    let again = matches!(holders.put(0, first), PutAnswer::HeldAlready);
     let full = matches!(holders.put(0, row(0, 64)), PutAnswer::Full);
-    let counted = counts_revoked_rows(holders);
+    let revoked = matches!(holders.revoke(0, &first.name), RevokeAnswer::Revoked);
+    let gone = matches!(holders.revoke(0, &first.name), RevokeAnswer::Absent);
+    let counted = matches!(holders.put(0, first), PutAnswer::Full);
+    let answer = holders.pull(R0KH_IDS[0], &first.name, TARGET, STA);
+    let absent = matches!(answer, PullAnswer::Absent);
     let answer = holders.pull(b"r0kh-9", &row(0, 1).name, TARGET, STA);
-    filled && again && full && counted && matches!(answer, PullAnswer::NoHolder)
+    (filled && again && full)
+        && (revoked && gone && counted)
+        && (absent && matches!(answer, PullAnswer::NoHolder))
 }
 
 fn is_captured(answer: PullAnswer) -> bool {
@@ -136,10 +124,12 @@ fn gives_the_captured_key<H: Holders>(holders: &mut H) -> bool
     let psk = octets(PSK);
     let row = HolderRow::derive(&psk, b"wireshark-ft-psk", [1, 2], R0KH_IDS[0], STA);
     let name = row.name();
-    let held = is_put(holders.put(0, row));
+    let held = matches!(holders.put(0, row), PutAnswer::Held);
     let found = is_captured(holders.pull(R0KH_IDS[0], &name, TARGET, STA));
-    let of_another = is_absent(holders.pull(R0KH_IDS[0], &name, TARGET, TARGET));
-    let elsewhere = is_absent(holders.pull(R0KH_IDS[1], &name, TARGET, STA));
+    let answer = holders.pull(R0KH_IDS[0], &name, TARGET, TARGET);
+    let of_another = matches!(answer, PullAnswer::Absent);
+    let answer = holders.pull(R0KH_IDS[1], &name, TARGET, STA);
+    let elsewhere = matches!(answer, PullAnswer::Absent);
     name == R0_NAME.to_be_bytes() && held && found && of_another && elsewhere
 }
 
@@ -156,24 +146,17 @@ fn listed_holders_meet_each_answer(rt: HostRuntime) {
     assert!(rt; gives_the_captured_key(&mut listed(&rt, rt.alloc(), 2)));
 }
 
-// Whether the shared holders, by a pass of theirs, meet each answer.
-fn shared_meet_each_answer(holders: &SharedHolders, pass: HolderPass) -> bool
+// Whether the shared holders, by a pass of theirs, give the captured key, or meet each answer.
+fn shared_are_right(holders: &SharedHolders, pass: HolderPass, give_the_captured: bool) -> bool
     requires pass { pass.table ≡ holders.now.table }
     requires has { is_in 0 pass.knows.has ≡ true }
 {
     let mut bound = Bound::new(holders, pass);
-    let is_right = meets_each_answer(&mut bound);
-    let _pass = bound.into_pass();
-    is_right
-}
-
-// Whether they give the captured key.
-fn shared_give_the_captured_key(holders: &SharedHolders, pass: HolderPass) -> bool
-    requires pass { pass.table ≡ holders.now.table }
-    requires has { is_in 0 pass.knows.has ≡ true }
-{
-    let mut bound = Bound::new(holders, pass);
-    let is_right = gives_the_captured_key(&mut bound);
+    let is_right = if give_the_captured {
+        gives_the_captured_key(&mut bound)
+    } else {
+        meets_each_answer(&mut bound)
+    };
     let _pass = bound.into_pass();
     is_right
 }
@@ -182,14 +165,11 @@ fn shared_give_the_captured_key(holders: &SharedHolders, pass: HolderPass) -> bo
 fn shared_holders_meet_each_answer(rt: HostRuntime) {
     let alone = ids(&rt, rt.alloc(), 1);
     let (holders, pass) = SharedHolders::start(rt.alloc(), alone).expect(&rt, "memory");
-    assert!(rt; shared_meet_each_answer(&holders, pass));
-}
-
-#[test]
-fn shared_holders_give_the_captured_key(rt: HostRuntime) {
+    assert!(rt; shared_are_right(&holders, pass, false));
+    drop(holders);
     let two = ids(&rt, rt.alloc(), 2);
     let (holders, pass) = SharedHolders::start(rt.alloc(), two).expect(&rt, "memory");
-    assert!(rt; shared_give_the_captured_key(&holders, pass));
+    assert!(rt; shared_are_right(&holders, pass, true));
 }
 
 // Whether eight rows are held.
@@ -201,7 +181,8 @@ fn put_eight(holders: &SharedHolders, pass: &mut HolderPass, ap: u8) -> bool
 {
     let mut all = true;
     for number in 0..8 {
-        all &= is_put(holders.put(pass, u16::from(ap), row(ap, number)));
+        let answer = holders.put(pass, u16::from(ap), row(ap, number));
+        all &= matches!(answer, PutAnswer::Held);
     }
     all
 }
@@ -216,29 +197,21 @@ fn pull(holders: &SharedHolders, pass: &mut HolderPass, ap: u8, number: u8) -> P
     holders.pull(pass, id, &row(ap, number).name, TARGET, STA)
 }
 
-// Whether the other side's eighth row is found, of many pulls.
-fn finds_the_last(holders: &SharedHolders, pass: &mut HolderPass, ap: u8) -> bool
+// Whether a row of the other side is found, or is gone, of many pulls.
+fn comes(holders: &SharedHolders, pass: &mut HolderPass, ap: u8, number: u8, is_there: bool) -> bool
     requires pass { pass.old.table ≡ holders.now.table }
     ensures pass { pass.new.table ≡ pass.old.table }
     ensures has { pass.new.knows.has ≡ pass.old.knows.has }
 {
-    let r1 = row(ap, 7).r1(TARGET);
+    let r1 = row(ap, number).r1(TARGET);
     for _ in 0..PULLS {
-        if is_found(pull(holders, pass, ap, 7), &r1) {
-            return true;
-        }
-    }
-    false
-}
-
-// Whether the other side's first row is gone, of many pulls.
-fn misses_the_first(holders: &SharedHolders, pass: &mut HolderPass, ap: u8) -> bool
-    requires pass { pass.old.table ≡ holders.now.table }
-    ensures pass { pass.new.table ≡ pass.old.table }
-    ensures has { pass.new.knows.has ≡ pass.old.knows.has }
-{
-    for _ in 0..PULLS {
-        if is_absent(pull(holders, pass, ap, 0)) {
+        let answer = pull(holders, pass, ap, number);
+        let is_seen = if is_there {
+            is_found(answer, &r1)
+        } else {
+            matches!(answer, PullAnswer::Absent)
+        };
+        if is_seen {
             return true;
         }
     }
@@ -254,9 +227,9 @@ fn side(holders: &SharedHolders, pass: HolderPass, own: u8, other: u8) -> (Holde
 {
     let mut pass = pass;
     let put = put_eight(holders, &mut pass, own);
-    let found = finds_the_last(holders, &mut pass, other);
+    let found = comes(holders, &mut pass, other, 7, true);
     let revoked = holders.revoke(&mut pass, u16::from(own), &row(own, 0).name);
-    let gone = misses_the_first(holders, &mut pass, other);
+    let gone = comes(holders, &mut pass, other, 0, false);
     let all = put && found && matches!(revoked, RevokeAnswer::Revoked) && gone;
     (pass, all)
 }
@@ -266,7 +239,7 @@ fn are_left(holders: &SharedHolders, pass: &mut HolderPass, ap: u8) -> bool
     requires pass { pass.old.table ≡ holders.now.table }
     ensures pass { pass.new.table ≡ pass.old.table }
 {
-    let mut all = is_absent(pull(holders, pass, ap, 0));
+    let mut all = matches!(pull(holders, pass, ap, 0), PullAnswer::Absent);
     for number in 1..8 {
         let r1 = row(ap, number).r1(TARGET);
         all &= is_found(pull(holders, pass, ap, number), &r1);

@@ -1,15 +1,13 @@
 //! EAPOL-Key frames: the six messages, faults, MICs and wrapped key data.
 
 ghost use Rattle.std.specs.Prelude.{◌≡◌, ◌≤◌, ◌+◌, length};
-ghost use Rattle.eapol_key.specs.Fields.{IsKeyFrame};
 ghost use Rattle.eapol_key.specs.KeyData.{padded_length};
 ghost use Rattle.eapol_key.specs.Sent.{IsSentWith};
 
 use crate::vectors::RISING;
 use domain_base::{Akm, array_at, put};
 use eapol_key::{
-    BadWrap, FaultKind, KeyFrame, Message, classify, close_key_data, open_key_data, read, seal,
-    verify, write,
+    BadWrap, FaultKind, Message, classify, close_key_data, open_key_data, read, seal, verify, write,
 };
 use std::process::Abort;
 use std::test::*;
@@ -125,39 +123,20 @@ fn is_first_m1(akm: Akm, information: u8) -> bool {
     used == 99 && out == expected
 }
 
-// The fields are those of the first M1.
-fn tells_first_m1(frame: &KeyFrame<'_>) -> bool {
-    frame.version == 2
-        && frame.information == 0x8a
-        && frame.key_length == 16
-        && frame.counter == 1
-        && frame.nonce == NONCE
-        && frame.key_data.len() == 0
-        && frame.octets.len() == 99
-}
-
 // The first M1, with octets behind it that are not looked at.
 fn is_read_as_first_m1() -> bool {
     let mut octets = [0; 102];
     let at = put(&mut octets, 0, &FIRST_M1);
     put(&mut octets, at, &NONCE);
     put(&mut octets, 99, &[0xdd, 0xee, 0xff]);
-    match read(&octets) {
-        Ok((frame, used)) => {
-            used == 99
-                && tells_first_m1(&frame)
-                && classify(&frame, Akm::Psk) == Some(Message::M1)
-                && classify(&frame, Akm::PskSha256).is_none()
-        }
-        Err(_) => false,
-    }
-}
-
-#[test]
-fn first_m1_is_written_and_read_octet_by_octet(rt: HostRuntime) {
-    assert!(rt;
-        (is_first_m1(Akm::Psk, 0x8a) && is_first_m1(Akm::PskSha256, 0x8b)) && is_read_as_first_m1()
-    );
+    let Ok((frame, used)) = read(&octets) else {
+        return false;
+    };
+    let is_m1 = classify(&frame, Akm::Psk) == Some(Message::M1);
+    (used == 99 && is_m1 && classify(&frame, Akm::PskSha256).is_none())
+        && (frame.version == 2 && frame.information == 0x8a && frame.key_length == 16)
+        && (frame.counter == 1 && frame.nonce == NONCE)
+        && (frame.key_data.len() == 0 && frame.octets.len() == 99)
 }
 
 // The octets begin so, are zeros from there to the last one, and have that fault.
@@ -193,30 +172,15 @@ fn rsc_of(message: Message) -> [u8; 8] {
     }
 }
 
-fn tells(frame: &KeyFrame<'_>, message: Message, akm: Akm, key_data: &[u8]) -> bool {
-    let carried = frame.key_data;
-    classify(frame, akm) == Some(message)
-        && frame.counter == 7
-        && carried == key_data
-        && frame.rsc == rsc_of(message)
-}
-
-// It carries the MIC of the key, and not of another.
-fn is_sealed(frame: &KeyFrame<'_>, akm: Akm) -> bool
-    requires { IsKeyFrame frame.now }
-{
-    verify(frame, akm, &KCK) && !verify(frame, akm, &[0; 16])
-}
-
+// The message, with the MIC of the key, and not of another.
 fn is_read_as(octets: &[u8], message: Message, akm: Akm, key_data: &[u8]) -> bool {
-    match read(octets) {
-        Ok((frame, used)) => {
-            used == key_data.len() + 99
-                && tells(&frame, message, akm, key_data)
-                && is_sealed(&frame, akm)
-        }
-        Err(_) => false,
-    }
+    let Ok((frame, used)) = read(octets) else {
+        return false;
+    };
+    let carried = frame.key_data;
+    (used == key_data.len() + 99 && classify(&frame, akm) == Some(message))
+        && (frame.counter == 7 && carried == key_data && frame.rsc == rsc_of(message))
+        && (verify(&frame, akm, &KCK) && !verify(&frame, akm, &[0; 16]))
 }
 
 // Writes a message, and sends it from one end to the other.
@@ -248,21 +212,21 @@ fn is_carried(message: Message, key_data: &[u8]) -> bool
         && arrives(message, Akm::FtPsk, key_data)
 }
 
+// The first M1 octet by octet, and M4 of the SHA-256 suite with a MIC that another program gave.
 #[test]
 fn each_message_is_written_classified_sealed_and_verified(rt: HostRuntime) {
+    assert!(rt;
+        (is_first_m1(Akm::Psk, 0x8a) && is_first_m1(Akm::PskSha256, 0x8b)) && is_read_as_first_m1()
+    );
     assert!(rt;
         (is_carried(Message::M1, &[]) && is_carried(Message::M2, &[0x30; 22]))
             && (is_carried(Message::M3, &[0xa5; 56]) && is_carried(Message::M4, &[]))
             && (is_carried(Message::G1, &[0xa5; 32]) && is_carried(Message::G2, &[]))
     );
-}
-
-fn is_closed_to(plain: &[u8], wrapped: &[u8]) -> bool
-    requires { padded_length (length plain.now) + 8 ≤ 192 }
-{
-    let mut out = [0; 192];
-    let end = close_key_data(&KEK, plain, &mut out);
-    &out[..end] == wrapped
+    let mut out = [0; 99];
+    write(Message::M4, Akm::PskSha256, 7, &NONCE, 0, &[], &mut out);
+    seal(Akm::PskSha256, &KCK, &mut out);
+    assert!(rt; array_at::<16>(&out, 81) == M4_MIC);
 }
 
 // The key data, and then its padding.
@@ -282,7 +246,9 @@ fn goes_both_ways(plain: &[u8], wrapped: &[u8]) -> bool
     requires size { length wrapped.now ≡ padded_length (length plain.now) + 8 }
     requires most { length wrapped.now ≤ 192 }
 {
-    is_closed_to(plain, wrapped) && is_opened_to(wrapped, plain)
+    let mut out = [0; 192];
+    let end = close_key_data(&KEK, plain, &mut out);
+    &out[..end] == wrapped && is_opened_to(wrapped, plain)
 }
 
 fn is_refused(wrapped: &[u8]) -> bool
@@ -307,12 +273,4 @@ fn key_data_is_padded_wrapped_and_opened(rt: HostRuntime) {
         (is_refused(&other) && matches!(open_key_data(&KEK, &[], &mut []), Err(BadWrap)))
             && (is_refused(&M3_WRAPPED[..8]) && is_refused(&M3_WRAPPED[..23]))
     );
-}
-
-#[test]
-fn m4_of_the_sha256_suite_is_sealed_by_cmac(rt: HostRuntime) {
-    let mut out = [0; 99];
-    write(Message::M4, Akm::PskSha256, 7, &NONCE, 0, &[], &mut out);
-    seal(Akm::PskSha256, &KCK, &mut out);
-    assert!(rt; array_at::<16>(&out, 81) == M4_MIC);
 }

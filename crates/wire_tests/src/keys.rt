@@ -296,13 +296,6 @@ fn parts(ptk: &Ptk) -> [u128; 3] {
     ]
 }
 
-#[test]
-fn passphrases_give_their_keys(rt: HostRuntime) {
-    let standard = psk_of(b"password", b"IEEE");
-    let captured = psk_of(b"12345678", CAPTURED_SSID);
-    assert!(rt; standard == octets(STANDARD_PSK) && captured == octets(CAPTURED_PSK));
-}
-
 /// Octets in memory of their own.
 pub fn octets_of(rt: &impl Abort, alloc: Global, octets: &[u8]) -> Octets
     ensures { result ≡ octets.now }
@@ -348,26 +341,6 @@ fn is_pairwise(rt: &impl Abort, alloc: Global, h: &Handshake) -> bool {
     parts(&ptk) == h.ptk && is_derived(rt, alloc, h)
 }
 
-#[test]
-fn captured_handshakes_give_their_keys(rt: HostRuntime) {
-    for h in &HANDSHAKES {
-        assert!(rt; is_pairwise(&rt, rt.alloc(), h), "{:?}", h.ssid);
-    }
-}
-
-fn r0_of(h: &Handshake) -> PmkR0
-    requires ssid { IsSsid h.now.ssid.now }
-    requires r0kh_id { IsR0khId h.now.r0kh_id.now }
-{
-    let (ssid, r0kh_id) = (h.ssid, h.r0kh_id);
-    PmkR0::derive(&octets(h.psk), ssid, h.mdid, r0kh_id, Mac(h.spa))
-}
-
-fn has_keys(levels: &Levels, r0: &PmkR0, r1: &PmkR1, name: [u8; 16]) -> bool {
-    (r0.key == octets(levels.r0) && r1.key == octets(levels.r1))
-        && name == levels.ptk_name.to_be_bytes()
-}
-
 // The names of both levels, the key of the last one by its own function, and the keys and PTKName
 // that are known.
 fn is_transition(roam: &Roam) -> bool
@@ -376,14 +349,19 @@ fn is_transition(roam: &Roam) -> bool
 {
     let h = &roam.handshake;
     let (aa, spa, anonce, snonce) = (Mac(h.aa), Mac(h.spa), octets(h.anonce), octets(h.snonce));
-    let r0 = r0_of(h);
+    let (ssid, r0kh_id) = (h.ssid, h.r0kh_id);
+    let r0 = PmkR0::derive(&octets(h.psk), ssid, h.mdid, r0kh_id, spa);
     let r1 = r0.r1(aa, spa);
     let ptk = ptk_from_r1(&r1, &snonce, &anonce, aa, spa);
     if parts(&ptk) != h.ptk || r0.name() != roam.r0_name.to_be_bytes() {
         return false;
     }
+    let name = ptk_name(&r1, &snonce, &anonce, aa, spa);
     let is_known = match &roam.levels {
-        Some(levels) => has_keys(levels, &r0, &r1, ptk_name(&r1, &snonce, &anonce, aa, spa)),
+        Some(levels) => {
+            (r0.key == octets(levels.r0) && r1.key == octets(levels.r1))
+                && name == levels.ptk_name.to_be_bytes()
+        }
         None => true,
     };
     is_known && r1.name() == roam.r1_name.to_be_bytes()
@@ -398,8 +376,15 @@ fn roams(rt: &impl Abort, alloc: Global, roam: &Roam) -> bool {
         && is_derived(rt, alloc, &roam.handshake)
 }
 
+// Of passphrases, of captured handshakes, and of fast transition with its names.
 #[test]
-fn transitions_give_their_names_and_keys(rt: HostRuntime) {
+fn keys_are_those_of_captures_and_of_the_standard(rt: HostRuntime) {
+    let standard = psk_of(b"password", b"IEEE");
+    let captured = psk_of(b"12345678", CAPTURED_SSID);
+    assert!(rt; standard == octets(STANDARD_PSK) && captured == octets(CAPTURED_PSK));
+    for h in &HANDSHAKES {
+        assert!(rt; is_pairwise(&rt, rt.alloc(), h), "{:?}", h.ssid);
+    }
     for roam in &ROAMS {
         assert!(rt; roams(&rt, rt.alloc(), roam), "{:?}", roam.r0_name);
     }

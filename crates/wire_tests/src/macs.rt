@@ -428,26 +428,6 @@ fn is_expanded(key: &[u8], context: &[u8], octets: &[u8; 64]) -> bool {
     whole == *octets && front == array_at::<24>(octets, 0)
 }
 
-// The block of the last octets has the number 255.
-fn prf_counts_its_blocks_in_one_octet() -> bool {
-    let mut octets = [0; 5120];
-    prf(
-        b"Jefe",
-        b"prefix",
-        b"what do ya want for nothing?",
-        &mut octets,
-    );
-    array_at::<20>(&octets, 5100) == LAST_EXPANDED
-}
-
-#[test]
-fn prf_gives_the_octets_of_the_standard(rt: HostRuntime) {
-    for (key, context, octets) in &EXPANDED {
-        assert!(rt; is_expanded(key, context, octets), "{context:?}");
-    }
-    assert!(rt; prf_counts_its_blocks_in_one_octet());
-}
-
 fn is_derived(octets: &[u8]) -> bool {
     let mut out = [0; 75];
     if octets.len() > 75 {
@@ -458,58 +438,52 @@ fn is_derived(octets: &[u8]) -> bool {
     &*out == octets
 }
 
-// The last of the most octets that it gives.
-fn kdf_counts_its_bits_in_two_octets() -> bool {
-    let mut most = [0; 8191];
-    kdf(b"Jefe", b"label", b"context", &mut most);
-    array_at::<32>(&most, 8159) == LAST_DERIVED
+// The last block of the most octets that PRF gives has the number 255, and KDF gives the most where
+// it counts their bits in two octets.
+fn the_most_octets_end_rightly() -> bool {
+    let mut expanded = [0; 5120];
+    prf(
+        b"Jefe",
+        b"prefix",
+        b"what do ya want for nothing?",
+        &mut expanded,
+    );
+    let mut derived = [0; 8191];
+    kdf(b"Jefe", b"label", b"context", &mut derived);
+    array_at::<20>(&expanded, 5100) == LAST_EXPANDED
+        && array_at::<32>(&derived, 8159) == LAST_DERIVED
 }
 
+// PRF has vectors of the standard, KDF the octets of another program.
 #[test]
-fn kdf_agrees_with_another_program(rt: HostRuntime) {
+fn keys_are_expanded_by_prf_and_kdf(rt: HostRuntime) {
+    for (key, context, octets) in &EXPANDED {
+        assert!(rt; is_expanded(key, context, octets), "{context:?}");
+    }
     for octets in &DERIVED {
         assert!(rt; is_derived(octets), "{octets:?}");
     }
-    assert!(rt; kdf_counts_its_bits_in_two_octets());
-}
-
-fn is_stretched(passphrase: &[u8], salt: &[u8], front: &[u8]) -> bool {
-    let key = pbkdf2(passphrase, salt);
-    front.len() <= 32 && &key[..front.len()] == front
+    assert!(rt; the_most_octets_end_rightly());
 }
 
 // One iteration is the HMAC of the salt and the number of the block, and each next that of the one
 // before it (RFC 8018, 5.2).
-fn iterations_are_hmac_sha1() -> bool {
+#[test]
+fn pbkdf2_gives_the_keys_of_the_standard_and_of_rfc_6070(rt: HostRuntime) {
+    for (passphrase, salt, front) in &STRETCHED {
+        let key = pbkdf2(passphrase, salt);
+        assert!(rt;
+            front.len() <= 32 && &key[..front.len()] == *front,
+            "{passphrase:?} {salt:?}"
+        );
+    }
     let first = hmac_sha1(b"password", b"salt\0\0\0\x01");
     let second = hmac_sha1(b"password", &first);
     let mut sum = first;
     for i in 0..20 {
         sum[i] ^= second[i];
     }
-    first == STRETCHED_ONCE && sum == STRETCHED_TWICE
-}
-
-#[test]
-fn pbkdf2_gives_the_keys_of_the_standard_and_of_rfc_6070(rt: HostRuntime) {
-    for (passphrase, salt, front) in &STRETCHED {
-        assert!(rt;
-            is_stretched(passphrase, salt, front),
-            "{passphrase:?} {salt:?}"
-        );
-    }
-    assert!(rt; iterations_are_hmac_sha1());
-}
-
-fn has_code(size: usize, code: &[u8; 16]) -> bool {
-    size <= 64 && cmac(&STANDARD_KEY, &CMAC_TEXT[..size]) == *code
-}
-
-#[test]
-fn cmac_gives_the_codes_of_rfc_4493_and_of_another_program(rt: HostRuntime) {
-    for (size, code) in &CODES {
-        assert!(rt; has_code(*size, code), "{size}");
-    }
+    assert!(rt; first == STRETCHED_ONCE && sum == STRETCHED_TWICE);
 }
 
 // What has been added to the last block before it was encrypted to a code.
@@ -521,16 +495,8 @@ fn subkey_of(text: &[u8], last_block: &[u8; 16]) -> [u8; 16] {
     subkey
 }
 
-// That of a text of one block, and that of the empty text, whose block is its padding.
-#[test]
-fn subkeys_are_those_of_rfc_4493(rt: HostRuntime) {
-    let mut padding = [0; 16];
-    padding[0] = 0x80;
-    let whole = subkey_of(&COUNTED_KEY, &COUNTED_KEY);
-    assert!(rt; whole == WHOLE_SUBKEY && subkey_of(&[], &padding) == PADDED_SUBKEY);
-}
-
-// The MIC of a frame of that many octets, and of the same frame with that MIC in its field.
+// The MIC of a frame of that many octets, and of the same frame with that MIC in its field, which it
+// passes over.
 fn has_mic(akm: Akm, size: usize, code: &[u8; 16]) -> bool {
     if size < 99 || size > 128 {
         return false;
@@ -542,8 +508,20 @@ fn has_mic(akm: Akm, size: usize, code: &[u8; 16]) -> bool {
     bare == *code && mic(akm, &COUNTED_KEY, &frame[..size]) == *code
 }
 
+// Codes and MICs, and the subkeys of a text of one block, and of the empty text, whose block is its
+// padding.
 #[test]
-fn mic_passes_over_its_own_field(rt: HostRuntime) {
+fn cmac_gives_the_codes_of_rfc_4493_and_of_another_program(rt: HostRuntime) {
+    for (size, code) in &CODES {
+        assert!(rt;
+            *size <= 64 && cmac(&STANDARD_KEY, &CMAC_TEXT[..*size]) == *code,
+            "{size}"
+        );
+    }
+    let mut padding = [0; 16];
+    padding[0] = 0x80;
+    let whole = subkey_of(&COUNTED_KEY, &COUNTED_KEY);
+    assert!(rt; whole == WHOLE_SUBKEY && subkey_of(&[], &padding) == PADDED_SUBKEY);
     for (akm, size, code) in &MICS {
         assert!(rt; has_mic(*akm, *size, code), "{size}");
     }

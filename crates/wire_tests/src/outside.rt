@@ -29,60 +29,48 @@ fn nodes_print_from_one(rt: HostRuntime) {
     }
 }
 
-fn are_read_and_written() -> bool {
-    let mut octets = [0, 0, 0, 0, 0, 9];
-    put(&mut octets, 1, &[1, 2, 3]) == 4
-        && octets == [0, 1, 2, 3, 0, 9]
-        && array_at(&octets, 0) == octets
-        && big_u16_at(&octets, 1) == 0x0102
-        && little_u16_at(&octets, 1) == 0x0201
-}
-
-fn is_below_16(number: u8) -> bool {
-    match Tid::new(number) {
-        Some(tid) => tid.number() == number,
-        None => false,
-    }
-}
-
 #[test]
 fn fields_are_read_and_written(rt: HostRuntime) {
-    assert!(rt; are_read_and_written());
-    assert!(rt; is_below_16(15) && Tid::new(16).is_none());
+    let mut octets = [0, 0, 0, 0, 0, 9];
+    let end = put(&mut octets, 1, &[1, 2, 3]);
+    assert!(rt; (end == 4 && octets == [0, 1, 2, 3, 0, 9]) && array_at(&octets, 0) == octets);
+    assert!(rt; big_u16_at(&octets, 1) == 0x0102 && little_u16_at(&octets, 1) == 0x0201);
+    let is_below_16 = match Tid::new(15) {
+        Some(tid) => tid.number() == 15,
+        None => false,
+    };
+    assert!(rt; is_below_16 && Tid::new(16).is_none());
 }
 
-// What a source gives next, by a buffer of four octets that is filled up with zeros.
-fn next_octets<S: Source>(source: &mut S) -> Result<[u8; 4], Failed> {
-    let mut buf = [0; 4];
-    source.read(&mut buf)?;
-    Ok(buf)
-}
-
-// The source gives these octets, or faults, one after the other.
-fn gives<S: Source>(source: &mut S, expected: &[Result<[u8; 4], Failed>]) -> bool {
+// The source gives these octets, or faults, one after the other, by a buffer of four octets that is
+// filled up with zeros.
+fn gives_octets<S: Source + Drop>(source: S, expected: &[Result<[u8; 4], Failed>]) -> bool {
+    let mut source = source;
     for octets in expected {
-        if next_octets(source) != *octets {
+        let mut buf = [0; 4];
+        let given = match source.read(&mut buf) {
+            Ok(_) => Ok(buf),
+            Err(Failed) => Err(Failed),
+        };
+        if given != *octets {
             return false;
         }
     }
     true
 }
 
+// The first goes on after a fault.
 #[test]
-fn a_source_goes_on_after_a_fault(rt: HostRuntime) {
+fn sources_give_their_octets(rt: HostRuntime) {
     let failing = [1].to_vec(rt.alloc()).expect(&rt, "memory");
     let bytes = b"octets".to_vec(rt.alloc()).expect(&rt, "memory");
-    let mut source = MemSource::new(bytes, failing);
+    let source = MemSource::new(bytes, failing);
     let expected = [Ok(*b"octe"), Err(Failed), Ok(*b"ts\0\0"), Ok([0; 4])];
-    assert!(rt; gives(&mut source, &expected));
-}
-
-#[test]
-fn a_steady_source_gives_its_octets(rt: HostRuntime) {
+    assert!(rt; gives_octets(source, &expected));
     let whole = Octets(b"octets".to_vec(rt.alloc()).expect(&rt, "memory"));
-    let mut source = SteadySource::new(whole.into_vec());
+    let source = SteadySource::new(whole.into_vec());
     let expected = [Ok(*b"octe"), Ok(*b"ts\0\0"), Ok([0; 4])];
-    assert!(rt; gives(&mut source, &expected));
+    assert!(rt; gives_octets(source, &expected));
 }
 
 // The sink answers so to pieces of 60 octets, one after the other.
@@ -131,23 +119,27 @@ fn air_of_two(rt: &impl Abort, alloc: Global) -> SteadyAir {
     SteadyAir::new(alloc, incoming).expect(rt, "memory")
 }
 
-/// What a link gives next, by a buffer of four octets that is filled up with zeros.
-pub fn next_frame<L: Link>(link: &mut L) -> Result<Option<[u8; 4]>, Failed> {
-    let mut buf = [0; 4];
-    match link.poll(&mut buf)? {
-        Some(_) => Ok(Some(buf)),
-        None => Ok(None),
+/// The link gives these frames, none, or a fault, one after the other, by a buffer of four octets that
+/// is filled up with zeros.
+pub fn gives<L: Link>(link: &mut L, expected: &[Result<Option<[u8; 4]>, Failed>]) -> bool {
+    for frame in expected {
+        let mut buf = [0; 4];
+        let given = match link.poll(&mut buf) {
+            Ok(Some(_)) => Ok(Some(buf)),
+            Ok(None) => Ok(None),
+            Err(Failed) => Err(Failed),
+        };
+        if given != *frame {
+            return false;
+        }
     }
+    true
 }
 
 // The link gives the front of both frames and then none, and sends a reply to the third station.
 fn gives_two_and_sends<L: Link>(link: &mut L) -> bool {
-    for frame in [Some(*b"one\0"), Some(*b"anot"), None] {
-        if next_frame(link) != Ok(frame) {
-            return false;
-        }
-    }
-    link.send(Node::Sta(2), b"reply").is_ok()
+    gives(link, &[Ok(Some(*b"one\0")), Ok(Some(*b"anot")), Ok(None)])
+        && link.send(Node::Sta(2), b"reply").is_ok()
 }
 
 // One link was taken back, of the first access point, which sent a reply to the third station.
@@ -188,21 +180,13 @@ fn an_air_without_room_ceases_to_tell(rt: HostRuntime) {
     assert!(rt; first && second);
 }
 
-#[test]
-fn draws_give_their_seed(rt: HostRuntime) {
-    let mut draws = SteadyDraws::new([7; 32]);
-    assert!(rt; draws.seed() == Ok([7; 32]) && draws.seed() == Ok([7; 32]));
-}
-
 // The link gives its first frame, fails, and gives its second one, cut; then a send fails, and the
 // next one is kept.
 fn fails_twice(link: &mut MemLink) -> bool {
-    for frame in [Ok(Some(*b"one\0")), Err(Failed), Ok(Some(*b"anot"))] {
-        if next_frame(link) != frame {
-            return false;
-        }
-    }
-    matches!(link.send(Node::Sta(2), b"lost"), Err(LinkError::Failed))
+    gives(
+        link,
+        &[Ok(Some(*b"one\0")), Err(Failed), Ok(Some(*b"anot"))],
+    ) && matches!(link.send(Node::Sta(2), b"lost"), Err(LinkError::Failed))
         && link.send(Node::Sta(2), b"reply").is_ok()
         && link.sent().len() == 1
         && link.left().is_empty()
@@ -243,7 +227,7 @@ fn an_air_fails_where_it_was_told(rt: HostRuntime) {
     let mut air = failing_air(&rt, rt.alloc());
     let mut link = air.attach(Node::Ap(0)).expect(&rt, "a link");
     let is_right = gives_no_more(&mut air)
-        && next_frame(&mut link) == Err(Failed)
+        && gives(&mut link, &[Err(Failed)])
         && gives_two_and_sends(&mut link);
     air.take_back(link);
     assert!(rt; is_right && air.tells() && sent_one_reply(air.returned()));
@@ -264,7 +248,9 @@ fn a_failing_air_without_room_ceases_to_tell(rt: HostRuntime) {
 }
 
 #[test]
-fn draws_fail_where_they_were_told(rt: HostRuntime) {
+fn draws_give_their_seed_or_fail_where_they_were_told(rt: HostRuntime) {
+    let mut steady = SteadyDraws::new([7; 32]);
+    assert!(rt; steady.seed() == Ok([7; 32]) && steady.seed() == Ok([7; 32]));
     let failing = [1].to_vec(rt.alloc()).expect(&rt, "memory");
     let mut draws = MemDraws::new([7; 32], failing);
     for given in [Ok([7; 32]), Err(Failed), Ok([7; 32])] {

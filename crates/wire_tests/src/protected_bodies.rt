@@ -129,11 +129,6 @@ fn is_spent_by_one_frame() -> bool {
         && guard.used() == 281_474_976_710_655
 }
 
-#[test]
-fn the_last_number_protects_one_frame(rt: HostRuntime) {
-    assert!(rt; is_without_key() && is_spent_by_one_frame());
-}
-
 // Protects `PLAIN` under a key of that role of which the packet numbers up to `used` were used.
 fn protected(role: Role, used: u64, header: &[u8], out: &mut [u8; 64]) -> Result<usize, GuardFault>
     requires role { IsRole role }
@@ -145,24 +140,24 @@ fn protected(role: Role, used: u64, header: &[u8], out: &mut [u8; 64]) -> Result
     sender.protect(header, PLAIN, out)
 }
 
-// Under a key of that role, of which the number 41 was taken, the body in front is opened once.
-fn is_opened_once(role: Role, header: &[u8], out: &[u8; 64]) -> bool
+// What a guard under a key of that role, of which that number was taken, gives for bodies under their
+// headers, one after the other.
+fn gives(role: Role, taken: u64, frames: &[(&[u8], &[u8], Result<usize, GuardFault>)]) -> bool
     requires { IsRole role }
 {
-    let mut receiver = Guard::empty();
-    receiver.install(&TK, role, 0, 41);
-    let body = &out[..36];
-    unprotects(&mut receiver, header, body, Ok(20))
-        && unprotects(&mut receiver, header, body, Err(GuardFault::Replayed(42)))
+    let mut guard = Guard::empty();
+    guard.install(&TK, role, 0, taken);
+    for (header, body, expected) in frames {
+        if !unprotects(&mut guard, header, body, *expected) {
+            return false;
+        }
+    }
+    true
 }
 
-// Under a key of that role the body in front is another key's.
-fn is_of_another_key(role: Role, header: &[u8], out: &[u8; 64]) -> bool
-    requires { IsRole role }
-{
-    let mut stranger = Guard::empty();
-    stranger.install(&TK, role, 0, 0);
-    unprotects(&mut stranger, header, &out[..36], Err(GuardFault::KeyId))
+// A protected body, which is in front.
+fn front(out: &[u8; 64]) -> &[u8] {
+    &out[..36]
 }
 
 // What one guard protects another opens once, and under its role alone.
@@ -172,53 +167,66 @@ fn is_carried(role: Role, other: Role, header: &[u8]) -> bool
     requires header { IsHeader header.now }
 {
     let mut out = [0; 64];
-    protected(role, 41, header, &mut out) == Ok(36)
-        && is_of_another_key(other, header, &out)
-        && is_opened_once(role, header, &out)
-}
-
-#[test]
-fn what_is_protected_is_opened_once(rt: HostRuntime) {
-    assert!(rt;
-        is_carried(Role::Pairwise, Role::Group(1), HEADER)
-            && is_carried(Role::Group(3), Role::Group(2), HEADER)
-            && is_carried(Role::Group(2), Role::Pairwise, QOS_HEADER)
-    );
-}
-
-// What the second of two bodies gives, under the two headers and a key of that role.
-fn opened_second(role: Role, first: &[u8; 64], then: &[u8; 64]) -> Result<usize, GuardFault>
-    requires { IsRole role }
-{
-    let mut receiver = Guard::empty();
-    receiver.install(&TK, role, 0, 0);
-    let mut plain = [0; 64];
-    match receiver.unprotect(SHORT_HEADER, &first[..36], &mut plain) {
-        Ok(_) => receiver.unprotect(HEADER, &then[..36], &mut plain),
-        Err(_) => Err(GuardFault::NoKey),
+    if protected(role, 41, header, &mut out) != Ok(36) {
+        return false;
     }
+    let body = front(&out);
+    let replayed = Err(GuardFault::Replayed(42));
+    gives(other, 0, &[(header, body, Err(GuardFault::KeyId))])
+        && gives(
+            role,
+            41,
+            &[(header, body, Ok(20)), (header, body, replayed)],
+        )
 }
 
 // Two frames of other traffic and of one number, under a key of that role: what the second gives.
-fn second_of_other_traffic(role: Role) -> Result<usize, GuardFault>
+fn second_of_other_traffic_gives(role: Role, expected: Result<usize, GuardFault>) -> bool
     requires { IsRole role }
 {
     let mut short = [0; 64];
     let mut out = [0; 64];
-    match (
-        protected(role, 4, SHORT_HEADER, &mut short),
-        protected(role, 4, HEADER, &mut out),
-    ) {
-        (Ok(_), Ok(_)) => opened_second(role, &short, &out),
-        _ => Err(GuardFault::NoKey),
-    }
+    protected(role, 4, SHORT_HEADER, &mut short) == Ok(36)
+        && protected(role, 4, HEADER, &mut out) == Ok(36)
+        && gives(
+            role,
+            0,
+            &[
+                (SHORT_HEADER, front(&short), Ok(20)),
+                (HEADER, front(&out), expected),
+            ],
+        )
 }
 
+// What one guard gives for each of six bodies, one after the other: it refuses those without a CCMP
+// header.
+fn refuses_what_has_no_header() -> bool {
+    let replayed = GuardFault::Replayed(0xb503_9776_e70c);
+    gives(
+        Role::Pairwise,
+        0,
+        &[
+            (HEADER, &BODY[..15], Err(GuardFault::Header)),
+            (HEADER, &BODY[..16], Err(GuardFault::Seal)),
+            (HEADER, b"", Err(GuardFault::Header)),
+            (HEADER, FORGED, Err(GuardFault::Seal)),
+            (HEADER, BODY, Ok(20)),
+            (HEADER, FORGED, Err(replayed)),
+        ],
+    )
+}
+
+// The last number protects one frame, what is protected is opened once, and traffic has counters of
+// its own under a pairwise key.
 #[test]
-fn traffic_has_counters_of_its_own_under_a_pairwise_key(rt: HostRuntime) {
-    let pairwise = second_of_other_traffic(Role::Pairwise);
-    let group = second_of_other_traffic(Role::Group(1));
-    assert!(rt; pairwise == Ok(20) && group == Err(GuardFault::Replayed(5)));
+fn guards_protect_and_open_or_refuse(rt: HostRuntime) {
+    assert!(rt; is_without_key() && is_spent_by_one_frame());
+    assert!(rt; is_carried(Role::Pairwise, Role::Group(1), HEADER));
+    assert!(rt; is_carried(Role::Group(3), Role::Group(2), HEADER));
+    assert!(rt; is_carried(Role::Group(2), Role::Pairwise, QOS_HEADER));
+    assert!(rt; second_of_other_traffic_gives(Role::Pairwise, Ok(20)));
+    assert!(rt; second_of_other_traffic_gives(Role::Group(1), Err(GuardFault::Replayed(5))));
+    assert!(rt; refuses_what_has_no_header());
 }
 
 // What a guard that took the packet number 3 gives for a frame of 26 octets of header and 18 of
@@ -265,24 +273,6 @@ fn every_bit_of_a_frame_is_changed(rt: HostRuntime) {
             assert!(rt; is_as_expected(octet, bit));
         }
     }
-}
-
-// What one guard gives for each of six bodies, one after the other.
-fn gives_each() -> bool {
-    let mut guard = Guard::empty();
-    guard.install(&TK, Role::Pairwise, 0, 0);
-    let replayed = GuardFault::Replayed(0xb503_9776_e70c);
-    unprotects(&mut guard, HEADER, &BODY[..15], Err(GuardFault::Header))
-        && unprotects(&mut guard, HEADER, &BODY[..16], Err(GuardFault::Seal))
-        && unprotects(&mut guard, HEADER, b"", Err(GuardFault::Header))
-        && unprotects(&mut guard, HEADER, FORGED, Err(GuardFault::Seal))
-        && unprotects(&mut guard, HEADER, BODY, Ok(20))
-        && unprotects(&mut guard, HEADER, FORGED, Err(replayed))
-}
-
-#[test]
-fn a_body_without_a_ccmp_header_is_refused(rt: HostRuntime) {
-    assert!(rt; gives_each());
 }
 
 // IEEE Std 802.11-2020, annex J: CCMP-128.

@@ -8,16 +8,14 @@ ghost use Rattle.domain_world.specs.Owning.{HasOctets, IsEventIn, Owns};
 ghost use Rattle.node_base.specs.Peers.{IsReceiverOf, most_payload};
 
 mod cases;
-mod outcomes;
 
 use cases::{
-    CHANGED, CHANGED_FRAMES, COMING, CONNECTS, Case, GROUP_KEYS, HANDSHAKE, Line, NEW_GROUP_KEY,
-    OLD_FRAMES, PAYLOADS, REPEATED, SECOND_ROUND, STARTED, THREE_FRAMES, Turn,
+    CHANGED_FRAMES, Case, FRAMES, GROUP_KEYS, HANDSHAKE, Line, NEW_GROUP_KEY, OLD_FRAMES, PAYLOADS,
+    REPEATED, STARTED, Turn, Want,
 };
 use domain_base::{Akm, Mac, Node, Octets, Peer, Tid};
 use domain_world::World;
 use key_hierarchy::RevokeAnswer;
-use outcomes::come_to;
 use run_journal::{Act, Aps, Domain, Entry, Event, Journal, Outcome, Stas};
 use std::alloc::Global;
 use std::process::Abort;
@@ -211,24 +209,16 @@ fn is_event_in(world: &World, event: &Event, journal: &Journal) -> bool
     }
 }
 
-// The event happens, which is one that can.
-fn take(rt: &impl Abort, nodes: &mut World, event: &Event, journal: &mut Journal)
-    requires { Owns nodes.old journal.old.entries }
-    ensures { Owns nodes.new journal.new.entries }
-{
-    let is_in = is_event_in(nodes, event, journal);
-    assert!(rt; is_in);
-    assert!(rt; nodes.rounds() < 1000);
-    nodes.event(event, journal).expect(rt, "memory");
-}
-
-// The event of a turn happens.
+// The event of a turn happens, which is one that can.
 fn happen(rt: &impl Abort, alloc: Global, nodes: &mut World, turn: &Turn, journal: &mut Journal)
     requires { Owns nodes.old journal.old.entries }
     ensures { Owns nodes.new journal.new.entries }
 {
     let event = event(rt, alloc, turn);
-    take(rt, nodes, &event, journal);
+    let is_in = is_event_in(nodes, &event, journal);
+    assert!(rt; is_in);
+    assert!(rt; nodes.rounds() < 1000);
+    nodes.event(&event, journal).expect(rt, "memory");
 }
 
 fn play(rt: &impl Abort, alloc: Global, nodes: &mut World, turns: &[Turn], journal: &mut Journal)
@@ -269,20 +259,18 @@ fn verb(act: &Act) -> &'static str {
     }
 }
 
-fn is_line(entry: &Entry, line: &Line) -> bool {
-    entry.round == line.0
-        && entry.node == line.1
-        && entry.number == line.2
-        && verb(&entry.act) == line.3
-}
-
 // The entries are these, and no others.
 fn are_lines(entries: &[Entry], lines: &[Line]) -> bool {
     if entries.len() != lines.len() {
         return false;
     }
     for (entry, line) in entries.iter().zip(lines) {
-        if !is_line(entry, line) {
+        let (round, node, number, does) = line;
+        if entry.round != *round
+            || entry.node != *node
+            || entry.number != *number
+            || verb(&entry.act) != *does
+        {
             return false;
         }
     }
@@ -319,58 +307,15 @@ fn has_three_frames(nodes: &World, journal: &Journal) -> bool
     number == 4 && 3 <= nodes.frames()
 }
 
-// What the last entry took, where it took a frame.
-fn taken(journal: &Journal) -> Option<&[u8]> {
-    match &journal.entries().last()?.act {
-        Act::Took { octets, .. } => Some(octets.as_slice()),
-        _ => None,
-    }
-}
-
+// The last entry took a frame, which is these octets.
 fn has_taken(journal: &Journal, octets: &[u8]) -> bool {
-    match taken(journal) {
-        Some(came) => came == octets,
+    match journal.entries().last() {
+        Some(entry) => match &entry.act {
+            Act::Took { octets: came, .. } => came.as_slice() == octets,
+            _ => false,
+        },
         None => false,
     }
-}
-
-// The octets are those that were sent, but for the one at that place.
-fn differ_at(place: usize, mask: u8, came: &[u8], sent: &[u8]) -> bool {
-    if came.len() != sent.len() {
-        return false;
-    }
-    for (at, (octet, old)) in came.iter().zip(sent).enumerate() {
-        let want = if at == place { *old ^ mask } else { *old };
-        if *octet != want {
-            return false;
-        }
-    }
-    true
-}
-
-// The first frame came last, with its octet 24 changed.
-fn has_taken_changed(nodes: &World, journal: &Journal) -> bool
-    requires { Owns nodes.now journal.now.entries }
-{
-    match taken(journal) {
-        Some(came) => { is_sent(nodes, 1) && differ_at(24, 0xff, came, nodes.frame(1, journal)) }
-        None => false,
-    }
-}
-
-// What is to be found behind turns.
-#[derive(Clone, Copy)]
-enum Want {
-    // The journal has these lines behind those of round 0.
-    Lines(&'static [Line]),
-    // Three frames were sent, as the journal says.
-    ThreeFrames,
-    // These octets came last.
-    Octets(&'static [u8]),
-    // The first frame came last, with its octet 24 changed.
-    Changed,
-    // The frames that were taken came to these outcomes, and so many keys were installed.
-    Outcomes(&'static [Outcome], usize),
 }
 
 fn is_found(nodes: &World, journal: &Journal, want: Want) -> bool
@@ -380,30 +325,41 @@ fn is_found(nodes: &World, journal: &Journal, want: Want) -> bool
         Want::Lines(lines) => has_lines(journal, lines),
         Want::ThreeFrames => has_three_frames(nodes, journal),
         Want::Octets(octets) => has_taken(journal, octets),
-        Want::Changed => has_taken_changed(nodes, journal),
-        Want::Outcomes(outcomes, installed) => come_to(journal, outcomes, installed),
+    }
+}
+
+// A round without events passes, where there is to be one.
+fn pass<R: Abort + Threads + Sync>(
+    rt: &R,
+    nodes: &mut World,
+    is_to_pass: bool,
+    journal: &mut Journal,
+)
+    requires { Owns nodes.old journal.old.entries }
+    ensures { Owns nodes.new journal.new.entries }
+{
+    if is_to_pass {
+        assert!(rt; nodes.rounds() < 1000);
+        nodes.round(rt, &[], journal).expect(rt, "memory");
     }
 }
 
 // Behind the turns, of an access point and a station, there were as many rounds, and that is found.
-fn come(rt: &impl Abort, alloc: Global, turns: &[Turn], want: Want) -> bool {
+fn come<R: Abort + Threads + Sync>(rt: &R, alloc: Global, case: &Case) -> bool {
     let mut journal = Journal::new(alloc);
     let mut nodes = two_nodes(rt, alloc, &mut journal);
-    play(rt, alloc, &mut nodes, turns, &mut journal);
-    let is_right = nodes.rounds() == turns.len() as u64 && is_found(&nodes, &journal, want);
+    pass(rt, &mut nodes, case.passes, &mut journal);
+    play(rt, alloc, &mut nodes, case.turns, &mut journal);
+    let is_right = nodes.rounds() == case.rounds && is_found(&nodes, &journal, case.want);
     drop(nodes);
     drop(journal);
     is_right
 }
 
-// The turns of each case add its lines.
-fn try_cases(rt: &impl Abort, alloc: Global, cases: &[Case]) {
+// What each case tells is found.
+fn try_cases<R: Abort + Threads + Sync>(rt: &R, alloc: Global, cases: &[Case]) {
     for case in cases {
-        assert!(rt;
-            come(rt, alloc, case.turns, Want::Lines(case.lines)),
-            "{}",
-            case.shows
-        );
+        assert!(rt; come(rt, alloc, case), "{}", case.shows);
     }
 }
 
@@ -413,57 +369,8 @@ fn events_and_what_they_add(rt: HostRuntime) {
     try_cases(&rt, rt.alloc(), GROUP_KEYS);
     try_cases(&rt, rt.alloc(), PAYLOADS);
     try_cases(&rt, rt.alloc(), NEW_GROUP_KEY);
-}
-
-#[test]
-fn repeated_and_changed_frames_and_what_they_add(rt: HostRuntime) {
     try_cases(&rt, rt.alloc(), OLD_FRAMES);
     try_cases(&rt, rt.alloc(), CHANGED_FRAMES);
     try_cases(&rt, rt.alloc(), REPEATED);
-}
-
-// A round without events passes.
-fn pass_round<R: Abort + Threads + Sync>(rt: &R, nodes: &mut World, journal: &mut Journal)
-    requires { Owns nodes.old journal.old.entries }
-    ensures { Owns nodes.new journal.new.entries }
-{
-    assert!(rt; nodes.rounds() < 1000);
-    nodes.round(rt, &[], journal).expect(rt, "memory");
-}
-
-// A round without events is one: what comes behind it is in the second round.
-fn is_counted<R: Abort + Threads + Sync>(rt: &R, alloc: Global) -> bool {
-    let mut journal = Journal::new(alloc);
-    let mut nodes = two_nodes(rt, alloc, &mut journal);
-    pass_round(rt, &mut nodes, &mut journal);
-    play(rt, alloc, &mut nodes, CONNECTS, &mut journal);
-    let is_right = nodes.rounds() == 2 && has_lines(&journal, SECOND_ROUND);
-    drop(nodes);
-    drop(journal);
-    is_right
-}
-
-#[test]
-fn round_without_events_counts(rt: HostRuntime) {
-    assert!(rt; is_counted(&rt, rt.alloc()));
-}
-
-#[test]
-fn frames_are_those_that_were_sent(rt: HostRuntime) {
-    assert!(rt; come(&rt, rt.alloc(), THREE_FRAMES, Want::ThreeFrames));
-}
-
-#[test]
-fn octets_that_come(rt: HostRuntime) {
-    for (turns, octets) in COMING {
-        assert!(rt;
-            come(&rt, rt.alloc(), turns, Want::Octets(octets)),
-            "{octets:?}"
-        );
-    }
-}
-
-#[test]
-fn one_octet_is_changed(rt: HostRuntime) {
-    assert!(rt; come(&rt, rt.alloc(), CHANGED, Want::Changed));
+    try_cases(&rt, rt.alloc(), FRAMES);
 }

@@ -1,5 +1,4 @@
-use Rattle.std.proofs.Common.{rules}
 use Rattle.command_words.proofs.refusal.Goals as goal
 
 pub returns-in-OutOfMemory : goal.returns-in-OutOfMemory
-returns-in-OutOfMemory c = search rules
+returns-in-OutOfMemory c = tt

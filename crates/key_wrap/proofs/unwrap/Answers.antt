@@ -69,6 +69,9 @@ returns-then-eq-clause-only c = λ plain w.
     take_unwrapped c.args.out.now c.copy_from_slice.new.self blocks _ (written at)
     ∙ (start_of_plain at (octets_unwrapped blocks _ (λ k. (c.type_inv.out k).fits)) plain w).1
 
+pub returns-then-eq-clause-bad_wrap : goal.returns-then-eq-clause-bad_wrap
+returns-then-eq-clause-bad_wrap c = tt
+
 pub returns-then-eq-clause-rest : goal.returns-then-eq-clause-rest
 returns-then-eq-clause-rest c = rest_is (goal.at.returns-then-eq-clause-rest c).After-unwrap_blocks-check
 

@@ -4,13 +4,14 @@ use crate::acts::Expected::{
     Closed, Derived, Drew, Finished, Idle, Opened, Pairwise, Sent, SentSealed, Took, TookSealed,
 };
 use crate::acts::{Event, Step};
-use crate::air_frames::{
-    CROSSED_KEYS, CROSSED_M2_2, CROSSED_M3_3, CROSSED_M4_3, KEYS, KEYS_OF_SUITE_6, LAST_M1_1,
-    LAST_M1_2, M1_1, M1_1_OF_SUITE_6, M2_1, M2_1_OF_SUITE_6, M3_2, M3_2_OF_SUITE_6, M3_3, M4_2,
-    M4_2_OF_SUITE_6, M4_3, NEXT_M1_1, NEXT_M1_2, OTHER_KEYS, OTHER_M1_1, OTHER_M2_1, OTHER_M3_2,
-    OTHER_M4_2, OTHER_M4_2_AS_OF_S1, OTHER_NEXT_M1_1, REQUEST_OF_S2, REQUEST_OF_SUITE_6,
+use crate::named::Frame::{
+    CrossedM2_2, CrossedM3_3, CrossedM4_3, LastM1_1, LastM1_2, M1_1, M1_1OfSuite6, M2_1,
+    M2_1OfSuite6, M3_2, M3_2OfSuite6, M3_3, M4_2, M4_2OfSuite6, M4_3, NextM1_1, NextM1_2,
+    OtherM1_1, OtherM2_1, OtherM3_2, OtherM4_2, OtherM4_2AsOfS1, OtherNextM1_1, Request,
+    RequestOfS2, RequestOfSuite6, Response, ResponseToS2,
 };
-use crate::vectors::{ANONCE, LAST_ANONCE, NEXT_ANONCE, REQUEST, RESPONSE, RESPONSE_TO_S2, S1, S2};
+use crate::named::PairKeys;
+use crate::vectors::{ANONCE, LAST_ANONCE, NEXT_ANONCE, S1, S2};
 use eapol_key::Message;
 use run_journal::{Drawn, Kind, Outcome, Part, Reason, Why};
 
@@ -18,13 +19,13 @@ use run_journal::{Drawn, Kind, Outcome, Part, Reason, Why};
 pub const HANDSHAKES: &[Step] = &[
     Step {
         shows: "a request",
-        event: Event::Take(REQUEST),
+        event: Event::Take(Request),
         outcome: Outcome::Accepted,
         acts: &[
             Took(Some(S1), Kind::AssocReq),
             Opened(S1),
             Drew(Drawn::Nonce(ANONCE)),
-            Sent(S1, Kind::AssocResp, RESPONSE),
+            Sent(S1, Kind::AssocResp, Response),
             Sent(S1, Kind::Key(Message::M1), M1_1),
         ],
     },
@@ -33,25 +34,25 @@ pub const HANDSHAKES: &[Step] = &[
         event: Event::Take(M2_1),
         outcome: Outcome::Accepted,
         acts: &[
-            TookSealed(S1, Kind::Key(Message::M2), &KEYS),
-            Derived(S1, &KEYS),
-            SentSealed(S1, Kind::Key(Message::M3), M3_2, &KEYS),
+            TookSealed(S1, Kind::Key(Message::M2), PairKeys::First),
+            Derived(S1, PairKeys::First),
+            SentSealed(S1, Kind::Key(Message::M3), M3_2, PairKeys::First),
         ],
     },
     Step {
         shows: "M3 a second time",
         event: Event::Retry(0),
         outcome: Outcome::Done,
-        acts: &[SentSealed(S1, Kind::Key(Message::M3), M3_3, &KEYS)],
+        acts: &[SentSealed(S1, Kind::Key(Message::M3), M3_3, PairKeys::First)],
     },
     Step {
         shows: "M4",
         event: Event::Take(M4_3),
         outcome: Outcome::Accepted,
         acts: &[
-            TookSealed(S1, Kind::Key(Message::M4), &KEYS),
-            Pairwise(S1, &KEYS),
-            Finished(S1, &KEYS),
+            TookSealed(S1, Kind::Key(Message::M4), PairKeys::First),
+            Pairwise(S1, PairKeys::First),
+            Finished(S1, PairKeys::First),
         ],
     },
     Step {
@@ -68,14 +69,14 @@ pub const HANDSHAKES: &[Step] = &[
     },
     Step {
         shows: "a request in a session",
-        event: Event::Take(REQUEST),
+        event: Event::Take(Request),
         outcome: Outcome::Accepted,
         acts: &[
             Took(Some(S1), Kind::AssocReq),
             Opened(S1),
             Drew(Drawn::Nonce(NEXT_ANONCE)),
-            Sent(S1, Kind::AssocResp, RESPONSE),
-            Sent(S1, Kind::Key(Message::M1), NEXT_M1_1),
+            Sent(S1, Kind::AssocResp, Response),
+            Sent(S1, Kind::Key(Message::M1), NextM1_1),
         ],
     },
     Step {
@@ -88,16 +89,16 @@ pub const HANDSHAKES: &[Step] = &[
         shows: "M1 a second time",
         event: Event::Retry(0),
         outcome: Outcome::Done,
-        acts: &[Sent(S1, Kind::Key(Message::M1), NEXT_M1_2)],
+        acts: &[Sent(S1, Kind::Key(Message::M1), NextM1_2)],
     },
     Step {
         shows: "M2 of the second M1",
-        event: Event::Take(CROSSED_M2_2),
+        event: Event::Take(CrossedM2_2),
         outcome: Outcome::Accepted,
         acts: &[
-            TookSealed(S1, Kind::Key(Message::M2), &CROSSED_KEYS),
-            Derived(S1, &CROSSED_KEYS),
-            SentSealed(S1, Kind::Key(Message::M3), CROSSED_M3_3, &CROSSED_KEYS),
+            TookSealed(S1, Kind::Key(Message::M2), PairKeys::Crossed),
+            Derived(S1, PairKeys::Crossed),
+            SentSealed(S1, Kind::Key(Message::M3), CrossedM3_3, PairKeys::Crossed),
         ],
     },
     Step {
@@ -108,13 +109,13 @@ pub const HANDSHAKES: &[Step] = &[
     },
     Step {
         shows: "the next M4",
-        event: Event::Take(CROSSED_M4_3),
+        event: Event::Take(CrossedM4_3),
         outcome: Outcome::Accepted,
         acts: &[
-            TookSealed(S1, Kind::Key(Message::M4), &CROSSED_KEYS),
+            TookSealed(S1, Kind::Key(Message::M4), PairKeys::Crossed),
             Closed(S1, Part::Session),
-            Pairwise(S1, &CROSSED_KEYS),
-            Finished(S1, &CROSSED_KEYS),
+            Pairwise(S1, PairKeys::Crossed),
+            Finished(S1, PairKeys::Crossed),
         ],
     },
 ];
@@ -123,39 +124,34 @@ pub const HANDSHAKES: &[Step] = &[
 pub const HANDSHAKE_OF_SUITE_6: &[Step] = &[
     Step {
         shows: "a request",
-        event: Event::Take(REQUEST_OF_SUITE_6),
+        event: Event::Take(RequestOfSuite6),
         outcome: Outcome::Accepted,
         acts: &[
             Took(Some(S1), Kind::AssocReq),
             Opened(S1),
             Drew(Drawn::Nonce(ANONCE)),
-            Sent(S1, Kind::AssocResp, RESPONSE),
-            Sent(S1, Kind::Key(Message::M1), M1_1_OF_SUITE_6),
+            Sent(S1, Kind::AssocResp, Response),
+            Sent(S1, Kind::Key(Message::M1), M1_1OfSuite6),
         ],
     },
     Step {
         shows: "M2",
-        event: Event::Take(M2_1_OF_SUITE_6),
+        event: Event::Take(M2_1OfSuite6),
         outcome: Outcome::Accepted,
         acts: &[
-            TookSealed(S1, Kind::Key(Message::M2), &KEYS_OF_SUITE_6),
-            Derived(S1, &KEYS_OF_SUITE_6),
-            SentSealed(
-                S1,
-                Kind::Key(Message::M3),
-                M3_2_OF_SUITE_6,
-                &KEYS_OF_SUITE_6,
-            ),
+            TookSealed(S1, Kind::Key(Message::M2), PairKeys::OfSuite6),
+            Derived(S1, PairKeys::OfSuite6),
+            SentSealed(S1, Kind::Key(Message::M3), M3_2OfSuite6, PairKeys::OfSuite6),
         ],
     },
     Step {
         shows: "M4",
-        event: Event::Take(M4_2_OF_SUITE_6),
+        event: Event::Take(M4_2OfSuite6),
         outcome: Outcome::Accepted,
         acts: &[
-            TookSealed(S1, Kind::Key(Message::M4), &KEYS_OF_SUITE_6),
-            Pairwise(S1, &KEYS_OF_SUITE_6),
-            Finished(S1, &KEYS_OF_SUITE_6),
+            TookSealed(S1, Kind::Key(Message::M4), PairKeys::OfSuite6),
+            Pairwise(S1, PairKeys::OfSuite6),
+            Finished(S1, PairKeys::OfSuite6),
         ],
     },
 ];
@@ -164,14 +160,14 @@ pub const HANDSHAKE_OF_SUITE_6: &[Step] = &[
 pub const STATIONS: &[Step] = &[
     Step {
         shows: "a request of the second",
-        event: Event::Take(REQUEST_OF_S2),
+        event: Event::Take(RequestOfS2),
         outcome: Outcome::Accepted,
         acts: &[
             Took(Some(S2), Kind::AssocReq),
             Opened(S2),
             Drew(Drawn::Nonce(ANONCE)),
-            Sent(S2, Kind::AssocResp, RESPONSE_TO_S2),
-            Sent(S2, Kind::Key(Message::M1), OTHER_M1_1),
+            Sent(S2, Kind::AssocResp, ResponseToS2),
+            Sent(S2, Kind::Key(Message::M1), OtherM1_1),
         ],
     },
     Step {
@@ -182,59 +178,59 @@ pub const STATIONS: &[Step] = &[
     },
     Step {
         shows: "a request of the second again",
-        event: Event::Take(REQUEST_OF_S2),
+        event: Event::Take(RequestOfS2),
         outcome: Outcome::Accepted,
         acts: &[
             Took(Some(S2), Kind::AssocReq),
             Closed(S2, Part::Attempt),
             Opened(S2),
             Drew(Drawn::Nonce(NEXT_ANONCE)),
-            Sent(S2, Kind::AssocResp, RESPONSE_TO_S2),
-            Sent(S2, Kind::Key(Message::M1), OTHER_NEXT_M1_1),
+            Sent(S2, Kind::AssocResp, ResponseToS2),
+            Sent(S2, Kind::Key(Message::M1), OtherNextM1_1),
         ],
     },
     Step {
         shows: "a request of the first",
-        event: Event::Take(REQUEST),
+        event: Event::Take(Request),
         outcome: Outcome::Accepted,
         acts: &[
             Took(Some(S1), Kind::AssocReq),
             Opened(S1),
             Drew(Drawn::Nonce(LAST_ANONCE)),
-            Sent(S1, Kind::AssocResp, RESPONSE),
-            Sent(S1, Kind::Key(Message::M1), LAST_M1_1),
+            Sent(S1, Kind::AssocResp, Response),
+            Sent(S1, Kind::Key(Message::M1), LastM1_1),
         ],
     },
     Step {
         shows: "M2 of the second",
-        event: Event::Take(OTHER_M2_1),
+        event: Event::Take(OtherM2_1),
         outcome: Outcome::Accepted,
         acts: &[
-            TookSealed(S2, Kind::Key(Message::M2), &OTHER_KEYS),
-            Derived(S2, &OTHER_KEYS),
-            SentSealed(S2, Kind::Key(Message::M3), OTHER_M3_2, &OTHER_KEYS),
+            TookSealed(S2, Kind::Key(Message::M2), PairKeys::Other),
+            Derived(S2, PairKeys::Other),
+            SentSealed(S2, Kind::Key(Message::M3), OtherM3_2, PairKeys::Other),
         ],
     },
     Step {
         shows: "M1 to the first a second time",
         event: Event::Retry(0),
         outcome: Outcome::Done,
-        acts: &[Sent(S1, Kind::Key(Message::M1), LAST_M1_2)],
+        acts: &[Sent(S1, Kind::Key(Message::M1), LastM1_2)],
     },
     Step {
         shows: "M4 of the second under the address of the first",
-        event: Event::Take(OTHER_M4_2_AS_OF_S1),
+        event: Event::Take(OtherM4_2AsOfS1),
         outcome: Outcome::Refused(Reason::Unawaited),
         acts: &[Took(Some(S1), Kind::Key(Message::M4))],
     },
     Step {
         shows: "M4 of the second",
-        event: Event::Take(OTHER_M4_2),
+        event: Event::Take(OtherM4_2),
         outcome: Outcome::Accepted,
         acts: &[
-            TookSealed(S2, Kind::Key(Message::M4), &OTHER_KEYS),
-            Pairwise(S2, &OTHER_KEYS),
-            Finished(S2, &OTHER_KEYS),
+            TookSealed(S2, Kind::Key(Message::M4), PairKeys::Other),
+            Pairwise(S2, PairKeys::Other),
+            Finished(S2, PairKeys::Other),
         ],
     },
 ];

@@ -5,16 +5,12 @@ use crate::acts::Expected::{
     SentData, SentSealed, Took, TookData, TookSealed, Used,
 };
 use crate::acts::{Event, Expected, Step};
-use crate::air_frames::{
-    CROSSED_KEYS, CROSSED_M2_2, CROSSED_M3_3, CROSSED_M4_3, KEYS, M1_1, M2_1, M3_2, M4_2,
-    NEXT_M1_1, NEXT_M1_2,
+use crate::named::Frame::{
+    AsOfS2, CrossedM2_2, CrossedM3_3, CrossedM4_3, G1_3, G1_4, G1_5, G1_6, G2_3, M1_1, M2_1, M3_2,
+    M3_2WithRsc1, M4_2, NextM1_1, NextM1_2, Request, Response, WrongKeyId, WrongSeal,
 };
-use crate::group_frames::{G1_3, G1_4, G1_5, G1_6, G2_3};
-use crate::protected_frames::{
-    ALL_1, ALL_2, AS_OF_S2, CROSSED_DOWN, CROSSED_UP, DOWN_0, DOWN_3, M3_2_WITH_RSC_1, NEXT_ALL_1,
-    UP_0, UP_5, UP_8, UP_9, WRONG_KEY_ID, WRONG_SEAL,
-};
-use crate::vectors::{ANONCE, NEXT_ANONCE, NEXT_GTK, REQUEST, RESPONSE, S1, S2};
+use crate::named::{PairKeys, Protected};
+use crate::vectors::{ANONCE, NEXT_ANONCE, NEXT_GTK, S1, S2};
 use domain_base::Peer;
 use eapol_key::Message;
 use run_journal::{Drawn, Kind, Outcome, Part, Reason, Why};
@@ -25,13 +21,13 @@ const REFUSED: &[Expected] = &[Took(Some(S1), Kind::Data)];
 
 const ASKS: Step = Step {
     shows: "a request",
-    event: Event::Take(REQUEST),
+    event: Event::Take(Request),
     outcome: Outcome::Accepted,
     acts: &[
         Took(Some(S1), Kind::AssocReq),
         Opened(S1),
         Drew(Drawn::Nonce(ANONCE)),
-        Sent(S1, Kind::AssocResp, RESPONSE),
+        Sent(S1, Kind::AssocResp, Response),
         Sent(S1, Kind::Key(Message::M1), M1_1),
     ],
 };
@@ -41,9 +37,9 @@ const ANSWERS: Step = Step {
     event: Event::Take(M2_1),
     outcome: Outcome::Accepted,
     acts: &[
-        TookSealed(S1, Kind::Key(Message::M2), &KEYS),
-        Derived(S1, &KEYS),
-        SentSealed(S1, Kind::Key(Message::M3), M3_2, &KEYS),
+        TookSealed(S1, Kind::Key(Message::M2), PairKeys::First),
+        Derived(S1, PairKeys::First),
+        SentSealed(S1, Kind::Key(Message::M3), M3_2, PairKeys::First),
     ],
 };
 
@@ -52,9 +48,9 @@ const FINISHES: Step = Step {
     event: Event::Take(M4_2),
     outcome: Outcome::Accepted,
     acts: &[
-        TookSealed(S1, Kind::Key(Message::M4), &KEYS),
-        Pairwise(S1, &KEYS),
-        Finished(S1, &KEYS),
+        TookSealed(S1, Kind::Key(Message::M4), PairKeys::First),
+        Pairwise(S1, PairKeys::First),
+        Finished(S1, PairKeys::First),
     ],
 };
 
@@ -64,7 +60,7 @@ const REKEY: Step = Step {
     outcome: Outcome::Done,
     acts: &[
         Drew(Drawn::Gtk(NEXT_GTK)),
-        SentSealed(S1, Kind::Key(Message::G1), G1_3, &KEYS),
+        SentSealed(S1, Kind::Key(Message::G1), G1_3, PairKeys::First),
     ],
 };
 
@@ -77,7 +73,7 @@ const UNSENT: Step = Step {
 
 const UNTAKEN: Step = Step {
     shows: "nothing is taken of a station without a session",
-    event: Event::TakeData(&UP_9),
+    event: Event::TakeData(Protected::Up9),
     outcome: Outcome::Refused(Reason::NoKey),
     acts: REFUSED,
 };
@@ -86,7 +82,10 @@ const SENDS: Step = Step {
     shows: "a payload with a TID",
     event: Event::Send(0, Some(3), b"down"),
     outcome: Outcome::Done,
-    acts: &[Used(TO_S1, &DOWN_3), SentData(TO_S1, &DOWN_3)],
+    acts: &[
+        Used(TO_S1, Protected::Down3),
+        SentData(TO_S1, Protected::Down3),
+    ],
 };
 
 /// What is sent to a station and to all, before and behind a new group key.
@@ -95,7 +94,10 @@ pub const DATA: &[Step] = &[
         shows: "to all, with no session at all",
         event: Event::SendAll(None, b"all"),
         outcome: Outcome::Done,
-        acts: &[Used(Peer::All, &ALL_1), SentData(Peer::All, &ALL_1)],
+        acts: &[
+            Used(Peer::All, Protected::All1),
+            SentData(Peer::All, Protected::All1),
+        ],
     },
     UNSENT,
     ASKS,
@@ -104,9 +106,9 @@ pub const DATA: &[Step] = &[
         event: Event::Take(M2_1),
         outcome: Outcome::Accepted,
         acts: &[
-            TookSealed(S1, Kind::Key(Message::M2), &KEYS),
-            Derived(S1, &KEYS),
-            SentSealed(S1, Kind::Key(Message::M3), M3_2_WITH_RSC_1, &KEYS),
+            TookSealed(S1, Kind::Key(Message::M2), PairKeys::First),
+            Derived(S1, PairKeys::First),
+            SentSealed(S1, Kind::Key(Message::M3), M3_2WithRsc1, PairKeys::First),
         ],
     },
     UNSENT,
@@ -116,7 +118,10 @@ pub const DATA: &[Step] = &[
         shows: "the next one, without a TID",
         event: Event::Send(0, None, b"next"),
         outcome: Outcome::Done,
-        acts: &[Used(TO_S1, &DOWN_0), SentData(TO_S1, &DOWN_0)],
+        acts: &[
+            Used(TO_S1, Protected::Down0),
+            SentData(TO_S1, Protected::Down0),
+        ],
     },
     Step {
         shows: "another station has no session",
@@ -129,14 +134,17 @@ pub const DATA: &[Step] = &[
         shows: "to all, under the key that is current still",
         event: Event::SendAll(Some(1), b"again"),
         outcome: Outcome::Done,
-        acts: &[Used(Peer::All, &ALL_2), SentData(Peer::All, &ALL_2)],
+        acts: &[
+            Used(Peer::All, Protected::All2),
+            SentData(Peer::All, Protected::All2),
+        ],
     },
     Step {
         shows: "G2",
         event: Event::Take(G2_3),
         outcome: Outcome::Accepted,
         acts: &[
-            TookSealed(S1, Kind::Key(Message::G2), &KEYS),
+            TookSealed(S1, Kind::Key(Message::G2), PairKeys::First),
             Group(Peer::All, NEXT_GTK, 2),
         ],
     },
@@ -145,8 +153,8 @@ pub const DATA: &[Step] = &[
         event: Event::SendAll(None, b"turned"),
         outcome: Outcome::Done,
         acts: &[
-            Used(Peer::All, &NEXT_ALL_1),
-            SentData(Peer::All, &NEXT_ALL_1),
+            Used(Peer::All, Protected::NextAll1),
+            SentData(Peer::All, Protected::NextAll1),
         ],
     },
     Step {
@@ -167,49 +175,49 @@ pub const TAKEN: &[Step] = &[
     FINISHES,
     Step {
         shows: "a payload with a TID",
-        event: Event::TakeData(&UP_5),
+        event: Event::TakeData(Protected::Up5),
         outcome: Outcome::Accepted,
-        acts: &[TookData(S1, &UP_5), HandedUp(S1, &UP_5)],
+        acts: &[TookData(S1, Protected::Up5), HandedUp(S1, Protected::Up5)],
     },
     Step {
         shows: "the same once more",
-        event: Event::TakeData(&UP_5),
+        event: Event::TakeData(Protected::Up5),
         outcome: Outcome::Refused(Reason::Replayed(1)),
         acts: REFUSED,
     },
     Step {
         shows: "the same number without a TID",
-        event: Event::TakeData(&UP_0),
+        event: Event::TakeData(Protected::Up0),
         outcome: Outcome::Accepted,
-        acts: &[TookData(S1, &UP_0), HandedUp(S1, &UP_0)],
+        acts: &[TookData(S1, Protected::Up0), HandedUp(S1, Protected::Up0)],
     },
     Step {
         shows: "another key id",
-        event: Event::Take(WRONG_KEY_ID),
+        event: Event::Take(WrongKeyId),
         outcome: Outcome::Refused(Reason::NoKey),
         acts: REFUSED,
     },
     Step {
         shows: "a wrong seal, which moves no counter",
-        event: Event::Take(WRONG_SEAL),
+        event: Event::Take(WrongSeal),
         outcome: Outcome::Refused(Reason::Seal),
         acts: REFUSED,
     },
     Step {
         shows: "a number past the next",
-        event: Event::TakeData(&UP_9),
+        event: Event::TakeData(Protected::Up9),
         outcome: Outcome::Accepted,
-        acts: &[TookData(S1, &UP_9), HandedUp(S1, &UP_9)],
+        acts: &[TookData(S1, Protected::Up9), HandedUp(S1, Protected::Up9)],
     },
     Step {
         shows: "one that was passed over",
-        event: Event::TakeData(&UP_8),
+        event: Event::TakeData(Protected::Up8),
         outcome: Outcome::Refused(Reason::Replayed(9)),
         acts: REFUSED,
     },
     Step {
         shows: "as of a station without a session",
-        event: Event::Take(AS_OF_S2),
+        event: Event::Take(AsOfS2),
         outcome: Outcome::Refused(Reason::NoKey),
         acts: &[Took(Some(S2), Kind::Data)],
     },
@@ -223,72 +231,78 @@ pub const NEXT_KEY: &[Step] = &[
     SENDS,
     Step {
         shows: "a request in a session",
-        event: Event::Take(REQUEST),
+        event: Event::Take(Request),
         outcome: Outcome::Accepted,
         acts: &[
             Took(Some(S1), Kind::AssocReq),
             Opened(S1),
             Drew(Drawn::Nonce(NEXT_ANONCE)),
-            Sent(S1, Kind::AssocResp, RESPONSE),
-            Sent(S1, Kind::Key(Message::M1), NEXT_M1_1),
+            Sent(S1, Kind::AssocResp, Response),
+            Sent(S1, Kind::Key(Message::M1), NextM1_1),
         ],
     },
     Step {
         shows: "M1 a second time",
         event: Event::Retry(0),
         outcome: Outcome::Done,
-        acts: &[Sent(S1, Kind::Key(Message::M1), NEXT_M1_2)],
+        acts: &[Sent(S1, Kind::Key(Message::M1), NextM1_2)],
     },
     Step {
         shows: "M2",
-        event: Event::Take(CROSSED_M2_2),
+        event: Event::Take(CrossedM2_2),
         outcome: Outcome::Accepted,
         acts: &[
-            TookSealed(S1, Kind::Key(Message::M2), &CROSSED_KEYS),
-            Derived(S1, &CROSSED_KEYS),
-            SentSealed(S1, Kind::Key(Message::M3), CROSSED_M3_3, &CROSSED_KEYS),
+            TookSealed(S1, Kind::Key(Message::M2), PairKeys::Crossed),
+            Derived(S1, PairKeys::Crossed),
+            SentSealed(S1, Kind::Key(Message::M3), CrossedM3_3, PairKeys::Crossed),
         ],
     },
     Step {
         shows: "under the key of the session",
-        event: Event::TakeData(&UP_9),
+        event: Event::TakeData(Protected::Up9),
         outcome: Outcome::Accepted,
-        acts: &[TookData(S1, &UP_9), HandedUp(S1, &UP_9)],
+        acts: &[TookData(S1, Protected::Up9), HandedUp(S1, Protected::Up9)],
     },
     Step {
         shows: "under the key to come",
-        event: Event::TakeData(&CROSSED_UP),
+        event: Event::TakeData(Protected::CrossedUp),
         outcome: Outcome::Refused(Reason::Replayed(9)),
         acts: REFUSED,
     },
     Step {
         shows: "M4",
-        event: Event::Take(CROSSED_M4_3),
+        event: Event::Take(CrossedM4_3),
         outcome: Outcome::Accepted,
         acts: &[
-            TookSealed(S1, Kind::Key(Message::M4), &CROSSED_KEYS),
+            TookSealed(S1, Kind::Key(Message::M4), PairKeys::Crossed),
             Closed(S1, Part::Session),
-            Pairwise(S1, &CROSSED_KEYS),
-            Finished(S1, &CROSSED_KEYS),
+            Pairwise(S1, PairKeys::Crossed),
+            Finished(S1, PairKeys::Crossed),
         ],
     },
     Step {
         shows: "under the key of the session before",
-        event: Event::TakeData(&UP_5),
+        event: Event::TakeData(Protected::Up5),
         outcome: Outcome::Refused(Reason::Seal),
         acts: REFUSED,
     },
     Step {
         shows: "under the new key, its counters at their beginning",
-        event: Event::TakeData(&CROSSED_UP),
+        event: Event::TakeData(Protected::CrossedUp),
         outcome: Outcome::Accepted,
-        acts: &[TookData(S1, &CROSSED_UP), HandedUp(S1, &CROSSED_UP)],
+        acts: &[
+            TookData(S1, Protected::CrossedUp),
+            HandedUp(S1, Protected::CrossedUp),
+        ],
     },
     Step {
         shows: "the first number of the new key",
         event: Event::Send(0, None, b"fresh"),
         outcome: Outcome::Done,
-        acts: &[Used(TO_S1, &CROSSED_DOWN), SentData(TO_S1, &CROSSED_DOWN)],
+        acts: &[
+            Used(TO_S1, Protected::CrossedDown),
+            SentData(TO_S1, Protected::CrossedDown),
+        ],
     },
 ];
 
@@ -303,19 +317,19 @@ pub const GIVEN_UP: &[Step] = &[
         shows: "G1 a second time",
         event: Event::Retry(0),
         outcome: Outcome::Done,
-        acts: &[SentSealed(S1, Kind::Key(Message::G1), G1_4, &KEYS)],
+        acts: &[SentSealed(S1, Kind::Key(Message::G1), G1_4, PairKeys::First)],
     },
     Step {
         shows: "G1 a third time",
         event: Event::Retry(0),
         outcome: Outcome::Done,
-        acts: &[SentSealed(S1, Kind::Key(Message::G1), G1_5, &KEYS)],
+        acts: &[SentSealed(S1, Kind::Key(Message::G1), G1_5, PairKeys::First)],
     },
     Step {
         shows: "G1 a fourth time",
         event: Event::Retry(0),
         outcome: Outcome::Done,
-        acts: &[SentSealed(S1, Kind::Key(Message::G1), G1_6, &KEYS)],
+        acts: &[SentSealed(S1, Kind::Key(Message::G1), G1_6, PairKeys::First)],
     },
     Step {
         shows: "no fifth time: the session is given up",

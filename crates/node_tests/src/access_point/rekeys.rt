@@ -5,28 +5,27 @@ use crate::acts::Expected::{
     TookSealed,
 };
 use crate::acts::{Event, Expected, Step};
-use crate::air_frames::{
-    KEYS, M1_1, M2_1, M3_2, M4_2, OTHER_KEYS, OTHER_M2_1, OTHER_M3_2, OTHER_M4_2, OTHER_NEXT_M1_1,
-    REQUEST_OF_S2,
+use crate::group_frames::THIRD_GTK;
+use crate::named::Frame::{
+    G1_3, G1_4, G1_5, G1_6, G2_2, G2_3, G2_3WithWrongMic, G2_4, M1_1, M2_1, M3_2, M4_2, OtherG1_3,
+    OtherG2_3, OtherM2_1, OtherM3_2, OtherM4_2, OtherNextM1_1, Request, RequestOfS2, Response,
+    ResponseToS2, ThirdG1_3,
 };
-use crate::group_frames::{
-    G1_3, G1_4, G1_5, G1_6, G2_2, G2_3, G2_3_WITH_WRONG_MIC, G2_4, OTHER_G1_3, OTHER_G2_3,
-    THIRD_G1_3, THIRD_GTK,
-};
-use crate::vectors::{ANONCE, NEXT_ANONCE, NEXT_GTK, REQUEST, RESPONSE, RESPONSE_TO_S2, S1, S2};
+use crate::named::PairKeys;
+use crate::vectors::{ANONCE, NEXT_ANONCE, NEXT_GTK, S1, S2};
 use domain_base::Peer;
 use eapol_key::Message;
 use run_journal::{Drawn, Kind, Outcome, Part, Reason, Why};
 
 const ASKS: Step = Step {
     shows: "a request",
-    event: Event::Take(REQUEST),
+    event: Event::Take(Request),
     outcome: Outcome::Accepted,
     acts: &[
         Took(Some(S1), Kind::AssocReq),
         Opened(S1),
         Drew(Drawn::Nonce(ANONCE)),
-        Sent(S1, Kind::AssocResp, RESPONSE),
+        Sent(S1, Kind::AssocResp, Response),
         Sent(S1, Kind::Key(Message::M1), M1_1),
     ],
 };
@@ -36,9 +35,9 @@ const ANSWERS: Step = Step {
     event: Event::Take(M2_1),
     outcome: Outcome::Accepted,
     acts: &[
-        TookSealed(S1, Kind::Key(Message::M2), &KEYS),
-        Derived(S1, &KEYS),
-        SentSealed(S1, Kind::Key(Message::M3), M3_2, &KEYS),
+        TookSealed(S1, Kind::Key(Message::M2), PairKeys::First),
+        Derived(S1, PairKeys::First),
+        SentSealed(S1, Kind::Key(Message::M3), M3_2, PairKeys::First),
     ],
 };
 
@@ -47,9 +46,9 @@ const FINISHES: Step = Step {
     event: Event::Take(M4_2),
     outcome: Outcome::Accepted,
     acts: &[
-        TookSealed(S1, Kind::Key(Message::M4), &KEYS),
-        Pairwise(S1, &KEYS),
-        Finished(S1, &KEYS),
+        TookSealed(S1, Kind::Key(Message::M4), PairKeys::First),
+        Pairwise(S1, PairKeys::First),
+        Finished(S1, PairKeys::First),
     ],
 };
 
@@ -59,7 +58,7 @@ const REKEY: Step = Step {
     outcome: Outcome::Done,
     acts: &[
         Drew(Drawn::Gtk(NEXT_GTK)),
-        SentSealed(S1, Kind::Key(Message::G1), G1_3, &KEYS),
+        SentSealed(S1, Kind::Key(Message::G1), G1_3, PairKeys::First),
     ],
 };
 
@@ -67,7 +66,7 @@ const SECOND: Step = Step {
     shows: "G1 a second time",
     event: Event::Retry(0),
     outcome: Outcome::Done,
-    acts: &[SentSealed(S1, Kind::Key(Message::G1), G1_4, &KEYS)],
+    acts: &[SentSealed(S1, Kind::Key(Message::G1), G1_4, PairKeys::First)],
 };
 
 const UNAWAITED: &[Expected] = &[Took(Some(S1), Kind::Key(Message::G2))];
@@ -104,7 +103,7 @@ pub const ANSWERED: &[Step] = &[
     },
     Step {
         shows: "G2 with a wrong MIC",
-        event: Event::Take(G2_3_WITH_WRONG_MIC),
+        event: Event::Take(G2_3WithWrongMic),
         outcome: Outcome::Refused(Reason::Mic),
         acts: UNAWAITED,
     },
@@ -114,7 +113,7 @@ pub const ANSWERED: &[Step] = &[
         event: Event::Take(G2_3),
         outcome: Outcome::Accepted,
         acts: &[
-            TookSealed(S1, Kind::Key(Message::G2), &KEYS),
+            TookSealed(S1, Kind::Key(Message::G2), PairKeys::First),
             Group(Peer::All, NEXT_GTK, 2),
         ],
     },
@@ -143,13 +142,13 @@ pub const GIVEN_UP: &[Step] = &[
         shows: "G1 a third time",
         event: Event::Retry(0),
         outcome: Outcome::Done,
-        acts: &[SentSealed(S1, Kind::Key(Message::G1), G1_5, &KEYS)],
+        acts: &[SentSealed(S1, Kind::Key(Message::G1), G1_5, PairKeys::First)],
     },
     Step {
         shows: "G1 a fourth time",
         event: Event::Retry(0),
         outcome: Outcome::Done,
-        acts: &[SentSealed(S1, Kind::Key(Message::G1), G1_6, &KEYS)],
+        acts: &[SentSealed(S1, Kind::Key(Message::G1), G1_6, PairKeys::First)],
     },
     Step {
         shows: "no fifth time: the session is given up, and the group key comes into use",
@@ -203,25 +202,25 @@ pub const DROPPED: &[Step] = &[
 
 const OTHER_ASKS: Step = Step {
     shows: "a request of another station",
-    event: Event::Take(REQUEST_OF_S2),
+    event: Event::Take(RequestOfS2),
     outcome: Outcome::Accepted,
     acts: &[
         Took(Some(S2), Kind::AssocReq),
         Opened(S2),
         Drew(Drawn::Nonce(NEXT_ANONCE)),
-        Sent(S2, Kind::AssocResp, RESPONSE_TO_S2),
-        Sent(S2, Kind::Key(Message::M1), OTHER_NEXT_M1_1),
+        Sent(S2, Kind::AssocResp, ResponseToS2),
+        Sent(S2, Kind::Key(Message::M1), OtherNextM1_1),
     ],
 };
 
 const OTHER_ANSWERS: Step = Step {
     shows: "M2 of the other station",
-    event: Event::Take(OTHER_M2_1),
+    event: Event::Take(OtherM2_1),
     outcome: Outcome::Accepted,
     acts: &[
-        TookSealed(S2, Kind::Key(Message::M2), &OTHER_KEYS),
-        Derived(S2, &OTHER_KEYS),
-        SentSealed(S2, Kind::Key(Message::M3), OTHER_M3_2, &OTHER_KEYS),
+        TookSealed(S2, Kind::Key(Message::M2), PairKeys::Other),
+        Derived(S2, PairKeys::Other),
+        SentSealed(S2, Kind::Key(Message::M3), OtherM3_2, PairKeys::Other),
     ],
 };
 
@@ -231,19 +230,19 @@ const THIRD_REKEY: Step = Step {
     outcome: Outcome::Done,
     acts: &[
         Drew(Drawn::Gtk(THIRD_GTK)),
-        SentSealed(S1, Kind::Key(Message::G1), THIRD_G1_3, &KEYS),
+        SentSealed(S1, Kind::Key(Message::G1), ThirdG1_3, PairKeys::First),
     ],
 };
 
 const OTHER_FINISHES: Step = Step {
     shows: "M4 for the older group key is followed by G1",
-    event: Event::Take(OTHER_M4_2),
+    event: Event::Take(OtherM4_2),
     outcome: Outcome::Accepted,
     acts: &[
-        TookSealed(S2, Kind::Key(Message::M4), &OTHER_KEYS),
-        Pairwise(S2, &OTHER_KEYS),
-        Finished(S2, &OTHER_KEYS),
-        SentSealed(S2, Kind::Key(Message::G1), OTHER_G1_3, &OTHER_KEYS),
+        TookSealed(S2, Kind::Key(Message::M4), PairKeys::Other),
+        Pairwise(S2, PairKeys::Other),
+        Finished(S2, PairKeys::Other),
+        SentSealed(S2, Kind::Key(Message::G1), OtherG1_3, PairKeys::Other),
     ],
 };
 
@@ -260,16 +259,16 @@ pub const OLDER: &[Step] = &[
         event: Event::Take(G2_3),
         outcome: Outcome::Accepted,
         acts: &[
-            TookSealed(S1, Kind::Key(Message::G2), &KEYS),
+            TookSealed(S1, Kind::Key(Message::G2), PairKeys::First),
             Group(Peer::All, THIRD_GTK, 2),
         ],
     },
     OTHER_FINISHES,
     Step {
         shows: "G2 of a session that owes it for the group key in use",
-        event: Event::Take(OTHER_G2_3),
+        event: Event::Take(OtherG2_3),
         outcome: Outcome::Accepted,
-        acts: &[TookSealed(S2, Kind::Key(Message::G2), &OTHER_KEYS)],
+        acts: &[TookSealed(S2, Kind::Key(Message::G2), PairKeys::Other)],
     },
 ];
 
@@ -286,14 +285,14 @@ pub const BOTH: &[Step] = &[
         shows: "the one answers, and nothing else is done",
         event: Event::Take(G2_3),
         outcome: Outcome::Accepted,
-        acts: &[TookSealed(S1, Kind::Key(Message::G2), &KEYS)],
+        acts: &[TookSealed(S1, Kind::Key(Message::G2), PairKeys::First)],
     },
     Step {
         shows: "the other answers, and the group key comes into use",
-        event: Event::Take(OTHER_G2_3),
+        event: Event::Take(OtherG2_3),
         outcome: Outcome::Accepted,
         acts: &[
-            TookSealed(S2, Kind::Key(Message::G2), &OTHER_KEYS),
+            TookSealed(S2, Kind::Key(Message::G2), PairKeys::Other),
             Group(Peer::All, THIRD_GTK, 2),
         ],
     },

@@ -4,12 +4,12 @@ use crate::acts::Expected::{
     Closed, Derived, Drew, GaveUp, Idle, Opened, Sent, SentSealed, Took, TookSealed,
 };
 use crate::acts::{Event, Step};
-use crate::air_frames::{
-    CROSSED_KEYS, CROSSED_M2_1, CROSSED_M3_2, KEYS, M1_1, M1_2, M1_3, M1_4, M2_1,
-    M2_1_WITH_OTHER_RSNE, M2_4, M3_2, NEXT_M1_1, REFUSAL_OF_CIPHER, REQUEST_OF_SUITE_6,
-    REQUEST_WITH_TKIP,
+use crate::named::Frame::{
+    CrossedM2_1, CrossedM3_2, M1_1, M1_2, M1_3, M1_4, M2_1, M2_1WithOtherRsne, M2_4, M3_2,
+    NextM1_1, Refusal, RefusalOfCipher, Request, RequestOfSuite6, RequestWithTkip, Response,
 };
-use crate::vectors::{ANONCE, NEXT_ANONCE, REFUSAL, REQUEST, RESPONSE, RSNE, S1};
+use crate::named::PairKeys;
+use crate::vectors::{ANONCE, NEXT_ANONCE, S1};
 use eapol_key::Message;
 use run_journal::{Drawn, KeyDataFault, Kind, Outcome, Part, Reason, Why};
 
@@ -23,61 +23,61 @@ pub const REQUESTS: &[Step] = &[
     },
     Step {
         shows: "a wrong pairwise suite",
-        event: Event::Take(REQUEST_WITH_TKIP),
+        event: Event::Take(RequestWithTkip),
         outcome: Outcome::Refused(Reason::Status(42)),
         acts: &[
             Took(Some(S1), Kind::AssocReq),
-            Sent(S1, Kind::AssocResp, REFUSAL_OF_CIPHER),
+            Sent(S1, Kind::AssocResp, RefusalOfCipher),
         ],
     },
     Step {
         shows: "another AKM suite",
-        event: Event::Take(REQUEST_OF_SUITE_6),
+        event: Event::Take(RequestOfSuite6),
         outcome: Outcome::Refused(Reason::Status(43)),
         acts: &[
             Took(Some(S1), Kind::AssocReq),
-            Sent(S1, Kind::AssocResp, REFUSAL),
+            Sent(S1, Kind::AssocResp, Refusal),
         ],
     },
     Step {
         shows: "a request",
-        event: Event::Take(REQUEST),
+        event: Event::Take(Request),
         outcome: Outcome::Accepted,
         acts: &[
             Took(Some(S1), Kind::AssocReq),
             Opened(S1),
             Drew(Drawn::Nonce(ANONCE)),
-            Sent(S1, Kind::AssocResp, RESPONSE),
+            Sent(S1, Kind::AssocResp, Response),
             Sent(S1, Kind::Key(Message::M1), M1_1),
         ],
     },
     Step {
         shows: "another RSNE under a right MIC",
-        event: Event::Take(M2_1_WITH_OTHER_RSNE),
+        event: Event::Take(M2_1WithOtherRsne),
         outcome: Outcome::Refused(Reason::KeyData(KeyDataFault::Rsne)),
-        acts: &[TookSealed(S1, Kind::Key(Message::M2), &KEYS)],
+        acts: &[TookSealed(S1, Kind::Key(Message::M2), PairKeys::First)],
     },
     Step {
         shows: "M2",
         event: Event::Take(M2_1),
         outcome: Outcome::Accepted,
         acts: &[
-            TookSealed(S1, Kind::Key(Message::M2), &KEYS),
-            Derived(S1, &KEYS),
-            SentSealed(S1, Kind::Key(Message::M3), M3_2, &KEYS),
+            TookSealed(S1, Kind::Key(Message::M2), PairKeys::First),
+            Derived(S1, PairKeys::First),
+            SentSealed(S1, Kind::Key(Message::M3), M3_2, PairKeys::First),
         ],
     },
     Step {
         shows: "a second request",
-        event: Event::Take(REQUEST),
+        event: Event::Take(Request),
         outcome: Outcome::Accepted,
         acts: &[
             Took(Some(S1), Kind::AssocReq),
             Closed(S1, Part::Attempt),
             Opened(S1),
             Drew(Drawn::Nonce(NEXT_ANONCE)),
-            Sent(S1, Kind::AssocResp, RESPONSE),
-            Sent(S1, Kind::Key(Message::M1), NEXT_M1_1),
+            Sent(S1, Kind::AssocResp, Response),
+            Sent(S1, Kind::Key(Message::M1), NextM1_1),
         ],
     },
     Step {
@@ -88,12 +88,12 @@ pub const REQUESTS: &[Step] = &[
     },
     Step {
         shows: "M2 of the second attempt",
-        event: Event::Take(CROSSED_M2_1),
+        event: Event::Take(CrossedM2_1),
         outcome: Outcome::Accepted,
         acts: &[
-            TookSealed(S1, Kind::Key(Message::M2), &CROSSED_KEYS),
-            Derived(S1, &CROSSED_KEYS),
-            SentSealed(S1, Kind::Key(Message::M3), CROSSED_M3_2, &CROSSED_KEYS),
+            TookSealed(S1, Kind::Key(Message::M2), PairKeys::Crossed),
+            Derived(S1, PairKeys::Crossed),
+            SentSealed(S1, Kind::Key(Message::M3), CrossedM3_2, PairKeys::Crossed),
         ],
     },
 ];
@@ -108,13 +108,13 @@ pub const FIRST_MESSAGES: &[Step] = &[
     },
     Step {
         shows: "a request",
-        event: Event::Take(REQUEST),
+        event: Event::Take(Request),
         outcome: Outcome::Accepted,
         acts: &[
             Took(Some(S1), Kind::AssocReq),
             Opened(S1),
             Drew(Drawn::Nonce(ANONCE)),
-            Sent(S1, Kind::AssocResp, RESPONSE),
+            Sent(S1, Kind::AssocResp, Response),
             Sent(S1, Kind::Key(Message::M1), M1_1),
         ],
     },
@@ -159,7 +159,7 @@ pub const FIRST_MESSAGES: &[Step] = &[
 /// The group key was the last draw.
 pub const SPENT: &[Step] = &[Step {
     shows: "no draw is left",
-    event: Event::Take(REQUEST),
+    event: Event::Take(Request),
     outcome: Outcome::Refused(Reason::Spent),
     acts: &[Took(Some(S1), Kind::AssocReq)],
 }];

@@ -5,79 +5,58 @@ use crate::acts::Expected::{
     Roamed, Sent, SentData, SentMoving, SentSealed, Took, TookMoving, TookSealed, Used,
 };
 use crate::acts::{Event, Step};
-use crate::air_frames::Keys;
-use crate::mobility_vectors::{
-    M1, M2, M2_OF_ANOTHER_DOMAIN, M2_WITH_ANOTHER_FTE, M2_WITH_ANOTHER_NAME, M3, M4, NO_ROW,
-    PMK_R0_NAME, PTK, REQUEST, RESPONSE, TRANSITION_PTK,
+use crate::mobility_vectors::PMK_R0_NAME;
+use crate::named::Frame::{
+    FtM1, FtM2, FtM2OfAnotherDomain, FtM2WithAnotherFte, FtM2WithAnotherName, FtM3, FtM4, FtReq,
+    FtReqNoR0khId, FtReqOtherAkm, FtReqOtherDomain, FtReqOtherName, FtReqOtherR0khId, FtRequest,
+    FtResp, FtResp28, FtResp43, FtResp54, FtResp55, FtResponse, NoRow, ReReq, ReResp,
 };
-use crate::protected_frames::ALL_OF_A2;
-use crate::transition_frames::{
-    ANONCE as ANONCE_OF_A2, FT_REQ, FT_REQ_NO_R0KH_ID, FT_REQ_OTHER_AKM, FT_REQ_OTHER_DOMAIN,
-    FT_REQ_OTHER_NAME, FT_REQ_OTHER_R0KH_ID, FT_RESP, FT_RESP_28, FT_RESP_43, FT_RESP_54,
-    FT_RESP_55, RE_REQ, RE_RESP,
-};
-use crate::vectors::{A1_ADDRESS, A2_ADDRESS, ANONCE, NEXT_SNONCE, S1, S1_ADDRESS, SNONCE};
+use crate::named::{PairKeys, Protected};
+use crate::transition_frames::ANONCE as ANONCE_OF_A2;
+use crate::vectors::{ANONCE, S1};
 use domain_base::Peer;
 use eapol_key::Message;
 use run_journal::{Drawn, KeyDataFault, Kind, Outcome, Part, Reason, Why};
 
-// The key of the association.
-const KEYS: Keys = Keys {
-    anonce: ANONCE,
-    snonce: SNONCE,
-    aa: A1_ADDRESS,
-    spa: S1_ADDRESS,
-    ptk: PTK,
-};
-
-// And of the fast transition.
-const MOVED_KEYS: Keys = Keys {
-    anonce: ANONCE_OF_A2,
-    snonce: NEXT_SNONCE,
-    aa: A2_ADDRESS,
-    spa: S1_ADDRESS,
-    ptk: TRANSITION_PTK,
-};
-
 const ASSOCIATION: Step = Step {
     shows: "the association request",
-    event: Event::Take(REQUEST),
+    event: Event::Take(FtRequest),
     outcome: Outcome::Accepted,
     acts: &[
         Took(Some(S1), Kind::AssocReq),
         Opened(S1),
         Drew(Drawn::Nonce(ANONCE)),
-        Sent(S1, Kind::AssocResp, RESPONSE),
-        Sent(S1, Kind::Key(Message::M1), M1),
+        Sent(S1, Kind::AssocResp, FtResponse),
+        Sent(S1, Kind::Key(Message::M1), FtM1),
     ],
 };
 
 const SECOND_MESSAGE: Step = Step {
     shows: "M2",
-    event: Event::Take(M2),
+    event: Event::Take(FtM2),
     outcome: Outcome::Accepted,
     acts: &[
-        TookSealed(S1, Kind::Key(Message::M2), &KEYS),
-        Derived(S1, &KEYS),
-        SentSealed(S1, Kind::Key(Message::M3), M3, &KEYS),
+        TookSealed(S1, Kind::Key(Message::M2), PairKeys::Ft),
+        Derived(S1, PairKeys::Ft),
+        SentSealed(S1, Kind::Key(Message::M3), FtM3, PairKeys::Ft),
     ],
 };
 
 const LAST_MESSAGE: Step = Step {
     shows: "M4, behind which the key holder is given the row",
-    event: Event::Take(M4),
+    event: Event::Take(FtM4),
     outcome: Outcome::Accepted,
     acts: &[
-        TookSealed(S1, Kind::Key(Message::M4), &KEYS),
-        Pairwise(S1, &KEYS),
-        Finished(S1, &KEYS),
+        TookSealed(S1, Kind::Key(Message::M4), PairKeys::Ft),
+        Pairwise(S1, PairKeys::Ft),
+        Finished(S1, PairKeys::Ft),
         Put,
     ],
 };
 
 const UNKNOWN: Step = Step {
     shows: "a reassociation request that nothing awaits",
-    event: Event::Take(RE_REQ),
+    event: Event::Take(ReReq),
     outcome: Outcome::Refused(Reason::Unawaited),
     acts: &[Took(Some(S1), Kind::ReReq)],
 };
@@ -90,21 +69,21 @@ pub const FAULTY: &[Step] = &[
     ASSOCIATION,
     Step {
         shows: "another PMKR1Name under a right MIC",
-        event: Event::Take(M2_WITH_ANOTHER_NAME),
+        event: Event::Take(FtM2WithAnotherName),
         outcome: Outcome::Refused(Reason::KeyData(KeyDataFault::Rsne)),
-        acts: &[TookSealed(S1, Kind::Key(Message::M2), &KEYS)],
+        acts: &[TookSealed(S1, Kind::Key(Message::M2), PairKeys::Ft)],
     },
     Step {
         shows: "another mobility domain",
-        event: Event::Take(M2_OF_ANOTHER_DOMAIN),
+        event: Event::Take(FtM2OfAnotherDomain),
         outcome: Outcome::Refused(Reason::KeyData(KeyDataFault::Mde)),
-        acts: &[TookSealed(S1, Kind::Key(Message::M2), &KEYS)],
+        acts: &[TookSealed(S1, Kind::Key(Message::M2), PairKeys::Ft)],
     },
     Step {
         shows: "another FTE",
-        event: Event::Take(M2_WITH_ANOTHER_FTE),
+        event: Event::Take(FtM2WithAnotherFte),
         outcome: Outcome::Refused(Reason::KeyData(KeyDataFault::Fte)),
-        acts: &[TookSealed(S1, Kind::Key(Message::M2), &KEYS)],
+        acts: &[TookSealed(S1, Kind::Key(Message::M2), PairKeys::Ft)],
     },
     SECOND_MESSAGE,
     LAST_MESSAGE,
@@ -128,15 +107,15 @@ pub const TAKEN: &[Step] = &[
     UNKNOWN,
     Step {
         shows: "the authentication request",
-        event: Event::Take(FT_REQ),
+        event: Event::Take(FtReq),
         outcome: Outcome::Accepted,
         acts: &[
             Took(Some(S1), Kind::FtReq),
             Found,
             Roamed(S1),
             Drew(Drawn::Nonce(ANONCE_OF_A2)),
-            Derived(S1, &MOVED_KEYS),
-            Sent(S1, Kind::FtResp, FT_RESP),
+            Derived(S1, PairKeys::Moved),
+            Sent(S1, Kind::FtResp, FtResp),
         ],
     },
     Step {
@@ -147,34 +126,37 @@ pub const TAKEN: &[Step] = &[
     },
     Step {
         shows: "the authentication request again is answered without a look",
-        event: Event::Take(FT_REQ),
+        event: Event::Take(FtReq),
         outcome: Outcome::Answered,
-        acts: &[Took(Some(S1), Kind::FtReq), Sent(S1, Kind::FtResp, FT_RESP)],
+        acts: &[Took(Some(S1), Kind::FtReq), Sent(S1, Kind::FtResp, FtResp)],
     },
     Step {
         shows: "the reassociation request installs the key",
-        event: Event::Take(RE_REQ),
+        event: Event::Take(ReReq),
         outcome: Outcome::Accepted,
         acts: &[
-            TookMoving(S1, Kind::ReReq, &MOVED_KEYS),
-            Pairwise(S1, &MOVED_KEYS),
-            Finished(S1, &MOVED_KEYS),
-            SentMoving(S1, Kind::ReResp, RE_RESP, &MOVED_KEYS),
+            TookMoving(S1, Kind::ReReq, PairKeys::Moved),
+            Pairwise(S1, PairKeys::Moved),
+            Finished(S1, PairKeys::Moved),
+            SentMoving(S1, Kind::ReResp, ReResp, PairKeys::Moved),
         ],
     },
     Step {
         shows: "a payload to all",
         event: Event::SendAll(None, b"moved"),
         outcome: Outcome::Done,
-        acts: &[Used(Peer::All, &ALL_OF_A2), SentData(Peer::All, &ALL_OF_A2)],
+        acts: &[
+            Used(Peer::All, Protected::AllOfA2),
+            SentData(Peer::All, Protected::AllOfA2),
+        ],
     },
     Step {
         shows: "the reassociation request again is answered as before, and installs nothing",
-        event: Event::Take(RE_REQ),
+        event: Event::Take(ReReq),
         outcome: Outcome::Answered,
         acts: &[
-            TookMoving(S1, Kind::ReReq, &MOVED_KEYS),
-            SentMoving(S1, Kind::ReResp, RE_RESP, &MOVED_KEYS),
+            TookMoving(S1, Kind::ReReq, PairKeys::Moved),
+            SentMoving(S1, Kind::ReResp, ReResp, PairKeys::Moved),
         ],
     },
     Step {
@@ -190,12 +172,12 @@ pub const TAKEN: &[Step] = &[
 pub const ABSENT: &[Step] = &[
     Step {
         shows: "an authentication request with the name of a revoked row",
-        event: Event::Take(FT_REQ),
+        event: Event::Take(FtReq),
         outcome: Outcome::Refused(Reason::Name),
         acts: &[
             Took(Some(S1), Kind::FtReq),
             Absent(PMK_R0_NAME),
-            Sent(S1, Kind::FtResp, NO_ROW),
+            Sent(S1, Kind::FtResp, NoRow),
         ],
     },
     UNKNOWN,
@@ -205,7 +187,7 @@ pub const ABSENT: &[Step] = &[
 pub const SPENT: &[Step] = &[
     Step {
         shows: "an authentication request at the end of draws",
-        event: Event::Take(FT_REQ),
+        event: Event::Take(FtReq),
         outcome: Outcome::Refused(Reason::Spent),
         acts: &[Took(Some(S1), Kind::FtReq), Found],
     },
@@ -219,53 +201,53 @@ const OTHER_NAME: [u8; 16] = *b"\x7f\x45\xb7\x54\xc0\x98\x12\x2c\x02\xd3\xa8\xfa
 pub const REFUSED: &[Step] = &[
     Step {
         shows: "another AKM",
-        event: Event::Take(FT_REQ_OTHER_AKM),
+        event: Event::Take(FtReqOtherAkm),
         outcome: Outcome::Refused(Reason::Status(43)),
         acts: &[
             Took(Some(S1), Kind::FtReq),
-            Sent(S1, Kind::FtResp, FT_RESP_43),
+            Sent(S1, Kind::FtResp, FtResp43),
         ],
     },
     UNKNOWN,
     Step {
         shows: "another PMKR0Name",
-        event: Event::Take(FT_REQ_OTHER_NAME),
+        event: Event::Take(FtReqOtherName),
         outcome: Outcome::Refused(Reason::Name),
         acts: &[
             Took(Some(S1), Kind::FtReq),
             Absent(OTHER_NAME),
-            Sent(S1, Kind::FtResp, NO_ROW),
+            Sent(S1, Kind::FtResp, NoRow),
         ],
     },
     UNKNOWN,
     Step {
         shows: "another mobility domain",
-        event: Event::Take(FT_REQ_OTHER_DOMAIN),
+        event: Event::Take(FtReqOtherDomain),
         outcome: Outcome::Refused(Reason::Status(54)),
         acts: &[
             Took(Some(S1), Kind::FtReq),
-            Sent(S1, Kind::FtResp, FT_RESP_54),
+            Sent(S1, Kind::FtResp, FtResp54),
         ],
     },
     UNKNOWN,
     Step {
         shows: "no R0KH-ID",
-        event: Event::Take(FT_REQ_NO_R0KH_ID),
+        event: Event::Take(FtReqNoR0khId),
         outcome: Outcome::Refused(Reason::Status(55)),
         acts: &[
             Took(Some(S1), Kind::FtReq),
-            Sent(S1, Kind::FtResp, FT_RESP_55),
+            Sent(S1, Kind::FtResp, FtResp55),
         ],
     },
     UNKNOWN,
     Step {
         shows: "an R0KH-ID of no access point",
-        event: Event::Take(FT_REQ_OTHER_R0KH_ID),
+        event: Event::Take(FtReqOtherR0khId),
         outcome: Outcome::Refused(Reason::NoHolder),
         acts: &[
             Took(Some(S1), Kind::FtReq),
             NoHolder(b"r0kh-9"),
-            Sent(S1, Kind::FtResp, FT_RESP_28),
+            Sent(S1, Kind::FtResp, FtResp28),
         ],
     },
     UNKNOWN,

@@ -2,9 +2,9 @@
 
 use super::{Given, Step};
 use crate::frames::{NOTHING, Sends, Told};
-use crate::mobility_vectors::{G1, G2, TRANSITION_KCK};
+use crate::mobility_vectors::TRANSITION_KCK;
+use crate::named::Frame;
 use crate::vectors::{ANONCE, KCK, PTK, SHA256_KCK, SHA256_PTK, SNONCE};
-use crate::{air_frames, group_frames, part_frames};
 use authenticator::Retried;
 use eapol_key::Message;
 use run_journal::{KeyDataFault, Keyed, Outcome, Reason};
@@ -61,7 +61,7 @@ pub const FIRST: Told = Told {
     derived: None,
     installed: None,
     gtk: None,
-    sends: Sends::Frame(Message::M1, None, air_frames::M1_1),
+    sends: Sends::Frame(Message::M1, None, Frame::M1_1),
 };
 
 pub const SHA256_FIRST: Told = Told {
@@ -69,7 +69,7 @@ pub const SHA256_FIRST: Told = Told {
     derived: None,
     installed: None,
     gtk: None,
-    sends: Sends::Frame(Message::M1, None, air_frames::M1_1_OF_SUITE_6),
+    sends: Sends::Frame(Message::M1, None, Frame::M1_1OfSuite6),
 };
 
 const UNAWAITED: Outcome = Outcome::Refused(Reason::Unawaited);
@@ -78,14 +78,14 @@ const UNAWAITED: Outcome = Outcome::Refused(Reason::Unawaited);
 pub const HANDSHAKE: &[Step] = &[
     Step {
         shows: "M4 before M2",
-        given: Given::Takes(Message::M4, air_frames::M4_2, UNAWAITED),
+        given: Given::Takes(Message::M4, Frame::M4_2, UNAWAITED),
         told: NOTHING,
     },
     Step {
         shows: "M2 with the counter of no M1",
         given: Given::Takes(
             Message::M2,
-            part_frames::M2_2,
+            Frame::M2_2,
             Outcome::Refused(Reason::Counter(1)),
         ),
         told: NOTHING,
@@ -94,7 +94,7 @@ pub const HANDSHAKE: &[Step] = &[
         shows: "M2 with counter 0",
         given: Given::Takes(
             Message::M2,
-            part_frames::M2_0,
+            Frame::M2_0,
             Outcome::Refused(Reason::Counter(1)),
         ),
         told: NOTHING,
@@ -103,7 +103,7 @@ pub const HANDSHAKE: &[Step] = &[
         shows: "M2 with a wrong MIC",
         given: Given::Takes(
             Message::M2,
-            part_frames::M2_1_WITH_WRONG_MIC,
+            Frame::M2_1WithWrongMic,
             Outcome::Refused(Reason::Mic),
         ),
         told: NOTHING,
@@ -112,7 +112,7 @@ pub const HANDSHAKE: &[Step] = &[
         shows: "M2 with another RSNE of the same length",
         given: Given::Takes(
             Message::M2,
-            part_frames::M2_1_WITH_OTHER_RSNE,
+            Frame::PartM2_1WithOtherRsne,
             Outcome::Refused(Reason::KeyData(KeyDataFault::Rsne)),
         ),
         told: VERIFIED,
@@ -121,7 +121,7 @@ pub const HANDSHAKE: &[Step] = &[
         shows: "M2 without an RSNE",
         given: Given::Takes(
             Message::M2,
-            part_frames::M2_1_WITHOUT_RSNE,
+            Frame::M2_1WithoutRsne,
             Outcome::Refused(Reason::KeyData(KeyDataFault::Rsne)),
         ),
         told: VERIFIED,
@@ -130,37 +130,37 @@ pub const HANDSHAKE: &[Step] = &[
         shows: "M2 with a cut RSNE",
         given: Given::Takes(
             Message::M2,
-            part_frames::M2_1_WITH_CUT_RSNE,
+            Frame::M2_1WithCutRsne,
             Outcome::Refused(Reason::KeyData(KeyDataFault::Unreadable)),
         ),
         told: VERIFIED,
     },
     Step {
         shows: "M1 at the access point",
-        given: Given::Takes(Message::M1, air_frames::M4_2, UNAWAITED),
+        given: Given::Takes(Message::M1, Frame::M4_2, UNAWAITED),
         told: NOTHING,
     },
     Step {
         shows: "M2",
-        given: Given::Takes(Message::M2, air_frames::M2_1, Outcome::Accepted),
+        given: Given::Takes(Message::M2, Frame::M2_1, Outcome::Accepted),
         told: Told {
             verified: Some(KCK),
             derived: Some(KEY),
             installed: None,
             gtk: None,
-            sends: Sends::Frame(Message::M3, Some(KCK), air_frames::M3_2),
+            sends: Sends::Frame(Message::M3, Some(KCK), Frame::M3_2),
         },
     },
     Step {
         shows: "M2 again",
-        given: Given::Takes(Message::M2, air_frames::M2_1, UNAWAITED),
+        given: Given::Takes(Message::M2, Frame::M2_1, UNAWAITED),
         told: NOTHING,
     },
     Step {
         shows: "M4 with the counter of M1",
         given: Given::Takes(
             Message::M4,
-            part_frames::M4_1,
+            Frame::M4_1,
             Outcome::Refused(Reason::Counter(2)),
         ),
         told: NOTHING,
@@ -169,7 +169,7 @@ pub const HANDSHAKE: &[Step] = &[
         shows: "M4 with a counter above the last",
         given: Given::Takes(
             Message::M4,
-            air_frames::M4_3,
+            Frame::M4_3,
             Outcome::Refused(Reason::Counter(2)),
         ),
         told: NOTHING,
@@ -178,34 +178,34 @@ pub const HANDSHAKE: &[Step] = &[
         shows: "M4 with a wrong MIC",
         given: Given::Takes(
             Message::M4,
-            part_frames::M4_2_WITH_WRONG_MIC,
+            Frame::M4_2WithWrongMic,
             Outcome::Refused(Reason::Mic),
         ),
         told: NOTHING,
     },
     Step {
         shows: "M3 at the access point",
-        given: Given::Takes(Message::M3, air_frames::M4_2, UNAWAITED),
+        given: Given::Takes(Message::M3, Frame::M4_2, UNAWAITED),
         told: NOTHING,
     },
     Step {
         shows: "M4",
-        given: Given::Takes(Message::M4, air_frames::M4_2, Outcome::Accepted),
+        given: Given::Takes(Message::M4, Frame::M4_2, Outcome::Accepted),
         told: INSTALLED,
     },
     Step {
         shows: "M4 in the session",
-        given: Given::Takes(Message::M4, air_frames::M4_2, UNAWAITED),
+        given: Given::Takes(Message::M4, Frame::M4_2, UNAWAITED),
         told: NOTHING,
     },
     Step {
         shows: "M2 in the session",
-        given: Given::Takes(Message::M2, air_frames::M2_1, UNAWAITED),
+        given: Given::Takes(Message::M2, Frame::M2_1, UNAWAITED),
         told: NOTHING,
     },
     Step {
         shows: "G2 in the session",
-        given: Given::Takes(Message::G2, air_frames::M4_2, UNAWAITED),
+        given: Given::Takes(Message::G2, Frame::M4_2, UNAWAITED),
         told: NOTHING,
     },
     Step {
@@ -225,7 +225,7 @@ pub const FIRST_MESSAGES: &[Step] = &[
             derived: None,
             installed: None,
             gtk: None,
-            sends: Sends::Frame(Message::M1, None, air_frames::M1_2),
+            sends: Sends::Frame(Message::M1, None, Frame::M1_2),
         },
     },
     Step {
@@ -236,7 +236,7 @@ pub const FIRST_MESSAGES: &[Step] = &[
             derived: None,
             installed: None,
             gtk: None,
-            sends: Sends::Frame(Message::M1, None, air_frames::M1_3),
+            sends: Sends::Frame(Message::M1, None, Frame::M1_3),
         },
     },
     Step {
@@ -247,14 +247,14 @@ pub const FIRST_MESSAGES: &[Step] = &[
             derived: None,
             installed: None,
             gtk: None,
-            sends: Sends::Frame(Message::M1, None, air_frames::M1_4),
+            sends: Sends::Frame(Message::M1, None, Frame::M1_4),
         },
     },
     Step {
         shows: "M2 with a counter above the last",
         given: Given::Takes(
             Message::M2,
-            part_frames::M2_5,
+            Frame::M2_5,
             Outcome::Refused(Reason::Counter(4)),
         ),
         told: NOTHING,
@@ -272,12 +272,12 @@ pub const FIRST_MESSAGES: &[Step] = &[
     },
     Step {
         shows: "M2 of the attempt that was given up",
-        given: Given::Takes(Message::M2, air_frames::M2_1, UNAWAITED),
+        given: Given::Takes(Message::M2, Frame::M2_1, UNAWAITED),
         told: NOTHING,
     },
     Step {
         shows: "M4 of it",
-        given: Given::Takes(Message::M4, air_frames::M4_2, UNAWAITED),
+        given: Given::Takes(Message::M4, Frame::M4_2, UNAWAITED),
         told: NOTHING,
     },
     Step {
@@ -297,18 +297,18 @@ pub const THIRD_MESSAGES: &[Step] = &[
             derived: None,
             installed: None,
             gtk: None,
-            sends: Sends::Frame(Message::M1, None, air_frames::M1_2),
+            sends: Sends::Frame(Message::M1, None, Frame::M1_2),
         },
     },
     Step {
         shows: "M2 of the first M1",
-        given: Given::Takes(Message::M2, air_frames::M2_1, Outcome::Accepted),
+        given: Given::Takes(Message::M2, Frame::M2_1, Outcome::Accepted),
         told: Told {
             verified: Some(KCK),
             derived: Some(KEY),
             installed: None,
             gtk: None,
-            sends: Sends::Frame(Message::M3, Some(KCK), part_frames::LATER_M3_3),
+            sends: Sends::Frame(Message::M3, Some(KCK), Frame::LaterM3_3),
         },
     },
     Step {
@@ -319,7 +319,7 @@ pub const THIRD_MESSAGES: &[Step] = &[
             derived: None,
             installed: None,
             gtk: None,
-            sends: Sends::Frame(Message::M3, Some(KCK), part_frames::LATER_M3_4),
+            sends: Sends::Frame(Message::M3, Some(KCK), Frame::LaterM3_4),
         },
     },
     Step {
@@ -330,7 +330,7 @@ pub const THIRD_MESSAGES: &[Step] = &[
             derived: None,
             installed: None,
             gtk: None,
-            sends: Sends::Frame(Message::M3, Some(KCK), part_frames::LATER_M3_5),
+            sends: Sends::Frame(Message::M3, Some(KCK), Frame::LaterM3_5),
         },
     },
     Step {
@@ -341,14 +341,14 @@ pub const THIRD_MESSAGES: &[Step] = &[
             derived: None,
             installed: None,
             gtk: None,
-            sends: Sends::Frame(Message::M3, Some(KCK), part_frames::LATER_M3_6),
+            sends: Sends::Frame(Message::M3, Some(KCK), Frame::LaterM3_6),
         },
     },
     Step {
         shows: "M4 with the counter of the second M1",
         given: Given::Takes(
             Message::M4,
-            air_frames::M4_2,
+            Frame::M4_2,
             Outcome::Refused(Reason::Counter(6)),
         ),
         told: NOTHING,
@@ -366,7 +366,7 @@ pub const THIRD_MESSAGES: &[Step] = &[
     },
     Step {
         shows: "M4 of the attempt that was given up",
-        given: Given::Takes(Message::M4, air_frames::M4_3, UNAWAITED),
+        given: Given::Takes(Message::M4, Frame::M4_3, UNAWAITED),
         told: NOTHING,
     },
     Step {
@@ -386,18 +386,18 @@ pub const SECOND_MESSAGES: &[Step] = &[
             derived: None,
             installed: None,
             gtk: None,
-            sends: Sends::Frame(Message::M1, None, air_frames::M1_2),
+            sends: Sends::Frame(Message::M1, None, Frame::M1_2),
         },
     },
     Step {
         shows: "M2 of the second M1",
-        given: Given::Takes(Message::M2, part_frames::M2_2, Outcome::Accepted),
+        given: Given::Takes(Message::M2, Frame::M2_2, Outcome::Accepted),
         told: Told {
             verified: Some(KCK),
             derived: Some(KEY),
             installed: None,
             gtk: None,
-            sends: Sends::Frame(Message::M3, Some(KCK), air_frames::M3_3),
+            sends: Sends::Frame(Message::M3, Some(KCK), Frame::M3_3),
         },
     },
     Step {
@@ -408,12 +408,12 @@ pub const SECOND_MESSAGES: &[Step] = &[
             derived: None,
             installed: None,
             gtk: None,
-            sends: Sends::Frame(Message::M3, Some(KCK), part_frames::M3_4),
+            sends: Sends::Frame(Message::M3, Some(KCK), Frame::M3_4),
         },
     },
     Step {
         shows: "M4 of the first M3",
-        given: Given::Takes(Message::M4, air_frames::M4_3, Outcome::Accepted),
+        given: Given::Takes(Message::M4, Frame::M4_3, Outcome::Accepted),
         told: INSTALLED,
     },
 ];
@@ -424,7 +424,7 @@ pub const SHA256_HANDSHAKE: &[Step] = &[
         shows: "M2 under the MIC of the other suite",
         given: Given::Takes(
             Message::M2,
-            part_frames::SHA256_M2_1_WITH_WRONG_MIC,
+            Frame::Sha256M2_1WithWrongMic,
             Outcome::Refused(Reason::Mic),
         ),
         told: NOTHING,
@@ -433,20 +433,20 @@ pub const SHA256_HANDSHAKE: &[Step] = &[
         shows: "M2 with another RSNE",
         given: Given::Takes(
             Message::M2,
-            part_frames::SHA256_M2_1_WITH_OTHER_RSNE,
+            Frame::Sha256M2_1WithOtherRsne,
             Outcome::Refused(Reason::KeyData(KeyDataFault::Rsne)),
         ),
         told: SHA256_VERIFIED,
     },
     Step {
         shows: "M2",
-        given: Given::Takes(Message::M2, air_frames::M2_1_OF_SUITE_6, Outcome::Accepted),
+        given: Given::Takes(Message::M2, Frame::M2_1OfSuite6, Outcome::Accepted),
         told: Told {
             verified: Some(SHA256_KCK),
             derived: Some(SHA256_KEY),
             installed: None,
             gtk: None,
-            sends: Sends::Frame(Message::M3, Some(SHA256_KCK), air_frames::M3_2_OF_SUITE_6),
+            sends: Sends::Frame(Message::M3, Some(SHA256_KCK), Frame::M3_2OfSuite6),
         },
     },
     Step {
@@ -457,26 +457,26 @@ pub const SHA256_HANDSHAKE: &[Step] = &[
             derived: None,
             installed: None,
             gtk: None,
-            sends: Sends::Frame(Message::M3, Some(SHA256_KCK), part_frames::SHA256_M3_3),
+            sends: Sends::Frame(Message::M3, Some(SHA256_KCK), Frame::Sha256M3_3),
         },
     },
     Step {
         shows: "M4 of the second M3 under the counter of the first",
         given: Given::Takes(
             Message::M4,
-            part_frames::SHA256_M4_2_WITH_WRONG_MIC,
+            Frame::Sha256M4_2WithWrongMic,
             Outcome::Refused(Reason::Mic),
         ),
         told: NOTHING,
     },
     Step {
         shows: "M4 of the first M3",
-        given: Given::Takes(Message::M4, air_frames::M4_2_OF_SUITE_6, Outcome::Accepted),
+        given: Given::Takes(Message::M4, Frame::M4_2OfSuite6, Outcome::Accepted),
         told: SHA256_INSTALLED,
     },
     Step {
         shows: "M4 again",
-        given: Given::Takes(Message::M4, air_frames::M4_2_OF_SUITE_6, UNAWAITED),
+        given: Given::Takes(Message::M4, Frame::M4_2OfSuite6, UNAWAITED),
         told: NOTHING,
     },
 ];
@@ -485,18 +485,18 @@ pub const SHA256_HANDSHAKE: &[Step] = &[
 pub const SHA256_AT_ONCE: &[Step] = &[
     Step {
         shows: "M2",
-        given: Given::Takes(Message::M2, air_frames::M2_1_OF_SUITE_6, Outcome::Accepted),
+        given: Given::Takes(Message::M2, Frame::M2_1OfSuite6, Outcome::Accepted),
         told: Told {
             verified: Some(SHA256_KCK),
             derived: Some(SHA256_KEY),
             installed: None,
             gtk: None,
-            sends: Sends::Frame(Message::M3, Some(SHA256_KCK), air_frames::M3_2_OF_SUITE_6),
+            sends: Sends::Frame(Message::M3, Some(SHA256_KCK), Frame::M3_2OfSuite6),
         },
     },
     Step {
         shows: "M4",
-        given: Given::Takes(Message::M4, air_frames::M4_2_OF_SUITE_6, Outcome::Accepted),
+        given: Given::Takes(Message::M4, Frame::M4_2OfSuite6, Outcome::Accepted),
         told: SHA256_INSTALLED,
     },
 ];
@@ -504,13 +504,13 @@ pub const SHA256_AT_ONCE: &[Step] = &[
 // M3 carries the newest group key, and the count of packet numbers.
 pub const LATER: &[Step] = &[Step {
     shows: "M2",
-    given: Given::Takes(Message::M2, air_frames::M2_1, Outcome::Accepted),
+    given: Given::Takes(Message::M2, Frame::M2_1, Outcome::Accepted),
     told: Told {
         verified: Some(KCK),
         derived: Some(KEY),
         installed: None,
         gtk: None,
-        sends: Sends::Frame(Message::M3, Some(KCK), part_frames::LATER_M3_2),
+        sends: Sends::Frame(Message::M3, Some(KCK), Frame::LaterM3_2),
     },
 }];
 
@@ -522,7 +522,7 @@ pub const NEXT_GIVEN: &[Step] = &[Step {
         derived: None,
         installed: None,
         gtk: None,
-        sends: Sends::Frame(Message::G1, Some(KCK), group_frames::G1_3),
+        sends: Sends::Frame(Message::G1, Some(KCK), Frame::G1_3),
     },
 }];
 
@@ -534,7 +534,7 @@ pub const LATER_GIVEN: &[Step] = &[Step {
         derived: None,
         installed: None,
         gtk: None,
-        sends: Sends::Frame(Message::G1, Some(KCK), part_frames::LATER_G1_4),
+        sends: Sends::Frame(Message::G1, Some(KCK), Frame::LaterG1_4),
     },
 }];
 
@@ -546,7 +546,7 @@ pub const SHA256_NEXT_GIVEN: &[Step] = &[Step {
         derived: None,
         installed: None,
         gtk: None,
-        sends: Sends::Frame(Message::G1, Some(SHA256_KCK), part_frames::SHA256_G1_3),
+        sends: Sends::Frame(Message::G1, Some(SHA256_KCK), Frame::Sha256G1_3),
     },
 }];
 
@@ -558,11 +558,7 @@ pub const SHA256_LATER_GIVEN: &[Step] = &[Step {
         derived: None,
         installed: None,
         gtk: None,
-        sends: Sends::Frame(
-            Message::G1,
-            Some(SHA256_KCK),
-            part_frames::SHA256_LATER_G1_4,
-        ),
+        sends: Sends::Frame(Message::G1, Some(SHA256_KCK), Frame::Sha256LaterG1_4),
     },
 }];
 
@@ -581,12 +577,12 @@ pub const MOVED: &[Step] = &[
             derived: None,
             installed: None,
             gtk: None,
-            sends: Sends::Frame(Message::G1, Some(TRANSITION_KCK), G1),
+            sends: Sends::Frame(Message::G1, Some(TRANSITION_KCK), Frame::FtG1),
         },
     },
     Step {
         shows: "G2",
-        given: Given::Takes(Message::G2, G2, Outcome::Accepted),
+        given: Given::Takes(Message::G2, Frame::FtG2, Outcome::Accepted),
         told: Told {
             verified: Some(TRANSITION_KCK),
             derived: None,

@@ -2,11 +2,12 @@
 
 use crate::acts::Expected::{Closed, Derived, Drew, Idle, Opened, Sent, SentSealed, Took};
 use crate::acts::{Event, Step};
-use crate::air_frames::{CROSSED_KEYS, CROSSED_M2_2, KEYS, M1_1, M2_1, NEXT_M1_2};
-use crate::vectors::{
-    A1, A2, BEACON, LAST_SNONCE, NEXT_SNONCE, REFUSAL_OF_A2, REQUEST, REQUEST_TO_A2, RESPONSE,
-    RESPONSE_OF_A2, RESPONSE_TO_S2, SNONCE,
+use crate::named::Frame::{
+    Beacon, CrossedM2_2, M1_1, M2_1, NextM1_2, RefusalOfA2, Request, RequestToA2, Response,
+    ResponseOfA2, ResponseToS2,
 };
+use crate::named::PairKeys;
+use crate::vectors::{A1, A2, LAST_SNONCE, NEXT_SNONCE, SNONCE};
 use eapol_key::Message;
 use run_journal::{Drawn, Kind, Outcome, Part, Reason, Why};
 
@@ -14,7 +15,7 @@ use run_journal::{Drawn, Kind, Outcome, Part, Reason, Why};
 pub const FIRST_ASSOCIATION: &[Step] = &[
     Step {
         shows: "a response before an attempt",
-        event: Event::Take(RESPONSE),
+        event: Event::Take(Response),
         outcome: Outcome::Refused(Reason::Unawaited),
         acts: &[Took(Some(A1), Kind::AssocResp)],
     },
@@ -25,7 +26,7 @@ pub const FIRST_ASSOCIATION: &[Step] = &[
         acts: &[
             Opened(A1),
             Drew(Drawn::Nonce(SNONCE)),
-            Sent(A1, Kind::AssocReq, REQUEST),
+            Sent(A1, Kind::AssocReq, Request),
         ],
     },
     Step {
@@ -36,25 +37,25 @@ pub const FIRST_ASSOCIATION: &[Step] = &[
     },
     Step {
         shows: "a beacon",
-        event: Event::Take(BEACON),
+        event: Event::Take(Beacon),
         outcome: Outcome::Ignored,
         acts: &[Took(None, Kind::Ignored)],
     },
     Step {
         shows: "a response to another station",
-        event: Event::Take(RESPONSE_TO_S2),
+        event: Event::Take(ResponseToS2),
         outcome: Outcome::Refused(Reason::NotForMe),
         acts: &[Took(Some(A1), Kind::AssocResp)],
     },
     Step {
         shows: "the response",
-        event: Event::Take(RESPONSE),
+        event: Event::Take(Response),
         outcome: Outcome::Accepted,
         acts: &[Took(Some(A1), Kind::AssocResp)],
     },
     Step {
         shows: "the response again",
-        event: Event::Take(RESPONSE),
+        event: Event::Take(Response),
         outcome: Outcome::Refused(Reason::Unawaited),
         acts: &[Took(Some(A1), Kind::AssocResp)],
     },
@@ -64,18 +65,18 @@ pub const FIRST_ASSOCIATION: &[Step] = &[
         outcome: Outcome::Accepted,
         acts: &[
             Took(Some(A1), Kind::Key(Message::M1)),
-            Derived(A1, &KEYS),
-            SentSealed(A1, Kind::Key(Message::M2), M2_1, &KEYS),
+            Derived(A1, PairKeys::First),
+            SentSealed(A1, Kind::Key(Message::M2), M2_1, PairKeys::First),
         ],
     },
     Step {
         shows: "another M1",
-        event: Event::Take(NEXT_M1_2),
+        event: Event::Take(NextM1_2),
         outcome: Outcome::Accepted,
         acts: &[
             Took(Some(A1), Kind::Key(Message::M1)),
-            Derived(A1, &CROSSED_KEYS),
-            SentSealed(A1, Kind::Key(Message::M2), CROSSED_M2_2, &CROSSED_KEYS),
+            Derived(A1, PairKeys::Crossed),
+            SentSealed(A1, Kind::Key(Message::M2), CrossedM2_2, PairKeys::Crossed),
         ],
     },
     Step {
@@ -84,8 +85,8 @@ pub const FIRST_ASSOCIATION: &[Step] = &[
         outcome: Outcome::Accepted,
         acts: &[
             Took(Some(A1), Kind::Key(Message::M1)),
-            Derived(A1, &KEYS),
-            SentSealed(A1, Kind::Key(Message::M2), M2_1, &KEYS),
+            Derived(A1, PairKeys::First),
+            SentSealed(A1, Kind::Key(Message::M2), M2_1, PairKeys::First),
         ],
     },
     Step {
@@ -111,7 +112,7 @@ pub const TWO_ATTEMPTS: &[Step] = &[
         acts: &[
             Opened(A1),
             Drew(Drawn::Nonce(SNONCE)),
-            Sent(A1, Kind::AssocReq, REQUEST),
+            Sent(A1, Kind::AssocReq, Request),
         ],
     },
     Step {
@@ -122,24 +123,24 @@ pub const TWO_ATTEMPTS: &[Step] = &[
             Closed(A1, Part::Attempt),
             Opened(A2),
             Drew(Drawn::Nonce(NEXT_SNONCE)),
-            Sent(A2, Kind::AssocReq, REQUEST_TO_A2),
+            Sent(A2, Kind::AssocReq, RequestToA2),
         ],
     },
     Step {
         shows: "the response of the first",
-        event: Event::Take(RESPONSE),
+        event: Event::Take(Response),
         outcome: Outcome::Refused(Reason::Unawaited),
         acts: &[Took(Some(A1), Kind::AssocResp)],
     },
     Step {
         shows: "a refusal",
-        event: Event::Take(REFUSAL_OF_A2),
+        event: Event::Take(RefusalOfA2),
         outcome: Outcome::Refused(Reason::Status(43)),
         acts: &[Took(Some(A2), Kind::AssocResp)],
     },
     Step {
         shows: "the response",
-        event: Event::Take(RESPONSE_OF_A2),
+        event: Event::Take(ResponseOfA2),
         outcome: Outcome::Accepted,
         acts: &[Took(Some(A2), Kind::AssocResp)],
     },
@@ -160,7 +161,7 @@ pub const SPENT: &[Step] = &[
         acts: &[
             Opened(A1),
             Drew(Drawn::Nonce(LAST_SNONCE)),
-            Sent(A1, Kind::AssocReq, REQUEST),
+            Sent(A1, Kind::AssocReq, Request),
         ],
     },
     Step {
@@ -171,7 +172,7 @@ pub const SPENT: &[Step] = &[
     },
     Step {
         shows: "the attempt goes on",
-        event: Event::Take(RESPONSE),
+        event: Event::Take(Response),
         outcome: Outcome::Accepted,
         acts: &[Took(Some(A1), Kind::AssocResp)],
     },

@@ -5,11 +5,12 @@ use crate::acts::Expected::{
     Took, TookSealed,
 };
 use crate::acts::{Event, Step};
-use crate::air_frames::{
-    KEYS, M1_1, M1_4, M2_1, M3_2, M3_2_WITH_NEXT_ANONCE, M3_2_WITH_WRONG_MIC, M3_2_WITHOUT_A_WRAP,
-    M3_3, M4_2, M4_3, NEXT_KEYS, NEXT_M1_1, NEXT_M2_1, NEXT_M3_2, NEXT_M4_2,
+use crate::named::Frame::{
+    M1_1, M1_4, M2_1, M3_2, M3_2WithNextAnonce, M3_2WithWrongMic, M3_2WithoutAWrap, M3_3, M4_2,
+    M4_3, NextM1_1, NextM2_1, NextM3_2, NextM4_2, Request, Response,
 };
-use crate::vectors::{A1, GTK, NEXT_SNONCE, REQUEST, RESPONSE, SNONCE};
+use crate::named::PairKeys;
+use crate::vectors::{A1, GTK, NEXT_SNONCE, SNONCE};
 use domain_base::Peer;
 use eapol_key::Message;
 use run_journal::{Drawn, Kind, Outcome, Part, Reason, Why};
@@ -23,12 +24,12 @@ pub const HANDSHAKES: &[Step] = &[
         acts: &[
             Opened(A1),
             Drew(Drawn::Nonce(SNONCE)),
-            Sent(A1, Kind::AssocReq, REQUEST),
+            Sent(A1, Kind::AssocReq, Request),
         ],
     },
     Step {
         shows: "the response",
-        event: Event::Take(RESPONSE),
+        event: Event::Take(Response),
         outcome: Outcome::Accepted,
         acts: &[Took(Some(A1), Kind::AssocResp)],
     },
@@ -44,38 +45,38 @@ pub const HANDSHAKES: &[Step] = &[
         outcome: Outcome::Accepted,
         acts: &[
             Took(Some(A1), Kind::Key(Message::M1)),
-            Derived(A1, &KEYS),
-            SentSealed(A1, Kind::Key(Message::M2), M2_1, &KEYS),
+            Derived(A1, PairKeys::First),
+            SentSealed(A1, Kind::Key(Message::M2), M2_1, PairKeys::First),
         ],
     },
     Step {
         shows: "M3 under another ANonce",
-        event: Event::Take(M3_2_WITH_NEXT_ANONCE),
+        event: Event::Take(M3_2WithNextAnonce),
         outcome: Outcome::Refused(Reason::Nonce),
         acts: &[Took(Some(A1), Kind::Key(Message::M3))],
     },
     Step {
         shows: "M3 with a wrong MIC",
-        event: Event::Take(M3_2_WITH_WRONG_MIC),
+        event: Event::Take(M3_2WithWrongMic),
         outcome: Outcome::Refused(Reason::Mic),
         acts: &[Took(Some(A1), Kind::Key(Message::M3))],
     },
     Step {
         shows: "M3 with key data that is no wrap",
-        event: Event::Take(M3_2_WITHOUT_A_WRAP),
+        event: Event::Take(M3_2WithoutAWrap),
         outcome: Outcome::Refused(Reason::Wrap),
-        acts: &[TookSealed(A1, Kind::Key(Message::M3), &KEYS)],
+        acts: &[TookSealed(A1, Kind::Key(Message::M3), PairKeys::First)],
     },
     Step {
         shows: "M3",
         event: Event::Take(M3_2),
         outcome: Outcome::Accepted,
         acts: &[
-            TookSealed(A1, Kind::Key(Message::M3), &KEYS),
-            Pairwise(A1, &KEYS),
+            TookSealed(A1, Kind::Key(Message::M3), PairKeys::First),
+            Pairwise(A1, PairKeys::First),
             Group(Peer::One(A1), GTK, 1),
-            Finished(A1, &KEYS),
-            SentSealed(A1, Kind::Key(Message::M4), M4_2, &KEYS),
+            Finished(A1, PairKeys::First),
+            SentSealed(A1, Kind::Key(Message::M4), M4_2, PairKeys::First),
         ],
     },
     Step {
@@ -89,8 +90,8 @@ pub const HANDSHAKES: &[Step] = &[
         event: Event::Take(M3_3),
         outcome: Outcome::Answered,
         acts: &[
-            TookSealed(A1, Kind::Key(Message::M3), &KEYS),
-            SentSealed(A1, Kind::Key(Message::M4), M4_3, &KEYS),
+            TookSealed(A1, Kind::Key(Message::M3), PairKeys::First),
+            SentSealed(A1, Kind::Key(Message::M4), M4_3, PairKeys::First),
         ],
     },
     Step {
@@ -107,7 +108,7 @@ pub const HANDSHAKES: &[Step] = &[
             Closed(A1, Part::Session),
             Opened(A1),
             Drew(Drawn::Nonce(NEXT_SNONCE)),
-            Sent(A1, Kind::AssocReq, REQUEST),
+            Sent(A1, Kind::AssocReq, Request),
         ],
     },
     Step {
@@ -118,30 +119,30 @@ pub const HANDSHAKES: &[Step] = &[
     },
     Step {
         shows: "the response again",
-        event: Event::Take(RESPONSE),
+        event: Event::Take(Response),
         outcome: Outcome::Accepted,
         acts: &[Took(Some(A1), Kind::AssocResp)],
     },
     Step {
         shows: "the next M1",
-        event: Event::Take(NEXT_M1_1),
+        event: Event::Take(NextM1_1),
         outcome: Outcome::Accepted,
         acts: &[
             Took(Some(A1), Kind::Key(Message::M1)),
-            Derived(A1, &NEXT_KEYS),
-            SentSealed(A1, Kind::Key(Message::M2), NEXT_M2_1, &NEXT_KEYS),
+            Derived(A1, PairKeys::Next),
+            SentSealed(A1, Kind::Key(Message::M2), NextM2_1, PairKeys::Next),
         ],
     },
     Step {
         shows: "M3 with the same group key under another key id",
-        event: Event::Take(NEXT_M3_2),
+        event: Event::Take(NextM3_2),
         outcome: Outcome::Accepted,
         acts: &[
-            TookSealed(A1, Kind::Key(Message::M3), &NEXT_KEYS),
-            Pairwise(A1, &NEXT_KEYS),
+            TookSealed(A1, Kind::Key(Message::M3), PairKeys::Next),
+            Pairwise(A1, PairKeys::Next),
             Resumed(A1, GTK, 1),
-            Finished(A1, &NEXT_KEYS),
-            SentSealed(A1, Kind::Key(Message::M4), NEXT_M4_2, &NEXT_KEYS),
+            Finished(A1, PairKeys::Next),
+            SentSealed(A1, Kind::Key(Message::M4), NextM4_2, PairKeys::Next),
         ],
     },
 ];
@@ -162,12 +163,12 @@ pub const LEAVING: &[Step] = &[
         acts: &[
             Opened(A1),
             Drew(Drawn::Nonce(SNONCE)),
-            Sent(A1, Kind::AssocReq, REQUEST),
+            Sent(A1, Kind::AssocReq, Request),
         ],
     },
     Step {
         shows: "the response",
-        event: Event::Take(RESPONSE),
+        event: Event::Take(Response),
         outcome: Outcome::Accepted,
         acts: &[Took(Some(A1), Kind::AssocResp)],
     },
@@ -177,8 +178,8 @@ pub const LEAVING: &[Step] = &[
         outcome: Outcome::Accepted,
         acts: &[
             Took(Some(A1), Kind::Key(Message::M1)),
-            Derived(A1, &KEYS),
-            SentSealed(A1, Kind::Key(Message::M2), M2_1, &KEYS),
+            Derived(A1, PairKeys::First),
+            SentSealed(A1, Kind::Key(Message::M2), M2_1, PairKeys::First),
         ],
     },
     Step {
@@ -186,11 +187,11 @@ pub const LEAVING: &[Step] = &[
         event: Event::Take(M3_2),
         outcome: Outcome::Accepted,
         acts: &[
-            TookSealed(A1, Kind::Key(Message::M3), &KEYS),
-            Pairwise(A1, &KEYS),
+            TookSealed(A1, Kind::Key(Message::M3), PairKeys::First),
+            Pairwise(A1, PairKeys::First),
             Group(Peer::One(A1), GTK, 1),
-            Finished(A1, &KEYS),
-            SentSealed(A1, Kind::Key(Message::M4), M4_2, &KEYS),
+            Finished(A1, PairKeys::First),
+            SentSealed(A1, Kind::Key(Message::M4), M4_2, PairKeys::First),
         ],
     },
     Step {
@@ -218,35 +219,35 @@ pub const LEAVING: &[Step] = &[
         acts: &[
             Opened(A1),
             Drew(Drawn::Nonce(NEXT_SNONCE)),
-            Sent(A1, Kind::AssocReq, REQUEST),
+            Sent(A1, Kind::AssocReq, Request),
         ],
     },
     Step {
         shows: "the response again",
-        event: Event::Take(RESPONSE),
+        event: Event::Take(Response),
         outcome: Outcome::Accepted,
         acts: &[Took(Some(A1), Kind::AssocResp)],
     },
     Step {
         shows: "the next M1",
-        event: Event::Take(NEXT_M1_1),
+        event: Event::Take(NextM1_1),
         outcome: Outcome::Accepted,
         acts: &[
             Took(Some(A1), Kind::Key(Message::M1)),
-            Derived(A1, &NEXT_KEYS),
-            SentSealed(A1, Kind::Key(Message::M2), NEXT_M2_1, &NEXT_KEYS),
+            Derived(A1, PairKeys::Next),
+            SentSealed(A1, Kind::Key(Message::M2), NextM2_1, PairKeys::Next),
         ],
     },
     Step {
         shows: "M3 with the group key that was kept",
-        event: Event::Take(NEXT_M3_2),
+        event: Event::Take(NextM3_2),
         outcome: Outcome::Accepted,
         acts: &[
-            TookSealed(A1, Kind::Key(Message::M3), &NEXT_KEYS),
-            Pairwise(A1, &NEXT_KEYS),
+            TookSealed(A1, Kind::Key(Message::M3), PairKeys::Next),
+            Pairwise(A1, PairKeys::Next),
             Resumed(A1, GTK, 1),
-            Finished(A1, &NEXT_KEYS),
-            SentSealed(A1, Kind::Key(Message::M4), NEXT_M4_2, &NEXT_KEYS),
+            Finished(A1, PairKeys::Next),
+            SentSealed(A1, Kind::Key(Message::M4), NextM4_2, PairKeys::Next),
         ],
     },
 ];

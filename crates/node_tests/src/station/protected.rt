@@ -6,9 +6,9 @@ use crate::acts::Expected::{
     SentSealed, Took, TookData, TookSealed, Used,
 };
 use crate::acts::{Event, Expected, Step};
-use crate::air_frames::{KEYS, M1_1, M2_1, M3_2, M3_3, M4_2, M4_3};
-use crate::protected_frames::{ALL_1, ALL_2, DOWN_3, UP_0};
-use crate::vectors::{A1, GTK, REQUEST, RESPONSE, SNONCE};
+use crate::named::Frame::{M1_1, M2_1, M3_2, M3_3, M4_2, M4_3, Request, Response};
+use crate::named::{PairKeys, Protected};
+use crate::vectors::{A1, GTK, SNONCE};
 use domain_base::Peer;
 use eapol_key::Message;
 use run_journal::{Drawn, Kind, Outcome, Part, Reason, Why};
@@ -32,12 +32,12 @@ pub const PAYLOADS: &[Step] = &[
         acts: &[
             Opened(A1),
             Drew(Drawn::Nonce(SNONCE)),
-            Sent(A1, Kind::AssocReq, REQUEST),
+            Sent(A1, Kind::AssocReq, Request),
         ],
     },
     Step {
         shows: "the response",
-        event: Event::Take(RESPONSE),
+        event: Event::Take(Response),
         outcome: Outcome::Accepted,
         acts: &[Took(Some(A1), Kind::AssocResp)],
     },
@@ -47,13 +47,13 @@ pub const PAYLOADS: &[Step] = &[
         outcome: Outcome::Accepted,
         acts: &[
             Took(Some(A1), Kind::Key(Message::M1)),
-            Derived(A1, &KEYS),
-            SentSealed(A1, Kind::Key(Message::M2), M2_1, &KEYS),
+            Derived(A1, PairKeys::First),
+            SentSealed(A1, Kind::Key(Message::M2), M2_1, PairKeys::First),
         ],
     },
     Step {
         shows: "a payload to all before M3",
-        event: Event::TakeData(&ALL_1),
+        event: Event::TakeData(Protected::All1),
         outcome: Outcome::Refused(Reason::NoKey),
         acts: REFUSED,
     },
@@ -62,22 +62,22 @@ pub const PAYLOADS: &[Step] = &[
         event: Event::Take(M3_2),
         outcome: Outcome::Accepted,
         acts: &[
-            TookSealed(A1, Kind::Key(Message::M3), &KEYS),
-            Pairwise(A1, &KEYS),
+            TookSealed(A1, Kind::Key(Message::M3), PairKeys::First),
+            Pairwise(A1, PairKeys::First),
             Group(TO_A1, GTK, 1),
-            Finished(A1, &KEYS),
-            SentSealed(A1, Kind::Key(Message::M4), M4_2, &KEYS),
+            Finished(A1, PairKeys::First),
+            SentSealed(A1, Kind::Key(Message::M4), M4_2, PairKeys::First),
         ],
     },
     Step {
         shows: "a payload to all",
-        event: Event::TakeData(&ALL_1),
+        event: Event::TakeData(Protected::All1),
         outcome: Outcome::Accepted,
-        acts: &[TookData(A1, &ALL_1), HandedUp(A1, &ALL_1)],
+        acts: &[TookData(A1, Protected::All1), HandedUp(A1, Protected::All1)],
     },
     Step {
         shows: "the same again",
-        event: Event::TakeData(&ALL_1),
+        event: Event::TakeData(Protected::All1),
         outcome: Outcome::Refused(Reason::Replayed(1)),
         acts: REFUSED,
     },
@@ -85,32 +85,35 @@ pub const PAYLOADS: &[Step] = &[
         shows: "a payload of the station",
         event: Event::Send(0, None, b"plain"),
         outcome: Outcome::Done,
-        acts: &[Used(TO_A1, &UP_0), SentData(TO_A1, &UP_0)],
+        acts: &[Used(TO_A1, Protected::Up0), SentData(TO_A1, Protected::Up0)],
     },
     Step {
         shows: "a payload for the station",
-        event: Event::TakeData(&DOWN_3),
+        event: Event::TakeData(Protected::Down3),
         outcome: Outcome::Accepted,
-        acts: &[TookData(A1, &DOWN_3), HandedUp(A1, &DOWN_3)],
+        acts: &[
+            TookData(A1, Protected::Down3),
+            HandedUp(A1, Protected::Down3),
+        ],
     },
     Step {
         shows: "M3 again",
         event: Event::Take(M3_3),
         outcome: Outcome::Answered,
         acts: &[
-            TookSealed(A1, Kind::Key(Message::M3), &KEYS),
-            SentSealed(A1, Kind::Key(Message::M4), M4_3, &KEYS),
+            TookSealed(A1, Kind::Key(Message::M3), PairKeys::First),
+            SentSealed(A1, Kind::Key(Message::M4), M4_3, PairKeys::First),
         ],
     },
     Step {
         shows: "the payload for the station behind M3 again",
-        event: Event::TakeData(&DOWN_3),
+        event: Event::TakeData(Protected::Down3),
         outcome: Outcome::Refused(Reason::Replayed(1)),
         acts: REFUSED,
     },
     Step {
         shows: "the payload to all behind M3 again",
-        event: Event::TakeData(&ALL_1),
+        event: Event::TakeData(Protected::All1),
         outcome: Outcome::Refused(Reason::Replayed(1)),
         acts: REFUSED,
     },
@@ -122,7 +125,7 @@ pub const PAYLOADS: &[Step] = &[
     },
     Step {
         shows: "the next payload to all, without a session",
-        event: Event::TakeData(&ALL_2),
+        event: Event::TakeData(Protected::All2),
         outcome: Outcome::Refused(Reason::NoKey),
         acts: REFUSED,
     },

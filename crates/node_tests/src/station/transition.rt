@@ -5,57 +5,17 @@ use crate::acts::Expected::{
     Roamed, Sent, SentMoving, SentSealed, Took, TookData, TookMoving, TookSealed,
 };
 use crate::acts::{Event, Step};
-use crate::air_frames::Keys;
-use crate::mobility_vectors::{
-    GTK_OF_A2, LAST_M2, LAST_M3, LAST_M4, LAST_PTK, M1, M2, M3, M3_WITH_ANOTHER_FTE,
-    M3_WITHOUT_GTK, M3_WITHOUT_MDE, M3_WITHOUT_THE_NAME, M4, PTK, REQUEST, RESPONSE, RETURN_FT_REQ,
-    RETURN_FT_RESP, RETURN_PTK, RETURN_RE_REQ, RETURN_RE_RESP, RETURN_SNONCE, TRANSITION_PTK,
+use crate::mobility_vectors::{GTK_OF_A2, RETURN_SNONCE};
+use crate::named::Frame::{
+    FtLastM2, FtLastM3, FtLastM4, FtM1, FtM2, FtM3, FtM3WithAnotherFte, FtM3WithoutGtk,
+    FtM3WithoutMde, FtM3WithoutTheName, FtM4, FtReq, FtRequest, FtResp, FtResponse, ReReq, ReResp,
+    ReturnFtReq, ReturnFtResp, ReturnReReq, ReturnReResp,
 };
-use crate::protected_frames::ALL_OF_A2;
-use crate::transition_frames::{ANONCE as ANONCE_OF_A2, FT_REQ, FT_RESP, RE_REQ, RE_RESP};
-use crate::vectors::{
-    A1, A1_ADDRESS, A2, A2_ADDRESS, ANONCE, GTK, LAST_SNONCE, NEXT_ANONCE, NEXT_SNONCE, S1_ADDRESS,
-    SNONCE,
-};
+use crate::named::{PairKeys, Protected};
+use crate::vectors::{A1, A2, GTK, LAST_SNONCE, NEXT_SNONCE, SNONCE};
 use domain_base::Peer;
 use eapol_key::Message;
 use run_journal::{Drawn, KeyDataFault, Kind, Outcome, Part, Reason, Why};
-
-// The key of the association.
-const KEYS: Keys = Keys {
-    anonce: ANONCE,
-    snonce: SNONCE,
-    aa: A1_ADDRESS,
-    spa: S1_ADDRESS,
-    ptk: PTK,
-};
-
-// And of the fast transition.
-const MOVED_KEYS: Keys = Keys {
-    anonce: ANONCE_OF_A2,
-    snonce: NEXT_SNONCE,
-    aa: A2_ADDRESS,
-    spa: S1_ADDRESS,
-    ptk: TRANSITION_PTK,
-};
-
-// And of the fast transition back.
-const RETURN_KEYS: Keys = Keys {
-    anonce: NEXT_ANONCE,
-    snonce: RETURN_SNONCE,
-    aa: A1_ADDRESS,
-    spa: S1_ADDRESS,
-    ptk: RETURN_PTK,
-};
-
-// That of an association with the station's last nonce.
-const LAST_KEYS: Keys = Keys {
-    anonce: ANONCE,
-    snonce: LAST_SNONCE,
-    aa: A1_ADDRESS,
-    spa: S1_ADDRESS,
-    ptk: LAST_PTK,
-};
 
 /// An association, a fast transition from its session, its frames over again, and the way back, on
 /// which the group key is resumed.
@@ -73,59 +33,59 @@ pub const ROAMING: &[Step] = &[
         acts: &[
             Opened(A1),
             Drew(Drawn::Nonce(SNONCE)),
-            Sent(A1, Kind::AssocReq, REQUEST),
+            Sent(A1, Kind::AssocReq, FtRequest),
         ],
     },
     Step {
         shows: "the response",
-        event: Event::Take(RESPONSE),
+        event: Event::Take(FtResponse),
         outcome: Outcome::Accepted,
         acts: &[Took(Some(A1), Kind::AssocResp)],
     },
     Step {
         shows: "M1",
-        event: Event::Take(M1),
+        event: Event::Take(FtM1),
         outcome: Outcome::Accepted,
         acts: &[
             Took(Some(A1), Kind::Key(Message::M1)),
-            Derived(A1, &KEYS),
-            SentSealed(A1, Kind::Key(Message::M2), M2, &KEYS),
+            Derived(A1, PairKeys::Ft),
+            SentSealed(A1, Kind::Key(Message::M2), FtM2, PairKeys::Ft),
         ],
     },
     Step {
         shows: "M3 without the PMKR1Name, under a right MIC",
-        event: Event::Take(M3_WITHOUT_THE_NAME),
+        event: Event::Take(FtM3WithoutTheName),
         outcome: Outcome::Refused(Reason::KeyData(KeyDataFault::Rsne)),
-        acts: &[TookSealed(A1, Kind::Key(Message::M3), &KEYS)],
+        acts: &[TookSealed(A1, Kind::Key(Message::M3), PairKeys::Ft)],
     },
     Step {
         shows: "without an MDE",
-        event: Event::Take(M3_WITHOUT_MDE),
+        event: Event::Take(FtM3WithoutMde),
         outcome: Outcome::Refused(Reason::KeyData(KeyDataFault::Mde)),
-        acts: &[TookSealed(A1, Kind::Key(Message::M3), &KEYS)],
+        acts: &[TookSealed(A1, Kind::Key(Message::M3), PairKeys::Ft)],
     },
     Step {
         shows: "with another FTE",
-        event: Event::Take(M3_WITH_ANOTHER_FTE),
+        event: Event::Take(FtM3WithAnotherFte),
         outcome: Outcome::Refused(Reason::KeyData(KeyDataFault::Fte)),
-        acts: &[TookSealed(A1, Kind::Key(Message::M3), &KEYS)],
+        acts: &[TookSealed(A1, Kind::Key(Message::M3), PairKeys::Ft)],
     },
     Step {
         shows: "without a group key",
-        event: Event::Take(M3_WITHOUT_GTK),
+        event: Event::Take(FtM3WithoutGtk),
         outcome: Outcome::Refused(Reason::KeyData(KeyDataFault::Gtk)),
-        acts: &[TookSealed(A1, Kind::Key(Message::M3), &KEYS)],
+        acts: &[TookSealed(A1, Kind::Key(Message::M3), PairKeys::Ft)],
     },
     Step {
         shows: "M3",
-        event: Event::Take(M3),
+        event: Event::Take(FtM3),
         outcome: Outcome::Accepted,
         acts: &[
-            TookSealed(A1, Kind::Key(Message::M3), &KEYS),
-            Pairwise(A1, &KEYS),
+            TookSealed(A1, Kind::Key(Message::M3), PairKeys::Ft),
+            Pairwise(A1, PairKeys::Ft),
             Group(Peer::One(A1), GTK, 1),
-            Finished(A1, &KEYS),
-            SentSealed(A1, Kind::Key(Message::M4), M4, &KEYS),
+            Finished(A1, PairKeys::Ft),
+            SentSealed(A1, Kind::Key(Message::M4), FtM4, PairKeys::Ft),
         ],
     },
     Step {
@@ -136,7 +96,7 @@ pub const ROAMING: &[Step] = &[
     },
     Step {
         shows: "an authentication response that nothing awaits",
-        event: Event::Take(FT_RESP),
+        event: Event::Take(FtResp),
         outcome: Outcome::Refused(Reason::Unawaited),
         acts: &[Took(Some(A2), Kind::FtResp)],
     },
@@ -147,60 +107,63 @@ pub const ROAMING: &[Step] = &[
         acts: &[
             Roamed(A2),
             Drew(Drawn::Nonce(NEXT_SNONCE)),
-            Sent(A2, Kind::FtReq, FT_REQ),
+            Sent(A2, Kind::FtReq, FtReq),
         ],
     },
     Step {
         shows: "a reassociation response before the authentication response",
-        event: Event::Take(RE_RESP),
+        event: Event::Take(ReResp),
         outcome: Outcome::Refused(Reason::Unawaited),
         acts: &[Took(Some(A2), Kind::ReResp)],
     },
     Step {
         shows: "M3 of the session over again, with the old counter",
-        event: Event::Take(M3),
+        event: Event::Take(FtM3),
         outcome: Outcome::Refused(Reason::Counter(2)),
         acts: &[Took(Some(A1), Kind::Key(Message::M3))],
     },
     Step {
         shows: "the authentication response",
-        event: Event::Take(FT_RESP),
+        event: Event::Take(FtResp),
         outcome: Outcome::Accepted,
         acts: &[
             Took(Some(A2), Kind::FtResp),
-            Derived(A2, &MOVED_KEYS),
-            SentMoving(A2, Kind::ReReq, RE_REQ, &MOVED_KEYS),
+            Derived(A2, PairKeys::Moved),
+            SentMoving(A2, Kind::ReReq, ReReq, PairKeys::Moved),
         ],
     },
     Step {
         shows: "the authentication response again",
-        event: Event::Take(FT_RESP),
+        event: Event::Take(FtResp),
         outcome: Outcome::Refused(Reason::Unawaited),
         acts: &[Took(Some(A2), Kind::FtResp)],
     },
     Step {
         shows: "the reassociation response",
-        event: Event::Take(RE_RESP),
+        event: Event::Take(ReResp),
         outcome: Outcome::Accepted,
         acts: &[
-            TookMoving(A2, Kind::ReResp, &MOVED_KEYS),
+            TookMoving(A2, Kind::ReResp, PairKeys::Moved),
             Closed(A1, Part::Session),
-            Pairwise(A2, &MOVED_KEYS),
+            Pairwise(A2, PairKeys::Moved),
             GroupOfA2(GTK_OF_A2, 1),
-            Finished(A2, &MOVED_KEYS),
+            Finished(A2, PairKeys::Moved),
         ],
     },
     Step {
         shows: "the reassociation response again",
-        event: Event::Take(RE_RESP),
+        event: Event::Take(ReResp),
         outcome: Outcome::Refused(Reason::Unawaited),
         acts: &[Took(Some(A2), Kind::ReResp)],
     },
     Step {
         shows: "a payload to all of the second access point, with the first number",
-        event: Event::TakeData(&ALL_OF_A2),
+        event: Event::TakeData(Protected::AllOfA2),
         outcome: Outcome::Accepted,
-        acts: &[TookData(A2, &ALL_OF_A2), HandedUp(A2, &ALL_OF_A2)],
+        acts: &[
+            TookData(A2, Protected::AllOfA2),
+            HandedUp(A2, Protected::AllOfA2),
+        ],
     },
     Step {
         shows: "no fast transition to where it is",
@@ -215,29 +178,29 @@ pub const ROAMING: &[Step] = &[
         acts: &[
             Roamed(A1),
             Drew(Drawn::Nonce(RETURN_SNONCE)),
-            Sent(A1, Kind::FtReq, RETURN_FT_REQ),
+            Sent(A1, Kind::FtReq, ReturnFtReq),
         ],
     },
     Step {
         shows: "the authentication response of the first access point",
-        event: Event::Take(RETURN_FT_RESP),
+        event: Event::Take(ReturnFtResp),
         outcome: Outcome::Accepted,
         acts: &[
             Took(Some(A1), Kind::FtResp),
-            Derived(A1, &RETURN_KEYS),
-            SentMoving(A1, Kind::ReReq, RETURN_RE_REQ, &RETURN_KEYS),
+            Derived(A1, PairKeys::Return),
+            SentMoving(A1, Kind::ReReq, ReturnReReq, PairKeys::Return),
         ],
     },
     Step {
         shows: "its reassociation response has the group key that the station kept",
-        event: Event::Take(RETURN_RE_RESP),
+        event: Event::Take(ReturnReResp),
         outcome: Outcome::Accepted,
         acts: &[
-            TookMoving(A1, Kind::ReResp, &RETURN_KEYS),
+            TookMoving(A1, Kind::ReResp, PairKeys::Return),
             Closed(A2, Part::Session),
-            Pairwise(A1, &RETURN_KEYS),
+            Pairwise(A1, PairKeys::Return),
             Resumed(A1, GTK, 1),
-            Finished(A1, &RETURN_KEYS),
+            Finished(A1, PairKeys::Return),
         ],
     },
     Step {
@@ -257,35 +220,35 @@ pub const LEAVING: &[Step] = &[
         acts: &[
             Opened(A1),
             Drew(Drawn::Nonce(SNONCE)),
-            Sent(A1, Kind::AssocReq, REQUEST),
+            Sent(A1, Kind::AssocReq, FtRequest),
         ],
     },
     Step {
         shows: "the response",
-        event: Event::Take(RESPONSE),
+        event: Event::Take(FtResponse),
         outcome: Outcome::Accepted,
         acts: &[Took(Some(A1), Kind::AssocResp)],
     },
     Step {
         shows: "M1",
-        event: Event::Take(M1),
+        event: Event::Take(FtM1),
         outcome: Outcome::Accepted,
         acts: &[
             Took(Some(A1), Kind::Key(Message::M1)),
-            Derived(A1, &KEYS),
-            SentSealed(A1, Kind::Key(Message::M2), M2, &KEYS),
+            Derived(A1, PairKeys::Ft),
+            SentSealed(A1, Kind::Key(Message::M2), FtM2, PairKeys::Ft),
         ],
     },
     Step {
         shows: "M3",
-        event: Event::Take(M3),
+        event: Event::Take(FtM3),
         outcome: Outcome::Accepted,
         acts: &[
-            TookSealed(A1, Kind::Key(Message::M3), &KEYS),
-            Pairwise(A1, &KEYS),
+            TookSealed(A1, Kind::Key(Message::M3), PairKeys::Ft),
+            Pairwise(A1, PairKeys::Ft),
             Group(Peer::One(A1), GTK, 1),
-            Finished(A1, &KEYS),
-            SentSealed(A1, Kind::Key(Message::M4), M4, &KEYS),
+            Finished(A1, PairKeys::Ft),
+            SentSealed(A1, Kind::Key(Message::M4), FtM4, PairKeys::Ft),
         ],
     },
     Step {
@@ -295,7 +258,7 @@ pub const LEAVING: &[Step] = &[
         acts: &[
             Roamed(A2),
             Drew(Drawn::Nonce(NEXT_SNONCE)),
-            Sent(A2, Kind::FtReq, FT_REQ),
+            Sent(A2, Kind::FtReq, FtReq),
         ],
     },
     Step {
@@ -306,7 +269,7 @@ pub const LEAVING: &[Step] = &[
     },
     Step {
         shows: "an authentication response afterwards",
-        event: Event::Take(FT_RESP),
+        event: Event::Take(FtResp),
         outcome: Outcome::Refused(Reason::Unawaited),
         acts: &[Took(Some(A2), Kind::FtResp)],
     },
@@ -321,7 +284,7 @@ pub const SPENT: &[Step] = &[
         acts: &[
             Opened(A1),
             Drew(Drawn::Nonce(LAST_SNONCE)),
-            Sent(A1, Kind::AssocReq, REQUEST),
+            Sent(A1, Kind::AssocReq, FtRequest),
         ],
     },
     Step {
@@ -332,30 +295,30 @@ pub const SPENT: &[Step] = &[
     },
     Step {
         shows: "the response",
-        event: Event::Take(RESPONSE),
+        event: Event::Take(FtResponse),
         outcome: Outcome::Accepted,
         acts: &[Took(Some(A1), Kind::AssocResp)],
     },
     Step {
         shows: "M1",
-        event: Event::Take(M1),
+        event: Event::Take(FtM1),
         outcome: Outcome::Accepted,
         acts: &[
             Took(Some(A1), Kind::Key(Message::M1)),
-            Derived(A1, &LAST_KEYS),
-            SentSealed(A1, Kind::Key(Message::M2), LAST_M2, &LAST_KEYS),
+            Derived(A1, PairKeys::FtLast),
+            SentSealed(A1, Kind::Key(Message::M2), FtLastM2, PairKeys::FtLast),
         ],
     },
     Step {
         shows: "M3",
-        event: Event::Take(LAST_M3),
+        event: Event::Take(FtLastM3),
         outcome: Outcome::Accepted,
         acts: &[
-            TookSealed(A1, Kind::Key(Message::M3), &LAST_KEYS),
-            Pairwise(A1, &LAST_KEYS),
+            TookSealed(A1, Kind::Key(Message::M3), PairKeys::FtLast),
+            Pairwise(A1, PairKeys::FtLast),
             Group(Peer::One(A1), GTK, 1),
-            Finished(A1, &LAST_KEYS),
-            SentSealed(A1, Kind::Key(Message::M4), LAST_M4, &LAST_KEYS),
+            Finished(A1, PairKeys::FtLast),
+            SentSealed(A1, Kind::Key(Message::M4), FtLastM4, PairKeys::FtLast),
         ],
     },
     Step {

@@ -2,11 +2,11 @@
 
 use super::{Session, Start, Step, UNAWAITED};
 use crate::frames::{NOTHING, Sends, Told};
+use crate::named::Frame;
 use crate::vectors::{
     ANONCE, CROSSED_KCK, CROSSED_PTK, GTK, KCK, NEXT_ANONCE, NEXT_GTK, NEXT_KCK, NEXT_PTK,
     NEXT_SNONCE, PTK, SNONCE,
 };
-use crate::{air_frames, group_frames, part_frames};
 use eapol_key::Message;
 use run_journal::{GtkNews, KeyDataFault, Keyed, Outcome, Reason};
 
@@ -45,7 +45,7 @@ const DERIVED: Told = Told {
     derived: Some(FIRST),
     installed: None,
     gtk: None,
-    sends: Sends::Frame(Message::M2, Some(KCK), air_frames::M2_1),
+    sends: Sends::Frame(Message::M2, Some(KCK), Frame::M2_1),
 };
 
 const FORGED: Told = Told {
@@ -53,7 +53,7 @@ const FORGED: Told = Told {
     derived: Some(CROSSED),
     installed: None,
     gtk: None,
-    sends: Sends::Frame(Message::M2, Some(CROSSED_KCK), air_frames::CROSSED_M2_2),
+    sends: Sends::Frame(Message::M2, Some(CROSSED_KCK), Frame::CrossedM2_2),
 };
 
 const NEXT_DERIVED: Told = Told {
@@ -61,7 +61,7 @@ const NEXT_DERIVED: Told = Told {
     derived: Some(NEXT),
     installed: None,
     gtk: None,
-    sends: Sends::Frame(Message::M2, Some(NEXT_KCK), air_frames::NEXT_M2_1),
+    sends: Sends::Frame(Message::M2, Some(NEXT_KCK), Frame::NextM2_1),
 };
 
 // A key was installed, and M4 answers.
@@ -74,7 +74,7 @@ const INSTALLED: Told = Told {
         id: 1,
         key: GTK,
     }),
-    sends: Sends::Frame(Message::M4, Some(KCK), air_frames::M4_2),
+    sends: Sends::Frame(Message::M4, Some(KCK), Frame::M4_2),
 };
 
 const NEXT_INSTALLED: Told = Told {
@@ -86,7 +86,7 @@ const NEXT_INSTALLED: Told = Told {
         id: 1,
         key: GTK,
     }),
-    sends: Sends::Frame(Message::M4, Some(NEXT_KCK), air_frames::NEXT_M4_2),
+    sends: Sends::Frame(Message::M4, Some(NEXT_KCK), Frame::NextM4_2),
 };
 
 // M4 answers, and nothing is installed.
@@ -95,7 +95,7 @@ const AGAIN: Told = Told {
     derived: None,
     installed: None,
     gtk: None,
-    sends: Sends::Frame(Message::M4, Some(KCK), air_frames::M4_3),
+    sends: Sends::Frame(Message::M4, Some(KCK), Frame::M4_3),
 };
 
 // A group key was installed or resumed, and G2 answers.
@@ -108,7 +108,7 @@ const RENEWED: Told = Told {
         id: 2,
         key: NEXT_GTK,
     }),
-    sends: Sends::Frame(Message::G2, Some(KCK), group_frames::G2_3),
+    sends: Sends::Frame(Message::G2, Some(KCK), Frame::G2_3),
 };
 
 const RESUMED: Told = Told {
@@ -120,7 +120,7 @@ const RESUMED: Told = Told {
         id: 1,
         key: GTK,
     }),
-    sends: Sends::Frame(Message::G2, Some(KCK), group_frames::G2_4),
+    sends: Sends::Frame(Message::G2, Some(KCK), Frame::G2_4),
 };
 
 // A forged M1 and the right one, M3 refused for each reason, and then accepted under the key of the last
@@ -128,109 +128,109 @@ const RESUMED: Told = Told {
 const FIRST_SESSION: &[Step] = &[
     Step {
         shows: "M3 before M1",
-        came: air_frames::M3_2,
+        came: Frame::M3_2,
         outcome: UNAWAITED,
         told: NOTHING,
     },
     Step {
         shows: "M2 in an attempt",
-        came: air_frames::M2_1,
+        came: Frame::M2_1,
         outcome: UNAWAITED,
         told: NOTHING,
     },
     Step {
         shows: "M4 in an attempt",
-        came: air_frames::M4_2,
+        came: Frame::M4_2,
         outcome: UNAWAITED,
         told: NOTHING,
     },
     Step {
         shows: "a forged M1",
-        came: air_frames::NEXT_M1_2,
+        came: Frame::NextM1_2,
         outcome: Outcome::Accepted,
         told: FORGED,
     },
     Step {
         shows: "the right M1",
-        came: air_frames::M1_1,
+        came: Frame::M1_1,
         outcome: Outcome::Accepted,
         told: DERIVED,
     },
     Step {
         shows: "M3 with another ANonce",
-        came: air_frames::M3_2_WITH_NEXT_ANONCE,
+        came: Frame::M3_2WithNextAnonce,
         outcome: Outcome::Refused(Reason::Nonce),
         told: NOTHING,
     },
     Step {
         shows: "M3 with a wrong MIC",
-        came: air_frames::M3_2_WITH_WRONG_MIC,
+        came: Frame::M3_2WithWrongMic,
         outcome: Outcome::Refused(Reason::Mic),
         told: NOTHING,
     },
     Step {
         shows: "M3 with key data that is no wrap",
-        came: air_frames::M3_2_WITHOUT_A_WRAP,
+        came: Frame::M3_2WithoutAWrap,
         outcome: Outcome::Refused(Reason::Wrap),
         told: VERIFIED,
     },
     Step {
         shows: "M3 without a group key",
-        came: part_frames::M3_2_WITHOUT_GTK,
+        came: Frame::M3_2WithoutGtk,
         outcome: Outcome::Refused(Reason::KeyData(KeyDataFault::Gtk)),
         told: VERIFIED,
     },
     Step {
         shows: "M3",
-        came: air_frames::M3_2,
+        came: Frame::M3_2,
         outcome: Outcome::Accepted,
         told: INSTALLED,
     },
     Step {
         shows: "M3 with the same counter",
-        came: air_frames::M3_2,
+        came: Frame::M3_2,
         outcome: Outcome::Refused(Reason::Counter(2)),
         told: NOTHING,
     },
     Step {
         shows: "M3 with an old counter",
-        came: part_frames::M3_1,
+        came: Frame::M3_1,
         outcome: Outcome::Refused(Reason::Counter(2)),
         told: NOTHING,
     },
     Step {
         shows: "M3 in the session with key data that is no wrap",
-        came: part_frames::M3_3_NOT_WRAPPED,
+        came: Frame::M3_3NotWrapped,
         outcome: Outcome::Refused(Reason::Wrap),
         told: VERIFIED,
     },
     Step {
         shows: "M3 again",
-        came: air_frames::M3_3,
+        came: Frame::M3_3,
         outcome: Outcome::Answered,
         told: AGAIN,
     },
     Step {
         shows: "M3 again with the same counter",
-        came: air_frames::M3_3,
+        came: Frame::M3_3,
         outcome: Outcome::Refused(Reason::Counter(3)),
         told: NOTHING,
     },
     Step {
         shows: "M1 in a session",
-        came: air_frames::M1_4,
+        came: Frame::M1_4,
         outcome: UNAWAITED,
         told: NOTHING,
     },
     Step {
         shows: "M2 in a session",
-        came: air_frames::M2_1,
+        came: Frame::M2_1,
         outcome: UNAWAITED,
         told: NOTHING,
     },
     Step {
         shows: "M4 in a session",
-        came: air_frames::M4_2,
+        came: Frame::M4_2,
         outcome: UNAWAITED,
         told: NOTHING,
     },
@@ -240,25 +240,25 @@ const FIRST_SESSION: &[Step] = &[
 const RETIRED: &[Step] = &[
     Step {
         shows: "M1 when retired",
-        came: air_frames::M1_4,
+        came: Frame::M1_4,
         outcome: UNAWAITED,
         told: NOTHING,
     },
     Step {
         shows: "M2 when retired",
-        came: air_frames::M2_1,
+        came: Frame::M2_1,
         outcome: UNAWAITED,
         told: NOTHING,
     },
     Step {
         shows: "M3 when retired",
-        came: air_frames::M3_3,
+        came: Frame::M3_3,
         outcome: UNAWAITED,
         told: NOTHING,
     },
     Step {
         shows: "M4 when retired",
-        came: air_frames::M4_2,
+        came: Frame::M4_2,
         outcome: UNAWAITED,
         told: NOTHING,
     },
@@ -268,13 +268,13 @@ const RETIRED: &[Step] = &[
 const NEXT_ATTEMPT: &[Step] = &[
     Step {
         shows: "the next M1",
-        came: air_frames::NEXT_M1_1,
+        came: Frame::NextM1_1,
         outcome: Outcome::Accepted,
         told: NEXT_DERIVED,
     },
     Step {
         shows: "the next M3",
-        came: air_frames::NEXT_M3_2,
+        came: Frame::NextM3_2,
         outcome: Outcome::Accepted,
         told: NEXT_INSTALLED,
     },
@@ -300,73 +300,73 @@ pub const HANDSHAKES: &[Session] = &[
 const RENEWALS_STEPS: &[Step] = &[
     Step {
         shows: "G1 before M1",
-        came: group_frames::G1_3,
+        came: Frame::G1_3,
         outcome: UNAWAITED,
         told: NOTHING,
     },
     Step {
         shows: "M1",
-        came: air_frames::M1_1,
+        came: Frame::M1_1,
         outcome: Outcome::Accepted,
         told: DERIVED,
     },
     Step {
         shows: "G1 before M3",
-        came: group_frames::G1_3,
+        came: Frame::G1_3,
         outcome: UNAWAITED,
         told: NOTHING,
     },
     Step {
         shows: "M3",
-        came: air_frames::M3_2,
+        came: Frame::M3_2,
         outcome: Outcome::Accepted,
         told: INSTALLED,
     },
     Step {
         shows: "G1 with the counter of M3",
-        came: part_frames::G1_2,
+        came: Frame::G1_2,
         outcome: Outcome::Refused(Reason::Counter(2)),
         told: NOTHING,
     },
     Step {
         shows: "G1 with a wrong MIC",
-        came: part_frames::G1_4_WITH_WRONG_MIC,
+        came: Frame::G1_4WithWrongMic,
         outcome: Outcome::Refused(Reason::Mic),
         told: NOTHING,
     },
     Step {
         shows: "G1",
-        came: group_frames::G1_3,
+        came: Frame::G1_3,
         outcome: Outcome::Accepted,
         told: RENEWED,
     },
     Step {
         shows: "G1 with the same counter",
-        came: group_frames::G1_3,
+        came: Frame::G1_3,
         outcome: Outcome::Refused(Reason::Counter(3)),
         told: NOTHING,
     },
     Step {
         shows: "M3 with the counter of G1",
-        came: air_frames::M3_3,
+        came: Frame::M3_3,
         outcome: Outcome::Refused(Reason::Counter(3)),
         told: NOTHING,
     },
     Step {
         shows: "G1 with a group key that is kept",
-        came: part_frames::LATER_G1_4,
+        came: Frame::LaterG1_4,
         outcome: Outcome::Accepted,
         told: RESUMED,
     },
     Step {
         shows: "G1 with an old counter",
-        came: group_frames::G1_3,
+        came: Frame::G1_3,
         outcome: Outcome::Refused(Reason::Counter(4)),
         told: NOTHING,
     },
     Step {
         shows: "M1 behind G1",
-        came: air_frames::M1_1,
+        came: Frame::M1_1,
         outcome: UNAWAITED,
         told: NOTHING,
     },
@@ -375,7 +375,7 @@ const RENEWALS_STEPS: &[Step] = &[
 // G1 behind the end of the session.
 const GROUP_RETIRED: &[Step] = &[Step {
     shows: "G1 when retired",
-    came: part_frames::LATER_G1_4,
+    came: Frame::LaterG1_4,
     outcome: UNAWAITED,
     told: NOTHING,
 }];

@@ -2,11 +2,11 @@
 
 use super::{Session, Start, Step, UNAWAITED};
 use crate::frames::{NOTHING, Sends, Told};
+use crate::named::Frame;
 use crate::vectors::{
     ANONCE, GTK, NEXT_ANONCE, NEXT_GTK, NEXT_SNONCE, SHA256_CROSSED_KCK, SHA256_CROSSED_PTK,
     SHA256_KCK, SHA256_NEXT_KCK, SHA256_NEXT_PTK, SHA256_PTK, SNONCE,
 };
-use crate::{air_frames, group_frames, part_frames};
 use eapol_key::Message;
 use run_journal::{GtkNews, KeyDataFault, Keyed, Outcome, Reason};
 
@@ -45,7 +45,7 @@ const DERIVED: Told = Told {
     derived: Some(FIRST),
     installed: None,
     gtk: None,
-    sends: Sends::Frame(Message::M2, Some(SHA256_KCK), air_frames::M2_1_OF_SUITE_6),
+    sends: Sends::Frame(Message::M2, Some(SHA256_KCK), Frame::M2_1OfSuite6),
 };
 
 const FORGED: Told = Told {
@@ -56,7 +56,7 @@ const FORGED: Told = Told {
     sends: Sends::Frame(
         Message::M2,
         Some(SHA256_CROSSED_KCK),
-        part_frames::SHA256_CROSSED_M2_2,
+        Frame::Sha256CrossedM2_2,
     ),
 };
 
@@ -65,11 +65,7 @@ const NEXT_DERIVED: Told = Told {
     derived: Some(NEXT),
     installed: None,
     gtk: None,
-    sends: Sends::Frame(
-        Message::M2,
-        Some(SHA256_NEXT_KCK),
-        part_frames::SHA256_NEXT_M2_1,
-    ),
+    sends: Sends::Frame(Message::M2, Some(SHA256_NEXT_KCK), Frame::Sha256NextM2_1),
 };
 
 // A key was installed, and M4 answers.
@@ -82,7 +78,7 @@ const INSTALLED: Told = Told {
         id: 1,
         key: GTK,
     }),
-    sends: Sends::Frame(Message::M4, Some(SHA256_KCK), air_frames::M4_2_OF_SUITE_6),
+    sends: Sends::Frame(Message::M4, Some(SHA256_KCK), Frame::M4_2OfSuite6),
 };
 
 const NEXT_INSTALLED: Told = Told {
@@ -94,11 +90,7 @@ const NEXT_INSTALLED: Told = Told {
         id: 1,
         key: GTK,
     }),
-    sends: Sends::Frame(
-        Message::M4,
-        Some(SHA256_NEXT_KCK),
-        part_frames::SHA256_NEXT_M4_2,
-    ),
+    sends: Sends::Frame(Message::M4, Some(SHA256_NEXT_KCK), Frame::Sha256NextM4_2),
 };
 
 // M4 answers, and nothing is installed.
@@ -107,7 +99,7 @@ const AGAIN: Told = Told {
     derived: None,
     installed: None,
     gtk: None,
-    sends: Sends::Frame(Message::M4, Some(SHA256_KCK), part_frames::SHA256_M4_3),
+    sends: Sends::Frame(Message::M4, Some(SHA256_KCK), Frame::Sha256M4_3),
 };
 
 // A group key was installed or resumed, and G2 answers.
@@ -120,7 +112,7 @@ const RENEWED: Told = Told {
         id: 2,
         key: NEXT_GTK,
     }),
-    sends: Sends::Frame(Message::G2, Some(SHA256_KCK), part_frames::SHA256_G2_3),
+    sends: Sends::Frame(Message::G2, Some(SHA256_KCK), Frame::Sha256G2_3),
 };
 
 const RESUMED: Told = Told {
@@ -132,7 +124,7 @@ const RESUMED: Told = Told {
         id: 1,
         key: GTK,
     }),
-    sends: Sends::Frame(Message::G2, Some(SHA256_KCK), part_frames::SHA256_G2_4),
+    sends: Sends::Frame(Message::G2, Some(SHA256_KCK), Frame::Sha256G2_4),
 };
 
 // A forged M1 and the right one, M3 refused for each reason, and then accepted under the key of the last
@@ -140,109 +132,109 @@ const RESUMED: Told = Told {
 const FIRST_SESSION: &[Step] = &[
     Step {
         shows: "M3 before M1",
-        came: air_frames::M3_2_OF_SUITE_6,
+        came: Frame::M3_2OfSuite6,
         outcome: UNAWAITED,
         told: NOTHING,
     },
     Step {
         shows: "M2 in an attempt",
-        came: air_frames::M2_1_OF_SUITE_6,
+        came: Frame::M2_1OfSuite6,
         outcome: UNAWAITED,
         told: NOTHING,
     },
     Step {
         shows: "M4 in an attempt",
-        came: air_frames::M4_2_OF_SUITE_6,
+        came: Frame::M4_2OfSuite6,
         outcome: UNAWAITED,
         told: NOTHING,
     },
     Step {
         shows: "a forged M1",
-        came: part_frames::SHA256_FORGED_M1_2,
+        came: Frame::Sha256ForgedM1_2,
         outcome: Outcome::Accepted,
         told: FORGED,
     },
     Step {
         shows: "the right M1",
-        came: air_frames::M1_1_OF_SUITE_6,
+        came: Frame::M1_1OfSuite6,
         outcome: Outcome::Accepted,
         told: DERIVED,
     },
     Step {
         shows: "M3 with another ANonce",
-        came: part_frames::SHA256_M3_2_WITH_NEXT_ANONCE,
+        came: Frame::Sha256M3_2WithNextAnonce,
         outcome: Outcome::Refused(Reason::Nonce),
         told: NOTHING,
     },
     Step {
         shows: "M3 with a wrong MIC",
-        came: part_frames::SHA256_M3_2_WITH_WRONG_MIC,
+        came: Frame::Sha256M3_2WithWrongMic,
         outcome: Outcome::Refused(Reason::Mic),
         told: NOTHING,
     },
     Step {
         shows: "M3 with key data that is no wrap",
-        came: part_frames::SHA256_M3_2_NOT_WRAPPED,
+        came: Frame::Sha256M3_2NotWrapped,
         outcome: Outcome::Refused(Reason::Wrap),
         told: VERIFIED,
     },
     Step {
         shows: "M3 without a group key",
-        came: part_frames::SHA256_M3_2_WITHOUT_GTK,
+        came: Frame::Sha256M3_2WithoutGtk,
         outcome: Outcome::Refused(Reason::KeyData(KeyDataFault::Gtk)),
         told: VERIFIED,
     },
     Step {
         shows: "M3",
-        came: air_frames::M3_2_OF_SUITE_6,
+        came: Frame::M3_2OfSuite6,
         outcome: Outcome::Accepted,
         told: INSTALLED,
     },
     Step {
         shows: "M3 with the same counter",
-        came: air_frames::M3_2_OF_SUITE_6,
+        came: Frame::M3_2OfSuite6,
         outcome: Outcome::Refused(Reason::Counter(2)),
         told: NOTHING,
     },
     Step {
         shows: "M3 with an old counter",
-        came: part_frames::SHA256_M3_1,
+        came: Frame::Sha256M3_1,
         outcome: Outcome::Refused(Reason::Counter(2)),
         told: NOTHING,
     },
     Step {
         shows: "M3 in the session with key data that is no wrap",
-        came: part_frames::SHA256_M3_3_NOT_WRAPPED,
+        came: Frame::Sha256M3_3NotWrapped,
         outcome: Outcome::Refused(Reason::Wrap),
         told: VERIFIED,
     },
     Step {
         shows: "M3 again",
-        came: part_frames::SHA256_M3_3,
+        came: Frame::Sha256M3_3,
         outcome: Outcome::Answered,
         told: AGAIN,
     },
     Step {
         shows: "M3 again with the same counter",
-        came: part_frames::SHA256_M3_3,
+        came: Frame::Sha256M3_3,
         outcome: Outcome::Refused(Reason::Counter(3)),
         told: NOTHING,
     },
     Step {
         shows: "M1 in a session",
-        came: part_frames::SHA256_M1_4,
+        came: Frame::Sha256M1_4,
         outcome: UNAWAITED,
         told: NOTHING,
     },
     Step {
         shows: "M2 in a session",
-        came: air_frames::M2_1_OF_SUITE_6,
+        came: Frame::M2_1OfSuite6,
         outcome: UNAWAITED,
         told: NOTHING,
     },
     Step {
         shows: "M4 in a session",
-        came: air_frames::M4_2_OF_SUITE_6,
+        came: Frame::M4_2OfSuite6,
         outcome: UNAWAITED,
         told: NOTHING,
     },
@@ -252,25 +244,25 @@ const FIRST_SESSION: &[Step] = &[
 const RETIRED: &[Step] = &[
     Step {
         shows: "M1 when retired",
-        came: part_frames::SHA256_M1_4,
+        came: Frame::Sha256M1_4,
         outcome: UNAWAITED,
         told: NOTHING,
     },
     Step {
         shows: "M2 when retired",
-        came: air_frames::M2_1_OF_SUITE_6,
+        came: Frame::M2_1OfSuite6,
         outcome: UNAWAITED,
         told: NOTHING,
     },
     Step {
         shows: "M3 when retired",
-        came: part_frames::SHA256_M3_3,
+        came: Frame::Sha256M3_3,
         outcome: UNAWAITED,
         told: NOTHING,
     },
     Step {
         shows: "M4 when retired",
-        came: air_frames::M4_2_OF_SUITE_6,
+        came: Frame::M4_2OfSuite6,
         outcome: UNAWAITED,
         told: NOTHING,
     },
@@ -280,13 +272,13 @@ const RETIRED: &[Step] = &[
 const NEXT_ATTEMPT: &[Step] = &[
     Step {
         shows: "the next M1",
-        came: part_frames::SHA256_NEXT_M1_1,
+        came: Frame::Sha256NextM1_1,
         outcome: Outcome::Accepted,
         told: NEXT_DERIVED,
     },
     Step {
         shows: "the next M3",
-        came: part_frames::SHA256_NEXT_M3_2,
+        came: Frame::Sha256NextM3_2,
         outcome: Outcome::Accepted,
         told: NEXT_INSTALLED,
     },
@@ -312,73 +304,73 @@ pub const HANDSHAKES: &[Session] = &[
 const RENEWALS_STEPS: &[Step] = &[
     Step {
         shows: "G1 before M1",
-        came: part_frames::SHA256_G1_3,
+        came: Frame::Sha256G1_3,
         outcome: UNAWAITED,
         told: NOTHING,
     },
     Step {
         shows: "M1",
-        came: air_frames::M1_1_OF_SUITE_6,
+        came: Frame::M1_1OfSuite6,
         outcome: Outcome::Accepted,
         told: DERIVED,
     },
     Step {
         shows: "G1 before M3",
-        came: part_frames::SHA256_G1_3,
+        came: Frame::Sha256G1_3,
         outcome: UNAWAITED,
         told: NOTHING,
     },
     Step {
         shows: "M3",
-        came: air_frames::M3_2_OF_SUITE_6,
+        came: Frame::M3_2OfSuite6,
         outcome: Outcome::Accepted,
         told: INSTALLED,
     },
     Step {
         shows: "G1 with the counter of M3",
-        came: part_frames::SHA256_G1_2,
+        came: Frame::Sha256G1_2,
         outcome: Outcome::Refused(Reason::Counter(2)),
         told: NOTHING,
     },
     Step {
         shows: "G1 with a wrong MIC",
-        came: part_frames::SHA256_G1_4_WITH_WRONG_MIC,
+        came: Frame::Sha256G1_4WithWrongMic,
         outcome: Outcome::Refused(Reason::Mic),
         told: NOTHING,
     },
     Step {
         shows: "G1",
-        came: part_frames::SHA256_G1_3,
+        came: Frame::Sha256G1_3,
         outcome: Outcome::Accepted,
         told: RENEWED,
     },
     Step {
         shows: "G1 with the same counter",
-        came: part_frames::SHA256_G1_3,
+        came: Frame::Sha256G1_3,
         outcome: Outcome::Refused(Reason::Counter(3)),
         told: NOTHING,
     },
     Step {
         shows: "M3 with the counter of G1",
-        came: part_frames::SHA256_M3_3,
+        came: Frame::Sha256M3_3,
         outcome: Outcome::Refused(Reason::Counter(3)),
         told: NOTHING,
     },
     Step {
         shows: "G1 with a group key that is kept",
-        came: part_frames::SHA256_LATER_G1_4,
+        came: Frame::Sha256LaterG1_4,
         outcome: Outcome::Accepted,
         told: RESUMED,
     },
     Step {
         shows: "G1 with an old counter",
-        came: part_frames::SHA256_G1_3,
+        came: Frame::Sha256G1_3,
         outcome: Outcome::Refused(Reason::Counter(4)),
         told: NOTHING,
     },
     Step {
         shows: "M1 behind G1",
-        came: air_frames::M1_1_OF_SUITE_6,
+        came: Frame::M1_1OfSuite6,
         outcome: UNAWAITED,
         told: NOTHING,
     },
@@ -387,7 +379,7 @@ const RENEWALS_STEPS: &[Step] = &[
 // G1 behind the end of the session.
 const GROUP_RETIRED: &[Step] = &[Step {
     shows: "G1 when retired",
-    came: part_frames::SHA256_LATER_G1_4,
+    came: Frame::Sha256LaterG1_4,
     outcome: UNAWAITED,
     told: NOTHING,
 }];

@@ -37,32 +37,40 @@ pub(crate) type Line = (u64, Node, u64, &'static str);
 // What round 0 journals.
 pub(crate) const STARTED: &[Line] = &[(0, A1, 0, "drew"), (0, A1, 0, "installed")];
 
-// A station that connects in the second round.
-pub(crate) const CONNECTS: &[Turn] = &[Turn::Connect];
-
-pub(crate) const SECOND_ROUND: &[Line] = &[
-    (2, S1, 0, "opened"),
-    (2, S1, 0, "drew"),
-    (2, S1, 1, "sent"),
-];
+// What is to be found behind turns.
+#[derive(Clone, Copy)]
+pub(crate) enum Want {
+    // The journal has these lines behind those of round 0.
+    Lines(&'static [Line]),
+    // Three frames were sent, as the journal says.
+    ThreeFrames,
+    // These octets came last.
+    Octets(&'static [u8]),
+}
 
 // What turns add to the journal.
 pub(crate) struct Case {
     pub(crate) shows: &'static str,
+    // Whether a round without events comes first.
+    pub(crate) passes: bool,
     pub(crate) turns: &'static [Turn],
-    // The lines behind those of round 0.
-    pub(crate) lines: &'static [Line],
+    // How many rounds there were then, beside that of the start.
+    pub(crate) rounds: u64,
+    pub(crate) want: Want,
 }
 
 // A handshake.
 pub(crate) const HANDSHAKE: &[Case] = &[
     Case {
         shows: "no events",
+        passes: false,
         turns: &[],
-        lines: &[],
+        rounds: 0,
+        want: Want::Lines(&[]),
     },
     Case {
         shows: "a whole handshake",
+        passes: false,
         turns: &[
             Turn::Connect,
             Turn::Deliver(1, A1),
@@ -72,7 +80,8 @@ pub(crate) const HANDSHAKE: &[Case] = &[
             Turn::Deliver(5, S1),
             Turn::Deliver(6, A1),
         ],
-        lines: &[
+        rounds: 7,
+        want: Want::Lines(&[
             (1, S1, 0, "opened"),
             (1, S1, 0, "drew"),
             (1, S1, 1, "sent"),
@@ -96,13 +105,14 @@ pub(crate) const HANDSHAKE: &[Case] = &[
             (7, A1, 0, "took"),
             (7, A1, 0, "installed"),
             (7, A1, 0, "finished"),
-        ],
+        ]),
     },
 ];
 
 // Group keys without a session.
 pub(crate) const GROUP_KEYS: &[Case] = &[Case {
     shows: "new group keys, a key that none holds, and what is dropped",
+    passes: false,
     turns: &[
         Turn::Rekey,
         Turn::Connect,
@@ -114,7 +124,8 @@ pub(crate) const GROUP_KEYS: &[Case] = &[Case {
         Turn::Leave,
         Turn::Rekey,
     ],
-    lines: &[
+    rounds: 9,
+    want: Want::Lines(&[
         (1, A1, 0, "drew"),
         (1, A1, 0, "installed"),
         (2, S1, 0, "opened"),
@@ -132,12 +143,13 @@ pub(crate) const GROUP_KEYS: &[Case] = &[Case {
         (8, S1, 0, "idle"),
         (9, A1, 0, "drew"),
         (9, A1, 0, "installed"),
-    ],
+    ]),
 }];
 
 // Payloads.
 pub(crate) const PAYLOADS: &[Case] = &[Case {
     shows: "payloads before a session and in one, from the station, to it and to all; they come, and one comes again",
+    passes: false,
     turns: &[
         Turn::Send(S1, TO_A1, None, b"p"),
         Turn::Send(A1, Peer::All, None, b"p"),
@@ -156,7 +168,8 @@ pub(crate) const PAYLOADS: &[Case] = &[Case {
         Turn::Send(A1, Peer::All, Some(3), b""),
         Turn::Deliver(10, S1),
     ],
-    lines: &[
+    rounds: 16,
+    want: Want::Lines(&[
         (1, S1, 0, "idle"),
         (2, A1, 0, "used"),
         (2, A1, 1, "sent"),
@@ -196,12 +209,13 @@ pub(crate) const PAYLOADS: &[Case] = &[Case {
         (15, A1, 10, "sent"),
         (16, S1, 0, "took"),
         (16, S1, 0, "handed up"),
-    ],
+    ]),
 }];
 
 // A group key in a session.
 pub(crate) const NEW_GROUP_KEY: &[Case] = &[Case {
     shows: "a new group key in a session, which goes on once it was answered and given again",
+    passes: false,
     turns: &[
         Turn::Connect,
         Turn::Deliver(1, A1),
@@ -218,7 +232,8 @@ pub(crate) const NEW_GROUP_KEY: &[Case] = &[Case {
         Turn::Deliver(10, A1),
         Turn::Retry,
     ],
-    lines: &[
+    rounds: 14,
+    want: Want::Lines(&[
         (1, S1, 0, "opened"),
         (1, S1, 0, "drew"),
         (1, S1, 1, "sent"),
@@ -255,13 +270,14 @@ pub(crate) const NEW_GROUP_KEY: &[Case] = &[Case {
         (13, A1, 0, "took"),
         (13, A1, 0, "installed"),
         (14, A1, 0, "idle"),
-    ],
+    ]),
 }];
 
 // Frames that come late, or where they were sent.
 pub(crate) const OLD_FRAMES: &[Case] = &[
     Case {
         shows: "a frame that was sent long ago",
+        passes: false,
         turns: &[
             Turn::Connect,
             Turn::Deliver(1, A1),
@@ -270,7 +286,8 @@ pub(crate) const OLD_FRAMES: &[Case] = &[
             Turn::Connect,
             Turn::Deliver(1, A1),
         ],
-        lines: &[
+        rounds: 6,
+        want: Want::Lines(&[
             (1, S1, 0, "opened"),
             (1, S1, 0, "drew"),
             (1, S1, 1, "sent"),
@@ -291,17 +308,19 @@ pub(crate) const OLD_FRAMES: &[Case] = &[
             (6, A1, 0, "drew"),
             (6, A1, 5, "sent"),
             (6, A1, 6, "sent"),
-        ],
+        ]),
     },
     Case {
         shows: "a frame at the node that sent it",
+        passes: false,
         turns: &[Turn::Connect, Turn::Deliver(1, S1)],
-        lines: &[
+        rounds: 2,
+        want: Want::Lines(&[
             (1, S1, 0, "opened"),
             (1, S1, 0, "drew"),
             (1, S1, 1, "sent"),
             (2, S1, 0, "refused"),
-        ],
+        ]),
     },
 ];
 
@@ -309,6 +328,7 @@ pub(crate) const OLD_FRAMES: &[Case] = &[
 pub(crate) const CHANGED_FRAMES: &[Case] = &[
     Case {
         shows: "M1 with the first octet of its nonce changed: the MIC of M2 does not verify",
+        passes: false,
         turns: &[
             Turn::Connect,
             Turn::Deliver(1, A1),
@@ -316,7 +336,8 @@ pub(crate) const CHANGED_FRAMES: &[Case] = &[
             Turn::Alter(3, 49, 1, S1),
             Turn::Deliver(4, A1),
         ],
-        lines: &[
+        rounds: 5,
+        want: Want::Lines(&[
             (1, S1, 0, "opened"),
             (1, S1, 0, "drew"),
             (1, S1, 1, "sent"),
@@ -330,16 +351,18 @@ pub(crate) const CHANGED_FRAMES: &[Case] = &[
             (4, S1, 0, "derived"),
             (4, S1, 4, "sent"),
             (5, A1, 0, "refused"),
-        ],
+        ]),
     },
     Case {
         shows: "a request changed with 0 is as it was, and changed in its version it is refused",
+        passes: false,
         turns: &[
             Turn::Connect,
             Turn::Alter(1, 0, 1, A1),
             Turn::Alter(1, 0, 0, A1),
         ],
-        lines: &[
+        rounds: 3,
+        want: Want::Lines(&[
             (1, S1, 0, "opened"),
             (1, S1, 0, "drew"),
             (1, S1, 1, "sent"),
@@ -349,18 +372,20 @@ pub(crate) const CHANGED_FRAMES: &[Case] = &[
             (3, A1, 0, "drew"),
             (3, A1, 2, "sent"),
             (3, A1, 3, "sent"),
-        ],
+        ]),
     },
     Case {
         shows: "a request of which no octets come, and of which 20 come",
+        passes: false,
         turns: &[Turn::Connect, Turn::Cut(1, 0, A1), Turn::Cut(1, 20, A1)],
-        lines: &[
+        rounds: 3,
+        want: Want::Lines(&[
             (1, S1, 0, "opened"),
             (1, S1, 0, "drew"),
             (1, S1, 1, "sent"),
             (2, A1, 0, "refused"),
             (3, A1, 0, "refused"),
-        ],
+        ]),
     },
 ];
 
@@ -368,11 +393,14 @@ pub(crate) const CHANGED_FRAMES: &[Case] = &[
 pub(crate) const REPEATED: &[Case] = &[
     Case {
         shows: "nothing to send once more",
+        passes: false,
         turns: &[Turn::Retry],
-        lines: &[(1, A1, 0, "idle")],
+        rounds: 1,
+        want: Want::Lines(&[(1, A1, 0, "idle")]),
     },
     Case {
         shows: "M1 once more, until it was sent four times",
+        passes: false,
         turns: &[
             Turn::Connect,
             Turn::Deliver(1, A1),
@@ -382,7 +410,8 @@ pub(crate) const REPEATED: &[Case] = &[
             Turn::Retry,
             Turn::Retry,
         ],
-        lines: &[
+        rounds: 7,
+        want: Want::Lines(&[
             (1, S1, 0, "opened"),
             (1, S1, 0, "drew"),
             (1, S1, 1, "sent"),
@@ -397,25 +426,51 @@ pub(crate) const REPEATED: &[Case] = &[
             (6, A1, 0, "gave up"),
             (6, A1, 0, "closed"),
             (7, A1, 0, "idle"),
-        ],
+        ]),
     },
 ];
 
-// Turns behind which a frame was taken, and the octets that came.
-pub(crate) const COMING: &[(&[Turn], &[u8])] = &[
-    (&[Turn::Connect, Turn::Cut(1, 2, A1)], &[0, 0]),
-    (
-        &[
+// Frames, and octets that come.
+pub(crate) const FRAMES: &[Case] = &[
+    Case {
+        shows: "a round without events is one: what comes behind it is in the second round",
+        passes: true,
+        turns: &[Turn::Connect],
+        rounds: 2,
+        want: Want::Lines(&[(2, S1, 0, "opened"), (2, S1, 0, "drew"), (2, S1, 1, "sent")]),
+    },
+    Case {
+        shows: "three frames are sent, and are those that the journal tells",
+        passes: false,
+        turns: &[Turn::Connect, Turn::Deliver(1, A1)],
+        rounds: 2,
+        want: Want::ThreeFrames,
+    },
+    Case {
+        shows: "a frame that comes cut",
+        passes: false,
+        turns: &[Turn::Connect, Turn::Cut(1, 2, A1)],
+        rounds: 2,
+        want: Want::Octets(&[0, 0]),
+    },
+    Case {
+        shows: "octets that come from outside",
+        passes: false,
+        turns: &[
             Turn::Connect,
             Turn::Cut(1, 2, A1),
             Turn::Inject(S1, &[0x80, 0]),
         ],
-        &[0x80, 0],
-    ),
+        rounds: 3,
+        want: Want::Octets(&[0x80, 0]),
+    },
+    Case {
+        shows: "the octet at place 24 of the first frame, an association request, is changed",
+        passes: false,
+        turns: &[Turn::Connect, Turn::Alter(1, 24, 0xff, S1)],
+        rounds: 2,
+        want: Want::Octets(
+            b"\0\0\0\0\x02\0\0\0\0\x01\x02\0\0\0\0\x02\x02\0\0\0\0\x01\0\0\xee\0\x0a\0\0\x03net\x01\x04\x82\x84\x8b\x96\x30\x14\x01\0\0\x0f\xac\x04\x01\0\0\x0f\xac\x04\x01\0\0\x0f\xac\x02\x0c\0",
+        ),
+    },
 ];
-
-// Three frames are sent.
-pub(crate) const THREE_FRAMES: &[Turn] = &[Turn::Connect, Turn::Deliver(1, A1)];
-
-// The octet at place 24 of the first frame is changed.
-pub(crate) const CHANGED: &[Turn] = &[Turn::Connect, Turn::Alter(1, 24, 0xff, S1)];

@@ -1,5 +1,12 @@
 use Rattle.std.proofs.Common.{rules}
+use Rattle.air_frame.proofs.Lengths.{put_size, put_room}
 use Rattle.air_frame.proofs.writing.put_ft_resp.Goals as goal
 
 pub returns-clause-octets : goal.returns-clause-octets
 returns-clause-octets c = search rules
+
+pub put_frame-requires : goal.put_frame-requires
+put_frame-requires c = put_room _ _ _ _ _ c.three_numbers-fixed.ensures c.requires
+
+pub returns-clause-size : goal.returns-clause-size
+returns-clause-size c = put_size _ _ _ _ _ c.three_numbers-fixed.ensures c.put_frame.ensures.size

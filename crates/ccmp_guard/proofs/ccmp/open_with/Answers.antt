@@ -1,6 +1,6 @@
 use Rattle.std.proofs.Common.{◌≡◌, ◌≤◌, ◌∙◌, ◌+◌, ◌-◌, ◌++◌, ℕ, List, ap, sym, refl, arith, take, drop, length, false}
 use Rattle.std.proofs.lemmas.Bool.{both_ways}
-use Rattle.std.proofs.lemmas.List.{take_at, take_all, length-drop, length-take-le}
+use Rattle.std.proofs.lemmas.List.{take_at, take_all, length-append, length-drop, length-take-le}
 use Rattle.std.proofs.lemmas.Slice.{drop-append-drop}
 use Rattle.ccmp_guard.specs.Ccm.{Sealed}
 use Rattle.ccmp_guard.specs.Ccmp.{ccm_nonce, ccm_aad, Protected}
@@ -68,3 +68,38 @@ returns-then-open-clause-rest c = λ n h.
 pub returns-else-open-clause-rest : goal.returns-else-open-clause-rest
 returns-else-open-clause-rest c = λ n h.
     drop-append-drop (length c.args.body.now - 8 - 8) c.args.out.now c.open.new.out n (omega arith) (opened_long c.args.body.now c.args.out.now c.open.new.out c.open.auto.out (omega arith) (omega arith))
+
+pub slice_bounds-open-end : goal.slice_bounds-open-end
+slice_bounds-open-end c = sym (length-take-le c.aad_of-aad_len.result c.aad_of-aad_len.new.aad (omega (arith, c.aad_of-aad_len.ensures.few, c.aad_of-aad_len.array_long)))
+
+pub slice_bounds-open-end-3 : goal.slice_bounds-open-end-3
+slice_bounds-open-end-3 c = sym (length-take-le (length c.args.body.now - 8 - 8) c.args.out.now (omega (arith, c.requires.room)))
+
+pub open-requires-clause-some : goal.open-requires-clause-some
+open-requires-clause-some c =
+    let long = length-take-le c.aad_of-aad_len.result c.aad_of-aad_len.new.aad (omega (arith, c.aad_of-aad_len.ensures.few, c.aad_of-aad_len.array_long)) in
+    omega (arith, long, c.aad_of-aad_len.ensures.some)
+
+pub open-requires-clause-few : goal.open-requires-clause-few
+open-requires-clause-few c =
+    let long = length-take-le c.aad_of-aad_len.result c.aad_of-aad_len.new.aad (omega (arith, c.aad_of-aad_len.ensures.few, c.aad_of-aad_len.array_long)) in
+    omega (arith, long, c.aad_of-aad_len.ensures.few)
+
+-- the slice is as long as it was
+as_long : (body out new : List ℕ) → length new ≡ length body - 8 - 8 → length body ≤ length out + 16 → length (new ++ drop (length body - 8 - 8) out) ≡ length out
+as_long body out new e h = omega (arith, e, h, length-append new (drop (length body - 8 - 8) out), length-drop (length body - 8 - 8) out)
+
+pub returns-then-open-clause-len : goal.returns-then-open-clause-len
+returns-then-open-clause-len c =
+    as_long c.args.body.now c.args.out.now c.open.new.out (opened_long c.args.body.now c.args.out.now c.open.new.out c.open.auto.out c.requires.long c.requires.room) c.requires.room
+
+pub returns-else-open-clause-len : goal.returns-else-open-clause-len
+returns-else-open-clause-len c =
+    as_long c.args.body.now c.args.out.now c.open.new.out (opened_long c.args.body.now c.args.out.now c.open.new.out c.open.auto.out c.requires.long c.requires.room) c.requires.room
+
+pub open-requires-clause-room : goal.open-requires-clause-room
+open-requires-clause-room c =
+    let body = c.args.body.now in
+    let plain = length-take-le (length body - 8 - 8) c.args.out.now (omega (arith, c.requires.room)) in
+    let sealed = length-take-le (length body - 8) (drop 8 body) (omega (arith, length-drop 8 body)) in
+    omega (arith, c.requires.long, plain, sealed)

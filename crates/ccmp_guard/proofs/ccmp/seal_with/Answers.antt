@@ -1,4 +1,5 @@
-use Rattle.std.proofs.Common.{◌≡◌, ◌∙◌, ◌+◌, ◌++◌, ℕ, List, ap, subst, sym, length}
+use Rattle.std.proofs.Common.{◌≡◌, ◌∙◌, ◌+◌, ◌++◌, ℕ, List, ap, subst, sym, length, arith}
+use Rattle.std.proofs.lemmas.List.{length-take-le}
 use Rattle.ccmp_guard.specs.Ccmp.{ccmp_header, Protected}
 use Rattle.ccmp_guard.proofs.Sealing.{parts}
 use Rattle.ccmp_guard.proofs.Bodies.{slice_with, length-ccmp_header, body_written, body_header, body_rest, Protected-made}
@@ -37,3 +38,20 @@ unfolding slice_with
 returns-clause-rest c = λ m h.
     let at = (goal.at.returns-clause-rest c).After-seal in
     body_rest c.copy_from_slice.new.self c.seal.new.out c.args.out.now (length c.args.plain.now) m (head_long at) (sealed_long at) h
+
+pub slice_bounds-seal-end : goal.slice_bounds-seal-end
+slice_bounds-seal-end c = sym (length-take-le c.aad_of-aad_len.result c.aad_of-aad_len.new.aad (omega (arith, c.aad_of-aad_len.ensures.few, c.aad_of-aad_len.array_long)))
+
+pub copy_from_slice-requires : goal.copy_from_slice-requires
+copy_from_slice-requires c =
+    length-take-le 8 c.args.out.now (omega (arith, c.requires.room)) ∙ sym (ap length c.header_octets.ensures ∙ length-ccmp_header c.args.key_id c.args.pn)
+
+pub seal-requires-clause-some : goal.seal-requires-clause-some
+seal-requires-clause-some c =
+    let long = length-take-le c.aad_of-aad_len.result c.aad_of-aad_len.new.aad (omega (arith, c.aad_of-aad_len.ensures.few, c.aad_of-aad_len.array_long)) in
+    omega (arith, long, c.aad_of-aad_len.ensures.some)
+
+pub seal-requires-clause-few : goal.seal-requires-clause-few
+seal-requires-clause-few c =
+    let long = length-take-le c.aad_of-aad_len.result c.aad_of-aad_len.new.aad (omega (arith, c.aad_of-aad_len.ensures.few, c.aad_of-aad_len.array_long)) in
+    omega (arith, long, c.aad_of-aad_len.ensures.few)

@@ -1,4 +1,4 @@
-use Rattle.std.proofs.Common.{List, sym, subst, rules}
+use Rattle.std.proofs.Common.{List, arith, refl, sym, subst}
 use Rattle.domain_links.specs.Attached.{Attached}
 use Rattle.domain_links.proofs.Attachment.{Attached-pushed, Attached-same, faults_pushed}
 use Rattle.domain_links.proofs.attaching.attach_next.Goals as goal
@@ -20,7 +20,21 @@ returns-in-Err-attach-clause-attached g c start a =
     (Attached-same _ _ start _ _ _ c.in-Err-attach.ensures.kept a)
 
 pub returns-in-Err-attach-clause-cause : goal.returns-in-Err-attach-clause-cause
-returns-in-Err-attach-clause-cause g c = search rules
+returns-in-Err-attach-clause-cause g c =
+    let told = c.in-Err-attach.ensures.cause in
+    record { later = told.later; failed = λ is. told.failed; kept = λ is. absurd (cc is) }
 
 pub returns-in-Err-attach-clause-untouched : goal.returns-in-Err-attach-clause-untouched
-returns-in-Err-attach-clause-untouched g c = search rules
+returns-in-Err-attach-clause-untouched g c is = absurd (cc is)
+
+pub returns-in-Ok-attach-clause-cause : goal.returns-in-Ok-attach-clause-cause
+returns-in-Ok-attach-clause-cause g c = record { later = c.in-Ok-attach.ensures.cause.later; failed = λ is. absurd (cc is); kept = λ is. absurd (cc is) }
+
+pub returns-in-Ok-attach-clause-untouched : goal.returns-in-Ok-attach-clause-untouched
+returns-in-Ok-attach-clause-untouched g c is = absurd (cc is)
+
+pub returns-in-Ok-attach-clause-unfailed : goal.returns-in-Ok-attach-clause-unfailed
+returns-in-Ok-attach-clause-unfailed g c = c.in-Ok-attach.ensures.unfailed
+
+pub returns-in-Err-clause-cause : goal.returns-in-Err-clause-cause
+returns-in-Err-clause-cause g c = record { later = omega arith; failed = λ is. absurd (cc is); kept = λ is. refl }

@@ -3,7 +3,7 @@ use Rattle.std.proofs.lemmas.Bool.{false≢true}
 use Rattle.std.specs.Option.{option_copied}
 use Rattle.domain_links.specs.Sends.{Send, SendsFront, frame_sent, frames_out}
 use Rattle.domain_links.specs.Telling.{TellFront, story_at}
-use Rattle.domain_links.proofs.Going.{Tell-past, Tell-same, TellFront-set, SameFaults-set, SameFaults-call, sends_as}
+use Rattle.domain_links.proofs.Going.{HasFailed-set, Tell-past, Tell-same, TellFront-set, SameFaults-set, SameFaults-call, sends_as}
 use Rattle.domain_links.proofs.sending.send_entry.Goals as goal
 
 pub returns-in-Some-get_mut-clause-sent : goal.returns-in-Some-get_mut-clause-sent
@@ -29,3 +29,14 @@ returns-in-None-clause-sent g c left before tell =
     let past : c.place_of.result < length c.args.links.now.items → ⊥ = λ within. false≢true (c.in-None.ensures.variant.1 (omega (arith, within, c.args.links.now.ok.0))) in
     let frame : frame_sent c.args.entry.now.act ≡ Some c.in-Some.octets.now = sym c.frame_sent.ensures ∙ ap option_copied c.in-Some.is in
     Tell-same _ c.args.domain.now _ left _ _ (ap (λ (w : List Send). before ++ w) (sends_as c.args.domain.now c.args.entry.now (Some c.in-Some.octets.now) c.place_of.result c.place_of.ensures frame)) (Tell-past _ _ _ _ _ _ _ past tell)
+
+pub returns-in-Some-get_mut-clause-cause : goal.returns-in-Some-get_mut-clause-cause
+returns-in-Some-get_mut-clause-cause g c e =
+    let within : c.place_of.result < length c.args.links.now.items = omega (arith, c.in-Some-get_mut.ensures.variant.0 refl, c.args.links.now.ok.0) in
+    HasFailed-set g.L.Link.faults c.args.links.now.items c.place_of.result c.send_frame.new.link within (omega (arith, c.send_frame.ensures.cause.failed e))
+
+pub returns-in-None-clause-cause : goal.returns-in-None-clause-cause
+returns-in-None-clause-cause g c e = absurd (cc e)
+
+pub returns-in_default-clause-cause : goal.returns-in_default-clause-cause
+returns-in_default-clause-cause g c e = absurd (cc e)

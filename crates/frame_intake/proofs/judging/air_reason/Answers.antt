@@ -1,5 +1,6 @@
-use Rattle.std.proofs.Common.{rules}
+use Rattle.std.proofs.Common.{ap, sym}
+use Rattle.domain_rules.specs.Verdict.{air_reason}
 use Rattle.frame_intake.proofs.judging.air_reason.Goals as goal
 
 pub returns-in-OutOfProfile : goal.returns-in-OutOfProfile
-returns-in-OutOfProfile c = search rules
+returns-in-OutOfProfile c = ap air_reason (sym c.in-OutOfProfile.is)

@@ -1,5 +1,5 @@
-use Rattle.std.proofs.Common.{rules}
+use Rattle.std.proofs.Common.{refl}
 use Rattle.frame_intake.proofs.judging.is_group.Goals as goal
 
 pub returns : goal.returns
-returns c = search rules
+returns c = refl

@@ -1,5 +1,6 @@
-use Rattle.std.proofs.Common.{reverse, refl, rules}
-use Rattle.frame_script.proofs.Seeing.{Fronts-step, Fronts-seen}
+use Rattle.std.proofs.Common.{◌≡◌, List, length, reverse, refl, ap, rules, arith}
+use Rattle.run_journal.specs.declared.acts.Entry.{Entry}
+use Rattle.frame_script.proofs.Seeing.{Fronts-step, Fronts-seen, Fronts-all}
 use Rattle.frame_script.proofs.seen.see.Goals as goal
 
 pub returns-in_err-see_entry-clause-kept : goal.returns-in_err-see_entry-clause-kept
@@ -17,3 +18,9 @@ pub returns-clause-kept : goal.returns-clause-kept
 returns-clause-kept c =
     let j = c.args.journal.now.entries in
     Fronts-seen j (reverse j) c.loop-place.place c.loop-place.seen c.loop-place.sizes.items refl c.loop-place.invariant
+
+pub returns-clause-all : goal.returns-clause-all
+returns-clause-all c =
+    let j = c.args.journal.now.entries in
+    let end : c.loop-place.place ≡ length (reverse j) = omega (arith, c.loop-place-test.false, ap (λ (es : List Entry). length es) c.entries-entries.ensures, c.loop-place.invariant.within) in
+    Fronts-all j (reverse j) c.loop-place.place c.loop-place.seen c.loop-place.sizes.items refl end c.loop-place.invariant

@@ -21,4 +21,4 @@ pub returns-in-None-place_of_ap : goal.returns-in-None-place_of_ap
 returns-in-None-place_of_ap c = no_ap c.args.domain.now c.args.node c.in-Sta.field-0 c.args.address.0 c.in-Sta.is (search rules)
 
 pub returns-in-Some : goal.returns-in-Some
-returns-in-Some c = search rules
+returns-in-Some c = search rules steps 500000

@@ -40,3 +40,9 @@ returns-in-End-clause-found c =
 pub returns-in-Truncated-clause-fault : goal.returns-in-Truncated-clause-fault
 returns-in-Truncated-clause-fault c =
     walk_truncated c.args.within c.args.bytes.now c.loop-element.invariant.0 c.loop-element.rest.now _ c.loop-element.invariant.1 c.in-Truncated.ensures.0 c.in-Truncated.ensures.1
+
+pub loop-element-smaller : goal.loop-element-smaller
+loop-element-smaller c = omega (arith, ap length c.in-Whole.ensures.1, length-append (element_octets (element_of c.in-Whole.element)) c.in-Whole.behind.now)
+
+pub overflow_sub-place : goal.overflow_sub-place
+overflow_sub-place c = omega (arith, ap length c.loop-element.invariant.1.cut, length-append (joined c.loop-element.invariant.0) c.loop-element.rest.now)

@@ -24,3 +24,24 @@ returns-in_default-management_at c f s =
     let capabilities = at_capabilities _ f s _ _ _ akms c.in-Some-number_at.ensures in
     let pmkids = at_pmkids _ f s _ _ _ capabilities.1 c.in-Some-pmkids_at.ensures in
     broken IsSuite _ _ _ f.management pmkids.1 s.management c.in_default-management_at.ensures
+
+pub returns : goal.returns
+returns c =
+    let l = c.in-Some.ensures in
+    record {
+      behind_version = c.args.octets.now;
+      behind_group = l.behind_group;
+      behind_pairwise = l.behind_pairwise;
+      behind_akms = _;
+      behind_capabilities = _;
+      behind_pmkids = _;
+      behind_management = c.in-Some-management_at.ensures.0;
+      one = refl;
+      version = refl;
+      group = l.group;
+      pairwise = l.pairwise;
+      akms = l.akms;
+      capabilities = c.in-Some-number_at.ensures;
+      pmkids = c.in-Some-pmkids_at.ensures;
+      management = c.in-Some-management_at.ensures.1;
+    }

@@ -1,5 +1,5 @@
-use Rattle.std.proofs.Common.{reverse, refl, rules}
-use Rattle.storm.proofs.Seeing.{Fronts-step, Fronts-seen}
+use Rattle.std.proofs.Common.{◌≡◌, length, reverse, refl, rules}
+use Rattle.storm.proofs.Seeing.{Fronts-all, Fronts-seen, Fronts-start, Fronts-step}
 use Rattle.storm.proofs.seen.see.Goals as goal
 
 pub returns-in_err-see_entry-clause-kept : goal.returns-in_err-see_entry-clause-kept
@@ -17,3 +17,14 @@ pub returns-clause-kept : goal.returns-clause-kept
 returns-clause-kept c =
     let j = c.args.journal.now.entries in
     Fronts-seen j (reverse j) c.loop-place.place c.loop-place.seen c.loop-place.frames.items refl c.loop-place.invariant
+
+pub loop-place-init : goal.loop-place-init
+loop-place-init c =
+    let j = c.args.journal.now.entries in
+    Fronts-start j (reverse j) c.args.seen.now c.args.frames.now.items refl c.requires
+
+pub returns-clause-all : goal.returns-clause-all
+returns-clause-all c =
+    let j = c.args.journal.now.entries in
+    let end : c.loop-place.place ≡ length (reverse j) = search rules in
+    Fronts-all j (reverse j) c.loop-place.place c.loop-place.seen c.loop-place.frames.items refl end c.loop-place.invariant

@@ -2,4 +2,4 @@ use Rattle.std.proofs.Common.{rules}
 use Rattle.supplicant.proofs.answers.give.Goals as goal
 
 pub returns-clause-news : goal.returns-clause-news
-returns-clause-news c = search rules
+returns-clause-news c = search rules steps 300000

@@ -45,3 +45,13 @@ returns-clause-done c =
     subst (λ (l : List (Option Station)). IsDone d Rekey old (the_state c.self.inside.number (c.self.inside.drawn + 1) c.rekey.new.self c.self.inside.sending l gave.result (trimmed c.self.inside.targets)) (seen c.args.out.now.acts gave.new.out.acts Done))
     (sym (with_items_is c.self.inside.stations gave.new.stations (gave.ensures.length ∙ c.deref_mut.ensures.len)))
     (renews d old new key c.args.out.now.acts gave.new.out.acts renewed)
+
+pub returns-clause-number : goal.returns-clause-number
+returns-clause-number c = ap (λ (s : State). s.number) c.self.view_is
+
+pub returns-clause-room : goal.returns-clause-room
+returns-clause-room c = omega (arith, c.requires.room, c.add.ensures.spare, c.give_all-self-inside.ensures.spare, ap (λ (l : List (Option Station)). length l) (c.deref_mut.ensures.value ∙ ap (λ (s : State). s.stations) c.self.view_is))
+
+pub give_all-self-inside-requires-clause-rooms : goal.give_all-self-inside-requires-clause-rooms
+give_all-self-inside-requires-clause-rooms c =
+    omega (arith, c.requires.rooms, ap (λ (l : List (Option Station)). length l) (c.deref_mut.ensures.value ∙ ap (λ (s : State). s.stations) c.self.view_is))

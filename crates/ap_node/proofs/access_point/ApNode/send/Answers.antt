@@ -14,6 +14,7 @@ use Rattle.ap_node.specs.declared.station.Station.{Station}
 use Rattle.ap_node.proofs.Messaging.{the_state}
 use Rattle.ap_node.proofs.Traffic.{IsRekeyed, takes_sent, takes_sent_all, under_outcome}
 use Rattle.ap_node.proofs.Requesting.{if_begun}
+use Rattle.ap_node.proofs.Places.{err_back}
 use Rattle.ccmp_guard.specs.Held.{Held}
 use Rattle.domain_rules.specs.DataRows.{used_acts}
 use Rattle.data_frames.specs.Sending.{send_key_of, used_once, outcome_under}
@@ -70,3 +71,9 @@ returns-in-All-clause-taken c =
     (sym (ap (λ (x : Held). the_state c.self.inside.number c.self.inside.drawn c.self.inside.group x c.self.inside.stations.items c.self.inside.owing (trimmed c.self.inside.targets)) used ∙ ap (λ (s : State). record s { sending = used_once s.sending }) c.self.view_is))
     (takes_sent_all d old tid plain waited waits came (waiting ∙ ap (λ (l : List Act). waited ++ l) same_acts)
     (under_outcome d c.args.here.node All tid plain k ∙ ap outcome_of same_acts))))
+
+pub returns-in-All-clause-same : goal.returns-in-All-clause-same
+returns-in-All-clause-same c =
+    let k = c.self.inside.sending in
+    let with_key : Held → State = λ x. the_state c.self.inside.number c.self.inside.drawn c.self.inside.group x c.self.inside.stations.items c.self.inside.owing (trimmed c.self.inside.targets) in
+    err_back c.send.result (c.send.new.self ≡ k) _ (λ (same : c.send.new.self ≡ k). ap with_key same ∙ c.self.view_is) c.send.ensures.same

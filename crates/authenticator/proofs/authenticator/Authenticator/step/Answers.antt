@@ -7,6 +7,8 @@ use Rattle.authenticator.specs.Judged.{frame_of, is_final}
 use Rattle.authenticator.specs.Taken.{given}
 use Rattle.authenticator.proofs.Final.{other_final}
 use Rattle.authenticator.proofs.Refusing.{as_message, no_other}
+use Rattle.authenticator.proofs.Replying.{empty_whole}
+use Rattle.authenticator.proofs.Unchanging.{none_some}
 use Rattle.authenticator.proofs.authenticator.Authenticator.step.Goals as goal
 
 pub returns-in-M2-clause-steps : goal.returns-in-M2-clause-steps
@@ -38,3 +40,12 @@ returns-in-M4-clause-is_final c =
 pub returns-in_default-clause-is_final : goal.returns-in_default-clause-is_final
 returns-in_default-clause-is_final c =
     ap (λ (o : Option Keyed). is_some o) c.empty.ensures.installed ∙ sym (other_final c.args.self.now.ends.akm c.args.self.now.attempt c.args.message (frame_of c.args.frame.now) c.in_default.not-M4)
+
+pub returns-in_default-clause-whole : goal.returns-in_default-clause-whole
+returns-in_default-clause-whole c = empty_whole c.empty.result c.empty.ensures
+
+pub returns-in_default-clause-installs : goal.returns-in_default-clause-installs
+returns-in_default-clause-installs c y some = absurd (none_some c.empty.result.installed y c.empty.ensures.installed some)
+
+pub returns-in_default-clause-derives : goal.returns-in_default-clause-derives
+returns-in_default-clause-derives c y some = absurd (none_some c.empty.result.derived y c.empty.ensures.derived some)

@@ -9,6 +9,8 @@ use Rattle.authenticator.specs.Taken.{given}
 use Rattle.authenticator.specs.declared.attempt.Attempt.{Attempt}
 use Rattle.authenticator.proofs.Refusing.{no_m2, steps_to}
 use Rattle.authenticator.proofs.Answering.{takes_refused_m2, takes_other_m2, takes_agreed}
+use Rattle.authenticator.proofs.Replying.{empty_whole}
+use Rattle.authenticator.proofs.Unchanging.{not_refused, none_some, in_attempt, named_whole, attempt_back}
 use Rattle.authenticator.proofs.authenticator.Authenticator.take_m2.Goals as goal
 
 pub returns-in_default-clause-steps : goal.returns-in_default-clause-steps
@@ -43,3 +45,69 @@ returns-clause-steps c =
     (ap (λ (b : Attempt). record s { attempt = Some b }) (sym (c.answer_m2.ensures.attempt ∙ ap (λ (z : Agreed). answered z a) c.of-agreement.ensures)))
     (takes_agreed s a (frame_of c.args.frame.now) y r c.in-Some.is c.in-Agreed.ensures (subst (λ (z : Agreed). Answers s.ends a z r) c.of-agreement.ensures c.answer_m2.ensures.sends)
     (subst (λ (z : Agreed). TellsDerived z.key r) c.of-agreement.ensures c.answer_m2.ensures.told) c.m3_key_data-plain.ensures.octets))
+
+pub returns-in_default-clause-refused : goal.returns-in_default-clause-refused
+returns-in_default-clause-refused c why is = c.self.view_is
+
+pub returns-in-Refused-clause-refused : goal.returns-in-Refused-clause-refused
+returns-in-Refused-clause-refused c why is =
+    let s : State = record { ends = c.self.inside.ends; attempt = c.self.inside.attempt; session = c.self.inside.session } in
+    attempt_back s c.args.self.now (Some c.in-Some.attempt) c.self.view_is c.in-Some.is
+
+pub returns-in-Other-clause-refused : goal.returns-in-Other-clause-refused
+returns-in-Other-clause-refused c why is =
+    let s : State = record { ends = c.self.inside.ends; attempt = c.self.inside.attempt; session = c.self.inside.session } in
+    attempt_back s c.args.self.now (Some c.in-Some.attempt) c.self.view_is c.in-Some.is
+
+pub returns-in_default-clause-installs : goal.returns-in_default-clause-installs
+returns-in_default-clause-installs c y some = absurd (none_some c.args.reply.now.installed y c.requires.empty.installed some)
+
+pub returns-in-Refused-clause-installs : goal.returns-in-Refused-clause-installs
+returns-in-Refused-clause-installs c y some = absurd (none_some c.args.reply.now.installed y c.requires.empty.installed some)
+
+pub returns-in-Other-clause-installs : goal.returns-in-Other-clause-installs
+returns-in-Other-clause-installs c y some = absurd (none_some c.args.reply.now.installed y c.requires.empty.installed some)
+
+pub returns-clause-installs : goal.returns-clause-installs
+returns-clause-installs c y some = absurd (none_some c.answer_m2.new.reply.installed y c.answer_m2.ensures.told.installed some)
+
+pub returns-in_default-clause-derives : goal.returns-in_default-clause-derives
+returns-in_default-clause-derives c y some = absurd (none_some c.args.reply.now.derived y c.requires.empty.derived some)
+
+pub returns-in-Refused-clause-derives : goal.returns-in-Refused-clause-derives
+returns-in-Refused-clause-derives c y some = absurd (none_some c.args.reply.now.derived y c.requires.empty.derived some)
+
+pub returns-in-Other-clause-derives : goal.returns-in-Other-clause-derives
+returns-in-Other-clause-derives c y some = absurd (none_some c.args.reply.now.derived y c.requires.empty.derived some)
+
+pub returns-clause-derives : goal.returns-clause-derives
+returns-clause-derives c y some =
+    let s : State = record { ends = c.self.inside.ends; attempt = c.self.inside.attempt; session = c.self.inside.session } in
+    in_attempt s c.args.self.now c.in-Some.attempt c.self.view_is c.in-Some.is
+
+pub returns-in_default-clause-fits : goal.returns-in_default-clause-fits
+returns-in_default-clause-fits c = empty_whole c.args.reply.now c.requires.empty
+
+pub returns-in-Refused-clause-fits : goal.returns-in-Refused-clause-fits
+returns-in-Refused-clause-fits c = empty_whole c.args.reply.now c.requires.empty
+
+pub returns-in-Other-clause-fits : goal.returns-in-Other-clause-fits
+returns-in-Other-clause-fits c = named_whole c.args.reply.now (Some c.in-Other.key.ptk.kck) c.requires.empty
+
+pub returns-clause-fits : goal.returns-clause-fits
+returns-clause-fits c = c.answer_m2.ensures.fits
+
+pub returns-in_default-clause-none : goal.returns-in_default-clause-none
+returns-in_default-clause-none c = c.requires.empty.installed
+
+pub returns-in-Refused-clause-none : goal.returns-in-Refused-clause-none
+returns-in-Refused-clause-none c = c.requires.empty.installed
+
+pub returns-in-Other-clause-none : goal.returns-in-Other-clause-none
+returns-in-Other-clause-none c = c.requires.empty.installed
+
+pub returns-clause-none : goal.returns-clause-none
+returns-clause-none c = c.answer_m2.ensures.told.installed
+
+pub returns-clause-refused : goal.returns-clause-refused
+returns-clause-refused c why is = absurd (not_refused why is)

@@ -12,6 +12,8 @@ use Rattle.authenticator.proofs.Final.{final_finished, final_refused}
 use Rattle.authenticator.proofs.Refusing.{no_m4, steps_to}
 use Rattle.authenticator.proofs.Finishing.{takes_refused_m4, takes_finished}
 use Rattle.authenticator.proofs.Installing.{installs_finished}
+use Rattle.authenticator.proofs.Replying.{empty_whole}
+use Rattle.authenticator.proofs.Unchanging.{not_refused, none_some, in_attempt, attempt_back}
 use Rattle.authenticator.proofs.authenticator.Authenticator.take_m4.Goals as goal
 
 pub returns-in_default-clause-steps : goal.returns-in_default-clause-steps
@@ -66,3 +68,45 @@ returns-in-Finished-clause-is_final c =
     rw (← c.self.view_is)
     (ap (λ (o : Option Keyed). is_some o) c.install-session.ensures.installed.installed
     ∙ sym (ap (λ (o : Option Attempt). is_final_m4 c.self.inside.ends.akm o (frame_of c.args.frame.now)) some ∙ final_finished c.self.inside.ends.akm c.in-Some.attempt (frame_of c.args.frame.now) c.args.newest.now c.in-Finished.finish c.in-Finished.ensures))
+
+pub returns-in_default-clause-refused : goal.returns-in_default-clause-refused
+returns-in_default-clause-refused c why is =
+    let s : State = record { ends = c.self.inside.ends; attempt = c.self.inside.attempt; session = c.self.inside.session } in
+    let none : s.attempt ≡ None = sym c.take.ensures.value ∙ c.in_default.is in
+    attempt_back s c.args.self.now c.take.new.self c.self.view_is (none ∙ sym c.take.ensures.after)
+
+pub returns-in-Refused-clause-refused : goal.returns-in-Refused-clause-refused
+returns-in-Refused-clause-refused c why is =
+    let s : State = record { ends = c.self.inside.ends; attempt = c.self.inside.attempt; session = c.self.inside.session } in
+    let some : s.attempt ≡ Some c.in-Some.attempt = sym c.take.ensures.value ∙ c.in-Some.is in
+    attempt_back s c.args.self.now (Some c.in-Refused.attempt) c.self.view_is (some ∙ ap (λ (a : Attempt). Some a) (sym c.in-Refused.ensures.0))
+
+pub returns-in_default-clause-installs : goal.returns-in_default-clause-installs
+returns-in_default-clause-installs c y some = absurd (none_some c.args.reply.now.installed y c.requires.empty.installed some)
+
+pub returns-in_default-clause-derives : goal.returns-in_default-clause-derives
+returns-in_default-clause-derives c y some = absurd (none_some c.args.reply.now.derived y c.requires.empty.derived some)
+
+pub returns-in_default-clause-fits : goal.returns-in_default-clause-fits
+returns-in_default-clause-fits c = empty_whole c.args.reply.now c.requires.empty
+
+pub returns-in-Refused-clause-installs : goal.returns-in-Refused-clause-installs
+returns-in-Refused-clause-installs c y some = absurd (none_some c.args.reply.now.installed y c.requires.empty.installed some)
+
+pub returns-in-Refused-clause-derives : goal.returns-in-Refused-clause-derives
+returns-in-Refused-clause-derives c y some = absurd (none_some c.args.reply.now.derived y c.requires.empty.derived some)
+
+pub returns-in-Refused-clause-fits : goal.returns-in-Refused-clause-fits
+returns-in-Refused-clause-fits c = empty_whole c.args.reply.now c.requires.empty
+
+pub returns-in-Finished-clause-derives : goal.returns-in-Finished-clause-derives
+returns-in-Finished-clause-derives c y some =
+    let s : State = record { ends = c.self.inside.ends; attempt = c.self.inside.attempt; session = c.self.inside.session } in
+    let some : s.attempt ≡ Some c.in-Some.attempt = sym c.take.ensures.value ∙ c.in-Some.is in
+    in_attempt s c.args.self.now c.in-Some.attempt c.self.view_is some
+
+pub returns-in-Finished-clause-fits : goal.returns-in-Finished-clause-fits
+returns-in-Finished-clause-fits c = c.install-session.ensures.fits
+
+pub returns-in-Finished-clause-refused : goal.returns-in-Finished-clause-refused
+returns-in-Finished-clause-refused c why is = absurd (not_refused why is)

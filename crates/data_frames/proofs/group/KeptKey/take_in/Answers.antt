@@ -7,6 +7,7 @@ use Rattle.domain_rules.specs.DataFrames.{data_seal}
 use Rattle.data_frames.specs.Holding.{kept_key}
 use Rattle.data_frames.specs.Taking.{Refuses}
 use Rattle.data_frames.proofs.Opening.{handed_up, whole}
+use Rattle.data_frames.proofs.Lengths.{zeros_long}
 use Rattle.data_frames.proofs.group.KeptKey.take_in.Goals as goal
 
 pub returns-in-Ok-clause-taken : goal.returns-in-Ok-clause-taken
@@ -29,3 +30,9 @@ returns-in-Err-clause-taken c = (
   kept_key c.args.self.now.key c.args.self.now.id c.args.self.now.counter,
   Refuses c.in-Err.fault c.in-Err.ensures.stopped refl c.add_refused.ensures.outcome c.add_refused.ensures.acts,
 )
+
+pub open-requires-clause-room : goal.open-requires-clause-room
+open-requires-clause-room c = omega (arith, c.deref_mut.ensures.len, zeros_long c.args.room.plain.len _ c.args.room.plain.items c.args.room.plain.ok.0 c.requires.room.plain, c.requires.whole.long)
+
+pub add_opened-requires-clause-capacity : goal.add_opened-requires-clause-capacity
+add_opened-requires-clause-capacity c = omega (arith, zeros_long c.args.room.plain.len _ c.args.room.plain.items c.args.room.plain.ok.0 c.requires.room.plain, c.requires.room.capacity)

@@ -8,6 +8,7 @@ use Rattle.run_journal.specs.declared.acts.Act.TheVariants.{Took, HandedUp}
 use Rattle.domain_rules.specs.DataFrames.{data_seal}
 use Rattle.data_frames.specs.Taking.{Refuses}
 use Rattle.data_frames.proofs.Opening.{handed_up, whole}
+use Rattle.data_frames.proofs.Lengths.{zeros_long}
 use Rattle.data_frames.proofs.key.DataKey.take_in.Goals as goal
 
 pub returns-in-Ok : goal.returns-in-Ok
@@ -25,3 +26,9 @@ returns-in-Ok c =
 
 pub returns-in-Err : goal.returns-in-Err
 returns-in-Err c = Refuses c.in-Err.fault c.in-Err.ensures.stopped c.in-Err.ensures.same c.add_refused.ensures.outcome c.add_refused.ensures.acts
+
+pub open-requires-clause-room : goal.open-requires-clause-room
+open-requires-clause-room c = omega (arith, c.deref_mut.ensures.len, zeros_long c.args.room.plain.len _ c.args.room.plain.items c.args.room.plain.ok.0 c.requires.room.plain, c.requires.whole.long)
+
+pub add_opened-requires-clause-capacity : goal.add_opened-requires-clause-capacity
+add_opened-requires-clause-capacity c = omega (arith, zeros_long c.args.room.plain.len _ c.args.room.plain.items c.args.room.plain.ok.0 c.requires.room.plain, c.requires.room.capacity)

@@ -7,7 +7,7 @@ use Rattle.ft_exchange.specs.Judged.{wanted}
 use Rattle.ft_exchange.specs.OriginatorSteps.{IsAuthTaken}
 use Rattle.ft_exchange.specs.State.{OriginatorState}
 use Rattle.ft_exchange.proofs.Sending.{reason_is}
-use Rattle.ft_exchange.proofs.StationAuths.{auth_unawaited, auth_fault}
+use Rattle.ft_exchange.proofs.StationAuths.{auth_unawaited, auth_fault, auth_no_fte}
 use Rattle.ft_exchange.proofs.StationGoesOn.{auth_accepted}
 use Rattle.ft_exchange.proofs.originator.Originator.on_auth.Goals as goal
 
@@ -29,3 +29,10 @@ returns-in-Some-fte c =
     (reason_is c.args.self.now (wanted c.expects-expected.result) c.r0_name.result c.self.inside.snonce c.args.self.now.r0 c.args.status (element_fields c.args.elements.now) c.auth_response_fault.result c.auth_response_fault.ensures c.expects-expected.ensures c.r0_name.ensures
     refl (ap (λ (x : OriginatorState). x.snonce) c.self.view_is) ∙ c.in_default-auth_response_fault.is)
     c.go_on.ensures.goes)
+
+pub returns-in-None : goal.returns-in-None
+returns-in-None c =
+    absurd (auth_no_fte _ c.args.self.now.snonce c.args.status (element_fields c.args.elements.now)
+    (reason_is c.args.self.now (wanted c.expects-expected.result) c.r0_name.result c.self.inside.snonce c.args.self.now.r0 c.args.status (element_fields c.args.elements.now) c.auth_response_fault.result c.auth_response_fault.ensures c.expects-expected.ensures c.r0_name.ensures
+    refl (ap (λ (x : OriginatorState). x.snonce) c.self.view_is) ∙ c.in_default-auth_response_fault.is)
+    (ap (λ (o : Option Fte). option_map fte_fields o) c.in-None.is))

@@ -1,4 +1,4 @@
-use Rattle.std.proofs.Common.{◌≡◌, ◌∙◌, ℕ, true, List, sym, subst}
+use Rattle.std.proofs.Common.{◌≡◌, ◌∙◌, ℕ, true, List, refl, sym, subst}
 use Rattle.std.specs.Prelude.{Ok}
 use Rattle.std.specs.Option.{option_copied}
 use Rattle.domain_base.specs.declared.names.Mac.{Mac}
@@ -10,7 +10,7 @@ use Rattle.run_journal.specs.declared.acts.Outcome.{Outcome}
 use Rattle.ft_exchange.specs.Asking.{asked_fields, IsRequest}
 use Rattle.ft_exchange.specs.TargetSteps.{IsAuthTaken}
 use Rattle.ft_exchange.proofs.TargetAuths.{Asks, known_by}
-use Rattle.ft_exchange.proofs.AuthExits.{exit_other, exit_elements, exit_repeated, exit_granted, exit_refused, exit_looks}
+use Rattle.ft_exchange.proofs.AuthExits.{exit_other, exit_elements, exit_repeated, exit_granted, exit_refused, exit_looks, looks_none, looks_repeated, looked_len, asked_id}
 use Rattle.ft_exchange.proofs.target.Target.on_auth.Goals as goal
 
 pub returns-in_default-clause-taken : goal.returns-in_default-clause-taken
@@ -70,3 +70,57 @@ returns-in-Err-look-clause-looks g c =
     × Answers (g.H.Holders.ids c.args.holders.now) (g.H.Holders.has c.args.holders.now) (g.H.Holders.rows c.args.holders.now) id name own peer answer
     × IsNamed name own peer answer)
     _ c.empty.result c.look.new.reply c.refuse_auth-in-Err-look.new.reply _ c.of-place.ensures q.1 c.empty.ensures c.in-Err-look.ensures.looked c.refuse_auth-in-Err-look.ensures.looked
+
+-- nothing was looked up
+pub returns-in_default-clause-looks : goal.returns-in_default-clause-looks
+returns-in_default-clause-looks g c = looks_none (element_fields c.args.elements.now) _ _ c.empty.result.looked c.empty.ensures.looked refl
+
+pub returns-in_default-clause-no_less : goal.returns-in_default-clause-no_less
+returns-in_default-clause-no_less g c = g.met.H.Holders.same c.args.holders.now
+
+pub returns-in-Err-clause-looks : goal.returns-in-Err-clause-looks
+returns-in-Err-clause-looks g c = looks_none (element_fields c.args.elements.now) _ _ c.refuse_auth.new.reply.looked (c.refuse_auth.ensures.looked ∙ c.empty.ensures.looked) refl
+
+pub returns-in-Err-clause-no_less : goal.returns-in-Err-clause-no_less
+returns-in-Err-clause-no_less g c = g.met.H.Holders.same c.args.holders.now
+
+pub returns-then-repeats-clause-looks : goal.returns-then-repeats-clause-looks
+returns-then-repeats-clause-looks g c =
+    looks_repeated (element_fields c.args.elements.now) _ _ c.args.pending.now c.empty.result c.answer_pending.new.reply c.empty.ensures c.answer_pending.ensures refl
+
+pub returns-then-repeats-clause-no_less : goal.returns-then-repeats-clause-no_less
+returns-then-repeats-clause-no_less g c = g.met.H.Holders.same c.args.holders.now
+
+-- a look leaves the holders as it says
+pub begin-requires : goal.begin-requires
+begin-requires g c =
+    let q : IsRequest c.args.domain.now.mdid (element_fields c.args.elements.now) (Ok c.in-Ok.asked) = c.in-Ok.ensures in
+    asked_id (element_fields c.args.elements.now) (asked_fields c.in-Ok.asked) c.requires.raw q.1
+
+pub returns-in-Ok-look-clause-rows : goal.returns-in-Ok-look-clause-rows
+returns-in-Ok-look-clause-rows g c = c.look.ensures.rows
+
+pub returns-in-Ok-look-clause-ids : goal.returns-in-Ok-look-clause-ids
+returns-in-Ok-look-clause-ids g c = c.look.ensures.ids
+
+pub returns-in-Ok-look-clause-still_has : goal.returns-in-Ok-look-clause-still_has
+returns-in-Ok-look-clause-still_has g c = c.look.ensures.still_has
+
+pub returns-in-Ok-look-clause-no_less : goal.returns-in-Ok-look-clause-no_less
+returns-in-Ok-look-clause-no_less g c = c.look.ensures.no_less
+
+pub refuse_auth-requires-in-Err-look : goal.refuse_auth-requires-in-Err-look
+refuse_auth-requires-in-Err-look g c =
+    record { quiet = looked_len c.args.domain.now (asked_fields c.in-Ok.asked) (option_copied c.args.anonce) _ _ c.empty.result c.look.new.reply _ c.in-Err-look.ensures.looked c.empty.ensures.len }
+
+pub returns-in-Err-look-clause-rows : goal.returns-in-Err-look-clause-rows
+returns-in-Err-look-clause-rows g c = c.look.ensures.rows
+
+pub returns-in-Err-look-clause-ids : goal.returns-in-Err-look-clause-ids
+returns-in-Err-look-clause-ids g c = c.look.ensures.ids
+
+pub returns-in-Err-look-clause-still_has : goal.returns-in-Err-look-clause-still_has
+returns-in-Err-look-clause-still_has g c = c.look.ensures.still_has
+
+pub returns-in-Err-look-clause-no_less : goal.returns-in-Err-look-clause-no_less
+returns-in-Err-look-clause-no_less g c = c.look.ensures.no_less

@@ -1,5 +1,4 @@
-use Rattle.std.proofs.Common.{rules}
 use Rattle.replay_window.proofs.receiving.RecvCounters.take.Goals as goal
 
 pub returns : goal.returns
-returns c = search rules
+returns c = cc

@@ -1,8 +1,8 @@
-use Rattle.std.proofs.Common.{rules}
+use Rattle.std.proofs.Common.{arith}
 use Rattle.replay_window.proofs.sending.SendCounter.next.Goals as goal
 
 pub returns-clause-number : goal.returns-clause-number
-returns-clause-number c = search rules
+returns-clause-number c = omega arith
 
 pub returns-then-self-eq-LAST_NUMBER-clause-number : goal.returns-then-self-eq-LAST_NUMBER-clause-number
-returns-then-self-eq-LAST_NUMBER-clause-number c = search rules
+returns-then-self-eq-LAST_NUMBER-clause-number c = omega arith

@@ -14,3 +14,10 @@ returns-in_ok-resize-clause-chained c chains h =
       last = λ k. subst (λ (o : Option ℕ). IsLast chains k (length chains) o) (sym (same k)) (h.last k);
       before = λ k i e. subst (λ (w : List (Option ℕ)). IsLast chains k i (get_or w i None)) (sym c.reserve.ensures.items) (h.before k i e);
     }
+
+pub returns-else-len-lt-CHAINS-clause-chained : goal.returns-else-len-lt-CHAINS-clause-chained
+returns-else-len-lt-CHAINS-clause-chained c chains h = record {
+  len = omega arith;
+  last = h.last;
+  before = λ k i e. subst (λ (w : List (Option ℕ)). IsLast chains k i (get_or w i None)) (sym c.reserve.ensures.items) (h.before k i e);
+}

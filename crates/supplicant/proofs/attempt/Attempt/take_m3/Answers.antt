@@ -6,6 +6,7 @@ use Rattle.eapol_key.specs.Fields.{fields_of}
 use Rattle.supplicant.specs.M3.{under}
 use Rattle.supplicant.specs.Told.{Tells, installs}
 use Rattle.supplicant.proofs.KeyDataRead.{agreed}
+use Rattle.supplicant.proofs.Telling.{whole_silent, whole_empty}
 use Rattle.supplicant.proofs.attempt.Attempt.take_m3.Goals as goal
 
 pub returns-clause-finishes : goal.returns-clause-finishes
@@ -20,3 +21,15 @@ returns-clause-finishes c =
       memory = c.give-gtk.ensures.memory ∙ ap (λ (n : ℕ). given group.key group.id n c.args.memory.now) c.packet_number.ensures;
       tells = λ d n p z ends keyed. subst (λ (g : GtkNews). Tells p c.accept_m3.new.reply (installs y g (sent_m4 d n p z c.args.frame.now.counter ∷ []))) c.give-gtk.ensures.news (c.accept_m3.ensures.tells d n p z ends keyed);
     }
+
+pub returns-clause-whole : goal.returns-clause-whole
+returns-clause-whole c = c.accept_m3.ensures.whole
+
+pub returns-in_err-group-clause-whole : goal.returns-in_err-group-clause-whole
+returns-in_err-group-clause-whole c = whole_silent c.judge_m3.new.reply c.judge_m3.ensures.silent
+
+pub returns-in_default-clause-whole : goal.returns-in_default-clause-whole
+returns-in_default-clause-whole c = whole_empty c.args.reply.now c.requires.empty
+
+pub accept_m3-requires-clause-verified : goal.accept_m3-requires-clause-verified
+accept_m3-requires-clause-verified c = (agreed (under c.args.base.now c.in-Some.key None) (fields_of c.args.frame.now) c.args.frame.now.octets.now c.in_ok-group.group c.judge_m3.new.reply.verified c.in_ok-group.ensures.judged).0

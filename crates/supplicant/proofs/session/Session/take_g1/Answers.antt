@@ -10,6 +10,7 @@ use Rattle.supplicant.specs.KeyData.{news_of}
 use Rattle.supplicant.specs.Held.{ptk_of, kept_of}
 use Rattle.supplicant.specs.Told.{Tells, renews}
 use Rattle.supplicant.proofs.G1Read.{g1_agreed}
+use Rattle.supplicant.proofs.Telling.{whole_silent}
 use Rattle.supplicant.proofs.session.Session.take_g1.Goals as goal
 
 pub returns-clause-renews : goal.returns-clause-renews
@@ -29,4 +30,13 @@ returns-clause-renews c =
     }
 
 pub returns-in_err-group-clause-refused : goal.returns-in_err-group-clause-refused
-returns-in_err-group-clause-refused c = search rules
+returns-in_err-group-clause-refused c = search rules steps 1000000
+
+pub returns-clause-whole : goal.returns-clause-whole
+returns-clause-whole c = c.accept_g1.ensures.whole
+
+pub returns-in_err-group-clause-whole : goal.returns-in_err-group-clause-whole
+returns-in_err-group-clause-whole c = whole_silent c.judge_g1.new.reply c.judge_g1.ensures.silent
+
+pub accept_g1-requires-clause-verified : goal.accept_g1-requires-clause-verified
+accept_g1-requires-clause-verified c = (g1_agreed (under_g1 c.args.ends.now.akm c.ptk-ptk.result c.kept.result) (fields_of c.args.frame.now) c.args.frame.now.octets.now c.in_ok-group.group c.judge_g1.new.reply.verified c.in_ok-group.ensures.judged).0

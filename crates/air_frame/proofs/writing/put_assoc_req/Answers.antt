@@ -1,0 +1,8 @@
+use Rattle.air_frame.proofs.Lengths.{put_size, put_room}
+use Rattle.air_frame.proofs.writing.put_assoc_req.Goals as goal
+
+pub put_frame-requires : goal.put_frame-requires
+put_frame-requires c = put_room _ _ _ _ _ c.two_numbers-fixed.ensures c.requires
+
+pub returns-clause-size : goal.returns-clause-size
+returns-clause-size c = put_size _ _ _ _ _ c.two_numbers-fixed.ensures c.put_frame.ensures.size

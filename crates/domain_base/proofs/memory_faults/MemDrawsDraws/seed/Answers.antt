@@ -1,0 +1,12 @@
+use Rattle.std.proofs.Common.{refl, ap, subst}
+use Rattle.std.specs.Prelude.{is_err}
+use Rattle.std.proofs.lemmas.Bool.{false≢true}
+use Rattle.domain_base.specs.Memory.{FailsNext, KeptDraws}
+use Rattle.domain_base.proofs.Fails.{fails_not}
+use Rattle.domain_base.proofs.memory_faults.MemDrawsDraws.seed.Goals as goal
+
+pub returns-then-next_fails-clause-fails : goal.returns-then-next_fails-clause-fails
+returns-then-next_fails-clause-fails c = (λ _. subst (λ (s : KeptDraws). FailsNext s.calls) c.self.view_is (c.if-next_fails.ensures.fails.0 refl), λ _. refl)
+
+pub returns-clause-fails : goal.returns-clause-fails
+returns-clause-fails c = fails_not _ c.args.self.now.calls _ (ap (λ (s : KeptDraws). s.calls) c.self.view_is) (λ f. false≢true (c.if-next_fails.ensures.fails.1 f)) (ap (λ r. is_err r) c.seed.ensures.value)

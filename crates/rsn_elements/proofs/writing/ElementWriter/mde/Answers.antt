@@ -1,0 +1,5 @@
+use Rattle.rsn_elements.proofs.Appending.{appends_both}
+use Rattle.rsn_elements.proofs.writing.ElementWriter.mde.Goals as goal
+
+pub returns-clause-written : goal.returns-clause-written
+returns-clause-written c = appends_both _ _ _ _ _ c.append.ensures (appends_both _ _ _ _ _ c.append-2.ensures c.append-3.ensures)
