@@ -1,6 +1,6 @@
 -- The pairwise key in use with a station, beside the session.
-use Rattle.std.proofs.Common.{◌≡◌, ◌∙◌, ℕ, Bool, true, false, List, Option, Some, None, refl, sym, ap, subst, inl, inr}
-use Rattle.std.specs.Prelude.{◌⊎◌, is_some, option_map}
+use Rattle.std.proofs.Common.{◌≡◌, ◌∙◌, ℕ, Bool, true, false, List, Option, Some, None, Result, Ok, Err, refl, sym, ap, subst, inl, inr}
+use Rattle.std.specs.Prelude.{◌⊎◌, is_some, option_map, OnOk}
 use Rattle.domain_base.specs.declared.names.Node.{Node}
 use Rattle.domain_base.specs.declared.names.Node.TheVariants.{Sta}
 use Rattle.domain_base.specs.declared.names.Peer.TheVariants.{One}
@@ -34,9 +34,9 @@ use Rattle.data_frames.specs.Holding.{HoldsPairwise}
 use Rattle.data_frames.specs.Sending.{send_key_of}
 use Rattle.data_frames.proofs.RepliedKeys.{replied_leaves, replied_holds, sent_leaves}
 use Rattle.ap_node.proofs.Using.{pairwise_sends}
-use Rattle.ap_node.specs.Keys.{fresh, key_after, key_of_session, HasKey}
+use Rattle.ap_node.specs.Keys.{fresh, key_after, key_of_session, used_in, HasKey}
 use Rattle.ap_node.specs.declared.station.Station.{Station}
-use Rattle.ap_node.specs.State.{key_in}
+use Rattle.ap_node.specs.State.{key_in, with_key}
 use Rattle.ap_node.specs.Stands.{HasPart}
 use Rattle.ap_node.proofs.Others.{AllLeave, KeepsKey, keeps, key_as}
 
@@ -130,3 +130,15 @@ sends_by p k h at = by (session p h) k refl at
     by None (Some m) is has = absurd has
     by (Some x) None is has = absurd has
     by (Some x) (Some m) is has = pairwise_sends p m x h is has
+
+-- ---- what a key in use leaves of it
+
+pub part_as : (now was : Option Station) (x y : Station) → now ≡ Some y → was ≡ Some x → y.part ≡ x.part → now ≡ with_key (key_in now) was
+part_as now was x y now_is was_is same = rw (now_is, was_is) (ap (λ (p : Part). Some (the_station p y.key)) same)
+
+pub none_as : (now was : Option Station) → now ≡ None → was ≡ None → now ≡ with_key (key_in now) was
+none_as now was now_is was_is = rw (now_is, was_is) refl
+
+pub used_as : {A E : Type 0} (r : Result A E) (now was : Option Station) (x : Station) (key : Option Held) → now ≡ Some (the_station x.part key) → was ≡ Some x → OnOk r (key ≡ used_in x.key) → OnOk r (now ≡ with_key (used_in (key_in was)) was)
+used_as (Ok a) now was x key now_is was_is used = rw (now_is, was_is) (ap (λ (k : Option Held). Some (the_station x.part k)) used)
+used_as (Err e) now was x key now_is was_is used = tt

@@ -1,4 +1,5 @@
 pub mod Places
+pub mod Added
 pub mod Trimming
 pub mod Others
 pub mod Standing
@@ -11,6 +12,7 @@ pub mod Plain
 pub mod Due
 pub mod Ending
 pub mod Refusing
+pub mod Raw
 pub mod Listed
 pub mod Requesting
 pub mod Told

@@ -3,6 +3,7 @@ use Rattle.std.proofs.Common.{◌≡◌, ◌≢◌, ℕ, refl}
 use Rattle.frame_script.specs.Script.{Draft}
 use Rattle.domain_cli.specs.declared.status.Found.{Found}
 use Rattle.domain_cli.specs.declared.status.Found.TheVariants as found
+use Rattle.domain_cli.specs.declared.status.Stop.{Stop}
 use Rattle.domain_cli.specs.Outer.{Nobody}
 use Rattle.domain_cli.specs.Stops.{EndsAt, found_blame}
 
@@ -17,3 +18,6 @@ ended_read found.Whole lines draft e is = absurd cc
 ended_read (found.Unended number refusal) lines draft e is = absurd cc
 ended_read found.ReadFault lines draft e is = absurd e
 ended_read (found.Stopped stop) lines draft e is = absurd e
+
+pub stopped_read : (stop : Stop) → found.Stopped stop ≢ found.ReadFault
+stopped_read stop is = absurd cc

@@ -23,6 +23,8 @@ pub mod Drawn
 pub mod Nodes
 pub mod Courses
 pub mod Stormed
+pub mod Owned
+pub mod Unasked
 pub mod Unbegun
 pub mod Turned
 pub mod Linked

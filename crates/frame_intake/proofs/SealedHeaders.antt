@@ -1,12 +1,12 @@
 -- What is known of protected data that octets spell.
-use Rattle.std.proofs.Common.{◌≡◌, ◌<◌, ◌+◌, ℕ, Bool, true, false, cond, List, drop, length, take, get_or, Option, Some, None, refl, sym, ap, subst, ◌∙◌, arith, inl, inr}
+use Rattle.std.proofs.Common.{◌≡◌, ℕ, Bool, true, false, cond, List, drop, length, take, Option, Some, None, refl, sym, ap, subst, ◌∙◌, arith, inl, inr}
 use Rattle.std.specs.Prelude.{◌==◌, ◌%◌, slice_index, unwrap_or, if◌then◌else◌}
 use Rattle.std.specs.Int.{bit_at}
 use Rattle.std.proofs.lemmas.List.{get_or-take, get_or-drop, length-take, length-drop, take-append-drop}
 use Rattle.air_frame.specs.declared.frame.Direction.{Direction}
 use Rattle.air_frame.specs.Control.{is_qos, data_header_length}
 use Rattle.air_frame.specs.Control as control
-use Rattle.air_frame.specs.Fields.{HeaderFields, AirFields, protected, header_at, direction_at, tid_at, protected_at}
+use Rattle.air_frame.specs.Fields.{HeaderFields, AirFields, protected, header_at, direction_at, tid_at}
 use Rattle.air_frame.specs.Spelled.{IsProtectedData, SpellsAir}
 use Rattle.ccmp_guard.specs.Ccmp.{IsHeader, traffic_identifier}
 use Rattle.domain_base.specs.Octets.{AreOctets}

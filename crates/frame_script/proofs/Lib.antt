@@ -10,3 +10,8 @@ pub mod Numbering
 pub mod Joining
 pub mod Within
 pub mod Saying
+pub mod Keeping
+pub mod Suites
+pub mod Worded
+pub mod Rounds
+pub mod Listing

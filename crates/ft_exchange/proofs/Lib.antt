@@ -2,6 +2,7 @@ pub mod Outcomes
 pub mod FramesSent
 pub mod Covers
 pub mod Written
+pub mod TargetBegins
 pub mod MicThere
 pub mod Unwrapping
 pub mod Trying

@@ -1,6 +1,6 @@
 -- What a writer of elements has put to the front of the octets that it writes over (IEEE Std 802.11-2020, 9.4.2).
 use Rattle.std.proofs.Common.{◌≡◌, ◌≤◌, ◌∙◌, ◌+◌, ℕ, List, [], ◌++◌, length, take, Some, refl, sym, ap, subst, arith}
-use Rattle.std.proofs.lemmas.List.{append_assoc, length-append}
+use Rattle.std.proofs.lemmas.List.{append_assoc, length-append, take_all}
 use Rattle.domain_base.specs.declared.names.Akm.TheVariants.{FtPsk}
 use Rattle.rsn_elements.specs.declared.writing.ElementWriter.{ElementWriter}
 use Rattle.rsn_elements.specs.Transition.{FteFields}
@@ -82,3 +82,12 @@ behind_start start rsne mde fte = append_assoc (start ++ rsne) mde fte ∙ appen
 
 pub front_is : {w : ElementWriter} {front xs ys : List ℕ} {n : ℕ} → Wrote front n w → front ≡ ys → xs ≡ take w.len w.out.now → xs ≡ ys
 front_is was is same = same ∙ (was.front ∙ is)
+
+-- one element over octets of its own size
+pub written_whole : {v w : ElementWriter} (piece : List ℕ) → v.len ≡ 0 → Appends v w piece → length v.out.now ≡ length piece → w.out.now ≡ piece
+written_whole {v} {w} piece none appends size =
+    let most : length w.out.now ≤ w.len = omega (arith, appends.size, none, appends.whole, size) in
+    sym (take_all w.len w.out.now most) ∙ (appends.front ∙ ap (λ (n : ℕ). take n v.out.now ++ piece) none)
+
+pub whole_is : (w : ElementWriter) {xs ys : List ℕ} → w.out.now ≡ ys → xs ≡ w.out.now → xs ≡ ys
+whole_is w is same = same ∙ is

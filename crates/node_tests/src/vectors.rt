@@ -3,7 +3,7 @@
 //! "password", the seed 00 to 1f. Nonces, keys, MICs and wrapped key data were computed apart from
 //! this project.
 
-use domain_base::{Akm, Mac, Node};
+use domain_base::{Mac, Node};
 use key_hierarchy::Ptk;
 
 // The nodes and their addresses.

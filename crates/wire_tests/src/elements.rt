@@ -5,8 +5,8 @@ ghost use Rattle.rsn_elements.specs.Sent.{gtk_kde_octets, pad_octets};
 
 use domain_base::{Akm, put};
 use rsn_elements::{
-    ElementFault, ElementWriter, Elements, Fte, GtkKde, Mde, Pmkids, Rsne, Suites, Within,
-    WrappedGtk, read_elements,
+    ElementFault, ElementWriter, Elements, Fte, Mde, Pmkids, Rsne, Suites, Within, WrappedGtk,
+    read_elements,
 };
 
 const RSNE: &[u8] =

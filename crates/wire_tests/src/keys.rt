@@ -5,9 +5,7 @@ ghost use Rattle.domain_base.specs.declared.names.Akm.{Akm};
 ghost use Rattle.key_hierarchy.specs.Sizes.{IsSsid, IsR0khId};
 
 use domain_base::{Akm, Mac, Octets, put};
-use key_hierarchy::{
-    Inputs, PmkR0, PmkR1, Ptk, pairwise_ptk, psk_of, ptk_from_r1, ptk_name, ptk_of,
-};
+use key_hierarchy::{Inputs, PmkR0, Ptk, pairwise_ptk, psk_of, ptk_from_r1, ptk_name, ptk_of};
 use std::alloc::Global;
 use std::process::Abort;
 use std::test::*;

@@ -4,3 +4,6 @@ use Rattle.air_frame.proofs.sending.data_header.Goals as goal
 
 pub returns-in-Some-clause-octets : goal.returns-in-Some-clause-octets
 returns-in-Some-clause-octets c = grind (arith, common_steps)
+
+pub returns-in-Some-clause-size : goal.returns-in-Some-clause-size
+returns-in-Some-clause-size c = grind (arith, common_steps)

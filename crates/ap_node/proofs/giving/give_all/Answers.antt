@@ -1,8 +1,8 @@
-use Rattle.std.proofs.Common.{◌≡◌, ◌<◌, length, sym, ◌∙◌, arith}
+use Rattle.std.proofs.Common.{◌≡◌, ◌<◌, [], length, refl, sym, ap, ◌∙◌, arith}
 use Rattle.std.specs.Prelude.{slice_index_or}
-use Rattle.std.proofs.lemmas.List.{get_or_read, length-set}
+use Rattle.std.proofs.lemmas.List.{append-nil, get_or_read, length-set, take_all}
 use Rattle.ap_node.specs.State.{station_at}
-use Rattle.ap_node.specs.Counts.{owes_part}
+use Rattle.ap_node.specs.Counts.{owes_part, owing_count}
 use Rattle.ap_node.proofs.Owed.{bit}
 use Rattle.ap_node.proofs.EachGiven.{bit_low, counted_as, count_next, given_here, given_next, behind}
 use Rattle.ap_node.proofs.giving.give_all.Goals as goal
@@ -31,3 +31,19 @@ loop-place-preserved c =
       given = λ few. given_next c.args.newest.now old xs k x c.args.out.now.acts c.loop-place.out.acts c.give.new.out.acts low (l.behind k (omega arith)) (l.given few)
           (given_here c.args.newest.now c.loop-place.station k read (station_at xs k) x c.loop-place.out.acts c.give.new.out.acts (l.number (omega (arith, few, low, l.same_length))) (sym c.index-stations-place.is ∙ was) c.give.ensures.given);
     }
+
+pub returns-clause-owing : goal.returns-clause-owing
+returns-clause-owing c = c.loop-place.invariant.counted ∙ ap (owing_count c.args.newest.now.place) (take_all c.loop-place.place c.loop-place.stations (omega (arith, c.loop-place-test.false)))
+
+pub loop-place-init : goal.loop-place-init
+loop-place-init c = record {
+  same_length = refl;
+  rooms = omega (arith, c.requires.rooms);
+  in_range = omega arith;
+  few = omega arith;
+  counted = refl;
+  spare = omega arith;
+  number = λ few. refl;
+  behind = λ k low. refl;
+  given = λ few. ([], sym (append-nil _), refl);
+}

@@ -1,6 +1,7 @@
-use Rattle.std.proofs.Common.{◌≡◌, ◌≢◌, ◌∙◌, List, ℕ, Option, Some, None, Result, Ok, Err, refl, sym, ap, subst}
+use Rattle.std.proofs.Common.{◌≡◌, ◌≢◌, ◌<◌, ◌∙◌, List, length, ℕ, Option, Some, None, Result, Ok, Err, refl, sym, ap, subst, arith}
 use Rattle.std.proofs.lemmas.List.{length-set, get_or-set_other}
-use Rattle.std.specs.Prelude.{IfOk}
+use Rattle.std.specs.Prelude.{IfOk, slice_set}
+use Rattle.ap_node.specs.State.{station_at, key_in}
 use Rattle.domain_base.specs.declared.names.Node.{Node}
 use Rattle.domain_base.specs.declared.names.Node.TheVariants.{Sta}
 use Rattle.ccmp_guard.specs.Held.{Held}
@@ -13,8 +14,9 @@ use Rattle.frame_intake.specs.Views.{sealed_fields}
 use Rattle.node_base.specs.Events.{seen}
 use Rattle.data_frames.specs.Taking.{IsOpenedUnder, HandsUp, Refuses}
 use Rattle.ap_node.specs.Keys.{IsTakenUnder}
-use Rattle.ap_node.proofs.InUse.{the_station, same_station}
-use Rattle.ap_node.proofs.Places.{put_back, same_back, err_back, err_at}
+use Rattle.ap_node.proofs.InUse.{the_station, same_station, part_as, none_as}
+use Rattle.ap_node.proofs.Places.{read_there, put_there, nothing_there, put_back, same_back, err_back, err_at}
+use Rattle.std.proofs.lemmas.Bool.{false≢true}
 use Rattle.ap_node.proofs.protected.take_data.Goals as goal
 
 -- what is refused leaves the key in use
@@ -88,3 +90,39 @@ returns-in_default-clause-refused c = ok_at c.refuse.result _ (λ o why is. refl
 
 pub returns-in-None-clause-refused : goal.returns-in-None-clause-refused
 returns-in-None-clause-refused c = ok_at c.refuse-in-None.result _ (λ o why is. same_back c.args.stations.now.items c.from.result c.in-Some.place.now c.in-Some.ensures.value)
+
+pub returns-in-None-clause-part : goal.returns-in-None-clause-part
+returns-in-None-clause-part c =
+    let items = c.args.stations.now.items in
+    let lt : c.from.result < length items = omega (arith, c.in-Some.ensures.variant.0 refl, c.args.stations.now.ok.0) in
+    none_as _ _ (put_there items c.from.result c.args.station c.in-Some.place.now c.from.ensures lt ∙ c.in-None.is) (read_there items c.from.result c.args.station c.in-Some.place.now None c.from.ensures lt c.in-Some.ensures.value c.in-None.is)
+
+pub returns-in-Some-place-clause-part : goal.returns-in-Some-place-clause-part
+returns-in-Some-place-clause-part c =
+    let items = c.args.stations.now.items in
+    let x = c.in-Some-place.field-0 in
+    let y = the_station x.part c.take_under.new.key in
+    let lt : c.from.result < length items = omega (arith, c.in-Some.ensures.variant.0 refl, c.args.stations.now.ok.0) in
+    part_as _ _ x y (put_there items c.from.result c.args.station (Some y) c.from.ensures lt) (read_there items c.from.result c.args.station c.in-Some.place.now (Some x) c.from.ensures lt c.in-Some.ensures.value c.in-Some-place.is) refl
+
+pub returns-in_default-clause-part : goal.returns-in_default-clause-part
+returns-in_default-clause-part c =
+    let none = nothing_there c.args.stations.now.items c.args.station (λ low. false≢true (c.in_default.ensures.variant.1 (omega (arith, low, c.from.ensures, c.args.stations.now.ok.0)))) in
+    none_as _ _ none none
+
+pub returns-in-Some-place-clause-taken : goal.returns-in-Some-place-clause-taken
+returns-in-Some-place-clause-taken c =
+    let items = c.args.stations.now.items in
+    let x = c.in-Some-place.field-0 in
+    let key = c.take_under.new.key in
+    let y = the_station x.part key in
+    let p = Sta c.args.station in
+    let octets = c.args.octets.now in
+    let f = sealed_fields c.args.frame.now in
+    let waited = c.args.out.now.acts in
+    let waits = c.take_under.new.out.acts in
+    let lt : c.from.result < length items = omega (arith, c.in-Some.ensures.variant.0 refl, c.args.stations.now.ok.0) in
+    let was = ap key_in (read_there items c.from.result c.args.station c.in-Some.place.now (Some x) c.from.ensures lt c.in-Some.ensures.value c.in-Some-place.is) in
+    let now = ap key_in (put_there items c.from.result c.args.station (Some y) c.from.ensures lt) in
+    subst (λ (k : Option Held). IfOk c.take_under.result (λ outcome. IsTakenUnder p octets f k (key_in (station_at (slice_set items c.from.result (Some y)) c.args.station)) (seen waited waits outcome))) (sym was)
+    (subst (λ (k : Option Held). IfOk c.take_under.result (λ outcome. IsTakenUnder p octets f x.key k (seen waited waits outcome))) (sym now) c.take_under.ensures.taken)

@@ -1,8 +1,8 @@
-use Rattle.std.proofs.Common.{◌≡◌, ◌≢◌, ℕ, Some, None, refl, sym, subst, rules}
-use Rattle.std.specs.Prelude.{slice_set}
+use Rattle.std.proofs.Common.{◌≡◌, ◌≢◌, ◌<◌, ◌∙◌, ℕ, Some, None, refl, sym, subst, arith, rules}
+use Rattle.std.specs.Prelude.{length, slice_set}
 use Rattle.std.proofs.lemmas.List.{length-set, get_or-set_other}
 use Rattle.ap_node.specs.State.{station_at}
-use Rattle.ap_node.proofs.Places.{put_back, same_back, err_back, err_at}
+use Rattle.ap_node.proofs.Places.{read_there, put_there, put_back, same_back, err_back, err_at}
 use Rattle.ap_node.proofs.Retried.{idles_at, resent_at}
 use Rattle.ap_node.proofs.stations.retry.Goals as goal
 
@@ -13,14 +13,16 @@ returns-in_default-clause-resent c =
 
 pub returns-in-None-clause-resent : goal.returns-in-None-clause-resent
 returns-in-None-clause-resent c =
-    let was : station_at c.args.stations.now.items c.args.station ≡ None = search rules in
-    let now : station_at (slice_set c.args.stations.now.items c.from.result c.in-Some.place.now) c.args.station ≡ None = search rules in
+    let lt : c.from.result < length c.args.stations.now.items = omega (arith, c.in-Some.ensures.variant.0 refl, c.args.stations.now.ok.0) in
+    let was : station_at c.args.stations.now.items c.args.station ≡ None = read_there c.args.stations.now.items c.from.result c.args.station c.in-Some.place.now None c.from.ensures lt c.in-Some.ensures.value c.in-None.is in
+    let now : station_at (slice_set c.args.stations.now.items c.from.result c.in-Some.place.now) c.args.station ≡ None = put_there c.args.stations.now.items c.from.result c.args.station c.in-Some.place.now c.from.ensures lt ∙ c.in-None.is in
     idles_at c.idle-in-None.result c.args.station c.args.newest.now _ _ c.args.out.now.acts c.idle-in-None.new.out.acts was now c.idle-in-None.ensures.outcome c.idle-in-None.ensures.acts
 
 pub returns-in-Some-place-clause-resent : goal.returns-in-Some-place-clause-resent
 returns-in-Some-place-clause-resent c =
-    let was : station_at c.args.stations.now.items c.args.station ≡ Some c.in-Some-place.place = search rules in
-    let now : station_at (slice_set c.args.stations.now.items c.from.result (Some c.send_again.new.place)) c.args.station ≡ Some c.send_again.new.place = search rules in
+    let lt : c.from.result < length c.args.stations.now.items = omega (arith, c.in-Some.ensures.variant.0 refl, c.args.stations.now.ok.0) in
+    let was : station_at c.args.stations.now.items c.args.station ≡ Some c.in-Some-place.place = read_there c.args.stations.now.items c.from.result c.args.station c.in-Some.place.now (Some c.in-Some-place.place) c.from.ensures lt c.in-Some.ensures.value c.in-Some-place.is in
+    let now : station_at (slice_set c.args.stations.now.items c.from.result (Some c.send_again.new.place)) c.args.station ≡ Some c.send_again.new.place = put_there c.args.stations.now.items c.from.result c.args.station (Some c.send_again.new.place) c.from.ensures lt in
     resent_at c.send_again.result c.args.station c.args.newest.now _ _ c.in-Some-place.place c.send_again.new.place c.args.out.now.acts c.send_again.new.out.acts was now c.send_again.ensures.resent
 
 pub returns-in_default-clause-length : goal.returns-in_default-clause-length

@@ -1,5 +1,5 @@
-use Rattle.std.proofs.Common.{◌≡◌, ◌≢◌, ℕ, false, Some, None, refl, sym, subst, rules}
-use Rattle.std.specs.Prelude.{slice_set}
+use Rattle.std.proofs.Common.{◌≡◌, ◌≢◌, ◌<◌, ◌∙◌, ℕ, false, Some, None, refl, sym, subst, arith}
+use Rattle.std.specs.Prelude.{length, slice_set}
 use Rattle.std.proofs.lemmas.List.{length-set, get_or-set_other}
 use Rattle.domain_rules.specs.Replies.{replied_acts, taken_as}
 use Rattle.node_base.specs.Pairs.{pair_at}
@@ -8,7 +8,8 @@ use Rattle.authenticator.specs.Judged.{frame_of}
 use Rattle.authenticator.specs.Taken.{given}
 use Rattle.ap_node.specs.State.{station_at}
 use Rattle.ap_node.proofs.Messaging.{unhanded_at, handed_at}
-use Rattle.ap_node.proofs.Places.{put_back, same_back}
+use Rattle.ap_node.proofs.Places.{read_there, put_there, nothing_there, put_back, same_back}
+use Rattle.std.proofs.lemmas.Bool.{false≢true}
 use Rattle.ap_node.proofs.stations.take_message.Goals as goal
 
 pub returns-in_default-clause-handed : goal.returns-in_default-clause-handed
@@ -16,7 +17,7 @@ returns-in_default-clause-handed c d id n p octets k room_is =
     let w = pair_at d id n p in
     let t = taken_as octets k c.unawaited.result in
     let b = between_of c.args.ready.between in
-    let none : station_at c.args.stations.now.items c.args.station ≡ None = search rules in
+    let none : station_at c.args.stations.now.items c.args.station ≡ None = nothing_there c.args.stations.now.items c.args.station (λ low. false≢true (c.in_default.ensures.variant.1 (omega (arith, low, c.from.ensures, c.args.stations.now.ok.0)))) in
     let x = c.unawaited.ensures.acts d id n p octets k room_is in (
       replied_acts w false t x.0 b,
       x.2,
@@ -30,8 +31,9 @@ returns-in-None-clause-handed c d id n p octets k room_is =
     let t = taken_as octets k c.unawaited-in-None.result in
     let b = between_of c.args.ready.between in
     let items = c.args.stations.now.items in
-    let was : station_at c.args.stations.now.items c.args.station ≡ None = search rules in
-    let now : station_at (slice_set c.args.stations.now.items c.from.result c.in-Some.place.now) c.args.station ≡ None = search rules in
+    let lt : c.from.result < length c.args.stations.now.items = omega (arith, c.in-Some.ensures.variant.0 refl, c.args.stations.now.ok.0) in
+    let was : station_at c.args.stations.now.items c.args.station ≡ None = read_there c.args.stations.now.items c.from.result c.args.station c.in-Some.place.now None c.from.ensures lt c.in-Some.ensures.value c.in-None.is in
+    let now : station_at (slice_set c.args.stations.now.items c.from.result c.in-Some.place.now) c.args.station ≡ None = put_there c.args.stations.now.items c.from.result c.args.station c.in-Some.place.now c.from.ensures lt ∙ c.in-None.is in
     let x = c.unawaited-in-None.ensures.acts d id n p octets k room_is in (
       replied_acts w false t x.0 b,
       x.2,
@@ -45,8 +47,9 @@ returns-in-Some-place-clause-handed c d id n p octets k room_is =
     let t = taken_as octets k c.hand.result in
     let b = between_of c.args.ready.between in
     let items = c.args.stations.now.items in
-    let was : station_at c.args.stations.now.items c.args.station ≡ Some c.in-Some-place.place = search rules in
-    let now : station_at (slice_set c.args.stations.now.items c.from.result (Some c.hand.new.place)) c.args.station ≡ Some c.hand.new.place = search rules in
+    let lt : c.from.result < length c.args.stations.now.items = omega (arith, c.in-Some.ensures.variant.0 refl, c.args.stations.now.ok.0) in
+    let was : station_at c.args.stations.now.items c.args.station ≡ Some c.in-Some-place.place = read_there c.args.stations.now.items c.from.result c.args.station c.in-Some.place.now (Some c.in-Some-place.place) c.from.ensures lt c.in-Some.ensures.value c.in-Some-place.is in
+    let now : station_at (slice_set c.args.stations.now.items c.from.result (Some c.hand.new.place)) c.args.station ≡ Some c.hand.new.place = put_there c.args.stations.now.items c.from.result c.args.station (Some c.hand.new.place) c.from.ensures lt in
     let x = c.hand.ensures.handed d id n p octets k room_is in (
       x.0,
       x.1,

@@ -1,6 +1,6 @@
-use Rattle.std.proofs.Common.{◌≡◌, ℕ, Option, None, position, sym, ap, ◌∙◌, List}
+use Rattle.std.proofs.Common.{◌≡◌, ℕ, Option, position, sym, ap, ◌∙◌, List}
 use Rattle.domain_base.proofs.Plans.{parts_for-found, parts_for-none, parts_for-taken, parts_for-others, parts_for-same}
-use Rattle.domain_base.specs.Memory.{PlannedLink, PlannedParts, is_plan_of}
+use Rattle.domain_base.specs.Memory.{PlannedLink, is_plan_of}
 use Rattle.domain_base.specs.declared.names.Node.{Node}
 use Rattle.domain_base.proofs.memory_faults.take_parts.Goals as goal
 

@@ -1,5 +1,8 @@
-use Rattle.std.proofs.Common.{rules}
+use Rattle.std.proofs.Common.{refl}
 use Rattle.domain_cli.proofs.program.unread.Goals as goal
 
-pub returns-in_default : goal.returns-in_default
-returns-in_default c = search rules
+pub returns-in_default-clause-usage : goal.returns-in_default-clause-usage
+returns-in_default-clause-usage c is = absurd (c.in_default.not-InvalidData is)
+
+pub returns-in_default-clause-memory : goal.returns-in_default-clause-memory
+returns-in_default-clause-memory c other = refl

@@ -19,3 +19,12 @@ returns-clause-link_told g c changed =
 
 pub returns-clause-draw_told : goal.returns-clause-draw_told
 returns-clause-draw_told g c changed = draws_told g.A.L.Link.faults _ _ _ _ _ _ _ c.read_script-found.ensures.blamed changed
+
+pub returns-clause-fault : goal.returns-clause-fault
+returns-clause-fault g c = c.read_script-found.ensures.fault
+
+pub returns-clause-fault_told : goal.returns-clause-fault_told
+returns-clause-fault_told g c = c.read_script-found.ensures.fault_told
+
+pub returns-clause-draw_fault : goal.returns-clause-draw_fault
+returns-clause-draw_fault g c = c.read_script-found.ensures.blamed.undrawn

@@ -34,3 +34,9 @@ pub returns-clause-told : goal.returns-clause-told
 returns-clause-told g c =
     let told = c.read_through.ensures.told in
     (told.0, told.1, told.2, told.3, closes_in g.A.L.Link.told _ _ _ c.args.mode c.read_through.result told.0 told.1 _ c.in-Ok.ensures.mode told.4)
+
+pub returns-clause-fault : goal.returns-clause-fault
+returns-clause-fault g c = c.read_through.ensures.fault
+
+pub returns-clause-fault_told : goal.returns-clause-fault_told
+returns-clause-fault_told g c = c.read_through.ensures.fault_told

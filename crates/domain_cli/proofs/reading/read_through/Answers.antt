@@ -3,6 +3,7 @@ use Rattle.std.proofs.lemmas.Bool.{false≢true}
 use Rattle.std.proofs.lemmas.List.{length-append}
 use Rattle.domain_cli.proofs.Blamed.{blame_more, unblamed}
 use Rattle.domain_cli.proofs.Closing.{closes_in, closes_cut, closes_stopped}
+use Rattle.domain_cli.proofs.Ended.{stopped_read}
 use Rattle.domain_cli.proofs.Lines.{Consumes-nil, Consumes-then, Consumes-none, Consumes-kept, length-read}
 use Rattle.domain_cli.proofs.reading.read_through.Goals as goal
 
@@ -86,3 +87,17 @@ reads-preserved g c =
       reached = (so_far.0 ++ piece, Consumes-then _ _ _ so_far.0 piece so_far.1 c.in-Ok.ensures.bytes.0, c.in_default-feed.ensures.reached _ so_far.0 so_far.2, omega (arith, so_far.3, length-append so_far.0 piece, c.in-Ok.ensures.bound.1));
       blamed = blame_more g.A.L.Link.faults _ _ _ _ _ _ _ _ _ _ c.reads.invariant.blamed c.in_default-feed.ensures.blamed;
     }
+
+-- the cause of a fault of the source
+
+pub returns-then-count-eq0-clause-fault : goal.returns-then-count-eq0-clause-fault
+returns-then-count-eq0-clause-fault g c is = absurd (c.finish.ensures.not_read is)
+
+pub returns-then-count-eq0-clause-fault_told : goal.returns-then-count-eq0-clause-fault_told
+returns-then-count-eq0-clause-fault_told g c differs = absurd (differs (c.in-Ok.ensures.unfailed ∙ c.reads.invariant.same))
+
+pub returns-in-Err-clause-fault : goal.returns-in-Err-clause-fault
+returns-in-Err-clause-fault g c is = absurd (stopped_read c.in-Err.stop is)
+
+pub returns-in-Err-clause-fault_told : goal.returns-in-Err-clause-fault_told
+returns-in-Err-clause-fault_told g c differs = absurd (differs (c.in-Ok.ensures.unfailed ∙ c.reads.invariant.same))

@@ -13,3 +13,9 @@ pub returns-clause-told : goal.returns-clause-told
 returns-clause-told g c =
     let told = c.read_script.ensures.told in
     (told.0, told.1, told.4.draft, told.4.rounds, told.2, told.3, told.4.tells)
+
+pub returns-clause-fault : goal.returns-clause-fault
+returns-clause-fault g c = c.read_script.ensures.fault
+
+pub returns-clause-fault_told : goal.returns-clause-fault_told
+returns-clause-fault_told g c = c.read_script.ensures.fault_told

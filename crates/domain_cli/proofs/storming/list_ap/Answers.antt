@@ -1,5 +1,5 @@
-use Rattle.std.proofs.Common.{rules, ◌≡◌}
-use Rattle.domain_cli.proofs.Nodes.{ap_form, ap_here, ap_listed}
+use Rattle.std.proofs.Common.{rules, ◌≡◌, refl}
+use Rattle.domain_cli.proofs.Nodes.{ap_form, ap_here, ap_listed, ap_room, front_ap}
 use Rattle.domain_cli.proofs.storming.list_ap.Goals as goal
 
 pub add_ap-requires-clause-form : goal.add_ap-requires-clause-form
@@ -16,3 +16,12 @@ returns-in-Ok-add_ap-clause-listing c =
     let same : c.in-Ok.r0kh_id.items ≡ a.r0kh_id = search rules in
     ap_listed c.args.storm.now.number c.args.place c.args.world.now c.add_ap.new.self c.args.journal.now.entries c.add_ap.new.journal.entries a _ c.requires.listing here same
     c.in-Ok-add_ap.ensures.domain c.add_ap.ensures.rounds c.add_ap.ensures.own c.in-Ok-add_ap.ensures.started
+
+pub ap_at-ap-requires : goal.ap_at-ap-requires
+ap_at-ap-requires c = ap_room c.args.storm.now.number c.args.place c.args.domain.now c.requires.network c.requires.few
+
+pub returns-in_default-clause-front : goal.returns-in_default-clause-front
+returns-in_default-clause-front c = front_ap c.args.storm.now.number c.args.place c.args.world.now c.args.journal.now.entries c.args.journal.now.entries c.requires.listing c.requires.few refl
+
+pub returns-in-Err-clause-front : goal.returns-in-Err-clause-front
+returns-in-Err-clause-front c = front_ap c.args.storm.now.number c.args.place c.args.world.now c.args.journal.now.entries c.add_ap.new.journal.entries c.requires.listing c.requires.few c.in-Err.ensures.kept

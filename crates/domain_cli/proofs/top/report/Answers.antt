@@ -35,3 +35,21 @@ returns-in-Ok-clause-link_told g c blamed unfailed = c.status.ensures ∙ blamed
 
 pub returns-in-Ok-clause-draw_told : goal.returns-in-Ok-clause-draw_told
 returns-in-Ok-clause-draw_told g c blamed unfailed = c.status.ensures ∙ blamed_draw c.args.found blamed
+
+pub returns-in-Ok-clause-write_told : goal.returns-in-Ok-clause-write_told
+returns-in-Ok-clause-write_told g c differs = absurd (differs c.in-Ok.ensures.unfailed)
+
+pub returns-in-Err-clause-reports : goal.returns-in-Err-clause-reports
+returns-in-Err-clause-reports g c = c.in-Err.ensures.written
+
+pub returns-in-Err-clause-write_fault : goal.returns-in-Err-clause-write_fault
+returns-in-Err-clause-write_fault g c is = c.in-Err.ensures.cause.failed
+
+pub returns-in-Err-clause-read_told : goal.returns-in-Err-clause-read_told
+returns-in-Err-clause-read_told g c is unfailed = absurd (unfailed c.in-Err.ensures.cause.failed)
+
+pub returns-in-Err-clause-link_told : goal.returns-in-Err-clause-link_told
+returns-in-Err-clause-link_told g c blamed unfailed = absurd (unfailed c.in-Err.ensures.cause.failed)
+
+pub returns-in-Err-clause-draw_told : goal.returns-in-Err-clause-draw_told
+returns-in-Err-clause-draw_told g c blamed unfailed = absurd (unfailed c.in-Err.ensures.cause.failed)

@@ -1,4 +1,4 @@
-use Rattle.std.proofs.Common.{◌≡◌, ◌≢◌, ℕ, List, [], ◌++◌, drop, refl, ap, subst, ◌∙◌, arith}
+use Rattle.std.proofs.Common.{◌≡◌, ◌≢◌, ℕ, List, [], ◌++◌, drop, length, refl, ap, subst, ◌∙◌, arith}
 use Rattle.std.specs.Prelude.{reverse}
 use Rattle.run_journal.specs.declared.domain.Domain.{Domain}
 use Rattle.domain_links.specs.NodeOrder.{node_at}
@@ -69,3 +69,9 @@ returns-clause-laid g c = record {
   failed = λ e. c.in-Err.ensures.cause e;
   kept = λ h. sends_kept g.L.Link.faults _ _ c.in-Err.error c.in-Err.ensures.kept h;
 }
+
+pub send_entries-requires-clause-aps : goal.send_entries-requires-clause-aps
+send_entries-requires-clause-aps g c = omega (arith, c.event.ensures.own.form.few_aps, ap (λ (d : Domain). length d.aps) c.domain-2.ensures)
+
+pub send_entries-requires-clause-stas : goal.send_entries-requires-clause-stas
+send_entries-requires-clause-stas g c = omega (arith, c.event.ensures.own.form.few_stas, ap (λ (d : Domain). length d.stas) c.domain-2.ensures)

@@ -1,4 +1,6 @@
-use Rattle.std.proofs.Common.{◌≡◌, ◌∙◌, ◌++◌, [], ◌∷◌, List, length, sym, subst, rules, arith}
+use Rattle.std.proofs.Common.{◌≡◌, ◌≤◌, ◌∙◌, ◌+◌, ◌++◌, [], ◌∷◌, List, length, length-append, refl, sym, ap, subst, rules, arith}
+use Rattle.std.proofs.lemmas.List.{nil_from_length}
+use Rattle.domain_world.proofs.Workers.{same_history}
 use Rattle.holder_table.specs.Knowledge.{Gave}
 use Rattle.ap_node.specs.State.{State as ApState}
 use Rattle.domain_world.specs.Holding.{HasBelow}
@@ -8,8 +10,8 @@ use Rattle.domain_world.proofs.working.+fn-run-join+arg3+run.Goals as goal
 
 pub returns-in_default-clause-worked : goal.returns-in_default-clause-worked
 returns-in_default-clause-worked g t c =
-    let none : length c.args.aps.items ≡ 0 = search rules in
-    let back : length c.pop.new.self.items ≡ 0 = search rules in
+    let none : length c.args.aps.items ≡ 0 = omega (arith, c.in_default.ensures.cases.0, c.args.aps.ok.0) in
+    let back : length c.pop.new.self.items ≡ 0 = omega (arith, c.in_default.ensures.cases.1, c.pop.new.self.ok.0) in
     none_ran (g.W.Acts.domain c.args.round.now) (g.W.Acts.turns c.args.round.now) c.args.pass.knows.seen c.args.aps.items c.pop.new.self.items c.new.result.items none back c.new.ensures.items
 
 pub run-ran-requires-clause-numbered : goal.run-ran-requires-clause-numbered
@@ -37,7 +39,7 @@ returns-then-not-has_turn-clause-worked g t c =
     let split : c.args.aps.items ≡ before ++ node ∷ [] = c.in-Some.ensures.items in
     let numbers : AreNumbered (before ++ node ∷ []) = subst AreNumbered split c.requires.numbered in
     let has : HasBelow (length (before ++ node ∷ [])) c.args.pass.knows.has = subst (λ (l : List ApState). HasBelow (length l) c.args.pass.knows.has) split c.requires.has in
-    let count : c.len.result ≡ length before = search rules in
+    let count : c.len.result ≡ length before = omega (arith, c.len.ensures, c.pop.new.self.ok.0) in
     let back = c.run-ran.result.aps.items in
     let p = c.args.pass in
     let q = c.run-ran.result.pass in
@@ -59,7 +61,7 @@ pub gathered-requires-clause-room : goal.gathered-requires-clause-room
 gathered-requires-clause-room g t c =
     let count = c.join-worked.ensures.second.0.count in
     let room = c.join-worked.ensures.second.1.0 in
-    search (count, room, rules)
+    omega (arith, count, room, c.pop.ensures.capacity, c.in-Some.ensures.cases, c.pop.new.self.ok.0, c.args.aps.ok.1, c.join-worked.result.1.aps.ok.0)
 
 pub returns-clause-capacity : goal.returns-clause-capacity
 returns-clause-capacity g t c =
@@ -73,7 +75,7 @@ returns-clause-back g t c =
     let split : c.args.aps.items ≡ before ++ node ∷ [] = c.in-Some.ensures.items in
     let numbers : AreNumbered (before ++ node ∷ []) = subst AreNumbered split c.requires.numbered in
     let has : HasBelow (length (before ++ node ∷ [])) c.args.pass.knows.has = subst (λ (l : List ApState). HasBelow (length l) c.args.pass.knows.has) split c.requires.has in
-    let count : c.len.result ≡ length before = search rules in
+    let count : c.len.result ≡ length before = omega (arith, c.len.ensures, c.pop.new.self.ok.0) in
     let one = c.join-worked.ensures.first in
     let others = c.join-worked.ensures.second in
     let own = c.join-worked.result.0 in
@@ -92,7 +94,7 @@ returns-clause-worked g t c =
     let split : c.args.aps.items ≡ before ++ node ∷ [] = c.in-Some.ensures.items in
     let numbers : AreNumbered (before ++ node ∷ []) = subst AreNumbered split c.requires.numbered in
     let has : HasBelow (length (before ++ node ∷ [])) c.args.pass.knows.has = subst (λ (l : List ApState). HasBelow (length l) c.args.pass.knows.has) split c.requires.has in
-    let count : c.len.result ≡ length before = search rules in
+    let count : c.len.result ≡ length before = omega (arith, c.len.ensures, c.pop.new.self.ok.0) in
     let one = c.join-worked.ensures.first in
     let others = c.join-worked.ensures.second in
     let own = c.join-worked.result.0 in
@@ -121,7 +123,7 @@ join-worked-requires-after_bounds g t c =
     let split : c.args.aps.items ≡ before ++ node ∷ [] = c.in-Some.ensures.items in
     let numbers : AreNumbered (before ++ node ∷ []) = subst AreNumbered split c.requires.numbered in
     let has : HasBelow (length (before ++ node ∷ [])) c.args.pass.knows.has = subst (λ (l : List ApState). HasBelow (length l) c.args.pass.knows.has) split c.requires.has in
-    let count : c.len.result ≡ length before = search rules in
+    let count : c.len.result ≡ length before = omega (arith, c.len.ensures, c.pop.new.self.ok.0) in
     let left = c.split-given.new.pass in
     let given = c.split-given.result.knows in
     let gave : Gave (length before) c.args.pass.knows left.knows given = subst (λ n. Gave n c.args.pass.knows left.knows given) count c.split-given.ensures.gave in
@@ -129,4 +131,37 @@ join-worked-requires-after_bounds g t c =
     let number : node.number ≡ c.len.result = last_number before node numbers ∙ sym count in
     let still : HasBelow (length before) left.knows.has = still_below (length before) c.args.pass.knows left.knows given gave (below_more before node c.args.pass.knows.has has) in
     let here = given_in c.len.result c.args.pass.knows left.knows given c.split-given.ensures.gave in
-    search (less, number, still, here, rules)
+    let one : length c.args.aps.items ≡ length before + 1 = ap (λ (l : List ApState). length l) split ∙ length-append before (node ∷ []) in
+    let given_table = c.split-given.ensures.pass.1 ∙ c.requires.pass in
+    let left_table = c.split-given.ensures.pass.0 ∙ c.requires.pass in
+    let few : length before ≤ length (g.W.Acts.domain c.args.round.now).aps = omega (arith, c.requires.few, one) in
+    λ κs bounds. (
+      (search rules, search rules, c.requires.round, number, omega (arith, c.requires.few, one, count), given_table, here),
+      search (less, still, left_table, few, rules),
+    )
+
+pub returns-in_default-clause-back : goal.returns-in_default-clause-back
+returns-in_default-clause-back g t c =
+    let none : length c.args.aps.items ≡ 0 = omega (arith, c.in_default.ensures.cases.0, c.args.aps.ok.0) in
+    let back : length c.pop.new.self.items ≡ 0 = omega (arith, c.in_default.ensures.cases.1, c.pop.new.self.ok.0) in
+    record {
+      table = refl;
+      seen = same_history c.args.pass.knows.seen;
+      has = λ r has. has;
+      others = λ r low has. refl;
+      numbered = subst AreNumbered (nil_from_length c.args.aps.items none ∙ sym (nil_from_length c.pop.new.self.items back)) c.requires.numbered;
+      count = back ∙ sym none;
+    }
+
+pub run-ran-requires-clause-has : goal.run-ran-requires-clause-has
+run-ran-requires-clause-has g t c =
+    let before = c.pop.new.self.items in
+    let node = c.in-Some.node in
+    let has : HasBelow (length (before ++ node ∷ [])) c.args.pass.knows.has = subst (λ (l : List ApState). HasBelow (length l) c.args.pass.knows.has) c.in-Some.ensures.items c.requires.has in
+    λ κs bounds. λ r low. below_more before node c.args.pass.knows.has has r (omega (arith, low))
+
+pub run-ran-requires-clause-few : goal.run-ran-requires-clause-few
+run-ran-requires-clause-few g t c =
+    let before = c.pop.new.self.items in
+    let one : length c.args.aps.items ≡ length before + 1 = ap (λ (l : List ApState). length l) c.in-Some.ensures.items ∙ length-append before (c.in-Some.node ∷ []) in
+    λ κs bounds. omega (arith, c.requires.few, one)

@@ -1,3 +1,4 @@
+use Rattle.std.proofs.Common.{arith}
 use Rattle.std.proofs.Common.{◌≡◌, ◌∙◌, ℕ, List, [], ◌∷◌, Some, ap}
 use Rattle.domain_base.specs.declared.names.Akm.{Akm}
 use Rattle.domain_base.specs.declared.names.Node.{Node}
@@ -13,6 +14,7 @@ use Rattle.run_journal.specs.declared.acts.Act.{Act}
 use Rattle.run_journal.specs.declared.acts.Act.TheVariants.{Sent}
 use Rattle.run_journal.specs.Acts.{Derivation}
 use Rattle.domain_rules.specs.Frames.{in_data, frame_seal, sent_sealed, sent_m2_key_data, sent_m2}
+use Rattle.std.proofs.lemmas.Grind.{common_steps}
 use Rattle.frame_making.proofs.writing.write_m2.Goals as goal
 
 abbrev with_data : Domain → Node → Node → Derivation → ℕ → List ℕ → Act
@@ -27,3 +29,6 @@ pub returns-clause-writes : goal.returns-clause-writes
 returns-clause-writes c d n p x fte ends derived drawn says =
     c.write_frame.ensures.writes d n p ends
     ∙ ap (λ (a : Act). a ∷ []) (is_m2 d n p x c.args.counter fte c.args.ends.now.akm c.args.key.now.ptk c.args.key.now.snonce c.args.key_data.now _ _ ends.akm derived drawn says c.split_at.ensures.front c.put_m2-size.ensures.frame)
+
+pub returns-clause-fits : goal.returns-clause-fits
+returns-clause-fits c = grind (arith, common_steps)

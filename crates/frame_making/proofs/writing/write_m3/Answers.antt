@@ -1,3 +1,4 @@
+use Rattle.std.proofs.Common.{arith}
 use Rattle.std.proofs.Common.{◌≡◌, ◌∙◌, ℕ, List, [], ◌∷◌, Some, ap}
 use Rattle.domain_base.specs.declared.names.Akm.{Akm}
 use Rattle.domain_base.specs.declared.names.Node.{Node}
@@ -14,6 +15,7 @@ use Rattle.run_journal.specs.declared.acts.Act.{Act}
 use Rattle.run_journal.specs.declared.acts.Act.TheVariants.{Sent}
 use Rattle.run_journal.specs.Acts.{Derivation, GroupKey}
 use Rattle.domain_rules.specs.Frames.{in_data, frame_seal, wrapped, sent_sealed, m3_key_data, sent_m3}
+use Rattle.std.proofs.lemmas.Grind.{common_steps}
 use Rattle.frame_making.proofs.writing.write_m3.Goals as goal
 
 abbrev with_data : Domain → Node → Node → Derivation → ℕ → ℕ → List ℕ → Act
@@ -28,3 +30,6 @@ pub returns-clause-writes : goal.returns-clause-writes
 returns-clause-writes c d n p x g ends derived drawn says =
     c.write_frame.ensures.writes d n p ends
     ∙ ap (λ (a : Act). a ∷ []) (is_m3 d n p x g c.args.counter c.args.rsc c.args.ends.now.akm c.args.key.now.ptk c.args.key.now.anonce (padded c.args.plain.now) _ _ ends.akm derived drawn says c.split_at.ensures.front c.put_m3-size.ensures.frame)
+
+pub returns-clause-fits : goal.returns-clause-fits
+returns-clause-fits c = grind (arith, common_steps)

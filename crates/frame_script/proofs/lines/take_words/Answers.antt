@@ -18,3 +18,6 @@ returns-in-Mdid-clause-takes c = rw c.in-Mdid.is (header _ _ c.args.rounds c.arg
 
 pub returns-in-Round-clause-takes : goal.returns-in-Round-clause-takes
 returns-in-Round-clause-takes c = rw c.in-Round.is (c.take_inner.ensures.takes c.args.rounds)
+
+pub returns-in-Nodes-clause-takes : goal.returns-in-Nodes-clause-takes
+returns-in-Nodes-clause-takes c = rw c.in-Nodes.is c.take_body.ensures.takes

@@ -1,7 +1,18 @@
 use Rattle.std.proofs.Common.{sym, ◌∙◌}
 use Rattle.frame_script.proofs.Freed.{can-list_ap}
+use Rattle.frame_script.proofs.Listing.{split_found, ap_said, ap_unfit}
 use Rattle.frame_script.proofs.nodes.ap_line.Goals as goal
 
 pub returns-clause-can : goal.returns-clause-can
 returns-clause-can c =
     can-list_ap c.args.domain.now _ _ c.in_ok-address.ensures.single (sym c.is_text.ensures ∙ c.if-not-is_text.false) c.in_ok-new_ap.ensures.room c.in_ok-new_ap.ensures.free c.in_ok-new_ap.ensures.other
+
+pub returns-clause-says : goal.returns-clause-says
+returns-clause-says c =
+    let split = split_found _ _ c.split_word.result c.ok_or.result (c.in_ok-word.word, c.in_ok-word.r0kh_id) c.ok_or.ensures.ok_part c.in_ok-word.was c.split_word.ensures in
+    ap_said c.args.domain.now c.args.text.now _ _ _ split c.in_ok-address.ensures.says (sym c.is_text.ensures ∙ c.if-not-is_text.false) c.in_ok-new_ap.ensures.says
+
+pub returns-then-not-is_text-clause-says : goal.returns-then-not-is_text-clause-says
+returns-then-not-is_text-clause-says c =
+    let split = split_found _ _ c.split_word.result c.ok_or.result (c.in_ok-word.word, c.in_ok-word.r0kh_id) c.ok_or.ensures.ok_part c.in_ok-word.was c.split_word.ensures in
+    ap_unfit c.args.domain.now c.args.text.now _ _ _ split c.in_ok-address.ensures.says (sym c.is_text.ensures ∙ c.if-not-is_text.true)

@@ -1,4 +1,4 @@
-use Rattle.std.proofs.Common.{◌≡◌, ◌≤◌, length, subst, ◌+◌, List, [], ◌∷◌, ◌++◌, Option, Some, sym, ap, ◌∙◌}
+use Rattle.std.proofs.Common.{◌≡◌, ◌≤◌, length, subst, ◌+◌, List, [], ◌∷◌, ◌++◌, Option, Some, sym, ap, ◌∙◌, arith}
 use Rattle.std.specs.Prelude.{is_some, max}
 use Rattle.domain_base.specs.declared.names.Node.{Node}
 use Rattle.domain_base.specs.declared.names.Node.TheVariants.{Ap, Sta}
@@ -72,3 +72,12 @@ nonce-anonce-requires c = ap_listed c.args.here.domain.now c.args.here.node c.ar
 
 pub accept-requires-clause-ap : goal.accept-requires-clause-ap
 accept-requires-clause-ap c = ap_listed c.args.here.domain.now c.args.here.node c.args.self.now.number c.requires.node c.requires.listed
+
+pub overflow_add-self : goal.overflow_add-self
+overflow_add-self c = omega (arith, c.requires.draw, ap (λ (s : State). s.drawn) c.self.view_is)
+
+pub add_accepted-requires-clause-whole : goal.add_accepted-requires-clause-whole
+add_accepted-requires-clause-whole c = c.begin_attempt-had.ensures.whole
+
+pub begin_attempt-had-requires-clause-room : goal.begin_attempt-had-requires-clause-room
+begin_attempt-had-requires-clause-room c = c.in_ok-reserve_place.ensures.room

@@ -62,3 +62,6 @@ returns-clause-refused c why is =
     let still = ap (λ (l : List (Option Station)). station_at l sta) same in
     kept_state c.self.inside.number c.self.inside.drawn c.recounted-self-inside.result c.self.inside.owing c.self.inside.group c.self.inside.sending c.take_message-outcome.new.stations.items c.self.inside.stations.items (trimmed c.self.inside.targets) same
     (c.recounted-self-inside.ensures.same (owed_is ∙ ap (owes_part old.group.newest.place) (sym was ∙ sym still) ∙ sym owes_is)) ∙ c.self.view_is
+
+pub returns-clause-moves : goal.returns-clause-moves
+returns-clause-moves c = ap (λ (s : State). s.targets) c.self.view_is

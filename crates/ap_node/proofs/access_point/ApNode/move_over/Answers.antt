@@ -119,3 +119,21 @@ seat-self-inside-requires-clause-ap c = number_listed c.args.here.domain.now _ c
 
 pub take_reassoc-requires-clause-ap : goal.take_reassoc-requires-clause-ap
 take_reassoc-requires-clause-ap c = number_listed c.args.here.domain.now _ c.args.self.now c.self.view_is c.requires.listed
+
+pub seat-self-inside-requires-clause-form : goal.seat-self-inside-requires-clause-form
+seat-self-inside-requires-clause-form c = c.requires.form
+
+pub seat-self-inside-requires-clause-room : goal.seat-self-inside-requires-clause-room
+seat-self-inside-requires-clause-room c = c.in_ok-reserve_place.ensures.room
+
+pub returns-in-Some-clause-room : goal.returns-in-Some-clause-room
+returns-in-Some-clause-room c = c.in_ok-taken.ensures.room
+
+pub invariant_of-self-in-Some : goal.invariant_of-self-in-Some
+invariant_of-self-in-Some c = c.self.invariant
+
+pub returns-in_default-clause-room : goal.returns-in_default-clause-room
+returns-in_default-clause-room c = c.in_ok-taken.ensures.room
+
+pub seat-self-inside-requires-clause-station : goal.seat-self-inside-requires-clause-station
+seat-self-inside-requires-clause-station c = c.requires.frame.managed.judged.2

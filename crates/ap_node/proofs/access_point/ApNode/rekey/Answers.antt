@@ -1,4 +1,4 @@
-use Rattle.std.proofs.Common.{◌≡◌, ◌≤◌, suc, List, subst}
+use Rattle.std.proofs.Common.{◌≡◌, ◌≤◌, ◌<◌, ℕ, suc, List, length, sym, ap, subst, arith}
 use Rattle.run_journal.specs.declared.acts.Why.TheVariants as why
 use Rattle.run_journal.specs.declared.acts.Outcome.TheVariants.{Done, Idle as IdleBy}
 use Rattle.run_journal.specs.declared.acts.Act.{Act}
@@ -37,3 +37,21 @@ returns-clause-taken c =
     ends_as d Rekey c.args.self.now c.renew.new.self c.end.new.self c.args.out.now.acts c.renew.new.out.acts c.end.new.out.acts Done c.end.result
     (subst (λ (l : List Act). IsDone d Rekey c.args.self.now c.renew.new.self (seen l c.renew.new.out.acts Done)) c.in_ok-reserve.ensures.acts c.renew.ensures.done)
     c.end.ensures.state c.end.ensures.acts c.end.ensures.outcome
+
+pub renew-requires-clause-in_use : goal.renew-requires-clause-in_use
+renew-requires-clause-in_use c = subst (λ (t : State). t.group.newest.place ≡ t.group.current.place) c.self.view_is (c.is_pending.ensures.in_use.0 c.if-is_pending.false)
+
+pub renew-requires-clause-draw : goal.renew-requires-clause-draw
+renew-requires-clause-draw c = subst (λ (t : State). t.drawn < draw_end) c.self.view_is c.if-self-ge-DRAW_END.false
+
+pub renew-requires-clause-rooms : goal.renew-requires-clause-rooms
+renew-requires-clause-rooms c = omega (arith, c.in_ok-rooms.ensures, c.self.inside.stations.ok.0, ap (λ (t : State). length t.stations) c.self.view_is)
+
+pub renew-requires-clause-room : goal.renew-requires-clause-room
+renew-requires-clause-room c = omega (arith, c.in_ok-reserve.ensures.spare, c.self.inside.stations.ok.0, ap (λ (t : State). length t.stations) c.self.view_is)
+
+pub renew-requires-clause-listed : goal.renew-requires-clause-listed
+renew-requires-clause-listed c = c.requires.listed
+
+pub end-requires-clause-listed : goal.end-requires-clause-listed
+end-requires-clause-listed c = subst (λ (n : ℕ). n < length c.args.here.domain.now.aps) (sym c.renew.ensures.number) c.requires.listed

@@ -1,4 +1,5 @@
-use Rattle.std.proofs.Common.{◌≡◌, ℕ, suc, ◌+◌, List, length, Option, arith, sym, ap, subst, ◌∙◌}
+use Rattle.std.proofs.Common.{◌≡◌, ◌<◌, ◌≤◌, ℕ, suc, ◌+◌, List, length, Option, arith, sym, ap, subst, ◌∙◌}
+use Rattle.std.specs.Prelude.{◌%◌}
 use Rattle.std.proofs.lemmas.List.{with_items_is}
 use Rattle.run_journal.specs.declared.acts.Outcome.TheVariants.{Done}
 use Rattle.domain_rules.specs.Rows.{Rekey}
@@ -55,3 +56,26 @@ returns-clause-room c = omega (arith, c.requires.room, c.add.ensures.spare, c.gi
 pub give_all-self-inside-requires-clause-rooms : goal.give_all-self-inside-requires-clause-rooms
 give_all-self-inside-requires-clause-rooms c =
     omega (arith, c.requires.rooms, ap (λ (l : List (Option Station)). length l) (c.deref_mut.ensures.value ∙ ap (λ (s : State). s.stations) c.self.view_is))
+
+pub give_all-self-inside-requires-clause-room : goal.give_all-self-inside-requires-clause-room
+give_all-self-inside-requires-clause-room c =
+    omega (arith, c.requires.room, c.add.ensures.spare, ap (λ (l : List (Option Station)). length l) (c.deref_mut.ensures.value ∙ ap (λ (s : State). s.stations) c.self.view_is))
+
+small : (n : ℕ) → suc (n % 2) < 4
+small n = omega arith
+
+pub give_all-self-inside-requires-clause-id : goal.give_all-self-inside-requires-clause-id
+give_all-self-inside-requires-clause-id c =
+    let newest_is = ap (λ (s : State). s.group.newest.place) c.self.view_is in
+    let in_use = newest_is ∙ c.requires.in_use ∙ sym (ap (λ (s : State). s.group.current.place) c.self.view_is) in
+    let key = placed (suc c.self.inside.group.newest.place) c.gtk-gtk.result in
+    let newest = if_in_use c.rekey.result (c.rekey.new.self.newest ≡ key) (c.rekey.new.self.newest ≡ c.self.inside.group.newest) in_use c.rekey.ensures.newest c.rekey.ensures.pending in
+    subst (λ (k : GroupKey). k.id < 4) (sym (c.newest-newest.ensures ∙ newest)) (small key.place)
+
+pub invariant_of-self : goal.invariant_of-self
+invariant_of-self c =
+    let newest_is = ap (λ (s : State). s.group.newest.place) c.self.view_is in
+    let in_use = newest_is ∙ c.requires.in_use ∙ sym (ap (λ (s : State). s.group.current.place) c.self.view_is) in
+    let key = placed (suc c.self.inside.group.newest.place) c.gtk-gtk.result in
+    let newest = if_in_use c.rekey.result (c.rekey.new.self.newest ≡ key) (c.rekey.new.self.newest ≡ c.self.inside.group.newest) in_use c.rekey.ensures.newest c.rekey.ensures.pending in
+    subst (λ (k : GroupKey). (k.id < 4) × (1 ≤ k.id) × (k.place < c.self.inside.drawn + 1)) (sym newest) (small key.place, omega arith, omega (arith, c.self.invariant.2))

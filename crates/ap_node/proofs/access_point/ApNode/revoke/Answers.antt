@@ -5,6 +5,7 @@ use Rattle.node_base.specs.Events.{seen}
 use Rattle.act_memory.proofs.Returning.{if_settled}
 use Rattle.held_rows.specs.Looks.{NoLooks}
 use Rattle.ap_node.specs.State.{State}
+use Rattle.ap_node.specs.Putting.{LeavesOthers}
 use Rattle.ap_node.specs.Takes.{IsTakenWith}
 use Rattle.ap_node.proofs.RevokedKeys.{takes_revoked}
 use Rattle.ap_node.proofs.Rows.{change_at}
@@ -25,3 +26,9 @@ returns-clause-taken over c =
 
 pub returns-clause-change : goal.returns-clause-change
 returns-clause-change over c = change_at _ _ _ c.self.inside.number c.args.self.now.number _ _ (ap (λ (t : State). t.number) c.self.view_is) c.revoke.ensures.change
+
+pub returns-clause-others : goal.returns-clause-others
+returns-clause-others over c =
+    let before = c.args.holders.now in
+    let after = c.revoke.new.holders in
+    subst (λ (k : ℕ). LeavesOthers k (over.H.Holders.ids before) (over.H.Holders.ids after) (over.H.Holders.has before) (over.H.Holders.has after) (over.H.Holders.rows before) (over.H.Holders.rows after)) (ap (λ (t : State). t.number) c.self.view_is) c.revoke.ensures.others

@@ -1,4 +1,4 @@
-use Rattle.std.proofs.Common.{◌≡◌, ◌++◌, List, length, Option, ap, ◌∙◌, subst, sym}
+use Rattle.std.proofs.Common.{◌≡◌, ◌++◌, List, length, Option, refl, ap, ◌∙◌, subst, sym}
 use Rattle.domain_base.specs.declared.names.Node.{Node}
 use Rattle.domain_base.specs.declared.names.Node.TheVariants.{Ap, Sta}
 use Rattle.std.specs.Prelude.{IfOk}
@@ -11,7 +11,7 @@ use Rattle.ap_node.specs.Keys.{sent_under, used_in}
 use Rattle.ap_node.specs.State.{State, trimmed, station_at, key_in, with_key}
 use Rattle.ap_node.specs.Takes.{IsTaken}
 use Rattle.ap_node.specs.declared.station.Station.{Station}
-use Rattle.ap_node.proofs.Messaging.{the_state}
+use Rattle.ap_node.proofs.Messaging.{the_state, kept_state}
 use Rattle.ap_node.proofs.Traffic.{IsRekeyed, takes_sent, takes_sent_all, under_outcome}
 use Rattle.ap_node.proofs.Requesting.{if_begun}
 use Rattle.ap_node.proofs.Places.{err_back}
@@ -77,3 +77,9 @@ returns-in-All-clause-same c =
     let k = c.self.inside.sending in
     let with_key : Held → State = λ x. the_state c.self.inside.number c.self.inside.drawn c.self.inside.group x c.self.inside.stations.items c.self.inside.owing (trimmed c.self.inside.targets) in
     err_back c.send.result (c.send.new.self ≡ k) _ (λ (same : c.send.new.self ≡ k). ap with_key same ∙ c.self.view_is) c.send.ensures.same
+
+pub returns-in-One-clause-same : goal.returns-in-One-clause-same
+returns-in-One-clause-same c =
+    err_back c.send_to.result _ _
+    (λ same. kept_state c.self.inside.number c.self.inside.drawn c.self.inside.owing c.self.inside.owing c.self.inside.group c.self.inside.sending c.send_to.new.stations.items c.self.inside.stations.items (trimmed c.self.inside.targets) same refl ∙ c.self.view_is)
+    c.send_to.ensures.same

@@ -1,4 +1,4 @@
-use Rattle.std.proofs.Common.{refl, ap}
+use Rattle.std.proofs.Common.{ℕ, Option, refl, ap, ◌∙◌}
 use Rattle.domain_rules.specs.Rows.{Take, Retry, Rekey, Send, Expire, Revoke}
 use Rattle.node_base.specs.Events.{event_of}
 use Rattle.ap_node.specs.Putting.{Unchanged}
@@ -241,3 +241,14 @@ returns-in-Revoke-clause-others g c = c.revoke.ensures.others
 
 pub returns-in-Revoke-clause-no_less : goal.returns-in-Revoke-clause-no_less
 returns-in-Revoke-clause-no_less g c = c.revoke.ensures.no_less
+
+pub returns-in-Send-default-Some-default-clause-steps : goal.returns-in-Send-default-Some-default-clause-steps
+returns-in-Send-default-Some-default-clause-steps g c =
+    let e = c.in-Send-default-Some-default in
+    if_plain_event c.send.result c.args.domain.now (Send _ _ _) (event_of c.args.event) c.args.self.now c.send.new.self _ c.args.out.now.acts c.send.new.out.acts (ap event_of e.is ∙ ap (λ (o : Option ℕ). Send e.to o e.payload.now) (rw e.is at e.field-1-is)) c.send.ensures.taken
+
+pub returns-in-Send-default-None-default-clause-steps : goal.returns-in-Send-default-None-default-clause-steps
+returns-in-Send-default-None-default-clause-steps g c =
+    let e = c.in-Send-default-None-default in
+    let sent = c.send-in-Send-default-None-default in
+    if_plain_event sent.result c.args.domain.now (Send _ _ _) (event_of c.args.event) c.args.self.now sent.new.self _ c.args.out.now.acts sent.new.out.acts (ap event_of e.is ∙ ap (λ (o : Option ℕ). Send e.to o e.payload.now) (rw e.is at e.field-1-is)) sent.ensures.taken

@@ -3,12 +3,15 @@ use Rattle.domain_base.specs.declared.names.Node.{Node}
 use Rattle.domain_rules.specs.Rows.{Take}
 use Rattle.run_journal.specs.declared.acts.Outcome.TheVariants.{Refused}
 use Rattle.run_journal.specs.declared.acts.Reason.TheVariants as reason
-use Rattle.frame_intake.specs.Views.{reading_of, sealed_fields}
+use Rattle.frame_intake.specs.Views.{reading_of, management_fields, sealed_fields}
 use Rattle.act_memory.proofs.Returning.{if_settled}
 use Rattle.ap_node.specs.Takes.{IsKeyedAtAp, IsSealedAtAp, IsTaken}
 use Rattle.run_journal.specs.declared.acts.Kind.TheVariants as kind
 use Rattle.ap_node.proofs.Refusing.{Stays, takes_settled, takes_other, managed_from, keyed_from, sealed_from, request_from, is_station}
+use Rattle.rsn_elements.specs.Fields.{element_fields}
 use Rattle.ap_node.specs.Putting.{Unchanged}
+use Rattle.ap_node.proofs.Raw.{managed_raw}
+use Rattle.ap_node.proofs.Places.{err_back}
 use Rattle.ap_node.proofs.Rows.{if_same, if_none, if_change, err_change, same_others}
 use Rattle.ap_node.proofs.Listed.{ap_listed}
 use Rattle.ap_node.proofs.access_point.ApNode.take.Goals as goal
@@ -305,3 +308,17 @@ take_request-requires-clause-node over c = c.requires.node
 
 pub take_request-requires-clause-listed : goal.take_request-requires-clause-listed
 take_request-requires-clause-listed over c = c.requires.listed
+
+pub take_auth-requires-clause-raw : goal.take_auth-requires-clause-raw
+take_auth-requires-clause-raw over c =
+    managed_raw c.read-delivered.result (management_fields c.in-Managed.frame) (element_fields c.in-Managed.elements) c.read-delivered.ensures.whole c.in-Managed.ensures.0
+
+pub take_reassoc-requires-clause-raw : goal.take_reassoc-requires-clause-raw
+take_reassoc-requires-clause-raw over c =
+    managed_raw c.read-delivered.result (management_fields c.in-Managed.frame) (element_fields c.in-Managed.elements) c.read-delivered.ensures.whole c.in-Managed.ensures.0
+
+pub returns-in-Sealed-clause-same : goal.returns-in-Sealed-clause-same
+returns-in-Sealed-clause-same over c =
+    err_back c.take_data.result _ _
+    (λ same. kept_state c.self.inside.number c.self.inside.drawn c.self.inside.owing c.self.inside.owing c.self.inside.group c.self.inside.sending c.take_data.new.stations.items c.self.inside.stations.items (trimmed c.self.inside.targets) same refl ∙ c.self.view_is)
+    c.take_data.ensures.same

@@ -1,4 +1,5 @@
-use Rattle.std.proofs.Common.{◌≤◌, ◌<◌, ℕ, sym, ap, subst}
+use Rattle.std.proofs.Common.{◌≤◌, ◌<◌, ℕ, refl, sym, ap, subst}
+use Rattle.ap_node.proofs.Places.{err_at}
 use Rattle.std.specs.Option.{option_copied}
 use Rattle.run_journal.specs.declared.acts.Outcome.TheVariants.{Accepted, Refused}
 use Rattle.run_journal.specs.declared.acts.Reason.TheVariants as reason
@@ -39,3 +40,6 @@ returns-clause-taken c =
     if_begun c.associate.result Accepted (λ outcome. IsTaken d (Take c.args.octets.now) old new (seen waited waits outcome)) _ _ c.associate.ensures.outcome c.associate.ensures.begun c.associate.ensures.acts
     (λ now waiting. takes_associated d old new c.args.octets.now c.args.station c.args.elements.now c.whole_element.result.now c.in-Some-rsne_octets.rsne.now waited waits c.requires.frame
     (sym c.in_default.ensures) (subst (λ (n : ℕ). n < draw_end) (ap (λ (s : State). s.drawn) c.self.view_is) c.if-self-ge-DRAW_END.false) (ap option_copied c.in-Some-rsne_octets.is) c.whole_element.ensures.same now waiting)
+
+pub returns-then-self-ge-DRAW_END-clause-same : goal.returns-then-self-ge-DRAW_END-clause-same
+returns-then-self-ge-DRAW_END-clause-same c = err_at c.settle.result _ refl

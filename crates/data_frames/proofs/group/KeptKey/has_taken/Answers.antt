@@ -1,5 +1,5 @@
-use Rattle.std.proofs.Common.{rules}
+use Rattle.std.proofs.Common.{refl}
 use Rattle.data_frames.proofs.group.KeptKey.has_taken.Goals as goal
 
 pub returns : goal.returns
-returns c = search rules
+returns c = refl

@@ -8,6 +8,7 @@ use Rattle.data_frames.specs.Holding.{kept_key}
 use Rattle.data_frames.specs.Taking.{Refuses}
 use Rattle.data_frames.proofs.Opening.{handed_up, whole}
 use Rattle.data_frames.proofs.Lengths.{zeros_long}
+use Rattle.std.proofs.lemmas.Grind.{common_steps}
 use Rattle.data_frames.proofs.group.KeptKey.take_in.Goals as goal
 
 pub returns-in-Ok-clause-taken : goal.returns-in-Ok-clause-taken
@@ -36,3 +37,6 @@ open-requires-clause-room c = omega (arith, c.deref_mut.ensures.len, zeros_long 
 
 pub add_opened-requires-clause-capacity : goal.add_opened-requires-clause-capacity
 add_opened-requires-clause-capacity c = omega (arith, zeros_long c.args.room.plain.len _ c.args.room.plain.items c.args.room.plain.ok.0 c.requires.room.plain, c.requires.room.capacity)
+
+pub returns-in-Err-clause-above : goal.returns-in-Err-clause-above
+returns-in-Err-clause-above c = grind (arith, common_steps)

@@ -1,8 +1,10 @@
+use Rattle.std.proofs.Common.{arith}
 use Rattle.std.proofs.Common.{rules, Option, None, ◌≡◌, refl, ap, ◌∙◌, sym, subst, inl, inr}
 use Rattle.std.specs.Prelude.{is_some}
 use Rattle.std.proofs.lemmas.Bool.{false≢true}
 use Rattle.domain_base.specs.Memory.{FaultyAir, PlannedParts, FailsNext, SamePartsForOthers, parts_for}
 use Rattle.domain_base.proofs.Plans.{plan_attaches}
+use Rattle.std.proofs.lemmas.Grind.{common_steps}
 use Rattle.domain_base.proofs.memory_faults.MemAirAir.attach.Goals as goal
 
 pub returns-in-Some-clause-attached : goal.returns-in-Some-clause-attached
@@ -28,3 +30,6 @@ returns-in-Some-clause-fails c = (
 
 pub returns-in-Some-clause-others : goal.returns-in-Some-clause-others
 returns-in-Some-clause-others c = subst (λ (a : FaultyAir). SamePartsForOthers c.args.node a.plans c.take_parts.new.plans.items) c.self.view_is c.take_parts.ensures.others
+
+pub returns-in-Some-clause-planned : goal.returns-in-Some-clause-planned
+returns-in-Some-clause-planned c = grind (arith, common_steps)

@@ -1,7 +1,7 @@
 use Rattle.std.proofs.Common.{refl, ap, subst}
 use Rattle.std.proofs.lemmas.Bool.{false≢true}
 use Rattle.domain_base.specs.Memory.{FailsNext, KeptLink}
-use Rattle.domain_base.proofs.Fails.{fails_not, steady}
+use Rattle.domain_base.proofs.Fails.{fails_not, steady, cause_none}
 use Rattle.domain_base.proofs.memory_faults.MemLinkLink.poll.Goals as goal
 
 pub returns-then-next_fails-clause-fails : goal.returns-then-next_fails-clause-fails
@@ -9,3 +9,6 @@ returns-then-next_fails-clause-fails c = (λ _. subst (λ (s : KeptLink). FailsN
 
 pub returns-clause-fails : goal.returns-clause-fails
 returns-clause-fails c = fails_not _ c.args.self.now.calls _ (ap (λ (s : KeptLink). s.calls) c.self.view_is) (λ f. false≢true (c.if-next_fails.ensures.fails.1 f)) (steady _ c.poll.ensures.cause)
+
+pub returns-clause-cause : goal.returns-clause-cause
+returns-clause-cause c = cause_none _ c.args.self.now.calls _ c.poll.result (ap (λ (s : KeptLink). s.calls) c.self.view_is) c.next_fails.ensures.counted (steady _ c.poll.ensures.cause)

@@ -1,8 +1,8 @@
-use Rattle.std.proofs.Common.{◌++◌, arith, subst, sym}
+use Rattle.std.proofs.Common.{◌≡◌, ℕ, List, ◌++◌, arith, rules, subst, sym}
 use Rattle.domain_cli.specs.declared.status.Stop.{Stop}
-use Rattle.domain_cli.specs.Script.{point_of}
+use Rattle.domain_cli.specs.Script.{Begins, NoFeed, point_of}
 use Rattle.domain_cli.specs.Stops.{IsRefusal, Stopped}
-use Rattle.domain_cli.proofs.Lines.{NoFeed-append, Stopped-long}
+use Rattle.domain_cli.proofs.Lines.{Begins-more, NoFeed-append, Stopped-long}
 use Rattle.domain_cli.proofs.feeder.LineFeeder.add.Goals as goal
 
 pub returns-then-octets-len-clause-come : goal.returns-then-octets-len-clause-come
@@ -15,3 +15,16 @@ returns-then-octets-len-clause-come c octets draft rounds j r =
 
 pub returns-then-octets-len-clause-refused : goal.returns-then-octets-len-clause-refused
 returns-then-octets-len-clause-refused c = subst (λ (x : Stop). IsRefusal x) (sym c.refused.ensures) tt
+
+pub returns-clause-come : goal.returns-clause-come
+returns-clause-come c before draft rounds j r =
+    let s = c.args.self.now in
+    let items : c.extend_from_slice.new.self.items ≡ s.line.items ++ c.args.octets.now = search rules in
+    record {
+      good = r.good;
+      begins = subst (λ (l : List ℕ). Begins (before ++ c.args.octets.now) r.good l) (sym items) (Begins-more before c.args.octets.now r.good s.line.items r.begins);
+      open_line = subst (λ (l : List ℕ). NoFeed l) (sym items) (NoFeed-append s.line.items c.args.octets.now r.open_line c.requires);
+      count = r.count;
+      spelled = r.spelled;
+      stands = r.stands;
+    }

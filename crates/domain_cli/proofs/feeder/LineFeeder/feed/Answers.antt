@@ -6,7 +6,7 @@ use Rattle.domain_cli.specs.Outer.{outer}
 use Rattle.domain_cli.specs.Stops.{Halts}
 use Rattle.domain_cli.specs.Story.{most_read}
 use Rattle.domain_cli.proofs.Blamed.{blame_more, unblamed}
-use Rattle.domain_cli.proofs.Coming.{all_further, feed_further, piece_further, reached_more, ready_more}
+use Rattle.domain_cli.proofs.Coming.{all_further, feed_further, piece_further, reached_more, ready_more, unblamed_more}
 use Rattle.domain_cli.proofs.Lines.{Halts-behind}
 use Rattle.std.proofs.lemmas.List.{append-nil}
 use Rattle.domain_cli.proofs.feeder.LineFeeder.feed.Goals as goal
@@ -84,3 +84,18 @@ loop-at-init g c =
       reached = λ first before r. subst (λ (w : List ℕ). Reached g.A.L.Link.told first o c.args.self.now w c.args.journal.now.entries) (sym (append-nil before)) r;
       blamed = unblamed g.A.L.Link.faults c.args.links.now.items (g.A.Air.faults c.args.air.now) (g.D.Draws.faults c.args.draws.now);
     }
+
+pub returns-in-Err-add-clause-blamed : goal.returns-in-Err-add-clause-blamed
+returns-in-Err-add-clause-blamed g c =
+    blame_more g.A.L.Link.faults _ _ _ _ _ _ _ _ _ _ c.loop-at.invariant.blamed (unblamed_more {T = ℕ} g.A.L.Link.faults _ _ _ (Err c.in-Err-add.stop) c.in-Err-add.ensures.refused)
+
+pub loop-at-smaller : goal.loop-at-smaller
+loop-at-smaller g c =
+    let onward = c.line_end-end.ensures.onward c.loop-at-test.true c.if-octets-at-eq10.false in
+    omega (arith, onward, c.line_end-end.ensures.order.1)
+
+pub returns-in-Err-clause-mode : goal.returns-in-Err-clause-mode
+returns-in-Err-clause-mode g c = c.end_line.ensures.mode ∙ c.loop-at.invariant.mode
+
+pub returns-in-Err-add-clause-mode : goal.returns-in-Err-add-clause-mode
+returns-in-Err-add-clause-mode g c = ap (λ (x : ScriptState). x.reader.mode) c.in-Err-add.ensures.same.1 ∙ c.loop-at.invariant.mode

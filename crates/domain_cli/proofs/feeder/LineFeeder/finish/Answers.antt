@@ -8,7 +8,7 @@ use Rattle.domain_cli.specs.Stops.{StopsLine}
 use Rattle.domain_cli.proofs.Coming.{closes_here, closes_last, closes_line}
 use Rattle.domain_cli.proofs.feeder.LineFeeder.finish.Goals.{else-is_empty-via-then-is_empty+else-self-gt0, else-is_empty-via-else-is_empty}
 use Rattle.domain_cli.proofs.Blamed.{unblamed}
-use Rattle.domain_cli.proofs.Ended.{ended_blame, ended_read}
+use Rattle.domain_cli.proofs.Ended.{ended_blame, ended_read, stopped_read}
 use Rattle.domain_cli.proofs.feeder.LineFeeder.finish.Goals as goal
 
 some_octets : (line : List ℕ) (n : ℕ) → n ≡ length line → false ≡ (n == 0) → line ≢ []
@@ -68,3 +68,6 @@ returns-in-Ok-clause-blamed g c =
 
 pub returns-in-Ok-clause-not_read : goal.returns-in-Ok-clause-not_read
 returns-in-Ok-clause-not_read g c = ended_read c.ended-in-Ok.result _ _ c.ended-in-Ok.ensures
+
+pub returns-in-Err-clause-not_read : goal.returns-in-Err-clause-not_read
+returns-in-Err-clause-not_read g c is = stopped_read c.in-Err.stop is

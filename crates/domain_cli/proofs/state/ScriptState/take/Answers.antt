@@ -98,3 +98,6 @@ returns-in_default-clause-told g c draft rounds first stands met =
 pub returns-in_default-clause-blamed : goal.returns-in_default-clause-blamed
 returns-in_default-clause-blamed g c =
     blamed_line g.A.L.Link.told g.A.L.Link.faults _ _ _ _ c.args.links.now.items c.run_line.new.links.items _ _ _ _ _ _ c.run_line.result c.run_line.ensures.did c.run_line.ensures.blamed
+
+pub returns-in-Err-NoMemory-clause-told : goal.returns-in-Err-NoMemory-clause-told
+returns-in-Err-NoMemory-clause-told g c draft rounds first stands met = (refl, refl)

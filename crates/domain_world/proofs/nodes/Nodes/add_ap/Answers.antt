@@ -1,4 +1,5 @@
-use Rattle.std.proofs.Common.{◌≡◌, List, [], ◌∷◌, ◌++◌, length, refl, sym, ap, subst, ◌∙◌, rules}
+use Rattle.std.proofs.Common.{◌≡◌, ◌≤◌, ℕ, List, [], ◌∷◌, ◌++◌, length, length-append, refl, sym, ap, subst, ◌∙◌, arith}
+use Rattle.domain_base.specs.declared.names.Node.TheVariants.{Ap}
 use Rattle.domain_rules.specs.Network.{IsNamed}
 use Rattle.domain_rules.proofs.Peers.{named}
 use Rattle.ap_node.specs.State.{State as ApState}
@@ -13,7 +14,7 @@ pub invariant_of-self-in-Ok : goal.invariant_of-self-in-Ok
 invariant_of-self-in-Ok c =
     let old : Nodes = record { domain = c.self.inside.domain; aps = c.self.inside.aps.items; stas = c.self.inside.stas.items; rows = rows_below (length c.self.inside.aps.items) (seen_of c.self.inside.holders) } in
     let last = c.in-Ok.node in
-    let count : length old.aps ≡ c.len-number.result = search rules in (
+    let count : length old.aps ≡ c.len-number.result = omega (arith, c.len-number.ensures, c.self.inside.aps.ok.0) in (
       listed_more_ap old _ _ last (one_more _ _ _ c.in_ok-list_ap.ensures.ok) refl (c.push_reserved.ensures.items ∙ ap (λ (l : List ApState). l ++ last ∷ []) c.reserve.ensures.items) refl
           count c.in-Ok.ensures.number c.self.invariant.0,
       tt,
@@ -23,7 +24,7 @@ pub returns-in-Ok-clause-listed : goal.returns-in-Ok-clause-listed
 returns-in-Ok-clause-listed c =
     let old : Nodes = record { domain = c.self.inside.domain; aps = c.self.inside.aps.items; stas = c.self.inside.stas.items; rows = rows_below (length c.self.inside.aps.items) (seen_of c.self.inside.holders) } in
     let last = c.in-Ok.node in
-    let count : length old.aps ≡ c.len-number.result = search rules in
+    let count : length old.aps ≡ c.len-number.result = omega (arith, c.len-number.ensures, c.self.inside.aps.ok.0) in
     listed_more_ap old _ _ last (one_more _ _ _ c.in_ok-list_ap.ensures.ok) refl (c.push_reserved.ensures.items ∙ ap (λ (l : List ApState). l ++ last ∷ []) c.reserve.ensures.items) refl
     count c.in-Ok.ensures.number c.self.invariant.0
 
@@ -32,7 +33,7 @@ returns-in-Ok-clause-stand c = λ j is before none.
     let last = c.in-Ok.node in
     let aps : c.self.inside.aps.items ≡ c.args.self.now.aps = ap (λ (n : Nodes). n.aps) c.self.view_is in
     let pushed = c.push_reserved.ensures.items in
-    let count : length c.args.self.now.aps ≡ c.len-number.result = search rules in
+    let count : length c.args.self.now.aps ≡ c.len-number.result = omega (arith, c.len-number.ensures, c.self.inside.aps.ok.0, ap (λ (l : List ApState). length l) aps) in
     let listed : AreListed c.args.self.now = subst AreListed c.self.view_is c.self.invariant.0 in
     let domain = added_ap _ _ c.args.address c.args.r0kh_id _ (ap (λ (n : Nodes). n.domain) c.self.view_is) c.in_ok-list_ap.ensures.ok in
     let names = subst IsNamed (sym domain) (named _ c.requires.form) in
@@ -52,7 +53,7 @@ returns-in-Ok-clause-acts c = put_alone _ _ _ c.requires.waiting c.in-Ok.ensures
 
 pub start-requires-clause-listed : goal.start-requires-clause-listed
 start-requires-clause-listed c =
-    let count : length c.self.inside.aps.items ≡ c.len-number.result = search rules in
+    let count : length c.self.inside.aps.items ≡ c.len-number.result = omega (arith, c.len-number.ensures, c.self.inside.aps.ok.0) in
     last_low _ _ _ _ c.in_ok-list_ap.ensures.ok (sym c.self.invariant.0.count_aps ∙ count)
 
 pub invariant_of-self-in-Err : goal.invariant_of-self-in-Err
@@ -75,3 +76,15 @@ returns-in_err-list_ap-clause-listed c = (ap_closed c.self.inside.domain c.self.
 
 pub returns-in-Err-clause-kept : goal.returns-in-Err-clause-kept
 returns-in-Err-clause-kept c = c.in-Err.ensures.kept ∙ c.requires.waiting
+
+few_before : {A : Type 0} (xs : List A) (x : A) (n : ℕ) → length (xs ++ x ∷ []) ≤ n → length xs ≤ n
+few_before xs x n few = omega (arith, length-append xs (x ∷ []), few)
+
+pub overflow_cast-number : goal.overflow_cast-number
+overflow_cast-number c =
+    omega (arith, few_before c.args.self.now.domain.aps _ 16 c.requires.form.few_aps, ap (λ (n : Nodes). length n.domain.aps) c.self.view_is, c.self.invariant.0.count_aps, c.len-number.ensures, c.self.inside.aps.ok.0)
+
+pub returns-in-Ok-clause-node : goal.returns-in-Ok-clause-node
+returns-in-Ok-clause-node c =
+    let count : c.len-number.result ≡ length c.args.self.now.domain.aps = omega (arith, ap (λ (n : Nodes). length n.domain.aps) c.self.view_is, c.self.invariant.0.count_aps, c.len-number.ensures, c.self.inside.aps.ok.0) in
+    ap Ap count

@@ -1,4 +1,4 @@
-use Rattle.std.proofs.Common.{◌≡◌, List, [], ◌∷◌, ◌++◌, length, refl, ap, subst, sym, ◌∙◌, rules}
+use Rattle.std.proofs.Common.{◌≡◌, ◌≤◌, ℕ, List, [], ◌∷◌, ◌++◌, length, length-append, refl, ap, subst, sym, ◌∙◌, arith}
 use Rattle.station_node.specs.State.{State as StationState}
 use Rattle.domain_rules.specs.Network.{IsNamed}
 use Rattle.domain_rules.proofs.Peers.{named}
@@ -28,7 +28,7 @@ pub returns-clause-listed : goal.returns-clause-listed
 returns-clause-listed c =
     let old : Nodes = record { domain = c.self.inside.domain; aps = c.self.inside.aps.items; stas = c.self.inside.stas.items; rows = rows_below (length c.self.inside.aps.items) (seen_of c.self.inside.holders) } in
     let last = c.start-station.result in
-    let count : length old.stas ≡ c.len-number.result = search rules in
+    let count : length old.stas ≡ c.len-number.result = omega (arith, c.len-number.ensures, c.self.inside.stas.ok.0) in
     let stas = c.push_reserved.ensures.items ∙ ap (λ (l : List StationState). l ++ last ∷ []) c.reserve.ensures.items in
     listed_more_sta old _ _ last (one_more _ _ _ c.in_ok-list_station.ensures.ok) refl stas refl count c.start-station.ensures.number c.self.invariant.0
 
@@ -36,7 +36,7 @@ pub invariant_of-self-2 : goal.invariant_of-self-2
 invariant_of-self-2 c =
     let old : Nodes = record { domain = c.self.inside.domain; aps = c.self.inside.aps.items; stas = c.self.inside.stas.items; rows = rows_below (length c.self.inside.aps.items) (seen_of c.self.inside.holders) } in
     let last = c.start-station.result in
-    let count : length old.stas ≡ c.len-number.result = search rules in
+    let count : length old.stas ≡ c.len-number.result = omega (arith, c.len-number.ensures, c.self.inside.stas.ok.0) in
     let stas = c.push_reserved.ensures.items ∙ ap (λ (l : List StationState). l ++ last ∷ []) c.reserve.ensures.items in
     (listed_more_sta old _ _ last (one_more _ _ _ c.in_ok-list_station.ensures.ok) refl stas refl count c.start-station.ensures.number c.self.invariant.0, fit_more_sta c.self.inside.domain c.list_station.new.stas c.self.inside.holders c.self.invariant.1)
 
@@ -45,3 +45,10 @@ invariant_of-self-in_err-list_station c = sta_closed c.self.inside.domain c.self
 
 pub invariant_of-self : goal.invariant_of-self
 invariant_of-self c = sta_closed c.self.inside.domain c.self.inside.aps.items c.self.inside.stas.items _ c.self.inside.holders _ refl c.reserve.ensures.items c.self.invariant
+
+few_before : {A : Type 0} (xs : List A) (x : A) (n : ℕ) → length (xs ++ x ∷ []) ≤ n → length xs ≤ n
+few_before xs x n few = omega (arith, length-append xs (x ∷ []), few)
+
+pub overflow_cast-number : goal.overflow_cast-number
+overflow_cast-number c =
+    omega (arith, few_before c.args.self.now.domain.stas _ 64 c.requires.form.few_stas, ap (λ (n : Nodes). length n.domain.stas) c.self.view_is, c.self.invariant.0.count_stas, c.len-number.ensures, c.self.inside.stas.ok.0)

@@ -42,7 +42,7 @@ returns-clause-step c =
     let here = subst (λ (i : List Entry). HappensAt c.args.event.now i (suc c.self.inside.rounds) node at) c.in_ok-reserve.ensures.entries happens in
     let now = subst (λ (r : ℕ). HappensAt c.args.event.now j (suc r) node at) rounds here in
     let acted = subst (λ (w : State). (i : List Entry) → Stand (nodes_of w) i → Acted node at i (nodes_of w) new acts) c.self.view_is c.in_ok-step.ensures.acted in
-    let round : c.self.inside.rounds + 1 ≡ suc c.args.self.now.rounds = omega arith in
+    let round : c.self.inside.rounds + 1 ≡ suc c.args.self.now.rounds = omega (arith, rounds) in
     let is = c.journal_acts.ensures.entries ∙ ap (push (c.self.inside.rounds + 1) node acts) c.in_ok-reserve.ensures.entries ∙ ap (λ (r : ℕ). push r node acts j) round in
     step_event c.args.self.now new c.args.event.now node at acts j c.journal_acts.new.journal.entries now (acted j c.requires.own.stand) is
 
@@ -56,7 +56,7 @@ returns-clause-own c =
     let rounds : c.self.inside.rounds ≡ c.args.self.now.rounds = ap (λ (w : State). w.rounds) c.self.view_is in
     let listed = subst (λ (w : State). IsListed w.domain node) c.self.view_is c.at_node-node.ensures.listed in
     let acted = subst (λ (w : State). (i : List Entry) → Stand (nodes_of w) i → Acted node at i (nodes_of w) new acts) c.self.view_is c.in_ok-step.ensures.acted in
-    let round : c.self.inside.rounds + 1 ≡ suc c.args.self.now.rounds = omega arith in
+    let round : c.self.inside.rounds + 1 ≡ suc c.args.self.now.rounds = omega (arith, rounds) in
     let is = c.journal_acts.ensures.entries ∙ ap (push (c.self.inside.rounds + 1) node acts) c.in_ok-reserve.ensures.entries ∙ ap (λ (r : ℕ). push r node acts j) round in
     own_event c.args.self.now _ node at acts j c.journal_acts.new.journal.entries c.requires.own listed (acted j c.requires.own.stand) c.step.ensures.listed
     (c.step.ensures.domain ∙ ap (λ (w : State). w.domain) c.self.view_is) round (ap (λ (w : State). w.usable) c.self.view_is) c.journal_acts.ensures.noted is

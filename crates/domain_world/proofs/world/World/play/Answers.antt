@@ -1,5 +1,6 @@
-use Rattle.std.proofs.Common.{◌≡◌, ◌≤◌, ℕ, suc, IfOk, List, length, map, sym, ap, subst, ◌∙◌, arith}
+use Rattle.std.proofs.Common.{◌≡◌, ◌≤◌, ℕ, suc, IfOk, List, [], ◌∷◌, length, map, sym, ap, subst, ◌∙◌, arith}
 use Rattle.std.specs.List.{AllByRecursion}
+use Rattle.run_journal.specs.declared.domain.Domain.{Domain}
 use Rattle.run_journal.specs.declared.domain.Event.{Event}
 use Rattle.run_journal.specs.declared.acts.Entry.{Entry}
 use Rattle.domain_rules.specs.HeldRight.{AnsweredInTime}
@@ -9,7 +10,7 @@ use Rattle.domain_world.specs.State.{State}
 use Rattle.domain_world.specs.Owning.{AreEventsIn, Stand, nodes_of}
 use Rattle.domain_world.specs.Waiting.{events_below}
 use Rattle.domain_world.specs.Acting.{Played}
-use Rattle.domain_world.specs.Working.{IsComing, IsTurn}
+use Rattle.domain_world.specs.Working.{IsComing, IsFor, IsTurn}
 use Rattle.domain_world.proofs.Owned.{up_to, all_low}
 use Rattle.domain_world.proofs.Running.{if_ok}
 use Rattle.domain_rules.specs.Network.{InForm}
@@ -56,3 +57,12 @@ turns-requires-clause-events g c =
 
 pub turns-requires-clause-changed : goal.turns-requires-clause-changed
 turns-requires-clause-changed g c = subst (AllByRecursion (IsComing c.args.journal.now.entries (suc c.args.self.now.rounds))) (sym c.as_slice.ensures.value) c.in_ok-comings.ensures.changed
+
+all_for : (d : Domain) (j : List Entry) (round : ℕ) (ts : List Turn) → AllByRecursion (IsTurn d j round) ts → AllByRecursion (IsFor d) ts
+all_for d j round [] all = tt
+all_for d j round (t ∷ ts) all = (all.0.1, all_for d j round ts all.1)
+
+pub round-requires-clause-turns : goal.round-requires-clause-turns
+round-requires-clause-turns g c = λ κs bounds.
+    let turns = all_for c.args.self.now.domain c.args.journal.now.entries (suc c.args.self.now.rounds) _ c.in_ok-turns.ensures.turns in
+    subst (λ (w : State). AllByRecursion (IsFor w.domain) c.as_slice-2.result.now) (sym c.self.view_is) (subst (AllByRecursion (IsFor c.args.self.now.domain)) (sym c.as_slice-2.ensures.value) turns)

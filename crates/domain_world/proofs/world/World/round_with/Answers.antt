@@ -1,4 +1,4 @@
-use Rattle.std.proofs.Common.{◌≡◌, ◌+◌, ◌*◌, false, suc, List, length, refl, sym, ap, subst, ◌∙◌, arith, rules}
+use Rattle.std.proofs.Common.{◌≡◌, ◌+◌, ◌*◌, false, suc, List, length, refl, sym, ap, subst, ◌∙◌, arith}
 use Rattle.run_journal.specs.declared.domain.Event.{Event}
 use Rattle.domain_rules.specs.Explained.{Follows}
 use Rattle.domain_rules.specs.HeldRight.{AnsweredInTime}
@@ -24,7 +24,7 @@ journal_parts-requires-clause-room g c =
     let stas = length c.self.inside.nodes.stas in
     let short = waiting_short (8 + stas) parts c.in_ok-parts.ensures.played.short in
     let acts : c.most_acts.result ≡ 8 + stas = c.most_acts.ensures ∙ ap (λ n. 8 + n) (ap (λ (w : State). length w.stas) c.self-2.view_is ∙ c.in_ok-parts.ensures.played.count) in
-    let count : c.len.result ≡ length parts = search rules in
+    let count : c.len.result ≡ length parts = omega (arith, c.len.ensures, c.in_ok-parts.parts.ok.0) in
     let most : (8 + stas) * length parts ≡ c.most_acts.result * c.len.result = ap (λ n. n * length parts) (sym acts) ∙ ap (λ n. c.most_acts.result * n) (sym count) in
     omega (arith, short, most, c.in_ok-reserve.ensures.spare)
 
@@ -34,7 +34,7 @@ journal_parts-requires-clause-places g c =
     let stas = length c.self.inside.nodes.stas in
     let short = waiting_short (8 + stas) parts c.in_ok-parts.ensures.played.short in
     let acts : c.most_acts.result ≡ 8 + stas = c.most_acts.ensures ∙ ap (λ n. 8 + n) (ap (λ (w : State). length w.stas) c.self-2.view_is ∙ c.in_ok-parts.ensures.played.count) in
-    let count : c.len.result ≡ length parts = search rules in
+    let count : c.len.result ≡ length parts = omega (arith, c.len.ensures, c.in_ok-parts.parts.ok.0) in
     let most : (8 + stas) * length parts ≡ c.most_acts.result * c.len.result = ap (λ n. n * length parts) (sym acts) ∙ ap (λ n. c.most_acts.result * n) (sym count) in
     omega (arith, short, most, c.in_ok-reserve-2.ensures.ok)
 

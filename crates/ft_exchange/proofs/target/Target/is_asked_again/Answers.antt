@@ -2,4 +2,4 @@ use Rattle.std.proofs.Common.{rules}
 use Rattle.ft_exchange.proofs.target.Target.is_asked_again.Goals as goal
 
 pub returns-then-eq-2 : goal.returns-then-eq-2
-returns-then-eq-2 c = search rules
+returns-then-eq-2 c = search rules steps 150000

@@ -1,3 +1,4 @@
+use Rattle.std.proofs.Common.{arith}
 use Rattle.std.proofs.Common.{◌≡◌, ℕ, List, None, sym, ◌∙◌, subst, rules}
 use Rattle.std.specs.Prelude.{position, bytes_eq}
 use Rattle.key_holders.specs.Pulls.{Answers}
@@ -9,6 +10,7 @@ use Rattle.holder_table.specs.Relations.{no_less_same}
 use Rattle.holder_table.proofs.Knows.{no_less-more}
 use Rattle.holder_table.proofs.After.{asked_at, more_twins, none_pulled, pull_answers, pull_named}
 use Rattle.holder_table.proofs.Rest.{rest_after}
+use Rattle.std.proofs.lemmas.Grind.{common_steps}
 use Rattle.holder_table.proofs.holders.SharedHolders.pull.Goals as goal
 
 -- what the rows of an access point say
@@ -57,3 +59,6 @@ returns-in_default-clause-no_less c = no_less_same _
 
 pub returns-clause-lasting : goal.returns-clause-lasting
 returns-clause-lasting c = c.pull.ensures.lasting c.pass.invariant.lasting
+
+pub returns-in_default-clause-lasting : goal.returns-in_default-clause-lasting
+returns-in_default-clause-lasting c = grind (arith, common_steps)

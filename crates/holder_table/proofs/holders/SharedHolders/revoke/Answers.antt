@@ -1,3 +1,4 @@
+use Rattle.std.proofs.Common.{arith}
 use Rattle.std.proofs.Common.{◌≡◌, ◌≢◌, ℕ, true, sym, subst}
 use Rattle.key_holders.specs.Rows.{after_revoke}
 use Rattle.holder_table.specs.Histories.{is_in, held_at}
@@ -5,6 +6,7 @@ use Rattle.holder_table.specs.Pass.{Pass}
 use Rattle.holder_table.specs.Knowledge.{NoLess}
 use Rattle.holder_table.proofs.After.{revoke_rows, revoke_others, revoke_knows, revoke_twins}
 use Rattle.holder_table.proofs.Rest.{rest_after}
+use Rattle.std.proofs.lemmas.Grind.{common_steps}
 use Rattle.holder_table.proofs.holders.SharedHolders.revoke.Goals as goal
 
 -- the pass has the access point
@@ -40,3 +42,6 @@ returns-clause-no_less c =
 
 pub returns-clause-lasting : goal.returns-clause-lasting
 returns-clause-lasting c = c.revoke.ensures.lasting c.pass.invariant.lasting
+
+pub returns-clause-effect : goal.returns-clause-effect
+returns-clause-effect c = grind (arith, common_steps)

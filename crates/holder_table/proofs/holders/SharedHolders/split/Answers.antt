@@ -1,5 +1,6 @@
 use Rattle.std.proofs.Common.{◌≡◌, true, sym, subst}
 use Rattle.holder_table.specs.Histories.{is_in}
+use Rattle.holder_table.specs.Knowledge.{Gave}
 use Rattle.holder_table.specs.Pass.{Pass}
 use Rattle.holder_table.proofs.Rest.{rest_gave, rest_given}
 use Rattle.holder_table.proofs.holders.SharedHolders.split.Goals as goal
@@ -14,3 +15,6 @@ invariant_of-result c =
 
 pub returns-clause-lasting : goal.returns-clause-lasting
 returns-clause-lasting c = c.split-seat.ensures.lasting
+
+pub returns-clause-gave : goal.returns-clause-gave
+returns-clause-gave c = subst (λ (q : Pass). Gave c.args.ap q.knows c.split-seat.new.seat.me.0 c.split-seat.result.me.0) c.pass.view_is c.split-seat.ensures.gave

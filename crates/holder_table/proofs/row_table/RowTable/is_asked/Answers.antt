@@ -1,3 +1,4 @@
+use Rattle.std.proofs.Common.{arith}
 use Rattle.std.proofs.Common.{◌≡◌, Some, Option, refl, sym, ap, ◌∙◌, subst}
 use Rattle.std.specs.Prelude.{slice_get, MatchOption}
 use Rattle.std.proofs.lemmas.Bool.{false≢true}
@@ -5,6 +6,7 @@ use Rattle.atomic_table.specs.Table.{Me}
 use Rattle.domain_base.specs.declared.names.Mac.{Mac}
 use Rattle.holder_table.specs.declared.view.View.{View}
 use Rattle.holder_table.specs.Histories.{held_at}
+use Rattle.std.proofs.lemmas.Grind.{common_steps}
 use Rattle.holder_table.proofs.row_table.RowTable.is_asked.Goals as goal
 
 pub returns-in-None-clause-asked : goal.returns-in-None-clause-asked
@@ -19,3 +21,6 @@ returns-in-None-clause-asked c p e = (
 pub returns-then-not-is_named-clause-asked : goal.returns-then-not-is_named-clause-asked
 returns-then-not-is_named-clause-asked c p e =
     (λ t. absurd (false≢true t), λ asked. absurd (false≢true (sym c.if-not-is_named.true ∙ (c.is_named.ensures.named p e).1 asked.0)))
+
+pub returns-in-Some-clause-asked : goal.returns-in-Some-clause-asked
+returns-in-Some-clause-asked c = grind (arith, common_steps)

@@ -9,6 +9,7 @@ use Rattle.holder_table.specs.Words.{name_octets}
 use Rattle.holder_table.specs.Scans.{Asked, Passed}
 use Rattle.holder_table.proofs.Places.{free_state}
 use Rattle.holder_table.proofs.Knows.{more_on, last_load, passed_grows, passed_more, passed_all, live_row}
+use Rattle.std.proofs.lemmas.Grind.{common_steps}
 use Rattle.holder_table.proofs.row_table.RowTable.scan.Goals as goal
 use Rattle.holder_table.proofs.row_table.RowTable.scan.Goals.{else-state-eq1-via-then-state-eq1+else-is_asked, else-state-eq1-via-else-state-eq1}
 
@@ -96,3 +97,6 @@ returns-clause-spot c =
 
 pub returns-clause-lasting : goal.returns-clause-lasting
 returns-clause-lasting c = c.loop-place.invariant.5
+
+pub loop-place-init : goal.loop-place-init
+loop-place-init c = grind (arith, common_steps)

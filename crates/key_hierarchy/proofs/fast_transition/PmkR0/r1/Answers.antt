@@ -1,5 +1,5 @@
-use Rattle.std.proofs.Common.{◌≡◌, List, ℕ, ap, ◌∙◌}
-use Rattle.key_hierarchy.specs.FastTransition.{pmk_r0_name, pmk_r1, pmk_r1_of}
+use Rattle.std.proofs.Common.{List, ℕ, ap, ◌∙◌}
+use Rattle.key_hierarchy.specs.FastTransition.{pmk_r1, pmk_r1_of}
 use Rattle.key_hierarchy.proofs.fast_transition.PmkR0.r1.Goals as goal
 
 pub returns-clause-r1 : goal.returns-clause-r1

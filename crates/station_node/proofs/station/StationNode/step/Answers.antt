@@ -1,4 +1,4 @@
-use Rattle.std.proofs.Common.{ap}
+use Rattle.std.proofs.Common.{ap, ℕ, Option, ◌∙◌}
 use Rattle.domain_rules.specs.Rows.{Begin, Roam, Take, Send, Leave}
 use Rattle.node_base.specs.Events.{event_of}
 use Rattle.station_node.specs.Steps.{turn}
@@ -88,3 +88,14 @@ returns-in-Roam-clause-same c = takes_same c.args.domain.now (Roam c.in-Roam.ap)
 
 pub returns-in-Roam-clause-kept : goal.returns-in-Roam-clause-kept
 returns-in-Roam-clause-kept c = takes_kept c.args.domain.now (Roam c.in-Roam.ap) (turn c.args.self.now c.roam.new.self c.args.out.now.acts c.roam.new.out.acts) c.roam.result c.roam.ensures
+
+pub returns-in-Send-default-Some-default-clause-steps : goal.returns-in-Send-default-Some-default-clause-steps
+returns-in-Send-default-Some-default-clause-steps c =
+    let e = c.in-Send-default-Some-default in
+    takes_event c.args.domain.now (Send _ _ _) (event_of c.args.event) (turn c.args.self.now c.send.new.self c.args.out.now.acts c.send.new.out.acts) c.send.result (ap event_of e.is ∙ ap (λ (o : Option ℕ). Send e.to o e.payload.now) (rw e.is at e.field-1-is)) c.send.ensures
+
+pub returns-in-Send-default-None-default-clause-steps : goal.returns-in-Send-default-None-default-clause-steps
+returns-in-Send-default-None-default-clause-steps c =
+    let e = c.in-Send-default-None-default in
+    let sent = c.send-in-Send-default-None-default in
+    takes_event c.args.domain.now (Send _ _ _) (event_of c.args.event) (turn c.args.self.now sent.new.self c.args.out.now.acts sent.new.out.acts) sent.result (ap event_of e.is ∙ ap (λ (o : Option ℕ). Send e.to o e.payload.now) (rw e.is at e.field-1-is)) sent.ensures

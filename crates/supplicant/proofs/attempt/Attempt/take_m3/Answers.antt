@@ -1,3 +1,4 @@
+use Rattle.std.proofs.Common.{arith}
 use Rattle.std.proofs.Common.{ℕ, ◌∷◌, [], None, refl, ap, subst, ◌∙◌}
 use Rattle.domain_rules.specs.Frames.{sent_m4}
 use Rattle.group_key.specs.Keys.{given}
@@ -7,6 +8,7 @@ use Rattle.supplicant.specs.M3.{under}
 use Rattle.supplicant.specs.Told.{Tells, installs}
 use Rattle.supplicant.proofs.KeyDataRead.{agreed}
 use Rattle.supplicant.proofs.Telling.{whole_silent, whole_empty}
+use Rattle.std.proofs.lemmas.Grind.{common_steps}
 use Rattle.supplicant.proofs.attempt.Attempt.take_m3.Goals as goal
 
 pub returns-clause-finishes : goal.returns-clause-finishes
@@ -33,3 +35,6 @@ returns-in_default-clause-whole c = whole_empty c.args.reply.now c.requires.empt
 
 pub accept_m3-requires-clause-verified : goal.accept_m3-requires-clause-verified
 accept_m3-requires-clause-verified c = (agreed (under c.args.base.now c.in-Some.key None) (fields_of c.args.frame.now) c.args.frame.now.octets.now c.in_ok-group.group c.judge_m3.new.reply.verified c.in_ok-group.ensures.judged).0
+
+pub returns-in_default-clause-refused : goal.returns-in_default-clause-refused
+returns-in_default-clause-refused c = grind (arith, common_steps)

@@ -1,8 +1,10 @@
+use Rattle.std.proofs.Common.{arith}
 use Rattle.std.proofs.Common.{Some, refl}
 use Rattle.eapol_key.specs.Fields.{fields_of}
 use Rattle.supplicant.specs.M3.{under}
 use Rattle.supplicant.proofs.KeyDataRead.{agreed}
 use Rattle.supplicant.proofs.Telling.{whole_silent, whole_empty}
+use Rattle.std.proofs.lemmas.Grind.{common_steps}
 use Rattle.supplicant.proofs.session.Session.take_m3.Goals as goal
 
 pub returns-clause-repeats : goal.returns-clause-repeats
@@ -30,3 +32,6 @@ returns-in_default-clause-whole c = whole_empty c.args.reply.now c.requires.empt
 
 pub answer_m3-requires-clause-verified : goal.answer_m3-requires-clause-verified
 answer_m3-requires-clause-verified c = (agreed (under c.args.base.now c.in-Connect.key (Some c.in-Connect.counter)) (fields_of c.args.frame.now) c.args.frame.now.octets.now c.in_ok-judge_m3.field-0 c.judge_m3.new.reply.verified c.in_ok-judge_m3.ensures.judged).0
+
+pub returns-in_default-clause-refused : goal.returns-in_default-clause-refused
+returns-in_default-clause-refused c = grind (arith, common_steps)

@@ -1,3 +1,4 @@
+use Rattle.std.proofs.Common.{arith}
 use Rattle.std.proofs.Common.{Some, None, refl, sym, subst, inl}
 use Rattle.eapol_key.specs.declared.messages.Message.TheVariants.{M3}
 use Rattle.run_journal.specs.declared.acts.Outcome.TheVariants.{Accepted, Refused}
@@ -7,6 +8,7 @@ use Rattle.supplicant.specs.Taken.{IsTaken}
 use Rattle.supplicant.proofs.Keyings.{attempt_keying}
 use Rattle.supplicant.proofs.TakenM3.{m3_refusal, m3_finished}
 use Rattle.supplicant.proofs.OwnKeys.{finished_key}
+use Rattle.std.proofs.lemmas.Grind.{common_steps}
 use Rattle.supplicant.proofs.supplicant.Supplicant.take_m3.Goals as goal
 
 pub invariant_of-self : goal.invariant_of-self
@@ -32,3 +34,6 @@ returns-in-Err c =
     (subst (λ (ks : _). IsTaken M3 c.args.frame.now (both s c.args.memory.now) (both s ks) (Refused c.in-Err.why) c.take_m3.new.reply) (sym c.in-Err.ensures.kept)
     (m3_refusal c.args.frame.now s c.args.memory.now c.in-Some.attempt.key None c.in-Err.why c.take_m3.new.reply
     (λ d n p h st. attempt_keying d n p s.base c.self.inside.attempt c.in-Some.attempt h c.in-Some.is st.attempt_is) c.in-Err.ensures.refused))
+
+pub take_m3_again-requires-clause-alone : goal.take_m3_again-requires-clause-alone
+take_m3_again-requires-clause-alone c = grind (arith, common_steps)

@@ -1,0 +1,27 @@
+-- Acts that were added one after the other.
+use Rattle.std.proofs.Common.{◌≡◌, ℕ, List, [], ◌∷◌, ◌++◌, append_assoc, refl, ap, ◌∙◌}
+use Rattle.domain_base.specs.declared.names.Mac.{Mac}
+use Rattle.domain_base.specs.declared.names.Node.{Node}
+use Rattle.domain_base.specs.declared.names.Peer.TheVariants.{All}
+use Rattle.run_journal.specs.declared.domain.Domain.{Domain}
+use Rattle.run_journal.specs.declared.acts.Act.{Act}
+use Rattle.run_journal.specs.declared.acts.Act.TheVariants.{Drew, Installed}
+use Rattle.run_journal.specs.declared.acts.Drawn.TheVariants.{Gtk}
+use Rattle.run_journal.specs.declared.acts.Key.TheVariants.{Group}
+use Rattle.domain_rules.specs.Network.{gtk, mac}
+use Rattle.domain_rules.specs.AccessPointRows.{start_acts}
+
+pub two_added : (a b c : List Act) (x y : Act) → b ≡ a ++ x ∷ [] → c ≡ b ++ y ∷ [] → c ≡ a ++ x ∷ y ∷ []
+two_added a b c x y b_is c_is = c_is ∙ ap (λ (l : List Act). l ++ y ∷ []) b_is ∙ append_assoc a (x ∷ []) (y ∷ [])
+
+pub three_added : (a b c d : List Act) (x y z : Act) → b ≡ a ++ x ∷ [] → c ≡ b ++ y ∷ [] → d ≡ c ++ z ∷ [] → d ≡ a ++ x ∷ y ∷ z ∷ []
+three_added a b c d x y z b_is c_is d_is = d_is ∙ ap (λ (l : List Act). l ++ z ∷ []) (two_added a b c x y b_is c_is) ∙ append_assoc a (x ∷ y ∷ []) (z ∷ [])
+
+-- an access point starts
+pub started_as : (d : Domain) (first : ℕ) (n : Node) (old a b c : List Act) (key : List ℕ) (id : ℕ) (bssid : Mac) → a ≡ old → b ≡ a ++ Drew (Gtk key) ∷ [] → c ≡ b ++ Installed All (Group key id bssid) ∷ []
+    → key ≡ gtk d n first → id ≡ 1 → bssid ≡ mac d n → c ≡ old ++ start_acts d first n
+started_as d first n old a b c key id bssid a_is b_is c_is key_is id_is bssid_is = two_added a b c _ _ b_is c_is ∙ same a_is key_is id_is bssid_is
+  where
+    same : {a old : List Act} {key k : List ℕ} {id i : ℕ} {bssid m : Mac} → a ≡ old → key ≡ k → id ≡ i → bssid ≡ m
+        → a ++ Drew (Gtk key) ∷ Installed All (Group key id bssid) ∷ [] ≡ old ++ Drew (Gtk k) ∷ Installed All (Group k i m) ∷ []
+    same e f g h = rw (e, f, g, h) refl

@@ -1,0 +1,91 @@
+-- A line that lists a node, by its parts.
+use Rattle.std.proofs.Common.{Bool, if◌then◌else◌, nat_le, nat_lt, slice_index, ◌≡◌, true, false, List, ℕ, Option, Some, Ok, Err, Result, MatchOption, option_map, refl, subst, sym, ap, ◌∙◌}
+use Rattle.std.specs.Result.{result_ok}
+use Rattle.domain_base.specs.declared.names.Mac.{Mac}
+use Rattle.domain_base.specs.declared.names.Node.{Node}
+use Rattle.run_journal.specs.declared.domain.Domain.{Domain}
+use Rattle.run_journal.specs.declared.domain.Event.TheVariants.{Connect, Roam, Retry, Expire, Revoke, Deliver, Cut, Alter}
+use Rattle.frame_script.specs.declared.tokens.NodeName.{NodeName}
+use Rattle.frame_script.specs.declared.tokens.PeerName.{PeerName}
+use Rattle.frame_script.specs.Sentences.{TellsBy, name_of, peer_of}
+use Rattle.frame_script.specs.declared.refusal.Refusal.{Refusal}
+use Rattle.frame_script.specs.Tokens.{NodeWord, PeerWord, peer_word, number_of_digits, hex_octets, split_word, node_word, is_text}
+use Rattle.frame_script.specs.Script.{◌>>=◌, Fault, send_line, send_between, to_word, event_node, size_of, frame_, place_, deliver_line, cut_line, alter_line, need, node_, listed_sta, listed_ap, connect_line, roam_line, retry_line, expire_line, revoke_line, arguments, ListsAp, ListsSta, address_of, new_ap, new_sta, ap_line, sta_line}
+
+pub sta_said : (d : Domain) (text : List ℕ) (address : Mac) → address_of text ≡ Ok address → new_sta d address ≡ Ok (ListsSta address) → sta_line d text ≡ Ok (ListsSta address)
+unfolding sta_line
+sta_said d text address is new = rw is new
+
+pub ap_said : (d : Domain) (text word id : List ℕ) (address : Mac) → split_word text ≡ Some (word, id) → address_of word ≡ Ok address → is_text 48 33 id ≡ true → new_ap d address id ≡ Ok (ListsAp address id) → ap_line d text ≡ Ok (ListsAp address id)
+unfolding ap_line
+ap_said d text word id address split is fit new = rw (split, is, fit) new
+
+pub ap_unfit : (d : Domain) (text word id : List ℕ) (address : Mac) → split_word text ≡ Some (word, id) → address_of word ≡ Ok address → is_text 48 33 id ≡ false → ap_line d text ≡ Err arguments
+unfolding ap_line
+ap_unfit d text word id address split is fit = rw (split, is, fit) refl
+
+-- two words, where a fault takes the place of none
+pub split_found : {A : Type 0} (P : A → Type 0) (N : Type 0) (o : Option A) (r : Result A Refusal) (a : A) → o ≡ result_ok r → r ≡ Ok a → MatchOption o N P → P a
+split_found {A} P N o r a part was h = subst (λ (x : Option A). MatchOption x N P) (part ∙ ap result_ok was) h
+
+-- and a number or a name
+pub value_found : {A : Type 0} (o m : Option A) (r : Result A Refusal) (a : A) → o ≡ m → o ≡ result_ok r → r ≡ Ok a → m ≡ Some a
+value_found o m r a is part was = sym is ∙ (part ∙ ap result_ok was)
+
+pub name_found : (o : Option NodeName) (m : Option NodeWord) (r : Result NodeName Refusal) (n : NodeName) → option_map name_of o ≡ m → o ≡ result_ok r → r ≡ Ok n → m ≡ Some (name_of n)
+name_found o m r n is part was = sym is ∙ ap (λ (x : Option NodeName). option_map name_of x) (part ∙ ap result_ok was)
+
+pub connect_said : (d : Domain) (text first second : List ℕ) (s a : NodeWord) → split_word text ≡ Some (first, second) → node_word first ≡ Some s → node_word second ≡ Some a
+    → connect_line d text ≡ (need node_ (listed_sta d s) >>= (λ sta. need node_ (listed_ap d a) >>= (λ ap. Ok (Connect sta ap))))
+unfolding connect_line
+connect_said d text first second s a split is at = rw (split, is, at) refl
+
+pub roam_said : (d : Domain) (text first second : List ℕ) (s a : NodeWord) → split_word text ≡ Some (first, second) → node_word first ≡ Some s → node_word second ≡ Some a
+    → roam_line d text ≡ (need node_ (listed_sta d s) >>= (λ sta. need node_ (listed_ap d a) >>= (λ ap. Ok (Roam sta ap))))
+unfolding roam_line
+roam_said d text first second s a split is at = rw (split, is, at) refl
+
+pub retry_said : (d : Domain) (text first second : List ℕ) (a s : NodeWord) → split_word text ≡ Some (first, second) → node_word first ≡ Some a → node_word second ≡ Some s
+    → retry_line d text ≡ (need node_ (listed_ap d a) >>= (λ ap. need node_ (listed_sta d s) >>= (λ sta. Ok (Retry ap sta))))
+unfolding retry_line
+retry_said d text first second a s split is at = rw (split, is, at) refl
+
+pub expire_said : (d : Domain) (text first second : List ℕ) (a s : NodeWord) → split_word text ≡ Some (first, second) → node_word first ≡ Some a → node_word second ≡ Some s
+    → expire_line d text ≡ (need node_ (listed_ap d a) >>= (λ ap. need node_ (listed_sta d s) >>= (λ sta. Ok (Expire ap sta))))
+unfolding expire_line
+expire_said d text first second a s split is at = rw (split, is, at) refl
+
+pub revoke_said : (d : Domain) (text first second : List ℕ) (a s : NodeWord) → split_word text ≡ Some (first, second) → node_word first ≡ Some a → node_word second ≡ Some s
+    → revoke_line d text ≡ (need node_ (listed_ap d a) >>= (λ ap. need node_ (listed_sta d s) >>= (λ sta. Ok (Revoke ap sta))))
+unfolding revoke_line
+revoke_said d text first second a s split is at = rw (split, is, at) refl
+
+-- the lines of a frame that was sent
+pub deliver_said : (d : Domain) (within : Bool) (sizes text first last : List ℕ) (number : ℕ) (w : NodeWord) → split_word text ≡ Some (first, last) → number_of_digits first ≡ Some number → to_word last ≡ Some w
+    → deliver_line d within sizes text ≡ (need node_ (event_node within d w) >>= (λ to. need frame_ (size_of sizes number) >>= (λ size. Ok (Deliver number to))))
+unfolding deliver_line
+deliver_said d within sizes text first last number w split is at = rw (split, is, at) refl
+
+pub cut_said : (d : Domain) (within : Bool) (sizes line word text second last : List ℕ) (number count : ℕ) (w : NodeWord) → split_word line ≡ Some (word, text) → number_of_digits word ≡ Some number
+    → split_word text ≡ Some (second, last) → number_of_digits second ≡ Some count → to_word last ≡ Some w
+    → cut_line d within sizes line ≡ (need node_ (event_node within d w) >>= (λ to. need frame_ (size_of sizes number) >>= (λ size. if nat_le count size then Ok (Cut number count to) else Err place_)))
+unfolding cut_line
+cut_said d within sizes line word text second last number count w split is more so at = rw (split, is, more, so, at) refl
+
+pub alter_said : (d : Domain) (within : Bool) (sizes line word rest second text third last mask : List ℕ) (number place : ℕ) (w : NodeWord) (to : Node) → split_word line ≡ Some (word, rest) → number_of_digits word ≡ Some number
+    → split_word rest ≡ Some (second, text) → number_of_digits second ≡ Some place → split_word text ≡ Some (third, last) → hex_octets 1 third ≡ Some mask → to_word last ≡ Some w → event_node within d w ≡ Some to
+    → alter_line d within sizes line ≡ (need frame_ (size_of sizes number) >>= (λ size. if nat_lt place size then Ok (Alter number place (slice_index mask 0) to) else Err place_))
+unfolding alter_line
+alter_said d within sizes line word rest second text third last mask number place w to split is more so most by at node = rw (split, is, more, so, most, by, at, node) refl
+
+-- the line of a payload
+pub send_said : (d : Domain) (within : Bool) (text first rest second more : List ℕ) (f : NodeWord) (t : PeerWord) → split_word text ≡ Some (first, rest) → node_word first ≡ Some f → split_word rest ≡ Some (second, more) → peer_word second ≡ Some t
+    → send_line d within text ≡ send_between d within f t more
+unfolding send_line
+send_said d within text first rest second more f t split is so at = rw (split, is, so, at) refl
+
+pub peer_found : (o : Option PeerName) (m : Option PeerWord) (r : Result PeerName Refusal) (n : PeerName) → option_map peer_of o ≡ m → o ≡ result_ok r → r ≡ Ok n → m ≡ Some (peer_of n)
+peer_found o m r n is part was = sym is ∙ ap (λ (x : Option PeerName). option_map peer_of x) (part ∙ ap result_ok was)
+
+pub tells_by_as : {A B : Type 0} (view : A → B) (found : Result A Refusal) (m n : Result B Fault) → n ≡ m → TellsBy view found m → TellsBy view found n
+tells_by_as {A} {B} view found m n e t = subst (λ (x : Result B Fault). TellsBy view found x) (sym e) t

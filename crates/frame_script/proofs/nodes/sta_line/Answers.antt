@@ -1,0 +1,9 @@
+use Rattle.frame_script.proofs.Freed.{can-list_sta}
+use Rattle.frame_script.proofs.Listing.{sta_said}
+use Rattle.frame_script.proofs.nodes.sta_line.Goals as goal
+
+pub returns-clause-can : goal.returns-clause-can
+returns-clause-can c = can-list_sta c.args.domain.now _ c.in_ok-address.ensures.single c.in_ok-new_sta.ensures.room c.in_ok-new_sta.ensures.free
+
+pub returns-clause-says : goal.returns-clause-says
+returns-clause-says c = sta_said c.args.domain.now c.args.text.now _ c.in_ok-address.ensures.says c.in_ok-new_sta.ensures.says
