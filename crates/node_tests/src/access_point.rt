@@ -1,50 +1,29 @@
-//! The access point A1, event by event.
+//! Access points, event by event: frames octet by octet, and what no script comes to.
 
 ghost use Rattle.std.specs.Prelude.{◌≡◌, ◌<◌, length};
 ghost use Rattle.domain_rules.specs.Network.{InForm};
 ghost use Rattle.ft_exchange.specs.Asking.{ids_of};
 
-mod handshakes;
-mod protected;
-mod rekeys;
-mod requests;
-mod transition;
-
-use crate::acts::Expected::{Drew, Group, OwnGroupOfA2};
-use crate::acts::{Event, Expected, Step, come, come_of, is_outcome, tid_of};
-use crate::mobility_vectors::{GTK_OF_A2, LAST_GTK_OF_A2};
-use crate::named::{data_of, octets_of};
+use crate::air_frames::{
+    G1_3, G1_3_OF_SUITE_6, G2_2, G2_3, G2_3_OF_SUITE_6, G2_3_WITH_WRONG_MIC, M1_1, M1_1_OF_SUITE_6,
+    M2_1, M2_1_OF_SUITE_6, M2_1_WITH_CUT_RSNE, M3_2_OF_SUITE_6, M3_2_WITH_RSC_1, M4_2,
+    M4_2_OF_SUITE_6, OTHER_G1_3, OTHER_G2_3, OTHER_M2_1, OTHER_M4_2, REQUEST, REQUEST_OF_S2,
+    REQUEST_OF_SUITE_6, RESPONSE,
+};
+use crate::mobility_vectors as ft;
 use crate::network::{holders, network};
-use crate::vectors::GTK;
+use crate::protected_frames::{ALL_1, ALL_OF_A2, DOWN_3, NEXT_ALL_1, UP_0, UP_5};
+use crate::steps::{Event, Step, come, is_outcome};
+use crate::transition_frames::{FT_REQ, FT_RESP, RE_REQ, RE_RESP};
+use crate::vectors::LAST;
 use act_memory::Outbox;
 use ap_node::ApNode;
-use domain_base::{Akm, Node, Peer};
+use domain_base::{Akm, Node, Peer, Tid};
 use key_holders::ListHolders;
 use node_base::NodeEvent;
-use run_journal::{Domain, Drawn, Outcome};
+use run_journal::{Domain, KeyDataFault, Outcome, Reason, Why};
 use std::alloc::Global;
 use std::process::Abort;
-
-// What the access point draws by its last number as a group key.
-const LAST_GTK: [u8; 16] = *b"\xaa\xaa\x7f\x7e\x1d\x11\x1a\x3f\x3d\x96\xd9\x00\x9a\xb8\xdf\xae";
-
-// What the access point does as it starts: the first group key is drawn and installed.
-const START: &[Expected] = &[Drew(Drawn::Gtk(GTK)), Group(Peer::All, GTK, 1)];
-
-// The same, where it starts with the last draw.
-const LAST_START: &[Expected] = &[Drew(Drawn::Gtk(LAST_GTK)), Group(Peer::All, LAST_GTK, 1)];
-
-// What the access point A2 does as it starts.
-const START_OF_A2: &[Expected] = &[Drew(Drawn::Gtk(GTK_OF_A2)), OwnGroupOfA2(GTK_OF_A2, 1)];
-
-// The same, where it starts with the last draw.
-const LAST_START_OF_A2: &[Expected] = &[
-    Drew(Drawn::Gtk(LAST_GTK_OF_A2)),
-    OwnGroupOfA2(LAST_GTK_OF_A2, 1),
-];
-
-// The number of the last draw.
-const LAST: u64 = 1_152_921_504_606_846_975;
 
 // The outcome and the acts of the event are those of the step. No event of a station comes to an
 // access point.
@@ -66,32 +45,26 @@ fn steps(
     ensures ids { holders.new.ids ≡ ids_of domain.now }
 {
     let event = match step.event {
-        Event::Take(frame) => NodeEvent::Take(octets_of(frame)),
-        Event::TakeData(frame) => NodeEvent::Take(data_of(frame).octets),
-        Event::Retry(station) => NodeEvent::Retry(station % 2),
+        Event::Take(octets) => NodeEvent::Take(octets),
         Event::Rekey => NodeEvent::Rekey,
         Event::Send(station, tid, payload) if payload.len() <= 2304 => {
-            NodeEvent::Send(Peer::One(Node::Sta(station % 2)), tid_of(tid), payload)
+            NodeEvent::Send(Peer::One(Node::Sta(station % 2)), Tid::new(tid), payload)
         }
-        Event::SendAll(tid, payload) if payload.len() <= 2304 => {
-            NodeEvent::Send(Peer::All, tid_of(tid), payload)
+        Event::SendPlain(payload) if payload.len() <= 2304 => {
+            NodeEvent::Send(Peer::All, None, payload)
         }
-        Event::Expire(station) => NodeEvent::Expire(station % 2),
-        Event::Revoke(station) => NodeEvent::Revoke(station % 2),
         _ => return false,
     };
-    is_outcome(node.step(alloc, domain, event, holders, out), step.outcome) && come_of(out, step)
+    is_outcome(node.step(alloc, domain, event, holders, out), step.outcome) && come(out, step.acts)
 }
 
-// The access point takes the steps of that scenario.
+// The access point takes these steps.
 fn follow(
     rt: &impl Abort,
     alloc: Global,
     domain: &Domain,
     node: &mut ApNode,
     holders: &mut ListHolders,
-    out: &mut Outbox,
-    shows: &str,
     scenario: &[Step],
 )
     requires form { InForm domain.now }
@@ -101,55 +74,40 @@ fn follow(
     requires ids { holders.old.ids ≡ ids_of domain.now }
     ensures ids { holders.new.ids ≡ ids_of domain.now }
 {
+    let mut out = Outbox::new(alloc);
     for step in scenario {
         assert!(rt;
-            steps(alloc, domain, node, holders, out, step),
-            "{}: {}",
-            shows,
+            steps(alloc, domain, node, holders, &mut out, step),
+            "{}",
             step.shows
         );
     }
 }
 
-// An access point: its number, the number from which it draws, and what it does as it starts.
-type Starting = (u16, u64, &'static [Expected]);
+// An access point: its number, the number from which it draws, and its steps.
+type Starting = (u16, u64, &'static [Step]);
 
-const FIRST: &Starting = &(0, 0, START);
-
-const LAST_FIRST: &Starting = &(0, LAST, LAST_START);
-
-const SECOND: &Starting = &(1, 0, START_OF_A2);
-
-const LAST_SECOND: &Starting = &(1, LAST, LAST_START_OF_A2);
-
-// An access point starts so.
-fn started(
-    rt: &impl Abort,
-    alloc: Global,
-    domain: &Domain,
-    starting: &Starting,
-    out: &mut Outbox,
-) -> ApNode
+// It starts so: a group key is drawn and comes into use.
+fn started(rt: &impl Abort, alloc: Global, domain: &Domain, number: u16, first: u64) -> ApNode
     requires form { InForm domain.now }
     requires aps { length domain.now.aps ≡ 2 }
     requires stas { length domain.now.stas ≡ 2 }
     ensures { result.number < 2 }
 {
-    let (number, first, acts) = starting;
-    assert!(rt; *number < 2 && *first <= LAST);
-    let node = ApNode::start(alloc, domain, *number, *first, out).expect(rt, "memory");
-    assert!(rt; come(out, acts, b"", Outcome::Done));
+    assert!(rt; number < 2 && first <= LAST);
+    let mut out = Outbox::new(alloc);
+    let node = ApNode::start(alloc, domain, number, first, &mut out).expect(rt, "memory");
+    assert!(rt; come(&mut out, &[None, None]));
     node
 }
 
-// An access point starts so and takes these steps.
+// It starts so and takes its steps.
 fn start_and_follow(
     rt: &impl Abort,
     alloc: Global,
     domain: &Domain,
     holders: &mut ListHolders,
-    shows: &str,
-    node: &(&Starting, &[Step]),
+    node: &Starting,
 )
     requires form { InForm domain.now }
     requires aps { length domain.now.aps ≡ 2 }
@@ -157,202 +115,286 @@ fn start_and_follow(
     requires ids { holders.old.ids ≡ ids_of domain.now }
     ensures ids { holders.new.ids ≡ ids_of domain.now }
 {
-    let (starting, steps) = node;
-    let mut out = Outbox::new(alloc);
-    let mut node = started(rt, alloc, domain, starting, &mut out);
-    follow(
-        rt, alloc, domain, &mut node, holders, &mut out, shows, steps,
-    );
+    let (number, first, steps) = *node;
+    let mut node = started(rt, alloc, domain, number, first);
+    follow(rt, alloc, domain, &mut node, holders, steps);
 }
 
-// What a scenario shows, its suite, and its access points in turn, each with its steps.
-struct Scenario {
-    shows: &'static str,
-    akm: Akm,
-    nodes: &'static [(&'static Starting, &'static [Step])],
-}
-
-// The key holders are those of the network.
-fn try_scenario(rt: &impl Abort, alloc: Global, scenario: &Scenario) {
-    let domain = network(rt, alloc, scenario.akm);
+// These access points take their steps in turn, with the key holders of the network.
+fn try_scenario(rt: &impl Abort, alloc: Global, akm: Akm, nodes: &[Starting]) {
+    let domain = network(rt, alloc, akm);
     let mut holders = holders(rt, alloc, &domain);
-    for node in scenario.nodes {
-        start_and_follow(rt, alloc, &domain, &mut holders, scenario.shows, node);
+    for node in nodes {
+        start_and_follow(rt, alloc, &domain, &mut holders, node);
     }
 }
 
-const STARTS: &Scenario = &Scenario {
-    shows: "first group key",
-    akm: Akm::Psk,
-    nodes: &[(FIRST, &[])],
-};
-
-const REQUESTS: &Scenario = &Scenario {
-    shows: "requests and second messages",
-    akm: Akm::Psk,
-    nodes: &[(FIRST, requests::REQUESTS)],
-};
-
-const FIRST_MESSAGES: &Scenario = &Scenario {
-    shows: "the first message is sent four times",
-    akm: Akm::Psk,
-    nodes: &[(FIRST, requests::FIRST_MESSAGES)],
-};
-
-const SPENT: &Scenario = &Scenario {
-    shows: "draws of an access point end",
-    akm: Akm::Psk,
-    nodes: &[(LAST_FIRST, requests::SPENT)],
-};
-
-const HANDSHAKES: &Scenario = &Scenario {
-    shows: "M4 finishes a handshake",
-    akm: Akm::Psk,
-    nodes: &[(FIRST, handshakes::HANDSHAKES)],
-};
-
-const HANDSHAKE_OF_SUITE_6: &Scenario = &Scenario {
-    shows: "M4 finishes a handshake of suite 6",
-    akm: Akm::PskSha256,
-    nodes: &[(FIRST, handshakes::HANDSHAKE_OF_SUITE_6)],
-};
-
-const STATIONS: &Scenario = &Scenario {
-    shows: "stations are kept apart",
-    akm: Akm::Psk,
-    nodes: &[(FIRST, handshakes::STATIONS)],
-};
-
-const DATA: &Scenario = &Scenario {
-    shows: "data goes under the keys in use",
-    akm: Akm::Psk,
-    nodes: &[(FIRST, protected::DATA)],
-};
-
-const TAKEN: &Scenario = &Scenario {
-    shows: "data of a station is taken once",
-    akm: Akm::Psk,
-    nodes: &[(FIRST, protected::TAKEN)],
-};
-
-const NEXT_KEY: &Scenario = &Scenario {
-    shows: "the next handshake brings a new key",
-    akm: Akm::Psk,
-    nodes: &[(FIRST, protected::NEXT_KEY)],
-};
-
-const GIVEN_UP: &Scenario = &Scenario {
-    shows: "the key goes with the session",
-    akm: Akm::Psk,
-    nodes: &[(FIRST, protected::GIVEN_UP)],
-};
-
-const ANSWERED: &Scenario = &Scenario {
-    shows: "a new group key waits for the answer",
-    akm: Akm::Psk,
-    nodes: &[(FIRST, rekeys::ANSWERED)],
-};
-
-const NO_ANSWER: &Scenario = &Scenario {
-    shows: "a session without an answer is given up",
-    akm: Akm::Psk,
-    nodes: &[(FIRST, rekeys::GIVEN_UP)],
-};
-
-const DROPPED: &Scenario = &Scenario {
-    shows: "a session that owes is dropped",
-    akm: Akm::Psk,
-    nodes: &[(FIRST, rekeys::DROPPED)],
-};
-
-const OLDER: &Scenario = &Scenario {
-    shows: "M4 for an older group key is followed by G1",
-    akm: Akm::Psk,
-    nodes: &[(FIRST, rekeys::OLDER)],
-};
-
-const BOTH: &Scenario = &Scenario {
-    shows: "a new group key waits for all answers",
-    akm: Akm::Psk,
-    nodes: &[(FIRST, rekeys::BOTH)],
-};
-
-const NO_DRAW: &Scenario = &Scenario {
-    shows: "no group key is drawn at the end of draws",
-    akm: Akm::Psk,
-    nodes: &[(LAST_FIRST, rekeys::SPENT)],
-};
-
-const TRANSITION: &Scenario = &Scenario {
-    shows: "fast transition to an access point",
-    akm: Akm::FtPsk,
-    nodes: &[(FIRST, transition::ASSOCIATED), (SECOND, transition::TAKEN)],
-};
-
-const REVOKED: &Scenario = &Scenario {
-    shows: "no fast transition with a revoked key",
-    akm: Akm::FtPsk,
-    nodes: &[(FIRST, transition::REVOKED), (SECOND, transition::ABSENT)],
-};
-
-const NO_NONCE: &Scenario = &Scenario {
-    shows: "no fast transition at the end of draws",
-    akm: Akm::FtPsk,
-    nodes: &[
-        (FIRST, transition::ASSOCIATED),
-        (LAST_SECOND, transition::SPENT),
-    ],
-};
-
-const REFUSED: &Scenario = &Scenario {
-    shows: "no fast transition by a request that is refused",
-    akm: Akm::FtPsk,
-    nodes: &[
-        (FIRST, transition::ASSOCIATED),
-        (SECOND, transition::REFUSED),
-    ],
-};
-
-const FAULTY: &Scenario = &Scenario {
-    shows: "messages 2 with other key data",
-    akm: Akm::FtPsk,
-    nodes: &[(FIRST, transition::FAULTY)],
-};
+const SUITE_2: &[Step] = &[
+    Step {
+        shows: "to all, with no session at all",
+        event: Event::SendPlain(b"all"),
+        outcome: Outcome::Done,
+        acts: &[None, Some(ALL_1)],
+    },
+    Step {
+        shows: "a request",
+        event: Event::Take(REQUEST),
+        outcome: Outcome::Accepted,
+        acts: &[None, None, None, Some(RESPONSE), Some(M1_1)],
+    },
+    Step {
+        shows: "M2 with a cut RSNE",
+        event: Event::Take(M2_1_WITH_CUT_RSNE),
+        outcome: Outcome::Refused(Reason::KeyData(KeyDataFault::Unreadable)),
+        acts: &[None],
+    },
+    Step {
+        shows: "M2, and M3 tells of the number that was used",
+        event: Event::Take(M2_1),
+        outcome: Outcome::Accepted,
+        acts: &[None, None, Some(M3_2_WITH_RSC_1)],
+    },
+    Step {
+        shows: "M4",
+        event: Event::Take(M4_2),
+        outcome: Outcome::Accepted,
+        acts: &[None, None, None],
+    },
+    Step {
+        shows: "to the station, with a TID",
+        event: Event::Send(0, 3, b"down"),
+        outcome: Outcome::Done,
+        acts: &[None, Some(DOWN_3)],
+    },
+    Step {
+        shows: "of the station, with a TID",
+        event: Event::Take(UP_5),
+        outcome: Outcome::Accepted,
+        acts: &[None, None],
+    },
+    Step {
+        shows: "the same number without a TID",
+        event: Event::Take(UP_0),
+        outcome: Outcome::Accepted,
+        acts: &[None, None],
+    },
+    Step {
+        shows: "a new group key",
+        event: Event::Rekey,
+        outcome: Outcome::Done,
+        acts: &[None, Some(G1_3)],
+    },
+    Step {
+        shows: "G2 with the counter of M3",
+        event: Event::Take(G2_2),
+        outcome: Outcome::Refused(Reason::Counter(3)),
+        acts: &[None],
+    },
+    Step {
+        shows: "G2 with a wrong MIC",
+        event: Event::Take(G2_3_WITH_WRONG_MIC),
+        outcome: Outcome::Refused(Reason::Mic),
+        acts: &[None],
+    },
+    Step {
+        shows: "G2",
+        event: Event::Take(G2_3),
+        outcome: Outcome::Accepted,
+        acts: &[None, None],
+    },
+    Step {
+        shows: "to all, under the new key",
+        event: Event::SendPlain(b"turned"),
+        outcome: Outcome::Done,
+        acts: &[None, Some(NEXT_ALL_1)],
+    },
+];
 
 #[test]
-fn requests_and_handshakes_at_an_access_point(rt: HostRuntime) {
-    try_scenario(&rt, rt.alloc(), STARTS);
-    try_scenario(&rt, rt.alloc(), REQUESTS);
-    try_scenario(&rt, rt.alloc(), FIRST_MESSAGES);
-    try_scenario(&rt, rt.alloc(), SPENT);
-    try_scenario(&rt, rt.alloc(), HANDSHAKES);
-    try_scenario(&rt, rt.alloc(), HANDSHAKE_OF_SUITE_6);
-    try_scenario(&rt, rt.alloc(), STATIONS);
+fn an_access_point_of_suite_2(rt: HostRuntime) {
+    try_scenario(&rt, rt.alloc(), Akm::Psk, &[(0, 0, SUITE_2)]);
 }
 
-#[test]
-fn data_at_an_access_point(rt: HostRuntime) {
-    try_scenario(&rt, rt.alloc(), DATA);
-    try_scenario(&rt, rt.alloc(), TAKEN);
-    try_scenario(&rt, rt.alloc(), NEXT_KEY);
-    try_scenario(&rt, rt.alloc(), GIVEN_UP);
-}
+const SUITE_6: &[Step] = &[
+    Step {
+        shows: "a request",
+        event: Event::Take(REQUEST_OF_SUITE_6),
+        outcome: Outcome::Accepted,
+        acts: &[None, None, None, Some(RESPONSE), Some(M1_1_OF_SUITE_6)],
+    },
+    Step {
+        shows: "M2",
+        event: Event::Take(M2_1_OF_SUITE_6),
+        outcome: Outcome::Accepted,
+        acts: &[None, None, Some(M3_2_OF_SUITE_6)],
+    },
+    Step {
+        shows: "M4",
+        event: Event::Take(M4_2_OF_SUITE_6),
+        outcome: Outcome::Accepted,
+        acts: &[None, None, None],
+    },
+    Step {
+        shows: "a new group key",
+        event: Event::Rekey,
+        outcome: Outcome::Done,
+        acts: &[None, Some(G1_3_OF_SUITE_6)],
+    },
+    Step {
+        shows: "G2",
+        event: Event::Take(G2_3_OF_SUITE_6),
+        outcome: Outcome::Accepted,
+        acts: &[None, None],
+    },
+];
 
 #[test]
-fn new_group_keys_at_an_access_point(rt: HostRuntime) {
-    try_scenario(&rt, rt.alloc(), ANSWERED);
-    try_scenario(&rt, rt.alloc(), NO_ANSWER);
-    try_scenario(&rt, rt.alloc(), DROPPED);
-    try_scenario(&rt, rt.alloc(), OLDER);
-    try_scenario(&rt, rt.alloc(), BOTH);
-    try_scenario(&rt, rt.alloc(), NO_DRAW);
+fn an_access_point_of_suite_6(rt: HostRuntime) {
+    try_scenario(&rt, rt.alloc(), Akm::PskSha256, &[(0, 0, SUITE_6)]);
 }
 
+// The first access point: an association, behind which its key holder is given the row.
+const ASSOCIATED: &[Step] = &[
+    Step {
+        shows: "the association request",
+        event: Event::Take(ft::REQUEST),
+        outcome: Outcome::Accepted,
+        acts: &[None, None, None, Some(ft::RESPONSE), Some(ft::M1)],
+    },
+    Step {
+        shows: "M2",
+        event: Event::Take(ft::M2),
+        outcome: Outcome::Accepted,
+        acts: &[None, None, Some(ft::M3)],
+    },
+    Step {
+        shows: "M4",
+        event: Event::Take(ft::M4),
+        outcome: Outcome::Accepted,
+        acts: &[None, None, None, None],
+    },
+];
+
+// The second one: a fast transition.
+const TAKEN: &[Step] = &[
+    Step {
+        shows: "the authentication request",
+        event: Event::Take(FT_REQ),
+        outcome: Outcome::Accepted,
+        acts: &[None, None, None, None, None, Some(FT_RESP)],
+    },
+    Step {
+        shows: "the reassociation request",
+        event: Event::Take(RE_REQ),
+        outcome: Outcome::Accepted,
+        acts: &[None, None, None, Some(RE_RESP)],
+    },
+    Step {
+        shows: "to all",
+        event: Event::SendPlain(b"moved"),
+        outcome: Outcome::Done,
+        acts: &[None, Some(ALL_OF_A2)],
+    },
+];
+
+// And where its group key was the last draw.
+const SPENT_BY_THEN: &[Step] = &[Step {
+    shows: "an authentication request at the end of draws",
+    event: Event::Take(FT_REQ),
+    outcome: Outcome::Refused(Reason::Spent),
+    acts: &[None, None],
+}];
+
 #[test]
-fn fast_transitions_to_an_access_point(rt: HostRuntime) {
-    try_scenario(&rt, rt.alloc(), TRANSITION);
-    try_scenario(&rt, rt.alloc(), REVOKED);
-    try_scenario(&rt, rt.alloc(), NO_NONCE);
-    try_scenario(&rt, rt.alloc(), REFUSED);
-    try_scenario(&rt, rt.alloc(), FAULTY);
+fn access_points_of_suite_4(rt: HostRuntime) {
+    try_scenario(
+        &rt,
+        rt.alloc(),
+        Akm::FtPsk,
+        &[(0, 0, ASSOCIATED), (1, 0, TAKEN), (1, LAST, SPENT_BY_THEN)],
+    );
+}
+
+// The group key was the last draw.
+const SPENT: &[Step] = &[
+    Step {
+        shows: "a request at the end of draws",
+        event: Event::Take(REQUEST),
+        outcome: Outcome::Refused(Reason::Spent),
+        acts: &[None],
+    },
+    Step {
+        shows: "no new group key at the end of draws",
+        event: Event::Rekey,
+        outcome: Outcome::Idle(Why::Spent),
+        acts: &[None],
+    },
+];
+
+// A new group key comes between M3 and M4 of the second station.
+const OLDER: &[Step] = &[
+    Step {
+        shows: "a request",
+        event: Event::Take(REQUEST),
+        outcome: Outcome::Accepted,
+        acts: &[None, None, None, None, None],
+    },
+    Step {
+        shows: "M2",
+        event: Event::Take(M2_1),
+        outcome: Outcome::Accepted,
+        acts: &[None, None, None],
+    },
+    Step {
+        shows: "M4",
+        event: Event::Take(M4_2),
+        outcome: Outcome::Accepted,
+        acts: &[None, None, None],
+    },
+    Step {
+        shows: "a request of another station",
+        event: Event::Take(REQUEST_OF_S2),
+        outcome: Outcome::Accepted,
+        acts: &[None, None, None, None, None],
+    },
+    Step {
+        shows: "M2 of the other station",
+        event: Event::Take(OTHER_M2_1),
+        outcome: Outcome::Accepted,
+        acts: &[None, None, None],
+    },
+    Step {
+        shows: "a new group key for the one session",
+        event: Event::Rekey,
+        outcome: Outcome::Done,
+        acts: &[None, None],
+    },
+    Step {
+        shows: "M4 for the older group key is followed by G1",
+        event: Event::Take(OTHER_M4_2),
+        outcome: Outcome::Accepted,
+        acts: &[None, None, None, Some(OTHER_G1_3)],
+    },
+    Step {
+        shows: "the one answers, and nothing else is done",
+        event: Event::Take(G2_3),
+        outcome: Outcome::Accepted,
+        acts: &[None],
+    },
+    Step {
+        shows: "the other answers, and the group key comes into use",
+        event: Event::Take(OTHER_G2_3),
+        outcome: Outcome::Accepted,
+        acts: &[None, None],
+    },
+];
+
+#[test]
+fn an_older_group_key_and_the_end_of_draws(rt: HostRuntime) {
+    try_scenario(
+        &rt,
+        rt.alloc(),
+        Akm::Psk,
+        &[(0, 0, OLDER), (0, LAST, SPENT)],
+    );
 }

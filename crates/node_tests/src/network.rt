@@ -12,7 +12,8 @@ use run_journal::{Aps, Domain, ListedAp, Stas};
 use std::alloc::Global;
 use std::process::Abort;
 
-fn octets(rt: &impl Abort, alloc: Global, of: &[u8]) -> Octets
+/// Those octets.
+pub fn octets(rt: &impl Abort, alloc: Global, of: &[u8]) -> Octets
     ensures { result ≡ of.now }
 {
     Octets(Vec::from_slice(alloc, of).expect(rt, "memory"))
