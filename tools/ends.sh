@@ -83,6 +83,11 @@ for words in "frob" "x" "replay replay" "replay x" "Replay" "storm" "storm x" "s
     # shellcheck disable=SC2086
     passes_over $words
 done
+for words in "replay storm 5" "replay --help" "-- replay" "storm -- -5" "live 67560"; do
+    # shellcheck disable=SC2086
+    passes_over $words
+done
+ends 0 "" "$work/nothing" "$work/least" replay --
 
 # A storm writes its summary alone, whatever is on standard input: here a folder, which cannot be read. The summaries are those that
 # another implementation makes.
@@ -104,6 +109,7 @@ stormed 9 794 408 9 694 0 105 2 43 1
 stormed 0 745 395 8 743 0 88 2 52 4
 ends 0 "" "$work/storm" $none storm 0
 ends 0 "" "$work/storm" "$stored/stdin" storm 0000000000
+ends 0 "" "$work/storm" $none storm -- 0
 
 # The lines before the one at fault, and what they write.
 printf 'domain 1\nseed %064x\nssid net\npassphrase password\nakm psk\nap 0200000000aa r0kh-1\nsta 0200000000bb\n' 7 > "$work/header"

@@ -1,27 +1,42 @@
 //! The outside of this machine, with what no clause says: that frames go from one socket to
 //! another, and that seeds differ.
 
-use crate::outside::gives;
-use domain_base::{Air, Draws, Link, Node};
+use domain_base::{Air, Draws, Failed, Link, Node, array_at};
 use loopback::{MachineRandom, OsDraws, UdpAir};
 use std::cell::Cell;
 use std::net::Net;
 
+/// The link gives that frame next, by a buffer of four octets that is filled up with zeros, or none.
+pub fn gives<L: Link>(link: &mut L, expected: Option<[u8; 4]>) -> bool {
+    let mut buf = [0; 4];
+    match link.poll(&mut buf) {
+        Ok(Some(_)) => expected == Some(buf),
+        Ok(None) => expected == None,
+        Err(Failed) => false,
+    }
+}
+
 // No frame comes before one is sent; then one goes each way, and one is cut to the buffer.
 fn carry_frames<L: Link>(ap: &mut L, station: &mut L) -> bool {
-    gives(ap, &[Ok(None)])
+    gives(ap, None)
         && ap.send(Node::Sta(0), b"beacon").is_ok()
         && station.send(Node::Ap(0), b"ok").is_ok()
-        && gives(station, &[Ok(Some(*b"beac")), Ok(None)])
-        && gives(ap, &[Ok(Some(*b"ok\0\0")), Ok(None)])
+        && gives(station, Some(*b"beac"))
+        && gives(station, None)
+        && gives(ap, Some(*b"ok\0\0"))
+        && gives(ap, None)
 }
 
 // Whether two links from that port on carry frames, where both ports are free.
 fn carries_frames<R: Net + Drop>(net: R, port: u16) -> Option<bool> {
     let access_points = Cell::new(0);
     let mut air = UdpAir::new(net, port, &access_points);
-    let mut ap = air.attach(Node::Ap(0)).ok()?;
-    let mut station = air.attach(Node::Sta(0)).ok()?;
+    let Ok(mut ap) = air.attach(Node::Ap(0)) else {
+        return None;
+    };
+    let Ok(mut station) = air.attach(Node::Sta(0)) else {
+        return None;
+    };
     let is_right = carry_frames(&mut ap, &mut station);
     air.take_back(ap);
     air.take_back(station);
@@ -42,14 +57,16 @@ fn a_frame_goes_between_two_sockets(rt: HostRuntime) {
     assert!(rt; false);
 }
 
+// In both halves.
 fn differ<D: Draws>(draws: &mut D) -> bool {
-    match (draws.seed(), draws.seed()) {
-        (Ok(first), Ok(second)) => {
-            let (one, two) = (first.split_at(16), second.split_at(16));
-            one.0 != two.0 && one.1 != two.1
-        }
-        _ => false,
-    }
+    let Ok(first) = draws.seed() else {
+        return false;
+    };
+    let Ok(second) = draws.seed() else {
+        return false;
+    };
+    array_at::<16>(&first, 0) != array_at::<16>(&second, 0)
+        && array_at::<16>(&first, 16) != array_at::<16>(&second, 16)
 }
 
 #[test]

@@ -1,19 +1,15 @@
-//! The key holders of fast transition, those of one alone and those that workers share.
+//! The key holders that one alone has, with the keys of a capture.
 
-ghost use Rattle.std.specs.Prelude.{◌≡◌, ◌≤◌, true, length};
+ghost use Rattle.std.specs.Prelude.{◌≡◌, true};
 ghost use Rattle.key_holders.specs.Rows.{is_in};
 
 use crate::keys::octets;
 use domain_base::{Mac, Octets};
-use holder_table::{Bound, HolderPass, SharedHolders};
-use key_hierarchy::{PmkR1, PullAnswer, PutAnswer, RevokeAnswer, ptk_from_r1};
+use key_hierarchy::{PullAnswer, PutAnswer, RevokeAnswer, ptk_from_r1};
 use key_holders::{HolderRow, Holders, ListHolders};
-use std::alloc::Global;
-use std::process::Abort;
 use std::test::*;
-use std::thread::{Threads, join};
 
-const R0KH_IDS: [&[u8]; 2] = [b"kanstrup-ft", b"r0kh-2"];
+const R0KH_ID: &[u8] = b"kanstrup-ft";
 
 const STA: Mac = Mac([0x02, 0x00, 0x00, 0x00, 0x02, 0x00]);
 
@@ -43,72 +39,6 @@ const SNONCE: [u128; 2] = [
 
 const KCK: u128 = 0x7900a9e91a5fe008096fb289f65f4c21;
 
-// The most pulls that wait for the other side.
-const PULLS: u64 = 20_000_000;
-
-fn ids(rt: &impl Abort, alloc: Global, count: usize) -> Vec<Octets>
-    ensures { length result.items ≡ count }
-{
-    let mut ids = Vec::new(alloc);
-    for i in 0..count {
-        let id = Vec::from_slice(alloc, R0KH_IDS[i % 2]).expect(rt, "memory");
-        ids.push(Octets(id)).expect(rt, "memory");
-    }
-    ids
-}
-
-// A row of its own for each access point and number.
-fn row(ap: u8, number: u8) -> HolderRow {
-    let mut name = [0xff; 16];
-    name[0] = ap;
-    name[15] = number;
-    let mut key = [number; 32];
-    key[31] = ap;
-    HolderRow {
-        name,
-        key,
-        sta: STA,
-    }
-}
-
-fn is_found(answer: PullAnswer, r1: &PmkR1) -> bool {
-    match answer {
-        PullAnswer::Found(found) => found.key == r1.key && found.name == r1.name,
-        PullAnswer::NoHolder | PullAnswer::Absent => false,
-    }
-}
-
-// Whether 64 rows of different names are held.
-fn fills<H: Holders>(holders: &mut H) -> bool
-    requires { is_in 0 (H.has holders.old) ≡ true }
-    ensures { H.has holders.new ≡ H.has holders.old }
-{
-    let mut all = true;
-    for number in 0..64 {
-        all &= matches!(holders.put(0, row(0, number)), PutAnswer::Held);
-    }
-    all
-}
-
-// Revoked rows have no room for others, and are found no more.
-fn meets_each_answer<H: Holders>(holders: &mut H) -> bool
-    requires { is_in 0 (H.has holders.old) ≡ true }
-{
-    let first = row(0, 0);
-    let filled = fills(holders);
-    let again = matches!(holders.put(0, first), PutAnswer::HeldAlready);
-    let full = matches!(holders.put(0, row(0, 64)), PutAnswer::Full);
-    let revoked = matches!(holders.revoke(0, &first.name), RevokeAnswer::Revoked);
-    let gone = matches!(holders.revoke(0, &first.name), RevokeAnswer::Absent);
-    let counted = matches!(holders.put(0, first), PutAnswer::Full);
-    let answer = holders.pull(R0KH_IDS[0], &first.name, TARGET, STA);
-    let absent = matches!(answer, PullAnswer::Absent);
-    let answer = holders.pull(b"r0kh-9", &row(0, 1).name, TARGET, STA);
-    (filled && again && full)
-        && (revoked && gone && counted)
-        && (absent && matches!(answer, PullAnswer::NoHolder))
-}
-
 fn is_captured(answer: PullAnswer) -> bool {
     let PullAnswer::Found(r1) = answer else {
         return false;
@@ -117,165 +47,26 @@ fn is_captured(answer: PullAnswer) -> bool {
     r1.name == R1_NAME.to_be_bytes() && ptk.kck == KCK.to_be_bytes()
 }
 
-// A station's row of a capture gives the keys of its move.
+// A station's row of a capture gives the keys of its move, until it is revoked.
 fn gives_the_captured_key<H: Holders>(holders: &mut H) -> bool
     requires { is_in 0 (H.has holders.old) ≡ true }
 {
     let psk = octets(PSK);
-    let row = HolderRow::derive(&psk, b"wireshark-ft-psk", [1, 2], R0KH_IDS[0], STA);
+    let row = HolderRow::derive(&psk, b"wireshark-ft-psk", [1, 2], R0KH_ID, STA);
     let name = row.name();
     let held = matches!(holders.put(0, row), PutAnswer::Held);
-    let found = is_captured(holders.pull(R0KH_IDS[0], &name, TARGET, STA));
-    let answer = holders.pull(R0KH_IDS[0], &name, TARGET, TARGET);
-    let of_another = matches!(answer, PullAnswer::Absent);
-    let answer = holders.pull(R0KH_IDS[1], &name, TARGET, STA);
-    let elsewhere = matches!(answer, PullAnswer::Absent);
-    name == R0_NAME.to_be_bytes() && held && found && of_another && elsewhere
-}
-
-fn listed(rt: &impl Abort, alloc: Global, count: usize) -> ListHolders
-    requires { count ≤ 65536 }
-    ensures { length result.ids ≡ count }
-{
-    ListHolders::new(alloc, ids(rt, alloc, count)).expect(rt, "memory")
+    let found = is_captured(holders.pull(R0KH_ID, &name, TARGET, STA));
+    let revoked = matches!(holders.revoke(0, &name), RevokeAnswer::Revoked);
+    let answer = holders.pull(R0KH_ID, &name, TARGET, STA);
+    let gone = matches!(answer, PullAnswer::Absent);
+    name == R0_NAME.to_be_bytes() && held && found && revoked && gone
 }
 
 #[test]
-fn listed_holders_meet_each_answer(rt: HostRuntime) {
-    assert!(rt; meets_each_answer(&mut listed(&rt, rt.alloc(), 1)));
-    assert!(rt; gives_the_captured_key(&mut listed(&rt, rt.alloc(), 2)));
-}
-
-// Whether the shared holders, by a pass of theirs, give the captured key, or meet each answer.
-fn shared_are_right(holders: &SharedHolders, pass: HolderPass, give_the_captured: bool) -> bool
-    requires pass { pass.table ≡ holders.now.table }
-    requires has { is_in 0 pass.knows.has ≡ true }
-{
-    let mut bound = Bound::new(holders, pass);
-    let is_right = if give_the_captured {
-        gives_the_captured_key(&mut bound)
-    } else {
-        meets_each_answer(&mut bound)
-    };
-    let _pass = bound.into_pass();
-    is_right
-}
-
-#[test]
-fn shared_holders_meet_each_answer(rt: HostRuntime) {
-    let alone = ids(&rt, rt.alloc(), 1);
-    let (holders, pass) = SharedHolders::start(rt.alloc(), alone).expect(&rt, "memory");
-    assert!(rt; shared_are_right(&holders, pass, false));
-    drop(holders);
-    let two = ids(&rt, rt.alloc(), 2);
-    let (holders, pass) = SharedHolders::start(rt.alloc(), two).expect(&rt, "memory");
-    assert!(rt; shared_are_right(&holders, pass, true));
-}
-
-// Whether eight rows are held.
-fn put_eight(holders: &SharedHolders, pass: &mut HolderPass, ap: u8) -> bool
-    requires pass { pass.old.table ≡ holders.now.table }
-    requires has { is_in ap pass.old.knows.has ≡ true }
-    ensures pass { pass.new.table ≡ pass.old.table }
-    ensures has { pass.new.knows.has ≡ pass.old.knows.has }
-{
-    let mut all = true;
-    for number in 0..8 {
-        let answer = holders.put(pass, u16::from(ap), row(ap, number));
-        all &= matches!(answer, PutAnswer::Held);
-    }
-    all
-}
-
-// Asks for a row of an access point.
-fn pull(holders: &SharedHolders, pass: &mut HolderPass, ap: u8, number: u8) -> PullAnswer
-    requires pass { pass.old.table ≡ holders.now.table }
-    ensures pass { pass.new.table ≡ pass.old.table }
-    ensures has { pass.new.knows.has ≡ pass.old.knows.has }
-{
-    let id = R0KH_IDS[usize::from(ap) % 2];
-    holders.pull(pass, id, &row(ap, number).name, TARGET, STA)
-}
-
-// Whether a row of the other side is found, or is gone, of many pulls.
-fn comes(holders: &SharedHolders, pass: &mut HolderPass, ap: u8, number: u8, is_there: bool) -> bool
-    requires pass { pass.old.table ≡ holders.now.table }
-    ensures pass { pass.new.table ≡ pass.old.table }
-    ensures has { pass.new.knows.has ≡ pass.old.knows.has }
-{
-    let r1 = row(ap, number).r1(TARGET);
-    for _ in 0..PULLS {
-        let answer = pull(holders, pass, ap, number);
-        let is_seen = if is_there {
-            is_found(answer, &r1)
-        } else {
-            matches!(answer, PullAnswer::Absent)
-        };
-        if is_seen {
-            return true;
-        }
-    }
-    false
-}
-
-// Puts eight rows, waits for the other side's last one, revokes its own first, and waits until the
-// other's is gone.
-fn side(holders: &SharedHolders, pass: HolderPass, own: u8, other: u8) -> (HolderPass, bool)
-    requires pass { pass.table ≡ holders.now.table }
-    requires has { is_in own pass.knows.has ≡ true }
-    ensures { result.0.table ≡ pass.table }
-{
-    let mut pass = pass;
-    let put = put_eight(holders, &mut pass, own);
-    let found = comes(holders, &mut pass, other, 7, true);
-    let revoked = holders.revoke(&mut pass, u16::from(own), &row(own, 0).name);
-    let gone = comes(holders, &mut pass, other, 0, false);
-    let all = put && found && matches!(revoked, RevokeAnswer::Revoked) && gone;
-    (pass, all)
-}
-
-// Whether the first of an access point's eight rows is gone and the others are there.
-fn are_left(holders: &SharedHolders, pass: &mut HolderPass, ap: u8) -> bool
-    requires pass { pass.old.table ≡ holders.now.table }
-    ensures pass { pass.new.table ≡ pass.old.table }
-{
-    let mut all = matches!(pull(holders, pass, ap, 0), PullAnswer::Absent);
-    for number in 1..8 {
-        let r1 = row(ap, number).r1(TARGET);
-        all &= is_found(pull(holders, pass, ap, number), &r1);
-    }
-    all
-}
-
-// Two threads put, pull and revoke side by side, and each sees what the other does.
-fn see_each_other<R: Threads + Sync>(
-    rt: &R,
-    holders: &SharedHolders,
-    first: HolderPass,
-    second: HolderPass,
-) -> bool
-    requires passes { (first.table ≡ holders.now.table) × (second.table ≡ holders.now.table) }
-    requires has { (is_in 0 first.knows.has ≡ true) × (is_in 1 second.knows.has ≡ true) }
-{
-    let ((mut pass, one), (other, two)) = join(
-        rt,
-        || -> (HolderPass, bool)
-            requires { (first.table ≡ holders.now.table) × (is_in 0 first.knows.has ≡ true) }
-            ensures { result.0.table ≡ holders.entry.now.table }
-        { side(holders, first, 0, 1) },
-        || -> (HolderPass, bool)
-            requires { (second.table ≡ holders.now.table) × (is_in 1 second.knows.has ≡ true) }
-            ensures { result.0.table ≡ holders.entry.now.table }
-        { side(holders, second, 1, 0) },
-    );
-    holders.join(&mut pass, other);
-    one && two && are_left(holders, &mut pass, 0) && are_left(holders, &mut pass, 1)
-}
-
-#[test]
-fn shared_rows(rt: HostRuntime) {
-    let two = ids(&rt, rt.alloc(), 2);
-    let (holders, mut first) = SharedHolders::start(rt.alloc(), two).expect(&rt, "memory");
-    let second = holders.split(&mut first, 1);
-    assert!(rt; see_each_other(&rt, &holders, first, second));
+fn a_row_gives_the_keys_of_a_capture(rt: HostRuntime) {
+    let mut ids = Vec::new(rt.alloc());
+    let id = R0KH_ID.to_vec(rt.alloc()).expect(&rt, "memory");
+    ids.push(Octets(id)).expect(&rt, "memory");
+    let mut holders = ListHolders::new(rt.alloc(), ids).expect(&rt, "memory");
+    assert!(rt; gives_the_captured_key(&mut holders));
 }

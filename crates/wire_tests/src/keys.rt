@@ -1,13 +1,9 @@
 //! Keys of captured handshakes and of the standard, and the hierarchy of fast transition.
 
-ghost use Rattle.std.specs.Prelude.{◌≡◌};
-ghost use Rattle.domain_base.specs.declared.names.Akm.{Akm};
 ghost use Rattle.key_hierarchy.specs.Sizes.{IsSsid, IsR0khId};
 
-use domain_base::{Akm, Mac, Octets, put};
-use key_hierarchy::{Inputs, PmkR0, Ptk, pairwise_ptk, psk_of, ptk_from_r1, ptk_name, ptk_of};
-use std::alloc::Global;
-use std::process::Abort;
+use domain_base::{Akm, Mac, put};
+use key_hierarchy::{PmkR0, Ptk, pairwise_ptk, psk_of, ptk_from_r1, ptk_name};
 use std::test::*;
 
 // 32 octets as two numbers, highest octet first.
@@ -294,49 +290,14 @@ fn parts(ptk: &Ptk) -> [u128; 3] {
     ]
 }
 
-/// Octets in memory of their own.
-pub fn octets_of(rt: &impl Abort, alloc: Global, octets: &[u8]) -> Octets
-    ensures { result ≡ octets.now }
-{
-    Octets(Vec::from_slice(alloc, octets).expect(rt, "memory"))
-}
-
-fn inputs_of(rt: &impl Abort, alloc: Global, h: &Handshake) -> Inputs
-    ensures akm { result.akm ≡ h.now.akm }
-    ensures ssid { result.ssid ≡ h.now.ssid.now }
-    ensures r0kh_id { result.r0kh_id ≡ h.now.r0kh_id.now }
-{
-    let (ssid, r0kh_id) = (h.ssid, h.r0kh_id);
-    Inputs {
-        akm: h.akm,
-        psk: octets(h.psk),
-        ssid: octets_of(rt, alloc, ssid),
-        mdid: h.mdid,
-        r0kh_id: octets_of(rt, alloc, r0kh_id),
-        aa: Mac(h.aa),
-        spa: Mac(h.spa),
-        anonce: octets(h.anonce),
-        snonce: octets(h.snonce),
-    }
-}
-
-// By the function for any suite.
-fn is_derived(rt: &impl Abort, alloc: Global, h: &Handshake) -> bool
-    requires ssid { h.now.akm ≡ Akm.FtPsk → IsSsid h.now.ssid.now }
-    requires r0kh_id { h.now.akm ≡ Akm.FtPsk → IsR0khId h.now.r0kh_id.now }
-{
-    let inputs = inputs_of(rt, alloc, h);
-    parts(&ptk_of(&inputs)) == h.ptk
-}
-
-// By the function for suites 2 and 6, and by the one for any.
-fn is_pairwise(rt: &impl Abort, alloc: Global, h: &Handshake) -> bool {
+// Of suite 2 or 6.
+fn is_pairwise(h: &Handshake) -> bool {
     if h.akm == Akm::FtPsk {
         return false;
     }
     let (psk, anonce, snonce) = (octets(h.psk), octets(h.anonce), octets(h.snonce));
     let ptk = pairwise_ptk(h.akm, &psk, Mac(h.aa), Mac(h.spa), &anonce, &snonce);
-    parts(&ptk) == h.ptk && is_derived(rt, alloc, h)
+    parts(&ptk) == h.ptk
 }
 
 // The names of both levels, the key of the last one by its own function, and the keys and PTKName
@@ -365,25 +326,25 @@ fn is_transition(roam: &Roam) -> bool
     is_known && r1.name() == roam.r1_name.to_be_bytes()
 }
 
-// The same, and by the function for any suite.
-fn roams(rt: &impl Abort, alloc: Global, roam: &Roam) -> bool {
+fn roams(roam: &Roam) -> bool {
     let (ssid, r0kh_id) = (roam.handshake.ssid, roam.handshake.r0kh_id);
-    (1..=32).contains(&ssid.len())
-        && (1..=48).contains(&r0kh_id.len())
-        && is_transition(roam)
-        && is_derived(rt, alloc, &roam.handshake)
+    (1..=32).contains(&ssid.len()) && (1..=48).contains(&r0kh_id.len()) && is_transition(roam)
 }
 
-// Of passphrases, of captured handshakes, and of fast transition with its names.
+// Of passphrases, and of captured handshakes.
 #[test]
 fn keys_are_those_of_captures_and_of_the_standard(rt: HostRuntime) {
     let standard = psk_of(b"password", b"IEEE");
     let captured = psk_of(b"12345678", CAPTURED_SSID);
     assert!(rt; standard == octets(STANDARD_PSK) && captured == octets(CAPTURED_PSK));
     for h in &HANDSHAKES {
-        assert!(rt; is_pairwise(&rt, rt.alloc(), h), "{:?}", h.ssid);
+        assert!(rt; is_pairwise(h), "{:?}", h.ssid);
     }
+}
+
+#[test]
+fn keys_of_fast_transition_have_their_names(rt: HostRuntime) {
     for roam in &ROAMS {
-        assert!(rt; roams(&rt, rt.alloc(), roam), "{:?}", roam.r0_name);
+        assert!(rt; roams(roam), "{:?}", roam.r0_name);
     }
 }

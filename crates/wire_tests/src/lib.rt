@@ -1,5 +1,5 @@
 //! Tests of the public calls of the crates below the journal: the outside, cryptography, frames,
-//! elements, keys, key holders, and the words of the command line.
+//! elements, keys and key holders.
 #![tactic(auto)]
 
 #[cfg(test)]
@@ -28,5 +28,3 @@ mod packet_numbers;
 mod protected_bodies;
 #[cfg(test)]
 mod vectors;
-#[cfg(test)]
-mod words;

@@ -1,7 +1,6 @@
 //! Digests under keys, expanded keys and MICs: the vectors of the standards, and of other programs.
 
 use crate::vectors::{COUNTED_KEY, RISING, STANDARD_KEY};
-use aes_block::Aes128;
 use domain_base::{Akm, array_at};
 use mac_prf::{cmac, hmac_sha1, hmac_sha256, kdf, mic, pbkdf2, prf};
 use std::test::*;
@@ -271,17 +270,6 @@ static STRETCHED: [(&[u8], &[u8], &[u8]); 6] = [
     ),
 ];
 
-// The same passphrase and salt with one iteration, and with two.
-static STRETCHED_ONCE: [u8; 20] = [
-    0x0c, 0x60, 0xc8, 0x0f, 0x96, 0x1f, 0x0e, 0x71, 0xf3, 0xa9, 0xb5, 0x24, 0xaf, 0x60, 0x12, 0x06,
-    0x2f, 0xe0, 0x37, 0xa6,
-];
-
-static STRETCHED_TWICE: [u8; 20] = [
-    0xea, 0x6c, 0x01, 0x4d, 0xc7, 0x2d, 0x6f, 0x8c, 0xcd, 0x1e, 0xd9, 0x2a, 0xce, 0x1d, 0x41, 0xf0,
-    0xd8, 0xde, 0x89, 0x57,
-];
-
 static CMAC_TEXT: [u8; 64] = [
     0x6b, 0xc1, 0xbe, 0xe2, 0x2e, 0x40, 0x9f, 0x96, 0xe9, 0x3d, 0x7e, 0x11, 0x73, 0x93, 0x17, 0x2a,
     0xae, 0x2d, 0x8a, 0x57, 0x1e, 0x03, 0xac, 0x9c, 0x9e, 0xb7, 0x6f, 0xac, 0x45, 0xaf, 0x8e, 0x51,
@@ -354,15 +342,6 @@ static CODES: [(usize, [u8; 16]); 9] = [
             0xb7, 0xd7,
         ],
     ),
-];
-
-// The subkeys of a block that is whole, and of one that is not (RFC 4493, 4).
-static WHOLE_SUBKEY: [u8; 16] = [
-    0xfb, 0xee, 0xd6, 0x18, 0x35, 0x71, 0x33, 0x66, 0x7c, 0x85, 0xe0, 0x8f, 0x72, 0x36, 0xa8, 0xde,
-];
-
-static PADDED_SUBKEY: [u8; 16] = [
-    0xf7, 0xdd, 0xac, 0x30, 0x6a, 0xe2, 0x66, 0xcc, 0xf9, 0x0b, 0xc1, 0x1e, 0xe4, 0x6d, 0x51, 0x3b,
 ];
 
 // How many octets a frame has, and its MIC: by OpenSSL.
@@ -466,8 +445,6 @@ fn keys_are_expanded_by_prf_and_kdf(rt: HostRuntime) {
     assert!(rt; the_most_octets_end_rightly());
 }
 
-// One iteration is the HMAC of the salt and the number of the block, and each next that of the one
-// before it (RFC 8018, 5.2).
 #[test]
 fn pbkdf2_gives_the_keys_of_the_standard_and_of_rfc_6070(rt: HostRuntime) {
     for (passphrase, salt, front) in &STRETCHED {
@@ -477,39 +454,13 @@ fn pbkdf2_gives_the_keys_of_the_standard_and_of_rfc_6070(rt: HostRuntime) {
             "{passphrase:?} {salt:?}"
         );
     }
-    let first = hmac_sha1(b"password", b"salt\0\0\0\x01");
-    let second = hmac_sha1(b"password", &first);
-    let mut sum = first;
-    for i in 0..20 {
-        sum[i] ^= second[i];
-    }
-    assert!(rt; first == STRETCHED_ONCE && sum == STRETCHED_TWICE);
 }
 
-// What has been added to the last block before it was encrypted to a code.
-fn subkey_of(text: &[u8], last_block: &[u8; 16]) -> [u8; 16] {
-    let mut subkey = Aes128::new(&STANDARD_KEY).decrypt(cmac(&STANDARD_KEY, text));
-    for i in 0..16 {
-        subkey[i] ^= last_block[i];
-    }
-    subkey
-}
-
-// The MIC of a frame of that many octets, and of the same frame with that MIC in its field, which it
-// passes over.
+// The MIC of a frame of that many octets.
 fn has_mic(akm: Akm, size: usize, code: &[u8; 16]) -> bool {
-    if size < 99 || size > 128 {
-        return false;
-    }
-    let mut frame = [0; 128];
-    frame.copy_from_slice(&RISING[..128]);
-    let bare = mic(akm, &COUNTED_KEY, &frame[..size]);
-    frame[81..97].copy_from_slice(code);
-    bare == *code && mic(akm, &COUNTED_KEY, &frame[..size]) == *code
+    size >= 99 && size <= 184 && mic(akm, &COUNTED_KEY, &RISING[..size]) == *code
 }
 
-// Codes and MICs, and the subkeys of a text of one block, and of the empty text, whose block is its
-// padding.
 #[test]
 fn cmac_gives_the_codes_of_rfc_4493_and_of_another_program(rt: HostRuntime) {
     for (size, code) in &CODES {
@@ -518,10 +469,6 @@ fn cmac_gives_the_codes_of_rfc_4493_and_of_another_program(rt: HostRuntime) {
             "{size}"
         );
     }
-    let mut padding = [0; 16];
-    padding[0] = 0x80;
-    let whole = subkey_of(&COUNTED_KEY, &COUNTED_KEY);
-    assert!(rt; whole == WHOLE_SUBKEY && subkey_of(&[], &padding) == PADDED_SUBKEY);
     for (akm, size, code) in &MICS {
         assert!(rt; has_mic(*akm, *size, code), "{size}");
     }
