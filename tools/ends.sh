@@ -171,12 +171,19 @@ for script in '' '\n' '\r\n' 'domain 2\n' 'domain 1\r' 'domain 1\r\r\n'; do
 done
 for script in '' '\n' '\r\n' '\n\n# a comment\n\r\n#'; do whole 0 "" "$work/nothing" "domain 1$script"; done
 ieee="domain 1\nseed 000102030405060708090a0b0c0d0e0f101112131415161718191a1b1c1d1e1f\nssid IEEE\n"
-for passphrase in 12345678 123456789012345678901234567890123456789012345678901234567890123; do
+for passphrase in 12345678 '  234567 ' 123456789012345678901234567890123456789012345678901234567890123; do
     whole 0 "" "$work/nothing" "${ieee}passphrase $passphrase\n"
+done
+for ssid in '~  ' ' two  spaces ' 0123456789abcdef0123456789abcdef; do
+    whole 0 "" "$work/nothing" "$(printf '%b' "$ieee" | head -n 2)\nssid $ssid\n"
 done
 whole 2 "line 4: wrong arguments; the form is passphrase <8 to 63 octets>" $none "${ieee}passphrase 1234567890123456789012345678901234567890123456789012345678901234\n"
 psk="psk f42c6fc52df0ebef9ebb4b90b38a5f902e83fe1b135a70e23aed762e9710a12e\n"
 for lines in '' 'akm ft-psk\n' 'akm ft-psk\nmdid a1B2\n'; do whole 0 "" "$work/nothing" "$ieee$psk$lines"; done
+printf 'install a1 all gtk 1\nend frames 0 accepted 0 answered 0 refused 0 ignored 0\nkeys installed 1 resumed 0 used 0 handed-up 0\npremises fresh yes no-collision yes unforged yes\n' > "$work/quiet"
+for ap in 'FEDCBA987654 r0kh-1' '020000000001 !~' '020000000001 0123456789abcdef0123456789abcdef0123456789abcdef'; do
+    whole 0 "" "$work/quiet" "$ieee${psk}akm psk\nap $ap\n"
+done
 
 # The stored script without its last line feed; and with the other suite, its key, capital digits, a line more and carriage returns.
 head -c -1 "$stored/stdin" > "$work/script"
@@ -184,6 +191,22 @@ ends 0 "" "$stored/stdout" "$work/script" replay
 sed -e '/^seed/{y/abcdef/ABCDEF/;s/^sEED/seed/;}' -e 's/^passphrase .*/psk f42c6fc52df0ebef9ebb4b90b38a5f902e83fe1b135a70e23aed762e9710a12e/' \
     -e 's/^akm .*/akm psk-sha256/' -e 's/^sta /\n&/' "$stored/stdin" | sed 's/$/\r/' > "$work/script"
 ends 0 "" "$stored/stdout" "$work/script" replay
+
+# Each example, its events written with numbers of ten digits and capital digits, has its report.
+for example in examples/*.txt; do
+    case "$example" in *live*) continue ;; esac
+    awk 'function node(k) { if ($k != "all") $k = sprintf("%s%010d", substr($k, 1, 1), substr($k, 2)) }
+        function number(k) { if ($k != "-") $k = sprintf("%010d", $k) }
+        /^(connect|roam|retry|expire|revoke) / { node(2); node(3) }
+        /^(rekey|leave) / { node(2) }
+        /^(deliver|alter|cut) / { number(2); node(NF) }
+        /^(alter|cut) / { number(3) }
+        /^alter / { $4 = toupper($4) }
+        /^inject / { node(2); $3 = toupper($3) }
+        /^send / { node(2); node(3); number(4); $5 = toupper($5) }
+        { print }' "$example" > "$work/script"
+    ends 0 "" "${example%txt}report" "$work/script" replay
+done
 
 # Lines behind both nodes, of which that one is refused.
 breaks() { # NUMBER-OF-LINE TEXT WRITES LINES
@@ -546,6 +569,28 @@ keys installed 198 resumed 2 used 0 handed-up 0
 premises fresh yes no-collision yes unforged yes') > "$work/full"
 ends 0 "" "$work/full" "$work/script" replay
 
+# Behind as many frames as have numbers, 65535, and lines that send one more: from then on no event outside a round, and no round.
+(head -n 8 "$work/header"; yes 'deliver 1 to a1' | head -n 32767) > "$work/all_frames"
+(cat "$work/begun"
+    awk 'BEGIN { for (n = 2; n < 65535; n += 2) {
+        print "took a1 assoc-req accepted"
+        if (n > 2) print "close a1 s1 attempt"
+        print "open a1 s1 connect"
+        print "sent " n " a1 s1 assoc-resp 36"
+        print "sent " n + 1 " a1 s1 m1 131"
+    } }') > "$work/all_sent"
+frames() { # NUMBER SAYS LINES REPORT
+    (cat "$work/all_frames"; printf '%b' "$3") > "$work/script"
+    (cat "$work/all_sent"; printf '%b' "$4") > "$work/report"
+    ends "$1" "$2" "$work/report" "$work/script" replay
+}
+late='close s1 a1 attempt\nopen s1 a1 connect\nsent 65536 s1 a1 assoc-req 61\n'
+frames 0 "" 'round\ndeliver 65535 to a1\nend\nconnect s1 a1\n# rekey a1\n' \
+    "took a1 m1 refused not-for-me\n$late$(summary 65536 32767 1 1 0 0 0)\n"
+for line in 'rekey a1' 'deliver 65536 to a1' 'round'; do frames 8 "more than 65535 frames sent" "connect s1 a1\n$line\n" "$late"; done
+frames 2 "line 32777: no such node, or a node of the other kind; the form is rekey <ap>" 'connect s1 a1\nrekey a2\n' "$late"
+frames 2 "line 32777: no such frame was sent; the form is deliver <n> to <node>" 'connect s1 a1\ndeliver 65537 to a1\n' "$late"
+
 # A device that takes no octet; what it got is not looked at.
 fills() { # SCRIPT WORDS..
     local script=$1 ended=0
@@ -670,6 +715,21 @@ done < tools/ends/refused_lines.txt
 (cat "$work/started"; echo "install a1 all gtk 2"; summary 0 0 0 2 0 0 0) > "$work/renewed"
 ends 0 "" "$work/renewed" "$work/script" live "$port"
 
+# Events that come of no frame do there what they do in a replay.
+(cat "$work/header"; printf 'inject s1 00\nretry a1 s1\nrekey a1\nsend a1 all - 00\nexpire a1 s1\nrevoke a1 s1\nleave s1\n') > "$work/script"
+(cat "$work/begun"; echo "took s1 unread refused malformed 1 1 1
+idle a1 nothing
+install a1 all gtk 2
+used a1 all 2 1
+sent 2 a1 all data 41
+idle a1 nothing
+revoke a1 s1 absent
+close s1 a1 attempt"; summary 2 0 1 2 0 1 0) > "$work/done"
+for words in replay "live $port"; do
+    # shellcheck disable=SC2086
+    ends 0 "" "$work/done" "$work/script" $words
+done
+
 # Lines that open no port: those that a live run refuses, and those that have their meaning in it alone.
 refuses_live() { # LINES LINE TEXT
     (head -n "$1" "$work/header"; printf '%s\n' "$2") > "$work/script"
@@ -687,7 +747,6 @@ ends 0 "" "$work/nothing" "$work/least" live "00000$port"
 ends 3 "the script could not be read" $none / live "$port"
 
 # Two nodes at their ports, which have nothing to take in a turn; the same with a seed that is drawn.
-printf 'install a1 all gtk 1\nend frames 0 accepted 0 answered 0 refused 0 ignored 0\nkeys installed 1 resumed 0 used 0 handed-up 0\npremises fresh yes no-collision yes unforged yes\n' > "$work/quiet"
 (head -n 7 "$work/header"; echo turn) > "$work/turn"
 ends 0 "" "$work/quiet" "$work/turn" live "$port"
 sed 's/^seed .*/seed draw/' "$work/turn" > "$work/draw"

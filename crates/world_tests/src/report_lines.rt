@@ -1,87 +1,56 @@
-//! Lines of a report that no report among the examples has.
+//! Lines of a report that no script comes to.
 
-use crate::journal::Does::{self, HandsUpNothing, Idles, Puts, TakesUnverified};
-use crate::journal::entry;
-use domain_base::Node;
-use eapol_key::Message;
+use domain_base::{Node, Octets, Tid};
 use journal_report::{line_fits, line_of};
-use key_hierarchy::PutAnswer;
-use run_journal::{Entry, Kind, Outcome, Reason, Why};
+use run_journal::{Act, Entry, Kind, Outcome, Reason, Why};
+use std::alloc::Global;
+use std::process::Abort;
 
-const AP: Node = Node::Ap(0);
-
-const STA: Node = Node::Sta(0);
-
-const M3: Kind = Kind::Key(Message::M3);
-
-// What an entry does at a node, and its line.
-const LINES: &[((u64, Node, Does), &str)] = &[
-    ((1, AP, HandsUpNothing(STA)), "up a1 s1 0 5 1 -\n"),
-    (
-        (1, Node::Sta(65535), Idles(Why::NoSession)),
-        "idle s65536 no-session\n",
-    ),
-    ((1, AP, Idles(Why::Spent)), "idle a1 spent\n"),
-    (
-        (1, AP, Puts(Node::Sta(1), PutAnswer::Full)),
-        "put a1 s2 full\n",
-    ),
-    (
-        (
-            1,
-            AP,
-            TakesUnverified(Kind::Key(Message::G1), Outcome::Answered),
-        ),
-        "took a1 g1 answered\n",
-    ),
-    (
-        (
-            1,
-            AP,
-            TakesUnverified(M3, Outcome::Refused(Reason::NotForMe)),
-        ),
-        "took a1 m3 refused not-for-me\n",
-    ),
-    (
-        (
-            1,
-            AP,
-            TakesUnverified(M3, Outcome::Refused(Reason::UnknownPeer)),
-        ),
-        "took a1 m3 refused unknown-peer\n",
-    ),
-    (
-        (
-            1,
-            AP,
-            TakesUnverified(M3, Outcome::Refused(Reason::Unawaited)),
-        ),
-        "took a1 m3 refused unawaited\n",
-    ),
-    (
-        (
-            1,
-            AP,
-            TakesUnverified(Kind::FtReq, Outcome::Refused(Reason::Spent)),
-        ),
-        "took a1 ft-req refused spent\n",
-    ),
-];
-
-// The entry's line fits in 128 octets, and is the text.
-fn has_line(entry: &Entry, text: &[u8]) -> bool {
-    if !line_fits(entry, 128) {
+// The line of what that node does fits in 128 octets, and is the text.
+fn has_line(node: Node, act: Act, text: &[u8]) -> bool {
+    let entry = Entry {
+        round: 1,
+        node,
+        number: 0,
+        act,
+    };
+    if !line_fits(&entry, 128) {
         return false;
     }
     let mut out = [0; 128];
-    let count = line_of(entry, &mut out);
+    let count = line_of(&entry, &mut out);
     &out[..count] == text
 }
 
-#[test]
-fn lines_that_no_example_has(rt: HostRuntime) {
-    for (of, line) in LINES {
-        let made = entry(&rt, rt.alloc(), of);
-        assert!(rt; has_line(&made, line.as_bytes()), "{line}");
+// A payload without octets.
+fn empty_payload(rt: &impl Abort, alloc: Global) -> Act {
+    Act::HandedUp {
+        peer: Node::Sta(0),
+        key: [5; 16],
+        id: 0,
+        tid: Tid::new(5).expect(rt, "a TID"),
+        number: 1,
+        octets: Octets(Vec::new(alloc)),
     }
+}
+
+// The last packet number was used long before.
+fn spent(alloc: Global) -> Act {
+    Act::Took {
+        from: None,
+        octets: Octets(Vec::new(alloc)),
+        kind: Kind::FtReq,
+        outcome: Outcome::Refused(Reason::Spent),
+        seal: None,
+    }
+}
+
+#[test]
+fn lines_that_no_script_comes_to(rt: HostRuntime) {
+    let ap = Node::Ap(0);
+    let up = empty_payload(&rt, rt.alloc());
+    assert!(rt; has_line(ap, up, b"up a1 s1 0 5 1 -\n"));
+    assert!(rt; has_line(ap, spent(rt.alloc()), b"took a1 ft-req refused spent\n"));
+    let idle = Act::Idle { why: Why::Spent };
+    assert!(rt; has_line(Node::Sta(65535), idle, b"idle s65536 spent\n"));
 }

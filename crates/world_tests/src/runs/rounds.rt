@@ -1,7 +1,10 @@
 //! Rounds at a gate.
 
-/// The script's front: two access points and two stations.
-pub(crate) const NETWORK: &str = "domain 1
+use super::cases::{Case, NEVER, REPLAY};
+use domain_cli::Status;
+
+// The script's front: two access points and two stations.
+const NETWORK: &str = "domain 1
 seed 000102030405060708090a0b0c0d0e0f101112131415161718191a1b1c1d1e1f
 ssid IEEE
 psk f42c6fc52df0ebef9ebb4b90b38a5f902e83fe1b135a70e23aed762e9710a12e
@@ -95,21 +98,47 @@ keys installed 8 resumed 0 used 0 handed-up 0
 premises fresh yes no-collision yes unforged yes
 ";
 
-/// How often each access point turns at most, the lines, how often each passes the gate, with 1 where
-/// one turned in vain, and the report: two that meet in one round; one that is alone in its round; and
-/// no round.
-pub(crate) const ROUNDS: &[(u64, &str, [u64; 3], &str)] = &[
-    (200_000_000, CROSSING, [1, 1, 0], CROSSED),
-    (
-        0,
-        "connect s1 a1
+/// Runs with rounds and without.
+pub(crate) static ROUNDS: [Case; 3] = [
+    Case {
+        shows: "two access points that meet in one round",
+        words: REPLAY,
+        front: NETWORK,
+        lines: CROSSING,
+        reads: NEVER,
+        room: 40000,
+        writes: NEVER,
+        frames: [&[], &[]],
+        attach: NEVER,
+        links: [NEVER, NEVER],
+        draws: NEVER,
+        turns: 200_000_000,
+        passes: [1, 1, 0],
+        status: Status::Done,
+        report: CROSSED,
+        sent: &[],
+    },
+    Case {
+        shows: "one that is alone in its round",
+        words: REPLAY,
+        front: NETWORK,
+        lines: "connect s1 a1
 round
 deliver 1 to a1
 rekey a1
 end
 ",
-        [1, 0, 1],
-        "install a1 all gtk 1
+        reads: NEVER,
+        room: 2000,
+        writes: NEVER,
+        frames: [&[], &[]],
+        attach: NEVER,
+        links: [NEVER, NEVER],
+        draws: NEVER,
+        turns: 0,
+        passes: [1, 0, 1],
+        status: Status::Done,
+        report: "install a1 all gtk 1
 install a2 all gtk 1
 open s1 a1 connect
 sent 1 s1 a1 assoc-req 67
@@ -122,14 +151,26 @@ end frames 3 accepted 1 answered 0 refused 0 ignored 0
 keys installed 3 resumed 0 used 0 handed-up 0
 premises fresh yes no-collision yes unforged yes
 ",
-    ),
-    (
-        0,
-        "connect s1 a1
+        sent: &[],
+    },
+    Case {
+        shows: "no round",
+        words: REPLAY,
+        front: NETWORK,
+        lines: "connect s1 a1
 deliver 1 to a1
 ",
-        [0, 0, 0],
-        "install a1 all gtk 1
+        reads: NEVER,
+        room: 2000,
+        writes: NEVER,
+        frames: [&[], &[]],
+        attach: NEVER,
+        links: [NEVER, NEVER],
+        draws: NEVER,
+        turns: 0,
+        passes: [0, 0, 0],
+        status: Status::Done,
+        report: "install a1 all gtk 1
 install a2 all gtk 1
 open s1 a1 connect
 sent 1 s1 a1 assoc-req 67
@@ -141,5 +182,6 @@ end frames 3 accepted 1 answered 0 refused 0 ignored 0
 keys installed 2 resumed 0 used 0 handed-up 0
 premises fresh yes no-collision yes unforged yes
 ",
-    ),
+        sent: &[],
+    },
 ];

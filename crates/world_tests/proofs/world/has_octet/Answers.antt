@@ -1,5 +1,0 @@
-use Rattle.std.proofs.Common.{suc}
-use Rattle.world_tests.proofs.world.has_octet.Goals as goal
-
-pub returns : goal.returns
-returns c = λ is. record { round = suc c.args.world.now.rounds; octets = c.frame-frame.result.now; sent = c.frame-frame.ensures; long = c.is_below.ensures is }
