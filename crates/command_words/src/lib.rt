@@ -19,7 +19,7 @@ use clap::ArgMatches;
 use clap::error::ErrorKind;
 use domain_base::NoMemory;
 pub use laws::words_are_told;
-use std::alloc::Global;
+use std::alloc::{AllocError, Global};
 
 /// A command of the command line.
 #[derive(Clone, Copy)]
@@ -91,7 +91,10 @@ fn refusal(kind: ErrorKind) -> Result<Option<Command>, NoMemory>
 pub fn read_words(alloc: Global, words: &[&str]) -> Result<Option<Command>, NoMemory>
     ensures { IfOk result (λ c. c ≡ command_of (map (λ w. w.now) words.now)) }
 {
-    let line = command_line(alloc)?;
+    let line = match command_line(alloc) {
+        Ok(line) => line,
+        Err(AllocError) => return Err(NoMemory),
+    };
     match line.try_get_matches_from(words) {
         Ok(matches) => Ok(met(&matches)),
         Err(error) => refusal(error.kind()),

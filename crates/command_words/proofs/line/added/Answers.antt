@@ -7,7 +7,7 @@ use Rattle.command_words.proofs.line.added.Goals as goal
 pub returns : goal.returns
 returns c =
     let value_is : rule_of c.required-value.result ≡ needed (new_rule c.args.word.now) = search rules in
-    let part_is : app_of c.in_ok-subcommand.subcommand ≡ with_rule (new_app c.args.name.now) (needed (new_rule c.args.word.now)) =
-    c.in_ok-subcommand.ensures.shape (search rules) ∙ ap₂ with_rule c.new-2.ensures.app value_is in
+    let part_is : app_of c.in-Ok.subcommand ≡ with_rule (new_app c.args.name.now) (needed (new_rule c.args.word.now)) =
+    c.in-Ok.ensures.shape (search rules) ∙ ap₂ with_rule c.new-2.ensures.app value_is in
     IfOk-weaker c.subcommand.result _ _
     (λ r h. h.shape (search rules) ∙ ap (λ (a : App). with_subcommand (app_of c.args.line) a.top) part_is) c.subcommand.ensures
