@@ -43,7 +43,12 @@ fn live_command(values: &ArgMatches) -> Option<Command>
     ensures { result ≡ option_map Command.Live
         (option_and_then port_number (first_value (found_of values.now) (codes "port"))) }
 {
-    let port = port_number(values.get_str("port")?.as_bytes())?;
+    let Some(word) = values.get_str("port") else {
+        return None;
+    };
+    let Some(port) = port_number(word.as_bytes()) else {
+        return None;
+    };
     Some(Command::Live { port })
 }
 
@@ -52,7 +57,12 @@ fn storm_command(values: &ArgMatches) -> Option<Command>
     ensures { result ≡ option_map Command.Storm
         (option_and_then storm_number (first_value (found_of values.now) (codes "number"))) }
 {
-    let number = storm_number(values.get_str("number")?.as_bytes())?;
+    let Some(word) = values.get_str("number") else {
+        return None;
+    };
+    let Some(number) = storm_number(word.as_bytes()) else {
+        return None;
+    };
     Some(Command::Storm { number })
 }
 
@@ -72,7 +82,9 @@ fn asked(name: &str, values: &ArgMatches) -> Option<Command>
 fn met(matches: &ArgMatches) -> Option<Command>
     ensures { result ≡ option_and_then asked (subcommand_rows_of matches.now) }
 {
-    let (name, values) = matches.subcommand()?;
+    let Some((name, values)) = matches.subcommand() else {
+        return None;
+    };
     asked(name, values)
 }
 
