@@ -1,5 +1,5 @@
 -- From clap's definitions to the command.
-use Rattle.std.proofs.Common.{◌≡◌, ◌∙◌, ap, ap₂, sym, refl, true, false, ℕ, List, [], ◌∷◌, Option, Some, None, option_map, option_and_then, codes, bytes_eq, Box, inl, inr}
+use Rattle.std.proofs.Common.{◌≡◌, ◌∙◌, ap, ap₂, sym, refl, true, false, ℕ, List, [], ◌∷◌, Option, Some, None, option_map, option_and_then, codes, bytes_eq, subst, Box, inl, inr}
 use Rattle.std.specs.Box.{box_value}
 use Rattle.std.specs.Borrow.{Bor}
 use Rattle.std.proofs.lemmas.Bool.{false_from_ne_true}
@@ -12,6 +12,7 @@ use Rattle.clap.specs.Walk.{Row, rows_of}
 use Rattle.clap.proofs.WalkLemmas.{first_value-rows}
 use Rattle.clap.specs.declared.parser.matches.Found.{Found}
 use Rattle.clap.specs.Simple.{is_simple, subcommand_rows, subcommand_rows_of}
+use Rattle.clap.specs.Words.{App, fault_of}
 use Rattle.clap.specs.Faults.{is_simple_and_free}
 use Rattle.clap.specs.declared.error.Error.{Error}
 use Rattle.clap.specs.declared.error.kind.ErrorKind.TheVariants as kind
@@ -19,7 +20,7 @@ use Rattle.clap.specs.declared.parser.matches.ArgMatches.{ArgMatches}
 use Rattle.clap.specs.declared.parser.matches.ArgMatches.TheViews.{out-ArgMatches, out-SubCommand}
 use Rattle.clap.specs.declared.parser.matches.SubCommand.{SubCommand}
 use Rattle.clap.proofs.OnLiterals.{clap_on_literals}
-use Rattle.command_words.specs.Words.{asked, command_line, port_number, storm_number, unless_fault}
+use Rattle.command_words.specs.Words.{asked, command_line, command_of, port_number, storm_number, unless_fault}
 use Rattle.command_words.specs.declared.Command.{Command}
 use Rattle.command_words.specs.declared.Command.TheVariants.{Live, Replay, Storm}
 
@@ -34,10 +35,16 @@ line_is_simple = refl
 pub taken : (kinds : Kinds) (command : Option Command) → kinds ≡ [] → command ≡ unless_fault kinds command
 taken kinds command none = ap (λ ks. unless_fault ks command) (sym none)
 
-pub refused : (kinds : Kinds) (command : Option Command) (e : Error) → HasKind kinds e → (kind_of e ≡ kind.OutOfMemory → ⊥) → None ≡ unless_fault kinds command
+refused : (kinds : Kinds) (command : Option Command) (e : Error) → HasKind kinds e → (kind_of e ≡ kind.OutOfMemory → ⊥) → None ≡ unless_fault kinds command
 refused [] command e (inl memory) other = absurd (other memory)
 refused [] command e (inr never) other = absurd never
 refused (k ∷ ks) command e has other = refl
+
+-- words that the line refuses for another reason than memory are no command
+pub refused_words : (a : App) (words : List (List ℕ)) (e : Error) → a ≡ command_line → (is_simple_and_free a ≡ true → HasKind (fault_of a words) e) → (kind_of e ≡ kind.OutOfMemory → ⊥) → None ≡ command_of words
+unfolding command_of
+refused_words a words e is kinds other =
+    refused (fault_of command_line words) _ e (subst (λ (x : App). is_simple_and_free x ≡ true → HasKind (fault_of x words) e) is kinds line_is_plain) other
 
 -- ---- the subcommand
 

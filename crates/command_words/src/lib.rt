@@ -19,7 +19,7 @@ use clap::ArgMatches;
 use clap::error::ErrorKind;
 use domain_base::NoMemory;
 pub use laws::words_are_told;
-use std::alloc::Global;
+use std::alloc::{AllocError, Global};
 
 /// A command of the command line.
 #[derive(Clone, Copy)]
@@ -43,7 +43,12 @@ fn live_command(values: &ArgMatches) -> Option<Command>
     ensures { result ≡ option_map Command.Live
         (option_and_then port_number (first_value (found_of values.now) (codes "port"))) }
 {
-    let port = port_number(values.get_str("port")?.as_bytes())?;
+    let Some(word) = values.get_str("port") else {
+        return None;
+    };
+    let Some(port) = port_number(word.as_bytes()) else {
+        return None;
+    };
     Some(Command::Live { port })
 }
 
@@ -52,7 +57,12 @@ fn storm_command(values: &ArgMatches) -> Option<Command>
     ensures { result ≡ option_map Command.Storm
         (option_and_then storm_number (first_value (found_of values.now) (codes "number"))) }
 {
-    let number = storm_number(values.get_str("number")?.as_bytes())?;
+    let Some(word) = values.get_str("number") else {
+        return None;
+    };
+    let Some(number) = storm_number(word.as_bytes()) else {
+        return None;
+    };
     Some(Command::Storm { number })
 }
 
@@ -72,7 +82,9 @@ fn asked(name: &str, values: &ArgMatches) -> Option<Command>
 fn met(matches: &ArgMatches) -> Option<Command>
     ensures { result ≡ option_and_then asked (subcommand_rows_of matches.now) }
 {
-    let (name, values) = matches.subcommand()?;
+    let Some((name, values)) = matches.subcommand() else {
+        return None;
+    };
     asked(name, values)
 }
 
@@ -91,7 +103,10 @@ fn refusal(kind: ErrorKind) -> Result<Option<Command>, NoMemory>
 pub fn read_words(alloc: Global, words: &[&str]) -> Result<Option<Command>, NoMemory>
     ensures { IfOk result (λ c. c ≡ command_of (map (λ w. w.now) words.now)) }
 {
-    let line = command_line(alloc)?;
+    let line = match command_line(alloc) {
+        Ok(line) => line,
+        Err(AllocError) => return Err(NoMemory),
+    };
     match line.try_get_matches_from(words) {
         Ok(matches) => Ok(met(&matches)),
         Err(error) => refusal(error.kind()),

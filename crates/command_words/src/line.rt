@@ -35,7 +35,10 @@ fn added<'a>(
         (with_rule (new_app name.now) (needed (new_rule word.now))).top) }
 {
     let value = Arg::new(alloc, word).required(true);
-    let subcommand = Command::new(alloc, name).arg(value)?;
+    let subcommand = match Command::new(alloc, name).arg(value) {
+        Ok(subcommand) => subcommand,
+        Err(AllocError) => return Err(AllocError),
+    };
     line.subcommand(subcommand)
 }
 
@@ -43,7 +46,13 @@ fn added<'a>(
 pub fn command_line<'a>(alloc: Global) -> Result<Command<'a>, AllocError>
     ensures { IfOk result (λ c. app_of c ≡ command_line) }
 {
-    let first = replay_line(alloc)?;
-    let second = added(alloc, first, "live", "port")?;
+    let first = match replay_line(alloc) {
+        Ok(first) => first,
+        Err(AllocError) => return Err(AllocError),
+    };
+    let second = match added(alloc, first, "live", "port") {
+        Ok(second) => second,
+        Err(AllocError) => return Err(AllocError),
+    };
     added(alloc, second, "storm", "number")
 }

@@ -25,7 +25,9 @@ fn digits_number(text: &[u8]) -> Option<u64>
 pub fn port_number(text: &[u8]) -> Option<u16>
     ensures { result ≡ port_number text.now }
 {
-    let number = digits_number(text)?;
+    let Some(number) = digits_number(text) else {
+        return None;
+    };
     if (1024..=65000).contains(&number) {
         Some(number as u16)
     } else {
@@ -37,7 +39,9 @@ pub fn port_number(text: &[u8]) -> Option<u16>
 pub fn storm_number(text: &[u8]) -> Option<u32>
     ensures { result ≡ storm_number text.now }
 {
-    let number = digits_number(text)?;
+    let Some(number) = digits_number(text) else {
+        return None;
+    };
     if number < 1 << 32 {
         Some(number as u32)
     } else {

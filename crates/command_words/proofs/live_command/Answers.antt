@@ -6,5 +6,5 @@ use Rattle.command_words.proofs.live_command.Goals as goal
 
 pub returns : goal.returns
 returns c =
-    let port : Some c.in_ok-port.port ≡ option_and_then port_number (first_value (found_of c.args.values.now) (codes "port")) = search rules in
+    let port : Some c.in-Some-port_number.port ≡ option_and_then port_number (first_value (found_of c.args.values.now) (codes "port")) = search rules in
     ap (option_map Live) port

@@ -7,6 +7,6 @@ use Rattle.command_words.proofs.line.command_line.Goals as goal
 pub returns : goal.returns
 unfolding command_line
 returns c =
-    let two_are : app_of c.in_ok-second.second ≡ with_subcommand (with_subcommand bare_line replay_line.top) live_line.top =
-    c.in_ok-second.ensures ∙ ap (λ (a : App). with_subcommand a live_line.top) c.in_ok-first.ensures in
+    let two_are : app_of c.in-Ok-added.second ≡ with_subcommand (with_subcommand bare_line replay_line.top) live_line.top =
+    c.in-Ok-added.ensures ∙ ap (λ (a : App). with_subcommand a live_line.top) c.in-Ok.ensures in
     IfOk-weaker c.added-2.result _ _ (λ r h. h ∙ ap (λ (a : App). with_subcommand a storm_line.top) two_are) c.added-2.ensures

@@ -14,4 +14,4 @@ pub overflow_cast-result : goal.overflow_cast-result
 overflow_cast-result c = omega arith
 
 pub returns-then-number : goal.returns-then-number
-returns-then-number c = storm_of c.args.text.now _ c.in_ok-number.number c.in_ok-number.was c.digits_number.ensures (omega arith)
+returns-then-number c = storm_of c.args.text.now _ c.in-Some.number c.in-Some.is c.digits_number.ensures (omega arith)
