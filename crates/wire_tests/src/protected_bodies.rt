@@ -1,10 +1,11 @@
-//! Bodies of protected frames, sealed and opened.
+//! Bodies of protected frames, and guards.
 
-ghost use Rattle.std.specs.Prelude.{◌↔◌, IsTrue};
+ghost use Rattle.std.specs.Prelude.{◌↔◌, ◌≤◌, IsTrue, length};
 ghost use Rattle.ccmp_guard.specs.Ccmp.{IsHeader};
 
 use ccmp_guard::{
-    Seal, a_body_has_one_plain_text, a_plain_text_has_one_body, open_body, seal_body,
+    Guard, GuardFault, Role, Seal, a_body_has_one_plain_text, a_plain_text_has_one_body, open_body,
+    seal_body,
 };
 
 const TK: [u8; 16] = [
@@ -79,6 +80,46 @@ fn long_bodies_are_sealed_and_opened(rt: HostRuntime) {
         assert!(rt; goes_both_ways(frame), "{body:?}");
     }
 }
+
+fn protect(guard: &mut Guard) -> Result<usize, GuardFault> {
+    let mut out = [0; 64];
+    guard.protect(HEADER, PLAIN, &mut out)
+}
+
+fn unprotect(guard: &mut Guard, body: &[u8]) -> Result<usize, GuardFault>
+    requires { length body.now ≤ 80 }
+{
+    let mut out = [0; 64];
+    guard.unprotect(HEADER, body, &mut out)
+}
+
+// The last number protects one frame; then bodies come one after the other.
+#[test]
+fn guards_protect_and_open_or_refuse(rt: HostRuntime) {
+    assert!(rt; protect(&mut Guard::empty()) == Err(GuardFault::NoKey));
+    let mut guard = Guard::empty();
+    guard.install(&TK, Role::Pairwise, 281_474_976_710_654, 0);
+    assert!(rt; protect(&mut guard) == Ok(36) && protect(&mut guard) == Err(GuardFault::Spent));
+    for (body, answer) in &ANSWERS {
+        assert!(rt;
+            body.len() <= 80 && unprotect(&mut guard, body) == *answer,
+            "{body:?}"
+        );
+    }
+}
+
+// Bodies, and what a guard gives for them: those without a CCMP header, under another key id, and
+// with an octet changed are refused, and the first one that is right is taken once.
+static ANSWERS: [(&[u8], Result<usize, GuardFault>); 5] = [
+    (b"", Err(GuardFault::Header)),
+    (
+        b"\x0c\xe7\0\x60\0\0\0\0\0\0\0\0\0\0\0\0",
+        Err(GuardFault::KeyId),
+    ),
+    (FORGED, Err(GuardFault::Seal)),
+    (BODY, Ok(20)),
+    (BODY, Err(GuardFault::Replayed(0xb503_9776_e70c))),
+];
 
 // IEEE Std 802.11-2020, annex J: CCMP-128.
 const HEADER: &[u8] =
