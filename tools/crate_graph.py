@@ -21,7 +21,7 @@ def crates():
         for line in file:
             if ":" in line and not line.startswith("#"):
                 name, below = line.split(":", 1)
-                found[name.strip()] = below.split()
+                found[name.split()[0]] = below.split()
     kept = [name for name in found if not name.endswith("_tests")]
     return {name: [other for other in found[name] if other in kept] for name in kept}
 
