@@ -1,12 +1,10 @@
 -- What the reader keeps behind a line, and what a word or a number says.
-use Rattle.std.proofs.Common.{◌≡◌, ℕ, ◌≤◌, ◌-◌, Bool, true, false, not, List, codes, bytes_eq, Option, Some, Result, Ok, Err, length, refl, sym, ap, subst, ◌∙◌}
-use Rattle.std.specs.Prelude.{is_err, slice_index, OnOk, OnErr, IfSome}
-use Rattle.std.specs.Result.{result_ok}
+use Rattle.std.proofs.Common.{◌≡◌, ℕ, ◌≤◌, ◌-◌, Bool, true, false, not, List, codes, bytes_eq, Some, Result, Ok, Err, length, refl, sym, ◌∙◌}
+use Rattle.std.specs.Prelude.{is_err, slice_index, OnOk, OnErr}
 use Rattle.std.proofs.lemmas.Bool.{false≢true, le-leb}
 use Rattle.run_journal.specs.declared.acts.Entry.{Entry}
 use Rattle.frame_script.specs.declared.reader.Mode.{Mode}
 use Rattle.frame_script.specs.declared.reader.Mode.TheVariants.{Replay, Live}
-use Rattle.frame_script.specs.declared.refusal.Refusal.{Refusal}
 use Rattle.frame_script.specs.declared.refusal.Untaken.TheVariants as untaken
 use Rattle.frame_script.specs.Script.{Draft, AtVersion, AtSeed, Goes, version_, line_says, size_of}
 use Rattle.frame_script.specs.Headers.{Reading, HasSeen, IsSized, ReadsIn}
@@ -44,10 +42,7 @@ pub version_said : (rounds : ℕ) (sizes line : List ℕ) → bytes_eq line (cod
 unfolding line_says
 version_said rounds sizes line e = rw e refl
 
--- what is found, where a fault takes the place of nothing
-pub found_in : {A : Type 0} (P : A → Type 0) (o : Option A) (r : Result A Refusal) (a : A) → o ≡ result_ok r → r ≡ Ok a → IfSome o P → P a
-found_in {A} P o r a part was h = subst (λ (x : Option A). IfSome x P) (part ∙ ap result_ok was) h
-
+-- a test that is turned about
 pub not_false : (a b : Bool) → a ≡ not b → a ≡ false → b ≡ true
 not_false a true is e = refl
 not_false a false is e = absurd (false≢true (sym e ∙ is))

@@ -1,13 +1,10 @@
 -- A line that lists a node, by its parts.
-use Rattle.std.proofs.Common.{Bool, if◌then◌else◌, nat_le, nat_lt, slice_index, ◌≡◌, true, false, List, ℕ, Option, Some, Ok, Err, Result, MatchOption, option_map, refl, subst, sym, ap, ◌∙◌}
-use Rattle.std.specs.Result.{result_ok}
+use Rattle.std.proofs.Common.{Bool, if◌then◌else◌, nat_le, nat_lt, slice_index, ◌≡◌, true, false, List, ℕ, Some, None, Ok, Err, Result, refl, subst, sym}
 use Rattle.domain_base.specs.declared.names.Mac.{Mac}
 use Rattle.domain_base.specs.declared.names.Node.{Node}
 use Rattle.run_journal.specs.declared.domain.Domain.{Domain}
 use Rattle.run_journal.specs.declared.domain.Event.TheVariants.{Connect, Roam, Retry, Expire, Revoke, Deliver, Cut, Alter}
-use Rattle.frame_script.specs.declared.tokens.NodeName.{NodeName}
-use Rattle.frame_script.specs.declared.tokens.PeerName.{PeerName}
-use Rattle.frame_script.specs.Sentences.{TellsBy, name_of, peer_of}
+use Rattle.frame_script.specs.Sentences.{TellsBy}
 use Rattle.frame_script.specs.declared.refusal.Refusal.{Refusal}
 use Rattle.frame_script.specs.Tokens.{NodeWord, PeerWord, peer_word, number_of_digits, hex_octets, split_word, node_word, is_text}
 use Rattle.frame_script.specs.Script.{◌>>=◌, Fault, send_line, send_between, to_word, event_node, size_of, frame_, place_, deliver_line, cut_line, alter_line, need, node_, listed_sta, listed_ap, connect_line, roam_line, retry_line, expire_line, revoke_line, arguments, ListsAp, ListsSta, address_of, new_ap, new_sta, ap_line, sta_line}
@@ -24,17 +21,11 @@ pub ap_unfit : (d : Domain) (text word id : List ℕ) (address : Mac) → split_
 unfolding ap_line
 ap_unfit d text word id address split is fit = rw (split, is, fit) refl
 
--- two words, where a fault takes the place of none
-pub split_found : {A : Type 0} (P : A → Type 0) (N : Type 0) (o : Option A) (r : Result A Refusal) (a : A) → o ≡ result_ok r → r ≡ Ok a → MatchOption o N P → P a
-split_found {A} P N o r a part was h = subst (λ (x : Option A). MatchOption x N P) (part ∙ ap result_ok was) h
+pub ap_no_id : (d : Domain) (text : List ℕ) → split_word text ≡ None → ap_line d text ≡ Err arguments
+unfolding ap_line
+ap_no_id d text none = rw none refl
 
--- and a number or a name
-pub value_found : {A : Type 0} (o m : Option A) (r : Result A Refusal) (a : A) → o ≡ m → o ≡ result_ok r → r ≡ Ok a → m ≡ Some a
-value_found o m r a is part was = sym is ∙ (part ∙ ap result_ok was)
-
-pub name_found : (o : Option NodeName) (m : Option NodeWord) (r : Result NodeName Refusal) (n : NodeName) → option_map name_of o ≡ m → o ≡ result_ok r → r ≡ Ok n → m ≡ Some (name_of n)
-name_found o m r n is part was = sym is ∙ ap (λ (x : Option NodeName). option_map name_of x) (part ∙ ap result_ok was)
-
+-- the lines of two names
 pub connect_said : (d : Domain) (text first second : List ℕ) (s a : NodeWord) → split_word text ≡ Some (first, second) → node_word first ≡ Some s → node_word second ≡ Some a
     → connect_line d text ≡ (need node_ (listed_sta d s) >>= (λ sta. need node_ (listed_ap d a) >>= (λ ap. Ok (Connect sta ap))))
 unfolding connect_line
@@ -83,9 +74,6 @@ pub send_said : (d : Domain) (within : Bool) (text first rest second more : List
     → send_line d within text ≡ send_between d within f t more
 unfolding send_line
 send_said d within text first rest second more f t split is so at = rw (split, is, so, at) refl
-
-pub peer_found : (o : Option PeerName) (m : Option PeerWord) (r : Result PeerName Refusal) (n : PeerName) → option_map peer_of o ≡ m → o ≡ result_ok r → r ≡ Ok n → m ≡ Some (peer_of n)
-peer_found o m r n is part was = sym is ∙ ap (λ (x : Option PeerName). option_map peer_of x) (part ∙ ap result_ok was)
 
 pub tells_by_as : {A B : Type 0} (view : A → B) (found : Result A Refusal) (m n : Result B Fault) → n ≡ m → TellsBy view found m → TellsBy view found n
 tells_by_as {A} {B} view found m n e t = subst (λ (x : Result B Fault). TellsBy view found x) (sym e) t

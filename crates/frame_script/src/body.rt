@@ -77,11 +77,17 @@ fn body_line<'a>(
     if word == b"ap".as_slice() {
         early_ap(domain, rounds, text)
     } else if word == b"sta".as_slice() {
-        Ok(Sentence::Sta(early_sta(domain, rounds, text)?))
+        match early_sta(domain, rounds, text) {
+            Ok(address) => Ok(Sentence::Sta(address)),
+            Err(refusal) => Err(refusal),
+        }
     } else if word == b"round".as_slice() {
         Err(Refusal::Arguments)
     } else {
-        Ok(Sentence::Asks(event_line(domain, sizes, word, text)?))
+        match event_line(domain, sizes, word, text) {
+            Ok(asked) => Ok(Sentence::Asks(asked)),
+            Err(refusal) => Err(refusal),
+        }
     }
 }
 

@@ -149,8 +149,12 @@ fn connect(domain: &Domain, sta: NodeName, ap: NodeName) -> Result<Event, Refusa
         (need node_ (listed_sta domain.now (name_of sta)) >>=ᴿ (λ s.
         need node_ (listed_ap domain.now (name_of ap)) >>=ᴿ (λ a. Ok (asks.Connect s a)))) }
 {
-    let sta = listed_sta(domain, sta).ok_or(Refusal::Node)?;
-    let ap = listed_ap(domain, ap).ok_or(Refusal::Node)?;
+    let Some(sta) = listed_sta(domain, sta) else {
+        return Err(Refusal::Node);
+    };
+    let Some(ap) = listed_ap(domain, ap) else {
+        return Err(Refusal::Node);
+    };
     Ok(Event::Connect { sta, ap })
 }
 
@@ -161,9 +165,15 @@ fn connect_line(domain: &Domain, text: &[u8]) -> Result<Event, Refusal>
     ensures can { (sizes : List ℕ) → IfOk result (CanHappen domain.now sizes) }
     ensures says { Tells result (connect_line domain.now text.now) }
 {
-    let (first, second) = split_word(text).ok_or(Refusal::Arguments)?;
-    let sta = node_name(first).ok_or(Refusal::Arguments)?;
-    let ap = node_name(second).ok_or(Refusal::Arguments)?;
+    let Some((first, second)) = split_word(text) else {
+        return Err(Refusal::Arguments);
+    };
+    let Some(sta) = node_name(first) else {
+        return Err(Refusal::Arguments);
+    };
+    let Some(ap) = node_name(second) else {
+        return Err(Refusal::Arguments);
+    };
     connect(domain, sta, ap)
 }
 
@@ -176,8 +186,12 @@ fn roam(domain: &Domain, sta: NodeName, ap: NodeName) -> Result<Event, Refusal>
         (need node_ (listed_sta domain.now (name_of sta)) >>=ᴿ (λ s.
         need node_ (listed_ap domain.now (name_of ap)) >>=ᴿ (λ a. Ok (asks.Roam s a)))) }
 {
-    let sta = listed_sta(domain, sta).ok_or(Refusal::Node)?;
-    let ap = listed_ap(domain, ap).ok_or(Refusal::Node)?;
+    let Some(sta) = listed_sta(domain, sta) else {
+        return Err(Refusal::Node);
+    };
+    let Some(ap) = listed_ap(domain, ap) else {
+        return Err(Refusal::Node);
+    };
     Ok(Event::Roam { sta, ap })
 }
 
@@ -189,9 +203,15 @@ fn roam_line(domain: &Domain, text: &[u8]) -> Result<Event, Refusal>
     ensures can { (sizes : List ℕ) → IfOk result (CanHappen domain.now sizes) }
     ensures says { Tells result (roam_line domain.now text.now) }
 {
-    let (first, second) = split_word(text).ok_or(Refusal::Arguments)?;
-    let sta = node_name(first).ok_or(Refusal::Arguments)?;
-    let ap = node_name(second).ok_or(Refusal::Arguments)?;
+    let Some((first, second)) = split_word(text) else {
+        return Err(Refusal::Arguments);
+    };
+    let Some(sta) = node_name(first) else {
+        return Err(Refusal::Arguments);
+    };
+    let Some(ap) = node_name(second) else {
+        return Err(Refusal::Arguments);
+    };
     roam(domain, sta, ap)
 }
 
@@ -203,8 +223,12 @@ fn retry(domain: &Domain, ap: NodeName, sta: NodeName) -> Result<Event, Refusal>
         (need node_ (listed_ap domain.now (name_of ap)) >>=ᴿ (λ a.
         need node_ (listed_sta domain.now (name_of sta)) >>=ᴿ (λ s. Ok (asks.Retry a s)))) }
 {
-    let ap = listed_ap(domain, ap).ok_or(Refusal::Node)?;
-    let sta = listed_sta(domain, sta).ok_or(Refusal::Node)?;
+    let Some(ap) = listed_ap(domain, ap) else {
+        return Err(Refusal::Node);
+    };
+    let Some(sta) = listed_sta(domain, sta) else {
+        return Err(Refusal::Node);
+    };
     Ok(Event::Retry { ap, sta })
 }
 
@@ -215,9 +239,15 @@ fn retry_line(domain: &Domain, text: &[u8]) -> Result<Event, Refusal>
     ensures can { (sizes : List ℕ) → IfOk result (CanHappen domain.now sizes) }
     ensures says { Tells result (retry_line domain.now text.now) }
 {
-    let (first, second) = split_word(text).ok_or(Refusal::Arguments)?;
-    let ap = node_name(first).ok_or(Refusal::Arguments)?;
-    let sta = node_name(second).ok_or(Refusal::Arguments)?;
+    let Some((first, second)) = split_word(text) else {
+        return Err(Refusal::Arguments);
+    };
+    let Some(ap) = node_name(first) else {
+        return Err(Refusal::Arguments);
+    };
+    let Some(sta) = node_name(second) else {
+        return Err(Refusal::Arguments);
+    };
     retry(domain, ap, sta)
 }
 
@@ -235,8 +265,12 @@ fn deliver(
         (need node_ (event_node within domain.now (name_of name)) >>=ᴿ (λ to.
         need frame_ (size_of sizes.now number) >>=ᴿ (λ _. Ok (asks.Deliver number to)))) }
 {
-    let to = event_node(domain, within, name).ok_or(Refusal::Node)?;
-    size_of(sizes, number).ok_or(Refusal::Frame)?;
+    let Some(to) = event_node(domain, within, name) else {
+        return Err(Refusal::Node);
+    };
+    let Some(_) = size_of(sizes, number) else {
+        return Err(Refusal::Frame);
+    };
     Ok(Event::Deliver { number, to })
 }
 
@@ -252,9 +286,15 @@ fn deliver_line(
     ensures can { IfOk result (CanHappen domain.now sizes.now) }
     ensures says { Tells result (deliver_line domain.now within sizes.now text.now) }
 {
-    let (number, rest) = split_word(text).ok_or(Refusal::Arguments)?;
-    let number = number_of_digits(number).ok_or(Refusal::Arguments)?;
-    let name = to_name(rest).ok_or(Refusal::Arguments)?;
+    let Some((number, rest)) = split_word(text) else {
+        return Err(Refusal::Arguments);
+    };
+    let Some(number) = number_of_digits(number) else {
+        return Err(Refusal::Arguments);
+    };
+    let Some(name) = to_name(rest) else {
+        return Err(Refusal::Arguments);
+    };
     deliver(domain, within, sizes, number, name)
 }
 
@@ -272,7 +312,9 @@ fn alter(sizes: &[usize], number: u64, place: u64, mask: u8, to: Node) -> Result
         (need frame_ (size_of sizes.now number) >>=ᴿ (λ size.
         if nat_lt place size then Ok (asks.Alter number place mask to) else Err place_)) }
 {
-    let size = size_of(sizes, number).ok_or(Refusal::Frame)?;
+    let Some(size) = size_of(sizes, number) else {
+        return Err(Refusal::Frame);
+    };
     if !has_place(place, size) {
         return Err(Refusal::Place);
     }
@@ -303,10 +345,18 @@ fn alter_octet(
         → number_of_digits second ≡ Some place
         → Tells result (alter_line domain.now within sizes.now line) }
 {
-    let (mask, rest) = split_word(text).ok_or(Refusal::Arguments)?;
-    let mask: [u8; 1] = hex_octets(mask).ok_or(Refusal::Arguments)?;
-    let name = to_name(rest).ok_or(Refusal::Arguments)?;
-    let to = event_node(domain, within, name).ok_or(Refusal::Node)?;
+    let Some((mask, rest)) = split_word(text) else {
+        return Err(Refusal::Arguments);
+    };
+    let Some(mask): Option<[u8; 1]> = hex_octets(mask) else {
+        return Err(Refusal::Arguments);
+    };
+    let Some(name) = to_name(rest) else {
+        return Err(Refusal::Arguments);
+    };
+    let Some(to) = event_node(domain, within, name) else {
+        return Err(Refusal::Node);
+    };
     alter(sizes, number, place, mask[0], to)
 }
 
@@ -326,8 +376,12 @@ fn alter_frame(
         → number_of_digits word ≡ Some number
         → Tells result (alter_line domain.now within sizes.now line) }
 {
-    let (place, rest) = split_word(text).ok_or(Refusal::Arguments)?;
-    let place = number_of_digits(place).ok_or(Refusal::Arguments)?;
+    let Some((place, rest)) = split_word(text) else {
+        return Err(Refusal::Arguments);
+    };
+    let Some(place) = number_of_digits(place) else {
+        return Err(Refusal::Arguments);
+    };
     alter_octet(domain, within, sizes, number, place, rest)
 }
 
@@ -338,8 +392,12 @@ fn alter_line(domain: &Domain, within: bool, sizes: &[usize], text: &[u8]) -> Re
     ensures can { IfOk result (CanHappen domain.now sizes.now) }
     ensures says { Tells result (alter_line domain.now within sizes.now text.now) }
 {
-    let (number, rest) = split_word(text).ok_or(Refusal::Arguments)?;
-    let number = number_of_digits(number).ok_or(Refusal::Arguments)?;
+    let Some((number, rest)) = split_word(text) else {
+        return Err(Refusal::Arguments);
+    };
+    let Some(number) = number_of_digits(number) else {
+        return Err(Refusal::Arguments);
+    };
     alter_frame(domain, within, sizes, number, rest)
 }
 
@@ -359,8 +417,12 @@ fn cut(
         need frame_ (size_of sizes.now number) >>=ᴿ (λ size.
         if nat_le count size then Ok (asks.Cut number count to) else Err place_))) }
 {
-    let to = event_node(domain, within, name).ok_or(Refusal::Node)?;
-    let whole = size_of(sizes, number).ok_or(Refusal::Frame)?;
+    let Some(to) = event_node(domain, within, name) else {
+        return Err(Refusal::Node);
+    };
+    let Some(whole) = size_of(sizes, number) else {
+        return Err(Refusal::Frame);
+    };
     let size = count as usize;
     if size <= whole {
         Ok(Event::Cut { number, size, to })
@@ -385,9 +447,15 @@ fn cut_frame(
         → number_of_digits word ≡ Some number
         → Tells result (cut_line domain.now within sizes.now line) }
 {
-    let (count, rest) = split_word(text).ok_or(Refusal::Arguments)?;
-    let count = number_of_digits(count).ok_or(Refusal::Arguments)?;
-    let name = to_name(rest).ok_or(Refusal::Arguments)?;
+    let Some((count, rest)) = split_word(text) else {
+        return Err(Refusal::Arguments);
+    };
+    let Some(count) = number_of_digits(count) else {
+        return Err(Refusal::Arguments);
+    };
+    let Some(name) = to_name(rest) else {
+        return Err(Refusal::Arguments);
+    };
     cut(domain, within, sizes, number, count, name)
 }
 
@@ -398,8 +466,12 @@ fn cut_line(domain: &Domain, within: bool, sizes: &[usize], text: &[u8]) -> Resu
     ensures can { IfOk result (CanHappen domain.now sizes.now) }
     ensures says { Tells result (cut_line domain.now within sizes.now text.now) }
 {
-    let (number, rest) = split_word(text).ok_or(Refusal::Arguments)?;
-    let number = number_of_digits(number).ok_or(Refusal::Arguments)?;
+    let Some((number, rest)) = split_word(text) else {
+        return Err(Refusal::Arguments);
+    };
+    let Some(number) = number_of_digits(number) else {
+        return Err(Refusal::Arguments);
+    };
     cut_frame(domain, within, sizes, number, rest)
 }
 
@@ -435,7 +507,9 @@ fn inject<'a>(
         Ok (asks.Inject to octets)))) }
 {
     octets_within(MOST_OCTETS, Refusal::LongFrame, digits)?;
-    let to = event_node(domain, within, name).ok_or(Refusal::Node)?;
+    let Some(to) = event_node(domain, within, name) else {
+        return Err(Refusal::Node);
+    };
     Ok(Asked::Inject(to, digits))
 }
 
@@ -446,8 +520,12 @@ fn inject_line<'a>(domain: &Domain, within: bool, text: &'a [u8]) -> Result<Aske
     ensures can { (sizes : List ℕ) → IfOk result (CanAsk domain.now sizes) }
     ensures says { TellsBy event_asked result (inject_line domain.now within text.now) }
 {
-    let (word, digits) = split_word(text).ok_or(Refusal::Arguments)?;
-    let name = node_name(word).ok_or(Refusal::Arguments)?;
+    let Some((word, digits)) = split_word(text) else {
+        return Err(Refusal::Arguments);
+    };
+    let Some(name) = node_name(word) else {
+        return Err(Refusal::Arguments);
+    };
     inject(domain, within, name, digits)
 }
 
@@ -460,9 +538,9 @@ fn receiver_of(domain: &Domain, from: Node, name: PeerName) -> Option<Peer>
 {
     match (from, name) {
         (Node::Ap(_), PeerName::All) => Some(Peer::All),
-        (Node::Ap(_), PeerName::One(sta)) => Some(Peer::One(Node::Sta(listed_sta(domain, sta)?))),
+        (Node::Ap(_), PeerName::One(sta)) => listed_sta(domain, sta).map(Node::Sta).map(Peer::One),
         (Node::Sta(_), PeerName::All) => None,
-        (Node::Sta(_), PeerName::One(ap)) => Some(Peer::One(Node::Ap(listed_ap(domain, ap)?))),
+        (Node::Sta(_), PeerName::One(ap)) => listed_ap(domain, ap).map(Node::Ap).map(Peer::One),
     }
 }
 
@@ -482,8 +560,12 @@ fn send_payload<'a>(
         (send_payload domain.now within (name_of from) (peer_of to) tid digits.now) }
 {
     octets_within(MOST_PAYLOAD, Refusal::LongPayload, digits)?;
-    let from = event_node(domain, within, from).ok_or(Refusal::Node)?;
-    let to = receiver_of(domain, from, to).ok_or(Refusal::Node)?;
+    let Some(from) = event_node(domain, within, from) else {
+        return Err(Refusal::Node);
+    };
+    let Some(to) = receiver_of(domain, from, to) else {
+        return Err(Refusal::Node);
+    };
     Ok(Asked::Send(from, to, tid, digits))
 }
 
@@ -501,8 +583,12 @@ fn send_between<'a>(
     ensures says { TellsBy event_asked result
         (send_between domain.now within (name_of from) (peer_of to) text.now) }
 {
-    let (word, digits) = split_word(text).ok_or(Refusal::Arguments)?;
-    let tid = tid_of(word).ok_or(Refusal::Arguments)?;
+    let Some((word, digits)) = split_word(text) else {
+        return Err(Refusal::Arguments);
+    };
+    let Some(tid) = tid_of(word) else {
+        return Err(Refusal::Arguments);
+    };
     send_payload(domain, within, from, to, tid, digits)
 }
 
@@ -513,10 +599,18 @@ fn send_line<'a>(domain: &Domain, within: bool, text: &'a [u8]) -> Result<Asked<
     ensures can { (sizes : List ℕ) → IfOk result (CanAsk domain.now sizes) }
     ensures says { TellsBy event_asked result (send_line domain.now within text.now) }
 {
-    let (first, rest) = split_word(text).ok_or(Refusal::Arguments)?;
-    let from = node_name(first).ok_or(Refusal::Arguments)?;
-    let (second, rest) = split_word(rest).ok_or(Refusal::Arguments)?;
-    let to = peer_name(second).ok_or(Refusal::Arguments)?;
+    let Some((first, rest)) = split_word(text) else {
+        return Err(Refusal::Arguments);
+    };
+    let Some(from) = node_name(first) else {
+        return Err(Refusal::Arguments);
+    };
+    let Some((second, rest)) = split_word(rest) else {
+        return Err(Refusal::Arguments);
+    };
+    let Some(to) = peer_name(second) else {
+        return Err(Refusal::Arguments);
+    };
     send_between(domain, within, from, to, rest)
 }
 
@@ -527,8 +621,12 @@ fn rekey_line(domain: &Domain, text: &[u8]) -> Result<Event, Refusal>
     ensures can { (sizes : List ℕ) → IfOk result (CanHappen domain.now sizes) }
     ensures says { Tells result (rekey_line domain.now text.now) }
 {
-    let ap = node_name(text).ok_or(Refusal::Arguments)?;
-    let ap = listed_ap(domain, ap).ok_or(Refusal::Node)?;
+    let Some(ap) = node_name(text) else {
+        return Err(Refusal::Arguments);
+    };
+    let Some(ap) = listed_ap(domain, ap) else {
+        return Err(Refusal::Node);
+    };
     Ok(Event::Rekey { ap })
 }
 
@@ -540,8 +638,12 @@ fn expire(domain: &Domain, ap: NodeName, sta: NodeName) -> Result<Event, Refusal
         (need node_ (listed_ap domain.now (name_of ap)) >>=ᴿ (λ a.
         need node_ (listed_sta domain.now (name_of sta)) >>=ᴿ (λ s. Ok (asks.Expire a s)))) }
 {
-    let ap = listed_ap(domain, ap).ok_or(Refusal::Node)?;
-    let sta = listed_sta(domain, sta).ok_or(Refusal::Node)?;
+    let Some(ap) = listed_ap(domain, ap) else {
+        return Err(Refusal::Node);
+    };
+    let Some(sta) = listed_sta(domain, sta) else {
+        return Err(Refusal::Node);
+    };
     Ok(Event::Expire { ap, sta })
 }
 
@@ -552,9 +654,15 @@ fn expire_line(domain: &Domain, text: &[u8]) -> Result<Event, Refusal>
     ensures can { (sizes : List ℕ) → IfOk result (CanHappen domain.now sizes) }
     ensures says { Tells result (expire_line domain.now text.now) }
 {
-    let (first, second) = split_word(text).ok_or(Refusal::Arguments)?;
-    let ap = node_name(first).ok_or(Refusal::Arguments)?;
-    let sta = node_name(second).ok_or(Refusal::Arguments)?;
+    let Some((first, second)) = split_word(text) else {
+        return Err(Refusal::Arguments);
+    };
+    let Some(ap) = node_name(first) else {
+        return Err(Refusal::Arguments);
+    };
+    let Some(sta) = node_name(second) else {
+        return Err(Refusal::Arguments);
+    };
     expire(domain, ap, sta)
 }
 
@@ -566,8 +674,12 @@ fn revoke(domain: &Domain, ap: NodeName, sta: NodeName) -> Result<Event, Refusal
         (need node_ (listed_ap domain.now (name_of ap)) >>=ᴿ (λ a.
         need node_ (listed_sta domain.now (name_of sta)) >>=ᴿ (λ s. Ok (asks.Revoke a s)))) }
 {
-    let ap = listed_ap(domain, ap).ok_or(Refusal::Node)?;
-    let sta = listed_sta(domain, sta).ok_or(Refusal::Node)?;
+    let Some(ap) = listed_ap(domain, ap) else {
+        return Err(Refusal::Node);
+    };
+    let Some(sta) = listed_sta(domain, sta) else {
+        return Err(Refusal::Node);
+    };
     Ok(Event::Revoke { ap, sta })
 }
 
@@ -578,9 +690,15 @@ fn revoke_line(domain: &Domain, text: &[u8]) -> Result<Event, Refusal>
     ensures can { (sizes : List ℕ) → IfOk result (CanHappen domain.now sizes) }
     ensures says { Tells result (revoke_line domain.now text.now) }
 {
-    let (first, second) = split_word(text).ok_or(Refusal::Arguments)?;
-    let ap = node_name(first).ok_or(Refusal::Arguments)?;
-    let sta = node_name(second).ok_or(Refusal::Arguments)?;
+    let Some((first, second)) = split_word(text) else {
+        return Err(Refusal::Arguments);
+    };
+    let Some(ap) = node_name(first) else {
+        return Err(Refusal::Arguments);
+    };
+    let Some(sta) = node_name(second) else {
+        return Err(Refusal::Arguments);
+    };
     revoke(domain, ap, sta)
 }
 
@@ -591,8 +709,12 @@ fn leave_line(domain: &Domain, text: &[u8]) -> Result<Event, Refusal>
     ensures can { (sizes : List ℕ) → IfOk result (CanHappen domain.now sizes) }
     ensures says { Tells result (leave_line domain.now text.now) }
 {
-    let sta = node_name(text).ok_or(Refusal::Arguments)?;
-    let sta = listed_sta(domain, sta).ok_or(Refusal::Node)?;
+    let Some(sta) = node_name(text) else {
+        return Err(Refusal::Arguments);
+    };
+    let Some(sta) = listed_sta(domain, sta) else {
+        return Err(Refusal::Node);
+    };
     Ok(Event::Leave { sta })
 }
 

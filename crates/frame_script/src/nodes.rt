@@ -35,7 +35,9 @@ fn address_of(word: &[u8]) -> Result<Mac, Refusal>
     ensures single { IfOk result (λ address. is_single address.0 ≡ true) }
     ensures says { Tells result (address_of word.now) }
 {
-    let octets = hex_octets(word).ok_or(Refusal::Arguments)?;
+    let Some(octets) = hex_octets(word) else {
+        return Err(Refusal::Arguments);
+    };
     if is_single(&octets) {
         Ok(Mac(octets))
     } else {
@@ -101,7 +103,9 @@ pub(crate) fn ap_line<'a>(domain: &Domain, text: &'a [u8]) -> Result<(Mac, &'a [
     ensures can { IfOk result (λ ap. CanListAp domain.now ap.0 ap.1.now) }
     ensures says { TellsBy (λ ap. ListsAp ap.0 ap.1.now) result (ap_line domain.now text.now) }
 {
-    let (word, r0kh_id) = split_word(text).ok_or(Refusal::Arguments)?;
+    let Some((word, r0kh_id)) = split_word(text) else {
+        return Err(Refusal::Arguments);
+    };
     let address = address_of(word)?;
     if !is_text(48, 33, r0kh_id) {
         return Err(Refusal::Arguments);

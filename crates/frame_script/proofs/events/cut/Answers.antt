@@ -1,10 +1,4 @@
-use Rattle.std.proofs.Common.{◌≤◌, ℕ}
-use Rattle.frame_script.specs.Headers.{IsListedIn, IsSized}
-use Rattle.frame_script.proofs.Keeping.{found_in}
 use Rattle.frame_script.proofs.events.cut.Goals as goal
 
 pub returns-then-size-whole-clause-can : goal.returns-then-size-whole-clause-can
-returns-then-size-whole-clause-can c =
-    let listed = found_in (IsListedIn c.args.domain.now) c.event_node.result c.ok_or.result c.in_ok-to.to c.ok_or.ensures.ok_part c.in_ok-to.was c.event_node.ensures.inside in
-    let sized = found_in (λ (whole : ℕ). (size : ℕ) → size ≤ whole → IsSized c.args.sizes.now c.args.number size) c.size_of.result c.ok_or-2.result c.in_ok-whole.whole c.ok_or-2.ensures.ok_part c.in_ok-whole.was c.size_of.ensures.sized in
-    (listed, sized c.args.count c.if-size-whole.true)
+returns-then-size-whole-clause-can c = (c.in-Some.ensures.inside, c.in-Some-size_of.ensures.sized c.args.count c.if-size-whole.true)

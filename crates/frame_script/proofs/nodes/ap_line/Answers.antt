@@ -1,6 +1,6 @@
 use Rattle.std.proofs.Common.{sym, ◌∙◌}
 use Rattle.frame_script.proofs.Freed.{can-list_ap}
-use Rattle.frame_script.proofs.Listing.{split_found, ap_said, ap_unfit}
+use Rattle.frame_script.proofs.Listing.{ap_said, ap_unfit, ap_no_id}
 use Rattle.frame_script.proofs.nodes.ap_line.Goals as goal
 
 pub returns-clause-can : goal.returns-clause-can
@@ -9,10 +9,11 @@ returns-clause-can c =
 
 pub returns-clause-says : goal.returns-clause-says
 returns-clause-says c =
-    let split = split_found _ _ c.split_word.result c.ok_or.result (c.in_ok-word.word, c.in_ok-word.r0kh_id) c.ok_or.ensures.ok_part c.in_ok-word.was c.split_word.ensures in
-    ap_said c.args.domain.now c.args.text.now _ _ _ split c.in_ok-address.ensures.says (sym c.is_text.ensures ∙ c.if-not-is_text.false) c.in_ok-new_ap.ensures.says
+    ap_said c.args.domain.now c.args.text.now _ _ _ c.in-Some.ensures c.in_ok-address.ensures.says (sym c.is_text.ensures ∙ c.if-not-is_text.false) c.in_ok-new_ap.ensures.says
 
 pub returns-then-not-is_text-clause-says : goal.returns-then-not-is_text-clause-says
 returns-then-not-is_text-clause-says c =
-    let split = split_found _ _ c.split_word.result c.ok_or.result (c.in_ok-word.word, c.in_ok-word.r0kh_id) c.ok_or.ensures.ok_part c.in_ok-word.was c.split_word.ensures in
-    ap_unfit c.args.domain.now c.args.text.now _ _ _ split c.in_ok-address.ensures.says (sym c.is_text.ensures ∙ c.if-not-is_text.true)
+    ap_unfit c.args.domain.now c.args.text.now _ _ _ c.in-Some.ensures c.in_ok-address.ensures.says (sym c.is_text.ensures ∙ c.if-not-is_text.true)
+
+pub returns-in_default-clause-says : goal.returns-in_default-clause-says
+returns-in_default-clause-says c = ap_no_id c.args.domain.now c.args.text.now c.in_default.ensures
