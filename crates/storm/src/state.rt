@@ -83,9 +83,15 @@ impl Storm {
         ensures same { OnErr result (self.new.state ≡ self.old.state) }
         ensures kept { HasSeen self.new.seen self.new.frames journal.now.entries }
     {
-        see(&mut self.seen, &mut self.frames, journal)?;
+        match see(&mut self.seen, &mut self.frames, journal) {
+            Ok(()) => {}
+            Err(NoMemory) => return Err(NoMemory),
+        }
         let mut generator = self.generator;
-        let event = next_event(&mut generator, alloc, &self.frames)?;
+        let event = match next_event(&mut generator, alloc, &self.frames) {
+            Ok(event) => event,
+            Err(NoMemory) => return Err(NoMemory),
+        };
         self.generator = generator;
         Ok(event)
     }
