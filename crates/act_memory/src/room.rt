@@ -97,18 +97,9 @@ fn three_templates(here: Here<'_>, peer: Node, r0kh_id: &[u8]) -> Result<Templat
     ensures finished { IfOk result (λ three. let d = here.entry.domain.now
         in IsTemplate d (root_at d r0kh_id.now) here.entry.node peer three.finished) }
 {
-    let derived = match template(here, peer, r0kh_id) {
-        Ok(derived) => derived,
-        Err(NoMemory) => return Err(NoMemory),
-    };
-    let installed = match template(here, peer, r0kh_id) {
-        Ok(installed) => installed,
-        Err(NoMemory) => return Err(NoMemory),
-    };
-    let finished = match template(here, peer, r0kh_id) {
-        Ok(finished) => finished,
-        Err(NoMemory) => return Err(NoMemory),
-    };
+    let derived = template(here, peer, r0kh_id)?;
+    let installed = template(here, peer, r0kh_id)?;
+    let finished = template(here, peer, r0kh_id)?;
     Ok(Templates {
         derived,
         installed,
@@ -277,18 +268,9 @@ impl Room {
         ensures { IfOk result (λ room. IsRoom here.entry.domain.now r0kh_id.now here.entry.node peer
             heard.now.octets.now (message_fields heard.now.message) room) }
     {
-        let came = match take_came(here.alloc, heard) {
-            Ok(came) => came,
-            Err(NoMemory) => return Err(NoMemory),
-        };
-        let templates = match three_templates(here, peer, r0kh_id) {
-            Ok(templates) => templates,
-            Err(NoMemory) => return Err(NoMemory),
-        };
-        let sent = match SendRoom::take(here.alloc) {
-            Ok(sent) => sent,
-            Err(NoMemory) => return Err(NoMemory),
-        };
+        let came = take_came(here.alloc, heard)?;
+        let templates = three_templates(here, peer, r0kh_id)?;
+        let sent = SendRoom::take(here.alloc)?;
         let address = address(here.domain, peer);
         let Came {
             taken,

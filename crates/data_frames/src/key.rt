@@ -206,14 +206,8 @@ impl DataKey {
         let header = header_to(here, to, tid);
         let header = header.as_slice();
         let number = self.used() + 1;
-        match out.reserve(2) {
-            Ok(()) => {}
-            Err(NoMemory) => return Err(NoMemory),
-        }
-        let room = match SendRoom::take(here.alloc, header, number, payload) {
-            Ok(room) => room,
-            Err(NoMemory) => return Err(NoMemory),
-        };
+        out.reserve(2)?;
+        let room = SendRoom::take(here.alloc, header, number, payload)?;
         self.send_in(to, header, payload, room, out);
         Ok(Outcome::Done)
     }

@@ -13,7 +13,7 @@ use ccmp_guard::{packet_number, sealed_front};
 use domain_base::NoMemory;
 use frame_intake::SealedData;
 use run_journal::BoxedSeal;
-use std::alloc::{AllocError, Global};
+use std::alloc::Global;
 
 /// The octets that the CCMP header and the MIC take in a body.
 pub const OVERHEAD: usize = 16;
@@ -108,19 +108,10 @@ impl TakeRoom {
         ensures { IfOk result (λ room. IsRoomFor octets.now (sealed_fields frame.now) room) }
     {
         let size = frame.body.len() - OVERHEAD;
-        let taken = match Vec::from_slice(alloc, octets) {
-            Ok(taken) => taken,
-            Err(AllocError) => return Err(NoMemory),
-        };
-        let plain = match zeros(alloc, size) {
-            Ok(plain) => plain,
-            Err(NoMemory) => return Err(NoMemory),
-        };
+        let taken = Vec::from_slice(alloc, octets)?;
+        let plain = zeros(alloc, size)?;
         let number = packet_number(frame.body);
-        let sealing = match seal_room(alloc, frame.header.octets, number, &plain) {
-            Ok(sealing) => sealing,
-            Err(NoMemory) => return Err(NoMemory),
-        };
+        let sealing = seal_room(alloc, frame.header.octets, number, &plain)?;
         let Sealing { covered, seal } = sealing;
         Ok(TakeRoom {
             taken,
@@ -158,18 +149,9 @@ impl SendRoom {
         ensures frame { IfOk result
             (λ room. room.frame.items ≡ header.now ++ replicate (length payload.now + 16) 0) }
     {
-        let plain = match Vec::from_slice(alloc, payload) {
-            Ok(plain) => plain,
-            Err(AllocError) => return Err(NoMemory),
-        };
-        let frame = match behind_header(alloc, header, payload.len() + OVERHEAD) {
-            Ok(frame) => frame,
-            Err(NoMemory) => return Err(NoMemory),
-        };
-        let sealing = match seal_room(alloc, header, pn, payload) {
-            Ok(sealing) => sealing,
-            Err(NoMemory) => return Err(NoMemory),
-        };
+        let plain = Vec::from_slice(alloc, payload)?;
+        let frame = behind_header(alloc, header, payload.len() + OVERHEAD)?;
+        let sealing = seal_room(alloc, header, pn, payload)?;
         let Sealing { covered, seal } = sealing;
         let mut covered = covered;
         append(&mut covered, payload);

@@ -6,7 +6,7 @@ ghost use Rattle.storm.specs.Header.{ap_of, aps_to, domain_of, secrets, sta_of, 
 use crate::generator::Generator;
 use domain_base::{Akm, Mac, NoMemory, Octets};
 use run_journal::{Aps, Domain, ListedAp, Stas};
-use std::alloc::{AllocError, Global};
+use std::alloc::Global;
 
 /// What is drawn before the first event.
 #[derive(Drop)]
@@ -89,18 +89,9 @@ pub(crate) fn domain(alloc: Global, number: u32) -> Result<Domain, NoMemory>
     ensures { IfOk result (λ d. d ≡ domain_of number) }
 {
     let Secrets { seed, psk } = draw_secrets(&mut Generator::new(number));
-    let ssid = match Vec::from_slice(alloc, b"storm") {
-        Ok(ssid) => ssid,
-        Err(AllocError) => return Err(NoMemory),
-    };
-    let aps = match aps(alloc) {
-        Ok(aps) => aps,
-        Err(NoMemory) => return Err(NoMemory),
-    };
-    let stas = match stas(alloc) {
-        Ok(stas) => stas,
-        Err(NoMemory) => return Err(NoMemory),
-    };
+    let ssid = Vec::from_slice(alloc, b"storm")?;
+    let aps = aps(alloc)?;
+    let stas = stas(alloc)?;
     Ok(Domain {
         seed,
         ssid: Octets(ssid),

@@ -83,15 +83,9 @@ impl Storm {
         ensures same { OnErr result (self.new.state ≡ self.old.state) }
         ensures kept { HasSeen self.new.seen self.new.frames journal.now.entries }
     {
-        match see(&mut self.seen, &mut self.frames, journal) {
-            Ok(()) => {}
-            Err(NoMemory) => return Err(NoMemory),
-        }
+        see(&mut self.seen, &mut self.frames, journal)?;
         let mut generator = self.generator;
-        let event = match next_event(&mut generator, alloc, &self.frames) {
-            Ok(event) => event,
-            Err(NoMemory) => return Err(NoMemory),
-        };
+        let event = next_event(&mut generator, alloc, &self.frames)?;
         self.generator = generator;
         Ok(event)
     }

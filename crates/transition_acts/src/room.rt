@@ -63,14 +63,8 @@ fn take_frames(
     ensures taken { IfOk result (λ rooms. IsTakenRoom octets.now (covered_by frame
         here.entry.domain.now here.entry.node peer (element_fields elements.now)) rooms.1) }
 {
-    let sent = match TransitionSend::take(here, peer) {
-        Ok(sent) => sent,
-        Err(NoMemory) => return Err(NoMemory),
-    };
-    let taken = match take_frame(here.alloc, octets, elements, frame, &sent) {
-        Ok(taken) => taken,
-        Err(NoMemory) => return Err(NoMemory),
-    };
+    let sent = TransitionSend::take(here, peer)?;
+    let taken = take_frame(here.alloc, octets, elements, frame, &sent)?;
     Ok((sent, taken))
 }
 
@@ -126,18 +120,9 @@ impl TransitionRoom {
             in IsRoom d (root_at d r0kh_id.now) here.entry.node peer octets.now
             (element_fields elements.now) frame room) }
     {
-        let looked = match Look::take(here.alloc, elements) {
-            Ok(looked) => looked,
-            Err(NoMemory) => return Err(NoMemory),
-        };
-        let (sent, taken) = match take_frames(here, peer, octets, elements, frame) {
-            Ok(rooms) => rooms,
-            Err(NoMemory) => return Err(NoMemory),
-        };
-        let (key, finished) = match templates(here, peer, r0kh_id) {
-            Ok(templates) => templates,
-            Err(NoMemory) => return Err(NoMemory),
-        };
+        let looked = Look::take(here.alloc, elements)?;
+        let (sent, taken) = take_frames(here, peer, octets, elements, frame)?;
+        let (key, finished) = templates(here, peer, r0kh_id)?;
         Ok(TransitionRoom {
             peer,
             taken,

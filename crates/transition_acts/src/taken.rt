@@ -13,7 +13,7 @@ use act_memory::Outbox;
 use domain_base::{NoMemory, Node, Octets};
 use mac_prf::FteCovered;
 use run_journal::{Act, BoxedSeal, Kind, Outcome, Seal};
-use std::alloc::{AllocError, Global};
+use std::alloc::Global;
 
 // The form and what a MIC covers, where there is something.
 fn covered(alloc: Global, parts: Option<FteCovered<'_>>) -> Result<Option<Vec<u8>>, NoMemory>
@@ -57,18 +57,9 @@ impl TakenRoom {
         ensures { IfOk result (λ room. IsTakenRoom octets.now (option_map input_of parts.entry)
             room) }
     {
-        let covered = match covered(alloc, parts) {
-            Ok(covered) => covered,
-            Err(NoMemory) => return Err(NoMemory),
-        };
-        let octets = match Vec::from_slice(alloc, octets) {
-            Ok(octets) => octets,
-            Err(AllocError) => return Err(NoMemory),
-        };
-        let seal = match BoxedSeal::room(alloc) {
-            Ok(seal) => seal,
-            Err(NoMemory) => return Err(NoMemory),
-        };
+        let covered = covered(alloc, parts)?;
+        let octets = Vec::from_slice(alloc, octets)?;
+        let seal = BoxedSeal::room(alloc)?;
         Ok(TakenRoom {
             octets,
             covered,

@@ -11,8 +11,8 @@ returns-clause-acts c =
     let payload = c.args.payload.now in
     let header = c.as_slice-header.result.now in
     let number : c.used-number.result + 1 ≡ suc k.used = omega (arith, c.used-number.ensures.value) in
-    sends c.args.here.domain.now c.args.here.node c.args.to c.args.tid k.key (key_id k.role) (suc k.used) payload header c.in-Ok-take.room.plain.items c.in-Ok-take.room.covered.items _ _ _ (c.as_slice-header.ensures ∙ c.header_to-header.ensures.octets) c.in-Ok-take.ensures.plain
-    (c.in-Ok-take.ensures.covered ∙ ap (λ (n : ℕ). 3 ∷ sealed_octets header n payload) number) c.in-Ok.ensures.acts c.send_in.ensures.acts
+    sends c.args.here.domain.now c.args.here.node c.args.to c.args.tid k.key (key_id k.role) (suc k.used) payload header c.in_ok-room.room.plain.items c.in_ok-room.room.covered.items _ _ _ (c.as_slice-header.ensures ∙ c.header_to-header.ensures.octets) c.in_ok-room.ensures.plain
+    (c.in_ok-room.ensures.covered ∙ ap (λ (n : ℕ). 3 ∷ sealed_octets header n payload) number) c.in_ok-reserve.ensures.acts c.send_in.ensures.acts
 
 pub send_in-requires-clause-header : goal.send_in-requires-clause-header
 send_in-requires-clause-header c = subst (λ (h : List ℕ). IsHeader h) (sym c.as_slice-header.ensures) c.header_to-header.ensures.header

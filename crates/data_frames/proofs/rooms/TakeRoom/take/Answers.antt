@@ -6,8 +6,8 @@ use Rattle.data_frames.proofs.rooms.TakeRoom.take.Goals as goal
 
 pub returns : goal.returns
 returns c = record {
-  taken = c.in-Ok.ensures.items;
-  plain = c.in-Ok-zeros.ensures.items;
-  covered = c.in-Ok-seal_room.ensures.items ∙ ap (λ (n : ℕ). covered_front (sealed_fields c.args.frame.now).header.octets n) c.packet_number-number.ensures.value;
-  capacity = omega (arith, c.in-Ok-seal_room.ensures.room, seen_long _ c.deref.result.now _ c.deref.ensures.value c.in-Ok-zeros.ensures.items);
+  taken = c.in_ok-taken.ensures.items;
+  plain = c.in_ok-plain.ensures.items;
+  covered = c.in_ok-sealing.ensures.items ∙ ap (λ (n : ℕ). covered_front (sealed_fields c.args.frame.now).header.octets n) c.packet_number-number.ensures.value;
+  capacity = omega (arith, c.in_ok-sealing.ensures.room, seen_long _ c.deref.result.now _ c.deref.ensures.value c.in_ok-plain.ensures.items);
 }
