@@ -1,6 +1,6 @@
 -- What ends a session.
 use Rattle.std.proofs.Common.{◌≡◌, ℕ, zero, suc, cond, Bool, true, false, List, [], ◌∷◌, ◌++◌, length, Option, Some, None, refl, sym, ap, subst, ◌∙◌, inl, inr}
-use Rattle.std.specs.Prelude.{◌&&◌, ◌||◌, nat_lt, if◌then◌else◌}
+use Rattle.std.specs.Prelude.{◌&&◌, ◌||◌, ◌==◌, nat_lt, if◌then◌else◌}
 use Rattle.domain_base.specs.declared.names.Mac.{Mac}
 use Rattle.domain_base.specs.declared.names.Node.{Node}
 use Rattle.domain_base.specs.declared.names.Node.TheVariants.{Ap, Sta}
@@ -14,7 +14,7 @@ use Rattle.run_journal.specs.declared.acts.Reason.{Reason}
 use Rattle.run_journal.specs.declared.acts.Why.TheVariants as why
 use Rattle.run_journal.specs.declared.acts.Outcome.TheVariants.{Accepted}
 use Rattle.run_journal.specs.declared.acts.Act.{Act}
-use Rattle.run_journal.specs.declared.acts.Act.TheVariants.{Closed, Finished, GaveUp, Idle, Took, Used, Installed}
+use Rattle.run_journal.specs.declared.acts.Act.TheVariants.{Closed, Derived, Finished, GaveUp, Idle, Took, Used, Installed}
 use Rattle.run_journal.specs.declared.acts.Key.TheVariants.{Pairwise}
 use Rattle.domain_base.specs.declared.names.Akm.{Akm}
 use Rattle.domain_base.specs.declared.names.Peer.{Peer}
@@ -28,35 +28,36 @@ use Rattle.domain_rules.specs.DataFrames.{sent_data}
 use Rattle.domain_rules.specs.DataRows.{used_acts, send_acts_by}
 use Rattle.domain_rules.specs.Verified.{IsVerified, IsVerifiedFte, IsNoted, By_mic, By_fte, By_ccm}
 use Rattle.run_journal.specs.Acts.{Derivation, GroupKey}
-use Rattle.run_journal.specs.GroupKinds.{GroupKind}
 use Rattle.run_journal.specs.GroupKinds as groups
 use Rattle.run_journal.specs.Premises.{In}
-use Rattle.run_journal.specs.Questions.{pending, attempt, chain, derivation, before_sent, session, handshake, add}
+use Rattle.run_journal.specs.Questions.{pending, associated, attempt, chain, derivation, before_sent, session, handshake, add}
+use Rattle.run_journal.proofs.Members.{In-append_left, In-append_right}
 use Rattle.domain_rules.specs.Network.{mac}
 use Rattle.domain_rules.specs.Counters.{sent_count, next_in_attempt}
 use Rattle.domain_rules.specs.GroupKeys.{memory, find_key, give_by, is_current}
 use Rattle.domain_rules.specs.Owing.{owing, any_owes, switch_acts}
 use Rattle.domain_rules.specs.Frames.{sent_m1, sent_m4, sent_g2, frame_seal}
-use Rattle.domain_rules.specs.Reading.{Reading, NoFrame, PassedOver, NoElements, Managed, NoKeyFrame, NoMessage, Keyed, Sealed, Reads, kind_of}
+use Rattle.domain_rules.specs.Reading.{Management, Reading, NoFrame, PassedOver, NoElements, Managed, NoKeyFrame, NoMessage, Keyed, Sealed, Reads, kind_of}
 use Rattle.domain_rules.specs.Facts.{Facts}
 use Rattle.domain_rules.specs.Asking.{by_connect, has_heard, own}
 use Rattle.domain_rules.specs.Rows.{NodeEvent, Take, Begin, Retry, Rekey, Send, Expire, Leave, Roam as RoamEvent, Revoke, refused_status, response_by, response, TakeRows, By_assoc_req, By_assoc_resp, By_m1, By_m2, By_m3, By_repeated_m3, By_m4, By_g1, By_g2, By_data, By_ft_req, By_repeated_ft_req, By_ft_resp, By_re_req as By_request, By_repeated_re_req, By_re_resp as By_response, By_ignored, By_refusal, RowOf, Adds}
-use Rattle.domain_rules.specs.Closing.{close_attempt, close_session, close_pending, or_nothing, sender}
+use Rattle.domain_rules.specs.Closing.{close_attempt, close_session, close_associated, close_pending, or_nothing, sender}
 use Rattle.domain_rules.specs.StationRows.{carried}
 use Rattle.domain_rules.specs.AccessPointRows.{m4_acts, newer_acts, carried_older, g1_to, most_sends, again_or_give_up, m3_again, retry_attempt, retry_session, retry_acts, to_session, to_sessions, next_key, RekeyRow, Pending, Spent, Renews}
-use Rattle.domain_rules.specs.Ended.{EndsRightly, By_begin, By_m4 as By_an_m4, By_retry, By_expire, By_leave, By_re_req, By_re_resp}
+use Rattle.domain_rules.specs.Ended.{IsUnderDerived, EndsRightly, By_begin, By_m4 as By_an_m4, By_retry, By_expire, By_leave, By_re_req, By_re_resp}
 use Rattle.rsn_elements.specs.Elements.{ElementFields}
 use Rattle.key_hierarchy.specs.declared.answers.PullAnswer.{PullAnswer}
 use Rattle.key_hierarchy.specs.declared.fast_transition.PmkR1.{PmkR1}
 use Rattle.domain_base.specs.declared.names.Akm.TheVariants.{Psk, PskSha256, FtPsk}
 use Rattle.run_journal.specs.Holders.{Stored, first_stored, since_finished}
 use Rattle.domain_rules.specs.FastTransition.{single}
-use Rattle.domain_rules.specs.TransitionKeys.{Asked, asked}
+use Rattle.domain_rules.specs.TransitionKeys.{Asked, asked, Judged, judged, re_req_covered, re_req_seal, re_resp_keying, re_resp_covered, re_resp_seal}
 use Rattle.domain_rules.specs.TransitionRows.{sent_again, look_answer, looked_by, looked_for, look_of_kind, refused_look, RoamRow, NoSession, SamePeer}
 use Rattle.domain_rules.specs.TransitionRows as roam
 use Rattle.domain_rules.specs.KeyHolders.{put_acts_by, put_acts, revoke_acts_by}
 use Rattle.domain_rules.proofs.OneOutcome.{and_accepted}
-use Rattle.domain_rules.proofs.FteSeals.{request_noted, response_noted, request_has, response_has}
+use Rattle.domain_rules.proofs.Derivations.{m4_derived, judged_derived, resp_derived}
+use Rattle.domain_rules.proofs.FteSeals.{req_tried, resp_tried, status_seal, request_noted, response_noted, request_has, response_has}
 use Rattle.domain_rules.proofs.Covered.{req_covered, resp_covered}
 use Rattle.domain_rules.specs.Here.{here}
 use Rattle.domain_rules.proofs.Noted.{noted_verified, in_switched, among_all}
@@ -250,22 +251,37 @@ closed_m4 p q None x put newer putting kept there = absurd (none_ended p (Instal
 closed_m4 p q (Some y) x put newer putting kept (inl here) = cc here
 closed_m4 p q (Some y) x put newer putting kept (inr there) = absurd (none_ended p (Installed (One q) (Pairwise x.ptk.tk x.inputs) ∷ Finished q x.inputs ∷ put ++ newer) (kept_append put newer putting kept) there)
 
--- the row is that of an M4 of p
-abbrev IsM4 : Node → List ℕ → List Act → Type 0
-IsM4 p octets g = (k : List ℕ) × ((whole : List ℕ) × In (Took (Some p) octets (kind.Key M4) Accepted (Some (frame_seal k whole))) g)
-
 later_than : (x e : Act) (g : List Act) → In x (e ∷ g) → (x ≡ e → ⊥) → In x g
 later_than x e g (inl here) other = absurd (other here)
 later_than x e g (inr later) other = later
 
--- the row is that of an M4 of p, or of a reassociation frame, whose MIC verified
-data RowEnds (p : Node) (octets : List ℕ) (g : List Act) : Type 0 where
-  An_m4 : IsM4 p octets g → RowEnds p octets g
-  A_request : (s : Seal) → In (Took (Some p) octets kind.ReReq Accepted (Some s)) g → IsVerifiedFte octets s → RowEnds p octets g
-  A_response : (q : Node) (s : Seal) → In (Took (Some q) octets kind.ReResp Accepted (Some s)) g → IsVerifiedFte octets s → RowEnds p octets g
+-- the row is that of an M4 of p, or of a reassociation frame, whose MIC verified, under a key that was derived
+data RowEnds (h : List Act) (p : Node) (octets : List ℕ) (g : List Act) : Type 0 where
+  An_m4 : (kck whole : List ℕ) → In (Took (Some p) octets (kind.Key M4) Accepted (Some (frame_seal kck whole))) g → IsUnderDerived h g p (frame_seal kck whole) → RowEnds h p octets g
+  A_request : (s : Seal) → In (Took (Some p) octets kind.ReReq Accepted (Some s)) g → IsVerifiedFte octets s → IsUnderDerived h g p s → RowEnds h p octets g
+  A_response : (q : Node) (s : Seal) → In (Took (Some q) octets kind.ReResp Accepted (Some s)) g → IsVerifiedFte octets s → IsUnderDerived h g q s → RowEnds h p octets g
+
+-- the seal is under the key of a derivation of the history, which the row installs
+under : (h g : List Act) (p : Node) (s : Seal) (x : Derivation) → In (Derived p x.inputs x.ptk) h → s.key ≡ x.ptk.kck → In (Installed (One p) (Pairwise x.ptk.tk x.inputs)) g → IsUnderDerived h g p s
+under h g p s x derived kck installs = record { inputs = x.inputs; ptk = x.ptk; derived = derived; kck = kck; installs = installs }
+
+under_more : (h g all : List Act) (p : Node) (s : Seal) → ((x : Act) → In x g → In x all) → IsUnderDerived h g p s → IsUnderDerived h all p s
+under_more h g all p s more u = record { inputs = u.inputs; ptk = u.ptk; derived = u.derived; kck = u.kck; installs = more _ u.installs }
+
+req_key : (d : Domain) (n p : Node) (h : List Act) (e : ElementFields) (y : Judged) (s : Seal) → judged p h e ≡ Some y → re_req_seal d n h p e ≡ Some s → s.key ≡ y.by_.key.ptk.kck
+req_key d n p h e y s is seal =
+    let t = req_tried (judged p h e) e.fte (re_req_covered d n p e) s seal in
+    let one : t.0 ≡ y = cc (t.1.0, is) in
+    ap (λ (v : Seal). v.key) t.1.1.is ∙ ap (λ (v : Judged). v.by_.key.ptk.kck) one
+
+resp_key : (d : Domain) (n p : Node) (h : List Act) (b : Management) (e : ElementFields) (x : Derivation) (s : Seal) → re_resp_keying p h ≡ Some x → re_resp_seal d n h p b e ≡ Some s → s.key ≡ x.ptk.kck
+resp_key d n p h b e x s is seal =
+    let t = resp_tried (re_resp_keying p h) e.fte (re_resp_covered d n p e) s (status_seal (b.status == 0) _ s seal).1 in
+    let one : t.0 ≡ x = cc (t.1.0, is) in
+    ap (λ (v : Seal). v.key) t.1.1.is ∙ ap (λ (v : Derivation). v.ptk.kck) one
 
 row_ends : (d : Domain) (first : ℕ) (n : Node) (h : List Act) (octets : List ℕ) (r : Reading) (facts : Facts) (g : List Act) (p : Node)
-    → Reads d.akm octets r → TakeRows (here d first n) h octets r facts g → In (Closed p Session) g → RowEnds p octets g
+    → Reads d.akm octets r → TakeRows (here d first n) h octets r facts g → In (Closed p Session) g → RowEnds h p octets g
 row_ends d first n h octets r facts g p reads (By_assoc_req row) there = absurd (none_ended p g (ap are_kept row.says ∙ kept_attempt row.p (attempt row.p h) _ refl) there)
 row_ends d first n h octets r facts g p reads (By_assoc_resp row) there = absurd (none_ended p g (ap are_kept row.says) there)
 row_ends d first n h octets r facts g p reads (By_m1 row) there = absurd (none_ended p g (ap are_kept row.says) there)
@@ -279,10 +295,12 @@ row_ends d first n h octets r facts g p reads (By_m4 row) there =
     let after : List Act = add (m4_acts octets row.k row.p row.x (session row.p h) put) h in
     let newer : List Act = newer_acts d n row.p after row.x (carried_older row.p h (before_sent row.p (kind.Key M3) h)) in
     let same : p ≡ row.p = closed_m4 p row.p (session row.p h) row.x put newer (kept_put d.akm d n h row.p row.x) (kept_newer d n row.p after row.x (carried_older row.p h (before_sent row.p (kind.Key M3) h))) (later_than (Closed p Session) _ _ at (λ e. cc e)) in
-    An_m4 (
-      row.x.ptk.kck,
-      (row.k.octets, subst (λ (x : List Act). In (Took (Some p) octets (kind.Key M4) Accepted (Some (frame_seal row.x.ptk.kck row.k.octets))) x) (sym row.says) (inl (ap (λ (q : Node). Took (Some q) octets (kind.Key M4) Accepted (Some (frame_seal row.x.ptk.kck row.k.octets))) same))),
-    )
+    let mine : List Act → Type 0 = λ x. In (Took (Some p) octets (kind.Key M4) Accepted (Some (frame_seal row.x.ptk.kck row.k.octets))) x in
+    let took : mine g = subst mine (sym row.says) (inl (ap (λ (q : Node). Took (Some q) octets (kind.Key M4) Accepted (Some (frame_seal row.x.ptk.kck row.k.octets))) same)) in
+    let installs : In (Installed (One row.p) (Pairwise row.x.ptk.tk row.x.inputs)) g = subst (λ (x : List Act). In (Installed (One row.p) (Pairwise row.x.ptk.tk row.x.inputs)) x) (sym row.says) (inr (In-append_left _ _ newer (In-append_right _ (close_session row.p (session row.p h)) _ (inl refl)))) in
+    An_m4 row.x.ptk.kck row.k.octets took
+    (subst (λ (q : Node). IsUnderDerived h g q (frame_seal row.x.ptk.kck row.k.octets)) (sym same)
+    (under h g row.p (frame_seal row.x.ptk.kck row.k.octets) row.x (m4_derived row.p h row.part row.x row.awaited row.keyed) refl installs))
 row_ends d first n h octets r facts g p reads (By_g1 row) there =
     absurd (none_ended p g (ap are_kept row.says ∙ kept_give row.p (mac d row.p) (carried facts.data_) (find_key (carried facts.data_).key (memory groups.Gtk row.p h)) (sent_g2 d n row.p row.x row.k.fields.counter ∷ []) refl) there)
 row_ends d first n h octets r facts g p reads (By_g2 row) there = absurd (none_ended p g (ap are_kept row.says) there)
@@ -295,16 +313,23 @@ row_ends d first n h octets r facts g p reads (By_request row) there =
     let same : p ≡ row.p = closed_of p row.p (session row.p h) _ refl (later_than (Closed p Session) _ _ at (λ e. cc e)) in
     let taken = inl (and_accepted _ _ row.accepted) in
     let seal = request_has d first n h r row.b row.e row.p row.is row.kind_is row.from taken (req_covered d first n h octets r row.b row.e facts reads row.is row.kind_is row.accepted) in
+    let installs : In (Installed (One row.p) (Pairwise row.x.ptk.tk row.x.inputs)) g = subst (λ (x : List Act). In (Installed (One row.p) (Pairwise row.x.ptk.tk row.x.inputs)) x) (sym row.says) (inr (In-append_right _ (close_session row.p (session row.p h)) _ (inl refl))) in
+    let keyed : IsUnderDerived h g row.p seal.0 =
+    under h g row.p seal.0 row.x (subst (λ (x : Derivation). In (Derived row.p x.inputs x.ptk) h) (sym row.keyed) (judged_derived row.p h row.e row.y row.awaited))
+    (req_key d n row.p h row.e row.y seal.0 row.awaited seal.1 ∙ ap (λ (x : Derivation). x.ptk.kck) (sym row.keyed)) installs in
     A_request seal.0 (subst (λ (x : List Act). In (Took (Some p) octets kind.ReReq Accepted (Some seal.0)) x) (sym row.says)
     (inl (ap (λ (q : Node). Took (Some q) octets kind.ReReq Accepted (Some seal.0)) same ∙ ap (λ (o : Option Seal). Took (Some row.p) octets kind.ReReq Accepted o) (sym seal.1))))
     (request_noted d first n h octets r row.b row.e row.p seal.0 reads row.is row.kind_is row.from taken seal.1)
+    (subst (λ (q : Node). IsUnderDerived h g q seal.0) (sym same) keyed)
 row_ends d first n h octets r facts g p reads (By_repeated_re_req row) there = absurd (none_ended p g (ap are_kept row.says ∙ kept_stored row.p kind.ReResp (first_stored row.p kind.ReResp (since_finished row.p h))) there)
 row_ends d first n h octets r facts g p reads (By_response row) there =
     let taken = inl (and_accepted _ _ row.accepted) in
     let seal = response_has d first n h r row.b row.e row.p row.is row.kind_is row.from taken (resp_covered d first n h octets r row.b row.e facts reads row.is row.kind_is row.accepted) in
+    let installs : In (Installed (One row.p) (Pairwise row.x.ptk.tk row.x.inputs)) g = subst (λ (x : List Act). In (Installed (One row.p) (Pairwise row.x.ptk.tk row.x.inputs)) x) (sym row.says) (inr (In-append_right _ (close_associated (associated h)) _ (inl refl))) in
     A_response row.p seal.0 (subst (λ (x : List Act). In (Took (Some row.p) octets kind.ReResp Accepted (Some seal.0)) x) (sym row.says)
     (inl (ap (λ (o : Option Seal). Took (Some row.p) octets kind.ReResp Accepted o) (sym seal.1))))
     (response_noted d first n h octets r row.b row.e row.p seal.0 reads row.is row.kind_is row.from taken seal.1)
+    (under h g row.p seal.0 row.x (resp_derived row.p h row.x row.awaited) (resp_key d n row.p h row.b row.e row.x seal.0 row.awaited seal.1) installs)
 row_ends d first n h octets r facts g p reads (By_ignored row) there = absurd (none_ended p g (ap are_kept row.says) there)
 row_ends d first n h octets r facts g p reads (By_refusal row) there =
     absurd (none_ended p g (ap are_kept row.says ∙ kept_append (refused_look n (sender d n r) r facts.pulled row.why) (response d n (sender d n r) (kind_of r) row.why) (kept_look n (sender d n r) r facts.pulled row.why) (kept_response d n (sender d n r) (kind_of r) row.why)) there)
@@ -322,15 +347,15 @@ kept_roam d first n h p g (roam.Spent q some other many is) = ap are_kept is
 kept_roam d first n h p g (roam.Asks suite q some other few is) = ap are_kept is ∙ kept_pending (pending h) _ refl
 
 event_ends : (d : Domain) (first : ℕ) (n : Node) (h : List Act) (event : NodeEvent) (g all : List Act) (p : Node) → Adds (here d first n) h event all → RowOf (here d first n) h event g
-    → ((x : Act) → In x g → In x all) → In (Closed p Session) g → EndsRightly d event all p
+    → ((x : Act) → In x g → In x all) → In (Closed p Session) g → EndsRightly d h event all p
 event_ends d first n h (Take octets) g all p adds row more there = by (row_ends d first n h octets row.r row.facts g p row.reads row.row there)
   where
-    by : RowEnds p octets g → EndsRightly d (Take octets) all p
-    by (An_m4 (kck, (whole, m4))) =
+    by : RowEnds h p octets g → EndsRightly d h (Take octets) all p
+    by (An_m4 kck whole m4 u) =
         let v = noted_verified d first n h (Take octets) all (Some p) octets (kind.Key M4) Accepted (frame_seal kck whole) adds (more _ m4) in
-        By_an_m4 (record { octets = octets; is = refl; seal = frame_seal kck whole; accepted = more _ m4; verified = mic_noted d.akm octets kck whole v.1 })
-    by (A_request s at v) = By_re_req (record { octets = octets; is = refl; seal = s; accepted = more _ at; verified = v })
-    by (A_response q s at v) = By_re_resp q (record { octets = octets; is = refl; seal = s; accepted = more _ at; verified = v })
+        By_an_m4 (record { octets = octets; is = refl; seal = frame_seal kck whole; accepted = more _ m4; verified = mic_noted d.akm octets kck whole v.1; under = under_more h g all p _ more u })
+    by (A_request s at v u) = By_re_req (record { octets = octets; is = refl; seal = s; accepted = more _ at; verified = v; under = under_more h g all p s more u })
+    by (A_response q s at v u) = By_re_resp q (record { octets = octets; is = refl; seal = s; accepted = more _ at; verified = v; under = under_more h g all q s more u })
 event_ends d first n h (Begin a) g all p adds row more there = By_begin a refl
 event_ends d first n h (Retry s) g all p adds is more there =
     let w = up_retry d n h p (Sta s) (attempt (Sta s) h) (subst (λ (x : List Act). In (Closed p Session) x) is there) in
@@ -343,7 +368,7 @@ event_ends d first n h Leave g all p adds is more there = By_leave refl
 event_ends d first n h (RoamEvent a) g all p adds row more there = absurd (none_ended p g (kept_roam d first n h (Ap a) g row) there)
 event_ends d first n h (Revoke s) g all p adds is more there = absurd (none_ended p g (ap are_kept is ∙ kept_revoke d.akm d n h (Sta s)) there)
 
-pub ends_rightly : (d : Domain) (first : ℕ) (n : Node) (h : List Act) (event : NodeEvent) (g : List Act) (p : Node) → Adds (here d first n) h event g → In (Closed p Session) g → EndsRightly d event g p
+pub ends_rightly : (d : Domain) (first : ℕ) (n : Node) (h : List Act) (event : NodeEvent) (g : List Act) (p : Node) → Adds (here d first n) h event g → In (Closed p Session) g → EndsRightly d h event g p
 ends_rightly d first n h event g p adds there =
     event_ends d first n h event adds.acts g p adds adds.row
     (λ x in_acts. subst (λ (y : List Act). In x y) (sym adds.is) (among_all d n h adds.acts x in_acts))

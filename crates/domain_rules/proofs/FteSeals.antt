@@ -72,7 +72,7 @@ req_mic d n h p e s taken is =
     let at = subst (λ (o : Option Judged). IsTaken (re_req_mic d n p e o)) y.1.0 (passed_if (is_some (transition p h) || is_some (session_transition p h)) _ taken) in
     (y.0, (y.1.0, (y.1.1, tried_mic e.fte (re_req_covered d n p e) y.0.by_.key.ptk.kck s (taken_in y.0.is_session) y.1.1 at)))
 
-status_seal : (c : Bool) (o : Option Seal) (s : Seal) → cond c o None ≡ Some s → (c ≡ true) × (o ≡ Some s)
+pub status_seal : (c : Bool) (o : Option Seal) (s : Seal) → cond c o None ≡ Some s → (c ≡ true) × (o ≡ Some s)
 status_seal true o s is = (refl, is)
 status_seal false o s is = absurd (cc is)
 

@@ -11,6 +11,7 @@ pub mod RenewalRounds
 pub mod ResumedRounds
 pub mod Example
 pub mod Parts
+pub mod Derivations
 pub mod Effects
 pub mod Refused
 pub mod Peers

@@ -29,6 +29,7 @@ use Rattle.run_journal.specs.declared.acts.Act.TheVariants.{Derived, Took}
 use Rattle.run_journal.specs.Acts.{Derivation, same_kind, replied}
 use Rattle.run_journal.specs.Questions.{attempt, since, derivation, session, chain, draws, listed, all_replied}
 use Rattle.run_journal.specs.Premises.{In}
+use Rattle.run_journal.proofs.Members.{In-append_right}
 use Rattle.domain_rules.specs.Network.{address, peer_of, is_ap, direction, goes_like, r0kh_id, root_at, inputs, IsListed}
 use Rattle.key_hierarchy.specs.Keys.{ptk}
 use Rattle.domain_rules.specs.Reading.{Management, KeyMessage, Managed, Keyed, HasMessage}
@@ -36,14 +37,14 @@ use Rattle.domain_rules.specs.Facts.{Facts, IsUnwrapped, ReadsKeyData}
 use Rattle.domain_rules.specs.StationKeys.{Keying, keying_by, session_keying, attempt_keying, m3_keying, taken_in, m3_verdict_by, g1_verdict_by, g1_wrapped, KnowsM3}
 use Rattle.domain_rules.specs.Associating.{management_verdict}
 use Rattle.domain_rules.specs.Asking.{replay_counter, at_least, greatest, in_attempt, above, among, verified, by_connect, has_heard, kept_counter, offered, own}
-use Rattle.domain_rules.specs.AccessPointKeys.{m4_keying}
 use Rattle.domain_rules.specs.Verdict.{is_mine, management_sender, from_peer, key_verdict, first_verdict, further, key_further, m3_further, and_then, unless_refused, verdict, ComesSoFar, KnowsOf, KnowsFrom, Knows}
 use Rattle.domain_rules.proofs.Parts.{in_part, same-refl}
 use Rattle.domain_rules.proofs.OneOutcome.{from_named}
 use Rattle.domain_rules.proofs.Peers.{IsPeer, peer_is}
 use Rattle.journal_safety.proofs.Legal.{ack, Above}
 use Rattle.journal_safety.proofs.Names.{listed_by}
-use Rattle.journal_safety.proofs.Histories.{derivation_in, session_in}
+use Rattle.domain_rules.proofs.Derivations.{derivation_in}
+use Rattle.journal_safety.proofs.Histories.{session_in}
 
 -- ---- the two parts of a verdict
 
@@ -311,10 +312,6 @@ mapped_in octets [] there = there
 mapped_in octets (x ∷ xs) (inl here) = inl (ap replay_counter here)
 mapped_in octets (x ∷ xs) (inr later) = inr (mapped_in octets xs later)
 
-in_back : (octets : List ℕ) (xs ys : List (List ℕ)) → In octets ys → In octets (xs ++ ys)
-in_back octets [] ys there = there
-in_back octets (x ∷ xs) ys there = inr (in_back octets xs ys there)
-
 listed_more : (octets : List ℕ) (o : Option (List ℕ)) (xs : List (List ℕ)) → In octets xs → In octets (listed o xs)
 listed_more octets None xs there = there
 listed_more octets (Some x) xs there = inr there
@@ -326,7 +323,7 @@ replied_in p m octets s (e ∷ part) same (inl here) =
 replied_in p m octets s (e ∷ part) same (inr later) = listed_more octets (replied p (kind.Key m) e) (all_replied p (kind.Key m) part) (replied_in p m octets s part same later)
 
 kept_in : (p : Node) (octets : List ℕ) (s : Option Seal) (part : List Act) → In (Took (Some p) octets (kind.Key G1) Accepted s) part → In octets (all_replied p (kind.Key M3) part ++ all_replied p (kind.Key G1) part)
-kept_in p octets s part there = in_back octets (all_replied p (kind.Key M3) part) (all_replied p (kind.Key G1) part) (replied_in p G1 octets s part refl there)
+kept_in p octets s part there = In-append_right octets (all_replied p (kind.Key M3) part) (all_replied p (kind.Key G1) part) (replied_in p G1 octets s part refl there)
 
 g1_above_by : (d : Domain) (h : List Act) (p : Node) (k : KeyMessage) (x : Derivation) → g1_verdict_by d (kept_counter p (chain p h)) k (Some x) ≡ Accepted → Above p k.fields.counter (since p h)
 g1_above_by d h p k x e octets s there =
@@ -382,13 +379,3 @@ request_role d first n h b e facts is accepted =
     let a : first_verdict d first n h (Managed b e) ≡ Accepted = first_accepted (first_verdict d first n h (Managed b e)) (further d first n h (Managed b e) facts) accepted in
     let behind = from_some (management_sender d n b.header) (λ p. management_verdict d (first + draws h) n h p b.kind b e) (not_thrown (not (is_mine d n b.header)) reason.NotForMe _ a) in
     request_role_by d (first + draws h) n h behind.0 b.kind b e is behind.1
-
--- ---- M4
-
-m4_by : (b c : Bool) (o : Option Derivation) (x : Derivation) → cond b (cond c o None) None ≡ Some x → o ≡ Some x
-m4_by true true o x e = e
-m4_by true false o x e = cc
-m4_by false c o x e = cc
-
-pub m4_derivation : (p : Node) (part : List Act) (x : Derivation) → m4_keying p part ≡ Some x → derivation p part ≡ Some x
-m4_derivation p part x e = m4_by (by_connect part) (has_heard p (kind.Key M2) part) (derivation p part) x e

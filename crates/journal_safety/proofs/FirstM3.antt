@@ -17,7 +17,8 @@ use Rattle.domain_rules.specs.Asking.{has_heard}
 use Rattle.domain_rules.proofs.Parts.{Grows, Begins, Goes_on, grows}
 use Rattle.journal_safety.proofs.Ends.{Tail, tail_refl, tail_in}
 use Rattle.journal_safety.proofs.Legal.{derives, Verified, Built, IsNewest, SendsM3, LegalDerived, Legal, LegalHistory}
-use Rattle.journal_safety.proofs.Histories.{derived-is, own_of_part}
+use Rattle.domain_rules.proofs.Derivations.{derived-is}
+use Rattle.journal_safety.proofs.Histories.{own_of_part}
 use Rattle.journal_safety.proofs.Sessions.{sends_by}
 
 pub record FirstM3 (d : Domain) (n : Node) (h : List Act) (p : Node) (part past : List Act) : Type 0 where

@@ -9,12 +9,13 @@ use Rattle.run_journal.specs.declared.acts.Start.{Start}
 use Rattle.run_journal.specs.declared.acts.Drawn.TheVariants.{Nonce, Gtk}
 use Rattle.run_journal.specs.declared.acts.Act.{Act}
 use Rattle.run_journal.specs.declared.acts.Act.TheVariants.{Opened, Drew, Derived}
-use Rattle.run_journal.specs.Acts.{same, opens, finishes, closes, nonce_drawn, key_drawn, Derivation, derived, GroupKey}
+use Rattle.run_journal.specs.Acts.{opens, finishes, closes, nonce_drawn, key_drawn, Derivation, derived, GroupKey}
 use Rattle.run_journal.specs.Questions.{or_else, attempt, own_nonce, derivation, session, listed, group_keys}
 use Rattle.run_journal.specs.Premises.{In}
 use Rattle.domain_rules.specs.GroupKeys.{newest_of, newest}
 use Rattle.domain_rules.specs.Frames.{keyed_by}
 use Rattle.domain_rules.proofs.Parts.{same-true, Grows, Begins, Goes_on, grows, in_part, own_nonce_more}
+use Rattle.domain_rules.proofs.Derivations.{derived-is, derivation_in}
 use Rattle.journal_safety.proofs.Ends.{Tail}
 use Rattle.domain_rules.proofs.CarriedKey.{IsGroupKey}
 use Rattle.run_journal.specs.GroupKinds as groups
@@ -45,17 +46,6 @@ opens-is p _ o = cc
 pub opens-undrawn : (p : Node) (e : Act) → opens p e ≡ true → nonce_drawn e ≡ None
 opens-undrawn p e o = let w = opens-is p e o in subst (λ (x : Act). nonce_drawn x ≡ None) (sym w.1) refl
 
-derived_same : (p q : Node) (i : Inputs) (k : Ptk) (x : Derivation) (b : Bool) → same p q ≡ b → cond b (Some (record { inputs = i; ptk = k })) None ≡ Some x → Derived q i k ≡ Derived p x.inputs x.ptk
-derived_same p q i k x true s e =
-    let w : q ≡ p = sym (same-true p q s) in
-    let one : record { inputs = i; ptk = k } ≡ x = cc e in
-    ap (λ (y : Node). Derived y i k) w ∙ ap (λ (y : Derivation). Derived p y.inputs y.ptk) one
-derived_same p q i k x false s e = cc
-
-pub derived-is : (p : Node) (e : Act) (x : Derivation) → derived p e ≡ Some x → e ≡ Derived p x.inputs x.ptk
-derived-is p (Derived q i k) x o = derived_same p q i k x (same p q) refl o
-derived-is p _ x o = cc
-
 pub nonce_drawn-is : (e : Act) (v : List ℕ) → nonce_drawn e ≡ Some v → e ≡ Drew (Nonce v)
 nonce_drawn-is (Drew (Nonce w)) v o = cc
 nonce_drawn-is _ v o = cc
@@ -81,14 +71,6 @@ pub nonce_size : (d : Domain) (n : Node) (v : List ℕ) (h : List Act) → Legal
 nonce_size d n v h legal there = (legal_in d n (Drew (Nonce v)) h legal there).legal
 
 -- ---- derivations
-
-derivation_by : (p : Node) (e : Act) (h : List Act) (x : Derivation) (o : Option Derivation) → derived p e ≡ o → (derivation p h ≡ Some x → In (Derived p x.inputs x.ptk) h) → or_else o (derivation p h) ≡ Some x → In (Derived p x.inputs x.ptk) (e ∷ h)
-derivation_by p e h x None is more s = inr (more s)
-derivation_by p e h x (Some y) is more s = inl (sym (derived-is p e x (is ∙ s)))
-
-pub derivation_in : (p : Node) (h : List Act) (x : Derivation) → derivation p h ≡ Some x → In (Derived p x.inputs x.ptk) h
-derivation_in p [] x s = cc
-derivation_in p (e ∷ h) x s = derivation_by p e h x (derived p e) refl (derivation_in p h x) s
 
 session_by : (p : Node) (e : Act) (h : List Act) (x : Derivation) → (session p h ≡ Some x → In (Derived p x.inputs x.ptk) h) → (b c : Bool) → cond b (derivation p h) (cond c None (session p h)) ≡ Some x → In (Derived p x.inputs x.ptk) (e ∷ h)
 session_by p e h x more true c s = inr (derivation_in p h x s)

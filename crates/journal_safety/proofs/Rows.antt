@@ -57,12 +57,13 @@ use Rattle.domain_rules.specs.TransitionFrames.{sent_ft_refusal, sent_re_refusal
 use Rattle.domain_rules.specs.TransitionKeys.{Asked, asked}
 use Rattle.domain_rules.specs.TransitionRows.{look_answer, looked_by, looked_for, look_of_kind, refused_look}
 use Rattle.domain_rules.specs.Here.{here}
+use Rattle.domain_rules.proofs.Derivations.{derivation_in, m4_derivation}
 use Rattle.domain_rules.proofs.Parts.{attempt_more, in_part, own_nonce_more, same-refl, since_part, attempt_none, add_append}
 use Rattle.run_journal.specs.GroupKinds as groups
 use Rattle.journal_safety.proofs.Covers.{Covers, took_covers}
 use Rattle.journal_safety.proofs.Legal.{ack, Of_key, Of_key_data, LegalLook, nonce_of, own_address, peer_address, derives, Alive, AreCommon, LegalDerived, Verified, gives, LegalPairwise, LegalGroup, Legal, LegalHistory, verified_more, Built, HasDrawn, SendsM3, Uninstalled, GivesKey, In_m3, In_g1, Given, Above, By_m3, By_g1, Chain}
-use Rattle.journal_safety.proofs.Histories.{nonce_in, nonce_size, derivation_in, derived_key, keyed_as, own_of_part, Newest, newest_is, legal_in}
-use Rattle.journal_safety.proofs.Accepted.{Taken, taken_accepted, taken_answered, keying_in, unwrapped_m3, awaited_m3, m4_derivation, request_role, m2_silent, unwrapped_g1, g1_above}
+use Rattle.journal_safety.proofs.Histories.{nonce_in, nonce_size, derived_key, keyed_as, own_of_part, Newest, newest_is, legal_in}
+use Rattle.journal_safety.proofs.Accepted.{Taken, taken_accepted, taken_answered, keying_in, unwrapped_m3, awaited_m3, request_role, m2_silent, unwrapped_g1, g1_above}
 use Rattle.journal_safety.proofs.Settled.{Settled, SettledBut, settled_quiet, but_of, but_more, settled_finished, Fine, fine_none, fine_cons, fine_quiet, fine_append, fine_opened, settled_given}
 use Rattle.journal_safety.proofs.SentLegal.{legal_m2, legal_m3, legal_m4, sta_nonce, ap_nonce, legal_m1, legal_g1, legal_g2}
 use Rattle.domain_rules.proofs.SentReads.{reads-counter}

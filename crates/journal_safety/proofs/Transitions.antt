@@ -36,7 +36,7 @@ use Rattle.domain_rules.specs.Asking.{by_connect, has_heard, own}
 use Rattle.domain_rules.specs.Suites.{rsne_status}
 use Rattle.domain_rules.specs.Associating.{management_verdict}
 use Rattle.domain_rules.specs.FastTransition.{request_number, response_number, mic_input, fte_seal, fte_verified, mde_status, fte_status, names_both, to_unwrap, gtk_in, gtk_id, is_wrapped_gtk}
-use Rattle.domain_rules.specs.TransitionKeys.{Transition, made_by, made_of, transition_in, transition, session_transition, has_nonces, Judged, judged_session, judged_attempt, judged_by, judged, re_req_covered, re_req_mic, re_req_seal, re_req_sealed, re_resp_keying_in, re_resp_keying, re_resp_covered, re_resp_seal, re_resp_sealed, KnowsGtk, own_nonce_in, ft_resp_fields, ft_resp_verdict, re_req_further, re_req_verdict, unwraps, re_resp_names, re_resp_further}
+use Rattle.domain_rules.specs.TransitionKeys.{Transition, made_of, transition_in, transition, session_transition, has_nonces, Judged, judged_session, judged_attempt, judged_by, judged, re_req_covered, re_req_mic, re_req_seal, re_req_sealed, re_resp_keying_in, re_resp_keying, re_resp_covered, re_resp_seal, re_resp_sealed, KnowsGtk, own_nonce_in, ft_resp_fields, ft_resp_verdict, re_req_further, re_req_verdict, unwraps, re_resp_names, re_resp_further}
 use Rattle.domain_rules.specs.StationKeys.{taken_in}
 use Rattle.domain_rules.specs.Verdict.{is_mine, management_sender, first_verdict, unless_refused, management_further, verdict, KnowsManaged, Knows}
 use Rattle.domain_rules.specs.Closing.{sender}
@@ -44,6 +44,7 @@ use Rattle.domain_rules.proofs.Deciding.{IsTaken, never, taken_behind, taken_pas
 use Rattle.domain_rules.proofs.OneOutcome.{FrameAwaited, Is_assoc_req, Is_assoc_resp, Is_ft_req, Is_ft_resp, Is_re_req, Is_re_resp, frame_kind, frame_accepted, resp_accepted, both_true}
 use Rattle.domain_rules.proofs.SomeGroup.{opened_names}
 use Rattle.domain_rules.proofs.Parts.{same-true}
+use Rattle.domain_rules.proofs.Derivations.{made_is}
 use Rattle.domain_rules.proofs.Peers.{IsPeer, peer_is}
 use Rattle.domain_rules.proofs.FteSeals.{frame_from, input_some}
 use Rattle.domain_rules.proofs.Covered.{elements_there, req_opened, resp_opened_by}
@@ -119,14 +120,6 @@ pub record Held (p : Node) (h : List Act) (z : Transition) : Type 0 where
   pub k : PmkR1
   pub found : found_in l.answer ≡ Some k
   pub name : z.r1_name ≡ k.name
-
-made_is : (o : Option Derivation) (q : Option Look) (k : Option PmkR1) (z : Transition) → made_by o q k ≡ Some z → (o ≡ Some z.key) × ((l : Look) × ((q ≡ Some l) × ((m : PmkR1) × ((k ≡ Some m) × (z.r1_name ≡ m.name)))))
-made_is (Some x) (Some l) (Some k) z is =
-    let one : record { key = x; asked = l.name; r1_name = k.name } ≡ z = cc is in
-    (ap (λ (y : Transition). Some y.key) one, (l, (refl, (k, (refl, ap (λ (y : Transition). y.r1_name) (sym one))))))
-made_is None q k z is = absurd (cc is)
-made_is (Some x) None k z is = absurd (cc is)
-made_is (Some x) (Some l) None z is = absurd (cc is)
 
 found_by : (o : Option Look) (l : Look) (m : PmkR1) → o ≡ Some l → option_and_then (λ (y : Look). found_in y.answer) o ≡ Some m → found_in l.answer ≡ Some m
 found_by None l m is s = absurd (cc is)

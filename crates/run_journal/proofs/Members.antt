@@ -4,12 +4,12 @@ use Rattle.std.specs.List.{HoldsAt}
 use Rattle.std.proofs.lemmas.List.{reverse-append}
 use Rattle.run_journal.specs.Premises.{In}
 
-In-append_left : {A : Type 0} (x : A) (xs ys : List A) → In x xs → In x (xs ++ ys)
+pub In-append_left : {A : Type 0} (x : A) (xs ys : List A) → In x xs → In x (xs ++ ys)
 In-append_left x [] ys h = elim h [ ]
 In-append_left x (z ∷ xs) ys (inl h) = inl h
 In-append_left x (z ∷ xs) ys (inr h) = inr (In-append_left x xs ys h)
 
-In-append_right : {A : Type 0} (x : A) (xs ys : List A) → In x ys → In x (xs ++ ys)
+pub In-append_right : {A : Type 0} (x : A) (xs ys : List A) → In x ys → In x (xs ++ ys)
 In-append_right x [] ys h = h
 In-append_right x (z ∷ xs) ys h = inr (In-append_right x xs ys h)
 
