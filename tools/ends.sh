@@ -5,16 +5,9 @@
 # Whole scripts with their reports, and lines that are refused, stand in the files of `tools/ends`.
 # It runs the program that `rt ci` or `rt run` proved and built (or the one named by KEHTROP, as an unproved build), and does nothing
 # where there is none. Run it from anywhere in the repository.
-set -eu
-cd "$(dirname "$0")/.."
+source "$(dirname "$0")/program.sh"
 work=$(mktemp -d)
 trap 'rm -rf "$work"' EXIT
-
-program=${KEHTROP:-crates/kehtrop/out/kehtrop}
-if [ ! -x "$program" ]; then
-    echo "skipped: no program was built"
-    exit 0
-fi
 
 right=0 wrong=0
 # One case: the number, the line on standard error, a file with what standard output gets, the script, the words.

@@ -6,16 +6,10 @@
 # wrong.
 # It runs the program that `rt ci` or `rt run` proved and built (or the one named by KEHTROP, as an unproved build), and does nothing
 # where there is none. Run it from anywhere in the repository.
-set -eu
-cd "$(dirname "$0")/.."
+source "$(dirname "$0")/program.sh"
 work=$(mktemp -d)
 trap 'rm -rf "$work"' EXIT
 
-program=${KEHTROP:-crates/kehtrop/out/kehtrop}
-if [ ! -x "$program" ]; then
-    echo "skipped: no program was built"
-    exit 0
-fi
 python=
 if command -v python3 > /dev/null; then python=python3; fi
 
