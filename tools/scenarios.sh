@@ -23,7 +23,7 @@ says() { # TEXT
 are_taken() { # PORT
     local some
     some=$(printf '%04X\|%04X\|%04X\|%04X' "$1" $(($1 + 1)) $(($1 + 2)) $(($1 + 3)))
-    grep -qi "^ *[0-9]*: \(0100007F\|00000000\):\($some\) " /proc/net/udp 2> /dev/null
+    grep -qi "^ *[0-9]*: \(0100007F\|0\{8\}\|0\{32\}\):\($some\) " /proc/net/udp /proc/net/udp6 2> /dev/null
 }
 port=$((20000 + RANDOM % 10000))
 while are_taken "$port"; do port=$((port + 4)); done
