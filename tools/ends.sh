@@ -594,6 +594,17 @@ fills() { # SCRIPT WORDS..
 }
 if [ -c /dev/full ]; then fills "$stored/stdin" replay; else echo "skipped: no /dev/full, so no device that is full"; fi
 
+# A pipe that nobody reads any more is such an end too, and none by a signal.
+mkfifo "$work/unheard"
+exec 7<> "$work/unheard"
+exec 8> "$work/unheard"
+exec 7>&-
+ended=0
+"$program" replay < "$stored/stdin" >&8 2> "$work/said" 8>&- || ended=$?
+exec 8>&-
+: > "$work/written"
+judge 4 "the report could not be written" $none "$ended" "replay to a pipe that nobody reads"
+
 # Live runs. Two ports that nobody has, as far as this machine tells.
 is_taken() { # PORT
     grep -qi "^ *[0-9]*: \(0100007F\|0\{8\}\|0\{32\}\):$(printf %04X "$1") " /proc/net/udp /proc/net/udp6 2> /dev/null
