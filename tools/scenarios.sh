@@ -65,6 +65,9 @@ done
 for report in examples/*.report; do
     [ -e "${report%.report}.txt" ] || says "$report: has no script"
 done
+for chart in docs/*.svg; do
+    [ "$chart" = docs/crates.svg ] || [ -e "examples/$(basename "$chart" .svg).txt" ] || says "$chart: the chart of no example"
+done
 
 # The script that docs/PROFILE.md explains is one of the examples.
 awk '/^```/ { blocks++; next } blocks == 1' docs/PROFILE.md | cmp -s - examples/lost_message_4.txt \
