@@ -22,6 +22,7 @@ print("memory: %d MiB (greatest resident size)" % (used.ru_maxrss // 1024))
 PY
 
 if [ "$unit" = instructions ]; then
-    echo "one storm: $(counted "$work/storm" /dev/null 1 storm 0) instructions"
+    count=$(counted "$work/storm" /dev/null 1 storm 0)
+    echo "one storm: $count instructions"
     profile "${1:-}" "$work/storm" 30 "the storm of number 0"
 fi
