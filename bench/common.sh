@@ -60,7 +60,8 @@ profile() { # WORD PROFILE ROWS TITLE
     fi
 }
 
-# The processor seconds and the greatest resident memory (KiB) of a program, its output to a file.
+# The processor seconds and the greatest resident memory (KiB) of a program, its output to a file. The memory of the Python that starts it
+# counts too, so less than that (some ten MiB) is never told.
 measure() { # OUTPUT INPUT WORDS..
     python3 - "$@" <<'PY'
 import resource, subprocess, sys
