@@ -40,11 +40,12 @@ read -r handshakes < "$work/whole.count"
 python3 -c "print('handshakes a second: %d (of the whole script)' % ($handshakes / $seconds))"
 
 # The premises are answered from what the journal keeps as entries are added; this is the share of the whole replay that goes into it.
-if command -v perf > /dev/null; then
-    perf record -q -o "$work/perf" "$program" replay < "$work/whole" > /dev/null 2>&1
+if command -v perf > /dev/null && perf record -q -o "$work/perf" "$program" replay < "$work/whole" > /dev/null 2>&1; then
     perf report -i "$work/perf" --stdio --sort symbol 2> /dev/null \
         | awk -v all="$seconds" '/run_journal::(index|judging|chains|mixing|premises|naming|journal)/ { share += $1 }
             END { printf "premises alone: %.3f seconds (%.1f %% of the samples of the whole replay, by perf)\n", all * share / 100, share }'
+else
+    echo "premises alone: skipped, as perf is missing or may not sample here"
 fi
 
 # PBKDF2: the program on a header with a passphrase, less the program on one with the key itself; and Python's, beside it.

@@ -18,10 +18,13 @@ for number in range(STORMS):
         sys.exit("a premise of the storm %d does not hold" % number)
 used = resource.getrusage(resource.RUSAGE_CHILDREN)
 print("seconds: %.4f (one storm, processor time, average of %d)" % ((used.ru_utime + used.ru_stime) / STORMS, STORMS))
-print("memory: %d MiB (greatest resident size)" % (used.ru_maxrss // 1024))
+own = resource.getrusage(resource.RUSAGE_SELF)
+print("memory: %d MiB at most (greatest resident size; that of the Python that starts it, %d MiB, counts too)" % (
+    used.ru_maxrss // 1024, own.ru_maxrss // 1024))
 PY
 
 if [ "$unit" = instructions ]; then
-    echo "one storm: $(counted "$work/storm" /dev/null 1 storm 0) instructions"
+    count=$(counted "$work/storm" /dev/null 1 storm 0)
+    echo "one storm: $count instructions"
     profile "${1:-}" "$work/storm" 30 "the storm of number 0"
 fi

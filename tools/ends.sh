@@ -5,16 +5,9 @@
 # Whole scripts with their reports, and lines that are refused, stand in the files of `tools/ends`.
 # It runs the program that `rt ci` or `rt run` proved and built (or the one named by KEHTROP, as an unproved build), and does nothing
 # where there is none. Run it from anywhere in the repository.
-set -eu
-cd "$(dirname "$0")/.."
+source "$(dirname "$0")/program.sh"
 work=$(mktemp -d)
 trap 'rm -rf "$work"' EXIT
-
-program=${KEHTROP:-crates/kehtrop/out/kehtrop}
-if [ ! -x "$program" ]; then
-    echo "skipped: no program was built"
-    exit 0
-fi
 
 right=0 wrong=0
 # One case: the number, the line on standard error, a file with what standard output gets, the script, the words.
@@ -194,7 +187,7 @@ ends 0 "" "$stored/stdout" "$work/script" replay
 
 # Each example, its events written with numbers of ten digits and capital digits, has its report.
 for example in examples/*.txt; do
-    case "$example" in *live*) continue ;; esac
+    case "$example" in examples/live_*) continue ;; esac
     awk 'function node(k) { if ($k != "all") $k = sprintf("%s%010d", substr($k, 1, 1), substr($k, 2)) }
         function number(k) { if ($k != "-") $k = sprintf("%010d", $k) }
         /^(connect|roam|retry|expire|revoke) / { node(2); node(3) }
@@ -599,11 +592,22 @@ fills() { # SCRIPT WORDS..
     : > "$work/written"
     judge 4 "the report could not be written" $none "$ended" "$* to a full device"
 }
-if [ -c /dev/full ]; then fills "$stored/stdin" replay; fi
+if [ -c /dev/full ]; then fills "$stored/stdin" replay; else echo "skipped: no /dev/full, so no device that is full"; fi
+
+# A pipe that nobody reads any more is such an end too, and none by a signal.
+mkfifo "$work/unheard"
+exec 7<> "$work/unheard"
+exec 8> "$work/unheard"
+exec 7>&-
+ended=0
+"$program" replay < "$stored/stdin" >&8 2> "$work/said" 8>&- || ended=$?
+exec 8>&-
+: > "$work/written"
+judge 4 "the report could not be written" $none "$ended" "replay to a pipe that nobody reads"
 
 # Live runs. Two ports that nobody has, as far as this machine tells.
 is_taken() { # PORT
-    grep -qi "^ *[0-9]*: \(0100007F\|00000000\):$(printf %04X "$1") " /proc/net/udp 2> /dev/null
+    grep -qi "^ *[0-9]*: \(0100007F\|0\{8\}\|0\{32\}\):$(printf %04X "$1") " /proc/net/udp /proc/net/udp6 2> /dev/null
 }
 port=$((20000 + RANDOM % 10000))
 while is_taken "$port" || is_taken $((port + 1)); do port=$((port + 2)); done
@@ -776,6 +780,8 @@ if [ -r /proc/net/udp ]; then
     judge 0 "" "$work/quiet" "$ended" "live, beside another live run"
     # Its end left the ports to the next one.
     ends 0 "" "$work/quiet" "$work/turn" live "$port"
+else
+    echo "skipped: no /proc/net/udp, so no run beside another one"
 fi
 
 echo "cases $((right + wrong)) wrong $wrong"

@@ -6,10 +6,11 @@ A script is made piece by piece: what it delivers is chosen among the frames tha
 where the program ends by a signal, hangs, or ends with a number that a replay does not have; where the report of a piece does not go on
 as that of the pieces before it; where the counts of the summary are not those of its lines; where a frame number is not the next one;
 where a premise does not hold though no octet was foreign, and where all hold, if a packet number is used again between two installations
-of a key, or handed up again; and where the refused line is not told by its number. Storms of random numbers are run too. Wrong scripts
-are kept in a folder. The status is 0 where none is wrong.
+of a key, or handed up again; and where the refused line is not told by its number. For every tenth script a storm of a random number is
+run too. Wrong scripts are kept in the folder that `--keep` names. The status is 0 where none is wrong, and where no program was built and
+none is named.
 
-    tools/fuzz.py [--count 1000] [--from 0] [--jobs 4] [--program crates/kehtrop/out/kehtrop] [--keep FOLDER]
+    tools/fuzz.py [--count 1000] [--from 0] [--jobs PROCESSORS] [--program crates/kehtrop/out/kehtrop] [--keep FOLDER]
 """
 import argparse
 import os
@@ -21,6 +22,7 @@ from concurrent.futures import ThreadPoolExecutor
 
 HOLDS = "premises fresh yes no-collision yes unforged yes"
 SECONDS = 60  # of one run; the largest takes less than one
+BUILT = os.path.join(os.path.dirname(os.path.abspath(__file__)), "..", "crates", "kehtrop", "out", "kehtrop")
 
 
 class Wrong(Exception):
@@ -221,11 +223,11 @@ def storm(number, program):
         raise Wrong("storm %d ended with %d: %s" % (number, done.returncode, " ".join(lines)))
 
 
-def one(seed, program, keep, storms):
+def one(seed, program, keep):
     script = Script(seed, program)
     try:
         script.whole()
-        if storms and seed % 10 == 0:
+        if seed % 10 == 0:
             storm(script.random.getrandbits(32), program)
         return None
     except (Wrong, subprocess.TimeoutExpired, ValueError, KeyError, IndexError) as error:
@@ -241,16 +243,15 @@ def main():
     words.add_argument("--count", type=int, default=1000)
     words.add_argument("--from", dest="first", type=int, default=0)
     words.add_argument("--jobs", type=int, default=os.cpu_count())
-    words.add_argument("--program", default=os.path.join(os.path.dirname(os.path.abspath(__file__)), "..", "crates", "kehtrop", "out", "kehtrop"))
+    words.add_argument("--program", default=BUILT)
     words.add_argument("--keep")
     words = words.parse_args()
     if not os.access(words.program, os.X_OK):
-        print("skipped: no program was built")
-        return 0
-    storms = subprocess.run([words.program, "storm", "0"], stdin=subprocess.DEVNULL, capture_output=True).returncode == 0
+        print("skipped: no program was built" if words.program == BUILT else "no program: " + words.program)
+        return 0 if words.program == BUILT else 1
     wrong = 0
     with ThreadPoolExecutor(words.jobs) as workers:
-        for answer in workers.map(lambda seed: one(seed, words.program, words.keep, storms), range(words.first, words.first + words.count)):
+        for answer in workers.map(lambda seed: one(seed, words.program, words.keep), range(words.first, words.first + words.count)):
             if answer:
                 wrong += 1
                 print(answer, flush=True)

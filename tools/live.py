@@ -124,16 +124,27 @@ class Run:
     def write(self, text):
         """Writes to the program, and waits until it took that."""
         unread = array.array("i", [1])
-        self.process.stdin.write(text.encode())
-        self.process.stdin.flush()
+        try:
+            self.process.stdin.write(text.encode())
+            self.process.stdin.flush()
+        except BrokenPipeError:
+            raise Wrong(self.why_it_stopped())
         end = time.monotonic() + SECONDS
         while True:
             fcntl.ioctl(self.process.stdin, termios.FIONREAD, unread)
             if unread[0] == 0:
                 return
             if self.process.poll() is not None or time.monotonic() > end:
-                raise Wrong("the program does not read on")
+                raise Wrong(self.why_it_stopped())
             time.sleep(0.001)
+
+    def why_it_stopped(self):
+        """How the program ended that reads no further, where it did end."""
+        try:
+            self.process.wait(1)
+        except subprocess.TimeoutExpired:
+            return "the program does not read on"
+        return "ended with %d before its script did: %s" % (self.process.returncode, self.process.stderr.read().decode())
 
     def tell(self, lines):
         """Lets the program run these lines: as it reads on it has run what it read before."""

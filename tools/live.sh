@@ -4,13 +4,7 @@
 # stands in `tools/live.py`. The status is 0 where nothing is wrong. It takes some ten seconds, most of which are polls that wait.
 # It runs the program that `rt ci` or `rt run` proved and built (or the one named by KEHTROP, as an unproved build), and does nothing
 # where there is none, or no Python. Run it from anywhere in the repository.
-set -eu
-cd "$(dirname "$0")/.."
-program=${KEHTROP:-crates/kehtrop/out/kehtrop}
-if [ ! -x "$program" ]; then
-    echo "skipped: no program was built"
-    exit 0
-fi
+source "$(dirname "$0")/program.sh"
 if ! command -v python3 > /dev/null; then
     echo "skipped: no Python, so nothing was sent over sockets"
     exit 0

@@ -1,8 +1,8 @@
 #!/usr/bin/env bash
 # What the program does where memory is refused. Each script of `examples/` that is no live run is replayed once for each request for
 # memory that its replay makes, and that request is refused; and once more for each, refused together with all that come after it. Each run has to
-# end with status 5 (out of memory) and a front of the report that ample memory gives, or with the status and the whole report of
-# ample memory. Octets are compared. It prints what is wrong, and a line for each script; its status is 0 where nothing is wrong.
+# end with status 5, the words for it and a front of the report that stands beside the script, or with 0, no word and the whole report, as
+# with ample memory. Octets are compared. It prints what is wrong, and a line for each script; its status is 0 where nothing is wrong.
 #
 # It runs the program that `rt ci` or `rt run` proved and built, with a small library in front of the C library that counts and
 # refuses (malloc and realloc), so it wants a C compiler; where either is missing it does nothing. Run it from anywhere in the
@@ -83,8 +83,14 @@ refusing() { # FIRST LAST SCRIPT
     size=$(wc -c < "$work/written")
     head -c "$size" "$work/ample" | cmp -s - "$work/written" || says="the report is no front of that with ample memory"
     case "$status" in
-        5) refusals=$((refusals + 1)) ;;
-        "$ample") [ "$size" = "$whole" ] || says="${says:-the report is cut}" ;;
+        5)
+            refusals=$((refusals + 1))
+            [ "$(cat "$work/said")" = "out of memory" ] || says="${says:+$says, and }it says: $(cat "$work/said")"
+            ;;
+        0)
+            [ "$size" = "$whole" ] || says="${says:-the report is cut}"
+            [ ! -s "$work/said" ] || says="${says:+$says, and }it says: $(cat "$work/said")"
+            ;;
         *) says="${says:+$says, and }it ends with $status" ;;
     esac
     if [ -n "$says" ]; then
@@ -95,10 +101,16 @@ refusing() { # FIRST LAST SCRIPT
 
 for script in examples/*.txt; do
     case "$script" in examples/live_*) continue ;; esac
-    ample=0
+    ample=0 requests=0
+    rm -f "$work/count"
     LD_PRELOAD="$work/refuse.so" REQUESTS="$work/count" "$program" replay < "$script" > "$work/ample" 2> "$work/said" || ample=$?
+    if [ "$ample" != 0 ] || [ -s "$work/said" ] || ! cmp -s "${script%txt}report" "$work/ample"; then
+        echo "$script: ended with $ample with ample memory, or not with its report: $(cat "$work/said")"
+        wrong=$((wrong + 1))
+        continue
+    fi
     whole=$(wc -c < "$work/ample")
-    requests=$(cat "$work/count")
+    if [ -e "$work/count" ]; then requests=$(cat "$work/count"); fi
     runs=0 refusals=0 number=1
     while [ "$number" -le "$requests" ]; do
         refusing "$number" "$number" "$script"
@@ -106,7 +118,7 @@ for script in examples/*.txt; do
         runs=$((runs + 2))
         number=$((number + 1))
     done
-    echo "$script: status $ample and $whole octets with ample memory, requests $requests, runs $runs, out of memory $refusals"
+    echo "$script: $whole octets with ample memory, requests $requests, runs $runs, out of memory $refusals"
     if [ "$requests" = 0 ] || [ "$refusals" = 0 ]; then
         echo "$script: no request was refused, so nothing was shown"
         wrong=$((wrong + 1))

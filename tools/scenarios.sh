@@ -6,16 +6,10 @@
 # wrong.
 # It runs the program that `rt ci` or `rt run` proved and built (or the one named by KEHTROP, as an unproved build), and does nothing
 # where there is none. Run it from anywhere in the repository.
-set -eu
-cd "$(dirname "$0")/.."
+source "$(dirname "$0")/program.sh"
 work=$(mktemp -d)
 trap 'rm -rf "$work"' EXIT
 
-program=${KEHTROP:-crates/kehtrop/out/kehtrop}
-if [ ! -x "$program" ]; then
-    echo "skipped: no program was built"
-    exit 0
-fi
 python=
 if command -v python3 > /dev/null; then python=python3; fi
 
@@ -29,7 +23,7 @@ says() { # TEXT
 are_taken() { # PORT
     local some
     some=$(printf '%04X\|%04X\|%04X\|%04X' "$1" $(($1 + 1)) $(($1 + 2)) $(($1 + 3)))
-    grep -qi "^ *[0-9]*: \(0100007F\|00000000\):\($some\) " /proc/net/udp 2> /dev/null
+    grep -qi "^ *[0-9]*: \(0100007F\|0\{8\}\|0\{32\}\):\($some\) " /proc/net/udp /proc/net/udp6 2> /dev/null
 }
 port=$((20000 + RANDOM % 10000))
 while are_taken "$port"; do port=$((port + 4)); done
@@ -70,6 +64,9 @@ for script in examples/*.txt; do
 done
 for report in examples/*.report; do
     [ -e "${report%.report}.txt" ] || says "$report: has no script"
+done
+for chart in docs/*.svg; do
+    [ "$chart" = docs/crates.svg ] || [ -e "examples/$(basename "$chart" .svg).txt" ] || says "$chart: the chart of no example"
 done
 
 # The script that docs/PROFILE.md explains is one of the examples.
