@@ -1,5 +1,6 @@
 //! Does one piece of cryptographic work a number of times, so that its cost can be counted: the
-//! name of the work, the number, and for work on payloads their size, from 0 to 2,304 octets.
+//! name of the work, the number, and for work on payloads their size, from 0 to 2,304 octets. It
+//! prints an octet of the result, so that no part of the work is left out. Other words end with 1.
 #![tactic(auto)]
 
 ghost use Rattle.std.specs.Prelude.{◌≤◌};
@@ -124,55 +125,63 @@ fn opened(size: usize, times: u32) -> u8
     plain[0]
 }
 
-fn worked(work: &str, times: u32, size: usize) -> u8
-    requires { size ≤ 2304 }
-{
+// A work that is the same each time.
+fn worked(work: &str, times: u32) -> Option<u8> {
     match work {
-        "encrypt" => encrypted(times),
-        "decrypt" => decrypted(times),
-        "expand" => expanded(times),
-        "cmac" => authenticated(times),
-        "wrap" => wrapped(times),
-        "unwrap" => unwrapped(times),
-        "pbkdf2" => stretched(times),
-        "protect" => protected(size, times),
-        "open" => opened(size, times),
-        _ => 0,
+        "encrypt" => Some(encrypted(times)),
+        "decrypt" => Some(decrypted(times)),
+        "expand" => Some(expanded(times)),
+        "cmac" => Some(authenticated(times)),
+        "wrap" => Some(wrapped(times)),
+        "unwrap" => Some(unwrapped(times)),
+        "pbkdf2" => Some(stretched(times)),
+        _ => None,
     }
 }
 
-// The size that a third word names, or else 1,500.
-fn size_of(words: &[String]) -> usize
-    ensures { result ≤ 2304 }
-{
-    if words.len() < 3 {
-        return 1500;
+// A work on payloads of that size.
+fn worked_on(work: &str, times: u32, size: usize) -> Option<u8> {
+    if size > 2304 {
+        return None;
     }
-    match words[2].parse::<usize>() {
-        Ok(size) => size.min(2304),
-        Err(_) => 1500,
+    match work {
+        "protect" => Some(protected(size, times)),
+        "open" => Some(opened(size, times)),
+        _ => None,
     }
 }
 
-// The work that the words name. The first octet of the result is the exit status, so that no part
-// of the work is left out.
-fn run<R: Env + AllocGlobal>(rt: &R) -> u8 {
+// The first octet of the result of the work that the words name.
+fn octet_of(words: &[String]) -> Option<u8> {
+    if words.len() < 2 || words.len() > 3 {
+        return None;
+    }
+    let work = words[0].as_str();
+    let times = words[1].parse::<u32>().ok()?;
+    if words.len() == 2 {
+        return worked(work, times);
+    }
+    worked_on(work, times, words[2].parse::<usize>().ok()?)
+}
+
+// Whether the words name a work, whose octet is printed.
+fn run<R: Env + Print + AllocGlobal>(rt: &R) -> bool {
     let Ok(args) = env::args(rt) else {
-        return 0;
+        return false;
     };
     let Ok(words) = args.skip(1).collect::<Vec<String>>(rt.alloc()) else {
-        return 0;
+        return false;
     };
-    if words.len() < 2 {
-        return 0;
-    }
-    let size = size_of(&words);
-    match words[1].parse::<u32>() {
-        Ok(times) => worked(words[0].as_str(), times, size),
-        Err(_) => 0,
+    match octet_of(&words) {
+        Some(octet) => println!(rt; "{octet}").is_ok(),
+        None => false,
     }
 }
 
 fn main(rt: HostRuntime) -> ExitCode {
-    ExitCode::from(run(&rt))
+    if run(&rt) {
+        ExitCode::SUCCESS
+    } else {
+        ExitCode::FAILURE
+    }
 }

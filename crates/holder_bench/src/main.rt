@@ -1,8 +1,8 @@
 //! Pulls keys from the shared key holders of 16 access points, in several threads side by side,
 //! each by a pass of its own, and prints how many were found. Its words are the number of threads
-//! (1, 2, or else 4), the number of rows of each access point (1 to 64) and the number of pulls of
-//! each thread; with a fourth word `absent` it asks for names that are not held. Without words it
-//! prints a table of few pulls.
+//! (1, 2 or 4), the number of rows of each access point (1 to 64) and the number of pulls of each
+//! thread; with a fourth word `absent` it asks for names that are not held, and with `held`, or
+//! none, for those that are. Other words end with 1. Without words it prints a table of few pulls.
 #![tactic(auto)]
 
 mod crew;

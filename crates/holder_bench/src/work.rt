@@ -5,7 +5,7 @@ ghost use Rattle.std.specs.Prelude.{◌≡◌, ◌+◌, ◌*◌, ◌≤◌};
 /// Pulls of some threads at access points with some rows.
 #[derive(Clone, Copy)]
 pub struct Work {
-    /// 1, 2, or else 4.
+    /// 1, 2 or 4.
     pub threads: u8,
     /// The rows of each access point.
     pub rows: u8,
@@ -18,16 +18,29 @@ pub struct Work {
 /// The threads and the rows that are tried where no words name them.
 pub const TABLE: [(u8, u8); 6] = [(1, 4), (2, 4), (4, 4), (1, 64), (2, 64), (4, 64)];
 
+// Whether the word asks for names that are held, or that are not, where it is one of the two.
+fn is_held(word: &str) -> Option<bool> {
+    match word {
+        "held" => Some(true),
+        "absent" => Some(false),
+        _ => None,
+    }
+}
+
 impl Work {
-    /// The threads, the rows, the pulls, and `absent` where names are asked for that are not held.
+    /// The threads, the rows and the pulls, and whether names are asked for that are `held`, as
+    /// where no word says it, or `absent`.
     pub fn of_words(words: &[String]) -> Option<Work> {
-        if words.len() < 3 {
+        if words.len() < 3 || words.len() > 4 {
             return None;
         }
         let threads = words[0].parse::<u8>().ok()?;
         let rows = words[1].parse::<u8>().ok()?;
         let pulls = words[2].parse::<u32>().ok()?;
-        let held = words.len() == 3 || words[3].as_str() != "absent";
+        if !matches!(threads, 1 | 2 | 4) || !matches!(rows, 1..=64) {
+            return None;
+        }
+        let held = words.len() == 3 || is_held(words[3].as_str())?;
         Some(Work {
             threads,
             rows,

@@ -47,7 +47,7 @@ fn steps(
     let event = match step.event {
         Event::Take(octets) => NodeEvent::Take(octets),
         Event::Rekey => NodeEvent::Rekey,
-        Event::Send(station, tid, payload) if payload.len() <= 2304 => {
+        Event::Send(station, tid, payload) if tid < 16 && payload.len() <= 2304 => {
             NodeEvent::Send(Peer::One(Node::Sta(station % 2)), Tid::new(tid), payload)
         }
         Event::SendPlain(payload) if payload.len() <= 2304 => {

@@ -1,13 +1,17 @@
-//! The key holders that one alone has, with the keys of a capture.
+//! The key holders that one alone has, with the keys of a capture, and those that two threads share.
 
-ghost use Rattle.std.specs.Prelude.{◌≡◌, true};
+ghost use Rattle.std.specs.Prelude.{◌≡◌, true, length};
 ghost use Rattle.key_holders.specs.Rows.{is_in};
 
 use crate::keys::octets;
 use domain_base::{Mac, Octets};
-use key_hierarchy::{PullAnswer, PutAnswer, RevokeAnswer, ptk_from_r1};
+use holder_table::{HolderPass, SharedHolders};
+use key_hierarchy::{PmkR1, PullAnswer, PutAnswer, RevokeAnswer, ptk_from_r1};
 use key_holders::{HolderRow, Holders, ListHolders};
+use std::alloc::Global;
+use std::process::Abort;
 use std::test::*;
+use std::thread::{Threads, join};
 
 const R0KH_ID: &[u8] = b"kanstrup-ft";
 
@@ -69,4 +73,150 @@ fn a_row_gives_the_keys_of_a_capture(rt: HostRuntime) {
     ids.push(Octets(id)).expect(&rt, "memory");
     let mut holders = ListHolders::new(rt.alloc(), ids).expect(&rt, "memory");
     assert!(rt; gives_the_captured_key(&mut holders));
+}
+
+// The R0KH-IDs of the two access points whose key holders are shared.
+const R0KH_IDS: [&[u8]; 2] = [b"r0kh-1", b"r0kh-2"];
+
+// The most pulls that wait for the other side.
+const PULLS: u64 = 20_000_000;
+
+fn ids(rt: &impl Abort, alloc: Global) -> Vec<Octets>
+    ensures { length result.items ≡ 2 }
+{
+    let mut ids = Vec::new(alloc);
+    for i in 0..2 {
+        let id = Vec::from_slice(alloc, R0KH_IDS[i]).expect(rt, "memory");
+        ids.push(Octets(id)).expect(rt, "memory");
+    }
+    ids
+}
+
+// A row of its own for each access point and number.
+fn row(ap: u8, number: u8) -> HolderRow {
+    let mut name = [0xff; 16];
+    name[0] = ap;
+    name[15] = number;
+    let mut key = [number; 32];
+    key[31] = ap;
+    HolderRow {
+        name,
+        key,
+        sta: STA,
+    }
+}
+
+fn is_found(answer: PullAnswer, r1: &PmkR1) -> bool {
+    match answer {
+        PullAnswer::Found(found) => found.key == r1.key && found.name == r1.name,
+        PullAnswer::NoHolder | PullAnswer::Absent => false,
+    }
+}
+
+// Whether eight rows are held.
+fn put_eight(holders: &SharedHolders, pass: &mut HolderPass, ap: u8) -> bool
+    requires pass { pass.old.table ≡ holders.now.table }
+    requires has { is_in ap pass.old.knows.has ≡ true }
+    ensures pass { pass.new.table ≡ pass.old.table }
+    ensures has { pass.new.knows.has ≡ pass.old.knows.has }
+{
+    let mut all = true;
+    for number in 0..8 {
+        let answer = holders.put(pass, u16::from(ap), row(ap, number));
+        all &= matches!(answer, PutAnswer::Held);
+    }
+    all
+}
+
+// Asks for a row of an access point.
+fn pull(holders: &SharedHolders, pass: &mut HolderPass, ap: u8, number: u8) -> PullAnswer
+    requires pass { pass.old.table ≡ holders.now.table }
+    ensures pass { pass.new.table ≡ pass.old.table }
+    ensures has { pass.new.knows.has ≡ pass.old.knows.has }
+{
+    let id = R0KH_IDS[usize::from(ap) % 2];
+    holders.pull(pass, id, &row(ap, number).name, TARGET, STA)
+}
+
+// Whether a row of the other side is found, or is gone, of many pulls.
+fn comes(holders: &SharedHolders, pass: &mut HolderPass, ap: u8, number: u8, is_there: bool) -> bool
+    requires pass { pass.old.table ≡ holders.now.table }
+    ensures pass { pass.new.table ≡ pass.old.table }
+    ensures has { pass.new.knows.has ≡ pass.old.knows.has }
+{
+    let r1 = row(ap, number).r1(TARGET);
+    for _ in 0..PULLS {
+        let answer = pull(holders, pass, ap, number);
+        let is_seen = if is_there {
+            is_found(answer, &r1)
+        } else {
+            matches!(answer, PullAnswer::Absent)
+        };
+        if is_seen {
+            return true;
+        }
+    }
+    false
+}
+
+// Puts eight rows, waits for the other side's last one, revokes its own first, and waits until the
+// other's is gone.
+fn side(holders: &SharedHolders, pass: HolderPass, own: u8, other: u8) -> (HolderPass, bool)
+    requires pass { pass.table ≡ holders.now.table }
+    requires has { is_in own pass.knows.has ≡ true }
+    ensures { result.0.table ≡ pass.table }
+{
+    let mut pass = pass;
+    let put = put_eight(holders, &mut pass, own);
+    let found = comes(holders, &mut pass, other, 7, true);
+    let revoked = holders.revoke(&mut pass, u16::from(own), &row(own, 0).name);
+    let gone = comes(holders, &mut pass, other, 0, false);
+    let all = put && found && matches!(revoked, RevokeAnswer::Revoked) && gone;
+    (pass, all)
+}
+
+// Whether the first of an access point's eight rows is gone and the others are there.
+fn are_left(holders: &SharedHolders, pass: &mut HolderPass, ap: u8) -> bool
+    requires pass { pass.old.table ≡ holders.now.table }
+    ensures pass { pass.new.table ≡ pass.old.table }
+{
+    let mut all = matches!(pull(holders, pass, ap, 0), PullAnswer::Absent);
+    for number in 1..8 {
+        let r1 = row(ap, number).r1(TARGET);
+        all &= is_found(pull(holders, pass, ap, number), &r1);
+    }
+    all
+}
+
+// Two threads put, pull and revoke side by side, and each sees what the other does.
+fn see_each_other<R: Threads + Sync>(
+    rt: &R,
+    holders: &SharedHolders,
+    first: HolderPass,
+    second: HolderPass,
+) -> bool
+    requires passes { (first.table ≡ holders.now.table) × (second.table ≡ holders.now.table) }
+    requires has { (is_in 0 first.knows.has ≡ true) × (is_in 1 second.knows.has ≡ true) }
+{
+    let ((mut pass, one), (other, two)) = join(
+        rt,
+        || -> (HolderPass, bool)
+            requires { (first.table ≡ holders.now.table) × (is_in 0 first.knows.has ≡ true) }
+            ensures { result.0.table ≡ holders.entry.now.table }
+        { side(holders, first, 0, 1) },
+        || -> (HolderPass, bool)
+            requires { (second.table ≡ holders.now.table) × (is_in 1 second.knows.has ≡ true) }
+            ensures { result.0.table ≡ holders.entry.now.table }
+        { side(holders, second, 1, 0) },
+    );
+    holders.join(&mut pass, other);
+    one && two && are_left(holders, &mut pass, 0) && are_left(holders, &mut pass, 1)
+}
+
+#[test]
+fn shared_rows(rt: HostRuntime) {
+    let ids = ids(&rt, rt.alloc());
+    let (holders, mut first) = SharedHolders::start(rt.alloc(), ids).expect(&rt, "memory");
+    let second = holders.split(&mut first, 1);
+    assert!(rt; see_each_other(&rt, &holders, first, second));
 }

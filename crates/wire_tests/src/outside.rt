@@ -57,7 +57,7 @@ fn air_of_one(rt: &impl Abort, alloc: Global) -> SteadyAir {
 fn a_link_gives_and_keeps_frames(rt: HostRuntime) {
     let mut air = air_of_one(&rt, rt.alloc());
     let mut link = air.attach(Node::Ap(0)).expect(&rt, "a link");
-    let is_right = gives(&mut link, Some(*b"one\0"))
+    let is_right = gives(&mut link, Some(b"one"))
         && link.send(Node::Sta(2), b"reply").is_ok()
         && link.sent().len() == 1
         && link.left().is_empty();

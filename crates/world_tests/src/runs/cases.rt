@@ -65,7 +65,7 @@ const FRAME: &[u8] = &[0xd4, 0, 0, 0, 2, 0, 0, 0, 0, 0x11];
 const REQUEST: &[u8] =
     b"\0\0\0\0\x02\0\0\0\0\x01\x02\0\0\0\0\x11\x02\0\0\0\0\x01\0\0\x11\0\x0a\0\0\x04IEEE\x01\x04\x82\x84\x8b\x96\x30\x14\x01\0\0\x0f\xac\x04\x01\0\0\x0f\xac\x04\x01\0\0\x0f\xac\x02\x0c\0";
 
-pub(crate) static CASES: [Case; 9] = [
+pub(crate) static CASES: [Case; 10] = [
     Case {
         shows: "a source that fails behind a line that has no end yet, which is not run",
         words: REPLAY,
@@ -95,6 +95,26 @@ sent 1 s1 a1 assoc-req 62
         lines: "connect s1 a1
 ",
         reads: NEVER,
+        room: 31,
+        writes: NEVER,
+        frames: [&[], &[]],
+        attach: NEVER,
+        links: [NEVER, NEVER],
+        draws: NEVER,
+        turns: 0,
+        passes: [0, 0, 0],
+        status: Status::WriteFault,
+        report: "install a1 all gtk 1
+open s1 a1",
+        sent: &[],
+    },
+    Case {
+        shows: "the same sink behind a source that fails, in place of whose fault comes that of the sink",
+        words: REPLAY,
+        front: NODES,
+        lines: "connect s1 a1
+rekey a1",
+        reads: 1,
         room: 31,
         writes: NEVER,
         frames: [&[], &[]],
