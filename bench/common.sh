@@ -16,30 +16,25 @@ built() { # CRATE
 # What `counted` counts: instructions, by callgrind of valgrind, and seconds of one processor where that is missing.
 if command -v valgrind > /dev/null; then unit=instructions; else unit=seconds; fi
 
-# What a program that is counted has to end with; `any` where that is part of what it works out.
-ends_with=0
-
-# The instructions, or else the seconds, of the program on an input. The profile goes to a file. It ends where the program ends otherwise.
+# The instructions, or else the seconds, of the program on an input. The profile goes to a file. It ends where the program does not end with 0.
 counted() { # PROFILE INPUT RUNS WORDS..
     local profile=$1 input=$2 runs=$3 ended=0 count
     shift 3
     if [ "$unit" = instructions ]; then
         valgrind --tool=callgrind --callgrind-out-file="$profile" "$program" "$@" < "$input" 2> "$work/collected" > /dev/null || ended=$?
         count=$(sed -n 's/.*Collected : //p' "$work/collected")
-        if [ -z "$count" ] || { [ "$ends_with" != any ] && [ "$ended" != "$ends_with" ]; }; then
+        if [ -z "$count" ] || [ "$ended" != 0 ]; then
             cat "$work/collected" >&2
             echo "$program $* ended with $ended under valgrind" >&2
             exit 1
         fi
         echo "$count"
     else
-        python3 - "$input" "$runs" "$ends_with" "$program" "$@" <<'PY'
+        python3 - "$input" "$runs" "$program" "$@" <<'PY'
 import resource, subprocess, sys
-source, runs, ends_with, words = sys.argv[1], int(sys.argv[2]), sys.argv[3], sys.argv[4:]
+source, runs, words = sys.argv[1], int(sys.argv[2]), sys.argv[3:]
 for _ in range(runs):
-    ended = subprocess.run(words, stdin=open(source), stdout=subprocess.DEVNULL).returncode
-    if ended < 0 or ends_with not in ("any", str(ended)):
-        sys.exit("%s ended with %d" % (" ".join(words), ended))
+    subprocess.run(words, stdin=open(source), stdout=subprocess.DEVNULL, check=True)
 used = resource.getrusage(resource.RUSAGE_CHILDREN)
 print((used.ru_utime + used.ru_stime) / runs)
 PY

@@ -7,8 +7,6 @@
 # instructions of each work are spent in.
 source "$(dirname "$0")/common.sh"
 built cipher_bench
-# The first octet of what came of the work is what it ends with.
-ends_with=any
 
 # The instructions, or else the seconds, of that many of a work.
 of_many() { # WORK NUMBER [SIZE]
