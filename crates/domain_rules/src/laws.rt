@@ -114,8 +114,8 @@ pub fn seals_are_verified()
         → (s : Seal) × In (Took (peer_of d n header.a2) octets Data Accepted (Some s)) g }
 {}
 
-/// A frame that is refused moves no receive counter, whatever its packet number: so no frame that
-/// was made without the key keeps a node from taking those that come after it.
+/// A frame that is refused moves no receive counter, whatever its packet number: so none whose seal
+/// does not verify keeps a node from taking those that come after it.
 pub fn refusals_move_no_counter()
     ensures pairwise { (d : Domain) (first : ℕ) (n : Node) (h : List Act) (octets : List ℕ)
         (why : Reason) (g : List Act)
@@ -146,8 +146,8 @@ pub fn looks_are_right()
 /// leave, or as its access point accepts an M4 of a new attempt or a reassociation request, gives
 /// it up after four sends of G1 that brought no answer, or is told to drop what it has with the
 /// station. Each of those frames has a MIC that verified under the KCK of a PTK which the node had
-/// derived with the sender and of which it then installs the TK: so no frame that was made without
-/// that key ends one.
+/// derived with the sender and of which it then installs the TK: so where no MIC is forged no frame
+/// that was made without that key ends one.
 pub fn sessions_end_by_a_key()
     ensures { (d : Domain) (first : ℕ) (n : Node) (h : List Act) (event : NodeEvent) (g : List Act)
         (p : Node)

@@ -40,7 +40,8 @@ pub record IsMobile (d : Domain) : Type 0 where
   pub mdid_octets : AreOctets d.mdid
   pub id_octets : AllByRecursion (λ (a : ListedAp). AreOctets a.r0kh_id) d.aps
 
--- access points k and l and station m of a network in form with suite 4, whose addresses have six octets
+-- access points k and l and station m of a network in form with suite 4, whose addresses are of six octets, its mobility domain of two, and its
+-- R0KH-IDs of octets
 pub record CanRoam (d : Domain) (k l m : ℕ) : Type 0 where
   pub form : InForm d
   pub suite : d.akm ≡ FtPsk

@@ -27,7 +27,7 @@ pub trait Holders {
     ghost rows: { Self → ℕ → List HeldRow };
 
     // The holders before a pull by an R0KH-ID, a PMKR0Name, an R1KH-ID and a station, the holders
-    // after it, and its answer, by what the access point asked held at one moment of the pull.
+    // after it, and its answer, by what the access point asked held at one moment.
     ghost pulls: { Self → List ℕ → List ℕ → Mac → Mac → Self → PullAnswer → Type 0 };
 
     // The holders before a put of a row at an access point, the holders after it, and its answer.
