@@ -4,9 +4,9 @@ use Rattle.std.specs.Io.KnownBytes.{Appends}
 use Rattle.run_journal.specs.declared.acts.Entry.{Entry}
 use Rattle.run_journal.specs.Report.{lines}
 use Rattle.frame_script.specs.declared.refusal.Refusal.{Refusal}
-use Rattle.domain_cli.specs.declared.status.Found.{Found}
-use Rattle.domain_cli.specs.declared.status.Found.TheVariants as founds
-use Rattle.domain_cli.specs.declared.status.Stop.{Stop}
+use Rattle.script_runs.specs.declared.stops.Found.{Found}
+use Rattle.script_runs.specs.declared.stops.Found.TheVariants as founds
+use Rattle.script_runs.specs.declared.stops.Stop.{Stop}
 use Rattle.domain_base.specs.declared.outside.LinkError.TheVariants as link
 use Rattle.frame_script.specs.declared.forms.Form.{Form}
 use Rattle.frame_script.specs.declared.forms.Form.TheVariants.{End}
@@ -15,9 +15,9 @@ use Rattle.frame_script.specs.declared.reader.LineFault.TheVariants as numbered
 use Rattle.frame_script.specs.Refusals.{answer_of, fault_of}
 use Rattle.domain_cli.specs.declared.status.Status.TheVariants.{LinkFault, DrawFault, Usage, WriteFault}
 use Rattle.domain_cli.specs.declared.status.Status.TheVariants as status
-use Rattle.domain_cli.specs.declared.status.Stop.TheVariants as stops
-use Rattle.domain_cli.specs.Outer.{OnLinks, OnDraws}
-use Rattle.domain_cli.specs.Stops.{found_blame}
+use Rattle.script_runs.specs.declared.stops.Stop.TheVariants as stops
+use Rattle.script_runs.specs.Outer.{OnLinks, OnDraws}
+use Rattle.script_runs.specs.Stops.{found_blame}
 use Rattle.domain_cli.specs.Story.{IsText, Reports, status_by, status_of}
 
 -- without the whole script the text is of the lines alone

@@ -11,11 +11,11 @@ use Rattle.domain_rules.specs.Explained.{Explained}
 use Rattle.domain_rules.specs.HeldRight.{HeldRight}
 use Rattle.domain_rules.specs.InOctets.{InOctets}
 use Rattle.frame_script.specs.Script.{Draft, AtVersion, AtSeed, AtSsid, AtPsk, AtAkm, AtMdid, AtNodes, InRound}
-use Rattle.domain_cli.specs.declared.status.Found.{Found}
-use Rattle.domain_cli.specs.declared.status.Found.TheVariants as found
-use Rattle.domain_cli.specs.declared.status.Stop.TheVariants as stop
-use Rattle.domain_cli.specs.Script.{IsRun, IsJournal, Point}
-use Rattle.domain_cli.specs.Story.{Tells}
+use Rattle.script_runs.specs.declared.stops.Found.{Found}
+use Rattle.script_runs.specs.declared.stops.Found.TheVariants as found
+use Rattle.script_runs.specs.declared.stops.Stop.TheVariants as stop
+use Rattle.script_runs.specs.Script.{IsRun, IsJournal, Point}
+use Rattle.script_runs.specs.Story.{Tells}
 
 -- what the laws of safety say of one part of it
 abbrev pub Law : (List Entry → Type 0) → Type 0

@@ -5,16 +5,17 @@ use Rattle.command_words.specs.declared.Command.{Command}
 use Rattle.command_words.specs.declared.Command.TheVariants as ask
 use Rattle.frame_script.specs.Script.{Draft}
 use Rattle.frame_script.specs.declared.reader.Mode.TheVariants.{Replay, Live}
-use Rattle.domain_cli.specs.declared.status.Found.{Found}
-use Rattle.domain_cli.specs.declared.status.Found.TheVariants as found
+use Rattle.script_runs.specs.declared.stops.Found.{Found}
+use Rattle.script_runs.specs.declared.stops.Found.TheVariants as found
 use Rattle.domain_cli.specs.declared.status.Status.{Status}
 use Rattle.domain_cli.specs.declared.status.Status.TheVariants.{Done, Usage, Script, Limit, ReadFault, WriteFault, NoMemory, LinkFault, DrawFault}
-use Rattle.domain_cli.specs.declared.status.Stop.TheVariants as stop
+use Rattle.script_runs.specs.declared.stops.Stop.TheVariants as stop
 use Rattle.domain_cli.specs.Ends.{IsAnswered}
-use Rattle.domain_cli.specs.Outer.{OnLinks, OnDraws}
-use Rattle.domain_cli.specs.Script.{Rounds, point_of}
-use Rattle.domain_cli.specs.Stops.{found_blame}
-use Rattle.domain_cli.specs.Story.{Reports, Runs, Tells}
+use Rattle.script_runs.specs.Outer.{OnLinks, OnDraws}
+use Rattle.script_runs.specs.Script.{Rounds, point_of}
+use Rattle.script_runs.specs.Stops.{found_blame}
+use Rattle.domain_cli.specs.Story.{Reports, Runs}
+use Rattle.script_runs.specs.Story.{Tells}
 use Rattle.domain_cli.proofs.Out.{draw_blamed, link_blamed}
 
 -- words that ask for one thing ask for no other

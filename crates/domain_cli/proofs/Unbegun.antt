@@ -2,28 +2,24 @@
 use Rattle.std.proofs.Common.{◌≡◌, ℕ, List, [], Option, false, refl, ap, sym, ◌∙◌}
 use Rattle.std.proofs.KnownBytes.{Appends-nil}
 use Rattle.std.proofs.lemmas.Bool.{false≢true}
-use Rattle.domain_base.specs.Told.{LinkStory, AirStory}
+use Rattle.domain_base.specs.Told.{AirStory}
 use Rattle.run_journal.specs.declared.acts.Entry.{Entry}
 use Rattle.run_journal.specs.Report.{lines}
 use Rattle.frame_script.specs.Script.{AtVersion}
 use Rattle.frame_script.specs.declared.reader.Mode.{Mode}
 use Rattle.frame_script.specs.declared.reader.Mode.TheVariants.{Replay, Live}
-use Rattle.domain_cli.specs.declared.feeder.LineFeeder.{LineFeeder}
-use Rattle.domain_cli.specs.declared.status.Found.TheVariants as found
+use Rattle.script_runs.specs.declared.stops.Found.TheVariants as found
 use Rattle.domain_cli.specs.declared.status.Status.TheVariants.{NoMemory}
-use Rattle.domain_cli.specs.declared.status.Stop.TheVariants as stop
-use Rattle.domain_cli.specs.Feeders.{HasCome, Reached}
-use Rattle.domain_cli.specs.Lives.{Lives}
-use Rattle.domain_cli.specs.Outer.{outer, IsMet}
-use Rattle.domain_cli.specs.Script.{no_rounds}
-use Rattle.domain_cli.specs.Stops.{Closes}
+use Rattle.script_runs.specs.declared.stops.Stop.TheVariants as stop
+use Rattle.domain_cli.specs.Story.{Lives}
+use Rattle.script_runs.specs.Script.{no_rounds}
 use Rattle.domain_cli.specs.Story.{RunsIn, Runs}
 use Rattle.domain_cli.specs.Storms.{Storms}
-use Rattle.domain_cli.proofs.Telling.{Rightly}
-use Rattle.domain_cli.proofs.Lines.{Consumes-nil, nothing_yet}
-use Rattle.domain_cli.proofs.Nodes.{nothing_so_far}
-use Rattle.domain_cli.proofs.Courses.{storm_front}
-use Rattle.domain_cli.proofs.Returned.{meets_nothing}
+use Rattle.script_runs.proofs.Telling.{Rightly}
+use Rattle.script_runs.proofs.Lines.{Consumes-nil, nothing_yet}
+use Rattle.script_runs.proofs.Nodes.{nothing_so_far}
+use Rattle.script_runs.proofs.Courses.{storm_front}
+use Rattle.script_runs.proofs.Returned.{meets_nothing}
 
 no_lines : [] ≡ lines []
 unfolding lines
@@ -57,16 +53,3 @@ unbegun_live left out air last j none = record {
 -- a storm
 pub unbegun_storm : (rightly : Rightly) (number : ℕ) (left out : Option (List ℕ)) (j : List Entry) → j ≡ [] → Storms number left left out out NoMemory j
 unbegun_storm rightly number left out j none = record { unread = refl; reports = (storm_front rightly number j (nothing_so_far number j none), refl) }
-
--- ---- before the first octet
-
-met_nothing : {L : Type 0} (told : L → Option LinkStory) (links : List L) (air : Option AirStory) (last : Option (List ℕ)) (m : Mode) (j : List Entry) → links ≡ [] → IsMet told (outer [] air last) (outer links air last) m AtVersion no_rounds j
-met_nothing told links air last m j none = record { drawn = refl; linked = λ live start is. record { none = none; same = is; no_turns = refl } }
-
--- no feeder could be made
-pub closes_nothing : {L : Type 0} (told : L → Option LinkStory) (links : List L) (air : Option AirStory) (last : Option (List ℕ)) (m : Mode) (j : List Entry) → links ≡ [] → j ≡ [] → Closes told (outer [] air last) (outer links air last) m (found.Stopped stop.NoMemory) [] false j
-closes_nothing told links air last m j none empty = record { draft = AtVersion; rounds = no_rounds; tells = nothing_yet m j empty; met = met_nothing told links air last m j none }
-
--- or one was
-pub reached_first : {L : Type 0} (told : L → Option LinkStory) (links : List L) (air : Option AirStory) (last : Option (List ℕ)) (s : LineFeeder) (j : List Entry) → links ≡ [] → j ≡ [] → HasCome s [] AtVersion no_rounds j → Reached told (outer [] air last) (outer links air last) s [] j
-reached_first told links air last s j none empty come = record { draft = AtVersion; rounds = no_rounds; come = come; met = met_nothing told links air last s.state.reader.mode j none }

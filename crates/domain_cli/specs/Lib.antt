@@ -1,13 +1,4 @@
-pub mod Script
 pub mod Story
-pub mod Outer
-pub mod Lives
-pub mod States
-pub mod Stops
-pub mod Turning
-pub mod Ran
-pub mod Feeders
 pub mod Ends
 pub mod Storms
-pub mod Courses
 pub mod Words

@@ -1,129 +1,27 @@
--- What a whole run did: the journal by the octets read, and the octets written by the journal.
-use Rattle.std.specs.Prelude.{◌≡◌, ◌<◌, ◌≤◌, ℕ, suc, List, [], ◌∷◌, Bool, true, Option, None, Some, Ok, length, ◌++◌}
+-- What a whole run did: the octets written by the journal, and the status.
+use Rattle.std.specs.Prelude.{◌≡◌, ℕ, List, Bool, true, Option}
 use Rattle.std.specs.Io.KnownBytes.{Consumes, IsAtEnd, Appends}
 use Rattle.domain_base.specs.Causes.{AppendsPart}
 use Rattle.run_journal.specs.declared.acts.Entry.{Entry}
 use Rattle.run_journal.specs.Report.{lines, IsReport}
-use Rattle.frame_script.specs.Script.{Draft, Fault, end_fault}
+use Rattle.frame_script.specs.Script.{Draft}
 use Rattle.frame_script.specs.declared.forms.Form.{Form}
 use Rattle.frame_script.specs.declared.forms.Form.TheVariants.{End}
 use Rattle.domain_base.specs.declared.outside.LinkError.TheVariants as link
-use Rattle.frame_script.specs.Live.{Draws}
 use Rattle.frame_script.specs.declared.reader.Mode.{Mode}
 use Rattle.frame_script.specs.declared.reader.Mode.TheVariants.{Replay, Live}
 use Rattle.frame_script.specs.declared.reader.LineFault.{LineFault}
 use Rattle.frame_script.specs.declared.reader.LineFault.TheVariants as numbered
 use Rattle.frame_script.specs.Refusals.{answer_of, fault_of}
-use Rattle.domain_cli.specs.declared.status.Found.{Found}
-use Rattle.domain_cli.specs.declared.status.Found.TheVariants as found
-use Rattle.domain_cli.specs.declared.status.Stop.{Stop}
-use Rattle.domain_cli.specs.declared.status.Stop.TheVariants as stop
+use Rattle.script_runs.specs.declared.stops.Found.{Found}
+use Rattle.script_runs.specs.declared.stops.Found.TheVariants as found
+use Rattle.script_runs.specs.declared.stops.Stop.TheVariants as stop
 use Rattle.domain_cli.specs.declared.status.Status.{Status}
 use Rattle.domain_cli.specs.declared.status.Status.TheVariants.{Done, Usage, Script, Limit, ReadFault, WriteFault, NoMemory, LinkFault, DrawFault}
-use Rattle.domain_cli.specs.Script.{Rounds, Spells, IsJournal, NoFeed, Begins, IsScript, Ends, HasFault, HasForm, Point, point_of, says_in, sizes_before, most_lines, most_octets, texts}
-
--- the lines tell these rounds, by the journal, and the journal is that of the rounds that are to be run: of a round that is
--- open nothing was run
-pub record Explains (lines : List (List ℕ)) (p : Point) : Type 0 where
-  pub spelled : Spells p.mode p.journal lines p.draft p.rounds
-  pub journal : IsJournal p.draft p.rounds.run p.journal
-
--- the whole script was read, may end there, and told the journal
-pub record IsWhole (octets : List ℕ) (ended : Bool) (p : Point) : Type 0 where
-  pub script : List (List ℕ)
-  pub is : IsScript octets script
-  pub end : ended ≡ true
-  pub closed : end_fault p.draft ≡ None
-  pub explains : Explains script p
-
--- the whole script was read, but may not end there, for that fault, which stands at the line behind its last one; its lines told
--- the journal
-pub record IsUnended (fault : Fault) (number : ℕ) (octets : List ℕ) (ended : Bool) (p : Point) : Type 0 where
-  pub script : List (List ℕ)
-  pub is : IsScript octets script
-  pub end : ended ≡ true
-  pub fault_is : end_fault p.draft ≡ Some fault
-  pub number_is : number ≡ suc (length script)
-  pub explains : Explains script p
-
--- the script has its first fault in the line of that number, which should have had that form, and the lines before it told the
--- journal
-pub record IsFaulty (fault : Fault) (form : Form) (number : ℕ) (octets : List ℕ) (ended : Bool) (p : Point) : Type 0 where
-  pub good : List (List ℕ)
-  pub number_is : number ≡ suc (length good)
-  pub is : HasFault octets ended good p fault
-  pub expected : HasForm form is.wrong
-  pub explains : Explains (texts good) p
-
--- the source failed: all whole lines that were read told the journal, and the line behind them is not too long so far
-pub record IsCut (octets : List ℕ) (p : Point) : Type 0 where
-  pub good : List (List ℕ)
-  pub rest : List ℕ
-  pub begins : Begins octets good rest
-  pub open_line : NoFeed rest
-  pub short : length rest ≤ most_octets
-  pub explains : Explains (texts good) p
-
--- a read asks for so many octets
-abbrev pub most_read : ℕ
-most_read = 512
-
--- memory ran out over a line, or before the first: all lines before it told the journal, and behind it at most so many octets
--- were read, its line feed among them
-pub record IsPrefix (most : ℕ) (octets : List ℕ) (p : Point) : Type 0 where
-  pub good : List (List ℕ)
-  pub line : List ℕ
-  pub after : List ℕ
-  pub begins : Begins octets good (line ++ after)
-  pub open_line : NoFeed line
-  pub short : length line ≤ most_octets
-  pub near : length after ≤ most
-  pub explains : Explains (texts good) p
-
--- the line behind the good ones is at its end and was the last that was done, in a live run: it was run as soon as it was read, so that
--- at most so many octets came behind it
-pub record IsLast (most : ℕ) (octets : List ℕ) (ended : Bool) (good : List (List ℕ)) (text : List ℕ) (p : Point) : Type 0 where
-  pub line : List ℕ
-  pub after : List ℕ
-  pub live : p.mode ≡ Live
-  pub begins : Begins octets good (line ++ after)
-  pub open_line : NoFeed line
-  pub ends : Ends ended good line after text
-  pub short : length line ≤ most_octets
-  pub few : length good < most_lines
-  pub near : length after ≤ most
-
--- a call failed over what that line tells, or wanted memory: the lines up to it, itself among them, told the journal. The line of a
--- node told the node, whose link was not attached; that of an event or of the end of a round told the round; and `turn` told
--- those deliveries of its turn that came before
-pub record IsBroken (most : ℕ) (octets : List ℕ) (ended : Bool) (p : Point) : Type 0 where
-  pub good : List (List ℕ)
-  pub text : List ℕ
-  pub last : IsLast most octets ended good text p
-  pub explains : Explains (text ∷ texts good) p
-
--- the seed could not be drawn, for which that line asks: the lines before it told the journal, which is empty
-pub record IsUndrawn (most : ℕ) (octets : List ℕ) (ended : Bool) (p : Point) : Type 0 where
-  pub good : List (List ℕ)
-  pub text : List ℕ
-  pub last : IsLast most octets ended good text p
-  pub asks : says_in p.mode p.draft p.rounds.asked (sizes_before (length p.rounds.run) p.journal) text ≡ Ok Draws
-  pub none : p.journal ≡ []
-  pub explains : Explains (texts good) p
-
--- why the reading stopped; behind a line over which memory ran out at most so many octets came
-abbrev pub StoppedBy : ℕ → Stop → List ℕ → Bool → Point → Type 0
-StoppedBy most (stop.Refused number refusal form) octets ended p = IsFaulty (fault_of refusal) form number octets ended p
-StoppedBy most stop.NoMemory octets ended p = IsPrefix most octets p
-StoppedBy most stop.DrawFault octets ended p = IsUndrawn most octets ended p
-StoppedBy most (stop.Broken error) octets ended p = IsBroken most octets ended p
-
--- the journal at the end of the reading, by the octets read
-abbrev pub Tells : Found → List ℕ → Bool → Point → Type 0
-Tells found.Whole octets ended p = IsWhole octets ended p
-Tells (found.Stopped stop) octets ended p = StoppedBy most_read stop octets ended p
-Tells (found.Unended number refusal) octets ended p = IsUnended (fault_of refusal) number octets ended p
-Tells found.ReadFault octets ended p = IsCut octets p
+use Rattle.script_runs.specs.Script.{Rounds, point_of}
+use Rattle.domain_base.specs.Told.{AirStory}
+use Rattle.script_runs.specs.Story.{Tells}
+use Rattle.script_runs.specs.Lives.{Meets}
 
 -- the status when all went out that was to be written: which line goes past a limit is not told, and what a round lacks that is
 -- open is its end
@@ -176,3 +74,11 @@ pub record Runs (left_old left_new out_old out_new : Option (List ℕ)) (status 
   pub rounds : Rounds
   pub found_ : Found
   pub runs : RunsIn Replay draft rounds found_ left_old left_new out_old out_new status j
+
+-- a live run that was asked for. One list of turns goes for all of it
+pub record Lives (left_old left_new out_old out_new : Option (List ℕ)) (air_old air_new : Option AirStory) (last_old last_new : Option (List ℕ)) (status : Status) (j : List Entry) : Type 0 where
+  pub draft : Draft
+  pub rounds : Rounds
+  pub found_ : Found
+  pub runs : RunsIn Live draft rounds found_ left_old left_new out_old out_new status j
+  pub meets : Meets found_ draft rounds air_old air_new last_old last_new j

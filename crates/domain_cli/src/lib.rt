@@ -2,17 +2,9 @@
 #![tactic(auto)]
 
 mod adapters;
-mod feeder;
-mod host;
-mod laws;
-mod linking;
 mod program;
-mod reading;
-mod state;
 mod status;
-mod storming;
 mod top;
-mod turning;
 
 pub use adapters::{StdinSource, StdoutSink};
 pub use domain_world::{Gate, Unbarred};

@@ -3,52 +3,8 @@
 ghost use Rattle.std.specs.Prelude.{◌≡◌};
 ghost use Rattle.domain_cli.specs.Ends.{limit_text, reason_text};
 
-use domain_base::LinkError;
 use frame_script::{Form, Refusal};
 use thiserror::Error;
-
-/// Why a line was not done, or not wholly.
-#[derive(Clone, Copy)]
-pub enum Undone {
-    /// It is not taken, for this cause.
-    Refused(Refusal),
-    /// Memory ran out before anything was done.
-    NoMemory,
-    /// The seed could not be drawn that it asks for.
-    DrawFault,
-    /// What it asks for was done, of a turn a part; then the air or a link failed, or memory ran
-    /// out for a frame to be sent or taken.
-    Broken(LinkError),
-}
-
-/// Why a script is read no further.
-#[derive(Clone, Copy)]
-pub enum Stop {
-    /// The line of this number, from 1, is the first that is not taken, for this cause. It should
-    /// have had that form.
-    Refused(u64, Refusal, Form),
-    /// Memory ran out.
-    NoMemory,
-    /// The seed could not be drawn.
-    DrawFault,
-    /// The air or a link failed, or memory ran out there, behind what the last line asked for, of a
-    /// turn behind a part.
-    Broken(LinkError),
-}
-
-/// How the reading of a script ended.
-#[derive(Clone, Copy)]
-pub enum Found {
-    /// The source was read to its end, and every line was taken.
-    Whole,
-    /// It was read no further.
-    Stopped(Stop),
-    /// The source was read to its end, and every line was taken, but the script may not end there,
-    /// for this cause, which stands at the line of this number, from 1, behind the last one.
-    Unended(u64, Refusal),
-    /// The source failed.
-    ReadFault,
-}
 
 // What is written to standard error for words that are no command.
 const USAGE: &str = "usage: kehtrop replay < SCRIPT

@@ -11,15 +11,12 @@ ghost use Rattle.frame_script.specs.Refusals.{answer_of, fault_of};
 ghost use Rattle.domain_cli.specs.Story.{Runs, Reports, IsText, status_by, status_of};
 ghost use Rattle.domain_cli.specs.Ends.{IsAnswered};
 ghost use Rattle.domain_cli.specs.Storms.{IsSummary, StormReports, Storms};
-ghost use Rattle.domain_cli.specs.Lives.{Lives};
-ghost use Rattle.domain_cli.specs.Outer.{OnDraws, OnLinks};
-ghost use Rattle.domain_cli.specs.Stops.{found_blame};
+ghost use Rattle.domain_cli.specs.Story.{Lives};
+ghost use Rattle.script_runs.specs.Outer.{OnDraws, OnLinks};
+ghost use Rattle.script_runs.specs.Stops.{found_blame};
 ghost use Rattle.domain_cli.specs.Words.{AskLive, AskNothing, AskReplay, AskStorm};
 
-use crate::host::Host;
-use crate::reading::{live, replay};
-use crate::status::{Found, Status, Stop};
-use crate::storming::run_storm;
+use crate::status::Status;
 use command_words::{Command, read_words};
 use domain_base::{Air, Draws, Failed, LinkError, Sink, Source, write_all};
 use domain_rules::looks_are_right;
@@ -28,6 +25,7 @@ use frame_script::{Form, LineFault, Refusal};
 use journal_report::{SUMMARY_ROOM, summary_of, write_lines};
 use journal_safety::{hands_up_once, installs_once, joins, uses_once};
 use run_journal::{Entry, Journal, Premises};
+use script_runs::{Found, Host, Stop, live, replay, run_storm};
 use std::alloc::Global;
 use std::thread::Threads;
 

@@ -2,7 +2,7 @@ use Rattle.std.proofs.lemmas.List.{reverse-reverse}
 use Rattle.run_journal.specs.Report.{lines}
 use Rattle.domain_cli.proofs.Out.{lines_alone, either_way}
 use Rattle.std.proofs.Common.{subst, sym}
-use Rattle.domain_cli.specs.declared.status.Found.{Found}
+use Rattle.script_runs.specs.declared.stops.Found.{Found}
 use Rattle.domain_cli.specs.Story.{IsText}
 use Rattle.domain_cli.proofs.top.write_text.Goals as goal
 

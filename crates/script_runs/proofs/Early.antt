@@ -1,0 +1,263 @@
+-- A seed is drawn before all else, once.
+use Rattle.std.proofs.Common.{◌≡◌, ℕ, Bool, true, false, if◌then◌else◌, List, [], ◌∷◌, ◌++◌, length, bytes_eq, codes, Option, Some, None, Result, Ok, Err, ◌⊎◌, inl, inr, refl, sym, ap, subst, ◌∙◌, append_assoc}
+use Rattle.std.specs.Prelude.{nat_le}
+use Rattle.domain_base.specs.declared.names.Akm.{Akm}
+use Rattle.domain_base.specs.declared.names.Akm.TheVariants.{Psk, FtPsk, PskSha256}
+use Rattle.run_journal.specs.declared.domain.Domain.{Domain}
+use Rattle.run_journal.specs.declared.acts.Entry.{Entry}
+use Rattle.domain_links.specs.Turns.{Delivery}
+use Rattle.frame_script.specs.Tokens.{first_word}
+use Rattle.frame_script.specs.Script.{◌>>=◌, Fault, arguments, mode, many_frames, Draft, AtVersion, AtSeed, AtSsid, AtPsk, AtAkm, AtMdid, AtNodes, InRound, Said, Goes, ListsAp, ListsSta, Asks, BeginsRound, EndsRound, after_suite, akm_of, header_line, is_passed_over, is_within, line_says, mdid_of, new_network, psk_of, said_after, ssid_of}
+use Rattle.frame_script.specs.Live.{Heard, Plain, Draws, Turns, brings, own_says, plain, heard, turn_line}
+use Rattle.frame_script.specs.declared.reader.Mode.{Mode}
+use Rattle.frame_script.specs.declared.reader.Mode.TheVariants.{Replay, Live}
+use Rattle.script_runs.specs.Script.{Rounds, rounds_with, with_round, with_waiting, with_turn, IsTurnAt, Means, Says, IsOf, Spells, says_in}
+use Rattle.script_runs.proofs.Goings.{same_network, same_round}
+
+-- no seed was told
+abbrev pub IsEarly : Draft → Type 0
+IsEarly AtVersion = Unit {0}
+IsEarly AtSeed = Unit {0}
+IsEarly draft = ⊥
+
+abbrev IsLate : Draft → Type 0
+IsLate draft = IsEarly draft → ⊥
+
+is_early : (draft : Draft) → IsEarly draft ⊎ IsLate draft
+is_early AtVersion = inl tt
+is_early AtSeed = inl tt
+is_early (AtSsid seed) = inr (λ e. e)
+is_early (AtPsk seed ssid) = inr (λ e. e)
+is_early (AtAkm seed ssid psk) = inr (λ e. e)
+is_early (AtMdid seed ssid psk) = inr (λ e. e)
+is_early (AtNodes d) = inr (λ e. e)
+is_early (InRound d count) = inr (λ e. e)
+
+-- ---- what a line says behind it
+
+-- of a line as in a replay
+abbrev StaysLate : Draft → Result Said Fault → Type 0
+StaysLate before (Ok said) = IsLate (said_after before said)
+StaysLate before (Err fault) = Unit {0}
+
+-- and whatever it says
+abbrev HearsLate : Draft → Result Heard Fault → Type 0
+HearsLate before (Ok (Plain said)) = IsLate (said_after before said)
+HearsLate before (Ok Draws) = ⊥
+HearsLate before (Ok Turns) = Unit {0}
+HearsLate before (Err fault) = Unit {0}
+
+abbrev OwnLate : Draft → Option (Result Heard Fault) → Type 0
+OwnLate before None = Unit {0}
+OwnLate before (Some own) = HearsLate before own
+
+abbrev DueLate : Result Draft Fault → Type 0
+DueLate (Ok next) = IsLate next
+DueLate (Err fault) = Unit {0}
+
+either_line : (before : Draft) (b : Bool) (x y : Result Said Fault) → StaysLate before x → StaysLate before y → StaysLate before (if b then x else y)
+either_line before true x y p q = p
+either_line before false x y p q = q
+
+either_due : (b : Bool) (x y : Result Draft Fault) → DueLate x → DueLate y → DueLate (if b then x else y)
+either_due true x y p q = p
+either_due false x y p q = q
+
+either_own : (before : Draft) (b : Bool) (x y : Option (Result Heard Fault)) → OwnLate before x → OwnLate before y → OwnLate before (if b then x else y)
+either_own before true x y p q = p
+either_own before false x y p q = q
+
+-- a word of the header
+next_due : {A : Type 0} (r : Result A Fault) (f : A → Draft) → ((a : A) → IsLate (f a)) → DueLate (r >>= (λ a. Ok (f a)))
+next_due (Ok a) f late = late a
+next_due (Err fault) f late = tt
+
+goes_due : (before : Draft) (r : Result Draft Fault) → DueLate r → StaysLate before (r >>= (λ next. Ok (Goes next)))
+goes_due before (Ok next) late = late
+goes_due before (Err fault) late = tt
+
+suite_late : (seed ssid psk : List ℕ) (akm : Akm) → IsLate (after_suite seed ssid psk akm)
+suite_late seed ssid psk FtPsk = λ e. e
+suite_late seed ssid psk Psk = λ e. e
+suite_late seed ssid psk PskSha256 = λ e. e
+
+ssid_due : (seed word text : List ℕ) → DueLate (header_line (AtSsid seed) word text)
+unfolding header_line
+ssid_due seed word text = either_due (bytes_eq word (codes "ssid")) _ _ (next_due (ssid_of text) (λ ssid. AtPsk seed ssid) (λ ssid. λ e. e)) tt
+
+psk_due : (seed ssid word text : List ℕ) → DueLate (header_line (AtPsk seed ssid) word text)
+unfolding header_line
+psk_due seed ssid word text = next_due (psk_of ssid word text) (λ psk. AtAkm seed ssid psk) (λ psk. λ e. e)
+
+akm_due : (seed ssid psk word text : List ℕ) → DueLate (header_line (AtAkm seed ssid psk) word text)
+unfolding header_line
+akm_due seed ssid psk word text = either_due (bytes_eq word (codes "akm")) _ _ (next_due (akm_of text) (λ akm. after_suite seed ssid psk akm) (suite_late seed ssid psk)) tt
+
+mdid_due : (seed ssid psk word text : List ℕ) → DueLate (header_line (AtMdid seed ssid psk) word text)
+unfolding header_line
+mdid_due seed ssid psk word text = either_due (bytes_eq word (codes "mdid")) _ _ (next_due (mdid_of text) (λ mdid. AtNodes (new_network seed ssid psk FtPsk mdid)) (λ mdid. λ e. e)) tt
+
+nodes_late : (d : Domain) (r : Result Said Fault) → ((next : Draft) → r ≡ Ok (Goes next) → next ≡ AtNodes d) → StaysLate (AtNodes d) r
+nodes_late d (Ok (Goes next)) same = λ e. subst IsEarly (same next refl) e
+nodes_late d (Ok (ListsAp address id)) same = λ e. e
+nodes_late d (Ok (ListsSta address)) same = λ e. e
+nodes_late d (Ok (Asks event)) same = λ e. e
+nodes_late d (Ok BeginsRound) same = λ e. e
+nodes_late d (Ok EndsRound) same = λ e. e
+nodes_late d (Err fault) same = tt
+
+round_late : (d : Domain) (count : ℕ) (r : Result Said Fault) → ((next : Draft) → r ≡ Ok (Goes next) → next ≡ InRound d count) → StaysLate (InRound d count) r
+round_late d count (Ok (Goes next)) same = λ e. subst IsEarly (same next refl) e
+round_late d count (Ok (ListsAp address id)) same = λ e. e
+round_late d count (Ok (ListsSta address)) same = λ e. e
+round_late d count (Ok (Asks event)) same = λ e. e
+round_late d count (Ok BeginsRound) same = λ e. e
+round_late d count (Ok EndsRound) same = λ e. e
+round_late d count (Err fault) same = tt
+
+line_late : (before : Draft) (n : ℕ) (sizes line : List ℕ) → IsLate before → StaysLate before (line_says before n sizes line)
+unfolding line_says
+line_late AtVersion n sizes line late = absurd (late tt)
+line_late AtSeed n sizes line late = absurd (late tt)
+line_late (AtSsid seed) n sizes line late =
+    either_line (AtSsid seed) (is_passed_over line) _ _ late (goes_due (AtSsid seed) _ (ssid_due seed (first_word line).0 (first_word line).1))
+line_late (AtPsk seed ssid) n sizes line late =
+    either_line (AtPsk seed ssid) (is_passed_over line) _ _ late (goes_due (AtPsk seed ssid) _ (psk_due seed ssid (first_word line).0 (first_word line).1))
+line_late (AtAkm seed ssid psk) n sizes line late =
+    either_line (AtAkm seed ssid psk) (is_passed_over line) _ _ late (goes_due (AtAkm seed ssid psk) _ (akm_due seed ssid psk (first_word line).0 (first_word line).1))
+line_late (AtMdid seed ssid psk) n sizes line late =
+    either_line (AtMdid seed ssid psk) (is_passed_over line) _ _ late (goes_due (AtMdid seed ssid psk) _ (mdid_due seed ssid psk (first_word line).0 (first_word line).1))
+line_late (AtNodes d) n sizes line late = nodes_late d (line_says (AtNodes d) n sizes line) (λ next is. same_network d n sizes line next is)
+line_late (InRound d count) n sizes line late = round_late d count (line_says (InRound d count) n sizes line) (λ next is. same_round d count n sizes line next is)
+
+-- a line with a meaning of its own
+turn_late : (before : Draft) (sizes : List ℕ) (b : Bool) → HearsLate before (if b then Ok Turns else Err many_frames)
+turn_late before sizes true = tt
+turn_late before sizes false = tt
+
+word_late : (before : Draft) (b : Bool) → OwnLate before (if b then Some (Err mode) else None)
+word_late before true = tt
+word_late before false = tt
+
+own_late : (before : Draft) (sizes line : List ℕ) → IsLate before → OwnLate before (own_says before sizes line)
+unfolding own_says
+own_late AtVersion sizes line late = absurd (late tt)
+own_late AtSeed sizes line late = absurd (late tt)
+own_late (AtSsid seed) sizes line late = tt
+own_late (AtPsk seed ssid) sizes line late = tt
+own_late (AtAkm seed ssid psk) sizes line late = tt
+own_late (AtMdid seed ssid psk) sizes line late = tt
+own_late (AtNodes d) sizes line late =
+    either_own (AtNodes d) (bytes_eq line (codes "turn")) (Some (turn_line sizes)) _ (turn_late (AtNodes d) sizes (nat_le (length sizes) 65535))
+    (either_own (AtNodes d) (bytes_eq (first_word line).0 (codes "turn")) (Some (Err arguments)) _ tt (word_late (AtNodes d) (brings (first_word line).0)))
+own_late (InRound d count) sizes line late = word_late (InRound d count) (brings (first_word line).0)
+
+plain_late : (before : Draft) (r : Result Said Fault) → StaysLate before r → HearsLate before (plain r)
+plain_late before (Ok said) late = late
+plain_late before (Err fault) late = tt
+
+heard_late : (before : Draft) (own : Option (Result Heard Fault)) (r : Result Said Fault) → OwnLate before own → StaysLate before r → HearsLate before (heard own r)
+heard_late before None r own line = plain_late before r line
+heard_late before (Some x) r own line = own
+
+says_late : (m : Mode) (before : Draft) (n : ℕ) (sizes line : List ℕ) → IsLate before → HearsLate before (says_in m before n sizes line)
+says_late Replay before n sizes line late = plain_late before (line_says before n sizes line) (line_late before n sizes line late)
+says_late Live before n sizes line late = heard_late before (own_says before sizes line) (line_says before n sizes line) (own_late before sizes line late) (line_late before n sizes line late)
+
+-- ---- what the lines before have told of the outside
+
+-- a line that has its meaning in a replay tells nothing of it
+record IsInside (earlier rounds : Rounds) : Type 0 where
+  drawn : rounds.drawn ≡ earlier.drawn
+  turns : rounds.turns ≡ earlier.turns
+
+either_inside : (earlier : Rounds) (b : Bool) (x y : Rounds) → IsInside earlier x → IsInside earlier y → IsInside earlier (if b then x else y)
+either_inside earlier true x y p q = p
+either_inside earlier false x y p q = q
+
+plain_inside : (before : Draft) (earlier : Rounds) (said : Said) → IsInside earlier (rounds_with before earlier said)
+plain_inside before earlier (Goes next) = record { drawn = refl; turns = refl }
+plain_inside before earlier (ListsAp address id) = record { drawn = refl; turns = refl }
+plain_inside before earlier (ListsSta address) = record { drawn = refl; turns = refl }
+plain_inside before earlier (Asks event) =
+    let is = either_inside earlier (is_within before) (with_waiting earlier (earlier.waiting ++ event ∷ [])) (with_round earlier (event ∷ [])) (record { drawn = refl; turns = refl }) (record { drawn = refl; turns = refl }) in
+    record { drawn = is.drawn; turns = is.turns }
+plain_inside before earlier BeginsRound = record { drawn = refl; turns = refl }
+plain_inside before earlier EndsRound = record { drawn = refl; turns = refl }
+
+turn_outside : (before : Draft) (given : List Delivery) → IsTurnAt before given → IsLate before
+turn_outside AtVersion given at early = at
+turn_outside AtSeed given at early = at
+turn_outside (AtSsid seed) given at early = at
+turn_outside (AtPsk seed ssid) given at early = at
+turn_outside (AtAkm seed ssid psk) given at early = at
+turn_outside (AtMdid seed ssid psk) given at early = at
+turn_outside (AtNodes d) given at early = early
+turn_outside (InRound d count) given at early = at
+
+-- where no seed was told, none was before, and none drawn
+record WasEarly (before : Draft) (earlier rounds : Rounds) : Type 0 where
+  early : IsEarly before
+  drawn : rounds.drawn ≡ earlier.drawn
+
+early_before : (m : Mode) (before draft : Draft) (earlier rounds : Rounds) (n : ℕ) (sizes line : List ℕ) (said : Heard) → says_in m before n sizes line ≡ Ok said → Means said before earlier draft rounds → IsEarly draft → WasEarly before earlier rounds
+early_before m before draft earlier rounds n sizes line (Plain said) says means early = record {
+  early = elim (is_early before) [
+    | inl early_ ↦ early_
+    | inr late ↦ absurd (subst (HearsLate before) says (says_late m before n sizes line late) (subst IsEarly means.0 early))
+  ];
+  drawn = ap (λ (r : Rounds). r.drawn) means.1 ∙ (plain_inside before earlier said).drawn;
+}
+early_before m before draft earlier rounds n sizes line Draws says means early = absurd (subst IsEarly means.1.0 early)
+early_before m before draft earlier rounds n sizes line Turns says means early =
+    absurd (turn_outside before means.0 means.1.0 (subst IsEarly means.1.1.0 early))
+
+undrawn : (m : Mode) (j : List Entry) (lines : List (List ℕ)) (draft : Draft) (rounds : Rounds) → Spells m j lines draft rounds → IsEarly draft → rounds.drawn ≡ None
+unfolding Spells
+undrawn m j [] draft rounds p early = ap (λ (r : Rounds). r.drawn) p.1
+undrawn m j (line ∷ lines) draft rounds (before, (earlier, (p, says))) early =
+    let was = early_before m before draft earlier rounds _ _ line says.said says.says says.means early in
+    was.drawn ∙ undrawn m j lines before earlier p was.early
+
+-- a seed is drawn where none was
+pub draws_first : (m : Mode) (j : List Entry) (lines : List (List ℕ)) (before : Draft) (earlier : Rounds) (n : ℕ) (sizes line : List ℕ) → Spells m j lines before earlier → says_in m before n sizes line ≡ Ok Draws → earlier.drawn ≡ None
+draws_first m j lines before earlier n sizes line p says =
+    undrawn m j lines before earlier p (elim (is_early before) [
+      | inl early_ ↦ early_
+      | inr late ↦ absurd (subst (HearsLate before) says (says_late m before n sizes line late))
+    ])
+
+-- ---- what came from outside by the lines before is of the same seed and turns
+
+means_of : (seed : Option (List ℕ)) (turns : List (List Delivery)) (said : Heard) (before draft : Draft) (earlier rounds : Rounds) → (said ≡ Draws → earlier.drawn ≡ None) → Means said before earlier draft rounds → IsOf seed turns rounds → IsOf seed turns earlier
+means_of seed turns (Plain said) before draft earlier rounds first means told =
+    let inside : IsInside earlier rounds = subst (λ (r : Rounds). IsInside earlier r) (sym means.1) (plain_inside before earlier said) in
+    record {
+      drawn = elim told.drawn [
+        | inl none ↦ inl (sym inside.drawn ∙ none)
+        | inr same ↦ inr (sym inside.drawn ∙ same)
+      ];
+      later = told.later;
+      first = ap (λ (t : List (List Delivery)). told.later ++ t) (sym inside.turns) ∙ told.first;
+    }
+means_of seed turns Draws before draft earlier rounds first means told = record {
+  drawn = inl (first refl);
+  later = told.later;
+  first = ap (λ (r : Rounds). told.later ++ r.turns) (sym means.1.1) ∙ told.first;
+}
+means_of seed turns Turns before draft earlier rounds first means told =
+    let here : rounds ≡ with_turn earlier means.0 = means.1.1.1 in
+    let drawn : rounds.drawn ≡ earlier.drawn = ap (λ (r : Rounds). r.drawn) here in
+    record {
+      drawn = elim told.drawn [
+        | inl none ↦ inl (sym drawn ∙ none)
+        | inr same ↦ inr (sym drawn ∙ same)
+      ];
+      later = told.later ++ means.0 ∷ [];
+      first = append_assoc told.later (means.0 ∷ []) earlier.turns ∙ ap (λ (r : Rounds). told.later ++ r.turns) (sym here) ∙ told.first;
+    }
+
+pub of_before : (m : Mode) (j : List Entry) (seed : Option (List ℕ)) (turns : List (List Delivery)) (lines : List (List ℕ)) (line : List ℕ) (before draft : Draft) (earlier rounds : Rounds)
+    → Spells m j lines before earlier → Says m j line before earlier draft rounds → IsOf seed turns rounds → IsOf seed turns earlier
+of_before m j seed turns lines line before draft earlier rounds p says told =
+    means_of seed turns says.said before draft earlier rounds (λ draws. draws_first m j lines before earlier _ _ line p (says.says ∙ ap Ok draws)) says.means told

@@ -1,0 +1,36 @@
+-- Steps of a turn that go no further.
+use Rattle.std.proofs.Common.{◌≡◌, ◌≢◌, ℕ, suc, List, length, Result, Err, refl, ap, arith}
+use Rattle.domain_base.specs.declared.outside.LinkError.{LinkError}
+use Rattle.domain_base.specs.declared.outside.LinkError.TheVariants as link
+use Rattle.domain_links.specs.Telling.{HasFailed, SameFaults}
+use Rattle.domain_world.specs.State.{State}
+use Rattle.domain_world.specs.Owning.{Owns}
+use Rattle.run_journal.specs.declared.acts.Entry.{Entry}
+use Rattle.script_runs.specs.Turning.{Stage, stage, IsFurther, IsLaid}
+
+-- a link has failed
+pub laid_failed : {L V : Type 0} (faults : L → ℕ) (old new : List L) → length new ≡ length old → HasFailed faults new → IsLaid {L = L} {T = V} faults old new (Err link.Failed)
+laid_failed faults old new len failed = record { len = len; failed = λ e. failed; kept = λ h. absurd (h refl) }
+
+-- memory ran out before a link was asked
+no_memory : {V : Type 0} → ◌≡◌ {A = Result V LinkError} (Err link.NoMemory) (Err link.Failed) → ⊥
+no_memory e = absurd cc
+
+pub laid_unasked : {L V : Type 0} (faults : L → ℕ) (links : List L) → IsLaid {L = L} {T = V} faults links links (Err link.NoMemory)
+laid_unasked faults links = record { len = refl; failed = λ e. absurd (no_memory e); kept = λ h. refl }
+
+-- nothing was run
+pub further_none : (more : ℕ) (s : Stage) → Owns s.world s.journal → IsFurther more s s
+further_none more s own = record { network = refl; few = omega arith; own = own }
+
+pub further_same : (more : ℕ) (w v : State) (j k : List Entry) → v.domain ≡ w.domain → v ≡ w → Owns v k → IsFurther more (stage w j) (stage v k)
+further_same more w v j k network same own = record { network = network; few = omega (arith, ap (λ (x : State). x.rounds) same); own = own }
+
+pub further_round : (w v : State) (j k : List Entry) → v.domain ≡ w.domain → v.rounds ≡ suc w.rounds → Owns v k → IsFurther 1 (stage w j) (stage v k)
+further_round w v j k network rounds own = record { network = network; few = omega (arith, rounds); own = own }
+
+-- the sending ended with an error, that was not a link's
+pub sends_kept : {L V T : Type 0} (faults : L → ℕ) (old new : List L) (error : LinkError) → (◌≡◌ {A = Result T LinkError} (Err error) (Err link.NoMemory) → SameFaults faults old new)
+    → ◌≢◌ {A = Result V LinkError} (Err error) (Err link.Failed) → SameFaults faults old new
+sends_kept faults old new link.Failed kept h = absurd (h refl)
+sends_kept faults old new link.NoMemory kept h = kept refl

@@ -1,0 +1,332 @@
+-- What the lines have told with one that is taken, and the journal of it.
+use Rattle.std.proofs.Common.{◌≡◌, ℕ, suc, Bool, true, false, if◌then◌else◌, List, [], ◌∷◌, ◌++◌, length, Option, Some, None, Result, Ok, refl, sym, ap, subst, ◌∙◌, arith}
+use Rattle.run_journal.specs.declared.domain.Domain.{Domain}
+use Rattle.run_journal.specs.declared.domain.Event.{Event}
+use Rattle.run_journal.specs.declared.acts.Entry.{Entry}
+use Rattle.domain_rules.specs.Explained.{Explained, Step, Follows}
+use Rattle.domain_rules.specs.Rounds.{by_nodes}
+use Rattle.domain_rules.proofs.Journals.{explained_start, explained_event}
+use Rattle.domain_rules.specs.HeldRight.{HeldRight, AnsweredInTime}
+use Rattle.domain_world.specs.State.{State}
+use Rattle.domain_world.specs.Owning.{Owns}
+use Rattle.frame_script.specs.Script.{Fault, Draft, AtVersion, AtSeed, AtSsid, AtPsk, AtAkm, AtMdid, AtNodes, InRound, Said, Goes, ListsAp, ListsSta, Asks, BeginsRound, EndsRound, is_within, rounds_after}
+use Rattle.frame_script.specs.Headers.{Reading, TakesStep, HasRead, sizes_of}
+use Rattle.frame_script.specs.declared.reader.Step.{Step as Asked}
+use Rattle.frame_script.specs.declared.reader.Step.TheVariants as step
+use Rattle.script_runs.specs.Script.{Rounds, Other, IsRun, IsJournal, with_round, with_waiting, rounds_with}
+use Rattle.script_runs.specs.States.{Waiting, events_of, IsHeader, IsAt, IsOwn, IsNone, IsWorldOf, DidAsk, HasBegun, DidEnd, Did, DidRun, IsBegun, run_count}
+use Rattle.script_runs.proofs.Steps.{one_saying, no_nodes, no_round, no_asking, none_run, outside}
+
+-- ---- the journal of a world
+
+-- before the header is whole
+header_journal : (draft : Draft) (run : List (List Event)) (j : List Entry) → IsHeader draft → run ≡ [] → j ≡ [] → IsJournal draft run j
+header_journal AtVersion run j due none empty = (none, empty)
+header_journal AtSeed run j due none empty = (none, empty)
+header_journal (AtSsid seed) run j due none empty = (none, empty)
+header_journal (AtPsk seed ssid) run j due none empty = (none, empty)
+header_journal (AtAkm seed ssid psk) run j due none empty = (none, empty)
+header_journal (AtMdid seed ssid psk) run j due none empty = (none, empty)
+header_journal (AtNodes d) run j due none empty = absurd due
+header_journal (InRound d count) run j due none empty = absurd due
+
+no_run : (run : List (List Event)) (n : ℕ) → n ≡ length run → n ≡ 0 → run ≡ []
+no_run [] n count none = refl
+no_run (round ∷ run) n count none = absurd (omega (arith, count, none))
+
+-- looks each of which was answered rightly at some moment of its round
+abbrev pub Rightly : Type 0
+Rightly = (d : Domain) (j : List Entry) → AnsweredInTime d j → HeldRight d j
+
+-- in a world
+run_of : (rightly : Rightly) (w : State) (run : List (List Event)) (j : List Entry) → Owns w j → Explained w.domain run j → IsRun w.domain run j
+run_of rightly w run j own explained = record { form = own.form; octets = own.octets; explained = explained; held = rightly w.domain j own.right }
+
+journal_at : (draft : Draft) (w : State) (a : Waiting) (sizes : List ℕ) (run : List (List Event)) (j : List Entry) → IsAt draft w a sizes j → IsRun w.domain run j → IsJournal draft run j
+journal_at AtVersion w a sizes run j at is = absurd at
+journal_at AtSeed w a sizes run j at is = absurd at
+journal_at (AtSsid seed) w a sizes run j at is = absurd at
+journal_at (AtPsk seed ssid) w a sizes run j at is = absurd at
+journal_at (AtAkm seed ssid psk) w a sizes run j at is = absurd at
+journal_at (AtMdid seed ssid psk) w a sizes run j at is = absurd at
+journal_at (AtNodes d) w a sizes run j at is = subst (λ (x : Domain). IsRun x run j) (sym at.0) is
+journal_at (InRound d count) w None sizes run j at is = absurd at
+journal_at (InRound d count) w (Some events) sizes run j at is = subst (λ (x : Domain). IsRun x run j) (sym at.network) is
+
+own_journal : (rightly : Rightly) (w : State) (a : Waiting) (r : Reading) (run : List (List Event)) (j : List Entry) → IsOwn w a r j → Explained w.domain run j → IsJournal r.draft run j
+own_journal rightly w a r run j own explained = journal_at r.draft w a r.sizes run j own.at (run_of rightly w run j own.own explained)
+
+explained_at : (draft : Draft) (w : State) (a : Waiting) (sizes : List ℕ) (run : List (List Event)) (j : List Entry) → IsAt draft w a sizes j → IsJournal draft run j → Explained w.domain run j
+explained_at AtVersion w a sizes run j at told = absurd at
+explained_at AtSeed w a sizes run j at told = absurd at
+explained_at (AtSsid seed) w a sizes run j at told = absurd at
+explained_at (AtPsk seed ssid) w a sizes run j at told = absurd at
+explained_at (AtAkm seed ssid psk) w a sizes run j at told = absurd at
+explained_at (AtMdid seed ssid psk) w a sizes run j at told = absurd at
+explained_at (AtNodes d) w a sizes run j at told = subst (λ (x : Domain). Explained x run j) at.0 told.explained
+explained_at (InRound d count) w None sizes run j at told = absurd at
+explained_at (InRound d count) w (Some events) sizes run j at told = subst (λ (x : Domain). Explained x run j) at.network told.explained
+
+own_explained : (w : State) (a : Waiting) (r : Reading) (run : List (List Event)) (j : List Entry) → IsOwn w a r j → IsJournal r.draft run j → Explained w.domain run j
+own_explained w a r run j own told = explained_at r.draft w a r.sizes run j own.at told
+
+first_explained : (w : State) (a : Waiting) (r : Reading) (run : List (List Event)) (j : List Entry) → IsOwn w a r j → run ≡ [] → w.rounds ≡ 0 → Explained w.domain run j
+first_explained w a r run j own none zero =
+    subst (λ (x : List (List Event)). Explained w.domain x j) (sym none) (subst (λ (x : List Entry). Explained w.domain [] x) (sym (own.first zero)) (explained_start w.domain))
+
+-- one more round
+explained_round : (d : Domain) (run : List (List Event)) (events : List Event) (j k : List Entry) → Explained d run j → Follows d (suc (length run)) (by_nodes events) j k → Explained d (events ∷ run) k
+unfolding Explained
+explained_round d run events j k explained follows = (j, (explained, follows))
+
+-- ---- with one more line
+
+-- before the header is whole
+begun_none : (draft : Draft) (asked : Asked) (w : State) → IsBegun draft asked (Some w) → w.rounds ≡ 0
+begun_none draft step.Nothing w begun = absurd cc
+begun_none draft step.Draw w begun = absurd begun
+begun_none draft step.Network w begun = begun.none
+begun_none draft (step.Ap address id) w begun = absurd begun
+begun_none draft (step.Sta address) w begun = absurd begun
+begun_none draft (step.Event event) w begun = absurd begun
+begun_none draft step.Round w begun = absurd begun
+begun_none draft step.End w begun = absurd begun
+begun_none draft step.Turn w begun = absurd begun
+
+told_begun : (rightly : Rightly) (r s : Reading) (v : Option State) (a b : Waiting) (run : List (List Event)) (j k : List Entry) (asked : Asked) → IsNone a r j → run ≡ [] → IsBegun s.draft asked v → k ≡ j → IsWorldOf v b s k → IsJournal s.draft run k
+told_begun rightly r s None a b run j k asked is none begun kept new = header_journal s.draft run k new.due none new.no_entries
+told_begun rightly r s (Some w) a b run j k asked is none begun kept new =
+    own_journal rightly w b s run k new (first_explained w b s run k new none (begun_none s.draft asked w begun))
+
+-- nothing was run
+told_stays : (w v : State) (run : List (List Event)) (j k : List Entry) → Explained w.domain run j → (v ≡ w) × (k ≡ j) → Explained v.domain run k
+told_stays w v run j k explained same =
+    subst (λ (x : State). Explained x.domain run k) (sym same.0) (subst (λ (x : List Entry). Explained w.domain run x) (sym same.1) explained)
+
+told_ask : (draft : Draft) (w v : State) (a b : Waiting) (sizes : List ℕ) (rounds : Rounds) (event : Event) (j k : List Entry) → IsAt draft w a sizes j → w.rounds ≡ length rounds.run → Explained w.domain rounds.run j → DidAsk w v a b event j k
+    → Explained v.domain (rounds_with draft rounds (Asks event)).run k
+told_ask AtVersion w v a b sizes rounds event j k at count explained did = absurd at
+told_ask AtSeed w v a b sizes rounds event j k at count explained did = absurd at
+told_ask (AtSsid seed) w v a b sizes rounds event j k at count explained did = absurd at
+told_ask (AtPsk seed ssid) w v a b sizes rounds event j k at count explained did = absurd at
+told_ask (AtAkm seed ssid psk) w v a b sizes rounds event j k at count explained did = absurd at
+told_ask (AtMdid seed ssid psk) w v a b sizes rounds event j k at count explained did = absurd at
+told_ask (AtNodes d) w v None None sizes rounds event j k at count explained did =
+    let goes = subst (λ (n : ℕ). Step w.domain (suc n) event j k) count did.goes in
+    subst (λ (x : Domain). Explained x ((event ∷ []) ∷ rounds.run) k) (sym did.network) (explained_event w.domain rounds.run event j k explained goes)
+told_ask (AtNodes d) w v None (Some more) sizes rounds event j k at count explained did = absurd did
+told_ask (AtNodes d) w v (Some events) b sizes rounds event j k at count explained did = let some : Some events ≡ None = at.1 in absurd cc
+told_ask (InRound d n) w v None b sizes rounds event j k at count explained did = absurd at
+told_ask (InRound d n) w v (Some events) None sizes rounds event j k at count explained did = absurd did
+told_ask (InRound d n) w v (Some events) (Some more) sizes rounds event j k at count explained did = told_stays w v rounds.run j k explained did.0
+
+told_end : (w v : State) (a b : Waiting) (rounds : Rounds) (j k : List Entry) → w.rounds ≡ length rounds.run → events_of a ≡ rounds.waiting → Explained w.domain rounds.run j → DidEnd w v a b j k → Explained v.domain (rounds.waiting ∷ rounds.run) k
+told_end w v None b rounds j k count waits explained did = absurd did
+told_end w v (Some events) (Some more) rounds j k count waits explained did = absurd did
+told_end w v (Some events) None rounds j k count waits explained did =
+    let goes = subst (λ (n : ℕ). Follows w.domain (suc n) (by_nodes events.items) j k) count did.goes in
+    let these = subst (λ (es : List Event). Follows w.domain (suc (length rounds.run)) (by_nodes es) j k) waits goes in
+    subst (λ (x : Domain). Explained x (rounds.waiting ∷ rounds.run) k) (sym did.network) (explained_round w.domain rounds.run rounds.waiting j k explained these)
+
+told_own : (w v : State) (a b : Waiting) (r s : Reading) (rounds : Rounds) (line : List ℕ) (j k : List Entry) (asked : Asked) → IsOwn w a r j → w.rounds ≡ length rounds.run → events_of a ≡ rounds.waiting → IsJournal r.draft rounds.run j
+    → (read : HasRead r s (sizes_of j) line asked) → Did w v a b j k asked → IsOwn v b s k → Explained v.domain (rounds_with r.draft rounds read.0).run k
+told_own w v a b r s rounds line j k step.Nothing own count waits told read did new =
+    let same = one_saying _ read.0 (Goes s.draft) read.1.0 read.1.1.1.1.0 in
+    subst (λ (x : Said). Explained v.domain (rounds_with r.draft rounds x).run k) (sym same) (told_stays w v rounds.run j k (own_explained w a r rounds.run j own told) did.0)
+told_own w v a b r s rounds line j k step.Network own count waits told read did new = absurd did
+told_own w v a b r s rounds line j k step.Draw own count waits told read did new = absurd did
+told_own w v a b r s rounds line j k step.Turn own count waits told read did new = absurd did
+told_own w v a b r s rounds line j k (step.Ap address id) own count waits told read did new =
+    let (d, (says, (old, (can, (none, first))))) = read.1.1.1.1 in
+    let same = one_saying _ read.0 (ListsAp address id) read.1.0 says in
+    subst (λ (x : Said). Explained v.domain (rounds_with r.draft rounds x).run k) (sym same)
+    (first_explained v b s rounds.run k new (no_run rounds.run w.rounds count (none_run w a r j own first)) (did.0.rounds ∙ none_run w a r j own first))
+told_own w v a b r s rounds line j k (step.Sta address) own count waits told read did new =
+    let (d, (says, (old, (can, first)))) = read.1.1.1.1 in
+    let same = one_saying _ read.0 (ListsSta address) read.1.0 says in
+    subst (λ (x : Said). Explained v.domain (rounds_with r.draft rounds x).run k) (sym same)
+    (first_explained v b s rounds.run k new (no_run rounds.run w.rounds count (none_run w a r j own first)) (did.0.rounds ∙ none_run w a r j own first))
+told_own w v a b r s rounds line j k (step.Event event) own count waits told read did new =
+    let same = one_saying _ read.0 (Asks event) read.1.0 read.1.1.1.1.0 in
+    subst (λ (x : Said). Explained v.domain (rounds_with r.draft rounds x).run k) (sym same)
+    (told_ask r.draft w v a b r.sizes rounds event j k own.at count (own_explained w a r rounds.run j own told) did)
+told_own w v a b r s rounds line j k step.Round own count waits told read did new =
+    let same = one_saying _ read.0 BeginsRound read.1.0 read.1.1.1.1.1.0 in
+    subst (λ (x : Said). Explained v.domain (rounds_with r.draft rounds x).run k) (sym same) (told_stays w v rounds.run j k (own_explained w a r rounds.run j own told) did.0)
+told_own w v a b r s rounds line j k step.End own count waits told read did new =
+    let same = one_saying _ read.0 EndsRound read.1.0 read.1.1.1.1.1.1.0 in
+    subst (λ (x : Said). Explained v.domain (rounds_with r.draft rounds x).run k) (sym same)
+    (told_end w v a b rounds j k count waits (own_explained w a r rounds.run j own told) did)
+
+-- as many lines asked for rounds as the reader counts
+asked_by : (b : Bool) (n m : ℕ) (x y : Rounds) → n ≡ x.asked → m ≡ y.asked → (if b then n else m) ≡ (if b then x else y).asked
+asked_by true n m x y p q = p
+asked_by false n m x y p q = q
+
+pub rounds_count : (draft : Draft) (n : ℕ) (rounds : Rounds) (said : Said) → n ≡ rounds.asked → rounds_after draft n said ≡ (rounds_with draft rounds said).asked
+rounds_count draft n rounds (Goes next) count = count
+rounds_count draft n rounds (ListsAp address id) count = count
+rounds_count draft n rounds (ListsSta address) count = count
+rounds_count draft n rounds (Asks event) count =
+    asked_by (is_within draft) n (suc n) (with_waiting rounds (rounds.waiting ++ event ∷ [])) (with_round rounds (event ∷ [])) count (ap suc count)
+rounds_count draft n rounds BeginsRound count = count
+rounds_count draft n rounds EndsRound count = ap suc count
+
+-- what came from outside is as before
+same_by : {A : Type 0} (f : Rounds → A) (b : Bool) (x y : Rounds) (old : A) → f x ≡ old → f y ≡ old → f (if b then x else y) ≡ old
+same_by f true x y old p q = p
+same_by f false x y old p q = q
+
+pub same_drawn : (draft : Draft) (rounds : Rounds) (said : Said) → (rounds_with draft rounds said).drawn ≡ rounds.drawn
+same_drawn draft rounds (Goes next) = refl
+same_drawn draft rounds (ListsAp address id) = refl
+same_drawn draft rounds (ListsSta address) = refl
+same_drawn draft rounds (Asks event) =
+    same_by (λ (x : Rounds). x.drawn) (is_within draft) (with_waiting rounds (rounds.waiting ++ event ∷ [])) (with_round rounds (event ∷ [])) rounds.drawn refl refl
+same_drawn draft rounds BeginsRound = refl
+same_drawn draft rounds EndsRound = refl
+
+pub same_turns : (draft : Draft) (rounds : Rounds) (said : Said) → (rounds_with draft rounds said).turns ≡ rounds.turns
+same_turns draft rounds (Goes next) = refl
+same_turns draft rounds (ListsAp address id) = refl
+same_turns draft rounds (ListsSta address) = refl
+same_turns draft rounds (Asks event) =
+    same_by (λ (x : Rounds). x.turns) (is_within draft) (with_waiting rounds (rounds.waiting ++ event ∷ [])) (with_round rounds (event ∷ [])) rounds.turns refl refl
+same_turns draft rounds BeginsRound = refl
+same_turns draft rounds EndsRound = refl
+
+-- before the header is whole a line asks for no round
+none_asked : (r s : Reading) (says : Result Said Fault) (said : Said) (rounds : Rounds) (sizes : List ℕ) (asked : Asked) → IsHeader r.draft → says ≡ Ok said → TakesStep r.draft s.draft r.rounds sizes says asked
+    → rounds_with r.draft rounds said ≡ record rounds { last = Other }
+none_asked r s says said rounds sizes step.Nothing due is takes = ap (λ (x : Said). rounds_with r.draft rounds x) (one_saying says said (Goes s.draft) is takes.0)
+none_asked r s says said rounds sizes step.Network due is takes = ap (λ (x : Said). rounds_with r.draft rounds x) (one_saying says said (Goes s.draft) is takes.1.0)
+none_asked r s says said rounds sizes (step.Ap address id) due is takes = absurd (no_nodes r.draft takes.0 due takes.1.1.0)
+none_asked r s says said rounds sizes (step.Sta address) due is takes = absurd (no_nodes r.draft takes.0 due takes.1.1.0)
+none_asked r s says said rounds sizes (step.Event event) due is takes = absurd (no_asking r.draft sizes event due takes.1)
+none_asked r s says said rounds sizes step.Round due is takes = absurd (no_nodes r.draft takes.0 due takes.1.1.0)
+none_asked r s says said rounds sizes step.End due is takes = absurd (no_round r.draft takes.0 takes.1.0 due takes.1.1.1)
+none_asked r s says said rounds sizes step.Draw due is takes = absurd takes
+none_asked r s says said rounds sizes step.Turn due is takes = absurd takes
+
+pub journal_then : (rightly : Rightly) (r s : Reading) (world v : Option State) (a b : Waiting) (rounds : Rounds) (line : List ℕ) (j k : List Entry) (asked : Asked) → IsWorldOf world a r j → run_count world ≡ length rounds.run → events_of a ≡ rounds.waiting → IsJournal r.draft rounds.run j
+    → (read : HasRead r s (sizes_of j) line asked) → DidRun world v a b s.draft j k asked → IsWorldOf v b s k → IsJournal s.draft (rounds_with r.draft rounds read.0).run k
+journal_then rightly r s None v a b rounds line j k asked is count waits told read did new =
+    let none = none_asked r s _ read.0 rounds (sizes_of j) asked is.due read.1.0 read.1.1.1.1 in
+    told_begun rightly r s v a b (rounds_with r.draft rounds read.0).run j k asked is (ap (λ (x : Rounds). x.run) none ∙ no_run rounds.run 0 count refl) did.0 did.1.0 new
+journal_then rightly r s (Some w) None a b rounds line j k asked is count waits told read did new = absurd did
+journal_then rightly r s (Some w) (Some v) a b rounds line j k asked is count waits told read did new =
+    own_journal rightly v b s (rounds_with r.draft rounds read.0).run k new (told_own w v a b r s rounds line j k asked is count waits told read did.1 new)
+
+-- ---- what waits with it
+
+waits_ask : (draft : Draft) (w v : State) (a b : Waiting) (sizes : List ℕ) (rounds : Rounds) (event : Event) (j k : List Entry) → IsAt draft w a sizes j → events_of a ≡ rounds.waiting → DidAsk w v a b event j k
+    → events_of b ≡ (rounds_with draft rounds (Asks event)).waiting
+waits_ask AtVersion w v a b sizes rounds event j k at waits did = absurd at
+waits_ask AtSeed w v a b sizes rounds event j k at waits did = absurd at
+waits_ask (AtSsid seed) w v a b sizes rounds event j k at waits did = absurd at
+waits_ask (AtPsk seed ssid) w v a b sizes rounds event j k at waits did = absurd at
+waits_ask (AtAkm seed ssid psk) w v a b sizes rounds event j k at waits did = absurd at
+waits_ask (AtMdid seed ssid psk) w v a b sizes rounds event j k at waits did = absurd at
+waits_ask (AtNodes d) w v None None sizes rounds event j k at waits did = waits
+waits_ask (AtNodes d) w v None (Some more) sizes rounds event j k at waits did = absurd did
+waits_ask (AtNodes d) w v (Some events) b sizes rounds event j k at waits did = let some : Some events ≡ None = at.1 in absurd cc
+waits_ask (InRound d n) w v None b sizes rounds event j k at waits did = absurd at
+waits_ask (InRound d n) w v (Some events) None sizes rounds event j k at waits did = absurd did
+waits_ask (InRound d n) w v (Some events) (Some more) sizes rounds event j k at waits did = did.1 ∙ ap (λ (es : List Event). es ++ event ∷ []) waits
+
+waits_begun : (a b : Waiting) (rounds : Rounds) → a ≡ None → events_of a ≡ rounds.waiting → HasBegun b → events_of b ≡ rounds.waiting
+waits_begun a None rounds none waits new = absurd new
+waits_begun a (Some events) rounds none waits new = new ∙ sym (ap events_of none) ∙ waits
+
+waits_end : (w v : State) (a b : Waiting) (j k : List Entry) → DidEnd w v a b j k → events_of b ≡ []
+waits_end w v None b j k did = absurd did
+waits_end w v (Some events) None j k did = refl
+waits_end w v (Some events) (Some more) j k did = absurd did
+
+waits_own : (w v : State) (a b : Waiting) (r s : Reading) (rounds : Rounds) (line : List ℕ) (j k : List Entry) (asked : Asked) → IsOwn w a r j → events_of a ≡ rounds.waiting → (read : HasRead r s (sizes_of j) line asked) → Did w v a b j k asked
+    → events_of b ≡ (rounds_with r.draft rounds read.0).waiting
+waits_own w v a b r s rounds line j k step.Nothing own waits read did =
+    let same = one_saying _ read.0 (Goes s.draft) read.1.0 read.1.1.1.1.0 in
+    ap events_of did.1 ∙ waits ∙ ap (λ (x : Said). (rounds_with r.draft rounds x).waiting) (sym same)
+waits_own w v a b r s rounds line j k step.Network own waits read did = absurd did
+waits_own w v a b r s rounds line j k step.Draw own waits read did = absurd did
+waits_own w v a b r s rounds line j k step.Turn own waits read did = absurd did
+waits_own w v a b r s rounds line j k (step.Ap address id) own waits read did =
+    let same = one_saying _ read.0 (ListsAp address id) read.1.0 read.1.1.1.1.1.0 in
+    ap events_of did.1 ∙ waits ∙ ap (λ (x : Said). (rounds_with r.draft rounds x).waiting) (sym same)
+waits_own w v a b r s rounds line j k (step.Sta address) own waits read did =
+    let same = one_saying _ read.0 (ListsSta address) read.1.0 read.1.1.1.1.1.0 in
+    ap events_of did.1.1 ∙ waits ∙ ap (λ (x : Said). (rounds_with r.draft rounds x).waiting) (sym same)
+waits_own w v a b r s rounds line j k (step.Event event) own waits read did =
+    let same = one_saying _ read.0 (Asks event) read.1.0 read.1.1.1.1.0 in
+    waits_ask r.draft w v a b r.sizes rounds event j k own.at waits did ∙ ap (λ (x : Said). (rounds_with r.draft rounds x).waiting) (sym same)
+waits_own w v a b r s rounds line j k step.Round own waits read did =
+    let (d, (says, (old, room))) = read.1.1.1.1 in
+    let same = one_saying _ read.0 BeginsRound read.1.0 says in
+    waits_begun a b rounds (outside r.draft d w a r.sizes j own.at old).1 waits did.1 ∙ ap (λ (x : Said). (rounds_with r.draft rounds x).waiting) (sym same)
+waits_own w v a b r s rounds line j k step.End own waits read did =
+    let same = one_saying _ read.0 EndsRound read.1.0 read.1.1.1.1.1.1.0 in
+    waits_end w v a b j k did ∙ ap (λ (x : Said). (rounds_with r.draft rounds x).waiting) (sym same)
+
+pub waits_then : (r s : Reading) (world v : Option State) (a b : Waiting) (rounds : Rounds) (line : List ℕ) (j k : List Entry) (asked : Asked) → IsWorldOf world a r j → events_of a ≡ rounds.waiting
+    → (read : HasRead r s (sizes_of j) line asked) → DidRun world v a b s.draft j k asked → events_of b ≡ (rounds_with r.draft rounds read.0).waiting
+waits_then r s None v a b rounds line j k asked is waits read did =
+    let none = none_asked r s _ read.0 rounds (sizes_of j) asked is.due read.1.0 read.1.1.1.1 in
+    ap events_of did.1.1 ∙ waits ∙ ap (λ (x : Rounds). x.waiting) (sym none)
+waits_then r s (Some w) None a b rounds line j k asked is waits read did = absurd did
+waits_then r s (Some w) (Some v) a b rounds line j k asked is waits read did = waits_own w v a b r s rounds line j k asked is waits read did.1
+
+-- ---- how many rounds were run with it
+
+runs_ask : (draft : Draft) (w v : State) (a b : Waiting) (sizes : List ℕ) (rounds : Rounds) (event : Event) (j k : List Entry) → IsAt draft w a sizes j → w.rounds ≡ length rounds.run → DidAsk w v a b event j k
+    → v.rounds ≡ length (rounds_with draft rounds (Asks event)).run
+runs_ask AtVersion w v a b sizes rounds event j k at count did = absurd at
+runs_ask AtSeed w v a b sizes rounds event j k at count did = absurd at
+runs_ask (AtSsid seed) w v a b sizes rounds event j k at count did = absurd at
+runs_ask (AtPsk seed ssid) w v a b sizes rounds event j k at count did = absurd at
+runs_ask (AtAkm seed ssid psk) w v a b sizes rounds event j k at count did = absurd at
+runs_ask (AtMdid seed ssid psk) w v a b sizes rounds event j k at count did = absurd at
+runs_ask (AtNodes d) w v None None sizes rounds event j k at count did = did.rounds ∙ ap suc count
+runs_ask (AtNodes d) w v None (Some more) sizes rounds event j k at count did = absurd did
+runs_ask (AtNodes d) w v (Some events) b sizes rounds event j k at count did = let some : Some events ≡ None = at.1 in absurd cc
+runs_ask (InRound d n) w v None b sizes rounds event j k at count did = absurd at
+runs_ask (InRound d n) w v (Some events) None sizes rounds event j k at count did = absurd did
+runs_ask (InRound d n) w v (Some events) (Some more) sizes rounds event j k at count did = ap (λ (x : State). x.rounds) did.0.0 ∙ count
+
+runs_end : (w v : State) (a b : Waiting) (n : ℕ) (j k : List Entry) → w.rounds ≡ n → DidEnd w v a b j k → v.rounds ≡ suc n
+runs_end w v None b n j k count did = absurd did
+runs_end w v (Some events) None n j k count did = did.rounds ∙ ap suc count
+runs_end w v (Some events) (Some more) n j k count did = absurd did
+
+runs_own : (w v : State) (a b : Waiting) (r s : Reading) (rounds : Rounds) (line : List ℕ) (j k : List Entry) (asked : Asked) → IsOwn w a r j → w.rounds ≡ length rounds.run → (read : HasRead r s (sizes_of j) line asked) → Did w v a b j k asked
+    → v.rounds ≡ length (rounds_with r.draft rounds read.0).run
+runs_own w v a b r s rounds line j k step.Nothing own count read did =
+    let same = one_saying _ read.0 (Goes s.draft) read.1.0 read.1.1.1.1.0 in
+    ap (λ (x : State). x.rounds) did.0.0 ∙ count ∙ ap (λ (x : Said). length (rounds_with r.draft rounds x).run) (sym same)
+runs_own w v a b r s rounds line j k step.Network own count read did = absurd did
+runs_own w v a b r s rounds line j k step.Draw own count read did = absurd did
+runs_own w v a b r s rounds line j k step.Turn own count read did = absurd did
+runs_own w v a b r s rounds line j k (step.Ap address id) own count read did =
+    let same = one_saying _ read.0 (ListsAp address id) read.1.0 read.1.1.1.1.1.0 in
+    did.0.rounds ∙ count ∙ ap (λ (x : Said). length (rounds_with r.draft rounds x).run) (sym same)
+runs_own w v a b r s rounds line j k (step.Sta address) own count read did =
+    let same = one_saying _ read.0 (ListsSta address) read.1.0 read.1.1.1.1.1.0 in
+    did.0.rounds ∙ count ∙ ap (λ (x : Said). length (rounds_with r.draft rounds x).run) (sym same)
+runs_own w v a b r s rounds line j k (step.Event event) own count read did =
+    let same = one_saying _ read.0 (Asks event) read.1.0 read.1.1.1.1.0 in
+    runs_ask r.draft w v a b r.sizes rounds event j k own.at count did ∙ ap (λ (x : Said). length (rounds_with r.draft rounds x).run) (sym same)
+runs_own w v a b r s rounds line j k step.Round own count read did =
+    let same = one_saying _ read.0 BeginsRound read.1.0 read.1.1.1.1.1.0 in
+    ap (λ (x : State). x.rounds) did.0.0 ∙ count ∙ ap (λ (x : Said). length (rounds_with r.draft rounds x).run) (sym same)
+runs_own w v a b r s rounds line j k step.End own count read did =
+    let same = one_saying _ read.0 EndsRound read.1.0 read.1.1.1.1.1.1.0 in
+    runs_end w v a b (length rounds.run) j k count did ∙ ap (λ (x : Said). length (rounds_with r.draft rounds x).run) (sym same)
+
+pub runs_then : (r s : Reading) (world v : Option State) (a b : Waiting) (rounds : Rounds) (line : List ℕ) (j k : List Entry) (asked : Asked) → IsWorldOf world a r j → run_count world ≡ length rounds.run
+    → (read : HasRead r s (sizes_of j) line asked) → DidRun world v a b s.draft j k asked → run_count v ≡ length (rounds_with r.draft rounds read.0).run
+runs_then r s None None a b rounds line j k asked is count read did =
+    count ∙ sym (ap (λ (x : Rounds). length x.run) (none_asked r s _ read.0 rounds (sizes_of j) asked is.due read.1.0 read.1.1.1.1))
+runs_then r s None (Some v) a b rounds line j k asked is count read did =
+    begun_none s.draft asked v did.0 ∙ count ∙ sym (ap (λ (x : Rounds). length x.run) (none_asked r s _ read.0 rounds (sizes_of j) asked is.due read.1.0 read.1.1.1.1))
+runs_then r s (Some w) None a b rounds line j k asked is count read did = absurd did
+runs_then r s (Some w) (Some v) a b rounds line j k asked is count read did = runs_own w v a b r s rounds line j k asked is count read did.1

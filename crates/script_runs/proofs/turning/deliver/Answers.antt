@@ -1,0 +1,77 @@
+use Rattle.std.proofs.Common.{◌≡◌, ◌≢◌, ℕ, List, [], ◌++◌, drop, length, refl, ap, subst, ◌∙◌, arith}
+use Rattle.std.specs.Prelude.{reverse}
+use Rattle.run_journal.specs.declared.domain.Domain.{Domain}
+use Rattle.domain_links.specs.NodeOrder.{node_at}
+use Rattle.domain_links.specs.Sends.{Send, sends}
+use Rattle.domain_links.specs.Telling.{Tell}
+use Rattle.domain_links.proofs.Taking.{delivers_none, delivers_ok, delivers_err}
+use Rattle.script_runs.specs.Turning.{IsTaken, sent_by_then, stage}
+use Rattle.script_runs.proofs.Turned.{same_stage, step_longer, step_sends, taken_round}
+use Rattle.script_runs.proofs.Staying.{further_none, further_same, further_round, laid_unasked, sends_kept}
+use Rattle.script_runs.proofs.turning.deliver.Goals as goal
+
+pub returns-in_default-clause-delivers : goal.returns-in_default-clause-delivers
+returns-in_default-clause-delivers g c = delivers_none g.L.Link.told c.args.world.now.domain IsTaken (sent_by_then c.args.world.now.domain) c.args.place c.args.octets.now _ _ _ _ refl
+
+pub returns-in_default-event-clause-delivers : goal.returns-in_default-event-clause-delivers
+returns-in_default-event-clause-delivers g c =
+    delivers_none g.L.Link.told c.args.world.now.domain IsTaken (sent_by_then c.args.world.now.domain) c.args.place c.args.octets.now _ _ _ _ (same_stage _ _ _ _ c.in_default-event.ensures.same c.in_default-event.ensures.kept)
+
+pub news-requires : goal.news-requires
+news-requires g c = omega (arith, c.len-from.ensures, step_longer c.args.world.now.domain c.args.world.now.rounds _ c.args.journal.now.entries c.event.new.journal.entries c.in-Ok-event.ensures.step)
+
+pub returns-in-Ok-send_entries-clause-delivers : goal.returns-in-Ok-send_entries-clause-delivers
+returns-in-Ok-send_entries-clause-delivers g c =
+    let w = c.args.world.now in
+    let j = c.args.journal.now.entries in
+    let k = c.event.new.journal.entries in
+    let news = c.news.result.now in
+    let out = subst (λ (d : Domain). (left : ℕ → List (List ℕ)) (b : List Send) → Tell g.L.Link.told d c.args.links.now.items left b → Tell g.L.Link.told d c.send_entries.new.links.items left (b ++ sends d news))
+    (c.domain-2.ensures ∙ c.in-Ok-event.ensures.domain) c.in-Ok-send_entries.ensures.sent in
+    delivers_ok g.L.Link.told w.domain IsTaken (sent_by_then w.domain) c.args.place c.args.octets.now _ _ (stage w j) (stage c.event.new.self k) (sends w.domain news) _
+    (taken_round w c.event.new.self _ c.node_at-to.result c.args.octets.now c.in-Ok.octets j k (c.node_at-to.ensures ∙ ap (λ (d : Domain). node_at d c.args.place) c.domain.ensures) c.in-Ok.ensures c.in-Ok-event.ensures.domain c.in-Ok-event.ensures.rounds c.in-Ok-event.ensures.step)
+    (step_sends w.domain w.rounds _ j k news c.in-Ok-event.ensures.step (c.news.ensures ∙ ap (λ (n : ℕ). drop n (reverse k)) c.len-from.ensures)) out
+
+pub returns-clause-delivers : goal.returns-clause-delivers
+returns-clause-delivers g c =
+    let w = c.args.world.now in
+    let j = c.args.journal.now.entries in
+    let k = c.event.new.journal.entries in
+    let news = c.news.result.now in
+    let out = subst (λ (d : Domain). (left : ℕ → List (List ℕ)) (b : List Send) → Tell g.L.Link.told d c.args.links.now.items left b
+    → (front rest : List Send) × (front ++ rest ≡ sends d news) × (rest ≢ []) × Tell g.L.Link.told d c.send_entries.new.links.items left (b ++ front))
+    (c.domain-2.ensures ∙ c.in-Ok-event.ensures.domain) c.in-Err.ensures.sent in
+    delivers_err g.L.Link.told w.domain IsTaken (sent_by_then w.domain) c.args.place c.args.octets.now _ _ (stage w j) (stage c.event.new.self k) (sends w.domain news) _
+    (taken_round w c.event.new.self _ c.node_at-to.result c.args.octets.now c.in-Ok.octets j k (c.node_at-to.ensures ∙ ap (λ (d : Domain). node_at d c.args.place) c.domain.ensures) c.in-Ok.ensures c.in-Ok-event.ensures.domain c.in-Ok-event.ensures.rounds c.in-Ok-event.ensures.step)
+    (step_sends w.domain w.rounds _ j k news c.in-Ok-event.ensures.step (c.news.ensures ∙ ap (λ (n : ℕ). drop n (reverse k)) c.len-from.ensures)) out
+
+pub returns-in_default-clause-further : goal.returns-in_default-clause-further
+returns-in_default-clause-further g c = further_none 1 _ c.requires.own
+
+pub returns-in_default-clause-laid : goal.returns-in_default-clause-laid
+returns-in_default-clause-laid g c = laid_unasked g.L.Link.faults c.args.links.now.items
+
+pub returns-in_default-event-clause-further : goal.returns-in_default-event-clause-further
+returns-in_default-event-clause-further g c = further_same 1 _ _ _ _ c.event.ensures.domain c.in_default-event.ensures.same c.event.ensures.own
+
+pub returns-in_default-event-clause-laid : goal.returns-in_default-event-clause-laid
+returns-in_default-event-clause-laid g c = laid_unasked g.L.Link.faults c.args.links.now.items
+
+pub returns-in-Ok-send_entries-clause-further : goal.returns-in-Ok-send_entries-clause-further
+returns-in-Ok-send_entries-clause-further g c = further_round _ _ _ _ c.event.ensures.domain c.in-Ok-event.ensures.rounds c.event.ensures.own
+
+pub returns-clause-further : goal.returns-clause-further
+returns-clause-further g c = further_round _ _ _ _ c.event.ensures.domain c.in-Ok-event.ensures.rounds c.event.ensures.own
+
+pub returns-clause-laid : goal.returns-clause-laid
+returns-clause-laid g c = record {
+  len = c.send_entries.ensures.len;
+  failed = λ e. c.in-Err.ensures.cause e;
+  kept = λ h. sends_kept g.L.Link.faults _ _ c.in-Err.error c.in-Err.ensures.kept h;
+}
+
+pub send_entries-requires-clause-aps : goal.send_entries-requires-clause-aps
+send_entries-requires-clause-aps g c = omega (arith, c.event.ensures.own.form.few_aps, ap (λ (d : Domain). length d.aps) c.domain-2.ensures)
+
+pub send_entries-requires-clause-stas : goal.send_entries-requires-clause-stas
+send_entries-requires-clause-stas g c = omega (arith, c.event.ensures.own.form.few_stas, ap (λ (d : Domain). length d.stas) c.domain-2.ensures)

@@ -1,0 +1,86 @@
+use Rattle.std.proofs.Common.{◌≡◌, ◌+◌, ◌<◌, ap, sym, subst, ◌∙◌, arith, refl, Ok, Err}
+use Rattle.run_journal.specs.declared.domain.Domain.{Domain}
+use Rattle.domain_links.specs.NodeOrder.{count}
+use Rattle.domain_links.specs.Telling.{Tell, left_after}
+use Rattle.domain_links.proofs.Taking.{Takes-start, Takes-more, Takes-stop, Takes-past, Takes-wide, none_left, Takes-same}
+use Rattle.script_runs.specs.Outer.{sends_for}
+use Rattle.script_runs.specs.Turning.{TakesIn, IsTaken, sent_by_then, stage}
+use Rattle.script_runs.proofs.Turned.{laid_same, laid_ok, laid_err, laid_none, taken_further, taken_so_far}
+use Rattle.script_runs.proofs.turning.take_all.Goals as goal
+
+pub loop-init : goal.loop-init
+loop-init g c =
+    let d = c.args.world.now.domain in
+    record { len = refl; room = refl; own = c.requires.own; network = refl; few = omega arith; same = refl; takes = Takes-start g.L.Link.told d IsTaken (sent_by_then d) _ _ _ _ }
+
+pub take_next-requires-clause-within : goal.take_next-requires-clause-within
+take_next-requires-clause-within g c = subst (λ (d : Domain). c.args.place < count d) (sym c.loop.invariant.network) c.requires.within
+
+pub take_next-requires-clause-links : goal.take_next-requires-clause-links
+take_next-requires-clause-links g c = c.loop.invariant.len ∙ c.requires.links ∙ ap count (sym c.loop.invariant.network)
+
+pub take_next-requires-clause-few : goal.take_next-requires-clause-few
+take_next-requires-clause-few g c = omega (arith, c.loop.invariant.few, c.requires.few, c.loop-test.true)
+
+pub returns-in-Ok-false-clause-takes : goal.returns-in-Ok-false-clause-takes
+returns-in-Ok-false-clause-takes g c =
+    let d = c.args.world.now.domain in
+    let so_far = c.loop.invariant.takes in
+    let here = subst (λ (x : Domain). TakesIn g.L.Link.told x c.args.place 1 c.loop.links.items c.take_next.new.links.items (stage c.loop.world c.loop.journal.entries) (stage c.take_next.new.world c.take_next.new.journal.entries) (Ok c.in-Ok-false.field-0)) c.loop.invariant.network c.in-Ok-false.ensures.takes in
+    let empty = c.take_next.ensures.empty (c.in-Ok-false.is ∙ ap Ok c.in-Ok-false.field-0-test) in
+    Takes-past {E = Unit {0}} g.L.Link.told d IsTaken (sent_by_then d) c.args.place (c.loop.counter + 1) 16 _ _ _ _ _ _ (omega (arith, c.loop-test.true))
+    (λ left tell.
+    let t = so_far.tells left tell in
+    none_left left c.args.place c.loop.counter
+    (empty (left_after left c.args.place c.loop.counter) (subst (λ (x : Domain). Tell g.L.Link.told x c.loop.links.items (left_after left c.args.place c.loop.counter) (sends_for x c.loop.journal.entries)) (sym c.loop.invariant.network) t.tell)))
+    (Takes-more g.L.Link.told d IsTaken (sent_by_then d) _ _ _ _ _ _ _ _ _ _ _ (tt {0}) so_far here)
+
+pub returns-in-Ok-false-clause-further : goal.returns-in-Ok-false-clause-further
+returns-in-Ok-false-clause-further g c =
+    taken_further c.loop.counter 16 (stage c.args.world.now c.args.journal.now.entries) (stage c.loop.world c.loop.journal.entries) (stage c.take_next.new.world c.take_next.new.journal.entries) (omega (arith, c.loop-test.true)) c.loop.invariant.network c.loop.invariant.few c.in-Ok-false.ensures.further
+
+pub returns-in-Ok-false-clause-laid : goal.returns-in-Ok-false-clause-laid
+returns-in-Ok-false-clause-laid g c =
+    laid_ok g.L.Link.faults c.args.links.now.items c.loop.links.items c.take_next.new.links.items c.in-Ok-false.field-0 (tt {0}) c.loop.invariant.len c.loop.invariant.same c.in-Ok-false.ensures.laid
+
+pub returns-in-Err-clause-further : goal.returns-in-Err-clause-further
+returns-in-Err-clause-further g c =
+    taken_further c.loop.counter 16 (stage c.args.world.now c.args.journal.now.entries) (stage c.loop.world c.loop.journal.entries) (stage c.take_next.new.world c.take_next.new.journal.entries) (omega (arith, c.loop-test.true)) c.loop.invariant.network c.loop.invariant.few c.in-Err.ensures.further
+
+pub returns-in-Err-clause-laid : goal.returns-in-Err-clause-laid
+returns-in-Err-clause-laid g c =
+    laid_err g.L.Link.faults c.args.links.now.items c.loop.links.items c.take_next.new.links.items c.in-Err.error c.loop.invariant.len c.loop.invariant.same c.in-Err.ensures.laid
+
+pub returns-in-Err-clause-takes : goal.returns-in-Err-clause-takes
+returns-in-Err-clause-takes g c =
+    let d = c.args.world.now.domain in
+    let here = subst (λ (x : Domain). TakesIn g.L.Link.told x c.args.place 1 c.loop.links.items c.take_next.new.links.items (stage c.loop.world c.loop.journal.entries) (stage c.take_next.new.world c.take_next.new.journal.entries) (Err c.in-Err.error)) c.loop.invariant.network c.in-Err.ensures.takes in
+    Takes-wide {T = Unit {0}} g.L.Link.told d IsTaken (sent_by_then d) c.args.place (c.loop.counter + 1) 16 _ _ _ _ c.in-Err.error _ (omega (arith, c.loop-test.true))
+    (Takes-stop g.L.Link.told d IsTaken (sent_by_then d) _ _ _ _ _ _ _ _ _ _ _ _ c.loop.invariant.takes here)
+
+pub loop-preserved : goal.loop-preserved
+loop-preserved g c =
+    let d = c.args.world.now.domain in
+    let here = subst (λ (x : Domain). TakesIn g.L.Link.told x c.args.place 1 c.loop.links.items c.take_next.new.links.items (stage c.loop.world c.loop.journal.entries) (stage c.take_next.new.world c.take_next.new.journal.entries) (Ok c.in-Ok-true.field-0)) c.loop.invariant.network c.in-Ok-true.ensures.takes in
+    record {
+      len = c.in-Ok-true.ensures.laid.len ∙ c.loop.invariant.len;
+      room = omega (arith, c.take_next.auto.buf, c.loop.invariant.room);
+      own = c.in-Ok-true.ensures.further.own;
+      network = c.in-Ok-true.ensures.further.network ∙ c.loop.invariant.network;
+      few = omega (arith, c.in-Ok-true.ensures.further.few, c.loop.invariant.few);
+      same = laid_same g.L.Link.faults c.loop.links.items c.take_next.new.links.items c.in-Ok-true.field-0 c.in-Ok-true.ensures.laid ∙ c.loop.invariant.same;
+      takes = Takes-more g.L.Link.told d IsTaken (sent_by_then d) _ _ _ _ _ _ _ _ _ _ _ _ c.loop.invariant.takes here;
+    }
+
+pub returns-clause-further : goal.returns-clause-further
+returns-clause-further g c =
+    taken_so_far c.loop.counter 16 (stage c.args.world.now c.args.journal.now.entries) (stage c.loop.world c.loop.journal.entries) (omega (arith, c.loop.auto.counter-end)) c.loop.invariant.network c.loop.invariant.few c.loop.invariant.own
+
+pub returns-clause-laid : goal.returns-clause-laid
+returns-clause-laid g c = laid_none g.L.Link.faults c.args.links.now.items c.loop.links.items (tt {0}) c.loop.invariant.len c.loop.invariant.same
+
+pub returns-clause-takes : goal.returns-clause-takes
+returns-clause-takes g c =
+    let d = c.args.world.now.domain in
+    let all : c.loop.counter ≡ 16 = omega (arith, c.loop-test.false, c.loop.auto.counter-end) in
+    Takes-same g.L.Link.told d IsTaken (sent_by_then d) _ _ _ _ _ _ _ (tt {0}) _ all c.loop.invariant.takes

@@ -1,0 +1,16 @@
+use Rattle.std.proofs.Common.{◌≡◌, ◌+◌, ◌*◌, ◌≤◌, length, Ok}
+use Rattle.domain_links.specs.Telling.{SameFaults}
+use Rattle.domain_world.specs.Owning.{Owns}
+use Rattle.script_runs.specs.Turning.{TurnsIn, stage}
+use Rattle.script_runs.proofs.turning.turn.Given as goal
+
+-- the nodes at the first places took theirs
+abbrev pub invariant-loop-place : goal.invariant-loop-place
+invariant-loop-place g l = record {
+  len : length l.links.items ≡ length l.fn.links.items;
+  own : Owns l.world l.journal.entries;
+  network : l.world.domain ≡ l.fn.world.domain;
+  few : l.world.rounds ≤ l.fn.world.rounds + 16 * l.place;
+  same : SameFaults g.L.Link.faults l.fn.links.items l.links.items;
+  takes : TurnsIn {T = Unit {0}} g.L.Link.told l.fn.world.domain l.place l.fn.links.items l.links.items (stage l.fn.world l.fn.journal.entries) (stage l.world l.journal.entries) (Ok (tt {0}));
+}

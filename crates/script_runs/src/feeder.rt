@@ -1,0 +1,318 @@
+//! A script, octet by octet.
+
+ghost use Rattle.std.specs.Prelude.{◌≡◌, ◌≢◌, ◌≤◌, ◌+◌, ◌-◌, ◌<◌, ◌++◌, ◌∷◌, [], take, drop};
+ghost use Rattle.std.specs.Prelude.{get_or, suc, ℕ, List, MatchResult, OnOk, OnErr, vec_len};
+ghost use Rattle.std.specs.Prelude.{vec_capacity, length, IfOk, true};
+ghost use Rattle.run_journal.specs.declared.acts.Entry.{Entry as AnyEntry};
+ghost use Rattle.frame_script.specs.Forms.{form_in};
+ghost use Rattle.frame_script.specs.Script.{Draft, AtVersion};
+ghost use Rattle.script_runs.specs.Outer.{Outer, IsBlamed, IsMet, Nobody, outer};
+ghost use Rattle.script_runs.specs.Script.{NoFeed, Rounds, no_rounds, point_of, without_return};
+ghost use Rattle.script_runs.specs.States.{Stands, IsReady, TellsLine};
+ghost use Rattle.script_runs.specs.Stops.{Closes, EndsAt, Halts, IsRefusal, Stopped, StopsLine};
+ghost use Rattle.script_runs.specs.Stops.{found_blame, stop_blame};
+ghost use Rattle.script_runs.specs.Story.{most_read};
+
+use crate::host::Host;
+use crate::state::ScriptState;
+use crate::stops::{Found, Stop, Undone};
+use domain_base::{Air, Draws, NoMemory};
+use domain_world::Gate;
+use frame_script::{Mode, Refusal, ScriptReader};
+use run_journal::Journal;
+use std::alloc::Global;
+use std::thread::Threads;
+
+// A script has at most so many lines.
+const MOST_LINES: u64 = 65_536;
+
+// A line has at most so many octets, without its line feed.
+const MOST_OCTETS: usize = 8_192;
+
+/// A script so far: the front of its open line, how many whole lines came, and what they told.
+#[derive(Drop)]
+pub struct LineFeeder {
+    /// The octets of the open line so far: at most 8,192, and none is a line feed.
+    pub line: Vec<u8>,
+    /// How many whole lines came before it: at most 65,536.
+    pub lines: u64,
+    /// What the whole lines told.
+    pub state: ScriptState,
+    ghost roomy: { 8192 ≤ vec_capacity line },
+    ghost short: { vec_len line ≤ 8192 },
+    ghost few: { lines ≤ 65536 },
+}
+
+// What stood before a line feed, without a carriage return at its end.
+#[tactic(auto, unfolding(crate::specs::Script::without_return))]
+fn without_return(line: &[u8]) -> &[u8]
+    ensures { result.now ≡ without_return line.now }
+{
+    let size = line.len();
+    if size > 0 && line[size - 1] == b'\r' {
+        &line[..size - 1]
+    } else {
+        line
+    }
+}
+
+// That the line behind so many others is refused so.
+fn refused(state: &ScriptState, lines: u64, line: &[u8], refusal: Refusal) -> Stop
+    requires { lines ≤ 65536 }
+    ensures { result ≡ Stop.Refused (suc lines) refusal
+        (form_in state.now.reader.mode state.now.reader.draft state.now.reader.rounds line.now) }
+{
+    Stop::Refused(lines + 1, refusal, state.reader.form(line))
+}
+
+// Takes a line, without its end, behind so many others, and does what it asks for.
+#[tactic(auto, using(crate::proofs::Lines::stopping))]
+fn take_line<R: Threads + Sync, A: Air, D: Draws, G: Gate + Sync>(
+    state: &mut ScriptState,
+    host: &Host<'_, R, G>,
+    lines: u64,
+    line: &[u8],
+    air: &mut A,
+    draws: &mut D,
+    links: &mut Vec<A::L>,
+    journal: &mut Journal,
+) -> Result<(), Stop>
+    requires ready { IsReady state.old (length links.old.items) lines journal.old.entries }
+    requires count { lines ≤ 65536 }
+    ensures ready { OnOk result (IsReady state.new (length links.new.items) (suc lines)
+        journal.new.entries) }
+    ensures few { OnOk result (lines < 65536) }
+    ensures mode { state.new.reader.mode ≡ state.old.reader.mode }
+    ensures told { (draft : Draft) (rounds : Rounds) (first : Outer A.L)
+        → Stands state.old draft rounds journal.old.entries
+        → IsMet A.L.told first (outer links.old.items (A.told air.old) (D.last draws.old))
+        state.old.reader.mode draft rounds journal.old.entries
+        → MatchResult result
+        (λ _. TellsLine A.L.told first
+        (outer links.new.items (A.told air.new) (D.last draws.new))
+        line.now draft rounds state.new journal.old.entries journal.new.entries)
+        (λ stop. StopsLine stop A.L.told first
+        (outer links.old.items (A.told air.old) (D.last draws.old))
+        (outer links.new.items (A.told air.new) (D.last draws.new))
+        state.old.reader.mode lines line.now draft rounds
+        journal.old.entries journal.new.entries) }
+    ensures blamed { MatchResult result
+        (λ _. IsBlamed A.L.faults Nobody links.old.items links.new.items
+        (A.faults air.old) (A.faults air.new) (D.faults draws.old) (D.faults draws.new))
+        (λ stop. IsBlamed A.L.faults (stop_blame stop) links.old.items links.new.items
+        (A.faults air.old) (A.faults air.new) (D.faults draws.old) (D.faults draws.new)) }
+{
+    if lines >= MOST_LINES {
+        return Err(refused(state, lines, line, Refusal::ManyLines));
+    }
+    match state.take(host, line, air, draws, links, journal) {
+        Ok(()) => Ok(()),
+        Err(Undone::Refused(refusal)) => Err(refused(state, lines, line, refusal)),
+        Err(Undone::NoMemory) => Err(Stop::NoMemory),
+        Err(Undone::DrawFault) => Err(Stop::DrawFault),
+        Err(Undone::Broken(error)) => Err(Stop::Broken(error)),
+    }
+}
+
+// How the reading ends at the end of the source, behind so many lines: a round that is open there
+// lacks its end.
+fn ended(reader: &ScriptReader, lines: u64) -> Found
+    requires { lines ≤ 65536 }
+    ensures { EndsAt result lines reader.now.draft }
+{
+    match reader.close() {
+        Ok(()) => Found::Whole,
+        Err(refusal) => Found::Unended(lines + 1, refusal),
+    }
+}
+
+// Where the octets of a line end that go on at a place: before the next line feed, or at the end.
+fn line_end(octets: &[u8], at: usize) -> usize
+    requires { at ≤ length octets.now }
+    ensures order { (at ≤ result) × (result ≤ length octets.now) }
+    ensures open_line { NoFeed (take (result - at) (drop at octets.now)) }
+    ensures onward { at < length octets.now → get_or octets.now at 0 ≢ 10 → at < result }
+{
+    let mut end = at;
+    while end < octets.len() && octets[end] != b'\n' {
+        end += 1;
+    }
+    end
+}
+
+impl LineFeeder {
+    ghost use Rattle.script_runs.specs.Feeders.{HasCome, Reached};
+
+    /// Before the first octet of a script of a run of that kind.
+    pub fn new(alloc: Global, mode: Mode) -> Result<Self, NoMemory>
+        ensures ready { IfOk result (λ s. IsReady s.state 0 s.lines []) }
+        ensures mode { IfOk result (λ s. s.state.reader.mode ≡ mode) }
+        ensures come { IfOk result (λ s. HasCome s [] AtVersion no_rounds []) }
+    {
+        let line = Vec::with_capacity(alloc, MOST_OCTETS)?;
+        Ok(LineFeeder {
+            line,
+            lines: 0,
+            state: ScriptState::start(alloc, mode),
+        })
+    }
+
+    // Takes octets of the open line, of which none is a line feed.
+    fn add(&mut self, octets: &[u8]) -> Result<(), Stop>
+        requires { NoFeed octets.now }
+        ensures same { (self.new.lines ≡ self.old.lines) × (self.new.state ≡ self.old.state) }
+        ensures come { (before : List ℕ) (draft : Draft) (rounds : Rounds) (j : List AnyEntry)
+            → HasCome self.old before draft rounds j → MatchResult result
+            (λ _. HasCome self.new (before ++ octets.now) draft rounds j)
+            (λ stop. Stopped 1 stop (before ++ octets.now)
+            (point_of self.old.state.reader.mode j draft rounds)) }
+        ensures refused { MatchResult result (λ _. Unit {0}) (λ stop. IsRefusal stop) }
+    {
+        if octets.len() > MOST_OCTETS - self.line.len() {
+            return Err(refused(&self.state, self.lines, &self.line, Refusal::LongLine));
+        }
+        match self.line.extend_from_slice(octets) {
+            Ok(()) => Ok(()),
+            Err(_) => unreachable!(),
+        }
+    }
+
+    // Ends the open line, and does what it asks for.
+    fn end_line<R: Threads + Sync, A: Air, D: Draws, G: Gate + Sync>(
+        &mut self,
+        host: &Host<'_, R, G>,
+        air: &mut A,
+        draws: &mut D,
+        links: &mut Vec<A::L>,
+        journal: &mut Journal,
+    ) -> Result<(), Stop>
+        requires { IsReady self.old.state (length links.old.items) self.old.lines
+            journal.old.entries }
+        ensures ready { OnOk result (IsReady self.new.state (length links.new.items) self.new.lines
+            journal.new.entries) }
+        ensures mode { self.new.state.reader.mode ≡ self.old.state.reader.mode }
+        ensures reached { (first : Outer A.L) (before : List ℕ)
+            → Reached A.L.told first (outer links.old.items (A.told air.old) (D.last draws.old))
+            self.old before journal.old.entries → MatchResult result
+            (λ _. Reached A.L.told first
+            (outer links.new.items (A.told air.new) (D.last draws.new))
+            self.new (before ++ 10 ∷ []) journal.new.entries)
+            (λ stop. Halts A.L.told first
+            (outer links.new.items (A.told air.new) (D.last draws.new))
+            self.old.state.reader.mode 1 stop (before ++ 10 ∷ []) journal.new.entries) }
+        ensures blamed { MatchResult result
+            (λ _. IsBlamed A.L.faults Nobody links.old.items links.new.items
+            (A.faults air.old) (A.faults air.new) (D.faults draws.old) (D.faults draws.new))
+            (λ stop. IsBlamed A.L.faults (stop_blame stop) links.old.items links.new.items
+            (A.faults air.old) (A.faults air.new) (D.faults draws.old) (D.faults draws.new)) }
+    {
+        let text = without_return(&self.line);
+        let taken = take_line(
+            &mut self.state,
+            host,
+            self.lines,
+            text,
+            air,
+            draws,
+            links,
+            journal,
+        );
+        match taken {
+            Ok(()) => {
+                self.lines += 1;
+                self.line.clear();
+                Ok(())
+            }
+            Err(stop) => Err(stop),
+        }
+    }
+
+    /// Takes the octets of one read. A line is run as soon as its end was read.
+    pub fn feed<R: Threads + Sync, A: Air, D: Draws, G: Gate + Sync>(
+        &mut self,
+        host: &Host<'_, R, G>,
+        octets: &[u8],
+        air: &mut A,
+        draws: &mut D,
+        links: &mut Vec<A::L>,
+        journal: &mut Journal,
+    ) -> Result<(), Stop>
+        requires ready { IsReady self.old.state (length links.old.items) self.old.lines
+            journal.old.entries }
+        requires few { length octets.now ≤ most_read }
+        ensures ready { OnOk result (IsReady self.new.state (length links.new.items) self.new.lines
+            journal.new.entries) }
+        ensures mode { self.new.state.reader.mode ≡ self.old.state.reader.mode }
+        ensures reached { (first : Outer A.L) (before : List ℕ)
+            → Reached A.L.told first (outer links.old.items (A.told air.old) (D.last draws.old))
+            self.old before journal.old.entries → MatchResult result
+            (λ _. Reached A.L.told first
+            (outer links.new.items (A.told air.new) (D.last draws.new))
+            self.new (before ++ octets.now) journal.new.entries)
+            (λ stop. Halts A.L.told first
+            (outer links.new.items (A.told air.new) (D.last draws.new))
+            self.old.state.reader.mode most_read stop (before ++ octets.now) journal.new.entries) }
+        ensures blamed { MatchResult result
+            (λ _. IsBlamed A.L.faults Nobody links.old.items links.new.items
+            (A.faults air.old) (A.faults air.new) (D.faults draws.old) (D.faults draws.new))
+            (λ stop. IsBlamed A.L.faults (stop_blame stop) links.old.items links.new.items
+            (A.faults air.old) (A.faults air.new) (D.faults draws.old) (D.faults draws.new)) }
+    {
+        let mut at = 0;
+        while at < octets.len() {
+            if octets[at] == b'\n' {
+                match self.end_line(host, air, draws, links, journal) {
+                    Ok(()) => at += 1,
+                    Err(stop) => return Err(stop),
+                }
+            } else {
+                let end = line_end(octets, at);
+                match self.add(&octets[at..end]) {
+                    Ok(()) => at = end,
+                    Err(stop) => return Err(stop),
+                }
+            }
+        }
+        Ok(())
+    }
+
+    /// Ends the script. An open line counts as a line, and so does an empty source. The events of a
+    /// round that is open are not run.
+    pub fn finish<R: Threads + Sync, A: Air, D: Draws, G: Gate + Sync>(
+        &mut self,
+        host: &Host<'_, R, G>,
+        air: &mut A,
+        draws: &mut D,
+        links: &mut Vec<A::L>,
+        journal: &mut Journal,
+    ) -> Found
+        requires { IsReady self.old.state (length links.old.items) self.old.lines
+            journal.old.entries }
+        ensures told { (first : Outer A.L) (octets : List ℕ)
+            → Reached A.L.told first (outer links.old.items (A.told air.old) (D.last draws.old))
+            self.old octets journal.old.entries
+            → Closes A.L.told first (outer links.new.items (A.told air.new) (D.last draws.new))
+            self.old.state.reader.mode result octets true journal.new.entries }
+        ensures not_read { result ≢ Found.ReadFault }
+        ensures blamed { IsBlamed A.L.faults (found_blame result) links.old.items links.new.items
+            (A.faults air.old) (A.faults air.new) (D.faults draws.old) (D.faults draws.new) }
+    {
+        if self.line.is_empty() && self.lines > 0 {
+            return ended(&self.state.reader, self.lines);
+        }
+        let taken = take_line(
+            &mut self.state,
+            host,
+            self.lines,
+            &self.line,
+            air,
+            draws,
+            links,
+            journal,
+        );
+        match taken {
+            Ok(()) => ended(&self.state.reader, self.lines + 1),
+            Err(stop) => Found::Stopped(stop),
+        }
+    }
+}

@@ -1,0 +1,168 @@
+//! A script read from a source to its end.
+
+ghost use Rattle.std.specs.Prelude.{◌≡◌, ◌≢◌, ◌≤◌, [], ℕ, List, OnOk, Bool, length, true};
+ghost use Rattle.std.specs.Io.{ReadsAtMost};
+ghost use Rattle.std.specs.Io.KnownBytes.{Consumes, IsAtEnd, ReadConsumes};
+ghost use Rattle.domain_base.specs.Causes.{Rose, HasCause};
+ghost use Rattle.frame_script.specs.Script.{Draft};
+ghost use Rattle.script_runs.specs.Feeders.{Reached};
+ghost use Rattle.script_runs.specs.Lives.{Meets};
+ghost use Rattle.script_runs.specs.Outer.{IsBlamed, OnDraws, OnLinks, outer};
+ghost use Rattle.script_runs.specs.Script.{Rounds, point_of};
+ghost use Rattle.script_runs.specs.States.{IsReady};
+ghost use Rattle.script_runs.specs.Stops.{Closes, found_blame};
+ghost use Rattle.script_runs.specs.Story.{Tells};
+
+use crate::feeder::LineFeeder;
+use crate::host::Host;
+use crate::stops::{Found, Stop};
+use domain_base::{Air, Draws, Failed, Source, SteadyAir, SteadyDraws};
+use domain_links::give_back;
+use domain_world::Gate;
+use frame_script::Mode;
+use run_journal::Journal;
+use std::thread::Threads;
+
+// Reads the next octets. A call that failed is not made once more.
+fn read<S: Source>(source: &mut S, buf: &mut [u8]) -> Result<usize, Failed>
+    ensures bound { ReadsAtMost result buf.new }
+    ensures bytes { ReadConsumes (S.left source.old) (S.left source.new) result buf.new }
+    ensures cause { HasCause (S.faults source.old) (S.faults source.new) result }
+    ensures unfailed { OnOk result (S.faults source.new ≡ S.faults source.old) }
+{
+    source.read(buf)
+}
+
+// Reads a script from before its first octet to its end, and does what its lines ask for.
+fn read_through<R: Threads + Sync, S: Source, A: Air, D: Draws, G: Gate + Sync>(
+    host: &Host<'_, R, G>,
+    source: &mut S,
+    feeder: &mut LineFeeder,
+    air: &mut A,
+    draws: &mut D,
+    links: &mut Vec<A::L>,
+    journal: &mut Journal,
+) -> Found
+    requires ready { IsReady feeder.old.state (length links.old.items) feeder.old.lines
+        journal.old.entries }
+    requires reached { Reached A.L.told (outer [] (A.told air.old) (D.last draws.old))
+        (outer links.old.items (A.told air.old) (D.last draws.old))
+        feeder.old [] journal.old.entries }
+    ensures told { (octets : List ℕ) × (ended : Bool)
+        × Consumes (S.left source.old) (S.left source.new) octets
+        × (ended ≡ true → IsAtEnd (S.left source.new))
+        × Closes A.L.told (outer [] (A.told air.old) (D.last draws.old))
+        (outer links.new.items (A.told air.new) (D.last draws.new))
+        feeder.old.state.reader.mode result octets ended journal.new.entries }
+    ensures fault { result ≡ Found.ReadFault → Rose (S.faults source.old) (S.faults source.new) }
+    ensures fault_told { S.faults source.new ≢ S.faults source.old → result ≡ Found.ReadFault }
+    ensures blamed { IsBlamed A.L.faults (found_blame result) links.old.items links.new.items
+        (A.faults air.old) (A.faults air.new) (D.faults draws.old) (D.faults draws.new) }
+{
+    let mut piece = [0; 512];
+    // How many octets came. The limits of a script bound it, so the loop ends.
+    let mut total = 0usize;
+    'reads: loop {
+        let Ok(count) = read(source, &mut piece) else {
+            return Found::ReadFault;
+        };
+        if count == 0 {
+            return feeder.finish(host, air, draws, links, journal);
+        }
+        total += count;
+        let octets = &piece[..count];
+        if let Err(stop) = feeder.feed(host, octets, air, draws, links, journal) {
+            return Found::Stopped(stop);
+        }
+    }
+}
+
+// Reads a script of a run of that kind to its end, and does what its lines ask for.
+fn read_script<R: Threads + Sync, S: Source, A: Air, D: Draws, G: Gate + Sync>(
+    host: &Host<'_, R, G>,
+    mode: Mode,
+    source: &mut S,
+    air: &mut A,
+    draws: &mut D,
+    links: &mut Vec<A::L>,
+    journal: &mut Journal,
+) -> Found
+    requires links { links.old.items ≡ [] }
+    requires journal { journal.old.entries ≡ [] }
+    ensures told { (octets : List ℕ) × (ended : Bool)
+        × Consumes (S.left source.old) (S.left source.new) octets
+        × (ended ≡ true → IsAtEnd (S.left source.new))
+        × Closes A.L.told (outer [] (A.told air.old) (D.last draws.old))
+        (outer links.new.items (A.told air.new) (D.last draws.new))
+        mode result octets ended journal.new.entries }
+    ensures fault { result ≡ Found.ReadFault → Rose (S.faults source.old) (S.faults source.new) }
+    ensures fault_told { S.faults source.new ≢ S.faults source.old → result ≡ Found.ReadFault }
+    ensures blamed { IsBlamed A.L.faults (found_blame result) links.old.items links.new.items
+        (A.faults air.old) (A.faults air.new) (D.faults draws.old) (D.faults draws.new) }
+{
+    let Ok(mut feeder) = LineFeeder::new(host.alloc, mode) else {
+        return Found::Stopped(Stop::NoMemory);
+    };
+    read_through(host, source, &mut feeder, air, draws, links, journal)
+}
+
+/// Reads a script to its end, and runs its events. It has no use for an air and for draws, and is
+/// given ones of its own, that are not asked.
+pub fn replay<R: Threads + Sync, S: Source, G: Gate + Sync>(
+    host: &Host<'_, R, G>,
+    source: &mut S,
+    journal: &mut Journal,
+) -> Found
+    requires { journal.old.entries ≡ [] }
+    ensures told { (octets : List ℕ) × (ended : Bool) × (draft : Draft) × (rounds : Rounds)
+        × Consumes (S.left source.old) (S.left source.new) octets
+        × (ended ≡ true → IsAtEnd (S.left source.new))
+        × Tells result octets ended (point_of Mode.Replay journal.new.entries draft rounds) }
+    ensures fault { result ≡ Found.ReadFault → Rose (S.faults source.old) (S.faults source.new) }
+    ensures fault_told { S.faults source.new ≢ S.faults source.old → result ≡ Found.ReadFault }
+{
+    let Ok(mut air) = SteadyAir::new(host.alloc, Vec::new(host.alloc)) else {
+        return Found::Stopped(Stop::NoMemory);
+    };
+    let mut draws = SteadyDraws::new([0; 32]);
+    let mut links = Vec::new(host.alloc);
+    read_script(
+        host,
+        Mode::Replay,
+        source,
+        &mut air,
+        &mut draws,
+        &mut links,
+        journal,
+    )
+}
+
+/// Reads a script to its end, and runs it with frames by the links of that air. However it ends,
+/// all links that were attached are given back, in the order of their nodes.
+pub fn live<R: Threads + Sync, S: Source, A: Air, D: Draws, G: Gate + Sync>(
+    host: &Host<'_, R, G>,
+    source: &mut S,
+    air: &mut A,
+    draws: &mut D,
+    journal: &mut Journal,
+) -> Found
+    requires { journal.old.entries ≡ [] }
+    ensures told { (octets : List ℕ) × (ended : Bool) × (draft : Draft) × (rounds : Rounds)
+        × Consumes (S.left source.old) (S.left source.new) octets
+        × (ended ≡ true → IsAtEnd (S.left source.new))
+        × Tells result octets ended (point_of Mode.Live journal.new.entries draft rounds)
+        × Meets result draft rounds (A.told air.old) (A.told air.new)
+        (D.last draws.old) (D.last draws.new) journal.new.entries }
+    ensures fault { result ≡ Found.ReadFault → Rose (S.faults source.old) (S.faults source.new) }
+    ensures fault_told { S.faults source.new ≢ S.faults source.old → result ≡ Found.ReadFault }
+    ensures link_fault { found_blame result ≡ OnLinks → Rose (A.faults air.old) (A.faults air.new) }
+    ensures link_told { A.faults air.new ≢ A.faults air.old → found_blame result ≡ OnLinks }
+    ensures draw_fault { found_blame result ≡ OnDraws
+        → Rose (D.faults draws.old) (D.faults draws.new) }
+    ensures draw_told { D.faults draws.new ≢ D.faults draws.old → found_blame result ≡ OnDraws }
+{
+    let mut links = Vec::new(host.alloc);
+    let found = read_script(host, Mode::Live, source, air, draws, &mut links, journal);
+    give_back(air, links);
+    found
+}
