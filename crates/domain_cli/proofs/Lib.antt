@@ -2,4 +2,5 @@ pub mod Out
 pub mod Safety
 pub mod Stormed
 pub mod Unasked
+pub mod Kept
 pub mod Unbegun

@@ -14,8 +14,18 @@ use Rattle.frame_script.specs.Script.{Draft, AtVersion, AtSeed, AtSsid, AtPsk, A
 use Rattle.script_runs.specs.declared.stops.Found.{Found}
 use Rattle.script_runs.specs.declared.stops.Found.TheVariants as found
 use Rattle.script_runs.specs.declared.stops.Stop.TheVariants as stop
-use Rattle.script_runs.specs.Script.{IsRun, IsJournal, Point}
+use Rattle.script_runs.specs.Script.{IsJournal, Point}
+use Rattle.domain_cli.specs.Safety.{RunsAreSafe}
 use Rattle.script_runs.specs.Story.{Tells}
+
+none_safe : Safe []
+none_safe = record { installed_once = tt; used_once = tt; joined = tt; handed_up_once = tt; sourced = tt }
+
+named : (d : Domain) → InForm d → IsNamed d
+named d form = record { aps = form.aps; stas = form.stas }
+
+pub empty_safe : (j : List Entry) → j ≡ [] → Safe j
+empty_safe j none = subst Safe (sym none) none_safe
 
 -- what the laws of safety say of one part of it
 abbrev pub Law : (List Entry → Type 0) → Type 0
@@ -31,16 +41,7 @@ pub record Laws : Type 0 where
   pub sourced : Law Sourced
   pub ups : Law (Once up_of)
 
-none_safe : Safe []
-none_safe = record { installed_once = tt; used_once = tt; joined = tt; handed_up_once = tt; sourced = tt }
-
-named : (d : Domain) → InForm d → IsNamed d
-named d form = record { aps = form.aps; stas = form.stas }
-
-pub empty_safe : (j : List Entry) → j ≡ [] → Safe j
-empty_safe j none = subst Safe (sym none) none_safe
-
-pub run_safely : (laws : Laws) (d : Domain) (run : List (List Event)) (j : List Entry) → IsRun d run j → Fresh j → NoCollision j → Unforged j → Safe j
+pub run_safely : (laws : Laws) → RunsAreSafe
 run_safely laws d run j told fresh apart unforged =
     let octets : d.akm ≡ FtPsk → InOctets d = λ same. told.octets in
     let held : d.akm ≡ FtPsk → HeldRight d j = λ same. told.held in
@@ -53,22 +54,22 @@ run_safely laws d run j told fresh apart unforged =
       sourced = laws.sourced d run j octets held is told.explained fresh apart unforged;
     }
 
-told_safe : (laws : Laws) (draft : Draft) (run : List (List Event)) (j : List Entry) → IsJournal draft run j → Fresh j → NoCollision j → Unforged j → Safe j
-told_safe laws (AtNodes d) run j told fresh apart unforged = run_safely laws d run j told fresh apart unforged
-told_safe laws (InRound d count) run j told fresh apart unforged = run_safely laws d run j told fresh apart unforged
-told_safe laws AtVersion run j told fresh apart unforged = empty_safe j told.1
-told_safe laws AtSeed run j told fresh apart unforged = empty_safe j told.1
-told_safe laws (AtSsid seed) run j told fresh apart unforged = empty_safe j told.1
-told_safe laws (AtPsk seed ssid) run j told fresh apart unforged = empty_safe j told.1
-told_safe laws (AtAkm seed ssid psk) run j told fresh apart unforged = empty_safe j told.1
-told_safe laws (AtMdid seed ssid psk) run j told fresh apart unforged = empty_safe j told.1
+told_safe : (safe : RunsAreSafe) (draft : Draft) (run : List (List Event)) (j : List Entry) → IsJournal draft run j → Fresh j → NoCollision j → Unforged j → Safe j
+told_safe safe (AtNodes d) run j told fresh apart unforged = safe d run j told fresh apart unforged
+told_safe safe (InRound d count) run j told fresh apart unforged = safe d run j told fresh apart unforged
+told_safe safe AtVersion run j told fresh apart unforged = empty_safe j told.1
+told_safe safe AtSeed run j told fresh apart unforged = empty_safe j told.1
+told_safe safe (AtSsid seed) run j told fresh apart unforged = empty_safe j told.1
+told_safe safe (AtPsk seed ssid) run j told fresh apart unforged = empty_safe j told.1
+told_safe safe (AtAkm seed ssid psk) run j told fresh apart unforged = empty_safe j told.1
+told_safe safe (AtMdid seed ssid psk) run j told fresh apart unforged = empty_safe j told.1
 
 -- however the reading ended
-pub run_safe : (laws : Laws) (f : Found) (octets : List ℕ) (ended : Bool) (p : Point) → Tells f octets ended p → Fresh p.journal → NoCollision p.journal → Unforged p.journal → Safe p.journal
-run_safe laws found.Whole octets ended p t = told_safe laws p.draft p.rounds.run p.journal t.explains.journal
-run_safe laws (found.Stopped (stop.Refused number refusal form)) octets ended p t = told_safe laws p.draft p.rounds.run p.journal t.explains.journal
-run_safe laws (found.Stopped stop.NoMemory) octets ended p t = told_safe laws p.draft p.rounds.run p.journal t.explains.journal
-run_safe laws (found.Stopped stop.DrawFault) octets ended p t = told_safe laws p.draft p.rounds.run p.journal t.explains.journal
-run_safe laws (found.Stopped (stop.Broken error)) octets ended p t = told_safe laws p.draft p.rounds.run p.journal t.explains.journal
-run_safe laws (found.Unended number refusal) octets ended p t = told_safe laws p.draft p.rounds.run p.journal t.explains.journal
-run_safe laws found.ReadFault octets ended p t = told_safe laws p.draft p.rounds.run p.journal t.explains.journal
+pub run_safe : (safe : RunsAreSafe) (f : Found) (octets : List ℕ) (ended : Bool) (p : Point) → Tells f octets ended p → Fresh p.journal → NoCollision p.journal → Unforged p.journal → Safe p.journal
+run_safe safe found.Whole octets ended p t = told_safe safe p.draft p.rounds.run p.journal t.explains.journal
+run_safe safe (found.Stopped (stop.Refused number refusal form)) octets ended p t = told_safe safe p.draft p.rounds.run p.journal t.explains.journal
+run_safe safe (found.Stopped stop.NoMemory) octets ended p t = told_safe safe p.draft p.rounds.run p.journal t.explains.journal
+run_safe safe (found.Stopped stop.DrawFault) octets ended p t = told_safe safe p.draft p.rounds.run p.journal t.explains.journal
+run_safe safe (found.Stopped (stop.Broken error)) octets ended p t = told_safe safe p.draft p.rounds.run p.journal t.explains.journal
+run_safe safe (found.Unended number refusal) octets ended p t = told_safe safe p.draft p.rounds.run p.journal t.explains.journal
+run_safe safe found.ReadFault octets ended p t = told_safe safe p.draft p.rounds.run p.journal t.explains.journal

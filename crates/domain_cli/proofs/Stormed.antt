@@ -6,15 +6,15 @@ use Rattle.run_journal.specs.Safe.{Safe}
 use Rattle.domain_cli.specs.declared.status.Status.{Status}
 use Rattle.domain_cli.specs.declared.status.Status.TheVariants.{Done, Usage, Script, Limit, ReadFault, WriteFault, NoMemory, LinkFault, DrawFault}
 use Rattle.domain_cli.specs.Storms.{StormReports}
-use Rattle.domain_cli.proofs.Safety.{Laws, run_safely}
+use Rattle.domain_cli.specs.Safety.{RunsAreSafe}
 
-pub storm_safe : (laws : Laws) (number : ℕ) (status : Status) (j : List Entry) (old new : Option (List ℕ)) → StormReports number status j old new → Fresh j → NoCollision j → Unforged j → Safe j
-storm_safe laws number Done j old new r = run_safely laws _ _ j r.0
-storm_safe laws number WriteFault j old new r = run_safely laws _ _ j r.0
-storm_safe laws number NoMemory j old new r = run_safely laws _ _ j r.0.journal
-storm_safe laws number Usage j old new r = absurd r
-storm_safe laws number ReadFault j old new r = absurd r
-storm_safe laws number (Script line reason form) j old new r = absurd r
-storm_safe laws number (Limit which) j old new r = absurd r
-storm_safe laws number LinkFault j old new r = absurd r
-storm_safe laws number DrawFault j old new r = absurd r
+pub storm_safe : (safe : RunsAreSafe) (number : ℕ) (status : Status) (j : List Entry) (old new : Option (List ℕ)) → StormReports number status j old new → Fresh j → NoCollision j → Unforged j → Safe j
+storm_safe safe number Done j old new r = safe _ _ j r.0
+storm_safe safe number WriteFault j old new r = safe _ _ j r.0
+storm_safe safe number NoMemory j old new r = safe _ _ j r.0.journal
+storm_safe safe number Usage j old new r = absurd r
+storm_safe safe number ReadFault j old new r = absurd r
+storm_safe safe number (Script line reason form) j old new r = absurd r
+storm_safe safe number (Limit which) j old new r = absurd r
+storm_safe safe number LinkFault j old new r = absurd r
+storm_safe safe number DrawFault j old new r = absurd r

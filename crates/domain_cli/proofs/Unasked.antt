@@ -2,7 +2,6 @@
 use Rattle.std.proofs.Common.{◌≡◌, ◌≢◌, ℕ, Bool, List, Option, None, Some, refl, subst}
 use Rattle.run_journal.specs.declared.acts.Entry.{Entry}
 use Rattle.command_words.specs.declared.Command.{Command}
-use Rattle.command_words.specs.declared.Command.TheVariants as ask
 use Rattle.frame_script.specs.Script.{Draft}
 use Rattle.frame_script.specs.declared.reader.Mode.TheVariants.{Replay, Live}
 use Rattle.script_runs.specs.declared.stops.Found.{Found}
@@ -10,7 +9,8 @@ use Rattle.script_runs.specs.declared.stops.Found.TheVariants as found
 use Rattle.domain_cli.specs.declared.status.Status.{Status}
 use Rattle.domain_cli.specs.declared.status.Status.TheVariants.{Done, Usage, Script, Limit, ReadFault, WriteFault, NoMemory, LinkFault, DrawFault}
 use Rattle.script_runs.specs.declared.stops.Stop.TheVariants as stop
-use Rattle.domain_cli.specs.Ends.{IsAnswered}
+use Rattle.domain_base.specs.Causes.{Rose}
+use Rattle.domain_cli.specs.Promises.{EndsScript, IsCaused, Outside}
 use Rattle.script_runs.specs.Outer.{OnLinks, OnDraws}
 use Rattle.script_runs.specs.Script.{Rounds, point_of}
 use Rattle.script_runs.specs.Stops.{found_blame}
@@ -18,27 +18,9 @@ use Rattle.domain_cli.specs.Story.{Reports, Runs}
 use Rattle.script_runs.specs.Story.{Tells}
 use Rattle.domain_cli.proofs.Out.{draw_blamed, link_blamed}
 
--- words that ask for one thing ask for no other
+-- the command that was read is the one that the words ask for
 pub asks_one : (asked command : Option Command) (field one : Command) → command ≡ asked → command ≡ Some field → field ≡ one → asked ≡ Some one
 asks_one asked command field one e is at = cc
-
-pub not_live : (asked : Option Command) (port : ℕ) → asked ≡ Some ask.Replay → asked ≡ Some (ask.Live port) → ⊥
-not_live asked port one other = cc
-
-pub not_storm : (asked : Option Command) (number : ℕ) → asked ≡ Some ask.Replay → asked ≡ Some (ask.Storm number) → ⊥
-not_storm asked number one other = cc
-
-pub live_no_storm : (asked : Option Command) (port number : ℕ) → asked ≡ Some (ask.Live port) → asked ≡ Some (ask.Storm number) → ⊥
-live_no_storm asked port number one other = cc
-
-pub storm_same : (asked : Option Command) (number other : ℕ) → asked ≡ Some (ask.Storm number) → asked ≡ Some (ask.Storm other) → number ≡ other
-storm_same asked number other one same = cc
-
-pub none_some : (asked command : Option Command) (one : Command) → command ≡ asked → command ≡ None → asked ≡ Some one → ⊥
-none_some asked command one e none some = cc
-
-pub some_none : (asked command : Option Command) (field : Command) → command ≡ asked → command ≡ Some field → asked ≡ None → ⊥
-some_none asked command field e is none = cc
 
 -- a replay is no live run
 no_live : Replay ≡ Live → ⊥
@@ -73,8 +55,8 @@ never_draws left_old left_new out_old out_new s j r is =
     let told = subst (λ (x : Status). Reports r.found_ x j r.runs.text out_old out_new) is r.runs.reports in
     undrawn r.found_ r.runs.octets r.runs.ended r.draft r.rounds j r.runs.tells (draw_blamed r.found_ told.0)
 
--- where nothing failed the run has an answer
-pub answered : (s : Status) → s ≢ Usage → s ≢ ReadFault → s ≢ WriteFault → s ≢ LinkFault → s ≢ DrawFault → IsAnswered s
+-- where nothing failed a run of a script has an answer
+pub answered : (s : Status) → s ≢ Usage → s ≢ ReadFault → s ≢ WriteFault → s ≢ LinkFault → s ≢ DrawFault → EndsScript s
 answered Done u r w l d = tt
 answered (Script number reason form) u r w l d = tt
 answered (Limit which) u r w l d = tt
@@ -85,27 +67,14 @@ answered WriteFault u r w l d = absurd (w refl)
 answered LinkFault u r w l d = absurd (l refl)
 answered DrawFault u r w l d = absurd (d refl)
 
--- where nothing is run nothing fails
-pub memory_read : NoMemory ≡ ReadFault → ⊥
-memory_read is = cc
-
-pub memory_write : NoMemory ≡ WriteFault → ⊥
-memory_write is = cc
-
-pub memory_link : NoMemory ≡ LinkFault → ⊥
-memory_link is = cc
-
-pub memory_draw : NoMemory ≡ DrawFault → ⊥
-memory_draw is = cc
-
-pub usage_read : Usage ≡ ReadFault → ⊥
-usage_read is = cc
-
-pub usage_write : Usage ≡ WriteFault → ⊥
-usage_write is = cc
-
-pub usage_link : Usage ≡ LinkFault → ⊥
-usage_link is = cc
-
-pub usage_draw : Usage ≡ DrawFault → ⊥
-usage_draw is = cc
+-- a fault that is told was there
+pub caused : (s : Status) (old new : Outside) → (s ≡ ReadFault → Rose old.read_faults new.read_faults) → (s ≡ WriteFault → Rose old.write_faults new.write_faults) → (s ≡ LinkFault → Rose old.link_faults new.link_faults) → (s ≡ DrawFault → Rose old.draw_faults new.draw_faults) → IsCaused s old new
+caused Done old new r w l d = tt
+caused Usage old new r w l d = tt
+caused (Script number reason form) old new r w l d = tt
+caused (Limit which) old new r w l d = tt
+caused NoMemory old new r w l d = tt
+caused ReadFault old new r w l d = r refl
+caused WriteFault old new r w l d = w refl
+caused LinkFault old new r w l d = l refl
+caused DrawFault old new r w l d = d refl

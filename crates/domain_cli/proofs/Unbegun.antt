@@ -1,5 +1,5 @@
 -- Memory ran out before anything was run.
-use Rattle.std.proofs.Common.{◌≡◌, ℕ, List, [], Option, false, refl, ap, sym, ◌∙◌}
+use Rattle.std.proofs.Common.{◌≡◌, ℕ, List, [], Option, None, Some, inl, inr, false, refl, ap, subst, sym, ◌∙◌}
 use Rattle.std.proofs.KnownBytes.{Appends-nil}
 use Rattle.std.proofs.lemmas.Bool.{false≢true}
 use Rattle.domain_base.specs.Told.{AirStory}
@@ -9,12 +9,17 @@ use Rattle.frame_script.specs.Script.{AtVersion}
 use Rattle.frame_script.specs.declared.reader.Mode.{Mode}
 use Rattle.frame_script.specs.declared.reader.Mode.TheVariants.{Replay, Live}
 use Rattle.script_runs.specs.declared.stops.Found.TheVariants as found
-use Rattle.domain_cli.specs.declared.status.Status.TheVariants.{NoMemory}
+use Rattle.domain_cli.specs.declared.status.Status.{Status}
+use Rattle.domain_cli.specs.declared.status.Status.TheVariants.{NoMemory, Usage}
 use Rattle.script_runs.specs.declared.stops.Stop.TheVariants as stop
 use Rattle.domain_cli.specs.Story.{Lives}
 use Rattle.script_runs.specs.Script.{no_rounds}
 use Rattle.domain_cli.specs.Story.{RunsIn, Runs}
-use Rattle.domain_cli.specs.Storms.{Storms}
+use Rattle.domain_cli.specs.Storms.{StormReports}
+use Rattle.domain_cli.specs.Promises.{Asked, Does, IsAnswered, IsSafe, IsTold, Keeps, Outside, Promises, Unasked, asks}
+use Rattle.domain_cli.proofs.Safety.{empty_safe}
+use Rattle.command_words.specs.declared.Command.{Command}
+use Rattle.command_words.specs.declared.Command.TheVariants as ask
 use Rattle.script_runs.proofs.Telling.{Rightly}
 use Rattle.script_runs.proofs.Lines.{Consumes-nil, nothing_yet}
 use Rattle.script_runs.proofs.Nodes.{nothing_so_far}
@@ -51,5 +56,58 @@ unbegun_live left out air last j none = record {
 }
 
 -- a storm
-pub unbegun_storm : (rightly : Rightly) (number : ℕ) (left out : Option (List ℕ)) (j : List Entry) → j ≡ [] → Storms number left left out out NoMemory j
-unbegun_storm rightly number left out j none = record { unread = refl; reports = (storm_front rightly number j (nothing_so_far number j none), refl) }
+pub unbegun_storm : (rightly : Rightly) (number : ℕ) (out : Option (List ℕ)) (j : List Entry) → j ≡ [] → StormReports number NoMemory j out out
+unbegun_storm rightly number out j none = (storm_front rightly number j (nothing_so_far number j none), refl)
+
+-- the commands
+did_nothing : (rightly : Rightly) (c : Command) (o : Outside) (j : List Entry) → j ≡ [] → Does c o o NoMemory j
+did_nothing rightly ask.Replay o j none = unbegun_replay o.left o.out j none
+did_nothing rightly (ask.Live port) o j none = unbegun_live o.left o.out o.air o.last j none
+did_nothing rightly (ask.Storm number) o j none = unbegun_storm rightly number o.out j none
+
+none_safe : (c : Command) (j : List Entry) → j ≡ [] → IsSafe c j
+none_safe ask.Replay j none = empty_safe j none
+none_safe (ask.Live port) j none = empty_safe j none
+none_safe (ask.Storm number) j none = empty_safe j none
+
+memory_answers : (c : Command) → IsAnswered c NoMemory
+memory_answers ask.Replay = tt
+memory_answers (ask.Live port) = tt
+memory_answers (ask.Storm number) = tt
+
+no_usage : NoMemory ≡ Usage → ⊥
+no_usage e = cc
+
+-- all is as it was
+told_nothing : (s : Status) (o : Outside) → IsTold s o o
+told_nothing s o = record {
+  write = λ differs. absurd (differs refl);
+  read = λ differs unfailed. absurd (differs refl);
+  link = λ differs unfailed. absurd (differs refl);
+  draw = λ differs unfailed. absurd (differs refl);
+}
+
+pub unasked_nothing : (a : Asked) (o : Outside) → Unasked a o o
+unasked_nothing a o = record { source = λ e. (refl, refl); sink = λ e. (refl, refl); air = λ e. (refl, refl); draws = λ e. (refl, refl) }
+
+-- memory ran out over the words
+pub unread_words : (rightly : Rightly) (asked : Option Command) (o : Outside) (j : List Entry) → j ≡ [] → Promises asked o o NoMemory j
+unread_words rightly None o j none = record { answer = inr refl; untouched = refl; unrun = none }
+unread_words rightly (Some c) o j none = record {
+  meant = no_usage;
+  did = did_nothing rightly c o j none;
+  unasked = unasked_nothing (asks c) o;
+  caused = tt;
+  told = told_nothing NoMemory o;
+  complete = λ unfailed. memory_answers c;
+  safe = λ fresh apart unforged. none_safe c j none;
+}
+
+-- the words ask for no command
+pub no_command : (asked : Option Command) (o : Outside) (j : List Entry) → asked ≡ None → j ≡ [] → Promises asked o o Usage j
+no_command None o j none empty = record { answer = inl refl; untouched = refl; unrun = empty }
+no_command (Some c) o j none empty = absurd cc
+
+-- or for that one
+pub promised : (asked : Option Command) (c : Command) (old new : Outside) (s : Status) (j : List Entry) → asked ≡ Some c → Keeps c old new s j → Promises asked old new s j
+promised asked c old new s j is kept = subst (λ (a : Option Command). Promises a old new s j) (sym is) kept

@@ -1,18 +1,10 @@
--- How a run may end in which nothing outside failed, and how the program tells of it.
+-- How the program tells how a run ended.
 use Rattle.std.specs.Prelude.{ℕ, List, codes, Option, None, Some, Result, Ok, Err}
 use Rattle.domain_base.specs.declared.outside.NoMemory.{NoMemory as WantOfMemory}
 use Rattle.frame_script.specs.declared.refusal.Refusal.{Refusal}
 use Rattle.frame_script.specs.Refusals.{limit_of, reason_of, refusal_text}
 use Rattle.domain_cli.specs.declared.status.Status.{Status}
 use Rattle.domain_cli.specs.declared.status.Status.TheVariants.{Done, Usage, Script, Limit, ReadFault, WriteFault, NoMemory, LinkFault, DrawFault}
-
--- done, a fault of the script, a limit that it passes, or want of memory
-abbrev pub IsAnswered : Status → Type 0
-IsAnswered Done = Unit {0}
-IsAnswered (Script number reason form) = Unit {0}
-IsAnswered (Limit which) = Unit {0}
-IsAnswered NoMemory = Unit {0}
-IsAnswered _ = ⊥
 
 -- the number that the program exits with
 abbrev pub exit_number : Status → ℕ

@@ -1,4 +1,5 @@
 pub mod Story
 pub mod Ends
 pub mod Storms
-pub mod Words
+pub mod Safety
+pub mod Promises

@@ -1,21 +1,19 @@
 //! The top call.
 
-ghost use Rattle.std.specs.Prelude.{◌≡◌, ◌≢◌, ◌⊎◌, [], ℕ, List, map, reverse, MatchResult, OnOk};
+ghost use Rattle.std.specs.Prelude.{◌≡◌, ◌≢◌, [], ℕ, List, map, reverse, MatchResult, OnOk};
 ghost use Rattle.std.specs.Prelude.{OnErr};
 ghost use Rattle.std.specs.Io.KnownBytes.{Appends};
 ghost use Rattle.domain_base.specs.Causes.{Rose, HasCause, AppendsPart};
 ghost use Rattle.run_journal.specs.Report.{summary, IsReport};
-ghost use Rattle.run_journal.specs.Premises.{Fresh, NoCollision, Unforged};
-ghost use Rattle.run_journal.specs.Safe.{Safe};
 ghost use Rattle.frame_script.specs.Refusals.{answer_of, fault_of};
-ghost use Rattle.domain_cli.specs.Story.{Runs, Reports, IsText, status_by, status_of};
-ghost use Rattle.domain_cli.specs.Ends.{IsAnswered};
-ghost use Rattle.domain_cli.specs.Storms.{IsSummary, StormReports, Storms};
-ghost use Rattle.domain_cli.specs.Story.{Lives};
+ghost use Rattle.command_words.specs.Words.{command_of};
+ghost use Rattle.domain_cli.specs.Story.{Reports, IsText, status_by, status_of};
+ghost use Rattle.domain_cli.specs.Storms.{IsSummary};
+ghost use Rattle.domain_cli.specs.Promises.{Keeps, Outside, Promises, outside, over, over_sink};
 ghost use Rattle.script_runs.specs.Outer.{OnDraws, OnLinks};
 ghost use Rattle.script_runs.specs.Stops.{found_blame};
-ghost use Rattle.domain_cli.specs.Words.{AskLive, AskNothing, AskReplay, AskStorm};
 
+use crate::laws::runs_are_safe;
 use crate::status::Status;
 use command_words::{Command, read_words};
 use domain_base::{Air, Draws, Failed, LinkError, Sink, Source, write_all};
@@ -23,7 +21,6 @@ use domain_rules::looks_are_right;
 use domain_world::{Gate, Unbarred};
 use frame_script::{Form, LineFault, Refusal};
 use journal_report::{SUMMARY_ROOM, summary_of, write_lines};
-use journal_safety::{hands_up_once, installs_once, joins, uses_once};
 use run_journal::{Entry, Journal, Premises};
 use script_runs::{Found, Host, Stop, live, replay, run_storm};
 use std::alloc::Global;
@@ -140,14 +137,11 @@ fn write_storm<K: Sink>(sink: &mut K, journal: &Journal) -> Result<(), Failed>
 // Runs the storm of that number, and writes its summary.
 fn stormed<K: Sink>(alloc: Global, number: u32, sink: &mut K, journal: &mut Journal) -> Status
     requires { journal.old.entries ≡ [] }
-    ensures reports { StormReports number result journal.new.entries
-        (K.out sink.old) (K.out sink.new) }
-    ensures write_fault { result ≡ Status.WriteFault →
-        Rose (K.faults sink.old) (K.faults sink.new) }
-    ensures write_told { K.faults sink.new ≢ K.faults sink.old → result ≡ Status.WriteFault }
-    ensures asked { result ≢ Status.Usage }
-    ensures unread { result ≢ Status.ReadFault }
+    ensures { (rest : Outside) → Keeps (Command.Storm number)
+        (over_sink rest (K.out sink.old) (K.faults sink.old))
+        (over_sink rest (K.out sink.new) (K.faults sink.new)) result journal.new.entries }
 {
+    runs_are_safe();
     let Ok(()) = run_storm(alloc, number, journal) else {
         return Status::NoMemory;
     };
@@ -165,17 +159,12 @@ fn replayed<R: Threads + Sync, S: Source, K: Sink, G: Gate + Sync>(
     journal: &mut Journal,
 ) -> Status
     requires { journal.old.entries ≡ [] }
-    ensures asked { result ≢ Status.Usage }
-    ensures ran { Runs (S.left source.old) (S.left source.new) (K.out sink.old) (K.out sink.new)
+    ensures { (rest : Outside) → Keeps Command.Replay
+        (over rest (S.left source.old) (S.faults source.old) (K.out sink.old) (K.faults sink.old))
+        (over rest (S.left source.new) (S.faults source.new) (K.out sink.new) (K.faults sink.new))
         result journal.new.entries }
-    ensures read_fault { result ≡ Status.ReadFault →
-        Rose (S.faults source.old) (S.faults source.new) }
-    ensures write_fault { result ≡ Status.WriteFault →
-        Rose (K.faults sink.old) (K.faults sink.new) }
-    ensures write_told { K.faults sink.new ≢ K.faults sink.old → result ≡ Status.WriteFault }
-    ensures read_told { S.faults source.new ≢ S.faults source.old
-        → ¬ Rose (K.faults sink.old) (K.faults sink.new) → result ≡ Status.ReadFault }
 {
+    runs_are_safe();
     let found = replay(host, source, journal);
     report(sink, journal, found)
 }
@@ -190,25 +179,14 @@ fn lived<R: Threads + Sync, S: Source, K: Sink, A: Air, D: Draws, G: Gate + Sync
     journal: &mut Journal,
 ) -> Status
     requires { journal.old.entries ≡ [] }
-    ensures asked { result ≢ Status.Usage }
-    ensures lived { Lives (S.left source.old) (S.left source.new) (K.out sink.old) (K.out sink.new)
-        (A.told air.old) (A.told air.new) (D.last draws.old) (D.last draws.new)
+    ensures { (port : ℕ) → Keeps (Command.Live port)
+        (outside (S.left source.old) (S.faults source.old) (K.out sink.old) (K.faults sink.old)
+        (A.told air.old) (A.faults air.old) (D.last draws.old) (D.faults draws.old))
+        (outside (S.left source.new) (S.faults source.new) (K.out sink.new) (K.faults sink.new)
+        (A.told air.new) (A.faults air.new) (D.last draws.new) (D.faults draws.new))
         result journal.new.entries }
-    ensures read_fault { result ≡ Status.ReadFault →
-        Rose (S.faults source.old) (S.faults source.new) }
-    ensures write_fault { result ≡ Status.WriteFault →
-        Rose (K.faults sink.old) (K.faults sink.new) }
-    ensures link_fault { result ≡ Status.LinkFault → Rose (A.faults air.old) (A.faults air.new) }
-    ensures draw_fault { result ≡ Status.DrawFault
-        → Rose (D.faults draws.old) (D.faults draws.new) }
-    ensures write_told { K.faults sink.new ≢ K.faults sink.old → result ≡ Status.WriteFault }
-    ensures read_told { S.faults source.new ≢ S.faults source.old
-        → ¬ Rose (K.faults sink.old) (K.faults sink.new) → result ≡ Status.ReadFault }
-    ensures link_told { A.faults air.new ≢ A.faults air.old
-        → ¬ Rose (K.faults sink.old) (K.faults sink.new) → result ≡ Status.LinkFault }
-    ensures draw_told { D.faults draws.new ≢ D.faults draws.old
-        → ¬ Rose (K.faults sink.old) (K.faults sink.new) → result ≡ Status.DrawFault }
 {
+    runs_are_safe();
     let found = live(host, source, air, draws, journal);
     report(sink, journal, found)
 }
@@ -217,13 +195,37 @@ fn lived<R: Threads + Sync, S: Source, K: Sink, A: Air, D: Draws, G: Gate + Sync
 ///
 /// `replay` runs the script on the source. `live` with a port from 1024 to 65000, in one to ten
 /// decimal digits, runs it with frames by the links of the air, to which each node is attached
-/// behind its line; a line is run as soon as it was read, and however the run ends all links that
+/// after its line; a line is run as soon as it was read, and however the run ends all links that
 /// were attached are taken back, in the order of their nodes. `storm` with a number below 2^32,
 /// in one to ten decimal digits, runs the storm of that number, and writes its summary alone.
-/// Reading the words may want memory, and then nothing is run.
+/// Reading the words may run out of memory, and then nothing is run.
 ///
 /// The access points of a round take their events side by side, each on a thread of its own where
 /// one can be started.
+///
+/// What it promises is one record, `Promises`. Words that ask for no command are refused, and
+/// nothing is read, written, run or called (`Refuses`). Else, by the command (`Keeps`): what it did
+/// (`did`), that it left alone what it does not ask (`unasked`), that a fault is told exactly where
+/// it happened (`caused`, `told`), that there is no other answer (`complete`), and that the run was
+/// safe where what is drawn is fresh, derived keys do not collide and every MIC that verified was
+/// made by a holder of its key (`safe`). What a command did is
+///
+/// - of a replay (`Runs`): its journal is that of the rounds that the octets read spell, of which
+///   each has its end, and key holders answered rightly in it; the octets written are its report;
+/// - of a live run (`Lives`): the same with the seed that was drawn and what nodes took of their
+///   links in each turn, up to 16 frames each in their order; each event and each frame taken is a
+///   round by itself. Where the air tells, each turn took what the links had in front, but for the
+///   last one where a call failed, or memory ran out, in it, which took a front of that; and the
+///   links taken back, which are those of all nodes in their order, but for a node whose link could
+///   not be attached, whose line is the last, were sent what their nodes sent, in order, each frame
+///   to whom its address 1 names; where a link failed or memory ran out over a frame, all of the
+///   rounds before the last one, and one common front of what that one sent: not the whole where
+///   the last line is an event or the end of a round, and the whole where it is a turn that took
+///   nothing. They have left what no turn took, of which nothing is said where a turn broke off.
+///   What the air has for nodes that have no link stays;
+/// - of a storm (`StormReports`): its journal is that of its events, each a round by itself, in its
+///   network, or of a front of them where memory ran out, and key holders answered rightly in it;
+///   the octets written are its summary.
 pub fn run<R: Threads + Sync, S: Source, K: Sink, A: Air, D: Draws>(
     rt: &R,
     alloc: Global,
@@ -235,79 +237,12 @@ pub fn run<R: Threads + Sync, S: Source, K: Sink, A: Air, D: Draws>(
     journal: &mut Journal,
 ) -> Status
     requires { journal.old.entries ≡ [] }
-    // Where the words ask for no command nothing is read or written, and no call fails, also
-    // where memory was wanted for reading them.
-    ensures usage { result ≡ Status.Usage → AskNothing (map (λ w. w.now) words.now) }
-    ensures told { AskNothing (map (λ w. w.now) words.now)
-        → (result ≡ Status.Usage) ⊎ (result ≡ Status.NoMemory) }
-    ensures untouched { AskNothing (map (λ w. w.now) words.now)
-        → (S.left source.new ≡ S.left source.old) × (K.out sink.new ≡ K.out sink.old)
-        × (journal.new.entries ≡ []) }
-    ensures unfailed { AskNothing (map (λ w. w.now) words.now)
-        → (S.faults source.new ≡ S.faults source.old) × (K.faults sink.new ≡ K.faults sink.old) }
-    // No command but a live run draws or attaches a link.
-    ensures air { ((port : ℕ) → ¬ AskLive (map (λ w. w.now) words.now) port)
-        → (A.told air.new ≡ A.told air.old) × (A.faults air.new ≡ A.faults air.old) }
-    ensures draws { ((port : ℕ) → ¬ AskLive (map (λ w. w.now) words.now) port)
-        → (D.last draws.new ≡ D.last draws.old) × (D.faults draws.new ≡ D.faults draws.old) }
-    // The journal of a replay is that of the rounds that the octets read spell, of which each has
-    // its end, and key holders answered rightly in it; the octets written are its report.
-    ensures ran { AskReplay (map (λ w. w.now) words.now) → Runs (S.left source.old)
-        (S.left source.new) (K.out sink.old) (K.out sink.new) result journal.new.entries }
-    // The journal of a live run is that of the rounds that the octets read spell, with the seed
-    // that was drawn and what nodes took of their links in each turn, up to 16 frames each in
-    // their order; each event and each frame taken is a round by itself. The octets written are
-    // its report. Where the air tells, each turn took what the links had in front, but for the
-    // last one where a call failed, or memory was wanted, in it, which took a front of that; and
-    // the links taken back, which are those of all nodes in their order, but for a node whose
-    // link could not be attached, whose line is the last, were sent what their nodes sent, in
-    // order, each frame to whom its address 1 names; where a link failed or memory was wanted over
-    // a frame, all of the rounds before the last one, and one common front of what that one sent:
-    // not the whole where the last line is an event or the end of a round, and the whole where it
-    // is a turn that took nothing. They have left what no turn took, of which nothing is said
-    // where a turn broke off. What the air has for nodes that have no link stays.
-    ensures lived { (port : ℕ) → AskLive (map (λ w. w.now) words.now) port
-        → Lives (S.left source.old) (S.left source.new) (K.out sink.old) (K.out sink.new)
-        (A.told air.old) (A.told air.new) (D.last draws.old) (D.last draws.new)
+    ensures { Promises (command_of (map (λ w. w.now) words.now))
+        (outside (S.left source.old) (S.faults source.old) (K.out sink.old) (K.faults sink.old)
+        (A.told air.old) (A.faults air.old) (D.last draws.old) (D.faults draws.old))
+        (outside (S.left source.new) (S.faults source.new) (K.out sink.new) (K.faults sink.new)
+        (A.told air.new) (A.faults air.new) (D.last draws.new) (D.faults draws.new))
         result journal.new.entries }
-    // The journal of a storm is that of its events, each a round by itself, in its network, or of a
-    // front of them where memory was wanted, and key holders answered rightly in it. The octets
-    // written are its summary. The source is not read.
-    ensures stormed { (number : ℕ) → AskStorm (map (λ w. w.now) words.now) number
-        → Storms number (S.left source.old) (S.left source.new) (K.out sink.old) (K.out sink.new)
-        result journal.new.entries × (S.faults source.new ≡ S.faults source.old) }
-    // Where what is drawn is fresh, derived keys do not collide, and every MIC that verified was
-    // made by a holder of its key, the run was safe, of whatever suite its network is.
-    ensures safe { Fresh journal.new.entries → NoCollision journal.new.entries
-        → Unforged journal.new.entries → Safe journal.new.entries }
-    ensures read_fault { result ≡ Status.ReadFault →
-        Rose (S.faults source.old) (S.faults source.new) }
-    ensures write_fault { result ≡ Status.WriteFault →
-        Rose (K.faults sink.old) (K.faults sink.new) }
-    ensures link_fault { result ≡ Status.LinkFault → Rose (A.faults air.old) (A.faults air.new) }
-    ensures draw_fault { result ≡ Status.DrawFault
-        → Rose (D.faults draws.old) (D.faults draws.new) }
-    // A fault that happened is told: where the sink's count is not what it was, whatever else was
-    // found, and where the source's is not and the sink did not fail.
-    ensures write_told { K.faults sink.new ≢ K.faults sink.old → result ≡ Status.WriteFault }
-    ensures read_told { S.faults source.new ≢ S.faults source.old
-        → ¬ Rose (K.faults sink.old) (K.faults sink.new) → result ≡ Status.ReadFault }
-    ensures link_told { A.faults air.new ≢ A.faults air.old
-        → ¬ Rose (K.faults sink.old) (K.faults sink.new) → result ≡ Status.LinkFault }
-    ensures draw_told { D.faults draws.new ≢ D.faults draws.old
-        → ¬ Rose (K.faults sink.old) (K.faults sink.new) → result ≡ Status.DrawFault }
-    // Where neither source nor sink failed, a replay is done, has a fault of its script, goes past
-    // a limit, or lacks memory. (A storm ends as done, with a fault of the sink, or for want of
-    // memory.)
-    ensures complete { AskReplay (map (λ w. w.now) words.now)
-        → ¬ Rose (S.faults source.old) (S.faults source.new)
-        → ¬ Rose (K.faults sink.old) (K.faults sink.new) → IsAnswered result }
-    // And where neither the air nor the draws did, a live run.
-    ensures live_complete { (port : ℕ) → AskLive (map (λ w. w.now) words.now) port
-        → ¬ Rose (S.faults source.old) (S.faults source.new)
-        → ¬ Rose (K.faults sink.old) (K.faults sink.new)
-        → ¬ Rose (A.faults air.old) (A.faults air.new)
-        → ¬ Rose (D.faults draws.old) (D.faults draws.new) → IsAnswered result }
 {
     run_with(
         rt, alloc, words, source, sink, air, draws, journal, &Unbarred,
@@ -330,56 +265,13 @@ pub fn run_with<R: Threads + Sync, S: Source, K: Sink, A: Air, D: Draws, G: Gate
     gate: &G,
 ) -> Status
     requires { journal.old.entries ≡ [] }
-    ensures usage { result ≡ Status.Usage → AskNothing (map (λ w. w.now) words.now) }
-    ensures told { AskNothing (map (λ w. w.now) words.now)
-        → (result ≡ Status.Usage) ⊎ (result ≡ Status.NoMemory) }
-    ensures untouched { AskNothing (map (λ w. w.now) words.now)
-        → (S.left source.new ≡ S.left source.old) × (K.out sink.new ≡ K.out sink.old)
-        × (journal.new.entries ≡ []) }
-    ensures unfailed { AskNothing (map (λ w. w.now) words.now)
-        → (S.faults source.new ≡ S.faults source.old) × (K.faults sink.new ≡ K.faults sink.old) }
-    ensures air { ((port : ℕ) → ¬ AskLive (map (λ w. w.now) words.now) port)
-        → (A.told air.new ≡ A.told air.old) × (A.faults air.new ≡ A.faults air.old) }
-    ensures draws { ((port : ℕ) → ¬ AskLive (map (λ w. w.now) words.now) port)
-        → (D.last draws.new ≡ D.last draws.old) × (D.faults draws.new ≡ D.faults draws.old) }
-    ensures ran { AskReplay (map (λ w. w.now) words.now) → Runs (S.left source.old)
-        (S.left source.new) (K.out sink.old) (K.out sink.new) result journal.new.entries }
-    ensures lived { (port : ℕ) → AskLive (map (λ w. w.now) words.now) port
-        → Lives (S.left source.old) (S.left source.new) (K.out sink.old) (K.out sink.new)
-        (A.told air.old) (A.told air.new) (D.last draws.old) (D.last draws.new)
+    ensures { Promises (command_of (map (λ w. w.now) words.now))
+        (outside (S.left source.old) (S.faults source.old) (K.out sink.old) (K.faults sink.old)
+        (A.told air.old) (A.faults air.old) (D.last draws.old) (D.faults draws.old))
+        (outside (S.left source.new) (S.faults source.new) (K.out sink.new) (K.faults sink.new)
+        (A.told air.new) (A.faults air.new) (D.last draws.new) (D.faults draws.new))
         result journal.new.entries }
-    ensures stormed { (number : ℕ) → AskStorm (map (λ w. w.now) words.now) number
-        → Storms number (S.left source.old) (S.left source.new) (K.out sink.old) (K.out sink.new)
-        result journal.new.entries × (S.faults source.new ≡ S.faults source.old) }
-    ensures safe { Fresh journal.new.entries → NoCollision journal.new.entries
-        → Unforged journal.new.entries → Safe journal.new.entries }
-    ensures read_fault { result ≡ Status.ReadFault →
-        Rose (S.faults source.old) (S.faults source.new) }
-    ensures write_fault { result ≡ Status.WriteFault →
-        Rose (K.faults sink.old) (K.faults sink.new) }
-    ensures link_fault { result ≡ Status.LinkFault → Rose (A.faults air.old) (A.faults air.new) }
-    ensures draw_fault { result ≡ Status.DrawFault
-        → Rose (D.faults draws.old) (D.faults draws.new) }
-    ensures write_told { K.faults sink.new ≢ K.faults sink.old → result ≡ Status.WriteFault }
-    ensures read_told { S.faults source.new ≢ S.faults source.old
-        → ¬ Rose (K.faults sink.old) (K.faults sink.new) → result ≡ Status.ReadFault }
-    ensures link_told { A.faults air.new ≢ A.faults air.old
-        → ¬ Rose (K.faults sink.old) (K.faults sink.new) → result ≡ Status.LinkFault }
-    ensures draw_told { D.faults draws.new ≢ D.faults draws.old
-        → ¬ Rose (K.faults sink.old) (K.faults sink.new) → result ≡ Status.DrawFault }
-    ensures complete { AskReplay (map (λ w. w.now) words.now)
-        → ¬ Rose (S.faults source.old) (S.faults source.new)
-        → ¬ Rose (K.faults sink.old) (K.faults sink.new) → IsAnswered result }
-    ensures live_complete { (port : ℕ) → AskLive (map (λ w. w.now) words.now) port
-        → ¬ Rose (S.faults source.old) (S.faults source.new)
-        → ¬ Rose (K.faults sink.old) (K.faults sink.new)
-        → ¬ Rose (A.faults air.old) (A.faults air.new)
-        → ¬ Rose (D.faults draws.old) (D.faults draws.new) → IsAnswered result }
 {
-    joins();
-    installs_once();
-    uses_once();
-    hands_up_once();
     looks_are_right();
     let Ok(command) = read_words(alloc, words) else {
         return Status::NoMemory;

@@ -1,0 +1,13 @@
+-- The law that runs are safe.
+use Rattle.std.specs.Prelude.{List}
+use Rattle.run_journal.specs.declared.domain.Domain.{Domain}
+use Rattle.run_journal.specs.declared.domain.Event.{Event}
+use Rattle.run_journal.specs.declared.acts.Entry.{Entry}
+use Rattle.run_journal.specs.Premises.{Fresh, NoCollision, Unforged}
+use Rattle.run_journal.specs.Safe.{Safe}
+use Rattle.script_runs.specs.Script.{IsRun}
+
+-- a run of rounds in a network, of whatever suite, in which what is drawn is fresh, derived keys do not collide and every MIC that
+-- verified was made by a holder of its key
+abbrev pub RunsAreSafe : Type 0
+RunsAreSafe = (d : Domain) (run : List (List Event)) (j : List Entry) → IsRun d run j → Fresh j → NoCollision j → Unforged j → Safe j

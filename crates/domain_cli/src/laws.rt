@@ -1,0 +1,16 @@
+//! A law of runs. The function does nothing; its contract is proved.
+
+ghost use Rattle.domain_cli.specs.Safety.{RunsAreSafe};
+
+use journal_safety::{hands_up_once, installs_once, joins, uses_once};
+
+/// Where what is drawn is fresh, derived keys do not collide, and every MIC that verified was made
+/// by a holder of its key, a run of rounds in a network is safe, of whatever suite the network is.
+pub fn runs_are_safe()
+    ensures { RunsAreSafe }
+{
+    joins();
+    installs_once();
+    uses_once();
+    hands_up_once();
+}
