@@ -1,0 +1,127 @@
+#!/usr/bin/env bash
+# Tries the wrong bodies of wrong_bodies/CRATE/*.edit, the second tier of edits that a proof has to refuse. This is no part of the gate:
+# it is run whenever a crate's code or contracts change, and docs/evidence/WRONG_BODIES.md keeps what came of it.
+#
+#   tools/wrong_bodies.sh [CRATE..]         those of these crates, or all
+#   tools/wrong_bodies.sh --since COMMIT    those of each crate whose src, specs, proofs, wrong bodies or line of crates.txt are not as
+#                                           at that commit, and of each crate above one of them but for changed wrong bodies alone
+#
+# The tree as it stands goes into a scratch copy, where wrong_bodies/CRATE takes the place of crates/CRATE/must-fail, and rt must-fail
+# tries them there, one crate after the other. It begins with what rt check kept of the same crate, here or in another checkout of this
+# machine; where nothing is kept it proves the crate first, which is told. RT_JOBS=N has rt do N checks at a time.
+#
+# An edit may begin with a line '# let through: REASON'. It says that no contract refuses this body, and why: then it has to be proved.
+#
+# It prints of each body what came of it, and for a crate and for all how many were refused, by form alone (where a proof file names what
+# the edit took away), let through for a reason, let through, bad (it cannot be applied, compiled or read), and not tried. Its last line
+# is 'N passed, M failed', and its status 1 where one failed: was let through, is bad or not tried, or has a reason and is refused.
+set -u -o pipefail
+cd "$(dirname "$0")/.." || exit
+
+stop() {
+    echo "tools/wrong_bodies.sh: $*" >&2
+    exit 2
+}
+
+# The crates on one line of crates.txt, without its settings, as 'NAME DEP DEP ..'.
+lists() {
+    sed -e 's/#.*//' -e '/:/!d' -e 's/^ *\([a-z0-9_]*\)[^:]*:/\1/'
+}
+
+# The crates of which something changed since a commit: first 'code' or 'bodies', then the name.
+changed_since() {
+    { git diff --name-only "$1" -- crates wrong_bodies && git ls-files --others --exclude-standard -- crates wrong_bodies; } |
+        sed -n -e 's,^crates/\([^/]*\)/\(src\|specs\|proofs\)/.*,code \1,p' -e 's,^wrong_bodies/\([^/]*\)/.*,bodies \1,p'
+    comm -3 <(git show "$1:crates.txt" | lists | sort) <(lists < crates.txt | sort) | awk '{ print "code", $1 }'
+}
+
+# Of the crates on standard input those that stand on none of them come too: all above those of changed code, by crates.txt.
+with_those_above() {
+    awk 'NR == FNR { if ($1 == "code") is_new[$2] = 1; else shown[$2] = 1; next }
+         { for (n = 2; n <= NF; n++) below[$1] = below[$1] " " $n; below[$1] = below[$1] " "; names[$1] = 1 }
+         END {
+             do {
+                 is_more = 0
+                 for (name in names) if (!is_new[name]) for (one in is_new) if (is_new[one] && index(below[name], " " one " ")) { is_new[name] = 1; is_more = 1; break }
+             } while (is_more)
+             for (name in is_new) if (is_new[name]) shown[name] = 1
+             for (name in shown) print name
+         }' - <(lists < crates.txt)
+}
+
+[ -d wrong_bodies ] || stop "there is no folder wrong_bodies"
+every=$(cd wrong_bodies && ls -d -- */ | tr -d /)
+if [ "${1-}" = --since ]; then
+    [ $# = 2 ] || stop "--since takes one commit"
+    commit=$(git rev-parse --verify --quiet "$2^{commit}") || stop "$2 is no commit"
+    changed=$(changed_since "$commit" | with_those_above) || stop "what changed since $2 cannot be read"
+    echo "changed since $2, or above what changed: $(echo $changed)"
+    crates=$(for crate in $every; do if grep -qx "$crate" <<< "$changed"; then echo "$crate"; fi; done)
+elif [ $# = 0 ]; then
+    crates=$every
+else
+    for crate; do
+        grep -qx "$crate" <<< "$every" || stop "wrong_bodies has no $crate"
+    done
+    crates=$*
+fi
+# The lowest first, as crates.txt has them.
+crates=$(lists < crates.txt | awk '{ print $1 }' | grep -xF -e "$(printf '%s\n' $crates)")
+
+copy=$(mktemp -d) || stop "there is no room for a scratch copy"
+trap 'rm -rf "$copy"' EXIT
+trap 'exit 130' INT TERM
+git ls-files -z --cached --others --exclude-standard -- crates crates.txt HANDLES wrong_bodies |
+    while IFS= read -r -d '' file; do if [ -e "$file" ]; then printf '%s\0' "$file"; fi; done |
+    xargs -0 cp --parents -t "$copy" || stop "the tree could not be copied"
+rm -rf "$copy"/crates/*/must-fail
+
+# What came of a crate's bodies, from what rt said of them: a line each, that begins with refused, form, known (let through for its reason),
+# through, bad, untried, or mended (it has a reason and is refused).
+told() {
+    local crate=$1 edit name said reason where
+    for edit in "$copy/crates/$crate/must-fail"/*.edit; do
+        name=$(basename "$edit" .edit)
+        said=$(grep -F "must-fail $crate/$name.edit: " "$2" | sed -e 's/^.*\.edit: //' | tail -n 1)
+        reason=$(sed -n 's/^# let through: //p' "$edit")
+        # The function and the goal, from where an answer on file, or a place of the code, broke.
+        where=$(sed -n -e 's,.*\(\./\|: \)proofs/\(.*\)\.antt:[0-9:]* error: `\([^`]*\)`.*,\2 `\3`,p' -e 's,.*note: src/\(.*\): .*(`\([^`]*\)`.*,\1 `\2`,p' <<< "$said")
+        where=$(sed -e 's,/\(Answers\|Invariants\|Proof\) , ,' <<< "${where:-$said}")
+        case $said in
+            "refused, as it must be"* | "refused"*"(only by a limit"*)
+                if [ -n "$reason" ]; then echo "mended $crate/$name: is refused, and has a reason to be let through: $where"
+                elif [[ $said == *"only because a proof file names"* ]]; then echo "form $crate/$name: $where"
+                else echo "refused $crate/$name: $where"; fi ;;
+            "NOT REFUSED"*)
+                if [ -n "$reason" ]; then echo "known $crate/$name: $reason"; else echo "through $crate/$name: the crate is still proved with it"; fi ;;
+            "BAD EDIT"*) echo "bad $crate/$name: $said" ;;
+            *) echo "untried $crate/$name: ${said:-rt said nothing of it}" ;;
+        esac
+    done
+}
+
+# The counts in a list of what came of bodies.
+counts() {
+    awk '{ n[$1]++ }
+         END { printf "%d refused, %d by form alone, %d let through for a reason, %d let through, %d bad, %d not tried, %d no longer let through\n",
+                   n["refused"], n["form"], n["known"], n["through"], n["bad"], n["untried"], n["mended"] }' "$@"
+}
+
+: > "$copy/all"
+for crate in $crates; do
+    [ -d "crates/$crate" ] || stop "wrong_bodies has $crate, and crates does not"
+    [ -d "crates/$crate/out/incremental" ] || echo "$crate: rt check kept nothing of it in this checkout, so it is proved first, if no other checkout of this machine has it"
+    mv "$copy/wrong_bodies/$crate" "$copy/crates/$crate/must-fail"
+    (cd "$copy" && rt must-fail "$crate" > said 2>&1)
+    told "$crate" "$copy/said" > "$copy/one"
+    if grep -q '^untried' "$copy/one"; then grep -v 'must-fail' "$copy/said" | tail -n 5; fi
+    cat "$copy/one" >> "$copy/all"
+    cat "$copy/one"
+    echo "$crate: $(counts "$copy/one")"
+    rm -rf "$copy/crates/$crate/must-fail" "$copy/crates/$crate/out/incremental"
+done
+echo "in all: $(counts "$copy/all")"
+passed=$(grep -c '^\(refused\|form\|known\) ' "$copy/all")
+failed=$(grep -c '^\(through\|bad\|untried\|mended\) ' "$copy/all")
+echo "$passed passed, $failed failed"
+[ "$failed" = 0 ]
