@@ -8,12 +8,16 @@ Read are README.md and docs/. What stands in code quotes is a name of the reposi
     crates/.., docs/.., examples/.., tools/.., bench/..   a file or folder; an example is named without its ending
     CRATE/src/FILE.rt:NAME                                what that file declares: a function, type, constant, module, variant
     CRATE/specs/FILE.NAME                                 what that file defines: with a signature, or as a record or data
-    CRATE/proofs/FILE, CRATE/must-fail/EDIT               a file of proofs, an edit
+    CRATE/proofs/FILE, CRATE/must-fail/EDIT               a file of proofs, an edit that the gate tries
+    wrong_bodies/CRATE/EDIT                               an edit of the second tier
     CRATE::CALL.CLAUSE, CRATE::TYPE::CALL.CLAUSE          a call that the crate declares, and a clause of it
 
 In docs/PROVED.md each section is of the crates that its heading names: a bracket with nothing but names in it has clauses or
 calls (small letters), types and definitions (a capital) of them, or fields. Every other name there has to be a word of their code or
 of definitions.
+
+In a section of docs/evidence/WRONG_BODIES.md of one crate the first column of its table has the names of its edits of the second tier, each
+of them.
 
 In a table of docs/DEFINITIONS.md the first column has FILE.NAME, or NAME of the file before it, of the crate that the row begins
 with or else the heading. Where a crate fills the first column, the second has files of its definitions, and names of the file before.
@@ -32,7 +36,8 @@ import sys
 
 ROOT = os.path.join(os.path.dirname(os.path.abspath(__file__)), "..")
 CRATES = sorted(os.listdir(os.path.join(ROOT, "crates")))
-OTHERS = ["crates.txt", "HANDLES", "tools", "bench", ".ci"]
+OTHERS = ["crates.txt", "HANDLES", "tools", "bench", ".ci", "wrong_bodies"]
+BODIES = "docs/evidence/WRONG_BODIES.md"
 
 
 @functools.cache
@@ -112,6 +117,8 @@ def wrong_path(span):
     if crate in CRATES:
         path = "crates/%s" % span
         return None if any(is_there(path + end) for end in ("", ".antt", ".edit")) else "no such file"
+    if crate == "wrong_bodies":
+        return None if is_there(span) or is_there(span + ".edit") else "no such edit"
     if crate == "examples":
         return None if is_there(span) or (is_there(span + ".txt") and is_there(span + ".report")) else "no such example"
     return None if is_there(span) else "no such file"
@@ -174,7 +181,7 @@ def wrong_in_table(crates, row):
 
 
 SPAN = re.compile(r"`([^`\n]+)`")
-PATH = re.compile(r"^(?:%s|crates|docs|examples|tools|bench|\.ci)/[\w./:,'-]*$" % "|".join(CRATES))
+PATH = re.compile(r"^(?:%s|crates|docs|examples|tools|bench|wrong_bodies|\.ci)/[\w./:,'-]*$" % "|".join(CRATES))
 CALL = re.compile(r"^(?:%s)::[\w:]+(?:\.\w+)?$" % "|".join(CRATES))
 WORD = re.compile(r"^(?!(?:[0-9a-f]{2})+$)[A-Za-z_][\w-]*(?:(?:::|[./])[A-Za-z_][\w-]*)*$")
 # The same forms with a crate that is not there.
@@ -189,7 +196,7 @@ def crates_in(text):
 
 
 def check(name, report):
-    count, section = 0, []
+    count, section, bodies = 0, [], set()
     plain = re.sub(r"^```.*?^```", lambda match: "\n" * match.group(0).count("\n"), text_of(name), flags=re.M | re.S)
     for block in BLOCK.finditer(plain):
         text = block.group(0)
@@ -205,7 +212,10 @@ def check(name, report):
             if "/out/" in span or re.search(r"[<>{}*]|\b(?:CRATE|FILE|NAME|CALL)\b", span):
                 continue
             count += 1
-            if PATH.match(span):
+            if name == BODIES and len(section) == 1 and match.start() == 2 and text.startswith("| "):
+                wrong = wrong_path("wrong_bodies/%s/%s" % (section[0], span))
+                bodies.add("wrong_bodies/%s/%s.edit" % (section[0], span))
+            elif PATH.match(span):
                 wrong = wrong_path(span)
             elif CALL.match(span):
                 wrong = wrong_call(span)
@@ -223,12 +233,14 @@ def check(name, report):
                 count -= 1
             if wrong is not None:
                 report("%s:%d: `%s`: %s" % (name, plain.count("\n", 0, block.start() + match.start()) + 1, span, wrong))
+    for path in sorted(set(files("wrong_bodies", ".edit")) - bodies) if name == BODIES else []:
+        report("%s: `%s`: no row has it" % (name, path))
     return count
 
 
 def main():
     wrong = []
-    documents = ["README.md"] + sorted("docs/%s" % name for name in os.listdir(os.path.join(ROOT, "docs")) if name.endswith(".md"))
+    documents = ["README.md"] + sorted(files("docs", ".md"))
     count = sum(check(name, wrong.append) for name in documents)
     for line in wrong:
         print(line)

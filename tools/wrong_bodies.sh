@@ -7,8 +7,9 @@
 #                                           at that commit, and of each crate above one of them but for changed wrong bodies alone
 #
 # The tree as it stands goes into a scratch copy, where wrong_bodies/CRATE takes the place of crates/CRATE/must-fail, and rt must-fail
-# tries them there, one crate after the other. It begins with what rt check kept of the same crate, here or in another checkout of this
-# machine; where nothing is kept it proves the crate first, which is told. RT_JOBS=N has rt do N checks at a time.
+# tries them there, one crate after the other. The libraries below it are those that were built in this checkout. It begins with what
+# rt check kept of the same crate, here or in another checkout of this machine; where nothing is kept it proves the crate first, which is
+# told. RT_JOBS=N has rt do N checks at a time.
 #
 # An edit may begin with a line '# let through: REASON'. It says that no contract refuses this body, and why: then it has to be proved.
 #
@@ -50,12 +51,12 @@ with_those_above() {
 }
 
 [ -d wrong_bodies ] || stop "there is no folder wrong_bodies"
-every=$(cd wrong_bodies && ls -d -- */ | tr -d /)
+every=$(cd wrong_bodies && printf '%s\n' *)
 if [ "${1-}" = --since ]; then
     [ $# = 2 ] || stop "--since takes one commit"
     commit=$(git rev-parse --verify --quiet "$2^{commit}") || stop "$2 is no commit"
     changed=$(changed_since "$commit" | with_those_above) || stop "what changed since $2 cannot be read"
-    echo "changed since $2, or above what changed: $(echo $changed)"
+    echo "changed since $2, or above what changed: $(tr '\n' ' ' <<< "$changed")"
     crates=$(for crate in $every; do if grep -qx "$crate" <<< "$changed"; then echo "$crate"; fi; done)
 elif [ $# = 0 ]; then
     crates=$every
@@ -69,12 +70,20 @@ fi
 crates=$(lists < crates.txt | awk '{ print $1 }' | grep -xF -e "$(printf '%s\n' $crates)")
 
 copy=$(mktemp -d) || stop "there is no room for a scratch copy"
+trying=
 trap 'rm -rf "$copy"' EXIT
-trap 'exit 130' INT TERM
+trap 'if [ -n "$trying" ]; then kill "$trying" && wait "$trying"; fi; exit 130' INT TERM
 git ls-files -z --cached --others --exclude-standard -- crates crates.txt HANDLES wrong_bodies |
     while IFS= read -r -d '' file; do if [ -e "$file" ]; then printf '%s\0' "$file"; fi; done |
     xargs -0 cp --parents -t "$copy" || stop "the tree could not be copied"
 rm -rf "$copy"/crates/*/must-fail
+# (rt replaces a library's files, and writes into none)
+for lib in crates/*/out/rlib; do
+    if [ -d "$lib" ]; then
+        mkdir -p "$copy/$(dirname "$lib")"
+        cp -al "$lib" "$copy/$lib" 2> /dev/null || cp -a "$lib" "$copy/$(dirname "$lib")/"
+    fi
+done
 
 # What came of a crate's bodies, from what rt said of them: a line each, that begins with refused, form, known (let through for its reason),
 # through, bad, untried, or mended (it has a reason and is refused).
@@ -112,7 +121,10 @@ for crate in $crates; do
     [ -d "crates/$crate" ] || stop "wrong_bodies has $crate, and crates does not"
     [ -d "crates/$crate/out/incremental" ] || echo "$crate: rt check kept nothing of it in this checkout, so it is proved first, if no other checkout of this machine has it"
     mv "$copy/wrong_bodies/$crate" "$copy/crates/$crate/must-fail"
-    (cd "$copy" && rt must-fail "$crate" > said 2>&1)
+    (cd "$copy" && exec rt must-fail "$crate") > "$copy/said" 2>&1 &
+    trying=$!
+    wait "$trying"
+    trying=
     told "$crate" "$copy/said" > "$copy/one"
     if grep -q '^untried' "$copy/one"; then grep -v 'must-fail' "$copy/said" | tail -n 5; fi
     cat "$copy/one" >> "$copy/all"
