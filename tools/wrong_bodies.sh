@@ -85,6 +85,27 @@ for lib in crates/*/out/rlib; do
     fi
 done
 
+# Where a refusal stands, by what rt said of it: the function and the goal, of an answer on file or of a place of the code.
+place() {
+    local file goal line text
+    if [[ $2 =~ proofs/([^:]*)\.antt:[0-9:]*\ error:\ \`([^\`]*)\` ]]; then
+        file=${BASH_REMATCH[1]} goal=${BASH_REMATCH[2]}
+        case $file in */Answers | */Invariants | */Proof) file=${file%/*} ;; esac
+        echo "$file \`$goal\`"
+    elif [[ $2 =~ src/([^:]*)\.rt:([0-9]+):[0-9]+:.*\(\`([^\`]*)\` ]]; then
+        file=${BASH_REMATCH[1]} line=${BASH_REMATCH[2]} goal=${BASH_REMATCH[3]} text=$copy/crates/$1/src/${BASH_REMATCH[1]}.rt
+        # (a place in a function's head, or in its body)
+        if sed -n "${line}p" "$text" | grep -q '^ *\(pub\|fn\|#\[\|//\)'; then
+            line=$(tail -n "+$line" "$text" | grep -m 1 '\bfn ')
+        else
+            line=$(head -n "$line" "$text" | grep '\bfn ' | tail -n 1)
+        fi
+        echo "$file/$(sed 's/.*\bfn \([a-z_0-9]*\).*/\1/' <<< "$line") \`$goal\`"
+    else
+        echo "$2"
+    fi
+}
+
 # What came of a crate's bodies, from what rt said of them: a line each, that begins with refused, form, known (let through for its reason),
 # through, bad, untried, or mended (it has a reason and is refused).
 told() {
@@ -93,9 +114,7 @@ told() {
         name=$(basename "$edit" .edit)
         said=$(grep -F "must-fail $crate/$name.edit: " "$2" | sed -e 's/^.*\.edit: //' | tail -n 1)
         reason=$(sed -n 's/^# let through: //p' "$edit")
-        # The function and the goal, from where an answer on file, or a place of the code, broke.
-        where=$(sed -n -e 's,.*\(\./\|: \)proofs/\(.*\)\.antt:[0-9:]* error: `\([^`]*\)`.*,\2 `\3`,p' -e 's,.*note: src/\(.*\): .*(`\([^`]*\)`.*,\1 `\2`,p' <<< "$said")
-        where=$(sed -e 's,/\(Answers\|Invariants\|Proof\) , ,' <<< "${where:-$said}")
+        where=$(place "$crate" "$said")
         case $said in
             "refused, as it must be"* | "refused"*"(only by a limit"*)
                 if [ -n "$reason" ]; then echo "mended $crate/$name: is refused, and has a reason to be let through: $where"
