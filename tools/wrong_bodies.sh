@@ -36,18 +36,20 @@ changed_since() {
     comm -3 <(git show "$1:crates.txt" | lists | sort) <(lists < crates.txt | sort) | awk '{ print "code", $1 }'
 }
 
-# Of the crates on standard input those that stand on none of them come too: all above those of changed code, by crates.txt.
+# Of what changed, on standard input, all crates: of changed code those above it by crates.txt too.
 with_those_above() {
-    awk 'NR == FNR { if ($1 == "code") is_new[$2] = 1; else shown[$2] = 1; next }
-         { for (n = 2; n <= NF; n++) below[$1] = below[$1] " " $n; below[$1] = below[$1] " "; names[$1] = 1 }
-         END {
-             do {
-                 is_more = 0
-                 for (name in names) if (!is_new[name]) for (one in is_new) if (is_new[one] && index(below[name], " " one " ")) { is_new[name] = 1; is_more = 1; break }
-             } while (is_more)
-             for (name in is_new) if (is_new[name]) shown[name] = 1
-             for (name in shown) print name
-         }' - <(lists < crates.txt)
+    { sed 's/^/changed /' && lists < crates.txt | sed 's/^/listed /'; } |
+        awk '$1 == "changed" { if ($2 == "code") is_new[$3] = 1; else shown[$3] = 1 }
+             $1 == "listed" { names[$2] = 1; below[$2] = $0 " " }
+             END {
+                 do {
+                     is_more = 0
+                     for (name in names) if (!(name in is_new)) for (one in is_new) if (index(below[name], " " one " ")) { found[name] = 1; is_more = 1 }
+                     for (name in found) is_new[name] = 1
+                 } while (is_more)
+                 for (name in is_new) shown[name] = 1
+                 for (name in shown) print name
+             }'
 }
 
 [ -d wrong_bodies ] || stop "there is no folder wrong_bodies"
@@ -72,7 +74,7 @@ crates=$(lists < crates.txt | awk '{ print $1 }' | grep -xF -e "$(printf '%s\n' 
 copy=$(mktemp -d) || stop "there is no room for a scratch copy"
 trying=
 trap 'rm -rf "$copy"' EXIT
-trap 'if [ -n "$trying" ]; then kill "$trying" && wait "$trying"; fi; exit 130' INT TERM
+trap 'if [ -n "$trying" ]; then kill "$trying" 2> /dev/null && wait "$trying"; fi; exit 130' INT TERM
 git ls-files -z --cached --others --exclude-standard -- crates crates.txt HANDLES wrong_bodies |
     while IFS= read -r -d '' file; do if [ -e "$file" ]; then printf '%s\0' "$file"; fi; done |
     xargs -0 cp --parents -t "$copy" || stop "the tree could not be copied"

@@ -1,10 +1,12 @@
 #!/usr/bin/env python3
-"""Puts what tools/wrong_bodies.sh printed into the tables of docs/evidence/WRONG_BODIES.md.
+"""Puts what came of the second tier of edits into the tables of docs/evidence/WRONG_BODIES.md.
 
     tools/wrong_bodies.sh > LOG; tools/wrong_bodies_table.py COMMIT LOG..
 
-COMMIT is the text at which those bodies were tried. The rows of the crates that a log has are made anew, a later log before an earlier one; those of
-other crates stay, but for bodies that are gone, and a body that has no row gets one. With no log only that is done. The table by crate is counted again.
+COMMIT is the text at which those bodies were tried; it should be the one that stands here, since functions are found by their lines. A log is what
+tools/wrong_bodies.sh printed, or what rt itself did where it tried them (lines `must-fail CRATE/NAME.edit: ..`). The rows of bodies that a log has
+are made anew, by the last log that has one; other rows stay, but for bodies that are gone, and a body without a row gets one. With no log only that is
+done. The table by crate is counted again.
 """
 
 import glob
@@ -27,13 +29,53 @@ def crates():
         return re.findall(r"^([a-z]\w*)[^:\n]*:", file.read(), re.M)
 
 
+def edit_of(crate, name):
+    with open(os.path.join(ROOT, "wrong_bodies", crate, name + ".edit"), encoding="utf-8") as file:
+        return file.read()
+
+
+def place(crate, said):
+    """The function and the goal at which a refusal stands, by what rt said: of an answer on file, or of a place of the code."""
+    answer = re.search(r"proofs/([^:]*)\.antt:[\d:]* error: `([^`]*)`", said)
+    if answer:
+        return "%s %s" % (re.sub(r"/(?:Answers|Invariants|Proof)$", "", answer.group(1)), answer.group(2))
+    code = re.search(r"src/([^:]*)\.rt:(\d+):\d+:.*\(`([^`]*)`", said)
+    if not code:
+        return said
+    file, line = code.group(1), int(code.group(2))
+    with open(os.path.join(ROOT, "crates", crate, "src", file + ".rt"), encoding="utf-8") as text:
+        lines = text.read().split("\n")
+    # In a function's head the next one is meant, in its body the last one.
+    is_head = re.match(r" *(?:pub|fn|#\[|//)", lines[line - 1])
+    found = re.findall(r"\bfn (\w+)", "\n".join(lines[line - 1 :] if is_head else lines[:line]))
+    return "%s/%s %s" % (file, found[0 if is_head else -1] if found else line, code.group(3))
+
+
+def outcome(crate, name, said):
+    """What a line of rt comes to, as tools/wrong_bodies.sh tells it: a word, and where the body falls."""
+    has_reason = "# let through: " in edit_of(crate, name)
+    if said.startswith("refused"):
+        kind = "mended" if has_reason else "form" if "only because a proof file names" in said else "refused"
+        return kind, place(crate, said)
+    if said.startswith("NOT REFUSED"):
+        return "known" if has_reason else "through", "the crate is still proved with it"
+    return "bad" if said.startswith("BAD EDIT") else "untried", said
+
+
 def said_of(path):
-    """What a log says of each body: where it falls."""
+    """What a log says of each body of the second tier."""
     found = {}
-    with open(path, encoding="utf-8") as file:
-        for kind, crate, name, said in re.findall(r"^(refused|form|known|through|bad|untried|mended) (\w+)/([\w-]+): (.*)$", file.read(), re.M):
-            said = said.replace("`", "").replace("|", "/")
-            found[crate, name] = {"refused": said, "form": "%s: %s" % (FORM, said), "known": THROUGH}.get(kind, "%s: %s" % (kind, said))
+    with open(path, encoding="utf-8", errors="replace") as file:
+        text = file.read()
+    told = re.findall(r"^(refused|form|known|through|bad|untried|mended) (\w+)/([\w-]+): (.*)$", text, re.M)
+    of_rt = re.findall(r"^(?:rt: )?must-fail (\w+)/([\w-]+)\.edit: (.*)$", text, re.M)
+    for crate, name, said in of_rt:
+        if name in names("wrong_bodies/" + crate):
+            kind, where = outcome(crate, name, said)
+            told.append((kind, crate, name, where))
+    for kind, crate, name, said in told:
+        said = said.replace("`", "").replace("|", "/")
+        found[crate, name] = {"refused": said, "form": "%s: %s" % (FORM, said), "known": THROUGH}.get(kind, "%s: %s" % (kind, said))
     return found
 
 
@@ -49,8 +91,7 @@ def rows_of(text):
 
 def with_clause(crate, name, said):
     """What is said of a body, with the clause that is false where it is refused by form alone."""
-    with open(os.path.join(ROOT, "wrong_bodies", crate, name + ".edit"), encoding="utf-8") as file:
-        breaks = re.search(r"^# breaks: (.*)$", file.read(), re.M)
+    breaks = re.search(r"^# breaks: (.*)$", edit_of(crate, name), re.M)
     return said.replace(FORM + ":", "%s; false is %s:" % (FORM, breaks.group(1))) if breaks else said
 
 
