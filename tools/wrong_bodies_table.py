@@ -6,7 +6,7 @@
 COMMIT is the text at which those bodies were tried; it should be the one that stands here, since functions are found by their lines. A log is what
 tools/wrong_bodies.sh printed, or what rt itself did where it tried them (lines `must-fail CRATE/NAME.edit: ..`). The rows of bodies that a log has
 are made anew, by the last log that has one; other rows stay, but for bodies that are gone, and a body without a row gets one. With no log only that is
-done. The table by crate is counted again.
+done. The table by crate is counted again. What a log says of a body that stands in neither tier is told.
 """
 
 import glob
@@ -73,6 +73,8 @@ def said_of(path):
         if name in names("wrong_bodies/" + crate):
             kind, where = outcome(crate, name, said)
             told.append((kind, crate, name, where))
+        elif name not in names("crates/%s/must-fail" % crate):
+            print("no such body: %s/%s" % (crate, name))
     for kind, crate, name, said in told:
         said = said.replace("`", "").replace("|", "/")
         found[crate, name] = {"refused": said, "form": "%s: %s" % (FORM, said), "known": THROUGH}.get(kind, "%s: %s" % (kind, said))
