@@ -15,10 +15,12 @@ use Rattle.example_domains.proofs.RoamingRounds.{stage13}
 use Rattle.example_domains.proofs.ServiceRounds.{stage17}
 use Rattle.example_domains.proofs.ReturnRounds.{stage22}
 use Rattle.example_domains.proofs.RevocationRounds.{stage25}
+use Rattle.example_domains.proofs.EitherAnswer.{either_answer}
 use Rattle.example_domains.proofs.MobileData.{octets_few}
 use Rattle.example_domains.proofs.RoamingActs.{mobile}
 use Rattle.example_domains.proofs.Stages.{TimelyIsRight, at_sta, at_ap, at_to}
 use Rattle.example_domains.proofs.Trio.{IsTrio, trio}
+use Rattle.example_domains.specs.EitherAnswer.{HasEitherAnswer}
 use Rattle.example_domains.specs.Roaming.{CanRoam, association, roaming, service, return, revocation, HasAssociation, HasRoaming, HasService, HasReturn, HasRevocation, pair}
 
 -- a network with suite 4
@@ -135,6 +137,9 @@ return_explained law d k l m up down can up_is down_is =
 pub revocation_explained : TimelyIsRight → (d : Domain) (k l m : ℕ) (up down : List ℕ) → CanRoam d k l m → IsPayload up → IsPayload down → HasRevocation d k l m up down
 revocation_explained law d k l m up down can up_is down_is =
     subst (λ (x : Domain). HasRevocation x k l m up down) (is_mobile d can.suite) (ended law d k l m (in_mobile d k l m can) up down up_is down_is)
+
+pub either_answer_explained : TimelyIsRight → (d : Domain) (k l m : ℕ) → CanRoam d k l m → HasEitherAnswer d k l m
+either_answer_explained law d k l m can = subst (λ (x : Domain). HasEitherAnswer x k l m) (is_mobile d can.suite) (either_answer d k l m (in_mobile d k l m can) law)
 
 -- ---- there are such networks
 

@@ -1,6 +1,7 @@
 pub mod Moments
 pub mod LookedUp
 pub mod Stages
+pub mod WholeRounds
 pub mod Elements
 pub mod MobileData
 pub mod RoamingActs
@@ -14,5 +15,7 @@ pub mod AssociationRounds
 pub mod RoamingRounds
 pub mod ServiceRounds
 pub mod ReturnRounds
+pub mod RefusedRequest
 pub mod RevocationRounds
+pub mod EitherAnswer
 pub mod Example

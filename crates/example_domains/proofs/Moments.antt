@@ -46,7 +46,7 @@ by_either : (own : Bool) (A B C : Type 0) → (B → C) → cond own A B → con
 by_either true A B C f x = x
 by_either false A B C f x = f x
 
-moment_stays : (r : Node) (l : Looking) (answer : PullAnswer) (j : List Entry) (e : Entry) → l.round ≤ e.round → SomeMoment r l answer j → SomeMoment r l answer (e ∷ j)
+pub moment_stays : (r : Node) (l : Looking) (answer : PullAnswer) (j : List Entry) (e : Entry) → l.round ≤ e.round → SomeMoment r l answer j → SomeMoment r l answer (e ∷ j)
 moment_stays r l answer j e low w = record {
   since = e ∷ w.since;
   at = w.at;
@@ -56,12 +56,12 @@ moment_stays r l answer j e low w = record {
   answers = w.answers;
 }
 
-answer_stays : (o : Option Node) (l : Looking) (answer : PullAnswer) (past j : List Entry) (e : Entry) → l.round ≤ e.round → AnsweredBySome o l answer past j → AnsweredBySome o l answer past (e ∷ j)
+pub answer_stays : (o : Option Node) (l : Looking) (answer : PullAnswer) (past j : List Entry) (e : Entry) → l.round ≤ e.round → AnsweredBySome o l answer past j → AnsweredBySome o l answer past (e ∷ j)
 answer_stays None l answer past j e low is = is
 answer_stays (Some r) l answer past j e low is =
     by_either (same r l.node) (AnswersAt r l answer past) (SomeMoment r l answer j) (SomeMoment r l answer (e ∷ j)) (moment_stays r l answer j e low) is
 
-in_rest : (later : List Entry) (e : Entry) (past : List Entry) → In e (later ++ e ∷ past)
+pub in_rest : (later : List Entry) (e : Entry) (past : List Entry) → In e (later ++ e ∷ past)
 in_rest [] e past = inl refl
 in_rest (x ∷ later) e past = inr (in_rest later e past)
 
@@ -81,7 +81,7 @@ right_entry d past e right low is (y ∷ later) earlier x id name p answer cut l
 
 -- ---- a group of acts
 
-abbrev entry_of : ℕ → Node → Act → List Entry → Entry
+abbrev pub entry_of : ℕ → Node → Act → List Entry → Entry
 entry_of round n e past = record { round = round; node = n; number = number_of e past; act = e }
 
 abbrev pub LooksRight : Domain → ℕ → Node → List Act → List Entry → Type 0
@@ -91,7 +91,7 @@ LooksRight d round n (e ∷ g) past = IsRight d (entry_of round n e past) past �
 pub no_look : (d : Domain) (e : Entry) (past : List Entry) → answer_of e.act ≡ None → IsRight d e past
 no_look d e past none = λ id name p answer looks. absurd (cc (none, ap answer_of looks))
 
-none_by : (o : Option PullAnswer) (xs : List PullAnswer) → listed o xs ≡ [] → (o ≡ None) × (xs ≡ [])
+pub none_by : (o : Option PullAnswer) (xs : List PullAnswer) → listed o xs ≡ [] → (o ≡ None) × (xs ≡ [])
 none_by None xs is = (refl, is)
 none_by (Some x) xs is = absurd (cc is)
 

@@ -159,7 +159,7 @@ module _ (c : Domain) (k l m : ℕ) (t : IsTrio (mobile c) k l m) where
   row8 : RoamRow (here d 0 s) sta6 b (w.acts8 c k l m)
   row8 = Asks refl a refl t.apart.other (omega arith) refl
 
-  stage8 : Stage d k l m rounds8 sta8 ap7 to0 (octets7 ∷ frames7)
+  pub stage8 : Stage d k l m rounds8 sta8 ap7 to0 (octets7 ∷ frames7)
   stage8 = by_sta d k l m t.apart rounds7 sta6 ap7 to0 frames7 (stage7 c k l m t) (Roam m l) (w.acts8 c k l m) (event.Roam l) (refl, refl) row8 refl
 
   -- ---- round 9: the access point looks the key up, and answers
@@ -185,7 +185,7 @@ module _ (c : Domain) (k l m : ℕ) (t : IsTrio (mobile c) k l m) where
   says9 : w.acts9 c k l m ≡ Took (Some s) octets7 kind.FtReq Accepted None ∷ Looked id name s (Found r1) ∷ Opened s start.Roam ∷ Drew (Nonce anonce) ∷ Derived s i (ft_ptk r1 i.snonce i.anonce i.aa i.spa) ∷ sent_ft_resp d b s name i ∷ []
   says9 = ap (λ (x : Ptk). Took (Some s) octets7 kind.FtReq Accepted None ∷ Looked id name s (Found r1) ∷ Opened s start.Roam ∷ Drew (Nonce anonce) ∷ Derived s i x ∷ sent_ft_resp d b s name i ∷ []) (ptk_of_r1 i refl)
 
-  row9 : TakeRow (here d 0 b) to0 octets7 (w.acts9 c k l m)
+  pub row9 : TakeRow (here d 0 b) to0 octets7 (w.acts9 c k l m)
   row9 = record {
     r = Managed body7 said7;
     reads = reads7;

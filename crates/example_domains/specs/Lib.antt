@@ -1,1 +1,2 @@
 pub mod Roaming
+pub mod EitherAnswer

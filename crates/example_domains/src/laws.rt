@@ -13,6 +13,7 @@ ghost use Rattle.run_journal.specs.declared.domain.Domain.{Domain};
 ghost use Rattle.domain_rules.specs.DataExample.{IsPayload};
 ghost use Rattle.example_domains.specs.Roaming.{CanRoam, HasAssociation, HasRoaming, HasService};
 ghost use Rattle.example_domains.specs.Roaming.{HasReturn, HasRevocation, pair};
+ghost use Rattle.example_domains.specs.EitherAnswer.{HasEitherAnswer};
 
 use domain_rules::looks_are_right;
 
@@ -62,6 +63,16 @@ pub fn return_is_explained()
 pub fn revocation_is_explained()
     ensures { (d : Domain) (k l m : ℕ) (up down : List ℕ) → CanRoam d k l m → IsPayload up
         → IsPayload down → HasRevocation d k l m up down }
+{
+    looks_are_right();
+}
+
+/// The order of what two access points do in one round is free: where the first one revokes the key in
+/// the round in which the other one looks it up, two journals are explained by the same rounds, and key
+/// holders answer rightly in both. In one the look finds the key, and the request is accepted; in the
+/// other it finds none, and the request is refused.
+pub fn either_answer_is_right()
+    ensures { (d : Domain) (k l m : ℕ) → CanRoam d k l m → HasEitherAnswer d k l m }
 {
     looks_are_right();
 }
