@@ -4,16 +4,20 @@
     tools/chart.py SCRIPT REPORT > CHART.svg
     tools/chart.py --text SCRIPT REPORT
 
-A lane for each node, and a row for each event of the script, from the top. An arrow is a frame that came: solid as it was sent, in
-another colour where it came again, was altered or cut, or was injected from outside. A dotted arrow is a frame that never came. At the
-receiver stands what came of it; bars beside a lane are attempts and sessions, a diamond is a key that was installed. The events of a round
-stand between rows for its two lines, by access point, as in the report; they happen side by side.
+A lane for each node, and a row for each event of the script, from the top. Stations stand at both sides of the access point with which
+they exchange most frames. An arrow is a frame that came: solid as it was sent, in another colour where it came again, was altered or cut,
+or was injected from outside. Where it passes the lane of another node it goes under that lane, with a gap. A dotted arrow is a frame that
+never came. At the right stands what came of each event, and at which node. Bars beside a lane are attempts (left) and sessions (right) with
+the node that is named in them, a diamond is a key that was installed, with its name beside it. The events of a round stand between rows for
+its two lines, by access point, as in the report; they happen side by side.
 
-It needs Python's library alone. It knows the report lines of what is built, and ends with status 1 and the line where script and
-report do not fit together. docs/PROFILE.md has the grammar of both.
+It needs Python's library alone. It knows the report lines of what is built. It ends with status 1 and one line where a file cannot be
+read, or with the line where script and report do not fit together. docs/PROFILE.md has the grammar of both.
 """
 
 import sys
+import textwrap
+from collections import Counter
 from xml.sax.saxutils import escape
 
 # What follows a `took` line of that kind and outcome, as first words; a word in brackets may be missing.
@@ -46,6 +50,7 @@ AT_A_NODE = ("connect", "roam", "retry", "rekey", "send", "expire", "revoke", "l
 WITH_A_FRAME = ("deliver", "alter", "cut", "inject")
 BORDERS = ("round", "end")
 SUMMARY = ("end", "keys", "premises")
+FEW = 20  # so many lanes are put in the order in which arrows pass fewest
 
 
 class Mismatch(Exception):
@@ -263,7 +268,12 @@ class Chart:
         for bar in self.bars:
             if bar[3] is None:
                 bar[3] = len(self.events)
-        self.lanes = [node for node in listed if node in seen] or listed
+        self.lanes = in_order([node for node in listed if node in seen] or listed, self.ways())
+
+    def ways(self):
+        """From which node to which each arrow of the chart goes, those of frames that never came too."""
+        drawn = [(arrow.sender, arrow.receiver) for arrow in self.arrows if arrow is not None and arrow.sender is not None]
+        return drawn + [(frame.sender, frame.peer) for frame in self.frames.values() if not frame.came and frame.peer != "all"]
 
     def arrow(self, event, row):
         took = event.took()
@@ -298,7 +308,7 @@ class Chart:
         elif word == "close":
             self.end(act[1], act[2], act[3], row)
         elif word in ("install", "resume"):
-            self.keys.append((act[1], row, word))
+            self.keys.append((act[1], row, word, " ".join(act[3:])))
 
     def end(self, node, peer, what, row):
         for bar in self.bars:
@@ -353,6 +363,35 @@ class Chart:
         return [f for f in self.frames.values() if f.row == row and not f.came]
 
 
+def in_order(nodes, ways):
+    """The lanes from the left: each access point with its stations at both sides. Where they are few, they are then moved one by one as long
+    as arrows pass fewer lanes."""
+    points = [node for node in nodes if node.startswith("a")]
+    between = Counter(frozenset(way) for way in ways if way[0] in nodes and way[1] in nodes)
+    homes = {}
+    for node in nodes:
+        if node not in points and points:
+            home = max(points, key=lambda point: (between[frozenset((node, point))], -points.index(point)))
+            homes.setdefault(home, []).append(node)
+    order = [] if points else list(nodes)
+    for point in points:
+        around = homes.get(point, [])
+        order += around[:(len(around) + 1) // 2] + [point] + around[(len(around) + 1) // 2:]
+
+    def passed(lanes):
+        place = {node: number for number, node in enumerate(lanes)}
+        return sum(count * (max(place[node] for node in pair) - min(place[node] for node in pair)) for pair, count in between.items())
+
+    while len(order) <= FEW:
+        others = [order[:place] + order[place + 1:] for place in range(len(order))]
+        moved = [rest[:to] + [node] + rest[to:] for node, rest in zip(order, others) for to in range(len(order))]
+        best = min(moved, key=passed, default=order)
+        if passed(best) >= passed(order):
+            break
+        order = best
+    return order
+
+
 # The chart as text: one line for each event. A lane is `|`, in an attempt `:`, in a session `#`, in both `%`.
 
 WIDTH = 32
@@ -370,11 +409,16 @@ def put(line, place, text):
 
 
 def draw_arrow(line, start, end, label, dash, head):
+    """An arrow from one column to another, under the lanes that it passes; the label stands before the first of these."""
     first, last = min(start, end) + 1, max(start, end) - 1
     line += [" "] * (last + 1 - len(line))
+    lanes = [place for place in range(first, last + 1) if line[place] != " "]
     for place in range(first, last + 1):
-        line[place] = dash[(place - first) % len(dash)]
+        if all(abs(place - lane) > 1 for lane in lanes):
+            line[place] = dash[(place - first) % len(dash)]
     put(line, last if end > start else first, {True: ">", False: "<"}[end > start] if head is None else head)
+    if lanes:
+        first, last = (first, lanes[0] - 2) if end > start else (lanes[-1] + 2, last)
     put(line, (first + last - len(label)) // 2, " " + label + " ")
 
 
@@ -414,9 +458,11 @@ def text_chart(chart):
 
 # The chart as SVG.
 
-LANE, ROW, LOST, TOP, TEXT = 300, 26, 22, 70, 7.3
+# Between lanes (wider where there are two), beside them, and rows: of an event, and what a frame that never came and a second key add.
+LANE, WIDE_LANE, BESIDE, ROW, LOST, KEY, TEXT = 230, 300, 100, 26, 26, 13, 7.3
+BAR, EDGE, GAP = 11, 6, 4  # the width of a bar, half that of a diamond, and what is left free beside a lane that is passed
 LEGEND = ["Dotted: never came. Brown: came again, or to another node. Red: altered, cut or injected.",
-          "Yellow bar: attempt. Green bar: session. Diamond: a key installed (white: one that goes on)."]
+          "Yellow bar: attempt with the node named in it. Green bar: session. Diamond: a key installed (white: one that goes on)."]
 COLOURS = {"": "#1f2937", "again": "#b45309", "altered": "#b91c1c", "lost": "#6b7280"}
 
 
@@ -427,20 +473,22 @@ class Picture:
     def line(self, x1, y1, x2, y2, colour, more=""):
         self.parts.append('<line x1="%.1f" y1="%.1f" x2="%.1f" y2="%.1f" stroke="%s" %s/>' % (x1, y1, x2, y2, colour, more))
 
-    def text(self, x, y, text, anchor="start", colour="#111827", size=12):
+    def text(self, x, y, text, anchor="start", colour="#111827", size=12, more=""):
         self.parts.append('<text x="%.1f" y="%.1f" text-anchor="%s" fill="%s" font-size="%d" paint-order="stroke" stroke="#ffffff" '
-                          'stroke-width="3">%s</text>' % (x, y, anchor, colour, size, escape(text)))
+                          'stroke-width="3"%s>%s</text>' % (x, y, anchor, colour, size, more, escape(text)))
 
-    def bar(self, x, y1, y2, colour, title):
-        self.parts.append('<rect x="%.1f" y="%.1f" width="7" height="%.1f" fill="%s" stroke="#374151" stroke-width="0.5"><title>%s</title>'
-                          '</rect>' % (x, y1, max(y2 - y1, 4), colour, escape(title)))
+    def bar(self, x, y1, y2, colour, name, down):
+        high = max(y2 - y1, 4)
+        self.parts.append('<rect x="%.1f" y="%.1f" width="%d" height="%.1f" fill="%s" stroke="#374151" stroke-width="0.5"/>' % (
+            x, y1, BAR - 1, high, colour))
+        if high > down + 6 * len(name):
+            self.parts.append('<text transform="translate(%.1f %.1f) rotate(90)" fill="#374151" font-size="9">%s</text>' % (x + 2, y1 + down, name))
 
     def diamond(self, x, y, colour):
         self.parts.append('<path d="M %.1f %.1f l 6 6 l -6 6 l -6 -6 z" fill="%s" stroke="#111827"/>' % (x, y - 6, colour))
 
-    def head(self, x1, y1, x2, y2, colour):
-        way = 1 if x2 > x1 else -1
-        self.parts.append('<path d="M %.1f %.1f l %d -4 l 0 8 z" fill="%s"/>' % (x2, y2, -9 * way, colour))
+    def head(self, x, y, way, colour):
+        self.parts.append('<path d="M %.1f %.1f l %d -4 l 0 8 z" fill="%s"/>' % (x, y, -9 * way, colour))
 
 
 def colour_of(mark):
@@ -449,35 +497,84 @@ def colour_of(mark):
     return COLOURS.get(mark, COLOURS["altered"])
 
 
-def svg_chart(chart, title):
+class Layout:
+    """Where the lanes, rows, bars and diamonds of a chart stand."""
+
+    def __init__(self, chart, top, first, lane):
+        self.chart, self.lane = chart, lane
+        self.x = {node: first + lane * place for place, node in enumerate(chart.lanes)}
+        self.keys = [[] for _ in chart.events]
+        for node, row, word, name in chart.keys:
+            if node in self.x:
+                self.keys[row].append((node, word, name))
+        # A row for each event, and below it some room for a second key and for each frame that was sent in it and never came.
+        self.y = [top + ROW * 0.5]
+        for row in range(len(chart.events)):
+            self.y.append(self.y[row] + ROW + self.second(row) + LOST * len(chart.lost(row)))
+        self.bars = []
+        for node, peer, what, end, begin in chart.bars:
+            if node in self.x:
+                beside = {bar[5] for bar in self.bars if bar[0] == node and bar[2] == what and begin < bar[4]}
+                place = min(set(range(len(beside) + 1)) - beside)
+                self.bars.append((node, peer, what, begin, end, place))
+
+    def second(self, row):
+        """The room that the keys of a row take below the first one."""
+        return KEY * max(len(self.keys[row]) - 1, 0)
+
+    def edge(self, node, way, y):
+        """The outer edge of a lane at that height, at its left (-1) or right (1) side: of its bars and diamonds there."""
+        what = "attempt" if way < 0 else "session"
+        away = [BAR * (bar[5] + 1) for bar in self.bars if bar[0] == node and bar[2] == what and self.y[bar[3]] <= y <= self.y[bar[4]]]
+        if any(abs(self.y[row] + KEY * place - y) < EDGE + 2 for row, keys in enumerate(self.keys) for place, key in enumerate(keys) if key[0] == node):
+            away.append(EDGE)
+        return self.x[node] + way * max(away + [1])
+
+
+def heading(script, most):
+    """The first sentence of the comment with which a script begins, in lines of at most that many characters."""
+    told = []
+    for line in script.split("\n")[1:]:
+        if not line.startswith("#"):
+            break
+        told.append(line.lstrip("# "))
+    sentence = " ".join(told).split(". ")[0].rstrip(".")
+    return textwrap.wrap(sentence + "." if sentence else "", most)
+
+
+def svg_chart(chart, title, script):
     picture = Picture()
     notes = [chart.notes(event, True) for event in chart.events]
-    script = 20 + TEXT * max([len(event.text()) for event in chart.events] + [16]) + 40
-    lanes = len(chart.lanes)
-    margin = 30 + TEXT * max([len(note) for note in notes] + [10])
-    first = script + (margin if lanes > 1 else 120)
-    width = max(first + LANE * (lanes - 1) + margin, 700)
-    x_of = {node: first + LANE * place for place, node in enumerate(chart.lanes)}
-    # A row for each event, and behind it some room for each frame that was sent in it and never came.
-    y_of = [TOP + ROW * 0.5]
-    for row in range(len(chart.events)):
-        y_of.append(y_of[row] + ROW + LOST * len(chart.lost(row)))
+    left = 20 + TEXT * max([len(event.text()) + 4 for event in chart.events] + [16])
+    lane = WIDE_LANE if len(chart.lanes) <= 2 else LANE
+    right = left + 2 * BESIDE + lane * (len(chart.lanes) - 1)
+    width = max(right + 30 + TEXT * (max([len(note) for note in notes] + [10]) + 3), 900)
+    told = heading(script, int((width - 28) / TEXT))
+    top = 76 + 16 * len(told)
+    layout = Layout(chart, top, left + BESIDE, lane)
+    x_of, y_of = layout.x, layout.y
     height = y_of[-1] + 20 * (len(chart.summary) + len(LEGEND) + 2)
-    picture.text(14, 22, title, size=14)
+    picture.text(14, 26, title, size=16, more=' font-weight="bold"')
+    for number, line in enumerate(told):
+        picture.text(14, 46 + 16 * number, line, colour="#374151")
+    for row, event in enumerate(chart.events):
+        if event.is_border():
+            picture.line(left, y_of[row], width - 14, y_of[row], "#9ca3af", 'stroke-dasharray="6 4"')
+        else:
+            picture.line(left, y_of[row], right + 10, y_of[row], "#eef0f3")
     for node in chart.lanes:
-        picture.text(x_of[node], 46, node, "middle", size=15)
-        picture.line(x_of[node], 54, x_of[node], y_of[-1], "#9ca3af")
-    draw_bars(picture, chart, x_of, y_of)
-    draw_frames(picture, chart, x_of, y_of)
+        picture.text(x_of[node], top - 14, node, "middle", size=15)
+        picture.line(x_of[node], top - 6, x_of[node], y_of[-1], "#9ca3af")
+    for node, peer, what, begin, end, place in layout.bars:
+        x = x_of[node] - BAR * (place + 1) if what == "attempt" else x_of[node] + 1 + BAR * place
+        down = 8 + layout.second(begin) if what == "session" else 8
+        picture.bar(x, y_of[begin], y_of[end], "#fde68a" if what == "attempt" else "#86efac", peer, down)
+    draw_frames(picture, chart, layout)
+    draw_keys(picture, chart, layout)
     for row, event in enumerate(chart.events):
         picture.text(14, y_of[row] + 4, "%d  %s" % (event.line, event.text()), colour="#6b7280", size=11)
-        if event.is_border():
-            picture.line(script, y_of[row], width - 14, y_of[row], "#9ca3af", 'stroke-dasharray="6 4"')
-        node = node_of(event)
-        if node not in x_of:
-            continue
-        outer = -1 if lanes > 1 and node == chart.lanes[0] else 1
-        picture.text(x_of[node] + 18 * outer, y_of[row] + 4, notes[row], "end" if outer < 0 else "start")
+        if notes[row]:
+            picture.text(right + 20, y_of[row] + 4, "%s %s" % (node_of(event), notes[row]))
     below = y_of[-1] + 26
     for number, line in enumerate(LEGEND):
         picture.text(14, below + 16 * number, line, colour="#6b7280", size=11)
@@ -485,57 +582,74 @@ def svg_chart(chart, title):
     for number, line in enumerate(chart.summary):
         picture.text(14, below + 20 * number + 8, line)
     return ('<?xml version="1.0" encoding="UTF-8"?>\n<svg xmlns="http://www.w3.org/2000/svg" width="%.0f" height="%.0f" '
-            'font-family="monospace">\n<rect width="100%%" height="100%%" fill="#ffffff"/>\n%s\n</svg>\n'
-            % (width, height, "\n".join(picture.parts)))
+            'font-family="monospace">\n<title>%s</title>\n<rect width="100%%" height="100%%" fill="#ffffff"/>\n%s\n</svg>\n'
+            % (width, height, escape(title), "\n".join(picture.parts)))
 
 
-def draw_bars(picture, chart, x_of, y_of):
-    peers = {}
-    for node, peer, what, end, begin in chart.bars:
-        if node not in x_of:
-            continue
-        places = peers.setdefault(node, [])
-        if peer not in places:
-            places.append(peer)
-        away = 8 * places.index(peer)
-        x = x_of[node] - 8 - away if what == "attempt" else x_of[node] + 1 + away
-        picture.bar(x, y_of[begin], y_of[end], "#fde68a" if what == "attempt" else "#86efac", "%s: %s with %s" % (node, what, peer))
-    before = None
-    for node, row, word in chart.keys:
-        if node in x_of:
-            away = 11 if before == (node, row) else 0
-            picture.diamond(x_of[node], y_of[row] + away, "#111827" if word == "install" else "#ffffff")
-        before = (node, row)
+def draw_keys(picture, chart, layout):
+    """Diamonds, each with the name of its key at the side from which no arrow comes."""
+    for row, keys in enumerate(layout.keys):
+        arrow = chart.arrows[row]
+        for place, (node, word, name) in enumerate(keys):
+            y = layout.y[row] + KEY * place
+            way = -arrow_way(layout, arrow) if arrow is not None else -1
+            picture.diamond(layout.x[node], y, "#111827" if word == "install" else "#ffffff")
+            picture.text(layout.edge(node, -way, y) - way * 5, y + 4, name, "start" if way < 0 else "end", size=11)
 
 
-def draw_frames(picture, chart, x_of, y_of):
+def arrow_way(layout, arrow):
+    """To the right (1) or to the left (-1); a frame from outside, or back to its sender, comes from the left."""
+    if arrow.sender is None or arrow.sender == arrow.receiver:
+        return 1
+    return 1 if layout.x[arrow.receiver] > layout.x[arrow.sender] else -1
+
+
+def draw_frames(picture, chart, layout):
+    x_of, y_of = layout.x, layout.y
     for row, arrow in enumerate(chart.arrows):
-        if arrow is None:
-            continue
-        colour, end, y2 = colour_of(arrow.mark), x_of[arrow.receiver], y_of[row]
-        if arrow.sender is None or arrow.sender == arrow.receiver:
-            way = -1 if end > min(x_of.values()) or len(x_of) == 1 else 1
-            start, y1 = end + way * LANE * 0.4, y2 - 10
-        else:
-            start = x_of[arrow.sender]
-            is_slanted = arrow.mark == "" and row - arrow.frame.row <= 2
-            y1 = y_of[arrow.frame.row] if is_slanted else y2 - 10
-        picture.line(start, y1, end, y2, colour, 'stroke-width="1.5"')
-        picture.head(start, y1, end, y2, colour)
-        # Near its sender, where another frame sent in that row has its label farther on.
-        part = 0.6 if y2 - y1 > ROW and chart.is_second(arrow.frame) else 0.32
-        picture.text(start + (end - start) * part, y1 + (y2 - y1) * part - 4, arrow.label(), "middle", colour, 11)
+        if arrow is not None:
+            draw_frame(picture, chart, layout, arrow, row)
     for row in range(len(chart.events)):
         for place, frame in enumerate(chart.lost(row)):
-            start = x_of[frame.sender]
-            end = x_of.get(frame.peer, start + LANE)
-            way = 1 if end > start else -1
-            x, y1 = start + way * LANE * 0.3, y_of[row] + LOST * (place + 0.55)
-            y2 = y1 + 8
+            way = 1 if x_of.get(frame.peer, x_of[frame.sender] + 1) > x_of[frame.sender] else -1
+            y1 = y_of[row] + layout.second(row) + LOST * (place + 0.55)
+            start, y2 = layout.edge(frame.sender, way, y1), y1 + 8
+            x = start + way * 60
             picture.line(start, y1, x, y2, COLOURS["lost"], 'stroke-dasharray="2 5" stroke-width="1.5"')
             picture.text(x + way * 6, y2 + 4, "×", "middle", COLOURS["lost"], 14)
             label = "%d %s" % (frame.number, frame.kind)
             picture.text(x + way * 14, y2 + 4, label, "start" if way > 0 else "end", COLOURS["lost"], 11)
+
+
+def draw_frame(picture, chart, layout, arrow, row):
+    """One arrow, with a gap at each lane that it passes, and its label before the first of them."""
+    y_of, colour, way = layout.y, colour_of(arrow.mark), arrow_way(layout, arrow)
+    end, y2 = layout.edge(arrow.receiver, -way, y_of[row]), y_of[row]
+    passed = []
+    if arrow.sender is None or arrow.sender == arrow.receiver:
+        start, y1 = end - way * 80, y2 - 10
+    else:
+        first, last = sorted(chart.lanes.index(node) for node in (arrow.sender, arrow.receiver))
+        passed = chart.lanes[first + 1:last][::way]
+        is_slanted = arrow.mark == "" and row - arrow.frame.row <= 2 and not passed
+        y1 = y_of[arrow.frame.row] if is_slanted else y2 - 10
+        start = layout.edge(arrow.sender, way, y1)
+    pieces, at = [], start
+    for node in passed:
+        y = y1 + (y2 - y1) * (layout.x[node] - start) / (end - start)
+        pieces.append((at, layout.edge(node, -way, y) - way * GAP))
+        at = layout.edge(node, way, y) + way * GAP
+    pieces.append((at, end))
+    for x1, x2 in pieces:
+        heights = [y1 + (y2 - y1) * (x - start) / (end - start) for x in (x1, x2)]
+        picture.line(x1, heights[0], x2, heights[1], colour, 'stroke-width="1.5"')
+    picture.head(end, y2, way, colour)
+    # Near its sender, where another frame sent in that row has its label farther on.
+    part = 0.5 if passed else 0.66 if y2 - y1 > ROW and chart.is_second(arrow.frame) else 0.42
+    half = 0.45 * TEXT * len(arrow.label()) + 4
+    x = start + way * max(abs(pieces[0][1] - start) * part, half)
+    slope = (y2 - y1) / (end - start)
+    picture.text(x, y1 + slope * (x - start) - 3 - min(abs(slope) * half, 8), arrow.label(), "middle", colour, 11)
 
 
 def read(name):
@@ -550,11 +664,18 @@ def main(words):
         print("usage: chart.py [--text] SCRIPT REPORT", file=sys.stderr)
         return 2
     try:
-        chart = Chart(read(names[0]), read(names[1]))
+        script, report = read(names[0]), read(names[1])
+        chart = Chart(script, report)
+    except OSError as why:
+        print("%s: %s" % (why.filename, why.strerror), file=sys.stderr)
+        return 1
     except Mismatch as why:
         print("%s and %s: %s" % (names[0], names[1], why), file=sys.stderr)
         return 1
-    sys.stdout.write(text_chart(chart) if as_text else svg_chart(chart, names[0].split("/")[-1]))
+    except (KeyError, IndexError, ValueError):
+        print("%s and %s: these are no script and its report" % (names[0], names[1]), file=sys.stderr)
+        return 1
+    sys.stdout.write(text_chart(chart) if as_text else svg_chart(chart, names[0].split("/")[-1], script))
     return 0
 
 
