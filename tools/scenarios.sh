@@ -66,16 +66,12 @@ for report in examples/*.report; do
     [ -e "${report%.report}.txt" ] || says "$report: has no script"
 done
 for chart in docs/*.svg; do
-    [ "$chart" = docs/crates.svg ] || [ -e "examples/$(basename "$chart" .svg).txt" ] || says "$chart: the chart of no example"
+    [ -e "examples/$(basename "$chart" .svg).txt" ] || says "$chart: the chart of no example"
 done
 
 # The script that docs/PROFILE.md explains is one of the examples.
 awk '/^```/ { blocks++; next } blocks == 1' docs/PROFILE.md | cmp -s - examples/lost_message_4.txt \
     || says "docs/PROFILE.md: its script is not examples/lost_message_4.txt"
-if [ -n "$python" ]; then
-    tools/crate_graph.py | cmp -s - docs/crates.svg || says "docs/crates.svg: not the graph of crates.txt (tools/crate_graph.py)"
-fi
-
 if [ -z "$python" ]; then echo "skipped: no Python, so no charts"; fi
 echo "scenarios $scenarios wrong $wrong"
 [ "$wrong" = 0 ]
