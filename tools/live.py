@@ -238,8 +238,8 @@ class Run:
                 raise Wrong("frame %d is %d octets from %d to %d, and seen were %d from %d to %d" % (number, size, source, to, len(octets), seen_source, seen_to))
         return [(number, source, to, octets) for (number, source, to, _), (_, _, octets) in zip(said, seen)]
 
-    def finish(self, wanted):
-        """Ends the run and judges it. The lines have to be in the report in that order."""
+    def finish(self, wanted, premises=HOLDS):
+        """Ends the run and judges it. The lines have to be in the report in that order, and then that of the premises."""
         report = self.end()
         beside = replayed(self.lines)
         if report != beside:
@@ -247,7 +247,7 @@ class Run:
             place = next((place for place, (one, two) in enumerate(zip(lines, other)) if one != two), min(len(lines), len(other)))
             raise Wrong("line %d of its report is %s, and of the replay's %s" % (place + 1, lines[place:place + 1], other[place:place + 1]))
         rest = iter(report.splitlines())
-        for line in wanted + [HOLDS]:
+        for line in wanted + [premises]:
             if line not in rest:
                 raise Wrong("this is not in its report, or not in its order: %s" % line)
         return self.frames(report) if self.listener.socket else []
