@@ -65,7 +65,7 @@ const FRAME: &[u8] = &[0xd4, 0, 0, 0, 2, 0, 0, 0, 0, 0x11];
 const REQUEST: &[u8] =
     b"\0\0\0\0\x02\0\0\0\0\x01\x02\0\0\0\0\x11\x02\0\0\0\0\x01\0\0\x11\0\x0a\0\0\x04IEEE\x01\x04\x82\x84\x8b\x96\x30\x14\x01\0\0\x0f\xac\x04\x01\0\0\x0f\xac\x04\x01\0\0\x0f\xac\x02\x0c\0";
 
-pub(crate) static CASES: [Case; 10] = [
+pub(crate) static CASES: [Case; 12] = [
     Case {
         shows: "a source that fails behind a line that has no end yet, which is not run",
         words: REPLAY,
@@ -109,7 +109,36 @@ open s1 a1",
         sent: &[],
     },
     Case {
-        shows: "the same sink behind a source that fails, in place of whose fault comes that of the sink",
+        shows: "a whole handshake to a sink with room for 100 octets, which end in the fifth line",
+        words: REPLAY,
+        front: NODES,
+        lines: "connect s1 a1
+deliver 1 to a1
+deliver 2 to s1
+deliver 3 to s1
+deliver 4 to a1
+deliver 5 to s1
+deliver 6 to a1
+",
+        reads: NEVER,
+        room: 100,
+        writes: NEVER,
+        frames: [&[], &[]],
+        attach: NEVER,
+        links: [NEVER, NEVER],
+        draws: NEVER,
+        turns: 0,
+        passes: [0, 0, 0],
+        status: Status::WriteFault,
+        report: "install a1 all gtk 1
+open s1 a1 connect
+sent 1 s1 a1 assoc-req 62
+took a1 assoc-req accepted
+open a1",
+        sent: &[],
+    },
+    Case {
+        shows: "a sink with room for 31 octets behind a source that fails, in place of whose fault comes that of the sink",
         words: REPLAY,
         front: NODES,
         lines: "connect s1 a1
@@ -303,6 +332,27 @@ ssid IEEE
         passes: [0, 0, 0],
         status: Status::DrawFault,
         report: "",
+        sent: &[],
+    },
+    Case {
+        shows: "a storm, which reads nothing and writes its summary alone",
+        words: &["storm", "0"],
+        front: "",
+        lines: "",
+        reads: 0,
+        room: 2000,
+        writes: NEVER,
+        frames: [&[], &[]],
+        attach: NEVER,
+        links: [NEVER, NEVER],
+        draws: NEVER,
+        turns: 0,
+        passes: [0, 0, 0],
+        status: Status::Done,
+        report: "end frames 745 accepted 395 answered 8 refused 743 ignored 0
+keys installed 88 resumed 2 used 52 handed-up 4
+premises fresh yes no-collision yes unforged yes
+",
         sent: &[],
     },
 ];
