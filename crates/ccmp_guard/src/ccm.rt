@@ -197,7 +197,9 @@ fn mic_of(key: &Aes128, nonce: &[u8; 13], x: [u8; 16]) -> [u8; 8]
     array_at(&sum, 0)
 }
 
-/// Seals a message: writes it encrypted, and the encrypted authentication field behind it.
+/// Seals a message under a key, with a nonce that no other message under the key has, and with
+/// additional authenticated data (RFC 3610, 2): writes it encrypted, and the encrypted
+/// authentication field of 8 octets after it. Takes no memory.
 pub fn seal(key: &Aes128, nonce: &[u8; 13], aad: &[u8], plain: &[u8], out: &mut [u8])
     requires some { 0 < length aad.now }
     requires few { length aad.now ≤ 30 }
@@ -212,7 +214,8 @@ pub fn seal(key: &Aes128, nonce: &[u8; 13], aad: &[u8], plain: &[u8], out: &mut 
 }
 
 /// Opens a sealed message into `out`, and answers whether the authentication field is the one of
-/// what stands there: whether there is a plain text that is sealed to this.
+/// what stands there: whether there is a plain text that is sealed to this (RFC 3610, 2.5). Takes no
+/// memory.
 pub fn open(key: &Aes128, nonce: &[u8; 13], aad: &[u8], sealed: &[u8], out: &mut [u8]) -> bool
     requires some { 0 < length aad.now }
     requires few { length aad.now ≤ 30 }

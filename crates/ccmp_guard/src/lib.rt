@@ -3,7 +3,7 @@
 //! none twice.
 #![tactic(auto)]
 
-mod ccm;
+pub mod ccm;
 mod ccmp;
 mod guard;
 mod laws;

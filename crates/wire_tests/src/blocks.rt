@@ -119,7 +119,8 @@ fn is_refused(kek: &[u8; 16], wrapped: &[u8]) -> bool
     matches!(unwrap(kek, wrapped, &mut out), Err(BadWrap))
 }
 
-// The vector of RFC 3394, one octet changed, and plain texts of three and more blocks.
+// The vector of RFC 3394, one octet changed, its first 8 and its first 23 octets, and plain texts of
+// three and more blocks.
 #[test]
 fn keys_are_wrapped_and_unwrapped_or_refused(rt: HostRuntime) {
     plain_text_is_unique();
@@ -129,6 +130,8 @@ fn keys_are_wrapped_and_unwrapped_or_refused(rt: HostRuntime) {
         is_wrapped(&COUNTED_KEY, &STANDARD_PLAIN, &STANDARD_WRAPPED)
             && is_unwrapped(&COUNTED_KEY, &STANDARD_PLAIN, &STANDARD_WRAPPED)
             && is_refused(&COUNTED_KEY, &other)
+            && is_refused(&COUNTED_KEY, &STANDARD_WRAPPED[..8])
+            && is_refused(&COUNTED_KEY, &STANDARD_WRAPPED[..23])
     );
     assert!(rt;
         is_wrapped(&STANDARD_KEY, &RISING[..24], &WRAPPED_24)

@@ -1,11 +1,12 @@
-//! The key holders that one alone has, with the keys of a capture, and those that two threads share.
+//! The key holders that one alone has and those that are shared: what each answers, with the keys of a
+//! capture too, and that two threads see each other's rows.
 
 ghost use Rattle.std.specs.Prelude.{◌≡◌, true, length};
 ghost use Rattle.key_holders.specs.Rows.{is_in};
 
 use crate::keys::octets;
 use domain_base::{Mac, Octets};
-use holder_table::{HolderPass, SharedHolders};
+use holder_table::{Bound, HolderPass, SharedHolders};
 use key_hierarchy::{PmkR1, PullAnswer, PutAnswer, RevokeAnswer, ptk_from_r1};
 use key_holders::{HolderRow, Holders, ListHolders};
 use std::alloc::Global;
@@ -13,7 +14,8 @@ use std::process::Abort;
 use std::test::*;
 use std::thread::{Threads, join};
 
-const R0KH_ID: &[u8] = b"kanstrup-ft";
+// The R0KH-IDs of two access points; the first is that of a capture.
+const R0KH_IDS: [&[u8]; 2] = [b"kanstrup-ft", b"r0kh-2"];
 
 const STA: Mac = Mac([0x02, 0x00, 0x00, 0x00, 0x02, 0x00]);
 
@@ -51,36 +53,6 @@ fn is_captured(answer: PullAnswer) -> bool {
     r1.name == R1_NAME.to_be_bytes() && ptk.kck == KCK.to_be_bytes()
 }
 
-// A station's row of a capture gives the keys of its move, until it is revoked.
-fn gives_the_captured_key<H: Holders>(holders: &mut H) -> bool
-    requires { is_in 0 (H.has holders.old) ≡ true }
-{
-    let psk = octets(PSK);
-    let row = HolderRow::derive(&psk, b"wireshark-ft-psk", [1, 2], R0KH_ID, STA);
-    let name = row.name();
-    let held = matches!(holders.put(0, row), PutAnswer::Held);
-    let found = is_captured(holders.pull(R0KH_ID, &name, TARGET, STA));
-    let revoked = matches!(holders.revoke(0, &name), RevokeAnswer::Revoked);
-    let answer = holders.pull(R0KH_ID, &name, TARGET, STA);
-    let gone = matches!(answer, PullAnswer::Absent);
-    name == R0_NAME.to_be_bytes() && held && found && revoked && gone
-}
-
-#[test]
-fn a_row_gives_the_keys_of_a_capture(rt: HostRuntime) {
-    let mut ids = Vec::new(rt.alloc());
-    let id = R0KH_ID.to_vec(rt.alloc()).expect(&rt, "memory");
-    ids.push(Octets(id)).expect(&rt, "memory");
-    let mut holders = ListHolders::new(rt.alloc(), ids).expect(&rt, "memory");
-    assert!(rt; gives_the_captured_key(&mut holders));
-}
-
-// The R0KH-IDs of the two access points whose key holders are shared.
-const R0KH_IDS: [&[u8]; 2] = [b"r0kh-1", b"r0kh-2"];
-
-// The most pulls that wait for the other side.
-const PULLS: u64 = 20_000_000;
-
 fn ids(rt: &impl Abort, alloc: Global) -> Vec<Octets>
     ensures { length result.items ≡ 2 }
 {
@@ -105,6 +77,80 @@ fn row(ap: u8, number: u8) -> HolderRow {
         sta: STA,
     }
 }
+
+// A station's row of a capture gives the keys of its move, until it is revoked.
+fn gives_the_captured_key<H: Holders>(holders: &mut H) -> bool
+    requires { is_in 0 (H.has holders.old) ≡ true }
+    ensures { H.has holders.new ≡ H.has holders.old }
+{
+    let psk = octets(PSK);
+    let row = HolderRow::derive(&psk, b"wireshark-ft-psk", [1, 2], R0KH_IDS[0], STA);
+    let name = row.name();
+    let held = matches!(holders.put(0, row), PutAnswer::Held);
+    let found = is_captured(holders.pull(R0KH_IDS[0], &name, TARGET, STA));
+    let revoked = matches!(holders.revoke(0, &name), RevokeAnswer::Revoked);
+    let answer = holders.pull(R0KH_IDS[0], &name, TARGET, STA);
+    let gone = matches!(answer, PullAnswer::Absent);
+    name == R0_NAME.to_be_bytes() && held && found && revoked && gone
+}
+
+// Whether 64 rows of different names are held.
+fn fills<H: Holders>(holders: &mut H) -> bool
+    requires { is_in 1 (H.has holders.old) ≡ true }
+    ensures { H.has holders.new ≡ H.has holders.old }
+{
+    let mut all = true;
+    for number in 0..64 {
+        all &= matches!(holders.put(1, row(1, number)), PutAnswer::Held);
+    }
+    all
+}
+
+// Each answer of a key holder of 64 rows, of which a revoked one makes no room and is found no more.
+fn meets_each_answer<H: Holders>(holders: &mut H) -> bool
+    requires { is_in 1 (H.has holders.old) ≡ true }
+{
+    let first = row(1, 0);
+    let filled = fills(holders);
+    let again = matches!(holders.put(1, first), PutAnswer::HeldAlready);
+    let full = matches!(holders.put(1, row(1, 64)), PutAnswer::Full);
+    let revoked = matches!(holders.revoke(1, &first.name), RevokeAnswer::Revoked);
+    let gone = matches!(holders.revoke(1, &first.name), RevokeAnswer::Absent);
+    let still_full = matches!(holders.put(1, first), PutAnswer::Full);
+    let answer = holders.pull(R0KH_IDS[1], &first.name, TARGET, STA);
+    let absent = matches!(answer, PullAnswer::Absent);
+    let answer = holders.pull(b"r0kh-3", &row(1, 1).name, TARGET, STA);
+    let no_holder = matches!(answer, PullAnswer::NoHolder);
+    filled && again && full && revoked && gone && still_full && absent && no_holder
+}
+
+#[test]
+fn listed_holders_answer(rt: HostRuntime) {
+    let ids = ids(&rt, rt.alloc());
+    let mut holders = ListHolders::new(rt.alloc(), ids).expect(&rt, "memory");
+    assert!(rt; gives_the_captured_key(&mut holders) && meets_each_answer(&mut holders));
+}
+
+// The shared holders give the same answers on one thread.
+fn shared_meet_each_answer(holders: &SharedHolders, pass: HolderPass) -> bool
+    requires pass { pass.table ≡ holders.now.table }
+    requires has { (is_in 0 pass.knows.has ≡ true) × (is_in 1 pass.knows.has ≡ true) }
+{
+    let mut bound = Bound::new(holders, pass);
+    let is_right = gives_the_captured_key(&mut bound) && meets_each_answer(&mut bound);
+    let _pass = bound.into_pass();
+    is_right
+}
+
+#[test]
+fn shared_holders_answer(rt: HostRuntime) {
+    let ids = ids(&rt, rt.alloc());
+    let (holders, pass) = SharedHolders::start(rt.alloc(), ids).expect(&rt, "memory");
+    assert!(rt; shared_meet_each_answer(&holders, pass));
+}
+
+// The most pulls that wait for the other side.
+const PULLS: u64 = 20_000_000;
 
 fn is_found(answer: PullAnswer, r1: &PmkR1) -> bool {
     match answer {

@@ -1,4 +1,4 @@
-//! EAPOL-Key frames: faults, a MIC, and wrapped key data.
+//! EAPOL-Key frames: what is read of them, faults, a MIC, and wrapped key data.
 
 ghost use Rattle.std.specs.Prelude.{◌≡◌, ◌≤◌, ◌+◌, length};
 ghost use Rattle.eapol_key.specs.KeyData.{padded_length};
@@ -13,14 +13,28 @@ static KCK: [u8; 16] = [
 
 static NONCE: [u8; 32] = [0x5a; 32];
 
-// Octets, and the number and the place of their first fault.
-static FAULTS: [(&[u8], u8, usize); 5] = [
-    (b"\x02", 1, 1),
-    (b"\x02\x00\x00\x00", 2, 1),
-    (&OTHER_DESCRIPTOR, 3, 4),
-    (b"\x02\x03\x00\x5f", 4, 2),
-    (&OTHER_LENGTH, 5, 97),
+// How many octets a frame has, its key information, its counter and its nonce; or the number and the
+// place of the first fault.
+type Given = Result<(usize, u16, u64, [u8; 32]), (u8, usize)>;
+
+static GIVEN: [(&[u8], Given); 7] = [
+    (&FIRST_M1, Ok((99, 0x008a, 1, [b'n'; 32]))),
+    (&LONGER, Ok((99, 0x008a, 1, [b'n'; 32]))),
+    (b"\x02", Err((1, 1))),
+    (b"\x02\x00\x00\x00", Err((2, 1))),
+    (&OTHER_DESCRIPTOR, Err((3, 4))),
+    (b"\x02\x03\x00\x5f", Err((4, 2))),
+    (&OTHER_LENGTH, Err((5, 97))),
 ];
+
+// The first M1 of an attempt with 00-0F-AC:2, and three octets after it.
+const FIRST_M1: [u8; 99] = *b"\x02\x03\x00\x5f\x02\x00\x8a\x00\x10\0\0\0\0\0\0\0\x01\
+    nnnnnnnnnnnnnnnnnnnnnnnnnnnnnnnn\0\0\0\0\0\0\0\0\0\0\0\0\0\0\0\0\0\0\0\0\0\0\0\0\0\0\0\0\0\0\0\0\
+    \0\0\0\0\0\0\0\0\0\0\0\0\0\0\0\0\0\0";
+
+const LONGER: [u8; 102] = *b"\x02\x03\x00\x5f\x02\x00\x8a\x00\x10\0\0\0\0\0\0\0\x01\
+    nnnnnnnnnnnnnnnnnnnnnnnnnnnnnnnn\0\0\0\0\0\0\0\0\0\0\0\0\0\0\0\0\0\0\0\0\0\0\0\0\0\0\0\0\0\0\0\0\
+    \0\0\0\0\0\0\0\0\0\0\0\0\0\0\0\0\0\0end";
 
 // A frame of zeros with another descriptor, and one that has another length of its key data.
 const OTHER_DESCRIPTOR: [u8; 99] = *b"\x02\x03\x00\x5f\x01\
@@ -70,17 +84,17 @@ static M4_MIC: [u8; 16] = [
     0x08, 0xf2, 0x59, 0xd6, 0xed, 0xb2, 0x1a, 0xb0, 0xc4, 0xa7, 0x9d, 0x79, 0x9c, 0xea, 0xac, 0xb6,
 ];
 
-fn fault_of(octets: &[u8]) -> Option<(u8, usize)> {
+fn frame_or_fault(octets: &[u8]) -> Given {
     match read(octets) {
-        Ok(_) => None,
-        Err(fault) => Some((fault.kind.code(), fault.place)),
+        Ok((frame, used)) => Ok((used, frame.information, frame.counter, frame.nonce)),
+        Err(fault) => Err((fault.kind.code(), fault.place)),
     }
 }
 
 #[test]
-fn faults_have_their_place_and_kind(rt: HostRuntime) {
-    for (octets, code, place) in &FAULTS {
-        assert!(rt; fault_of(octets) == Some((*code, *place)), "{octets:?}");
+fn frames_or_their_first_fault_are_answered(rt: HostRuntime) {
+    for (octets, given) in &GIVEN {
+        assert!(rt; frame_or_fault(octets) == *given, "{octets:?}");
     }
 }
 

@@ -1,11 +1,13 @@
-//! Tests of the public calls of the crates below the journal: the outside, cryptography, frames,
-//! elements, keys and key holders.
+//! Tests of the public calls of the crates below the nodes: the outside, cryptography, frames,
+//! elements, keys and key holders, and what storms draw.
 #![tactic(auto)]
 
 #[cfg(test)]
 mod adapters;
 #[cfg(test)]
 mod blocks;
+#[cfg(test)]
+mod ccm;
 #[cfg(test)]
 mod elements;
 #[cfg(test)]
@@ -26,5 +28,7 @@ mod outside;
 mod packet_numbers;
 #[cfg(test)]
 mod protected_bodies;
+#[cfg(test)]
+mod storms;
 #[cfg(test)]
 mod vectors;
