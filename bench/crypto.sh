@@ -1,12 +1,12 @@
 #!/usr/bin/env bash
 # What the ciphers cost: instructions of one AES block, of a CMAC of 1,500 octets, of a key wrap of 48 octets with the expansion of
 # its key, of a PBKDF2, and of payloads protected and opened, by their size. A small program does a work a number of times
-# (crates/cipher_bench); two runs of different numbers, one less the other, give the cost of one. Instructions are counted by callgrind
+# (crates/micro_bench); two runs of different numbers, one less the other, give the cost of one. Instructions are counted by callgrind
 # of valgrind, and where that is missing seconds of one processor are measured. It runs the program that `rt ci` proved and built, and
 # says so and ends with 1 where there is none. Run it from anywhere in the repository. With --profile it also prints which functions the
 # instructions of each work are spent in.
 source "$(dirname "$0")/common.sh"
-built cipher_bench
+built micro_bench
 
 # The instructions, or else the seconds, of that many of a work.
 of_many() { # WORK NUMBER [SIZE]

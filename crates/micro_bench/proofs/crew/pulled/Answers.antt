@@ -1,7 +1,7 @@
 use Rattle.std.proofs.Common.{ℕ, List, ap, ◌∙◌}
 use Rattle.key_holders.specs.Rows.{is_in}
 use Rattle.holder_table.specs.Steps.{without}
-use Rattle.holder_bench.proofs.crew.pulled.Goals as goal
+use Rattle.micro_bench.proofs.crew.pulled.Goals as goal
 
 pub split-third-requires-clause-has : goal.split-third-requires-clause-has
 split-third-requires-clause-has g c =

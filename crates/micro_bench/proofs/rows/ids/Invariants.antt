@@ -1,5 +1,5 @@
 use Rattle.std.proofs.Common.{◌≡◌, length}
-use Rattle.holder_bench.proofs.rows.ids.Given as goal
+use Rattle.micro_bench.proofs.rows.ids.Given as goal
 
 abbrev pub invariant-loop-ap : goal.invariant-loop-ap
 invariant-loop-ap l = length l.ids.items ≡ l.ap

@@ -1,7 +1,4 @@
-//! Does one piece of cryptographic work a number of times, so that its cost can be counted: the
-//! name of the work, the number, and for work on payloads their size, from 0 to 2,304 octets. It
-//! prints an octet of the result, so that no part of the work is left out. Other words end with 1.
-#![tactic(auto)]
+//! Cryptographic works. Each answers an octet of its result, so that no part of the work is left out.
 
 ghost use Rattle.std.specs.Prelude.{◌≤◌};
 
@@ -9,9 +6,6 @@ use aes_block::Aes128;
 use ccmp_guard::{Guard, Role};
 use key_wrap::{unwrap, wrap};
 use mac_prf::{cmac, pbkdf2};
-use std::alloc::AllocGlobal;
-use std::env::{self, Env};
-use std::process::ExitCode;
 
 const KEY: [u8; 16] = *b"key of 16 octets";
 
@@ -151,37 +145,11 @@ fn worked_on(work: &str, times: u32, size: usize) -> Option<u8> {
     }
 }
 
-// The first octet of the result of the work that the words name.
-fn octet_of(words: &[String]) -> Option<u8> {
-    if words.len() < 2 || words.len() > 3 {
-        return None;
-    }
-    let work = words[0].as_str();
-    let times = words[1].parse::<u32>().ok()?;
-    if words.len() == 2 {
-        return worked(work, times);
-    }
-    worked_on(work, times, words[2].parse::<usize>().ok()?)
-}
-
-// Whether the words name a work, whose octet is printed.
-fn run<R: Env + Print + AllocGlobal>(rt: &R) -> bool {
-    let Ok(args) = env::args(rt) else {
-        return false;
-    };
-    let Ok(words) = args.skip(1).collect::<Vec<String>>(rt.alloc()) else {
-        return false;
-    };
-    match octet_of(&words) {
-        Some(octet) => println!(rt; "{octet}").is_ok(),
-        None => false,
-    }
-}
-
-fn main(rt: HostRuntime) -> ExitCode {
-    if run(&rt) {
-        ExitCode::SUCCESS
-    } else {
-        ExitCode::FAILURE
+/// An octet of the result of the work of that name, done so often; for a work on payloads their size is
+/// told, from 0 to 2,304 octets.
+pub fn octet_of(work: &str, times: u32, size: Option<usize>) -> Option<u8> {
+    match size {
+        None => worked(work, times),
+        Some(size) => worked_on(work, times, size),
     }
 }

@@ -1,4 +1,4 @@
-//! What is to be done, and what came of it.
+//! What is to be pulled, and what came of it.
 
 ghost use Rattle.std.specs.Prelude.{◌≡◌, ◌+◌, ◌*◌, ◌≤◌};
 
