@@ -1,6 +1,7 @@
 //! CMAC (RFC 4493) with AES-128.
 
 ghost use Rattle.std.specs.Prelude.{◌≡◌, ℕ, ◌++◌, ◌∷◌, List, []};
+ghost use Rattle.std.specs.List.{flat_map};
 ghost use Rattle.mac_prf.specs.Cmac.{cmac, doubled, last_block, last_octets};
 ghost use Rattle.mac_prf.specs.HoldsBlocks.{HoldsBlocks};
 
@@ -119,5 +120,16 @@ pub fn cmac(key: &[u8; 16], text: &[u8]) -> [u8; 16]
 {
     let mut state = CmacState::new(key);
     state.update(text);
+    state.finalize()
+}
+
+/// `cmac` of a text that is given in pieces, each behind the one before it. Takes no memory.
+pub fn cmac_of_pieces(key: &[u8; 16], pieces: &[&[u8]]) -> [u8; 16]
+    ensures { result ≡ cmac key.now (flat_map (λ p. p.now) pieces.now) }
+{
+    let mut state = CmacState::new(key);
+    for piece in pieces {
+        state.update(piece);
+    }
     state.finalize()
 }

@@ -11,7 +11,7 @@ mod integrity;
 mod passphrase;
 mod reassociation;
 
-pub use chaining::cmac;
+pub use chaining::{cmac, cmac_of_pieces};
 pub use expansion::{kdf, prf};
 pub use hmac::{hmac_sha1, hmac_sha256};
 pub use integrity::mic;
