@@ -23,6 +23,8 @@ mod keys;
 #[cfg(test)]
 mod macs;
 #[cfg(test)]
+mod management_bodies;
+#[cfg(test)]
 mod outside;
 #[cfg(test)]
 mod packet_numbers;

@@ -1,0 +1,3 @@
+pub mod Bip
+pub mod Held
+pub mod Faults
