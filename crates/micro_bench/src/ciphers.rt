@@ -3,6 +3,7 @@
 ghost use Rattle.std.specs.Prelude.{◌≤◌};
 
 use aes_block::Aes128;
+use bip_guard::BipGuard;
 use ccmp_guard::{Guard, Role};
 use key_wrap::{unwrap, wrap};
 use mac_prf::{cmac, pbkdf2};
@@ -119,6 +120,23 @@ fn opened(size: usize, times: u32) -> u8
     plain[0]
 }
 
+// The header of a management frame from an access point to all.
+const TO_ALL: &[u8] =
+    b"\xd0\x00\x00\x00\xff\xff\xff\xff\xff\xff\x02\x00\x00\x00\x00\xbb\x02\x00\x00\x00\x00\xbb\x00\x00";
+
+// A body of 1,500 octets, sealed under one packet number after the other.
+fn sealed(times: u32) -> u8 {
+    let mut body = [7; 1500];
+    let mut out = [0; 1518];
+    let mut guard = BipGuard::empty();
+    guard.install(&KEY, 4, 0, 0);
+    for _ in 0..times {
+        let _end = guard.protect(TO_ALL, &body, &mut out);
+        body[0] = out[1510];
+    }
+    body[0]
+}
+
 // A work that is the same each time.
 fn worked(work: &str, times: u32) -> Option<u8> {
     match work {
@@ -126,6 +144,7 @@ fn worked(work: &str, times: u32) -> Option<u8> {
         "decrypt" => Some(decrypted(times)),
         "expand" => Some(expanded(times)),
         "cmac" => Some(authenticated(times)),
+        "seal" => Some(sealed(times)),
         "wrap" => Some(wrapped(times)),
         "unwrap" => Some(unwrapped(times)),
         "pbkdf2" => Some(stretched(times)),

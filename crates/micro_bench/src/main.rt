@@ -1,6 +1,6 @@
 //! Does one piece of work, so that its cost can be measured, and prints what came of it. Its words are
 //! the name of a cryptographic work, how often it is done, and for payloads their size, from 0 to
-//! 2,304 octets: `encrypt`, `decrypt`, `expand`, `cmac`, `wrap`, `unwrap` and `pbkdf2`, or `protect`
+//! 2,304 octets: `encrypt`, `decrypt`, `expand`, `cmac`, `seal`, `wrap`, `unwrap` and `pbkdf2`, or `protect`
 //! and `open` of payloads. Or they are `pull`, the number of threads (1, 2 or 4), the number of rows
 //! of each of 16 access points (1 to 64) and the number of pulls of each thread: keys are pulled from
 //! the shared key holders, in several threads side by side, each by a pass of its own. With a last
