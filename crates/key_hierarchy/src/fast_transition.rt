@@ -119,8 +119,9 @@ fn r1_context(r1kh: Mac, sta: Mac) -> [u8; 12]
     context
 }
 
-// The name of the PMK-R1 that is made from the PMK-R0 of a name.
-fn r1_name(r0_name: &[u8; 16], r1kh: Mac, sta: Mac) -> [u8; 16]
+/// PMKR1Name of the PMK-R1 that the PMK-R0 of a PMKR0Name makes for an R1 key holder and the station
+/// (IEEE Std 802.11-2020, 12.7.1.6.4). Takes no memory.
+pub fn r1_name(r0_name: &[u8; 16], r1kh: Mac, sta: Mac) -> [u8; 16]
     ensures { result ≡ pmk_r1_name r0_name.now r1kh sta }
 {
     let mut hasher = Sha256::new();

@@ -11,7 +11,7 @@ mod shared_inputs;
 
 pub use answers::{PullAnswer, PutAnswer, RevokeAnswer};
 pub use derivation::{psk_of, ptk_of};
-pub use fast_transition::{PmkR0, PmkR1, ptk_from_r1, ptk_name};
+pub use fast_transition::{PmkR0, PmkR1, ptk_from_r1, ptk_name, r1_name};
 pub use inputs::{Inputs, Ptk};
 pub use pairwise::pairwise_ptk;
 pub use shared_inputs::{BoxedInputs, LastInputs, SharedInputs};
