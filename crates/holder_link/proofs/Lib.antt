@@ -1,0 +1,14 @@
+pub mod Shapes
+pub mod Asks
+pub mod Replies
+pub mod Firsts
+pub mod Codes
+pub mod Pulling
+pub mod Carried
+pub mod Histories
+pub mod Counts
+pub mod Runs
+pub mod Learnt
+pub mod Worlds
+pub mod Deliveries
+pub mod Outcomes

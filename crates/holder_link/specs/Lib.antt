@@ -1,0 +1,14 @@
+pub mod Datagrams
+pub mod Beginnings
+pub mod Forms
+pub mod Parts
+pub mod Questions
+pub mod Says
+pub mod Asker
+pub mod Server
+pub mod Acts
+pub mod Between
+pub mod History
+pub mod Learning
+pub mod World
+pub mod Delivered
