@@ -1,5 +1,5 @@
 //! Tests of the public calls of the crates below the nodes: the outside, cryptography, frames,
-//! elements, keys and key holders, and what storms draw.
+//! elements, keys, key holders, the transfer of keys between processes, and what storms draw.
 #![tactic(auto)]
 
 #[cfg(test)]
@@ -20,6 +20,8 @@ mod holders;
 mod key_frames;
 #[cfg(test)]
 mod keys;
+#[cfg(test)]
+mod links;
 #[cfg(test)]
 mod macs;
 #[cfg(test)]
