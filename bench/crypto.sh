@@ -41,6 +41,8 @@ cost cmac $((10 * times)) $((30 * times)) "CMAC of 1,500 octets"
 cost seal $((10 * times)) $((30 * times)) "a body of 1,500 octets sealed under BIP-CMAC-128"
 cost wrap $((10 * times)) $((30 * times)) "key wrap of 48 octets, with the expansion of its key"
 cost unwrap $((10 * times)) $((30 * times)) "key unwrap to 48 octets, with the expansion of its key"
+cost link $((10 * times)) $((30 * times)) "a key asked for over a link, answered and taken"
+cost link-ciphers $((10 * times)) $((30 * times)) "its CMACs, wraps and derivation alone"
 cost pbkdf2 $((1 * rounds)) $((3 * rounds)) "PBKDF2, 4,096 iterations"
 for size in 0 300 600 1200 1500 2304; do
     payload $size $((10 * times)) $((30 * times))

@@ -2,6 +2,7 @@
 
 ghost use Rattle.std.specs.Prelude.{◌≤◌};
 
+use crate::links::ciphered;
 use aes_block::Aes128;
 use bip_guard::BipGuard;
 use ccmp_guard::{Guard, Role};
@@ -148,6 +149,7 @@ fn worked(work: &str, times: u32) -> Option<u8> {
         "wrap" => Some(wrapped(times)),
         "unwrap" => Some(unwrapped(times)),
         "pbkdf2" => Some(stretched(times)),
+        "link-ciphers" => Some(ciphered(times)),
         _ => None,
     }
 }

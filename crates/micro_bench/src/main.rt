@@ -1,15 +1,17 @@
-//! Does one piece of work, so that its cost can be measured, and prints what came of it. Its words are
-//! the name of a cryptographic work, how often it is done, and for payloads their size, from 0 to
-//! 2,304 octets: `encrypt`, `decrypt`, `expand`, `cmac`, `seal`, `wrap`, `unwrap` and `pbkdf2`, or `protect`
-//! and `open` of payloads. Or they are `pull`, the number of threads (1, 2 or 4), the number of rows
-//! of each of 16 access points (1 to 64) and the number of pulls of each thread: keys are pulled from
-//! the shared key holders, in several threads side by side, each by a pass of its own. With a last
-//! word `absent` it asks for names that are not held, and with `held`, or none, for those that are.
-//! Other words end with 1. Without words it does a few of each.
+//! Does one piece of work, so that its cost can be measured, and prints what came of it. Its words
+//! are the name of a cryptographic work, how often it is done, and for payloads their size, from 0
+//! to 2,304 octets: `encrypt`, `decrypt`, `expand`, `cmac`, `seal`, `wrap`, `unwrap` and `pbkdf2`,
+//! `link` (a key asked for over a link) and `link-ciphers` (its cryptography alone), or `protect`
+//! and `open` of payloads. Or they are `pull`, the number of threads (1, 2 or 4), the number of
+//! rows of each of 16 access points (1 to 64) and the number of pulls of each thread: keys are
+//! pulled from the shared key holders, in several threads side by side, each by a pass of its own.
+//! With a last word `absent` it asks for names that are not held, and with `held`, or none, for
+//! those that are. Other words end with 1. Without words it does a few of each.
 #![tactic(auto)]
 
 mod ciphers;
 mod crew;
+mod links;
 mod rows;
 mod work;
 
@@ -17,6 +19,7 @@ use ciphers::octet_of;
 use crew::pulled;
 use domain_base::NoMemory;
 use holder_table::SharedHolders;
+use links::linked;
 use rows::{fill_all, ids};
 use std::alloc::{AllocGlobal, Global};
 use std::env::{self, Env};
@@ -75,15 +78,23 @@ const CIPHERS: [(&str, u32, Option<usize>); 9] = [
     ("open", 3, Some(300)),
 ];
 
+// An octet of the result of a cryptographic work, where there is one of that name.
+fn octet<R: AllocGlobal>(rt: &R, work: &str, times: u32, size: Option<usize>) -> Option<u8> {
+    match work {
+        "link" => linked(rt.alloc(), times),
+        _ => octet_of(work, times, size),
+    }
+}
+
 // Does a cryptographic work, where there is one of that name, and prints a line.
-fn octet_told<R: Print>(rt: &R, work: &str, times: u32, size: Option<usize>) -> bool {
-    match octet_of(work, times, size) {
+fn octet_told<R: Print + AllocGlobal>(rt: &R, work: &str, times: u32, size: Option<usize>) -> bool {
+    match octet(rt, work, times, size) {
         Some(octet) => println!(rt; "{work} {times}: {octet}").is_ok(),
         None => false,
     }
 }
 
-fn octets_told<R: Print>(rt: &R) -> bool {
+fn octets_told<R: Print + AllocGlobal>(rt: &R) -> bool {
     let mut all = true;
     for i in 0..CIPHERS.len() {
         let (work, times, size) = CIPHERS[i];
