@@ -13,8 +13,9 @@ Read are README.md and docs/. What stands in code quotes is a name of the reposi
     CRATE::CALL.CLAUSE, CRATE::TYPE::CALL.CLAUSE          a call that the crate declares, and a clause of it
 
 In docs/PROVED.md each section is of the crates that its heading names: a bracket with nothing but names in it has clauses or
-calls (small letters), types and definitions (a capital) of them, or fields. Every other name there has to be a word of their code or
-of definitions.
+calls (small letters), types and definitions (a capital) of them, or fields. So has the second column of a table; where the first
+one has calls (CRATE::CALL), a clause there is one of these calls. Every other name has to be a word of their code or of
+definitions.
 
 In a section of docs/evidence/WRONG_BODIES.md of one crate the first column of its table has the names of its edits of the second tier, each
 of them.
@@ -138,6 +139,23 @@ def wrong_call(span):
     return None
 
 
+def second_column(row):
+    """The calls in the first column of a row, and where the second one begins and ends."""
+    cells = row.split("|")
+    begin = len(cells[1]) + 2
+    return [span for span in SPAN.findall(cells[1]) if CALL.match(span)], range(begin, begin + len(cells[2]))
+
+
+def wrong_in_row(crates, calls, span):
+    """What is wrong with a name in the second column of a row of PROVED.md, or None."""
+    name = re.split(r"\.", span)[-1]
+    specs = [path for crate in crates for path in files("crates/%s/specs" % crate, ".antt")]
+    is_clause = any(wrong_call("%s.%s" % (call, name)) is None for call in calls)
+    if not calls or is_clause or any(name in defined(path) or name in defined(path, " +") for path in specs):
+        return wrong_in(crates, span, True)
+    return "no such clause of %s" % ", ".join(calls) if name[0].islower() else wrong_in(crates, span, True)
+
+
 def wrong_in(crates, span, is_bracket):
     """What is wrong with a name in a section of PROVED.md, or None."""
     name = re.split(r"::|\.", span)[-1].strip("()")
@@ -206,6 +224,8 @@ def check(name, report):
         crates = crates_in(text) if front and crates_in(front.group(0)) else []
         brackets = {match.start(1) + found.start() for match in re.finditer(r"\(((?:`[^`\n]+`(?:,|\s|and)*)+)\)", text)
                     for found in SPAN.finditer(match.group(1))}
+        is_row = name == "docs/PROVED.md" and text.startswith("| ")
+        calls, second = second_column(text) if is_row else ([], ())
         table = wrong_in_table(section, text) if name == "docs/DEFINITIONS.md" and text.startswith("| ") else {}
         for match in SPAN.finditer(text):
             span, wrong = match.group(1), None
@@ -225,6 +245,8 @@ def check(name, report):
                 wrong = None if span in CRATES else "no such crate"
             elif match.start() in table:
                 wrong = table[match.start()]
+            elif match.start() in second:
+                wrong = wrong_in_row(section, calls, span)
             elif name == "docs/PROVED.md" and section:
                 wrong = wrong_in(section, span, match.start() in brackets)
             elif WORD.match(span):
