@@ -3,7 +3,7 @@
 # the line on standard error; at each limit of a script, too, and one past it. It prints the cases that are wrong and a last line with
 # counts; its status is 0 where none is wrong.
 # Whole scripts with their reports, and lines that are refused, stand in the files of `tools/ends`.
-# It runs the program that `rt ci` or `rt run` proved and built (or the one named by KEHTROP, as an unproved build), and does nothing
+# It runs the program that `rt ci` or `rt run` proved and built (or the one named by KEHTROP, as `tools/build_unproved.sh` leaves one), and does nothing
 # where there is none. Run it from anywhere in the repository.
 source "$(dirname "$0")/program.sh"
 work=$(mktemp -d)
