@@ -12,7 +12,7 @@ the node that is named in them, a diamond is a key that was installed, with its 
 its two lines, by access point, as in the report; they happen side by side.
 
 It needs Python's library alone. It knows the report lines of what is built. It ends with status 1 and one line where a file cannot be
-read, or with the line where script and report do not fit together. docs/PROFILE.md has the grammar of both.
+read, or with the line where script and report do not fit together. docs/user/SCRIPTS.md has the grammar of both.
 """
 
 import sys

@@ -3,7 +3,8 @@
 
     tools/names.py
 
-Read are README.md and docs/. What stands in code quotes is a name of the repository where it has one of these forms:
+Read are README.md, CONTRIBUTING.md, SECURITY.md, CHANGELOG.md and docs/ with its folders. What stands in code quotes is a name of the
+repository where it has one of these forms:
 
     crates/.., docs/.., examples/.., tools/.., bench/..   a file or folder; an example is named without its ending
     CRATE/src/FILE.rt:NAME                                what that file declares: a function, type, constant, module, variant
@@ -37,7 +38,8 @@ import sys
 
 ROOT = os.path.join(os.path.dirname(os.path.abspath(__file__)), "..")
 CRATES = sorted(os.listdir(os.path.join(ROOT, "crates")))
-OTHERS = ["crates.txt", "HANDLES", "tools", "bench", ".ci", "wrong_bodies"]
+TOP = ["README.md", "CONTRIBUTING.md", "SECURITY.md", "CHANGELOG.md"]
+OTHERS = [*TOP, "crates.txt", "HANDLES", "tools", "bench", ".ci", "wrong_bodies"]
 BODIES = "docs/evidence/WRONG_BODIES.md"
 
 
@@ -262,7 +264,7 @@ def check(name, report):
 
 def main():
     wrong = []
-    documents = ["README.md"] + sorted(files("docs", ".md"))
+    documents = TOP + sorted(files("docs", ".md"))
     count = sum(check(name, wrong.append) for name in documents)
     for line in wrong:
         print(line)

@@ -69,9 +69,9 @@ for chart in docs/*.svg; do
     [ -e "examples/$(basename "$chart" .svg).txt" ] || says "$chart: the chart of no example"
 done
 
-# The script that docs/PROFILE.md explains is one of the examples.
-awk '/^```/ { blocks++; next } blocks == 1' docs/PROFILE.md | cmp -s - examples/lost_message_4.txt \
-    || says "docs/PROFILE.md: its script is not examples/lost_message_4.txt"
+# The script that docs/user/SCRIPTS.md explains is one of the examples.
+awk '/^```/ { blocks++; next } blocks == 1' docs/user/SCRIPTS.md | cmp -s - examples/lost_message_4.txt \
+    || says "docs/user/SCRIPTS.md: its script is not examples/lost_message_4.txt"
 if [ -z "$python" ]; then echo "skipped: no Python, so no charts"; fi
 echo "scenarios $scenarios wrong $wrong"
 [ "$wrong" = 0 ]

@@ -6,7 +6,7 @@
 It is written from the standard alone: it associates with `a1` of a live run by its own frames, answers message 1, checks message 3, sends
 message 4, and then protected data. The station `s1` is listed in the script, so that `a1` knows its address, and is given no event. The
 program has the socket at s1's port, so what `a1` sends is taken from the loopback interface as it goes there. Suites 00-0F-AC:2 and :6 are
-played, and each also with a passphrase that is not the network's. docs/LIVE.md, "Your own implementation against it", says how it goes.
+played, and each also with a passphrase that is not the network's. docs/user/LIVE.md, "Your own implementation against it", says how it goes.
 
 The report has to be that of a replay with the same frames injected (`tools/live.py`). The last line has counts; the status is 0 where
 nothing failed. AES is that of Python's package `cryptography`, or of `openssl`; where there is neither, or where this process may not
