@@ -4,7 +4,7 @@
 # `tools/chart.py` has to make a chart of each one that is replayed, as text and as SVG that an XML parser reads, and the chart in `docs/`
 # has to be the one that it makes. A report that differs is shown as a diff. The last line has counts; the status is 0 where nothing is
 # wrong.
-# It runs the program that `rt ci` or `rt run` proved and built (or the one named by KEHTROP, as an unproved build), and does nothing
+# It runs the program that `rt ci` or `rt run` proved and built (or the one named by KEHTROP, as `tools/build_unproved.sh` leaves one), and does nothing
 # where there is none. Run it from anywhere in the repository.
 source "$(dirname "$0")/program.sh"
 work=$(mktemp -d)
