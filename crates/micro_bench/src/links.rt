@@ -94,7 +94,8 @@ pub fn linked(alloc: Global, times: u32) -> Option<u8> {
 /// What such a question owes to cryptography: the CMACs of an Ask and of an Answer, each made and
 /// compared, a PMK-R1 derived and wrapped, and what it is wrapped to opened.
 pub fn ciphered(times: u32) -> u8 {
-    let mut text = [7; 58];
+    let mut ask = [7; 52];
+    let mut answer = [7; 58];
     let mut pmk_r0 = PMK_R0;
     let mut out = [0; 40];
     let mut key = [0; 32];
@@ -102,15 +103,15 @@ pub fn ciphered(times: u32) -> u8 {
         let r1 = PmkR1::of(&pmk_r0, &NAME, R1KH, STA);
         let _end = wrap(&KEK, &r1.key, &mut out);
         let _found = unwrap(&KEK, &out, &mut key);
-        let asked = cmac(&KCK, &text[..52]);
-        text[0] = asked[0];
-        let read = cmac(&KCK, &text[..52]);
-        text[0] = read[0];
-        let told = cmac(&KCK, &text);
-        text[0] = told[0];
-        let taken = cmac(&KCK, &text);
-        text[0] = taken[0] ^ r1.name[0];
-        pmk_r0[0] = text[0] ^ key[0];
+        let asked = cmac(&KCK, &ask);
+        ask[0] = asked[0];
+        let read = cmac(&KCK, &ask);
+        ask[0] = read[0];
+        let told = cmac(&KCK, &answer);
+        answer[0] = told[0];
+        let taken = cmac(&KCK, &answer);
+        answer[0] = taken[0] ^ r1.name[0];
+        pmk_r0[0] = ask[0] ^ answer[0] ^ key[0];
     }
-    text[0] ^ pmk_r0[0]
+    ask[0] ^ pmk_r0[0]
 }
