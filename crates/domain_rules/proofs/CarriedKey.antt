@@ -1,8 +1,9 @@
 -- The group key in the wrapped key data of M3 is read back as it was sent.
-use Rattle.std.proofs.Common.{◌≡◌, ℕ, ◌<◌, ◌≤◌, ◌%◌, List, [], ◌∷◌, ◌++◌, length, Some, None, refl, sym, ap, subst, ◌∙◌, arith, Bool, true, false, cond, ltb}
+use Rattle.std.proofs.Common.{◌≡◌, ℕ, zero, suc, ◌<◌, ◌≤◌, ◌%◌, List, [], ◌∷◌, ◌++◌, length, Some, None, refl, sym, ap, subst, ◌∙◌, arith, Bool, true, false, cond, ltb}
+use Rattle.std.specs.Prelude.{replicate}
 use Rattle.std.proofs.lemmas.Bool.{ltb-true}
 use Rattle.std.proofs.lemmas.List.{append-nil, length-append}
-use Rattle.std.proofs.lemmas.List.Elements.{All-nil, All-cons, All-append}
+use Rattle.std.proofs.lemmas.List.Elements.{All-nil, All-cons, All-append, All-replicate}
 use Rattle.domain_base.specs.Octets.{AreOctets}
 use Rattle.key_wrap.specs.KeyWrap.{Wraps}
 use Rattle.key_wrap.proofs.UniqueLemmas.{Wraps-unique, length-Wraps}
@@ -30,7 +31,9 @@ pub record IsGroupKey (g : GroupKey) : Type 0 where
   pub size : length g.key ≡ 16
   pub low : g.id < 4
 
-abbrev are_few : List ℕ → Bool
+-- ---- lists of octets
+
+abbrev pub are_few : List ℕ → Bool
 are_few [] = true
 are_few (x ∷ xs) = cond (ltb x 256) (are_few xs) false
 
@@ -38,9 +41,21 @@ few_by : (x : ℕ) (xs : List ℕ) (b : Bool) → ltb x 256 ≡ b → (are_few x
 few_by x xs true low more few = All-cons (λ y. y < 256) x xs (ltb-true x 256 low) (more few)
 few_by x xs false low more few = cc
 
-octets_few : (xs : List ℕ) → are_few xs ≡ true → AreOctets xs
+pub octets_few : (xs : List ℕ) → are_few xs ≡ true → AreOctets xs
 octets_few [] few = All-nil (λ y. y < 256)
 octets_few (x ∷ xs) few = few_by x xs (ltb x 256) refl (octets_few xs) few
+
+pub octets_both : (xs ys : List ℕ) → AreOctets xs → AreOctets ys → AreOctets (xs ++ ys)
+octets_both xs ys a b = All-append (λ x. x < 256) xs ys a b
+
+pub octets_more : (x : ℕ) (xs : List ℕ) → x < 256 → AreOctets xs → AreOctets (x ∷ xs)
+octets_more x xs low all = All-cons (λ y. y < 256) x xs low all
+
+pub octets_pad : (n : ℕ) → AreOctets (padding_octets n)
+octets_pad zero = All-nil (λ y. y < 256)
+octets_pad (suc n) = octets_more 0xdd (replicate n 0x00) (omega arith) (All-replicate (λ y. y < 256) n 0 (omega arith))
+
+-- ---- the key data of M3
 
 octets_rsne : (akm : Akm) → AreOctets (rsne_octets akm None)
 octets_rsne Psk = octets_few (rsne_octets Psk None) refl
@@ -62,7 +77,7 @@ data_is d g is = ap (λ (x : List ℕ). plain_octets d g ++ x) (pad_is (length (
 length-data : (d : Domain) (g : GroupKey) → IsGroupKey g → length (plain_key_data d g) ≡ 48
 length-data d g is = ap length (data_is d g is) ∙ length-append (plain_octets d g) (0xdd ∷ 0x00 ∷ []) ∙ omega (arith, size_of d g is)
 
-octets_kde : (g : GroupKey) → IsGroupKey g → AreOctets (gtk_kde_octets g.id g.key)
+pub octets_kde : (g : GroupKey) → IsGroupKey g → AreOctets (gtk_kde_octets g.id g.key)
 octets_kde g is = All-append (λ x. x < 256) (0xdd ∷ 0x16 ∷ 0x00 ∷ 0x0f ∷ 0xac ∷ 0x01 ∷ []) (g.id ∷ 0x00 ∷ g.key) (octets_few (0xdd ∷ 0x16 ∷ 0x00 ∷ 0x0f ∷ 0xac ∷ 0x01 ∷ []) refl)
     (All-cons (λ x. x < 256) g.id (0x00 ∷ g.key) (omega (arith, is.low)) (All-cons (λ x. x < 256) 0 g.key (omega arith) is.octets))
 
@@ -95,7 +110,7 @@ one_carried d i g plain e is wraps spelled =
 
 -- ---- the same of G1, whose key data is a group key alone, and needs no padding
 
-size_kde : (g : GroupKey) → IsGroupKey g → length (gtk_kde_octets g.id g.key) ≡ 24
+pub size_kde : (g : GroupKey) → IsGroupKey g → length (gtk_kde_octets g.id g.key) ≡ 24
 size_kde g is = omega (arith, is.size)
 
 no_pad : (n : ℕ) → n ≡ 24 → padding_octets (padding n) ≡ []

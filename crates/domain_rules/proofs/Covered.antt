@@ -1,5 +1,6 @@
 -- A reassociation frame that is accepted has all that the MIC in its FTE covers.
 use Rattle.std.proofs.Common.{◌≡◌, ℕ, ◌+◌, Bool, true, false, List, [], ◌∷◌, length, Option, Some, None, is_some, refl, sym, ap, subst, ◌∙◌, inl}
+use Rattle.std.proofs.lemmas.Bool.{and_parts}
 use Rattle.std.specs.Prelude.{◌&&◌, ◌==◌}
 use Rattle.domain_base.specs.declared.names.Akm.{Akm}
 use Rattle.domain_base.specs.declared.names.Node.{Node}
@@ -26,7 +27,7 @@ use Rattle.domain_rules.specs.TransitionKeys.{Judged, judged, re_req_names, re_r
 use Rattle.domain_rules.specs.Verdict.{unless_refused, management_further, verdict}
 use Rattle.domain_rules.specs.Verified.{is_covered, is_with_mic}
 use Rattle.domain_rules.proofs.Deciding.{IsTaken, never, taken_passed, taken_status}
-use Rattle.domain_rules.proofs.OneOutcome.{FrameAwaited, Is_assoc_req, Is_assoc_resp, Is_ft_req, Is_ft_resp, Is_re_req, Is_re_resp, frame_kind, frame_accepted, resp_accepted, unwraps_taken, both_true}
+use Rattle.domain_rules.proofs.OneOutcome.{FrameAwaited, Is_assoc_req, Is_assoc_resp, Is_ft_req, Is_ft_resp, Is_re_req, Is_re_resp, frame_kind, frame_accepted, resp_accepted, unwraps_taken}
 use Rattle.domain_rules.proofs.SomeGroup.{opened_names}
 
 -- an FTE that counts three elements is there
@@ -75,7 +76,7 @@ pub record ReqAccepted (d : Domain) (n : Node) (h : List Act) (p : Node) (e : El
 names_taken : (d : Domain) (n : Node) (h : List Act) (p : Node) (e : ElementFields) (o : Option Judged) → judged p h e ≡ o → rsne_status d.akm e.rsne ≡ None → mde_status d e.mde ≡ None → IsTaken (re_req_names d n e o) → ReqAccepted d n h p e
 names_taken d n h p e None is rsne mde s = never (reason.Status fte_status) s
 names_taken d n h p e (Some y) is rsne mde s =
-    let w = both_true (counts_three e.fte) _ (taken_passed (counts_three e.fte && names_both (address d n) y.by_.key.inputs.r0kh_id e.fte) (reason.Status fte_status) _ s).0 in
+    let w = and_parts (counts_three e.fte) _ (taken_passed (counts_three e.fte && names_both (address d n) y.by_.key.inputs.r0kh_id e.fte) (reason.Status fte_status) _ s).0 in
     let f = counted_some e.fte w.0 in
     record { y = y; by = is; rsne = rsne; mde = mde; f = f.0; fte = f.1; ids = w.1 }
 
@@ -136,8 +137,8 @@ resp_names d n h p b e (Some x) is z s =
     let one = taken_status (rsne_status d.akm e.rsne) _ s in
     let two = taken_status (mde_status d e.mde) _ one.1 in
     let all = (taken_passed (counts_three e.fte && names_both (address d p) x.inputs.r0kh_id e.fte && is_wrapped_gtk (gtk_in e.fte)) (reason.Status fte_status) _ two.1).0 in
-    let w = both_true (counts_three e.fte && names_both (address d p) x.inputs.r0kh_id e.fte) _ all in
-    let v = both_true (counts_three e.fte) _ w.0 in
+    let w = and_parts (counts_three e.fte && names_both (address d p) x.inputs.r0kh_id e.fte) _ all in
+    let v = and_parts (counts_three e.fte) _ w.0 in
     let f = counted_some e.fte v.0 in
     record { x = x; keyed = is; zero_ = z; rsne = one.0; mde = two.0; f = f.0; fte = f.1; ids = v.1; carries = w.1 }
 

@@ -1,5 +1,6 @@
 -- What ends a session.
 use Rattle.std.proofs.Common.{◌≡◌, ℕ, zero, suc, cond, Bool, true, false, List, [], ◌∷◌, ◌++◌, length, Option, Some, None, refl, sym, ap, subst, ◌∙◌, inl, inr}
+use Rattle.std.proofs.lemmas.Bool.{and_parts}
 use Rattle.std.specs.Prelude.{◌&&◌, ◌||◌, ◌==◌, nat_lt, if◌then◌else◌}
 use Rattle.domain_base.specs.declared.names.Mac.{Mac}
 use Rattle.domain_base.specs.declared.names.Node.{Node}
@@ -72,14 +73,10 @@ abbrev are_kept : List Act → Bool
 are_kept [] = true
 are_kept (e ∷ g) = is_kept e && are_kept g
 
-both : (b c : Bool) → (b && c) ≡ true → (b ≡ true) × (c ≡ true)
-both true c s = (refl, s)
-both false c s = absurd (cc s)
-
 none_ended : (p : Node) (g : List Act) → are_kept g ≡ true → In (Closed p Session) g → ⊥
 none_ended p [] kept there = there
-none_ended p (e ∷ g) kept (inl here) = let w = both (is_kept e) (are_kept g) kept in let no : is_kept (Closed p Session) ≡ true = ap is_kept here ∙ w.0 in cc no
-none_ended p (e ∷ g) kept (inr later) = none_ended p g (both (is_kept e) (are_kept g) kept).1 later
+none_ended p (e ∷ g) kept (inl here) = let w = and_parts (is_kept e) (are_kept g) kept in let no : is_kept (Closed p Session) ≡ true = ap is_kept here ∙ w.0 in cc no
+none_ended p (e ∷ g) kept (inr later) = none_ended p g (and_parts (is_kept e) (are_kept g) kept).1 later
 
 kept_if : (b : Bool) (f g : List Act) → are_kept f ≡ true → are_kept g ≡ true → are_kept (if b then f else g) ≡ true
 kept_if true f g one two = one
@@ -192,7 +189,7 @@ kept_both false c s t = absurd (cc s)
 
 kept_append : (f g : List Act) → are_kept f ≡ true → are_kept g ≡ true → are_kept (f ++ g) ≡ true
 kept_append [] g one two = two
-kept_append (e ∷ f) g one two = let w = both (is_kept e) (are_kept f) one in kept_both (is_kept e) (are_kept (f ++ g)) w.0 (kept_append f g w.1 two)
+kept_append (e ∷ f) g one two = let w = and_parts (is_kept e) (are_kept f) one in kept_both (is_kept e) (are_kept (f ++ g)) w.0 (kept_append f g w.1 two)
 
 kept_newer : (d : Domain) (n p : Node) (h : List Act) (x : Derivation) (b : Bool) → are_kept (newer_acts d n p h x b) ≡ true
 kept_newer d n p h x false = refl

@@ -1,5 +1,6 @@
 -- The seal of a reassociation frame is noted where the MIC in its FTE verified.
 use Rattle.std.proofs.Common.{◌≡◌, ℕ, ◌+◌, Bool, true, false, cond, List, [], Option, Some, None, is_some, refl, sym, ap, subst, ◌∙◌}
+use Rattle.std.proofs.lemmas.Bool.{and_parts}
 use Rattle.std.specs.Prelude.{not, ◌||◌, ◌&&◌, ◌==◌, bytes_eq, option_map, option_and_then, if◌then◌else◌}
 use Rattle.std.proofs.lemmas.Slice.Eq.{bytes_eq-Decides}
 use Rattle.domain_base.specs.declared.names.Node.{Node}
@@ -21,7 +22,8 @@ use Rattle.run_journal.specs.Acts.{Derivation}
 use Rattle.run_journal.specs.Questions.{draws}
 use Rattle.domain_rules.specs.Network.{address, peer_of}
 use Rattle.domain_rules.specs.Reading.{Management, Reading, Managed, IsManaged, Reads}
-use Rattle.domain_rules.specs.FastTransition.{fte_input, mic_input, request_number, response_number, fte_seal, fte_verified}
+use Rattle.domain_rules.specs.FastTransition.{mic_input, request_number, response_number, fte_seal, fte_verified}
+use Rattle.mac_prf.specs.FteMic.{fte_mic_input}
 use Rattle.domain_rules.specs.TransitionKeys.{Judged, judged, transition, session_transition, re_req_covered, re_req_mic, re_req_verdict, re_req_sealed, re_req_seal, re_resp_keying, re_resp_covered, re_resp_mic, re_resp_verdict_by, re_resp_sealed, re_resp_seal, has_nonces}
 use Rattle.domain_rules.specs.StationKeys.{taken_in}
 use Rattle.domain_rules.specs.Associating.{management_verdict}
@@ -180,16 +182,12 @@ managed_verified d first n h octets b e s reads t is =
 pub input_some : (sta ap' sta_too ap_too : List ℕ) (k m : ℕ) (e : ElementFields) → is_some (mic_input sta ap' k e) ≡ true → (input : List ℕ) × (mic_input sta_too ap_too m e ≡ Some input)
 input_some sta ap' sta_too ap_too k m e s = by e.rsne_octets e.mde_octets e.fte_octets s
   where
-    by : (r q f : Option (List ℕ)) → is_some (option_and_then (λ rsne. option_and_then (λ mde. option_map (λ fte. fte_input sta ap' k rsne mde fte) f) q) r) ≡ true
-        → (input : List ℕ) × (option_and_then (λ rsne. option_and_then (λ mde. option_map (λ fte. fte_input sta_too ap_too m rsne mde fte) f) q) r ≡ Some input)
+    by : (r q f : Option (List ℕ)) → is_some (option_and_then (λ rsne. option_and_then (λ mde. option_map (λ fte. fte_mic_input sta ap' k rsne mde fte) f) q) r) ≡ true
+        → (input : List ℕ) × (option_and_then (λ rsne. option_and_then (λ mde. option_map (λ fte. fte_mic_input sta_too ap_too m rsne mde fte) f) q) r ≡ Some input)
     by (Some r) (Some q) (Some f) t = (_, refl)
     by (Some r) (Some q) None t = absurd (cc t)
     by (Some r) None f t = absurd (cc t)
     by None q f t = absurd (cc t)
-
-both : (b c : Bool) → (b && c) ≡ true → (b ≡ true) × (c ≡ true)
-both true c s = (refl, s)
-both false c s = absurd (cc s)
 
 some_of : {A : Type 0} (o : Option A) → is_some o ≡ true → (x : A) × (o ≡ Some x)
 some_of None s = absurd (cc s)
@@ -201,7 +199,7 @@ judged_some d n p e f None is s = never reason.Nonce (subst (λ (o : Option FteF
 
 req_sealed : (d : Domain) (n : Node) (h : List Act) (p : Node) (e : ElementFields) → (is_some e.fte && is_some (mic_input [] [] 0 e)) ≡ true → IsTaken (re_req_verdict d n h p e) → (s : Seal) × (re_req_seal d n h p e ≡ Some s)
 req_sealed d n h p e has taken =
-    let w = both (is_some e.fte) _ has in
+    let w = and_parts (is_some e.fte) _ has in
     let f = some_of e.fte w.0 in
     let input = input_some [] [] (address d p) (address d n) 0 request_number e w.1 in
     let y = judged_some d n p e f.0 (judged p h e) f.1 (passed_if (is_some (transition p h) || is_some (session_transition p h)) _ taken) in (
@@ -211,8 +209,8 @@ req_sealed d n h p e has taken =
 
 resp_sealed : (d : Domain) (n : Node) (h : List Act) (p : Node) (b : Management) (e : ElementFields) (x : Derivation) → ((b.status == 0) && is_some e.fte && is_some (mic_input [] [] 0 e)) ≡ true → re_resp_keying p h ≡ Some x → (s : Seal) × (re_resp_seal d n h p b e ≡ Some s)
 resp_sealed d n h p b e x has keyed =
-    let w = both ((b.status == 0) && is_some e.fte) _ has in
-    let v = both (b.status == 0) _ w.0 in
+    let w = and_parts ((b.status == 0) && is_some e.fte) _ has in
+    let v = and_parts (b.status == 0) _ w.0 in
     let f = some_of e.fte v.1 in
     let input = input_some [] [] (address d n) (address d p) 0 response_number e w.1 in (
       fte_seal x.ptk.kck input.0,

@@ -49,7 +49,7 @@ module _ (d : Domain) (k m : ℕ) where
 
   -- the pairwise key, and the group key that goes with M3
   abbrev pub i : Inputs
-  i = inputs d (root d) s a snonce anonce
+  i = inputs d (root d s) s a snonce anonce
 
   abbrev pub g : GroupKey
   g = record { key = gtk d a 0; id = 1 }

@@ -22,11 +22,11 @@ use Rattle.run_journal.specs.Questions.{history, listed, add}
 use Rattle.run_journal.specs.Premises.{In}
 use Rattle.domain_rules.specs.Rows.{NodeEvent, Take, Adds}
 use Rattle.domain_rules.specs.AccessPointRows.{start_acts}
-use Rattle.domain_rules.specs.Explained.{HappensAt, Place, AddsAll, frames, number_of, push, altered, WasSent, Step, Follows, started, Explained}
+use Rattle.domain_rules.specs.Explained.{HappensAt, Happens, AllHappen, AddsAll, frames, number_of, push, altered, WasSent, Step, Follows, started, Explained}
 use Rattle.domain_rules.specs.Here.{here}
 use Rattle.domain_rules.proofs.Parts.{same-refl, same-other}
 use Rattle.domain_rules.proofs.OneGroup.{one_group, group_looks}
-use Rattle.domain_rules.specs.Rounds.{by_nodes}
+use Rattle.domain_rules.specs.Rounds.{Place, in_order}
 use Rattle.key_hierarchy.specs.declared.answers.PullAnswer.{PullAnswer}
 use Rattle.run_journal.specs.Holders.{answer_of, answers, answers_in}
 use Rattle.std.proofs.lemmas.List.{append_assoc, length-append}
@@ -57,10 +57,8 @@ numbered-all : (d : Domain) (round : ℕ) (places : List Place) (old new : List 
 numbered-all d round [] old new is numbered = subst IsNumbered (sym is) numbered
 numbered-all d round (p ∷ places) old new (acts, (adds, rest)) numbered = numbered-all d round places (push round p.node acts old) new rest (numbered-push round p.node acts old numbered)
 
-numbered-follows : (d : Domain) (round : ℕ) (events : List Event) (old new : List Entry) → Follows d round events old new → IsNumbered old → IsNumbered new
-numbered-follows d round [] old new is numbered = subst IsNumbered (sym is) numbered
-numbered-follows d round (event ∷ events) old new (mid, (step, rest)) numbered =
-    numbered-follows d round events mid new rest (numbered-all d round step.places old mid step.adds numbered)
+pub numbered-follows : (d : Domain) (round : ℕ) (events : List Event) (old new : List Entry) → Follows d round events old new → IsNumbered old → IsNumbered new
+numbered-follows d round events old new f numbered = numbered-all d round (in_order f.places) old new f.adds numbered
 
 numbered-started : (d : Domain) (k : ℕ) → IsNumbered (started d k)
 unfolding started
@@ -70,7 +68,7 @@ numbered-started d (suc k) = numbered-push 0 (Ap k) (start_acts d 0 (Ap k)) (sta
 pub numbered : (d : Domain) (rounds : List (List Event)) (j : List Entry) → Explained d rounds j → IsNumbered j
 unfolding Explained
 numbered d [] j is = subst IsNumbered (sym is) (numbered-started d (length d.aps))
-numbered d (round ∷ rounds) j (old, (before, follows)) = numbered-follows d (suc (length rounds)) (by_nodes round) old j follows (numbered d rounds old before)
+numbered d (round ∷ rounds) j (old, (before, follows)) = numbered-follows d (suc (length rounds)) round old j follows (numbered d rounds old before)
 
 frames-sent : (e : Entry) (past : List Entry) → is_sent e.act ≡ true → (number_of e.act past ≡ suc (frames past)) × (frames (e ∷ past) ≡ suc (frames past))
 frames-sent e past s = (rw s refl, rw s refl)
@@ -121,17 +119,19 @@ pub record AtOne (d : Domain) (round : ℕ) (event : Event) (old new : List Entr
   pub is : new ≡ push round node acts old
 
 pub step_at : (d : Domain) (round : ℕ) (event : Event) (old new : List Entry) → AtOne d round event old new → Step d round event old new
-step_at d round event old new s = record {
-  places = record { node = s.node; event = s.at_node } ∷ [];
-  happens = (record { node = s.node; event = s.at_node }, (s.happens, refl));
+step_at d round event old new s = let p : Place = record { node = s.node; event = s.at_node } in record {
+  places = p ∷ [];
+  happen = (p ∷ [], ([], ((p, (s.happens, refl)), (refl, refl))));
   adds = (s.acts, (s.group, s.is));
 }
 
 pub at_one : (d : Domain) (round : ℕ) (event : Event) (old new : List Entry) → Step d round event old new → AtOne d round event old new
 at_one d round event old new s =
-    let (p, (happens, is)) = s.happens in
-    let adds : AddsAll d round (p ∷ []) old new = subst (λ (l : List Place). AddsAll d round l old new) is s.adds in
-    record { node = p.node; at_node = p.event; happens = happens; acts = adds.0; group = adds.1.0; is = adds.1.1 }
+    let (here, (others, (happens, (none, is)))) = s.happen in
+    let (p, (happens_there, one)) = happens in
+    let alone : s.places ≡ p ∷ [] = is ∙ ap (λ (l : List Place). l ++ others) one ∙ ap (λ (l : List Place). p ∷ l) none in
+    let adds : AddsAll d round (p ∷ []) old new = subst (λ (l : List Place). AddsAll d round (in_order l) old new) alone s.adds in
+    record { node = p.node; at_node = p.event; happens = happens_there; acts = adds.0; group = adds.1.0; is = adds.1.1 }
 
 -- what an event is, at which node
 same_happens : (event : Event) (past : List Entry) (round : ℕ) (n m : Node) (x y : NodeEvent) → IsNumbered past → HappensAt event past round n x → HappensAt event past round m y → (n ≡ m) × (x ≡ y)
@@ -151,8 +151,21 @@ same_happens (Expire a s) past round n m x y is one two = (one.0 ∙ sym two.0, 
 same_happens (Revoke a s) past round n m x y is one two = (one.0 ∙ sym two.0, one.1 ∙ sym two.1)
 same_happens (Leave s) past round n m x y is one two = (one.0 ∙ sym two.0, one.1 ∙ sym two.1)
 
-same_push : (round : ℕ) (n m : Node) (f g : List Act) (past : List Entry) → n ≡ m → f ≡ g → push round n f past ≡ push round m g past
-same_push round n m f g past node acts = ap (λ (x : Node). push round x f past) node ∙ ap (λ (x : List Act). push round m x past) acts
+same_place : (p q : Place) → (p.node ≡ q.node) × (p.event ≡ q.event) → p ≡ q
+same_place p q same = ap (λ (n : Node). place_at n p.event) same.0 ∙ ap (λ (e : NodeEvent). place_at q.node e) same.1
+  where
+    place_at : Node → NodeEvent → Place
+    place_at n e = record { node = n; event = e }
+
+one_places : (d : Domain) (event : Event) (past : List Entry) (round : ℕ) (xs ys : List Place) → IsNumbered past → Happens d event past round xs → Happens d event past round ys → xs ≡ ys
+one_places d event past round xs ys is (p, (one, here)) (q, (two, there)) =
+    here ∙ ap (λ (x : Place). x ∷ []) (same_place p q (same_happens event past round p.node q.node p.event q.event is one two)) ∙ sym there
+
+all_places : (d : Domain) (events : List Event) (past : List Entry) (round : ℕ) (xs ys : List Place) → IsNumbered past → AllHappen d events past round xs → AllHappen d events past round ys → xs ≡ ys
+all_places d [] past round xs ys is one two = one ∙ sym two
+all_places d (event ∷ events) past round xs ys is (here, (others, (one, (rest, cut)))) (here_too, (others_too, (two, (rest_too, cut_too)))) =
+    cut ∙ ap (λ (l : List Place). l ++ others) (one_places d event past round here here_too is one two)
+    ∙ ap (λ (l : List Place). here_too ++ l) (all_places d events past round others others_too is rest rest_too) ∙ sym cut_too
 
 -- ---- the answers of key holders, the last first
 
@@ -181,15 +194,16 @@ GoesOnFrom old new = (zs : List PullAnswer) × (answers_in new ≡ zs ++ answers
 from_on : (a b c : List Entry) → GoesOnFrom a b → GoesOnFrom b c → GoesOnFrom a c
 from_on a b c x y = (y.0 ++ x.0, y.1 ∙ ap (λ (l : List PullAnswer). y.0 ++ l) x.1 ∙ sym (append_assoc y.0 x.0 (answers_in a)))
 
-step_on : (d : Domain) (round : ℕ) (event : Event) (old new : List Entry) → Step d round event old new → GoesOnFrom old new
-step_on d round event old new step =
-    let s = at_one d round event old new step in
-    let w = turned_some (answers s.acts) (answers_in old) in
-    (w.0, ap answers_in s.is ∙ answers-push round s.node s.acts old ∙ w.1)
+push_on : (round : ℕ) (n : Node) (g : List Act) (old : List Entry) → GoesOnFrom old (push round n g old)
+push_on round n g old = let w = turned_some (answers g) (answers_in old) in (w.0, answers-push round n g old ∙ w.1)
+
+adds_on : (d : Domain) (round : ℕ) (places : List Place) (old new : List Entry) → AddsAll d round places old new → GoesOnFrom old new
+adds_on d round [] old new is = ([], ap answers_in is)
+adds_on d round (p ∷ places) old new (acts, (adds, rest)) =
+    from_on old (push round p.node acts old) new (push_on round p.node acts old) (adds_on d round places (push round p.node acts old) new rest)
 
 follows_on : (d : Domain) (round : ℕ) (events : List Event) (old new : List Entry) → Follows d round events old new → GoesOnFrom old new
-follows_on d round [] old new is = ([], ap answers_in is)
-follows_on d round (event ∷ events) old new (mid, (step, rest)) = from_on old mid new (step_on d round event old mid step) (follows_on d round events mid new rest)
+follows_on d round events old new f = adds_on d round (in_order f.places) old new f.adds
 
 -- the answers of two journals are one list as far as both go
 abbrev Agree : List Entry → List Entry → Type 0
@@ -218,39 +232,40 @@ before_end (x ∷ xs) [] l a b is =
     let size = length_same (x ∷ xs ++ a ∷ l) (b ∷ l) is in
     let more = length-append xs (a ∷ l) in absurd (omega (arith, size, more))
 
-pub one_step : (d : Domain) (round : ℕ) (event : Event) (old new other : List Entry) → IsNumbered old → Step d round event old new → Step d round event old other → Agree new other → new ≡ other
-one_step d round event old new other is one two (xs, (ys, agree)) =
-    let s = at_one d round event old new one in
-    let t = at_one d round event old other two in
-    let same = same_happens event old round s.node t.node s.at_node t.at_node is s.happens t.happens in
-    let group : Adds (here d 0 t.node) (history t.node old) t.at_node s.acts =
-    subst (λ (x : NodeEvent). Adds (here d 0 t.node) (history t.node old) x s.acts) same.1 (subst (λ (n : Node). Adds (here d 0 n) (history n old) s.at_node s.acts) same.0 s.group) in
-    let acts : s.acts ≡ t.acts = elim (group_looks d 0 t.node (history t.node old) t.at_node s.acts t.acts group t.group) [
+-- what a node adds in its part of an event
+one_part : (d : Domain) (round : ℕ) (p : Place) (old : List Entry) (f g : List Act) → Adds (here d 0 p.node) (history p.node old) p.event f → Adds (here d 0 p.node) (history p.node old) p.event g
+    → Agree (push round p.node f old) (push round p.node g old) → f ≡ g
+one_part d round p old f g one two (xs, (ys, agree)) =
+    elim (group_looks d 0 p.node (history p.node old) p.event f g one two) [
       | inl alike ↦ alike
       | inr looks ↦ (
-          let left : answers_in new ≡ looks.0 ∷ answers_in old = ap answers_in s.is ∙ answers-push round s.node s.acts old ∙ ap (λ (l : List PullAnswer). turned l (answers_in old)) looks.1.1.0 in
-          let right : answers_in other ≡ looks.1.0 ∷ answers_in old = ap answers_in t.is ∙ answers-push round t.node t.acts old ∙ ap (λ (l : List PullAnswer). turned l (answers_in old)) looks.1.1.1 in
+          let left : answers_in (push round p.node f old) ≡ looks.0 ∷ answers_in old = answers-push round p.node f old ∙ ap (λ (l : List PullAnswer). turned l (answers_in old)) looks.1.1.0 in
+          let right : answers_in (push round p.node g old) ≡ looks.1.0 ∷ answers_in old = answers-push round p.node g old ∙ ap (λ (l : List PullAnswer). turned l (answers_in old)) looks.1.1.1 in
           let alike : looks.0 ≡ looks.1.0 = before_end xs ys (answers_in old) looks.0 looks.1.0 (sym (ap (λ (l : List PullAnswer). xs ++ l) left) ∙ agree ∙ ap (λ (l : List PullAnswer). ys ++ l) right) in
-          one_group d 0 t.node (history t.node old) t.at_node s.acts t.acts group t.group (looks.1.1.0 ∙ ap (λ (x : PullAnswer). x ∷ []) alike ∙ sym looks.1.1.1))
-    ] in
-    s.is ∙ same_push round s.node t.node s.acts t.acts old same.0 acts ∙ sym t.is
+          one_group d 0 p.node (history p.node old) p.event f g one two (looks.1.1.0 ∙ ap (λ (x : PullAnswer). x ∷ []) alike ∙ sym looks.1.1.1))
+    ]
 
-step-numbered : (d : Domain) (round : ℕ) (event : Event) (old new : List Entry) → IsNumbered old → Step d round event old new → IsNumbered new
-step-numbered d round event old new is step = numbered-all d round step.places old new step.adds is
+one_adds : (d : Domain) (round : ℕ) (places : List Place) (old new other : List Entry) → AddsAll d round places old new → AddsAll d round places old other → Agree new other → new ≡ other
+one_adds d round [] old new other s t agree = s ∙ sym t
+one_adds d round (p ∷ places) old new other (acts, (adds, rest)) (acts_too, (adds_too, rest_too)) agree =
+    let mid = push round p.node acts old in
+    let mid_too = push round p.node acts_too old in
+    let acts_same : acts ≡ acts_too = one_part d round p old acts acts_too adds adds_too
+    (agree_before new other mid mid_too (adds_on d round places mid new rest) (adds_on d round places mid_too other rest_too) agree) in
+    one_adds d round places mid_too new other (subst (λ (x : List Act). AddsAll d round places (push round p.node x old) new) acts_same rest) rest_too agree
 
 pub one_follows : (d : Domain) (round : ℕ) (events : List Event) (old new other : List Entry) → IsNumbered old → Follows d round events old new → Follows d round events old other → Agree new other → new ≡ other
-one_follows d round [] old new other is s t agree = s ∙ sym t
-one_follows d round (event ∷ events) old new other is (mid, (step, rest)) (mid_too, (step_too, rest_too)) agree =
-    let same : mid ≡ mid_too = one_step d round event old mid mid_too is step step_too (agree_before new other mid mid_too (follows_on d round events mid new rest) (follows_on d round events mid_too other rest_too) agree) in
-    one_follows d round events mid_too new other (step-numbered d round event old mid_too is step_too) (subst (λ (x : List Entry). Follows d round events x new) same rest) rest_too agree
+one_follows d round events old new other is s t agree =
+    let places : s.places ≡ t.places = all_places d events old round s.places t.places is s.happen t.happen in
+    one_adds d round (in_order t.places) old new other (subst (λ (l : List Place). AddsAll d round (in_order l) old new) places s.adds) t.adds agree
 
 one_journal_by : (d : Domain) (rounds : List (List Event)) (j k : List Entry) → Explained d rounds j → Explained d rounds k → Agree j k → j ≡ k
 unfolding Explained
 one_journal_by d [] j k s t agree = s ∙ sym t
 one_journal_by d (round ∷ rounds) j k (old, (before, follows)) (old_too, (before_too, follows_too)) agree =
     let n = suc (length rounds) in
-    let same : old ≡ old_too = one_journal_by d rounds old old_too before before_too (agree_before j k old old_too (follows_on d n (by_nodes round) old j follows) (follows_on d n (by_nodes round) old_too k follows_too) agree) in
-    one_follows d n (by_nodes round) old_too j k (numbered d rounds old_too before_too) (subst (λ (x : List Entry). Follows d n (by_nodes round) x j) same follows) follows_too agree
+    let same : old ≡ old_too = one_journal_by d rounds old old_too before before_too (agree_before j k old old_too (follows_on d n round old j follows) (follows_on d n round old_too k follows_too) agree) in
+    one_follows d n round old_too j k (numbered d rounds old_too before_too) (subst (λ (x : List Entry). Follows d n round x j) same follows) follows_too agree
 
 pub one_journal : (d : Domain) (rounds : List (List Event)) (j k : List Entry) → Explained d rounds j → Explained d rounds k → answers_in j ≡ answers_in k → j ≡ k
 one_journal d rounds j k s t same = one_journal_by d rounds j k s t ([], ([], same))
@@ -263,20 +278,15 @@ explained_start d = refl
 
 pub explained_event : (d : Domain) (rounds : List (List Event)) (event : Event) (old new : List Entry) → Explained d rounds old → Step d (suc (length rounds)) event old new → Explained d ((event ∷ []) ∷ rounds) new
 unfolding Explained
-explained_event d rounds event old new explained step = (old, (explained, (new, (step, refl))))
+explained_event d rounds event old new explained step = (old, (explained, step))
 
-pub explained_round : (d : Domain) (rounds : List (List Event)) (events : List Event) (old new : List Entry) → Explained d rounds old → Follows d (suc (length rounds)) (by_nodes events) old new → Explained d (events ∷ rounds) new
+pub explained_round : (d : Domain) (rounds : List (List Event)) (events : List Event) (old new : List Entry) → Explained d rounds old → Follows d (suc (length rounds)) events old new → Explained d (events ∷ rounds) new
 unfolding Explained
 explained_round d rounds events old new explained follows = (old, (explained, follows))
 
-pub explained_by_round : (d : Domain) (events : List Event) (rounds : List (List Event)) (j : List Entry) → Explained d (events ∷ rounds) j → (old : List Entry) × (Explained d rounds old × Follows d (suc (length rounds)) (by_nodes events) old j)
+pub explained_by_round : (d : Domain) (events : List Event) (rounds : List (List Event)) (j : List Entry) → Explained d (events ∷ rounds) j → (old : List Entry) × (Explained d rounds old × Follows d (suc (length rounds)) events old j)
 unfolding Explained
 explained_by_round d events rounds j explained = explained
-
--- one more event at the end of a round
-pub follows_more : (d : Domain) (round : ℕ) (events : List Event) (event : Event) (old mid new : List Entry) → Follows d round events old mid → Step d round event mid new → Follows d round (events ++ event ∷ []) old new
-follows_more d round [] event old mid new follows step = (new, (subst (λ (x : List Entry). Step d round event x new) follows step, refl))
-follows_more d round (e ∷ events) event old mid new (first, (one, rest)) step = (first, (one, follows_more d round events event first mid new rest step))
 
 -- ---- round 0
 

@@ -10,7 +10,7 @@ use Rattle.run_journal.specs.declared.acts.Entry.{Entry}
 use Rattle.run_journal.specs.Acts.{same}
 use Rattle.run_journal.specs.Holders.{is_ended}
 use Rattle.domain_rules.specs.Network.{holder_of}
-use Rattle.domain_rules.specs.HeldRight.{puts_row, stands, stands_here, Looking, looking, AnswersAt, AnsweredElsewhere, AnsweredBy, NoneLater, NoneEarlier, SomeMoment, AnsweredBySome, AnsweredInTime, HeldRight}
+use Rattle.domain_rules.specs.HeldRight.{puts_row, stands, stands_here, Looking, looking, AnswersAt, AnsweredElsewhere, AnsweredBy, NoneLater, NoneEarlier, SomeMoment, AnsweredBySome, AllInTime, AnsweredInTime, AllHeld, HeldRight}
 use Rattle.domain_rules.proofs.Parts.{same-true}
 
 -- ---- by one act more
@@ -94,7 +94,13 @@ answered : (o : Option Node) (l : Looking) (answer : PullAnswer) (past j : List 
 answered None l answer past j is = is
 answered (Some r) l answer past j is = by_either (same r l.node) (AnswersAt r l answer past) (SomeMoment r l answer j) (AnsweredElsewhere r l answer j) (elsewhere r l answer j) is
 
+held_by : (d : Domain) (j end : List Entry) → AllInTime d j end → AllHeld d j end
+unfolding AllInTime AllHeld
+held_by d j [] right = tt
+held_by d j (e ∷ past) right = (
+  λ id name p answer is. (let w = right.0 id name p answer is in (answered (holder_of d id) (looking e name p) answer past j w.0, w.1)),
+  held_by d j past right.1,
+)
+
 pub held_right : (d : Domain) (j : List Entry) → AnsweredInTime d j → HeldRight d j
-held_right d j right later past e id name p answer cut is =
-    let w = right later past e id name p answer cut is in
-    (answered (holder_of d id) (looking e name p) answer past j w.0, w.1)
+held_right d j right = held_by d j j right

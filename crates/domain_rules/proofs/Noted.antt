@@ -1,5 +1,6 @@
 -- A seal is noted where the MIC of a frame verified, and only there.
 use Rattle.std.proofs.Common.{◌≡◌, ℕ, zero, suc, ◌+◌, Bool, true, false, cond, List, [], ◌∷◌, ◌++◌, length, Option, Some, None, refl, sym, ap, subst, ◌∙◌, inl, inr}
+use Rattle.std.proofs.lemmas.Bool.{and_parts}
 use Rattle.std.specs.Prelude.{option_and_then, not, nat_lt, ◌||◌, ◌&&◌, ◌==◌, bytes_eq, option_map, if◌then◌else◌}
 use Rattle.std.specs.List.{list_any}
 use Rattle.std.proofs.lemmas.Slice.Eq.{bytes_eq-Decides}
@@ -41,7 +42,7 @@ use Rattle.domain_rules.specs.DataVerdict.{IsOpened}
 use Rattle.domain_rules.specs.DataRows.{send_acts_by, DataRow}
 use Rattle.run_journal.specs.declared.acts.Key.TheVariants.{Pairwise}
 use Rattle.run_journal.specs.Premises.{In}
-use Rattle.domain_rules.specs.Network.{mac, direction, goes_like, peer_of, r0kh_id, root_at, inputs}
+use Rattle.domain_rules.specs.Network.{mac, direction, goes_like, peer_of, r0kh_id, inputs_at}
 use Rattle.domain_rules.specs.Frames.{sent_assoc_req, sent_m1, sent_m4, sent_g2, frame_seal}
 use Rattle.domain_rules.specs.Reading.{Management, KeyMessage, Reading, NoFrame, PassedOver, NoElements, Managed, NoKeyFrame, NoMessage, Keyed, Sealed, Reads, kind_of}
 use Rattle.domain_rules.specs.Facts.{Facts}
@@ -101,7 +102,7 @@ HasMicOf akm kck k = k.fields.mic ≡ mic akm kck k.octets
 
 -- under the key that it is judged by
 abbrev VerifiedBy : Domain → Node → List Act → Node → KeyMessage → Message → Type 0
-VerifiedBy d n h p k M2 = (part : List Act) → attempt p h ≡ Some part → HasMicOf d.akm (ptk (inputs d (root_at d (r0kh_id d n)) n p (own part) k.fields.nonce)).kck k
+VerifiedBy d n h p k M2 = (part : List Act) → attempt p h ≡ Some part → HasMicOf d.akm (ptk (inputs_at d n p (r0kh_id d n) (own part) k.fields.nonce)).kck k
 VerifiedBy d n h p k M3 = (y : Keying) → m3_keying p h ≡ Some y → HasMicOf d.akm y.key.ptk.kck k
 VerifiedBy d n h p k M4 = (part : List Act) (x : Derivation) → attempt p h ≡ Some part → m4_keying p part ≡ Some x → HasMicOf d.akm x.ptk.kck k
 VerifiedBy d n h p k G1 = (x : Derivation) → session p h ≡ Some x → HasMicOf d.akm x.ptk.kck k
@@ -138,7 +139,7 @@ never why (inr s) = absurd (cc s)
 verified_by : (d : Domain) (drawn : ℕ) (n : Node) (h : List Act) (p : Node) (k : KeyMessage) (m : Message) → IsTaken (key_verdict d drawn n h p k m) → VerifiedBy d n h p k m
 verified_by d drawn (Sta s) h p k M1 t = tt
 verified_by d drawn (Ap a) h p k M2 t =
-    λ part is. passed_mic d.akm (ptk (inputs d (root_at d (r0kh_id d (Ap a))) (Ap a) p (own part) k.fields.nonce)).kck k Accepted
+    λ part is. passed_mic d.akm (ptk (inputs_at d (Ap a) p (r0kh_id d (Ap a)) (own part) k.fields.nonce)).kck k Accepted
     (passed (list_any (λ c. c == k.fields.counter) (offered p M1 part)) _ _ (taken_behind (not (by_connect part) || has_heard p (kind.Key M2) part) reason.Unawaited _ (at_part (attempt p h) part _ is t))).1
 verified_by d drawn (Sta s) h p k M3 t = λ y is. verified_m3 d (kept_counter p (chain p h)) k y (m3_keying p h) is t
 verified_by d drawn (Ap a) h p k M4 t = λ part x awaited is. verified_m4 d p k part x (m4_keying p part) is (at_part (attempt p h) part _ awaited t)
@@ -179,8 +180,8 @@ in_some f (Some x) y s = (x, (refl, s))
 
 message_verified : (d : Domain) (n : Node) (h : List Act) (octets : List ℕ) (k : KeyMessage) (p : Node) (m : Message) (s : Seal) → Reads d.akm octets (Keyed k) → VerifiedBy d n h p k m → message_seal d n h k m (Some p) ≡ Some s → IsVerified d.akm octets s
 message_verified d n h octets k p M2 s reads v is =
-    let x = mapped (λ (part : List Act). frame_seal (ptk (inputs d (root_at d (r0kh_id d n)) n p (own part) k.fields.nonce)).kck k.octets) (attempt p h) s is in
-    is_verified d.akm octets (Keyed k) k (ptk (inputs d (root_at d (r0kh_id d n)) n p (own x.0) k.fields.nonce)).kck s reads refl x.1.1 (v x.0 x.1.0)
+    let x = mapped (λ (part : List Act). frame_seal (ptk (inputs_at d n p (r0kh_id d n) (own part) k.fields.nonce)).kck k.octets) (attempt p h) s is in
+    is_verified d.akm octets (Keyed k) k (ptk (inputs_at d n p (r0kh_id d n) (own x.0) k.fields.nonce)).kck s reads refl x.1.1 (v x.0 x.1.0)
 message_verified d n h octets k p M3 s reads v is =
     let x = mapped (λ (y : Keying). frame_seal y.key.ptk.kck k.octets) (m3_keying p h) s is in
     is_verified d.akm octets (Keyed k) k x.0.key.ptk.kck s reads refl x.1.1 (v x.0 x.1.0)
@@ -228,17 +229,13 @@ abbrev are_quiet : List Act → Bool
 are_quiet [] = true
 are_quiet (e ∷ g) = is_quiet e && are_quiet g
 
-not_quiet : (b c : Bool) → (b && c) ≡ true → (b ≡ true) × (c ≡ true)
-not_quiet true c s = (refl, s)
-not_quiet false c s = absurd (cc s)
-
 abbrev noting : Option Node → List ℕ → Kind → Outcome → Seal → Act
 noting from octets k o s = Took from octets k o (Some s)
 
 none_noted : (from : Option Node) (octets : List ℕ) (k : Kind) (o : Outcome) (s : Seal) (g : List Act) → are_quiet g ≡ true → In (noting from octets k o s) g → ⊥
 none_noted from octets k o s [] quiet there = there
-none_noted from octets k o s (e ∷ g) quiet (inl here) = let q : is_quiet (noting from octets k o s) ≡ true = ap is_quiet here ∙ (not_quiet (is_quiet e) (are_quiet g) quiet).0 in cc q
-none_noted from octets k o s (e ∷ g) quiet (inr later) = none_noted from octets k o s g (not_quiet (is_quiet e) (are_quiet g) quiet).1 later
+none_noted from octets k o s (e ∷ g) quiet (inl here) = let q : is_quiet (noting from octets k o s) ≡ true = ap is_quiet here ∙ (and_parts (is_quiet e) (are_quiet g) quiet).0 in cc q
+none_noted from octets k o s (e ∷ g) quiet (inr later) = none_noted from octets k o s g (and_parts (is_quiet e) (are_quiet g) quiet).1 later
 
 head_noted : (from : Option Node) (octets : List ℕ) (k : Kind) (o : Outcome) (s : Seal) (a : Act) (rest g : List Act) → g ≡ a ∷ rest → are_quiet rest ≡ true → In (noting from octets k o s) g → noting from octets k o s ≡ a
 head_noted from octets k o s a rest g says quiet there = by (subst (λ (x : List Act). In (noting from octets k o s) x) says there)
@@ -362,7 +359,7 @@ quiet_newer d n p h x true = refl
 
 quiet_append : (f g : List Act) → are_quiet f ≡ true → are_quiet g ≡ true → are_quiet (f ++ g) ≡ true
 quiet_append [] g one two = two
-quiet_append (e ∷ f) g one two = let w = not_quiet (is_quiet e) (are_quiet f) one in both_quiet (is_quiet e) (are_quiet (f ++ g)) w.0 (quiet_append f g w.1 two)
+quiet_append (e ∷ f) g one two = let w = and_parts (is_quiet e) (are_quiet f) one in both_quiet (is_quiet e) (are_quiet (f ++ g)) w.0 (quiet_append f g w.1 two)
   where
     both_quiet : (b c : Bool) → b ≡ true → c ≡ true → (b && c) ≡ true
     both_quiet true c s t = t
@@ -562,7 +559,7 @@ unrefused a why (inr s) t = let e : and_then Answered Accepted ≡ Refused why =
 
 message_has : (d : Domain) (n : Node) (h : List Act) (k : KeyMessage) (p : Node) (m : Message) (facts : Facts) (a : Outcome) (why : Reason) → Awaited p h m → IsTaken a → and_then a (key_further d n h p m facts) ≡ Refused why
     → (s : Seal) × (message_seal d n h k m (Some p) ≡ Some s)
-message_has d n h k p M2 facts a why (Is_m2 e w) t s = (frame_seal (ptk (inputs d (root_at d (r0kh_id d n)) n p (own w.0) k.fields.nonce)).kck k.octets, ap (option_map (λ (part : List Act). frame_seal (ptk (inputs d (root_at d (r0kh_id d n)) n p (own part) k.fields.nonce)).kck k.octets)) w.1)
+message_has d n h k p M2 facts a why (Is_m2 e w) t s = (frame_seal (ptk (inputs_at d n p (r0kh_id d n) (own w.0) k.fields.nonce)).kck k.octets, ap (option_map (λ (part : List Act). frame_seal (ptk (inputs_at d n p (r0kh_id d n) (own part) k.fields.nonce)).kck k.octets)) w.1)
 message_has d n h k p M2 facts a why (Is_m1 e w) t s = absurd (cc e)
 message_has d n h k p M2 facts a why (Is_m3 e w) t s = absurd (cc e)
 message_has d n h k p M2 facts a why (Is_m4 e w) t s = absurd (cc e)

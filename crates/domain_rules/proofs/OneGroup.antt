@@ -24,7 +24,7 @@ use Rattle.domain_rules.specs.Counters.{next_in_attempt}
 use Rattle.domain_rules.specs.GroupKeys.{newest, newest_uses, give}
 use Rattle.rsn_elements.specs.Elements.{ElementFields}
 use Rattle.run_journal.specs.Questions.{attempt, chain, associated, session, before_sent, listed, add}
-use Rattle.domain_rules.specs.Network.{mac, Root, r0kh_id, inputs, root_by, root_at}
+use Rattle.domain_rules.specs.Network.{mac, Root, r0kh_id, station_of, inputs, root_by, inputs_at}
 use Rattle.domain_base.specs.declared.names.Akm.{Akm}
 use Rattle.domain_base.specs.declared.names.Akm.TheVariants.{Psk, PskSha256, FtPsk}
 use Rattle.domain_base.specs.declared.names.Node.TheVariants.{Sta}
@@ -90,7 +90,7 @@ abbrev load_of : Facts → Load
 load_of facts = record { key = carried facts.data_; plain = facts.opened; responded = facts.responded; pulled = facts.pulled; unwrapped = facts.unwrapped }
 
 abbrev ft_req_inputs : Domain → ℕ → Node → List Act → Node → Asked → Inputs
-ft_req_inputs d first n h p a = inputs d (root_at d a.r0kh_id) n p (next_nonce d first n h) a.snonce
+ft_req_inputs d first n h p a = inputs_at d n p a.r0kh_id (next_nonce d first n h) a.snonce
 
 abbrev begun_acts : Domain → Node → List Act → List ℕ → Node → Asked → List ℕ → PmkR1 → Inputs → List Act
 begun_acts d n h octets p a name k i =
@@ -108,8 +108,8 @@ ft_req_acts d first n h octets p (Some a) k = ft_req_named d first n h octets p 
 abbrev ft_resp_acts : Domain → Node → List Act → List ℕ → Node → List Act → Option FteFields → List Act
 ft_resp_acts d n h octets p part None = []
 ft_resp_acts d n h octets p part (Some f) =
-    Took (Some p) octets kind.FtResp Accepted None ∷ Derived p (inputs d (root_at d (last_r0kh_id h)) n p (own part) f.anonce) (ptk (inputs d (root_at d (last_r0kh_id h)) n p (own part) f.anonce))
-    ∷ sent_re_req d n p (unwrap_or (associated h) p) (keyed_by (inputs d (root_at d (last_r0kh_id h)) n p (own part) f.anonce)) ∷ []
+    Took (Some p) octets kind.FtResp Accepted None ∷ Derived p (inputs_at d n p (last_r0kh_id h) (own part) f.anonce) (ptk (inputs_at d n p (last_r0kh_id h) (own part) f.anonce))
+    ∷ sent_re_req d n p (unwrap_or (associated h) p) (keyed_by (inputs_at d n p (last_r0kh_id h) (own part) f.anonce)) ∷ []
 
 abbrev re_req_acts : Domain → Node → List Act → List ℕ → Node → Option Seal → Option Judged → List Act
 re_req_acts d n h octets p seal None = []
@@ -136,7 +136,7 @@ managed_acts d first n h octets p b e x kind.ReResp = re_resp_acts d n h octets 
 managed_acts d first n h octets p b e x _ = []
 
 abbrev m1_inputs : Domain → Node → List Act → Node → KeyMessage → Option ElementFields → Inputs
-m1_inputs d n part p k q = inputs d (root_at d (responded_r0kh_id q)) n p (own part) k.fields.nonce
+m1_inputs d n part p k q = inputs_at d n p (responded_r0kh_id q) (own part) k.fields.nonce
 
 abbrev m1_acts : Domain → Node → List ℕ → Node → KeyMessage → Inputs → List ℕ → List Act
 m1_acts d n octets p k i fte = Took (Some p) octets (kind.Key M1) Accepted None ∷ Derived p i (ptk i) ∷ sent_m2 d n p (keyed_by i) k.fields.counter fte ∷ []
@@ -176,7 +176,7 @@ g2_acts octets p k (Some x) = Took (Some p) octets (kind.Key G2) Accepted (Some 
 
 abbrev keyed_acts : Domain → Node → List Act → List ℕ → Node → KeyMessage → Load → Message → List Act
 keyed_acts d n h octets p k x M1 = taken_m1 d n (part_of p h) octets p k x.responded
-keyed_acts d n h octets p k x M2 = m2_acts d n h octets p k (inputs d (root_at d (r0kh_id d n)) n p (own (part_of p h)) k.fields.nonce)
+keyed_acts d n h octets p k x M2 = m2_acts d n h octets p k (inputs_at d n p (r0kh_id d n) (own (part_of p h)) k.fields.nonce)
 keyed_acts d n h octets p k x M3 = m3_acts d n h octets p k x.key (m3_keying p h)
 keyed_acts d n h octets p k x M4 = taken_m4 d n h octets p k (m4_keying p (part_of p h))
 keyed_acts d n h octets p k x G1 = g1_acts d n h octets p k x.key (session p h)
@@ -265,14 +265,14 @@ same_fte Psk d x q r same = refl
 same_fte PskSha256 d x q r same = refl
 same_fte FtPsk d x q r same = ap (λ (o : Option ElementFields). sent_m2_key_data FtPsk d x (unwrap_or (responded_fte o) [])) (same refl)
 
-same_root : (akm : Akm) (d : Domain) (q r : Option ElementFields) → (akm ≡ FtPsk → q ≡ r) → root_by akm d (responded_r0kh_id q) ≡ root_by akm d (responded_r0kh_id r)
-same_root Psk d q r same = refl
-same_root PskSha256 d q r same = refl
-same_root FtPsk d q r same = ap (λ (o : Option ElementFields). root_by FtPsk d (responded_r0kh_id o)) (same refl)
+same_root : (akm : Akm) (d : Domain) (s : Node) (q r : Option ElementFields) → (akm ≡ FtPsk → q ≡ r) → root_by akm d s (responded_r0kh_id q) ≡ root_by akm d s (responded_r0kh_id r)
+same_root Psk d s q r same = refl
+same_root PskSha256 d s q r same = refl
+same_root FtPsk d s q r same = ap (λ (o : Option ElementFields). root_by FtPsk d s (responded_r0kh_id o)) (same refl)
 
 same_m1 : (d : Domain) (n : Node) (part : List Act) (octets : List ℕ) (p : Node) (k : KeyMessage) (q r : Option ElementFields) → (d.akm ≡ FtPsk → q ≡ r) → taken_m1 d n part octets p k q ≡ taken_m1 d n part octets p k r
 same_m1 d n part octets p k q r same =
-    ap (λ (x : Root). m1_acts d n octets p k (inputs d x n p (own part) k.fields.nonce) (unwrap_or (responded_fte q) [])) (same_root d.akm d q r same)
+    ap (λ (x : Root). m1_acts d n octets p k (inputs d x n p (own part) k.fields.nonce) (unwrap_or (responded_fte q) [])) (same_root d.akm d (station_of n p) q r same)
     ∙ ap (λ (plain : List ℕ). Took (Some p) octets (kind.Key M1) Accepted None ∷ Derived p (m1_inputs d n part p k r) (ptk (m1_inputs d n part p k r)) ∷ m2_with d n p (keyed_by (m1_inputs d n part p k r)) k.fields.counter plain ∷ [])
     (same_fte d.akm d (keyed_by (m1_inputs d n part p k r)) q r same)
 
@@ -287,7 +287,7 @@ row_is d first n h octets r facts g x carries (By_m1 row) =
     ∙ ap (λ (part : List Act). taken_m1 d n part octets row.p row.k x.responded) (part_is row.p h row.part row.awaited)
     ∙ sym (keyed_is d first n h octets r _ row.k M1 row.p x row.accepted row.from row.is row.message_is)
 row_is d first n h octets r facts g x carries (By_m2 row) =
-    row.says ∙ ap (m2_acts d n h octets row.p row.k) (row.inputs_are ∙ ap (λ (part : List Act). inputs d (root_at d (r0kh_id d n)) n row.p (own part) row.k.fields.nonce) (part_is row.p h row.part row.awaited))
+    row.says ∙ ap (m2_acts d n h octets row.p row.k) (row.inputs_are ∙ ap (λ (part : List Act). inputs_at d n row.p (r0kh_id d n) (own part) row.k.fields.nonce) (part_is row.p h row.part row.awaited))
     ∙ sym (keyed_is d first n h octets r _ row.k M2 row.p x row.accepted row.from row.is row.message_is)
 row_is d first n h octets r facts g x carries (By_m3 row) =
     row.says ∙ ap (λ (v : GroupKey). m3_acts d n h octets row.p row.k v (Some row.y)) (carries.key row.k row.is (inl row.message_is) row.accepted)

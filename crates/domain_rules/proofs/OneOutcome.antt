@@ -1,5 +1,6 @@
 -- A frame is accepted, answered, ignored or refused, and of these one.
 use Rattle.std.proofs.Common.{◌≡◌, ◌⊎◌, ℕ, ◌+◌, Bool, true, false, List, Option, Some, None, refl, sym, ap, subst, ◌∙◌, inl, inr}
+use Rattle.std.proofs.lemmas.Bool.{and_parts}
 use Rattle.std.specs.Prelude.{not, nat_lt, ◌||◌, ◌&&◌, ◌==◌, bytes_eq, length, drop, option_and_then, if◌then◌else◌}
 use Rattle.std.specs.List.{list_any}
 use Rattle.domain_base.specs.declared.names.Node.{Node}
@@ -657,10 +658,6 @@ sized_some (Some x) s t = by (x.key_length == 16) (length x.wrapped == 24) (not 
     by true false c s t = cc
     by false b c s t = cc
 
-pub both_true : (a b : Bool) → (a && b) ≡ true → (a ≡ true) × (b ≡ true)
-both_true true b s = (refl, s)
-both_true false b s = absurd (cc s)
-
 -- behind the tests of its elements a response carries a wrapped key
 resp_carries : (d : Domain) (n p : Node) (e : ElementFields) (o : Option Derivation) → IsTaken (re_resp_names d n p e o) → is_wrapped_gtk (gtk_in e.fte) ≡ true
 resp_carries d n p e None s = never reason.Unawaited s
@@ -668,7 +665,7 @@ resp_carries d n p e (Some x) s =
     let one = taken_status (rsne_status d.akm e.rsne) _ s in
     let two = taken_status (mde_status d e.mde) _ one.1 in
     let three = (taken_passed (counts_three e.fte && names_both (address d p) x.inputs.r0kh_id e.fte && is_wrapped_gtk (gtk_in e.fte)) (reason.Status fte_status) _ two.1).0 in
-    (both_true (counts_three e.fte && names_both (address d p) x.inputs.r0kh_id e.fte) _ three).1
+    (and_parts (counts_three e.fte && names_both (address d p) x.inputs.r0kh_id e.fte) _ three).1
 
 unless_taken : (o : Outcome) → Decided o → unless_refused Accepted o ≡ Accepted → (o ≡ Ignored → ⊥) → IsTaken o
 unless_taken o (Took_in is) s other = inl is

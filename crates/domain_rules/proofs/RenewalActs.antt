@@ -106,7 +106,7 @@ module _ (d : Domain) (k m : ℕ) where
   anonce = nonce d a 3
 
   abbrev pub i2 : Inputs
-  i2 = inputs d (root d) s a snonce anonce
+  i2 = inputs d (root d s) s a snonce anonce
 
   abbrev pub key2 : Derivation
   key2 = record { inputs = i2; ptk = ptk i2 }

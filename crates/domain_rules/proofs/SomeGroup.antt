@@ -17,7 +17,7 @@ use Rattle.run_journal.specs.declared.acts.Reason.TheVariants as reason
 use Rattle.run_journal.specs.declared.acts.Outcome.TheVariants.{Accepted, Answered}
 use Rattle.run_journal.specs.declared.acts.Act.{Act}
 use Rattle.run_journal.specs.Questions.{draws}
-use Rattle.domain_rules.specs.Network.{direction, goes_like, peer_of, r0kh_id, inputs, draw_end, root_at}
+use Rattle.domain_rules.specs.Network.{direction, goes_like, peer_of, r0kh_id, draw_end, inputs_at}
 use Rattle.domain_rules.specs.Reading.{Management, KeyMessage, Reading, Managed, Keyed, Sealed}
 use Rattle.domain_rules.specs.Facts.{Facts}
 use Rattle.key_hierarchy.specs.declared.fast_transition.PmkR1.{PmkR1}
@@ -61,7 +61,7 @@ request_row : (d : Domain) (first a : ℕ) (h : List Act) (octets : List ℕ) (b
 request_row d first a h octets b e facts p from k t accepted opened s =
     let w = asked_accepted d t.a (repeats t.a (transition p h)) (sym t.verdict_is ∙ accepted) in
     let given_ = pulled_some (first + draws h) facts.pulled (subst (λ (o : Outcome). unless_refused Accepted o ≡ Accepted) (not_repeated (first + draws h) (asked e) t.a (transition p h) facts.pulled t.asks w.0) opened) in
-    (_, By_ft_req (record { b = b; e = e; is = refl; kind_is = k; p = p; from = from; accepted = s; a = t.a; asks = t.asks; name = w.1.1.0; named = w.1.1.1; k = given_.0; pulled = given_.1; i = inputs d (root_at d t.a.r0kh_id) (Ap a) p (next_nonce d first (Ap a) h) t.a.snonce; inputs_are = refl; says = refl }))
+    (_, By_ft_req (record { b = b; e = e; is = refl; kind_is = k; p = p; from = from; accepted = s; a = t.a; asks = t.asks; name = w.1.1.0; named = w.1.1.1; k = given_.0; pulled = given_.1; i = inputs_at d (Ap a) p t.a.r0kh_id (next_nonce d first (Ap a) h) t.a.snonce; inputs_are = refl; says = refl }))
   where
     pulled_some : (drawn : ℕ) (o : Option PmkR1) → unless_refused Accepted (pulled_verdict drawn o) ≡ Accepted → (x : PmkR1) × (o ≡ Some x)
     pulled_some drawn None v = cc
@@ -79,7 +79,7 @@ managed_row d first n h octets b e facts p from (Is_ft_req a at k t) v o s =
     (subst (λ (m : Node). unless_refused Accepted (management_further d (first + draws h) m h p b e facts kind.FtReq) ≡ Accepted) at (subst (λ (x : Kind). unless_refused Accepted (management_further d (first + draws h) n h p b e facts x) ≡ Accepted) k o))
     (subst (λ (m : Node). verdict d first m h (Managed b e) facts ≡ Accepted) at s))
 managed_row d first n h octets b e facts p from (Is_ft_resp k t) v o s =
-    (_, By_ft_resp (record { b = b; e = e; is = refl; kind_is = k; p = p; from = from; accepted = s; part = t.part; awaited = t.awaited; f = t.f; fte = t.fte; i = inputs d (root_at d (last_r0kh_id h)) n p (own t.part) t.f.anonce; inputs_are = refl; says = refl }))
+    (_, By_ft_resp (record { b = b; e = e; is = refl; kind_is = k; p = p; from = from; accepted = s; part = t.part; awaited = t.awaited; f = t.f; fte = t.fte; i = inputs_at d n p (last_r0kh_id h) (own t.part) t.f.anonce; inputs_are = refl; says = refl }))
 managed_row d first n h octets b e facts p from (Is_re_req a at k) v o s =
     let opened : unless_refused Accepted (re_req_further d (Ap a) h p e) ≡ Accepted =
     subst (λ (m : Node). unless_refused Accepted (management_further d (first + draws h) m h p b e facts kind.ReReq) ≡ Accepted) at (subst (λ (x : Kind). unless_refused Accepted (management_further d (first + draws h) n h p b e facts x) ≡ Accepted) k o) in
@@ -91,9 +91,9 @@ managed_row d first n h octets b e facts p from (Is_re_resp sta at k x) v o s =
 keyed_row : (d : Domain) (first : ℕ) (n : Node) (h : List Act) (octets : List ℕ) (k : KeyMessage) (facts : Facts) (p : Node) → peer_of d n k.header.a2 ≡ Some p → Awaited p h k.message
     → verdict d first n h (Keyed k) facts ≡ Accepted → HasRow d first n h octets (Keyed k) facts
 keyed_row d first n h octets k facts p from (Is_m1 m a) s =
-    (_, By_m1 (record { k = k; is = refl; message_is = m; p = p; from = from; accepted = s; part = a.0; awaited = a.1; i = inputs d (root_at d (responded_r0kh_id facts.responded)) n p (own a.0) k.fields.nonce; inputs_are = refl; says = refl }))
+    (_, By_m1 (record { k = k; is = refl; message_is = m; p = p; from = from; accepted = s; part = a.0; awaited = a.1; i = inputs_at d n p (responded_r0kh_id facts.responded) (own a.0) k.fields.nonce; inputs_are = refl; says = refl }))
 keyed_row d first n h octets k facts p from (Is_m2 m a) s =
-    (_, By_m2 (record { k = k; is = refl; message_is = m; p = p; from = from; accepted = s; part = a.0; awaited = a.1; i = inputs d (root_at d (r0kh_id d n)) n p (own a.0) k.fields.nonce; inputs_are = refl; says = refl }))
+    (_, By_m2 (record { k = k; is = refl; message_is = m; p = p; from = from; accepted = s; part = a.0; awaited = a.1; i = inputs_at d n p (r0kh_id d n) (own a.0) k.fields.nonce; inputs_are = refl; says = refl }))
 keyed_row d first n h octets k facts p from (Is_m3 m a) s = (_, By_m3 (record { k = k; is = refl; message_is = m; p = p; from = from; accepted = s; y = a.0; awaited = a.1; says = refl }))
 keyed_row d first n h octets k facts p from (Is_m4 m a) s =
     (_, By_m4 (record { k = k; is = refl; message_is = m; p = p; from = from; accepted = s; part = a.part; awaited = a.awaited; x = a.x; keyed = a.keyed; says = refl }))

@@ -12,7 +12,7 @@ use Rattle.run_journal.specs.declared.domain.Domain.{Domain}
 use Rattle.run_journal.specs.declared.acts.Outcome.TheVariants.{Accepted}
 use Rattle.run_journal.specs.declared.acts.Act.{Act}
 use Rattle.run_journal.specs.Acts.{GroupKey, Derivation}
-use Rattle.domain_rules.specs.Network.{root, root_by, root_at, inputs}
+use Rattle.domain_rules.specs.Network.{root, root_by, station_of, inputs, inputs_at}
 use Rattle.domain_rules.specs.Facts.{Facts}
 use Rattle.domain_rules.specs.FastTransition.{mobility_status}
 use Rattle.domain_rules.specs.Frames.{assoc_req_elements_by, assoc_resp_elements_by, sent_m2_key_data, m3_key_data_by}
@@ -22,13 +22,13 @@ use Rattle.domain_rules.specs.StationKeys.{Keying, m3_wrapped}
 use Rattle.domain_rules.specs.KeyHolders.{put_acts_by}
 use Rattle.domain_rules.specs.Verdict.{KnowsResponse, m2_further, m3_further}
 
-pub root_suite : (akm : Akm) (d : Domain) (id : List ℕ) → akm ≢ FtPsk → root_by akm d id ≡ root d
-root_suite Psk d id other = refl
-root_suite PskSha256 d id other = refl
-root_suite FtPsk d id other = absurd (other refl)
+pub root_suite : (akm : Akm) (d : Domain) (s : Node) (id : List ℕ) → akm ≢ FtPsk → root_by akm d s id ≡ root d s
+root_suite Psk d s id other = refl
+root_suite PskSha256 d s id other = refl
+root_suite FtPsk d s id other = absurd (other refl)
 
-pub inputs_suite : (d : Domain) (id : List ℕ) (n p : Node) (own other_ : List ℕ) → d.akm ≢ FtPsk → inputs d (root d) n p own other_ ≡ inputs d (root_at d id) n p own other_
-inputs_suite d id n p own other_ other = ap (λ r. inputs d r n p own other_) (sym (root_suite d.akm d id other))
+pub inputs_suite : (d : Domain) (id : List ℕ) (n p : Node) (own other_ : List ℕ) → d.akm ≢ FtPsk → inputs d (root d (station_of n p)) n p own other_ ≡ inputs_at d n p id own other_
+inputs_suite d id n p own other_ other = ap (λ r. inputs d r n p own other_) (sym (root_suite d.akm d (station_of n p) id other))
 
 abbrev pub plain_request : Domain → List ℕ
 plain_request d = ssid_octets d.ssid ++ rates_octets ++ rsne_octets d.akm None

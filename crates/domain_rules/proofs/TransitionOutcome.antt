@@ -77,7 +77,7 @@ decided_ft_req_further drawn h p e k = decided_given drawn (asked e) (transition
 decided_ft_fields : (d : Domain) (n : Node) (h : List Act) (p : Node) (e : ElementFields) → Decided (ft_resp_fields d n h p e)
 decided_ft_fields d n h p e =
     decided_status (rsne_status d.akm e.rsne) _ (decided_status (mde_status d e.mde) _
-    (decided_if (names_both (address d p) (last_r0kh_id h) e.fte) _ _ (decided_named (root_name d (root_at d (last_r0kh_id h)) n) e) (refused (reason.Status fte_status))))
+    (decided_if (names_both (address d p) (last_r0kh_id h) e.fte) _ _ (decided_named (root_name d (root_at d n (last_r0kh_id h)) n) e) (refused (reason.Status fte_status))))
 
 decided_own : (snonce : List ℕ) (f : Option FteFields) (a : Outcome) → Decided a → Decided (own_nonce_in snonce f a)
 decided_own snonce None a x = x
@@ -266,7 +266,7 @@ named_unanswered name e s = not_answered_name (is_named name e) s
 
 fields_unanswered : (d : Domain) (n : Node) (h : List Act) (p : Node) (e : ElementFields) → ft_resp_fields d n h p e ≡ Answered → ⊥
 fields_unanswered d n h p e s =
-    named_unanswered (root_name d (root_at d (last_r0kh_id h)) n) e
+    named_unanswered (root_name d (root_at d n (last_r0kh_id h)) n) e
     (answered_passed (names_both (address d p) (last_r0kh_id h) e.fte) (reason.Status fte_status) _
     (answered_status (mde_status d e.mde) _ (answered_status (rsne_status d.akm e.rsne) _ s)))
 

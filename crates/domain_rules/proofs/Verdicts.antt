@@ -22,7 +22,7 @@ use Rattle.run_journal.specs.declared.acts.Outcome.TheVariants.{Accepted, Refuse
 use Rattle.run_journal.specs.declared.acts.Act.{Act}
 use Rattle.run_journal.specs.Questions.{attempt, chain, own_nonce, draws}
 use Rattle.air_frame.specs.Fields.{HeaderFields}
-use Rattle.domain_rules.specs.Network.{inputs, peer_of, bssid, direction, goes_like, r0kh_id, root_at}
+use Rattle.domain_rules.specs.Network.{peer_of, bssid, direction, goes_like, r0kh_id, inputs_at}
 use Rattle.domain_rules.specs.Reading.{Management, KeyMessage, Managed, Keyed}
 use Rattle.domain_rules.specs.Asking.{by_connect, has_heard, kept_counter, offered, greatest, above, among, verified}
 use Rattle.domain_rules.specs.Associating.{rsne_status, response_fields, assoc_resp_verdict, management_verdict}
@@ -53,7 +53,7 @@ m1-in h p k part associated kept s begun heard counter = rw (s, begun, heard, co
 
 pub m2-in : (d : Domain) (n : Node) (h : List Act) (p : Node) (k : KeyMessage) (part : List Act) (answered : Bool) (counters : List ℕ) (nonce : List ℕ)
     → attempt p h ≡ Some part → by_connect part ≡ true → has_heard p (kind.Key M2) part ≡ answered → offered p M1 part ≡ counters → own_nonce part ≡ Some nonce
-    → m2_verdict d n h p k ≡ (if answered then Refused reason.Unawaited else among counters k.fields.counter (verified d.akm (ptk (inputs d (root_at d (r0kh_id d n)) n p nonce k.fields.nonce)).kck k Accepted))
+    → m2_verdict d n h p k ≡ (if answered then Refused reason.Unawaited else among counters k.fields.counter (verified d.akm (ptk (inputs_at d n p (r0kh_id d n) nonce k.fields.nonce)).kck k Accepted))
 m2-in d n h p k part answered counters nonce s begun heard offers drawn = rw (s, begun, heard, offers, drawn) refl
 
 -- ---- the tests

@@ -15,7 +15,7 @@ use Rattle.run_journal.specs.declared.acts.Act.{Act}
 use Rattle.run_journal.specs.Acts.{Derivation}
 use Rattle.run_journal.specs.GroupKinds as groups
 use Rattle.run_journal.specs.Questions.{attempt, derivation, heard, handshake}
-use Rattle.domain_rules.specs.Network.{r0kh_id, root_at, inputs}
+use Rattle.domain_rules.specs.Network.{r0kh_id, inputs_at}
 use Rattle.domain_rules.specs.Reading.{Management, KeyMessage, Managed, Reads}
 use Rattle.domain_rules.specs.Facts.{Facts, is_same, ReadsKeyData}
 use Rattle.domain_rules.specs.Owing.{owing}
@@ -27,7 +27,7 @@ m2_verdict d n h p k =
     in_attempt (attempt p h) (λ part. (
     if not (by_connect part) || has_heard p (kind.Key M2) part then Refused reason.Unawaited
     else among (offered p M1 part) k.fields.counter
-    (verified d.akm (ptk (inputs d (root_at d (r0kh_id d n)) n p (own part) k.fields.nonce)).kck k Accepted)))
+    (verified d.akm (ptk (inputs_at d n p (r0kh_id d n) (own part) k.fields.nonce)).kck k Accepted)))
 
 -- the key derived last in an attempt by connect in which M2 was accepted
 abbrev pub m4_keying : Node → List Act → Option Derivation

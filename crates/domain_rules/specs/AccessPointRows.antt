@@ -22,7 +22,7 @@ use Rattle.run_journal.specs.declared.acts.Act.{Act}
 use Rattle.run_journal.specs.declared.acts.Act.TheVariants.{Opened, Closed, Drew, Derived, Took, Installed, Finished, GaveUp, Idle}
 use Rattle.run_journal.specs.Questions.{attempt, chain, derivation, session, before_sent, handshake, draws, add}
 use Rattle.run_journal.specs.Acts.{Derivation}
-use Rattle.domain_rules.specs.Network.{mac, gtk, r0kh_id, root_at, inputs, is_ap, draw_end}
+use Rattle.domain_rules.specs.Network.{mac, gtk, r0kh_id, inputs_at, is_ap, draw_end}
 use Rattle.domain_rules.specs.Reading.{Management, KeyMessage, Reading, Managed, Keyed}
 use Rattle.domain_rules.specs.Frames.{sent_assoc_resp, sent_m1, sent_m3, sent_g1, frame_seal, keyed_by}
 use Rattle.domain_rules.specs.Facts.{Facts}
@@ -60,7 +60,7 @@ pub record M2Row (w : Here) (h : List Act) (octets : List ℕ) (r : Reading) (fa
   pub part : List Act
   pub awaited : attempt p h ≡ Some part
   pub i : Inputs
-  pub inputs_are : i ≡ inputs w.domain (root_at w.domain (r0kh_id w.domain w.node)) w.node p (own part) k.fields.nonce
+  pub inputs_are : i ≡ inputs_at w.domain w.node p (r0kh_id w.domain w.node) (own part) k.fields.nonce
   pub says : g ≡ Took (Some p) octets (kind.Key M2) Accepted (Some (frame_seal (ptk i).kck k.octets)) ∷ Derived p i (ptk i)
       ∷ sent_m3 w.domain w.node p (keyed_by i) (next_in_attempt p (chain p h)) (newest groups.Gtk h) (newest_uses groups.Gtk h) ∷ []
 
@@ -114,7 +114,7 @@ pub record G2Row (w : Here) (h : List Act) (octets : List ℕ) (r : Reading) (fa
 
 -- what the MIC of M2, M4 and G2 covers, under the key by which the message is judged
 abbrev pub m2_seal : Domain → Node → List Act → KeyMessage → Node → Option Seal
-m2_seal d n h k p = option_map (λ (part : List Act). frame_seal (ptk (inputs d (root_at d (r0kh_id d n)) n p (own part) k.fields.nonce)).kck k.octets) (attempt p h)
+m2_seal d n h k p = option_map (λ (part : List Act). frame_seal (ptk (inputs_at d n p (r0kh_id d n) (own part) k.fields.nonce)).kck k.octets) (attempt p h)
 
 abbrev pub m4_seal : List Act → KeyMessage → Node → Option Seal
 m4_seal h k p = option_map (λ (x : Derivation). frame_seal x.ptk.kck k.octets) (option_and_then (λ (part : List Act). m4_keying p part) (attempt p h))

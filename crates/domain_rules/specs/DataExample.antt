@@ -2,12 +2,12 @@
 use Rattle.std.specs.Prelude.{◌≡◌, ℕ, ◌<◌, ◌^◌, List, [], ◌∷◌, length, Some, None}
 use Rattle.std.specs.List.{AllByRecursion}
 use Rattle.domain_base.specs.Octets.{AreOctets}
-use Rattle.domain_base.specs.declared.names.Mac.{Mac}
 use Rattle.domain_base.specs.declared.names.Node.TheVariants.{Ap, Sta}
 use Rattle.domain_base.specs.declared.names.Peer.TheVariants.{One, All}
 use Rattle.key_hierarchy.specs.declared.inputs.Inputs.{Inputs}
 use Rattle.key_hierarchy.specs.Keys.{ptk}
 use Rattle.run_journal.specs.declared.domain.ListedAp.{ListedAp}
+use Rattle.run_journal.specs.declared.domain.ListedSta.{ListedSta}
 use Rattle.run_journal.specs.declared.domain.Domain.{Domain}
 use Rattle.run_journal.specs.declared.domain.Event.{Event}
 use Rattle.run_journal.specs.declared.domain.Event.TheVariants.{Connect, Deliver, Retry, Send}
@@ -24,7 +24,7 @@ use Rattle.domain_rules.specs.Explained.{Explained}
 -- the addresses are lists of octets
 pub record HaveOctets (d : Domain) : Type 0 where
   pub aps : AllByRecursion (λ (a : ListedAp). AreOctets a.address.0) d.aps
-  pub stas : AllByRecursion (λ (m : Mac). AreOctets m.0) d.stas
+  pub stas : AllByRecursion (λ (s : ListedSta). AreOctets s.address.0) d.stas
 
 -- a payload that CCM can seal
 pub record IsPayload (octets : List ℕ) : Type 0 where
@@ -58,7 +58,7 @@ pub record HasExchange (d : Domain) (a s : ℕ) (p : Payloads) : Type 0 where
   pub explained : Explained d (exchange a s p) journal
   -- the pairwise key
   pub i : Inputs
-  pub of_first : i ≡ inputs d (root d) (Sta s) (Ap a) (nonce d (Sta s) 0) (nonce d (Ap a) 1)
+  pub of_first : i ≡ inputs d (root d (Sta s)) (Sta s) (Ap a) (nonce d (Sta s) 0) (nonce d (Ap a) 1)
   pub sent_up : In (Used (One (Ap a)) (ptk i).tk 0 1 p.up) (history (Sta s) journal)
   pub taken_up : In (HandedUp (Sta s) (ptk i).tk 0 5 1 p.up) (history (Ap a) journal)
   pub sent_down : In (Used (One (Sta s)) (ptk i).tk 0 1 p.down) (history (Ap a) journal)

@@ -2,7 +2,6 @@
 -- And a small network.
 use Rattle.std.specs.Prelude.{◌≡◌, ℕ, List, [], ◌∷◌, Some, None, codes}
 use Rattle.std.specs.List.{AllByRecursion}
-use Rattle.domain_base.specs.declared.names.Mac.{Mac}
 use Rattle.domain_base.specs.declared.names.Akm.{Akm}
 use Rattle.domain_base.specs.declared.names.Node.TheVariants.{Ap, Sta}
 use Rattle.domain_base.specs.declared.names.Peer.TheVariants.{One, All}
@@ -11,6 +10,8 @@ use Rattle.eapol_key.specs.declared.messages.Message.TheVariants.{M3, G2}
 use Rattle.key_hierarchy.specs.declared.inputs.Inputs.{Inputs}
 use Rattle.key_hierarchy.specs.Keys.{ptk}
 use Rattle.run_journal.specs.declared.domain.ListedAp.{ListedAp}
+use Rattle.run_journal.specs.declared.domain.ListedSta.{ListedSta}
+use Rattle.run_journal.specs.declared.domain.Version.TheVariants as version
 use Rattle.run_journal.specs.declared.domain.Domain.{Domain}
 use Rattle.run_journal.specs.declared.domain.Event.{Event}
 use Rattle.run_journal.specs.declared.domain.Event.TheVariants.{Connect, Deliver, Retry, Rekey}
@@ -33,17 +34,17 @@ abbrev pub small : Akm → List ℕ → List ℕ → List ℕ → Domain
 small akm seed ssid psk = record {
   seed = seed;
   ssid = ssid;
-  psk = psk;
   akm = akm;
   mdid = 0 ∷ 0 ∷ [];
+  extras = record { version = version.One };
   aps = record { address = record { 0 = 0x02 ∷ 0 ∷ 0 ∷ 0 ∷ 0 ∷ 0x01 ∷ [] }; r0kh_id = codes "r0kh-1" } ∷ [];
-  stas = record { 0 = 0x02 ∷ 0 ∷ 0 ∷ 0 ∷ 0 ∷ 0x11 ∷ [] } ∷ [];
+  stas = record { address = record { 0 = 0x02 ∷ 0 ∷ 0 ∷ 0 ∷ 0 ∷ 0x11 ∷ [] }; psk = psk } ∷ [];
 }
 
 -- all addresses have six octets
 pub record AreWhole (d : Domain) : Type 0 where
   pub aps : AllByRecursion (λ (a : ListedAp). IsAddress a.address.0) d.aps
-  pub stas : AllByRecursion (λ (m : Mac). IsAddress m.0) d.stas
+  pub stas : AllByRecursion (λ (s : ListedSta). IsAddress s.address.0) d.stas
 
 -- the last round first: a station asks an access point, the messages up to M3 are accepted, M3 is sent once more and answered
 -- once more, the last answer is accepted, and the station asks again
@@ -60,7 +61,7 @@ pub record HasHandshake (d : Domain) (a s : ℕ) : Type 0 where
   pub explained : Explained d (handshake a s) journal
   -- the pairwise key, of the nonces of the first attempt
   pub i : Inputs
-  pub of_first : i ≡ inputs d (root d) (Sta s) (Ap a) (nonce d (Sta s) 0) (nonce d (Ap a) 1)
+  pub of_first : i ≡ inputs d (root d (Sta s)) (Sta s) (Ap a) (nonce d (Sta s) 0) (nonce d (Ap a) 1)
   pub station : In (Installed (One (Ap a)) (Pairwise (ptk i).tk i)) (history (Sta s) journal)
   pub access_point : In (Installed (One (Sta s)) (Pairwise (ptk i).tk i)) (history (Ap a) journal)
   pub station_ends : In (Finished (Ap a) i) (history (Sta s) journal)
@@ -110,6 +111,6 @@ pub record HasRenewal (d : Domain) (a s : ℕ) : Type 0 where
   pub current : In (Installed All (Group new.key new.id (mac d (Ap a)))) (history (Ap a) journal)
   -- the pairwise key, of the nonces of the second association
   pub i : Inputs
-  pub of_second : i ≡ inputs d (root d) (Sta s) (Ap a) (nonce d (Sta s) 1) (nonce d (Ap a) 3)
+  pub of_second : i ≡ inputs d (root d (Sta s)) (Sta s) (Ap a) (nonce d (Sta s) 1) (nonce d (Ap a) 3)
   pub station : In (Installed (One (Ap a)) (Pairwise (ptk i).tk i)) (history (Sta s) journal)
   pub resumed : In (Resumed (Ap a) (Group new.key new.id (mac d (Ap a)))) (history (Sta s) journal)

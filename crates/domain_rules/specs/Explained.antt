@@ -17,7 +17,7 @@ use Rattle.run_journal.specs.Premises.{In}
 use Rattle.domain_rules.specs.Rows.{NodeEvent, Take, Begin, Adds}
 use Rattle.domain_rules.specs.AccessPointRows.{start_acts}
 use Rattle.domain_rules.specs.Rows as again
-use Rattle.domain_rules.specs.Rounds.{by_nodes}
+use Rattle.domain_rules.specs.Rounds.{Place, in_order}
 use Rattle.domain_rules.specs.Here.{here}
 
 -- how many frames were sent
@@ -61,14 +61,19 @@ HappensAt (Expire a s) past round n event = (n ≡ Ap a) × (event ≡ again.Exp
 HappensAt (Revoke a s) past round n event = (n ≡ Ap a) × (event ≡ again.Revoke s)
 HappensAt (Leave s) past round n event = (n ≡ Sta s) × (event ≡ again.Leave)
 
--- a node, and what an event is to it
-pub record Place : Type 0 where
-  pub node : Node
-  pub event : NodeEvent
+-- the network before a round, after that journal: each of today's scripts has one network
+abbrev pub present : Domain → List Entry → Domain
+present d past = d
 
--- what an event is, at which nodes, in order: each of today's events is at one
-abbrev pub Happens : Event → List Entry → ℕ → List Place → Type 0
-Happens event past round places = (p : Place) × (HappensAt event past round p.node p.event × (places ≡ p ∷ []))
+-- what an event is, at which nodes of the network, in order: each of today's events is at one
+abbrev pub Happens : Domain → Event → List Entry → ℕ → List Place → Type 0
+Happens d event past round places = (p : Place) × (HappensAt event past round p.node p.event × (places ≡ p ∷ []))
+
+-- and what the events of a round are, in the order of the list, all of them after the journal as it was before the round
+abbrev pub AllHappen : Domain → List Event → List Entry → ℕ → List Place → Type 0
+AllHappen d [] past round places = places ≡ []
+AllHappen d (event ∷ events) past round places =
+    (here : List Place) × ((others : List Place) × (Happens d event past round here × (AllHappen d events past round others × (places ≡ here ++ others))))
 
 -- each node adds the acts of its part of the event to its own history, one node after the other
 abbrev pub AddsAll : Domain → ℕ → List Place → List Entry → List Entry → Type 0
@@ -76,24 +81,23 @@ AddsAll d round [] old new = new ≡ old
 AddsAll d round (p ∷ places) old new =
     (acts : List Act) × (Adds (here d 0 p.node) (history p.node old) p.event acts × AddsAll d round places (push round p.node acts old) new)
 
--- one event in that round takes the old journal to the new one
-pub record Step (d : Domain) (round : ℕ) (event : Event) (old new : List Entry) : Type 0 where
+-- The events of that round take the old journal to the new one: by the nodes at which they are, access points before stations, each
+-- node's in the order of the list.
+pub record Follows (d : Domain) (round : ℕ) (events : List Event) (old new : List Entry) : Type 0 where
   pub places : List Place
-  pub happens : Happens event old round places
-  pub adds : AddsAll d round places old new
+  pub happen : AllHappen d events old round places
+  pub adds : AddsAll (present d old) round (in_order places) old new
 
--- events one after the other, in the order of the list, at whichever nodes they are
-abbrev pub Follows : Domain → ℕ → List Event → List Entry → List Entry → Type 0
-Follows d round [] old new = new ≡ old
-Follows d round (event ∷ events) old new = (mid : List Entry) × (Step d round event old mid × Follows d round events mid new)
+-- one event alone
+abbrev pub Step : Domain → ℕ → Event → List Entry → List Entry → Type 0
+Step d round event old new = Follows d round (event ∷ []) old new
 
 -- round 0: the first so many access points start, in order
 unfoldable pub started : Domain → ℕ → List Entry
 started d zero = []
 started d (suc k) = push 0 (Ap k) (start_acts d 0 (Ap k)) (started d k)
 
--- The journal of these rounds, the last first. The events of a round come by the nodes at which they are, access points before stations,
--- each node's in the order of the list; what each node does is told by its own history, but for the answers of key holders.
+-- The journal of these rounds, the last first. What each node does is told by its own history, but for the answers of key holders.
 unfoldable pub Explained : Domain → List (List Event) → List Entry → Type 0
 Explained d [] j = j ≡ started d (length d.aps)
-Explained d (round ∷ rounds) j = (old : List Entry) × (Explained d rounds old × Follows d (suc (length rounds)) (by_nodes round) old j)
+Explained d (round ∷ rounds) j = (old : List Entry) × (Explained d rounds old × Follows d (suc (length rounds)) round old j)

@@ -1,9 +1,11 @@
 -- What fast transition adds to associations and four-way handshakes: names of keys, elements, and the tests of both (IEEE Std
 -- 802.11-2020, 12.7.1.6, 13.4.2 and 13.8).
-use Rattle.std.specs.Prelude.{ℕ, ◌%◌, Bool, false, not, ◌&&◌, ◌==◌, List, [], ◌∷◌, ◌++◌, length, take, drop, replicate, slice_index, Option, Some, None, option_and_then, option_map, is_some, bytes_eq, if◌then◌else◌}
+use Rattle.std.specs.Prelude.{ℕ, ◌%◌, Bool, false, not, ◌&&◌, ◌==◌, List, [], ◌∷◌, length, replicate, slice_index, Option, Some, None, option_and_then, option_map, is_some, bytes_eq, if◌then◌else◌}
 use Rattle.domain_base.specs.declared.names.Akm.{Akm}
 use Rattle.domain_base.specs.declared.names.Akm.TheVariants.{FtPsk}
 use Rattle.domain_base.specs.declared.names.Node.{Node}
+use Rattle.mac_prf.specs.FteMic.{transaction_number, fte_mic_input}
+use Rattle.mac_prf.specs.declared.reassociation.Reassociation.TheVariants.{Request, Response}
 use Rattle.mac_prf.specs.Cmac.{cmac}
 use Rattle.key_hierarchy.specs.declared.inputs.Inputs.{Inputs}
 use Rattle.key_hierarchy.specs.declared.fast_transition.PmkR0.{PmkR0}
@@ -66,26 +68,17 @@ assoc_fte d n = plain_fte no_nonce no_nonce (Some (address d n)) (r0kh_id d n)
 
 -- ---- the MIC of an FTE
 
--- an FTE with its MIC zero
-abbrev pub without_fte_mic : List ℕ → List ℕ
-without_fte_mic octets = take 4 octets ++ (no_mic ++ drop 20 octets)
-
--- what it covers: the station's address, the access point's, the number of the frame in the exchange, and the RSNE, the MDE and the FTE,
--- as whole elements (13.8.4 and 13.8.5)
-abbrev pub fte_input : List ℕ → List ℕ → ℕ → List ℕ → List ℕ → List ℕ → List ℕ
-fte_input sta ap number rsne mde fte = sta ++ (ap ++ (number ∷ (rsne ++ (mde ++ without_fte_mic fte))))
-
 -- the numbers of the reassociation request and response
 abbrev pub request_number : ℕ
-request_number = 5
+request_number = transaction_number Request
 
 abbrev pub response_number : ℕ
-response_number = 6
+response_number = transaction_number Response
 
--- the three elements that it covers, where all are there
+-- what it covers, where the three elements are there
 abbrev pub mic_input : List ℕ → List ℕ → ℕ → ElementFields → Option (List ℕ)
 mic_input sta ap number e =
-    option_and_then (λ rsne. option_and_then (λ mde. option_map (λ fte. fte_input sta ap number rsne mde fte) e.fte_octets) e.mde_octets) e.rsne_octets
+    option_and_then (λ rsne. option_and_then (λ mde. option_map (λ fte. fte_mic_input sta ap number rsne mde fte) e.fte_octets) e.mde_octets) e.rsne_octets
 
 abbrev pub fte_seal : List ℕ → List ℕ → Seal
 fte_seal kck input = record { octets = 2 ∷ input; key = kck }

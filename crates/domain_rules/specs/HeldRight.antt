@@ -11,7 +11,7 @@ use Rattle.run_journal.specs.declared.acts.Entry.{Entry}
 use Rattle.run_journal.specs.Acts.{same}
 use Rattle.run_journal.specs.Premises.{In}
 use Rattle.run_journal.specs.Holders.{held, is_ended}
-use Rattle.domain_rules.specs.Network.{mac, holder_of}
+use Rattle.domain_rules.specs.Network.{mac, psk_of, holder_of}
 
 -- the act put a row of that name and station
 abbrev pub is_of : Node → Option Node → Bool
@@ -61,20 +61,29 @@ abbrev pub AnsweredBy : Option Node → Looking → PullAnswer → List Entry �
 AnsweredBy None l answer past j = answer ≡ NoHolder
 AnsweredBy (Some r) l answer past j = cond (same r l.node) (AnswersAt r l answer past) (AnsweredElsewhere r l answer j)
 
--- the PMK-R1 that was found is the one of the network's pre-shared key, the holder, the station and the access point that asked (IEEE Std
+-- the PMK-R1 that was found is the one of the station's pre-shared key, the holder, the station and the access point that asked (IEEE Std
 -- 802.11-2020, 12.7.1.6)
 abbrev pub GivesRightKey : Domain → List ℕ → Looking → PullAnswer → Type 0
-GivesRightKey d id l (Found k) = k ≡ pmk_r1 (pmk_r0 d.psk d.ssid d.mdid id (mac d l.sta)) (mac d l.node) (mac d l.sta)
+GivesRightKey d id l (Found k) = k ≡ pmk_r1 (pmk_r0 (psk_of d l.sta) d.ssid d.mdid id (mac d l.sta)) (mac d l.node) (mac d l.sta)
 GivesRightKey d id l answer = Unit {0}
 
 abbrev pub looking : Entry → List ℕ → Node → Looking
 looking e name p = record { node = e.node; round = e.round; name = name; sta = p }
 
+-- the entry of journal j, after that past, is answered rightly, where it is a look
+abbrev pub HeldAt : Domain → List Entry → Entry → List Entry → Type 0
+HeldAt d j e past =
+    (id name : List ℕ) (p : Node) (answer : PullAnswer) → e.act ≡ Looked id name p answer
+    → AnsweredBy (holder_of d id) (looking e name p) answer past j × GivesRightKey d id (looking e name p) answer
+
+-- and so are all entries of that end of it
+unfoldable pub AllHeld : Domain → List Entry → List Entry → Type 0
+AllHeld d j [] = Unit {0}
+AllHeld d j (e ∷ past) = HeldAt d j e past × AllHeld d j past
+
 -- each look of the journal is answered rightly
 abbrev pub HeldRight : Domain → List Entry → Type 0
-HeldRight d j =
-    (later past : List Entry) (e : Entry) (id name : List ℕ) (p : Node) (answer : PullAnswer) → j ≡ later ++ e ∷ past → e.act ≡ Looked id name p answer
-    → AnsweredBy (holder_of d id) (looking e name p) answer past j × GivesRightKey d id (looking e name p) answer
+HeldRight d j = AllHeld d j j
 
 -- ---- answers that are right at one moment of a round
 
@@ -98,7 +107,14 @@ abbrev pub AnsweredBySome : Option Node → Looking → PullAnswer → List Entr
 AnsweredBySome None l answer past j = answer ≡ NoHolder
 AnsweredBySome (Some r) l answer past j = cond (same r l.node) (AnswersAt r l answer past) (SomeMoment r l answer j)
 
-abbrev pub AnsweredInTime : Domain → List Entry → Type 0
-AnsweredInTime d j =
-    (later past : List Entry) (e : Entry) (id name : List ℕ) (p : Node) (answer : PullAnswer) → j ≡ later ++ e ∷ past → e.act ≡ Looked id name p answer
+abbrev pub InTimeAt : Domain → List Entry → Entry → List Entry → Type 0
+InTimeAt d j e past =
+    (id name : List ℕ) (p : Node) (answer : PullAnswer) → e.act ≡ Looked id name p answer
     → AnsweredBySome (holder_of d id) (looking e name p) answer past j × GivesRightKey d id (looking e name p) answer
+
+unfoldable pub AllInTime : Domain → List Entry → List Entry → Type 0
+AllInTime d j [] = Unit {0}
+AllInTime d j (e ∷ past) = InTimeAt d j e past × AllInTime d j past
+
+abbrev pub AnsweredInTime : Domain → List Entry → Type 0
+AnsweredInTime d j = AllInTime d j j

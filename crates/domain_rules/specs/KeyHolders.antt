@@ -43,7 +43,7 @@ revoke_named d n h p name = Revoked (r0kh_id d n) name p (revoke_answer (row nam
 
 -- with suites 2 and 6 there are no rows, and the name is 16 zero octets
 abbrev pub revoke_acts_by : Akm → Domain → Node → List Act → Node → List Act
-revoke_acts_by FtPsk d n h p = revoke_named d n h p (root_name d (root_at d (r0kh_id d n)) p) ∷ []
+revoke_acts_by FtPsk d n h p = revoke_named d n h p (root_name d (root_at d p (r0kh_id d n)) p) ∷ []
 revoke_acts_by _ d n h p = Revoked (r0kh_id d n) (replicate 16 0) p revoke.Absent ∷ []
 
 abbrev pub revoke_acts : Domain → Node → List Act → Node → List Act

@@ -1,5 +1,5 @@
 -- The network: addresses, what is drawn, and what keys are made of.
-use Rattle.std.specs.Prelude.{ℕ, ◌≡◌, ◌≢◌, ◌<◌, ◌≤◌, ◌%◌, Bool, true, false, List, [], ◌∷◌, ◌++◌, length, slice_index, Option, option_map, unwrap_or, slice_get, position, bytes_eq, codes}
+use Rattle.std.specs.Prelude.{ℕ, ◌≡◌, ◌≢◌, ◌≤◌, ◌%◌, Bool, true, false, List, [], ◌∷◌, ◌++◌, length, slice_index, Option, option_map, unwrap_or, slice_get, position, bytes_eq, codes}
 use Rattle.std.specs.List.{AllByRecursion}
 use Rattle.std.specs.Int.{w64, to_be_bytes}
 use Rattle.domain_base.specs.declared.names.Akm.{Akm}
@@ -13,11 +13,13 @@ use Rattle.mac_prf.specs.Prf.{kdf}
 use Rattle.key_hierarchy.specs.declared.inputs.Inputs.{Inputs}
 use Rattle.run_journal.specs.declared.domain.Domain.{Domain}
 use Rattle.run_journal.specs.declared.domain.ListedAp.{ListedAp}
+use Rattle.run_journal.specs.declared.domain.ListedSta.{ListedSta}
+use Rattle.run_journal.specs.Limits.{most_aps, most_stas}
 
 -- a node's address: an access point's is its BSSID
 abbrev pub mac : Domain → Node → Mac
 mac d (Ap k) = unwrap_or (option_map (λ (a : ListedAp). a.address) (slice_get d.aps k)) (record { 0 = [] })
-mac d (Sta k) = unwrap_or (slice_get d.stas k) (record { 0 = [] })
+mac d (Sta k) = unwrap_or (option_map (λ (s : ListedSta). s.address) (slice_get d.stas k)) (record { 0 = [] })
 
 -- its six octets
 abbrev pub address : Domain → Node → List ℕ
@@ -25,7 +27,7 @@ address d n = (mac d n).0
 
 -- the first listed node of the other kind that has this address
 abbrev pub peer_of : Domain → Node → List ℕ → Option Node
-peer_of d (Ap k) octets = option_map (λ i. Sta i) (position (λ (m : Mac). bytes_eq m.0 octets) d.stas)
+peer_of d (Ap k) octets = option_map (λ i. Sta i) (position (λ (s : ListedSta). bytes_eq s.address.0 octets) d.stas)
 peer_of d (Sta k) octets = option_map (λ i. Ap i) (position (λ (a : ListedAp). bytes_eq a.address.0 octets) d.aps)
 
 abbrev pub is_ap : Node → Bool
@@ -69,23 +71,33 @@ r0kh_id d (Sta k) = []
 abbrev pub holder_of : Domain → List ℕ → Option Node
 holder_of d id = option_map (λ i. Ap i) (position (λ (a : ListedAp). bytes_eq a.r0kh_id id) d.aps)
 
+-- the pre-shared key of a station
+abbrev pub psk_of : Domain → Node → List ℕ
+psk_of d (Ap k) = []
+psk_of d (Sta k) = unwrap_or (option_map (λ (s : ListedSta). s.psk) (slice_get d.stas k)) []
+
+-- of a node and its peer, the station
+abbrev pub station_of : Node → Node → Node
+station_of (Ap k) p = p
+station_of (Sta k) p = Sta k
+
 -- what the pairwise keys of a station go back to: its pre-shared key, its mobility domain, and the R0KH-ID of its first association
 pub record Root : Type 0 where
   pub psk : List ℕ
   pub mdid : List ℕ
   pub r0kh_id : List ℕ
 
--- with suites 2 and 6: the network's pre-shared key, and neither mobility domain nor R0KH-ID
-abbrev pub root : Domain → Root
-root d = record { psk = d.psk; mdid = 0 ∷ 0 ∷ []; r0kh_id = [] }
+-- with suites 2 and 6: the pre-shared key of station s, and neither mobility domain nor R0KH-ID
+abbrev pub root : Domain → Node → Root
+root d s = record { psk = psk_of d s; mdid = 0 ∷ 0 ∷ []; r0kh_id = [] }
 
 -- with suite 4 the network's mobility domain and an R0KH-ID too (IEEE Std 802.11-2020, 12.7.1.6.3)
-abbrev pub root_by : Akm → Domain → List ℕ → Root
-root_by FtPsk d id = record { psk = d.psk; mdid = d.mdid; r0kh_id = id }
-root_by _ d id = root d
+abbrev pub root_by : Akm → Domain → Node → List ℕ → Root
+root_by FtPsk d s id = record { psk = psk_of d s; mdid = d.mdid; r0kh_id = id }
+root_by _ d s id = root d s
 
-abbrev pub root_at : Domain → List ℕ → Root
-root_at d id = root_by d.akm d id
+abbrev pub root_at : Domain → Node → List ℕ → Root
+root_at d s id = root_by d.akm d s id
 
 -- what the pairwise key of a node with its peer is made of, by its root, its own nonce and the other's
 abbrev pub inputs : Domain → Root → Node → Node → List ℕ → List ℕ → Inputs
@@ -112,14 +124,18 @@ inputs d r (Sta k) p own other = record {
   snonce = own;
 }
 
+-- and by an R0KH-ID: the station among the two says the rest of the root
+abbrev pub inputs_at : Domain → Node → Node → List ℕ → List ℕ → List ℕ → Inputs
+inputs_at d n p id own other = inputs d (root_at d (station_of n p) id) n p own other
+
 -- six octets that are an address of one node: neither zero nor a group's
 abbrev pub IsUnicast : List ℕ → Type 0
 IsUnicast octets = (octets ≢ 0 ∷ 0 ∷ 0 ∷ 0 ∷ 0 ∷ 0 ∷ []) × (slice_index octets 0 % 2 ≡ 0)
 
 -- the address is in neither list
-pub record IsNew (aps : List ListedAp) (stas : List Mac) (address : Mac) : Type 0 where
+pub record IsNew (aps : List ListedAp) (stas : List ListedSta) (address : Mac) : Type 0 where
   pub no_ap : AllByRecursion (λ (a : ListedAp). a.address ≢ address) aps
-  pub no_sta : AllByRecursion (λ (m : Mac). m ≢ address) stas
+  pub no_sta : AllByRecursion (λ (s : ListedSta). s.address ≢ address) stas
 
 -- addresses are of one node each and differ, R0KH-IDs have 1 to 48 octets and differ
 abbrev pub AreAps : List ListedAp → Type 0
@@ -127,9 +143,9 @@ AreAps [] = Unit {0}
 AreAps (a ∷ aps) = IsUnicast a.address.0 × (1 ≤ length a.r0kh_id) × (length a.r0kh_id ≤ 48) × AllByRecursion (λ (b : ListedAp). b.address ≢ a.address) aps
     × AllByRecursion (λ (b : ListedAp). b.r0kh_id ≢ a.r0kh_id) aps × AreAps aps
 
-abbrev pub AreStas : List ListedAp → List Mac → Type 0
+abbrev pub AreStas : List ListedAp → List ListedSta → Type 0
 AreStas aps [] = Unit {0}
-AreStas aps (m ∷ stas) = IsUnicast m.0 × IsNew aps stas m × AreStas aps stas
+AreStas aps (s ∷ stas) = IsUnicast s.address.0 × IsNew aps stas s.address × AreStas aps stas
 
 -- listed nodes are told apart: addresses are of one node each and all differ, and so do R0KH-IDs. There may be any number of
 -- nodes
@@ -137,16 +153,11 @@ pub record IsNamed (d : Domain) : Type 0 where
   pub aps : AreAps d.aps
   pub stas : AreStas d.aps d.stas
 
--- the network is in form: at most 16 access points and 64 stations (this project's limits)
+-- the network is in form, and has not too many nodes (this project's limits)
 pub record InForm (d : Domain) : Type 0 where
   pub some : 1 ≤ length d.ssid
   pub few : length d.ssid ≤ 32
   pub aps : AreAps d.aps
   pub stas : AreStas d.aps d.stas
-  pub few_aps : length d.aps ≤ 16
-  pub few_stas : length d.stas ≤ 64
-
--- the node is listed
-abbrev pub IsListed : Domain → Node → Type 0
-IsListed d (Ap k) = k < length d.aps
-IsListed d (Sta k) = k < length d.stas
+  pub few_aps : length d.aps ≤ most_aps
+  pub few_stas : length d.stas ≤ most_stas

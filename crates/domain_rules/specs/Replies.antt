@@ -16,7 +16,7 @@ use Rattle.run_journal.specs.declared.acts.Act.{Act}
 use Rattle.run_journal.specs.declared.acts.Act.TheVariants.{Closed, Derived, Sent, Took, Installed, Resumed, Finished}
 use Rattle.run_journal.specs.Acts.{Derivation}
 use Rattle.run_journal.specs.Questions.{draws}
-use Rattle.domain_rules.specs.Network.{mac, Root, root, inputs}
+use Rattle.domain_rules.specs.Network.{mac, Root, root, station_of, inputs}
 use Rattle.domain_rules.specs.Frames.{frame_seal}
 use Rattle.domain_rules.specs.Reading.{KeyMessage, Keyed as KeyedReading, Reads}
 use Rattle.domain_rules.specs.Verdict.{first_verdict, key_verdict}
@@ -93,9 +93,9 @@ replied_acts w had t r b =
     ++ installed_acts w.domain w.root w.node w.peer r.installed ++ gtk_acts w.domain w.peer r.gtk
     ++ finished_acts w.domain w.root w.node w.peer r.installed ++ (b.put ++ sent_acts w.peer r))
 
--- with suites 2 and 6 the root is that of the domain
+-- with suites 2 and 6 the root is the pre-shared key of the station
 abbrev pub pair : Domain → Node → Node → Pair
-pair d n p = record { domain = d; root = root d; node = n; peer = p }
+pair d n p = record { domain = d; root = root d (station_of n p); node = n; peer = p }
 
 abbrev pub taken_as : List ℕ → KeyMessage → Outcome → Taken
 taken_as octets k outcome = record { octets = octets; message = k; outcome = outcome }

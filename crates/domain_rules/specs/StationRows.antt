@@ -20,7 +20,7 @@ use Rattle.run_journal.specs.declared.acts.Act.{Act}
 use Rattle.run_journal.specs.declared.acts.Act.TheVariants.{Opened, Drew, Derived, Took, Installed, Finished, Idle}
 use Rattle.run_journal.specs.Questions.{attempt, pending, associated, session, draws}
 use Rattle.run_journal.specs.Acts.{GroupKey, Derivation}
-use Rattle.domain_rules.specs.Network.{mac, root_at, inputs, draw_end}
+use Rattle.domain_rules.specs.Network.{mac, inputs_at, draw_end}
 use Rattle.domain_rules.specs.Reading.{Management, KeyMessage, Reading, Managed, Keyed}
 use Rattle.domain_rules.specs.Frames.{sent_assoc_req, sent_m2, sent_m4, sent_g2, frame_seal, keyed_by}
 use Rattle.domain_rules.specs.Facts.{Facts}
@@ -65,7 +65,7 @@ pub record M1Row (w : Here) (h : List Act) (octets : List ℕ) (r : Reading) (fa
   pub part : List Act
   pub awaited : attempt p h ≡ Some part
   pub i : Inputs
-  pub inputs_are : i ≡ inputs w.domain (root_at w.domain (responded_r0kh_id facts.responded)) w.node p (own part) k.fields.nonce
+  pub inputs_are : i ≡ inputs_at w.domain w.node p (responded_r0kh_id facts.responded) (own part) k.fields.nonce
   pub says : g ≡ Took (Some p) octets (kind.Key M1) Accepted None ∷ Derived p i (ptk i)
       ∷ sent_m2 w.domain w.node p (keyed_by i) k.fields.counter (unwrap_or (responded_fte facts.responded) []) ∷ []
 

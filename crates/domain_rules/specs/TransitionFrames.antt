@@ -16,7 +16,8 @@ use Rattle.run_journal.specs.declared.acts.Act.TheVariants.{Sent}
 use Rattle.run_journal.specs.Acts.{GroupKey, Derivation}
 use Rattle.domain_rules.specs.Network.{address, Root}
 use Rattle.domain_rules.specs.Frames.{aid, wrapped}
-use Rattle.domain_rules.specs.FastTransition.{r1_name, root_name, no_nonce, no_mic, plain_fte, fte_input, request_number, response_number, fte_seal}
+use Rattle.domain_rules.specs.FastTransition.{r1_name, root_name, no_nonce, no_mic, plain_fte, request_number, response_number, fte_seal}
+use Rattle.mac_prf.specs.FteMic.{fte_mic_input}
 
 -- ---- authentication request and response (13.8.2 and 13.8.3)
 
@@ -55,7 +56,7 @@ with_mic mic f = record { mic_control = f.mic_control; mic = mic; anonce = f.ano
 
 -- what its MIC covers, in frame number `number` between that station and that access point, with PMKR1Name in the RSNE
 abbrev pub sent_input : Domain → Node → Node → ℕ → List ℕ → FteFields → List ℕ
-sent_input d sta ap number name f = fte_input (address d sta) (address d ap) number (rsne_octets d.akm (Some name)) (mde_octets d.mdid) (fte_octets f)
+sent_input d sta ap number name f = fte_mic_input (address d sta) (address d ap) number (rsne_octets d.akm (Some name)) (mde_octets d.mdid) (fte_octets f)
 
 abbrev pub sealed_fte : List ℕ → List ℕ → FteFields → FteFields
 sealed_fte kck input f = with_mic (cmac kck input) f

@@ -118,7 +118,7 @@ ft_resp_fields d n h p e =
     without_status (rsne_status d.akm e.rsne)
     (without_status (mde_status d e.mde)
     (or_status fte_status (names_both (address d p) (last_r0kh_id h) e.fte)
-    (named (root_name d (root_at d (last_r0kh_id h)) n) e Accepted)))
+    (named (root_name d (root_at d n (last_r0kh_id h)) n) e Accepted)))
 
 -- refused where the FTE, if there is one, has another nonce than the attempt
 abbrev pub own_nonce_in : List ℕ → Option FteFields → Outcome → Outcome

@@ -29,7 +29,7 @@ use Rattle.run_journal.specs.Acts.{same, GroupKey, Derivation}
 use Rattle.run_journal.specs.GroupKinds as groups
 use Rattle.run_journal.specs.Questions.{attempt, pending, associated, session, draws}
 use Rattle.run_journal.specs.Holders.{Stored, first_stored, since_finished, last_r0kh_id}
-use Rattle.domain_rules.specs.Network.{mac, root_at, inputs, draw_end}
+use Rattle.domain_rules.specs.Network.{mac, root_at, inputs_at, draw_end}
 use Rattle.domain_rules.specs.Reading.{Management, Reading, Managed}
 use Rattle.domain_rules.specs.Frames.{keyed_by}
 use Rattle.domain_rules.specs.Facts.{Facts}
@@ -46,7 +46,7 @@ use Rattle.domain_rules.specs.Here.{Here}
 abbrev pub roam_acts : Domain → ℕ → Node → List Act → Node → List Act
 roam_acts d first n h p =
     close_pending (pending h)
-    ++ Opened p Roam ∷ Drew (Nonce (next_nonce d first n h)) ∷ sent_ft_req d n p (root_at d (last_r0kh_id h)) (next_nonce d first n h) ∷ []
+    ++ Opened p Roam ∷ Drew (Nonce (next_nonce d first n h)) ∷ sent_ft_req d n p (root_at d n (last_r0kh_id h)) (next_nonce d first n h) ∷ []
 
 pub data RoamRow (w : Here) (h : List Act) (p : Node) (g : List Act) : Type 0 where
   NoSession : associated h ≡ None → g ≡ Idle why.NoSession ∷ [] → RoamRow w h p g
@@ -79,7 +79,7 @@ pub record FtReqRow (w : Here) (h : List Act) (octets : List ℕ) (r : Reading) 
   pub k : PmkR1
   pub pulled : facts.pulled ≡ Some k
   pub i : Inputs
-  pub inputs_are : i ≡ inputs w.domain (root_at w.domain a.r0kh_id) w.node p (next_nonce w.domain w.first w.node h) a.snonce
+  pub inputs_are : i ≡ inputs_at w.domain w.node p a.r0kh_id (next_nonce w.domain w.first w.node h) a.snonce
   pub says : g ≡ Took (Some p) octets kind.FtReq Accepted None ∷ Looked a.r0kh_id name p (Found k) ∷ close_attempt p (attempt p h)
       ++ Opened p Roam ∷ Drew (Nonce i.anonce) ∷ Derived p i (derived_from k i).ptk ∷ sent_ft_resp w.domain w.node p name i ∷ []
 
@@ -110,7 +110,7 @@ pub record FtRespRow (w : Here) (h : List Act) (octets : List ℕ) (r : Reading)
   pub f : FteFields
   pub fte : e.fte ≡ Some f
   pub i : Inputs
-  pub inputs_are : i ≡ inputs w.domain (root_at w.domain (last_r0kh_id h)) w.node p (own part) f.anonce
+  pub inputs_are : i ≡ inputs_at w.domain w.node p (last_r0kh_id h) (own part) f.anonce
   pub says : g ≡ Took (Some p) octets kind.FtResp Accepted None ∷ Derived p i (ptk i)
       ∷ sent_re_req w.domain w.node p (unwrap_or (associated h) p) (keyed_by i) ∷ []
 

@@ -21,7 +21,7 @@ use Rattle.run_journal.specs.declared.acts.Outcome.TheVariants.{Accepted, Answer
 use Rattle.run_journal.specs.declared.acts.Act.{Act}
 use Rattle.run_journal.specs.Acts.{Derivation}
 use Rattle.run_journal.specs.Questions.{draws, session}
-use Rattle.domain_rules.specs.Network.{address, bssid, peer_of, direction, goes_like, r0kh_id, root_at, inputs}
+use Rattle.domain_rules.specs.Network.{address, bssid, peer_of, direction, goes_like, r0kh_id, inputs_at}
 use Rattle.domain_rules.specs.Reading.{Management, KeyMessage, Reading, NoFrame, PassedOver, NoElements, Managed, NoKeyFrame, NoMessage, Keyed, Sealed}
 use Rattle.domain_rules.specs.Facts.{Facts}
 use Rattle.domain_rules.specs.PacketNumbers.{OpenKey}
@@ -91,7 +91,7 @@ first_verdict d first n h (Sealed header way tid body) =
 
 -- PMKR1Name of an access point that is the R0KH of its station p
 abbrev pub own_r1_name : Domain → Node → Node → List ℕ
-own_r1_name d n p = r1_name (inputs d (root_at d (r0kh_id d n)) n p [] [])
+own_r1_name d n p = r1_name (inputs_at d n p (r0kh_id d n) [] [])
 
 -- M2 by what reading further tells of it; with suite 4 by PMKR1Name too
 abbrev pub m2_further : Akm → Domain → Node → Node → Facts → Outcome

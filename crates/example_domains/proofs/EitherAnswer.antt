@@ -3,11 +3,12 @@
 use Rattle.std.proofs.Common.{◌≡◌, ℕ, ◌≤◌, Bool, true, false, cond, List, [], ◌∷◌, Option, Some, None, refl, sym, ap, subst, ◌∙◌, arith, inl, inr}
 use Rattle.std.specs.Prelude.{nat_le}
 use Rattle.domain_base.specs.declared.names.Node.{Node}
-use Rattle.domain_rules.proofs.Exchange.{length-nonce, take_step}
-use Rattle.domain_rules.proofs.Journals.{step_at, history-push, history-other, explained_round}
+use Rattle.domain_rules.proofs.Exchange.{length-nonce}
+use Rattle.domain_rules.proofs.Journals.{history-push, history-other, explained_round}
 use Rattle.domain_rules.proofs.Parts.{same-refl}
-use Rattle.domain_rules.specs.Explained.{push, WasSent, Step, Follows}
-use Rattle.domain_rules.specs.HeldRight.{Looking, SomeMoment, AnsweredInTime, GivesRightKey}
+use Rattle.domain_rules.specs.Explained.{AddsAll, push, WasSent, Follows}
+use Rattle.domain_rules.specs.Rounds.{Place}
+use Rattle.domain_rules.specs.HeldRight.{Looking, SomeMoment, AllInTime, AnsweredInTime, GivesRightKey}
 use Rattle.domain_rules.specs.Here.{here}
 use Rattle.domain_rules.specs.KeyHolders.{revoke_answer, revoke_acts}
 use Rattle.domain_rules.specs.Owing.{and_switch}
@@ -43,7 +44,7 @@ use Rattle.example_domains.proofs.RoamingActs.{mobile}
 use Rattle.example_domains.proofs.RoamingRounds.{stage8, row9}
 use Rattle.example_domains.proofs.Stages.{Stage, TimelyIsRight}
 use Rattle.example_domains.proofs.Trio.{IsTrio}
-use Rattle.example_domains.proofs.WholeRounds.{moment_now, moment_push, RightIn, push_whole, push_part, push_look, right_whole, whole_right}
+use Rattle.example_domains.proofs.WholeRounds.{moment_now, moment_push, push_whole, push_part, push_look}
 use Rattle.example_domains.specs.EitherAnswer.{IsAnswered, HasEitherAnswer}
 use Rattle.example_domains.specs.Roaming.{association}
 
@@ -111,18 +112,8 @@ module _ (c : Domain) (k l m : ℕ) (t : IsTrio (mobile c) k l m) where
   revokes_row : gone ≡ revoke_acts d a ap7 s
   revokes_row = ap (λ (o : Option Node). Revoked id name s (revoke_answer o) ∷ []) (sym live)
 
-  revokes : (x : List Entry) → history a x ≡ ap7 → Step d 9 (Revoke k m) x (push 9 a gone x)
-  revokes x is = step_at d 9 (Revoke k m) x (push 9 a gone x) (record {
-    node = a;
-    at_node = event.Revoke m;
-    happens = (refl, refl);
-    acts = gone;
-    group = subst (λ (h : List Act). Adds (here d 0 a) h (event.Revoke m) gone) (sym is) (record { acts = gone; row = revokes_row; is = refl });
-    is = refl;
-  })
-
-  was_then : WasSent (push 9 a gone old) 9 7 octets7
-  was_then = record { entry = was.entry; there = inr was.there; earlier = was.earlier; is = was.is; act = was.act }
+  revokes : (x : List Entry) → history a x ≡ ap7 → Adds (here d 0 a) (history a x) (event.Revoke m) gone
+  revokes x is = subst (λ (h : List Act). Adds (here d 0 a) h (event.Revoke m) gone) (sym is) (record { acts = gone; row = revokes_row; is = refl })
 
   stood : stands_in name s ap7 ≡ true
   stood = rw (same_bytes name, same-refl s) refl
@@ -133,6 +124,12 @@ module _ (c : Domain) (k l m : ℕ) (t : IsTrio (mobile c) k l m) where
   -- what access point l asks
   abbrev asked : Looking
   asked = record { node = b; round = 9; name = name; sta = s }
+
+  abbrev at_a : Place
+  at_a = record { node = a; event = event.Revoke m }
+
+  abbrev at_b : Place
+  at_b = record { node = b; event = event.Take octets7 }
 
   -- ---- access point l takes the request, with that answer to its look
   module _ (answer : PullAnswer) (outcome : Outcome) (rest : List Act) where
@@ -160,28 +157,35 @@ module _ (c : Domain) (k l m : ℕ) (t : IsTrio (mobile c) k l m) where
     low false = low_push 9 a gone (push 9 b g old) (low_push 9 b g old low_old)
 
     module _ (row_is : TakeRow (here d 0 b) to0 octets7 g) (still : g ≡ and_switch d b to0 g) where
-      takes : (x : List Entry) → history b x ≡ to0 → WasSent x 9 7 octets7 → Step d 9 (Deliver 7 b) x (push 9 b g x)
-      takes x is sent = take_step d 9 7 b octets7 x to0 g is sent row_is still
+      takes : (x : List Entry) → history b x ≡ to0 → Adds (here d 0 b) (history b x) (event.Take octets7) g
+      takes x is = subst (λ (h : List Act). Adds (here d 0 b) h (event.Take octets7) g) (sym is) (record { acts = g; row = row_is; is = still })
 
-      follows : (x : Bool) → Follows d 9 (cond x (Revoke k m ∷ Deliver 7 b ∷ []) (Deliver 7 b ∷ Revoke k m ∷ [])) old (by_order x)
-      follows true = (push 9 a gone old, (revokes old st.ap_is, (by_order true, (takes (push 9 a gone old) (history-other 9 a b gone old t.apart.other ∙ st.to_is) was_then, refl))))
-      follows false = (push 9 b g old, (takes old st.to_is was, (by_order false, (revokes (push 9 b g old) (history-other 9 b a g old t.apart.one ∙ st.ap_is), refl))))
+      adds : (x : Bool) → AddsAll d 9 (cond x (at_a ∷ at_b ∷ []) (at_b ∷ at_a ∷ [])) old (by_order x)
+      adds true = (gone, (revokes old st.ap_is, (g, (takes (push 9 a gone old) (history-other 9 a b gone old t.apart.other ∙ st.to_is), refl))))
+      adds false = (g, (takes old st.to_is, (gone, (revokes (push 9 b g old) (history-other 9 b a g old t.apart.one ∙ st.ap_is), refl))))
+
+      follows : Follows d 9 (Revoke k m ∷ Deliver 7 b ∷ []) old (by_order (nat_le k l))
+      follows = record {
+        places = at_a ∷ at_b ∷ [];
+        happen = (at_a ∷ [], (at_b ∷ [], ((at_a, ((refl, refl), refl)), ((at_b ∷ [], ([], ((at_b, ((octets7, (was, (refl, refl))), refl)), (refl, refl)))), refl))));
+        adds = adds (nat_le k l);
+      }
 
     module _ (key : GivesRightKey d id asked answer) (none : answers rest ≡ []) where
-      before : (x : Bool) → RightIn d (by_order x) old
-      before true = push_whole d old 9 b g (push 9 a gone old) low_old (push_whole d old 9 a gone old low_old (whole_right d old st.right))
-      before false = push_whole d old 9 a gone (push 9 b g old) low_old (push_whole d old 9 b g old low_old (whole_right d old st.right))
+      before : (x : Bool) → AllInTime d (by_order x) old
+      before true = push_whole d old 9 b g (push 9 a gone old) low_old (push_whole d old 9 a gone old low_old st.right)
+      before false = push_whole d old 9 a gone (push 9 b g old) low_old (push_whole d old 9 b g old low_old st.right)
 
       right : (x : Bool) → SomeMoment a asked answer (by_order x) → AnsweredInTime d (by_order x)
       right true moment =
-          right_whole d (by_order true) (push_look d (by_order true) 9 b took id name s answer rest a (push 9 a gone old) refl none t.holds t.apart.one moment key (push_part d (by_order true) 9 a gone old refl (before true)))
+          push_look d (by_order true) 9 b took id name s answer rest a (push 9 a gone old) refl none t.holds t.apart.one moment key (push_part d (by_order true) 9 a gone old refl (before true))
       right false moment =
-          right_whole d (by_order false) (push_part d (by_order false) 9 a gone (push 9 b g old) refl (push_look d (by_order false) 9 b took id name s answer rest a old refl none t.holds t.apart.one moment key (before false)))
+          push_part d (by_order false) 9 a gone (push 9 b g old) refl (push_look d (by_order false) 9 b took id name s answer rest a old refl none t.holds t.apart.one moment key (before false))
 
       pub answered : TimelyIsRight → TakeRow (here d 0 b) to0 octets7 g → g ≡ and_switch d b to0 g → ((x : Bool) → SomeMoment a asked answer (by_order x)) → IsAnswered d k l m answer outcome
       answered law row_is still moment = record {
         journal = by_order (nat_le k l);
-        explained = explained_round d rounds8 (Revoke k m ∷ Deliver 7 b ∷ []) old (by_order (nat_le k l)) st.explained (follows row_is still (nat_le k l));
+        explained = explained_round d rounds8 (Revoke k m ∷ Deliver 7 b ∷ []) old (by_order (nat_le k l)) st.explained (follows row_is still);
         held = law d (by_order (nat_le k l)) (right (nat_le k l) (moment (nat_le k l)));
         revoked = subst (In (Revoked id name s revoke.Revoked)) (sym (ap_is (nat_le k l))) (inl refl);
         looked = subst (In (Looked id name s answer)) (sym (to_is (nat_le k l))) (in_add (Looked id name s answer) rest (Looked id name s answer ∷ took ∷ to0) (inl refl));

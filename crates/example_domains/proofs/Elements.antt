@@ -7,7 +7,8 @@ use Rattle.std.specs.Prelude.{true, bytes_eq, Option}
 use Rattle.aes_block.proofs.CipherLemmas.{length-cipher}
 use Rattle.air_frame.specs.Sent.{IsAddress}
 use Rattle.domain_base.specs.declared.names.Akm.TheVariants.{FtPsk}
-use Rattle.domain_rules.specs.FastTransition.{no_nonce, no_mic, plain_fte, without_fte_mic}
+use Rattle.domain_rules.specs.FastTransition.{no_nonce, no_mic, plain_fte}
+use Rattle.mac_prf.specs.FteMic.{without_mic_field}
 use Rattle.domain_rules.specs.TransitionFrames.{counted_fte, with_mic}
 use Rattle.key_hierarchy.specs.declared.inputs.Inputs.{Inputs}
 use Rattle.mac_prf.specs.Cmac.{cmac}
@@ -141,13 +142,13 @@ tail_of f = f.anonce ++ (f.snonce ++ (subelement_octets 1 f.r1kh_id ++ (subeleme
 behind : (mic rest : List ℕ) → length mic ≡ 16 → drop 16 (mic ++ rest) ≡ rest
 behind mic rest size = drop_at mic rest 16 size
 
-free : (a b size : ℕ) (mic rest : List ℕ) → length mic ≡ 16 → without_fte_mic (0x37 ∷ size ∷ a ∷ b ∷ (mic ++ rest)) ≡ 0x37 ∷ size ∷ a ∷ b ∷ (no_mic ++ rest)
+free : (a b size : ℕ) (mic rest : List ℕ) → length mic ≡ 16 → without_mic_field (0x37 ∷ size ∷ a ∷ b ∷ (mic ++ rest)) ≡ 0x37 ∷ size ∷ a ∷ b ∷ (no_mic ++ rest)
 free a b size mic rest l = ap (λ (x : List ℕ). 0x37 ∷ size ∷ a ∷ b ∷ (no_mic ++ x)) (behind mic rest l)
 
 same_size : (mic rest : List ℕ) → length mic ≡ 16 → length (mic ++ rest) ≡ length (no_mic ++ rest)
 same_size mic rest l = length-append mic rest ∙ omega (arith, l, length-append no_mic rest)
 
-pub mic_free : (r1kh : List ℕ) (i : Inputs) (gtk : Option WrappedGtkFields) (mic : List ℕ) → length mic ≡ 16 → without_fte_mic (fte_octets (with_mic mic (counted_fte r1kh i gtk))) ≡ without_fte_mic (fte_octets (counted_fte r1kh i gtk))
+pub mic_free : (r1kh : List ℕ) (i : Inputs) (gtk : Option WrappedGtkFields) (mic : List ℕ) → length mic ≡ 16 → without_mic_field (fte_octets (with_mic mic (counted_fte r1kh i gtk))) ≡ without_mic_field (fte_octets (counted_fte r1kh i gtk))
 mic_free r1kh i gtk mic l =
     let f : FteFields = counted_fte r1kh i gtk in
     let size : length (fte_body (with_mic mic f)) ≡ length (fte_body f) = ap (λ (n : ℕ). suc (suc n)) (same_size mic (tail_of f) l) in

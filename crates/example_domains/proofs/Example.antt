@@ -16,7 +16,7 @@ use Rattle.example_domains.proofs.ServiceRounds.{stage17}
 use Rattle.example_domains.proofs.ReturnRounds.{stage22}
 use Rattle.example_domains.proofs.RevocationRounds.{stage25}
 use Rattle.example_domains.proofs.EitherAnswer.{either_answer}
-use Rattle.example_domains.proofs.MobileData.{octets_few}
+use Rattle.domain_rules.proofs.CarriedKey.{octets_few}
 use Rattle.example_domains.proofs.RoamingActs.{mobile}
 use Rattle.example_domains.proofs.Stages.{TimelyIsRight, at_sta, at_ap, at_to}
 use Rattle.example_domains.proofs.Trio.{IsTrio, trio}

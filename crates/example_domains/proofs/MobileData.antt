@@ -1,8 +1,8 @@
 -- The key data of M3 with suite 4, as it is sent: it fits its frame, is unwrapped as it was wrapped, and says what it carries.
-use Rattle.std.proofs.Common.{◌≡◌, ℕ, zero, suc, ◌+◌, ◌-◌, ◌<◌, ◌≤◌, ◌%◌, List, [], ◌∷◌, ◌++◌, length, replicate, Some, refl, sym, ap, subst, ◌∙◌, arith, Bool, true, false, cond, ltb}
-use Rattle.std.proofs.lemmas.Bool.{ltb-true, le-ltb}
+use Rattle.std.proofs.Common.{◌≡◌, ℕ, zero, suc, ◌+◌, ◌-◌, ◌<◌, ◌≤◌, ◌%◌, List, [], ◌∷◌, ◌++◌, length, Some, refl, sym, ap, subst, ◌∙◌, arith, false}
+use Rattle.std.proofs.lemmas.Bool.{le-ltb}
 use Rattle.std.proofs.lemmas.List.{append-nil, append_assoc, length-append, length-replicate}
-use Rattle.std.proofs.lemmas.List.Elements.{All-nil, All-cons, All-append, All-take, All-replicate}
+use Rattle.std.proofs.lemmas.List.Elements.{All-nil, All-append, All-take}
 use Rattle.sha2.specs.Sha256 as S256
 use Rattle.sha2.specs.Sha256.{sha256}
 use Rattle.air_frame.specs.Sent.{IsAddress}
@@ -10,7 +10,7 @@ use Rattle.domain_base.specs.Octets.{AreOctets}
 use Rattle.domain_base.specs.Padding.{padding, padding_octets}
 use Rattle.domain_base.specs.declared.names.Akm.TheVariants.{FtPsk}
 use Rattle.domain_base.specs.declared.names.Mac.{Mac}
-use Rattle.domain_rules.proofs.CarriedKey.{IsGroupKey}
+use Rattle.domain_rules.proofs.CarriedKey.{IsGroupKey, octets_few, octets_both, octets_more, octets_pad, octets_kde, size_kde}
 use Rattle.domain_rules.proofs.KeyOctets.{octets-bytes}
 use Rattle.domain_rules.specs.FastTransition.{r1_name, no_nonce, no_mic, plain_fte}
 use Rattle.domain_rules.specs.Frames.{wrapped, timeouts}
@@ -52,30 +52,6 @@ length-r1_name i = length-pmk_r1_name _ i.aa i.spa
 pub octets-r1_name : (i : Inputs) → AreOctets (r1_name i)
 unfolding pmk_r1
 octets-r1_name i = octets-name _ i.aa i.spa
-
--- ---- lists of octets
-
-abbrev pub are_few : List ℕ → Bool
-are_few [] = true
-are_few (x ∷ xs) = cond (ltb x 256) (are_few xs) false
-
-few_by : (x : ℕ) (xs : List ℕ) (b : Bool) → ltb x 256 ≡ b → (are_few xs ≡ true → AreOctets xs) → cond b (are_few xs) false ≡ true → AreOctets (x ∷ xs)
-few_by x xs true low more few = All-cons (λ y. y < 256) x xs (ltb-true x 256 low) (more few)
-few_by x xs false low more few = cc
-
-pub octets_few : (xs : List ℕ) → are_few xs ≡ true → AreOctets xs
-octets_few [] few = All-nil (λ y. y < 256)
-octets_few (x ∷ xs) few = few_by x xs (ltb x 256) refl (octets_few xs) few
-
-both : (xs ys : List ℕ) → AreOctets xs → AreOctets ys → AreOctets (xs ++ ys)
-both xs ys a b = All-append (λ x. x < 256) xs ys a b
-
-more : (x : ℕ) (xs : List ℕ) → x < 256 → AreOctets xs → AreOctets (x ∷ xs)
-more x xs low all = All-cons (λ y. y < 256) x xs low all
-
-octets_pad : (n : ℕ) → AreOctets (padding_octets n)
-octets_pad zero = All-nil (λ y. y < 256)
-octets_pad (suc n) = more 0xdd (replicate n 0x00) (omega arith) (All-replicate (λ y. y < 256) n 0 (omega arith))
 
 -- ---- what is wrapped
 
@@ -150,9 +126,6 @@ module _ (r1kh id mdid name : List ℕ) (g : GroupKey) (n : IsNamed r1kh id mdid
   size_mde : length (mde_octets mdid) ≡ 5
   size_mde = omega (arith, n.mdid_size, length-append mdid (0x00 ∷ []))
 
-  size_kde : length (gtk_kde_octets g.id g.key) ≡ 24
-  size_kde = omega (arith, is.size)
-
   size_timeouts : length timeouts ≡ 14
   size_timeouts = refl
 
@@ -162,7 +135,7 @@ module _ (r1kh id mdid name : List ℕ) (g : GroupKey) (n : IsNamed r1kh id mdid
   size_of : (16 ≤ length plain) × (length plain ≤ 400)
   size_of =
       subst (λ (k : ℕ). (16 ≤ k) × (k ≤ 400)) (sym (size_parts (rsne_octets FtPsk (Some name)) (mde_octets mdid) (gtk_kde_octets g.id g.key) (fte_octets fte) timeouts))
-      (in_all (length (rsne_octets FtPsk (Some name))) (length (mde_octets mdid)) (length (gtk_kde_octets g.id g.key)) (length (fte_octets fte)) (length timeouts) (length (fte_body fte)) size_rsne size_mde size_kde refl size_timeouts body_size)
+      (in_all (length (rsne_octets FtPsk (Some name))) (length (mde_octets mdid)) (length (gtk_kde_octets g.id g.key)) (length (fte_octets fte)) (length timeouts) (length (fte_body fte)) size_rsne size_mde (size_kde g is) refl size_timeouts body_size)
 
   count : (k : ℕ) → length (padding_octets k) ≡ k
   count zero = refl
@@ -178,32 +151,29 @@ module _ (r1kh id mdid name : List ℕ) (g : GroupKey) (n : IsNamed r1kh id mdid
 
   octets_subs : AreOctets subs
   octets_subs =
-      both (0x01 ∷ length r1kh ∷ r1kh) ((0x03 ∷ length id ∷ id) ++ []) (more 0x01 (length r1kh ∷ r1kh) (omega arith) (more (length r1kh) r1kh (omega (arith, n.size)) n.octets))
-      (both (0x03 ∷ length id ∷ id) [] (more 0x03 (length id ∷ id) (omega arith) (more (length id) id (omega (arith, n.holder.few)) n.id_octets)) (All-nil (λ y. y < 256)))
+      octets_both (0x01 ∷ length r1kh ∷ r1kh) ((0x03 ∷ length id ∷ id) ++ []) (octets_more 0x01 (length r1kh ∷ r1kh) (omega arith) (octets_more (length r1kh) r1kh (omega (arith, n.size)) n.octets))
+      (octets_both (0x03 ∷ length id ∷ id) [] (octets_more 0x03 (length id ∷ id) (omega arith) (octets_more (length id) id (omega (arith, n.holder.few)) n.id_octets)) (All-nil (λ y. y < 256)))
 
   octets_body : AreOctets (fte_body fte)
   octets_body =
-      both (0 ∷ 0 ∷ []) (no_mic ++ (no_nonce ++ (no_nonce ++ subs))) (octets_few (0 ∷ 0 ∷ []) refl)
-      (both no_mic (no_nonce ++ (no_nonce ++ subs)) (octets_few no_mic refl)
-      (both no_nonce (no_nonce ++ subs) (octets_few no_nonce refl) (both no_nonce subs (octets_few no_nonce refl) octets_subs)))
+      octets_both (0 ∷ 0 ∷ []) (no_mic ++ (no_nonce ++ (no_nonce ++ subs))) (octets_few (0 ∷ 0 ∷ []) refl)
+      (octets_both no_mic (no_nonce ++ (no_nonce ++ subs)) (octets_few no_mic refl)
+      (octets_both no_nonce (no_nonce ++ subs) (octets_few no_nonce refl) (octets_both no_nonce subs (octets_few no_nonce refl) octets_subs)))
 
   octets_rsne : AreOctets (rsne_octets FtPsk (Some name))
-  octets_rsne = both (0x30 ∷ 0x26 ∷ rsne_start FtPsk) (0x01 ∷ 0x00 ∷ name) (octets_few (0x30 ∷ 0x26 ∷ rsne_start FtPsk) refl) (more 0x01 (0x00 ∷ name) (omega arith) (more 0x00 name (omega arith) of))
+  octets_rsne = octets_both (0x30 ∷ 0x26 ∷ rsne_start FtPsk) (0x01 ∷ 0x00 ∷ name) (octets_few (0x30 ∷ 0x26 ∷ rsne_start FtPsk) refl) (octets_more 0x01 (0x00 ∷ name) (omega arith) (octets_more 0x00 name (omega arith) of))
 
   octets_mde : AreOctets (mde_octets mdid)
-  octets_mde = more 0x36 (0x03 ∷ (mdid ++ 0x00 ∷ [])) (omega arith) (more 0x03 (mdid ++ 0x00 ∷ []) (omega arith) (both mdid (0x00 ∷ []) n.mdid_octets (octets_few (0x00 ∷ []) refl)))
-
-  octets_kde : AreOctets (gtk_kde_octets g.id g.key)
-  octets_kde = both (0xdd ∷ 0x16 ∷ 0x00 ∷ 0x0f ∷ 0xac ∷ 0x01 ∷ []) (g.id ∷ 0x00 ∷ g.key) (octets_few (0xdd ∷ 0x16 ∷ 0x00 ∷ 0x0f ∷ 0xac ∷ 0x01 ∷ []) refl) (more g.id (0x00 ∷ g.key) (omega (arith, is.low)) (more 0x00 g.key (omega arith) is.octets))
+  octets_mde = octets_more 0x36 (0x03 ∷ (mdid ++ 0x00 ∷ [])) (omega arith) (octets_more 0x03 (mdid ++ 0x00 ∷ []) (omega arith) (octets_both mdid (0x00 ∷ []) n.mdid_octets (octets_few (0x00 ∷ []) refl)))
 
   octets_fte : AreOctets (fte_octets fte)
-  octets_fte = more 0x37 (length (fte_body fte) ∷ fte_body fte) (omega arith) (more (length (fte_body fte)) (fte_body fte) (let few = body_size in omega (arith, few)) octets_body)
+  octets_fte = octets_more 0x37 (length (fte_body fte) ∷ fte_body fte) (omega arith) (octets_more (length (fte_body fte)) (fte_body fte) (let few = body_size in omega (arith, few)) octets_body)
 
   octets_all : (a b c e t : List ℕ) → AreOctets a → AreOctets b → AreOctets c → AreOctets e → AreOctets t → AreOctets (a ++ b ++ c ++ e ++ t)
-  octets_all a b c e t a_are b_are c_are e_are t_are = both (a ++ b ++ c ++ e) t (both (a ++ b ++ c) e (both (a ++ b) c (both a b a_are b_are) c_are) e_are) t_are
+  octets_all a b c e t a_are b_are c_are e_are t_are = octets_both (a ++ b ++ c ++ e) t (octets_both (a ++ b ++ c) e (octets_both (a ++ b) c (octets_both a b a_are b_are) c_are) e_are) t_are
 
   octets_plain : AreOctets plain
-  octets_plain = octets_all (rsne_octets FtPsk (Some name)) (mde_octets mdid) (gtk_kde_octets g.id g.key) (fte_octets fte) timeouts octets_rsne octets_mde octets_kde octets_fte (octets_few timeouts refl)
+  octets_plain = octets_all (rsne_octets FtPsk (Some name)) (mde_octets mdid) (gtk_kde_octets g.id g.key) (fte_octets fte) timeouts octets_rsne octets_mde (octets_kde g is) octets_fte (octets_few timeouts refl)
 
   whole : length mobile_data ≡ length plain + length (padding_octets (padding (length plain)))
   whole = length-append plain (padding_octets (padding (length plain)))
@@ -214,7 +184,7 @@ module _ (r1kh id mdid name : List ℕ) (g : GroupKey) (n : IsNamed r1kh id mdid
       record {
         whole_blocks = ap (λ (k : ℕ). k % 8) whole ∙ pad.0;
         two_blocks = omega (arith, whole, size_of.0);
-        are_octets = both plain (padding_octets (padding (length plain))) octets_plain (octets_pad (padding (length plain)));
+        are_octets = octets_both plain (padding_octets (padding (length plain))) octets_plain (octets_pad (padding (length plain)));
         wrapped = refl;
       }
 

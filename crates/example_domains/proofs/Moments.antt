@@ -1,10 +1,10 @@
 -- Key holders answer rightly in a journal that grows, where each look is answered by what the holder has just then.
-use Rattle.std.proofs.Common.{◌≡◌, ℕ, ◌≤◌, Bool, true, false, cond, List, [], ◌∷◌, ◌++◌, Option, Some, None, refl, sym, ap, subst, ◌∙◌, arith, inl, inr}
+use Rattle.std.proofs.Common.{◌≡◌, ℕ, ◌≤◌, Bool, true, false, cond, List, [], ◌∷◌, Option, Some, None, refl, sym, ap, subst, arith, inl, inr}
 use Rattle.std.specs.Prelude.{not, ◌&&◌, ◌||◌}
 use Rattle.domain_base.specs.declared.names.Node.{Node}
 use Rattle.domain_rules.proofs.Parts.{same-refl}
 use Rattle.domain_rules.specs.Explained.{number_of, push}
-use Rattle.domain_rules.specs.HeldRight.{puts_row, stands_here, Looking, looking, AnswersAt, SomeMoment, AnsweredBySome, AnsweredInTime, GivesRightKey}
+use Rattle.domain_rules.specs.HeldRight.{puts_row, stands_here, Looking, looking, AnswersAt, SomeMoment, AnsweredBySome, InTimeAt, AllInTime, AnsweredInTime, GivesRightKey}
 use Rattle.domain_rules.specs.Network.{holder_of}
 use Rattle.key_hierarchy.specs.declared.answers.PullAnswer.{PullAnswer}
 use Rattle.run_journal.specs.Acts.{same}
@@ -38,9 +38,7 @@ IsLow round j = (m : Entry) → In m j → m.round ≤ round
 
 -- the look, if the entry is one, is answered rightly
 abbrev pub IsRight : Domain → Entry → List Entry → Type 0
-IsRight d e past =
-    (id name : List ℕ) (p : Node) (answer : PullAnswer) → e.act ≡ Looked id name p answer
-    → AnsweredBySome (holder_of d id) (looking e name p) answer past (e ∷ past) × GivesRightKey d id (looking e name p) answer
+IsRight d e past = InTimeAt d (e ∷ past) e past
 
 by_either : (own : Bool) (A B C : Type 0) → (B → C) → cond own A B → cond own A C
 by_either true A B C f x = x
@@ -61,23 +59,22 @@ answer_stays None l answer past j e low is = is
 answer_stays (Some r) l answer past j e low is =
     by_either (same r l.node) (AnswersAt r l answer past) (SomeMoment r l answer j) (SomeMoment r l answer (e ∷ j)) (moment_stays r l answer j e low) is
 
-pub in_rest : (later : List Entry) (e : Entry) (past : List Entry) → In e (later ++ e ∷ past)
-in_rest [] e past = inl refl
-in_rest (x ∷ later) e past = inr (in_rest later e past)
+-- what was right before the entry stays so
+pub all_stay : (d : Domain) (j end : List Entry) (e : Entry) → IsLow e.round end → AllInTime d j end → AllInTime d (e ∷ j) end
+unfolding AllInTime
+all_stay d j [] e low all = tt
+all_stay d j (x ∷ end) e low all = (
+  λ id name p answer looks. (let w = all.0 id name p answer looks in (answer_stays (holder_of d id) (looking x name p) answer end j e (low x (inl refl)) w.0, w.1)),
+  all_stay d j end e (λ m there. low m (inr there)) all.1,
+)
 
 pub right_entry : (d : Domain) (past : List Entry) (e : Entry) → AnsweredInTime d past → IsLow e.round past → IsRight d e past → AnsweredInTime d (e ∷ past)
-right_entry d past e right low is [] earlier x id name p answer cut looks =
-    let same_entry : e ≡ x = cc cut in
-    let same_past : past ≡ earlier = cc cut in
-    let w = is id name p answer (ap (λ (y : Entry). y.act) same_entry ∙ looks) in (
-      subst (λ (y : List Entry). AnsweredBySome (holder_of d id) (looking x name p) answer y (e ∷ past)) same_past
-          (subst (λ (y : Entry). AnsweredBySome (holder_of d id) (looking y name p) answer past (e ∷ past)) same_entry w.0),
-      subst (λ (y : Entry). GivesRightKey d id (looking y name p) answer) same_entry w.1,
-    )
-right_entry d past e right low is (y ∷ later) earlier x id name p answer cut looks =
-    let rest : past ≡ later ++ x ∷ earlier = cc cut in
-    let w = right later earlier x id name p answer rest looks in
-    (answer_stays (holder_of d id) (looking x name p) answer earlier past e (low x (subst (λ (l : List Entry). In x l) (sym rest) (in_rest later x earlier))) w.0, w.1)
+unfolding AllInTime
+right_entry d past e right low is = (is, all_stay d past past e low right)
+
+pub right_none : (d : Domain) → AnsweredInTime d []
+unfolding AllInTime
+right_none d = tt
 
 -- ---- a group of acts
 

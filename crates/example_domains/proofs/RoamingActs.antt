@@ -7,7 +7,7 @@ use Rattle.domain_base.specs.declared.names.Peer.TheVariants.{One}
 use Rattle.domain_rules.specs.AccessPointRows.{start_acts}
 use Rattle.domain_rules.specs.FastTransition.{root_name, assoc_fte, fte_seal}
 use Rattle.domain_rules.specs.Frames.{assoc_req_elements, assoc_resp_elements, aid, in_data, m2_frame, sent_assoc_req, sent_assoc_resp, sent_m1, sent_m2, frame_seal, m3_frame, m4_frame, sent_m3, sent_m4, keyed_by}
-use Rattle.domain_rules.specs.Network.{address, mac, nonce, gtk, r0kh_id, Root, root_at, inputs}
+use Rattle.domain_rules.specs.Network.{address, mac, nonce, gtk, psk_of, r0kh_id, Root, root_at, inputs}
 use Rattle.domain_rules.specs.TransitionFrames.{ft_req_elements, sent_ft_req, ft_resp_elements, sent_ft_resp, re_req_input, re_req_elements, sent_re_req, re_resp_fte, re_resp_input, re_resp_elements, sent_re_resp, sent_ft_refusal}
 use Rattle.eapol_key.specs.Octets.{frame_octets}
 use Rattle.eapol_key.specs.Sent.{sent_fields}
@@ -57,7 +57,7 @@ module _ (c : Domain) (k l m : ℕ) where
   id = r0kh_id d a
 
   abbrev pub root : Root
-  root = root_at d id
+  root = root_at d s id
 
   abbrev pub name : List ℕ
   name = root_name d root s
@@ -176,7 +176,7 @@ module _ (c : Domain) (k l m : ℕ) where
   anonce2 = nonce d b 1
 
   abbrev pub r1 : PmkR1
-  r1 = pmk_r1 (pmk_r0 d.psk d.ssid d.mdid id (mac d s)) (mac d b) (mac d s)
+  r1 = pmk_r1 (pmk_r0 (psk_of d s) d.ssid d.mdid id (mac d s)) (mac d b) (mac d s)
 
   abbrev pub i2 : Inputs
   i2 = inputs d root s b snonce2 anonce2
@@ -265,7 +265,7 @@ module _ (c : Domain) (k l m : ℕ) where
   anonce3 = nonce d a 2
 
   abbrev pub r1_home : PmkR1
-  r1_home = pmk_r1 (pmk_r0 d.psk d.ssid d.mdid id (mac d s)) (mac d a) (mac d s)
+  r1_home = pmk_r1 (pmk_r0 (psk_of d s) d.ssid d.mdid id (mac d s)) (mac d a) (mac d s)
 
   abbrev pub i3 : Inputs
   i3 = inputs d root s a snonce3 anonce3

@@ -1,5 +1,5 @@
 -- How the journal of an example grows: by one event in each round, at one of two access points and a station.
-use Rattle.std.proofs.Common.{◌≡◌, ℕ, zero, suc, ◌<◌, ◌≤◌, false, List, [], ◌∷◌, ◌++◌, length, Option, Some, None, refl, sym, ap, subst, ◌∙◌, arith, inl, inr}
+use Rattle.std.proofs.Common.{◌≡◌, ℕ, zero, suc, ◌<◌, ◌≤◌, false, List, [], ◌∷◌, length, Option, Some, None, refl, sym, ap, subst, ◌∙◌, arith, inl, inr}
 use Rattle.std.specs.Prelude.{◌==◌}
 use Rattle.domain_base.specs.declared.names.Node.TheVariants.{Ap, Sta}
 use Rattle.domain_base.specs.declared.names.Node.{Node}
@@ -23,7 +23,7 @@ use Rattle.run_journal.specs.declared.acts.Kind.{Kind}
 use Rattle.run_journal.specs.declared.acts.Seal.{Seal}
 use Rattle.run_journal.specs.declared.domain.Domain.{Domain}
 use Rattle.run_journal.specs.declared.domain.Event.{Event}
-use Rattle.example_domains.proofs.Moments.{IsLow, LooksRight, quiet, low_push, right_push}
+use Rattle.example_domains.proofs.Moments.{IsLow, LooksRight, quiet, low_push, right_push, right_none}
 
 -- ---- the frames that were sent, the last first
 
@@ -226,11 +226,7 @@ low_started d zero = subst (IsLow 0) (sym (started_none d)) (λ m there. absurd 
 low_started d (suc n) = subst (IsLow 0) (sym (started_more d n)) (low_push 0 (Ap n) (start_acts d 0 (Ap n)) (started d n) (low_started d n))
 
 right_started : (d : Domain) (n : ℕ) → AnsweredInTime d (started d n)
-right_started d zero = subst (AnsweredInTime d) (sym (started_none d)) (λ later past e id name p answer cut looks. absurd (no_cut later e past cut))
-  where
-    no_cut : (later : List Entry) (e : Entry) (past : List Entry) → [] ≡ later ++ e ∷ past → ⊥
-    no_cut [] e past cut = cc cut
-    no_cut (x ∷ later) e past cut = cc cut
+right_started d zero = subst (AnsweredInTime d) (sym (started_none d)) (right_none d)
 right_started d (suc n) =
     subst (AnsweredInTime d) (sym (started_more d n)) (right_push d 0 (Ap n) (start_acts d 0 (Ap n)) (started d n) (right_started d n) (low_started d n) (quiet d 0 (Ap n) (start_acts d 0 (Ap n)) (started d n) refl))
 

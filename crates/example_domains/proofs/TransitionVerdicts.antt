@@ -7,7 +7,8 @@ use Rattle.domain_base.specs.declared.names.Akm.TheVariants.{FtPsk}
 use Rattle.domain_base.specs.declared.names.Node.{Node}
 use Rattle.domain_rules.proofs.CarriedKey.{IsGroupKey}
 use Rattle.domain_rules.specs.Asking.{by_connect, has_heard}
-use Rattle.domain_rules.specs.FastTransition.{r1_name, root_name, no_nonce, plain_fte, fte_input, request_number, response_number, fte_seal, to_unwrap}
+use Rattle.domain_rules.specs.FastTransition.{r1_name, root_name, no_nonce, plain_fte, request_number, response_number, fte_seal, to_unwrap}
+use Rattle.mac_prf.specs.FteMic.{fte_mic_input}
 use Rattle.domain_rules.specs.Frames.{wrapped}
 use Rattle.domain_rules.specs.Network.{address, root_at, holder_of, draw_end}
 use Rattle.domain_rules.specs.Reading.{Management}
@@ -53,9 +54,9 @@ module _ (c : Domain) where
   -- ---- authentication response, at a station in an attempt by fast transition
 
   pub ft_resp-first : (n p : Node) (h part : List Act) (b : Management) (anonce snonce id : List ℕ) → attempt p h ≡ Some part → by_connect part ≡ false → has_heard p kind.FtResp part ≡ false → b.status ≡ 0 → own_nonce part ≡ Some snonce → last_r0kh_id h ≡ id
-      → ft_resp_verdict d n h p b (told (root_name d (root_at d id) n) c.mdid (plain_fte anonce snonce (Some (address d p)) id)) ≡ Accepted
+      → ft_resp_verdict d n h p b (told (root_name d (root_at d n id) n) c.mdid (plain_fte anonce snonce (Some (address d p)) id)) ≡ Accepted
   ft_resp-first n p h part b anonce snonce id s begun heard status drawn last =
-      rw (s, begun, heard, status, drawn, last, same_bytes snonce, same_bytes c.mdid, same_bytes (address d p), same_bytes id, same_bytes (root_name d (root_at d id) n)) refl
+      rw (s, begun, heard, status, drawn, last, same_bytes snonce, same_bytes c.mdid, same_bytes (address d p), same_bytes id, same_bytes (root_name d (root_at d n id) n)) refl
 
   -- ---- reassociation request, at access point n from station p
 
@@ -70,7 +71,7 @@ module _ (c : Domain) where
     as_ is_session = record { by_ = by; is_session = is_session }
 
     abbrev covered : List ℕ
-    covered = fte_input (address d p) (address d n) request_number (rsne_octets FtPsk (Some (r1_name x.inputs))) (mde_octets c.mdid) (fte_octets (sent.re_req_sealed c p n x))
+    covered = fte_mic_input (address d p) (address d n) request_number (rsne_octets FtPsk (Some (r1_name x.inputs))) (mde_octets c.mdid) (fte_octets (sent.re_req_sealed c p n x))
 
     covered_is : covered ≡ re_req_input d p n x
     covered_is = ap (λ (v : List ℕ). address d p ++ (address d n ++ (request_number ∷ (rsne_octets FtPsk (Some (r1_name x.inputs)) ++ (mde_octets c.mdid ++ v)))))
@@ -138,7 +139,7 @@ module _ (c : Domain) where
     input = re_resp_input d p n (r1_name x.inputs) x (re_resp_fte d p x g 0)
 
     abbrev covers : List ℕ
-    covers = fte_input (address d n) (address d p) response_number (rsne_octets FtPsk (Some (r1_name x.inputs))) (mde_octets c.mdid) (fte_octets (sent.re_resp_sealed c p n x g))
+    covers = fte_mic_input (address d n) (address d p) response_number (rsne_octets FtPsk (Some (r1_name x.inputs))) (mde_octets c.mdid) (fte_octets (sent.re_resp_sealed c p n x g))
 
     covers_is : covers ≡ input
     covers_is = ap (λ (v : List ℕ). address d n ++ (address d p ++ (response_number ∷ (rsne_octets FtPsk (Some (r1_name x.inputs)) ++ (mde_octets c.mdid ++ v)))))

@@ -4,13 +4,13 @@ use Rattle.std.proofs.lemmas.Bool.{lt-ltb}
 use Rattle.std.proofs.lemmas.List.Sums.{position_or_len_is}
 use Rattle.std.proofs.lemmas.Option.{slice_get-get_or}
 use Rattle.std.proofs.lemmas.Slice.Eq.{bytes_eq-Decides}
-use Rattle.std.specs.List.{AllByRecursion, position, position_or_len}
+use Rattle.std.specs.List.{position, position_or_len}
 use Rattle.std.specs.Prelude.{◌==◌, unwrap_or, option_map, bytes_eq}
 use Rattle.air_frame.specs.Sent.{IsAddress}
 use Rattle.domain_base.specs.Octets.{AreOctets}
 use Rattle.domain_base.specs.declared.names.Node.TheVariants.{Ap, Sta}
 use Rattle.domain_rules.proofs.Parts.{same-other}
-use Rattle.domain_rules.proofs.Peers.{listed-address, listed-octets, listed-unicast, named, not_same, finds-sta, finds-ap}
+use Rattle.domain_rules.proofs.Peers.{listed-address, listed-octets, listed-unicast, named, not_same, finds-sta, finds-ap, all_at}
 use Rattle.domain_rules.specs.DataExample.{HaveOctets}
 use Rattle.domain_rules.specs.DataVerdict.{is_group}
 use Rattle.domain_rules.specs.Example.{AreWhole}
@@ -45,11 +45,6 @@ pub record IsTrio (d : Domain) (k l m : ℕ) : Type 0 where
 
 no_ap : ListedAp
 no_ap = record { address = record { 0 = [] }; r0kh_id = [] }
-
-all_at : {A : Type 0} (P : A → Type 0) (xs : List A) (k : ℕ) (e : A) → AllByRecursion P xs → k < length xs → P (get_or xs k e)
-all_at P [] k e all low = absurd (omega arith)
-all_at P (x ∷ xs) zero e all low = all.0
-all_at P (x ∷ xs) (suc k) e all low = all_at P xs k e all.1 (omega arith)
 
 ap_id : (d : Domain) (k : ℕ) → k < length d.aps → r0kh_id d (Ap k) ≡ (get_or d.aps k no_ap).r0kh_id
 ap_id d k low = ap (λ (o : Option ListedAp). unwrap_or (option_map (λ (a : ListedAp). a.r0kh_id) o) []) (slice_get-get_or d.aps k no_ap low)

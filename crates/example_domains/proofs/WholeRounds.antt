@@ -3,7 +3,7 @@
 use Rattle.std.proofs.Common.{◌≡◌, ℕ, Bool, false, cond, List, [], ◌∷◌, ◌++◌, Option, Some, None, refl, sym, ap, subst, arith}
 use Rattle.domain_base.specs.declared.names.Node.{Node}
 use Rattle.domain_rules.specs.Explained.{push}
-use Rattle.domain_rules.specs.HeldRight.{Looking, looking, AnswersAt, SomeMoment, AnsweredBySome, AnsweredInTime, GivesRightKey}
+use Rattle.domain_rules.specs.HeldRight.{Looking, looking, AnswersAt, SomeMoment, AnsweredBySome, InTimeAt, AllInTime, GivesRightKey}
 use Rattle.domain_rules.specs.Network.{holder_of}
 use Rattle.key_hierarchy.specs.declared.answers.PullAnswer.{PullAnswer}
 use Rattle.run_journal.specs.Acts.{same}
@@ -13,7 +13,7 @@ use Rattle.run_journal.specs.declared.acts.Act.TheVariants.{Looked}
 use Rattle.run_journal.specs.declared.acts.Act.{Act}
 use Rattle.run_journal.specs.declared.acts.Entry.{Entry}
 use Rattle.run_journal.specs.declared.domain.Domain.{Domain}
-use Rattle.example_domains.proofs.Moments.{IsLow, entry_of, moment_stays, answer_stays, in_rest, none_by}
+use Rattle.example_domains.proofs.Moments.{IsLow, entry_of, moment_stays, all_stay, none_by}
 
 -- ---- moments
 
@@ -33,43 +33,23 @@ pub moment_push : (r : Node) (l : Looking) (answer : PullAnswer) (n : Node) (g :
 moment_push r l answer n [] j w = w
 moment_push r l answer n (e ∷ g) j w = moment_push r l answer n g (entry_of l.round n e j ∷ j) (moment_stays r l answer j (entry_of l.round n e j) (omega arith) w)
 
--- ---- the looks of a part of a journal, the oldest
-
--- what the look, if the act is one, is answered
-abbrev pub Claim : Domain → List Entry → Entry → List Entry → Type 0
-Claim d j e past =
-    (id name : List ℕ) (p : Node) (answer : PullAnswer) → e.act ≡ Looked id name p answer
-    → AnsweredBySome (holder_of d id) (looking e name p) answer past j × GivesRightKey d id (looking e name p) answer
-
--- each is answered rightly, as the whole journal tells
-abbrev pub RightIn : Domain → List Entry → List Entry → Type 0
-RightIn d j part = (later past : List Entry) (e : Entry) → part ≡ later ++ e ∷ past → Claim d j e past
+-- ---- the looks of a part of a journal, the oldest (`AllInTime d j part`), as the whole journal tells them
 
 -- the journal goes on
-more_whole : (d : Domain) (j part : List Entry) (e : Entry) → IsLow e.round part → RightIn d j part → RightIn d (e ∷ j) part
-more_whole d j part e low right later past x cut id name p answer looks =
-    let w = right later past x cut id name p answer looks in
-    (answer_stays (holder_of d id) (looking x name p) answer past j e (low x (subst (λ (l : List Entry). In x l) (sym cut) (in_rest later x past))) w.0, w.1)
-
-pub push_whole : (d : Domain) (part : List Entry) (round : ℕ) (n : Node) (g : List Act) (j : List Entry) → IsLow round part → RightIn d j part → RightIn d (push round n g j) part
+pub push_whole : (d : Domain) (part : List Entry) (round : ℕ) (n : Node) (g : List Act) (j : List Entry) → IsLow round part → AllInTime d j part → AllInTime d (push round n g j) part
 push_whole d part round n [] j low right = right
-push_whole d part round n (e ∷ g) j low right = push_whole d part round n g (entry_of round n e j ∷ j) low (more_whole d j part (entry_of round n e j) low right)
+push_whole d part round n (e ∷ g) j low right = push_whole d part round n g (entry_of round n e j ∷ j) low (all_stay d j part (entry_of round n e j) low right)
 
 -- the part has one entry more
-more_part : (d : Domain) (j past : List Entry) (e : Entry) → RightIn d j past → Claim d j e past → RightIn d j (e ∷ past)
-more_part d j past e right is [] earlier x cut =
-    let same_entry : e ≡ x = cc cut in
-    let same_past : past ≡ earlier = cc cut in
-    subst (λ (y : List Entry). Claim d j x y) same_past (subst (λ (y : Entry). Claim d j y past) same_entry is)
-more_part d j past e right is (y ∷ later) earlier x cut =
-    let rest : past ≡ later ++ x ∷ earlier = cc cut in
-    right later earlier x rest
+more_part : (d : Domain) (j past : List Entry) (e : Entry) → AllInTime d j past → InTimeAt d j e past → AllInTime d j (e ∷ past)
+unfolding AllInTime
+more_part d j past e right is = (is, right)
 
-no_claim : (d : Domain) (j past : List Entry) (e : Entry) → answer_of e.act ≡ None → Claim d j e past
+no_claim : (d : Domain) (j past : List Entry) (e : Entry) → answer_of e.act ≡ None → InTimeAt d j e past
 no_claim d j past e none id name p answer looks = absurd (cc (none, ap answer_of looks))
 
 -- acts without a look
-pub push_part : (d : Domain) (j : List Entry) (round : ℕ) (n : Node) (g : List Act) (past : List Entry) → answers g ≡ [] → RightIn d j past → RightIn d j (push round n g past)
+pub push_part : (d : Domain) (j : List Entry) (round : ℕ) (n : Node) (g : List Act) (past : List Entry) → answers g ≡ [] → AllInTime d j past → AllInTime d j (push round n g past)
 push_part d j round n [] past none right = right
 push_part d j round n (e ∷ g) past none right =
     let w = none_by (answer_of e) (answers g) none in
@@ -84,7 +64,7 @@ module _ (d : Domain) (j : List Entry) (round : ℕ) (n : Node) (took : Act) (id
   abbrev look : List Entry → Entry
   look past = record { round = round; node = n; number = 0; act = Looked id name p answer }
 
-  claims : (r : Node) (past : List Entry) → holder_of d id ≡ Some r → same r n ≡ false → SomeMoment r (looking (look past) name p) answer j → GivesRightKey d id (looking (look past) name p) answer → Claim d j (look past) past
+  claims : (r : Node) (past : List Entry) → holder_of d id ≡ Some r → same r n ≡ false → SomeMoment r (looking (look past) name p) answer j → GivesRightKey d id (looking (look past) name p) answer → InTimeAt d j (look past) past
   claims r past holds other moment key x y q z looks =
       let by : AnsweredBySome (Some r) (looking (look past) name p) answer past j =
       subst (λ (b : Bool). cond b (AnswersAt r (looking (look past) name p) answer past) (SomeMoment r (looking (look past) name p) answer j)) (sym other) moment in
@@ -92,15 +72,8 @@ module _ (d : Domain) (j : List Entry) (round : ℕ) (n : Node) (took : Act) (id
       subst (by_act d j past (look past)) looks both
 
   pub push_look : (r : Node) (past : List Entry) → answer_of took ≡ None → answers rest ≡ [] → holder_of d id ≡ Some r → same r n ≡ false → SomeMoment r (looking (look past) name p) answer j → GivesRightKey d id (looking (look past) name p) answer
-      → RightIn d j past → RightIn d j (push round n (took ∷ Looked id name p answer ∷ rest) past)
+      → AllInTime d j past → AllInTime d j (push round n (took ∷ Looked id name p answer ∷ rest) past)
   push_look r past none quiet_rest holds other moment key right =
       let first : Entry = entry_of round n took past in
       push_part d j round n rest (look past ∷ first ∷ past) quiet_rest
       (more_part d j (first ∷ past) (look past) (more_part d j past first right (no_claim d j past first none)) (claims r (first ∷ past) holds other moment key))
-
--- of the whole journal
-pub right_whole : (d : Domain) (j : List Entry) → RightIn d j j → AnsweredInTime d j
-right_whole d j right later past e id name p answer cut looks = right later past e cut id name p answer looks
-
-pub whole_right : (d : Domain) (j : List Entry) → AnsweredInTime d j → RightIn d j j
-whole_right d j right later past e cut id name p answer looks = right later past e id name p answer cut looks

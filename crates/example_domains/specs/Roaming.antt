@@ -11,7 +11,7 @@ use Rattle.domain_rules.specs.Example.{AreWhole}
 use Rattle.domain_rules.specs.Explained.{WasSent, Explained}
 use Rattle.domain_rules.specs.FastTransition.{root_name}
 use Rattle.domain_rules.specs.HeldRight.{HeldRight}
-use Rattle.domain_rules.specs.Network.{mac, address, nonce, gtk, r0kh_id, root_at, inputs, InForm}
+use Rattle.domain_rules.specs.Network.{mac, address, nonce, gtk, psk_of, r0kh_id, root_at, inputs_at, InForm}
 use Rattle.key_hierarchy.specs.FastTransition.{pmk_r0, pmk_r1}
 use Rattle.key_hierarchy.specs.Keys.{ptk}
 use Rattle.key_hierarchy.specs.declared.answers.PullAnswer.TheVariants.{Found, Absent}
@@ -33,6 +33,7 @@ use Rattle.run_journal.specs.declared.domain.Domain.{Domain}
 use Rattle.run_journal.specs.declared.domain.Event.TheVariants.{Connect, Roam, Deliver, Send, Revoke}
 use Rattle.run_journal.specs.declared.domain.Event.{Event}
 use Rattle.run_journal.specs.declared.domain.ListedAp.{ListedAp}
+use Rattle.run_journal.specs.declared.domain.Version.TheVariants as version
 
 -- a mobility domain of two octets, and R0KH-IDs of octets
 pub record IsMobile (d : Domain) : Type 0 where
@@ -55,10 +56,10 @@ pub record CanRoam (d : Domain) (k l m : ℕ) : Type 0 where
 
 -- PMKR0Name of a station whose first association was at an access point, and its PMK-R1 for an access point
 abbrev pub r0_name_at : Domain → ℕ → ℕ → List ℕ
-r0_name_at d k m = root_name d (root_at d (r0kh_id d (Ap k))) (Sta m)
+r0_name_at d k m = root_name d (root_at d (Sta m) (r0kh_id d (Ap k))) (Sta m)
 
 abbrev pub r1_at : Domain → ℕ → ℕ → ℕ → PmkR1
-r1_at d k m a = pmk_r1 (pmk_r0 d.psk d.ssid d.mdid (r0kh_id d (Ap k)) (mac d (Sta m))) (mac d (Ap a)) (mac d (Sta m))
+r1_at d k m a = pmk_r1 (pmk_r0 (psk_of d (Sta m)) d.ssid d.mdid (r0kh_id d (Ap k)) (mac d (Sta m))) (mac d (Ap a)) (mac d (Sta m))
 
 -- ---- the rounds, the last first
 
@@ -95,7 +96,7 @@ pub record HasAssociation (d : Domain) (k m : ℕ) : Type 0 where
   pub explained : Explained d (association k m) journal
   pub held : HeldRight d journal
   pub i : Inputs
-  pub of_first : i ≡ inputs d (root_at d (r0kh_id d (Ap k))) (Sta m) (Ap k) (nonce d (Sta m) 0) (nonce d (Ap k) 1)
+  pub of_first : i ≡ inputs_at d (Sta m) (Ap k) (r0kh_id d (Ap k)) (nonce d (Sta m) 0) (nonce d (Ap k) 1)
   pub station : In (Installed (One (Ap k)) (Pairwise (ptk i).tk i)) (history (Sta m) journal)
   pub access_point : In (Installed (One (Sta m)) (Pairwise (ptk i).tk i)) (history (Ap k) journal)
   pub given : In (Installed (One (Ap k)) (Group (gtk d (Ap k) 0) 1 (mac d (Ap k)))) (history (Sta m) journal)
@@ -109,7 +110,7 @@ pub record HasRoaming (d : Domain) (k l m : ℕ) : Type 0 where
   pub held : HeldRight d journal
   pub looked : In (Looked (r0kh_id d (Ap k)) (r0_name_at d k m) (Sta m) (Found (r1_at d k m l))) (history (Ap l) journal)
   pub i : Inputs
-  pub of_second : i ≡ inputs d (root_at d (r0kh_id d (Ap k))) (Sta m) (Ap l) (nonce d (Sta m) 1) (nonce d (Ap l) 1)
+  pub of_second : i ≡ inputs_at d (Sta m) (Ap l) (r0kh_id d (Ap k)) (nonce d (Sta m) 1) (nonce d (Ap l) 1)
   pub station : In (Installed (One (Ap l)) (Pairwise (ptk i).tk i)) (history (Sta m) journal)
   pub access_point : In (Installed (One (Sta m)) (Pairwise (ptk i).tk i)) (history (Ap l) journal)
   pub given : In (Installed (One (Ap l)) (Group (gtk d (Ap l) 0) 1 (mac d (Ap l)))) (history (Sta m) journal)
@@ -127,7 +128,7 @@ pub record HasService (d : Domain) (k l m : ℕ) (up down : List ℕ) : Type 0 w
   pub explained : Explained d (service k l m up down) journal
   pub held : HeldRight d journal
   pub i : Inputs
-  pub of_second : i ≡ inputs d (root_at d (r0kh_id d (Ap k))) (Sta m) (Ap l) (nonce d (Sta m) 1) (nonce d (Ap l) 1)
+  pub of_second : i ≡ inputs_at d (Sta m) (Ap l) (r0kh_id d (Ap k)) (nonce d (Sta m) 1) (nonce d (Ap l) 1)
   pub sent_up : In (Used (One (Ap l)) (ptk i).tk 0 1 up) (history (Sta m) journal)
   pub taken_up : In (HandedUp (Sta m) (ptk i).tk 0 5 1 up) (history (Ap l) journal)
   pub sent_down : In (Used (One (Sta m)) (ptk i).tk 0 1 down) (history (Ap l) journal)
@@ -140,7 +141,7 @@ pub record HasReturn (d : Domain) (k l m : ℕ) (up down : List ℕ) : Type 0 wh
   pub held : HeldRight d journal
   pub looked : In (Looked (r0kh_id d (Ap k)) (r0_name_at d k m) (Sta m) (Found (r1_at d k m k))) (history (Ap k) journal)
   pub i : Inputs
-  pub of_third : i ≡ inputs d (root_at d (r0kh_id d (Ap k))) (Sta m) (Ap k) (nonce d (Sta m) 2) (nonce d (Ap k) 2)
+  pub of_third : i ≡ inputs_at d (Sta m) (Ap k) (r0kh_id d (Ap k)) (nonce d (Sta m) 2) (nonce d (Ap k) 2)
   pub station : In (Installed (One (Ap k)) (Pairwise (ptk i).tk i)) (history (Sta m) journal)
   pub access_point : In (Installed (One (Sta m)) (Pairwise (ptk i).tk i)) (history (Ap k) journal)
   pub replaced : In (Closed (Sta m) Session) (history (Ap k) journal)
@@ -166,9 +167,9 @@ abbrev pub pair : List ℕ → List ℕ → List ℕ → List ℕ → Domain
 pair seed ssid psk mdid = record {
   seed = seed;
   ssid = ssid;
-  psk = psk;
   akm = FtPsk;
   mdid = mdid;
+  extras = record { version = version.One };
   aps = record { address = record { 0 = 0x02 ∷ 0 ∷ 0 ∷ 0 ∷ 0 ∷ 0x01 ∷ [] }; r0kh_id = codes "r0kh-1" } ∷ record { address = record { 0 = 0x02 ∷ 0 ∷ 0 ∷ 0 ∷ 0 ∷ 0x02 ∷ [] }; r0kh_id = codes "r0kh-2" } ∷ [];
-  stas = record { 0 = 0x02 ∷ 0 ∷ 0 ∷ 0 ∷ 0 ∷ 0x11 ∷ [] } ∷ [];
+  stas = record { address = record { 0 = 0x02 ∷ 0 ∷ 0 ∷ 0 ∷ 0 ∷ 0x11 ∷ [] }; psk = psk } ∷ [];
 }

@@ -27,6 +27,7 @@ use Rattle.run_journal.specs.Questions.{history}
 use Rattle.run_journal.specs.Holders.{is_ended}
 use Rattle.domain_rules.specs.Network.{AreAps, IsNamed, mac, r0kh_id, holder_of}
 use Rattle.domain_rules.specs.HeldRight.{puts_row, stands_here, Looking, AnswersAt, GivesRightKey}
+use Rattle.held_rows.proofs.Putting.{one_station}
 use Rattle.held_rows.specs.Knows.{own_r0, own_row, IsOwn, stands_in, KnowsRows}
 
 -- ---- by the acts of the access point alone
@@ -91,10 +92,12 @@ own_at d n (y ∷ ys) (suc j) x all e = own_at d n ys j x all.1 e
 
 -- ---- the answer
 
-right_key : (d : Domain) (n : Node) (row : HolderRow) (r1kh sta : Mac) → IsOwn d n (live row) → row.sta ≡ sta → row_r1 row r1kh ≡ pmk_r1 (own_r0 d n sta) r1kh sta
-right_key d n row r1kh sta own is =
-    let here : mac d (Sta own.0) ≡ sta = sym (ap (λ (x : HolderRow). x.sta) own.2) ∙ is in
-    ap (λ (x : HolderRow). row_r1 x r1kh) (own.2 ∙ ap (own_row d n) here) ∙ r1-row_of (own_r0 d n sta) sta r1kh
+right_key : (d : Domain) (n : Node) (row : HolderRow) (r1kh : Mac) (p : Node) (k : ℕ) → IsNamed d → k < length d.stas → p ≡ Sta k → IsOwn d n (live row) → row.sta ≡ mac d p
+    → row_r1 row r1kh ≡ pmk_r1 (own_r0 d n p) r1kh (mac d p)
+right_key d n row r1kh p k names low station own is =
+    let has : mac d (Sta k) ≡ mac d (Sta own.0) = sym (is ∙ ap (mac d) station) ∙ ap (λ (x : HolderRow). x.sta) own.2 in
+    let here : Sta own.0 ≡ p = one_station d k own.0 names low own.1 has ∙ sym station in
+    ap (λ (x : HolderRow). row_r1 x r1kh) (own.2 ∙ ap (own_row d n) here) ∙ r1-row_of (own_r0 d n p) (mac d p) r1kh
 
 module _ (d : Domain) (n : Node) (xs : List HeldRow) (past : List Entry) (l : Looking) (k : ℕ) where
   -- a row stands exactly where one of them matches
@@ -106,16 +109,16 @@ module _ (d : Domain) (n : Node) (xs : List HeldRow) (past : List Entry) (l : Lo
       stands_there n l.name l.sta past
       ∙ (ap (λ (p : Node). stands_in l.name p (history n past)) is ∙ (at.last l.name k ∙ (sym (at.station_is l.name k low) ∙ ap (λ (p : Node). list_any (is_match l.name (mac d p)) xs) (sym is))))
 
-  answers_by_stood : (answer : PullAnswer) → StandsBy → AllByRecursion (IsOwn d n) xs → MayPull xs l.name (mac d l.node) (mac d l.sta) answer → AnswersAt n l answer past × GivesRightKey d (r0kh_id d n) l answer
-  answers_by_stood (Found r1) at own m = (
+  answers_by_stood : (answer : PullAnswer) → IsNamed d → k < length d.stas → l.sta ≡ Sta k → StandsBy → AllByRecursion (IsOwn d n) xs → MayPull xs l.name (mac d l.node) (mac d l.sta) answer → AnswersAt n l answer past × GivesRightKey d (r0kh_id d n) l answer
+  answers_by_stood (Found r1) names low is at own m = (
     at ∙ one_matches l.name (mac d l.sta) xs m.0 m.1 m.2 m.3,
-    m.4 ∙ right_key d n m.1 (mac d l.node) (mac d l.sta) (own_at d n xs m.0 (live m.1) own m.2) m.3.1,
+    m.4 ∙ right_key d n m.1 (mac d l.node) l.sta k names low is (own_at d n xs m.0 (live m.1) own m.2) m.3.1,
   )
-  answers_by_stood Absent at own m = (at ∙ none_matches l.name (mac d l.sta) xs m, tt)
-  answers_by_stood NoHolder at own m = absurd m
+  answers_by_stood Absent names low is at own m = (at ∙ none_matches l.name (mac d l.sta) xs m, tt)
+  answers_by_stood NoHolder names low is at own m = absurd m
 
-  pub answers_by_rows : (answer : PullAnswer) → k < length d.stas → l.sta ≡ Sta k → KnowsRows d n xs (history n past) → MayPull xs l.name (mac d l.node) (mac d l.sta) answer → AnswersAt n l answer past × GivesRightKey d (r0kh_id d n) l answer
-  answers_by_rows answer low is at m = answers_by_stood answer (stood low is at) at.own m
+  pub answers_by_rows : (answer : PullAnswer) → IsNamed d → k < length d.stas → l.sta ≡ Sta k → KnowsRows d n xs (history n past) → MayPull xs l.name (mac d l.node) (mac d l.sta) answer → AnswersAt n l answer past × GivesRightKey d (r0kh_id d n) l answer
+  answers_by_rows answer names low is at m = answers_by_stood answer names low is (stood low is at) at.own m
 
 -- ---- the access point that has an R0KH-ID
 
@@ -164,26 +167,26 @@ id_of_holder : (d : Domain) (r : ℕ) (a : ListedAp) → slice_get d.aps r ≡ S
 id_of_holder d r a is = ap (λ (o : Option ListedAp). unwrap_or (option_map (λ (x : ListedAp). x.r0kh_id) o) []) is
 
 module _ (d : Domain) (has : List ℕ) (rows : ℕ → List HeldRow) (past : List Entry) (l : Looking) (k r : ℕ) (id : List ℕ) where
-  by_one : (answer : PullAnswer) (s : ℕ) → IsNamed d → holder_of d id ≡ Some (Ap r) → is_in r has ≡ true → StandsBy d (Ap r) (rows r) past l k → AllByRecursion (IsOwn d (Ap r)) (rows r)
+  by_one : (answer : PullAnswer) (s : ℕ) → IsNamed d → k < length d.stas → l.sta ≡ Sta k → holder_of d id ≡ Some (Ap r) → is_in r has ≡ true → StandsBy d (Ap r) (rows r) past l k → AllByRecursion (IsOwn d (Ap r)) (rows r)
       → slice_get (ids d.aps) s ≡ Some id → (is_in s has ≡ true → MayPull (rows s) l.name (mac d l.node) (mac d l.sta) answer) → AnswersAt (Ap r) l answer past × GivesRightKey d id l answer
-  by_one answer s names holds in_has at own there may =
+  by_one answer s names low is holds in_has at own there may =
       let a = holder_is d id r holds in
       let here : slice_get (ids d.aps) r ≡ Some id = listed_id d.aps r a.0 a.1 ∙ ap (λ (x : List ℕ). Some x) a.2 in
       let same : s ≡ r = one_place d.aps names.aps s r id there here in
-      let w = answers_by_stood d (Ap r) (rows r) past l k answer at own (subst (λ (x : ℕ). is_in x has ≡ true → MayPull (rows x) l.name (mac d l.node) (mac d l.sta) answer) same may in_has) in
+      let w = answers_by_stood d (Ap r) (rows r) past l k answer names low is at own (subst (λ (x : ℕ). is_in x has ≡ true → MayPull (rows x) l.name (mac d l.node) (mac d l.sta) answer) same may in_has) in
       (w.0, subst (λ (x : List ℕ). GivesRightKey d x l answer) (id_of_holder d r a.0 a.1 ∙ a.2) w.1)
 
-  pub answers_as_stood : (answer : PullAnswer) → IsNamed d → holder_of d id ≡ Some (Ap r) → is_in r has ≡ true → StandsBy d (Ap r) (rows r) past l k → AllByRecursion (IsOwn d (Ap r)) (rows r)
+  pub answers_as_stood : (answer : PullAnswer) → IsNamed d → k < length d.stas → l.sta ≡ Sta k → holder_of d id ≡ Some (Ap r) → is_in r has ≡ true → StandsBy d (Ap r) (rows r) past l k → AllByRecursion (IsOwn d (Ap r)) (rows r)
       → Answers (ids d.aps) has rows id l.name (mac d l.node) (mac d l.sta) answer → AnswersAt (Ap r) l answer past × GivesRightKey d id l answer
-  answers_as_stood (Found r1) names holds in_has at own w = by_one (Found r1) w.0 names holds in_has at own w.1 w.2
-  answers_as_stood Absent names holds in_has at own w = by_one Absent w.0 names holds in_has at own w.1 w.2
-  answers_as_stood NoHolder names holds in_has at own w =
+  answers_as_stood (Found r1) names low is holds in_has at own w = by_one (Found r1) w.0 names low is holds in_has at own w.1 w.2
+  answers_as_stood Absent names low is holds in_has at own w = by_one Absent w.0 names low is holds in_has at own w.1 w.2
+  answers_as_stood NoHolder names low is holds in_has at own w =
       let a = holder_is d id r holds in
       absurd (w r (listed_id d.aps r a.0 a.1 ∙ ap (λ (x : List ℕ). Some x) a.2))
 
   pub answers_by_holder : (answer : PullAnswer) → IsNamed d → k < length d.stas → l.sta ≡ Sta k → holder_of d id ≡ Some (Ap r) → is_in r has ≡ true → KnowsRows d (Ap r) (rows r) (history (Ap r) past)
       → Answers (ids d.aps) has rows id l.name (mac d l.node) (mac d l.sta) answer → AnswersAt (Ap r) l answer past × GivesRightKey d id l answer
-  answers_by_holder answer names low is holds in_has at w = answers_as_stood answer names holds in_has (stood d (Ap r) (rows r) past l k low is at) at.own w
+  answers_by_holder answer names low is holds in_has at w = answers_as_stood answer names low is holds in_has (stood d (Ap r) (rows r) past l k low is at) at.own w
 
 unlisted : (d : Domain) (id : List ℕ) (s : ℕ) → holder_of d id ≡ None → slice_get (ids d.aps) s ≡ Some id → ⊥
 unlisted d id s none there =

@@ -45,6 +45,10 @@ put_told d n xs h name at = by_row name xs (row name h) (rows h) at.count (at.li
 apart : (k i : ℕ) → Some (Sta k) ≡ Some (Sta i) → Sta i ≡ Sta k
 apart k i e = cc
 
+pub one_station : (d : Domain) (k i : ℕ) → IsNamed d → k < length d.stas → i < length d.stas → mac d (Sta k) ≡ mac d (Sta i) → Sta i ≡ Sta k
+one_station d k i names low there same_mac =
+    apart k i (sym (finds-sta d 0 k names low) ∙ (ap (λ (m : Mac). peer_of d (Ap 0) m.0) same_mac ∙ finds-sta d 0 i names there))
+
 same_address : (d : Domain) (k i : ℕ) → IsNamed d → k < length d.stas → i < length d.stas → bytes_eq (mac d (Sta k)).0 (mac d (Sta i)).0 ≡ same (Sta i) (Sta k)
 same_address d k i names low there = elim (cases_Bool (same (Sta i) (Sta k))) [
   | inl is ↦ (bytes_eq-Decides (mac d (Sta k)).0 (mac d (Sta i)).0).1 (ap (address d) (sym (same-true (Sta i) (Sta k) is))) ∙ sym is
@@ -93,9 +97,9 @@ module _ (d : Domain) (n : Node) (xs : List HeldRow) (h : List Act) (id name : L
   station = mac d (Sta k)
 
   abbrev new : HeldRow
-  new = live (own_row d n station)
+  new = live (own_row d n (Sta k))
 
-  held : IsNamed d → k < length d.stas → KnowsRows d n xs h → name ≡ (own_row d n station).name → Held ≡ put_by name xs → KnowsRows d n (xs ++ new ∷ []) (Put id name (Sta k) Held ∷ h)
+  held : IsNamed d → k < length d.stas → KnowsRows d n xs h → name ≡ (own_row d n (Sta k)).name → Held ≡ put_by name xs → KnowsRows d n (xs ++ new ∷ []) (Put id name (Sta k) Held ∷ h)
   held names low at named is =
       let none : row name h ≡ None = no_row (row name h) (sym (at.live_is name) ∙ held_none name xs (sym is)) in
       let none_of : (m : List ℕ) → bytes_eq name m ≡ true → row m h ≡ None = λ m e. subst (λ (x : List ℕ). row x h ≡ None) ((bytes_eq-Decides name m).0 e) none in
@@ -114,7 +118,7 @@ module _ (d : Domain) (n : Node) (xs : List HeldRow) (h : List Act) (id name : L
       one_more : (c : ℕ) → c + 1 ≡ suc c
       one_more c = omega arith
 
-  pub behind_put : (answer : PutAnswer) → IsNamed d → k < length d.stas → KnowsRows d n xs h → name ≡ (own_row d n station).name → answer ≡ put_by name xs → KnowsRows d n (after_put (own_row d n station) answer xs) (Put id name (Sta k) answer ∷ h)
+  pub behind_put : (answer : PutAnswer) → IsNamed d → k < length d.stas → KnowsRows d n xs h → name ≡ (own_row d n (Sta k)).name → answer ≡ put_by name xs → KnowsRows d n (after_put (own_row d n (Sta k)) answer xs) (Put id name (Sta k) answer ∷ h)
   behind_put Held names low at named is = held names low at named is
   behind_put HeldAlready names low at named is = record { count = at.count; live_is = at.live_is; station_is = at.station_is; last = at.last; listed = at.listed; own = at.own }
   behind_put Full names low at named is = record { count = at.count; live_is = at.live_is; station_is = at.station_is; last = at.last; listed = at.listed; own = at.own }

@@ -2,7 +2,7 @@
 use Rattle.std.proofs.Common.{◌≡◌, ℕ, suc, Bool, true, false, cond, true≢false, List, [], ◌∷◌, length, Option, Some, None, refl, sym, ap, ◌∙◌, inl, inr}
 use Rattle.std.specs.Prelude.{not, ◌&&◌, ◌||◌, is_some, bytes_eq, if◌then◌else◌}
 use Rattle.std.specs.List.{AllByRecursion, list_any}
-use Rattle.std.proofs.lemmas.Bool.{cases_Bool}
+use Rattle.std.proofs.lemmas.Bool.{cases_Bool, and_parts}
 use Rattle.std.proofs.lemmas.Slice.Eq.{bytes_eq-Decides}
 use Rattle.domain_base.specs.declared.names.Mac.{Mac}
 use Rattle.domain_base.specs.declared.names.Node.{Node}
@@ -84,17 +84,13 @@ module _ (m : List ℕ) (test : HeldRow → Bool) (of_name : OfName m test) wher
   told name xs o ask true e none is = ap (λ (x : List ℕ). list_any test (ended x xs)) ((bytes_eq-Decides name m).0 e) ∙ (none_named xs ∙ sym none)
   told name xs o ask false e none is = others_stay name e xs ∙ is
 
-both : (a b : Bool) → (a && b) ≡ true → (a ≡ true) × (b ≡ true)
-both true b e = (refl, e)
-both false b e = absurd (true≢false (sym e))
-
 live_of : (m : List ℕ) → OfName m (λ x. x.live && bytes_eq x.row.name m)
-live_of m = record { not_dead = λ x. refl; named = λ x is. (bytes_eq-Decides x.row.name m).0 (both x.live (bytes_eq x.row.name m) is).1 }
+live_of m = record { not_dead = λ x. refl; named = λ x is. (bytes_eq-Decides x.row.name m).0 (and_parts x.live (bytes_eq x.row.name m) is).1 }
 
 match_of : (m : List ℕ) (sta : Mac) → OfName m (is_match m sta)
 match_of m sta = record {
   not_dead = λ x. refl;
-  named = λ x is. (bytes_eq-Decides x.row.name m).0 (both x.live (bytes_eq x.row.name m) (both (x.live && bytes_eq x.row.name m) (bytes_eq x.row.sta.0 sta.0) is).0).1;
+  named = λ x is. (bytes_eq-Decides x.row.name m).0 (and_parts x.live (bytes_eq x.row.name m) (and_parts (x.live && bytes_eq x.row.name m) (bytes_eq x.row.sta.0 sta.0) is).0).1;
 }
 
 last_ended : (b s : Bool) (o : Option Node) (i : Node) → s ≡ is_of i o → (false || (not b && s)) ≡ is_of i (cond b None o)

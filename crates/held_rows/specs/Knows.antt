@@ -2,7 +2,6 @@
 -- Std 802.11-2020, 12.7.1.6.3).
 use Rattle.std.specs.Prelude.{◌≡◌, ℕ, ◌<◌, Bool, true, false, not, ◌&&◌, ◌||◌, List, [], ◌∷◌, length, Option, Some, None, is_some}
 use Rattle.std.specs.List.{AllByRecursion, list_any}
-use Rattle.domain_base.specs.declared.names.Mac.{Mac}
 use Rattle.domain_base.specs.declared.names.Node.{Node}
 use Rattle.domain_base.specs.declared.names.Node.TheVariants.{Sta}
 use Rattle.key_hierarchy.specs.declared.fast_transition.PmkR0.{PmkR0}
@@ -18,20 +17,20 @@ use Rattle.run_journal.specs.declared.domain.Domain.{Domain}
 use Rattle.run_journal.specs.declared.acts.Act.{Act}
 use Rattle.run_journal.specs.declared.acts.Act.TheVariants.{Put, Revoked}
 use Rattle.run_journal.specs.Holders.{is_ended, row, rows}
-use Rattle.domain_rules.specs.Network.{mac, r0kh_id}
+use Rattle.domain_rules.specs.Network.{mac, psk_of, r0kh_id}
 use Rattle.domain_rules.specs.HeldRight.{is_of, puts_row}
 
--- the PMK-R0 of the station with that address, at the R0KH that access point n is
-abbrev pub own_r0 : Domain → Node → Mac → PmkR0
-own_r0 d n sta = pmk_r0 d.psk d.ssid d.mdid (r0kh_id d n) sta
+-- the PMK-R0 of station p at the R0KH that access point n is
+abbrev pub own_r0 : Domain → Node → Node → PmkR0
+own_r0 d n p = pmk_r0 (psk_of d p) d.ssid d.mdid (r0kh_id d n) (mac d p)
 
 -- its row
-abbrev pub own_row : Domain → Node → Mac → HolderRow
-own_row d n sta = row_of (own_r0 d n sta) sta
+abbrev pub own_row : Domain → Node → Node → HolderRow
+own_row d n p = row_of (own_r0 d n p) (mac d p)
 
 -- the row has the name and the key of the PMK-R0 of a listed station, and its address
 abbrev pub IsOwn : Domain → Node → HeldRow → Type 0
-IsOwn d n x = (k : ℕ) × (k < length d.stas) × (x.row ≡ own_row d n (mac d (Sta k)))
+IsOwn d n x = (k : ℕ) × (k < length d.stas) × (x.row ≡ own_row d n (Sta k))
 
 -- a listed station, where there is one
 abbrev pub IsListedSta : Domain → Option Node → Type 0

@@ -42,8 +42,8 @@ pub fn put_is_told()
         → KnowsRows d n xs h → put_by name xs ≡ put_answer (row name h) (rows h) }
     ensures rows { (d : Domain) (n : Node) (xs : List HeldRow) (h : List Act) (id name : List ℕ)
         (k : ℕ) (answer : PutAnswer) → IsNamed d → k < length d.stas → KnowsRows d n xs h
-        → name ≡ (own_row d n (mac d (Sta k))).name → answer ≡ put_by name xs
-        → KnowsRows d n (after_put (own_row d n (mac d (Sta k))) answer xs)
+        → name ≡ (own_row d n (Sta k)).name → answer ≡ put_by name xs
+        → KnowsRows d n (after_put (own_row d n (Sta k)) answer xs)
         (Put id name (Sta k) answer ∷ h) }
 {}
 
@@ -62,7 +62,7 @@ pub fn revocation_is_told()
 /// R0KH and the access point that asks.
 pub fn answers_are_right()
     ensures by_rows { (d : Domain) (n : Node) (xs : List HeldRow) (past : List Entry) (l : Looking)
-        (k : ℕ) (answer : PullAnswer) → k < length d.stas → l.sta ≡ Sta k
+        (k : ℕ) (answer : PullAnswer) → IsNamed d → k < length d.stas → l.sta ≡ Sta k
         → KnowsRows d n xs (history n past)
         → MayPull xs l.name (mac d l.node) (mac d l.sta) answer
         → AnswersAt n l answer past × GivesRightKey d (r0kh_id d n) l answer }

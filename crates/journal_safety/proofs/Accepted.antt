@@ -30,7 +30,8 @@ use Rattle.run_journal.specs.Acts.{Derivation, same_kind, replied}
 use Rattle.run_journal.specs.Questions.{attempt, since, derivation, session, chain, draws, listed, all_replied}
 use Rattle.run_journal.specs.Premises.{In}
 use Rattle.run_journal.proofs.Members.{In-append_right}
-use Rattle.domain_rules.specs.Network.{address, peer_of, is_ap, direction, goes_like, r0kh_id, root_at, inputs, IsListed}
+use Rattle.domain_rules.specs.Network.{address, peer_of, is_ap, direction, goes_like, r0kh_id, inputs_at}
+use Rattle.run_journal.specs.Events.{IsListed}
 use Rattle.key_hierarchy.specs.Keys.{ptk}
 use Rattle.domain_rules.specs.Reading.{Management, KeyMessage, Managed, Keyed, HasMessage}
 use Rattle.domain_rules.specs.Facts.{Facts, IsUnwrapped, ReadsKeyData}
@@ -354,7 +355,7 @@ m2_silent_at d drawn (Ap a) h p k part e is =
     m2_by o = in_attempt o (λ part. (
         if not (by_connect part) || has_heard p (kind.Key M2) part then Refused reason.Unawaited
         else among (offered p M1 part) k.fields.counter
-        (verified d.akm (ptk (inputs d (root_at d (r0kh_id d (Ap a))) (Ap a) p (own part) k.fields.nonce)).kck k Accepted)))
+        (verified d.akm (ptk (inputs_at d (Ap a) p (r0kh_id d (Ap a)) (own part) k.fields.nonce)).kck k Accepted)))
 m2_silent_at d drawn (Sta s) h p k part e is = absurd (cc e)
 
 pub m2_silent : (d : Domain) (n p : Node) (h : List Act) (k : KeyMessage) (part : List Act) → k.message ≡ M2 → Taken d n p h k Accepted → attempt p h ≡ Some part → has_heard p (kind.Key M2) part ≡ false

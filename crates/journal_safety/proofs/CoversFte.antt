@@ -16,7 +16,8 @@ use Rattle.rsn_elements.proofs.SentSpelled.{rsne_size, fte_spelled}
 use Rattle.run_journal.specs.declared.domain.Domain.{Domain}
 use Rattle.domain_base.specs.declared.names.Node.{Node}
 use Rattle.domain_rules.specs.Network.{address}
-use Rattle.domain_rules.specs.FastTransition.{no_mic, fte_input, without_fte_mic, mic_input}
+use Rattle.domain_rules.specs.FastTransition.{no_mic, mic_input}
+use Rattle.mac_prf.specs.FteMic.{fte_mic_input, without_mic_field}
 use Rattle.domain_rules.specs.TransitionFrames.{with_mic, sent_input}
 use Rattle.journal_safety.proofs.CoversData.{covered_form}
 
@@ -32,7 +33,7 @@ pub record CoversFte (covered : List ℕ) (number : ℕ) (f : FteFields) : Type 
   pub body : List ℕ
   pub sta_size : length sta ≡ 6
   pub ap_size : length ap_ ≡ 6
-  pub is : covered ≡ 2 ∷ fte_input sta ap_ number (0x30 ∷ length rsne ∷ rsne) (0x36 ∷ length mde ∷ mde) (0x37 ∷ length body ∷ body)
+  pub is : covered ≡ 2 ∷ fte_mic_input sta ap_ number (0x30 ∷ length rsne ∷ rsne) (0x36 ∷ length mde ∷ mde) (0x37 ∷ length body ∷ body)
   pub spelled : SpellsFte body f
 
 pub form_fte : (c : List ℕ) (number : ℕ) (f : FteFields) → CoversFte c number f → covered_form c ≡ 2
@@ -44,7 +45,7 @@ behind_six a b n size = ap (λ k. get_or (a ++ b) (k + n) 0) (sym size) ∙ get_
 pub number_fte : (c : List ℕ) (number : ℕ) (f : FteFields) → CoversFte c number f → fte_number c ≡ number
 unfolding fte_number
 number_fte c number f w =
-    let rest : List ℕ = (0x30 ∷ length w.rsne ∷ w.rsne) ++ ((0x36 ∷ length w.mde ∷ w.mde) ++ without_fte_mic (0x37 ∷ length w.body ∷ w.body)) in
+    let rest : List ℕ = (0x30 ∷ length w.rsne ∷ w.rsne) ++ ((0x36 ∷ length w.mde ∷ w.mde) ++ without_mic_field (0x37 ∷ length w.body ∷ w.body)) in
     ap (λ x. get_or x 13 0) w.is ∙ behind_six w.sta (w.ap_ ++ number ∷ rest) 6 w.sta_size ∙ behind_six w.ap_ (number ∷ rest) 0 w.ap_size
 
 -- ---- the FTE but for its MIC
@@ -73,12 +74,12 @@ zero_spelled (x ∷ y ∷ b) f s = zero_by x y b f s
 -- what octets cover is one
 pub one_covered : (c : List ℕ) (m k : ℕ) (f g : FteFields) → CoversFte c m f → CoversFte c k g → (m ≡ k) × (with_mic no_mic f ≡ with_mic no_mic g)
 one_covered c m k f g a b =
-    let all : 2 ∷ fte_input a.sta a.ap_ m (0x30 ∷ length a.rsne ∷ a.rsne) (0x36 ∷ length a.mde ∷ a.mde) (0x37 ∷ length a.body ∷ a.body) ≡ 2 ∷ fte_input b.sta b.ap_ k (0x30 ∷ length b.rsne ∷ b.rsne) (0x36 ∷ length b.mde ∷ b.mde) (0x37 ∷ length b.body ∷ b.body) = sym a.is ∙ b.is in
-    let inner : fte_input a.sta a.ap_ m (0x30 ∷ length a.rsne ∷ a.rsne) (0x36 ∷ length a.mde ∷ a.mde) (0x37 ∷ length a.body ∷ a.body) ≡ fte_input b.sta b.ap_ k (0x30 ∷ length b.rsne ∷ b.rsne) (0x36 ∷ length b.mde ∷ b.mde) (0x37 ∷ length b.body ∷ b.body) = cc all in
+    let all : 2 ∷ fte_mic_input a.sta a.ap_ m (0x30 ∷ length a.rsne ∷ a.rsne) (0x36 ∷ length a.mde ∷ a.mde) (0x37 ∷ length a.body ∷ a.body) ≡ 2 ∷ fte_mic_input b.sta b.ap_ k (0x30 ∷ length b.rsne ∷ b.rsne) (0x36 ∷ length b.mde ∷ b.mde) (0x37 ∷ length b.body ∷ b.body) = sym a.is ∙ b.is in
+    let inner : fte_mic_input a.sta a.ap_ m (0x30 ∷ length a.rsne ∷ a.rsne) (0x36 ∷ length a.mde ∷ a.mde) (0x37 ∷ length a.body ∷ a.body) ≡ fte_mic_input b.sta b.ap_ k (0x30 ∷ length b.rsne ∷ b.rsne) (0x36 ∷ length b.mde ∷ b.mde) (0x37 ∷ length b.body ∷ b.body) = cc all in
     let one = same_cut a.sta b.sta _ _ (a.sta_size ∙ sym b.sta_size) inner in
     let two = same_cut a.ap_ b.ap_ _ _ (a.ap_size ∙ sym b.ap_size) one.1 in
     let number : m ≡ k = cc two.1 in
-    let rest : (0x30 ∷ length a.rsne ∷ a.rsne) ++ ((0x36 ∷ length a.mde ∷ a.mde) ++ without_fte_mic (0x37 ∷ length a.body ∷ a.body)) ≡ (0x30 ∷ length b.rsne ∷ b.rsne) ++ ((0x36 ∷ length b.mde ∷ b.mde) ++ without_fte_mic (0x37 ∷ length b.body ∷ b.body)) = cc two.1 in
+    let rest : (0x30 ∷ length a.rsne ∷ a.rsne) ++ ((0x36 ∷ length a.mde ∷ a.mde) ++ without_mic_field (0x37 ∷ length a.body ∷ a.body)) ≡ (0x30 ∷ length b.rsne ∷ b.rsne) ++ ((0x36 ∷ length b.mde ∷ b.mde) ++ without_mic_field (0x37 ∷ length b.body ∷ b.body)) = cc two.1 in
     let three = same_first (record { id = 0x30; body = a.rsne }) (record { id = 0x30; body = b.rsne }) _ _ rest in
     let four = same_first (record { id = 0x36; body = a.mde }) (record { id = 0x36; body = b.mde }) _ _ three.1 in
     let bodies : zeroed a.body ≡ zeroed b.body = cc four.1 in
@@ -98,12 +99,12 @@ fte_of None octets f v raw is has = absurd (cc is)
 fte_of (Some x) octets f v raw is has = let one : x ≡ f = cc is in (raw.0, (cc (has, raw.1), subst (λ (y : FteFields). SpellsFte raw.0 y) one raw.2))
 
 took_by : (sta ap_ : List ℕ) (number : ℕ) (e : ElementFields) (f : FteFields) (input : List ℕ) → HasRaw e → e.fte ≡ Some f → IsAddress sta → IsAddress ap_ → (r m o : Option (List ℕ)) → e.rsne_octets ≡ r → e.mde_octets ≡ m → e.fte_octets ≡ o
-    → option_and_then (λ rsne. option_and_then (λ mde. option_map (λ fte. fte_input sta ap_ number rsne mde fte) o) m) r ≡ Some input → CoversFte (2 ∷ input) number f
+    → option_and_then (λ rsne. option_and_then (λ mde. option_map (λ fte. fte_mic_input sta ap_ number rsne mde fte) o) m) r ≡ Some input → CoversFte (2 ∷ input) number f
 took_by sta ap_ number e f input raw fte s a (Some r) (Some m) (Some o) rs ms os is =
     let x = whole_of 0x30 SpellsRsne e.rsne e.rsne_octets r raw.rsne rs in
     let y = whole_of 0x36 SpellsMde e.mde e.mde_octets m raw.mde ms in
     let z = fte_of e.fte e.fte_octets f o raw.fte fte os in
-    let input_is : fte_input sta ap_ number r m o ≡ input = cc is in
+    let input_is : fte_mic_input sta ap_ number r m o ≡ input = cc is in
     record {
       sta = sta;
       ap_ = ap_;
@@ -112,7 +113,7 @@ took_by sta ap_ number e f input raw fte s a (Some r) (Some m) (Some o) rs ms os
       body = z.0;
       sta_size = s;
       ap_size = a;
-      is = ap (λ w. 2 ∷ w) (sym input_is ∙ ap (λ w. fte_input sta ap_ number w m o) x.1 ∙ ap (λ w. fte_input sta ap_ number (0x30 ∷ length x.0 ∷ x.0) w o) y.1 ∙ ap (λ w. fte_input sta ap_ number (0x30 ∷ length x.0 ∷ x.0) (0x36 ∷ length y.0 ∷ y.0) w) z.1.0);
+      is = ap (λ w. 2 ∷ w) (sym input_is ∙ ap (λ w. fte_mic_input sta ap_ number w m o) x.1 ∙ ap (λ w. fte_mic_input sta ap_ number (0x30 ∷ length x.0 ∷ x.0) w o) y.1 ∙ ap (λ w. fte_mic_input sta ap_ number (0x30 ∷ length x.0 ∷ x.0) (0x36 ∷ length y.0 ∷ y.0) w) z.1.0);
       spelled = z.1.1;
     }
 took_by sta ap_ number e f input raw fte s a None m o rs ms os is = absurd (cc is)
@@ -161,7 +162,7 @@ sent_fte d sta ap_ number name f s a n m fits = record {
   body = fte_body f;
   sta_size = s;
   ap_size = a;
-  is = ap (λ w. 2 ∷ fte_input (address d sta) (address d ap_) number (0x30 ∷ w ∷ (rsne_start d.akm ++ 0x01 ∷ 0x00 ∷ name)) (mde_octets d.mdid) (fte_octets f)) (sym (rsne_size d.akm name n))
-      ∙ ap (λ w. 2 ∷ fte_input (address d sta) (address d ap_) number (0x30 ∷ length (rsne_start d.akm ++ 0x01 ∷ 0x00 ∷ name) ∷ (rsne_start d.akm ++ 0x01 ∷ 0x00 ∷ name)) (0x36 ∷ w ∷ (d.mdid ++ 0x00 ∷ [])) (fte_octets f)) (mde_size d.mdid m);
+  is = ap (λ w. 2 ∷ fte_mic_input (address d sta) (address d ap_) number (0x30 ∷ w ∷ (rsne_start d.akm ++ 0x01 ∷ 0x00 ∷ name)) (mde_octets d.mdid) (fte_octets f)) (sym (rsne_size d.akm name n))
+      ∙ ap (λ w. 2 ∷ fte_mic_input (address d sta) (address d ap_) number (0x30 ∷ length (rsne_start d.akm ++ 0x01 ∷ 0x00 ∷ name) ∷ (rsne_start d.akm ++ 0x01 ∷ 0x00 ∷ name)) (0x36 ∷ w ∷ (d.mdid ++ 0x00 ∷ [])) (fte_octets f)) (mde_size d.mdid m);
   spelled = fte_spelled f fits;
 }

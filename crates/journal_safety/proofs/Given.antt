@@ -1,5 +1,7 @@
 -- The group keys that a station was given are those that it installed.
-use Rattle.std.proofs.Common.{ℕ, ◌≡◌, inl, inr, Bool, true, false, cond, List, [], ◌∷◌, Option, Some, None, refl, sym, ap, ◌∙◌, subst}
+use Rattle.std.proofs.Common.{ℕ, zero, suc, ◌≡◌, inl, inr, Bool, true, false, cond, List, [], ◌∷◌, Option, Some, None, refl, sym, ap, ◌∙◌, subst}
+use Rattle.std.specs.Prelude.{take, bytes_eq}
+use Rattle.std.proofs.lemmas.Slice.Eq.{bytes_eq-Decides}
 use Rattle.domain_base.specs.declared.names.Mac.{Mac}
 use Rattle.domain_base.specs.declared.names.Node.{Node}
 use Rattle.domain_base.specs.declared.names.Peer.TheVariants.{One}
@@ -10,6 +12,7 @@ use Rattle.run_journal.specs.declared.acts.Act.TheVariants.{Installed}
 use Rattle.run_journal.specs.Acts.{same, GroupKey, given_from}
 use Rattle.run_journal.specs.Questions.{listed, given}
 use Rattle.run_journal.specs.Premises.{In}
+use Rattle.domain_rules.specs.GroupKeys.{find_key}
 use Rattle.domain_rules.proofs.Parts.{same-true, same-refl}
 
 given_same : (p q : Node) (g : List ℕ) (id : ℕ) (b : Mac) (x : GroupKey) (c : Bool) → same p q ≡ c → cond c (Some (record { key = g; id = id })) None ≡ Some x → (Installed (One q) (Group g id b) ≡ Installed (One p) (Group x.key x.id b))
@@ -43,3 +46,21 @@ pub given_listed : (p : Node) (g : List ℕ) (id : ℕ) (b : Mac) (h : List Act)
 given_listed p g id b [] there = absurd there
 given_listed p g id b (e ∷ h) (inl here) = subst (λ (x : Act). In (record { key = g; id = id }) (listed (given_from groups.Gtk p x) (given groups.Gtk p h))) here (rw same-refl (inl refl))
 given_listed p g id b (e ∷ h) (inr later) = more_given (record { key = g; id = id }) (given_from groups.Gtk p e) (given groups.Gtk p h) (given_listed p g id b h later)
+
+-- the keys in memory are the first of them
+pub front_in : (n : ℕ) (xs : List GroupKey) (g : GroupKey) → In g (take n xs) → In g xs
+front_in zero [] g there = absurd there
+front_in (suc n) [] g there = absurd there
+front_in zero (x ∷ xs) g there = absurd there
+front_in (suc n) (x ∷ xs) g (inl here) = inl here
+front_in (suc n) (x ∷ xs) g (inr later) = inr (front_in n xs g later)
+
+-- a group key that is remembered
+-- a key that is found in memory was installed
+found_kept : (key : List ℕ) (xs : List GroupKey) (kept : GroupKey) (x : GroupKey) (b : Bool) → bytes_eq key x.key ≡ b → (find_key key xs ≡ Some kept → In kept xs × (key ≡ kept.key)) → cond b (Some x) (find_key key xs) ≡ Some kept → In kept (x ∷ xs) × (key ≡ kept.key)
+found_kept key xs kept x true is more s = let one : x ≡ kept = cc s in (inl (sym one), (bytes_eq-Decides key x.key).0 is ∙ ap (λ (y : GroupKey). y.key) one)
+found_kept key xs kept x false is more s = let w = more s in (inr w.0, w.1)
+
+pub kept_by : (key : List ℕ) (xs : List GroupKey) (kept : GroupKey) → find_key key xs ≡ Some kept → In kept xs × (key ≡ kept.key)
+kept_by key [] kept s = cc s
+kept_by key (x ∷ xs) kept s = found_kept key xs kept x (bytes_eq key x.key) refl (kept_by key xs kept) s

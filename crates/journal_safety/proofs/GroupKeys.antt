@@ -28,7 +28,7 @@ use Rattle.domain_rules.specs.GroupKeys.{find_key}
 use Rattle.domain_rules.proofs.Parts.{same-true, same-refl, since_part}
 use Rattle.journal_safety.proofs.Covers.{covered_counter}
 use Rattle.journal_safety.proofs.Ends.{Tail, tail_refl, tail_rest, tail_trans, tail_total, tail_in, Order, Same, First, Second, order, history_tail, EndOf, end_of}
-use Rattle.journal_safety.proofs.Legal.{covered_kind, In_response, nonce_of, Alive, Verified, IsNewest, CarriesM3, CarriesG1, Carries, seal_under, GivesKey, In_m3, In_g1, Given, GivenG1, By_m3, By_g1, LegalGroup, LegalCurrent, LegalFinished, Legal, LegalHistory}
+use Rattle.journal_safety.proofs.Legal.{covered_kind, In_response, nonce_of, Alive, Verified, IsNewest, CarriesM3, CarriesG1, Carries, seal_under, GivesKey, In_m3, In_g1, Given, GivenG1, By_m3, By_g1, LegalGroup, LegalNew, LegalCurrent, LegalFinished, Legal, LegalHistory}
 use Rattle.journal_safety.proofs.Histories.{nonce_in, legal_end, gtk_drew, gtks_tail, gtk_drawn-is}
 use Rattle.journal_safety.proofs.Sessions.{session_older, finished_of, session_finished, finished_verified, session_nonce, given_wider, given_in_session}
 use Rattle.journal_safety.proofs.Runs.{legal_history}
@@ -190,6 +190,9 @@ common : (s : Node) (h : List Act) (n : Node) (g : List ℕ) → LegalGroup s h 
 common s h n g (By_m3 v) = record { station = v.station; i = v.i; taken = v.given }
 common s h n g (By_g1 v) = record { station = v.station; i = v.i; taken = v.given }
 
+pub installed_group : (d : Domain) (s p : Node) (g : List ℕ) (id : ℕ) (b : Mac) (h : List Act) → Legal d s h (Installed (One p) (Group g id b)) → LegalGroup s h p g
+installed_group d s p g id b h legal = legal.group
+
 pub group_station : (s : Node) (h : List Act) (n : Node) (g : List ℕ) → LegalGroup s h n g → is_ap s ≡ false
 group_station s h n g l = (common s h n g l).station
 
@@ -234,7 +237,7 @@ later_before d n s i covered g1 g2 id m past good new b there =
     good_w = good_tail d w.earlier opened.journal (earlier_tail s (Installed (One n) (Group g1 id m)) opened.journal w) good_opened
 
     c : Common s (history s w.earlier) n g1
-    c = common s (history s w.earlier) n g1 (legal_at d s (Installed (One n) (Group g1 id m)) opened.journal good_opened.legal w)
+    c = common s (history s w.earlier) n g1 (installed_group d s n g1 id m (history s w.earlier) (legal_at d s (Installed (One n) (Group g1 id m)) opened.journal good_opened.legal w))
 
     first : BuiltAt d n s c.i c.taken.covered g1 w.earlier
     first = built_at d n s c.i g1 w.earlier good_w c.station c.taken
@@ -440,7 +443,7 @@ last_at d n s x older l past g at more (Some y) is w =
     let one : y ≡ x = cc w in
     let rest_is : given groups.Gtk n (history s past) ≡ older = cc w in
     let act = given-is n l.act x (is ∙ ap Some one) in
-    record { earlier = past; tail = inr (tail_refl past); legal = subst (λ (y : Node). LegalGroup y (history y past) n x.key) at (subst (λ (y : Act). Legal d l.node (history l.node past) y) act.1 g.legal.0); before = rest_is }
+    record { earlier = past; tail = inr (tail_refl past); legal = subst (λ (y : Node). LegalGroup y (history y past) n x.key) at (installed_group d l.node n x.key x.id act.0 (history l.node past) (subst (λ (y : Act). Legal d l.node (history l.node past) y) act.1 g.legal.0)); before = rest_is }
 
 last_by : (d : Domain) (n s : Node) (x : GroupKey) (older : List GroupKey) (l : Entry) (past : List Entry) → Good d (l ∷ past) → (given groups.Gtk n (history s past) ≡ x ∷ older → LastGiven d n s x older past) → (b : Bool) → same s l.node ≡ b
     → given groups.Gtk n (cond b (l.act ∷ history s past) (history s past)) ≡ x ∷ older → LastGiven d n s x older (l ∷ past)
@@ -458,10 +461,6 @@ found_by : (g : List ℕ) (x : GroupKey) (xs : List GroupKey) (c : Bool) → byt
 found_by g x xs true is e none = cc none
 found_by g x xs false is e none = let w = (bytes_eq-Decides g x.key).1 e in cc (is, w)
 
-new_key : (s : Node) (h : List Act) (n : Node) (g : List ℕ) → LegalGroup s h n g → find_key g (take 2 (given groups.Gtk n h)) ≡ None
-new_key s h n g (By_m3 v) = v.new
-new_key s h n g (By_g1 v) = v.new
-
 -- the key of a station's installation was drawn by the access point
 pub group_drawn : (d : Domain) (s p : Node) (g : List ℕ) (past : List Entry) → Good d past → LegalGroup s (history s past) p g → In g (group_keys groups.Gtk (history p past))
 group_drawn d s p g past good v =
@@ -469,10 +468,10 @@ group_drawn d s p g past good v =
     let b = built_at d p s c.i g past good c.station c.taken in
     gtks_tail g (history p b.lines) (history p past) (history_tail p b.lines past (built_tail d p s c.i c.taken.covered g past b)) (subst (λ (x : List (List ℕ)). In g x) (sym b.newest.1) (inl refl))
 
-not_again : (d : Domain) (n s : Node) (g : List ℕ) (id : ℕ) (past : List Entry) → Good d past → LegalGroup s (history s past) n g → In (record { key = g; id = id }) (given groups.Gtk n (history s past)) → (xs : List GroupKey) → given groups.Gtk n (history s past) ≡ xs → ⊥
+not_again : (d : Domain) (n s : Node) (g : List ℕ) (id : ℕ) (past : List Entry) → Good d past → LegalNew s (history s past) n g → In (record { key = g; id = id }) (given groups.Gtk n (history s past)) → (xs : List GroupKey) → given groups.Gtk n (history s past) ≡ xs → ⊥
 not_again d n s g id past good v there [] is = subst (λ (x : List GroupKey). In (record { key = g; id = id }) x) is there
 not_again d n s g id past good v there (x ∷ older) is =
-    let none : find_key g (take 2 (x ∷ older)) ≡ None = subst (λ (y : List GroupKey). find_key g (take 2 y) ≡ None) is (new_key s (history s past) n g v) in
+    let none : find_key g (take 2 (x ∷ older)) ≡ None = subst (λ (y : List GroupKey). find_key g (take 2 y) ≡ None) is v.new in
     let unlike : g ≡ x.key → ⊥ = λ same_key. found_by g x (take 1 older) (bytes_eq g x.key) refl same_key none in
     ⊎_elim
     (λ here. unlike (ap (λ (y : GroupKey). y.key) here))
@@ -482,18 +481,18 @@ not_again d n s g id past good v there (x ∷ older) is =
     let first = given_in n (record { key = g; id = id }) (history s last.earlier) (subst (λ (y : List GroupKey). In (record { key = g; id = id }) y) (sym last.before) before) in
     let second = given_in n x (history s past) (subst (λ (y : List GroupKey). In x y) (sym is) (inl refl)) in
     let up = never_back d n s g x.key id first.0 last.earlier good_last last.legal first.1 in
-    let down = never_back d n s x.key g x.id second.0 past good v second.1 in
+    let down = never_back d n s x.key g x.id second.0 past good v.group second.1 in
     unlike (no_way_back d n g x.key past last.earlier good last.tail up down))
     (subst (λ (y : List GroupKey). In (record { key = g; id = id }) y) is there)
 
-pub group_once : (d : Domain) (s p q : Node) (g : List ℕ) (id : ℕ) (b : Mac) (past : List Entry) → Good d past → LegalGroup s (history s past) p g → In (Installed (One q) (Group g id b)) (history s past) → ⊥
+pub group_once : (d : Domain) (s p q : Node) (g : List ℕ) (id : ℕ) (b : Mac) (past : List Entry) → Good d past → LegalNew s (history s past) p g → In (Installed (One q) (Group g id b)) (history s past) → ⊥
 group_once d s p q g id b past good v there =
     let act : Act = Installed (One q) (Group g id b) in
     let w = at_of s act past there in
     let t = earlier_tail s act past w in
-    let old : LegalGroup s (history s w.earlier) q g = legal_at d s act past good.legal w in
+    let old : LegalGroup s (history s w.earlier) q g = installed_group d s q g id b (history s w.earlier) (legal_at d s act past good.legal w) in
     let theirs = gtks_tail g (history q w.earlier) (history q past) (history_tail q w.earlier past t) (group_drawn d s q g w.earlier (good_tail d w.earlier past t good) old) in
-    let ours = group_drawn d s p g past good v in
+    let ours = group_drawn d s p g past good v.group in
     let one : q ≡ p = one_drawer q p g past good.fresh (draws_of q (Drew (Gtk g)) g past refl (gtk_drew g (history q past) theirs)) (draws_of p (Drew (Gtk g)) g past refl (gtk_drew g (history p past) ours)) in
     not_again d p s g id past good v (given_listed p g id b (history s past) (subst (λ (x : Node). In (Installed (One x) (Group g id b)) (history s past)) one there)) (given groups.Gtk p (history s past)) refl
 

@@ -28,14 +28,15 @@ use Rattle.run_journal.specs.declared.acts.Seal.{Seal}
 use Rattle.run_journal.specs.declared.acts.Key.{Key}
 use Rattle.run_journal.specs.declared.acts.Key.TheVariants.{Pairwise, Group}
 use Rattle.run_journal.specs.declared.acts.Act.{Act}
-use Rattle.run_journal.specs.declared.acts.Act.TheVariants.{Opened, Closed, Drew, Derived, Sent, Took, Installed, Used, HandedUp, Finished, Looked}
-use Rattle.run_journal.specs.Acts.{same}
+use Rattle.run_journal.specs.declared.acts.Act.TheVariants.{Opened, Closed, Drew, Derived, Sent, Took, Installed, Resumed, Used, HandedUp, Finished, Looked}
+use Rattle.run_journal.specs.Acts.{same, GroupKey}
 use Rattle.run_journal.specs.declared.acts.Outcome.TheVariants.{Accepted}
 use Rattle.run_journal.specs.declared.acts.Part.TheVariants.{Session}
-use Rattle.run_journal.specs.Questions.{attempt, since, own_nonce, derivation, session, associated, before_sent, handshake, group_keys, switches, pairwise_uses, group_uses}
+use Rattle.run_journal.specs.Questions.{attempt, since, own_nonce, derivation, session, associated, before_sent, handshake, given, group_keys, switches, pairwise_uses, group_uses}
 use Rattle.run_journal.specs.Premises.{In}
 use Rattle.air_frame.specs.Sent.{IsAddress}
-use Rattle.domain_rules.specs.Network.{mac, address, is_ap, root_at, draw_end, IsListed}
+use Rattle.domain_rules.specs.Network.{mac, address, is_ap, root_at, draw_end}
+use Rattle.run_journal.specs.Events.{IsListed}
 use Rattle.domain_rules.specs.HeldRight.{GivesRightKey}
 use Rattle.key_hierarchy.specs.declared.answers.PullAnswer.{PullAnswer}
 use Rattle.rsn_elements.specs.Transition.{WrappedGtkFields, FteFields}
@@ -97,13 +98,12 @@ pub record Alive (n : Node) (h : List Act) (p : Node) (i : Inputs) : Type 0 wher
   pub awaited : attempt p h ≡ Some part
   pub own : own_nonce part ≡ Some (nonce_of n i)
 
--- what all inputs of a network have in common
+-- what all inputs of a network have in common, whatever the station
 pub record AreCommon (d : Domain) (i : Inputs) : Type 0 where
   pub akm : i.akm ≡ d.akm
-  pub psk : i.psk ≡ d.psk
   pub ssid : i.ssid ≡ d.ssid
-  pub mdid : i.mdid ≡ (root_at d i.r0kh_id).mdid
-  pub r0kh_id : i.r0kh_id ≡ (root_at d i.r0kh_id).r0kh_id
+  pub mdid : (s : Node) → i.mdid ≡ (root_at d s i.r0kh_id).mdid
+  pub r0kh_id : (s : Node) → i.r0kh_id ≡ (root_at d s i.r0kh_id).r0kh_id
 
 -- the node derived with a listed node of the other kind, from its own nonce of the attempt; an access point before it sent M3
 pub record LegalDerived (d : Domain) (n : Node) (h : List Act) (p : Node) (i : Inputs) (k : Ptk) : Type 0 where
@@ -279,7 +279,6 @@ pub record GivenM3 (n : Node) (h : List Act) (p : Node) (g : List ℕ) : Type 0 
   pub given : Given n h p i g
   pub alive : Alive n h p i
   pub first : (key : List ℕ) (id : ℕ) (b : Mac) → In (Installed (One p) (Group key id b)) alive.part → ⊥
-  pub new : find_key g (memory groups.Gtk p h) ≡ None
 
 -- each G1 accepted from p in that part has a smaller replay counter
 abbrev pub Above : Node → ℕ → List Act → Type 0
@@ -300,11 +299,25 @@ pub record GivenG1 (n : Node) (h : List Act) (p : Node) (g : List ℕ) : Type 0 
   pub is : h ≡ Took from octets kind outcome seal ∷ before
   pub awaited : session p before ≡ Some (keyed_by i)
   pub above : Above p (covered_counter given.covered) (since p before)
-  pub new : find_key g (memory groups.Gtk p h) ≡ None
 
+-- so a station takes a group key
 pub data LegalGroup (n : Node) (h : List Act) (p : Node) (g : List ℕ) : Type 0 where
   By_m3 : GivenM3 n h p g → LegalGroup n h p g
   By_g1 : GivenG1 n h p g → LegalGroup n h p g
+
+-- it installs one that it does not remember
+pub record LegalNew (n : Node) (h : List Act) (p : Node) (g : List ℕ) : Type 0 where
+  pub group : LegalGroup n h p g
+  pub new : find_key g (memory groups.Gtk p h) ≡ None
+
+-- and resumes one that it installed
+pub record LegalAgain (n : Node) (h : List Act) (p : Node) (g : GroupKey) : Type 0 where
+  pub group : LegalGroup n h p g.key
+  pub had : In g (given groups.Gtk p h)
+
+abbrev pub LegalResumed : Node → List Act → Node → Key → Type 0
+LegalResumed n h p (Pairwise tk i) = ⊥
+LegalResumed n h p (Group g id b) = LegalAgain n h p (record { key = g; id = id })
 
 -- an access point makes a key current that it drew and did not make current yet
 pub record LegalCurrent (n : Node) (h : List Act) (g : List ℕ) : Type 0 where
@@ -313,7 +326,7 @@ pub record LegalCurrent (n : Node) (h : List Act) (g : List ℕ) : Type 0 where
 
 abbrev pub LegalInstalled : Node → List Act → Peer → Key → Type 0
 LegalInstalled n h (One p) (Pairwise tk i) = LegalPairwise n h p tk i
-LegalInstalled n h (One p) (Group g id b) = LegalGroup n h p g
+LegalInstalled n h (One p) (Group g id b) = LegalNew n h p g
 LegalInstalled n h All (Pairwise tk i) = ⊥
 LegalInstalled n h All (Group g id b) = LegalCurrent n h g
 
@@ -393,6 +406,7 @@ Legal d n h (Drew v) = LegalDrew n h v
 Legal d n h (Derived p i k) = LegalDerived d n h p i k
 Legal d n h (Sent q k octets s) = LegalSealed d n h q k s × LegalKind n h q k
 Legal d n h (Installed q key) = LegalInstalled n h q key
+Legal d n h (Resumed p key) = LegalResumed n h p key
 Legal d n h (Finished p i) = LegalFinished n h p i
 Legal d n h (Used q key id number octets) = LegalUsed h q key number
 Legal d n h (HandedUp p key id tid number octets) = LegalUp d n h p key id tid number octets

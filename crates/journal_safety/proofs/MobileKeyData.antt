@@ -1,11 +1,11 @@
 -- The key data of M3 with suite 4: whoever unwraps it has the group key that was put in. It carries what fast transition knows of the
 -- network, whose sizes it takes.
-use Rattle.std.proofs.Common.{◌≡◌, ℕ, zero, suc, ◌+◌, ◌-◌, ◌<◌, ◌≤◌, ◌%◌, List, [], ◌∷◌, ◌++◌, length, replicate, Some, refl, sym, ap, subst, ◌∙◌, arith, Bool, true, false, cond, ltb}
+use Rattle.std.proofs.Common.{◌≡◌, ℕ, zero, suc, ◌+◌, ◌-◌, ◌<◌, ◌≤◌, ◌%◌, List, [], ◌∷◌, ◌++◌, length, Some, refl, sym, ap, subst, ◌∙◌, arith}
 use Rattle.std.specs.Prelude.{unwrap_or, option_map, slice_get}
 use Rattle.std.specs.List.{AllByRecursion}
-use Rattle.std.proofs.lemmas.Bool.{ltb-true, le-ltb}
+use Rattle.std.proofs.lemmas.Bool.{le-ltb}
 use Rattle.std.proofs.lemmas.List.{append-nil, append_assoc, length-append, length-replicate}
-use Rattle.std.proofs.lemmas.List.Elements.{All-nil, All-cons, All-append, All-take, All-replicate}
+use Rattle.std.proofs.lemmas.List.Elements.{All-nil, All-append, All-take}
 use Rattle.sha2.specs.Sha256 as S256
 use Rattle.sha2.specs.Sha256.{sha256}
 use Rattle.domain_base.specs.Octets.{AreOctets}
@@ -31,12 +31,13 @@ use Rattle.key_hierarchy.proofs.Lengths.{length-pmk_r1_name}
 use Rattle.run_journal.specs.declared.domain.Domain.{Domain}
 use Rattle.run_journal.specs.declared.domain.ListedAp.{ListedAp}
 use Rattle.run_journal.specs.Acts.{GroupKey}
-use Rattle.domain_rules.specs.Network.{address, r0kh_id, AreAps, IsNamed, IsListed}
+use Rattle.domain_rules.specs.Network.{address, r0kh_id, AreAps, IsNamed}
+use Rattle.run_journal.specs.Events.{IsListed}
 use Rattle.domain_rules.specs.Frames.{wrapped, timeouts}
 use Rattle.domain_rules.specs.FastTransition.{r1_name, no_nonce, no_mic, assoc_fte}
 use Rattle.domain_rules.specs.StationRows.{carried}
 use Rattle.domain_rules.proofs.KeyOctets.{octets-bytes, octets-kek}
-use Rattle.domain_rules.proofs.CarriedKey.{IsGroupKey}
+use Rattle.domain_rules.proofs.CarriedKey.{IsGroupKey, octets_few, octets_both, octets_more, octets_pad, octets_kde, size_kde}
 use Rattle.domain_rules.proofs.Peers.{listed-address, listed-octets}
 use Rattle.domain_rules.specs.InOctets.{InOctets}
 
@@ -147,9 +148,6 @@ size_rsne name size = omega (arith, size)
 size_mde : (mdid : List ℕ) → length mdid ≡ 2 → length (mde_octets mdid) ≡ 5
 size_mde mdid size = omega (arith, size, length-append mdid (0x00 ∷ []))
 
-size_kde : (g : GroupKey) → IsGroupKey g → length (gtk_kde_octets g.id g.key) ≡ 24
-size_kde g is = omega (arith, is.size)
-
 size_timeouts : length timeouts ≡ 14
 size_timeouts = refl
 
@@ -171,57 +169,32 @@ pad_by n low high =
     let is : length (padding_octets (padding n)) ≡ (8 - n % 8) % 8 = count (padding n) ∙ rw (le-ltb n 16 low) refl in
     (omega (arith, is), omega (arith, is))
 
-abbrev are_few : List ℕ → Bool
-are_few [] = true
-are_few (x ∷ xs) = cond (ltb x 256) (are_few xs) false
-
-few_by : (x : ℕ) (xs : List ℕ) (b : Bool) → ltb x 256 ≡ b → (are_few xs ≡ true → AreOctets xs) → cond b (are_few xs) false ≡ true → AreOctets (x ∷ xs)
-few_by x xs true low more few = All-cons (λ y. y < 256) x xs (ltb-true x 256 low) (more few)
-few_by x xs false low more few = cc
-
-octets_few : (xs : List ℕ) → are_few xs ≡ true → AreOctets xs
-octets_few [] few = All-nil (λ y. y < 256)
-octets_few (x ∷ xs) few = few_by x xs (ltb x 256) refl (octets_few xs) few
-
-both : (xs ys : List ℕ) → AreOctets xs → AreOctets ys → AreOctets (xs ++ ys)
-both xs ys a b = All-append (λ x. x < 256) xs ys a b
-
-one_more : (x : ℕ) (xs : List ℕ) → x < 256 → AreOctets xs → AreOctets (x ∷ xs)
-one_more x xs low all = All-cons (λ y. y < 256) x xs low all
-
-octets_pad : (n : ℕ) → AreOctets (padding_octets n)
-octets_pad zero = All-nil (λ y. y < 256)
-octets_pad (suc n) = one_more 0xdd (replicate n 0x00) (omega arith) (All-replicate (λ y. y < 256) n 0 (omega arith))
-
 abbrev subs_of : Domain → ℕ → List ℕ
 subs_of d a = (0x01 ∷ length (address d (Ap a)) ∷ address d (Ap a)) ++ ((0x03 ∷ length (r0kh_id d (Ap a)) ∷ r0kh_id d (Ap a)) ++ [])
 
 octets_subs : (d : Domain) (a : ℕ) → Sized d a → AreOctets (subs_of d a)
 octets_subs d a s =
-    both (0x01 ∷ length (address d (Ap a)) ∷ address d (Ap a)) ((0x03 ∷ length (r0kh_id d (Ap a)) ∷ r0kh_id d (Ap a)) ++ [])
-    (one_more 0x01 (length (address d (Ap a)) ∷ address d (Ap a)) (omega arith) (one_more (length (address d (Ap a))) (address d (Ap a)) (omega (arith, s.address_size)) s.address_octets))
-    (both (0x03 ∷ length (r0kh_id d (Ap a)) ∷ r0kh_id d (Ap a)) [] (one_more 0x03 (length (r0kh_id d (Ap a)) ∷ r0kh_id d (Ap a)) (omega arith) (one_more (length (r0kh_id d (Ap a))) (r0kh_id d (Ap a)) (omega (arith, s.few)) s.id_octets)) (All-nil (λ y. y < 256)))
+    octets_both (0x01 ∷ length (address d (Ap a)) ∷ address d (Ap a)) ((0x03 ∷ length (r0kh_id d (Ap a)) ∷ r0kh_id d (Ap a)) ++ [])
+    (octets_more 0x01 (length (address d (Ap a)) ∷ address d (Ap a)) (omega arith) (octets_more (length (address d (Ap a))) (address d (Ap a)) (omega (arith, s.address_size)) s.address_octets))
+    (octets_both (0x03 ∷ length (r0kh_id d (Ap a)) ∷ r0kh_id d (Ap a)) [] (octets_more 0x03 (length (r0kh_id d (Ap a)) ∷ r0kh_id d (Ap a)) (omega arith) (octets_more (length (r0kh_id d (Ap a))) (r0kh_id d (Ap a)) (omega (arith, s.few)) s.id_octets)) (All-nil (λ y. y < 256)))
 
 octets_body : (d : Domain) (a : ℕ) → Sized d a → AreOctets (fte_body (assoc_fte d (Ap a)))
 octets_body d a s =
-    both (0 ∷ 0 ∷ []) (no_mic ++ (no_nonce ++ (no_nonce ++ subs_of d a))) (octets_few (0 ∷ 0 ∷ []) refl)
-    (both no_mic (no_nonce ++ (no_nonce ++ subs_of d a)) (octets_few no_mic refl)
-    (both no_nonce (no_nonce ++ subs_of d a) (octets_few no_nonce refl) (both no_nonce (subs_of d a) (octets_few no_nonce refl) (octets_subs d a s))))
+    octets_both (0 ∷ 0 ∷ []) (no_mic ++ (no_nonce ++ (no_nonce ++ subs_of d a))) (octets_few (0 ∷ 0 ∷ []) refl)
+    (octets_both no_mic (no_nonce ++ (no_nonce ++ subs_of d a)) (octets_few no_mic refl)
+    (octets_both no_nonce (no_nonce ++ subs_of d a) (octets_few no_nonce refl) (octets_both no_nonce (subs_of d a) (octets_few no_nonce refl) (octets_subs d a s))))
 
 octets_rsne : (name : List ℕ) → AreOctets name → AreOctets (rsne_octets FtPsk (Some name))
-octets_rsne name of = both (0x30 ∷ 0x26 ∷ rsne_start FtPsk) (0x01 ∷ 0x00 ∷ name) (octets_few (0x30 ∷ 0x26 ∷ rsne_start FtPsk) refl) (one_more 0x01 (0x00 ∷ name) (omega arith) (one_more 0x00 name (omega arith) of))
+octets_rsne name of = octets_both (0x30 ∷ 0x26 ∷ rsne_start FtPsk) (0x01 ∷ 0x00 ∷ name) (octets_few (0x30 ∷ 0x26 ∷ rsne_start FtPsk) refl) (octets_more 0x01 (0x00 ∷ name) (omega arith) (octets_more 0x00 name (omega arith) of))
 
 octets_mde : (mdid : List ℕ) → AreOctets mdid → AreOctets (mde_octets mdid)
-octets_mde mdid of = one_more 0x36 (0x03 ∷ (mdid ++ 0x00 ∷ [])) (omega arith) (one_more 0x03 (mdid ++ 0x00 ∷ []) (omega arith) (both mdid (0x00 ∷ []) of (octets_few (0x00 ∷ []) refl)))
-
-octets_kde : (g : GroupKey) → IsGroupKey g → AreOctets (gtk_kde_octets g.id g.key)
-octets_kde g is = both (0xdd ∷ 0x16 ∷ 0x00 ∷ 0x0f ∷ 0xac ∷ 0x01 ∷ []) (g.id ∷ 0x00 ∷ g.key) (octets_few (0xdd ∷ 0x16 ∷ 0x00 ∷ 0x0f ∷ 0xac ∷ 0x01 ∷ []) refl) (one_more g.id (0x00 ∷ g.key) (omega (arith, is.low)) (one_more 0x00 g.key (omega arith) is.octets))
+octets_mde mdid of = octets_more 0x36 (0x03 ∷ (mdid ++ 0x00 ∷ [])) (omega arith) (octets_more 0x03 (mdid ++ 0x00 ∷ []) (omega arith) (octets_both mdid (0x00 ∷ []) of (octets_few (0x00 ∷ []) refl)))
 
 octets_fte : (d : Domain) (a : ℕ) → Sized d a → AreOctets (fte_octets (assoc_fte d (Ap a)))
-octets_fte d a s = one_more 0x37 (length (fte_body (assoc_fte d (Ap a))) ∷ fte_body (assoc_fte d (Ap a))) (omega arith) (one_more (length (fte_body (assoc_fte d (Ap a)))) (fte_body (assoc_fte d (Ap a))) (let few = body_size d a s in omega (arith, few)) (octets_body d a s))
+octets_fte d a s = octets_more 0x37 (length (fte_body (assoc_fte d (Ap a))) ∷ fte_body (assoc_fte d (Ap a))) (omega arith) (octets_more (length (fte_body (assoc_fte d (Ap a)))) (fte_body (assoc_fte d (Ap a))) (let few = body_size d a s in omega (arith, few)) (octets_body d a s))
 
 octets_all : (a b c d t : List ℕ) → AreOctets a → AreOctets b → AreOctets c → AreOctets d → AreOctets t → AreOctets (a ++ b ++ c ++ d ++ t)
-octets_all a b c d t a_are b_are c_are d_are t_are = both (a ++ b ++ c ++ d) t (both (a ++ b ++ c) d (both (a ++ b) c (both a b a_are b_are) c_are) d_are) t_are
+octets_all a b c d t a_are b_are c_are d_are t_are = octets_both (a ++ b ++ c ++ d) t (octets_both (a ++ b ++ c) d (octets_both (a ++ b) c (octets_both a b a_are b_are) c_are) d_are) t_are
 
 octets_plain : (d : Domain) (a : ℕ) (name : List ℕ) (g : GroupKey) → Sized d a → IsGroupKey g → AreOctets name → AreOctets (plain_of d a name g)
 octets_plain d a name g s is of =
@@ -237,7 +210,7 @@ mobile_wraps d a kek i g s is =
     record {
       whole_blocks = ap (λ n. n % 8) whole ∙ pad.0;
       two_blocks = omega (arith, whole, size.0);
-      are_octets = both plain (padding_octets (padding (length plain))) (octets_plain d a (r1_name i) g s is (octets-r1_name i)) (octets_pad (padding (length plain)));
+      are_octets = octets_both plain (padding_octets (padding (length plain))) (octets_plain d a (r1_name i) g s is (octets-r1_name i)) (octets_pad (padding (length plain)));
       wrapped = refl;
     }
 

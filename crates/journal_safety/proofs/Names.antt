@@ -1,7 +1,6 @@
 -- Addresses tell listed nodes apart, and what equal names of inputs say.
 use Rattle.std.proofs.Common.{refl, ◌≡◌, ◌≢◌, ◌⊎◌, inl, inr, ℕ, zero, suc, ◌<◌, ◌≤◌, List, [], ◌∷◌, length, get_or, Option, Some, sym, ap, ◌∙◌, subst, arith}
 use Rattle.std.specs.Prelude.{unwrap_or, option_map}
-use Rattle.std.specs.List.{AllByRecursion}
 use Rattle.std.specs.Ordering.{nat_cmp}
 use Rattle.std.specs.declared.cmp.Ordering.{Ordering}
 use Rattle.std.specs.declared.cmp.Ordering.TheVariants.{Less, Equal, Greater}
@@ -10,37 +9,33 @@ use Rattle.std.proofs.lemmas.Bool.{cases_lt}
 use Rattle.std.proofs.lemmas.Option.{slice_get_past}
 use Rattle.domain_base.specs.declared.names.Akm.{Akm}
 use Rattle.domain_base.specs.declared.names.Akm.TheVariants.{Psk, PskSha256, FtPsk}
-use Rattle.domain_base.specs.declared.names.Mac.{Mac}
 use Rattle.domain_base.specs.declared.names.Node.{Node}
 use Rattle.domain_base.specs.declared.names.Node.TheVariants.{Ap, Sta}
 use Rattle.key_hierarchy.specs.declared.inputs.Inputs.{Inputs}
 use Rattle.key_hierarchy.specs.Keys.{choose, lesser, greater}
 use Rattle.run_journal.specs.declared.domain.Domain.{Domain}
 use Rattle.run_journal.specs.declared.domain.ListedAp.{ListedAp}
+use Rattle.run_journal.specs.declared.domain.ListedSta.{ListedSta}
 use Rattle.run_journal.specs.Premises.{Name, name_by, name}
-use Rattle.domain_rules.specs.Network.{address, peer_of, AreStas, IsNamed, IsListed}
-use Rattle.domain_rules.proofs.Peers.{ap_address, sta_address, finds-sta, finds-ap}
+use Rattle.domain_rules.specs.Network.{address, peer_of, AreStas, IsNamed}
+use Rattle.run_journal.specs.Events.{IsListed}
+use Rattle.domain_rules.proofs.Peers.{ap_address, sta_address, finds-sta, finds-ap, all_at}
 
 -- ---- addresses
 
-no_mac : Mac
-no_mac = record { 0 = [] }
+no_sta : ListedSta
+no_sta = record { address = record { 0 = [] }; psk = [] }
 
 no_ap : ListedAp
 no_ap = record { address = record { 0 = [] }; r0kh_id = [] }
 
-all_at : {A : Type 0} (P : A → Type 0) (xs : List A) (k : ℕ) (d : A) → AllByRecursion P xs → k < length xs → P (get_or xs k d)
-all_at P [] k d all low = absurd (omega arith)
-all_at P (x ∷ xs) zero d all low = all.0
-all_at P (x ∷ xs) (suc k) d all low = all_at P xs k d all.1 (omega arith)
-
-kinds_differ : (aps : List ListedAp) (stas : List Mac) → AreStas aps stas → (k i : ℕ) → k < length aps → i < length stas → (get_or aps k no_ap).address.0 ≢ (get_or stas i no_mac).0
+kinds_differ : (aps : List ListedAp) (stas : List ListedSta) → AreStas aps stas → (k i : ℕ) → k < length aps → i < length stas → (get_or aps k no_ap).address.0 ≢ (get_or stas i no_sta).address.0
 kinds_differ aps [] are k i low few = absurd (omega arith)
-kinds_differ aps (m ∷ stas) are k zero low few = λ same. all_at (λ (a : ListedAp). a.address ≢ m) aps k no_ap are.1.no_ap low (ap (λ (x : List ℕ). record { 0 = x }) same)
-kinds_differ aps (m ∷ stas) are k (suc i) low few = kinds_differ aps stas are.2 k i low (omega arith)
+kinds_differ aps (s ∷ stas) are k zero low few = λ same. all_at (λ (a : ListedAp). a.address ≢ s.address) aps k no_ap are.1.no_ap low (ap (λ (x : List ℕ). record { 0 = x }) same)
+kinds_differ aps (s ∷ stas) are k (suc i) low few = kinds_differ aps stas are.2 k i low (omega arith)
 
 apart_kinds : (d : Domain) (k i : ℕ) → IsNamed d → k < length d.aps → i < length d.stas → address d (Ap k) ≡ address d (Sta i) → ⊥
-apart_kinds d k i names low few same = kinds_differ d.aps d.stas names.stas k i low few (sym (ap_address d k low no_ap) ∙ same ∙ sta_address d i few no_mac)
+apart_kinds d k i names low few same = kinds_differ d.aps d.stas names.stas k i low few (sym (ap_address d k low no_ap) ∙ same ∙ sta_address d i few no_sta)
 
 -- listed nodes that are named
 pub one_address : (d : Domain) (n m : Node) → IsNamed d → IsListed d n → IsListed d m → address d n ≡ address d m → n ≡ m
@@ -63,7 +58,7 @@ past_ap : (d : Domain) (k : ℕ) → length d.aps ≤ k → address d (Ap k) ≡
 past_ap d k high = ap (λ (o : Option ListedAp). (unwrap_or (option_map (λ (a : ListedAp). a.address) o) (record { 0 = [] })).0) (slice_get_past d.aps k high)
 
 past_sta : (d : Domain) (k : ℕ) → length d.stas ≤ k → address d (Sta k) ≡ []
-past_sta d k high = ap (λ (o : Option Mac). (unwrap_or o (record { 0 = [] })).0) (slice_get_past d.stas k high)
+past_sta d k high = ap (λ (o : Option ListedSta). (unwrap_or (option_map (λ (s : ListedSta). s.address) o) (record { 0 = [] })).0) (slice_get_past d.stas k high)
 
 pub listed_by : (d : Domain) (n : Node) → 1 ≤ length (address d n) → IsListed d n
 listed_by d (Ap k) some = elim (cases_lt k (length d.aps)) [ inl low ↦ low | inr high ↦ absurd (omega (arith, some, ap length (past_ap d k high))) ]
@@ -89,24 +84,28 @@ crossed_by a b c e Greater Greater x y = inl (y, x)
 crossed : (a b c e : List ℕ) → lesser a b ≡ lesser c e → greater a b ≡ greater c e → Crossed a b c e
 crossed a b c e x y = crossed_by a b c e (slice_cmp nat_cmp a b) (slice_cmp nat_cmp c e) x y
 
--- the inputs as the derivation reads them: addresses and nonces without their roles, and with suite 4 the R0KH-ID
+-- the inputs as the derivation reads them: the pre-shared key, addresses and nonces without their roles, and with suite 4 the R0KH-ID
 pub record IsSameName (i k : Inputs) : Type 0 where
+  pub psk : i.psk ≡ k.psk
   pub holder : k.akm ≡ FtPsk → i.r0kh_id ≡ k.r0kh_id
   pub addresses : Crossed i.aa.0 i.spa.0 k.aa.0 k.spa.0
   pub nonces : Crossed i.anonce i.snonce k.anonce k.snonce
 
 same_by : (akm : Akm) (i k : Inputs) → k.akm ≡ akm → name_by akm i ≡ name_by akm k → IsSameName i k
 same_by Psk i k suite e = record {
+  psk = ap (λ (x : Name). x.psk) e;
   holder = λ mobile. absurd (cc (suite, mobile));
   addresses = crossed i.aa.0 i.spa.0 k.aa.0 k.spa.0 (ap (λ (x : Name). x.addresses.0) e) (ap (λ (x : Name). x.addresses.1) e);
   nonces = crossed i.anonce i.snonce k.anonce k.snonce (ap (λ (x : Name). x.nonces.0) e) (ap (λ (x : Name). x.nonces.1) e);
 }
 same_by PskSha256 i k suite e = record {
+  psk = ap (λ (x : Name). x.psk) e;
   holder = λ mobile. absurd (cc (suite, mobile));
   addresses = crossed i.aa.0 i.spa.0 k.aa.0 k.spa.0 (ap (λ (x : Name). x.addresses.0) e) (ap (λ (x : Name). x.addresses.1) e);
   nonces = crossed i.anonce i.snonce k.anonce k.snonce (ap (λ (x : Name). x.nonces.0) e) (ap (λ (x : Name). x.nonces.1) e);
 }
 same_by FtPsk i k suite e = record {
+  psk = ap (λ (x : Name). x.psk) e;
   holder = λ mobile. ap (λ (x : Name). x.r0kh_id) e;
   addresses = inl (ap (λ (x : Name). x.addresses.0) e, ap (λ (x : Name). x.addresses.1) e);
   nonces = inl (ap (λ (x : Name). x.nonces.0) e, ap (λ (x : Name). x.nonces.1) e);

@@ -21,7 +21,7 @@ use Rattle.journal_safety.proofs.Legal.{LegalPairwise, LegalGroup, LegalCurrent,
 use Rattle.journal_safety.proofs.Histories.{gtk_drew, gtks_tail}
 use Rattle.journal_safety.proofs.Places.{Good, good_tail, at_of, in_history, legal_at, earlier_tail, entry_in, DerivedAt, derived_at, has_derived}
 use Rattle.journal_safety.proofs.Pairwise.{installs, verified_wider, pairwise_once}
-use Rattle.journal_safety.proofs.GroupKeys.{group_station, group_drawn, group_once, current_once}
+use Rattle.journal_safety.proofs.GroupKeys.{group_station, group_drawn, group_once, current_once, installed_group}
 
 -- how an act installs a key
 pub data Installs (e : Act) (key : List ℕ) : Type 0 where
@@ -64,7 +64,7 @@ group_earlier d n p key id b past g there =
     let act : Act = Installed (One p) (Group key id b) in
     let w = at_of n act past there in
     let t = earlier_tail n act past w in
-    let old : LegalGroup n (history n w.earlier) p key = legal_at d n act past g.legal w in
+    let old : LegalGroup n (history n w.earlier) p key = installed_group d n p key id b (history n w.earlier) (legal_at d n act past g.legal w) in
     (gtks_tail key (history p w.earlier) (history p past) (history_tail p w.earlier past t) (group_drawn d n p key w.earlier (good_tail d w.earlier past t g) old), group_station n (history n w.earlier) p key old)
 
 current_drawn : (n : Node) (h : List Act) (key : List ℕ) → LegalCurrent n h key → In key (group_keys groups.Gtk h)
@@ -89,11 +89,11 @@ once_by d n e x key past g legal there (WithPeer p i is) (ForAll id b was) =
     clash d n o.p n o.i key past g o.derived o.is (current_earlier d n key id b past g (subst (λ (y : Act). In y (history n past)) was there)).0
 once_by d n e x key past g legal there (FromPeer p id b is) (WithPeer q k was) =
     let o = pairwise_earlier d n q key k past g (subst (λ (y : Act). In y (history n past)) was there) in
-    clash d n o.p p o.i key past g o.derived o.is (group_drawn d n p key past g (subst (λ (y : Act). Legal d n (history n past) y) is legal))
+    clash d n o.p p o.i key past g o.derived o.is (group_drawn d n p key past g (installed_group d n p key id b (history n past) (subst (λ (y : Act). Legal d n (history n past) y) is legal)))
 once_by d n e x key past g legal there (FromPeer p id b is) (FromPeer q id2 b2 was) =
     group_once d n p q key id2 b2 past g (subst (λ (y : Act). Legal d n (history n past) y) is legal) (subst (λ (y : Act). In y (history n past)) was there)
 once_by d n e x key past g legal there (FromPeer p id b is) (ForAll id2 b2 was) =
-    let l : LegalGroup n (history n past) p key = subst (λ (y : Act). Legal d n (history n past) y) is legal in
+    let l : LegalGroup n (history n past) p key = installed_group d n p key id b (history n past) (subst (λ (y : Act). Legal d n (history n past) y) is legal) in
     let role = (current_earlier d n key id2 b2 past g (subst (λ (y : Act). In y (history n past)) was there)).1 in
     let no_role : is_ap n ≡ false = group_station n (history n past) p key l in cc (role, no_role)
 once_by d n e x key past g legal there (ForAll id b is) (WithPeer q k was) =

@@ -1,7 +1,9 @@
 -- The group keys that a station takes from one access point go on in the order of drawing.
-use Rattle.std.proofs.Common.{ℕ, ◌≡◌, inl, inr, List, [], ◌∷◌, ◌++◌, Option, Some, None, refl, sym, ap, ◌∙◌, subst}
+use Rattle.std.proofs.Common.{ℕ, ◌≡◌, ◌⊎◌, ⊎_elim, inl, inr, Bool, true, false, cond, List, [], ◌∷◌, ◌++◌, Some, None, refl, sym, ap, ◌∙◌, subst}
 use Rattle.domain_base.specs.declared.names.Akm.TheVariants.{FtPsk}
-use Rattle.std.specs.Prelude.{option_map}
+use Rattle.std.specs.Prelude.{option_map, bytes_eq}
+use Rattle.std.proofs.lemmas.Bool.{cases_Bool}
+use Rattle.std.proofs.lemmas.Slice.Eq.{bytes_eq-Decides}
 use Rattle.domain_base.specs.declared.names.Mac.{Mac}
 use Rattle.domain_base.specs.declared.names.Node.{Node}
 use Rattle.domain_base.specs.declared.names.Peer.TheVariants.{One}
@@ -10,20 +12,22 @@ use Rattle.run_journal.specs.declared.domain.Domain.{Domain}
 use Rattle.run_journal.specs.declared.domain.Event.{Event}
 use Rattle.run_journal.specs.declared.acts.Key.TheVariants.{Group}
 use Rattle.run_journal.specs.declared.acts.Act.{Act}
-use Rattle.run_journal.specs.declared.acts.Act.TheVariants.{Installed}
+use Rattle.run_journal.specs.declared.acts.Act.TheVariants.{Installed, Resumed}
 use Rattle.run_journal.specs.declared.acts.Entry.{Entry}
-use Rattle.run_journal.specs.Acts.{GroupKey, given_from}
+use Rattle.run_journal.specs.Acts.{same, GroupKey}
 use Rattle.run_journal.specs.Questions.{history, group_keys}
 use Rattle.run_journal.specs.Premises.{In, Fresh, NoCollision, Unforged}
 use Rattle.domain_rules.specs.Network.{IsNamed}
 use Rattle.domain_rules.specs.Explained.{Explained}
 use Rattle.domain_rules.specs.HeldRight.{HeldRight}
 use Rattle.domain_rules.specs.InOctets.{InOctets}
-use Rattle.journal_safety.specs.NeverBack.{DrawnBefore, installed_from, NeverBack}
+use Rattle.journal_safety.specs.NeverBack.{DrawnBefore, key_from, GoesOn, GoesOnAt, NeverBack}
 use Rattle.journal_safety.proofs.Ends.{Tail, tail_refl, tail_in, history_tail}
-use Rattle.journal_safety.proofs.Legal.{LegalGroup, Legal}
+use Rattle.journal_safety.proofs.Legal.{LegalGroup, LegalNew, Legal, LegalHistory}
 use Rattle.journal_safety.proofs.Places.{Good, good_tail, in_history}
-use Rattle.journal_safety.proofs.Given.{given-is}
+use Rattle.domain_rules.proofs.Parts.{same-true}
+use Rattle.journal_safety.proofs.Runs.{legal_history}
+use Rattle.journal_safety.proofs.Given.{given_in}
 use Rattle.journal_safety.proofs.GroupKeys.{Later, never_back, group_once, keys_tail}
 use Rattle.journal_safety.proofs.AllParts.{good_run}
 
@@ -49,32 +53,80 @@ drawn_before n g1 g2 past w differ = (front.0, (w.second.0, (front.1, before nes
     before (inl is) = absurd (differ (cc is))
     before (inr t) = tail_in (g1 ∷ w.first.0) w.second.0 g1 t (inl refl)
 
--- the act installs that key
-record Installs (p : Node) (e : Act) (key : List ℕ) : Type 0 where
+-- the act takes that key
+data Takes (p : Node) (e : Act) (key : List ℕ) : Type 0 where
+  Installs : (id : ℕ) (b : Mac) → e ≡ Installed (One p) (Group key id b) → Takes p e key
+  Resumes : (id : ℕ) (b : Mac) → e ≡ Resumed p (Group key id b) → Takes p e key
+
+installs_by : (p q : Node) (g key : List ℕ) (id : ℕ) (b : Mac) (c : Bool) → same p q ≡ c → option_map (λ (x : GroupKey). x.key) (cond c (Some (record { key = g; id = id })) None) ≡ Some key → Takes p (Installed (One q) (Group g id b)) key
+installs_by p q g key id b true is s =
+    let one : g ≡ key = cc s in
+    Installs id b (ap (λ (n : Node). Installed (One n) (Group g id b)) (sym (same-true p q is)) ∙ ap (λ (k : List ℕ). Installed (One p) (Group k id b)) one)
+installs_by p q g key id b false is s = absurd (cc s)
+
+resumes_by : (p q : Node) (g key : List ℕ) (id : ℕ) (b : Mac) (c : Bool) → same p q ≡ c → option_map (λ (x : GroupKey). x.key) (cond c (Some (record { key = g; id = id })) None) ≡ Some key → Takes p (Resumed q (Group g id b)) key
+resumes_by p q g key id b true is s =
+    let one : g ≡ key = cc s in
+    Resumes id b (ap (λ (n : Node). Resumed n (Group g id b)) (sym (same-true p q is)) ∙ ap (λ (k : List ℕ). Resumed p (Group k id b)) one)
+resumes_by p q g key id b false is s = absurd (cc s)
+
+takes : (p : Node) (e : Act) (key : List ℕ) → key_from p e ≡ Some key → Takes p e key
+takes p (Installed (One q) (Group g id b)) key s = installs_by p q g key id b (same p q) refl s
+takes p (Resumed q (Group g id b)) key s = resumes_by p q g key id b (same p q) refl s
+takes p _ key s = absurd (cc s)
+
+-- what was resumed was installed before
+resumed_had : (d : Domain) (s p : Node) (g : List ℕ) (id : ℕ) (b : Mac) (h : List Act) → Legal d s h (Resumed p (Group g id b)) → (m : Mac) × In (Installed (One p) (Group g id m)) h
+resumed_had d s p g id b h legal = given_in p (record { key = g; id = id }) h legal.had
+
+resumed_group : (d : Domain) (s p : Node) (g : List ℕ) (id : ℕ) (b : Mac) (h : List Act) → Legal d s h (Resumed p (Group g id b)) → LegalGroup s h p g
+resumed_group d s p g id b h legal = legal.group
+
+-- a key that was taken from p, by its installation
+record WasInstalled (p : Node) (h : List Act) (key : List ℕ) : Type 0 where
   id : ℕ
   b : Mac
-  is : e ≡ Installed (One p) (Group key id b)
+  there : In (Installed (One p) (Group key id b)) h
 
-installs_by : (p : Node) (e : Act) (key : List ℕ) → (o : Option GroupKey) → given_from groups.Gtk p e ≡ o → option_map (λ (g : GroupKey). g.key) o ≡ Some key → Installs p e key
-installs_by p e key None is s = absurd (cc s)
-installs_by p e key (Some x) is s =
-    let w = given-is p e x is in
-    let one : x.key ≡ key = cc s in
-    record { id = x.id; b = w.0; is = w.1 ∙ ap (λ (k : List ℕ). Installed (One p) (Group k x.id w.0)) one }
+once_resumed : (d : Domain) (s p : Node) (g : List ℕ) (id : ℕ) (b : Mac) (h : List Act) → LegalHistory d s h → In (Resumed p (Group g id b)) h → WasInstalled p h g
+once_resumed d s p g id b [] legal there = absurd there
+once_resumed d s p g id b (e ∷ h) legal (inl here) =
+    let w = resumed_had d s p g id b h (subst (λ (y : Act). Legal d s h y) (sym here) legal.0) in
+    record { id = id; b = w.0; there = inr w.1 }
+once_resumed d s p g id b (e ∷ h) legal (inr later) =
+    let w = once_resumed d s p g id b h legal.1 later in
+    record { id = w.id; b = w.b; there = inr w.there }
 
-installs : (p : Node) (e : Act) (key : List ℕ) → installed_from p e ≡ Some key → Installs p e key
-installs p e key s = installs_by p e key (given_from groups.Gtk p e) refl s
+was_installed : (d : Domain) (s p : Node) (e : Act) (key : List ℕ) (h : List Act) → LegalHistory d s h → In e h → Takes p e key → WasInstalled p h key
+was_installed d s p e key h legal there (Installs id b is) = record { id = id; b = b; there = subst (λ (y : Act). In y h) is there }
+was_installed d s p e key h legal there (Resumes id b is) = once_resumed d s p key id b h legal (subst (λ (y : Act). In y h) is there)
 
-never_now : (d : Domain) (l : Entry) (past : List Entry) → Good d (l ∷ past) → (p : Node) (m : Entry) (new old : List ℕ) → In m past → m.node ≡ l.node → installed_from p l.act ≡ Some new → installed_from p m.act ≡ Some old → DrawnBefore old new (history p past)
+either_key : (old new : List ℕ) → (old ≡ new) ⊎ (old ≡ new → ⊥)
+either_key old new = elim (cases_Bool (bytes_eq old new)) [
+  | inl is ↦ inl ((bytes_eq-Decides old new).0 is)
+  | inr other ↦ inr (λ e. let is = (bytes_eq-Decides old new).1 e in cc (is, other))
+]
+
+never_by : (d : Domain) (s p : Node) (e : Act) (new old : List ℕ) (past : List Entry) → Good d past → Legal d s (history s past) e → WasInstalled p (history s past) old → Takes p e new → GoesOn e old new (history p past)
+never_by d s p e new old past good legal was (Installs id b is) =
+    let legal_new : LegalNew s (history s past) p new = subst (λ (y : Act). Legal d s (history s past) y) is legal in
+    subst (λ (y : Act). GoesOn y old new (history p past)) (sym is)
+    (drawn_before p old new past (never_back d p s old new was.id was.b past good legal_new.group was.there)
+    (λ same_key. group_once d s p p new was.id was.b past good legal_new (subst (λ (k : List ℕ). In (Installed (One p) (Group k was.id was.b)) (history s past)) same_key was.there)))
+never_by d s p e new old past good legal was (Resumes id b is) =
+    let group = resumed_group d s p new id b (history s past) (subst (λ (y : Act). Legal d s (history s past) y) is legal) in
+    subst (λ (y : Act). GoesOn y old new (history p past)) (sym is)
+    (⊎_elim
+    (λ alike. inl alike)
+    (λ differ. inr (drawn_before p old new past (never_back d p s old new was.id was.b past good group was.there) differ))
+    (either_key old new))
+
+never_now : (d : Domain) (l : Entry) (past : List Entry) → Good d (l ∷ past) → GoesOnAt l past
 never_now d l past g p m new old there at is was =
     let good = good_tail d past (l ∷ past) (inr (tail_refl past)) g in
-    let now = installs p l.act new is in
-    let then_ = installs p m.act old was in
-    let legal : LegalGroup l.node (history l.node past) p new = subst (λ (y : Act). Legal d l.node (history l.node past) y) now.is g.legal.0 in
     let here : In m.act (history l.node past) = subst (λ (x : Node). In m.act (history x past)) at (in_history m past there) in
-    let earlier : In (Installed (One p) (Group old then_.id then_.b)) (history l.node past) = subst (λ (y : Act). In y (history l.node past)) then_.is here in
-    drawn_before p old new past (never_back d p l.node old new then_.id then_.b past good legal earlier)
-    (λ same. group_once d l.node p p new then_.id then_.b past good legal (subst (λ (k : List ℕ). In (Installed (One p) (Group k then_.id then_.b)) (history l.node past)) same earlier))
+    never_by d l.node p l.act new old past good g.legal.0
+    (was_installed d l.node p m.act old (history l.node past) (legal_history d l.node past good.legal) here (takes p m.act old was)) (takes p l.act new is)
 
 never : (d : Domain) (past : List Entry) → Good d past → NeverBack past
 never d [] g = tt

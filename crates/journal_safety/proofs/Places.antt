@@ -12,7 +12,8 @@ use Rattle.run_journal.specs.declared.acts.Entry.{Entry}
 use Rattle.run_journal.specs.Acts.{same}
 use Rattle.run_journal.specs.Questions.{history}
 use Rattle.run_journal.specs.Premises.{In, drawn, Fresh, HasDerived, NoCollision, Unforged}
-use Rattle.domain_rules.specs.Network.{mac, is_ap, IsNamed, IsListed}
+use Rattle.domain_rules.specs.Network.{mac, is_ap, IsNamed}
+use Rattle.run_journal.specs.Events.{IsListed}
 use Rattle.domain_rules.proofs.Parts.{same-true, same-refl}
 use Rattle.journal_safety.proofs.Ends.{Tail, tail_rest, tail_trans, tail_in, tail_head}
 use Rattle.journal_safety.proofs.Legal.{nonce_of, own_address, peer_address, derives, AreCommon, LegalDerived, Legal}

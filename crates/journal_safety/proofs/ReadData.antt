@@ -1,9 +1,9 @@
 -- What the header of protected data says that was read, as far as a seal covers it; and of that which is sent.
 use Rattle.std.proofs.Common.{◌≡◌, ◌⊎◌, inl, inr, ℕ, zero, suc, ◌+◌, ◌*◌, ◌<◌, ◌≤◌, ◌/◌, ◌%◌, Bool, true, false, cond, List, [], ◌∷◌, ◌++◌, length, take, get_or, Option, Some, None, refl, sym, ap, subst, ◌∙◌, arith}
-use Rattle.std.specs.Prelude.{◌==◌, ◌&&◌, ◌||◌, not, slice_index, bit_and, bit_or, unwrap_or, if◌then◌else◌}
+use Rattle.std.specs.Prelude.{◌==◌, ◌||◌, not, slice_index, bit_and, bit_or, unwrap_or, if◌then◌else◌}
 use Rattle.std.specs.Int.{w16, to_le_bytes, bit_at}
 use Rattle.std.proofs.lemmas.Nat.{le_bytes_2}
-use Rattle.std.proofs.lemmas.Bool.{eqb-true, cases_lt}
+use Rattle.std.proofs.lemmas.Bool.{eqb-true, cases_lt, and_parts}
 use Rattle.std.proofs.lemmas.List.{get_or-take, get_or_append_left, length-take, length-append}
 use Rattle.domain_base.specs.Octets.{AreOctets}
 use Rattle.domain_base.specs.Places.{little_endian_at}
@@ -84,10 +84,6 @@ first_plain a n e v t s = omega (arith, e, v, t, s)
 bit_low : (n i : ℕ) → bit_at n i < 2
 bit_low n i = omega arith
 
-both : (b c : Bool) → (b && c) ≡ true → (b ≡ true) × (c ≡ true)
-both true c s = (refl, s)
-both false c s = absurd (cc s)
-
 -- the subtype is that of data or of QoS data
 subtype_by : (b c : Bool) → (b || c) ≡ true → c ≡ false → b ≡ true
 subtype_by true c s f = refl
@@ -133,7 +129,7 @@ header_by octets down size true qos is small data_ f =
     let long : length (take size octets) ≡ 26 = omega (arith, length-take size octets, is, data_.frame.long, ap {B = ℕ} (λ (b : Bool). cond b 26 24) qos) in
     let at : (i : ℕ) → i < 26 → get_or (take size octets) i 0 ≡ get_or octets i 0 = λ i low. get_or-take size octets i 0 (omega (arith, low, is)) in
     let c : IsControl octets = control_is octets (omega (arith, data_.frame.long)) (first_two octets size small (omega (arith, is))) in
-    let w = both (frame_type octets == 2) (frame_subtype octets == 0 || frame_subtype octets == 8) data_.frame.kind in
+    let w = and_parts (frame_type octets == 2) (frame_subtype octets == 0 || frame_subtype octets == 8) data_.frame.kind in
     let first : get_or octets 0 0 ≡ 0x88 = first_qos (get_or octets 0 0) (frame_control octets) c.first data_.frame.version (eqb-true (frame_type octets) 2 w.0) (eqb-true (frame_subtype octets) 8 qos) in
     record {
       is = record {
@@ -148,7 +144,7 @@ header_by octets down size false qos is small data_ f =
     let long : length (take size octets) ≡ 24 = omega (arith, length-take size octets, is, data_.frame.long, ap {B = ℕ} (λ (b : Bool). cond b 26 24) qos) in
     let at : (i : ℕ) → i < 24 → get_or (take size octets) i 0 ≡ get_or octets i 0 = λ i low. get_or-take size octets i 0 (omega (arith, low, is)) in
     let c : IsControl octets = control_is octets (omega (arith, data_.frame.long)) (first_two octets size small (omega (arith, is))) in
-    let w = both (frame_type octets == 2) (frame_subtype octets == 0 || frame_subtype octets == 8) data_.frame.kind in
+    let w = and_parts (frame_type octets == 2) (frame_subtype octets == 0 || frame_subtype octets == 8) data_.frame.kind in
     let first : get_or octets 0 0 ≡ 0x08 = first_plain (get_or octets 0 0) (frame_control octets) c.first data_.frame.version (eqb-true (frame_type octets) 2 w.0) (eqb-true (frame_subtype octets) 0 (subtype_by (frame_subtype octets == 0) (frame_subtype octets == 8) w.1 qos)) in
     record {
       is = record {

@@ -36,9 +36,10 @@ use Rattle.run_journal.specs.declared.acts.Key.TheVariants.{Pairwise, Group}
 use Rattle.run_journal.specs.declared.acts.Act.{Act}
 use Rattle.run_journal.specs.declared.acts.Act.TheVariants.{Opened, Closed, Drew, Derived, Took, Installed, Finished, Put, Looked, Idle, Resumed}
 use Rattle.run_journal.specs.Acts.{Derivation, GroupKey, opens, ends, same, derived, key_drawn, switched}
-use Rattle.run_journal.specs.Questions.{attempt, own_nonce, derivation, session, pending, associated, add, chain, since, before_sent, handshake, or_else}
+use Rattle.run_journal.specs.Questions.{attempt, own_nonce, derivation, session, pending, associated, add, chain, since, before_sent, handshake, given, or_else}
 use Rattle.run_journal.specs.Premises.{In}
-use Rattle.domain_rules.specs.Network.{mac, peer_of, is_ap, nonce, r0kh_id, root_by, root_at, inputs, IsListed}
+use Rattle.domain_rules.specs.Network.{mac, peer_of, is_ap, nonce, r0kh_id, root_by, inputs_at}
+use Rattle.run_journal.specs.Events.{IsListed}
 use Rattle.domain_rules.specs.KeyHolders.{put_acts_by, put_acts}
 use Rattle.domain_rules.specs.Reading.{KeyMessage, Reading, Managed, Keyed, HasMessage, Reads, kind_of}
 use Rattle.domain_rules.specs.Frames.{sent_assoc_req, sent_assoc_resp, sent_refusal, sent_m1, sent_m2, sent_m3, sent_m4, frame_seal, keyed_by, sent_g2}
@@ -60,6 +61,7 @@ use Rattle.domain_rules.specs.Here.{here}
 use Rattle.domain_rules.proofs.Derivations.{derivation_in, m4_derivation}
 use Rattle.domain_rules.proofs.Parts.{attempt_more, in_part, own_nonce_more, same-refl, since_part, attempt_none, add_append}
 use Rattle.run_journal.specs.GroupKinds as groups
+use Rattle.journal_safety.proofs.Given.{front_in, kept_by}
 use Rattle.journal_safety.proofs.Covers.{Covers, took_covers}
 use Rattle.journal_safety.proofs.Legal.{ack, Of_key, Of_key_data, LegalLook, nonce_of, own_address, peer_address, derives, Alive, AreCommon, LegalDerived, Verified, gives, LegalPairwise, LegalGroup, Legal, LegalHistory, verified_more, Built, HasDrawn, SendsM3, Uninstalled, GivesKey, In_m3, In_g1, Given, Above, By_m3, By_g1, Chain}
 use Rattle.journal_safety.proofs.Histories.{nonce_in, nonce_size, derived_key, keyed_as, own_of_part, Newest, newest_is, legal_in}
@@ -265,37 +267,32 @@ verified_now d n p h octets kd o i k there a = record {
 
 -- ---- M1 and M2: a key is derived
 
-pub inputs_own : (d : Domain) (id : List ℕ) (n p : Node) (v other : List ℕ) → nonce_of n (inputs d (root_at d id) n p v other) ≡ v
+pub inputs_own : (d : Domain) (id : List ℕ) (n p : Node) (v other : List ℕ) → nonce_of n (inputs_at d n p id v other) ≡ v
 inputs_own d id (Ap k) p v other = refl
 inputs_own d id (Sta k) p v other = refl
 
-pub inputs_address : (d : Domain) (id : List ℕ) (n p : Node) (v other : List ℕ) → own_address n (inputs d (root_at d id) n p v other) ≡ mac d n
+pub inputs_address : (d : Domain) (id : List ℕ) (n p : Node) (v other : List ℕ) → own_address n (inputs_at d n p id v other) ≡ mac d n
 inputs_address d id (Ap k) p v other = refl
 inputs_address d id (Sta k) p v other = refl
 
-pub inputs_peer : (d : Domain) (id : List ℕ) (n p : Node) (v other : List ℕ) → peer_address n (inputs d (root_at d id) n p v other) ≡ mac d p
+pub inputs_peer : (d : Domain) (id : List ℕ) (n p : Node) (v other : List ℕ) → peer_address n (inputs_at d n p id v other) ≡ mac d p
 inputs_peer d id (Ap k) p v other = refl
 inputs_peer d id (Sta k) p v other = refl
 
 -- the root by the suite
-root_psk : (akm : Akm) (d : Domain) (id : List ℕ) → (root_by akm d id).psk ≡ d.psk
-root_psk Psk d id = refl
-root_psk PskSha256 d id = refl
-root_psk FtPsk d id = refl
+root_mdid : (akm : Akm) (d : Domain) (p : Node) (id : List ℕ) (s : Node) → (root_by akm d p id).mdid ≡ (root_by akm d s (root_by akm d p id).r0kh_id).mdid
+root_mdid Psk d p id s = refl
+root_mdid PskSha256 d p id s = refl
+root_mdid FtPsk d p id s = refl
 
-root_mdid : (akm : Akm) (d : Domain) (id : List ℕ) → (root_by akm d id).mdid ≡ (root_by akm d (root_by akm d id).r0kh_id).mdid
-root_mdid Psk d id = refl
-root_mdid PskSha256 d id = refl
-root_mdid FtPsk d id = refl
+root_holder : (akm : Akm) (d : Domain) (p : Node) (id : List ℕ) (s : Node) → (root_by akm d p id).r0kh_id ≡ (root_by akm d s (root_by akm d p id).r0kh_id).r0kh_id
+root_holder Psk d p id s = refl
+root_holder PskSha256 d p id s = refl
+root_holder FtPsk d p id s = refl
 
-root_holder : (akm : Akm) (d : Domain) (id : List ℕ) → (root_by akm d id).r0kh_id ≡ (root_by akm d (root_by akm d id).r0kh_id).r0kh_id
-root_holder Psk d id = refl
-root_holder PskSha256 d id = refl
-root_holder FtPsk d id = refl
-
-pub inputs_common : (d : Domain) (id : List ℕ) (n p : Node) (v other : List ℕ) → AreCommon d (inputs d (root_at d id) n p v other)
-inputs_common d id (Ap k) p v other = record { akm = refl; psk = root_psk d.akm d id; ssid = refl; mdid = root_mdid d.akm d id; r0kh_id = root_holder d.akm d id }
-inputs_common d id (Sta k) p v other = record { akm = refl; psk = root_psk d.akm d id; ssid = refl; mdid = root_mdid d.akm d id; r0kh_id = root_holder d.akm d id }
+pub inputs_common : (d : Domain) (id : List ℕ) (n p : Node) (v other : List ℕ) → AreCommon d (inputs_at d n p id v other)
+inputs_common d id (Ap k) p v other = record { akm = refl; ssid = refl; mdid = root_mdid d.akm d p id; r0kh_id = root_holder d.akm d p id }
+inputs_common d id (Sta k) p v other = record { akm = refl; ssid = refl; mdid = root_mdid d.akm d (Sta k) id; r0kh_id = root_holder d.akm d (Sta k) id }
 
 -- a node and its peer, of two kinds, are listed
 pub record Both (d : Domain) (n p : Node) : Type 0 where
@@ -313,12 +310,12 @@ pub alive_more : (n p : Node) (h : List Act) (i : Inputs) (e : Act) → opens p 
 alive_more n p h i e o goes a = record { part = e ∷ a.part; awaited = attempt_more p e h a.part o goes a.awaited; own = own_nonce_more e a.part (nonce_of n i) a.own }
 
 legal_derived : (d : Domain) (id : List ℕ) (n p : Node) (h part : List Act) (from : Option Node) (octets : List ℕ) (kd : Kind) (o : Outcome) (seal : Option Seal) (v other : List ℕ) → Both d n p → attempt p h ≡ Some part → own_nonce part ≡ Some v → (is_ap n ≡ true → before_sent p (kind.Key M3) (Took from octets kd o seal ∷ h) ≡ None)
-    → LegalDerived d n (Took from octets kd o seal ∷ h) p (inputs d (root_at d id) n p v other) (ptk (inputs d (root_at d id) n p v other))
+    → LegalDerived d n (Took from octets kd o seal ∷ h) p (inputs_at d n p id v other) (ptk (inputs_at d n p id v other))
 legal_derived d id n p h part from octets kd o seal v other t a is free = record {
   roles = t.roles;
   listed = t.listed;
   peer_listed = t.peer_listed;
-  alive = alive_took n p h part (inputs d (root_at d id) n p v other) from octets kd o seal a (is ∙ ap Some (sym (inputs_own d id n p v other)));
+  alive = alive_took n p h part (inputs_at d n p id v other) from octets kd o seal a (is ∙ ap Some (sym (inputs_own d id n p v other)));
   address = inputs_address d id n p v other;
   peer = inputs_peer d id n p v other;
   common = inputs_common d id n p v other;
@@ -330,14 +327,14 @@ legal_derived d id n p h part from octets kd o seal v other t a is free = record
 pub record Own (d : Domain) (id : List ℕ) (n p : Node) (h part : List Act) (i : Inputs) (other : List ℕ) : Type 0 where
   pub v : List ℕ
   pub drawn : own_nonce part ≡ Some v
-  pub is : i ≡ inputs d (root_at d id) n p v other
+  pub is : i ≡ inputs_at d n p id v other
   pub size : length (nonce_of n i) ≡ 32
 
-pub own_inputs : (d : Domain) (id : List ℕ) (n p : Node) (h part : List Act) (i : Inputs) (other : List ℕ) → LegalHistory d n h → Settled d n h → attempt p h ≡ Some part → i ≡ inputs d (root_at d id) n p (own part) other → Own d id n p h part i other
+pub own_inputs : (d : Domain) (id : List ℕ) (n p : Node) (h part : List Act) (i : Inputs) (other : List ℕ) → LegalHistory d n h → Settled d n h → attempt p h ≡ Some part → i ≡ inputs_at d n p id (own part) other → Own d id n p h part i other
 own_inputs d id n p h part i other legal s a e =
     let w = s.nonced p part a in
     let v_is : own part ≡ w.0 = ap (λ (o : Option (List ℕ)). unwrap_or o []) w.1 in
-    let is : i ≡ inputs d (root_at d id) n p w.0 other = e ∙ ap (λ (x : List ℕ). inputs d (root_at d id) n p x other) v_is in
+    let is : i ≡ inputs_at d n p id w.0 other = e ∙ ap (λ (x : List ℕ). inputs_at d n p id x other) v_is in
     let size : length w.0 ≡ 32 = nonce_size d n w.0 h legal (in_part p h part (Drew (Nonce w.0)) a (nonce_in part w.0 w.1)) in
     record { v = w.0; drawn = w.1; is = is; size = ap (λ (x : Inputs). length (nonce_of n x)) is ∙ ap length (inputs_own d id n p w.0 other) ∙ size }
 
@@ -502,9 +499,9 @@ pub derivation_of : (p : Node) (h part : List Act) (x : Derivation) → attempt 
 derivation_of p h part x a s = derivation_since p h x (subst (λ (y : List Act). derivation p y ≡ Some x) (sym (since_part p h part a)) s)
 
 -- the group key that came in M3 is installed for the first time in the attempt
-m3_gift : (d : Domain) (n p : Node) (h part : List Act) (octets : List ℕ) (k : KeyMessage) (i : Inputs) (plain : List ℕ) (e : ElementFields) → Gift n k M3 i plain e → Arrived d n p h octets k Accepted → Ready d n p h part i → Settled d n h → find_key (carried (Some e)).key (memory groups.Gtk p h) ≡ None
+m3_gift : (d : Domain) (n p : Node) (h part : List Act) (octets : List ℕ) (k : KeyMessage) (i : Inputs) (plain : List ℕ) (e : ElementFields) → Gift n k M3 i plain e → Arrived d n p h octets k Accepted → Ready d n p h part i → Settled d n h
     → LegalGroup n (installs p i ∷ takes p octets M3 Accepted i k ∷ h) p (carried (Some e)).key
-m3_gift d n p h part octets k i plain e w a r s new =
+m3_gift d n p h part octets k i plain e w a r s =
     let took : Act = takes p octets M3 Accepted i k in
     By_m3 (record {
       station = w.role;
@@ -516,13 +513,22 @@ m3_gift d n p h part octets k i plain e w a r s new =
         own = own_nonce_more (installs p i) (took ∷ part) (nonce_of n i) (own_nonce_more took part (nonce_of n i) r.own);
       };
       first = λ key id b there. no_group_later p part [] (installs p i) took key id b (s.bare p part r.awaited) (λ is. cc is) (λ is. cc is) there;
-      new = new;
     })
+
+-- a key is given: it is installed where it is not remembered, else resumed
+pub legal_gift : (d : Domain) (n p : Node) (h m : List Act) (b : Mac) (key : GroupKey) → LegalGroup n m p key.key → memory groups.Gtk p m ≡ memory groups.Gtk p h → (o : Option GroupKey) → find_key key.key (memory groups.Gtk p h) ≡ o → Legal d n m (give_by groups.Gtk p b key o)
+legal_gift d n p h m b key group kept_is None is = record { group = group; new = ap (find_key key.key) kept_is ∙ is }
+legal_gift d n p h m b key group kept_is (Some kept) is =
+    let w = kept_by key.key (memory groups.Gtk p h) kept is in
+    record {
+      group = subst (λ (x : List ℕ). LegalGroup n m p x) w.1 group;
+      had = front_in 2 (given groups.Gtk p m) kept (subst (λ (x : List GroupKey). In kept x) (sym kept_is) w.0);
+    }
 
 legal_give : (d : Domain) (n p : Node) (h part : List Act) (octets : List ℕ) (k : KeyMessage) (i : Inputs) (plain : List ℕ) (e : ElementFields) → Gift n k M3 i plain e → Arrived d n p h octets k Accepted → Ready d n p h part i → Settled d n h → (o : Option GroupKey) → find_key (carried (Some e)).key (memory groups.Gtk p h) ≡ o
     → Legal d n (installs p i ∷ takes p octets M3 Accepted i k ∷ h) (give_by groups.Gtk p (mac d p) (carried (Some e)) o)
-legal_give d n p h part octets k i plain e w a r s None is = m3_gift d n p h part octets k i plain e w a r s is
-legal_give d n p h part octets k i plain e w a r s (Some kept) is = tt
+legal_give d n p h part octets k i plain e w a r s o is =
+    legal_gift d n p h (installs p i ∷ takes p octets M3 Accepted i k ∷ h) (mac d p) (carried (Some e)) (m3_gift d n p h part octets k i plain e w a r s) refl o is
 
 -- what is installed since the last Opened before M3 is finished is this gift alone
 pub gave_by : (p : Node) (h part : List Act) (gift x y : Act) (g : List ℕ) (key : List ℕ) (id : ℕ) (b : Mac) → IsGift p gift g → Uninstalled p part → since p h ≡ part → opens p x ≡ false → opens p y ≡ false → (Installed (One p) (Group key id b) ≡ x → ⊥) → (Installed (One p) (Group key id b) ≡ y → ⊥)
@@ -699,9 +705,9 @@ m4_fine d first n h octets r facts g reads legal s row =
 -- ---- G1 and G2
 
 g1_gift : (d : Domain) (n p : Node) (h : List Act) (octets : List ℕ) (k : KeyMessage) (i : Inputs) (plain : List ℕ) (e : ElementFields) → Gift n k G1 i plain e → Arrived d n p h octets k Accepted → In (derives p i) h → session p h ≡ Some (keyed_by i) → Above p k.fields.counter (since p h)
-    → find_key (carried (Some e)).key (memory groups.Gtk p h) ≡ None → LegalGroup n (takes p octets G1 Accepted i k ∷ h) p (carried (Some e)).key
+    → LegalGroup n (takes p octets G1 Accepted i k ∷ h) p (carried (Some e)).key
 unfolding gift_given
-g1_gift d n p h octets k i plain e w a there awaited above new =
+g1_gift d n p h octets k i plain e w a there awaited above =
     let took : Act = takes p octets G1 Accepted i k in
     let given : Given n (took ∷ h) p i (carried (Some e)).key = gift_given d n p h (took ∷ h) octets k G1 i plain e w (In_g1 refl) refl a (inr there) (inl refl) in
     By_g1 (record {
@@ -718,7 +724,6 @@ g1_gift d n p h octets k i plain e w a there awaited above new =
       is = refl;
       awaited = awaited;
       above = subst (λ (c : ℕ). Above p c (since p h)) (sym a.covers.counter) above;
-      new = new;
     })
 
 -- the key is installed or resumed, and G2 is sent
@@ -730,12 +735,13 @@ g1_core d n p h octets k i plain e w a legal s awaited there above None is =
     let gift : Act = Installed (One p) (Group (carried (Some e)).key (carried (Some e)).id (mac d p)) in
     let none : attempt p (took ∷ h) ≡ None = attempt_none p took h refl (single d n p h (keyed_by i) w.role legal awaited) in
     fine_quiet d n h took _ tt refl s (λ t.
-    fine_cons d n (took ∷ h) gift _ (g1_gift d n p h octets k i plain e w a there awaited above is)
+    fine_cons d n (took ∷ h) gift _ (legal_gift d n p h (took ∷ h) (mac d p) (carried (Some e)) (g1_gift d n p h octets k i plain e w a there awaited above) refl None is)
     (fine_quiet d n (gift ∷ took ∷ h) (sent_g2 d n p (keyed_by i) k.fields.counter) [] (legal_g2 d n p (gift ∷ took ∷ h) i k.fields.counter w.role (inr (inr there))) refl
     (settled_given d n p (carried (Some e)).key (carried (Some e)).id (mac d p) (took ∷ h) none t) (fine_none d n _)))
 g1_core d n p h octets k i plain e w a legal s awaited there above (Some kept) is =
     fine_quiet d n h (takes p octets G1 Accepted i k) _ tt refl s (λ t.
-    fine_quiet d n _ (Resumed p (Group kept.key kept.id (mac d p))) _ tt refl t (λ u.
+    fine_quiet d n _ (Resumed p (Group kept.key kept.id (mac d p))) _
+    (legal_gift d n p h (takes p octets G1 Accepted i k ∷ h) (mac d p) (carried (Some e)) (g1_gift d n p h octets k i plain e w a there awaited above) refl (Some kept) is) refl t (λ u.
     fine_quiet d n _ (sent_g2 d n p (keyed_by i) k.fields.counter) [] (legal_g2 d n p _ i k.fields.counter w.role (inr (inr there))) refl u (fine_none d n _)))
 
 abbrev g1_acts : Domain → Node → Node → List Act → List ℕ → KeyMessage → Derivation → Option ElementFields → List Act

@@ -1,5 +1,5 @@
 -- The rows of protected data add chains of legal acts.
-use Rattle.std.proofs.Common.{ℕ, zero, suc, ◌≡◌, ◌+◌, ◌^◌, ◌<◌, ◌≤◌, inl, inr, Bool, true, false, cond, List, [], ◌∷◌, ◌++◌, length, take, drop, Option, Some, None, refl, sym, ap, ◌∙◌, subst, arith}
+use Rattle.std.proofs.Common.{ℕ, suc, ◌≡◌, ◌+◌, ◌^◌, ◌<◌, ◌≤◌, inl, inr, Bool, true, false, cond, List, [], ◌∷◌, ◌++◌, length, take, drop, Option, Some, None, refl, sym, ap, ◌∙◌, subst, arith}
 use Rattle.std.specs.Prelude.{not, ◌||◌, ◌==◌, nat_lt, slice_index, unwrap_or, if◌then◌else◌}
 use Rattle.std.proofs.lemmas.Bool.{ltb-true}
 use Rattle.std.proofs.lemmas.List.{length-take, length-drop, get_or-append-add}
@@ -48,7 +48,7 @@ use Rattle.domain_rules.proofs.Noted.{data_opened}
 use Rattle.domain_rules.proofs.Peers.{IsPeer, peer_is}
 use Rattle.journal_safety.proofs.CoversData.{IsDataHeader, CoversData, covered_tid, data_covers, data_covers_own}
 use Rattle.journal_safety.proofs.ReadData.{is_down, DataHeader, header_read, header_sent}
-use Rattle.journal_safety.proofs.Given.{given_in}
+use Rattle.journal_safety.proofs.Given.{given_in, front_in}
 use Rattle.journal_safety.proofs.Legal.{IsReceiver, LegalKind, LegalUsed, With_ccm, OpensUnder, With_session, With_group, LegalUp, Legal, LegalHistory}
 use Rattle.journal_safety.proofs.Settled.{Settled, Fine, fine_none, fine_quiet}
 use Rattle.journal_safety.proofs.Sessions.{session_key}
@@ -64,14 +64,6 @@ find_in : (id : ℕ) (xs : List GroupKey) (g : GroupKey) → find_id id xs ≡ S
 find_in id [] g is = absurd (cc is)
 find_in id (x ∷ xs) g is = find_by id x xs g (find_in id xs g) (id == x.id) is
 
-front_in : (n : ℕ) (xs : List GroupKey) (g : GroupKey) → In g (take n xs) → In g xs
-front_in zero [] g there = absurd there
-front_in (suc n) [] g there = absurd there
-front_in zero (x ∷ xs) g there = absurd there
-front_in (suc n) (x ∷ xs) g (inl here) = inl here
-front_in (suc n) (x ∷ xs) g (inr later) = inr (front_in n xs g later)
-
--- a group key that is remembered
 opens_group : (d : Domain) (n p : Node) (h : List Act) (id tid number : ℕ) (k : OpenKey) (covered : List ℕ) → is_ap n ≡ false → (o : Option GroupKey) → find_id id (memory groups.Gtk p h) ≡ o → group_open_key_by p h o ≡ Some k → k.kept < number → OpensUnder d n h p k.key k.id k.tid number covered
 opens_group d n p h id tid number k covered station None found is above = absurd (cc is)
 opens_group d n p h id tid number k covered station (Some g) found is above =

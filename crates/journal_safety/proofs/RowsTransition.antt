@@ -39,7 +39,8 @@ use Rattle.run_journal.specs.Questions.{or_else, attempt, since, own_nonce, deri
 use Rattle.run_journal.specs.Holders.{Stored, stored, first_stored, since_finished, last_r0kh_id}
 use Rattle.run_journal.specs.Premises.{In}
 use Rattle.run_journal.specs.GroupKinds as groups
-use Rattle.domain_rules.specs.Network.{mac, address, is_ap, root_at, root_by, Root, inputs, IsListed}
+use Rattle.domain_rules.specs.Network.{mac, psk_of, station_of, address, is_ap, root_at, root_by, Root, inputs, inputs_at}
+use Rattle.run_journal.specs.Events.{IsListed}
 use Rattle.domain_rules.specs.Reading.{Management, Reading, Reads}
 use Rattle.domain_rules.specs.Facts.{Facts}
 use Rattle.domain_rules.specs.Asking.{by_connect, own}
@@ -64,7 +65,7 @@ use Rattle.journal_safety.proofs.Histories.{LegalIn, legal_in, opens-is, keyed_a
 use Rattle.journal_safety.proofs.Settled.{Settled, SettledBut, settled_quiet, but_of, but_more, settled_finished, Fine, fine_none, fine_cons, fine_quiet, fine_append, fine_opened}
 use Rattle.journal_safety.proofs.SentLegal.{Moved, legal_re_req, legal_re_resp, sta_nonce, ap_nonce}
 use Rattle.journal_safety.proofs.Transitions.{Came, came, Held, moving, look_in, found-is, request_suite, named_holder, response_taken, req_taken, same_nonces, keying_moves, re_resp_taken}
-use Rattle.journal_safety.proofs.Rows.{fine_attempt, fine_pending, fine_associated, left_pending, not_station, size_nonce, RightActs, refused_fine, assoc_req_fine, assoc_resp_fine, m1_fine, m2_fine, m3_fine, repeated_m3_fine, m4_fine, g1_fine, g2_fine, ignored_fine, Both, inputs_own, inputs_address, inputs_peer, inputs_common, alive_took, alive_more, own_inputs, derived_by, installs, Ready, ready_of, pairwise_now, no_session, IsGift, is_gift, no_group, derivation_of, m4_core}
+use Rattle.journal_safety.proofs.Rows.{legal_gift, fine_attempt, fine_pending, fine_associated, left_pending, not_station, size_nonce, RightActs, refused_fine, assoc_req_fine, assoc_resp_fine, m1_fine, m2_fine, m3_fine, repeated_m3_fine, m4_fine, g1_fine, g2_fine, ignored_fine, Both, inputs_own, inputs_address, inputs_peer, inputs_common, alive_took, alive_more, own_inputs, derived_by, installs, Ready, ready_of, pairwise_now, no_session, IsGift, is_gift, no_group, derivation_of, m4_core}
 use Rattle.journal_safety.proofs.RowsData.{data_fine}
 
 -- ---- with which suite a fast transition is begun
@@ -86,14 +87,14 @@ mobile_suite : (d : Domain) (n p : Node) (h part : List Act) → LegalHistory d 
 mobile_suite d n p [] part legal a moves = cc a
 mobile_suite d n p (e ∷ h) part legal a moves = moved_by d n p e h part legal.0 (λ old was. mobile_suite d n p h old legal.1 was) (grows p e h part a) moves
 
-root_mobile : (akm : Akm) (d : Domain) (id : List ℕ) → akm ≡ FtPsk → (root_by akm d id).r0kh_id ≡ id
-root_mobile FtPsk d id is = refl
-root_mobile Psk d id is = absurd (cc is)
-root_mobile PskSha256 d id is = absurd (cc is)
+root_mobile : (akm : Akm) (d : Domain) (s : Node) (id : List ℕ) → akm ≡ FtPsk → (root_by akm d s id).r0kh_id ≡ id
+root_mobile FtPsk d s id is = refl
+root_mobile Psk d s id is = absurd (cc is)
+root_mobile PskSha256 d s id is = absurd (cc is)
 
-inputs_holder : (d : Domain) (id : List ℕ) (n p : Node) (v other : List ℕ) → d.akm ≡ FtPsk → (inputs d (root_at d id) n p v other).r0kh_id ≡ id
-inputs_holder d id (Ap k) p v other is = root_mobile d.akm d id is
-inputs_holder d id (Sta k) p v other is = root_mobile d.akm d id is
+inputs_holder : (d : Domain) (id : List ℕ) (n p : Node) (v other : List ℕ) → d.akm ≡ FtPsk → (inputs_at d n p id v other).r0kh_id ≡ id
+inputs_holder d id (Ap k) p v other is = root_mobile d.akm d p id is
+inputs_holder d id (Sta k) p v other is = root_mobile d.akm d (Sta k) id is
 
 both_of : (d : Domain) (first : ℕ) (n p : Node) (h : List Act) (b : Management) (e : ElementFields) (o : Outcome) → Came d first n p h b e o → Both d n p
 both_of d first n p h b e o c = record { roles = c.roles; listed = c.listed; peer_listed = c.peer_listed }
@@ -111,27 +112,27 @@ roam_fine d first n h p g role s (Asks suite q some other few is) =
     let a = fine_pending d n h (pending h) s in
     let stays : associated (add (close_pending (pending h)) h) ≡ Some q = left_pending h (pending h) ∙ some in
     subst (λ (x : List Act). Fine d n h x) (sym is)
-    (fine_append d n h (close_pending (pending h)) (Opened p Roam ∷ Drew (Nonce (next_nonce d first n h)) ∷ sent_ft_req d n p (root_at d (last_r0kh_id h)) (next_nonce d first n h) ∷ []) a
+    (fine_append d n h (close_pending (pending h)) (Opened p Roam ∷ Drew (Nonce (next_nonce d first n h)) ∷ sent_ft_req d n p (root_at d n (last_r0kh_id h)) (next_nonce d first n h) ∷ []) a
     (fine_opened d n _ p Roam (next_nonce d first n h) _ (record { none = λ connects. cc connects; alone = λ station. ((λ with_p. same-false p q other (sym (cc (stays, with_p)))), role); mobile = λ roams. suite }) (size_nonce d n _) a.settled
-    (λ t. fine_quiet d n _ (sent_ft_req d n p (root_at d (last_r0kh_id h)) (next_nonce d first n h)) [] (tt, tt) refl t (fine_none d n _))))
+    (λ t. fine_quiet d n _ (sent_ft_req d n p (root_at d n (last_r0kh_id h)) (next_nonce d first n h)) [] (tt, tt) refl t (fine_none d n _))))
 
 -- ---- authentication request
 
 -- the key that a key holder gave is that of the inputs
-found_key : (d : Domain) (id : List ℕ) (a : ℕ) (p : Node) (v other : List ℕ) (k : PmkR1) → d.akm ≡ FtPsk → k ≡ pmk_r1 (pmk_r0 d.psk d.ssid d.mdid id (mac d p)) (mac d (Ap a)) (mac d p)
-    → ft_ptk k other v (mac d (Ap a)) (mac d p) ≡ ptk (inputs d (root_at d id) (Ap a) p v other)
+found_key : (d : Domain) (id : List ℕ) (a : ℕ) (p : Node) (v other : List ℕ) (k : PmkR1) → d.akm ≡ FtPsk → k ≡ pmk_r1 (pmk_r0 (psk_of d p) d.ssid d.mdid id (mac d p)) (mac d (Ap a)) (mac d p)
+    → ft_ptk k other v (mac d (Ap a)) (mac d p) ≡ ptk (inputs_at d (Ap a) p id v other)
 unfolding ptk
 found_key d id a p v other k suite is = ap (λ (x : PmkR1). ft_ptk x other v (mac d (Ap a)) (mac d p)) is ∙ by d.akm suite
   where
-    by : (akm : Akm) → akm ≡ FtPsk → ft_ptk (pmk_r1 (pmk_r0 d.psk d.ssid d.mdid id (mac d p)) (mac d (Ap a)) (mac d p)) other v (mac d (Ap a)) (mac d p)
-        ≡ ptk_by akm (record { akm = akm; psk = (root_by akm d id).psk; ssid = d.ssid; mdid = (root_by akm d id).mdid; r0kh_id = (root_by akm d id).r0kh_id; aa = mac d (Ap a); spa = mac d p; anonce = v; snonce = other })
+    by : (akm : Akm) → akm ≡ FtPsk → ft_ptk (pmk_r1 (pmk_r0 (psk_of d p) d.ssid d.mdid id (mac d p)) (mac d (Ap a)) (mac d p)) other v (mac d (Ap a)) (mac d p)
+        ≡ ptk_by akm (record { akm = akm; psk = (root_by akm d p id).psk; ssid = d.ssid; mdid = (root_by akm d p id).mdid; r0kh_id = (root_by akm d p id).r0kh_id; aa = mac d (Ap a); spa = mac d p; anonce = v; snonce = other })
     by FtPsk w = refl
     by Psk w = absurd (cc w)
     by PskSha256 w = absurd (cc w)
 
-key_found : (d : Domain) (id : List ℕ) (a : ℕ) (n p : Node) (v other : List ℕ) (k : PmkR1) (i : Inputs) → n ≡ Ap a → d.akm ≡ FtPsk → LegalLook d n id p (Found k) → i ≡ inputs d (root_at d id) n p v other → (derived_from k i).ptk ≡ ptk i
+key_found : (d : Domain) (id : List ℕ) (a : ℕ) (n p : Node) (v other : List ℕ) (k : PmkR1) (i : Inputs) → n ≡ Ap a → d.akm ≡ FtPsk → LegalLook d n id p (Found k) → i ≡ inputs_at d n p id v other → (derived_from k i).ptk ≡ ptk i
 key_found d id a n p v other k i at suite right is =
-    let there : i ≡ inputs d (root_at d id) (Ap a) p v other = is ∙ ap (λ (x : Node). inputs d (root_at d id) x p v other) at in
+    let there : i ≡ inputs_at d (Ap a) p id v other = is ∙ ap (λ (x : Node). inputs_at d x p id v other) at in
     let given_ : LegalLook d (Ap a) id p (Found k) = subst (λ (x : Node). LegalLook d x id p (Found k)) at right in
     subst (λ (x : Inputs). (derived_from k x).ptk ≡ ptk x) (sym there) (found_key d id a p v other k suite (given_ suite))
 
@@ -309,7 +310,7 @@ ft_resp_fine d first n h octets r facts g reads legal s row =
       own = address_six d n o c.listed;
       theirs = address_six d p o c.peer_listed;
       mdid = o.mdid;
-      anonce = ap length (ap (λ (x : Inputs). x.anonce) row.inputs_are ∙ inputs_other d (root_at d id) n p (own row.part) row.f.anonce t.station) ∙ (fte_nonces raw.0 row.f raw.1).0;
+      anonce = ap length (ap (λ (x : Inputs). x.anonce) row.inputs_are ∙ inputs_other d (root_at d (station_of n p) id) n p (own row.part) row.f.anonce t.station) ∙ (fte_nonces raw.0 row.f raw.1).0;
       snonce = ap length (sta_nonce n i t.station) ∙ w.size;
       some = subst (λ (x : List ℕ). 1 ≤ length x) (sym id_is) holder.0;
       few = subst (λ (x : List ℕ). length x ≤ 48) (sym id_is) holder.1;
@@ -451,16 +452,14 @@ response_given n p more octets i input key c there took =
     }
 
 response_gift : (d : Domain) (n p : Node) (h m : List Act) (octets : List ℕ) (i : Inputs) (input : List ℕ) (key : GroupKey) → is_ap n ≡ false → Ahead d n p h octets i input m → Carried i (2 ∷ input) key.key → (o : Option GroupKey) → find_key key.key (memory groups.Gtk p h) ≡ o → Legal d n (installs p i ∷ m) (give_by groups.Gtk p (mac d p) key o)
-response_gift d n p h m octets i input key station w c (Some kept) is = tt
-response_gift d n p h m octets i input key station w c None is =
-    By_m3 (record {
+response_gift d n p h m octets i input key station w c o is =
+    legal_gift d n p h (installs p i ∷ m) (mac d p) key (By_m3 (record {
       station = station;
       i = i;
       given = response_given n p (installs p i ∷ m) octets i input key.key c (inr w.there) (inr (subst (λ (x : List Act). In (took_response p octets i input) x) (sym (since_part p m w.part w.awaited)) w.took));
       alive = record { part = installs p i ∷ w.part; awaited = attempt_more p (installs p i) m w.part refl refl w.awaited; own = own_nonce_more (installs p i) w.part (nonce_of n i) w.own };
       first = λ g id b there. first_of g id b there;
-      new = ap (find_key key.key) w.kept ∙ is;
-    })
+    })) w.kept o is
   where
     first_of : (g : List ℕ) (id : ℕ) (b : Mac) → In (Installed (One p) (Group g id b)) (installs p i ∷ w.part) → ⊥
     first_of g id b (inl here) = cc here

@@ -1,12 +1,11 @@
 -- The journal of a run: each act of each node was legal when it was added.
 use Rattle.std.specs.List.{AllByRecursion}
-use Rattle.std.proofs.lemmas.List.{append_assoc}
 use Rattle.key_hierarchy.specs.declared.answers.PullAnswer.{PullAnswer}
 use Rattle.key_hierarchy.specs.declared.answers.PullAnswer.TheVariants.{Found, NoHolder, Absent}
 use Rattle.run_journal.specs.declared.acts.Act.TheVariants.{Looked}
-use Rattle.domain_rules.specs.HeldRight.{GivesRightKey, looking, HeldRight}
+use Rattle.domain_rules.specs.HeldRight.{GivesRightKey, looking, AllHeld, HeldRight}
 use Rattle.journal_safety.proofs.Legal.{LegalLook}
-use Rattle.std.proofs.Common.{ℕ, zero, suc, ◌≡◌, ◌≤◌, inl, inr, Bool, true, false, cond, List, [], ◌∷◌, ◌++◌, length, refl, sym, ap, subst, arith}
+use Rattle.std.proofs.Common.{ℕ, zero, suc, ◌≡◌, ◌≤◌, inl, inr, Bool, true, false, cond, List, [], ◌∷◌, length, refl, sym, ap, subst, arith}
 use Rattle.std.proofs.lemmas.Bool.{cases_lt}
 use Rattle.domain_base.specs.declared.names.Akm.TheVariants.{FtPsk}
 use Rattle.domain_base.specs.declared.names.Node.{Node}
@@ -19,10 +18,11 @@ use Rattle.run_journal.specs.declared.acts.Entry.{Entry}
 use Rattle.run_journal.specs.Acts.{same}
 use Rattle.run_journal.specs.Questions.{history, add}
 use Rattle.run_journal.specs.Premises.{In}
-use Rattle.domain_rules.specs.Network.{gtk, is_ap, IsListed}
+use Rattle.domain_rules.specs.Network.{gtk, is_ap}
+use Rattle.run_journal.specs.Events.{IsListed}
 use Rattle.domain_rules.specs.AccessPointRows.{start_acts}
-use Rattle.domain_rules.specs.Rounds.{by_nodes}
-use Rattle.domain_rules.specs.Explained.{Place, AddsAll, number_of, push, Step, Follows, started, Explained}
+use Rattle.domain_rules.specs.Rounds.{Place, in_order}
+use Rattle.domain_rules.specs.Explained.{AddsAll, number_of, push, Follows, started, Explained}
 use Rattle.domain_rules.proofs.Parts.{same-true, same-refl}
 use Rattle.domain_rules.proofs.Journals.{history-started_sta, history-not_started, history-started}
 use Rattle.domain_rules.proofs.KeyOctets.{octets-kdf}
@@ -104,9 +104,8 @@ right_places : (d : Domain) (r : ℕ) (places : List Place) (old new : List Entr
 right_places d r [] old new is w = subst (λ (x : List Entry). RightJournal d x) is w
 right_places d r (p ∷ places) old new (acts, (adds, rest)) w = (right_push d r p.node acts old (right_places d r places (push r p.node acts old) new rest w)).1
 
-right_events : (d : Domain) (r : ℕ) (events : List Event) (old new : List Entry) → Follows d r events old new → RightJournal d new → RightJournal d old
-right_events d r [] old new is w = subst (λ (x : List Entry). RightJournal d x) is w
-right_events d r (event ∷ events) old new (mid, (step, rest)) w = right_places d r step.places old mid step.adds (right_events d r events mid new rest w)
+right_follows : (d : Domain) (r : ℕ) (events : List Event) (old new : List Entry) → Follows d r events old new → RightJournal d new → RightJournal d old
+right_follows d r events old new f w = right_places d r (in_order f.places) old new f.adds w
 
 right_act : (d : Domain) (e : Entry) (a : Act) → e.act ≡ a → ((id name : List ℕ) (p : Node) (answer : PullAnswer) → e.act ≡ Looked id name p answer → d.akm ≡ FtPsk → GivesRightKey d id (looking e name p) answer) → RightAct d e.node a
 right_act d e (Looked id name p answer) is gives = right_by answer (gives id name p answer is)
@@ -117,15 +116,16 @@ right_act d e (Looked id name p answer) is gives = right_by answer (gives id nam
     right_by Absent w = λ suite. tt
 right_act d e _ is gives = tt
 
-right_from : (d : Domain) (later past : List Entry) → (d.akm ≡ FtPsk → HeldRight d (later ++ past)) → RightJournal d past
-right_from d later [] held = tt
-right_from d later (e ∷ past) held = (
-  right_act d e e.act refl (λ id name p answer is suite. (held suite later past e id name p answer refl is).1),
-  right_from d (later ++ e ∷ []) past (λ suite. subst (λ (x : List Entry). HeldRight d x) (sym (append_assoc later (e ∷ []) past)) (held suite)),
+right_all : (d : Domain) (j end : List Entry) → (d.akm ≡ FtPsk → AllHeld d j end) → RightJournal d end
+unfolding AllHeld
+right_all d j [] held = tt
+right_all d j (e ∷ past) held = (
+  right_act d e e.act refl (λ id name p answer is suite. ((held suite).0 id name p answer is).1),
+  right_all d j past (λ suite. (held suite).1),
 )
 
 pub held_right : (d : Domain) (j : List Entry) → (d.akm ≡ FtPsk → HeldRight d j) → RightJournal d j
-held_right d j held = right_from d [] j held
+held_right d j held = right_all d j j held
 
 -- each node in turn
 all_sound : (d : Domain) (r : ℕ) (places : List Place) (old new : List Entry) → RightJournal d new → AddsAll d r places old new → Sound d r old → Sound d r new
@@ -136,13 +136,8 @@ all_sound d r (p ∷ places) old new right (acts, (adds, rest)) s =
     let next : Sound d r (push r p.node acts old) = push_sound d r p.node acts old (record { legal = s.legal; until = s.until; chain = fine.chain; own = fine.settled; others = λ m is. s.settled m }) in
     all_sound d r places (push r p.node acts old) new right rest next
 
-step_sound : (d : Domain) (r : ℕ) (event : Event) (old new : List Entry) → RightJournal d new → Step d r event old new → Sound d r old → Sound d r new
-step_sound d r event old new right step s = all_sound d r step.places old new right step.adds s
-
 follows_sound : (d : Domain) (r : ℕ) (events : List Event) (old new : List Entry) → RightJournal d new → Follows d r events old new → Sound d r old → Sound d r new
-follows_sound d r [] old new right is s = subst (λ (x : List Entry). Sound d r x) (sym is) s
-follows_sound d r (event ∷ events) old new right (mid, (step, rest)) s =
-    follows_sound d r events mid new right rest (step_sound d r event old mid (right_events d r events mid new rest right) step s)
+follows_sound d r events old new right f s = all_sound d r (in_order f.places) old new right f.adds s
 
 -- ---- the start
 
@@ -191,7 +186,7 @@ run_by : (d : Domain) (rounds : List (List Event)) (j : List Entry) → Ground d
 unfolding Explained
 run_by d [] j ground right is = subst (λ (x : List Entry). Sound d 0 x) (sym is) (sound_start d ground)
 run_by d (round ∷ rounds) j ground right (old, (earlier, follows)) =
-    follows_sound d (suc (length rounds)) (by_nodes round) old j right follows (later_round d (length rounds) old (run_by d rounds old ground (right_events d (suc (length rounds)) (by_nodes round) old j follows right) earlier))
+    follows_sound d (suc (length rounds)) round old j right follows (later_round d (length rounds) old (run_by d rounds old ground (right_follows d (suc (length rounds)) round old j follows right) earlier))
 
 pub run_sound : (d : Domain) (rounds : List (List Event)) (j : List Entry) → Ground d → (d.akm ≡ FtPsk → HeldRight d j) → Explained d rounds j → Sound d (length rounds) j
 run_sound d rounds j ground held run = run_by d rounds j ground (held_right d j held) run

@@ -30,10 +30,10 @@ use Rattle.journal_safety.proofs.Places.{Good, good_tail, At, at_of, not_itself,
 -- ---- the same inputs
 
 -- the R0KH-ID is that of the name with suite 4, and else empty
-no_holder : (akm : Akm) (d : Domain) (id : List ℕ) → (akm ≡ FtPsk → ⊥) → (root_by akm d id).r0kh_id ≡ []
-no_holder Psk d id other = refl
-no_holder PskSha256 d id other = refl
-no_holder FtPsk d id other = absurd (other refl)
+no_holder : (akm : Akm) (d : Domain) (s : Node) (id : List ℕ) → (akm ≡ FtPsk → ⊥) → (root_by akm d s id).r0kh_id ≡ []
+no_holder Psk d s id other = refl
+no_holder PskSha256 d s id other = refl
+no_holder FtPsk d s id other = absurd (other refl)
 
 is_mobile : (akm : Akm) → (akm ≡ FtPsk) ⊎ (akm ≡ FtPsk → ⊥)
 is_mobile FtPsk = inl refl
@@ -44,15 +44,15 @@ same_holder : (d : Domain) (i k : Inputs) → AreCommon d i → AreCommon d k �
 same_holder d i k c e holder =
     ⊎_elim
     (λ mobile. holder (e.akm ∙ mobile))
-    (λ other. c.r0kh_id ∙ no_holder d.akm d i.r0kh_id other ∙ sym (e.r0kh_id ∙ no_holder d.akm d k.r0kh_id other))
+    (λ other. c.r0kh_id (Sta 0) ∙ no_holder d.akm d (Sta 0) i.r0kh_id other ∙ sym (e.r0kh_id (Sta 0) ∙ no_holder d.akm d (Sta 0) k.r0kh_id other))
     (is_mobile d.akm)
 
-common_by : (d : Domain) (i k : Inputs) → AreCommon d i → AreCommon d k → i.r0kh_id ≡ k.r0kh_id → i.aa.0 ≡ k.aa.0 → i.spa.0 ≡ k.spa.0 → i.anonce ≡ k.anonce → i.snonce ≡ k.snonce → i ≡ k
-common_by d i k c e holder aa spa anonce snonce = λ j. record {
+common_by : (d : Domain) (i k : Inputs) → AreCommon d i → AreCommon d k → i.psk ≡ k.psk → i.r0kh_id ≡ k.r0kh_id → i.aa.0 ≡ k.aa.0 → i.spa.0 ≡ k.spa.0 → i.anonce ≡ k.anonce → i.snonce ≡ k.snonce → i ≡ k
+common_by d i k c e psk holder aa spa anonce snonce = λ j. record {
   akm = (c.akm ∙ sym e.akm) j;
-  psk = (c.psk ∙ sym e.psk) j;
+  psk = psk j;
   ssid = (c.ssid ∙ sym e.ssid) j;
-  mdid = (c.mdid ∙ ap (λ (id : List ℕ). (root_at d id).mdid) holder ∙ sym e.mdid) j;
+  mdid = (c.mdid (Sta 0) ∙ ap (λ (id : List ℕ). (root_at d (Sta 0) id).mdid) holder ∙ sym (e.mdid (Sta 0))) j;
   r0kh_id = holder j;
   aa = record { 0 = aa j };
   spa = record { 0 = spa j };
@@ -61,7 +61,7 @@ common_by d i k c e holder aa spa anonce snonce = λ j. record {
 }
 
 pub common_path : (d : Domain) (i k : Inputs) → AreCommon d i → AreCommon d k → IsSameName i k → i.aa.0 ≡ k.aa.0 → i.spa.0 ≡ k.spa.0 → i.anonce ≡ k.anonce → i.snonce ≡ k.snonce → i ≡ k
-common_path d i k c e s aa spa anonce snonce = common_by d i k c e (same_holder d i k c e s.holder) aa spa anonce snonce
+common_path d i k c e s aa spa anonce snonce = common_by d i k c e s.psk (same_holder d i k c e s.holder) aa spa anonce snonce
 
 pub named : (d : Domain) (i k : Inputs) → AreCommon d i → AreCommon d k → name i ≡ name k → IsSameName i k
 named d i k c e is = same_name i k (c.akm ∙ sym e.akm) is

@@ -29,7 +29,8 @@ use Rattle.rsn_elements.specs.Elements.{ElementFields, SpellsElements}
 use Rattle.rsn_elements.specs.Sent.{rsne_octets, mde_octets, fte_octets, gtk_kde_octets}
 use Rattle.rsn_elements.specs.Pieces.{FitsFte}
 use Rattle.run_journal.specs.declared.acts.Kind.{Kind}
-use Rattle.domain_rules.specs.Network.{address, is_ap, IsListed}
+use Rattle.domain_rules.specs.Network.{address, is_ap}
+use Rattle.run_journal.specs.Events.{IsListed}
 use Rattle.domain_rules.specs.StationRows.{carried}
 use Rattle.domain_rules.specs.FastTransition.{r1_name, assoc_fte, fte_seal}
 use Rattle.domain_rules.specs.TransitionFrames.{counted_fte, re_req_input, sent_re_req, sent_gtk, re_resp_fte, re_resp_input, sent_re_resp}

@@ -25,7 +25,7 @@ use Rattle.run_journal.specs.declared.acts.Start.{Start}
 use Rattle.run_journal.specs.declared.acts.Start.TheVariants.{Connect, Roam}
 use Rattle.domain_rules.specs.Asking.{by_connect}
 use Rattle.domain_rules.proofs.Parts.{same-true, same-refl, Grows, Begins, Goes_on, grows, since_part, by_connect_more, attempt_some, own_nonce_more}
-use Rattle.journal_safety.proofs.Legal.{nonce_of, derives, LegalDerived, Verified, Sends, LegalKind, Given, By_m3, By_g1, LegalGroup, LegalFinished, LegalOpened, Legal, LegalHistory, verified_more}
+use Rattle.journal_safety.proofs.Legal.{nonce_of, derives, LegalDerived, Verified, Sends, LegalKind, Given, By_m3, By_g1, LegalGroup, LegalNew, LegalFinished, LegalOpened, Legal, LegalHistory, verified_more}
 use Rattle.journal_safety.proofs.Histories.{legal_in, opens-is, session_in, derived_key}
 
 -- ---- what an act is by the tests on it
@@ -228,10 +228,13 @@ given_now d n p h x g station legal s (By_g1 v) =
     let one : keyed_by v.i ≡ x = cc (same_session, s) in
     subst (λ (y : Derivation). Given n h p y.inputs g) one v.given
 
+new_group : (n : Node) (h : List Act) (p : Node) (g : List ℕ) → LegalNew n h p g → LegalGroup n h p g
+new_group n h p g legal = legal.group
+
 given_on : (d : Domain) (n p : Node) (e : Act) (h : List Act) (x : Derivation) (g : List ℕ) (id : ℕ) (b : Mac) → is_ap n ≡ false → LegalHistory d n (e ∷ h) → opens p e ≡ false → (session p h ≡ Some x → In (Installed (One p) (Group g id b)) (since p h) → Given n h p x.inputs g)
     → (c : Bool) → finishes p e ≡ c → cond c (derivation p h) (cond (closes p e) None (session p h)) ≡ Some x → (Installed (One p) (Group g id b) ≡ e) ⊎ In (Installed (One p) (Group g id b)) (since p h) → Given n (e ∷ h) p x.inputs g
 given_on d n p e h x g id b station legal o more false is s (inl here) =
-    given_more n p h e x.inputs g o (given_now d n p h x g station legal.1 (session_older p h x (closes p e) s) (subst (λ (y : Act). Legal d n h y) (sym here) legal.0))
+    given_more n p h e x.inputs g o (given_now d n p h x g station legal.1 (session_older p h x (closes p e) s) (new_group n h p g (subst (λ (y : Act). Legal d n h y) (sym here) legal.0)))
 given_on d n p e h x g id b station legal o more false is s (inr later) = given_more n p h e x.inputs g o (more (session_older p h x (closes p e) s) later)
 given_on d n p e h x g id b station legal o more true is s (inl here) = let w : e ≡ Finished p x.inputs = finished_of d n p e h x legal.0 is s in absurd (cc (here ∙ w))
 given_on d n p e h x g id b station legal o more true is s (inr later) =

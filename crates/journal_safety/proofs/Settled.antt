@@ -19,7 +19,8 @@ use Rattle.run_journal.specs.declared.acts.Act.TheVariants.{Opened, Drew, Instal
 use Rattle.run_journal.specs.Acts.{same, is_same_attempt, opens, ends, key_drawn, switched}
 use Rattle.run_journal.specs.Questions.{attempt, own_nonce, listed, group_keys, switches, add}
 use Rattle.domain_base.specs.declared.names.Akm.TheVariants.{FtPsk}
-use Rattle.domain_rules.specs.Network.{is_ap, IsNamed, IsListed}
+use Rattle.domain_rules.specs.Network.{is_ap, IsNamed}
+use Rattle.run_journal.specs.Events.{IsListed}
 use Rattle.domain_rules.specs.InOctets.{InOctets}
 use Rattle.domain_rules.proofs.Parts.{same-true, same-refl, Grows, Begins, Goes_on, grows, attempt_ends, own_nonce_more, add_append}
 use Rattle.journal_safety.proofs.Legal.{gives, Uninstalled, HasDrawn, LegalOpened, Legal, Chain}

@@ -35,7 +35,8 @@ built_after_the_nonce d n s i g past good station v =
     let w = verified_by d n s i b.lines (good_tail d b.lines past inside good) b.verified in
     (b.lines, (inside, (b.newest, draws_wider s (nonce_of s i) w.earlier b.lines (sealed_tail d n s i b.verified.covered b.lines w) w.facts.draw)))
 
--- The group keys that a station accepts from one access point never go back in the order of drawing, over all its associations.
+-- The group keys that a station accepts from one access point, to install or to resume them, never go back in the order of drawing, over all
+-- its associations.
 pub never_back_in_drawing : (d : Domain) (n s : Node) (g1 g2 : List ℕ) (id : ℕ) (m : Mac) (past : List Entry) → Good d past → LegalGroup s (history s past) n g2 → In (Installed (One n) (Group g1 id m)) (history s past) → Later n g1 g2 past
 never_back_in_drawing = never_back
 

@@ -1,5 +1,6 @@
 -- What an accepted or answered frame of a fast transition tells of the node, its peer and the history.
 use Rattle.std.proofs.Common.{ℕ, ◌≡◌, ◌+◌, ◌≤◌, inl, inr, Bool, true, false, cond, List, [], ◌∷◌, length, take, drop, Option, Some, None, is_some, refl, sym, ap, ◌∙◌, subst, arith}
+use Rattle.std.proofs.lemmas.Bool.{and_parts}
 use Rattle.std.specs.Prelude.{not, ◌&&◌, ◌||◌, ◌==◌, bytes_eq, option_and_then, option_map, if◌then◌else◌}
 use Rattle.std.proofs.lemmas.List.{length-take, length-drop}
 use Rattle.std.proofs.lemmas.Slice.Eq.{bytes_eq-Decides}
@@ -28,7 +29,8 @@ use Rattle.run_journal.specs.Acts.{same, opens, Derivation}
 use Rattle.run_journal.specs.Questions.{or_else, attempt, derivation, draws}
 use Rattle.run_journal.specs.Holders.{Look, looked, last_look, look, found_in, last_r0kh_id}
 use Rattle.run_journal.specs.Premises.{In}
-use Rattle.domain_rules.specs.Network.{address, peer_of, is_ap, IsListed}
+use Rattle.domain_rules.specs.Network.{address, peer_of, is_ap}
+use Rattle.run_journal.specs.Events.{IsListed}
 use Rattle.domain_rules.specs.Reading.{Management, Reading, Managed, Reads, management_of}
 use Rattle.domain_rules.specs.Facts.{Facts, is_same}
 use Rattle.mac_prf.specs.Cmac.{cmac}
@@ -41,7 +43,7 @@ use Rattle.domain_rules.specs.StationKeys.{taken_in}
 use Rattle.domain_rules.specs.Verdict.{is_mine, management_sender, first_verdict, unless_refused, management_further, verdict, KnowsManaged, Knows}
 use Rattle.domain_rules.specs.Closing.{sender}
 use Rattle.domain_rules.proofs.Deciding.{IsTaken, never, taken_behind, taken_passed, taken_attempt, taken_status}
-use Rattle.domain_rules.proofs.OneOutcome.{FrameAwaited, Is_assoc_req, Is_assoc_resp, Is_ft_req, Is_ft_resp, Is_re_req, Is_re_resp, frame_kind, frame_accepted, resp_accepted, both_true}
+use Rattle.domain_rules.proofs.OneOutcome.{FrameAwaited, Is_assoc_req, Is_assoc_resp, Is_ft_req, Is_ft_resp, Is_re_req, Is_re_resp, frame_kind, frame_accepted, resp_accepted}
 use Rattle.domain_rules.proofs.SomeGroup.{opened_names}
 use Rattle.domain_rules.proofs.Parts.{same-true}
 use Rattle.domain_rules.proofs.Derivations.{made_is}
@@ -189,7 +191,7 @@ request_suite d first n p h b e o taken k c = go (frame_kind d (first + draws h)
 -- ---- authentication response
 
 names_by : (r1kh r0kh : List ℕ) (f : FteFields) → names_both r1kh r0kh (Some f) ≡ true → f.r0kh_id ≡ Some r0kh
-names_by r1kh r0kh f is = go f.r0kh_id (both_true (is_same f.r1kh_id (Some r1kh)) (is_same f.r0kh_id (Some r0kh)) is).1
+names_by r1kh r0kh f is = go f.r0kh_id (and_parts (is_same f.r1kh_id (Some r1kh)) (is_same f.r0kh_id (Some r0kh)) is).1
   where
     go : (o : Option (List ℕ)) → is_same o (Some r0kh) ≡ true → o ≡ Some r0kh
     go None w = absurd (cc w)
@@ -325,7 +327,7 @@ req_taken d first (Sta s) p h b e facts y k c accepted awaited =
 
 pub same_nonces : (f : FteFields) (x : Derivation) → has_nonces f x ≡ true → (f.anonce ≡ x.inputs.anonce) × (f.snonce ≡ x.inputs.snonce)
 same_nonces f x is =
-    let w = both_true (bytes_eq f.anonce x.inputs.anonce) (bytes_eq f.snonce x.inputs.snonce) is in
+    let w = and_parts (bytes_eq f.anonce x.inputs.anonce) (bytes_eq f.snonce x.inputs.snonce) is in
     ((bytes_eq-Decides f.anonce x.inputs.anonce).0 w.0, (bytes_eq-Decides f.snonce x.inputs.snonce).0 w.1)
 
 -- ---- reassociation response
@@ -358,7 +360,7 @@ pub record ReRespTaken (d : Domain) (n p : Node) (h : List Act) (b : Management)
 
 carried_gtk : (o : Option WrappedGtkFields) → is_wrapped_gtk o ≡ true → (g : WrappedGtkFields) × ((o ≡ Some g) × ((length g.wrapped == 24) ≡ true))
 carried_gtk None is = absurd (cc is)
-carried_gtk (Some g) is = (g, (refl, (both_true (g.key_length == 16) (length g.wrapped == 24) (both_true ((g.key_length == 16) && (length g.wrapped == 24)) (not (gtk_id g == 0)) is).0).1))
+carried_gtk (Some g) is = (g, (refl, (and_parts (g.key_length == 16) (length g.wrapped == 24) (and_parts ((g.key_length == 16) && (length g.wrapped == 24)) (not (gtk_id g == 0)) is).0).1))
 
 unwrap_gtk : (o : Option FteFields) (f : FteFields) (g : WrappedGtkFields) → o ≡ Some f → f.gtk ≡ Some g → (length g.wrapped == 24) ≡ true → to_unwrap o ≡ Some g.wrapped
 unwrap_gtk o f g is gtk size = rw (is, gtk, size) refl

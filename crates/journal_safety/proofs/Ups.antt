@@ -1,7 +1,7 @@
 -- What a node hands up its peer used, and it hands it up once.
 use Rattle.std.proofs.Common.{ℕ, ◌≡◌, ◌<◌, ◌≤◌, ◌⊎◌, inl, inr, Bool, true, false, cond, List, [], ◌∷◌, Some, None, refl, sym, ap, ◌∙◌, subst, arith}
 use Rattle.std.specs.Prelude.{not, ◌&&◌, ◌==◌, max, bytes_eq}
-use Rattle.std.proofs.lemmas.Bool.{eq-eqb}
+use Rattle.std.proofs.lemmas.Bool.{eq-eqb, and_parts}
 use Rattle.std.proofs.lemmas.Slice.Eq.{bytes_eq-Decides}
 use Rattle.domain_base.specs.declared.names.Mac.{Mac}
 use Rattle.domain_base.specs.declared.names.Node.{Node}
@@ -147,12 +147,12 @@ sender_is d n p m covered key number plain past z g t c whole of l = go l.peer r
         let names = named d i u.i ours.common theirs.common (g.apart.by_tk i u.i (ptk i) (ptk u.i) (has_derived d n p i past ours) (has_derived d m q u.i past theirs) (sym is ∙ u.is)) in
         let inputs = inputs_whole d n p i ours.address ours.peer mine whole in
         let crossed = crossed_whole i.aa.0 i.spa.0 u.i.aa.0 u.i.spa.0 names.addresses inputs.0 inputs.1 in
-        let both = whole_inputs d m q u.i theirs.address theirs.peer crossed.0 crossed.1 in
-        let receives : IsReceiver d l.peer = subst (IsReceiver d) (sym one) both.1 in
-        let k = l.covers both.0 receives in
+        let and_parts = whole_inputs d m q u.i theirs.address theirs.peer crossed.0 crossed.1 in
+        let receives : IsReceiver d l.peer = subst (IsReceiver d) (sym one) and_parts.1 in
+        let k = l.covers and_parts.0 receives in
         let roles : is_ap m ≡ not (is_ap n) = sym k.way ∙ c.way in
         let one_pair = match_names d n m p q i u.i past g.names g.fresh roles ours theirs names in
-        made (sym one_pair.peer) both.0 receives
+        made (sym one_pair.peer) and_parts.0 receives
 
     -- under a group key
     drawn : (q : Peer) → LegalUsedAll (history m top.at.earlier) key l.number → In key (group_keys groups.Gtk (history m past))
@@ -292,10 +292,6 @@ had_up d n p key id tid number plain past g there =
     let y = up_installed d n p key id tid number l.covered w.earlier (good_tail d w.earlier past t g) l.under in
     (y.0, (tail_in (history n w.earlier) (history n past) y.0 (history_tail n w.earlier past t) y.1.0, y.1.1))
 
-both : (b c : Bool) → (b && c) ≡ true → (b ≡ true) × (c ≡ true)
-both true c s = (refl, s)
-both false c s = absurd (cc s)
-
 -- pairwise keys
 pairwise_keeps : (p : Node) (key : List ℕ) (tid : ℕ) (e : Act) (before : ℕ) → (Installs e key → ⊥) → before ≤ pairwise_got_by p key tid e before
 pairwise_keeps p key tid (Installed (One q) (Pairwise k i)) before none = go (same p q && bytes_eq key k) refl
@@ -303,7 +299,7 @@ pairwise_keeps p key tid (Installed (One q) (Pairwise k i)) before none = go (sa
     go : (b : Bool) → (same p q && bytes_eq key k) ≡ b → before ≤ cond b 0 before
     go false is = omega arith
     go true is =
-        let w = both (same p q) (bytes_eq key k) is in
+        let w = and_parts (same p q) (bytes_eq key k) is in
         let one : key ≡ k = (bytes_eq-Decides key k).0 w.1 in
         absurd (none (WithPeer q i (ap (λ (x : List ℕ). Installed (One q) (Pairwise x i)) (sym one))))
 pairwise_keeps p key tid (HandedUp q k i t number plain) before none = go (is_key p key 0 q k i && (tid == t))
@@ -343,8 +339,8 @@ group_keeps p key id (Installed (One q) (Group k i b)) heard before none = go (i
     go : (c : Bool) → is_key p key id q k i ≡ c → before ≤ cond c heard before
     go false is = omega arith
     go true is =
-        let w = both (same p q && bytes_eq key k) (id == i) is in
-        let one : key ≡ k = (bytes_eq-Decides key k).0 (both (same p q) (bytes_eq key k) w.0).1 in
+        let w = and_parts (same p q && bytes_eq key k) (id == i) is in
+        let one : key ≡ k = (bytes_eq-Decides key k).0 (and_parts (same p q) (bytes_eq key k) w.0).1 in
         absurd (none (FromPeer q i b (ap (λ (x : List ℕ). Installed (One q) (Group x i b)) (sym one))))
 group_keeps p key id (Resumed q (Group k i b)) heard before none = go (is_key p key id q k i)
   where
@@ -415,7 +411,7 @@ ups_view : (e : Act) (u : Use) → up_of e ≡ Some u → Ups e u.key u.number u
 ups_view (HandedUp p key id tid number plain) u is = let w : record { key = key; number = number; octets = plain } ≡ u = cc is in From p id tid (ap (λ (x : Use). HandedUp p x.key id tid x.number x.octets) w)
 ups_view _ u is = cc
 
--- by the kinds of the keys of both
+-- by the kinds of the keys of and_parts
 clash_by : (d : Domain) (n p q : Node) (key : List ℕ) (id id2 tid tid2 number : ℕ) (plain other : List ℕ) (past past2 : List Entry) → Good d past → Tail past2 past → (l : LegalUp d n (history n past) p key id tid number plain) → (m : LegalUp d n (history n past2) q key id2 tid2 number other) → In (HandedUp q key id2 tid2 number other) (history n past)
     → OpensUnder d n (history n past) p key id tid number l.covered → OpensUnder d n (history n past2) q key id2 tid2 number m.covered → ⊥
 clash_by d n p q key id id2 tid tid2 number plain other past past2 g t l m there (With_session i s is zero_id tid_is mine above) (With_session k s2 is2 zero_id2 tid_is2 mine2 above2) =

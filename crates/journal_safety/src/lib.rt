@@ -40,9 +40,9 @@ pub fn installs_once()
         → Explained d rounds j → Fresh j → NoCollision j → Unforged j → InstalledOnce j }
 {}
 
-/// The group keys that a station takes from one access point never go back in the order of drawing,
-/// over all its associations and whatever is repeated or comes late. So it is enough that it
-/// remembers the last of them.
+/// The group keys that a station takes from one access point, installed or resumed, never go back
+/// in the order of drawing, over all its associations and whatever is repeated or comes late. So it
+/// is enough that it remembers the last of them.
 pub fn keys_never_go_back()
     ensures { (d : Domain) (rounds : List (List Event)) (j : List Entry)
         → (d.akm ≡ FtPsk → InOctets d) → (d.akm ≡ FtPsk → HeldRight d j)

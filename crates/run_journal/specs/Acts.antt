@@ -19,7 +19,7 @@ use Rattle.run_journal.specs.declared.acts.Outcome.TheVariants.{Accepted, Answer
 use Rattle.run_journal.specs.declared.acts.Key.{Key}
 use Rattle.run_journal.specs.declared.acts.Key.TheVariants.{Pairwise, Group}
 use Rattle.run_journal.specs.declared.acts.Act.{Act}
-use Rattle.run_journal.specs.declared.acts.Act.TheVariants.{Opened, Closed, Drew, Derived, Sent, Took, Installed, Used, Finished}
+use Rattle.run_journal.specs.declared.acts.Act.TheVariants.{Opened, Closed, Drew, Derived, Sent, Took, Installed, Resumed, Used, Finished}
 
 abbrev pub same : Node → Node → Bool
 same (Ap k) (Ap m) = k == m
@@ -150,6 +150,12 @@ switched kind _ = None
 abbrev pub given_from : GroupKind → Node → Act → Option GroupKey
 given_from groups.Gtk p (Installed (One q) (Group gtk id b)) = cond (same p q) (Some (record { key = gtk; id = id })) None
 given_from kind p _ = None
+
+-- and took one, installed or resumed
+abbrev pub taken_from : GroupKind → Node → Act → Option GroupKey
+taken_from groups.Gtk p (Installed (One q) (Group gtk id b)) = cond (same p q) (Some (record { key = gtk; id = id })) None
+taken_from groups.Gtk p (Resumed q (Group gtk id b)) = cond (same p q) (Some (record { key = gtk; id = id })) None
+taken_from kind p _ = None
 
 -- a pairwise key was installed with p
 abbrev pub installs_pairwise : Node → Act → Bool

@@ -7,7 +7,9 @@ pub mod Safe
 pub mod Report
 pub mod Alike
 pub mod Kept
+pub mod Limits
 pub mod Listing
+pub mod Events
 pub mod Chained
 pub mod Looking
 pub mod Replies

@@ -5,24 +5,8 @@ use Rattle.run_journal.specs.declared.domain.Domain.{Domain}
 
 -- the network with one more access point
 abbrev pub with_ap : Domain → Mac → List ℕ → Domain
-with_ap d address r0kh_id = record {
-  seed = d.seed;
-  ssid = d.ssid;
-  psk = d.psk;
-  akm = d.akm;
-  mdid = d.mdid;
-  aps = d.aps ++ record { address = address; r0kh_id = r0kh_id } ∷ [];
-  stas = d.stas;
-}
+with_ap d address r0kh_id = record d { aps = d.aps ++ record { address = address; r0kh_id = r0kh_id } ∷ [] }
 
--- and with one more station
-abbrev pub with_sta : Domain → Mac → Domain
-with_sta d address = record {
-  seed = d.seed;
-  ssid = d.ssid;
-  psk = d.psk;
-  akm = d.akm;
-  mdid = d.mdid;
-  aps = d.aps;
-  stas = d.stas ++ address ∷ [];
-}
+-- and with one more station, of that pre-shared key
+abbrev pub with_sta : Domain → Mac → List ℕ → Domain
+with_sta d address psk = record d { stas = d.stas ++ record { address = address; psk = psk } ∷ [] }

@@ -13,10 +13,14 @@ abbrev pub installed : Act → Option (List ℕ)
 installed (Installed p key) = Some (key_octets key)
 installed _ = None
 
+-- a key that the entry installs its node did not install before
+abbrev pub InstallsNew : Entry → List Entry → Type 0
+InstallsNew e past = (m : Entry) (key : List ℕ) → In m past → m.node ≡ e.node → installed e.act ≡ Some key → installed m.act ≡ Some key → ⊥
+
 -- a node installs a key at most once
 abbrev pub InstalledOnce : List Entry → Type 0
 InstalledOnce [] = Unit {0}
-InstalledOnce (e ∷ past) = ((m : Entry) (key : List ℕ) → In m past → m.node ≡ e.node → installed e.act ≡ Some key → installed m.act ≡ Some key → ⊥) × InstalledOnce past
+InstalledOnce (e ∷ past) = InstallsNew e past × InstalledOnce past
 
 -- a packet number under a key, and the plain octets
 pub record Use : Type 0 where
@@ -36,10 +40,14 @@ abbrev pub up_from : Act → Option Node
 up_from (HandedUp p key id tid number octets) = Some p
 up_from _ = None
 
+-- the key and the number of the entry no entry of its node had before
+abbrev pub UsesNew : (Act → Option Use) → Entry → List Entry → Type 0
+UsesNew f e past = (m : Entry) (u v : Use) → In m past → m.node ≡ e.node → f e.act ≡ Some u → f m.act ≡ Some v → u.key ≡ v.key → u.number ≡ v.number → ⊥
+
 -- no two entries of a node have one key and one number
 abbrev pub Once : (Act → Option Use) → List Entry → Type 0
 Once f [] = Unit {0}
-Once f (e ∷ past) = ((m : Entry) (u v : Use) → In m past → m.node ≡ e.node → f e.act ≡ Some u → f m.act ≡ Some v → u.key ≡ v.key → u.number ≡ v.number → ⊥) × Once f past
+Once f (e ∷ past) = UsesNew f e past × Once f past
 
 -- node p derived a key from these inputs before
 pub record DerivedBefore (p : Node) (i : Inputs) (e : Entry) (past : List Entry) : Type 0 where
@@ -49,10 +57,14 @@ pub record DerivedBefore (p : Node) (i : Inputs) (e : Entry) (past : List Entry)
   pub at : entry.node ≡ p
   pub is : (peer : Node) × ((k : Ptk) × (entry.act ≡ Derived peer i k))
 
+-- where the entry accepts a final message, the peer derived from its inputs before
+abbrev pub JoinedAt : Entry → List Entry → Type 0
+JoinedAt e past = (p : Node) (i : Inputs) → e.act ≡ Finished p i → DerivedBefore p i e past
+
 -- whoever accepts a final message has inputs from which its peer derived before
 abbrev pub Joined : List Entry → Type 0
 Joined [] = Unit {0}
-Joined (e ∷ past) = ((p : Node) (i : Inputs) → e.act ≡ Finished p i → DerivedBefore p i e past) × Joined past
+Joined (e ∷ past) = JoinedAt e past × Joined past
 
 -- node p used the key, the number and the octets before
 pub record UsedBefore (p : Node) (u : Use) (e : Entry) (past : List Entry) : Type 0 where
@@ -62,10 +74,14 @@ pub record UsedBefore (p : Node) (u : Use) (e : Entry) (past : List Entry) : Typ
   pub at : entry.node ≡ p
   pub is : use_of entry.act ≡ Some u
 
--- whatever is handed up its peer had used, with that key, number and octets
+-- what the entry hands up its peer had used, with that key, number and octets
+abbrev pub SourcedAt : Entry → List Entry → Type 0
+SourcedAt e past = (p : Node) (u : Use) → up_of e.act ≡ Some u → up_from e.act ≡ Some p → UsedBefore p u e past
+
+-- and so it is with whatever is handed up
 abbrev pub Sourced : List Entry → Type 0
 Sourced [] = Unit {0}
-Sourced (e ∷ past) = ((p : Node) (u : Use) → up_of e.act ≡ Some u → up_from e.act ≡ Some p → UsedBefore p u e past) × Sourced past
+Sourced (e ∷ past) = SourcedAt e past × Sourced past
 
 -- the parts of safety
 pub record Safe (j : List Entry) : Type 0 where

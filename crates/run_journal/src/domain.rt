@@ -1,7 +1,28 @@
-//! The network: its keys, its access points and its stations.
+//! The network: its keys, its access points and its stations, and how many of them there may be.
 
 use domain_base::{Akm, Mac, Node, Octets, Peer, Tid};
 use std::marker::Model;
+
+/// A network has at most so many access points.
+pub const MOST_APS: usize = 16;
+
+/// A network has at most so many stations.
+pub const MOST_STAS: usize = 64;
+
+/// A round has at most so many events.
+pub const MOST_EVENTS: u64 = 256;
+
+/// Where more frames than this have been sent, no event is asked for.
+pub const MOST_FRAMES: usize = 65535;
+
+/// A frame that comes from outside, injected or by a link, has at most so many octets.
+pub const MOST_OCTETS: usize = 2400;
+
+/// A payload has at most so many octets (IEEE Std 802.11-2020, 9.2.4.8.1).
+pub const MOST_PAYLOAD: usize = 2304;
+
+/// In a turn each node takes at most so many frames of its link.
+pub const MOST_POLLS: u8 = 16;
 
 /// A listed access point.
 #[derive(Drop)]
@@ -25,17 +46,40 @@ impl Model for Aps {
     ghost view = { λ a. a.0.items };
 }
 
-/// The stations' addresses in the order in which they are listed. Contracts see the list.
+/// A listed station.
+#[derive(Clone, Copy)]
+pub struct ListedSta {
+    /// Its address.
+    pub address: Mac,
+    /// The pre-shared key that it shares with the network.
+    pub psk: [u8; 32],
+}
+
+/// The stations in the order in which they are listed. Contracts see the list.
 #[derive(Drop)]
-pub struct Stas(pub Vec<Mac>);
+pub struct Stas(pub Vec<ListedSta>);
 
 impl Model for Stas {
     ghost use Rattle.std.specs.Prelude.{List};
-    ghost use Rattle.domain_base.specs.declared.names.Mac.{Mac};
+    ghost use Rattle.run_journal.specs.declared.domain.ListedSta.{ListedSta};
 
-    ghost Value = { List Mac };
+    ghost Value = { List ListedSta };
 
     ghost view = { λ s. s.0.items };
+}
+
+/// The version of the scripts in which a network is described.
+#[derive(Clone, Copy, PartialEq, Eq)]
+pub enum Version {
+    /// `domain 1`.
+    One,
+}
+
+/// What the header of a script says beside the keys and the suite.
+#[derive(Clone, Copy, PartialEq, Eq)]
+pub struct Extras {
+    /// The version.
+    pub version: Version,
 }
 
 /// The header of a script and the nodes listed so far.
@@ -45,12 +89,12 @@ pub struct Domain {
     pub seed: [u8; 32],
     /// The name of the network: 1 to 32 octets.
     pub ssid: Octets,
-    /// The pre-shared key.
-    pub psk: [u8; 32],
     /// The suite.
     pub akm: Akm,
     /// The mobility domain, with AKM suite 4; else `[0, 0]`.
     pub mdid: [u8; 2],
+    /// What else the header says.
+    pub extras: Extras,
     /// The access points.
     pub aps: Aps,
     /// The stations.

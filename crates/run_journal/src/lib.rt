@@ -20,7 +20,11 @@ mod sharing;
 pub use acts::{
     Act, Drawn, Entry, Key, KeyDataFault, Kind, Malformed, Outcome, Part, Reason, Seal, Start, Why,
 };
-pub use domain::{Aps, Domain, Event, ListedAp, Stas};
+pub use domain::{
+    Aps, Domain, Event, Extras, ListedAp, ListedSta, MOST_APS, MOST_EVENTS, MOST_FRAMES,
+    MOST_OCTETS, MOST_PAYLOAD, MOST_POLLS, MOST_STAS,
+    Stas, Version,
+};
 pub use journal::Journal;
 pub use laws::lines_read_no_key;
 pub use premises::Premises;

@@ -1,0 +1,47 @@
+-- Which events can happen in a network (this project's choice).
+use Rattle.std.specs.Prelude.{◌≡◌, ℕ, zero, suc, ◌<◌, ◌≤◌, length}
+use Rattle.domain_base.specs.declared.names.Akm.TheVariants.{FtPsk}
+use Rattle.domain_base.specs.declared.names.Node.{Node}
+use Rattle.domain_base.specs.declared.names.Node.TheVariants.{Ap, Sta}
+use Rattle.domain_base.specs.declared.names.Peer.{Peer}
+use Rattle.domain_base.specs.declared.names.Peer.TheVariants.{One, All}
+use Rattle.run_journal.specs.declared.domain.Domain.{Domain}
+use Rattle.run_journal.specs.declared.domain.Event.{Event}
+use Rattle.run_journal.specs.declared.domain.Event.TheVariants.{Connect, Roam, Deliver, Alter, Cut, Inject, Retry, Rekey, Send, Expire, Revoke, Leave}
+
+-- the node is listed
+abbrev pub IsListed : Domain → Node → Type 0
+IsListed d (Ap k) = k < length d.aps
+IsListed d (Sta k) = k < length d.stas
+
+-- the other node is of the other kind, and listed
+abbrev pub IsPeerOf : Domain → Node → Node → Type 0
+IsPeerOf d (Ap k) (Sta i) = i < length d.stas
+IsPeerOf d (Sta k) (Ap i) = i < length d.aps
+IsPeerOf d n p = ⊥
+
+-- to whom a node sends data: to a node of the other kind, and an access point to all
+abbrev pub IsReceiverOf : Domain → Node → Peer → Type 0
+IsReceiverOf d n (One p) = IsPeerOf d n p
+IsReceiverOf d (Ap k) All = Unit {0}
+IsReceiverOf d (Sta k) All = ⊥
+
+-- the octets of a payload at most (IEEE Std 802.11-2020, 9.2.4.8.1)
+abbrev pub most_payload : ℕ
+most_payload = 2304
+
+-- The event names listed nodes of the right kinds, and a frame that is there with so many octets at least: an octet that it changes, and
+-- octets that it keeps, are the frame's. A payload has at most so many octets; a fast transition is begun with suite 4 alone.
+abbrev pub IsEventOf : Domain → (ℕ → ℕ → Type 0) → Event → Type 0
+IsEventOf d IsThere (Connect s a) = (s < length d.stas) × (a < length d.aps)
+IsEventOf d IsThere (Roam s a) = (s < length d.stas) × (a < length d.aps) × (d.akm ≡ FtPsk)
+IsEventOf d IsThere (Deliver number to) = IsListed d to × IsThere number zero
+IsEventOf d IsThere (Alter number place mask to) = IsListed d to × IsThere number (suc place)
+IsEventOf d IsThere (Cut number size to) = IsListed d to × IsThere number size
+IsEventOf d IsThere (Inject to octets) = IsListed d to
+IsEventOf d IsThere (Retry a s) = (a < length d.aps) × (s < length d.stas)
+IsEventOf d IsThere (Rekey a) = a < length d.aps
+IsEventOf d IsThere (Send from to tid octets) = IsListed d from × IsReceiverOf d from to × (length octets ≤ most_payload)
+IsEventOf d IsThere (Expire a s) = (a < length d.aps) × (s < length d.stas)
+IsEventOf d IsThere (Revoke a s) = (a < length d.aps) × (s < length d.stas)
+IsEventOf d IsThere (Leave s) = s < length d.stas
