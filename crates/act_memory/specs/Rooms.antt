@@ -3,11 +3,11 @@ use Rattle.std.specs.Prelude.{◌≡◌, ℕ, List, ◌∷◌}
 use Rattle.domain_base.specs.declared.names.Node.{Node}
 use Rattle.mac_prf.specs.Mic.{without_mic}
 use Rattle.run_journal.specs.declared.domain.Domain.{Domain}
-use Rattle.domain_rules.specs.Network.{mac, root_at}
+use Rattle.domain_rules.specs.Network.{mac}
 use Rattle.domain_rules.specs.Reading.{KeyMessage}
 use Rattle.domain_rules.specs.Replies.{Between as Acts}
 use Rattle.act_memory.specs.declared.room.Between.{Between}
-use Rattle.act_memory.specs.Templates.{IsTemplate}
+use Rattle.act_memory.specs.Templates.{IsTemplateAt}
 use Rattle.act_memory.specs.declared.room.Room.{Room}
 
 -- it is room at node n for taking these octets of p, which are that message, where keys go back to that R0KH-ID
@@ -18,9 +18,9 @@ pub record IsRoom (d : Domain) (id : List ℕ) (n p : Node) (octets : List ℕ) 
   pub message : r.message ≡ k.message
   pub taken : r.taken.items ≡ octets
   pub covered : r.covered.items ≡ 1 ∷ without_mic k.octets
-  pub derived : IsTemplate d (root_at d id) n p r.derived
-  pub installed : IsTemplate d (root_at d id) n p r.installed
-  pub finished : IsTemplate d (root_at d id) n p r.finished
+  pub derived : IsTemplateAt d n p id r.derived
+  pub installed : IsTemplateAt d n p id r.installed
+  pub finished : IsTemplateAt d n p id r.finished
 
 -- acts that take their place among those of a reply, as the rules see them
 abbrev pub between_of : Between → Acts

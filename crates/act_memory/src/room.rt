@@ -8,11 +8,11 @@ ghost use Rattle.run_journal.specs.declared.domain.Domain.{Domain as AnyDomain};
 ghost use Rattle.run_journal.specs.declared.acts.Kind.TheVariants as kind;
 ghost use Rattle.run_journal.specs.declared.acts.Act.TheVariants.{Took};
 ghost use Rattle.run_journal.specs.Replies.{IsWhole};
-ghost use Rattle.domain_rules.specs.Network.{IsListed, mac, Root, root_at};
+ghost use Rattle.domain_rules.specs.Network.{mac, Root};
+ghost use Rattle.run_journal.specs.Events.{IsListed, IsPeerOf};
 ghost use Rattle.domain_rules.specs.Replies.{derived_acts, replaced_acts, installed_acts, gtk_acts};
 ghost use Rattle.domain_rules.specs.Replies.{finished_acts};
-ghost use Rattle.node_base.specs.Peers.{IsPeerOf};
-ghost use Rattle.act_memory.specs.Templates.{IsTemplate, with_nonces, seal_over};
+ghost use Rattle.act_memory.specs.Templates.{IsTemplate, IsTemplateAt, with_nonces, seal_over};
 
 use crate::covered::{append_covered, covered_len};
 use crate::outbox::Outbox;
@@ -41,7 +41,7 @@ pub fn template(here: Here<'_>, peer: Node, r0kh_id: &[u8]) -> Result<BoxedInput
     requires listed { IsListed here.domain.now here.node }
     requires peer { IsPeerOf here.domain.now here.node peer }
     ensures { IfOk result (λ i. let d = here.entry.domain.now
-        in IsTemplate d (root_at d r0kh_id.now) here.entry.node peer i) }
+        in IsTemplateAt d here.entry.node peer r0kh_id.now i) }
 {
     let inputs = pairwise_inputs(here, peer, r0kh_id, &[0; 32], &[0; 32])?;
     BoxedInputs::new(here.alloc, inputs)
@@ -91,11 +91,11 @@ fn three_templates(here: Here<'_>, peer: Node, r0kh_id: &[u8]) -> Result<Templat
     requires listed { IsListed here.domain.now here.node }
     requires peer { IsPeerOf here.domain.now here.node peer }
     ensures derived { IfOk result (λ three. let d = here.entry.domain.now
-        in IsTemplate d (root_at d r0kh_id.now) here.entry.node peer three.derived) }
+        in IsTemplateAt d here.entry.node peer r0kh_id.now three.derived) }
     ensures installed { IfOk result (λ three. let d = here.entry.domain.now
-        in IsTemplate d (root_at d r0kh_id.now) here.entry.node peer three.installed) }
+        in IsTemplateAt d here.entry.node peer r0kh_id.now three.installed) }
     ensures finished { IfOk result (λ three. let d = here.entry.domain.now
-        in IsTemplate d (root_at d r0kh_id.now) here.entry.node peer three.finished) }
+        in IsTemplateAt d here.entry.node peer r0kh_id.now three.finished) }
 {
     let derived = template(here, peer, r0kh_id)?;
     let installed = template(here, peer, r0kh_id)?;

@@ -5,7 +5,8 @@ use Rattle.domain_base.specs.declared.names.Node.TheVariants.{Ap, Sta}
 use Rattle.key_holders.specs.declared.rows.HeldRow.{HeldRow}
 use Rattle.run_journal.specs.declared.domain.Domain.{Domain}
 use Rattle.run_journal.specs.declared.acts.Act.{Act}
-use Rattle.domain_rules.specs.Network.{IsListed, IsNamed}
+use Rattle.domain_rules.specs.Network.{IsNamed}
+use Rattle.run_journal.specs.Events.{IsListed}
 use Rattle.node_base.specs.Growing.{Grows}
 use Rattle.node_base.proofs.Grown.{listed_grown}
 use Rattle.ap_node.specs.declared.station.Station.{Station}

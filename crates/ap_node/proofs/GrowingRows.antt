@@ -15,12 +15,13 @@ use Rattle.run_journal.specs.declared.domain.Domain.{Domain}
 use Rattle.run_journal.specs.declared.acts.Act.{Act}
 use Rattle.run_journal.specs.Acts.{same}
 use Rattle.run_journal.specs.Holders.{row}
-use Rattle.domain_rules.specs.Network.{IsNamed, IsListed, mac, peer_of}
+use Rattle.domain_rules.specs.Network.{IsNamed, mac, peer_of}
+use Rattle.run_journal.specs.Events.{IsListed}
 use Rattle.domain_rules.specs.HeldRight.{is_of}
 use Rattle.domain_rules.proofs.Parts.{same-other}
 use Rattle.domain_rules.proofs.Peers.{finds-sta, not_same}
 use Rattle.node_base.specs.Growing.{Grows}
-use Rattle.node_base.proofs.Grown.{listed_grown, mac_grown, r0kh_id_grown}
+use Rattle.node_base.proofs.Grown.{listed_grown, mac_grown, psk_grown, r0kh_id_grown}
 use Rattle.held_rows.specs.Knows.{own_row, IsOwn, IsListedSta, KnowsRows}
 
 -- ---- stations that are listed behind those that there were
@@ -64,11 +65,11 @@ module _ (d e : Domain) (n : Node) (g : Grows d e) (names : IsNamed e) where
   listed_still None at = tt
   listed_still (Some p) at = (at.0, listed_grown d e (Sta at.0) g at.1, at.2)
 
-  row_grown : IsListed d n → (m : Mac) → own_row e n m ≡ own_row d n m
-  row_grown here m = by g.psk g.ssid g.mdid (r0kh_id_grown d e n g here)
+  row_grown : IsListed d n → (k : ℕ) → k < length d.stas → own_row e n (Sta k) ≡ own_row d n (Sta k)
+  row_grown here k low = by (psk_grown d e (Sta k) g low) g.ssid g.mdid (r0kh_id_grown d e n g here) (mac_grown d e (Sta k) g low)
     where
-      by : {a b c f i j l o : List ℕ} → a ≡ b → c ≡ f → i ≡ j → l ≡ o → row_of (pmk_r0 a c i l m) m ≡ row_of (pmk_r0 b f j o m) m
-      by p q r s = rw (p, q, r, s) refl
+      by : {a b c f i j l o : List ℕ} {m w : Mac} → a ≡ b → c ≡ f → i ≡ j → l ≡ o → m ≡ w → row_of (pmk_r0 a c i l m) m ≡ row_of (pmk_r0 b f j o w) w
+      by p q r s t = rw (p, q, r, s, t) refl
 
   own_still : IsListed d n → (xs : List HeldRow) → AllByRecursion (IsOwn d n) xs → AllByRecursion (IsOwn e n) xs
   own_still here [] all = tt
@@ -76,7 +77,7 @@ module _ (d e : Domain) (n : Node) (g : Grows d e) (names : IsNamed e) where
     (
       all.0.0,
       listed_grown d e (Sta all.0.0) g all.0.1,
-      all.0.2 ∙ sym (row_grown here (mac d (Sta all.0.0))) ∙ ap (own_row e n) (sym (mac_grown d e (Sta all.0.0) g all.0.1)),
+      all.0.2 ∙ sym (row_grown here all.0.0 all.0.1),
     ),
     own_still here xs all.1,
   )

@@ -33,7 +33,7 @@ use Rattle.authenticator.proofs.Standing.{held}
 use Rattle.data_frames.specs.Holding.{HoldsPairwise}
 use Rattle.data_frames.specs.Sending.{send_key_of}
 use Rattle.data_frames.proofs.RepliedKeys.{replied_leaves, replied_holds, sent_leaves}
-use Rattle.ap_node.proofs.Using.{pairwise_sends}
+use Rattle.data_frames.proofs.Using.{pairwise_sends}
 use Rattle.ap_node.specs.Keys.{fresh, key_after, key_of_session, used_in, HasKey}
 use Rattle.ap_node.specs.declared.station.Station.{Station}
 use Rattle.ap_node.specs.State.{key_in, with_key}

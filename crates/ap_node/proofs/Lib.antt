@@ -27,7 +27,6 @@ pub mod Renewing
 pub mod GrowingRows
 pub mod Growing
 pub mod DataTaken
-pub mod Using
 pub mod Traffic
 pub mod Rows
 pub mod PutRows

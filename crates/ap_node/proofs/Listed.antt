@@ -3,7 +3,7 @@ use Rattle.std.proofs.Common.{◌≡◌, ◌<◌, ℕ, length, sym, subst}
 use Rattle.domain_base.specs.declared.names.Node.{Node}
 use Rattle.domain_base.specs.declared.names.Node.TheVariants.{Ap}
 use Rattle.run_journal.specs.declared.domain.Domain.{Domain}
-use Rattle.domain_rules.specs.Network.{IsListed}
+use Rattle.run_journal.specs.Events.{IsListed}
 use Rattle.ap_node.specs.State.{State}
 
 pub ap_listed : (d : Domain) (n : Node) (a : ℕ) → n ≡ Ap a → a < length d.aps → IsListed d n

@@ -13,11 +13,11 @@ use Rattle.key_holders.specs.Rows.{put_answer, after_put, revoke_answer, after_r
 use Rattle.run_journal.specs.declared.domain.Domain.{Domain}
 use Rattle.run_journal.specs.declared.acts.Act.{Act}
 use Rattle.run_journal.specs.declared.acts.Act.TheVariants.{Put, Revoked}
-use Rattle.domain_rules.specs.Network.{mac, r0kh_id}
+use Rattle.domain_rules.specs.Network.{mac, psk_of, r0kh_id}
 use Rattle.ap_node.specs.Putting.{row_at, Puts, PutsWhere, Revokes}
 
-pub row_is : (d : Domain) (a sta : ℕ) (row : HolderRow) (id : List ℕ) (m : Mac) → row ≡ row_of (pmk_r0 d.psk d.ssid d.mdid id m) m → id ≡ r0kh_id d (Ap a) → m ≡ mac d (Sta sta) → row ≡ row_at d a sta
-row_is d a sta row id m e f g = e ∙ (λ i. row_of (pmk_r0 d.psk d.ssid d.mdid (f i) (g i)) (g i))
+pub row_is : (d : Domain) (a sta : ℕ) (row : HolderRow) (psk id : List ℕ) (m : Mac) → row ≡ row_of (pmk_r0 psk d.ssid d.mdid id m) m → psk ≡ psk_of d (Sta sta) → id ≡ r0kh_id d (Ap a) → m ≡ mac d (Sta sta) → row ≡ row_at d a sta
+row_is d a sta row psk id m e p f g = e ∙ (λ i. row_of (pmk_r0 (p i) d.ssid d.mdid (f i) (g i)) (g i))
 
 same_put : {id other name more : List ℕ} (sta : ℕ) (answer : PutAnswer) → id ≡ other → name ≡ more → Put id name (Sta sta) answer ≡ Put other more (Sta sta) answer
 same_put sta answer e f = λ i. Put (e i) (f i) (Sta sta) answer
@@ -39,8 +39,8 @@ puts_none d a sta b xs g is none = subst (λ (x : Bool). PutsWhere x d a sta xs 
 
 -- ---- revoked
 
-pub name_is : (d : Domain) (a sta : ℕ) (name id : List ℕ) (m : Mac) (r0 : PmkR0) → name ≡ pmk_r0_name r0 → r0 ≡ pmk_r0 d.psk d.ssid d.mdid id m → id ≡ r0kh_id d (Ap a) → m ≡ mac d (Sta sta) → name ≡ (row_at d a sta).name
-name_is d a sta name id m r0 e f g k = e ∙ ap pmk_r0_name (f ∙ (λ i. pmk_r0 d.psk d.ssid d.mdid (g i) (k i)))
+pub name_is : (d : Domain) (a sta : ℕ) (name psk id : List ℕ) (m : Mac) (r0 : PmkR0) → name ≡ pmk_r0_name r0 → r0 ≡ pmk_r0 psk d.ssid d.mdid id m → psk ≡ psk_of d (Sta sta) → id ≡ r0kh_id d (Ap a) → m ≡ mac d (Sta sta) → name ≡ (row_at d a sta).name
+name_is d a sta name psk id m r0 e f p g k = e ∙ ap pmk_r0_name (f ∙ (λ i. pmk_r0 (p i) d.ssid d.mdid (g i) (k i)))
 
 same_revoked : {id other name more : List ℕ} (sta : ℕ) (answer : RevokeAnswer) → id ≡ other → name ≡ more → Revoked id name (Sta sta) answer ≡ Revoked other more (Sta sta) answer
 same_revoked sta answer e f = λ i. Revoked (e i) (f i) (Sta sta) answer

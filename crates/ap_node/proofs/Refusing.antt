@@ -34,7 +34,7 @@ use Rattle.frame_intake.specs.declared.delivered.SealedData.{SealedData}
 use Rattle.frame_intake.specs.Views.{management_fields}
 use Rattle.frame_intake.specs.declared.judging.Judged.TheVariants as judged
 use Rattle.frame_intake.specs.Judging.{IsJudged, IsSilent, IsSettled}
-use Rattle.node_base.specs.Peers.{IsPeerOf}
+use Rattle.run_journal.specs.Events.{IsPeerOf}
 use Rattle.node_base.specs.Events.{Seen, seen}
 use Rattle.authenticator.specs.Stands.{IsNoConnect}
 use Rattle.authenticator.proofs.Handshaking.{owing_no_session}

@@ -53,8 +53,8 @@ stays_with d s event xs ys x does = record {
 
 -- ---- with suite 4 the name is that of the PMK-R0 of the station
 
-named : (d : Domain) (a sta : ℕ) → d.akm ≡ FtPsk → root_name d (root_at d (r0kh_id d (Ap a))) (Sta sta) ≡ (row_at d a sta).name
-named d a sta suite = ap (λ (akm : Akm). root_name d (root_by akm d (r0kh_id d (Ap a))) (Sta sta)) suite
+named : (d : Domain) (a sta : ℕ) → d.akm ≡ FtPsk → root_name d (root_at d (Sta sta) (r0kh_id d (Ap a))) (Sta sta) ≡ (row_at d a sta).name
+named d a sta suite = ap (λ (akm : Akm). root_name d (root_by akm d (Sta sta) (r0kh_id d (Ap a))) (Sta sta)) suite
 
 revoked_is : (d : Domain) (a sta : ℕ) (h : List Act) (answer : RevokeAnswer) → d.akm ≡ FtPsk → answer ≡ revoke_answer (row (row_at d a sta).name h)
     → Revoked (r0kh_id d (Ap a)) (row_at d a sta).name (Sta sta) answer ∷ [] ≡ revoke_acts_by d.akm d (Ap a) h (Sta sta)

@@ -87,7 +87,7 @@ put_about_by FtPsk d n h p x = (
 
 put_about : (d : Domain) (n : Node) (h : List Act) (p : Node) (o : Option Keyed) → AllByRecursion (IsAbout p) (put_for d n h p o)
 put_about d n h p None = tt
-put_about d n h p (Some y) = put_about_by d.akm d n h p (key_by d (home d n) n p y)
+put_about d n h p (Some y) = put_about_by d.akm d n h p (key_by d (home d n p) n p y)
 
 put_leaves_by : (akm : Akm) (d : Domain) (n : Node) (h : List Act) (p q : Node) (tk : List ℕ) (x : Derivation) → AllByRecursion (LeavesPairwise q tk) (put_acts_by akm d n h p x)
 put_leaves_by Psk d n h p q tk x = tt
@@ -96,7 +96,7 @@ put_leaves_by FtPsk d n h p q tk x = (record { used = λ l. refl; got = λ tid l
 
 put_leaves : (d : Domain) (n : Node) (h : List Act) (p q : Node) (tk : List ℕ) (o : Option Keyed) → AllByRecursion (LeavesPairwise q tk) (put_for d n h p o)
 put_leaves d n h p q tk None = tt
-put_leaves d n h p q tk (Some y) = put_leaves_by d.akm d n h p q tk (key_by d (home d n) n p y)
+put_leaves d n h p q tk (Some y) = put_leaves_by d.akm d n h p q tk (key_by d (home d n p) n p y)
 
 put_looks_by : (akm : Akm) (d : Domain) (n : Node) (h : List Act) (p : Node) (x : Derivation) → NoLooks (put_acts_by akm d n h p x)
 put_looks_by Psk d n h p x = tt
@@ -105,17 +105,17 @@ put_looks_by FtPsk d n h p x = (tt, tt)
 
 put_looks : (d : Domain) (n : Node) (h : List Act) (p : Node) (o : Option Keyed) → NoLooks (put_for d n h p o)
 put_looks d n h p None = tt
-put_looks d n h p (Some y) = put_looks_by d.akm d n h p (key_by d (home d n) n p y)
+put_looks d n h p (Some y) = put_looks_by d.akm d n h p (key_by d (home d n p) n p y)
 
 -- ---- what was put is what the history says
 
 name_at : (d : Domain) (a sta : ℕ) (h : List Act) (y : Keyed) (answer : PutAnswer) → answer ≡ put_answer (row (row_at d a sta).name h) (rows h)
-    → Put (r0kh_id d (Ap a)) (row_at d a sta).name (Sta sta) answer ∷ [] ≡ put_acts_by FtPsk d (Ap a) h (Sta sta) (key_by d (root_by FtPsk d (r0kh_id d (Ap a))) (Ap a) (Sta sta) y)
+    → Put (r0kh_id d (Ap a)) (row_at d a sta).name (Sta sta) answer ∷ [] ≡ put_acts_by FtPsk d (Ap a) h (Sta sta) (key_by d (root_by FtPsk d (Sta sta) (r0kh_id d (Ap a))) (Ap a) (Sta sta) y)
 name_at d a sta h y answer is = ap (λ (x : PutAnswer). Put (r0kh_id d (Ap a)) (row_at d a sta).name (Sta sta) x ∷ []) is
 
 abbrev put_for_by : Akm → Domain → ℕ → ℕ → List Act → Option Keyed → List Act
 put_for_by akm d a sta h None = []
-put_for_by akm d a sta h (Some y) = put_acts_by akm d (Ap a) h (Sta sta) (key_by d (root_by akm d (r0kh_id d (Ap a))) (Ap a) (Sta sta) y)
+put_for_by akm d a sta h (Some y) = put_acts_by akm d (Ap a) h (Sta sta) (key_by d (root_by akm d (Sta sta) (r0kh_id d (Ap a))) (Ap a) (Sta sta) y)
 
 put_is_by : (akm : Akm) (d : Domain) (a sta : ℕ) (xs ys : List HeldRow) (g h : List Act) (final : Bool) (o : Option Keyed) → is_some o ≡ final → PutsWhere (puts akm final) d a sta xs ys g → KnowsRows d (Ap a) xs h
     → g ≡ put_for_by akm d a sta h o
@@ -158,19 +158,19 @@ module _ (d : Domain) (n p : Node) (had : Bool) (octets : List ℕ) (k : KeyMess
   took = Took (Some p) octets (kind.Key k.message) o (option_map (λ kck. frame_seal kck k.octets) r.verified)
 
   abbrev between_them : List Act
-  between_them = middle d (home d n) n p had r
+  between_them = middle d (home d n p) n p had r
 
   pub told_about : AllByRecursion (IsAbout p) (told_acts d n p had octets k o r h)
-  told_about = insert (IsAbout p) took between_them put (sent_acts p r) (replied_about d (home d n) n p had octets k o r) (put_about d n h p r.installed)
+  told_about = insert (IsAbout p) took between_them put (sent_acts p r) (replied_about d (home d n p) n p had octets k o r) (put_about d n h p r.installed)
 
   pub told_leaves_others : (q : Node) (tk : List ℕ) → same q p ≡ false → AllByRecursion (LeavesPairwise q tk) (told_acts d n p had octets k o r h)
   told_leaves_others q tk other =
-      insert (LeavesPairwise q tk) took between_them put (sent_acts p r) (replied_leaves_others d (home d n) n p q tk had octets k o r other) (put_leaves d n h p q tk r.installed)
+      insert (LeavesPairwise q tk) took between_them put (sent_acts p r) (replied_leaves_others d (home d n p) n p q tk had octets k o r other) (put_leaves d n h p q tk r.installed)
 
   pub told_looks : NoLooks (told_acts d n p had octets k o r h)
   told_looks = (
     tt,
-    all_joined IsNoLook between_them (put ++ sent_acts p r) (plain_looks between_them (plain_middle d (home d n) n p had r))
+    all_joined IsNoLook between_them (put ++ sent_acts p r) (plain_looks between_them (plain_middle d (home d n p) n p had r))
         (all_joined IsNoLook put (sent_acts p r) (put_looks d n h p r.installed) (plain_looks (sent_acts p r) (plain_sent p r))),
   )
 
@@ -185,10 +185,10 @@ module _ (d : Domain) (n p : Node) (had : Bool) (octets : List ℕ) (k : KeyMess
   told_rows xs ys puts_row known =
       subst (λ (l : List Act). KnowsRows d n ys l) (sym told_then)
       (left d n ys (sent_acts p r) (add put up_to_put) (plain_leaves (sent_acts p r) (plain_sent p r))
-      (puts_row up_to_put (left d n xs between_them (took ∷ h) (plain_leaves between_them (plain_middle d (home d n) n p had r)) (one_left d n xs took h refl known))))
+      (puts_row up_to_put (left d n xs between_them (took ∷ h) (plain_leaves between_them (plain_middle d (home d n p) n p had r)) (one_left d n xs took h refl known))))
 
-  none_put : r.installed ≡ None → told_acts d n p had octets k o r h ≡ reply_acts (pair_of d (home d n) n p) had (taken_as octets k o) r
-  none_put none = ap (λ (i : Option Keyed). replied_acts (pair_of d (home d n) n p) had (taken_as octets k o) r (put_only (put_for d n h p i))) none
+  none_put : r.installed ≡ None → told_acts d n p had octets k o r h ≡ reply_acts (pair_of d (home d n p) n p) had (taken_as octets k o) r
+  none_put none = ap (λ (i : Option Keyed). replied_acts (pair_of d (home d n p) n p) had (taken_as octets k o) r (put_only (put_for d n h p i))) none
 
   -- without the frame that it sends
   abbrev unsent : Reply
@@ -196,7 +196,7 @@ module _ (d : Domain) (n p : Node) (had : Bool) (octets : List ℕ) (k : KeyMess
 
   holds_then : (y : Keyed) → r.installed ≡ Some y → HoldsPairwise p y.ptk.tk (fresh y.ptk.tk) (add (told_acts d n p had octets k o r h) h)
   holds_then y some =
-      let at = replied_holds d (home d n) n p had octets k o unsent y h some in
+      let at = replied_holds d (home d n p) n p had octets k o unsent y h some in
       let mid = subst (λ (l : List Act). HoldsPairwise p y.ptk.tk (fresh y.ptk.tk) (add l (took ∷ h))) (append-nil between_them) at in
       subst (λ (l : List Act). HoldsPairwise p y.ptk.tk (fresh y.ptk.tk) l) (sym (add_append between_them (put ++ sent_acts p r) (took ∷ h)))
       (others p y.ptk.tk (fresh y.ptk.tk) (put ++ sent_acts p r) up_to_put mid
@@ -210,7 +210,7 @@ module _ (d : Domain) (n p : Node) (had : Bool) (octets : List ℕ) (k : KeyMess
       by : (i : Option Keyed) → r.installed ≡ i → HasKey p (session p (add (told_acts d n p had octets k o r h) h)) now (add (told_acts d n p had octets k o r h) h)
       by None none =
           subst (λ (l : List Act). HasKey p (session p (add l h)) now (add l h)) (sym (none_put none))
-          (key_replied d (home d n) n p had octets k o r new old now h now_is installs (subst (λ (l : List Act). HasSession d n p new.session (add l h)) (none_put none) there) at)
+          (key_replied d (home d n p) n p had octets k o r new old now h now_is installs (subst (λ (l : List Act). HasSession d n p new.session (add l h)) (none_put none) there) at)
       by (Some y) some =
           let said = told_acts d n p had octets k o r h in
           let i = installs y some in

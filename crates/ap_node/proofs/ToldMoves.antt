@@ -80,7 +80,7 @@ put_pass_by FtPsk d n h p q x = (put_passes p _ _ _ _, tt)
 
 put_pass : (d : Domain) (n : Node) (h : List Act) (p q : Node) (o : Option Keyed) → AllByRecursion (Passes p) (put_for d n h q o)
 put_pass d n h p q None = tt
-put_pass d n h p q (Some y) = put_pass_by d.akm d n h p q (key_by d (home d n) n q y)
+put_pass d n h p q (Some y) = put_pass_by d.akm d n h p q (key_by d (home d n q) n q y)
 
 -- ---- a message is taken
 
@@ -133,7 +133,7 @@ module _ (d : Domain) (n : Node) (sta : ℕ) where
   pub told_moves : (had : Bool) (octets : List ℕ) (k : KeyMessage) (o : Outcome) (r : Reply) (m : Moves) (h : List Act) → (is_some r.derived ≡ true → m.pending ≡ None) → (is_some r.installed ≡ true → m.pending ≡ None) → HasMoves d n p m h
       → HasMoves d n p (finished_moves (is_some r.installed) m) (add (told_acts d n p had octets k o r h) h)
   told_moves had octets k o r m h derives installs has =
-      let t = home d n in
+      let t = home d n p in
       let x = finished_moves (is_some r.installed) m in
       let took = moves_more d n p m (Took (Some p) octets (kind.Key k.message) o _) h (took_passes p (Some p) octets (kind.Key k.message) o _) has in
       let key = derived_moves t r.derived m _ derives took in

@@ -45,7 +45,7 @@ use Rattle.data_frames.specs.Rows.{IsDataFrom, OpensBy}
 use Rattle.data_frames.specs.Sending.{send_key_of, used_once}
 use Rattle.data_frames.specs.Taking.{reason_of, refusal, taken_acts, IsOpenedTo, IsStoppedBy, IsOpenedUnder, HandsUp, Refuses}
 use Rattle.data_frames.proofs.DataRows.{handed_up_row, refused_row}
-use Rattle.ap_node.proofs.Using.{group_sends, pairwise_used, group_used, pairwise_opens, pairwise_taken}
+use Rattle.data_frames.proofs.Using.{group_sends, pairwise_used, group_used, pairwise_opens, pairwise_taken}
 use Rattle.ap_node.specs.declared.station.Station.{Station}
 use Rattle.ap_node.specs.Keys.{HasKey, sent_under, used_in, IsTakenUnder}
 use Rattle.ap_node.specs.State.{State, station_at, key_in, with_key}

@@ -203,7 +203,7 @@ module _ (A : List ℕ → List ℕ → ℕ → PullAnswer → Type 0) (d : Doma
       let has = so_far.moves.each sta in
       let o = station_at old.stations sta in
       let came_ = came octets e taken.outcome in
-      let root = root_asked d (asked e) in
+      let root = root_asked d p (asked e) in
       let said = auth_request_acts d root n p (attempt p h) came_ x.reply in
       let some_is : is_some (attempt p h) ≡ had = any_attempt d n sta o (moves_at old.targets sta) h at has ∙ sym had_is in
       let said_is : x.acts ≡ said = x.moves.says (attempt p h) some_is in
@@ -322,7 +322,7 @@ takes_reassoc d old new octets sta elements taken newest rsc had m waited waits 
       let o = station_at old.stations sta in
       let old_moves = moves_at old.targets sta in
       let came_ = came octets e taken.outcome in
-      let root = root_at d (id_of (meant e old_moves)) in
+      let root = root_at d p (id_of (meant e old_moves)) in
       let said = reassoc_request_acts d root n p had came_ x.reply in
       let said_is : x.acts ≡ said = x.moves.says in
       let some_is : is_some (session p h) ≡ had = has_session d n p (session_in o) h (has_session_in d n sta o h at) ∙ sym had_is in

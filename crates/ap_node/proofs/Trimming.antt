@@ -1,9 +1,8 @@
 -- The fast transitions of an access point as far as there are any.
 use Rattle.std.proofs.Common.{◌≡◌, ◌≢◌, ◌∙◌, ℕ, zero, suc, ◌≤◌, Bool, true, false, cond, List, [], ◌∷◌, length, Option, Some, None, is_some, refl, sym, ap, subst, arith, inl, inr}
 use Rattle.std.specs.Prelude.{◌||◌, ◌==◌, not}
-use Rattle.std.proofs.lemmas.Bool.{cases_Bool, eqb-true, eq-eqb}
+use Rattle.std.proofs.lemmas.Bool.{cases_Bool, eqb-true, eq-eqb, and_parts}
 use Rattle.std.proofs.lemmas.List.{get_or_past}
-use Rattle.domain_rules.proofs.OneOutcome.{both_true}
 use Rattle.ft_exchange.specs.State.{TargetState}
 use Rattle.targets.specs.declared.moves.Moves.{Moves}
 use Rattle.targets.specs.State.{no_moves, moves_at}
@@ -21,7 +20,7 @@ no_target None is = refl
 no_target (Some s) is = absurd (cc is)
 
 none_is : (m : Moves) → are_none m ≡ true → m ≡ no_moves
-none_is m is = let both = both_true (not (is_some m.pending)) (not (is_some m.held)) is in same_moves m no_moves (no_target m.pending both.0) (no_target m.held both.1)
+none_is m is = let both = and_parts (not (is_some m.pending)) (not (is_some m.held)) is in same_moves m no_moves (no_target m.pending both.0) (no_target m.held both.1)
 
 all_none : (xs : List Moves) → ((k : ℕ) → moves_at xs k ≡ no_moves) → trimmed xs ≡ []
 all_none [] none = refl

@@ -13,7 +13,7 @@ use Rattle.key_holders.specs.Rows.{is_in, put_answer, after_put, revoke_answer, 
 use Rattle.run_journal.specs.declared.domain.Domain.{Domain}
 use Rattle.run_journal.specs.declared.acts.Act.{Act}
 use Rattle.run_journal.specs.declared.acts.Act.TheVariants.{Put, Revoked}
-use Rattle.domain_rules.specs.Network.{mac, r0kh_id}
+use Rattle.domain_rules.specs.Network.{r0kh_id}
 use Rattle.domain_rules.specs.Reading.{KeyMessage}
 use Rattle.act_memory.specs.Rooms.{IsRoom}
 use Rattle.held_rows.specs.Knows.{own_row}
@@ -21,7 +21,7 @@ use Rattle.ap_node.specs.declared.ready.Ready.{Ready}
 
 -- the row of a station at access point a
 abbrev pub row_at : Domain → ℕ → ℕ → HolderRow
-row_at d a sta = own_row d (Ap a) (mac d (Sta sta))
+row_at d a sta = own_row d (Ap a) (Sta sta)
 
 -- it was put with the key holder of a, which has these rows before and those behind it: this act tells of it
 pub record Puts (d : Domain) (a sta : ℕ) (old new : List HeldRow) (act : Act) : Type 0 where

@@ -15,10 +15,10 @@ ghost use Rattle.run_journal.specs.declared.acts.Outcome.TheVariants.{Accepted, 
 ghost use Rattle.run_journal.specs.declared.domain.Domain.{Domain as AnyDomain};
 ghost use Rattle.run_journal.specs.Questions.{add};
 ghost use Rattle.domain_rules.specs.Here.{here};
-ghost use Rattle.domain_rules.specs.Network.{InForm, IsListed, is_ap, draw_end, nonce};
+ghost use Rattle.domain_rules.specs.Network.{InForm, is_ap, draw_end, nonce};
+ghost use Rattle.run_journal.specs.Events.{IsListed, IsReceiverOf, most_payload};
 ghost use Rattle.domain_rules.specs.AccessPointRows.{start_acts};
 ghost use Rattle.domain_rules.specs.Rows.{Take, Retry, Rekey, Send, Expire, Revoke};
-ghost use Rattle.node_base.specs.Peers.{IsReceiverOf, most_payload};
 ghost use Rattle.node_base.specs.Events.{event_of, IsEventAt, Steps, seen};
 ghost use Rattle.ft_exchange.specs.Asking.{ids_of};
 ghost use Rattle.targets.specs.State.{moves_at};

@@ -4,7 +4,8 @@
 ghost use Rattle.std.specs.Prelude.{◌≡◌, ◌≤◌, ◌+◌, true, [], length, IfOk, OnErr};
 ghost use Rattle.domain_base.specs.declared.names.Node.TheVariants.{Ap, Sta};
 ghost use Rattle.key_holders.specs.Rows.{is_in};
-ghost use Rattle.domain_rules.specs.Network.{InForm, IsListed};
+ghost use Rattle.domain_rules.specs.Network.{InForm};
+ghost use Rattle.run_journal.specs.Events.{IsListed};
 ghost use Rattle.frame_intake.specs.Views.{message_fields};
 ghost use Rattle.ap_node.specs.Putting.{puts, Puts, PutsWhere, IsReady, LeavesOthers, OneChange};
 
@@ -14,7 +15,7 @@ use domain_base::{Akm, NoMemory, Node, Octets};
 use frame_intake::Heard;
 use key_hierarchy::PutAnswer;
 use key_holders::{HolderRow, Holders};
-use node_base::{Here, address, r0kh_id};
+use node_base::{Here, address, psk, r0kh_id};
 use run_journal::Act;
 
 // Puts the PMK-R0 of a station with the key holder of the access point (IEEE Std 802.11-2020,
@@ -40,9 +41,10 @@ fn put_row<H: Holders>(
     let domain = here.domain;
     let r0kh_id = r0kh_id(domain, ap);
     let id = Vec::from_slice(here.alloc, r0kh_id)?;
-    let sta = address(domain, Node::Sta(station));
+    let peer = Node::Sta(station);
+    let (sta, psk) = (address(domain, peer), psk(domain, Node::Ap(ap), peer));
     let ssid = domain.ssid.as_slice();
-    let row = HolderRow::derive(&domain.psk, ssid, domain.mdid, r0kh_id, sta);
+    let row = HolderRow::derive(&psk, ssid, domain.mdid, r0kh_id, sta);
     let name = row.name;
     let answer = holders.put(ap, row);
     match answer {

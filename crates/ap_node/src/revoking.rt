@@ -7,14 +7,15 @@ ghost use Rattle.key_hierarchy.specs.declared.answers.RevokeAnswer.TheVariants.{
 ghost use Rattle.key_holders.specs.Rows.{is_in};
 ghost use Rattle.run_journal.specs.declared.acts.Act.TheVariants.{Revoked};
 ghost use Rattle.run_journal.specs.declared.acts.Outcome.TheVariants.{Done};
-ghost use Rattle.domain_rules.specs.Network.{InForm, IsListed, r0kh_id};
+ghost use Rattle.domain_rules.specs.Network.{InForm, r0kh_id};
+ghost use Rattle.run_journal.specs.Events.{IsListed};
 ghost use Rattle.ap_node.specs.Putting.{Revokes, RevokesWhere, LeavesOthers, OneChange};
 
 use act_memory::Outbox;
 use domain_base::{Akm, NoMemory, Node, Octets};
 use key_hierarchy::{PmkR0, RevokeAnswer};
 use key_holders::Holders;
-use node_base::{Here, address, r0kh_id};
+use node_base::{Here, address, psk, r0kh_id};
 use run_journal::{Act, Outcome};
 
 // With suite 4 the row is that of the PMK-R0 of the station (IEEE Std 802.11-2020, 12.7.1.6.3).
@@ -39,15 +40,10 @@ fn revoke_row<H: Holders>(
     ensures no_less { H.no_less holders.old holders.new }
 {
     let domain = here.domain;
-    let sta = address(domain, Node::Sta(station));
+    let peer = Node::Sta(station);
+    let (sta, psk) = (address(domain, peer), psk(domain, Node::Ap(ap), peer));
     let r0kh_id = r0kh_id(domain, ap);
-    let r0 = PmkR0::derive(
-        &domain.psk,
-        domain.ssid.as_slice(),
-        domain.mdid,
-        r0kh_id,
-        sta,
-    );
+    let r0 = PmkR0::derive(&psk, domain.ssid.as_slice(), domain.mdid, r0kh_id, sta);
     let name = r0.name();
     let answer = holders.revoke(ap, &name);
     Act::Revoked {

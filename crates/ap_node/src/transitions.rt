@@ -5,7 +5,8 @@ ghost use Rattle.std.specs.Prelude.{◌≡◌, ◌≢◌, ◌<◌, ◌≤◌, �
 ghost use Rattle.std.specs.Prelude.{ℕ, None, false, length, is_some, max};
 ghost use Rattle.std.specs.Vec.{vec_capacity};
 ghost use Rattle.domain_base.specs.declared.names.Node.TheVariants.{Ap, Sta};
-ghost use Rattle.domain_rules.specs.Network.{InForm, IsListed, is_ap};
+ghost use Rattle.domain_rules.specs.Network.{InForm, is_ap};
+ghost use Rattle.run_journal.specs.Events.{IsListed};
 ghost use Rattle.ap_node.specs.State.{station_at, attempt_in, session_in};
 ghost use Rattle.ap_node.specs.Counts.{owes_part, recounted};
 ghost use Rattle.ap_node.specs.Moving.{attempt_closed, attempt_over, begun_key};

@@ -61,15 +61,15 @@ cons_is e f = rw (e, f) refl
 -- the acts of accepting M2, the last first
 abbrev pub agreed_after : Domain → Node → Node → List ℕ → Option Seal → Agreed → ℕ → List Act → List Act
 agreed_after d n p octets s y counter h =
-    sent_m3 d n p (key_by d (home d n) n p y.key) counter (carried y.group) y.rsc ∷ Derived p (inputs_by d (home d n) n p y.key) y.key.ptk ∷ Took (Some p) octets (kind.Key M2) Accepted s ∷ h
+    sent_m3 d n p (key_by d (home d n p) n p y.key) counter (carried y.group) y.rsc ∷ Derived p (inputs_by d (home d n p) n p y.key) y.key.ptk ∷ Took (Some p) octets (kind.Key M2) Accepted s ∷ h
 
 pub has_agreed : (d : Domain) (n p : Node) (octets : List ℕ) (s : Option Seal) (y : Agreed) (a : Attempt) (h : List Act) → IsAddress (address d n) → IsAddress (address d p) → suc (a.m1s + a.m3s) < 2 ^ 64
-    → IsUnderWay d n p a h → a.agreed ≡ None → IsLast y.group (group_keys groups.Gtk h) → newest_uses groups.Gtk h ≡ y.rsc → padded y.plain ≡ m3_key_data d n (key_by d (home d n) n p y.key) (carried y.group)
+    → IsUnderWay d n p a h → a.agreed ≡ None → IsLast y.group (group_keys groups.Gtk h) → newest_uses groups.Gtk h ≡ y.rsc → padded y.plain ≡ m3_key_data d n (key_by d (home d n p) n p y.key) (carried y.group)
     → IsUnderWay d n p (answered y a) (agreed_after d n p octets s y (suc (a.m1s + a.m3s)) h)
 has_agreed d n p octets s y a h l m low at none key uses data_ =
     let took = Took (Some p) octets (kind.Key M2) Accepted s in
-    let derived = Derived p (inputs_by d (home d n) n p y.key) y.key.ptk in
-    let x = key_by d (home d n) n p y.key in
+    let derived = Derived p (inputs_by d (home d n p) n p y.key) y.key.ptk in
+    let x = key_by d (home d n p) n p y.key in
     let counter = suc (a.m1s + a.m3s) in
     let m3 = sent_m3 d n p x counter (carried y.group) y.rsc in
     let w = none_sent (own_pair d n p) a.agreed a.m3s at.part h none at.agreed in

@@ -104,8 +104,8 @@ says_m2 d n p octets y i k counter next g key rsc uses ptk_is next_is key_is use
 counts_agreed : (d : Domain) (n p : Node) (octets : List ℕ) (v : Option Seal) (y : Agreed) (counter : ℕ) (h : List Act) (s : Session) → Counts p s h → Counts p s (agreed_after d n p octets v y counter h)
 counts_agreed d n p octets v y counter h s at =
     let took = Took (Some p) octets (kind.Key M2) Accepted v in
-    let derived = Derived p (inputs_by d (home d n) n p y.key) y.key.ptk in
-    let m3 = sent_m3 d n p (key_by d (home d n) n p y.key) counter (carried y.group) y.rsc in
+    let derived = Derived p (inputs_by d (home d n p) n p y.key) y.key.ptk in
+    let m3 = sent_m3 d n p (key_by d (home d n p) n p y.key) counter (carried y.group) y.rsc in
     counts_on p s m3 (derived ∷ took ∷ h) refl refl (rw (same-refl p) refl) refl
     (counts_on p s derived (took ∷ h) refl refl refl refl (counts_on p s took h refl refl refl (rw (same-refl p) refl) at))
 
@@ -114,7 +114,7 @@ session_agreed : (d : Domain) (n p : Node) (octets : List ℕ) (s : Option Seal)
 session_agreed d n p octets s y counter o h at = session_on d n p o h (agreed_after d n p octets s y counter h) refl (counts_agreed d n p octets s y counter h) at
 
 -- names of keys do not go back to nonces
-mobile_by : (d : Domain) (a : ℕ) (p : Node) (y : Keyed) (o : Option Mobility) → IsMobility d (inputs d (home d (Ap a)) (Ap a) p [] []) (fte_octets (assoc_fte d (Ap a))) o → IsMobility d (inputs_by d (home d (Ap a)) (Ap a) p y) (fte_octets (assoc_fte d (Ap a))) o
+mobile_by : (d : Domain) (a : ℕ) (p : Node) (y : Keyed) (o : Option Mobility) → IsMobility d (inputs d (home d (Ap a) p) (Ap a) p [] []) (fte_octets (assoc_fte d (Ap a))) o → IsMobility d (inputs_by d (home d (Ap a) p) (Ap a) p y) (fte_octets (assoc_fte d (Ap a))) o
 mobile_by d a p y None is = is
 mobile_by d a p y (Some m) is = is
 
@@ -125,15 +125,15 @@ agreed_m2 d first a p octets k s t y r h come stands on w sends told_keys plain 
     let n = Ap a in
     let from = come.from in
     let is = come.message in
-    let i = inputs_by d (home d n) n p y.key in
+    let i = inputs_by d (home d n p) n p y.key in
     let counter = suc (t.m1s + t.m3s) in
-    let x = key_by d (home d n) n p y.key in
+    let x = key_by d (home d n p) n p y.key in
     let data_ : padded y.plain ≡ m3_key_data d n x (carried y.group) = ap padded plain ∙ ap (λ (akm : Akm). padded (m3_data akm t.base.mobility y.group.id y.group.key)) on.ends.akm ∙ m3_data_is d n x (carried y.group) t.base.mobility (mobile_by d a p y.key t.base.mobility on.trial.base.mobility) in
     let ptk_is = key_by_m2 d a p s t h k y.key None on w in
     let facts = told d n p t h k None on.trial w.key_data in
     let accepted = first_is d first a p octets k h from is ∙ accepted_m2 d a p s t h k y.key None on w in
     let seal = Some (frame_seal y.key.ptk.kck k.octets) in
-    let acts = answer_took d n p (is_some s.session) octets k M2 Accepted r y.key (sent_m3 d n p (key_by d (home d n) n p y.key) counter (carried y.group) y.rsc) h is told_keys (sends.sends d n p x on.ends refl refl data_) in
+    let acts = answer_took d n p (is_some s.session) octets k M2 Accepted r y.key (sent_m3 d n p (key_by d (home d n p) n p y.key) counter (carried y.group) y.rsc) h is told_keys (sends.sends d n p x on.ends refl refl data_) in
     record {
       adds = record {
         r = KeyedReading k;

@@ -73,7 +73,7 @@ m4-in d h p k part is = rw is refl
 
 abbrev keying_of : Domain → Node → Node → Option Agreed → Option Derivation
 keying_of d n p None = None
-keying_of d n p (Some y) = Some (key_by d (home d n) n p y.key)
+keying_of d n p (Some y) = Some (key_by d (home d n p) n p y.key)
 
 keying_by : (d : Domain) (n p : Node) (o : Option Agreed) (m3s : ℕ) (part h : List Act) → IsAgreed (own_pair d n p) o m3s part h → cond (is_some o) (derivation p part) None ≡ keying_of d n p o
 keying_by d n p None m3s part h at = refl
@@ -154,11 +154,11 @@ replaced_is p (Some x) false y is = absurd (cc is)
 
 -- as far as the key is installed
 abbrev installed_after : Domain → Node → Node → List ℕ → KeyMessage → Keyed → Option Derivation → List Act → List Act
-installed_after d n p octets k y o h = add (m4_acts octets k p (key_by d (home d n) n p y) o []) h
+installed_after d n p octets k y o h = add (m4_acts octets k p (key_by d (home d n p) n p y) o []) h
 
 -- and with what is put with the key holder
 abbrev after : Domain → Node → Node → List ℕ → KeyMessage → Keyed → Option Derivation → List Act → List Act
-after d n p octets k y o h = add (m4_acts octets k p (key_by d (home d n) n p y) o (put_by d n h p y)) h
+after d n p octets k y o h = add (m4_acts octets k p (key_by d (home d n p) n p y) o (put_by d n h p y)) h
 
 put_then : (d : Domain) (n p : Node) (octets : List ℕ) (k : KeyMessage) (y : Keyed) (o : Option Derivation) (h : List Act) → add (put_by d n h p y) (installed_after d n p octets k y o h) ≡ after d n p octets k y o h
 put_then d n p octets k y None h = refl
@@ -180,10 +180,10 @@ uses_put Psk d n h p x past = refl
 uses_put PskSha256 d n h p x past = refl
 uses_put FtPsk d n h p x past = refl
 
-begun_session : (d : Domain) (n p : Node) (octets : List ℕ) (k : KeyMessage) (o : Option Derivation) (y : Keyed) (s : Session) (g : GroupKey) (h part : List Act) → attempt p h ≡ Some part → by_connect part ≡ true → derivation p h ≡ Some (key_by d (home d n) n p y) → y.ptk ≡ s.ptk
+begun_session : (d : Domain) (n p : Node) (octets : List ℕ) (k : KeyMessage) (o : Option Derivation) (y : Keyed) (s : Session) (g : GroupKey) (h part : List Act) → attempt p h ≡ Some part → by_connect part ≡ true → derivation p h ≡ Some (key_by d (home d n p) n p y) → y.ptk ≡ s.ptk
     → next_in_attempt p part ≡ suc s.last → IsLast g (group_keys groups.Gtk h) → IsFresh g.place s → IsHeld d n p s (installed_after d n p octets k y o h)
 begun_session d n p octets k (Some old) y s g h part is begun key same counts last fresh =
-    let i = inputs_by d (home d n) n p y in
+    let i = inputs_by d (home d n p) n p y in
     let took = Took (Some p) octets (kind.Key M4) Accepted (Some (frame_seal y.ptk.kck k.octets)) in
     let closed = Closed p OfSession in
     let installed = Installed (One p) (Pairwise y.ptk.tk i) in
@@ -191,8 +191,8 @@ begun_session d n p octets k (Some old) y s g h part is begun key same counts la
     let second = attempt_more p closed (took ∷ h) (took ∷ part) refl refl first in
     let third = attempt_more p installed (closed ∷ took ∷ h) (closed ∷ took ∷ part) refl refl second in
     record {
-      x = key_by d (home d n) n p y;
-      is = finished_key p i (installed ∷ closed ∷ took ∷ h) (key_by d (home d n) n p y) key;
+      x = key_by d (home d n p) n p y;
+      is = finished_key p i (installed ∷ closed ∷ took ∷ h) (key_by d (home d n p) n p y) key;
       key = same;
       counts = record {
         place = g.place;
@@ -201,14 +201,14 @@ begun_session d n p octets k (Some old) y s g h part is begun key same counts la
       };
     }
 begun_session d n p octets k None y s g h part is begun key same counts last fresh =
-    let i = inputs_by d (home d n) n p y in
+    let i = inputs_by d (home d n p) n p y in
     let took = Took (Some p) octets (kind.Key M4) Accepted (Some (frame_seal y.ptk.kck k.octets)) in
     let installed = Installed (One p) (Pairwise y.ptk.tk i) in
     let first = attempt_more p took h part refl refl is in
     let second = attempt_more p installed (took ∷ h) (took ∷ part) refl refl first in
     record {
-      x = key_by d (home d n) n p y;
-      is = finished_key p i (installed ∷ took ∷ h) (key_by d (home d n) n p y) key;
+      x = key_by d (home d n p) n p y;
+      is = finished_key p i (installed ∷ took ∷ h) (key_by d (home d n p) n p y) key;
       key = same;
       counts = record {
         place = g.place;
@@ -218,23 +218,23 @@ begun_session d n p octets k None y s g h part is begun key same counts last fre
     }
 
 -- its key
-session_after : (d : Domain) (n p : Node) (octets : List ℕ) (k : KeyMessage) (o : Option Derivation) (y : Keyed) (h : List Act) → derivation p h ≡ Some (key_by d (home d n) n p y) → session p (installed_after d n p octets k y o h) ≡ Some (key_by d (home d n) n p y)
+session_after : (d : Domain) (n p : Node) (octets : List ℕ) (k : KeyMessage) (o : Option Derivation) (y : Keyed) (h : List Act) → derivation p h ≡ Some (key_by d (home d n p) n p y) → session p (installed_after d n p octets k y o h) ≡ Some (key_by d (home d n p) n p y)
 session_after d n p octets k None y h key =
-    let i = inputs_by d (home d n) n p y in
-    finished_key p i (Installed (One p) (Pairwise y.ptk.tk i) ∷ Took (Some p) octets (kind.Key M4) Accepted (Some (frame_seal y.ptk.kck k.octets)) ∷ h) (key_by d (home d n) n p y) key
+    let i = inputs_by d (home d n p) n p y in
+    finished_key p i (Installed (One p) (Pairwise y.ptk.tk i) ∷ Took (Some p) octets (kind.Key M4) Accepted (Some (frame_seal y.ptk.kck k.octets)) ∷ h) (key_by d (home d n p) n p y) key
 session_after d n p octets k (Some old) y h key =
-    let i = inputs_by d (home d n) n p y in
-    finished_key p i (Installed (One p) (Pairwise y.ptk.tk i) ∷ Closed p OfSession ∷ Took (Some p) octets (kind.Key M4) Accepted (Some (frame_seal y.ptk.kck k.octets)) ∷ h) (key_by d (home d n) n p y) key
+    let i = inputs_by d (home d n p) n p y in
+    finished_key p i (Installed (One p) (Pairwise y.ptk.tk i) ∷ Closed p OfSession ∷ Took (Some p) octets (kind.Key M4) Accepted (Some (frame_seal y.ptk.kck k.octets)) ∷ h) (key_by d (home d n p) n p y) key
 
 -- the attempt is none any more
 left : (d : Domain) (n : Node) (sta : ℕ) (octets : List ℕ) (k : KeyMessage) (o : Option Derivation) (y : Keyed) (h : List Act) → attempt (Sta sta) (installed_after d n (Sta sta) octets k y o h) ≡ None
 left d n sta octets k (Some old) y h =
     let p = Sta sta in
-    let i = inputs_by d (home d n) n p y in
+    let i = inputs_by d (home d n p) n p y in
     attempt_ends p (Finished p i) (Installed (One p) (Pairwise y.ptk.tk i) ∷ Closed p OfSession ∷ Took (Some p) octets (kind.Key M4) Accepted (Some (frame_seal y.ptk.kck k.octets)) ∷ h) refl (same-refl p)
 left d n sta octets k None y h =
     let p = Sta sta in
-    let i = inputs_by d (home d n) n p y in
+    let i = inputs_by d (home d n p) n p y in
     attempt_ends p (Finished p i) (Installed (One p) (Pairwise y.ptk.tk i) ∷ Took (Some p) octets (kind.Key M4) Accepted (Some (frame_seal y.ptk.kck k.octets)) ∷ h) refl (same-refl p)
 
 -- the newest group key stays, and the count of its uses
@@ -248,24 +248,24 @@ uses_installed d n p octets k None y h = refl
 
 after_keys : (d : Domain) (n p : Node) (octets : List ℕ) (k : KeyMessage) (o : Option Derivation) (y : Keyed) (h : List Act) → group_keys groups.Gtk (after d n p octets k y o h) ≡ group_keys groups.Gtk h
 after_keys d n p octets k o y h =
-    ap (group_keys groups.Gtk) (sym (put_then d n p octets k y o h)) ∙ keys_put d.akm d n h p (key_by d (home d n) n p y) (installed_after d n p octets k y o h) ∙ keys_installed d n p octets k o y h
+    ap (group_keys groups.Gtk) (sym (put_then d n p octets k y o h)) ∙ keys_put d.akm d n h p (key_by d (home d n p) n p y) (installed_after d n p octets k y o h) ∙ keys_installed d n p octets k o y h
 
 after_uses : (d : Domain) (n p : Node) (octets : List ℕ) (k : KeyMessage) (o : Option Derivation) (y : Keyed) (h : List Act) → newest_uses groups.Gtk (after d n p octets k y o h) ≡ newest_uses groups.Gtk h
 after_uses d n p octets k o y h =
-    ap (newest_uses groups.Gtk) (sym (put_then d n p octets k y o h)) ∙ uses_put d.akm d n h p (key_by d (home d n) n p y) (installed_after d n p octets k y o h) ∙ uses_installed d n p octets k o y h
+    ap (newest_uses groups.Gtk) (sym (put_then d n p octets k y o h)) ∙ uses_put d.akm d n h p (key_by d (home d n p) n p y) (installed_after d n p octets k y o h) ∙ uses_installed d n p octets k o y h
 
 -- what the authenticator stands for there, it stands for behind what is put
 stands_put : (d : Domain) (n p : Node) (octets : List ℕ) (k : KeyMessage) (o : Option Derivation) (y : Keyed) (s : State) (h : List Act) → AuthenticatorStands d n p s (installed_after d n p octets k y o h) → AuthenticatorStands d n p s (after d n p octets k y o h)
 stands_put d n p octets k o y s h stands =
     let past = installed_after d n p octets k y o h in
     let put = put_by d n h p y in
-    subst (λ (g : List Act). AuthenticatorStands d n p s g) (put_then d n p octets k y o h) (stands_on d n p s past (add put past) (other_on p put past (apart_put d.akm d n h p (key_by d (home d n) n p y))) stands)
+    subst (λ (g : List Act). AuthenticatorStands d n p s g) (put_then d n p octets k y o h) (stands_on d n p s past (add put past) (other_on p put past (apart_put d.akm d n h p (key_by d (home d n p) n p y))) stands)
 
 session_put : (d : Domain) (n p : Node) (octets : List ℕ) (k : KeyMessage) (o : Option Derivation) (y : Keyed) (h : List Act) → session p (after d n p octets k y o h) ≡ session p (installed_after d n p octets k y o h)
 session_put d n p octets k o y h =
     let past = installed_after d n p octets k y o h in
     let put = put_by d n h p y in
-    ap (session p) (sym (put_then d n p octets k y o h)) ∙ (other_on p put past (apart_put d.akm d n h p (key_by d (home d n) n p y))).goes.has
+    ap (session p) (sym (put_then d n p octets k y o h)) ∙ (other_on p put past (apart_put d.akm d n h p (key_by d (home d n p) n p y))).goes.has
 
 -- ---- accepted
 
@@ -276,7 +276,7 @@ older_is d n p t y g part h has last = ap (carried_older p h) has.2.is ∙ older
 -- what follows the acts of M4
 abbrev tail_acts : Domain → Node → Node → List ℕ → KeyMessage → Keyed → List Act → List Act
 tail_acts d n p octets k y h =
-    newer_acts d n p (after d n p octets k y (session p h) h) (key_by d (home d n) n p y) (carried_older p h (before_sent p (kind.Key M3) h))
+    newer_acts d n p (after d n p octets k y (session p h) h) (key_by d (home d n p) n p y) (carried_older p h (before_sent p (kind.Key M3) h))
 
 -- what M4 makes of the attempt and of the history
 record Ends (d : Domain) (a sta : ℕ) (octets : List ℕ) (k : KeyMessage) (s : State) (x : Finish) (t : Session) (r : Reply) (h : List Act) : Type 0 where
@@ -293,7 +293,7 @@ ends_quiet d a sta octets k s x t r h same len older_no stands =
     let none = nothing_sent p r len in
     let past = after d (Ap a) p octets k x.key (session p h) h in
     record {
-      sends = none ∙ sym (ap (newer_acts d (Ap a) p past (key_by d (home d (Ap a)) (Ap a) p x.key)) older_no);
+      sends = none ∙ sym (ap (newer_acts d (Ap a) p past (key_by d (home d (Ap a) p) (Ap a) p x.key)) older_no);
       stands = subst (λ (g : List Act). AuthenticatorStands d (Ap a) p (record s { attempt = None; session = Some t }) (add g past)) (sym none)
           (subst (λ (z : Session). AuthenticatorStands d (Ap a) p (record s { attempt = None; session = Some z }) past) (sym same) stands);
     }
@@ -302,7 +302,7 @@ ends_quiet d a sta octets k s x t r h same len older_no stands =
 ends_asked : (d : Domain) (a sta : ℕ) (octets : List ℕ) (k : KeyMessage) (s : State) (x : Finish) (t : Session) (g : GroupKey) (rsc : ℕ) (r : Reply) (h : List Act) → Asks s.ends g rsc x.session t r → sent_for g.place x.session ≡ 0
     → IsLast g (group_keys groups.Gtk h) → newest_uses groups.Gtk h ≡ rsc
     → carried_older (Sta sta) h (before_sent (Sta sta) (kind.Key M3) h) ≡ true
-    → session (Sta sta) (after d (Ap a) (Sta sta) octets k x.key (session (Sta sta) h) h) ≡ Some (key_by d (home d (Ap a)) (Ap a) (Sta sta) x.key) → x.key.ptk ≡ x.session.ptk
+    → session (Sta sta) (after d (Ap a) (Sta sta) octets k x.key (session (Sta sta) h) h) ≡ Some (key_by d (home d (Ap a) (Sta sta)) (Ap a) (Sta sta) x.key) → x.key.ptk ≡ x.session.ptk
     → Counts (Sta sta) x.session (after d (Ap a) (Sta sta) octets k x.key (session (Sta sta) h) h)
     → AuthenticatorStands d (Ap a) (Sta sta) (record s { attempt = None; session = Some x.session }) (after d (Ap a) (Sta sta) octets k x.key (session (Sta sta) h) h)
     → Ends d a sta octets k s x t r h
@@ -310,7 +310,7 @@ ends_asked d a sta octets k s x t g rsc r h w none_yet last uses older_yes has s
     let n = Ap a in
     let p = Sta sta in
     let y = x.key in
-    let i = key_by d (home d n) n p y in
+    let i = key_by d (home d n p) n p y in
     let past = after d n p octets k y (session p h) h in
     let sends = w.sends d n p i stands.ends (sym same) in
     let last_now : IsLast g (group_keys groups.Gtk past) = subst (λ (keys : List (List ℕ)). IsLast g keys) (sym (after_keys d n p octets k (session p h) y h)) last in
@@ -326,7 +326,7 @@ ends_asked d a sta octets k s x t g rsc r h w none_yet last uses older_yes has s
 ends_by : (d : Domain) (a sta : ℕ) (octets : List ℕ) (k : KeyMessage) (s : State) (x : Finish) (t : Session) (g : GroupKey) (rsc : ℕ) (r : Reply) (h : List Act) (b : Bool) → AsksWhere b s.ends g rsc x.session t r → IsFresh g.place x.session
     → IsLast g (group_keys groups.Gtk h) → newest_uses groups.Gtk h ≡ rsc
     → carried_older (Sta sta) h (before_sent (Sta sta) (kind.Key M3) h) ≡ b
-    → session (Sta sta) (after d (Ap a) (Sta sta) octets k x.key (session (Sta sta) h) h) ≡ Some (key_by d (home d (Ap a)) (Ap a) (Sta sta) x.key) → x.key.ptk ≡ x.session.ptk
+    → session (Sta sta) (after d (Ap a) (Sta sta) octets k x.key (session (Sta sta) h) h) ≡ Some (key_by d (home d (Ap a) (Sta sta)) (Ap a) (Sta sta) x.key) → x.key.ptk ≡ x.session.ptk
     → Counts (Sta sta) x.session (after d (Ap a) (Sta sta) octets k x.key (session (Sta sta) h) h)
     → AuthenticatorStands d (Ap a) (Sta sta) (record s { attempt = None; session = Some x.session }) (after d (Ap a) (Sta sta) octets k x.key (session (Sta sta) h) h)
     → Ends d a sta octets k s x t r h
@@ -348,12 +348,12 @@ finished_m4 d first a sta octets k s t x u g rsc r h come stands at w told =
     let is = come.message in
     let had = is_some s.session in
     let y = x.key in
-    let z = key_by d (home d n) n p y in
-    let i = inputs_by d (home d n) n p y in
+    let z = key_by d (home d n p) n p y in
+    let i = inputs_by d (home d n p) n p y in
     let seal = Some (frame_seal y.ptk.kck k.octets) in
     let put = put_by d n h p y in
     let key = some_sent (own_pair d n p) t.agreed w.y t.m3s at.part h w.answered.some at.agreed in
-    let same : Some (key_by d (home d n) n p w.y.key) ≡ Some z = ap (λ (v : Keyed). Some (key_by d (home d n) n p v)) (sym w.key_is) in
+    let same : Some (key_by d (home d n p) n p w.y.key) ≡ Some z = ap (λ (v : Keyed). Some (key_by d (home d n p) n p v)) (sym w.key_is) in
     let held_by : y.ptk ≡ x.session.ptk = ap (λ (v : Keyed). v.ptk) w.key_is ∙ sym w.ptk_is in
     let accepted = from.verdict_is first h ∙ ap (λ (m : Message). key_verdict d (first + draws h) n h p k m) is ∙ accepted_m4 d n p h k t s.ends.akm g x stands.ends.akm at w in
     let derived_is = derived_in p h at.part z at.is (key.1 ∙ same) in

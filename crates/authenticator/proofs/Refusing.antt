@@ -25,7 +25,7 @@ use Rattle.domain_rules.specs.Here.{here}
 use Rattle.domain_rules.specs.Reading.{KeyMessage, Keyed as KeyedReading}
 use Rattle.domain_rules.specs.Replies.{IsMessageFrom}
 use Rattle.key_hierarchy.specs.Keys.{ptk}
-use Rattle.domain_rules.specs.Network.{r0kh_id, root_at, inputs}
+use Rattle.domain_rules.specs.Network.{r0kh_id, inputs_at}
 use Rattle.domain_rules.specs.Asking.{by_connect, offered, has_heard, own, in_attempt, among, verified}
 use Rattle.domain_rules.specs.AccessPointKeys.{m4_keying, m4_verdict_by}
 use Rattle.domain_rules.specs.Verdict.{key_verdict}
@@ -102,7 +102,7 @@ pub unawaited_m2 : (d : Domain) (n : Node) (h : List Act) (p : Node) (k : KeyMes
     → in_attempt o (λ part. (
     if not (by_connect part) || has_heard p (kind.Key M2) part then Refused reason.Unawaited
     else among (offered p M1 part) k.fields.counter
-    (verified d.akm (ptk (inputs d (root_at d (r0kh_id d n)) n p (own part) k.fields.nonce)).kck k Accepted))) ≡ Refused reason.Unawaited
+    (verified d.akm (ptk (inputs_at d n p (r0kh_id d n) (own part) k.fields.nonce)).kck k Accepted))) ≡ Refused reason.Unawaited
 unawaited_m2 d n h p k None at = refl
 unawaited_m2 d n h p k (Some part) at = rw at refl
 

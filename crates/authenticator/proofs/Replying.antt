@@ -40,23 +40,23 @@ took_only d n p had octets k m o r v h is len verified derived installed gtk =
     only_took d n p had octets k o r v h len verified derived installed gtk ∙ took_as p octets k.message m o (option_map (λ kck. frame_seal kck k.octets) v) [] is
 
 answer_acts : (d : Domain) (n p : Node) (had : Bool) (octets : List ℕ) (k : KeyMessage) (o : Outcome) (r : Reply) (y : Keyed) (act : Act) (h : List Act) → TellsDerived y r → sent_acts p r ≡ act ∷ []
-    → told_acts d n p had octets k o r h ≡ Took (Some p) octets (kind.Key k.message) o (Some (frame_seal y.ptk.kck k.octets)) ∷ Derived p (inputs_by d (home d n) n p y) y.ptk ∷ act ∷ []
+    → told_acts d n p had octets k o r h ≡ Took (Some p) octets (kind.Key k.message) o (Some (frame_seal y.ptk.kck k.octets)) ∷ Derived p (inputs_by d (home d n p) n p y) y.ptk ∷ act ∷ []
 answer_acts d n p true octets k o r y act h told sends = rw (told.verified, told.derived, told.installed, told.gtk, sends) refl
 answer_acts d n p false octets k o r y act h told sends = rw (told.verified, told.derived, told.installed, told.gtk, sends) refl
 
 -- the key was derived, and something is sent
 pub answer_took : (d : Domain) (n p : Node) (had : Bool) (octets : List ℕ) (k : KeyMessage) (m : Message) (o : Outcome) (r : Reply) (y : Keyed) (act : Act) (h : List Act) → k.message ≡ m → TellsDerived y r → sent_acts p r ≡ act ∷ []
-    → told_acts d n p had octets k o r h ≡ Took (Some p) octets (kind.Key m) o (Some (frame_seal y.ptk.kck k.octets)) ∷ Derived p (inputs_by d (home d n) n p y) y.ptk ∷ act ∷ []
+    → told_acts d n p had octets k o r h ≡ Took (Some p) octets (kind.Key m) o (Some (frame_seal y.ptk.kck k.octets)) ∷ Derived p (inputs_by d (home d n p) n p y) y.ptk ∷ act ∷ []
 answer_took d n p had octets k m o r y act h is told sends =
-    answer_acts d n p had octets k o r y act h told sends ∙ took_as p octets k.message m o (Some (frame_seal y.ptk.kck k.octets)) (Derived p (inputs_by d (home d n) n p y) y.ptk ∷ act ∷ []) is
+    answer_acts d n p had octets k o r y act h told sends ∙ took_as p octets k.message m o (Some (frame_seal y.ptk.kck k.octets)) (Derived p (inputs_by d (home d n p) n p y) y.ptk ∷ act ∷ []) is
 
 -- what an installed key adds to the taking
 abbrev pub finish_acts : Domain → Node → Node → Bool → Keyed → List Act
-finish_acts d n p had y = replaced_acts p had (Some y) ++ Installed (One p) (Pairwise y.ptk.tk (inputs_by d (home d n) n p y)) ∷ Finished p (inputs_by d (home d n) n p y) ∷ []
+finish_acts d n p had y = replaced_acts p had (Some y) ++ Installed (One p) (Pairwise y.ptk.tk (inputs_by d (home d n p) n p y)) ∷ Finished p (inputs_by d (home d n p) n p y) ∷ []
 
 -- what is put with the key holder
 abbrev pub put_by : Domain → Node → List Act → Node → Keyed → List Act
-put_by d n h p y = put_acts d n h p (key_by d (home d n) n p y)
+put_by d n h p y = put_acts d n h p (key_by d (home d n p) n p y)
 
 installed_took : (d : Domain) (n p : Node) (had : Bool) (octets : List ℕ) (k : KeyMessage) (o : Outcome) (r : Reply) (y : Keyed) (h : List Act) → r.verified ≡ Some y.ptk.kck → r.derived ≡ None → r.installed ≡ Some y → r.gtk ≡ None
     → told_acts d n p had octets k o r h ≡ Took (Some p) octets (kind.Key k.message) o (Some (frame_seal y.ptk.kck k.octets)) ∷ (finish_acts d n p had y ++ (put_by d n h p y ++ sent_acts p r))

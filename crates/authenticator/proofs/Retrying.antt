@@ -72,13 +72,13 @@ retry_m1 d n p h a at none =
     says e f = rw (e, f) refl
 
 retry_m3 : (d : Domain) (n p : Node) (h : List Act) (a : Attempt) (y : Agreed) (at : IsUnderWay d n p a h) → a.agreed ≡ Some y → IsAgreed (own_pair d n p) (Some y) a.m3s at.part h
-    → retry_acts d n h p (attempt p h) ≡ again_or_give_up p M3 (sent_count p M3 at.part) (sent_m3 d n p (key_by d (home d n) n p y.key) (suc (a.m1s + a.m3s)) (carried y.group) y.rsc)
+    → retry_acts d n h p (attempt p h) ≡ again_or_give_up p M3 (sent_count p M3 at.part) (sent_m3 d n p (key_by d (home d n p) n p y.key) (suc (a.m1s + a.m3s)) (carried y.group) y.rsc)
 retry_m3 d n p h a y at is has =
     retry_in d n p h at.part true at.is at.begun (at.answered ∙ ap (λ (o : Option Agreed). is_some o) is)
     ∙ says at.part (sent_count p M3 at.part) (derivation p at.part) (before_sent p (kind.Key M3) h) has.2.past has.1 has.2.is (next_of d n p a h at) (last_newest y.group has.2.past has.2.key) has.2.uses
   where
-    says : (part : List Act) (sends : ℕ) (o : Option Derivation) (b : Option (List Act)) (past : List Act) → o ≡ Some (key_by d (home d n) n p y.key) → b ≡ Some past → next_in_attempt p (chain p h) ≡ suc (a.m1s + a.m3s) → newest groups.Gtk past ≡ carried y.group → newest_uses groups.Gtk past ≡ y.rsc
-        → again_or_give_up p M3 sends (m3_again d n h p part o b) ≡ again_or_give_up p M3 sends (sent_m3 d n p (key_by d (home d n) n p y.key) (suc (a.m1s + a.m3s)) (carried y.group) y.rsc)
+    says : (part : List Act) (sends : ℕ) (o : Option Derivation) (b : Option (List Act)) (past : List Act) → o ≡ Some (key_by d (home d n p) n p y.key) → b ≡ Some past → next_in_attempt p (chain p h) ≡ suc (a.m1s + a.m3s) → newest groups.Gtk past ≡ carried y.group → newest_uses groups.Gtk past ≡ y.rsc
+        → again_or_give_up p M3 sends (m3_again d n h p part o b) ≡ again_or_give_up p M3 sends (sent_m3 d n p (key_by d (home d n p) n p y.key) (suc (a.m1s + a.m3s)) (carried y.group) y.rsc)
     says part sends o b past derives first next key uses = rw (derives, first, next, key, uses) refl
 
 -- ---- how the attempt goes on
@@ -166,7 +166,7 @@ retries_m3 : (d : Domain) (a : ℕ) (p : Node) (s : State) (t b : Attempt) (r : 
 retries_m3 d a p s t b r h stands on w =
     let n = Ap a in
     let y = w.y in
-    let x = key_by d (home d n) n p y.key in
+    let x = key_by d (home d n p) n p y.key in
     let counter = suc (t.m1s + t.m3s) in
     let has = some_sent (own_pair d n p) t.agreed y t.m3s on.trial.part h w.some on.trial.agreed in
     let sends = w.sends d n p x on.ends refl refl has.3 in
@@ -203,7 +203,7 @@ given_acts d n p h t M1 at w = retry_m1 d n p h t at w.0 ∙ again_many p M1 (se
 given_acts d n p h t M3 at w =
     let y = agreed_some t.agreed w.0 in
     retry_m3 d n p h t y.0 at y.1 (some_sent (own_pair d n p) t.agreed y.0 t.m3s at.part h y.1 at.agreed)
-    ∙ again_many p M3 (sent_count p M3 at.part) t.m3s (sent_m3 d n p (key_by d (home d n) n p y.0.key) (suc (t.m1s + t.m3s)) (carried y.0.group) y.0.rsc) (count_is p M3 at.part t.m1s t.m3s at.m3_offers) w.1
+    ∙ again_many p M3 (sent_count p M3 at.part) t.m3s (sent_m3 d n p (key_by d (home d n p) n p y.0.key) (suc (t.m1s + t.m3s)) (carried y.0.group) y.0.rsc) (count_is p M3 at.part t.m1s t.m3s at.m3_offers) w.1
 given_acts d n p h t m at w = absurd w
 
 given_none : (sta : ℕ) (m : Message) (h : List Act) → attempt (Sta sta) (Closed (Sta sta) OfAttempt ∷ GaveUp (Sta sta) m ∷ h) ≡ None

@@ -20,7 +20,7 @@ putting acts = record { opened = []; put = acts }
 
 none_put : (d : Domain) (n : Node) (h : List Act) (p : Node) (o : Option Keyed) → d.akm ≢ FtPsk → put_for d n h p o ≡ []
 none_put d n h p None other = refl
-none_put d n h p (Some y) other = put_suite d.akm d n h p (key_by d (home d n) n p y) other
+none_put d n h p (Some y) other = put_suite d.akm d n h p (key_by d (home d n p) n p y) other
 
 pub own_suite : (d : Domain) (n p : Node) → d.akm ≢ FtPsk → own_pair d n p ≡ pair d n p
 own_suite d n p other = pair_suite d (r0kh_id d n) n p other

@@ -68,8 +68,8 @@ pub on_by : (d : Domain) (a : ℕ) (p : Node) (s : State) (t : Attempt) (h : Lis
 on_by d a p s t h is stands = record { ends = stands.ends; trial = under_way d (Ap a) p s.attempt t h is stands.attempt_is }
 
 -- the key that both sides derive
-kck_is : (d : Domain) (a : ℕ) (p : Node) (s : State) (t : Attempt) (snonce : List ℕ) (h : List Act) → IsOn d a p s t h → (key_with s.ends t.base.pmk t.anonce snonce).ptk.kck ≡ (ptk (inputs d (home d (Ap a)) (Ap a) p t.anonce snonce)).kck
-kck_is d a p s t snonce h on = ap (λ (x : Ptk). x.kck) (key_is d (home d (Ap a)) (Ap a) p s.ends t.base.pmk (key_with s.ends t.base.pmk t.anonce snonce) on.ends on.trial.base.pmk refl)
+kck_is : (d : Domain) (a : ℕ) (p : Node) (s : State) (t : Attempt) (snonce : List ℕ) (h : List Act) → IsOn d a p s t h → (key_with s.ends t.base.pmk t.anonce snonce).ptk.kck ≡ (ptk (inputs d (home d (Ap a) p) (Ap a) p t.anonce snonce)).kck
+kck_is d a p s t snonce h on = ap (λ (x : Ptk). x.kck) (key_is d (home d (Ap a) p) (Ap a) p s.ends t.base.pmk (key_with s.ends t.base.pmk t.anonce snonce) on.ends on.trial.base.pmk refl)
 
 pub same_mic : {x y : Akm} {u v : List ℕ} (octets : List ℕ) → x ≡ y → u ≡ v → mic x u octets ≡ mic y v octets
 same_mic octets e f = rw (e, f) refl
@@ -77,7 +77,7 @@ same_mic octets e f = rw (e, f) refl
 -- ---- refusals before its MIC verified
 
 m2_by : (d : Domain) (a : ℕ) (p : Node) (s : State) (t : Attempt) (h : List Act) (k : KeyMessage) → IsOn d a p s t h → t.agreed ≡ None
-    → m2_verdict d (Ap a) h p k ≡ among (counters 0 t.m1s) k.fields.counter (verified d.akm (ptk (inputs d (home d (Ap a)) (Ap a) p t.anonce k.fields.nonce)).kck k Accepted)
+    → m2_verdict d (Ap a) h p k ≡ among (counters 0 t.m1s) k.fields.counter (verified d.akm (ptk (inputs d (home d (Ap a) p) (Ap a) p t.anonce k.fields.nonce)).kck k Accepted)
 m2_by d a p s t h k on none =
     m2-in d (Ap a) h p k on.trial.part false (counters 0 t.m1s) t.anonce on.trial.is on.trial.begun (on.trial.answered ∙ ap (λ (o : Option Agreed). is_some o) none) on.trial.m1_offers on.trial.nonce
 
@@ -86,14 +86,14 @@ answered_m2 d a p s t h k on some = m2-in d (Ap a) h p k on.trial.part true (cou
 
 counted_m2 : (d : Domain) (a : ℕ) (p : Node) (s : State) (t : Attempt) (h : List Act) (k : KeyMessage) (last : ℕ) → IsOn d a p s t h → IsCounted t k.fields last → m2_verdict d (Ap a) h p k ≡ Refused (reason.Counter last)
 counted_m2 d a p s t h k last on w =
-    m2_by d a p s t h k on w.none ∙ among-none (counters 0 t.m1s) k.fields.counter (verified d.akm (ptk (inputs d (home d (Ap a)) (Ap a) p t.anonce k.fields.nonce)).kck k Accepted) w.offer
+    m2_by d a p s t h k on w.none ∙ among-none (counters 0 t.m1s) k.fields.counter (verified d.akm (ptk (inputs d (home d (Ap a) p) (Ap a) p t.anonce k.fields.nonce)).kck k Accepted) w.offer
     ∙ ap (λ (x : ℕ). Refused (reason.Counter x)) (last_first t.m1s ∙ sym w.is)
 
 forged_m2 : (d : Domain) (a : ℕ) (p : Node) (s : State) (t : Attempt) (h : List Act) (k : KeyMessage) → IsOn d a p s t h → IsForged s.ends t (frame_in k) → m2_verdict d (Ap a) h p k ≡ Refused reason.Mic
 forged_m2 d a p s t h k on w =
     m2_by d a p s t h k on w.awaited.none
-    ∙ among-one (counters 0 t.m1s) k.fields.counter (verified d.akm (ptk (inputs d (home d (Ap a)) (Ap a) p t.anonce k.fields.nonce)).kck k Accepted) w.awaited.offer
-    ∙ verified-other d.akm (ptk (inputs d (home d (Ap a)) (Ap a) p t.anonce k.fields.nonce)).kck k Accepted (λ same. w.other (same ∙ sym (same_mic k.octets on.ends.akm (kck_is d a p s t k.fields.nonce h on))))
+    ∙ among-one (counters 0 t.m1s) k.fields.counter (verified d.akm (ptk (inputs d (home d (Ap a) p) (Ap a) p t.anonce k.fields.nonce)).kck k Accepted) w.awaited.offer
+    ∙ verified-other d.akm (ptk (inputs d (home d (Ap a) p) (Ap a) p t.anonce k.fields.nonce)).kck k Accepted (λ same. w.other (same ∙ sym (same_mic k.octets on.ends.akm (kck_is d a p s t k.fields.nonce h on))))
 
 pub refused_m2 : (d : Domain) (a : ℕ) (p : Node) (s : State) (t : Attempt) (h : List Act) (k : KeyMessage) (why : Reason) → IsOn d a p s t h → IsRefusedM2 s.ends t (frame_in k) why
     → m2_verdict d (Ap a) h p k ≡ Refused why
@@ -108,18 +108,18 @@ pub accepted_m2 : (d : Domain) (a : ℕ) (p : Node) (s : State) (t : Attempt) (h
     → m2_verdict d (Ap a) h p k ≡ Accepted
 accepted_m2 d a p s t h k y fault on w =
     m2_by d a p s t h k on w.awaited.none
-    ∙ among-one (counters 0 t.m1s) k.fields.counter (verified d.akm (ptk (inputs d (home d (Ap a)) (Ap a) p t.anonce k.fields.nonce)).kck k Accepted) w.awaited.offer
-    ∙ verified-same d.akm (ptk (inputs d (home d (Ap a)) (Ap a) p t.anonce k.fields.nonce)).kck k Accepted (w.mic_is ∙ same_mic k.octets on.ends.akm (kck_is d a p s t k.fields.nonce h on))
+    ∙ among-one (counters 0 t.m1s) k.fields.counter (verified d.akm (ptk (inputs d (home d (Ap a) p) (Ap a) p t.anonce k.fields.nonce)).kck k Accepted) w.awaited.offer
+    ∙ verified-same d.akm (ptk (inputs d (home d (Ap a) p) (Ap a) p t.anonce k.fields.nonce)).kck k Accepted (w.mic_is ∙ same_mic k.octets on.ends.akm (kck_is d a p s t k.fields.nonce h on))
 
 -- the key of the reply
 pub key_by_m2 : (d : Domain) (a : ℕ) (p : Node) (s : State) (t : Attempt) (h : List Act) (k : KeyMessage) (y : Keyed) (fault : Option KeyDataFault) → IsOn d a p s t h → IsVerified s.ends t (frame_in k) y fault
-    → y.ptk ≡ ptk (inputs_by d (home d (Ap a)) (Ap a) p y)
-key_by_m2 d a p s t h k y fault on w = key_is d (home d (Ap a)) (Ap a) p s.ends t.base.pmk y on.ends on.trial.base.pmk (is_key_of s.ends t.base.pmk t.anonce k.fields.nonce y w.key)
+    → y.ptk ≡ ptk (inputs_by d (home d (Ap a) p) (Ap a) p y)
+key_by_m2 d a p s t h k y fault on w = key_is d (home d (Ap a) p) (Ap a) p s.ends t.base.pmk y on.ends on.trial.base.pmk (is_key_of s.ends t.base.pmk t.anonce k.fields.nonce y w.key)
 
 pub inputs_of_m2 : (d : Domain) (a : ℕ) (p : Node) (s : State) (t : Attempt) (h : List Act) (k : KeyMessage) (y : Keyed) (fault : Option KeyDataFault) (on : IsOn d a p s t h) → IsVerified s.ends t (frame_in k) y fault
-    → inputs_by d (home d (Ap a)) (Ap a) p y ≡ inputs d (home d (Ap a)) (Ap a) p (own on.trial.part) k.fields.nonce
+    → inputs_by d (home d (Ap a) p) (Ap a) p y ≡ inputs d (home d (Ap a) p) (Ap a) p (own on.trial.part) k.fields.nonce
 inputs_of_m2 d a p s t h k y fault on w =
-    ap (inputs_by d (home d (Ap a)) (Ap a) p) w.key ∙ sym (ap (λ (o : Option (List ℕ)). inputs d (home d (Ap a)) (Ap a) p (unwrap_or o []) k.fields.nonce) on.trial.nonce)
+    ap (inputs_by d (home d (Ap a) p) (Ap a) p) w.key ∙ sym (ap (λ (o : Option (List ℕ)). inputs d (home d (Ap a) p) (Ap a) p (unwrap_or o []) k.fields.nonce) on.trial.nonce)
 
 -- what comes of the key data with suite 4, as the definitions have it
 named_is : (name : List ℕ) (e : ElementFields) → is_named_by name e.rsne ≡ is_named name e
@@ -159,12 +159,12 @@ abbrev m2_facts : ElementFields → Option ElementFields → Facts
 m2_facts e says = record { requested = Some e; responded = None; unwrapped = None; data_ = says; pulled = None; opened = None }
 
 -- by suite: where there is nothing to add, and with suite 4
-said_by : (d : Domain) (n p : Node) (o : Option Mobility) (rsne : List ℕ) (e : ElementFields) (says : Option ElementFields) (fault : Option KeyDataFault) → IsMobility d (inputs d (home d n) n p [] []) (fte_octets (assoc_fte d n)) o → Some rsne ≡ e.rsne_octets
+said_by : (d : Domain) (n p : Node) (o : Option Mobility) (rsne : List ℕ) (e : ElementFields) (says : Option ElementFields) (fault : Option KeyDataFault) → IsMobility d (inputs d (home d n p) n p [] []) (fte_octets (assoc_fte d n)) o → Some rsne ≡ e.rsne_octets
     → (f : ElementFields) → SpellsElements Body rsne f → f.rsne ≡ e.rsne → SaysKeyData o rsne says fault → m2_further d.akm d n p (m2_facts e says) ≡ key_data_outcome fault
 said_by d n p None rsne e says fault other is f spelled same says_is =
     m2_further_suite d.akm d n p (m2_facts e says) other ∙ ap (λ (x : Option (List ℕ)). m2_key_data x says) (sym is) ∙ says_is
 said_by d n p (Some m) rsne e says fault mobile is f spelled same says_is =
-    let name : List ℕ = r1_name (inputs d (home d n) n p [] []) in
+    let name : List ℕ = r1_name (inputs d (home d n p) n p [] []) in
     let m_is : m ≡ record { name = name; mdid = d.mdid; fte = fte_octets (assoc_fte d n) } = same_mobility m name d.mdid (fte_octets (assoc_fte d n)) mobile.1 mobile.2 mobile.3 in
     ap (λ (akm : Akm). m2_further akm d n p (m2_facts e says)) mobile.0
     ∙ mobile_data_said d n name (Some e) says
@@ -232,5 +232,5 @@ seal_by d a p s t h k y fault on w is from =
     ap (λ (x : Ptk). Some (frame_seal x.kck k.octets)) (key_by_m2 d a p s t h k y fault on w) ∙ ap (λ (x : Inputs). Some (frame_seal (ptk x).kck k.octets)) (inputs_of_m2 d a p s t h k y fault on w)
     ∙ sym (
     ap (λ (o : Option Node). message_seal d (Ap a) h k k.message o) from ∙ ap (λ (m : Message). message_seal d (Ap a) h k m (Some p)) is
-    ∙ ap (option_map (λ (part : List Act). frame_seal (ptk (inputs d (home d (Ap a)) (Ap a) p (own part) k.fields.nonce)).kck k.octets)) on.trial.is
+    ∙ ap (option_map (λ (part : List Act). frame_seal (ptk (inputs d (home d (Ap a) p) (Ap a) p (own part) k.fields.nonce)).kck k.octets)) on.trial.is
     )

@@ -3,7 +3,7 @@ use Rattle.std.specs.Prelude.{◌≡◌, []}
 use Rattle.domain_base.specs.declared.names.Node.{Node}
 use Rattle.rsn_elements.specs.Sent.{fte_octets}
 use Rattle.run_journal.specs.declared.domain.Domain.{Domain}
-use Rattle.domain_rules.specs.Network.{Root, r0kh_id, root_at, inputs}
+use Rattle.domain_rules.specs.Network.{Root, r0kh_id, root_at, station_of, inputs_at}
 use Rattle.domain_rules.specs.Replies.{Pair}
 use Rattle.node_base.specs.Pairs.{pair_of}
 use Rattle.domain_rules.specs.FastTransition.{assoc_fte}
@@ -11,15 +11,15 @@ use Rattle.node_base.specs.PairwiseKeys.{pmk_of}
 use Rattle.frame_making.specs.KeyData.{IsMobility}
 use Rattle.authenticator.specs.declared.base.Base.{Base}
 
--- what the keys of access point n go back to: with suite 4 it is the R0KH
-abbrev pub home : Domain → Node → Root
-home d n = root_at d (r0kh_id d n)
+-- what the keys of access point n with its station p go back to: with suite 4 the access point is the R0KH
+abbrev pub home : Domain → Node → Node → Root
+home d n p = root_at d (station_of n p) (r0kh_id d n)
 
--- with its station
+-- the two
 abbrev pub own_pair : Domain → Node → Node → Pair
-own_pair d n p = pair_of d (home d n) n p
+own_pair d n p = pair_of d (home d n p) n p
 
 -- of access point n with its station p
 pub record IsBaseOf (d : Domain) (n p : Node) (b : Base) : Type 0 where
-  pub pmk : b.pmk ≡ pmk_of d (home d n) n p
-  pub mobility : IsMobility d (inputs d (home d n) n p [] []) (fte_octets (assoc_fte d n)) b.mobility
+  pub pmk : b.pmk ≡ pmk_of d (home d n p) n p
+  pub mobility : IsMobility d (inputs_at d n p (r0kh_id d n) [] []) (fte_octets (assoc_fte d n)) b.mobility

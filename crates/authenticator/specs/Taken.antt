@@ -52,7 +52,7 @@ pub record Comes (w : Here) (p : Node) (x : Given) (octets : List ℕ) (k : KeyM
 -- where a key was installed, what is put with the key holder
 abbrev pub put_for : Domain → Node → List Act → Node → Option Keyed → List Act
 put_for d n h p None = []
-put_for d n h p (Some y) = put_acts d n h p (key_by d (home d n) n p y)
+put_for d n h p (Some y) = put_acts d n h p (key_by d (home d n p) n p y)
 
 -- what the node adds as it takes the message
 abbrev pub told_acts : Domain → Node → Node → Bool → List ℕ → KeyMessage → Outcome → Reply → List Act → List Act

@@ -4,3 +4,4 @@ mod Sends
 pub mod DataRows
 pub mod Standing
 pub mod RepliedKeys
+pub mod Using

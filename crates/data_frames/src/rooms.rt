@@ -137,7 +137,7 @@ pub struct SendRoom {
 
 impl SendRoom {
     ghost use Rattle.ccmp_guard.specs.Ccmp.{sealed_octets};
-    ghost use Rattle.node_base.specs.Peers.{most_payload};
+    ghost use Rattle.run_journal.specs.Events.{most_payload};
 
     /// Takes it, for a frame with that header and packet number.
     pub fn take(alloc: Global, header: &[u8], pn: u64, payload: &[u8]) -> Result<Self, NoMemory>

@@ -4,7 +4,6 @@ use Rattle.std.specs.Prelude.{bytes_eq, position, if◌then◌else◌}
 use Rattle.std.specs.List.{position_or_len}
 use Rattle.std.proofs.lemmas.Bool.Decides.{Decides-ltb}
 use Rattle.std.proofs.lemmas.Option.{none-some, same_Some}
-use Rattle.domain_base.specs.declared.names.Mac.{Mac}
 use Rattle.domain_base.specs.declared.names.Node.{Node}
 use Rattle.domain_base.specs.declared.names.Node.TheVariants.{Ap, Sta}
 use Rattle.air_frame.specs.Views.{header_of}
@@ -13,6 +12,7 @@ use Rattle.rsn_elements.specs.declared.reading.Elements.{Elements}
 use Rattle.rsn_elements.specs.Fields.{element_fields}
 use Rattle.run_journal.specs.declared.domain.Domain.{Domain}
 use Rattle.run_journal.specs.declared.domain.ListedAp.{ListedAp}
+use Rattle.run_journal.specs.declared.domain.ListedSta.{ListedSta}
 use Rattle.run_journal.specs.declared.acts.Act.{Act}
 use Rattle.run_journal.specs.declared.acts.Reason.TheVariants as reason
 use Rattle.run_journal.specs.declared.acts.Outcome.{Outcome}
@@ -22,7 +22,7 @@ use Rattle.domain_rules.specs.Network.{bssid, direction, goes_like, peer_of}
 use Rattle.domain_rules.specs.Reading.{Managed, Keyed}
 use Rattle.domain_rules.specs.Associating.{management_verdict}
 use Rattle.domain_rules.specs.Verdict.{from_peer, is_mine, key_verdict, management_sender, sender_in}
-use Rattle.node_base.specs.Peers.{IsPeerOf}
+use Rattle.run_journal.specs.Events.{IsPeerOf}
 use Rattle.frame_intake.specs.declared.delivered.Management.{Management}
 use Rattle.frame_intake.specs.declared.delivered.KeyMessage.{KeyMessage}
 use Rattle.frame_intake.specs.declared.judging.Judged.TheVariants as judged
@@ -50,7 +50,7 @@ listed P make p xs each (Some i) is q e = subst P (same_Some _ _ e) (each i (fou
 
 -- a sender that is found is a listed node of the other kind
 pub is_peer : (d : Domain) (n : Node) (octets : List ℕ) (q : Node) → peer_of d n octets ≡ Some q → IsPeerOf d n q
-is_peer d (Ap k) octets q e = listed (IsPeerOf d (Ap k)) (λ i. Sta i) (λ (m : Mac). bytes_eq m.0 octets) d.stas (λ i low. low) _ refl q e
+is_peer d (Ap k) octets q e = listed (IsPeerOf d (Ap k)) (λ i. Sta i) (λ (s : ListedSta). bytes_eq s.address.0 octets) d.stas (λ i low. low) _ refl q e
 is_peer d (Sta k) octets q e = listed (IsPeerOf d (Sta k)) (λ i. Ap i) (λ (a : ListedAp). bytes_eq a.address.0 octets) d.aps (λ i low. low) _ refl q e
 
 module _ (d : Domain) (n : Node) where

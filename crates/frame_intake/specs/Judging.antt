@@ -19,7 +19,7 @@ use Rattle.domain_rules.specs.DataVerdict.{data_verdict}
 use Rattle.domain_rules.specs.Closing.{sender}
 use Rattle.domain_rules.specs.Rows.{response}
 use Rattle.domain_rules.specs.TransitionRows.{refused_look}
-use Rattle.node_base.specs.Peers.{IsPeerOf}
+use Rattle.run_journal.specs.Events.{IsPeerOf}
 use Rattle.frame_intake.specs.declared.judging.Judged.{Judged}
 use Rattle.frame_intake.specs.declared.judging.Judged.TheVariants as judged
 use Rattle.frame_intake.specs.SealedFields.{sealed_reading, IsSealedData}

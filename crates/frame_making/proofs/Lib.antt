@@ -1,3 +1,4 @@
-pub mod FramesBetween
 pub mod Elements
+pub mod FramesBetween
+pub mod Growing
 pub mod MobileData

@@ -9,7 +9,8 @@ use Rattle.domain_base.specs.Places.{part}
 use Rattle.air_frame.specs.Sent.{IsAddress, management_header_octets, re_req_octets, re_resp_octets}
 use Rattle.rsn_elements.specs.Transition.{WrappedGtkFields, FteFields}
 use Rattle.rsn_elements.specs.Sent.{ssid_octets, rates_octets, rsne_octets, mde_octets, subelement_octets, wrapped_gtk_subelement, fte_body, fte_octets}
-use Rattle.domain_rules.specs.FastTransition.{no_mic, without_fte_mic, fte_input}
+use Rattle.domain_rules.specs.FastTransition.{no_mic}
+use Rattle.mac_prf.specs.FteMic.{without_mic_field, fte_mic_input}
 use Rattle.domain_rules.specs.TransitionFrames.{with_mic}
 use Rattle.ft_exchange.specs.Sent.{AreSized, covered_in, re_req_elements_of, re_resp_elements_of}
 
@@ -25,15 +26,15 @@ first : (xs ys : List ℕ) (n : ℕ) → length xs ≡ n → take n (xs ++ ys) �
 first xs ys n is = subst (λ (m : ℕ). take m (xs ++ ys) ≡ xs) is (take-append_seam xs ys)
 
 covers : (sta ap' : List ℕ) (number at : ℕ) (front rsne mde fte : List ℕ) → length front ≡ at → length rsne ≡ 40 → length mde ≡ 5
-    → covered_in sta ap' number at (front ++ (rsne ++ (mde ++ fte))) ≡ fte_input sta ap' number rsne mde fte
+    → covered_in sta ap' number at (front ++ (rsne ++ (mde ++ fte))) ≡ fte_mic_input sta ap' number rsne mde fte
 covers sta ap' number at front rsne mde fte l m n =
     let rest : List ℕ = rsne ++ (mde ++ fte) in
     let a : part at 40 (front ++ rest) ≡ rsne = ap (λ (x : List ℕ). take 40 x) (behind front rest at l) ∙ first rsne (mde ++ fte) 40 m in
     let b : part (at + 40) 5 (front ++ rest) ≡ mde = ap (λ (x : List ℕ). take 5 x) (further front rest at 40 l ∙ behind rsne (mde ++ fte) 40 m) ∙ first mde fte 5 n in
     let c : drop (at + 45) (front ++ rest) ≡ fte = further front rest at 45 l ∙ (further rsne (mde ++ fte) 40 5 m ∙ behind mde fte 5 n) in
-    ap (λ (x : List ℕ). fte_input sta ap' number x (part (at + 40) 5 (front ++ rest)) (drop (at + 45) (front ++ rest))) a
-    ∙ ap (λ (x : List ℕ). fte_input sta ap' number rsne x (drop (at + 45) (front ++ rest))) b
-    ∙ ap (λ (x : List ℕ). fte_input sta ap' number rsne mde x) c
+    ap (λ (x : List ℕ). fte_mic_input sta ap' number x (part (at + 40) 5 (front ++ rest)) (drop (at + 45) (front ++ rest))) a
+    ∙ ap (λ (x : List ℕ). fte_mic_input sta ap' number rsne x (drop (at + 45) (front ++ rest))) b
+    ∙ ap (λ (x : List ℕ). fte_mic_input sta ap' number rsne mde x) c
 
 -- ---- the MIC itself is not covered
 
@@ -53,14 +54,14 @@ counted_by r1kh anonce snonce id gtk = record {
 abbrev pub tail_of : FteFields → List ℕ
 tail_of f = f.anonce ++ (f.snonce ++ (subelement_octets 1 f.r1kh_id ++ (subelement_octets 3 f.r0kh_id ++ wrapped_gtk_subelement f.gtk)))
 
-free : (a b size : ℕ) (mic rest : List ℕ) → length mic ≡ 16 → without_fte_mic (0x37 ∷ size ∷ a ∷ b ∷ (mic ++ rest)) ≡ 0x37 ∷ size ∷ a ∷ b ∷ (no_mic ++ rest)
+free : (a b size : ℕ) (mic rest : List ℕ) → length mic ≡ 16 → without_mic_field (0x37 ∷ size ∷ a ∷ b ∷ (mic ++ rest)) ≡ 0x37 ∷ size ∷ a ∷ b ∷ (no_mic ++ rest)
 free a b size mic rest l = ap (λ (x : List ℕ). 0x37 ∷ size ∷ a ∷ b ∷ (no_mic ++ x)) (behind mic rest 16 l)
 
 same_size : (mic rest : List ℕ) → length mic ≡ 16 → length (mic ++ rest) ≡ length (no_mic ++ rest)
 same_size mic rest l = length-append mic rest ∙ omega (arith, l, length-append no_mic rest)
 
 mic_free : (r1kh anonce snonce id : List ℕ) (gtk : Option WrappedGtkFields) (mic : List ℕ) → length mic ≡ 16
-    → without_fte_mic (fte_octets (with_mic mic (counted_by r1kh anonce snonce id gtk))) ≡ without_fte_mic (fte_octets (counted_by r1kh anonce snonce id gtk))
+    → without_mic_field (fte_octets (with_mic mic (counted_by r1kh anonce snonce id gtk))) ≡ without_mic_field (fte_octets (counted_by r1kh anonce snonce id gtk))
 mic_free r1kh anonce snonce id gtk mic l =
     let f : FteFields = counted_by r1kh anonce snonce id gtk in
     let size : length (fte_body (with_mic mic f)) ≡ length (fte_body f) = ap (λ (n : ℕ). suc (suc n)) (same_size mic (tail_of f) l) in
@@ -81,7 +82,7 @@ pub mde_len : (mdid : List ℕ) → length mdid ≡ 2 → length (mde_octets mdi
 mde_len mdid l = omega (arith, l, length-append mdid (0 ∷ []))
 
 input_free : (sta ap' : List ℕ) (number : ℕ) (rsne mde r1kh anonce snonce id : List ℕ) (gtk : Option WrappedGtkFields) (mic : List ℕ) → length mic ≡ 16
-    → fte_input sta ap' number rsne mde (fte_octets (with_mic mic (counted_by r1kh anonce snonce id gtk))) ≡ fte_input sta ap' number rsne mde (fte_octets (counted_by r1kh anonce snonce id gtk))
+    → fte_mic_input sta ap' number rsne mde (fte_octets (with_mic mic (counted_by r1kh anonce snonce id gtk))) ≡ fte_mic_input sta ap' number rsne mde (fte_octets (counted_by r1kh anonce snonce id gtk))
 input_free sta ap' number rsne mde r1kh anonce snonce id gtk mic l =
     ap (λ (x : List ℕ). sta ++ (ap' ++ (number ∷ (rsne ++ (mde ++ x))))) (mic_free r1kh anonce snonce id gtk mic l)
 
@@ -101,7 +102,7 @@ request_cut a1 a2 a3 current ssid rest =
 
 -- a frame with these elements at its end
 request_in : (a1 a2 a3 current ssid rsne mde fte : List ℕ) (number : ℕ) → length a1 ≡ 6 → length a2 ≡ 6 → length a3 ≡ 6 → length current ≡ 6 → length rsne ≡ 40 → length mde ≡ 5
-    → covered_in a2 a1 number (42 + length ssid) (re_req_octets a1 a2 a3 current ((ssid_octets ssid ++ rates_octets) ++ ((rsne ++ mde) ++ fte))) ≡ fte_input a2 a1 number rsne mde fte
+    → covered_in a2 a1 number (42 + length ssid) (re_req_octets a1 a2 a3 current ((ssid_octets ssid ++ rates_octets) ++ ((rsne ++ mde) ++ fte))) ≡ fte_mic_input a2 a1 number rsne mde fte
 request_in a1 a2 a3 current ssid rsne mde fte number l m n c r s =
     ap (λ (x : List ℕ). covered_in a2 a1 number (42 + length ssid) x) (request_cut a1 a2 a3 current ssid ((rsne ++ mde) ++ fte) ∙ ap (λ (x : List ℕ). request_front a1 a2 a3 current ssid ++ x) (append_assoc rsne mde fte))
     ∙ covers a2 a1 number (42 + length ssid) (request_front a1 a2 a3 current ssid) rsne mde fte (request_front_len a1 a2 a3 current ssid l m n c) r s
@@ -109,7 +110,7 @@ request_in a1 a2 a3 current ssid rsne mde fte number l m n c r s =
 -- in a request
 pub request_covers : (own peer current ssid name mdid anonce snonce id mic : List ℕ) (gtk : Option WrappedGtkFields) (number : ℕ) → IsAddress own → IsAddress peer → IsAddress current → AreSized name mdid mic
     → covered_in own peer number (42 + length ssid) (re_req_octets peer own peer current (re_req_elements_of ssid name mdid (with_mic mic (counted_by peer anonce snonce id gtk))))
-    ≡ fte_input own peer number (rsne_octets FtPsk (Some name)) (mde_octets mdid) (fte_octets (counted_by peer anonce snonce id gtk))
+    ≡ fte_mic_input own peer number (rsne_octets FtPsk (Some name)) (mde_octets mdid) (fte_octets (counted_by peer anonce snonce id gtk))
 request_covers own peer current ssid name mdid anonce snonce id mic gtk number o p c z =
     request_in peer own peer current ssid (rsne_octets FtPsk (Some name)) (mde_octets mdid) (fte_octets (with_mic mic (counted_by peer anonce snonce id gtk))) number p o p c (rsne_len name z.name_len) (mde_len mdid z.mdid_len)
     ∙ input_free own peer number (rsne_octets FtPsk (Some name)) (mde_octets mdid) peer anonce snonce id gtk mic z.mic_len
@@ -129,7 +130,7 @@ response_cut a1 a2 a3 status aid rest =
     (append_assoc (to_le_bytes w16 status) (to_le_bytes w16 aid ++ rates_octets) rest ∙ ap (λ (x : List ℕ). to_le_bytes w16 status ++ x) (append_assoc (to_le_bytes w16 aid) rates_octets rest)))
 
 response_in : (a1 a2 a3 : List ℕ) (status aid : ℕ) (rsne mde fte : List ℕ) (number : ℕ) → length a1 ≡ 6 → length a2 ≡ 6 → length a3 ≡ 6 → length rsne ≡ 40 → length mde ≡ 5
-    → covered_in a1 a2 number 36 (re_resp_octets a1 a2 a3 status aid (rates_octets ++ ((rsne ++ mde) ++ fte))) ≡ fte_input a1 a2 number rsne mde fte
+    → covered_in a1 a2 number 36 (re_resp_octets a1 a2 a3 status aid (rates_octets ++ ((rsne ++ mde) ++ fte))) ≡ fte_mic_input a1 a2 number rsne mde fte
 response_in a1 a2 a3 status aid rsne mde fte number l m n r s =
     ap (λ (x : List ℕ). covered_in a1 a2 number 36 x) (response_cut a1 a2 a3 status aid ((rsne ++ mde) ++ fte) ∙ ap (λ (x : List ℕ). response_front a1 a2 a3 status aid ++ x) (append_assoc rsne mde fte))
     ∙ covers a1 a2 number 36 (response_front a1 a2 a3 status aid) rsne mde fte (response_front_len a1 a2 a3 status aid l m n) r s
@@ -137,7 +138,7 @@ response_in a1 a2 a3 status aid rsne mde fte number l m n r s =
 -- and in a response
 pub response_covers : (own peer : List ℕ) (aid : ℕ) (name mdid anonce snonce id mic : List ℕ) (gtk : Option WrappedGtkFields) (number : ℕ) → IsAddress own → IsAddress peer → AreSized name mdid mic
     → covered_in peer own number 36 (re_resp_octets peer own own 0 aid (re_resp_elements_of name mdid (with_mic mic (counted_by own anonce snonce id gtk))))
-    ≡ fte_input peer own number (rsne_octets FtPsk (Some name)) (mde_octets mdid) (fte_octets (counted_by own anonce snonce id gtk))
+    ≡ fte_mic_input peer own number (rsne_octets FtPsk (Some name)) (mde_octets mdid) (fte_octets (counted_by own anonce snonce id gtk))
 response_covers own peer aid name mdid anonce snonce id mic gtk number o p z =
     response_in peer own own 0 aid (rsne_octets FtPsk (Some name)) (mde_octets mdid) (fte_octets (with_mic mic (counted_by own anonce snonce id gtk))) number p o o (rsne_len name z.name_len) (mde_len mdid z.mdid_len)
     ∙ input_free peer own number (rsne_octets FtPsk (Some name)) (mde_octets mdid) own anonce snonce id gtk mic z.mic_len

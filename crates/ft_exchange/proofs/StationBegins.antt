@@ -10,7 +10,7 @@ use Rattle.run_journal.specs.declared.acts.Kind.TheVariants as kind
 use Rattle.run_journal.specs.declared.acts.Act.{Act}
 use Rattle.run_journal.specs.declared.reply.Reply.{Reply}
 use Rattle.run_journal.specs.Replies.{IsEmpty}
-use Rattle.domain_rules.specs.Network.{mac, root_at}
+use Rattle.domain_rules.specs.Network.{mac, psk_of, root_at}
 use Rattle.domain_rules.specs.TransitionFrames.{sent_ft_req}
 use Rattle.domain_rules.proofs.Parts.{attempt_more, attempt_some, by_connect_more, own_nonce_more}
 use Rattle.ft_exchange.specs.Sent.{HasFrame, Sends}
@@ -30,7 +30,7 @@ begun_state d sta a q id snonce = record {
   ssid = d.ssid;
   mdid = d.mdid;
   r0kh_id = id;
-  r0 = pmk_r0 d.psk d.ssid d.mdid id (mac d (Sta sta));
+  r0 = pmk_r0 (psk_of d (Sta sta)) d.ssid d.mdid id (mac d (Sta sta));
   snonce = snonce;
   stage = stage.Asked;
 }
@@ -39,9 +39,9 @@ is_of : (d : Domain) (sta a q : ℕ) (id snonce : List ℕ) → d.akm ≡ FtPsk 
 is_of d sta a q id snonce suite = record { suite = suite; own = refl; peer = refl; ssid = refl; mdid = refl; r0 = refl }
 
 begun_stands : (d : Domain) (sta a q : ℕ) (id snonce : List ℕ) (h : List Act) → d.akm ≡ FtPsk → IsRoaming (Ap a) (Ap q) id snonce h
-    → OriginatorStands d (Sta sta) (Ap a) (begun_state d sta a q id snonce) (sent_ft_req d (Sta sta) (Ap a) (root_at d id) snonce ∷ h)
+    → OriginatorStands d (Sta sta) (Ap a) (begun_state d sta a q id snonce) (sent_ft_req d (Sta sta) (Ap a) (root_at d (Sta sta) id) snonce ∷ h)
 begun_stands d sta a q id snonce h suite u =
-    let says : Act = sent_ft_req d (Sta sta) (Ap a) (root_at d id) snonce in
+    let says : Act = sent_ft_req d (Sta sta) (Ap a) (root_at d (Sta sta) id) snonce in
     record {
       suite = suite;
       own = refl;
@@ -78,7 +78,7 @@ state_by own peer current ssid mdid id r0 snonce = record {
 }
 
 pub state_is : (d : Domain) (sta a q : ℕ) (id snonce : List ℕ) (own peer current : Mac) (slice ssid r0kh_id : List ℕ) (r0 : PmkR0) → own ≡ mac d (Sta sta) → peer ≡ mac d (Ap a) → current ≡ mac d (Ap q) → slice ≡ d.ssid → ssid ≡ slice → r0kh_id ≡ id
-    → r0 ≡ pmk_r0 d.psk slice d.mdid id own → state_by own peer current ssid d.mdid r0kh_id r0 snonce ≡ begun_state d sta a q id snonce
+    → r0 ≡ pmk_r0 (psk_of d (Sta sta)) slice d.mdid id own → state_by own peer current ssid d.mdid r0kh_id r0 snonce ≡ begun_state d sta a q id snonce
 state_is d sta a q id snonce own peer current slice ssid r0kh_id r0 own_is peer_is current_is slice_is ssid_is id_is r0_is =
     ap (λ (m : Mac). state_by m peer current ssid d.mdid r0kh_id r0 snonce) own_is
     ∙ ap (λ (m : Mac). state_by (mac d (Sta sta)) m current ssid d.mdid r0kh_id r0 snonce) peer_is
@@ -86,7 +86,7 @@ state_is d sta a q id snonce own peer current slice ssid r0kh_id r0 own_is peer_
     ∙ ap (λ (w : List ℕ). state_by (mac d (Sta sta)) (mac d (Ap a)) (mac d (Ap q)) w d.mdid r0kh_id r0 snonce) (ssid_is ∙ slice_is)
     ∙ ap (λ (w : List ℕ). state_by (mac d (Sta sta)) (mac d (Ap a)) (mac d (Ap q)) d.ssid d.mdid w r0 snonce) id_is
     ∙ ap (λ (k : PmkR0). state_by (mac d (Sta sta)) (mac d (Ap a)) (mac d (Ap q)) d.ssid d.mdid id k snonce)
-    (r0_is ∙ ap (λ (w : List ℕ). pmk_r0 d.psk w d.mdid id own) slice_is ∙ ap (λ (m : Mac). pmk_r0 d.psk d.ssid d.mdid id m) own_is)
+    (r0_is ∙ ap (λ (w : List ℕ). pmk_r0 (psk_of d (Sta sta)) w d.mdid id own) slice_is ∙ ap (λ (m : Mac). pmk_r0 (psk_of d (Sta sta)) d.ssid d.mdid id m) own_is)
 
 pub begins : (d : Domain) (sta a q : ℕ) (id snonce : List ℕ) (s : OriginatorState) (old r : Reply) → d.akm ≡ FtPsk → s ≡ begun_state d sta a q id snonce → IsEmpty old → Sends (asking_octets s) kind.FtReq None old r
     → IsBegun d (Sta sta) (Ap a) (Ap q) id snonce s r

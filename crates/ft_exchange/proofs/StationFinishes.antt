@@ -87,7 +87,7 @@ pub reassoc_refused : (status : ℕ) (e : ElementFields) (s : OriginatorState) (
 reassoc_refused status e s ks why v r q verified refuses = record {
   steps = λ d first sta a octets b h st remembers from is has.
       (let seal : Option Seal = taken_seal (re_resp_covered d (Sta sta) (Ap a) e) v in
-      let acts = sym (quiet_acts d (root_at d s.r0kh_id) (Sta sta) (Ap a) (associated h) octets e why v r q) in
+      let acts = sym (quiet_acts d (root_at d (Sta sta) s.r0kh_id) (Sta sta) (Ap a) (associated h) octets e why v r q) in
       record {
         step = record {
           adds = subst (λ (l : List Act). TakeRow (here d first (Sta sta)) h octets l) acts (adds_refusal d first sta (Ap a) octets b e h kind.ReResp why seal from is (refuses d first sta a octets b h st from is has));
@@ -225,14 +225,14 @@ end_shape t i g f (Some q) = refl
 
 finishing_is : (d : Domain) (sta a : ℕ) (s : OriginatorState) (t : Transit) (q : Option Node) (octets : List ℕ) (e : ElementFields) (c : CarriedKey) (ks : List Kept) (v : Option (List ℕ)) (before r : Reply) (h : List Act) → Remembers (Ap a) ks h → IsQuiet v before
     → r ≡ record before { installed = Some t.key; gtk = Some (news_of c (kept_id c.key ks)) }
-    → reassoc_response_acts d (root_at d s.r0kh_id) (Sta sta) (Ap a) q (came octets e Accepted) r
+    → reassoc_response_acts d (root_at d (Sta sta) s.r0kh_id) (Sta sta) (Ap a) q (came octets e Accepted) r
     ≡ finishing_acts (Sta sta) (Ap a) q octets (taken_seal (re_resp_covered d (Sta sta) (Ap a) e) v) (key_in d sta a s t) (give groups.Gtk (Ap a) (mac d (Ap a)) (group_key c) h)
 finishing_is d sta a s t q octets e c ks v before r h remembers quiet is =
     let x : Derivation = key_in d sta a s t in
     let acts : Option (List ℕ) → List Act → List Act = λ z l. (
     Took (Some (Ap a)) octets kind.ReResp Accepted (taken_seal (re_resp_covered d (Sta sta) (Ap a) e) z) ∷ close_associated q ++ Installed (One (Ap a)) (Pairwise x.ptk.tk x.inputs) ∷ l ++ Finished (Ap a) x.inputs ∷ [])
     in
-    ap (λ (y : Reply). reassoc_response_acts d (root_at d s.r0kh_id) (Sta sta) (Ap a) q (came octets e Accepted) y) is
+    ap (λ (y : Reply). reassoc_response_acts d (root_at d (Sta sta) s.r0kh_id) (Sta sta) (Ap a) q (came octets e Accepted) y) is
     ∙ acts_shape (Took (Some (Ap a)) octets kind.ReResp Accepted (taken_seal (re_resp_covered d (Sta sta) (Ap a) e) before.verified)) (Installed (One (Ap a)) (Pairwise x.ptk.tk x.inputs)) (Finished (Ap a) x.inputs) q
     (gtk_acts d (Ap a) (Some (news_of c (kept_id c.key ks))))
     ∙ ap (λ (z : Option (List ℕ)). acts z (gtk_acts d (Ap a) (Some (news_of c (kept_id c.key ks))))) quiet.verified
@@ -275,7 +275,7 @@ stands_done d sta a s t h before st = record {
   peer = st.peer;
   ssid = st.ssid;
   mdid = st.mdid;
-  r0kh_id = rw (root_is d s.r0kh_id st.suite) refl;
+  r0kh_id = rw (root_is d (Sta sta) s.r0kh_id st.suite) refl;
   r0 = st.r0;
   stage_is = refl;
 }

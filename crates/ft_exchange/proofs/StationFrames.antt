@@ -20,9 +20,10 @@ use Rattle.run_journal.specs.declared.reply.Reply.{Reply}
 use Rattle.run_journal.specs.declared.acts.Kind.TheVariants as kind
 use Rattle.run_journal.specs.declared.acts.Act.TheVariants.{Sent}
 use Rattle.run_journal.specs.Acts.{Derivation}
-use Rattle.domain_rules.specs.Network.{mac, address, root_at}
+use Rattle.domain_rules.specs.Network.{mac, address, psk_of, root_at}
 use Rattle.domain_rules.specs.Replies.{inputs_by}
-use Rattle.domain_rules.specs.FastTransition.{no_mic, r1_of, r1_name, fte_input, request_number, fte_seal}
+use Rattle.domain_rules.specs.FastTransition.{no_mic, r1_of, r1_name, request_number, fte_seal}
+use Rattle.mac_prf.specs.FteMic.{fte_mic_input}
 use Rattle.domain_rules.specs.TransitionFrames.{counted_fte, sealed_fte, sent_ft_req, re_req_input, re_req_elements, sent_re_req}
 use Rattle.ft_exchange.specs.Sent.{covered_in, input_between, counted, sealed_of, re_req_elements_of, HasFrame}
 use Rattle.ft_exchange.specs.State.{OriginatorState}
@@ -36,8 +37,8 @@ pub ptk_ft : (i : Inputs) → i.akm ≡ FtPsk → ptk i ≡ ft_ptk (r1_of i) i.s
 unfolding ptk
 ptk_ft i akm = rw akm refl
 
-pub root_is : (d : Domain) (id : List ℕ) → d.akm ≡ FtPsk → root_at d id ≡ record { psk = d.psk; mdid = d.mdid; r0kh_id = id }
-root_is d id suite = rw suite refl
+pub root_is : (d : Domain) (s : Node) (id : List ℕ) → d.akm ≡ FtPsk → root_at d s id ≡ record { psk = psk_of d s; mdid = d.mdid; r0kh_id = id }
+root_is d s id suite = rw suite refl
 
 -- an originator's addresses, network and keys are those of station n with access point p
 pub record IsOf (d : Domain) (n p : Node) (s : OriginatorState) : Type 0 where
@@ -46,14 +47,14 @@ pub record IsOf (d : Domain) (n p : Node) (s : OriginatorState) : Type 0 where
   pub peer : s.peer ≡ mac d p
   pub ssid : s.ssid ≡ d.ssid
   pub mdid : s.mdid ≡ d.mdid
-  pub r0 : s.r0 ≡ pmk_r0 d.psk d.ssid d.mdid s.r0kh_id (mac d n)
+  pub r0 : s.r0 ≡ pmk_r0 (psk_of d n) d.ssid d.mdid s.r0kh_id (mac d n)
 
 -- what the key of an ANonce is made of
 abbrev pub inputs_in : Domain → ℕ → ℕ → OriginatorState → List ℕ → Inputs
-inputs_in d sta a s anonce = inputs_by d (root_at d s.r0kh_id) (Sta sta) (Ap a) (transit_in s anonce).key
+inputs_in d sta a s anonce = inputs_by d (root_at d (Sta sta) s.r0kh_id) (Sta sta) (Ap a) (transit_in s anonce).key
 
 r1_is : (d : Domain) (sta a : ℕ) (s : OriginatorState) (anonce : List ℕ) → IsOf d (Sta sta) (Ap a) s → r1_of (inputs_in d sta a s anonce) ≡ r1_in s
-r1_is d sta a s anonce o = rw (root_is d s.r0kh_id o.suite, o.r0, o.own, o.peer) refl
+r1_is d sta a s anonce o = rw (root_is d (Sta sta) s.r0kh_id o.suite, o.r0, o.own, o.peer) refl
 
 pub name_is : (d : Domain) (sta a : ℕ) (s : OriginatorState) (anonce : List ℕ) → IsOf d (Sta sta) (Ap a) s → (transit_in s anonce).name ≡ r1_name (inputs_in d sta a s anonce)
 name_is d sta a s anonce o = sym (ap (λ (k : PmkR1). k.name) (r1_is d sta a s anonce o))
@@ -66,7 +67,7 @@ key_is d sta a s anonce o =
 -- ---- the authentication request
 
 pub asking_is : (d : Domain) (sta a : ℕ) (s : OriginatorState) (r : Reply) → IsOf d (Sta sta) (Ap a) s → HasFrame (asking_octets s) kind.FtReq None r
-    → transition_sent d (Sta sta) (Ap a) r ≡ sent_ft_req d (Sta sta) (Ap a) (root_at d s.r0kh_id) s.snonce ∷ []
+    → transition_sent d (Sta sta) (Ap a) r ≡ sent_ft_req d (Sta sta) (Ap a) (root_at d (Sta sta) s.r0kh_id) s.snonce ∷ []
 asking_is d sta a s r o f = frame_sent d (Sta sta) (Ap a) (asking_octets s) kind.FtReq None r f ∙ rw (o.suite, o.own, o.peer, o.mdid, o.r0) refl
 
 -- ---- the reassociation request
@@ -91,7 +92,7 @@ request_by own peer current ssid mdid name kck anonce snonce id =
 abbrev sealed_with : Akm → Domain → Node → Node → Derivation → FteFields
 sealed_with akm d n p x =
     sealed_fte x.ptk.kck
-    (fte_input (address d n) (address d p) request_number (rsne_octets akm (Some (r1_name x.inputs))) (mde_octets d.mdid) (fte_octets (counted_fte (address d p) x.inputs None)))
+    (fte_mic_input (address d n) (address d p) request_number (rsne_octets akm (Some (r1_name x.inputs))) (mde_octets d.mdid) (fte_octets (counted_fte (address d p) x.inputs None)))
     (counted_fte (address d p) x.inputs None)
 
 abbrev request_with : Akm → Domain → Node → Node → Node → Derivation → List ℕ

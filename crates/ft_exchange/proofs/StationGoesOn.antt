@@ -56,15 +56,15 @@ made_of d sta a s anonce o = record {
   name = name_is d sta a s anonce o;
   anonce = refl;
   snonce = refl;
-  r0kh_id = sym (ap (λ (r : Root). r.r0kh_id) (root_is d s.r0kh_id o.suite));
+  r0kh_id = sym (ap (λ (r : Root). r.r0kh_id) (root_is d (Sta sta) s.r0kh_id o.suite));
 }
 
 going_is : (d : Domain) (sta a : ℕ) (q : Node) (s t : OriginatorState) (f : FteFields) (octets : List ℕ) (e : ElementFields) (r : Reply) → IsOf d (Sta sta) (Ap a) s → s.current ≡ mac d q → GoesOn f.anonce s t r
-    → auth_response_acts d (root_at d s.r0kh_id) (Sta sta) (Ap a) (came octets e Accepted) r ≡ going_acts d (Sta sta) (Ap a) q octets (inputs_in d sta a s f.anonce)
+    → auth_response_acts d (root_at d (Sta sta) s.r0kh_id) (Sta sta) (Ap a) (came octets e Accepted) r ≡ going_acts d (Sta sta) (Ap a) q octets (inputs_in d sta a s f.anonce)
 going_is d sta a q s t f octets e r o current g =
     let p : Node = Ap a in
     let i : Inputs = inputs_in d sta a s f.anonce in
-    ap (λ (y : Option Keyed). Took (Some p) octets kind.FtResp Accepted None ∷ derived_acts d (root_at d s.r0kh_id) (Sta sta) p y ++ transition_sent d (Sta sta) p r) g.derived
+    ap (λ (y : Option Keyed). Took (Some p) octets kind.FtResp Accepted None ∷ derived_acts d (root_at d (Sta sta) s.r0kh_id) (Sta sta) p y ++ transition_sent d (Sta sta) p r) g.derived
     ∙ ap (λ (k : Ptk). Took (Some p) octets kind.FtResp Accepted None ∷ Derived p i k ∷ transition_sent d (Sta sta) p r) (key_is d sta a s f.anonce o)
     ∙ ap (λ (l : List Act). Took (Some p) octets kind.FtResp Accepted None ∷ Derived p i (ptk i) ∷ l)
     (requesting_is d (Sta sta) p q s (transit_in s f.anonce) (keyed_by i) r o current (made_of d sta a s f.anonce o) g.covers g.sends)

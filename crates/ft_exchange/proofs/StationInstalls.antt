@@ -42,7 +42,7 @@ use Rattle.ft_exchange.proofs.StationFrames.{root_is}
 
 -- the key of the attempt
 abbrev pub key_in : Domain → ℕ → ℕ → OriginatorState → Transit → Derivation
-key_in d sta a s t = key_by d (root_at d s.r0kh_id) (Sta sta) (Ap a) t.key
+key_in d sta a s t = key_by d (root_at d (Sta sta) s.r0kh_id) (Sta sta) (Ap a) t.key
 
 pub under_way : (d : Domain) (sta a : ℕ) (s : OriginatorState) (t : Transit) (h : List Act) → OriginatorStands d (Sta sta) (Ap a) s h → s.stage ≡ stage.Keyed t → IsUnderWay d (Sta sta) (Ap a) s (Some t) h
 under_way d sta a s t h st at = subst (λ (x : Stage). HasStage d (Sta sta) (Ap a) s x h) at st.stage_is
@@ -126,7 +126,7 @@ names_reason d sta a s t h e st at =
     elements_are d s.mdid e
     (or_status 55 (counts_three e.fte && names_both (address d (Ap a)) (key_in d sta a s t).inputs.r0kh_id e.fte && is_wrapped_gtk (gtk_in e.fte)) (named (r1_name (key_in d sta a s t).inputs) e Accepted))
     st.suite st.mdid
-    ∙ rw (sym u.keyed.1, root_is d s.r0kh_id st.suite)
+    ∙ rw (sym u.keyed.1, root_is d (Sta sta) s.r0kh_id st.suite)
     (ap (λ (m : Mac). without_status (elements_status s.mdid e) (or_status 55 (counts_three e.fte && names_both m.0 s.r0kh_id e.fte && is_wrapped_gtk (gtk_in e.fte)) (named t.name e Accepted))) (sym st.peer)
     ∙ names_by (wanted_by s t.name) e (is_wrapped_gtk (gtk_in e.fte)))
 

@@ -135,7 +135,7 @@ RefusesAuth status e s why =
 pub auth_refused : (status : ℕ) (e : ElementFields) (s : OriginatorState) (why : Reason) (r : Reply) → IsQuiet None r → RefusesAuth status e s why → IsAuthTaken status e s s (Refused why) r
 auth_refused status e s why r q refuses = record {
   steps = λ d first sta a octets b h st from is has.
-      (let acts = sym (auth_quiet d (root_at d s.r0kh_id) (Sta sta) (Ap a) octets e why r q) in
+      (let acts = sym (auth_quiet d (root_at d (Sta sta) s.r0kh_id) (Sta sta) (Ap a) octets e why r q) in
       let first_is = first_kind d first (Sta sta) (Ap a) octets b e h kind.FtResp from is ∙ refuses d sta a h b st has in
       record {
         adds = subst (λ (l : List Act). TakeRow (here d first (Sta sta)) h octets l) acts (adds_refusal d first sta (Ap a) octets b e h kind.FtResp why None from is (refused_first d first (Sta sta) h (Managed b e) why first_is));

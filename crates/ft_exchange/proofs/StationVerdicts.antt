@@ -34,7 +34,7 @@ use Rattle.ft_exchange.proofs.Outcomes.{out_unless, out_status, if_not, elements
 
 -- the name that the station asks for
 pub named_is : (d : Domain) (sta a : ℕ) (s : OriginatorState) (h : List Act) → OriginatorStands d (Sta sta) (Ap a) s h
-    → root_name d (root_at d (last_r0kh_id h)) (Sta sta) ≡ pmk_r0_name s.r0
+    → root_name d (root_at d (Sta sta) (last_r0kh_id h)) (Sta sta) ≡ pmk_r0_name s.r0
 named_is d sta a s h st = rw (st.suite, st.r0kh_id, st.r0) refl
 
 -- two tests in a row
@@ -52,7 +52,7 @@ fields_reason d x e suite mdid =
 resp_fields : (d : Domain) (sta a : ℕ) (s : OriginatorState) (h : List Act) (e : ElementFields) → OriginatorStands d (Sta sta) (Ap a) s h
     → ft_resp_fields d (Sta sta) h (Ap a) e ≡ outcome_by (response_reason (wanted_by s (pmk_r0_name s.r0)) e)
 resp_fields d sta a s h e st =
-    elements_are d s.mdid e (or_status 55 (names_both (address d (Ap a)) (last_r0kh_id h) e.fte) (named (root_name d (root_at d (last_r0kh_id h)) (Sta sta)) e Accepted)) st.suite st.mdid
+    elements_are d s.mdid e (or_status 55 (names_both (address d (Ap a)) (last_r0kh_id h) e.fte) (named (root_name d (root_at d (Sta sta) (last_r0kh_id h)) (Sta sta)) e Accepted)) st.suite st.mdid
     ∙ ap (λ (w : List ℕ). without_status (elements_status s.mdid e) (or_status 55 (names_both (address d (Ap a)) (last_r0kh_id h) e.fte) (named w e Accepted))) (named_is d sta a s h st)
     ∙ ap (λ (w : List ℕ). without_status (elements_status s.mdid e) (or_status 55 (names_both (address d (Ap a)) w e.fte) (named (pmk_r0_name s.r0) e Accepted))) st.r0kh_id
     ∙ ap (λ (m : Mac). without_status (elements_status s.mdid e) (or_status 55 (names_both m.0 s.r0kh_id e.fte) (named (pmk_r0_name s.r0) e Accepted))) (sym st.peer)

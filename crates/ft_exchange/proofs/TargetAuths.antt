@@ -31,7 +31,7 @@ use Rattle.run_journal.specs.Replies.{IsWhole}
 use Rattle.run_journal.specs.Questions.{attempt, draws, add}
 use Rattle.run_journal.specs.Holders.{Stored}
 use Rattle.domain_rules.specs.Facts.{Facts}
-use Rattle.domain_rules.specs.Network.{Root, mac, inputs, holder_of, root_at, draw_end}
+use Rattle.domain_rules.specs.Network.{Root, mac, holder_of, root_at, draw_end, inputs_at}
 use Rattle.domain_rules.specs.Frames.{aid}
 use Rattle.domain_rules.specs.Closing.{close_attempt, next_nonce, sender}
 use Rattle.domain_rules.specs.Reading.{Management, Reading, Managed}
@@ -150,7 +150,7 @@ auth_refused d a sta e anonce o why looked w old r at none tells look whole answ
   steps = λ first octets b h st from is drawn.
       (let n : Node = Ap a in
       let p : Node = Sta sta in
-      let acts = sym (refusal_acts d (root_asked d (asked e)) n p (attempt p h) octets e why r tells.derived (auth_refusal d n p w why old r at none answers)
+      let acts = sym (refusal_acts d (root_asked d p (asked e)) n p (attempt p h) octets e why r tells.derived (auth_refusal d n p w why old r at none answers)
       ∙ ap (λ (z : Option PullAnswer). Took (Some p) octets kind.FtReq (Refused why) None ∷ looked_for p (asked e) z ++ response_by d n p kind.FtReq (refused_status why)) look)
       in
       record {
@@ -312,8 +312,8 @@ auth_repeated d a sta e anonce s x r suite right asks again f tells = record {
       let repeated : repeats x (transition p h) ≡ true = repeats_is d a p (Some s) h x suite st ∙ again in
       let took : Act = Took (Some p) octets kind.FtReq Answered None in
       let says : Act = Sent (One p) kind.FtResp s.stored None in
-      let acts : took ∷ says ∷ [] ≡ auth_request_acts d (root_asked d (asked e)) n p (attempt p h) (came octets e Answered) r =
-      sym (answering_is d (root_asked d (asked e)) n p (attempt p h) octets e s r f tells.derived tells.looked)
+      let acts : took ∷ says ∷ [] ≡ auth_request_acts d (root_asked d p (asked e)) n p (attempt p h) (came octets e Answered) r =
+      sym (answering_is d (root_asked d p (asked e)) n p (attempt p h) octets e s r f tells.derived tells.looked)
       in
       record {
         adds = subst (λ (l : List Act). TakeRow (here d first n) h octets l) acts (record {
@@ -363,14 +363,14 @@ auth_repeated d a sta e anonce s x r suite right asks again f tells = record {
 
 -- the key, and what it is made of
 abbrev pub inputs_granted : Domain → ℕ → ℕ → Place → Asked → Granted → Inputs
-inputs_granted d a sta w x g = inputs_by d (root_at d x.r0kh_id) (Ap a) (Sta sta) (key_granted w x g)
+inputs_granted d a sta w x g = inputs_by d (root_at d (Sta sta) x.r0kh_id) (Ap a) (Sta sta) (key_granted w x g)
 
 ptk_is : (d : Domain) (a sta : ℕ) (w : Place) (x : Asked) (g : Granted) → IsPlace d (Ap a) (Sta sta) w → (key_granted w x g).ptk ≡ (derived_from g.r1 (inputs_granted d a sta w x g)).ptk
 ptk_is d a sta w x g at = rw (at.own, at.peer) refl
 
 response_is : (d : Domain) (a sta : ℕ) (w : Place) (x : Asked) (g : Granted) (r : Reply) → d.akm ≡ FtPsk → IsPlace d (Ap a) (Sta sta) w → HasFrame (granting_octets w x g) kind.FtResp None r
     → transition_sent d (Ap a) (Sta sta) r ≡ sent_ft_resp d (Ap a) (Sta sta) g.asked (inputs_granted d a sta w x g) ∷ []
-response_is d a sta w x g r suite at f = frame_sent d (Ap a) (Sta sta) (granting_octets w x g) kind.FtResp None r f ∙ rw (root_is d x.r0kh_id suite, suite, at.own, at.peer, at.mdid) refl
+response_is d a sta w x g r suite at f = frame_sent d (Ap a) (Sta sta) (granting_octets w x g) kind.FtResp None r f ∙ rw (root_is d (Sta sta) x.r0kh_id suite, suite, at.own, at.peer, at.mdid) refl
 
 abbrev pub granting_acts : Node → Option (List Act) → List ℕ → Asked → Granted → Inputs → Ptk → Act → List Act
 granting_acts p part octets x g i k says =
@@ -378,7 +378,7 @@ granting_acts p part octets x g i k says =
 
 granting_is : (d : Domain) (a sta : ℕ) (part : Option (List Act)) (octets : List ℕ) (e : ElementFields) (w : Place) (x : Asked) (g : Granted) (r : Reply) (says : Act) → asked e ≡ Some x → single x.names ≡ Some g.asked → r.looked ≡ Some (Found g.r1)
     → r.derived ≡ Some (key_granted w x g) → transition_sent d (Ap a) (Sta sta) r ≡ says ∷ []
-    → auth_request_acts d (root_asked d (asked e)) (Ap a) (Sta sta) part (came octets e Accepted) r ≡ granting_acts (Sta sta) part octets x g (inputs_granted d a sta w x g) (key_granted w x g).ptk says
+    → auth_request_acts d (root_asked d (Sta sta) (asked e)) (Ap a) (Sta sta) part (came octets e Accepted) r ≡ granting_acts (Sta sta) part octets x g (inputs_granted d a sta w x g) (key_granted w x g).ptk says
 granting_is d a sta None octets e w x g r says asks named look derived sends = rw (asks, named, look, derived, sends) refl
 granting_is d a sta (Some part) octets e w x g r says asks named look derived sends = rw (asks, named, look, derived, sends) refl
 
@@ -477,7 +477,7 @@ auth_granted d a sta e anonce o x name answer g w t old r k named known grants a
             k = g.r1;
             pulled = refl;
             i = i;
-            inputs_are = ap (λ (v : List ℕ). inputs d (root_at d x.r0kh_id) n p v x.snonce) draws_one.1;
+            inputs_are = ap (λ (v : List ℕ). inputs_at d n p x.r0kh_id v x.snonce) draws_one.1;
             says = ap (λ (z : Ptk). row z (plain ∷ [])) (ptk_is d a sta w x g at) ∙ ap (λ (l : List Act). row (derived_from g.r1 i).ptk l) (sym sends ∙ response_is d a sta w x g r k.suite at f.sends);
           });
         });

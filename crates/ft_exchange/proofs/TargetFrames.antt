@@ -51,7 +51,7 @@ reassoc_refusal d n p w why old r at none refuses = reassoc_refusal_by d n p w (
 -- ---- the reassociation response
 
 abbrev pub key_at : Domain → ℕ → ℕ → TargetState → Derivation
-key_at d a sta s = key_by d (root_at d s.r0kh_id) (Ap a) (Sta sta) s.key
+key_at d a sta s = key_by d (root_at d (Sta sta) s.r0kh_id) (Ap a) (Sta sta) s.key
 
 -- the group key under its wrap
 abbrev pub gtk_of : TargetState → AnyKey → ℕ → WrappedGtkFields
@@ -60,11 +60,11 @@ gtk_of s g rsc = record { information = g.id; key_length = 16; rsc = rsc_octets 
 input_is : (d : Domain) (a sta : ℕ) (s : TargetState) (g : AnyKey) (rsc : ℕ) → d.akm ≡ FtPsk → IsPlace d (Ap a) (Sta sta) s.place
     → input_between s.place.peer s.place.own response_number s.name s.place.mdid (counted s.place.own.0 s.key s.r0kh_id (Some (gtk_of s g rsc)))
     ≡ re_resp_input d (Ap a) (Sta sta) s.name (key_at d a sta s) (re_resp_fte d (Ap a) (key_at d a sta s) (carried g) rsc)
-input_is d a sta s g rsc suite at = rw (root_is d s.r0kh_id suite, suite, at.own, at.peer, at.mdid) refl
+input_is d a sta s g rsc suite at = rw (root_is d (Sta sta) s.r0kh_id suite, suite, at.own, at.peer, at.mdid) refl
 
 octets_are : (d : Domain) (a sta : ℕ) (s : TargetState) (g : AnyKey) (rsc : ℕ) → d.akm ≡ FtPsk → IsPlace d (Ap a) (Sta sta) s.place
     → installing_octets s g rsc ≡ re_resp_octets (address d (Sta sta)) (address d (Ap a)) (address d (Ap a)) 0 (aid (Sta sta)) (re_resp_elements d (Ap a) (Sta sta) s.name (key_at d a sta s) (re_resp_fte d (Ap a) (key_at d a sta s) (carried g) rsc))
-octets_are d a sta s g rsc suite at = rw (root_is d s.r0kh_id suite, suite, at.own, at.peer, at.mdid, at.aid_is) refl
+octets_are d a sta s g rsc suite at = rw (root_is d (Sta sta) s.r0kh_id suite, suite, at.own, at.peer, at.mdid, at.aid_is) refl
 
 pub installing_is : (d : Domain) (a sta : ℕ) (s : TargetState) (g : AnyKey) (rsc : ℕ) (r : Reply) → d.akm ≡ FtPsk → IsPlace d (Ap a) (Sta sta) s.place → IsInstalling s g rsc
     → HasFrame (installing_octets s g rsc) kind.ReResp (Some s.key.ptk.kck) r

@@ -25,7 +25,7 @@ use Rattle.run_journal.specs.GroupKinds as groups
 use Rattle.run_journal.specs.Replies.{IsWhole}
 use Rattle.run_journal.specs.Questions.{session, add}
 use Rattle.run_journal.specs.Holders.{Stored}
-use Rattle.domain_rules.specs.Network.{Root, root_at}
+use Rattle.domain_rules.specs.Network.{Root, root_at, station_of}
 use Rattle.domain_rules.specs.Closing.{close_session, sender}
 use Rattle.domain_rules.specs.GroupKeys.{newest}
 use Rattle.domain_rules.specs.Reading.{Management, Managed}
@@ -125,7 +125,7 @@ refused e g rsc s why v old r none verified tried tells whole answers refuses = 
       (let n : Node = Ap a in
       let p : Node = Sta sta in
       let seal : Option Seal = taken_seal (re_req_covered d n p e) v in
-      let acts = sym (refusal_acts d (root_at d s.r0kh_id) n p (is_some (session p h)) octets e why v r verified tells.installed (reassoc_refusal d n p s.place why old r c.stands.place none answers)) in
+      let acts = sym (refusal_acts d (root_at d (station_of n p) s.r0kh_id) n p (is_some (session p h)) octets e why v r verified tells.installed (reassoc_refusal d n p s.place why old r c.stands.place none answers)) in
       let took : TargetStands d n p s (Took (Some p) octets kind.ReReq (Refused why) seal ∷ h) = target_more d n p s (Took (Some p) octets kind.ReReq (Refused why) seal) h (took_passes p (Some p) octets kind.ReReq (Refused why) seal) c.stands in
       record {
         adds = subst (λ (l : List Act). TakeRow (here d first n) h octets l) acts (adds_refusal d first a sta octets b e h why seal from is (refuses d first a sta octets b h c from is));
@@ -248,10 +248,10 @@ verdict_is d first a sta octets b e h s c from is right accepts =
 -- an answer: the stored response goes out once more
 answering_acts : (d : Domain) (n p : Node) (had : Bool) (octets : List ℕ) (e : ElementFields) (s : TargetState) (v : Option (List ℕ)) (r : Reply) → r.verified ≡ v → r.installed ≡ None
     → HasFrame s.stored kind.ReResp (Some s.key.ptk.kck) r
-    → reassoc_request_acts d (root_at d s.r0kh_id) n p had (came octets e Answered) r
+    → reassoc_request_acts d (root_at d (station_of n p) s.r0kh_id) n p had (came octets e Answered) r
     ≡ Took (Some p) octets kind.ReReq Answered (taken_seal (re_req_covered d n p e) v) ∷ Sent (One p) kind.ReResp s.stored (sent_seal d n p kind.ReResp (Some s.key.ptk.kck) s.stored) ∷ []
-answering_acts d n p true octets e s v r verified installed f = acts_are d (root_at d s.r0kh_id) n p true octets e Answered v None _ r verified installed (frame_sent d n p s.stored kind.ReResp (Some s.key.ptk.kck) r f)
-answering_acts d n p false octets e s v r verified installed f = acts_are d (root_at d s.r0kh_id) n p false octets e Answered v None _ r verified installed (frame_sent d n p s.stored kind.ReResp (Some s.key.ptk.kck) r f)
+answering_acts d n p true octets e s v r verified installed f = acts_are d (root_at d (station_of n p) s.r0kh_id) n p true octets e Answered v None _ r verified installed (frame_sent d n p s.stored kind.ReResp (Some s.key.ptk.kck) r f)
+answering_acts d n p false octets e s v r verified installed f = acts_are d (root_at d (station_of n p) s.r0kh_id) n p false octets e Answered v None _ r verified installed (frame_sent d n p s.stored kind.ReResp (Some s.key.ptk.kck) r f)
 
 pub reassoc_answered : (e : ElementFields) (g : AnyKey) (rsc : ℕ) (s : TargetState) (r : Reply) → tried_reason (request_tried s e) ≡ None → reassociation_reason (wanted_at s) e true ≡ None → s.is_installed ≡ true
     → r.verified ≡ verified_key s.key (request_tried s e) → TellsOnly (reassoc_request_topics Answered) r → HasFrame s.stored kind.ReResp (Some s.key.ptk.kck) r → IsReassocTaken e g rsc s s Answered r
@@ -297,10 +297,10 @@ reassoc_answered e g rsc s r right accepts held verified tells f = record {
 -- an acceptance: the key is installed in place of the one in use
 installing_acts : (d : Domain) (a sta : ℕ) (o : Option Derivation) (octets : List ℕ) (e : ElementFields) (s : TargetState) (v : Option (List ℕ)) (r : Reply) (says : Act) → r.verified ≡ v → r.installed ≡ Some s.key
     → transition_sent d (Ap a) (Sta sta) r ≡ says ∷ []
-    → reassoc_request_acts d (root_at d s.r0kh_id) (Ap a) (Sta sta) (is_some o) (came octets e Accepted) r
+    → reassoc_request_acts d (root_at d (Sta sta) s.r0kh_id) (Ap a) (Sta sta) (is_some o) (came octets e Accepted) r
     ≡ Took (Some (Sta sta)) octets kind.ReReq Accepted (taken_seal (re_req_covered d (Ap a) (Sta sta) e) v) ∷ close_session (Sta sta) o ++ Installed (One (Sta sta)) (Pairwise s.key.ptk.tk (key_at d a sta s).inputs) ∷ Finished (Sta sta) (key_at d a sta s).inputs ∷ says ∷ []
-installing_acts d a sta (Some x) octets e s v r says verified installed sends = acts_are d (root_at d s.r0kh_id) (Ap a) (Sta sta) true octets e Accepted v (Some s.key) (says ∷ []) r verified installed sends
-installing_acts d a sta None octets e s v r says verified installed sends = acts_are d (root_at d s.r0kh_id) (Ap a) (Sta sta) false octets e Accepted v (Some s.key) (says ∷ []) r verified installed sends
+installing_acts d a sta (Some x) octets e s v r says verified installed sends = acts_are d (root_at d (Sta sta) s.r0kh_id) (Ap a) (Sta sta) true octets e Accepted v (Some s.key) (says ∷ []) r verified installed sends
+installing_acts d a sta None octets e s v r says verified installed sends = acts_are d (root_at d (Sta sta) s.r0kh_id) (Ap a) (Sta sta) false octets e Accepted v (Some s.key) (says ∷ []) r verified installed sends
 
 installed_stands : (d : Domain) (a sta : ℕ) (o : Option Derivation) (octets : List ℕ) (seal : Option Seal) (s : TargetState) (g : AnyKey) (rsc : ℕ) (h : List Act) → s.is_installed ≡ false → TargetStands d (Ap a) (Sta sta) s h
     → TargetStands d (Ap a) (Sta sta) (target_installed s g rsc)

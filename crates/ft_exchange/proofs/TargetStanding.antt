@@ -59,15 +59,23 @@ transition_by p e h None x is =
 pub transition_more : (p : Node) (e : Act) (h : List Act) → Passes p e → transition p (e ∷ h) ≡ transition p h
 transition_more p e h x = transition_by p e h (attempt p h) x refl
 
+-- an act that neither closes the session with p nor finishes an attempt
+pub record Leaves (p : Node) (e : Act) : Type 0 where
+  pub closes_none : closes p e ≡ false
+  pub finishes_none : finishes p e ≡ false
+
+pub leaves : (p : Node) (e : Act) → Passes p e → Leaves p e
+leaves p e x = record { closes_none = x.closes_none; finishes_none = x.finishes_none }
+
 -- and of the session
-before_more : (p : Node) (e : Act) (h : List Act) → Passes p e → before_finished p (e ∷ h) ≡ before_finished p h
+before_more : (p : Node) (e : Act) (h : List Act) → Leaves p e → before_finished p (e ∷ h) ≡ before_finished p h
 before_more p e h x =
     ap (λ (b : Bool). cond b (Some h) (cond (closes p e) None (before_finished p h))) x.finishes_none ∙ ap (λ (b : Bool). cond b None (before_finished p h)) x.closes_none
 
-session_more : (p : Node) (e : Act) (h : List Act) → Passes p e → session_transition p (e ∷ h) ≡ session_transition p h
+pub session_more : (p : Node) (e : Act) (h : List Act) → Leaves p e → session_transition p (e ∷ h) ≡ session_transition p h
 session_more p e h x = ap (λ (o : Option (List Act)). option_and_then (λ (before : List Act). transition p before) o) (before_more p e h x)
 
-since_more : (p : Node) (e : Act) (h : List Act) → Passes p e → since_finished p (e ∷ h) ≡ e ∷ since_finished p h
+since_more : (p : Node) (e : Act) (h : List Act) → Leaves p e → since_finished p (e ∷ h) ≡ e ∷ since_finished p h
 since_more p e h x = ap (λ (b : Bool). cond b [] (e ∷ since_finished p h)) x.finishes_none
 
 stored_more : (p : Node) (k : Kind) (e : Act) (part : List Act) (s : Stored) → first_stored p k part ≡ Some s → first_stored p k (e ∷ part) ≡ Some s
@@ -81,7 +89,7 @@ pending_more d n p s e h x i = record {
   stored = stored_more p kind.FtResp e i.part _ i.stored;
 }
 
-held_more : (d : Domain) (n p : Node) (s : TargetState) (e : Act) (h : List Act) → Passes p e → IsHeld d n p s h → IsHeld d n p s (e ∷ h)
+pub held_more : (d : Domain) (n p : Node) (s : TargetState) (e : Act) (h : List Act) → Leaves p e → IsHeld d n p s h → IsHeld d n p s (e ∷ h)
 held_more d n p s e h x i = record {
   is = session_more p e h x ∙ i.is;
   stored = ap (λ (l : List Act). first_stored p kind.ReResp l) (since_more p e h x) ∙ stored_more p kind.ReResp e (since_finished p h) _ i.stored;
@@ -89,7 +97,7 @@ held_more d n p s e h x i = record {
 
 holds_more : (d : Domain) (n p : Node) (s : TargetState) (b : Bool) (e : Act) (h : List Act) → Passes p e → IsHeldOrPending b d n p s h → IsHeldOrPending b d n p s (e ∷ h)
 holds_more d n p s false e h x i = pending_more d n p s e h x i
-holds_more d n p s true e h x i = held_more d n p s e h x i
+holds_more d n p s true e h x i = held_more d n p s e h (leaves p e x) i
 
 pub target_more : (d : Domain) (n p : Node) (s : TargetState) (e : Act) (h : List Act) → Passes p e → TargetStands d n p s h → TargetStands d n p s (e ∷ h)
 target_more d n p s e h x st = record { suite = st.suite; place = st.place; holds = holds_more d n p s s.is_installed e h x st.holds }

@@ -46,7 +46,7 @@ pub repeats_is : (d : Domain) (a : ℕ) (p : Node) (o : Option TargetState) (h :
 repeats_is d a p None h x suite none = rw none refl
 repeats_is d a p (Some s) h x suite st =
     let i : IsPending d (Ap a) p s h = subst (λ (b : Bool). IsHeldOrPending b d (Ap a) p s h) st.0 st.1.holds in
-    rw (i.is, root_is d s.r0kh_id suite) refl
+    rw (i.is, root_is d p s.r0kh_id suite) refl
 
 -- refused by its elements, or judged by what it asks for
 abbrev pub judged_as : Domain → Option Transition → Option Reason → Option Asked → Outcome
@@ -135,7 +135,7 @@ with_names d a p s e suite own mdid =
     let x : Wanted = wanted_at s in
     let names : Bool → Outcome = λ b. or_status 55 b (named s.name e Accepted) in
     let here : re_req_names d (Ap a) e (judged_by d (Ap a) p s true) ≡ names (counts_three e.fte && names_both x.r1kh_id x.r0kh_id e.fte && true) =
-    rw (root_is d s.r0kh_id suite)
+    rw (root_is d p s.r0kh_id suite)
     (ap (λ (m : Mac). or_status 55 (counts_three e.fte && names_both m.0 s.r0kh_id e.fte) (named s.name e Accepted)) (sym own)
     ∙ ap names (and_true (counts_three e.fte) (names_both x.r1kh_id x.r0kh_id e.fte)))
     in

@@ -43,8 +43,8 @@ pub record IsRoaming (p q : Node) (id snonce : List ℕ) (h : List Act) : Type 0
 
 -- the reply has the authentication request and nothing else, and the originator stands for the history with it
 pub record IsBegun (d : Domain) (n p q : Node) (id snonce : List ℕ) (s : OriginatorState) (r : Reply) : Type 0 where
-  pub sends : transition_sent d n p r ≡ sent_ft_req d n p (root_at d id) snonce ∷ []
-  pub stands : (h : List Act) → IsRoaming p q id snonce h → OriginatorStands d n p s (sent_ft_req d n p (root_at d id) snonce ∷ h)
+  pub sends : transition_sent d n p r ≡ sent_ft_req d n p (root_at d n id) snonce ∷ []
+  pub stands : (h : List Act) → IsRoaming p q id snonce h → OriginatorStands d n p s (sent_ft_req d n p (root_at d n id) snonce ∷ h)
   pub tells : TellsOnly (only_frame true) r
   pub whole : IsWhole r
 
@@ -59,7 +59,7 @@ AuthStepsFrom status e old new outcome r =
     (d : Domain) (first sta ap : ℕ) (octets : List ℕ) (b : Management) (h : List Act)
     → OriginatorStands d (Sta sta) (Ap ap) old h → IsManagementFrom d (Sta sta) (Ap ap) octets b e
     → b.kind ≡ kind.FtResp → b.status ≡ status
-    → Steps (here d first (Sta sta)) (Ap ap) octets (auth_response_acts d (root_at d old.r0kh_id) (Sta sta) (Ap ap) (came octets e outcome) r) new h
+    → Steps (here d first (Sta sta)) (Ap ap) octets (auth_response_acts d (root_at d (Sta sta) old.r0kh_id) (Sta sta) (Ap ap) (came octets e outcome) r) new h
 
 -- a refusal changes nothing, and nothing answers it
 pub record IsAuthTaken (status : ℕ) (e : ElementFields) (old new : OriginatorState) (outcome : Outcome) (r : Reply) : Type 0 where
@@ -79,7 +79,7 @@ ReassocStepsFrom status e old new outcome r =
     → OriginatorStands d (Sta sta) (Ap ap) old.part h → Remembers (Ap ap) old.keys h → IsManagementFrom d (Sta sta) (Ap ap) octets b e
     → b.kind ≡ kind.ReResp → b.status ≡ status
     → BothStep (here d first (Sta sta)) (Ap ap) octets
-    (reassoc_response_acts d (root_at d old.part.r0kh_id) (Sta sta) (Ap ap) (associated h) (came octets e outcome) r) new h
+    (reassoc_response_acts d (root_at d (Sta sta) old.part.r0kh_id) (Sta sta) (Ap ap) (associated h) (came octets e outcome) r) new h
 
 -- a key that is installed is that of the attempt
 abbrev pub IsUnder : Option Keyed → OriginatorState → Type 0

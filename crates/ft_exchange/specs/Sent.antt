@@ -13,7 +13,8 @@ use Rattle.run_journal.specs.declared.acts.Kind.{Kind}
 use Rattle.run_journal.specs.declared.reply.Reply.{Reply}
 use Rattle.run_journal.specs.declared.reply.Keyed.{Keyed}
 use Rattle.run_journal.specs.Replies.{IsWhole}
-use Rattle.domain_rules.specs.FastTransition.{no_mic, fte_input}
+use Rattle.domain_rules.specs.FastTransition.{no_mic}
+use Rattle.mac_prf.specs.FteMic.{fte_mic_input}
 use Rattle.domain_rules.specs.TransitionFrames.{with_mic}
 
 -- an FTE that can be written: subelements of at most 36 octets beside the R0KH-ID
@@ -40,7 +41,7 @@ named_elements name mdid f = rsne_octets FtPsk (Some name) ++ mde_octets mdid ++
 -- what the MIC of such an FTE covers in frame number `number` between that station and that access point
 abbrev pub input_between : Mac → Mac → ℕ → List ℕ → List ℕ → FteFields → List ℕ
 input_between sta ap number name mdid f =
-    fte_input sta.0 ap.0 number (rsne_octets FtPsk (Some name)) (mde_octets mdid) (fte_octets f)
+    fte_mic_input sta.0 ap.0 number (rsne_octets FtPsk (Some name)) (mde_octets mdid) (fte_octets f)
 
 -- the FTE with that MIC
 abbrev pub sealed_of : List ℕ → Mac → Mac → ℕ → List ℕ → List ℕ → FteFields → FteFields
@@ -62,7 +63,7 @@ pub record AreSized (name mdid mic : List ℕ) : Type 0 where
 -- what the MIC of a frame of reassociation covers in frame number `number` between that station and that access point: an RSNE of 40
 -- octets that begins at that place of the frame, an MDE of 5, and an FTE
 abbrev pub covered_in : List ℕ → List ℕ → ℕ → ℕ → List ℕ → List ℕ
-covered_in sta ap number at octets = fte_input sta ap number (part at 40 octets) (part (at + 40) 5 octets) (drop (at + 45) octets)
+covered_in sta ap number at octets = fte_mic_input sta ap number (part at 40 octets) (part (at + 40) 5 octets) (drop (at + 45) octets)
 
 -- the reply has that frame, sealed under that KCK or not
 pub record HasFrame (octets : List ℕ) (k : Kind) (sealed : Option (List ℕ)) (r : Reply) : Type 0 where

@@ -8,7 +8,7 @@ use Rattle.run_journal.specs.declared.acts.Kind.TheVariants as kind
 use Rattle.run_journal.specs.declared.acts.Act.{Act}
 use Rattle.run_journal.specs.Questions.{attempt, own_nonce, derivation, associated}
 use Rattle.run_journal.specs.Holders.{first_stored, since_finished, last_r0kh_id}
-use Rattle.domain_rules.specs.Network.{mac, root_at}
+use Rattle.domain_rules.specs.Network.{mac, psk_of, root_at, station_of}
 use Rattle.domain_rules.specs.Frames.{aid}
 use Rattle.domain_rules.specs.Asking.{by_connect, has_heard}
 use Rattle.domain_rules.specs.Replies.{inputs_by, key_by}
@@ -27,7 +27,7 @@ use Rattle.ft_exchange.specs.declared.place.Place.{Place}
 abbrev pub IsKeyed : Domain → Node → Node → List ℕ → Option Transit → List Act → Type 0
 IsKeyed d n p id None part = Unit {0}
 IsKeyed d n p id (Some t) part =
-    (derivation p part ≡ Some (key_by d (root_at d id) n p t.key)) × (t.name ≡ r1_name (inputs_by d (root_at d id) n p t.key))
+    (derivation p part ≡ Some (key_by d (root_at d (station_of n p) id) n p t.key)) × (t.name ≡ r1_name (inputs_by d (root_at d (station_of n p) id) n p t.key))
 
 -- the attempt with p is under way: it began by fast transition, from a session with another access point; a response was accepted in it
 -- exactly where there is a key
@@ -55,7 +55,7 @@ pub record OriginatorStands (d : Domain) (n p : Node) (s : OriginatorState) (h :
   pub ssid : s.ssid ≡ d.ssid
   pub mdid : s.mdid ≡ d.mdid
   pub r0kh_id : last_r0kh_id h ≡ s.r0kh_id
-  pub r0 : s.r0 ≡ pmk_r0 d.psk d.ssid d.mdid s.r0kh_id (mac d n)
+  pub r0 : s.r0 ≡ pmk_r0 (psk_of d n) d.ssid d.mdid s.r0kh_id (mac d n)
   pub stage_is : HasStage d n p s s.stage h
 
 -- ---- at an access point
@@ -69,7 +69,7 @@ pub record IsPlace (d : Domain) (n p : Node) (w : Place) : Type 0 where
 
 -- its key, what the station asked for, and the name that the key holder gave
 abbrev pub transition_of : Domain → Node → Node → TargetState → Transition
-transition_of d n p s = record { key = key_by d (root_at d s.r0kh_id) n p s.key; asked = s.asked; r1_name = s.name }
+transition_of d n p s = record { key = key_by d (root_at d (station_of n p) s.r0kh_id) n p s.key; asked = s.asked; r1_name = s.name }
 
 -- the first response in the attempt is the stored one
 pub record IsPending (d : Domain) (n p : Node) (s : TargetState) (h : List Act) : Type 0 where

@@ -34,10 +34,10 @@ use Rattle.ft_exchange.specs.Tried.{is_with}
 
 -- ---- authentication request
 
--- what the keys go back to of which a request asks
-abbrev pub root_asked : Domain → Option Asked → Root
-root_asked d None = root_at d []
-root_asked d (Some a) = root_at d a.r0kh_id
+-- what the keys go back to of which a request of a station asks
+abbrev pub root_asked : Domain → Node → Option Asked → Root
+root_asked d s None = root_at d s []
+root_asked d s (Some a) = root_at d s a.r0kh_id
 
 pub record AuthSteps (w : Here) (p : Node) (octets : List ℕ) (acts : List Act) (new : Option TargetState) (h : List Act) : Type 0 where
   pub adds : TakeRow w h octets acts
@@ -50,7 +50,7 @@ AuthStepsFrom d ap sta e anonce old new outcome r =
     → PendingStands d (Ap ap) (Sta sta) old h → IsManagementFrom d (Ap ap) (Sta sta) octets b e
     → b.kind ≡ kind.FtReq → IsDrawn d first (Ap ap) h anonce
     → AuthSteps (here d first (Ap ap)) (Sta sta) octets
-    (auth_request_acts d (root_asked d (asked e)) (Ap ap) (Sta sta) (attempt (Sta sta) h) (came octets e outcome) r) new h
+    (auth_request_acts d (root_asked d (Sta sta) (asked e)) (Ap ap) (Sta sta) (attempt (Sta sta) h) (came octets e outcome) r) new h
 
 -- where a key is derived it is that of a new attempt; else the pending target is as it was
 abbrev pub HasBegun : Option Keyed → Option TargetState → Option TargetState → Type 0
@@ -101,7 +101,7 @@ ReassocStepsFrom e newest rsc old new outcome r =
     → IsChosen d (Ap ap) (Sta sta) old e h → IsManagementFrom d (Ap ap) (Sta sta) octets b e
     → b.kind ≡ kind.ReReq → IsLast newest (group_keys groups.Gtk h) → newest_uses groups.Gtk h ≡ rsc
     → ReassocSteps (here d first (Ap ap)) (Sta sta) octets
-    (reassoc_request_acts d (root_at d old.r0kh_id) (Ap ap) (Sta sta) (is_some (session (Sta sta) h)) (came octets e outcome) r) new h
+    (reassoc_request_acts d (root_at d (Sta sta) old.r0kh_id) (Ap ap) (Sta sta) (is_some (session (Sta sta) h)) (came octets e outcome) r) new h
 
 -- where a key is installed it is that of an attempt, which is a session's from then on; else the target is as it was
 abbrev pub HasInstalled : Option Keyed → TargetState → TargetState → Type 0

@@ -16,7 +16,7 @@ use domain_base::{Mac, Node, ShortOctets};
 use group_key::GroupMemory;
 use key_hierarchy::{PmkR0, PmkR1, ptk_from_r1};
 use mac_prf::Reassociation;
-use node_base::address;
+use node_base::{address, psk};
 use rsn_elements::Elements;
 use run_journal::{Domain, Keyed, Outcome, Reason, Reply};
 use std::marker::Model;
@@ -112,8 +112,9 @@ impl Originator {
     {
         *reply = Reply::empty();
         let own = address(domain, Node::Sta(sta));
+        let key = psk(domain, Node::Sta(sta), Node::Ap(ap));
         let (ssid, id) = (domain.ssid.as_slice(), r0kh_id);
-        let r0 = PmkR0::derive(&domain.psk, ssid, domain.mdid, id, own);
+        let r0 = PmkR0::derive(&key, ssid, domain.mdid, id, own);
         let originator = Originator {
             own,
             peer: address(domain, Node::Ap(ap)),

@@ -5,7 +5,8 @@ use Rattle.domain_base.specs.declared.names.Node.TheVariants.{Ap}
 use Rattle.key_hierarchy.specs.Sizes.{IsR0khId}
 use Rattle.run_journal.specs.declared.domain.Domain.{Domain}
 use Rattle.run_journal.specs.declared.domain.ListedAp.{ListedAp}
-use Rattle.domain_rules.specs.Network.{AreAps, InForm, IsListed, r0kh_id}
+use Rattle.domain_rules.specs.Network.{AreAps, InForm, r0kh_id}
+use Rattle.run_journal.specs.Events.{IsListed}
 
 -- the R0KH-ID at that place
 abbrev id_at : List ListedAp → ℕ → List ℕ

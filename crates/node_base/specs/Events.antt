@@ -9,7 +9,7 @@ use Rattle.run_journal.specs.declared.acts.Outcome.{Outcome}
 use Rattle.run_journal.specs.Questions.{add}
 use Rattle.domain_rules.specs.Rows.{NodeEvent as AnyEvent, Take, Begin, Roam, Retry, Rekey, Send, Expire, Revoke, Leave, Adds, outcome_of}
 use Rattle.domain_rules.specs.Here.{Here}
-use Rattle.node_base.specs.Peers.{IsReceiverOf, most_payload}
+use Rattle.run_journal.specs.Events.{IsReceiverOf, most_payload}
 use Rattle.node_base.specs.declared.event.NodeEvent.{NodeEvent}
 use Rattle.node_base.specs.declared.event.NodeEvent.TheVariants as event
 

@@ -1,4 +1,3 @@
-pub mod Peers
 pub mod Events
 pub mod Growing
 pub mod Ends

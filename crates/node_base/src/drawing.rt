@@ -3,11 +3,12 @@
 ghost use Rattle.std.specs.Prelude.{◌≡◌, ◌≤◌, ◌++◌, IfOk, length};
 ghost use Rattle.std.specs.Int.{w64, to_be_bytes};
 ghost use Rattle.mac_prf.specs.Prf.{kdf};
-ghost use Rattle.domain_rules.specs.Network.{IsListed, address, nonce, gtk, inputs, root_at};
-ghost use Rattle.node_base.specs.Peers.{IsPeerOf};
+ghost use Rattle.domain_rules.specs.Network.{address, nonce, gtk, root_at, station_of};
+ghost use Rattle.domain_rules.specs.Network.{inputs_at};
+ghost use Rattle.run_journal.specs.Events.{IsListed, IsPeerOf};
 
 use crate::here::Here;
-use crate::network::address;
+use crate::network::{address, psk};
 use domain_base::{Akm, NoMemory, Node, Octets, put};
 use key_hierarchy::Inputs;
 use mac_prf::kdf;
@@ -52,17 +53,26 @@ pub fn gtk(domain: &Domain, node: Node, number: u64) -> [u8; 16]
     value
 }
 
-// The mobility domain that pairwise keys of the network are made of, and the R0KH-ID: with suite 4
-// its own and that one, else neither.
+// What the pairwise key of a node with its peer goes back to: the pre-shared key of the station,
+// and with suite 4 the mobility domain of the network and that R0KH-ID, else neither.
 #[tactic(auto, using(domain_rules::proofs::SuiteWords::root_suite))]
-fn root_of<'a>(domain: &Domain, r0kh_id: &'a [u8]) -> ([u8; 2], &'a [u8])
-    ensures mdid { result.0 ≡ (root_at domain.now r0kh_id.now).mdid }
-    ensures id { result.1.now ≡ (root_at domain.now r0kh_id.now).r0kh_id }
+fn root_of<'a>(
+    domain: &Domain,
+    node: Node,
+    peer: Node,
+    r0kh_id: &'a [u8],
+) -> ([u8; 32], [u8; 2], &'a [u8])
+    requires listed { IsListed domain.now node }
+    requires peer { IsPeerOf domain.now node peer }
+    ensures psk { result.0 ≡ (root_at domain.now (station_of node peer) r0kh_id.now).psk }
+    ensures mdid { result.1 ≡ (root_at domain.now (station_of node peer) r0kh_id.now).mdid }
+    ensures id { result.2.now ≡ (root_at domain.now (station_of node peer) r0kh_id.now).r0kh_id }
 {
+    let psk = psk(domain, node, peer);
     match domain.akm {
-        Akm::FtPsk => (domain.mdid, r0kh_id),
-        Akm::Psk => ([0, 0], &[]),
-        Akm::PskSha256 => ([0, 0], &[]),
+        Akm::FtPsk => (psk, domain.mdid, r0kh_id),
+        Akm::Psk => (psk, [0, 0], &[]),
+        Akm::PskSha256 => (psk, [0, 0], &[]),
     }
 }
 
@@ -79,14 +89,14 @@ pub fn pairwise_inputs(
     requires listed { IsListed here.domain.now here.node }
     requires peer { IsPeerOf here.domain.now here.node peer }
     ensures { IfOk result (λ i. let d = here.entry.domain.now
-        in i ≡ inputs d (root_at d r0kh_id.now) here.entry.node peer own.now other.now) }
+        in i ≡ inputs_at d here.entry.node peer r0kh_id.now own.now other.now) }
 {
     let Here {
         alloc,
         domain,
         node,
     } = here;
-    let (mdid, r0kh_id) = root_of(domain, r0kh_id);
+    let (psk, mdid, r0kh_id) = root_of(domain, node, peer, r0kh_id);
     let ssid = Vec::from_slice(alloc, domain.ssid.as_slice())?;
     let r0kh_id = Vec::from_slice(alloc, r0kh_id)?;
     let own_address = address(domain, node);
@@ -97,7 +107,7 @@ pub fn pairwise_inputs(
     };
     Ok(Inputs {
         akm: domain.akm,
-        psk: domain.psk,
+        psk,
         ssid: Octets(ssid),
         mdid,
         r0kh_id: Octets(r0kh_id),

@@ -2,8 +2,8 @@
 
 ghost use Rattle.std.specs.Prelude.{◌≡◌};
 ghost use Rattle.air_frame.specs.Sent.{IsAddress};
-ghost use Rattle.domain_rules.specs.Network.{IsListed, direction};
-ghost use Rattle.node_base.specs.Peers.{IsPeerOf};
+ghost use Rattle.domain_rules.specs.Network.{direction};
+ghost use Rattle.run_journal.specs.Events.{IsListed, IsPeerOf};
 
 use crate::network::address;
 use air_frame::Direction;

@@ -15,6 +15,6 @@ pub use drawing::{DRAW_END, gtk, nonce, pairwise_inputs};
 pub use ends::{Ends, direction};
 pub use event::NodeEvent;
 pub use here::Here;
-pub use network::{address, peer_of, r0kh_id};
+pub use network::{address, peer_of, psk, r0kh_id};
 pub use pairwise::{Pmk, pairwise_key};
 pub use suites::{is_same_rsne, rsne_status};

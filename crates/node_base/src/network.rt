@@ -3,14 +3,15 @@
 ghost use Rattle.std.specs.Prelude.{◌≡◌, ◌≤◌, [], length, position, bytes_eq};
 ghost use Rattle.std.specs.Prelude.{slice_get, option_map, unwrap_or};
 ghost use Rattle.run_journal.specs.declared.domain.ListedAp.{ListedAp as AnyAp};
-ghost use Rattle.domain_base.specs.declared.names.Mac.{Mac as AnyMac};
+ghost use Rattle.run_journal.specs.declared.domain.ListedSta.{ListedSta as AnySta};
 ghost use Rattle.air_frame.specs.Sent.{IsAddress};
 ghost use Rattle.domain_base.specs.declared.names.Node.TheVariants.{Ap};
 ghost use Rattle.key_hierarchy.specs.Sizes.{IsR0khId};
-ghost use Rattle.domain_rules.specs.Network.{InForm, IsListed, mac, peer_of, r0kh_id};
+ghost use Rattle.domain_rules.specs.Network.{InForm, mac, peer_of, r0kh_id, psk_of, station_of};
+ghost use Rattle.run_journal.specs.Events.{IsListed, IsPeerOf};
 
 use domain_base::{Mac, Node};
-use run_journal::{Domain, ListedAp};
+use run_journal::{Domain, ListedAp, ListedSta};
 
 // The address, which has six octets.
 fn whole(address: Mac) -> Mac
@@ -28,7 +29,7 @@ pub fn address(domain: &Domain, node: Node) -> Mac
 {
     match node {
         Node::Ap(number) => whole(domain.aps.0[usize::from(number)].address),
-        Node::Sta(number) => whole(domain.stas.0[usize::from(number)]),
+        Node::Sta(number) => whole(domain.stas.0[usize::from(number)].address),
     }
 }
 
@@ -53,11 +54,26 @@ pub fn r0kh_id(domain: &Domain, ap: u16) -> &[u8]
     id_at(&domain.aps.0, usize::from(ap))
 }
 
-// The place of the first station that has this address.
-fn place_of_sta(stas: &[Mac], address: Mac) -> Option<usize>
-    ensures { result ≡ position (λ (m : AnyMac). bytes_eq m.0 address.0) stas.now }
+/// The pre-shared key between a node and its peer, which is that of the station.
+pub fn psk(domain: &Domain, node: Node, peer: Node) -> [u8; 32]
+    requires listed { IsListed domain.now node }
+    requires peer { IsPeerOf domain.now node peer }
+    ensures { result ≡ psk_of domain.now (station_of node peer) }
 {
-    stas.iter().position(|sta| sta.0 == address.0)
+    match node {
+        Node::Sta(number) => domain.stas.0[usize::from(number)].psk,
+        Node::Ap(_) => match peer {
+            Node::Sta(number) => domain.stas.0[usize::from(number)].psk,
+            Node::Ap(_) => unreachable!(),
+        },
+    }
+}
+
+// The place of the first station that has this address.
+fn place_of_sta(stas: &[ListedSta], address: Mac) -> Option<usize>
+    ensures { result ≡ position (λ (s : AnySta). bytes_eq s.address.0 address.0) stas.now }
+{
+    stas.iter().position(|sta| sta.address.0 == address.0)
 }
 
 // The place of the first access point that has this address.

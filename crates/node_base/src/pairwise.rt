@@ -4,12 +4,12 @@ ghost use Rattle.std.specs.Prelude.{◌≡◌};
 ghost use Rattle.domain_base.specs.declared.names.Akm.TheVariants.{FtPsk};
 ghost use Rattle.key_hierarchy.specs.FastTransition.{pmk_r0, pmk_r1};
 ghost use Rattle.key_hierarchy.specs.Sizes.{IsSsid, IsR0khId};
-ghost use Rattle.domain_rules.specs.Network.{IsListed, root_at};
-ghost use Rattle.node_base.specs.Peers.{IsPeerOf};
+ghost use Rattle.domain_rules.specs.Network.{root_at, station_of};
+ghost use Rattle.run_journal.specs.Events.{IsListed, IsPeerOf};
 ghost use Rattle.node_base.specs.PairwiseKeys.{key_with, pmk_of};
 
 use crate::ends::Ends;
-use crate::network::address;
+use crate::network::{address, psk};
 use air_frame::Direction;
 use domain_base::{Akm, Mac, Node};
 use key_hierarchy::{PmkR0, PmkR1, pairwise_ptk, ptk_from_r1};
@@ -26,21 +26,15 @@ pub enum Pmk {
     R1(PmkR1),
 }
 
-// The PMK-R1 of a station at an access point, by the R0KH-ID of its first association.
-fn pmk_r1(domain: &Domain, ap: Mac, sta: Mac, r0kh_id: &[u8]) -> PmkR1
+// The PMK-R1 of a station at an access point, by its pre-shared key and the R0KH-ID of its first
+// association.
+fn pmk_r1(domain: &Domain, psk: &[u8; 32], ap: Mac, sta: Mac, r0kh_id: &[u8]) -> PmkR1
     requires ssid { IsSsid domain.now.ssid }
     requires id { IsR0khId r0kh_id.now }
     ensures { let d = domain.now
-        in result ≡ pmk_r1 (pmk_r0 d.psk d.ssid d.mdid r0kh_id.now sta) ap sta }
+        in result ≡ pmk_r1 (pmk_r0 psk.now d.ssid d.mdid r0kh_id.now sta) ap sta }
 {
-    PmkR0::derive(
-        &domain.psk,
-        domain.ssid.as_slice(),
-        domain.mdid,
-        r0kh_id,
-        sta,
-    )
-    .r1(ap, sta)
+    PmkR0::derive(psk, domain.ssid.as_slice(), domain.mdid, r0kh_id, sta).r1(ap, sta)
 }
 
 impl Pmk {
@@ -51,16 +45,18 @@ impl Pmk {
         requires peer { IsPeerOf domain.now node peer }
         requires ssid { IsSsid domain.now.ssid }
         requires id { domain.now.akm ≡ FtPsk → IsR0khId r0kh_id.now }
-        ensures { result ≡ pmk_of domain.now (root_at domain.now r0kh_id.now) node peer }
+        ensures { let d = domain.now
+            in result ≡ pmk_of d (root_at d (station_of node peer) r0kh_id.now) node peer }
     {
+        let psk = psk(domain, node, peer);
         let (ap, sta) = match node {
             Node::Ap(_) => (address(domain, node), address(domain, peer)),
             Node::Sta(_) => (address(domain, peer), address(domain, node)),
         };
         match domain.akm {
-            Akm::Psk => Pmk::Psk(domain.psk),
-            Akm::PskSha256 => Pmk::PskSha256(domain.psk),
-            Akm::FtPsk => Pmk::R1(pmk_r1(domain, ap, sta, r0kh_id)),
+            Akm::Psk => Pmk::Psk(psk),
+            Akm::PskSha256 => Pmk::PskSha256(psk),
+            Akm::FtPsk => Pmk::R1(pmk_r1(domain, &psk, ap, sta, r0kh_id)),
         }
     }
 }

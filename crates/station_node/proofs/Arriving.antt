@@ -328,11 +328,11 @@ gtk_since d p g e f h part is = gtk_by (λ (l : List Act). by_connect (e ∷ sin
     one false x = ap (λ (l : List Act). by_connect (e ∷ Installed (One p) (Group x.key x.id (mac d p)) ∷ l)) is
 
 derived_before : (d : Domain) (sta p : ℕ) (o : OriginatorState) (t : Transit) (h : List Act) → OriginatorStands d (Sta sta) (Ap p) o h → o.stage ≡ stage.Keyed t
-    → (derivation (Ap p) h ≡ Some (key_by d (root_at d o.r0kh_id) (Sta sta) (Ap p) t.key)) × (by_connect (since (Ap p) h) ≡ false) × (since (Ap p) h ≢ [])
+    → (derivation (Ap p) h ≡ Some (key_by d (root_at d (Sta sta) o.r0kh_id) (Sta sta) (Ap p) t.key)) × (by_connect (since (Ap p) h) ≡ false) × (since (Ap p) h ≢ [])
 derived_before d sta p o t h st at =
     let u : IsUnderWay d (Sta sta) (Ap p) o (Some t) h = subst (λ (x : Stage). HasStage d (Sta sta) (Ap p) o x h) at st.stage_is in
     let whole = since_part (Ap p) h u.part u.is in
-    (derivation_part (Ap p) h u.part (key_by d (root_at d o.r0kh_id) (Sta sta) (Ap p) t.key) u.is u.keyed.0, ap by_connect whole ∙ u.begun, (λ none. attempt_some (Ap p) h u.part u.is (sym whole ∙ none)))
+    (derivation_part (Ap p) h u.part (key_by d (root_at d (Sta sta) o.r0kh_id) (Sta sta) (Ap p) t.key) u.is u.keyed.0, ap by_connect whole ∙ u.begun, (λ none. attempt_some (Ap p) h u.part u.is (sym whole ∙ none)))
 
 -- behind the acts the pairwise key is in use
 holds_arrived : (d : Domain) (p : ℕ) (q : Node) (took : Act) (tk : List ℕ) (i : Inputs) (g : Option GtkNews) (h : List Act) → HoldsPairwise (Ap p) tk (fresh_key tk) (arrived p q took tk i (gtk_acts d (Ap p) g) h)
@@ -345,10 +345,10 @@ holds_arrived d p q took tk i g h =
 -- the supplicant of the session stands for them
 transferred_arrived : (d : Domain) (sta p : ℕ) (q : Node) (o : OriginatorState) (t : Transit) (octets : List ℕ) (out : Outcome) (seal : Option Seal) (g : Option GtkNews) (x : Supplicant) (h : List Act)
     → OriginatorStands d (Sta sta) (Ap p) o h → kept_counter (Ap p) (since (Ap p) h) ≡ None → o.stage ≡ stage.Keyed t → IsTransferredTo d sta p t.key.ptk x
-    → SupplicantStands d (Sta sta) (Ap p) x (arrived p q (Took (Some (Ap p)) octets kind.ReResp out seal) t.key.ptk.tk (inputs_by d (root_at d o.r0kh_id) (Sta sta) (Ap p) t.key) (gtk_acts d (Ap p) g) h)
+    → SupplicantStands d (Sta sta) (Ap p) x (arrived p q (Took (Some (Ap p)) octets kind.ReResp out seal) t.key.ptk.tk (inputs_by d (root_at d (Sta sta) o.r0kh_id) (Sta sta) (Ap p) t.key) (gtk_acts d (Ap p) g) h)
 transferred_arrived d sta p q o t octets out seal g x h st silent at b =
     let y : Keyed = t.key in
-    let i : Inputs = inputs_by d (root_at d o.r0kh_id) (Sta sta) (Ap p) y in
+    let i : Inputs = inputs_by d (root_at d (Sta sta) o.r0kh_id) (Sta sta) (Ap p) y in
     let took : Act = Took (Some (Ap p)) octets kind.ReResp out seal in
     let put : Act = Installed (One (Ap p)) (Pairwise y.ptk.tk i) in
     let m : List Act = put ∷ Closed q OfSession ∷ took ∷ h in
@@ -356,7 +356,7 @@ transferred_arrived d sta p q o t octets out seal g x h st silent at b =
     let f = frame-took p octets kind.ReResp out seal refl refl in
     let before = derived_before d sta p o t h st at in
     let transferred : IsTransferred (Ap p) y.ptk None l = record {
-      x = key_by d (root_at d o.r0kh_id) (Sta sta) (Ap p) y;
+      x = key_by d (root_at d (Sta sta) o.r0kh_id) (Sta sta) (Ap p) y;
       is = rw (same-refl (Ap p)) (gtk_derives d (Ap p) g m ∙ before.0);
       key = refl;
       some = λ none. cc none;
@@ -374,11 +374,11 @@ arrived_state s p x tk memories = record { number = s.number; drawn = s.drawn; a
 
 pub stands-arrived : (d : Domain) (first : ℕ) (s : State) (h : List Act) (p : ℕ) (z : Session) (o : OriginatorState) (t : Transit) (octets : List ℕ) (out : Outcome) (seal : Option Seal) (g : Option GtkNews) (x : Supplicant) (has : List (List Kept))
     → Stands d first s h → s.attempt ≡ Some (record { ap = p; association = Moving o }) → s.session ≡ Some z → o.stage ≡ stage.Keyed t → IsTransferredTo d s.number p t.key.ptk x → IsOnly p s.memories has → HaveGroupIds (memory_at has p)
-    → Remembers (Ap p) (memory_at has p) (arrived p (Ap z.ap) (Took (Some (Ap p)) octets kind.ReResp out seal) t.key.ptk.tk (inputs_by d (root_at d s.r0kh_id) (Sta s.number) (Ap p) t.key) (gtk_acts d (Ap p) g) h)
-    → Stands d first (arrived_state s p x t.key.ptk.tk has) (arrived p (Ap z.ap) (Took (Some (Ap p)) octets kind.ReResp out seal) t.key.ptk.tk (inputs_by d (root_at d s.r0kh_id) (Sta s.number) (Ap p) t.key) (gtk_acts d (Ap p) g) h)
+    → Remembers (Ap p) (memory_at has p) (arrived p (Ap z.ap) (Took (Some (Ap p)) octets kind.ReResp out seal) t.key.ptk.tk (inputs_by d (root_at d (Sta s.number) s.r0kh_id) (Sta s.number) (Ap p) t.key) (gtk_acts d (Ap p) g) h)
+    → Stands d first (arrived_state s p x t.key.ptk.tk has) (arrived p (Ap z.ap) (Took (Some (Ap p)) octets kind.ReResp out seal) t.key.ptk.tk (inputs_by d (root_at d (Sta s.number) s.r0kh_id) (Sta s.number) (Ap p) t.key) (gtk_acts d (Ap p) g) h)
 stands-arrived d first s h p z o t octets out seal g x has st is there at begun only ids remembers =
     let took : Act = Took (Some (Ap p)) octets kind.ReResp out seal in
-    let i : Inputs = inputs_by d (root_at d s.r0kh_id) (Sta s.number) (Ap p) t.key in
+    let i : Inputs = inputs_by d (root_at d (Sta s.number) s.r0kh_id) (Sta s.number) (Ap p) t.key in
     let m : List Act = Installed (One (Ap p)) (Pairwise t.key.ptk.tk i) ∷ Closed (Ap z.ap) OfSession ∷ took ∷ h in
     let gtk : List Act = gtk_acts d (Ap p) g in
     let frames : AreFrameOf p gtk = frames-gtk d p g in
@@ -393,11 +393,11 @@ stands-arrived d first s h p z o t octets out seal g x has st is there at begun 
       attempt_is = tt;
       session_is = record {
         listed = was.0;
-        stands = subst (λ (id : List ℕ). SupplicantStands d (Sta s.number) (Ap p) x (arrived p (Ap z.ap) took t.key.ptk.tk (inputs_by d (root_at d id) (Sta s.number) (Ap p) t.key) gtk h)) same_id.0
+        stands = subst (λ (id : List ℕ). SupplicantStands d (Sta s.number) (Ap p) x (arrived p (Ap z.ap) took t.key.ptk.tk (inputs_by d (root_at d (Sta s.number) id) (Sta s.number) (Ap p) t.key) gtk h)) same_id.0
             (transferred_arrived d s.number p (Ap z.ap) o t octets out seal g x h was.1.stands was.1.keeps at begun);
         keyed = record {
-          key = key_by d (root_at d s.r0kh_id) (Sta s.number) (Ap p) t.key;
-          is = rw (same-refl (Ap p)) (gtk_derives d (Ap p) g m ∙ (derived_before d s.number p o t h was.1.stands at).0 ∙ ap (λ (id : List ℕ). Some (key_by d (root_at d id) (Sta s.number) (Ap p) t.key)) same_id.0);
+          key = key_by d (root_at d (Sta s.number) s.r0kh_id) (Sta s.number) (Ap p) t.key;
+          is = rw (same-refl (Ap p)) (gtk_derives d (Ap p) g m ∙ (derived_before d s.number p o t h was.1.stands at).0 ∙ ap (λ (id : List ℕ). Some (key_by d (root_at d (Sta s.number) id) (Sta s.number) (Ap p) t.key)) same_id.0);
           holds = holds_arrived d p (Ap z.ap) took t.key.ptk.tk i g h;
         };
       };
@@ -408,5 +408,5 @@ stands-arrived d first s h p z o t octets out seal g x has st is there at begun 
           remembers_on (Ap k) (memory_at s.memories k) (add gtk m) l refl (λ key id. refl)
           (frames_remember p k (memory_at s.memories k) gtk m other frames (remembers_on (Ap k) (memory_at s.memories k) h m refl (λ key id. refl) (st.remembers k))));
       ids = λ k. ids-moved k p s.memories has only ids (st.ids k);
-      holder = λ suite. (ap (λ (a : Akm). (root_by a d s.r0kh_id).r0kh_id) suite, same_id.1);
+      holder = λ suite. (ap (λ (a : Akm). (root_by a d (Sta s.number) s.r0kh_id).r0kh_id) suite, same_id.1);
     }

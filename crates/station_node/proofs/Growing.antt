@@ -2,23 +2,18 @@
 use Rattle.std.proofs.Common.{◌≡◌, ℕ, ◌<◌, List, [], length, Option, Some, None, refl, sym, ap, subst, ◌∙◌}
 use Rattle.std.specs.Prelude.{option_map}
 use Rattle.domain_base.specs.declared.names.Akm.{Akm}
-use Rattle.domain_base.specs.declared.names.Akm.TheVariants.{Psk, PskSha256, FtPsk}
-use Rattle.domain_base.specs.declared.names.Mac.{Mac}
 use Rattle.domain_base.specs.declared.names.Node.{Node}
 use Rattle.domain_base.specs.declared.names.Node.TheVariants.{Ap, Sta}
 use Rattle.key_hierarchy.specs.FastTransition.{pmk_r0}
-use Rattle.key_hierarchy.specs.declared.inputs.Inputs.{Inputs}
 use Rattle.run_journal.specs.declared.domain.Domain.{Domain}
 use Rattle.run_journal.specs.declared.acts.Kind.TheVariants as kind
 use Rattle.run_journal.specs.declared.acts.Act.{Act}
 use Rattle.run_journal.specs.declared.reply.Keyed.{Keyed}
 use Rattle.run_journal.specs.Acts.{Derivation}
 use Rattle.run_journal.specs.Questions.{associated, heard}
-use Rattle.frame_making.specs.Mobile.{Mobility}
-use Rattle.frame_making.specs.KeyData.{IsMobility}
-use Rattle.node_base.specs.PairwiseKeys.{pmk_by, pmk_of}
+use Rattle.frame_making.proofs.Growing.{mobility_grown}
 use Rattle.node_base.specs.Growing.{Grows}
-use Rattle.node_base.proofs.Grown.{mac_grown, ends_grown, root_grown, inputs_of_grown, listed_grown}
+use Rattle.node_base.proofs.Grown.{mac_grown, psk_grown, ends_grown, inputs_at_grown, inputs_by_grown, key_grown, pmk_grown, listed_grown}
 use Rattle.supplicant.specs.declared.base.Base.{Base}
 use Rattle.supplicant.specs.declared.attempt.Attempt.{Attempt as SupplicantAttempt}
 use Rattle.supplicant.specs.declared.session.Session.{Session as SupplicantSession}
@@ -27,8 +22,9 @@ use Rattle.supplicant.specs.Bases.{IsBaseOf, fte_in}
 use Rattle.supplicant.specs.State.{State as Supplicant}
 use Rattle.supplicant.specs.Stands.{SupplicantStands, Responds, IsBased, Holds, HasAttempt as HasSupplicantAttempt, HasSession as HasSupplicantSession}
 use Rattle.domain_rules.specs.FastTransition.{r1_name}
-use Rattle.domain_rules.specs.Replies.{inputs_by, key_by}
-use Rattle.domain_rules.specs.Network.{Root, IsListed, mac, root_at, inputs}
+use Rattle.domain_rules.specs.Replies.{key_by}
+use Rattle.domain_rules.specs.Network.{mac, psk_of, root_at, inputs_at, station_of}
+use Rattle.run_journal.specs.Events.{IsListed}
 use Rattle.ft_exchange.specs.State.{OriginatorState}
 use Rattle.ft_exchange.specs.declared.originator.Stage.{Stage}
 use Rattle.ft_exchange.specs.declared.originator.Stage.TheVariants as stage
@@ -44,52 +40,17 @@ use Rattle.station_node.specs.Stands.{Stands, HasAssociation, HasAttempt, HasSes
 
 -- ---- keys
 
-made_grown : (d e : Domain) (id : List ℕ) (n p : Node) (own other : List ℕ) → Grows d e → IsListed d n → IsListed d p → inputs e (root_at e id) n p own other ≡ inputs d (root_at d id) n p own other
-made_grown d e id n p own other g here there = ap (λ (r : Root). inputs e r n p own other) (root_grown d e id g) ∙ inputs_of_grown d e (root_at d id) n p own other g here there
-
-inputs_by_grown : (d e : Domain) (id : List ℕ) (n p : Node) (y : Keyed) → Grows d e → IsListed d n → IsListed d p → inputs_by e (root_at e id) n p y ≡ inputs_by d (root_at d id) n p y
-inputs_by_grown d e id (Ap k) p y g here there = made_grown d e id (Ap k) p y.anonce y.snonce g here there
-inputs_by_grown d e id (Sta k) p y g here there = made_grown d e id (Sta k) p y.snonce y.anonce g here there
-
-key_grown : (d e : Domain) (id : List ℕ) (n p : Node) (y : Keyed) → Grows d e → IsListed d n → IsListed d p → key_by d (root_at d id) n p y ≡ key_by e (root_at e id) n p y
-key_grown d e id n p y g here there = ap (λ (i : Inputs). record { inputs = i; ptk = y.ptk }) (sym (inputs_by_grown d e id n p y g here there))
-
-keys_grown : (d e : Domain) (id : List ℕ) (n p : Node) (o : Option Keyed) → Grows d e → IsListed d n → IsListed d p → option_map (key_by d (root_at d id) n p) o ≡ option_map (key_by e (root_at e id) n p) o
+keys_grown : (d e : Domain) (id : List ℕ) (n p : Node) (o : Option Keyed) → Grows d e → IsListed d n → IsListed d p → option_map (key_by d (root_at d (station_of n p) id) n p) o ≡ option_map (key_by e (root_at e (station_of n p) id) n p) o
 keys_grown d e id n p None g here there = refl
-keys_grown d e id n p (Some y) g here there = ap (λ (x : Derivation). Some x) (key_grown d e id n p y g here there)
-
-pmk_by_grown : (akm : Akm) (d e : Domain) (r : Root) (aa spa : Mac) → Grows d e → pmk_by akm e r aa spa ≡ pmk_by akm d r aa spa
-pmk_by_grown Psk d e r aa spa g = refl
-pmk_by_grown PskSha256 d e r aa spa g = refl
-pmk_by_grown FtPsk d e r aa spa g = rw (g.ssid) refl
-
-pmk_grown : (d e : Domain) (id : List ℕ) (n p : Node) → Grows d e → IsListed d n → IsListed d p → pmk_of e (root_at e id) n p ≡ pmk_of d (root_at d id) n p
-pmk_grown d e id (Ap k) p g here there =
-    let r : Root = root_at d id in
-    ap (λ (z : Root). pmk_of e z (Ap k) p) (root_grown d e id g)
-    ∙ ap (λ (akm : Akm). pmk_by akm e r (mac e (Ap k)) (mac e p)) g.akm
-    ∙ ap (λ (m : Mac). pmk_by d.akm e r m (mac e p)) (mac_grown d e (Ap k) g here)
-    ∙ ap (λ (m : Mac). pmk_by d.akm e r (mac d (Ap k)) m) (mac_grown d e p g there)
-    ∙ pmk_by_grown d.akm d e r (mac d (Ap k)) (mac d p) g
-pmk_grown d e id (Sta k) p g here there =
-    let r : Root = root_at d id in
-    ap (λ (z : Root). pmk_of e z (Sta k) p) (root_grown d e id g)
-    ∙ ap (λ (akm : Akm). pmk_by akm e r (mac e p) (mac e (Sta k))) g.akm
-    ∙ ap (λ (m : Mac). pmk_by d.akm e r m (mac e (Sta k))) (mac_grown d e p g there)
-    ∙ ap (λ (m : Mac). pmk_by d.akm e r (mac d p) m) (mac_grown d e (Sta k) g here)
-    ∙ pmk_by_grown d.akm d e r (mac d p) (mac d (Sta k)) g
-
-mobility_grown : (d e : Domain) (i j : Inputs) (fte : List ℕ) (o : Option Mobility) → Grows d e → j ≡ i → IsMobility d i fte o → IsMobility e j fte o
-mobility_grown d e i j fte None g same is = λ suite. is (sym g.akm ∙ suite)
-mobility_grown d e i j fte (Some m) g same is = (g.akm ∙ is.0, is.1 ∙ ap r1_name (sym same), is.2 ∙ sym g.mdid, is.3)
+keys_grown d e id n p (Some y) g here there = ap (λ (x : Derivation). Some x) (key_grown d e n p id y g here there)
 
 -- ---- supplicants
 
 base_grown : (d e : Domain) (n p : Node) (fte : List ℕ) (b : Base) → Grows d e → IsListed d n → IsListed d p → IsBaseOf d n p fte b → IsBaseOf e n p fte b
 base_grown d e n p fte b g here there at = record {
   akm = at.akm ∙ sym g.akm;
-  pmk = at.pmk ∙ sym (pmk_grown d e b.r0kh_id n p g here there);
-  mobility = mobility_grown d e (inputs d (root_at d b.r0kh_id) n p [] []) (inputs e (root_at e b.r0kh_id) n p [] []) fte b.mobility g (made_grown d e b.r0kh_id n p [] [] g here there) at.mobility;
+  pmk = at.pmk ∙ sym (pmk_grown d e n p b.r0kh_id g here there);
+  mobility = mobility_grown d e (inputs_at d n p b.r0kh_id [] []) (inputs_at e n p b.r0kh_id [] []) fte fte b.mobility g (inputs_at_grown d e n p b.r0kh_id [] [] g here there) refl at.mobility;
   id = at.id;
 }
 
@@ -116,7 +77,7 @@ tried_grown d e n p b (Some x) h g here there st = record {
 
 holds_grown : (d e : Domain) (n p : Node) (b : Base) (x : SupplicantSession) (h : List Act) → Grows d e → IsListed d n → IsListed d p → Holds d n p b x h → Holds e n p b x h
 holds_grown d e n p b (Connect key counter) h g here there st = record {
-  is = st.is ∙ ap (λ (z : Derivation). Some z) (key_grown d e b.r0kh_id n p key g here there);
+  is = st.is ∙ ap (λ (z : Derivation). Some z) (key_grown d e n p b.r0kh_id key g here there);
   begun = st.begun;
   based = based_grown d e n p b _ g here there st.based;
   keeps = st.keeps;
@@ -139,8 +100,8 @@ supplicant_grown d e n p s h g here there st = record {
 transit_grown : (d e : Domain) (n p : Node) (id : List ℕ) (t : Option Transit) (part : List Act) → Grows d e → IsListed d n → IsListed d p → IsKeyed d n p id t part → IsKeyed e n p id t part
 transit_grown d e n p id None part g here there st = tt
 transit_grown d e n p id (Some t) part g here there st = (
-  st.0 ∙ ap (λ (x : Derivation). Some x) (key_grown d e id n p t.key g here there),
-  st.1 ∙ ap r1_name (sym (inputs_by_grown d e id n p t.key g here there)),
+  st.0 ∙ ap (λ (x : Derivation). Some x) (key_grown d e n p id t.key g here there),
+  st.1 ∙ ap r1_name (sym (inputs_by_grown d e n p id t.key g here there)),
 )
 
 -- the access point of the session, which is left, is listed
@@ -162,8 +123,8 @@ stage_grown d e n p s stage.Asked h g here there left st = under_way_grown d e n
 stage_grown d e n p s (stage.Keyed t) h g here there left st = under_way_grown d e n p s (Some t) h g here there left st
 stage_grown d e n p s stage.Done h g here there left st = st
 
-r0_grown : (d e : Domain) (n : Node) (id : List ℕ) → Grows d e → IsListed d n → pmk_r0 e.psk e.ssid e.mdid id (mac e n) ≡ pmk_r0 d.psk d.ssid d.mdid id (mac d n)
-r0_grown d e n id g here = rw (g.psk, g.ssid, g.mdid, mac_grown d e n g here) refl
+r0_grown : (d e : Domain) (n : Node) (id : List ℕ) → Grows d e → IsListed d n → pmk_r0 (psk_of e n) e.ssid e.mdid id (mac e n) ≡ pmk_r0 (psk_of d n) d.ssid d.mdid id (mac d n)
+r0_grown d e n id g here = rw (psk_grown d e n g here, g.ssid, g.mdid, mac_grown d e n g here) refl
 
 originator_grown : (d e : Domain) (n p : Node) (s : OriginatorState) (h : List Act) → Grows d e → IsListed d n → IsListed d p → ((q : Node) → associated h ≡ Some q → IsListed d q) → OriginatorStands d n p s h → OriginatorStands e n p s h
 originator_grown d e n p s h g here there left st = record {

@@ -18,7 +18,7 @@ use Rattle.run_journal.specs.declared.reply.Keyed.{Keyed}
 use Rattle.run_journal.specs.Questions.{attempt, session, pending, add}
 use Rattle.run_journal.specs.Holders.{last_r0kh_id}
 use Rattle.domain_rules.specs.Here.{here}
-use Rattle.domain_rules.specs.Network.{Root, root_by, root_at}
+use Rattle.domain_rules.specs.Network.{Root, root_by, root_at, station_of}
 use Rattle.domain_rules.specs.Frames.{frame_seal}
 use Rattle.domain_rules.specs.Replies.{Taken, reply_acts, key_by, inputs_by, derived_acts, replaced_acts, installed_acts, gtk_acts, finished_acts, sent_acts}
 use Rattle.domain_rules.proofs.Parts.{add_append}
@@ -90,20 +90,20 @@ abbrev pub told_acts : Domain → List ℕ → Node → ℕ → Taken → Reply 
 told_acts d id n a t r = reply_acts (pair_at d id n (Ap a)) false t r
 
 told_about : (d : Domain) (id : List ℕ) (n : Node) (a : ℕ) (t : Taken) (r : Reply) (h : List Act) → AreAbout a (told_acts d id n a t r) h
-told_about d id n a t r h = are_about a (told_acts d id n a t r) h (replied_about d (root_at d id) n (Ap a) false t.octets t.message t.outcome r)
+told_about d id n a t r h = are_about a (told_acts d id n a t r) h (replied_about d (root_at d (station_of n (Ap a)) id) n (Ap a) false t.octets t.message t.outcome r)
 
 -- and tell of nothing that was installed, or that the attempt became a session
 told_ends : (d : Domain) (id : List ℕ) (n : Node) (a : ℕ) (t : Taken) (r : Reply) → r.installed ≡ None → AllByRecursion EndsNone (told_acts d id n a t r)
-told_ends d id n a t r none = replied_ends d (root_at d id) n (Ap a) false t.octets t.message t.outcome r none
+told_ends d id n a t r none = replied_ends d (root_at d (station_of n (Ap a)) id) n (Ap a) false t.octets t.message t.outcome r none
 
 told_end : (d : Domain) (id : List ℕ) (n : Node) (a : ℕ) (t : Taken) (r : Reply) (y : Keyed) (h : List Act) → r.installed ≡ Some y → IsEnd (Ap a) h (add (told_acts d id n a t r) h)
-told_end d id n a t r y h some = replied_end d (root_at d id) n (Ap a) false t.octets t.message t.outcome r y h some
+told_end d id n a t r y h some = replied_end d (root_at d (station_of n (Ap a)) id) n (Ap a) false t.octets t.message t.outcome r y h some
 
 -- the R0KH-ID of the key that was installed is the last one
 told_holder : (d : Domain) (id : List ℕ) (sta a : ℕ) (t : Taken) (r : Reply) (y : Keyed) (h : List Act) → d.akm ≡ FtPsk → r.installed ≡ Some y → last_r0kh_id (add (told_acts d id (Sta sta) a t r) h) ≡ id
 told_holder d id sta a t r y h suite some =
     let p : Node = Ap a in
-    let root : Root = root_at d id in
+    let root : Root = root_at d (Sta sta) id in
     let took : Act = Took (Some p) t.octets (kind.Key t.message.message) t.outcome (option_map (λ (kck : List ℕ). frame_seal kck t.message.octets) r.verified) in
     let front : Option Keyed → List Act = λ x. ((derived_acts d root (Sta sta) p r.derived ++ replaced_acts p false x) ++ installed_acts d root (Sta sta) p x) ++ gtk_acts d p r.gtk in
     let l : List Act = add (front (Some y)) (took ∷ h) in
@@ -111,7 +111,7 @@ told_holder d id sta a t r y h suite some =
     ap (λ (x : Option Keyed). last_r0kh_id (add ((front x ++ finished_acts d root (Sta sta) p x) ++ sent_acts p r) (took ∷ h))) some
     ∙ ap (λ (w : List Act). last_r0kh_id w) (add_append (front (Some y) ++ last ∷ []) (sent_acts p r) (took ∷ h) ∙ ap (add (sent_acts p r)) (add_append (front (Some y)) (last ∷ []) (took ∷ h)))
     ∙ ends_holder (sent_acts p r) (last ∷ l) (sent_ends p r)
-    ∙ ap (λ (x : Akm). (root_by x d id).r0kh_id) suite
+    ∙ ap (λ (x : Akm). (root_by x d (Sta sta) id).r0kh_id) suite
 
 -- ---- in an attempt
 
@@ -156,9 +156,9 @@ keyed_finished d n a t r y new h some st under =
     let x = session_there new.session y same in
     let held : IsHeld d n (Ap a) new.base y x.0 l = subst (λ (o : Option SupplicantSession). HasSupplicantSession d n (Ap a) new.base o l) x.1 st.session_is in
     record {
-      key = key_by d (root_at d new.base.r0kh_id) n (Ap a) y;
+      key = key_by d (root_at d (station_of n (Ap a)) new.base.r0kh_id) n (Ap a) y;
       is = held.is;
-      holds = replied_holds d (root_at d new.base.r0kh_id) n (Ap a) false t.octets t.message t.outcome r y h some;
+      holds = replied_holds d (root_at d (station_of n (Ap a)) new.base.r0kh_id) n (Ap a) false t.octets t.message t.outcome r y h some;
     }
   where
     connected : (x : SupplicantSession) (y : Keyed) → key_in x ≡ Some y → (counter : ℕ) × (x ≡ Connect y counter)
@@ -248,7 +248,7 @@ stands-held d first s h a t r old new k has st is only ids steps =
       session_is = record {
         listed = place.listed;
         stands = steps.stands;
-        keyed = keyed_stays (Sta s.number) a k g h ends (λ tk. replied_leaves d (root_at d new.base.r0kh_id) (Sta s.number) (Ap a) (Ap a) tk false t.octets t.message t.outcome r none) place.keyed;
+        keyed = keyed_stays (Sta s.number) a k g h ends (λ tk. replied_leaves d (root_at d (Sta s.number) new.base.r0kh_id) (Sta s.number) (Ap a) (Ap a) tk false t.octets t.message t.outcome r none) place.keyed;
       };
       no_attempt = λ p other. x.none p (st.no_attempt p other);
       no_session = λ p other. x.others p other ∙ st.no_session p (λ e. other (sym (ap peer_of_session is) ∙ e));

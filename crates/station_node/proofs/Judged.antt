@@ -35,7 +35,7 @@ use Rattle.frame_intake.specs.declared.delivered.Delivered.{Delivered}
 use Rattle.frame_intake.specs.declared.delivered.Delivered.TheVariants as delivered
 use Rattle.frame_intake.specs.Views.{management_fields, message_fields, sealed_fields, reading_of, IsWhole}
 use Rattle.ft_exchange.specs.Comes.{IsManagementFrom}
-use Rattle.node_base.specs.Peers.{IsPeerOf}
+use Rattle.run_journal.specs.Events.{IsPeerOf}
 use Rattle.frame_intake.specs.Judging.{IsJudged}
 use Rattle.station_node.specs.State.{State}
 use Rattle.station_node.specs.Steps.{IsTaken, turn, IsDataFrom}

@@ -12,7 +12,6 @@ pub mod Taken
 pub mod Judged
 pub mod Growing
 pub mod Placed
-pub mod Using
 pub mod Carrying
 pub mod Counters
 pub mod Traffic

@@ -23,7 +23,7 @@ use Rattle.run_journal.specs.Questions.{associated, listed, given as given_keys,
 use Rattle.domain_rules.specs.GroupKeys.{told, got, got_by}
 use Rattle.domain_rules.specs.Closing.{close_associated}
 use Rattle.domain_rules.specs.Here.{here}
-use Rattle.domain_rules.specs.Network.{Root, root_at}
+use Rattle.domain_rules.specs.Network.{Root, root_at, station_of}
 use Rattle.domain_rules.specs.Rows.{Take}
 use Rattle.domain_rules.specs.Replies.{inputs_by, derived_acts, installed_acts, gtk_acts, finished_acts}
 use Rattle.domain_rules.specs.TransitionKeys.{re_resp_covered}
@@ -106,7 +106,7 @@ taken-answered d s p w m old new ks waited waits outcome is g kind_is x = record
   steps = λ first h st. (
       let n : Node = Sta s.number in
       let e : ElementFields = element_fields m.elements in
-      let acts : ℕ → List ℕ → List Act = λ a id. auth_response_acts d (root_at d id) n (Ap a) (came m.octets.now e outcome) x.reply in
+      let acts : ℕ → List ℕ → List Act = λ a id. auth_response_acts d (root_at d (station_of n (Ap a)) id) n (Ap a) (came m.octets.now e outcome) x.reply in
       let same_id = moving_holder d first s h p old st is in
       let f : OriginatorSteps (here d first n) (Ap p) m.octets.now (acts p old.r0kh_id) new h = x.taken.steps d first s.number p m.octets.now (management_fields m.frame) h (moving_is d first s h p old st is).1.stands g.from kind_is refl in
       record {
@@ -114,8 +114,8 @@ taken-answered d s p w m old new ks waited waits outcome is g kind_is x = record
         adds = station_adds d first s.number h (Take m.octets.now) (acts p old.r0kh_id) f.adds;
         waiting = x.acts ∙ ap (λ (a : ℕ). waited ++ acts a w.r0kh_id.now) g.ap_is ∙ ap (λ (id : List ℕ). waited ++ acts p id) (g.id_is ∙ sym same_id.0);
         came = refl;
-        stands = stands-moving d first s h p old new (acts p old.r0kh_id) s.memories st is (frames-auth d (root_at d old.r0kh_id) n p m.octets.now outcome x.reply) (none_changed p s.memories) (st.ids p)
-            (mute_remembers (Ap p) (memory_at s.memories p) (acts p old.r0kh_id) h (mute_auth d (root_at d old.r0kh_id) n (Ap p) m.octets.now e outcome x.reply) (st.remembers p)) f.stands;
+        stands = stands-moving d first s h p old new (acts p old.r0kh_id) s.memories st is (frames-auth d (root_at d (station_of n (Ap p)) old.r0kh_id) n p m.octets.now outcome x.reply) (none_changed p s.memories) (st.ids p)
+            (mute_remembers (Ap p) (memory_at s.memories p) (acts p old.r0kh_id) h (mute_auth d (root_at d (station_of n (Ap p)) old.r0kh_id) n (Ap p) m.octets.now e outcome x.reply) (st.remembers p)) f.stands;
       });
   refused = λ why f. ap (λ (o : OriginatorState). moving_state s p o s.memories) (x.taken.refused why f).0 ∙ moving_same s p old is;
 }
@@ -140,9 +140,9 @@ among_by s p had has old new waited waits low had_is = record {
 -- what the originator does of it
 steps-arrived : (d : Domain) (s : State) (p : ℕ) (w : Way) (m : Managed) (has : List (List Kept)) (t : Move) (a : Arrival) (first : ℕ) (h : List Act) → Stands d first s h → s.attempt ≡ Some (record { ap = p; association = Moving t.old.part }) → IsGiven d s p w m
     → m.frame.kind ≡ kind.ReResp → IsAmong s p has t → (x : IsArrived d (Sta s.number) w m t a)
-    → BothStep (here d first (Sta s.number)) (Ap p) m.octets.now (reassoc_response_acts d (root_at d t.old.part.r0kh_id) (Sta s.number) (Ap p) (associated h) (came m.octets.now (element_fields m.elements) a.outcome) x.reply) (both t.new.part (memory_at has p)) h
+    → BothStep (here d first (Sta s.number)) (Ap p) m.octets.now (reassoc_response_acts d (root_at d (Sta s.number) t.old.part.r0kh_id) (Sta s.number) (Ap p) (associated h) (came m.octets.now (element_fields m.elements) a.outcome) x.reply) (both t.new.part (memory_at has p)) h
 steps-arrived d s p w m has t a first h st is g kind_is b x =
-    subst (λ (ks : List Kept). BothStep (here d first (Sta s.number)) (Ap p) m.octets.now (reassoc_response_acts d (root_at d t.old.part.r0kh_id) (Sta s.number) (Ap p) (associated h) (came m.octets.now (element_fields m.elements) a.outcome) x.reply) (both t.new.part ks) h) b.has_is
+    subst (λ (ks : List Kept). BothStep (here d first (Sta s.number)) (Ap p) m.octets.now (reassoc_response_acts d (root_at d (Sta s.number) t.old.part.r0kh_id) (Sta s.number) (Ap p) (associated h) (came m.octets.now (element_fields m.elements) a.outcome) x.reply) (both t.new.part ks) h) b.has_is
     (x.taken.steps d first s.number p m.octets.now (management_fields m.frame) h (moving_is d first s h p t.old.part st is).1.stands (subst (λ (ks : List Kept). Remembers (Ap p) ks h) (sym b.had_is) (st.remembers p)) g.from kind_is refl)
 
 ids-given : (old new : List Kept) → AreGiven old new → HaveGroupIds old → HaveGroupIds new
@@ -154,9 +154,9 @@ ids-among d s p w m has t a first h st b x = subst HaveGroupIds b.has_is (ids-gi
 
 -- the acts that waited, by what the station stands for
 waits-arrived : (d : Domain) (s : State) (p : ℕ) (w : Way) (m : Managed) (t : Move) (a : Arrival) (first : ℕ) (h : List Act) → Stands d first s h → s.attempt ≡ Some (record { ap = p; association = Moving t.old.part }) → IsGiven d s p w m → (x : IsArrived d (Sta s.number) w m t a)
-    → t.waits ≡ t.waited ++ reassoc_response_acts d (root_at d t.old.part.r0kh_id) (Sta s.number) (Ap p) (associated h) (came m.octets.now (element_fields m.elements) a.outcome) x.reply
+    → t.waits ≡ t.waited ++ reassoc_response_acts d (root_at d (Sta s.number) t.old.part.r0kh_id) (Sta s.number) (Ap p) (associated h) (came m.octets.now (element_fields m.elements) a.outcome) x.reply
 waits-arrived d s p w m t a first h st is g x =
-    let acts : ℕ → List ℕ → Option Node → List Act = λ k id q. reassoc_response_acts d (root_at d id) (Sta s.number) (Ap k) q (came m.octets.now (element_fields m.elements) a.outcome) x.reply in
+    let acts : ℕ → List ℕ → Option Node → List Act = λ k id q. reassoc_response_acts d (root_at d (Sta s.number) id) (Sta s.number) (Ap k) q (came m.octets.now (element_fields m.elements) a.outcome) x.reply in
     x.acts ∙ ap (λ (k : ℕ). t.waited ++ acts k w.r0kh_id.now w.left) g.ap_is ∙ ap (λ (id : List ℕ). t.waited ++ acts p id w.left) (g.id_is ∙ sym (moving_holder d first s h p t.old.part st is).0)
     ∙ ap (λ (q : Option Node). t.waited ++ acts p t.old.part.r0kh_id q) (g.left_is ∙ sym st.associated_is)
 
@@ -174,9 +174,9 @@ taken-moving d s p w m has t a is g kind_is b x none = record {
   number = refl;
   steps = λ first h st. (
       let n : Node = Sta s.number in
-      let acts : List Act = reassoc_response_acts d (root_at d t.old.part.r0kh_id) n (Ap p) (associated h) (came m.octets.now (element_fields m.elements) a.outcome) x.reply in
+      let acts : List Act = reassoc_response_acts d (root_at d (station_of n (Ap p)) t.old.part.r0kh_id) n (Ap p) (associated h) (came m.octets.now (element_fields m.elements) a.outcome) x.reply in
       let f = steps-arrived d s p w m has t a first h st is g kind_is b x in
-      let shape = quiet_shape d (root_at d t.old.part.r0kh_id) n (Ap p) (associated h) m.octets.now (element_fields m.elements) a.outcome x.reply (sym x.installed ∙ none) in
+      let shape = quiet_shape d (root_at d (station_of n (Ap p)) t.old.part.r0kh_id) n (Ap p) (associated h) m.octets.now (element_fields m.elements) a.outcome x.reply (sym x.installed ∙ none) in
       record {
         acts = acts;
         adds = station_adds d first s.number h (Take m.octets.now) acts f.step.adds;
@@ -208,10 +208,10 @@ arrived-by d s p w m has t a k x' is g kind_is b x some at begun = record {
       let n : Node = Sta s.number in
       let left = session_left d first s h p t.old.part st is in
       let e : ElementFields = element_fields m.elements in
-      let acts : List ℕ → List Act = λ id. reassoc_response_acts d (root_at d id) n (Ap p) (associated h) (came m.octets.now e a.outcome) x.reply in
+      let acts : List ℕ → List Act = λ id. reassoc_response_acts d (root_at d (station_of n (Ap p)) id) n (Ap p) (associated h) (came m.octets.now e a.outcome) x.reply in
       let f = steps-arrived d s p w m has t a first h st is g kind_is b x in
       let same_id = moving_holder d first s h p t.old.part st is in
-      let shape = loud_shape d (root_at d s.r0kh_id) n p (associated h) (Ap left.0.ap) m.octets.now e a.outcome x.reply k.key h (st.associated_is ∙ ap peer_of_session left.1) some in
+      let shape = loud_shape d (root_at d (station_of n (Ap p)) s.r0kh_id) n p (associated h) (Ap left.0.ap) m.octets.now e a.outcome x.reply k.key h (st.associated_is ∙ ap peer_of_session left.1) some in
       record {
         acts = acts t.old.part.r0kh_id;
         adds = station_adds d first s.number h (Take m.octets.now) (acts t.old.part.r0kh_id) f.step.adds;

@@ -20,7 +20,7 @@ use Rattle.domain_rules.specs.DataVerdict.{is_group}
 use Rattle.domain_rules.specs.Rows.{NodeEvent, Take, Send}
 use Rattle.frame_intake.specs.SealedFields.{SealedFields, IsSealedData}
 use Rattle.node_base.specs.Events.{seen}
-use Rattle.node_base.specs.Peers.{IsReceiverOf}
+use Rattle.run_journal.specs.Events.{IsReceiverOf}
 use Rattle.group_key.specs.Keys.{Kept}
 use Rattle.data_frames.specs.Sending.{send_key_of, used_once, outcome_under}
 use Rattle.data_frames.specs.Taking.{IsOpenedUnder}

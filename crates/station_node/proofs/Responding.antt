@@ -14,7 +14,7 @@ use Rattle.run_journal.specs.declared.domain.Domain.{Domain}
 use Rattle.run_journal.specs.declared.acts.Reason.TheVariants as reason
 use Rattle.run_journal.specs.declared.acts.Outcome.{Outcome}
 use Rattle.run_journal.specs.declared.acts.Outcome.TheVariants.{Accepted, Refused}
-use Rattle.domain_rules.specs.Network.{address, root_at, inputs}
+use Rattle.domain_rules.specs.Network.{address, inputs_at}
 use Rattle.domain_rules.specs.Reading.{Management, Managed, Reads}
 use Rattle.domain_rules.specs.Facts.{is_same}
 use Rattle.domain_rules.specs.FastTransition.{mde_status, or_status, fte_status, names_r1kh}
@@ -161,7 +161,7 @@ responds FtPsk octets b e base reads mobile = ((b, reads), (mobile refl).0, (mob
 pub based_on : (d : Domain) (sta p status : ℕ) (octets : List ℕ) (b : Management) (e : ElementFields) (base : Base) → Reads d.akm octets (Managed b e) → HasRaw e → Accepted ≡ response_outcome d p status e → IsBaseOf d (Sta sta) (Ap p) (fte_with d.akm e) base
     → IsBasedOn d (Sta sta) (Ap p) octets base × NamesHolderWith d base.r0kh_id
 based_on d sta p status octets b e base reads raw accepts of =
-    let same : fte_in base ≡ fte_with d.akm e = same_fte d (inputs d (root_at d base.r0kh_id) (Sta sta) (Ap p) [] []) (fte_with d.akm e) base (without d.akm e) of.mobility in
+    let same : fte_in base ≡ fte_with d.akm e = same_fte d (inputs_at d (Sta sta) (Ap p) base.r0kh_id [] []) (fte_with d.akm e) base (without d.akm e) of.mobility in
     let id_is : (suite : d.akm ≡ FtPsk) → base.r0kh_id ≡ (has_fte d p status e suite raw accepts).id =
     λ suite. (let x = has_fte d p status e suite raw accepts in of.id (alone x.f x.raw) (subst (λ (l : List ℕ). SpellsElements Body l (alone x.f x.raw)) (sym (with_mobile d.akm e x suite)) x.spells) ∙ alone_responded e x) in (
       record {

@@ -176,14 +176,14 @@ roaming-leaves d n None p root v q tk = asking-leaves d n p root v q tk
 roaming-leaves d n (Some r) p root v q tk = (record { used = λ h. refl; got = λ t h. refl }, asking-leaves d n p root v q tk)
 
 -- the originator has begun
-roaming-began : (d : Domain) (n : Node) (was : Option Node) (p : ℕ) (q : Node) (id v : List ℕ) (o : OriginatorState) (h : List Act) → ((l : List Act) → IsRoaming (Ap p) q id v l → OriginatorStands d n (Ap p) o (sent_ft_req d n (Ap p) (root_at d id) v ∷ l))
-    → associated h ≡ Some q → last_r0kh_id h ≡ id → OriginatorStands d n (Ap p) o (add (roaming_acts d n was p (root_at d id) v) h)
+roaming-began : (d : Domain) (n : Node) (was : Option Node) (p : ℕ) (q : Node) (id v : List ℕ) (o : OriginatorState) (h : List Act) → ((l : List Act) → IsRoaming (Ap p) q id v l → OriginatorStands d n (Ap p) o (sent_ft_req d n (Ap p) (root_at d n id) v ∷ l))
+    → associated h ≡ Some q → last_r0kh_id h ≡ id → OriginatorStands d n (Ap p) o (add (roaming_acts d n was p (root_at d n id) v) h)
 roaming-began d n was p q id v o h stands from holder = by was
   where
     begun : (l : List Act) → associated l ≡ Some q → last_r0kh_id l ≡ id → IsRoaming (Ap p) q id v (Drew (Nonce v) ∷ Opened (Ap p) ByRoam ∷ l)
     begun l from holder = record { from = from; r0kh_id = holder; part = Drew (Nonce v) ∷ Opened (Ap p) ByRoam ∷ []; is = rw (same-refl (Ap p)) refl; begun = refl; nonce = refl; hears = refl }
 
-    by : (was : Option Node) → OriginatorStands d n (Ap p) o (add (roaming_acts d n was p (root_at d id) v) h)
+    by : (was : Option Node) → OriginatorStands d n (Ap p) o (add (roaming_acts d n was p (root_at d n id) v) h)
     by None = stands (Drew (Nonce v) ∷ Opened (Ap p) ByRoam ∷ h) (begun h from holder)
     by (Some r) = stands (Drew (Nonce v) ∷ Opened (Ap p) ByRoam ∷ Closed r OfAttempt ∷ h) (begun (Closed r OfAttempt ∷ h) from holder)
 
@@ -195,11 +195,11 @@ abbrev pub roamed_state : State → ℕ → OriginatorState → List (List Kept)
 roamed_state s p o memories = record { number = s.number; drawn = s.drawn + 1; attempt = Some (record { ap = p; association = Moving o }); session = s.session; memories = memories; r0kh_id = s.r0kh_id }
 
 stands-roamed : (d : Domain) (first : ℕ) (s : State) (h : List Act) (p q : ℕ) (v : List ℕ) (o : OriginatorState) (memories : List (List Kept)) → d.akm ≡ FtPsk → Stands d first s h → p < length d.aps → RoamsFrom s p q
-    → ((l : List Act) → IsRoaming (Ap p) (Ap q) s.r0kh_id v l → OriginatorStands d (Sta s.number) (Ap p) o (sent_ft_req d (Sta s.number) (Ap p) (root_at d s.r0kh_id) v ∷ l)) → ((k : ℕ) → memory_at memories k ≡ memory_at s.memories k)
-    → Stands d first (roamed_state s p o memories) (add (roaming_acts d (Sta s.number) (pending h) p (root_at d s.r0kh_id) v) h)
+    → ((l : List Act) → IsRoaming (Ap p) (Ap q) s.r0kh_id v l → OriginatorStands d (Sta s.number) (Ap p) o (sent_ft_req d (Sta s.number) (Ap p) (root_at d (Sta s.number) s.r0kh_id) v ∷ l)) → ((k : ℕ) → memory_at memories k ≡ memory_at s.memories k)
+    → Stands d first (roamed_state s p o memories) (add (roaming_acts d (Sta s.number) (pending h) p (root_at d (Sta s.number) s.r0kh_id) v) h)
 stands-roamed d first s h p q v o memories suite st listed r began same_memory =
     let n : Node = Sta s.number in
-    let root : Root = root_at d s.r0kh_id in
+    let root : Root = root_at d (Sta s.number) s.r0kh_id in
     let g : List Act = roaming_acts d n (pending h) p root v in
     let holder = subst (λ (x : Option Session). IsHolder x s.r0kh_id h) r.is (st.holder suite) in
     let apart : (z : Session) → (p == z.ap) ≡ false → same (Ap z.ap) (Ap p) ≡ false = λ z other. ne_eqb z.ap p (λ e. alike p z.ap other (sym e)) in
@@ -248,19 +248,19 @@ roaming-waits d n (Some q) p root v waited = simp append_assoc
 
 pub steps-roamed : (d : Domain) (first : ℕ) (s : State) (h : List Act) (p q : ℕ) (v : List ℕ) (o : OriginatorState) (memories : List (List Kept)) (waited : List Act) → d.akm ≡ FtPsk → Stands d first s h → p < length d.aps → RoamsFrom s p q
     → v ≡ nonce d (Sta s.number) s.drawn
-    → ((l : List Act) → IsRoaming (Ap p) (Ap q) s.r0kh_id v l → OriginatorStands d (Sta s.number) (Ap p) o (sent_ft_req d (Sta s.number) (Ap p) (root_at d s.r0kh_id) v ∷ l)) → ((k : ℕ) → memory_at memories k ≡ memory_at s.memories k)
+    → ((l : List Act) → IsRoaming (Ap p) (Ap q) s.r0kh_id v l → OriginatorStands d (Sta s.number) (Ap p) o (sent_ft_req d (Sta s.number) (Ap p) (root_at d (Sta s.number) s.r0kh_id) v ∷ l)) → ((k : ℕ) → memory_at memories k ≡ memory_at s.memories k)
     → Steps (here d first (Sta s.number)) (Roam p) (Stands d first (roamed_state s p o memories)) h
-    (seen waited (((waited ++ close_pending (peer_of_attempt s.attempt)) ++ Opened (Ap p) ByRoam ∷ Drew (Nonce v) ∷ []) ++ sent_ft_req d (Sta s.number) (Ap p) (root_at d s.r0kh_id) v ∷ []) Done)
+    (seen waited (((waited ++ close_pending (peer_of_attempt s.attempt)) ++ Opened (Ap p) ByRoam ∷ Drew (Nonce v) ∷ []) ++ sent_ft_req d (Sta s.number) (Ap p) (root_at d (Sta s.number) s.r0kh_id) v ∷ []) Done)
 steps-roamed d first s h p q v o memories waited suite st listed r v_is began same_memory =
     let n : Node = Sta s.number in
     let holder = subst (λ (x : Option Session). IsHolder x s.r0kh_id h) r.is (st.holder suite) in
     record {
-      acts = roaming_acts d n (pending h) p (root_at d s.r0kh_id) v;
-      adds = station_adds d first s.number h (Roam p) (roaming_acts d n (pending h) p (root_at d s.r0kh_id) v)
+      acts = roaming_acts d n (pending h) p (root_at d (Sta s.number) s.r0kh_id) v;
+      adds = station_adds d first s.number h (Roam p) (roaming_acts d n (pending h) p (root_at d (Sta s.number) s.r0kh_id) v)
           (Asks suite (Ap r.z.ap) (st.associated_is ∙ ap peer_of_session r.is) r.other (subst (λ (m : ℕ). m < draw_end) st.draws_are r.early)
-          (ap (λ (x : List ℕ). roaming_acts d n (pending h) p (root_at d s.r0kh_id) x) (v_is ∙ ap (nonce d n) st.draws_are) ∙ ap (λ (id : List ℕ). roaming_acts d n (pending h) p (root_at d id) (nonce d n (first + draws h))) (sym holder.0)));
-      waiting = rw (st.pending_is) (roaming-waits d n (peer_of_attempt s.attempt) p (root_at d s.r0kh_id) v waited);
-      came = roaming-done d n (pending h) p (root_at d s.r0kh_id) v;
+          (ap (λ (x : List ℕ). roaming_acts d n (pending h) p (root_at d (Sta s.number) s.r0kh_id) x) (v_is ∙ ap (nonce d n) st.draws_are) ∙ ap (λ (id : List ℕ). roaming_acts d n (pending h) p (root_at d n id) (nonce d n (first + draws h))) (sym holder.0)));
+      waiting = rw (st.pending_is) (roaming-waits d n (peer_of_attempt s.attempt) p (root_at d (Sta s.number) s.r0kh_id) v waited);
+      came = roaming-done d n (pending h) p (root_at d (Sta s.number) s.r0kh_id) v;
       stands = stands-roamed d first s h p q v o memories suite st listed r began same_memory;
     }
 
@@ -287,7 +287,7 @@ pub taken-roamed : (d : Domain) (s new : State) (p q : ℕ) (v : List ℕ) (o : 
     → IsTaken d (Roam p) (turn s new waited waits) Done
 taken-roamed d s new p q v o r memories waited closed opened waits suite listed from v_is begun same_memory new_is closes opens sends =
     let n : Node = Sta s.number in
-    let sent : Act = sent_ft_req d n (Ap p) (root_at d s.r0kh_id) v in
+    let sent : Act = sent_ft_req d n (Ap p) (root_at d (Sta s.number) s.r0kh_id) v in
     let all : waits ≡ ((waited ++ close_pending (peer_of_attempt s.attempt)) ++ Opened (Ap p) ByRoam ∷ Drew (Nonce v) ∷ []) ++ sent ∷ [] =
     sends ∙ ap (λ (l : List Act). opened ++ l) begun.sends ∙ ap (λ (l : List Act). l ++ sent ∷ []) (opens ∙ ap (λ (l : List Act). l ++ Opened (Ap p) ByRoam ∷ Drew (Nonce v) ∷ []) closes) in
     record {

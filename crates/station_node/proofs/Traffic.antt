@@ -34,7 +34,7 @@ use Rattle.domain_rules.proofs.Switching.{station_adds}
 use Rattle.act_memory.proofs.RepliedActs.{remembers_on}
 use Rattle.frame_intake.specs.SealedFields.{SealedFields, sealed_reading, IsSealedData}
 use Rattle.node_base.specs.Events.{seen}
-use Rattle.node_base.specs.Peers.{IsReceiverOf}
+use Rattle.run_journal.specs.Events.{IsReceiverOf}
 use Rattle.group_key.specs.Keys.{Kept, found, taken}
 use Rattle.group_key.specs.Holds.{Remembers}
 use Rattle.data_frames.specs.Holding.{kept_key}
@@ -58,7 +58,7 @@ use Rattle.station_node.proofs.Counters.{found_group_id, ids_taken, remembers_be
 use Rattle.station_node.proofs.Handed.{held_state}
 use Rattle.station_node.proofs.Standing.{stands-plain, held_is}
 use Rattle.station_node.proofs.Taken.{taken-refused}
-use Rattle.station_node.proofs.Using.{pairwise_sends, pairwise_used, pairwise_opens, faultless_above, pairwise_taken}
+use Rattle.data_frames.proofs.Using.{pairwise_sends, pairwise_used, pairwise_opens, faultless_above, pairwise_taken}
 
 -- ---- what is known of the frame and of the session
 

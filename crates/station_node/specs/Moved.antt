@@ -7,7 +7,7 @@ use Rattle.run_journal.specs.declared.domain.Domain.{Domain}
 use Rattle.run_journal.specs.declared.acts.Outcome.{Outcome}
 use Rattle.run_journal.specs.declared.acts.Act.{Act}
 use Rattle.run_journal.specs.declared.reply.Reply.{Reply}
-use Rattle.domain_rules.specs.Network.{root_at}
+use Rattle.domain_rules.specs.Network.{root_at, station_of}
 use Rattle.ft_exchange.specs.Exchange.{Both}
 use Rattle.ft_exchange.specs.OriginatorSteps.{IsAuthTaken, IsReassocTaken}
 use Rattle.ft_exchange.specs.Told.{came, auth_response_acts, reassoc_response_acts}
@@ -28,13 +28,13 @@ move old new waited waits = record { old = old; new = new; waited = waited; wait
 -- the acts are those of the originator's reply
 pub record IsAnswered (d : Domain) (n : Node) (w : Way) (m : Managed) (t : Move) (outcome : Outcome) : Type 0 where
   pub reply : Reply
-  pub acts : t.waits ≡ t.waited ++ auth_response_acts d (root_at d w.r0kh_id.now) n (Ap w.ap)
+  pub acts : t.waits ≡ t.waited ++ auth_response_acts d (root_at d (station_of n (Ap w.ap)) w.r0kh_id.now) n (Ap w.ap)
       (came m.octets.now (element_fields m.elements) outcome) reply
   pub taken : IsAuthTaken m.frame.status (element_fields m.elements) t.old.part t.new.part outcome reply
 
 pub record IsArrived (d : Domain) (n : Node) (w : Way) (m : Managed) (t : Move) (a : Arrival) : Type 0 where
   pub reply : Reply
-  pub acts : t.waits ≡ t.waited ++ reassoc_response_acts d (root_at d w.r0kh_id.now) n (Ap w.ap) w.left
+  pub acts : t.waits ≡ t.waited ++ reassoc_response_acts d (root_at d (station_of n (Ap w.ap)) w.r0kh_id.now) n (Ap w.ap) w.left
       (came m.octets.now (element_fields m.elements) a.outcome) reply
   pub taken : IsReassocTaken m.frame.status (element_fields m.elements) t.old t.new a.outcome reply
   pub installed : a.installed ≡ reply.installed

@@ -4,8 +4,7 @@ ghost use Rattle.std.specs.Prelude.{◌≡◌, ◌≤◌, length, option_map, If
 ghost use Rattle.run_journal.specs.declared.reply.Keyed.{Keyed as AnyKeyed};
 ghost use Rattle.domain_base.specs.declared.names.Node.TheVariants.{Ap};
 ghost use Rattle.eapol_key.specs.Fields.{IsKeyFrame};
-ghost use Rattle.domain_rules.specs.Network.{IsListed};
-ghost use Rattle.node_base.specs.Peers.{IsPeerOf};
+ghost use Rattle.run_journal.specs.Events.{IsListed, IsPeerOf};
 ghost use Rattle.supplicant.specs.State.{both};
 ghost use Rattle.station_node.specs.Handed.{IsHanded, handing};
 

@@ -26,7 +26,7 @@ use Rattle.key_hierarchy.specs.declared.inputs.Ptk.{Ptk}
 use Rattle.run_journal.specs.Acts.{Derivation}
 use Rattle.run_journal.specs.Questions.{session, since}
 use Rattle.domain_rules.specs.Asking.{kept_counter}
-use Rattle.domain_rules.specs.Network.{root_at}
+use Rattle.domain_rules.specs.Network.{root_at, station_of}
 use Rattle.domain_rules.specs.Replies.{key_by}
 use Rattle.supplicant.proofs.KeyDataRead.{high_counter, low_counter, same_octets}
 
@@ -61,7 +61,7 @@ pub record IsSessionOf (p : Node) (q : Ptk) (kept : Option ℕ) (h : List Act) :
   pub keeps : kept_counter p (since p h) ≡ kept
 
 pub session_of : (d : Domain) (n p : Node) (b : Base) (x : Session) (h : List Act) → Holds d n p b x h → IsSessionOf p (ptk_of x) (kept_of x) h
-session_of d n p b (Connect y counter) h l = record { x = key_by d (root_at d b.r0kh_id) n p y; is = l.is; key = refl; keeps = l.keeps }
+session_of d n p b (Connect y counter) h l = record { x = key_by d (root_at d (station_of n p) b.r0kh_id) n p y; is = l.is; key = refl; keeps = l.keeps }
 session_of d n p b (Ft q counter) h l = record { x = l.x; is = l.is; key = l.key; keeps = l.keeps }
 
 -- it is judged under the session's key, with the counter that is kept

@@ -20,7 +20,7 @@ use Rattle.domain_rules.specs.Replies.{IsMessageFrom, key_by}
 use Rattle.domain_rules.specs.Asking.{by_connect, kept_counter}
 use Rattle.domain_rules.specs.StationKeys.{session_keying, m3_keying, m3_verdict, taken_in}
 use Rattle.domain_rules.specs.Verdict.{first_verdict, key_verdict}
-use Rattle.domain_rules.specs.Network.{root_at}
+use Rattle.domain_rules.specs.Network.{root_at, station_of}
 use Rattle.key_hierarchy.specs.declared.inputs.Ptk.{Ptk}
 use Rattle.supplicant.specs.declared.base.Base.{Base}
 use Rattle.supplicant.specs.declared.session.Session.TheVariants.{Connect, Ft}
@@ -35,7 +35,7 @@ use Rattle.supplicant.specs.M3.{under, before_key_data, IsVerified, IsRefusedBef
 
 -- it is that key, with the base of its association, and the counter of its chain is the kept one
 pub record IsKeying (d : Domain) (n p : Node) (b : Base) (h : List Act) (y : Keyed) (kept : Option ℕ) : Type 0 where
-  pub is : m3_keying p h ≡ Some (record { key = key_by d (root_at d b.r0kh_id) n p y; is_session = is_some kept })
+  pub is : m3_keying p h ≡ Some (record { key = key_by d (root_at d (station_of n p) b.r0kh_id) n p y; is_session = is_some kept })
   pub based : IsBased d n p b (since p h)
   pub keeps : kept_counter p (chain p h) ≡ kept
 

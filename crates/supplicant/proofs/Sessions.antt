@@ -53,9 +53,9 @@ heard_there : (d : Domain) (n p : Node) (octets : List ℕ) (s : Seal) (x : Deri
 heard_there d n p octets s x g counter part apart = rw (apart.accepts_none kind.AssocResp, same-refl p) refl
 
 pub held_finished : (d : Domain) (sta a : ℕ) (b : Base) (v octets : List ℕ) (s : Seal) (y : Keyed) (g : Act) (counter : ℕ) (h : List Act) → IsUnderWay d (Sta sta) (Ap a) b v (Some y) h → IsApart (Ap a) g → replay_counter octets ≡ counter
-    → IsHeld d (Sta sta) (Ap a) b y counter (add (finishing_acts d (Sta sta) (Ap a) octets s (key_by d (root_at d b.r0kh_id) (Sta sta) (Ap a) y) g counter) h)
+    → IsHeld d (Sta sta) (Ap a) b y counter (add (finishing_acts d (Sta sta) (Ap a) octets s (key_by d (root_at d (Sta sta) b.r0kh_id) (Sta sta) (Ap a) y) g counter) h)
 held_finished d sta a b v octets s y g counter h u apart is =
-    let x : Derivation = key_by d (root_at d b.r0kh_id) (Sta sta) (Ap a) y in
+    let x : Derivation = key_by d (root_at d (Sta sta) b.r0kh_id) (Sta sta) (Ap a) y in
     let since_is = since_there d (Sta sta) (Ap a) octets s x g counter h u.part apart (since_part (Ap a) h u.part u.is) in
     record {
       is = session_there d (Sta sta) (Ap a) octets s x g counter h apart ∙ derivation_part (Ap a) h u.part x u.is u.keyed;

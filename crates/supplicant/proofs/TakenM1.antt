@@ -30,7 +30,7 @@ use Rattle.run_journal.specs.declared.reply.Keyed.{Keyed}
 use Rattle.run_journal.specs.Replies.{IsEmpty, IsWhole}
 use Rattle.run_journal.specs.Questions.{since, heard, draws, add}
 use Rattle.key_hierarchy.specs.declared.inputs.Inputs.{Inputs}
-use Rattle.domain_rules.specs.Network.{peer_of, inputs, Root, root_by, root_at}
+use Rattle.domain_rules.specs.Network.{peer_of, inputs, Root, root_by, root_at, inputs_at, station_of}
 use Rattle.domain_rules.specs.Facts.{Facts}
 use Rattle.domain_rules.specs.AccessPointKeys.{IsRequested}
 use Rattle.domain_rules.specs.TransitionKeyData.{responded_fte, responded_r0kh_id}
@@ -130,9 +130,9 @@ m1_unawaited f s ks r empty none = taken_refused M1 f s ks reason.Unawaited r (e
 
 -- the attempt goes on with that key
 under_way_replied : (d : Domain) (n p : Node) (b : Base) (v octets : List ℕ) (key : Option Keyed) (y : Keyed) (counter : ℕ) (fte : List ℕ) (h : List Act) → IsUnderWay d n p b v key h
-    → IsUnderWay d n p b v (Some y) (add (replying_acts d n p octets (key_by d (root_at d b.r0kh_id) n p y) counter fte) h)
+    → IsUnderWay d n p b v (Some y) (add (replying_acts d n p octets (key_by d (root_at d (station_of n p) b.r0kh_id) n p y) counter fte) h)
 under_way_replied d n p b v octets key y counter fte h u =
-    let x : Derivation = key_by d (root_at d b.r0kh_id) n p y in
+    let x : Derivation = key_by d (root_at d (station_of n p) b.r0kh_id) n p y in
     let t = has_replied d n p octets x counter fte h u.part u.is in
     let g : GoesOnBy p u.part h (add (replying_acts d n p octets x counter fte) h) = t.0 in
     record {
@@ -165,10 +165,10 @@ knows_m1 : (d : Domain) (h : List Act) (k : KeyMessage) (p q : Node) (says : Opt
 knows_m1 d h k p q says is same knows = rw (is, ← same) (plain_m1 d.akm h p k (responded_facts says), knows)
 
 -- the R0KH-ID and the FTE of the response are those of the base
-id_by : (akm : Akm) (octets : Option (List ℕ)) (says : Option ElementFields) (b : Base) (d : Domain) → Responds akm octets says b → root_by akm d b.r0kh_id ≡ root_by akm d (responded_r0kh_id says)
-id_by Psk octets says b d responds = refl
-id_by PskSha256 octets says b d responds = refl
-id_by FtPsk octets says b d responds = ap (root_by FtPsk d) responds.2
+id_by : (akm : Akm) (octets : Option (List ℕ)) (says : Option ElementFields) (b : Base) (d : Domain) (s : Node) → Responds akm octets says b → root_by akm d s b.r0kh_id ≡ root_by akm d s (responded_r0kh_id says)
+id_by Psk octets says b d s responds = refl
+id_by PskSha256 octets says b d s responds = refl
+id_by FtPsk octets says b d s responds = ap (root_by FtPsk d s) responds.2
 
 fte_by : (akm : Akm) (octets : Option (List ℕ)) (says : Option ElementFields) (b : Base) (d : Domain) (x : Derivation) → Responds akm octets says b
     → sent_m2_key_data akm d x (fte_in b) ≡ sent_m2_key_data akm d x (unwrap_or (responded_fte says) [])
@@ -213,14 +213,14 @@ made_of d q r sta p y part v k root_is drawn mine theirs =
     ap (λ (z : Root). inputs d z (Sta sta) p y.snonce y.anonce) root_is ∙ ap (λ (w : List ℕ). inputs d r (Sta sta) p w y.anonce) (drawn ∙ sym mine) ∙ ap (λ (w : List ℕ). inputs d r (Sta sta) p (own part) w) theirs
 
 adds_replied : (d : Domain) (first sta : ℕ) (p : Node) (b : Base) (octets : List ℕ) (k : KeyMessage) (h : List Act) (v : List ℕ) (key : Option Keyed) (y : Keyed) → IsMessageFrom d (Sta sta) p octets k → k.message ≡ M1 → IsUnderWay d (Sta sta) p b v key h
-    → y.snonce ≡ v → y.anonce ≡ k.fields.nonce → y.ptk ≡ ptk (inputs_by d (root_at d b.r0kh_id) (Sta sta) p y)
-    → TakeRow (here d first (Sta sta)) h octets (replying_acts d (Sta sta) p octets (key_by d (root_at d b.r0kh_id) (Sta sta) p y) k.fields.counter (fte_in b))
+    → y.snonce ≡ v → y.anonce ≡ k.fields.nonce → y.ptk ≡ ptk (inputs_by d (root_at d (Sta sta) b.r0kh_id) (Sta sta) p y)
+    → TakeRow (here d first (Sta sta)) h octets (replying_acts d (Sta sta) p octets (key_by d (root_at d (Sta sta) b.r0kh_id) (Sta sta) p y) k.fields.counter (fte_in b))
 adds_replied d first sta p b octets k h v key y from is u drawn theirs keyed =
     let says : Option ElementFields = u.based.says in
     let facts : Facts = responded_facts says in
     let accepted : first_verdict d first (Sta sta) h (KeyedReading k) ≡ Accepted = m1_is d first sta p octets k h from is ∙ m1-in h p k u.part true None u.is u.begun u.hears (ap (kept_counter p) (since_part p h u.part u.is) ∙ u.keeps) in
     let mine : own u.part ≡ v = ap (λ (o : Option (List ℕ)). unwrap_or o []) u.nonce in
-    let i : Inputs = inputs_by d (root_at d b.r0kh_id) (Sta sta) p y in
+    let i : Inputs = inputs_by d (root_at d (Sta sta) b.r0kh_id) (Sta sta) p y in
     record {
       r = KeyedReading k;
       reads = from.reads;
@@ -236,14 +236,14 @@ adds_replied d first sta p b octets k h v key y from is u drawn theirs keyed =
         part = u.part;
         awaited = u.is;
         i = i;
-        inputs_are = made_of d (root_at d b.r0kh_id) (root_at d (responded_r0kh_id says)) sta p y u.part v k (id_by d.akm (heard p kind.AssocResp u.part) says b d u.based.responds) drawn mine theirs;
+        inputs_are = made_of d (root_at d (Sta sta) b.r0kh_id) (root_at d (Sta sta) (responded_r0kh_id says)) sta p y u.part v k (id_by d.akm (heard p kind.AssocResp u.part) says b d (Sta sta) u.based.responds) drawn mine theirs;
         says = ap (λ (q : Ptk). replying_acts d (Sta sta) p octets (record { inputs = i; ptk = q }) k.fields.counter (fte_in b)) keyed
             ∙ ap (λ (m : Act). Took (Some p) octets (kind.Key M1) Accepted None ∷ Derived p i (ptk i) ∷ m ∷ []) (m2_by d (Sta sta) p (keyed_by i) k.fields.counter (heard p kind.AssocResp u.part) says b u.based.responds);
       });
     }
 
 -- names of keys do not go back to nonces
-pub mobile_by : (d : Domain) (n p : Node) (b : Base) (y : Keyed) (o : Option Mobility) → IsMobility d (inputs d (root_at d b.r0kh_id) n p [] []) (fte_in b) o → IsMobility d (inputs_by d (root_at d b.r0kh_id) n p y) (fte_in b) o
+pub mobile_by : (d : Domain) (n p : Node) (b : Base) (y : Keyed) (o : Option Mobility) → IsMobility d (inputs_at d n p b.r0kh_id [] []) (fte_in b) o → IsMobility d (inputs_by d (root_at d (station_of n p) b.r0kh_id) n p y) (fte_in b) o
 mobile_by d (Ap a) p b y None is = is
 mobile_by d (Ap a) p b y (Some m) is = is
 mobile_by d (Sta s) p b y None is = is
@@ -257,11 +257,11 @@ m1_accepted f s ks old new r has answers whole = record {
       let b = s.base in
       let u : IsUnderWay d (Sta sta) (Ap a) b old.snonce old.key h = subst (λ (x : Option Attempt). HasAttempt d (Sta sta) (Ap a) b x h) has st.attempt_is in
       let of : IsKeyOf s.ends b.pmk y = is_key_of s.ends b.pmk f.nonce old.snonce y answers.key_is in
-      let keyed : y.ptk ≡ ptk (inputs_by d (root_at d b.r0kh_id) (Sta sta) (Ap a) y) = key_is d (root_at d b.r0kh_id) (Sta sta) (Ap a) s.ends b.pmk y st.ends u.based.of.pmk of in
+      let keyed : y.ptk ≡ ptk (inputs_by d (root_at d (Sta sta) b.r0kh_id) (Sta sta) (Ap a) y) = key_is d (root_at d (Sta sta) b.r0kh_id) (Sta sta) (Ap a) s.ends b.pmk y st.ends u.based.of.pmk of in
       let drawn : y.snonce ≡ old.snonce = ap (λ (z : Keyed). z.snonce) answers.key_is in
       let nonce_is : y.anonce ≡ k.fields.nonce = ap (λ (z : Keyed). z.anonce) answers.key_is ∙ ap (λ (g : KeyFields). g.nonce) (sym fields) in
       let counter_is : f.counter ≡ k.fields.counter = ap (λ (g : KeyFields). g.counter) (sym fields) in
-      let z : Derivation = key_by d (root_at d b.r0kh_id) (Sta sta) (Ap a) y in
+      let z : Derivation = key_by d (root_at d (Sta sta) b.r0kh_id) (Sta sta) (Ap a) y in
       let acts : List Act = replying_acts d (Sta sta) (Ap a) octets z k.fields.counter (fte_in b) in
       steps_by d first (Sta sta) (Ap a) octets k (both (having (Some new) s.session s) ks) Accepted r h acts
       (derives y (sent_m2 d (Sta sta) (Ap a) z f.counter (fte_in b) ∷ [])) (answers.tells d (Sta sta) (Ap a) z st.ends refl refl (mobile_by d (Sta sta) (Ap a) b y b.mobility u.based.of.mobility)) tt

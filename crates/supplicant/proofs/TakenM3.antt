@@ -27,7 +27,7 @@ use Rattle.run_journal.specs.declared.reply.GtkNews.{GtkNews}
 use Rattle.run_journal.specs.Replies.{IsEmpty, IsWhole}
 use Rattle.run_journal.specs.Acts.{GroupKey}
 use Rattle.run_journal.specs.Questions.{attempt, since, heard, add}
-use Rattle.domain_rules.specs.Network.{mac, peer_of, root_at}
+use Rattle.domain_rules.specs.Network.{mac, peer_of, root_at, station_of}
 use Rattle.domain_rules.specs.Frames.{sent_m4, frame_seal}
 use Rattle.domain_rules.specs.GroupKeys.{memory, give, give_by, find_key}
 use Rattle.domain_rules.specs.Reading.{KeyMessage, Keyed as KeyedReading}
@@ -151,7 +151,7 @@ further_is : (d : Domain) (n p : Node) (b : Base) (h : List Act) (y : Keyed) (ke
     → m3_further d.akm d (m3_keying p h) (m3_facts x.based.says plain says) ≡ wrapped_by (Some b) plain says
 further_is d n p b h y kept plain says x =
     ap (λ (o : Option Keying). m3_further d.akm d o (m3_facts x.based.says plain says)) x.is
-    ∙ further_by d.akm d (record { key = key_by d (root_at d b.r0kh_id) n p y; is_session = is_some kept }) (heard p kind.AssocResp (since p h)) b x.based.says plain says refl (mobile_by d n p b y b.mobility x.based.of.mobility) x.based.responds
+    ∙ further_by d.akm d (record { key = key_by d (root_at d (station_of n p) b.r0kh_id) n p y; is_session = is_some kept }) (heard p kind.AssocResp (since p h)) b x.based.says plain says refl (mobile_by d n p b y b.mobility x.based.of.mobility) x.based.responds
     ∙ ap (λ (a : Akm). wrapped_said a b.mobility plain says) (sym x.based.of.akm)
     ∙ wrapped_is b plain says
 
@@ -162,7 +162,7 @@ facts_of responded o = m3_facts responded o.plain o.says
 
 knows_y : (d : Domain) (n p : Node) (b : Base) (h : List Act) (k : KeyMessage) (y : Keyed) (kept : Option ℕ) (facts : Facts) → IsKeying d n p b h y kept → KnowsM3 y.ptk.kek k facts → (z : Keying) → m3_keying p h ≡ Some z → KnowsM3 z.key.ptk.kek k facts
 knows_y d n p b h k y kept facts x knows z is =
-    let same : record { key = key_by d (root_at d b.r0kh_id) n p y; is_session = is_some kept } ≡ z = (let both = sym x.is ∙ is in cc) in
+    let same : record { key = key_by d (root_at d (station_of n p) b.r0kh_id) n p y; is_session = is_some kept } ≡ z = (let both = sym x.is ∙ is in cc) in
     subst (λ (w : Keying). KnowsM3 w.key.ptk.kek k facts) same knows
 
 -- the association response
@@ -288,10 +288,10 @@ finishing d n p octets k s x g act counter is same number =
     ∙ ap (finishing_acts d n p octets s x act) number
 
 adds_finished : (d : Domain) (first sta : ℕ) (p : Node) (b : Base) (octets : List ℕ) (k : KeyMessage) (h : List Act) (y : Keyed) (c : CarriedKey) → IsMessageFrom d (Sta sta) p octets k → k.message ≡ M3 → IsKeying d (Sta sta) p b h y None → IsVerified (under b y None) k.fields k.octets (Ok c)
-    → TakeRow (here d first (Sta sta)) h octets (finishing_acts d (Sta sta) p octets (frame_seal y.ptk.kck k.octets) (key_by d (root_at d b.r0kh_id) (Sta sta) p y) (give groups.Gtk p (mac d p) (group_key c) h) k.fields.counter)
+    → TakeRow (here d first (Sta sta)) h octets (finishing_acts d (Sta sta) p octets (frame_seal y.ptk.kck k.octets) (key_by d (root_at d (Sta sta) b.r0kh_id) (Sta sta) p y) (give groups.Gtk p (mac d p) (group_key c) h) k.fields.counter)
 adds_finished d first sta p b octets k h y c from is x v =
     let facts : Facts = facts_of x.based.says v.opened in
-    let z : Derivation = key_by d (root_at d b.r0kh_id) (Sta sta) p y in
+    let z : Derivation = key_by d (root_at d (Sta sta) b.r0kh_id) (Sta sta) p y in
     record {
       r = KeyedReading k;
       reads = from.reads;
@@ -312,7 +312,7 @@ adds_finished d first sta p b octets k h y c from is x v =
 
 stands_finished : (d : Domain) (sta a : ℕ) (s : State) (old : Attempt) (octets : List ℕ) (k : KeyMessage) (y : Keyed) (c : CarriedKey) (h : List Act) → SupplicantStands d (Sta sta) (Ap a) s h → s.attempt ≡ Some old → old.key ≡ Some y → IsMessageFrom d (Sta sta) (Ap a) octets k
     → SupplicantStands d (Sta sta) (Ap a) (having None (Some (Connect y k.fields.counter)) s)
-    (add (finishing_acts d (Sta sta) (Ap a) octets (frame_seal y.ptk.kck k.octets) (key_by d (root_at d s.base.r0kh_id) (Sta sta) (Ap a) y) (give groups.Gtk (Ap a) (mac d (Ap a)) (group_key c) h) k.fields.counter) h)
+    (add (finishing_acts d (Sta sta) (Ap a) octets (frame_seal y.ptk.kck k.octets) (key_by d (root_at d (Sta sta) s.base.r0kh_id) (Sta sta) (Ap a) y) (give groups.Gtk (Ap a) (mac d (Ap a)) (group_key c) h) k.fields.counter) h)
 stands_finished d sta a s old octets k y c h st is has from =
     let b = s.base in
     let u : IsUnderWay d (Sta sta) (Ap a) b old.snonce (Some y) h = subst (λ (o : Option Keyed). IsUnderWay d (Sta sta) (Ap a) b old.snonce o h) has (subst (λ (o : Option Attempt). HasAttempt d (Sta sta) (Ap a) b o h) is st.attempt_is) in
@@ -320,7 +320,7 @@ stands_finished d sta a s old octets k y c h st is has from =
     let seal : Seal = frame_seal y.ptk.kck k.octets in
     record {
       ends = st.ends;
-      attempt_is = none_finished d sta a octets seal (key_by d (root_at d b.r0kh_id) (Sta sta) (Ap a) y) g k.fields.counter h;
+      attempt_is = none_finished d sta a octets seal (key_by d (root_at d (Sta sta) b.r0kh_id) (Sta sta) (Ap a) y) g k.fields.counter h;
       session_is = held_finished d sta a b old.snonce octets seal y g k.fields.counter h u
           (apart_give (Ap a) (Ap a) (mac d (Ap a)) (group_key c) (find_key c.key (memory groups.Gtk (Ap a) h))) (reads-counter d.akm octets k from.reads);
     }
@@ -341,7 +341,7 @@ m3_finished f s old had has x r is key done whole = record {
       let c = done.group in
       let has_y : old.key ≡ Some y = own_key x old.key y f.counter done.is key in
       let g : GtkNews = news_of c (kept_id c.key had) in
-      let der : Derivation = key_by d (root_at d b.r0kh_id) (Sta sta) (Ap a) y in
+      let der : Derivation = key_by d (root_at d (Sta sta) b.r0kh_id) (Sta sta) (Ap a) y in
       let seal : Seal = frame_seal y.ptk.kck k.octets in
       let counter_is : f.counter ≡ k.fields.counter = ap (λ (z : KeyFields). z.counter) (sym fields) in
       let made : Connect y k.fields.counter ≡ x = ap (Connect y) (sym counter_is) ∙ sym done.is in
@@ -370,7 +370,7 @@ answering d n p octets k s x counter is number =
     ap (λ (m : Message). Took (Some p) octets (kind.Key m) Answered (Some s) ∷ sent_m4 d n p x counter ∷ []) is ∙ ap (answering_acts d n p octets s x) number
 
 adds_answered : (d : Domain) (first sta : ℕ) (p : Node) (b : Base) (octets : List ℕ) (k : KeyMessage) (h : List Act) (y : Keyed) (was : ℕ) (c : CarriedKey) → IsMessageFrom d (Sta sta) p octets k → k.message ≡ M3 → IsKeying d (Sta sta) p b h y (Some was) → IsVerified (under b y (Some was)) k.fields k.octets (Ok c)
-    → TakeRow (here d first (Sta sta)) h octets (answering_acts d (Sta sta) p octets (frame_seal y.ptk.kck k.octets) (key_by d (root_at d b.r0kh_id) (Sta sta) p y) k.fields.counter)
+    → TakeRow (here d first (Sta sta)) h octets (answering_acts d (Sta sta) p octets (frame_seal y.ptk.kck k.octets) (key_by d (root_at d (Sta sta) b.r0kh_id) (Sta sta) p y) k.fields.counter)
 adds_answered d first sta p b octets k h y was c from is x v =
     let facts : Facts = facts_of x.based.says v.opened in
     record {
@@ -385,7 +385,7 @@ adds_answered d first sta p b octets k h y was c from is x v =
         p = p;
         from = from.from;
         answered = verdict_m3 d first (Sta sta) p h k facts Answered Accepted from.from is (comes_m3 d first sta p b octets k h y (Some was) (Ok c) from is x v) (further_is d (Sta sta) p b h y (Some was) v.opened.plain v.opened.says x ∙ v.opened.is.0);
-        y = record { key = key_by d (root_at d b.r0kh_id) (Sta sta) p y; is_session = true };
+        y = record { key = key_by d (root_at d (Sta sta) b.r0kh_id) (Sta sta) p y; is_session = true };
         awaited = x.is;
         says = refl;
       });
@@ -393,13 +393,13 @@ adds_answered d first sta p b octets k h y was c from is x v =
 
 stands_answered : (d : Domain) (sta : ℕ) (p : Node) (s : State) (y : Keyed) (was : ℕ) (octets : List ℕ) (k : KeyMessage) (h : List Act) → SupplicantStands d (Sta sta) p s h → s.attempt ≡ None → s.session ≡ Some (Connect y was) → IsMessageFrom d (Sta sta) p octets k
     → ((o : Outcome) → before_key_data (under s.base y (Some was)) k.fields k.octets o ≡ o)
-    → SupplicantStands d (Sta sta) p (having s.attempt (Some (Connect y k.fields.counter)) s) (add (answering_acts d (Sta sta) p octets (frame_seal y.ptk.kck k.octets) (key_by d (root_at d s.base.r0kh_id) (Sta sta) p y) k.fields.counter) h)
+    → SupplicantStands d (Sta sta) p (having s.attempt (Some (Connect y k.fields.counter)) s) (add (answering_acts d (Sta sta) p octets (frame_seal y.ptk.kck k.octets) (key_by d (root_at d (Sta sta) s.base.r0kh_id) (Sta sta) p y) k.fields.counter) h)
 stands_answered d sta p s y was octets k h st none has from comes =
     let b = s.base in
     let l : IsHeld d (Sta sta) p b y was h = subst (λ (x : Option Session). HasSession d (Sta sta) p b x h) has st.session_is in
     let nowhere : attempt p h ≡ None = subst (λ (x : Option Attempt). HasAttempt d (Sta sta) p b x h) none st.attempt_is in
     let seal : Seal = frame_seal y.ptk.kck k.octets in
-    let x : Derivation = key_by d (root_at d b.r0kh_id) (Sta sta) p y in
+    let x : Derivation = key_by d (root_at d (Sta sta) b.r0kh_id) (Sta sta) p y in
     let acts : List Act = answering_acts d (Sta sta) p octets seal x k.fields.counter in
     record {
       ends = st.ends;
@@ -414,7 +414,7 @@ m3_answered f s old new ks r none has done whole = record {
       (let y = done.key in
       let b = s.base in
       let holds : s.session ≡ Some (Connect y done.was) = has ∙ ap (λ (z : Session). Some z) done.is_old in
-      let der : Derivation = key_by d (root_at d b.r0kh_id) (Sta sta) (Ap a) y in
+      let der : Derivation = key_by d (root_at d (Sta sta) b.r0kh_id) (Sta sta) (Ap a) y in
       let seal : Seal = frame_seal y.ptk.kck k.octets in
       let counter_is : f.counter ≡ k.fields.counter = ap (λ (x : KeyFields). x.counter) (sym fields) in
       let made : Connect y k.fields.counter ≡ new = ap (Connect y) (sym counter_is) ∙ sym done.is in

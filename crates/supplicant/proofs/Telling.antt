@@ -16,7 +16,7 @@ use Rattle.domain_rules.specs.Frames.{frame_seal}
 use Rattle.domain_rules.specs.Reading.{KeyMessage}
 use Rattle.domain_rules.specs.Replies.{derived_acts, replaced_acts, installed_acts, gtk_acts, finished_acts, frame_acts, sent_acts, reply_acts, taken_as}
 use Rattle.domain_rules.specs.Rows.{TakeRow}
-use Rattle.domain_rules.specs.Network.{Root, root_at}
+use Rattle.domain_rules.specs.Network.{Root, root_at, station_of}
 use Rattle.node_base.specs.Pairs.{pair_of, pair_at}
 use Rattle.domain_rules.specs.Here.{here}
 use Rattle.group_key.specs.Holds.{Remembers}
@@ -43,10 +43,10 @@ acts_told d q n p octets k o r t tells =
     ∙ ap (λ (w : Option GtkNews). told_acts d q n p octets k o (told_with t.verified t.derived t.installed w (sent_acts p r))) tells.gtk_is
     ∙ ap (λ (w : List Act). told_acts d q n p octets k o (told_with t.verified t.derived t.installed t.gtk w)) tells.sends_are
 
-pub steps_by : (d : Domain) (first : ℕ) (n p : Node) (octets : List ℕ) (k : KeyMessage) (new : Both) (o : Outcome) (r : Reply) (h acts : List Act) (t : Told) → Tells p r t → IsUnder p h t.installed new.part → told_acts d (root_at d new.part.base.r0kh_id) n p octets k o t ≡ acts
+pub steps_by : (d : Domain) (first : ℕ) (n p : Node) (octets : List ℕ) (k : KeyMessage) (new : Both) (o : Outcome) (r : Reply) (h acts : List Act) (t : Told) → Tells p r t → IsUnder p h t.installed new.part → told_acts d (root_at d (station_of n p) new.part.base.r0kh_id) n p octets k o t ≡ acts
     → TakeRow (here d first n) h octets acts → SupplicantStands d n p new.part (add acts h) → Remembers p new.keys (add acts h) → SupplicantSteps (here d first n) p (taken_as octets k o) new r h
 steps_by d first n p octets k new o r h acts t tells under are adds stands remembers =
-    let is : reply_acts (pair_at d new.part.base.r0kh_id n p) false (taken_as octets k o) r ≡ acts = acts_told d (root_at d new.part.base.r0kh_id) n p octets k o r t tells ∙ are in
+    let is : reply_acts (pair_at d new.part.base.r0kh_id n p) false (taken_as octets k o) r ≡ acts = acts_told d (root_at d (station_of n p) new.part.base.r0kh_id) n p octets k o r t tells ∙ are in
     record {
       adds = subst (λ (l : List Act). TakeRow (here d first n) h octets l) (sym is) adds;
       stands = subst (λ (l : List Act). SupplicantStands d n p new.part (add l h)) (sym is) stands;

@@ -5,7 +5,7 @@ use Rattle.rsn_elements.specs.declared.framing.Within.TheVariants.{Body}
 use Rattle.rsn_elements.specs.Elements.{ElementFields, SpellsElements}
 use Rattle.key_hierarchy.specs.Sizes.{IsR0khId}
 use Rattle.run_journal.specs.declared.domain.Domain.{Domain}
-use Rattle.domain_rules.specs.Network.{root_at, inputs}
+use Rattle.domain_rules.specs.Network.{root_at, inputs_at, station_of}
 use Rattle.domain_rules.specs.TransitionKeyData.{responded_r0kh_id}
 use Rattle.node_base.specs.declared.pairwise.Pmk.{Pmk}
 use Rattle.node_base.specs.declared.pairwise.Pmk.TheVariants.{Psk, PskSha256, R1}
@@ -27,8 +27,8 @@ NamesHolder fte = (e : ElementFields) × (SpellsElements Body fte e × IsR0khId 
 -- of node n with its peer p, by the FTE of the association response
 pub record IsBaseOf (d : Domain) (n p : Node) (fte : List ℕ) (b : Base) : Type 0 where
   pub akm : b.akm ≡ d.akm
-  pub pmk : b.pmk ≡ pmk_of d (root_at d b.r0kh_id) n p
-  pub mobility : IsMobility d (inputs d (root_at d b.r0kh_id) n p [] []) fte b.mobility
+  pub pmk : b.pmk ≡ pmk_of d (root_at d (station_of n p) b.r0kh_id) n p
+  pub mobility : IsMobility d (inputs_at d n p b.r0kh_id [] []) fte b.mobility
   pub id : (e : ElementFields) → SpellsElements Body fte e → b.r0kh_id ≡ responded_r0kh_id (Some e)
 
 -- the FTE of the association response, with suite 4

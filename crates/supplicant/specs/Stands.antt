@@ -15,7 +15,7 @@ use Rattle.run_journal.specs.Questions.{attempt, since, heard, own_nonce, deriva
 use Rattle.key_hierarchy.specs.declared.inputs.Ptk.{Ptk}
 use Rattle.domain_rules.specs.Asking.{by_connect, has_heard, kept_counter}
 use Rattle.domain_rules.specs.Replies.{key_by}
-use Rattle.domain_rules.specs.Network.{root_at}
+use Rattle.domain_rules.specs.Network.{root_at, station_of}
 use Rattle.domain_rules.specs.AccessPointKeys.{IsRequested}
 use Rattle.domain_rules.specs.TransitionKeyData.{responded_fte, responded_r0kh_id}
 use Rattle.node_base.specs.Ends.{AreEnds}
@@ -49,11 +49,11 @@ pub record IsUnderWay (d : Domain) (n p : Node) (b : Base) (snonce : List ℕ) (
   pub based : IsBased d n p b part
   pub keeps : kept_counter p part ≡ None
   pub asked : has_heard p (Key M1) part ≡ is_some key
-  pub keyed : derivation p part ≡ option_map (key_by d (root_at d b.r0kh_id) n p) key
+  pub keyed : derivation p part ≡ option_map (key_by d (root_at d (station_of n p) b.r0kh_id) n p) key
 
 -- the session is held: it began by association
 pub record IsHeld (d : Domain) (n p : Node) (b : Base) (key : Keyed) (counter : ℕ) (h : List Act) : Type 0 where
-  pub is : session p h ≡ Some (key_by d (root_at d b.r0kh_id) n p key)
+  pub is : session p h ≡ Some (key_by d (root_at d (station_of n p) b.r0kh_id) n p key)
   pub begun : by_connect (since p h) ≡ true
   pub based : IsBased d n p b (since p h)
   pub keeps : kept_counter p (since p h) ≡ Some counter

@@ -27,12 +27,12 @@ use Rattle.ft_exchange.specs.State.{TargetState}
 use Rattle.ft_exchange.specs.Stands.{PendingStands}
 use Rattle.ft_exchange.specs.TargetSteps.{root_asked, AuthSteps, HasBegun, IsAuthTaken}
 use Rattle.ft_exchange.specs.Told.{Came, came, sent_octets, transition_sent, begun_acts, auth_request_acts}
-use Rattle.ft_exchange.proofs.TargetStanding.{Passes, took_passes, sent_passes, looked_passes}
+use Rattle.ft_exchange.proofs.TargetStanding.{Passes, took_passes, sent_passes, looked_passes, Leaves}
 use Rattle.targets.specs.declared.moves.Moves.{Moves}
 use Rattle.targets.specs.declared.taken.Taken.{Taken}
 use Rattle.targets.specs.Stands.{HeldStands, IsOther}
 use Rattle.targets.specs.Steps.{Request, AuthMoves, AuthTaken}
-use Rattle.targets.proofs.Passing.{Leaves, held_stands_add, other_add, all_leave, all_pass, pass_leave}
+use Rattle.targets.proofs.Passing.{held_stands_add, other_add, all_leave, all_pass, pass_leave}
 
 -- ---- its acts
 
@@ -134,7 +134,7 @@ same_moves a b pending held = ap (λ (x : Option TargetState). the_moves x a.hel
 
 pub auth_moves : (q : Request) (drawn_ : Option (List ℕ)) (had : Bool) (old new : Moves) (t : Taken) (r : Reply) → t.key ≡ r.derived → new.held ≡ old.held
     → IsAuthTaken q.domain q.ap q.sta q.fields drawn_ old.pending new.pending t.outcome r
-    → AuthMoves q drawn_ had old new t r (auth_request_acts q.domain (root_asked q.domain (asked q.fields)) (Ap q.ap) (Sta q.sta) (some_part had) (came q.octets q.fields t.outcome) r)
+    → AuthMoves q drawn_ had old new t r (auth_request_acts q.domain (root_asked q.domain (Sta q.sta) (asked q.fields)) (Ap q.ap) (Sta q.sta) (some_part had) (came q.octets q.fields t.outcome) r)
 auth_moves q drawn_ had old new t r key held f = record {
   key = key;
   says = λ part is. says_any d root n p had frame r part is;
@@ -165,14 +165,14 @@ auth_moves q drawn_ had old new t r key held f = record {
     p = Sta q.sta
 
     root : Root
-    root = root_asked q.domain (asked q.fields)
+    root = root_asked q.domain (Sta q.sta) (asked q.fields)
 
     frame : Came
     frame = came q.octets q.fields t.outcome
 
 -- what came of it is told by that reply
 pub auth_taken : (q : Request) (drawn_ : Option (List ℕ)) (had : Bool) (Looks : Option PullAnswer → Type 0) (before mid after : List Act) (old new : Moves) (o : Outcome) (t : Taken) (r : Reply) → t.outcome ≡ o → t.key ≡ r.derived → mid ≡ before
-    → after ≡ mid ++ auth_request_acts q.domain (root_asked q.domain (asked q.fields)) (Ap q.ap) (Sta q.sta) (some_part had) (came q.octets q.fields t.outcome) r
+    → after ≡ mid ++ auth_request_acts q.domain (root_asked q.domain (Sta q.sta) (asked q.fields)) (Ap q.ap) (Sta q.sta) (some_part had) (came q.octets q.fields t.outcome) r
     → new.held ≡ old.held → IsAuthTaken q.domain q.ap q.sta q.fields drawn_ old.pending new.pending o r → Looks r.looked → AuthTaken q drawn_ had Looks before after old new t
 auth_taken q drawn_ had Looks before mid after old new o t r outcome key same adds held f looks = record {
   reply = r;
@@ -183,7 +183,7 @@ auth_taken q drawn_ had Looks before mid after old new o t r outcome key same ad
 }
   where
     acts : List Act
-    acts = auth_request_acts q.domain (root_asked q.domain (asked q.fields)) (Ap q.ap) (Sta q.sta) (some_part had) (came q.octets q.fields t.outcome) r
+    acts = auth_request_acts q.domain (root_asked q.domain (Sta q.sta) (asked q.fields)) (Ap q.ap) (Sta q.sta) (some_part had) (came q.octets q.fields t.outcome) r
 
 -- the reply is whole
 pub auth_whole : (d : Domain) (a sta : ℕ) (e : ElementFields) (v : Option (List ℕ)) (old new : Option TargetState) (o : Outcome) (r : Reply) → IsAuthTaken d a sta e v old new o r → IsWhole r

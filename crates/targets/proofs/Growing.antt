@@ -5,21 +5,19 @@ use Rattle.std.proofs.lemmas.Bool.{ltb-true, ltb-false}
 use Rattle.std.proofs.lemmas.List.{get_or_past}
 use Rattle.domain_base.specs.declared.names.Mac.{Mac}
 use Rattle.domain_base.specs.declared.names.Node.TheVariants.{Ap, Sta}
-use Rattle.key_hierarchy.specs.declared.inputs.Inputs.{Inputs}
-use Rattle.key_hierarchy.specs.declared.inputs.Ptk.{Ptk}
 use Rattle.run_journal.specs.declared.domain.Domain.{Domain}
+use Rattle.run_journal.specs.declared.domain.ListedSta.{ListedSta}
 use Rattle.run_journal.specs.declared.acts.Kind.TheVariants as kind
 use Rattle.run_journal.specs.declared.acts.Seal.{Seal}
 use Rattle.run_journal.specs.declared.acts.Act.{Act}
-use Rattle.run_journal.specs.declared.reply.Keyed.{Keyed}
 use Rattle.run_journal.specs.Acts.{Derivation}
 use Rattle.run_journal.specs.Holders.{Stored}
-use Rattle.domain_rules.specs.Network.{IsListed, address, Root, root_at}
+use Rattle.domain_rules.specs.Network.{address}
+use Rattle.run_journal.specs.Events.{IsListed}
 use Rattle.domain_rules.specs.FastTransition.{fte_seal, response_number}
-use Rattle.domain_rules.specs.Replies.{key_by}
 use Rattle.domain_rules.specs.TransitionKeys.{Transition}
 use Rattle.node_base.specs.Growing.{Grows}
-use Rattle.node_base.proofs.Grown.{mac_grown, root_grown, inputs_of_grown}
+use Rattle.node_base.proofs.Grown.{mac_grown, key_grown}
 use Rattle.ft_exchange.specs.Sent.{covered_in}
 use Rattle.ft_exchange.specs.State.{TargetState}
 use Rattle.ft_exchange.specs.Stands.{transition_of, IsPlace, IsHeldOrPending, TargetStands, PendingStands}
@@ -29,19 +27,11 @@ use Rattle.targets.specs.declared.moves.Moves.{Moves}
 use Rattle.targets.specs.State.{no_moves, moves_at}
 use Rattle.targets.specs.Stands.{HeldStands, HasMoves, TargetsStand}
 
-abbrev derivation_as : Ptk → Inputs → Derivation
-derivation_as k i = record { inputs = i; ptk = k }
-
 abbrev transition_as : TargetState → Derivation → Transition
 transition_as s x = record { key = x; asked = s.asked; r1_name = s.name }
 
-key_grown : (d e : Domain) (a sta : ℕ) (id : List ℕ) (y : Keyed) → Grows d e → IsListed d (Ap a) → IsListed d (Sta sta) → key_by e (root_at e id) (Ap a) (Sta sta) y ≡ key_by d (root_at d id) (Ap a) (Sta sta) y
-key_grown d e a sta id y g here there =
-    ap (λ (r : Root). key_by e r (Ap a) (Sta sta) y) (root_grown d e id g)
-    ∙ ap (λ (i : Inputs). derivation_as y.ptk i) (inputs_of_grown d e (root_at d id) (Ap a) (Sta sta) y.anonce y.snonce g here there)
-
 transition_grown : (d e : Domain) (a sta : ℕ) (s : TargetState) → Grows d e → IsListed d (Ap a) → IsListed d (Sta sta) → transition_of d (Ap a) (Sta sta) s ≡ transition_of e (Ap a) (Sta sta) s
-transition_grown d e a sta s g here there = sym (ap (λ (x : Derivation). transition_as s x) (key_grown d e a sta s.r0kh_id s.key g here there))
+transition_grown d e a sta s g here there = ap (λ (x : Derivation). transition_as s x) (key_grown d e (Ap a) (Sta sta) s.r0kh_id s.key g here there)
 
 place_grown : (d e : Domain) (a sta : ℕ) (w : Place) → Grows d e → IsListed d (Ap a) → IsListed d (Sta sta) → IsPlace d (Ap a) (Sta sta) w → IsPlace e (Ap a) (Sta sta) w
 place_grown d e a sta w g here there at = record {
@@ -109,7 +99,7 @@ each_grown d e a targets h sta true g here few has is = moves_grown d e a sta (m
 each_grown d e a targets h sta false g here few has is = none_grown d e a sta (moves_at targets sta) h (get_or_past targets sta no_moves (ltb-false sta (length targets) is)) has
 
 few_grown : (d e : Domain) (n : ℕ) → Grows d e → n ≤ length d.stas → n ≤ length e.stas
-few_grown d e n g few = omega (arith, few, ap (λ (l : List Mac). length l) g.stas, length-append d.stas g.more_stas)
+few_grown d e n g few = omega (arith, few, ap (λ (l : List ListedSta). length l) g.stas, length-append d.stas g.more_stas)
 
 pub targets_grown : (d e : Domain) (a : ℕ) (targets : List Moves) (h : List Act) → Grows d e → a < length d.aps → TargetsStand d a targets h → TargetsStand e a targets h
 targets_grown d e a targets h g here st = record {

@@ -1,6 +1,5 @@
 -- Acts that begin and end nothing leave the fast transitions of an access point with a station as they are.
-use Rattle.std.proofs.Common.{◌≡◌, ◌∙◌, ℕ, Bool, true, false, cond, List, [], ◌∷◌, ◌++◌, Option, Some, None, refl, sym, ap, subst}
-use Rattle.std.specs.Prelude.{option_and_then}
+use Rattle.std.proofs.Common.{◌≡◌, ◌∙◌, ℕ, Bool, true, false, List, [], ◌∷◌, ◌++◌, Option, Some, None, refl, sym, subst}
 use Rattle.std.specs.List.{AllByRecursion}
 use Rattle.domain_base.specs.declared.names.Node.{Node}
 use Rattle.domain_base.specs.declared.names.Peer.{Peer}
@@ -10,44 +9,21 @@ use Rattle.eapol_key.specs.declared.messages.Message.{Message}
 use Rattle.run_journal.specs.declared.domain.Domain.{Domain}
 use Rattle.run_journal.specs.declared.acts.Drawn.{Drawn}
 use Rattle.run_journal.specs.declared.acts.Kind.{Kind}
-use Rattle.run_journal.specs.declared.acts.Kind.TheVariants as kind
 use Rattle.run_journal.specs.declared.acts.Key.{Key}
 use Rattle.run_journal.specs.declared.acts.Seal.{Seal}
 use Rattle.run_journal.specs.declared.acts.Why.{Why}
 use Rattle.run_journal.specs.declared.acts.Act.{Act}
 use Rattle.run_journal.specs.declared.acts.Act.TheVariants.{Drew, Sent, Installed, Used, HandedUp, GaveUp, Idle, Put, Revoked}
-use Rattle.run_journal.specs.Acts.{opens, ends, closes, finishes}
-use Rattle.run_journal.specs.Questions.{attempt, add, or_else}
-use Rattle.run_journal.specs.Holders.{Stored, stored, first_stored, before_finished, since_finished}
-use Rattle.domain_rules.specs.TransitionKeys.{transition, session_transition}
+use Rattle.run_journal.specs.Acts.{opens, ends}
+use Rattle.run_journal.specs.Questions.{attempt, add}
 use Rattle.domain_rules.proofs.Parts.{attempt_none, attempt_more, attempt_some, by_connect_more, IsApart}
 use Rattle.ft_exchange.specs.State.{TargetState}
 use Rattle.ft_exchange.specs.Stands.{IsHeld, IsHeldOrPending, TargetStands}
-use Rattle.ft_exchange.proofs.TargetStanding.{Passes, pending_stands_more}
+use Rattle.ft_exchange.proofs.TargetStanding.{Passes, Leaves, leaves, session_more, held_more, pending_stands_more}
 use Rattle.targets.specs.declared.moves.Moves.{Moves}
 use Rattle.targets.specs.Stands.{HeldStands, IsOther, HasMoves}
 
 -- ---- acts that leave the session with p
-
-pub record Leaves (p : Node) (e : Act) : Type 0 where
-  pub closes_none : closes p e ≡ false
-  pub finishes_none : finishes p e ≡ false
-
-before_more : (p : Node) (e : Act) (h : List Act) → Leaves p e → before_finished p (e ∷ h) ≡ before_finished p h
-before_more p e h x =
-    ap (λ (b : Bool). cond b (Some h) (cond (closes p e) None (before_finished p h))) x.finishes_none ∙ ap (λ (b : Bool). cond b None (before_finished p h)) x.closes_none
-
-session_more : (p : Node) (e : Act) (h : List Act) → Leaves p e → session_transition p (e ∷ h) ≡ session_transition p h
-session_more p e h x = ap (λ (o : Option (List Act)). option_and_then (λ (before : List Act). transition p before) o) (before_more p e h x)
-
-since_more : (p : Node) (e : Act) (h : List Act) → Leaves p e → since_finished p (e ∷ h) ≡ e ∷ since_finished p h
-since_more p e h x = ap (λ (b : Bool). cond b [] (e ∷ since_finished p h)) x.finishes_none
-
-held_more : (d : Domain) (n p : Node) (s : TargetState) (e : Act) (h : List Act) → Leaves p e → IsHeld d n p s h → IsHeld d n p s (e ∷ h)
-held_more d n p s e h x i = record {
-  is = session_more p e h x ∙ i.is;
-  stored = ap (λ (l : List Act). first_stored p kind.ReResp l) (since_more p e h x) ∙ ap (λ (o : Option Stored). or_else o (stored p kind.ReResp e)) i.stored;
-}
 
 -- a target that is installed holds by the session
 pub installed : (d : Domain) (n p : Node) (s : TargetState) (h : List Act) → s.is_installed ≡ true → TargetStands d n p s h → IsHeld d n p s h
@@ -79,9 +55,6 @@ other_add p o [] h all at = at
 other_add p o (e ∷ g) h all at = other_add p o g (e ∷ h) all.1 (other_more p o e h all.0.opens_none all.0.ends_none at)
 
 -- ---- acts that leave both
-
-pub leaves : (p : Node) (e : Act) → Passes p e → Leaves p e
-leaves p e x = record { closes_none = x.closes_none; finishes_none = x.finishes_none }
 
 pub moves_more : (d : Domain) (n p : Node) (m : Moves) (e : Act) (h : List Act) → Passes p e → HasMoves d n p m h → HasMoves d n p m (e ∷ h)
 moves_more d n p m e h x has = record {

@@ -113,7 +113,7 @@ unawaited_verdict d n p h e none nothing =
     ∙ ap (λ (o : Option Transition). if is_some o then re_req_mic d n p e (judged p h e) else Refused reason.Unawaited) nothing
 
 pub unawaited_moves : (q : Request) (newest : GroupKey) (rsc : ℕ) (had : Bool) (old new : Moves) (t : Taken) (r : Reply) → t.key ≡ r.installed → meant q.fields old ≡ None → new ≡ old → IsUnawaited t.outcome r
-    → ReassocMoves q newest rsc had old new t r (reassoc_request_acts q.domain (root_at q.domain (id_of (meant q.fields old))) (Ap q.ap) (Sta q.sta) had (came q.octets q.fields t.outcome) r)
+    → ReassocMoves q newest rsc had old new t r (reassoc_request_acts q.domain (root_at q.domain (Sta q.sta) (id_of (meant q.fields old))) (Ap q.ap) (Sta q.sta) had (came q.octets q.fields t.outcome) r)
 unawaited_moves q newest rsc had old new t r key none same f = record {
   key = key;
   says = refl;
@@ -139,7 +139,7 @@ unawaited_moves q newest rsc had old new t r key none same f = record {
     p = Sta q.sta
 
     root : Root
-    root = root_at q.domain (id_of (meant q.fields old))
+    root = root_at q.domain (Sta q.sta) (id_of (meant q.fields old))
 
 -- ---- for one of them
 
@@ -147,16 +147,16 @@ unawaited_moves q newest rsc had old new t r key none same f = record {
 reassoc_adds : (q : Request) (newest : GroupKey) (rsc : ℕ) (old : Moves) (s t : TargetState) (o : Outcome) (r : Reply) → meant q.fields old ≡ Some s → IsReassocTaken q.fields newest rsc s t o r → (had : Bool) (first : ℕ) (b : Management) (h : List Act)
     → HasMoves q.domain (Ap q.ap) (Sta q.sta) old h → IsManagementFrom q.domain (Ap q.ap) (Sta q.sta) q.octets b q.fields → b.kind ≡ kind.ReReq → is_some (session (Sta q.sta) h) ≡ had
     → IsLast newest (group_keys groups.Gtk h) → newest_uses groups.Gtk h ≡ rsc
-    → ReassocSteps (here q.domain first (Ap q.ap)) (Sta q.sta) q.octets (reassoc_request_acts q.domain (root_at q.domain (id_of (meant q.fields old))) (Ap q.ap) (Sta q.sta) had (came q.octets q.fields o) r) t h
+    → ReassocSteps (here q.domain first (Ap q.ap)) (Sta q.sta) q.octets (reassoc_request_acts q.domain (root_at q.domain (Sta q.sta) (id_of (meant q.fields old))) (Ap q.ap) (Sta q.sta) had (came q.octets q.fields o) r) t h
 reassoc_adds q newest rsc old s t o r is_meant f had first b h has from is had_is last uses =
-    subst (λ (x : Option TargetState). ReassocSteps (here q.domain first (Ap q.ap)) (Sta q.sta) q.octets (reassoc_request_acts q.domain (root_at q.domain (id_of x)) (Ap q.ap) (Sta q.sta) had (came q.octets q.fields o) r) t h) (sym is_meant)
-    (subst (λ (x : Bool). ReassocSteps (here q.domain first (Ap q.ap)) (Sta q.sta) q.octets (reassoc_request_acts q.domain (root_at q.domain s.r0kh_id) (Ap q.ap) (Sta q.sta) x (came q.octets q.fields o) r) t h) had_is
+    subst (λ (x : Option TargetState). ReassocSteps (here q.domain first (Ap q.ap)) (Sta q.sta) q.octets (reassoc_request_acts q.domain (root_at q.domain (Sta q.sta) (id_of x)) (Ap q.ap) (Sta q.sta) had (came q.octets q.fields o) r) t h) (sym is_meant)
+    (subst (λ (x : Bool). ReassocSteps (here q.domain first (Ap q.ap)) (Sta q.sta) q.octets (reassoc_request_acts q.domain (root_at q.domain (Sta q.sta) s.r0kh_id) (Ap q.ap) (Sta q.sta) x (came q.octets q.fields o) r) t h) had_is
     (f.steps q.domain first q.ap q.sta q.octets b h (chosen q.domain q.ap (Sta q.sta) q.fields old s h has is_meant) from is last uses))
 
 -- no key is installed
 quiet_moves : (q : Request) (newest : GroupKey) (rsc : ℕ) (had : Bool) (old new : Moves) (t : Taken) (r : Reply) (s u : TargetState) → t.key ≡ r.installed → meant q.fields old ≡ Some s → IsReassocTaken q.fields newest rsc s u t.outcome r
     → (u ≡ s → new ≡ old) → ((h : List Act) → HasMoves q.domain (Ap q.ap) (Sta q.sta) old h → (r.installed ≡ None) × (u ≡ s))
-    → ReassocMoves q newest rsc had old new t r (reassoc_request_acts q.domain (root_at q.domain (id_of (meant q.fields old))) (Ap q.ap) (Sta q.sta) had (came q.octets q.fields t.outcome) r)
+    → ReassocMoves q newest rsc had old new t r (reassoc_request_acts q.domain (root_at q.domain (Sta q.sta) (id_of (meant q.fields old))) (Ap q.ap) (Sta q.sta) had (came q.octets q.fields t.outcome) r)
 quiet_moves q newest rsc had old new t r s u key is_meant f same quiet = record {
   key = key;
   says = refl;
@@ -172,20 +172,20 @@ quiet_moves q newest rsc had old new t r s u key is_meant f same quiet = record 
 }
   where
     root : Root
-    root = root_at q.domain (id_of (meant q.fields old))
+    root = root_at q.domain (Sta q.sta) (id_of (meant q.fields old))
 
 -- the key of the attempt is installed
 installing_moves : (q : Request) (newest : GroupKey) (rsc : ℕ) (had : Bool) (old new : Moves) (t : Taken) (r : Reply) (s u : TargetState) (y : Keyed) → t.key ≡ r.installed → meant q.fields old ≡ Some s → IsReassocTaken q.fields newest rsc s u t.outcome r → r.installed ≡ Some y
     → u.is_installed ≡ true → u.key ≡ y → new ≡ the_moves None (Some u)
-    → ReassocMoves q newest rsc had old new t r (reassoc_request_acts q.domain (root_at q.domain (id_of (meant q.fields old))) (Ap q.ap) (Sta q.sta) had (came q.octets q.fields t.outcome) r)
+    → ReassocMoves q newest rsc had old new t r (reassoc_request_acts q.domain (root_at q.domain (Sta q.sta) (id_of (meant q.fields old))) (Ap q.ap) (Sta q.sta) had (came q.octets q.fields t.outcome) r)
 installing_moves q newest rsc had old new t r s u y key is_meant f some held key_is same = record {
   key = key;
   says = refl;
   refused = λ why is. absurd (let none : None ≡ Some y = sym (f.refused why is).1 ∙ some in cc none);
   steps = λ first b h has from is had_is last uses.
       (let st = reassoc_adds q newest rsc old s u t.outcome r is_meant f had first b h has from is had_is last uses in
-      let after : List Act = add (reassoc_request_acts q.domain (root_at q.domain (id_of (meant q.fields old))) (Ap q.ap) p had (came q.octets q.fields t.outcome) r) h in
-      let none : attempt p after ≡ None = reassoc_ends q.domain (root_at q.domain (id_of (meant q.fields old))) (Ap q.ap) q.sta had (came q.octets q.fields t.outcome) r y h some in
+      let after : List Act = add (reassoc_request_acts q.domain (root_at q.domain p (id_of (meant q.fields old))) (Ap q.ap) p had (came q.octets q.fields t.outcome) r) h in
+      let none : attempt p after ≡ None = reassoc_ends q.domain (root_at q.domain (Sta q.sta) (id_of (meant q.fields old))) (Ap q.ap) q.sta had (came q.octets q.fields t.outcome) r y h some in
       let stands : HasMoves q.domain (Ap q.ap) p (the_moves None (Some u)) after = record {
         pending = no_attempt p after none;
         held = (held, st.stands);
@@ -205,7 +205,7 @@ installing_moves q newest rsc had old new t r s u y key is_meant f some held key
 
 abbrev Says : Request → GroupKey → ℕ → Bool → Moves → Moves → Taken → Reply → Type 0
 Says q newest rsc had old new t r =
-    ReassocMoves q newest rsc had old new t r (reassoc_request_acts q.domain (root_at q.domain (id_of (meant q.fields old))) (Ap q.ap) (Sta q.sta) had (came q.octets q.fields t.outcome) r)
+    ReassocMoves q newest rsc had old new t r (reassoc_request_acts q.domain (root_at q.domain (Sta q.sta) (id_of (meant q.fields old))) (Ap q.ap) (Sta q.sta) had (came q.octets q.fields t.outcome) r)
 
 meant_is : (e : ElementFields) (m : Moves) (b : Bool) → means_held e m ≡ b → meant e m ≡ cond b m.held m.pending
 meant_is e m b is = ap (λ (x : Bool). cond x m.held m.pending) is
@@ -236,7 +236,7 @@ pending_moves q newest rsc had old new t r (Some s) key is_meant at f = by r.ins
     by (Some y) is has = installing_moves q newest rsc had old new t r s f.0 y key is_meant f.2 is has.1 has.2 (back (Some y) is)
 
 pub reassoc_moves : (q : Request) (newest : GroupKey) (rsc : ℕ) (had : Bool) (old new : Moves) (t : Taken) (r : Reply) → t.key ≡ r.installed → IsMoved q.fields newest rsc old new t.outcome r
-    → ReassocMoves q newest rsc had old new t r (reassoc_request_acts q.domain (root_at q.domain (id_of (meant q.fields old))) (Ap q.ap) (Sta q.sta) had (came q.octets q.fields t.outcome) r)
+    → ReassocMoves q newest rsc had old new t r (reassoc_request_acts q.domain (root_at q.domain (Sta q.sta) (id_of (meant q.fields old))) (Ap q.ap) (Sta q.sta) had (came q.octets q.fields t.outcome) r)
 reassoc_moves q newest rsc had old new t r key f = by (means_held q.fields old) refl f.by_meant
   where
     by : (b : Bool) → means_held q.fields old ≡ b → IsMovedBy b q.fields newest rsc old new t.outcome r → Says q newest rsc had old new t r
@@ -245,7 +245,7 @@ reassoc_moves q newest rsc had old new t r key f = by (means_held q.fields old) 
 
 -- what came of it is told by that reply
 pub reassoc_taken : (q : Request) (newest : GroupKey) (rsc : ℕ) (had : Bool) (before mid after : List Act) (old new : Moves) (o : Outcome) (t : Taken) (r : Reply) → t.outcome ≡ o → t.key ≡ r.installed → mid ≡ before
-    → after ≡ mid ++ reassoc_request_acts q.domain (root_at q.domain (id_of (meant q.fields old))) (Ap q.ap) (Sta q.sta) had (came q.octets q.fields t.outcome) r
+    → after ≡ mid ++ reassoc_request_acts q.domain (root_at q.domain (Sta q.sta) (id_of (meant q.fields old))) (Ap q.ap) (Sta q.sta) had (came q.octets q.fields t.outcome) r
     → IsMoved q.fields newest rsc old new o r → ReassocTaken q newest rsc had before after old new t
 reassoc_taken q newest rsc had before mid after old new o t r outcome key same adds f = record {
   reply = r;
@@ -255,7 +255,7 @@ reassoc_taken q newest rsc had before mid after old new o t r outcome key same a
 }
   where
     acts : List Act
-    acts = reassoc_request_acts q.domain (root_at q.domain (id_of (meant q.fields old))) (Ap q.ap) (Sta q.sta) had (came q.octets q.fields t.outcome) r
+    acts = reassoc_request_acts q.domain (root_at q.domain (Sta q.sta) (id_of (meant q.fields old))) (Ap q.ap) (Sta q.sta) had (came q.octets q.fields t.outcome) r
 
 -- the reply is whole
 empty_whole : (r : Reply) → IsEmpty r → IsWhole r

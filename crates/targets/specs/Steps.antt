@@ -65,7 +65,7 @@ pub record AuthMoves (q : Request) (anonce : Option (List ℕ)) (had : Bool) (ol
     (acts : List Act) : Type 0 where
   pub key : t.key ≡ r.derived
   pub says : (part : Option (List Act)) → is_some part ≡ had
-      → acts ≡ auth_request_acts q.domain (root_asked q.domain (asked q.fields)) (Ap q.ap) (Sta q.sta) part (came q.octets q.fields t.outcome) r
+      → acts ≡ auth_request_acts q.domain (root_asked q.domain (Sta q.sta) (asked q.fields)) (Ap q.ap) (Sta q.sta) part (came q.octets q.fields t.outcome) r
   pub held : new.held ≡ old.held
   pub begun : HasBegun r.derived old.pending new.pending
   pub refused : (why : Reason) → t.outcome ≡ Refused why → new ≡ old
@@ -133,7 +133,7 @@ ReassocMovesFrom q newest rsc had old new y acts =
 pub record ReassocMoves (q : Request) (newest : GroupKey) (rsc : ℕ) (had : Bool) (old new : Moves) (t : Taken) (r : Reply)
     (acts : List Act) : Type 0 where
   pub key : t.key ≡ r.installed
-  pub says : acts ≡ reassoc_request_acts q.domain (root_at q.domain (id_of (meant q.fields old))) (Ap q.ap) (Sta q.sta) had (came q.octets q.fields t.outcome) r
+  pub says : acts ≡ reassoc_request_acts q.domain (root_at q.domain (Sta q.sta) (id_of (meant q.fields old))) (Ap q.ap) (Sta q.sta) had (came q.octets q.fields t.outcome) r
   pub refused : (why : Reason) → t.outcome ≡ Refused why → new ≡ old
   pub steps : ReassocMovesFrom q newest rsc had old new r.installed acts
 

@@ -14,9 +14,9 @@ ghost use Rattle.rsn_elements.specs.Fields.{element_fields};
 ghost use Rattle.run_journal.specs.declared.domain.Domain.{Domain as AnyDomain};
 ghost use Rattle.run_journal.specs.declared.acts.Act.{Act as AnyAct};
 ghost use Rattle.run_journal.specs.Replies.{IsWhole};
-ghost use Rattle.domain_rules.specs.Network.{InForm, IsListed, Root, mac, root_at};
+ghost use Rattle.domain_rules.specs.Network.{InForm, Root, mac, root_at, station_of};
+ghost use Rattle.run_journal.specs.Events.{IsListed, IsPeerOf};
 ghost use Rattle.domain_rules.specs.TransitionKeys.{asked};
-ghost use Rattle.node_base.specs.Peers.{IsPeerOf};
 ghost use Rattle.ft_exchange.specs.Asking.{ids_of};
 ghost use Rattle.ft_exchange.specs.TargetSteps.{root_asked, LooksBy};
 ghost use Rattle.ft_exchange.specs.Told.{came, auth_request_acts, reassoc_request_acts};
@@ -38,8 +38,8 @@ use transition_acts::TransitionRoom;
 
 // The R0KH-ID that an authentication request asks for, and no octets where it asks for nothing.
 fn asked_id<'a>(elements: &Elements<'a>) -> &'a [u8]
-    ensures { (d : AnyDomain) → root_asked d (asked (element_fields elements.now))
-        ≡ root_at d result.now }
+    ensures { (d : AnyDomain) (s : AnyNode) → root_asked d s (asked (element_fields elements.now))
+        ≡ root_at d s result.now }
 {
     let Some(fte) = elements.fte else { return &[] };
     match fte.r0kh_id {
@@ -63,8 +63,8 @@ fn prepare(
     requires peer { IsPeerOf here.domain.now here.node sta }
     requires ssid { IsSsid here.domain.now.ssid }
     ensures taken { IfOk result (λ room. let d = here.entry.domain.now
-        in IsRoom d (root_at d r0kh_id.now) here.entry.node sta octets.now
-        (element_fields elements.now) Request room) }
+        in IsRoom d (root_at d (station_of here.entry.node sta) r0kh_id.now)
+        here.entry.node sta octets.now (element_fields elements.now) Request room) }
     ensures room { OnOk result (acts ≤ out.new.spare) }
     ensures same { out.new.acts ≡ out.old.acts }
 {

@@ -9,12 +9,12 @@ ghost use Rattle.rsn_elements.specs.Fields.{element_fields};
 ghost use Rattle.run_journal.specs.declared.domain.Domain.{Domain as AnyDomain};
 ghost use Rattle.run_journal.specs.declared.acts.Act.{Act as AnyAct};
 ghost use Rattle.run_journal.specs.Replies.{IsWhole};
-ghost use Rattle.domain_rules.specs.Network.{IsListed, Root, root_at};
-ghost use Rattle.node_base.specs.Peers.{IsPeerOf};
+ghost use Rattle.domain_rules.specs.Network.{Root, root_at, station_of};
+ghost use Rattle.run_journal.specs.Events.{IsListed, IsPeerOf};
 ghost use Rattle.ft_exchange.specs.Told.{came, auth_request_acts, auth_response_acts};
 ghost use Rattle.ft_exchange.specs.Told.{reassoc_request_acts, reassoc_response_acts};
 ghost use Rattle.transition_acts.specs.Seals.{covered_by};
-ghost use Rattle.act_memory.specs.Templates.{IsTemplate};
+ghost use Rattle.act_memory.specs.Templates.{IsTemplateAt};
 ghost use Rattle.transition_acts.specs.Rooms.{IsSendRoom, IsTakenRoom};
 
 use crate::looking::{Look, add_looked};
@@ -77,9 +77,9 @@ fn templates(
     requires listed { IsListed here.domain.now here.node }
     requires peer { IsPeerOf here.domain.now here.node peer }
     ensures key { IfOk result (λ rooms. let d = here.entry.domain.now
-        in IsTemplate d (root_at d r0kh_id.now) here.entry.node peer rooms.0) }
+        in IsTemplateAt d here.entry.node peer r0kh_id.now rooms.0) }
     ensures finished { IfOk result (λ rooms. let d = here.entry.domain.now
-        in IsTemplate d (root_at d r0kh_id.now) here.entry.node peer rooms.1) }
+        in IsTemplateAt d here.entry.node peer r0kh_id.now rooms.1) }
 {
     let key = template(here, peer, r0kh_id)?;
     let finished = template(here, peer, r0kh_id)?;
@@ -117,8 +117,8 @@ impl TransitionRoom {
         requires peer { IsPeerOf here.domain.now here.node peer }
         requires ssid { IsSsid here.domain.now.ssid }
         ensures { IfOk result (λ room. let d = here.entry.domain.now
-            in IsRoom d (root_at d r0kh_id.now) here.entry.node peer octets.now
-            (element_fields elements.now) frame room) }
+            in IsRoom d (root_at d (station_of here.entry.node peer) r0kh_id.now)
+            here.entry.node peer octets.now (element_fields elements.now) frame room) }
     {
         let looked = Look::take(here.alloc, elements)?;
         let (sent, taken) = take_frames(here, peer, octets, elements, frame)?;

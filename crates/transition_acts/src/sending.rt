@@ -7,8 +7,7 @@ ghost use Rattle.domain_base.specs.declared.names.Node.{Node as AnyNode};
 ghost use Rattle.run_journal.specs.Replies.{IsWhole};
 ghost use Rattle.run_journal.specs.declared.domain.Domain.{Domain as AnyDomain};
 ghost use Rattle.key_hierarchy.specs.Sizes.{IsSsid};
-ghost use Rattle.domain_rules.specs.Network.{IsListed};
-ghost use Rattle.node_base.specs.Peers.{IsPeerOf};
+ghost use Rattle.run_journal.specs.Events.{IsListed, IsPeerOf};
 ghost use Rattle.ft_exchange.specs.Told.{transition_sent};
 ghost use Rattle.transition_acts.specs.Seals.{seal_at};
 

@@ -1,7 +1,7 @@
 use Rattle.std.proofs.Common.{◌≡◌, length, arith, false, List, ℕ, sym, ap, subst, ◌∙◌, ◌++◌}
 use Rattle.domain_base.specs.declared.names.Node.TheVariants.{Ap}
 use Rattle.run_journal.specs.declared.acts.Act.{Act}
-use Rattle.domain_rules.specs.Network.{root_at}
+use Rattle.domain_rules.specs.Network.{root_at, station_of}
 use Rattle.domain_rules.specs.Replies.{reply_acts, taken_as}
 use Rattle.node_base.specs.Pairs.{pair_at}
 use Rattle.frame_intake.specs.Views.{message_fields}
@@ -23,7 +23,7 @@ returns-clause-handed c =
     record {
       reply = reply;
       acts = c.add_reply.ensures.acts d id n (Ap c.args.ap) octets k (subst (λ (i : List ℕ). IsRoom d i n (Ap c.args.ap) octets k c.in_ok-room.room) same c.in_ok-room.ensures)
-          ∙ ap (λ (l : List Act). c.reserve.new.self.acts ++ l) (nothing_between d (root_at d id) n (Ap c.args.ap) false octets k outcome reply c.nothing-between.result c.nothing-between.ensures.opened c.nothing-between.ensures.put)
+          ∙ ap (λ (l : List Act). c.reserve.new.self.acts ++ l) (nothing_between d (root_at d (station_of n (Ap c.args.ap)) id) n (Ap c.args.ap) false octets k outcome reply c.nothing-between.result c.nothing-between.ensures.opened c.nothing-between.ensures.put)
           ∙ ap (λ (l : List Act). l ++ reply_acts (pair_at d id n (Ap c.args.ap)) false (taken_as octets k outcome) reply) c.in_ok-reserve.ensures.acts;
       taken = c.step-outcome.ensures;
       installed = c.installed_key-installed.ensures;

@@ -3,7 +3,7 @@ use Rattle.domain_base.specs.declared.names.Node.TheVariants.{Ap}
 use Rattle.mac_prf.specs.declared.reassociation.Reassociation.TheVariants.{Response}
 use Rattle.rsn_elements.specs.Fields.{element_fields}
 use Rattle.run_journal.specs.declared.acts.Act.{Act}
-use Rattle.domain_rules.specs.Network.{root_at}
+use Rattle.domain_rules.specs.Network.{root_at, station_of}
 use Rattle.ft_exchange.specs.Told.{came, auth_response_acts}
 use Rattle.station_node.proofs.moving.answer.Goals as goal
 
@@ -13,7 +13,7 @@ returns-clause-answered c =
     let n = c.args.here.node in
     let m = c.args.managed.now in
     let e = element_fields m.elements in
-    let root = root_at d c.args.way.r0kh_id.now in
+    let root = root_at d (station_of n (Ap c.args.way.ap)) c.args.way.r0kh_id.now in
     let acts = auth_response_acts d root n (Ap c.args.way.ap) (came m.octets.now e c.on_auth-outcome.result) c.on_auth-outcome.new.reply in
     λ ks. record {
       reply = c.on_auth-outcome.new.reply;

@@ -19,8 +19,8 @@ returns-clause-taken g c =
     let had = c.args.had_attempt in
     auth_taken (request d c.args.ap c.args.station c.args.octets.now e) (option_copied c.args.anonce) had _ c.args.out.now.acts _ _ c.args.moves.now (record { pending = c.on_auth-outcome.new.pending; held = c.args.moves.now.held })
     c.on_auth-outcome.result c.add_auth.result c.on_auth-outcome.new.reply c.add_auth.ensures.outcome c.add_auth.ensures.key c.prepare.ensures.same
-    (c.add_auth.ensures.acts d (root_asked d (asked e)) (Ap c.args.ap) (Sta c.args.station) c.args.octets.now e (some_part had)
-    (auth_room d c.args.ap c.args.station c.args.here.node c.args.octets.now e c.asked_id.result.now c.in_ok-room.room c.requires.node (c.asked_id.ensures d) c.in_ok-room.ensures.taken) (some_part_is had))
+    (c.add_auth.ensures.acts d (root_asked d (Sta c.args.station) (asked e)) (Ap c.args.ap) (Sta c.args.station) c.args.octets.now e (some_part had)
+    (auth_room d c.args.ap c.args.station c.args.here.node c.args.octets.now e c.asked_id.result.now c.in_ok-room.room c.requires.node (c.asked_id.ensures d (Sta c.args.station)) c.in_ok-room.ensures.taken) (some_part_is had))
     refl c.on_auth-outcome.ensures.taken c.on_auth-outcome.ensures.looks
 
 pub returns-clause-same : goal.returns-clause-same

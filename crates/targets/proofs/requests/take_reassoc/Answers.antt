@@ -19,7 +19,7 @@ returns-clause-taken c =
     let id = id_of (meant e c.args.moves.now) in
     reassoc_taken (request d c.args.ap c.args.station octets e) c.args.newest.now c.args.rsc c.args.had_session c.args.out.now.acts _ _ c.args.moves.now c.on_reassoc-outcome.new.self c.on_reassoc-outcome.result c.add_reassoc.result
     c.on_reassoc-outcome.new.reply c.add_reassoc.ensures.outcome c.add_reassoc.ensures.key c.prepare.ensures.same
-    (c.add_reassoc.ensures.acts d (root_at d id) (Ap c.args.ap) (Sta c.args.station) octets e
+    (c.add_reassoc.ensures.acts d (root_at d (Sta c.args.station) id) (Ap c.args.ap) (Sta c.args.station) octets e
     (reassoc_room d c.args.ap c.args.station c.args.here.node octets e c.r0kh_id.result.now id c.in_ok-room.room c.requires.node c.r0kh_id.ensures c.in_ok-room.ensures.taken))
     c.on_reassoc-outcome.ensures
 

@@ -7,7 +7,8 @@ use Rattle.run_journal.specs.declared.acts.Start.TheVariants.{Connect}
 use Rattle.run_journal.specs.declared.acts.Outcome.TheVariants.{Done, Idle as IdleBy}
 use Rattle.run_journal.specs.declared.acts.Why.TheVariants.{Spent}
 use Rattle.domain_rules.specs.Frames.{sent_assoc_req}
-use Rattle.domain_rules.specs.Network.{nonce, IsListed}
+use Rattle.domain_rules.specs.Network.{nonce}
+use Rattle.run_journal.specs.Events.{IsListed}
 use Rattle.domain_rules.specs.Rows.{Begin}
 use Rattle.domain_rules.specs.Closing.{close_pending, close_associated}
 use Rattle.station_node.specs.State.{State}

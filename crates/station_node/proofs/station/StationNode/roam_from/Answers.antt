@@ -8,9 +8,9 @@ use Rattle.run_journal.specs.declared.acts.Drawn.TheVariants.{Nonce}
 use Rattle.run_journal.specs.declared.acts.Start.TheVariants.{Roam as ByRoam}
 use Rattle.run_journal.specs.declared.acts.Why.TheVariants as why
 use Rattle.run_journal.specs.declared.acts.Outcome.TheVariants.{Done, Idle as IdleBy}
-use Rattle.domain_rules.specs.Network.{nonce, IsListed}
+use Rattle.domain_rules.specs.Network.{nonce}
+use Rattle.run_journal.specs.Events.{IsListed, IsPeerOf}
 use Rattle.domain_rules.specs.Rows.{Roam}
-use Rattle.node_base.specs.Peers.{IsPeerOf}
 use Rattle.domain_rules.specs.Closing.{close_pending}
 use Rattle.ft_exchange.specs.OriginatorSteps.{IsBegun}
 use Rattle.ft_exchange.specs.Told.{transition_sent}

@@ -3,8 +3,7 @@ use Rattle.std.specs.Prelude.{slice_set}
 use Rattle.domain_base.specs.declared.names.Node.{Node}
 use Rattle.domain_base.specs.declared.names.Node.TheVariants.{Ap, Sta}
 use Rattle.rsn_elements.specs.Fields.{element_fields}
-use Rattle.domain_rules.specs.Network.{IsListed}
-use Rattle.node_base.specs.Peers.{IsPeerOf}
+use Rattle.run_journal.specs.Events.{IsListed, IsPeerOf}
 use Rattle.domain_rules.specs.Rows.{Take}
 use Rattle.frame_intake.specs.Views.{management_fields}
 use Rattle.ft_exchange.specs.Comes.{IsManagementFrom}

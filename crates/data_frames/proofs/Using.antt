@@ -105,7 +105,7 @@ octets_same xs = (bytes_eq-Decides xs xs).1 refl
 above : (a b : ℕ) → nat_le b a ≡ false → a < b
 above a b e = grind (arith, e)
 
-faultless_above : (f : SealedFields) (k : Held) → unprotect_fault (Some k) f.header.octets f.body ≡ None → kept_number k f.header.octets < packet_number f.body
+pub faultless_above : (f : SealedFields) (k : Held) → unprotect_fault (Some k) f.header.octets f.body ≡ None → kept_number k f.header.octets < packet_number f.body
 faultless_above f k none = by (nat_lt (length f.body) 16 || not (ext_iv f.body == 1)) (key_id_in f.body == key_id k.role) (nat_le (packet_number f.body) (kept_number k f.header.octets)) refl none
   where
     by : (a b c : Bool) → nat_le (packet_number f.body) (kept_number k f.header.octets) ≡ c
