@@ -89,5 +89,5 @@ pub ap_behind : (d : Domain) (address : Mac) (r0kh_id : List ℕ) (i : ℕ) → 
 ap_behind d address r0kh_id i h = grind (arith, common_steps)
 
 -- a station is listed behind all nodes
-pub sta_behind : (d : Domain) (address : Mac) (i : ℕ) → node_at d i ≡ node_at (with_sta d address) i
-sta_behind d address i = refl
+pub sta_behind : (d : Domain) (address : Mac) (psk : List ℕ) (i : ℕ) → node_at d i ≡ node_at (with_sta d address psk) i
+sta_behind d address psk i = refl

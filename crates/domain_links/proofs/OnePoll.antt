@@ -7,6 +7,7 @@ use Rattle.std.specs.Prelude.{MatchResult, MatchOption, OnErr}
 use Rattle.domain_base.specs.Causes.{HasCause}
 use Rattle.domain_base.specs.Told.{LinkStory, Gives, GivesNone, GivesFirst}
 use Rattle.domain_base.proofs.Stories.{Gives-told}
+use Rattle.run_journal.specs.Limits.{most_octets}
 use Rattle.run_journal.specs.declared.domain.Domain.{Domain}
 use Rattle.domain_links.specs.Sends.{Send}
 use Rattle.domain_links.specs.Telling.{Tell, HasFailed, Polls, left_after, story_at}
@@ -40,7 +41,7 @@ polled_first d left all p size now buf h =
     sym (ap (λ (s : LinkStory). record s { left = drop 1 s.left }) h.first)
     ∙ ap (λ (w : List (List ℕ)). record (story_at d left all p) { left = w }) (sym (left_own left p 1))
 
-polled_by : {L E : Type 0} (told : L → Option LinkStory) (d : Domain) (links : List L) (p : ℕ) (link : L) (left : ℕ → List (List ℕ)) (all : List Send) (now : LinkStory) (result : Result (Option ℕ) E) (buf : List ℕ) → Tell told d links left all → told link ≡ Some now → MatchResult result (λ given. MatchOption given (GivesNone (story_at d left all p) now) (λ size. GivesFirst (story_at d left all p) now size buf)) (λ _. now ≡ story_at d left all p) → length buf ≡ 2400 → Polls told d (set links p link) p left all result buf
+polled_by : {L E : Type 0} (told : L → Option LinkStory) (d : Domain) (links : List L) (p : ℕ) (link : L) (left : ℕ → List (List ℕ)) (all : List Send) (now : LinkStory) (result : Result (Option ℕ) E) (buf : List ℕ) → Tell told d links left all → told link ≡ Some now → MatchResult result (λ given. MatchOption given (GivesNone (story_at d left all p) now) (λ size. GivesFirst (story_at d left all p) now size buf)) (λ _. now ≡ story_at d left all p) → length buf ≡ most_octets → Polls told d (set links p link) p left all result buf
 polled_by told d links p link left all now (Ok None) buf tell e h room = (h.none, Tell-changed told d links left left all p link tell (e ∙ ap Some h.same) (λ i apart. refl))
 polled_by told d links p link left all now (Ok (Some size)) buf tell e h room = record {
   frame = h.frame;
@@ -50,7 +51,7 @@ polled_by told d links p link left all now (Ok (Some size)) buf tell e h room = 
 }
 polled_by told d links p link left all now (Err x) buf tell e h room = Tell-changed told d links left left all p link tell (e ∙ ap Some h) (λ i apart. refl)
 
-pub polls : {L E : Type 0} (told : L → Option LinkStory) (d : Domain) (links : List L) (p : ℕ) (link : L) (left : ℕ → List (List ℕ)) (all : List Send) (old : Option LinkStory) (result : Result (Option ℕ) E) (buf : List ℕ) → Tell told d links left all → old ≡ Some (story_at d left all p) → Gives old (told link) result buf → length buf ≡ 2400 → Polls told d (set links p link) p left all result buf
+pub polls : {L E : Type 0} (told : L → Option LinkStory) (d : Domain) (links : List L) (p : ℕ) (link : L) (left : ℕ → List (List ℕ)) (all : List Send) (old : Option LinkStory) (result : Result (Option ℕ) E) (buf : List ℕ) → Tell told d links left all → old ≡ Some (story_at d left all p) → Gives old (told link) result buf → length buf ≡ most_octets → Polls told d (set links p link) p left all result buf
 polls told d links p link left all old result buf tell e h room =
     let t = Gives-told (story_at d left all p) (told link) result buf (subst (λ (o : Option LinkStory). Gives o (told link) result buf) e h) in
     polled_by told d links p link left all t.0 result buf tell t.1 t.2 room

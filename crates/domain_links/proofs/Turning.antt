@@ -7,6 +7,7 @@ use Rattle.std.proofs.lemmas.Bool.Decides.{eqb_tells}
 use Rattle.std.proofs.lemmas.Bool.{cases_lt}
 use Rattle.domain_base.specs.declared.names.Node.{Node}
 use Rattle.domain_base.specs.Told.{LinkStory}
+use Rattle.run_journal.specs.Limits.{most_polls}
 use Rattle.run_journal.specs.declared.domain.Domain.{Domain}
 use Rattle.domain_links.specs.NodeOrder.{node_at}
 use Rattle.domain_links.specs.Sends.{Send}
@@ -72,13 +73,13 @@ with_own heard n given = grind (arith, common_steps)
 with_above : (heard : ℕ → List (List ℕ)) (n : ℕ) (given : List (List ℕ)) (i : ℕ) → n + 1 ≤ i → heard_with heard n given i ≡ []
 with_above heard n given i h = grind (arith, common_steps)
 
-with_few : (heard : ℕ → List (List ℕ)) (n : ℕ) (given : List (List ℕ)) (i : ℕ) → ((i : ℕ) → length (heard i) ≤ 16) → length given ≤ 16 → length (heard_with heard n given i) ≤ 16
+with_few : (heard : ℕ → List (List ℕ)) (n : ℕ) (given : List (List ℕ)) (i : ℕ) → ((i : ℕ) → length (heard i) ≤ most_polls) → length given ≤ most_polls → length (heard_with heard n given i) ≤ most_polls
 with_few heard n given i few one =
-    let sides : (i < n) ⊎ (n ≤ i) → length (heard_with heard n given i) ≤ 16 =
+    let sides : (i < n) ⊎ (n ≤ i) → length (heard_with heard n given i) ≤ most_polls =
     elim [
       | inl below ↦ rw (← with_below heard n given i below) (few i)
       | inr above ↦
-          let ends : ((i == n) ≡ true) × (i ≡ n) ⊎ ((i == n) ≡ false) × (i ≢ n) → length (heard_with heard n given i) ≤ 16 =
+          let ends : ((i == n) ≡ true) × (i ≡ n) ⊎ ((i == n) ≡ false) × (i ≢ n) → length (heard_with heard n given i) ≤ most_polls =
           elim [
             | inl at ↦ rw at.1 (rw (with_own heard n given) one)
             | inr apart ↦ rw (with_above heard n given i (grind (arith, common_steps))) (omega arith)
@@ -99,28 +100,28 @@ past_own left n = grind (arith, common_steps)
 past_zero : (left : ℕ → List (List ℕ)) (i : ℕ) → left i ≡ left_past left 0 i
 past_zero left i = grind (arith, common_steps)
 
-pub past_below : (left : ℕ → List (List ℕ)) (n i : ℕ) → i < n → left_past left n i ≡ drop 16 (left i)
+pub past_below : (left : ℕ → List (List ℕ)) (n i : ℕ) → i < n → left_past left n i ≡ drop most_polls (left i)
 past_below left n i h = grind (arith, common_steps)
 
 past_above : (left : ℕ → List (List ℕ)) (n i : ℕ) → n ≤ i → left_past left n i ≡ left i
 past_above left n i h = grind (arith, common_steps)
 
-past_more : (left : ℕ → List (List ℕ)) (n i : ℕ) → left_after (left_past left n) n 16 i ≡ left_past left (n + 1) i
+past_more : (left : ℕ → List (List ℕ)) (n i : ℕ) → left_after (left_past left n) n most_polls i ≡ left_past left (n + 1) i
 past_more left n i =
-    let cases : ((i == n) ≡ true) × (i ≡ n) ⊎ ((i == n) ≡ false) × (i ≢ n) → left_after (left_past left n) n 16 i ≡ left_past left (n + 1) i =
+    let cases : ((i == n) ≡ true) × (i ≡ n) ⊎ ((i == n) ≡ false) × (i ≢ n) → left_after (left_past left n) n most_polls i ≡ left_past left (n + 1) i =
     elim [
-      | inl at ↦ rw at.1 (left_own (left_past left n) n 16 ∙ ap (drop 16) (past_own left n) ∙ sym (past_below left (n + 1) n (omega arith)))
+      | inl at ↦ rw at.1 (left_own (left_past left n) n most_polls ∙ ap (drop most_polls) (past_own left n) ∙ sym (past_below left (n + 1) n (omega arith)))
       | inr apart ↦
           let sides : (i < n) ⊎ (n ≤ i) → left_past left n i ≡ left_past left (n + 1) i =
           elim [
             | inl below ↦ past_below left n i below ∙ sym (past_below left (n + 1) i (omega (arith, below)))
             | inr above ↦ past_above left n i above ∙ sym (past_above left (n + 1) i (grind (arith, common_steps)))
-          ] in left_other (left_past left n) n 16 i apart.1 ∙ sides (cases_lt i n)
+          ] in left_other (left_past left n) n most_polls i apart.1 ∙ sides (cases_lt i n)
     ] in cases (eqb_tells i n)
 
 -- what a place has in front is as at the turn's beginning
-own_part : (left : ℕ → List (List ℕ)) (n : ℕ) → cut (take 16 (left_past left n n)) ≡ heard_of left n
-own_part left n = ap (λ (w : List (List ℕ)). cut (take 16 w)) (past_own left n)
+own_part : (left : ℕ → List (List ℕ)) (n : ℕ) → cut (take most_polls (left_past left n n)) ≡ heard_of left n
+own_part left n = ap (λ (w : List (List ℕ)). cut (take most_polls w)) (past_own left n)
 
 -- ---- steps of a turn
 
@@ -136,7 +137,7 @@ TakesTurn-start told d Round all links before x = record {
 }
 
 -- the next place took all of its frames
-pub TakesTurn-more : {S L E F G T U V : Type 0} (told : L → Option LinkStory) (d : Domain) (Round : Node → List ℕ → S → S → Type 0) (all : S → List Send) (n : ℕ) (links_old links_mid links_new : List L) (before mid after : S) (x : T) (y : U) (z : V) → TakesTurn {S = S} {L = L} {T = T} {E = E} told d Round all n links_old links_mid before mid (Ok x) → Takes {S = S} {L = L} {T = U} {E = F} told d Round all n 16 links_mid links_new mid after (Ok y) → TakesTurn {S = S} {L = L} {T = V} {E = G} told d Round all (n + 1) links_old links_new before after (Ok z)
+pub TakesTurn-more : {S L E F G T U V : Type 0} (told : L → Option LinkStory) (d : Domain) (Round : Node → List ℕ → S → S → Type 0) (all : S → List Send) (n : ℕ) (links_old links_mid links_new : List L) (before mid after : S) (x : T) (y : U) (z : V) → TakesTurn {S = S} {L = L} {T = T} {E = E} told d Round all n links_old links_mid before mid (Ok x) → Takes {S = S} {L = L} {T = U} {E = F} told d Round all n most_polls links_mid links_new mid after (Ok y) → TakesTurn {S = S} {L = L} {T = V} {E = G} told d Round all (n + 1) links_old links_new before after (Ok z)
 TakesTurn-more told d Round all n links_old links_mid links_new before mid after x y z a b = record {
   given = a.given ++ of_node (node_at d n) b.given;
   heard = heard_with a.heard n b.given;
@@ -150,12 +151,12 @@ TakesTurn-more told d Round all n links_old links_mid links_new before mid after
         all_of = ap (λ (w : List Delivery). w ++ of_node (node_at d n) b.given) t.all_of
             ∙ ap (λ (w : List (List ℕ)). turn_of d left n ++ of_node (node_at d n) w) (u.all_of ∙ own_part left n)
             ∙ sym (order_more d (heard_of left) n);
-        tell = Tell-left told d links_new (left_after (left_past left n) n 16) (left_past left (n + 1)) (all after) (λ i within. past_more left n i) u.tell;
+        tell = Tell-left told d links_new (left_after (left_past left n) n most_polls) (left_past left (n + 1)) (all after) (λ i within. past_more left n i) u.tell;
       };
 }
 
 -- or a part of them, and no more places took any
-pub TakesTurn-stop : {S L E F G T U V : Type 0} (told : L → Option LinkStory) (d : Domain) (Round : Node → List ℕ → S → S → Type 0) (all : S → List Send) (n m : ℕ) (links_old links_mid links_new : List L) (before mid after : S) (x : T) (y : F) (z : G) → n < m → TakesTurn {S = S} {L = L} {T = T} {E = E} told d Round all n links_old links_mid before mid (Ok x) → Takes {S = S} {L = L} {T = U} {E = F} told d Round all n 16 links_mid links_new mid after (Err y) → TakesTurn {S = S} {L = L} {T = V} {E = G} told d Round all m links_old links_new before after (Err z)
+pub TakesTurn-stop : {S L E F G T U V : Type 0} (told : L → Option LinkStory) (d : Domain) (Round : Node → List ℕ → S → S → Type 0) (all : S → List Send) (n m : ℕ) (links_old links_mid links_new : List L) (before mid after : S) (x : T) (y : F) (z : G) → n < m → TakesTurn {S = S} {L = L} {T = T} {E = E} told d Round all n links_old links_mid before mid (Ok x) → Takes {S = S} {L = L} {T = U} {E = F} told d Round all n most_polls links_mid links_new mid after (Err y) → TakesTurn {S = S} {L = L} {T = V} {E = G} told d Round all m links_old links_new before after (Err z)
 TakesTurn-stop told d Round all n m links_old links_mid links_new before mid after x y z h a b = record {
   given = a.given ++ of_node (node_at d n) b.given;
   heard = heard_with a.heard n b.given;

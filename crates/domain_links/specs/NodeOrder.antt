@@ -1,11 +1,11 @@
 -- The order of a network's nodes, and whom a frame is for.
 use Rattle.std.specs.Prelude.{ℕ, zero, suc, ◌+◌, ◌-◌, ◌%◌, Bool, List, [], ◌∷◌, ◌++◌, length, Option, Some, None, ◌==◌, if◌then◌else◌, nat_lt, position, bytes_eq, slice_index}
-use Rattle.domain_base.specs.declared.names.Mac.{Mac}
 use Rattle.domain_base.specs.declared.names.Node.{Node}
 use Rattle.domain_base.specs.declared.names.Node.TheVariants.{Ap, Sta}
 use Rattle.domain_base.specs.Places.{part}
 use Rattle.run_journal.specs.declared.domain.Domain.{Domain}
 use Rattle.run_journal.specs.declared.domain.ListedAp.{ListedAp}
+use Rattle.run_journal.specs.declared.domain.ListedSta.{ListedSta}
 use Rattle.domain_links.specs.declared.node_order.Receiver.{Receiver}
 use Rattle.domain_links.specs.declared.node_order.Receiver.TheVariants.{Stations, One, Nobody}
 
@@ -40,7 +40,7 @@ found_at None None = Nobody
 -- the first listed node that has this address
 abbrev pub with_address : Domain → List ℕ → Receiver
 with_address d address =
-    found_at (position (λ (a : ListedAp). bytes_eq a.address.0 address) d.aps) (position (λ (m : Mac). bytes_eq m.0 address) d.stas)
+    found_at (position (λ (a : ListedAp). bytes_eq a.address.0 address) d.aps) (position (λ (s : ListedSta). bytes_eq s.address.0 address) d.stas)
 
 -- whom address 1 of a frame names (9.2.4.3.4): a group's every station, else the node that has it. Octets that are too few to have
 -- an address 1 are for nobody

@@ -1,6 +1,7 @@
 -- What the links of a network tell, in the order of its nodes, and how often they failed (this project's choice).
 use Rattle.std.specs.Prelude.{◌≡◌, ◌≢◌, ℕ, ◌<◌, List, [], ◌∷◌, ◌++◌, ◌==◌, Option, Some, if◌then◌else◌, map, length, take, drop, slice_index_or, Result, MatchResult, MatchOption}
 use Rattle.domain_base.specs.Told.{LinkStory}
+use Rattle.run_journal.specs.Limits.{most_octets}
 use Rattle.run_journal.specs.declared.domain.Domain.{Domain}
 use Rattle.domain_links.specs.NodeOrder.{node_at}
 use Rattle.domain_links.specs.Sends.{Send, sent_by}
@@ -42,7 +43,7 @@ left_after left place n i = if i == place then drop n (left i) else left i
 pub record Polled {L : Type 0} (told : L → Option LinkStory) (d : Domain) (links : List L) (place : ℕ) (left : ℕ → List (List ℕ)) (all : List Send) (octets : List ℕ) : Type 0 where
   pub frame : List ℕ
   pub first : take 1 (left place) ≡ frame ∷ []
-  pub octets_are : octets ≡ take 2400 frame
+  pub octets_are : octets ≡ take most_octets frame
   pub tell : Tell told d links (left_after left place 1) all
 
 -- it gave a frame, whose octets stand in the buffer's front, or none, as it had none; or it failed, and all is as it was

@@ -2,6 +2,7 @@
 use Rattle.std.specs.Prelude.{◌≡◌, ◌≢◌, ℕ, zero, suc, ◌≤◌, List, [], ◌∷◌, ◌++◌, ◌⊎◌, Option, if◌then◌else◌, nat_lt, map, length, take, drop, Result, MatchResult}
 use Rattle.domain_base.specs.declared.names.Node.{Node}
 use Rattle.domain_base.specs.Told.{LinkStory}
+use Rattle.run_journal.specs.Limits.{most_octets, most_polls}
 use Rattle.run_journal.specs.declared.domain.Domain.{Domain}
 use Rattle.domain_links.specs.NodeOrder.{node_at}
 use Rattle.domain_links.specs.Sends.{Send}
@@ -28,20 +29,20 @@ Rounds Round (first ∷ given) before after = RoundFirst Round first (λ mid. Ro
 
 -- frames as they are taken: the first octets of each
 abbrev pub cut : List (List ℕ) → List (List ℕ)
-cut frames = map (take 2400) frames
+cut frames = map (take most_octets) frames
 
 -- what the links have left once the nodes of the first places took theirs in a turn
 abbrev pub left_past : (ℕ → List (List ℕ)) → ℕ → ℕ → List (List ℕ)
-left_past left places i = if nat_lt i places then drop 16 (left i) else left i
+left_past left places i = if nat_lt i places then drop most_polls (left i) else left i
 
 -- what the nodes of the first places take, in order, where the link at each place gives these
 unfoldable pub in_order : Domain → (ℕ → List (List ℕ)) → ℕ → List Delivery
 in_order d heard zero = []
 in_order d heard (suc n) = in_order d heard n ++ of_node (node_at d n) (heard n)
 
--- in a turn a link that has so many left gives up to 16 of them
+-- in a turn a link that has so many left gives a node its share of them
 abbrev pub heard_of : (ℕ → List (List ℕ)) → ℕ → List (List ℕ)
-heard_of left i = cut (take 16 (left i))
+heard_of left i = cut (take most_polls (left i))
 
 abbrev pub turn_of : Domain → (ℕ → List (List ℕ)) → ℕ → List Delivery
 turn_of d left n = in_order d (heard_of left) n
@@ -105,12 +106,12 @@ pub record TurnPart {S L : Type 0} (told : L → Option LinkStory) (d : Domain) 
   pub whole : given ++ rest ≡ turn_of d left places
   pub part : TellCut told d Round all links after (given ≢ [])
 
--- the nodes of the first places took frames of their links, in node order and up to 16 each, whether or not these tell; where they
+-- the nodes of the first places took frames of their links, in node order and up to that many each, whether or not these tell; where they
 -- tell, what they had in front
 pub record TakesTurn {S L T E : Type 0} (told : L → Option LinkStory) (d : Domain) (Round : Node → List ℕ → S → S → Type 0) (all : S → List Send) (places : ℕ) (links_old links_new : List L) (before after : S) (result : Result T E) : Type 0 where
   pub given : List Delivery
   pub heard : ℕ → List (List ℕ)
-  pub few : (i : ℕ) → length (heard i) ≤ 16
+  pub few : (i : ℕ) → length (heard i) ≤ most_polls
   pub order : given ≡ in_order d heard places
   pub rounds : Rounds Round given before after
   pub tells : (left : ℕ → List (List ℕ)) → Tell told d links_old left (all before)

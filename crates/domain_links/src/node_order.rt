@@ -1,13 +1,13 @@
 //! The order of nodes, and whom a frame is for.
 
 ghost use Rattle.std.specs.Prelude.{◌≡◌, ◌<◌, ◌≤◌, length, position, bytes_eq};
-ghost use Rattle.domain_base.specs.declared.names.Mac.{Mac as AnyMac};
 ghost use Rattle.run_journal.specs.declared.domain.ListedAp.{ListedAp as AnyAp};
+ghost use Rattle.run_journal.specs.declared.domain.ListedSta.{ListedSta as AnySta};
 ghost use Rattle.domain_links.specs.NodeOrder.{count, node_at, place_of, is_group_address};
 ghost use Rattle.domain_links.specs.NodeOrder.{with_address, receiver_of};
 
 use domain_base::{Mac, Node, array_at};
-use run_journal::{Domain, ListedAp};
+use run_journal::{Domain, ListedAp, ListedSta};
 
 /// Whom a frame is for.
 #[derive(Clone, Copy)]
@@ -61,10 +61,10 @@ fn place_of_ap(aps: &[ListedAp], address: Mac) -> Option<usize>
 }
 
 // The place of the first station that has this address.
-fn place_of_sta(stas: &[Mac], address: Mac) -> Option<usize>
-    ensures { result ≡ position (λ (m : AnyMac). bytes_eq m.0 address.0) stas.now }
+fn place_of_sta(stas: &[ListedSta], address: Mac) -> Option<usize>
+    ensures { result ≡ position (λ (s : AnySta). bytes_eq s.address.0 address.0) stas.now }
 {
-    stas.iter().position(|sta| sta.0 == address.0)
+    stas.iter().position(|sta| sta.address.0 == address.0)
 }
 
 // The node that has this address.

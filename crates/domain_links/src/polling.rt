@@ -1,6 +1,7 @@
 //! Frames that come by the link of a node.
 
 ghost use Rattle.std.specs.Prelude.{◌≡◌, ◌<◌, ◌≤◌, ℕ, List, OnOk, OnErr, IfOk, IfSome, length};
+ghost use Rattle.run_journal.specs.Limits.{most_octets};
 ghost use Rattle.run_journal.specs.declared.domain.Domain.{Domain as AnyDomain};
 ghost use Rattle.domain_links.specs.Sends.{Send};
 ghost use Rattle.domain_links.specs.Telling.{Tell, Polls, HasFailed, SameFaults};
@@ -8,7 +9,7 @@ ghost use Rattle.domain_links.specs.Telling.{Tell, Polls, HasFailed, SameFaults}
 use domain_base::{Failed, Link};
 
 /// Asks the link at a place for a frame, and answers how many of its octets stand in the front of
-/// `buf`, which has 2,400: a longer frame is cut. None says that no frame has come.
+/// `buf`, which has `MOST_OCTETS`: a longer frame is cut. None says that no frame has come.
 ///
 /// Failed says that this link's count of faults rose; else every count is as it was.
 pub fn poll<L: Link + Drop>(
@@ -17,7 +18,7 @@ pub fn poll<L: Link + Drop>(
     buf: &mut [u8],
 ) -> Result<Option<usize>, Failed>
     requires within { place < length links.old.items }
-    requires room { length buf.old ≡ 2400 }
+    requires room { length buf.old ≡ most_octets }
     ensures len { length links.new.items ≡ length links.old.items }
     ensures bound { IfOk result (λ given. IfSome given (λ size. size ≤ length buf.new)) }
     ensures polled { (d : AnyDomain) (left : ℕ → List (List ℕ)) (all : List Send)

@@ -1,5 +1,5 @@
 -- A reader that is given line after line, while the journal grows.
-use Rattle.std.proofs.Common.{◌≡◌, ℕ, suc, ◌+◌, ◌≤◌, Bool, true, false, if◌then◌else◌, List, [], ◌∷◌, Result, Ok, Err, OnOk, OnErr, refl, sym, ap, ◌∙◌, arith}
+use Rattle.std.proofs.Common.{◌≡◌, ℕ, suc, ◌+◌, ◌≤◌, Bool, true, false, if◌then◌else◌, List, [], ◌∷◌, Result, Ok, Err, OnOk, OnErr, refl, sym, ap, subst, arith}
 use Rattle.std.proofs.lemmas.List.{append-nil}
 use Rattle.run_journal.specs.declared.acts.Entry.{Entry}
 use Rattle.frame_script.specs.declared.reader.LineFault.{LineFault}
@@ -8,7 +8,7 @@ use Rattle.frame_script.specs.declared.reader.Mode.{Mode}
 use Rattle.frame_script.specs.declared.reader.Mode.TheVariants.{Replay, Live}
 use Rattle.frame_script.specs.declared.reader.Step.{Step}
 use Rattle.frame_script.specs.declared.reader.Step.TheVariants as step
-use Rattle.frame_script.specs.Script.{Draft, AtVersion, AtSeed, AtSsid, AtPsk, AtAkm, AtMdid, AtNodes, InRound, Said, Goes, ListsAp, ListsSta, Asks, BeginsRound, EndsRound, is_within, rounds_after}
+use Rattle.frame_script.specs.Script.{Draft, IsSeedDue, AtVersion, AtHeader, AtNodes, InRound, Said, Goes, ListsAp, ListsSta, Asks, BeginsRound, EndsRound, is_within, rounds_after}
 use Rattle.frame_script.specs.Headers.{Reading, HasSeen, HasSeenAll, HasSeenBy, TakesIn, TakesLine, TakesLive, sizes_of}
 
 -- before its first line it has seen nothing
@@ -32,13 +32,9 @@ HasSeen-push r e j h = record {
 -- in a round it has seen no more than before
 pub HasSeen-by : (draft : Draft) (r : Reading) (j : List Entry) → HasSeenBy draft r j → HasSeen r j
 HasSeen-by AtVersion r j by = HasSeen-all r j by
-HasSeen-by AtSeed r j by = HasSeen-all r j by
-HasSeen-by (AtSsid seed) r j by = HasSeen-all r j by
-HasSeen-by (AtPsk seed ssid) r j by = HasSeen-all r j by
-HasSeen-by (AtAkm seed ssid psk) r j by = HasSeen-all r j by
-HasSeen-by (AtMdid seed ssid psk) r j by = HasSeen-all r j by
-HasSeen-by (AtNodes d) r j by = HasSeen-all r j by
-HasSeen-by (InRound d count) r j by = by
+HasSeen-by (AtHeader awaited h) r j by = HasSeen-all r j by
+HasSeen-by (AtNodes h) r j by = HasSeen-all r j by
+HasSeen-by (InRound h count) r j by = by
 
 -- after a line, taken or not
 pub HasSeen-after : (draft : Draft) (r : Reading) (j : List Entry) (answer : Result Step LineFault) → OnOk answer (HasSeenBy draft r j) → OnErr answer (HasSeen r j) → HasSeen r j
@@ -52,7 +48,7 @@ at_most false rounds = omega arith
 one_more : (draft : Draft) (rounds : ℕ) (said : Said) → rounds_after draft rounds said ≤ rounds + 1
 one_more draft rounds (Goes next) = omega arith
 one_more draft rounds (ListsAp address r0kh_id) = omega arith
-one_more draft rounds (ListsSta address) = omega arith
+one_more draft rounds (ListsSta address psk) = omega arith
 one_more draft rounds (Asks event) = at_most (is_within draft) rounds
 one_more draft rounds BeginsRound = omega arith
 one_more draft rounds EndsRound = omega arith
@@ -70,11 +66,11 @@ turns_one old new sizes line (Ok step.Nothing) t = asks_one old new sizes line (
 turns_one old new sizes line (Ok step.Draw) t = omega (arith, t.1.1.1)
 turns_one old new sizes line (Ok step.Network) t = asks_one old new sizes line (Ok step.Network) t.1
 turns_one old new sizes line (Ok (step.Ap a id)) t = asks_one old new sizes line (Ok (step.Ap a id)) t.1
-turns_one old new sizes line (Ok (step.Sta a)) t = asks_one old new sizes line (Ok (step.Sta a)) t.1
+turns_one old new sizes line (Ok (step.Sta a psk)) t = asks_one old new sizes line (Ok (step.Sta a psk)) t.1
 turns_one old new sizes line (Ok (step.Event event)) t = asks_one old new sizes line (Ok (step.Event event)) t.1
 turns_one old new sizes line (Ok step.Round) t = asks_one old new sizes line (Ok step.Round) t.1
 turns_one old new sizes line (Ok step.End) t = asks_one old new sizes line (Ok step.End) t.1
-turns_one old new sizes line (Ok step.Turn) (d, (says, (at, (few, (same, rounds))))) = omega (arith, rounds)
+turns_one old new sizes line (Ok step.Turn) (h, (says, (at, (few, (same, rounds))))) = omega (arith, rounds)
 turns_one old new sizes line (Err (answered.Script reason)) t = omega (arith, t.1.1)
 turns_one old new sizes line (Err (answered.Limit limit)) t = omega (arith, t.1.1)
 turns_one old new sizes line (Err answered.NoMemory) t = omega (arith, t.1)
@@ -84,8 +80,8 @@ rounds-after Replay old new sizes line answer t = asks_one old new sizes line an
 rounds-after Live old new sizes line answer t = turns_one old new sizes line answer t
 
 -- where the seed is to be drawn it is due
-pub draws-due : (mode : Mode) (old new : Reading) (sizes line : List ℕ) → TakesIn mode old new sizes line (Ok step.Draw) → new.draft ≡ AtSeed
+pub draws-due : (mode : Mode) (old new : Reading) (sizes line : List ℕ) → TakesIn mode old new sizes line (Ok step.Draw) → IsSeedDue new.draft
 draws-due Replay old new sizes line t = absurd t.1.1.1.1
-draws-due Live old new sizes line t = t.1.1.0 ∙ t.1.0
+draws-due Live old new sizes line t = subst IsSeedDue (sym t.1.1.0) t.1.0
 
 pub ruleset feeding = (HasSeen-start, HasSeen-push, HasSeen-after, rounds-after)

@@ -6,6 +6,8 @@ use Rattle.std.proofs.lemmas.Slice.Eq.{bytes_eq-Decides}
 use Rattle.domain_base.specs.declared.names.Mac.{Mac}
 use Rattle.run_journal.specs.declared.domain.Domain.{Domain}
 use Rattle.run_journal.specs.declared.domain.ListedAp.{ListedAp}
+use Rattle.run_journal.specs.Limits.{most_aps, most_stas}
+use Rattle.run_journal.specs.declared.domain.ListedSta.{ListedSta}
 use Rattle.frame_script.specs.Headers.{IsFreeAddress, CanListAp, CanListSta}
 use Rattle.frame_script.specs.Tokens.{is_text}
 use Rattle.frame_script.specs.Script.{is_same, is_single, is_used, is_used_id}
@@ -22,11 +24,11 @@ none_of_aps address (a ∷ aps) e =
     let parts = or_parts (is_same a.address address) (list_any (λ (b : ListedAp). is_same b.address address) aps) e in
     (not_same a.address address parts.0, none_of_aps address aps parts.1)
 
-none_of_stas : (address : Mac) (stas : List Mac) → list_any (λ (m : Mac). is_same m address) stas ≡ false → AllByRecursion (λ (m : Mac). m ≢ address) stas
+none_of_stas : (address : Mac) (stas : List ListedSta) → list_any (λ (s : ListedSta). is_same s.address address) stas ≡ false → AllByRecursion (λ (s : ListedSta). s.address ≢ address) stas
 none_of_stas address [] e = tt
-none_of_stas address (m ∷ stas) e =
-    let parts = or_parts (is_same m address) (list_any (λ (n : Mac). is_same n address) stas) e in
-    (not_same m address parts.0, none_of_stas address stas parts.1)
+none_of_stas address (s ∷ stas) e =
+    let parts = or_parts (is_same s.address address) (list_any (λ (t : ListedSta). is_same t.address address) stas) e in
+    (not_same s.address address parts.0, none_of_stas address stas parts.1)
 
 none_of : (x y : Bool) → (if x then true else y) ≡ false → (x ≡ false) × (y ≡ false)
 none_of true y e = absurd (false≢true (sym e))
@@ -35,7 +37,7 @@ none_of false y e = (refl, e)
 pub single-free : (d : Domain) (address : Mac) → is_single address.0 ≡ true → is_used d address ≡ false → IsFreeAddress d address
 unfolding is_used
 single-free d address one e =
-    let parts = none_of (list_any (λ (a : ListedAp). is_same a.address address) d.aps) (list_any (λ (m : Mac). is_same m address) d.stas) e in
+    let parts = none_of (list_any (λ (a : ListedAp). is_same a.address address) d.aps) (list_any (λ (s : ListedSta). is_same s.address address) d.stas) e in
     record { single = one; no_ap = none_of_aps address d.aps parts.0; no_sta = none_of_stas address d.stas parts.1 }
 
 none_of_ids : (r0kh_id : List ℕ) (aps : List ListedAp) → list_any (λ (a : ListedAp). bytes_eq a.r0kh_id r0kh_id) aps ≡ false → AllByRecursion (λ (a : ListedAp). a.r0kh_id ≢ r0kh_id) aps
@@ -49,7 +51,7 @@ unfolding is_used_id
 other-id d r0kh_id e = none_of_ids r0kh_id d.aps e
 
 -- what is tested in turn
-pub can-list_ap : (d : Domain) (address : Mac) (r0kh_id : List ℕ) → is_single address.0 ≡ true → is_text 48 33 r0kh_id ≡ true → length d.aps < 16 → is_used d address ≡ false → is_used_id d r0kh_id ≡ false → CanListAp d address r0kh_id
+pub can-list_ap : (d : Domain) (address : Mac) (r0kh_id : List ℕ) → is_single address.0 ≡ true → is_text 48 33 r0kh_id ≡ true → length d.aps < most_aps → is_used d address ≡ false → is_used_id d r0kh_id ≡ false → CanListAp d address r0kh_id
 can-list_ap d address r0kh_id one text room free other =
     let sized = and_parts _ _ (and_parts _ _ text).0 in
     record {
@@ -60,7 +62,7 @@ can-list_ap d address r0kh_id one text room free other =
       room = room;
     }
 
-pub can-list_sta : (d : Domain) (address : Mac) → is_single address.0 ≡ true → length d.stas < 64 → is_used d address ≡ false → CanListSta d address
+pub can-list_sta : (d : Domain) (address : Mac) → is_single address.0 ≡ true → length d.stas < most_stas → is_used d address ≡ false → CanListSta d address
 can-list_sta d address one room free = record { address_ = single-free d address one free; room = room }
 
 pub ruleset listing = (can-list_ap, can-list_sta)

@@ -5,6 +5,7 @@ use Rattle.domain_base.specs.declared.names.Node.{Node}
 use Rattle.domain_base.specs.declared.names.Node.TheVariants.{Ap, Sta}
 use Rattle.run_journal.specs.declared.domain.Domain.{Domain}
 use Rattle.run_journal.specs.declared.domain.Event.{Event}
+use Rattle.run_journal.specs.Limits.{most_events}
 use Rattle.frame_script.specs.declared.events.Asked.{Asked}
 use Rattle.frame_script.specs.declared.events.Asked.TheVariants as asked
 use Rattle.frame_script.specs.Tokens.{NodeWord, PeerWord, split_word, number_of_digits, node_word, peer_word, tid_word, hex_octets}
@@ -120,5 +121,5 @@ can_happen d sizes (asked.Event event) can = can
 can_happen d sizes (asked.Inject to digits) can = can.0
 can_happen d sizes (asked.Send from to tid digits) can = can.1
 
-pub can_join : (d : Domain) (count : ℕ) (sizes word text : List ℕ) (a : Asked) → CanAsk d sizes a → event_of d true sizes word text ≡ Ok (sentences.event_of a) → count < 256 → CanJoin d count sizes a
+pub can_join : (d : Domain) (count : ℕ) (sizes word text : List ℕ) (a : Asked) → CanAsk d sizes a → event_of d true sizes word text ≡ Ok (sentences.event_of a) → count < most_events → CanJoin d count sizes a
 can_join d count sizes word text a can is room = (can_happen d sizes a can, (subst AtAp is (event_at d sizes word text), room))

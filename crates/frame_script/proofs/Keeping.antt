@@ -3,10 +3,11 @@ use Rattle.std.proofs.Common.{◌≡◌, ℕ, ◌≤◌, ◌-◌, Bool, true, fa
 use Rattle.std.specs.Prelude.{is_err, slice_index, OnOk, OnErr}
 use Rattle.std.proofs.lemmas.Bool.{false≢true, le-leb}
 use Rattle.run_journal.specs.declared.acts.Entry.{Entry}
+use Rattle.frame_script.specs.declared.header.HeaderLine.TheVariants as due
 use Rattle.frame_script.specs.declared.reader.Mode.{Mode}
 use Rattle.frame_script.specs.declared.reader.Mode.TheVariants.{Replay, Live}
 use Rattle.frame_script.specs.declared.refusal.Untaken.TheVariants as untaken
-use Rattle.frame_script.specs.Script.{Draft, AtVersion, AtSeed, Goes, version_, line_says, size_of}
+use Rattle.frame_script.specs.Script.{Draft, AtVersion, AtHeader, blank, Goes, version_, line_says, size_of}
 use Rattle.frame_script.specs.Headers.{Reading, HasSeen, IsSized, ReadsIn}
 use Rattle.frame_script.specs.Sentences.{seeing}
 
@@ -38,7 +39,7 @@ no_memory Replay old new sizes line draft rounds = (draft, rounds)
 no_memory Live old new sizes line draft rounds = (draft, rounds)
 
 -- the first line
-pub version_said : (rounds : ℕ) (sizes line : List ℕ) → bytes_eq line (codes "domain 1") ≡ true → line_says AtVersion rounds sizes line ≡ Ok (Goes AtSeed)
+pub version_said : (rounds : ℕ) (sizes line : List ℕ) → bytes_eq line (codes "domain 1") ≡ true → line_says AtVersion rounds sizes line ≡ Ok (Goes (AtHeader due.Seed blank))
 unfolding line_says
 version_said rounds sizes line e = rw e refl
 

@@ -4,14 +4,15 @@ use Rattle.domain_base.specs.declared.names.Mac.{Mac}
 use Rattle.domain_base.specs.declared.names.Node.{Node}
 use Rattle.run_journal.specs.declared.domain.Domain.{Domain}
 use Rattle.run_journal.specs.declared.domain.Event.TheVariants.{Connect, Roam, Retry, Expire, Revoke, Deliver, Cut, Alter}
+use Rattle.frame_script.specs.declared.header.Header.{Header}
 use Rattle.frame_script.specs.Sentences.{TellsBy}
 use Rattle.frame_script.specs.declared.refusal.Refusal.{Refusal}
 use Rattle.frame_script.specs.Tokens.{NodeWord, PeerWord, peer_word, number_of_digits, hex_octets, split_word, node_word, is_text}
 use Rattle.frame_script.specs.Script.{◌>>=◌, Fault, send_line, send_between, to_word, event_node, size_of, frame_, place_, deliver_line, cut_line, alter_line, need, node_, listed_sta, listed_ap, connect_line, roam_line, retry_line, expire_line, revoke_line, arguments, ListsAp, ListsSta, address_of, new_ap, new_sta, ap_line, sta_line}
 
-pub sta_said : (d : Domain) (text : List ℕ) (address : Mac) → address_of text ≡ Ok address → new_sta d address ≡ Ok (ListsSta address) → sta_line d text ≡ Ok (ListsSta address)
+pub sta_said : (h : Header) (text : List ℕ) (address : Mac) → address_of text ≡ Ok address → new_sta h.network address h.psk ≡ Ok (ListsSta address h.psk) → sta_line h text ≡ Ok (ListsSta address h.psk)
 unfolding sta_line
-sta_said d text address is new = rw is new
+sta_said h text address is new = rw is new
 
 pub ap_said : (d : Domain) (text word id : List ℕ) (address : Mac) → split_word text ≡ Some (word, id) → address_of word ≡ Ok address → is_text 48 33 id ≡ true → new_ap d address id ≡ Ok (ListsAp address id) → ap_line d text ≡ Ok (ListsAp address id)
 unfolding ap_line

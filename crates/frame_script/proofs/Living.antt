@@ -1,7 +1,8 @@
 -- A line of a script of a live run that is taken, by its exits.
 use Rattle.std.proofs.Common.{◌≡◌, ℕ, ◌≤◌, nat_le, Bool, true, false, if◌then◌else◌, List, length, bytes_eq, codes, Option, None, Some, Result, Ok, Err, refl, ap, subst, ◌∙◌}
 use Rattle.std.proofs.lemmas.Bool.{leb-true}
-use Rattle.run_journal.specs.declared.domain.Domain.{Domain}
+use Rattle.frame_script.specs.declared.header.Header.{Header}
+use Rattle.frame_script.specs.declared.header.HeaderLine.TheVariants as due
 use Rattle.frame_script.specs.declared.reader.Mode.{Mode}
 use Rattle.frame_script.specs.declared.reader.Mode.TheVariants.{Replay, Live}
 use Rattle.frame_script.specs.declared.reader.Step.{Step}
@@ -10,7 +11,7 @@ use Rattle.frame_script.specs.declared.refusal.Refusal.{Refusal}
 use Rattle.frame_script.specs.declared.refusal.Untaken.{Untaken}
 use Rattle.frame_script.specs.declared.refusal.Untaken.TheVariants as untaken
 use Rattle.frame_script.specs.Tokens.{first_word}
-use Rattle.frame_script.specs.Script.{Fault, arguments, mode, many_frames, Draft, AtVersion, AtSeed, AtSsid, AtPsk, AtAkm, AtMdid, AtNodes, InRound, is_within, line_says}
+use Rattle.frame_script.specs.Script.{Fault, arguments, mode, many_frames, Draft, IsSeedDue, AtVersion, AtHeader, AtNodes, InRound, is_within, line_says}
 use Rattle.frame_script.specs.Live.{Heard, Draws, Turns, brings, own_word, turn_line, own_says, plain, heard, live_says}
 use Rattle.frame_script.specs.Refusals.{fault_of}
 use Rattle.frame_script.specs.Headers.{Reading, HearsLine, ReadsIn}
@@ -56,28 +57,28 @@ room_line false true sizes word e = absurd cc
 room_line false false sizes word e = absurd (no_word (brings word) Turns e)
 
 -- where the seed is drawn it is due
-draws_at : (draft : Draft) (sizes line : List ℕ) → own_says draft sizes line ≡ Some (Ok Draws) → draft ≡ AtSeed
+draws_at : (draft : Draft) (sizes line : List ℕ) → own_says draft sizes line ≡ Some (Ok Draws) → IsSeedDue draft
 unfolding own_says
 draws_at AtVersion sizes line e = absurd cc
-draws_at AtSeed sizes line e = refl
-draws_at (AtSsid seed) sizes line e = absurd cc
-draws_at (AtPsk seed ssid) sizes line e = absurd cc
-draws_at (AtAkm seed ssid psk) sizes line e = absurd cc
-draws_at (AtMdid seed ssid psk) sizes line e = absurd cc
-draws_at (AtNodes d) sizes line e = absurd (no_line (bytes_eq line (codes "turn")) (bytes_eq (first_word line).0 (codes "turn")) sizes (first_word line).0 e)
-draws_at (InRound d count) sizes line e = absurd (no_word (brings (first_word line).0) Draws e)
+draws_at (AtHeader due.Seed h) sizes line e = tt
+draws_at (AtHeader due.Ssid h) sizes line e = absurd cc
+draws_at (AtHeader due.Psk h) sizes line e = absurd cc
+draws_at (AtHeader due.Akm h) sizes line e = absurd cc
+draws_at (AtHeader due.Mdid h) sizes line e = absurd cc
+draws_at (AtNodes h) sizes line e = absurd (no_line (bytes_eq line (codes "turn")) (bytes_eq (first_word line).0 (codes "turn")) sizes (first_word line).0 e)
+draws_at (InRound h count) sizes line e = absurd (no_word (brings (first_word line).0) Draws e)
 
 -- a turn stands behind the header, outside rounds
-turns_at : (draft : Draft) (sizes line : List ℕ) → own_says draft sizes line ≡ Some (Ok Turns) → (d : Domain) × ((draft ≡ AtNodes d) × (length sizes ≤ 65535))
+turns_at : (draft : Draft) (sizes line : List ℕ) → own_says draft sizes line ≡ Some (Ok Turns) → (h : Header) × ((draft ≡ AtNodes h) × (length sizes ≤ 65535))
 unfolding own_says
 turns_at AtVersion sizes line e = absurd cc
-turns_at AtSeed sizes line e = absurd (no_turn (bytes_eq line (codes "seed draw")) e)
-turns_at (AtSsid seed) sizes line e = absurd cc
-turns_at (AtPsk seed ssid) sizes line e = absurd cc
-turns_at (AtAkm seed ssid psk) sizes line e = absurd cc
-turns_at (AtMdid seed ssid psk) sizes line e = absurd cc
-turns_at (AtNodes d) sizes line e = (d, (refl, room_line (bytes_eq line (codes "turn")) (bytes_eq (first_word line).0 (codes "turn")) sizes (first_word line).0 e))
-turns_at (InRound d count) sizes line e = absurd (no_word (brings (first_word line).0) Turns e)
+turns_at (AtHeader due.Seed h) sizes line e = absurd (no_turn (bytes_eq line (codes "seed draw")) e)
+turns_at (AtHeader due.Ssid h) sizes line e = absurd cc
+turns_at (AtHeader due.Psk h) sizes line e = absurd cc
+turns_at (AtHeader due.Akm h) sizes line e = absurd cc
+turns_at (AtHeader due.Mdid h) sizes line e = absurd cc
+turns_at (AtNodes h) sizes line e = (h, (refl, room_line (bytes_eq line (codes "turn")) (bytes_eq (first_word line).0 (codes "turn")) sizes (first_word line).0 e))
+turns_at (InRound h count) sizes line e = absurd (no_word (brings (first_word line).0) Turns e)
 
 -- ---- a line that is taken
 
@@ -89,8 +90,8 @@ drawn draft rounds sizes line e = (says_so draft rounds sizes line (Some (Ok Dra
 
 pub turned : (draft : Draft) (rounds : ℕ) (sizes line : List ℕ) → own_says draft sizes line ≡ Some (Ok Turns) → TakesHeard draft draft rounds sizes line (Ok step.Turn)
 turned draft rounds sizes line e =
-    let (d, (at, few)) = turns_at draft sizes line e in
-    (d, (says_so draft rounds sizes line (Some (Ok Turns)) e, (at, (few, refl))))
+    let (h, (at, few)) = turns_at draft sizes line e in
+    (h, (says_so draft rounds sizes line (Some (Ok Turns)) e, (at, (few, refl))))
 
 pub refused : (draft : Draft) (rounds : ℕ) (sizes line : List ℕ) (refusal : Refusal) → own_says draft sizes line ≡ Some (Err (fault_of refusal)) → TakesHeard draft draft rounds sizes line (Err (untaken.Refused refusal))
 refused draft rounds sizes line refusal e = (says_so draft rounds sizes line (Some (Err (fault_of refusal))) e, refl)
@@ -102,7 +103,7 @@ plainly draft new rounds sizes line (Ok step.Nothing) e t = (says_so draft round
 plainly draft new rounds sizes line (Ok step.Draw) e (said, (says, (is, takes))) = absurd takes
 plainly draft new rounds sizes line (Ok step.Network) e t = (says_so draft rounds sizes line None e, t)
 plainly draft new rounds sizes line (Ok (step.Ap a id)) e t = (says_so draft rounds sizes line None e, t)
-plainly draft new rounds sizes line (Ok (step.Sta a)) e t = (says_so draft rounds sizes line None e, t)
+plainly draft new rounds sizes line (Ok (step.Sta a psk)) e t = (says_so draft rounds sizes line None e, t)
 plainly draft new rounds sizes line (Ok (step.Event event)) e t = (says_so draft rounds sizes line None e, t)
 plainly draft new rounds sizes line (Ok step.Round) e t = (says_so draft rounds sizes line None e, t)
 plainly draft new rounds sizes line (Ok step.End) e t = (says_so draft rounds sizes line None e, t)
@@ -119,11 +120,11 @@ hears old new sizes line (Ok step.Nothing) t rounds = (t.0, answered old new siz
 hears old new sizes line (Ok step.Draw) t rounds = (t.0, (t.1.0, (t.1.1, rounds)))
 hears old new sizes line (Ok step.Network) t rounds = (t.0, answered old new sizes line (Ok step.Network) t.1 rounds)
 hears old new sizes line (Ok (step.Ap a id)) t rounds = (t.0, answered old new sizes line (Ok (step.Ap a id)) t.1 rounds)
-hears old new sizes line (Ok (step.Sta a)) t rounds = (t.0, answered old new sizes line (Ok (step.Sta a)) t.1 rounds)
+hears old new sizes line (Ok (step.Sta a psk)) t rounds = (t.0, answered old new sizes line (Ok (step.Sta a psk)) t.1 rounds)
 hears old new sizes line (Ok (step.Event event)) t rounds = (t.0, answered old new sizes line (Ok (step.Event event)) t.1 rounds)
 hears old new sizes line (Ok step.Round) t rounds = (t.0, answered old new sizes line (Ok step.Round) t.1 rounds)
 hears old new sizes line (Ok step.End) t rounds = (t.0, answered old new sizes line (Ok step.End) t.1 rounds)
-hears old new sizes line (Ok step.Turn) (d, (says, (at, (few, same)))) rounds = (d, (says, (at, (few, (same, rounds)))))
+hears old new sizes line (Ok step.Turn) (h, (says, (at, (few, same)))) rounds = (h, (says, (at, (few, (same, rounds)))))
 hears old new sizes line (Err (untaken.Refused refusal)) t rounds = (t.0, (t.1, rounds))
 hears old new sizes line (Err untaken.NoMemory) t rounds = (t, rounds)
 

@@ -2,7 +2,7 @@
 use Rattle.std.proofs.Common.{◌≡◌, ℕ, Bool, true, false, if◌then◌else◌, List, bytes_eq, codes, Err, refl, sym, ap, ◌∙◌}
 use Rattle.std.specs.Prelude.{◌==◌}
 use Rattle.std.proofs.lemmas.Bool.{false≢true}
-use Rattle.run_journal.specs.declared.domain.Domain.{Domain}
+use Rattle.frame_script.specs.declared.header.Header.{Header}
 use Rattle.frame_script.specs.Script.{arguments, word_, sta_line, event_line, body_line}
 
 -- a test of a word, as the code makes it
@@ -27,17 +27,17 @@ by_fourth false false true w x y z e f g = absurd (false≢true (sym g))
 by_fourth false false false w x y z e f g = refl
 
 -- behind the header
-pub says_sta : (d : Domain) (rounds : ℕ) (sizes word text : List ℕ) → bytes_eq word (codes "ap") ≡ false → bytes_eq word (codes "sta") ≡ true
-    → body_line d rounds sizes word text ≡ (if rounds == 0 then sta_line d text else Err word_)
+pub says_sta : (h : Header) (rounds : ℕ) (sizes word text : List ℕ) → bytes_eq word (codes "ap") ≡ false → bytes_eq word (codes "sta") ≡ true
+    → body_line h rounds sizes word text ≡ (if rounds == 0 then sta_line h text else Err word_)
 unfolding body_line
-says_sta d rounds sizes word text e f = by_second (bytes_eq word (codes "ap")) (bytes_eq word (codes "sta")) _ _ _ e f
+says_sta h rounds sizes word text e f = by_second (bytes_eq word (codes "ap")) (bytes_eq word (codes "sta")) _ _ _ e f
 
-pub says_round : (d : Domain) (rounds : ℕ) (sizes word text : List ℕ) → bytes_eq word (codes "ap") ≡ false → bytes_eq word (codes "sta") ≡ false → bytes_eq word (codes "round") ≡ true
-    → body_line d rounds sizes word text ≡ Err arguments
+pub says_round : (h : Header) (rounds : ℕ) (sizes word text : List ℕ) → bytes_eq word (codes "ap") ≡ false → bytes_eq word (codes "sta") ≡ false → bytes_eq word (codes "round") ≡ true
+    → body_line h rounds sizes word text ≡ Err arguments
 unfolding body_line
-says_round d rounds sizes word text e f g = by_third (bytes_eq word (codes "ap")) (bytes_eq word (codes "sta")) (bytes_eq word (codes "round")) _ _ _ _ e f g
+says_round h rounds sizes word text e f g = by_third (bytes_eq word (codes "ap")) (bytes_eq word (codes "sta")) (bytes_eq word (codes "round")) _ _ _ _ e f g
 
-pub says_event : (d : Domain) (rounds : ℕ) (sizes word text : List ℕ) → bytes_eq word (codes "ap") ≡ false → bytes_eq word (codes "sta") ≡ false → bytes_eq word (codes "round") ≡ false
-    → body_line d rounds sizes word text ≡ event_line d sizes word text
+pub says_event : (h : Header) (rounds : ℕ) (sizes word text : List ℕ) → bytes_eq word (codes "ap") ≡ false → bytes_eq word (codes "sta") ≡ false → bytes_eq word (codes "round") ≡ false
+    → body_line h rounds sizes word text ≡ event_line h.network sizes word text
 unfolding body_line
-says_event d rounds sizes word text e f g = by_fourth (bytes_eq word (codes "ap")) (bytes_eq word (codes "sta")) (bytes_eq word (codes "round")) _ _ _ _ e f g
+says_event h rounds sizes word text e f g = by_fourth (bytes_eq word (codes "ap")) (bytes_eq word (codes "sta")) (bytes_eq word (codes "round")) _ _ _ _ e f g

@@ -1,13 +1,14 @@
 -- A line that is taken, by its exits.
 use Rattle.std.proofs.Common.{◌≡◌, ◌≢◌, ℕ, Bool, true, false, if◌then◌else◌, List, Result, Ok, Err, OnOk, refl, sym, ap, subst, ◌∙◌}
 use Rattle.std.proofs.lemmas.Bool.{false≢true}
-use Rattle.run_journal.specs.declared.domain.Domain.{Domain}
 use Rattle.run_journal.specs.declared.acts.Entry.{Entry}
+use Rattle.frame_script.specs.declared.header.Header.{Header}
+use Rattle.frame_script.specs.declared.header.HeaderLine.{HeaderLine}
 use Rattle.frame_script.specs.declared.refusal.Untaken.{Untaken}
 use Rattle.frame_script.specs.declared.refusal.Untaken.TheVariants as untaken
 use Rattle.frame_script.specs.declared.reader.Step.{Step}
 use Rattle.frame_script.specs.declared.reader.Step.TheVariants as step
-use Rattle.frame_script.specs.Script.{◌>>=◌, Fault, word_, Draft, AtVersion, AtSeed, AtSsid, AtPsk, AtAkm, AtMdid, AtNodes, InRound, Said, Goes, ListsAp, ListsSta, Asks, BeginsRound, EndsRound, header_line, body_line, inner_line, is_passed_over, is_border, border_line, is_within, line_says, said_after, rounds_after}
+use Rattle.frame_script.specs.Script.{◌>>=◌, Fault, Draft, AtVersion, AtHeader, AtNodes, InRound, Said, Goes, ListsAp, ListsSta, Asks, BeginsRound, EndsRound, header_line, body_line, inner_line, is_passed_over, is_border, border_line, is_within, line_says, said_after, rounds_after}
 use Rattle.frame_script.specs.Headers.{Reading, HasSeenBy, IsHeaderStep, TakesStep, HasRead, ReadsLine}
 use Rattle.frame_script.specs.Sentences.{Takes, TakesHeader, rounds_with, seeing, words_say}
 use Rattle.frame_script.specs.Tokens.{first_word}
@@ -15,39 +16,34 @@ use Rattle.frame_script.specs.Tokens.{first_word}
 pub went : (old new : Draft) (rounds : ℕ) (sizes : List ℕ) (meant : Result Said Fault) → meant ≡ Ok (Goes new) → IsHeaderStep old new → Takes old new rounds sizes meant (Ok step.Nothing)
 went old new rounds sizes meant e h = (Goes new, (e, (refl, (e, h))))
 
--- a line of the header is one of a header that was not whole
-was_due : (old new : Draft) (word text : List ℕ) → header_line old word text ≡ Ok new → (e : Domain) → old ≢ AtNodes e
-unfolding header_line
-was_due old new word text says e is =
-    let none : Err word_ ≡ Ok new = subst (λ (x : Draft). header_line x word text ≡ Ok new) is says in cc
+-- a header with a line due is not whole
+was_due : (awaited : HeaderLine) (h e : Header) → AtHeader awaited h ≢ AtNodes e
+was_due awaited h e is = absurd cc
 
 -- a line of the header
-pub header : (old new : Draft) (rounds : ℕ) (sizes word text : List ℕ) (answer : Result Step Untaken) → TakesHeader old new word text answer → Takes old new rounds sizes (header_line old word text >>= (λ next. Ok (Goes next))) answer
-header old new rounds sizes word text (Ok step.Nothing) t = went old new rounds sizes _ (rw t.0 refl) t.1
-header old new rounds sizes word text (Ok step.Network) t =
-    let goes : (header_line old word text >>= (λ next. Ok (Goes next))) ≡ Ok (Goes new) = rw t.1.0 refl in
-    (Goes new, (goes, (refl, (t.0, (goes, (t.1.1.0, (t.1.1.1, was_due old new word text t.1.0)))))))
-header old new rounds sizes word text (Ok (step.Ap address r0kh_id)) t = absurd t
-header old new rounds sizes word text (Ok (step.Sta address)) t = absurd t
-header old new rounds sizes word text (Ok (step.Event event)) t = absurd t
-header old new rounds sizes word text (Ok step.Round) t = absurd t
-header old new rounds sizes word text (Ok step.End) t = absurd t
-header old new rounds sizes word text (Ok step.Draw) t = absurd t
-header old new rounds sizes word text (Ok step.Turn) t = absurd t
-header old new rounds sizes word text (Err (untaken.Refused refusal)) t = (rw t.0 refl, t.1)
-header old new rounds sizes word text (Err untaken.NoMemory) t = t
+pub header : (awaited : HeaderLine) (h : Header) (new : Draft) (rounds : ℕ) (sizes word text : List ℕ) (answer : Result Step Untaken) → TakesHeader awaited h new word text answer
+    → Takes (AtHeader awaited h) new rounds sizes (header_line awaited h word text >>= (λ next. Ok (Goes next))) answer
+header awaited h new rounds sizes word text (Ok step.Nothing) t = went (AtHeader awaited h) new rounds sizes _ (rw t.0 refl) t.1
+header awaited h new rounds sizes word text (Ok step.Network) t =
+    let goes : (header_line awaited h word text >>= (λ next. Ok (Goes next))) ≡ Ok (Goes new) = rw t.1.0 refl in
+    (Goes new, (goes, (refl, (t.0, (goes, (t.1.1.0, (t.1.1.1, was_due awaited h)))))))
+header awaited h new rounds sizes word text (Ok (step.Ap address r0kh_id)) t = absurd t
+header awaited h new rounds sizes word text (Ok (step.Sta address psk)) t = absurd t
+header awaited h new rounds sizes word text (Ok (step.Event event)) t = absurd t
+header awaited h new rounds sizes word text (Ok step.Round) t = absurd t
+header awaited h new rounds sizes word text (Ok step.End) t = absurd t
+header awaited h new rounds sizes word text (Ok step.Draw) t = absurd t
+header awaited h new rounds sizes word text (Ok step.Turn) t = absurd t
+header awaited h new rounds sizes word text (Err (untaken.Refused refusal)) t = (rw t.0 refl, t.1)
+header awaited h new rounds sizes word text (Err untaken.NoMemory) t = t
 
 -- a line that is passed over
 pub passed : (draft : Draft) (rounds : ℕ) (sizes line : List ℕ) → draft ≢ AtVersion → is_passed_over line ≡ true → Takes draft draft rounds sizes (line_says draft rounds sizes line) (Ok step.Nothing)
 unfolding line_says
 passed AtVersion rounds sizes line later e = absurd (later refl)
-passed AtSeed rounds sizes line later e = went AtSeed AtSeed rounds sizes _ (rw e refl) tt
-passed (AtSsid seed) rounds sizes line later e = went (AtSsid seed) (AtSsid seed) rounds sizes _ (rw e refl) tt
-passed (AtPsk seed ssid) rounds sizes line later e = went (AtPsk seed ssid) (AtPsk seed ssid) rounds sizes _ (rw e refl) tt
-passed (AtAkm seed ssid psk) rounds sizes line later e = went (AtAkm seed ssid psk) (AtAkm seed ssid psk) rounds sizes _ (rw e refl) tt
-passed (AtMdid seed ssid psk) rounds sizes line later e = went (AtMdid seed ssid psk) (AtMdid seed ssid psk) rounds sizes _ (rw e refl) tt
-passed (AtNodes d) rounds sizes line later e = went (AtNodes d) (AtNodes d) rounds sizes _ (rw e refl) refl
-passed (InRound d count) rounds sizes line later e = went (InRound d count) (InRound d count) rounds sizes _ (rw e refl) refl
+passed (AtHeader awaited h) rounds sizes line later e = went (AtHeader awaited h) (AtHeader awaited h) rounds sizes _ (rw e refl) tt
+passed (AtNodes h) rounds sizes line later e = went (AtNodes h) (AtNodes h) rounds sizes _ (rw e refl) refl
+passed (InRound h count) rounds sizes line later e = went (InRound h count) (InRound h count) rounds sizes _ (rw e refl) refl
 
 -- the second and the third of three
 second : (p b : Bool) (x y z : Result Said Fault) → p ≡ false → b ≡ true → (if p then x else if b then y else z) ≡ y
@@ -64,13 +60,9 @@ third false false x y z e f = refl
 by_border : (draft : Draft) (rounds : ℕ) (sizes line : List ℕ) → is_passed_over line ≡ false → is_border draft line ≡ true → line_says draft rounds sizes line ≡ border_line draft sizes
 unfolding line_says
 by_border AtVersion rounds sizes line e b = absurd (false≢true b)
-by_border AtSeed rounds sizes line e b = absurd (false≢true b)
-by_border (AtSsid seed) rounds sizes line e b = absurd (false≢true b)
-by_border (AtPsk seed ssid) rounds sizes line e b = absurd (false≢true b)
-by_border (AtAkm seed ssid psk) rounds sizes line e b = absurd (false≢true b)
-by_border (AtMdid seed ssid psk) rounds sizes line e b = absurd (false≢true b)
-by_border (AtNodes d) rounds sizes line e b = second (is_passed_over line) (is_border (AtNodes d) line) _ _ _ e b
-by_border (InRound d count) rounds sizes line e b = second (is_passed_over line) (is_border (InRound d count) line) _ _ _ e b
+by_border (AtHeader awaited h) rounds sizes line e b = absurd (false≢true b)
+by_border (AtNodes h) rounds sizes line e b = second (is_passed_over line) (is_border (AtNodes h) line) _ _ _ e b
+by_border (InRound h count) rounds sizes line e b = second (is_passed_over line) (is_border (InRound h count) line) _ _ _ e b
 
 pub bordered : (draft new : Draft) (rounds : ℕ) (sizes line : List ℕ) (answer : Result Step Untaken) → is_passed_over line ≡ false → is_border draft line ≡ true
     → ((r : ℕ) → Takes draft new r sizes (border_line draft sizes) answer) → Takes draft new rounds sizes (line_says draft rounds sizes line) answer
@@ -82,15 +74,11 @@ by_words : (draft : Draft) (rounds : ℕ) (sizes line word text : List ℕ) → 
     → line_says draft rounds sizes line ≡ words_say draft rounds sizes word text
 unfolding line_says
 by_words AtVersion rounds sizes line word text later e b is = absurd (later refl)
-by_words AtSeed rounds sizes line word text later e b is = rw (e, is) refl
-by_words (AtSsid seed) rounds sizes line word text later e b is = rw (e, is) refl
-by_words (AtPsk seed ssid) rounds sizes line word text later e b is = rw (e, is) refl
-by_words (AtAkm seed ssid psk) rounds sizes line word text later e b is = rw (e, is) refl
-by_words (AtMdid seed ssid psk) rounds sizes line word text later e b is = rw (e, is) refl
-by_words (AtNodes d) rounds sizes line word text later e b is =
-    third (is_passed_over line) (is_border (AtNodes d) line) _ _ _ e b ∙ ap (λ (w : List ℕ × List ℕ). body_line d rounds sizes w.0 w.1) is
-by_words (InRound d count) rounds sizes line word text later e b is =
-    third (is_passed_over line) (is_border (InRound d count) line) _ _ _ e b ∙ ap (λ (w : List ℕ × List ℕ). inner_line d count sizes w.0 w.1) is
+by_words (AtHeader awaited h) rounds sizes line word text later e b is = rw (e, is) refl
+by_words (AtNodes h) rounds sizes line word text later e b is =
+    third (is_passed_over line) (is_border (AtNodes h) line) _ _ _ e b ∙ ap (λ (w : List ℕ × List ℕ). body_line h rounds sizes w.0 w.1) is
+by_words (InRound h count) rounds sizes line word text later e b is =
+    third (is_passed_over line) (is_border (InRound h count) line) _ _ _ e b ∙ ap (λ (w : List ℕ × List ℕ). inner_line h.network count sizes w.0 w.1) is
 
 pub worded : (draft new : Draft) (rounds : ℕ) (sizes line word text : List ℕ) (answer : Result Step Untaken) → draft ≢ AtVersion → is_passed_over line ≡ false → is_border draft line ≡ false → first_word line ≡ (word, text)
     → Takes draft new rounds sizes (words_say draft rounds sizes word text) answer → Takes draft new rounds sizes (line_says draft rounds sizes line) answer
@@ -114,7 +102,7 @@ pub answered : (old new : Reading) (sizes line : List ℕ) (answer : Result Step
 answered old new sizes line (Ok step.Nothing) (said, (says, (draft, takes))) rounds = told old new sizes line step.Nothing said (Goes new.draft) says draft takes takes.0 rounds
 answered old new sizes line (Ok step.Network) (said, (says, (draft, takes))) rounds = told old new sizes line step.Network said (Goes new.draft) says draft takes takes.1.0 rounds
 answered old new sizes line (Ok (step.Ap a id)) (said, (says, (draft, takes))) rounds = told old new sizes line (step.Ap a id) said (ListsAp a id) says draft takes takes.1.0 rounds
-answered old new sizes line (Ok (step.Sta a)) (said, (says, (draft, takes))) rounds = told old new sizes line (step.Sta a) said (ListsSta a) says draft takes takes.1.0 rounds
+answered old new sizes line (Ok (step.Sta a psk)) (said, (says, (draft, takes))) rounds = told old new sizes line (step.Sta a psk) said (ListsSta a psk) says draft takes takes.1.0 rounds
 answered old new sizes line (Ok (step.Event e)) (said, (says, (draft, takes))) rounds = told old new sizes line (step.Event e) said (Asks e) says draft takes takes.0 rounds
 answered old new sizes line (Ok step.Round) (said, (says, (draft, takes))) rounds = told old new sizes line step.Round said BeginsRound says draft takes takes.1.0 rounds
 answered old new sizes line (Ok step.End) (said, (says, (draft, takes))) rounds = told old new sizes line step.End said EndsRound says draft takes takes.1.1.0 rounds
@@ -125,13 +113,9 @@ answered old new sizes line (Err untaken.NoMemory) t rounds = (t, rounds)
 
 seen_by : (draft : Draft) (r : Reading) (j : List Entry) → HasSeenBy draft (seeing r.seen r.sizes) j → HasSeenBy draft r j
 seen_by AtVersion r j by = record { seen = by.seen; sizes = by.sizes }
-seen_by AtSeed r j by = record { seen = by.seen; sizes = by.sizes }
-seen_by (AtSsid seed) r j by = record { seen = by.seen; sizes = by.sizes }
-seen_by (AtPsk seed ssid) r j by = record { seen = by.seen; sizes = by.sizes }
-seen_by (AtAkm seed ssid psk) r j by = record { seen = by.seen; sizes = by.sizes }
-seen_by (AtMdid seed ssid psk) r j by = record { seen = by.seen; sizes = by.sizes }
-seen_by (AtNodes d) r j by = record { seen = by.seen; sizes = by.sizes }
-seen_by (InRound d count) r j by = record { later = by.later; earlier = by.earlier; is = by.is; seen = by.seen; sizes = by.sizes }
+seen_by (AtHeader awaited h) r j by = record { seen = by.seen; sizes = by.sizes }
+seen_by (AtNodes h) r j by = record { seen = by.seen; sizes = by.sizes }
+seen_by (InRound h count) r j by = record { later = by.later; earlier = by.earlier; is = by.is; seen = by.seen; sizes = by.sizes }
 
 pub seen_on : (draft : Draft) (r : Reading) (j : List Entry) (answer : Result Step Untaken) → HasSeenBy draft (seeing r.seen r.sizes) j → OnOk answer (HasSeenBy draft r j)
 seen_on draft r j (Ok s) by = seen_by draft r j by

@@ -3,10 +3,12 @@ use Rattle.std.specs.Prelude.{ℕ, ◌==◌, ◌&&◌, if◌then◌else◌, Bool
 use Rattle.run_journal.specs.declared.domain.Domain.{Domain}
 use Rattle.frame_script.specs.declared.forms.Form.{Form}
 use Rattle.frame_script.specs.declared.forms.Form.TheVariants.{Version, Seed, Ssid, Key, Passphrase, Psk, Akm, Mdid, Ap, Sta, Connect, Roam, Deliver, Alter, Cut, Inject, Retry, Rekey, Send, Expire, Revoke, Leave, Round, End, Any, StaOrEvent, Event, EventInRound, Turn, LiveSeed, LiveAny, LiveStaOrEvent, LiveEvent, LiveEventInRound}
+use Rattle.frame_script.specs.declared.header.HeaderLine.{HeaderLine}
+use Rattle.frame_script.specs.declared.header.HeaderLine.TheVariants as due
 use Rattle.frame_script.specs.declared.reader.Mode.{Mode}
 use Rattle.frame_script.specs.declared.reader.Mode.TheVariants.{Replay, Live}
 use Rattle.frame_script.specs.Tokens.{first_word}
-use Rattle.frame_script.specs.Script.{Draft, AtVersion, AtSeed, AtSsid, AtPsk, AtAkm, AtMdid, AtNodes, InRound, is_transition}
+use Rattle.frame_script.specs.Script.{Draft, AtVersion, AtHeader, AtNodes, InRound, is_transition}
 use Rattle.frame_script.specs.Live.{brings}
 
 -- as it is written: in angles what stands in its place, where digits are hexadecimal and n, place and length are numbers
@@ -96,16 +98,20 @@ body_form d rounds word =
     else if bytes_eq word (codes "sta") then (if rounds == 0 then Sta else late_form d rounds)
     else event_form d word (late_form d rounds)
 
+-- the line of the header that is due, by its first word
+abbrev pub header_form : HeaderLine → List ℕ → Form
+header_form due.Seed word = Seed
+header_form due.Ssid word = Ssid
+header_form due.Psk word = key_form word
+header_form due.Akm word = Akm
+header_form due.Mdid word = Mdid
+
 -- after a script has said so much, when so many rounds were run; in a replay
 abbrev pub form_of : Draft → ℕ → List ℕ → Form
 form_of AtVersion rounds line = Version
-form_of AtSeed rounds line = Seed
-form_of (AtSsid seed) rounds line = Ssid
-form_of (AtPsk seed ssid) rounds line = key_form (first_word line).0
-form_of (AtAkm seed ssid psk) rounds line = Akm
-form_of (AtMdid seed ssid psk) rounds line = Mdid
-form_of (AtNodes d) rounds line = body_form d rounds (first_word line).0
-form_of (InRound d count) rounds line = inner_form (first_word line).0
+form_of (AtHeader awaited h) rounds line = header_form awaited (first_word line).0
+form_of (AtNodes h) rounds line = body_form h.network rounds (first_word line).0
+form_of (InRound h count) rounds line = inner_form (first_word line).0
 
 -- the form in a live run, for one in a replay
 abbrev pub live_form : Form → Form
@@ -117,7 +123,7 @@ live_form EventInRound = LiveEventInRound
 live_form form = form
 
 abbrev pub is_turn : Draft → List ℕ → Bool
-is_turn (AtNodes d) word = bytes_eq word (codes "turn")
+is_turn (AtNodes h) word = bytes_eq word (codes "turn")
 is_turn draft word = false
 
 -- a line that brings a frame which was sent may not stand there, whatever its first word

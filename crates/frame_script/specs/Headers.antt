@@ -1,19 +1,19 @@
 -- What the reading of a line answers.
 use Rattle.std.specs.Prelude.{◌≡◌, ◌≢◌, ℕ, suc, ◌<◌, ◌≤◌, true, List, [], ◌∷◌, ◌++◌, length, Option, None, Some, Result, Ok, Err}
 use Rattle.std.specs.List.{AllByRecursion}
-use Rattle.domain_base.specs.declared.names.Akm.TheVariants.{FtPsk}
 use Rattle.domain_base.specs.declared.names.Mac.{Mac}
-use Rattle.domain_base.specs.declared.names.Node.{Node}
-use Rattle.domain_base.specs.declared.names.Node.TheVariants.{Ap, Sta}
-use Rattle.domain_base.specs.declared.names.Peer.{Peer}
-use Rattle.domain_base.specs.declared.names.Peer.TheVariants.{One, All}
+use Rattle.domain_base.specs.declared.names.Node.TheVariants.{Ap}
 use Rattle.run_journal.specs.declared.domain.Domain.{Domain}
+use Rattle.run_journal.specs.Limits.{most_aps, most_stas, most_events, most_frames}
+use Rattle.run_journal.specs.Events.{IsEventOf}
 use Rattle.run_journal.specs.declared.domain.ListedAp.{ListedAp}
+use Rattle.run_journal.specs.declared.domain.ListedSta.{ListedSta}
 use Rattle.run_journal.specs.declared.domain.Event.{Event}
-use Rattle.run_journal.specs.declared.domain.Event.TheVariants.{Connect, Roam, Deliver, Alter, Cut, Inject, Retry, Rekey, Send, Expire, Revoke, Leave}
+use Rattle.run_journal.specs.declared.domain.Event.TheVariants.{Deliver, Alter, Cut, Inject, Retry, Rekey, Send, Expire, Revoke}
 use Rattle.run_journal.specs.declared.acts.Act.{Act}
 use Rattle.run_journal.specs.declared.acts.Act.TheVariants.{Sent}
 use Rattle.run_journal.specs.declared.acts.Entry.{Entry}
+use Rattle.frame_script.specs.declared.header.Header.{Header}
 use Rattle.frame_script.specs.declared.reader.LineFault.{LineFault}
 use Rattle.frame_script.specs.declared.reader.LineFault.TheVariants as answered
 use Rattle.frame_script.specs.declared.refusal.Untaken.{Untaken}
@@ -23,7 +23,7 @@ use Rattle.frame_script.specs.declared.reader.Mode.TheVariants.{Replay, Live}
 use Rattle.frame_script.specs.declared.reader.Step.{Step}
 use Rattle.frame_script.specs.declared.reader.Step.TheVariants as step
 use Rattle.frame_script.specs.Refusals.{fault_of}
-use Rattle.frame_script.specs.Script.{Fault, Outside, Past, Draft, AtSeed, AtNodes, InRound, Said, Goes, ListsAp, ListsSta, Asks, BeginsRound, EndsRound, line_says, said_after, rounds_after, is_single, size_of}
+use Rattle.frame_script.specs.Script.{Fault, Outside, Past, Draft, IsSeedDue, AtNodes, InRound, Said, Goes, ListsAp, ListsSta, Asks, BeginsRound, EndsRound, line_says, said_after, rounds_after, is_single, size_of}
 use Rattle.frame_script.specs.Live.{Draws, Turns, plain, live_says}
 
 -- ---- a reader
@@ -61,7 +61,7 @@ pub record HasSeenAll (r : Reading) (j : List Entry) : Type 0 where
 
 -- the sizes of the frames that a line may name: in a round those that were seen before it, whatever was sent since
 abbrev pub sizes_by : Draft → List ℕ → List ℕ → List ℕ
-sizes_by (InRound d count) seen all = seen
+sizes_by (InRound h count) seen all = seen
 sizes_by draft seen all = all
 
 abbrev pub sizes_named : Reading → List Entry → List ℕ
@@ -69,14 +69,14 @@ sizes_named r j = sizes_by r.draft r.sizes (sizes_of j)
 
 -- behind a line the reader has seen all of the journal; in a round it sees no more than before
 abbrev pub HasSeenBy : Draft → Reading → List Entry → Type 0
-HasSeenBy (InRound d count) r j = HasSeen r j
+HasSeenBy (InRound h count) r j = HasSeen r j
 HasSeenBy draft r j = HasSeenAll r j
 
 -- ---- what a line says, as an answer
 
 abbrev pub IsHeaderStep : Draft → Draft → Type 0
-IsHeaderStep old (AtNodes d) = old ≡ AtNodes d
-IsHeaderStep old (InRound d count) = old ≡ InRound d count
+IsHeaderStep old (AtNodes h) = old ≡ AtNodes h
+IsHeaderStep old (InRound h count) = old ≡ InRound h count
 IsHeaderStep old new = Unit {0}
 
 -- the network of a header, without nodes: its SSID has 1 to 32 octets
@@ -90,7 +90,7 @@ pub record IsNetwork (d : Domain) : Type 0 where
 pub record IsFreeAddress (d : Domain) (address : Mac) : Type 0 where
   pub single : is_single address.0 ≡ true
   pub no_ap : AllByRecursion (λ (a : ListedAp). a.address ≢ address) d.aps
-  pub no_sta : AllByRecursion (λ (m : Mac). m ≢ address) d.stas
+  pub no_sta : AllByRecursion (λ (s : ListedSta). s.address ≢ address) d.stas
 
 -- an access point can be listed so
 pub record CanListAp (d : Domain) (address : Mac) (r0kh_id : List ℕ) : Type 0 where
@@ -98,24 +98,12 @@ pub record CanListAp (d : Domain) (address : Mac) (r0kh_id : List ℕ) : Type 0 
   pub some : 1 ≤ length r0kh_id
   pub few : length r0kh_id ≤ 48
   pub other : AllByRecursion (λ (a : ListedAp). a.r0kh_id ≢ r0kh_id) d.aps
-  pub room : length d.aps < 16
+  pub room : length d.aps < most_aps
 
 -- and a station so
 pub record CanListSta (d : Domain) (address : Mac) : Type 0 where
   pub address_ : IsFreeAddress d address
-  pub room : length d.stas < 64
-
--- the nodes of an event are listed, and of its frame, that was sent, so much is asked as there is
-abbrev pub IsListedIn : Domain → Node → Type 0
-IsListedIn d (Ap k) = k < length d.aps
-IsListedIn d (Sta k) = k < length d.stas
-
--- the node sends to that one: it is listed and of the other kind, and to all only access points send
-abbrev pub IsReceiverIn : Domain → Node → Peer → Type 0
-IsReceiverIn d (Ap k) All = Unit {0}
-IsReceiverIn d (Ap k) (One (Sta i)) = i < length d.stas
-IsReceiverIn d (Sta k) (One (Ap i)) = i < length d.aps
-IsReceiverIn d n q = ⊥
+  pub room : length d.stas < most_stas
 
 -- the frame of that number was sent with that many octets at least
 pub record IsSized (sizes : List ℕ) (number size : ℕ) : Type 0 where
@@ -125,19 +113,9 @@ pub record IsSized (sizes : List ℕ) (number size : ℕ) : Type 0 where
   pub is : size_of sizes number ≡ Some whole
   pub within : size ≤ whole
 
+-- the nodes of an event are listed, and of its frame, that was sent, so much is asked as there is
 abbrev pub CanHappen : Domain → List ℕ → Event → Type 0
-CanHappen d sizes (Connect s a) = (s < length d.stas) × (a < length d.aps)
-CanHappen d sizes (Roam s a) = (s < length d.stas) × (a < length d.aps) × (d.akm ≡ FtPsk)
-CanHappen d sizes (Deliver number to) = IsListedIn d to × IsSized sizes number 0
-CanHappen d sizes (Alter number place mask to) = IsListedIn d to × IsSized sizes number (suc place)
-CanHappen d sizes (Cut number size to) = IsListedIn d to × IsSized sizes number size
-CanHappen d sizes (Inject to octets) = IsListedIn d to
-CanHappen d sizes (Retry a s) = (a < length d.aps) × (s < length d.stas)
-CanHappen d sizes (Rekey a) = a < length d.aps
-CanHappen d sizes (Send from to tid octets) = IsListedIn d from × IsReceiverIn d from to × (length octets ≤ 2304)
-CanHappen d sizes (Expire a s) = (a < length d.aps) × (s < length d.stas)
-CanHappen d sizes (Revoke a s) = (a < length d.aps) × (s < length d.stas)
-CanHappen d sizes (Leave s) = s < length d.stas
+CanHappen d sizes = IsEventOf d (IsSized sizes)
 
 -- the event is one at an access point, so that it can stand in a round
 abbrev pub IsAtAp : Event → Type 0
@@ -153,21 +131,21 @@ IsAtAp (Revoke a s) = Unit {0}
 IsAtAp event = ⊥
 
 -- an event that is a round by itself, where so few frames were sent that they have numbers, or one in the open round, which
--- has less than 256 so far
+-- has room for it
 abbrev pub CanAskFor : Draft → List ℕ → Event → Type 0
-CanAskFor (AtNodes d) sizes event = CanHappen d sizes event × (length sizes ≤ 65535)
-CanAskFor (InRound d count) sizes event = CanHappen d sizes event × (IsAtAp event × (count < 256))
+CanAskFor (AtNodes h) sizes event = CanHappen h.network sizes event × (length sizes ≤ most_frames)
+CanAskFor (InRound h count) sizes event = CanHappen h.network sizes event × (IsAtAp event × (count < most_events))
 CanAskFor draft sizes event = ⊥
 
 -- what a step says, and what can be done with it; the header is whole with one line only, so with `Network` it was not before
 abbrev pub TakesStep : Draft → Draft → ℕ → List ℕ → Result Said Fault → Step → Type 0
 TakesStep old new rounds sizes says step.Nothing = (says ≡ Ok (Goes new)) × IsHeaderStep old new
-TakesStep old new rounds sizes says step.Network = (d : Domain) × ((says ≡ Ok (Goes new)) × ((new ≡ AtNodes d) × (IsNetwork d × ((e : Domain) → old ≢ AtNodes e))))
-TakesStep old new rounds sizes says (step.Ap a id) = (d : Domain) × ((says ≡ Ok (ListsAp a id)) × ((old ≡ AtNodes d) × (CanListAp d a id × ((d.stas ≡ []) × (rounds ≡ 0)))))
-TakesStep old new rounds sizes says (step.Sta a) = (d : Domain) × ((says ≡ Ok (ListsSta a)) × ((old ≡ AtNodes d) × (CanListSta d a × (rounds ≡ 0))))
+TakesStep old new rounds sizes says step.Network = (h : Header) × ((says ≡ Ok (Goes new)) × ((new ≡ AtNodes h) × (IsNetwork h.network × ((e : Header) → old ≢ AtNodes e))))
+TakesStep old new rounds sizes says (step.Ap a id) = (h : Header) × ((says ≡ Ok (ListsAp a id)) × ((old ≡ AtNodes h) × (CanListAp h.network a id × ((h.network.stas ≡ []) × (rounds ≡ 0)))))
+TakesStep old new rounds sizes says (step.Sta a psk) = (h : Header) × ((says ≡ Ok (ListsSta a psk)) × ((old ≡ AtNodes h) × (CanListSta h.network a × (rounds ≡ 0))))
 TakesStep old new rounds sizes says (step.Event e) = (says ≡ Ok (Asks e)) × CanAskFor old sizes e
-TakesStep old new rounds sizes says step.Round = (d : Domain) × ((says ≡ Ok BeginsRound) × ((old ≡ AtNodes d) × (length sizes ≤ 65535)))
-TakesStep old new rounds sizes says step.End = (d : Domain) × ((count : ℕ) × ((says ≡ Ok EndsRound) × (old ≡ InRound d count)))
+TakesStep old new rounds sizes says step.Round = (h : Header) × ((says ≡ Ok BeginsRound) × ((old ≡ AtNodes h) × (length sizes ≤ most_frames)))
+TakesStep old new rounds sizes says step.End = (h : Header) × ((count : ℕ) × ((says ≡ Ok EndsRound) × (old ≡ InRound h count)))
 TakesStep old new rounds sizes says step.Draw = ⊥
 TakesStep old new rounds sizes says step.Turn = ⊥
 
@@ -188,9 +166,9 @@ ReadsLine old new sizes line (Err NoMemory) = (new.draft ≡ old.draft) × (new.
 -- of their links, which counts as one round, or it says what it says in a replay
 abbrev pub HasHeard : Reading → Reading → List ℕ → List ℕ → Step → Type 0
 HasHeard old new sizes line step.Draw =
-    (live_says old.draft old.rounds sizes line ≡ Ok Draws) × ((old.draft ≡ AtSeed) × ((new.draft ≡ old.draft) × (new.rounds ≡ old.rounds)))
+    (live_says old.draft old.rounds sizes line ≡ Ok Draws) × (IsSeedDue old.draft × ((new.draft ≡ old.draft) × (new.rounds ≡ old.rounds)))
 HasHeard old new sizes line step.Turn =
-    (d : Domain) × ((live_says old.draft old.rounds sizes line ≡ Ok Turns) × ((old.draft ≡ AtNodes d) × ((length sizes ≤ 65535) × ((new.draft ≡ old.draft) × (new.rounds ≡ suc old.rounds)))))
+    (h : Header) × ((live_says old.draft old.rounds sizes line ≡ Ok Turns) × ((old.draft ≡ AtNodes h) × ((length sizes ≤ most_frames) × ((new.draft ≡ old.draft) × (new.rounds ≡ suc old.rounds)))))
 HasHeard old new sizes line s = (live_says old.draft old.rounds sizes line ≡ plain (line_says old.draft old.rounds sizes line)) × HasRead old new sizes line s
 
 abbrev pub HearsLine : Reading → Reading → List ℕ → List ℕ → Result Step Untaken → Type 0
@@ -223,6 +201,6 @@ TakesIn Live old new sizes line answer = TakesLive old new sizes line answer
 
 -- the network, once the header is whole
 abbrev pub IsDomain : Draft → Option Domain → Type 0
-IsDomain (AtNodes d) o = o ≡ Some d
-IsDomain (InRound d count) o = o ≡ Some d
+IsDomain (AtNodes h) o = o ≡ Some h.network
+IsDomain (InRound h count) o = o ≡ Some h.network
 IsDomain draft o = o ≡ None

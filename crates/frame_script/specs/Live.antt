@@ -1,7 +1,9 @@
 -- What the lines of a script say in a live run, where frames come by the nodes' links (this project's choice).
 use Rattle.std.specs.Prelude.{ℕ, nat_le, if◌then◌else◌, Bool, true, List, length, bytes_eq, codes, Option, None, Some, Result, Ok, Err}
+use Rattle.run_journal.specs.Limits.{most_frames}
+use Rattle.frame_script.specs.declared.header.HeaderLine.TheVariants as due
 use Rattle.frame_script.specs.Tokens.{first_word}
-use Rattle.frame_script.specs.Script.{Fault, arguments, mode, many_frames, Draft, AtSeed, AtNodes, InRound, Said, line_says}
+use Rattle.frame_script.specs.Script.{Fault, arguments, mode, many_frames, Draft, AtHeader, AtNodes, InRound, Said, line_says}
 
 -- what a line says
 pub data Heard : Type 0 where
@@ -25,7 +27,7 @@ own_word word = if brings word then Some (Err mode) else None
 
 -- `turn` stands outside rounds, where no more frames were sent than a run can number; behind it stands nothing
 abbrev pub turn_line : List ℕ → Result Heard Fault
-turn_line sizes = if nat_le (length sizes) 65535 then Ok Turns else Err many_frames
+turn_line sizes = if nat_le (length sizes) most_frames then Ok Turns else Err many_frames
 
 abbrev pub own_line : List ℕ → List ℕ → List ℕ → Option (Result Heard Fault)
 own_line sizes line word =
@@ -35,9 +37,9 @@ own_line sizes line word =
 
 -- what a line says that has not the meaning that it has in a replay, after a script has said so much
 unfoldable pub own_says : Draft → List ℕ → List ℕ → Option (Result Heard Fault)
-own_says AtSeed sizes line = if bytes_eq line (codes "seed draw") then Some (Ok Draws) else None
-own_says (AtNodes d) sizes line = own_line sizes line (first_word line).0
-own_says (InRound d count) sizes line = own_word (first_word line).0
+own_says (AtHeader due.Seed h) sizes line = if bytes_eq line (codes "seed draw") then Some (Ok Draws) else None
+own_says (AtNodes h) sizes line = own_line sizes line (first_word line).0
+own_says (InRound h count) sizes line = own_word (first_word line).0
 own_says draft sizes line = None
 
 abbrev pub plain : Result Said Fault → Result Heard Fault

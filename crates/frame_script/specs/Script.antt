@@ -1,5 +1,5 @@
 -- What the lines of a script say (this project's choice).
-use Rattle.std.specs.Prelude.{ℕ, suc, ◌%◌, ◌-◌, ◌==◌, ◌&&◌, not, Bool, true, false, nat_lt, nat_le, if◌then◌else◌, List, [], ◌∷◌, length, slice_index, bytes_eq, codes, Option, None, Some, option_map, option_and_then, Result, Ok, Err}
+use Rattle.std.specs.Prelude.{ℕ, suc, ◌%◌, ◌-◌, ◌==◌, ◌&&◌, not, Bool, true, false, nat_lt, nat_le, if◌then◌else◌, List, [], ◌∷◌, length, replicate, slice_index, bytes_eq, codes, Option, None, Some, option_map, option_and_then, Result, Ok, Err}
 use Rattle.std.specs.List.{list_any}
 use Rattle.domain_base.specs.declared.names.Akm.{Akm}
 use Rattle.domain_base.specs.declared.names.Akm.TheVariants.{Psk, PskSha256, FtPsk}
@@ -10,10 +10,17 @@ use Rattle.domain_base.specs.declared.names.Peer.{Peer}
 use Rattle.domain_base.specs.declared.names.Peer.TheVariants.{One, All}
 use Rattle.mac_prf.specs.Pbkdf2.{pbkdf2}
 use Rattle.run_journal.specs.declared.domain.Domain.{Domain}
+use Rattle.run_journal.specs.Limits.{most_aps, most_stas, most_events, most_frames, most_octets}
+use Rattle.run_journal.specs.Events.{most_payload}
 use Rattle.run_journal.specs.Listing.{with_ap, with_sta}
+use Rattle.run_journal.specs.declared.domain.Version.TheVariants.{One as First}
 use Rattle.run_journal.specs.declared.domain.ListedAp.{ListedAp}
+use Rattle.run_journal.specs.declared.domain.ListedSta.{ListedSta}
 use Rattle.run_journal.specs.declared.domain.Event.{Event}
 use Rattle.run_journal.specs.declared.domain.Event.TheVariants.{Connect, Roam, Deliver, Alter, Cut, Inject, Retry, Rekey, Send, Expire, Revoke, Leave}
+use Rattle.frame_script.specs.declared.header.Header.{Header}
+use Rattle.frame_script.specs.declared.header.HeaderLine.{HeaderLine}
+use Rattle.frame_script.specs.declared.header.HeaderLine.TheVariants as due
 use Rattle.frame_script.specs.Tokens.{NodeWord, PeerWord, ToAll, ToOne, behind, split_word, first_word, hex_octets, some_octets, number_of_digits, node_word, peer_word, tid_word, is_text}
 
 -- ---- why a line is refused
@@ -94,17 +101,54 @@ need fault (Some a) = Ok a
 
 -- ---- the header
 
--- what a script has said so far: which line of the header is due, and from its end on the network with the nodes listed; in a
--- round how many events it has so far
+-- what a script has said so far: nothing; what its header said and which line of it is due; from its end on the header with the
+-- nodes listed in its network; and in a round how many events it has so far
 pub data Draft : Type 0 where
   AtVersion : Draft
-  AtSeed : Draft
-  AtSsid : (seed : List ℕ) → Draft
-  AtPsk : (seed ssid : List ℕ) → Draft
-  AtAkm : (seed ssid psk : List ℕ) → Draft
-  AtMdid : (seed ssid psk : List ℕ) → Draft
-  AtNodes : Domain → Draft
-  InRound : Domain → (count : ℕ) → Draft
+  AtHeader : (awaited : HeaderLine) (h : Header) → Draft
+  AtNodes : (h : Header) → Draft
+  InRound : (h : Header) (count : ℕ) → Draft
+
+-- a header that said its version alone
+abbrev pub no_nodes : Domain
+no_nodes = record {
+  seed = replicate 32 0;
+  ssid = [];
+  akm = Psk;
+  mdid = 0 ∷ 0 ∷ [];
+  extras = record { version = First };
+  aps = [];
+  stas = [];
+}
+
+abbrev pub blank : Header
+blank = record { psk = replicate 32 0; network = no_nodes }
+
+-- and what each further line tells
+abbrev pub with_seed : Header → List ℕ → Header
+with_seed h seed = record h { network = record h.network { seed = seed } }
+
+abbrev pub with_ssid : Header → List ℕ → Header
+with_ssid h ssid = record h { network = record h.network { ssid = ssid } }
+
+abbrev pub with_psk : Header → List ℕ → Header
+with_psk h psk = record h { psk = psk }
+
+abbrev pub with_akm : Header → Akm → Header
+with_akm h akm = record h { network = record h.network { akm = akm } }
+
+abbrev pub with_mdid : Header → List ℕ → Header
+with_mdid h mdid = record h { network = record h.network { mdid = mdid } }
+
+-- whether the seed is due
+abbrev pub IsSeedDue : Draft → Type 0
+IsSeedDue (AtHeader due.Seed h) = Unit {0}
+IsSeedDue draft = ⊥
+
+-- and what the script said once it is drawn
+abbrev pub seeded : Draft → List ℕ → Draft
+seeded (AtHeader awaited h) seed = AtHeader due.Ssid (with_seed h seed)
+seeded draft seed = draft
 
 -- 64 hexadecimal digits, or `draw`, which only a live run has
 unfoldable pub seed_of : List ℕ → Result (List ℕ) Fault
@@ -143,23 +187,11 @@ is_transition FtPsk = true
 is_transition Psk = false
 is_transition PskSha256 = false
 
--- the network of a header, without nodes
-abbrev pub new_network : List ℕ → List ℕ → List ℕ → Akm → List ℕ → Domain
-new_network seed ssid psk akm mdid = record {
-  seed = seed;
-  ssid = ssid;
-  psk = psk;
-  akm = akm;
-  mdid = mdid;
-  aps = [];
-  stas = [];
-}
-
 -- with the suite the header is whole; with that of fast transition once the mobility domain is told
-abbrev pub after_suite : List ℕ → List ℕ → List ℕ → Akm → Draft
-after_suite seed ssid psk FtPsk = AtMdid seed ssid psk
-after_suite seed ssid psk Psk = AtNodes (new_network seed ssid psk Psk (0 ∷ 0 ∷ []))
-after_suite seed ssid psk PskSha256 = AtNodes (new_network seed ssid psk PskSha256 (0 ∷ 0 ∷ []))
+abbrev pub after_suite : Header → Akm → Draft
+after_suite h FtPsk = AtHeader due.Mdid (with_akm h FtPsk)
+after_suite h Psk = AtNodes (with_akm h Psk)
+after_suite h PskSha256 = AtNodes (with_akm h PskSha256)
 
 -- ---- the nodes
 
@@ -174,7 +206,7 @@ is_same address other = bytes_eq address.0 other.0
 -- whether a listed node has the address
 unfoldable pub is_used : Domain → Mac → Bool
 is_used d address = if list_any (λ (a : ListedAp). is_same a.address address) d.aps then true else
-    list_any (λ (m : Mac). is_same m address) d.stas
+    list_any (λ (s : ListedSta). is_same s.address address) d.stas
 
 -- whether a listed access point has the R0KH-ID
 unfoldable pub is_used_id : Domain → List ℕ → Bool
@@ -191,7 +223,7 @@ pub data Said : Type 0 where
   -- what the script has said so far is this now
   Goes : Draft → Said
   ListsAp : (address : Mac) (r0kh_id : List ℕ) → Said
-  ListsSta : (address : Mac) → Said
+  ListsSta : (address : Mac) (psk : List ℕ) → Said
   Asks : Event → Said
   BeginsRound : Said
   EndsRound : Said
@@ -199,7 +231,7 @@ pub data Said : Type 0 where
 -- `ap`, an address, and an R0KH-ID of 1 to 48 octets with codes from 33 to 126
 unfoldable pub new_ap : Domain → Mac → List ℕ → Result Said Fault
 new_ap d address r0kh_id =
-    if nat_le 16 (length d.aps) then Err many_aps
+    if nat_le most_aps (length d.aps) then Err many_aps
     else if is_used d address then Err duplicate
     else if is_used_id d r0kh_id then Err duplicate
     else Ok (ListsAp address r0kh_id)
@@ -210,17 +242,17 @@ ap_line d text = do
   address ← address_of words.0
   if is_text 48 33 words.1 then new_ap d address words.1 else Err arguments
 
--- `sta`, and an address
-unfoldable pub new_sta : Domain → Mac → Result Said Fault
-new_sta d address =
-    if nat_le 64 (length d.stas) then Err many_stas
+-- `sta`, and an address; the station has the header's key
+unfoldable pub new_sta : Domain → Mac → List ℕ → Result Said Fault
+new_sta d address psk =
+    if nat_le most_stas (length d.stas) then Err many_stas
     else if is_used d address then Err duplicate
-    else Ok (ListsSta address)
+    else Ok (ListsSta address psk)
 
-unfoldable pub sta_line : Domain → List ℕ → Result Said Fault
-sta_line d text = do
+unfoldable pub sta_line : Header → List ℕ → Result Said Fault
+sta_line h text = do
   address ← address_of text
-  new_sta d address
+  new_sta h.network address h.psk
 
 -- ---- the events
 
@@ -324,11 +356,11 @@ octets_within most fault text = do
 
 -- octets that are not too many for a frame
 abbrev pub frame_octets : List ℕ → Result (List ℕ) Fault
-frame_octets text = octets_within 2400 long_frame text
+frame_octets text = octets_within most_octets long_frame text
 
 -- and not too many for a payload (IEEE Std 802.11-2020, 9.2.4.8.1)
 abbrev pub payload_octets : List ℕ → Result (List ℕ) Fault
-payload_octets text = octets_within 2304 long_payload text
+payload_octets text = octets_within most_payload long_payload text
 
 -- `inject`, a node and octets, at most 2400
 unfoldable pub inject_line : Domain → Bool → List ℕ → Result Event Fault
@@ -436,13 +468,13 @@ event_of d within sizes word text =
 unfoldable pub event_line : Domain → List ℕ → List ℕ → List ℕ → Result Said Fault
 event_line d sizes word text = do
   event ← event_of d false sizes word text
-  if nat_le (length sizes) 65535 then Ok (Asks event) else Err many_frames
+  if nat_le (length sizes) most_frames then Ok (Asks event) else Err many_frames
 
 -- an event in a round that has so many, where it is not one too many
 unfoldable pub part_line : Domain → ℕ → List ℕ → List ℕ → List ℕ → Result Said Fault
 part_line d count sizes word text = do
   event ← event_of d true sizes word text
-  if nat_lt count 256 then Ok (Asks event) else Err many_events
+  if nat_lt count most_events then Ok (Asks event) else Err many_events
 
 -- ---- a line
 
@@ -452,24 +484,24 @@ is_passed_over [] = true
 is_passed_over (c ∷ line) = c == 35
 
 -- the line that is due in the header, by its first word and what stands behind it
-unfoldable pub header_line : Draft → List ℕ → List ℕ → Result Draft Fault
-header_line AtSeed word text = if bytes_eq word (codes "seed") then seed_of text >>= (λ seed. Ok (AtSsid seed)) else Err word_
-header_line (AtSsid seed) word text = if bytes_eq word (codes "ssid") then ssid_of text >>= (λ ssid. Ok (AtPsk seed ssid)) else Err word_
-header_line (AtPsk seed ssid) word text = psk_of ssid word text >>= (λ psk. Ok (AtAkm seed ssid psk))
-header_line (AtAkm seed ssid psk) word text =
-    if bytes_eq word (codes "akm") then akm_of text >>= (λ akm. Ok (after_suite seed ssid psk akm)) else Err word_
-header_line (AtMdid seed ssid psk) word text =
-    if bytes_eq word (codes "mdid") then mdid_of text >>= (λ mdid. Ok (AtNodes (new_network seed ssid psk FtPsk mdid))) else Err word_
-header_line draft word text = Err word_
+unfoldable pub header_line : HeaderLine → Header → List ℕ → List ℕ → Result Draft Fault
+header_line due.Seed h word text =
+    if bytes_eq word (codes "seed") then seed_of text >>= (λ seed. Ok (AtHeader due.Ssid (with_seed h seed))) else Err word_
+header_line due.Ssid h word text =
+    if bytes_eq word (codes "ssid") then ssid_of text >>= (λ ssid. Ok (AtHeader due.Psk (with_ssid h ssid))) else Err word_
+header_line due.Psk h word text = psk_of h.network.ssid word text >>= (λ psk. Ok (AtHeader due.Akm (with_psk h psk)))
+header_line due.Akm h word text = if bytes_eq word (codes "akm") then akm_of text >>= (λ akm. Ok (after_suite h akm)) else Err word_
+header_line due.Mdid h word text =
+    if bytes_eq word (codes "mdid") then mdid_of text >>= (λ mdid. Ok (AtNodes (with_mdid h mdid))) else Err word_
 
 -- a line behind the header, outside rounds: access points are listed before stations, and both before any round; behind
 -- `round` stands nothing
-unfoldable pub body_line : Domain → ℕ → List ℕ → List ℕ → List ℕ → Result Said Fault
-body_line d rounds sizes word text =
-    if bytes_eq word (codes "ap") then (if length d.stas == 0 && rounds == 0 then ap_line d text else Err word_)
-    else if bytes_eq word (codes "sta") then (if rounds == 0 then sta_line d text else Err word_)
+unfoldable pub body_line : Header → ℕ → List ℕ → List ℕ → List ℕ → Result Said Fault
+body_line h rounds sizes word text =
+    if bytes_eq word (codes "ap") then (if length h.network.stas == 0 && rounds == 0 then ap_line h.network text else Err word_)
+    else if bytes_eq word (codes "sta") then (if rounds == 0 then sta_line h text else Err word_)
     else if bytes_eq word (codes "round") then Err arguments
-    else event_line d sizes word text
+    else event_line h.network sizes word text
 
 -- a line in a round that has so many events; behind `end` stands nothing
 unfoldable pub inner_line : Domain → ℕ → List ℕ → List ℕ → List ℕ → Result Said Fault
@@ -479,69 +511,69 @@ inner_line d count sizes word text =
 
 -- the line that begins a round, or ends the one that is open
 abbrev pub is_border : Draft → List ℕ → Bool
-is_border (AtNodes d) line = bytes_eq line (codes "round")
-is_border (InRound d count) line = bytes_eq line (codes "end")
+is_border (AtNodes h) line = bytes_eq line (codes "round")
+is_border (InRound h count) line = bytes_eq line (codes "end")
 is_border draft line = false
 
 -- a round begins where no more frames were sent than a run can number
 abbrev pub border_line : Draft → List ℕ → Result Said Fault
-border_line (AtNodes d) sizes = if nat_le (length sizes) 65535 then Ok BeginsRound else Err many_frames
-border_line (InRound d count) sizes = Ok EndsRound
+border_line (AtNodes h) sizes = if nat_le (length sizes) most_frames then Ok BeginsRound else Err many_frames
+border_line (InRound h count) sizes = Ok EndsRound
 border_line draft sizes = Err word_
 
 -- what a line without its end says, after a script has said so much, when so many rounds were run and frames of these sizes
 -- sent; in a round these are those that were sent before it
 unfoldable pub line_says : Draft → ℕ → List ℕ → List ℕ → Result Said Fault
-line_says AtVersion rounds sizes line = if bytes_eq line (codes "domain 1") then Ok (Goes AtSeed) else Err version_
-line_says (AtNodes d) rounds sizes line =
-    if is_passed_over line then Ok (Goes (AtNodes d)) else
-    if is_border (AtNodes d) line then border_line (AtNodes d) sizes else
-    body_line d rounds sizes (first_word line).0 (first_word line).1
-line_says (InRound d count) rounds sizes line =
-    if is_passed_over line then Ok (Goes (InRound d count)) else
-    if is_border (InRound d count) line then border_line (InRound d count) sizes else
-    inner_line d count sizes (first_word line).0 (first_word line).1
-line_says draft rounds sizes line =
-    if is_passed_over line then Ok (Goes draft) else
-    header_line draft (first_word line).0 (first_word line).1 >>= (λ next. Ok (Goes next))
+line_says AtVersion rounds sizes line = if bytes_eq line (codes "domain 1") then Ok (Goes (AtHeader due.Seed blank)) else Err version_
+line_says (AtHeader awaited h) rounds sizes line =
+    if is_passed_over line then Ok (Goes (AtHeader awaited h)) else
+    header_line awaited h (first_word line).0 (first_word line).1 >>= (λ next. Ok (Goes next))
+line_says (AtNodes h) rounds sizes line =
+    if is_passed_over line then Ok (Goes (AtNodes h)) else
+    if is_border (AtNodes h) line then border_line (AtNodes h) sizes else
+    body_line h rounds sizes (first_word line).0 (first_word line).1
+line_says (InRound h count) rounds sizes line =
+    if is_passed_over line then Ok (Goes (InRound h count)) else
+    if is_border (InRound h count) line then border_line (InRound h count) sizes else
+    inner_line h.network count sizes (first_word line).0 (first_word line).1
 
 -- why the script may not end there: no line came, or a round is open
 abbrev pub end_fault : Draft → Option Fault
 end_fault AtVersion = Some version_
-end_fault (InRound d count) = Some unclosed
+end_fault (InRound h count) = Some unclosed
 end_fault draft = None
 
 -- ---- what the lines together have said
 
 abbrev pub listing : Draft → (Domain → Domain) → Draft
-listing (AtNodes d) f = AtNodes (f d)
+listing (AtNodes h) f = AtNodes (record h { network = f h.network })
 listing draft f = draft
 
 -- a round has one event more
 abbrev pub with_event : Draft → Draft
-with_event (InRound d count) = InRound d (suc count)
+with_event (InRound h count) = InRound h (suc count)
 with_event draft = draft
 
 -- a round is open, without events
 abbrev pub begun : Draft → Draft
-begun (AtNodes d) = InRound d 0
+begun (AtNodes h) = InRound h 0
 begun draft = draft
 
 -- and closed
 abbrev pub ended : Draft → Draft
-ended (InRound d count) = AtNodes d
+ended (InRound h count) = AtNodes h
 ended draft = draft
 
 abbrev pub said_after : Draft → Said → Draft
 said_after draft (Goes next) = next
 said_after draft (ListsAp address r0kh_id) = listing draft (λ d. with_ap d address r0kh_id)
-said_after draft (ListsSta address) = listing draft (λ d. with_sta d address)
+said_after draft (ListsSta address psk) = listing draft (λ d. with_sta d address psk)
 said_after draft (Asks event) = with_event draft
 said_after draft BeginsRound = begun draft
 said_after draft EndsRound = ended draft
 
 abbrev pub is_within : Draft → Bool
-is_within (InRound d count) = true
+is_within (InRound h count) = true
 is_within draft = false
 
 -- an event outside a round is one by itself, and a round counts once it ends, whatever events it has

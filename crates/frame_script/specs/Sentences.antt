@@ -1,6 +1,9 @@
 -- What the code keeps of a line between its words and its step.
 use Rattle.std.specs.Prelude.{◌≡◌, ℕ, suc, ◌<◌, ◌≤◌, ◌&&◌, Bool, true, false, nat_le, if◌then◌else◌, IsTrue, List, [], length, unwrap_or, is_some, Result, Ok, Err, MatchResult}
+use Rattle.run_journal.specs.Limits.{most_aps, most_stas, most_events, most_frames}
+use Rattle.run_journal.specs.Events.{IsListed}
 use Rattle.run_journal.specs.declared.domain.Domain.{Domain}
+use Rattle.run_journal.specs.declared.domain.ListedSta.{ListedSta}
 use Rattle.run_journal.specs.declared.domain.Event.{Event}
 use Rattle.run_journal.specs.declared.domain.Event.TheVariants.{Inject, Send}
 use Rattle.frame_script.specs.declared.reader.Mode.{Mode}
@@ -11,7 +14,9 @@ use Rattle.frame_script.specs.declared.refusal.Refusal.{Refusal}
 use Rattle.frame_script.specs.declared.refusal.Untaken.{Untaken}
 use Rattle.frame_script.specs.declared.refusal.Untaken.TheVariants as untaken
 use Rattle.frame_script.specs.declared.header.Due.{Due}
-use Rattle.frame_script.specs.declared.header.Due.TheVariants.{Nodes, Round}
+use Rattle.frame_script.specs.declared.header.Due.TheVariants as dues
+use Rattle.frame_script.specs.declared.header.Header.{Header}
+use Rattle.frame_script.specs.declared.header.HeaderLine.{HeaderLine}
 use Rattle.frame_script.specs.declared.tokens.NodeName.{NodeName}
 use Rattle.frame_script.specs.declared.tokens.NodeName.TheVariants.{Ap, Sta}
 use Rattle.frame_script.specs.declared.tokens.PeerName.{PeerName}
@@ -25,9 +30,9 @@ use Rattle.frame_script.specs.declared.body.Sentence.TheVariants as says
 use Rattle.frame_script.specs.Due.{is_fit}
 use Rattle.frame_script.specs.Refusals.{fault_of}
 use Rattle.frame_script.specs.Tokens.{NodeWord, PeerWord, ToAll, ToOne, named, hex_value}
-use Rattle.frame_script.specs.Script.{Fault, ◌>>=◌, Draft, AtVersion, AtSeed, AtNodes, InRound, Said, Goes, ListsAp, ListsSta, Asks, header_line, body_line, inner_line, line_says, said_after}
+use Rattle.frame_script.specs.Script.{Fault, ◌>>=◌, word_, Draft, IsSeedDue, AtVersion, AtHeader, AtNodes, InRound, Said, Goes, ListsAp, ListsSta, Asks, header_line, body_line, inner_line, line_says, said_after}
 use Rattle.frame_script.specs.Live.{Heard, Draws, Turns, plain, live_says}
-use Rattle.frame_script.specs.Headers.{Reading, CanListAp, CanListSta, CanHappen, IsAtAp, IsHeaderStep, IsListedIn, IsNetwork, TakesStep}
+use Rattle.frame_script.specs.Headers.{Reading, CanListAp, CanListSta, CanHappen, IsAtAp, IsHeaderStep, IsNetwork, TakesStep}
 
 -- what is found is what is meant
 abbrev pub TellsBy : {A B : Type 0} → (A → B) → Result A Refusal → Result B Fault → Type 0
@@ -55,42 +60,47 @@ event_of (asked.Event event) = event
 event_of (asked.Inject to digits) = Inject to (octets_of digits.now)
 event_of (asked.Send from to tid digits) = Send from to tid (octets_of digits.now)
 
+abbrev pub lists_sta : ListedSta → Said
+lists_sta s = ListsSta s.address s.psk
+
 abbrev pub said_of : Sentence → Said
 said_of (says.Ap address r0kh_id) = ListsAp address r0kh_id.now
-said_of (says.Sta address) = ListsSta address
+said_of (says.Sta s) = lists_sta s
 said_of (says.Asks a) = Asks (event_of a)
 
 -- it can be asked in the network, and digits are digits
 abbrev pub CanAsk : Domain → List ℕ → Asked → Type 0
 CanAsk d sizes (asked.Event event) = CanHappen d sizes event
-CanAsk d sizes (asked.Inject to digits) = IsListedIn d to × IsTrue (is_some (hex_value digits.now))
+CanAsk d sizes (asked.Inject to digits) = IsListed d to × IsTrue (is_some (hex_value digits.now))
 CanAsk d sizes (asked.Send from to tid digits) =
     IsTrue (is_some (hex_value digits.now)) × CanHappen d sizes (Send from to tid (octets_of digits.now))
 
 -- and can be said of it, behind so many rounds and frames of these sizes
 abbrev pub CanSay : Domain → ℕ → List ℕ → Sentence → Type 0
 CanSay d rounds sizes (says.Ap address r0kh_id) = CanListAp d address r0kh_id.now × ((d.stas ≡ []) × (rounds ≡ 0))
-CanSay d rounds sizes (says.Sta address) = CanListSta d address × (rounds ≡ 0)
-CanSay d rounds sizes (says.Asks a) = CanAsk d sizes a × (length sizes ≤ 65535)
+CanSay d rounds sizes (says.Sta s) = CanListSta d s.address × (rounds ≡ 0)
+CanSay d rounds sizes (says.Asks a) = CanAsk d sizes a × (length sizes ≤ most_frames)
 
 -- in a round that has so many events
 abbrev pub CanJoin : Domain → ℕ → List ℕ → Asked → Type 0
-CanJoin d count sizes a = CanHappen d sizes (event_of a) × (IsAtAp (event_of a) × (count < 256))
+CanJoin d count sizes a = CanHappen d sizes (event_of a) × (IsAtAp (event_of a) × (count < most_events))
 
 -- ---- what is kept
 
 -- so few nodes are listed that a number of 16 bits counts them
 abbrev pub is_few : Domain → Bool
-is_few d = nat_le (length d.aps) 16 && nat_le (length d.stas) 64
+is_few d = nat_le (length d.aps) most_aps && nat_le (length d.stas) most_stas
 
--- and a round has 256 events at most
-abbrev pub IsCounted : Due → Type 0
-IsCounted (Nodes domain) = IsTrue (is_few domain)
-IsCounted (Round domain count) = IsTrue (is_few domain) × (count ≤ 256)
-IsCounted due = Unit {0}
+-- a header lists no node before it is whole
+abbrev pub IsAhead : HeaderLine → Header → Type 0
+IsAhead awaited h = IsTrue (is_fit awaited h) × ((h.network.aps ≡ []) × (h.network.stas ≡ []))
 
+-- and a round has so many events at most
 abbrev pub IsKept : Due → Type 0
-IsKept due = IsTrue (is_fit due) × IsCounted due
+IsKept dues.Version = Unit {0}
+IsKept (dues.Header awaited header) = IsAhead awaited header
+IsKept (dues.Nodes header) = IsTrue (is_few header.network)
+IsKept (dues.Round header count) = IsTrue (is_few header.network) × (count ≤ most_events)
 
 -- ---- a line that is taken
 
@@ -108,8 +118,8 @@ heard_of (owns.Refused refusal) = Err (fault_of refusal)
 
 -- in a live run
 abbrev pub TakesHeard : Draft → Draft → ℕ → List ℕ → List ℕ → Result Step Untaken → Type 0
-TakesHeard old new rounds sizes line (Ok step.Draw) = (live_says old rounds sizes line ≡ Ok Draws) × ((old ≡ AtSeed) × (new ≡ old))
-TakesHeard old new rounds sizes line (Ok step.Turn) = (d : Domain) × ((live_says old rounds sizes line ≡ Ok Turns) × ((old ≡ AtNodes d) × ((length sizes ≤ 65535) × (new ≡ old))))
+TakesHeard old new rounds sizes line (Ok step.Draw) = (live_says old rounds sizes line ≡ Ok Draws) × (IsSeedDue old × (new ≡ old))
+TakesHeard old new rounds sizes line (Ok step.Turn) = (h : Header) × ((live_says old rounds sizes line ≡ Ok Turns) × ((old ≡ AtNodes h) × ((length sizes ≤ most_frames) × (new ≡ old))))
 TakesHeard old new rounds sizes line (Ok s) = (live_says old rounds sizes line ≡ plain (line_says old rounds sizes line)) × Takes old new rounds sizes (line_says old rounds sizes line) (Ok s)
 TakesHeard old new rounds sizes line (Err (untaken.Refused refusal)) = (live_says old rounds sizes line ≡ Err (fault_of refusal)) × (new ≡ old)
 TakesHeard old new rounds sizes line (Err untaken.NoMemory) = new ≡ old
@@ -121,17 +131,18 @@ TakesBy Live old new rounds sizes line answer = TakesHeard old new rounds sizes 
 
 -- what a line says that is not passed over, by its first word and what stands behind it
 abbrev pub words_say : Draft → ℕ → List ℕ → List ℕ → List ℕ → Result Said Fault
-words_say (AtNodes d) rounds sizes word text = body_line d rounds sizes word text
-words_say (InRound d count) rounds sizes word text = inner_line d count sizes word text
-words_say draft rounds sizes word text = header_line draft word text >>= (λ next. Ok (Goes next))
+words_say AtVersion rounds sizes word text = Err word_
+words_say (AtHeader awaited h) rounds sizes word text = header_line awaited h word text >>= (λ next. Ok (Goes next))
+words_say (AtNodes h) rounds sizes word text = body_line h rounds sizes word text
+words_say (InRound h count) rounds sizes word text = inner_line h.network count sizes word text
 
 -- a line of the header is
-abbrev pub TakesHeader : Draft → Draft → List ℕ → List ℕ → Result Step Untaken → Type 0
-TakesHeader old new word text (Ok step.Nothing) = (header_line old word text ≡ Ok new) × IsHeaderStep old new
-TakesHeader old new word text (Ok step.Network) = (d : Domain) × ((header_line old word text ≡ Ok new) × ((new ≡ AtNodes d) × IsNetwork d))
-TakesHeader old new word text (Ok _) = ⊥
-TakesHeader old new word text (Err (untaken.Refused refusal)) = (header_line old word text ≡ Err (fault_of refusal)) × (new ≡ old)
-TakesHeader old new word text (Err untaken.NoMemory) = new ≡ old
+abbrev pub TakesHeader : HeaderLine → Header → Draft → List ℕ → List ℕ → Result Step Untaken → Type 0
+TakesHeader awaited h new word text (Ok step.Nothing) = (header_line awaited h word text ≡ Ok new) × IsHeaderStep (AtHeader awaited h) new
+TakesHeader awaited h new word text (Ok step.Network) = (e : Header) × ((header_line awaited h word text ≡ Ok new) × ((new ≡ AtNodes e) × IsNetwork e.network))
+TakesHeader awaited h new word text (Ok _) = ⊥
+TakesHeader awaited h new word text (Err (untaken.Refused refusal)) = (header_line awaited h word text ≡ Err (fault_of refusal)) × (new ≡ AtHeader awaited h)
+TakesHeader awaited h new word text (Err untaken.NoMemory) = new ≡ AtHeader awaited h
 
 -- rounds after a line, in a round or not
 abbrev pub rounds_with : Bool → ℕ → Result Step Untaken → ℕ

@@ -7,18 +7,19 @@ ghost use Rattle.frame_script.specs.declared.reader.Step.TheVariants as steps;
 ghost use Rattle.frame_script.specs.Due.{draft_of};
 ghost use Rattle.frame_script.specs.Headers.{CanListSta};
 ghost use Rattle.run_journal.specs.Listing.{with_ap, with_sta};
-ghost use Rattle.frame_script.specs.Script.{Asks, AtNodes, InRound, ListsSta, ap_line, body_line};
-ghost use Rattle.frame_script.specs.Script.{inner_line, sta_line, word_};
+ghost use Rattle.run_journal.specs.Limits.{most_aps, most_events, most_stas};
+ghost use Rattle.frame_script.specs.Script.{Asks, AtNodes, InRound, ap_line, body_line};
+ghost use Rattle.frame_script.specs.Script.{inner_line, listing, sta_line, word_};
 ghost use Rattle.frame_script.specs.Sentences.{CanAsk, CanJoin, CanSay, IsKept, Takes, TellsBy};
-ghost use Rattle.frame_script.specs.Sentences.{event_of, is_few, octets_of, said_of};
+ghost use Rattle.frame_script.specs.Sentences.{event_of, is_few, lists_sta, octets_of, said_of};
 
 use crate::events::{Asked, event_line, part_line};
-use crate::header::{Due, Taken};
+use crate::header::{Due, Header, Taken};
 use crate::nodes::{ap_line, sta_line};
 use crate::reader::Step;
 use crate::refusal::{Refusal, Untaken};
 use domain_base::{Mac, Octets};
-use run_journal::{Domain, Event, ListedAp};
+use run_journal::{Domain, Event, ListedAp, ListedSta};
 use std::alloc::Global;
 
 /// What a line behind the header says, before memory is taken for it.
@@ -27,7 +28,7 @@ pub(crate) enum Sentence<'a> {
     /// Lists an access point, by its address and its R0KH-ID.
     Ap(Mac, &'a [u8]),
     /// Lists a station.
-    Sta(Mac),
+    Sta(ListedSta),
     /// Asks for an event.
     Asks(Asked<'a>),
 }
@@ -48,13 +49,13 @@ fn early_ap<'a>(domain: &Domain, rounds: u64, text: &'a [u8]) -> Result<Sentence
 }
 
 // A station is listed before events.
-fn early_sta(domain: &Domain, rounds: u64, text: &[u8]) -> Result<Mac, Refusal>
-    ensures can { IfOk result (λ m. CanListSta domain.now m × (rounds ≡ 0)) }
-    ensures says { TellsBy ListsSta result
-        (if rounds == 0 then sta_line domain.now text.now else Err word_) }
+fn early_sta(header: &Header, rounds: u64, text: &[u8]) -> Result<ListedSta, Refusal>
+    ensures can { IfOk result (λ s. CanListSta header.now.network s.address × (rounds ≡ 0)) }
+    ensures says { TellsBy lists_sta result
+        (if rounds == 0 then sta_line header.now text.now else Err word_) }
 {
     if rounds == 0 {
-        sta_line(domain, text)
+        sta_line(header, text)
     } else {
         Err(Refusal::Word)
     }
@@ -63,28 +64,28 @@ fn early_sta(domain: &Domain, rounds: u64, text: &[u8]) -> Result<Mac, Refusal>
 // What the line says, by its first word and what stands behind it.
 #[tactic(auto, unfolding(crate::specs::Script::body_line))]
 fn body_line<'a>(
-    domain: &Domain,
+    header: &Header,
     rounds: u64,
     sizes: &[usize],
     word: &[u8],
     text: &'a [u8],
 ) -> Result<Sentence<'a>, Refusal>
-    requires { IsTrue (is_few domain.now) }
-    ensures can { IfOk result (CanSay domain.now rounds sizes.now) }
+    requires { IsTrue (is_few header.now.network) }
+    ensures can { IfOk result (CanSay header.now.network rounds sizes.now) }
     ensures says { TellsBy said_of result
-        (body_line domain.now rounds sizes.now word.now text.now) }
+        (body_line header.now rounds sizes.now word.now text.now) }
 {
     if word == b"ap".as_slice() {
-        early_ap(domain, rounds, text)
+        early_ap(&header.network, rounds, text)
     } else if word == b"sta".as_slice() {
-        match early_sta(domain, rounds, text) {
-            Ok(address) => Ok(Sentence::Sta(address)),
+        match early_sta(header, rounds, text) {
+            Ok(sta) => Ok(Sentence::Sta(sta)),
             Err(refusal) => Err(refusal),
         }
     } else if word == b"round".as_slice() {
         Err(Refusal::Arguments)
     } else {
-        match event_line(domain, sizes, word, text) {
+        match event_line(&header.network, sizes, word, text) {
             Ok(asked) => Ok(Sentence::Asks(asked)),
             Err(refusal) => Err(refusal),
         }
@@ -92,47 +93,49 @@ fn body_line<'a>(
 }
 
 // Lists an access point.
-fn list_ap(domain: Domain, alloc: Global, address: Mac, r0kh_id: &[u8]) -> Taken
-    requires few { IsTrue (is_few domain) }
-    requires room { length domain.aps < 16 }
+fn list_ap(header: Header, alloc: Global, address: Mac, r0kh_id: &[u8]) -> Taken
+    requires few { IsTrue (is_few header.network) }
+    requires room { length header.network.aps < most_aps }
     ensures kept { IsKept result.0 }
     ensures listed { MatchResult result.1
         (λ s. (s ≡ steps.Ap address r0kh_id.now)
-        × (draft_of result.0 ≡ AtNodes (with_ap domain address r0kh_id.now)))
-        (λ e. (e ≡ untaken.NoMemory) × (draft_of result.0 ≡ AtNodes domain)) }
+        × (draft_of result.0 ≡ listing (AtNodes header) (λ d. with_ap d address r0kh_id.now)))
+        (λ e. (e ≡ untaken.NoMemory) × (draft_of result.0 ≡ AtNodes header)) }
 {
-    let mut domain = domain;
+    let mut header = header;
     let Ok(listed) = Vec::from_slice(alloc, r0kh_id) else {
-        return (Due::Nodes { domain }, Err(Untaken::NoMemory));
+        return (Due::Nodes { header }, Err(Untaken::NoMemory));
     };
     let Ok(said) = Vec::from_slice(alloc, r0kh_id) else {
-        return (Due::Nodes { domain }, Err(Untaken::NoMemory));
+        return (Due::Nodes { header }, Err(Untaken::NoMemory));
     };
     let ap = ListedAp {
         address,
         r0kh_id: Octets(listed),
     };
-    if domain.aps.0.push(ap).is_err() {
-        return (Due::Nodes { domain }, Err(Untaken::NoMemory));
+    if header.network.aps.0.push(ap).is_err() {
+        return (Due::Nodes { header }, Err(Untaken::NoMemory));
     }
     let r0kh_id = Octets(said);
-    (Due::Nodes { domain }, Ok(Step::Ap { address, r0kh_id }))
+    (Due::Nodes { header }, Ok(Step::Ap { address, r0kh_id }))
 }
 
 // Lists a station.
-fn list_sta(domain: Domain, address: Mac) -> Taken
-    requires few { IsTrue (is_few domain) }
-    requires room { length domain.stas < 64 }
+fn list_sta(header: Header, sta: ListedSta) -> Taken
+    requires few { IsTrue (is_few header.network) }
+    requires room { length header.network.stas < most_stas }
     ensures kept { IsKept result.0 }
     ensures listed { MatchResult result.1
-        (λ s. (s ≡ steps.Sta address) × (draft_of result.0 ≡ AtNodes (with_sta domain address)))
-        (λ e. (e ≡ untaken.NoMemory) × (draft_of result.0 ≡ AtNodes domain)) }
+        (λ s. (s ≡ steps.Sta sta.address sta.psk)
+        × (draft_of result.0 ≡ listing (AtNodes header) (λ d. with_sta d sta.address sta.psk)))
+        (λ e. (e ≡ untaken.NoMemory) × (draft_of result.0 ≡ AtNodes header)) }
 {
-    let mut domain = domain;
-    if domain.stas.0.push(address).is_err() {
-        return (Due::Nodes { domain }, Err(Untaken::NoMemory));
+    let mut header = header;
+    if header.network.stas.0.push(sta).is_err() {
+        return (Due::Nodes { header }, Err(Untaken::NoMemory));
     }
-    (Due::Nodes { domain }, Ok(Step::Sta { address }))
+    let ListedSta { address, psk } = sta;
+    (Due::Nodes { header }, Ok(Step::Sta { address, psk }))
 }
 
 // The octets that the digits write.
@@ -171,26 +174,26 @@ fn make_event(alloc: Global, asked: Asked) -> Result<Event, Untaken>
 
 /// Takes a line behind the header, by its first word and what stands behind it.
 pub(crate) fn take_body(
-    domain: Domain,
+    header: Header,
     alloc: Global,
     rounds: u64,
     sizes: &[usize],
     word: &[u8],
     text: &[u8],
 ) -> Taken
-    requires { IsTrue (is_few domain) }
+    requires { IsTrue (is_few header.network) }
     ensures kept { IsKept result.0 }
-    ensures takes { Takes (AtNodes domain) (draft_of result.0) rounds sizes.now
-        (body_line domain rounds sizes.now word.now text.now) result.1 }
+    ensures takes { Takes (AtNodes header) (draft_of result.0) rounds sizes.now
+        (body_line header rounds sizes.now word.now text.now) result.1 }
 {
-    match body_line(&domain, rounds, sizes, word, text) {
-        Ok(Sentence::Ap(address, r0kh_id)) => list_ap(domain, alloc, address, r0kh_id),
-        Ok(Sentence::Sta(address)) => list_sta(domain, address),
+    match body_line(&header, rounds, sizes, word, text) {
+        Ok(Sentence::Ap(address, r0kh_id)) => list_ap(header, alloc, address, r0kh_id),
+        Ok(Sentence::Sta(sta)) => list_sta(header, sta),
         Ok(Sentence::Asks(asked)) => {
             let event = make_event(alloc, asked);
-            (Due::Nodes { domain }, event.map(Step::Event))
+            (Due::Nodes { header }, event.map(Step::Event))
         }
-        Err(refusal) => (Due::Nodes { domain }, Err(Untaken::Refused(refusal))),
+        Err(refusal) => (Due::Nodes { header }, Err(Untaken::Refused(refusal))),
     }
 }
 
@@ -217,27 +220,27 @@ fn inner_line<'a>(
 
 /// Takes a line in a round that has so many events, by its first word and what stands behind it.
 pub(crate) fn take_inner(
-    domain: Domain,
+    header: Header,
     alloc: Global,
     count: u64,
     sizes: &[usize],
     word: &[u8],
     text: &[u8],
 ) -> Taken
-    requires few { IsTrue (is_few domain) }
-    requires room { count ≤ 256 }
+    requires few { IsTrue (is_few header.network) }
+    requires room { count ≤ most_events }
     ensures kept { IsKept result.0 }
-    ensures takes { (rounds : ℕ) → Takes (InRound domain count) (draft_of result.0) rounds sizes.now
-        (inner_line domain count sizes.now word.now text.now) result.1 }
+    ensures takes { (rounds : ℕ) → Takes (InRound header count) (draft_of result.0) rounds sizes.now
+        (inner_line header.network count sizes.now word.now text.now) result.1 }
 {
-    match inner_line(&domain, count, sizes, word, text) {
+    match inner_line(&header.network, count, sizes, word, text) {
         Ok(asked) => match make_event(alloc, asked) {
             Ok(event) => {
                 let count = count + 1;
-                (Due::Round { domain, count }, Ok(Step::Event(event)))
+                (Due::Round { header, count }, Ok(Step::Event(event)))
             }
-            Err(untaken) => (Due::Round { domain, count }, Err(untaken)),
+            Err(untaken) => (Due::Round { header, count }, Err(untaken)),
         },
-        Err(refusal) => (Due::Round { domain, count }, Err(Untaken::Refused(refusal))),
+        Err(refusal) => (Due::Round { header, count }, Err(Untaken::Refused(refusal))),
     }
 }

@@ -7,7 +7,9 @@ ghost use Rattle.run_journal.specs.declared.domain.Domain.{Domain as AnyDomain};
 ghost use Rattle.run_journal.specs.declared.domain.Event.TheVariants as asks;
 ghost use Rattle.domain_base.specs.declared.names.Akm.TheVariants.{FtPsk};
 ghost use Rattle.frame_script.specs.Tokens.{hex_value, number_of_digits, split_word};
-ghost use Rattle.frame_script.specs.Headers.{CanHappen, IsListedIn, IsReceiverIn, IsSized};
+ghost use Rattle.run_journal.specs.Events.{IsListed, IsReceiverOf};
+ghost use Rattle.run_journal.specs.Limits.{most_frames};
+ghost use Rattle.frame_script.specs.Headers.{CanHappen, IsSized};
 ghost use Rattle.frame_script.specs.Refusals.{fault_of};
 ghost use Rattle.frame_script.specs.Script.{Asks, alter_line, connect_line, cut_line, deliver_line};
 ghost use Rattle.frame_script.specs.Script.{event_line, event_node, event_of, frame_octets};
@@ -28,7 +30,7 @@ use crate::tokens::{
     split_word, tid_of,
 };
 use domain_base::{Akm, Node, Peer, Tid};
-use run_journal::{Domain, Event};
+use run_journal::{Domain, Event, MOST_EVENTS, MOST_FRAMES, MOST_OCTETS, MOST_PAYLOAD};
 
 /// What is asked for, before memory is taken for it.
 #[derive(Drop)]
@@ -40,18 +42,6 @@ pub(crate) enum Asked<'a> {
     /// That a node sends a payload, with the TID, if there is one, in digits.
     Send(Node, Peer, Option<Tid>, &'a [u8]),
 }
-
-// The most octets of a frame.
-const MOST_OCTETS: usize = 2400;
-
-// The most octets of a payload.
-const MOST_PAYLOAD: usize = 2304;
-
-/// The most frames that are sent before an event, a round or a turn.
-pub(crate) const MOST_FRAMES: usize = 65535;
-
-// The most events in a round.
-const MOST_EVENTS: u64 = 256;
 
 // The place from 0 of the number from 1, where so many are listed.
 #[tactic(auto, unfolding(crate::specs::Script::place_in))]
@@ -97,7 +87,7 @@ fn listed_sta(domain: &Domain, name: NodeName) -> Option<u16>
 #[tactic(auto, unfolding(crate::specs::Script::listed))]
 fn listed(domain: &Domain, name: NodeName) -> Option<Node>
     requires { IsTrue (is_few domain.now) }
-    ensures inside { IfSome result (IsListedIn domain.now) }
+    ensures inside { IfSome result (IsListed domain.now) }
     ensures value { result ≡ listed domain.now (name_of name) }
 {
     match name {
@@ -110,7 +100,7 @@ fn listed(domain: &Domain, name: NodeName) -> Option<Node>
 #[tactic(auto, unfolding(crate::specs::Script::event_node))]
 fn event_node(domain: &Domain, within: bool, name: NodeName) -> Option<Node>
     requires { IsTrue (is_few domain.now) }
-    ensures inside { IfSome result (IsListedIn domain.now) }
+    ensures inside { IfSome result (IsListed domain.now) }
     ensures value { result ≡ event_node within domain.now (name_of name) }
 {
     match name {
@@ -307,7 +297,7 @@ fn has_place(place: u64, size: usize) -> bool
 
 // A frame that was sent comes to a node with one octet changed, by numbers and the node.
 fn alter(sizes: &[usize], number: u64, place: u64, mask: u8, to: Node) -> Result<Event, Refusal>
-    ensures can { (d : AnyDomain) → IsListedIn d to → IfOk result (CanHappen d sizes.now) }
+    ensures can { (d : AnyDomain) → IsListed d to → IfOk result (CanHappen d sizes.now) }
     ensures says { Tells result
         (need frame_ (size_of sizes.now number) >>=ᴿ (λ size.
         if nat_lt place size then Ok (asks.Alter number place mask to) else Err place_)) }
@@ -533,7 +523,7 @@ fn inject_line<'a>(domain: &Domain, within: bool, text: &'a [u8]) -> Result<Aske
 #[tactic(auto, unfolding(crate::specs::Script::receiver_by))]
 fn receiver_of(domain: &Domain, from: Node, name: PeerName) -> Option<Peer>
     requires { IsTrue (is_few domain.now) }
-    ensures inside { IfSome result (IsReceiverIn domain.now from) }
+    ensures inside { IfSome result (IsReceiverOf domain.now from) }
     ensures value { result ≡ receiver_by domain.now from (peer_of name) }
 {
     match (from, name) {
@@ -859,7 +849,7 @@ pub(crate) fn event_line<'a>(
     text: &'a [u8],
 ) -> Result<Asked<'a>, Refusal>
     requires { IsTrue (is_few domain.now) }
-    ensures can { IfOk result (λ a. CanAsk domain.now sizes.now a × (length sizes.now ≤ 65535)) }
+    ensures can { IfOk result (λ a. CanAsk domain.now sizes.now a × (length sizes.now ≤ most_frames)) }
     ensures says { TellsBy (λ a. Asks (event_asked a)) result
         (event_line domain.now sizes.now word.now text.now) }
 {

@@ -5,10 +5,10 @@ ghost use Rattle.frame_script.specs.declared.forms.Form.TheVariants as forms;
 ghost use Rattle.frame_script.specs.Due.{draft_of};
 ghost use Rattle.frame_script.specs.Script.{is_transition};
 ghost use Rattle.frame_script.specs.Forms.{body_form, event_form, form_in, form_live, form_of};
-ghost use Rattle.frame_script.specs.Forms.{form_text, frame_form, inner_form, is_turn, key_form};
-ghost use Rattle.frame_script.specs.Forms.{late_form, live_form, session_form};
+ghost use Rattle.frame_script.specs.Forms.{form_text, frame_form, header_form, inner_form, is_turn};
+ghost use Rattle.frame_script.specs.Forms.{key_form, late_form, live_form, session_form};
 
-use crate::header::Due;
+use crate::header::{Due, HeaderLine};
 use crate::live::brings;
 use crate::reader::Mode;
 use crate::tokens::first_word;
@@ -271,6 +271,19 @@ fn body_form(domain: &Domain, rounds: u64, word: &[u8]) -> Form
     }
 }
 
+// The form of a line of the header that is due, by its first word.
+fn header_form(line: HeaderLine, word: &[u8]) -> Form
+    ensures { result ≡ header_form line word.now }
+{
+    match line {
+        HeaderLine::Seed => Form::Seed,
+        HeaderLine::Ssid => Form::Ssid,
+        HeaderLine::Psk => key_form(word),
+        HeaderLine::Akm => Form::Akm,
+        HeaderLine::Mdid => Form::Mdid,
+    }
+}
+
 // The form that the line should have had in a replay, where so many rounds were asked for.
 fn form_of(due: &Due, rounds: u64, line: &[u8]) -> Form
     ensures { result ≡ form_of (draft_of due.now) rounds line.now }
@@ -278,12 +291,8 @@ fn form_of(due: &Due, rounds: u64, line: &[u8]) -> Form
     let (word, _) = first_word(line);
     match due {
         Due::Version => Form::Version,
-        Due::Seed => Form::Seed,
-        Due::Ssid { .. } => Form::Ssid,
-        Due::Psk { .. } => key_form(word),
-        Due::Akm { .. } => Form::Akm,
-        Due::Mdid { .. } => Form::Mdid,
-        Due::Nodes { domain } => body_form(domain, rounds, word),
+        Due::Header { line, .. } => header_form(*line, word),
+        Due::Nodes { header } => body_form(&header.network, rounds, word),
         Due::Round { .. } => inner_form(word),
     }
 }

@@ -1,67 +1,67 @@
 //! The lines of a header.
 
-ghost use Rattle.std.specs.Prelude.{◌≡◌, ◌≤◌, ℕ, List, length, IfOk};
-ghost use Rattle.domain_base.specs.declared.names.Akm.TheVariants.{FtPsk};
+ghost use Rattle.std.specs.Prelude.{◌≡◌, ◌≤◌, length, IfOk};
+ghost use Rattle.frame_script.specs.declared.header.Header.{Header as AnyHeader};
+ghost use Rattle.frame_script.specs.declared.header.HeaderLine.TheVariants as awaits;
 ghost use Rattle.frame_script.specs.Due.{draft_of};
-ghost use Rattle.frame_script.specs.Script.{AtAkm, AtMdid, AtNodes, AtPsk, AtSeed, AtSsid};
-ghost use Rattle.frame_script.specs.Script.{after_suite, header_line, new_network, psk_of};
-ghost use Rattle.frame_script.specs.Sentences.{IsKept, TakesHeader, Tells, TellsBy};
+ghost use Rattle.frame_script.specs.Script.{AtHeader, AtNodes, after_suite, blank, header_line};
+ghost use Rattle.frame_script.specs.Script.{psk_of, with_mdid, with_seed, with_ssid};
+ghost use Rattle.frame_script.specs.Sentences.{IsAhead, IsKept, TakesHeader, Tells, TellsBy};
 
 use crate::reader::Step;
 use crate::refusal::{Refusal, Untaken};
 use crate::tokens::{hex_octets, is_text};
 use domain_base::{Akm, Octets};
 use mac_prf::pbkdf2;
-use run_journal::{Aps, Domain, Stas};
+use run_journal::{Aps, Domain, Extras, Stas, Version};
 use std::alloc::Global;
 
-/// Which line of a header is due, and what the lines before it said.
+/// A line of a header behind its first one.
+#[derive(Clone, Copy)]
+pub(crate) enum HeaderLine {
+    /// The seed.
+    Seed,
+    /// The SSID.
+    Ssid,
+    /// The pre-shared key.
+    Psk,
+    /// The suite.
+    Akm,
+    /// The mobility domain, with the suite of fast transition.
+    Mdid,
+}
+
+/// What a header has said so far, and behind it the nodes listed so far.
+#[derive(Drop)]
+pub(crate) struct Header {
+    /// The pre-shared key of the stations that are listed.
+    pub(crate) psk: [u8; 32],
+    /// The network.
+    pub(crate) network: Domain,
+}
+
+/// Which line of a script is due, and what the lines before it said.
 #[derive(Drop)]
 pub(crate) enum Due {
     /// The version of the form.
     Version,
-    /// The seed.
-    Seed,
-    /// The SSID.
-    Ssid {
-        /// The seed.
-        seed: [u8; 32],
+    /// A line of the header.
+    Header {
+        /// Which one.
+        line: HeaderLine,
+        /// What those before it said.
+        header: Header,
     },
-    /// The pre-shared key.
-    Psk {
-        /// The seed.
-        seed: [u8; 32],
-        /// The SSID.
-        ssid: Octets,
-    },
-    /// The suite.
-    Akm {
-        /// The seed.
-        seed: [u8; 32],
-        /// The SSID.
-        ssid: Octets,
-        /// The pre-shared key.
-        psk: [u8; 32],
-    },
-    /// The mobility domain, with the suite of fast transition.
-    Mdid {
-        /// The seed.
-        seed: [u8; 32],
-        /// The SSID.
-        ssid: Octets,
-        /// The pre-shared key.
-        psk: [u8; 32],
-    },
-    /// None: the header is whole.
+    /// Any: the header is whole.
     Nodes {
-        /// The network, with the nodes listed so far.
-        domain: Domain,
+        /// It, with the nodes listed so far.
+        header: Header,
     },
-    /// None: a round is open.
+    /// Any: a round is open.
     Round {
-        /// The network.
-        domain: Domain,
-        /// How many events the round has so far: at most 256.
+        /// The header, with the nodes listed.
+        header: Header,
+        /// How many events the round has so far: at most `MOST_EVENTS`.
         count: u64,
     },
 }
@@ -69,10 +69,32 @@ pub(crate) enum Due {
 /// Which line is due behind this one, and what this one says.
 pub(crate) type Taken = (Due, Result<Step, Untaken>);
 
+/// A header that said its version alone.
+pub(crate) fn blank(alloc: Global) -> Header
+    ensures { result ≡ blank }
+{
+    let network = Domain {
+        seed: [0; 32],
+        ssid: Octets(Vec::new(alloc)),
+        akm: Akm::Psk,
+        mdid: [0, 0],
+        extras: Extras {
+            version: Version::One,
+        },
+        aps: Aps(Vec::new(alloc)),
+        stas: Stas(Vec::new(alloc)),
+    };
+    Header {
+        psk: [0; 32],
+        network,
+    }
+}
+
 // The seed in 64 hexadecimal digits, behind its word; not the draw that only a live run has.
 #[tactic(auto, unfolding(crate::specs::Script::header_line, crate::specs::Script::seed_of))]
 fn seed_line(word: &[u8], text: &[u8]) -> Result<[u8; 32], Refusal>
-    ensures { TellsBy AtSsid result (header_line AtSeed word.now text.now) }
+    ensures { (h : AnyHeader) → TellsBy (λ seed. AtHeader awaits.Ssid (with_seed h seed)) result
+        (header_line awaits.Seed h word.now text.now) }
 {
     if word != b"seed".as_slice() {
         return Err(Refusal::Word);
@@ -84,22 +106,31 @@ fn seed_line(word: &[u8], text: &[u8]) -> Result<[u8; 32], Refusal>
 }
 
 /// Takes the seed.
-pub(crate) fn take_seed(word: &[u8], text: &[u8]) -> Taken
+pub(crate) fn take_seed(header: Header, word: &[u8], text: &[u8]) -> Taken
+    requires { IsAhead awaits.Seed header }
     ensures kept { IsKept result.0 }
-    ensures takes { TakesHeader AtSeed (draft_of result.0) word.now text.now result.1 }
+    ensures takes { TakesHeader awaits.Seed header (draft_of result.0)
+        word.now text.now result.1 }
 {
+    let line = HeaderLine::Seed;
     match seed_line(word, text) {
-        Ok(seed) => (Due::Ssid { seed }, Ok(Step::Nothing)),
-        Err(refusal) => (Due::Seed, Err(Untaken::Refused(refusal))),
+        Ok(seed) => {
+            let mut header = header;
+            header.network.seed = seed;
+            let line = HeaderLine::Ssid;
+            (Due::Header { line, header }, Ok(Step::Nothing))
+        }
+        Err(refusal) => (Due::Header { line, header }, Err(Untaken::Refused(refusal))),
     }
 }
 
 // The name of the network, behind its word.
 #[tactic(auto, unfolding(crate::specs::Script::header_line, crate::specs::Script::ssid_of))]
-fn ssid_line<'a>(seed: &[u8; 32], word: &[u8], text: &'a [u8]) -> Result<&'a [u8], Refusal>
+fn ssid_line<'a>(word: &[u8], text: &'a [u8]) -> Result<&'a [u8], Refusal>
     ensures size { IfOk result (λ ssid. (1 ≤ length ssid.now) × (length ssid.now ≤ 32)) }
-    ensures says { TellsBy (λ ssid. AtPsk seed.now ssid.now) result
-        (header_line (AtSsid seed.now) word.now text.now) }
+    ensures says { (h : AnyHeader) → TellsBy
+        (λ ssid. AtHeader awaits.Psk (with_ssid h ssid.now)) result
+        (header_line awaits.Ssid h word.now text.now) }
 {
     if word != b"ssid".as_slice() {
         return Err(Refusal::Word);
@@ -112,19 +143,24 @@ fn ssid_line<'a>(seed: &[u8; 32], word: &[u8], text: &'a [u8]) -> Result<&'a [u8
 }
 
 /// Takes the SSID.
-pub(crate) fn take_ssid(seed: [u8; 32], alloc: Global, word: &[u8], text: &[u8]) -> Taken
+pub(crate) fn take_ssid(header: Header, alloc: Global, word: &[u8], text: &[u8]) -> Taken
+    requires { IsAhead awaits.Ssid header }
     ensures kept { IsKept result.0 }
-    ensures takes { TakesHeader (AtSsid seed) (draft_of result.0) word.now text.now result.1 }
+    ensures takes { TakesHeader awaits.Ssid header (draft_of result.0)
+        word.now text.now result.1 }
 {
-    match ssid_line(&seed, word, text) {
+    let line = HeaderLine::Ssid;
+    match ssid_line(word, text) {
         Ok(ssid) => match Vec::from_slice(alloc, ssid) {
             Ok(octets) => {
-                let ssid = Octets(octets);
-                (Due::Psk { seed, ssid }, Ok(Step::Nothing))
+                let mut header = header;
+                header.network.ssid = Octets(octets);
+                let line = HeaderLine::Psk;
+                (Due::Header { line, header }, Ok(Step::Nothing))
             }
-            Err(_) => (Due::Ssid { seed }, Err(Untaken::NoMemory)),
+            Err(_) => (Due::Header { line, header }, Err(Untaken::NoMemory)),
         },
-        Err(refusal) => (Due::Ssid { seed }, Err(Untaken::Refused(refusal))),
+        Err(refusal) => (Due::Header { line, header }, Err(Untaken::Refused(refusal))),
     }
 }
 
@@ -148,22 +184,28 @@ fn psk_of(ssid: &[u8], word: &[u8], text: &[u8]) -> Result<[u8; 32], Refusal>
 
 /// Takes the pre-shared key.
 #[tactic(auto, unfolding(crate::specs::Script::header_line))]
-pub(crate) fn take_psk(seed: [u8; 32], ssid: Octets, word: &[u8], text: &[u8]) -> Taken
-    requires { (1 ≤ length ssid) × (length ssid ≤ 32) }
+pub(crate) fn take_psk(header: Header, word: &[u8], text: &[u8]) -> Taken
+    requires { IsAhead awaits.Psk header }
     ensures kept { IsKept result.0 }
-    ensures takes { TakesHeader (AtPsk seed ssid) (draft_of result.0) word.now text.now result.1 }
+    ensures takes { TakesHeader awaits.Psk header (draft_of result.0) word.now text.now result.1 }
 {
-    match psk_of(ssid.as_slice(), word, text) {
-        Ok(psk) => (Due::Akm { seed, ssid, psk }, Ok(Step::Nothing)),
-        Err(refusal) => (Due::Psk { seed, ssid }, Err(Untaken::Refused(refusal))),
+    let line = HeaderLine::Psk;
+    match psk_of(header.network.ssid.as_slice(), word, text) {
+        Ok(psk) => {
+            let mut header = header;
+            header.psk = psk;
+            let line = HeaderLine::Akm;
+            (Due::Header { line, header }, Ok(Step::Nothing))
+        }
+        Err(refusal) => (Due::Header { line, header }, Err(Untaken::Refused(refusal))),
     }
 }
 
 // The suite by its name, behind its word.
 #[tactic(auto, unfolding(crate::specs::Script::header_line, crate::specs::Script::akm_of))]
 fn akm_line(word: &[u8], text: &[u8]) -> Result<Akm, Refusal>
-    ensures { (seed ssid psk : List ℕ) → TellsBy (λ akm. after_suite seed ssid psk akm) result
-        (header_line (AtAkm seed ssid psk) word.now text.now) }
+    ensures { (h : AnyHeader) → TellsBy (after_suite h) result
+        (header_line awaits.Akm h word.now text.now) }
 {
     if word != b"akm".as_slice() {
         Err(Refusal::Word)
@@ -178,63 +220,33 @@ fn akm_line(word: &[u8], text: &[u8]) -> Result<Akm, Refusal>
     }
 }
 
-// The network of a header, without nodes.
-fn new_network(
-    seed: [u8; 32],
-    ssid: Octets,
-    psk: [u8; 32],
-    akm: Akm,
-    mdid: [u8; 2],
-    alloc: Global,
-) -> Domain
-    ensures { result ≡ new_network seed ssid psk akm mdid }
-{
-    Domain {
-        seed,
-        ssid,
-        psk,
-        akm,
-        mdid,
-        aps: Aps(Vec::new(alloc)),
-        stas: Stas(Vec::new(alloc)),
-    }
-}
-
-/// Takes the suite. The network is made with it, but with that of fast transition once the mobility
+/// Takes the suite. The header is whole with it, but with that of fast transition once the mobility
 /// domain is told.
-pub(crate) fn take_akm(
-    seed: [u8; 32],
-    ssid: Octets,
-    psk: [u8; 32],
-    alloc: Global,
-    word: &[u8],
-    text: &[u8],
-) -> Taken
-    requires { (1 ≤ length ssid) × (length ssid ≤ 32) }
+pub(crate) fn take_akm(header: Header, word: &[u8], text: &[u8]) -> Taken
+    requires { IsAhead awaits.Akm header }
     ensures kept { IsKept result.0 }
-    ensures takes { TakesHeader (AtAkm seed ssid psk) (draft_of result.0)
-        word.now text.now result.1 }
+    ensures takes { TakesHeader awaits.Akm header (draft_of result.0) word.now text.now result.1 }
 {
+    let line = HeaderLine::Akm;
     match akm_line(word, text) {
-        Ok(Akm::Psk) => {
-            let domain = new_network(seed, ssid, psk, Akm::Psk, [0, 0], alloc);
-            (Due::Nodes { domain }, Ok(Step::Network))
+        Ok(akm) => {
+            let mut header = header;
+            header.network.akm = akm;
+            let line = HeaderLine::Mdid;
+            match akm {
+                Akm::FtPsk => (Due::Header { line, header }, Ok(Step::Nothing)),
+                Akm::Psk | Akm::PskSha256 => (Due::Nodes { header }, Ok(Step::Network)),
+            }
         }
-        Ok(Akm::PskSha256) => {
-            let domain = new_network(seed, ssid, psk, Akm::PskSha256, [0, 0], alloc);
-            (Due::Nodes { domain }, Ok(Step::Network))
-        }
-        Ok(Akm::FtPsk) => (Due::Mdid { seed, ssid, psk }, Ok(Step::Nothing)),
-        Err(refusal) => (Due::Akm { seed, ssid, psk }, Err(Untaken::Refused(refusal))),
+        Err(refusal) => (Due::Header { line, header }, Err(Untaken::Refused(refusal))),
     }
 }
 
 // The mobility domain in four hexadecimal digits, behind its word.
 #[tactic(auto, unfolding(crate::specs::Script::header_line, crate::specs::Script::mdid_of))]
 fn mdid_line(word: &[u8], text: &[u8]) -> Result<[u8; 2], Refusal>
-    ensures { (seed ssid psk : List ℕ) → TellsBy
-        (λ mdid. AtNodes (new_network seed ssid psk FtPsk mdid)) result
-        (header_line (AtMdid seed ssid psk) word.now text.now) }
+    ensures { (h : AnyHeader) → TellsBy (λ mdid. AtNodes (with_mdid h mdid)) result
+        (header_line awaits.Mdid h word.now text.now) }
 {
     if word != b"mdid".as_slice() {
         return Err(Refusal::Word);
@@ -242,28 +254,20 @@ fn mdid_line(word: &[u8], text: &[u8]) -> Result<[u8; 2], Refusal>
     hex_octets(text).ok_or(Refusal::Arguments)
 }
 
-/// Takes the mobility domain, and makes the network with it.
-pub(crate) fn take_mdid(
-    seed: [u8; 32],
-    ssid: Octets,
-    psk: [u8; 32],
-    alloc: Global,
-    word: &[u8],
-    text: &[u8],
-) -> Taken
-    requires { (1 ≤ length ssid) × (length ssid ≤ 32) }
+/// Takes the mobility domain, with which the header is whole.
+pub(crate) fn take_mdid(header: Header, word: &[u8], text: &[u8]) -> Taken
+    requires { IsAhead awaits.Mdid header }
     ensures kept { IsKept result.0 }
-    ensures takes { TakesHeader (AtMdid seed ssid psk) (draft_of result.0)
+    ensures takes { TakesHeader awaits.Mdid header (draft_of result.0)
         word.now text.now result.1 }
 {
+    let line = HeaderLine::Mdid;
     match mdid_line(word, text) {
         Ok(mdid) => {
-            let domain = new_network(seed, ssid, psk, Akm::FtPsk, mdid, alloc);
-            (Due::Nodes { domain }, Ok(Step::Network))
+            let mut header = header;
+            header.network.mdid = mdid;
+            (Due::Nodes { header }, Ok(Step::Network))
         }
-        Err(refusal) => (
-            Due::Mdid { seed, ssid, psk },
-            Err(Untaken::Refused(refusal)),
-        ),
+        Err(refusal) => (Due::Header { line, header }, Err(Untaken::Refused(refusal))),
     }
 }

@@ -4,25 +4,30 @@ ghost use Rattle.std.specs.Prelude.{◌≡◌, ◌≢◌, ◌<◌, ◌^◌, ℕ,
 ghost use Rattle.frame_script.specs.Due.{draft_of};
 ghost use Rattle.frame_script.specs.Script.{AtVersion, border_line, is_border, is_passed_over};
 ghost use Rattle.frame_script.specs.Script.{is_within, line_says};
-ghost use Rattle.frame_script.specs.Sentences.{IsKept, Takes, rounds_with, words_say};
+ghost use Rattle.frame_script.specs.Sentences.{IsAhead, IsKept, Takes, TakesHeader, rounds_with};
+ghost use Rattle.frame_script.specs.Sentences.{words_say};
 
 use crate::body::{take_body, take_inner};
-use crate::events::MOST_FRAMES;
-use crate::header::{Due, Taken, take_akm, take_mdid, take_psk, take_seed, take_ssid};
+use crate::header::{
+    Due, Header, HeaderLine, Taken, blank, take_akm, take_mdid, take_psk, take_seed, take_ssid,
+};
 use crate::reader::Step;
 use crate::refusal::{Refusal, Untaken};
 use crate::tokens::first_word;
+use run_journal::MOST_FRAMES;
 use std::alloc::Global;
 
 // Takes the version of the form.
 #[tactic(auto, unfolding(crate::specs::Script::line_says))]
-fn take_version(line: &[u8]) -> Taken
+fn take_version(alloc: Global, line: &[u8]) -> Taken
     ensures kept { IsKept result.0 }
     ensures takes { (rounds : ℕ) (sizes : List ℕ) → Takes AtVersion (draft_of result.0) rounds sizes
         (line_says AtVersion rounds sizes line.now) result.1 }
 {
     if line == b"domain 1".as_slice() {
-        (Due::Seed, Ok(Step::Nothing))
+        let line = HeaderLine::Seed;
+        let header = blank(alloc);
+        (Due::Header { line, header }, Ok(Step::Nothing))
     } else {
         (Due::Version, Err(Untaken::Refused(Refusal::Version)))
     }
@@ -38,8 +43,22 @@ fn is_passed_over(line: &[u8]) -> bool
     }
 }
 
+// Takes the line of the header that is due, by its first word and what stands behind it.
+fn take_header(line: HeaderLine, header: Header, alloc: Global, word: &[u8], text: &[u8]) -> Taken
+    requires { IsAhead line header }
+    ensures kept { IsKept result.0 }
+    ensures takes { TakesHeader line header (draft_of result.0) word.now text.now result.1 }
+{
+    match line {
+        HeaderLine::Seed => take_seed(header, word, text),
+        HeaderLine::Ssid => take_ssid(header, alloc, word, text),
+        HeaderLine::Psk => take_psk(header, word, text),
+        HeaderLine::Akm => take_akm(header, word, text),
+        HeaderLine::Mdid => take_mdid(header, word, text),
+    }
+}
+
 // Takes a line by its first word and what stands behind it.
-#[tactic(auto, using(crate::proofs::Taking::header), unfolding(crate::specs::Script::header_line))]
 fn take_words(
     due: Due,
     alloc: Global,
@@ -55,13 +74,9 @@ fn take_words(
 {
     match due {
         Due::Version => (Due::Version, Err(Untaken::Refused(Refusal::Word))),
-        Due::Seed => take_seed(word, text),
-        Due::Ssid { seed } => take_ssid(seed, alloc, word, text),
-        Due::Psk { seed, ssid } => take_psk(seed, ssid, word, text),
-        Due::Akm { seed, ssid, psk } => take_akm(seed, ssid, psk, alloc, word, text),
-        Due::Mdid { seed, ssid, psk } => take_mdid(seed, ssid, psk, alloc, word, text),
-        Due::Nodes { domain } => take_body(domain, alloc, rounds, sizes, word, text),
-        Due::Round { domain, count } => take_inner(domain, alloc, count, sizes, word, text),
+        Due::Header { line, header } => take_header(line, header, alloc, word, text),
+        Due::Nodes { header } => take_body(header, alloc, rounds, sizes, word, text),
+        Due::Round { header, count } => take_inner(header, alloc, count, sizes, word, text),
     }
 }
 
@@ -84,17 +99,17 @@ fn take_border(due: Due, sizes: &[usize]) -> Taken
         (border_line (draft_of due) sizes.now) result.1 }
 {
     match due {
-        Due::Nodes { domain } => {
+        Due::Nodes { header } => {
             if sizes.len() <= MOST_FRAMES {
-                (Due::Round { domain, count: 0 }, Ok(Step::Round))
+                (Due::Round { header, count: 0 }, Ok(Step::Round))
             } else {
                 (
-                    Due::Nodes { domain },
+                    Due::Nodes { header },
                     Err(Untaken::Refused(Refusal::ManyFrames)),
                 )
             }
         }
-        Due::Round { domain, .. } => (Due::Nodes { domain }, Ok(Step::End)),
+        Due::Round { header, .. } => (Due::Nodes { header }, Ok(Step::End)),
         due => (due, Err(Untaken::Refused(Refusal::Word))),
     }
 }
@@ -127,7 +142,7 @@ pub(crate) fn take_line(due: Due, alloc: Global, rounds: u64, sizes: &[usize], l
         (line_says (draft_of due) rounds sizes.now line.now) result.1 }
 {
     match due {
-        Due::Version => take_version(line),
+        Due::Version => take_version(alloc, line),
         due => take_later(due, alloc, rounds, sizes, line),
     }
 }

@@ -6,12 +6,12 @@ ghost use Rattle.frame_script.specs.Due.{draft_of};
 ghost use Rattle.frame_script.specs.Live.{Draws, brings, own_line, own_says, own_word, turn_line};
 ghost use Rattle.frame_script.specs.Sentences.{IsKept, TakesBy, TakesHeard, heard_of};
 
-use crate::events::MOST_FRAMES;
-use crate::header::{Due, Taken};
+use crate::header::{Due, HeaderLine, Taken};
 use crate::lines::take_line;
 use crate::reader::{Mode, Step};
 use crate::refusal::{Refusal, Untaken};
 use crate::tokens::first_word;
+use run_journal::MOST_FRAMES;
 use std::alloc::Global;
 
 /// What a line says that has not the meaning that it has in a replay.
@@ -87,7 +87,10 @@ fn own_says(due: &Due, sizes: &[usize], line: &[u8]) -> Option<Own>
 {
     let (word, _) = first_word(line);
     match due {
-        Due::Seed => own_seed(line),
+        Due::Header {
+            line: HeaderLine::Seed,
+            ..
+        } => own_seed(line),
         Due::Nodes { .. } => own_line(sizes, line, word),
         Due::Round { .. } => own_word(word),
         _ => None,

@@ -1,25 +1,21 @@
 //! The lines that list nodes.
 
-ghost use Rattle.std.specs.Prelude.{◌≡◌, ◌<◌, true, false, length, IfOk, OnOk};
+ghost use Rattle.std.specs.Prelude.{◌≡◌, ◌<◌, ℕ, List, true, false, length, IfOk, OnOk};
 ghost use Rattle.std.specs.List.{list_any};
-ghost use Rattle.domain_base.specs.declared.names.Mac.{Mac as AnyMac};
+ghost use Rattle.run_journal.specs.Limits.{most_aps, most_stas};
 ghost use Rattle.run_journal.specs.declared.domain.ListedAp.{ListedAp};
+ghost use Rattle.run_journal.specs.declared.domain.ListedSta.{ListedSta as AnySta};
 ghost use Rattle.frame_script.specs.Headers.{CanListAp, CanListSta};
 ghost use Rattle.frame_script.specs.Script.{ListsAp, ListsSta, address_of, ap_line, is_same};
 ghost use Rattle.frame_script.specs.Script.{is_single, is_used, is_used_id, new_ap, new_sta};
 ghost use Rattle.frame_script.specs.Script.{sta_line};
-ghost use Rattle.frame_script.specs.Sentences.{Tells, TellsBy};
+ghost use Rattle.frame_script.specs.Sentences.{Tells, TellsBy, lists_sta};
 
+use crate::header::Header;
 use crate::refusal::Refusal;
 use crate::tokens::{hex_octets, is_text, split_word};
 use domain_base::Mac;
-use run_journal::Domain;
-
-// The most access points of a network.
-const MOST_APS: usize = 16;
-
-// The most stations of a network.
-const MOST_STAS: usize = 64;
+use run_journal::{Domain, ListedSta, MOST_APS, MOST_STAS};
 
 // Whether an address is that of one node: neither zero nor a group's.
 #[tactic(auto, unfolding(crate::specs::Script::is_single))]
@@ -54,9 +50,9 @@ fn is_of_ap(domain: &Domain, address: Mac) -> bool
 
 // Whether a listed station has the address.
 fn is_of_sta(domain: &Domain, address: Mac) -> bool
-    ensures { result ≡ list_any (λ (m : AnyMac). is_same m address) domain.now.stas }
+    ensures { result ≡ list_any (λ (s : AnySta). is_same s.address address) domain.now.stas }
 {
-    domain.stas.0.contains(&address)
+    domain.stas.0.iter().any(|sta| sta.address == address)
 }
 
 // Whether a listed node has the address.
@@ -82,7 +78,7 @@ fn is_used_id(domain: &Domain, r0kh_id: &[u8]) -> bool
 // Whether an access point can be listed so.
 #[tactic(auto, unfolding(crate::specs::Script::new_ap))]
 fn new_ap(domain: &Domain, address: Mac, r0kh_id: &[u8]) -> Result<(), Refusal>
-    ensures room { OnOk result (length domain.now.aps < 16) }
+    ensures room { OnOk result (length domain.now.aps < most_aps) }
     ensures free { OnOk result (is_used domain.now address ≡ false) }
     ensures other { OnOk result (is_used_id domain.now r0kh_id.now ≡ false) }
     ensures says { TellsBy (λ _. ListsAp address r0kh_id.now) result
@@ -117,9 +113,10 @@ pub(crate) fn ap_line<'a>(domain: &Domain, text: &'a [u8]) -> Result<(Mac, &'a [
 // Whether a station can be listed so.
 #[tactic(auto, unfolding(crate::specs::Script::new_sta))]
 fn new_sta(domain: &Domain, address: Mac) -> Result<(), Refusal>
-    ensures room { OnOk result (length domain.now.stas < 64) }
+    ensures room { OnOk result (length domain.now.stas < most_stas) }
     ensures free { OnOk result (is_used domain.now address ≡ false) }
-    ensures says { TellsBy (λ _. ListsSta address) result (new_sta domain.now address) }
+    ensures says { (psk : List ℕ) → TellsBy (λ _. ListsSta address psk) result
+        (new_sta domain.now address psk) }
 {
     if MOST_STAS <= domain.stas.0.len() {
         Err(Refusal::ManyStas)
@@ -130,13 +127,14 @@ fn new_sta(domain: &Domain, address: Mac) -> Result<(), Refusal>
     }
 }
 
-/// A station, by its address.
+/// A station, by its address. It has the header's key.
 #[tactic(auto, using(crate::proofs::Freed::listing), unfolding(crate::specs::Script::sta_line))]
-pub(crate) fn sta_line(domain: &Domain, text: &[u8]) -> Result<Mac, Refusal>
-    ensures can { IfOk result (CanListSta domain.now) }
-    ensures says { TellsBy ListsSta result (sta_line domain.now text.now) }
+pub(crate) fn sta_line(header: &Header, text: &[u8]) -> Result<ListedSta, Refusal>
+    ensures can { IfOk result (λ s. CanListSta header.now.network s.address) }
+    ensures says { TellsBy lists_sta result (sta_line header.now text.now) }
 {
     let address = address_of(text)?;
-    new_sta(domain, address)?;
-    Ok(address)
+    new_sta(&header.network, address)?;
+    let psk = header.psk;
+    Ok(ListedSta { address, psk })
 }

@@ -5,7 +5,7 @@ ghost use Rattle.std.specs.Prelude.{option_map};
 ghost use Rattle.run_journal.specs.declared.domain.Domain.{Domain as AnyDomain};
 
 use crate::forms::{Form, form_in};
-use crate::header::Due;
+use crate::header::{Due, HeaderLine};
 use crate::lines::{is_within, rounds_with};
 use crate::live::take_by;
 use crate::refusal::{Refusal, Untaken};
@@ -61,6 +61,8 @@ pub enum Step {
     Sta {
         /// Its address.
         address: Mac,
+        /// Its pre-shared key.
+        psk: [u8; 32],
     },
     /// Asks for an event. Outside a round it is one by itself.
     Event(Event),
@@ -103,7 +105,7 @@ impl Model for ScriptReader {
 
 impl ScriptReader {
     ghost use Rattle.std.specs.Prelude.{length, ℕ, List};
-    ghost use Rattle.frame_script.specs.Script.{AtSeed, AtSsid, AtVersion, end_fault};
+    ghost use Rattle.frame_script.specs.Script.{AtVersion, IsSeedDue, end_fault, seeded};
     ghost use Rattle.frame_script.specs.Refusals.{answer_of, fault_of};
     ghost use Rattle.frame_script.specs.Forms.{form_in};
     ghost use Rattle.frame_script.specs.Headers.{HasSeen, HasSeenBy, IsDomain, ReadsIn, TakesIn};
@@ -168,16 +170,21 @@ impl ScriptReader {
     /// Tells the seed, 32 octets, that a line asked to be drawn.
     pub fn drawn(&mut self, seed: [u8; 32])
         requires live { self.old.mode ≡ Mode.Live }
-        requires due { self.old.draft ≡ AtSeed }
+        requires due { IsSeedDue self.old.draft }
         ensures { self.new ≡ record {
           mode = self.old.mode;
-          draft = AtSsid seed;
+          draft = seeded self.old.draft seed;
           rounds = self.old.rounds;
           seen = self.old.seen;
           sizes = self.old.sizes;
         } }
     {
-        self.due = Due::Ssid { seed };
+        if let Due::Header { header, .. } = replace(&mut self.due, Due::Version) {
+            let mut header = header;
+            header.network.seed = seed;
+            let line = HeaderLine::Ssid;
+            self.due = Due::Header { line, header };
+        }
     }
 
     /// Ends the script: it may end behind any line outside a round, and has one line at least.
@@ -216,8 +223,8 @@ impl ScriptReader {
         ensures { IsDomain self.now.draft (option_map (λ d. d.now) result) }
     {
         match &self.due {
-            Due::Nodes { domain } => Some(domain),
-            Due::Round { domain, .. } => Some(domain),
+            Due::Nodes { header } => Some(&header.network),
+            Due::Round { header, .. } => Some(&header.network),
             _ => None,
         }
     }

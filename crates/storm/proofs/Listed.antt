@@ -1,7 +1,7 @@
 -- The nodes of a storm listed one after the other.
 use Rattle.std.proofs.Common.{◌≡◌, ℕ, ◌+◌, List, [], ◌∷◌, ◌++◌, refl, ap, ◌∙◌, add-one}
-use Rattle.domain_base.specs.declared.names.Mac.{Mac}
 use Rattle.run_journal.specs.declared.domain.ListedAp.{ListedAp}
+use Rattle.run_journal.specs.declared.domain.ListedSta.{ListedSta}
 use Rattle.storm.specs.Header.{ap_of, aps_to, sta_of, stas_to}
 
 pub aps-none : [] ≡ aps_to 0
@@ -15,15 +15,15 @@ aps-suc n = rw add-one refl
 pub aps-more : (n : ℕ) (aps more : List ListedAp) → aps ≡ aps_to n → more ≡ aps ++ ap_of (n + 1) ∷ [] → more ≡ aps_to (n + 1)
 aps-more n aps more is grown = grown ∙ ap (λ (xs : List ListedAp). xs ++ ap_of (n + 1) ∷ []) is ∙ aps-suc n
 
-pub stas-none : [] ≡ stas_to 0
+pub stas-none : (psk : List ℕ) → [] ≡ stas_to psk 0
 unfolding stas_to
-stas-none = refl
+stas-none psk = refl
 
-stas-suc : (n : ℕ) → stas_to n ++ sta_of (n + 1) ∷ [] ≡ stas_to (n + 1)
+stas-suc : (psk : List ℕ) (n : ℕ) → stas_to psk n ++ sta_of psk (n + 1) ∷ [] ≡ stas_to psk (n + 1)
 unfolding stas_to
-stas-suc n = rw add-one refl
+stas-suc psk n = rw add-one refl
 
-pub stas-more : (n : ℕ) (stas more : List Mac) → stas ≡ stas_to n → more ≡ stas ++ sta_of (n + 1) ∷ [] → more ≡ stas_to (n + 1)
-stas-more n stas more is grown = grown ∙ ap (λ (xs : List Mac). xs ++ sta_of (n + 1) ∷ []) is ∙ stas-suc n
+pub stas-more : (psk : List ℕ) (n : ℕ) (stas more : List ListedSta) → stas ≡ stas_to psk n → more ≡ stas ++ sta_of psk (n + 1) ∷ [] → more ≡ stas_to psk (n + 1)
+stas-more psk n stas more is grown = grown ∙ ap (λ (xs : List ListedSta). xs ++ sta_of psk (n + 1) ∷ []) is ∙ stas-suc psk n
 
 pub ruleset listing = (aps-none, aps-more, stas-none, stas-more)

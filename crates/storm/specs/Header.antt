@@ -1,9 +1,10 @@
 -- The domain of a storm (this project's choice).
 use Rattle.std.specs.Prelude.{ℕ, zero, suc, ◌+◌, List, [], ◌∷◌, ◌++◌, codes}
 use Rattle.domain_base.specs.declared.names.Akm.TheVariants.{FtPsk}
-use Rattle.domain_base.specs.declared.names.Mac.{Mac}
 use Rattle.run_journal.specs.declared.domain.Domain.{Domain}
 use Rattle.run_journal.specs.declared.domain.ListedAp.{ListedAp}
+use Rattle.run_journal.specs.declared.domain.ListedSta.{ListedSta}
+use Rattle.run_journal.specs.declared.domain.Version.TheVariants.{One}
 use Rattle.storm.specs.Drawing.{Draws, ◌>>=◌, given, octets}
 
 -- the seed and the pre-shared key
@@ -30,25 +31,28 @@ unfoldable pub aps_to : ℕ → List ListedAp
 aps_to zero = []
 aps_to (suc n) = aps_to n ++ ap_of (suc n) ∷ []
 
--- the station of that number: 02:00:00:00:01:01, and so on
-unfoldable pub sta_of : ℕ → Mac
-sta_of number = record { 0 = 2 ∷ 0 ∷ 0 ∷ 0 ∷ 1 ∷ number ∷ [] }
+-- the station of that number: 02:00:00:00:01:01, and so on; all have one key
+unfoldable pub sta_of : List ℕ → ℕ → ListedSta
+sta_of psk number = record {
+  address = record { 0 = 2 ∷ 0 ∷ 0 ∷ 0 ∷ 1 ∷ number ∷ [] };
+  psk = psk;
+}
 
 -- the first so many
-unfoldable pub stas_to : ℕ → List Mac
-stas_to zero = []
-stas_to (suc n) = stas_to n ++ sta_of (suc n) ∷ []
+unfoldable pub stas_to : List ℕ → ℕ → List ListedSta
+stas_to psk zero = []
+stas_to psk (suc n) = stas_to psk n ++ sta_of psk (suc n) ∷ []
 
 -- four access points and eight stations with fast transition
 unfoldable pub domain_of : ℕ → Domain
 domain_of number = record {
   seed = (secrets number).0.seed;
   ssid = codes "storm";
-  psk = (secrets number).0.psk;
   akm = FtPsk;
   mdid = 0xa1 ∷ 0xb2 ∷ [];
+  extras = record { version = One };
   aps = aps_to 4;
-  stas = stas_to 8;
+  stas = stas_to (secrets number).0.psk 8;
 }
 
 -- the state from which the events are drawn

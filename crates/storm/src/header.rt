@@ -5,7 +5,7 @@ ghost use Rattle.storm.specs.Header.{ap_of, aps_to, domain_of, secrets, sta_of, 
 
 use crate::generator::Generator;
 use domain_base::{Akm, Mac, NoMemory, Octets};
-use run_journal::{Aps, Domain, ListedAp, Stas};
+use run_journal::{Aps, Domain, Extras, ListedAp, ListedSta, Stas, Version};
 use std::alloc::Global;
 
 /// What is drawn before the first event.
@@ -17,7 +17,7 @@ pub(crate) struct Secrets {
     pub(crate) psk: [u8; 32],
 }
 
-/// Draws the seed and the pre-shared key of a storm.
+/// Draws the seed and the pre-shared key of a storm, which all its stations have.
 pub(crate) fn draw_secrets(generator: &mut Generator) -> Secrets
     ensures seed { result.seed ≡ (secrets generator.old).0.seed }
     ensures psk { result.psk ≡ (secrets generator.old).0.psk }
@@ -65,20 +65,23 @@ fn aps(alloc: Global) -> Result<Aps, NoMemory>
 
 // The station of that number.
 #[tactic(auto, unfolding(crate::specs::Header::sta_of))]
-fn sta_of(number: u8) -> Mac
-    ensures { result ≡ sta_of number }
+fn sta_of(psk: [u8; 32], number: u8) -> ListedSta
+    ensures { result ≡ sta_of psk number }
 {
-    Mac([2, 0, 0, 0, 1, number])
+    ListedSta {
+        address: Mac([2, 0, 0, 0, 1, number]),
+        psk,
+    }
 }
 
 // The stations.
 #[tactic(auto, using(crate::proofs::Listed::listing))]
-fn stas(alloc: Global) -> Result<Stas, NoMemory>
-    ensures { IfOk result (λ stas. stas ≡ stas_to 8) }
+fn stas(alloc: Global, psk: [u8; 32]) -> Result<Stas, NoMemory>
+    ensures { IfOk result (λ stas. stas ≡ stas_to psk 8) }
 {
     let mut stas = Vec::new(alloc);
     for place in 0..8u8 {
-        stas.push(sta_of(place + 1))?;
+        stas.push(sta_of(psk, place + 1))?;
     }
     Ok(Stas(stas))
 }
@@ -91,13 +94,15 @@ pub(crate) fn domain(alloc: Global, number: u32) -> Result<Domain, NoMemory>
     let Secrets { seed, psk } = draw_secrets(&mut Generator::new(number));
     let ssid = Vec::from_slice(alloc, b"storm")?;
     let aps = aps(alloc)?;
-    let stas = stas(alloc)?;
+    let stas = stas(alloc, psk)?;
     Ok(Domain {
         seed,
         ssid: Octets(ssid),
-        psk,
         akm: Akm::FtPsk,
         mdid: [0xa1, 0xb2],
+        extras: Extras {
+            version: Version::One,
+        },
         aps,
         stas,
     })
