@@ -36,5 +36,5 @@ started_ap d e address r0kh_id node acts j k domain at starts is before =
     ∙ ap_starts d address r0kh_id ∙ ap (λ (x : Domain). started x (length x.aps)) (sym domain)
 
 -- a station does nothing
-pub started_sta : (d e : Domain) (address : Mac) (j : List Entry) → e ≡ with_sta d address → j ≡ started d (length d.aps) → j ≡ started e (length e.aps)
-started_sta d e address j domain before = before ∙ same-started d (with_sta d address) (length d.aps) refl (λ i low. refl) ∙ ap (λ (x : Domain). started x (length x.aps)) (sym domain)
+pub started_sta : (d e : Domain) (address : Mac) (psk : List ℕ) (j : List Entry) → e ≡ with_sta d address psk → j ≡ started d (length d.aps) → j ≡ started e (length e.aps)
+started_sta d e address psk j domain before = before ∙ same-started d (with_sta d address psk) (length d.aps) refl (λ i low. refl) ∙ ap (λ (x : Domain). started x (length x.aps)) (sym domain)

@@ -7,6 +7,7 @@ use Rattle.domain_base.specs.declared.names.Node.{Node}
 use Rattle.domain_base.specs.declared.names.Node.TheVariants.{Ap}
 use Rattle.domain_base.specs.declared.names.Peer.{Peer}
 use Rattle.run_journal.specs.declared.domain.Domain.{Domain}
+use Rattle.run_journal.specs.declared.domain.Event.{Event}
 use Rattle.run_journal.specs.declared.acts.Kind.{Kind}
 use Rattle.run_journal.specs.declared.acts.Kind.TheVariants as kind
 use Rattle.run_journal.specs.declared.acts.Reason.{Reason}
@@ -43,6 +44,7 @@ use Rattle.domain_rules.specs.StationRows.{ConnectRow, Spent, Asks, leave_acts}
 use Rattle.domain_rules.specs.DataFrames.{sent_data}
 use Rattle.domain_rules.specs.DataRows.{used_acts, send_acts_by}
 use Rattle.domain_rules.specs.PacketNumbers.{SendKey, send_key}
+use Rattle.domain_rules.specs.Rounds.{most_acts}
 use Rattle.domain_rules.specs.Here.{here}
 
 short_attempt : (p : Node) (part : Option (List Act)) → length (close_attempt p part) ≤ 1
@@ -256,6 +258,6 @@ short_switched : (d : Domain) (n : Node) (h acts : List Act) → length (and_swi
 short_switched d (Sta s) h acts = omega arith
 short_switched d (Ap a) h acts = omega (arith, length-append acts (switch_acts d a (add acts h)), short_switch d a (add acts h))
 
--- at most 8, and one more for each station
-pub few : (d : Domain) (first : ℕ) (n : Node) (h : List Act) (event : NodeEvent) (g : List Act) → Adds (here d first n) h event g → length g ≤ 8 + length d.stas
-few d first n h event g adds = omega (arith, ap length adds.is, short_switched d n h adds.acts, few_row d first n h event adds.acts adds.row)
+-- at most 8, and one more for each station: no more than any event comes to
+pub few : (d : Domain) (event : Event) (first : ℕ) (n : Node) (h : List Act) (at : NodeEvent) (g : List Act) → Adds (here d first n) h at g → length g ≤ most_acts event (length d.stas)
+few d event first n h at g adds = let short : length g ≤ 8 + length d.stas = omega (arith, ap length adds.is, short_switched d n h adds.acts, few_row d first n h at adds.acts adds.row) in short

@@ -8,7 +8,7 @@ use Rattle.run_journal.specs.declared.domain.Event.{Event}
 use Rattle.run_journal.specs.declared.domain.Event.TheVariants.{Alter}
 use Rattle.run_journal.specs.declared.acts.Entry.{Entry}
 use Rattle.domain_rules.specs.Explained.{altered, WasSent, HappensAt}
-use Rattle.domain_rules.specs.Rounds.{node_of}
+use Rattle.domain_world.specs.Ordering.{node_of}
 use Rattle.domain_rules.specs.Rows.{Take}
 use Rattle.domain_rules.proofs.Journals as rules
 use Rattle.domain_world.specs.State.{State}

@@ -6,6 +6,7 @@ pub mod Few
 pub mod Owned
 pub mod Begun
 pub mod Frames
+pub mod InTurn
 pub mod Ordered
 pub mod Waits
 pub mod Played

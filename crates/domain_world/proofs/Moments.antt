@@ -23,7 +23,7 @@ use Rattle.run_journal.specs.declared.acts.Entry.{Entry}
 use Rattle.run_journal.specs.Acts.{same}
 use Rattle.run_journal.specs.Questions.{history}
 use Rattle.domain_rules.specs.Network.{IsNamed, mac, holder_of}
-use Rattle.domain_rules.specs.HeldRight.{stands_here, Looking, looking, AnswersAt, SomeMoment, AnsweredBySome, GivesRightKey, NoneLater, NoneEarlier, AnsweredInTime}
+use Rattle.domain_rules.specs.HeldRight.{stands_here, Looking, looking, AnswersAt, SomeMoment, AnsweredBySome, GivesRightKey, NoneLater, NoneEarlier, InTimeAt, AllInTime, AnsweredInTime}
 use Rattle.domain_rules.specs.Explained.{number_of, push}
 use Rattle.domain_rules.proofs.Parts.{same-true}
 use Rattle.held_rows.specs.Knows.{IsOwn, KnowsRows, moves_rows, LeaveRows}
@@ -47,34 +47,6 @@ none_earlier : (r : Node) (round : ℕ) (since : List Entry) → From round sinc
 none_earlier r round [] high m there at = absurd there
 none_earlier r round (x ∷ since) high m (inl here) at = subst (λ (y : Entry). round ≤ y.round) (sym here) high.0
 none_earlier r round (x ∷ since) high m (inr there) at = none_earlier r round since high.1 m there at
-
--- ---- each look on its own
-
--- the entry is answered rightly, if it is a look, in that whole journal
-abbrev pub IsHeldRight : Domain → List Entry → Entry → List Entry → Type 0
-IsHeldRight d whole e past =
-    (id name : List ℕ) (p : Node) (answer : PullAnswer) → e.act ≡ Looked id name p answer → AnsweredBySome (holder_of d id) (looking e name p) answer past whole × GivesRightKey d id (looking e name p) answer
-
-unfoldable pub AllHeldRight : Domain → List Entry → List Entry → Type 0
-AllHeldRight d whole [] = Unit {0}
-AllHeldRight d whole (e ∷ past) = IsHeldRight d whole e past × AllHeldRight d whole past
-
-right_there : (d : Domain) (whole later past : List Entry) (e : Entry) → AllHeldRight d whole (later ++ e ∷ past) → IsHeldRight d whole e past
-unfolding AllHeldRight
-right_there d whole [] past e all = all.0
-right_there d whole (x ∷ later) past e all = right_there d whole later past e all.1
-
-pub held_of_all : (d : Domain) (j : List Entry) → AllHeldRight d j j → AnsweredInTime d j
-held_of_all d j all later past e id name p answer cut is = right_there d j later past e (subst (AllHeldRight d j) cut all) id name p answer is
-
-all_behind : (d : Domain) (j later rest : List Entry) → j ≡ later ++ rest → AnsweredInTime d j → AllHeldRight d j rest
-unfolding AllHeldRight
-all_behind d j later [] cut right = tt
-all_behind d j later (e ∷ past) cut right =
-    (λ id name p answer is. right later past e id name p answer cut is, all_behind d j (later ++ e ∷ []) past (cut ∙ sym (append_assoc later (e ∷ []) past)) right)
-
-pub all_of_held : (d : Domain) (j : List Entry) → AnsweredInTime d j → AllHeldRight d j j
-all_of_held d j right = all_behind d j [] j refl right
 
 -- ---- the journal goes on
 
@@ -106,8 +78,8 @@ from_less : (round earlier : ℕ) (more : List Entry) → earlier ≤ round → 
 from_less round earlier [] low high = tt
 from_less round earlier (x ∷ more) low high = (omega (arith, low, high.0), from_less round earlier more low high.1)
 
-pub right_on : (d : Domain) (round : ℕ) (more whole j : List Entry) → From round more → UpTo round j → AllHeldRight d whole j → AllHeldRight d (more ++ whole) j
-unfolding AllHeldRight
+pub right_on : (d : Domain) (round : ℕ) (more whole j : List Entry) → From round more → UpTo round j → AllInTime d whole j → AllInTime d (more ++ whole) j
+unfolding AllInTime
 right_on d round more whole [] high low all = tt
 right_on d round more whole (e ∷ past) high low all = (
   λ id name p answer is.
@@ -142,8 +114,8 @@ grown_push round n (act ∷ g) j =
     let e : Entry = record { round = round; node = n; number = number_of act j; act = act } in
     grown_on round j (e ∷ j) (push round n g (e ∷ j)) (record { more = e ∷ []; is = refl; behind = (omega arith, tt) }) (grown_push round n g (e ∷ j))
 
-pub right_grown : (d : Domain) (round : ℕ) (j k : List Entry) → Grown round j k → UpTo round j → AllHeldRight d j j → AllHeldRight d k j
-right_grown d round j k more low all = subst (λ (w : List Entry). AllHeldRight d w j) (sym more.is) (right_on d round more.more j j more.behind low all)
+pub right_grown : (d : Domain) (round : ℕ) (j k : List Entry) → Grown round j k → UpTo round j → AllInTime d j j → AllInTime d k j
+right_grown d round j k more low all = subst (λ (w : List Entry). AllInTime d w j) (sym more.is) (right_on d round more.more j j more.behind low all)
 
 -- ---- a moment of a round
 
@@ -221,7 +193,7 @@ module _ (d : Domain) (a round : ℕ) (own rows : ℕ → List HeldRow) (whole p
       let listed = slice_get_within d.aps r found.0 found.1 in
       let holds = ap (option_map (λ i. Ap i)) is in
       let m = moments r listed name k low in
-      let told = answers_as_stood d (below (length d.aps)) rows m.at asked k r id answer names holds (below_in r (length d.aps) listed) m.stands m.own w.1 in (
+      let told = answers_as_stood d (below (length d.aps)) rows m.at asked k r id answer names low refl holds (below_in r (length d.aps) listed) m.stands m.own w.1 in (
         by_test (same (Ap r) (Ap a)) (AnswersAt (Ap r) asked answer past) (SomeMoment (Ap r) asked answer whole)
             (λ here. (let at : Ap r ≡ Ap a = same-true (Ap r) (Ap a) here in
             (answers_by_holder d (a ∷ []) own past asked k r id answer names low refl holds (own_place r a at) (subst (λ (i : ℕ). KnowsRows d (Ap i) (own i) (history (Ap i) past)) (sym (cc at)) know) w.0).0))
@@ -239,8 +211,8 @@ module _ (d : Domain) (a round : ℕ) (own rows : ℕ → List HeldRow) (whole p
 abbrev put_on : ℕ → Node → Act → List Entry → Entry
 put_on round n act past = record { round = round; node = n; number = number_of act past; act = act }
 
-pub right_unasked : (d : Domain) (round : ℕ) (n : Node) (g : List Act) (whole j : List Entry) → NoLooks g → AllHeldRight d whole j → AllHeldRight d whole (push round n g j)
-unfolding AllHeldRight
+pub right_unasked : (d : Domain) (round : ℕ) (n : Node) (g : List Act) (whole j : List Entry) → NoLooks g → AllInTime d whole j → AllInTime d whole (push round n g j)
+unfolding AllInTime
 right_unasked d round n [] whole j none all = all
 right_unasked d round n (act ∷ g) whole j none all =
     right_unasked d round n g whole (put_on round n act j ∷ j) none.1 (λ id name p answer is. absurd (subst IsNoLook is none.0), all)
@@ -250,34 +222,34 @@ module _ (d : Domain) (a round : ℕ) (own rows : ℕ → List HeldRow) (whole :
   stay true n xs act h leaves at = one_left d n xs act h leaves at
   stay false n xs act h leaves at = at
 
-  one_asked : (act : Act) (past : List Entry) → IsNamed d → AllMoments d rows round whole → KnowsRows d (Ap a) (own a) (history (Ap a) past) → IsLookOf (AnswersBoth d a own rows) d act → IsHeldRight d whole (put_on round (Ap a) act past) past
+  one_asked : (act : Act) (past : List Entry) → IsNamed d → AllMoments d rows round whole → KnowsRows d (Ap a) (own a) (history (Ap a) past) → IsLookOf (AnswersBoth d a own rows) d act → InTimeAt d whole (put_on round (Ap a) act past) past
   one_asked act past names moments know look id name p answer is =
       let w : IsLookOf (AnswersBoth d a own rows) d (Looked id name p answer) = subst (IsLookOf (AnswersBoth d a own rows) d) is look in
       let told = by_place d a round own rows whole past id name w.0 answer (position (λ (x : ListedAp). bytes_eq x.r0kh_id id) d.aps) refl names w.1 moments know w.3 in
       subst (λ (q : Node). AnsweredBySome (holder_of d id) (looking (put_on round (Ap a) act past) name q) answer past whole × GivesRightKey d id (looking (put_on round (Ap a) act past) name q) answer) (sym w.2) told
 
-  asked_on : (g : List Act) (past : List Entry) → IsNamed d → AllMoments d rows round whole → KnowsRows d (Ap a) (own a) (history (Ap a) past) → LeaveRows g → AllByRecursion (IsLookOf (AnswersBoth d a own rows) d) g → AllHeldRight d whole past
-      → AllHeldRight d whole (push round (Ap a) g past)
-  unfolding AllHeldRight
+  asked_on : (g : List Act) (past : List Entry) → IsNamed d → AllMoments d rows round whole → KnowsRows d (Ap a) (own a) (history (Ap a) past) → LeaveRows g → AllByRecursion (IsLookOf (AnswersBoth d a own rows) d) g → AllInTime d whole past
+      → AllInTime d whole (push round (Ap a) g past)
+  unfolding AllInTime
   asked_on [] past names moments know leave looks all = all
   asked_on (act ∷ g) past names moments know leave looks all =
       asked_on g (put_on round (Ap a) act past ∷ past) names moments (stay (same (Ap a) (Ap a)) (Ap a) (own a) act (history (Ap a) past) leave.0 know) leave.1 looks.1 (one_asked act past names moments know looks.0, all)
 
   -- what it asked is answered rightly in the whole journal of the round
-  pub right_asked : (g : List Act) (past : List Entry) → IsNamed d → AllMoments d rows round whole → KnowsRows d (Ap a) (own a) (history (Ap a) past) → AreLooked (AnswersBoth d a own rows) d g → AllHeldRight d whole past
-      → AllHeldRight d whole (push round (Ap a) g past)
+  pub right_asked : (g : List Act) (past : List Entry) → IsNamed d → AllMoments d rows round whole → KnowsRows d (Ap a) (own a) (history (Ap a) past) → AreLooked (AnswersBoth d a own rows) d g → AllInTime d whole past
+      → AllInTime d whole (push round (Ap a) g past)
   right_asked g past names moments know (inl none) all = right_unasked d round (Ap a) g whole past none all
   right_asked g past names moments know (inr w) all = asked_on g past names moments know w.0 w.1 all
 
 -- ---- where none was asked
 
-unasked_in : (e : Domain) (j : List Entry) → AllByRecursion (λ (x : Entry). IsNoLook x.act) j → (whole : List Entry) → AllHeldRight e whole j
-unfolding AllHeldRight
+unasked_in : (e : Domain) (j : List Entry) → AllByRecursion (λ (x : Entry). IsNoLook x.act) j → (whole : List Entry) → AllInTime e whole j
+unfolding AllInTime
 unasked_in e [] none whole = tt
 unasked_in e (x ∷ past) none whole = (λ id name p answer is. absurd (subst IsNoLook is none.0), unasked_in e past none.1 whole)
 
 pub held_unasked : (e : Domain) (j : List Entry) → AllByRecursion (λ (x : Entry). IsNoLook x.act) j → AnsweredInTime e j
-held_unasked e j none = held_of_all e j (unasked_in e j none j)
+held_unasked e j none = unasked_in e j none j
 
 pub unasked_push : (round : ℕ) (n : Node) (g : List Act) (j : List Entry) → NoLooks g → AllByRecursion (λ (x : Entry). IsNoLook x.act) j → AllByRecursion (λ (x : Entry). IsNoLook x.act) (push round n g j)
 unasked_push round n [] j none all = all

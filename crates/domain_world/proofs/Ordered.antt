@@ -8,7 +8,8 @@ use Rattle.domain_base.specs.declared.names.Node.{Node}
 use Rattle.domain_base.specs.declared.names.Node.TheVariants.{Ap}
 use Rattle.run_journal.specs.declared.domain.Event.{Event}
 use Rattle.run_journal.specs.Acts.{same}
-use Rattle.domain_rules.specs.Rounds.{node_of, is_not_behind, put_in, by_nodes}
+use Rattle.domain_rules.specs.Rounds.{is_not_behind}
+use Rattle.domain_world.specs.Ordering.{node_of, put_in, by_nodes}
 use Rattle.domain_rules.proofs.Parts.{same-refl, same-other, same-true}
 use Rattle.domain_world.specs.Waiting.{events_at, events_below, AreAtAps}
 

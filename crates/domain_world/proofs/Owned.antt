@@ -20,7 +20,9 @@ use Rattle.run_journal.specs.Acts.{is_sent}
 use Rattle.run_journal.specs.Questions.{history}
 use Rattle.air_frame.specs.Sent.{IsAddress}
 use Rattle.run_journal.specs.declared.domain.ListedAp.{ListedAp}
-use Rattle.domain_rules.specs.Network.{InForm, IsListed}
+use Rattle.run_journal.specs.declared.domain.ListedSta.{ListedSta}
+use Rattle.domain_rules.specs.Network.{InForm}
+use Rattle.run_journal.specs.Events.{IsListed}
 use Rattle.domain_rules.specs.InOctets.{InOctets}
 use Rattle.domain_rules.specs.AccessPointRows.{start_acts}
 use Rattle.domain_rules.specs.HeldRight.{AnsweredInTime}
@@ -56,14 +58,17 @@ octets_ap d address r0kh_id in_d size in_address in_id =
       id_octets = all_last (λ (a : ListedAp). AreOctets a.r0kh_id) d.aps x in_d.id_octets in_id;
     }
 
-octets_sta : (d : Domain) (address : Mac) → InOctets d → IsAddress address.0 → AreOctets address.0 → InOctets (with_sta d address)
-octets_sta d address in_d size in_address = record {
+abbrev listed_sta : Mac → List ℕ → ListedSta
+listed_sta address psk = record { address = address; psk = psk }
+
+octets_sta : (d : Domain) (address : Mac) (psk : List ℕ) → InOctets d → IsAddress address.0 → AreOctets address.0 → InOctets (with_sta d address psk)
+octets_sta d address psk in_d size in_address = record {
   mdid = in_d.mdid;
   ap_sizes = in_d.ap_sizes;
-  sta_sizes = all_last (λ (m : Mac). IsAddress m.0) d.stas address in_d.sta_sizes size;
+  sta_sizes = all_last (λ (s : ListedSta). IsAddress s.address.0) d.stas (listed_sta address psk) in_d.sta_sizes size;
   mdid_octets = in_d.mdid_octets;
   ap_octets = in_d.ap_octets;
-  sta_octets = all_last (λ (m : Mac). AreOctets m.0) d.stas address in_d.sta_octets in_address;
+  sta_octets = all_last (λ (s : ListedSta). AreOctets s.address.0) d.stas (listed_sta address psk) in_d.sta_octets in_address;
   id_octets = in_d.id_octets;
 }
 
@@ -71,10 +76,10 @@ pub octets_none : (d : Domain) → d.aps ≡ [] → d.stas ≡ [] → length d.m
 octets_none d no_aps no_stas size in_mdid = record {
   mdid = size;
   ap_sizes = subst (AllByRecursion (λ (a : ListedAp). IsAddress a.address.0)) (sym no_aps) tt;
-  sta_sizes = subst (AllByRecursion (λ (m : Mac). IsAddress m.0)) (sym no_stas) tt;
+  sta_sizes = subst (AllByRecursion (λ (s : ListedSta). IsAddress s.address.0)) (sym no_stas) tt;
   mdid_octets = in_mdid;
   ap_octets = subst (AllByRecursion (λ (a : ListedAp). AreOctets a.address.0)) (sym no_aps) tt;
-  sta_octets = subst (AllByRecursion (λ (m : Mac). AreOctets m.0)) (sym no_stas) tt;
+  sta_octets = subst (AllByRecursion (λ (s : ListedSta). AreOctets s.address.0)) (sym no_stas) tt;
   id_octets = subst (AllByRecursion (λ (a : ListedAp). AreOctets a.r0kh_id)) (sym no_aps) tt;
 }
 
@@ -131,9 +136,9 @@ pub more_aps : (d : Domain) (address : Mac) (r0kh_id : List ℕ) (n : Node) → 
 more_aps d address r0kh_id (Ap k) l = omega (arith, length-append d.aps (record { address = address; r0kh_id = r0kh_id } ∷ []))
 more_aps d address r0kh_id (Sta k) l = l
 
-pub more_stas : (d : Domain) (address : Mac) (n : Node) → IsListed d n → IsListed (with_sta d address) n
-more_stas d address (Ap k) l = l
-more_stas d address (Sta k) l = omega (arith, length-append d.stas (address ∷ []))
+pub more_stas : (d : Domain) (address : Mac) (psk : List ℕ) (n : Node) → IsListed d n → IsListed (with_sta d address psk) n
+more_stas d address psk (Ap k) l = l
+more_stas d address psk (Sta k) l = omega (arith, length-append d.stas (listed_sta address psk ∷ []))
 
 unlisted : (n : ℕ) → (n < n → ⊥)
 unlisted n low = omega arith
@@ -161,19 +166,19 @@ own_ap old new address r0kh_id node acts j k own first form size in_address in_i
     }
 
 -- a station, which does nothing
-pub own_sta : (old new : State) (address : Mac) (j : List Entry) → Owns old j → old.rounds ≡ 0 → InForm (with_sta old.domain address) → IsAddress address.0 → AreOctets address.0 → new.domain ≡ with_sta old.domain address → new.rounds ≡ old.rounds → new.usable ≡ old.usable → new.frames ≡ old.frames
+pub own_sta : (old new : State) (address : Mac) (psk : List ℕ) (j : List Entry) → Owns old j → old.rounds ≡ 0 → InForm (with_sta old.domain address psk) → IsAddress address.0 → AreOctets address.0 → new.domain ≡ with_sta old.domain address psk → new.rounds ≡ old.rounds → new.usable ≡ old.usable → new.frames ≡ old.frames
     → new.rows ≡ old.rows → AreListed (nodes_of new) → ((i : List Entry) → Stand (nodes_of old) i → history (Sta (length old.domain.stas)) i ≡ [] → Stand (nodes_of new) i) → Owns new j
-own_sta old new address j own first form size in_address domain rounds usable frames held all stand =
+own_sta old new address psk j own first form size in_address domain rounds usable frames held all stand =
     let n = length old.domain.stas in
     let none = nothing_yet old.domain old.rounds (Sta n) j own.placed.past (unlisted n) in
-    let last : IsListed (with_sta old.domain address) (Sta n) = omega (arith, length-append old.domain.stas (address ∷ [])) in
+    let last : IsListed (with_sta old.domain address psk) (Sta n) = omega (arith, length-append old.domain.stas (listed_sta address psk ∷ [])) in
     record {
       usable = usable ∙ own.usable;
       form = subst InForm (sym domain) form;
-      octets = subst InOctets (sym domain) (octets_sta old.domain address own.octets size in_address);
+      octets = subst InOctets (sym domain) (octets_sta old.domain address psk own.octets size in_address);
       listed = all;
       stand = stand j own.stand none;
-      placed = placed_push old new 0 (Sta n) [] j j own.placed refl (λ m l. subst (λ (d : Domain). IsListed d m) (sym domain) (more_stas old.domain address m l))
+      placed = placed_push old new 0 (Sta n) [] j j own.placed refl (λ m l. subst (λ (d : Domain). IsListed d m) (sym domain) (more_stas old.domain address psk m l))
           (subst (λ (d : Domain). IsListed d (Sta n)) (sym domain) last) (omega (arith, rounds)) (omega arith) (frames ∙ own.placed.places);
       right = held_unasked new.domain j (own.asked first);
       quiet = λ still. subst HoldNone (sym held) (own.quiet first);

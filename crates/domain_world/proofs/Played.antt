@@ -12,10 +12,11 @@ use Rattle.run_journal.specs.declared.domain.Event.TheVariants.{Connect, Roam, D
 use Rattle.run_journal.specs.declared.acts.Act.{Act}
 use Rattle.run_journal.specs.declared.acts.Entry.{Entry}
 use Rattle.run_journal.specs.Premises.{In}
-use Rattle.domain_rules.specs.Network.{InForm, IsListed, is_ap}
-use Rattle.domain_rules.specs.Rounds.{node_of}
+use Rattle.domain_rules.specs.Network.{InForm, is_ap}
+use Rattle.run_journal.specs.Events.{IsListed}
+use Rattle.domain_world.specs.Ordering.{node_of}
 use Rattle.domain_rules.specs.InOctets.{InOctets}
-use Rattle.domain_rules.specs.Here.{here}
+use Rattle.domain_rules.specs.Rounds.{most_acts}
 use Rattle.domain_rules.specs.Rows.{NodeEvent}
 use Rattle.domain_rules.specs.Explained.{push, number_of, WasSent, HappensAt}
 use Rattle.domain_rules.specs.HeldRight.{AnsweredInTime}
@@ -68,12 +69,12 @@ low_joined round (part ∷ parts) j low = low_joined round parts (push round par
 times_suc : (m n : ℕ) → m * suc n ≡ m * n + m
 times_suc m n = simp unary_clauses (refl {a = m * n + m})
 
-pub waiting_short : (most : ℕ) (parts : List Part) → AreShort most parts → waiting parts ≤ most * length parts
-waiting_short most [] all = omega arith
-waiting_short most (part ∷ parts) all =
-    let rest = waiting_short most parts all.1 in
+pub waiting_short : (stas most : ℕ) (parts : List Part) → ((event : Event) → most_acts event stas ≤ most) → AreShort stas parts → waiting parts ≤ most * length parts
+waiting_short stas most [] high all = omega arith
+waiting_short stas most (part ∷ parts) high all =
+    let rest = waiting_short stas most parts high all.1 in
     let more = times_suc most (length parts) in
-    omega (arith, rest, all.0, more)
+    omega (arith, rest, all.0.1, high all.0.0, more)
 
 -- ---- a round's end
 
@@ -113,9 +114,9 @@ own_round old new events parts j k own played all rounds usable noted is =
 pub listed_at : (d : Domain) (sent : ℕ) (j : List Entry) (event : Event) → IsEventIn d sent j event → IsListed d (node_of event)
 listed_at d sent j (Connect s a) is = is.0
 listed_at d sent j (Roam s a) is = is.0
-listed_at d sent j (Deliver number to) is = is.2
-listed_at d sent j (Alter number place mask to) is = is.2
-listed_at d sent j (Cut number size to) is = is.2
+listed_at d sent j (Deliver number to) is = is.0
+listed_at d sent j (Alter number place mask to) is = is.0
+listed_at d sent j (Cut number size to) is = is.0
 listed_at d sent j (Inject to octets) is = is
 listed_at d sent j (Retry a s) is = is.0
 listed_at d sent j (Rekey a) is = is

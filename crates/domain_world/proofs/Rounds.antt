@@ -1,5 +1,5 @@
 -- A round of all workers, as it stands in the journal.
-use Rattle.std.proofs.Common.{◌≡◌, ℕ, zero, suc, ◌<◌, ◌≤◌, ◌+◌, Bool, true, false, cond, List, [], ◌∷◌, ◌++◌, length, map, Some, refl, sym, ap, subst, ◌∙◌, arith, inl, inr, length-append}
+use Rattle.std.proofs.Common.{◌≡◌, ℕ, zero, suc, ◌<◌, ◌≤◌, Bool, true, false, cond, List, [], ◌∷◌, ◌++◌, length, map, Some, refl, sym, ap, subst, ◌∙◌, arith, inl, inr, length-append}
 use Rattle.std.specs.Prelude.{slice_get}
 use Rattle.std.specs.List.{AllByRecursion}
 use Rattle.std.proofs.lemmas.Bool.{cases_lt}
@@ -13,14 +13,15 @@ use Rattle.run_journal.specs.declared.domain.Event.{Event}
 use Rattle.run_journal.specs.declared.acts.Entry.{Entry}
 use Rattle.run_journal.specs.Acts.{same}
 use Rattle.run_journal.specs.Questions.{history}
-use Rattle.domain_rules.specs.Network.{InForm, IsNamed, IsListed}
+use Rattle.domain_rules.specs.Network.{InForm, IsNamed}
+use Rattle.run_journal.specs.Events.{IsListed}
 use Rattle.domain_rules.proofs.Peers.{named}
-use Rattle.domain_rules.specs.Rounds.{node_of}
-use Rattle.domain_rules.specs.HeldRight.{AnsweredInTime}
-use Rattle.domain_rules.specs.Explained.{push, HappensAt, Follows as StepsOn}
+use Rattle.domain_world.specs.Ordering.{InTurn, node_of}
+use Rattle.domain_rules.specs.HeldRight.{AllInTime, AnsweredInTime}
+use Rattle.domain_rules.specs.Explained.{push, HappensAt}
 use Rattle.domain_rules.proofs.Parts.{same-true}
 use Rattle.domain_rules.proofs.Journals.{history-other}
-use Rattle.domain_world.proofs.Moments.{UpTo, Moment, moment_grown, AllHeldRight, all_of_held, held_of_all, right_grown}
+use Rattle.domain_world.proofs.Moments.{UpTo, Moment, moment_grown, right_grown}
 use Rattle.holder_table.specs.declared.history.HolderEvent.{HolderEvent}
 use Rattle.holder_table.specs.Histories.{held_at, Follows}
 use Rattle.ap_node.specs.State.{State as ApState}
@@ -112,8 +113,8 @@ happen_there d round k front j (t ∷ ts) all = by_test (same (Ap k) (node_of t.
     by_test true is rest = (happens_joined t.event.now round (Ap k) (turn_event t) round front j (subst (λ (n : Node). HappensAt t.event.now j round n (turn_event t)) (sym (same-true (Ap k) (node_of t.event.now) is)) all.0.0), rest)
     by_test false is rest = rest
 
-steps_on : (d : Domain) (round : ℕ) (es fs : List Event) (i j k : List Entry) → StepsOn d round es i j → StepsOn d round fs j k → StepsOn d round (es ++ fs) i k
-steps_on d round [] fs i j k a b = subst (λ (l : List Entry). StepsOn d round fs l k) a b
+steps_on : (d : Domain) (round : ℕ) (es fs : List Event) (i j k : List Entry) → InTurn d round es i j → InTurn d round fs j k → InTurn d round (es ++ fs) i k
+steps_on d round [] fs i j k a b = subst (λ (l : List Entry). InTurn d round fs l k) a b
 steps_on d round (e ∷ es) fs i j k a b = (a.0, (a.1.0, steps_on d round es fs a.0 j k a.1.1 b))
 
 -- ---- all workers
@@ -160,7 +161,7 @@ module _ (d : Domain) (round : ℕ) (ts : List Turn) (old new : List HolderEvent
       ])
 
   pub all_follow : (n : ℕ) (aps back : List ApState) (parts : List Part) → AllWorked d n ts old new aps back parts → AllStand aps → AllByRecursion (IsTurn d j round) ts
-      → StepsOn d round (events_below n (map (λ (t : Turn). t.event.now) ts)) j (joined round parts j)
+      → InTurn d round (events_below n (map (λ (t : Turn). t.event.now) ts)) j (joined round parts j)
   unfolding AllWorked
   all_follow zero aps back parts w all turns = ap (λ (ps : List Part). joined round ps j) w.2
   all_follow (suc n) aps back parts w all turns =
@@ -169,9 +170,9 @@ module _ (d : Domain) (round : ℕ) (ts : List Turn) (old new : List HolderEvent
       let events = map (λ (t : Turn). t.event.now) ts in
       let whole : joined round parts j ≡ joined round w.5 (joined round w.4 j) = ap (λ (ps : List Part). joined round ps j) w.8 ∙ joined_append round w.4 w.5 j in
       let one = worked_follows d n round (turns_at n ts) w.0 w.1 old new w.5 (joined round w.4 j) (happen_there d round n w.4 j ts turns) w.10 (last_stand n w.2 w.0 aps w.4 w.6 count.0 all first) in
-      subst (StepsOn d round (events_below (suc n) events) j) (sym whole)
+      subst (InTurn d round (events_below (suc n) events) j) (sym whole)
       (steps_on d round (events_below n events) (events_at n events) j (joined round w.4 j) (joined round w.5 (joined round w.4 j)) (all_follow n w.2 w.3 w.4 w.9 (front_stand w.2 w.0 aps w.6 all) turns)
-      (subst (λ (es : List Event). StepsOn d round es (joined round w.4 j) (joined round w.5 (joined round w.4 j))) (events_there n ts) one))
+      (subst (λ (es : List Event). InTurn d round es (joined round w.4 j) (joined round w.5 (joined round w.4 j))) (events_there n ts) one))
 
   pub all_moment : (n : ℕ) (aps back : List ApState) (parts : List Part) → AllWorked d n ts old new aps back parts → AllStand aps → AreNumbered aps → UpTo round j → (at : List HolderEvent) → Follows old at → Follows at new
       → (r : ℕ) → r < n → (name : List ℕ) (k : ℕ) → k < length d.stas → Moment d r (held_at r at) name k round (joined round parts j)
@@ -192,31 +193,31 @@ module _ (d : Domain) (round : ℕ) (ts : List Turn) (old new : List HolderEvent
             (last_stand n w.2 w.0 aps w.4 w.6 count.0 all first) f g)
       ])
 
-  pub all_right : (whole : List Entry) (n : ℕ) (aps back : List ApState) (parts : List Part) → AllWorked d n ts old new aps back parts → AllStand aps → AreNumbered aps → IsNamed d → AtAllMoments d 0 round old new whole → AllHeldRight d whole j
-      → AllHeldRight d whole (joined round parts j)
+  pub all_right : (whole : List Entry) (n : ℕ) (aps back : List ApState) (parts : List Part) → AllWorked d n ts old new aps back parts → AllStand aps → AreNumbered aps → IsNamed d → AtAllMoments d 0 round old new whole → AllInTime d whole j
+      → AllInTime d whole (joined round parts j)
   unfolding AllWorked
-  all_right whole zero aps back parts w all numbers names moments before = subst (λ (ps : List Part). AllHeldRight d whole (joined round ps j)) (sym w.2) before
+  all_right whole zero aps back parts w all numbers names moments before = subst (λ (ps : List Part). AllInTime d whole (joined round ps j)) (sym w.2) before
   all_right whole (suc n) aps back parts w all numbers names moments before =
       let count = all_count d n ts old new w.2 w.3 w.4 w.9 in
       let first = all_first d n ts old new w.2 w.3 w.4 w.9 in
       let rest = all_right whole n w.2 w.3 w.4 w.9 (front_stand w.2 w.0 aps w.6 all) (front_numbered w.2 w.0 aps w.6 numbers) names moments before in
       let is : joined round parts j ≡ joined round w.5 (joined round w.4 j) = ap (λ (ps : List Part). joined round ps j) w.8 ∙ joined_append round w.4 w.5 j in
-      subst (AllHeldRight d whole) (sym is)
+      subst (AllInTime d whole) (sym is)
       (worked_right d n round old new whole (turns_at n ts) w.0 w.1 old new w.5 (joined round w.4 j) names moments (numbers n w.0 (last_at n w.2 w.0 aps w.6 count.0)) w.10 (last_stand n w.2 w.0 aps w.4 w.6 count.0 all first)
       (same_history old) (same_history new) rest)
 
-  short_append : (most : ℕ) (front mine : List Part) → AreShort most front → AreShort most mine → AreShort most (front ++ mine)
-  short_append most [] mine a b = b
-  short_append most (p ∷ front) mine a b = (a.0, short_append most front mine a.1 b)
+  short_append : (stas : ℕ) (front mine : List Part) → AreShort stas front → AreShort stas mine → AreShort stas (front ++ mine)
+  short_append stas [] mine a b = b
+  short_append stas (p ∷ front) mine a b = (a.0, short_append stas front mine a.1 b)
 
-  pub all_short : (n : ℕ) (aps back : List ApState) (parts : List Part) → AllWorked d n ts old new aps back parts → AllStand aps → AreShort (8 + length d.stas) parts
+  pub all_short : (n : ℕ) (aps back : List ApState) (parts : List Part) → AllWorked d n ts old new aps back parts → AllStand aps → AreShort (length d.stas) parts
   unfolding AllWorked
-  all_short zero aps back parts w all = subst (AreShort (8 + length d.stas)) (sym w.2) tt
+  all_short zero aps back parts w all = subst (AreShort (length d.stas)) (sym w.2) tt
   all_short (suc n) aps back parts w all =
       let count = all_count d n ts old new w.2 w.3 w.4 w.9 in
       let first = all_first d n ts old new w.2 w.3 w.4 w.9 in
-      subst (AreShort (8 + length d.stas)) (sym w.8)
-      (short_append (8 + length d.stas) w.4 w.5 (all_short n w.2 w.3 w.4 w.9 (front_stand w.2 w.0 aps w.6 all))
+      subst (AreShort (length d.stas)) (sym w.8)
+      (short_append (length d.stas) w.4 w.5 (all_short n w.2 w.3 w.4 w.9 (front_stand w.2 w.0 aps w.6 all))
       (worked_short d n round (turns_at n ts) w.0 w.1 old new w.5 (joined round w.4 j) w.10 (last_stand n w.2 w.0 aps w.4 w.6 count.0 all first)))
 
 -- ---- the round
@@ -238,18 +239,18 @@ round_played n round ts old new back parts j form listed rows worked stand up ri
     (let low = slice_get_within n.aps i s at in
     subst (λ (xs : List HeldRow). ApStands d 0 s xs (history (Ap i) j)) (ap (λ (l : List (List HeldRow)). rows_at l i) rows ∙ below_at k i old low) (stand.aps i s at)) in
     let moments : AtAllMoments d 0 round old new whole = λ at f g r low name i there. all_moment d round ts old new j k n.aps back parts worked all listed.aps up at f g r (omega (arith, low, listed.count_aps)) name i there in
-    let before = right_grown d round j whole (grown_joined round parts j) up (all_of_held d j right) in
+    let before = right_grown d round j whole (grown_joined round parts j) up right in
     record {
-      follows = subst (λ m. StepsOn d round (events_below m (map (λ (t : Turn). t.event.now) ts)) j whole) listed.count_aps (all_follow d round ts old new j k n.aps back parts worked all turns);
+      follows = subst (λ m. InTurn d round (events_below m (map (λ (t : Turn). t.event.now) ts)) j whole) listed.count_aps (all_follow d round ts old new j k n.aps back parts worked all turns);
       stand = record {
         aps = λ i t at.
             (let low = slice_get_within back i t at in
             subst (λ (xs : List HeldRow). ApStands d 0 t xs (history (Ap i) whole)) (sym (below_at (length back) i new low)) (all_stand d round ts old new j k n.aps back parts worked all i t at));
         stas = λ i t at. subst (StationStands d 0 t) (sym (history_joined round (Sta i) parts j (no_stations k i parts first))) (stand.stas i t at);
       };
-      right = held_of_all d whole (all_right d round ts old new j whole k n.aps back parts worked all listed.aps (named d form) moments before);
+      right = all_right d round ts old new j whole k n.aps back parts worked all listed.aps (named d form) moments before;
       listed = listed_parts d k parts (omega (arith, listed.count_aps)) first;
       domain = refl;
       count = refl;
-      short = subst (λ m. AreShort (8 + m) parts) (sym listed.count_stas) (all_short d round ts old new j k n.aps back parts worked all);
+      short = subst (λ m. AreShort m parts) (sym listed.count_stas) (all_short d round ts old new j k n.aps back parts worked all);
     }

@@ -9,7 +9,8 @@ use Rattle.key_holders.specs.declared.rows.HeldRow.{HeldRow}
 use Rattle.key_holders.specs.Listed.{rows_at}
 use Rattle.holder_table.specs.declared.history.HolderEvent.{HolderEvent}
 use Rattle.holder_table.specs.Histories.{held_at}
-use Rattle.domain_rules.specs.Network.{IsNamed, IsListed}
+use Rattle.domain_rules.specs.Network.{IsNamed}
+use Rattle.run_journal.specs.Events.{IsListed}
 use Rattle.domain_base.specs.declared.names.Node.{Node}
 use Rattle.domain_base.specs.declared.names.Node.TheVariants.{Ap, Sta}
 use Rattle.run_journal.specs.declared.domain.Domain.{Domain}
@@ -146,25 +147,25 @@ pub grows_ap : (d e : Domain) (address : Mac) (r0kh_id : List ℕ) → e ≡ wit
 grows_ap d e address r0kh_id is = record {
   seed = ap (λ (x : Domain). x.seed) is;
   ssid = ap (λ (x : Domain). x.ssid) is;
-  psk = ap (λ (x : Domain). x.psk) is;
   akm = ap (λ (x : Domain). x.akm) is;
   mdid = ap (λ (x : Domain). x.mdid) is;
+  extras = ap (λ (x : Domain). x.extras) is;
   more_aps = record { address = address; r0kh_id = r0kh_id } ∷ [];
   aps = ap (λ (x : Domain). x.aps) is;
   more_stas = [];
   stas = ap (λ (x : Domain). x.stas) is ∙ sym (append-nil d.stas);
 }
 
-pub grows_sta : (d e : Domain) (address : Mac) → e ≡ with_sta d address → Grows d e
-grows_sta d e address is = record {
+pub grows_sta : (d e : Domain) (address : Mac) (psk : List ℕ) → e ≡ with_sta d address psk → Grows d e
+grows_sta d e address psk is = record {
   seed = ap (λ (x : Domain). x.seed) is;
   ssid = ap (λ (x : Domain). x.ssid) is;
-  psk = ap (λ (x : Domain). x.psk) is;
   akm = ap (λ (x : Domain). x.akm) is;
   mdid = ap (λ (x : Domain). x.mdid) is;
+  extras = ap (λ (x : Domain). x.extras) is;
   more_aps = [];
   aps = ap (λ (x : Domain). x.aps) is ∙ sym (append-nil d.aps);
-  more_stas = address ∷ [];
+  more_stas = record { address = address; psk = psk } ∷ [];
   stas = ap (λ (x : Domain). x.stas) is;
 }
 

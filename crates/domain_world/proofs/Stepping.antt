@@ -7,11 +7,12 @@ use Rattle.domain_base.specs.declared.names.Node.TheVariants.{Ap, Sta}
 use Rattle.key_holders.specs.declared.rows.HeldRow.{HeldRow}
 use Rattle.run_journal.specs.declared.domain.Domain.{Domain}
 use Rattle.run_journal.specs.declared.domain.ListedAp.{ListedAp}
+use Rattle.run_journal.specs.declared.domain.ListedSta.{ListedSta}
 use Rattle.run_journal.specs.declared.domain.Event.{Event}
 use Rattle.run_journal.specs.declared.acts.Act.{Act}
 use Rattle.run_journal.specs.declared.acts.Entry.{Entry}
 use Rattle.run_journal.specs.Listing.{with_ap, with_sta}
-use Rattle.domain_rules.specs.Network.{IsListed}
+use Rattle.run_journal.specs.Events.{IsListed}
 use Rattle.domain_rules.specs.Rows.{NodeEvent}
 use Rattle.node_base.specs.Events.{IsEventAt}
 use Rattle.holder_table.specs.declared.history.HolderEvent.{HolderEvent}
@@ -74,14 +75,14 @@ station_same n m k s t rows view here held same =
 -- ---- one node more
 
 -- the network, with these nodes listed
-abbrev pub with_lists : Domain → List ListedAp → List Mac → Domain
-with_lists d aps stas = record { seed = d.seed; ssid = d.ssid; psk = d.psk; akm = d.akm; mdid = d.mdid; aps = aps; stas = stas }
+abbrev pub with_lists : Domain → List ListedAp → List ListedSta → Domain
+with_lists d aps stas = record d { aps = aps; stas = stas }
 
 pub added_ap : (d m : Domain) (address : Mac) (r0kh_id : List ℕ) (l : List ListedAp) → d ≡ m → l ≡ d.aps ++ record { address = address; r0kh_id = r0kh_id } ∷ [] → with_lists d l d.stas ≡ with_ap m address r0kh_id
 added_ap d m address r0kh_id l view is = ap (λ (x : List ListedAp). with_lists d x d.stas) is ∙ ap (λ (x : Domain). with_ap x address r0kh_id) view
 
-pub added_sta : (d m : Domain) (address : Mac) (l : List Mac) → d ≡ m → l ≡ d.stas ++ address ∷ [] → with_lists d d.aps l ≡ with_sta m address
-added_sta d m address l view is = ap (with_lists d d.aps) is ∙ ap (λ (x : Domain). with_sta x address) view
+pub added_sta : (d m : Domain) (address : Mac) (psk : List ℕ) (l : List ListedSta) → d ≡ m → l ≡ d.stas ++ record { address = address; psk = psk } ∷ [] → with_lists d d.aps l ≡ with_sta m address psk
+added_sta d m address psk l view is = ap (with_lists d d.aps) is ∙ ap (λ (x : Domain). with_sta x address psk) view
 
 pub one_more : {A : Type 0} (xs ys : List A) (x : A) → ys ≡ xs ++ x ∷ [] → length ys ≡ suc (length xs)
 one_more xs ys x is = omega (arith, ap length is, length-append xs (x ∷ []))
@@ -106,7 +107,7 @@ listed_more_sta old new k s more same_aps stas aps count number is = record {
 }
 
 -- a station is none of the key holders'
-pub fit_more_sta : (d : Domain) (stas : List Mac) (o : Option Shared) → HoldersFit d o → HoldersFit (with_lists d d.aps stas) o
+pub fit_more_sta : (d : Domain) (stas : List ListedSta) (o : Option Shared) → HoldersFit d o → HoldersFit (with_lists d d.aps stas) o
 fit_more_sta d stas None fit = tt
 fit_more_sta d stas (Some s) fit = fit
 
@@ -130,16 +131,16 @@ pub ap_closed : (d : Domain) (old nodes : List ApState) (stas : List StationStat
 ap_closed d old nodes stas o aps listed same was =
     subst (λ (l : List ListedAp). Closed (with_lists d l d.stas) nodes stas o) (sym listed) (subst (λ (l : List ApState). Closed d l stas o) (sym same) was)
 
-pub sta_before : (d : Domain) (aps : List ApState) (old nodes : List StationState) (h : List HolderEvent) (stas : List Mac) (m : Nodes) → record { domain = d; aps = aps; stas = old; rows = rows_below (length aps) h } ≡ m → stas ≡ d.stas → nodes ≡ old
+pub sta_before : (d : Domain) (aps : List ApState) (old nodes : List StationState) (h : List HolderEvent) (stas : List ListedSta) (m : Nodes) → record { domain = d; aps = aps; stas = old; rows = rows_below (length aps) h } ≡ m → stas ≡ d.stas → nodes ≡ old
     → record { domain = with_lists d d.aps stas; aps = aps; stas = nodes; rows = rows_below (length aps) h } ≡ m
 sta_before d aps old nodes h stas m view listed same =
-    let one : List Mac → Nodes = λ l. record { domain = with_lists d d.aps l; aps = aps; stas = nodes; rows = rows_below (length aps) h } in
+    let one : List ListedSta → Nodes = λ l. record { domain = with_lists d d.aps l; aps = aps; stas = nodes; rows = rows_below (length aps) h } in
     let two : List StationState → Nodes = λ l. record { domain = d; aps = aps; stas = l; rows = rows_below (length aps) h } in
     ap one listed ∙ ap two same ∙ view
 
-pub sta_closed : (d : Domain) (aps : List ApState) (old nodes : List StationState) (o : Option Shared) (stas : List Mac) → stas ≡ d.stas → nodes ≡ old → Closed d aps old o → Closed (with_lists d d.aps stas) aps nodes o
+pub sta_closed : (d : Domain) (aps : List ApState) (old nodes : List StationState) (o : Option Shared) (stas : List ListedSta) → stas ≡ d.stas → nodes ≡ old → Closed d aps old o → Closed (with_lists d d.aps stas) aps nodes o
 sta_closed d aps old nodes o stas listed same was =
-    subst (λ (l : List Mac). Closed (with_lists d d.aps l) aps nodes o) (sym listed) (subst (λ (l : List StationState). Closed d aps l o) (sym same) was)
+    subst (λ (l : List ListedSta). Closed (with_lists d d.aps l) aps nodes o) (sym listed) (subst (λ (l : List StationState). Closed d aps l o) (sym same) was)
 
 -- where there are no key holders
 pub none_closed : (d : Domain) (aps : List ApState) (stas : List StationState) (o p : Option Shared) → p ≡ None → Closed d aps stas o → Closed d aps stas p

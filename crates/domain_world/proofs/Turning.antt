@@ -9,7 +9,7 @@ use Rattle.run_journal.specs.declared.domain.Domain.{Domain}
 use Rattle.run_journal.specs.declared.domain.Event.{Event}
 use Rattle.run_journal.specs.declared.domain.Event.TheVariants.{Connect, Roam, Deliver, Alter, Cut, Inject, Retry, Rekey, Send, Expire, Revoke, Leave}
 use Rattle.run_journal.specs.declared.acts.Entry.{Entry}
-use Rattle.domain_rules.specs.Rounds.{node_of}
+use Rattle.domain_world.specs.Ordering.{node_of}
 use Rattle.domain_rules.proofs.Parts.{same-true}
 use Rattle.node_base.specs.Events.{IsEventAt}
 use Rattle.domain_world.specs.declared.working.Turn.{Turn}

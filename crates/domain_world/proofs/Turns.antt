@@ -19,7 +19,7 @@ use Rattle.domain_rules.specs.Explained.{push}
 use Rattle.domain_rules.specs.Here.{here}
 use Rattle.held_rows.specs.Knows.{KnowsRows}
 use Rattle.held_rows.proofs.NoLooks.{station_no_looks}
-use Rattle.domain_world.proofs.Moments.{UpTo, Moment, moment_now, moment_grown, AllMoments, grown_push, all_of_held, held_of_all, right_grown, right_asked, right_unasked}
+use Rattle.domain_world.proofs.Moments.{UpTo, Moment, moment_now, moment_grown, AllMoments, grown_push, right_grown, right_asked, right_unasked}
 use Rattle.node_base.specs.Events.{Steps, seen}
 use Rattle.holder_table.specs.declared.history.HolderEvent.{HolderEvent}
 use Rattle.holder_table.specs.Histories.{held_at}
@@ -85,7 +85,7 @@ module _ (n : Nodes) (old new : List HolderEvent) (k : ℕ) (s t : ApState) (eve
         | inr other ↦ subst (λ (xs : List HeldRow). Moment d r xs name i round whole) (sym (leaves r other.1 listed_r))
             (moment_grown d r (held_at r old) name i round j whole (grown_push round (Ap k) g j) (moment_now d r (held_at r old) name i round j low_i up (know r listed_r)))
       ] in
-      held_of_all d whole (right_asked d k round (λ r. held_at r old) (λ r. held_at r new) whole g j (named d form) moments (know k low) (looks_both d k old new g now.looks) (right_grown d round j whole (grown_push round (Ap k) g j) up (all_of_held d j right)))
+      right_asked d k round (λ r. held_at r old) (λ r. held_at r new) whole g j (named d form) moments (know k low) (looks_both d k old new g now.looks) (right_grown d round j whole (grown_push round (Ap k) g j) up right)
 
   pub acted_ap : InForm n.domain → AreListed n → n.rows ≡ rows_below (length n.aps) old → k < length n.domain.aps → s ≡ slice_index_or n.aps k s → t.number ≡ s.number → Turned n.domain s.number event s t old new g → LeavesAll n s.number old new → Stand n j
       → Acted (Ap k) event j n (with_ap_node n k t (rows_below (length (slice_set n.aps k t)) new)) g
@@ -123,5 +123,5 @@ acted_sta old k s t event waited waits outcome j listed low stands empty steps i
       stand = λ round. subst (λ (g : List Act). Stand (with_station_node old k t) (push round (Sta k) g j)) acts (stand_sta old k t done.acts j is done.stands round);
       right = λ round up right.
           (let whole = push round (Sta k) waits j in
-          held_of_all old.domain whole (right_unasked old.domain round (Sta k) waits whole j (station_no_looks old.domain 0 k h event waits says) (right_grown old.domain round j whole (grown_push round (Sta k) waits j) up (all_of_held old.domain j right))));
+          right_unasked old.domain round (Sta k) waits whole j (station_no_looks old.domain 0 k h event waits says) (right_grown old.domain round j whole (grown_push round (Sta k) waits j) up right));
     }

@@ -1,5 +1,5 @@
 -- What the workers of a round did, as it stands in the journal.
-use Rattle.std.proofs.Common.{◌≡◌, ℕ, ◌<◌, ◌+◌, true, List, [], ◌∷◌, ◌++◌, length, map, refl, sym, ap, subst, ◌∙◌, inl, inr}
+use Rattle.std.proofs.Common.{◌≡◌, ℕ, ◌<◌, true, List, [], ◌∷◌, ◌++◌, length, map, refl, sym, ap, subst, ◌∙◌, inl, inr}
 use Rattle.std.specs.List.{AllByRecursion, list_any}
 use Rattle.domain_base.specs.declared.names.Node.{Node}
 use Rattle.domain_base.specs.declared.names.Node.TheVariants.{Ap, Sta}
@@ -17,10 +17,11 @@ use Rattle.run_journal.specs.declared.acts.Act.{Act}
 use Rattle.run_journal.specs.declared.acts.Entry.{Entry}
 use Rattle.run_journal.specs.Questions.{history, add}
 use Rattle.domain_rules.specs.Network.{IsNamed, mac}
-use Rattle.domain_rules.specs.Explained.{push, HappensAt, Follows as StepsOn}
+use Rattle.domain_rules.specs.HeldRight.{AllInTime}
+use Rattle.domain_rules.specs.Explained.{push, HappensAt}
 use Rattle.domain_rules.proofs.Journals.{step_at, history-push}
 use Rattle.held_rows.specs.Knows.{KnowsRows, IsOwn}
-use Rattle.domain_world.proofs.Moments.{UpTo, Moment, moment_now, moment_grown, moment_as, Grown, same_grown, grown_on, grown_push, AllMoments, AnswersBoth, AllHeldRight, right_asked}
+use Rattle.domain_world.proofs.Moments.{UpTo, Moment, moment_now, moment_grown, moment_as, Grown, same_grown, grown_on, grown_push, AllMoments, AnswersBoth, right_asked}
 use Rattle.holder_table.specs.declared.history.HolderEvent.{HolderEvent}
 use Rattle.holder_table.specs.Histories.{held_at, Follows, Grows}
 use Rattle.holder_table.specs.Relations.{follows_on}
@@ -30,6 +31,7 @@ use Rattle.ap_node.specs.Putting.{OneMove}
 use Rattle.ap_node.specs.Stands.{StandsWith as ApStands}
 use Rattle.domain_world.specs.declared.part.Part.{Part}
 use Rattle.domain_world.specs.declared.working.Turn.{Turn}
+use Rattle.domain_world.specs.Ordering.{InTurn}
 use Rattle.domain_world.specs.Waiting.{joined, AreShort}
 use Rattle.domain_world.specs.Working.{LookedAt, Turns, Turned, turn_event, Worked}
 use Rattle.domain_world.proofs.Between.{either_first, same_between, move_between, own_at}
@@ -126,7 +128,7 @@ module _ (d : Domain) (a round : ℕ) where
 
   -- the steps of the journal
   pub worked_follows : (es : List Turn) (s t : ApState) (old new : List HolderEvent) (ps : List Part) (i : List Entry) → AllByRecursion (λ (e : Turn). HappensAt e.event.now i round (Ap a) (turn_event e)) es → Worked d a es s t old new ps
-      → ApStands d 0 s (held_at a old) (history (Ap a) i) → StepsOn d round (map (λ (e : Turn). e.event.now) es) i (joined round ps i)
+      → ApStands d 0 s (held_at a old) (history (Ap a) i) → InTurn d round (map (λ (e : Turn). e.event.now) es) i (joined round ps i)
   unfolding Worked
   worked_follows [] s t old new [] i happens w stands = refl
   worked_follows [] s t old new (p ∷ ps) i happens w stands = absurd w
@@ -152,14 +154,14 @@ module _ (d : Domain) (a round : ℕ) where
       all_happen (f ∷ fs) all = (happens_joined f.event.now round (Ap a) (turn_event f) round (p ∷ []) i all.0, all_happen fs all.1)
 
   -- each event has few acts
-  pub worked_short : (es : List Turn) (s t : ApState) (old new : List HolderEvent) (ps : List Part) (i : List Entry) → Worked d a es s t old new ps → ApStands d 0 s (held_at a old) (history (Ap a) i) → AreShort (8 + length d.stas) ps
+  pub worked_short : (es : List Turn) (s t : ApState) (old new : List HolderEvent) (ps : List Part) (i : List Entry) → Worked d a es s t old new ps → ApStands d 0 s (held_at a old) (history (Ap a) i) → AreShort (length d.stas) ps
   unfolding Worked
   worked_short [] s t old new [] i w stands = tt
   worked_short [] s t old new (p ∷ ps) i w stands = absurd w
   worked_short (e ∷ es) s t old new [] i w stands = absurd w
   worked_short (e ∷ es) s t old new (p ∷ ps) i w stands =
       let next = behind s w.0 e old w.1 w.2 p i w.4 w.6 w.7 stands in
-      (few d 0 (Ap a) (history (Ap a) i) (turn_event e) p.out.acts next.0.adds, worked_short es w.0 t w.2 new ps (push round p.node p.out.acts i) w.8 next.1)
+      ((e.event.now, few d e.event.now 0 (Ap a) (history (Ap a) i) (turn_event e) p.out.acts next.0.adds), worked_short es w.0 t w.2 new ps (push round p.node p.out.acts i) w.8 next.1)
 
 -- ---- the moments of a worker
 
@@ -211,7 +213,7 @@ module _ (d : Domain) (a round : ℕ) (first last : List HolderEvent) (whole : L
   AtAllMoments = (at : List HolderEvent) → Follows first at → Follows at last → AllMoments d (λ r. held_at r at) round whole
 
   pub worked_right : (es : List Turn) (s t : ApState) (old new : List HolderEvent) (ps : List Part) (i : List Entry) → IsNamed d → AtAllMoments → s.number ≡ a → Worked d a es s t old new ps → ApStands d 0 s (held_at a old) (history (Ap a) i) → Follows first old → Follows new last
-      → AllHeldRight d whole i → AllHeldRight d whole (joined round ps i)
+      → AllInTime d whole i → AllInTime d whole (joined round ps i)
   unfolding Worked
   worked_right [] s t old new [] i names moments number w stands f g all = all
   worked_right [] s t old new (p ∷ ps) i names moments number w stands f g all = absurd w
@@ -224,4 +226,4 @@ module _ (d : Domain) (a round : ℕ) (first last : List HolderEvent) (whole : L
       let know : KnowsRows d (Ap a) (held_at a w.1) (history (Ap a) i) = subst (λ (xs : List HeldRow). KnowsRows d (Ap a) xs (history (Ap a) i)) (sym w.4) (subst (λ n. KnowsRows d (Ap n) (held_at a old) (history (Ap a) i)) number stands.rows) in
       let one = right_asked d a round (λ r. held_at r w.1) (λ r. held_at r w.2) whole p.out.acts i names (moments w.2 mid rest) know (looks_both d a w.1 w.2 p.out.acts next.0.looks) all in
       worked_right es w.0 t w.2 new ps (push round p.node p.out.acts i) names moments (w.5 ∙ number) w.8 next.1 mid g
-      (subst (λ (n : Node). AllHeldRight d whole (push round n p.out.acts i)) (sym w.6) one)
+      (subst (λ (n : Node). AllInTime d whole (push round n p.out.acts i)) (sym w.6) one)

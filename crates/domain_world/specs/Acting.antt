@@ -1,5 +1,5 @@
 -- What an event at a node does. For the code alone: no public contract speaks of it.
-use Rattle.std.specs.Prelude.{◌≡◌, ◌≤◌, ◌+◌, ℕ, List, length}
+use Rattle.std.specs.Prelude.{◌≡◌, ◌≤◌, ℕ, List, length}
 use Rattle.std.specs.List.{AllByRecursion}
 use Rattle.domain_base.specs.declared.names.Node.{Node}
 use Rattle.run_journal.specs.declared.domain.Event.{Event}
@@ -7,14 +7,15 @@ use Rattle.run_journal.specs.declared.domain.Event.TheVariants.{Alter}
 use Rattle.run_journal.specs.declared.acts.Act.{Act}
 use Rattle.run_journal.specs.declared.acts.Entry.{Entry}
 use Rattle.run_journal.specs.Questions.{history}
-use Rattle.domain_rules.specs.Network.{IsListed}
+use Rattle.run_journal.specs.Events.{IsListed}
 use Rattle.domain_rules.specs.Rows.{NodeEvent, Adds}
-use Rattle.domain_rules.specs.Explained.{push, altered, Follows, WasSent}
+use Rattle.domain_rules.specs.Explained.{push, altered, WasSent}
 use Rattle.domain_rules.specs.Here.{here}
 use Rattle.domain_rules.specs.HeldRight.{AnsweredInTime}
 use Rattle.domain_world.specs.declared.part.Part.{Part}
 use Rattle.domain_world.specs.State.{Nodes}
 use Rattle.domain_world.specs.Owning.{Stand}
+use Rattle.domain_world.specs.Ordering.{InTurn}
 use Rattle.domain_world.specs.Waiting.{joined, AreShort}
 
 -- after that journal the node does these acts, the nodes stand for the journal with them, and key holders answered rightly
@@ -34,10 +35,10 @@ IsChanged event j round changed = Unit {0}
 
 -- events one after the other took the nodes from old to new, and this waits of them
 pub record Played (round : ℕ) (events : List Event) (j : List Entry) (old new : Nodes) (parts : List Part) : Type 0 where
-  pub follows : Follows old.domain round events j (joined round parts j)
+  pub follows : InTurn old.domain round events j (joined round parts j)
   pub stand : Stand new (joined round parts j)
   pub right : AnsweredInTime old.domain (joined round parts j)
   pub listed : AllByRecursion (λ (part : Part). IsListed old.domain part.node) parts
   pub domain : new.domain ≡ old.domain
   pub count : length new.stas ≡ length old.stas
-  pub short : AreShort (8 + length old.stas) parts
+  pub short : AreShort (length old.stas) parts

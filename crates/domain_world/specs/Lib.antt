@@ -1,5 +1,6 @@
 pub mod State
 pub mod Owning
+pub mod Ordering
 pub mod Waiting
 pub mod Acting
 pub mod Holding

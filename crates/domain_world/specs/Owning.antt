@@ -1,21 +1,19 @@
 -- Which journals are a world's own. Journals and histories are NEWEST FIRST.
-use Rattle.std.specs.Prelude.{◌≡◌, ℕ, suc, ◌<◌, ◌≤◌, true, cond, List, [], ◌∷◌, ◌++◌, length, slice_get, Some}
+use Rattle.std.specs.Prelude.{◌≡◌, ℕ, ◌≤◌, true, cond, List, [], ◌∷◌, ◌++◌, length, slice_get, Some}
 use Rattle.std.specs.List.{AllByRecursion}
-use Rattle.domain_base.specs.declared.names.Akm.TheVariants.{FtPsk}
 use Rattle.domain_base.specs.declared.names.Node.TheVariants.{Ap, Sta}
 use Rattle.run_journal.specs.declared.domain.Domain.{Domain}
 use Rattle.run_journal.specs.declared.domain.Event.{Event}
-use Rattle.run_journal.specs.declared.domain.Event.TheVariants.{Connect, Roam, Deliver, Alter, Cut, Inject, Retry, Rekey, Send, Expire, Revoke, Leave}
 use Rattle.run_journal.specs.declared.acts.Entry.{Entry}
 use Rattle.run_journal.specs.Acts.{is_sent}
 use Rattle.run_journal.specs.Questions.{history}
 use Rattle.key_holders.specs.declared.rows.HeldRow.{HeldRow}
 use Rattle.key_holders.specs.Listed.{rows_at}
-use Rattle.domain_rules.specs.Network.{InForm, IsListed, is_ap}
+use Rattle.domain_rules.specs.Network.{InForm, is_ap}
+use Rattle.run_journal.specs.Events.{IsListed, IsEventOf}
 use Rattle.domain_rules.specs.InOctets.{InOctets}
-use Rattle.domain_rules.specs.Rounds.{node_of}
+use Rattle.domain_world.specs.Ordering.{node_of}
 use Rattle.domain_rules.specs.Explained.{frames, number_of, WasSent}
-use Rattle.node_base.specs.Peers.{IsReceiverOf, most_payload}
 use Rattle.station_node.specs.State.{State as StationState}
 use Rattle.station_node.specs.Stands.{Stands as StationStands}
 use Rattle.ap_node.specs.State.{State as ApState}
@@ -31,21 +29,13 @@ pub record HasOctets (j : List Entry) (number size : ℕ) : Type 0 where
   pub sent : WasSent j round number octets
   pub long : size ≤ length octets
 
--- the event names listed nodes of the right kinds, and a frame that was sent; an octet that it changes, and octets that it
--- keeps, are the frame's; a payload has at most so many octets; a fast transition is begun with suite 4 alone
+-- of so many frames that were sent one has that number, and so many octets at least
+abbrev pub IsFrameIn : ℕ → List Entry → ℕ → ℕ → Type 0
+IsFrameIn sent j number size = (1 ≤ number) × (number ≤ sent) × HasOctets j number size
+
+-- the event names listed nodes of the right kinds, and a frame that was sent
 abbrev pub IsEventIn : Domain → ℕ → List Entry → Event → Type 0
-IsEventIn d sent j (Connect s a) = (s < length d.stas) × (a < length d.aps)
-IsEventIn d sent j (Roam s a) = (s < length d.stas) × (a < length d.aps) × (d.akm ≡ FtPsk)
-IsEventIn d sent j (Deliver number to) = (1 ≤ number) × (number ≤ sent) × IsListed d to
-IsEventIn d sent j (Alter number place mask to) = (1 ≤ number) × (number ≤ sent) × IsListed d to × HasOctets j number (suc place)
-IsEventIn d sent j (Cut number size to) = (1 ≤ number) × (number ≤ sent) × IsListed d to × HasOctets j number size
-IsEventIn d sent j (Inject to octets) = IsListed d to
-IsEventIn d sent j (Retry a s) = (a < length d.aps) × (s < length d.stas)
-IsEventIn d sent j (Rekey a) = a < length d.aps
-IsEventIn d sent j (Send from to tid octets) = IsListed d from × IsReceiverOf d from to × (length octets ≤ most_payload)
-IsEventIn d sent j (Expire a s) = (a < length d.aps) × (s < length d.stas)
-IsEventIn d sent j (Revoke a s) = (a < length d.aps) × (s < length d.stas)
-IsEventIn d sent j (Leave s) = s < length d.stas
+IsEventIn d sent j = IsEventOf d (IsFrameIn sent j)
 
 -- frames are numbered from 1 in the order of sending, and every other act has number 0
 unfoldable pub IsNumbered : List Entry → Type 0

@@ -6,7 +6,8 @@ use Rattle.run_journal.specs.declared.domain.Event.{Event}
 use Rattle.run_journal.specs.declared.acts.Entry.{Entry}
 use Rattle.run_journal.specs.Acts.{same}
 use Rattle.domain_rules.specs.Explained.{push}
-use Rattle.domain_rules.specs.Rounds.{node_of}
+use Rattle.domain_rules.specs.Rounds.{most_acts}
+use Rattle.domain_world.specs.Ordering.{node_of}
 use Rattle.domain_world.specs.declared.part.Part.{Part}
 
 -- the journal with what waits of these nodes in that round, one after the other
@@ -19,9 +20,9 @@ abbrev pub waiting : List Part → ℕ
 waiting [] = 0
 waiting (part ∷ parts) = length part.out.acts + waiting parts
 
--- none has more acts than so many
+-- each has no more acts than some event comes to, where so many stations are listed
 abbrev pub AreShort : ℕ → List Part → Type 0
-AreShort most parts = AllByRecursion (λ (part : Part). length part.out.acts ≤ most) parts
+AreShort stas parts = AllByRecursion (λ (part : Part). (event : Event) × (length part.out.acts ≤ most_acts event stas)) parts
 
 -- at an access point: those of the events that are there
 abbrev pub events_at : ℕ → List Event → List Event

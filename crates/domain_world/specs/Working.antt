@@ -10,10 +10,11 @@ use Rattle.run_journal.specs.declared.acts.Act.{Act}
 use Rattle.run_journal.specs.declared.acts.Entry.{Entry}
 use Rattle.run_journal.specs.Acts.{same}
 use Rattle.run_journal.specs.Questions.{add}
-use Rattle.domain_rules.specs.Network.{InForm, IsListed, mac}
+use Rattle.domain_rules.specs.Network.{InForm, mac}
+use Rattle.run_journal.specs.Events.{IsListed}
 use Rattle.domain_rules.specs.Here.{here}
 use Rattle.domain_rules.specs.Explained.{HappensAt}
-use Rattle.domain_rules.specs.Rounds.{node_of}
+use Rattle.domain_world.specs.Ordering.{node_of}
 use Rattle.domain_rules.specs.Rows.{NodeEvent, Adds}
 use Rattle.ft_exchange.specs.Asking.{ids_of}
 use Rattle.node_base.specs.Events.{IsEventAt}

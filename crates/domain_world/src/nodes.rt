@@ -5,13 +5,17 @@ ghost use Rattle.std.specs.Prelude.{OnOk, OnErr};
 ghost use Rattle.std.specs.List.{AllByRecursion};
 ghost use Rattle.domain_base.specs.declared.names.Node.TheVariants.{Ap as ApOf, Sta as StaOf};
 ghost use Rattle.run_journal.specs.declared.domain.ListedAp.{ListedAp as Listed};
+ghost use Rattle.run_journal.specs.declared.domain.Event.{Event};
 ghost use Rattle.run_journal.specs.declared.acts.Entry.{Entry};
 ghost use Rattle.run_journal.specs.Questions.{history};
-ghost use Rattle.domain_rules.specs.Network.{InForm, IsListed};
+ghost use Rattle.domain_rules.specs.Network.{InForm};
+ghost use Rattle.run_journal.specs.Events.{IsListed};
 ghost use Rattle.domain_rules.specs.AccessPointRows.{start_acts};
 ghost use Rattle.domain_rules.specs.Explained.{push};
+ghost use Rattle.domain_rules.specs.Rounds.{most_acts};
 ghost use Rattle.node_base.specs.Events.{event_of, IsEventAt};
 ghost use Rattle.domain_rules.specs.HeldRight.{AnsweredInTime};
+ghost use Rattle.run_journal.specs.Limits.{most_stas};
 ghost use Rattle.run_journal.specs.Listing.{with_ap, with_sta};
 
 use crate::by_ap::Round;
@@ -25,7 +29,7 @@ use act_memory::Outbox;
 use ap_node::ApNode;
 use domain_base::{Mac, NoMemory, Node, Octets};
 use node_base::NodeEvent;
-use run_journal::{Aps, Domain, ListedAp, Stas};
+use run_journal::{Aps, Domain, ListedAp, ListedSta, Stas};
 use station_node::StationNode;
 use std::alloc::Global;
 use std::marker::Model;
@@ -75,11 +79,11 @@ fn list_ap(aps: &mut Aps, ap: ListedAp) -> Result<(), NoMemory>
 }
 
 // One more listed station.
-fn list_station(stas: &mut Stas, address: Mac) -> Result<(), NoMemory>
-    ensures ok { OnOk result (stas.new ≡ stas.old ++ address ∷ []) }
+fn list_station(stas: &mut Stas, sta: ListedSta) -> Result<(), NoMemory>
+    ensures ok { OnOk result (stas.new ≡ stas.old ++ sta ∷ []) }
     ensures err { OnErr result (stas.new ≡ stas.old) }
 {
-    stas.0.push(address)?;
+    stas.0.push(sta)?;
     Ok(())
 }
 
@@ -111,9 +115,9 @@ impl Nodes {
             domain: Domain {
                 seed: header.seed,
                 ssid: Octets(ssid),
-                psk: header.psk,
                 akm: header.akm,
                 mdid: header.mdid,
+                extras: header.extras,
                 aps: Aps(Vec::new(alloc)),
                 stas: Stas(Vec::new(alloc)),
             },
@@ -168,9 +172,14 @@ impl Nodes {
     }
 
     /// One more station.
-    pub(crate) fn add_station(&mut self, alloc: Global, address: Mac) -> Result<(), NoMemory>
-        requires form { InForm (with_sta self.old.domain address) }
-        ensures domain { OnOk result (self.new.domain ≡ with_sta self.old.domain address) }
+    pub(crate) fn add_station(
+        &mut self,
+        alloc: Global,
+        address: Mac,
+        psk: [u8; 32],
+    ) -> Result<(), NoMemory>
+        requires form { InForm (with_sta self.old.domain address psk) }
+        ensures domain { OnOk result (self.new.domain ≡ with_sta self.old.domain address psk) }
         ensures listed { AreListed self.new }
         ensures stand { OnOk result
             ((j : List Entry) → Stand self.old j
@@ -181,7 +190,7 @@ impl Nodes {
     {
         let number = self.stas.len() as u16;
         self.stas.reserve(1)?;
-        list_station(&mut self.domain.stas, address)?;
+        list_station(&mut self.domain.stas, ListedSta { address, psk })?;
         let station = StationNode::start(alloc, number, 0);
         self.stas.push_reserved(station);
         Ok(())
@@ -197,8 +206,9 @@ impl Nodes {
 
     /// How many acts an event adds at most: by a new group key a frame goes to each station.
     pub(crate) fn most_acts(&self) -> usize
-        requires { length self.now.stas ≤ 64 }
-        ensures { result ≡ 8 + length self.now.stas }
+        requires { length self.now.stas ≤ most_stas }
+        ensures few { result ≤ 8 + most_stas }
+        ensures most { (event : Event) → most_acts event (length self.now.stas) ≤ result }
     {
         8 + self.stas.len()
     }

@@ -3,7 +3,7 @@
 ghost use Rattle.std.specs.Prelude.{◌≡◌};
 ghost use Rattle.domain_base.specs.declared.names.Node.TheVariants.{Ap as ApOf};
 ghost use Rattle.run_journal.specs.Acts.{same};
-ghost use Rattle.domain_rules.specs.Rounds.{node_of};
+ghost use Rattle.domain_world.specs.Ordering.{node_of};
 ghost use Rattle.node_base.specs.Events.{event_of};
 ghost use Rattle.domain_world.specs.Comings.{event_at};
 

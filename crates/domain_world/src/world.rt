@@ -6,9 +6,11 @@ ghost use Rattle.std.specs.List.{AllByRecursion};
 ghost use Rattle.domain_base.specs.Octets.{AreOctets};
 ghost use Rattle.air_frame.specs.Sent.{IsAddress};
 ghost use Rattle.run_journal.specs.declared.acts.Entry.{Entry};
-ghost use Rattle.domain_rules.specs.Network.{InForm, IsListed};
+ghost use Rattle.domain_rules.specs.Network.{InForm};
+ghost use Rattle.run_journal.specs.Events.{IsListed};
+ghost use Rattle.run_journal.specs.Limits.{most_events};
 ghost use Rattle.domain_rules.specs.Explained.{HappensAt, Step, Follows, WasSent, started};
-ghost use Rattle.domain_rules.specs.Rounds.{node_of, by_nodes};
+ghost use Rattle.domain_world.specs.Ordering.{node_of};
 ghost use Rattle.domain_rules.specs.HeldRight.{AnsweredInTime};
 ghost use Rattle.node_base.specs.Events.{event_of, IsEventAt};
 ghost use Rattle.run_journal.specs.Listing.{with_ap, with_sta};
@@ -149,11 +151,11 @@ impl World {
         Ok(())
     }
 
-    /// One more station. No event came yet.
-    pub fn add_station(&mut self, address: Mac) -> Result<(), NoMemory>
+    /// One more station, of that pre-shared key. No event came yet.
+    pub fn add_station(&mut self, address: Mac, psk: [u8; 32]) -> Result<(), NoMemory>
         requires first { self.old.rounds ≡ 0 }
-        requires form { InForm (with_sta self.old.domain address) }
-        ensures domain { OnOk result (self.new.domain ≡ with_sta self.old.domain address) }
+        requires form { InForm (with_sta self.old.domain address psk) }
+        ensures domain { OnOk result (self.new.domain ≡ with_sta self.old.domain address psk) }
         ensures own { (j : List Entry) → Owns self.old j → Owns self.new j }
         ensures rounds { self.new.rounds ≡ self.old.rounds }
         ensures started { OnOk result
@@ -162,7 +164,7 @@ impl World {
         ensures same { OnErr result (self.new ≡ self.old) }
     {
         six(&address.0);
-        self.nodes.add_station(self.alloc, address)?;
+        self.nodes.add_station(self.alloc, address, psk)?;
         Ok(())
     }
 
@@ -195,8 +197,8 @@ impl World {
         Ok(())
     }
 
-    /// A round: its events, each at an access point, side by side. There are at most 256. The
-    /// journal is this world's own, and each event might come by itself.
+    /// A round: its events, each at an access point, side by side. There are at most
+    /// `MOST_EVENTS`. The journal is this world's own, and each event might come by itself.
     ///
     /// Each access point that has events has a worker, which takes them as they are listed. However
     /// the workers interleave, the round stands in the journal by access points, in order: what one
@@ -214,10 +216,10 @@ impl World {
         requires own { Owns self.old journal.old.entries }
         requires events { AreEventsIn self.old.domain (length self.old.frames) journal.old.entries
             events.now }
-        requires few_events { length events.now ≤ 256 }
+        requires few_events { length events.now ≤ most_events }
         requires few { self.old.rounds + 1 < 2 ^ 64 }
         ensures steps { OnOk result (Follows self.old.domain (suc self.old.rounds)
-            (by_nodes events.now) journal.old.entries journal.new.entries) }
+            events.now journal.old.entries journal.new.entries) }
         ensures rounds { OnOk result (self.new.rounds ≡ suc self.old.rounds) }
         ensures domain { self.new.domain ≡ self.old.domain }
         ensures own { OnOk result (Owns self.new journal.new.entries) }
@@ -238,10 +240,10 @@ impl World {
         requires own { Owns self.old journal.old.entries }
         requires events { AreEventsIn self.old.domain (length self.old.frames) journal.old.entries
             events.now }
-        requires few_events { length events.now ≤ 256 }
+        requires few_events { length events.now ≤ most_events }
         requires few { self.old.rounds + 1 < 2 ^ 64 }
         ensures steps { OnOk result (Follows self.old.domain (suc self.old.rounds)
-            (by_nodes events.now) journal.old.entries journal.new.entries) }
+            events.now journal.old.entries journal.new.entries) }
         ensures rounds { OnOk result (self.new.rounds ≡ suc self.old.rounds) }
         ensures domain { self.new.domain ≡ self.old.domain }
         ensures own { OnOk result (Owns self.new journal.new.entries) }

@@ -1,5 +1,6 @@
 use Rattle.std.proofs.Common.{◌≡◌, ◌≤◌, ℕ, List, [], ◌∷◌, ◌++◌, length, length-append, refl, sym, ap, subst, ◌∙◌, arith}
 use Rattle.domain_base.specs.declared.names.Node.TheVariants.{Ap}
+use Rattle.run_journal.specs.Limits.{most_aps}
 use Rattle.domain_rules.specs.Network.{IsNamed}
 use Rattle.domain_rules.proofs.Peers.{named}
 use Rattle.ap_node.specs.State.{State as ApState}
@@ -82,7 +83,7 @@ few_before xs x n few = omega (arith, length-append xs (x ∷ []), few)
 
 pub overflow_cast-number : goal.overflow_cast-number
 overflow_cast-number c =
-    omega (arith, few_before c.args.self.now.domain.aps _ 16 c.requires.form.few_aps, ap (λ (n : Nodes). length n.domain.aps) c.self.view_is, c.self.invariant.0.count_aps, c.len-number.ensures, c.self.inside.aps.ok.0)
+    omega (arith, few_before c.args.self.now.domain.aps _ most_aps c.requires.form.few_aps, ap (λ (n : Nodes). length n.domain.aps) c.self.view_is, c.self.invariant.0.count_aps, c.len-number.ensures, c.self.inside.aps.ok.0)
 
 pub returns-in-Ok-clause-node : goal.returns-in-Ok-clause-node
 returns-in-Ok-clause-node c =

@@ -1,4 +1,5 @@
 use Rattle.std.proofs.Common.{◌≡◌, ◌≤◌, ℕ, List, [], ◌∷◌, ◌++◌, length, length-append, refl, ap, subst, sym, ◌∙◌, arith}
+use Rattle.run_journal.specs.Limits.{most_stas}
 use Rattle.station_node.specs.State.{State as StationState}
 use Rattle.domain_rules.specs.Network.{IsNamed}
 use Rattle.domain_rules.proofs.Peers.{named}
@@ -16,13 +17,13 @@ returns-clause-stand c = λ j is none.
     let pushed = c.push_reserved.ensures.items in
     let count : length c.args.self.now.stas ≡ length c.args.self.now.domain.stas = ap (λ (n : Nodes). length n.stas) (sym c.self.view_is) ∙ c.self.invariant.0.count_stas ∙ ap (λ (n : Nodes). length n.domain.stas) c.self.view_is in
     let listed : AreListed c.args.self.now = subst AreListed c.self.view_is c.self.invariant.0 in
-    let domain = added_sta _ _ c.args.address _ (ap (λ (n : Nodes). n.domain) c.self.view_is) c.in_ok-list_station.ensures.ok in
+    let domain = added_sta _ _ c.args.address c.args.psk _ (ap (λ (n : Nodes). n.domain) c.self.view_is) c.in_ok-list_station.ensures.ok in
     let names = subst IsNamed (sym domain) (named _ c.requires.form) in
-    stand_more_sta c.args.self.now _ _ last j (grows_sta c.args.self.now.domain _ c.args.address domain) names listed (ap (λ (n : Nodes). n.aps) c.self.view_is) (ap (λ (n : Nodes). n.rows) c.self.view_is)
+    stand_more_sta c.args.self.now _ _ last j (grows_sta c.args.self.now.domain _ c.args.address c.args.psk domain) names listed (ap (λ (n : Nodes). n.aps) c.self.view_is) (ap (λ (n : Nodes). n.rows) c.self.view_is)
     (pushed ∙ ap (λ (l : List StationState). l ++ last ∷ []) (c.reserve.ensures.items ∙ stas)) count (c.start-station.ensures.stands _) is none
 
 pub returns-clause-domain : goal.returns-clause-domain
-returns-clause-domain c = added_sta _ _ c.args.address _ (ap (λ (n : Nodes). n.domain) c.self.view_is) c.in_ok-list_station.ensures.ok
+returns-clause-domain c = added_sta _ _ c.args.address c.args.psk _ (ap (λ (n : Nodes). n.domain) c.self.view_is) c.in_ok-list_station.ensures.ok
 
 pub returns-clause-listed : goal.returns-clause-listed
 returns-clause-listed c =
@@ -51,4 +52,4 @@ few_before xs x n few = omega (arith, length-append xs (x ∷ []), few)
 
 pub overflow_cast-number : goal.overflow_cast-number
 overflow_cast-number c =
-    omega (arith, few_before c.args.self.now.domain.stas _ 64 c.requires.form.few_stas, ap (λ (n : Nodes). length n.domain.stas) c.self.view_is, c.self.invariant.0.count_stas, c.len-number.ensures, c.self.inside.stas.ok.0)
+    omega (arith, few_before c.args.self.now.domain.stas _ most_stas c.requires.form.few_stas, ap (λ (n : Nodes). length n.domain.stas) c.self.view_is, c.self.invariant.0.count_stas, c.len-number.ensures, c.self.inside.stas.ok.0)

@@ -11,13 +11,13 @@ use Rattle.domain_world.proofs.world.World.add_station.Goals as goal
 
 pub returns-clause-own : goal.returns-clause-own
 returns-clause-own c = λ j own.
-    let domain = c.in_ok-add_station.ensures.domain ∙ ap (λ (w : State). with_sta w.domain c.args.address) c.self.view_is in
+    let domain = c.in_ok-add_station.ensures.domain ∙ ap (λ (w : State). with_sta w.domain c.args.address c.args.psk) c.self.view_is in
     let new = c.add_station.new.self in
     let stand = subst (λ (w : State). (i : List Entry) → Stand (nodes_of w) i → history (Sta (length w.domain.stas)) i ≡ [] → Stand new i) c.self.view_is c.in_ok-add_station.ensures.stand in
-    own_sta c.args.self.now _ c.args.address j own c.requires.first c.requires.form c.six.ensures.size c.six.ensures.octets domain (ap (λ (w : State). w.rounds) c.self.view_is) (ap (λ (w : State). w.usable) c.self.view_is)
+    own_sta c.args.self.now _ c.args.address c.args.psk j own c.requires.first c.requires.form c.six.ensures.size c.six.ensures.octets domain (ap (λ (w : State). w.rounds) c.self.view_is) (ap (λ (w : State). w.usable) c.self.view_is)
     (ap (λ (w : State). w.frames) c.self.view_is) (c.add_station.ensures.rows ∙ ap (λ (w : State). w.rows) c.self.view_is) c.add_station.ensures.listed stand
 
 pub returns-clause-started : goal.returns-clause-started
 returns-clause-started c = λ j before.
-    let domain = c.in_ok-add_station.ensures.domain ∙ ap (λ (w : State). with_sta w.domain c.args.address) c.self.view_is in
-    started_sta c.args.self.now.domain c.add_station.new.self.domain c.args.address j domain before
+    let domain = c.in_ok-add_station.ensures.domain ∙ ap (λ (w : State). with_sta w.domain c.args.address c.args.psk) c.self.view_is in
+    started_sta c.args.self.now.domain c.add_station.new.self.domain c.args.address c.args.psk j domain before

@@ -1,9 +1,11 @@
-use Rattle.std.proofs.Common.{◌≡◌, ◌+◌, suc, ℕ, List, sym, ap, subst, ◌∙◌, arith}
+use Rattle.std.proofs.Common.{◌≡◌, ◌≤◌, ◌+◌, suc, ℕ, List, sym, ap, subst, ◌∙◌, arith}
 use Rattle.run_journal.specs.declared.acts.Entry.{Entry}
 use Rattle.run_journal.specs.Questions.{history}
 use Rattle.node_base.specs.Events.{event_of}
-use Rattle.domain_rules.specs.Network.{InForm, IsListed}
+use Rattle.domain_rules.specs.Network.{InForm}
+use Rattle.run_journal.specs.Events.{IsListed}
 use Rattle.domain_rules.specs.Explained.{push, HappensAt}
+use Rattle.domain_rules.specs.Rounds.{most_acts}
 use Rattle.domain_world.specs.State.{State}
 use Rattle.domain_world.specs.Owning.{AreListed, Stand, nodes_of, places}
 use Rattle.domain_world.specs.Acting.{Acted, IsChanged}
@@ -18,8 +20,9 @@ journal_acts-requires-clause-room c =
     let stand = subst (λ (w : State). Stand (nodes_of w) j) (sym c.self.view_is) c.requires.own.stand in
     let acted = c.in_ok-step.ensures.acted j stand in
     let listed = subst (λ (w : State). AreListed (nodes_of w)) (sym c.self.view_is) c.requires.own.listed in
-    let short = few _ 0 c.at_node-node.result.0 (history c.at_node-node.result.0 j) (event_of c.at_node-node.result.1) c.step.new.out.acts acted.adds in
-    omega (arith, short, c.in_ok-reserve.ensures.spare, listed.count_stas)
+    let most = subst (λ n. most_acts c.args.event.now n ≤ c.most_acts-most.result) listed.count_stas (c.most_acts-most.ensures.most c.args.event.now) in
+    let short = few _ c.args.event.now 0 c.at_node-node.result.0 (history c.at_node-node.result.0 j) (event_of c.at_node-node.result.1) c.step.new.out.acts acted.adds in
+    omega (arith, short, most, c.in_ok-reserve.ensures.spare)
 
 pub journal_acts-requires-clause-places : goal.journal_acts-requires-clause-places
 journal_acts-requires-clause-places c =
@@ -27,8 +30,9 @@ journal_acts-requires-clause-places c =
     let stand = subst (λ (w : State). Stand (nodes_of w) j) (sym c.self.view_is) c.requires.own.stand in
     let acted = c.in_ok-step.ensures.acted j stand in
     let listed = subst (λ (w : State). AreListed (nodes_of w)) (sym c.self.view_is) c.requires.own.listed in
-    let short = few _ 0 c.at_node-node.result.0 (history c.at_node-node.result.0 j) (event_of c.at_node-node.result.1) c.step.new.out.acts acted.adds in
-    omega (arith, short, c.in_ok-reserve-2.ensures.ok, listed.count_stas)
+    let most = subst (λ n. most_acts c.args.event.now n ≤ c.most_acts-most.result) listed.count_stas (c.most_acts-most.ensures.most c.args.event.now) in
+    let short = few _ c.args.event.now 0 c.at_node-node.result.0 (history c.at_node-node.result.0 j) (event_of c.at_node-node.result.1) c.step.new.out.acts acted.adds in
+    omega (arith, short, most, c.in_ok-reserve-2.ensures.ok)
 
 pub returns-clause-step : goal.returns-clause-step
 returns-clause-step c =

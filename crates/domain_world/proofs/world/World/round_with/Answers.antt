@@ -1,11 +1,14 @@
-use Rattle.std.proofs.Common.{◌≡◌, ◌+◌, ◌*◌, false, suc, List, length, refl, sym, ap, subst, ◌∙◌, arith}
+use Rattle.std.proofs.Common.{◌≡◌, ◌≤◌, ◌+◌, ◌*◌, false, suc, List, length, refl, sym, ap, subst, ◌∙◌, arith}
 use Rattle.run_journal.specs.declared.domain.Event.{Event}
 use Rattle.domain_rules.specs.Explained.{Follows}
+use Rattle.domain_rules.specs.Rounds.{most_acts}
+use Rattle.domain_world.specs.Ordering.{InTurn}
 use Rattle.domain_rules.specs.HeldRight.{AnsweredInTime}
 use Rattle.domain_world.specs.State.{State}
 use Rattle.domain_world.specs.Owning.{AreListed, AreEventsIn, Stand, nodes_of}
 use Rattle.domain_world.specs.Waiting.{joined, events_below}
 use Rattle.domain_world.specs.Acting.{Played}
+use Rattle.domain_world.proofs.InTurn.{follows_in_turn}
 use Rattle.domain_world.proofs.Ordered.{in_order}
 use Rattle.domain_world.proofs.Played.{at_aps, own_round, waiting_short}
 use Rattle.domain_rules.specs.Network.{InForm}
@@ -22,20 +25,22 @@ pub journal_parts-requires-clause-room : goal.journal_parts-requires-clause-room
 journal_parts-requires-clause-room g c =
     let parts = c.in_ok-parts.parts.items in
     let stas = length c.self.inside.nodes.stas in
-    let short = waiting_short (8 + stas) parts c.in_ok-parts.ensures.played.short in
-    let acts : c.most_acts.result ≡ 8 + stas = c.most_acts.ensures ∙ ap (λ n. 8 + n) (ap (λ (w : State). length w.stas) c.self-2.view_is ∙ c.in_ok-parts.ensures.played.count) in
+    let same : length c.self-2.inside.nodes.stas ≡ stas = ap (λ (w : State). length w.stas) c.self-2.view_is ∙ c.in_ok-parts.ensures.played.count in
+    let high : (event : Event) → most_acts event stas ≤ c.most_acts.result = λ event. subst (λ n. most_acts event n ≤ c.most_acts.result) same (c.most_acts.ensures.most event) in
+    let short = waiting_short stas c.most_acts.result parts high c.in_ok-parts.ensures.played.short in
     let count : c.len.result ≡ length parts = omega (arith, c.len.ensures, c.in_ok-parts.parts.ok.0) in
-    let most : (8 + stas) * length parts ≡ c.most_acts.result * c.len.result = ap (λ n. n * length parts) (sym acts) ∙ ap (λ n. c.most_acts.result * n) (sym count) in
+    let most : c.most_acts.result * length parts ≡ c.most_acts.result * c.len.result = ap (λ n. c.most_acts.result * n) (sym count) in
     omega (arith, short, most, c.in_ok-reserve.ensures.spare)
 
 pub journal_parts-requires-clause-places : goal.journal_parts-requires-clause-places
 journal_parts-requires-clause-places g c =
     let parts = c.in_ok-parts.parts.items in
     let stas = length c.self.inside.nodes.stas in
-    let short = waiting_short (8 + stas) parts c.in_ok-parts.ensures.played.short in
-    let acts : c.most_acts.result ≡ 8 + stas = c.most_acts.ensures ∙ ap (λ n. 8 + n) (ap (λ (w : State). length w.stas) c.self-2.view_is ∙ c.in_ok-parts.ensures.played.count) in
+    let same : length c.self-2.inside.nodes.stas ≡ stas = ap (λ (w : State). length w.stas) c.self-2.view_is ∙ c.in_ok-parts.ensures.played.count in
+    let high : (event : Event) → most_acts event stas ≤ c.most_acts.result = λ event. subst (λ n. most_acts event n ≤ c.most_acts.result) same (c.most_acts.ensures.most event) in
+    let short = waiting_short stas c.most_acts.result parts high c.in_ok-parts.ensures.played.short in
     let count : c.len.result ≡ length parts = omega (arith, c.len.ensures, c.in_ok-parts.parts.ok.0) in
-    let most : (8 + stas) * length parts ≡ c.most_acts.result * c.len.result = ap (λ n. n * length parts) (sym acts) ∙ ap (λ n. c.most_acts.result * n) (sym count) in
+    let most : c.most_acts.result * length parts ≡ c.most_acts.result * c.len.result = ap (λ n. c.most_acts.result * n) (sym count) in
     omega (arith, short, most, c.in_ok-reserve-2.ensures.ok)
 
 pub returns-clause-steps : goal.returns-clause-steps
@@ -50,7 +55,8 @@ returns-clause-steps g c =
     let order = in_order (length old.domain.aps) events (at_aps old.domain (length old.frames) j events c.requires.events) in
     let played = subst (λ (w : State). Played (suc w.rounds) (events_below (length w.domain.aps) events) j (nodes_of w) (nodes_of c.play.new.self) parts) c.self.view_is c.in_ok-parts.ensures.played in
     let is = c.journal_parts.ensures.entries ∙ ap (joined (c.self-2.inside.rounds + 1) parts) c.in_ok-reserve.ensures.entries ∙ ap (λ r. joined r parts j) round in
-    subst (Follows old.domain (suc old.rounds) _ j) (sym is) (subst (λ (es : List Event). Follows old.domain (suc old.rounds) es j (joined (suc old.rounds) parts j)) order played.follows)
+    let turn = subst (λ (es : List Event). InTurn old.domain (suc old.rounds) es j (joined (suc old.rounds) parts j)) order played.follows in
+    subst (Follows old.domain (suc old.rounds) events j) (sym is) (follows_in_turn old.domain (suc old.rounds) events j (joined (suc old.rounds) parts j) turn)
 
 pub returns-clause-own : goal.returns-clause-own
 returns-clause-own g c =
