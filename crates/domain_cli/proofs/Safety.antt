@@ -10,22 +10,26 @@ use Rattle.domain_rules.specs.Network.{InForm, IsNamed}
 use Rattle.domain_rules.specs.Explained.{Explained}
 use Rattle.domain_rules.specs.HeldRight.{HeldRight}
 use Rattle.domain_rules.specs.InOctets.{InOctets}
-use Rattle.frame_script.specs.Script.{Draft, AtVersion, AtSeed, AtSsid, AtPsk, AtAkm, AtMdid, AtNodes, InRound}
+use Rattle.journal_safety.specs.NeverBack.{NeverBack}
+use Rattle.frame_script.specs.Script.{Draft, AtVersion, AtHeader, AtNodes, InRound}
 use Rattle.script_runs.specs.declared.stops.Found.{Found}
 use Rattle.script_runs.specs.declared.stops.Found.TheVariants as found
 use Rattle.script_runs.specs.declared.stops.Stop.TheVariants as stop
 use Rattle.script_runs.specs.Script.{IsJournal, Point}
-use Rattle.domain_cli.specs.Safety.{RunsAreSafe}
+use Rattle.domain_cli.specs.Safety.{RunsAreSafe, SafeRun}
 use Rattle.script_runs.specs.Story.{Tells}
 
-none_safe : Safe []
-none_safe = record { installed_once = tt; used_once = tt; joined = tt; handed_up_once = tt; sourced = tt }
+nothing_unsafe : Safe []
+nothing_unsafe = record { installed_once = tt; used_once = tt; joined = tt; handed_up_once = tt; sourced = tt }
+
+none_safe : SafeRun []
+none_safe = record { safe = nothing_unsafe; never_back = tt }
 
 named : (d : Domain) → InForm d → IsNamed d
 named d form = record { aps = form.aps; stas = form.stas }
 
-pub empty_safe : (j : List Entry) → j ≡ [] → Safe j
-empty_safe j none = subst Safe (sym none) none_safe
+pub empty_safe : (j : List Entry) → j ≡ [] → SafeRun j
+empty_safe j none = subst SafeRun (sym none) none_safe
 
 -- what the laws of safety say of one part of it
 abbrev pub Law : (List Entry → Type 0) → Type 0
@@ -40,32 +44,30 @@ pub record Laws : Type 0 where
   pub uses : Law (Once use_of)
   pub sourced : Law Sourced
   pub ups : Law (Once up_of)
+  pub onward : Law NeverBack
 
 pub run_safely : (laws : Laws) → RunsAreSafe
 run_safely laws d run j told fresh apart unforged =
     let octets : d.akm ≡ FtPsk → InOctets d = λ same. told.octets in
     let held : d.akm ≡ FtPsk → HeldRight d j = λ same. told.held in
     let is = named d told.form in
-    record {
+    let safe : Safe j = record {
       installed_once = laws.installs d run j octets held is told.explained fresh apart unforged;
       used_once = laws.uses d run j octets held is told.explained fresh apart unforged;
       joined = laws.joins d run j octets held is told.explained fresh apart unforged;
       handed_up_once = laws.ups d run j octets held is told.explained fresh apart unforged;
       sourced = laws.sourced d run j octets held is told.explained fresh apart unforged;
-    }
+    } in
+    record { safe = safe; never_back = laws.onward d run j octets held is told.explained fresh apart unforged }
 
-told_safe : (safe : RunsAreSafe) (draft : Draft) (run : List (List Event)) (j : List Entry) → IsJournal draft run j → Fresh j → NoCollision j → Unforged j → Safe j
-told_safe safe (AtNodes d) run j told fresh apart unforged = safe d run j told fresh apart unforged
-told_safe safe (InRound d count) run j told fresh apart unforged = safe d run j told fresh apart unforged
+told_safe : (safe : RunsAreSafe) (draft : Draft) (run : List (List Event)) (j : List Entry) → IsJournal draft run j → Fresh j → NoCollision j → Unforged j → SafeRun j
+told_safe safe (AtNodes h) run j told fresh apart unforged = safe h.network run j told fresh apart unforged
+told_safe safe (InRound h count) run j told fresh apart unforged = safe h.network run j told fresh apart unforged
 told_safe safe AtVersion run j told fresh apart unforged = empty_safe j told.1
-told_safe safe AtSeed run j told fresh apart unforged = empty_safe j told.1
-told_safe safe (AtSsid seed) run j told fresh apart unforged = empty_safe j told.1
-told_safe safe (AtPsk seed ssid) run j told fresh apart unforged = empty_safe j told.1
-told_safe safe (AtAkm seed ssid psk) run j told fresh apart unforged = empty_safe j told.1
-told_safe safe (AtMdid seed ssid psk) run j told fresh apart unforged = empty_safe j told.1
+told_safe safe (AtHeader awaited h) run j told fresh apart unforged = empty_safe j told.1
 
 -- however the reading ended
-pub run_safe : (safe : RunsAreSafe) (f : Found) (octets : List ℕ) (ended : Bool) (p : Point) → Tells f octets ended p → Fresh p.journal → NoCollision p.journal → Unforged p.journal → Safe p.journal
+pub run_safe : (safe : RunsAreSafe) (f : Found) (octets : List ℕ) (ended : Bool) (p : Point) → Tells f octets ended p → Fresh p.journal → NoCollision p.journal → Unforged p.journal → SafeRun p.journal
 run_safe safe found.Whole octets ended p t = told_safe safe p.draft p.rounds.run p.journal t.explains.journal
 run_safe safe (found.Stopped (stop.Refused number refusal form)) octets ended p t = told_safe safe p.draft p.rounds.run p.journal t.explains.journal
 run_safe safe (found.Stopped stop.NoMemory) octets ended p t = told_safe safe p.draft p.rounds.run p.journal t.explains.journal

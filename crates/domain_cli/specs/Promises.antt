@@ -4,11 +4,11 @@ use Rattle.domain_base.specs.Causes.{Rose}
 use Rattle.domain_base.specs.Told.{AirStory}
 use Rattle.run_journal.specs.declared.acts.Entry.{Entry}
 use Rattle.run_journal.specs.Premises.{Fresh, NoCollision, Unforged}
-use Rattle.run_journal.specs.Safe.{Safe}
 use Rattle.command_words.specs.declared.Command.{Command}
 use Rattle.command_words.specs.declared.Command.TheVariants.{Replay, Live, Storm}
 use Rattle.domain_cli.specs.declared.status.Status.{Status}
 use Rattle.domain_cli.specs.declared.status.Status.TheVariants as status
+use Rattle.domain_cli.specs.Safety.{SafeRun}
 use Rattle.domain_cli.specs.Story.{Runs, Lives}
 use Rattle.domain_cli.specs.Storms.{StormReports}
 
@@ -85,11 +85,11 @@ IsAnswered Replay s = EndsScript s
 IsAnswered (Live port) s = EndsScript s
 IsAnswered (Storm number) s = EndsStorm s
 
--- the journal that a command leaves is that of its own run, and it is safe
+-- the journal that a command leaves is that of its own run, which is safe
 abbrev pub IsSafe : Command → List Entry → Type 0
-IsSafe Replay j = Safe j
-IsSafe (Live port) j = Safe j
-IsSafe (Storm number) j = Safe j
+IsSafe Replay j = SafeRun j
+IsSafe (Live port) j = SafeRun j
+IsSafe (Storm number) j = SafeRun j
 
 -- ---- in all commands
 

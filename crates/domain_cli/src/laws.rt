@@ -2,10 +2,11 @@
 
 ghost use Rattle.domain_cli.specs.Safety.{RunsAreSafe};
 
-use journal_safety::{hands_up_once, installs_once, joins, uses_once};
+use journal_safety::{hands_up_once, installs_once, joins, keys_never_go_back, uses_once};
 
 /// Where what is drawn is fresh, derived keys do not collide, and every MIC that verified was made
-/// by a holder of its key, a run of rounds in a network is safe, of whatever suite the network is.
+/// by a holder of its key, a run of rounds in a network is safe, of whatever suite the network is,
+/// and no group key that a station takes from an access point goes back in the order of drawing.
 pub fn runs_are_safe()
     ensures { RunsAreSafe }
 {
@@ -13,4 +14,5 @@ pub fn runs_are_safe()
     installs_once();
     uses_once();
     hands_up_once();
+    keys_never_go_back();
 }

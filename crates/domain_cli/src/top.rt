@@ -208,7 +208,8 @@ fn lived<R: Threads + Sync, S: Source, K: Sink, A: Air, D: Draws, G: Gate + Sync
 /// (`did`), that it left alone what it does not ask (`unasked`), that a fault is told exactly where
 /// it happened (`caused`, `told`), that there is no other answer (`complete`), and that the run was
 /// safe where what is drawn is fresh, derived keys do not collide and every MIC that verified was
-/// made by a holder of its key (`safe`). What a command did is
+/// made by a holder of its key (`safe`): that goes for the order of the group keys that stations
+/// take, too. What a command did is
 ///
 /// - of a replay (`Runs`): its journal is that of the rounds that the octets read spell, of which
 ///   each has its end, and key holders answered rightly in it; the octets written are its report;

@@ -18,7 +18,7 @@ use std::alloc::Global;
 
 /// A line of a header behind its first one.
 #[derive(Clone, Copy)]
-pub(crate) enum HeaderLine {
+pub enum HeaderLine {
     /// The seed.
     Seed,
     /// The SSID.
@@ -33,11 +33,11 @@ pub(crate) enum HeaderLine {
 
 /// What a header has said so far, and behind it the nodes listed so far.
 #[derive(Drop)]
-pub(crate) struct Header {
+pub struct Header {
     /// The pre-shared key of the stations that are listed.
-    pub(crate) psk: [u8; 32],
+    pub psk: [u8; 32],
     /// The network.
-    pub(crate) network: Domain,
+    pub network: Domain,
 }
 
 /// Which line of a script is due, and what the lines before it said.

@@ -19,5 +19,6 @@ mod seen;
 mod tokens;
 
 pub use forms::Form;
+pub use header::{Header, HeaderLine};
 pub use reader::{LineFault, Mode, ScriptReader, Step};
 pub use refusal::{Refusal, Untaken};

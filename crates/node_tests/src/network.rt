@@ -8,7 +8,7 @@ ghost use Rattle.key_holders.specs.Listed.{none_held};
 use crate::vectors::{PSK, SEED};
 use domain_base::{Akm, Mac, Octets};
 use key_holders::ListHolders;
-use run_journal::{Aps, Domain, ListedAp, Stas};
+use run_journal::{Aps, Domain, Extras, ListedAp, ListedSta, Stas, Version};
 use std::alloc::Global;
 use std::process::Abort;
 
@@ -39,15 +39,24 @@ pub fn network(rt: &impl Abort, alloc: Global, akm: Akm) -> Domain
         address: Mac([2, 0, 0, 0, 0, 2]),
         r0kh_id: octets(rt, alloc, b"r0kh-2"),
     };
-    let stas = [Mac([2, 0, 0, 0, 0, 0x11]), Mac([2, 0, 0, 0, 0, 0x12])];
+    let one = ListedSta {
+        address: Mac([2, 0, 0, 0, 0, 0x11]),
+        psk: PSK,
+    };
+    let other = ListedSta {
+        address: Mac([2, 0, 0, 0, 0, 0x12]),
+        psk: PSK,
+    };
     Domain {
         seed: SEED,
         ssid: octets(rt, alloc, b"IEEE"),
-        psk: PSK,
         akm,
         mdid,
+        extras: Extras {
+            version: Version::One,
+        },
         aps: Aps(Vec::from_array(alloc, [first, second]).expect(rt, "memory")),
-        stas: Stas(Vec::from_array(alloc, stas).expect(rt, "memory")),
+        stas: Stas(Vec::from_array(alloc, [one, other]).expect(rt, "memory")),
     }
 }
 

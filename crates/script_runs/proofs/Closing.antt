@@ -9,7 +9,7 @@ use Rattle.script_runs.specs.declared.stops.Found.TheVariants as founds
 use Rattle.script_runs.specs.declared.stops.Stop.{Stop}
 use Rattle.script_runs.specs.Feeders.{Reached}
 use Rattle.script_runs.specs.Outer.{Outer}
-use Rattle.script_runs.specs.Script.{most_octets}
+use Rattle.script_runs.specs.Script.{most_in_line}
 use Rattle.script_runs.specs.Stops.{Closes, Halts}
 use Rattle.script_runs.specs.Story.{most_read}
 
@@ -18,7 +18,7 @@ pub closes_in : {L : Type 0} (told : L → Option LinkStory) (first o : Outer L)
 closes_in told first o m n found octets ended j same c = subst (λ (x : Mode). Closes told first o x found octets ended j) same c
 
 -- the source failed
-pub closes_cut : {L : Type 0} (told : L → Option LinkStory) (first o : Outer L) (s : LineFeeder) (m : Mode) (octets : List ℕ) (j : List Entry) → s.state.reader.mode ≡ m → length s.line.items ≤ most_octets → Reached told first o s octets j
+pub closes_cut : {L : Type 0} (told : L → Option LinkStory) (first o : Outer L) (s : LineFeeder) (m : Mode) (octets : List ℕ) (j : List Entry) → s.state.reader.mode ≡ m → length s.line.items ≤ most_in_line → Reached told first o s octets j
     → Closes told first o m founds.ReadFault octets false j
 closes_cut told first o s m octets j same short r =
     closes_in told first o s.state.reader.mode m founds.ReadFault octets false j same (record {

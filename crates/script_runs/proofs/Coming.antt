@@ -18,7 +18,7 @@ use Rattle.script_runs.specs.declared.stops.Stop.TheVariants as stops
 use Rattle.script_runs.specs.declared.stops.Undone.TheVariants as undone
 use Rattle.script_runs.specs.Feeders.{HasCome, Reached}
 use Rattle.script_runs.specs.Outer.{Outer, IsMet, IsBlamed, Nobody}
-use Rattle.script_runs.specs.Script.{Rounds, Begins, NoFeed, Spells, most_lines, most_octets, point_of, texts, without_return}
+use Rattle.script_runs.specs.Script.{Rounds, Begins, NoFeed, Spells, most_lines, most_in_line, point_of, texts, without_return}
 use Rattle.script_runs.specs.States.{HasSame, IsReady, TellsLine}
 use Rattle.script_runs.specs.Stops.{Closes, EndsAt, Halts, IsRefusal, Stopped, StopsLine, stop_blame, undone_blame}
 use Rattle.script_runs.proofs.Blamed.{unblamed}
@@ -32,7 +32,7 @@ spelled_on s m octets draft rounds j k come mode same =
 
 -- ---- behind a line feed
 
-pub reached_line : {L : Type 0} (told : L → Option LinkStory) (first o : Outer L) (s t : LineFeeder) (octets : List ℕ) (draft : Draft) (rounds : Rounds) (j k : List Entry) → HasCome s octets draft rounds j → length s.line.items ≤ most_octets → s.lines < most_lines → t.line.items ≡ [] → t.lines ≡ s.lines + 1
+pub reached_line : {L : Type 0} (told : L → Option LinkStory) (first o : Outer L) (s t : LineFeeder) (octets : List ℕ) (draft : Draft) (rounds : Rounds) (j k : List Entry) → HasCome s octets draft rounds j → length s.line.items ≤ most_in_line → s.lines < most_lines → t.line.items ≡ [] → t.lines ≡ s.lines + 1
     → t.state.reader.mode ≡ s.state.reader.mode → TellsLine told first o (without_return s.line.items) draft rounds t.state j k → Reached told first o t (octets ++ 10 ∷ []) k
 reached_line told first o s t octets draft rounds j k come short few empty count mode tells = record {
   draft = tells.draft;
@@ -48,7 +48,7 @@ reached_line told first o s t octets draft rounds j k come short few empty count
   met = tells.met;
 }
 
-pub halts_line : {L : Type 0} (told : L → Option LinkStory) (first old new : Outer L) (s : LineFeeder) (stop : Stop) (octets : List ℕ) (draft : Draft) (rounds : Rounds) (j k : List Entry) → HasCome s octets draft rounds j → IsMet told first old s.state.reader.mode draft rounds j → length s.line.items ≤ most_octets
+pub halts_line : {L : Type 0} (told : L → Option LinkStory) (first old new : Outer L) (s : LineFeeder) (stop : Stop) (octets : List ℕ) (draft : Draft) (rounds : Rounds) (j k : List Entry) → HasCome s octets draft rounds j → IsMet told first old s.state.reader.mode draft rounds j → length s.line.items ≤ most_in_line
     → StopsLine stop told first old new s.state.reader.mode s.lines (without_return s.line.items) draft rounds j k → Halts told first new s.state.reader.mode 1 stop (octets ++ 10 ∷ []) k
 halts_line told first old new s stop octets draft rounds j k come met short why =
     Halts-line told first old new s.state.reader.mode stop s.lines octets come.good s.line.items draft rounds j k come.begins come.open_line short come.count (record { spelled = come.spelled; journal = come.stands.journal }) met why
@@ -100,7 +100,7 @@ closes_here told first o s found octets j r empty some end =
     (r.come.count ∙ sym (length-texts r.come.good)) (IsScript-closed octets r.come.good s.line.items r.come.begins empty (omega (arith, r.come.count, some))) (record { spelled = r.come.spelled; journal = r.come.stands.journal }) r.met
 
 -- or lacks it, and is taken
-pub closes_line : {L : Type 0} (told : L → Option LinkStory) (first o : Outer L) (s : LineFeeder) (t : ScriptState) (found : Found) (octets : List ℕ) (draft : Draft) (rounds : Rounds) (j k : List Entry) → (come : HasCome s octets draft rounds j) → length s.line.items ≤ most_octets → s.lines < most_lines
+pub closes_line : {L : Type 0} (told : L → Option LinkStory) (first o : Outer L) (s : LineFeeder) (t : ScriptState) (found : Found) (octets : List ℕ) (draft : Draft) (rounds : Rounds) (j k : List Entry) → (come : HasCome s octets draft rounds j) → length s.line.items ≤ most_in_line → s.lines < most_lines
     → (s.line.items ≢ []) ⊎ (come.good ≡ []) → t.reader.mode ≡ s.state.reader.mode → TellsLine told first o s.line.items draft rounds t j k → EndsAt found (s.lines + 1) t.reader.draft → Closes told first o s.state.reader.mode found octets true k
 closes_line told first o s t found octets draft rounds j k come short few some mode tells end =
     let spelled = spelled_on s t.reader.mode octets draft rounds j k come mode tells.same in
@@ -111,7 +111,7 @@ closes_line told first o s t found octets draft rounds j k come short few some m
     (record { spelled = Spells-line t.reader.mode k s.line.items (texts come.good) draft tells.draft rounds tells.rounds spelled tells.says; journal = tells.stands.journal }) tells.met)
 
 -- or it stops the reading
-pub closes_last : {L : Type 0} (told : L → Option LinkStory) (first old new : Outer L) (s : LineFeeder) (stop : Stop) (octets : List ℕ) (draft : Draft) (rounds : Rounds) (j k : List Entry) → (come : HasCome s octets draft rounds j) → IsMet told first old s.state.reader.mode draft rounds j → length s.line.items ≤ most_octets
+pub closes_last : {L : Type 0} (told : L → Option LinkStory) (first old new : Outer L) (s : LineFeeder) (stop : Stop) (octets : List ℕ) (draft : Draft) (rounds : Rounds) (j k : List Entry) → (come : HasCome s octets draft rounds j) → IsMet told first old s.state.reader.mode draft rounds j → length s.line.items ≤ most_in_line
     → (s.line.items ≢ []) ⊎ (come.good ≡ []) → StopsLine stop told first old new s.state.reader.mode s.lines s.line.items draft rounds j k → Closes told first new s.state.reader.mode (founds.Stopped stop) octets true k
 closes_last told first old new s stop octets draft rounds j k come met short some why =
     Closes-last told first old new s.state.reader.mode stop s.lines octets come.good s.line.items draft rounds j k come.begins come.open_line short come.count some (record { spelled = come.spelled; journal = come.stands.journal }) met why

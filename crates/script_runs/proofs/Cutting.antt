@@ -14,7 +14,7 @@ use Rattle.domain_links.proofs.Going.{Tell-same, has_item, sends-two}
 use Rattle.script_runs.specs.Script.{Rounds, LastLine, Turned}
 use Rattle.script_runs.specs.Outer.{Cuts, TookSome, TellLast, sends_for}
 use Rattle.script_runs.specs.Turning.{IsTaken, sent_by_then, stage}
-use Rattle.script_runs.proofs.Growing.{Late, Late-step}
+use Rattle.script_runs.proofs.Growing.{Late, Late-follows}
 
 -- ---- frames
 
@@ -71,7 +71,7 @@ turn_cut told d links rounds v k Took count turned some = elim [
   | inl t ↦ (t.left, none_cut told d links rounds k t.left (subst (λ (x : LastLine). Cuts x rounds.turns []) (sym turned) (inl refl)) t.tell)
   | inr part ↦
       let t = part.1 in
-      let late = Late-step t.was.world.domain (suc t.was.world.rounds) (Inject t.node t.octets) t.was.journal k t.round.goes in (
+      let late = Late-follows t.was.world.domain (suc t.was.world.rounds) (Inject t.node t.octets ∷ []) t.was.journal k t.round.goes in (
         t.left,
         last_cut told d links rounds t.was.journal k t.left t.front t.rest (subst (λ (n : ℕ). Late n t.was.journal k) (sym t.round.rounds ∙ count) late) t.whole
             (subst (λ (x : LastLine). Cuts x rounds.turns t.rest) (sym turned) (inr (some part.0))) t.tell,

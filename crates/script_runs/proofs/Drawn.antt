@@ -13,8 +13,9 @@ use Rattle.domain_base.specs.declared.names.Peer.TheVariants.{One, All}
 use Rattle.run_journal.specs.declared.domain.Domain.{Domain}
 use Rattle.run_journal.specs.declared.domain.Event.{Event}
 use Rattle.run_journal.specs.declared.domain.Event.TheVariants.{Retry, Expire, Revoke, Leave, Send}
+use Rattle.run_journal.specs.Events.{IsListed}
 use Rattle.frame_script.specs.Script.{size_of}
-use Rattle.frame_script.specs.Headers.{CanHappen, IsListedIn, IsSized}
+use Rattle.frame_script.specs.Headers.{CanHappen, IsSized}
 use Rattle.storm.specs.declared.seen.Frame.{Frame}
 use Rattle.storm.specs.Drawing.{Draws, ◌>>=◌, after, drawn, given}
 use Rattle.storm.specs.Frames.{frame_at}
@@ -88,11 +89,11 @@ send_can d sizes n x =
 
 -- ---- frames
 
-named : (d : Domain) (x : ℕ) (b : Bool) (node : Node) → Nodes d → (b ≡ true → IsListedIn d node) → IsListedIn d ((if b then given node else any_sta) x).0
+named : (d : Domain) (x : ℕ) (b : Bool) (node : Node) → Nodes d → (b ≡ true → IsListed d node) → IsListed d ((if b then given node else any_sta) x).0
 named d x true node n is = is refl
 named d x false node n is = sta_low d x n
 
-receiver_listed : (d : Domain) (peer : Peer) (x : ℕ) → Nodes d → IsListedIn d (receiver peer x).0
+receiver_listed : (d : Domain) (peer : Peer) (x : ℕ) → Nodes d → IsListed d (receiver peer x).0
 unfolding receiver
 receiver_listed d (One (Ap k)) x n = named d x (nat_lt k 4) (Ap k) n (λ e. let low = ltb-true k 4 e in omega (arith, low, n.aps))
 receiver_listed d (One (Sta k)) x n = named d x (nat_lt k 8) (Sta k) n (λ e. let low = ltb-true k 8 e in omega (arith, low, n.stas))

@@ -3,11 +3,14 @@ use Rattle.std.proofs.Common.{◌≡◌, ℕ, Bool, true, false, if◌then◌els
 use Rattle.std.specs.Prelude.{nat_le}
 use Rattle.domain_base.specs.declared.names.Akm.{Akm}
 use Rattle.domain_base.specs.declared.names.Akm.TheVariants.{Psk, FtPsk, PskSha256}
-use Rattle.run_journal.specs.declared.domain.Domain.{Domain}
+use Rattle.run_journal.specs.Limits.{most_frames}
 use Rattle.run_journal.specs.declared.acts.Entry.{Entry}
 use Rattle.domain_links.specs.Turns.{Delivery}
+use Rattle.frame_script.specs.declared.header.Header.{Header}
+use Rattle.frame_script.specs.declared.header.HeaderLine.{HeaderLine}
+use Rattle.frame_script.specs.declared.header.HeaderLine.TheVariants as awaits
 use Rattle.frame_script.specs.Tokens.{first_word}
-use Rattle.frame_script.specs.Script.{◌>>=◌, Fault, arguments, mode, many_frames, Draft, AtVersion, AtSeed, AtSsid, AtPsk, AtAkm, AtMdid, AtNodes, InRound, Said, Goes, ListsAp, ListsSta, Asks, BeginsRound, EndsRound, after_suite, akm_of, header_line, is_passed_over, is_within, line_says, mdid_of, new_network, psk_of, said_after, ssid_of}
+use Rattle.frame_script.specs.Script.{◌>>=◌, Fault, arguments, mode, many_frames, Draft, AtVersion, AtHeader, AtNodes, InRound, Said, Goes, ListsAp, ListsSta, Asks, BeginsRound, EndsRound, after_suite, akm_of, header_line, is_passed_over, is_within, line_says, mdid_of, psk_of, said_after, seeded, ssid_of, with_mdid, with_psk, with_ssid}
 use Rattle.frame_script.specs.Live.{Heard, Plain, Draws, Turns, brings, own_says, plain, heard, turn_line}
 use Rattle.frame_script.specs.declared.reader.Mode.{Mode}
 use Rattle.frame_script.specs.declared.reader.Mode.TheVariants.{Replay, Live}
@@ -17,7 +20,7 @@ use Rattle.script_runs.proofs.Goings.{same_network, same_round}
 -- no seed was told
 abbrev pub IsEarly : Draft → Type 0
 IsEarly AtVersion = Unit {0}
-IsEarly AtSeed = Unit {0}
+IsEarly (AtHeader awaits.Seed h) = Unit {0}
 IsEarly draft = ⊥
 
 abbrev IsLate : Draft → Type 0
@@ -25,13 +28,13 @@ IsLate draft = IsEarly draft → ⊥
 
 is_early : (draft : Draft) → IsEarly draft ⊎ IsLate draft
 is_early AtVersion = inl tt
-is_early AtSeed = inl tt
-is_early (AtSsid seed) = inr (λ e. e)
-is_early (AtPsk seed ssid) = inr (λ e. e)
-is_early (AtAkm seed ssid psk) = inr (λ e. e)
-is_early (AtMdid seed ssid psk) = inr (λ e. e)
-is_early (AtNodes d) = inr (λ e. e)
-is_early (InRound d count) = inr (λ e. e)
+is_early (AtHeader awaits.Seed h) = inl tt
+is_early (AtHeader awaits.Ssid h) = inr (λ e. e)
+is_early (AtHeader awaits.Psk h) = inr (λ e. e)
+is_early (AtHeader awaits.Akm h) = inr (λ e. e)
+is_early (AtHeader awaits.Mdid h) = inr (λ e. e)
+is_early (AtNodes h) = inr (λ e. e)
+is_early (InRound h count) = inr (λ e. e)
 
 -- ---- what a line says behind it
 
@@ -76,59 +79,44 @@ goes_due : (before : Draft) (r : Result Draft Fault) → DueLate r → StaysLate
 goes_due before (Ok next) late = late
 goes_due before (Err fault) late = tt
 
-suite_late : (seed ssid psk : List ℕ) (akm : Akm) → IsLate (after_suite seed ssid psk akm)
-suite_late seed ssid psk FtPsk = λ e. e
-suite_late seed ssid psk Psk = λ e. e
-suite_late seed ssid psk PskSha256 = λ e. e
+suite_late : (h : Header) (akm : Akm) → IsLate (after_suite h akm)
+suite_late h FtPsk = λ e. e
+suite_late h Psk = λ e. e
+suite_late h PskSha256 = λ e. e
 
-ssid_due : (seed word text : List ℕ) → DueLate (header_line (AtSsid seed) word text)
+line_due : (awaited : HeaderLine) (h : Header) (word text : List ℕ) → IsLate (AtHeader awaited h) → DueLate (header_line awaited h word text)
 unfolding header_line
-ssid_due seed word text = either_due (bytes_eq word (codes "ssid")) _ _ (next_due (ssid_of text) (λ ssid. AtPsk seed ssid) (λ ssid. λ e. e)) tt
+line_due awaits.Seed h word text late = absurd (late tt)
+line_due awaits.Ssid h word text late = either_due (bytes_eq word (codes "ssid")) _ _ (next_due (ssid_of text) (λ ssid. AtHeader awaits.Psk (with_ssid h ssid)) (λ ssid. λ e. e)) tt
+line_due awaits.Psk h word text late = next_due (psk_of h.network.ssid word text) (λ psk. AtHeader awaits.Akm (with_psk h psk)) (λ psk. λ e. e)
+line_due awaits.Akm h word text late = either_due (bytes_eq word (codes "akm")) _ _ (next_due (akm_of text) (λ akm. after_suite h akm) (suite_late h)) tt
+line_due awaits.Mdid h word text late = either_due (bytes_eq word (codes "mdid")) _ _ (next_due (mdid_of text) (λ mdid. AtNodes (with_mdid h mdid)) (λ mdid. λ e. e)) tt
 
-psk_due : (seed ssid word text : List ℕ) → DueLate (header_line (AtPsk seed ssid) word text)
-unfolding header_line
-psk_due seed ssid word text = next_due (psk_of ssid word text) (λ psk. AtAkm seed ssid psk) (λ psk. λ e. e)
+nodes_late : (h : Header) (r : Result Said Fault) → ((next : Draft) → r ≡ Ok (Goes next) → next ≡ AtNodes h) → StaysLate (AtNodes h) r
+nodes_late h (Ok (Goes next)) same = λ e. subst IsEarly (same next refl) e
+nodes_late h (Ok (ListsAp address id)) same = λ e. e
+nodes_late h (Ok (ListsSta address psk)) same = λ e. e
+nodes_late h (Ok (Asks event)) same = λ e. e
+nodes_late h (Ok BeginsRound) same = λ e. e
+nodes_late h (Ok EndsRound) same = λ e. e
+nodes_late h (Err fault) same = tt
 
-akm_due : (seed ssid psk word text : List ℕ) → DueLate (header_line (AtAkm seed ssid psk) word text)
-unfolding header_line
-akm_due seed ssid psk word text = either_due (bytes_eq word (codes "akm")) _ _ (next_due (akm_of text) (λ akm. after_suite seed ssid psk akm) (suite_late seed ssid psk)) tt
-
-mdid_due : (seed ssid psk word text : List ℕ) → DueLate (header_line (AtMdid seed ssid psk) word text)
-unfolding header_line
-mdid_due seed ssid psk word text = either_due (bytes_eq word (codes "mdid")) _ _ (next_due (mdid_of text) (λ mdid. AtNodes (new_network seed ssid psk FtPsk mdid)) (λ mdid. λ e. e)) tt
-
-nodes_late : (d : Domain) (r : Result Said Fault) → ((next : Draft) → r ≡ Ok (Goes next) → next ≡ AtNodes d) → StaysLate (AtNodes d) r
-nodes_late d (Ok (Goes next)) same = λ e. subst IsEarly (same next refl) e
-nodes_late d (Ok (ListsAp address id)) same = λ e. e
-nodes_late d (Ok (ListsSta address)) same = λ e. e
-nodes_late d (Ok (Asks event)) same = λ e. e
-nodes_late d (Ok BeginsRound) same = λ e. e
-nodes_late d (Ok EndsRound) same = λ e. e
-nodes_late d (Err fault) same = tt
-
-round_late : (d : Domain) (count : ℕ) (r : Result Said Fault) → ((next : Draft) → r ≡ Ok (Goes next) → next ≡ InRound d count) → StaysLate (InRound d count) r
-round_late d count (Ok (Goes next)) same = λ e. subst IsEarly (same next refl) e
-round_late d count (Ok (ListsAp address id)) same = λ e. e
-round_late d count (Ok (ListsSta address)) same = λ e. e
-round_late d count (Ok (Asks event)) same = λ e. e
-round_late d count (Ok BeginsRound) same = λ e. e
-round_late d count (Ok EndsRound) same = λ e. e
-round_late d count (Err fault) same = tt
+round_late : (h : Header) (count : ℕ) (r : Result Said Fault) → ((next : Draft) → r ≡ Ok (Goes next) → next ≡ InRound h count) → StaysLate (InRound h count) r
+round_late h count (Ok (Goes next)) same = λ e. subst IsEarly (same next refl) e
+round_late h count (Ok (ListsAp address id)) same = λ e. e
+round_late h count (Ok (ListsSta address psk)) same = λ e. e
+round_late h count (Ok (Asks event)) same = λ e. e
+round_late h count (Ok BeginsRound) same = λ e. e
+round_late h count (Ok EndsRound) same = λ e. e
+round_late h count (Err fault) same = tt
 
 line_late : (before : Draft) (n : ℕ) (sizes line : List ℕ) → IsLate before → StaysLate before (line_says before n sizes line)
 unfolding line_says
 line_late AtVersion n sizes line late = absurd (late tt)
-line_late AtSeed n sizes line late = absurd (late tt)
-line_late (AtSsid seed) n sizes line late =
-    either_line (AtSsid seed) (is_passed_over line) _ _ late (goes_due (AtSsid seed) _ (ssid_due seed (first_word line).0 (first_word line).1))
-line_late (AtPsk seed ssid) n sizes line late =
-    either_line (AtPsk seed ssid) (is_passed_over line) _ _ late (goes_due (AtPsk seed ssid) _ (psk_due seed ssid (first_word line).0 (first_word line).1))
-line_late (AtAkm seed ssid psk) n sizes line late =
-    either_line (AtAkm seed ssid psk) (is_passed_over line) _ _ late (goes_due (AtAkm seed ssid psk) _ (akm_due seed ssid psk (first_word line).0 (first_word line).1))
-line_late (AtMdid seed ssid psk) n sizes line late =
-    either_line (AtMdid seed ssid psk) (is_passed_over line) _ _ late (goes_due (AtMdid seed ssid psk) _ (mdid_due seed ssid psk (first_word line).0 (first_word line).1))
-line_late (AtNodes d) n sizes line late = nodes_late d (line_says (AtNodes d) n sizes line) (λ next is. same_network d n sizes line next is)
-line_late (InRound d count) n sizes line late = round_late d count (line_says (InRound d count) n sizes line) (λ next is. same_round d count n sizes line next is)
+line_late (AtHeader awaited h) n sizes line late =
+    either_line (AtHeader awaited h) (is_passed_over line) _ _ late (goes_due (AtHeader awaited h) _ (line_due awaited h (first_word line).0 (first_word line).1 late))
+line_late (AtNodes h) n sizes line late = nodes_late h (line_says (AtNodes h) n sizes line) (λ next is. same_network h n sizes line next is)
+line_late (InRound h count) n sizes line late = round_late h count (line_says (InRound h count) n sizes line) (λ next is. same_round h count n sizes line next is)
 
 -- a line with a meaning of its own
 turn_late : (before : Draft) (sizes : List ℕ) (b : Bool) → HearsLate before (if b then Ok Turns else Err many_frames)
@@ -142,15 +130,15 @@ word_late before false = tt
 own_late : (before : Draft) (sizes line : List ℕ) → IsLate before → OwnLate before (own_says before sizes line)
 unfolding own_says
 own_late AtVersion sizes line late = absurd (late tt)
-own_late AtSeed sizes line late = absurd (late tt)
-own_late (AtSsid seed) sizes line late = tt
-own_late (AtPsk seed ssid) sizes line late = tt
-own_late (AtAkm seed ssid psk) sizes line late = tt
-own_late (AtMdid seed ssid psk) sizes line late = tt
-own_late (AtNodes d) sizes line late =
-    either_own (AtNodes d) (bytes_eq line (codes "turn")) (Some (turn_line sizes)) _ (turn_late (AtNodes d) sizes (nat_le (length sizes) 65535))
-    (either_own (AtNodes d) (bytes_eq (first_word line).0 (codes "turn")) (Some (Err arguments)) _ tt (word_late (AtNodes d) (brings (first_word line).0)))
-own_late (InRound d count) sizes line late = word_late (InRound d count) (brings (first_word line).0)
+own_late (AtHeader awaits.Seed h) sizes line late = absurd (late tt)
+own_late (AtHeader awaits.Ssid h) sizes line late = tt
+own_late (AtHeader awaits.Psk h) sizes line late = tt
+own_late (AtHeader awaits.Akm h) sizes line late = tt
+own_late (AtHeader awaits.Mdid h) sizes line late = tt
+own_late (AtNodes h) sizes line late =
+    either_own (AtNodes h) (bytes_eq line (codes "turn")) (Some (turn_line sizes)) _ (turn_late (AtNodes h) sizes (nat_le (length sizes) most_frames))
+    (either_own (AtNodes h) (bytes_eq (first_word line).0 (codes "turn")) (Some (Err arguments)) _ tt (word_late (AtNodes h) (brings (first_word line).0)))
+own_late (InRound h count) sizes line late = word_late (InRound h count) (brings (first_word line).0)
 
 plain_late : (before : Draft) (r : Result Said Fault) → StaysLate before r → HearsLate before (plain r)
 plain_late before (Ok said) late = late
@@ -178,7 +166,7 @@ either_inside earlier false x y p q = q
 plain_inside : (before : Draft) (earlier : Rounds) (said : Said) → IsInside earlier (rounds_with before earlier said)
 plain_inside before earlier (Goes next) = record { drawn = refl; turns = refl }
 plain_inside before earlier (ListsAp address id) = record { drawn = refl; turns = refl }
-plain_inside before earlier (ListsSta address) = record { drawn = refl; turns = refl }
+plain_inside before earlier (ListsSta address psk) = record { drawn = refl; turns = refl }
 plain_inside before earlier (Asks event) =
     let is = either_inside earlier (is_within before) (with_waiting earlier (earlier.waiting ++ event ∷ [])) (with_round earlier (event ∷ [])) (record { drawn = refl; turns = refl }) (record { drawn = refl; turns = refl }) in
     record { drawn = is.drawn; turns = is.turns }
@@ -187,13 +175,22 @@ plain_inside before earlier EndsRound = record { drawn = refl; turns = refl }
 
 turn_outside : (before : Draft) (given : List Delivery) → IsTurnAt before given → IsLate before
 turn_outside AtVersion given at early = at
-turn_outside AtSeed given at early = at
-turn_outside (AtSsid seed) given at early = at
-turn_outside (AtPsk seed ssid) given at early = at
-turn_outside (AtAkm seed ssid psk) given at early = at
-turn_outside (AtMdid seed ssid psk) given at early = at
-turn_outside (AtNodes d) given at early = early
-turn_outside (InRound d count) given at early = at
+turn_outside (AtHeader awaited h) given at early = at
+turn_outside (AtNodes h) given at early = early
+turn_outside (InRound h count) given at early = at
+
+-- a seed that is drawn was told
+no_draws : (r : Result Said Fault) → plain r ≡ Ok Draws → ⊥
+no_draws (Ok said) e = absurd cc
+no_draws (Err fault) e = absurd cc
+
+seed_told : (m : Mode) (before : Draft) (n : ℕ) (sizes line seed : List ℕ) → says_in m before n sizes line ≡ Ok Draws → IsLate (seeded before seed)
+unfolding own_says
+seed_told Replay AtVersion n sizes line seed says early = no_draws (line_says AtVersion n sizes line) says
+seed_told Live AtVersion n sizes line seed says early = no_draws (line_says AtVersion n sizes line) says
+seed_told m (AtHeader awaited h) n sizes line seed says early = early
+seed_told m (AtNodes h) n sizes line seed says early = early
+seed_told m (InRound h count) n sizes line seed says early = early
 
 -- where no seed was told, none was before, and none drawn
 record WasEarly (before : Draft) (earlier rounds : Rounds) : Type 0 where
@@ -208,7 +205,7 @@ early_before m before draft earlier rounds n sizes line (Plain said) says means 
   ];
   drawn = ap (λ (r : Rounds). r.drawn) means.1 ∙ (plain_inside before earlier said).drawn;
 }
-early_before m before draft earlier rounds n sizes line Draws says means early = absurd (subst IsEarly means.1.0 early)
+early_before m before draft earlier rounds n sizes line Draws says means early = absurd (seed_told m before n sizes line means.0 says (subst IsEarly means.1.0 early))
 early_before m before draft earlier rounds n sizes line Turns says means early =
     absurd (turn_outside before means.0 means.1.0 (subst IsEarly means.1.1.0 early))
 

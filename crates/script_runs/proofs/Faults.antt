@@ -5,11 +5,11 @@ use Rattle.std.proofs.lemmas.Bool.{cases_lt}
 use Rattle.std.proofs.Math.Seq.{drop-append_seam}
 use Rattle.run_journal.specs.declared.acts.Entry.{Entry}
 use Rattle.domain_links.specs.Turns.{Delivery}
-use Rattle.frame_script.specs.Script.{Fault, Draft, AtSsid, end_fault}
+use Rattle.frame_script.specs.Script.{Fault, Draft, end_fault, seeded}
 use Rattle.frame_script.specs.Live.{Heard, Plain, Draws, Turns}
 use Rattle.frame_script.specs.declared.reader.Mode.{Mode}
 use Rattle.frame_script.specs.declared.reader.Mode.TheVariants.{Replay}
-use Rattle.script_runs.specs.Script.{Rounds, with_seed, with_turn, Means, Says, IsOf, Refuses, Spells, NoFeed, most_lines, most_octets, without_return, joined, texts, AreLines, IsClosed, IsOpen, IsScript, Ends, HasFault, point_of}
+use Rattle.script_runs.specs.Script.{Rounds, with_seed, with_turn, Means, Says, IsOf, Refuses, Spells, NoFeed, most_lines, most_in_line, without_return, joined, texts, AreLines, IsClosed, IsOpen, IsScript, Ends, HasFault, point_of}
 use Rattle.script_runs.proofs.Early.{of_before}
 
 -- ---- what a line tells
@@ -68,7 +68,7 @@ same_meaning : (k : Judge) (said : Heard) (before x y : Draft) (earlier r s : Ro
 same_meaning k (Plain said) before x y earlier r s p q of_r of_s = (p.0 ∙ sym q.0, p.1 ∙ sym q.1)
 same_meaning k Draws before x y earlier r s p q of_r of_s =
     let same = same_seed p.0 q.0 k.seed (one_seed k.seed k.turns earlier r p.0 p.1.1 of_r) (one_seed k.seed k.turns earlier s q.0 q.1.1 of_s) in
-    (p.1.0 ∙ ap AtSsid same ∙ sym q.1.0, p.1.1 ∙ ap (λ (z : List ℕ). with_seed earlier z) same ∙ sym q.1.1)
+    (p.1.0 ∙ ap (λ (z : List ℕ). seeded before z) same ∙ sym q.1.0, p.1.1 ∙ ap (λ (z : List ℕ). with_seed earlier z) same ∙ sym q.1.1)
 same_meaning k Turns before x y earlier r s p q of_r of_s =
     let same = one_turn k.seed k.turns earlier r s p.0 q.0 p.1.1.1 q.1.1.1 of_r of_s in
     (p.1.1.0 ∙ sym q.1.1.0, p.1.1.1 ∙ ap (λ (z : List Delivery). with_turn earlier z) same ∙ sym q.1.1.1)
@@ -170,7 +170,7 @@ record Next (k : Judge) (good other : List (List ℕ)) (rest : List ℕ) : Type 
   behind : List ℕ
   is : rest ≡ line ++ 10 ∷ behind
   none : NoFeed line
-  short : length line ≤ most_octets
+  short : length line ≤ most_in_line
   few : length good < most_lines
   told : (draft : Draft) (rounds : Rounds) → Told k (texts other) draft rounds → (d : Draft) × ((r : Rounds) × Told k (without_return line ∷ texts good) d r)
 
@@ -264,7 +264,7 @@ fault_or_closed k octets ended good before earlier fault said draft rounds f spe
 
 -- a fault in the last line, which has no line feed and is taken
 fault_or_last : (k : Judge) (octets : List ℕ) (ended : Bool) (good : List (List ℕ)) (before : Draft) (earlier : Rounds) (fault : Fault) (last : List ℕ) (draft : Draft) (rounds : Rounds) → (f : HasFault octets ended good (point_of k.mode k.journal before earlier) fault)
-    → Told k (texts good) before earlier → f.line ++ f.after ≡ last → NoFeed last → length last ≤ most_octets → length good < most_lines → Told k (last ∷ texts good) draft rounds → ⊥
+    → Told k (texts good) before earlier → f.line ++ f.after ≡ last → NoFeed last → length last ≤ most_in_line → length good < most_lines → Told k (last ∷ texts good) draft rounds → ⊥
 fault_or_last k octets ended good before earlier fault last draft rounds f spelled same none short few told =
     elim f.wrong [
       | inl long ↦ omega (arith, long.1, short, ap (λ (w : List ℕ). length w) same, length-append f.line f.after)

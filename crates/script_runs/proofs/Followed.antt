@@ -6,11 +6,11 @@ use Rattle.domain_base.specs.declared.outside.LinkError.{LinkError}
 use Rattle.domain_base.specs.declared.outside.LinkError.TheVariants as link
 use Rattle.run_journal.specs.declared.domain.Domain.{Domain}
 use Rattle.run_journal.specs.declared.domain.ListedAp.{ListedAp}
+use Rattle.run_journal.specs.declared.domain.ListedSta.{ListedSta}
 use Rattle.run_journal.specs.declared.domain.Event.{Event}
 use Rattle.run_journal.specs.declared.acts.Entry.{Entry}
 use Rattle.run_journal.specs.Listing.{with_ap, with_sta}
 use Rattle.domain_rules.specs.Network.{InForm}
-use Rattle.domain_rules.specs.Rounds.{by_nodes}
 use Rattle.domain_world.specs.State.{State}
 use Rattle.domain_links.specs.NodeOrder.{count}
 use Rattle.frame_script.specs.Script.{Draft}
@@ -34,7 +34,7 @@ none_begun : (v : State) (draft : Draft) (asked : Asked) (links : ℕ) → links
 none_begun v draft step.Nothing links none begun = let e : Some v ≡ None = begun in absurd cc
 none_begun v draft step.Network links none begun = (omega (arith, none), begun.own.form)
 none_begun v draft (step.Ap address id) links none begun = absurd begun
-none_begun v draft (step.Sta address) links none begun = absurd begun
+none_begun v draft (step.Sta address psk) links none begun = absurd begun
 none_begun v draft (step.Event event) links none begun = absurd begun
 none_begun v draft step.Round links none begun = absurd begun
 none_begun v draft step.End links none begun = absurd begun
@@ -49,9 +49,10 @@ count_ap d e address id is =
     let a : ListedAp = record { address = address; r0kh_id = id } in
     omega (arith, ap (λ (x : Domain). length x.aps) is, ap (λ (x : Domain). length x.stas) is, length-append d.aps (a ∷ []))
 
-count_sta : (d e : Domain) (address : Mac) → e ≡ with_sta d address → count d ≤ count e
-count_sta d e address is =
-    omega (arith, ap (λ (x : Domain). length x.aps) is, ap (λ (x : Domain). length x.stas) is, length-append d.stas (address ∷ []))
+count_sta : (d e : Domain) (address : Mac) (psk : List ℕ) → e ≡ with_sta d address psk → count d ≤ count e
+count_sta d e address psk is =
+    let s : ListedSta = record { address = address; psk = psk } in
+    omega (arith, ap (λ (x : Domain). length x.aps) is, ap (λ (x : Domain). length x.stas) is, length-append d.stas (s ∷ []))
 
 asked_count : (w v : State) (a b : Waiting) (event : Event) (j k : List Entry) → DidAsk w v a b event j k → count w.domain ≤ count v.domain
 asked_count w v None None event j k did = same_count w.domain v.domain did.network
@@ -67,7 +68,7 @@ ended_count w v (Some old) (Some new) j k did = absurd did
 done_count : (w v : State) (a b : Waiting) (j k : List Entry) (asked : Asked) → Did w v a b j k asked → count w.domain ≤ count v.domain
 done_count w v a b j k step.Nothing did = same_count w.domain v.domain (ap (λ (x : State). x.domain) did.0.0)
 done_count w v a b j k (step.Ap address id) did = count_ap w.domain v.domain address id did.0.network
-done_count w v a b j k (step.Sta address) did = count_sta w.domain v.domain address did.0.network
+done_count w v a b j k (step.Sta address psk) did = count_sta w.domain v.domain address psk did.0.network
 done_count w v a b j k (step.Event event) did = asked_count w v a b event j k did
 done_count w v a b j k step.Round did = same_count w.domain v.domain (ap (λ (x : State). x.domain) did.0.0)
 done_count w v a b j k step.End did = ended_count w v a b j k did
@@ -102,13 +103,13 @@ asked_long w v (Some old) (Some new) event j k did = same_long j k did.0.1
 
 ended_long : (w v : State) (a b : Waiting) (j k : List Entry) → DidEnd w v a b j k → length j ≤ length k
 ended_long w v None b j k did = absurd did
-ended_long w v (Some old) None j k did = longer w.rounds j k (Grows-follows w.domain w.rounds (suc w.rounds) (by_nodes old.items) j k did.goes (omega arith))
+ended_long w v (Some old) None j k did = longer w.rounds j k (Grows-follows w.domain w.rounds (suc w.rounds) old.items j k did.goes (omega arith))
 ended_long w v (Some old) (Some new) j k did = absurd did
 
 done_long : (w v : State) (a b : Waiting) (j k : List Entry) (asked : Asked) → CanList (Some w) j asked → Did w v a b j k asked → length j ≤ length k
 done_long w v a b j k step.Nothing can did = same_long j k did.0.1
 done_long w v a b j k (step.Ap address id) can did = longer 0 j k (Grows-started w.domain v.domain 0 address id j k did.0.network can (did.0.begins can))
-done_long w v a b j k (step.Sta address) can did = same_long j k did.1.0
+done_long w v a b j k (step.Sta address psk) can did = same_long j k did.1.0
 done_long w v a b j k (step.Event event) can did = asked_long w v a b event j k did
 done_long w v a b j k step.Round can did = same_long j k did.0.1
 done_long w v a b j k step.End can did = ended_long w v a b j k did
@@ -126,7 +127,7 @@ pub can_list : (world : Option State) (a : Waiting) (r : Reading) (draft : Draft
 can_list None a r draft j asked is can = tt
 can_list (Some w) a r draft j step.Nothing is can = tt
 can_list (Some w) a r draft j (step.Ap address id) is can = is.first can.1.0
-can_list (Some w) a r draft j (step.Sta address) is can = tt
+can_list (Some w) a r draft j (step.Sta address psk) is can = tt
 can_list (Some w) a r draft j (step.Event event) is can = tt
 can_list (Some w) a r draft j step.Round is can = tt
 can_list (Some w) a r draft j step.End is can = tt

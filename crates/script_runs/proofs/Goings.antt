@@ -2,7 +2,9 @@
 use Rattle.std.proofs.Common.{◌≡◌, ◌==◌, ◌&&◌, ℕ, Bool, true, false, if◌then◌else◌, List, length, Result, Ok, Err, subst, bytes_eq, codes}
 use Rattle.std.specs.Prelude.{nat_le, nat_lt}
 use Rattle.domain_base.specs.declared.names.Mac.{Mac}
+use Rattle.run_journal.specs.Limits.{most_aps, most_stas, most_events, most_frames}
 use Rattle.run_journal.specs.declared.domain.Domain.{Domain}
+use Rattle.frame_script.specs.declared.header.Header.{Header}
 use Rattle.frame_script.specs.Tokens.{split_word, is_text, first_word}
 use Rattle.frame_script.specs.Script.{◌>>=◌, need, Fault, Draft, AtNodes, InRound, Said, Goes, arguments, is_used, is_used_id, address_of, new_ap, ap_line, new_sta, sta_line, event_of, event_line, part_line, body_line, inner_line, is_passed_over, is_border, line_says}
 
@@ -22,34 +24,34 @@ behind (Err fault) f p = tt
 new_ap_other : (d : Domain) (address : Mac) (id : List ℕ) → IsOther (new_ap d address id)
 unfolding new_ap
 new_ap_other d address id =
-    either (nat_le 16 (length d.aps)) _ _ tt (either (is_used d address) _ _ tt (either (is_used_id d id) _ _ tt tt))
+    either (nat_le most_aps (length d.aps)) _ _ tt (either (is_used d address) _ _ tt (either (is_used_id d id) _ _ tt tt))
 
 ap_line_other : (d : Domain) (text : List ℕ) → IsOther (ap_line d text)
 unfolding ap_line
 ap_line_other d text =
     behind (need arguments (split_word text)) _ (λ words. behind (address_of words.0) _ (λ address. either (is_text 48 33 words.1) _ _ (new_ap_other d address words.1) tt))
 
-new_sta_other : (d : Domain) (address : Mac) → IsOther (new_sta d address)
+new_sta_other : (d : Domain) (address : Mac) (psk : List ℕ) → IsOther (new_sta d address psk)
 unfolding new_sta
-new_sta_other d address = either (nat_le 64 (length d.stas)) _ _ tt (either (is_used d address) _ _ tt tt)
+new_sta_other d address psk = either (nat_le most_stas (length d.stas)) _ _ tt (either (is_used d address) _ _ tt tt)
 
-sta_line_other : (d : Domain) (text : List ℕ) → IsOther (sta_line d text)
+sta_line_other : (h : Header) (text : List ℕ) → IsOther (sta_line h text)
 unfolding sta_line
-sta_line_other d text = behind (address_of text) _ (λ address. new_sta_other d address)
+sta_line_other h text = behind (address_of text) _ (λ address. new_sta_other h.network address h.psk)
 
 event_line_other : (d : Domain) (sizes word text : List ℕ) → IsOther (event_line d sizes word text)
 unfolding event_line
-event_line_other d sizes word text = behind (event_of d false sizes word text) _ (λ event. either (nat_le (length sizes) 65535) _ _ tt tt)
+event_line_other d sizes word text = behind (event_of d false sizes word text) _ (λ event. either (nat_le (length sizes) most_frames) _ _ tt tt)
 
-body_line_other : (d : Domain) (rounds : ℕ) (sizes word text : List ℕ) → IsOther (body_line d rounds sizes word text)
+body_line_other : (h : Header) (rounds : ℕ) (sizes word text : List ℕ) → IsOther (body_line h rounds sizes word text)
 unfolding body_line
-body_line_other d rounds sizes word text =
-    either (bytes_eq word (codes "ap")) _ _ (either (length d.stas == 0 && rounds == 0) _ _ (ap_line_other d text) tt)
-    (either (bytes_eq word (codes "sta")) _ _ (either (rounds == 0) _ _ (sta_line_other d text) tt) (either (bytes_eq word (codes "round")) _ _ tt (event_line_other d sizes word text)))
+body_line_other h rounds sizes word text =
+    either (bytes_eq word (codes "ap")) _ _ (either (length h.network.stas == 0 && rounds == 0) _ _ (ap_line_other h.network text) tt)
+    (either (bytes_eq word (codes "sta")) _ _ (either (rounds == 0) _ _ (sta_line_other h text) tt) (either (bytes_eq word (codes "round")) _ _ tt (event_line_other h.network sizes word text)))
 
 part_line_other : (d : Domain) (count : ℕ) (sizes word text : List ℕ) → IsOther (part_line d count sizes word text)
 unfolding part_line
-part_line_other d count sizes word text = behind (event_of d true sizes word text) _ (λ event. either (nat_lt count 256) _ _ tt tt)
+part_line_other d count sizes word text = behind (event_of d true sizes word text) _ (λ event. either (nat_lt count most_events) _ _ tt tt)
 
 inner_line_other : (d : Domain) (count : ℕ) (sizes word text : List ℕ) → IsOther (inner_line d count sizes word text)
 unfolding inner_line
@@ -59,14 +61,14 @@ passed_over : (b : Bool) (draft : Draft) (r : Result Said Fault) (next : Draft) 
 passed_over true draft r next other is = cc
 passed_over false draft r next other is = absurd (subst IsOther is other)
 
-pub same_network : (d : Domain) (rounds : ℕ) (sizes line : List ℕ) (next : Draft) → line_says (AtNodes d) rounds sizes line ≡ Ok (Goes next) → next ≡ AtNodes d
+pub same_network : (h : Header) (rounds : ℕ) (sizes line : List ℕ) (next : Draft) → line_says (AtNodes h) rounds sizes line ≡ Ok (Goes next) → next ≡ AtNodes h
 unfolding line_says
-same_network d rounds sizes line next is =
-    passed_over (is_passed_over line) (AtNodes d) _ next
-    (either (is_border (AtNodes d) line) _ _ (either (nat_le (length sizes) 65535) _ _ tt tt) (body_line_other d rounds sizes (first_word line).0 (first_word line).1)) is
+same_network h rounds sizes line next is =
+    passed_over (is_passed_over line) (AtNodes h) _ next
+    (either (is_border (AtNodes h) line) _ _ (either (nat_le (length sizes) most_frames) _ _ tt tt) (body_line_other h rounds sizes (first_word line).0 (first_word line).1)) is
 
-pub same_round : (d : Domain) (count rounds : ℕ) (sizes line : List ℕ) (next : Draft) → line_says (InRound d count) rounds sizes line ≡ Ok (Goes next) → next ≡ InRound d count
+pub same_round : (h : Header) (count rounds : ℕ) (sizes line : List ℕ) (next : Draft) → line_says (InRound h count) rounds sizes line ≡ Ok (Goes next) → next ≡ InRound h count
 unfolding line_says
-same_round d count rounds sizes line next is =
-    passed_over (is_passed_over line) (InRound d count) _ next
-    (either (is_border (InRound d count) line) _ _ tt (inner_line_other d count sizes (first_word line).0 (first_word line).1)) is
+same_round h count rounds sizes line next is =
+    passed_over (is_passed_over line) (InRound h count) _ next
+    (either (is_border (InRound h count) line) _ _ tt (inner_line_other h.network count sizes (first_word line).0 (first_word line).1)) is

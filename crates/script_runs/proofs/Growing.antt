@@ -12,8 +12,8 @@ use Rattle.run_journal.specs.declared.domain.Event.{Event}
 use Rattle.run_journal.specs.declared.acts.Act.{Act}
 use Rattle.run_journal.specs.declared.acts.Entry.{Entry}
 use Rattle.domain_rules.specs.AccessPointRows.{start_acts}
-use Rattle.domain_rules.specs.Explained.{number_of, push, Step, Follows, started}
-use Rattle.domain_rules.proofs.Journals.{at_one}
+use Rattle.domain_rules.specs.Rounds.{Place, in_order}
+use Rattle.domain_rules.specs.Explained.{AddsAll, number_of, push, Step, Follows, started}
 use Rattle.run_journal.specs.Listing.{with_ap}
 use Rattle.domain_world.proofs.Begun.{started_ap}
 use Rattle.frame_script.specs.Headers.{Reading, HasSeen}
@@ -54,13 +54,6 @@ Late-push round n (act ∷ g) past =
       all = all_two round more.later (e ∷ []) more.all (refl, tt);
     }
 
--- an event
-pub Late-step : (d : Domain) (round : ℕ) (event : Event) (j k : List Entry) → Step d round event j k → Late round j k
-Late-step d round event j k step =
-    let s = at_one d round event j k step in
-    let more = Late-push round s.node s.acts j in
-    record { later = more.later; is = s.is ∙ more.is; all = more.all }
-
 -- and again
 Late-more : (round : ℕ) (i j k : List Entry) → Late round i j → Late round j k → Late round i k
 Late-more round i j k first then_ = record {
@@ -70,23 +63,22 @@ Late-more round i j k first then_ = record {
 }
 
 -- the events of a round
+Late-adds : (d : Domain) (round : ℕ) (places : List Place) (j k : List Entry) → AddsAll d round places j k → Late round j k
+Late-adds d round [] j k same = Late-same round j k same
+Late-adds d round (p ∷ places) j k (acts, (adds, rest)) =
+    let mid = push round p.node acts j in
+    Late-more round j mid k (Late-push round p.node acts j) (Late-adds d round places mid k rest)
+
 pub Late-follows : (d : Domain) (round : ℕ) (events : List Event) (j k : List Entry) → Follows d round events j k → Late round j k
-Late-follows d round [] j k follows = Late-same round j k follows
-Late-follows d round (event ∷ events) j k (mid, (step, rest)) =
-    Late-more round j mid k (Late-step d round event j mid step) (Late-follows d round events mid k rest)
+Late-follows d round events j k follows = Late-adds d round (in_order follows.places) j k follows.adds
 
 -- ---- a journal that grows
 
--- an event, in a later round
-pub Grows-step : (d : Domain) (rounds round : ℕ) (event : Event) (j k : List Entry) → Step d round event j k → rounds < round → Grows rounds j k
-Grows-step d rounds round event j k step later =
-    let s = at_one d round event j k step in
-    let more = Late-push round s.node s.acts j in
-    record {
-      later = more.later;
-      is = s.is ∙ more.is;
-      same = λ m few. ap (sizes_before m) s.is ∙ same-push m round s.node s.acts j (omega (arith, few, later));
-    }
+-- acts of one node, in a later round
+Grows-push : (rounds round : ℕ) (n : Node) (acts : List Act) (past : List Entry) → rounds < round → Grows rounds past (push round n acts past)
+Grows-push rounds round n acts past later =
+    let more = Late-push round n acts past in
+    record { later = more.later; is = more.is; same = λ m few. same-push m round n acts past (omega (arith, few, later)) }
 
 -- and again
 pub Grows-more : (rounds : ℕ) (i j k : List Entry) → Grows rounds i j → Grows rounds j k → Grows rounds i k
@@ -97,10 +89,18 @@ Grows-more rounds i j k first then_ = record {
 }
 
 -- the events of a later round
+Grows-adds : (d : Domain) (rounds round : ℕ) (places : List Place) (j k : List Entry) → AddsAll d round places j k → rounds < round → Grows rounds j k
+Grows-adds d rounds round [] j k same later = Grows-same rounds j k same
+Grows-adds d rounds round (p ∷ places) j k (acts, (adds, rest)) later =
+    let mid = push round p.node acts j in
+    Grows-more rounds j mid k (Grows-push rounds round p.node acts j later) (Grows-adds d rounds round places mid k rest later)
+
 pub Grows-follows : (d : Domain) (rounds round : ℕ) (events : List Event) (j k : List Entry) → Follows d round events j k → rounds < round → Grows rounds j k
-Grows-follows d rounds round [] j k follows later = Grows-same rounds j k follows
-Grows-follows d rounds round (event ∷ events) j k (mid, (step, rest)) later =
-    Grows-more rounds j mid k (Grows-step d rounds round event j mid step later) (Grows-follows d rounds round events mid k rest later)
+Grows-follows d rounds round events j k follows later = Grows-adds d rounds round (in_order follows.places) j k follows.adds later
+
+-- one alone
+pub Grows-step : (d : Domain) (rounds round : ℕ) (event : Event) (j k : List Entry) → Step d round event j k → rounds < round → Grows rounds j k
+Grows-step d rounds round event j k step later = Grows-follows d rounds round (event ∷ []) j k step later
 
 -- an access point starts, which sends nothing
 pub Grows-started : (d e : Domain) (rounds : ℕ) (address : Mac) (id : List ℕ) (j k : List Entry) → e ≡ with_ap d address id → j ≡ started d (length d.aps) → k ≡ started e (length e.aps) → Grows rounds j k

@@ -20,7 +20,7 @@ use Rattle.script_runs.specs.declared.stops.Stop.{Stop}
 use Rattle.script_runs.specs.declared.stops.Stop.TheVariants as stops
 use Rattle.script_runs.specs.declared.stops.Undone.TheVariants as undone
 use Rattle.script_runs.specs.Outer.{Outer, IsMet}
-use Rattle.script_runs.specs.Script.{Rounds, no_rounds, sizes_before, says_in, Says, Refuses, Spells, NoFeed, most_lines, most_octets, too_many, without_return, joined, texts, AreLines, Begins, IsScript, Ends, IsWrong, HasFault, HasForm, Point, point_of}
+use Rattle.script_runs.specs.Script.{Rounds, no_rounds, sizes_before, says_in, Says, Refuses, Spells, NoFeed, most_lines, most_in_line, too_many, without_return, joined, texts, AreLines, Begins, IsScript, Ends, IsWrong, HasFault, HasForm, Point, point_of}
 use Rattle.script_runs.specs.States.{BreaksLine, FailsToDraw, LeavesLine, Stands}
 use Rattle.script_runs.specs.Stops.{Closes, EndsAt, Halts, MetBy, Stopped, StopsLine}
 use Rattle.script_runs.specs.Story.{Explains, IsFaulty, IsLast, IsPrefix, StoppedBy, most_read}
@@ -36,7 +36,7 @@ Begins-more octets more good rest b = record {
   each = b.each;
 }
 
-pub Begins-line : (octets : List ℕ) (good : List (List ℕ)) (line : List ℕ) → Begins octets good line → NoFeed line → length line ≤ most_octets → length good < most_lines
+pub Begins-line : (octets : List ℕ) (good : List (List ℕ)) (line : List ℕ) → Begins octets good line → NoFeed line → length line ≤ most_in_line → length good < most_lines
     → Begins (octets ++ 10 ∷ []) (line ∷ good) []
 unfolding joined AreLines
 Begins-line octets good line b none short few = record {
@@ -159,7 +159,7 @@ Stopped-more most bound (stops.Broken error) octets more p few f = record {
 }
 
 -- octets too many
-pub Stopped-long : (octets more : List ℕ) (lines : ℕ) (form : Form) (good : List (List ℕ)) (line : List ℕ) (p : Point) → Begins octets good line → NoFeed (line ++ more) → most_octets < length line + length more → lines ≡ length good
+pub Stopped-long : (octets more : List ℕ) (lines : ℕ) (form : Form) (good : List (List ℕ)) (line : List ℕ) (p : Point) → Begins octets good line → NoFeed (line ++ more) → most_in_line < length line + length more → lines ≡ length good
     → Explains (texts good) p → Stopped 1 (stops.Refused (suc lines) LongLine form) (octets ++ more) p
 Stopped-long octets more lines form good line p b none long count explains = record {
   good = good;
@@ -180,7 +180,7 @@ record IsAt (whole : List ℕ) (ended : Bool) (good : List (List ℕ)) (line aft
   begins : Begins whole good (line ++ after)
   open_line : NoFeed line
   ends : Ends ended good line after text
-  short : length line ≤ most_octets
+  short : length line ≤ most_in_line
 
 faulty : (fault : Fault) (form : Form) (number lines : ℕ) (whole : List ℕ) (ended : Bool) (good : List (List ℕ)) (line after text : List ℕ) (p : Point) → IsAt whole ended good line after text → lines ≡ length good
     → number ≡ suc lines → form ≡ form_in p.mode p.draft p.rounds.asked text → ((fault ≡ too_many) × (most_lines ≤ lines)) ⊎ ((lines < most_lines) × Refuses p.mode p.journal text p.draft p.rounds fault) → Explains (texts good) p → IsFaulty fault form number whole ended p
@@ -312,7 +312,7 @@ pub ruleset stopping = (refused-line, many-lines, undrawn-line, broken-line)
 
 -- before a line feed
 pub Halts-line : {L : Type 0} (told : L → Option LinkStory) (first old new : Outer L) (m : Mode) (stop : Stop) (lines : ℕ) (octets : List ℕ) (good : List (List ℕ)) (line : List ℕ) (draft : Draft) (rounds : Rounds) (j k : List Entry)
-    → Begins octets good line → NoFeed line → length line ≤ most_octets → lines ≡ length good → Explains (texts good) (point_of m j draft rounds) → IsMet told first old m draft rounds j → StopsLine stop told first old new m lines (without_return line) draft rounds j k
+    → Begins octets good line → NoFeed line → length line ≤ most_in_line → lines ≡ length good → Explains (texts good) (point_of m j draft rounds) → IsMet told first old m draft rounds j → StopsLine stop told first old new m lines (without_return line) draft rounds j k
     → Halts told first new m 1 stop (octets ++ 10 ∷ []) k
 Halts-line told first old new m stop lines octets good line draft rounds j k b none short count explains met why =
     let at : IsAt (octets ++ 10 ∷ []) false good line (10 ∷ []) (without_return line) = record {
@@ -326,7 +326,7 @@ Halts-line told first old new m stop lines octets good line draft rounds j k b n
 
 -- at the end of the source
 pub Closes-last : {L : Type 0} (told : L → Option LinkStory) (first old new : Outer L) (m : Mode) (stop : Stop) (lines : ℕ) (octets : List ℕ) (good : List (List ℕ)) (line : List ℕ) (draft : Draft) (rounds : Rounds) (j k : List Entry)
-    → Begins octets good line → NoFeed line → length line ≤ most_octets → lines ≡ length good → (line ≢ []) ⊎ (good ≡ []) → Explains (texts good) (point_of m j draft rounds) → IsMet told first old m draft rounds j
+    → Begins octets good line → NoFeed line → length line ≤ most_in_line → lines ≡ length good → (line ≢ []) ⊎ (good ≡ []) → Explains (texts good) (point_of m j draft rounds) → IsMet told first old m draft rounds j
     → StopsLine stop told first old new m lines line draft rounds j k → Closes told first new m (founds.Stopped stop) octets true k
 Closes-last told first old new m stop lines octets good line draft rounds j k b none short count some explains met why =
     let at : IsAt octets true good line [] line = record {
@@ -362,7 +362,7 @@ nothing_first m j [] before draft earlier rounds none spelled says =
 nothing_first m j (line ∷ good) before draft earlier rounds none spelled says = cc
 
 -- or lacks it
-pub IsScript-open : (m : Mode) (octets : List ℕ) (good : List (List ℕ)) (line : List ℕ) (before draft : Draft) (earlier rounds : Rounds) (j : List Entry) → Begins octets good line → NoFeed line → length line ≤ most_octets → length good < most_lines
+pub IsScript-open : (m : Mode) (octets : List ℕ) (good : List (List ℕ)) (line : List ℕ) (before draft : Draft) (earlier rounds : Rounds) (j : List Entry) → Begins octets good line → NoFeed line → length line ≤ most_in_line → length good < most_lines
     → (line ≢ []) ⊎ (good ≡ []) → Spells m j (texts good) before earlier → Says m j line before earlier draft rounds → IsScript octets (line ∷ texts good)
 IsScript-open m octets good line before draft earlier rounds j b none short few some spelled says = inr (record {
   lines = good;

@@ -12,14 +12,15 @@ use Rattle.domain_base.specs.declared.radio.SentFrame.{SentFrame}
 use Rattle.domain_base.specs.declared.outside.LinkError.{LinkError}
 use Rattle.domain_base.specs.Told.{LinkStory, AirStory}
 use Rattle.run_journal.specs.declared.domain.Domain.{Domain}
+use Rattle.run_journal.specs.Limits.{most_polls}
 use Rattle.run_journal.specs.declared.domain.ListedAp.{ListedAp}
+use Rattle.run_journal.specs.declared.domain.ListedSta.{ListedSta}
 use Rattle.run_journal.specs.declared.domain.Event.{Event}
 use Rattle.run_journal.specs.declared.acts.Act.{Act}
 use Rattle.run_journal.specs.declared.acts.Entry.{Entry}
 use Rattle.run_journal.specs.Listing.{with_ap, with_sta}
 use Rattle.domain_rules.specs.AccessPointRows.{start_acts}
 use Rattle.domain_rules.specs.Explained.{started, push, number_of}
-use Rattle.domain_rules.specs.Rounds.{by_nodes}
 use Rattle.domain_world.specs.State.{State}
 use Rattle.domain_links.specs.NodeOrder.{count, node_at, place_of}
 use Rattle.domain_links.specs.Sends.{Send, sends, sends_of, sends_by, sent_by, frames_out, frame_sent}
@@ -28,7 +29,7 @@ use Rattle.domain_links.specs.Attached.{Attached, frames_at}
 use Rattle.domain_links.specs.Turns.{Delivery}
 use Rattle.domain_links.proofs.OnePoll.{Tell-left}
 use Rattle.domain_links.proofs.Going.{Tell-same, sends-two}
-use Rattle.frame_script.specs.Script.{Draft, AtVersion, AtSeed, AtSsid, AtPsk, AtAkm, AtMdid, AtNodes, InRound, Said, ListsAp, ListsSta, Asks, EndsRound, Fault}
+use Rattle.frame_script.specs.Script.{Draft, AtVersion, AtHeader, AtNodes, InRound, Said, ListsAp, ListsSta, Asks, EndsRound, Fault}
 use Rattle.frame_script.specs.Headers.{Reading, TakesStep, HasRead, IsNetwork, sizes_of}
 use Rattle.frame_script.specs.declared.reader.Mode.{Mode}
 use Rattle.frame_script.specs.declared.reader.Mode.TheVariants.{Replay, Live}
@@ -38,82 +39,58 @@ use Rattle.script_runs.specs.Script.{Rounds, LastLine, Listed, Ran, Turned, Othe
 use Rattle.script_runs.specs.Outer.{Outer, AreHeard, IsHeardPart, IsHeardBy, AllButNew, Cuts, IsLeft, left_behind, sends_for, HasLinks, IsLinked, IsLinkedPart, IsUnlinked, IsLinkedAt, IsLinkedPartAt, links_due}
 use Rattle.script_runs.specs.States.{Waiting, IsHeader, IsAt, IsOwn, IsWorldOf, IsBegun, DidAsk, DidEnd, Did, DidRun, run_count}
 use Rattle.script_runs.specs.Turning.{Carries, GoesOut}
-use Rattle.script_runs.proofs.Growing.{Grows, Late, Late-same, Late-step, Late-follows}
+use Rattle.script_runs.proofs.Growing.{Grows, Late, Late-same, Late-follows}
 use Rattle.script_runs.proofs.Cutting.{none_last, none_gained, last_cut, none_cut}
-use Rattle.script_runs.proofs.Steps.{none_run, one_saying, outside}
+use Rattle.script_runs.proofs.Steps.{none_run, one_network, one_saying, outside}
 use Rattle.script_runs.proofs.Turned.{sends_more}
 
 -- ---- drafts and networks
 
 -- the script is behind its header, on that network
 abbrev pub IsIn : Draft → Domain → Type 0
-IsIn (AtNodes d) e = d ≡ e
-IsIn (InRound d n) e = d ≡ e
-IsIn draft e = ⊥
+IsIn (AtNodes h) d = h.network ≡ d
+IsIn (InRound h n) d = h.network ≡ d
+IsIn draft d = ⊥
 
 pub is_in : (draft : Draft) (w : State) (a : Waiting) (sizes : List ℕ) (j : List Entry) → IsAt draft w a sizes j → IsIn draft w.domain
 is_in AtVersion w a sizes j at = absurd at
-is_in AtSeed w a sizes j at = absurd at
-is_in (AtSsid seed) w a sizes j at = absurd at
-is_in (AtPsk seed ssid) w a sizes j at = absurd at
-is_in (AtAkm seed ssid psk) w a sizes j at = absurd at
-is_in (AtMdid seed ssid psk) w a sizes j at = absurd at
-is_in (AtNodes d) w a sizes j at = at.0
-is_in (InRound d n) w None sizes j at = absurd at
-is_in (InRound d n) w (Some events) sizes j at = at.network
+is_in (AtHeader awaited h) w a sizes j at = absurd at
+is_in (AtNodes h) w a sizes j at = at.0
+is_in (InRound h n) w None sizes j at = absurd at
+is_in (InRound h n) w (Some events) sizes j at = at.network
 
 -- its links, from the draft
 pub linked_in : {L : Type 0} (told : L → Option LinkStory) (draft : Draft) (d : Domain) (start : AirStory) (o : Outer L) (turns : List (List Delivery)) (j : List Entry) → IsIn draft d → IsLinkedAt told draft start o turns j → IsLinked told d start o turns j
 linked_in told AtVersion d start o turns j is l = absurd is
-linked_in told AtSeed d start o turns j is l = absurd is
-linked_in told (AtSsid seed) d start o turns j is l = absurd is
-linked_in told (AtPsk seed ssid) d start o turns j is l = absurd is
-linked_in told (AtAkm seed ssid psk) d start o turns j is l = absurd is
-linked_in told (AtMdid seed ssid psk) d start o turns j is l = absurd is
-linked_in told (AtNodes e) d start o turns j is l = subst (λ (x : Domain). IsLinked told x start o turns j) is l
-linked_in told (InRound e n) d start o turns j is l = subst (λ (x : Domain). IsLinked told x start o turns j) is l
+linked_in told (AtHeader awaited h) d start o turns j is l = absurd is
+linked_in told (AtNodes h) d start o turns j is l = subst (λ (x : Domain). IsLinked told x start o turns j) is l
+linked_in told (InRound h n) d start o turns j is l = subst (λ (x : Domain). IsLinked told x start o turns j) is l
 
 -- and for it
 pub linked_out : {L : Type 0} (told : L → Option LinkStory) (draft : Draft) (d : Domain) (start : AirStory) (o : Outer L) (turns : List (List Delivery)) (j : List Entry) → IsIn draft d → IsLinked told d start o turns j → IsLinkedAt told draft start o turns j
 linked_out told AtVersion d start o turns j is l = absurd is
-linked_out told AtSeed d start o turns j is l = absurd is
-linked_out told (AtSsid seed) d start o turns j is l = absurd is
-linked_out told (AtPsk seed ssid) d start o turns j is l = absurd is
-linked_out told (AtAkm seed ssid psk) d start o turns j is l = absurd is
-linked_out told (AtMdid seed ssid psk) d start o turns j is l = absurd is
-linked_out told (AtNodes e) d start o turns j is l = subst (λ (x : Domain). IsLinked told x start o turns j) (sym is) l
-linked_out told (InRound e n) d start o turns j is l = subst (λ (x : Domain). IsLinked told x start o turns j) (sym is) l
+linked_out told (AtHeader awaited h) d start o turns j is l = absurd is
+linked_out told (AtNodes h) d start o turns j is l = subst (λ (x : Domain). IsLinked told x start o turns j) (sym is) l
+linked_out told (InRound h n) d start o turns j is l = subst (λ (x : Domain). IsLinked told x start o turns j) (sym is) l
 
 pub part_out : {L : Type 0} (told : L → Option LinkStory) (draft : Draft) (d : Domain) (start : AirStory) (o : Outer L) (rounds : Rounds) (j : List Entry) → IsIn draft d → IsLinkedPart told d start o rounds j → IsLinkedPartAt told draft start o rounds j
 part_out told AtVersion d start o rounds j is l = absurd is
-part_out told AtSeed d start o rounds j is l = absurd is
-part_out told (AtSsid seed) d start o rounds j is l = absurd is
-part_out told (AtPsk seed ssid) d start o rounds j is l = absurd is
-part_out told (AtAkm seed ssid psk) d start o rounds j is l = absurd is
-part_out told (AtMdid seed ssid psk) d start o rounds j is l = absurd is
-part_out told (AtNodes e) d start o rounds j is l = subst (λ (x : Domain). IsLinkedPart told x start o rounds j) (sym is) l
-part_out told (InRound e n) d start o rounds j is l = subst (λ (x : Domain). IsLinkedPart told x start o rounds j) (sym is) l
+part_out told (AtHeader awaited h) d start o rounds j is l = absurd is
+part_out told (AtNodes h) d start o rounds j is l = subst (λ (x : Domain). IsLinkedPart told x start o rounds j) (sym is) l
+part_out told (InRound h n) d start o rounds j is l = subst (λ (x : Domain). IsLinkedPart told x start o rounds j) (sym is) l
 
 -- before the header is whole
 pub unlinked_in : {L : Type 0} (told : L → Option LinkStory) (draft : Draft) (start : AirStory) (o : Outer L) (turns : List (List Delivery)) (j : List Entry) → IsHeader draft → IsLinkedAt told draft start o turns j → IsUnlinked start o turns
 unlinked_in told AtVersion start o turns j due l = l
-unlinked_in told AtSeed start o turns j due l = l
-unlinked_in told (AtSsid seed) start o turns j due l = l
-unlinked_in told (AtPsk seed ssid) start o turns j due l = l
-unlinked_in told (AtAkm seed ssid psk) start o turns j due l = l
-unlinked_in told (AtMdid seed ssid psk) start o turns j due l = l
-unlinked_in told (AtNodes d) start o turns j due l = absurd due
-unlinked_in told (InRound d n) start o turns j due l = absurd due
+unlinked_in told (AtHeader awaited h) start o turns j due l = l
+unlinked_in told (AtNodes h) start o turns j due l = absurd due
+unlinked_in told (InRound h n) start o turns j due l = absurd due
 
 pub unlinked_out : {L : Type 0} (told : L → Option LinkStory) (draft : Draft) (start : AirStory) (o : Outer L) (turns : List (List Delivery)) (j : List Entry) → IsHeader draft → IsUnlinked start o turns → IsLinkedAt told draft start o turns j
 unlinked_out told AtVersion start o turns j due l = l
-unlinked_out told AtSeed start o turns j due l = l
-unlinked_out told (AtSsid seed) start o turns j due l = l
-unlinked_out told (AtPsk seed ssid) start o turns j due l = l
-unlinked_out told (AtAkm seed ssid psk) start o turns j due l = l
-unlinked_out told (AtMdid seed ssid psk) start o turns j due l = l
-unlinked_out told (AtNodes d) start o turns j due l = absurd due
-unlinked_out told (InRound d n) start o turns j due l = absurd due
+unlinked_out told (AtHeader awaited h) start o turns j due l = l
+unlinked_out told (AtNodes h) start o turns j due l = absurd due
+unlinked_out told (InRound h n) start o turns j due l = absurd due
 
 -- ---- what a line does to the network
 
@@ -138,16 +115,17 @@ one_ap d e address id is =
 nodes_ap : (d e : Domain) (address : Mac) (id : List ℕ) (i : ℕ) → e ≡ with_ap d address id → d.stas ≡ [] → i < count d → node_at e i ≡ node_at d i
 nodes_ap d e address id i is none h =
     let a : ListedAp = record { address = address; r0kh_id = id } in
-    let low : i < length d.aps = omega (arith, h, ap (λ (x : List Mac). length x) none) in
+    let low : i < length d.aps = omega (arith, h, ap (λ (x : List ListedSta). length x) none) in
     let also : i < length e.aps = omega (arith, low, ap (λ (x : Domain). length x.aps) is, length-append d.aps (a ∷ [])) in
     low_ap e i also ∙ sym (low_ap d i low)
 
-one_sta : (d e : Domain) (address : Mac) → e ≡ with_sta d address → count e ≡ count d + 1
-one_sta d e address is =
-    omega (arith, ap (λ (x : Domain). length x.aps) is, ap (λ (x : Domain). length x.stas) is, length-append d.stas (address ∷ []))
+one_sta : (d e : Domain) (address : Mac) (psk : List ℕ) → e ≡ with_sta d address psk → count e ≡ count d + 1
+one_sta d e address psk is =
+    let s : ListedSta = record { address = address; psk = psk } in
+    omega (arith, ap (λ (x : Domain). length x.aps) is, ap (λ (x : Domain). length x.stas) is, length-append d.stas (s ∷ []))
 
-nodes_sta : (d e : Domain) (address : Mac) (i : ℕ) → e ≡ with_sta d address → node_at e i ≡ node_at d i
-nodes_sta d e address i is = ap (λ (x : Domain). node_at x i) is
+nodes_sta : (d e : Domain) (address : Mac) (psk : List ℕ) (i : ℕ) → e ≡ with_sta d address psk → node_at e i ≡ node_at d i
+nodes_sta d e address psk i is = ap (λ (x : Domain). node_at x i) is
 
 -- or it leaves the network as it was; what the journal gained is of the last round, and nothing where the line asked for none
 pub record LeavesNodes (w v : State) (r : Reading) (said : Said) (j k : List Entry) : Type 0 where
@@ -161,18 +139,14 @@ nodes_stay w v r said j k same = record { network = ap (λ (x : State). x.domain
 -- an event is a round by itself where no round is open
 ran_outside : (draft : Draft) (w : State) (sizes : List ℕ) (event : Event) (j : List Entry) → IsAt draft w None sizes j → last_of draft (Asks event) ≡ Ran
 ran_outside AtVersion w sizes event j at = absurd at
-ran_outside AtSeed w sizes event j at = absurd at
-ran_outside (AtSsid seed) w sizes event j at = absurd at
-ran_outside (AtPsk seed ssid) w sizes event j at = absurd at
-ran_outside (AtAkm seed ssid psk) w sizes event j at = absurd at
-ran_outside (AtMdid seed ssid psk) w sizes event j at = absurd at
-ran_outside (AtNodes d) w sizes event j at = refl
-ran_outside (InRound d n) w sizes event j at = absurd at
+ran_outside (AtHeader awaited h) w sizes event j at = absurd at
+ran_outside (AtNodes h) w sizes event j at = refl
+ran_outside (InRound h n) w sizes event j at = absurd at
 
 nodes_ask : (w v : State) (a b : Waiting) (r : Reading) (said : Said) (event : Event) (j k : List Entry) → IsAt r.draft w a r.sizes j → said ≡ Asks event → DidAsk w v a b event j k → LeavesNodes w v r said j k
 nodes_ask w v None None r said event j k at asks did = record {
   network = did.network;
-  late = subst (λ (n : ℕ). Late n j k) (sym did.rounds) (Late-step w.domain (suc w.rounds) event j k did.goes);
+  late = subst (λ (n : ℕ). Late n j k) (sym did.rounds) (Late-follows w.domain (suc w.rounds) (event ∷ []) j k did.goes);
   runs = inr (ap (last_of r.draft) asks ∙ ran_outside r.draft w r.sizes event j at);
 }
 nodes_ask w v None (Some new) r said event j k at asks did = absurd did
@@ -183,7 +157,7 @@ nodes_end : (w v : State) (a b : Waiting) (r : Reading) (said : Said) (j k : Lis
 nodes_end w v None b r said j k ends did = absurd did
 nodes_end w v (Some old) None r said j k ends did = record {
   network = did.network;
-  late = subst (λ (n : ℕ). Late n j k) (sym did.rounds) (Late-follows w.domain (suc w.rounds) (by_nodes old.items) j k did.goes);
+  late = subst (λ (n : ℕ). Late n j k) (sym did.rounds) (Late-follows w.domain (suc w.rounds) old.items j k did.goes);
   runs = inr (ap (last_of r.draft) ends);
 }
 nodes_end w v (Some old) (Some new) r said j k ends did = absurd did
@@ -192,8 +166,8 @@ pub nodes_then : (w v : State) (a b : Waiting) (r s : Reading) (j k : List Entry
     → LeavesNodes w v r said j k ⊎ ListsOne w v r said j k
 nodes_then w v a b r s j k says said step.Nothing own is takes did = inl (nodes_stay w v r said j k did.0)
 nodes_then w v a b r s j k says said step.Network own is takes did = absurd did
-nodes_then w v a b r s j k says said (step.Ap address id) own is (d, (lists, (old, (can, (no_stas, first))))) did =
-    let same = (outside r.draft d w a r.sizes j own.at old).0 in
+nodes_then w v a b r s j k says said (step.Ap address id) own is (h, (lists, (old, (can, (no_stas, first))))) did =
+    let same = (outside r.draft h w a r.sizes j own.at old).0 in
     let before = own.first (none_run w a r j own first) in
     inr (record {
       listed = ap (last_of r.draft) (one_saying says said (ListsAp address id) is lists);
@@ -201,17 +175,17 @@ nodes_then w v a b r s j k says said (step.Ap address id) own is (d, (lists, (ol
       before = before;
       after = did.0.begins before;
       one = one_ap w.domain v.domain address id did.0.network;
-      nodes = λ i h. nodes_ap w.domain v.domain address id i did.0.network (ap (λ (x : Domain). x.stas) (sym same) ∙ no_stas) h;
+      nodes = λ i low. nodes_ap w.domain v.domain address id i did.0.network (ap (λ (x : Domain). x.stas) (sym same) ∙ no_stas) low;
     })
-nodes_then w v a b r s j k says said (step.Sta address) own is (d, (lists, (old, (can, first)))) did =
+nodes_then w v a b r s j k says said (step.Sta address psk) own is (h, (lists, (old, (can, first)))) did =
     let before = own.first (none_run w a r j own first) in
     inr (record {
-      listed = ap (last_of r.draft) (one_saying says said (ListsSta address) is lists);
+      listed = ap (last_of r.draft) (one_saying says said (ListsSta address psk) is lists);
       none = first;
       before = before;
       after = did.0.begins before;
-      one = one_sta w.domain v.domain address did.0.network;
-      nodes = λ i h. nodes_sta w.domain v.domain address i did.0.network;
+      one = one_sta w.domain v.domain address psk did.0.network;
+      nodes = λ i low. nodes_sta w.domain v.domain address psk i did.0.network;
     })
 nodes_then w v a b r s j k says said (step.Event event) own is takes did = inl (nodes_ask w v a b r said event j k own.at (one_saying says said (Asks event) is takes.0) did)
 nodes_then w v a b r s j k says said step.Round own is takes did = inl (nodes_stay w v r said j k did.0)
@@ -225,16 +199,15 @@ pub record IsFirst (v : State) : Type 0 where
   pub no_rounds : v.rounds ≡ 0
 
 no_count : (d : Domain) → IsNetwork d → count d ≡ 0
-no_count d network = omega (arith, ap (λ (x : List ListedAp). length x) network.no_aps, ap (λ (x : List Mac). length x) network.no_stas)
+no_count d network = omega (arith, ap (λ (x : List ListedAp). length x) network.no_aps, ap (λ (x : List ListedSta). length x) network.no_stas)
 
 pub first_then : (r : Reading) (new : Draft) (v : State) (j : List Entry) (says : Result Said Fault) (asked : Asked) → TakesStep r.draft new r.rounds (sizes_of j) says asked → IsBegun new asked (Some v) → IsFirst v
 first_then r new v j says step.Nothing takes begun = let e : Some v ≡ None = begun in absurd cc
 first_then r new v j says step.Network takes begun =
-    let both : AtNodes takes.0 ≡ AtNodes v.domain = sym takes.1.1.0 ∙ begun.network in
-    let same : takes.0 ≡ v.domain = cc in
-    record { none = ap count (sym same) ∙ no_count takes.0 takes.1.1.1.0; no_rounds = begun.none }
+    let same = one_network new takes.0 v.domain takes.1.1.0 begun.network in
+    record { none = ap count (sym same) ∙ no_count takes.0.network takes.1.1.1.0; no_rounds = begun.none }
 first_then r new v j says (step.Ap address id) takes begun = absurd begun
-first_then r new v j says (step.Sta address) takes begun = absurd begun
+first_then r new v j says (step.Sta address psk) takes begun = absurd begun
 first_then r new v j says (step.Event event) takes begun = absurd begun
 first_then r new v j says step.Round takes begun = absurd begun
 first_then r new v j says step.End takes begun = absurd begun
@@ -344,7 +317,7 @@ start_quiet : (d e : Domain) (n : ℕ) (j : List Entry) → j ≡ started d n �
 start_quiet d e n j is = ap (λ (w : List Entry). sends_for e w) is ∙ started_sends d e n
 
 -- no turn took any
-none_left : (frames : List (List ℕ)) (turns : List (List Delivery)) → turns ≡ [] → drop (16 * length turns) frames ≡ frames
+none_left : (frames : List (List ℕ)) (turns : List (List Delivery)) → turns ≡ [] → drop (most_polls * length turns) frames ≡ frames
 none_left frames [] none = refl
 none_left frames (given ∷ turns) none = absurd cc
 

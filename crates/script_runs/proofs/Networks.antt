@@ -7,6 +7,7 @@ use Rattle.std.proofs.lemmas.Slice.Eq.{bytes_eq-Decides}
 use Rattle.domain_base.specs.declared.names.Mac.{Mac}
 use Rattle.run_journal.specs.declared.domain.Domain.{Domain}
 use Rattle.run_journal.specs.declared.domain.ListedAp.{ListedAp}
+use Rattle.run_journal.specs.declared.domain.ListedSta.{ListedSta}
 use Rattle.domain_rules.specs.Network.{IsUnicast, IsNew, AreAps, AreStas, InForm}
 use Rattle.run_journal.specs.Listing.{with_ap, with_sta}
 use Rattle.frame_script.specs.Script.{is_single}
@@ -23,7 +24,7 @@ InForm-new d n = record {
   aps = subst AreAps (sym n.no_aps) tt;
   stas = subst (AreStas d.aps) (sym n.no_stas) tt;
   few_aps = omega (arith, ap (λ (aps : List ListedAp). length aps) n.no_aps);
-  few_stas = omega (arith, ap (λ (stas : List Mac). length stas) n.no_stas);
+  few_stas = omega (arith, ap (λ (stas : List ListedSta). length stas) n.no_stas);
 }
 
 not_equal : (xs ys : List ℕ) → bytes_eq xs ys ≡ false → xs ≢ ys
@@ -50,11 +51,11 @@ AreAps-push (x ∷ aps) a are unicast some few addresses ids = (
 )
 
 -- the stations are none of them
-AreStas-ap : (aps : List ListedAp) (stas : List Mac) (a : ListedAp) → AreStas aps stas → AllByRecursion (λ (m : Mac). m ≢ a.address) stas → AreStas (aps ++ a ∷ []) stas
+AreStas-ap : (aps : List ListedAp) (stas : List ListedSta) (a : ListedAp) → AreStas aps stas → AllByRecursion (λ (s : ListedSta). s.address ≢ a.address) stas → AreStas (aps ++ a ∷ []) stas
 AreStas-ap aps [] a are others = tt
-AreStas-ap aps (m ∷ stas) a are others = (
+AreStas-ap aps (s ∷ stas) a are others = (
   are.0,
-  record { no_ap = all_push (λ (b : ListedAp). b.address ≢ m) aps a are.1.no_ap (λ same. others.0 (sym same)); no_sta = are.1.no_sta },
+  record { no_ap = all_push (λ (b : ListedAp). b.address ≢ s.address) aps a are.1.no_ap (λ same. others.0 (sym same)); no_sta = are.1.no_sta },
   AreStas-ap aps stas a are.2 others.1,
 )
 
@@ -72,21 +73,22 @@ InForm-ap d address id form can =
 
 -- ---- one more station
 
-AreStas-push : (aps : List ListedAp) (stas : List Mac) (m : Mac) → AreStas aps stas → IsUnicast m.0 → IsNew aps stas m → AreStas aps (stas ++ m ∷ [])
-AreStas-push aps [] m are unicast new = (unicast, new, tt)
-AreStas-push aps (x ∷ stas) m are unicast new = (
+AreStas-push : (aps : List ListedAp) (stas : List ListedSta) (s : ListedSta) → AreStas aps stas → IsUnicast s.address.0 → IsNew aps stas s.address → AreStas aps (stas ++ s ∷ [])
+AreStas-push aps [] s are unicast new = (unicast, new, tt)
+AreStas-push aps (x ∷ stas) s are unicast new = (
   are.0,
-  record { no_ap = are.1.no_ap; no_sta = all_push (λ (n : Mac). n ≢ x) stas m are.1.no_sta (λ same. new.no_sta.0 (sym same)) },
-  AreStas-push aps stas m are.2 unicast (record { no_ap = new.no_ap; no_sta = new.no_sta.1 }),
+  record { no_ap = are.1.no_ap; no_sta = all_push (λ (y : ListedSta). y.address ≢ x.address) stas s are.1.no_sta (λ same. new.no_sta.0 (sym same)) },
+  AreStas-push aps stas s are.2 unicast (record { no_ap = new.no_ap; no_sta = new.no_sta.1 }),
 )
 
-pub InForm-sta : (d : Domain) (address : Mac) → InForm d → CanListSta d address → InForm (with_sta d address)
-InForm-sta d address form can =
+pub InForm-sta : (d : Domain) (address : Mac) (psk : List ℕ) → InForm d → CanListSta d address → InForm (with_sta d address psk)
+InForm-sta d address psk form can =
+    let s : ListedSta = record { address = address; psk = psk } in
     record {
       some = form.some;
       few = form.few;
       aps = form.aps;
-      stas = AreStas-push d.aps d.stas address form.stas (is_unicast address.0 can.address_.single) (record { no_ap = can.address_.no_ap; no_sta = can.address_.no_sta });
+      stas = AreStas-push d.aps d.stas s form.stas (is_unicast address.0 can.address_.single) (record { no_ap = can.address_.no_ap; no_sta = can.address_.no_sta });
       few_aps = form.few_aps;
-      few_stas = omega (arith, can.room, length-append d.stas (address ∷ []));
+      few_stas = omega (arith, can.room, length-append d.stas (s ∷ []));
     }

@@ -7,9 +7,10 @@ use Rattle.domain_base.specs.Octets.{AreOctets}
 use Rattle.domain_base.specs.declared.names.Mac.{Mac}
 use Rattle.run_journal.specs.declared.domain.Domain.{Domain}
 use Rattle.run_journal.specs.declared.domain.ListedAp.{ListedAp}
+use Rattle.run_journal.specs.declared.domain.ListedSta.{ListedSta}
 use Rattle.run_journal.specs.declared.acts.Entry.{Entry}
 use Rattle.run_journal.specs.Listing.{with_ap, with_sta}
-use Rattle.domain_rules.specs.HeldRight.{AnsweredInTime}
+use Rattle.domain_rules.specs.HeldRight.{AllInTime, AnsweredInTime}
 use Rattle.domain_rules.specs.Network.{InForm}
 use Rattle.domain_rules.specs.Explained.{Explained, started}
 use Rattle.domain_rules.specs.InOctets.{InOctets}
@@ -18,13 +19,17 @@ use Rattle.domain_world.specs.State.{State}
 use Rattle.domain_world.specs.Owning.{Owns}
 use Rattle.frame_script.specs.Script.{is_single}
 use Rattle.frame_script.specs.Headers.{CanListAp, CanListSta}
-use Rattle.storm.specs.Header.{domain_of, ap_of, aps_to, sta_of, stas_to, begun}
+use Rattle.storm.specs.Header.{domain_of, ap_of, aps_to, secrets, sta_of, stas_to, begun}
 use Rattle.storm.specs.Course.{Course, events_from, storm}
 use Rattle.storm.proofs.Seeing.{HasSeen-none}
 use Rattle.script_runs.specs.Storms.{network, rounds_of}
 use Rattle.script_runs.specs.Courses.{IsListing, IsUnderWay, IsSoFar, IsFrontSoFar}
 use Rattle.script_runs.proofs.Drawn.{Nodes}
 use Rattle.script_runs.proofs.Networks.{all_push, InForm-new, InForm-ap, InForm-sta}
+
+-- the key of all stations
+abbrev pub psk_in : ℕ → List ℕ
+psk_in number = (secrets number).0.psk
 
 -- ---- nodes that are listed
 
@@ -36,17 +41,17 @@ ap_at d (suc (suc zero)) low = refl
 ap_at d (suc (suc (suc zero))) low = refl
 ap_at d (suc (suc (suc (suc n)))) low = absurd (omega (arith, low))
 
-pub sta_at : (d : Mac) (n : ℕ) → n < 8 → get_or (stas_to 8) n d ≡ sta_of (suc n)
+pub sta_at : (psk : List ℕ) (d : ListedSta) (n : ℕ) → n < 8 → get_or (stas_to psk 8) n d ≡ sta_of psk (suc n)
 unfolding stas_to
-sta_at d zero low = refl
-sta_at d (suc zero) low = refl
-sta_at d (suc (suc zero)) low = refl
-sta_at d (suc (suc (suc zero))) low = refl
-sta_at d (suc (suc (suc (suc zero)))) low = refl
-sta_at d (suc (suc (suc (suc (suc zero))))) low = refl
-sta_at d (suc (suc (suc (suc (suc (suc zero)))))) low = refl
-sta_at d (suc (suc (suc (suc (suc (suc (suc zero))))))) low = refl
-sta_at d (suc (suc (suc (suc (suc (suc (suc (suc n)))))))) low = absurd (omega (arith, low))
+sta_at psk d zero low = refl
+sta_at psk d (suc zero) low = refl
+sta_at psk d (suc (suc zero)) low = refl
+sta_at psk d (suc (suc (suc zero))) low = refl
+sta_at psk d (suc (suc (suc (suc zero)))) low = refl
+sta_at psk d (suc (suc (suc (suc (suc zero))))) low = refl
+sta_at psk d (suc (suc (suc (suc (suc (suc zero)))))) low = refl
+sta_at psk d (suc (suc (suc (suc (suc (suc (suc zero))))))) low = refl
+sta_at psk d (suc (suc (suc (suc (suc (suc (suc (suc n)))))))) low = absurd (omega (arith, low))
 
 pub whole_network : (number : ℕ) → domain_of number ≡ network number 4 8
 unfolding domain_of
@@ -56,7 +61,7 @@ pub domain_aps : (number : ℕ) → (domain_of number).aps ≡ aps_to 4
 unfolding domain_of
 domain_aps number = refl
 
-pub domain_stas : (number : ℕ) → (domain_of number).stas ≡ stas_to 8
+pub domain_stas : (number : ℕ) → (domain_of number).stas ≡ stas_to (psk_in number) 8
 unfolding domain_of
 domain_stas number = refl
 
@@ -64,19 +69,19 @@ no_aps : aps_to 0 ≡ []
 unfolding aps_to
 no_aps = refl
 
-no_stas : stas_to 0 ≡ []
+no_stas : (psk : List ℕ) → stas_to psk 0 ≡ []
 unfolding stas_to
-no_stas = refl
+no_stas psk = refl
 
 length-aps : (n : ℕ) → length (aps_to n) ≡ n
 unfolding aps_to
 length-aps zero = refl
 length-aps (suc n) = omega (arith, length-append (aps_to n) (ap_of (suc n) ∷ []), length-aps n)
 
-length-stas : (n : ℕ) → length (stas_to n) ≡ n
+length-stas : (psk : List ℕ) (n : ℕ) → length (stas_to psk n) ≡ n
 unfolding stas_to
-length-stas zero = refl
-length-stas (suc n) = omega (arith, length-append (stas_to n) (sta_of (suc n) ∷ []), length-stas n)
+length-stas psk zero = refl
+length-stas psk (suc n) = omega (arith, length-append (stas_to psk n) (sta_of psk (suc n) ∷ []), length-stas psk n)
 
 akm_is : (number : ℕ) → (domain_of number).akm ≡ Rattle.domain_base.specs.declared.names.Akm.TheVariants.FtPsk
 unfolding domain_of
@@ -84,7 +89,7 @@ akm_is number = refl
 
 pub nodes_of_storm : (number : ℕ) (d : Domain) → d ≡ network number 4 8 → Nodes d
 nodes_of_storm number d is =
-    subst Nodes (sym is) (record { aps = length-aps 4; stas = length-stas 8; akm = akm_is number })
+    subst Nodes (sym is) (record { aps = length-aps 4; stas = length-stas (psk_in number) 8; akm = akm_is number })
 
 -- ---- one more
 
@@ -92,7 +97,7 @@ with_next_ap : (number n : ℕ) → with_ap (network number n 0) (ap_of (suc n))
 unfolding aps_to
 with_next_ap number n = refl
 
-with_next_sta : (number n : ℕ) → with_sta (network number 4 n) (sta_of (suc n)) ≡ network number 4 (suc n)
+with_next_sta : (number n : ℕ) → with_sta (network number 4 n) (sta_of (psk_in number) (suc n)).address (sta_of (psk_in number) (suc n)).psk ≡ network number 4 (suc n)
 unfolding stas_to
 with_next_sta number n = refl
 
@@ -104,13 +109,13 @@ other_id : (k m : ℕ) → k < m → (ap_of k).r0kh_id ≢ (ap_of m).r0kh_id
 unfolding ap_of
 other_id k m low same = let e : 48 + k ≡ 48 + m = ap (λ (x : List ℕ). slice_index x 5) same in absurd (omega (arith, e, low))
 
-other_sta : (k m : ℕ) → k < m → sta_of k ≢ sta_of m
+other_sta : (psk : List ℕ) (k m : ℕ) → k < m → (sta_of psk k).address ≢ (sta_of psk m).address
 unfolding sta_of
-other_sta k m low same = let e : k ≡ m = ap (λ (x : Mac). slice_index x.0 5) same in absurd (omega (arith, e, low))
+other_sta psk k m low same = let e : k ≡ m = ap (λ (x : Mac). slice_index x.0 5) same in absurd (omega (arith, e, low))
 
-ap_no_sta : (k m : ℕ) → (ap_of k).address ≢ sta_of m
+ap_no_sta : (psk : List ℕ) (k m : ℕ) → (ap_of k).address ≢ (sta_of psk m).address
 unfolding ap_of sta_of
-ap_no_sta k m same = let e : 0 ≡ 1 = ap (λ (x : Mac). slice_index x.0 4) same in absurd (omega (arith, e))
+ap_no_sta psk k m same = let e : 0 ≡ 1 = ap (λ (x : Mac). slice_index x.0 4) same in absurd (omega (arith, e))
 
 addresses_before : (n m : ℕ) → n < m → AllByRecursion (λ (a : ListedAp). a.address ≢ (ap_of m).address) (aps_to n)
 unfolding aps_to
@@ -124,24 +129,25 @@ ids_before zero m low = tt
 ids_before (suc n) m low =
     all_push (λ (a : ListedAp). a.r0kh_id ≢ (ap_of m).r0kh_id) (aps_to n) (ap_of (suc n)) (ids_before n m (omega (arith, low))) (other_id (suc n) m low)
 
-stas_before : (n m : ℕ) → n < m → AllByRecursion (λ (x : Mac). x ≢ sta_of m) (stas_to n)
+stas_before : (psk : List ℕ) (n m : ℕ) → n < m → AllByRecursion (λ (s : ListedSta). s.address ≢ (sta_of psk m).address) (stas_to psk n)
 unfolding stas_to
-stas_before zero m low = tt
-stas_before (suc n) m low =
-    all_push (λ (x : Mac). x ≢ sta_of m) (stas_to n) (sta_of (suc n)) (stas_before n m (omega (arith, low))) (other_sta (suc n) m low)
+stas_before psk zero m low = tt
+stas_before psk (suc n) m low =
+    all_push (λ (s : ListedSta). s.address ≢ (sta_of psk m).address) (stas_to psk n) (sta_of psk (suc n)) (stas_before psk n m (omega (arith, low))) (other_sta psk (suc n) m low)
 
-aps_no_sta : (n m : ℕ) → AllByRecursion (λ (a : ListedAp). a.address ≢ sta_of m) (aps_to n)
+aps_no_sta : (psk : List ℕ) (n m : ℕ) → AllByRecursion (λ (a : ListedAp). a.address ≢ (sta_of psk m).address) (aps_to n)
 unfolding aps_to
-aps_no_sta zero m = tt
-aps_no_sta (suc n) m = all_push (λ (a : ListedAp). a.address ≢ sta_of m) (aps_to n) (ap_of (suc n)) (aps_no_sta n m) (ap_no_sta (suc n) m)
+aps_no_sta psk zero m = tt
+aps_no_sta psk (suc n) m =
+    all_push (λ (a : ListedAp). a.address ≢ (sta_of psk m).address) (aps_to n) (ap_of (suc n)) (aps_no_sta psk n m) (ap_no_sta psk (suc n) m)
 
 single_ap : (m : ℕ) → is_single (ap_of m).address.0 ≡ true
 unfolding is_single ap_of
 single_ap m = refl
 
-single_sta : (m : ℕ) → is_single (sta_of m).0 ≡ true
+single_sta : (psk : List ℕ) (m : ℕ) → is_single (sta_of psk m).address.0 ≡ true
 unfolding is_single sta_of
-single_sta m = refl
+single_sta psk m = refl
 
 six_id : (m : ℕ) → length (ap_of m).r0kh_id ≡ 6
 unfolding ap_of
@@ -152,7 +158,7 @@ can_list_ap number n low = record {
   address_ = record {
     single = single_ap (suc n);
     no_ap = addresses_before n (suc n) (omega arith);
-    no_sta = subst (λ (stas : List Mac). AllByRecursion (λ (x : Mac). x ≢ (ap_of (suc n)).address) stas) (sym no_stas) tt;
+    no_sta = subst (λ (stas : List ListedSta). AllByRecursion (λ (s : ListedSta). s.address ≢ (ap_of (suc n)).address) stas) (sym (no_stas (psk_in number))) tt;
   };
   some = omega (arith, six_id (suc n));
   few = omega (arith, six_id (suc n));
@@ -160,10 +166,10 @@ can_list_ap number n low = record {
   room = omega (arith, length-aps n, low);
 }
 
-can_list_sta : (number n : ℕ) → n < 8 → CanListSta (network number 4 n) (sta_of (suc n))
+can_list_sta : (number n : ℕ) → n < 8 → CanListSta (network number 4 n) (sta_of (psk_in number) (suc n)).address
 can_list_sta number n low = record {
-  address_ = record { single = single_sta (suc n); no_ap = aps_no_sta 4 (suc n); no_sta = stas_before n (suc n) (omega arith) };
-  room = omega (arith, length-stas n, low);
+  address_ = record { single = single_sta (psk_in number) (suc n); no_ap = aps_no_sta (psk_in number) 4 (suc n); no_sta = stas_before (psk_in number) n (suc n) (omega arith) };
+  room = omega (arith, length-stas (psk_in number) n, low);
 }
 
 pub ap_form : (number n : ℕ) (w : State) (j : List Entry) (a : ListedAp) (id : List ℕ) → IsListing number n 0 w j → a ≡ ap_of (suc n) → id ≡ a.r0kh_id → n < 4 → InForm (with_ap w.domain a.address id)
@@ -172,10 +178,10 @@ ap_form number n w j a id l is same low =
     let here = subst (λ (x : ListedAp). InForm (with_ap w.domain x.address x.r0kh_id)) (sym is) (InForm-ap w.domain _ _ l.own.form can) in
     subst (λ (x : List ℕ). InForm (with_ap w.domain a.address x)) (sym same) here
 
-pub sta_form : (number n : ℕ) (w : State) (j : List Entry) (m : Mac) → IsListing number 4 n w j → m ≡ sta_of (suc n) → n < 8 → InForm (with_sta w.domain m)
-sta_form number n w j m l is low =
-    let can = subst (λ (d : Domain). CanListSta d (sta_of (suc n))) (sym l.network_is) (can_list_sta number n low) in
-    subst (λ (x : Mac). InForm (with_sta w.domain x)) (sym is) (InForm-sta w.domain _ l.own.form can)
+pub sta_form : (number n : ℕ) (w : State) (j : List Entry) (s : ListedSta) → IsListing number 4 n w j → s ≡ sta_of (psk_in number) (suc n) → n < 8 → InForm (with_sta w.domain s.address s.psk)
+sta_form number n w j s l is low =
+    let can = subst (λ (d : Domain). CanListSta d (sta_of (psk_in number) (suc n)).address) (sym l.network_is) (can_list_sta number n low) in
+    subst (λ (x : ListedSta). InForm (with_sta w.domain x.address x.psk)) (sym is) (InForm-sta w.domain _ (sta_of (psk_in number) (suc n)).psk l.own.form can)
 
 pub ap_listed : (number n : ℕ) (w v : State) (j k : List Entry) (a : ListedAp) (id : List ℕ) → IsListing number n 0 w j → a ≡ ap_of (suc n) → id ≡ a.r0kh_id → v.domain ≡ with_ap w.domain a.address id → v.rounds ≡ w.rounds → Owns v k
     → (j ≡ started w.domain (length w.domain.aps) → k ≡ started v.domain (length v.domain.aps)) → IsListing number (suc n) 0 v k
@@ -187,10 +193,11 @@ ap_listed number n w v j k a id l is same domain rounds own starts = record {
   starts = starts l.starts;
 }
 
-pub sta_listed : (number n : ℕ) (w v : State) (j : List Entry) (m : Mac) → IsListing number 4 n w j → m ≡ sta_of (suc n) → v.domain ≡ with_sta w.domain m → v.rounds ≡ w.rounds → Owns v j
+pub sta_listed : (number n : ℕ) (w v : State) (j : List Entry) (s : ListedSta) → IsListing number 4 n w j → s ≡ sta_of (psk_in number) (suc n) → v.domain ≡ with_sta w.domain s.address s.psk → v.rounds ≡ w.rounds → Owns v j
     → (j ≡ started w.domain (length w.domain.aps) → j ≡ started v.domain (length v.domain.aps)) → IsListing number 4 (suc n) v j
-sta_listed number n w v j m l is domain rounds own starts = record {
-  network_is = domain ∙ ap (λ (x : Mac). with_sta w.domain x) is ∙ ap (λ (d : Domain). with_sta d (sta_of (suc n))) l.network_is ∙ with_next_sta number n;
+sta_listed number n w v j s l is domain rounds own starts = record {
+  network_is = domain ∙ ap (λ (x : ListedSta). with_sta w.domain x.address x.psk) is
+      ∙ ap (λ (d : Domain). with_sta d (sta_of (psk_in number) (suc n)).address (sta_of (psk_in number) (suc n)).psk) l.network_is ∙ with_next_sta number n;
   none = rounds ∙ l.none;
   own = own;
   starts = starts l.starts;
@@ -208,7 +215,7 @@ five number = refl
 
 pub bare_form : (number : ℕ) → InForm (network number 0 0)
 bare_form number =
-    InForm-new (network number 0 0) (record { some = omega (arith, five number); few = omega (arith, five number); no_aps = no_aps; no_stas = no_stas })
+    InForm-new (network number 0 0) (record { some = omega (arith, five number); few = omega (arith, five number); no_aps = no_aps; no_stas = no_stas (psk_in number) })
 
 two_octets : AreOctets (0xa1 ∷ 0xb2 ∷ [])
 two_octets = let P : ℕ → Type 0 = λ (o : ℕ). o < 256 in All-cons P 0xa1 (0xb2 ∷ []) (omega arith) (All-cons P 0xb2 [] (omega arith) (All-nil P))
@@ -260,7 +267,8 @@ explained_listing number aps stas j starts =
     subst (λ (es : List Rattle.run_journal.specs.declared.domain.Event.Event). Explained d (rounds_of es) j) (sym (no_events number j)) first
 
 nothing_right : (d : Domain) → AnsweredInTime d []
-nothing_right d later past e id name p answer cut look = absurd (omega (arith, ap (λ (x : List Entry). length x) cut, length-append later (e ∷ past)))
+unfolding AllInTime
+nothing_right d = tt
 
 pub nothing_so_far : (number : ℕ) (j : List Entry) → j ≡ [] → IsFrontSoFar number j
 nothing_so_far number j none = record {
@@ -325,16 +333,16 @@ pub ap_room : (number n : ℕ) (d : Domain) → d ≡ domain_of number → n < 4
 ap_room number n d is low = omega (arith, low, ap (λ (x : Domain). length x.aps) is, ap (λ (aps : List ListedAp). length aps) (domain_aps number), length-aps 4)
 
 pub sta_room : (number n : ℕ) (d : Domain) → d ≡ domain_of number → n < 8 → n < length d.stas
-sta_room number n d is low = omega (arith, low, ap (λ (x : Domain). length x.stas) is, ap (λ (stas : List Mac). length stas) (domain_stas number), length-stas 8)
+sta_room number n d is low = omega (arith, low, ap (λ (x : Domain). length x.stas) is, ap (λ (stas : List ListedSta). length stas) (domain_stas number), length-stas (psk_in number) 8)
 
 -- the node there
 pub ap_here : (number n : ℕ) (d : Domain) (a : ListedAp) → d ≡ domain_of number → n < 4 → ((other : ListedAp) → a ≡ get_or d.aps n other) → a ≡ ap_of (suc n)
 ap_here number n d a is low at =
     at a ∙ ap (λ (x : Domain). get_or x.aps n a) is ∙ ap (λ (aps : List ListedAp). get_or aps n a) (domain_aps number) ∙ ap_at a n low
 
-pub sta_here : (number n : ℕ) (d : Domain) (m : Mac) → d ≡ domain_of number → n < 8 → ((other : Mac) → m ≡ get_or d.stas n other) → m ≡ sta_of (suc n)
-sta_here number n d m is low at =
-    at m ∙ ap (λ (x : Domain). get_or x.stas n m) is ∙ ap (λ (stas : List Mac). get_or stas n m) (domain_stas number) ∙ sta_at m n low
+pub sta_here : (number n : ℕ) (d : Domain) (s : ListedSta) → d ≡ domain_of number → n < 8 → ((other : ListedSta) → s ≡ get_or d.stas n other) → s ≡ sta_of (psk_in number) (suc n)
+sta_here number n d s is low at =
+    at s ∙ ap (λ (x : Domain). get_or x.stas n s) is ∙ ap (λ (stas : List ListedSta). get_or stas n s) (domain_stas number) ∙ sta_at (psk_in number) s n low
 
 -- fronts while nodes are listed
 pub front_ap : (number n : ℕ) (w : State) (j k : List Entry) → IsListing number n 0 w j → n < 4 → k ≡ j → IsFrontSoFar number k

@@ -6,6 +6,7 @@ use Rattle.domain_base.specs.Causes.{Rose}
 use Rattle.domain_base.specs.Told.{LinkStory, AirStory}
 use Rattle.domain_base.specs.declared.outside.LinkError.{LinkError}
 use Rattle.domain_base.specs.declared.outside.LinkError.TheVariants as link
+use Rattle.run_journal.specs.Limits.{most_polls}
 use Rattle.run_journal.specs.declared.domain.Domain.{Domain}
 use Rattle.run_journal.specs.declared.domain.Event.{Event}
 use Rattle.run_journal.specs.declared.domain.Event.TheVariants.{Inject}
@@ -19,7 +20,9 @@ use Rattle.domain_links.specs.Turns.{Delivery, left_past}
 use Rattle.domain_links.specs.Turns.{Rounds as Taken}
 use Rattle.domain_links.proofs.OnePoll.{Tell-left}
 use Rattle.domain_links.proofs.Turning.{past_below}
-use Rattle.frame_script.specs.Script.{Draft, AtSeed, AtSsid, AtNodes}
+use Rattle.frame_script.specs.declared.header.Header.{Header}
+use Rattle.frame_script.specs.declared.header.HeaderLine.TheVariants as awaits
+use Rattle.frame_script.specs.Script.{Draft, AtVersion, AtHeader, AtNodes, InRound, IsSeedDue, seeded}
 use Rattle.frame_script.specs.Live.{Draws, Turns}
 use Rattle.frame_script.specs.Headers.{Reading, HasSeen, ReadsIn, sizes_named, sizes_of}
 use Rattle.frame_script.proofs.Feeding.{HasSeen-by}
@@ -29,7 +32,7 @@ use Rattle.frame_script.specs.declared.reader.Step.TheVariants as step
 use Rattle.script_runs.specs.declared.state.ScriptState.{ScriptState}
 use Rattle.script_runs.specs.declared.stops.Undone.{Undone}
 use Rattle.script_runs.specs.declared.stops.Undone.TheVariants as undone
-use Rattle.script_runs.specs.Script.{Rounds, IsRun, IsJournal, IsTurnAt, Says, sizes_before, says_in, with_deliveries, with_seed, with_turn}
+use Rattle.script_runs.specs.Script.{Rounds, IsRun, IsJournal, IsTurn, IsTurnAt, Says, sizes_before, says_in, with_deliveries, with_seed, with_turn}
 use Rattle.script_runs.specs.Outer.{Outer, outer, AreHeard, IsTold, IsDrawn, IsMet, IsLinked, IsLinkedPart, IsLinkedAt, IsUnlinked, IsBlamed, Nobody, OnDraws, OnLinks, left_behind, links_due, sends_for}
 use Rattle.script_runs.specs.States.{Waiting, IsAt, IsHeader, IsOwn, IsWorldOf, IsReady, Stands, HasSame, TellsLine, BreaksLine, LeavesLine, events_of, run_count}
 use Rattle.script_runs.specs.Stops.{undone_blame}
@@ -40,21 +43,35 @@ use Rattle.script_runs.proofs.Steps.{named, outside}
 use Rattle.script_runs.proofs.Telling.{Rightly}
 use Rattle.script_runs.proofs.Linked.{blamed_sends}
 use Rattle.script_runs.proofs.Cutting.{turn_cut}
-use Rattle.script_runs.proofs.Meeting.{same_links}
+use Rattle.script_runs.proofs.Meeting.{linked_in, linked_out, part_out, same_links}
 use Rattle.script_runs.proofs.Taking.{Took, read_to, read_there}
 
 -- ---- a seed is drawn
 
+-- where it is due
+seed_due : (draft : Draft) → IsSeedDue draft → (h : Header) × (draft ≡ AtHeader awaits.Seed h)
+seed_due AtVersion is = absurd is
+seed_due (AtHeader awaits.Seed h) is = (h, refl)
+seed_due (AtHeader awaits.Ssid h) is = absurd is
+seed_due (AtHeader awaits.Psk h) is = absurd is
+seed_due (AtHeader awaits.Akm h) is = absurd is
+seed_due (AtHeader awaits.Mdid h) is = absurd is
+seed_due (AtNodes h) is = absurd is
+seed_due (InRound h count) is = absurd is
+
 record HeardDraw (m : Mode) (r s : Reading) (sizes line : List ℕ) : Type 0 where
   live : m ≡ Live
   says : says_in m r.draft r.rounds sizes line ≡ Ok Draws
-  at : r.draft ≡ AtSeed
+  header : Header
+  at : r.draft ≡ AtHeader awaits.Seed header
   same : s.draft ≡ r.draft
   rounds : s.rounds ≡ r.rounds
 
 heard_draw : (m : Mode) (r s : Reading) (sizes line : List ℕ) → ReadsIn m r s sizes line (Ok step.Draw) → HeardDraw m r s sizes line
 heard_draw Replay r s sizes line takes = absurd takes.1.1.1.1
-heard_draw Live r s sizes line takes = record { live = refl; says = takes.0; at = takes.1.0; same = takes.1.1.0; rounds = takes.1.1.1 }
+heard_draw Live r s sizes line takes =
+    let (h, at) = seed_due r.draft takes.1.0 in
+    record { live = refl; says = takes.0; header = h; at = at; same = takes.1.1.0; rounds = takes.1.1.1 }
 
 draw_all : (s : ScriptState) (u : Reading) (line : List ℕ) (j : List Entry) → IsWorldOf s.world s.waiting s.reader j → Took s u line j step.Draw → HeardDraw s.reader.mode s.reader u (sizes_of j) line
 draw_all s u line j is took =
@@ -64,15 +81,15 @@ draw_all s u line j is took =
 pub draws_live : (s : ScriptState) (u : Reading) (line : List ℕ) (j : List Entry) → Took s u line j step.Draw → u.mode ≡ Live
 draws_live s u line j took = took.mode ∙ (heard_draw s.reader.mode s.reader u (sizes_named s.reader j) line took.reads).live
 
-pub draws_due : (s : ScriptState) (u : Reading) (line : List ℕ) (j : List Entry) → Took s u line j step.Draw → u.draft ≡ AtSeed
-draws_due s u line j took = let h = heard_draw s.reader.mode s.reader u (sizes_named s.reader j) line took.reads in h.same ∙ h.at
+pub draws_due : (s : ScriptState) (u : Reading) (line : List ℕ) (j : List Entry) → Took s u line j step.Draw → IsSeedDue u.draft
+draws_due s u line j took = let h = heard_draw s.reader.mode s.reader u (sizes_named s.reader j) line took.reads in subst IsSeedDue (sym (h.same ∙ h.at)) tt
 
 abbrev told_seed : Reading → List ℕ → Reading
-told_seed u seed = record u { draft = AtSsid seed }
+told_seed u seed = record u { draft = seeded u.draft seed }
 
-seed_world : (world : Option State) (a : Waiting) (r u : Reading) (j : List Entry) (seed : List ℕ) → r.draft ≡ AtSeed → u.rounds ≡ r.rounds → IsWorldOf world a r j → IsWorldOf world a (told_seed u seed) j
-seed_world None a r u j seed at rounds is = record { due = tt; no_rounds = rounds ∙ is.no_rounds; no_entries = is.no_entries; no_events = is.no_events }
-seed_world (Some w) a r u j seed at rounds is = absurd (subst (λ (x : Draft). IsAt x w a r.sizes j) at is.at)
+seed_world : (world : Option State) (a : Waiting) (r u : Reading) (j : List Entry) (seed : List ℕ) (h : Header) → r.draft ≡ AtHeader awaits.Seed h → u.draft ≡ r.draft → u.rounds ≡ r.rounds → IsWorldOf world a r j → IsWorldOf world a (told_seed u seed) j
+seed_world None a r u j seed h at same rounds is = record { due = subst (λ (x : Draft). IsHeader (seeded x seed)) (sym (same ∙ at)) tt; no_rounds = rounds ∙ is.no_rounds; no_entries = is.no_entries; no_events = is.no_events }
+seed_world (Some w) a r u j seed h at same rounds is = absurd (subst (λ (x : Draft). IsAt x w a r.sizes j) at is.at)
 
 ready_seed : (s : ScriptState) (u : Reading) (seed : List ℕ) (links lines : ℕ) (line : List ℕ) (j : List Entry) → IsReady s links lines j → Took s u line j step.Draw → IsReady (read_to s (told_seed u seed)) links (suc lines) j
 ready_seed s u seed links lines line j ready took =
@@ -83,7 +100,7 @@ ready_seed s u seed links lines line j ready took =
       links_are = subst (λ (m : Mode). links ≡ links_due m s.world) (sym took.mode) ready.links_are;
       seen = record { later = seen.later; earlier = seen.earlier; is = seen.is; seen = seen.seen; sizes = seen.sizes };
       few = omega (arith, ready.few, h.rounds);
-      world_is = seed_world s.world s.waiting s.reader u j seed h.at h.rounds ready.world_is;
+      world_is = seed_world s.world s.waiting s.reader u j seed h.header h.at h.same h.rounds ready.world_is;
     }
 
 pub ready_draw : {T : Type 0} (s : ScriptState) (u v : Reading) (last : Option (List ℕ)) (links lines : ℕ) (line : List ℕ) (j : List Entry) (result : Result T Undone) → IsReady s links lines j → Took s u line j step.Draw → OnOk result (IsTold u v last) → OnOk result (IsReady (read_to s v) links (suc lines) j)
@@ -91,33 +108,40 @@ ready_draw s u v last links lines line j (Ok x) ready took told =
     subst (λ (r : Reading). IsReady (read_to s r) links (suc lines) j) (sym told.1.1) (ready_seed s u told.0 links lines line j ready took)
 ready_draw s u v last links lines line j (Err error) ready took told = tt
 
-seed_journal : (draft : Draft) (seed : List ℕ) (run : List (List Event)) (j : List Entry) → draft ≡ AtSeed → IsJournal draft run j → IsJournal (AtSsid seed) run j
-seed_journal draft seed run j at journal = subst (λ (x : Draft). IsJournal x run j) at journal
+seed_journal : (draft : Draft) (seed : List ℕ) (h : Header) (run : List (List Event)) (j : List Entry) → draft ≡ AtHeader awaits.Seed h → IsJournal draft run j → IsJournal (seeded draft seed) run j
+seed_journal draft seed h run j at journal =
+    subst (λ (x : Draft). IsJournal (seeded x seed) run j) (sym at) (subst (λ (x : Draft). IsJournal x run j) at journal)
+
+seed_unlinked : {L : Type 0} (told : L → Option LinkStory) (draft : Draft) (seed : List ℕ) (h : Header) (start : AirStory) (links : List L) (air : Option AirStory) (last now : Option (List ℕ)) (turns : List (List Delivery)) (j : List Entry)
+    → draft ≡ AtHeader awaits.Seed h → IsLinkedAt told draft start (outer links air last) turns j → IsLinkedAt told (seeded draft seed) start (outer links air now) turns j
+seed_unlinked told draft seed h start links air last now turns j at l =
+    let was : IsUnlinked start (outer links air last) turns = subst (λ (x : Draft). IsLinkedAt told x start (outer links air last) turns j) at l in
+    let is : IsUnlinked start (outer links air now) turns = record { none = was.none; same = was.same; no_turns = was.no_turns } in
+    subst (λ (x : Draft). IsLinkedAt told (seeded x seed) start (outer links air now) turns j) (sym at) is
 
 tells_seed : {L : Type 0} (told : L → Option LinkStory) (first : Outer L) (s : ScriptState) (u : Reading) (seed : List ℕ) (links : List L) (air : Option AirStory) (last : Option (List ℕ)) (line : List ℕ) (draft : Draft) (rounds : Rounds) (j : List Entry)
     → IsReady s (length links) 65536 j → Took s u line j step.Draw → Stands s draft rounds j → IsMet told first (outer links air last) s.reader.mode draft rounds j
     → TellsLine told first (outer links air (Some seed)) line draft rounds (read_to s (told_seed u seed)) j j
 tells_seed told first s u seed links air last line draft rounds j ready took stands met =
     let h = draw_all s u line j ready.world_is took in
-    let at : draft ≡ AtSeed = sym stands.draft_is ∙ h.at in
+    let at : draft ≡ AtHeader awaits.Seed h.header = sym stands.draft_is ∙ h.at in
     record {
-      draft = AtSsid seed;
+      draft = seeded draft seed;
       rounds = with_seed rounds seed;
       same = same-journal (length rounds.run) j j refl;
-      says = subst (λ (m : Mode). Says m j line draft rounds (AtSsid seed) (with_seed rounds seed)) (sym took.mode)
+      says = subst (λ (m : Mode). Says m j line draft rounds (seeded draft seed) (with_seed rounds seed)) (sym took.mode)
           (record { said = Draws; says = read_there s draft rounds j line (Ok Draws) ready.world_is stands h.says; means = (seed, (refl, refl)) });
       stands = record {
-        draft_is = refl;
+        draft_is = ap (λ (x : Draft). seeded x seed) (h.same ∙ stands.draft_is);
         rounds_are = h.rounds ∙ stands.rounds_are;
         run_is = stands.run_is;
         events_are = stands.events_are;
         few_turns = stands.few_turns;
-        journal = seed_journal draft seed rounds.run j at stands.journal;
+        journal = seed_journal draft seed h.header rounds.run j at stands.journal;
       };
       met = record {
         drawn = refl;
-        linked = λ live start is. (let was : IsUnlinked start (outer links air last) rounds.turns = subst (λ (x : Draft). IsLinkedAt told x start (outer links air last) rounds.turns j) at (met.linked (sym took.mode ∙ live) start is) in
-            record { none = was.none; same = was.same; no_turns = was.no_turns });
+        linked = λ live start is. seed_unlinked told draft seed h.header start links air last (Some seed) rounds.turns j at (met.linked (sym took.mode ∙ live) start is);
       };
     }
 
@@ -129,9 +153,9 @@ fails_draw : {L : Type 0} (told : L → Option LinkStory) (first : Outer L) (s :
     → LeavesLine undone.DrawFault told first (outer links air last) (outer links air now) (read_to s v) line draft rounds j j
 fails_draw told first s u v links air last now line draft rounds j ready took stands same kept =
     let h = draw_all s u line j ready.world_is took in
-    let at : draft ≡ AtSeed = sym stands.draft_is ∙ h.at in
+    let at : draft ≡ AtHeader awaits.Seed h.header = sym stands.draft_is ∙ h.at in
     let mode : v.mode ≡ s.reader.mode = ap (λ (x : Reading). x.mode) same ∙ took.mode in
-    let none = seed_journal draft [] rounds.run j at stands.journal in (
+    let none = subst (λ (x : Draft). IsJournal x rounds.run j) at stands.journal in (
       record {
         live = mode ∙ h.live;
         asks = subst (λ (m : Mode). says_in m draft rounds.asked (sizes_before (length rounds.run) j) line ≡ Ok Draws) (sym mode) (read_there s draft rounds j line (Ok Draws) ready.world_is stands h.says);
@@ -236,29 +260,29 @@ none_taken (first ∷ given) before after r none = absurd (omega (arith, (taken_
 record HeardTurn (m : Mode) (r s : Reading) (sizes line : List ℕ) : Type 0 where
   live : m ≡ Live
   says : says_in m r.draft r.rounds sizes line ≡ Ok Turns
-  domain : Domain
-  at : r.draft ≡ AtNodes domain
+  header : Header
+  at : r.draft ≡ AtNodes header
   same : s.draft ≡ r.draft
   rounds : s.rounds ≡ suc r.rounds
 
 heard_turn : (m : Mode) (r s : Reading) (sizes line : List ℕ) → ReadsIn m r s sizes line (Ok step.Turn) → HeardTurn m r s sizes line
 heard_turn Replay r s sizes line takes = absurd takes.1.1.1.1
-heard_turn Live r s sizes line takes = record { live = refl; says = takes.1.0; domain = takes.0; at = takes.1.1.0; same = takes.1.1.1.1.0; rounds = takes.1.1.1.1.1 }
+heard_turn Live r s sizes line takes = record { live = refl; says = takes.1.0; header = takes.0; at = takes.1.1.0; same = takes.1.1.1.1.0; rounds = takes.1.1.1.1.1 }
 
 turn_all : (s : ScriptState) (u : Reading) (line : List ℕ) (j : List Entry) → IsWorldOf s.world s.waiting s.reader j → Took s u line j step.Turn → HeardTurn s.reader.mode s.reader u (sizes_of j) line
 turn_all s u line j is took =
     subst (λ (sizes : List ℕ). HeardTurn s.reader.mode s.reader u sizes line) (named s.world s.waiting s.reader j is) (heard_turn s.reader.mode s.reader u (sizes_named s.reader j) line took.reads)
 
 -- it can be
-can_there : (world : Option State) (a : Waiting) (r : Reading) (links : ℕ) (d : Domain) (j : List Entry) → IsWorldOf world a r j → r.draft ≡ AtNodes d → r.rounds ≤ 65536 → links ≡ links_due Live world → CanTurn world links j
-can_there None a r links d j is at few due = subst (λ (x : Draft). IsHeader x) at is.due
-can_there (Some w) a r links d j is at few due =
+can_there : (world : Option State) (a : Waiting) (r : Reading) (links : ℕ) (h : Header) (j : List Entry) → IsWorldOf world a r j → r.draft ≡ AtNodes h → r.rounds ≤ 65536 → links ≡ links_due Live world → CanTurn world links j
+can_there None a r links h j is at few due = subst (λ (x : Draft). IsHeader x) at is.due
+can_there (Some w) a r links h j is at few due =
     (is.own, (due, omega (arith, is.rounds, few, is.own.form.few_aps, is.own.form.few_stas)))
 
 pub can_turn : (s : ScriptState) (u : Reading) (links : ℕ) (line : List ℕ) (j : List Entry) → IsReady s links 65536 j → Took s u line j step.Turn → CanTurn s.world links j
 can_turn s u links line j ready took =
     let h = turn_all s u line j ready.world_is took in
-    can_there s.world s.waiting s.reader links h.domain j ready.world_is h.at ready.few (subst (λ (m : Mode). links ≡ links_due m s.world) h.live ready.links_are)
+    can_there s.world s.waiting s.reader links h.header j ready.world_is h.at ready.few (subst (λ (m : Mode). links ≡ links_due m s.world) h.live ready.links_are)
 
 -- a turn was done, or a part of it
 pub record TurnDone {L T : Type 0} (told : L → Option LinkStory) (faults : L → ℕ) (s t : ScriptState) (links_old links_new : List L) (line : List ℕ) (j k : List Entry) (result : Result T LinkError) : Type 0 where
@@ -270,9 +294,11 @@ pub record TurnDone {L T : Type 0} (told : L → Option LinkStory) (faults : L �
   pub did : DidTurn told faults links_old links_new (stage w j) (stage v k) result
   pub live : s.reader.mode ≡ Live
   pub says : says_in s.reader.mode s.reader.draft s.reader.rounds (sizes_of j) line ≡ Ok Turns
-  pub at : s.reader.draft ≡ AtNodes w.domain
+  pub header : Header
+  pub at : s.reader.draft ≡ AtNodes header
+  pub network : header.network ≡ w.domain
   pub no_round : s.waiting ≡ None
-  pub draft : t.reader.draft ≡ AtNodes w.domain
+  pub draft : t.reader.draft ≡ AtNodes header
   pub rounds : t.reader.rounds ≡ suc s.reader.rounds
   pub mode : t.mode ≡ s.mode
   pub reader_mode : t.reader.mode ≡ s.reader.mode
@@ -297,8 +323,7 @@ turn_done told faults s u t links_old links_new line j k result ready took same 
     let h = turn_all s u line j ready.world_is took in
     let by = turned_by told faults links_old links_new s.world t.world j k result did in
     let own : IsOwn by.w s.waiting s.reader j = subst (λ (o : Option State). IsWorldOf o s.waiting s.reader j) by.was ready.world_is in
-    let (network, none) = outside s.reader.draft h.domain by.w s.waiting s.reader.sizes j own.at h.at in
-    let at : s.reader.draft ≡ AtNodes by.w.domain = h.at ∙ ap AtNodes network in
+    let (network, none) = outside s.reader.draft h.header by.w s.waiting s.reader.sizes j own.at h.at in
     record {
       w = by.w;
       v = by.v;
@@ -308,9 +333,11 @@ turn_done told faults s u t links_old links_new line j k result ready took same 
       did = by.did;
       live = h.live;
       says = h.says;
-      at = at;
+      header = h.header;
+      at = h.at;
+      network = network;
       no_round = none;
-      draft = ap (λ (x : Reading). x.draft) same ∙ h.same ∙ at;
+      draft = ap (λ (x : Reading). x.draft) same ∙ h.same ∙ h.at;
       rounds = ap (λ (x : Reading). x.rounds) same ∙ h.rounds;
       mode = mode;
       reader_mode = ap (λ (x : Reading). x.mode) same ∙ took.mode;
@@ -324,9 +351,9 @@ turned_own told faults s t links_old links_new line j k result l =
     let w = l.w in
     let v = l.v in
     let network : v.domain ≡ w.domain = l.did.further.network in
-    let few : v.rounds ≤ w.rounds + 16 * count w.domain = l.did.further.few in
+    let few : v.rounds ≤ w.rounds + most_polls * count w.domain = l.did.further.few in
     record {
-      at = subst (λ (x : Draft). IsAt x v t.waiting t.reader.sizes k) (sym l.draft) (sym network, l.waiting ∙ l.no_round);
+      at = subst (λ (x : Draft). IsAt x v t.waiting t.reader.sizes k) (sym l.draft) (l.network ∙ sym network, l.waiting ∙ l.no_round);
       rounds = omega (arith, few, l.own.rounds, l.rounds, l.own.own.form.few_aps, l.own.own.form.few_stas);
       own = l.did.further.own;
       first = λ zero.
@@ -354,21 +381,22 @@ ready_turn told faults s t links_old links_new lines line j k result ready l =
     }
 
 -- what it told
-record TurnTold (s t : ScriptState) (d : Domain) (line : List ℕ) (draft : Draft) (rounds : Rounds) (given : List Delivery) (j k : List Entry) : Type 0 where
-  at : draft ≡ AtNodes d
+record TurnTold (s t : ScriptState) (h : Header) (line : List ℕ) (draft : Draft) (rounds : Rounds) (given : List Delivery) (j k : List Entry) : Type 0 where
+  at : draft ≡ AtNodes h
   same : HasSame (length rounds.run) j k
-  says : Says t.reader.mode k line draft rounds (AtNodes d) (with_turn rounds given)
-  stands : Stands t (AtNodes d) (with_turn rounds given) k
+  says : Says t.reader.mode k line draft rounds (AtNodes h) (with_turn rounds given)
+  stands : Stands t (AtNodes h) (with_turn rounds given) k
 
 told_turn : {L T : Type 0} (told : L → Option LinkStory) (faults : L → ℕ) (rightly : Rightly) (s t : ScriptState) (links_old links_new : List L) (line : List ℕ) (draft : Draft) (rounds : Rounds) (j k : List Entry) (result : Result T LinkError)
-    → Stands s draft rounds j → (l : TurnDone told faults s t links_old links_new line j k result) → TurnTold s t l.w.domain line draft rounds l.did.takes.given j k
+    → Stands s draft rounds j → (l : TurnDone told faults s t links_old links_new line j k result) → TurnTold s t l.header line draft rounds l.did.takes.given j k
 told_turn told faults rightly s t links_old links_new line draft rounds j k result stands l =
     let takes = l.did.takes in
-    let at : draft ≡ AtNodes l.w.domain = sym stands.draft_is ∙ l.at in
+    let at : draft ≡ AtNodes l.header = sym stands.draft_is ∙ l.at in
     let taken = taken_all takes.given (stage l.w j) (stage l.v k) takes.rounds in
     let count_ : l.w.rounds ≡ length rounds.run = sym (ap run_count l.was) ∙ stands.run_is in
     let same : HasSame (length rounds.run) j k = subst (λ (n : ℕ). HasSame n j k) count_ taken.grows.same in
-    let here : IsRun l.w.domain rounds.run j = subst (λ (x : Draft). IsJournal x rounds.run j) at stands.journal in
+    let was : IsRun l.header.network rounds.run j = subst (λ (x : Draft). IsJournal x rounds.run j) at stands.journal in
+    let here : IsRun l.w.domain rounds.run j = subst (λ (x : Domain). IsRun x rounds.run j) l.network was in
     let own = l.did.further.own in
     let run : IsRun l.v.domain (with_deliveries takes.given rounds.run) k = record {
       form = own.form;
@@ -377,14 +405,15 @@ told_turn told faults rightly s t links_old links_new line draft rounds j k resu
       held = rightly l.v.domain k own.right;
     } in
     let many : l.v.rounds ≡ length (with_deliveries takes.given rounds.run) = omega (arith, taken.rounds, count_, length_taken takes.given rounds.run) in
+    let turn : IsTurn l.w.domain takes.given = record { heard = takes.heard; few = takes.few; order = takes.order } in
     let world = subst (λ (o : Option State). IsWorldOf o s.waiting s.reader j) (sym l.was) l.own in
     record {
       at = at;
       same = same;
-      says = subst (λ (m : Mode). Says m k line draft rounds (AtNodes l.w.domain) (with_turn rounds takes.given)) (sym l.reader_mode) (record {
+      says = subst (λ (m : Mode). Says m k line draft rounds (AtNodes l.header) (with_turn rounds takes.given)) (sym l.reader_mode) (record {
         said = Turns;
         says = subst (λ (sizes : List ℕ). says_in s.reader.mode draft rounds.asked sizes line ≡ Ok Turns) (sym (same (length rounds.run) (omega arith))) (read_there s draft rounds j line (Ok Turns) world stands l.says);
-        means = (takes.given, (subst (λ (x : Draft). IsTurnAt x takes.given) (sym at) (record { heard = takes.heard; few = takes.few; order = takes.order }), (sym at, refl)));
+        means = (takes.given, (subst (λ (x : Draft). IsTurnAt x takes.given) (sym at) (subst (λ (x : Domain). IsTurn x takes.given) (sym l.network) turn), (sym at, refl)));
       });
       stands = record {
         draft_is = l.draft;
@@ -392,14 +421,14 @@ told_turn told faults rightly s t links_old links_new line draft rounds j k resu
         run_is = ap run_count l.now ∙ many;
         events_are = ap events_of l.waiting ∙ stands.events_are;
         few_turns = omega (arith, stands.few_turns);
-        journal = subst (λ (x : Domain). IsRun x (with_deliveries takes.given rounds.run) k) l.did.further.network run;
+        journal = subst (λ (x : Domain). IsRun x (with_deliveries takes.given rounds.run) k) (l.did.further.network ∙ sym l.network) run;
       };
     }
 
 -- ---- how the outside is met
 
-next_left : (frames : List (List ℕ)) (n : ℕ) → drop 16 (drop (16 * n) frames) ≡ drop (16 * suc n) frames
-next_left frames n = drop-drop 16 (16 * n) frames ∙ ap (λ (m : ℕ). drop m frames) (omega arith)
+next_left : (frames : List (List ℕ)) (n : ℕ) → drop most_polls (drop (most_polls * n) frames) ≡ drop (most_polls * suc n) frames
+next_left frames n = drop-drop most_polls (most_polls * n) frames ∙ ap (λ (m : ℕ). drop m frames) (omega arith)
 
 linked_turn : {L T : Type 0} (told : L → Option LinkStory) (faults : L → ℕ) (w v : State) (start : AirStory) (old new : Outer L) (turns : List (List Delivery)) (j k : List Entry) (x : T) → new.air ≡ old.air → (did : DidTurn {L = L} {T = T} told faults old.links new.links (stage w j) (stage v k) (Ok x))
     → IsLinked told w.domain start old turns j → IsLinked told w.domain start new (did.takes.given ∷ turns) k
@@ -438,19 +467,24 @@ linked_turn_part told faults w v start old new rounds j k error air did run was 
 same_last : (before old new drawn : Option (List ℕ)) → new ≡ old → IsDrawn drawn before old → IsDrawn drawn before new
 same_last before old new drawn same is = subst (λ (x : Option (List ℕ)). IsDrawn drawn before x) (sym same) is
 
+-- the links so far, in the world's network
+turn_links : {L : Type 0} (told : L → Option LinkStory) (draft : Draft) (h : Header) (d : Domain) (start : AirStory) (o : Outer L) (turns : List (List Delivery)) (j : List Entry) → draft ≡ AtNodes h → h.network ≡ d → IsLinkedAt told draft start o turns j → IsLinked told d start o turns j
+turn_links told draft h d start o turns j at network l = linked_in told (AtNodes h) d start o turns j network (subst (λ (x : Draft). IsLinkedAt told x start o turns j) at l)
+
 pub tells_turn : {L T : Type 0} (told : L → Option LinkStory) (faults : L → ℕ) (rightly : Rightly) (first : Outer L) (s t : ScriptState) (old new : Outer L) (line : List ℕ) (draft : Draft) (rounds : Rounds) (j k : List Entry) (x : T) → new.air ≡ old.air → new.last ≡ old.last
     → Stands s draft rounds j → IsMet told first old s.reader.mode draft rounds j → TurnDone {L = L} {T = T} told faults s t old.links new.links line j k (Ok x) → TellsLine told first new line draft rounds t j k
 tells_turn told faults rightly first s t old new line draft rounds j k x air last stands met l =
     let more = told_turn told faults rightly s t old.links new.links line draft rounds j k (Ok x) stands l in
     record {
-      draft = AtNodes l.w.domain;
+      draft = AtNodes l.header;
       rounds = with_turn rounds l.did.takes.given;
       same = more.same;
       says = more.says;
       stands = more.stands;
       met = record {
         drawn = same_last first.last old.last new.last rounds.drawn last met.drawn;
-        linked = λ live start is. linked_turn told faults l.w l.v start old new rounds.turns j k x air l.did (subst (λ (d : Draft). IsLinkedAt told d start old rounds.turns j) more.at (met.linked l.live start is));
+        linked = λ live start is. linked_out told (AtNodes l.header) l.w.domain start new (l.did.takes.given ∷ rounds.turns) k l.network
+            (linked_turn told faults l.w l.v start old new rounds.turns j k x air l.did (turn_links told draft l.header l.w.domain start old rounds.turns j more.at l.network (met.linked l.live start is)));
       };
     }
 
@@ -459,7 +493,7 @@ pub breaks_turn : {L T : Type 0} (told : L → Option LinkStory) (faults : L →
 breaks_turn told faults rightly first s t old new line draft rounds j k error air last stands met l =
     let more = told_turn told faults rightly s t old.links new.links line draft rounds j k (Err error) stands l in
     record {
-      draft = AtNodes l.w.domain;
+      draft = AtNodes l.header;
       rounds = with_turn rounds l.did.takes.given;
       live = l.reader_mode ∙ l.live;
       same = more.same;
@@ -467,7 +501,8 @@ breaks_turn told faults rightly first s t old new line draft rounds j k error ai
       journal = more.stands.journal;
       met = record {
         drawn = same_last first.last old.last new.last rounds.drawn last met.drawn;
-        linked = λ start is. linked_turn_part told faults l.w l.v start old new rounds j k error air l.did (sym (ap run_count l.now) ∙ more.stands.run_is) (subst (λ (d : Draft). IsLinkedAt told d start old rounds.turns j) more.at (met.linked l.live start is));
+        linked = λ start is. part_out told (AtNodes l.header) l.w.domain start new (with_turn rounds l.did.takes.given) k l.network
+            (linked_turn_part told faults l.w l.v start old new rounds j k error air l.did (sym (ap run_count l.now) ∙ more.stands.run_is) (turn_links told draft l.header l.w.domain start old rounds.turns j more.at l.network (met.linked l.live start is)));
       };
     }
 

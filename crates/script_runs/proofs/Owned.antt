@@ -38,7 +38,7 @@ pub listed_ap : {A E : Type 0} (r : Result A E) (w v : State) (address : Mac) (i
 listed_ap (Ok a) w v address id o j k domain rounds starts = (record { network = domain; rounds = rounds; begins = starts }, refl)
 listed_ap (Err e) w v address id o j k domain rounds starts = tt
 
-pub listed_sta : {A E : Type 0} (r : Result A E) (w v : State) (address : Mac) (o : Waiting) (j : List Entry) → OnOk r (v.domain ≡ with_sta w.domain address) → v.rounds ≡ w.rounds
-    → OnOk r ((i : List Entry) → i ≡ started w.domain (length w.domain.aps) → i ≡ started v.domain (length v.domain.aps)) → OnOk r (Did w v o o j j (step.Sta address))
-listed_sta (Ok a) w v address o j domain rounds starts = (record { network = domain; rounds = rounds; begins = starts j }, (refl, refl))
-listed_sta (Err e) w v address o j domain rounds starts = tt
+pub listed_sta : {A E : Type 0} (r : Result A E) (w v : State) (address : Mac) (psk : List ℕ) (o : Waiting) (j : List Entry) → OnOk r (v.domain ≡ with_sta w.domain address psk) → v.rounds ≡ w.rounds
+    → OnOk r ((i : List Entry) → i ≡ started w.domain (length w.domain.aps) → i ≡ started v.domain (length v.domain.aps)) → OnOk r (Did w v o o j j (step.Sta address psk))
+listed_sta (Ok a) w v address psk o j domain rounds starts = (record { network = domain; rounds = rounds; begins = starts j }, (refl, refl))
+listed_sta (Err e) w v address psk o j domain rounds starts = tt

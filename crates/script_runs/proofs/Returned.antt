@@ -9,7 +9,7 @@ use Rattle.domain_links.specs.Turns.{Delivery}
 use Rattle.domain_links.proofs.Returned.{Tell-ended, len_ended}
 use Rattle.run_journal.specs.declared.domain.Domain.{Domain}
 use Rattle.run_journal.specs.declared.acts.Entry.{Entry}
-use Rattle.frame_script.specs.Script.{Draft, AtVersion, AtSeed, AtSsid, AtPsk, AtAkm, AtMdid, AtNodes, InRound}
+use Rattle.frame_script.specs.Script.{Draft, AtVersion, AtHeader, AtNodes, InRound}
 use Rattle.frame_script.specs.declared.reader.Mode.TheVariants.{Live}
 use Rattle.script_runs.specs.declared.stops.Found.{Found}
 use Rattle.script_runs.specs.declared.stops.Found.TheVariants as found
@@ -87,25 +87,17 @@ none_ended told start now links air last turns l t = record {
 -- by what the lines have said
 came_all : {L : Type 0} (told : L → Option LinkStory) (draft : Draft) (start now : AirStory) (links : List L) (air : Option AirStory) (last : Option (List ℕ)) (turns : List (List Delivery)) (j : List Entry)
     → IsLinkedAt told draft start (outer links air last) turns j → (t : TakenBack told links air now) → Came start air (λ (node : Node). IsOther draft (length t.ended) node) (EndsAll draft start turns j t.ended)
-came_all told (AtNodes d) start now links air last turns j l t = all_ended told d start now links air last turns j l t
-came_all told (InRound d n) start now links air last turns j l t = all_ended told d start now links air last turns j l t
+came_all told (AtNodes h) start now links air last turns j l t = all_ended told h.network start now links air last turns j l t
+came_all told (InRound h n) start now links air last turns j l t = all_ended told h.network start now links air last turns j l t
 came_all told AtVersion start now links air last turns j l t = none_ended told start now links air last turns l t
-came_all told AtSeed start now links air last turns j l t = none_ended told start now links air last turns l t
-came_all told (AtSsid seed) start now links air last turns j l t = none_ended told start now links air last turns l t
-came_all told (AtPsk seed ssid) start now links air last turns j l t = none_ended told start now links air last turns l t
-came_all told (AtAkm seed ssid psk) start now links air last turns j l t = none_ended told start now links air last turns l t
-came_all told (AtMdid seed ssid psk) start now links air last turns j l t = none_ended told start now links air last turns l t
+came_all told (AtHeader awaited h) start now links air last turns j l t = none_ended told start now links air last turns l t
 
 came_part : {L : Type 0} (told : L → Option LinkStory) (draft : Draft) (start now : AirStory) (links : List L) (air : Option AirStory) (last : Option (List ℕ)) (rounds : Rounds) (j : List Entry)
     → IsLinkedPartAt told draft start (outer links air last) rounds j → (t : TakenBack told links air now) → Came start air (λ (node : Node). IsOther draft (length t.ended) node) (EndsPart draft start rounds j t.ended)
-came_part told (AtNodes d) start now links air last rounds j l t = part_ended told d start now links air last rounds j l t
-came_part told (InRound d n) start now links air last rounds j l t = part_ended told d start now links air last rounds j l t
+came_part told (AtNodes h) start now links air last rounds j l t = part_ended told h.network start now links air last rounds j l t
+came_part told (InRound h n) start now links air last rounds j l t = part_ended told h.network start now links air last rounds j l t
 came_part told AtVersion start now links air last rounds j l t = absurd l
-came_part told AtSeed start now links air last rounds j l t = absurd l
-came_part told (AtSsid seed) start now links air last rounds j l t = absurd l
-came_part told (AtPsk seed ssid) start now links air last rounds j l t = absurd l
-came_part told (AtAkm seed ssid psk) start now links air last rounds j l t = absurd l
-came_part told (AtMdid seed ssid psk) start now links air last rounds j l t = absurd l
+came_part told (AtHeader awaited h) start now links air last rounds j l t = absurd l
 
 gave : {L : Type 0} (told : L → Option LinkStory) (found_ : Found) (draft : Draft) (start now : AirStory) (links : List L) (air : Option AirStory) (rounds : Rounds) (j : List Entry)
     → (t : TakenBack told links air now) → Came start air (λ (node : Node). IsOther draft (length t.ended) node) (EndsBy found_ draft start rounds j t.ended) → GaveBack found_ draft rounds j start now

@@ -83,7 +83,7 @@ fewer_by false n x y p q = q
 no_fewer : (before : Draft) (earlier : Rounds) (said : Said) → length earlier.run ≤ length (rounds_with before earlier said).run
 no_fewer before earlier (Goes next) = omega arith
 no_fewer before earlier (ListsAp address id) = omega arith
-no_fewer before earlier (ListsSta address) = omega arith
+no_fewer before earlier (ListsSta address psk) = omega arith
 no_fewer before earlier (Asks event) =
     fewer_by (is_within before) (length earlier.run) (with_waiting earlier (earlier.waiting ++ event ∷ [])) (with_round earlier (event ∷ [])) (omega arith) (omega arith)
 no_fewer before earlier BeginsRound = omega arith

@@ -3,10 +3,7 @@ use Rattle.std.proofs.Common.{◌≡◌, ℕ, suc, ◌-◌, ◌<◌, ◌≤◌, 
 use Rattle.std.specs.Prelude.{nat_le, slice_index}
 use Rattle.std.proofs.lemmas.Bool.{cases_lt}
 use Rattle.std.proofs.lemmas.List.{get_or_append_left, get_or-append_right}
-use Rattle.domain_base.specs.declared.names.Node.{Node}
-use Rattle.domain_base.specs.declared.names.Node.TheVariants.{Ap, Sta}
 use Rattle.domain_base.specs.declared.names.Peer.{Peer}
-use Rattle.domain_base.specs.declared.names.Peer.TheVariants.{One, All}
 use Rattle.run_journal.specs.declared.domain.Domain.{Domain}
 use Rattle.run_journal.specs.declared.domain.Event.{Event}
 use Rattle.run_journal.specs.declared.domain.Event.TheVariants.{Connect, Roam, Deliver, Alter, Cut, Inject, Retry, Rekey, Send, Expire, Revoke, Leave}
@@ -17,13 +14,11 @@ use Rattle.run_journal.specs.declared.acts.Act.TheVariants.{Sent}
 use Rattle.run_journal.specs.declared.acts.Entry.{Entry}
 use Rattle.run_journal.specs.Acts.{is_sent}
 use Rattle.run_journal.specs.Premises.{In}
-use Rattle.domain_rules.specs.Network.{IsListed}
-use Rattle.node_base.specs.Peers.{IsReceiverOf}
 use Rattle.domain_rules.specs.Explained.{frames, number_of}
 use Rattle.domain_world.specs.State.{State}
-use Rattle.domain_world.specs.Owning.{Owns, IsNumbered, HasOctets, IsEventIn}
+use Rattle.domain_world.specs.Owning.{Owns, IsNumbered, HasOctets, IsFrameIn, IsEventIn}
 use Rattle.frame_script.specs.Script.{size_of}
-use Rattle.frame_script.specs.Headers.{sizes_of, size_sent, CanHappen, IsListedIn, IsReceiverIn, IsSized}
+use Rattle.frame_script.specs.Headers.{sizes_of, size_sent, CanHappen, IsSized}
 
 -- there are as many sizes as frames
 
@@ -103,33 +98,22 @@ sized_octets j number size numbered s =
       long = omega (arith, s.within, whole, f.long);
     }
 
-listed : (d : Domain) (n : Node) → IsListedIn d n → IsListed d n
-listed d (Ap k) is = is
-listed d (Sta k) is = is
-
-receiver : (d : Domain) (n : Node) (q : Peer) → IsReceiverIn d n q → IsReceiverOf d n q
-receiver d (Ap k) All is = is
-receiver d (Ap k) (One (Sta i)) is = is
-receiver d (Ap k) (One (Ap i)) is = absurd is
-receiver d (Sta k) All is = absurd is
-receiver d (Sta k) (One (Ap i)) is = is
-receiver d (Sta k) (One (Sta i)) is = absurd is
-
 number_low : (w : State) (j : List Entry) (number size : ℕ) → Owns w j → IsSized (sizes_of j) number size → number ≤ length w.frames
 number_low w j number size own s = omega (arith, s.sent, sizes_count j, own.placed.count)
+
+frame_in : (w : State) (j : List Entry) (number size : ℕ) → Owns w j → IsSized (sizes_of j) number size → IsFrameIn (length w.frames) j number size
+frame_in w j number size own s = (s.some, number_low w j number size own s, sized_octets j number size own.placed.numbered s)
 
 pub event_in : (w : State) (j : List Entry) (e : Event) → Owns w j → CanHappen w.domain (sizes_of j) e → IsEventIn w.domain (length w.frames) j e
 event_in w j (Connect s a) own can = can
 event_in w j (Roam s a) own can = can
-event_in w j (Deliver number to) own can = (can.1.some, number_low w j number 0 own can.1, listed w.domain to can.0)
-event_in w j (Alter number place mask to) own can =
-    (can.1.some, number_low w j number (suc place) own can.1, listed w.domain to can.0, sized_octets j number (suc place) own.placed.numbered can.1)
-event_in w j (Cut number size to) own can =
-    (can.1.some, number_low w j number size own can.1, listed w.domain to can.0, sized_octets j number size own.placed.numbered can.1)
-event_in w j (Inject to octets) own can = listed w.domain to can
+event_in w j (Deliver number to) own can = (can.0, frame_in w j number 0 own can.1)
+event_in w j (Alter number place mask to) own can = (can.0, frame_in w j number (suc place) own can.1)
+event_in w j (Cut number size to) own can = (can.0, frame_in w j number size own can.1)
+event_in w j (Inject to octets) own can = can
 event_in w j (Retry a s) own can = can
 event_in w j (Rekey a) own can = can
-event_in w j (Send from to tid octets) own can = (listed w.domain from can.0, receiver w.domain from to can.1, can.2)
+event_in w j (Send from to tid octets) own can = can
 event_in w j (Expire a s) own can = can
 event_in w j (Revoke a s) own can = can
 event_in w j (Leave s) own can = can

@@ -8,12 +8,13 @@ use Rattle.run_journal.specs.declared.domain.Event.TheVariants.{Connect, Roam, D
 use Rattle.run_journal.specs.declared.acts.Entry.{Entry}
 use Rattle.domain_rules.specs.Network.{InForm, is_ap}
 use Rattle.domain_rules.specs.Explained.{started}
-use Rattle.domain_rules.specs.Rounds.{by_nodes, node_of}
+use Rattle.domain_world.specs.Ordering.{node_of}
 use Rattle.domain_rules.proofs.Journals.{started_none}
 use Rattle.run_journal.specs.Listing.{with_ap, with_sta}
 use Rattle.domain_world.specs.State.{State}
 use Rattle.domain_world.specs.Owning.{Owns, IsEventIn, AreEventsIn}
-use Rattle.frame_script.specs.Script.{Fault, Draft, AtVersion, AtSeed, AtSsid, AtPsk, AtAkm, AtMdid, AtNodes, InRound, Said, Goes, ListsAp, ListsSta, Asks, BeginsRound, EndsRound, is_within, line_says, said_after, rounds_after}
+use Rattle.frame_script.specs.declared.header.Header.{Header}
+use Rattle.frame_script.specs.Script.{Fault, Draft, AtVersion, AtHeader, AtNodes, InRound, Said, Goes, ListsAp, ListsSta, Asks, BeginsRound, EndsRound, is_within, line_says, said_after, rounds_after}
 use Rattle.frame_script.specs.Headers.{Reading, IsNetwork, IsDomain, IsHeaderStep, CanHappen, CanAskFor, IsAtAp, TakesStep, HasRead, sizes_by, sizes_named, sizes_of}
 use Rattle.frame_script.specs.declared.reader.Step.{Step as Asked}
 use Rattle.frame_script.specs.declared.reader.Step.TheVariants as step
@@ -23,59 +24,44 @@ use Rattle.script_runs.proofs.Growing.{Grows, Grows-same, Grows-step, Grows-foll
 use Rattle.script_runs.proofs.Networks.{all_push, InForm-ap, InForm-sta}
 use Rattle.script_runs.proofs.Sizes.{event_in}
 
-one_network : (draft : Draft) (d e : Domain) → draft ≡ AtNodes d → draft ≡ AtNodes e → d ≡ e
-one_network draft d e p q = let both : AtNodes d ≡ AtNodes e = sym p ∙ q in cc
-
 pub one_saying : (says : Result Said Fault) (said other : Said) → says ≡ Ok said → says ≡ Ok other → said ≡ other
 one_saying says said other p q = cc (p, q)
 
 -- ---- where the script stands
 
-pub no_nodes : (draft : Draft) (d : Domain) → IsHeader draft → draft ≡ AtNodes d → ⊥
-no_nodes draft d due is = subst IsHeader is due
+pub no_nodes : (draft : Draft) (h : Header) → IsHeader draft → draft ≡ AtNodes h → ⊥
+no_nodes draft h due is = subst IsHeader is due
 
-pub no_round : (draft : Draft) (d : Domain) (count : ℕ) → IsHeader draft → draft ≡ InRound d count → ⊥
-no_round draft d count due is = subst IsHeader is due
+pub no_round : (draft : Draft) (h : Header) (count : ℕ) → IsHeader draft → draft ≡ InRound h count → ⊥
+no_round draft h count due is = subst IsHeader is due
 
 pub no_asking : (draft : Draft) (sizes : List ℕ) (event : Event) → IsHeader draft → CanAskFor draft sizes event → ⊥
 no_asking AtVersion sizes event due can = can
-no_asking AtSeed sizes event due can = can
-no_asking (AtSsid seed) sizes event due can = can
-no_asking (AtPsk seed ssid) sizes event due can = can
-no_asking (AtAkm seed ssid psk) sizes event due can = can
-no_asking (AtMdid seed ssid psk) sizes event due can = can
-no_asking (AtNodes d) sizes event due can = due
-no_asking (InRound d count) sizes event due can = due
+no_asking (AtHeader awaited h) sizes event due can = can
+no_asking (AtNodes h) sizes event due can = due
+no_asking (InRound h count) sizes event due can = due
 
 -- outside rounds
-pub outside : (draft : Draft) (d : Domain) (w : State) (a : Waiting) (sizes : List ℕ) (j : List Entry) → IsAt draft w a sizes j → draft ≡ AtNodes d → (d ≡ w.domain) × (a ≡ None)
-outside draft d w a sizes j at is = subst (λ (x : Draft). IsAt x w a sizes j) is at
+pub outside : (draft : Draft) (h : Header) (w : State) (a : Waiting) (sizes : List ℕ) (j : List Entry) → IsAt draft w a sizes j → draft ≡ AtNodes h → (h.network ≡ w.domain) × (a ≡ None)
+outside draft h w a sizes j at is = subst (λ (x : Draft). IsAt x w a sizes j) is at
 
 -- and in one
-pub within : (draft : Draft) (d : Domain) (count : ℕ) (w : State) (a : Waiting) (sizes : List ℕ) (j : List Entry) → IsAt draft w a sizes j → draft ≡ InRound d count → IsAt (InRound d count) w a sizes j
-within draft d count w a sizes j at is = subst (λ (x : Draft). IsAt x w a sizes j) is at
+pub within : (draft : Draft) (h : Header) (count : ℕ) (w : State) (a : Waiting) (sizes : List ℕ) (j : List Entry) → IsAt draft w a sizes j → draft ≡ InRound h count → IsAt (InRound h count) w a sizes j
+within draft h count w a sizes j at is = subst (λ (x : Draft). IsAt x w a sizes j) is at
 
 -- whatever the reader has seen, a line names the frames of the whole journal
 named_header : (draft : Draft) (sizes : List ℕ) (j : List Entry) → IsHeader draft → sizes_by draft sizes (sizes_of j) ≡ sizes_of j
 named_header AtVersion sizes j due = refl
-named_header AtSeed sizes j due = refl
-named_header (AtSsid seed) sizes j due = refl
-named_header (AtPsk seed ssid) sizes j due = refl
-named_header (AtAkm seed ssid psk) sizes j due = refl
-named_header (AtMdid seed ssid psk) sizes j due = refl
-named_header (AtNodes d) sizes j due = absurd due
-named_header (InRound d count) sizes j due = absurd due
+named_header (AtHeader awaited h) sizes j due = refl
+named_header (AtNodes h) sizes j due = absurd due
+named_header (InRound h count) sizes j due = absurd due
 
 named_at : (draft : Draft) (w : State) (a : Waiting) (sizes : List ℕ) (j : List Entry) → IsAt draft w a sizes j → sizes_by draft sizes (sizes_of j) ≡ sizes_of j
 named_at AtVersion w a sizes j at = refl
-named_at AtSeed w a sizes j at = refl
-named_at (AtSsid seed) w a sizes j at = refl
-named_at (AtPsk seed ssid) w a sizes j at = refl
-named_at (AtAkm seed ssid psk) w a sizes j at = refl
-named_at (AtMdid seed ssid psk) w a sizes j at = refl
-named_at (AtNodes d) w a sizes j at = refl
-named_at (InRound d count) w None sizes j at = absurd at
-named_at (InRound d count) w (Some events) sizes j at = at.same
+named_at (AtHeader awaited h) w a sizes j at = refl
+named_at (AtNodes h) w a sizes j at = refl
+named_at (InRound h count) w None sizes j at = absurd at
+named_at (InRound h count) w (Some events) sizes j at = at.same
 
 pub named : (world : Option State) (a : Waiting) (r : Reading) (j : List Entry) → IsWorldOf world a r j → sizes_named r j ≡ sizes_of j
 named None a r j is = named_header r.draft r.sizes j is.due
@@ -84,37 +70,34 @@ named (Some w) a r j is = named_at r.draft w a r.sizes j is.at
 -- a line that says only that the script goes on
 same_draft : (old new : Draft) (w : State) (a : Waiting) (seen sizes line : List ℕ) (rounds : ℕ) (j : List Entry) → IsAt old w a seen j → line_says old rounds sizes line ≡ Ok (Goes new) → new ≡ old
 same_draft AtVersion new w a seen sizes line rounds j at says = absurd at
-same_draft AtSeed new w a seen sizes line rounds j at says = absurd at
-same_draft (AtSsid seed) new w a seen sizes line rounds j at says = absurd at
-same_draft (AtPsk seed ssid) new w a seen sizes line rounds j at says = absurd at
-same_draft (AtAkm seed ssid psk) new w a seen sizes line rounds j at says = absurd at
-same_draft (AtMdid seed ssid psk) new w a seen sizes line rounds j at says = absurd at
-same_draft (AtNodes d) new w a seen sizes line rounds j at says = same_network d rounds sizes line new says
-same_draft (InRound d count) new w a seen sizes line rounds j at says = same_round d count rounds sizes line new says
+same_draft (AtHeader awaited h) new w a seen sizes line rounds j at says = absurd at
+same_draft (AtNodes h) new w a seen sizes line rounds j at says = same_network h rounds sizes line new says
+same_draft (InRound h count) new w a seen sizes line rounds j at says = same_round h count rounds sizes line new says
 
 -- ---- what a line asks for can be done
 
 -- the network that the reader shows
-shown_there : (draft : Draft) (d : Domain) (o : Option Domain) → draft ≡ AtNodes d → IsDomain draft o → o ≡ Some d
-shown_there draft d o is shown = subst (λ (x : Draft). IsDomain x o) is shown
+shown_there : (draft : Draft) (h : Header) (o : Option Domain) → draft ≡ AtNodes h → IsDomain draft o → o ≡ Some h.network
+shown_there draft h o is shown = subst (λ (x : Draft). IsDomain x o) is shown
 
-pub shown : (draft : Draft) (x : Domain) (asked : Asked) → asked ≡ step.Network → CanBegin draft asked → IsDomain draft (Some x) → (draft ≡ AtNodes x) × IsNetwork x
+pub one_network : (draft : Draft) (h : Header) (d : Domain) → draft ≡ AtNodes h → IsDomain draft (Some d) → h.network ≡ d
+one_network draft h d is shown = let both : Some d ≡ Some h.network = shown_there draft h (Some d) is shown in cc
+
+pub shown : (draft : Draft) (x : Domain) (asked : Asked) → asked ≡ step.Network → CanBegin draft asked → IsDomain draft (Some x) → IsNetwork x
 shown draft x asked is can shows =
     let network = subst (λ (a : Asked). CanBegin draft a) is can in
-    let both : Some x ≡ Some network.0 = shown_there draft network.0 (Some x) network.1.0 shows in
-    let same : x ≡ network.0 = cc in
-    (network.1.0 ∙ ap AtNodes (sym same), subst (λ (d : Domain). IsNetwork d) (sym same) network.1.1)
+    subst IsNetwork (one_network draft network.0 x network.1.0 shows) network.1.1
 
 pub not_hidden : (draft : Draft) (asked : Asked) → asked ≡ step.Network → CanBegin draft asked → IsDomain draft None → ⊥
 not_hidden draft asked is can shows =
     let network = subst (λ (a : Asked). CanBegin draft a) is can in
-    let both : None ≡ Some network.0 = shown_there draft network.0 None network.1.0 shows in cc
+    let both : None ≡ Some network.0.network = shown_there draft network.0 None network.1.0 shows in cc
 
 begins : (old new : Draft) (rounds : ℕ) (sizes : List ℕ) (says : Result Said Fault) (asked : Asked) → IsHeader old → TakesStep old new rounds sizes says asked → CanBegin new asked
 begins old new rounds sizes says step.Nothing due takes = tt
 begins old new rounds sizes says step.Network due takes = (takes.0, (takes.1.1.0, takes.1.1.1.0))
 begins old new rounds sizes says (step.Ap address id) due takes = no_nodes old takes.0 due takes.1.1.0
-begins old new rounds sizes says (step.Sta address) due takes = no_nodes old takes.0 due takes.1.1.0
+begins old new rounds sizes says (step.Sta address psk) due takes = no_nodes old takes.0 due takes.1.1.0
 begins old new rounds sizes says (step.Event event) due takes = no_asking old sizes event due takes.1
 begins old new rounds sizes says step.Round due takes = no_nodes old takes.0 due takes.1.1.0
 begins old new rounds sizes says step.End due takes = no_round old takes.0 takes.1.0 due takes.1.1.1
@@ -122,23 +105,19 @@ begins old new rounds sizes says step.Draw due takes = absurd takes
 begins old new rounds sizes says step.Turn due takes = absurd takes
 
 -- behind the header no line tells of a network
-no_network : (old new : Draft) (d : Domain) (w : State) (a : Waiting) (seen sizes line : List ℕ) (rounds : ℕ) (j : List Entry) → IsAt old w a seen j → line_says old rounds sizes line ≡ Ok (Goes new) → new ≡ AtNodes d → ((e : Domain) → old ≢ AtNodes e) → ⊥
-no_network old new d w a seen sizes line rounds j at says is due = due d (sym (same_draft old new w a seen sizes line rounds j at says) ∙ is)
+no_network : (old new : Draft) (h : Header) (w : State) (a : Waiting) (seen sizes line : List ℕ) (rounds : ℕ) (j : List Entry) → IsAt old w a seen j → line_says old rounds sizes line ≡ Ok (Goes new) → new ≡ AtNodes h → ((e : Header) → old ≢ AtNodes e) → ⊥
+no_network old new h w a seen sizes line rounds j at says is due = due h (sym (same_draft old new w a seen sizes line rounds j at says) ∙ is)
 
 can_ask : (draft : Draft) (w : State) (a : Waiting) (seen : List ℕ) (j : List Entry) (event : Event) → Owns w j → IsAt draft w a seen j → w.rounds + 1 < 2 ^ 64 → CanAskFor draft (sizes_of j) event → CanAsk w a j event
 can_ask draft w (Some events) seen j event own at few can = tt
-can_ask (AtNodes d) w None seen j event own at few can = (few, event_in w j event own (subst (λ (x : Domain). CanHappen x (sizes_of j) event) at.0 can.0))
-can_ask (InRound d count) w None seen j event own at few can = absurd at
+can_ask (AtNodes h) w None seen j event own at few can = (few, event_in w j event own (subst (λ (x : Domain). CanHappen x (sizes_of j) event) at.0 can.0))
+can_ask (InRound h count) w None seen j event own at few can = absurd at
 can_ask AtVersion w None seen j event own at few can = absurd at
-can_ask AtSeed w None seen j event own at few can = absurd at
-can_ask (AtSsid seed) w None seen j event own at few can = absurd at
-can_ask (AtPsk seed ssid) w None seen j event own at few can = absurd at
-can_ask (AtAkm seed ssid psk) w None seen j event own at few can = absurd at
-can_ask (AtMdid seed ssid psk) w None seen j event own at few can = absurd at
+can_ask (AtHeader awaited h) w None seen j event own at few can = absurd at
 
-can_end : (d : Domain) (count : ℕ) (w : State) (a : Waiting) (seen : List ℕ) (j : List Entry) → IsAt (InRound d count) w a seen j → w.rounds + 1 < 2 ^ 64 → CanEnd w a j
-can_end d count w None seen j at few = absurd at
-can_end d count w (Some events) seen j at few = record { each = at.each; few_events = omega (arith, at.count_is, at.few); few = few }
+can_end : (h : Header) (count : ℕ) (w : State) (a : Waiting) (seen : List ℕ) (j : List Entry) → IsAt (InRound h count) w a seen j → w.rounds + 1 < 2 ^ 64 → CanEnd w a j
+can_end h count w None seen j at few = absurd at
+can_end h count w (Some events) seen j at few = record { each = at.each; few_events = omega (arith, at.count_is, at.few); few = few }
 
 -- where no round was asked for none was run
 pub none_run : (w : State) (a : Waiting) (r : Reading) (j : List Entry) → IsOwn w a r j → r.rounds ≡ 0 → w.rounds ≡ 0
@@ -147,12 +126,12 @@ none_run w a r j own none = omega (arith, own.rounds, none)
 goes_on : (w : State) (a : Waiting) (r : Reading) (new : Draft) (line : List ℕ) (j : List Entry) (asked : Asked) → IsOwn w a r j → r.rounds ≤ 65536 → TakesStep r.draft new r.rounds (sizes_of j) (line_says r.draft r.rounds (sizes_of j) line) asked → CanDo w a j asked
 goes_on w a r new line j step.Nothing own few takes = tt
 goes_on w a r new line j step.Network own few takes = no_network r.draft new takes.0 w a r.sizes (sizes_of j) line r.rounds j own.at takes.1.0 takes.1.1.0 takes.1.1.1.1
-goes_on w a r new line j (step.Ap address id) own few (d, (said, (old, (can, (no_stas, first))))) =
-    let same = (outside r.draft d w a r.sizes j own.at old).0 in
-    (none_run w a r j own first, subst (λ (x : Domain). InForm (with_ap x address id)) same (InForm-ap d address id (subst InForm (sym same) own.own.form) can))
-goes_on w a r new line j (step.Sta address) own few (d, (said, (old, (can, first)))) =
-    let same = (outside r.draft d w a r.sizes j own.at old).0 in
-    (none_run w a r j own first, subst (λ (x : Domain). InForm (with_sta x address)) same (InForm-sta d address (subst InForm (sym same) own.own.form) can))
+goes_on w a r new line j (step.Ap address id) own few (h, (said, (old, (can, (no_stas, first))))) =
+    let same = (outside r.draft h w a r.sizes j own.at old).0 in
+    (none_run w a r j own first, subst (λ (x : Domain). InForm (with_ap x address id)) same (InForm-ap h.network address id (subst InForm (sym same) own.own.form) can))
+goes_on w a r new line j (step.Sta address psk) own few (h, (said, (old, (can, first)))) =
+    let same = (outside r.draft h w a r.sizes j own.at old).0 in
+    (none_run w a r j own first, subst (λ (x : Domain). InForm (with_sta x address psk)) same (InForm-sta h.network address psk (subst InForm (sym same) own.own.form) can))
 goes_on w a r new line j (step.Event event) own few takes = can_ask r.draft w a r.sizes j event own.own own.at (omega (arith, own.rounds, few)) takes.1
 goes_on w a r new line j step.Round own few takes = tt
 goes_on w a r new line j step.End own few takes =
@@ -174,7 +153,7 @@ grows_ask w v (Some old) (Some new) event rounds j k count did = Grows-same roun
 
 grows_end : (w v : State) (a b : Waiting) (rounds : ℕ) (j k : List Entry) → rounds ≡ w.rounds → DidEnd w v a b j k → Grows rounds j k
 grows_end w v None b rounds j k count did = absurd did
-grows_end w v (Some old) None rounds j k count did = Grows-follows w.domain rounds (suc w.rounds) (by_nodes old.items) j k did.goes (omega (arith, count))
+grows_end w v (Some old) None rounds j k count did = Grows-follows w.domain rounds (suc w.rounds) old.items j k did.goes (omega (arith, count))
 grows_end w v (Some old) (Some new) rounds j k count did = absurd did
 
 grows_own : (w v : State) (a b : Waiting) (r : Reading) (new : Draft) (j k : List Entry) (says : Result Said Fault) (asked : Asked) → IsOwn w a r j → TakesStep r.draft new r.rounds (sizes_of j) says asked → Did w v a b j k asked → Grows w.rounds j k
@@ -183,7 +162,7 @@ grows_own w v a b r new j k says step.Network own takes did = absurd did
 grows_own w v a b r new j k says (step.Ap address id) own takes did =
     let before = own.first (none_run w a r j own takes.1.1.1.1.1) in
     Grows-started w.domain v.domain w.rounds address id j k did.0.network before (did.0.begins before)
-grows_own w v a b r new j k says (step.Sta address) own takes did = Grows-same w.rounds j k did.1.0
+grows_own w v a b r new j k says (step.Sta address psk) own takes did = Grows-same w.rounds j k did.1.0
 grows_own w v a b r new j k says (step.Event event) own takes did = grows_ask w v a b event w.rounds j k refl did
 grows_own w v a b r new j k says step.Round own takes did = Grows-same w.rounds j k did.0.1
 grows_own w v a b r new j k says step.End own takes did = grows_end w v a b w.rounds j k refl did
@@ -214,13 +193,9 @@ taken r s j line asked said read sizes says =
 
 still_due : (old new : Draft) → IsHeader old → IsHeaderStep old new → IsHeader new
 still_due old AtVersion due goes = tt
-still_due old AtSeed due goes = tt
-still_due old (AtSsid seed) due goes = tt
-still_due old (AtPsk seed ssid) due goes = tt
-still_due old (AtAkm seed ssid psk) due goes = tt
-still_due old (AtMdid seed ssid psk) due goes = tt
-still_due old (AtNodes d) due goes = no_nodes old d due goes
-still_due old (InRound d count) due goes = no_round old d count due goes
+still_due old (AtHeader awaited h) due goes = tt
+still_due old (AtNodes h) due goes = no_nodes old h due goes
+still_due old (InRound h count) due goes = no_round old h count due goes
 
 begun : (r s : Reading) (v : Option State) (a b : Waiting) (line : List ℕ) (j k : List Entry) (asked : Asked) → IsNone a r j → HasRead r s (sizes_of j) line asked → s.sizes ≡ sizes_of j → DidRun None v a b s.draft j k asked → IsWorldOf v b s k
 begun r s v a b line j k step.Nothing is read sizes did =
@@ -234,18 +209,18 @@ begun r s v a b line j k step.Nothing is read sizes did =
     })
 begun r s None a b line j k step.Network is read sizes did = absurd did.0
 begun r s (Some w) a b line j k step.Network is read sizes did =
-    let (d, (says, (new, (network, due)))) = read.1.1.1.1 in
+    let (h, (says, (new, (network, due)))) = read.1.1.1.1 in
     let t = taken r s j line step.Network (Goes s.draft) read sizes says in
-    let same = one_network s.draft d w.domain new did.0.network in
+    let same = one_network s.draft h w.domain new did.0.network in
     let none : w.domain.aps ≡ [] = ap (λ (x : Domain). x.aps) (sym same) ∙ network.no_aps in
     record {
-      at = subst (λ (x : Draft). IsAt x w b s.sizes k) (sym did.0.network) (refl, did.1.1 ∙ is.no_events);
+      at = subst (λ (x : Draft). IsAt x w b s.sizes k) (sym new) (same, did.1.1 ∙ is.no_events);
       rounds = omega (arith, did.0.none);
       own = subst (λ (x : List Entry). Owns w x) (sym (did.1.0 ∙ is.no_entries)) did.0.own;
       first = λ zero. did.1.0 ∙ is.no_entries ∙ sym (started_none w.domain) ∙ ap (λ (aps : List ListedAp). started w.domain (length aps)) (sym none);
     }
 begun r s v a b line j k (step.Ap address id) is read sizes did = absurd did.0
-begun r s v a b line j k (step.Sta address) is read sizes did = absurd did.0
+begun r s v a b line j k (step.Sta address psk) is read sizes did = absurd did.0
 begun r s v a b line j k (step.Event event) is read sizes did = absurd did.0
 begun r s v a b line j k step.Round is read sizes did = absurd did.0
 begun r s v a b line j k step.End is read sizes did = absurd did.0
@@ -258,14 +233,10 @@ unmoved w v a b s j k own same = subst (λ (x : State). IsOwn x b s k) (sym same
 
 at_again : (draft : Draft) (w : State) (a : Waiting) (seen sizes : List ℕ) (j : List Entry) → IsAt draft w a seen j → sizes ≡ sizes_of j → IsAt draft w a sizes j
 at_again AtVersion w a seen sizes j at same = absurd at
-at_again AtSeed w a seen sizes j at same = absurd at
-at_again (AtSsid seed) w a seen sizes j at same = absurd at
-at_again (AtPsk seed ssid) w a seen sizes j at same = absurd at
-at_again (AtAkm seed ssid psk) w a seen sizes j at same = absurd at
-at_again (AtMdid seed ssid psk) w a seen sizes j at same = absurd at
-at_again (AtNodes d) w a seen sizes j at same = at
-at_again (InRound d count) w None seen sizes j at same = absurd at
-at_again (InRound d count) w (Some events) seen sizes j at same = record { network = at.network; count_is = at.count_is; few = at.few; each = at.each; same = same }
+at_again (AtHeader awaited h) w a seen sizes j at same = absurd at
+at_again (AtNodes h) w a seen sizes j at same = at
+at_again (InRound h count) w None seen sizes j at same = absurd at
+at_again (InRound h count) w (Some events) seen sizes j at same = record { network = at.network; count_is = at.count_is; few = at.few; each = at.each; same = same }
 
 -- a line that says only that the script goes on
 stays : (w v : State) (a b : Waiting) (r s : Reading) (j k : List Entry) → IsOwn w a r j → s.draft ≡ r.draft → s.rounds ≡ r.rounds → s.sizes ≡ sizes_of j → Stays w v j k → b ≡ a → IsOwn v b s k
@@ -275,9 +246,9 @@ stays w v a b r s j k own draft rounds sizes same waits =
     (record { at = subst (λ (x : Waiting). IsAt s.draft w x s.sizes j) (sym waits) again; rounds = omega (arith, rounds, own.rounds); own = own.own; first = own.first }) same
 
 -- a line that lists a node
-listed : (w v : State) (a b : Waiting) (r s : Reading) (d : Domain) (j k : List Entry) → IsOwn w a r j → a ≡ None → s.draft ≡ AtNodes d → s.rounds ≡ r.rounds → Owns v k → Lists w v d j k → b ≡ a → IsOwn v b s k
-listed w v a b r s d j k own none draft rounds new lists waits = record {
-  at = subst (λ (x : Draft). IsAt x v b s.sizes k) (sym draft) (sym lists.network, waits ∙ none);
+listed : (w v : State) (a b : Waiting) (r s : Reading) (h : Header) (d : Domain) (j k : List Entry) → IsOwn w a r j → a ≡ None → s.draft ≡ AtNodes h → h.network ≡ d → s.rounds ≡ r.rounds → Owns v k → Lists w v d j k → b ≡ a → IsOwn v b s k
+listed w v a b r s h d j k own none draft network rounds new lists waits = record {
+  at = subst (λ (x : Draft). IsAt x v b s.sizes k) (sym draft) (network ∙ sym lists.network, waits ∙ none);
   rounds = omega (arith, rounds, own.rounds, lists.rounds);
   own = new;
   first = λ zero. lists.begins (own.first (sym lists.rounds ∙ zero));
@@ -303,9 +274,9 @@ at_ap (Expire a s) at = refl
 at_ap (Revoke a s) at = refl
 at_ap (Leave s) at = absurd at
 
-one_waits : (w : State) (d : Domain) (count : ℕ) (events more : List Event) (event : Event) (seen sizes : List ℕ) (j : List Entry) → Owns w j → Wait w d count events seen j → CanAskFor (InRound d count) (sizes_of j) event → more ≡ events ++ event ∷ [] → sizes ≡ sizes_of j
-    → Wait w d (suc count) more sizes j
-one_waits w d count events more event seen sizes j own wait can is same =
+one_waits : (w : State) (h : Header) (count : ℕ) (events more : List Event) (event : Event) (seen sizes : List ℕ) (j : List Entry) → Owns w j → Wait w h.network count events seen j → CanAskFor (InRound h count) (sizes_of j) event → more ≡ events ++ event ∷ [] → sizes ≡ sizes_of j
+    → Wait w h.network (suc count) more sizes j
+one_waits w h count events more event seen sizes j own wait can is same =
     let here : IsEventIn w.domain (length w.frames) j event = event_in w j event own (subst (λ (x : Domain). CanHappen x (sizes_of j) event) wait.network can.0) in
     record {
       network = wait.network;
@@ -320,12 +291,8 @@ one_waits w d count events more event seen sizes j own wait can is same =
 asked_for : (draft : Draft) (w v : State) (a b : Waiting) (r s : Reading) (event : Event) (j k : List Entry) → IsAt draft w a r.sizes j → IsOwn w a r j → CanAskFor draft (sizes_of j) event → s.draft ≡ said_after draft (Asks event)
     → s.rounds ≡ rounds_after draft r.rounds (Asks event) → s.sizes ≡ sizes_of j → Owns v k → DidAsk w v a b event j k → IsOwn v b s k
 asked_for AtVersion w v a b r s event j k at own can after rounds sizes new did = absurd at
-asked_for AtSeed w v a b r s event j k at own can after rounds sizes new did = absurd at
-asked_for (AtSsid seed) w v a b r s event j k at own can after rounds sizes new did = absurd at
-asked_for (AtPsk seed ssid) w v a b r s event j k at own can after rounds sizes new did = absurd at
-asked_for (AtAkm seed ssid psk) w v a b r s event j k at own can after rounds sizes new did = absurd at
-asked_for (AtMdid seed ssid psk) w v a b r s event j k at own can after rounds sizes new did = absurd at
-asked_for (AtNodes d) w v None None r s event j k at own can after rounds sizes new did =
+asked_for (AtHeader awaited h) w v a b r s event j k at own can after rounds sizes new did = absurd at
+asked_for (AtNodes h) w v None None r s event j k at own can after rounds sizes new did =
     let next : s.rounds ≡ suc r.rounds = rounds in
     record {
       at = subst (λ (x : Draft). IsAt x v None s.sizes k) (sym after) (at.0 ∙ sym did.network, refl);
@@ -333,24 +300,24 @@ asked_for (AtNodes d) w v None None r s event j k at own can after rounds sizes 
       own = new;
       first = λ zero. absurd (omega (arith, zero, did.rounds));
     }
-asked_for (AtNodes d) w v None (Some more) r s event j k at own can after rounds sizes new did = absurd did
-asked_for (AtNodes d) w v (Some events) b r s event j k at own can after rounds sizes new did = let some : Some events ≡ None = at.1 in absurd cc
-asked_for (InRound d count) w v None b r s event j k at own can after rounds sizes new did = absurd at
-asked_for (InRound d count) w v (Some events) None r s event j k at own can after rounds sizes new did = absurd did
-asked_for (InRound d count) w v (Some events) (Some more) r s event j k at own can after rounds sizes new did =
+asked_for (AtNodes h) w v None (Some more) r s event j k at own can after rounds sizes new did = absurd did
+asked_for (AtNodes h) w v (Some events) b r s event j k at own can after rounds sizes new did = let some : Some events ≡ None = at.1 in absurd cc
+asked_for (InRound h count) w v None b r s event j k at own can after rounds sizes new did = absurd at
+asked_for (InRound h count) w v (Some events) None r s event j k at own can after rounds sizes new did = absurd did
+asked_for (InRound h count) w v (Some events) (Some more) r s event j k at own can after rounds sizes new did =
     let same : s.rounds ≡ r.rounds = rounds in
     unmoved w v (Some events) (Some more) s j k (record {
-      at = subst (λ (x : Draft). IsAt x w (Some more) s.sizes j) (sym after) (one_waits w d count events.items more.items event r.sizes s.sizes j own.own at can did.1 sizes);
+      at = subst (λ (x : Draft). IsAt x w (Some more) s.sizes j) (sym after) (one_waits w h count events.items more.items event r.sizes s.sizes j own.own at can did.1 sizes);
       rounds = omega (arith, same, own.rounds);
       own = own.own;
       first = own.first;
     }) did.0
 
 -- a line that begins a round
-round_begun : (w v : State) (a b : Waiting) (r s : Reading) (d : Domain) (j k : List Entry) → IsOwn w a r j → d ≡ w.domain → s.draft ≡ InRound d 0 → s.rounds ≡ r.rounds → s.sizes ≡ sizes_of j → Stays w v j k → HasBegun b → IsOwn v b s k
-round_begun w v a None r s d j k own network draft rounds sizes same new = absurd new
-round_begun w v a (Some events) r s d j k own network draft rounds sizes same new =
-    let wait : Wait w d 0 events.items s.sizes j = record {
+round_begun : (w v : State) (a b : Waiting) (r s : Reading) (h : Header) (j k : List Entry) → IsOwn w a r j → h.network ≡ w.domain → s.draft ≡ InRound h 0 → s.rounds ≡ r.rounds → s.sizes ≡ sizes_of j → Stays w v j k → HasBegun b → IsOwn v b s k
+round_begun w v a None r s h j k own network draft rounds sizes same new = absurd new
+round_begun w v a (Some events) r s h j k own network draft rounds sizes same new =
+    let wait : Wait w h.network 0 events.items s.sizes j = record {
       network = network;
       count_is = ap (λ (es : List Event). length es) new;
       few = omega arith;
@@ -361,10 +328,10 @@ round_begun w v a (Some events) r s d j k own network draft rounds sizes same ne
     (record { at = subst (λ (x : Draft). IsAt x w (Some events) s.sizes j) (sym draft) wait; rounds = omega (arith, rounds, own.rounds); own = own.own; first = own.first }) same
 
 -- and one that ends it
-round_ended : (w v : State) (a b : Waiting) (r s : Reading) (d : Domain) (count : ℕ) (j k : List Entry) → IsOwn w a r j → IsAt (InRound d count) w a r.sizes j → s.draft ≡ AtNodes d → s.rounds ≡ suc r.rounds → Owns v k → DidEnd w v a b j k → IsOwn v b s k
-round_ended w v None b r s d count j k own at draft rounds new did = absurd did
-round_ended w v (Some events) (Some more) r s d count j k own at draft rounds new did = absurd did
-round_ended w v (Some events) None r s d count j k own at draft rounds new did = record {
+round_ended : (w v : State) (a b : Waiting) (r s : Reading) (h : Header) (count : ℕ) (j k : List Entry) → IsOwn w a r j → IsAt (InRound h count) w a r.sizes j → s.draft ≡ AtNodes h → s.rounds ≡ suc r.rounds → Owns v k → DidEnd w v a b j k → IsOwn v b s k
+round_ended w v None b r s h count j k own at draft rounds new did = absurd did
+round_ended w v (Some events) (Some more) r s h count j k own at draft rounds new did = absurd did
+round_ended w v (Some events) None r s h count j k own at draft rounds new did = record {
   at = subst (λ (x : Draft). IsAt x v None s.sizes k) (sym draft) (at.network ∙ sym did.network, refl);
   rounds = omega (arith, rounds, own.rounds, did.rounds);
   own = new;
@@ -380,27 +347,29 @@ owned w v a b r s line j k step.Network own read sizes new did = absurd did
 owned w v a b r s line j k step.Draw own read sizes new did = absurd did
 owned w v a b r s line j k step.Turn own read sizes new did = absurd did
 owned w v a b r s line j k (step.Ap address id) own read sizes new did =
-    let (d, (says, (old, more))) = read.1.1.1.1 in
+    let (h, (says, (old, more))) = read.1.1.1.1 in
     let t = taken r s j line (step.Ap address id) (ListsAp address id) read sizes says in
-    let (same, none) = outside r.draft d w a r.sizes j own.at old in
-    listed w v a b r s (with_ap w.domain address id) j k own none (t.draft_is ∙ ap (λ (x : Draft). said_after x (ListsAp address id)) (old ∙ ap AtNodes same)) t.rounds_are new did.0 did.1
-owned w v a b r s line j k (step.Sta address) own read sizes new did =
-    let (d, (says, (old, more))) = read.1.1.1.1 in
-    let t = taken r s j line (step.Sta address) (ListsSta address) read sizes says in
-    let (same, none) = outside r.draft d w a r.sizes j own.at old in
-    listed w v a b r s (with_sta w.domain address) j k own none (t.draft_is ∙ ap (λ (x : Draft). said_after x (ListsSta address)) (old ∙ ap AtNodes same)) t.rounds_are new did.0 did.1.1
+    let (same, none) = outside r.draft h w a r.sizes j own.at old in
+    let then_ : Header = record h { network = with_ap h.network address id } in
+    listed w v a b r s then_ (with_ap w.domain address id) j k own none (t.draft_is ∙ ap (λ (x : Draft). said_after x (ListsAp address id)) old) (ap (λ (x : Domain). with_ap x address id) same) t.rounds_are new did.0 did.1
+owned w v a b r s line j k (step.Sta address psk) own read sizes new did =
+    let (h, (says, (old, more))) = read.1.1.1.1 in
+    let t = taken r s j line (step.Sta address psk) (ListsSta address psk) read sizes says in
+    let (same, none) = outside r.draft h w a r.sizes j own.at old in
+    let then_ : Header = record h { network = with_sta h.network address psk } in
+    listed w v a b r s then_ (with_sta w.domain address psk) j k own none (t.draft_is ∙ ap (λ (x : Draft). said_after x (ListsSta address psk)) old) (ap (λ (x : Domain). with_sta x address psk) same) t.rounds_are new did.0 did.1.1
 owned w v a b r s line j k (step.Event event) own read sizes new did =
     let takes = read.1.1.1.1 in
     let t = taken r s j line (step.Event event) (Asks event) read sizes takes.0 in
     asked_for r.draft w v a b r s event j k own.at own takes.1 t.draft_is t.rounds_are sizes new did
 owned w v a b r s line j k step.Round own read sizes new did =
-    let (d, (says, (old, room))) = read.1.1.1.1 in
+    let (h, (says, (old, room))) = read.1.1.1.1 in
     let t = taken r s j line step.Round BeginsRound read sizes says in
-    round_begun w v a b r s d j k own (outside r.draft d w a r.sizes j own.at old).0 (t.draft_is ∙ ap (λ (x : Draft). said_after x BeginsRound) old) t.rounds_are sizes did.0 did.1
+    round_begun w v a b r s h j k own (outside r.draft h w a r.sizes j own.at old).0 (t.draft_is ∙ ap (λ (x : Draft). said_after x BeginsRound) old) t.rounds_are sizes did.0 did.1
 owned w v a b r s line j k step.End own read sizes new did =
-    let (d, (count, (says, old))) = read.1.1.1.1 in
+    let (h, (count, (says, old))) = read.1.1.1.1 in
     let t = taken r s j line step.End EndsRound read sizes says in
-    round_ended w v a b r s d count j k own (within r.draft d count w a r.sizes j own.at old) (t.draft_is ∙ ap (λ (x : Draft). said_after x EndsRound) old) t.rounds_are new did
+    round_ended w v a b r s h count j k own (within r.draft h count w a r.sizes j own.at old) (t.draft_is ∙ ap (λ (x : Draft). said_after x EndsRound) old) t.rounds_are new did
 
 pub world_then : (r s : Reading) (world v : Option State) (a b : Waiting) (line : List ℕ) (j k : List Entry) (asked : Asked) → IsWorldOf world a r j → HasRead r s (sizes_of j) line asked → s.sizes ≡ sizes_of j → DidRun world v a b s.draft j k asked → IsWorldOf v b s k
 world_then r s None v a b line j k asked is read sizes did = begun r s v a b line j k asked is read sizes did
@@ -415,7 +384,7 @@ at_most false rounds = omega arith
 one_more : (draft : Draft) (rounds : ℕ) (said : Said) → rounds_after draft rounds said ≤ suc rounds
 one_more draft rounds (Goes next) = omega arith
 one_more draft rounds (ListsAp address id) = omega arith
-one_more draft rounds (ListsSta address) = omega arith
+one_more draft rounds (ListsSta address psk) = omega arith
 one_more draft rounds (Asks event) = at_most (is_within draft) rounds
 one_more draft rounds BeginsRound = omega arith
 one_more draft rounds EndsRound = omega arith

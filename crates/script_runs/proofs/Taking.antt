@@ -79,7 +79,7 @@ is_plain step.Nothing p q = tt
 is_plain step.Draw p q = absurd (p refl)
 is_plain step.Network p q = tt
 is_plain (step.Ap address id) p q = tt
-is_plain (step.Sta address) p q = tt
+is_plain (step.Sta address psk) p q = tt
 is_plain (step.Event event) p q = tt
 is_plain step.Round p q = tt
 is_plain step.End p q = tt
@@ -95,7 +95,7 @@ read_plain Live r s sizes line step.Nothing is takes = record { read = takes.1; 
 read_plain Live r s sizes line step.Draw is takes = absurd is
 read_plain Live r s sizes line step.Network is takes = record { read = takes.1; says = takes.0 ∙ ap plain takes.1.1.0 }
 read_plain Live r s sizes line (step.Ap address id) is takes = record { read = takes.1; says = takes.0 ∙ ap plain takes.1.1.0 }
-read_plain Live r s sizes line (step.Sta address) is takes = record { read = takes.1; says = takes.0 ∙ ap plain takes.1.1.0 }
+read_plain Live r s sizes line (step.Sta address psk) is takes = record { read = takes.1; says = takes.0 ∙ ap plain takes.1.1.0 }
 read_plain Live r s sizes line (step.Event event) is takes = record { read = takes.1; says = takes.0 ∙ ap plain takes.1.1.0 }
 read_plain Live r s sizes line step.Round is takes = record { read = takes.1; says = takes.0 ∙ ap plain takes.1.1.0 }
 read_plain Live r s sizes line step.End is takes = record { read = takes.1; says = takes.0 ∙ ap plain takes.1.1.0 }
@@ -227,7 +227,7 @@ not_fewer false n = omega arith
 never_fewer : (draft : Draft) (n : ℕ) (said : Said) → n ≤ rounds_after draft n said
 never_fewer draft n (Goes next) = omega arith
 never_fewer draft n (ListsAp address id) = omega arith
-never_fewer draft n (ListsSta address) = omega arith
+never_fewer draft n (ListsSta address psk) = omega arith
 never_fewer draft n (Asks event) = not_fewer (is_within draft) n
 never_fewer draft n BeginsRound = omega arith
 never_fewer draft n EndsRound = omega arith

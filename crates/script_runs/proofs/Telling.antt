@@ -4,12 +4,11 @@ use Rattle.run_journal.specs.declared.domain.Domain.{Domain}
 use Rattle.run_journal.specs.declared.domain.Event.{Event}
 use Rattle.run_journal.specs.declared.acts.Entry.{Entry}
 use Rattle.domain_rules.specs.Explained.{Explained, Step, Follows}
-use Rattle.domain_rules.specs.Rounds.{by_nodes}
-use Rattle.domain_rules.proofs.Journals.{explained_start, explained_event}
+use Rattle.domain_rules.proofs.Journals.{explained_start, explained_event, explained_round}
 use Rattle.domain_rules.specs.HeldRight.{HeldRight, AnsweredInTime}
 use Rattle.domain_world.specs.State.{State}
 use Rattle.domain_world.specs.Owning.{Owns}
-use Rattle.frame_script.specs.Script.{Fault, Draft, AtVersion, AtSeed, AtSsid, AtPsk, AtAkm, AtMdid, AtNodes, InRound, Said, Goes, ListsAp, ListsSta, Asks, BeginsRound, EndsRound, is_within, rounds_after}
+use Rattle.frame_script.specs.Script.{Fault, Draft, AtVersion, AtHeader, AtNodes, InRound, Said, Goes, ListsAp, ListsSta, Asks, BeginsRound, EndsRound, is_within, rounds_after}
 use Rattle.frame_script.specs.Headers.{Reading, TakesStep, HasRead, sizes_of}
 use Rattle.frame_script.specs.declared.reader.Step.{Step as Asked}
 use Rattle.frame_script.specs.declared.reader.Step.TheVariants as step
@@ -22,13 +21,9 @@ use Rattle.script_runs.proofs.Steps.{one_saying, no_nodes, no_round, no_asking, 
 -- before the header is whole
 header_journal : (draft : Draft) (run : List (List Event)) (j : List Entry) → IsHeader draft → run ≡ [] → j ≡ [] → IsJournal draft run j
 header_journal AtVersion run j due none empty = (none, empty)
-header_journal AtSeed run j due none empty = (none, empty)
-header_journal (AtSsid seed) run j due none empty = (none, empty)
-header_journal (AtPsk seed ssid) run j due none empty = (none, empty)
-header_journal (AtAkm seed ssid psk) run j due none empty = (none, empty)
-header_journal (AtMdid seed ssid psk) run j due none empty = (none, empty)
-header_journal (AtNodes d) run j due none empty = absurd due
-header_journal (InRound d count) run j due none empty = absurd due
+header_journal (AtHeader awaited h) run j due none empty = (none, empty)
+header_journal (AtNodes h) run j due none empty = absurd due
+header_journal (InRound h count) run j due none empty = absurd due
 
 no_run : (run : List (List Event)) (n : ℕ) → n ≡ length run → n ≡ 0 → run ≡ []
 no_run [] n count none = refl
@@ -44,28 +39,20 @@ run_of rightly w run j own explained = record { form = own.form; octets = own.oc
 
 journal_at : (draft : Draft) (w : State) (a : Waiting) (sizes : List ℕ) (run : List (List Event)) (j : List Entry) → IsAt draft w a sizes j → IsRun w.domain run j → IsJournal draft run j
 journal_at AtVersion w a sizes run j at is = absurd at
-journal_at AtSeed w a sizes run j at is = absurd at
-journal_at (AtSsid seed) w a sizes run j at is = absurd at
-journal_at (AtPsk seed ssid) w a sizes run j at is = absurd at
-journal_at (AtAkm seed ssid psk) w a sizes run j at is = absurd at
-journal_at (AtMdid seed ssid psk) w a sizes run j at is = absurd at
-journal_at (AtNodes d) w a sizes run j at is = subst (λ (x : Domain). IsRun x run j) (sym at.0) is
-journal_at (InRound d count) w None sizes run j at is = absurd at
-journal_at (InRound d count) w (Some events) sizes run j at is = subst (λ (x : Domain). IsRun x run j) (sym at.network) is
+journal_at (AtHeader awaited h) w a sizes run j at is = absurd at
+journal_at (AtNodes h) w a sizes run j at is = subst (λ (x : Domain). IsRun x run j) (sym at.0) is
+journal_at (InRound h count) w None sizes run j at is = absurd at
+journal_at (InRound h count) w (Some events) sizes run j at is = subst (λ (x : Domain). IsRun x run j) (sym at.network) is
 
 own_journal : (rightly : Rightly) (w : State) (a : Waiting) (r : Reading) (run : List (List Event)) (j : List Entry) → IsOwn w a r j → Explained w.domain run j → IsJournal r.draft run j
 own_journal rightly w a r run j own explained = journal_at r.draft w a r.sizes run j own.at (run_of rightly w run j own.own explained)
 
 explained_at : (draft : Draft) (w : State) (a : Waiting) (sizes : List ℕ) (run : List (List Event)) (j : List Entry) → IsAt draft w a sizes j → IsJournal draft run j → Explained w.domain run j
 explained_at AtVersion w a sizes run j at told = absurd at
-explained_at AtSeed w a sizes run j at told = absurd at
-explained_at (AtSsid seed) w a sizes run j at told = absurd at
-explained_at (AtPsk seed ssid) w a sizes run j at told = absurd at
-explained_at (AtAkm seed ssid psk) w a sizes run j at told = absurd at
-explained_at (AtMdid seed ssid psk) w a sizes run j at told = absurd at
-explained_at (AtNodes d) w a sizes run j at told = subst (λ (x : Domain). Explained x run j) at.0 told.explained
-explained_at (InRound d count) w None sizes run j at told = absurd at
-explained_at (InRound d count) w (Some events) sizes run j at told = subst (λ (x : Domain). Explained x run j) at.network told.explained
+explained_at (AtHeader awaited h) w a sizes run j at told = absurd at
+explained_at (AtNodes h) w a sizes run j at told = subst (λ (x : Domain). Explained x run j) at.0 told.explained
+explained_at (InRound h count) w None sizes run j at told = absurd at
+explained_at (InRound h count) w (Some events) sizes run j at told = subst (λ (x : Domain). Explained x run j) at.network told.explained
 
 own_explained : (w : State) (a : Waiting) (r : Reading) (run : List (List Event)) (j : List Entry) → IsOwn w a r j → IsJournal r.draft run j → Explained w.domain run j
 own_explained w a r run j own told = explained_at r.draft w a r.sizes run j own.at told
@@ -73,11 +60,6 @@ own_explained w a r run j own told = explained_at r.draft w a r.sizes run j own.
 first_explained : (w : State) (a : Waiting) (r : Reading) (run : List (List Event)) (j : List Entry) → IsOwn w a r j → run ≡ [] → w.rounds ≡ 0 → Explained w.domain run j
 first_explained w a r run j own none zero =
     subst (λ (x : List (List Event)). Explained w.domain x j) (sym none) (subst (λ (x : List Entry). Explained w.domain [] x) (sym (own.first zero)) (explained_start w.domain))
-
--- one more round
-explained_round : (d : Domain) (run : List (List Event)) (events : List Event) (j k : List Entry) → Explained d run j → Follows d (suc (length run)) (by_nodes events) j k → Explained d (events ∷ run) k
-unfolding Explained
-explained_round d run events j k explained follows = (j, (explained, follows))
 
 -- ---- with one more line
 
@@ -87,7 +69,7 @@ begun_none draft step.Nothing w begun = absurd cc
 begun_none draft step.Draw w begun = absurd begun
 begun_none draft step.Network w begun = begun.none
 begun_none draft (step.Ap address id) w begun = absurd begun
-begun_none draft (step.Sta address) w begun = absurd begun
+begun_none draft (step.Sta address psk) w begun = absurd begun
 begun_none draft (step.Event event) w begun = absurd begun
 begun_none draft step.Round w begun = absurd begun
 begun_none draft step.End w begun = absurd begun
@@ -106,26 +88,22 @@ told_stays w v run j k explained same =
 told_ask : (draft : Draft) (w v : State) (a b : Waiting) (sizes : List ℕ) (rounds : Rounds) (event : Event) (j k : List Entry) → IsAt draft w a sizes j → w.rounds ≡ length rounds.run → Explained w.domain rounds.run j → DidAsk w v a b event j k
     → Explained v.domain (rounds_with draft rounds (Asks event)).run k
 told_ask AtVersion w v a b sizes rounds event j k at count explained did = absurd at
-told_ask AtSeed w v a b sizes rounds event j k at count explained did = absurd at
-told_ask (AtSsid seed) w v a b sizes rounds event j k at count explained did = absurd at
-told_ask (AtPsk seed ssid) w v a b sizes rounds event j k at count explained did = absurd at
-told_ask (AtAkm seed ssid psk) w v a b sizes rounds event j k at count explained did = absurd at
-told_ask (AtMdid seed ssid psk) w v a b sizes rounds event j k at count explained did = absurd at
-told_ask (AtNodes d) w v None None sizes rounds event j k at count explained did =
+told_ask (AtHeader awaited h) w v a b sizes rounds event j k at count explained did = absurd at
+told_ask (AtNodes h) w v None None sizes rounds event j k at count explained did =
     let goes = subst (λ (n : ℕ). Step w.domain (suc n) event j k) count did.goes in
     subst (λ (x : Domain). Explained x ((event ∷ []) ∷ rounds.run) k) (sym did.network) (explained_event w.domain rounds.run event j k explained goes)
-told_ask (AtNodes d) w v None (Some more) sizes rounds event j k at count explained did = absurd did
-told_ask (AtNodes d) w v (Some events) b sizes rounds event j k at count explained did = let some : Some events ≡ None = at.1 in absurd cc
-told_ask (InRound d n) w v None b sizes rounds event j k at count explained did = absurd at
-told_ask (InRound d n) w v (Some events) None sizes rounds event j k at count explained did = absurd did
-told_ask (InRound d n) w v (Some events) (Some more) sizes rounds event j k at count explained did = told_stays w v rounds.run j k explained did.0
+told_ask (AtNodes h) w v None (Some more) sizes rounds event j k at count explained did = absurd did
+told_ask (AtNodes h) w v (Some events) b sizes rounds event j k at count explained did = let some : Some events ≡ None = at.1 in absurd cc
+told_ask (InRound h n) w v None b sizes rounds event j k at count explained did = absurd at
+told_ask (InRound h n) w v (Some events) None sizes rounds event j k at count explained did = absurd did
+told_ask (InRound h n) w v (Some events) (Some more) sizes rounds event j k at count explained did = told_stays w v rounds.run j k explained did.0
 
 told_end : (w v : State) (a b : Waiting) (rounds : Rounds) (j k : List Entry) → w.rounds ≡ length rounds.run → events_of a ≡ rounds.waiting → Explained w.domain rounds.run j → DidEnd w v a b j k → Explained v.domain (rounds.waiting ∷ rounds.run) k
 told_end w v None b rounds j k count waits explained did = absurd did
 told_end w v (Some events) (Some more) rounds j k count waits explained did = absurd did
 told_end w v (Some events) None rounds j k count waits explained did =
-    let goes = subst (λ (n : ℕ). Follows w.domain (suc n) (by_nodes events.items) j k) count did.goes in
-    let these = subst (λ (es : List Event). Follows w.domain (suc (length rounds.run)) (by_nodes es) j k) waits goes in
+    let goes = subst (λ (n : ℕ). Follows w.domain (suc n) events.items j k) count did.goes in
+    let these = subst (λ (es : List Event). Follows w.domain (suc (length rounds.run)) es j k) waits goes in
     subst (λ (x : Domain). Explained x (rounds.waiting ∷ rounds.run) k) (sym did.network) (explained_round w.domain rounds.run rounds.waiting j k explained these)
 
 told_own : (w v : State) (a b : Waiting) (r s : Reading) (rounds : Rounds) (line : List ℕ) (j k : List Entry) (asked : Asked) → IsOwn w a r j → w.rounds ≡ length rounds.run → events_of a ≡ rounds.waiting → IsJournal r.draft rounds.run j
@@ -137,13 +115,13 @@ told_own w v a b r s rounds line j k step.Network own count waits told read did 
 told_own w v a b r s rounds line j k step.Draw own count waits told read did new = absurd did
 told_own w v a b r s rounds line j k step.Turn own count waits told read did new = absurd did
 told_own w v a b r s rounds line j k (step.Ap address id) own count waits told read did new =
-    let (d, (says, (old, (can, (none, first))))) = read.1.1.1.1 in
+    let (h, (says, (old, (can, (none, first))))) = read.1.1.1.1 in
     let same = one_saying _ read.0 (ListsAp address id) read.1.0 says in
     subst (λ (x : Said). Explained v.domain (rounds_with r.draft rounds x).run k) (sym same)
     (first_explained v b s rounds.run k new (no_run rounds.run w.rounds count (none_run w a r j own first)) (did.0.rounds ∙ none_run w a r j own first))
-told_own w v a b r s rounds line j k (step.Sta address) own count waits told read did new =
-    let (d, (says, (old, (can, first)))) = read.1.1.1.1 in
-    let same = one_saying _ read.0 (ListsSta address) read.1.0 says in
+told_own w v a b r s rounds line j k (step.Sta address psk) own count waits told read did new =
+    let (h, (says, (old, (can, first)))) = read.1.1.1.1 in
+    let same = one_saying _ read.0 (ListsSta address psk) read.1.0 says in
     subst (λ (x : Said). Explained v.domain (rounds_with r.draft rounds x).run k) (sym same)
     (first_explained v b s rounds.run k new (no_run rounds.run w.rounds count (none_run w a r j own first)) (did.0.rounds ∙ none_run w a r j own first))
 told_own w v a b r s rounds line j k (step.Event event) own count waits told read did new =
@@ -166,7 +144,7 @@ asked_by false n m x y p q = q
 pub rounds_count : (draft : Draft) (n : ℕ) (rounds : Rounds) (said : Said) → n ≡ rounds.asked → rounds_after draft n said ≡ (rounds_with draft rounds said).asked
 rounds_count draft n rounds (Goes next) count = count
 rounds_count draft n rounds (ListsAp address id) count = count
-rounds_count draft n rounds (ListsSta address) count = count
+rounds_count draft n rounds (ListsSta address psk) count = count
 rounds_count draft n rounds (Asks event) count =
     asked_by (is_within draft) n (suc n) (with_waiting rounds (rounds.waiting ++ event ∷ [])) (with_round rounds (event ∷ [])) count (ap suc count)
 rounds_count draft n rounds BeginsRound count = count
@@ -180,7 +158,7 @@ same_by f false x y old p q = q
 pub same_drawn : (draft : Draft) (rounds : Rounds) (said : Said) → (rounds_with draft rounds said).drawn ≡ rounds.drawn
 same_drawn draft rounds (Goes next) = refl
 same_drawn draft rounds (ListsAp address id) = refl
-same_drawn draft rounds (ListsSta address) = refl
+same_drawn draft rounds (ListsSta address psk) = refl
 same_drawn draft rounds (Asks event) =
     same_by (λ (x : Rounds). x.drawn) (is_within draft) (with_waiting rounds (rounds.waiting ++ event ∷ [])) (with_round rounds (event ∷ [])) rounds.drawn refl refl
 same_drawn draft rounds BeginsRound = refl
@@ -189,7 +167,7 @@ same_drawn draft rounds EndsRound = refl
 pub same_turns : (draft : Draft) (rounds : Rounds) (said : Said) → (rounds_with draft rounds said).turns ≡ rounds.turns
 same_turns draft rounds (Goes next) = refl
 same_turns draft rounds (ListsAp address id) = refl
-same_turns draft rounds (ListsSta address) = refl
+same_turns draft rounds (ListsSta address psk) = refl
 same_turns draft rounds (Asks event) =
     same_by (λ (x : Rounds). x.turns) (is_within draft) (with_waiting rounds (rounds.waiting ++ event ∷ [])) (with_round rounds (event ∷ [])) rounds.turns refl refl
 same_turns draft rounds BeginsRound = refl
@@ -201,7 +179,7 @@ none_asked : (r s : Reading) (says : Result Said Fault) (said : Said) (rounds : 
 none_asked r s says said rounds sizes step.Nothing due is takes = ap (λ (x : Said). rounds_with r.draft rounds x) (one_saying says said (Goes s.draft) is takes.0)
 none_asked r s says said rounds sizes step.Network due is takes = ap (λ (x : Said). rounds_with r.draft rounds x) (one_saying says said (Goes s.draft) is takes.1.0)
 none_asked r s says said rounds sizes (step.Ap address id) due is takes = absurd (no_nodes r.draft takes.0 due takes.1.1.0)
-none_asked r s says said rounds sizes (step.Sta address) due is takes = absurd (no_nodes r.draft takes.0 due takes.1.1.0)
+none_asked r s says said rounds sizes (step.Sta address psk) due is takes = absurd (no_nodes r.draft takes.0 due takes.1.1.0)
 none_asked r s says said rounds sizes (step.Event event) due is takes = absurd (no_asking r.draft sizes event due takes.1)
 none_asked r s says said rounds sizes step.Round due is takes = absurd (no_nodes r.draft takes.0 due takes.1.1.0)
 none_asked r s says said rounds sizes step.End due is takes = absurd (no_round r.draft takes.0 takes.1.0 due takes.1.1.1)
@@ -222,17 +200,13 @@ journal_then rightly r s (Some w) (Some v) a b rounds line j k asked is count wa
 waits_ask : (draft : Draft) (w v : State) (a b : Waiting) (sizes : List ℕ) (rounds : Rounds) (event : Event) (j k : List Entry) → IsAt draft w a sizes j → events_of a ≡ rounds.waiting → DidAsk w v a b event j k
     → events_of b ≡ (rounds_with draft rounds (Asks event)).waiting
 waits_ask AtVersion w v a b sizes rounds event j k at waits did = absurd at
-waits_ask AtSeed w v a b sizes rounds event j k at waits did = absurd at
-waits_ask (AtSsid seed) w v a b sizes rounds event j k at waits did = absurd at
-waits_ask (AtPsk seed ssid) w v a b sizes rounds event j k at waits did = absurd at
-waits_ask (AtAkm seed ssid psk) w v a b sizes rounds event j k at waits did = absurd at
-waits_ask (AtMdid seed ssid psk) w v a b sizes rounds event j k at waits did = absurd at
-waits_ask (AtNodes d) w v None None sizes rounds event j k at waits did = waits
-waits_ask (AtNodes d) w v None (Some more) sizes rounds event j k at waits did = absurd did
-waits_ask (AtNodes d) w v (Some events) b sizes rounds event j k at waits did = let some : Some events ≡ None = at.1 in absurd cc
-waits_ask (InRound d n) w v None b sizes rounds event j k at waits did = absurd at
-waits_ask (InRound d n) w v (Some events) None sizes rounds event j k at waits did = absurd did
-waits_ask (InRound d n) w v (Some events) (Some more) sizes rounds event j k at waits did = did.1 ∙ ap (λ (es : List Event). es ++ event ∷ []) waits
+waits_ask (AtHeader awaited h) w v a b sizes rounds event j k at waits did = absurd at
+waits_ask (AtNodes h) w v None None sizes rounds event j k at waits did = waits
+waits_ask (AtNodes h) w v None (Some more) sizes rounds event j k at waits did = absurd did
+waits_ask (AtNodes h) w v (Some events) b sizes rounds event j k at waits did = let some : Some events ≡ None = at.1 in absurd cc
+waits_ask (InRound h n) w v None b sizes rounds event j k at waits did = absurd at
+waits_ask (InRound h n) w v (Some events) None sizes rounds event j k at waits did = absurd did
+waits_ask (InRound h n) w v (Some events) (Some more) sizes rounds event j k at waits did = did.1 ∙ ap (λ (es : List Event). es ++ event ∷ []) waits
 
 waits_begun : (a b : Waiting) (rounds : Rounds) → a ≡ None → events_of a ≡ rounds.waiting → HasBegun b → events_of b ≡ rounds.waiting
 waits_begun a None rounds none waits new = absurd new
@@ -254,16 +228,16 @@ waits_own w v a b r s rounds line j k step.Turn own waits read did = absurd did
 waits_own w v a b r s rounds line j k (step.Ap address id) own waits read did =
     let same = one_saying _ read.0 (ListsAp address id) read.1.0 read.1.1.1.1.1.0 in
     ap events_of did.1 ∙ waits ∙ ap (λ (x : Said). (rounds_with r.draft rounds x).waiting) (sym same)
-waits_own w v a b r s rounds line j k (step.Sta address) own waits read did =
-    let same = one_saying _ read.0 (ListsSta address) read.1.0 read.1.1.1.1.1.0 in
+waits_own w v a b r s rounds line j k (step.Sta address psk) own waits read did =
+    let same = one_saying _ read.0 (ListsSta address psk) read.1.0 read.1.1.1.1.1.0 in
     ap events_of did.1.1 ∙ waits ∙ ap (λ (x : Said). (rounds_with r.draft rounds x).waiting) (sym same)
 waits_own w v a b r s rounds line j k (step.Event event) own waits read did =
     let same = one_saying _ read.0 (Asks event) read.1.0 read.1.1.1.1.0 in
     waits_ask r.draft w v a b r.sizes rounds event j k own.at waits did ∙ ap (λ (x : Said). (rounds_with r.draft rounds x).waiting) (sym same)
 waits_own w v a b r s rounds line j k step.Round own waits read did =
-    let (d, (says, (old, room))) = read.1.1.1.1 in
+    let (h, (says, (old, room))) = read.1.1.1.1 in
     let same = one_saying _ read.0 BeginsRound read.1.0 says in
-    waits_begun a b rounds (outside r.draft d w a r.sizes j own.at old).1 waits did.1 ∙ ap (λ (x : Said). (rounds_with r.draft rounds x).waiting) (sym same)
+    waits_begun a b rounds (outside r.draft h w a r.sizes j own.at old).1 waits did.1 ∙ ap (λ (x : Said). (rounds_with r.draft rounds x).waiting) (sym same)
 waits_own w v a b r s rounds line j k step.End own waits read did =
     let same = one_saying _ read.0 EndsRound read.1.0 read.1.1.1.1.1.1.0 in
     waits_end w v a b j k did ∙ ap (λ (x : Said). (rounds_with r.draft rounds x).waiting) (sym same)
@@ -281,17 +255,13 @@ waits_then r s (Some w) (Some v) a b rounds line j k asked is waits read did = w
 runs_ask : (draft : Draft) (w v : State) (a b : Waiting) (sizes : List ℕ) (rounds : Rounds) (event : Event) (j k : List Entry) → IsAt draft w a sizes j → w.rounds ≡ length rounds.run → DidAsk w v a b event j k
     → v.rounds ≡ length (rounds_with draft rounds (Asks event)).run
 runs_ask AtVersion w v a b sizes rounds event j k at count did = absurd at
-runs_ask AtSeed w v a b sizes rounds event j k at count did = absurd at
-runs_ask (AtSsid seed) w v a b sizes rounds event j k at count did = absurd at
-runs_ask (AtPsk seed ssid) w v a b sizes rounds event j k at count did = absurd at
-runs_ask (AtAkm seed ssid psk) w v a b sizes rounds event j k at count did = absurd at
-runs_ask (AtMdid seed ssid psk) w v a b sizes rounds event j k at count did = absurd at
-runs_ask (AtNodes d) w v None None sizes rounds event j k at count did = did.rounds ∙ ap suc count
-runs_ask (AtNodes d) w v None (Some more) sizes rounds event j k at count did = absurd did
-runs_ask (AtNodes d) w v (Some events) b sizes rounds event j k at count did = let some : Some events ≡ None = at.1 in absurd cc
-runs_ask (InRound d n) w v None b sizes rounds event j k at count did = absurd at
-runs_ask (InRound d n) w v (Some events) None sizes rounds event j k at count did = absurd did
-runs_ask (InRound d n) w v (Some events) (Some more) sizes rounds event j k at count did = ap (λ (x : State). x.rounds) did.0.0 ∙ count
+runs_ask (AtHeader awaited h) w v a b sizes rounds event j k at count did = absurd at
+runs_ask (AtNodes h) w v None None sizes rounds event j k at count did = did.rounds ∙ ap suc count
+runs_ask (AtNodes h) w v None (Some more) sizes rounds event j k at count did = absurd did
+runs_ask (AtNodes h) w v (Some events) b sizes rounds event j k at count did = let some : Some events ≡ None = at.1 in absurd cc
+runs_ask (InRound h n) w v None b sizes rounds event j k at count did = absurd at
+runs_ask (InRound h n) w v (Some events) None sizes rounds event j k at count did = absurd did
+runs_ask (InRound h n) w v (Some events) (Some more) sizes rounds event j k at count did = ap (λ (x : State). x.rounds) did.0.0 ∙ count
 
 runs_end : (w v : State) (a b : Waiting) (n : ℕ) (j k : List Entry) → w.rounds ≡ n → DidEnd w v a b j k → v.rounds ≡ suc n
 runs_end w v None b n j k count did = absurd did
@@ -309,8 +279,8 @@ runs_own w v a b r s rounds line j k step.Turn own count read did = absurd did
 runs_own w v a b r s rounds line j k (step.Ap address id) own count read did =
     let same = one_saying _ read.0 (ListsAp address id) read.1.0 read.1.1.1.1.1.0 in
     did.0.rounds ∙ count ∙ ap (λ (x : Said). length (rounds_with r.draft rounds x).run) (sym same)
-runs_own w v a b r s rounds line j k (step.Sta address) own count read did =
-    let same = one_saying _ read.0 (ListsSta address) read.1.0 read.1.1.1.1.1.0 in
+runs_own w v a b r s rounds line j k (step.Sta address psk) own count read did =
+    let same = one_saying _ read.0 (ListsSta address psk) read.1.0 read.1.1.1.1.1.0 in
     did.0.rounds ∙ count ∙ ap (λ (x : Said). length (rounds_with r.draft rounds x).run) (sym same)
 runs_own w v a b r s rounds line j k (step.Event event) own count read did =
     let same = one_saying _ read.0 (Asks event) read.1.0 read.1.1.1.1.0 in

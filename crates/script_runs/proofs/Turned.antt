@@ -3,6 +3,7 @@ use Rattle.std.proofs.Common.{◌≡◌, ℕ, suc, ◌<◌, ◌≤◌, ◌+◌, 
 use Rattle.std.specs.Prelude.{reverse}
 use Rattle.std.proofs.lemmas.List.{reverse-append, length-reverse, length-append}
 use Rattle.std.proofs.Math.Seq.{drop-append_seam}
+use Rattle.run_journal.specs.Limits.{most_polls}
 use Rattle.domain_base.specs.declared.names.Node.{Node}
 use Rattle.run_journal.specs.declared.domain.Domain.{Domain}
 use Rattle.run_journal.specs.declared.domain.Event.{Event}
@@ -92,11 +93,11 @@ pub laid_none : {L V : Type 0} (faults : L → ℕ) (old new : List L) (y : V) �
 laid_none faults old new y len same = record { len = len; failed = λ e. absurd (ok_err y e); kept = λ h. same }
 
 -- the nodes of the first places, and the next
-pub turned_further : (n m : ℕ) (a b c : Stage) → n < m → b.world.domain ≡ a.world.domain → b.world.rounds ≤ a.world.rounds + 16 * n → IsFurther 16 b c → IsFurther (16 * m) a c
+pub turned_further : (n m : ℕ) (a b c : Stage) → n < m → b.world.domain ≡ a.world.domain → b.world.rounds ≤ a.world.rounds + most_polls * n → IsFurther most_polls b c → IsFurther (most_polls * m) a c
 turned_further n m a b c h network few f = record { network = f.network ∙ network; few = omega (arith, h, few, f.few); own = f.own }
 
 -- or all of them
-pub turned_so_far : (n m : ℕ) (a b : Stage) → n ≡ m → b.world.domain ≡ a.world.domain → b.world.rounds ≤ a.world.rounds + 16 * n → Owns b.world b.journal → IsFurther (16 * m) a b
+pub turned_so_far : (n m : ℕ) (a b : Stage) → n ≡ m → b.world.domain ≡ a.world.domain → b.world.rounds ≤ a.world.rounds + most_polls * n → Owns b.world b.journal → IsFurther (most_polls * m) a b
 turned_so_far n m a b h network few own = record { network = network; few = omega (arith, h, few); own = own }
 
 -- so many frames of one node, and one more

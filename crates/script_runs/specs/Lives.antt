@@ -39,13 +39,13 @@ pub record AreEndedPart (d : Domain) (start : AirStory) (rounds : Rounds) (j : L
 
 -- by what the lines have said: before the header is whole no link was attached
 abbrev pub EndsAll : Draft → AirStory → List (List Delivery) → List Entry → List LinkStory → Type 0
-EndsAll (AtNodes d) start turns j ended = AreEnded d start turns j ended
-EndsAll (InRound d n) start turns j ended = AreEnded d start turns j ended
+EndsAll (AtNodes h) start turns j ended = AreEnded h.network start turns j ended
+EndsAll (InRound h n) start turns j ended = AreEnded h.network start turns j ended
 EndsAll draft start turns j ended = (ended ≡ []) × (turns ≡ [])
 
 abbrev pub EndsPart : Draft → AirStory → Rounds → List Entry → List LinkStory → Type 0
-EndsPart (AtNodes d) start rounds j ended = AreEndedPart d start rounds j ended
-EndsPart (InRound d n) start rounds j ended = AreEndedPart d start rounds j ended
+EndsPart (AtNodes h) start rounds j ended = AreEndedPart h.network start rounds j ended
+EndsPart (InRound h n) start rounds j ended = AreEndedPart h.network start rounds j ended
 EndsPart draft start rounds j ended = ⊥
 
 -- and by how the reading ended
@@ -55,8 +55,8 @@ EndsBy found draft start rounds j ended = EndsAll draft start rounds.turns j end
 
 -- no link of that node is among the first so many; before the header is whole no node has one
 abbrev pub IsOther : Draft → ℕ → Node → Type 0
-IsOther (AtNodes d) links node = IsBehind d links node
-IsOther (InRound d n) links node = IsBehind d links node
+IsOther (AtNodes h) links node = IsBehind h.network links node
+IsOther (InRound h n) links node = IsBehind h.network links node
 IsOther draft links node = Unit {0}
 
 -- where the air tells, at first and at the end, its links stand at the end of those taken back, and what it has for other nodes it

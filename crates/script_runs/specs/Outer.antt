@@ -4,6 +4,7 @@ use Rattle.std.specs.List.{AllByRecursion}
 use Rattle.domain_base.specs.Causes.{Rose}
 use Rattle.domain_base.specs.Told.{LinkStory, AirStory}
 use Rattle.domain_base.specs.declared.names.Node.{Node}
+use Rattle.run_journal.specs.Limits.{most_polls}
 use Rattle.run_journal.specs.declared.domain.Domain.{Domain}
 use Rattle.run_journal.specs.declared.acts.Entry.{Entry}
 use Rattle.domain_links.specs.NodeOrder.{count}
@@ -12,7 +13,7 @@ use Rattle.domain_links.specs.Telling.{Tell, HasFailed, NoneFailed}
 use Rattle.domain_links.specs.Attached.{IsBehind, frames_at}
 use Rattle.domain_links.specs.Turns.{Delivery, turn_of}
 use Rattle.domain_world.specs.State.{State}
-use Rattle.frame_script.specs.Script.{Draft, AtSsid, AtNodes, InRound}
+use Rattle.frame_script.specs.Script.{Draft, AtNodes, InRound, seeded}
 use Rattle.frame_script.specs.Headers.{Reading}
 use Rattle.frame_script.specs.declared.reader.Mode.{Mode}
 use Rattle.frame_script.specs.declared.reader.Mode.TheVariants.{Replay, Live}
@@ -37,15 +38,15 @@ IsDrawn (Some seed) before now = now ≡ Some seed
 -- a reader was told that seed, which was due
 abbrev pub IsTold : Reading → Reading → Option (List ℕ) → Type 0
 IsTold old new last =
-    (seed : List ℕ) × ((last ≡ Some seed) × (new ≡ record old { draft = AtSsid seed }))
+    (seed : List ℕ) × ((last ≡ Some seed) × (new ≡ record old { draft = seeded old.draft seed }))
 
 -- ---- turns
 
 -- what links have left of these frames behind so many turns
 abbrev pub left_behind : (ℕ → List (List ℕ)) → ℕ → ℕ → List (List ℕ)
-left_behind frames turns i = drop (16 * turns) (frames i)
+left_behind frames turns i = drop (most_polls * turns) (frames i)
 
--- what nodes took in each of these turns is what their links had in front, each frame cut to 2,400 octets, up to 16 a node
+-- what nodes took in each of these turns is what their links had in front, each frame cut to 2,400 octets, up to that many a node
 unfoldable pub AreHeard : Domain → (ℕ → List (List ℕ)) → List (List Delivery) → Type 0
 AreHeard d frames [] = Unit {0}
 AreHeard d frames (given ∷ turns) =
@@ -135,13 +136,13 @@ pub record IsUnlinked {L : Type 0} (start : AirStory) (o : Outer L) (turns : Lis
   pub no_turns : turns ≡ []
 
 abbrev pub IsLinkedAt : {L : Type 0} → (L → Option LinkStory) → Draft → AirStory → Outer L → List (List Delivery) → List Entry → Type 0
-IsLinkedAt told (AtNodes d) start o turns j = IsLinked told d start o turns j
-IsLinkedAt told (InRound d n) start o turns j = IsLinked told d start o turns j
+IsLinkedAt told (AtNodes h) start o turns j = IsLinked told h.network start o turns j
+IsLinkedAt told (InRound h n) start o turns j = IsLinked told h.network start o turns j
 IsLinkedAt told draft start o turns j = IsUnlinked start o turns
 
 abbrev pub IsLinkedPartAt : {L : Type 0} → (L → Option LinkStory) → Draft → AirStory → Outer L → Rounds → List Entry → Type 0
-IsLinkedPartAt told (AtNodes d) start o rounds j = IsLinkedPart told d start o rounds j
-IsLinkedPartAt told (InRound d n) start o rounds j = IsLinkedPart told d start o rounds j
+IsLinkedPartAt told (AtNodes h) start o rounds j = IsLinkedPart told h.network start o rounds j
+IsLinkedPartAt told (InRound h n) start o rounds j = IsLinkedPart told h.network start o rounds j
 IsLinkedPartAt told draft start o rounds j = ⊥
 
 -- ---- all of it

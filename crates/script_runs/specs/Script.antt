@@ -2,6 +2,7 @@
 use Rattle.std.specs.Prelude.{◌≡◌, ◌≢◌, ◌⊎◌, ℕ, suc, ◌<◌, ◌≤◌, ◌-◌, ◌==◌, ◌&&◌, nat_lt, nat_le, cond, if◌then◌else◌, Bool, true, List, [], ◌∷◌, ◌++◌, length, take, map, slice_index, Option, None, Some, Result, Ok, Err}
 use Rattle.std.proofs.Common.{inl, inr}
 use Rattle.std.specs.List.{AllByRecursion}
+use Rattle.run_journal.specs.Limits.{most_polls}
 use Rattle.run_journal.specs.declared.domain.Domain.{Domain}
 use Rattle.run_journal.specs.declared.domain.Event.{Event}
 use Rattle.run_journal.specs.declared.domain.Event.TheVariants.{Inject}
@@ -12,7 +13,7 @@ use Rattle.domain_rules.specs.HeldRight.{HeldRight}
 use Rattle.domain_rules.specs.InOctets.{InOctets}
 use Rattle.domain_links.specs.NodeOrder.{count}
 use Rattle.domain_links.specs.Turns.{Delivery, in_order}
-use Rattle.frame_script.specs.Script.{Fault, Past, Draft, AtVersion, AtSsid, AtNodes, InRound, Said, ListsAp, ListsSta, Asks, EndsRound, is_within, line_says, said_after}
+use Rattle.frame_script.specs.Script.{Fault, Past, Draft, AtVersion, AtNodes, InRound, Said, ListsAp, ListsSta, Asks, EndsRound, is_within, line_says, said_after, seeded}
 use Rattle.frame_script.specs.Live.{Heard, Plain, Draws, Turns, live_says, plain}
 use Rattle.frame_script.specs.Headers.{size_sent}
 use Rattle.frame_script.specs.declared.forms.Form.{Form}
@@ -55,8 +56,8 @@ pub record IsRun (d : Domain) (rounds : List (List Event)) (j : List Entry) : Ty
 
 -- what was run is the rounds that have ended; before the header is whole there are none
 abbrev pub IsJournal : Draft → List (List Event) → List Entry → Type 0
-IsJournal (AtNodes d) run j = IsRun d run j
-IsJournal (InRound d count) run j = IsRun d run j
+IsJournal (AtNodes h) run j = IsRun h.network run j
+IsJournal (InRound h count) run j = IsRun h.network run j
 IsJournal draft run j = (run ≡ []) × (j ≡ [])
 
 -- the sizes of the frames that the journal j of the run has sent in the rounds up to that number, in order
@@ -81,7 +82,7 @@ rounds_by draft rounds said = rounds
 -- and with what the line is
 abbrev pub last_of : Draft → Said → LastLine
 last_of draft (ListsAp address id) = Listed
-last_of draft (ListsSta address) = Listed
+last_of draft (ListsSta address psk) = Listed
 last_of draft (Asks event) = if is_within draft then Other else Ran
 last_of draft EndsRound = Ran
 last_of draft said = Other
@@ -91,10 +92,10 @@ rounds_with draft rounds said = record (rounds_by draft rounds said) { last = la
 
 -- ---- what comes from outside, in a live run
 
--- what nodes take of their links in a turn: in node order, and up to 16 frames each
+-- what nodes take of their links in a turn: in node order, and up to that many frames each
 pub record IsTurn (d : Domain) (given : List Delivery) : Type 0 where
   pub heard : ℕ → List (List ℕ)
-  pub few : (i : ℕ) → length (heard i) ≤ 16
+  pub few : (i : ℕ) → length (heard i) ≤ most_polls
   pub order : given ≡ in_order d heard (count d)
 
 -- each delivery is a round by itself, behind those before it
@@ -113,7 +114,7 @@ with_seed rounds seed = record rounds { last = Other; drawn = Some seed }
 
 -- a turn stands outside rounds
 abbrev pub IsTurnAt : Draft → List Delivery → Type 0
-IsTurnAt (AtNodes d) given = IsTurn d given
+IsTurnAt (AtNodes h) given = IsTurn h.network given
 IsTurnAt draft given = ⊥
 
 -- ---- what a line tells
@@ -127,7 +128,7 @@ says_in Live draft asked sizes line = live_says draft asked sizes line
 -- some one, and `turn` what nodes took, which is some of the lists that a turn can give
 abbrev pub Means : Heard → Draft → Rounds → Draft → Rounds → Type 0
 Means (Plain said) before earlier draft rounds = (draft ≡ said_after before said) × (rounds ≡ rounds_with before earlier said)
-Means Draws before earlier draft rounds = (seed : List ℕ) × ((draft ≡ AtSsid seed) × (rounds ≡ with_seed earlier seed))
+Means Draws before earlier draft rounds = (seed : List ℕ) × ((draft ≡ seeded before seed) × (rounds ≡ with_seed earlier seed))
 Means Turns before earlier draft rounds =
     (given : List Delivery) × (IsTurnAt before given × ((draft ≡ before) × (rounds ≡ with_turn earlier given)))
 
@@ -163,8 +164,8 @@ NoFeed line = AllByRecursion (λ octet. octet ≢ 10) line
 abbrev pub most_lines : ℕ
 most_lines = 65536
 
-abbrev pub most_octets : ℕ
-most_octets = 8192
+abbrev pub most_in_line : ℕ
+most_in_line = 8192
 
 -- the faults of a line that is too long, and of one line too many
 abbrev pub too_long : Fault
@@ -186,7 +187,7 @@ joined (line ∷ lines) = joined lines ++ line ++ 10 ∷ []
 -- whole lines within the limits
 unfoldable pub AreLines : List (List ℕ) → Type 0
 AreLines [] = Unit {0}
-AreLines (line ∷ lines) = NoFeed line × (length line ≤ most_octets) × (length lines < most_lines) × AreLines lines
+AreLines (line ∷ lines) = NoFeed line × (length line ≤ most_in_line) × (length lines < most_lines) × AreLines lines
 
 -- the octets begin with these lines
 pub record Begins (octets : List ℕ) (lines : List (List ℕ)) (rest : List ℕ) : Type 0 where
@@ -210,7 +211,7 @@ pub record IsOpen (octets : List ℕ) (said : List (List ℕ)) : Type 0 where
   pub begins : Begins octets lines last
   pub some : last ≢ []
   pub line : NoFeed last
-  pub short : length last ≤ most_octets
+  pub short : length last ≤ most_in_line
   pub few : length lines < most_lines
   pub says : said ≡ last ∷ texts lines
 
@@ -238,7 +239,7 @@ Ends ended good line after text =
 pub record IsWrong (ended : Bool) (good : List (List ℕ)) (line after : List ℕ) (p : Point) (fault : Fault) : Type 0 where
   pub text : List ℕ
   pub ends : Ends ended good line after text
-  pub short : length line ≤ most_octets
+  pub short : length line ≤ most_in_line
   pub why : ((fault ≡ too_many) × (most_lines ≤ length good)) ⊎ ((length good < most_lines) × Refuses p.mode p.journal text p.draft p.rounds fault)
 
 -- the form that it should have had, by its words; with octets behind the limit it is not at its end
@@ -253,4 +254,4 @@ pub record HasFault (octets : List ℕ) (ended : Bool) (good : List (List ℕ)) 
   pub after : List ℕ
   pub begins : Begins octets good (line ++ after)
   pub open_line : NoFeed line
-  pub wrong : ((fault ≡ too_long) × (most_octets < length line)) ⊎ IsWrong ended good line after p fault
+  pub wrong : ((fault ≡ too_long) × (most_in_line < length line)) ⊎ IsWrong ended good line after p fault

@@ -2,19 +2,20 @@
 use Rattle.std.specs.Prelude.{◌≡◌, ℕ, suc, ◌+◌, ◌*◌, ◌^◌, ◌<◌, ◌≤◌, ◌++◌, List, [], ◌∷◌, length, Option, None, Some, Ok}
 use Rattle.std.specs.Global.{Global}
 use Rattle.std.specs.declared.vec.Vec.{Vec}
+use Rattle.run_journal.specs.Limits.{most_events, most_turn}
 use Rattle.run_journal.specs.declared.domain.Domain.{Domain}
 use Rattle.run_journal.specs.declared.domain.Event.{Event}
 use Rattle.run_journal.specs.declared.acts.Entry.{Entry}
 use Rattle.domain_rules.specs.Network.{InForm}
 use Rattle.domain_rules.specs.Explained.{Step, Follows, started}
-use Rattle.domain_rules.specs.Rounds.{by_nodes}
 use Rattle.run_journal.specs.Listing.{with_ap, with_sta}
 use Rattle.domain_world.specs.State.{State}
 use Rattle.domain_world.specs.Owning.{Owns, IsEventIn, AreEventsIn}
 use Rattle.domain_base.specs.Told.{LinkStory}
 use Rattle.frame_script.specs.Script.{Draft, AtNodes, InRound}
 use Rattle.frame_script.specs.Live.{Draws}
-use Rattle.frame_script.specs.Headers.{Reading, HasSeen, IsNetwork, sizes_of}
+use Rattle.frame_script.specs.Headers.{Reading, HasSeen, IsDomain, IsNetwork, sizes_of}
+use Rattle.frame_script.specs.declared.header.Header.{Header}
 use Rattle.frame_script.specs.declared.reader.Mode.{Mode}
 use Rattle.frame_script.specs.declared.reader.Mode.TheVariants.{Live}
 use Rattle.frame_script.specs.declared.reader.Step.{Step as Asked}
@@ -38,32 +39,29 @@ events_of (Some events) = events.items
 
 -- the header is not whole
 abbrev pub IsHeader : Draft → Type 0
-IsHeader (AtNodes d) = ⊥
-IsHeader (InRound d count) = ⊥
+IsHeader (AtNodes h) = ⊥
+IsHeader (InRound h count) = ⊥
 IsHeader draft = Unit {0}
 
 -- so many events wait, each of which can happen now, and the journal has not grown since their round began
 pub record Wait (w : State) (d : Domain) (count : ℕ) (events : List Event) (sizes : List ℕ) (j : List Entry) : Type 0 where
   pub network : d ≡ w.domain
   pub count_is : length events ≡ count
-  pub few : count ≤ 256
+  pub few : count ≤ most_events
   pub each : AreEventsIn w.domain (length w.frames) j events
   pub same : sizes ≡ sizes_of j
 
 -- the script is on the network of the world, in a round with the events that it has so far
 abbrev pub IsAt : Draft → State → Waiting → List ℕ → List Entry → Type 0
-IsAt (AtNodes d) w waiting sizes j = (d ≡ w.domain) × (waiting ≡ None)
-IsAt (InRound d count) w (Some events) sizes j = Wait w d count events.items sizes j
+IsAt (AtNodes h) w waiting sizes j = (h.network ≡ w.domain) × (waiting ≡ None)
+IsAt (InRound h count) w (Some events) sizes j = Wait w h.network count events.items sizes j
 IsAt draft w waiting sizes j = ⊥
 
--- a line asks for so many rounds at most: in a turn each of at most 80 nodes takes at most 16 frames
-abbrev pub most_rounds : ℕ
-most_rounds = 1280
-
--- the world is that of the lines so far, and the journal is its own; before any event nodes have started
+-- the world is that of the lines so far, each of which asks for as many rounds as a turn has at most, and the journal is its own;
+-- before any event nodes have started
 pub record IsOwn (w : State) (waiting : Waiting) (r : Reading) (j : List Entry) : Type 0 where
   pub at : IsAt r.draft w waiting r.sizes j
-  pub rounds : w.rounds ≤ most_rounds * r.rounds
+  pub rounds : w.rounds ≤ most_turn * r.rounds
   pub own : Owns w j
   pub first : w.rounds ≡ 0 → j ≡ started w.domain (length w.domain.aps)
 
@@ -105,12 +103,12 @@ pub record Stands (s : ScriptState) (draft : Draft) (rounds : Rounds) (j : List 
 -- before the header is whole
 abbrev pub CanBegin : Draft → Asked → Type 0
 CanBegin draft step.Nothing = Unit {0}
-CanBegin draft step.Network = (d : Domain) × ((draft ≡ AtNodes d) × IsNetwork d)
+CanBegin draft step.Network = (h : Header) × ((draft ≡ AtNodes h) × IsNetwork h.network)
 CanBegin draft asked = ⊥
 
 -- a world of the network that the header told, before any event
 pub record IsNewWorld (w : State) (draft : Draft) : Type 0 where
-  pub network : draft ≡ AtNodes w.domain
+  pub network : IsDomain draft (Some w.domain)
   pub none : w.rounds ≡ 0
   pub own : Owns w []
 
@@ -128,7 +126,7 @@ CanAsk w (Some events) j event = Unit {0}
 -- a round is open, and those that wait can be run
 pub record CanRunAll (w : State) (j : List Entry) (events : List Event) : Type 0 where
   pub each : AreEventsIn w.domain (length w.frames) j events
-  pub few_events : length events ≤ 256
+  pub few_events : length events ≤ most_events
   pub few : w.rounds + 1 < 2 ^ 64
 
 abbrev pub CanEnd : State → Waiting → List Entry → Type 0
@@ -139,7 +137,7 @@ CanEnd w (Some events) j = CanRunAll w j events.items
 abbrev pub CanDo : State → Waiting → List Entry → Asked → Type 0
 CanDo w waiting j step.Nothing = Unit {0}
 CanDo w waiting j (step.Ap address r0kh_id) = (w.rounds ≡ 0) × InForm (with_ap w.domain address r0kh_id)
-CanDo w waiting j (step.Sta address) = (w.rounds ≡ 0) × InForm (with_sta w.domain address)
+CanDo w waiting j (step.Sta address psk) = (w.rounds ≡ 0) × InForm (with_sta w.domain address psk)
 CanDo w waiting j (step.Event event) = CanAsk w waiting j event
 CanDo w waiting j step.Round = Unit {0}
 CanDo w waiting j step.End = CanEnd w waiting j
@@ -172,7 +170,7 @@ pub record Runs (w v : State) (event : Event) (j k : List Entry) : Type 0 where
 pub record RunsAll (w v : State) (events : List Event) (j k : List Entry) : Type 0 where
   pub network : v.domain ≡ w.domain
   pub rounds : v.rounds ≡ suc w.rounds
-  pub goes : Follows w.domain (suc w.rounds) (by_nodes events) j k
+  pub goes : Follows w.domain (suc w.rounds) events j k
 
 -- an event was run, or in a round it waits behind those before
 abbrev pub DidAsk : State → State → Waiting → Waiting → Event → List Entry → List Entry → Type 0
@@ -193,7 +191,7 @@ DidEnd w v old new j k = ⊥
 abbrev pub Did : State → State → Waiting → Waiting → List Entry → List Entry → Asked → Type 0
 Did w v old new j k step.Nothing = Stays w v j k × (new ≡ old)
 Did w v old new j k (step.Ap address r0kh_id) = Lists w v (with_ap w.domain address r0kh_id) j k × (new ≡ old)
-Did w v old new j k (step.Sta address) = Lists w v (with_sta w.domain address) j k × ((k ≡ j) × (new ≡ old))
+Did w v old new j k (step.Sta address psk) = Lists w v (with_sta w.domain address psk) j k × ((k ≡ j) × (new ≡ old))
 Did w v old new j k (step.Event event) = DidAsk w v old new event j k
 Did w v old new j k step.Round = Stays w v j k × HasBegun new
 Did w v old new j k step.End = DidEnd w v old new j k

@@ -3,21 +3,13 @@ use Rattle.std.specs.Prelude.{◌≡◌, ◌≢◌, ℕ, ◌≤◌, List, [], �
 use Rattle.run_journal.specs.declared.domain.Domain.{Domain}
 use Rattle.run_journal.specs.declared.domain.Event.{Event}
 use Rattle.run_journal.specs.declared.acts.Entry.{Entry}
-use Rattle.storm.specs.Header.{domain_of, aps_to, stas_to}
+use Rattle.storm.specs.Header.{domain_of, aps_to, secrets, stas_to}
 use Rattle.storm.specs.Course.{storm}
 use Rattle.script_runs.specs.Script.{IsRun}
 
 -- the network of the storm of that number with its first so many access points and stations
 abbrev pub network : ℕ → ℕ → ℕ → Domain
-network number aps stas = record {
-  seed = (domain_of number).seed;
-  ssid = (domain_of number).ssid;
-  psk = (domain_of number).psk;
-  akm = (domain_of number).akm;
-  mdid = (domain_of number).mdid;
-  aps = aps_to aps;
-  stas = stas_to stas;
-}
+network number aps stas = record (domain_of number) { aps = aps_to aps; stas = stas_to (secrets number).0.psk stas }
 
 -- each event is a round by itself; both lists have the last first
 abbrev pub rounds_of : List Event → List (List Event)

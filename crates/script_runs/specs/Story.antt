@@ -10,7 +10,7 @@ use Rattle.script_runs.specs.declared.stops.Found.{Found}
 use Rattle.script_runs.specs.declared.stops.Found.TheVariants as found
 use Rattle.script_runs.specs.declared.stops.Stop.{Stop}
 use Rattle.script_runs.specs.declared.stops.Stop.TheVariants as stop
-use Rattle.script_runs.specs.Script.{Spells, IsJournal, NoFeed, Begins, IsScript, Ends, HasFault, HasForm, Point, says_in, sizes_before, most_lines, most_octets, texts}
+use Rattle.script_runs.specs.Script.{Spells, IsJournal, NoFeed, Begins, IsScript, Ends, HasFault, HasForm, Point, says_in, sizes_before, most_lines, most_in_line, texts}
 
 -- the lines tell these rounds, by the journal, and the journal is that of the rounds that are to be run: of a round that is
 -- open nothing was run
@@ -51,7 +51,7 @@ pub record IsCut (octets : List ℕ) (p : Point) : Type 0 where
   pub rest : List ℕ
   pub begins : Begins octets good rest
   pub open_line : NoFeed rest
-  pub short : length rest ≤ most_octets
+  pub short : length rest ≤ most_in_line
   pub explains : Explains (texts good) p
 
 -- a read asks for so many octets
@@ -66,7 +66,7 @@ pub record IsPrefix (most : ℕ) (octets : List ℕ) (p : Point) : Type 0 where
   pub after : List ℕ
   pub begins : Begins octets good (line ++ after)
   pub open_line : NoFeed line
-  pub short : length line ≤ most_octets
+  pub short : length line ≤ most_in_line
   pub near : length after ≤ most
   pub explains : Explains (texts good) p
 
@@ -79,7 +79,7 @@ pub record IsLast (most : ℕ) (octets : List ℕ) (ended : Bool) (good : List (
   pub begins : Begins octets good (line ++ after)
   pub open_line : NoFeed line
   pub ends : Ends ended good line after text
-  pub short : length line ≤ most_octets
+  pub short : length line ≤ most_in_line
   pub few : length good < most_lines
   pub near : length after ≤ most
 

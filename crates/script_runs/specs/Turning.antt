@@ -4,6 +4,7 @@ use Rattle.domain_base.specs.Told.{LinkStory, AirStory}
 use Rattle.domain_base.specs.declared.names.Node.{Node}
 use Rattle.domain_base.specs.declared.outside.LinkError.{LinkError}
 use Rattle.domain_base.specs.declared.outside.LinkError.TheVariants as link
+use Rattle.run_journal.specs.Limits.{most_polls}
 use Rattle.run_journal.specs.declared.domain.Domain.{Domain}
 use Rattle.run_journal.specs.declared.domain.Event.TheVariants.{Inject}
 use Rattle.run_journal.specs.declared.acts.Entry.{Entry}
@@ -64,7 +65,7 @@ TurnsIn {L} {T} told d places links_old links_new before after result =
 
 -- a whole turn
 pub record DidTurn {L T : Type 0} (told : L → Option LinkStory) (faults : L → ℕ) (links_old links_new : List L) (before after : Stage) (result : Result T LinkError) : Type 0 where
-  pub further : IsFurther (16 * count before.world.domain) before after
+  pub further : IsFurther (most_polls * count before.world.domain) before after
   pub laid : IsLaid faults links_old links_new result
   pub takes : TurnsIn told before.world.domain (count before.world.domain) links_old links_new before after result
 
@@ -75,7 +76,7 @@ DidTurnBy told faults links_old links_new world other j k result = ⊥
 -- nodes can take what their links have: there is a world, with a link for each node
 abbrev pub CanTurn : Option State → ℕ → List Entry → Type 0
 CanTurn None links j = ⊥
-CanTurn (Some w) links j = Owns w j × ((links ≡ count w.domain) × (w.rounds + 16 * count w.domain < 2 ^ 64))
+CanTurn (Some w) links j = Owns w j × ((links ≡ count w.domain) × (w.rounds + most_polls * count w.domain < 2 ^ 64))
 
 -- ---- what goes out for a line
 

@@ -27,7 +27,7 @@ use std::thread::Threads;
 const MOST_LINES: u64 = 65_536;
 
 // A line has at most so many octets, without its line feed.
-const MOST_OCTETS: usize = 8_192;
+const MOST_IN_LINE: usize = 8_192;
 
 /// A script so far: the front of its open line, how many whole lines came, and what they told.
 #[derive(Drop)]
@@ -149,7 +149,7 @@ impl LineFeeder {
         ensures mode { IfOk result (λ s. s.state.reader.mode ≡ mode) }
         ensures come { IfOk result (λ s. HasCome s [] AtVersion no_rounds []) }
     {
-        let line = Vec::with_capacity(alloc, MOST_OCTETS)?;
+        let line = Vec::with_capacity(alloc, MOST_IN_LINE)?;
         Ok(LineFeeder {
             line,
             lines: 0,
@@ -168,7 +168,7 @@ impl LineFeeder {
             (point_of self.old.state.reader.mode j draft rounds)) }
         ensures refused { MatchResult result (λ _. Unit {0}) (λ stop. IsRefusal stop) }
     {
-        if octets.len() > MOST_OCTETS - self.line.len() {
+        if octets.len() > MOST_IN_LINE - self.line.len() {
             return Err(refused(&self.state, self.lines, &self.line, Refusal::LongLine));
         }
         match self.line.extend_from_slice(octets) {

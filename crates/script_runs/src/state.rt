@@ -4,7 +4,7 @@ ghost use Rattle.std.specs.Prelude.{◌≡◌, [], suc, length, ℕ, MatchResult
 ghost use Rattle.std.specs.Prelude.{OnErr};
 ghost use Rattle.domain_base.specs.Causes.{Rose};
 ghost use Rattle.domain_world.specs.Owning.{Owns};
-ghost use Rattle.frame_script.specs.Script.{Draft, AtSeed, AtVersion};
+ghost use Rattle.frame_script.specs.Script.{Draft, AtVersion, IsSeedDue};
 ghost use Rattle.script_runs.specs.Outer.{Outer, IsBlamed, IsMet, IsTold, Nobody, links_due, outer};
 ghost use Rattle.script_runs.specs.Script.{Rounds, no_rounds};
 ghost use Rattle.script_runs.specs.States.{CanAsk, CanBegin, CanDo, CanEnd, CanList, CanRun, Did};
@@ -122,7 +122,7 @@ fn act<R: Threads + Sync, G: Gate + Sync>(
     match step {
         Step::Nothing => Ok(()),
         Step::Ap { address, r0kh_id } => world.add_ap(address, r0kh_id, journal),
-        Step::Sta { address } => world.add_station(address),
+        Step::Sta { address, psk } => world.add_station(address, psk),
         Step::Event(event) => ask(world, waiting, event, journal),
         Step::Round => {
             *waiting = Some(Vec::new(host.alloc));
@@ -159,7 +159,7 @@ fn run_step<R: Threads + Sync, G: Gate + Sync>(
 // Draws the seed that a line asks for.
 fn draw<D: Draws>(reader: &mut ScriptReader, draws: &mut D) -> Result<(), Undone>
     requires live { reader.old.mode ≡ Mode.Live }
-    requires due { reader.old.draft ≡ AtSeed }
+    requires due { IsSeedDue reader.old.draft }
     ensures drawn { OnOk result (IsTold reader.old reader.new (D.last draws.new)) }
     ensures same { OnErr result (reader.new ≡ reader.old) }
     ensures kept { OnErr result (D.last draws.new ≡ D.last draws.old) }

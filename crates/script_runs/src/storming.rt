@@ -1,16 +1,16 @@
 //! A storm, run in its world.
 
 ghost use Rattle.std.specs.Prelude.{◌≡◌, ◌<◌, [], suc, length, slice_index_or, IfOk, OnOk, OnErr};
-ghost use Rattle.domain_base.specs.declared.names.Mac.{Mac as AnyMac};
 ghost use Rattle.run_journal.specs.declared.domain.ListedAp.{ListedAp as AnyAp};
+ghost use Rattle.run_journal.specs.declared.domain.ListedSta.{ListedSta as AnySta};
 ghost use Rattle.storm.specs.Header.{domain_of};
 ghost use Rattle.script_runs.specs.Courses.{IsFrontSoFar, IsListing, IsSoFar, IsUnbegun, IsUnderWay};
 ghost use Rattle.script_runs.specs.Storms.{IsStormFront, IsWholeStorm, all_events};
 
-use domain_base::{Mac, NoMemory, Octets};
+use domain_base::{NoMemory, Octets};
 use domain_rules::looks_are_right;
 use domain_world::World;
-use run_journal::{Aps, Domain, Journal, ListedAp, Stas};
+use run_journal::{Aps, Domain, Journal, ListedAp, ListedSta, Stas};
 use std::alloc::Global;
 use storm::{EVENTS, Storm};
 
@@ -22,9 +22,9 @@ fn header(alloc: Global, domain: &Domain) -> Result<Domain, NoMemory>
     Ok(Domain {
         seed: domain.seed,
         ssid: Octets(ssid),
-        psk: domain.psk,
         akm: domain.akm,
         mdid: domain.mdid,
+        extras: domain.extras,
         aps: Aps(Vec::new(alloc)),
         stas: Stas(Vec::new(alloc)),
     })
@@ -54,9 +54,9 @@ fn ap_at(domain: &Domain, place: usize) -> &ListedAp
 }
 
 // The station at that place.
-fn sta_at(domain: &Domain, place: usize) -> Mac
+fn sta_at(domain: &Domain, place: usize) -> ListedSta
     requires { place < length domain.now.stas }
-    ensures { (other : AnyMac) → result ≡ slice_index_or domain.now.stas place other }
+    ensures { (other : AnySta) → result ≡ slice_index_or domain.now.stas place other }
 {
     domain.stas.0[place]
 }
@@ -123,7 +123,8 @@ fn list_sta(
         (IsListing storm.now.number 4 (suc place) world.new journal.now.entries) }
     ensures front { OnErr result (IsFrontSoFar storm.now.number journal.now.entries) }
 {
-    match world.add_station(sta_at(domain, place)) {
+    let sta = sta_at(domain, place);
+    match world.add_station(sta.address, sta.psk) {
         Ok(()) => Ok(()),
         Err(_) => Err(NoMemory),
     }

@@ -2,6 +2,7 @@
 
 ghost use Rattle.std.specs.Prelude.{◌≡◌, ◌<◌, ◌≤◌, ◌+◌, ◌*◌, ◌^◌, ℕ, List, [], Ok, IfOk, false};
 ghost use Rattle.std.specs.Prelude.{length};
+ghost use Rattle.run_journal.specs.Limits.{most_octets, most_polls};
 ghost use Rattle.domain_links.specs.NodeOrder.{count};
 ghost use Rattle.domain_links.specs.Sends.{Send};
 ghost use Rattle.domain_links.specs.Telling.{Tell};
@@ -13,14 +14,8 @@ use crate::linking::news;
 use domain_base::{Link, LinkError, NoMemory, Octets};
 use domain_links::{node_at, poll, send_entries};
 use domain_world::World;
-use run_journal::{Event, Journal};
+use run_journal::{Event, Journal, MOST_OCTETS, MOST_POLLS};
 use std::alloc::Global;
-
-// A turn polls each node so often at most.
-const MOST_POLLS: u8 = 16;
-
-// Of a frame so many octets are taken.
-const MOST_OCTETS: usize = 2_400;
 
 // Octets, once more.
 fn copied(alloc: Global, octets: &[u8]) -> Result<Octets, NoMemory>
@@ -76,7 +71,7 @@ fn take_next<L: Link + Drop>(
     requires within { place < count world.old.domain }
     requires links { length links.old.items ≡ count world.old.domain }
     requires few { world.old.rounds + 1 < 2 ^ 64 }
-    requires room { length buf.old ≡ 2400 }
+    requires room { length buf.old ≡ most_octets }
     ensures further { IsFurther 1 (stage world.old journal.old.entries)
         (stage world.new journal.new.entries) }
     ensures laid { IsLaid L.faults links.old.items links.new.items result }
@@ -96,7 +91,7 @@ fn take_next<L: Link + Drop>(
     }
 }
 
-// Lets the node at a place take up to 16 frames of its link, until there is none.
+// Lets the node at a place take up to `MOST_POLLS` frames of its link, until there is none.
 fn take_all<L: Link + Drop>(
     world: &mut World,
     alloc: Global,
@@ -107,12 +102,13 @@ fn take_all<L: Link + Drop>(
     requires own { Owns world.old journal.old.entries }
     requires within { place < count world.old.domain }
     requires links { length links.old.items ≡ count world.old.domain }
-    requires few { world.old.rounds + 16 < 2 ^ 64 }
-    ensures further { IsFurther 16 (stage world.old journal.old.entries)
+    requires few { world.old.rounds + most_polls < 2 ^ 64 }
+    ensures further { IsFurther most_polls (stage world.old journal.old.entries)
         (stage world.new journal.new.entries) }
     ensures laid { IsLaid L.faults links.old.items links.new.items result }
-    ensures takes { TakesIn L.told world.old.domain place 16 links.old.items links.new.items
-        (stage world.old journal.old.entries) (stage world.new journal.new.entries) result }
+    ensures takes { TakesIn L.told world.old.domain place most_polls links.old.items
+        links.new.items (stage world.old journal.old.entries)
+        (stage world.new journal.new.entries) result }
 {
     let mut buf = [0; MOST_OCTETS];
     for _ in 0..MOST_POLLS {
@@ -125,7 +121,7 @@ fn take_all<L: Link + Drop>(
     Ok(())
 }
 
-/// Lets each node take what its link has for it, in order, up to 16 frames each.
+/// Lets each node take what its link has for it, in order, up to `MOST_POLLS` frames each.
 pub(crate) fn turn<L: Link + Drop>(
     world: &mut World,
     alloc: Global,
@@ -134,7 +130,7 @@ pub(crate) fn turn<L: Link + Drop>(
 ) -> Result<(), LinkError>
     requires own { Owns world.old journal.old.entries }
     requires links { length links.old.items ≡ count world.old.domain }
-    requires few { world.old.rounds + 16 * count world.old.domain < 2 ^ 64 }
+    requires few { world.old.rounds + most_polls * count world.old.domain < 2 ^ 64 }
     ensures { DidTurn L.told L.faults links.old.items links.new.items
         (stage world.old journal.old.entries) (stage world.new journal.new.entries) result }
 {

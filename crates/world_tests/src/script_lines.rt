@@ -6,7 +6,7 @@ ghost use Rattle.frame_script.specs.Headers.{HasSeen};
 
 use domain_base::{Akm, Mac};
 use frame_script::{LineFault, Mode, ScriptReader, Step};
-use run_journal::{Domain, Journal};
+use run_journal::{Domain, Journal, ListedSta};
 use std::alloc::Global;
 use std::process::Abort;
 
@@ -72,7 +72,18 @@ const NODES: &[(&[u8], Says)] = &[
     (b"end", Refused(2)),
 ];
 
-const STAS: &[Mac] = &[Mac([2, 0, 0, 0, 0, 0x11])];
+const STA: Mac = Mac([2, 0, 0, 0, 0, 0x11]);
+
+// The key of the passphrase "password" in the network "a", by Python's hashlib.
+const PSK: [u8; 32] = *b"\x0e\xc0\x65\xb1\xa9\xb5\xf7\xe1\x02\x78\x87\xbd\x0c\x18\x2b\x8b\xd5\xd8\xc7\xf1\xbb\x7c\xe9\x69\x5d\xbf\xda\xc9\x3c\xa4\x37\x0f";
+
+// That station alone, with that key.
+fn is_sta(stas: &[ListedSta]) -> bool {
+    match stas {
+        [sta] => sta.address == STA && sta.psk == PSK,
+        _ => false,
+    }
+}
 
 // What becomes of the line.
 #[tactic(auto, using(frame_script::proofs::Feeding::feeding))]
@@ -123,7 +134,7 @@ fn is_told(network: Option<&Domain>) -> bool {
             network.ssid.as_slice() == b"a".as_slice()
                 && network.akm == Akm::FtPsk
                 && network.mdid == [0xa1, 0xb2]
-                && network.stas.0.as_slice() == STAS
+                && is_sta(network.stas.0.as_slice())
                 && network.aps.0.len() == 1
         }
         None => false,

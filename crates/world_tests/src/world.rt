@@ -2,12 +2,13 @@
 
 ghost use Rattle.std.specs.Prelude.{◌≡◌, ◌≢◌, ◌≤◌, [], length, IsTrue};
 ghost use Rattle.domain_base.specs.declared.names.Akm.{Akm as AnyAkm};
-ghost use Rattle.domain_rules.specs.Network.{InForm, IsListed};
+ghost use Rattle.domain_rules.specs.Network.{InForm};
+ghost use Rattle.run_journal.specs.Events.{IsListed};
 ghost use Rattle.domain_world.specs.Owning.{Owns};
 
 use domain_base::{Akm, Mac, Node, Octets};
 use domain_world::World;
-use run_journal::{Act, Aps, Domain, Event, Journal, Stas};
+use run_journal::{Act, Aps, Domain, Event, Extras, Journal, Stas, Version};
 use std::alloc::Global;
 use std::process::Abort;
 use std::thread::Threads;
@@ -27,9 +28,11 @@ fn header(rt: &impl Abort, alloc: Global) -> Domain
     Domain {
         seed: [1; 32],
         ssid: octets(rt, alloc, b"net"),
-        psk: [2; 32],
         akm: Akm::Psk,
         mdid: [0, 0],
+        extras: Extras {
+            version: Version::One,
+        },
         aps: Aps(Vec::new(alloc)),
         stas: Stas(Vec::new(alloc)),
     }
@@ -47,7 +50,7 @@ fn two_nodes(rt: &impl Abort, alloc: Global, journal: &mut Journal) -> World
         .add_ap(Mac([2, 0, 0, 0, 0, 1]), r0kh_id, journal)
         .expect(rt, "memory");
     nodes
-        .add_station(Mac([2, 0, 0, 0, 0, 2]))
+        .add_station(Mac([2, 0, 0, 0, 0, 2]), [2; 32])
         .expect(rt, "memory");
     nodes
 }

@@ -35,4 +35,4 @@ returns-in-Sta-clause-did g c =
     let v = c.add_station.new.self in
     let o = c.args.waiting.now in
     let j = c.args.journal.now.entries in
-    subst (λ (x : Asked). OnOk c.add_station.result (Did w v o o j j x)) (sym c.in-Sta.is) (listed_sta c.add_station.result w v c.in-Sta.address o j c.add_station.ensures.domain c.add_station.ensures.rounds c.add_station.ensures.started)
+    subst (λ (x : Asked). OnOk c.add_station.result (Did w v o o j j x)) (sym c.in-Sta.is) (listed_sta c.add_station.result w v c.in-Sta.address c.in-Sta.psk o j c.add_station.ensures.domain c.add_station.ensures.rounds c.add_station.ensures.started)

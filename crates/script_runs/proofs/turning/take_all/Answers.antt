@@ -1,4 +1,5 @@
 use Rattle.std.proofs.Common.{◌≡◌, ◌+◌, ◌<◌, ap, sym, subst, ◌∙◌, arith, refl, Ok, Err}
+use Rattle.run_journal.specs.Limits.{most_polls}
 use Rattle.run_journal.specs.declared.domain.Domain.{Domain}
 use Rattle.domain_links.specs.NodeOrder.{count}
 use Rattle.domain_links.specs.Telling.{Tell, left_after}
@@ -28,7 +29,7 @@ returns-in-Ok-false-clause-takes g c =
     let so_far = c.loop.invariant.takes in
     let here = subst (λ (x : Domain). TakesIn g.L.Link.told x c.args.place 1 c.loop.links.items c.take_next.new.links.items (stage c.loop.world c.loop.journal.entries) (stage c.take_next.new.world c.take_next.new.journal.entries) (Ok c.in-Ok-false.field-0)) c.loop.invariant.network c.in-Ok-false.ensures.takes in
     let empty = c.take_next.ensures.empty (c.in-Ok-false.is ∙ ap Ok c.in-Ok-false.field-0-test) in
-    Takes-past {E = Unit {0}} g.L.Link.told d IsTaken (sent_by_then d) c.args.place (c.loop.counter + 1) 16 _ _ _ _ _ _ (omega (arith, c.loop-test.true))
+    Takes-past {E = Unit {0}} g.L.Link.told d IsTaken (sent_by_then d) c.args.place (c.loop.counter + 1) most_polls _ _ _ _ _ _ (omega (arith, c.loop-test.true))
     (λ left tell.
     let t = so_far.tells left tell in
     none_left left c.args.place c.loop.counter
@@ -37,7 +38,7 @@ returns-in-Ok-false-clause-takes g c =
 
 pub returns-in-Ok-false-clause-further : goal.returns-in-Ok-false-clause-further
 returns-in-Ok-false-clause-further g c =
-    taken_further c.loop.counter 16 (stage c.args.world.now c.args.journal.now.entries) (stage c.loop.world c.loop.journal.entries) (stage c.take_next.new.world c.take_next.new.journal.entries) (omega (arith, c.loop-test.true)) c.loop.invariant.network c.loop.invariant.few c.in-Ok-false.ensures.further
+    taken_further c.loop.counter most_polls (stage c.args.world.now c.args.journal.now.entries) (stage c.loop.world c.loop.journal.entries) (stage c.take_next.new.world c.take_next.new.journal.entries) (omega (arith, c.loop-test.true)) c.loop.invariant.network c.loop.invariant.few c.in-Ok-false.ensures.further
 
 pub returns-in-Ok-false-clause-laid : goal.returns-in-Ok-false-clause-laid
 returns-in-Ok-false-clause-laid g c =
@@ -45,7 +46,7 @@ returns-in-Ok-false-clause-laid g c =
 
 pub returns-in-Err-clause-further : goal.returns-in-Err-clause-further
 returns-in-Err-clause-further g c =
-    taken_further c.loop.counter 16 (stage c.args.world.now c.args.journal.now.entries) (stage c.loop.world c.loop.journal.entries) (stage c.take_next.new.world c.take_next.new.journal.entries) (omega (arith, c.loop-test.true)) c.loop.invariant.network c.loop.invariant.few c.in-Err.ensures.further
+    taken_further c.loop.counter most_polls (stage c.args.world.now c.args.journal.now.entries) (stage c.loop.world c.loop.journal.entries) (stage c.take_next.new.world c.take_next.new.journal.entries) (omega (arith, c.loop-test.true)) c.loop.invariant.network c.loop.invariant.few c.in-Err.ensures.further
 
 pub returns-in-Err-clause-laid : goal.returns-in-Err-clause-laid
 returns-in-Err-clause-laid g c =
@@ -55,7 +56,7 @@ pub returns-in-Err-clause-takes : goal.returns-in-Err-clause-takes
 returns-in-Err-clause-takes g c =
     let d = c.args.world.now.domain in
     let here = subst (λ (x : Domain). TakesIn g.L.Link.told x c.args.place 1 c.loop.links.items c.take_next.new.links.items (stage c.loop.world c.loop.journal.entries) (stage c.take_next.new.world c.take_next.new.journal.entries) (Err c.in-Err.error)) c.loop.invariant.network c.in-Err.ensures.takes in
-    Takes-wide {T = Unit {0}} g.L.Link.told d IsTaken (sent_by_then d) c.args.place (c.loop.counter + 1) 16 _ _ _ _ c.in-Err.error _ (omega (arith, c.loop-test.true))
+    Takes-wide {T = Unit {0}} g.L.Link.told d IsTaken (sent_by_then d) c.args.place (c.loop.counter + 1) most_polls _ _ _ _ c.in-Err.error _ (omega (arith, c.loop-test.true))
     (Takes-stop g.L.Link.told d IsTaken (sent_by_then d) _ _ _ _ _ _ _ _ _ _ _ _ c.loop.invariant.takes here)
 
 pub loop-preserved : goal.loop-preserved
@@ -74,7 +75,7 @@ loop-preserved g c =
 
 pub returns-clause-further : goal.returns-clause-further
 returns-clause-further g c =
-    taken_so_far c.loop.counter 16 (stage c.args.world.now c.args.journal.now.entries) (stage c.loop.world c.loop.journal.entries) (omega (arith, c.loop.auto.counter-end)) c.loop.invariant.network c.loop.invariant.few c.loop.invariant.own
+    taken_so_far c.loop.counter most_polls (stage c.args.world.now c.args.journal.now.entries) (stage c.loop.world c.loop.journal.entries) (omega (arith, c.loop.auto.counter-end)) c.loop.invariant.network c.loop.invariant.few c.loop.invariant.own
 
 pub returns-clause-laid : goal.returns-clause-laid
 returns-clause-laid g c = laid_none g.L.Link.faults c.args.links.now.items c.loop.links.items (tt {0}) c.loop.invariant.len c.loop.invariant.same
@@ -82,5 +83,5 @@ returns-clause-laid g c = laid_none g.L.Link.faults c.args.links.now.items c.loo
 pub returns-clause-takes : goal.returns-clause-takes
 returns-clause-takes g c =
     let d = c.args.world.now.domain in
-    let all : c.loop.counter ≡ 16 = omega (arith, c.loop-test.false, c.loop.auto.counter-end) in
+    let all : c.loop.counter ≡ most_polls = omega (arith, c.loop-test.false, c.loop.auto.counter-end) in
     Takes-same g.L.Link.told d IsTaken (sent_by_then d) _ _ _ _ _ _ _ (tt {0}) _ all c.loop.invariant.takes

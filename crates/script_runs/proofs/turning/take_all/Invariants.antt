@@ -1,4 +1,5 @@
 use Rattle.std.proofs.Common.{◌≡◌, ◌+◌, ◌≤◌, length, Ok}
+use Rattle.run_journal.specs.Limits.{most_octets}
 use Rattle.domain_links.specs.Telling.{SameFaults}
 use Rattle.domain_world.specs.Owning.{Owns}
 use Rattle.script_runs.specs.Turning.{TakesIn, stage}
@@ -8,7 +9,7 @@ use Rattle.script_runs.proofs.turning.take_all.Given as goal
 abbrev pub invariant-loop : goal.invariant-loop
 invariant-loop g l = record {
   len : length l.links.items ≡ length l.fn.links.items;
-  room : length l.buf ≡ 2400;
+  room : length l.buf ≡ most_octets;
   own : Owns l.world l.journal.entries;
   network : l.world.domain ≡ l.fn.world.domain;
   few : l.world.rounds ≤ l.fn.world.rounds + l.counter;

@@ -1,4 +1,5 @@
 use Rattle.std.proofs.Common.{◌≡◌, ◌<◌, ap, sym, subst, ◌∙◌, arith, refl, Ok, Err}
+use Rattle.run_journal.specs.Limits.{most_polls}
 use Rattle.run_journal.specs.declared.domain.Domain.{Domain}
 use Rattle.domain_links.specs.NodeOrder.{count}
 use Rattle.domain_links.proofs.Turning.{TakesTurn-start, TakesTurn-more, TakesTurn-stop, TakesTurn-same}
@@ -25,7 +26,7 @@ take_all-requires-clause-few g c =
 pub loop-place-preserved : goal.loop-place-preserved
 loop-place-preserved g c =
     let d = c.args.world.now.domain in
-    let here = subst (λ (x : Domain). TakesIn g.L.Link.told x c.loop-place.place 16 c.loop-place.links.items c.take_all.new.links.items (stage c.loop-place.world c.loop-place.journal.entries) (stage c.take_all.new.world c.take_all.new.journal.entries) (Ok (tt {0}))) c.loop-place.invariant.network c.in-Ok.ensures.takes in
+    let here = subst (λ (x : Domain). TakesIn g.L.Link.told x c.loop-place.place most_polls c.loop-place.links.items c.take_all.new.links.items (stage c.loop-place.world c.loop-place.journal.entries) (stage c.take_all.new.world c.take_all.new.journal.entries) (Ok (tt {0}))) c.loop-place.invariant.network c.in-Ok.ensures.takes in
     record {
       len = c.in-Ok.ensures.laid.len ∙ c.loop-place.invariant.len;
       own = c.in-Ok.ensures.further.own;
@@ -38,7 +39,7 @@ loop-place-preserved g c =
 pub returns-in-Err : goal.returns-in-Err
 returns-in-Err g c =
     let d = c.args.world.now.domain in
-    let here = subst (λ (x : Domain). TakesIn g.L.Link.told x c.loop-place.place 16 c.loop-place.links.items c.take_all.new.links.items (stage c.loop-place.world c.loop-place.journal.entries) (stage c.take_all.new.world c.take_all.new.journal.entries) (Err c.in-Err.error)) c.loop-place.invariant.network c.in-Err.ensures.takes in
+    let here = subst (λ (x : Domain). TakesIn g.L.Link.told x c.loop-place.place most_polls c.loop-place.links.items c.take_all.new.links.items (stage c.loop-place.world c.loop-place.journal.entries) (stage c.take_all.new.world c.take_all.new.journal.entries) (Err c.in-Err.error)) c.loop-place.invariant.network c.in-Err.ensures.takes in
     let within : c.loop-place.place < count d = omega (arith, c.loop-place-test.true, c.len-place-end.ensures, c.requires.links) in
     record {
       further = turned_further c.loop-place.place (count d) (stage c.args.world.now c.args.journal.now.entries) (stage c.loop-place.world c.loop-place.journal.entries) (stage c.take_all.new.world c.take_all.new.journal.entries) within c.loop-place.invariant.network c.loop-place.invariant.few c.in-Err.ensures.further;

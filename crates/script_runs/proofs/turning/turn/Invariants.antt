@@ -1,4 +1,5 @@
 use Rattle.std.proofs.Common.{◌≡◌, ◌+◌, ◌*◌, ◌≤◌, length, Ok}
+use Rattle.run_journal.specs.Limits.{most_polls}
 use Rattle.domain_links.specs.Telling.{SameFaults}
 use Rattle.domain_world.specs.Owning.{Owns}
 use Rattle.script_runs.specs.Turning.{TurnsIn, stage}
@@ -10,7 +11,7 @@ invariant-loop-place g l = record {
   len : length l.links.items ≡ length l.fn.links.items;
   own : Owns l.world l.journal.entries;
   network : l.world.domain ≡ l.fn.world.domain;
-  few : l.world.rounds ≤ l.fn.world.rounds + 16 * l.place;
+  few : l.world.rounds ≤ l.fn.world.rounds + most_polls * l.place;
   same : SameFaults g.L.Link.faults l.fn.links.items l.links.items;
   takes : TurnsIn {T = Unit {0}} g.L.Link.told l.fn.world.domain l.place l.fn.links.items l.links.items (stage l.fn.world l.fn.journal.entries) (stage l.world l.journal.entries) (Ok (tt {0}));
 }
